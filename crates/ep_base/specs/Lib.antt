@@ -1,3 +1,4 @@
 pub mod Calls
 pub mod MemoryDevices
 pub mod Outside
+pub mod Runs

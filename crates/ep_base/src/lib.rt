@@ -8,6 +8,7 @@ mod mem_sink;
 mod names;
 mod outside;
 mod places;
+mod run_lists;
 mod std_devices;
 mod words;
 
@@ -17,5 +18,6 @@ pub use mem_sink::MemSink;
 pub use names::Name;
 pub use outside::{FileError, Files, PutError, Sink, put_all};
 pub use places::Place;
+pub use run_lists::{Run, Runs};
 pub use std_devices::{StdFiles, StdSink};
 pub use words::Word;
