@@ -1,3 +1,5 @@
 pub mod PutSteps
 pub mod Contents
 pub mod RunSteps
+pub mod VectorsOutside
+pub mod VectorsRuns

@@ -10,6 +10,8 @@ mod outside;
 mod places;
 mod run_lists;
 mod std_devices;
+#[cfg(test)]
+mod tests;
 mod words;
 
 pub use errors::Memory;

@@ -182,3 +182,51 @@ impl<R: Print + Drop> Sink for StdSink<R> {
         }
     }
 }
+
+#[cfg(test)]
+mod tests {
+    use super::*;
+    use std::test::Fail;
+
+    #[test]
+    fn system_files_are_read_back_and_faults_are_counted(rt: HostRuntime) -> Result<(), Fail> {
+        let mut files = StdFiles::new(rt.clone()?);
+        let text = zeros(rt.alloc(), 100000)?;
+        files.write("ep_base.tmp", &text)?;
+        files.write("ep_base.tmp", b"some text")?;
+        for (at_most, want) in [
+            (0, ""),
+            (4, "some"),
+            (9, "some text"),
+            (u64::MAX, "some text"),
+        ] {
+            let read = files.read(rt.alloc(), "ep_base.tmp", at_most)?;
+            let Some(bytes) = read else {
+                panic!(rt; "a file was missing");
+            };
+            assert_eq!(rt; bytes.as_slice(), want.as_bytes(), "{at_most}");
+        }
+        assert_eq!(rt; files.faults, 0);
+        fs::create_dir(&rt, "ep_base.dir")?;
+        for (name, faults) in [("ep_base.none", 1), ("ep_base.dir", 2)] {
+            let read = files.read(rt.alloc(), name, 10);
+            assert!(rt; matches!(read, Err(FileError::Failed)), "{name}");
+            assert_eq!(rt; files.faults, faults);
+        }
+        let written = files.write("ep_base.dir", b"x");
+        assert!(rt; matches!(written, Err(FileError::Failed)));
+        assert_eq!(rt; files.faults, 3);
+        fs::remove_file(&rt, "ep_base.tmp")?;
+        fs::remove_dir(&rt, "ep_base.dir")?;
+        Ok(())
+    }
+
+    #[test]
+    fn standard_output_takes_a_piece(rt: HostRuntime) -> Result<(), Fail> {
+        let mut sink = StdSink::new(rt.clone()?);
+        let taken = sink.put(b"\n")?;
+        assert_eq!(rt; taken, 1);
+        assert_eq!(rt; sink.faults, 0);
+        Ok(())
+    }
+}
