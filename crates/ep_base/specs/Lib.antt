@@ -1,0 +1,2 @@
+pub mod TokenTexts
+pub mod Tokens

@@ -3,6 +3,8 @@
 
 mod errors;
 mod places;
+mod tokens;
 
 pub use errors::Memory;
 pub use places::Place;
+pub use tokens::{Token, TokenKind};
