@@ -1,8 +1,13 @@
 //! Reads a text into its tokens, in one pass over its bytes.
 #![tactic(auto)]
 
+mod bytes;
+mod cursor;
 mod errors;
+mod numbers;
 mod scan;
+mod symbols;
+mod words;
 
 pub use errors::LexError;
 pub use scan::lex;
