@@ -7,6 +7,8 @@ mod errors;
 mod numbers;
 mod scan;
 mod symbols;
+#[cfg(test)]
+mod tests;
 mod words;
 
 pub use errors::LexError;
