@@ -3,3 +3,5 @@ pub mod Contents
 pub mod RunSteps
 pub mod VectorsOutside
 pub mod VectorsRuns
+pub mod TokenLaws
+pub mod VectorsTokens

@@ -12,6 +12,7 @@ mod run_lists;
 mod std_devices;
 #[cfg(test)]
 mod tests;
+mod tokens;
 mod words;
 
 pub use errors::Memory;
@@ -22,4 +23,5 @@ pub use outside::{FileError, Files, PutError, Sink, put_all};
 pub use places::Place;
 pub use run_lists::{Run, Runs};
 pub use std_devices::{StdFiles, StdSink};
+pub use tokens::{Token, TokenKind};
 pub use words::Word;
