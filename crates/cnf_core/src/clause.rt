@@ -33,8 +33,11 @@ impl Clause {
         ensures ordered { IfOk result (λ clause. IsOrdered clause) }
         ensures same { IfOk result (λ clause. HaveSameLiterals clause lits.items) }
     {
-        let _ = (alloc, lits);
-        Err(Memory)
+        let mut lits = lits;
+        lits.sort_unstable();
+        lits.dedup();
+        let lits = Vec::from_slice(alloc, lits.as_slice())?;
+        Ok(Clause { lits })
     }
 
     /// The literals in order.
