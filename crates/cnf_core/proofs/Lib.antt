@@ -1,3 +1,4 @@
+pub mod Vectors
 pub mod Count
 pub mod Following
 pub mod Effective

@@ -1,11 +1,12 @@
 //! Laws of the definitions. Each is the contract of a function that does nothing.
 
-ghost use Rattle.std.specs.Prelude.{◌≡◌, ◌≢◌, ℕ, ◌<◌, ◌^◌, Bool, List, [], ◌∷◌, ◌++◌, length, All, Contains};
-ghost use Rattle.cnf_core.specs.Literal.{Literal};
+ghost use Rattle.std.specs.Prelude.{◌≡◌, ◌≢◌, ℕ, ◌<◌, ◌^◌, Bool, List, [], ◌∷◌, ◌++◌, length, All, Contains, map};
+ghost use Rattle.cnf_core.specs.Literal.{Literal, negation};
 ghost use Rattle.cnf_core.specs.Clauses.{Satisfies, SatisfiesClause};
 ghost use Rattle.cnf_core.specs.Formula.{Cnf, Keeps, SpeaksOf};
-ghost use Rattle.cnf_core.specs.Events.{LogEvent, step, givens, nonempty_steps};
-ghost use Rattle.cnf_core.specs.Steps.{IsValidLog, IsValidStep, IsEffectiveStep, NonEmptyStepsAreNew, GivensNameOnly};
+ghost use Rattle.cnf_core.specs.Events.{LogEvent, step, givens, nonempty_steps, HintsAreThere};
+ghost use Rattle.cnf_core.specs.Reading.{trues_from};
+ghost use Rattle.cnf_core.specs.Steps.{clauses_at, IsValidLog, IsValidStep, IsEffectiveStep, NonEmptyStepsAreNew, GivensNameOnly};
 
 /// In a valid log each assignment that satisfies the givens before a step satisfies the step.
 pub fn valid_steps_follow()
@@ -28,11 +29,14 @@ pub fn no_step_is_effective_after_a_conflict()
         → IsValidStep earlier [] hints → IsEffectiveStep earlier clause → ⊥ }
 {}
 
-/// Unit propagation from the negations of all literals of an effective step but its last one meets no conflict: no clause of
-/// such literals is a valid step in its place.
+/// Unit propagation on the events before an effective step, from the negations of all its literals but the last one, meets no
+/// conflict and doesn't give the last one.
 pub fn an_effective_step_needs_its_last_literal()
-    ensures { (earlier : List LogEvent) (clause others : List Literal) (hints : List ℕ) (effective : IsEffectiveStep earlier clause)
+    ensures no_conflict { (earlier : List LogEvent) (clause others : List Literal) (hints : List ℕ) (effective : IsEffectiveStep earlier clause)
         → All (λ l. Contains clause l × (l ≢ effective.last)) others → IsValidStep earlier others hints → ⊥ }
+    ensures not_given { (earlier : List LogEvent) (clause others : List Literal) (hints : List ℕ) (effective : IsEffectiveStep earlier clause)
+        → All (λ l. Contains clause l × (l ≢ effective.last)) others → HintsAreThere earlier hints
+        → Contains (trues_from (map negation others) (clauses_at earlier hints)) effective.last → ⊥ }
 {}
 
 /// A condition on assignments.
