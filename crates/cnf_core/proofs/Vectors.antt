@@ -255,10 +255,10 @@ fixed_keeps_free : Keeps free fixed (λ s. s 1 ≡ true)
 fixed_keeps_free = record {
   variables = omega arith;
   extension = λ s any. (
-    λ far. far.agrees 1 (omega arith) ∙ value_in_fixed far.values far.satisfies,
+    λ far. far.agrees 1 (omega arith) (omega arith) ∙ value_in_fixed far.values far.satisfies,
     λ is. record {
       values = s;
-      agrees = λ v below. refl;
+      agrees = λ v one below. refl;
       satisfies = All-cons (SatisfiesClause s) (yes 1 ∷ []) [] (record { literal = yes 1; in_clause = (0, lit< tt, refl); is_true = is }) (All-nil (SatisfiesClause s));
     },
   );
