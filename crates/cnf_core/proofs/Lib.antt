@@ -1,3 +1,4 @@
+pub mod Readings
 pub mod Vectors
 pub mod Count
 pub mod Following
