@@ -1,2 +1,3 @@
+pub mod TokenKinds
 pub mod TokenLaws
 pub mod VectorsTokens
