@@ -1,5 +1,6 @@
 pub mod Calls
 pub mod MemoryDevices
+pub mod Numbers
 pub mod Outside
 pub mod Runs
 pub mod TokenTexts
