@@ -1,5 +1,5 @@
 -- Worked values of the words on devices, computed by the checker.
-use Rattle.std.proofs.Common.{◌≡◌, ℕ, ◌-◌, ◌^◌, List, [], ◌∷◌, Option, Some, None, Bool, true, false, refl}
+use Rattle.std.proofs.Common.{◌≡◌, ◌-◌, ◌^◌, [], ◌∷◌, Some, None, true, false, refl}
 use Rattle.ep_base.specs.Outside.{Held, with_bytes, ReadGives, with_more}
 use Rattle.ep_base.specs.Calls.{CallsSoFar, one_more, next_fails, after_call, no_call}
 

@@ -1,8 +1,8 @@
 -- Worked values of the words on runs, computed by the checker.
-use Rattle.std.proofs.Common.{◌≡◌, ℤ, pos, negsuc, ◌+ℤ◌, ◌<ℤ◌, List, [], ◌∷◌, refl, arith, lit<}
+use Rattle.std.proofs.Common.{◌≡◌, ℤ, pos, negsuc, ◌+ℤ◌, ◌<ℤ◌, [], ◌∷◌, refl, arith, lit<}
 use Rattle.std.proofs.lemmas.Int.{ints}
 use Rattle.ep_base.specs.declared.run_lists.Run.{Run}
-use Rattle.ep_base.specs.Runs.{counting, or_zero, numbers_in, numbers, AreApart}
+use Rattle.ep_base.specs.Runs.{counting, numbers_in, numbers, AreApart}
 
 abbrev run : ℤ → ℤ → Run
 run lo hi = record { lo = lo; hi = hi }
