@@ -1,7 +1,7 @@
 //! Clauses: distinct literals in order.
 
-ghost use Rattle.std.specs.Prelude.{◌≡◌, IfOk};
-ghost use Rattle.cnf_core.specs.Literal.{IsOrdered, HaveSameLiterals};
+ghost use Rattle.std.specs.Prelude.{◌≡◌, ℕ, ◌≤◌, IfOk};
+ghost use Rattle.cnf_core.specs.Literal.{IsOrdered, HaveSameLiterals, VariablesUpTo};
 
 use crate::lit::Lit;
 use ep_base::Memory;
@@ -33,8 +33,11 @@ impl Clause {
         ensures ordered { IfOk result (λ clause. IsOrdered clause) }
         ensures same { IfOk result (λ clause. HaveSameLiterals clause lits.items) }
     {
-        let _ = (alloc, lits);
-        Err(Memory)
+        let mut lits = lits;
+        lits.sort_unstable();
+        lits.dedup();
+        let lits = Vec::from_slice(alloc, lits.as_slice())?;
+        Ok(Clause { lits })
     }
 
     /// The literals in order.
@@ -43,5 +46,16 @@ impl Clause {
         ensures ordered { IsOrdered result.now }
     {
         self.lits.as_slice()
+    }
+
+    /// The greatest variable that the clause names, or 0 where it has no literal.
+    pub fn greatest_variable(&self) -> u64
+        ensures none_above { VariablesUpTo result self.now }
+        ensures least { (most : ℕ) → VariablesUpTo most self.now → result ≤ most }
+    {
+        match self.lits.last() {
+            Some(last) => last.var(),
+            None => 0,
+        }
     }
 }

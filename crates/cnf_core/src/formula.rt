@@ -11,10 +11,9 @@ use std::alloc::Global;
 use std::marker::Model;
 
 /// What is kept for a variable of a formula that grows. By its size memory ends before the numbers of variables do.
-#[derive(Clone, Copy, Debug)]
-struct Mark {
-    _words: [u64; 2],
-}
+type Mark = [u64; 2];
+
+const MARK: Mark = [0; 2];
 
 /// Clauses over the variables from 1 up to a number.
 #[derive(Debug, Drop)]
@@ -71,7 +70,10 @@ impl Formula {
         ensures ok { OnOk result (self.new ≡ record self.old { vars = self.old.vars + 1 }) }
         ensures err { OnErr result (self.new ≡ self.old) }
     {
-        Err(Memory)
+        self.marks.push(MARK)?;
+        let var = self.marks.as_slice().len() as u64;
+        self.vars = var;
+        Ok(var)
     }
 
     /// Adds a clause at the end. After want of memory the formula is unchanged.
@@ -80,7 +82,8 @@ impl Formula {
         ensures ok { OnOk result (self.new ≡ record self.old { clauses = self.old.clauses ++ clause ∷ [] }) }
         ensures err { OnErr result (self.new ≡ self.old) }
     {
-        Err(Memory)
+        self.clauses.push(clause)?;
+        Ok(())
     }
 
     /// How many variables there are.

@@ -105,7 +105,8 @@ impl Log {
         ensures ok { OnOk result (self.new ≡ record self.old { events = self.old.events ++ given clause ∷ [] }) }
         ensures err { OnErr result (self.new ≡ self.old) }
     {
-        Err(Memory)
+        self.events.push(Event::Given(clause))?;
+        Ok(())
     }
 
     /// Appends a step. After want of memory the log is unchanged.
@@ -114,7 +115,12 @@ impl Log {
         ensures ok { OnOk result (self.new ≡ record self.old { events = self.old.events ++ step clause hints.items ∷ [] }) }
         ensures err { OnErr result (self.new ≡ self.old) }
     {
-        Err(Memory)
+        let counts = !clause.lits().is_empty();
+        self.events.push(Event::Step(clause, hints))?;
+        if counts {
+            self.steps += 1;
+        }
+        Ok(())
     }
 
     /// Keeps these notes and this base in place of the old ones.
