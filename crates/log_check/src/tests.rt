@@ -16,7 +16,10 @@ fn clause(alloc: Global, numbers: &[i64]) -> Result<Clause, Fail> {
 fn formula(alloc: Global, clauses: &[&[i64]]) -> Result<Formula, Fail> {
     let mut made = Formula::with_vars(alloc, cnf_core::MOST_VARIABLE);
     for numbers in clauses {
-        made.add(clause(alloc, numbers)?)?;
+        let next = clause(alloc, numbers)?;
+        if next.greatest_variable() <= made.vars() {
+            made.add(next)?;
+        }
     }
     Ok(made)
 }

@@ -1,4 +1,4 @@
-use Rattle.std.proofs.Common.{◌≡◌, refl, sym, ap, ◌∙◌, List, Bool, ◌||◌, None}
+use Rattle.std.proofs.Common.{refl, sym, ap, ◌∙◌, List, Bool, ◌||◌, None}
 use Rattle.std.specs.List.{list_any}
 use Rattle.cnf_core.specs.Literal.{Literal}
 use Rattle.cnf_core.specs.declared.proof.Line.{Line}

@@ -1,4 +1,3 @@
-use Rattle.std.proofs.Common.{rules}
 use Rattle.log_check.proofs.Lives.{keeps_deleted}
 use Rattle.log_check.proofs.lines.delete.Goals as goal
 

@@ -1,11 +1,10 @@
-use Rattle.std.proofs.Common.{◌≡◌, refl, List, Some, sym, ◌∙◌, ap, subst, drop, pos}
+use Rattle.std.proofs.Common.{◌≡◌, refl, List, Some, ◌∙◌, ap, subst, pos}
 use Rattle.std.specs.Prelude.{option_copied}
-use Rattle.cnf_core.specs.Reading.{reading_succeeds, not_false}
-use Rattle.log_check.specs.Verdict.{hinted_clauses}
-use Rattle.log_check.specs.Kept.{Signs, remaining_of}
+use Rattle.cnf_core.specs.Reading.{not_false}
+use Rattle.log_check.specs.Kept.{remaining_of}
 use Rattle.cnf_core.specs.Literal.{Literal}
-use Rattle.log_check.specs.declared.reading.Remaining.TheVariants.{Nothing, One, More}
-use Rattle.log_check.proofs.Hints.{GoesOn, stops, shows, passes, gives, ends}
+use Rattle.log_check.specs.declared.reading.Remaining.TheVariants.{Nothing}
+use Rattle.log_check.proofs.Hints.{stops, shows, passes, gives, ends}
 use Rattle.log_check.proofs.reading.reads.Goals as goal
 use Rattle.log_check.proofs.reading.reads.Goals.{in-One+in_ok-_is_true-in-One, in-More}
 

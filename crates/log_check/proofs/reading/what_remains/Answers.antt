@@ -1,9 +1,9 @@
-use Rattle.std.proofs.Common.{◌≡◌, sym, ◌∙◌, ap, subst, drop}
+use Rattle.std.proofs.Common.{◌≡◌, sym, ◌∙◌, subst, drop}
 use Rattle.cnf_core.specs.Reading.{not_false}
 use Rattle.log_check.specs.Kept.{remaining_of, remaining_with}
 use Rattle.log_check.specs.declared.reading.Remaining.{Remaining}
-use Rattle.log_check.specs.declared.reading.Remaining.TheVariants.{Nothing, One, More}
-use Rattle.log_check.proofs.Hints.{remains_false, remains_one, remains_more}
+use Rattle.log_check.specs.declared.reading.Remaining.TheVariants.{Nothing}
+use Rattle.log_check.proofs.Hints.{remains_false, remains_one}
 use Rattle.log_check.proofs.reading.what_remains.Goals as goal
 use Rattle.log_check.proofs.reading.what_remains.Goals.{then-not-is_false+in-Nothing, else-not-is_false}
 

@@ -1,6 +1,6 @@
-use Rattle.std.proofs.Common.{◌≡◌, subst, map, take, List, ap, sym, ◌∙◌, not, Bool, ◌∷◌}
+use Rattle.std.proofs.Common.{subst, map, take, List}
 use Rattle.std.proofs.lemmas.List.{take_all}
-use Rattle.cnf_core.specs.Literal.{Literal, negation, is_among}
+use Rattle.cnf_core.specs.Literal.{Literal, negation}
 use Rattle.log_check.specs.Kept.{KeepsTrues}
 use Rattle.log_check.proofs.Trues.{keeps_consistent, contradicts, is_contradicted, keeps_more}
 use Rattle.log_check.proofs.reading.with_negations.Goals as goal
