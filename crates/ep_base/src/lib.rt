@@ -20,7 +20,7 @@ pub use errors::Memory;
 pub use mem_files::MemFiles;
 pub use mem_sink::MemSink;
 pub use names::Name;
-pub use operators::{CompareOp, Key, LexOp, Limit, Sense};
+pub use operators::{CompareOp, LexOp, Limit, Sense};
 pub use outside::{FileError, Files, PutError, Sink, put_all};
 pub use places::Place;
 pub use run_lists::{Run, Runs};

@@ -93,6 +93,7 @@ impl Files for MemFiles {
         ensures never_falls { self.old.calls.faults ≤ self.new.calls.faults }
         ensures fits { self.new.calls.faults < 2 ^ 64 }
         ensures failed { IsErrOf result FileError.Failed ↔ IsTrue (next_fails self.old.calls) }
+        ensures uncounted { IsErrOf result FileError.Memory → self.new.calls.faults ≡ self.old.calls.faults }
         ensures refused { OnErr result (self.new.files ≡ self.old.files) }
         ensures calls { self.new.calls ≡ after_call self.old.calls }
     {

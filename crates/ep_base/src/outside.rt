@@ -112,6 +112,7 @@ pub trait Files {
         ensures elsewhere { IsErrOf result FileError.Failed
             → SameElsewhere name.now (held self.old) (held self.new) }
         ensures unchanged { IsErrOf result FileError.Memory → held self.new ≡ held self.old }
+        ensures uncounted { IsErrOf result FileError.Memory → faults self.new ≡ faults self.old }
         ensures failed { IsErrOf result FileError.Failed → Rose (faults self.old) (faults self.new) }
         ensures never_falls { faults self.old ≤ faults self.new }
         ensures fits { faults self.new < 2 ^ 64 };

@@ -16,7 +16,7 @@ use std::alloc::Global;
 /// What the check of a proof found.
 #[derive(Clone, Copy, Debug, PartialEq, Eq)]
 pub enum Verdict {
-    /// Each line is valid, and there is an empty clause: the formula has no satisfying assignment.
+    /// Each line is valid, and there is an empty clause.
     Verified,
     /// The first line that isn't valid, counted from 1.
     BadStep(u64),
