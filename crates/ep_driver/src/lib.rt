@@ -1,0 +1,6 @@
+//! The top call: from the words and the bytes of a file to the answer's text.
+#![tactic(auto)]
+
+mod bounds;
+mod clauses;
+mod search;
