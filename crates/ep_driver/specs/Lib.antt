@@ -1,2 +1,5 @@
 pub mod Bounds
 pub mod Clauses
+pub mod Command
+pub mod Status
+pub mod Texts

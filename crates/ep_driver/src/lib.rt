@@ -3,4 +3,9 @@
 
 mod bounds;
 mod clauses;
+mod command;
 mod search;
+mod status;
+mod texts;
+
+pub use status::Status;
