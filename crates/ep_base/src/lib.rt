@@ -1,10 +1,21 @@
 //! What every crate stands on: places, names, the outside, and want of memory.
 #![tactic(auto)]
 
+mod calls;
 mod errors;
+mod mem_files;
+mod mem_sink;
+mod names;
+mod outside;
 mod places;
 mod tokens;
+mod words;
 
 pub use errors::Memory;
+pub use mem_files::MemFiles;
+pub use mem_sink::MemSink;
+pub use names::Name;
+pub use outside::{FileError, Files, PutError, Sink, put_all};
 pub use places::Place;
 pub use tokens::{Token, TokenKind};
+pub use words::Word;
