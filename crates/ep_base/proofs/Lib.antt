@@ -1,2 +1,3 @@
+pub mod VectorsTokens
 pub mod PutSteps
 pub mod Contents

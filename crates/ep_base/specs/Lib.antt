@@ -1,3 +1,5 @@
+pub mod TokenTexts
+pub mod Tokens
 pub mod Calls
 pub mod MemoryDevices
 pub mod Outside

@@ -8,6 +8,7 @@ mod mem_sink;
 mod names;
 mod outside;
 mod places;
+mod tokens;
 mod words;
 
 pub use errors::Memory;
@@ -16,4 +17,5 @@ pub use mem_sink::MemSink;
 pub use names::Name;
 pub use outside::{FileError, Files, PutError, Sink, put_all};
 pub use places::Place;
+pub use tokens::{Token, TokenKind};
 pub use words::Word;
