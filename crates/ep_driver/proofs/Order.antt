@@ -92,19 +92,20 @@ next-values_at (b ∷ bs) n h =
     let below : r < s = mod_below n s (size-positive b bs h) in
     let split : q * s + r ≡ n = div-add-mod' n s in
     elim (cases_lt (r + 1) s) [
-      inl less ↦
-        let next : n + 1 ≡ q * s + (r + 1) = omega arith in
-        let m : (n + 1) % s ≡ r + 1 = ap (λ x. x % s) next ∙ mod-mul-add q s (r + 1) less in
-        let d : (n + 1) / s ≡ q = ap (λ x. x / s) next ∙ div-mul-add q s (r + 1) less in
-        rw (m, d) (next-less b bs r (values_at bs q) less)
-    | inr more ↦
-        let next : n + 1 ≡ (q + 1) * s + 0 = omega arith in
-        let some : 0 < s = omega arith in
-        let m : (n + 1) % s ≡ 0 = ap (λ x. x % s) next ∙ mod-mul-add (q + 1) s 0 some in
-        let d : (n + 1) / s ≡ q + 1 = ap (λ x. x / s) next ∙ div-mul-add (q + 1) s 0 some in
-        rw (m, d)
+      | inl less ↦
+          let next : n + 1 ≡ q * s + (r + 1) = omega arith in
+          let m : (n + 1) % s ≡ r + 1 = ap (λ x. x % s) next ∙ mod-mul-add q s (r + 1) less in
+          let d : (n + 1) / s ≡ q = ap (λ x. x / s) next ∙ div-mul-add q s (r + 1) less in
+          rw (m, d) (next-less b bs r (values_at bs q) less)
+      | inr more ↦
+          let next : n + 1 ≡ (q + 1) * s + 0 = omega arith in
+          let some : 0 < s = omega arith in
+          let m : (n + 1) % s ≡ 0 = ap (λ x. x % s) next ∙ mod-mul-add (q + 1) s 0 some in
+          let d : (n + 1) / s ≡ q + 1 = ap (λ x. x / s) next ∙ div-mul-add (q + 1) s 0 some in
+          rw (m, d)
           (next-more b bs r (values_at bs q) (omega arith)
-          ∙ ap (λ x. (b.low +ℤ pos 0) ∷ x) (next-values_at bs q (rest-positive b bs h))) ]
+          ∙ ap (λ x. (b.low +ℤ pos 0) ∷ x) (next-values_at bs q (rest-positive b bs h)))
+    ]
 
 whole_part : (z : ℤ) → pos 0 ≤ℤ z → z ≡ pos (natural_part z)
 whole_part (pos n) h = refl

@@ -25,8 +25,9 @@ above-cap cap m (suc r) q h e = omega (arith, mul-suc q r, mul-suc m r)
 capped-mul : (cap m r q : ℕ) → q ≡ min cap m → min cap (q * r) ≡ min cap (m * r)
 capped-mul cap m r q e =
     elim (cases_lt m cap) [
-      inl below ↦ let same : q ≡ m = omega arith in ap (λ x. min cap (x * r)) same
-    | inr above ↦ above-cap cap m r q above (omega arith) ]
+      | inl below ↦ let same : q ≡ m = omega arith in ap (λ x. min cap (x * r)) same
+      | inr above ↦ above-cap cap m r q above (omega arith)
+    ]
 
 pub product-step : (cap p q size : ℕ) (bs : List Bounds) (i : ℕ) (d : Bounds) (whole : ℕ) → i < length bs → size ≡ size_of (get_or bs i d) → q ≡ min cap (p * size) → min cap (p * combinations (drop i bs)) ≡ whole → min cap (q * combinations (drop (i + 1) bs)) ≡ whole
 product-step cap p q size bs i d whole h e capped so_far =

@@ -3,3 +3,5 @@ pub mod Clauses
 pub mod Command
 pub mod Status
 pub mod Texts
+pub mod Answers
+pub mod Outcomes

@@ -3,8 +3,6 @@
 ghost use Rattle.std.specs.Prelude.{◌≡◌, ◌+◌, ◌*◌, ◌<◌, ◌≤◌, min, length};
 ghost use Rattle.ep_driver.specs.Bounds.{size_of, combinations, first_values};
 
-
-
 /// The numbers from `low` to `high`; there are none where `high` is below `low`.
 #[derive(Clone, Copy)]
 pub struct Bounds {

@@ -3,7 +3,6 @@
 ghost use Rattle.std.specs.Prelude.{◌≡◌, ◌^◌, pos, neg_ℤ, ◌≤ℤ◌, length};
 ghost use Rattle.ep_driver.specs.Clauses.{operand_value, summand_value, total, compares, is_met, are_met, UsesBelow, SumUsesBelow, ClausesUseBelow};
 
-
 /// What stands at one place of a sum: a number, or the value of the find with an index.
 #[derive(Clone, Copy)]
 pub enum Operand {

@@ -7,5 +7,7 @@ mod command;
 mod search;
 mod status;
 mod texts;
+mod top;
 
 pub use status::Status;
+pub use top::run;
