@@ -5,3 +5,4 @@ pub mod Status
 pub mod Texts
 pub mod Answers
 pub mod Outcomes
+pub mod Finds
