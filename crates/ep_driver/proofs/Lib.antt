@@ -1,3 +1,4 @@
 pub mod Steps
 pub mod Order
 pub mod FindSteps
+pub mod CompileSteps

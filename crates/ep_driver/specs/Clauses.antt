@@ -1,11 +1,9 @@
 -- Comparisons of sums, under a list of values.
-use Rattle.std.specs.Prelude.{◌≡◌, ℕ, ◌<◌, ℤ, pos, ◌+ℤ◌, neg_ℤ, int_lt, int_le, Bool, true, ◌&&◌, not, if◌then◌else◌, slice_index_or, List, [], ◌∷◌, All}
-use Rattle.std.specs.Ordering.{int_eq}
+use Rattle.std.specs.Prelude.{◌≡◌, ℕ, ◌<◌, ℤ, pos, ◌+ℤ◌, neg_ℤ, Bool, true, ◌&&◌, if◌then◌else◌, slice_index_or, List, [], ◌∷◌, All}
+use Rattle.ep_tree.specs.Values.{compares}
 use Rattle.ep_driver.specs.declared.clauses.Operand.{Operand}
 use Rattle.ep_driver.specs.declared.clauses.Operand.TheVariants.{Number, Find}
 use Rattle.ep_driver.specs.declared.clauses.Summand.{Summand}
-use Rattle.ep_driver.specs.declared.clauses.Relation.{Relation}
-use Rattle.ep_driver.specs.declared.clauses.Relation.TheVariants.{Equal, NotEqual, Less, LessEqual, Greater, GreaterEqual}
 use Rattle.ep_driver.specs.declared.clauses.Clause.{Clause}
 
 -- the number, or the value at the index
@@ -23,18 +21,9 @@ abbrev pub total : List ℤ → List Summand → ℤ
 total values [] = pos 0
 total values (s ∷ ss) = summand_value values s +ℤ total values ss
 
--- whether the relation is between two numbers
-abbrev pub compares : Relation → ℤ → ℤ → Bool
-compares Equal a b = int_eq a b
-compares NotEqual a b = not (int_eq a b)
-compares Less a b = int_lt a b
-compares LessEqual a b = int_le a b
-compares Greater a b = int_lt b a
-compares GreaterEqual a b = int_le b a
-
 -- whether the clause is true under the values
 abbrev pub is_met : List ℤ → Clause → Bool
-is_met values c = compares c.relation (total values c.left.items) (total values c.right.items)
+is_met values c = compares c.op (total values c.left.items) (total values c.right.items)
 
 -- whether each clause is true under the values
 abbrev pub are_met : List ℤ → List Clause → Bool

@@ -6,3 +6,4 @@ pub mod Texts
 pub mod Answers
 pub mod Outcomes
 pub mod Finds
+pub mod Compiled

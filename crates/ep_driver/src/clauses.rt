@@ -1,7 +1,10 @@
 //! Comparisons of sums over the numbers that the finds have at the moment.
 
 ghost use Rattle.std.specs.Prelude.{◌≡◌, ◌^◌, pos, neg_ℤ, ◌≤ℤ◌, length};
-ghost use Rattle.ep_driver.specs.Clauses.{operand_value, summand_value, total, compares, is_met, are_met, UsesBelow, SumUsesBelow, ClausesUseBelow};
+ghost use Rattle.ep_tree.specs.Values.{compares};
+ghost use Rattle.ep_driver.specs.Clauses.{operand_value, summand_value, total, is_met, are_met, UsesBelow, SumUsesBelow, ClausesUseBelow};
+
+use ep_tree::CompareOp;
 
 /// What stands at one place of a sum: a number, or the value of the find with an index.
 #[derive(Clone, Copy)]
@@ -17,22 +20,11 @@ pub struct Summand {
     pub subtracted: bool,
 }
 
-/// How two sums are compared.
-#[derive(Clone, Copy)]
-pub enum Relation {
-    Equal,
-    NotEqual,
-    Less,
-    LessEqual,
-    Greater,
-    GreaterEqual,
-}
-
-/// Two sums with a relation between them.
+/// Two sums that are compared.
 #[derive(Drop)]
 pub struct Clause {
     pub left: Vec<Summand>,
-    pub relation: Relation,
+    pub op: CompareOp,
     pub right: Vec<Summand>,
 }
 
@@ -69,16 +61,16 @@ fn sum_of(summands: &[Summand], values: &[i64]) -> i128
     sum
 }
 
-fn compares(relation: Relation, left: i128, right: i128) -> bool
-    ensures { result ≡ compares relation left right }
+fn compares(op: CompareOp, left: i128, right: i128) -> bool
+    ensures { result ≡ compares op left right }
 {
-    match relation {
-        Relation::Equal => left == right,
-        Relation::NotEqual => left != right,
-        Relation::Less => left < right,
-        Relation::LessEqual => left <= right,
-        Relation::Greater => left > right,
-        Relation::GreaterEqual => left >= right,
+    match op {
+        CompareOp::Equal => left == right,
+        CompareOp::NotEqual => left != right,
+        CompareOp::Less => left < right,
+        CompareOp::AtMost => left <= right,
+        CompareOp::Greater => left > right,
+        CompareOp::AtLeast => left >= right,
     }
 }
 
@@ -88,7 +80,7 @@ fn is_met(clause: &Clause, values: &[i64]) -> bool
     ensures { result ≡ is_met values.now clause.now }
 {
     compares(
-        clause.relation,
+        clause.op,
         sum_of(&clause.left, values),
         sum_of(&clause.right, values),
     )

@@ -4,6 +4,7 @@
 mod bounds;
 mod clauses;
 mod command;
+mod compile;
 mod finds;
 mod search;
 mod status;
