@@ -1,12 +1,12 @@
 -- Steps of making flat clauses.
 use Rattle.std.proofs.Common.{◌≡◌, ℕ, zero, suc, ◌+◌, ◌<◌, ◌≤◌, ℤ, pos, ◌+ℤ◌, ◌-ℤ◌, neg_ℤ, Contains, Bool, true, false, not, ◌||◌, cond, nat_lt, List, [], ◌∷◌, ◌++◌, length, get_or, take, drop, map, Bor, Vec, Global, Option, Some, None, if◌then◌else◌, refl, sym, ap, subst, ◌∙◌, arith, rules}
-use Rattle.std.specs.List.{list_any, zip, position, position_or_len}
+use Rattle.std.specs.List.{list_any, zip, AllZip, position, position_or_len}
 use Rattle.std.specs.Str.{bytes_eq}
 use Rattle.std.specs.Map.{lookup}
 use Rattle.std.proofs.lemmas.Bool.{ltb-true}
 use Rattle.std.proofs.Math.Bool.{or-true}
 use Rattle.std.proofs.lemmas.Slice.Eq.{bytes_eq-Decides}
-use Rattle.std.proofs.lemmas.List.{drop_more}
+use Rattle.std.proofs.lemmas.List.{drop_more, append-nil, append_assoc, map_more}
 use Rattle.std.proofs.lemmas.Int.{ints}
 use Rattle.ep_tree.specs.declared.expressions.Expr.{Expr}
 use Rattle.ep_tree.specs.declared.expressions.Kind.{Add, Row_of-Kind-Add-0-2, end_of-Kind-Add-0-2, more_of-Kind-Add-0-2, items-the_row-Kind-Add-0-2, items_hidden-the_row-Kind-Add-0-2-0}
@@ -19,7 +19,8 @@ use Rattle.ep_tree.specs.WellFormed.{UsesOnly, TermsUseOnly}
 use Rattle.ep_driver.specs.declared.clauses.Operand.{Operand}
 use Rattle.ep_driver.specs.declared.clauses.Summand.{Summand}
 use Rattle.ep_driver.specs.Clauses.{operand_value, summand_value, total, UsesBelow, SumUsesBelow}
-use Rattle.ep_driver.specs.Compiled.{texts_of, assignment_of, OperandMeans}
+use Rattle.ep_driver.specs.Compiled.{texts_of, assignment_of, OperandMeans, IsCompiled, AreCompiled, AddsCompiled}
+use Rattle.ep_driver.specs.declared.clauses.Clause.{Clause}
 
 -- ---- names
 
@@ -121,3 +122,33 @@ row_tree-vec v = row_tree-items (hidden-the_row-Kind-Add-0-2-0 v) ∙ ap term_tr
 -- a chain read as a plain tree
 pub kind_tree-add : (v : Vec (Bool × Expr) Global) → kind_tree (Add v) ≡ add (term_trees v.items)
 kind_tree-add v = ap add (row_tree-vec v)
+
+-- ---- lists of clauses
+
+pub AllZip-added : {X Y : Type 0} (R : X → Y → Type 0) (xs : List X) (ys : List Y) (x : X) (y : Y) → AllZip R xs ys → R x y → AllZip R (xs ++ x ∷ []) (ys ++ y ∷ [])
+AllZip-added R [] [] x y h r = (r, tt)
+AllZip-added R [] (z ∷ ys) x y h r = absurd h
+AllZip-added R (z ∷ xs) [] x y h r = absurd h
+AllZip-added R (w ∷ xs) (z ∷ ys) x y h r = (h.0, AllZip-added R xs ys x y h.1 r)
+
+-- nothing is added
+pub adds-nothing : (names : List (Bor (List ℕ))) (cs : List Clause) → AddsCompiled names cs cs []
+adds-nothing names cs = λ before h.
+    let P : List ExprTree → Type 0 = λ x. AreCompiled names cs x in
+    subst P (sym (append-nil before)) h
+
+-- one clause more
+pub adds-clause : (names : List (Bor (List ℕ))) (old now new : List Clause) (xs : List Expr) (i : ℕ) (x : Expr) (c : Clause) → i < length xs → x ≡ get_or xs i x → AddsCompiled names old now (map expr_tree (take i xs)) → IsCompiled names c (expr_tree x) → new ≡ now ++ c ∷ [] → AddsCompiled names old new (map expr_tree (take (i + 1) xs))
+adds-clause names old now new xs i x c h e so_far compiled added = λ before start.
+    let one = AllZip-added (IsCompiled names) now (before ++ map expr_tree (take i xs)) c (expr_tree x) (so_far before start) compiled in
+    let next : map expr_tree (take (i + 1) xs) ≡ map expr_tree (take i xs) ++ expr_tree x ∷ [] =
+    map_more expr_tree xs i x h ∙ ap (λ y. map expr_tree (take i xs) ++ expr_tree y ∷ []) (sym e) in
+    let P : List ExprTree → Type 0 = λ y. AreCompiled names new y in
+    let Q : List Clause → Type 0 = λ y. AreCompiled names y ((before ++ map expr_tree (take i xs)) ++ expr_tree x ∷ []) in
+    subst P (append_assoc before (map expr_tree (take i xs)) (expr_tree x ∷ []) ∙ ap (λ y. before ++ y) (sym next)) (subst Q (sym added) one)
+
+-- the clauses of one statement more
+pub adds-more : (names : List (Bor (List ℕ))) (old now new : List Clause) (some more both : List ExprTree) → AddsCompiled names old now some → AddsCompiled names now new more → both ≡ some ++ more → AddsCompiled names old new both
+adds-more names old now new some more both first second e = λ before start.
+    let P : List ExprTree → Type 0 = λ y. AreCompiled names new y in
+    subst P (append_assoc before some more ∙ ap (λ y. before ++ y) (sym e)) (second (before ++ some) (first before start))

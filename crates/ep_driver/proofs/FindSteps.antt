@@ -83,7 +83,7 @@ pub flat_map-map : {X Y Z : Type 0} (f : Y → List Z) (h : X → Y) (xs : List 
 flat_map-map f h [] = refl
 flat_map-map f h (x ∷ xs) = ap (λ z. f (h x) ++ z) (flat_map-map f h xs)
 
-flat-next : {X Y : Type 0} (g : X → List Y) (xs : List X) (i : ℕ) (x : X) → i < length xs → x ≡ get_or xs i x → flat_map g (take (i + 1) xs) ≡ flat_map g (take i xs) ++ g x
+pub flat-next : {X Y : Type 0} (g : X → List Y) (xs : List X) (i : ℕ) (x : X) → i < length xs → x ≡ get_or xs i x → flat_map g (take (i + 1) xs) ≡ flat_map g (take i xs) ++ g x
 flat-next g xs i x h e =
     ap (flat_map g) (take_more xs i x h)
     ∙ flat_map-append g (take i xs) (get_or xs i x ∷ [])

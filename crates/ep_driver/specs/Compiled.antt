@@ -1,5 +1,5 @@
 -- When flat sums and clauses mean what trees mean.
-use Rattle.std.specs.Prelude.{◌≡◌, ℕ, ℤ, pos, List, map, length, Some, if◌then◌else◌}
+use Rattle.std.specs.Prelude.{◌≡◌, ℕ, ℤ, pos, List, ◌++◌, map, length, Some, if◌then◌else◌}
 use Rattle.std.specs.List.{zip, AllZip}
 use Rattle.std.specs.Borrow.{Bor}
 use Rattle.ep_tree.specs.Trees.{ExprTree, TermTrees}
@@ -7,7 +7,7 @@ use Rattle.ep_tree.specs.Values.{Assignment, value_of, sum_of}
 use Rattle.ep_driver.specs.declared.clauses.Operand.{Operand}
 use Rattle.ep_driver.specs.declared.clauses.Summand.{Summand}
 use Rattle.ep_driver.specs.declared.clauses.Clause.{Clause}
-use Rattle.ep_driver.specs.Clauses.{operand_value, total, is_met}
+use Rattle.ep_driver.specs.Clauses.{operand_value, total, is_met, SumUsesBelow}
 
 -- the bytes of the names
 abbrev pub texts_of : List (Bor (List ℕ)) → List (List ℕ)
@@ -40,3 +40,18 @@ abbrev pub ClauseMeans : List (Bor (List ℕ)) → Clause → ExprTree → Type 
 ClauseMeans names clause tree =
     (values : List ℤ) → length values ≡ length names →
     value_of (assignment_of names values) tree ≡ Some (if is_met values clause then pos 1 else pos 0)
+
+-- the clause uses no value but those of the names, and means what the tree means
+abbrev pub IsCompiled : List (Bor (List ℕ)) → Clause → ExprTree → Type 0
+IsCompiled names clause tree =
+    SumUsesBelow (length names) clause.left.items × SumUsesBelow (length names) clause.right.items
+    × ClauseMeans names clause tree
+
+-- clause by clause
+abbrev pub AreCompiled : List (Bor (List ℕ)) → List Clause → List ExprTree → Type 0
+AreCompiled names clauses trees = AllZip (IsCompiled names) clauses trees
+
+-- the new clauses are the old ones and those of these trees
+abbrev pub AddsCompiled : List (Bor (List ℕ)) → List Clause → List Clause → List ExprTree → Type 0
+AddsCompiled names old new trees =
+    (before : List ExprTree) → AreCompiled names old before → AreCompiled names new (before ++ trees)

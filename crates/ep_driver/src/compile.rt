@@ -1,16 +1,18 @@
 //! Flat clauses from the clauses of a model.
 
-ghost use Rattle.std.specs.Prelude.{◌≡◌, ◌<◌, ℤ, pos, List, [], ◌∷◌, false, length, Some, Contains, IfOk, slice_index_or};
+ghost use Rattle.std.specs.Prelude.{◌≡◌, ◌<◌, ℤ, pos, List, [], ◌∷◌, false, length, Some, Contains, map, IfOk, OnOk, slice_index_or};
+ghost use Rattle.std.specs.List.{flat_map, AllByRecursion};
 ghost use Rattle.std.specs.Str.{bytes_eq};
 ghost use Rattle.std.specs.Map.{lookup};
-ghost use Rattle.ep_tree.specs.Views.{expr_tree, term_trees};
-ghost use Rattle.ep_tree.specs.EarlyForms.{IsOperand, AreOperands, IsSide, IsEarlyClause};
-ghost use Rattle.ep_tree.specs.WellFormed.{UsesOnly, TermsUseOnly};
+ghost use Rattle.ep_tree.specs.Views.{expr_tree, term_trees, statement_tree, model_tree};
+ghost use Rattle.ep_tree.specs.EarlyForms.{IsOperand, AreOperands, IsSide, IsEarlyClause, IsEarlyStatement, HasEarlyForms};
+ghost use Rattle.ep_tree.specs.WellFormed.{UsesOnly, TermsUseOnly, KindUsesOnly};
+ghost use Rattle.ep_tree.specs.Solutions.{kind_clauses, instance_of};
 ghost use Rattle.ep_driver.specs.Clauses.{UsesBelow, SumUsesBelow};
-ghost use Rattle.ep_driver.specs.Compiled.{texts_of, assignment_of, OperandMeans, SumMeans, ChainMeans, ClauseMeans};
+ghost use Rattle.ep_driver.specs.Compiled.{texts_of, assignment_of, OperandMeans, SumMeans, ChainMeans, ClauseMeans, AreCompiled, AddsCompiled};
 
 use super::clauses::{Clause, Operand, Summand};
-use ep_tree::{Expr, Kind};
+use ep_tree::{Expr, Kind, Model, Statement, StatementKind};
 use indexmap::IndexSet;
 use std::alloc::{AllocError, Global};
 
@@ -107,4 +109,69 @@ fn clause_of(alloc: Global, names: &IndexSet<&str>, clause: &Expr) -> Result<Cla
         }),
         _ => unreachable!(),
     }
+}
+
+/// Adds the flat clauses of some comparisons.
+fn add_clauses(
+    alloc: Global,
+    names: &IndexSet<&str>,
+    clauses: &[Expr],
+    flat: &mut Vec<Clause>,
+) -> Result<(), AllocError>
+    requires early { AllByRecursion IsEarlyClause (map expr_tree clauses.now) }
+    requires declared { AllByRecursion (UsesOnly (texts_of names.now.keys)) (map expr_tree clauses.now) }
+    ensures { OnOk result (AddsCompiled names.now.keys flat.old.items flat.new.items (map expr_tree clauses.now)) }
+{
+    for clause in clauses {
+        flat.push(clause_of(alloc, names, clause)?)?;
+    }
+    Ok(())
+}
+
+/// Adds the flat clauses of a statement.
+fn add_statement(
+    alloc: Global,
+    names: &IndexSet<&str>,
+    statement: &Statement,
+    flat: &mut Vec<Clause>,
+) -> Result<(), AllocError>
+    requires early { IsEarlyStatement (statement_tree statement.now) }
+    requires declared { KindUsesOnly (texts_of names.now.keys) (statement_tree statement.now).kind }
+    ensures { OnOk result (AddsCompiled names.now.keys flat.old.items flat.new.items (kind_clauses (statement_tree statement.now).kind)) }
+{
+    match &statement.kind {
+        StatementKind::SuchThat(clauses) => add_clauses(alloc, names, clauses, flat),
+        StatementKind::Find(_) => Ok(()),
+    }
+}
+
+fn add_statements(
+    alloc: Global,
+    names: &IndexSet<&str>,
+    statements: &[Statement],
+    flat: &mut Vec<Clause>,
+) -> Result<(), AllocError>
+    requires early { AllByRecursion IsEarlyStatement (map statement_tree statements.now) }
+    requires declared { AllByRecursion (λ s. KindUsesOnly (texts_of names.now.keys) s.kind) (map statement_tree statements.now) }
+    ensures { OnOk result (AddsCompiled names.now.keys flat.old.items flat.new.items (flat_map (λ s. kind_clauses s.kind) (map statement_tree statements.now))) }
+{
+    for statement in statements {
+        add_statement(alloc, names, statement, flat)?;
+    }
+    Ok(())
+}
+
+/// The flat clauses of a model.
+pub fn clauses_of_model(
+    alloc: Global,
+    names: &IndexSet<&str>,
+    model: &Model,
+) -> Result<Vec<Clause>, AllocError>
+    requires early { HasEarlyForms (model_tree model.now) }
+    requires declared { AllByRecursion (λ s. KindUsesOnly (texts_of names.now.keys) s.kind) (model_tree model.now).statements }
+    ensures { IfOk result (λ flat. AreCompiled names.now.keys flat.items (instance_of (model_tree model.now)).clauses) }
+{
+    let mut flat = Vec::new(alloc);
+    add_statements(alloc, names, &model.statements, &mut flat)?;
+    Ok(flat)
 }
