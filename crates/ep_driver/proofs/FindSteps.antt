@@ -92,7 +92,7 @@ flat-next g xs i x h e =
 flat-split : {X Y : Type 0} (g : X → List Y) (n : ℕ) (xs : List X) → flat_map g xs ≡ flat_map g (take n xs) ++ flat_map g (drop n xs)
 flat-split g n xs = ap (flat_map g) (sym (take-append-drop n xs)) ∙ flat_map-append g (take n xs) (drop n xs)
 
-names-flat : {X : Type 0} (f : X → List Find) (g : X → List (List ℕ)) → ((x : X) → find_names (f x) ≡ g x) → (xs : List X) → find_names (flat_map f xs) ≡ flat_map g xs
+pub names-flat : {X : Type 0} (f : X → List Find) (g : X → List (List ℕ)) → ((x : X) → find_names (f x) ≡ g x) → (xs : List X) → find_names (flat_map f xs) ≡ flat_map g xs
 names-flat f g same [] = refl
 names-flat f g same (x ∷ xs) =
     map-append (λ (v : Find). v.name) (f x) (flat_map f xs)

@@ -2,3 +2,4 @@ pub mod Steps
 pub mod Order
 pub mod FindSteps
 pub mod CompileSteps
+pub mod Solving

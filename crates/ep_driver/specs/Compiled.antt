@@ -1,7 +1,9 @@
 -- When flat sums and clauses mean what trees mean.
-use Rattle.std.specs.Prelude.{◌≡◌, ℕ, ℤ, pos, List, ◌++◌, map, length, Some, if◌then◌else◌}
+use Rattle.std.specs.Prelude.{◌≡◌, ℕ, ℤ, pos, List, ◌++◌, map, length, Option, Some, None, Vec, if◌then◌else◌}
 use Rattle.std.specs.List.{zip, AllZip}
 use Rattle.std.specs.Borrow.{Bor}
+use Rattle.std.specs.declared.alloc.Global.{Global}
+use Rattle.ep_driver.specs.Answers.{Answer, solution, no_solution}
 use Rattle.ep_tree.specs.Trees.{ExprTree, TermTrees}
 use Rattle.ep_tree.specs.Values.{Assignment, value_of, sum_of}
 use Rattle.ep_driver.specs.declared.clauses.Operand.{Operand}
@@ -55,3 +57,8 @@ AreCompiled names clauses trees = AllZip (IsCompiled names) clauses trees
 abbrev pub AddsCompiled : List (Bor (List ℕ)) → List Clause → List Clause → List ExprTree → Type 0
 AddsCompiled names old new trees =
     (before : List ExprTree) → AreCompiled names old before → AreCompiled names new (before ++ trees)
+
+-- the answer that the values of a solution are, or that there are none
+abbrev pub found_answer : List (Bor (List ℕ)) → Option (Vec ℤ Global) → Answer
+found_answer names None = no_solution
+found_answer names (Some values) = solution (assignment_of names values.items)

@@ -7,6 +7,7 @@ mod command;
 mod compile;
 mod finds;
 mod search;
+mod solve;
 mod status;
 mod texts;
 mod top;
