@@ -3,3 +3,4 @@ pub mod Order
 pub mod FindSteps
 pub mod CompileSteps
 pub mod Solving
+pub mod Saying

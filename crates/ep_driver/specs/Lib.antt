@@ -7,3 +7,4 @@ pub mod Answers
 pub mod Outcomes
 pub mod Finds
 pub mod Compiled
+pub mod Replies

@@ -6,6 +6,7 @@ mod clauses;
 mod command;
 mod compile;
 mod finds;
+mod replies;
 mod search;
 mod solve;
 mod status;

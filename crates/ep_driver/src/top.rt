@@ -7,11 +7,12 @@ ghost use Rattle.ep_tree.specs.Solutions.{instance_of};
 ghost use Rattle.ep_driver.specs.Command.{IsCommand};
 ghost use Rattle.ep_driver.specs.Texts.{device_line};
 ghost use Rattle.ep_driver.specs.Answers.{Answer, Answers, answer_text};
-ghost use Rattle.ep_driver.specs.Outcomes.{AreNoCommand, Refuses, Accepts};
+ghost use Rattle.ep_driver.specs.Outcomes.{AreNoCommand, Refuses, Accepts, AsksFor};
 ghost use Rattle.ep_driver.specs.declared.status.Status.{Status};
 
+use crate::replies::reply_to;
 use crate::status::Status;
-use ep_base::{Files, Sink, Word};
+use ep_base::{Files, PutError, Sink, Word, put_all};
 use std::alloc::Global;
 use std::thread::Threads;
 
@@ -44,14 +45,11 @@ pub fn run<R: Threads, F: Files, K: Sink>(
     ensures never_unknown { result ≢ Status.Unknown }
     ensures never_refuted { result ≢ Status.Refuted }
 
-    // Where no device failed, a refusal that stands is answered, and else the answer is given, want of memory aside.
-    ensures refuses { ¬ Rose (F.faults files.old) (F.faults files.new) → ¬ Rose (K.faults out.old) (K.faults out.new) →
-        IfSome (F.held files.old) (λ held. (status : Status) (line : List ℕ) →
-        Refuses words.now held status line → (result ≡ status) ⊎ (result ≡ Status.Memory)) }
-    ensures answers { ¬ Rose (F.faults files.old) (F.faults files.new) → ¬ Rose (K.faults out.old) (K.faults out.new) →
-        IfSome (F.held files.old) (λ held. (model : ModelTree) →
-        Accepts words.now held model → (result ≡ Status.Answered) ⊎ (result ≡ Status.Memory)) }
-    ensures usage_told { AreNoCommand words.now → ¬ Rose (K.faults out.old) (K.faults out.new) →
+    // Where no device failed, what the words and the files ask for comes, want of memory aside.
+    ensures asked { ¬ Rose (F.faults files.old) (F.faults files.new) → ¬ Rose (K.faults out.old) (K.faults out.new) →
+        IfSome (F.held files.old) (λ held. (status : Status) →
+        AsksFor words.now held status → (result ≡ status) ⊎ (result ≡ Status.Memory)) }
+    ensures usage_asked { AreNoCommand words.now → ¬ Rose (K.faults out.old) (K.faults out.new) →
         (result ≡ Status.Usage) ⊎ (result ≡ Status.Memory) }
 
     // The files stay as they were, and no count of faults falls.
@@ -60,9 +58,13 @@ pub fn run<R: Threads, F: Files, K: Sink>(
     ensures out_faults { K.faults out.old ≤ K.faults out.new }
 {
     let _ = rt;
-    let _ = alloc;
-    let _ = words;
-    let _ = files;
-    let _ = out;
-    Status::Memory
+    let Ok(reply) = reply_to(alloc, words, files) else {
+        let _ = put_all(out, b"memory\n");
+        return Status::Memory;
+    };
+    match put_all(out, &reply.text) {
+        Ok(()) => reply.status,
+        Err(PutError::Failed) => Status::Device,
+        Err(PutError::Memory) => Status::Memory,
+    }
 }
