@@ -1,6 +1,6 @@
 -- Steps of making flat clauses.
-use Rattle.std.proofs.Common.{◌≡◌, ℕ, zero, suc, ◌+◌, ◌<◌, ◌≤◌, ℤ, pos, ◌+ℤ◌, ◌-ℤ◌, neg_ℤ, Contains, Bool, true, false, not, ◌||◌, cond, nat_lt, List, [], ◌∷◌, ◌++◌, length, get_or, take, drop, map, Bor, Vec, Global, Option, Some, None, if◌then◌else◌, refl, sym, ap, subst, ◌∙◌, arith, rules}
-use Rattle.std.specs.List.{list_any, zip, AllZip, position, position_or_len}
+use Rattle.std.proofs.Common.{◌≡◌, ℕ, zero, suc, ◌+◌, ◌<◌, ℤ, pos, ◌+ℤ◌, ◌-ℤ◌, neg_ℤ, Contains, Bool, true, false, not, cond, nat_lt, List, [], ◌∷◌, ◌++◌, length, get_or, take, drop, map, Bor, Vec, Global, Option, Some, None, if◌then◌else◌, refl, sym, ap, subst, ◌∙◌, arith}
+use Rattle.std.specs.List.{list_any, AllZip, position, position_or_len}
 use Rattle.std.specs.Str.{bytes_eq}
 use Rattle.std.specs.Map.{lookup}
 use Rattle.std.proofs.lemmas.Bool.{ltb-true}
@@ -11,9 +11,9 @@ use Rattle.std.proofs.lemmas.Int.{ints}
 use Rattle.ep_tree.specs.declared.expressions.Expr.{Expr}
 use Rattle.ep_tree.specs.declared.expressions.Kind.{Add, Row_of-Kind-Add-0-2, end_of-Kind-Add-0-2, more_of-Kind-Add-0-2, items-the_row-Kind-Add-0-2, items_hidden-the_row-Kind-Add-0-2-0}
 use Rattle.ep_tree.specs.declared.expressions.Kind.TheBlock.{hidden-the_row-Kind-Add-0-2-0}
-use Rattle.ep_tree.specs.Trees.{ExprTree, expr_at, TermTrees, more_terms, no_terms, add}
+use Rattle.ep_tree.specs.Trees.{ExprTree, expr_at, more_terms, add}
 use Rattle.ep_tree.specs.Views.{expr_tree, kind_tree, row_tree, term_trees}
-use Rattle.ep_tree.specs.Values.{Assignment, value_of, sum_of, added}
+use Rattle.ep_tree.specs.Values.{value_of, sum_of, added}
 use Rattle.ep_tree.specs.EarlyForms.{IsOperand, AreOperands}
 use Rattle.ep_tree.specs.WellFormed.{UsesOnly, TermsUseOnly}
 use Rattle.ep_driver.specs.declared.clauses.Operand.{Operand}

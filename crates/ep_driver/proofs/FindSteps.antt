@@ -1,5 +1,5 @@
 -- Steps of collecting the decision variables of a model.
-use Rattle.std.proofs.Common.{◌≡◌, ◌≢◌, ℕ, zero, suc, ◌+◌, ◌<◌, ◌≤◌, Bool, true, false, ◌||◌, List, [], ◌∷◌, ◌++◌, length, get_or, take, drop, map, Bor, ℤ, unwrap_or, refl, sym, ap, subst, ◌∙◌, arith, rules, cond}
+use Rattle.std.proofs.Common.{◌≡◌, ◌≢◌, ℕ, zero, suc, ◌+◌, ◌<◌, false, List, [], ◌∷◌, ◌++◌, length, get_or, take, drop, map, Bor, ℤ, unwrap_or, refl, sym, ap, subst, ◌∙◌, arith}
 use Rattle.std.specs.List.{list_any, flat_map, AllByRecursion}
 use Rattle.std.specs.Str.{bytes_eq}
 use Rattle.std.proofs.lemmas.Slice.Eq.{bytes_eq-Decides}
@@ -7,7 +7,6 @@ use Rattle.std.proofs.lemmas.Bool.{false_from_ne_true}
 use Rattle.std.proofs.lemmas.List.{get_or_at, get_or_append_left, length_push, length-append, map-append, append_assoc, take_more, take-append-drop, append-nil}
 use Rattle.indexmap.specs.IndexSet.{insert_key}
 use Rattle.ep_tree.specs.declared.domains.Range.{Range}
-use Rattle.ep_tree.specs.declared.domains.Range.TheVariants.{Span}
 use Rattle.ep_tree.specs.Views.{range_trees}
 use Rattle.ep_tree.specs.EarlyForms.{IsOneRange}
 use Rattle.ep_base.specs.declared.places.Place.{Place}

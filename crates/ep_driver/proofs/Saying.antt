@@ -1,5 +1,5 @@
 -- From what is said to a text to what is said to the words.
-use Rattle.std.proofs.Common.{◌≡◌, ℕ, ◌+◌, ◌≤◌, min, List, length, take, Option, Some, None, Ok, Err, Result, IfOk, option_map, inl, inr, refl, sym, ap, subst, ◌∙◌, arith}
+use Rattle.std.proofs.Common.{◌≡◌, ℕ, ◌≤◌, List, length, take, Option, Some, None, Ok, Err, Result, IfOk, ◌⊎◌, IfSome, IsSomeAnd, option_map, inl, inr, refl, sym, ap, subst, ◌∙◌, arith}
 use Rattle.std.proofs.lemmas.List.{take_all, length-take}
 use Rattle.ep_base.specs.Outside.{Held, ReadGives}
 use Rattle.ep_base.specs.declared.errors.Memory.{Memory as Want}
@@ -10,8 +10,9 @@ use Rattle.ep_driver.specs.declared.status.Status.TheVariants.{Answered, Unknown
 use Rattle.ep_driver.specs.declared.replies.Reply.{Reply}
 use Rattle.ep_driver.specs.Command.{IsCommand}
 use Rattle.ep_tree.specs.Solutions.{instance_of, assignment_count}
-use Rattle.ep_driver.specs.Outcomes.{NamesText, AreNoCommand, IsNotEarly, IsTooLarge, most_assignments, AsksFor}
-use Rattle.ep_driver.specs.Replies.{SaidToText, SaidToFile, SaidToWords}
+use Rattle.ep_driver.specs.Outcomes.{NamesText, AreNoCommand, IsNotEarly, IsTooLarge, most_assignments, AsksFor, Refuses}
+use Rattle.ep_driver.specs.Replies.{SaidToText, SaidToFile, IsNotRead, SaidToWords}
+use Rattle.ep_driver.specs.Texts.{device_line}
 
 -- ---- the first bytes of a text tell whether it is early
 
@@ -157,3 +158,44 @@ said-asked words held rose Answered line asked said calm asks = let t = said.1 i
 said-asked words held rose Unknown line asked said calm asks = absurd said
 said-asked words held rose Memory line asked said calm asks = absurd said
 said-asked words held rose Refuted line asked said calm asks = absurd said
+
+-- ---- what is said, as the contract of a run says it
+
+-- the status is that of a fault or a limit
+abbrev pub IsRefusal : Status → Type 0
+IsRefusal status = (status ≡ Usage) ⊎ (status ≡ Text) ⊎ (status ≡ Limit)
+
+no-refusal : (status : Status) → (status ≡ Usage → ⊥) → (status ≡ Text → ⊥) → (status ≡ Limit → ⊥) → IsRefusal status → ⊥
+no-refusal status a b d (inl e) = a e
+no-refusal status a b d (inr (inl e)) = b e
+no-refusal status a b d (inr (inr e)) = d e
+
+said-refused : (words : List (List ℕ)) (held : Held) (rose : Type 0) (status : Status) (line : List ℕ) → SaidToWords words (Some held) rose status line → IsRefusal status → Refuses words held status line
+said-refused words held rose Usage line said refusal = (said.0, said.1)
+said-refused words held rose Text line said refusal = (said.1.2.0, said.1.0, said.1.1, said.1.2.1)
+said-refused words held rose Limit line said refusal = (said.1.2.0, said.1.0, said.1.2.1, said.1.1, said.1.2.2, said.1.2.3)
+said-refused words held rose Device line said refusal = absurd (no-refusal Device (λ e. cc) (λ e. cc) (λ e. cc) refusal)
+said-refused words held rose Answered line said refusal = absurd (no-refusal Answered (λ e. cc) (λ e. cc) (λ e. cc) refusal)
+said-refused words held rose Unknown line said refusal = absurd said
+said-refused words held rose Memory line said refusal = absurd said
+said-refused words held rose Refuted line said refusal = absurd said
+
+-- a fault or a limit that is said stands
+pub said-refusal : (words : List (List ℕ)) (told : Option Held) (rose : Type 0) (status : Status) (line seen : List ℕ) (Took : List ℕ → Type 0) → SaidToWords words told rose status line → IsRefusal status → seen ≡ line → Took seen → IfSome told (λ held. (x : List ℕ) × Refuses words held status x × Took x)
+said-refusal words None rose status line seen Took said refusal same took = tt
+said-refusal words (Some held) rose status line seen Took said refusal same took =
+    (line, said-refused words held rose status line said refusal, subst Took same took)
+
+missing-refused : (words : List (List ℕ)) (told : Option Held) (name line : List ℕ) → IsCommand words name → line ≡ device_line name → IsSomeAnd told (λ held. held name ≡ None) → IsSomeAnd told (λ held. (x : List ℕ) × Refuses words held Device x)
+missing-refused words None name line command same missing = absurd missing
+missing-refused words (Some held) name line command same missing = (line, (name, same, command, missing))
+
+-- where a file wasn't read, a count rose or the file isn't held
+pub said-device : (words : List (List ℕ)) (told : Option Held) (rose other : Type 0) (line : List ℕ) → IsNotRead words told rose line → rose ⊎ other ⊎ IsSomeAnd told (λ held. (x : List ℕ) × Refuses words held Device x)
+said-device words told rose other line said =
+    elim said.3 [ inl r ↦ inl r | inr missing ↦ inr (inr (missing-refused words told said.0 line said.1 said.2 missing)) ]
+
+-- where the files counted no fault, what is asked for is said
+pub said-told : (words : List (List ℕ)) (told : Option Held) (rose : Type 0) (said : Status) (line : List ℕ) → SaidToWords words told rose said line → ¬ rose → IfSome told (λ held. (status : Status) → AsksFor words held status → (said ≡ status) ⊎ (said ≡ Memory))
+said-told words None rose said line s calm = tt
+said-told words (Some held) rose said line s calm = λ status asks. inl (said-asked words held rose said line status s calm asks)

@@ -1,21 +1,21 @@
 -- From the flat search to the instance of a model.
-use Rattle.std.proofs.Common.{◌≡◌, ℕ, zero, suc, ◌+◌, ◌-◌, ◌*◌, ◌<◌, ◌≤◌, ℤ, pos, negsuc, ◌+ℤ◌, ◌-ℤ◌, ◌≤ℤ◌, Bool, true, false, ◌&&◌, Contains, if◌then◌else◌, List, [], ◌∷◌, ◌++◌, length, get_or, map, Bor, Vec, Global, Option, Some, None, IfSome, IfNone, refl, sym, ap, subst, ◌∙◌, arith}
+use Rattle.std.proofs.Common.{◌≡◌, ℕ, zero, suc, ◌+◌, ◌*◌, ◌<◌, ℤ, pos, negsuc, ◌+ℤ◌, ◌-ℤ◌, ◌≤ℤ◌, Bool, true, false, ◌&&◌, Contains, if◌then◌else◌, List, [], ◌∷◌, ◌++◌, length, get_or, map, Bor, Vec, Global, Option, Some, None, IfSome, IfNone, refl, sym, ap, subst, ◌∙◌, arith}
 use Rattle.std.specs.List.{AllZip, AllByRecursion, flat_map}
 use Rattle.std.proofs.lemmas.Bool.{false≢true}
 use Rattle.std.proofs.lemmas.List.{append_assoc}
 use Rattle.std.proofs.lemmas.List.Elements.{Contains-append_left}
 use Rattle.std.proofs.lemmas.Int.{ints}
 use Rattle.ep_tree.specs.Trees.{ExprTree, expr_at, number, named, neg, add, compare, TermTrees, no_terms, more_terms, StatementKindTree, find, such_that, StatementTree, ModelTree}
-use Rattle.ep_tree.specs.Values.{Assignment, value_of, at_least_zero, ascending, interval}
+use Rattle.ep_tree.specs.Values.{Assignment, at_least_zero, ascending, interval}
 use Rattle.ep_tree.specs.WellFormed.{UsesOnly, TermsUseOnly, KindUsesOnly, DeclaresBeforeUse, IsWellFormed, declared_by, declared_names}
-use Rattle.ep_tree.specs.Solutions.{Find, kind_finds, instance_of, Instance, Gives, Holds, IsSolution, product_of, assignment_count}
+use Rattle.ep_tree.specs.Solutions.{Find, kind_finds, instance_of, Instance, Gives, Holds, IsSolution, product_of}
 use Rattle.ep_driver.specs.declared.bounds.Bounds.{Bounds}
 use Rattle.ep_driver.specs.declared.clauses.Clause.{Clause}
 use Rattle.ep_driver.specs.Bounds.{size_of, combinations, AreWithin}
 use Rattle.ep_driver.specs.Clauses.{is_met, are_met, ClausesUseBelow}
 use Rattle.ep_driver.specs.Finds.{finds_of, find_names}
 use Rattle.ep_driver.proofs.FindSteps.{find_names-finds_of, names-flat, kind-names}
-use Rattle.ep_driver.specs.Compiled.{texts_of, assignment_of, IsCompiled, AreCompiled, found_answer}
+use Rattle.ep_driver.specs.Compiled.{texts_of, assignment_of, AreCompiled, found_answer}
 use Rattle.ep_driver.specs.Answers.{Answers}
 
 -- ---- intervals

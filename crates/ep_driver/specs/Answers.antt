@@ -1,5 +1,5 @@
 -- What a run may answer, and in which words.
-use Rattle.std.specs.Prelude.{ℕ, ℤ, List, ◌++◌, codes}
+use Rattle.std.specs.Prelude.{ℕ, List, ◌++◌, codes}
 use Rattle.std.specs.List.{flat_map}
 use Rattle.ep_tree.specs.Values.{Assignment}
 use Rattle.ep_tree.specs.Solutions.{Instance, IsSolution}

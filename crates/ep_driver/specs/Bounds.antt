@@ -1,5 +1,5 @@
 -- Lists of numbers within bounds.
-use Rattle.std.specs.Prelude.{◌≡◌, ℕ, ℤ, pos, ◌+ℤ◌, ◌-ℤ◌, ◌≤ℤ◌, ◌+◌, ◌*◌, ◌/◌, ◌%◌, int_lt, if◌then◌else◌, List, [], ◌∷◌, map}
+use Rattle.std.specs.Prelude.{ℕ, ℤ, pos, ◌+ℤ◌, ◌-ℤ◌, ◌≤ℤ◌, ◌*◌, ◌/◌, ◌%◌, int_lt, if◌then◌else◌, List, [], ◌∷◌, map}
 use Rattle.ep_tree.specs.Values.{at_least_zero}
 use Rattle.ep_driver.specs.declared.bounds.Bounds.{Bounds}
 

@@ -1,4 +1,3 @@
-use Rattle.std.proofs.Common.{◌∷◌, [], ◌++◌}
 use Rattle.ep_tree.specs.EarlyForms.{IsEarlyClause}
 use Rattle.ep_tree.specs.WellFormed.{UsesOnly}
 use Rattle.ep_tree.specs.Views.{expr_tree}

@@ -1,8 +1,8 @@
-use Rattle.std.proofs.Common.{◌≡◌, ◌∙◌, List, ap, subst, arith}
+use Rattle.std.proofs.Common.{◌∙◌, List, ap, subst, arith}
 use Rattle.std.specs.List.{flat_map}
 use Rattle.std.proofs.lemmas.List.{take_all}
 use Rattle.ep_tree.specs.declared.statements.Statement.{Statement}
-use Rattle.ep_tree.specs.Trees.{ExprTree, StatementTree}
+use Rattle.ep_tree.specs.Trees.{ExprTree}
 use Rattle.ep_tree.specs.EarlyForms.{IsEarlyStatement}
 use Rattle.ep_tree.specs.WellFormed.{KindUsesOnly}
 use Rattle.ep_tree.specs.Views.{statement_tree}

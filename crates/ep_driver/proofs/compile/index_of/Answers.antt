@@ -1,4 +1,4 @@
-use Rattle.std.proofs.Common.{◌≡◌, sym, ◌∙◌, ap, is_some}
+use Rattle.std.proofs.Common.{sym, ◌∙◌}
 use Rattle.std.proofs.lemmas.Bool.{false≢true}
 use Rattle.ep_driver.proofs.CompileSteps.{present, lookup-found}
 use Rattle.ep_driver.proofs.compile.index_of.Goals as goal

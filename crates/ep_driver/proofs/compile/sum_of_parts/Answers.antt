@@ -1,4 +1,4 @@
-use Rattle.std.proofs.Common.{◌≡◌, ◌∙◌, ◌++◌, ◌∷◌, [], List, ℤ, Some, ◌+◌, length, drop, not, sym, ap, subst}
+use Rattle.std.proofs.Common.{◌≡◌, ◌∙◌, ◌++◌, ◌∷◌, [], List, Some, ◌+◌, length, drop, not, sym, ap, subst}
 use Rattle.ep_driver.specs.Clauses.{SumUsesBelow, total}
 use Rattle.ep_driver.specs.declared.clauses.Summand.{Summand}
 use Rattle.ep_driver.specs.Compiled.{texts_of, assignment_of}

@@ -1,4 +1,4 @@
-use Rattle.std.proofs.Common.{◌≡◌, ◌∙◌, ◌++◌, [], ap, unwrap_or, List}
+use Rattle.std.proofs.Common.{◌≡◌, ◌∙◌, ◌++◌, [], ap, unwrap_or}
 use Rattle.std.specs.List.{flat_map}
 use Rattle.ep_tree.specs.Values.{domain_values, interval}
 use Rattle.ep_tree.specs.Views.{domain_tree}

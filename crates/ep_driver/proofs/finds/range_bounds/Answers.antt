@@ -1,4 +1,3 @@
-use Rattle.std.proofs.Common.{◌≡◌, arith, rules}
 use Rattle.ep_driver.proofs.FindSteps.{one_range}
 use Rattle.ep_driver.proofs.finds.range_bounds.Goals as goal
 

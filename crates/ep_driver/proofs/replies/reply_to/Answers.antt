@@ -1,4 +1,4 @@
-use Rattle.std.proofs.Common.{◌≡◌, ℕ, Vec, Global, Option, option_map, subst}
+use Rattle.std.proofs.Common.{ℕ, Vec, Global, Option, option_map, subst}
 use Rattle.ep_base.specs.Outside.{ReadGives}
 use Rattle.ep_driver.proofs.Saying.{said-reply}
 use Rattle.ep_driver.proofs.replies.reply_to.Goals as goal

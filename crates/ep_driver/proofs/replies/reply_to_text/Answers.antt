@@ -1,4 +1,4 @@
-use Rattle.std.proofs.Common.{◌≡◌, ap, refl, Err, codes}
+use Rattle.std.proofs.Common.{ap, refl, Err, codes}
 use Rattle.ep_driver.specs.declared.status.Status.TheVariants.{Text}
 use Rattle.ep_driver.proofs.Saying.{said-line}
 use Rattle.ep_driver.proofs.replies.reply_to_text.Goals as goal

@@ -1,4 +1,4 @@
-use Rattle.std.proofs.Common.{◌≡◌, get_or, set, pos, ◌+ℤ◌, ◌<ℤ◌, to_z, of_z, w64, FitsSigned, List, ℤ, ap, ◌∙◌, arith, rules}
+use Rattle.std.proofs.Common.{◌≡◌, get_or, set, pos, ◌+ℤ◌, ◌<ℤ◌, to_z, of_z, w64, FitsSigned, ap, ◌∙◌, arith, rules}
 use Rattle.std.proofs.lemmas.Int.{ints, to_z-of_z}
 use Rattle.ep_driver.specs.declared.bounds.Bounds.{Bounds}
 use Rattle.ep_driver.proofs.Order.{walk-ends, is_less}

@@ -1,4 +1,4 @@
-use Rattle.std.proofs.Common.{◌≡◌, ◌++◌, length, take, drop}
+use Rattle.std.proofs.Common.{◌≡◌, ◌++◌, take, drop}
 use Rattle.ep_driver.specs.Bounds.{next_values}
 use Rattle.ep_driver.proofs.search.advance.Given as goal
 

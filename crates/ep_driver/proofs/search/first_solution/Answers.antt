@@ -1,4 +1,4 @@
-use Rattle.std.proofs.Common.{◌≡◌, ℕ, ◌<◌, arith, rules, false, sym, ◌∙◌, ap, subst, below_more, List, ℤ}
+use Rattle.std.proofs.Common.{◌≡◌, arith, false, sym, ◌∙◌, ap, subst, below_more, List, ℤ}
 use Rattle.std.proofs.lemmas.List.{take_at}
 use Rattle.ep_driver.specs.Clauses.{are_met}
 use Rattle.std.proofs.lemmas.Grind.{common_steps}
