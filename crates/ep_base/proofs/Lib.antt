@@ -1,3 +1,6 @@
 pub mod VectorsTokens
 pub mod PutSteps
 pub mod Contents
+pub mod RunSteps
+pub mod VectorsOutside
+pub mod VectorsRuns
