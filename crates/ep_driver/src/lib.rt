@@ -10,6 +10,8 @@ mod replies;
 mod search;
 mod solve;
 mod status;
+#[cfg(test)]
+mod tests;
 mod texts;
 mod top;
 
