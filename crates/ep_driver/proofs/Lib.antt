@@ -4,3 +4,4 @@ pub mod FindSteps
 pub mod CompileSteps
 pub mod Solving
 pub mod Saying
+mod VectorsRuns
