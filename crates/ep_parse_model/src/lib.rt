@@ -1,6 +1,7 @@
 //! Reads whole texts as models.
 #![tactic(auto)]
 
+mod cursor;
 mod early;
 mod errors;
 

@@ -1,0 +1,3 @@
+mod VectorsSpelling
+mod VectorsValues
+mod VectorsWellFormed
