@@ -2,12 +2,13 @@
 --
 -- A reader gives what it read and the tokens after it, or none. That what these read is what is spelled, and the
 -- contrary, is proved of lists alone.
-use Rattle.std.specs.Prelude.{◌≡◌, ℕ, zero, suc, ℤ, pos, Bool, true, false, ◌||◌, List, [], ◌∷◌, length, Option, Some, None, Result, Ok, Err, if◌then◌else◌, bytes_eq, codes}
+use Rattle.std.specs.Prelude.{◌≡◌, ℕ, zero, suc, ℤ, pos, Bool, true, false, not, ◌||◌, List, [], ◌∷◌, length, Option, Some, None, Result, Ok, Err, if◌then◌else◌, bytes_eq, codes}
+use Rattle.std.specs.Ordering.{int_eq}
 use Rattle.ep_base.specs.declared.places.Place.{Place}
 use Rattle.ep_tree.specs.declared.expressions.CompareOp.{CompareOp}
 use Rattle.ep_tree.specs.declared.expressions.CompareOp.TheVariants.{Equal, NotEqual, Less, AtMost, Greater, AtLeast}
 use Rattle.ep_tree.specs.Lexemes.{What, a_name, a_number, a_word, a_symbol, Lexeme, lexeme_at}
-use Rattle.ep_tree.specs.Trees.{ExprTree, expr_at, number, named, neg, add, compare, TermTrees, no_terms, more_terms, DomainTree, domain_at, ranges, no_ranges, more_ranges, span, end_is, DeclaredTree, find, such_that, StatementTree, ModelTree}
+use Rattle.ep_tree.specs.Trees.{ExprTree, expr_at, number, named, neg, add, compare, TermTrees, no_terms, more_terms, DomainTree, domain_at, ranges, no_ranges, more_ranges, span, end_is, DeclaredTree, StatementKindTree, find, such_that, StatementTree, ModelTree}
 use Rattle.ep_parse_model.specs.declared.errors.EarlyError.{EarlyError}
 use Rattle.ep_parse_model.specs.declared.errors.EarlyError.TheVariants.{NotEarly, Memory}
 
@@ -83,3 +84,202 @@ number_from (lexeme_at place what ∷ ls) = number_of what >>= λ n. Some ((n, p
 unfoldable pub name_from : List Lexeme → Read (List ℕ × Place)
 name_from [] = None
 name_from (lexeme_at place what ∷ ls) = name_of what >>= λ x. Some ((x, place), ls)
+
+-- ---- lists of items
+
+-- whether a list goes on, and the tokens after what separates its items
+abbrev pub GoesOn : Type 0
+GoesOn = Bool × List Lexeme
+
+-- an item before those that follow it
+abbrev pub before : {A : Type 0} → A → Read (List A) → Read (List A)
+before first others = others >>= λ found. Some (first ∷ found.0, found.1)
+
+-- an item, and what follows where the list goes on
+abbrev pub then_others : {A : Type 0} → A → GoesOn → (List Lexeme → Read (List A)) → Read (List A)
+then_others first next others = if next.0 then before first (others next.1) else Some (first ∷ [], next.1)
+
+-- One item or more, as long as the list goes on, where so many items are enough.
+unfoldable pub list_of : {A : Type 0} → (List Lexeme → Read A) → (List Lexeme → GoesOn) → ℕ → List Lexeme → Read (List A)
+list_of item goes_on zero ls = None
+list_of item goes_on (suc more) ls = item ls >>= λ first. then_others first.0 (goes_on first.1) (list_of item goes_on more)
+
+-- One item or more, as long as the list goes on. There are no more items than tokens.
+abbrev pub list_from : {A : Type 0} → (List Lexeme → Read A) → (List Lexeme → GoesOn) → List Lexeme → Read (List A)
+list_from item goes_on ls = list_of item goes_on (length ls) ls
+
+-- the tokens after something, where it is there
+abbrev pub goes_on_after : Read Place → List Lexeme → GoesOn
+goes_on_after None ls = (false, ls)
+goes_on_after (Some found) ls = (true, found.1)
+
+-- whether a symbol is next, and the tokens after it where it is
+unfoldable pub pass : List ℕ → List Lexeme → GoesOn
+pass bytes ls = goes_on_after (symbol_from bytes ls) ls
+
+-- a list goes on after a `,`
+abbrev pub after_comma : List Lexeme → GoesOn
+after_comma ls = pass (codes ",") ls
+
+-- something where a symbol was passed, and else another reading
+abbrev pub or_else : {A : Type 0} → GoesOn → A → (List Lexeme → Read A) → Read A
+or_else passed x other = if passed.0 then Some (x, passed.1) else other passed.1
+
+-- ---- expressions
+
+-- whether something is a number or a name
+abbrev pub is_operand : What → Bool
+is_operand (a_name x) = true
+is_operand (a_number n) = true
+is_operand (a_word bytes) = false
+is_operand (a_symbol bytes) = false
+
+-- whether a number or a name is next
+unfoldable pub begins_operand : List Lexeme → Bool
+begins_operand [] = false
+begins_operand (lexeme_at place what ∷ ls) = is_operand what
+
+abbrev pub operand_after : Read (ℤ × Place) → List Lexeme → Read ExprTree
+operand_after (Some n) ls = Some (expr_at n.0.1 (number n.0.0), n.1)
+operand_after None ls = name_from ls >>= λ x. Some (expr_at x.0.1 (named x.0.0), x.1)
+
+-- a number or a name
+unfoldable pub operand_from : List Lexeme → Read ExprTree
+operand_from ls = operand_after (number_from ls) ls
+
+-- whether a part is added or taken away, by its sign
+unfoldable pub sign_from : List Lexeme → Read Bool
+sign_from ls =
+    or_else (pass (codes "+") ls) true (λ ls. or_else (pass (codes "-") ls) false (λ ls. None))
+
+-- a part of a chain with its sign
+unfoldable pub term_from : List Lexeme → Read (Bool × ExprTree)
+term_from ls = sign_from ls >>= λ plus. operand_from plus.1 >>= λ e. Some ((plus.0, e.0), e.1)
+
+-- whether a sign is next
+abbrev pub is_sign : What → Bool
+is_sign what = is_symbol (codes "+") what || is_symbol (codes "-") what
+
+unfoldable pub begins_term : List Lexeme → Bool
+begins_term [] = false
+begins_term (lexeme_at place what ∷ ls) = is_sign what
+
+-- a chain goes on where a sign is next
+abbrev pub at_sign : List Lexeme → GoesOn
+at_sign ls = (begins_term ls, ls)
+
+-- the place of an expression
+abbrev pub expr_place : ExprTree → Place
+expr_place (expr_at place kind) = place
+
+abbrev pub terms_of : List (Bool × ExprTree) → TermTrees
+terms_of [] = no_terms
+terms_of (part ∷ parts) = more_terms part.0 part.1 (terms_of parts)
+
+-- a chain that begins with an operand
+abbrev pub chain_of : ExprTree → List (Bool × ExprTree) → ExprTree
+chain_of first parts = expr_at (expr_place first) (add (more_terms true first (terms_of parts)))
+
+-- an operand, or a chain where a sign follows it
+unfoldable pub side_from : List Lexeme → Read ExprTree
+side_from ls = operand_from ls >>= λ first.
+    if begins_term first.1 then (list_from term_from at_sign first.1 >>= λ parts. Some (chain_of first.0 parts.0, parts.1))
+    else Some first
+
+-- a comparison, by its symbol
+unfoldable pub comparison_from : List Lexeme → Read CompareOp
+comparison_from ls =
+    or_else (pass (codes "=") ls) Equal (λ ls.
+    or_else (pass (codes "!=") ls) NotEqual (λ ls.
+    or_else (pass (codes "<") ls) Less (λ ls.
+    or_else (pass (codes "<=") ls) AtMost (λ ls.
+    or_else (pass (codes ">") ls) Greater (λ ls.
+    or_else (pass (codes ">=") ls) AtLeast (λ ls. None))))))
+
+-- two sides with a comparison between them
+unfoldable pub clause_from : List Lexeme → Read ExprTree
+clause_from ls = side_from ls >>= λ left. comparison_from left.1 >>= λ op. side_from op.1 >>= λ right.
+    Some (expr_at (expr_place left.0) (compare op.0 left.0 right.0), right.1)
+
+-- ---- domains
+
+unfoldable pub number_expr_from : List Lexeme → Read ExprTree
+number_expr_from ls = number_from ls >>= λ n. Some (expr_at n.0.1 (number n.0.0), n.1)
+
+abbrev pub bound_after : Read Place → List Lexeme → Read ExprTree
+bound_after None ls = number_expr_from ls
+bound_after (Some minus) ls = number_expr_from minus.1 >>= λ e. Some (expr_at minus.0 (neg e.0), e.1)
+
+-- a number, or `-` and a number
+unfoldable pub bound_from : List Lexeme → Read ExprTree
+bound_from ls = bound_after (symbol_from (codes "-") ls) ls
+
+abbrev pub one_range : Place → ExprTree → ExprTree → DomainTree
+one_range place low high = domain_at place (ranges (more_ranges (span (end_is low) (end_is high)) no_ranges))
+
+-- `int(a..b)`
+unfoldable pub domain_from : List Lexeme → Read DomainTree
+domain_from ls = word_from (codes "int") ls >>= λ int. symbol_from (codes "(") int.1 >>= λ opened.
+    bound_from opened.1 >>= λ low. symbol_from (codes "..") low.1 >>= λ dots. bound_from dots.1 >>= λ high.
+    symbol_from (codes ")") high.1 >>= λ closed. Some (one_range int.0 low.0 high.0, closed.1)
+
+-- ---- statements
+
+-- names, `:`, and their domain
+unfoldable pub declared_from : List Lexeme → Read DeclaredTree
+declared_from ls = list_from name_from after_comma ls >>= λ names. symbol_from (codes ":") names.1 >>= λ colon.
+    domain_from colon.1 >>= λ domain. Some (record { names = names.0; domain = domain.0 }, domain.1)
+
+-- clauses go on where a number or a name follows a `,`
+abbrev pub if_operand : GoesOn → GoesOn
+if_operand next = (if next.0 then begins_operand next.1 else false, next.1)
+
+unfoldable pub after_clause : List Lexeme → GoesOn
+after_clause ls = if_operand (after_comma ls)
+
+-- clauses, or none
+unfoldable pub clauses_from : List Lexeme → Read (List ExprTree)
+clauses_from ls = if begins_operand ls then list_from clause_from after_clause ls else Some ([], ls)
+
+abbrev pub statement_at : Place → StatementKindTree → StatementTree
+statement_at place kind = record { place = place; kind = kind }
+
+unfoldable pub find_from : Place → List Lexeme → Read StatementTree
+find_from place ls = list_from declared_from after_comma ls >>= λ declarations. Some (statement_at place (find declarations.0), declarations.1)
+
+unfoldable pub such_that_from : List Lexeme → Read StatementTree
+such_that_from ls = word_from (codes "such") ls >>= λ such. word_from (codes "that") such.1 >>= λ that.
+    clauses_from that.1 >>= λ clauses. Some (statement_at such.0 (such_that clauses.0), clauses.1)
+
+abbrev pub statement_after : Read Place → List Lexeme → Read StatementTree
+statement_after None ls = such_that_from ls
+statement_after (Some found) ls = find_from found.0 found.1
+
+-- a statement
+unfoldable pub statement_from : List Lexeme → Read StatementTree
+statement_from ls = statement_after (word_from (codes "find") ls) ls
+
+-- statements go on to the end
+abbrev pub at_more : List Lexeme → GoesOn
+at_more ls = (not (is_empty ls), ls)
+
+-- all that is left, as statements
+unfoldable pub statements_from : List Lexeme → Read (List StatementTree)
+statements_from ls = if is_empty ls then Some ([], ls) else list_from statement_from at_more ls
+
+-- the number of the first line's version
+abbrev pub is_number : ℤ → ℤ × Place → Bool
+is_number wanted found = int_eq found.0 wanted
+
+unfoldable pub version_from : ℤ → List Lexeme → Read Place
+version_from wanted ls = number_from ls >>= λ n. if is_number wanted n.0 then Some (n.0.1, n.1) else None
+
+-- the first line
+unfoldable pub first_line_from : List Lexeme → Read Place
+first_line_from ls = word_from (codes "language") ls >>= λ language. word_from (codes "ESSENCE'") language.1 >>= λ essence.
+    version_from (pos 1) essence.1 >>= λ major. symbol_from (codes ".") major.1 >>= λ dot. version_from (pos 0) dot.1
+
+-- a model: the first line, and the statements
+unfoldable pub model_from : List Lexeme → Read ModelTree
+model_from ls = first_line_from ls >>= λ start. statements_from start.1 >>= λ statements.
+    Some (record { statements = statements.0 }, statements.1)

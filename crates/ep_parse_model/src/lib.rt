@@ -4,6 +4,7 @@
 mod cursor;
 mod early;
 mod errors;
+mod expressions;
 
 pub use early::parse_early;
 pub use errors::EarlyError;
