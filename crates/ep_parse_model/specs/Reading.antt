@@ -2,7 +2,7 @@
 --
 -- A reader gives what it read and the tokens after it, or none. That what these read is what is spelled, and the
 -- contrary, is proved of lists alone.
-use Rattle.std.specs.Prelude.{◌≡◌, ℕ, zero, suc, ℤ, pos, Bool, true, false, not, ◌||◌, List, [], ◌∷◌, length, Option, Some, None, Result, Ok, Err, if◌then◌else◌, bytes_eq, codes}
+use Rattle.std.specs.Prelude.{◌≡◌, ℕ, zero, suc, ℤ, pos, Bool, true, false, not, ◌||◌, List, [], ◌∷◌, ◌++◌, length, Option, Some, None, Result, Ok, Err, if◌then◌else◌, bytes_eq, codes}
 use Rattle.std.specs.Ordering.{int_eq}
 use Rattle.ep_base.specs.declared.places.Place.{Place}
 use Rattle.ep_tree.specs.declared.expressions.CompareOp.{CompareOp}
@@ -108,6 +108,10 @@ list_of item goes_on (suc more) ls = item ls >>= λ first. then_others first.0 (
 abbrev pub list_from : {A : Type 0} → (List Lexeme → Read A) → (List Lexeme → GoesOn) → List Lexeme → Read (List A)
 list_from item goes_on ls = list_of item goes_on (length ls) ls
 
+-- items that were read before those that are read now
+abbrev pub continued : {A : Type 0} → List A → Read (List A) → Read (List A)
+continued front read = read >>= λ found. Some (front ++ found.0, found.1)
+
 -- the tokens after something, where it is there
 abbrev pub goes_on_after : Read Place → List Lexeme → GoesOn
 goes_on_after None ls = (false, ls)
@@ -156,13 +160,14 @@ sign_from ls =
 unfoldable pub term_from : List Lexeme → Read (Bool × ExprTree)
 term_from ls = sign_from ls >>= λ plus. operand_from plus.1 >>= λ e. Some ((plus.0, e.0), e.1)
 
--- whether a sign is next
-abbrev pub is_sign : What → Bool
-is_sign what = is_symbol (codes "+") what || is_symbol (codes "-") what
+-- whether a symbol is next
+unfoldable pub is_at : List ℕ → List Lexeme → Bool
+is_at bytes [] = false
+is_at bytes (lexeme_at place what ∷ ls) = is_symbol bytes what
 
-unfoldable pub begins_term : List Lexeme → Bool
-begins_term [] = false
-begins_term (lexeme_at place what ∷ ls) = is_sign what
+-- whether a sign is next
+abbrev pub begins_term : List Lexeme → Bool
+begins_term ls = is_at (codes "+") ls || is_at (codes "-") ls
 
 -- a chain goes on where a sign is next
 abbrev pub at_sign : List Lexeme → GoesOn
@@ -176,14 +181,14 @@ abbrev pub terms_of : List (Bool × ExprTree) → TermTrees
 terms_of [] = no_terms
 terms_of (part ∷ parts) = more_terms part.0 part.1 (terms_of parts)
 
--- a chain that begins with an operand
-abbrev pub chain_of : ExprTree → List (Bool × ExprTree) → ExprTree
-chain_of first parts = expr_at (expr_place first) (add (more_terms true first (terms_of parts)))
+-- a first part and those that follow it
+abbrev pub parts_from : ExprTree → List Lexeme → Read (List (Bool × ExprTree))
+parts_from first ls = continued ((true, first) ∷ []) (list_from term_from at_sign ls)
 
 -- an operand, or a chain where a sign follows it
 unfoldable pub side_from : List Lexeme → Read ExprTree
 side_from ls = operand_from ls >>= λ first.
-    if begins_term first.1 then (list_from term_from at_sign first.1 >>= λ parts. Some (chain_of first.0 parts.0, parts.1))
+    if begins_term first.1 then (parts_from first.0 first.1 >>= λ parts. Some (expr_at (expr_place first.0) (add (terms_of parts.0)), parts.1))
     else Some first
 
 -- a comparison, by its symbol

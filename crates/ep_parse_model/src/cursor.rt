@@ -5,7 +5,7 @@ ghost use Rattle.std.specs.Option.{option_copied};
 ghost use Rattle.ep_base.specs.Tokens.{token_text};
 ghost use Rattle.ep_tree.specs.Lexemes.{what_of, lexemes};
 ghost use Rattle.ep_parse_model.specs.Tokens.{LiesIn, LieIn};
-ghost use Rattle.ep_parse_model.specs.Reading.{Took, is_empty, is_word, is_symbol, number_of, name_of, word_from, symbol_from, number_from, name_from};
+ghost use Rattle.ep_parse_model.specs.Reading.{Took, is_empty, is_word, is_symbol, is_operand, is_at, begins_operand, number_of, name_of, word_from, symbol_from, number_from, name_from};
 
 use ep_base::{Place, Token, TokenKind};
 use std::marker::Model;
@@ -43,6 +43,28 @@ impl<'a> Cursor<'a> {
         ensures { result ≡ is_empty self.now }
     {
         self.tokens.is_empty()
+    }
+
+    /// Whether this symbol is next.
+    #[tactic(auto, unfolding(crate::specs::Reading::is_at))]
+    pub(crate) fn is_at(&self, symbol: &[u8]) -> bool
+        ensures { result ≡ is_at symbol.now self.now }
+    {
+        match self.tokens.first() {
+            Some(token) => says_symbol(self.text, token, symbol),
+            None => false,
+        }
+    }
+
+    /// Whether a number or a name is next.
+    #[tactic(auto, unfolding(crate::specs::Reading::begins_operand))]
+    pub(crate) fn is_at_operand(&self) -> bool
+        ensures { result ≡ begins_operand self.now }
+    {
+        match self.tokens.first() {
+            Some(token) => says_operand(token),
+            None => false,
+        }
     }
 
     /// Passes this reserved word, where it is next, and gives its place.
@@ -109,6 +131,16 @@ fn says_symbol(text: &[u8], token: &Token, symbol: &[u8]) -> bool
     match token.kind {
         TokenKind::Symbol => &text[token.from as usize..token.to as usize] == symbol,
         _ => false,
+    }
+}
+
+/// Whether a token is a number or a name.
+fn says_operand(token: &Token) -> bool
+    ensures { (text : List ℕ) → result ≡ is_operand (what_of token.now.kind (token_text text token.now)) }
+{
+    match token.kind {
+        TokenKind::Name | TokenKind::Number(_) => true,
+        TokenKind::Word | TokenKind::Symbol => false,
     }
 }
 
