@@ -14,7 +14,7 @@ pub chosen : {A : Type 0} (b : Bool) (x y : Option A) (z : A) → cond b x y ≡
 chosen true x y z e P first second = first refl e
 chosen false x y z e P first second = second refl e
 
-abbrev found : {A : Type 0} → A → Option A
+abbrev pub found : {A : Type 0} → A → Option A
 found x = Some x
 
 some_is : {A : Type 0} (x y : A) → found x ≡ found y → x ≡ y

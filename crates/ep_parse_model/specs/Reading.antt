@@ -129,6 +129,11 @@ after_comma ls = pass (codes ",") ls
 abbrev pub or_else : {A : Type 0} → GoesOn → A → (List Lexeme → Read A) → Read A
 or_else passed x other = if passed.0 then Some (x, passed.1) else other passed.1
 
+-- what the first symbol of a table stands for that is next
+abbrev pub one_of : {A : Type 0} → List (List ℕ × A) → List Lexeme → Read A
+one_of [] ls = None
+one_of (entry ∷ entries) ls = or_else (pass entry.0 ls) entry.1 (one_of entries)
+
 -- ---- expressions
 
 -- whether something is a number or a name
@@ -153,8 +158,7 @@ operand_from ls = operand_after (number_from ls) ls
 
 -- whether a part is added or taken away, by its sign
 unfoldable pub sign_from : List Lexeme → Read Bool
-sign_from ls =
-    or_else (pass (codes "+") ls) true (λ ls. or_else (pass (codes "-") ls) false (λ ls. None))
+sign_from ls = one_of ((codes "+", true) ∷ (codes "-", false) ∷ []) ls
 
 -- a part of a chain with its sign
 unfoldable pub term_from : List Lexeme → Read (Bool × ExprTree)
@@ -194,12 +198,7 @@ side_from ls = operand_from ls >>= λ first.
 -- a comparison, by its symbol
 unfoldable pub comparison_from : List Lexeme → Read CompareOp
 comparison_from ls =
-    or_else (pass (codes "=") ls) Equal (λ ls.
-    or_else (pass (codes "!=") ls) NotEqual (λ ls.
-    or_else (pass (codes "<") ls) Less (λ ls.
-    or_else (pass (codes "<=") ls) AtMost (λ ls.
-    or_else (pass (codes ">") ls) Greater (λ ls.
-    or_else (pass (codes ">=") ls) AtLeast (λ ls. None))))))
+    one_of ((codes "=", Equal) ∷ (codes "!=", NotEqual) ∷ (codes "<", Less) ∷ (codes "<=", AtMost) ∷ (codes ">", Greater) ∷ (codes ">=", AtLeast) ∷ []) ls
 
 -- two sides with a comparison between them
 unfoldable pub clause_from : List Lexeme → Read ExprTree
