@@ -2,3 +2,4 @@ mod Cursors
 mod Lists
 mod Takes
 mod SoundExpressions
+mod SoundStatements
