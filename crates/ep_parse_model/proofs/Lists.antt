@@ -68,7 +68,6 @@ continued-nothing (Some found) = refl
 
 module _ {A : Type 0} (item : List Lexeme → Read A) (goes_on : List Lexeme → GoesOn) (short : Shortens item goes_on)
     (front : List A) (now : List Lexeme) (total : Read (List A)) (so_far : continued front (list_from item goes_on now) ≡ total) where
-
   -- a loop over the items of a list goes on
   pub goes : (x : A) (rest after : List Lexeme) → item now ≡ Some (x, rest) → (true, after) ≡ goes_on rest → continued (front ++ x ∷ []) (list_from item goes_on after) ≡ total
   goes x rest after h next =
@@ -87,3 +86,12 @@ module _ {A : Type 0} (item : List Lexeme → Read A) (goes_on : List Lexeme →
       let step : list_from item goes_on now ≡ None = list_from-step item goes_on short now ∙ rw h refl in
       sym so_far ∙ ap (λ r. continued front r) step
   fails Memory h = tt
+
+-- fewer tokens are left after an item and what separates it from the next
+pub smaller : {A : Type 0} (item : List Lexeme → Read A) (goes_on : List Lexeme → GoesOn) → Shortens item goes_on
+    → (now : List Lexeme) (x : A) (rest : List Lexeme) (more : Bool) (after : List Lexeme) → item now ≡ Some (x, rest) → (more, after) ≡ goes_on rest → length after < length now
+smaller item goes_on short now x rest more after h next =
+    let fewer = short.item_is_read now x rest h in
+    let no_more = short.separator_is_read rest in
+    let same : after ≡ (goes_on rest).1 = ap (λ (y : GoesOn). y.1) next in
+    omega (arith, ap length same)

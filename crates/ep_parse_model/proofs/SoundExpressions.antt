@@ -153,25 +153,25 @@ pub terms_from-sound : IsSound (list_from term_from at_sign) SpellsTerms
 terms_from-sound ls xs rest e =
     list_induction term_from at_sign (Takes SpellsTerms)
     (λ ls x mid rest h next.
-      let t = term_from-sound ls x mid h in
-      let s = t.spelled in
-      let left : mid ≡ rest = ap (λ (y : GoesOn). y.1) next in
-      record {
-        front = t.front;
-        parts = t.parts ∙ ap (λ r. t.front ++ r) left;
-        some = t.some;
-        spelled = ((s.0, s.1, [], s.2 ∙ ap (λ r. lexeme_at s.0 (term_sign x.0) ∷ r) (sym (append-nil s.1)), s.3, refl), (s.4, tt), tt);
-      })
+    let t = term_from-sound ls x mid h in
+    let s = t.spelled in
+    let left : mid ≡ rest = ap (λ (y : GoesOn). y.1) next in
+    record {
+      front = t.front;
+      parts = t.parts ∙ ap (λ r. t.front ++ r) left;
+      some = t.some;
+      spelled = ((s.0, s.1, [], s.2 ∙ ap (λ r. lexeme_at s.0 (term_sign x.0) ∷ r) (sym (append-nil s.1)), s.3, refl), (s.4, tt), tt);
+    })
     (λ ls x mid after xs rest h next others.
-      let t = term_from-sound ls x mid h in
-      let s = t.spelled in
-      let left : mid ≡ after = ap (λ (y : GoesOn). y.1) next in
-      record {
-        front = t.front ++ others.front;
-        parts = joined ls t.front after others.front rest (t.parts ∙ ap (λ r. t.front ++ r) left) others.parts;
-        some = omega (arith, length-append t.front others.front, t.some);
-        spelled = ((s.0, s.1, others.front, ap (λ r. r ++ others.front) s.2, s.3, others.spelled.0), (s.4, others.spelled.1), tt);
-      })
+    let t = term_from-sound ls x mid h in
+    let s = t.spelled in
+    let left : mid ≡ after = ap (λ (y : GoesOn). y.1) next in
+    record {
+      front = t.front ++ others.front;
+      parts = joined ls t.front after others.front rest (t.parts ∙ ap (λ r. t.front ++ r) left) others.parts;
+      some = omega (arith, length-append t.front others.front, t.some);
+      spelled = ((s.0, s.1, others.front, ap (λ r. r ++ others.front) s.2, s.3, others.spelled.0), (s.4, others.spelled.1), tt);
+    })
     (length ls) ls xs rest e
 
 -- a number, a name, or a chain
@@ -197,22 +197,24 @@ side_from-sound ls x rest e =
     let t = operand_from-sound ls first.0.0 first.0.1 first.1 in
     chosen (begins_term first.0.1) _ _ _ first.2 (Takes SpellsSide ls x rest)
     (λ yes g.
-      let parts = bind_some _ _ _ g in
-      let others = bind_some _ _ _ parts.1 in
-      let s = terms_from-sound first.0.1 others.0.0 others.0.1 others.1 in
-      given (λ y r. Takes SpellsSide ls y r) parts.2
-      (given (λ y r. Takes SpellsSide ls (expr_at (expr_place first.0.0) (add (terms_of y))) r) others.2
-      (record {
-        front = t.front ++ s.front;
-        parts = joined ls t.front first.0.1 s.front others.0.1 t.parts s.parts;
-        some = omega (arith, length-append t.front s.front, t.some);
-        spelled = (
-          (lit≤ tt, begins_at-front (expr_place first.0.0) t.front s.front t.spelled.2, (refl, s.spelled.2, t.front, s.front, refl, t.spelled.0 product_level, s.spelled.0)),
-          (t.spelled.1, s.spelled.1), begins_at-front (expr_place first.0.0) t.front s.front t.spelled.2);
-      })))
+    let parts = bind_some _ _ _ g in
+    let others = bind_some _ _ _ parts.1 in
+    let s = terms_from-sound first.0.1 others.0.0 others.0.1 others.1 in
+    given (λ y r. Takes SpellsSide ls y r) parts.2
+    (given (λ y r. Takes SpellsSide ls (expr_at (expr_place first.0.0) (add (terms_of y))) r) others.2
+    (record {
+      front = t.front ++ s.front;
+      parts = joined ls t.front first.0.1 s.front others.0.1 t.parts s.parts;
+      some = omega (arith, length-append t.front s.front, t.some);
+      spelled = (
+        (lit≤ tt, begins_at-front (expr_place first.0.0) t.front s.front t.spelled.2, (refl, s.spelled.2, t.front, s.front, refl, t.spelled.0 product_level, s.spelled.0)),
+        (t.spelled.1, s.spelled.1),
+        begins_at-front (expr_place first.0.0) t.front s.front t.spelled.2,
+      );
+    })))
     (λ not g.
-      given (Takes SpellsSide ls) g
-      (record { front = t.front; parts = t.parts; some = t.some; spelled = (t.spelled.0 sum_level, operand_is_side first.0.0 t.spelled.1, t.spelled.2) }))
+    given (Takes SpellsSide ls) g
+    (record { front = t.front; parts = t.parts; some = t.some; spelled = (t.spelled.0 sum_level, operand_is_side first.0.0 t.spelled.1, t.spelled.2) }))
 
 pub comparison_from-sound : (ls : List Lexeme) (op : CompareOp) (rest : List Lexeme) → comparison_from ls ≡ Some (op, rest) → (p : Place) × (ls ≡ lexeme_at p (comparison_sign op) ∷ rest)
 unfolding comparison_from
@@ -242,7 +244,8 @@ clause_from-sound ls x rest e =
       some = omega (arith, length-append l.front back, l.some);
       spelled = (
         (lit≤ tt, begins_at-front (expr_place left.0.0) l.front back l.spelled.2, l.front, sign.0, r.front, refl, l.spelled.0, r.spelled.0),
-        (l.spelled.1, r.spelled.1));
+        (l.spelled.1, r.spelled.1),
+      );
     })
 
 -- ---- domains
@@ -305,11 +308,11 @@ domain_from-sound ls x rest e =
     (record {
       front = lexeme_at int.0.0 (a_word (codes "int")) ∷ lexeme_at opened.0.0 (a_symbol (codes "(")) ∷ inner ++ end;
       parts =
-        int-is ∙ ap (λ r. lexeme_at int.0.0 (a_word (codes "int")) ∷ r)
-        (opened-is ∙ ap (λ r. lexeme_at opened.0.0 (a_symbol (codes "(")) ∷ r)
-        (joined opened.0.1 inner high.0.1 end closed.0.1
-        (joined opened.0.1 l.front low.0.1 (lexeme_at dots.0.0 (a_symbol (codes "..")) ∷ h.front) high.0.1 l.parts (dots-is ∙ ap (λ r. lexeme_at dots.0.0 (a_symbol (codes "..")) ∷ r) h.parts))
-        closed-is));
+          int-is ∙ ap (λ r. lexeme_at int.0.0 (a_word (codes "int")) ∷ r)
+          (opened-is ∙ ap (λ r. lexeme_at opened.0.0 (a_symbol (codes "(")) ∷ r)
+          (joined opened.0.1 inner high.0.1 end closed.0.1
+          (joined opened.0.1 l.front low.0.1 (lexeme_at dots.0.0 (a_symbol (codes "..")) ∷ h.front) high.0.1 l.parts (dots-is ∙ ap (λ r. lexeme_at dots.0.0 (a_symbol (codes "..")) ∷ r) h.parts))
+          closed-is));
       some = omega arith;
       spelled = ((opened.0.0, inner, closed.0.0, refl, (l.front, dots.0.0, h.front, refl, l.spelled.0, h.spelled.0)), (l.spelled.1, h.spelled.1));
     })

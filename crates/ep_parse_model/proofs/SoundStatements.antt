@@ -104,9 +104,12 @@ some_clauses-cons : (front : List Lexeme) (x : ExprTree) (p : Place) (back : Lis
     → SpellsEarlyClause front x → SpellsSomeClauses back xs → SpellsSomeClauses (front ++ lexeme_at p comma ∷ back) (x ∷ xs)
 some_clauses-cons front x p back xs h (inl others) = inl (items-cons SpellsEarlyClause front x p back xs h others)
 some_clauses-cons front x p back xs h (inr others) =
-    inr (front ++ lexeme_at p comma ∷ others.0, others.1,
+    inr (
+      front ++ lexeme_at p comma ∷ others.0,
+      others.1,
       ap (λ r. front ++ lexeme_at p comma ∷ r) others.2 ∙ sym (append_assoc front (lexeme_at p comma ∷ others.0) (lexeme_at others.1 comma ∷ [])),
-      items-cons SpellsEarlyClause front x p others.0 xs h others.3)
+      items-cons SpellsEarlyClause front x p others.0 xs h others.3,
+    )
 
 -- clauses go on where an operand follows a comma
 after_clause-sound : (ls : List Lexeme) (more : Bool) (after : List Lexeme) → after_clause ls ≡ (more, after)
@@ -165,9 +168,9 @@ unfolding clauses_from
 clauses_from-sound ls clauses rest e =
     chosen (begins_operand ls) _ _ _ e (TakesClauses ls clauses rest)
     (λ yes g.
-      let t = some_clauses-sound ls clauses rest g in
-      let s = some_clauses-split t.front clauses t.spelled in
-      record { front = t.front; parts = t.parts; spelled = s.0; forms = s.1 })
+    let t = some_clauses-sound ls clauses rest g in
+    let s = some_clauses-split t.front clauses t.spelled in
+    record { front = t.front; parts = t.parts; spelled = s.0; forms = s.1 })
     (λ none g. given (TakesClauses ls) g (record { front = []; parts = refl; spelled = refl; forms = tt }))
 
 -- ---- statements
@@ -280,11 +283,25 @@ model_from-sound ls model rest e =
     let statements = bind_some _ _ _ start.2 in
     let s = statements_from-sound start.0.1 statements.0.0 statements.0.1 statements.1 in
     let first = lexeme_at language.0.0 (a_word (codes "language")) ∷ lexeme_at essence.0.0 (a_word (codes "ESSENCE'")) ∷ lexeme_at major.0.0 (a_number (pos 1))
-        ∷ lexeme_at dot.0.0 (a_symbol (codes ".")) ∷ lexeme_at start.0.0 (a_number (pos 0)) ∷ [] in
+    ∷ lexeme_at dot.0.0 (a_symbol (codes ".")) ∷ lexeme_at start.0.0 (a_number (pos 0)) ∷ [] in
     let parts : ls ≡ first ++ start.0.1 =
-        word_from-sound (codes "language") ls language.0.0 language.0.1 language.1
-        ∙ ap (λ r. lexeme_at language.0.0 (a_word (codes "language")) ∷ r) (word_from-sound (codes "ESSENCE'") language.0.1 essence.0.0 essence.0.1 essence.1
-        ∙ ap (λ r. lexeme_at essence.0.0 (a_word (codes "ESSENCE'")) ∷ r) (version_from-sound (pos 1) essence.0.1 major.0.0 major.0.1 major.1
-        ∙ ap (λ r. lexeme_at major.0.0 (a_number (pos 1)) ∷ r) (symbol_from-sound (codes ".") major.0.1 dot.0.0 dot.0.1 dot.1
-        ∙ ap (λ r. lexeme_at dot.0.0 (a_symbol (codes ".")) ∷ r) (version_from-sound (pos 0) dot.0.1 start.0.0 start.0.1 dot.2)))) in
+    word_from-sound (codes "language") ls language.0.0 language.0.1 language.1
+    ∙ ap (λ r. lexeme_at language.0.0 (a_word (codes "language")) ∷ r) (word_from-sound (codes "ESSENCE'") language.0.1 essence.0.0 essence.0.1 essence.1
+    ∙ ap (λ r. lexeme_at essence.0.0 (a_word (codes "ESSENCE'")) ∷ r) (version_from-sound (pos 1) essence.0.1 major.0.0 major.0.1 major.1
+    ∙ ap (λ r. lexeme_at major.0.0 (a_number (pos 1)) ∷ r) (symbol_from-sound (codes ".") major.0.1 dot.0.0 dot.0.1 dot.1
+    ∙ ap (λ r. lexeme_at dot.0.0 (a_symbol (codes ".")) ∷ r) (version_from-sound (pos 0) dot.0.1 start.0.0 start.0.1 dot.2)))) in
     given (λ y r. SpellsModel ls y × HasEarlyForms y) statements.2 ((first, start.0.1, parts, refl, s.spelled), s.forms)
+
+-- ---- what the lists leave
+
+pub names-shorten : Shortens name_from after_comma
+names-shorten = sound_shortens name_from SpellsDeclaredName after_comma declared_name-sound after_comma-shortens
+
+pub declarations-shorten : Shortens declared_from after_comma
+declarations-shorten = sound_shortens declared_from SpellsEarlyDeclared after_comma declared_from-sound after_comma-shortens
+
+pub clauses-shorten : Shortens clause_from after_clause
+clauses-shorten = sound_shortens clause_from SpellsEarlyClause after_clause clause_from-sound after_clause-shortens
+
+pub statements-shorten : Shortens statement_from at_more
+statements-shorten = sound_shortens statement_from SpellsEarlyStatement at_more statement_from-sound at_more-shortens

@@ -7,6 +7,8 @@ use Rattle.std.specs.Ordering.{int_eq}
 use Rattle.ep_base.specs.declared.places.Place.{Place}
 use Rattle.ep_tree.specs.declared.expressions.CompareOp.{CompareOp}
 use Rattle.ep_tree.specs.declared.expressions.CompareOp.TheVariants.{Equal, NotEqual, Less, AtMost, Greater, AtLeast}
+use Rattle.ep_tree.specs.declared.expressions.Expr.{Expr}
+use Rattle.ep_tree.specs.Views.{expr_tree}
 use Rattle.ep_tree.specs.Lexemes.{What, a_name, a_number, a_word, a_symbol, Lexeme, lexeme_at}
 use Rattle.ep_tree.specs.Trees.{ExprTree, expr_at, number, named, neg, add, compare, TermTrees, no_terms, more_terms, DomainTree, domain_at, ranges, no_ranges, more_ranges, span, end_is, DeclaredTree, StatementKindTree, find, such_that, StatementTree, ModelTree}
 use Rattle.ep_parse_model.specs.declared.errors.EarlyError.{EarlyError}
@@ -135,6 +137,10 @@ one_of [] ls = None
 one_of (entry ∷ entries) ls = or_else (pass entry.0 ls) entry.1 (one_of entries)
 
 -- ---- expressions
+
+-- a part of a chain, read as a plain one
+abbrev pub part_tree : Bool × Expr → Bool × ExprTree
+part_tree part = (part.0, expr_tree part.1)
 
 -- whether something is a number or a name
 abbrev pub is_operand : What → Bool

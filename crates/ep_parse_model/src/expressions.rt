@@ -2,7 +2,7 @@
 
 ghost use Rattle.std.specs.Prelude.{◌≡◌, map};
 ghost use Rattle.ep_tree.specs.Views.{expr_tree, domain_tree};
-ghost use Rattle.ep_parse_model.specs.Reading.{Gives, pass, begins_operand, begins_term, name_from, word_from, symbol_from, number_expr_from, operand_from, sign_from, term_from, side_from, comparison_from, clause_from, bound_from, domain_from};
+ghost use Rattle.ep_parse_model.specs.Reading.{Gives, pass, begins_term, part_tree, parts_from, name_from, word_from, symbol_from, number_expr_from, operand_from, sign_from, term_from, side_from, comparison_from, clause_from, bound_from, domain_from};
 
 use crate::cursor::Cursor;
 use crate::errors::EarlyError;
@@ -81,11 +81,36 @@ fn sign(cursor: &mut Cursor<'_>) -> Result<bool, EarlyError>
 /// A part of a chain with its sign.
 #[tactic(auto, unfolding(crate::specs::Reading::term_from))]
 fn term(alloc: Global, cursor: &mut Cursor<'_>) -> Result<(bool, Expr), EarlyError>
-    ensures { Gives (λ part. (part.0, expr_tree part.1)) result cursor.new (term_from cursor.old) }
+    ensures { Gives part_tree result cursor.new (term_from cursor.old) }
 {
     let plus = sign(cursor)?;
     let operand = operand(alloc, cursor)?;
     Ok((plus, operand))
+}
+
+/// Whether a sign is next.
+fn begins_term(cursor: &Cursor<'_>) -> bool
+    ensures { result ≡ begins_term cursor.now }
+{
+    cursor.is_at(b"+") || cursor.is_at(b"-")
+}
+
+/// The parts of a chain after a first one.
+fn parts(
+    alloc: Global,
+    first: Expr,
+    cursor: &mut Cursor<'_>,
+) -> Result<Vec<(bool, Expr)>, EarlyError>
+    ensures { Gives (λ v. map part_tree v.items) result cursor.new (parts_from (expr_tree first) cursor.old) }
+{
+    let mut parts = Vec::new(alloc);
+    parts.push((true, first))?;
+    loop {
+        parts.push(term(alloc, cursor)?)?;
+        if !begins_term(cursor) {
+            return Ok(parts);
+        }
+    }
 }
 
 /// An operand, or a chain where a sign follows it.
@@ -93,9 +118,16 @@ fn term(alloc: Global, cursor: &mut Cursor<'_>) -> Result<(bool, Expr), EarlyErr
 fn side(alloc: Global, cursor: &mut Cursor<'_>) -> Result<Expr, EarlyError>
     ensures { Gives expr_tree result cursor.new (side_from cursor.old) }
 {
-    let _ = alloc;
-    let _ = cursor;
-    Err(EarlyError::Memory)
+    let first = operand(alloc, cursor)?;
+    if !begins_term(cursor) {
+        return Ok(first);
+    }
+    let place = first.place;
+    let parts = parts(alloc, first, cursor)?;
+    Ok(Expr {
+        place,
+        kind: Kind::Add(parts),
+    })
 }
 
 /// A comparison by its symbol.

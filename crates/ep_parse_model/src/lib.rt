@@ -5,6 +5,7 @@ mod cursor;
 mod early;
 mod errors;
 mod expressions;
+mod statements;
 
 pub use early::parse_early;
 pub use errors::EarlyError;
