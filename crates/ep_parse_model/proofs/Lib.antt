@@ -3,3 +3,4 @@ mod Lists
 mod Takes
 mod SoundExpressions
 mod SoundStatements
+mod CompleteExpressions
