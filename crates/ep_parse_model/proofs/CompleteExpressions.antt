@@ -6,7 +6,7 @@ use Rattle.ep_base.specs.declared.places.Place.{Place}
 use Rattle.ep_tree.specs.declared.expressions.CompareOp.{CompareOp}
 use Rattle.ep_tree.specs.declared.expressions.CompareOp.TheVariants.{Equal, NotEqual, Less, AtMost, Greater, AtLeast}
 use Rattle.ep_tree.specs.Lexemes.{What, a_name, a_number, a_word, a_symbol, Lexeme, lexeme_at}
-use Rattle.ep_tree.specs.Trees.{ExprTree, expr_at, KindTree, number, named, neg, add, compare, TermTrees, no_terms, more_terms, DomainTree, domain_at, ranges, no_ranges, more_ranges, span, end_is}
+use Rattle.ep_tree.specs.Trees.{ExprTree, expr_at, KindTree, number, named, neg, add, compare, TermTrees, no_terms, more_terms, DomainTree, domain_at, ranges, no_ranges, more_ranges, span, open_end, end_is}
 use Rattle.ep_tree.specs.Spelling.{Spells, SpellsChain, SpellsSigned, SpellsClause, SpellsDomain, HasTerms, BeginsAt, unary_level, product_level, sum_level, comparison_level, expression_level, comparison_sign, term_sign}
 use Rattle.ep_tree.specs.EarlyForms.{IsOperand, AreOperands, IsSide, IsEarlyClause, IsNumber, IsBound, IsClosedEnd, IsEarlyDomain}
 use Rattle.ep_parse_model.specs.Reading.{Read, ◌>>=◌, GoesOn, word_from, symbol_from, number_from, name_from, pass, is_at, begins_operand, begins_term, operand_from, sign_from, term_from, at_sign, terms_of, expr_place, continued, list_from, parts_from, side_from, comparison_from, clause_from, number_expr_from, bound_from, domain_from}
@@ -206,3 +206,35 @@ bound_from-again (expr_at p (neg (expr_at q (add parts)))) front rest h is = abs
 bound_from-again (expr_at p (neg (expr_at q (compare op left right)))) front rest h is = absurd is
 bound_from-again (expr_at p (add parts)) front rest h is = absurd is
 bound_from-again (expr_at p (compare op left right)) front rest h is = absurd is
+
+-- `int(a..b)`, from its parts
+int_domain-again : (p q r s : Place) (low high : ExprTree) (f g rest : List Lexeme) → Spells expression_level f low → Spells expression_level g high → IsBound low → IsBound high
+    → domain_from (lexeme_at p (a_word (codes "int")) ∷ lexeme_at q (a_symbol (codes "(")) ∷ f ++ lexeme_at r (a_symbol (codes "..")) ∷ g ++ lexeme_at s (a_symbol (codes ")")) ∷ rest)
+        ≡ Some (domain_at p (ranges (more_ranges (span (end_is low) (end_is high)) no_ranges)), rest)
+unfolding domain_from
+int_domain-again p q r s low high f g rest spells_low spells_high is_low is_high =
+    let closed = lexeme_at s (a_symbol (codes ")")) ∷ rest in
+    let dots = lexeme_at r (a_symbol (codes "..")) ∷ (g ++ closed) in
+    let regrouped : (f ++ lexeme_at r (a_symbol (codes "..")) ∷ g) ++ closed ≡ f ++ dots = append_assoc f (lexeme_at r (a_symbol (codes "..")) ∷ g) closed in
+    rw (
+      word_from-again (codes "int") p (lexeme_at q (a_symbol (codes "(")) ∷ (f ++ lexeme_at r (a_symbol (codes "..")) ∷ g) ++ closed),
+      symbol_from-again (codes "(") q ((f ++ lexeme_at r (a_symbol (codes "..")) ∷ g) ++ closed),
+      regrouped,
+      bound_from-again low f dots spells_low is_low,
+      symbol_from-again (codes "..") r (g ++ closed),
+      bound_from-again high g closed spells_high is_high,
+      symbol_from-again (codes ")") s rest)
+    refl
+
+pub domain_from-again : (d : DomainTree) (front rest : List Lexeme) → SpellsDomain front d → IsEarlyDomain d → domain_from (front ++ rest) ≡ Some (d, rest)
+domain_from-again (domain_at p (ranges no_ranges)) front rest h is = absurd is
+domain_from-again (domain_at p (ranges (more_ranges (span open_end high) no_ranges))) front rest h is = absurd is.0
+domain_from-again (domain_at p (ranges (more_ranges (span (end_is low) open_end) no_ranges))) front rest h is = absurd is.1
+domain_from-again (domain_at p (ranges (more_ranges (span (end_is low) (end_is high)) no_ranges))) front rest h is =
+    let inner = h.4 in
+    let closed = lexeme_at h.2 (a_symbol (codes ")")) ∷ [] in
+    let regrouped : front ++ rest ≡ lexeme_at p (a_word (codes "int")) ∷ lexeme_at h.0 (a_symbol (codes "(")) ∷ (inner.0 ++ lexeme_at inner.1 (a_symbol (codes "..")) ∷ inner.2) ++ lexeme_at h.2 (a_symbol (codes ")")) ∷ rest =
+        ap (λ ls. ls ++ rest) h.3
+        ∙ ap (λ ls. lexeme_at p (a_word (codes "int")) ∷ lexeme_at h.0 (a_symbol (codes "(")) ∷ ls) (append_assoc h.1 closed rest ∙ ap (λ ls. ls ++ lexeme_at h.2 (a_symbol (codes ")")) ∷ rest) inner.3) in
+    ap domain_from regrouped ∙ int_domain-again p h.0 inner.1 h.2 low high inner.0 inner.2 rest inner.4 inner.5 is.0 is.1
+domain_from-again (domain_at p (ranges (more_ranges range (more_ranges second others)))) front rest h is = absurd is

@@ -4,3 +4,4 @@ mod Takes
 mod SoundExpressions
 mod SoundStatements
 mod CompleteExpressions
+mod CompleteStatements
