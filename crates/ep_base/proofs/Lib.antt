@@ -1,3 +1,4 @@
+pub mod TokenLaws
 pub mod VectorsTokens
 pub mod PutSteps
 pub mod Contents
