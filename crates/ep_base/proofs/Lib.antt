@@ -2,3 +2,6 @@ pub mod TokenLaws
 pub mod VectorsTokens
 pub mod PutSteps
 pub mod Contents
+pub mod RunSteps
+pub mod VectorsOutside
+pub mod VectorsRuns

@@ -3,3 +3,4 @@ pub mod Tokens
 pub mod Calls
 pub mod MemoryDevices
 pub mod Outside
+pub mod Runs

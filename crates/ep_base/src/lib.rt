@@ -9,6 +9,10 @@ mod names;
 mod outside;
 mod places;
 mod tokens;
+mod run_lists;
+mod std_devices;
+#[cfg(test)]
+mod tests;
 mod words;
 
 pub use errors::Memory;
@@ -18,4 +22,6 @@ pub use names::Name;
 pub use outside::{FileError, Files, PutError, Sink, put_all};
 pub use places::Place;
 pub use tokens::{Token, TokenKind};
+pub use run_lists::{Run, Runs};
+pub use std_devices::{StdFiles, StdSink};
 pub use words::Word;
