@@ -8,11 +8,11 @@ mod mem_sink;
 mod names;
 mod outside;
 mod places;
-mod tokens;
 mod run_lists;
 mod std_devices;
 #[cfg(test)]
 mod tests;
+mod tokens;
 mod words;
 
 pub use errors::Memory;
@@ -21,7 +21,7 @@ pub use mem_sink::MemSink;
 pub use names::Name;
 pub use outside::{FileError, Files, PutError, Sink, put_all};
 pub use places::Place;
-pub use tokens::{Token, TokenKind};
 pub use run_lists::{Run, Runs};
 pub use std_devices::{StdFiles, StdSink};
+pub use tokens::{Token, TokenKind};
 pub use words::Word;
