@@ -210,7 +210,7 @@ bound_from-again (expr_at p (compare op left right)) front rest h is = absurd is
 -- `int(a..b)`, from its parts
 int_domain-again : (p q r s : Place) (low high : ExprTree) (f g rest : List Lexeme) → Spells expression_level f low → Spells expression_level g high → IsBound low → IsBound high
     → domain_from (lexeme_at p (a_word (codes "int")) ∷ lexeme_at q (a_symbol (codes "(")) ∷ f ++ lexeme_at r (a_symbol (codes "..")) ∷ g ++ lexeme_at s (a_symbol (codes ")")) ∷ rest)
-        ≡ Some (domain_at p (ranges (more_ranges (span (end_is low) (end_is high)) no_ranges)), rest)
+    ≡ Some (domain_at p (ranges (more_ranges (span (end_is low) (end_is high)) no_ranges)), rest)
 unfolding domain_from
 int_domain-again p q r s low high f g rest spells_low spells_high is_low is_high =
     let closed = lexeme_at s (a_symbol (codes ")")) ∷ rest in
@@ -223,7 +223,8 @@ int_domain-again p q r s low high f g rest spells_low spells_high is_low is_high
       bound_from-again low f dots spells_low is_low,
       symbol_from-again (codes "..") r (g ++ closed),
       bound_from-again high g closed spells_high is_high,
-      symbol_from-again (codes ")") s rest)
+      symbol_from-again (codes ")") s rest,
+    )
     refl
 
 pub domain_from-again : (d : DomainTree) (front rest : List Lexeme) → SpellsDomain front d → IsEarlyDomain d → domain_from (front ++ rest) ≡ Some (d, rest)
@@ -234,7 +235,7 @@ domain_from-again (domain_at p (ranges (more_ranges (span (end_is low) (end_is h
     let inner = h.4 in
     let closed = lexeme_at h.2 (a_symbol (codes ")")) ∷ [] in
     let regrouped : front ++ rest ≡ lexeme_at p (a_word (codes "int")) ∷ lexeme_at h.0 (a_symbol (codes "(")) ∷ (inner.0 ++ lexeme_at inner.1 (a_symbol (codes "..")) ∷ inner.2) ++ lexeme_at h.2 (a_symbol (codes ")")) ∷ rest =
-        ap (λ ls. ls ++ rest) h.3
-        ∙ ap (λ ls. lexeme_at p (a_word (codes "int")) ∷ lexeme_at h.0 (a_symbol (codes "(")) ∷ ls) (append_assoc h.1 closed rest ∙ ap (λ ls. ls ++ lexeme_at h.2 (a_symbol (codes ")")) ∷ rest) inner.3) in
+    ap (λ ls. ls ++ rest) h.3
+    ∙ ap (λ ls. lexeme_at p (a_word (codes "int")) ∷ lexeme_at h.0 (a_symbol (codes "(")) ∷ ls) (append_assoc h.1 closed rest ∙ ap (λ ls. ls ++ lexeme_at h.2 (a_symbol (codes ")")) ∷ rest) inner.3) in
     ap domain_from regrouped ∙ int_domain-again p h.0 inner.1 h.2 low high inner.0 inner.2 rest inner.4 inner.5 is.0 is.1
 domain_from-again (domain_at p (ranges (more_ranges range (more_ranges second others)))) front rest h is = absurd is

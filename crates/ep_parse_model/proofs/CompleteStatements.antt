@@ -170,7 +170,7 @@ statement_from-again statement front rest h is starts = go statement.kind h is
         → statement_after (word_from (codes "find") (front ++ rest)) (front ++ rest) ≡ Some (statement_at statement.place kind, rest)
     go (find declarations) s are =
         let again = items_from-again declared_from (λ front x. SpellsDeclared front x × IsEarlyDomain x.domain) declarations-shorten declared_from-again declarations s.0 rest
-            (items-join SpellsDeclared (λ declared. IsEarlyDomain declared.domain) s.0 declarations s.2 are) (starts-no_comma rest starts) in
+        (items-join SpellsDeclared (λ declared. IsEarlyDomain declared.domain) s.0 declarations s.2 are) (starts-no_comma rest starts) in
         rw (s.1, word_from-again (codes "find") statement.place (s.0 ++ rest)) (find_is statement.place (s.0 ++ rest) declarations rest again)
     go (such_that clauses) s are =
         rw (s.2, such_is_not_find statement.place (lexeme_at s.0 (a_word (codes "that")) ∷ s.1 ++ rest))
@@ -232,13 +232,21 @@ first_line-again (lexeme_at a v ∷ lexeme_at b w ∷ lexeme_at c x ∷ lexeme_a
     let w-is : w ≡ a_word (codes "ESSENCE'") = cc in
     let x-is : x ≡ a_number (pos 1) = cc in
     let y-is : y ≡ a_symbol (codes ".") = cc in
-    let z-is : z ≡ a_number (pos 0) = cc in
-    (e, rw (v-is, w-is, x-is, y-is, z-is,
-      word_from-again (codes "language") a (lexeme_at b (a_word (codes "ESSENCE'")) ∷ lexeme_at c (a_number (pos 1)) ∷ lexeme_at d (a_symbol (codes ".")) ∷ lexeme_at e (a_number (pos 0)) ∷ back),
-      word_from-again (codes "ESSENCE'") b (lexeme_at c (a_number (pos 1)) ∷ lexeme_at d (a_symbol (codes ".")) ∷ lexeme_at e (a_number (pos 0)) ∷ back),
-      version-again (pos 1) c (lexeme_at d (a_symbol (codes ".")) ∷ lexeme_at e (a_number (pos 0)) ∷ back),
-      symbol_from-again (codes ".") d (lexeme_at e (a_number (pos 0)) ∷ back),
-      version-again (pos 0) e back) refl)
+    let z-is : z ≡ a_number (pos 0) = cc in (
+      e,
+      rw (
+        v-is,
+        w-is,
+        x-is,
+        y-is,
+        z-is,
+        word_from-again (codes "language") a (lexeme_at b (a_word (codes "ESSENCE'")) ∷ lexeme_at c (a_number (pos 1)) ∷ lexeme_at d (a_symbol (codes ".")) ∷ lexeme_at e (a_number (pos 0)) ∷ back),
+        word_from-again (codes "ESSENCE'") b (lexeme_at c (a_number (pos 1)) ∷ lexeme_at d (a_symbol (codes ".")) ∷ lexeme_at e (a_number (pos 0)) ∷ back),
+        version-again (pos 1) c (lexeme_at d (a_symbol (codes ".")) ∷ lexeme_at e (a_number (pos 0)) ∷ back),
+        symbol_from-again (codes ".") d (lexeme_at e (a_number (pos 0)) ∷ back),
+        version-again (pos 0) e back,
+      ) refl,
+    )
 first_line-again (l ∷ m ∷ n ∷ o ∷ p ∷ q ∷ front) back h = absurd cc
 
 -- an early model that is spelled is read

@@ -5,3 +5,4 @@ mod SoundExpressions
 mod SoundStatements
 mod CompleteExpressions
 mod CompleteStatements
+mod NameSteps

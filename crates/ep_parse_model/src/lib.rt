@@ -5,6 +5,7 @@ mod cursor;
 mod early;
 mod errors;
 mod expressions;
+mod names;
 mod statements;
 
 pub use early::parse_early;
