@@ -6,3 +6,4 @@ mod SoundStatements
 mod CompleteExpressions
 mod CompleteStatements
 mod NameSteps
+mod NameLaws
