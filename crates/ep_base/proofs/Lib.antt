@@ -1,3 +1,4 @@
+pub mod TokenKinds
 pub mod TokenLaws
 pub mod VectorsTokens
 pub mod PutSteps

@@ -1,7 +1,8 @@
 -- Laws of the tokens of a text: they lie in order within it, and each is the longest token at its place.
-use Rattle.std.proofs.Common.{◌≡◌, ℕ, zero, suc, ◌+◌, ◌<◌, ◌≤◌, Bool, true, false, cond, ◌&&◌, List, [], ◌∷◌, length, take, drop, get_or, Option, Some, None, Result, Ok, Err, refl, sym, ap, ◌∙◌, subst, ⊎_elim, arith, length-drop}
+use Rattle.std.proofs.Common.{◌≡◌, ℕ, zero, suc, ◌+◌, ◌-◌, ◌<◌, ◌≤◌, Bool, true, false, cond, ◌&&◌, List, [], ◌∷◌, length, take, drop, get_or, Option, Some, None, Result, Ok, Err, refl, sym, ap, ◌∙◌, subst, ⊎_elim, arith, length-drop}
 use Rattle.std.specs.Prelude.{slice_range, ◌==◌, nat_lt, nat_le}
 use Rattle.std.proofs.lemmas.Bool.{cases_Bool, cond-true, cond-false, leb-false, le-leb, eqb-false, cases_eq}
+use Rattle.std.proofs.lemmas.List.{drop-drop}
 use Rattle.ep_base.specs.declared.tokens.Token.{Token}
 use Rattle.ep_base.specs.TokenTexts.{is_token, is_number, kind_of}
 use Rattle.ep_base.specs.Tokens.{TokenFault, BadByte, LongNumber, place_at, gap_len, greatest, token_len, token_at, token_text, tokens_from, tokens_of, with_first, followed_by, LieInOrder}
@@ -55,6 +56,7 @@ pub record IsTokenAt (text : List ℕ) (offset : ℕ) (token : Token) : Type 0 w
   pub to : token.to ≡ offset + token_len (drop offset text)
   pub some : token.from < token.to
   pub within : token.to ≤ length text
+  pub is_one : is_token (token_text text token) (drop token.to text) ≡ true
   pub kind : token.kind ≡ kind_of (token_text text token)
   pub place : token.place ≡ place_at text token.from
   pub short : (is_number (token_text text token) && nat_lt 18 (length (token_text text token))) ≡ false
@@ -65,6 +67,14 @@ picked true none long fault other t token e = absurd cc
 picked false true long fault other t token e = absurd cc
 picked false false true fault other t token e = absurd cc
 picked false false false fault other t token e = (refl, refl, refl, cc)
+
+one_at : (text : List ℕ) (offset : ℕ) → 0 < token_len (drop offset text) → is_token (slice_range text offset (offset + token_len (drop offset text))) (drop (offset + token_len (drop offset text)) text) ≡ true
+one_at text offset some =
+    let size = token_len (drop offset text) in
+    let span : offset + size - offset ≡ size = omega arith in
+    ap (λ n. is_token (take n (drop offset text)) (drop (offset + size) text)) span
+    ∙ ap (λ rest. is_token (take size (drop offset text)) rest) (sym (drop-drop size offset text))
+    ∙ token_len_is_token (drop offset text) some
 
 -- a token that is found begins there, has its longest text, and that text's kind
 pub token_is : (text : List ℕ) (offset : ℕ) (token : Token) → token_at text offset ≡ Ok (Some token) → IsTokenAt text offset token
@@ -82,6 +92,7 @@ token_is text offset token e =
       to = refl;
       some = omega arith;
       within = omega arith;
+      is_one = one_at text offset (omega arith);
       kind = refl;
       place = refl;
       short = tests.2;

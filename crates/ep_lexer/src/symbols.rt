@@ -57,30 +57,35 @@ fn name_follows(bytes: &[u8], length: usize) -> bool
     }
 }
 
+/// Whether the first byte is a symbol where the others follow it.
 fn begins_with_symbol_of_one(bytes: &[u8]) -> bool
     ensures { result ≡ begins_with_symbol_of 1 bytes.now }
 {
     !bytes.is_empty() && is_symbol_of_one(bytes[0])
 }
 
+/// Whether the first two bytes are a symbol where the others follow them.
 fn begins_with_symbol_of_two(bytes: &[u8]) -> bool
     ensures { result ≡ begins_with_symbol_of 2 bytes.now }
 {
     bytes.len() >= 2 && is_symbol_of_two(bytes[0], bytes[1])
 }
 
+/// Whether the first three bytes are a symbol where the others follow them.
 fn begins_with_symbol_of_three(bytes: &[u8]) -> bool
     ensures { result ≡ begins_with_symbol_of 3 bytes.now }
 {
     bytes.starts_with(b"<->")
 }
 
+/// Whether the first four bytes are a symbol where the others follow them.
 fn begins_with_symbol_of_four(bytes: &[u8]) -> bool
     ensures { result ≡ begins_with_symbol_of 4 bytes.now }
 {
     (bytes.starts_with(b"<lex") || bytes.starts_with(b">lex")) && !name_follows(bytes, 4)
 }
 
+/// Whether the first five bytes are a symbol where the others follow them.
 fn begins_with_symbol_of_five(bytes: &[u8]) -> bool
     ensures { result ≡ begins_with_symbol_of 5 bytes.now }
 {
