@@ -7,3 +7,5 @@ mod CompleteExpressions
 mod CompleteStatements
 mod NameSteps
 mod NameLaws
+mod TokenFacts
+mod SmallLaws
