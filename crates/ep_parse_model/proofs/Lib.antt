@@ -9,3 +9,4 @@ mod NameSteps
 mod NameLaws
 mod TokenFacts
 mod SmallLaws
+mod EarlyLaws

@@ -112,7 +112,7 @@ false_is : (b : Bool) → (b ≡ true → ⊥) → b ≡ false
 false_is true h = absurd (h refl)
 false_is false h = refl
 
-never_true : (b : Bool) → b ≡ false → b ≡ true → ⊥
+pub never_true : (b : Bool) → b ≡ false → b ≡ true → ⊥
 never_true true e f = cc
 never_true false e f = cc
 
@@ -128,10 +128,10 @@ declare_all-sound (x ∷ xs) known now names means distinct e =
     chosen (known x) None (declare_all (adding x known) xs) now e (Declares known now names (x ∷ xs))
     (λ was g. absurd cc)
     (λ was g.
-      let d = declare_all-sound xs (adding x known) now (names ++ x ∷ []) (means_adding known names x means)
-          (distinct-push names x distinct (λ h. never_true (known x) was (means.is_known x h))) g in
-      let regrouped = append_assoc names (x ∷ []) xs in
-      record { means = subst (λ ns. Means now ns) regrouped d.means; distinct = subst (λ ns. AreDistinct ns) regrouped d.distinct })
+    let d = declare_all-sound xs (adding x known) now (names ++ x ∷ []) (means_adding known names x means)
+    (distinct-push names x distinct (λ h. never_true (known x) was (means.is_known x h))) g in
+    let regrouped = append_assoc names (x ∷ []) xs in
+    record { means = subst (λ ns. Means now ns) regrouped d.means; distinct = subst (λ ns. AreDistinct ns) regrouped d.distinct })
 
 declare_all-again : (xs : List (List ℕ)) (known : Known) (names : List (List ℕ)) → Means known names → AreDistinct (names ++ xs)
     → (now : Known) × (declare_all known xs ≡ Some now) × Means now (names ++ xs)
@@ -187,11 +187,13 @@ check_kind-sound (find declarations) known now names means distinct e = (declare
 check_kind-sound (such_that clauses) known now names means distinct e =
     chosen (list_all (uses_known known) clauses) (Some known) None now e (Declares known now names [] × AllByRecursion (UsesOnly names) clauses)
     (λ was g.
-      let same : known ≡ now = cc in
-      (record {
+    let same : known ≡ now = cc in (
+      record {
         means = subst (λ ns. Means now ns) (sym (append-nil names)) (subst (λ k. Means k names) same means);
         distinct = subst (λ ns. AreDistinct ns) (sym (append-nil names)) distinct;
-      }, clauses-sound clauses known names means was))
+      },
+      clauses-sound clauses known names means was,
+    ))
     (λ was g. absurd cc)
 
 check_kind-again : (kind : StatementKindTree) (known : Known) (names : List (List ℕ)) → Means known names → AreDistinct (names ++ kind_declares kind) → KindUsesOnly names kind

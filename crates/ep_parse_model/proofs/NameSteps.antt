@@ -118,5 +118,5 @@ pub chain_uses : (known : Known) (e : Expr) (parts : Vec (Bool × Expr)) (items 
     → answer ≡ terms_use_known known (term_trees items) → e.kind ≡ Add parts → items ≡ parts.items → answer ≡ uses_known known (expr_tree e)
 chain_uses known e parts items answer h kind-is items-is =
     let step : uses_known known (expr_tree e) ≡ terms_use_known known (term_trees parts.items) =
-        ap (λ kind. uses_known known (expr_at e.place kind)) (ap kind_tree kind-is ∙ kind_tree-add parts) in
+    ap (λ kind. uses_known known (expr_at e.place kind)) (ap kind_tree kind-is ∙ kind_tree-add parts) in
     h ∙ ap (λ xs. terms_use_known known (term_trees xs)) items-is ∙ sym step

@@ -30,12 +30,12 @@ pub tokens_lie_in : (text : List ℕ) (tokens : List Token) → tokens_of text �
 tokens_lie_in text tokens e =
     all_from_index (LiesIn text) tokens
     (λ i d lt.
-      let is = token_of text tokens i d e lt in
-      record {
-        ordered = omega (arith, is.some);
-        within = is.within;
-        ascii = λ named. name_is_ascii (token_text text (get_or tokens i d)) (text_of_name (token_text text (get_or tokens i d)) (sym is.kind ∙ named)).1;
-      })
+    let is = token_of text tokens i d e lt in
+    record {
+      ordered = omega (arith, is.some);
+      within = is.within;
+      ascii = λ named. name_is_ascii (token_text text (get_or tokens i d)) (text_of_name (token_text text (get_or tokens i d)) (sym is.kind ∙ named)).1;
+    })
 
 -- a text has at least as many bytes as tokens
 no_more_in_order : (tokens : List Token) (offset end : ℕ) → LieInOrder offset tokens end → length tokens + offset ≤ end

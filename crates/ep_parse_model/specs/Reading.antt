@@ -39,6 +39,11 @@ abbrev pub Gives : {X Y : Type 0} → (X → Y) → Result X EarlyError → List
 Gives view (Ok x) new read = read ≡ Some (view x, new)
 Gives view (Err e) new read = Fails e read
 
+-- The same where what is left doesn't matter.
+abbrev pub IsReadFrom : {X Y : Type 0} → (X → Y) → Result X EarlyError → Read Y → Type 0
+IsReadFrom view (Ok x) read = (rest : List Lexeme) × (read ≡ Some (view x, rest))
+IsReadFrom view (Err e) read = Fails e read
+
 -- ---- single tokens
 
 abbrev pub is_empty : List Lexeme → Bool

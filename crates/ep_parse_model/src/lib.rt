@@ -8,5 +8,5 @@ mod expressions;
 mod names;
 mod statements;
 
-pub use early::parse_early;
+pub use early::{one_early_model, parse_early};
 pub use errors::EarlyError;
