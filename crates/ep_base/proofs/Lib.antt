@@ -1,3 +1,5 @@
+pub mod TokenKinds
+pub mod TokenLaws
 pub mod VectorsTokens
 pub mod PutSteps
 pub mod Contents
