@@ -10,8 +10,8 @@ use Rattle.ep_driver.specs.declared.status.Status.TheVariants.{Answered, Unknown
 use Rattle.ep_driver.specs.declared.replies.Reply.{Reply}
 use Rattle.ep_driver.specs.Command.{IsCommand}
 use Rattle.ep_tree.specs.Solutions.{instance_of, assignment_count}
-use Rattle.ep_driver.specs.Outcomes.{NamesText, AreNoCommand, IsNotEarly, IsTooLarge, most_assignments, AsksFor, Refuses}
-use Rattle.ep_driver.specs.Replies.{SaidToText, SaidToFile, IsNotRead, SaidToWords}
+use Rattle.ep_driver.specs.Outcomes.{NamesText, AreNoCommand, IsNotEarly, IsTooLarge, most_assignments, Refuses, Accepts}
+use Rattle.ep_driver.specs.Replies.{IsEarlyAs, SaidToText, SaidToFile, IsNotRead, SaidToWords}
 use Rattle.ep_driver.specs.Texts.{device_line}
 
 -- ---- the first bytes of a text tell whether it is early
@@ -30,10 +30,14 @@ early-cut text model early =
     let P : List ℕ → Type 0 = λ x. IsEarly x model in
     subst P (sym (early-whole text model early)) early
 
+early-as-first : (text : List ℕ) (model : ModelTree) → IsEarlyAs (take 65537 text) model → IsEarlyAs text model
+early-as-first text model early =
+    (early-first text model early.0, λ other h. early.1 other (early-cut text other h))
+
 said-whole : (text : List ℕ) (status : Status) (line : List ℕ) → SaidToText (take 65537 text) status line → SaidToText text status line
 said-whole text Text line h = (h.0, λ model early. h.1 model (early-cut text model early))
-said-whole text Limit line h = (h.0, h.1, early-first text h.1 h.2, h.3)
-said-whole text Answered line h = (h.0, h.1, h.2, early-first text h.0 h.3, h.4, h.5)
+said-whole text Limit line h = (h.0, h.1, early-as-first text h.1 h.2, h.3)
+said-whole text Answered line h = (h.0, h.1, h.2, early-as-first text h.0 h.3, h.4, h.5)
 said-whole text Usage line h = absurd h
 said-whole text Device line h = absurd h
 said-whole text Unknown line h = absurd h
@@ -80,6 +84,19 @@ said-line text status line (Ok reply) said h =
 
 -- ---- what is said is what is asked for
 
+-- what the words and the held files ask for
+abbrev pub AsksFor : List (List ℕ) → Held → Status → Type 0
+AsksFor words held Usage = AreNoCommand words
+AsksFor words held Device = (name : List ℕ) × IsCommand words name × (held name ≡ None)
+AsksFor words held Text = (text : List ℕ) × NamesText words held text × IsNotEarly text
+AsksFor words held Limit = (text : List ℕ) × NamesText words held text × (model : ModelTree) × IsEarly text model × IsTooLarge model
+AsksFor words held Answered =
+    (text : List ℕ) × NamesText words held text × (model : ModelTree) × IsEarly text model
+    × (assignment_count (instance_of model) ≤ most_assignments)
+AsksFor words held Unknown = ⊥
+AsksFor words held Memory = ⊥
+AsksFor words held Refuted = ⊥
+
 same-name : (words : List (List ℕ)) (a b : List ℕ) → IsCommand words a → IsCommand words b → a ≡ b
 same-name words a b p q = let e = sym p.0 ∙ q.0 in cc
 
@@ -119,29 +136,33 @@ asked-text : (words : List (List ℕ)) (held : Held) (text : List ℕ) (status :
 asked-text words held text Usage names not_early asks = absurd (asks names.0 names.1)
 asked-text words held text Device names not_early asks = absurd (held-twice words held asks.0 text asks.1 asks.2 names)
 asked-text words held text Text names not_early asks = refl
-asked-text words held text Limit names not_early asks = absurd (not_early asks.2.0.0 (early-twice words held asks.0 text asks.2.0.0 asks.1 names asks.2.0.1))
-asked-text words held text Answered names not_early asks = absurd (not_early asks.2.0.0 (early-twice words held asks.0 text asks.2.0.0 asks.1 names asks.2.0.1))
+asked-text words held text Limit names not_early asks = absurd (not_early asks.2 (early-twice words held asks.0 text asks.2 asks.1 names asks.3))
+asked-text words held text Answered names not_early asks = absurd (not_early asks.2 (early-twice words held asks.0 text asks.2 asks.1 names asks.3))
 asked-text words held text Unknown names not_early asks = absurd asks
 asked-text words held text Memory names not_early asks = absurd asks
 asked-text words held text Refuted names not_early asks = absurd asks
 
-asked-limit : (words : List (List ℕ)) (held : Held) (text : List ℕ) (model : ModelTree) (status : Status) → NamesText words held text → IsEarly text model → IsTooLarge model → AsksFor words held status → Limit ≡ status
+asked-limit : (words : List (List ℕ)) (held : Held) (text : List ℕ) (model : ModelTree) (status : Status) → NamesText words held text → IsEarlyAs text model → IsTooLarge model → AsksFor words held status → Limit ≡ status
 asked-limit words held text model Usage names early large asks = absurd (asks names.0 names.1)
 asked-limit words held text model Device names early large asks = absurd (held-twice words held asks.0 text asks.1 asks.2 names)
-asked-limit words held text model Text names early large asks = absurd (asks.2 model (early-twice words held text asks.0 model names asks.1 early))
+asked-limit words held text model Text names early large asks = absurd (asks.2 model (early-twice words held text asks.0 model names asks.1 early.0))
 asked-limit words held text model Limit names early large asks = refl
 asked-limit words held text model Answered names early large asks =
-    let small = asks.2.1 model (early-twice words held text asks.0 model names asks.1 early) in absurd (omega (arith, small, large))
+    let same : asks.2 ≡ model = early.1 asks.2 (early-twice words held asks.0 text asks.2 asks.1 names asks.3) in
+    let sizes = ap (λ m. assignment_count (instance_of m)) same in
+    absurd (omega (arith, asks.4, large, sizes))
 asked-limit words held text model Unknown names early large asks = absurd asks
 asked-limit words held text model Memory names early large asks = absurd asks
 asked-limit words held text model Refuted names early large asks = absurd asks
 
-asked-answer : (words : List (List ℕ)) (held : Held) (text : List ℕ) (model : ModelTree) (status : Status) → NamesText words held text → IsEarly text model → assignment_count (instance_of model) ≤ most_assignments → AsksFor words held status → Answered ≡ status
+asked-answer : (words : List (List ℕ)) (held : Held) (text : List ℕ) (model : ModelTree) (status : Status) → NamesText words held text → IsEarlyAs text model → assignment_count (instance_of model) ≤ most_assignments → AsksFor words held status → Answered ≡ status
 asked-answer words held text model Usage names early small asks = absurd (asks names.0 names.1)
 asked-answer words held text model Device names early small asks = absurd (held-twice words held asks.0 text asks.1 asks.2 names)
-asked-answer words held text model Text names early small asks = absurd (asks.2 model (early-twice words held text asks.0 model names asks.1 early))
+asked-answer words held text model Text names early small asks = absurd (asks.2 model (early-twice words held text asks.0 model names asks.1 early.0))
 asked-answer words held text model Limit names early small asks =
-    let large = asks.2.1 model (early-twice words held text asks.0 model names asks.1 early) in absurd (omega (arith, small, large))
+    let same : asks.2 ≡ model = early.1 asks.2 (early-twice words held asks.0 text asks.2 asks.1 names asks.3) in
+    let sizes = ap (λ m. assignment_count (instance_of m)) same in
+    absurd (omega (arith, asks.4, small, sizes))
 asked-answer words held text model Answered names early small asks = refl
 asked-answer words held text model Unknown names early small asks = absurd asks
 asked-answer words held text model Memory names early small asks = absurd asks
@@ -173,7 +194,7 @@ no-refusal status a b d (inr (inr e)) = d e
 said-refused : (words : List (List ℕ)) (held : Held) (rose : Type 0) (status : Status) (line : List ℕ) → SaidToWords words (Some held) rose status line → IsRefusal status → Refuses words held status line
 said-refused words held rose Usage line said refusal = (said.0, said.1)
 said-refused words held rose Text line said refusal = (said.1.2.0, said.1.0, said.1.1, said.1.2.1)
-said-refused words held rose Limit line said refusal = (said.1.2.0, said.1.0, said.1.2.1, said.1.1, said.1.2.2, said.1.2.3)
+said-refused words held rose Limit line said refusal = (said.1.2.0, said.1.0, said.1.2.1, said.1.1, said.1.2.2.0, said.1.2.3)
 said-refused words held rose Device line said refusal = absurd (no-refusal Device (λ e. cc) (λ e. cc) (λ e. cc) refusal)
 said-refused words held rose Answered line said refusal = absurd (no-refusal Answered (λ e. cc) (λ e. cc) (λ e. cc) refusal)
 said-refused words held rose Unknown line said refusal = absurd said
@@ -195,7 +216,24 @@ pub said-device : (words : List (List ℕ)) (told : Option Held) (rose other : T
 said-device words told rose other line said =
     elim said.3 [ inl r ↦ inl r | inr missing ↦ inr (inr (missing-refused words told said.0 line said.1 said.2 missing)) ]
 
--- where the files counted no fault, what is asked for is said
-pub said-told : (words : List (List ℕ)) (told : Option Held) (rose : Type 0) (said : Status) (line : List ℕ) → SaidToWords words told rose said line → ¬ rose → IfSome told (λ held. (status : Status) → AsksFor words held status → (said ≡ status) ⊎ (said ≡ Memory))
-said-told words None rose said line s calm = tt
-said-told words (Some held) rose said line s calm = λ status asks. inl (said-asked words held rose said line status s calm asks)
+refusal-asked : (words : List (List ℕ)) (held : Held) (status : Status) (line : List ℕ) → Refuses words held status line → AsksFor words held status
+refusal-asked words held Usage line h = h.1
+refusal-asked words held Device line h = (h.0, h.2, h.3)
+refusal-asked words held Text line h = (h.1, h.2, h.3)
+refusal-asked words held Limit line h = (h.1, h.3, h.2, h.4, h.5)
+refusal-asked words held Answered line h = absurd h
+refusal-asked words held Unknown line h = absurd h
+refusal-asked words held Memory line h = absurd h
+refusal-asked words held Refuted line h = absurd h
+
+-- where the files counted no fault, a refusal that stands is said
+pub refusal-said : (words : List (List ℕ)) (told : Option Held) (rose : Type 0) (said : Status) (line : List ℕ) → SaidToWords words told rose said line → ¬ rose → IfSome told (λ held. (status : Status) (refusal : List ℕ) → Refuses words held status refusal → (said ≡ status) ⊎ (said ≡ Memory))
+refusal-said words None rose said line s calm = tt
+refusal-said words (Some held) rose said line s calm =
+    λ status refusal h. inl (said-asked words held rose said line status s calm (refusal-asked words held status refusal h))
+
+-- where they counted none and no refusal stands, the answer is said
+pub answer-said : (words : List (List ℕ)) (told : Option Held) (rose : Type 0) (said : Status) (line : List ℕ) → SaidToWords words told rose said line → ¬ rose → IfSome told (λ held. (model : ModelTree) → Accepts words held model → (said ≡ Answered) ⊎ (said ≡ Memory))
+answer-said words None rose said line s calm = tt
+answer-said words (Some held) rose said line s calm =
+    λ model h. inl (said-asked words held rose said line Answered s calm (h.0, h.1, model, h.2, h.3))

@@ -8,7 +8,7 @@ use Rattle.ep_driver.specs.Status.{code_of}
 use Rattle.ep_driver.specs.Command.{IsCommand, IsFileName}
 use Rattle.ep_driver.specs.Texts.{device_line, letting_line}
 use Rattle.ep_driver.specs.Answers.{Answers, answer_text, solution, no_solution}
-use Rattle.ep_driver.specs.Outcomes.{AreNoCommand, Refuses, AsksFor}
+use Rattle.ep_driver.specs.Outcomes.{AreNoCommand, Refuses}
 
 -- ---- texts
 
@@ -56,9 +56,6 @@ usage-refused held = (refl, no-words)
 
 missing-refused : Refuses (codes "--in-eprime" ∷ codes "none.eprime" ∷ []) (λ name. None) Device (codes "device read none.eprime\n")
 missing-refused = (codes "none.eprime", refl, (refl, λ e. cc), refl)
-
-missing-asked : AsksFor (codes "--in-eprime" ∷ codes "none.eprime" ∷ []) (λ name. None) Device
-missing-asked = (codes "none.eprime", (refl, λ e. cc), refl)
 
 never-refuted : (words : List (List ℕ)) (held : Held) (line : List ℕ) → ¬ Refuses words held Refuted line
 never-refuted words held line = λ h. h

@@ -52,27 +52,3 @@ abbrev pub Accepts : List (List ℕ) → Held → ModelTree → Type 0
 Accepts words held model =
     (text : List ℕ) × NamesText words held text × IsEarly text model
     × (assignment_count (instance_of model) ≤ most_assignments)
-
--- the text is early, and each model that it is has the property
-abbrev pub IsEarlyWith : (ModelTree → Type 0) → List ℕ → Type 0
-IsEarlyWith P text =
-    ((model : ModelTree) × IsEarly text model) × ((model : ModelTree) → IsEarly text model → P model)
-
--- What the words and the held files ask for:
-abbrev pub AsksFor : List (List ℕ) → Held → Status → Type 0
--- the words aren't a command
-AsksFor words held Usage = AreNoCommand words
--- the file that they name isn't held
-AsksFor words held Device = (name : List ℕ) × IsCommand words name × (held name ≡ None)
--- its text is no early model
-AsksFor words held Text = (text : List ℕ) × NamesText words held text × IsNotEarly text
--- its text is early, with too many assignments
-AsksFor words held Limit = (text : List ℕ) × NamesText words held text × IsEarlyWith IsTooLarge text
--- its text is early, with not too many assignments
-AsksFor words held Answered =
-    (text : List ℕ) × NamesText words held text
-    × IsEarlyWith (λ model. assignment_count (instance_of model) ≤ most_assignments) text
--- and nothing else
-AsksFor words held Unknown = ⊥
-AsksFor words held Memory = ⊥
-AsksFor words held Refuted = ⊥

@@ -11,13 +11,17 @@ use Rattle.ep_driver.specs.Texts.{device_line}
 use Rattle.ep_driver.specs.Answers.{Answer, Answers, answer_text}
 use Rattle.ep_driver.specs.Outcomes.{NamesText, AreNoCommand, IsNotEarly, most_assignments, IsTooLarge}
 
+-- the text is early, as this model and no other
+abbrev pub IsEarlyAs : List ℕ → ModelTree → Type 0
+IsEarlyAs text model = IsEarly text model × ((other : ModelTree) → IsEarly text other → other ≡ model)
+
 -- what is said to a text
 abbrev pub SaidToText : List ℕ → Status → List ℕ → Type 0
 SaidToText text Text line = (line ≡ codes "fault early\n") × IsNotEarly text
 SaidToText text Limit line =
-    (line ≡ codes "limit early\n") × (model : ModelTree) × IsEarly text model × IsTooLarge model
+    (line ≡ codes "limit early\n") × (model : ModelTree) × IsEarlyAs text model × IsTooLarge model
 SaidToText text Answered line =
-    (model : ModelTree) × (answer : Answer) × (line ≡ answer_text answer) × IsEarly text model
+    (model : ModelTree) × (answer : Answer) × (line ≡ answer_text answer) × IsEarlyAs text model
     × (assignment_count (instance_of model) ≤ most_assignments) × Answers (instance_of model) answer
 SaidToText text Usage line = ⊥
 SaidToText text Device line = ⊥

@@ -7,7 +7,7 @@ ghost use Rattle.ep_tree.specs.Solutions.{instance_of};
 ghost use Rattle.ep_driver.specs.Command.{IsCommand};
 ghost use Rattle.ep_driver.specs.Texts.{device_line};
 ghost use Rattle.ep_driver.specs.Answers.{Answer, Answers, answer_text};
-ghost use Rattle.ep_driver.specs.Outcomes.{AreNoCommand, Refuses, Accepts, AsksFor};
+ghost use Rattle.ep_driver.specs.Outcomes.{AreNoCommand, Refuses, Accepts};
 ghost use Rattle.ep_driver.specs.declared.status.Status.{Status};
 
 use crate::replies::reply_to;
@@ -45,11 +45,14 @@ pub fn run<R: Threads, F: Files, K: Sink>(
     ensures never_unknown { result ≢ Status.Unknown }
     ensures never_refuted { result ≢ Status.Refuted }
 
-    // Where no device failed, what the words and the files ask for comes, want of memory aside.
-    ensures asked { ¬ Rose (F.faults files.old) (F.faults files.new) → ¬ Rose (K.faults out.old) (K.faults out.new) →
-        IfSome (F.held files.old) (λ held. (status : Status) →
-        AsksFor words.now held status → (result ≡ status) ⊎ (result ≡ Status.Memory)) }
-    ensures usage_asked { AreNoCommand words.now → ¬ Rose (K.faults out.old) (K.faults out.new) →
+    // Where no device failed, a refusal that stands comes, and else the answer, want of memory aside.
+    ensures refuses { ¬ Rose (F.faults files.old) (F.faults files.new) → ¬ Rose (K.faults out.old) (K.faults out.new) →
+        IfSome (F.held files.old) (λ held. (status : Status) (line : List ℕ) →
+        Refuses words.now held status line → (result ≡ status) ⊎ (result ≡ Status.Memory)) }
+    ensures answers { ¬ Rose (F.faults files.old) (F.faults files.new) → ¬ Rose (K.faults out.old) (K.faults out.new) →
+        IfSome (F.held files.old) (λ held. (model : ModelTree) →
+        Accepts words.now held model → (result ≡ Status.Answered) ⊎ (result ≡ Status.Memory)) }
+    ensures usage_refused { AreNoCommand words.now → ¬ Rose (K.faults out.old) (K.faults out.new) →
         (result ≡ Status.Usage) ⊎ (result ≡ Status.Memory) }
 
     // The files stay as they were, and no count of faults falls.

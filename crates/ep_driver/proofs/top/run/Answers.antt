@@ -2,7 +2,7 @@ use Rattle.std.proofs.Common.{◌≡◌, List, ℕ, subst}
 use Rattle.ep_base.specs.Outside.{Rose, with_more}
 use Rattle.ep_driver.specs.declared.status.Status.{Status}
 use Rattle.ep_driver.specs.Replies.{SaidToWords}
-use Rattle.ep_driver.proofs.Saying.{said-refusal, said-device, said-told}
+use Rattle.ep_driver.proofs.Saying.{said-refusal, said-device, refusal-said, answer-said}
 use Rattle.ep_driver.proofs.top.run.Goals as goal
 
 pub returns-in-Ok-put_all-clause-refused : goal.returns-in-Ok-put_all-clause-refused
@@ -19,6 +19,10 @@ returns-in-Ok-put_all-clause-device g c = λ is_device.
     let P : Status → Type 0 = λ s. SaidToWords c.args.words.now told rose s reply.text.items in
     said-device c.args.words.now told rose _ reply.text.items (subst P is_device c.in-Ok.ensures.said)
 
-pub returns-in-Ok-put_all-clause-asked : goal.returns-in-Ok-put_all-clause-asked
-returns-in-Ok-put_all-clause-asked g c = λ calm _.
-    said-told c.args.words.now _ _ c.in-Ok.reply.status c.in-Ok.reply.text.items c.in-Ok.ensures.said calm
+pub returns-in-Ok-put_all-clause-refuses : goal.returns-in-Ok-put_all-clause-refuses
+returns-in-Ok-put_all-clause-refuses g c = λ calm _.
+    refusal-said c.args.words.now _ _ c.in-Ok.reply.status c.in-Ok.reply.text.items c.in-Ok.ensures.said calm
+
+pub returns-in-Ok-put_all-clause-answers : goal.returns-in-Ok-put_all-clause-answers
+returns-in-Ok-put_all-clause-answers g c = λ calm _.
+    answer-said c.args.words.now _ _ c.in-Ok.reply.status c.in-Ok.reply.text.items c.in-Ok.ensures.said calm
