@@ -1,0 +1,7 @@
+pub mod Steps
+pub mod Order
+pub mod FindSteps
+pub mod CompileSteps
+pub mod Solving
+pub mod Saying
+mod VectorsRuns

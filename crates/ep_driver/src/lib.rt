@@ -1,0 +1,19 @@
+//! The top call: from the words and the bytes of a file to the answer's text.
+#![tactic(auto)]
+
+mod bounds;
+mod clauses;
+mod command;
+mod compile;
+mod finds;
+mod replies;
+mod search;
+mod solve;
+mod status;
+#[cfg(test)]
+mod tests;
+mod texts;
+mod top;
+
+pub use status::Status;
+pub use top::run;

@@ -1,0 +1,12 @@
+mod Cursors
+mod Lists
+mod Takes
+mod SoundExpressions
+mod SoundStatements
+mod CompleteExpressions
+mod CompleteStatements
+mod NameSteps
+mod NameLaws
+mod TokenFacts
+mod SmallLaws
+mod EarlyLaws

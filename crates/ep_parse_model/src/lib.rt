@@ -1,0 +1,12 @@
+//! Reads whole texts as models.
+#![tactic(auto)]
+
+mod cursor;
+mod early;
+mod errors;
+mod expressions;
+mod names;
+mod statements;
+
+pub use early::{one_early_model, parse_early};
+pub use errors::EarlyError;

@@ -1,0 +1,4 @@
+pub mod Rows
+mod VectorsSpelling
+mod VectorsValues
+mod VectorsWellFormed

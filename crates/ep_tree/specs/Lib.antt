@@ -1,0 +1,10 @@
+pub mod Trees
+pub mod Views
+pub mod Lexemes
+pub mod Spelling
+pub mod EarlyForms
+pub mod WellFormed
+pub mod Values
+pub mod Solutions
+pub mod Small
+pub mod Early
