@@ -10,3 +10,6 @@ mod statements;
 
 pub use early::{one_early_model, parse_early};
 pub use errors::EarlyError;
+
+#[cfg(test)]
+mod tests;

@@ -1,4 +1,4 @@
 pub mod Rows
-mod VectorsSpelling
+pub mod VectorsSpelling
 mod VectorsValues
 mod VectorsWellFormed
