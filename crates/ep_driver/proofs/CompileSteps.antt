@@ -8,14 +8,14 @@ use Rattle.std.proofs.Math.Bool.{or-true}
 use Rattle.std.proofs.lemmas.Slice.Eq.{bytes_eq-Decides}
 use Rattle.std.proofs.lemmas.List.{drop_more, append-nil, append_assoc, map_more}
 use Rattle.std.proofs.lemmas.Int.{ints}
-use Rattle.ep_tree.specs.declared.expressions.Expr.{Expr}
-use Rattle.ep_tree.specs.declared.expressions.Kind.{Add, Row_of-Kind-Add-0-2, end_of-Kind-Add-0-2, more_of-Kind-Add-0-2, items-the_row-Kind-Add-0-2, items_hidden-the_row-Kind-Add-0-2-0}
-use Rattle.ep_tree.specs.declared.expressions.Kind.TheBlock.{hidden-the_row-Kind-Add-0-2-0}
-use Rattle.ep_tree.specs.Trees.{ExprTree, expr_at, more_terms, add}
-use Rattle.ep_tree.specs.Views.{expr_tree, kind_tree, row_tree, term_trees}
-use Rattle.ep_tree.specs.Values.{value_of, sum_of, added}
-use Rattle.ep_tree.specs.EarlyForms.{IsOperand, AreOperands}
-use Rattle.ep_tree.specs.WellFormed.{UsesOnly, TermsUseOnly}
+use Rattle.ep_early.specs.declared.expressions.Expr.{Expr}
+use Rattle.ep_early.specs.declared.expressions.Kind.{Add, Row_of-Kind-Add-0-2, end_of-Kind-Add-0-2, more_of-Kind-Add-0-2, items-the_row-Kind-Add-0-2, items_hidden-the_row-Kind-Add-0-2-0}
+use Rattle.ep_early.specs.declared.expressions.Kind.TheBlock.{hidden-the_row-Kind-Add-0-2-0}
+use Rattle.ep_early.specs.Trees.{ExprTree, expr_at, more_terms, add}
+use Rattle.ep_early.specs.Views.{expr_tree, kind_tree, row_tree, term_trees}
+use Rattle.ep_early.specs.Values.{value_of, sum_of, added}
+use Rattle.ep_early.specs.EarlyForms.{IsOperand, AreOperands}
+use Rattle.ep_early.specs.WellFormed.{UsesOnly, TermsUseOnly}
 use Rattle.ep_driver.specs.declared.clauses.Operand.{Operand}
 use Rattle.ep_driver.specs.declared.clauses.Summand.{Summand}
 use Rattle.ep_driver.specs.Clauses.{operand_value, summand_value, total, UsesBelow, SumUsesBelow}

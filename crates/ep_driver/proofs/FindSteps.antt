@@ -6,14 +6,14 @@ use Rattle.std.proofs.lemmas.Slice.Eq.{bytes_eq-Decides}
 use Rattle.std.proofs.lemmas.Bool.{false_from_ne_true}
 use Rattle.std.proofs.lemmas.List.{get_or_at, get_or_append_left, length_push, length-append, map-append, append_assoc, take_more, take-append-drop, append-nil}
 use Rattle.indexmap.specs.IndexSet.{insert_key}
-use Rattle.ep_tree.specs.declared.domains.Range.{Range}
-use Rattle.ep_tree.specs.Views.{range_trees}
-use Rattle.ep_tree.specs.EarlyForms.{IsOneRange}
+use Rattle.ep_early.specs.declared.domains.Range.{Range}
+use Rattle.ep_early.specs.Views.{range_trees}
+use Rattle.ep_early.specs.EarlyForms.{IsOneRange}
 use Rattle.ep_base.specs.declared.places.Place.{Place}
-use Rattle.ep_tree.specs.Trees.{DeclaredTree, StatementKindTree, find, such_that}
-use Rattle.ep_tree.specs.Values.{interval, domain_values}
-use Rattle.ep_tree.specs.Solutions.{Find, declared_finds, kind_finds}
-use Rattle.ep_tree.specs.WellFormed.{AreDistinct, names_of, kind_declares}
+use Rattle.ep_early.specs.Trees.{DeclaredTree, StatementKindTree, find, such_that}
+use Rattle.ep_early.specs.Values.{interval, domain_values}
+use Rattle.ep_early.specs.Solutions.{Find, declared_finds, kind_finds}
+use Rattle.ep_early.specs.WellFormed.{AreDistinct, names_of, kind_declares}
 use Rattle.ep_driver.specs.declared.bounds.Bounds.{Bounds}
 use Rattle.ep_driver.specs.Finds.{finds_of, find_names, named_find}
 

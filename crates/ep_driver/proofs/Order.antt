@@ -5,7 +5,7 @@ use Rattle.std.proofs.lemmas.Nat.{div-add-mod', div-mul-add, mod-mul-add, mod_be
 use Rattle.std.proofs.lemmas.Bool.{cases_lt}
 use Rattle.std.proofs.Math.Nat.{zero-mul, mul-zero, zero-mod, zero-div}
 use Rattle.std.proofs.lemmas.Int.{ints}
-use Rattle.ep_tree.specs.Values.{at_least_zero}
+use Rattle.ep_early.specs.Values.{at_least_zero}
 use Rattle.ep_driver.specs.declared.bounds.Bounds.{Bounds}
 use Rattle.ep_driver.specs.declared.clauses.Clause.{Clause}
 use Rattle.ep_driver.specs.Bounds.{size_of, combinations, AreWithin, first_values, next_values, values_at}

@@ -3,13 +3,13 @@ use Rattle.std.proofs.Common.{◌≡◌, ℕ, ◌≤◌, List, length, take, Opt
 use Rattle.std.proofs.lemmas.List.{take_all, length-take}
 use Rattle.ep_base.specs.Outside.{Held, ReadGives}
 use Rattle.ep_base.specs.declared.errors.Memory.{Memory as Want}
-use Rattle.ep_tree.specs.Trees.{ModelTree}
-use Rattle.ep_tree.specs.Early.{IsEarly}
+use Rattle.ep_early.specs.Trees.{ModelTree}
+use Rattle.ep_early.specs.Early.{IsEarly}
 use Rattle.ep_driver.specs.declared.status.Status.{Status}
 use Rattle.ep_driver.specs.declared.status.Status.TheVariants.{Answered, Unknown, Usage, Text, Limit, Device, Memory, Refuted}
 use Rattle.ep_driver.specs.declared.replies.Reply.{Reply}
 use Rattle.ep_driver.specs.Command.{IsCommand}
-use Rattle.ep_tree.specs.Solutions.{instance_of, assignment_count}
+use Rattle.ep_early.specs.Solutions.{instance_of, assignment_count}
 use Rattle.ep_driver.specs.Outcomes.{NamesText, AreNoCommand, IsNotEarly, IsTooLarge, most_assignments, Refuses, Accepts}
 use Rattle.ep_driver.specs.Replies.{IsEarlyAs, SaidToText, SaidToFile, IsNotRead, SaidToWords}
 use Rattle.ep_driver.specs.Texts.{device_line}

@@ -5,10 +5,10 @@ use Rattle.std.proofs.lemmas.Bool.{false≢true}
 use Rattle.std.proofs.lemmas.List.{append_assoc}
 use Rattle.std.proofs.lemmas.List.Elements.{Contains-append_left}
 use Rattle.std.proofs.lemmas.Int.{ints}
-use Rattle.ep_tree.specs.Trees.{ExprTree, expr_at, number, named, neg, add, compare, TermTrees, no_terms, more_terms, StatementKindTree, find, such_that, StatementTree, ModelTree}
-use Rattle.ep_tree.specs.Values.{Assignment, at_least_zero, ascending, interval}
-use Rattle.ep_tree.specs.WellFormed.{UsesOnly, TermsUseOnly, KindUsesOnly, DeclaresBeforeUse, IsWellFormed, declared_by, declared_names}
-use Rattle.ep_tree.specs.Solutions.{Find, kind_finds, instance_of, Instance, Gives, Holds, IsSolution, product_of}
+use Rattle.ep_early.specs.Trees.{ExprTree, expr_at, number, named, neg, add, compare, TermTrees, no_terms, more_terms, StatementKindTree, find, such_that, StatementTree, ModelTree}
+use Rattle.ep_early.specs.Values.{Assignment, at_least_zero, ascending, interval}
+use Rattle.ep_early.specs.WellFormed.{UsesOnly, TermsUseOnly, KindUsesOnly, DeclaresBeforeUse, IsWellFormed, declared_by, declared_names}
+use Rattle.ep_early.specs.Solutions.{Find, kind_finds, instance_of, Instance, Gives, Holds, IsSolution, product_of}
 use Rattle.ep_driver.specs.declared.bounds.Bounds.{Bounds}
 use Rattle.ep_driver.specs.declared.clauses.Clause.{Clause}
 use Rattle.ep_driver.specs.Bounds.{size_of, combinations, AreWithin}

@@ -2,7 +2,7 @@
 use Rattle.std.proofs.Common.{◌≡◌, ℕ, pos, negsuc, List, [], ◌∷◌, None, codes, refl}
 use Rattle.std.specs.Fmt.{digits}
 use Rattle.ep_base.specs.Outside.{Held}
-use Rattle.ep_tree.specs.Solutions.{instance_of}
+use Rattle.ep_early.specs.Solutions.{instance_of}
 use Rattle.ep_driver.specs.declared.status.Status.TheVariants.{Usage, Device, Refuted}
 use Rattle.ep_driver.specs.Status.{code_of}
 use Rattle.ep_driver.specs.Command.{IsCommand, IsFileName}

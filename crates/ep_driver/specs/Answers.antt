@@ -1,8 +1,8 @@
 -- What a run may answer, and in which words.
 use Rattle.std.specs.Prelude.{ℕ, List, ◌++◌, codes}
 use Rattle.std.specs.List.{flat_map}
-use Rattle.ep_tree.specs.Values.{Assignment}
-use Rattle.ep_tree.specs.Solutions.{Instance, IsSolution}
+use Rattle.ep_early.specs.Values.{Assignment}
+use Rattle.ep_early.specs.Solutions.{Instance, IsSolution}
 use Rattle.ep_driver.specs.Texts.{letting_line}
 
 -- an answer: an assignment that is a solution, or that there is none

@@ -1,6 +1,6 @@
 -- Lists of numbers within bounds.
 use Rattle.std.specs.Prelude.{ℕ, ℤ, pos, ◌+ℤ◌, ◌-ℤ◌, ◌≤ℤ◌, ◌*◌, ◌/◌, ◌%◌, int_lt, if◌then◌else◌, List, [], ◌∷◌, map}
-use Rattle.ep_tree.specs.Values.{at_least_zero}
+use Rattle.ep_early.specs.Values.{at_least_zero}
 use Rattle.ep_driver.specs.declared.bounds.Bounds.{Bounds}
 
 -- how many numbers lie within the bounds

@@ -1,6 +1,6 @@
 -- Comparisons of sums, under a list of values.
 use Rattle.std.specs.Prelude.{ℕ, ◌<◌, ℤ, pos, ◌+ℤ◌, neg_ℤ, Bool, true, ◌&&◌, if◌then◌else◌, slice_index_or, List, [], ◌∷◌}
-use Rattle.ep_tree.specs.Values.{compares}
+use Rattle.ep_early.specs.Values.{compares}
 use Rattle.ep_driver.specs.declared.clauses.Operand.{Operand}
 use Rattle.ep_driver.specs.declared.clauses.Operand.TheVariants.{Number, Find}
 use Rattle.ep_driver.specs.declared.clauses.Summand.{Summand}

@@ -4,8 +4,8 @@ use Rattle.std.specs.List.{zip, AllZip}
 use Rattle.std.specs.Borrow.{Bor}
 use Rattle.std.specs.declared.alloc.Global.{Global}
 use Rattle.ep_driver.specs.Answers.{Answer, solution, no_solution}
-use Rattle.ep_tree.specs.Trees.{ExprTree, TermTrees}
-use Rattle.ep_tree.specs.Values.{Assignment, value_of, sum_of}
+use Rattle.ep_early.specs.Trees.{ExprTree, TermTrees}
+use Rattle.ep_early.specs.Values.{Assignment, value_of, sum_of}
 use Rattle.ep_driver.specs.declared.clauses.Operand.{Operand}
 use Rattle.ep_driver.specs.declared.clauses.Summand.{Summand}
 use Rattle.ep_driver.specs.declared.clauses.Clause.{Clause}

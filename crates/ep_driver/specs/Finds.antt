@@ -2,8 +2,8 @@
 use Rattle.std.specs.Prelude.{◌≡◌, ℕ, List, [], ◌∷◌, map, length}
 use Rattle.std.specs.Borrow.{Bor}
 use Rattle.ep_base.specs.declared.places.Place.{Place}
-use Rattle.ep_tree.specs.Values.{interval}
-use Rattle.ep_tree.specs.Solutions.{Find}
+use Rattle.ep_early.specs.Values.{interval}
+use Rattle.ep_early.specs.Solutions.{Find}
 use Rattle.ep_driver.specs.declared.bounds.Bounds.{Bounds}
 use Rattle.ep_driver.specs.declared.finds.Finds.{Finds}
 

@@ -1,9 +1,9 @@
 -- What the words and the held files show of the end of a run.
 use Rattle.std.specs.Prelude.{◌≡◌, ℕ, ◌<◌, ◌≤◌, List, Some, None, codes}
 use Rattle.ep_base.specs.Outside.{Held}
-use Rattle.ep_tree.specs.Trees.{ModelTree}
-use Rattle.ep_tree.specs.Early.{IsEarly}
-use Rattle.ep_tree.specs.Solutions.{instance_of, assignment_count}
+use Rattle.ep_early.specs.Trees.{ModelTree}
+use Rattle.ep_early.specs.Early.{IsEarly}
+use Rattle.ep_early.specs.Solutions.{instance_of, assignment_count}
 use Rattle.ep_driver.specs.declared.status.Status.{Status}
 use Rattle.ep_driver.specs.declared.status.Status.TheVariants.{Answered, Unknown, Usage, Text, Limit, Device, Memory, Refuted}
 use Rattle.ep_driver.specs.Command.{IsCommand}

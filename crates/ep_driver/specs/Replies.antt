@@ -1,9 +1,9 @@
 -- What is said to the words and to a text, before it is put out.
 use Rattle.std.specs.Prelude.{◌≡◌, ℕ, ◌≤◌, ◌⊎◌, List, Option, None, codes, IfSome, IsSomeAnd}
 use Rattle.ep_base.specs.Outside.{Held}
-use Rattle.ep_tree.specs.Trees.{ModelTree}
-use Rattle.ep_tree.specs.Early.{IsEarly}
-use Rattle.ep_tree.specs.Solutions.{instance_of, assignment_count}
+use Rattle.ep_early.specs.Trees.{ModelTree}
+use Rattle.ep_early.specs.Early.{IsEarly}
+use Rattle.ep_early.specs.Solutions.{instance_of, assignment_count}
 use Rattle.ep_driver.specs.declared.status.Status.{Status}
 use Rattle.ep_driver.specs.declared.status.Status.TheVariants.{Answered, Unknown, Usage, Text, Limit, Device, Memory, Refuted}
 use Rattle.ep_driver.specs.Command.{IsCommand}

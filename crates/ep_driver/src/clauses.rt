@@ -1,10 +1,10 @@
 //! Comparisons of sums over the numbers that the finds have at the moment.
 
 ghost use Rattle.std.specs.Prelude.{◌≡◌, ◌^◌, pos, neg_ℤ, ◌≤ℤ◌, length};
-ghost use Rattle.ep_tree.specs.Values.{compares};
+ghost use Rattle.ep_early.specs.Values.{compares};
 ghost use Rattle.ep_driver.specs.Clauses.{operand_value, summand_value, total, is_met, are_met, UsesBelow, SumUsesBelow, ClausesUseBelow};
 
-use ep_tree::CompareOp;
+use ep_base::CompareOp;
 
 /// What stands at one place of a sum: a number, or the value of the find with an index.
 #[derive(Clone, Copy)]

@@ -4,15 +4,15 @@ ghost use Rattle.std.specs.Prelude.{◌≡◌, ◌<◌, ℤ, pos, List, [], ◌�
 ghost use Rattle.std.specs.List.{flat_map, AllByRecursion};
 ghost use Rattle.std.specs.Str.{bytes_eq};
 ghost use Rattle.std.specs.Map.{lookup};
-ghost use Rattle.ep_tree.specs.Views.{expr_tree, term_trees, statement_tree, model_tree};
-ghost use Rattle.ep_tree.specs.EarlyForms.{IsOperand, AreOperands, IsSide, IsEarlyClause, IsEarlyStatement, HasEarlyForms};
-ghost use Rattle.ep_tree.specs.WellFormed.{UsesOnly, TermsUseOnly, KindUsesOnly};
-ghost use Rattle.ep_tree.specs.Solutions.{kind_clauses, instance_of};
+ghost use Rattle.ep_early.specs.Views.{expr_tree, term_trees, statement_tree, model_tree};
+ghost use Rattle.ep_early.specs.EarlyForms.{IsOperand, AreOperands, IsSide, IsEarlyClause, IsEarlyStatement, HasEarlyForms};
+ghost use Rattle.ep_early.specs.WellFormed.{UsesOnly, TermsUseOnly, KindUsesOnly};
+ghost use Rattle.ep_early.specs.Solutions.{kind_clauses, instance_of};
 ghost use Rattle.ep_driver.specs.Clauses.{UsesBelow, SumUsesBelow};
 ghost use Rattle.ep_driver.specs.Compiled.{texts_of, assignment_of, OperandMeans, SumMeans, ChainMeans, ClauseMeans, AreCompiled, AddsCompiled};
 
 use super::clauses::{Clause, Operand, Summand};
-use ep_tree::{Expr, Kind, Model, Statement, StatementKind};
+use ep_early::{Expr, Kind, Model, Statement, StatementKind};
 use indexmap::IndexSet;
 use std::alloc::{AllocError, Global};
 

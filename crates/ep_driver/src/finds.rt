@@ -2,18 +2,18 @@
 
 ghost use Rattle.std.specs.Prelude.{◌≡◌, ◌++◌, [], ◌∷◌, length, map, Some, IfOk, OnOk};
 ghost use Rattle.std.specs.List.{flat_map, AllByRecursion};
-ghost use Rattle.ep_tree.specs.Views.{end_tree, range_tree, range_trees, domain_tree, declared_tree, statement_tree, model_tree};
-ghost use Rattle.ep_tree.specs.Trees.{more_ranges, no_ranges};
-ghost use Rattle.ep_tree.specs.Values.{end_value, range_values, domain_values, interval};
-ghost use Rattle.ep_tree.specs.EarlyForms.{IsClosedEnd, IsOneRange, IsEarlyDomain, IsEarlyStatement, HasEarlyForms};
-ghost use Rattle.ep_tree.specs.Small.{IsSmallEnd, IsSmallRange, AreSmallRanges, IsSmallDomain, IsSmallKind, IsSmallModel};
-ghost use Rattle.ep_tree.specs.WellFormed.{AreDistinct, names_of, declared_by, declared_names};
-ghost use Rattle.ep_tree.specs.Solutions.{declared_finds, kind_finds, instance_of};
+ghost use Rattle.ep_early.specs.Views.{end_tree, range_tree, range_trees, domain_tree, declared_tree, statement_tree, model_tree};
+ghost use Rattle.ep_early.specs.Trees.{more_ranges, no_ranges};
+ghost use Rattle.ep_early.specs.Values.{end_value, range_values, domain_values, interval};
+ghost use Rattle.ep_early.specs.EarlyForms.{IsClosedEnd, IsOneRange, IsEarlyDomain, IsEarlyStatement, HasEarlyForms};
+ghost use Rattle.ep_early.specs.Small.{IsSmallEnd, IsSmallRange, AreSmallRanges, IsSmallDomain, IsSmallKind, IsSmallModel};
+ghost use Rattle.ep_early.specs.WellFormed.{AreDistinct, names_of, declared_by, declared_names};
+ghost use Rattle.ep_early.specs.Solutions.{declared_finds, kind_finds, instance_of};
 ghost use Rattle.ep_driver.specs.Finds.{find_names, finds_in, named_find, IsPaired};
 
 use super::bounds::Bounds;
 use ep_base::{Name, Place};
-use ep_tree::{Declared, Domain, DomainKind, Expr, Kind, Model, Range, Statement, StatementKind};
+use ep_early::{Declared, Domain, DomainKind, Expr, Kind, Model, Range, Statement, StatementKind};
 use indexmap::IndexSet;
 use std::alloc::{AllocError, Global};
 

@@ -1,11 +1,11 @@
 //! The answer of an early model, by trying its assignments.
 
 ghost use Rattle.std.specs.Prelude.{◌≡◌, ◌≤◌, length, IfOk, IfSome, IfNone};
-ghost use Rattle.ep_tree.specs.Views.{model_tree};
-ghost use Rattle.ep_tree.specs.EarlyForms.{HasEarlyForms};
-ghost use Rattle.ep_tree.specs.Small.{IsSmallModel};
-ghost use Rattle.ep_tree.specs.WellFormed.{IsWellFormed};
-ghost use Rattle.ep_tree.specs.Solutions.{instance_of, assignment_count};
+ghost use Rattle.ep_early.specs.Views.{model_tree};
+ghost use Rattle.ep_early.specs.EarlyForms.{HasEarlyForms};
+ghost use Rattle.ep_early.specs.Small.{IsSmallModel};
+ghost use Rattle.ep_early.specs.WellFormed.{IsWellFormed};
+ghost use Rattle.ep_early.specs.Solutions.{instance_of, assignment_count};
 ghost use Rattle.ep_driver.specs.Answers.{Answer, Answers, answer_text};
 ghost use Rattle.ep_driver.specs.Bounds.{combinations};
 ghost use Rattle.ep_driver.specs.Finds.{finds_in, IsPaired};
@@ -17,7 +17,7 @@ use super::compile::clauses_of_model;
 use super::finds::{Finds, finds_of_model};
 use super::search::first_solution;
 use super::texts::push_lettings;
-use ep_tree::Model;
+use ep_early::Model;
 use std::alloc::{AllocError, Global};
 
 /// As many assignments are tried at most.

@@ -2,8 +2,8 @@
 
 ghost use Rattle.std.specs.Prelude.{◌≡◌, ◌≢◌, ◌⊎◌, ◌≤◌, ℕ, List, IfSome, IsSomeAnd};
 ghost use Rattle.ep_base.specs.Outside.{Held, Rose, with_more};
-ghost use Rattle.ep_tree.specs.Trees.{ModelTree};
-ghost use Rattle.ep_tree.specs.Solutions.{instance_of};
+ghost use Rattle.ep_early.specs.Trees.{ModelTree};
+ghost use Rattle.ep_early.specs.Solutions.{instance_of};
 ghost use Rattle.ep_driver.specs.Command.{IsCommand};
 ghost use Rattle.ep_driver.specs.Texts.{device_line};
 ghost use Rattle.ep_driver.specs.Answers.{Answer, Answers, answer_text};

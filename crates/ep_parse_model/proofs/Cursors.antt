@@ -3,7 +3,7 @@ use Rattle.std.proofs.Common.{◌≡◌, ℕ, Bool, true, false, cond, List, [],
 use Rattle.ep_base.specs.declared.places.Place.{Place}
 use Rattle.ep_base.specs.declared.tokens.Token.{Token}
 use Rattle.ep_base.specs.Tokens.{token_text}
-use Rattle.ep_tree.specs.Lexemes.{What, Lexeme, lexeme_at, what_of, lexemes}
+use Rattle.ep_early.specs.Lexemes.{What, Lexeme, lexeme_at, what_of, lexemes}
 use Rattle.ep_parse_model.specs.Reading.{Read, ◌>>=◌, Took, is_word, is_symbol, number_of, name_of, word_from, symbol_from, number_from, name_from}
 
 -- what a token says

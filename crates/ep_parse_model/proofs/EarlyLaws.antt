@@ -9,10 +9,10 @@ use Rattle.ep_base.specs.declared.tokens.Token.{Token}
 use Rattle.ep_base.specs.declared.tokens.TokenKind.{TokenKind}
 use Rattle.ep_base.specs.declared.tokens.TokenKind.TheVariants.{Name, Number, Word, Symbol}
 use Rattle.ep_base.specs.Tokens.{TokenFault, tokens_of}
-use Rattle.ep_tree.specs.Lexemes.{Lexeme, lexemes}
-use Rattle.ep_tree.specs.Trees.{ModelTree}
-use Rattle.ep_tree.specs.Early.{IsShort, IsShortKind, IsEarly}
-use Rattle.ep_tree.specs.Small.{IsSmallModel}
+use Rattle.ep_early.specs.Lexemes.{Lexeme, lexemes}
+use Rattle.ep_early.specs.Trees.{ModelTree}
+use Rattle.ep_early.specs.Early.{IsShort, IsShortKind, IsEarly}
+use Rattle.ep_early.specs.Small.{IsSmallModel}
 use Rattle.ep_parse_model.specs.Tokens.{is_short_kind, is_short}
 use Rattle.ep_parse_model.specs.Reading.{Read, Fails, model_from}
 use Rattle.ep_parse_model.specs.Names.{none_known, check_statements}

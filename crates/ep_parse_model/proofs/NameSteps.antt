@@ -6,15 +6,15 @@ use Rattle.std.specs.HashSet.{HashSet, contains_by}
 use Rattle.std.proofs.Math.Seq.{drop-cons}
 use Rattle.std.proofs.Math.ListN.{drop_of_length-le}
 use Rattle.ep_base.specs.declared.places.Place.{Place}
-use Rattle.ep_tree.specs.declared.expressions.Expr.{Expr}
-use Rattle.ep_tree.specs.declared.statements.Declared.{Declared}
-use Rattle.ep_tree.specs.declared.statements.Statement.{Statement}
+use Rattle.ep_early.specs.declared.expressions.Expr.{Expr}
+use Rattle.ep_early.specs.declared.statements.Declared.{Declared}
+use Rattle.ep_early.specs.declared.statements.Statement.{Statement}
 use Rattle.std.specs.Global.{Vec}
-use Rattle.ep_tree.specs.declared.expressions.Kind.{Add}
-use Rattle.ep_tree.specs.Trees.{expr_at}
-use Rattle.ep_tree.proofs.Rows.{kind_tree-add}
-use Rattle.ep_tree.specs.Views.{kind_tree, expr_tree, term_trees, declared_tree, statement_tree, statement_kind_tree}
-use Rattle.ep_tree.specs.WellFormed.{names_of}
+use Rattle.ep_early.specs.declared.expressions.Kind.{Add}
+use Rattle.ep_early.specs.Trees.{expr_at}
+use Rattle.ep_early.proofs.Rows.{kind_tree-add}
+use Rattle.ep_early.specs.Views.{kind_tree, expr_tree, term_trees, declared_tree, statement_tree, statement_kind_tree}
+use Rattle.ep_early.specs.WellFormed.{names_of}
 use Rattle.ep_parse_model.specs.Names.{Known, known_in, adding, declare_all, declare_groups, check_kind, check_statements, uses_known, terms_use_known}
 
 -- the items that are left: the next one and the others

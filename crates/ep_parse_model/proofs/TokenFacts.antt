@@ -15,9 +15,9 @@ use Rattle.ep_base.specs.TokenTexts.{is_number, kind_of}
 use Rattle.ep_base.specs.Tokens.{tokens_of, token_text, LieInOrder}
 use Rattle.ep_base.proofs.TokenLaws.{IsTokenAt, token_of, tokens_lie_in_order}
 use Rattle.ep_base.proofs.TokenKinds.{text_of_name, text_of_number, name_is_ascii}
-use Rattle.ep_tree.specs.Lexemes.{What, a_name, a_number, a_word, a_symbol, Lexeme, lexeme_at, what_of, lexeme_of, lexemes}
-use Rattle.ep_tree.specs.Early.{IsShort, IsShortKind}
-use Rattle.ep_tree.specs.Small.{IsSmallNumber}
+use Rattle.ep_early.specs.Lexemes.{What, a_name, a_number, a_word, a_symbol, Lexeme, lexeme_at, what_of, lexeme_of, lexemes}
+use Rattle.ep_early.specs.Early.{IsShort, IsShortKind}
+use Rattle.ep_early.specs.Small.{IsSmallNumber}
 use Rattle.ep_parse_model.specs.Tokens.{LiesIn, LieIn}
 
 -- what holds at each index holds of each token

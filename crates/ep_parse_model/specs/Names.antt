@@ -3,8 +3,8 @@ use Rattle.std.specs.Prelude.{ℕ, Bool, true, false, ◌&&◌, ◌||◌, List, 
 use Rattle.std.specs.List.{flat_map, list_all}
 use Rattle.std.specs.HashSet.{HashSet, contains_by}
 use Rattle.std.specs.Borrow.{Bor}
-use Rattle.ep_tree.specs.Trees.{ExprTree, expr_at, KindTree, number, named, neg, add, compare, TermTrees, no_terms, more_terms, DeclaredTree, StatementKindTree, find, such_that, StatementTree, ModelTree}
-use Rattle.ep_tree.specs.WellFormed.{names_of}
+use Rattle.ep_early.specs.Trees.{ExprTree, expr_at, KindTree, number, named, neg, add, compare, TermTrees, no_terms, more_terms, DeclaredTree, StatementKindTree, find, such_that, StatementTree, ModelTree}
+use Rattle.ep_early.specs.WellFormed.{names_of}
 use Rattle.ep_parse_model.specs.Reading.{◌>>=◌}
 
 -- which names are known

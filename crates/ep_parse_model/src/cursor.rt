@@ -3,7 +3,7 @@
 ghost use Rattle.std.specs.Prelude.{◌≡◌, ℕ, List};
 ghost use Rattle.std.specs.Option.{option_copied};
 ghost use Rattle.ep_base.specs.Tokens.{token_text};
-ghost use Rattle.ep_tree.specs.Lexemes.{what_of, lexemes};
+ghost use Rattle.ep_early.specs.Lexemes.{what_of, lexemes};
 ghost use Rattle.ep_parse_model.specs.Tokens.{LiesIn, LieIn};
 ghost use Rattle.ep_parse_model.specs.Reading.{Took, is_empty, is_word, is_symbol, is_operand, is_at, begins_operand, number_of, name_of, word_from, symbol_from, number_from, name_from};
 
@@ -19,7 +19,7 @@ pub(crate) struct Cursor<'a> {
 
 impl<'a> Model for Cursor<'a> {
     ghost use Rattle.std.specs.Prelude.{List};
-    ghost use Rattle.ep_tree.specs.Lexemes.{Lexeme, lexemes};
+    ghost use Rattle.ep_early.specs.Lexemes.{Lexeme, lexemes};
     ghost use Rattle.ep_parse_model.specs.Tokens.{LieIn};
 
     ghost Value = { List Lexeme };

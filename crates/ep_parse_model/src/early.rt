@@ -4,11 +4,11 @@ ghost use Rattle.std.specs.Prelude.{◌≡◌, ◌<◌, ℕ, List, Ok, IfOk, IsE
 ghost use Rattle.std.specs.List.{AllByRecursion, list_all};
 ghost use Rattle.ep_base.specs.declared.tokens.Token.{Token};
 ghost use Rattle.ep_base.specs.Tokens.{tokens_of};
-ghost use Rattle.ep_tree.specs.Lexemes.{lexemes};
-ghost use Rattle.ep_tree.specs.Trees.{ModelTree};
-ghost use Rattle.ep_tree.specs.Views.{model_tree};
-ghost use Rattle.ep_tree.specs.Early.{IsShort, IsEarly};
-ghost use Rattle.ep_tree.specs.Small.{IsSmallModel};
+ghost use Rattle.ep_early.specs.Lexemes.{lexemes};
+ghost use Rattle.ep_early.specs.Trees.{ModelTree};
+ghost use Rattle.ep_early.specs.Views.{model_tree};
+ghost use Rattle.ep_early.specs.Early.{IsShort, IsEarly};
+ghost use Rattle.ep_early.specs.Small.{IsSmallModel};
 ghost use Rattle.ep_parse_model.specs.Tokens.{LieIn, is_short};
 ghost use Rattle.ep_parse_model.specs.Reading.{IsReadFrom, model_from};
 
@@ -17,8 +17,8 @@ use crate::errors::EarlyError;
 use crate::names::names_are_declared;
 use crate::statements::model;
 use ep_base::{Token, TokenKind};
+use ep_early::Model;
 use ep_lexer::{LexError, lex};
-use ep_tree::Model;
 use std::alloc::Global;
 
 /// The bytes that an early text may have.

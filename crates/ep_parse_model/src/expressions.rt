@@ -1,13 +1,13 @@
 //! Reads the expressions and domains of early models.
 
 ghost use Rattle.std.specs.Prelude.{◌≡◌, map};
-ghost use Rattle.ep_tree.specs.Views.{expr_tree, domain_tree};
+ghost use Rattle.ep_early.specs.Views.{expr_tree, domain_tree};
 ghost use Rattle.ep_parse_model.specs.Reading.{Gives, pass, begins_term, part_tree, parts_from, name_from, word_from, symbol_from, number_expr_from, operand_from, sign_from, term_from, side_from, comparison_from, clause_from, bound_from, domain_from};
 
 use crate::cursor::Cursor;
 use crate::errors::EarlyError;
 use ep_base::{Name, Place};
-use ep_tree::{CompareOp, Domain, DomainKind, Expr, Kind, Range};
+use ep_early::{CompareOp, Domain, DomainKind, Expr, Kind, Range};
 use std::alloc::Global;
 
 /// A reserved word that has to be next.

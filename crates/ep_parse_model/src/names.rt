@@ -2,11 +2,11 @@
 
 ghost use Rattle.std.specs.Prelude.{◌≡◌, IfOk, if◌then◌else◌, Some, None, is_some, map};
 ghost use Rattle.std.specs.List.{list_all};
-ghost use Rattle.ep_tree.specs.Views.{expr_tree, term_trees, declared_tree, statement_kind_tree, statement_tree};
+ghost use Rattle.ep_early.specs.Views.{expr_tree, term_trees, declared_tree, statement_kind_tree, statement_tree};
 ghost use Rattle.ep_parse_model.specs.Names.{known_in, none_known, declare_all, declare_groups, check_kind, check_statements, uses_known, terms_use_known};
 
 use ep_base::{Name, Place};
-use ep_tree::{Declared, Expr, Kind, Statement, StatementKind};
+use ep_early::{Declared, Expr, Kind, Statement, StatementKind};
 use std::alloc::{AllocError, Global};
 use std::collections::HashSet;
 

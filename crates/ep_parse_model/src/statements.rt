@@ -1,14 +1,14 @@
 //! Reads the statements of early models.
 
 ghost use Rattle.std.specs.Prelude.{◌≡◌, map};
-ghost use Rattle.ep_tree.specs.Views.{expr_tree, declared_tree, statement_tree, model_tree};
+ghost use Rattle.ep_early.specs.Views.{expr_tree, declared_tree, statement_tree, model_tree};
 ghost use Rattle.ep_parse_model.specs.Reading.{Gives, list_from, name_from, after_comma, after_clause, declared_from, clause_from, clauses_from, find_from, such_that_from, statement_from, at_more, statements_from, version_from, first_line_from, model_from};
 
 use crate::cursor::Cursor;
 use crate::errors::EarlyError;
 use crate::expressions::{clause, domain, expect_symbol, expect_word, passes, placed_name};
 use ep_base::{Name, Place};
-use ep_tree::{Declared, Expr, Model, Statement, StatementKind};
+use ep_early::{Declared, Expr, Model, Statement, StatementKind};
 use std::alloc::Global;
 
 /// Names with `,` between any two.

@@ -1,5 +1,5 @@
 use super::*;
-use ep_tree::{Model, StatementKind};
+use ep_early::{Model, StatementKind};
 use std::alloc::{AllocError, Global};
 use std::test::Fail;
 

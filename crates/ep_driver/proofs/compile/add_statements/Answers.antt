@@ -1,12 +1,12 @@
 use Rattle.std.proofs.Common.{◌∙◌, List, ap, subst, arith}
 use Rattle.std.specs.List.{flat_map}
 use Rattle.std.proofs.lemmas.List.{take_all}
-use Rattle.ep_tree.specs.declared.statements.Statement.{Statement}
-use Rattle.ep_tree.specs.Trees.{ExprTree}
-use Rattle.ep_tree.specs.EarlyForms.{IsEarlyStatement}
-use Rattle.ep_tree.specs.WellFormed.{KindUsesOnly}
-use Rattle.ep_tree.specs.Views.{statement_tree}
-use Rattle.ep_tree.specs.Solutions.{kind_clauses}
+use Rattle.ep_early.specs.declared.statements.Statement.{Statement}
+use Rattle.ep_early.specs.Trees.{ExprTree}
+use Rattle.ep_early.specs.EarlyForms.{IsEarlyStatement}
+use Rattle.ep_early.specs.WellFormed.{KindUsesOnly}
+use Rattle.ep_early.specs.Views.{statement_tree}
+use Rattle.ep_early.specs.Solutions.{kind_clauses}
 use Rattle.ep_driver.specs.Compiled.{texts_of, AddsCompiled}
 use Rattle.ep_driver.proofs.FindSteps.{all-at, flat_map-map}
 use Rattle.ep_driver.proofs.compile.add_statements.Goals as goal

@@ -1,7 +1,7 @@
 use Rattle.std.proofs.Common.{take}
 use Rattle.std.specs.List.{flat_map}
-use Rattle.ep_tree.specs.Views.{statement_tree}
-use Rattle.ep_tree.specs.Solutions.{kind_clauses}
+use Rattle.ep_early.specs.Views.{statement_tree}
+use Rattle.ep_early.specs.Solutions.{kind_clauses}
 use Rattle.ep_driver.specs.Compiled.{AddsCompiled}
 use Rattle.ep_driver.proofs.compile.add_statements.Given as goal
 

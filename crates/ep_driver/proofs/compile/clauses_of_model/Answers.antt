@@ -1,8 +1,8 @@
 use Rattle.std.proofs.Common.{[], List, subst, sym, map}
 use Rattle.std.specs.List.{flat_map}
-use Rattle.ep_tree.specs.declared.statements.Statement.{Statement}
-use Rattle.ep_tree.specs.Views.{statement_tree}
-use Rattle.ep_tree.specs.Solutions.{kind_clauses}
+use Rattle.ep_early.specs.declared.statements.Statement.{Statement}
+use Rattle.ep_early.specs.Views.{statement_tree}
+use Rattle.ep_early.specs.Solutions.{kind_clauses}
 use Rattle.ep_driver.specs.declared.clauses.Clause.{Clause}
 use Rattle.ep_driver.specs.Compiled.{AreCompiled}
 use Rattle.ep_driver.proofs.compile.clauses_of_model.Goals as goal

@@ -2,8 +2,8 @@ use Rattle.std.proofs.Common.{◌≡◌, ◌∙◌, ◌++◌, ◌∷◌, [], Lis
 use Rattle.ep_driver.specs.Clauses.{SumUsesBelow, total}
 use Rattle.ep_driver.specs.declared.clauses.Summand.{Summand}
 use Rattle.ep_driver.specs.Compiled.{texts_of, assignment_of}
-use Rattle.ep_tree.specs.Values.{sum_of}
-use Rattle.ep_tree.specs.Views.{term_trees}
+use Rattle.ep_early.specs.Values.{sum_of}
+use Rattle.ep_early.specs.Views.{term_trees}
 use Rattle.ep_driver.proofs.CompileSteps.{uses-push, early-next, declared-next, chain-next}
 use Rattle.ep_driver.proofs.compile.sum_of_parts.Goals as goal
 

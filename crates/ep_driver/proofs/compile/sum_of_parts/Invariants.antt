@@ -1,8 +1,8 @@
 use Rattle.std.proofs.Common.{◌≡◌, ℤ, pos, List, length, drop, Some}
-use Rattle.ep_tree.specs.Values.{sum_of}
-use Rattle.ep_tree.specs.Views.{term_trees}
-use Rattle.ep_tree.specs.EarlyForms.{AreOperands}
-use Rattle.ep_tree.specs.WellFormed.{TermsUseOnly}
+use Rattle.ep_early.specs.Values.{sum_of}
+use Rattle.ep_early.specs.Views.{term_trees}
+use Rattle.ep_early.specs.EarlyForms.{AreOperands}
+use Rattle.ep_early.specs.WellFormed.{TermsUseOnly}
 use Rattle.ep_driver.specs.Clauses.{total, SumUsesBelow}
 use Rattle.ep_driver.specs.Compiled.{texts_of, assignment_of}
 use Rattle.ep_driver.proofs.compile.sum_of_parts.Given as goal

@@ -1,8 +1,8 @@
 use Rattle.std.proofs.Common.{◌≡◌, ◌∙◌, sym, ap, subst, IfOk}
-use Rattle.ep_tree.specs.Trees.{KindTree, expr_at, add}
-use Rattle.ep_tree.specs.Views.{kind_tree, term_trees}
-use Rattle.ep_tree.specs.EarlyForms.{IsSide}
-use Rattle.ep_tree.specs.WellFormed.{UsesOnly}
+use Rattle.ep_early.specs.Trees.{KindTree, expr_at, add}
+use Rattle.ep_early.specs.Views.{kind_tree, term_trees}
+use Rattle.ep_early.specs.EarlyForms.{IsSide}
+use Rattle.ep_early.specs.WellFormed.{UsesOnly}
 use Rattle.ep_driver.specs.Compiled.{texts_of, SumMeans}
 use Rattle.ep_driver.proofs.CompileSteps.{kind_tree-add}
 use Rattle.ep_driver.proofs.compile.sum_of_side.Goals as goal

@@ -1,12 +1,12 @@
 use Rattle.std.proofs.Common.{◌∙◌, ◌++◌, List, ℕ, sym, ap, subst, arith}
 use Rattle.std.specs.List.{flat_map}
 use Rattle.std.proofs.lemmas.List.{take_all}
-use Rattle.ep_tree.specs.WellFormed.{AreDistinct, names_of}
-use Rattle.ep_tree.specs.EarlyForms.{IsEarlyDomain}
-use Rattle.ep_tree.specs.Small.{IsSmallDomain}
-use Rattle.ep_tree.specs.Views.{declared_tree}
-use Rattle.ep_tree.specs.Solutions.{Find, declared_finds}
-use Rattle.ep_tree.specs.declared.statements.Declared.{Declared}
+use Rattle.ep_early.specs.WellFormed.{AreDistinct, names_of}
+use Rattle.ep_early.specs.EarlyForms.{IsEarlyDomain}
+use Rattle.ep_early.specs.Small.{IsSmallDomain}
+use Rattle.ep_early.specs.Views.{declared_tree}
+use Rattle.ep_early.specs.Solutions.{Find, declared_finds}
+use Rattle.ep_early.specs.declared.statements.Declared.{Declared}
 use Rattle.ep_driver.specs.Finds.{find_names, finds_in}
 use Rattle.ep_driver.proofs.FindSteps.{all-at, step-distinct, flat_map-map, declared-names}
 use Rattle.ep_driver.proofs.finds.add_declarations.Goals as goal

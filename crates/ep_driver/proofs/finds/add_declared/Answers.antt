@@ -1,7 +1,7 @@
 use Rattle.std.proofs.Common.{◌≡◌, ◌∙◌, ◌++◌, [], ap, unwrap_or}
 use Rattle.std.specs.List.{flat_map}
-use Rattle.ep_tree.specs.Values.{domain_values, interval}
-use Rattle.ep_tree.specs.Views.{domain_tree}
+use Rattle.ep_early.specs.Values.{domain_values, interval}
+use Rattle.ep_early.specs.Views.{domain_tree}
 use Rattle.ep_driver.specs.Finds.{finds_in, named_find}
 use Rattle.ep_driver.proofs.FindSteps.{named-all}
 use Rattle.ep_driver.proofs.finds.add_declared.Goals as goal

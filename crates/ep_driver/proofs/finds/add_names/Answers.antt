@@ -1,6 +1,6 @@
 use Rattle.std.proofs.Common.{◌++◌, ◌∷◌, [], ℕ, List, refl, sym, subst}
 use Rattle.ep_base.specs.declared.places.Place.{Place}
-use Rattle.ep_tree.specs.WellFormed.{AreDistinct}
+use Rattle.ep_early.specs.WellFormed.{AreDistinct}
 use Rattle.ep_driver.specs.Finds.{find_names, finds_in, named_find}
 use Rattle.ep_driver.proofs.FindSteps.{step-distinct, named-names}
 use Rattle.ep_driver.proofs.finds.add_names.Goals as goal

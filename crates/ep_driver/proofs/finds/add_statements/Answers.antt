@@ -1,12 +1,12 @@
 use Rattle.std.proofs.Common.{◌∙◌, ◌++◌, List, ℕ, sym, ap, subst, arith}
 use Rattle.std.specs.List.{flat_map}
 use Rattle.std.proofs.lemmas.List.{take_all}
-use Rattle.ep_tree.specs.WellFormed.{AreDistinct, declared_by}
-use Rattle.ep_tree.specs.EarlyForms.{IsEarlyKind}
-use Rattle.ep_tree.specs.Small.{IsSmallKind}
-use Rattle.ep_tree.specs.Views.{statement_tree}
-use Rattle.ep_tree.specs.Solutions.{Find, kind_finds}
-use Rattle.ep_tree.specs.declared.statements.Statement.{Statement}
+use Rattle.ep_early.specs.WellFormed.{AreDistinct, declared_by}
+use Rattle.ep_early.specs.EarlyForms.{IsEarlyKind}
+use Rattle.ep_early.specs.Small.{IsSmallKind}
+use Rattle.ep_early.specs.Views.{statement_tree}
+use Rattle.ep_early.specs.Solutions.{Find, kind_finds}
+use Rattle.ep_early.specs.declared.statements.Statement.{Statement}
 use Rattle.ep_driver.specs.Finds.{find_names, finds_in}
 use Rattle.ep_driver.proofs.FindSteps.{all-at, step-distinct, flat_map-map, kind-names}
 use Rattle.ep_driver.proofs.finds.add_statements.Goals as goal

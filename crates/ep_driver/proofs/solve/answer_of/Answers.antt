@@ -1,6 +1,6 @@
 use Rattle.std.proofs.Common.{◌≡◌, ◌∙◌, sym, ap, map, length, arith}
-use Rattle.ep_tree.specs.Views.{model_tree}
-use Rattle.ep_tree.specs.Solutions.{instance_of, assignment_count, product_of}
+use Rattle.ep_early.specs.Views.{model_tree}
+use Rattle.ep_early.specs.Solutions.{instance_of, assignment_count, product_of}
 use Rattle.ep_driver.specs.Bounds.{combinations}
 use Rattle.ep_driver.proofs.Solving.{count-finds_of}
 use Rattle.ep_driver.proofs.solve.answer_of.Goals as goal

@@ -1,6 +1,6 @@
 use Rattle.std.proofs.Common.{◌≡◌, ◌∙◌, ℕ, List, length, sym, ap, subst}
-use Rattle.ep_tree.specs.Views.{model_tree}
-use Rattle.ep_tree.specs.Solutions.{instance_of}
+use Rattle.ep_early.specs.Views.{model_tree}
+use Rattle.ep_early.specs.Solutions.{instance_of}
 use Rattle.ep_driver.specs.declared.clauses.Clause.{Clause}
 use Rattle.ep_driver.specs.Finds.{finds_of}
 use Rattle.ep_driver.specs.Compiled.{AreCompiled}

@@ -1,7 +1,7 @@
 use Rattle.std.proofs.Common.{◌≡◌, Bool, true, false, ◌++◌, List, [], ◌∷◌, map, refl, sym, ◌∙◌}
 use Rattle.std.proofs.lemmas.List.{map_push}
 use Rattle.std.proofs.lemmas.Result.{err_from_is_err_and}
-use Rattle.ep_tree.specs.Lexemes.{Lexeme}
+use Rattle.ep_early.specs.Lexemes.{Lexeme}
 use Rattle.ep_parse_model.specs.Reading.{part_tree}
 use Rattle.ep_parse_model.specs.Reading.{GoesOn, term_from, at_sign, begins_term}
 use Rattle.ep_parse_model.proofs.Lists.{goes, ends, fails, smaller}

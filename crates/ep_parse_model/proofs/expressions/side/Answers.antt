@@ -1,12 +1,12 @@
 use Rattle.std.proofs.Common.{◌≡◌, Bool, List, [], ◌∷◌, map, refl, sym, ap, ◌∙◌, true, Some}
 use Rattle.std.specs.Global.{Vec}
-use Rattle.ep_tree.specs.declared.expressions.Expr.{Expr}
-use Rattle.ep_tree.specs.declared.expressions.Kind.{Add}
+use Rattle.ep_early.specs.declared.expressions.Expr.{Expr}
+use Rattle.ep_early.specs.declared.expressions.Kind.{Add}
 use Rattle.ep_base.specs.declared.places.Place.{Place}
-use Rattle.ep_tree.specs.Lexemes.{Lexeme}
-use Rattle.ep_tree.specs.Trees.{ExprTree, expr_at, add, more_terms}
-use Rattle.ep_tree.specs.Views.{expr_tree, kind_tree, term_trees}
-use Rattle.ep_tree.proofs.Rows.{kind_tree-add}
+use Rattle.ep_early.specs.Lexemes.{Lexeme}
+use Rattle.ep_early.specs.Trees.{ExprTree, expr_at, add, more_terms}
+use Rattle.ep_early.specs.Views.{expr_tree, kind_tree, term_trees}
+use Rattle.ep_early.proofs.Rows.{kind_tree-add}
 use Rattle.ep_parse_model.specs.Reading.{Read, ◌>>=◌, begins_term, part_tree, terms_of, expr_place, operand_from, parts_from, side_from}
 use Rattle.ep_parse_model.proofs.expressions.side.Goals as goal
 

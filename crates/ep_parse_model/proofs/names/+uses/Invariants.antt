@@ -1,6 +1,6 @@
 -- Looking at the parts that are left is looking at all, where those before use declared names.
 use Rattle.std.proofs.Common.{◌≡◌, drop}
-use Rattle.ep_tree.specs.Views.{term_trees}
+use Rattle.ep_early.specs.Views.{term_trees}
 use Rattle.ep_parse_model.specs.Names.{known_in, terms_use_known}
 use Rattle.ep_parse_model.proofs.names.+uses.Given as goal
 

@@ -3,7 +3,7 @@ use Rattle.std.specs.Prelude.{◌&&◌}
 use Rattle.std.specs.List.{list_all}
 use Rattle.std.proofs.lemmas.Iterator.{YieldsList-from_slice}
 use Rattle.std.proofs.lemmas.Iterator.Search.{all_from_yields_List}
-use Rattle.ep_tree.specs.Views.{expr_tree}
+use Rattle.ep_early.specs.Views.{expr_tree}
 use Rattle.ep_parse_model.specs.Names.{known_in, uses_known}
 use Rattle.ep_parse_model.proofs.names.clauses_use_declared.Goals as goal
 

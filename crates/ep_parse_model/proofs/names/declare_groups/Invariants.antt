@@ -1,6 +1,6 @@
 -- Declaring the groups that are left, after those that were declared, is declaring all.
 use Rattle.std.proofs.Common.{◌≡◌, map, drop}
-use Rattle.ep_tree.specs.Views.{declared_tree}
+use Rattle.ep_early.specs.Views.{declared_tree}
 use Rattle.ep_parse_model.specs.Names.{known_in, declare_groups}
 use Rattle.ep_parse_model.proofs.names.declare_groups.Given as goal
 

@@ -1,6 +1,6 @@
 -- Checking the statements that are left, after those that were checked, is checking all.
 use Rattle.std.proofs.Common.{◌≡◌, map, drop}
-use Rattle.ep_tree.specs.Views.{statement_tree}
+use Rattle.ep_early.specs.Views.{statement_tree}
 use Rattle.ep_parse_model.specs.Names.{known_in, none_known, check_statements}
 use Rattle.ep_parse_model.proofs.names.names_are_declared.Given as goal
 

@@ -1,7 +1,7 @@
 use Rattle.std.proofs.Common.{◌≡◌, true, ◌++◌, [], ◌∷◌, map}
 use Rattle.std.proofs.lemmas.List.{map_push}
 use Rattle.std.proofs.lemmas.Result.{err_from_is_err_and}
-use Rattle.ep_tree.specs.Views.{declared_tree}
+use Rattle.ep_early.specs.Views.{declared_tree}
 use Rattle.ep_parse_model.specs.Reading.{declared_from, after_comma}
 use Rattle.ep_parse_model.proofs.Lists.{goes, ends, fails, smaller}
 use Rattle.ep_parse_model.proofs.SoundStatements.{declarations-shorten}

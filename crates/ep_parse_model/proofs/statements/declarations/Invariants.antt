@@ -1,6 +1,6 @@
 -- What was read so far, and what is still read, are all that is read.
 use Rattle.std.proofs.Common.{◌≡◌, map, length}
-use Rattle.ep_tree.specs.Views.{declared_tree}
+use Rattle.ep_early.specs.Views.{declared_tree}
 use Rattle.ep_parse_model.specs.Reading.{continued, list_from, declared_from, after_comma}
 use Rattle.ep_parse_model.proofs.statements.declarations.Given as goal
 

@@ -1,6 +1,6 @@
 -- What was read so far, and what is still read, are all that is read.
 use Rattle.std.proofs.Common.{◌≡◌, map, length}
-use Rattle.ep_tree.specs.Views.{expr_tree}
+use Rattle.ep_early.specs.Views.{expr_tree}
 use Rattle.ep_parse_model.specs.Reading.{continued, list_from, clause_from, after_clause}
 use Rattle.ep_parse_model.proofs.statements.some_clauses.Given as goal
 

@@ -1,6 +1,6 @@
 -- What was read so far, and what is still read, are all that is read.
 use Rattle.std.proofs.Common.{◌≡◌, map, length}
-use Rattle.ep_tree.specs.Views.{statement_tree}
+use Rattle.ep_early.specs.Views.{statement_tree}
 use Rattle.ep_parse_model.specs.Reading.{continued, list_from, statement_from, at_more}
 use Rattle.ep_parse_model.proofs.statements.some_statements.Given as goal
 

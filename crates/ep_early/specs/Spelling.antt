@@ -4,10 +4,10 @@
 -- from left to right, and nothing looks ahead. The place of a node is that of its first token.
 use Rattle.std.specs.Prelude.{◌≡◌, ℕ, pos, ◌≤◌, Bool, true, false, ◌⊎◌, List, [], ◌∷◌, ◌++◌, map, codes}
 use Rattle.ep_base.specs.declared.places.Place.{Place}
-use Rattle.ep_tree.specs.declared.expressions.CompareOp.{CompareOp}
-use Rattle.ep_tree.specs.declared.expressions.CompareOp.TheVariants.{Equal, NotEqual, Less, AtMost, Greater, AtLeast}
-use Rattle.ep_tree.specs.Lexemes.{What, a_name, a_number, a_word, a_symbol, Lexeme, lexeme_at, place_of, said_by}
-use Rattle.ep_tree.specs.Trees.{ExprTree, expr_at, number, named, neg, add, compare, TermTrees, no_terms, more_terms, DomainTree, domain_at, ranges, RangeTrees, no_ranges, more_ranges, RangeTree, span, EndTree, open_end, end_is, DeclaredTree, StatementKindTree, find, such_that, StatementTree, ModelTree}
+use Rattle.ep_base.specs.declared.operators.CompareOp.{CompareOp}
+use Rattle.ep_base.specs.declared.operators.CompareOp.TheVariants.{Equal, NotEqual, Less, AtMost, Greater, AtLeast}
+use Rattle.ep_early.specs.Lexemes.{What, a_name, a_number, a_word, a_symbol, Lexeme, lexeme_at, place_of, said_by}
+use Rattle.ep_early.specs.Trees.{ExprTree, expr_at, number, named, neg, add, compare, TermTrees, no_terms, more_terms, DomainTree, domain_at, ranges, RangeTrees, no_ranges, more_ranges, RangeTree, span, EndTree, open_end, end_is, DeclaredTree, StatementKindTree, find, such_that, StatementTree, ModelTree}
 
 -- Binding, from the tightest: where a level is wanted, what binds tighter may stand too.
 abbrev pub unary_level : ℕ

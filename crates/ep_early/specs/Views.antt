@@ -1,18 +1,18 @@
 -- The code's trees, read as plain ones.
 use Rattle.std.specs.Prelude.{Bool, List, [], ◌∷◌, map, Option, Some, None}
-use Rattle.ep_tree.specs.declared.expressions.Expr.{Expr}
-use Rattle.ep_tree.specs.declared.expressions.Kind.{Kind, Number, Named, Neg', Add', Compare', Row_of-Kind-Add-0-2, end_of-Kind-Add-0-2, more_of-Kind-Add-0-2}
-use Rattle.ep_tree.specs.declared.domains.Range.{Range}
-use Rattle.ep_tree.specs.declared.domains.Range.TheVariants.{Span}
-use Rattle.ep_tree.specs.declared.domains.DomainKind.{DomainKind}
-use Rattle.ep_tree.specs.declared.domains.DomainKind.TheVariants.{Ranges}
-use Rattle.ep_tree.specs.declared.domains.Domain.{Domain}
-use Rattle.ep_tree.specs.declared.statements.Declared.{Declared}
-use Rattle.ep_tree.specs.declared.statements.StatementKind.{StatementKind}
-use Rattle.ep_tree.specs.declared.statements.StatementKind.TheVariants.{Find, SuchThat}
-use Rattle.ep_tree.specs.declared.statements.Statement.{Statement}
-use Rattle.ep_tree.specs.declared.statements.Model.{Model}
-use Rattle.ep_tree.specs.Trees.{ExprTree, expr_at, KindTree, number, named, neg, add, compare, TermTrees, no_terms, more_terms, DomainTree, domain_at, DomainKindTree, ranges, RangeTrees, no_ranges, more_ranges, RangeTree, span, EndTree, open_end, end_is, DeclaredTree, StatementKindTree, find, such_that, StatementTree, ModelTree}
+use Rattle.ep_early.specs.declared.expressions.Expr.{Expr}
+use Rattle.ep_early.specs.declared.expressions.Kind.{Kind, Number, Named, Neg', Add', Compare', Row_of-Kind-Add-0-2, end_of-Kind-Add-0-2, more_of-Kind-Add-0-2}
+use Rattle.ep_early.specs.declared.domains.Range.{Range}
+use Rattle.ep_early.specs.declared.domains.Range.TheVariants.{Span}
+use Rattle.ep_early.specs.declared.domains.DomainKind.{DomainKind}
+use Rattle.ep_early.specs.declared.domains.DomainKind.TheVariants.{Ranges}
+use Rattle.ep_early.specs.declared.domains.Domain.{Domain}
+use Rattle.ep_early.specs.declared.statements.Declared.{Declared}
+use Rattle.ep_early.specs.declared.statements.StatementKind.{StatementKind}
+use Rattle.ep_early.specs.declared.statements.StatementKind.TheVariants.{Find, SuchThat}
+use Rattle.ep_early.specs.declared.statements.Statement.{Statement}
+use Rattle.ep_early.specs.declared.statements.Model.{Model}
+use Rattle.ep_early.specs.Trees.{ExprTree, expr_at, KindTree, number, named, neg, add, compare, TermTrees, no_terms, more_terms, DomainTree, domain_at, DomainKindTree, ranges, RangeTrees, no_ranges, more_ranges, RangeTree, span, EndTree, open_end, end_is, DeclaredTree, StatementKindTree, find, such_that, StatementTree, ModelTree}
 
 abbrev mutual
   pub kind_tree : Kind → KindTree

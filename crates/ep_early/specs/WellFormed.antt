@@ -7,7 +7,7 @@
 -- place of these forms where a decision variable may not stand. Each range has both of its ends.
 use Rattle.std.specs.Prelude.{◌≢◌, ℕ, List, [], ◌∷◌, ◌++◌, map, AllPairs, Contains}
 use Rattle.std.specs.List.{flat_map, AllByRecursion}
-use Rattle.ep_tree.specs.Trees.{ExprTree, expr_at, number, named, neg, add, compare, TermTrees, no_terms, more_terms, DeclaredTree, StatementKindTree, find, such_that, StatementTree, ModelTree}
+use Rattle.ep_early.specs.Trees.{ExprTree, expr_at, number, named, neg, add, compare, TermTrees, no_terms, more_terms, DeclaredTree, StatementKindTree, find, such_that, StatementTree, ModelTree}
 
 -- the names of a declaration
 abbrev pub names_of : DeclaredTree → List (List ℕ)

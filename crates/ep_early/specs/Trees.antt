@@ -4,7 +4,7 @@
 -- code's tree lies in memory: two equal trees are equal here. A list inside the recursion is a type of its own.
 use Rattle.std.specs.Prelude.{ℕ, ℤ, Bool, List}
 use Rattle.ep_base.specs.declared.places.Place.{Place}
-use Rattle.ep_tree.specs.declared.expressions.CompareOp.{CompareOp}
+use Rattle.ep_base.specs.declared.operators.CompareOp.{CompareOp}
 
 mutual
   -- an expression, with the place of its first token

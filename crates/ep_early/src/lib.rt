@@ -9,5 +9,5 @@ mod expressions;
 mod statements;
 
 pub use domains::{Domain, DomainKind, Range};
-pub use expressions::{CompareOp, Expr, Kind};
+pub use expressions::{Expr, Kind};
 pub use statements::{Declared, Model, Statement, StatementKind};

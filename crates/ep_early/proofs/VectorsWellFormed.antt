@@ -3,11 +3,11 @@ use Rattle.std.specs.Prelude.{◌≡◌, ℕ, zero, suc, ◌<◌, pos, List, [],
 use Rattle.std.proofs.Common.{refl, ap, lit<, lit≤, arith}
 use Rattle.std.proofs.lemmas.Bool.{false≢true}
 use Rattle.ep_base.specs.declared.places.Place.{Place}
-use Rattle.ep_tree.specs.declared.expressions.CompareOp.TheVariants.{Equal}
-use Rattle.ep_tree.specs.Trees.{ExprTree, expr_at, number, named, compare, DomainTree, domain_at, ranges, no_ranges, more_ranges, span, end_is, find, such_that, StatementTree, ModelTree}
-use Rattle.ep_tree.specs.WellFormed.{AreDistinct, declared_names, DeclaresBeforeUse, IsWellFormed}
-use Rattle.ep_tree.specs.Early.{IsEarly}
-use Rattle.ep_tree.proofs.VectorsSpelling.{at, x, y, domain, tokens, text, model, text-tokens, model-is_spelled, model-has_forms}
+use Rattle.ep_base.specs.declared.operators.CompareOp.TheVariants.{Equal}
+use Rattle.ep_early.specs.Trees.{ExprTree, expr_at, number, named, compare, DomainTree, domain_at, ranges, no_ranges, more_ranges, span, end_is, find, such_that, StatementTree, ModelTree}
+use Rattle.ep_early.specs.WellFormed.{AreDistinct, declared_names, DeclaresBeforeUse, IsWellFormed}
+use Rattle.ep_early.specs.Early.{IsEarly}
+use Rattle.ep_early.proofs.VectorsSpelling.{at, x, y, domain, tokens, text, model, text-tokens, model-is_spelled, model-has_forms}
 
 -- `find x : int(1..3)`
 abbrev find_x : StatementTree

@@ -1,6 +1,6 @@
 -- The forms of the early language: sums of numbers and names that are compared, and domains of one range of numbers.
 use Rattle.std.specs.List.{AllByRecursion}
-use Rattle.ep_tree.specs.Trees.{ExprTree, expr_at, number, named, neg, add, compare, TermTrees, no_terms, more_terms, DomainTree, domain_at, ranges, RangeTrees, no_ranges, more_ranges, span, EndTree, open_end, end_is, StatementKindTree, find, such_that, StatementTree, ModelTree}
+use Rattle.ep_early.specs.Trees.{ExprTree, expr_at, number, named, neg, add, compare, TermTrees, no_terms, more_terms, DomainTree, domain_at, ranges, RangeTrees, no_ranges, more_ranges, span, EndTree, open_end, end_is, StatementKindTree, find, such_that, StatementTree, ModelTree}
 
 -- a number or a name
 abbrev pub IsOperand : ExprTree → Type 0

@@ -1,9 +1,9 @@
 -- The instance of a model, and which assignments solve it.
 use Rattle.std.specs.Prelude.{◌≡◌, ℕ, ◌*◌, ℤ, pos, List, [], ◌∷◌, map, length, Some, unwrap_or, Contains}
 use Rattle.std.specs.List.{flat_map, AllByRecursion, AllZip}
-use Rattle.ep_tree.specs.Trees.{ExprTree, DeclaredTree, StatementKindTree, find, such_that, ModelTree}
-use Rattle.ep_tree.specs.Values.{Assignment, value_of, domain_values}
-use Rattle.ep_tree.specs.WellFormed.{names_of}
+use Rattle.ep_early.specs.Trees.{ExprTree, DeclaredTree, StatementKindTree, find, such_that, ModelTree}
+use Rattle.ep_early.specs.Values.{Assignment, value_of, domain_values}
+use Rattle.ep_early.specs.WellFormed.{names_of}
 
 -- a decision variable: its name, and the values that it may take
 pub record Find : Type 0 where

@@ -5,11 +5,11 @@ use Rattle.ep_base.specs.declared.tokens.Token.{Token}
 use Rattle.ep_base.specs.declared.tokens.TokenKind.{TokenKind}
 use Rattle.ep_base.specs.declared.tokens.TokenKind.TheVariants.{Name, Number, Word, Symbol}
 use Rattle.ep_base.specs.Tokens.{tokens_of}
-use Rattle.ep_tree.specs.Lexemes.{lexemes}
-use Rattle.ep_tree.specs.Trees.{ModelTree}
-use Rattle.ep_tree.specs.Spelling.{SpellsModel}
-use Rattle.ep_tree.specs.EarlyForms.{HasEarlyForms}
-use Rattle.ep_tree.specs.WellFormed.{IsWellFormed}
+use Rattle.ep_early.specs.Lexemes.{lexemes}
+use Rattle.ep_early.specs.Trees.{ModelTree}
+use Rattle.ep_early.specs.Spelling.{SpellsModel}
+use Rattle.ep_early.specs.EarlyForms.{HasEarlyForms}
+use Rattle.ep_early.specs.WellFormed.{IsWellFormed}
 
 -- a token of so many bytes is no number of more than six digits
 abbrev pub IsShortKind : TokenKind → ℕ → Type 0

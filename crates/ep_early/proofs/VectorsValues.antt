@@ -5,11 +5,11 @@ use Rattle.std.specs.Ordering.{int_eq}
 use Rattle.std.proofs.Common.{refl, ap, lit<}
 use Rattle.std.proofs.lemmas.Bool.{false≢true}
 use Rattle.ep_base.specs.declared.places.Place.{Place}
-use Rattle.ep_tree.specs.declared.expressions.CompareOp.{CompareOp}
-use Rattle.ep_tree.specs.declared.expressions.CompareOp.TheVariants.{Equal, NotEqual, Less, AtMost, Greater, AtLeast}
-use Rattle.ep_tree.specs.Trees.{ExprTree, expr_at, number, named, neg, add, compare, no_terms, more_terms, DomainTree, domain_at, ranges, no_ranges, more_ranges, span, open_end, end_is, find, such_that, StatementTree, ModelTree}
-use Rattle.ep_tree.specs.Values.{Assignment, value_of, interval, domain_values, compared}
-use Rattle.ep_tree.specs.Solutions.{Find, Instance, instance_of, IsSolution, assignment_count}
+use Rattle.ep_base.specs.declared.operators.CompareOp.{CompareOp}
+use Rattle.ep_base.specs.declared.operators.CompareOp.TheVariants.{Equal, NotEqual, Less, AtMost, Greater, AtLeast}
+use Rattle.ep_early.specs.Trees.{ExprTree, expr_at, number, named, neg, add, compare, no_terms, more_terms, DomainTree, domain_at, ranges, no_ranges, more_ranges, span, open_end, end_is, find, such_that, StatementTree, ModelTree}
+use Rattle.ep_early.specs.Values.{Assignment, value_of, interval, domain_values, compared}
+use Rattle.ep_early.specs.Solutions.{Find, Instance, instance_of, IsSolution, assignment_count}
 
 -- values don't depend on places
 abbrev here : Place
@@ -175,11 +175,11 @@ nothing-count = refl
 abbrev two_sums : ModelTree
 two_sums = record {
   statements =
-    find_of (x ∷ y ∷ []) (int (pos 0) (pos 3))
-    ∷ such_that_of (
-        comparison Equal (expr_at here (add (more_terms true (name x) (more_terms true (name y) no_terms)))) (num (pos 6))
-        ∷ comparison Equal (expr_at here (add (more_terms true (name x) (more_terms false (name y) no_terms)))) (num (pos 0)) ∷ [])
-    ∷ [];
+      find_of (x ∷ y ∷ []) (int (pos 0) (pos 3))
+      ∷ such_that_of (
+      comparison Equal (expr_at here (add (more_terms true (name x) (more_terms true (name y) no_terms)))) (num (pos 6))
+      ∷ comparison Equal (expr_at here (add (more_terms true (name x) (more_terms false (name y) no_terms)))) (num (pos 0)) ∷ [])
+      ∷ [];
 }
 
 three_three_solves : IsSolution (instance_of two_sums) ((x, pos 3) ∷ (y, pos 3) ∷ [])

@@ -1,7 +1,7 @@
 -- Bounds on the numbers of an early model and on the lengths of its sums: each value fits well into 64 bits.
 use Rattle.std.specs.Prelude.{ℕ, suc, ◌<◌, ◌≤◌, ℤ, pos, negsuc}
 use Rattle.std.specs.List.{AllByRecursion}
-use Rattle.ep_tree.specs.Trees.{ExprTree, expr_at, number, named, neg, add, compare, TermTrees, no_terms, more_terms, DomainTree, domain_at, ranges, RangeTrees, no_ranges, more_ranges, RangeTree, span, EndTree, open_end, end_is, StatementKindTree, find, such_that, ModelTree}
+use Rattle.ep_early.specs.Trees.{ExprTree, expr_at, number, named, neg, add, compare, TermTrees, no_terms, more_terms, DomainTree, domain_at, ranges, RangeTrees, no_ranges, more_ranges, RangeTree, span, EndTree, open_end, end_is, StatementKindTree, find, such_that, ModelTree}
 
 -- a number of at most six digits, which isn't negative
 abbrev pub IsSmallNumber : ℤ → Type 0

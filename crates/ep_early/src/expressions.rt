@@ -1,6 +1,6 @@
 //! Expressions.
 
-use ep_base::{Name, Place};
+use ep_base::{CompareOp, Name, Place};
 
 /// An expression, with the place of its first token.
 #[derive(Debug, Drop)]
@@ -24,15 +24,4 @@ pub enum Kind {
     Add(Vec<(bool, Expr)>),
     /// A comparison of two numbers.
     Compare(CompareOp, Box<Expr>, Box<Expr>),
-}
-
-/// How two numbers are compared.
-#[derive(Clone, Copy, Debug, PartialEq, Eq)]
-pub enum CompareOp {
-    Equal,
-    NotEqual,
-    Less,
-    AtMost,
-    Greater,
-    AtLeast,
 }

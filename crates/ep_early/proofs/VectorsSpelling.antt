@@ -7,11 +7,11 @@ use Rattle.ep_base.specs.declared.tokens.TokenKind.{TokenKind}
 use Rattle.ep_base.specs.declared.tokens.TokenKind.TheVariants.{Name, Number, Word, Symbol}
 use Rattle.ep_base.specs.TokenTexts.{is_word, is_symbol, is_token, kind_of}
 use Rattle.ep_base.specs.Tokens.{place_at, token_len, token_at, tokens_from, tokens_of}
-use Rattle.ep_tree.specs.declared.expressions.CompareOp.TheVariants.{Less, Greater}
-use Rattle.ep_tree.specs.Lexemes.{What, a_name, a_number, a_word, a_symbol, Lexeme, lexeme_at, lexemes}
-use Rattle.ep_tree.specs.Trees.{ExprTree, expr_at, number, named, neg, add, compare, no_terms, more_terms, DomainTree, domain_at, ranges, no_ranges, more_ranges, span, end_is, find, such_that, StatementTree, ModelTree}
-use Rattle.ep_tree.specs.Spelling.{Spells, expression_level, SpellsDomain, SpellsStatement, SpellsModel}
-use Rattle.ep_tree.specs.EarlyForms.{HasEarlyForms}
+use Rattle.ep_base.specs.declared.operators.CompareOp.TheVariants.{Less, Greater}
+use Rattle.ep_early.specs.Lexemes.{What, a_name, a_number, a_word, a_symbol, Lexeme, lexeme_at, lexemes}
+use Rattle.ep_early.specs.Trees.{ExprTree, expr_at, number, named, neg, add, compare, no_terms, more_terms, DomainTree, domain_at, ranges, no_ranges, more_ranges, span, end_is, find, such_that, StatementTree, ModelTree}
+use Rattle.ep_early.specs.Spelling.{Spells, expression_level, SpellsDomain, SpellsStatement, SpellsModel}
+use Rattle.ep_early.specs.EarlyForms.{HasEarlyForms}
 
 abbrev pub at : ℕ → ℕ → Place
 at line column = record { line = line; column = column }
