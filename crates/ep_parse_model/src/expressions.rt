@@ -6,8 +6,8 @@ ghost use Rattle.ep_parse_model.specs.Reading.{Gives, pass, begins_term, part_tr
 
 use crate::cursor::Cursor;
 use crate::errors::EarlyError;
-use ep_base::{Name, Place};
-use ep_early::{CompareOp, Domain, DomainKind, Expr, Kind, Range};
+use ep_base::{CompareOp, Name, Place};
+use ep_early::{Domain, DomainKind, Expr, Kind, Range};
 use std::alloc::Global;
 
 /// A reserved word that has to be next.
