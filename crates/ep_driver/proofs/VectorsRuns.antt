@@ -6,7 +6,7 @@ use Rattle.ep_early.specs.Solutions.{instance_of}
 use Rattle.ep_driver.specs.declared.status.Status.TheVariants.{Usage, Device, Refuted}
 use Rattle.ep_driver.specs.Status.{code_of}
 use Rattle.ep_driver.specs.Command.{IsCommand, IsFileName}
-use Rattle.ep_driver.specs.Texts.{device_line, letting_line}
+use Rattle.ep_driver.specs.Texts.{device_line}
 use Rattle.ep_driver.specs.Answers.{Answers, answer_text, solution, no_solution}
 use Rattle.ep_driver.specs.Outcomes.{AreNoCommand, Refuses}
 
