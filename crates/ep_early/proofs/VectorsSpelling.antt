@@ -1,6 +1,6 @@
 -- Trees and lists of tokens that spell them, computed by the checker.
 use Rattle.std.specs.Prelude.{◌≡◌, ℕ, pos, true, false, List, [], ◌∷◌, ◌++◌, Ok, codes}
-use Rattle.std.proofs.Common.{refl, inl, inr, lit≤, lit<}
+use Rattle.std.proofs.Common.{refl, inl, lit≤}
 use Rattle.ep_base.specs.declared.places.Place.{Place}
 use Rattle.ep_base.specs.declared.tokens.Token.{Token}
 use Rattle.ep_base.specs.declared.tokens.TokenKind.{TokenKind}
@@ -8,7 +8,7 @@ use Rattle.ep_base.specs.declared.tokens.TokenKind.TheVariants.{Name, Number, Wo
 use Rattle.ep_base.specs.TokenTexts.{is_word, is_symbol, is_token, kind_of}
 use Rattle.ep_base.specs.Tokens.{place_at, token_len, token_at, tokens_from, tokens_of}
 use Rattle.ep_base.specs.declared.operators.CompareOp.TheVariants.{Less, Greater}
-use Rattle.ep_early.specs.Lexemes.{What, a_name, a_number, a_word, a_symbol, Lexeme, lexeme_at, lexemes}
+use Rattle.ep_early.specs.Lexemes.{a_name, a_number, a_word, a_symbol, Lexeme, lexeme_at, lexemes}
 use Rattle.ep_early.specs.Trees.{ExprTree, expr_at, number, named, neg, add, compare, no_terms, more_terms, DomainTree, domain_at, ranges, no_ranges, more_ranges, span, end_is, find, such_that, StatementTree, ModelTree}
 use Rattle.ep_early.specs.Spelling.{Spells, expression_level, SpellsDomain, SpellsStatement, SpellsModel}
 use Rattle.ep_early.specs.EarlyForms.{HasEarlyForms}

@@ -7,9 +7,9 @@ use Rattle.std.proofs.lemmas.Bool.{false≢true}
 use Rattle.ep_base.specs.declared.places.Place.{Place}
 use Rattle.ep_base.specs.declared.operators.CompareOp.{CompareOp}
 use Rattle.ep_base.specs.declared.operators.CompareOp.TheVariants.{Equal, NotEqual, Less, AtMost, Greater, AtLeast}
-use Rattle.ep_early.specs.Trees.{ExprTree, expr_at, number, named, neg, add, compare, no_terms, more_terms, DomainTree, domain_at, ranges, no_ranges, more_ranges, span, open_end, end_is, find, such_that, StatementTree, ModelTree}
-use Rattle.ep_early.specs.Values.{Assignment, value_of, interval, domain_values, compared}
-use Rattle.ep_early.specs.Solutions.{Find, Instance, instance_of, IsSolution, assignment_count}
+use Rattle.ep_early.specs.Trees.{ExprTree, expr_at, number, named, neg, add, compare, no_terms, more_terms, DomainTree, domain_at, ranges, no_ranges, more_ranges, span, end_is, find, such_that, StatementTree, ModelTree}
+use Rattle.ep_early.specs.Values.{value_of, domain_values, compared}
+use Rattle.ep_early.specs.Solutions.{instance_of, IsSolution, assignment_count}
 
 -- values don't depend on places
 abbrev here : Place

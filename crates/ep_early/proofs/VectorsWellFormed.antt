@@ -1,11 +1,10 @@
 -- Models that are well formed and models that aren't, and one early text, computed by the checker.
-use Rattle.std.specs.Prelude.{◌≡◌, ℕ, zero, suc, ◌<◌, pos, List, [], ◌∷◌, slice_index_or, bytes_eq}
+use Rattle.std.specs.Prelude.{◌≡◌, ℕ, zero, suc, ◌<◌, pos, [], ◌∷◌, slice_index_or, bytes_eq}
 use Rattle.std.proofs.Common.{refl, ap, lit<, lit≤, arith}
 use Rattle.std.proofs.lemmas.Bool.{false≢true}
-use Rattle.ep_base.specs.declared.places.Place.{Place}
 use Rattle.ep_base.specs.declared.operators.CompareOp.TheVariants.{Equal}
-use Rattle.ep_early.specs.Trees.{ExprTree, expr_at, number, named, compare, DomainTree, domain_at, ranges, no_ranges, more_ranges, span, end_is, find, such_that, StatementTree, ModelTree}
-use Rattle.ep_early.specs.WellFormed.{AreDistinct, declared_names, DeclaresBeforeUse, IsWellFormed}
+use Rattle.ep_early.specs.Trees.{expr_at, number, named, compare, find, such_that, StatementTree}
+use Rattle.ep_early.specs.WellFormed.{AreDistinct, IsWellFormed}
 use Rattle.ep_early.specs.Early.{IsEarly}
 use Rattle.ep_early.proofs.VectorsSpelling.{at, x, y, domain, tokens, text, model, text-tokens, model-is_spelled, model-has_forms}
 

@@ -1,15 +1,15 @@
 -- What is spelled as an expression or a domain is read so.
-use Rattle.std.proofs.Common.{◌≡◌, ℕ, ℤ, pos, zero, suc, ◌+◌, ◌<◌, ◌≤◌, Bool, true, false, cond, List, [], ◌∷◌, ◌++◌, length, Option, Some, None, refl, sym, ap, ◌∙◌, subst, append_assoc, arith}
-use Rattle.std.specs.Prelude.{codes, bytes_eq}
+use Rattle.std.proofs.Common.{◌≡◌, ℕ, ℤ, Bool, true, false, List, [], ◌∷◌, ◌++◌, Some, refl, sym, ap, ◌∙◌, subst, append_assoc}
+use Rattle.std.specs.Prelude.{codes}
 use Rattle.std.proofs.lemmas.Slice.Eq.{bytes_eq-Decides}
 use Rattle.ep_base.specs.declared.places.Place.{Place}
 use Rattle.ep_base.specs.declared.operators.CompareOp.{CompareOp}
 use Rattle.ep_base.specs.declared.operators.CompareOp.TheVariants.{Equal, NotEqual, Less, AtMost, Greater, AtLeast}
-use Rattle.ep_early.specs.Lexemes.{What, a_name, a_number, a_word, a_symbol, Lexeme, lexeme_at}
-use Rattle.ep_early.specs.Trees.{ExprTree, expr_at, KindTree, number, named, neg, add, compare, TermTrees, no_terms, more_terms, DomainTree, domain_at, ranges, no_ranges, more_ranges, span, open_end, end_is}
-use Rattle.ep_early.specs.Spelling.{Spells, SpellsChain, SpellsSigned, SpellsClause, SpellsDomain, HasTerms, BeginsAt, unary_level, product_level, sum_level, comparison_level, expression_level, comparison_sign, term_sign}
-use Rattle.ep_early.specs.EarlyForms.{IsOperand, AreOperands, IsSide, IsEarlyClause, IsNumber, IsBound, IsClosedEnd, IsEarlyDomain}
-use Rattle.ep_parse_model.specs.Reading.{Read, ◌>>=◌, GoesOn, word_from, symbol_from, number_from, name_from, pass, is_at, begins_operand, begins_term, operand_from, sign_from, term_from, at_sign, terms_of, expr_place, continued, list_from, parts_from, side_from, comparison_from, clause_from, number_expr_from, bound_from, domain_from}
+use Rattle.ep_early.specs.Lexemes.{a_number, a_word, a_symbol, Lexeme, lexeme_at}
+use Rattle.ep_early.specs.Trees.{ExprTree, expr_at, number, named, neg, add, compare, TermTrees, no_terms, more_terms, DomainTree, domain_at, ranges, no_ranges, more_ranges, span, open_end, end_is}
+use Rattle.ep_early.specs.Spelling.{Spells, SpellsChain, SpellsSigned, SpellsClause, SpellsDomain, HasTerms, BeginsAt, product_level, sum_level, expression_level, comparison_sign, term_sign}
+use Rattle.ep_early.specs.EarlyForms.{IsOperand, AreOperands, IsSide, IsEarlyClause, IsBound, IsEarlyDomain}
+use Rattle.ep_parse_model.specs.Reading.{word_from, symbol_from, number_from, name_from, pass, is_at, begins_operand, begins_term, operand_from, sign_from, term_from, at_sign, terms_of, expr_place, list_from, side_from, comparison_from, clause_from, number_expr_from, bound_from, domain_from}
 use Rattle.ep_parse_model.proofs.Lists.{list_from-step}
 use Rattle.ep_parse_model.proofs.SoundExpressions.{terms-shorten}
 

@@ -1,14 +1,14 @@
 -- What is spelled as a statement or a model is read so.
-use Rattle.std.proofs.Common.{◌≡◌, ℕ, ℤ, pos, zero, suc, ◌+◌, ◌<◌, ◌≤◌, Bool, true, false, not, cond, List, [], ◌∷◌, ◌++◌, map, length, Option, Some, None, refl, sym, ap, ◌∙◌, subst, append_assoc, arith, inl, inr}
+use Rattle.std.proofs.Common.{◌≡◌, ℤ, pos, true, false, List, [], ◌∷◌, ◌++◌, map, Some, None, refl, ap, ◌∙◌, append_assoc, inl, inr}
 use Rattle.std.specs.Prelude.{codes}
 use Rattle.std.specs.List.{AllByRecursion}
 use Rattle.std.proofs.lemmas.Bool.Decides.{Decides-int_eq}
 use Rattle.ep_base.specs.declared.places.Place.{Place}
 use Rattle.ep_early.specs.Lexemes.{What, a_name, a_number, a_word, a_symbol, Lexeme, lexeme_at, said_by}
-use Rattle.ep_early.specs.Trees.{ExprTree, DomainTree, DeclaredTree, StatementKindTree, find, such_that, StatementTree, ModelTree}
-use Rattle.ep_early.specs.Spelling.{comma, SpellsItems, SpellsDeclaredName, SpellsDomain, SpellsDeclared, SpellsClause, SpellsClauses, SpellsStatement, SpellsStatements, SpellsModel, first_line}
+use Rattle.ep_early.specs.Trees.{ExprTree, DeclaredTree, StatementKindTree, find, such_that, StatementTree, ModelTree}
+use Rattle.ep_early.specs.Spelling.{comma, SpellsItems, SpellsDeclaredName, SpellsDeclared, SpellsClause, SpellsClauses, SpellsStatement, SpellsStatements, SpellsModel, first_line}
 use Rattle.ep_early.specs.EarlyForms.{IsEarlyClause, IsEarlyDomain, IsEarlyStatement, HasEarlyForms}
-use Rattle.ep_parse_model.specs.Reading.{Read, ◌>>=◌, GoesOn, is_empty, word_from, symbol_from, number_from, name_from, pass, is_at, after_comma, begins_operand, begins_term, list_from, clause_from, after_clause, clauses_from, domain_from, declared_from, find_from, such_that_from, statement_at, statement_after, statement_from, at_more, statements_from, version_from, first_line_from, model_from}
+use Rattle.ep_parse_model.specs.Reading.{Read, is_empty, word_from, symbol_from, number_from, name_from, pass, is_at, after_comma, begins_operand, begins_term, list_from, clause_from, after_clause, clauses_from, declared_from, find_from, such_that_from, statement_at, statement_after, statement_from, at_more, statements_from, version_from, first_line_from, model_from}
 use Rattle.ep_parse_model.proofs.Lists.{Shortens, list_from-step}
 use Rattle.ep_parse_model.proofs.SoundStatements.{names-shorten, declarations-shorten, clauses-shorten, statements-shorten}
 use Rattle.ep_parse_model.proofs.CompleteExpressions.{word_from-again, symbol_from-again, pass-again, clause_from-again, clause_begins, domain_from-again}

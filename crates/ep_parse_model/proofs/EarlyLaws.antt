@@ -1,8 +1,8 @@
 -- When a text is early, from what was read of it.
-use Rattle.std.proofs.Common.{◌≡◌, ℕ, suc, ◌-◌, ◌<◌, ◌≤◌, Bool, true, false, List, [], ◌∷◌, length, Option, Some, None, Result, Ok, Err, refl, sym, ap, ◌∙◌, subst, arith}
+use Rattle.std.proofs.Common.{◌≡◌, ℕ, suc, ◌-◌, ◌≤◌, Bool, true, false, List, [], ◌∷◌, length, Some, None, Result, Ok, Err, refl, sym, ap, ◌∙◌, subst, arith}
 use Rattle.ep_parse_model.specs.declared.errors.EarlyError.{EarlyError}
 use Rattle.ep_parse_model.specs.declared.errors.EarlyError.TheVariants.{NotEarly, Memory}
-use Rattle.std.specs.Prelude.{IsErrOf, is_some, ◌&&◌, nat_le}
+use Rattle.std.specs.Prelude.{IsErrOf, is_some, ◌&&◌}
 use Rattle.std.specs.List.{AllByRecursion, list_all}
 use Rattle.std.proofs.lemmas.Bool.{and_parts, leb-true, le-leb}
 use Rattle.ep_base.specs.declared.tokens.Token.{Token}

@@ -1,5 +1,5 @@
 -- Lists of items, read one after another.
-use Rattle.std.proofs.Common.{◌≡◌, ℕ, zero, suc, ◌+◌, ◌<◌, ◌≤◌, Bool, true, false, cond, List, [], ◌∷◌, ◌++◌, length, Option, Some, None, refl, sym, ap, ◌∙◌, subst, append_assoc, arith}
+use Rattle.std.proofs.Common.{◌≡◌, ℕ, zero, suc, ◌<◌, ◌≤◌, Bool, true, false, cond, List, [], ◌∷◌, ◌++◌, length, Some, None, refl, sym, ap, ◌∙◌, append_assoc, arith}
 use Rattle.ep_early.specs.Lexemes.{Lexeme}
 use Rattle.ep_parse_model.specs.declared.errors.EarlyError.{EarlyError}
 use Rattle.ep_parse_model.specs.declared.errors.EarlyError.TheVariants.{NotEarly, Memory}

@@ -1,14 +1,13 @@
 -- The names of a model pass the check exactly where each is declared once and before it is used.
-use Rattle.std.proofs.Common.{◌≡◌, ◌≢◌, ℕ, suc, ◌+◌, ◌<◌, ◌≤◌, Bool, true, false, cond, List, [], ◌∷◌, ◌++◌, map, length, get_or, Option, Some, None, refl, sym, ap, ◌∙◌, subst, append_assoc, length-append, arith, inl, inr, ⊎_elim}
-use Rattle.std.specs.Prelude.{bytes_eq, is_some, ◌&&◌, ◌⊎◌, Contains, AllPairs}
+use Rattle.std.proofs.Common.{◌≡◌, ◌≢◌, ℕ, Bool, true, false, cond, List, [], ◌∷◌, ◌++◌, length, get_or, Option, Some, None, refl, sym, ◌∙◌, subst, append_assoc, length-append, arith, inl, inr}
+use Rattle.std.specs.Prelude.{bytes_eq, is_some, ◌&&◌, ◌⊎◌, Contains}
 use Rattle.std.specs.List.{flat_map, list_all, AllByRecursion}
 use Rattle.std.proofs.lemmas.Slice.Eq.{bytes_eq-Decides}
 use Rattle.std.proofs.lemmas.List.{append-nil, get_or_append_left}
 use Rattle.std.proofs.lemmas.List.Elements.{Contains-get_or, Contains-append_left, Contains-push, Contains-push_cases}
 use Rattle.std.proofs.lemmas.List.Quantifiers.{all_pairs_push}
-use Rattle.ep_early.specs.Trees.{ExprTree, expr_at, KindTree, number, named, neg, add, compare, TermTrees, no_terms, more_terms, DeclaredTree, StatementKindTree, find, such_that, StatementTree, ModelTree}
-use Rattle.ep_early.specs.WellFormed.{names_of, kind_declares, declared_by, declared_names, UsesOnly, TermsUseOnly, KindUsesOnly, DeclaresBeforeUse, AreDistinct, IsWellFormed}
-use Rattle.ep_parse_model.specs.Reading.{◌>>=◌}
+use Rattle.ep_early.specs.Trees.{ExprTree, expr_at, number, named, neg, add, compare, TermTrees, no_terms, more_terms, DeclaredTree, StatementKindTree, find, such_that, StatementTree, ModelTree}
+use Rattle.ep_early.specs.WellFormed.{names_of, kind_declares, declared_by, UsesOnly, TermsUseOnly, KindUsesOnly, DeclaresBeforeUse, AreDistinct, IsWellFormed}
 use Rattle.ep_parse_model.specs.Names.{Known, none_known, adding, declare_all, declare_groups, check_kind, check_statements, uses_known, terms_use_known}
 use Rattle.ep_parse_model.proofs.Takes.{bind_some, chosen}
 

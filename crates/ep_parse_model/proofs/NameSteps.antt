@@ -1,5 +1,5 @@
 -- Checking names one after another, as loops do.
-use Rattle.std.proofs.Common.{◌≡◌, ℕ, suc, ◌+◌, ◌<◌, ◌≤◌, Bool, true, false, not, cond, List, [], ◌∷◌, map, drop, length, get_or, Option, Some, None, refl, sym, ap, ◌∙◌, subst, arith, add-one}
+use Rattle.std.proofs.Common.{◌≡◌, ℕ, suc, ◌+◌, ◌<◌, ◌≤◌, Bool, true, false, not, cond, List, ◌∷◌, map, drop, length, get_or, Option, Some, None, refl, sym, ap, ◌∙◌, add-one}
 use Rattle.std.specs.Prelude.{bytes_eq, is_some}
 use Rattle.std.specs.Borrow.{Bor}
 use Rattle.std.specs.HashSet.{HashSet, contains_by}

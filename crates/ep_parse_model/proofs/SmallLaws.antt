@@ -1,10 +1,10 @@
 -- What short tokens spell is small.
-use Rattle.std.proofs.Common.{◌≡◌, ℕ, ℤ, pos, zero, suc, ◌+◌, ◌<◌, ◌≤◌, Bool, List, [], ◌∷◌, ◌++◌, length, refl, sym, ap, ◌∙◌, subst, arith, length-append, inl, inr}
+use Rattle.std.proofs.Common.{◌≡◌, ℕ, ◌<◌, ◌≤◌, List, [], ◌∷◌, ◌++◌, length, refl, ap, subst, arith, length-append, inl, inr}
 use Rattle.std.specs.List.{AllByRecursion}
 use Rattle.ep_base.specs.declared.places.Place.{Place}
-use Rattle.ep_early.specs.Lexemes.{What, a_number, Lexeme, lexeme_at}
-use Rattle.ep_early.specs.Trees.{ExprTree, expr_at, KindTree, number, named, neg, add, compare, TermTrees, no_terms, more_terms, DomainTree, domain_at, DomainKindTree, ranges, RangeTrees, no_ranges, more_ranges, RangeTree, span, EndTree, open_end, end_is, DeclaredTree, StatementKindTree, find, such_that, StatementTree, ModelTree}
-use Rattle.ep_early.specs.Spelling.{Spells, SpellsChain, SpellsSigned, SpellsEnd, SpellsRange, SpellsRanges, SpellsDomain, SpellsItems, SpellsDeclared, SpellsClause, SpellsClauses, SpellsStatementKind, SpellsStatement, SpellsStatements, SpellsModel, unary_level, product_level, sum_level, expression_level}
+use Rattle.ep_early.specs.Lexemes.{Lexeme}
+use Rattle.ep_early.specs.Trees.{ExprTree, expr_at, number, named, neg, add, compare, TermTrees, no_terms, more_terms, DomainTree, domain_at, ranges, RangeTrees, no_ranges, more_ranges, RangeTree, span, EndTree, open_end, end_is, DeclaredTree, StatementKindTree, find, such_that, StatementTree, ModelTree}
+use Rattle.ep_early.specs.Spelling.{Spells, SpellsChain, SpellsSigned, SpellsEnd, SpellsRange, SpellsRanges, SpellsDomain, SpellsItems, SpellsDeclared, SpellsClause, SpellsClauses, SpellsStatementKind, SpellsStatements, SpellsModel, unary_level, product_level, sum_level, expression_level}
 use Rattle.ep_early.specs.Small.{term_count, IsSmall, AreSmall, IsSmallEnd, IsSmallRange, AreSmallRanges, IsSmallDomain, IsSmallKind, IsSmallModel}
 use Rattle.ep_parse_model.proofs.TokenFacts.{IsSmallLexeme}
 

@@ -1,5 +1,5 @@
 -- What is read as an expression or a domain is spelled so.
-use Rattle.std.proofs.Common.{◌≡◌, ℕ, ℤ, pos, zero, suc, ◌+◌, ◌<◌, ◌≤◌, lit≤, lit<, Bool, true, false, cond, List, [], ◌∷◌, ◌++◌, length, Option, Some, None, refl, sym, ap, ◌∙◌, subst, append_assoc, length-append, arith, inl, inr}
+use Rattle.std.proofs.Common.{◌≡◌, ℕ, ℤ, ◌≤◌, lit≤, lit<, Bool, true, false, List, [], ◌∷◌, ◌++◌, length, Some, None, refl, sym, ap, ◌∙◌, length-append, arith}
 use Rattle.std.specs.Prelude.{codes, bytes_eq}
 use Rattle.std.proofs.lemmas.Slice.Eq.{bytes_eq-Decides}
 use Rattle.std.specs.List.{AllByRecursion}
@@ -9,10 +9,10 @@ use Rattle.ep_base.specs.declared.places.Place.{Place}
 use Rattle.ep_base.specs.declared.operators.CompareOp.{CompareOp}
 use Rattle.ep_base.specs.declared.operators.CompareOp.TheVariants.{Equal, NotEqual, Less, AtMost, Greater, AtLeast}
 use Rattle.ep_early.specs.Lexemes.{What, a_name, a_number, a_word, a_symbol, Lexeme, lexeme_at}
-use Rattle.ep_early.specs.Trees.{ExprTree, expr_at, number, named, neg, add, compare, TermTrees, no_terms, more_terms, DomainTree, domain_at, ranges, no_ranges, more_ranges, span, end_is}
-use Rattle.ep_early.specs.Spelling.{Spells, SpellsChain, SpellsSigned, SpellsClause, SpellsDomain, HasTerms, BeginsAt, unary_level, product_level, sum_level, comparison_level, expression_level, comparison_sign, term_sign}
+use Rattle.ep_early.specs.Trees.{ExprTree, expr_at, number, named, neg, add, compare, DomainTree}
+use Rattle.ep_early.specs.Spelling.{Spells, SpellsSigned, SpellsClause, SpellsDomain, HasTerms, BeginsAt, unary_level, product_level, sum_level, expression_level, comparison_sign, term_sign}
 use Rattle.ep_early.specs.EarlyForms.{IsOperand, AreOperands, IsSide, IsEarlyClause, IsNumber, IsBound, IsEarlyDomain}
-use Rattle.ep_parse_model.specs.Reading.{Read, ◌>>=◌, GoesOn, goes_on_after, or_else, one_of, word_from, symbol_from, number_from, name_from, is_word, is_symbol, number_of, name_of, pass, operand_after, operand_from, sign_from, term_from, at_sign, begins_term, terms_of, expr_place, continued, list_from, parts_from, side_from, comparison_from, clause_from, number_expr_from, bound_after, bound_from, one_range, domain_from}
+use Rattle.ep_parse_model.specs.Reading.{Read, GoesOn, goes_on_after, or_else, one_of, word_from, symbol_from, number_from, name_from, pass, operand_after, operand_from, sign_from, term_from, at_sign, begins_term, terms_of, expr_place, list_from, side_from, comparison_from, clause_from, number_expr_from, bound_after, bound_from, domain_from}
 use Rattle.ep_parse_model.proofs.Takes.{bind_some, chosen, found, given, Takes, IsSound, joined, sound_shortens, list_induction}
 use Rattle.ep_parse_model.proofs.Lists.{Shortens}
 

@@ -1,20 +1,19 @@
 -- What is read as a statement or a model is spelled so.
-use Rattle.std.proofs.Common.{◌≡◌, ℕ, ℤ, pos, zero, suc, ◌+◌, ◌<◌, ◌≤◌, lit≤, lit<, Bool, true, false, not, cond, List, [], ◌∷◌, ◌++◌, map, length, Option, Some, None, refl, sym, ap, ◌∙◌, subst, append_assoc, length-append, arith, inl, inr}
+use Rattle.std.proofs.Common.{◌≡◌, ℤ, pos, ◌≤◌, lit<, Bool, true, false, not, cond, List, [], ◌∷◌, ◌++◌, length, Some, None, refl, sym, ap, ◌∙◌, append_assoc, length-append, arith, inl, inr}
 use Rattle.std.specs.Prelude.{codes, ◌⊎◌}
 use Rattle.std.specs.Ordering.{int_eq}
 use Rattle.std.specs.List.{AllByRecursion}
 use Rattle.std.proofs.lemmas.Bool.Decides.{Decides-int_eq}
 use Rattle.std.proofs.lemmas.Option.{cond_some}
-use Rattle.std.proofs.lemmas.List.{append-nil}
 use Rattle.ep_base.specs.declared.places.Place.{Place}
-use Rattle.ep_early.specs.Lexemes.{What, a_name, a_number, a_word, a_symbol, Lexeme, lexeme_at, said_by}
-use Rattle.ep_early.specs.Trees.{ExprTree, DomainTree, DeclaredTree, StatementKindTree, find, such_that, StatementTree, ModelTree}
-use Rattle.ep_early.specs.Spelling.{comma, SpellsItems, SpellsDeclaredName, SpellsDomain, SpellsDeclared, SpellsClause, SpellsClauses, SpellsStatement, SpellsStatements, SpellsModel, first_line}
+use Rattle.ep_early.specs.Lexemes.{a_name, a_number, a_word, a_symbol, Lexeme, lexeme_at}
+use Rattle.ep_early.specs.Trees.{ExprTree, DeclaredTree, StatementTree, ModelTree}
+use Rattle.ep_early.specs.Spelling.{comma, SpellsItems, SpellsDeclaredName, SpellsDeclared, SpellsClause, SpellsClauses, SpellsStatement, SpellsStatements, SpellsModel}
 use Rattle.ep_early.specs.EarlyForms.{IsEarlyClause, IsEarlyDomain, IsEarlyStatement, HasEarlyForms}
-use Rattle.ep_parse_model.specs.Reading.{Read, ◌>>=◌, GoesOn, is_empty, word_from, symbol_from, number_from, name_from, pass, after_comma, begins_operand, list_from, clause_from, if_operand, after_clause, clauses_from, domain_from, declared_from, find_from, such_that_from, statement_at, statement_after, statement_from, at_more, statements_from, is_number, version_from, first_line_from, model_from}
+use Rattle.ep_parse_model.specs.Reading.{Read, GoesOn, is_empty, word_from, name_from, pass, after_comma, begins_operand, list_from, clause_from, after_clause, clauses_from, declared_from, find_from, such_that_from, statement_after, statement_from, at_more, statements_from, version_from, first_line_from, model_from}
 use Rattle.ep_parse_model.proofs.Takes.{bind_some, chosen, found, given, Takes, IsSound, joined, sound_shortens, list_induction}
 use Rattle.ep_parse_model.proofs.Lists.{Shortens}
-use Rattle.ep_parse_model.proofs.SoundExpressions.{word_from-sound, symbol_from-sound, number_from-sound, name_from-sound, pass-sound, pass-shortens, SpellsEarlyClause, clause_from-sound, SpellsEarlyDomain, domain_from-sound}
+use Rattle.ep_parse_model.proofs.SoundExpressions.{word_from-sound, symbol_from-sound, number_from-sound, name_from-sound, pass-sound, pass-shortens, SpellsEarlyClause, clause_from-sound, domain_from-sound}
 
 -- ---- lists with commas
 

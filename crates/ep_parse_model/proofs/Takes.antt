@@ -1,7 +1,7 @@
 -- What a reader takes from the front of the tokens.
-use Rattle.std.proofs.Common.{◌≡◌, ℕ, zero, suc, ◌+◌, ◌<◌, ◌≤◌, Bool, true, false, cond, List, [], ◌∷◌, ◌++◌, length, Option, Some, None, refl, sym, ap, ◌∙◌, subst, append_assoc, length-append, arith}
+use Rattle.std.proofs.Common.{◌≡◌, ℕ, zero, suc, ◌<◌, ◌≤◌, Bool, true, false, cond, List, [], ◌∷◌, ◌++◌, length, Option, Some, None, refl, sym, ap, ◌∙◌, subst, append_assoc, length-append, arith}
 use Rattle.ep_early.specs.Lexemes.{Lexeme}
-use Rattle.ep_parse_model.specs.Reading.{Read, ◌>>=◌, GoesOn, then_others, before, list_of, list_from}
+use Rattle.ep_parse_model.specs.Reading.{Read, ◌>>=◌, GoesOn, then_others, list_of}
 use Rattle.ep_parse_model.proofs.Lists.{Shortens}
 
 -- a step that gave something

@@ -1,9 +1,9 @@
 -- Checking the names of a model statement by statement, with a test of which names are known so far.
-use Rattle.std.specs.Prelude.{ℕ, Bool, true, false, ◌&&◌, ◌||◌, List, [], ◌∷◌, Option, Some, None, if◌then◌else◌, bytes_eq}
-use Rattle.std.specs.List.{flat_map, list_all}
+use Rattle.std.specs.Prelude.{◌≡◌, ℕ, Bool, true, false, ◌&&◌, List, [], ◌∷◌, Option, Some, None, Result, IfOk, if◌then◌else◌, bytes_eq}
+use Rattle.std.specs.List.{list_all}
 use Rattle.std.specs.HashSet.{HashSet, contains_by}
 use Rattle.std.specs.Borrow.{Bor}
-use Rattle.ep_early.specs.Trees.{ExprTree, expr_at, KindTree, number, named, neg, add, compare, TermTrees, no_terms, more_terms, DeclaredTree, StatementKindTree, find, such_that, StatementTree, ModelTree}
+use Rattle.ep_early.specs.Trees.{ExprTree, expr_at, number, named, neg, add, compare, TermTrees, no_terms, more_terms, DeclaredTree, StatementKindTree, find, such_that, StatementTree}
 use Rattle.ep_early.specs.WellFormed.{names_of}
 use Rattle.ep_parse_model.specs.Reading.{◌>>=◌}
 
@@ -17,6 +17,10 @@ known_in set = λ name. contains_by (λ key. bytes_eq name key.now) set
 
 abbrev pub none_known : Known
 none_known = λ name. false
+
+-- What a function told of a step: the names that are known now, or that the step fails. Want of memory says nothing.
+abbrev pub Tells : {E : Type 0} → Result Bool E → Known → Option Known → Type 0
+Tells result now step = IfOk result (λ good. (if good then Some now else None) ≡ step)
 
 -- one more name
 abbrev pub adding : List ℕ → Known → Known

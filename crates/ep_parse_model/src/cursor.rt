@@ -136,7 +136,8 @@ fn says_symbol(text: &[u8], token: &Token, symbol: &[u8]) -> bool
 
 /// Whether a token is a number or a name.
 fn says_operand(token: &Token) -> bool
-    ensures { (text : List ℕ) → result ≡ is_operand (what_of token.now.kind (token_text text token.now)) }
+    ensures { (text : List ℕ) →
+        result ≡ is_operand (what_of token.now.kind (token_text text token.now)) }
 {
     match token.kind {
         TokenKind::Name | TokenKind::Number(_) => true,
@@ -146,7 +147,8 @@ fn says_operand(token: &Token) -> bool
 
 /// The number that a token is.
 fn number_in(token: &Token) -> Option<i64>
-    ensures { (text : List ℕ) → result ≡ number_of (what_of token.now.kind (token_text text token.now)) }
+    ensures { (text : List ℕ) →
+        result ≡ number_of (what_of token.now.kind (token_text text token.now)) }
 {
     match token.kind {
         TokenKind::Number(number) => Some(number),

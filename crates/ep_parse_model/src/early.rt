@@ -33,7 +33,8 @@ const MOST_DIGITS: u64 = 6;
 pub fn parse_early(alloc: Global, text: &[u8]) -> Result<Model, EarlyError>
     // What is read is early, and this model is what it says, and no other.
     ensures found { IfOk result (λ model. IsEarly text.now (model_tree model)) }
-    ensures only { IfOk result (λ model. (other : ModelTree) → IsEarly text.now other → other ≡ model_tree model) }
+    ensures only { IfOk result
+        (λ model. (other : ModelTree) → IsEarly text.now other → other ≡ model_tree model) }
     // A text is refused only where it isn't early.
     ensures not_early { IsErrOf result EarlyError.NotEarly → (model : ModelTree) → ¬ IsEarly text.now model }
     // The numbers of what is read are small, and its sums aren't long.
@@ -52,7 +53,8 @@ pub fn parse_early(alloc: Global, text: &[u8]) -> Result<Model, EarlyError>
 
 /// A law: a text is early as one model at most.
 pub fn one_early_model()
-    ensures { (text : List ℕ) (one other : ModelTree) → IsEarly text one → IsEarly text other → one ≡ other }
+    ensures { (text : List ℕ) (one other : ModelTree) →
+        IsEarly text one → IsEarly text other → one ≡ other }
 {}
 
 /// The tokens of a text in which no number is long.

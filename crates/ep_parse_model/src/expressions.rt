@@ -101,7 +101,8 @@ fn parts(
     first: Expr,
     cursor: &mut Cursor<'_>,
 ) -> Result<Vec<(bool, Expr)>, EarlyError>
-    ensures { Gives (λ v. map part_tree v.items) result cursor.new (parts_from (expr_tree first) cursor.old) }
+    ensures { Gives (λ v. map part_tree v.items) result cursor.new
+        (parts_from (expr_tree first) cursor.old) }
 {
     let mut parts = Vec::new(alloc);
     parts.push((true, first))?;

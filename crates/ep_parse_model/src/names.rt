@@ -1,9 +1,9 @@
 //! Checks that each name is declared once, and before it is used.
 
-ghost use Rattle.std.specs.Prelude.{◌≡◌, IfOk, if◌then◌else◌, Some, None, is_some, map};
+ghost use Rattle.std.specs.Prelude.{◌≡◌, IfOk, is_some, map};
 ghost use Rattle.std.specs.List.{list_all};
 ghost use Rattle.ep_early.specs.Views.{expr_tree, term_trees, declared_tree, statement_kind_tree, statement_tree};
-ghost use Rattle.ep_parse_model.specs.Names.{known_in, none_known, declare_all, declare_groups, check_kind, check_statements, uses_known, terms_use_known};
+ghost use Rattle.ep_parse_model.specs.Names.{Tells, known_in, none_known, declare_all, declare_groups, check_kind, check_statements, uses_known, terms_use_known};
 
 use ep_base::{Name, Place};
 use ep_early::{Declared, Expr, Kind, Statement, StatementKind};
@@ -44,7 +44,8 @@ fn declare_names<'a>(
     declared: &mut HashSet<&'a str>,
     names: &'a [(Name, Place)],
 ) -> Result<bool, AllocError>
-    ensures { IfOk result (λ fresh. (if fresh then Some (known_in declared.new) else None) ≡ declare_all (known_in declared.old) (map (λ entry. entry.0) names.now)) }
+    ensures { Tells result (known_in declared.new)
+        (declare_all (known_in declared.old) (map (λ entry. entry.0) names.now)) }
 {
     for (name, _) in names {
         if !declared.insert(name.text())? {
@@ -59,7 +60,8 @@ fn declare_groups<'a>(
     declared: &mut HashSet<&'a str>,
     groups: &'a [Declared],
 ) -> Result<bool, AllocError>
-    ensures { IfOk result (λ fresh. (if fresh then Some (known_in declared.new) else None) ≡ declare_groups (known_in declared.old) (map declared_tree groups.now)) }
+    ensures { Tells result (known_in declared.new)
+        (declare_groups (known_in declared.old) (map declared_tree groups.now)) }
 {
     for group in groups {
         if !declare_names(declared, &group.names)? {
@@ -76,13 +78,16 @@ fn clauses_use_declared(declared: &HashSet<&str>, clauses: &[Expr]) -> bool
     clauses.iter().all(|clause| uses_declared(declared, clause))
 }
 
-/// Declares what a statement declares. Says whether its names were new, or those that it uses declared.
+/// Declares what a statement declares.
+///
+/// Says whether its names were new, or those that it uses declared.
 #[tactic(auto, unfolding(crate::specs::Names::check_kind))]
 fn check_kind<'a>(
     declared: &mut HashSet<&'a str>,
     kind: &'a StatementKind,
 ) -> Result<bool, AllocError>
-    ensures { IfOk result (λ good. (if good then Some (known_in declared.new) else None) ≡ check_kind (known_in declared.old) (statement_kind_tree kind.now)) }
+    ensures { Tells result (known_in declared.new)
+        (check_kind (known_in declared.old) (statement_kind_tree kind.now)) }
 {
     match kind {
         StatementKind::Find(groups) => declare_groups(declared, groups),
@@ -95,7 +100,8 @@ pub(crate) fn names_are_declared(
     alloc: Global,
     statements: &[Statement],
 ) -> Result<bool, AllocError>
-    ensures { IfOk result (λ good. good ≡ is_some (check_statements none_known (map statement_tree statements.now))) }
+    ensures { IfOk result
+        (λ good. good ≡ is_some (check_statements none_known (map statement_tree statements.now))) }
 {
     let mut declared = HashSet::new(alloc);
     for statement in statements {

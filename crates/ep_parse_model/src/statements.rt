@@ -37,7 +37,8 @@ fn declared(alloc: Global, cursor: &mut Cursor<'_>) -> Result<Declared, EarlyErr
 
 /// Declarations with `,` between any two.
 fn declarations(alloc: Global, cursor: &mut Cursor<'_>) -> Result<Vec<Declared>, EarlyError>
-    ensures { Gives (λ v. map declared_tree v.items) result cursor.new (list_from declared_from after_comma cursor.old) }
+    ensures { Gives (λ v. map declared_tree v.items) result cursor.new
+        (list_from declared_from after_comma cursor.old) }
 {
     let mut declarations = Vec::new(alloc);
     loop {
@@ -58,7 +59,8 @@ fn another_clause(cursor: &mut Cursor<'_>) -> bool
 
 /// One clause or more.
 fn some_clauses(alloc: Global, cursor: &mut Cursor<'_>) -> Result<Vec<Expr>, EarlyError>
-    ensures { Gives (λ v. map expr_tree v.items) result cursor.new (list_from clause_from after_clause cursor.old) }
+    ensures { Gives (λ v. map expr_tree v.items) result cursor.new
+        (list_from clause_from after_clause cursor.old) }
 {
     let mut clauses = Vec::new(alloc);
     loop {
@@ -119,7 +121,8 @@ fn statement(alloc: Global, cursor: &mut Cursor<'_>) -> Result<Statement, EarlyE
 
 /// One statement or more, up to the end.
 fn some_statements(alloc: Global, cursor: &mut Cursor<'_>) -> Result<Vec<Statement>, EarlyError>
-    ensures { Gives (λ v. map statement_tree v.items) result cursor.new (list_from statement_from at_more cursor.old) }
+    ensures { Gives (λ v. map statement_tree v.items) result cursor.new
+        (list_from statement_from at_more cursor.old) }
 {
     let mut statements = Vec::new(alloc);
     loop {
@@ -133,7 +136,8 @@ fn some_statements(alloc: Global, cursor: &mut Cursor<'_>) -> Result<Vec<Stateme
 /// All that is left, as statements.
 #[tactic(auto, unfolding(crate::specs::Reading::statements_from))]
 fn statements(alloc: Global, cursor: &mut Cursor<'_>) -> Result<Vec<Statement>, EarlyError>
-    ensures { Gives (λ v. map statement_tree v.items) result cursor.new (statements_from cursor.old) }
+    ensures { Gives (λ v. map statement_tree v.items) result cursor.new
+        (statements_from cursor.old) }
 {
     if cursor.is_empty() {
         return Ok(Vec::new(alloc));

@@ -1,6 +1,5 @@
-use Rattle.std.proofs.Common.{◌≡◌, List, ℕ, Result, Ok, Err, rules}
+use Rattle.std.proofs.Common.{Result, Ok, Err, rules}
 use Rattle.std.specs.Prelude.{IsOk, MatchResult}
-use Rattle.std.specs.Str.{IsUtf8}
 use Rattle.std.proofs.lemmas.Str.{IsUtf8-from_ascii}
 use Rattle.ep_parse_model.proofs.cursor.name_in.Goals as goal
 

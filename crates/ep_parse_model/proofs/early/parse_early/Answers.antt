@@ -1,9 +1,9 @@
-use Rattle.std.proofs.Common.{◌≡◌, Bool, true, false, List, map, Some, sym, ◌∙◌, arith}
+use Rattle.std.proofs.Common.{◌≡◌, true, false, Some, sym, ◌∙◌, arith}
 use Rattle.std.specs.Prelude.{is_some}
 use Rattle.std.proofs.lemmas.Result.{err_from_is_err_and}
 use Rattle.ep_early.specs.Lexemes.{lexemes}
 use Rattle.ep_early.specs.Trees.{ModelTree}
-use Rattle.ep_early.specs.Views.{statement_tree, model_tree}
+use Rattle.ep_early.specs.Views.{model_tree}
 use Rattle.ep_early.specs.Early.{IsEarly}
 use Rattle.ep_parse_model.specs.Reading.{model_from}
 use Rattle.ep_parse_model.specs.Names.{none_known, check_statements}

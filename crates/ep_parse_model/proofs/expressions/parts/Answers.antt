@@ -3,7 +3,7 @@ use Rattle.std.proofs.lemmas.List.{map_push}
 use Rattle.std.proofs.lemmas.Result.{err_from_is_err_and}
 use Rattle.ep_early.specs.Lexemes.{Lexeme}
 use Rattle.ep_parse_model.specs.Reading.{part_tree}
-use Rattle.ep_parse_model.specs.Reading.{GoesOn, term_from, at_sign, begins_term}
+use Rattle.ep_parse_model.specs.Reading.{term_from, at_sign, begins_term}
 use Rattle.ep_parse_model.proofs.Lists.{goes, ends, fails, smaller}
 use Rattle.ep_parse_model.proofs.SoundExpressions.{terms-shorten}
 use Rattle.ep_parse_model.proofs.expressions.parts.Goals as goal

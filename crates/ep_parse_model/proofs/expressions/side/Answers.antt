@@ -2,12 +2,11 @@ use Rattle.std.proofs.Common.{◌≡◌, Bool, List, [], ◌∷◌, map, refl, s
 use Rattle.std.specs.Global.{Vec}
 use Rattle.ep_early.specs.declared.expressions.Expr.{Expr}
 use Rattle.ep_early.specs.declared.expressions.Kind.{Add}
-use Rattle.ep_base.specs.declared.places.Place.{Place}
 use Rattle.ep_early.specs.Lexemes.{Lexeme}
-use Rattle.ep_early.specs.Trees.{ExprTree, expr_at, add, more_terms}
+use Rattle.ep_early.specs.Trees.{ExprTree, expr_at, more_terms}
 use Rattle.ep_early.specs.Views.{expr_tree, kind_tree, term_trees}
 use Rattle.ep_early.proofs.Rows.{kind_tree-add}
-use Rattle.ep_parse_model.specs.Reading.{Read, ◌>>=◌, begins_term, part_tree, terms_of, expr_place, operand_from, parts_from, side_from}
+use Rattle.ep_parse_model.specs.Reading.{begins_term, part_tree, terms_of, expr_place, operand_from, parts_from, side_from}
 use Rattle.ep_parse_model.proofs.expressions.side.Goals as goal
 
 terms_of-parts : (parts : List (Bool × Expr)) → term_trees parts ≡ terms_of (map part_tree parts)

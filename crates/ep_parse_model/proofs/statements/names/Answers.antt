@@ -1,4 +1,4 @@
-use Rattle.std.proofs.Common.{false, true}
+use Rattle.std.proofs.Common.{true}
 use Rattle.std.proofs.lemmas.Result.{err_from_is_err_and}
 use Rattle.ep_parse_model.specs.Reading.{name_from, after_comma}
 use Rattle.ep_parse_model.proofs.Lists.{goes, ends, fails, smaller}

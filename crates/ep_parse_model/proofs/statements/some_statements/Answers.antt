@@ -3,7 +3,7 @@ use Rattle.std.proofs.lemmas.List.{map_push}
 use Rattle.std.proofs.lemmas.Result.{err_from_is_err_and}
 use Rattle.ep_early.specs.Lexemes.{Lexeme}
 use Rattle.ep_early.specs.Views.{statement_tree}
-use Rattle.ep_parse_model.specs.Reading.{GoesOn, statement_from, at_more, is_empty}
+use Rattle.ep_parse_model.specs.Reading.{statement_from, at_more, is_empty}
 use Rattle.ep_parse_model.proofs.Lists.{goes, ends, fails, smaller}
 use Rattle.ep_parse_model.proofs.SoundStatements.{statements-shorten}
 use Rattle.ep_parse_model.proofs.statements.some_statements.Goals as goal

@@ -1,4 +1,4 @@
-use Rattle.std.proofs.Common.{refl, sym, ◌∙◌}
+use Rattle.std.proofs.Common.{refl, ◌∙◌}
 use Rattle.ep_parse_model.proofs.Cursors.{took_nothing, none_left, some_left, name_from-none, name_from-some}
 use Rattle.ep_parse_model.proofs.cursor.Cursor.name.Goals as goal
 

@@ -1,4 +1,4 @@
-use Rattle.std.proofs.Common.{◌≡◌, refl, sym, ◌∙◌, rules, w64}
+use Rattle.std.proofs.Common.{◌≡◌, refl, ◌∙◌, rules, w64}
 use mir.Val.{of_z, to_z}
 use Rattle.std.proofs.lemmas.Int.{to_z-of_z}
 use Rattle.ep_parse_model.proofs.Cursors.{took_nothing, none_left, some_left, number_from-none, number_from-some}

@@ -1,4 +1,4 @@
-use Rattle.std.proofs.Common.{refl, sym, ◌∙◌}
+use Rattle.std.proofs.Common.{refl, ◌∙◌}
 use Rattle.ep_parse_model.proofs.Cursors.{took_nothing, none_left, some_left, symbol_from-none, symbol_from-some}
 use Rattle.ep_parse_model.proofs.cursor.Cursor.symbol.Goals as goal
 

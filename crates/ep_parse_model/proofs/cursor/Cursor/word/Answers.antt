@@ -1,4 +1,4 @@
-use Rattle.std.proofs.Common.{refl, sym, ◌∙◌}
+use Rattle.std.proofs.Common.{refl, ◌∙◌}
 use Rattle.ep_parse_model.proofs.Cursors.{took_nothing, none_left, some_left, word_from-none, word_from-some}
 use Rattle.ep_parse_model.proofs.cursor.Cursor.word.Goals as goal
 
