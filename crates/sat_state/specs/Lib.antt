@@ -1,0 +1,4 @@
+pub mod Trail
+pub mod View
+pub mod Assigned
+pub mod AssignmentInside

@@ -1,0 +1,4 @@
+//! A set of clauses and a trail of literals that are true, with complete propagation.
+#![tactic(auto)]
+
+mod assignment;
