@@ -1,2 +1,4 @@
 pub mod Literals
 pub mod Tables
+pub mod Counts
+pub mod Links

@@ -131,8 +131,8 @@ pub grown : (slots : List (Option Slot)) (trues : List Literal) (level capacity 
     → length slots + n ≤ room → IsTable (slots ++ replicate n None) trues level room
 grown slots trues level capacity n room t fits =
     let len : length (slots ++ replicate n None) ≡ length slots + n = length-append slots (replicate n None) ∙ ap (λ (m : ℕ). length slots + m) (length-replicate {A = Option Slot} n None) in
-    let count_none = sum_by-replicate (λ (o : Option Slot). weight (is_some o)) n None in
-    let none_more : count_by is_some slots + count_by is_some (replicate n None) ≡ length trues = omega (arith, count_none, t.count) in
+    let count_none = sum_by-replicate {X = Option Slot} (λ (o : Option Slot). weight (is_some o)) n None in
+    let none_more : count_by {X = Option Slot} (λ (o : Option Slot). is_some o) slots + count_by {X = Option Slot} (λ (o : Option Slot). is_some o) (replicate {A = Option Slot} n None) ≡ length trues = omega (arith, count_none, t.count) in
     record {
       some = omega (arith, len, t.some);
       room = omega (arith, len, fits);

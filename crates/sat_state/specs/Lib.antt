@@ -2,3 +2,5 @@ pub mod Trail
 pub mod View
 pub mod Assigned
 pub mod AssignmentInside
+pub mod Counted
+pub mod CountedInside
