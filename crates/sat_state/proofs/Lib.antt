@@ -2,3 +2,4 @@ pub mod Literals
 pub mod Tables
 pub mod Counts
 pub mod Links
+pub mod Joins

@@ -4,3 +4,4 @@ pub mod Assigned
 pub mod AssignmentInside
 pub mod Counted
 pub mod CountedInside
+pub mod Joined

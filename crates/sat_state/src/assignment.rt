@@ -153,6 +153,8 @@ impl Assignment {
         ensures vars { self.new.vars ≡ self.old.vars }
         ensures trail { self.new.trail ≡ take (length self.old.trail - 1) self.old.trail }
         ensures literal { literals self.old.trail ≡ literals self.new.trail ++ result ∷ [] }
+        ensures known { result.var ≤ self.old.vars }
+        ensures free { value_of (literals self.new.trail) result.var ≡ None }
     {
         let lit = self.trail.pop().unwrap();
         let var = lit.var() as usize;

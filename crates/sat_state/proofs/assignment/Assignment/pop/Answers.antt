@@ -7,7 +7,7 @@ use Rattle.sat_state.specs.declared.assignment.Slot.{Slot}
 use Rattle.sat_state.specs.Assigned.{Assigned}
 use Rattle.sat_state.specs.Trail.{Entry, literals, value_of, level_of}
 use Rattle.sat_state.specs.AssignmentInside.{slot_of, entry_at, entries, IsTable}
-use Rattle.sat_state.proofs.Tables.{seen_value, seen_literals, literals-entries, last_known, popped, entries-set, entries-more, entries-unset}
+use Rattle.sat_state.proofs.Tables.{seen_value, seen_literals, literals-entries, last_known, last_free, popped, entries-set, entries-more, entries-unset}
 use Rattle.sat_state.proofs.assignment.Assignment.pop.Goals as goal
 use Rattle.sat_state.proofs.assignment.Assignment.pop.Goals.{After-self-2-1}
 
@@ -58,3 +58,18 @@ returns-clause-literal c =
     let slots = Rattle.std.proofs.Common.set a.slots.items c.var-var.result None in
     seen_literals a c.args.self.now c.self.view_is ∙ items_are c
     ∙ ap (λ (ls : List Literal). ls ++ c.unwrap-lit.result ∷ []) (sym (literals-entries slots left))
+
+pub returns-clause-known : goal.returns-clause-known
+returns-clause-known c =
+    let a = c.self.inside in
+    let known = last_known a.slots.items c.pop.new.self.items c.unwrap-lit.result a.level (vec_capacity a.trail) (table c) in
+    let vars : length a.slots.items - 1 ≡ c.args.self.now.vars = ap (λ (x : Assigned). x.vars) c.self.view_is in
+    omega (arith, known, vars)
+
+pub returns-clause-free : goal.returns-clause-free
+returns-clause-free c =
+    let a = c.self.inside in
+    let left = c.pop.new.self.items in
+    let slots = Rattle.std.proofs.Common.set a.slots.items c.var-var.result None in
+    ap (λ (ls : List Literal). value_of ls c.unwrap-lit.result.var) (literals-entries slots left)
+    ∙ last_free a.slots.items left c.unwrap-lit.result a.level (vec_capacity a.trail) (table c)
