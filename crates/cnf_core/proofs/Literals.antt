@@ -1,5 +1,5 @@
 -- Literals are one where their codes are, and the order of codes is the order of literals.
-use Rattle.std.proofs.Common.{◌≡◌, ℕ, ◌+◌, ◌*◌, ◌<◌, Bool, true, false, if◌then◌else◌, ◌⊎◌, inl, List, [], ◌∷◌, refl, ap, ◌∙◌, sym, subst, arith, nat_eq}
+use Rattle.std.proofs.Common.{◌≡◌, ℕ, ◌+◌, ◌*◌, ◌<◌, Bool, true, false, if◌then◌else◌, ◌⊎◌, inl, List, [], ◌∷◌, refl, ap, ◌∙◌, sym, subst, arith, nat_eq, ◌≤◌, ◌-◌, inr, length, get_or}
 use Rattle.std.specs.Prelude.{Contains}
 use Rattle.std.specs.Ordering.{nat_cmp}
 use Rattle.std.specs.declared.cmp.Ordering.TheVariants.{Less}
@@ -10,14 +10,15 @@ use Rattle.std.specs.List.{dedup}
 use Rattle.std.specs.List.Retain.{IsFiltered, DiffersFromLast}
 use Rattle.std.specs.List.Sorted.{IsStrictlySortedBy, IsSorted, IsPermutation}
 use Rattle.std.specs.Cmp.{on_equiv, nat_eq_equiv}
-use Rattle.std.proofs.lemmas.Bool.{eqb-true}
+use Rattle.std.proofs.lemmas.Bool.{eqb-true, cases_lt}
+use Rattle.std.proofs.lemmas.List.{get_or_default}
 use Rattle.std.proofs.lemmas.List.Filters.{dedup_is}
 use Rattle.std.proofs.lemmas.List.Sorted.{IsPermutation-sym, Contains-permutation}
 use Rattle.std.proofs.lemmas.Bool.Decides.{nat_tests}
 use Rattle.std.proofs.lemmas.Cmp.{on_total, nat_cmp_total}
 use Rattle.std.proofs.lemmas.List.Elements.{All-from_recursion, All-weaker, All-contains_itself}
 use Rattle.std.proofs.lemmas.List.Kept.{AllPairs-cons, IsStrictlySortedBy-dedup, Contains-dedup, Contains-from_dedup}
-use Rattle.cnf_core.specs.Literal.{Literal, Precedes, IsOrdered, HaveSameLiterals, code_of}
+use Rattle.cnf_core.specs.Literal.{Literal, Precedes, IsOrdered, HaveSameLiterals, VariablesUpTo, code_of}
 
 -- literals with the same variable and the same sign are one
 pub literal_ext : (a b : Literal) → a.var ≡ b.var → a.positive ≡ b.positive → a ≡ b
@@ -85,3 +86,20 @@ from_sort_and_dedup xs ys zs moved sorted filtered =
             xs (All-contains_itself xs);
       },
     )
+
+le_from_precedes : (a b : Literal) → Precedes a b → a.var ≤ b.var
+le_from_precedes a b (inl below) = omega arith
+le_from_precedes a b (inr same) = omega (arith, same.0)
+
+-- no variable is over that of the last literal
+pub last_is_greatest : (literals : List Literal) (last : Literal) → IsOrdered literals → last ≡ get_or literals (length literals - 1) last → VariablesUpTo last.var literals
+last_is_greatest literals last ordered is k d within =
+    let at_end : (e : Literal) → get_or literals (length literals - 1) e ≡ last =
+    λ e. get_or_default literals (length literals - 1) e last (omega arith) ∙ sym is in
+    elim (cases_lt k (length literals - 1)) [
+      | inl before ↦ subst (λ (l : Literal). (get_or literals k d).var ≤ l.var) (at_end d) (le_from_precedes _ _ (ordered k (length literals - 1) d before (omega arith)))
+      | inr here ↦ subst (λ (l : Literal). l.var ≤ last.var) (sym (at_end d) ∙ ap (λ (i : ℕ). get_or literals i d) (last_place k (length literals) within here)) (omega arith)
+    ]
+  where
+    last_place : (k n : ℕ) → k < n → n - 1 ≤ k → n - 1 ≡ k
+    last_place k n within here = omega arith

@@ -1,5 +1,5 @@
 -- Steps of a log: which are valid, which are new, and which unit propagation doesn't give.
-use Rattle.std.specs.Prelude.{◌≡◌, ◌≢◌, ℕ, ◌⊎◌, IsTrue, List, [], All, Contains, map, slice_index_or}
+use Rattle.std.specs.Prelude.{◌≡◌, ◌≢◌, ℕ, ◌⊎◌, IsTrue, List, [], All, Contains, map, slice_index_or, ◌<◌, length}
 use Rattle.cnf_core.specs.Literal.{Literal, negation}
 use Rattle.cnf_core.specs.Events.{LogEvent, EachStep, HintsAreThere, clauses_of, givens}
 use Rattle.cnf_core.specs.Reading.{is_shown_by}
@@ -75,3 +75,15 @@ pub record IsEffectiveStep (earlier : List LogEvent) (clause : List Literal) : T
   pub last : Literal
   pub is_last : IsLastOf trues clause last
   pub at_end : IsAtEnd trues (clauses_of earlier)
+
+-- each step with a literal is new
+abbrev pub NonEmptyStepsAreNew : List LogEvent → Type 0
+NonEmptyStepsAreNew events = EachStep (λ earlier clause hints. 0 < length clause → IsNewStep earlier clause) [] events
+
+-- each step with a literal is effective
+abbrev pub NonEmptyStepsAreEffective : List LogEvent → Type 0
+NonEmptyStepsAreEffective events = EachStep (λ earlier clause hints. 0 < length clause → IsEffectiveStep earlier clause) [] events
+
+-- each variable of a given is among these
+abbrev pub GivensNameOnly : List ℕ → List LogEvent → Type 0
+GivensNameOnly vars events = All (λ clause. All (λ l. Contains vars l.var) clause) (givens events)

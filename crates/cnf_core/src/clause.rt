@@ -1,7 +1,7 @@
 //! Clauses: distinct literals in order.
 
-ghost use Rattle.std.specs.Prelude.{◌≡◌, IfOk};
-ghost use Rattle.cnf_core.specs.Literal.{IsOrdered, HaveSameLiterals};
+ghost use Rattle.std.specs.Prelude.{◌≡◌, ℕ, ◌≤◌, IfOk};
+ghost use Rattle.cnf_core.specs.Literal.{IsOrdered, HaveSameLiterals, VariablesUpTo};
 
 use crate::lit::Lit;
 use ep_base::Memory;
@@ -46,5 +46,16 @@ impl Clause {
         ensures ordered { IsOrdered result.now }
     {
         self.lits.as_slice()
+    }
+
+    /// The greatest variable that the clause names, or 0 where it has no literal.
+    pub fn greatest_variable(&self) -> u64
+        ensures none_above { VariablesUpTo result self.now }
+        ensures least { (most : ℕ) → VariablesUpTo most self.now → result ≤ most }
+    {
+        match self.lits.last() {
+            Some(last) => last.var(),
+            None => 0,
+        }
     }
 }
