@@ -3,3 +3,4 @@ pub mod Tables
 pub mod Counts
 pub mod Links
 pub mod Joins
+pub mod Settling

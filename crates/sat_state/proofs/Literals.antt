@@ -57,7 +57,7 @@ same_literal-negation a b = ap (λ (t : Bool). eqb a.var b.var && t) (same_sign-
 pub negation-negation : (l : Literal) → negation (negation l) ≡ l
 negation-negation l = same_literal_is (negation (negation l)) l (same_literal-negation (negation l) l ∙ same_literal_itself (negation l))
 
-or_false : (t : Bool) → (t || false) ≡ t
+pub or_false : (t : Bool) → (t || false) ≡ t
 or_false true = refl
 or_false false = refl
 

@@ -1,5 +1,6 @@
 -- The clauses with their counters, and the trail that they count by.
 use Rattle.std.specs.Prelude.{◌≡◌, ℕ, ◌+◌, ◌*◌, ◌<◌, ◌≤◌, Bool, List, length, count_by, slice_index, All}
+use Rattle.std.specs.List.{list_any}
 use Rattle.cnf_core.specs.Literal.{Literal, negation, is_among, VariablesUpTo}
 use Rattle.sat_state.specs.Trail.{Entry, literals, IsGrounded}
 use Rattle.sat_state.specs.Assigned.{Assigned}
@@ -27,3 +28,7 @@ pub record AreJoined (counted : Counted) (assigned : Assigned) : Type 0 where
   pub room : 2 * assigned.vars + 2 ≤ length counted.holders
   pub in_range : All (VariablesUpTo assigned.vars) counted.clauses
   pub grounded : IsGrounded counted.clauses assigned.trail
+
+-- whether these literals make one of the clause false
+abbrev pub is_touched : List Literal → List Literal → Bool
+is_touched trues clause = list_any (is_false trues) clause
