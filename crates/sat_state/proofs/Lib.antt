@@ -4,3 +4,5 @@ pub mod Counts
 pub mod Links
 pub mod Joins
 pub mod Settling
+pub mod Queues
+pub mod Levels

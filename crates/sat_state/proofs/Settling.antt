@@ -2,7 +2,7 @@
 use Rattle.std.proofs.Common.{◌≡◌, ◌≢◌, ℕ, zero, suc, ◌+◌, ◌-◌, ◌*◌, ◌<◌, ◌≤◌, Bool, true, false, cond, not, ◌||◌, Option, Some, None, IsSome, is_some, is_none, List, [], ◌∷◌, ◌++◌, length, take, drop, get_or, slice_index, map, count_by, All, Contains, zero-le, refl, sym, ap, ◌∙◌, subst, inl, inr, ◌⊎◌, ⊎_elim, arith, rules}
 use Rattle.std.specs.List.{list_any}
 use Rattle.std.proofs.lemmas.Bool.{cases_lt, cases_Bool, both_ways, true≢false, false≢true, or_cases}
-use Rattle.std.proofs.lemmas.List.{take-append-le, take_at, drop_at, drop-append-le, get_or_append_left, get_or_push, length_push, length-append, drop_more, drop_all, get_or_default}
+use Rattle.std.proofs.lemmas.List.{take-append-le, take_at, drop_at, drop-append-le, get_or_append_left, get_or_push, length_push, length-append, drop_more, drop_all, get_or_default, take-append-drop, map-append, length-take, take-take}
 use Rattle.std.proofs.lemmas.List.Elements.{All-head, All-tail, All-contains, All-cons, All-nil, Contains-push}
 use Rattle.std.proofs.lemmas.List.Folds.{list_any-append, list_any_at}
 use Rattle.std.proofs.lemmas.List.Sums.{sum_by-cons, sum_by_push, count_by-le-length, sum_by_more, get_or-le-sum_by}
@@ -146,3 +146,33 @@ untouched_cons p more (l ∷ ls) none fails =
     let zero_here : one_if (same_literal (negation p) l) ≡ 0 = omega (arith, counts, none) in
     let here : same_literal (negation l) p ≡ false = same_literal_sym (negation l) p ∙ sym (same_literal-negation p l) ∙ none_if (same_literal (negation p) l) zero_here in
     both_none (is_false (p ∷ more) l) (is_touched (p ∷ more) ls) (both_none (same_literal (negation l) p) (is_false more l) here parts.0) (untouched_cons p more ls rest parts.1)
+
+-- a trail that begins with another is that one and what is behind it
+pub behind : (old new : List Entry) → take (length old) new ≡ old → new ≡ old ++ drop (length old) new
+behind old new front = sym (take-append-drop (length old) new) ∙ ap (λ (es : List Entry). es ++ drop (length old) new) front
+
+literals_behind : (old new : List Entry) → take (length old) new ≡ old → literals new ≡ literals old ++ literals (drop (length old) new)
+literals_behind old new front = ap literals (behind old new front) ∙ map-append (λ (e : Entry). e.literal) old (drop (length old) new)
+
+-- a settled clause stays settled where nothing that became true touches it
+pub settled_later : (old new : List Entry) (clause : List Literal) → take (length old) new ≡ old → IsSettled (literals old) clause
+    → is_touched (literals (drop (length old) new)) clause ≡ false → IsSettled (literals new) clause
+settled_later old new clause front settled untouched =
+    subst (λ (ls : List Literal). IsSettled ls clause) (sym (literals_behind old new front)) (settled_more (literals old) (literals (drop (length old) new)) clause settled untouched)
+
+-- what touches neither the trail from a place on nor ..
+pub untouched_parts : (old new : List Entry) (n : ℕ) (clause : List Literal) → take (length old) new ≡ old → n ≤ length old → is_touched (literals (drop n new)) clause ≡ false
+    → (is_touched (literals (drop n old)) clause ≡ false) × (is_touched (literals (drop (length old) new)) clause ≡ false)
+untouched_parts old new n clause front within untouched =
+    let more = drop (length old) new in
+    let split : literals (drop n new) ≡ literals (drop n old) ++ literals more =
+      ap literals (ap (drop n) (behind old new front) ∙ drop-append-le n old more within) ∙ map-append (λ (e : Entry). e.literal) (drop n old) more in
+    touched_append (literals (drop n old)) (literals more) clause (ap (λ (ls : List Literal). is_touched ls clause) (sym split) ∙ untouched)
+
+pub length_front : (old new : List Entry) → take (length old) new ≡ old → length old ≤ length new
+length_front old new front = omega (arith, ap length front, length-take (length old) new)
+
+-- a trail that begins with one that begins with another
+pub front_again : (first second third : List Entry) → take (length first) second ≡ first → take (length second) third ≡ second → take (length first) third ≡ first
+front_again first second third one two =
+    sym (take-take (length first) (length second) third (length_front first second one)) ∙ ap (take (length first)) two ∙ one

@@ -1,10 +1,10 @@
 -- The clauses with their counters, and the trail that they count by.
-use Rattle.std.specs.Prelude.{◌≡◌, ℕ, ◌+◌, ◌*◌, ◌<◌, ◌≤◌, Bool, List, length, count_by, slice_index, All}
+use Rattle.std.specs.Prelude.{◌≡◌, ℕ, ◌+◌, ◌*◌, ◌<◌, ◌≤◌, Bool, false, List, length, drop, count_by, slice_index, All}
 use Rattle.std.specs.List.{list_any}
 use Rattle.cnf_core.specs.Literal.{Literal, negation, is_among, VariablesUpTo}
-use Rattle.sat_state.specs.Trail.{Entry, literals, IsGrounded}
+use Rattle.sat_state.specs.Trail.{Entry, literals, IsFalsified, IsGrounded}
 use Rattle.sat_state.specs.Assigned.{Assigned}
-use Rattle.sat_state.specs.Counted.{Counted, clause_at}
+use Rattle.sat_state.specs.Counted.{Counted, clause_at, occurrences}
 
 -- whether a literal is false where these literals are true
 abbrev pub is_false : List Literal → Literal → Bool
@@ -32,3 +32,23 @@ pub record AreJoined (counted : Counted) (assigned : Assigned) : Type 0 where
 -- whether these literals make one of the clause false
 abbrev pub is_touched : List Literal → List Literal → Bool
 is_touched trues clause = list_any (is_false trues) clause
+
+-- this is the number of a falsified clause
+pub record NamesFalsified (clauses : List (List Literal)) (trail : List Entry) (number : ℕ) : Type 0 where
+  pub there : number < length clauses
+  pub falsified : IsFalsified (literals trail) (clause_at clauses number)
+
+-- each clause that holds the literal is settled, unless what became true on the way touches it
+abbrev pub AreHoldersSettled : List (List Literal) → Literal → List Entry → List Entry → Type 0
+AreHoldersSettled clauses l old new =
+    (number : ℕ) → number < length clauses → 1 ≤ occurrences l (clause_at clauses number)
+    → is_touched (literals (drop (length old) new)) (clause_at clauses number) ≡ false → IsSettled (literals new) (clause_at clauses number)
+
+abbrev pub AreAllSettled : List (List Literal) → List Entry → Type 0
+AreAllSettled clauses trail = (number : ℕ) → number < length clauses → IsSettled (literals trail) (clause_at clauses number)
+
+-- what has to be looked at: each clause below `checked` that no literal of the trail from `head` on touches is settled
+pub record IsQueue (clauses : List (List Literal)) (trail : List Entry) (checked head : ℕ) : Type 0 where
+  pub checked_in : checked ≤ length clauses
+  pub head_in : head ≤ length trail
+  pub settled : (number : ℕ) → number < checked → is_touched (literals (drop head trail)) (clause_at clauses number) ≡ false → IsSettled (literals trail) (clause_at clauses number)

@@ -1,6 +1,6 @@
 //! The values of the variables: which literals are true, in which order, at which level and why.
 
-ghost use Rattle.std.specs.Prelude.{◌≡◌, ℕ, ◌+◌, ◌-◌, ◌<◌, ◌≤◌, [], ◌∷◌, ◌++◌, length, take, max, IfOk, OnOk, OnErr, IsSome, is_none, if◌then◌else◌, slice_index_or};
+ghost use Rattle.std.specs.Prelude.{◌≡◌, ℕ, ◌+◌, ◌-◌, ◌<◌, ◌≤◌, [], ◌∷◌, ◌++◌, length, take, max, IfOk, OnOk, OnErr, IsSome, is_none, if◌then◌else◌, slice_index_or, All};
 ghost use Rattle.std.specs.Option.{option_map, option_map_or};
 ghost use Rattle.sat_state.specs.Trail.{Entry, literals, level_of, value_of, entry_of, next_level};
 
@@ -109,7 +109,9 @@ impl Assignment {
 
     /// The literals that are true, in order.
     pub fn trail(&self) -> &[Lit]
-        ensures { result.now ≡ literals self.now.trail }
+        ensures value { result.now ≡ literals self.now.trail }
+        ensures known { All (λ l. l.var ≤ self.now.vars) result.now }
+        ensures few { length self.now.trail ≤ self.now.vars + 1 }
     {
         self.trail.as_slice()
     }

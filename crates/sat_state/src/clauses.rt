@@ -201,7 +201,9 @@ impl CountedClauses {
     /// How many clauses hold a literal.
     pub fn holder_count(&self, lit: Lit) -> usize
         requires { code_of lit < length self.now.holders }
-        ensures { result ≡ length (holders_of self.now.holders lit) }
+        ensures count { result ≡ length (holders_of self.now.holders lit) }
+        ensures exact { (number : ℕ) → number < length self.now.clauses
+            → times number (holders_of self.now.holders lit) ≡ occurrences lit (clause_at self.now.clauses number) }
     {
         numbers(&self.holders, lit).len()
     }

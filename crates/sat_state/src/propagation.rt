@@ -1,13 +1,22 @@
 //! Propagation over the clauses and the trail.
 
-ghost use Rattle.std.specs.Prelude.{◌≡◌, ℕ, ◌+◌, ◌-◌, ◌<◌, ◌≤◌, [], ◌∷◌, ◌++◌, length, take, None, false, IsTrue, Contains};
+ghost use Rattle.std.specs.Prelude.{◌≡◌, ℕ, ◌+◌, ◌-◌, ◌<◌, ◌≤◌, [], ◌∷◌, ◌++◌, length, take, None, false, IsTrue, Contains, IsNone, IfSome, filter, nat_le};
 ghost use Rattle.sat_state.specs.Trail.{literals, value_of, next_level, level_of, HasReason, IsFalsified};
 ghost use Rattle.sat_state.specs.Counted.{clause_at};
-ghost use Rattle.sat_state.specs.Joined.{AreJoined, IsSettled, count_true, count_false};
+ghost use Rattle.cnf_core.specs.Steps.{IsAtEnd};
+ghost use Rattle.sat_state.specs.Joined.{AreJoined, IsSettled, count_true, count_false, NamesFalsified, AreHoldersSettled, AreAllSettled, IsQueue};
 
 use crate::assignment::Assignment;
 use crate::clauses::CountedClauses;
 use cnf_core::Lit;
+
+/// What propagation still has to look at: the clauses from `checked` on, and those that hold the negation of a literal of the
+/// trail from `head` on.
+#[derive(Clone, Copy, Debug)]
+pub struct Queue {
+    pub checked: usize,
+    pub head: usize,
+}
 
 /// Makes a literal true. Without a reason it is a decision, which opens a level.
 pub fn assign(clauses: &mut CountedClauses, assigned: &mut Assignment, lit: Lit, reason: Option<u64>)
@@ -80,4 +89,110 @@ pub fn visit(clauses: &mut CountedClauses, assigned: &mut Assignment, number: us
         assign(clauses, assigned, lit, Some(number as u64));
     }
     true
+}
+
+// Looks at each clause that holds the literal, up to a falsified one, whose number it answers.
+fn visit_holders(clauses: &mut CountedClauses, assigned: &mut Assignment, lit: Lit) -> Option<usize>
+    requires joined { AreJoined clauses.old assigned.old }
+    requires known { lit.var ≤ assigned.old.vars }
+    ensures joined { AreJoined clauses.new assigned.new }
+    ensures clauses { clauses.new.clauses ≡ clauses.old.clauses }
+    ensures vars { assigned.new.vars ≡ assigned.old.vars }
+    ensures front { take (length assigned.old.trail) assigned.new.trail ≡ assigned.old.trail }
+    ensures level { level_of assigned.new.trail ≡ level_of assigned.old.trail }
+    ensures falsified { IfSome result (NamesFalsified clauses.old.clauses assigned.new.trail) }
+    ensures settled { IsNone result → AreHoldersSettled clauses.old.clauses lit assigned.old.trail assigned.new.trail }
+{
+    for place in 0..clauses.holder_count(lit) {
+        let number = clauses.holder(lit, place);
+        if !visit(clauses, assigned, number) {
+            return Some(number);
+        }
+    }
+    None
+}
+
+// Looks at the clauses that weren't looked at yet, up to a falsified one, whose number it answers.
+fn check_new(clauses: &mut CountedClauses, assigned: &mut Assignment, queue: &mut Queue) -> Option<usize>
+    requires joined { AreJoined clauses.old assigned.old }
+    requires queue { IsQueue clauses.old.clauses assigned.old.trail queue.old.checked queue.old.head }
+    ensures joined { AreJoined clauses.new assigned.new }
+    ensures clauses { clauses.new.clauses ≡ clauses.old.clauses }
+    ensures vars { assigned.new.vars ≡ assigned.old.vars }
+    ensures front { take (length assigned.old.trail) assigned.new.trail ≡ assigned.old.trail }
+    ensures level { level_of assigned.new.trail ≡ level_of assigned.old.trail }
+    ensures queue { IsQueue clauses.new.clauses assigned.new.trail queue.new.checked queue.new.head }
+    ensures falsified { IfSome result (NamesFalsified clauses.old.clauses assigned.new.trail) }
+    ensures done { IsNone result → queue.new.checked ≡ length clauses.old.clauses }
+{
+    while queue.checked < clauses.len() {
+        let number = queue.checked;
+        if !visit(clauses, assigned, number) {
+            return Some(number);
+        }
+        queue.checked += 1;
+    }
+    None
+}
+
+// Looks at the clauses that hold the negation of a literal of the trail, up to a falsified one, whose number it answers.
+fn follow(clauses: &mut CountedClauses, assigned: &mut Assignment, queue: &mut Queue) -> Option<usize>
+    requires joined { AreJoined clauses.old assigned.old }
+    requires queue { IsQueue clauses.old.clauses assigned.old.trail queue.old.checked queue.old.head }
+    ensures joined { AreJoined clauses.new assigned.new }
+    ensures clauses { clauses.new.clauses ≡ clauses.old.clauses }
+    ensures vars { assigned.new.vars ≡ assigned.old.vars }
+    ensures front { take (length assigned.old.trail) assigned.new.trail ≡ assigned.old.trail }
+    ensures level { level_of assigned.new.trail ≡ level_of assigned.old.trail }
+    ensures queue { IsQueue clauses.new.clauses assigned.new.trail queue.new.checked queue.new.head }
+    ensures falsified { IfSome result (NamesFalsified clauses.old.clauses assigned.new.trail) }
+    ensures checked { queue.new.checked ≡ queue.old.checked }
+    ensures done { IsNone result → queue.new.head ≡ length assigned.new.trail }
+{
+    while queue.head < assigned.trail().len() {
+        let lit = assigned.trail()[queue.head];
+        let falsified = visit_holders(clauses, assigned, lit.negated());
+        if falsified.is_some() {
+            return falsified;
+        }
+        queue.head += 1;
+    }
+    None
+}
+
+/// Looks at all that has to be looked at, up to a falsified clause, whose number it answers.
+pub fn propagate(clauses: &mut CountedClauses, assigned: &mut Assignment, queue: &mut Queue) -> Option<usize>
+    requires joined { AreJoined clauses.old assigned.old }
+    requires queue { IsQueue clauses.old.clauses assigned.old.trail queue.old.checked queue.old.head }
+    ensures joined { AreJoined clauses.new assigned.new }
+    ensures clauses { clauses.new.clauses ≡ clauses.old.clauses }
+    ensures vars { assigned.new.vars ≡ assigned.old.vars }
+    ensures front { take (length assigned.old.trail) assigned.new.trail ≡ assigned.old.trail }
+    ensures level { level_of assigned.new.trail ≡ level_of assigned.old.trail }
+    ensures queue { IsQueue clauses.new.clauses assigned.new.trail queue.new.checked queue.new.head }
+    ensures falsified { IfSome result (NamesFalsified clauses.old.clauses assigned.new.trail) }
+    ensures settled { IsNone result → AreAllSettled clauses.old.clauses assigned.new.trail }
+{
+    let falsified = check_new(clauses, assigned, queue);
+    if falsified.is_some() {
+        return falsified;
+    }
+    follow(clauses, assigned, queue)
+}
+
+/// Takes literals back until no level above this one is left.
+pub fn unwind(clauses: &mut CountedClauses, assigned: &mut Assignment, level: u64)
+    requires joined { AreJoined clauses.old assigned.old }
+    requires reached { level ≤ level_of assigned.old.trail }
+    ensures joined { AreJoined clauses.new assigned.new }
+    ensures clauses { clauses.new.clauses ≡ clauses.old.clauses }
+    ensures vars { assigned.new.vars ≡ assigned.old.vars }
+    ensures trail { assigned.new.trail ≡ filter (λ e. nat_le e.level level) assigned.old.trail }
+    ensures front { take (length assigned.new.trail) assigned.old.trail ≡ assigned.new.trail }
+    ensures level { level_of assigned.new.trail ≡ level }
+    ensures at_end { level < level_of assigned.old.trail → IsAtEnd (literals assigned.new.trail) clauses.old.clauses }
+{
+    'above: while assigned.level() > level {
+        undo(clauses, assigned);
+    }
 }
