@@ -59,7 +59,7 @@ some_from_map : (o : Option Slot) (b : Bool) → option_map (λ s. s.positive) o
 some_from_map None b h = cc
 some_from_map (Some s) b h = refl
 
-abbrev Apart : List Literal → Type 0
+abbrev pub Apart : List Literal → Type 0
 Apart trues = (k : ℕ) (d : Literal) → k < length trues → value_of (take k trues) (get_or trues k d).var ≡ None
 
 apart_push : (trues : List Literal) (u : Literal) → Apart trues → value_of trues u.var ≡ None → Apart (trues ++ u ∷ [])

@@ -4,3 +4,6 @@
 mod assignment;
 mod clauses;
 mod propagation;
+mod state;
+
+pub use state::{Propagated, State};
