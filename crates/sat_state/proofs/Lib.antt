@@ -7,3 +7,4 @@ pub mod Settling
 pub mod Queues
 pub mod Levels
 pub mod Ends
+pub mod Results

@@ -156,6 +156,8 @@ impl CountedClauses {
         ensures trues { OnOk result (self.new.trues ≡ self.old.trues ++ trues ∷ []) }
         ensures falses { OnOk result (self.new.falses ≡ self.old.falses ++ falses ∷ []) }
         ensures room { length self.new.holders ≡ length self.old.holders }
+        ensures trues_len { length self.old.trues ≡ length self.old.clauses }
+        ensures falses_len { length self.old.falses ≡ length self.old.clauses }
     {
         self.clauses.reserve(1)?;
         self.trues.reserve(1)?;

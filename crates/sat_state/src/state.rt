@@ -2,11 +2,12 @@
 
 ghost use Rattle.std.specs.Prelude.{◌≡◌, ℕ, ◌+◌, ◌<◌, ◌≤◌, [], ◌∷◌, ◌++◌, length, take, drop, Bool, All, None, Some, IfOk, OnOk, OnErr, IsSome, filter, nat_le, slice_index_or};
 ghost use Rattle.std.specs.Option.{option_map};
-ghost use Rattle.cnf_core.specs.Literal.{VariablesUpTo};
+ghost use Rattle.cnf_core.specs.Literal.{Literal, VariablesUpTo};
 ghost use Rattle.cnf_core.specs.Steps.{IsLastOf};
 ghost use Rattle.sat_state.specs.Trail.{literals, value_of, level_of, entry_of, IsFalsified, NamesFalsified, IsGrounded, IsForcedAt, FollowsFromDecisions};
 ghost use Rattle.sat_state.specs.View.{StateView, IsPropagated, BringsIn, nothing};
 
+use crate::adding::{add, forget};
 use crate::assignment::Assignment;
 use crate::clauses::CountedClauses;
 use crate::propagation::{Queue, assign, propagate, unwind};
@@ -45,7 +46,65 @@ impl Model for State {
     ghost invariant = { IsState };
 }
 
+// A copy of a clause.
+fn copied(clause: &Clause) -> Result<Clause, Memory>
+    ensures { IfOk result (λ made. made ≡ clause.now) }
+{
+    Ok(clause.clone()?)
+}
+
 impl State {
+    // No clause, and the variables up to this number.
+    fn empty(alloc: Global, vars: u64) -> Result<State, Memory>
+        ensures clauses { IfOk result (λ state. state.clauses ≡ []) }
+        ensures vars { IfOk result (λ state. state.vars ≡ vars) }
+        ensures trail { IfOk result (λ state. state.trail ≡ []) }
+    {
+        let mut clauses = CountedClauses::new(alloc);
+        clauses.grow(vars)?;
+        let mut assigned = Assignment::new(alloc)?;
+        assigned.grow(vars)?;
+        Ok(State {
+            clauses,
+            assigned,
+            queue: Queue {
+                checked: 0,
+                head: 0,
+            },
+        })
+    }
+
+    /// The clauses in order, at level 0 with no literal true. The variables up to this number are known. Reserves what the calls
+    /// below need, in tables as long as the number.
+    pub fn new(alloc: Global, clauses: &[Clause], vars: u64) -> Result<State, Memory>
+        requires { All (VariablesUpTo vars) clauses.now }
+        ensures clauses { IfOk result (λ state. state.clauses ≡ clauses.now) }
+        ensures vars { IfOk result (λ state. state.vars ≡ vars) }
+        ensures trail { IfOk result (λ state. state.trail ≡ []) }
+    {
+        let mut state = State::empty(alloc, vars)?;
+        for clause in clauses {
+            state.add(copied(clause)?)?;
+        }
+        Ok(state)
+    }
+
+    /// Appends a clause, and makes its variables known. What it forces is left to `propagate`. After a refusal the state has no
+    /// clause, no variable and no literal.
+    pub fn add(&mut self, clause: Clause) -> Result<(), Memory>
+        requires { level_of self.old.trail ≡ 0 }
+        ensures clauses { OnOk result (self.new.clauses ≡ self.old.clauses ++ clause ∷ []) }
+        ensures vars { OnOk result (BringsIn self.old.vars clause self.new.vars) }
+        ensures trail { OnOk result (self.new.trail ≡ self.old.trail) }
+        ensures err { OnErr result (self.new ≡ nothing) }
+    {
+        let added = add(&mut self.clauses, &mut self.assigned, clause);
+        if added.is_err() {
+            forget(&mut self.clauses, &mut self.assigned, &mut self.queue);
+        }
+        added
+    }
+
     /// Opens a level, at which a literal is made true without a reason. Takes no memory.
     pub fn decide(&mut self, lit: Lit)
         requires known { lit.var ≤ self.old.vars }
@@ -87,6 +146,10 @@ impl State {
         ensures level { level_of self.new.trail ≡ level_of self.old.trail }
         ensures grounded { IsGrounded self.new.clauses self.new.trail }
         ensures done { result ≡ Propagated.Done → IsPropagated self.new }
+        ensures none_falsified { result ≡ Propagated.Done
+            → All (λ clause. IsFalsified (literals self.new.trail) clause → ⊥) self.new.clauses }
+        ensures none_unit { result ≡ Propagated.Done
+            → All (λ clause. (l : Literal) → IsLastOf (literals self.new.trail) clause l → ⊥) self.new.clauses }
         ensures conflict { (number : ℕ) → result ≡ Propagated.Conflict number
             → NamesFalsified self.new.clauses self.new.trail number }
     {
