@@ -232,3 +232,22 @@ pub follows : (clauses : List (List Literal)) (trail : List Entry) → IsGrounde
 follows clauses trail grounded s satisfied decided =
     subst (λ (es : List Entry). All (λ (x : Entry). IsTrueUnder s x.literal) es) (take_all (length trail) trail (omega arith))
       (true_up_to s clauses trail grounded satisfied decided (length trail) (omega arith))
+
+-- no variable stands twice in a grounded trail
+pub distinct : (clauses : List (List Literal)) (trail : List Entry) → IsGrounded clauses trail → AllPairs (λ a b. a.literal.var ≢ b.literal.var) trail
+distinct clauses trail grounded i j d before in_list same =
+    let get = λ (e : Entry). e.literal in
+    let len = length-map trail get in
+    let at = λ (k : ℕ) (h : k < length trail). ap (λ (l : Literal). l.var) (get_or-map get trail k d d.literal h) in
+    clash (literals trail) (apart_from_grounded clauses trail grounded) i j d.literal before (omega (arith, len, in_list))
+      (at i (omega arith) ∙ same ∙ sym (at j in_list))
+
+-- levels never fall along a grounded trail
+pub levels_rise : (clauses : List (List Literal)) (trail : List Entry) → IsGrounded clauses trail → AllPairs (λ a b. a.level ≤ b.level) trail
+levels_rise clauses trail grounded i j d before in_list =
+    let there : i < length trail = omega arith in
+    let up_to = λ (k : ℕ) (h : k < length trail). (grounded k d h).level ∙ ap level_of (sym (take_more trail k d h)) in
+    let first : (get_or trail i d).level ≡ level_of (take (i + 1) trail) = up_to i there in
+    let second : (get_or trail j d).level ≡ level_of (take (j + 1) trail) = up_to j in_list in
+    let same : level_of (take (i + 1) (take (j + 1) trail)) ≡ level_of (take (i + 1) trail) = ap level_of (take-take (i + 1) (j + 1) trail (omega arith)) in
+    omega (arith, first, second, same, sum_by-take-le (λ (x : Entry). one_if (is_none x.reason)) (take (j + 1) trail) (i + 1))

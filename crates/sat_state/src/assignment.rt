@@ -102,7 +102,8 @@ impl Assignment {
 
     /// The value of a variable.
     pub fn value(&self, var: u64) -> Option<bool>
-        ensures { result ≡ value_of (literals self.now.trail) var }
+        ensures value { result ≡ value_of (literals self.now.trail) var }
+        ensures unknown { self.now.vars < var → result ≡ None }
     {
         let var = var as usize;
         if var < self.slots.len() {
@@ -131,7 +132,7 @@ impl Assignment {
     pub fn trail(&self) -> &[Lit]
         ensures value { result.now ≡ literals self.now.trail }
         ensures known { All (λ l. l.var ≤ self.now.vars) result.now }
-        ensures few { length self.now.trail ≤ self.now.vars + 1 }
+        ensures few { length self.now.trail ≤ self.now.vars }
     {
         self.trail.as_slice()
     }

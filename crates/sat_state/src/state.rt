@@ -1,6 +1,6 @@
 //! The state of a search: clauses, and the literals that are true by decision or by a clause.
 
-ghost use Rattle.std.specs.Prelude.{◌≡◌, ℕ, ◌+◌, ◌<◌, ◌≤◌, [], ◌∷◌, ◌++◌, length, take, drop, Bool, All, None, Some, IfOk, OnOk, OnErr, IsSome, filter, nat_le, slice_index_or};
+ghost use Rattle.std.specs.Prelude.{◌≡◌, ◌≢◌, ℕ, ◌+◌, ◌<◌, ◌≤◌, [], ◌∷◌, ◌++◌, length, take, drop, Bool, All, AllPairs, None, Some, IfOk, OnOk, OnErr, IsSome, filter, nat_le, slice_index_or};
 ghost use Rattle.std.specs.Option.{option_map};
 ghost use Rattle.cnf_core.specs.Literal.{Literal, VariablesUpTo};
 ghost use Rattle.cnf_core.specs.Steps.{IsLastOf};
@@ -96,6 +96,7 @@ impl State {
         ensures clauses { OnOk result (self.new.clauses ≡ self.old.clauses ++ clause ∷ []) }
         ensures vars { OnOk result (BringsIn self.old.vars clause self.new.vars) }
         ensures trail { OnOk result (self.new.trail ≡ self.old.trail) }
+        ensures grounded { OnOk result (IsGrounded self.new.clauses self.new.trail) }
         ensures err { OnErr result (self.new ≡ nothing) }
     {
         let added = add(&mut self.clauses, &mut self.assigned, clause);
@@ -161,7 +162,8 @@ impl State {
 
     /// The value of a variable, or none where it has none or isn't known.
     pub fn value(&self, var: u64) -> Option<bool>
-        ensures { result ≡ value_of (literals self.now.trail) var }
+        ensures value { result ≡ value_of (literals self.now.trail) var }
+        ensures unknown { self.now.vars < var → result ≡ None }
     {
         self.assigned.value(var)
     }
@@ -177,6 +179,9 @@ impl State {
     pub fn trail(&self) -> &[Lit]
         ensures value { result.now ≡ literals self.now.trail }
         ensures known { VariablesUpTo self.now.vars result.now }
+        ensures few { length self.now.trail ≤ self.now.vars }
+        ensures distinct { AllPairs (λ a b. a.literal.var ≢ b.literal.var) self.now.trail }
+        ensures levels { AllPairs (λ a b. a.level ≤ b.level) self.now.trail }
         ensures grounded { IsGrounded self.now.clauses self.now.trail }
         ensures follows { FollowsFromDecisions self.now.clauses self.now.trail }
     {

@@ -14,5 +14,5 @@ returns c =
     let a = c.self.inside in
     let trues = literals c.args.self.now.trail in
     let apart = subst IsConsistent (sym (seen_literals a c.args.self.now c.self.view_is)) (consistent a.trail.items c.self.invariant.apart) in
-    c.eq.ensures ∙ ap (λ (o : Option Bool). option_eq beq o (Some c.positive.result)) (c.value.ensures ∙ ap (value_of trues) c.var.ensures.value)
+    c.eq.ensures ∙ ap (λ (o : Option Bool). option_eq beq o (Some c.positive.result)) (c.value.ensures.value ∙ ap (value_of trues) c.var.ensures.value)
     ∙ ap (λ (b : Bool). option_eq beq (value_of trues c.args.lit.var) (Some b)) c.positive.ensures ∙ value_test trues c.args.lit apart
