@@ -41,12 +41,12 @@ consistent trues apart l (i, hi, ei) (j, hj, ej) =
     let at_j : get_or trues j l ≡ negation l = get_or_default trues j l (negation l) hj ∙ ej in
     let same : (get_or trues i l).var ≡ (get_or trues j l).var = ap (λ (x : Literal). x.var) ei ∙ sym (ap (λ (x : Literal). x.var) at_j) in
     ⊎_elim
-      (λ (e : i ≡ j). not_itself l.positive (ap (λ (x : Literal). x.positive) (sym ei ∙ ap (λ (n : ℕ). get_or trues n l) e ∙ at_j)))
-      (λ (ne : (i < j) ⊎ (j < i)). ⊎_elim
-        (λ (lt : i < j). clash trues apart i j l lt hj same)
-        (λ (gt : j < i). clash trues apart j i l gt hi (sym same))
-        ne)
-      (cases_order i j)
+    (λ (e : i ≡ j). not_itself l.positive (ap (λ (x : Literal). x.positive) (sym ei ∙ ap (λ (n : ℕ). get_or trues n l) e ∙ at_j)))
+    (λ (ne : (i < j) ⊎ (j < i)). ⊎_elim
+    (λ (lt : i < j). clash trues apart i j l lt hj same)
+    (λ (gt : j < i). clash trues apart j i l gt hi (sym same))
+    ne)
+    (cases_order i j)
 
 -- one that passes, where one is counted
 pub some_passes : {X : Type 0} (p : X → Bool) (xs : List X) → 1 ≤ count_by p xs → (x : X) × Contains xs x × (p x ≡ true)
@@ -54,16 +54,16 @@ some_passes p [] h = absurd (omega (arith, h))
 some_passes p (x ∷ xs) h = ⊎_elim
     (λ (e : p x ≡ true). (x, (0, omega arith, refl), e))
     (λ (e : p x ≡ false).
-      let later = some_passes p xs (omega (arith, h, count_cons p x xs false e)) in
-      (later.0, Contains-append_right (x ∷ []) xs later.0 later.1, later.2))
+    let later = some_passes p xs (omega (arith, h, count_cons p x xs false e)) in
+    (later.0, Contains-append_right (x ∷ []) xs later.0 later.1, later.2))
     (cases_Bool (p x))
 
 pub some_fails : {X : Type 0} (p : X → Bool) (xs : List X) → count_by p xs + 1 ≤ length xs → (x : X) × Contains xs x × (p x ≡ false)
 some_fails p [] h = absurd (omega (arith, h))
 some_fails p (x ∷ xs) h = ⊎_elim
     (λ (e : p x ≡ true).
-      let later = some_fails p xs (omega (arith, h, count_cons p x xs true e)) in
-      (later.0, Contains-append_right (x ∷ []) xs later.0 later.1, later.2))
+    let later = some_fails p xs (omega (arith, h, count_cons p x xs true e)) in
+    (later.0, Contains-append_right (x ∷ []) xs later.0 later.1, later.2))
     (λ (e : p x ≡ false). (x, (0, omega arith, refl), e))
     (cases_Bool (p x))
 
@@ -83,11 +83,11 @@ pub two_of : (p : Literal → Bool) (xs : List Literal) → IsOrdered xs → cou
 two_of p [] ordered h = absurd (omega (arith, h))
 two_of p (x ∷ xs) ordered h = ⊎_elim
     (λ (e : p x ≡ true).
-      let later = two_of p xs (ordered_tail x xs ordered) (omega (arith, h, count_cons p x xs true e)) in
-      (later.0, later.1, later.2, Contains-append_right (x ∷ []) xs later.0 later.3, Contains-append_right (x ∷ []) xs later.1 later.4, later.5, later.6))
+    let later = two_of p xs (ordered_tail x xs ordered) (omega (arith, h, count_cons p x xs true e)) in
+    (later.0, later.1, later.2, Contains-append_right (x ∷ []) xs later.0 later.3, Contains-append_right (x ∷ []) xs later.1 later.4, later.5, later.6))
     (λ (e : p x ≡ false).
-      let later = some_fails p xs (omega (arith, h, count_cons p x xs false e)) in
-      (x, later.0, first_apart x later.0 xs ordered later.1, (0, omega arith, refl), Contains-append_right (x ∷ []) xs later.0 later.1, e, later.2))
+    let later = some_fails p xs (omega (arith, h, count_cons p x xs false e)) in
+    (x, later.0, first_apart x later.0 xs ordered later.1, (0, omega arith, refl), Contains-append_right (x ∷ []) xs later.0 later.1, e, later.2))
     (cases_Bool (p x))
 
 not_among : (trues : List Literal) (l : Literal) → is_among trues l ≡ false → Contains trues l → ⊥
@@ -99,19 +99,19 @@ among_none trues l none = ⊎_elim (λ (e : is_among trues l ≡ true). absurd (
 clause_settled : (trues clause : List Literal) → IsOrdered clause → IsSettled trues clause → HasTrueLiteral trues clause ⊎ HasTwoNotFalse trues clause
 clause_settled trues clause ordered settled = ⊎_elim
     (λ (none : count_true trues clause < 1).
-      let two = two_of (is_false trues) clause ordered (settled (omega arith)) in
-      inr (record {
-        one = two.0;
-        other = two.1;
-        two = two.2;
-        one_in = two.3;
-        other_in = two.4;
-        one_not_false = not_among trues (negation two.0) two.5;
-        other_not_false = not_among trues (negation two.1) two.6;
-      }))
+    let two = two_of (is_false trues) clause ordered (settled (omega arith)) in
+    inr (record {
+      one = two.0;
+      other = two.1;
+      two = two.2;
+      one_in = two.3;
+      other_in = two.4;
+      one_not_false = not_among trues (negation two.0) two.5;
+      other_not_false = not_among trues (negation two.1) two.6;
+    }))
     (λ (some : 1 ≤ count_true trues clause).
-      let one = some_passes (is_among trues) clause some in
-      inl (one.0, one.1, Contains-from_among trues one.0 one.2))
+    let one = some_passes (is_among trues) clause some in
+    inl (one.0, one.1, Contains-from_among trues one.0 one.2))
     (cases_lt (count_true trues clause) 1)
 
 -- where each clause is settled by its counts, propagation is at its end
@@ -119,7 +119,7 @@ pub at_end_from_settled : (clauses : List (List Literal)) (trail : List Entry) �
 at_end_from_settled clauses trail grounded ordered settled = record {
   consistent = consistent (literals trail) (apart_from_grounded clauses trail grounded);
   settled = λ k d h.
-    subst (λ (clause : List Literal). HasTrueLiteral (literals trail) clause ⊎ HasTwoNotFalse (literals trail) clause) (get_or_default clauses k [] d h)
+      subst (λ (clause : List Literal). HasTrueLiteral (literals trail) clause ⊎ HasTwoNotFalse (literals trail) clause) (get_or_default clauses k [] d h)
       (clause_settled (literals trail) (clause_at clauses k) (ordered k [] h) (settled k h));
 }
 
@@ -209,11 +209,11 @@ true_by_reason s clauses trues l None satisfied earlier has decided = decided re
 true_by_reason s clauses trues l (Some n) satisfied earlier has decided =
     let one = satisfied n [] has.0 in
     ⊎_elim
-      (λ (e : one.literal ≡ l). subst (IsTrueUnder s) e one.is_true)
-      (λ (ne : one.literal ≢ l).
-        let other : s one.literal.var ≡ not one.literal.positive = All-contains (IsTrueUnder s) trues (negation one.literal) earlier (has.1.others_false one.literal one.in_clause ne) in
-        absurd (not_itself one.literal.positive (sym one.is_true ∙ other)))
-      (same_or_not one.literal l)
+    (λ (e : one.literal ≡ l). subst (IsTrueUnder s) e one.is_true)
+    (λ (ne : one.literal ≢ l).
+    let other : s one.literal.var ≡ not one.literal.positive = All-contains (IsTrueUnder s) trues (negation one.literal) earlier (has.1.others_false one.literal one.in_clause ne) in
+    absurd (not_itself one.literal.positive (sym one.is_true ∙ other)))
+    (same_or_not one.literal l)
 
 true_up_to : (s : ℕ → Bool) (clauses : List (List Literal)) (trail : List Entry) → IsGrounded clauses trail → Satisfies s clauses
     → All (λ e. IsNone e.reason → IsTrueUnder s e.literal) trail → (n : ℕ) → n ≤ length trail → All (λ e. IsTrueUnder s e.literal) (take n trail)
@@ -224,14 +224,14 @@ true_up_to s clauses trail grounded satisfied decided (suc n) h =
     let e = get_or trail n some_entry in
     let literals_true = All-map (IsTrueUnder s) (λ (x : Entry). x.literal) (take n trail) earlier in
     subst (λ (m : ℕ). All (λ (x : Entry). IsTrueUnder s x.literal) (take m trail)) (add-one n)
-      (All-more (λ (x : Entry). IsTrueUnder s x.literal) trail n some_entry there earlier
-        (true_by_reason s clauses (literals (take n trail)) e.literal e.reason satisfied literals_true (grounded n some_entry there).reason (decided n some_entry there)))
+    (All-more (λ (x : Entry). IsTrueUnder s x.literal) trail n some_entry there earlier
+    (true_by_reason s clauses (literals (take n trail)) e.literal e.reason satisfied literals_true (grounded n some_entry there).reason (decided n some_entry there)))
 
 -- an assignment that satisfies the clauses and makes the decisions true makes the trail true
 pub follows : (clauses : List (List Literal)) (trail : List Entry) → IsGrounded clauses trail → FollowsFromDecisions clauses trail
 follows clauses trail grounded s satisfied decided =
     subst (λ (es : List Entry). All (λ (x : Entry). IsTrueUnder s x.literal) es) (take_all (length trail) trail (omega arith))
-      (true_up_to s clauses trail grounded satisfied decided (length trail) (omega arith))
+    (true_up_to s clauses trail grounded satisfied decided (length trail) (omega arith))
 
 -- no variable stands twice in a grounded trail
 pub distinct : (clauses : List (List Literal)) (trail : List Entry) → IsGrounded clauses trail → AllPairs (λ a b. a.literal.var ≢ b.literal.var) trail
@@ -240,7 +240,7 @@ distinct clauses trail grounded i j d before in_list same =
     let len = length-map trail get in
     let at = λ (k : ℕ) (h : k < length trail). ap (λ (l : Literal). l.var) (get_or-map get trail k d d.literal h) in
     clash (literals trail) (apart_from_grounded clauses trail grounded) i j d.literal before (omega (arith, len, in_list))
-      (at i (omega arith) ∙ same ∙ sym (at j in_list))
+    (at i (omega arith) ∙ same ∙ sym (at j in_list))
 
 -- levels never fall along a grounded trail
 pub levels_rise : (clauses : List (List Literal)) (trail : List Entry) → IsGrounded clauses trail → AllPairs (λ a b. a.level ≤ b.level) trail

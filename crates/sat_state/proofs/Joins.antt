@@ -37,15 +37,15 @@ count_true_push trues u clause new = count_sum (is_among (trues ++ u ∷ [])) (i
 pub count_false_push : (trues : List Literal) (u : Literal) (clause : List Literal) → is_among trues u ≡ false → count_false (trues ++ u ∷ []) clause ≡ count_false trues clause + occurrences (negation u) clause
 count_false_push trues u clause new =
     count_sum (is_false (trues ++ u ∷ [])) (is_false trues) (same_literal (negation u))
-      (λ l. push_counts trues u (negation l) new ∙ ap (λ (b : Bool). one_if (is_among trues (negation l)) + one_if b) (sym (same_literal-negation u l))) clause
+    (λ l. push_counts trues u (negation l) new ∙ ap (λ (b : Bool). one_if (is_among trues (negation l)) + one_if b) (sym (same_literal-negation u l))) clause
 
 -- an entry that stands on the trail is appended
 pub grounded_push : (clauses : List (List Literal)) (trail : List Entry) (e : Entry) → IsGrounded clauses trail → StandsOn clauses trail e → IsGrounded clauses (trail ++ e ∷ [])
 grounded_push clauses trail e grounded stands k d h = ⊎_elim
     (λ (lt : k < length trail). rw (take-append-le k trail (e ∷ []) (omega arith), get_or_append_left trail (e ∷ []) d k lt) (grounded k d lt))
     (λ (ge : length trail ≤ k).
-      let at_end : length trail ≡ k = omega (arith, length_push trail e, h) in
-      rw (take_at trail (e ∷ []) k at_end, get_or_push trail e d k at_end) stands)
+    let at_end : length trail ≡ k = omega (arith, length_push trail e, h) in
+    rw (take_at trail (e ∷ []) k at_end, get_or_push trail e d k at_end) stands)
     (cases_lt k (length trail))
 
 -- a front of the trail stands by itself
@@ -92,15 +92,15 @@ joined_push old new was now u reason j free has same_clauses same_holders trues 
     let not_yet = not_true (literals was.trail) u free in
     record {
       trues = λ number h.
-        let there : number < length old.clauses = omega (arith, len, h) in
-        let clause = clause_at old.clauses number in
-        trues number there ∙ ap (λ (n : ℕ). n + occurrences u clause) (j.trues number there) ∙ sym (count_true_push (literals was.trail) u clause not_yet)
-        ∙ ap (λ (xs : List Literal). count_true xs clause) (sym ls) ∙ ap (λ (cs : List (List Literal)). count_true (literals now.trail) (clause_at cs number)) (sym same_clauses);
+          let there : number < length old.clauses = omega (arith, len, h) in
+          let clause = clause_at old.clauses number in
+          trues number there ∙ ap (λ (n : ℕ). n + occurrences u clause) (j.trues number there) ∙ sym (count_true_push (literals was.trail) u clause not_yet)
+          ∙ ap (λ (xs : List Literal). count_true xs clause) (sym ls) ∙ ap (λ (cs : List (List Literal)). count_true (literals now.trail) (clause_at cs number)) (sym same_clauses);
       falses = λ number h.
-        let there : number < length old.clauses = omega (arith, len, h) in
-        let clause = clause_at old.clauses number in
-        falses number there ∙ ap (λ (n : ℕ). n + occurrences (negation u) clause) (j.falses number there) ∙ sym (count_false_push (literals was.trail) u clause not_yet)
-        ∙ ap (λ (xs : List Literal). count_false xs clause) (sym ls) ∙ ap (λ (cs : List (List Literal)). count_false (literals now.trail) (clause_at cs number)) (sym same_clauses);
+          let there : number < length old.clauses = omega (arith, len, h) in
+          let clause = clause_at old.clauses number in
+          falses number there ∙ ap (λ (n : ℕ). n + occurrences (negation u) clause) (j.falses number there) ∙ sym (count_false_push (literals was.trail) u clause not_yet)
+          ∙ ap (λ (xs : List Literal). count_false xs clause) (sym ls) ∙ ap (λ (cs : List (List Literal)). count_false (literals now.trail) (clause_at cs number)) (sym same_clauses);
       room = rw (same_vars, same_holders) j.room;
       in_range = rw (same_vars, same_clauses) j.in_range;
       grounded = rw (same_clauses, more) (grounded_push old.clauses was.trail e j.grounded (next_stands old.clauses was.trail u reason free has));
@@ -128,15 +128,15 @@ joined_pop old new was now u j ls free same_clauses same_holders trues falses sa
     let left = literals now.trail in
     record {
       trues = λ number h.
-        let there : number < length old.clauses = omega (arith, len, h) in
-        let clause = clause_at old.clauses number in
-        let same : slice_index new.trues number ≡ count_true left clause = omega (arith, trues number there, counted_true old was left u j ls free number there) in
-        same ∙ ap (λ (cs : List (List Literal)). count_true left (clause_at cs number)) (sym same_clauses);
+          let there : number < length old.clauses = omega (arith, len, h) in
+          let clause = clause_at old.clauses number in
+          let same : slice_index new.trues number ≡ count_true left clause = omega (arith, trues number there, counted_true old was left u j ls free number there) in
+          same ∙ ap (λ (cs : List (List Literal)). count_true left (clause_at cs number)) (sym same_clauses);
       falses = λ number h.
-        let there : number < length old.clauses = omega (arith, len, h) in
-        let clause = clause_at old.clauses number in
-        let same : slice_index new.falses number ≡ count_false left clause = omega (arith, falses number there, counted_false old was left u j ls free number there) in
-        same ∙ ap (λ (cs : List (List Literal)). count_false left (clause_at cs number)) (sym same_clauses);
+          let there : number < length old.clauses = omega (arith, len, h) in
+          let clause = clause_at old.clauses number in
+          let same : slice_index new.falses number ≡ count_false left clause = omega (arith, falses number there, counted_false old was left u j ls free number there) in
+          same ∙ ap (λ (cs : List (List Literal)). count_false left (clause_at cs number)) (sym same_clauses);
       room = rw (same_vars, same_holders) j.room;
       in_range = rw (same_vars, same_clauses) j.in_range;
       grounded = rw (same_clauses, less) (grounded_take old.clauses was.trail (length was.trail - 1) (omega arith) j.grounded);
@@ -155,21 +155,21 @@ joined_clause old new assigned clause j level known trues_len falses_len holders
     let last : (number : ℕ) → n ≡ number → clause_at new.clauses number ≡ clause = λ number e. ap (λ (cs : List (List Literal)). clause_at cs number) more ∙ get_or_push old.clauses clause [] number e in
     record {
       trues = λ number h. ⊎_elim
-        (λ (lt : number < n).
+          (λ (lt : number < n).
           ap (λ (xs : List ℕ). slice_index xs number) trues ∙ get_or_append_left old.trues (count_true ls clause ∷ []) 0 number (omega (arith, trues_len, lt))
           ∙ j.trues number lt ∙ ap (count_true ls) (sym (before number lt)))
-        (λ (ge : n ≤ number).
+          (λ (ge : n ≤ number).
           let e : n ≡ number = omega (arith, len, h) in
           ap (λ (xs : List ℕ). slice_index xs number) trues ∙ get_or_push old.trues (count_true ls clause) 0 number (trues_len ∙ e) ∙ ap (count_true ls) (sym (last number e)))
-        (cases_lt number n);
+          (cases_lt number n);
       falses = λ number h. ⊎_elim
-        (λ (lt : number < n).
+          (λ (lt : number < n).
           ap (λ (xs : List ℕ). slice_index xs number) falses ∙ get_or_append_left old.falses (count_false ls clause ∷ []) 0 number (omega (arith, falses_len, lt))
           ∙ j.falses number lt ∙ ap (count_false ls) (sym (before number lt)))
-        (λ (ge : n ≤ number).
+          (λ (ge : n ≤ number).
           let e : n ≡ number = omega (arith, len, h) in
           ap (λ (xs : List ℕ). slice_index xs number) falses ∙ get_or_push old.falses (count_false ls clause) 0 number (falses_len ∙ e) ∙ ap (count_false ls) (sym (last number e)))
-        (cases_lt number n);
+          (cases_lt number n);
       room = omega (arith, j.room, holders);
       in_range = rw more (All-push (VariablesUpTo assigned.vars) old.clauses clause j.in_range known);
       grounded = rw more (grounded_more old.clauses clause assigned.trail j.grounded level);

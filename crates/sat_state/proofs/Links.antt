@@ -15,17 +15,17 @@ pub linked_more : (table : List (List ℕ)) (start : List ℕ) (at k n number : 
     → get_or (set table at (get_or table at [] ++ number ∷ [])) k [] ≡ start ++ replicate (n + one_if (eqb at k)) number
 linked_more table start at k n number known was = ⊎_elim
     (λ (e : at ≡ k).
-      let one : one_if (eqb at k) ≡ 1 = ap one_if (eq-eqb at k e) in
-      subst (λ (x : ℕ). get_or (set table at (get_or table at [] ++ number ∷ [])) x [] ≡ start ++ replicate (n + one_if (eqb at k)) number) e
-        (get_or-set_same table at (get_or table at [] ++ number ∷ []) [] known
-        ∙ ap (λ (xs : List ℕ). xs ++ number ∷ []) (ap (λ (x : ℕ). get_or table x []) e ∙ was)
-        ∙ append_assoc start (replicate n number) (number ∷ [])
-        ∙ ap (λ (xs : List ℕ). start ++ xs) (replicate_more n number)
-        ∙ ap (λ (x : ℕ). start ++ replicate (n + x) number) (sym one)))
+    let one : one_if (eqb at k) ≡ 1 = ap one_if (eq-eqb at k e) in
+    subst (λ (x : ℕ). get_or (set table at (get_or table at [] ++ number ∷ [])) x [] ≡ start ++ replicate (n + one_if (eqb at k)) number) e
+    (get_or-set_same table at (get_or table at [] ++ number ∷ []) [] known
+    ∙ ap (λ (xs : List ℕ). xs ++ number ∷ []) (ap (λ (x : ℕ). get_or table x []) e ∙ was)
+    ∙ append_assoc start (replicate n number) (number ∷ [])
+    ∙ ap (λ (xs : List ℕ). start ++ xs) (replicate_more n number)
+    ∙ ap (λ (x : ℕ). start ++ replicate (n + x) number) (sym one)))
     (λ (ne : at ≢ k).
-      let none : one_if (eqb at k) ≡ 0 = ap one_if (ne_eqb at k ne) in
-      let same : n ≡ n + one_if (eqb at k) = omega arith in
-      get_or-set_other table at k (get_or table at [] ++ number ∷ []) [] (λ e. ne (sym e)) ∙ was ∙ ap (λ (x : ℕ). start ++ replicate x number) same)
+    let none : one_if (eqb at k) ≡ 0 = ap one_if (ne_eqb at k ne) in
+    let same : n ≡ n + one_if (eqb at k) = omega arith in
+    get_or-set_other table at k (get_or table at [] ++ number ∷ []) [] (λ e. ne (sym e)) ∙ was ∙ ap (λ (x : ℕ). start ++ replicate x number) same)
     (cases_eq at k)
 
 code_test : (v w : ℕ) (p q : Bool) → eqb (2 * v + cond p 0 1) (2 * w + cond q 0 1) ≡ (eqb w v && same_sign q p)
@@ -87,34 +87,34 @@ module _ (clauses : List (List Literal)) (holders : List (List ℕ)) (trues fals
         trues_len = length_push trues a ∙ ap (λ (x : ℕ). x + 1) t.trues_len ∙ sym more;
         falses_len = length_push falses b ∙ ap (λ (x : ℕ). x + 1) t.falses_len ∙ sym more;
         numbers = λ k. All-same (λ (number : ℕ). number < length (clauses ++ clause ∷ [])) (get_or lists k []) (get_or holders k [] ++ replicate (count_by (λ l. eqb (code_of l) k) clause) n) (each k)
-          (All-append (λ (number : ℕ). number < length (clauses ++ clause ∷ [])) (get_or holders k []) (replicate (count_by (λ l. eqb (code_of l) k) clause) n)
+            (All-append (λ (number : ℕ). number < length (clauses ++ clause ∷ [])) (get_or holders k []) (replicate (count_by (λ l. eqb (code_of l) k) clause) n)
             (λ i d h. omega (arith, t.numbers k i d h, more))
             (All-replicate (λ (number : ℕ). number < length (clauses ++ clause ∷ [])) (count_by (λ l. eqb (code_of l) k) clause) n (omega (arith, more))));
         exact = λ l number h.
-          let m = count_by (λ x. eqb (code_of x) (code_of l)) clause in
-          let sum : times number (holders_of lists l) ≡ times number (holders_of holders l) + m * one_if (eqb n number) =
+            let m = count_by (λ x. eqb (code_of x) (code_of l)) clause in
+            let sum : times number (holders_of lists l) ≡ times number (holders_of holders l) + m * one_if (eqb n number) =
             ap (times number) (each (code_of l)) ∙ times-append number (holders_of holders l) (replicate m n) ∙ ap (λ (x : ℕ). times number (holders_of holders l) + x) (times-replicate number m n) in
-          ⊎_elim
+            ⊎_elim
             (λ (lt : number < n).
-              let none : one_if (eqb n number) ≡ 0 = ap one_if (ne_eqb n number (λ e. absurd (omega arith))) in
-              let zero = ap (λ (x : ℕ). m * x) none in
-              let old : times number (holders_of lists l) ≡ times number (holders_of holders l) = omega (arith, sum, zero) in
-              old ∙ t.exact l number lt ∙ ap (occurrences l) (sym (below number lt)))
+            let none : one_if (eqb n number) ≡ 0 = ap one_if (ne_eqb n number (λ e. absurd (omega arith))) in
+            let zero = ap (λ (x : ℕ). m * x) none in
+            let old : times number (holders_of lists l) ≡ times number (holders_of holders l) = omega (arith, sum, zero) in
+            old ∙ t.exact l number lt ∙ ap (occurrences l) (sym (below number lt)))
             (λ (ge : n ≤ number).
-              let e : n ≡ number = omega (arith, more, h) in
-              let one : one_if (eqb n number) ≡ 1 = ap one_if (eq-eqb n number e) in
-              let all : m * one_if (eqb n number) ≡ m * 1 = ap (λ (x : ℕ). m * x) one in
-              let none = times_none number (holders_of holders l) (λ i d in_list. omega (arith, t.numbers (code_of l) i d in_list, e)) in
-              let new : times number (holders_of lists l) ≡ m = omega (arith, sum, all, none) in
-              new ∙ count-code l clause ∙ ap (occurrences l) (sym (last number e)))
+            let e : n ≡ number = omega (arith, more, h) in
+            let one : one_if (eqb n number) ≡ 1 = ap one_if (eq-eqb n number e) in
+            let all : m * one_if (eqb n number) ≡ m * 1 = ap (λ (x : ℕ). m * x) one in
+            let none = times_none number (holders_of holders l) (λ i d in_list. omega (arith, t.numbers (code_of l) i d in_list, e)) in
+            let new : times number (holders_of lists l) ≡ m = omega (arith, sum, all, none) in
+            new ∙ count-code l clause ∙ ap (occurrences l) (sym (last number e)))
             (cases_lt number n);
         small = λ number. ⊎_elim
-          (λ (lt : number < n). rw (below number lt) (t.small number))
-          (λ (ge : n ≤ number). ⊎_elim
+            (λ (lt : number < n). rw (below number lt) (t.small number))
+            (λ (ge : n ≤ number). ⊎_elim
             (λ (lt : n < number). let past : clause_at (clauses ++ clause ∷ []) number ≡ [] = get_or_past (clauses ++ clause ∷ []) number [] (omega (arith, more)) in rw past (lit< tt))
             (λ (le : number ≤ n). rw (last number (omega arith)) short)
             (cases_lt n number))
-          (cases_lt number n);
+            (cases_lt number n);
       }
 
   -- the lists stand at the same places of another table

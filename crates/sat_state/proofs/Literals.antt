@@ -182,5 +182,5 @@ sign_test trues v false = refl
 pub value_test : (trues : List Literal) (l : Literal) → IsConsistent trues → option_eq beq (value_of trues l.var) (Some l.positive) ≡ is_among trues l
 value_test trues l apart =
     test_choice (is_among trues (of l.var true)) (is_among trues (of l.var false)) l.positive
-      (λ yes' no'. apart (of l.var true) (Contains-from_among trues (of l.var true) yes') (Contains-from_among trues (of l.var false) no'))
+    (λ yes' no'. apart (of l.var true) (Contains-from_among trues (of l.var true) yes') (Contains-from_among trues (of l.var false) no'))
     ∙ sign_test trues l.var l.positive

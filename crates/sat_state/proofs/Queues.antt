@@ -32,9 +32,9 @@ queue_checked clauses old new checked head q front more settled = record {
   checked_in = omega arith;
   head_in = omega (arith, q.head_in, length_front old new front);
   settled = λ number below untouched. ⊎_elim
-    (λ (e : number ≡ checked). subst (λ (n : ℕ). IsSettled (literals new) (clause_at clauses n)) (sym e) settled)
-    (λ (ne : number ≢ checked). settled_in clauses old new checked head number q front (omega arith) untouched)
-    (cases_eq number checked);
+      (λ (e : number ≡ checked). subst (λ (n : ℕ). IsSettled (literals new) (clause_at clauses n)) (sym e) settled)
+      (λ (ne : number ≢ checked). settled_in clauses old new checked head number q front (omega arith) untouched)
+      (cases_eq number checked);
 }
 
 -- the clauses that hold the negation of the next literal of the trail were looked at
@@ -44,16 +44,16 @@ queue_next clauses old new checked head p q front more at settled = record {
   checked_in = q.checked_in;
   head_in = omega (arith, length_front old new front);
   settled = λ number below untouched.
-    let clause = clause_at clauses number in
-    let parts = untouched_parts old new (head + 1) clause front (omega arith) untouched in
-    ⊎_elim
+      let clause = clause_at clauses number in
+      let parts = untouched_parts old new (head + 1) clause front (omega arith) untouched in
+      ⊎_elim
       (λ (none : occurrences (negation p) clause < 1).
-        let get = λ (x : Entry). x.literal in
-        let queued : literals (drop head old) ≡ p ∷ literals (drop (head + 1) old) =
-          sym (drop-map get head old) ∙ drop_more (literals old) head p (omega (arith, length-map old get, more)) ∙ ap (λ (l : Literal). l ∷ drop (head + 1) (literals old)) (sym at)
-          ∙ ap (λ (ls : List Literal). p ∷ ls) (drop-map get (head + 1) old) in
-        let free = untouched_cons p (literals (drop (head + 1) old)) clause (omega arith) parts.0 in
-        settled_later old new clause front (q.settled number below (ap (λ (ls : List Literal). is_touched ls clause) queued ∙ free)) parts.1)
+      let get = λ (x : Entry). x.literal in
+      let queued : literals (drop head old) ≡ p ∷ literals (drop (head + 1) old) =
+      sym (drop-map get head old) ∙ drop_more (literals old) head p (omega (arith, length-map old get, more)) ∙ ap (λ (l : Literal). l ∷ drop (head + 1) (literals old)) (sym at)
+      ∙ ap (λ (ls : List Literal). p ∷ ls) (drop-map get (head + 1) old) in
+      let free = untouched_cons p (literals (drop (head + 1) old)) clause (omega arith) parts.0 in
+      settled_later old new clause front (q.settled number below (ap (λ (ls : List Literal). is_touched ls clause) queued ∙ free)) parts.1)
       (λ (some : 1 ≤ occurrences (negation p) clause). settled number (omega (arith, q.checked_in)) some parts.1)
       (cases_lt (occurrences (negation p) clause) 1);
 }
@@ -76,12 +76,12 @@ pub holders_more : (clauses : List (List Literal)) (numbers : List ℕ) (first o
 holders_more clauses numbers first old new place d one two more before here number there counted untouched =
     let parts = untouched_parts old new (length first) (clause_at clauses number) two (length_front first old one) untouched in
     ⊎_elim
-      (λ (e : get_or numbers place d ≡ number). subst (λ (n : ℕ). IsSettled (literals new) (clause_at clauses n)) e here)
-      (λ (ne : get_or numbers place d ≢ number).
-        let none = ap one_if (ne_eqb (get_or numbers place d) number ne) in
-        let earlier : 1 ≤ times number (take place numbers) = omega (arith, sum_by_more (λ (n : ℕ). one_if (eqb n number)) numbers place d more, none, counted) in
-        settled_later old new (clause_at clauses number) two (before number there earlier parts.0) parts.1)
-      (cases_eq (get_or numbers place d) number)
+    (λ (e : get_or numbers place d ≡ number). subst (λ (n : ℕ). IsSettled (literals new) (clause_at clauses n)) e here)
+    (λ (ne : get_or numbers place d ≢ number).
+    let none = ap one_if (ne_eqb (get_or numbers place d) number ne) in
+    let earlier : 1 ≤ times number (take place numbers) = omega (arith, sum_by_more (λ (n : ℕ). one_if (eqb n number)) numbers place d more, none, counted) in
+    settled_later old new (clause_at clauses number) two (before number there earlier parts.0) parts.1)
+    (cases_eq (get_or numbers place d) number)
 
 -- a clause is appended, which wasn't looked at
 pub queue_clause : (clauses : List (List Literal)) (clause : List Literal) (trail : List Entry) (checked head : ℕ) → IsQueue clauses trail checked head → IsQueue (clauses ++ clause ∷ []) trail checked head
@@ -89,6 +89,6 @@ queue_clause clauses clause trail checked head q = record {
   checked_in = omega (arith, q.checked_in, length_push clauses clause);
   head_in = q.head_in;
   settled = λ number below.
-    let same : clause_at (clauses ++ clause ∷ []) number ≡ clause_at clauses number = get_or_append_left clauses (clause ∷ []) [] number (omega (arith, q.checked_in, below)) in
-    subst (λ (c : List Literal). is_touched (literals (drop head trail)) c ≡ false → IsSettled (literals trail) c) (sym same) (q.settled number below);
+      let same : clause_at (clauses ++ clause ∷ []) number ≡ clause_at clauses number = get_or_append_left clauses (clause ∷ []) [] number (omega (arith, q.checked_in, below)) in
+      subst (λ (c : List Literal). is_touched (literals (drop head trail)) c ≡ false → IsSettled (literals trail) c) (sym same) (q.settled number below);
 }

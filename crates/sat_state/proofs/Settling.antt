@@ -53,13 +53,13 @@ pub two_fail : {X : Type 0} (p : X → Bool) (xs : List X) (u v : X) → u ≢ v
 two_fail p [] u v apart (k, h, e) has_v no_u no_v = absurd (omega arith)
 two_fail p (x ∷ xs) u v apart has_u has_v no_u no_v = ⊎_elim
     (λ (e : x ≡ u). ⊎_elim
-      (λ (f : x ≡ v). absurd (apart (sym e ∙ f)))
-      (λ (later : Contains xs v). omega (arith, count_cons p x xs false (ap p e ∙ no_u), one_fails p xs v later no_v))
-      (Contains-cons x v xs has_v))
+    (λ (f : x ≡ v). absurd (apart (sym e ∙ f)))
+    (λ (later : Contains xs v). omega (arith, count_cons p x xs false (ap p e ∙ no_u), one_fails p xs v later no_v))
+    (Contains-cons x v xs has_v))
     (λ (later_u : Contains xs u). ⊎_elim
-      (λ (f : x ≡ v). omega (arith, count_cons p x xs false (ap p f ∙ no_v), one_fails p xs u later_u no_u))
-      (λ (later : Contains xs v). omega (arith, count_cons p x xs (p x) refl, one_at_most (p x), two_fail p xs u v apart later_u later no_u no_v))
-      (Contains-cons x v xs has_v))
+    (λ (f : x ≡ v). omega (arith, count_cons p x xs false (ap p f ∙ no_v), one_fails p xs u later_u no_u))
+    (λ (later : Contains xs v). omega (arith, count_cons p x xs (p x) refl, one_at_most (p x), two_fail p xs u v apart later_u later no_u no_v))
+    (Contains-cons x v xs has_v))
     (Contains-cons x u xs has_u)
 
 -- where all but one pass and one fails, each other one passes
@@ -166,7 +166,7 @@ pub untouched_parts : (old new : List Entry) (n : ℕ) (clause : List Literal) �
 untouched_parts old new n clause front within untouched =
     let more = drop (length old) new in
     let split : literals (drop n new) ≡ literals (drop n old) ++ literals more =
-      ap literals (ap (drop n) (behind old new front) ∙ drop-append-le n old more within) ∙ map-append (λ (e : Entry). e.literal) (drop n old) more in
+    ap literals (ap (drop n) (behind old new front) ∙ drop-append-le n old more within) ∙ map-append (λ (e : Entry). e.literal) (drop n old) more in
     touched_append (literals (drop n old)) (literals more) clause (ap (λ (ls : List Literal). is_touched ls clause) (sym split) ∙ untouched)
 
 pub length_front : (old new : List Entry) → take (length old) new ≡ old → length old ≤ length new

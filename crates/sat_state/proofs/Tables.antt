@@ -66,8 +66,8 @@ apart_push : (trues : List Literal) (u : Literal) → Apart trues → value_of t
 apart_push trues u apart free k d h = ⊎_elim
     (λ (lt : k < length trues). rw (take-append-le k trues (u ∷ []) (omega arith), get_or_append_left trues (u ∷ []) d k lt) (apart k d lt))
     (λ (ge : length trues ≤ k).
-      let at_end : k ≡ length trues = omega (arith, length_push trues u, h) in
-      rw (take_at trues (u ∷ []) k (sym at_end), get_or_push trues u d k (sym at_end)) free)
+    let at_end : k ≡ length trues = omega (arith, length_push trues u, h) in
+    rw (take_at trues (u ∷ []) k (sym at_end), get_or_push trues u d k (sym at_end)) free)
     (cases_lt k (length trues))
 
 -- a literal whose variable had no value becomes true
@@ -83,15 +83,15 @@ pushed slots trues level capacity u s t positive known free sign =
       room = omega (arith, len, t.room);
       values = λ v h. ⊎_elim (λ (e : v ≡ u.var).
           subst (λ (x : ℕ). option_map (λ (y : Slot). y.positive) (slot_of (set slots u.var (Some s)) x) ≡ value_of (trues ++ u ∷ []) x) (sym e)
-            (ap (option_map (λ (y : Slot). y.positive)) (get_or-set_same slots u.var (Some s) None known) ∙ ap Some sign ∙ sym (value_push trues u free)))
-        (λ (n : v ≢ u.var). ap (option_map (λ (y : Slot). y.positive)) (get_or-set_other slots u.var v (Some s) None n) ∙ t.values v (omega (arith, len, h)) ∙ sym (value_push_other trues u v n))
-        (cases_eq v u.var);
+          (ap (option_map (λ (y : Slot). y.positive)) (get_or-set_same slots u.var (Some s) None known) ∙ ap Some sign ∙ sym (value_push trues u free)))
+          (λ (n : v ≢ u.var). ap (option_map (λ (y : Slot). y.positive)) (get_or-set_other slots u.var v (Some s) None n) ∙ t.values v (omega (arith, len, h)) ∙ sym (value_push_other trues u v n))
+          (cases_eq v u.var);
       apart = apart_push trues u t.apart free;
       in_range = All-push (λ l. l.var < length (set slots u.var (Some s))) trues u (λ k d h. omega (arith, len, t.in_range k d h)) (omega (arith, len, known));
       count =
-        let moved = sum_by-set (λ (o : Option Slot). cond (is_some o) 1 0) slots u.var (Some s) None known in
-        let none = ap (λ (b : Bool). weight b) old in
-        omega (arith, moved, none, t.count, length_push trues u);
+          let moved = sum_by-set (λ (o : Option Slot). cond (is_some o) 1 0) slots u.var (Some s) None known in
+          let none = ap (λ (b : Bool). weight b) old in
+          omega (arith, moved, none, t.count, length_push trues u);
       levels = ap (λ (n : ℕ). n + cond (is_none s.reason) 1 0) t.levels ∙ sym (sum_by_push (λ (e : Entry). cond (is_none e.reason) 1 0) (entries slots trues) (record { literal = u; level = s.level; reason = s.reason })) ∙ ap level_of (sym (entries_push slots trues u s known free));
     }
 
@@ -113,21 +113,21 @@ popped slots trues level lower capacity u t same =
     record {
       some = omega (arith, len, t.some);
       zero = ⊎_elim
-        (λ (e : 0 ≡ u.var). subst (λ (x : ℕ). slot_of (set slots u.var None) x ≡ None) (sym e) (get_or-set_same slots u.var None None known))
-        (λ (ne : 0 ≢ u.var). get_or-set_other slots u.var 0 None None ne ∙ t.zero)
-        (cases_eq 0 u.var);
+          (λ (e : 0 ≡ u.var). subst (λ (x : ℕ). slot_of (set slots u.var None) x ≡ None) (sym e) (get_or-set_same slots u.var None None known))
+          (λ (ne : 0 ≢ u.var). get_or-set_other slots u.var 0 None None ne ∙ t.zero)
+          (cases_eq 0 u.var);
       room = omega (arith, len, t.room);
       values = λ v h. ⊎_elim (λ (e : v ≡ u.var).
           subst (λ (x : ℕ). option_map (λ (y : Slot). y.positive) (slot_of (set slots u.var None) x) ≡ value_of trues x) (sym e)
-            (ap (option_map (λ (y : Slot). y.positive)) (get_or-set_same slots u.var None None known) ∙ sym free))
-        (λ (n : v ≢ u.var). ap (option_map (λ (y : Slot). y.positive)) (get_or-set_other slots u.var v None None n) ∙ t.values v (omega (arith, len, h)) ∙ value_push_other trues u v n)
-        (cases_eq v u.var);
+          (ap (option_map (λ (y : Slot). y.positive)) (get_or-set_same slots u.var None None known) ∙ sym free))
+          (λ (n : v ≢ u.var). ap (option_map (λ (y : Slot). y.positive)) (get_or-set_other slots u.var v None None n) ∙ t.values v (omega (arith, len, h)) ∙ value_push_other trues u v n)
+          (cases_eq v u.var);
       apart = λ k d h. rw (take-append-le k trues (u ∷ []) (omega arith), get_or_append_left trues (u ∷ []) d k h) at (t.apart k d (omega (arith, more)));
       in_range = λ k d h. rw (len, ← get_or_append_left trues (u ∷ []) d k h) (t.in_range k d (omega (arith, more)));
       count =
-        let moved = sum_by-set (λ (o : Option Slot). cond (is_some o) 1 0) slots u.var None None known in
-        let one = ap (λ (b : Bool). weight b) was in
-        omega (arith, moved, one, t.count, more);
+          let moved = sum_by-set (λ (o : Option Slot). cond (is_some o) 1 0) slots u.var None None known in
+          let one = ap (λ (b : Bool). weight b) was in
+          omega (arith, moved, one, t.count, more);
       levels = same ∙ ap level_of (sym (entries-set slots u.var None trues (no_literal trues u.var free)));
     }
 
@@ -143,11 +143,11 @@ grown slots trues level capacity n room t fits =
       zero = get_or_append_left slots (replicate n None) None 0 t.some ∙ t.zero;
       room = omega (arith, len, fits);
       values = λ v h. ⊎_elim
-        (λ (lt : v < length slots). ap (option_map (λ (y : Slot). y.positive)) (get_or_append_left slots (replicate n None) None v lt) ∙ t.values v lt)
-        (λ (ge : length slots ≤ v).
+          (λ (lt : v < length slots). ap (option_map (λ (y : Slot). y.positive)) (get_or_append_left slots (replicate n None) None v lt) ∙ t.values v lt)
+          (λ (ge : length slots ≤ v).
           ap (option_map (λ (y : Slot). y.positive)) (get_or-append_right slots (replicate n None) (length slots) v None refl ge ∙ get_or-replicate n (v - length slots) None None (omega (arith, len, h)))
           ∙ sym (no_value trues v (λ k d in_list e. absurd (omega (arith, t.in_range k d in_list, e)))))
-        (cases_lt v (length slots));
+          (cases_lt v (length slots));
       apart = t.apart;
       in_range = λ k d h. omega (arith, len, t.in_range k d h);
       count = sum_by-append (λ (o : Option Slot). cond (is_some o) 1 0) slots (replicate n None) ∙ none_more;
@@ -185,7 +185,7 @@ pub entry_found : (X : Type 0) (get : Entry → X) (slots : List (Option Slot)) 
 entry_found X get slots [] v x here some = absurd (some (All-nil (λ (l : Literal). l.var ≢ v)))
 entry_found X get slots (l ∷ ls) v x here some =
     entry_by_cases X get slots l ls v x (eqb l.var v) refl (λ e. here l (eqb-true l.var v e))
-      (λ e. entry_found X get slots ls v x here (λ all. some (All-cons (λ (y : Literal). y.var ≢ v) l ls (eqb-false l.var v e) all)))
+    (λ e. entry_found X get slots ls v x here (λ all. some (All-cons (λ (y : Literal). y.var ≢ v) l ls (eqb-false l.var v e) all)))
 
 -- a variable with a value is that of a literal
 pub has_literal : (trues : List Literal) (v : ℕ) → IsSome (value_of trues v) → All (λ l. l.var ≢ v) trues → ⊥

@@ -23,7 +23,9 @@ fn true_literals(assigned: &Assignment, lits: &[Lit]) -> usize
 fn false_literals(assigned: &Assignment, lits: &[Lit]) -> usize
     ensures { result ≡ count_false (literals assigned.now.trail) lits.now }
 {
-    lits.iter().filter(|lit| assigned.is_true(lit.negated())).count()
+    lits.iter()
+        .filter(|lit| assigned.is_true(lit.negated()))
+        .count()
 }
 
 // Makes the variables up to this number known.
@@ -54,7 +56,11 @@ fn append(clauses: &mut CountedClauses, assigned: &Assignment, clause: Clause) -
 }
 
 /// Brings in the variables of a clause, and appends it. After a refusal nothing is said of the clauses.
-pub fn add(clauses: &mut CountedClauses, assigned: &mut Assignment, clause: Clause) -> Result<(), Memory>
+pub fn add(
+    clauses: &mut CountedClauses,
+    assigned: &mut Assignment,
+    clause: Clause,
+) -> Result<(), Memory>
     requires joined { AreJoined clauses.old assigned.old }
     requires level { level_of assigned.old.trail ≡ 0 }
     ensures room { 2 ≤ length clauses.new.holders }

@@ -8,3 +8,6 @@ mod propagation;
 mod state;
 
 pub use state::{Propagated, State};
+
+#[cfg(test)]
+mod tests;

@@ -19,7 +19,12 @@ pub struct Queue {
 }
 
 /// Makes a literal true. Without a reason it is a decision, which opens a level.
-pub fn assign(clauses: &mut CountedClauses, assigned: &mut Assignment, lit: Lit, reason: Option<u64>)
+pub fn assign(
+    clauses: &mut CountedClauses,
+    assigned: &mut Assignment,
+    lit: Lit,
+    reason: Option<u64>,
+)
     requires joined { AreJoined clauses.old assigned.old }
     requires known { lit.var ≤ assigned.old.vars }
     requires free { value_of (literals assigned.old.trail) lit.var ≡ None }
@@ -113,7 +118,11 @@ fn visit_holders(clauses: &mut CountedClauses, assigned: &mut Assignment, lit: L
 }
 
 // Looks at the clauses that weren't looked at yet, up to a falsified one, whose number it answers.
-fn check_new(clauses: &mut CountedClauses, assigned: &mut Assignment, queue: &mut Queue) -> Option<usize>
+fn check_new(
+    clauses: &mut CountedClauses,
+    assigned: &mut Assignment,
+    queue: &mut Queue,
+) -> Option<usize>
     requires joined { AreJoined clauses.old assigned.old }
     requires queue { IsQueue clauses.old.clauses assigned.old.trail queue.old.checked queue.old.head }
     ensures joined { AreJoined clauses.new assigned.new }
@@ -136,7 +145,11 @@ fn check_new(clauses: &mut CountedClauses, assigned: &mut Assignment, queue: &mu
 }
 
 // Looks at the clauses that hold the negation of a literal of the trail, up to a falsified one, whose number it answers.
-fn follow(clauses: &mut CountedClauses, assigned: &mut Assignment, queue: &mut Queue) -> Option<usize>
+fn follow(
+    clauses: &mut CountedClauses,
+    assigned: &mut Assignment,
+    queue: &mut Queue,
+) -> Option<usize>
     requires joined { AreJoined clauses.old assigned.old }
     requires queue { IsQueue clauses.old.clauses assigned.old.trail queue.old.checked queue.old.head }
     ensures joined { AreJoined clauses.new assigned.new }
@@ -161,7 +174,11 @@ fn follow(clauses: &mut CountedClauses, assigned: &mut Assignment, queue: &mut Q
 }
 
 /// Looks at all that has to be looked at, up to a falsified clause, whose number it answers.
-pub fn propagate(clauses: &mut CountedClauses, assigned: &mut Assignment, queue: &mut Queue) -> Option<usize>
+pub fn propagate(
+    clauses: &mut CountedClauses,
+    assigned: &mut Assignment,
+    queue: &mut Queue,
+) -> Option<usize>
     requires joined { AreJoined clauses.old assigned.old }
     requires queue { IsQueue clauses.old.clauses assigned.old.trail queue.old.checked queue.old.head }
     ensures joined { AreJoined clauses.new assigned.new }

@@ -15,8 +15,8 @@ loop-k-preserved c =
       len = length-set holders l.k new ∙ l.invariant.len;
       ends = l.invariant.ends;
       empty = λ j below. at j ∙ ⊎_elim
-        (λ (e : j ≡ l.k). subst (λ (n : ℕ). get_or (set (map items holders) l.k new.items) n [] ≡ []) (sym e)
+          (λ (e : j ≡ l.k). subst (λ (n : ℕ). get_or (set (map items holders) l.k new.items) n [] ≡ []) (sym e)
           (get_or-set_same (map items holders) l.k new.items [] (omega (arith, length-map holders items, c.loop-k-test.true, l.invariant.len, l.invariant.ends)) ∙ c.clear.ensures.items))
-        (λ (ne : j ≢ l.k). get_or-set_other (map items holders) l.k j new.items [] ne ∙ l.invariant.empty j (omega arith))
-        (cases_eq j l.k);
+          (λ (ne : j ≢ l.k). get_or-set_other (map items holders) l.k j new.items [] ne ∙ l.invariant.empty j (omega arith))
+          (cases_eq j l.k);
     }

@@ -22,12 +22,12 @@ loop-lit-preserved c =
     record {
       len = length-set holders at c.push.new.self ∙ c.loop-lit.invariant.len;
       linked = λ k.
-        let start = numbers_at c.args.holders.now.items k in
-        let n = count_by (λ (x : Literal). eqb (code_of x) k) (take i lits) in
-        let more = sum_by_more (λ (x : Literal). one_if (eqb (code_of x) k)) lits i c.lit-item.result c.loop-lit-test.true in
-        ap (λ (t : List (List ℕ)). get_or t k []) (map-set items holders at c.push.new.self)
-        ∙ ap (λ (xs : List ℕ). get_or (set table at xs) k []) new
-        ∙ linked_more table start at k n c.args.number (omega (arith, length-map holders items, known)) (c.loop-lit.invariant.linked k)
-        ∙ ap (λ (x : ℕ). start ++ replicate (n + one_if (eqb x k)) c.args.number) code_is
-        ∙ ap (λ (x : ℕ). start ++ replicate x c.args.number) (sym more);
+          let start = numbers_at c.args.holders.now.items k in
+          let n = count_by (λ (x : Literal). eqb (code_of x) k) (take i lits) in
+          let more = sum_by_more (λ (x : Literal). one_if (eqb (code_of x) k)) lits i c.lit-item.result c.loop-lit-test.true in
+          ap (λ (t : List (List ℕ)). get_or t k []) (map-set items holders at c.push.new.self)
+          ∙ ap (λ (xs : List ℕ). get_or (set table at xs) k []) new
+          ∙ linked_more table start at k n c.args.number (omega (arith, length-map holders items, known)) (c.loop-lit.invariant.linked k)
+          ∙ ap (λ (x : ℕ). start ++ replicate (n + one_if (eqb x k)) c.args.number) code_is
+          ∙ ap (λ (x : ℕ). start ++ replicate x c.args.number) (sym more);
     }

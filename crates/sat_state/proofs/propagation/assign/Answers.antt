@@ -11,4 +11,4 @@ pub returns-clause-joined : goal.returns-clause-joined
 returns-clause-joined c =
     let m = c.make_true.ensures in
     joined_push c.args.clauses.now c.make_true.new.self c.args.assigned.now c.push.new.self c.args.lit c.args.reason c.requires.joined c.requires.free c.requires.reason
-      m.clauses m.holders m.trues m.falses c.push.ensures.vars c.push.ensures.trail
+    m.clauses m.holders m.trues m.falses c.push.ensures.vars c.push.ensures.trail

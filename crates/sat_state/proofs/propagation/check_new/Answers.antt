@@ -9,13 +9,13 @@ pub returns-then-not-visit-clause-queue : goal.returns-then-not-visit-clause-que
 returns-then-not-visit-clause-queue c =
     let l = c.loop-queue in
     rw c.visit.ensures.clauses
-      (queue_more l.clauses.clauses l.assigned.trail c.visit.new.assigned.trail l.queue.checked l.queue.head l.invariant.queue c.visit.ensures.front)
+    (queue_more l.clauses.clauses l.assigned.trail c.visit.new.assigned.trail l.queue.checked l.queue.head l.invariant.queue c.visit.ensures.front)
 
 pub returns-then-not-visit-clause-falsified : goal.returns-then-not-visit-clause-falsified
 returns-then-not-visit-clause-falsified c =
     let l = c.loop-queue in
     subst (λ (clauses : List (List Literal)). NamesFalsified clauses c.visit.new.assigned.trail l.queue.checked) l.invariant.clauses
-      (record { there = omega arith; falsified = c.visit.ensures.falsified c.if-not-visit.true })
+    (record { there = omega arith; falsified = c.visit.ensures.falsified c.if-not-visit.true })
 
 pub loop-queue-preserved : goal.loop-queue-preserved
 loop-queue-preserved c =
@@ -28,5 +28,5 @@ loop-queue-preserved c =
       front = front_again c.args.assigned.now.trail l.assigned.trail c.visit.new.assigned.trail l.invariant.front v.front;
       level = v.level ∙ l.invariant.level;
       queue = rw v.clauses
-        (queue_checked l.clauses.clauses l.assigned.trail c.visit.new.assigned.trail l.queue.checked l.queue.head l.invariant.queue v.front (omega arith) (v.settled c.if-not-visit.false));
+          (queue_checked l.clauses.clauses l.assigned.trail c.visit.new.assigned.trail l.queue.checked l.queue.head l.invariant.queue v.front (omega arith) (v.settled c.if-not-visit.false));
     }

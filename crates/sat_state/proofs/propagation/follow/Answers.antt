@@ -22,7 +22,7 @@ loop-queue-preserved c =
     let none = sym c.is_some.ensures ∙ c.if-is_some.false in
     let at : p ≡ get_or (literals old) l.queue.head p = c.index-trail-queue.is ∙ ap (λ (ls : List Literal). get_or ls l.queue.head p) c.trail-in-loop-queue.ensures.value in
     let settled : AreHoldersSettled l.clauses.clauses (negation p) old v.new.assigned.trail =
-      subst (λ (x : Literal). AreHoldersSettled l.clauses.clauses x old v.new.assigned.trail) c.negated.ensures (v.ensures.settled none) in
+    subst (λ (x : Literal). AreHoldersSettled l.clauses.clauses x old v.new.assigned.trail) c.negated.ensures (v.ensures.settled none) in
     let more : l.queue.head < length old = omega (arith, c.loop-queue-test.true, ap length c.trail.ensures.value, length-map old (λ (e : Entry). e.literal)) in
     record {
       joined = v.ensures.joined;

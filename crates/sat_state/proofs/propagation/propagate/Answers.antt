@@ -10,6 +10,6 @@ returns-clause-settled c =
     let n = c.check_new-falsified in
     let same : f.new.clauses.clauses ≡ c.args.clauses.now.clauses = f.ensures.clauses ∙ n.ensures.clauses in
     let checked : f.new.queue.checked ≡ length f.new.clauses.clauses =
-      f.ensures.checked ∙ n.ensures.done (sym c.is_some.ensures ∙ c.if-is_some.false) ∙ ap length (sym same) in
+    f.ensures.checked ∙ n.ensures.done (sym c.is_some.ensures ∙ c.if-is_some.false) ∙ ap length (sym same) in
     λ none. subst (λ (clauses : List (List Literal)). AreAllSettled clauses f.new.assigned.trail) same
-      (all_settled f.new.clauses.clauses f.new.assigned.trail f.new.queue.checked f.new.queue.head f.ensures.queue checked (f.ensures.done none))
+    (all_settled f.new.clauses.clauses f.new.assigned.trail f.new.queue.checked f.new.queue.head f.ensures.queue checked (f.ensures.done none))

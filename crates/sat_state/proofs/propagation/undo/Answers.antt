@@ -18,4 +18,4 @@ returns-clause-joined c =
     let m = c.take_back.ensures in
     let p = c.pop-lit in
     joined_pop c.args.clauses.now c.take_back.new.self c.args.assigned.now p.new.self p.result c.requires.joined p.ensures.literal p.ensures.free
-      m.clauses m.holders m.trues m.falses p.ensures.vars p.ensures.trail
+    m.clauses m.holders m.trues m.falses p.ensures.vars p.ensures.trail

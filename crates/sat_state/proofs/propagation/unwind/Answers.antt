@@ -26,7 +26,7 @@ above-preserved c =
       front = rw u.ensures.trail (front_below c.args.assigned.now.trail trail l.invariant.front some);
       kept = rw u.ensures.trail (l.invariant.kept ∙ kept_without_last l.clauses.clauses trail some_entry c.args.level grounded some high);
       at_end = λ was level. rw (u.ensures.trail, ← l.invariant.clauses)
-        (at_end_below l.clauses.clauses trail some_entry grounded some (omega (arith, ap level_of u.ensures.trail, level, high)));
+          (at_end_below l.clauses.clauses trail some_entry grounded some (omega (arith, ap level_of u.ensures.trail, level, high)));
     }
 
 pub returns-clause-trail : goal.returns-clause-trail

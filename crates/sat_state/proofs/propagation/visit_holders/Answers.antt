@@ -12,7 +12,7 @@ pub returns-then-not-visit-clause-falsified : goal.returns-then-not-visit-clause
 returns-then-not-visit-clause-falsified c =
     let l = c.loop-place in
     subst (λ (clauses : List (List Literal)). NamesFalsified clauses c.visit.new.assigned.trail c.holder-number.result) l.invariant.clauses
-      (record { there = c.holder-number.ensures.number; falsified = c.visit.ensures.falsified c.if-not-visit.true })
+    (record { there = c.holder-number.ensures.number; falsified = c.visit.ensures.falsified c.if-not-visit.true })
 
 pub loop-place-preserved : goal.loop-place-preserved
 loop-place-preserved c =
@@ -24,8 +24,8 @@ loop-place-preserved c =
     let new = c.visit.new.assigned.trail in
     let value = c.holder-number.ensures.value ∙ ap (λ (hs : List (List ℕ)). Rattle.std.proofs.Common.slice_index (holders_of hs c.args.lit) l.place) l.invariant.holders in
     let settled : IsSettled (literals new) (clause_at clauses (Rattle.std.proofs.Common.get_or numbers l.place 0)) =
-      subst (λ (n : ℕ). IsSettled (literals new) (clause_at clauses n)) value
-        (subst (λ (cs : List (List Literal)). IsSettled (literals new) (clause_at cs c.holder-number.result)) l.invariant.clauses (v.settled c.if-not-visit.false)) in
+    subst (λ (n : ℕ). IsSettled (literals new) (clause_at clauses n)) value
+    (subst (λ (cs : List (List Literal)). IsSettled (literals new) (clause_at cs c.holder-number.result)) l.invariant.clauses (v.settled c.if-not-visit.false)) in
     record {
       joined = v.joined;
       clauses = v.clauses ∙ l.invariant.clauses;
@@ -42,6 +42,6 @@ returns-clause-settled c =
     let l = c.loop-place in
     let numbers = holders_of c.args.clauses.now.holders c.args.lit in
     λ _ number there some untouched.
-      let all : take l.place numbers ≡ numbers = take_all l.place numbers (omega (arith, c.loop-place-test.false, l.invariant.ends)) in
-      let counted = ap (times number) all ∙ c.holder_count-place-end.ensures.exact number there in
-      l.invariant.settled number there (omega (arith, counted, some)) untouched
+    let all : take l.place numbers ≡ numbers = take_all l.place numbers (omega (arith, c.loop-place-test.false, l.invariant.ends)) in
+    let counted = ap (times number) all ∙ c.holder_count-place-end.ensures.exact number there in
+    l.invariant.settled number there (omega (arith, counted, some)) untouched

@@ -16,6 +16,6 @@ invariant-loop-place l =
       level : level_of l.assigned.trail ≡ level_of l.initial.assigned.trail;
       ends : l.place-end ≡ length numbers;
       settled : (number : ℕ) → number < length l.initial.clauses.clauses → 1 ≤ times number (take l.place numbers)
-        → is_touched (literals (drop (length l.initial.assigned.trail) l.assigned.trail)) (clause_at l.initial.clauses.clauses number) ≡ false
-        → IsSettled (literals l.assigned.trail) (clause_at l.initial.clauses.clauses number);
+          → is_touched (literals (drop (length l.initial.assigned.trail) l.assigned.trail)) (clause_at l.initial.clauses.clauses number) ≡ false
+          → IsSettled (literals l.assigned.trail) (clause_at l.initial.clauses.clauses number);
     }

@@ -17,11 +17,11 @@ invariant_of-self-2 c =
     let a = c.self.inside in
     let more = c.in_ok-wanted.wanted - vec_len a.slots in
     rw (slots_are c, c.in_ok-reserve.ensures.items)
-      (grown a.slots.items a.trail.items a.level (vec_capacity a.trail) more (vec_capacity c.reserve.new.self) c.self.invariant (omega (arith, a.slots.ok.0, c.in_ok-reserve.ensures.ok)))
+    (grown a.slots.items a.trail.items a.level (vec_capacity a.trail) more (vec_capacity c.reserve.new.self) c.self.invariant (omega (arith, a.slots.ok.0, c.in_ok-reserve.ensures.ok)))
 
 pub returns-clause-trail : goal.returns-clause-trail
 returns-clause-trail c =
     let a = c.self.inside in
     let more = c.in_ok-wanted.wanted - vec_len a.slots in
     rw (slots_are c, c.in_ok-reserve.ensures.items)
-      (entries-append a.slots.items (replicate more None) a.trail.items c.self.invariant.in_range ∙ ap (λ (x : Assigned). x.trail) c.self.view_is)
+    (entries-append a.slots.items (replicate more None) a.trail.items c.self.invariant.in_range ∙ ap (λ (x : Assigned). x.trail) c.self.view_is)

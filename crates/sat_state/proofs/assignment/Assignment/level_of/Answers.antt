@@ -31,5 +31,5 @@ returns c =
     let slot : slot_of a.slots.items c.args.var ≡ Some c.unwrap.result = sym (get_or_read a.slots.items c.args.var c.index.result.now known c.index.ensures None) ∙ c.unwrap.ensures in
     ap (λ (x : Assigned). option_map (λ (e : Entry). e.level) (entry_of x.trail c.args.var)) (sym c.self.view_is)
     ∙ entry_found ℕ (λ (e : Entry). e.level) a.slots.items a.trail.items c.args.var c.unwrap.result.level
-      (λ l same. ap (λ (v : ℕ). option_map_or (λ (s : Slot). s.level) (slot_of a.slots.items v) 0) same ∙ ap (λ (o : Option Slot). option_map_or (λ (s : Slot). s.level) o 0) slot)
-      (has_literal a.trail.items c.args.var has)
+    (λ l same. ap (λ (v : ℕ). option_map_or (λ (s : Slot). s.level) (slot_of a.slots.items v) 0) same ∙ ap (λ (o : Option Slot). option_map_or (λ (s : Slot). s.level) o 0) slot)
+    (has_literal a.trail.items c.args.var has)

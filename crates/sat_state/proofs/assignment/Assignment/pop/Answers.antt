@@ -32,12 +32,12 @@ invariant_of-self c =
     let known : lit.var < length a.slots.items = last_known a.slots.items left lit a.level (vec_capacity a.trail) t in
     let slot = get_or_read a.slots.items c.var-var.result c.index.result.now (omega (arith, c.var-var.ensures.value, known)) c.index.ensures None in
     let reason : c.reason_in-reason.result ≡ (entry_at a.slots.items lit).reason =
-      c.reason_in-reason.ensures ∙ ap (λ (o : Option Slot). option_map_or (λ (s : Slot). s.reason) o None) (slot ∙ ap (slot_of a.slots.items) c.var-var.ensures.value) in
+    c.reason_in-reason.ensures ∙ ap (λ (o : Option Slot). option_map_or (λ (s : Slot). s.reason) o None) (slot ∙ ap (slot_of a.slots.items) c.var-var.ensures.value) in
     let opened : c.levels_opened.result ≡ cond (is_none (entry_at a.slots.items lit).reason) 1 0 = c.levels_opened.ensures ∙ ap (λ (o : Option ℕ). cond (is_none o) 1 0) reason in
     let levels : a.level ≡ level_of (entries a.slots.items left) + cond (is_none (entry_at a.slots.items lit).reason) 1 0 =
-      t.levels ∙ ap level_of (entries-more a.slots.items left lit) ∙ sum_by_push (λ (e : Entry). cond (is_none e.reason) 1 0) (entries a.slots.items left) (entry_at a.slots.items lit) in
+    t.levels ∙ ap level_of (entries-more a.slots.items left lit) ∙ sum_by_push (λ (e : Entry). cond (is_none e.reason) 1 0) (entries a.slots.items left) (entry_at a.slots.items lit) in
     rw (c.var-var.ensures.value, c.pop.ensures.capacity)
-      (popped a.slots.items left a.level (a.level - c.levels_opened.result) (vec_capacity a.trail) lit t (omega (arith, opened, levels)))
+    (popped a.slots.items left a.level (a.level - c.levels_opened.result) (vec_capacity a.trail) lit t (omega (arith, opened, levels)))
 
 pub returns-clause-trail : goal.returns-clause-trail
 returns-clause-trail c =
@@ -47,9 +47,9 @@ returns-clause-trail c =
     let last = entry_at a.slots.items c.unwrap-lit.result ∷ [] in
     let len : length c.args.self.now.trail ≡ length front + 1 = ap length (trail_was c) ∙ length_push front (entry_at a.slots.items c.unwrap-lit.result) in
     rw c.var-var.ensures.value
-      (entries-unset a.slots.items left c.unwrap-lit.result a.level (vec_capacity a.trail) (table c)
-      ∙ sym (take_at front last (length c.args.self.now.trail - 1) (omega (arith, len)))
-      ∙ ap (take (length c.args.self.now.trail - 1)) (sym (trail_was c)))
+    (entries-unset a.slots.items left c.unwrap-lit.result a.level (vec_capacity a.trail) (table c)
+    ∙ sym (take_at front last (length c.args.self.now.trail - 1) (omega (arith, len)))
+    ∙ ap (take (length c.args.self.now.trail - 1)) (sym (trail_was c)))
 
 pub returns-clause-literal : goal.returns-clause-literal
 returns-clause-literal c =

@@ -38,6 +38,6 @@ returns-clause-trail c =
     let seen_trail : entries a.slots.items a.trail.items ≡ now.trail = ap (λ (x : Assigned). x.trail) c.self.view_is in
     let entry = λ (n : ℕ). let e : Entry = record { literal = c.args.lit; level = n + cond (is_none c.args.reason) 1 0; reason = c.args.reason } in e in
     rw (c.var.ensures.value, c.push_reserved.ensures.items, c.levels_opened.ensures)
-      (entries_push a.slots.items a.trail.items c.args.lit slot known free
-      ∙ ap (λ (n : ℕ). entries a.slots.items a.trail.items ++ entry n ∷ []) (c.self.invariant.levels ∙ ap level_of seen_trail)
-      ∙ ap (λ (t : List Entry). t ++ entry (level_of now.trail) ∷ []) seen_trail)
+    (entries_push a.slots.items a.trail.items c.args.lit slot known free
+    ∙ ap (λ (n : ℕ). entries a.slots.items a.trail.items ++ entry n ∷ []) (c.self.invariant.levels ∙ ap level_of seen_trail)
+    ∙ ap (λ (t : List Entry). t ++ entry (level_of now.trail) ∷ []) seen_trail)

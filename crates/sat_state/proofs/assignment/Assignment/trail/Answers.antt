@@ -16,7 +16,7 @@ returns-clause-known c =
     let a = c.self.inside in
     let vars : length a.slots.items - 1 ≡ c.args.self.now.vars = ap (λ (x : Assigned). x.vars) c.self.view_is in
     All-same (λ (l : Literal). l.var ≤ c.args.self.now.vars) c.as_slice.result.now a.trail.items c.as_slice.ensures.value
-      (λ k d h. omega (arith, c.self.invariant.in_range k d h, vars))
+    (λ k d h. omega (arith, c.self.invariant.in_range k d h, vars))
 
 pub returns-clause-few : goal.returns-clause-few
 returns-clause-few c =

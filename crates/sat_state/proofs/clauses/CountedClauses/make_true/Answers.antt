@@ -23,7 +23,7 @@ returns-clause-trues c =
     let a = c.self.inside in
     let s = seen_clauses a in
     subst (λ (x : Counted). AreRaised x.clauses c.args.lit x.trues c.raise.new.counts.items) c.self.view_is
-      (links.raised s.clauses s.holders s.trues s.falses c.self.invariant c.args.lit s.trues (c.raise.new.counts.items) c.numbers.result.now c.numbers.ensures c.raise.ensures.raised)
+    (links.raised s.clauses s.holders s.trues s.falses c.self.invariant c.args.lit s.trues (c.raise.new.counts.items) c.numbers.result.now c.numbers.ensures c.raise.ensures.raised)
 
 pub raise-requires-2-clause-in_range : goal.raise-requires-2-clause-in_range
 raise-requires-2-clause-in_range c =
@@ -43,5 +43,4 @@ returns-clause-falses c =
     let a = c.self.inside in
     let s = seen_clauses a in
     subst (λ (x : Counted). AreRaised x.clauses (negation c.args.lit) x.falses c.raise-2.new.counts.items) c.self.view_is
-      (links.raised s.clauses s.holders s.trues s.falses c.self.invariant (negation c.args.lit) s.falses (c.raise-2.new.counts.items) c.numbers-2.result.now (c.numbers-2.ensures ∙ ap (λ l. numbers_at a.holders.items (code_of l)) c.negated.ensures) c.raise-2.ensures.raised)
-
+    (links.raised s.clauses s.holders s.trues s.falses c.self.invariant (negation c.args.lit) s.falses (c.raise-2.new.counts.items) c.numbers-2.result.now (c.numbers-2.ensures ∙ ap (λ l. numbers_at a.holders.items (code_of l)) c.negated.ensures) c.raise-2.ensures.raised)

@@ -23,7 +23,7 @@ returns-clause-trues c =
     let a = c.self.inside in
     let s = seen_clauses a in
     subst (λ (x : Counted). AreRaised x.clauses c.args.lit c.lower.new.counts.items x.trues) c.self.view_is
-      (links.raised s.clauses s.holders s.trues s.falses c.self.invariant c.args.lit (c.lower.new.counts.items) s.trues c.numbers.result.now c.numbers.ensures (λ number. sym (c.lower.ensures.lowered number)))
+    (links.raised s.clauses s.holders s.trues s.falses c.self.invariant c.args.lit (c.lower.new.counts.items) s.trues c.numbers.result.now c.numbers.ensures (λ number. sym (c.lower.ensures.lowered number)))
 
 pub lower-requires-2-clause-in_range : goal.lower-requires-2-clause-in_range
 lower-requires-2-clause-in_range c =
@@ -43,5 +43,4 @@ returns-clause-falses c =
     let a = c.self.inside in
     let s = seen_clauses a in
     subst (λ (x : Counted). AreRaised x.clauses (negation c.args.lit) c.lower-2.new.counts.items x.falses) c.self.view_is
-      (links.raised s.clauses s.holders s.trues s.falses c.self.invariant (negation c.args.lit) (c.lower-2.new.counts.items) s.falses c.numbers-2.result.now (c.numbers-2.ensures ∙ ap (λ l. numbers_at a.holders.items (code_of l)) c.negated.ensures) (λ number. sym (c.lower-2.ensures.lowered number)))
-
+    (links.raised s.clauses s.holders s.trues s.falses c.self.invariant (negation c.args.lit) (c.lower-2.new.counts.items) s.falses c.numbers-2.result.now (c.numbers-2.ensures ∙ ap (λ l. numbers_at a.holders.items (code_of l)) c.negated.ensures) (λ number. sym (c.lower-2.ensures.lowered number)))

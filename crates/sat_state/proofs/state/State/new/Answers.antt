@@ -14,7 +14,7 @@ loop-clause-preserved c =
     let known = subst (VariablesUpTo c.args.vars) (sym item) (c.requires i c.clause-item.result c.loop-clause-test.true) in
     record {
       clauses = c.in_ok-add.ensures.clauses ∙ ap (λ (cs : List (List Literal)). cs ++ c.in_ok-copied.field-0 ∷ []) l.invariant.clauses
-        ∙ ap (λ (clause : List Literal). take i given ++ clause ∷ []) item ∙ sym (take_more given i c.clause-item.result c.loop-clause-test.true);
+          ∙ ap (λ (clause : List Literal). take i given ++ clause ∷ []) item ∙ sym (take_more given i c.clause-item.result c.loop-clause-test.true);
       vars = omega (arith, brought.keeps, brought.least c.args.vars most known, l.invariant.vars);
       trail = c.in_ok-add.ensures.trail ∙ l.invariant.trail;
     }

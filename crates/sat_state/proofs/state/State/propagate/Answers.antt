@@ -18,12 +18,12 @@ returns-clause-forced c =
 -- where propagation answers that it is done, it is at its end
 at_end : (c : Joined-propagate) → c.match-propagate.result ≡ Done → IsAtEnd (literals c.propagate.new.assigned.trail) c.propagate.new.clauses.clauses
 at_end c done = elim c.match-propagate.branch [
-  in-Some w ↦ let never : ⊥ = cc (done, w.result-is) in absurd never
+  | in-Some w ↦ let never : ⊥ = cc (done, w.result-is) in absurd never
   | in-None w ↦
-    let a = c.self.inside in
-    let p = c.propagate in
-    let settled = p.ensures.settled (ap is_some w.in-None.is) in
-    subst (IsAtEnd (literals p.new.assigned.trail)) (sym p.ensures.clauses)
+      let a = c.self.inside in
+      let p = c.propagate in
+      let settled = p.ensures.settled (ap is_some w.in-None.is) in
+      subst (IsAtEnd (literals p.new.assigned.trail)) (sym p.ensures.clauses)
       (at_end_from_settled a.clauses.clauses p.new.assigned.trail (subst (λ (cs : List (List Literal)). IsGrounded cs p.new.assigned.trail) p.ensures.clauses p.ensures.joined.grounded) c.self.invariant.ordered settled)
 ]
 
