@@ -1,0 +1,10 @@
+pub mod Literals
+pub mod Tables
+pub mod Counts
+pub mod Links
+pub mod Joins
+pub mod Settling
+pub mod Queues
+pub mod Levels
+pub mod Ends
+pub mod Results

@@ -1,0 +1,228 @@
+-- The table of values as a literal becomes true, and as the last one is taken back.
+use Rattle.std.proofs.Common.{◌≡◌, ◌≢◌, ℕ, ◌+◌, ◌-◌, ◌<◌, ◌≤◌, Bool, true, false, cond, Option, Some, None, IsSome, is_some, is_none, List, [], ◌∷◌, ◌++◌, length, take, get_or, eqb, set, replicate, map, count_by, All, refl, sym, ap, ◌∙◌, subst, inl, inr, ◌⊎◌, ⊎_elim, arith, rules}
+use Rattle.std.specs.Option.{option_map, option_map_or}
+use Rattle.std.specs.List.{sum_by}
+use Rattle.std.proofs.lemmas.Bool.{cases_eq, cases_lt, eqb-true, eqb-false, true≢false}
+use Rattle.std.proofs.lemmas.List.{get_or-set_same, get_or-set_other, get_or_append_left, get_or-append_right, length-set, length-append, length_push, length-replicate, get_or-replicate, take-append-le, take_at, get_or_push, map-append, get_or-take, take-take, length-take-le}
+use Rattle.std.proofs.lemmas.List.Elements.{All-nil, All-cons, All-head, All-tail, All-push}
+use Rattle.std.proofs.lemmas.List.Sums.{sum_by-set, sum_by_push, sum_by-append, count_by-le-length, get_or-le-sum_by}
+use Rattle.std.proofs.lemmas.List.Folds.{sum_by-replicate}
+use Rattle.cnf_core.specs.Literal.{Literal}
+use Rattle.sat_state.specs.declared.assignment.Slot.{Slot}
+use Rattle.sat_state.specs.Trail.{Entry, literals, level_of, value_of, entry_of}
+use Rattle.sat_state.specs.declared.assignment.Assignment.TheInside.{Inside}
+use Rattle.sat_state.specs.Assigned.{Assigned}
+use Rattle.sat_state.specs.AssignmentInside.{slot_of, entry_at, entries, IsTable, seen, IsAssignment}
+use Rattle.sat_state.proofs.Literals.{no_literal, no_value, value_push, value_push_other}
+
+-- an entry as a slot tells it
+entry_by : Literal → Option Slot → Entry
+entry_by l o = record { literal = l; level = option_map_or (λ s. s.level) o 0; reason = option_map_or (λ s. s.reason) o None }
+
+abbrev weight : Bool → ℕ
+weight b = cond b 1 0
+
+-- a slot of another variable changes no entry
+pub entries-set : (slots : List (Option Slot)) (v : ℕ) (o : Option Slot) (trues : List Literal) → All (λ l. l.var ≢ v) trues → entries (set slots v o) trues ≡ entries slots trues
+unfolding entry_by
+entries-set slots v o [] h = refl
+entries-set slots v o (l ∷ ls) h =
+    ap (λ (e : Entry). e ∷ entries (set slots v o) ls) (ap (entry_by l) (get_or-set_other slots v l.var o None (All-head (λ x. x.var ≢ v) l ls h)))
+    ∙ ap (λ (es : List Entry). entry_at slots l ∷ es) (entries-set slots v o ls (All-tail (λ x. x.var ≢ v) l ls h))
+
+-- nor do slots of further variables
+pub entries-append : (slots more : List (Option Slot)) (trues : List Literal) → All (λ l. l.var < length slots) trues → entries (slots ++ more) trues ≡ entries slots trues
+unfolding entry_by
+entries-append slots more [] h = refl
+entries-append slots more (l ∷ ls) h =
+    ap (λ (e : Entry). e ∷ entries (slots ++ more) ls) (ap (entry_by l) (get_or_append_left slots more None l.var (All-head (λ x. x.var < length slots) l ls h)))
+    ∙ ap (λ (es : List Entry). entry_at slots l ∷ es) (entries-append slots more ls (All-tail (λ x. x.var < length slots) l ls h))
+
+pub literals-entries : (slots : List (Option Slot)) (trues : List Literal) → literals (entries slots trues) ≡ trues
+literals-entries slots [] = refl
+literals-entries slots (l ∷ ls) = ap (λ (xs : List Literal). l ∷ xs) (literals-entries slots ls)
+
+-- the trail that the literals make where one more is true
+pub entries_push : (slots : List (Option Slot)) (trues : List Literal) (u : Literal) (s : Slot) → u.var < length slots → value_of trues u.var ≡ None
+    → entries (set slots u.var (Some s)) (trues ++ u ∷ []) ≡ entries slots trues ++ record { literal = u; level = s.level; reason = s.reason } ∷ []
+unfolding entry_by
+entries_push slots trues u s known free =
+    map-append (entry_at (set slots u.var (Some s))) trues (u ∷ [])
+    ∙ ap (λ (es : List Entry). es ++ entry_at (set slots u.var (Some s)) u ∷ []) (entries-set slots u.var (Some s) trues (no_literal trues u.var free))
+    ∙ ap (λ (o : Option Slot). entries slots trues ++ entry_by u o ∷ []) (get_or-set_same slots u.var (Some s) None known)
+
+none_from_map : (o : Option Slot) → option_map (λ s. s.positive) o ≡ None → is_some o ≡ false
+none_from_map None h = refl
+none_from_map (Some s) h = cc
+
+some_from_map : (o : Option Slot) (b : Bool) → option_map (λ s. s.positive) o ≡ Some b → is_some o ≡ true
+some_from_map None b h = cc
+some_from_map (Some s) b h = refl
+
+abbrev pub Apart : List Literal → Type 0
+Apart trues = (k : ℕ) (d : Literal) → k < length trues → value_of (take k trues) (get_or trues k d).var ≡ None
+
+apart_push : (trues : List Literal) (u : Literal) → Apart trues → value_of trues u.var ≡ None → Apart (trues ++ u ∷ [])
+apart_push trues u apart free k d h = ⊎_elim
+    (λ (lt : k < length trues). rw (take-append-le k trues (u ∷ []) (omega arith), get_or_append_left trues (u ∷ []) d k lt) (apart k d lt))
+    (λ (ge : length trues ≤ k).
+    let at_end : k ≡ length trues = omega (arith, length_push trues u, h) in
+    rw (take_at trues (u ∷ []) k (sym at_end), get_or_push trues u d k (sym at_end)) free)
+    (cases_lt k (length trues))
+
+-- a literal whose variable had no value becomes true
+pub pushed : (slots : List (Option Slot)) (trues : List Literal) (level capacity : ℕ) (u : Literal) (s : Slot) → IsTable slots trues level capacity
+    → 1 ≤ u.var → u.var < length slots → value_of trues u.var ≡ None → s.positive ≡ u.positive
+    → IsTable (set slots u.var (Some s)) (trues ++ u ∷ []) (level + cond (is_none s.reason) 1 0) capacity
+pushed slots trues level capacity u s t positive known free sign =
+    let len = length-set slots u.var (Some s) in
+    let old : is_some (get_or slots u.var None) ≡ false = none_from_map (get_or slots u.var None) (t.values u.var known ∙ free) in
+    record {
+      some = omega (arith, len, t.some);
+      zero = get_or-set_other slots u.var 0 (Some s) None (λ e. absurd (omega (arith, e, positive))) ∙ t.zero;
+      room = omega (arith, len, t.room);
+      values = λ v h. ⊎_elim (λ (e : v ≡ u.var).
+          subst (λ (x : ℕ). option_map (λ (y : Slot). y.positive) (slot_of (set slots u.var (Some s)) x) ≡ value_of (trues ++ u ∷ []) x) (sym e)
+          (ap (option_map (λ (y : Slot). y.positive)) (get_or-set_same slots u.var (Some s) None known) ∙ ap Some sign ∙ sym (value_push trues u free)))
+          (λ (n : v ≢ u.var). ap (option_map (λ (y : Slot). y.positive)) (get_or-set_other slots u.var v (Some s) None n) ∙ t.values v (omega (arith, len, h)) ∙ sym (value_push_other trues u v n))
+          (cases_eq v u.var);
+      apart = apart_push trues u t.apart free;
+      in_range = All-push (λ l. l.var < length (set slots u.var (Some s))) trues u (λ k d h. omega (arith, len, t.in_range k d h)) (omega (arith, len, known));
+      count =
+          let moved = sum_by-set (λ (o : Option Slot). cond (is_some o) 1 0) slots u.var (Some s) None known in
+          let none = ap (λ (b : Bool). weight b) old in
+          omega (arith, moved, none, t.count, length_push trues u);
+      levels = ap (λ (n : ℕ). n + cond (is_none s.reason) 1 0) t.levels ∙ sym (sum_by_push (λ (e : Entry). cond (is_none e.reason) 1 0) (entries slots trues) (record { literal = u; level = s.level; reason = s.reason })) ∙ ap level_of (sym (entries_push slots trues u s known free));
+    }
+
+-- the entries with one literal more
+pub entries-more : (slots : List (Option Slot)) (trues : List Literal) (u : Literal) → entries slots (trues ++ u ∷ []) ≡ entries slots trues ++ entry_at slots u ∷ []
+entries-more slots trues u = map-append (entry_at slots) trues (u ∷ [])
+
+-- the last literal is taken back
+pub popped : (slots : List (Option Slot)) (trues : List Literal) (level lower capacity : ℕ) (u : Literal) → IsTable slots (trues ++ u ∷ []) level capacity
+    → lower ≡ level_of (entries slots trues) → IsTable (set slots u.var None) trues lower capacity
+popped slots trues level lower capacity u t same =
+    let all = trues ++ u ∷ [] in
+    let more : length all ≡ length trues + 1 = length_push trues u in
+    let last : get_or all (length trues) u ≡ u = get_or_push trues u u (length trues) refl in
+    let known : u.var < length slots = rw last at (t.in_range (length trues) u (omega (arith, more))) in
+    let free : value_of trues u.var ≡ None = rw (take_at trues (u ∷ []) (length trues) refl, last) at (t.apart (length trues) u (omega (arith, more))) in
+    let len = length-set slots u.var None in
+    let was : is_some (get_or slots u.var None) ≡ true = some_from_map (get_or slots u.var None) u.positive (t.values u.var known ∙ value_push trues u free) in
+    record {
+      some = omega (arith, len, t.some);
+      zero = ⊎_elim
+          (λ (e : 0 ≡ u.var). subst (λ (x : ℕ). slot_of (set slots u.var None) x ≡ None) (sym e) (get_or-set_same slots u.var None None known))
+          (λ (ne : 0 ≢ u.var). get_or-set_other slots u.var 0 None None ne ∙ t.zero)
+          (cases_eq 0 u.var);
+      room = omega (arith, len, t.room);
+      values = λ v h. ⊎_elim (λ (e : v ≡ u.var).
+          subst (λ (x : ℕ). option_map (λ (y : Slot). y.positive) (slot_of (set slots u.var None) x) ≡ value_of trues x) (sym e)
+          (ap (option_map (λ (y : Slot). y.positive)) (get_or-set_same slots u.var None None known) ∙ sym free))
+          (λ (n : v ≢ u.var). ap (option_map (λ (y : Slot). y.positive)) (get_or-set_other slots u.var v None None n) ∙ t.values v (omega (arith, len, h)) ∙ value_push_other trues u v n)
+          (cases_eq v u.var);
+      apart = λ k d h. rw (take-append-le k trues (u ∷ []) (omega arith), get_or_append_left trues (u ∷ []) d k h) at (t.apart k d (omega (arith, more)));
+      in_range = λ k d h. rw (len, ← get_or_append_left trues (u ∷ []) d k h) (t.in_range k d (omega (arith, more)));
+      count =
+          let moved = sum_by-set (λ (o : Option Slot). cond (is_some o) 1 0) slots u.var None None known in
+          let one = ap (λ (b : Bool). weight b) was in
+          omega (arith, moved, one, t.count, more);
+      levels = same ∙ ap level_of (sym (entries-set slots u.var None trues (no_literal trues u.var free)));
+    }
+
+-- more variables are known
+pub grown : (slots : List (Option Slot)) (trues : List Literal) (level capacity n room : ℕ) → IsTable slots trues level capacity
+    → length slots + n ≤ room → IsTable (slots ++ replicate n None) trues level room
+grown slots trues level capacity n room t fits =
+    let len : length (slots ++ replicate n None) ≡ length slots + n = length-append slots (replicate n None) ∙ ap (λ (m : ℕ). length slots + m) (length-replicate {A = Option Slot} n None) in
+    let count_none = sum_by-replicate {X = Option Slot} (λ (o : Option Slot). weight (is_some o)) n None in
+    let none_more : count_by {X = Option Slot} (λ (o : Option Slot). is_some o) slots + count_by {X = Option Slot} (λ (o : Option Slot). is_some o) (replicate {A = Option Slot} n None) ≡ length trues = omega (arith, count_none, t.count) in
+    record {
+      some = omega (arith, len, t.some);
+      zero = get_or_append_left slots (replicate n None) None 0 t.some ∙ t.zero;
+      room = omega (arith, len, fits);
+      values = λ v h. ⊎_elim
+          (λ (lt : v < length slots). ap (option_map (λ (y : Slot). y.positive)) (get_or_append_left slots (replicate n None) None v lt) ∙ t.values v lt)
+          (λ (ge : length slots ≤ v).
+          ap (option_map (λ (y : Slot). y.positive)) (get_or-append_right slots (replicate n None) (length slots) v None refl ge ∙ get_or-replicate n (v - length slots) None None (omega (arith, len, h)))
+          ∙ sym (no_value trues v (λ k d in_list e. absurd (omega (arith, t.in_range k d in_list, e)))))
+          (cases_lt v (length slots));
+      apart = t.apart;
+      in_range = λ k d h. omega (arith, len, t.in_range k d h);
+      count = sum_by-append (λ (o : Option Slot). cond (is_some o) 1 0) slots (replicate n None) ∙ none_more;
+      levels = t.levels ∙ ap level_of (sym (entries-append slots (replicate n None) trues t.in_range));
+    }
+
+known_by_cases : (slots : List (Option Slot)) (trues : List Literal) (v : ℕ) → All (λ l. l.var < length slots) trues → IsSome (value_of trues v) → (v < length slots) ⊎ (length slots ≤ v) → v < length slots
+known_by_cases slots trues v in_range has (inl lt) = lt
+known_by_cases slots trues v in_range has (inr ge) =
+    let none : value_of trues v ≡ None = no_value trues v (λ k d in_list e. absurd (omega (arith, in_range k d in_list, e))) in
+    absurd (true≢false (sym has ∙ ap is_some none))
+
+-- a variable with a value is in the table
+pub known_var : (slots : List (Option Slot)) (trues : List Literal) (level capacity v : ℕ) → IsTable slots trues level capacity → IsSome (value_of trues v) → v < length slots
+known_var slots trues level capacity v t has = known_by_cases slots trues v t.in_range has (cases_lt v (length slots))
+
+is_some-option_map : (o : Option Slot) → is_some (option_map (λ (s : Slot). s.positive) o) ≡ is_some o
+is_some-option_map None = refl
+is_some-option_map (Some s) = refl
+
+-- and has a slot there
+pub known_slot : (slots : List (Option Slot)) (trues : List Literal) (level capacity v : ℕ) → IsTable slots trues level capacity → IsSome (value_of trues v) → IsSome (slot_of slots v)
+known_slot slots trues level capacity v t has =
+    sym (is_some-option_map (slot_of slots v)) ∙ ap is_some (t.values v (known_var slots trues level capacity v t has)) ∙ has
+
+entry_by_cases : (X : Type 0) (get : Entry → X) (slots : List (Option Slot)) (l : Literal) (ls : List Literal) (v : ℕ) (x : X) (b : Bool)
+    → eqb l.var v ≡ b → (eqb l.var v ≡ true → get (entry_at slots l) ≡ x) → (eqb l.var v ≡ false → option_map get (entry_of (entries slots ls) v) ≡ Some x)
+    → option_map get (entry_of (entries slots (l ∷ ls)) v) ≡ Some x
+entry_by_cases X get slots l ls v x true e here later = ap (λ (b : Bool). option_map get (cond b (Some (entry_at slots l)) (entry_of (entries slots ls) v))) e ∙ ap Some (here e)
+entry_by_cases X get slots l ls v x false e here later = ap (λ (b : Bool). option_map get (cond b (Some (entry_at slots l)) (entry_of (entries slots ls) v))) e ∙ later e
+
+-- what the entry of a variable says is what its slot says
+pub entry_found : (X : Type 0) (get : Entry → X) (slots : List (Option Slot)) (trues : List Literal) (v : ℕ) (x : X)
+    → ((l : Literal) → l.var ≡ v → get (entry_at slots l) ≡ x) → (All (λ l. l.var ≢ v) trues → ⊥) → option_map get (entry_of (entries slots trues) v) ≡ Some x
+entry_found X get slots [] v x here some = absurd (some (All-nil (λ (l : Literal). l.var ≢ v)))
+entry_found X get slots (l ∷ ls) v x here some =
+    entry_by_cases X get slots l ls v x (eqb l.var v) refl (λ e. here l (eqb-true l.var v e))
+    (λ e. entry_found X get slots ls v x here (λ all. some (All-cons (λ (y : Literal). y.var ≢ v) l ls (eqb-false l.var v e) all)))
+
+-- a variable with a value is that of a literal
+pub has_literal : (trues : List Literal) (v : ℕ) → IsSome (value_of trues v) → All (λ l. l.var ≢ v) trues → ⊥
+has_literal trues v has none = true≢false (sym has ∙ ap is_some (no_value trues v none))
+
+-- while a variable has no value there is room for its literal
+pub room_left : (slots : List (Option Slot)) (trues : List Literal) (level capacity v : ℕ) → IsTable slots trues level capacity
+    → v < length slots → value_of trues v ≡ None → length trues < capacity
+room_left slots trues level capacity v t known free =
+    let slot : Slot = record { positive = true; level = 0; reason = None } in
+    let old : is_some (get_or slots v None) ≡ false = none_from_map (get_or slots v None) (t.values v known ∙ free) in
+    let moved = sum_by-set (λ (o : Option Slot). weight (is_some o)) slots v (Some slot) None known in
+    let none = ap (λ (b : Bool). weight b) old in
+    omega (arith, moved, none, t.count, t.room, length-set slots v (Some slot), count_by-le-length is_some (set slots v (Some slot)))
+
+-- what is seen of the table
+pub seen_literals : (a : Inside) (now : Assigned) → seen a ≡ now → literals now.trail ≡ a.trail.items
+seen_literals a now e = sym (ap (λ (x : Assigned). literals x.trail) e) ∙ literals-entries a.slots.items a.trail.items
+
+pub seen_value : (a : Inside) (now : Assigned) (v : ℕ) → seen a ≡ now → value_of (literals now.trail) v ≡ value_of a.trail.items v
+seen_value a now v e = ap (λ (ls : List Literal). value_of ls v) (seen_literals a now e)
+
+pub seen_var : (a : Inside) (now : Assigned) (v : ℕ) → seen a ≡ now → IsAssignment a → v ≤ now.vars → v < length a.slots.items
+seen_var a now v e t h = let vars : length a.slots.items - 1 ≡ now.vars = ap (λ (x : Assigned). x.vars) e in omega (arith, vars, h, t.some)
+
+-- the variable of the last literal is in the table, and is no other literal's
+pub last_known : (slots : List (Option Slot)) (trues : List Literal) (u : Literal) (level capacity : ℕ) → IsTable slots (trues ++ u ∷ []) level capacity → u.var < length slots
+last_known slots trues u level capacity t =
+    rw (get_or_push trues u u (length trues) refl) at (t.in_range (length trues) u (omega (arith, length_push trues u)))
+
+pub last_free : (slots : List (Option Slot)) (trues : List Literal) (u : Literal) (level capacity : ℕ) → IsTable slots (trues ++ u ∷ []) level capacity → value_of trues u.var ≡ None
+last_free slots trues u level capacity t =
+    rw (take_at trues (u ∷ []) (length trues) refl, get_or_push trues u u (length trues) refl) at (t.apart (length trues) u (omega (arith, length_push trues u)))
+
+-- the entries of the others are what they were without the last one's slot
+pub entries-unset : (slots : List (Option Slot)) (trues : List Literal) (u : Literal) (level capacity : ℕ) → IsTable slots (trues ++ u ∷ []) level capacity → entries (set slots u.var None) trues ≡ entries slots trues
+entries-unset slots trues u level capacity t = entries-set slots u.var None trues (no_literal trues u.var (last_free slots trues u level capacity t))
+
+pub seen_has : (a : Inside) (now : Assigned) (v : ℕ) → seen a ≡ now → IsSome (value_of (literals now.trail) v) → IsSome (value_of a.trail.items v)
+seen_has a now v e has = ap is_some (sym (seen_value a now v e)) ∙ has

@@ -1,0 +1,27 @@
+use Rattle.std.proofs.Common.{◌≡◌, ℕ, ◌+◌, ◌-◌, ◌<◌, Option, List, length, take, replicate, ◌++◌, vec_capacity, vec_len, None, sym, ap, ◌∙◌, arith}
+use Rattle.std.proofs.lemmas.List.{take_all}
+use Rattle.sat_state.specs.declared.assignment.Slot.{Slot}
+use Rattle.sat_state.specs.Assigned.{Assigned}
+use Rattle.sat_state.specs.Trail.{Entry}
+use Rattle.sat_state.proofs.Tables.{grown, entries-append}
+use Rattle.sat_state.proofs.assignment.Assignment.grow.Goals as goal
+use Rattle.sat_state.proofs.assignment.Assignment.grow.Goals.{In_ok-resize}
+
+slots_are : (c : In_ok-resize) → c.resize.new.self.items ≡ c.self.inside.slots.items ++ replicate (c.in_ok-wanted.wanted - vec_len c.self.inside.slots) None
+slots_are c =
+    let a = c.self.inside in
+    c.in_ok-resize.ensures.items ∙ ap (λ (front : List (Option Slot)). front ++ replicate (c.in_ok-wanted.wanted - vec_len a.slots) None) (take_all c.in_ok-wanted.wanted a.slots.items (omega (arith, a.slots.ok.0)))
+
+pub invariant_of-self-2 : goal.invariant_of-self-2
+invariant_of-self-2 c =
+    let a = c.self.inside in
+    let more = c.in_ok-wanted.wanted - vec_len a.slots in
+    rw (slots_are c, c.in_ok-reserve.ensures.items)
+    (grown a.slots.items a.trail.items a.level (vec_capacity a.trail) more (vec_capacity c.reserve.new.self) c.self.invariant (omega (arith, a.slots.ok.0, c.in_ok-reserve.ensures.ok)))
+
+pub returns-clause-trail : goal.returns-clause-trail
+returns-clause-trail c =
+    let a = c.self.inside in
+    let more = c.in_ok-wanted.wanted - vec_len a.slots in
+    rw (slots_are c, c.in_ok-reserve.ensures.items)
+    (entries-append a.slots.items (replicate more None) a.trail.items c.self.invariant.in_range ∙ ap (λ (x : Assigned). x.trail) c.self.view_is)

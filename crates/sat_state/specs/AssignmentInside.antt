@@ -1,0 +1,41 @@
+-- How the values of the variables are kept: a table by variable beside the literals in order.
+use Rattle.std.specs.Prelude.{◌≡◌, ℕ, ◌-◌, ◌<◌, ◌≤◌, Bool, Option, Some, None, is_some, List, length, map, take, count_by, slice_index_or, All, vec_capacity}
+use Rattle.std.specs.Option.{option_map, option_map_or}
+use Rattle.cnf_core.specs.Literal.{Literal}
+use Rattle.sat_state.specs.declared.assignment.Slot.{Slot}
+use Rattle.sat_state.specs.declared.assignment.Assignment.TheInside.{Inside}
+use Rattle.sat_state.specs.Trail.{Entry, literals, level_of, value_of}
+use Rattle.sat_state.specs.Assigned.{Assigned}
+
+-- what the table has for a variable
+abbrev pub slot_of : List (Option Slot) → ℕ → Option Slot
+slot_of slots var = slice_index_or slots var None
+
+-- the entry of a literal, with level and reason from the table
+abbrev pub entry_at : List (Option Slot) → Literal → Entry
+entry_at slots l = record {
+  literal = l;
+  level = option_map_or (λ s. s.level) (slot_of slots l.var) 0;
+  reason = option_map_or (λ s. s.reason) (slot_of slots l.var) None;
+}
+
+-- the trail that the literals and the table make
+abbrev pub entries : List (Option Slot) → List Literal → List Entry
+entries slots trues = map (entry_at slots) trues
+
+-- the table has the value of each variable, of which 0 is none, each literal of the trail is of another variable, and there is room for all
+pub record IsTable (slots : List (Option Slot)) (trues : List Literal) (level capacity : ℕ) : Type 0 where
+  pub some : 0 < length slots
+  pub zero : slot_of slots 0 ≡ None
+  pub room : length slots ≤ capacity
+  pub values : (v : ℕ) → v < length slots → option_map (λ s. s.positive) (slot_of slots v) ≡ value_of trues v
+  pub apart : (k : ℕ) (d : Literal) → k < length trues → value_of (take k trues) (slice_index_or trues k d).var ≡ None
+  pub in_range : All (λ l. l.var < length slots) trues
+  pub count : count_by is_some slots ≡ length trues
+  pub levels : level ≡ level_of (entries slots trues)
+
+abbrev pub seen : Inside → Assigned
+seen a = record { vars = length a.slots.items - 1; trail = entries a.slots.items a.trail.items }
+
+abbrev pub IsAssignment : Inside → Type 0
+IsAssignment a = IsTable a.slots.items a.trail.items a.level (vec_capacity a.trail)

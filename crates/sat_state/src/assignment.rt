@@ -1,0 +1,189 @@
+//! The values of the variables: which literals are true, in which order, at which level and why.
+
+ghost use Rattle.std.specs.Prelude.{◌≡◌, ℕ, ◌+◌, ◌-◌, ◌<◌, ◌≤◌, [], ◌∷◌, ◌++◌, length, take, max, IfOk, OnOk, OnErr, IsSome, is_none, if◌then◌else◌, slice_index_or, All};
+ghost use Rattle.std.specs.Option.{option_map, option_map_or};
+ghost use Rattle.cnf_core.specs.Literal.{is_among};
+ghost use Rattle.sat_state.specs.Trail.{Entry, literals, level_of, value_of, entry_of, next_level};
+
+use cnf_core::Lit;
+use ep_base::Memory;
+use std::alloc::Global;
+use std::marker::Model;
+
+/// What is kept of a variable that has a value.
+#[derive(Clone, Copy, Debug)]
+struct Slot {
+    positive: bool,
+    level: u64,
+    reason: Option<u64>,
+}
+
+// The value that a slot has.
+fn sign_in(slot: Option<Slot>) -> Option<bool>
+    ensures { result ≡ option_map (λ s. s.positive) slot }
+{
+    slot.map(|slot| slot.positive)
+}
+
+// The reason that a slot has.
+fn reason_in(slot: Option<Slot>) -> Option<u64>
+    ensures { result ≡ option_map_or (λ s. s.reason) slot None }
+{
+    slot.and_then(|slot| slot.reason)
+}
+
+// How many levels an entry with this reason opens.
+fn levels_opened(reason: Option<u64>) -> u64
+    ensures { result ≡ (if is_none reason then 1 else 0) }
+{
+    u64::from(reason.is_none())
+}
+
+/// The literals that are true, in the order in which they were made true.
+#[derive(Debug, Drop)]
+pub struct Assignment {
+    slots: Vec<Option<Slot>>,
+    trail: Vec<Lit>,
+    level: u64,
+}
+
+impl Model for Assignment {
+    ghost use Rattle.sat_state.specs.Assigned.{Assigned};
+
+    ghost Value = { Assigned };
+
+    ghost use Rattle.sat_state.specs.AssignmentInside.{seen, IsAssignment};
+
+    ghost view = { seen };
+
+    ghost invariant = { IsAssignment };
+}
+
+impl Assignment {
+    /// No variable is known, and no literal is true.
+    pub fn new(alloc: Global) -> Result<Assignment, Memory>
+        ensures vars { IfOk result (λ made. made.vars ≡ 0) }
+        ensures trail { IfOk result (λ made. made.trail ≡ []) }
+    {
+        let mut slots = Vec::with_capacity(alloc, 1)?;
+        slots.push(None)?;
+        Ok(Assignment {
+            slots,
+            trail: Vec::with_capacity(alloc, 1)?,
+            level: 0,
+        })
+    }
+
+    /// Forgets all variables and takes all literals back.
+    pub fn clear(&mut self)
+        ensures vars { self.new.vars ≡ 0 }
+        ensures trail { self.new.trail ≡ [] }
+    {
+        self.slots.truncate(1);
+        self.slots[0] = None;
+        self.trail.clear();
+        self.level = 0;
+    }
+
+    /// Makes the variables up to this number known.
+    pub fn grow(&mut self, vars: u64) -> Result<(), Memory>
+        ensures vars { OnOk result (self.new.vars ≡ max self.old.vars vars) }
+        ensures trail { self.new.trail ≡ self.old.trail }
+        ensures err { OnErr result (self.new ≡ self.old) }
+    {
+        let wanted = vars.checked_add(1).ok_or(Memory)? as usize;
+        if wanted <= self.slots.len() {
+            return Ok(());
+        }
+        self.trail.reserve(wanted)?;
+        self.slots.resize(wanted, None)?;
+        Ok(())
+    }
+
+    /// The value of a variable.
+    pub fn value(&self, var: u64) -> Option<bool>
+        ensures value { result ≡ value_of (literals self.now.trail) var }
+        ensures unknown { self.now.vars < var → result ≡ None }
+    {
+        let var = var as usize;
+        if var < self.slots.len() {
+            sign_in(self.slots[var])
+        } else {
+            None
+        }
+    }
+
+    /// Whether a literal is true.
+    pub fn is_true(&self, lit: Lit) -> bool
+        ensures { result ≡ is_among (literals self.now.trail) lit }
+    {
+        let _trail = &self.trail;
+        self.value(lit.var()) == Some(lit.positive())
+    }
+
+    /// How many decisions there are.
+    pub fn level(&self) -> u64
+        ensures { result ≡ level_of self.now.trail }
+    {
+        self.level
+    }
+
+    /// The literals that are true, in order.
+    pub fn trail(&self) -> &[Lit]
+        ensures value { result.now ≡ literals self.now.trail }
+        ensures known { All (λ l. l.var ≤ self.now.vars) result.now }
+        ensures few { length self.now.trail ≤ self.now.vars }
+    {
+        self.trail.as_slice()
+    }
+
+    /// The level at which a variable got its value.
+    pub fn level_of(&self, var: u64) -> u64
+        requires { IsSome (value_of (literals self.now.trail) var) }
+        ensures { option_map (λ e. e.level) (entry_of self.now.trail var) ≡ Some result }
+    {
+        self.slots[var as usize].unwrap().level
+    }
+
+    /// The clause that gave a variable its value, or none where it was decided.
+    pub fn reason(&self, var: u64) -> Option<u64>
+        requires { IsSome (value_of (literals self.now.trail) var) }
+        ensures { option_map (λ e. e.reason) (entry_of self.now.trail var) ≡ Some result }
+    {
+        self.slots[var as usize].unwrap().reason
+    }
+
+    /// Makes a literal true. Without a reason it is a decision, which opens a level.
+    pub fn push(&mut self, lit: Lit, reason: Option<u64>)
+        requires known { lit.var ≤ self.old.vars }
+        requires free { value_of (literals self.old.trail) lit.var ≡ None }
+        ensures vars { self.new.vars ≡ self.old.vars }
+        ensures trail { self.new.trail
+            ≡ self.old.trail ++ record { literal = lit; level = next_level self.old.trail reason; reason = reason } ∷ [] }
+    {
+        self.level += levels_opened(reason);
+        self.slots[lit.var() as usize] = Some(Slot {
+            positive: lit.positive(),
+            level: self.level,
+            reason,
+        });
+        self.trail.push_reserved(lit);
+    }
+
+    /// Takes the last literal back.
+    pub fn pop(&mut self) -> Lit
+        requires { 0 < length self.old.trail }
+        ensures vars { self.new.vars ≡ self.old.vars }
+        ensures trail { self.new.trail ≡ take (length self.old.trail - 1) self.old.trail }
+        ensures literal { literals self.old.trail ≡ literals self.new.trail ++ result ∷ [] }
+        ensures known { result.var ≤ self.old.vars }
+        ensures free { value_of (literals self.new.trail) result.var ≡ None }
+    {
+        let lit = self.trail.pop().unwrap();
+        let var = lit.var() as usize;
+        let reason = reason_in(self.slots[var]);
+        self.slots[var] = None;
+        self.level -= levels_opened(reason);
+        lit
+    }
+}
