@@ -1,0 +1,6 @@
+pub mod Cuts
+pub mod Digits
+pub mod ItemSteps
+pub mod Order
+pub mod LogLoop
+pub mod EventIds

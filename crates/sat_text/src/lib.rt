@@ -1,0 +1,15 @@
+//! Reads and writes the texts of formulas and of proofs.
+#![tactic(auto)]
+
+mod faults;
+mod items;
+mod numbers;
+mod proof;
+mod words;
+mod writing;
+
+pub use proof::{LogError, read_log};
+pub use writing::write_cnf;
+
+/// The greatest number of bytes of a text that is read.
+pub const MOST_BYTES: usize = 1_073_741_824;
