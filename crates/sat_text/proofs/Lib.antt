@@ -4,3 +4,5 @@ pub mod ItemSteps
 pub mod Order
 pub mod LogLoop
 pub mod EventIds
+pub mod ClauseSteps
+pub mod FormulaSteps

@@ -5,3 +5,4 @@ pub mod Lines
 pub mod Answers
 pub mod Proofs
 pub mod Writing
+pub mod Cnf

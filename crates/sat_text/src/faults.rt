@@ -37,3 +37,34 @@ impl From<ep_base::Memory> for Fault {
         Fault::Memory
     }
 }
+
+/// Why the clauses of a formula could not be read.
+#[derive(Clone, Copy, Debug, PartialEq, Eq)]
+pub enum Stop {
+    /// An allocation was refused.
+    Memory,
+    /// A word on this line is wrong.
+    At(u64),
+    /// Words are wanting.
+    Ends,
+}
+
+impl<T: Drop> From<AllocFailed<T>> for Stop {
+    ghost use Rattle.sat_text.specs.declared.faults.Stop.TheVariants.{Memory};
+
+    ghost from_gives = { λ _ e. e ≡ Memory };
+
+    fn from(_refused: AllocFailed<T>) -> Stop {
+        Stop::Memory
+    }
+}
+
+impl From<ep_base::Memory> for Stop {
+    ghost use Rattle.sat_text.specs.declared.faults.Stop.TheVariants.{Memory};
+
+    ghost from_gives = { λ _ e. e ≡ Memory };
+
+    fn from(_refused: ep_base::Memory) -> Stop {
+        Stop::Memory
+    }
+}

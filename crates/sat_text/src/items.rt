@@ -39,14 +39,14 @@ pub(crate) fn positive(number: i64) -> Result<u64, Fault>
     }
 }
 
-fn is_zero(number: i64) -> bool
+pub(crate) fn is_zero(number: i64) -> bool
     ensures { result ≡ is_zero number }
 {
     number == 0
 }
 
 /// The literal of a number.
-fn literal(number: i64) -> Lit
+pub(crate) fn literal(number: i64) -> Lit
     requires other { is_zero number ≡ false }
     requires small { unsigned_abs number < 10 ^ 18 }
     ensures { result ≡ literal_of number }

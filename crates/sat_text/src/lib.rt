@@ -1,7 +1,10 @@
 //! Reads and writes the texts of formulas and of proofs.
 #![tactic(auto)]
 
+mod clauses;
 mod faults;
+mod formula;
+mod header;
 mod items;
 mod numbers;
 mod proof;

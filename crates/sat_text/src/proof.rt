@@ -1,6 +1,7 @@
 //! Reads the text of a proof.
 
 ghost use Rattle.std.specs.Prelude.{◌≡◌, ◌<◌, ◌↔◌, ℕ, length, Ok, Err, IfOk, IsErrOf};
+ghost use Rattle.cnf_core.specs.Literal.{HaveSameLiterals};
 ghost use Rattle.sat_text.specs.Words.{words};
 ghost use Rattle.sat_text.specs.Clauses.{clause_of};
 ghost use Rattle.sat_text.specs.Lines.{plain_line, plain_lines};
@@ -36,8 +37,10 @@ impl<T: Drop> From<AllocFailed<T>> for LogError {
     }
 }
 
-fn clause(alloc: Global, lits: Vec<Lit>) -> Result<Clause, Memory>
-    ensures { IfOk result (λ made. made ≡ clause_of lits.items) }
+/// The clause of these literals.
+pub(crate) fn clause(alloc: Global, lits: Vec<Lit>) -> Result<Clause, Memory>
+    ensures made { IfOk result (λ made. made ≡ clause_of lits.items) }
+    ensures same { IfOk result (λ made. HaveSameLiterals made lits.items) }
 {
     Clause::new(alloc, lits)
 }
@@ -100,7 +103,7 @@ fn proof_line(alloc: Global, line: &[u8]) -> Result<Line, Fault>
     line_behind_id(alloc, id, rest)
 }
 
-fn is_silent(line: &[u8]) -> bool
+pub(crate) fn is_silent(line: &[u8]) -> bool
     ensures { result ≡ says_nothing line.now }
 {
     match line {
