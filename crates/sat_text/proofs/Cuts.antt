@@ -166,3 +166,16 @@ start_within p xs i e = (place_some p xs i (sym e)).1
 pub some_bytes : (text : List ℕ) → false ≡ eqb (length text) 0 → 0 < length text
 some_bytes [] e = absurd cc
 some_bytes (b ∷ text) e = omega arith
+
+-- ---- pieces between separators
+
+pub piece_taken : (p : ℕ → Bool) (bytes later : List ℕ) (end : ℕ) → Some end ≡ position p bytes → later ≡ drop (end + 1) bytes → slice_split p bytes ≡ take end bytes ∷ slice_split p later
+piece_taken p bytes later end e is =
+    let at = place_some p bytes end (sym e) in
+    let lt : position_or_len p bytes < length bytes = subst (λ (n : ℕ). n < length bytes) at.0 at.1 in
+    let cut : slice_split p bytes ≡ take end bytes ∷ slice_split p (drop (suc end) bytes) = subst (λ (n : ℕ). slice_split p bytes ≡ take n bytes ∷ slice_split p (drop (suc n) bytes)) (sym at.0) (split_cut p bytes lt) in
+    let plus : end + 1 ≡ suc end = omega arith in
+    rw is (rw plus cut)
+
+pub piece_last : (p : ℕ → Bool) (bytes : List ℕ) → None ≡ position p bytes → slice_split p bytes ≡ bytes ∷ []
+piece_last p bytes e = split_whole p bytes (place_none p bytes (sym e))

@@ -6,3 +6,4 @@ pub mod LogLoop
 pub mod EventIds
 pub mod ClauseSteps
 pub mod FormulaSteps
+pub mod NotePieces

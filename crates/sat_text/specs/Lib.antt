@@ -6,3 +6,4 @@ pub mod Answers
 pub mod Proofs
 pub mod Writing
 pub mod Cnf
+pub mod Notes

@@ -2,17 +2,20 @@
 #![tactic(auto)]
 
 mod clauses;
+mod cnf;
 mod faults;
 mod formula;
 mod header;
 mod items;
+mod notes;
 mod numbers;
 mod proof;
 mod words;
 mod writing;
 
+pub use cnf::{CnfError, CnfFile, read_cnf};
 pub use proof::{LogError, read_log};
-pub use writing::write_cnf;
+pub use writing::{write_cnf, write_log};
 
 /// The greatest number of bytes of a text that is read.
 pub const MOST_BYTES: usize = 1_073_741_824;
