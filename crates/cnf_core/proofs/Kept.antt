@@ -7,8 +7,8 @@ extension_both : (f g h : Cnf) (C E : (ℕ → Bool) → Type 0) (s : ℕ → Bo
 extension_both f g h C E s first second speaks here far =
     let middle : Satisfies far.values g.clauses = second.restriction far.values far.satisfies in (
       (first.extension s here).0 (record { values = far.values; agrees = far.agrees; satisfies = middle }),
-      speaks far.values s (λ v below. sym (far.agrees v below))
-          ((second.extension far.values middle).0 (record { values = far.values; agrees = λ v below. refl; satisfies = far.satisfies })),
+      speaks far.values s (λ v one below. sym (far.agrees v one below))
+          ((second.extension far.values middle).0 (record { values = far.values; agrees = λ v one below. refl; satisfies = far.satisfies })),
     )
 
 both_extend : (f g h : Cnf) (C E : (ℕ → Bool) → Type 0) (s : ℕ → Bool) → Keeps f g C → Keeps g h E → SpeaksOf f.vars E → Satisfies s f.clauses → C s × E s → Extends f.vars s h
@@ -17,7 +17,7 @@ both_extend f g h C E s first second speaks here both =
     let far : Extends g.vars near.values h = (second.extension near.values near.satisfies).1 (speaks s near.values near.agrees both.1) in
     record {
       values = far.values;
-      agrees = λ v below. near.agrees v below ∙ far.agrees v (omega (arith, below, first.variables));
+      agrees = λ v one below. near.agrees v one below ∙ far.agrees v one (omega (arith, below, first.variables));
       satisfies = far.satisfies;
     }
 

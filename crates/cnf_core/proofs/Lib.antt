@@ -1,3 +1,5 @@
+pub mod Readings
+pub mod Vectors
 pub mod Count
 pub mod Following
 pub mod Effective

@@ -40,6 +40,10 @@ pub either : (p : Bool) → (p ≡ true) ⊎ (p ≡ false)
 either true = inl refl
 either false = inr refl
 
+pub or_left : (p q : Bool) → p ≡ true → (p || q) ≡ true
+or_left true q e = refl
+or_left false q e = absurd (false≢true e)
+
 pub or_right : (p q : Bool) → q ≡ true → (p || q) ≡ true
 or_right true q e = refl
 or_right false q e = e
@@ -153,3 +157,24 @@ passes_none p (y ∷ xs) x none found =
     or_false_right : (p q : Bool) → (p || q) ≡ false → q ≡ false
     or_false_right true q e = absurd (false≢true (sym e))
     or_false_right false q e = e
+
+-- and nothing else
+pub Contains-from_filter : {X : Type 0} (p : X → Bool) (xs : List X) (x : X) → Contains (filter p xs) x → Contains xs x × (p x ≡ true)
+Contains-from_filter p [] x found = absurd (none_in_nil x found)
+Contains-from_filter p (y ∷ xs) x found = by_test (p y) refl found (Contains-from_filter p xs x)
+  where
+    later : Contains xs x × (p x ≡ true) → Contains (y ∷ xs) x × (p x ≡ true)
+    later rest = (Contains-there y xs x rest.0, rest.1)
+
+    by_test : (b : Bool) → p y ≡ b → Contains (cond b (y ∷ filter p xs) (filter p xs)) x → (Contains (filter p xs) x → Contains xs x × (p x ≡ true)) → Contains (y ∷ xs) x × (p x ≡ true)
+    by_test true is stands rest =
+        elim (Contains-cases y (filter p xs) x stands) [
+          | inl here ↦ (subst (Contains (y ∷ xs)) here (Contains-here y xs), subst (λ z. p z ≡ true) here is)
+          | inr there ↦ later (rest there)
+        ]
+    by_test false is stands rest = later (rest stands)
+
+-- where each element that stands in a list passes a test, all do
+pub all_pass : {X : Type 0} (p : X → Bool) (xs : List X) → ((x : X) → Contains xs x → p x ≡ true) → list_all p xs ≡ true
+all_pass p [] each = refl
+all_pass p (x ∷ xs) each = and_true (p x) (list_all p xs) (each x (Contains-here x xs)) (all_pass p xs (λ y found. each y (Contains-there x xs y found)))

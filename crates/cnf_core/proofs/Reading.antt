@@ -5,7 +5,7 @@ use Rattle.std.specs.List.{list_all}
 use Rattle.std.proofs.lemmas.Bool.{false≢true}
 use Rattle.std.proofs.lemmas.List.Elements.{All-head, All-tail}
 use Rattle.cnf_core.specs.Literal.{Literal, negation, is_among}
-use Rattle.cnf_core.specs.Reading.{is_false, not_false, trues_after, reading_succeeds, has_contradiction, is_shown_by}
+use Rattle.cnf_core.specs.Reading.{is_false, not_false, trues_after, trues_from, reading_succeeds, has_contradiction, is_shown_by}
 use Rattle.cnf_core.proofs.Members.{Contains-cases, none_in_nil, or_cases, either, Contains-from_test, Contains-filter, passes_each, passes_some}
 
 -- a clause has a literal for which T holds, or two for whose negations it doesn't
@@ -82,3 +82,10 @@ module _ (T : Literal → Type 0) (consistent : (l : Literal) → T l → T (neg
             consistent found.0 (known found.0 found.1) (known (negation found.0) (Contains-from_test (map negation clause) (negation found.0) found.2))
         | inr reads ↦ reading_fails hints (map negation clause) settled known reads
       ]
+
+  -- what such a reading makes true is true
+  pub reading_gives : (clauses : List (List Literal)) (trues : List Literal) → All (Settled T) clauses → ((l : Literal) → Contains trues l → T l) → (l : Literal) → Contains (trues_from trues clauses) l → T l
+  reading_gives [] trues settled known l found = known l found
+  reading_gives (clause ∷ clauses) trues settled known l found =
+      reading_gives clauses (trues_after trues (not_false trues clause)) (All-tail (Settled T) clause clauses settled)
+      (after trues (not_false trues clause) known (single trues clause (All-head (Settled T) clause clauses settled) known)) l found

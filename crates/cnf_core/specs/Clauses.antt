@@ -16,6 +16,6 @@ pub record SatisfiesClause (s : ℕ → Bool) (clause : List Literal) : Type 0 w
 abbrev pub Satisfies : (ℕ → Bool) → List (List Literal) → Type 0
 Satisfies s clauses = All (SatisfiesClause s) clauses
 
--- two assignments give each variable up to a number the same value
+-- two assignments give each variable from 1 up to a number the same value
 abbrev pub AgreeUpTo : ℕ → (ℕ → Bool) → (ℕ → Bool) → Type 0
-AgreeUpTo most s t = (v : ℕ) → v ≤ most → s v ≡ t v
+AgreeUpTo most s t = (v : ℕ) → 1 ≤ v → v ≤ most → s v ≡ t v

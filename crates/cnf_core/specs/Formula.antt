@@ -26,6 +26,6 @@ pub record Keeps (old new : Cnf) (condition : (ℕ → Bool) → Type 0) : Type 
   pub extension : (s : ℕ → Bool) → Satisfies s old.clauses → (Extends old.vars s new) ↔ (condition s)
   pub restriction : (s : ℕ → Bool) → Satisfies s new.clauses → Satisfies s old.clauses
 
--- the condition depends on the variables up to this number alone
+-- the condition depends on the variables from 1 up to this number alone
 abbrev pub SpeaksOf : ℕ → ((ℕ → Bool) → Type 0) → Type 0
 SpeaksOf most condition = (s t : ℕ → Bool) → AgreeUpTo most s t → condition s → condition t

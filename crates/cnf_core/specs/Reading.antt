@@ -24,6 +24,11 @@ reading_succeeds trues [] = false
 reading_succeeds trues (clause ∷ clauses) =
     list_all (is_false trues) clause || reading_succeeds (trues_after trues (not_false trues clause)) clauses
 
+-- what is true once all these clauses were read in order
+abbrev pub trues_from : List Literal → List (List Literal) → List Literal
+trues_from trues [] = trues
+trues_from trues (clause ∷ clauses) = trues_from (trues_after trues (not_false trues clause)) clauses
+
 -- whether the literals hold one together with its negation
 abbrev pub has_contradiction : List Literal → Bool
 has_contradiction literals = list_any (is_false literals) literals

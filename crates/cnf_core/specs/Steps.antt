@@ -76,6 +76,10 @@ pub record IsEffectiveStep (earlier : List LogEvent) (clause : List Literal) : T
   pub is_last : IsLastOf trues clause last
   pub at_end : IsAtEnd trues (clauses_of earlier)
 
+-- these are literals of a clause, none of them the one that is last
+abbrev pub AreOtherLiterals : List Literal → Literal → List Literal → Type 0
+AreOtherLiterals clause last others = All (λ l. Contains clause l × (l ≢ last)) others
+
 -- each step with a literal is new
 abbrev pub NonEmptyStepsAreNew : List LogEvent → Type 0
 NonEmptyStepsAreNew events = EachStep (λ earlier clause hints. 0 < length clause → IsNewStep earlier clause) [] events

@@ -8,7 +8,8 @@ use ep_base::Memory;
 use std::alloc::Global;
 use std::marker::Model;
 
-/// Distinct literals, ordered by variable, the positive one first. Some literal of a clause has to be true.
+/// Distinct literals, ordered by variable, the positive one first. Some literal of a clause has to
+/// be true.
 #[derive(Clone, Debug, Drop)]
 pub struct Clause {
     lits: Vec<Lit>,

@@ -10,7 +10,8 @@ use ep_base::Memory;
 use std::alloc::Global;
 use std::marker::Model;
 
-/// What is kept for a variable of a formula that grows. By its size memory ends before the numbers of variables do.
+/// What is kept for a variable of a formula that grows. By its size memory ends before the numbers
+/// of variables do.
 type Mark = [u64; 2];
 
 const MARK: Mark = [0; 2];
@@ -79,7 +80,8 @@ impl Formula {
     /// Adds a clause at the end. After want of memory the formula is unchanged.
     pub fn add(&mut self, clause: Clause) -> Result<(), Memory>
         requires { VariablesUpTo self.old.vars clause }
-        ensures ok { OnOk result (self.new ≡ record self.old { clauses = self.old.clauses ++ clause ∷ [] }) }
+        ensures ok { OnOk result
+            (self.new ≡ record self.old { clauses = self.old.clauses ++ clause ∷ [] }) }
         ensures err { OnErr result (self.new ≡ self.old) }
     {
         self.clauses.push(clause)?;

@@ -1,4 +1,5 @@
-//! Clauses, formulas and logs: what the encoders write, what the solver reads and extends, and what a log checker reads again.
+//! Clauses, formulas and logs: what the encoders write, what the solver reads and extends, and what
+//! a log checker reads again.
 #![tactic(auto)]
 
 mod clause;

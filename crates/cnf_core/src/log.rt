@@ -29,7 +29,8 @@ pub enum Event {
     Step(Clause, Vec<u64>),
 }
 
-/// Events in order, the notes that say what literals mean, and the base: how many of the first events are the problem's own.
+/// Events in order, the notes that say what literals mean, and the base: how many of the first
+/// events are the problem's own.
 #[derive(Debug, Drop)]
 pub struct Log {
     events: Vec<Event>,
@@ -102,7 +103,8 @@ impl Log {
 
     /// Appends a given. After want of memory the log is unchanged.
     pub fn given(&mut self, clause: Clause) -> Result<(), Memory>
-        ensures ok { OnOk result (self.new ≡ record self.old { events = self.old.events ++ given clause ∷ [] }) }
+        ensures ok { OnOk result
+            (self.new ≡ record self.old { events = self.old.events ++ given clause ∷ [] }) }
         ensures err { OnErr result (self.new ≡ self.old) }
     {
         self.events.push(Event::Given(clause))?;
@@ -112,7 +114,8 @@ impl Log {
     /// Appends a step. After want of memory the log is unchanged.
     pub fn step(&mut self, clause: Clause, hints: Vec<u64>) -> Result<(), Memory>
         requires { HintsAreThere self.old.events hints.items }
-        ensures ok { OnOk result (self.new ≡ record self.old { events = self.old.events ++ step clause hints.items ∷ [] }) }
+        ensures ok { OnOk result (self.new ≡
+            record self.old { events = self.old.events ++ step clause hints.items ∷ [] }) }
         ensures err { OnErr result (self.new ≡ self.old) }
     {
         let counts = !clause.lits().is_empty();
