@@ -14,18 +14,18 @@ bool_cases false = inr refl
 
 pub place_none : {X : Type 0} (p : X → Bool) (xs : List X) → position p xs ≡ None → length xs ≤ position_or_len p xs
 place_none p xs e = elim (bool_cases (ltb (position_or_len p xs) (length xs))) [
-    | inl t ↦ absurd (let h : Some (position_or_len p xs) ≡ None = sym (rw t refl) ∙ e in cc)
-    | inr f ↦ ltb-false _ _ f
-  ]
+  | inl t ↦ absurd (let h : Some (position_or_len p xs) ≡ None = sym (rw t refl) ∙ e in cc)
+  | inr f ↦ ltb-false _ _ f
+]
 
 pub place_some : {X : Type 0} (p : X → Bool) (xs : List X) (i : ℕ) → position p xs ≡ Some i → (i ≡ position_or_len p xs) × (i < length xs)
 place_some p xs i e = elim (bool_cases (ltb (position_or_len p xs) (length xs))) [
-    | inl t ↦
-        let h : Some (position_or_len p xs) ≡ Some i = sym (rw t refl) ∙ e in
-        let same : position_or_len p xs ≡ i = cc in
-        (sym same, subst (λ (n : ℕ). n < length xs) same (ltb-true _ _ t))
-    | inr f ↦ absurd (let h : None ≡ Some i = sym (rw f refl) ∙ e in cc)
-  ]
+  | inl t ↦
+      let h : Some (position_or_len p xs) ≡ Some i = sym (rw t refl) ∙ e in
+      let same : position_or_len p xs ≡ i = cc in
+      (sym same, subst (λ (n : ℕ). n < length xs) same (ltb-true _ _ t))
+  | inr f ↦ absurd (let h : None ≡ Some i = sym (rw f refl) ∙ e in cc)
+]
 
 place_yes : {X : Type 0} (p : X → Bool) (x : X) (xs : List X) → p x ≡ true → position_or_len p (x ∷ xs) ≡ 0
 place_yes p x xs t = rw t refl
@@ -38,22 +38,22 @@ place_no p x xs f = rw f (omega arith)
 ended_cut : (p : ℕ → Bool) (text : List ℕ) → position_or_len p text < length text → ended_by p text ≡ take (position_or_len p text) text ∷ ended_by p (drop (suc (position_or_len p text)) text)
 ended_cut p [] lt = absurd (omega arith)
 ended_cut p (b ∷ text) lt = elim (bool_cases (p b)) [
-    | inl t ↦ rw (place_yes p b text t, t) refl
-    | inr f ↦
-        let at : position_or_len p (b ∷ text) ≡ suc (position_or_len p text) = place_no p b text f in
-        let less : position_or_len p text < length text = omega (arith, at, lt) in
-        rw (at, f) (ap (onto_first b) (ended_cut p text less))
-  ]
+  | inl t ↦ rw (place_yes p b text t, t) refl
+  | inr f ↦
+      let at : position_or_len p (b ∷ text) ≡ suc (position_or_len p text) = place_no p b text f in
+      let less : position_or_len p text < length text = omega (arith, at, lt) in
+      rw (at, f) (ap (onto_first b) (ended_cut p text less))
+]
 
 ended_whole : (p : ℕ → Bool) (b : ℕ) (text : List ℕ) → length (b ∷ text) ≤ position_or_len p (b ∷ text) → ended_by p (b ∷ text) ≡ (b ∷ text) ∷ []
 ended_whole p b [] le = elim (bool_cases (p b)) [
-    | inl t ↦ absurd (omega (arith, place_yes p b [] t, le))
-    | inr f ↦ rw f refl
-  ]
+  | inl t ↦ absurd (omega (arith, place_yes p b [] t, le))
+  | inr f ↦ rw f refl
+]
 ended_whole p b (d ∷ text) le = elim (bool_cases (p b)) [
-    | inl t ↦ absurd (omega (arith, place_yes p b (d ∷ text) t, le))
-    | inr f ↦ rw f (ap (onto_first b) (ended_whole p d text (omega (arith, place_no p b (d ∷ text) f, le))))
-  ]
+  | inl t ↦ absurd (omega (arith, place_yes p b (d ∷ text) t, le))
+  | inr f ↦ rw f (ap (onto_first b) (ended_whole p d text (omega (arith, place_no p b (d ∷ text) f, le))))
+]
 
 pub line_cut : (text : List ℕ) (i : ℕ) → position (λ b. eqb b 10) text ≡ Some i → lines text ≡ take i text ∷ lines (drop (i + 1) text)
 line_cut text i e =
@@ -79,37 +79,37 @@ split_yes p b line t = rw t refl
 words_from : (p : ℕ → Bool) (line : List ℕ) → words_by p line ≡ words_by p (drop (position_or_len (λ b. not (p b)) line) line)
 words_from p [] = refl
 words_from p (b ∷ line) = elim (bool_cases (p b)) [
-    | inl t ↦ split_yes p b line t ∙ words_from p line ∙ ap (λ (n : ℕ). words_by p (drop n (b ∷ line))) (sym (place_no (λ x. not (p x)) b line (ap not t)))
-    | inr f ↦ ap (λ (n : ℕ). words_by p (drop n (b ∷ line))) (sym (place_yes (λ x. not (p x)) b line (ap not f)))
-  ]
+  | inl t ↦ split_yes p b line t ∙ words_from p line ∙ ap (λ (n : ℕ). words_by p (drop n (b ∷ line))) (sym (place_no (λ x. not (p x)) b line (ap not t)))
+  | inr f ↦ ap (λ (n : ℕ). words_by p (drop n (b ∷ line))) (sym (place_yes (λ x. not (p x)) b line (ap not f)))
+]
 
 -- the first byte at the place of the first one that isn't blank
 first_there : (p : ℕ → Bool) (line : List ℕ) → position_or_len (λ b. not (p b)) line < length line → (b : ℕ) × (rest : List ℕ) × (drop (position_or_len (λ x. not (p x)) line) line ≡ b ∷ rest) × (p b ≡ false)
 first_there p [] lt = absurd (omega arith)
 first_there p (b ∷ line) lt = elim (bool_cases (p b)) [
-    | inl t ↦
-        let at = place_no (λ x. not (p x)) b line (ap not t) in
-        let r = first_there p line (omega (arith, at, lt)) in
-        (r.0, r.1, ap (λ (n : ℕ). drop n (b ∷ line)) at ∙ r.2, r.3)
-    | inr f ↦ (b, line, ap (λ (n : ℕ). drop n (b ∷ line)) (place_yes (λ x. not (p x)) b line (ap not f)), f)
-  ]
+  | inl t ↦
+      let at = place_no (λ x. not (p x)) b line (ap not t) in
+      let r = first_there p line (omega (arith, at, lt)) in
+      (r.0, r.1, ap (λ (n : ℕ). drop n (b ∷ line)) at ∙ r.2, r.3)
+  | inr f ↦ (b, line, ap (λ (n : ℕ). drop n (b ∷ line)) (place_yes (λ x. not (p x)) b line (ap not f)), f)
+]
 
 split_cut : (p : ℕ → Bool) (line : List ℕ) → position_or_len p line < length line → slice_split p line ≡ take (position_or_len p line) line ∷ slice_split p (drop (suc (position_or_len p line)) line)
 split_cut p [] lt = absurd (omega arith)
 split_cut p (b ∷ line) lt = elim (bool_cases (p b)) [
-    | inl t ↦ rw (place_yes p b line t, t) refl
-    | inr f ↦
-        let at : position_or_len p (b ∷ line) ≡ suc (position_or_len p line) = place_no p b line f in
-        let less : position_or_len p line < length line = omega (arith, at, lt) in
-        rw (at, f) (ap (onto_first b) (split_cut p line less))
-  ]
+  | inl t ↦ rw (place_yes p b line t, t) refl
+  | inr f ↦
+      let at : position_or_len p (b ∷ line) ≡ suc (position_or_len p line) = place_no p b line f in
+      let less : position_or_len p line < length line = omega (arith, at, lt) in
+      rw (at, f) (ap (onto_first b) (split_cut p line less))
+]
 
 split_whole : (p : ℕ → Bool) (line : List ℕ) → length line ≤ position_or_len p line → slice_split p line ≡ line ∷ []
 split_whole p [] le = refl
 split_whole p (b ∷ line) le = elim (bool_cases (p b)) [
-    | inl t ↦ absurd (omega (arith, place_yes p b line t, le))
-    | inr f ↦ rw f (ap (onto_first b) (split_whole p line (omega (arith, place_no p b line f, le))))
-  ]
+  | inl t ↦ absurd (omega (arith, place_yes p b line t, le))
+  | inr f ↦ rw f (ap (onto_first b) (split_whole p line (omega (arith, place_no p b line f, le))))
+]
 
 pub word_none : (line : List ℕ) → position (λ b. not (is_blank b)) line ≡ None → words line ≡ []
 word_none line e =

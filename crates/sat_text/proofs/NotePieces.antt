@@ -12,9 +12,9 @@ onto_some b (piece ∷ pieces) = (b ∷ piece, pieces, refl)
 some_piece : (p : ℕ → Bool) (bytes : List ℕ) → (piece : List ℕ) × (more : List (List ℕ)) × (slice_split p bytes ≡ piece ∷ more)
 some_piece p [] = ([], [], refl)
 some_piece p (b ∷ bytes) = elim (bool_cases (p b)) [
-    | inl t ↦ ([], slice_split p bytes, rw t refl)
-    | inr f ↦ let r = onto_some b (slice_split p bytes) in (r.0, r.1, rw f r.2)
-  ]
+  | inl t ↦ ([], slice_split p bytes, rw t refl)
+  | inr f ↦ let r = onto_some b (slice_split p bytes) in (r.0, r.1, rw f r.2)
+]
 
 pub literal_more : (p : ℕ → Bool) (cell value lit bytes later : List ℕ) → slice_split p bytes ≡ lit ∷ slice_split p later → note_literal cell value (slice_split p bytes) ≡ None
 unfolding note_literal

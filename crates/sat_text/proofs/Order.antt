@@ -110,9 +110,9 @@ heads x y xs ys a b e g =
     elim (or_cases (same_literal x y) (is_among ys x) e) [
       | inl s ↦ same_is x y s
       | inr t ↦ elim (or_cases (same_literal y x) (is_among xs y) g) [
-            | inl s ↦ sym (same_is y x s)
-            | inr u ↦ absurd (omega (arith, above_among y x ys b t, above_among x y xs a u))
-          ]
+        | inl s ↦ sym (same_is y x s)
+        | inr u ↦ absurd (omega (arith, above_among y x ys b t, above_among x y xs a u))
+      ]
     ]
 
 tail_in : (x y q : Literal) (xs ys : List Literal) → x ≡ y → Above x xs → is_among xs q ≡ true → is_among (y ∷ ys) q ≡ true → is_among ys q ≡ true
@@ -142,9 +142,9 @@ above_with l m (k ∷ literals) lt a =
     elim (bool_cases (ltb (code_of l) (code_of k))) [
       | inl t ↦ rw t (lt, a)
       | inr f ↦ elim (bool_cases (same_literal l k)) [
-            | inl s ↦ rw (f, s) a
-            | inr n ↦ rw (f, n) (a.0, above_with l m literals lt a.1)
-          ]
+        | inl s ↦ rw (f, s) a
+        | inr n ↦ rw (f, n) (a.0, above_with l m literals lt a.1)
+      ]
     ]
 
 above_lower : (l m : Literal) (literals : List Literal) → code_of l < code_of m → Above m literals → Above l literals
@@ -157,12 +157,12 @@ ascends_with l (m ∷ literals) a =
     elim (bool_cases (ltb (code_of l) (code_of m))) [
       | inl t ↦ rw t ((ltb-true _ _ t, above_lower l m literals (ltb-true _ _ t) a.0), a)
       | inr f ↦ elim (bool_cases (same_literal l m)) [
-            | inl s ↦ rw (f, s) a
-            | inr n ↦
-                let differ : code_of l ≡ code_of m → ⊥ = λ e. let h : true ≡ false = sym (code_same l m e) ∙ n in absurd cc in
-                let le : code_of m ≤ code_of l = ltb-false _ _ f in
-                rw (f, n) (above_with l m literals (omega (arith, le, differ)) a.0, ascends_with l literals a.1)
-          ]
+        | inl s ↦ rw (f, s) a
+        | inr n ↦
+            let differ : code_of l ≡ code_of m → ⊥ = λ e. let h : true ≡ false = sym (code_same l m e) ∙ n in absurd cc in
+            let le : code_of m ≤ code_of l = ltb-false _ _ f in
+            rw (f, n) (above_with l m literals (omega (arith, le, differ)) a.0, ascends_with l literals a.1)
+      ]
     ]
 
 or_swap : (a b c : Bool) → (a || (b || c)) ≡ (b || (a || c))
@@ -180,9 +180,9 @@ among_with l q (m ∷ literals) =
     elim (bool_cases (ltb (code_of l) (code_of m))) [
       | inl t ↦ rw t refl
       | inr f ↦ elim (bool_cases (same_literal l m)) [
-            | inl s ↦ rw (f, s) (subst (λ (x : Literal). is_among (x ∷ literals) q ≡ is_among (l ∷ x ∷ literals) q) (same_is l m s) (or_twice (same_literal q l) (is_among literals q)))
-            | inr n ↦ rw (f, n) (ap (λ (b : Bool). same_literal q m || b) (among_with l q literals) ∙ or_swap (same_literal q m) (same_literal q l) (is_among literals q))
-          ]
+        | inl s ↦ rw (f, s) (subst (λ (x : Literal). is_among (x ∷ literals) q ≡ is_among (l ∷ x ∷ literals) q) (same_is l m s) (or_twice (same_literal q l) (is_among literals q)))
+        | inr n ↦ rw (f, n) (ap (λ (b : Bool). same_literal q m || b) (among_with l q literals) ∙ or_swap (same_literal q m) (same_literal q l) (is_among literals q))
+      ]
     ]
 
 clause_ascends : (literals : List Literal) → Ascends (clause_of literals)
@@ -203,8 +203,8 @@ among_all xs ys q each e =
 pub clause_is : (clause literals : List Literal) → IsOrdered clause → HaveSameLiterals clause literals → clause ≡ clause_of literals
 clause_is clause literals ordered same =
     unique clause (clause_of literals) (ascends_from clause ordered) (clause_ascends literals)
-      (λ q e. clause_among literals q ∙ among_all clause literals q same.from_first e)
-      (λ q e. among_all literals clause q same.from_second (sym (clause_among literals q) ∙ e))
+    (λ q e. clause_among literals q ∙ among_all clause literals q same.from_first e)
+    (λ q e. among_all literals clause q same.from_second (sym (clause_among literals q) ∙ e))
 
 -- a clause that is in order already
 pub clause_again : (clause : List Literal) → IsOrdered clause → clause_of clause ≡ clause

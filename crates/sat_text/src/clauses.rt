@@ -93,7 +93,13 @@ fn is_comment_line(line: &[u8]) -> bool
 }
 
 /// The clauses of a text, whose first line has the number behind this one.
-pub(crate) fn read_clauses(alloc: Global, vars: u64, count: u64, before: u64, text: &[u8]) -> Result<Formula, Stop>
+pub(crate) fn read_clauses(
+    alloc: Global,
+    vars: u64,
+    count: u64,
+    before: u64,
+    text: &[u8],
+) -> Result<Formula, Stop>
     requires small { vars < 10 ^ 18 }
     requires few { before + length text.now < 2 ^ 62 }
     ensures vars { IfOk result (λ f. f.vars ≡ vars) }

@@ -16,7 +16,8 @@ use ep_base::Memory;
 use std::alloc::Global;
 
 /// The words of the language that are no names.
-const RESERVED: &[u8] = b"language given letting where find such that minimising minimizing maximising maximizing branching on heuristic be domain matrix indexed by of int bool union intersect in toInt toSet flatten forAll exists sum product and or min max allDiff gcc atleast atmost table factorial true false";
+const RESERVED: &[u8] =
+    b"language given letting where find such that minimising minimizing maximising maximizing branching on heuristic be domain matrix indexed by of int bool union intersect in toInt toSet flatten forAll exists sum product and or min max allDiff gcc atleast atmost table factorial true false";
 
 fn may_begin_name(b: u8) -> bool
     ensures { result ≡ begins_name b }
@@ -127,7 +128,12 @@ fn is_cell_name(bytes: &[u8]) -> bool
 
 /// The note of a cell's name, a value and a literal's number, as words spell them.
 #[tactic(auto, unfolding(crate::specs::Notes::note_with))]
-fn note_of_words(alloc: Global, cell: &[u8], value: &[u8], lit: &[u8]) -> Result<Option<CellNote>, Memory>
+fn note_of_words(
+    alloc: Global,
+    cell: &[u8],
+    value: &[u8],
+    lit: &[u8],
+) -> Result<Option<CellNote>, Memory>
     ensures { IfOk result (λ found. option_map plain_note found ≡ note_with cell.now (whole_of value.now) (whole_of lit.now)) }
 {
     let Some(value) = whole(value) else {
@@ -146,7 +152,12 @@ fn note_of_words(alloc: Global, cell: &[u8], value: &[u8], lit: &[u8]) -> Result
 
 /// The note whose literal's number is all of the bytes.
 #[tactic(auto, unfolding(crate::specs::Notes::note_literal))]
-fn note_of_literal(alloc: Global, cell: &[u8], value: &[u8], bytes: &[u8]) -> Result<Option<CellNote>, Memory>
+fn note_of_literal(
+    alloc: Global,
+    cell: &[u8],
+    value: &[u8],
+    bytes: &[u8],
+) -> Result<Option<CellNote>, Memory>
     ensures { IfOk result (λ found. option_map plain_note found ≡ note_literal cell.now value.now (slice_split (λ b. b == 32) bytes.now)) }
 {
     let (lit, rest) = next_piece(bytes, b' ');

@@ -167,7 +167,13 @@ fn put_hints(out: &mut Vec<u8>, ids: &[u64], hints: &[u64]) -> Result<(), Memory
 }
 
 /// The line of a step, whose hints are positions among the ids.
-fn put_step(out: &mut Vec<u8>, ids: &[u64], id: u64, clause: &[Lit], hints: &[u64]) -> Result<(), Memory>
+fn put_step(
+    out: &mut Vec<u8>,
+    ids: &[u64],
+    id: u64,
+    clause: &[Lit],
+    hints: &[u64],
+) -> Result<(), Memory>
     requires { All (λ hint. hint < length ids.now) hints.now }
     ensures { OnOk result (out.new.items ≡ out.old.items ++ line_text (add id clause.now (map (λ hint. pos (slice_index ids.now hint)) hints.now))) }
 {
@@ -206,7 +212,12 @@ pub fn write_log(alloc: Global, log: &Log) -> Result<Vec<u8>, Memory>
 }
 
 /// The text of a formula, with the notes of its cells and the number of clauses that were added last. Linear in the text.
-pub fn write_cnf(alloc: Global, f: &Formula, notes: &[CellNote], added: u64) -> Result<Vec<u8>, Memory>
+pub fn write_cnf(
+    alloc: Global,
+    f: &Formula,
+    notes: &[CellNote],
+    added: u64,
+) -> Result<Vec<u8>, Memory>
     ensures { IfOk result (λ text. text.items ≡ cnf_text f.now (map plain_note notes.now) added) }
 {
     let mut out = Vec::new(alloc);
