@@ -7,3 +7,5 @@ pub mod EventIds
 pub mod ClauseSteps
 pub mod FormulaSteps
 pub mod NotePieces
+pub mod Again
+pub mod LogAgain

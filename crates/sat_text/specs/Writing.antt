@@ -1,8 +1,9 @@
 -- The texts that are written.
-use Rattle.std.specs.Prelude.{ℕ, ◌+◌, ℤ, pos, neg_ℤ, if◌then◌else◌, List, [], ◌∷◌, ◌++◌, length, map, codes, decimal, slice_index}
+use Rattle.std.specs.Prelude.{◌≡◌, ◌<◌, ◌^◌, unsigned_abs, false, ℕ, ◌+◌, ℤ, pos, neg_ℤ, if◌then◌else◌, List, [], ◌∷◌, ◌++◌, length, map, codes, decimal, slice_index}
 use Rattle.std.specs.Fmt.{signed_decimal}
-use Rattle.std.specs.List.{flat_map}
-use Rattle.cnf_core.specs.Literal.{Literal}
+use Rattle.std.specs.List.{flat_map, AllByRecursion}
+use Rattle.sat_text.specs.Clauses.{is_zero}
+use Rattle.cnf_core.specs.Literal.{Literal, IsOrdered, IsVariable}
 use Rattle.cnf_core.specs.Formula.{Cnf}
 use Rattle.cnf_core.specs.Events.{LogEvent, given, step, givens, Note}
 use Rattle.sat_text.specs.Lines.{ProofLine, add, delete}
@@ -63,3 +64,14 @@ added_text added = codes "c added " ++ (decimal added ++ codes "\n")
 
 abbrev pub cnf_text : Cnf → List Note → ℕ → List ℕ
 cnf_text f notes added = flat_map note_text notes ++ (added_text added ++ (header_text f.vars (length f.clauses) ++ flat_map clause_text f.clauses))
+
+-- ---- what can be read again
+
+-- a number that isn't 0, of at most eighteen digits
+abbrev pub IsShort : ℤ → Type 0
+IsShort n = (unsigned_abs n < 10 ^ 18) × (is_zero n ≡ false)
+
+-- a line that adds, with a positive id, a clause in order, and hints that aren't 0, all of at most eighteen digits
+abbrev pub IsReadable : ProofLine → Type 0
+IsReadable (add id clause hints) = (0 < id) × (id < 10 ^ 18) × IsOrdered clause × AllByRecursion (λ l. IsVariable l.var) clause × AllByRecursion IsShort hints
+IsReadable (delete ids) = ⊥

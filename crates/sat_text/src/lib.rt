@@ -7,6 +7,7 @@ mod faults;
 mod formula;
 mod header;
 mod items;
+mod laws;
 mod notes;
 mod numbers;
 mod proof;
@@ -14,6 +15,7 @@ mod words;
 mod writing;
 
 pub use cnf::{CnfError, CnfFile, read_cnf};
+pub use laws::lines_are_read_again;
 pub use proof::{LogError, read_log};
 pub use writing::{write_cnf, write_log};
 

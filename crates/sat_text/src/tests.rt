@@ -148,11 +148,11 @@ fn lines_of_a_log_are_additions_and_deletions(rt: HostRuntime) -> Result<(), Fai
     let read = read_log(rt.alloc(), text)
         .ok()
         .ok_or("the text is in the grammar")?;
-    let mut seen = 0;
+    let mut seen = 0u8;
     for line in &read.lines {
         match line {
             Line::Add { id, clause, hints } => {
-                seen += 1;
+                seen = seen.saturating_add(1);
                 if *id == 5 {
                     assert_eq!(rt; clause.lits().len(), 3);
                     assert_eq!(rt; hints.as_slice(), [-3, 4].as_slice());

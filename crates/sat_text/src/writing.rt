@@ -1,12 +1,13 @@
 //! Writes the texts of formulas and of logs.
 
-ghost use Rattle.std.specs.Prelude.{◌≡◌, ◌≤◌, ◌+◌, ◌<◌, ℕ, pos, ◌++◌, ◌∷◌, [], length, map, count_by, All, OnOk, IfOk, codes, decimal, slice_index};
+ghost use Rattle.std.specs.Prelude.{◌≡◌, ◌≤◌, ◌+◌, ◌<◌, ℕ, pos, ◌++◌, ◌∷◌, [], length, map, count_by, All, OnOk, IfOk, Ok, codes, decimal, slice_index};
 ghost use Rattle.std.specs.Fmt.{signed_decimal};
-ghost use Rattle.std.specs.List.{flat_map};
+ghost use Rattle.std.specs.List.{flat_map, AllByRecursion};
 ghost use Rattle.cnf_core.specs.Literal.{Literal};
 ghost use Rattle.cnf_core.specs.Events.{plain_event, plain_note, is_given, HintsAreEarlier};
 ghost use Rattle.sat_text.specs.Lines.{add};
-ghost use Rattle.sat_text.specs.Writing.{number_of, spaced, event_ids, step_lines, line_text, log_text, note_text, clause_text, header_text, added_text, cnf_text};
+ghost use Rattle.sat_text.specs.Proofs.{proof_of};
+ghost use Rattle.sat_text.specs.Writing.{number_of, spaced, event_ids, step_lines, log_lines, line_text, log_text, IsReadable, note_text, clause_text, header_text, added_text, cnf_text};
 
 use cnf_core::{CellNote, Clause, Event, Formula, Lit, Log};
 use ep_base::Memory;
@@ -200,8 +201,8 @@ fn put_steps(out: &mut Vec<u8>, ids: &[u64], events: &[Event]) -> Result<(), Mem
     Ok(())
 }
 
-/// The text of a log: a line for each step, with ids as a proof has them over the clauses that were given. Linear in the log.
-pub fn write_log(alloc: Global, log: &Log) -> Result<Vec<u8>, Memory>
+/// The lines of the steps of a log.
+fn log_bytes(alloc: Global, log: &Log) -> Result<Vec<u8>, Memory>
     ensures { IfOk result (λ text. text.items ≡ log_text log.now.events) }
 {
     let events = log.events();
@@ -209,6 +210,15 @@ pub fn write_log(alloc: Global, log: &Log) -> Result<Vec<u8>, Memory>
     let mut out = Vec::new(alloc);
     put_steps(&mut out, &ids, events)?;
     Ok(out)
+}
+
+/// The text of a log: a line for each step, with ids as a proof has them over the clauses that were given. Linear in the log.
+pub fn write_log(alloc: Global, log: &Log) -> Result<Vec<u8>, Memory>
+    ensures text { IfOk result (λ text. text.items ≡ log_text log.now.events) }
+    // Reading gives the lines of the log back.
+    ensures again { IfOk result (λ text. AllByRecursion IsReadable (log_lines log.now.events) → proof_of text.items ≡ Ok (log_lines log.now.events)) }
+{
+    log_bytes(alloc, log)
 }
 
 /// The text of a formula, with the notes of its cells and the number of clauses that were added last. Linear in the text.
