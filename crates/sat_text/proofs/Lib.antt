@@ -1,0 +1,11 @@
+pub mod Cuts
+pub mod Digits
+pub mod ItemSteps
+pub mod Order
+pub mod LogLoop
+pub mod EventIds
+pub mod ClauseSteps
+pub mod FormulaSteps
+pub mod NotePieces
+pub mod Again
+pub mod LogAgain

@@ -1,0 +1,7 @@
+use Rattle.std.proofs.Common.{◌≡◌, ◌++◌, take}
+use Rattle.std.specs.List.{flat_map}
+use Rattle.sat_text.specs.Writing.{clause_text}
+use Rattle.sat_text.proofs.writing.put_clauses.Given as goal
+
+abbrev pub invariant-loop-clause : goal.invariant-loop-clause
+invariant-loop-clause l = l.out.items ≡ l.initial.out.items ++ flat_map clause_text (take l.clause-index l.clauses)

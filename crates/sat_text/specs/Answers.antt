@@ -1,0 +1,18 @@
+-- What a reader of a part answers, against what reading gives.
+use Rattle.std.specs.Prelude.{◌≡◌, Option, Some, None, Result, Ok, Err, option_and_then}
+use Rattle.sat_text.specs.declared.faults.Fault.{Fault}
+use Rattle.sat_text.specs.declared.faults.Fault.TheVariants.{Memory, Wrong}
+
+infixl 10 ◌>>=◌
+abbrev pub ◌>>=◌ : {A B : Type 0} → Option A → (A → Option B) → Option B
+o >>= f = option_and_then f o
+
+-- where a reader fails, and not for want of memory, reading gives nothing
+abbrev pub Fails : {Y : Type 0} → Fault → Option Y → Type 0
+Fails Memory read = Unit {0}
+Fails Wrong read = read ≡ None
+
+-- what a reader gives, seen by view, is what reading gives
+abbrev pub Gives : {X Y : Type 0} → (X → Y) → Result X Fault → Option Y → Type 0
+Gives view (Ok x) read = read ≡ Some (view x)
+Gives view (Err fault) read = Fails fault read

@@ -1,0 +1,23 @@
+-- Clauses as numbers spell them.
+use Rattle.std.specs.Prelude.{ℕ, suc, ℤ, pos, negsuc, Bool, true, false, ◌==◌, nat_lt, if◌then◌else◌, List, [], ◌∷◌}
+use Rattle.cnf_core.specs.Literal.{Literal, same_literal, code_of}
+
+abbrev pub is_zero : ℤ → Bool
+is_zero (pos n) = n == 0
+is_zero (negsuc n) = false
+
+-- the literal of a number: its variable, which is positive where the number is
+abbrev pub literal_of : ℤ → Literal
+literal_of (pos n) = record { var = n; positive = true }
+literal_of (negsuc n) = record { var = suc n; positive = false }
+
+-- the literals with one more at its place, or as they are where they have it
+abbrev pub with_literal : Literal → List Literal → List Literal
+with_literal l [] = l ∷ []
+with_literal l (m ∷ literals) =
+    if nat_lt (code_of l) (code_of m) then l ∷ m ∷ literals else if same_literal l m then m ∷ literals else m ∷ with_literal l literals
+
+-- the clause of these literals: in order, and each once
+abbrev pub clause_of : List Literal → List Literal
+clause_of [] = []
+clause_of (l ∷ literals) = with_literal l (clause_of literals)

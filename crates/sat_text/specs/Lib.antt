@@ -1,0 +1,9 @@
+pub mod Words
+pub mod Numbers
+pub mod Clauses
+pub mod Lines
+pub mod Answers
+pub mod Proofs
+pub mod Writing
+pub mod Cnf
+pub mod Notes

@@ -1,0 +1,77 @@
+-- The texts that are written.
+use Rattle.std.specs.Prelude.{◌≡◌, ◌<◌, ◌^◌, unsigned_abs, false, ℕ, ◌+◌, ℤ, pos, neg_ℤ, if◌then◌else◌, List, [], ◌∷◌, ◌++◌, length, map, codes, decimal, slice_index}
+use Rattle.std.specs.Fmt.{signed_decimal}
+use Rattle.std.specs.List.{flat_map, AllByRecursion}
+use Rattle.sat_text.specs.Clauses.{is_zero}
+use Rattle.cnf_core.specs.Literal.{Literal, IsOrdered, IsVariable}
+use Rattle.cnf_core.specs.Formula.{Cnf}
+use Rattle.cnf_core.specs.Events.{LogEvent, given, step, givens, Note}
+use Rattle.sat_text.specs.Lines.{ProofLine, add, delete}
+
+-- the number of a literal: its variable's, negative where the literal is
+abbrev pub number_of : Literal → ℤ
+number_of l = if l.positive then pos l.var else neg_ℤ (pos l.var)
+
+-- numbers with a space before each
+abbrev pub spaced : List ℤ → List ℕ
+spaced numbers = flat_map (λ n. 32 ∷ signed_decimal n) numbers
+
+-- ---- the text of a log
+
+-- the ids of events, where the next given and the next step have these
+abbrev pub ids_from : ℕ → ℕ → List LogEvent → List ℕ
+ids_from given_id step_id [] = []
+ids_from given_id step_id (given clause ∷ events) = given_id ∷ ids_from (given_id + 1) step_id events
+ids_from given_id step_id (step clause hints ∷ events) = step_id ∷ ids_from given_id (step_id + 1) events
+
+-- the givens have the first ids, from 1 on, and the steps those behind them
+abbrev pub event_ids : List LogEvent → List ℕ
+event_ids events = ids_from 1 (length (givens events) + 1) events
+
+-- the lines for the steps of some events: ids has the ids of all events, and own those of these
+abbrev pub step_lines : List ℕ → List ℕ → List LogEvent → List ProofLine
+step_lines ids own [] = []
+step_lines ids [] (event ∷ events) = []
+step_lines ids (id ∷ own) (given clause ∷ events) = step_lines ids own events
+step_lines ids (id ∷ own) (step clause hints ∷ events) = add id clause (map (λ hint. pos (slice_index ids hint)) hints) ∷ step_lines ids own events
+
+-- the lines of a log: one for each step
+abbrev pub log_lines : List LogEvent → List ProofLine
+log_lines events = step_lines (event_ids events) (event_ids events) events
+
+-- a line's text: the id, the literals and a 0, the hints and a 0; or the id, a `d`, the ids and a 0
+abbrev pub line_text : ProofLine → List ℕ
+line_text (add id clause hints) = decimal id ++ (spaced (map number_of clause) ++ (codes " 0" ++ (spaced hints ++ codes " 0\n")))
+line_text (delete ids) = codes "1 d" ++ (spaced (map (λ id. pos id) ids) ++ codes " 0\n")
+
+abbrev pub log_text : List LogEvent → List ℕ
+log_text events = flat_map line_text (log_lines events)
+
+-- ---- the text of a formula
+
+abbrev pub note_text : Note → List ℕ
+note_text note = codes "c cell " ++ (note.cell ++ (spaced (note.value ∷ number_of note.lit ∷ []) ++ codes "\n"))
+
+-- a clause's literals with a space behind each, and a 0
+abbrev pub clause_text : List Literal → List ℕ
+clause_text clause = flat_map (λ l. signed_decimal (number_of l) ++ 32 ∷ []) clause ++ codes "0\n"
+
+abbrev pub header_text : ℕ → ℕ → List ℕ
+header_text vars clauses = codes "p cnf " ++ (decimal vars ++ (codes " " ++ (decimal clauses ++ codes "\n")))
+
+abbrev pub added_text : ℕ → List ℕ
+added_text added = codes "c added " ++ (decimal added ++ codes "\n")
+
+abbrev pub cnf_text : Cnf → List Note → ℕ → List ℕ
+cnf_text f notes added = flat_map note_text notes ++ (added_text added ++ (header_text f.vars (length f.clauses) ++ flat_map clause_text f.clauses))
+
+-- ---- what can be read again
+
+-- a number that isn't 0, of at most eighteen digits
+abbrev pub IsShort : ℤ → Type 0
+IsShort n = (unsigned_abs n < 10 ^ 18) × (is_zero n ≡ false)
+
+-- a line that adds, with a positive id, a clause in order, and hints that aren't 0, all of at most eighteen digits
+abbrev pub IsReadable : ProofLine → Type 0
+IsReadable (add id clause hints) = (0 < id) × (id < 10 ^ 18) × IsOrdered clause × AllByRecursion (λ l. IsVariable l.var) clause × AllByRecursion IsShort hints
+IsReadable (delete ids) = ⊥

@@ -1,0 +1,87 @@
+//! Reads the text of a formula.
+
+ghost use Rattle.std.specs.Prelude.{◌≡◌, ◌<◌, ◌^◌, ◌↔◌, ℕ, length, map, Ok, Err, IfOk, IsErrOf};
+ghost use Rattle.cnf_core.specs.Events.{plain_note};
+ghost use Rattle.sat_text.specs.Words.{lines};
+ghost use Rattle.sat_text.specs.Cnf.{formula_of, plain_formula};
+ghost use Rattle.sat_text.specs.Notes.{notes_of, added_of};
+
+use crate::MOST_BYTES;
+use crate::faults::Stop;
+use crate::formula::{last_line, read_formula};
+use crate::notes::read_notes;
+use cnf_core::{CellNote, Formula};
+use ep_base::Memory;
+use std::alloc::Global;
+
+/// What the text of a formula says.
+#[derive(Debug, Drop)]
+pub struct CnfFile {
+    /// The variables and the clauses.
+    pub formula: Formula,
+    /// What the literals of the cells mean.
+    pub notes: Vec<CellNote>,
+    /// How many of the clauses were added last.
+    pub added: u64,
+}
+
+/// Why the text of a formula was refused.
+#[derive(Clone, Copy, Debug, PartialEq, Eq)]
+pub enum CnfError {
+    /// It has more than [`MOST_BYTES`] bytes.
+    TooLong,
+    /// The first wrong word stands on this line, counted from 1, or words are wanting behind the last one.
+    Bad(u64),
+    /// An allocation was refused.
+    Memory,
+}
+
+impl From<Memory> for CnfError {
+    ghost use Rattle.sat_text.specs.declared.cnf.CnfError.TheVariants.{Memory};
+
+    ghost from_gives = { λ _ e. e ≡ Memory };
+
+    fn from(_refused: Memory) -> CnfError {
+        CnfError::Memory
+    }
+}
+
+/// The formula alone, or the line of its text's fault.
+fn formula(alloc: Global, text: &[u8]) -> Result<Formula, CnfError>
+    requires { length text.now < 2 ^ 62 }
+    ensures found { IfOk result (λ f. formula_of text.now ≡ Ok (plain_formula f)) }
+    ensures bad { (line : ℕ) → result ≡ Err (CnfError.Bad line) → formula_of text.now ≡ Err line }
+    ensures short { IsErrOf result CnfError.TooLong → ⊥ }
+{
+    match read_formula(alloc, text) {
+        Ok(found) => Ok(found),
+        Err(Stop::Memory) => Err(CnfError::Memory),
+        Err(Stop::At(line)) => Err(CnfError::Bad(line)),
+        Err(Stop::Ends) => Err(CnfError::Bad(last_line(text))),
+    }
+}
+
+/// Reads the text of a formula. Linear in the text, and a clause costs a sort besides.
+///
+/// # Errors
+///
+/// [`CnfError::TooLong`] exactly where the text has more than [`MOST_BYTES`] bytes, and otherwise [`CnfError::Bad`] with the line
+/// of the first wrong word, or with the last line where words are wanting.
+pub fn read_cnf(alloc: Global, text: &[u8]) -> Result<CnfFile, CnfError>
+    ensures too_long { IsErrOf result CnfError.TooLong ↔ (MOST_BYTES < length text.now) }
+    ensures formula { IfOk result (λ file. formula_of text.now ≡ Ok (plain_formula file.formula)) }
+    ensures notes { IfOk result (λ file. map plain_note file.notes.items ≡ notes_of (lines text.now)) }
+    ensures added { IfOk result (λ file. file.added ≡ added_of 0 (lines text.now)) }
+    ensures bad { (line : ℕ) → result ≡ Err (CnfError.Bad line) → formula_of text.now ≡ Err line }
+{
+    if text.len() > MOST_BYTES {
+        return Err(CnfError::TooLong);
+    }
+    let formula = formula(alloc, text)?;
+    let (notes, added) = read_notes(alloc, text)?;
+    Ok(CnfFile {
+        formula,
+        notes,
+        added,
+    })
+}

@@ -1,0 +1,67 @@
+//! Reads the text of a formula, without what its comments say.
+
+ghost use Rattle.std.specs.Prelude.{◌≡◌, ◌<◌, ◌≤◌, ◌+◌, ◌^◌, ℕ, Ok, Err, length, MatchResult};
+ghost use Rattle.sat_text.specs.Words.{lines, last_line, words};
+ghost use Rattle.sat_text.specs.Cnf.{text_words, first_word_line, formula_from, formula_of, Stops, Names, plain_formula};
+
+use crate::clauses::read_clauses;
+use crate::faults::Stop;
+use crate::header::{HeaderLine, header};
+use crate::proof::is_silent;
+use crate::words::next_line;
+use cnf_core::Formula;
+use std::alloc::Global;
+
+/// The number of the last line of a text, or 1 where it is empty.
+pub(crate) fn last_line(text: &[u8]) -> u64
+    requires { length text.now < 2 ^ 62 }
+    ensures { result ≡ last_line text.now }
+{
+    let mut rest = text;
+    let mut count = 0u64;
+    while let Some((_, later)) = next_line(rest) {
+        count += 1;
+        rest = later;
+    }
+    count.max(1)
+}
+
+/// The line of the first word of a text, whose first line has the number behind this one.
+fn first_word(before: u64, text: &[u8]) -> Stop
+    requires few { before + length text.now < 2 ^ 62 }
+    ensures { (last : ℕ) → Names last result (first_word_line last (text_words (before + 1) (lines text.now))) }
+{
+    let mut rest = text;
+    let mut number = before;
+    while let Some((line, later)) = next_line(rest) {
+        number += 1;
+        if !is_silent(line) {
+            return Stop::At(number);
+        }
+        rest = later;
+    }
+    Stop::Ends
+}
+
+/// The formula of a text, without what its comments say.
+pub(crate) fn read_formula(alloc: Global, text: &[u8]) -> Result<Formula, Stop>
+    requires { length text.now < 2 ^ 62 }
+    ensures { (last : ℕ) → MatchResult result
+        (λ f. formula_from last 1 (lines text.now) ≡ Ok (plain_formula f))
+        (λ stop. Stops last stop (formula_from last 1 (lines text.now))) }
+{
+    let mut rest = text;
+    let mut number = 0u64;
+    while let Some((line, later)) = next_line(rest) {
+        number += 1;
+        if !is_silent(line) {
+            return match header(line) {
+                HeaderLine::Good(vars, count) => read_clauses(alloc, vars, count, number, later),
+                HeaderLine::Short => Err(first_word(number, later)),
+                HeaderLine::Wrong => Err(Stop::At(number)),
+            };
+        }
+        rest = later;
+    }
+    Err(Stop::Ends)
+}

@@ -1,0 +1,103 @@
+//! Reads the numbers of a line.
+
+ghost use Rattle.std.specs.Prelude.{◌≡◌, ◌<◌, ◌^◌, length, false, IfOk, unsigned_abs};
+ghost use Rattle.sat_text.specs.Words.{words};
+ghost use Rattle.sat_text.specs.Clauses.{is_zero, literal_of};
+ghost use Rattle.sat_text.specs.Answers.{Gives};
+ghost use Rattle.sat_text.specs.Proofs.{whole_at, items_at, positive_of, any_literal, any_hint};
+
+use crate::faults::Fault;
+use crate::numbers::whole;
+use crate::words::next_word;
+use cnf_core::Lit;
+use std::alloc::Global;
+
+/// The first number of a line, and what stands behind it.
+#[tactic(auto, unfolding(crate::specs::Proofs::whole_at))]
+pub(crate) fn whole_at(line: &[u8]) -> Result<(i64, &[u8]), Fault>
+    ensures value { Gives (λ x. (x.0, words x.1.now)) result (whole_at (words line.now)) }
+    ensures small { IfOk result (λ x. unsigned_abs x.0 < 10 ^ 18) }
+    ensures shorter { IfOk result (λ x. length x.1.now < length line.now) }
+{
+    match next_word(line) {
+        Some((word, later)) => match whole(word) {
+            Some(number) => Ok((number, later)),
+            None => Err(Fault::Wrong),
+        },
+        None => Err(Fault::Wrong),
+    }
+}
+
+/// A number that is positive.
+pub(crate) fn positive(number: i64) -> Result<u64, Fault>
+    ensures { Gives (λ x. x) result (positive_of number) }
+{
+    if number > 0 {
+        Ok(number.unsigned_abs())
+    } else {
+        Err(Fault::Wrong)
+    }
+}
+
+pub(crate) fn is_zero(number: i64) -> bool
+    ensures { result ≡ is_zero number }
+{
+    number == 0
+}
+
+/// The literal of a number.
+pub(crate) fn literal(number: i64) -> Lit
+    requires other { is_zero number ≡ false }
+    requires small { unsigned_abs number < 10 ^ 18 }
+    ensures { result ≡ literal_of number }
+{
+    Lit::new(number.unsigned_abs(), number > 0)
+}
+
+/// The literals of the numbers up to a 0, and what stands behind it.
+pub(crate) fn literals(alloc: Global, line: &[u8]) -> Result<(Vec<Lit>, &[u8]), Fault>
+    ensures { Gives (λ x. (x.0.items, words x.1.now)) result (items_at any_literal (words line.now)) }
+{
+    let mut found = Vec::new(alloc);
+    let mut rest = line;
+    loop {
+        let (number, later) = whole_at(rest)?;
+        if is_zero(number) {
+            return Ok((found, later));
+        }
+        found.push(literal(number))?;
+        rest = later;
+    }
+}
+
+/// The numbers up to a 0, and what stands behind it.
+pub(crate) fn hints(alloc: Global, line: &[u8]) -> Result<(Vec<i64>, &[u8]), Fault>
+    ensures { Gives (λ x. (x.0.items, words x.1.now)) result (items_at any_hint (words line.now)) }
+{
+    let mut found = Vec::new(alloc);
+    let mut rest = line;
+    loop {
+        let (number, later) = whole_at(rest)?;
+        if is_zero(number) {
+            return Ok((found, later));
+        }
+        found.push(number)?;
+        rest = later;
+    }
+}
+
+/// The positive numbers up to a 0, and what stands behind it.
+pub(crate) fn ids(alloc: Global, line: &[u8]) -> Result<(Vec<u64>, &[u8]), Fault>
+    ensures { Gives (λ x. (x.0.items, words x.1.now)) result (items_at positive_of (words line.now)) }
+{
+    let mut found = Vec::new(alloc);
+    let mut rest = line;
+    loop {
+        let (number, later) = whole_at(rest)?;
+        if is_zero(number) {
+            return Ok((found, later));
+        }
+        found.push(positive(number)?)?;
+        rest = later;
+    }
+}

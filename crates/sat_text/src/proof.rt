@@ -1,0 +1,144 @@
+//! Reads the text of a proof.
+
+ghost use Rattle.std.specs.Prelude.{◌≡◌, ◌<◌, ◌↔◌, ℕ, length, Ok, Err, IfOk, IsErrOf};
+ghost use Rattle.cnf_core.specs.Literal.{HaveSameLiterals};
+ghost use Rattle.sat_text.specs.Words.{words};
+ghost use Rattle.sat_text.specs.Clauses.{clause_of};
+ghost use Rattle.sat_text.specs.Lines.{plain_line, plain_lines};
+ghost use Rattle.sat_text.specs.Answers.{Gives};
+ghost use Rattle.sat_text.specs.Proofs.{is_d, says_nothing, addition_at, deletion_at, behind_id, line_of, proof_of};
+
+use crate::MOST_BYTES;
+use crate::faults::Fault;
+use crate::items::{hints, ids, literals, positive, whole_at};
+use crate::words::{next_line, next_word};
+use cnf_core::{Clause, Line, Lit, Proof};
+use ep_base::Memory;
+use std::alloc::{AllocError, AllocFailed, Global};
+
+/// Why the text of a proof was refused.
+#[derive(Clone, Copy, Debug, PartialEq, Eq)]
+pub enum LogError {
+    /// It has more than [`MOST_BYTES`] bytes.
+    TooLong,
+    /// This line, counted from 1, is the first that isn't in the grammar.
+    Bad(u64),
+    /// An allocation was refused.
+    Memory,
+}
+
+impl<T: Drop> From<AllocFailed<T>> for LogError {
+    ghost use Rattle.sat_text.specs.declared.proof.LogError.TheVariants.{Memory};
+
+    ghost from_gives = { λ _ e. e ≡ Memory };
+
+    fn from(_refused: AllocFailed<T>) -> LogError {
+        LogError::Memory
+    }
+}
+
+/// The clause of these literals.
+pub(crate) fn clause(alloc: Global, lits: Vec<Lit>) -> Result<Clause, Memory>
+    ensures made { IfOk result (λ made. made ≡ clause_of lits.items) }
+    ensures same { IfOk result (λ made. HaveSameLiterals made lits.items) }
+{
+    Clause::new(alloc, lits)
+}
+
+/// The line that adds a clause, from what stands behind its id.
+#[tactic(auto, unfolding(crate::specs::Proofs::addition_at))]
+fn addition(alloc: Global, id: u64, line: &[u8]) -> Result<Line, Fault>
+    ensures { Gives plain_line result (addition_at id (words line.now)) }
+{
+    let (lits, rest) = literals(alloc, line)?;
+    let (hints, rest) = hints(alloc, rest)?;
+    let clause = clause(alloc, lits)?;
+    match next_word(rest) {
+        None => Ok(Line::Add { id, clause, hints }),
+        Some(_) => Err(Fault::Wrong),
+    }
+}
+
+/// The line that deletes ids, from what stands behind its `d`.
+#[tactic(auto, unfolding(crate::specs::Proofs::deletion_at))]
+fn deletion(alloc: Global, line: &[u8]) -> Result<Line, Fault>
+    ensures { Gives plain_line result (deletion_at (words line.now)) }
+{
+    let (ids, rest) = ids(alloc, line)?;
+    match next_word(rest) {
+        None => Ok(Line::Delete { ids }),
+        Some(_) => Err(Fault::Wrong),
+    }
+}
+
+fn is_letter_d(word: &[u8]) -> bool
+    ensures { result ≡ is_d word.now }
+{
+    matches!(word, [b'd'])
+}
+
+#[tactic(auto, unfolding(crate::specs::Proofs::behind_id))]
+fn line_behind_id(alloc: Global, id: u64, line: &[u8]) -> Result<Line, Fault>
+    ensures { Gives plain_line result (behind_id id (words line.now)) }
+{
+    match next_word(line) {
+        None => Err(Fault::Wrong),
+        Some((word, later)) => {
+            if is_letter_d(word) {
+                deletion(alloc, later)
+            } else {
+                addition(alloc, id, line)
+            }
+        }
+    }
+}
+
+/// The line that a line of the text says.
+#[tactic(auto, unfolding(crate::specs::Proofs::line_of))]
+fn proof_line(alloc: Global, line: &[u8]) -> Result<Line, Fault>
+    ensures { Gives plain_line result (line_of (words line.now)) }
+{
+    let (number, rest) = whole_at(line)?;
+    let id = positive(number)?;
+    line_behind_id(alloc, id, rest)
+}
+
+pub(crate) fn is_silent(line: &[u8]) -> bool
+    ensures { result ≡ says_nothing line.now }
+{
+    match line {
+        [b'c', ..] => true,
+        _ => next_word(line).is_none(),
+    }
+}
+
+/// Reads the text of a proof. Linear in the text.
+///
+/// # Errors
+///
+/// [`LogError::TooLong`] exactly where the text has more than [`MOST_BYTES`] bytes, and otherwise [`LogError::Bad`] with the first
+/// line that isn't in the grammar.
+pub fn read_log(alloc: Global, text: &[u8]) -> Result<Proof, LogError>
+    ensures too_long { IsErrOf result LogError.TooLong ↔ (MOST_BYTES < length text.now) }
+    ensures found { IfOk result (λ p. proof_of text.now ≡ Ok (plain_lines p.lines.items)) }
+    ensures bad { (line : ℕ) → result ≡ Err (LogError.Bad line) → proof_of text.now ≡ Err line }
+{
+    if text.len() > MOST_BYTES {
+        return Err(LogError::TooLong);
+    }
+    let mut lines = Vec::new(alloc);
+    let mut rest = text;
+    let mut number = 0u64;
+    while let Some((line, later)) = next_line(rest) {
+        number += 1;
+        if !is_silent(line) {
+            match proof_line(alloc, line) {
+                Ok(read) => lines.push(read)?,
+                Err(Fault::Memory) => return Err(LogError::Memory),
+                Err(Fault::Wrong) => return Err(LogError::Bad(number)),
+            }
+        }
+        rest = later;
+    }
+    Ok(Proof { lines })
+}

@@ -1,0 +1,240 @@
+//! Writes the texts of formulas and of logs.
+
+ghost use Rattle.std.specs.Prelude.{◌≡◌, ◌≤◌, ◌+◌, ◌<◌, ℕ, pos, ◌++◌, ◌∷◌, [], length, map, count_by, All, OnOk, IfOk, Ok, codes, decimal, slice_index};
+ghost use Rattle.std.specs.Fmt.{signed_decimal};
+ghost use Rattle.std.specs.List.{flat_map, AllByRecursion};
+ghost use Rattle.cnf_core.specs.Literal.{Literal};
+ghost use Rattle.cnf_core.specs.Events.{plain_event, plain_note, is_given, HintsAreEarlier};
+ghost use Rattle.sat_text.specs.Lines.{add};
+ghost use Rattle.sat_text.specs.Proofs.{proof_of};
+ghost use Rattle.sat_text.specs.Writing.{number_of, spaced, event_ids, step_lines, log_lines, line_text, log_text, IsReadable, note_text, clause_text, header_text, added_text, cnf_text};
+
+use cnf_core::{CellNote, Clause, Event, Formula, Lit, Log};
+use ep_base::Memory;
+use itoa::Buffer;
+use std::alloc::Global;
+
+/// The number of a literal: its variable's, negative where the literal is.
+fn number(lit: &Lit) -> i64
+    ensures { result ≡ number_of lit.now }
+{
+    let var = lit.var() as i64;
+    if lit.positive() { var } else { -var }
+}
+
+fn put_natural(out: &mut Vec<u8>, n: u64) -> Result<(), Memory>
+    ensures { OnOk result (out.new.items ≡ out.old.items ++ decimal n) }
+{
+    let mut buffer = Buffer::new();
+    out.extend_from_slice(buffer.format(n).as_bytes())?;
+    Ok(())
+}
+
+fn put_whole(out: &mut Vec<u8>, n: i64) -> Result<(), Memory>
+    ensures { OnOk result (out.new.items ≡ out.old.items ++ signed_decimal n) }
+{
+    let mut buffer = Buffer::new();
+    out.extend_from_slice(buffer.format(n).as_bytes())?;
+    Ok(())
+}
+
+/// A number with a space before it.
+fn put_spaced(out: &mut Vec<u8>, n: i64) -> Result<(), Memory>
+    ensures { OnOk result (out.new.items ≡ out.old.items ++ 32 ∷ signed_decimal n) }
+{
+    out.push(b' ')?;
+    put_whole(out, n)
+}
+
+/// A clause's literals with a space behind each, and a 0.
+fn put_clause(out: &mut Vec<u8>, clause: &[Lit]) -> Result<(), Memory>
+    ensures { OnOk result (out.new.items ≡ out.old.items ++ clause_text clause.now) }
+{
+    for lit in clause {
+        put_whole(out, number(lit))?;
+        out.push(b' ')?;
+    }
+    out.extend_from_slice(b"0\n")?;
+    Ok(())
+}
+
+fn put_note(out: &mut Vec<u8>, note: &CellNote) -> Result<(), Memory>
+    ensures { OnOk result (out.new.items ≡ out.old.items ++ note_text (plain_note note.now)) }
+{
+    out.extend_from_slice(b"c cell ")?;
+    out.extend_from_slice(&note.cell)?;
+    put_spaced(out, note.value)?;
+    put_spaced(out, number(&note.lit))?;
+    out.extend_from_slice(b"\n")?;
+    Ok(())
+}
+
+fn put_header(out: &mut Vec<u8>, vars: u64, clauses: usize) -> Result<(), Memory>
+    ensures { OnOk result (out.new.items ≡ out.old.items ++ header_text vars clauses) }
+{
+    out.extend_from_slice(b"p cnf ")?;
+    put_natural(out, vars)?;
+    out.push(b' ')?;
+    put_natural(out, clauses as u64)?;
+    out.push(b'\n')?;
+    Ok(())
+}
+
+fn put_added(out: &mut Vec<u8>, added: u64) -> Result<(), Memory>
+    ensures { OnOk result (out.new.items ≡ out.old.items ++ added_text added) }
+{
+    out.extend_from_slice(b"c added ")?;
+    put_natural(out, added)?;
+    out.push(b'\n')?;
+    Ok(())
+}
+
+fn put_notes(out: &mut Vec<u8>, notes: &[CellNote]) -> Result<(), Memory>
+    ensures { OnOk result (out.new.items ≡ out.old.items ++ flat_map note_text (map plain_note notes.now)) }
+{
+    for note in notes {
+        put_note(out, note)?;
+    }
+    Ok(())
+}
+
+fn put_clauses(out: &mut Vec<u8>, clauses: &[Clause]) -> Result<(), Memory>
+    ensures { OnOk result (out.new.items ≡ out.old.items ++ flat_map clause_text clauses.now) }
+{
+    for clause in clauses {
+        put_clause(out, clause.lits())?;
+    }
+    Ok(())
+}
+
+/// The ids of events: the givens have the first ones, from 1 on, and the steps those behind them.
+fn ids(alloc: Global, events: &[Event]) -> Result<Vec<u64>, Memory>
+    ensures ids { IfOk result (λ made. made.items ≡ event_ids (map plain_event events.now)) }
+    ensures all { IfOk result (λ made. length made.items ≡ length events.now) }
+{
+    let mut given_id = 1;
+    let mut step_id = count_givens(events) as u64 + 1;
+    let mut made = Vec::new(alloc);
+    for event in events {
+        match event {
+            Event::Given(_) => {
+                made.push(given_id)?;
+                given_id += 1;
+            }
+            Event::Step(_, _) => {
+                made.push(step_id)?;
+                step_id += 1;
+            }
+        }
+    }
+    Ok(made)
+}
+
+fn is_given(event: &Event) -> bool
+    ensures { result ≡ is_given (plain_event event.now) }
+{
+    match event {
+        Event::Given(_) => true,
+        Event::Step(_, _) => false,
+    }
+}
+
+fn count_givens(events: &[Event]) -> usize
+    ensures { result ≡ count_by (λ event. is_given (plain_event event)) events.now }
+{
+    events.iter().filter(|event| is_given(event)).count()
+}
+
+/// A step's literals with a space before each.
+fn put_literals(out: &mut Vec<u8>, clause: &[Lit]) -> Result<(), Memory>
+    ensures { OnOk result (out.new.items ≡ out.old.items ++ spaced (map number_of clause.now)) }
+{
+    for lit in clause {
+        put_spaced(out, number(lit))?;
+    }
+    Ok(())
+}
+
+/// The ids of a step's hints with a space before each.
+fn put_hints(out: &mut Vec<u8>, ids: &[u64], hints: &[u64]) -> Result<(), Memory>
+    requires { All (λ hint. hint < length ids.now) hints.now }
+    ensures { OnOk result (out.new.items ≡ out.old.items ++ spaced (map (λ hint. pos (slice_index ids.now hint)) hints.now)) }
+{
+    for hint in hints {
+        out.push(b' ')?;
+        put_natural(out, ids[*hint as usize])?;
+    }
+    Ok(())
+}
+
+/// The line of a step, whose hints are positions among the ids.
+fn put_step(
+    out: &mut Vec<u8>,
+    ids: &[u64],
+    id: u64,
+    clause: &[Lit],
+    hints: &[u64],
+) -> Result<(), Memory>
+    requires { All (λ hint. hint < length ids.now) hints.now }
+    ensures { OnOk result (out.new.items ≡ out.old.items ++ line_text (add id clause.now (map (λ hint. pos (slice_index ids.now hint)) hints.now))) }
+{
+    put_natural(out, id)?;
+    put_literals(out, clause)?;
+    out.extend_from_slice(b" 0")?;
+    put_hints(out, ids, hints)?;
+    out.extend_from_slice(b" 0\n")?;
+    Ok(())
+}
+
+/// The lines of the steps of a log, whose events have these ids.
+fn put_steps(out: &mut Vec<u8>, ids: &[u64], events: &[Event]) -> Result<(), Memory>
+    requires all { length ids.now ≡ length events.now }
+    requires hints { HintsAreEarlier (map plain_event events.now) }
+    ensures { OnOk result (out.new.items ≡ out.old.items ++ flat_map line_text (step_lines ids.now ids.now (map plain_event events.now))) }
+{
+    for (index, event) in events.iter().enumerate() {
+        match event {
+            Event::Given(_) => {}
+            Event::Step(clause, hints) => put_step(out, ids, ids[index], clause.lits(), hints)?,
+        }
+    }
+    Ok(())
+}
+
+/// The lines of the steps of a log.
+fn log_bytes(alloc: Global, log: &Log) -> Result<Vec<u8>, Memory>
+    ensures { IfOk result (λ text. text.items ≡ log_text log.now.events) }
+{
+    let events = log.events();
+    let ids = ids(alloc, events)?;
+    let mut out = Vec::new(alloc);
+    put_steps(&mut out, &ids, events)?;
+    Ok(out)
+}
+
+/// The text of a log: a line for each step, with ids as a proof has them over the clauses that were given. Linear in the log.
+pub fn write_log(alloc: Global, log: &Log) -> Result<Vec<u8>, Memory>
+    ensures text { IfOk result (λ text. text.items ≡ log_text log.now.events) }
+    // Reading gives the lines of the log back.
+    ensures again { IfOk result (λ text. AllByRecursion IsReadable (log_lines log.now.events) → proof_of text.items ≡ Ok (log_lines log.now.events)) }
+{
+    log_bytes(alloc, log)
+}
+
+/// The text of a formula, with the notes of its cells and the number of clauses that were added last. Linear in the text.
+pub fn write_cnf(
+    alloc: Global,
+    f: &Formula,
+    notes: &[CellNote],
+    added: u64,
+) -> Result<Vec<u8>, Memory>
+    ensures { IfOk result (λ text. text.items ≡ cnf_text f.now (map plain_note notes.now) added) }
+{
+    let mut out = Vec::new(alloc);
+    put_notes(&mut out, notes)?;
+    put_added(&mut out, added)?;
+    let clauses = f.clauses();
+    put_header(&mut out, f.vars(), clauses.len())?;
+    put_clauses(&mut out, clauses)?;
+    Ok(out)
+}
