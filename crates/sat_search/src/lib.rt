@@ -1,0 +1,7 @@
+//! A SAT solver that learns from conflicts, and logs each clause that it learns with the clauses
+//! that show it.
+#![tactic(auto)]
+
+mod solver;
+
+pub use solver::{Outcome, SolveError, Solver};
