@@ -26,6 +26,29 @@ AllHaveValues vars trail = (v : ℕ) → 1 ≤ v → v ≤ vars → IsSome (valu
 abbrev pub is_marked : List Bool → ℕ → Bool
 is_marked marks var = slice_index_or marks var false
 
+-- the variable of a literal of the clause
+pub record IsNamedIn (clause : List Literal) (var : ℕ) : Type 0 where
+  pub literal : Literal
+  pub in_clause : Contains clause literal
+  pub names : literal.var ≡ var
+
+-- the variables of the clause are marked, and no others but those that were
+pub record MarksClause (old new : List Bool) (clause : List Literal) : Type 0 where
+  pub marked : (l : Literal) → Contains clause l → is_marked new l.var ≡ true
+  pub keeps : (v : ℕ) → is_marked old v ≡ true → is_marked new v ≡ true
+  pub only : (v : ℕ) → is_marked new v ≡ true → (is_marked old v ≡ true) ⊎ IsNamedIn clause v
+
+-- the literal at this place of a trail is a decision: propagation was at its end, and its variable had no value
+pub record IsDecisionAt (clauses : List (List Literal)) (trail : List Literal) (place : ℕ) : Type 0 where
+  pub there : place < length trail
+  pub at_end : IsAtEnd (take place trail) clauses
+  pub free : (d : Literal) → value_of (take place trail) (slice_index_or trail place d).var ≡ None
+
+-- the new list has the literals of the old one, and else only negations of these
+pub record KeepsMore (trues old new : List Literal) : Type 0 where
+  pub stays : (l : Literal) → Contains old l → Contains new l
+  pub only : (l : Literal) → Contains new l → Contains old l ⊎ Contains trues (negation l)
+
 -- the clauses of these numbers in order
 abbrev pub clauses_of_numbers : List (List Literal) → List ℕ → List (List Literal)
 clauses_of_numbers clauses numbers = map (λ n. slice_index_or clauses n []) numbers
@@ -51,6 +74,7 @@ AreTrueWhereMarked trues trail marks upto = (l : Literal) → Contains (take upt
 pub record IsTraced (clauses : List (List Literal)) (trail : List Literal) (marks : List Bool) (kept : List Literal) (hints : List ℕ) (upto : ℕ) : Type 0 where
   pub reading : (trues : List Literal) → AreFalse trues kept → AreTrueWhereMarked trues trail marks upto → reading_succeeds trues (clauses_of_numbers clauses (reverse hints)) ≡ true
   pub marked : (v : ℕ) → is_marked marks v ≡ true → StandsIn clauses v
+  pub kept_named : (l : Literal) → Contains kept l → StandsIn clauses l.var
   pub hints_there : All (λ h. h < length clauses) hints
   pub ordered : AllByRecursion IsOrdered (clauses_of_numbers clauses (reverse hints))
 

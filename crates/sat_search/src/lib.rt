@@ -2,6 +2,7 @@
 //! that show it.
 #![tactic(auto)]
 
+mod learning;
 mod solver;
 
 pub use solver::{Outcome, SolveError, Solver};

@@ -1,0 +1,3 @@
+pub mod Marks
+pub mod Tracing
+pub mod Trails
