@@ -27,3 +27,15 @@ pub record EndsWithEmptyStep (events : List LogEvent) : Type 0 where
 -- no event has the empty clause
 abbrev pub NoneIsEmpty : List LogEvent → Type 0
 NoneIsEmpty events = All (λ clause. clause ≢ []) (clauses_of events)
+
+-- the log goes on soundly, by steps alone, within the budget
+pub record IsContinued (budget : ℕ) (old new : LogState) : Type 0 where
+  pub sound : IsSound new.events
+  pub steps : AddsSteps old new
+  pub within : nonempty_steps new.events ≤ budget
+
+-- how a search may end without values
+abbrev pub HasEnded : ℕ → List LogEvent → Outcome → Type 0
+HasEnded budget events Sat = ⊥
+HasEnded budget events Unsat = EndsWithEmptyStep events
+HasEnded budget events Spent = (nonempty_steps events ≡ budget) × NoneIsEmpty events
