@@ -2,14 +2,16 @@
 use Rattle.std.proofs.Common.{◌≡◌, ◌≢◌, ℕ, ◌+◌, ◌-◌, ◌*◌, ◌<◌, ◌≤◌, Bool, true, false, cond, ◌||◌, Option, Some, None, is_none, List, [], ◌∷◌, ◌++◌, length, take, get_or, slice_index, map, count_by, All, refl, sym, ap, ◌∙◌, subst, inl, inr, ◌⊎◌, ⊎_elim, arith, rules}
 use Rattle.std.proofs.lemmas.Bool.{cases_lt, cases_Bool}
 use Rattle.std.proofs.lemmas.List.{take-append-le, take_at, get_or_append_left, get_or_push, get_or-take, take-take, length_push, length-take-le, map_push}
+use Rattle.std.proofs.lemmas.List.Elements.{All-push}
 use Rattle.std.proofs.lemmas.List.Sums.{sum_by-cons, sum_by_push, count_by-le-length}
-use Rattle.cnf_core.specs.Literal.{Literal, negation, is_among, same_literal}
+use Rattle.cnf_core.specs.Literal.{Literal, negation, is_among, same_literal, VariablesUpTo}
 use Rattle.sat_state.specs.Trail.{Entry, literals, level_of, next_level, value_of, HasReason, StandsOn, IsGrounded}
 use Rattle.sat_state.specs.Assigned.{Assigned}
 use Rattle.sat_state.specs.Counted.{Counted, AreRaised, HasRoom, IsCounted, occurrences, clause_at}
 use Rattle.sat_state.specs.Joined.{is_false, count_true, count_false, AreJoined}
 use Rattle.sat_state.proofs.Literals.{is_among_push, same_literal_is, same_literal_sym, same_literal-negation, not_true, not_false}
 use Rattle.sat_state.proofs.Counts.{one_if}
+use Rattle.sat_state.proofs.Ends.{grounded_more}
 
 -- what is one test or another, and never both, counts as both
 pub count_sum : {X : Type 0} (f g h : X → Bool) → ((x : X) → one_if (f x) ≡ one_if (g x) + one_if (h x)) → (xs : List X) → count_by f xs ≡ count_by g xs + count_by h xs
@@ -138,4 +140,37 @@ joined_pop old new was now u j ls free same_clauses same_holders trues falses sa
       room = rw (same_vars, same_holders) j.room;
       in_range = rw (same_vars, same_clauses) j.in_range;
       grounded = rw (same_clauses, less) (grounded_take old.clauses was.trail (length was.trail - 1) (omega arith) j.grounded);
+    }
+
+-- a clause with its counts is appended where there is no decision
+pub joined_clause : (old new : Counted) (assigned : Assigned) (clause : List Literal) → AreJoined old assigned → level_of assigned.trail ≡ 0 → VariablesUpTo assigned.vars clause
+    → length old.trues ≡ length old.clauses → length old.falses ≡ length old.clauses → length new.holders ≡ length old.holders
+    → new.clauses ≡ old.clauses ++ clause ∷ [] → new.trues ≡ old.trues ++ count_true (literals assigned.trail) clause ∷ [] → new.falses ≡ old.falses ++ count_false (literals assigned.trail) clause ∷ []
+    → AreJoined new assigned
+joined_clause old new assigned clause j level known trues_len falses_len holders more trues falses =
+    let n = length old.clauses in
+    let len : length new.clauses ≡ n + 1 = ap length more ∙ length_push old.clauses clause in
+    let ls = literals assigned.trail in
+    let before : (number : ℕ) → number < n → clause_at new.clauses number ≡ clause_at old.clauses number = λ number lt. ap (λ (cs : List (List Literal)). clause_at cs number) more ∙ get_or_append_left old.clauses (clause ∷ []) [] number lt in
+    let last : (number : ℕ) → n ≡ number → clause_at new.clauses number ≡ clause = λ number e. ap (λ (cs : List (List Literal)). clause_at cs number) more ∙ get_or_push old.clauses clause [] number e in
+    record {
+      trues = λ number h. ⊎_elim
+        (λ (lt : number < n).
+          ap (λ (xs : List ℕ). slice_index xs number) trues ∙ get_or_append_left old.trues (count_true ls clause ∷ []) 0 number (omega (arith, trues_len, lt))
+          ∙ j.trues number lt ∙ ap (count_true ls) (sym (before number lt)))
+        (λ (ge : n ≤ number).
+          let e : n ≡ number = omega (arith, len, h) in
+          ap (λ (xs : List ℕ). slice_index xs number) trues ∙ get_or_push old.trues (count_true ls clause) 0 number (trues_len ∙ e) ∙ ap (count_true ls) (sym (last number e)))
+        (cases_lt number n);
+      falses = λ number h. ⊎_elim
+        (λ (lt : number < n).
+          ap (λ (xs : List ℕ). slice_index xs number) falses ∙ get_or_append_left old.falses (count_false ls clause ∷ []) 0 number (omega (arith, falses_len, lt))
+          ∙ j.falses number lt ∙ ap (count_false ls) (sym (before number lt)))
+        (λ (ge : n ≤ number).
+          let e : n ≡ number = omega (arith, len, h) in
+          ap (λ (xs : List ℕ). slice_index xs number) falses ∙ get_or_push old.falses (count_false ls clause) 0 number (falses_len ∙ e) ∙ ap (count_false ls) (sym (last number e)))
+        (cases_lt number n);
+      room = omega (arith, j.room, holders);
+      in_range = rw more (All-push (VariablesUpTo assigned.vars) old.clauses clause j.in_range known);
+      grounded = rw more (grounded_more old.clauses clause assigned.trail j.grounded level);
     }

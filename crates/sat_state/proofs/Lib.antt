@@ -6,3 +6,5 @@ pub mod Joins
 pub mod Settling
 pub mod Queues
 pub mod Levels
+pub mod Ends
+pub mod Results

@@ -7,6 +7,9 @@ use Rattle.std.proofs.lemmas.Bool.Decides.{nat_tests}
 use Rattle.std.proofs.lemmas.List.Folds.{list_any-append, list_any_at, list_any_none}
 use Rattle.std.proofs.lemmas.Map.Views.{Contains-from_any}
 use Rattle.cnf_core.specs.Literal.{Literal, negation, same_sign, same_literal, is_among}
+use Rattle.cnf_core.specs.Steps.{IsConsistent}
+use Rattle.std.specs.Option.{option_eq}
+use mathlib.Core.Bool.{beq}
 use Rattle.sat_state.specs.Trail.{value_of}
 
 pub same_sign_is : (a b : Bool) → same_sign a b ≡ true → a ≡ b
@@ -161,3 +164,23 @@ pub no_value : (trues : List Literal) (v : ℕ) → All (λ l. l.var ≢ v) true
 no_value trues v h =
     let none : (p : Bool) → is_among trues (of v p) ≡ false = λ p. list_any_none (same_literal (of v p)) trues (λ k d in_list. other_literal v (get_or trues k d).var p (get_or trues k d).positive (λ e. h k d in_list (sym e))) in
     ap (λ (a : Bool). choice a (is_among trues (of v false))) (none true) ∙ ap (λ (b : Bool). choice false b) (none false)
+
+test_choice : (a b p : Bool) → (a ≡ true → b ≡ true → ⊥) → option_eq beq (choice a b) (Some p) ≡ (if p then a else b)
+test_choice true true p apart = absurd (apart refl refl)
+test_choice true false true apart = refl
+test_choice true false false apart = refl
+test_choice false true true apart = refl
+test_choice false true false apart = refl
+test_choice false false true apart = refl
+test_choice false false false apart = refl
+
+sign_test : (trues : List Literal) (v : ℕ) (p : Bool) → (if p then is_among trues (of v true) else is_among trues (of v false)) ≡ is_among trues (of v p)
+sign_test trues v true = refl
+sign_test trues v false = refl
+
+-- a literal is true where its variable has its sign
+pub value_test : (trues : List Literal) (l : Literal) → IsConsistent trues → option_eq beq (value_of trues l.var) (Some l.positive) ≡ is_among trues l
+value_test trues l apart =
+    test_choice (is_among trues (of l.var true)) (is_among trues (of l.var false)) l.positive
+      (λ yes' no'. apart (of l.var true) (Contains-from_among trues (of l.var true) yes') (Contains-from_among trues (of l.var false) no'))
+    ∙ sign_test trues l.var l.positive

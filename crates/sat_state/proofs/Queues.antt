@@ -1,7 +1,7 @@
 -- What has to be looked at, as clauses are looked at and literals become true.
 use Rattle.std.proofs.Common.{◌≡◌, ◌≢◌, ℕ, zero, ◌+◌, ◌-◌, ◌<◌, ◌≤◌, Bool, true, false, Option, None, IsNone, List, [], ◌∷◌, ◌++◌, length, take, drop, get_or, map, eqb, refl, sym, ap, ◌∙◌, subst, inl, inr, ◌⊎◌, ⊎_elim, arith, rules}
 use Rattle.std.proofs.lemmas.Bool.{cases_lt, cases_eq, eq-eqb, ne_eqb}
-use Rattle.std.proofs.lemmas.List.{drop_more, drop_all, drop-map, length-map}
+use Rattle.std.proofs.lemmas.List.{drop_more, drop_all, drop-map, length-map, length_push, get_or_append_left}
 use Rattle.std.proofs.lemmas.List.Sums.{sum_by_more}
 use Rattle.cnf_core.specs.Literal.{Literal, negation}
 use Rattle.sat_state.specs.Trail.{Entry, literals}
@@ -82,3 +82,13 @@ holders_more clauses numbers first old new place d one two more before here numb
         let earlier : 1 ≤ times number (take place numbers) = omega (arith, sum_by_more (λ (n : ℕ). one_if (eqb n number)) numbers place d more, none, counted) in
         settled_later old new (clause_at clauses number) two (before number there earlier parts.0) parts.1)
       (cases_eq (get_or numbers place d) number)
+
+-- a clause is appended, which wasn't looked at
+pub queue_clause : (clauses : List (List Literal)) (clause : List Literal) (trail : List Entry) (checked head : ℕ) → IsQueue clauses trail checked head → IsQueue (clauses ++ clause ∷ []) trail checked head
+queue_clause clauses clause trail checked head q = record {
+  checked_in = omega (arith, q.checked_in, length_push clauses clause);
+  head_in = q.head_in;
+  settled = λ number below.
+    let same : clause_at (clauses ++ clause ∷ []) number ≡ clause_at clauses number = get_or_append_left clauses (clause ∷ []) [] number (omega (arith, q.checked_in, below)) in
+    subst (λ (c : List Literal). is_touched (literals (drop head trail)) c ≡ false → IsSettled (literals trail) c) (sym same) (q.settled number below);
+}

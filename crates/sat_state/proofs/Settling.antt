@@ -33,7 +33,7 @@ none_if : (b : Bool) → one_if b ≡ 0 → b ≡ false
 none_if true h = absurd (omega (arith, h))
 none_if false h = refl
 
-count_cons : {X : Type 0} (p : X → Bool) (x : X) (xs : List X) (b : Bool) → p x ≡ b → count_by p (x ∷ xs) ≡ one_if b + count_by p xs
+pub count_cons : {X : Type 0} (p : X → Bool) (x : X) (xs : List X) (b : Bool) → p x ≡ b → count_by p (x ∷ xs) ≡ one_if b + count_by p xs
 count_cons p x xs b e = sum_by-cons (λ y. one_if (p y)) x xs ∙ ap (λ (c : Bool). one_if c + count_by p xs) e
 
 one_at_most : (b : Bool) → one_if b ≤ 1

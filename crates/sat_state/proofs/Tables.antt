@@ -59,7 +59,7 @@ some_from_map : (o : Option Slot) (b : Bool) → option_map (λ s. s.positive) o
 some_from_map None b h = cc
 some_from_map (Some s) b h = refl
 
-abbrev Apart : List Literal → Type 0
+abbrev pub Apart : List Literal → Type 0
 Apart trues = (k : ℕ) (d : Literal) → k < length trues → value_of (take k trues) (get_or trues k d).var ≡ None
 
 apart_push : (trues : List Literal) (u : Literal) → Apart trues → value_of trues u.var ≡ None → Apart (trues ++ u ∷ [])
@@ -72,13 +72,14 @@ apart_push trues u apart free k d h = ⊎_elim
 
 -- a literal whose variable had no value becomes true
 pub pushed : (slots : List (Option Slot)) (trues : List Literal) (level capacity : ℕ) (u : Literal) (s : Slot) → IsTable slots trues level capacity
-    → u.var < length slots → value_of trues u.var ≡ None → s.positive ≡ u.positive
+    → 1 ≤ u.var → u.var < length slots → value_of trues u.var ≡ None → s.positive ≡ u.positive
     → IsTable (set slots u.var (Some s)) (trues ++ u ∷ []) (level + cond (is_none s.reason) 1 0) capacity
-pushed slots trues level capacity u s t known free sign =
+pushed slots trues level capacity u s t positive known free sign =
     let len = length-set slots u.var (Some s) in
     let old : is_some (get_or slots u.var None) ≡ false = none_from_map (get_or slots u.var None) (t.values u.var known ∙ free) in
     record {
       some = omega (arith, len, t.some);
+      zero = get_or-set_other slots u.var 0 (Some s) None (λ e. absurd (omega (arith, e, positive))) ∙ t.zero;
       room = omega (arith, len, t.room);
       values = λ v h. ⊎_elim (λ (e : v ≡ u.var).
           subst (λ (x : ℕ). option_map (λ (y : Slot). y.positive) (slot_of (set slots u.var (Some s)) x) ≡ value_of (trues ++ u ∷ []) x) (sym e)
@@ -111,6 +112,10 @@ popped slots trues level lower capacity u t same =
     let was : is_some (get_or slots u.var None) ≡ true = some_from_map (get_or slots u.var None) u.positive (t.values u.var known ∙ value_push trues u free) in
     record {
       some = omega (arith, len, t.some);
+      zero = ⊎_elim
+        (λ (e : 0 ≡ u.var). subst (λ (x : ℕ). slot_of (set slots u.var None) x ≡ None) (sym e) (get_or-set_same slots u.var None None known))
+        (λ (ne : 0 ≢ u.var). get_or-set_other slots u.var 0 None None ne ∙ t.zero)
+        (cases_eq 0 u.var);
       room = omega (arith, len, t.room);
       values = λ v h. ⊎_elim (λ (e : v ≡ u.var).
           subst (λ (x : ℕ). option_map (λ (y : Slot). y.positive) (slot_of (set slots u.var None) x) ≡ value_of trues x) (sym e)
@@ -135,6 +140,7 @@ grown slots trues level capacity n room t fits =
     let none_more : count_by {X = Option Slot} (λ (o : Option Slot). is_some o) slots + count_by {X = Option Slot} (λ (o : Option Slot). is_some o) (replicate {A = Option Slot} n None) ≡ length trues = omega (arith, count_none, t.count) in
     record {
       some = omega (arith, len, t.some);
+      zero = get_or_append_left slots (replicate n None) None 0 t.some ∙ t.zero;
       room = omega (arith, len, fits);
       values = λ v h. ⊎_elim
         (λ (lt : v < length slots). ap (option_map (λ (y : Slot). y.positive)) (get_or_append_left slots (replicate n None) None v lt) ∙ t.values v lt)

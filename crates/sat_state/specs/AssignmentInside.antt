@@ -23,9 +23,10 @@ entry_at slots l = record {
 abbrev pub entries : List (Option Slot) → List Literal → List Entry
 entries slots trues = map (entry_at slots) trues
 
--- the table has the value of each variable, each literal of the trail is of another variable, and there is room for all
+-- the table has the value of each variable, of which 0 is none, each literal of the trail is of another variable, and there is room for all
 pub record IsTable (slots : List (Option Slot)) (trues : List Literal) (level capacity : ℕ) : Type 0 where
   pub some : 0 < length slots
+  pub zero : slot_of slots 0 ≡ None
   pub room : length slots ≤ capacity
   pub values : (v : ℕ) → v < length slots → option_map (λ s. s.positive) (slot_of slots v) ≡ value_of trues v
   pub apart : (k : ℕ) (d : Literal) → k < length trues → value_of (take k trues) (slice_index_or trues k d).var ≡ None

@@ -2,7 +2,7 @@
 use Rattle.std.specs.Prelude.{◌≡◌, ℕ, ◌+◌, ◌*◌, ◌<◌, ◌≤◌, Bool, false, List, length, drop, count_by, slice_index, All}
 use Rattle.std.specs.List.{list_any}
 use Rattle.cnf_core.specs.Literal.{Literal, negation, is_among, VariablesUpTo}
-use Rattle.sat_state.specs.Trail.{Entry, literals, IsFalsified, IsGrounded}
+use Rattle.sat_state.specs.Trail.{Entry, literals, IsGrounded}
 use Rattle.sat_state.specs.Assigned.{Assigned}
 use Rattle.sat_state.specs.Counted.{Counted, clause_at, occurrences}
 
@@ -32,11 +32,6 @@ pub record AreJoined (counted : Counted) (assigned : Assigned) : Type 0 where
 -- whether these literals make one of the clause false
 abbrev pub is_touched : List Literal → List Literal → Bool
 is_touched trues clause = list_any (is_false trues) clause
-
--- this is the number of a falsified clause
-pub record NamesFalsified (clauses : List (List Literal)) (trail : List Entry) (number : ℕ) : Type 0 where
-  pub there : number < length clauses
-  pub falsified : IsFalsified (literals trail) (clause_at clauses number)
 
 -- each clause that holds the literal is settled, unless what became true on the way touches it
 abbrev pub AreHoldersSettled : List (List Literal) → Literal → List Entry → List Entry → Type 0

@@ -5,3 +5,4 @@ pub mod AssignmentInside
 pub mod Counted
 pub mod CountedInside
 pub mod Joined
+pub mod StateInside

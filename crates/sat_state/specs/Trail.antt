@@ -1,7 +1,8 @@
 -- The trail: which literals were made true, in which order, at which level and why.
 use Rattle.std.specs.List.{find}
-use Rattle.std.specs.Prelude.{◌≡◌, ◌≢◌, ℕ, ◌+◌, ◌<◌, ◌==◌, Bool, true, false, Option, Some, None, is_none, if◌then◌else◌, List, [], ◌∷◌, ◌++◌, length, map, take, count_by, slice_index_or, All, Contains}
+use Rattle.std.specs.Prelude.{◌≡◌, ◌≢◌, ℕ, ◌+◌, ◌<◌, ◌==◌, Bool, true, false, Option, Some, None, is_none, IsNone, IsSome, if◌then◌else◌, List, [], ◌∷◌, ◌++◌, length, map, take, count_by, slice_index_or, All, Contains}
 use Rattle.cnf_core.specs.Literal.{Literal, negation, is_among}
+use Rattle.cnf_core.specs.Clauses.{Satisfies, IsTrueUnder}
 use Rattle.cnf_core.specs.Steps.{IsAtEnd}
 
 -- a literal that was made true, the level at which it was, and the number of the clause that gave it, or None for a decision
@@ -56,3 +57,18 @@ entry_of trail var = find (λ e. e.literal.var == var) trail
 -- the level of the next entry: a decision, which has no reason, opens one
 abbrev pub next_level : List Entry → Option ℕ → ℕ
 next_level trail reason = level_of trail + (if is_none reason then 1 else 0)
+
+-- this is the number of a falsified clause
+pub record NamesFalsified (clauses : List (List Literal)) (trail : List Entry) (number : ℕ) : Type 0 where
+  pub there : number < length clauses
+  pub falsified : IsFalsified (literals trail) (slice_index_or clauses number [])
+
+-- an entry is forced at a level where it has a clause for its reason and is of that level
+pub record IsForcedAt (level : ℕ) (entry : Entry) : Type 0 where
+  pub has_clause : IsSome entry.reason
+  pub at_level : entry.level ≡ level
+
+-- each assignment that satisfies the clauses and makes the decisions true makes each literal of the trail true
+abbrev pub FollowsFromDecisions : List (List Literal) → List Entry → Type 0
+FollowsFromDecisions clauses trail =
+    (s : ℕ → Bool) → Satisfies s clauses → All (λ e. IsNone e.reason → IsTrueUnder s e.literal) trail → All (λ e. IsTrueUnder s e.literal) trail

@@ -2,6 +2,7 @@
 
 ghost use Rattle.std.specs.Prelude.{◌≡◌, ℕ, ◌+◌, ◌-◌, ◌<◌, ◌≤◌, [], ◌∷◌, ◌++◌, length, take, max, IfOk, OnOk, OnErr, IsSome, is_none, if◌then◌else◌, slice_index_or, All};
 ghost use Rattle.std.specs.Option.{option_map, option_map_or};
+ghost use Rattle.cnf_core.specs.Literal.{is_among};
 ghost use Rattle.sat_state.specs.Trail.{Entry, literals, level_of, value_of, entry_of, next_level};
 
 use cnf_core::Lit;
@@ -73,6 +74,17 @@ impl Assignment {
         })
     }
 
+    /// Forgets all variables and takes all literals back.
+    pub fn clear(&mut self)
+        ensures vars { self.new.vars ≡ 0 }
+        ensures trail { self.new.trail ≡ [] }
+    {
+        self.slots.truncate(1);
+        self.slots[0] = None;
+        self.trail.clear();
+        self.level = 0;
+    }
+
     /// Makes the variables up to this number known.
     pub fn grow(&mut self, vars: u64) -> Result<(), Memory>
         ensures vars { OnOk result (self.new.vars ≡ max self.old.vars vars) }
@@ -90,7 +102,8 @@ impl Assignment {
 
     /// The value of a variable.
     pub fn value(&self, var: u64) -> Option<bool>
-        ensures { result ≡ value_of (literals self.now.trail) var }
+        ensures value { result ≡ value_of (literals self.now.trail) var }
+        ensures unknown { self.now.vars < var → result ≡ None }
     {
         let var = var as usize;
         if var < self.slots.len() {
@@ -98,6 +111,14 @@ impl Assignment {
         } else {
             None
         }
+    }
+
+    /// Whether a literal is true.
+    pub fn is_true(&self, lit: Lit) -> bool
+        ensures { result ≡ is_among (literals self.now.trail) lit }
+    {
+        let _trail = &self.trail;
+        self.value(lit.var()) == Some(lit.positive())
     }
 
     /// How many decisions there are.
@@ -111,7 +132,7 @@ impl Assignment {
     pub fn trail(&self) -> &[Lit]
         ensures value { result.now ≡ literals self.now.trail }
         ensures known { All (λ l. l.var ≤ self.now.vars) result.now }
-        ensures few { length self.now.trail ≤ self.now.vars + 1 }
+        ensures few { length self.now.trail ≤ self.now.vars }
     {
         self.trail.as_slice()
     }

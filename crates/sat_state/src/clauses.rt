@@ -97,6 +97,16 @@ fn link(holders: &mut Vec<Vec<usize>>, lits: &[Lit], number: usize) -> Result<()
     Ok(())
 }
 
+// Empties each list of the table.
+fn empty_lists(holders: &mut Vec<Vec<usize>>)
+    ensures len { length holders.new.items ≡ length holders.old.items }
+    ensures empty { (k : ℕ) → numbers_at holders.new.items k ≡ [] }
+{
+    for k in 0..holders.len() {
+        holders[k].clear();
+    }
+}
+
 impl CountedClauses {
     /// No clause.
     pub fn new(alloc: Global) -> CountedClauses
@@ -115,12 +125,13 @@ impl CountedClauses {
 
     /// Forgets all clauses.
     pub fn clear(&mut self)
+        ensures room { length self.new.holders ≡ length self.old.holders }
         ensures clauses { self.new.clauses ≡ [] }
         ensures trues { self.new.trues ≡ [] }
         ensures falses { self.new.falses ≡ [] }
     {
         self.clauses.clear();
-        self.holders.clear();
+        empty_lists(&mut self.holders);
         self.trues.clear();
         self.falses.clear();
     }
@@ -144,7 +155,9 @@ impl CountedClauses {
         ensures clauses { OnOk result (self.new.clauses ≡ self.old.clauses ++ clause ∷ []) }
         ensures trues { OnOk result (self.new.trues ≡ self.old.trues ++ trues ∷ []) }
         ensures falses { OnOk result (self.new.falses ≡ self.old.falses ++ falses ∷ []) }
-        ensures room { OnOk result (length self.new.holders ≡ length self.old.holders) }
+        ensures room { length self.new.holders ≡ length self.old.holders }
+        ensures trues_len { length self.old.trues ≡ length self.old.clauses }
+        ensures falses_len { length self.old.falses ≡ length self.old.clauses }
     {
         self.clauses.reserve(1)?;
         self.trues.reserve(1)?;
@@ -159,7 +172,7 @@ impl CountedClauses {
             }
             Err(refused) => {
                 self.clauses.clear();
-                self.holders.clear();
+                empty_lists(&mut self.holders);
                 self.trues.clear();
                 self.falses.clear();
                 Err(refused)

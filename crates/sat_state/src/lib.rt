@@ -1,6 +1,10 @@
 //! A set of clauses and a trail of literals that are true, with complete propagation.
 #![tactic(auto)]
 
+mod adding;
 mod assignment;
 mod clauses;
 mod propagation;
+mod state;
+
+pub use state::{Propagated, State};

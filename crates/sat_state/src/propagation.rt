@@ -1,10 +1,10 @@
 //! Propagation over the clauses and the trail.
 
 ghost use Rattle.std.specs.Prelude.{◌≡◌, ℕ, ◌+◌, ◌-◌, ◌<◌, ◌≤◌, [], ◌∷◌, ◌++◌, length, take, None, false, IsTrue, Contains, IsNone, IfSome, filter, nat_le};
-ghost use Rattle.sat_state.specs.Trail.{literals, value_of, next_level, level_of, HasReason, IsFalsified};
+ghost use Rattle.sat_state.specs.Trail.{literals, value_of, next_level, level_of, HasReason, IsFalsified, NamesFalsified};
 ghost use Rattle.sat_state.specs.Counted.{clause_at};
 ghost use Rattle.cnf_core.specs.Steps.{IsAtEnd};
-ghost use Rattle.sat_state.specs.Joined.{AreJoined, IsSettled, count_true, count_false, NamesFalsified, AreHoldersSettled, AreAllSettled, IsQueue};
+ghost use Rattle.sat_state.specs.Joined.{AreJoined, IsSettled, count_true, count_false, AreHoldersSettled, AreAllSettled, IsQueue};
 
 use crate::assignment::Assignment;
 use crate::clauses::CountedClauses;

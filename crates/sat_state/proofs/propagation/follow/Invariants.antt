@@ -1,4 +1,4 @@
-use Rattle.std.proofs.Common.{◌≡◌, ◌+◌, ◌-◌, length, take}
+use Rattle.std.proofs.Common.{◌≡◌, ◌-◌, length, take}
 use Rattle.sat_state.specs.Trail.{level_of}
 use Rattle.sat_state.specs.Joined.{AreJoined, IsQueue}
 use Rattle.sat_state.proofs.propagation.follow.Given as goal
@@ -15,4 +15,4 @@ invariant-loop-queue l = record {
 }
 
 abbrev pub decreases-loop-queue : goal.decreases-loop-queue
-decreases-loop-queue l = l.assigned.vars + 1 - l.queue.head
+decreases-loop-queue l = l.assigned.vars - l.queue.head

@@ -1,9 +1,9 @@
 use Rattle.std.proofs.Common.{◌≡◌, ℕ, ◌+◌, ◌<◌, ◌≤◌, List, length, take, sym, ap, subst, ◌∙◌, arith, rules}
 use Rattle.std.proofs.lemmas.List.{take_all}
 use Rattle.cnf_core.specs.Literal.{Literal}
-use Rattle.sat_state.specs.Trail.{literals}
+use Rattle.sat_state.specs.Trail.{literals, NamesFalsified}
 use Rattle.sat_state.specs.Counted.{clause_at, holders_of, times}
-use Rattle.sat_state.specs.Joined.{IsSettled, NamesFalsified}
+use Rattle.sat_state.specs.Joined.{IsSettled}
 use Rattle.sat_state.proofs.Settling.{front_again}
 use Rattle.sat_state.proofs.Queues.{holders_more}
 use Rattle.sat_state.proofs.propagation.visit_holders.Goals as goal

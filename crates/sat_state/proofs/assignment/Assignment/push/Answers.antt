@@ -1,10 +1,13 @@
-use Rattle.std.proofs.Common.{◌≡◌, ℕ, ◌+◌, ◌∷◌, [], ◌++◌, List, cond, vec_capacity, Some, None, is_none, sym, ap, ◌∙◌, arith}
+use Rattle.std.proofs.Common.{◌≡◌, ℕ, ◌≤◌, ◌+◌, ◌∷◌, [], ◌++◌, List, cond, vec_capacity, Some, None, is_none, sym, ap, ◌∙◌, arith}
 use Rattle.sat_state.specs.declared.assignment.Slot.{Slot}
 use Rattle.sat_state.specs.Assigned.{Assigned}
 use Rattle.sat_state.specs.Trail.{Entry, value_of, level_of, next_level}
 use Rattle.sat_state.specs.AssignmentInside.{entries}
 use Rattle.sat_state.proofs.Tables.{seen_value, seen_var, room_left, pushed, entries_push}
 use Rattle.sat_state.proofs.assignment.Assignment.push.Goals as goal
+
+variable_low : (n v : ℕ) → 1 ≤ n → n ≡ v → 1 ≤ v
+variable_low n v low same = omega arith
 
 pub push_reserved-requires : goal.push_reserved-requires
 push_reserved-requires c =
@@ -21,7 +24,8 @@ invariant_of-self c =
     let known = seen_var a now c.args.lit.var c.self.view_is c.self.invariant c.requires.known in
     let free : value_of a.trail.items c.args.lit.var ≡ None = sym (seen_value a now c.args.lit.var c.self.view_is) ∙ c.requires.free in
     let slot : Slot = record { positive = c.positive.result; level = a.level + cond (is_none c.args.reason) 1 0; reason = c.args.reason } in
-    let kept = pushed a.slots.items a.trail.items a.level (vec_capacity a.trail) c.args.lit slot c.self.invariant known free c.positive.ensures in
+    let positive = variable_low c.var.result c.args.lit.var c.var.ensures.in_range.0 c.var.ensures.value in
+    let kept = pushed a.slots.items a.trail.items a.level (vec_capacity a.trail) c.args.lit slot c.self.invariant positive known free c.positive.ensures in
     rw (c.var.ensures.value, c.push_reserved.ensures.items, c.push_reserved.ensures.capacity, c.levels_opened.ensures) kept
 
 pub returns-clause-trail : goal.returns-clause-trail

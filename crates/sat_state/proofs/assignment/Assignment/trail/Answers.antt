@@ -1,10 +1,10 @@
-use Rattle.std.proofs.Common.{◌≡◌, ◌-◌, ◌≤◌, is_some, length, sym, ap, ◌∙◌, arith}
+use Rattle.std.proofs.Common.{◌≡◌, ◌-◌, ◌≤◌, is_some, None, refl, length, sym, ap, ◌∙◌, arith}
 use Rattle.std.proofs.lemmas.List.{length-map}
 use Rattle.std.proofs.lemmas.List.Elements.{All-same}
-use Rattle.std.proofs.lemmas.List.Sums.{count_by-le-length}
 use Rattle.cnf_core.specs.Literal.{Literal}
 use Rattle.sat_state.specs.Assigned.{Assigned}
 use Rattle.sat_state.specs.AssignmentInside.{entry_at}
+use Rattle.sat_state.proofs.Settling.{one_fails}
 use Rattle.sat_state.proofs.Tables.{seen_literals}
 use Rattle.sat_state.proofs.assignment.Assignment.trail.Goals as goal
 
@@ -23,4 +23,4 @@ returns-clause-few c =
     let a = c.self.inside in
     let vars : length a.slots.items - 1 ≡ c.args.self.now.vars = ap (λ (x : Assigned). x.vars) c.self.view_is in
     let len : length a.trail.items ≡ length c.args.self.now.trail = sym (length-map a.trail.items (entry_at a.slots.items)) ∙ ap (λ (x : Assigned). length x.trail) c.self.view_is in
-    omega (arith, len, vars, c.self.invariant.count, c.self.invariant.some, count_by-le-length is_some a.slots.items)
+    omega (arith, len, vars, c.self.invariant.count, c.self.invariant.some, one_fails is_some a.slots.items None (0, c.self.invariant.some, c.self.invariant.zero) refl)

@@ -1,0 +1,215 @@
+//! The state of a search: clauses, and the literals that are true by decision or by a clause.
+
+ghost use Rattle.std.specs.Prelude.{◌≡◌, ◌≢◌, ℕ, ◌+◌, ◌<◌, ◌≤◌, [], ◌∷◌, ◌++◌, length, take, drop, Bool, All, AllPairs, None, Some, IfOk, OnOk, OnErr, IsSome, filter, nat_le, slice_index_or};
+ghost use Rattle.std.specs.Option.{option_map};
+ghost use Rattle.cnf_core.specs.Literal.{Literal, VariablesUpTo};
+ghost use Rattle.cnf_core.specs.Steps.{IsLastOf};
+ghost use Rattle.sat_state.specs.Trail.{literals, value_of, level_of, entry_of, IsFalsified, NamesFalsified, IsGrounded, IsForcedAt, FollowsFromDecisions};
+ghost use Rattle.sat_state.specs.View.{StateView, IsPropagated, BringsIn, nothing};
+
+use crate::adding::{add, forget};
+use crate::assignment::Assignment;
+use crate::clauses::CountedClauses;
+use crate::propagation::{Queue, assign, propagate, unwind};
+use cnf_core::{Clause, Lit};
+use ep_base::Memory;
+use std::alloc::Global;
+use std::marker::Model;
+
+/// How propagation ended.
+#[derive(Clone, Copy, Debug, PartialEq, Eq)]
+pub enum Propagated {
+    /// Nothing is left to propagate.
+    Done,
+    /// Each literal of the clause of this number is false.
+    Conflict(u64),
+}
+
+/// Clauses, numbered from 0 in the order in which they came, and the trail: the literals that were made true, by a decision or
+/// by a clause, in order. Each decision opens a level.
+#[derive(Debug, Drop)]
+pub struct State {
+    clauses: CountedClauses,
+    assigned: Assignment,
+    queue: Queue,
+}
+
+impl Model for State {
+    ghost use Rattle.sat_state.specs.View.{StateView};
+
+    ghost Value = { StateView };
+
+    ghost use Rattle.sat_state.specs.StateInside.{seen_state, IsState};
+
+    ghost view = { seen_state };
+
+    ghost invariant = { IsState };
+}
+
+// A copy of a clause.
+fn copied(clause: &Clause) -> Result<Clause, Memory>
+    ensures { IfOk result (λ made. made ≡ clause.now) }
+{
+    Ok(clause.clone()?)
+}
+
+impl State {
+    // No clause, and the variables up to this number.
+    fn empty(alloc: Global, vars: u64) -> Result<State, Memory>
+        ensures clauses { IfOk result (λ state. state.clauses ≡ []) }
+        ensures vars { IfOk result (λ state. state.vars ≡ vars) }
+        ensures trail { IfOk result (λ state. state.trail ≡ []) }
+    {
+        let mut clauses = CountedClauses::new(alloc);
+        clauses.grow(vars)?;
+        let mut assigned = Assignment::new(alloc)?;
+        assigned.grow(vars)?;
+        Ok(State {
+            clauses,
+            assigned,
+            queue: Queue {
+                checked: 0,
+                head: 0,
+            },
+        })
+    }
+
+    /// The clauses in order, at level 0 with no literal true. The variables up to this number are known. Reserves what the calls
+    /// below need, in tables as long as the number.
+    pub fn new(alloc: Global, clauses: &[Clause], vars: u64) -> Result<State, Memory>
+        requires { All (VariablesUpTo vars) clauses.now }
+        ensures clauses { IfOk result (λ state. state.clauses ≡ clauses.now) }
+        ensures vars { IfOk result (λ state. state.vars ≡ vars) }
+        ensures trail { IfOk result (λ state. state.trail ≡ []) }
+    {
+        let mut state = State::empty(alloc, vars)?;
+        for clause in clauses {
+            state.add(copied(clause)?)?;
+        }
+        Ok(state)
+    }
+
+    /// Appends a clause, and makes its variables known. What it forces is left to `propagate`. After a refusal the state has no
+    /// clause, no variable and no literal.
+    pub fn add(&mut self, clause: Clause) -> Result<(), Memory>
+        requires { level_of self.old.trail ≡ 0 }
+        ensures clauses { OnOk result (self.new.clauses ≡ self.old.clauses ++ clause ∷ []) }
+        ensures vars { OnOk result (BringsIn self.old.vars clause self.new.vars) }
+        ensures trail { OnOk result (self.new.trail ≡ self.old.trail) }
+        ensures grounded { OnOk result (IsGrounded self.new.clauses self.new.trail) }
+        ensures err { OnErr result (self.new ≡ nothing) }
+    {
+        let added = add(&mut self.clauses, &mut self.assigned, clause);
+        if added.is_err() {
+            forget(&mut self.clauses, &mut self.assigned, &mut self.queue);
+        }
+        added
+    }
+
+    /// Opens a level, at which a literal is made true without a reason. Takes no memory.
+    pub fn decide(&mut self, lit: Lit)
+        requires known { lit.var ≤ self.old.vars }
+        requires free { value_of (literals self.old.trail) lit.var ≡ None }
+        requires propagated { IsPropagated self.old }
+        ensures clauses { self.new.clauses ≡ self.old.clauses }
+        ensures vars { self.new.vars ≡ self.old.vars }
+        ensures trail { self.new.trail
+            ≡ self.old.trail ++ record { literal = lit; level = level_of self.old.trail + 1; reason = None } ∷ [] }
+        ensures grounded { IsGrounded self.new.clauses self.new.trail }
+    {
+        assign(&mut self.clauses, &mut self.assigned, lit, None);
+    }
+
+    /// Takes back what was made true at the levels above this one. Takes no memory, and is linear in what it undoes.
+    pub fn backtrack(&mut self, level: u64)
+        requires { level ≤ level_of self.old.trail }
+        ensures clauses { self.new.clauses ≡ self.old.clauses }
+        ensures vars { self.new.vars ≡ self.old.vars }
+        ensures trail { self.new.trail ≡ filter (λ e. nat_le e.level level) self.old.trail }
+        ensures level { level_of self.new.trail ≡ level }
+        ensures stays { level ≡ level_of self.old.trail → self.new.trail ≡ self.old.trail }
+        ensures propagated { level < level_of self.old.trail → IsPropagated self.new }
+        ensures grounded { IsGrounded self.new.clauses self.new.trail }
+    {
+        if level < self.assigned.level() {
+            unwind(&mut self.clauses, &mut self.assigned, level);
+            self.queue.head = self.assigned.trail().len();
+        }
+    }
+
+    /// Makes true what the clauses force, up to a falsified clause. Takes no memory, and looks at each clause once for each of
+    /// its literals that became false.
+    pub fn propagate(&mut self) -> Propagated
+        ensures clauses { self.new.clauses ≡ self.old.clauses }
+        ensures vars { self.new.vars ≡ self.old.vars }
+        ensures front { take (length self.old.trail) self.new.trail ≡ self.old.trail }
+        ensures forced { All (IsForcedAt (level_of self.old.trail)) (drop (length self.old.trail) self.new.trail) }
+        ensures level { level_of self.new.trail ≡ level_of self.old.trail }
+        ensures grounded { IsGrounded self.new.clauses self.new.trail }
+        ensures done { result ≡ Propagated.Done → IsPropagated self.new }
+        ensures none_falsified { result ≡ Propagated.Done
+            → All (λ clause. IsFalsified (literals self.new.trail) clause → ⊥) self.new.clauses }
+        ensures none_unit { result ≡ Propagated.Done
+            → All (λ clause. (l : Literal) → IsLastOf (literals self.new.trail) clause l → ⊥) self.new.clauses }
+        ensures conflict { (number : ℕ) → result ≡ Propagated.Conflict number
+            → NamesFalsified self.new.clauses self.new.trail number }
+    {
+        match propagate(&mut self.clauses, &mut self.assigned, &mut self.queue) {
+            Some(number) => Propagated::Conflict(number as u64),
+            None => Propagated::Done,
+        }
+    }
+
+    /// The value of a variable, or none where it has none or isn't known.
+    pub fn value(&self, var: u64) -> Option<bool>
+        ensures value { result ≡ value_of (literals self.now.trail) var }
+        ensures unknown { self.now.vars < var → result ≡ None }
+    {
+        self.assigned.value(var)
+    }
+
+    /// How many decisions there are.
+    pub fn level(&self) -> u64
+        ensures { result ≡ level_of self.now.trail }
+    {
+        self.assigned.level()
+    }
+
+    /// The literals that are true, in the order in which they were made true.
+    pub fn trail(&self) -> &[Lit]
+        ensures value { result.now ≡ literals self.now.trail }
+        ensures known { VariablesUpTo self.now.vars result.now }
+        ensures few { length self.now.trail ≤ self.now.vars }
+        ensures distinct { AllPairs (λ a b. a.literal.var ≢ b.literal.var) self.now.trail }
+        ensures levels { AllPairs (λ a b. a.level ≤ b.level) self.now.trail }
+        ensures grounded { IsGrounded self.now.clauses self.now.trail }
+        ensures follows { FollowsFromDecisions self.now.clauses self.now.trail }
+    {
+        let _clauses = &self.clauses;
+        self.assigned.trail()
+    }
+
+    /// The clause of this number.
+    pub fn clause(&self, number: u64) -> &Clause
+        requires { number < length self.now.clauses }
+        ensures { result.now ≡ slice_index_or self.now.clauses number [] }
+    {
+        self.clauses.clause(number as usize)
+    }
+
+    /// The level at which a variable got its value.
+    pub fn level_of(&self, var: u64) -> u64
+        requires { IsSome (value_of (literals self.now.trail) var) }
+        ensures { option_map (λ e. e.level) (entry_of self.now.trail var) ≡ Some result }
+    {
+        self.assigned.level_of(var)
+    }
+
+    /// The number of the clause that gave a variable its value, or none where it was decided.
+    pub fn reason(&self, var: u64) -> Option<u64>
+        requires { IsSome (value_of (literals self.now.trail) var) }
+        ensures { option_map (λ e. e.reason) (entry_of self.now.trail var) ≡ Some result }
+    {
+        self.assigned.reason(var)
+    }
+}
