@@ -22,6 +22,10 @@ pub record IsKnown (vars : ℕ) (state : StateView) : Type 0 where
 abbrev pub AllHaveValues : ℕ → List Entry → Type 0
 AllHaveValues vars trail = (v : ℕ) → 1 ≤ v → v ≤ vars → IsSome (value_of (literals trail) v)
 
+-- a variable that had a value has one
+abbrev pub KeepsValues : List Entry → List Entry → Type 0
+KeepsValues old new = (v : ℕ) → IsSome (value_of (literals old) v) → IsSome (value_of (literals new) v)
+
 -- whether a variable is marked
 abbrev pub is_marked : List Bool → ℕ → Bool
 is_marked marks var = slice_index_or marks var false

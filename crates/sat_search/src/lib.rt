@@ -3,6 +3,9 @@
 #![tactic(auto)]
 
 mod learning;
+mod outcome;
+mod search;
 mod solver;
 
-pub use solver::{Outcome, SolveError, Solver};
+pub use outcome::{Outcome, SolveError};
+pub use solver::Solver;

@@ -7,44 +7,12 @@ ghost use Rattle.cnf_core.specs.Steps.{GivensNameOnly};
 ghost use Rattle.sat_search.specs.View.{SolverView, value_in};
 ghost use Rattle.sat_search.specs.Logs.{IsSound, AddsSteps, EndsWithEmptyStep, NoneIsEmpty};
 
+use crate::outcome::{Outcome, SolveError};
 use cnf_core::{Clause, Log};
 use ep_base::Memory;
 use sat_state::State;
 use std::alloc::Global;
-use std::error::Error;
-use std::fmt;
 use std::marker::Model;
-
-/// How a search ended.
-#[derive(Clone, Copy, Debug, PartialEq, Eq)]
-pub enum Outcome {
-    /// The kept values satisfy every given.
-    Sat,
-    /// The empty clause follows, and is the log's last step.
-    Unsat,
-    /// The log has as many steps with a literal as the budget allows.
-    Spent,
-}
-
-/// Why a call was refused.
-#[derive(Clone, Copy, Debug, PartialEq, Eq)]
-pub enum SolveError {
-    /// An allocation was refused.
-    Memory,
-    /// An earlier call on this solver was refused memory.
-    Broken,
-}
-
-impl fmt::Display for SolveError {
-    fn fmt<W: fmt::Write>(&self, f: &mut fmt::Formatter<W>) -> fmt::Result {
-        match self {
-            SolveError::Memory => write!(f, "memory"),
-            SolveError::Broken => write!(f, "an earlier call was refused memory"),
-        }
-    }
-}
-
-impl Error for SolveError {}
 
 /// The clauses of a log, and what a search over them keeps.
 #[derive(Drop)]
