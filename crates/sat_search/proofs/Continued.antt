@@ -1,14 +1,18 @@
 -- A log that goes on soundly.
-use Rattle.std.proofs.Common.{◌≡◌, ◌≢◌, ℕ, ◌+◌, ◌<◌, ◌≤◌, Bool, true, false, cond, ◌⊎◌, inl, inr, List, [], ◌∷◌, ◌++◌, length, refl, ap, ◌∙◌, sym, subst, arith, append_assoc, All}
+use Rattle.std.proofs.Common.{◌≡◌, ◌≢◌, ℕ, ◌+◌, ◌<◌, ◌≤◌, Bool, true, false, cond, ◌⊎◌, inl, inr, List, [], ◌∷◌, ◌++◌, length, refl, ap, ◌∙◌, sym, subst, arith, append_assoc, All, ◌^◌}
 use Rattle.std.specs.Prelude.{Contains}
 use Rattle.std.proofs.lemmas.List.{append-nil}
 use Rattle.std.proofs.lemmas.List.Elements.{All-nil, All-cons, All-append, All-contains}
 use Rattle.cnf_core.specs.Literal.{Literal, HaveSameLiterals}
-use Rattle.cnf_core.specs.Events.{LogEvent, LogState, step, is_given, clauses_of, nonempty_steps, is_nonempty_step}
-use Rattle.cnf_core.proofs.Events.{nonempty_steps-push}
+use Rattle.cnf_core.specs.Events.{LogEvent, LogState, step, given, is_given, clauses_of, nonempty_steps, is_nonempty_step}
+use Rattle.cnf_core.specs.Steps.{IsValidStep, IsNewStep, IsEffectiveStep, GivensNameOnly}
+use Rattle.cnf_core.proofs.Events.{nonempty_steps-push, EachStep-given}
+use Rattle.cnf_core.proofs.Count.{fewer_new_steps}
+use Rattle.sat_search.specs.declared.outcome.Outcome.{Outcome}
+use Rattle.sat_search.specs.declared.outcome.Outcome.TheVariants.{Spent}
 use Rattle.cnf_core.proofs.Members.{none_in_nil, Contains-here}
 use Rattle.sat_search.specs.Analysis.{IsExplained}
-use Rattle.sat_search.specs.Logs.{IsSound, AddsSteps, EndsWithEmptyStep, IsContinued, with_step}
+use Rattle.sat_search.specs.Logs.{IsSound, AddsSteps, EndsWithEmptyStep, IsContinued, IsAnswer, with_step}
 use Rattle.sat_search.proofs.Learnt.{sound_push}
 
 pub continued_same : (budget : ℕ) (log : LogState) → IsSound log.events → nonempty_steps log.events ≤ budget → IsContinued budget log log
@@ -73,3 +77,17 @@ ends_empty log new clause lits hints same none is = record {
   hints = hints;
   events_are = ap (λ (x : LogState). x.events) is ∙ ap (λ (c : List Literal). log.events ++ step c hints ∷ []) (no_literal_kept clause lits same none);
 }
+
+-- a given leaves a log sound
+pub sound_given : (events : List LogEvent) (clause : List Literal) → IsSound events → IsSound (events ++ given clause ∷ [])
+sound_given events clause sound = record {
+  valid = EachStep-given IsValidStep [] events clause sound.valid;
+  new = EachStep-given (λ earlier c hs. 0 < length c → IsNewStep earlier c) [] events clause sound.new;
+  effective = EachStep-given (λ earlier c hs. 0 < length c → IsEffectiveStep earlier c) [] events clause sound.effective;
+}
+
+-- a budget that is spent is less than the number of ways for the variables of the givens to stand in a clause
+pub spent_few : (budget : ℕ) (trues : List Literal) (events : List LogEvent) (outcome : Outcome) → IsAnswer budget trues events outcome → outcome ≡ Spent → IsSound events → (vars : List ℕ) → GivensNameOnly vars events → budget < 3 ^ length vars
+spent_few budget trues events outcome answer is sound vars names =
+    let ended = subst (IsAnswer budget trues events) is answer in
+    subst (λ (n : ℕ). n < 3 ^ length vars) ended.0 (fewer_new_steps events vars sound.new names)

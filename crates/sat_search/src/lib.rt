@@ -2,6 +2,7 @@
 //! that show it.
 #![tactic(auto)]
 
+mod adding;
 mod learning;
 mod outcome;
 mod search;

@@ -7,6 +7,7 @@ ghost use Rattle.sat_state.specs.View.{IsPropagated};
 ghost use Rattle.sat_search.specs.Analysis.{IsKnown, AreInRange, AllHaveValues, KeepsValues};
 ghost use Rattle.sat_search.specs.Logs.{IsSound, IsContinued, HasEnded, IsAnswer, with_step};
 
+use crate::adding::copied;
 use crate::learning::{Explanation, explain};
 use crate::outcome::Outcome;
 use cnf_core::{Clause, Lit, Log};
@@ -56,13 +57,6 @@ fn decide_all(state: &mut State, vars: u64) -> Option<u64>
         }
     }
     None
-}
-
-/// A copy of a clause.
-pub fn copied(clause: &Clause) -> Result<Clause, Memory>
-    ensures { IfOk result (λ copy. copy ≡ clause.now) }
-{
-    Ok(clause.clone()?)
 }
 
 // Appends the clause to the log as a step, and at level 0 to the clauses.

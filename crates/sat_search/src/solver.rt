@@ -7,7 +7,9 @@ ghost use Rattle.cnf_core.specs.Steps.{GivensNameOnly};
 ghost use Rattle.sat_search.specs.View.{SolverView, value_in};
 ghost use Rattle.sat_search.specs.Logs.{IsSound, AddsSteps, EndsWithEmptyStep, NoneIsEmpty};
 
+use crate::adding::{give, state_of};
 use crate::outcome::{Outcome, SolveError};
+use crate::search::search;
 use cnf_core::{Clause, Log};
 use ep_base::Memory;
 use sat_state::State;
@@ -41,9 +43,14 @@ impl Solver {
     pub fn new(alloc: Global, log: &Log) -> Result<Solver, Memory>
         ensures { IfOk result (λ solver. solver ≡ record { clauses = clauses_of log.now.events; broken = false; kept = None }) }
     {
-        let _log = log;
-        let _alloc = alloc;
-        Err(Memory)
+        let (state, vars) = state_of(alloc, log)?;
+        Ok(Solver {
+            alloc,
+            state,
+            vars,
+            answered: false,
+            broken: false,
+        })
     }
 
     /// Appends a given to the log and to the clauses.
@@ -63,9 +70,9 @@ impl Solver {
             return Err(SolveError::Broken);
         }
         self.broken = true;
-        let _clause = clause;
-        let _log = log;
-        Err(SolveError::Memory)
+        self.vars = give(&mut self.state, self.vars, clause, log)?;
+        self.broken = false;
+        Ok(())
     }
 
     /// Searches for values that satisfy every given, or for the empty clause, within as many steps
@@ -82,7 +89,7 @@ impl Solver {
         ensures unsat { result ≡ Ok Outcome.Unsat → EndsWithEmptyStep log.new.events }
         ensures spent { result ≡ Ok Outcome.Spent → nonempty_steps log.new.events ≡ budget }
         ensures spent_open { result ≡ Ok Outcome.Spent → NoneIsEmpty log.new.events }
-        ensures spent_few { result ≡ Ok Outcome.Spent → (vars : List ℕ) → GivensNameOnly vars log.old.events → budget < 3 ^ length vars }
+        ensures spent_few { result ≡ Ok Outcome.Spent → (vars : List ℕ) → GivensNameOnly vars log.new.events → budget < 3 ^ length vars }
         ensures kept { IsSome self.new.kept → result ≡ Ok Outcome.Sat }
         ensures broken { (result ≡ Err SolveError.Broken) ↔ (self.old.broken ≡ true) }
         ensures breaks { (self.new.broken ≡ true) ↔ (IsErr result) }
@@ -93,9 +100,10 @@ impl Solver {
             return Err(SolveError::Broken);
         }
         self.broken = true;
-        let _budget = budget;
-        let _log = log;
-        Err(SolveError::Memory)
+        let outcome = search(self.alloc, &mut self.state, self.vars, budget, log)?;
+        self.broken = false;
+        self.answered = outcome == Outcome::Sat;
+        Ok(outcome)
     }
 
     /// The value of a variable where the last call answered [`Outcome::Sat`].
