@@ -1,0 +1,6 @@
+pub mod Marks
+pub mod Tracing
+pub mod Trails
+pub mod Learnt
+pub mod Values
+pub mod Continued

@@ -1,0 +1,73 @@
+-- What a place of a grounded trail says.
+use Rattle.std.proofs.Common.{◌≡◌, ◌≢◌, ℕ, zero, suc, ◌+◌, ◌<◌, Bool, true, false, cond, Option, Some, None, List, [], ◌∷◌, ◌++◌, length, get_or, take, map, All, refl, ap, ◌∙◌, sym, subst, arith, eqb}
+use Rattle.std.specs.List.{find}
+use Rattle.std.specs.Option.{option_map}
+use Rattle.std.specs.Prelude.{Contains}
+use Rattle.std.proofs.lemmas.Bool.{eqb-true, ne_eqb, eq-eqb}
+use Rattle.std.proofs.lemmas.List.{get_or-map, take-map, length-map, get_or_default}
+use Rattle.std.proofs.lemmas.List.Elements.{All-head, All-tail, All-nil, All-map, All-weaker, All-get_or}
+use Rattle.cnf_core.specs.Literal.{Literal}
+use Rattle.cnf_core.specs.Steps.{IsAtEnd}
+use Rattle.sat_state.specs.Trail.{Entry, literals, value_of, entry_of, HasReason, Gives, IsGrounded}
+use Rattle.sat_state.proofs.Literals.{no_literal}
+use Rattle.sat_search.specs.Analysis.{IsDecisionAt}
+
+some_entry : Entry
+some_entry = record { literal = record { var = 0; positive = true }; level = 0; reason = None }
+
+-- the first that passes is at a place that passes, where none before passes
+find_at : {X : Type 0} (p : X → Bool) (xs : List X) (i : ℕ) (d : X) → i < length xs → p (get_or xs i d) ≡ true → All (λ x. p x ≡ false) (take i xs) → find p xs ≡ Some (get_or xs i d)
+find_at p [] i d within passes none = absurd (omega arith)
+find_at p (x ∷ xs) zero d within passes none = ap (λ (b : Bool). cond b (Some x) (find p xs)) passes
+find_at p (x ∷ xs) (suc i) d within passes none =
+    ap (λ (b : Bool). cond b (Some x) (find p xs)) (All-head (λ y. p y ≡ false) x (take i xs) none)
+    ∙ find_at p xs i d (omega arith) passes (All-tail (λ y. p y ≡ false) x (take i xs) none)
+
+-- the entry of the variable of a place is the one at that place
+entry_at_place : (clauses : List (List Literal)) (trail : List Entry) (i : ℕ) (d : Entry) → IsGrounded clauses trail → i < length trail → entry_of trail (get_or trail i d).literal.var ≡ Some (get_or trail i d)
+entry_at_place clauses trail i d grounded within =
+    let v = (get_or trail i d).literal.var in
+    let others : All (λ (l : Literal). l.var ≢ v) (literals (take i trail)) = no_literal (literals (take i trail)) v (grounded i d within).free in
+    find_at (λ (e : Entry). eqb e.literal.var v) trail i d within (eq-eqb v v refl)
+    (λ k e below.
+    ne_eqb (get_or (take i trail) k e).literal.var v
+    (λ same. others k e.literal (omega (arith, below, length-map (take i trail) (λ (x : Entry). x.literal)))
+    (ap (λ (l : Literal). l.var) (get_or-map (λ (x : Entry). x.literal) (take i trail) k e e.literal below) ∙ same)))
+
+-- the reason that is read for the variable of a place is that of its literal
+pub reason_at : (clauses : List (List Literal)) (trail : List Entry) (i : ℕ) (l : Literal) (r : Option ℕ) → IsGrounded clauses trail → i < length (literals trail) → l ≡ get_or (literals trail) i l
+    → option_map (λ e. e.reason) (entry_of trail l.var) ≡ Some r → HasReason clauses (take i (literals trail)) l r
+reason_at clauses trail i l r grounded within is read =
+    let get = λ (e : Entry). e.literal in
+    let there : i < length trail = omega (arith, within, length-map trail get) in
+    let e = get_or trail i some_entry in
+    let same : l ≡ e.literal = is ∙ get_or-map get trail i some_entry l there in
+    let found : entry_of trail l.var ≡ Some e = ap (λ (m : Literal). entry_of trail m.var) same ∙ entry_at_place clauses trail i some_entry grounded there in
+    let reason : e.reason ≡ r = cc (sym (ap (option_map (λ (x : Entry). x.reason)) found) ∙ read) in
+    rw (take-map get i trail) (subst (λ (m : Literal). HasReason clauses (literals (take i trail)) m r) (sym same)
+    (subst (HasReason clauses (literals (take i trail)) e.literal) reason (grounded i some_entry there).reason))
+
+-- a place without a reason is that of a decision
+pub decision_at : (clauses : List (List Literal)) (trail : List Entry) (i : ℕ) (l : Literal) → IsGrounded clauses trail → i < length (literals trail) → l ≡ get_or (literals trail) i l
+    → option_map (λ e. e.reason) (entry_of trail l.var) ≡ Some None → IsDecisionAt clauses (literals trail) i
+decision_at clauses trail i l grounded within is read =
+    let get = λ (e : Entry). e.literal in
+    let there : i < length trail = omega (arith, within, length-map trail get) in
+    record {
+      there = within;
+      at_end = reason_at clauses trail i l None grounded within is read;
+      free = λ d. rw (take-map get i trail, get_or-map get trail i some_entry d there) (grounded i some_entry there).free;
+    }
+
+-- the same of literals and a variable that were read
+pub reason_read : (clauses : List (List Literal)) (trail : List Entry) (lits : List Literal) (i v : ℕ) (l : Literal) (r : Option ℕ) → IsGrounded clauses trail → lits ≡ literals trail → i < length lits → l ≡ get_or lits i l → v ≡ l.var
+    → option_map (λ e. e.reason) (entry_of trail v) ≡ Some r → HasReason clauses (take i lits) l r
+reason_read clauses trail lits i v l r grounded are within is var read =
+    rw are (reason_at clauses trail i l r grounded (omega (arith, within, ap length are)) (is ∙ ap (λ (ls : List Literal). get_or ls i l) are)
+    (ap (λ (w : ℕ). option_map (λ (e : Entry). e.reason) (entry_of trail w)) (sym var) ∙ read))
+
+pub decision_read : (clauses : List (List Literal)) (trail : List Entry) (lits : List Literal) (i v : ℕ) (l : Literal) → IsGrounded clauses trail → lits ≡ literals trail → i < length lits → l ≡ get_or lits i l → v ≡ l.var
+    → option_map (λ e. e.reason) (entry_of trail v) ≡ Some None → IsDecisionAt clauses (literals trail) i
+decision_read clauses trail lits i v l grounded are within is var read =
+    decision_at clauses trail i l grounded (omega (arith, within, ap length are)) (is ∙ ap (λ (ls : List Literal). get_or ls i l) are)
+    (ap (λ (w : ℕ). option_map (λ (e : Entry). e.reason) (entry_of trail w)) (sym var) ∙ read)

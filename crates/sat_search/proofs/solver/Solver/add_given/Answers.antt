@@ -1,0 +1,9 @@
+use Rattle.std.proofs.Common.{sym, ap, subst}
+use Rattle.cnf_core.specs.Events.{LogState}
+use Rattle.sat_search.specs.Logs.{IsSound}
+use Rattle.sat_search.proofs.Continued.{sound_given}
+use Rattle.sat_search.proofs.solver.Solver.add_given.Goals as goal
+
+pub returns-clause-sound : goal.returns-clause-sound
+returns-clause-sound c =
+    subst (λ (x : LogState). IsSound x.events) (sym c.in_ok-self-inside.ensures.ok) (sound_given c.args.log.now.events c.args.clause c.requires.sound)

@@ -1,0 +1,4 @@
+pub mod View
+pub mod Logs
+pub mod SolverInside
+pub mod Analysis

@@ -1,0 +1,12 @@
+//! A SAT solver that learns from conflicts, and logs each clause that it learns with the clauses
+//! that show it.
+#![tactic(auto)]
+
+mod adding;
+mod learning;
+mod outcome;
+mod search;
+mod solver;
+
+pub use outcome::{Outcome, SolveError};
+pub use solver::Solver;

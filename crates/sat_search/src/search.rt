@@ -1,0 +1,144 @@
+//! The search: decisions up to a falsified clause, and a learnt clause for each.
+
+ghost use Rattle.std.specs.Prelude.{◌≡◌, ◌⊎◌, ℕ, ◌<◌, ◌≤◌, ◌∷◌, ◌++◌, [], length, All, IfOk, OnOk, IsNone, IsSome, IfSome};
+ghost use Rattle.cnf_core.specs.Events.{clauses_of, nonempty_steps, HintsAreThere};
+ghost use Rattle.sat_state.specs.Trail.{literals, value_of, NamesFalsified};
+ghost use Rattle.sat_state.specs.View.{IsPropagated};
+ghost use Rattle.sat_search.specs.Analysis.{IsKnown, AreInRange, AllHaveValues, KeepsValues};
+ghost use Rattle.sat_search.specs.Logs.{IsSound, IsContinued, HasEnded, IsAnswer, with_step};
+
+use crate::adding::copied;
+use crate::learning::{Explanation, explain};
+use crate::outcome::Outcome;
+use cnf_core::{Clause, Lit, Log};
+use ep_base::Memory;
+use sat_state::{Propagated, State};
+use std::alloc::Global;
+
+// Decides a variable if it has no value, and propagates. Answers the number of a clause that is falsified then.
+fn decide(state: &mut State, vars: u64, var: u64) -> Option<u64>
+    requires known { IsKnown vars state.old }
+    requires low { 1 ≤ var }
+    requires high { var ≤ vars }
+    requires propagated { IsPropagated state.old }
+    ensures clauses { state.new.clauses ≡ state.old.clauses }
+    ensures vars { state.new.vars ≡ state.old.vars }
+    ensures falsified { IfSome result (NamesFalsified state.new.clauses state.new.trail) }
+    ensures propagated { IsNone result → IsPropagated state.new }
+    ensures stays { KeepsValues state.old.trail state.new.trail }
+    ensures value { IsSome (value_of (literals state.new.trail) var) }
+{
+    if state.value(var).is_some() {
+        return None;
+    }
+    state.decide(Lit::new(var, false));
+    match state.propagate() {
+        Propagated::Conflict(number) => Some(number),
+        Propagated::Done => None,
+    }
+}
+
+// Propagates and decides until each variable has a value, or up to a falsified clause, whose number it answers.
+fn decide_all(state: &mut State, vars: u64) -> Option<u64>
+    requires known { IsKnown vars state.old }
+    ensures clauses { state.new.clauses ≡ state.old.clauses }
+    ensures vars { state.new.vars ≡ state.old.vars }
+    ensures falsified { IfSome result (NamesFalsified state.new.clauses state.new.trail) }
+    ensures propagated { IsNone result → IsPropagated state.new }
+    ensures values { IsNone result → AllHaveValues vars state.new.trail }
+{
+    if let Propagated::Conflict(number) = state.propagate() {
+        return Some(number);
+    }
+    for place in 0..vars {
+        let falsified = decide(state, vars, place + 1);
+        if falsified.is_some() {
+            return falsified;
+        }
+    }
+    None
+}
+
+// Appends the clause to the log as a step, and at level 0 to the clauses.
+fn append(
+    state: &mut State,
+    vars: u64,
+    clause: Clause,
+    hints: Vec<u64>,
+    log: &mut Log,
+) -> Result<(), Memory>
+    requires known { IsKnown vars state.old }
+    requires clauses { state.old.clauses ≡ clauses_of log.old.events }
+    requires range { AreInRange vars clause }
+    requires hints { HintsAreThere log.old.events hints.items }
+    ensures log { (log.new ≡ log.old) ⊎ (log.new ≡ with_step log.old clause hints.items) }
+    ensures logged { OnOk result (log.new ≡ with_step log.old clause hints.items) }
+    ensures known { OnOk result (IsKnown vars state.new) }
+    ensures clauses { OnOk result (state.new.clauses ≡ clauses_of log.new.events) }
+{
+    let copy = copied(&clause)?;
+    log.step(copy, hints)?;
+    state.backtrack(0);
+    state.add(clause)
+}
+
+// Explains a falsified clause, and learns what follows. Answers how the search ends, if it does.
+fn learn(
+    alloc: Global,
+    state: &mut State,
+    vars: u64,
+    number: u64,
+    budget: u64,
+    log: &mut Log,
+) -> Result<Option<Outcome>, Memory>
+    requires known { IsKnown vars state.old }
+    requires clauses { state.old.clauses ≡ clauses_of log.old.events }
+    requires falsified { NamesFalsified state.old.clauses state.old.trail number }
+    requires sound { IsSound log.old.events }
+    requires within { nonempty_steps log.old.events ≤ budget }
+    ensures continued { IsContinued budget log.old log.new }
+    ensures known { OnOk result (IsKnown vars state.new) }
+    ensures clauses { OnOk result (state.new.clauses ≡ clauses_of log.new.events) }
+    ensures more { IfOk result (λ ended. IsNone ended → nonempty_steps log.old.events < nonempty_steps log.new.events) }
+    ensures ended { IfOk result (λ ended. IfSome ended (HasEnded budget log.new.events)) }
+{
+    let Explanation { lits, hints } = explain(alloc, state, vars, number)?;
+    if lits.is_empty() {
+        append(state, vars, Clause::new(alloc, lits)?, hints, log)?;
+        Ok(Some(Outcome::Unsat))
+    } else if log.steps() == budget {
+        Ok(Some(Outcome::Spent))
+    } else {
+        append(state, vars, Clause::new(alloc, lits)?, hints, log)?;
+        Ok(None)
+    }
+}
+
+/// Searches until each variable has a value, the empty clause is logged, or the budget is spent.
+pub fn search(
+    alloc: Global,
+    state: &mut State,
+    vars: u64,
+    budget: u64,
+    log: &mut Log,
+) -> Result<Outcome, Memory>
+    requires known { IsKnown vars state.old }
+    requires clauses { state.old.clauses ≡ clauses_of log.old.events }
+    requires sound { IsSound log.old.events }
+    requires within { nonempty_steps log.old.events ≤ budget }
+    ensures continued { IsContinued budget log.old log.new }
+    ensures known { OnOk result (IsKnown vars state.new) }
+    ensures clauses { OnOk result (state.new.clauses ≡ clauses_of log.new.events) }
+    ensures answer { IfOk result (IsAnswer budget (literals state.new.trail) log.new.events) }
+{
+    'conflicts: loop {
+        match decide_all(state, vars) {
+            None => return Ok(Outcome::Sat),
+            Some(number) => {
+                if let Some(outcome) = learn(alloc, state, vars, number, budget, log)? {
+                    return Ok(outcome);
+                }
+            }
+        }
+    }
+}
