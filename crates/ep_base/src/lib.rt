@@ -2,7 +2,13 @@
 #![tactic(auto)]
 
 mod errors;
+mod names;
+mod operators;
 mod places;
+mod tokens;
 
 pub use errors::Memory;
+pub use names::Name;
+pub use operators::{CompareOp, Key, LexOp, Limit, Sense};
 pub use places::Place;
+pub use tokens::{Token, TokenKind};

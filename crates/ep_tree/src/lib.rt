@@ -1,0 +1,12 @@
+//! The trees of the language, its values, and the definitions of what a text means.
+#![tactic(auto)]
+
+mod statements;
+mod syntax;
+mod values;
+
+pub use statements::{Declared, Model, Objective, Params, Statement, StatementKind};
+pub use syntax::{
+    BinaryOp, Domain, DomainKind, Expr, FoldOp, Generator, Kind, QuantOp, Range, SetOp,
+};
+pub use values::{Assignment, Entry, Mode, Scalar, Value, ValueType};
