@@ -15,10 +15,7 @@ pub enum ValueType {
     Bool,
     Int,
     /// A matrix of this many dimensions.
-    Matrix {
-        dims: u64,
-        of: Scalar,
-    },
+    Matrix { dims: u64, of: Scalar },
     /// The literal without parts, which is of every matrix type.
     Empty,
 }
