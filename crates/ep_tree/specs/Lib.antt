@@ -1,2 +1,4 @@
 pub mod Trees
 pub mod Heights
+pub mod Phrases
+pub mod Spelling
