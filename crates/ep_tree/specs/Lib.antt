@@ -2,3 +2,8 @@ pub mod Trees
 pub mod Heights
 pub mod Phrases
 pub mod Spelling
+pub mod Statements
+pub mod StatementSpelling
+pub mod Reading
+pub mod Types
+pub mod Faults
