@@ -6,7 +6,7 @@ use Rattle.std.specs.Prelude.{◌≡◌, Bool, true, false, not, ◌&&◌, ◌||
 use Rattle.ep_base.specs.declared.names.Name.{Name}
 use Rattle.ep_base.specs.declared.places.Place.{Place}
 use Rattle.ep_tree.specs.Statements.{Group, StatementTree, TextTree, branching, constraints, decided, domain_letting, given, heuristic, letting, objective, requirements}
-use Rattle.ep_tree.specs.Trees.{DomainTree, Domains, End, Generators, IndexDomain, Indices, Ranges, Terms, Tree, Trees, absolute, all_different, all_of, any_of, at_least, at_most, binary, bool, chain, compare, comprehension, domain_and, end_at, every_and, factorial, flatten, folded, gcc, generator_and, group, group_domain, in_domain, in_set, index_and, int, lex, literal, matrix_domain, minus, named, named_domain, negation, no_domains, no_end, no_generators, no_indices, no_ranges, no_terms, no_trees, number, one_and, over, quantified, ranges, read, set_domain, span_and, table, term_and, to_int, tree_and, truth, unstated}
+use Rattle.ep_tree.specs.Trees.{DomainTree, Domains, End, ExprTree, ExprTrees, Generators, IndexDomain, Indices, Ranges, Terms, absolute, all_different, all_of, any_of, at_least, at_most, binary, bool, chain, compare, comprehension, domain_and, end_at, every_and, factorial, flatten, folded, gcc, generator_and, group, group_domain, in_domain, in_set, index_and, int, lex, literal, matrix_domain, minus, named, named_domain, negation, no_domains, no_end, no_generators, no_indices, no_ranges, no_terms, no_trees, number, one_and, over, quantified, ranges, read, set_domain, span_and, table, term_and, to_int, tree_and, truth, unstated}
 use Rattle.ep_tree.specs.Types.{Context, Judged, Meaning, a_domain, a_value, from_one, gives, inside, is_boolean, is_integer, is_matrix, judge, judge_domain, meaning_of, mistyped, quantified_name, type_from, typed, untyped}
 use Rattle.ep_tree.specs.declared.syntax.BinaryOp.{BinaryOp}
 use Rattle.ep_tree.specs.declared.values.ValueType.{ValueType}
@@ -20,7 +20,7 @@ pub data Fault : Type 0 where
   open_domain : Place → Fault
 
 -- the place of an expression's first token
-unfoldable pub place_of : Tree → Place
+unfoldable pub place_of : ExprTree → Place
 place_of (number p _) = p
 place_of (truth p _) = p
 place_of (named p _) = p
@@ -102,7 +102,7 @@ is_power _ = false
 
 unfoldable mutual
   -- the faults of an expression, which stands where a decision variable may stand or where none may
-  pub faults : Context → Bool → Tree → List Fault
+  pub faults : Context → Bool → ExprTree → List Fault
   faults context decisions (number _ _) = []
   faults context decisions (truth _ _) = []
   faults context decisions (named p name) = name_faults decisions p name (meaning_of context name)
@@ -183,7 +183,7 @@ unfoldable mutual
       type_fault p (judge_domain context (matrix_domain p ds d)) ++ faults_of_domains context ds
       ++ domain_faults context may_open d
 
-  pub faults_of_all : Context → Bool → Trees → List Fault
+  pub faults_of_all : Context → Bool → ExprTrees → List Fault
   faults_of_all context decisions no_trees = []
   faults_of_all context decisions (tree_and e es) = faults context decisions e ++ faults_of_all context decisions es
 
@@ -250,7 +250,7 @@ after_groups context decisions (g ∷ groups) =
     after_groups (declare g.names (a_value (type_from (judge_domain context g.domain)) decisions) context) decisions groups
 
 -- a clause is Boolean, and an objective integer
-unfoldable pub clause_faults : Context → Bool → List Tree → List Fault
+unfoldable pub clause_faults : Context → Bool → List ExprTree → List Fault
 clause_faults context decisions [] = []
 clause_faults context decisions (e ∷ es) =
     type_fault (place_of e) (from_one (judge context e) (λ t. gives t (is_boolean t)))
@@ -262,7 +262,7 @@ stated_faults context None = []
 stated_faults context (Some d) = domain_faults context false d
 
 -- the type of a letting's name: that of its domain where it states one, else that of its expression
-unfoldable pub letting_type : Context → Option DomainTree → Tree → Option ValueType
+unfoldable pub letting_type : Context → Option DomainTree → ExprTree → Option ValueType
 letting_type context None e = type_from (judge context e)
 letting_type context (Some d) e = type_from (judge_domain context d)
 

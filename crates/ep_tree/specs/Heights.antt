@@ -1,10 +1,10 @@
 -- The height of a tree.
 use Rattle.std.specs.Prelude.{ℕ, ◌+◌, max}
-use Rattle.ep_tree.specs.Trees.{Tree, DomainTree, Trees, Terms, Indices, Ranges, End, Domains, Generators, IndexDomain, number, truth, named, group, negation, minus, absolute, to_int, factorial, flatten, chain, binary, compare, lex, in_domain, in_set, all_of, any_of, quantified, literal, comprehension, read, folded, all_different, gcc, at_least, at_most, table, bool, int, ranges, named_domain, group_domain, set_domain, matrix_domain, no_trees, tree_and, no_terms, term_and, no_indices, every_and, index_and, no_ranges, one_and, span_and, no_end, end_at, no_domains, domain_and, no_generators, generator_and, unstated, over}
+use Rattle.ep_tree.specs.Trees.{DomainTree, Domains, End, ExprTree, ExprTrees, Generators, IndexDomain, Indices, Ranges, Terms, absolute, all_different, all_of, any_of, at_least, at_most, binary, bool, chain, compare, comprehension, domain_and, end_at, every_and, factorial, flatten, folded, gcc, generator_and, group, group_domain, in_domain, in_set, index_and, int, lex, literal, matrix_domain, minus, named, named_domain, negation, no_domains, no_end, no_generators, no_indices, no_ranges, no_terms, no_trees, number, one_and, over, quantified, ranges, read, set_domain, span_and, table, term_and, to_int, tree_and, truth, unstated}
 
 unfoldable mutual
   -- the height of an expression: one more than its highest part, or 1 where it has no part
-  pub height : Tree → ℕ
+  pub height : ExprTree → ℕ
   height (number _ _) = 1
   height (truth _ _) = 1
   height (named _ _) = 1
@@ -46,7 +46,7 @@ unfoldable mutual
   domain_height (matrix_domain _ ds d) = 1 + max (highest_domain ds) (domain_height d)
 
   -- the height of the highest of some expressions, and 0 for none
-  pub highest : Trees → ℕ
+  pub highest : ExprTrees → ℕ
   highest no_trees = 0
   highest (tree_and e es) = max (height e) (highest es)
 

@@ -7,3 +7,7 @@ pub mod StatementSpelling
 pub mod Reading
 pub mod Types
 pub mod Faults
+pub mod Values
+pub mod Domains
+pub mod Environments
+pub mod Evaluation

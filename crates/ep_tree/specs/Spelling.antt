@@ -10,8 +10,9 @@ use Rattle.ep_base.specs.declared.operators.CompareOp.{CompareOp}
 use Rattle.ep_base.specs.declared.operators.LexOp.{LexOp}
 use Rattle.ep_base.specs.declared.places.Place.{Place}
 use Prim.Native.String.{String}
+use Rattle.ep_tree.specs.Evaluation.{joined}
 use Rattle.ep_tree.specs.Phrases.{Choice, From, Is, Names, Nothing, Phrase, Says, Silence, When, a_name, a_number, ◌followed_by◌, ◌or_else◌}
-use Rattle.ep_tree.specs.Trees.{DomainTree, Domains, End, Generators, IndexDomain, Indices, Ranges, Terms, Tree, Trees, absolute, all_different, all_of, any_of, at_least, at_most, binary, bool, chain, compare, comprehension, domain_and, end_at, every_and, factorial, flatten, folded, gcc, generator_and, group, group_domain, in_domain, in_set, index_and, int, lex, literal, matrix_domain, minus, named, named_domain, negation, no_domains, no_end, no_generators, no_indices, no_ranges, no_terms, no_trees, number, one_and, over, quantified, ranges, read, set_domain, span_and, table, term_and, to_int, tree_and, truth, unstated}
+use Rattle.ep_tree.specs.Trees.{DomainTree, Domains, End, ExprTree, ExprTrees, Generators, IndexDomain, Indices, Ranges, Terms, absolute, all_different, all_of, any_of, at_least, at_most, binary, bool, chain, compare, comprehension, domain_and, end_at, every_and, factorial, flatten, folded, gcc, generator_and, group, group_domain, in_domain, in_set, index_and, int, lex, literal, matrix_domain, minus, named, named_domain, negation, no_domains, no_end, no_generators, no_indices, no_ranges, no_terms, no_trees, number, one_and, over, quantified, ranges, read, set_domain, span_and, table, term_and, to_int, tree_and, truth, unstated}
 use Rattle.ep_tree.specs.declared.syntax.BinaryOp.{BinaryOp}
 use Rattle.ep_tree.specs.declared.syntax.FoldOp.{FoldOp}
 use Rattle.ep_tree.specs.declared.syntax.QuantOp.{QuantOp}
@@ -119,7 +120,7 @@ unfoldable pub has_terms : Terms → Bool
 has_terms no_terms = false
 has_terms (term_and _ _ _) = true
 
-unfoldable pub has_trees : Trees → Bool
+unfoldable pub has_trees : ExprTrees → Bool
 has_trees no_trees = false
 has_trees (tree_and _ _) = true
 
@@ -143,7 +144,7 @@ has_generators (generator_and _ _ _) = true
 
 -- whether the last part of an expression is a quantifier without brackets around it
 unfoldable mutual
-  pub ends_open : Tree → Bool
+  pub ends_open : ExprTree → Bool
   ends_open (negation _ e) = ends_open e
   ends_open (minus _ e) = ends_open e
   ends_open (chain _ terms) = terms_end_open terms
@@ -161,16 +162,16 @@ unfoldable mutual
   terms_end_open no_terms = false
   terms_end_open (term_and _ e terms) = if has_terms terms then terms_end_open terms else ends_open e
 
-  pub trees_end_open : Trees → Bool
+  pub trees_end_open : ExprTrees → Bool
   trees_end_open no_trees = false
   trees_end_open (tree_and e es) = if has_trees es then trees_end_open es else ends_open e
 
 -- an operand that an operator follows: what would belong to the body of a bare quantifier can't follow one
-abbrev pub Operand : Tree → Phrase → Phrase
+abbrev pub Operand : ExprTree → Phrase → Phrase
 Operand e phrase = When (not (ends_open e)) phrase
 
 -- an operand that an operator follows where more operands do
-abbrev pub OperandBefore : Bool → Tree → Phrase → Phrase
+abbrev pub OperandBefore : Bool → ExprTree → Phrase → Phrase
 OperandBefore others e phrase = When (not (others && ends_open e)) phrase
 
 -- whether some indices have a `..`
@@ -181,7 +182,7 @@ has_every (index_and _ indices) = has_every indices
 
 -- Whether an expression may stand before a bracket group that isn't joined with a group before: all but a read
 -- without `..`, whose group is joined with the one that follows it.
-unfoldable pub takes_own_group : Tree → Bool
+unfoldable pub takes_own_group : ExprTree → Bool
 takes_own_group (read _ m indices) = has_every indices
 takes_own_group _ = true
 
@@ -209,7 +210,7 @@ abbrev pub Infix : String → Phrase → Phrase → Phrase
 Infix word a b = a followed_by Says word followed_by b
 
 -- a binary node where a level is asked for, given the phrases of its parts at each level
-unfoldable pub SpellsBinary : Level → Place → BinaryOp → Tree → (Level → Phrase) → (Level → Phrase) → Phrase
+unfoldable pub SpellsBinary : Level → Place → BinaryOp → ExprTree → (Level → Phrase) → (Level → Phrase) → Phrase
 SpellsBinary asked p BinaryOp.Mul e a b = Node asked products p (Infix "*" (Operand e (a products)) (b powers))
 SpellsBinary asked p BinaryOp.Div e a b = Node asked products p (Infix "/" (Operand e (a products)) (b powers))
 SpellsBinary asked p BinaryOp.Mod e a b = Node asked products p (Infix "%" (Operand e (a products)) (b powers))
@@ -223,7 +224,7 @@ SpellsBinary asked p BinaryOp.Iff e a b =
 
 unfoldable mutual
   -- The tokens spell an expression that stands where a level is asked for.
-  pub Spells : Level → Tree → Phrase
+  pub Spells : Level → ExprTree → Phrase
   Spells asked (number p n) = Node asked primaries p (Is (a_number n))
   Spells asked (truth p b) = Node asked primaries p (Says (truth_word b))
   Spells asked (named p name) = Node asked primaries p (Is (a_name name))
@@ -296,24 +297,24 @@ unfoldable mutual
       Says (sign_word plus) followed_by OperandBefore (has_terms terms) e (Spells products e) followed_by SpellsTerms terms
 
   -- a chain of parts with a word between any two: two parts or more
-  pub SpellsParts : String → Level → Trees → Phrase
+  pub SpellsParts : String → Level → ExprTrees → Phrase
   SpellsParts word level no_trees = Nothing
   SpellsParts word level (tree_and e es) =
       When (has_trees es) (Operand e (Spells level e) followed_by SpellsMoreParts word level es)
 
   -- the further parts of such a chain, each with the word before it
-  pub SpellsMoreParts : String → Level → Trees → Phrase
+  pub SpellsMoreParts : String → Level → ExprTrees → Phrase
   SpellsMoreParts word level no_trees = Silence
   SpellsMoreParts word level (tree_and e es) =
       Says word followed_by OperandBefore (has_trees es) e (Spells level e) followed_by SpellsMoreParts word level es
 
   -- expressions with commas between them, or none
-  pub SpellsList : Trees → Phrase
+  pub SpellsList : ExprTrees → Phrase
   SpellsList no_trees = Silence
   SpellsList (tree_and e es) = Spells implications e followed_by SpellsConditions es
 
   -- expressions with a comma before each, or none: the conditions of a comprehension
-  pub SpellsConditions : Trees → Phrase
+  pub SpellsConditions : ExprTrees → Phrase
   SpellsConditions no_trees = Silence
   SpellsConditions (tree_and e es) = Says "," followed_by Spells implications e followed_by SpellsConditions es
 

@@ -11,14 +11,14 @@ use Prim.Native.String.{String}
 use Rattle.ep_tree.specs.Phrases.{From, Is, Nothing, Phrase, PlacedNames, Says, Silence, When, a_name, a_number, ◌followed_by◌, ◌or_else◌}
 use Rattle.ep_tree.specs.Spelling.{Spells, SpellsDomain, domains, implications}
 use Rattle.ep_tree.specs.Statements.{Group, StatementTree, TextTree, branching, constraints, decided, domain_letting, given, heuristic, letting, objective, requirements}
-use Rattle.ep_tree.specs.Trees.{DomainTree, Tree}
+use Rattle.ep_tree.specs.Trees.{DomainTree, ExprTree}
 
 -- a word that has two spellings
 abbrev pub SaysEither : String → String → Phrase
 SaysEither one other = Says one or_else Says other
 
 -- expressions with commas between them, or none; a comma may stand behind the last
-unfoldable pub SpellsExpressions : List Tree → Phrase
+unfoldable pub SpellsExpressions : List ExprTree → Phrase
 SpellsExpressions [] = Silence
 SpellsExpressions (e ∷ []) = Spells implications e followed_by (Silence or_else Says ",")
 SpellsExpressions (e ∷ other ∷ es) = Spells implications e followed_by Says "," followed_by SpellsExpressions (other ∷ es)

@@ -4,7 +4,7 @@ use Rattle.ep_base.specs.declared.names.Name.{Name}
 use Rattle.ep_base.specs.declared.operators.Sense.{Sense}
 use Rattle.ep_base.specs.declared.places.Place.{Place}
 use Rattle.ep_tree.specs.Heights.{domain_height, height}
-use Rattle.ep_tree.specs.Trees.{DomainTree, Tree}
+use Rattle.ep_tree.specs.Trees.{DomainTree, ExprTree}
 
 -- names that are declared together, each with its place, and their domain
 pub record Group : Type 0 where
@@ -15,11 +15,11 @@ pub record Group : Type 0 where
 pub data StatementTree : Type 0 where
   given : Place → List Group → StatementTree
   decided : Place → List Group → StatementTree
-  letting : Place → Name → Place → Option DomainTree → Tree → StatementTree
+  letting : Place → Name → Place → Option DomainTree → ExprTree → StatementTree
   domain_letting : Place → Name → Place → DomainTree → StatementTree
-  requirements : Place → List Tree → StatementTree
-  constraints : Place → List Tree → StatementTree
-  objective : Place → Sense → Tree → StatementTree
+  requirements : Place → List ExprTree → StatementTree
+  constraints : Place → List ExprTree → StatementTree
+  objective : Place → Sense → ExprTree → StatementTree
   branching : Place → List (Name × Place) → StatementTree
   heuristic : Place → Name → StatementTree
 
@@ -28,7 +28,7 @@ abbrev pub TextTree : Type 0
 TextTree = List StatementTree
 
 -- the height of the highest of some expressions, and 0 for none
-unfoldable pub highest_of : List Tree → ℕ
+unfoldable pub highest_of : List ExprTree → ℕ
 highest_of [] = 0
 highest_of (e ∷ es) = max (height e) (highest_of es)
 

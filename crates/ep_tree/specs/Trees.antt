@@ -2,11 +2,11 @@
 --
 -- The definitions of the language stand over these trees. They have what the program's own trees have, the place of
 -- the first token of each expression and domain among it, but no pointers and no capacities.
-use Rattle.std.specs.Prelude.{Bool, ℤ, List}
+use Rattle.std.specs.Prelude.{Bool, List, ℤ}
 use Rattle.ep_base.specs.declared.names.Name.{Name}
-use Rattle.ep_base.specs.declared.places.Place.{Place}
 use Rattle.ep_base.specs.declared.operators.CompareOp.{CompareOp}
 use Rattle.ep_base.specs.declared.operators.LexOp.{LexOp}
+use Rattle.ep_base.specs.declared.places.Place.{Place}
 use Rattle.ep_tree.specs.declared.syntax.BinaryOp.{BinaryOp}
 use Rattle.ep_tree.specs.declared.syntax.FoldOp.{FoldOp}
 use Rattle.ep_tree.specs.declared.syntax.QuantOp.{QuantOp}
@@ -14,35 +14,35 @@ use Rattle.ep_tree.specs.declared.syntax.SetOp.{SetOp}
 
 mutual
   -- an expression
-  pub data Tree : Type 0 where
-    number : Place → ℤ → Tree
-    truth : Place → Bool → Tree
-    named : Place → Name → Tree
-    group : Place → Tree → Tree
-    negation : Place → Tree → Tree
-    minus : Place → Tree → Tree
-    absolute : Place → Tree → Tree
-    to_int : Place → Tree → Tree
-    factorial : Place → Tree → Tree
-    flatten : Place → Tree → Tree
-    chain : Place → Terms → Tree
-    binary : Place → BinaryOp → Tree → Tree → Tree
-    compare : Place → CompareOp → Tree → Tree → Tree
-    lex : Place → LexOp → Tree → Tree → Tree
-    in_domain : Place → Tree → DomainTree → Tree
-    in_set : Place → Tree → Tree → Tree
-    all_of : Place → Trees → Tree
-    any_of : Place → Trees → Tree
-    quantified : Place → QuantOp → List Name → DomainTree → Tree → Tree
-    literal : Place → Trees → IndexDomain → Tree
-    comprehension : Place → Tree → Generators → Trees → IndexDomain → Tree
-    read : Place → Tree → Indices → Tree
-    folded : Place → FoldOp → Tree → Tree
-    all_different : Place → Tree → Tree
-    gcc : Place → Tree → Tree → Tree → Tree
-    at_least : Place → Tree → Tree → Tree → Tree
-    at_most : Place → Tree → Tree → Tree → Tree
-    table : Place → Tree → Tree → Tree
+  pub data ExprTree : Type 0 where
+    number : Place → ℤ → ExprTree
+    truth : Place → Bool → ExprTree
+    named : Place → Name → ExprTree
+    group : Place → ExprTree → ExprTree
+    negation : Place → ExprTree → ExprTree
+    minus : Place → ExprTree → ExprTree
+    absolute : Place → ExprTree → ExprTree
+    to_int : Place → ExprTree → ExprTree
+    factorial : Place → ExprTree → ExprTree
+    flatten : Place → ExprTree → ExprTree
+    chain : Place → Terms → ExprTree
+    binary : Place → BinaryOp → ExprTree → ExprTree → ExprTree
+    compare : Place → CompareOp → ExprTree → ExprTree → ExprTree
+    lex : Place → LexOp → ExprTree → ExprTree → ExprTree
+    in_domain : Place → ExprTree → DomainTree → ExprTree
+    in_set : Place → ExprTree → ExprTree → ExprTree
+    all_of : Place → ExprTrees → ExprTree
+    any_of : Place → ExprTrees → ExprTree
+    quantified : Place → QuantOp → List Name → DomainTree → ExprTree → ExprTree
+    literal : Place → ExprTrees → IndexDomain → ExprTree
+    comprehension : Place → ExprTree → Generators → ExprTrees → IndexDomain → ExprTree
+    read : Place → ExprTree → Indices → ExprTree
+    folded : Place → FoldOp → ExprTree → ExprTree
+    all_different : Place → ExprTree → ExprTree
+    gcc : Place → ExprTree → ExprTree → ExprTree → ExprTree
+    at_least : Place → ExprTree → ExprTree → ExprTree → ExprTree
+    at_most : Place → ExprTree → ExprTree → ExprTree → ExprTree
+    table : Place → ExprTree → ExprTree → ExprTree
 
   -- a domain
   pub data DomainTree : Type 0 where
@@ -55,31 +55,31 @@ mutual
     matrix_domain : Place → Domains → DomainTree → DomainTree
 
   -- expressions in their order
-  pub data Trees : Type 0 where
-    no_trees : Trees
-    tree_and : Tree → Trees → Trees
+  pub data ExprTrees : Type 0 where
+    no_trees : ExprTrees
+    tree_and : ExprTree → ExprTrees → ExprTrees
 
   -- the parts of a chain of sums, each with whether it is added rather than taken away
   pub data Terms : Type 0 where
     no_terms : Terms
-    term_and : Bool → Tree → Terms → Terms
+    term_and : Bool → ExprTree → Terms → Terms
 
   -- the indices of a read, where `every_and` stands for `..`
   pub data Indices : Type 0 where
     no_indices : Indices
     every_and : Indices → Indices
-    index_and : Tree → Indices → Indices
+    index_and : ExprTree → Indices → Indices
 
   -- the ranges of an `int` domain: one number, or all from one end to another
   pub data Ranges : Type 0 where
     no_ranges : Ranges
-    one_and : Tree → Ranges → Ranges
+    one_and : ExprTree → Ranges → Ranges
     span_and : End → End → Ranges → Ranges
 
   -- an end of a range, which may be left out
   pub data End : Type 0 where
     no_end : End
-    end_at : Tree → End
+    end_at : ExprTree → End
 
   -- domains in their order
   pub data Domains : Type 0 where

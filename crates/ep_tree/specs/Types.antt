@@ -6,7 +6,7 @@
 use Rattle.std.specs.Prelude.{ℕ, zero, suc, ◌+◌, ◌-◌, Bool, true, false, not, ◌&&◌, List, [], ◌∷◌, ◌++◌, length, if◌then◌else◌, nat_le, ◌==◌, Some, None, bytes_eq, Option, option_map}
 use Rattle.std.specs.List.{list_all}
 use Rattle.ep_base.specs.declared.names.Name.{Name}
-use Rattle.ep_tree.specs.Trees.{DomainTree, Domains, End, Generators, IndexDomain, Indices, Ranges, Terms, Tree, Trees, absolute, all_different, all_of, any_of, at_least, at_most, binary, bool, chain, compare, comprehension, domain_and, end_at, every_and, factorial, flatten, folded, gcc, generator_and, group, group_domain, in_domain, in_set, index_and, int, lex, literal, matrix_domain, minus, named, named_domain, negation, no_domains, no_end, no_generators, no_indices, no_ranges, no_terms, no_trees, number, one_and, over, quantified, ranges, read, set_domain, span_and, table, term_and, to_int, tree_and, truth, unstated}
+use Rattle.ep_tree.specs.Trees.{DomainTree, Domains, End, ExprTree, ExprTrees, Generators, IndexDomain, Indices, Ranges, Terms, absolute, all_different, all_of, any_of, at_least, at_most, binary, bool, chain, compare, comprehension, domain_and, end_at, every_and, factorial, flatten, folded, gcc, generator_and, group, group_domain, in_domain, in_set, index_and, int, lex, literal, matrix_domain, minus, named, named_domain, negation, no_domains, no_end, no_generators, no_indices, no_ranges, no_terms, no_trees, number, one_and, over, quantified, ranges, read, set_domain, span_and, table, term_and, to_int, tree_and, truth, unstated}
 use Rattle.ep_tree.specs.declared.syntax.BinaryOp.{BinaryOp}
 use Rattle.ep_tree.specs.declared.syntax.FoldOp.{FoldOp}
 use Rattle.ep_tree.specs.declared.syntax.QuantOp.{QuantOp}
@@ -251,7 +251,7 @@ judge_comprehension index parts =
 
 unfoldable mutual
   -- what the rules say of an expression
-  pub judge : Context → Tree → Judged
+  pub judge : Context → ExprTree → Judged
   judge context (number _ _) = typed ValueType.Int
   judge context (truth _ _) = typed ValueType.Bool
   judge context (named _ name) = named_type (meaning_of context name)
@@ -320,7 +320,7 @@ unfoldable mutual
       from_one (judge_domain context d) (λ t. from_many (judge_domains context ds) (λ ts. matrix_type ts t))
 
   -- the same of each of some expressions
-  pub judge_all : Context → Trees → List Judged
+  pub judge_all : Context → ExprTrees → List Judged
   judge_all context no_trees = []
   judge_all context (tree_and e es) = judge context e ∷ judge_all context es
 
