@@ -11,3 +11,4 @@ pub mod Values
 pub mod Domains
 pub mod Environments
 pub mod Evaluation
+pub mod Reach
