@@ -12,3 +12,6 @@ pub mod Domains
 pub mod Environments
 pub mod Evaluation
 pub mod Reach
+pub mod Measures
+pub mod Binding
+pub mod Solutions

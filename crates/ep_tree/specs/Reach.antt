@@ -2,9 +2,8 @@
 --
 -- The reach of an expression is an interval that holds each of its defined values. All of these measures are this
 -- project's own.
-use Rattle.std.specs.Prelude.{ℕ, zero, suc, Bool, true, false, ◌&&◌, ◌||◌, List, [], ◌∷◌, ◌++◌, map, length, ℤ, pos, negsuc, ◌-ℤ◌, ◌*ℤ◌, neg_ℤ, if◌then◌else◌, ◌==◌, int_le, Some, None, fold, Option, unwrap_or, option_map}
+use Rattle.std.specs.Prelude.{ℕ, zero, suc, Bool, true, false, ◌&&◌, ◌||◌, List, [], ◌∷◌, ◌++◌, map, length, ℤ, pos, negsuc, ◌-ℤ◌, ◌*ℤ◌, neg_ℤ, if◌then◌else◌, ◌==◌, int_le, Some, None, fold, flat_map, Option, unwrap_or, option_map}
 use Rattle.std.specs.Int.{int_max, int_min}
-use Rattle.std.specs.List.{flat_map}
 use Rattle.std.specs.Ordering.{int_eq}
 use Rattle.ep_base.specs.Numbers.{absolute_of, all_one, greatest_of, least_of, nth_power, of_bool, sum_of}
 use Rattle.ep_base.specs.declared.names.Name.{Name}
