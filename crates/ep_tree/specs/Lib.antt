@@ -15,3 +15,4 @@ pub mod Reach
 pub mod Measures
 pub mod Binding
 pub mod Solutions
+pub mod Views
