@@ -1,2 +1,2 @@
 pub mod Opened
-mod VectorsTry
+pub mod ViewLemmas
