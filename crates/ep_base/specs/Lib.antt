@@ -1,1 +1,5 @@
 pub mod Numbers
+pub mod Calls
+pub mod MemoryDevices
+pub mod Outside
+pub mod Runs

@@ -19,12 +19,16 @@ impl fmt::Display for Memory {
 impl Error for Memory {}
 
 impl From<AllocError> for Memory {
+    ghost from_gives = { λ _ error. error ≡ record {} };
+
     fn from(_refused: AllocError) -> Memory {
         Memory
     }
 }
 
 impl<T: Drop> From<AllocFailed<T>> for Memory {
+    ghost from_gives = { λ _ error. error ≡ record {} };
+
     fn from(_refused: AllocFailed<T>) -> Memory {
         Memory
     }

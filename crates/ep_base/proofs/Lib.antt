@@ -1,0 +1,3 @@
+pub mod PutSteps
+pub mod Contents
+pub mod RunSteps

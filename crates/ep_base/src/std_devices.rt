@@ -1,0 +1,184 @@
+//! The trusted edge: the files of the system and its standard output, as devices that tell nothing of
+//! their contents.
+
+ghost use Rattle.std.specs.Prelude.{◌≡◌, ◌+◌, ◌≤◌, length, vec_len, IfOk};
+
+use crate::{FileError, Files, PutError, Sink};
+use std::alloc::{AllocError, Global};
+use std::io::{ErrorKind, Read, Write};
+use std::marker::Model;
+use std::rt::Files as HostFiles;
+use std::{fs, io};
+
+/// How many bytes one read of a file asks for at most.
+const CHUNK: usize = 65536;
+
+/// The files of the system. Contracts see the count of its faults: each error of the system is one, a
+/// missing file included, and a write that takes no byte.
+#[derive(Drop)]
+pub struct StdFiles<R> {
+    rt: R,
+    faults: u64,
+}
+
+impl<R> Model for StdFiles<R> {
+    ghost use Rattle.std.specs.Prelude.{ℕ};
+
+    ghost Value = { ℕ };
+
+    ghost view = { λ files. files.faults };
+}
+
+impl<R> StdFiles<R> {
+    /// No fault was counted.
+    pub fn new(rt: R) -> StdFiles<R>
+        ensures none { result ≡ 0 }
+    {
+        StdFiles { rt, faults: 0 }
+    }
+}
+
+impl<R: HostFiles + Drop> Files for StdFiles<R> {
+    ghost use Rattle.std.specs.Prelude.{None};
+
+    ghost held = { λ _. None };
+
+    ghost faults = { λ count. count };
+
+    fn read(
+        &mut self,
+        alloc: Global,
+        name: &str,
+        at_most: u64,
+    ) -> Result<Option<Vec<u8>>, FileError> {
+        let faults = self.faults;
+        let answer = read_file(&self.rt, alloc, name, at_most);
+        self.faults = match answer {
+            Err(FileError::Failed) => faults.saturating_add(1),
+            _ => faults,
+        };
+        Ok(Some(answer?))
+    }
+
+    fn write(&mut self, name: &str, bytes: &[u8]) -> Result<(), FileError> {
+        let faults = self.faults;
+        if write_file(&self.rt, name, bytes).is_ok() {
+            return Ok(());
+        }
+        self.faults = faults.saturating_add(1);
+        Err(FileError::Failed)
+    }
+}
+
+/// The first bytes of a file.
+fn read_file<R: HostFiles>(
+    rt: &R,
+    alloc: Global,
+    name: &str,
+    at_most: u64,
+) -> Result<Vec<u8>, FileError>
+    ensures within { IfOk result (λ bytes. length bytes.items ≤ at_most) }
+{
+    let Ok(mut file) = fs::open(rt, name) else {
+        return Err(FileError::Failed);
+    };
+    let mut buffer = zeros(alloc, CHUNK)?;
+    let mut bytes = Vec::new(alloc);
+    while (bytes.len() as u64) < at_most {
+        let left = at_most - bytes.len() as u64;
+        if append_some(&mut file, &mut buffer, &mut bytes, left)? == 0 {
+            break;
+        }
+    }
+    Ok(bytes)
+}
+
+/// A buffer of so many bytes.
+fn zeros(alloc: Global, count: usize) -> Result<Vec<u8>, AllocError> {
+    vec![in alloc; 0u8; count]
+}
+
+/// Reads once, and appends what was read.
+fn append_some<F: Read>(
+    file: &mut F,
+    buffer: &mut [u8],
+    bytes: &mut Vec<u8>,
+    left: u64,
+) -> Result<usize, FileError>
+    ensures appended { IfOk result (λ count. vec_len bytes.new ≡ vec_len bytes.old + count) }
+    ensures within { IfOk result (λ count. count ≤ left) }
+{
+    let asked = left.min(buffer.len() as u64) as usize;
+    let count = read_some(file, &mut buffer[..asked])?;
+    bytes.extend_from_slice(&buffer[..count])?;
+    Ok(count)
+}
+
+/// Reads once.
+fn read_some<F: Read>(file: &mut F, buffer: &mut [u8]) -> Result<usize, FileError>
+    ensures within { IfOk result (λ count. count ≤ length buffer.old) }
+{
+    match file.read(buffer) {
+        Ok(count) => Ok(count),
+        Err(_) => Err(FileError::Failed),
+    }
+}
+
+/// Makes a file hold these bytes and no others.
+fn write_file<R: HostFiles>(rt: &R, name: &str, bytes: &[u8]) -> io::Result<()> {
+    let mut file = fs::create(rt, name)?;
+    let mut rest = bytes;
+    while !rest.is_empty() {
+        let count = file.write(rest)?;
+        if count == 0 {
+            return Err(ErrorKind::WriteZero.into());
+        }
+        rest = &rest[count..];
+    }
+    Ok(())
+}
+
+/// Standard output. Contracts see the count of its faults: each error of the system is one, and a write
+/// that takes no byte.
+#[derive(Drop)]
+pub struct StdSink<R> {
+    rt: R,
+    faults: u64,
+}
+
+impl<R> Model for StdSink<R> {
+    ghost use Rattle.std.specs.Prelude.{ℕ};
+
+    ghost Value = { ℕ };
+
+    ghost view = { λ sink. sink.faults };
+}
+
+impl<R> StdSink<R> {
+    /// No fault was counted.
+    pub fn new(rt: R) -> StdSink<R>
+        ensures none { result ≡ 0 }
+    {
+        StdSink { rt, faults: 0 }
+    }
+}
+
+impl<R: Print + Drop> Sink for StdSink<R> {
+    ghost use Rattle.std.specs.Prelude.{None};
+
+    ghost taken = { λ _. None };
+
+    ghost faults = { λ count. count };
+
+    /// Writes to standard output once.
+    fn put(&mut self, piece: &[u8]) -> Result<usize, PutError> {
+        let faults = self.faults;
+        match self.rt.write_some(piece) {
+            Ok(count) if count > 0 => Ok(count),
+            _ => {
+                self.faults = faults.saturating_add(1);
+                Err(PutError::Failed)
+            }
+        }
+    }
+}
