@@ -1,3 +1,4 @@
 pub mod PutSteps
 pub mod Contents
 pub mod RunSteps
+pub mod VectorsTokens

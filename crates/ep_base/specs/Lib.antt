@@ -3,3 +3,5 @@ pub mod Calls
 pub mod MemoryDevices
 pub mod Outside
 pub mod Runs
+pub mod TokenTexts
+pub mod Tokens
