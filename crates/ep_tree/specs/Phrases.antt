@@ -2,7 +2,8 @@
 --
 -- A phrase is a condition on a whole list of tokens. Phrases that stand one after another cut the list; nothing here
 -- looks ahead or keeps a state.
-use Rattle.std.specs.Prelude.{◌≡◌, ℕ, Bool, true, false, ◌⊎◌, List, [], ◌∷◌, ◌++◌, ℤ, IsTrue, codes, slice_range}
+use Rattle.std.specs.Prelude.{◌≡◌, ℕ, Bool, true, false, ◌⊎◌, List, [], ◌∷◌, ◌++◌, ℤ, IsTrue, codes}
+use Rattle.ep_base.specs.Tokens.{token_text}
 use Rattle.ep_base.specs.declared.names.Name.{Name}
 use Rattle.ep_base.specs.declared.places.Place.{Place}
 use Rattle.ep_base.specs.declared.tokens.Token.{Token}
@@ -31,7 +32,7 @@ saying_of word TokenKind.Symbol = a_word word
 unfoldable pub lexemes_of : List ℕ → List Token → List Lexeme
 lexemes_of text [] = []
 lexemes_of text (token ∷ tokens) =
-    record { place = token.place; saying = saying_of (slice_range text token.from token.to) token.kind } ∷ lexemes_of text tokens
+    record { place = token.place; saying = saying_of (token_text text token) token.kind } ∷ lexemes_of text tokens
 
 -- a condition on a list of tokens
 abbrev pub Phrase : Type 1

@@ -210,11 +210,11 @@ matrix_type domains (ValueType.Matrix dims s) =
     gives (ValueType.Matrix (length domains + dims) s) (list_all is_integer domains)
 matrix_type domains t = gives (ValueType.Matrix (length domains) (scalar_of t)) (list_all is_integer domains)
 
--- the type of the names of a quantifier or generator: that of a number of the domain's scalar
+-- the type of a name of a quantifier or generator: Bool over a Boolean domain, and else Int
 unfoldable pub quantified_name : Judged → Meaning
-quantified_name (typed ValueType.Bool) = a_value (Some ValueType.Bool) false
-quantified_name (typed ValueType.Int) = a_value (Some ValueType.Int) false
-quantified_name _ = a_value None false
+quantified_name (typed t) = a_value (Some (if is_boolean t then ValueType.Bool else ValueType.Int)) false
+quantified_name mistyped = a_value None false
+quantified_name untyped = a_value None false
 
 -- The domain's text is read once for each name, and each reading sees the names before: what the rules say of each.
 unfoldable pub domain_readings : List Name → (Context → Judged) → Context → List Judged

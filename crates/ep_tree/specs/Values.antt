@@ -5,6 +5,7 @@
 use Rattle.std.specs.Prelude.{ℕ, zero, suc, Bool, true, false, ◌&&◌, List, [], ◌∷◌, ◌++◌, map, length, ℤ, pos, ◌+ℤ◌, if◌then◌else◌, ◌==◌, Some, None, Option, option_map, option_and_then}
 use Rattle.std.specs.Ordering.{int_eq}
 use Rattle.ep_base.specs.Numbers.{same_numbers}
+use Rattle.ep_base.specs.Runs.{numbers}
 use Rattle.ep_tree.specs.declared.values.Scalar.{Scalar}
 
 mutual
