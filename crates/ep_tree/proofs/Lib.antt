@@ -1,2 +1,4 @@
 pub mod Opened
 pub mod ViewLemmas
+mod VectorsValues
+mod VectorsDomains
