@@ -2,3 +2,6 @@ pub mod Opened
 pub mod ViewLemmas
 mod VectorsValues
 mod VectorsDomains
+mod VectorsTypes
+mod VectorsFaults
+mod VectorsHeights
