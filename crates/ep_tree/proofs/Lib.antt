@@ -5,3 +5,4 @@ mod VectorsDomains
 mod VectorsTypes
 mod VectorsFaults
 mod VectorsHeights
+mod VectorsMeasures
