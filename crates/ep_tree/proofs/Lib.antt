@@ -6,3 +6,4 @@ mod VectorsTypes
 mod VectorsFaults
 mod VectorsHeights
 mod VectorsMeasures
+mod VectorsBinding
