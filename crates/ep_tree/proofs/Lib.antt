@@ -7,3 +7,4 @@ mod VectorsFaults
 mod VectorsHeights
 mod VectorsMeasures
 mod VectorsBinding
+mod VectorsSpelling
