@@ -7,7 +7,7 @@ use Rattle.ep_base.specs.declared.operators.Sense.{Sense}
 use Rattle.ep_base.specs.declared.places.Place.{Place}
 use Rattle.ep_tree.proofs.Opened.{the_language}
 use Rattle.ep_tree.specs.Binding.{Find, Instance, Refusal, bind, missing_parameter, model_text, outside_domain, over_limit, parameter_text, undefined_at, where_false}
-use Rattle.ep_tree.specs.Environments.{Bound, bound_to, has_value}
+use Rattle.ep_tree.specs.Environments.{Bound, has_value}
 use Rattle.ep_tree.specs.Solutions.{Assigned, Given, found_values, goal_value, instance_reach, instance_size, instance_weight, violated}
 use Rattle.ep_tree.specs.Statements.{constraints, decided, domain_letting, given, letting, objective, requirements}
 use Rattle.ep_tree.specs.Trees.{all_different, binary, bool, chain, compare, comprehension, domain_and, end_at, folded, generator_and, index_and, int, literal, matrix_domain, minus, named, named_domain, no_domains, no_end, no_generators, no_indices, no_ranges, no_terms, no_trees, number, one_and, over, quantified, ranges, read, set_domain, span_and, term_and, tree_and, truth, unstated}
@@ -30,7 +30,7 @@ refusals (Err rs) = rs
 
 -- what a name stands for in a bound instance
 abbrev stands_for : Result Instance (List Refusal) → Name → Option Bound
-stands_for (Ok i) name = bound_to i.env name
+stands_for (Ok i) name = i.env name
 stands_for (Err rs) name = None
 
 -- the decision variables of a bound instance

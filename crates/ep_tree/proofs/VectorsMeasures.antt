@@ -6,6 +6,7 @@ use Rattle.ep_base.specs.declared.places.Place.{Place}
 use Rattle.ep_tree.proofs.Opened.{the_language}
 use Rattle.ep_tree.specs.Environments.{Env, has_cells, has_domain, has_value}
 use Rattle.ep_tree.specs.Measures.{farthest_reach, met, size_of, weight_of}
+use Rattle.ep_tree.specs.Names.{nothing_known, put_all}
 use Rattle.ep_tree.specs.Reach.{Span, extent, span_of}
 use Rattle.ep_tree.specs.Trees.{ExprTree, absolute, all_different, all_of, any_of, at_least, at_most, binary, bool, chain, compare, comprehension, end_at, every_and, flatten, folded, gcc, generator_and, group, in_domain, in_set, index_and, lex, literal, minus, named, named_domain, negation, no_generators, no_indices, no_ranges, no_terms, no_trees, number, one_and, over, quantified, ranges, read, span_and, table, term_and, to_int, tree_and, truth, unstated}
 use Rattle.ep_tree.specs.Values.{single}
@@ -26,7 +27,7 @@ at line column = record { line = line; column = column }
 -- decision variables x : int(0..9), y : int(-3..2), z : int(2..4), s : int(1, 5), b : bool, e : int(1..0); lists v of
 -- int(1..3), g of int(1, 5) and w of bool over int(1..2), and Q of int(1..2) over both; a domain D of 1 to 3, and k = 3
 abbrev cells : Env
-cells =
+cells = put_all (
     (codes "x", has_cells Scalar.Int ([]) ((pos 0) ∷ (pos 1) ∷ (pos 2) ∷ (pos 3) ∷ (pos 4) ∷ (pos 5) ∷ (pos 6) ∷ (pos 7) ∷ (pos 8) ∷ (pos 9) ∷ []))
     ∷ (codes "y", has_cells Scalar.Int ([]) ((negsuc 2) ∷ (negsuc 1) ∷ (negsuc 0) ∷ (pos 0) ∷ (pos 1) ∷ (pos 2) ∷ []))
     ∷ (codes "z", has_cells Scalar.Int ([]) ((pos 2) ∷ (pos 3) ∷ (pos 4) ∷ []))
@@ -39,7 +40,7 @@ cells =
     ∷ (codes "e", has_cells Scalar.Int ([]) ([]))
     ∷ (codes "D", has_domain Scalar.Int ([]) ((pos 1) ∷ (pos 2) ∷ (pos 3) ∷ []))
     ∷ (codes "k", has_value ValueType.Int (single (pos 3)))
-    ∷ []
+    ∷ []) nothing_known
 
 -- the size of an expression
 abbrev size : ExprTree → ℕ

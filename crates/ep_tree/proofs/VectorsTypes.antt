@@ -4,6 +4,7 @@ use Rattle.ep_base.specs.declared.operators.CompareOp.{CompareOp}
 use Rattle.ep_base.specs.declared.operators.LexOp.{LexOp}
 use Rattle.ep_base.specs.declared.places.Place.{Place}
 use Rattle.ep_tree.proofs.Opened.{the_language}
+use Rattle.ep_tree.specs.Names.{nothing_known, put_all}
 use Rattle.ep_tree.specs.Trees.{absolute, all_different, all_of, any_of, at_least, at_most, binary, bool, chain, compare, comprehension, domain_and, end_at, every_and, factorial, flatten, folded, gcc, generator_and, group, group_domain, in_domain, in_set, index_and, int, lex, literal, matrix_domain, minus, named, named_domain, negation, no_domains, no_generators, no_indices, no_ranges, no_terms, no_trees, number, one_and, over, quantified, ranges, read, set_domain, span_and, table, term_and, to_int, tree_and, truth, unstated}
 use Rattle.ep_tree.specs.Types.{Context, a_domain, a_value, judge, judge_domain, mistyped, typed, untyped}
 use Rattle.ep_tree.specs.declared.syntax.BinaryOp.{BinaryOp}
@@ -23,7 +24,7 @@ at line column = record { line = line; column = column }
 -- n : int, b : bool, m and w lists of integers and of Booleans, q a matrix of two dimensions, D and E a domain of
 -- integers and one of matrices of them, x a decision variable, u a name whose declaration has no type
 abbrev known : Context
-known =
+known = put_all (
     (codes "n", a_value (Some ValueType.Int) false)
     ∷ (codes "b", a_value (Some ValueType.Bool) false)
     ∷ (codes "m", a_value (Some (ValueType.Matrix 1 Scalar.Int)) false)
@@ -32,7 +33,7 @@ known =
     ∷ (codes "D", a_domain (Some ValueType.Int))
     ∷ (codes "E", a_domain (Some (ValueType.Matrix 1 Scalar.Int)))
     ∷ (codes "x", a_value (Some ValueType.Int) true)
-    ∷ (codes "u", a_value None false) ∷ []
+    ∷ (codes "u", a_value None false) ∷ []) nothing_known
 
 -- ---- numbers, truth values and names
 

@@ -11,9 +11,10 @@ use Rattle.ep_base.specs.declared.operators.Limit.{Limit}
 use Rattle.ep_base.specs.declared.operators.Sense.{Sense}
 use Rattle.ep_base.specs.declared.places.Place.{Place}
 use Rattle.ep_tree.specs.Domains.{set_has, truth_values}
-use Rattle.ep_tree.specs.Environments.{Bound, Env, bound_to, has_domain, has_value, scalar_in, shape_type}
+use Rattle.ep_tree.specs.Environments.{Bound, Env, has_domain, has_value, scalar_in, shape_type}
 use Rattle.ep_tree.specs.Evaluation.{domain_values, evaluate, number_in, on_both, on_three, truth_of, type_in}
 use Rattle.ep_tree.specs.Measures.{Met, farthest_reach, met, met_domain, size_of}
+use Rattle.ep_tree.specs.Names.{nothing_known, put}
 use Rattle.ep_tree.specs.Statements.{Group, StatementTree, TextTree, branching, constraints, decided, domain_letting, given, heuristic, letting, objective, requirements}
 use Rattle.ep_tree.specs.Trees.{DomainTree, Domains, End, ExprTree, Ranges, bool, domain_and, end_at, group_domain, int, matrix_domain, named_domain, no_domains, no_end, no_ranges, one_and, ranges, set_domain, span_and}
 use Rattle.ep_tree.specs.Types.{scalar_of}
@@ -125,7 +126,7 @@ unfoldable pub elements_pass : Mode → Env → DomainTree → Option (ℤ → B
 elements_pass mode env (bool _) = Some (has_number truth_values)
 elements_pass mode env (int _) = Some (λ x. true)
 elements_pass mode env (ranges _ rs) = ranges_pass mode env rs
-elements_pass mode env (named_domain _ name) = option_map has_number (numbers_bound (bound_to env name))
+elements_pass mode env (named_domain _ name) = option_map has_number (numbers_bound (env name))
 elements_pass mode env (group_domain _ d) = elements_pass mode env d
 elements_pass mode env (set_domain _ op c d) =
     on_both (elements_pass mode env c) (elements_pass mode env d) (λ one other. Some (λ x. set_has op (one x) (other x)))
@@ -135,7 +136,7 @@ elements_pass mode env (matrix_domain _ ds d) = elements_pass mode env d
 unfoldable pub element_values : Mode → Env → DomainTree → Option (List ℤ)
 element_values mode env (matrix_domain _ ds d) = element_values mode env d
 element_values mode env (group_domain _ d) = element_values mode env d
-element_values mode env (named_domain _ name) = numbers_bound (bound_to env name)
+element_values mode env (named_domain _ name) = numbers_bound (env name)
 element_values mode env d = domain_values mode env d
 
 -- the values of some index domains
@@ -149,7 +150,7 @@ unfoldable pub index_domains : Mode → Env → DomainTree → Option (List (Lis
 index_domains mode env (matrix_domain _ ds d) =
     on_both (listed_domains mode env ds) (index_domains mode env d) (λ own inner. Some (own ++ inner))
 index_domains mode env (group_domain _ d) = index_domains mode env d
-index_domains mode env (named_domain _ name) = indices_bound (bound_to env name)
+index_domains mode env (named_domain _ name) = indices_bound (env name)
 index_domains mode env _ = Some []
 
 -- a domain as it is bound, where each of its bounds has a value
@@ -189,11 +190,11 @@ unfoldable pub bind_letting : Mode → TextName → Env → StatementTree → Re
 bind_letting mode text env (letting p name at d e) =
     unless_any (limits_passed mode 0 (met_stated mode env d ++ met mode env e))
     (and_next (or_refuse (undefined_at text p) (evaluate mode env e)) (λ v.
-    and_next (letting_bound mode env (undefined_at text p) name d e v) (λ b. Ok ((name, b) ∷ env))))
+    and_next (letting_bound mode env (undefined_at text p) name d e v) (λ b. Ok (put name b env))))
 bind_letting mode text env (domain_letting p name at d) =
     unless_any (limits_passed mode 0 (met_domain mode env d))
     (and_next (or_refuse (undefined_at text p) (option_and_then shape_bound (shape_of mode env d))) (λ b.
-    Ok ((name, b) ∷ env)))
+    Ok (put name b env)))
 bind_letting mode text env _ = Ok env
 
 -- the lettings of a parameter text, each of which sees the earlier ones
@@ -211,7 +212,7 @@ parameter _ = None
 unfoldable pub first_missing : Env → List (Name × Place) → List Refusal
 first_missing params [] = []
 first_missing params (name ∷ names) =
-    elim (parameter (bound_to params name.0)) [ None ↦ missing_parameter name.0 ∷ [] | Some entry ↦ first_missing params names ]
+    elim (parameter (params name.0)) [ None ↦ missing_parameter name.0 ∷ [] | Some entry ↦ first_missing params names ]
 
 -- a parameter fitted into a domain
 unfoldable pub given_bound : Shape → Name → Option (ValueType × ValueTree) → Result Bound (List Refusal)
@@ -224,8 +225,8 @@ given_bound shape name (Some entry) =
 unfoldable pub bind_names : Env → Shape → List (Name × Place) → Env → Result Env (List Refusal)
 bind_names params shape [] env = Ok env
 bind_names params shape (name ∷ names) env =
-    and_next (given_bound shape name.0 (parameter (bound_to params name.0))) (λ b.
-    bind_names params shape names ((name.0, b) ∷ env))
+    and_next (given_bound shape name.0 (parameter (params name.0))) (λ b.
+    bind_names params shape names (put name.0 b env))
 
 -- The groups of a `given`, each as a statement of its own: first the limits, then a domain that isn't defined, then a
 -- missing parameter, then one that doesn't fit. A domain that isn't defined is named at the whole statement.
@@ -304,12 +305,12 @@ bind_statements mode params at (s ∷ statements) =
 -- where binding begins
 abbrev pub nothing_bound : Progress
 nothing_bound = record {
-  instance = record { finds = []; clauses = []; goal = None; env = [] };
+  instance = record { finds = []; clauses = []; goal = None; env = nothing_known };
   next_where = 1;
 }
 
 -- the instance of a model under a parameter text, or the refusals that may be named
 unfoldable pub bind : Mode → TextTree → TextTree → Result Instance (List Refusal)
 bind mode model params =
-    and_next (bind_params mode parameter_text [] params) (λ known.
+    and_next (bind_params mode parameter_text nothing_known params) (λ known.
     and_next (bind_statements mode known nothing_bound model) (λ at. Ok at.instance))

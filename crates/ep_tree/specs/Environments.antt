@@ -1,6 +1,7 @@
 -- Environments: what each name stands for where an expression has a value.
-use Rattle.std.specs.Prelude.{true, false, List, [], ◌∷◌, length, ℤ, if◌then◌else◌, Some, None, bytes_eq, Option, unwrap_or, option_map}
+use Rattle.std.specs.Prelude.{true, false, List, [], ◌∷◌, length, ℤ, Some, None, Option, unwrap_or, option_map}
 use Rattle.ep_base.specs.declared.names.Name.{Name}
+use Rattle.ep_tree.specs.Names.{Known, put}
 use Rattle.ep_tree.specs.Trees.{DomainTree}
 use Rattle.ep_tree.specs.Types.{Context, Meaning, a_domain, a_value, judge_domain, of_scalar, scalar_of, type_from}
 use Rattle.ep_tree.specs.Values.{ValueTree, single}
@@ -14,14 +15,9 @@ pub data Bound : Type 0 where
   has_cells : Scalar → List (List ℤ) → List ℤ → Bound
   has_domain : Scalar → List (List ℤ) → List ℤ → Bound
 
--- names with what they stand for, the newest first
+-- what names stand for
 abbrev pub Env : Type 0
-Env = List (Name × Bound)
-
--- what a name stands for: the newest entry hides the older ones
-unfoldable pub bound_to : Env → Name → Option Bound
-bound_to [] name = None
-bound_to (entry ∷ env) name = if bytes_eq entry.0 name then Some entry.1 else bound_to env name
+Env = Known Bound
 
 -- the type of what has index domains and a scalar
 unfoldable pub shape_type : Scalar → List (List ℤ) → ValueType
@@ -36,8 +32,7 @@ meaning_in (has_domain s indices values) = a_domain (Some (shape_type s indices)
 
 -- the context of types of an environment
 unfoldable pub context_of : Env → Context
-context_of [] = []
-context_of (entry ∷ env) = (entry.0, meaning_in entry.1) ∷ context_of env
+context_of env name = option_map meaning_in (env name)
 
 -- the value of a name, where it stands for one
 unfoldable pub value_bound : Option Bound → Option ValueTree
@@ -60,4 +55,4 @@ scalar_in env d = unwrap_or (option_map scalar_of (type_from (judge_domain (cont
 
 -- an environment in which a name stands for a number of a domain's scalar
 unfoldable pub with_number : Name → Scalar → ℤ → Env → Env
-with_number name s n env = (name, has_value (of_scalar s) (single n)) ∷ env
+with_number name s n env = put name (has_value (of_scalar s) (single n)) env

@@ -11,7 +11,7 @@ use Rattle.ep_base.specs.Numbers.{absolute_of, all_one, any_one, are_different, 
 use Rattle.ep_base.specs.declared.names.Name.{Name}
 use Rattle.ep_base.specs.declared.operators.CompareOp.{CompareOp}
 use Rattle.ep_tree.specs.Domains.{between, put_in, set_values, truth_values, united}
-use Rattle.ep_tree.specs.Environments.{Env, bound_to, context_of, domain_bound, scalar_in, value_bound, with_number}
+use Rattle.ep_tree.specs.Environments.{Env, context_of, domain_bound, scalar_in, value_bound, with_number}
 use Rattle.ep_tree.specs.Trees.{DomainTree, End, ExprTree, ExprTrees, Generators, IndexDomain, Indices, Ranges, Terms, absolute, all_different, all_of, any_of, at_least, at_most, binary, bool, chain, compare, comprehension, end_at, every_and, factorial, flatten, folded, gcc, generator_and, group, group_domain, in_domain, in_set, index_and, int, lex, literal, matrix_domain, minus, named, named_domain, negation, no_end, no_generators, no_indices, no_ranges, no_terms, no_trees, number, one_and, over, quantified, ranges, read, set_domain, span_and, table, term_and, to_int, tree_and, truth, unstated}
 use Rattle.ep_tree.specs.Types.{judge, type_from}
 use Rattle.ep_tree.specs.Values.{Index, ValueTree, all_defined, any_index, at_index, list_value, matrix, numbers_from, read_value, rows_of, scalars_of, single, with_indices}
@@ -139,7 +139,7 @@ unfoldable mutual
   pub evaluate : Mode → Env → ExprTree → Option ValueTree
   evaluate mode env (number _ n) = Some (single n)
   evaluate mode env (truth _ b) = Some (single (of_bool b))
-  evaluate mode env (named _ name) = value_bound (bound_to env name)
+  evaluate mode env (named _ name) = value_bound (env name)
   evaluate mode env (group _ e) = evaluate mode env e
   evaluate mode env (negation _ e) = truth_in mode (option_map not (truth_of (evaluate mode env e)))
   evaluate mode env (minus _ e) = number_value (option_map neg_ℤ (number_in (evaluate mode env e)))
@@ -198,7 +198,7 @@ unfoldable mutual
   domain_values mode env (bool _) = Some truth_values
   domain_values mode env (int _) = None
   domain_values mode env (ranges _ rs) = range_values mode env rs
-  domain_values mode env (named_domain _ name) = domain_bound (bound_to env name)
+  domain_values mode env (named_domain _ name) = domain_bound (env name)
   domain_values mode env (group_domain _ d) = domain_values mode env d
   domain_values mode env (set_domain _ op c d) =
       on_both (domain_values mode env c) (domain_values mode env d) (λ xs ys. Some (set_values op xs ys))

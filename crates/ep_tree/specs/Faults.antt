@@ -5,9 +5,10 @@
 use Rattle.std.specs.Prelude.{◌≡◌, Bool, true, false, not, ◌&&◌, ◌||◌, List, [], ◌∷◌, ◌++◌, is_some, is_none, Some, None, Contains, Option}
 use Rattle.ep_base.specs.declared.names.Name.{Name}
 use Rattle.ep_base.specs.declared.places.Place.{Place}
+use Rattle.ep_tree.specs.Names.{nothing_known, put}
 use Rattle.ep_tree.specs.Statements.{Group, StatementTree, TextTree, branching, constraints, decided, domain_letting, given, heuristic, letting, objective, requirements}
 use Rattle.ep_tree.specs.Trees.{DomainTree, Domains, End, ExprTree, ExprTrees, Generators, IndexDomain, Indices, Ranges, Terms, absolute, all_different, all_of, any_of, at_least, at_most, binary, bool, chain, compare, comprehension, domain_and, end_at, every_and, factorial, flatten, folded, gcc, generator_and, group, group_domain, in_domain, in_set, index_and, int, lex, literal, matrix_domain, minus, named, named_domain, negation, no_domains, no_end, no_generators, no_indices, no_ranges, no_terms, no_trees, number, one_and, over, quantified, ranges, read, set_domain, span_and, table, term_and, to_int, tree_and, truth, unstated}
-use Rattle.ep_tree.specs.Types.{Context, Judged, Meaning, a_domain, a_value, from_one, gives, inside, is_boolean, is_integer, is_matrix, judge, judge_domain, meaning_of, mistyped, quantified_name, type_from, typed, untyped}
+use Rattle.ep_tree.specs.Types.{Context, Judged, Meaning, a_domain, a_value, from_one, gives, inside, is_boolean, is_integer, is_matrix, judge, judge_domain, mistyped, quantified_name, type_from, typed, untyped}
 use Rattle.ep_tree.specs.declared.syntax.BinaryOp.{BinaryOp}
 use Rattle.ep_tree.specs.declared.values.ValueType.{ValueType}
 
@@ -93,7 +94,7 @@ is_judged_matrix untyped = false
 unfoldable pub reading_faults : List Name → (Context → Judged) → (Context → List Fault) → Context → List Fault
 reading_faults [] domain faults_in context = []
 reading_faults (name ∷ names) domain faults_in context =
-    faults_in context ++ reading_faults names domain faults_in ((name, quantified_name (domain context)) ∷ context)
+    faults_in context ++ reading_faults names domain faults_in (put name (quantified_name (domain context)) context)
 
 -- whether an operator is `**`, whose second part has no decision variable
 unfoldable pub is_power : BinaryOp → Bool
@@ -105,7 +106,7 @@ unfoldable mutual
   pub faults : Context → Bool → ExprTree → List Fault
   faults context decisions (number _ _) = []
   faults context decisions (truth _ _) = []
-  faults context decisions (named p name) = name_faults decisions p name (meaning_of context name)
+  faults context decisions (named p name) = name_faults decisions p name (context name)
   faults context decisions (group _ e) = faults context decisions e
   faults context decisions (negation p e) =
       type_fault p (judge context (negation p e)) ++ faults context decisions e
@@ -174,7 +175,7 @@ unfoldable mutual
   domain_faults context may_open (ranges p rs) =
       unless (may_open || not (has_open_range rs)) (open_domain p)
       ++ type_fault p (judge_domain context (ranges p rs)) ++ faults_of_ranges context rs
-  domain_faults context may_open (named_domain p name) = domain_name_faults p name (meaning_of context name)
+  domain_faults context may_open (named_domain p name) = domain_name_faults p name (context name)
   domain_faults context may_open (group_domain _ d) = domain_faults context may_open d
   domain_faults context may_open (set_domain p op c d) =
       type_fault p (judge_domain context (set_domain p op c d)) ++ domain_faults context may_open c
@@ -228,13 +229,13 @@ unfoldable mutual
 unfoldable pub declaration_faults : Context → List (Name × Place) → List Fault
 declaration_faults context [] = []
 declaration_faults context (name ∷ names) =
-    unless (is_none (meaning_of context name.0)) (redeclared name.1 name.0)
-    ++ declaration_faults ((name.0, a_value None false) ∷ context) names
+    unless (is_none (context name.0)) (redeclared name.1 name.0)
+    ++ declaration_faults (put name.0 (a_value None false) context) names
 
 -- the context with names of this meaning
 unfoldable pub declare : List (Name × Place) → Meaning → Context → Context
 declare [] meaning context = context
-declare (name ∷ names) meaning context = declare names meaning ((name.0, meaning) ∷ context)
+declare (name ∷ names) meaning context = declare names meaning (put name.0 meaning context)
 
 -- the faults of groups, of which each declares its names at its end
 unfoldable pub group_faults : Context → Bool → Bool → List Group → List Fault
@@ -270,7 +271,7 @@ letting_type context (Some d) e = type_from (judge_domain context d)
 unfoldable pub branching_faults : Context → List (Name × Place) → List Fault
 branching_faults context [] = []
 branching_faults context (name ∷ names) =
-    unless (is_some (meaning_of context name.0)) (unknown_name name.1 name.0) ++ branching_faults context names
+    unless (is_some (context name.0)) (unknown_name name.1 name.0) ++ branching_faults context names
 
 -- the faults of a statement after what the context declares
 unfoldable pub statement_faults : Context → StatementTree → List Fault
@@ -291,8 +292,8 @@ statement_faults context (heuristic _ _) = []
 unfoldable pub after_statement : Context → StatementTree → Context
 after_statement context (given _ groups) = after_groups context false groups
 after_statement context (decided _ groups) = after_groups context true groups
-after_statement context (letting _ name _ d e) = (name, a_value (letting_type context d e) false) ∷ context
-after_statement context (domain_letting _ name _ d) = (name, a_domain (type_from (judge_domain context d))) ∷ context
+after_statement context (letting _ name _ d e) = put name (a_value (letting_type context d e) false) context
+after_statement context (domain_letting _ name _ d) = put name (a_domain (type_from (judge_domain context d))) context
 after_statement context _ = context
 
 -- the faults of the statements of a text after what the context declares
@@ -302,7 +303,7 @@ faults_after context (s ∷ statements) = statement_faults context s ++ faults_a
 
 -- the faults of a text
 unfoldable pub text_faults : TextTree → List Fault
-text_faults statements = faults_after [] statements
+text_faults statements = faults_after nothing_known statements
 
 -- a text is well formed when it has no fault
 abbrev pub IsWellFormed : TextTree → Type 0

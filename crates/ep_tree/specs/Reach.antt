@@ -8,7 +8,7 @@ use Rattle.std.specs.Ordering.{int_eq}
 use Rattle.ep_base.specs.Numbers.{absolute_of, all_one, greatest_of, least_of, nth_power, of_bool, sum_of}
 use Rattle.ep_base.specs.declared.names.Name.{Name}
 use Rattle.ep_tree.specs.Domains.{count_between}
-use Rattle.ep_tree.specs.Environments.{Bound, Env, bound_to, has_cells, scalar_in, with_number}
+use Rattle.ep_tree.specs.Environments.{Bound, Env, has_cells, scalar_in, with_number}
 use Rattle.ep_tree.specs.Evaluation.{domain_values, evaluate, index_values, number_in, numbers_in, over_names, type_in, values_of}
 use Rattle.ep_tree.specs.Trees.{ExprTree, ExprTrees, Generators, Indices, Terms, absolute, all_different, all_of, any_of, at_least, at_most, binary, chain, compare, comprehension, every_and, factorial, flatten, folded, gcc, generator_and, group, in_domain, in_set, index_and, lex, literal, minus, named, negation, no_generators, no_indices, no_terms, no_trees, number, quantified, read, table, term_and, to_int, tree_and, truth}
 use Rattle.ep_tree.specs.Types.{is_integer}
@@ -282,7 +282,7 @@ is_decision _ = false
 
 -- whether an expression is the name of a decision variable, of which a read leaves cells
 unfoldable pub are_cells : Env → ExprTree → Bool
-are_cells env (named _ name) = is_decision (bound_to env name)
+are_cells env (named _ name) = is_decision (env name)
 are_cells env _ = false
 
 -- Whether a decision variable stands in an expression, by its text. None stands in a domain or in a condition.
@@ -290,7 +290,7 @@ unfoldable mutual
   pub holds_decision : Env → ExprTree → Bool
   holds_decision env (number _ _) = false
   holds_decision env (truth _ _) = false
-  holds_decision env (named _ name) = is_decision (bound_to env name)
+  holds_decision env (named _ name) = is_decision (env name)
   holds_decision env (group _ e) = holds_decision env e
   holds_decision env (negation _ e) = holds_decision env e
   holds_decision env (minus _ e) = holds_decision env e
@@ -396,7 +396,7 @@ unfoldable mutual
   pub extent : Mode → Env → ExprTree → Extent
   extent mode env (number p n) = one_span (fixed_span (Some n))
   extent mode env (truth p b) = one_span (fixed_span (Some (of_bool b)))
-  extent mode env (named p name) = measured mode env (named p name) (named_extent (bound_to env name))
+  extent mode env (named p name) = measured mode env (named p name) (named_extent (env name))
   extent mode env (group p e) =
       measured mode env (group p e) (group_extent (type_in env e) (extent mode env e))
   extent mode env (negation p e) = measured mode env (negation p e) (one_span truth_span)

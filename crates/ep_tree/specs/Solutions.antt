@@ -7,9 +7,10 @@ use Rattle.ep_base.specs.Numbers.{has_number}
 use Rattle.ep_base.specs.declared.names.Name.{Name}
 use Rattle.ep_base.specs.declared.operators.Sense.{Sense}
 use Rattle.ep_tree.specs.Binding.{Find, Instance, met_in}
-use Rattle.ep_tree.specs.Environments.{Env, has_cells, has_value, shape_type}
+use Rattle.ep_tree.specs.Environments.{Bound, Env, has_cells, has_value, shape_type}
 use Rattle.ep_tree.specs.Evaluation.{evaluate, number_in, on_both, truth_of}
 use Rattle.ep_tree.specs.Measures.{Met, farthest_reach, size_of, weight_of}
+use Rattle.ep_tree.specs.Names.{put_all}
 use Rattle.ep_tree.specs.Trees.{ExprTree}
 use Rattle.ep_tree.specs.Types.{scalar_of}
 use Rattle.ep_tree.specs.Values.{ValueTree, fitted}
@@ -39,8 +40,12 @@ fitted_find f g = fitted (scalar_of g.ty) f.scalar (has_number f.values) f.indic
 abbrev pub find_type : Find → ValueType
 find_type f = shape_type f.scalar f.indices
 
+-- values of names, as an environment has them
+abbrev pub Found : Type 0
+Found = List (Name × Bound)
+
 -- each decision variable with its value, fitted, in the order of the text; none where one lacks a value that fits
-unfoldable pub found_values : List Find → Assigned → Option Env
+unfoldable pub found_values : List Find → Assigned → Option Found
 found_values [] a = Some []
 found_values (f ∷ fs) a =
     on_both (option_and_then (fitted_find f) (given_to a f.name)) (found_values fs a)
@@ -48,13 +53,13 @@ found_values (f ∷ fs) a =
 
 -- An assignment fits: it names each decision variable once and nothing else, and each value fits its domain. The
 -- environment has these values.
-pub record Fits (i : Instance) (a : Assigned) (found : Env) : Type 0 where
+pub record Fits (i : Instance) (a : Assigned) (found : Found) : Type 0 where
   pub same_names : IsPermutation (map (λ g. g.name) a) (map (λ f. f.name) i.finds)
   pub values : found_values i.finds a ≡ Some found
 
 -- the environment of an instance with the values of its decision variables
-abbrev pub under : Instance → Env → Env
-under i found = found ++ i.env
+abbrev pub under : Instance → Found → Env
+under i found = put_all found i.env
 
 -- whether a clause is true
 abbrev pub is_true_in : Mode → Env → ExprTree → Bool
@@ -66,21 +71,21 @@ first_violated mode env n [] = None
 first_violated mode env n (e ∷ es) = if is_true_in mode env e then first_violated mode env (n + 1) es else Some n
 
 -- the least number of a clause that an assignment violates, if it violates one
-abbrev pub violated : Mode → Instance → Env → Option ℕ
+abbrev pub violated : Mode → Instance → Found → Option ℕ
 violated mode i found = first_violated mode (under i found) 1 i.clauses
 
 -- the objective's number, where one is stated
-unfoldable pub goal_value : Mode → Instance → Env → Option ℤ
+unfoldable pub goal_value : Mode → Instance → Found → Option ℤ
 goal_value mode i found =
     option_and_then (λ goal. number_in (evaluate mode (under i found) goal.1)) i.goal
 
 -- the objective is defined where one is stated
-unfoldable pub has_goal_value : Mode → Instance → Env → Bool
+unfoldable pub has_goal_value : Mode → Instance → Found → Bool
 has_goal_value mode i found = is_none i.goal || is_some (goal_value mode i found)
 
 -- A solution: it fits, each clause is true, and the objective has a value where one is stated.
 pub record IsSolution (mode : Mode) (i : Instance) (a : Assigned) : Type 0 where
-  pub found : Env
+  pub found : Found
   pub fits : Fits i a found
   pub holds : violated mode i found ≡ None
   pub measured : IsTrue (has_goal_value mode i found)
@@ -95,8 +100,8 @@ pub record IsBetter (mode : Mode) (i : Instance) (a b : Assigned) : Type 0 where
   pub sense : Sense
   pub e : ExprTree
   pub stated : i.goal ≡ Some (sense, e)
-  pub one : Env
-  pub other : Env
+  pub one : Found
+  pub other : Found
   pub one_fits : Fits i a one
   pub other_fits : Fits i b other
   pub x : ℤ
@@ -111,7 +116,7 @@ pub record IsOptimal (mode : Mode) (i : Instance) (a : Assigned) : Type 0 where
   pub best : (b : Assigned) → IsSolution mode i b → IsBetter mode i b a → ⊥
 
 -- the cells of an instance as what their names stand for
-unfoldable pub cells_bound : List Find → Env
+unfoldable pub cells_bound : List Find → Found
 cells_bound [] = []
 cells_bound (f ∷ fs) = (f.name, has_cells f.scalar f.indices f.values) ∷ cells_bound fs
 
@@ -123,7 +128,7 @@ cell_count (indices ∷ inner) = length indices * cell_count inner
 -- the nodes of an instance: those of its clauses and of its objective, with the cells in their environment
 unfoldable pub met_instance : Mode → Instance → List Met
 met_instance mode i =
-    let env : Env = cells_bound i.finds ++ i.env in
+    let env : Env = put_all (cells_bound i.finds) i.env in
     met_in mode env (i.clauses ++ option_to_list (option_map (λ goal. goal.1) i.goal))
 
 -- the size of an instance: its cells, and the nodes of its clauses and objective

@@ -3,9 +3,10 @@
 -- An expression is typed in a context, which says of each declared name what it stands for. The rules are those of the
 -- language's public description: a Boolean becomes 0 or 1 where an integer is wanted, and an integer never becomes a
 -- Boolean. That `[]` is of every matrix type, and the type of a list of such, is this project's own choice.
-use Rattle.std.specs.Prelude.{ℕ, zero, suc, ◌+◌, ◌-◌, Bool, true, false, not, ◌&&◌, List, [], ◌∷◌, ◌++◌, length, if◌then◌else◌, nat_le, ◌==◌, Some, None, bytes_eq, Option, option_map}
+use Rattle.std.specs.Prelude.{ℕ, zero, suc, ◌+◌, ◌-◌, Bool, true, false, not, ◌&&◌, List, [], ◌∷◌, ◌++◌, length, if◌then◌else◌, nat_le, ◌==◌, Some, None, Option, option_map}
 use Rattle.std.specs.List.{list_all}
 use Rattle.ep_base.specs.declared.names.Name.{Name}
+use Rattle.ep_tree.specs.Names.{Known, put}
 use Rattle.ep_tree.specs.Trees.{DomainTree, Domains, End, ExprTree, ExprTrees, Generators, IndexDomain, Indices, Ranges, Terms, absolute, all_different, all_of, any_of, at_least, at_most, binary, bool, chain, compare, comprehension, domain_and, end_at, every_and, factorial, flatten, folded, gcc, generator_and, group, group_domain, in_domain, in_set, index_and, int, lex, literal, matrix_domain, minus, named, named_domain, negation, no_domains, no_end, no_generators, no_indices, no_ranges, no_terms, no_trees, number, one_and, over, quantified, ranges, read, set_domain, span_and, table, term_and, to_int, tree_and, truth, unstated}
 use Rattle.ep_tree.specs.declared.syntax.BinaryOp.{BinaryOp}
 use Rattle.ep_tree.specs.declared.syntax.FoldOp.{FoldOp}
@@ -19,14 +20,9 @@ pub data Meaning : Type 0 where
   a_value : Option ValueType → Bool → Meaning
   a_domain : Option ValueType → Meaning
 
--- the declared names, the newest first
+-- what the declared names stand for
 abbrev pub Context : Type 0
-Context = List (Name × Meaning)
-
--- what a name stands for: its newest declaration hides the older ones
-unfoldable pub meaning_of : Context → Name → Option Meaning
-meaning_of [] name = None
-meaning_of (known ∷ context) name = if bytes_eq known.0 name then Some known.1 else meaning_of context name
+Context = Known Meaning
 
 -- What the rules say of a node: its type; that its parts have types, and these aren't the ones that it takes; or that
 -- a part has no type.
@@ -220,12 +216,12 @@ quantified_name untyped = a_value None false
 unfoldable pub domain_readings : List Name → (Context → Judged) → Context → List Judged
 domain_readings [] domain context = []
 domain_readings (name ∷ names) domain context =
-    domain context ∷ domain_readings names domain ((name, quantified_name (domain context)) ∷ context)
+    domain context ∷ domain_readings names domain (put name (quantified_name (domain context)) context)
 
 -- the context of the body: the names of a quantifier or generator hide what they stood for
 unfoldable pub inside : List Name → (Context → Judged) → Context → Context
 inside [] domain context = context
-inside (name ∷ names) domain context = inside names domain ((name, quantified_name (domain context)) ∷ context)
+inside (name ∷ names) domain context = inside names domain (put name (quantified_name (domain context)) context)
 
 -- What the rules say of the several parts of a comprehension, and of its expression and conditions in the context of
 -- its generators.
@@ -254,7 +250,7 @@ unfoldable mutual
   pub judge : Context → ExprTree → Judged
   judge context (number _ _) = typed ValueType.Int
   judge context (truth _ _) = typed ValueType.Bool
-  judge context (named _ name) = named_type (meaning_of context name)
+  judge context (named _ name) = named_type (context name)
   judge context (group _ e) = from_one (judge context e) (λ t. typed t)
   judge context (negation _ e) = from_one (judge context e) (λ t. gives ValueType.Bool (is_boolean t))
   judge context (minus _ e) = from_one (judge context e) (λ t. gives ValueType.Int (is_integer t))
@@ -311,7 +307,7 @@ unfoldable mutual
   judge_domain context (int _) = typed ValueType.Int
   judge_domain context (ranges _ rs) =
       from_many (judge_ranges context rs) (λ ts. gives ValueType.Int (list_all is_integer ts))
-  judge_domain context (named_domain _ name) = named_domain_type (meaning_of context name)
+  judge_domain context (named_domain _ name) = named_domain_type (context name)
   judge_domain context (group_domain _ d) = from_one (judge_domain context d) (λ t. typed t)
   judge_domain context (set_domain _ _ c d) =
       from_two (judge_domain context c) (judge_domain context d)
