@@ -17,3 +17,4 @@ pub mod Measures
 pub mod Binding
 pub mod Solutions
 pub mod Views
+pub mod SolutionTexts

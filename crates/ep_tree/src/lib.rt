@@ -1,10 +1,12 @@
 //! The trees of the language, its values, and the definitions of what a text means.
 #![tactic(auto)]
 
+mod laws;
 mod statements;
 mod syntax;
 mod values;
 
+pub use laws::hiding_is_lexical;
 pub use statements::{Declared, Model, Objective, Params, Statement, StatementKind};
 pub use syntax::{
     BinaryOp, Domain, DomainKind, Expr, FoldOp, Generator, Kind, QuantOp, Range, SetOp,
