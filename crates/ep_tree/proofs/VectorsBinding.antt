@@ -8,7 +8,7 @@ use Rattle.ep_base.specs.declared.places.Place.{Place}
 use Rattle.ep_tree.proofs.Opened.{the_language}
 use Rattle.ep_tree.specs.Binding.{Find, Instance, Refusal, bind, missing_parameter, model_text, outside_domain, over_limit, parameter_text, undefined_at, where_false}
 use Rattle.ep_tree.specs.Environments.{Bound, has_value}
-use Rattle.ep_tree.specs.Solutions.{Assigned, Given, found_values, goal_value, instance_reach, instance_size, instance_weight, violated}
+use Rattle.ep_tree.specs.Solutions.{Assigned, NamedValue, found_values, goal_value, instance_reach, instance_size, instance_weight, violated}
 use Rattle.ep_tree.specs.Statements.{constraints, decided, domain_letting, given, letting, objective, requirements}
 use Rattle.ep_tree.specs.Trees.{all_different, binary, bool, chain, compare, comprehension, domain_and, end_at, folded, generator_and, index_and, int, literal, matrix_domain, minus, named, named_domain, no_domains, no_end, no_generators, no_indices, no_ranges, no_terms, no_trees, number, one_and, over, quantified, ranges, read, set_domain, span_and, term_and, tree_and, truth, unstated}
 use Rattle.ep_tree.specs.Values.{matrix, no_values, single, value_and}
@@ -52,7 +52,7 @@ reach_bound (Ok i) = instance_reach Mode.Relational i
 reach_bound (Err rs) = pos 0
 
 -- a number by its name, as an assignment gives it
-abbrev gives_number : Name × ℤ → Given
+abbrev gives_number : Name × ℤ → NamedValue
 gives_number entry = record { name = entry.0; ty = ValueType.Int; value = single entry.1 }
 
 -- whether an assignment fits, the least clause that it violates, and its objective's number

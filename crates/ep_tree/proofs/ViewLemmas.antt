@@ -1,5 +1,5 @@
 -- How the code's trees are read: the rows of children as lists, and one equation for each kind.
-use Rattle.std.specs.Prelude.{◌≡◌, Bool, ℤ, List, [], ◌∷◌, Option, Some, None, refl}
+use Rattle.std.specs.Prelude.{◌≡◌, Bool, ℤ, Option, Some, None, refl}
 use Rattle.std.proofs.Common.{ap, ◌∙◌}
 use Rattle.std.specs.declared.vec.Vec.{Vec}
 use Rattle.std.specs.declared.boxed.Box.{Box}
@@ -16,15 +16,15 @@ use Rattle.ep_tree.specs.declared.syntax.Expr.{Expr}
 use Rattle.ep_tree.specs.declared.syntax.Domain.{Domain}
 use Rattle.ep_tree.specs.declared.syntax.Generator.{Generator}
 use Rattle.ep_tree.specs.declared.syntax.Range.{Range}
-use Rattle.ep_tree.specs.declared.syntax.Kind.{Number, Truth, Named as NamedExpr, Group as GroupExpr, Not, Neg, Abs, ToInt, Factorial, Flatten, Add, Binary, Compare, Lex, InDomain, InSet, And, Or, Quant, Literal, Comprehension, Read, Fold, AllDiff, Gcc, AtLeast, AtMost, Table, Row_of-Expr, end_of-Expr, more_of-Expr, items-the_row-Expr, items_hidden-the_row-Expr-3, Row_of-Kind-Add-0-2, end_of-Kind-Add-0-2, more_of-Kind-Add-0-2, items-the_row-Kind-Add-0-2, items_hidden-the_row-Kind-Add-0-2-2, Row_of-Generator, end_of-Generator, more_of-Generator, items-the_row-Generator, items_hidden-the_row-Generator-4, Row_of-Kind-Read-1-1, end_of-Kind-Read-1-1, more_of-Kind-Read-1-1, items-the_row-Kind-Read-1-1, items_hidden-the_row-Kind-Read-1-1-5, Kind-Read-1-1-None', Kind-Read-1-1-Some', Held-Kind-Literal-1, back-Kind-Literal-1}
+use Rattle.ep_tree.specs.declared.syntax.Kind.{Number, Truth, Named as NamedExpr, Group as GroupExpr, Not, Neg, Abs, ToInt, Factorial, Flatten, Add, Binary, Compare, Lex, InDomain, InSet, And, Or, Quant, Literal, Comprehension, Read, Fold, AllDiff, Gcc, AtLeast, AtMost, Table, Row_of-Expr, end_of-Expr, more_of-Expr, items-the_row-Expr, items_hidden-the_row-Expr-3, Row_of-Kind-Add-0-2, end_of-Kind-Add-0-2, more_of-Kind-Add-0-2, items-the_row-Kind-Add-0-2, items_hidden-the_row-Kind-Add-0-2-2, Row_of-Generator, end_of-Generator, more_of-Generator, items-the_row-Generator, items_hidden-the_row-Generator-4, Row_of-Kind-Read-1-1, end_of-Kind-Read-1-1, more_of-Kind-Read-1-1, items-the_row-Kind-Read-1-1, items_hidden-the_row-Kind-Read-1-1-5, Kind-Read-1-1-None', Kind-Read-1-1-Some', back-Kind-Literal-1}
 use Rattle.ep_tree.specs.declared.syntax.DomainKind.{Bool as BoolDomain, Int as IntDomain, Ranges as RangesDomain, Named as NamedDomain, Group as GroupDomain, Set, Matrix, Row_of-Range, end_of-Range, more_of-Range, items-the_row-Range, items_hidden-the_row-Range-0, Row_of-Domain, end_of-Domain, more_of-Domain, items-the_row-Domain, items_hidden-the_row-Domain-1}
 use Rattle.ep_tree.specs.declared.syntax.Range.{One, Span}
 use Rattle.ep_tree.specs.declared.syntax.DomainKind.TheBlock.{hidden-the_row-Expr-3, hidden-the_row-Kind-Add-0-2-2, hidden-the_row-Generator-4, hidden-the_row-Kind-Read-1-1-5, hidden-the_row-Range-0, hidden-the_row-Domain-1}
 use Rattle.ep_tree.specs.declared.values.Value.{Value, Number as NumberValue, Matrix as MatrixValue, Row_of-Value, end_of-Value, more_of-Value, items-the_row-Value, items_hidden-the_row-Value-0}
 use Rattle.ep_tree.specs.declared.values.Value.TheBlock.{hidden-the_row-Value-0}
-use Rattle.ep_tree.specs.Trees.{ExprTree, ExprTrees, Terms, number, truth, named, group, negation, minus, absolute, to_int, factorial, flatten, chain, binary, compare, lex, in_domain, in_set, all_of, any_of, quantified, literal, comprehension, read, folded, all_different, gcc, at_least, at_most, table, bool, int, ranges, named_domain, group_domain, set_domain, matrix_domain, tree_and, term_and, every_and, index_and, one_and, span_and, domain_and, generator_and, IndexDomain, unstated, over}
+use Rattle.ep_tree.specs.Trees.{number, truth, named, group, negation, minus, absolute, to_int, factorial, flatten, chain, binary, compare, lex, in_domain, in_set, all_of, any_of, quantified, literal, comprehension, read, folded, all_different, gcc, at_least, at_most, table, bool, int, ranges, named_domain, group_domain, set_domain, matrix_domain, tree_and, term_and, every_and, index_and, one_and, span_and, domain_and, generator_and, IndexDomain, unstated, over}
 use Rattle.ep_tree.specs.Values.{single, matrix, value_and}
-use Rattle.ep_tree.specs.Views.{kind_tree, domain_kind_tree, row_trees, row_terms, row_indices, with_index, row_generators, held_index, row_ranges, with_range, row_domains, expr_tree, domain_tree, expr_trees, terms_of, indices_of, generators_of, domains_of, end_of, ranges_of, value_tree, row_values, values_from}
+use Rattle.ep_tree.specs.Views.{kind_tree, domain_kind_tree, row_trees, row_terms, row_indices, row_generators, held_index, row_ranges, with_range, row_domains, expr_tree, domain_tree, expr_trees, terms_of, indices_of, generators_of, domains_of, end_of, ranges_of, value_tree, row_values, values_from}
 
 -- ---- rows as lists
 

@@ -8,7 +8,7 @@ use Rattle.ep_base.specs.declared.names.Name.{Name}
 use Rattle.ep_tree.specs.Binding.{Find, Instance, Refusal, and_next, bind_params, parameter, solution_text}
 use Rattle.ep_tree.specs.Environments.{Env}
 use Rattle.ep_tree.specs.Names.{nothing_known}
-use Rattle.ep_tree.specs.Solutions.{Assigned, Given, find_type}
+use Rattle.ep_tree.specs.Solutions.{Assigned, NamedValue, find_type}
 use Rattle.ep_tree.specs.Statements.{TextTree, domain_letting, letting}
 use Rattle.ep_tree.specs.Types.{scalar_of}
 use Rattle.ep_tree.specs.Values.{fitted}
@@ -27,7 +27,7 @@ letting_names (domain_letting p name at d ∷ statements) = name ∷ letting_nam
 letting_names (_ ∷ statements) = letting_names statements
 
 -- the value of a decision variable in what a text's lettings stand for, fitted into its domain
-unfoldable pub fitting_letting : Env → Find → Option Given
+unfoldable pub fitting_letting : Env → Find → Option NamedValue
 fitting_letting known f =
     option_and_then
     (λ entry.

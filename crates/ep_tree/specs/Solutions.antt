@@ -18,22 +18,22 @@ use Rattle.ep_tree.specs.declared.values.Mode.{Mode}
 use Rattle.ep_tree.specs.declared.values.ValueType.{ValueType}
 
 -- a value with its name and type
-pub record Given : Type 0 where
+pub record NamedValue : Type 0 where
   pub name : Name
   pub ty : ValueType
   pub value : ValueTree
 
 -- values of names
 abbrev pub Assigned : Type 0
-Assigned = List Given
+Assigned = List NamedValue
 
 -- what an assignment gives a name
-unfoldable pub given_to : Assigned → Name → Option Given
-given_to [] name = None
-given_to (g ∷ gs) name = if bytes_eq g.name name then Some g else given_to gs name
+unfoldable pub named_in : Assigned → Name → Option NamedValue
+named_in [] name = None
+named_in (g ∷ gs) name = if bytes_eq g.name name then Some g else named_in gs name
 
 -- a value fitted into the domain of a decision variable
-unfoldable pub fitted_find : Find → Given → Option ValueTree
+unfoldable pub fitted_find : Find → NamedValue → Option ValueTree
 fitted_find f g = fitted (scalar_of g.ty) f.scalar (has_number f.values) f.indices g.value
 
 -- the type of a decision variable
@@ -48,7 +48,7 @@ Found = List (Name × Bound)
 unfoldable pub found_values : List Find → Assigned → Option Found
 found_values [] a = Some []
 found_values (f ∷ fs) a =
-    on_both (option_and_then (fitted_find f) (given_to a f.name)) (found_values fs a)
+    on_both (option_and_then (fitted_find f) (named_in a f.name)) (found_values fs a)
     (λ v rest. Some ((f.name, has_value (find_type f) v) ∷ rest))
 
 -- An assignment fits: it names each decision variable once and nothing else, and each value fits its domain. The

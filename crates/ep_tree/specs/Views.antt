@@ -1,13 +1,12 @@
 -- The code's trees, read as plain ones.
 use Rattle.std.specs.Prelude.{Bool, List, [], ◌∷◌, map, Option, Some, None, option_map}
-use Rattle.ep_base.specs.declared.names.Name.{Name}
 use Rattle.ep_base.specs.declared.places.Place.{Place}
 use Rattle.ep_tree.specs.declared.syntax.Expr.{Expr}
 use Rattle.ep_tree.specs.declared.syntax.Domain.{Domain}
 use Rattle.ep_tree.specs.declared.syntax.Generator.{Generator}
 use Rattle.ep_tree.specs.declared.syntax.Kind.{Kind, Number, Truth, Named as NamedExpr, Group' as GroupExpr', Not', Neg', Abs', ToInt', Factorial', Flatten', Add', Binary', Compare', Lex', InDomain', InSet', And', Or', Quant', Literal', Comprehension', Read', Fold', AllDiff', Gcc', AtLeast', AtMost', Table', Row_of-Kind-Add-0-2, end_of-Kind-Add-0-2, more_of-Kind-Add-0-2, Row_of-Expr, end_of-Expr, more_of-Expr, Held-Kind-Literal-1, Kind-Literal-1-None', Kind-Literal-1-Some', Row_of-Generator, end_of-Generator, more_of-Generator, Row_of-Kind-Read-1-1, end_of-Kind-Read-1-1, more_of-Kind-Read-1-1, Held-Kind-Read-1-1, Kind-Read-1-1-None', Kind-Read-1-1-Some'}
 use Rattle.ep_tree.specs.declared.syntax.DomainKind.{DomainKind, Bool as BoolDomain, Int as IntDomain, Ranges', Named as NamedDomain, Group' as GroupDomain', Set', Matrix', Row_of-Range, end_of-Range, more_of-Range, Row_of-Domain, end_of-Domain, more_of-Domain}
-use Rattle.ep_tree.specs.declared.syntax.Range.{Range, One', Span', One, Span}
+use Rattle.ep_tree.specs.declared.syntax.Range.{Range, One', Span'}
 use Rattle.ep_tree.specs.declared.values.Value.{Value, Number as NumberValue, Matrix' as ValueMatrix', Row_of-Value, end_of-Value, more_of-Value}
 use Rattle.ep_tree.specs.declared.statements.Declared.{Declared}
 use Rattle.ep_tree.specs.declared.statements.Statement.{Statement}
@@ -20,7 +19,7 @@ use Rattle.ep_tree.specs.declared.values.Assignment.{Assignment}
 use Rattle.ep_tree.specs.Trees.{ExprTree, number, truth, named, group, negation, minus, absolute, to_int, factorial, flatten, chain, binary, compare, lex, in_domain, in_set, all_of, any_of, quantified, literal, comprehension, read, folded, all_different, gcc, at_least, at_most, table, DomainTree, bool, int, ranges, named_domain, group_domain, set_domain, matrix_domain, ExprTrees, no_trees, tree_and, Terms, no_terms, term_and, Indices, no_indices, every_and, index_and, Ranges, no_ranges, one_and, span_and, End, no_end, end_at, Domains, no_domains, domain_and, Generators, no_generators, generator_and, IndexDomain, unstated, over}
 use Rattle.ep_tree.specs.Statements.{Group, StatementTree, given, decided, letting, domain_letting, requirements, constraints, objective, branching, heuristic, TextTree}
 use Rattle.ep_tree.specs.Values.{ValueTree, single, matrix, ValueTrees, no_values, value_and}
-use Rattle.ep_tree.specs.Solutions.{Given, Assigned}
+use Rattle.ep_tree.specs.Solutions.{NamedValue, Assigned}
 
 unfoldable mutual
   -- an expression of this kind at a place
@@ -180,8 +179,8 @@ unfoldable pub values_from : List Value → ValueTrees
 values_from [] = no_values
 values_from (v ∷ vs) = value_and (value_tree v) (values_from vs)
 
-abbrev pub given_entry : Entry → Given
-given_entry e = record { name = e.name; ty = e.ty; value = value_tree e.value }
+abbrev pub named_value : Entry → NamedValue
+named_value e = record { name = e.name; ty = e.ty; value = value_tree e.value }
 
 abbrev pub assigned : Assignment → Assigned
-assigned a = map given_entry a.entries.items
+assigned a = map named_value a.entries.items
