@@ -8,3 +8,5 @@ mod VectorsHeights
 mod VectorsMeasures
 mod VectorsBinding
 mod VectorsSpelling
+pub mod NumberLaws
+pub mod DomainLaws

@@ -18,13 +18,14 @@ unfoldable pub united : List ℤ → List ℤ → List ℤ
 united [] ys = ys
 united (x ∷ xs) ys = put_in x (united xs ys)
 
+-- a number, or 0 where it is negative
+unfoldable pub or_zero : ℤ → ℕ
+or_zero (pos n) = n
+or_zero (negsuc n) = 0
+
 -- how many numbers there are from a to b: none where b < a
 unfoldable pub count_between : ℤ → ℤ → ℕ
-count_between a b = count_from_zero ((b -ℤ a) +ℤ pos 1)
-  where
-    count_from_zero : ℤ → ℕ
-    count_from_zero (pos n) = n
-    count_from_zero (negsuc n) = 0
+count_between a b = or_zero ((b -ℤ a) +ℤ pos 1)
 
 -- the numbers from a to b
 unfoldable pub between : ℤ → ℤ → List ℤ

@@ -247,17 +247,18 @@ unfoldable pub is_whole : MeasuredIndex → Bool
 is_whole whole_index = true
 is_whole _ = false
 
+-- the first of some extents, and a matrix without parts for none
+unfoldable pub first_extent : List Extent → Extent
+first_extent [] = grid [] no_extents
+first_extent (x ∷ xs) = x
+
 -- the matrix that indices without decision variables leave; where there is none, it has no part
 unfoldable pub slice_extent : List MeasuredIndex → Extent → Extent
 slice_extent [] x = x
 slice_extent (i ∷ is) (one_span s) = grid [] no_extents
 slice_extent (i ∷ is) (grid indices parts) =
     if is_whole i then grid indices (as_extents (map (slice_extent is) (listed_extents parts)))
-    else first_or_none (map (slice_extent is) (left_by i indices parts))
-  where
-    first_or_none : List Extent → Extent
-    first_or_none [] = grid [] no_extents
-    first_or_none (x ∷ xs) = x
+    else first_extent (map (slice_extent is) (left_by i indices parts))
 
 -- the reach of a read: from the least lower end to the greatest upper end of all parts left; [0, 0] of none
 unfoldable pub hull : List Span → Span

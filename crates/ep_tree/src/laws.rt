@@ -1,9 +1,12 @@
 //! Laws that hold of the definitions, each the contract of a function that does nothing.
 
-ghost use Rattle.std.specs.Prelude.{◌≡◌};
+ghost use Rattle.std.specs.Prelude.{◌≡◌, ℕ, zero, suc, ◌&&◌, ℤ, pos, negsuc, ◌+ℤ◌, ◌*ℤ◌, ◌≤ℤ◌, ◌<ℤ◌, int_le, List, Some, None};
 ghost use Rattle.ep_base.specs.declared.names.Name.{Name};
+ghost use Rattle.ep_base.specs.Numbers.{has_number, quotient};
+ghost use Rattle.ep_tree.specs.declared.syntax.SetOp.{SetOp};
 ghost use Rattle.ep_tree.specs.declared.values.Mode.{Mode};
 ghost use Rattle.ep_tree.specs.Trees.{DomainTree, ExprTree};
+ghost use Rattle.ep_tree.specs.Domains.{between, set_has, set_values};
 ghost use Rattle.ep_tree.specs.Names.{put};
 ghost use Rattle.ep_tree.specs.Environments.{Bound, Env};
 ghost use Rattle.ep_tree.specs.Types.{Context, Meaning, judge};
@@ -15,4 +18,20 @@ pub fn hiding_is_lexical()
     ensures value { (mode : Mode) (env : Env) (name : Name) (inner outer : Bound) (e : ExprTree) → evaluate mode (put name inner (put name outer env)) e ≡ evaluate mode (put name inner env) e }
     ensures values { (mode : Mode) (env : Env) (name : Name) (inner outer : Bound) (d : DomainTree) → domain_values mode (put name inner (put name outer env)) d ≡ domain_values mode (put name inner env) d }
     ensures types { (context : Context) (name : Name) (inner outer : Meaning) (e : ExprTree) → judge (put name inner (put name outer context)) e ≡ judge (put name inner context) e }
+{}
+
+/// A quotient is the floor of the exact one: what is left of the dividend lies between 0 and the divisor, and
+/// isn't the divisor. There is none for the divisor 0.
+pub fn quotient_is_the_floor()
+    ensures positive_low { (x q : ℤ) (y : ℕ) → quotient x (pos (suc y)) ≡ Some q → (pos (suc y) *ℤ q) ≤ℤ x }
+    ensures positive_high { (x q : ℤ) (y : ℕ) → quotient x (pos (suc y)) ≡ Some q → x <ℤ ((pos (suc y) *ℤ q) +ℤ pos (suc y)) }
+    ensures negative_high { (x q : ℤ) (y : ℕ) → quotient x (negsuc y) ≡ Some q → x ≤ℤ (negsuc y *ℤ q) }
+    ensures negative_low { (x q : ℤ) (y : ℕ) → quotient x (negsuc y) ≡ Some q → ((negsuc y *ℤ q) +ℤ negsuc y) <ℤ x }
+    ensures by_zero { (x : ℤ) → quotient x (pos zero) ≡ None }
+{}
+
+/// A range has the numbers from its first to its last, and an operation on domains is that of sets.
+pub fn domains_are_sets()
+    ensures ranges { (x first last : ℤ) → has_number (between first last) x ≡ (int_le first x && int_le x last) }
+    ensures operations { (op : SetOp) (xs ys : List ℤ) (x : ℤ) → has_number (set_values op xs ys) x ≡ set_has op (has_number xs x) (has_number ys x) }
 {}

@@ -6,7 +6,7 @@ mod statements;
 mod syntax;
 mod values;
 
-pub use laws::hiding_is_lexical;
+pub use laws::{domains_are_sets, hiding_is_lexical, quotient_is_the_floor};
 pub use statements::{Declared, Model, Objective, Params, Statement, StatementKind};
 pub use syntax::{
     BinaryOp, Domain, DomainKind, Expr, FoldOp, Generator, Kind, QuantOp, Range, SetOp,

@@ -1,0 +1,8 @@
+use Rattle.ep_tree.proofs.DomainLaws.{between-has, set_values-has}
+use Rattle.ep_tree.proofs.laws.domains_are_sets.Goals as goal
+
+pub returns-clause-ranges : goal.returns-clause-ranges
+returns-clause-ranges c x first last = between-has x first last
+
+pub returns-clause-operations : goal.returns-clause-operations
+returns-clause-operations c op xs ys x = set_values-has op xs ys x
