@@ -1,6 +1,7 @@
 pub mod Opened
 pub mod ViewLemmas
 mod VectorsValues
+mod VectorsMatrices
 mod VectorsDomains
 mod VectorsTypes
 mod VectorsFaults
@@ -10,3 +11,4 @@ mod VectorsBinding
 mod VectorsSpelling
 pub mod NumberLaws
 pub mod DomainLaws
+pub mod ClosedDomains

@@ -1,4 +1,4 @@
--- Values of expressions, computed by the checker: for each form of the language, with its edges.
+-- Values of numbers, Booleans, comparisons and quantifiers, computed by the checker: for each form of the language, with its edges.
 use Rattle.std.specs.Prelude.{◌≡◌, true, false, [], ◌∷◌, pos, negsuc, Some, None, codes, refl}
 use Rattle.ep_base.specs.declared.operators.CompareOp.{CompareOp}
 use Rattle.ep_base.specs.declared.operators.LexOp.{LexOp}
@@ -7,8 +7,8 @@ use Rattle.ep_tree.proofs.Opened.{the_language}
 use Rattle.ep_tree.specs.Environments.{has_domain, has_value}
 use Rattle.ep_tree.specs.Evaluation.{evaluate}
 use Rattle.ep_tree.specs.Names.{nothing_known, put_all}
-use Rattle.ep_tree.specs.Trees.{absolute, all_different, all_of, any_of, at_least, at_most, binary, bool, chain, compare, comprehension, end_at, every_and, factorial, flatten, folded, gcc, generator_and, group, in_domain, in_set, index_and, lex, literal, minus, named, named_domain, negation, no_generators, no_indices, no_ranges, no_terms, no_trees, number, one_and, over, quantified, ranges, read, span_and, table, term_and, to_int, tree_and, truth, unstated}
-use Rattle.ep_tree.specs.Values.{matrix, no_values, single, value_and}
+use Rattle.ep_tree.specs.Trees.{absolute, all_of, any_of, binary, bool, chain, compare, end_at, factorial, folded, group, in_domain, in_set, lex, literal, minus, named, named_domain, negation, no_ranges, no_terms, no_trees, number, one_and, quantified, ranges, span_and, term_and, to_int, tree_and, truth, unstated}
+use Rattle.ep_tree.specs.Values.{single}
 use Rattle.ep_tree.specs.declared.syntax.BinaryOp.{BinaryOp}
 use Rattle.ep_tree.specs.declared.syntax.FoldOp.{FoldOp}
 use Rattle.ep_tree.specs.declared.syntax.QuantOp.{QuantOp}
@@ -23,17 +23,17 @@ p = record { line = 1; column = 1 }
 -- ---- numbers and names
 
 -- `7`
-value-1 : evaluate Mode.Relational (put_all ([]) nothing_known) (number p (pos 7)) ≡ (Some (single (pos 7)))
+value-1 : evaluate Mode.Relational nothing_known (number p (pos 7)) ≡ (Some (single (pos 7)))
 unfolding the_language
 value-1 = refl
 
 -- `true`
-value-2 : evaluate Mode.Relational (put_all ([]) nothing_known) (truth p true) ≡ (Some (single (pos 1)))
+value-2 : evaluate Mode.Relational nothing_known (truth p true) ≡ (Some (single (pos 1)))
 unfolding the_language
 value-2 = refl
 
 -- `false`
-value-3 : evaluate Mode.Relational (put_all ([]) nothing_known) (truth p false) ≡ (Some (single (pos 0)))
+value-3 : evaluate Mode.Relational nothing_known (truth p false) ≡ (Some (single (pos 0)))
 unfolding the_language
 value-3 = refl
 
@@ -50,12 +50,12 @@ value-5 = refl
 -- ---- sums, products, signs and bars
 
 -- `7 - 2 + 4`
-value-6 : evaluate Mode.Relational (put_all ([]) nothing_known) (chain p (term_and true (number p (pos 7)) (term_and false (number p (pos 2)) (term_and true (number p (pos 4)) no_terms)))) ≡ (Some (single (pos 9)))
+value-6 : evaluate Mode.Relational nothing_known (chain p (term_and true (number p (pos 7)) (term_and false (number p (pos 2)) (term_and true (number p (pos 4)) no_terms)))) ≡ (Some (single (pos 9)))
 unfolding the_language
 value-6 = refl
 
 -- `3 * 4`
-value-7 : evaluate Mode.Relational (put_all ([]) nothing_known) (binary p BinaryOp.Mul (number p (pos 3)) (number p (pos 4))) ≡ (Some (single (pos 12)))
+value-7 : evaluate Mode.Relational nothing_known (binary p BinaryOp.Mul (number p (pos 3)) (number p (pos 4))) ≡ (Some (single (pos 12)))
 unfolding the_language
 value-7 = refl
 
@@ -65,91 +65,91 @@ unfolding the_language
 value-8 = refl
 
 -- `|2 - 9|`
-value-9 : evaluate Mode.Relational (put_all ([]) nothing_known) (absolute p (chain p (term_and true (number p (pos 2)) (term_and false (number p (pos 9)) no_terms)))) ≡ (Some (single (pos 7)))
+value-9 : evaluate Mode.Relational nothing_known (absolute p (chain p (term_and true (number p (pos 2)) (term_and false (number p (pos 9)) no_terms)))) ≡ (Some (single (pos 7)))
 unfolding the_language
 value-9 = refl
 
 -- `true + true`
-value-10 : evaluate Mode.Relational (put_all ([]) nothing_known) (chain p (term_and true (truth p true) (term_and true (truth p true) no_terms))) ≡ (Some (single (pos 2)))
+value-10 : evaluate Mode.Relational nothing_known (chain p (term_and true (truth p true) (term_and true (truth p true) no_terms))) ≡ (Some (single (pos 2)))
 unfolding the_language
 value-10 = refl
 
 -- `1 + 1/0`
-value-11 : evaluate Mode.Relational (put_all ([]) nothing_known) (chain p (term_and true (number p (pos 1)) (term_and true (binary p BinaryOp.Div (number p (pos 1)) (number p (pos 0))) no_terms))) ≡ None
+value-11 : evaluate Mode.Relational nothing_known (chain p (term_and true (number p (pos 1)) (term_and true (binary p BinaryOp.Div (number p (pos 1)) (number p (pos 0))) no_terms))) ≡ None
 unfolding the_language
 value-11 = refl
 
 -- ---- the floor of a quotient, and what it leaves
 
 -- `7 / 2`
-value-12 : evaluate Mode.Relational (put_all ([]) nothing_known) (binary p BinaryOp.Div (number p (pos 7)) (number p (pos 2))) ≡ (Some (single (pos 3)))
+value-12 : evaluate Mode.Relational nothing_known (binary p BinaryOp.Div (number p (pos 7)) (number p (pos 2))) ≡ (Some (single (pos 3)))
 unfolding the_language
 value-12 = refl
 
 -- `(-7) / 2`
-value-13 : evaluate Mode.Relational (put_all ([]) nothing_known) (binary p BinaryOp.Div (group p (minus p (number p (pos 7)))) (number p (pos 2))) ≡ (Some (single (negsuc 3)))
+value-13 : evaluate Mode.Relational nothing_known (binary p BinaryOp.Div (group p (minus p (number p (pos 7)))) (number p (pos 2))) ≡ (Some (single (negsuc 3)))
 unfolding the_language
 value-13 = refl
 
 -- `7 / (-2)`
-value-14 : evaluate Mode.Relational (put_all ([]) nothing_known) (binary p BinaryOp.Div (number p (pos 7)) (group p (minus p (number p (pos 2))))) ≡ (Some (single (negsuc 3)))
+value-14 : evaluate Mode.Relational nothing_known (binary p BinaryOp.Div (number p (pos 7)) (group p (minus p (number p (pos 2))))) ≡ (Some (single (negsuc 3)))
 unfolding the_language
 value-14 = refl
 
 -- `(-7) / (-2)`
-value-15 : evaluate Mode.Relational (put_all ([]) nothing_known) (binary p BinaryOp.Div (group p (minus p (number p (pos 7)))) (group p (minus p (number p (pos 2))))) ≡ (Some (single (pos 3)))
+value-15 : evaluate Mode.Relational nothing_known (binary p BinaryOp.Div (group p (minus p (number p (pos 7)))) (group p (minus p (number p (pos 2))))) ≡ (Some (single (pos 3)))
 unfolding the_language
 value-15 = refl
 
 -- `1 / 0`
-value-16 : evaluate Mode.Relational (put_all ([]) nothing_known) (binary p BinaryOp.Div (number p (pos 1)) (number p (pos 0))) ≡ None
+value-16 : evaluate Mode.Relational nothing_known (binary p BinaryOp.Div (number p (pos 1)) (number p (pos 0))) ≡ None
 unfolding the_language
 value-16 = refl
 
 -- `(-3) % 5`
-value-17 : evaluate Mode.Relational (put_all ([]) nothing_known) (binary p BinaryOp.Mod (group p (minus p (number p (pos 3)))) (number p (pos 5))) ≡ (Some (single (pos 2)))
+value-17 : evaluate Mode.Relational nothing_known (binary p BinaryOp.Mod (group p (minus p (number p (pos 3)))) (number p (pos 5))) ≡ (Some (single (pos 2)))
 unfolding the_language
 value-17 = refl
 
 -- `3 % (-5)`
-value-18 : evaluate Mode.Relational (put_all ([]) nothing_known) (binary p BinaryOp.Mod (number p (pos 3)) (group p (minus p (number p (pos 5))))) ≡ (Some (single (negsuc 1)))
+value-18 : evaluate Mode.Relational nothing_known (binary p BinaryOp.Mod (number p (pos 3)) (group p (minus p (number p (pos 5))))) ≡ (Some (single (negsuc 1)))
 unfolding the_language
 value-18 = refl
 
 -- `(-7) % (-2)`
-value-19 : evaluate Mode.Relational (put_all ([]) nothing_known) (binary p BinaryOp.Mod (group p (minus p (number p (pos 7)))) (group p (minus p (number p (pos 2))))) ≡ (Some (single (negsuc 0)))
+value-19 : evaluate Mode.Relational nothing_known (binary p BinaryOp.Mod (group p (minus p (number p (pos 7)))) (group p (minus p (number p (pos 2))))) ≡ (Some (single (negsuc 0)))
 unfolding the_language
 value-19 = refl
 
 -- `6 % 3`
-value-20 : evaluate Mode.Relational (put_all ([]) nothing_known) (binary p BinaryOp.Mod (number p (pos 6)) (number p (pos 3))) ≡ (Some (single (pos 0)))
+value-20 : evaluate Mode.Relational nothing_known (binary p BinaryOp.Mod (number p (pos 6)) (number p (pos 3))) ≡ (Some (single (pos 0)))
 unfolding the_language
 value-20 = refl
 
 -- `5 % 0`
-value-21 : evaluate Mode.Relational (put_all ([]) nothing_known) (binary p BinaryOp.Mod (number p (pos 5)) (number p (pos 0))) ≡ None
+value-21 : evaluate Mode.Relational nothing_known (binary p BinaryOp.Mod (number p (pos 5)) (number p (pos 0))) ≡ None
 unfolding the_language
 value-21 = refl
 
 -- ---- powers
 
 -- `2 ** 10`
-value-22 : evaluate Mode.Relational (put_all ([]) nothing_known) (binary p BinaryOp.Pow (number p (pos 2)) (number p (pos 10))) ≡ (Some (single (pos 1024)))
+value-22 : evaluate Mode.Relational nothing_known (binary p BinaryOp.Pow (number p (pos 2)) (number p (pos 10))) ≡ (Some (single (pos 1024)))
 unfolding the_language
 value-22 = refl
 
 -- `0 ** 0`
-value-23 : evaluate Mode.Relational (put_all ([]) nothing_known) (binary p BinaryOp.Pow (number p (pos 0)) (number p (pos 0))) ≡ (Some (single (pos 1)))
+value-23 : evaluate Mode.Relational nothing_known (binary p BinaryOp.Pow (number p (pos 0)) (number p (pos 0))) ≡ (Some (single (pos 1)))
 unfolding the_language
 value-23 = refl
 
 -- `(-2) ** 3`
-value-24 : evaluate Mode.Relational (put_all ([]) nothing_known) (binary p BinaryOp.Pow (group p (minus p (number p (pos 2)))) (number p (pos 3))) ≡ (Some (single (negsuc 7)))
+value-24 : evaluate Mode.Relational nothing_known (binary p BinaryOp.Pow (group p (minus p (number p (pos 2)))) (number p (pos 3))) ≡ (Some (single (negsuc 7)))
 unfolding the_language
 value-24 = refl
 
 -- `2 ** (-1)`
-value-25 : evaluate Mode.Relational (put_all ([]) nothing_known) (binary p BinaryOp.Pow (number p (pos 2)) (group p (minus p (number p (pos 1))))) ≡ None
+value-25 : evaluate Mode.Relational nothing_known (binary p BinaryOp.Pow (number p (pos 2)) (group p (minus p (number p (pos 1))))) ≡ None
 unfolding the_language
 value-25 = refl
 
@@ -159,200 +159,200 @@ unfolding the_language
 value-26 = refl
 
 -- `2 ** 3 ** 2`
-value-27 : evaluate Mode.Relational (put_all ([]) nothing_known) (binary p BinaryOp.Pow (binary p BinaryOp.Pow (number p (pos 2)) (number p (pos 3))) (number p (pos 2))) ≡ (Some (single (pos 64)))
+value-27 : evaluate Mode.Relational nothing_known (binary p BinaryOp.Pow (binary p BinaryOp.Pow (number p (pos 2)) (number p (pos 3))) (number p (pos 2))) ≡ (Some (single (pos 64)))
 unfolding the_language
 value-27 = refl
 
 -- ---- factorials
 
 -- `factorial(5)`
-value-28 : evaluate Mode.Relational (put_all ([]) nothing_known) (factorial p (number p (pos 5))) ≡ (Some (single (pos 120)))
+value-28 : evaluate Mode.Relational nothing_known (factorial p (number p (pos 5))) ≡ (Some (single (pos 120)))
 unfolding the_language
 value-28 = refl
 
 -- `factorial(0)`
-value-29 : evaluate Mode.Relational (put_all ([]) nothing_known) (factorial p (number p (pos 0))) ≡ (Some (single (pos 1)))
+value-29 : evaluate Mode.Relational nothing_known (factorial p (number p (pos 0))) ≡ (Some (single (pos 1)))
 unfolding the_language
 value-29 = refl
 
 -- `factorial(-1)`
-value-30 : evaluate Mode.Relational (put_all ([]) nothing_known) (factorial p (minus p (number p (pos 1)))) ≡ None
+value-30 : evaluate Mode.Relational nothing_known (factorial p (minus p (number p (pos 1)))) ≡ None
 unfolding the_language
 value-30 = refl
 
 -- ---- `min` and `max`
 
 -- `min(3, -2)`
-value-31 : evaluate Mode.Relational (put_all ([]) nothing_known) (binary p BinaryOp.Min (number p (pos 3)) (minus p (number p (pos 2)))) ≡ (Some (single (negsuc 1)))
+value-31 : evaluate Mode.Relational nothing_known (binary p BinaryOp.Min (number p (pos 3)) (minus p (number p (pos 2)))) ≡ (Some (single (negsuc 1)))
 unfolding the_language
 value-31 = refl
 
 -- `max(3, -2)`
-value-32 : evaluate Mode.Relational (put_all ([]) nothing_known) (binary p BinaryOp.Max (number p (pos 3)) (minus p (number p (pos 2)))) ≡ (Some (single (pos 3)))
+value-32 : evaluate Mode.Relational nothing_known (binary p BinaryOp.Max (number p (pos 3)) (minus p (number p (pos 2)))) ≡ (Some (single (pos 3)))
 unfolding the_language
 value-32 = refl
 
 -- `min([4, 2, 9])`
-value-33 : evaluate Mode.Relational (put_all ([]) nothing_known) (folded p FoldOp.Min (literal p (tree_and (number p (pos 4)) (tree_and (number p (pos 2)) (tree_and (number p (pos 9)) no_trees))) unstated)) ≡ (Some (single (pos 2)))
+value-33 : evaluate Mode.Relational nothing_known (folded p FoldOp.Min (literal p (tree_and (number p (pos 4)) (tree_and (number p (pos 2)) (tree_and (number p (pos 9)) no_trees))) unstated)) ≡ (Some (single (pos 2)))
 unfolding the_language
 value-33 = refl
 
 -- `max([4, 2, 9])`
-value-34 : evaluate Mode.Relational (put_all ([]) nothing_known) (folded p FoldOp.Max (literal p (tree_and (number p (pos 4)) (tree_and (number p (pos 2)) (tree_and (number p (pos 9)) no_trees))) unstated)) ≡ (Some (single (pos 9)))
+value-34 : evaluate Mode.Relational nothing_known (folded p FoldOp.Max (literal p (tree_and (number p (pos 4)) (tree_and (number p (pos 2)) (tree_and (number p (pos 9)) no_trees))) unstated)) ≡ (Some (single (pos 9)))
 unfolding the_language
 value-34 = refl
 
 -- `min([])`
-value-35 : evaluate Mode.Relational (put_all ([]) nothing_known) (folded p FoldOp.Min (literal p no_trees unstated)) ≡ None
+value-35 : evaluate Mode.Relational nothing_known (folded p FoldOp.Min (literal p no_trees unstated)) ≡ None
 unfolding the_language
 value-35 = refl
 
 -- `max([])`
-value-36 : evaluate Mode.Relational (put_all ([]) nothing_known) (folded p FoldOp.Max (literal p no_trees unstated)) ≡ None
+value-36 : evaluate Mode.Relational nothing_known (folded p FoldOp.Max (literal p no_trees unstated)) ≡ None
 unfolding the_language
 value-36 = refl
 
 -- ---- matrices folded
 
 -- `sum([1, 2, 3])`
-value-37 : evaluate Mode.Relational (put_all ([]) nothing_known) (folded p FoldOp.Sum (literal p (tree_and (number p (pos 1)) (tree_and (number p (pos 2)) (tree_and (number p (pos 3)) no_trees))) unstated)) ≡ (Some (single (pos 6)))
+value-37 : evaluate Mode.Relational nothing_known (folded p FoldOp.Sum (literal p (tree_and (number p (pos 1)) (tree_and (number p (pos 2)) (tree_and (number p (pos 3)) no_trees))) unstated)) ≡ (Some (single (pos 6)))
 unfolding the_language
 value-37 = refl
 
 -- `sum([])`
-value-38 : evaluate Mode.Relational (put_all ([]) nothing_known) (folded p FoldOp.Sum (literal p no_trees unstated)) ≡ (Some (single (pos 0)))
+value-38 : evaluate Mode.Relational nothing_known (folded p FoldOp.Sum (literal p no_trees unstated)) ≡ (Some (single (pos 0)))
 unfolding the_language
 value-38 = refl
 
 -- `product([2, 3, 4])`
-value-39 : evaluate Mode.Relational (put_all ([]) nothing_known) (folded p FoldOp.Product (literal p (tree_and (number p (pos 2)) (tree_and (number p (pos 3)) (tree_and (number p (pos 4)) no_trees))) unstated)) ≡ (Some (single (pos 24)))
+value-39 : evaluate Mode.Relational nothing_known (folded p FoldOp.Product (literal p (tree_and (number p (pos 2)) (tree_and (number p (pos 3)) (tree_and (number p (pos 4)) no_trees))) unstated)) ≡ (Some (single (pos 24)))
 unfolding the_language
 value-39 = refl
 
 -- `product([])`
-value-40 : evaluate Mode.Relational (put_all ([]) nothing_known) (folded p FoldOp.Product (literal p no_trees unstated)) ≡ (Some (single (pos 1)))
+value-40 : evaluate Mode.Relational nothing_known (folded p FoldOp.Product (literal p no_trees unstated)) ≡ (Some (single (pos 1)))
 unfolding the_language
 value-40 = refl
 
 -- `and([true, false])`
-value-41 : evaluate Mode.Relational (put_all ([]) nothing_known) (folded p FoldOp.And (literal p (tree_and (truth p true) (tree_and (truth p false) no_trees)) unstated)) ≡ (Some (single (pos 0)))
+value-41 : evaluate Mode.Relational nothing_known (folded p FoldOp.And (literal p (tree_and (truth p true) (tree_and (truth p false) no_trees)) unstated)) ≡ (Some (single (pos 0)))
 unfolding the_language
 value-41 = refl
 
 -- `and([])`
-value-42 : evaluate Mode.Relational (put_all ([]) nothing_known) (folded p FoldOp.And (literal p no_trees unstated)) ≡ (Some (single (pos 1)))
+value-42 : evaluate Mode.Relational nothing_known (folded p FoldOp.And (literal p no_trees unstated)) ≡ (Some (single (pos 1)))
 unfolding the_language
 value-42 = refl
 
 -- `or([false, true])`
-value-43 : evaluate Mode.Relational (put_all ([]) nothing_known) (folded p FoldOp.Or (literal p (tree_and (truth p false) (tree_and (truth p true) no_trees)) unstated)) ≡ (Some (single (pos 1)))
+value-43 : evaluate Mode.Relational nothing_known (folded p FoldOp.Or (literal p (tree_and (truth p false) (tree_and (truth p true) no_trees)) unstated)) ≡ (Some (single (pos 1)))
 unfolding the_language
 value-43 = refl
 
 -- `or([])`
-value-44 : evaluate Mode.Relational (put_all ([]) nothing_known) (folded p FoldOp.Or (literal p no_trees unstated)) ≡ (Some (single (pos 0)))
+value-44 : evaluate Mode.Relational nothing_known (folded p FoldOp.Or (literal p no_trees unstated)) ≡ (Some (single (pos 0)))
 unfolding the_language
 value-44 = refl
 
 -- `sum([1, 1/0])`
-value-45 : evaluate Mode.Relational (put_all ([]) nothing_known) (folded p FoldOp.Sum (literal p (tree_and (number p (pos 1)) (tree_and (binary p BinaryOp.Div (number p (pos 1)) (number p (pos 0))) no_trees)) unstated)) ≡ None
+value-45 : evaluate Mode.Relational nothing_known (folded p FoldOp.Sum (literal p (tree_and (number p (pos 1)) (tree_and (binary p BinaryOp.Div (number p (pos 1)) (number p (pos 0))) no_trees)) unstated)) ≡ None
 unfolding the_language
 value-45 = refl
 
 -- `sum([[1, 2], [3]])`
-value-46 : evaluate Mode.Relational (put_all ([]) nothing_known) (folded p FoldOp.Sum (literal p (tree_and (literal p (tree_and (number p (pos 1)) (tree_and (number p (pos 2)) no_trees)) unstated) (tree_and (literal p (tree_and (number p (pos 3)) no_trees) unstated) no_trees)) unstated)) ≡ (Some (single (pos 6)))
+value-46 : evaluate Mode.Relational nothing_known (folded p FoldOp.Sum (literal p (tree_and (literal p (tree_and (number p (pos 1)) (tree_and (number p (pos 2)) no_trees)) unstated) (tree_and (literal p (tree_and (number p (pos 3)) no_trees) unstated) no_trees)) unstated)) ≡ (Some (single (pos 6)))
 unfolding the_language
 value-46 = refl
 
 -- ---- comparisons and connectives
 
 -- `2 < 3`
-value-47 : evaluate Mode.Relational (put_all ([]) nothing_known) (compare p CompareOp.Less (number p (pos 2)) (number p (pos 3))) ≡ (Some (single (pos 1)))
+value-47 : evaluate Mode.Relational nothing_known (compare p CompareOp.Less (number p (pos 2)) (number p (pos 3))) ≡ (Some (single (pos 1)))
 unfolding the_language
 value-47 = refl
 
 -- `3 <= 2`
-value-48 : evaluate Mode.Relational (put_all ([]) nothing_known) (compare p CompareOp.AtMost (number p (pos 3)) (number p (pos 2))) ≡ (Some (single (pos 0)))
+value-48 : evaluate Mode.Relational nothing_known (compare p CompareOp.AtMost (number p (pos 3)) (number p (pos 2))) ≡ (Some (single (pos 0)))
 unfolding the_language
 value-48 = refl
 
 -- `2 != 2`
-value-49 : evaluate Mode.Relational (put_all ([]) nothing_known) (compare p CompareOp.NotEqual (number p (pos 2)) (number p (pos 2))) ≡ (Some (single (pos 0)))
+value-49 : evaluate Mode.Relational nothing_known (compare p CompareOp.NotEqual (number p (pos 2)) (number p (pos 2))) ≡ (Some (single (pos 0)))
 unfolding the_language
 value-49 = refl
 
 -- `3 >= 3`
-value-50 : evaluate Mode.Relational (put_all ([]) nothing_known) (compare p CompareOp.AtLeast (number p (pos 3)) (number p (pos 3))) ≡ (Some (single (pos 1)))
+value-50 : evaluate Mode.Relational nothing_known (compare p CompareOp.AtLeast (number p (pos 3)) (number p (pos 3))) ≡ (Some (single (pos 1)))
 unfolding the_language
 value-50 = refl
 
 -- `3 > 3`
-value-51 : evaluate Mode.Relational (put_all ([]) nothing_known) (compare p CompareOp.Greater (number p (pos 3)) (number p (pos 3))) ≡ (Some (single (pos 0)))
+value-51 : evaluate Mode.Relational nothing_known (compare p CompareOp.Greater (number p (pos 3)) (number p (pos 3))) ≡ (Some (single (pos 0)))
 unfolding the_language
 value-51 = refl
 
 -- `true = 1`
-value-52 : evaluate Mode.Relational (put_all ([]) nothing_known) (compare p CompareOp.Equal (truth p true) (number p (pos 1))) ≡ (Some (single (pos 1)))
+value-52 : evaluate Mode.Relational nothing_known (compare p CompareOp.Equal (truth p true) (number p (pos 1))) ≡ (Some (single (pos 1)))
 unfolding the_language
 value-52 = refl
 
 -- `1/0 = 1`
-value-53 : evaluate Mode.Relational (put_all ([]) nothing_known) (compare p CompareOp.Equal (binary p BinaryOp.Div (number p (pos 1)) (number p (pos 0))) (number p (pos 1))) ≡ (Some (single (pos 0)))
+value-53 : evaluate Mode.Relational nothing_known (compare p CompareOp.Equal (binary p BinaryOp.Div (number p (pos 1)) (number p (pos 0))) (number p (pos 1))) ≡ (Some (single (pos 0)))
 unfolding the_language
 value-53 = refl
 
 -- `!(1/0 = 1)`
-value-54 : evaluate Mode.Relational (put_all ([]) nothing_known) (negation p (group p (compare p CompareOp.Equal (binary p BinaryOp.Div (number p (pos 1)) (number p (pos 0))) (number p (pos 1))))) ≡ (Some (single (pos 1)))
+value-54 : evaluate Mode.Relational nothing_known (negation p (group p (compare p CompareOp.Equal (binary p BinaryOp.Div (number p (pos 1)) (number p (pos 0))) (number p (pos 1))))) ≡ (Some (single (pos 1)))
 unfolding the_language
 value-54 = refl
 
 -- `!true`
-value-55 : evaluate Mode.Relational (put_all ([]) nothing_known) (negation p (truth p true)) ≡ (Some (single (pos 0)))
+value-55 : evaluate Mode.Relational nothing_known (negation p (truth p true)) ≡ (Some (single (pos 0)))
 unfolding the_language
 value-55 = refl
 
 -- `true -> false`
-value-56 : evaluate Mode.Relational (put_all ([]) nothing_known) (binary p BinaryOp.Implies (truth p true) (truth p false)) ≡ (Some (single (pos 0)))
+value-56 : evaluate Mode.Relational nothing_known (binary p BinaryOp.Implies (truth p true) (truth p false)) ≡ (Some (single (pos 0)))
 unfolding the_language
 value-56 = refl
 
 -- `false -> false`
-value-57 : evaluate Mode.Relational (put_all ([]) nothing_known) (binary p BinaryOp.Implies (truth p false) (truth p false)) ≡ (Some (single (pos 1)))
+value-57 : evaluate Mode.Relational nothing_known (binary p BinaryOp.Implies (truth p false) (truth p false)) ≡ (Some (single (pos 1)))
 unfolding the_language
 value-57 = refl
 
 -- `true <-> true`
-value-58 : evaluate Mode.Relational (put_all ([]) nothing_known) (binary p BinaryOp.Iff (truth p true) (truth p true)) ≡ (Some (single (pos 1)))
+value-58 : evaluate Mode.Relational nothing_known (binary p BinaryOp.Iff (truth p true) (truth p true)) ≡ (Some (single (pos 1)))
 unfolding the_language
 value-58 = refl
 
 -- `true <-> false`
-value-59 : evaluate Mode.Relational (put_all ([]) nothing_known) (binary p BinaryOp.Iff (truth p true) (truth p false)) ≡ (Some (single (pos 0)))
+value-59 : evaluate Mode.Relational nothing_known (binary p BinaryOp.Iff (truth p true) (truth p false)) ≡ (Some (single (pos 0)))
 unfolding the_language
 value-59 = refl
 
 -- `true /\ false /\ true`
-value-60 : evaluate Mode.Relational (put_all ([]) nothing_known) (all_of p (tree_and (truth p true) (tree_and (truth p false) (tree_and (truth p true) no_trees)))) ≡ (Some (single (pos 0)))
+value-60 : evaluate Mode.Relational nothing_known (all_of p (tree_and (truth p true) (tree_and (truth p false) (tree_and (truth p true) no_trees)))) ≡ (Some (single (pos 0)))
 unfolding the_language
 value-60 = refl
 
 -- `true /\ true`
-value-61 : evaluate Mode.Relational (put_all ([]) nothing_known) (all_of p (tree_and (truth p true) (tree_and (truth p true) no_trees))) ≡ (Some (single (pos 1)))
+value-61 : evaluate Mode.Relational nothing_known (all_of p (tree_and (truth p true) (tree_and (truth p true) no_trees))) ≡ (Some (single (pos 1)))
 unfolding the_language
 value-61 = refl
 
 -- `false \/ true`
-value-62 : evaluate Mode.Relational (put_all ([]) nothing_known) (any_of p (tree_and (truth p false) (tree_and (truth p true) no_trees))) ≡ (Some (single (pos 1)))
+value-62 : evaluate Mode.Relational nothing_known (any_of p (tree_and (truth p false) (tree_and (truth p true) no_trees))) ≡ (Some (single (pos 1)))
 unfolding the_language
 value-62 = refl
 
 -- `false \/ false`
-value-63 : evaluate Mode.Relational (put_all ([]) nothing_known) (any_of p (tree_and (truth p false) (tree_and (truth p false) no_trees))) ≡ (Some (single (pos 0)))
+value-63 : evaluate Mode.Relational nothing_known (any_of p (tree_and (truth p false) (tree_and (truth p false) no_trees))) ≡ (Some (single (pos 0)))
 unfolding the_language
 value-63 = refl
 
 -- `toInt(true)`
-value-64 : evaluate Mode.Relational (put_all ([]) nothing_known) (to_int p (truth p true)) ≡ (Some (single (pos 1)))
+value-64 : evaluate Mode.Relational nothing_known (to_int p (truth p true)) ≡ (Some (single (pos 1)))
 unfolding the_language
 value-64 = refl
 
@@ -371,64 +371,64 @@ value-66 = refl
 -- ---- lexicographic order
 
 -- `[1, 2] <lex [1, 2, 0]`
-value-67 : evaluate Mode.Relational (put_all ([]) nothing_known) (lex p LexOp.Less (literal p (tree_and (number p (pos 1)) (tree_and (number p (pos 2)) no_trees)) unstated) (literal p (tree_and (number p (pos 1)) (tree_and (number p (pos 2)) (tree_and (number p (pos 0)) no_trees))) unstated)) ≡ (Some (single (pos 1)))
+value-67 : evaluate Mode.Relational nothing_known (lex p LexOp.Less (literal p (tree_and (number p (pos 1)) (tree_and (number p (pos 2)) no_trees)) unstated) (literal p (tree_and (number p (pos 1)) (tree_and (number p (pos 2)) (tree_and (number p (pos 0)) no_trees))) unstated)) ≡ (Some (single (pos 1)))
 unfolding the_language
 value-67 = refl
 
 -- `[2] <lex [1, 9]`
-value-68 : evaluate Mode.Relational (put_all ([]) nothing_known) (lex p LexOp.Less (literal p (tree_and (number p (pos 2)) no_trees) unstated) (literal p (tree_and (number p (pos 1)) (tree_and (number p (pos 9)) no_trees)) unstated)) ≡ (Some (single (pos 0)))
+value-68 : evaluate Mode.Relational nothing_known (lex p LexOp.Less (literal p (tree_and (number p (pos 2)) no_trees) unstated) (literal p (tree_and (number p (pos 1)) (tree_and (number p (pos 9)) no_trees)) unstated)) ≡ (Some (single (pos 0)))
 unfolding the_language
 value-68 = refl
 
 -- `[1] <=lex [1]`
-value-69 : evaluate Mode.Relational (put_all ([]) nothing_known) (lex p LexOp.AtMost (literal p (tree_and (number p (pos 1)) no_trees) unstated) (literal p (tree_and (number p (pos 1)) no_trees) unstated)) ≡ (Some (single (pos 1)))
+value-69 : evaluate Mode.Relational nothing_known (lex p LexOp.AtMost (literal p (tree_and (number p (pos 1)) no_trees) unstated) (literal p (tree_and (number p (pos 1)) no_trees) unstated)) ≡ (Some (single (pos 1)))
 unfolding the_language
 value-69 = refl
 
 -- `[1] <lex [1]`
-value-70 : evaluate Mode.Relational (put_all ([]) nothing_known) (lex p LexOp.Less (literal p (tree_and (number p (pos 1)) no_trees) unstated) (literal p (tree_and (number p (pos 1)) no_trees) unstated)) ≡ (Some (single (pos 0)))
+value-70 : evaluate Mode.Relational nothing_known (lex p LexOp.Less (literal p (tree_and (number p (pos 1)) no_trees) unstated) (literal p (tree_and (number p (pos 1)) no_trees) unstated)) ≡ (Some (single (pos 0)))
 unfolding the_language
 value-70 = refl
 
 -- `[] <lex []`
-value-71 : evaluate Mode.Relational (put_all ([]) nothing_known) (lex p LexOp.Less (literal p no_trees unstated) (literal p no_trees unstated)) ≡ (Some (single (pos 0)))
+value-71 : evaluate Mode.Relational nothing_known (lex p LexOp.Less (literal p no_trees unstated) (literal p no_trees unstated)) ≡ (Some (single (pos 0)))
 unfolding the_language
 value-71 = refl
 
 -- `[1, 3] >lex [1, 2]`
-value-72 : evaluate Mode.Relational (put_all ([]) nothing_known) (lex p LexOp.Greater (literal p (tree_and (number p (pos 1)) (tree_and (number p (pos 3)) no_trees)) unstated) (literal p (tree_and (number p (pos 1)) (tree_and (number p (pos 2)) no_trees)) unstated)) ≡ (Some (single (pos 1)))
+value-72 : evaluate Mode.Relational nothing_known (lex p LexOp.Greater (literal p (tree_and (number p (pos 1)) (tree_and (number p (pos 3)) no_trees)) unstated) (literal p (tree_and (number p (pos 1)) (tree_and (number p (pos 2)) no_trees)) unstated)) ≡ (Some (single (pos 1)))
 unfolding the_language
 value-72 = refl
 
 -- `[1] >=lex [1, 0]`
-value-73 : evaluate Mode.Relational (put_all ([]) nothing_known) (lex p LexOp.AtLeast (literal p (tree_and (number p (pos 1)) no_trees) unstated) (literal p (tree_and (number p (pos 1)) (tree_and (number p (pos 0)) no_trees)) unstated)) ≡ (Some (single (pos 0)))
+value-73 : evaluate Mode.Relational nothing_known (lex p LexOp.AtLeast (literal p (tree_and (number p (pos 1)) no_trees) unstated) (literal p (tree_and (number p (pos 1)) (tree_and (number p (pos 0)) no_trees)) unstated)) ≡ (Some (single (pos 0)))
 unfolding the_language
 value-73 = refl
 
 -- `[1/0] <=lex [1]`
-value-74 : evaluate Mode.Relational (put_all ([]) nothing_known) (lex p LexOp.AtMost (literal p (tree_and (binary p BinaryOp.Div (number p (pos 1)) (number p (pos 0))) no_trees) unstated) (literal p (tree_and (number p (pos 1)) no_trees) unstated)) ≡ (Some (single (pos 0)))
+value-74 : evaluate Mode.Relational nothing_known (lex p LexOp.AtMost (literal p (tree_and (binary p BinaryOp.Div (number p (pos 1)) (number p (pos 0))) no_trees) unstated) (literal p (tree_and (number p (pos 1)) no_trees) unstated)) ≡ (Some (single (pos 0)))
 unfolding the_language
 value-74 = refl
 
 -- ---- membership
 
 -- `7 in int(1..3, 7)`
-value-75 : evaluate Mode.Relational (put_all ([]) nothing_known) (in_domain p (number p (pos 7)) (ranges p (span_and (end_at (number p (pos 1))) (end_at (number p (pos 3))) (one_and (number p (pos 7)) no_ranges)))) ≡ (Some (single (pos 1)))
+value-75 : evaluate Mode.Relational nothing_known (in_domain p (number p (pos 7)) (ranges p (span_and (end_at (number p (pos 1))) (end_at (number p (pos 3))) (one_and (number p (pos 7)) no_ranges)))) ≡ (Some (single (pos 1)))
 unfolding the_language
 value-75 = refl
 
 -- `5 in int(1..3, 7)`
-value-76 : evaluate Mode.Relational (put_all ([]) nothing_known) (in_domain p (number p (pos 5)) (ranges p (span_and (end_at (number p (pos 1))) (end_at (number p (pos 3))) (one_and (number p (pos 7)) no_ranges)))) ≡ (Some (single (pos 0)))
+value-76 : evaluate Mode.Relational nothing_known (in_domain p (number p (pos 5)) (ranges p (span_and (end_at (number p (pos 1))) (end_at (number p (pos 3))) (one_and (number p (pos 7)) no_ranges)))) ≡ (Some (single (pos 0)))
 unfolding the_language
 value-76 = refl
 
 -- `1 in bool`
-value-77 : evaluate Mode.Relational (put_all ([]) nothing_known) (in_domain p (number p (pos 1)) (bool p)) ≡ (Some (single (pos 1)))
+value-77 : evaluate Mode.Relational nothing_known (in_domain p (number p (pos 1)) (bool p)) ≡ (Some (single (pos 1)))
 unfolding the_language
 value-77 = refl
 
 -- `2 in int(1..1/0)`
-value-78 : evaluate Mode.Relational (put_all ([]) nothing_known) (in_domain p (number p (pos 2)) (ranges p (span_and (end_at (number p (pos 1))) (end_at (binary p BinaryOp.Div (number p (pos 1)) (number p (pos 0)))) no_ranges))) ≡ (Some (single (pos 0)))
+value-78 : evaluate Mode.Relational nothing_known (in_domain p (number p (pos 2)) (ranges p (span_and (end_at (number p (pos 1))) (end_at (binary p BinaryOp.Div (number p (pos 1)) (number p (pos 0)))) no_ranges))) ≡ (Some (single (pos 0)))
 unfolding the_language
 value-78 = refl
 
@@ -438,86 +438,86 @@ unfolding the_language
 value-79 = refl
 
 -- `2 in toSet([1, 2])`
-value-80 : evaluate Mode.Relational (put_all ([]) nothing_known) (in_set p (number p (pos 2)) (literal p (tree_and (number p (pos 1)) (tree_and (number p (pos 2)) no_trees)) unstated)) ≡ (Some (single (pos 1)))
+value-80 : evaluate Mode.Relational nothing_known (in_set p (number p (pos 2)) (literal p (tree_and (number p (pos 1)) (tree_and (number p (pos 2)) no_trees)) unstated)) ≡ (Some (single (pos 1)))
 unfolding the_language
 value-80 = refl
 
 -- `3 in toSet([1, 2])`
-value-81 : evaluate Mode.Relational (put_all ([]) nothing_known) (in_set p (number p (pos 3)) (literal p (tree_and (number p (pos 1)) (tree_and (number p (pos 2)) no_trees)) unstated)) ≡ (Some (single (pos 0)))
+value-81 : evaluate Mode.Relational nothing_known (in_set p (number p (pos 3)) (literal p (tree_and (number p (pos 1)) (tree_and (number p (pos 2)) no_trees)) unstated)) ≡ (Some (single (pos 0)))
 unfolding the_language
 value-81 = refl
 
 -- `3 in toSet([])`
-value-82 : evaluate Mode.Relational (put_all ([]) nothing_known) (in_set p (number p (pos 3)) (literal p no_trees unstated)) ≡ (Some (single (pos 0)))
+value-82 : evaluate Mode.Relational nothing_known (in_set p (number p (pos 3)) (literal p no_trees unstated)) ≡ (Some (single (pos 0)))
 unfolding the_language
 value-82 = refl
 
 -- ---- quantifiers; an empty domain, and an undefined one
 
 -- `forAll i : int(1..3) . i < 4`
-value-83 : evaluate Mode.Relational (put_all ([]) nothing_known) (quantified p QuantOp.ForAll ((codes "i") ∷ []) (ranges p (span_and (end_at (number p (pos 1))) (end_at (number p (pos 3))) no_ranges)) (compare p CompareOp.Less (named p (codes "i")) (number p (pos 4)))) ≡ (Some (single (pos 1)))
+value-83 : evaluate Mode.Relational nothing_known (quantified p QuantOp.ForAll ((codes "i") ∷ []) (ranges p (span_and (end_at (number p (pos 1))) (end_at (number p (pos 3))) no_ranges)) (compare p CompareOp.Less (named p (codes "i")) (number p (pos 4)))) ≡ (Some (single (pos 1)))
 unfolding the_language
 value-83 = refl
 
 -- `forAll i : int(1..3) . i < 3`
-value-84 : evaluate Mode.Relational (put_all ([]) nothing_known) (quantified p QuantOp.ForAll ((codes "i") ∷ []) (ranges p (span_and (end_at (number p (pos 1))) (end_at (number p (pos 3))) no_ranges)) (compare p CompareOp.Less (named p (codes "i")) (number p (pos 3)))) ≡ (Some (single (pos 0)))
+value-84 : evaluate Mode.Relational nothing_known (quantified p QuantOp.ForAll ((codes "i") ∷ []) (ranges p (span_and (end_at (number p (pos 1))) (end_at (number p (pos 3))) no_ranges)) (compare p CompareOp.Less (named p (codes "i")) (number p (pos 3)))) ≡ (Some (single (pos 0)))
 unfolding the_language
 value-84 = refl
 
 -- `forAll i : int(1..0) . false`
-value-85 : evaluate Mode.Relational (put_all ([]) nothing_known) (quantified p QuantOp.ForAll ((codes "i") ∷ []) (ranges p (span_and (end_at (number p (pos 1))) (end_at (number p (pos 0))) no_ranges)) (truth p false)) ≡ (Some (single (pos 1)))
+value-85 : evaluate Mode.Relational nothing_known (quantified p QuantOp.ForAll ((codes "i") ∷ []) (ranges p (span_and (end_at (number p (pos 1))) (end_at (number p (pos 0))) no_ranges)) (truth p false)) ≡ (Some (single (pos 1)))
 unfolding the_language
 value-85 = refl
 
 -- `forAll i : int(1..1/0) . true`
-value-86 : evaluate Mode.Relational (put_all ([]) nothing_known) (quantified p QuantOp.ForAll ((codes "i") ∷ []) (ranges p (span_and (end_at (number p (pos 1))) (end_at (binary p BinaryOp.Div (number p (pos 1)) (number p (pos 0)))) no_ranges)) (truth p true)) ≡ (Some (single (pos 0)))
+value-86 : evaluate Mode.Relational nothing_known (quantified p QuantOp.ForAll ((codes "i") ∷ []) (ranges p (span_and (end_at (number p (pos 1))) (end_at (binary p BinaryOp.Div (number p (pos 1)) (number p (pos 0)))) no_ranges)) (truth p true)) ≡ (Some (single (pos 0)))
 unfolding the_language
 value-86 = refl
 
 -- `exists i : int(1..3) . i = 2`
-value-87 : evaluate Mode.Relational (put_all ([]) nothing_known) (quantified p QuantOp.Exists ((codes "i") ∷ []) (ranges p (span_and (end_at (number p (pos 1))) (end_at (number p (pos 3))) no_ranges)) (compare p CompareOp.Equal (named p (codes "i")) (number p (pos 2)))) ≡ (Some (single (pos 1)))
+value-87 : evaluate Mode.Relational nothing_known (quantified p QuantOp.Exists ((codes "i") ∷ []) (ranges p (span_and (end_at (number p (pos 1))) (end_at (number p (pos 3))) no_ranges)) (compare p CompareOp.Equal (named p (codes "i")) (number p (pos 2)))) ≡ (Some (single (pos 1)))
 unfolding the_language
 value-87 = refl
 
 -- `exists i : int(1..0) . true`
-value-88 : evaluate Mode.Relational (put_all ([]) nothing_known) (quantified p QuantOp.Exists ((codes "i") ∷ []) (ranges p (span_and (end_at (number p (pos 1))) (end_at (number p (pos 0))) no_ranges)) (truth p true)) ≡ (Some (single (pos 0)))
+value-88 : evaluate Mode.Relational nothing_known (quantified p QuantOp.Exists ((codes "i") ∷ []) (ranges p (span_and (end_at (number p (pos 1))) (end_at (number p (pos 0))) no_ranges)) (truth p true)) ≡ (Some (single (pos 0)))
 unfolding the_language
 value-88 = refl
 
 -- `exists i : int(1..1/0) . true`
-value-89 : evaluate Mode.Relational (put_all ([]) nothing_known) (quantified p QuantOp.Exists ((codes "i") ∷ []) (ranges p (span_and (end_at (number p (pos 1))) (end_at (binary p BinaryOp.Div (number p (pos 1)) (number p (pos 0)))) no_ranges)) (truth p true)) ≡ (Some (single (pos 0)))
+value-89 : evaluate Mode.Relational nothing_known (quantified p QuantOp.Exists ((codes "i") ∷ []) (ranges p (span_and (end_at (number p (pos 1))) (end_at (binary p BinaryOp.Div (number p (pos 1)) (number p (pos 0)))) no_ranges)) (truth p true)) ≡ (Some (single (pos 0)))
 unfolding the_language
 value-89 = refl
 
 -- `sum i : int(1..3) . i * i`
-value-90 : evaluate Mode.Relational (put_all ([]) nothing_known) (quantified p QuantOp.Sum ((codes "i") ∷ []) (ranges p (span_and (end_at (number p (pos 1))) (end_at (number p (pos 3))) no_ranges)) (binary p BinaryOp.Mul (named p (codes "i")) (named p (codes "i")))) ≡ (Some (single (pos 14)))
+value-90 : evaluate Mode.Relational nothing_known (quantified p QuantOp.Sum ((codes "i") ∷ []) (ranges p (span_and (end_at (number p (pos 1))) (end_at (number p (pos 3))) no_ranges)) (binary p BinaryOp.Mul (named p (codes "i")) (named p (codes "i")))) ≡ (Some (single (pos 14)))
 unfolding the_language
 value-90 = refl
 
 -- `sum i : int(1..0) . 1`
-value-91 : evaluate Mode.Relational (put_all ([]) nothing_known) (quantified p QuantOp.Sum ((codes "i") ∷ []) (ranges p (span_and (end_at (number p (pos 1))) (end_at (number p (pos 0))) no_ranges)) (number p (pos 1))) ≡ (Some (single (pos 0)))
+value-91 : evaluate Mode.Relational nothing_known (quantified p QuantOp.Sum ((codes "i") ∷ []) (ranges p (span_and (end_at (number p (pos 1))) (end_at (number p (pos 0))) no_ranges)) (number p (pos 1))) ≡ (Some (single (pos 0)))
 unfolding the_language
 value-91 = refl
 
 -- `sum i : int(1..1/0) . 1`
-value-92 : evaluate Mode.Relational (put_all ([]) nothing_known) (quantified p QuantOp.Sum ((codes "i") ∷ []) (ranges p (span_and (end_at (number p (pos 1))) (end_at (binary p BinaryOp.Div (number p (pos 1)) (number p (pos 0)))) no_ranges)) (number p (pos 1))) ≡ None
+value-92 : evaluate Mode.Relational nothing_known (quantified p QuantOp.Sum ((codes "i") ∷ []) (ranges p (span_and (end_at (number p (pos 1))) (end_at (binary p BinaryOp.Div (number p (pos 1)) (number p (pos 0)))) no_ranges)) (number p (pos 1))) ≡ None
 unfolding the_language
 value-92 = refl
 
 -- `sum b : bool . b`
-value-93 : evaluate Mode.Relational (put_all ([]) nothing_known) (quantified p QuantOp.Sum ((codes "b") ∷ []) (bool p) (named p (codes "b"))) ≡ (Some (single (pos 1)))
+value-93 : evaluate Mode.Relational nothing_known (quantified p QuantOp.Sum ((codes "b") ∷ []) (bool p) (named p (codes "b"))) ≡ (Some (single (pos 1)))
 unfolding the_language
 value-93 = refl
 
 -- `forAll i : int(0..2) . 6/i > 2`
-value-94 : evaluate Mode.Relational (put_all ([]) nothing_known) (quantified p QuantOp.ForAll ((codes "i") ∷ []) (ranges p (span_and (end_at (number p (pos 0))) (end_at (number p (pos 2))) no_ranges)) (compare p CompareOp.Greater (binary p BinaryOp.Div (number p (pos 6)) (named p (codes "i"))) (number p (pos 2)))) ≡ (Some (single (pos 0)))
+value-94 : evaluate Mode.Relational nothing_known (quantified p QuantOp.ForAll ((codes "i") ∷ []) (ranges p (span_and (end_at (number p (pos 0))) (end_at (number p (pos 2))) no_ranges)) (compare p CompareOp.Greater (binary p BinaryOp.Div (number p (pos 6)) (named p (codes "i"))) (number p (pos 2)))) ≡ (Some (single (pos 0)))
 unfolding the_language
 value-94 = refl
 
 -- ---- several names are nested, and the domain is read for each in turn
 
 -- `sum i, j : int(1..3) . i * j`
-value-95 : evaluate Mode.Relational (put_all ([]) nothing_known) (quantified p QuantOp.Sum ((codes "i") ∷ (codes "j") ∷ []) (ranges p (span_and (end_at (number p (pos 1))) (end_at (number p (pos 3))) no_ranges)) (binary p BinaryOp.Mul (named p (codes "i")) (named p (codes "j")))) ≡ (Some (single (pos 36)))
+value-95 : evaluate Mode.Relational nothing_known (quantified p QuantOp.Sum ((codes "i") ∷ (codes "j") ∷ []) (ranges p (span_and (end_at (number p (pos 1))) (end_at (number p (pos 3))) no_ranges)) (binary p BinaryOp.Mul (named p (codes "i")) (named p (codes "j")))) ≡ (Some (single (pos 36)))
 unfolding the_language
 value-95 = refl
 
@@ -534,367 +534,6 @@ unfolding the_language
 value-97 = refl
 
 -- `sum i : int(1..2) . (sum i : int(5..6) . i)`
-value-98 : evaluate Mode.Relational (put_all ([]) nothing_known) (quantified p QuantOp.Sum ((codes "i") ∷ []) (ranges p (span_and (end_at (number p (pos 1))) (end_at (number p (pos 2))) no_ranges)) (group p (quantified p QuantOp.Sum ((codes "i") ∷ []) (ranges p (span_and (end_at (number p (pos 5))) (end_at (number p (pos 6))) no_ranges)) (named p (codes "i"))))) ≡ (Some (single (pos 22)))
+value-98 : evaluate Mode.Relational nothing_known (quantified p QuantOp.Sum ((codes "i") ∷ []) (ranges p (span_and (end_at (number p (pos 1))) (end_at (number p (pos 2))) no_ranges)) (group p (quantified p QuantOp.Sum ((codes "i") ∷ []) (ranges p (span_and (end_at (number p (pos 5))) (end_at (number p (pos 6))) no_ranges)) (named p (codes "i"))))) ≡ (Some (single (pos 22)))
 unfolding the_language
 value-98 = refl
-
--- ---- lists; an index domain with a gap, of another number of values, and an undefined one
-
--- `[4, 5]`
-value-99 : evaluate Mode.Relational (put_all ([]) nothing_known) (literal p (tree_and (number p (pos 4)) (tree_and (number p (pos 5)) no_trees)) unstated) ≡ (Some (matrix ((pos 1) ∷ (pos 2) ∷ []) (value_and (single (pos 4)) (value_and (single (pos 5)) no_values))))
-unfolding the_language
-value-99 = refl
-
--- `[4, 5; int(0, 3)]`
-value-100 : evaluate Mode.Relational (put_all ([]) nothing_known) (literal p (tree_and (number p (pos 4)) (tree_and (number p (pos 5)) no_trees)) (over (ranges p (one_and (number p (pos 0)) (one_and (number p (pos 3)) no_ranges))))) ≡ (Some (matrix ((pos 0) ∷ (pos 3) ∷ []) (value_and (single (pos 4)) (value_and (single (pos 5)) no_values))))
-unfolding the_language
-value-100 = refl
-
--- `[4, 5; int(1..3)]`
-value-101 : evaluate Mode.Relational (put_all ([]) nothing_known) (literal p (tree_and (number p (pos 4)) (tree_and (number p (pos 5)) no_trees)) (over (ranges p (span_and (end_at (number p (pos 1))) (end_at (number p (pos 3))) no_ranges)))) ≡ None
-unfolding the_language
-value-101 = refl
-
--- `[5; int(1..1/0)]`
-value-102 : evaluate Mode.Relational (put_all ([]) nothing_known) (literal p (tree_and (number p (pos 5)) no_trees) (over (ranges p (span_and (end_at (number p (pos 1))) (end_at (binary p BinaryOp.Div (number p (pos 1)) (number p (pos 0)))) no_ranges)))) ≡ None
-unfolding the_language
-value-102 = refl
-
--- `[]`
-value-103 : evaluate Mode.Relational (put_all ([]) nothing_known) (literal p no_trees unstated) ≡ (Some (matrix ([]) no_values))
-unfolding the_language
-value-103 = refl
-
--- `[1/0]`
-value-104 : evaluate Mode.Relational (put_all ([]) nothing_known) (literal p (tree_and (binary p BinaryOp.Div (number p (pos 1)) (number p (pos 0))) no_trees) unstated) ≡ None
-unfolding the_language
-value-104 = refl
-
--- `[4, 5; int(0, 3)][3]`
-value-105 : evaluate Mode.Relational (put_all ([]) nothing_known) (read p (literal p (tree_and (number p (pos 4)) (tree_and (number p (pos 5)) no_trees)) (over (ranges p (one_and (number p (pos 0)) (one_and (number p (pos 3)) no_ranges))))) (index_and (number p (pos 3)) no_indices)) ≡ (Some (single (pos 5)))
-unfolding the_language
-value-105 = refl
-
--- `[4, 5; int(0, 3)][1]`
-value-106 : evaluate Mode.Relational (put_all ([]) nothing_known) (read p (literal p (tree_and (number p (pos 4)) (tree_and (number p (pos 5)) no_trees)) (over (ranges p (one_and (number p (pos 0)) (one_and (number p (pos 3)) no_ranges))))) (index_and (number p (pos 1)) no_indices)) ≡ None
-unfolding the_language
-value-106 = refl
-
--- `[1, 1/0][1]`
-value-107 : evaluate Mode.Relational (put_all ([]) nothing_known) (read p (literal p (tree_and (number p (pos 1)) (tree_and (binary p BinaryOp.Div (number p (pos 1)) (number p (pos 0))) no_trees)) unstated) (index_and (number p (pos 1)) no_indices)) ≡ None
-unfolding the_language
-value-107 = refl
-
--- ---- comprehensions
-
--- `[i * i | i : int(1..3)]`
-value-108 : evaluate Mode.Relational (put_all ([]) nothing_known) (comprehension p (binary p BinaryOp.Mul (named p (codes "i")) (named p (codes "i"))) (generator_and ((codes "i") ∷ []) (ranges p (span_and (end_at (number p (pos 1))) (end_at (number p (pos 3))) no_ranges)) no_generators) no_trees unstated) ≡ (Some (matrix ((pos 1) ∷ (pos 2) ∷ (pos 3) ∷ []) (value_and (single (pos 1)) (value_and (single (pos 4)) (value_and (single (pos 9)) no_values)))))
-unfolding the_language
-value-108 = refl
-
--- `[i | i : int(1..4), i % 2 = 0]`
-value-109 : evaluate Mode.Relational (put_all ([]) nothing_known) (comprehension p (named p (codes "i")) (generator_and ((codes "i") ∷ []) (ranges p (span_and (end_at (number p (pos 1))) (end_at (number p (pos 4))) no_ranges)) no_generators) (tree_and (compare p CompareOp.Equal (binary p BinaryOp.Mod (named p (codes "i")) (number p (pos 2))) (number p (pos 0))) no_trees) unstated) ≡ (Some (matrix ((pos 1) ∷ (pos 2) ∷ []) (value_and (single (pos 2)) (value_and (single (pos 4)) no_values))))
-unfolding the_language
-value-109 = refl
-
--- `[10 * i + j | i : int(1..3), j : int(i..3)]`
-value-110 : evaluate Mode.Relational (put_all ([]) nothing_known) (comprehension p (chain p (term_and true (binary p BinaryOp.Mul (number p (pos 10)) (named p (codes "i"))) (term_and true (named p (codes "j")) no_terms))) (generator_and ((codes "i") ∷ []) (ranges p (span_and (end_at (number p (pos 1))) (end_at (number p (pos 3))) no_ranges)) (generator_and ((codes "j") ∷ []) (ranges p (span_and (end_at (named p (codes "i"))) (end_at (number p (pos 3))) no_ranges)) no_generators)) no_trees unstated) ≡ (Some (matrix ((pos 1) ∷ (pos 2) ∷ (pos 3) ∷ (pos 4) ∷ (pos 5) ∷ (pos 6) ∷ []) (value_and (single (pos 11)) (value_and (single (pos 12)) (value_and (single (pos 13)) (value_and (single (pos 22)) (value_and (single (pos 23)) (value_and (single (pos 33)) no_values))))))))
-unfolding the_language
-value-110 = refl
-
--- `[i + j | i, j : int(1..2)]`
-value-111 : evaluate Mode.Relational (put_all ([]) nothing_known) (comprehension p (chain p (term_and true (named p (codes "i")) (term_and true (named p (codes "j")) no_terms))) (generator_and ((codes "i") ∷ (codes "j") ∷ []) (ranges p (span_and (end_at (number p (pos 1))) (end_at (number p (pos 2))) no_ranges)) no_generators) no_trees unstated) ≡ (Some (matrix ((pos 1) ∷ (pos 2) ∷ (pos 3) ∷ (pos 4) ∷ []) (value_and (single (pos 2)) (value_and (single (pos 3)) (value_and (single (pos 3)) (value_and (single (pos 4)) no_values))))))
-unfolding the_language
-value-111 = refl
-
--- `[i | i : int(1..0)]`
-value-112 : evaluate Mode.Relational (put_all ([]) nothing_known) (comprehension p (named p (codes "i")) (generator_and ((codes "i") ∷ []) (ranges p (span_and (end_at (number p (pos 1))) (end_at (number p (pos 0))) no_ranges)) no_generators) no_trees unstated) ≡ (Some (matrix ([]) no_values))
-unfolding the_language
-value-112 = refl
-
--- `[i | i : int(1..1/0)]`
-value-113 : evaluate Mode.Relational (put_all ([]) nothing_known) (comprehension p (named p (codes "i")) (generator_and ((codes "i") ∷ []) (ranges p (span_and (end_at (number p (pos 1))) (end_at (binary p BinaryOp.Div (number p (pos 1)) (number p (pos 0)))) no_ranges)) no_generators) no_trees unstated) ≡ None
-unfolding the_language
-value-113 = refl
-
--- `[j | i : int(0..1), j : int(1..1/i)]`
-value-114 : evaluate Mode.Relational (put_all ([]) nothing_known) (comprehension p (named p (codes "j")) (generator_and ((codes "i") ∷ []) (ranges p (span_and (end_at (number p (pos 0))) (end_at (number p (pos 1))) no_ranges)) (generator_and ((codes "j") ∷ []) (ranges p (span_and (end_at (number p (pos 1))) (end_at (binary p BinaryOp.Div (number p (pos 1)) (named p (codes "i")))) no_ranges)) no_generators)) no_trees unstated) ≡ None
-unfolding the_language
-value-114 = refl
-
--- `[i | i : int(1..2); int(5..6)]`
-value-115 : evaluate Mode.Relational (put_all ([]) nothing_known) (comprehension p (named p (codes "i")) (generator_and ((codes "i") ∷ []) (ranges p (span_and (end_at (number p (pos 1))) (end_at (number p (pos 2))) no_ranges)) no_generators) no_trees (over (ranges p (span_and (end_at (number p (pos 5))) (end_at (number p (pos 6))) no_ranges)))) ≡ (Some (matrix ((pos 5) ∷ (pos 6) ∷ []) (value_and (single (pos 1)) (value_and (single (pos 2)) no_values))))
-unfolding the_language
-value-115 = refl
-
--- `[i | i : int(1..3), i != 2; int(1..3)]`
-value-116 : evaluate Mode.Relational (put_all ([]) nothing_known) (comprehension p (named p (codes "i")) (generator_and ((codes "i") ∷ []) (ranges p (span_and (end_at (number p (pos 1))) (end_at (number p (pos 3))) no_ranges)) no_generators) (tree_and (compare p CompareOp.NotEqual (named p (codes "i")) (number p (pos 2))) no_trees) (over (ranges p (span_and (end_at (number p (pos 1))) (end_at (number p (pos 3))) no_ranges)))) ≡ None
-unfolding the_language
-value-116 = refl
-
--- `[6/i | i : int(0..2)]`
-value-117 : evaluate Mode.Relational (put_all ([]) nothing_known) (comprehension p (binary p BinaryOp.Div (number p (pos 6)) (named p (codes "i"))) (generator_and ((codes "i") ∷ []) (ranges p (span_and (end_at (number p (pos 0))) (end_at (number p (pos 2))) no_ranges)) no_generators) no_trees unstated) ≡ None
-unfolding the_language
-value-117 = refl
-
--- ---- reads
-
--- `m[2]` where m a matrix
-value-118 : evaluate Mode.Relational (put_all ((codes "m", has_value (ValueType.Matrix 1 Scalar.Int) (matrix ((pos 1) ∷ (pos 2) ∷ (pos 3) ∷ []) (value_and (single (pos 10)) (value_and (single (pos 20)) (value_and (single (pos 30)) no_values))))) ∷ []) nothing_known) (read p (named p (codes "m")) (index_and (number p (pos 2)) no_indices)) ≡ (Some (single (pos 20)))
-unfolding the_language
-value-118 = refl
-
--- `m[4]` where m a matrix
-value-119 : evaluate Mode.Relational (put_all ((codes "m", has_value (ValueType.Matrix 1 Scalar.Int) (matrix ((pos 1) ∷ (pos 2) ∷ (pos 3) ∷ []) (value_and (single (pos 10)) (value_and (single (pos 20)) (value_and (single (pos 30)) no_values))))) ∷ []) nothing_known) (read p (named p (codes "m")) (index_and (number p (pos 4)) no_indices)) ≡ None
-unfolding the_language
-value-119 = refl
-
--- `m[1/0]` where m a matrix
-value-120 : evaluate Mode.Relational (put_all ((codes "m", has_value (ValueType.Matrix 1 Scalar.Int) (matrix ((pos 1) ∷ (pos 2) ∷ (pos 3) ∷ []) (value_and (single (pos 10)) (value_and (single (pos 20)) (value_and (single (pos 30)) no_values))))) ∷ []) nothing_known) (read p (named p (codes "m")) (index_and (binary p BinaryOp.Div (number p (pos 1)) (number p (pos 0))) no_indices)) ≡ None
-unfolding the_language
-value-120 = refl
-
--- `m[1] + m[9] = 10` where m a matrix
-value-121 : evaluate Mode.Relational (put_all ((codes "m", has_value (ValueType.Matrix 1 Scalar.Int) (matrix ((pos 1) ∷ (pos 2) ∷ (pos 3) ∷ []) (value_and (single (pos 10)) (value_and (single (pos 20)) (value_and (single (pos 30)) no_values))))) ∷ []) nothing_known) (compare p CompareOp.Equal (chain p (term_and true (read p (named p (codes "m")) (index_and (number p (pos 1)) no_indices)) (term_and true (read p (named p (codes "m")) (index_and (number p (pos 9)) no_indices)) no_terms))) (number p (pos 10))) ≡ (Some (single (pos 0)))
-unfolding the_language
-value-121 = refl
-
--- `w[2]` where w a matrix
-value-122 : evaluate Mode.Relational (put_all ((codes "w", has_value (ValueType.Matrix 1 Scalar.Bool) (matrix ((pos 1) ∷ (pos 2) ∷ []) (value_and (single (pos 0)) (value_and (single (pos 1)) no_values)))) ∷ []) nothing_known) (read p (named p (codes "w")) (index_and (number p (pos 2)) no_indices)) ≡ (Some (single (pos 1)))
-unfolding the_language
-value-122 = refl
-
--- `w[3]` where w a matrix
-value-123 : evaluate Mode.Relational (put_all ((codes "w", has_value (ValueType.Matrix 1 Scalar.Bool) (matrix ((pos 1) ∷ (pos 2) ∷ []) (value_and (single (pos 0)) (value_and (single (pos 1)) no_values)))) ∷ []) nothing_known) (read p (named p (codes "w")) (index_and (number p (pos 3)) no_indices)) ≡ (Some (single (pos 0)))
-unfolding the_language
-value-123 = refl
-
--- `!w[3]` where w a matrix
-value-124 : evaluate Mode.Relational (put_all ((codes "w", has_value (ValueType.Matrix 1 Scalar.Bool) (matrix ((pos 1) ∷ (pos 2) ∷ []) (value_and (single (pos 0)) (value_and (single (pos 1)) no_values)))) ∷ []) nothing_known) (negation p (read p (named p (codes "w")) (index_and (number p (pos 3)) no_indices))) ≡ (Some (single (pos 1)))
-unfolding the_language
-value-124 = refl
-
--- `w[1/0]` where w a matrix
-value-125 : evaluate Mode.Relational (put_all ((codes "w", has_value (ValueType.Matrix 1 Scalar.Bool) (matrix ((pos 1) ∷ (pos 2) ∷ []) (value_and (single (pos 0)) (value_and (single (pos 1)) no_values)))) ∷ []) nothing_known) (read p (named p (codes "w")) (index_and (binary p BinaryOp.Div (number p (pos 1)) (number p (pos 0))) no_indices)) ≡ (Some (single (pos 0)))
-unfolding the_language
-value-125 = refl
-
--- `M[2, 1]` where M a matrix
-value-126 : evaluate Mode.Relational (put_all ((codes "M", has_value (ValueType.Matrix 2 Scalar.Int) (matrix ((pos 1) ∷ (pos 2) ∷ []) (value_and (matrix ((pos 1) ∷ (pos 2) ∷ []) (value_and (single (pos 1)) (value_and (single (pos 2)) no_values))) (value_and (matrix ((pos 1) ∷ (pos 2) ∷ []) (value_and (single (pos 3)) (value_and (single (pos 4)) no_values))) no_values)))) ∷ []) nothing_known) (read p (named p (codes "M")) (index_and (number p (pos 2)) (index_and (number p (pos 1)) no_indices))) ≡ (Some (single (pos 3)))
-unfolding the_language
-value-126 = refl
-
--- `M[2][1]` where M a matrix
-value-127 : evaluate Mode.Relational (put_all ((codes "M", has_value (ValueType.Matrix 2 Scalar.Int) (matrix ((pos 1) ∷ (pos 2) ∷ []) (value_and (matrix ((pos 1) ∷ (pos 2) ∷ []) (value_and (single (pos 1)) (value_and (single (pos 2)) no_values))) (value_and (matrix ((pos 1) ∷ (pos 2) ∷ []) (value_and (single (pos 3)) (value_and (single (pos 4)) no_values))) no_values)))) ∷ []) nothing_known) (read p (named p (codes "M")) (index_and (number p (pos 2)) (index_and (number p (pos 1)) no_indices))) ≡ (Some (single (pos 3)))
-unfolding the_language
-value-127 = refl
-
--- `M[1, ..]` where M a matrix
-value-128 : evaluate Mode.Relational (put_all ((codes "M", has_value (ValueType.Matrix 2 Scalar.Int) (matrix ((pos 1) ∷ (pos 2) ∷ []) (value_and (matrix ((pos 1) ∷ (pos 2) ∷ []) (value_and (single (pos 1)) (value_and (single (pos 2)) no_values))) (value_and (matrix ((pos 1) ∷ (pos 2) ∷ []) (value_and (single (pos 3)) (value_and (single (pos 4)) no_values))) no_values)))) ∷ []) nothing_known) (read p (named p (codes "M")) (index_and (number p (pos 1)) (every_and no_indices))) ≡ (Some (matrix ((pos 1) ∷ (pos 2) ∷ []) (value_and (single (pos 1)) (value_and (single (pos 2)) no_values))))
-unfolding the_language
-value-128 = refl
-
--- `M[.., 2]` where M a matrix
-value-129 : evaluate Mode.Relational (put_all ((codes "M", has_value (ValueType.Matrix 2 Scalar.Int) (matrix ((pos 1) ∷ (pos 2) ∷ []) (value_and (matrix ((pos 1) ∷ (pos 2) ∷ []) (value_and (single (pos 1)) (value_and (single (pos 2)) no_values))) (value_and (matrix ((pos 1) ∷ (pos 2) ∷ []) (value_and (single (pos 3)) (value_and (single (pos 4)) no_values))) no_values)))) ∷ []) nothing_known) (read p (named p (codes "M")) (every_and (index_and (number p (pos 2)) no_indices))) ≡ (Some (matrix ((pos 1) ∷ (pos 2) ∷ []) (value_and (single (pos 2)) (value_and (single (pos 4)) no_values))))
-unfolding the_language
-value-129 = refl
-
--- `M[2]` where M a matrix
-value-130 : evaluate Mode.Relational (put_all ((codes "M", has_value (ValueType.Matrix 2 Scalar.Int) (matrix ((pos 1) ∷ (pos 2) ∷ []) (value_and (matrix ((pos 1) ∷ (pos 2) ∷ []) (value_and (single (pos 1)) (value_and (single (pos 2)) no_values))) (value_and (matrix ((pos 1) ∷ (pos 2) ∷ []) (value_and (single (pos 3)) (value_and (single (pos 4)) no_values))) no_values)))) ∷ []) nothing_known) (read p (named p (codes "M")) (index_and (number p (pos 2)) no_indices)) ≡ (Some (matrix ((pos 1) ∷ (pos 2) ∷ []) (value_and (single (pos 3)) (value_and (single (pos 4)) no_values))))
-unfolding the_language
-value-130 = refl
-
--- `M[..][1]` where M a matrix
-value-131 : evaluate Mode.Relational (put_all ((codes "M", has_value (ValueType.Matrix 2 Scalar.Int) (matrix ((pos 1) ∷ (pos 2) ∷ []) (value_and (matrix ((pos 1) ∷ (pos 2) ∷ []) (value_and (single (pos 1)) (value_and (single (pos 2)) no_values))) (value_and (matrix ((pos 1) ∷ (pos 2) ∷ []) (value_and (single (pos 3)) (value_and (single (pos 4)) no_values))) no_values)))) ∷ []) nothing_known) (read p (read p (named p (codes "M")) (every_and no_indices)) (index_and (number p (pos 1)) no_indices)) ≡ (Some (matrix ((pos 1) ∷ (pos 2) ∷ []) (value_and (single (pos 1)) (value_and (single (pos 2)) no_values))))
-unfolding the_language
-value-131 = refl
-
--- `M[.., 3]` where M a matrix
-value-132 : evaluate Mode.Relational (put_all ((codes "M", has_value (ValueType.Matrix 2 Scalar.Int) (matrix ((pos 1) ∷ (pos 2) ∷ []) (value_and (matrix ((pos 1) ∷ (pos 2) ∷ []) (value_and (single (pos 1)) (value_and (single (pos 2)) no_values))) (value_and (matrix ((pos 1) ∷ (pos 2) ∷ []) (value_and (single (pos 3)) (value_and (single (pos 4)) no_values))) no_values)))) ∷ []) nothing_known) (read p (named p (codes "M")) (every_and (index_and (number p (pos 3)) no_indices))) ≡ None
-unfolding the_language
-value-132 = refl
-
--- `[[1], [2, 3]][2, 2]`
-value-133 : evaluate Mode.Relational (put_all ([]) nothing_known) (read p (literal p (tree_and (literal p (tree_and (number p (pos 1)) no_trees) unstated) (tree_and (literal p (tree_and (number p (pos 2)) (tree_and (number p (pos 3)) no_trees)) unstated) no_trees)) unstated) (index_and (number p (pos 2)) (index_and (number p (pos 2)) no_indices))) ≡ (Some (single (pos 3)))
-unfolding the_language
-value-133 = refl
-
--- `[[1], [2, 3]][.., 2]`
-value-134 : evaluate Mode.Relational (put_all ([]) nothing_known) (read p (literal p (tree_and (literal p (tree_and (number p (pos 1)) no_trees) unstated) (tree_and (literal p (tree_and (number p (pos 2)) (tree_and (number p (pos 3)) no_trees)) unstated) no_trees)) unstated) (every_and (index_and (number p (pos 2)) no_indices))) ≡ None
-unfolding the_language
-value-134 = refl
-
--- `[[i] | i : int(1..0)][.., 9]`
-value-135 : evaluate Mode.Relational (put_all ([]) nothing_known) (read p (comprehension p (literal p (tree_and (named p (codes "i")) no_trees) unstated) (generator_and ((codes "i") ∷ []) (ranges p (span_and (end_at (number p (pos 1))) (end_at (number p (pos 0))) no_ranges)) no_generators) no_trees unstated) (every_and (index_and (number p (pos 9)) no_indices))) ≡ (Some (matrix ([]) no_values))
-unfolding the_language
-value-135 = refl
-
--- `[[7; int(4..4)], [8; int(4..4)]][.., 4]`
-value-136 : evaluate Mode.Relational (put_all ([]) nothing_known) (read p (literal p (tree_and (literal p (tree_and (number p (pos 7)) no_trees) (over (ranges p (span_and (end_at (number p (pos 4))) (end_at (number p (pos 4))) no_ranges)))) (tree_and (literal p (tree_and (number p (pos 8)) no_trees) (over (ranges p (span_and (end_at (number p (pos 4))) (end_at (number p (pos 4))) no_ranges)))) no_trees)) unstated) (every_and (index_and (number p (pos 4)) no_indices))) ≡ (Some (matrix ((pos 1) ∷ (pos 2) ∷ []) (value_and (single (pos 7)) (value_and (single (pos 8)) no_values))))
-unfolding the_language
-value-136 = refl
-
--- ---- matrices of rows flattened
-
--- `flatten([[1, 2], [3]])`
-value-137 : evaluate Mode.Relational (put_all ([]) nothing_known) (flatten p (literal p (tree_and (literal p (tree_and (number p (pos 1)) (tree_and (number p (pos 2)) no_trees)) unstated) (tree_and (literal p (tree_and (number p (pos 3)) no_trees) unstated) no_trees)) unstated)) ≡ (Some (matrix ((pos 1) ∷ (pos 2) ∷ (pos 3) ∷ []) (value_and (single (pos 1)) (value_and (single (pos 2)) (value_and (single (pos 3)) no_values)))))
-unfolding the_language
-value-137 = refl
-
--- `flatten([5; int(7..7)])`
-value-138 : evaluate Mode.Relational (put_all ([]) nothing_known) (flatten p (literal p (tree_and (number p (pos 5)) no_trees) (over (ranges p (span_and (end_at (number p (pos 7))) (end_at (number p (pos 7))) no_ranges))))) ≡ (Some (matrix ((pos 1) ∷ []) (value_and (single (pos 5)) no_values)))
-unfolding the_language
-value-138 = refl
-
--- `flatten([])`
-value-139 : evaluate Mode.Relational (put_all ([]) nothing_known) (flatten p (literal p no_trees unstated)) ≡ (Some (matrix ([]) no_values))
-unfolding the_language
-value-139 = refl
-
--- ---- all different
-
--- `allDiff([1, 2, 3])`
-value-140 : evaluate Mode.Relational (put_all ([]) nothing_known) (all_different p (literal p (tree_and (number p (pos 1)) (tree_and (number p (pos 2)) (tree_and (number p (pos 3)) no_trees))) unstated)) ≡ (Some (single (pos 1)))
-unfolding the_language
-value-140 = refl
-
--- `allDiff([1, 2, 1])`
-value-141 : evaluate Mode.Relational (put_all ([]) nothing_known) (all_different p (literal p (tree_and (number p (pos 1)) (tree_and (number p (pos 2)) (tree_and (number p (pos 1)) no_trees))) unstated)) ≡ (Some (single (pos 0)))
-unfolding the_language
-value-141 = refl
-
--- `allDiff([i | i : int(1..0)])`
-value-142 : evaluate Mode.Relational (put_all ([]) nothing_known) (all_different p (comprehension p (named p (codes "i")) (generator_and ((codes "i") ∷ []) (ranges p (span_and (end_at (number p (pos 1))) (end_at (number p (pos 0))) no_ranges)) no_generators) no_trees unstated)) ≡ (Some (single (pos 1)))
-unfolding the_language
-value-142 = refl
-
--- `allDiff([1/0])`
-value-143 : evaluate Mode.Relational (put_all ([]) nothing_known) (all_different p (literal p (tree_and (binary p BinaryOp.Div (number p (pos 1)) (number p (pos 0))) no_trees) unstated)) ≡ (Some (single (pos 0)))
-unfolding the_language
-value-143 = refl
-
--- `allDiff([[1, 2], [2, 3]])`
-value-144 : evaluate Mode.Relational (put_all ([]) nothing_known) (all_different p (literal p (tree_and (literal p (tree_and (number p (pos 1)) (tree_and (number p (pos 2)) no_trees)) unstated) (tree_and (literal p (tree_and (number p (pos 2)) (tree_and (number p (pos 3)) no_trees)) unstated) no_trees)) unstated)) ≡ (Some (single (pos 0)))
-unfolding the_language
-value-144 = refl
-
--- ---- counts
-
--- `gcc([1, 1, 2], [1, 2], [2, 1])`
-value-145 : evaluate Mode.Relational (put_all ([]) nothing_known) (gcc p (literal p (tree_and (number p (pos 1)) (tree_and (number p (pos 1)) (tree_and (number p (pos 2)) no_trees))) unstated) (literal p (tree_and (number p (pos 1)) (tree_and (number p (pos 2)) no_trees)) unstated) (literal p (tree_and (number p (pos 2)) (tree_and (number p (pos 1)) no_trees)) unstated)) ≡ (Some (single (pos 1)))
-unfolding the_language
-value-145 = refl
-
--- `gcc([1, 1, 2], [1, 2], [2, 2])`
-value-146 : evaluate Mode.Relational (put_all ([]) nothing_known) (gcc p (literal p (tree_and (number p (pos 1)) (tree_and (number p (pos 1)) (tree_and (number p (pos 2)) no_trees))) unstated) (literal p (tree_and (number p (pos 1)) (tree_and (number p (pos 2)) no_trees)) unstated) (literal p (tree_and (number p (pos 2)) (tree_and (number p (pos 2)) no_trees)) unstated)) ≡ (Some (single (pos 0)))
-unfolding the_language
-value-146 = refl
-
--- `gcc([1, 2], [1], [1, 1])`
-value-147 : evaluate Mode.Relational (put_all ([]) nothing_known) (gcc p (literal p (tree_and (number p (pos 1)) (tree_and (number p (pos 2)) no_trees)) unstated) (literal p (tree_and (number p (pos 1)) no_trees) unstated) (literal p (tree_and (number p (pos 1)) (tree_and (number p (pos 1)) no_trees)) unstated)) ≡ (Some (single (pos 0)))
-unfolding the_language
-value-147 = refl
-
--- `gcc([], [1], [0])`
-value-148 : evaluate Mode.Relational (put_all ([]) nothing_known) (gcc p (literal p no_trees unstated) (literal p (tree_and (number p (pos 1)) no_trees) unstated) (literal p (tree_and (number p (pos 0)) no_trees) unstated)) ≡ (Some (single (pos 1)))
-unfolding the_language
-value-148 = refl
-
--- `gcc([x, y, z], [1, 2], [c, c])` where x = 1, y = 1, z = 2, c = 1
-value-149 : evaluate Mode.Relational (put_all ((codes "x", has_value ValueType.Int (single (pos 1))) ∷ (codes "y", has_value ValueType.Int (single (pos 1))) ∷ (codes "z", has_value ValueType.Int (single (pos 2))) ∷ (codes "c", has_value ValueType.Int (single (pos 1))) ∷ []) nothing_known) (gcc p (literal p (tree_and (named p (codes "x")) (tree_and (named p (codes "y")) (tree_and (named p (codes "z")) no_trees))) unstated) (literal p (tree_and (number p (pos 1)) (tree_and (number p (pos 2)) no_trees)) unstated) (literal p (tree_and (named p (codes "c")) (tree_and (named p (codes "c")) no_trees)) unstated)) ≡ (Some (single (pos 0)))
-unfolding the_language
-value-149 = refl
-
--- `atleast([1, 1, 2], [2], [1])`
-value-150 : evaluate Mode.Relational (put_all ([]) nothing_known) (at_least p (literal p (tree_and (number p (pos 1)) (tree_and (number p (pos 1)) (tree_and (number p (pos 2)) no_trees))) unstated) (literal p (tree_and (number p (pos 2)) no_trees) unstated) (literal p (tree_and (number p (pos 1)) no_trees) unstated)) ≡ (Some (single (pos 1)))
-unfolding the_language
-value-150 = refl
-
--- `atleast([1, 2], [2], [1])`
-value-151 : evaluate Mode.Relational (put_all ([]) nothing_known) (at_least p (literal p (tree_and (number p (pos 1)) (tree_and (number p (pos 2)) no_trees)) unstated) (literal p (tree_and (number p (pos 2)) no_trees) unstated) (literal p (tree_and (number p (pos 1)) no_trees) unstated)) ≡ (Some (single (pos 0)))
-unfolding the_language
-value-151 = refl
-
--- `atleast([1], [1, 1], [1])`
-value-152 : evaluate Mode.Relational (put_all ([]) nothing_known) (at_least p (literal p (tree_and (number p (pos 1)) no_trees) unstated) (literal p (tree_and (number p (pos 1)) (tree_and (number p (pos 1)) no_trees)) unstated) (literal p (tree_and (number p (pos 1)) no_trees) unstated)) ≡ (Some (single (pos 0)))
-unfolding the_language
-value-152 = refl
-
--- `atmost([1, 1], [1], [1])`
-value-153 : evaluate Mode.Relational (put_all ([]) nothing_known) (at_most p (literal p (tree_and (number p (pos 1)) (tree_and (number p (pos 1)) no_trees)) unstated) (literal p (tree_and (number p (pos 1)) no_trees) unstated) (literal p (tree_and (number p (pos 1)) no_trees) unstated)) ≡ (Some (single (pos 0)))
-unfolding the_language
-value-153 = refl
-
--- `atmost([1, 2], [1], [1])`
-value-154 : evaluate Mode.Relational (put_all ([]) nothing_known) (at_most p (literal p (tree_and (number p (pos 1)) (tree_and (number p (pos 2)) no_trees)) unstated) (literal p (tree_and (number p (pos 1)) no_trees) unstated) (literal p (tree_and (number p (pos 1)) no_trees) unstated)) ≡ (Some (single (pos 1)))
-unfolding the_language
-value-154 = refl
-
--- `atmost([1], [], [1])`
-value-155 : evaluate Mode.Relational (put_all ([]) nothing_known) (at_most p (literal p (tree_and (number p (pos 1)) no_trees) unstated) (literal p no_trees unstated) (literal p (tree_and (number p (pos 1)) no_trees) unstated)) ≡ (Some (single (pos 0)))
-unfolding the_language
-value-155 = refl
-
--- ---- tables
-
--- `table([1, 2], [[1, 2], [3, 4]])`
-value-156 : evaluate Mode.Relational (put_all ([]) nothing_known) (table p (literal p (tree_and (number p (pos 1)) (tree_and (number p (pos 2)) no_trees)) unstated) (literal p (tree_and (literal p (tree_and (number p (pos 1)) (tree_and (number p (pos 2)) no_trees)) unstated) (tree_and (literal p (tree_and (number p (pos 3)) (tree_and (number p (pos 4)) no_trees)) unstated) no_trees)) unstated)) ≡ (Some (single (pos 1)))
-unfolding the_language
-value-156 = refl
-
--- `table([1, 3], [[1, 2], [3, 4]])`
-value-157 : evaluate Mode.Relational (put_all ([]) nothing_known) (table p (literal p (tree_and (number p (pos 1)) (tree_and (number p (pos 3)) no_trees)) unstated) (literal p (tree_and (literal p (tree_and (number p (pos 1)) (tree_and (number p (pos 2)) no_trees)) unstated) (tree_and (literal p (tree_and (number p (pos 3)) (tree_and (number p (pos 4)) no_trees)) unstated) no_trees)) unstated)) ≡ (Some (single (pos 0)))
-unfolding the_language
-value-157 = refl
-
--- `table([1, 2], [[1, 2], [3]])`
-value-158 : evaluate Mode.Relational (put_all ([]) nothing_known) (table p (literal p (tree_and (number p (pos 1)) (tree_and (number p (pos 2)) no_trees)) unstated) (literal p (tree_and (literal p (tree_and (number p (pos 1)) (tree_and (number p (pos 2)) no_trees)) unstated) (tree_and (literal p (tree_and (number p (pos 3)) no_trees) unstated) no_trees)) unstated)) ≡ (Some (single (pos 0)))
-unfolding the_language
-value-158 = refl
-
--- `table([1], [])`
-value-159 : evaluate Mode.Relational (put_all ([]) nothing_known) (table p (literal p (tree_and (number p (pos 1)) no_trees) unstated) (literal p no_trees unstated)) ≡ (Some (single (pos 0)))
-unfolding the_language
-value-159 = refl
-
--- `table([x], [[1] | i : int(1..0)])` where x = 1
-value-160 : evaluate Mode.Relational (put_all ((codes "x", has_value ValueType.Int (single (pos 1))) ∷ []) nothing_known) (table p (literal p (tree_and (named p (codes "x")) no_trees) unstated) (comprehension p (literal p (tree_and (number p (pos 1)) no_trees) unstated) (generator_and ((codes "i") ∷ []) (ranges p (span_and (end_at (number p (pos 1))) (end_at (number p (pos 0))) no_ranges)) no_generators) no_trees unstated)) ≡ (Some (single (pos 0)))
-unfolding the_language
-value-160 = refl
-
--- `table([x], [[2], [2]])` where x = 2
-value-161 : evaluate Mode.Relational (put_all ((codes "x", has_value ValueType.Int (single (pos 2))) ∷ []) nothing_known) (table p (literal p (tree_and (named p (codes "x")) no_trees) unstated) (literal p (tree_and (literal p (tree_and (number p (pos 2)) no_trees) unstated) (tree_and (literal p (tree_and (number p (pos 2)) no_trees) unstated) no_trees)) unstated)) ≡ (Some (single (pos 1)))
-unfolding the_language
-value-161 = refl
-
--- `table([x], [[2], [2]])` where x = 1
-value-162 : evaluate Mode.Relational (put_all ((codes "x", has_value ValueType.Int (single (pos 1))) ∷ []) nothing_known) (table p (literal p (tree_and (named p (codes "x")) no_trees) unstated) (literal p (tree_and (literal p (tree_and (number p (pos 2)) no_trees) unstated) (tree_and (literal p (tree_and (number p (pos 2)) no_trees) unstated) no_trees)) unstated)) ≡ (Some (single (pos 0)))
-unfolding the_language
-value-162 = refl
-
--- ---- a domain by its name, a read outside a Boolean matrix, and an objective without a value
-
--- `forAll i : D . x >= i` where x = 3, D a domain
-value-163 : evaluate Mode.Relational (put_all ((codes "x", has_value ValueType.Int (single (pos 3))) ∷ (codes "D", has_domain Scalar.Int ([]) ((pos 1) ∷ (pos 2) ∷ (pos 3) ∷ [])) ∷ []) nothing_known) (quantified p QuantOp.ForAll ((codes "i") ∷ []) (named_domain p (codes "D")) (compare p CompareOp.AtLeast (named p (codes "x")) (named p (codes "i")))) ≡ (Some (single (pos 1)))
-unfolding the_language
-value-163 = refl
-
--- `forAll i : D . x >= i` where x = 2, D a domain
-value-164 : evaluate Mode.Relational (put_all ((codes "x", has_value ValueType.Int (single (pos 2))) ∷ (codes "D", has_domain Scalar.Int ([]) ((pos 1) ∷ (pos 2) ∷ (pos 3) ∷ [])) ∷ []) nothing_known) (quantified p QuantOp.ForAll ((codes "i") ∷ []) (named_domain p (codes "D")) (compare p CompareOp.AtLeast (named p (codes "x")) (named p (codes "i")))) ≡ (Some (single (pos 0)))
-unfolding the_language
-value-164 = refl
-
--- `toInt(m[i]) = 0` where m a matrix, i = 3
-value-165 : evaluate Mode.Relational (put_all ((codes "m", has_value (ValueType.Matrix 1 Scalar.Bool) (matrix ((pos 1) ∷ (pos 2) ∷ []) (value_and (single (pos 0)) (value_and (single (pos 0)) no_values)))) ∷ (codes "i", has_value ValueType.Int (single (pos 3))) ∷ []) nothing_known) (compare p CompareOp.Equal (to_int p (read p (named p (codes "m")) (index_and (named p (codes "i")) no_indices))) (number p (pos 0))) ≡ (Some (single (pos 1)))
-unfolding the_language
-value-165 = refl
-
--- `6 / x` where x = 3
-value-166 : evaluate Mode.Relational (put_all ((codes "x", has_value ValueType.Int (single (pos 3))) ∷ []) nothing_known) (binary p BinaryOp.Div (number p (pos 6)) (named p (codes "x"))) ≡ (Some (single (pos 2)))
-unfolding the_language
-value-166 = refl
-
--- `6 / x` where x = 0
-value-167 : evaluate Mode.Relational (put_all ((codes "x", has_value ValueType.Int (single (pos 0))) ∷ []) nothing_known) (binary p BinaryOp.Div (number p (pos 6)) (named p (codes "x"))) ≡ None
-unfolding the_language
-value-167 = refl

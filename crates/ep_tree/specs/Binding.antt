@@ -115,7 +115,7 @@ below_end mode env (end_at e) = option_map (λ n x. int_le x n) (number_in (eval
 unfoldable pub ranges_pass : Mode → Env → Ranges → Option (ℤ → Bool)
 ranges_pass mode env no_ranges = Some (λ x. false)
 ranges_pass mode env (one_and e rs) =
-    on_both (number_in (evaluate mode env e)) (ranges_pass mode env rs) (λ n others. Some (λ x. int_eq n x || others x))
+    on_both (number_in (evaluate mode env e)) (ranges_pass mode env rs) (λ n others. Some (λ x. int_eq x n || others x))
 ranges_pass mode env (span_and a b rs) =
     on_three (above_end mode env a) (below_end mode env b) (ranges_pass mode env rs)
     (λ above below others. Some (λ x. (above x && below x) || others x))

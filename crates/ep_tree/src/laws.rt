@@ -1,11 +1,12 @@
 //! Laws that hold of the definitions, each the contract of a function that does nothing.
 
-ghost use Rattle.std.specs.Prelude.{◌≡◌, ℕ, zero, suc, ◌&&◌, ℤ, pos, negsuc, ◌+ℤ◌, ◌*ℤ◌, ◌≤ℤ◌, ◌<ℤ◌, int_le, List, Some, None};
+ghost use Rattle.std.specs.Prelude.{◌≡◌, ℕ, zero, suc, ◌&&◌, ℤ, pos, negsuc, ◌+ℤ◌, ◌*ℤ◌, ◌≤ℤ◌, ◌<ℤ◌, int_le, List, Some, None, option_map};
 ghost use Rattle.ep_base.specs.declared.names.Name.{Name};
 ghost use Rattle.ep_base.specs.Numbers.{has_number, quotient};
 ghost use Rattle.ep_tree.specs.declared.syntax.SetOp.{SetOp};
 ghost use Rattle.ep_tree.specs.declared.values.Mode.{Mode};
 ghost use Rattle.ep_tree.specs.Trees.{DomainTree, ExprTree};
+ghost use Rattle.ep_tree.specs.Binding.{elements_pass};
 ghost use Rattle.ep_tree.specs.Domains.{between, set_has, set_values};
 ghost use Rattle.ep_tree.specs.Names.{put};
 ghost use Rattle.ep_tree.specs.Environments.{Bound, Env};
@@ -30,8 +31,10 @@ pub fn quotient_is_the_floor()
     ensures by_zero { (x : ℤ) → quotient x (pos zero) ≡ None }
 {}
 
-/// A range has the numbers from its first to its last, and an operation on domains is that of sets.
+/// A range has the numbers from its first to its last, and an operation on domains is that of sets. A domain that
+/// isn't open passes exactly the numbers that it lists, so that fitting and listing speak of the same domain.
 pub fn domains_are_sets()
     ensures ranges { (x first last : ℤ) → has_number (between first last) x ≡ (int_le first x && int_le x last) }
     ensures operations { (op : SetOp) (xs ys : List ℤ) (x : ℤ) → has_number (set_values op xs ys) x ≡ set_has op (has_number xs x) (has_number ys x) }
+    ensures closed { (mode : Mode) (env : Env) (x : ℤ) (d : DomainTree) (values : List ℤ) → domain_values mode env d ≡ Some values → option_map (λ passes. passes x) (elements_pass mode env d) ≡ Some (has_number values x) }
 {}
