@@ -12,3 +12,8 @@ mod VectorsSpelling
 pub mod NumberLaws
 pub mod DomainLaws
 pub mod ClosedDomains
+pub mod EvaluationEquations
+pub mod TypeEquations
+pub mod FaultEquations
+pub mod MetEquations
+pub mod HeightEquations

@@ -102,11 +102,12 @@ unfoldable pub numbers_bound : Option Bound → Option (List ℤ)
 numbers_bound (Some (has_domain s indices values)) = Some values
 numbers_bound _ = None
 
--- whether a number lies between two ends, where one that is left out bounds nothing
+-- whether a number lies above an end, where one that is left out bounds nothing
 unfoldable pub above_end : Mode → Env → End → Option (ℤ → Bool)
 above_end mode env no_end = Some (λ x. true)
 above_end mode env (end_at e) = option_map (λ n x. int_le n x) (number_in (evaluate mode env e))
 
+-- whether a number lies below an end, where one that is left out bounds nothing
 unfoldable pub below_end : Mode → Env → End → Option (ℤ → Bool)
 below_end mode env no_end = Some (λ x. true)
 below_end mode env (end_at e) = option_map (λ n x. int_le x n) (number_in (evaluate mode env e))
@@ -262,10 +263,11 @@ pub record Progress : Type 0 where
   pub instance : Instance
   pub next_where : ℕ
 
--- the nodes met in the domains of some groups, and in some expressions
+-- the nodes met in the domains of some groups
 unfoldable pub met_groups : Mode → Env → List Group → List Met
 met_groups mode env groups = flat_map (λ g. met_domain mode env g.domain) groups
 
+-- the nodes met in some expressions
 unfoldable pub met_in : Mode → Env → List ExprTree → List Met
 met_in mode env es = flat_map (met mode env) es
 

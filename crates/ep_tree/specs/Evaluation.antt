@@ -41,10 +41,11 @@ number_in (Some (matrix indices parts)) = None
 abbrev pub truth_of : Option ValueTree → Option Bool
 truth_of v = option_map is_one (number_in v)
 
--- the scalars of a value, and its rows
+-- the scalars of a value, row by row
 abbrev pub scalars_in : Option ValueTree → Option (List ℤ)
 scalars_in v = option_map scalars_of v
 
+-- the rows of a value
 abbrev pub rows_in : Option ValueTree → Option (List (List ℤ))
 rows_in v = option_map rows_of v
 
@@ -52,10 +53,11 @@ rows_in v = option_map rows_of v
 abbrev pub numbers_in : List (Option ValueTree) → Option (List ℤ)
 numbers_in vs = all_defined (map number_in vs)
 
--- a function of two parts, and of three, where each is defined
+-- a function of two parts, where each is defined
 unfoldable pub on_both : {A B C : Type 0} → Option A → Option B → (A → B → Option C) → Option C
 on_both a b f = option_and_then (λ x. option_and_then (λ y. f x y) b) a
 
+-- a function of three parts, where each is defined
 unfoldable pub on_three : {A B C D : Type 0} → Option A → Option B → Option C → (A → B → C → Option D) → Option D
 on_three a b c f = option_and_then (λ x. on_both b c (λ y z. f x y z)) a
 

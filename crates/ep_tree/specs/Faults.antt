@@ -184,27 +184,32 @@ unfoldable mutual
       type_fault p (judge_domain context (matrix_domain p ds d)) ++ faults_of_domains context ds
       ++ domain_faults context may_open d
 
+  -- the faults of some expressions
   pub faults_of_all : Context → Bool → ExprTrees → List Fault
   faults_of_all context decisions no_trees = []
   faults_of_all context decisions (tree_and e es) = faults context decisions e ++ faults_of_all context decisions es
 
+  -- the faults of the terms of a chain
   pub faults_of_terms : Context → Bool → Terms → List Fault
   faults_of_terms context decisions no_terms = []
   faults_of_terms context decisions (term_and _ e terms) =
       faults context decisions e ++ faults_of_terms context decisions terms
 
+  -- the faults of the indices of a read
   pub faults_of_indices : Context → Bool → Indices → List Fault
   faults_of_indices context decisions no_indices = []
   faults_of_indices context decisions (every_and indices) = faults_of_indices context decisions indices
   faults_of_indices context decisions (index_and e indices) =
       faults context decisions e ++ faults_of_indices context decisions indices
 
+  -- the faults of the bounds of some ranges
   pub faults_of_ranges : Context → Ranges → List Fault
   faults_of_ranges context no_ranges = []
   faults_of_ranges context (one_and e rs) = faults context false e ++ faults_of_ranges context rs
   faults_of_ranges context (span_and a b rs) =
       end_faults context a ++ end_faults context b ++ faults_of_ranges context rs
 
+  -- the faults of an end of a range
   pub end_faults : Context → End → List Fault
   end_faults context no_end = []
   end_faults context (end_at e) = faults context false e
@@ -214,6 +219,7 @@ unfoldable mutual
   faults_of_domains context no_domains = []
   faults_of_domains context (domain_and d ds) = domain_faults context false d ++ faults_of_domains context ds
 
+  -- the faults of the domain of a list's indices, whose ranges aren't open
   pub index_faults : Context → IndexDomain → List Fault
   index_faults context unstated = []
   index_faults context (over d) = domain_faults context false d

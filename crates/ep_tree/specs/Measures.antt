@@ -88,32 +88,39 @@ unfoldable mutual
   met_domain mode env (set_domain _ _ c d) = met_domain mode env c ++ met_domain mode env d
   met_domain mode env (matrix_domain _ ds d) = met_domains mode env ds ++ met_domain mode env d
 
+  -- what some expressions meet
   pub met_all : Mode → Env → ExprTrees → List Met
   met_all mode env no_trees = []
   met_all mode env (tree_and e es) = met mode env e ++ met_all mode env es
 
+  -- what the terms of a chain meet
   pub met_terms : Mode → Env → Terms → List Met
   met_terms mode env no_terms = []
   met_terms mode env (term_and _ e terms) = met mode env e ++ met_terms mode env terms
 
+  -- what the indices of a read meet
   pub met_indices : Mode → Env → Indices → List Met
   met_indices mode env no_indices = []
   met_indices mode env (every_and indices) = met_indices mode env indices
   met_indices mode env (index_and e indices) = met mode env e ++ met_indices mode env indices
 
+  -- what the bounds of some ranges meet
   pub met_ranges : Mode → Env → Ranges → List Met
   met_ranges mode env no_ranges = []
   met_ranges mode env (one_and e rs) = met mode env e ++ met_ranges mode env rs
   met_ranges mode env (span_and a b rs) = met_end mode env a ++ met_end mode env b ++ met_ranges mode env rs
 
+  -- what an end of a range meets
   pub met_end : Mode → Env → End → List Met
   met_end mode env no_end = []
   met_end mode env (end_at e) = met mode env e
 
+  -- what the bounds of some domains meet
   pub met_domains : Mode → Env → Domains → List Met
   met_domains mode env no_domains = []
   met_domains mode env (domain_and d ds) = met_domain mode env d ++ met_domains mode env ds
 
+  -- what the domain of a list's indices meets
   pub met_index : Mode → Env → IndexDomain → List Met
   met_index mode env unstated = []
   met_index mode env (over d) = met_domain mode env d

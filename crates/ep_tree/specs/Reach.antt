@@ -65,15 +65,17 @@ mutual
     one_span : Span → Extent
     grid : List ℤ → Extents → Extent
 
+  -- the parts of a matrix in their order
   pub data Extents : Type 0 where
     no_extents : Extents
     extent_and : Extent → Extents → Extents
 
--- the parts of a matrix as a list, and a list as parts
+-- the parts of a matrix as a list
 unfoldable pub listed_extents : Extents → List Extent
 listed_extents no_extents = []
 listed_extents (extent_and x xs) = x ∷ listed_extents xs
 
+-- a list as the parts of a matrix
 unfoldable pub as_extents : List Extent → Extents
 as_extents [] = no_extents
 as_extents (x ∷ xs) = extent_and x (as_extents xs)
@@ -84,6 +86,7 @@ unfoldable mutual
   spans_of (one_span s) = s ∷ []
   spans_of (grid indices parts) = spans_of_all parts
 
+  -- the scalars of the parts of a matrix
   pub spans_of_all : Extents → List Span
   spans_of_all no_extents = []
   spans_of_all (extent_and x xs) = spans_of x ++ spans_of_all xs
@@ -99,6 +102,7 @@ unfoldable mutual
   value_extent (single n) = one_span (fixed_span (Some n))
   value_extent (matrix indices parts) = grid indices (value_extents parts)
 
+  -- what is known of the parts of a value
   pub value_extents : ValueTrees → Extents
   value_extents no_values = no_extents
   value_extents (value_and v vs) = extent_and (value_extent v) (value_extents vs)
@@ -114,17 +118,19 @@ unfoldable pub cells_extent : Span → List (List ℤ) → Extent
 cells_extent cell [] = one_span cell
 cells_extent cell (indices ∷ inner) = grid indices (as_extents (map (λ i. cells_extent cell inner) indices))
 
--- the least and the greatest of some numbers, and 0 for none
+-- the least of some numbers, and 0 for none
 unfoldable pub least_or_zero : List ℤ → ℤ
 least_or_zero xs = unwrap_or (least_of xs) (pos 0)
 
+-- the greatest of some numbers, and 0 for none
 unfoldable pub greatest_or_zero : List ℤ → ℤ
 greatest_or_zero xs = unwrap_or (greatest_of xs) (pos 0)
 
--- the ends of some reaches
+-- the lower ends of some reaches
 abbrev pub lows : List Span → List ℤ
 lows spans = map (λ s. s.low) spans
 
+-- the upper ends of some reaches
 abbrev pub highs : List Span → List ℤ
 highs spans = map (λ s. s.high) spans
 
@@ -180,10 +186,11 @@ absolute_reach s =
     (if reaches_zero s then pos 0 else int_min (absolute_of s.low) (absolute_of s.high))
     (farthest_end s)
 
--- the reach of `min` and of `max`: the least, or the greatest, of both ends; [0, 0] of no part
+-- the reach of `min`: the least of the lower ends, and of the upper ends; [0, 0] of no part
 unfoldable pub least_reach : List Span → Span
 least_reach spans = wide_span (least_or_zero (lows spans)) (least_or_zero (highs spans))
 
+-- the reach of `max`: the greatest of the lower ends, and of the upper ends; [0, 0] of no part
 unfoldable pub greatest_reach : List Span → Span
 greatest_reach spans = wide_span (greatest_or_zero (lows spans)) (greatest_or_zero (highs spans))
 
@@ -318,14 +325,17 @@ unfoldable mutual
   holds_decision env (at_most _ m counts values) = holds_decision env m || holds_decision env counts || holds_decision env values
   holds_decision env (table _ row rows) = holds_decision env row || holds_decision env rows
 
+  -- whether one of some expressions holds a decision variable
   pub one_holds_decision : Env → ExprTrees → Bool
   one_holds_decision env no_trees = false
   one_holds_decision env (tree_and e es) = holds_decision env e || one_holds_decision env es
 
+  -- whether a term of a chain holds one
   pub term_holds_decision : Env → Terms → Bool
   term_holds_decision env no_terms = false
   term_holds_decision env (term_and _ e terms) = holds_decision env e || term_holds_decision env terms
 
+  -- whether an index of a read holds one
   pub index_holds_decision : Env → Indices → Bool
   index_holds_decision env no_indices = false
   index_holds_decision env (every_and indices) = index_holds_decision env indices

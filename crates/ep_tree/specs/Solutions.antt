@@ -2,11 +2,12 @@
 --
 -- The meaning of a solution is that of the language's public description; that an assignment under which the objective
 -- has no value is no solution is this project's own choice.
-use Rattle.std.specs.Prelude.{◌≡◌, ℕ, ◌+◌, ◌*◌, Bool, false, ◌||◌, List, [], ◌∷◌, ◌++◌, map, length, ℤ, is_some, is_none, if◌then◌else◌, IsTrue, int_lt, Some, None, bytes_eq, sum_by, Option, unwrap_or, option_map, option_to_list, option_and_then, IsPermutation}
+use Rattle.std.specs.Prelude.{◌≡◌, ℕ, ◌+◌, ◌*◌, Bool, false, ◌||◌, List, [], ◌∷◌, ◌++◌, map, length, ℤ, is_some, is_none, if◌then◌else◌, IsTrue, nat_lt, int_lt, Some, None, bytes_eq, sum_by, Option, unwrap_or, option_map, option_to_list, option_and_then, IsPermutation}
 use Rattle.ep_base.specs.Numbers.{has_number}
 use Rattle.ep_base.specs.declared.names.Name.{Name}
+use Rattle.ep_base.specs.declared.operators.Limit.{Limit}
 use Rattle.ep_base.specs.declared.operators.Sense.{Sense}
-use Rattle.ep_tree.specs.Binding.{Find, Instance, met_in}
+use Rattle.ep_tree.specs.Binding.{Find, Instance, MOST_WEIGHT, Refusal, limits_passed, met_in, over_limit}
 use Rattle.ep_tree.specs.Environments.{Bound, Env, has_cells, has_value, shape_type}
 use Rattle.ep_tree.specs.Evaluation.{evaluate, number_in, on_both, truth_of}
 use Rattle.ep_tree.specs.Measures.{Met, farthest_reach, size_of, weight_of}
@@ -143,3 +144,13 @@ instance_weight mode i =
 -- the greatest absolute value that a node of an instance reaches
 unfoldable pub instance_reach : Mode → Instance → ℤ
 instance_reach mode i = farthest_reach mode (met_instance mode i)
+
+-- The limits that an instance passes, of which one may be named: its size and its reach, and only where it passes neither
+-- its weight.
+unfoldable pub instance_limits : Mode → Instance → List Refusal
+instance_limits mode i =
+    let first : List Refusal = limits_passed mode (sum_by (λ f. cell_count f.indices) i.finds) (met_instance mode i) in
+    elim first [
+      | [] ↦ if nat_lt MOST_WEIGHT (instance_weight mode i) then over_limit Limit.Weight ∷ [] else []
+      | r ∷ rs ↦ r ∷ rs
+    ]

@@ -64,7 +64,7 @@ domain_rank set_parts = 2
 abbrev pub DomainNode : DomainLevel → DomainLevel → Place → Phrase → Phrase
 DomainNode asked own place phrase = When (nat_le (domain_rank asked) (domain_rank own)) (From place phrase)
 
--- the words of operators
+-- the word of an operator of two parts
 unfoldable pub binary_word : BinaryOp → String
 binary_word BinaryOp.Mul = "*"
 binary_word BinaryOp.Div = "/"
@@ -75,6 +75,7 @@ binary_word BinaryOp.Max = "max"
 binary_word BinaryOp.Implies = "->"
 binary_word BinaryOp.Iff = "<->"
 
+-- the symbol of a comparison
 unfoldable pub compare_word : CompareOp → String
 compare_word CompareOp.Equal = "="
 compare_word CompareOp.NotEqual = "!="
@@ -83,17 +84,20 @@ compare_word CompareOp.AtMost = "<="
 compare_word CompareOp.Greater = ">"
 compare_word CompareOp.AtLeast = ">="
 
+-- the symbol of a lexicographic comparison
 unfoldable pub lex_word : LexOp → String
 lex_word LexOp.Less = "<lex"
 lex_word LexOp.AtMost = "<=lex"
 lex_word LexOp.Greater = ">lex"
 lex_word LexOp.AtLeast = ">=lex"
 
+-- the word of a quantifier
 unfoldable pub quantifier_word : QuantOp → String
 quantifier_word QuantOp.ForAll = "forAll"
 quantifier_word QuantOp.Exists = "exists"
 quantifier_word QuantOp.Sum = "sum"
 
+-- the word of a function that folds a matrix
 unfoldable pub fold_word : FoldOp → String
 fold_word FoldOp.Sum = "sum"
 fold_word FoldOp.Product = "product"
@@ -102,42 +106,50 @@ fold_word FoldOp.Or = "or"
 fold_word FoldOp.Min = "min"
 fold_word FoldOp.Max = "max"
 
+-- the word of an operation on domains
 unfoldable pub set_word : SetOp → String
 set_word SetOp.Union = "union"
 set_word SetOp.Intersect = "intersect"
 set_word SetOp.Minus = "-"
 
+-- the sign of a term
 unfoldable pub sign_word : Bool → String
 sign_word true = "+"
 sign_word false = "-"
 
+-- the word of a truth value
 unfoldable pub truth_word : Bool → String
 truth_word true = "true"
 truth_word false = "false"
 
--- whether more terms, expressions, indices, ranges, domains or generators follow
+-- whether there are terms
 unfoldable pub has_terms : Terms → Bool
 has_terms no_terms = false
 has_terms (term_and _ _ _) = true
 
+-- whether there are expressions
 unfoldable pub has_trees : ExprTrees → Bool
 has_trees no_trees = false
 has_trees (tree_and _ _) = true
 
+-- whether there are indices
 unfoldable pub has_indices : Indices → Bool
 has_indices no_indices = false
 has_indices (every_and _) = true
 has_indices (index_and _ _) = true
 
+-- whether there are ranges
 unfoldable pub has_ranges : Ranges → Bool
 has_ranges no_ranges = false
 has_ranges (one_and _ _) = true
 has_ranges (span_and _ _ _) = true
 
+-- whether there are domains
 unfoldable pub has_domains : Domains → Bool
 has_domains no_domains = false
 has_domains (domain_and _ _) = true
 
+-- whether there are generators
 unfoldable pub has_generators : Generators → Bool
 has_generators no_generators = false
 has_generators (generator_and _ _ _) = true
@@ -158,10 +170,12 @@ unfoldable mutual
   ends_open (quantified _ _ _ _ _) = true
   ends_open _ = false
 
+  -- whether the last of some terms ends so
   pub terms_end_open : Terms → Bool
   terms_end_open no_terms = false
   terms_end_open (term_and _ e terms) = if has_terms terms then terms_end_open terms else ends_open e
 
+  -- whether the last of some expressions ends so
   pub trees_end_open : ExprTrees → Bool
   trees_end_open no_trees = false
   trees_end_open (tree_and e es) = if has_trees es then trees_end_open es else ends_open e
@@ -186,22 +200,25 @@ unfoldable pub takes_own_group : ExprTree → Bool
 takes_own_group (read _ m indices) = has_every indices
 takes_own_group _ = true
 
--- a function's name and its parts in brackets
+-- a function's name and its part in brackets
 abbrev pub Call1 : String → Phrase → Phrase
 Call1 word a = Says word followed_by Says "(" followed_by a followed_by Says ")"
 
+-- a function's name and its two parts in brackets
 abbrev pub Call2 : String → Phrase → Phrase → Phrase
 Call2 word a b = Says word followed_by Says "(" followed_by a followed_by Says "," followed_by b followed_by Says ")"
 
+-- a function's name and its three parts in brackets
 abbrev pub Call3 : String → Phrase → Phrase → Phrase → Phrase
 Call3 word a b c =
     Says word followed_by Says "(" followed_by a followed_by Says "," followed_by b followed_by Says "," followed_by c
     followed_by Says ")"
 
--- what stands before the index domains of a matrix domain, and after them
+-- what stands before the index domains of a matrix domain
 abbrev pub MatrixHead : Phrase
 MatrixHead = Says "matrix" followed_by Says "indexed" followed_by Says "by" followed_by Says "["
 
+-- what stands after the index domains of a matrix domain
 abbrev pub MatrixTail : Phrase
 MatrixTail = Says "]" followed_by Says "of"
 

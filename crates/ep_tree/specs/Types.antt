@@ -94,15 +94,17 @@ unfoldable pub gives : ValueType → Bool → Judged
 gives t true = typed t
 gives t false = mistyped
 
--- a node of one part, of two parts and of three: a node with a part that has no type has none
+-- a node of one part, which has no type where the part has none
 unfoldable pub from_one : Judged → (ValueType → Judged) → Judged
 from_one (typed t) rule = rule t
 from_one mistyped rule = untyped
 from_one untyped rule = untyped
 
+-- a node of two parts, which has no type where a part has none
 unfoldable pub from_two : Judged → Judged → (ValueType → ValueType → Judged) → Judged
 from_two a b rule = from_one a (λ s. from_one b (λ t. rule s t))
 
+-- a node of three parts, which has no type where a part has none
 unfoldable pub from_three : Judged → Judged → Judged → (ValueType → ValueType → ValueType → Judged) → Judged
 from_three a b c rule = from_one a (λ s. from_two b c (λ t u. rule s t u))
 
@@ -320,6 +322,7 @@ unfoldable mutual
   judge_all context no_trees = []
   judge_all context (tree_and e es) = judge context e ∷ judge_all context es
 
+  -- the same of each term of a chain
   pub judge_terms : Context → Terms → List Judged
   judge_terms context no_terms = []
   judge_terms context (term_and _ e terms) = judge context e ∷ judge_terms context terms
@@ -336,6 +339,7 @@ unfoldable mutual
   judge_ranges context (one_and e rs) = judge context e ∷ judge_ranges context rs
   judge_ranges context (span_and a b rs) = judge_end context a ++ judge_end context b ++ judge_ranges context rs
 
+  -- the same of an end of a range, if it has one
   pub judge_end : Context → End → List Judged
   judge_end context no_end = []
   judge_end context (end_at e) = judge context e ∷ []
@@ -345,6 +349,7 @@ unfoldable mutual
   judge_domains context no_domains = []
   judge_domains context (domain_and d ds) = judge_domain context d ∷ judge_domains context ds
 
+  -- the same of the domain of a list's indices, if it is stated
   pub judge_index : Context → IndexDomain → List Judged
   judge_index context unstated = []
   judge_index context (over d) = judge_domain context d ∷ []

@@ -35,6 +35,7 @@ unfoldable mutual
   scalars_of (single n) = n ∷ []
   scalars_of (matrix indices parts) = scalars_of_all parts
 
+  -- the scalars of the parts of a matrix
   pub scalars_of_all : ValueTrees → List ℤ
   scalars_of_all no_values = []
   scalars_of_all (value_and v vs) = scalars_of v ++ scalars_of_all vs
@@ -100,6 +101,7 @@ unfoldable mutual
   fitted own wanted passes (indices ∷ inner) (matrix old parts) =
       option_and_then (with_indices indices) (all_fitted own wanted passes inner parts)
 
+  -- the parts of a matrix, each fitted
   pub all_fitted : Scalar → Scalar → (ℤ → Bool) → List (List ℤ) → ValueTrees → Option (List ValueTree)
   all_fitted own wanted passes inner no_values = Some []
   all_fitted own wanted passes inner (value_and v vs) =
@@ -113,6 +115,7 @@ unfoldable mutual
   same_value (matrix is vs) (single n) = false
   same_value (matrix is vs) (matrix js ws) = same_numbers is js && same_values vs ws
 
+  -- whether the parts of two matrices are equal
   pub same_values : ValueTrees → ValueTrees → Bool
   same_values no_values no_values = true
   same_values no_values (value_and w ws) = false

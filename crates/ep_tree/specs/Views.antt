@@ -64,87 +64,105 @@ unfoldable mutual
   domain_kind_tree p (Set' op _ q c _ r d) = set_domain p op (domain_kind_tree q c) (domain_kind_tree r d)
   domain_kind_tree p (Matrix' _ ds _ q d) = matrix_domain p (row_domains ds) (domain_kind_tree q d)
 
+  -- a row of expressions
   pub row_trees : {m : _} → Row_of-Expr m → ExprTrees
   row_trees end_of-Expr = no_trees
   row_trees (more_of-Expr q e rest) = tree_and (kind_tree q e) (row_trees rest)
 
+  -- a row of terms
   pub row_terms : {m : _} → Row_of-Kind-Add-0-2 m → Terms
   row_terms end_of-Kind-Add-0-2 = no_terms
   row_terms (more_of-Kind-Add-0-2 plus q e rest) = term_and plus (kind_tree q e) (row_terms rest)
 
+  -- a row of indices
   pub row_indices : {m : _} → Row_of-Kind-Read-1-1 m → Indices
   row_indices end_of-Kind-Read-1-1 = no_indices
   row_indices (more_of-Kind-Read-1-1 index rest) = with_index index (row_indices rest)
 
+  -- an index, or `..` where there is none, before other indices
   pub with_index : Held-Kind-Read-1-1 → Indices → Indices
   with_index Kind-Read-1-1-None' indices = every_and indices
   with_index (Kind-Read-1-1-Some' q e) indices = index_and (kind_tree q e) indices
 
+  -- a row of generators
   pub row_generators : {m : _} → Row_of-Generator m → Generators
   row_generators end_of-Generator = no_generators
   row_generators (more_of-Generator names q d rest) = generator_and names.items (domain_kind_tree q d) (row_generators rest)
 
+  -- the domain of a list's indices, if there is one
   pub held_index : Held-Kind-Literal-1 → IndexDomain
   held_index Kind-Literal-1-None' = unstated
   held_index (Kind-Literal-1-Some' _ q d) = over (domain_kind_tree q d)
 
+  -- a row of ranges
   pub row_ranges : {m : _} → Row_of-Range m → Ranges
   row_ranges end_of-Range = no_ranges
   row_ranges (more_of-Range r rest) = with_range r (row_ranges rest)
 
+  -- a range before other ranges
   pub with_range : Range → Ranges → Ranges
   with_range (One' q e) rs = one_and (kind_tree q e) rs
   with_range (Span' a b) rs = span_and (held_end a) (held_end b) rs
 
+  -- an end of a range, if there is one
   pub held_end : Held-Kind-Read-1-1 → End
   held_end Kind-Read-1-1-None' = no_end
   held_end (Kind-Read-1-1-Some' q e) = end_at (kind_tree q e)
 
+  -- a row of domains
   pub row_domains : {m : _} → Row_of-Domain m → Domains
   row_domains end_of-Domain = no_domains
   row_domains (more_of-Domain q d rest) = domain_and (domain_kind_tree q d) (row_domains rest)
 
--- an expression, and a domain
+-- an expression
 abbrev pub expr_tree : Expr → ExprTree
 expr_tree e = kind_tree e.place e.kind
 
+-- a domain
 abbrev pub domain_tree : Domain → DomainTree
 domain_tree d = domain_kind_tree d.place d.kind
 
--- lists of them, as loops over a vector see them
+-- a list of expressions, as a loop over a vector sees it
 unfoldable pub expr_trees : List Expr → ExprTrees
 expr_trees [] = no_trees
 expr_trees (e ∷ es) = tree_and (expr_tree e) (expr_trees es)
 
+-- a list of terms
 unfoldable pub terms_of : List (Bool × Expr) → Terms
 terms_of [] = no_terms
 terms_of (term ∷ terms) = term_and term.0 (expr_tree term.1) (terms_of terms)
 
+-- a list of indices
 unfoldable pub indices_of : List (Option Expr) → Indices
 indices_of [] = no_indices
 indices_of (None ∷ indices) = every_and (indices_of indices)
 indices_of (Some e ∷ indices) = index_and (expr_tree e) (indices_of indices)
 
+-- a list of generators
 unfoldable pub generators_of : List Generator → Generators
 generators_of [] = no_generators
 generators_of (g ∷ gens) = generator_and g.names.items (domain_tree g.domain) (generators_of gens)
 
+-- a list of domains
 unfoldable pub domains_of : List Domain → Domains
 domains_of [] = no_domains
 domains_of (d ∷ ds) = domain_and (domain_tree d) (domains_of ds)
 
+-- an end of a range
 unfoldable pub end_of : Option Expr → End
 end_of None = no_end
 end_of (Some e) = end_at (expr_tree e)
 
+-- a list of ranges
 unfoldable pub ranges_of : List Range → Ranges
 ranges_of [] = no_ranges
 ranges_of (r ∷ rs) = with_range r (ranges_of rs)
 
--- a statement, and the statements of a text
+-- names that are declared together
 unfoldable pub group_of : Declared → Group
 group_of d = record { names = d.names.items; domain = domain_tree d.domain }
 
+-- a statement of this kind at a place
 unfoldable pub statement_kind_tree : Place → StatementKind → StatementTree
 statement_kind_tree p (GivenStatement groups) = given p (map group_of groups.items)
 statement_kind_tree p (FindStatement groups) = decided p (map group_of groups.items)
@@ -156,31 +174,39 @@ statement_kind_tree p (ObjectiveStatement sense e) = objective p sense (expr_tre
 statement_kind_tree p (Branching names) = branching p names.items
 statement_kind_tree p (Heuristic name) = heuristic p name
 
+-- a statement
 abbrev pub statement_tree : Statement → StatementTree
 statement_tree s = statement_kind_tree s.place s.kind
 
+-- the statements of a model
 unfoldable pub model_tree : Model → TextTree
 model_tree m = map statement_tree m.statements.items
 
+-- the statements of a parameter text
 unfoldable pub params_tree : Params → TextTree
 params_tree p = map statement_tree p.statements.items
 
 -- a value, and the values of an assignment
 unfoldable mutual
+  -- a value
   pub value_tree : Value → ValueTree
   value_tree (NumberValue n) = single n
   value_tree (ValueMatrix' indices _ parts) = matrix indices.items (row_values parts)
 
+  -- a row of values
   pub row_values : {m : _} → Row_of-Value m → ValueTrees
   row_values end_of-Value = no_values
   row_values (more_of-Value v rest) = value_and (value_tree v) (row_values rest)
 
+-- a list of values
 unfoldable pub values_from : List Value → ValueTrees
 values_from [] = no_values
 values_from (v ∷ vs) = value_and (value_tree v) (values_from vs)
 
+-- a value with its name and type
 abbrev pub named_value : Entry → NamedValue
 named_value e = record { name = e.name; ty = e.ty; value = value_tree e.value }
 
+-- the values of an assignment
 abbrev pub assigned : Assignment → Assigned
 assigned a = map named_value a.entries.items
