@@ -17,10 +17,10 @@ abbrev answer : ℤ → Option (ℤ → Bool) → Option Bool
 answer x test = option_map (λ f. f x) test
 
 -- what `Some` holds
-some_is : {A : Type 0} {x y : A} → Some x ≡ Some y → x ≡ y
+pub some_is : {A : Type 0} {x y : A} → Some x ≡ Some y → x ≡ y
 some_is e = cc
 
-nothing_is_some : {A B : Type 0} {x : A} → None ≡ Some x → B
+pub nothing_is_some : {A B : Type 0} {x : A} → None ≡ Some x → B
 nothing_is_some e = absurd cc
 
 -- a set operation of two answers

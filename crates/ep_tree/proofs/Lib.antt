@@ -17,3 +17,4 @@ pub mod TypeEquations
 pub mod FaultEquations
 pub mod MetEquations
 pub mod HeightEquations
+pub mod SortedDomains

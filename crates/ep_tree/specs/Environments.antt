@@ -1,6 +1,7 @@
 -- Environments: what each name stands for where an expression has a value.
 use Rattle.std.specs.Prelude.{true, false, List, [], ◌∷◌, length, ℤ, Some, None, Option, unwrap_or, option_map}
 use Rattle.ep_base.specs.declared.names.Name.{Name}
+use Rattle.ep_tree.specs.Domains.{IsAscending}
 use Rattle.ep_tree.specs.Names.{Known, put}
 use Rattle.ep_tree.specs.Trees.{DomainTree}
 use Rattle.ep_tree.specs.Types.{Context, Meaning, a_domain, a_value, judge_domain, of_scalar, scalar_of, type_from}
@@ -56,3 +57,8 @@ scalar_in env d = unwrap_or (option_map scalar_of (type_from (judge_domain (cont
 -- an environment in which a name stands for a number of a domain's scalar
 unfoldable pub with_number : Name → Scalar → ℤ → Env → Env
 with_number name s n env = put name (has_value (of_scalar s) (single n)) env
+
+-- the numbers of a domain's name ascend
+unfoldable pub HasAscendingDomain : Option Bound → Type 0
+HasAscendingDomain (Some (has_domain s indices values)) = IsAscending values
+HasAscendingDomain _ = Unit {0}

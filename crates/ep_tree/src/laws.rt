@@ -7,9 +7,9 @@ ghost use Rattle.ep_tree.specs.declared.syntax.SetOp.{SetOp};
 ghost use Rattle.ep_tree.specs.declared.values.Mode.{Mode};
 ghost use Rattle.ep_tree.specs.Trees.{DomainTree, ExprTree};
 ghost use Rattle.ep_tree.specs.Binding.{elements_pass};
-ghost use Rattle.ep_tree.specs.Domains.{between, set_has, set_values};
+ghost use Rattle.ep_tree.specs.Domains.{IsAscending, between, set_has, set_values};
 ghost use Rattle.ep_tree.specs.Names.{put};
-ghost use Rattle.ep_tree.specs.Environments.{Bound, Env};
+ghost use Rattle.ep_tree.specs.Environments.{Bound, Env, HasAscendingDomain};
 ghost use Rattle.ep_tree.specs.Types.{Context, Meaning, judge};
 ghost use Rattle.ep_tree.specs.Evaluation.{domain_values, evaluate};
 
@@ -32,9 +32,11 @@ pub fn quotient_is_the_floor()
 {}
 
 /// A range has the numbers from its first to its last, and an operation on domains is that of sets. A domain that
-/// isn't open passes exactly the numbers that it lists, so that fitting and listing speak of the same domain.
+/// isn't open passes exactly the numbers that it lists, so that fitting and listing speak of the same domain. The
+/// numbers are listed in ascending order, each once.
 pub fn domains_are_sets()
     ensures ranges { (x first last : ℤ) → has_number (between first last) x ≡ (int_le first x && int_le x last) }
     ensures operations { (op : SetOp) (xs ys : List ℤ) (x : ℤ) → has_number (set_values op xs ys) x ≡ set_has op (has_number xs x) (has_number ys x) }
     ensures closed { (mode : Mode) (env : Env) (x : ℤ) (d : DomainTree) (values : List ℤ) → domain_values mode env d ≡ Some values → option_map (λ passes. passes x) (elements_pass mode env d) ≡ Some (has_number values x) }
+    ensures sorted { (mode : Mode) (env : Env) → ((name : Name) → HasAscendingDomain (env name)) → (d : DomainTree) (values : List ℤ) → domain_values mode env d ≡ Some values → IsAscending values }
 {}
