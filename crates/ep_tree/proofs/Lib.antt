@@ -18,3 +18,5 @@ pub mod FaultEquations
 pub mod MetEquations
 pub mod HeightEquations
 pub mod SortedDomains
+pub mod TypedParts
+pub mod TypedEvaluation

@@ -18,3 +18,4 @@ pub mod Binding
 pub mod Solutions
 pub mod Views
 pub mod SolutionTexts
+pub mod TypedValues
