@@ -1,17 +1,15 @@
 -- The numbers of a domain ascend.
-use Rattle.std.specs.Prelude.{◌≡◌, ℕ, zero, suc, Bool, true, false, List, [], ◌∷◌, ℤ, pos, ◌+ℤ◌, ◌<ℤ◌, int_lt, if◌then◌else◌, filter, cond, Some, None, Option, refl}
+use Rattle.std.specs.Prelude.{◌≡◌, Bool, true, false, List, [], ◌∷◌, ℤ, ◌<ℤ◌, int_lt, if◌then◌else◌, filter, cond, Some, None, Option, refl}
 use Rattle.std.specs.Ordering.{int_eq}
 use Rattle.std.proofs.Common.{arith, subst}
 use Rattle.std.proofs.lemmas.Int.{ints}
 use Rattle.ep_base.specs.declared.names.Name.{Name}
-use Rattle.ep_base.specs.Numbers.{has_number}
 use Rattle.ep_tree.specs.declared.syntax.SetOp.{SetOp}
 use Rattle.ep_tree.specs.declared.values.Mode.{Mode}
 use Rattle.ep_tree.specs.Trees.{DomainTree, bool, int, ranges, named_domain, group_domain, set_domain, matrix_domain, Ranges, no_ranges, one_and, span_and}
-use Rattle.ep_tree.specs.Domains.{Above, IsAscending, between, count_between, put_in, set_values, united}
+use Rattle.ep_tree.specs.Domains.{Above, IsAscending, between, put_in, set_values, united}
 use Rattle.ep_tree.specs.Environments.{Bound, Env, HasAscendingDomain, domain_bound, has_cells, has_domain, has_value}
 use Rattle.ep_tree.specs.Evaluation.{domain_values, end_value, evaluate, number_in, on_both, on_three, range_values}
-use Rattle.ep_tree.specs.Values.{numbers_from}
 use Rattle.ep_tree.proofs.ClosedDomains.{nothing_is_some, some_is}
 
 -- what ascends from a number on ascends from a lesser one on

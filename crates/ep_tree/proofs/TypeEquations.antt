@@ -5,7 +5,6 @@ use Rattle.ep_base.specs.declared.names.Name.{Name}
 use Rattle.ep_base.specs.declared.operators.CompareOp.{CompareOp}
 use Rattle.ep_base.specs.declared.operators.LexOp.{LexOp}
 use Rattle.ep_base.specs.declared.places.Place.{Place}
-use Rattle.ep_tree.specs.Spelling.{domains}
 use Rattle.ep_tree.specs.Trees.{DomainTree, Domains, End, ExprTree, ExprTrees, Generators, IndexDomain, Indices, Ranges, Terms, absolute, all_different, all_of, any_of, at_least, at_most, binary, bool, chain, compare, comprehension, domain_and, end_at, every_and, factorial, flatten, folded, gcc, generator_and, group, group_domain, in_domain, in_set, index_and, int, lex, literal, matrix_domain, minus, named, named_domain, negation, no_domains, no_end, no_generators, no_indices, no_ranges, no_terms, no_trees, number, one_and, over, quantified, ranges, read, set_domain, span_and, table, term_and, to_int, tree_and, truth, unstated}
 use Rattle.ep_tree.specs.Types.{Context, Judged, are_lists, binary_type, both_scalars, domain_readings, folded_type, from_many, from_one, from_three, from_two, gives, has_dimensions, indexed_type, inside, is_boolean, is_integer, is_matrix, judge, judge_all, judge_comprehension, judge_domain, judge_domains, judge_end, judge_generators, judge_index, judge_indices, judge_ranges, judge_terms, list_type, matrix_type, named_domain_type, named_type, of_scalar, quantified_type, read_type, scalar_of, slice_count, typed, with_domains}
 use Rattle.ep_tree.specs.declared.syntax.BinaryOp.{BinaryOp}

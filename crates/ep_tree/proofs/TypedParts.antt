@@ -106,6 +106,7 @@ number_is (Some n) v e = subst (λ w. IsOfDims Scalar.Int 0 w) (some_is e) refl
 -- a Boolean is an integer, and a matrix of Booleans one of integers
 mutual
   unfolding is_number_of
+
   pub dims_as_int : (k : ℕ) (v : ValueTree) → IsOfDims Scalar.Bool k v → IsOfDims Scalar.Int k v
   dims_as_int zero (single n) h = refl
   dims_as_int zero (matrix is ps) h = absurd h
@@ -151,6 +152,7 @@ all_append f (x ∷ xs) ys p q = and_both (f x) (list_all f (xs ++ ys)) (and_lef
 
 mutual
   unfolding scalars_of
+
   pub scalars_are : (s : Scalar) (k : ℕ) (v : ValueTree) → IsOfDims s k v → list_all (is_number_of s) (scalars_of v) ≡ true
   scalars_are s zero (single n) h = and_both (is_number_of s n) true h refl
   scalars_are s zero (matrix is ps) h = absurd h
@@ -199,7 +201,7 @@ matrix_scalars ValueType.Empty v c h = subst (λ w. list_all (is_number_of Scala
 -- ---- reads
 
 -- how many indices are stated
-pub stated : List Index → ℕ
+unfoldable pub stated : List Index → ℕ
 stated [] = 0
 stated (at_index i ∷ is) = suc (stated is)
 stated (any_index ∷ is) = stated is
@@ -264,9 +266,10 @@ read_is s (at_index i ∷ is) (suc k) (matrix indices parts) w b h e =
 read_is s (any_index ∷ is) (suc k) (matrix indices parts) w b h e =
     let p : _ = map_is (λ vs. matrix indices (as_parts vs)) (all_defined (map (read_value is) (listed_values parts))) w e in
     let more : suc k - stated is ≡ suc (k - stated is) = omega (arith, b, stated-most is) in
-    rw more (subst (λ x. IsOfDims s (suc (k - stated is)) x) p.2
-        (h.0 ∙ sym (ap length (listed-as_parts p.0) ∙ defined_length (map (read_value is) (listed_values parts)) p.0 p.1 ∙ length-map (read_value is) (listed_values parts)),
-        read_parts s k (k - stated is) (read_value is) parts p.0 (λ x y hx ex. read_is s is k x y (omega (arith, b)) hx ex) h.1 p.1))
+    rw more (subst (λ x. IsOfDims s (suc (k - stated is)) x) p.2 (
+      h.0 ∙ sym (ap length (listed-as_parts p.0) ∙ defined_length (map (read_value is) (listed_values parts)) p.0 p.1 ∙ length-map (read_value is) (listed_values parts)),
+      read_parts s k (k - stated is) (read_value is) parts p.0 (λ x y hx ex. read_is s is k x y (omega (arith, b)) hx ex) h.1 p.1,
+    ))
 
 -- ---- lists
 
@@ -294,13 +297,15 @@ unfolding as_parts
 integers_are s [] [] c d h = tt
 integers_are s [] (v ∷ vs) c d h = absurd h
 integers_are s (t ∷ ts) [] c d h = absurd h
-integers_are Scalar.Bool (t ∷ ts) (v ∷ vs) c d h =
-    (boolean_is t v (and_left (is_boolean t) (list_all is_boolean ts) (d refl)) h.0,
-    integers_are Scalar.Bool ts vs (and_right (is_integer t) (list_all is_integer ts) c)
-        (λ _. and_right (is_boolean t) (list_all is_boolean ts) (d refl)) h.1)
-integers_are Scalar.Int (t ∷ ts) (v ∷ vs) c d h =
-    (integer_is t v (and_left (is_integer t) (list_all is_integer ts) c) h.0,
-    integers_are Scalar.Int ts vs (and_right (is_integer t) (list_all is_integer ts) c) (λ e. absurd cc) h.1)
+integers_are Scalar.Bool (t ∷ ts) (v ∷ vs) c d h = (
+  boolean_is t v (and_left (is_boolean t) (list_all is_boolean ts) (d refl)) h.0,
+  integers_are Scalar.Bool ts vs (and_right (is_integer t) (list_all is_integer ts) c)
+      (λ _. and_right (is_boolean t) (list_all is_boolean ts) (d refl)) h.1,
+)
+integers_are Scalar.Int (t ∷ ts) (v ∷ vs) c d h = (
+  integer_is t v (and_left (is_integer t) (list_all is_integer ts) c) h.0,
+  integers_are Scalar.Int ts vs (and_right (is_integer t) (list_all is_integer ts) c) (λ e. absurd cc) h.1,
+)
 
 -- a value of a matrix type of so many dimensions
 matrix_part_is : (s : Scalar) (k : ℕ) (t : ValueType) (v : ValueTree) → has_dimensions (suc k) t ≡ true
@@ -325,11 +330,12 @@ unfolding as_parts
 matrices_are s k [] [] c d h = tt
 matrices_are s k [] (v ∷ vs) c d h = absurd h
 matrices_are s k (t ∷ ts) [] c d h = absurd h
-matrices_are s k (t ∷ ts) (v ∷ vs) c d h =
-    (matrix_part_is s k t v (and_left (has_dimensions (suc k) t) (list_all (has_dimensions (suc k)) ts) c)
-        (λ e. and_left (is_matrix_of_bool t) (list_all is_matrix_of_bool ts) (d e)) h.0,
-    matrices_are s k ts vs (and_right (has_dimensions (suc k) t) (list_all (has_dimensions (suc k)) ts) c)
-        (λ e. and_right (is_matrix_of_bool t) (list_all is_matrix_of_bool ts) (d e)) h.1)
+matrices_are s k (t ∷ ts) (v ∷ vs) c d h = (
+  matrix_part_is s k t v (and_left (has_dimensions (suc k) t) (list_all (has_dimensions (suc k)) ts) c)
+      (λ e. and_left (is_matrix_of_bool t) (list_all is_matrix_of_bool ts) (d e)) h.0,
+  matrices_are s k ts vs (and_right (has_dimensions (suc k) t) (list_all (has_dimensions (suc k)) ts) c)
+      (λ e. and_right (is_matrix_of_bool t) (list_all is_matrix_of_bool ts) (d e)) h.1,
+)
 
 -- lists without parts as parts of a matrix
 empties_are : (ts : List ValueType) (vs : List ValueTree) → stated_dimensions ts ≡ None → list_all is_matrix ts ≡ true → AllOf ts vs
@@ -367,15 +373,18 @@ list_is (s ∷ ts) (v ∷ vs) is t h l e =
   where
     whole : length is ≡ length (listed_values (as_parts (v ∷ vs)))
     whole = l ∙ sym (ap length (listed-as_parts (v ∷ vs)))
+
     scalar_choice : (c : Bool) → ((if c then Scalar.Bool else Scalar.Int) ≡ Scalar.Bool) → c ≡ true
     scalar_choice true p = refl
     scalar_choice false p = absurd cc
+
     of_dims : (k : ℕ) (b : Bool) → list_all is_matrix_of_bool (s ∷ ts) ≡ b → list_all (has_dimensions (suc k)) (s ∷ ts) ≡ true
         → ValueType.Matrix (suc k + 1) (if b then Scalar.Bool else Scalar.Int) ≡ t → IsOf t (matrix is (as_parts (v ∷ vs)))
     of_dims k b p c q =
         subst (λ r. IsOf r (matrix is (as_parts (v ∷ vs)))) q
-            (let one_more : suc k + 1 ≡ suc (suc k) = omega arith in
-            rw one_more (whole, matrices_are (if b then Scalar.Bool else Scalar.Int) k (s ∷ ts) (v ∷ vs) c (λ r. p ∙ scalar_choice b r) h))
+        (let one_more : suc k + 1 ≡ suc (suc k) = omega arith in
+        rw one_more (whole, matrices_are (if b then Scalar.Bool else Scalar.Int) k (s ∷ ts) (v ∷ vs) c (λ r. p ∙ scalar_choice b r) h))
+
     matrices : (o : Option ℕ) → stated_dimensions (s ∷ ts) ≡ o → list_all is_matrix (s ∷ ts) ≡ true → list_of_matrices (s ∷ ts) o ≡ typed t
         → IsOf t (matrix is (as_parts (v ∷ vs)))
     matrices None p c q = subst (λ r. IsOf r (matrix is (as_parts (v ∷ vs)))) (typed_is q) (whole, empties_are (s ∷ ts) (v ∷ vs) p c h)
@@ -383,13 +392,14 @@ list_is (s ∷ ts) (v ∷ vs) is t h l e =
     matrices (Some (suc k)) p c q =
         let g : _ = gives_is (ValueType.Matrix (suc k + 1) (if list_all is_matrix_of_bool (s ∷ ts) then Scalar.Bool else Scalar.Int)) (list_all (has_dimensions (suc k)) (s ∷ ts)) t q in
         of_dims k (list_all is_matrix_of_bool (s ∷ ts)) refl g.1 g.0
+
     go : (a b c : Bool) → list_all is_integer (s ∷ ts) ≡ a → list_all is_boolean (s ∷ ts) ≡ b → list_all is_matrix (s ∷ ts) ≡ c
         → (if a then typed (ValueType.Matrix 1 (if b then Scalar.Bool else Scalar.Int))
-            else (if c then list_of_matrices (s ∷ ts) (stated_dimensions (s ∷ ts)) else mistyped)) ≡ typed t
+        else (if c then list_of_matrices (s ∷ ts) (stated_dimensions (s ∷ ts)) else mistyped)) ≡ typed t
         → IsOf t (matrix is (as_parts (v ∷ vs)))
     go true b c p q r e =
         subst (λ x. IsOf x (matrix is (as_parts (v ∷ vs)))) (typed_is e)
-            (whole, integers_are (if b then Scalar.Bool else Scalar.Int) (s ∷ ts) (v ∷ vs) p (λ x. q ∙ scalar_choice b x) h)
+        (whole, integers_are (if b then Scalar.Bool else Scalar.Int) (s ∷ ts) (v ∷ vs) p (λ x. q ∙ scalar_choice b x) h)
     go false b true p q r e = matrices (stated_dimensions (s ∷ ts)) refl r e
     go false b false p q r e = mistyped_is e
 
@@ -424,7 +434,7 @@ one_more : (n : ℕ) (s : Scalar) (vs : List ValueTree) (is : List ℤ) (t : Val
     → ValueType.Matrix (n + 1) s ≡ t → IsOf t (matrix is (as_parts vs))
 one_more n s vs is t l h q =
     subst (λ r. IsOf r (matrix is (as_parts vs))) q
-        (let e : n + 1 ≡ suc n = omega arith in rw e (l ∙ sym (ap length (listed-as_parts vs)), h))
+    (let e : n + 1 ≡ suc n = omega arith in rw e (l ∙ sym (ap length (listed-as_parts vs)), h))
 
 -- Values of one type are of the type of a list of it, however many they are.
 pub each_is : (s : ValueType) (vs : List ValueTree) (is : List ℤ) (t : ValueType) → EachOf s vs → length is ≡ length vs

@@ -1,16 +1,20 @@
 //! Laws that hold of the definitions, each the contract of a function that does nothing.
 
-ghost use Rattle.std.specs.Prelude.{◌≡◌, ℕ, zero, suc, ◌&&◌, ℤ, pos, negsuc, ◌+ℤ◌, ◌*ℤ◌, ◌≤ℤ◌, ◌<ℤ◌, int_le, List, Some, None, option_map};
+ghost use Rattle.std.specs.List.{list_all};
+ghost use Rattle.std.specs.Prelude.{◌≡◌, ℕ, zero, suc, ◌&&◌, ℤ, pos, negsuc, ◌+ℤ◌, ◌*ℤ◌, ◌≤ℤ◌, ◌<ℤ◌, int_le, List, Some, None, IsTrue, option_map};
 ghost use Rattle.ep_base.specs.declared.names.Name.{Name};
 ghost use Rattle.ep_base.specs.Numbers.{has_number, quotient};
 ghost use Rattle.ep_tree.specs.declared.syntax.SetOp.{SetOp};
 ghost use Rattle.ep_tree.specs.declared.values.Mode.{Mode};
+ghost use Rattle.ep_tree.specs.declared.values.ValueType.{ValueType};
 ghost use Rattle.ep_tree.specs.Trees.{DomainTree, ExprTree};
 ghost use Rattle.ep_tree.specs.Binding.{elements_pass};
 ghost use Rattle.ep_tree.specs.Domains.{IsAscending, between, set_has, set_values};
 ghost use Rattle.ep_tree.specs.Names.{put};
-ghost use Rattle.ep_tree.specs.Environments.{Bound, Env, HasAscendingDomain};
-ghost use Rattle.ep_tree.specs.Types.{Context, Meaning, judge};
+ghost use Rattle.ep_tree.specs.Environments.{Bound, Env, HasAscendingDomain, context_of};
+ghost use Rattle.ep_tree.specs.Types.{Context, Meaning, judge, judge_domain, scalar_of, typed};
+ghost use Rattle.ep_tree.specs.TypedValues.{IsOf, IsTypedEnv, is_number_of};
+ghost use Rattle.ep_tree.specs.Values.{ValueTree};
 ghost use Rattle.ep_tree.specs.Evaluation.{domain_values, evaluate};
 
 /// Hiding is lexical: what an expression or a domain is worth doesn't depend on what a name stood for that
@@ -39,4 +43,11 @@ pub fn domains_are_sets()
     ensures operations { (op : SetOp) (xs ys : List ℤ) (x : ℤ) → has_number (set_values op xs ys) x ≡ set_has op (has_number xs x) (has_number ys x) }
     ensures closed { (mode : Mode) (env : Env) (x : ℤ) (d : DomainTree) (values : List ℤ) → domain_values mode env d ≡ Some values → option_map (λ passes. passes x) (elements_pass mode env d) ≡ Some (has_number values x) }
     ensures sorted { (mode : Mode) (env : Env) → ((name : Name) → HasAscendingDomain (env name)) → (d : DomainTree) (values : List ℤ) → domain_values mode env d ≡ Some values → IsAscending values }
+{}
+
+/// Where a value is defined it is of its expression's type, in an environment whose names are of their types; and the
+/// numbers of a domain are of its scalar.
+pub fn values_are_of_their_types()
+    ensures values { (mode : Mode) (env : Env) → IsTypedEnv env → (e : ExprTree) (t : ValueType) → judge (context_of env) e ≡ typed t → (v : ValueTree) → evaluate mode env e ≡ Some v → IsOf t v }
+    ensures numbers { (mode : Mode) (env : Env) → IsTypedEnv env → (d : DomainTree) (t : ValueType) → judge_domain (context_of env) d ≡ typed t → (ns : List ℤ) → domain_values mode env d ≡ Some ns → IsTrue (list_all (is_number_of (scalar_of t)) ns) }
 {}

@@ -6,7 +6,9 @@ mod statements;
 mod syntax;
 mod values;
 
-pub use laws::{domains_are_sets, hiding_is_lexical, quotient_is_the_floor};
+pub use laws::{
+    domains_are_sets, hiding_is_lexical, quotient_is_the_floor, values_are_of_their_types,
+};
 pub use statements::{Declared, Model, Objective, Params, Statement, StatementKind};
 pub use syntax::{
     BinaryOp, Domain, DomainKind, Expr, FoldOp, Generator, Kind, QuantOp, Range, SetOp,
