@@ -20,3 +20,4 @@ pub mod HeightEquations
 pub mod SortedDomains
 pub mod TypedParts
 pub mod TypedEvaluation
+pub mod FirstFault

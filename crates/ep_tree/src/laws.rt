@@ -7,6 +7,12 @@ ghost use Rattle.ep_base.specs.Numbers.{has_number, quotient};
 ghost use Rattle.ep_tree.specs.declared.syntax.SetOp.{SetOp};
 ghost use Rattle.ep_tree.specs.declared.values.Mode.{Mode};
 ghost use Rattle.ep_tree.specs.declared.values.ValueType.{ValueType};
+ghost use Rattle.ep_tree.specs.Heights.{domain_height, height};
+ghost use Rattle.ep_tree.specs.Phrases.{Lexeme};
+ghost use Rattle.ep_tree.specs.Reading.{Begins, BeginsWithin, Stops};
+ghost use Rattle.ep_tree.specs.Spelling.{DomainLevel, Level, Spells, SpellsDomain};
+ghost use Rattle.ep_tree.specs.Statements.{text_height};
+ghost use Rattle.ep_tree.specs.StatementSpelling.{SpellsModel, SpellsParams};
 ghost use Rattle.ep_tree.specs.Trees.{DomainTree, ExprTree};
 ghost use Rattle.ep_tree.specs.Binding.{elements_pass};
 ghost use Rattle.ep_tree.specs.Domains.{IsAscending, between, set_has, set_values};
@@ -50,4 +56,17 @@ pub fn domains_are_sets()
 pub fn values_are_of_their_types()
     ensures values { (mode : Mode) (env : Env) → IsTypedEnv env → (e : ExprTree) (t : ValueType) → judge (context_of env) e ≡ typed t → (v : ValueTree) → evaluate mode env e ≡ Some v → IsOf t v }
     ensures numbers { (mode : Mode) (env : Env) → IsTypedEnv env → (d : DomainTree) (t : ValueType) → judge_domain (context_of env) d ≡ typed t → (ns : List ℤ) → domain_values mode env d ≡ Some ns → IsTrue (list_all (is_number_of (scalar_of t)) ns) }
+{}
+
+/// At most one token is the first with which nothing goes on, be it in an expression, a domain, a model or a parameter
+/// text, with trees of a height or of any.
+pub fn first_faults_are_unique()
+    ensures expressions { (level : Level) (tokens : List Lexeme) (m n : ℕ) → Stops (Begins (Spells level)) tokens m → Stops (Begins (Spells level)) tokens n → m ≡ n }
+    ensures low_expressions { (level : Level) (most : ℕ) (tokens : List Lexeme) (m n : ℕ) → Stops (BeginsWithin (Spells level) height most) tokens m → Stops (BeginsWithin (Spells level) height most) tokens n → m ≡ n }
+    ensures domains { (level : DomainLevel) (tokens : List Lexeme) (m n : ℕ) → Stops (Begins (SpellsDomain level)) tokens m → Stops (Begins (SpellsDomain level)) tokens n → m ≡ n }
+    ensures low_domains { (level : DomainLevel) (most : ℕ) (tokens : List Lexeme) (m n : ℕ) → Stops (BeginsWithin (SpellsDomain level) domain_height most) tokens m → Stops (BeginsWithin (SpellsDomain level) domain_height most) tokens n → m ≡ n }
+    ensures models { (tokens : List Lexeme) (m n : ℕ) → Stops (Begins SpellsModel) tokens m → Stops (Begins SpellsModel) tokens n → m ≡ n }
+    ensures low_models { (most : ℕ) (tokens : List Lexeme) (m n : ℕ) → Stops (BeginsWithin SpellsModel text_height most) tokens m → Stops (BeginsWithin SpellsModel text_height most) tokens n → m ≡ n }
+    ensures params { (tokens : List Lexeme) (m n : ℕ) → Stops (Begins SpellsParams) tokens m → Stops (Begins SpellsParams) tokens n → m ≡ n }
+    ensures low_params { (most : ℕ) (tokens : List Lexeme) (m n : ℕ) → Stops (BeginsWithin SpellsParams text_height most) tokens m → Stops (BeginsWithin SpellsParams text_height most) tokens n → m ≡ n }
 {}

@@ -7,7 +7,8 @@ mod syntax;
 mod values;
 
 pub use laws::{
-    domains_are_sets, hiding_is_lexical, quotient_is_the_floor, values_are_of_their_types,
+    domains_are_sets, first_faults_are_unique, hiding_is_lexical, quotient_is_the_floor,
+    values_are_of_their_types,
 };
 pub use statements::{Declared, Model, Objective, Params, Statement, StatementKind};
 pub use syntax::{
