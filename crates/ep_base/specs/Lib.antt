@@ -1,6 +1,6 @@
-pub mod Numbers
 pub mod Calls
 pub mod MemoryDevices
+pub mod Numbers
 pub mod Outside
 pub mod Runs
 pub mod TokenTexts

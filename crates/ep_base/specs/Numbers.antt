@@ -2,7 +2,8 @@
 --
 -- An operation that has no value for some numbers answers `None` there. Numbers stand for truth values, 1 for true.
 -- The floor of a quotient and the sign of a remainder are those of the language's public description; that
--- `0 ** 0` is 1, and that `min` and `max` of no part have no value, is this project's own choice.
+-- `0 ** 0` is 1, and that `min` and `max` of no part, a negative exponent and the factorial of a negative number have no
+-- value, is this project's own choice.
 use Rattle.std.specs.Prelude.{ℕ, zero, suc, ◌*◌, ◌/◌, Bool, true, false, not, ◌&&◌, ◌||◌, List, [], ◌∷◌, length, ℤ, pos, negsuc, ◌+ℤ◌, ◌-ℤ◌, ◌*ℤ◌, neg_ℤ, ◌==◌, int_lt, int_le, Some, None, fold, count_by, Option, option_map}
 use Rattle.std.specs.Int.{int_max, int_min}
 use Rattle.std.specs.List.{list_all, list_any}

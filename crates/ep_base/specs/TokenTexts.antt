@@ -30,7 +30,7 @@ is_number (byte ∷ bytes) = is_ascii_digit byte && list_all is_ascii_digit byte
 
 -- whether a text is one of the texts of a list
 abbrev pub is_one_of : List (List ℕ) → List ℕ → Bool
-is_one_of texts text = list_any (λ other. bytes_eq text other) texts
+is_one_of texts text = list_any (λ other. bytes_eq other text) texts
 
 -- the reserved words, which have the form of a name and are none
 abbrev pub reserved_words : List (List ℕ)
@@ -62,7 +62,7 @@ list_comparisons = codes "<lex" ∷ codes "<=lex" ∷ codes ">lex" ∷ codes ">=
 
 -- whether a text is a reserved word or the name of the language
 unfoldable pub is_word : List ℕ → Bool
-is_word text = is_one_of reserved_words text || bytes_eq text language_name
+is_word text = is_one_of reserved_words text || bytes_eq language_name text
 
 -- whether the bytes that follow would continue a name
 abbrev pub name_follows : List ℕ → Bool

@@ -83,7 +83,7 @@ tokens_from zero text offset = Ok []
 tokens_from (suc more) text offset =
     followed_by (token_at text (offset + gap_len false (drop offset text))) (λ to. tokens_from more text to)
 
--- The tokens of a text, or its first fault. A text has no more tokens than bytes.
+-- The tokens of a text, or its first fault. It has no more tokens than bytes, so these are enough.
 unfoldable pub tokens_of : List ℕ → Result (List Token) TokenFault
 tokens_of text = tokens_from (suc (length text)) text 0
 

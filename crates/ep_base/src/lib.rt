@@ -1,4 +1,4 @@
-//! What every crate stands on: places, names, tokens, the outside, and want of memory.
+//! What every crate stands on: places, names, tokens, operators, the outside, and want of memory.
 #![tactic(auto)]
 
 mod calls;
@@ -11,6 +11,8 @@ mod outside;
 mod places;
 mod run_lists;
 mod std_devices;
+#[cfg(test)]
+mod tests;
 mod tokens;
 mod words;
 
@@ -18,7 +20,7 @@ pub use errors::Memory;
 pub use mem_files::MemFiles;
 pub use mem_sink::MemSink;
 pub use names::Name;
-pub use operators::{CompareOp, Key, LexOp, Limit, Sense};
+pub use operators::{CompareOp, LexOp, Limit, Sense};
 pub use outside::{FileError, Files, PutError, Sink, put_all};
 pub use places::Place;
 pub use run_lists::{Run, Runs};

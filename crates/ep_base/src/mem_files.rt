@@ -43,7 +43,8 @@ impl MemFiles {
 
     /// Makes a name hold exactly these bytes, and counts as no call.
     pub fn hold(&mut self, name: &str, bytes: &[u8]) -> Result<(), Memory>
-        ensures held { OnOk result (self.new ≡ record self.old { files = map.insert self.old.files name.now bytes.now }) }
+        ensures held { OnOk result
+            (self.new ≡ record self.old { files = map.insert self.old.files name.now bytes.now }) }
         ensures refused { OnErr result (self.new ≡ self.old) }
     {
         hold_under(self.alloc, &mut self.files, name, bytes)?;
@@ -71,7 +72,8 @@ impl Files for MemFiles {
         name: &str,
         at_most: u64,
     ) -> Result<Option<Vec<u8>>, FileError>
-        ensures gives { IfOk result (λ answer. option_map (λ bytes. bytes.items) answer ≡ option_map (take at_most) (map.get self.old.files name.now)) }
+        ensures gives { IfOk result (λ answer. option_map (λ bytes. bytes.items) answer
+            ≡ option_map (take at_most) (map.get self.old.files name.now)) }
         ensures never_falls { self.old.calls.faults ≤ self.new.calls.faults }
         ensures fits { self.new.calls.faults < 2 ^ 64 }
         ensures failed { IsErrOf result FileError.Failed ↔ IsTrue (next_fails self.old.calls) }
@@ -91,6 +93,7 @@ impl Files for MemFiles {
         ensures never_falls { self.old.calls.faults ≤ self.new.calls.faults }
         ensures fits { self.new.calls.faults < 2 ^ 64 }
         ensures failed { IsErrOf result FileError.Failed ↔ IsTrue (next_fails self.old.calls) }
+        ensures uncounted { IsErrOf result FileError.Memory → self.new.calls.faults ≡ self.old.calls.faults }
         ensures refused { OnErr result (self.new.files ≡ self.old.files) }
         ensures calls { self.new.calls ≡ after_call self.old.calls }
     {
@@ -119,7 +122,8 @@ fn hold_under(
     name: &str,
     bytes: &[u8],
 ) -> Result<(), AllocError>
-    ensures held { OnOk result (contents files.new.entries ≡ map.insert (contents files.old.entries) name.now bytes.now) }
+    ensures held { OnOk result
+        (contents files.new.entries ≡ map.insert (contents files.old.entries) name.now bytes.now) }
     ensures refused { OnErr result (files.new.entries ≡ files.old.entries) }
 {
     let key = String::from_str(alloc, name)?;

@@ -37,9 +37,3 @@ pub enum Limit {
     /// The weight.
     Weight,
 }
-
-/// A row of numbers, by which a part is looked up.
-#[derive(Debug, Drop)]
-pub struct Key {
-    pub numbers: Vec<i64>,
-}

@@ -97,7 +97,8 @@ pub trait Files {
         name: &str,
         at_most: u64,
     ) -> Result<Option<Vec<u8>>, FileError>
-        ensures gives { IfOk result (λ answer. ReadGives (held self.old) name.now at_most (option_map (λ bytes. bytes.items) answer)) }
+        ensures gives { IfOk result (λ answer.
+            ReadGives (held self.old) name.now at_most (option_map (λ bytes. bytes.items) answer)) }
         ensures unchanged { held self.new ≡ held self.old }
         ensures failed { IsErrOf result FileError.Failed → Rose (faults self.old) (faults self.new) }
         ensures never_falls { faults self.old ≤ faults self.new }
@@ -106,9 +107,12 @@ pub trait Files {
     /// Makes a name hold exactly these bytes. After `Failed` the name may hold anything; every other name
     /// holds what it held, whatever the answer.
     fn write(&mut self, name: &str, bytes: &[u8]) -> Result<(), FileError>
-        ensures written { OnOk result (held self.new ≡ option_map (with_bytes name.now bytes.now) (held self.old)) }
-        ensures elsewhere { IsErrOf result FileError.Failed → SameElsewhere name.now (held self.old) (held self.new) }
+        ensures written { OnOk result
+            (held self.new ≡ option_map (with_bytes name.now bytes.now) (held self.old)) }
+        ensures elsewhere { IsErrOf result FileError.Failed
+            → SameElsewhere name.now (held self.old) (held self.new) }
         ensures unchanged { IsErrOf result FileError.Memory → held self.new ≡ held self.old }
+        ensures uncounted { IsErrOf result FileError.Memory → faults self.new ≡ faults self.old }
         ensures failed { IsErrOf result FileError.Failed → Rose (faults self.old) (faults self.new) }
         ensures never_falls { faults self.old ≤ faults self.new }
         ensures fits { faults self.new < 2 ^ 64 };
@@ -127,7 +131,8 @@ pub trait Sink {
         requires { 0 < length piece.now }
         ensures some { IfOk result (λ count. 1 ≤ count) }
         ensures within { IfOk result (λ count. count ≤ length piece.now) }
-        ensures takes { IfOk result (λ count. taken self.new ≡ with_more (take count piece.now) (taken self.old)) }
+        ensures takes { IfOk result (λ count.
+            taken self.new ≡ with_more (take count piece.now) (taken self.old)) }
         ensures refused { OnErr result (taken self.new ≡ taken self.old) }
         ensures failed { IsErrOf result PutError.Failed → Rose (faults self.old) (faults self.new) }
         ensures never_falls { faults self.old ≤ faults self.new }

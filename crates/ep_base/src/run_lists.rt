@@ -1,6 +1,6 @@
 //! Sets of whole numbers, kept as runs.
 
-ghost use Rattle.std.specs.Prelude.{◌≡◌, ◌↔◌, ◌⊎◌, ◌++◌, ◌∷◌, [], ℕ, ℤ, pos, ◌+ℤ◌, ◌≤ℤ◌, ◌<ℤ◌, length, IsTrue, IfOk, OnOk, MatchOption};
+ghost use Rattle.std.specs.Prelude.{◌≡◌, ◌↔◌, ◌⊎◌, ◌++◌, ◌∷◌, [], ℕ, ℤ, pos, ◌+ℤ◌, ◌≤ℤ◌, ◌<ℤ◌, length, IsTrue, IfOk, IfSome, OnOk, MatchOption};
 ghost use Rattle.std.specs.List.{All, AllAdjacentBelow, AllPairs, Any, Contains};
 ghost use Rattle.ep_base.specs.Runs.{AreApart, IsIn, numbers};
 
@@ -37,7 +37,8 @@ impl Model for Runs {
 impl Runs {
     /// The numbers of all the parts. Costs a sort of the parts.
     pub fn new(alloc: Global, parts: Vec<Run>) -> Result<Runs, Memory>
-        ensures numbers { IfOk result (λ set. (number : ℤ) → Contains set number ↔ Any (IsIn number) parts.items) }
+        ensures numbers { IfOk result (λ set.
+            (number : ℤ) → Contains set number ↔ Any (IsIn number) parts.items) }
         ensures ascending { IfOk result (AllPairs ◌<ℤ◌) }
     {
         let mut sorted = parts;
@@ -87,7 +88,8 @@ fn some_has(runs: &[Run], number: i64) -> bool
 fn join_sorted(alloc: Global, parts: &[Run]) -> Result<Vec<Run>, AllocError>
     requires { AllAdjacentBelow (λ part next. part.lo ≤ℤ next.lo) parts.now (length parts.now) }
     ensures apart { IfOk result (λ runs. AreApart runs.items) }
-    ensures numbers { IfOk result (λ runs. (number : ℤ) → Any (IsIn number) runs.items ↔ Any (IsIn number) parts.now) }
+    ensures numbers { IfOk result (λ runs.
+        (number : ℤ) → Any (IsIn number) runs.items ↔ Any (IsIn number) parts.now) }
 {
     let mut runs = Vec::new(alloc);
     for part in parts {
@@ -104,7 +106,8 @@ fn add_run(runs: &mut Vec<Run>, part: Run) -> Result<(), AllocError>
     requires filled { part.lo ≤ℤ part.hi }
     requires behind { All (λ run. run.lo ≤ℤ part.lo) runs.old.items }
     ensures apart { OnOk result (AreApart runs.new.items) }
-    ensures numbers { OnOk result ((number : ℤ) → Any (IsIn number) runs.new.items ↔ Any (IsIn number) (runs.old.items ++ part ∷ [])) }
+    ensures numbers { OnOk result ((number : ℤ) →
+        Any (IsIn number) runs.new.items ↔ Any (IsIn number) (runs.old.items ++ part ∷ [])) }
     ensures behind { OnOk result (All (λ run. run.lo ≤ℤ part.lo) runs.new.items) }
 {
     let Some(last) = runs.pop() else {
@@ -126,8 +129,10 @@ fn joined(last: Run, part: Run) -> Option<Run>
     requires last_filled { last.lo ≤ℤ last.hi }
     requires part_filled { part.lo ≤ℤ part.hi }
     requires behind { last.lo ≤ℤ part.lo }
-    ensures apart { MatchOption result ((last.hi +ℤ pos 1) <ℤ part.lo) (λ both. (both.lo ≡ last.lo) × (both.lo ≤ℤ both.hi)) }
-    ensures numbers { MatchOption result (Unit {0}) (λ both. (number : ℤ) → IsIn number both ↔ (IsIn number last ⊎ IsIn number part)) }
+    ensures apart { MatchOption result ((last.hi +ℤ pos 1) <ℤ part.lo)
+        (λ both. (both.lo ≡ last.lo) × (both.lo ≤ℤ both.hi)) }
+    ensures numbers { IfSome result (λ both.
+        (number : ℤ) → IsIn number both ↔ (IsIn number last ⊎ IsIn number part)) }
 {
     if last.hi < part.lo && last.hi + 1 < part.lo {
         return None;

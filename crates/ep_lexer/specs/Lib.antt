@@ -1,1 +1,3 @@
+pub mod Cursor
 pub mod Lex
+pub mod Symbols

@@ -1,8 +1,15 @@
 //! Reads a text into its tokens, in one pass over its bytes.
 #![tactic(auto)]
 
+mod bytes;
+mod cursor;
 mod errors;
+mod numbers;
 mod scan;
+mod symbols;
+#[cfg(test)]
+mod tests;
+mod words;
 
 pub use errors::LexError;
 pub use scan::lex;

@@ -9,6 +9,7 @@ write-tells c = record {
   written = on_ok_weaker c.result (λ e. ap Some (ap get e ∙ get-after_insert _ _ _)) c.ensures.written;
   elsewhere = search rules;
   unchanged = search rules;
+  uncounted = c.ensures.uncounted;
   failed = search rules;
   never_falls = c.ensures.never_falls;
   fits = c.ensures.fits;

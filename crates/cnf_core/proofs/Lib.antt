@@ -1,0 +1,10 @@
+pub mod Readings
+pub mod Vectors
+pub mod Count
+pub mod Following
+pub mod Effective
+pub mod Kept
+pub mod Members
+pub mod Reading
+pub mod Events
+pub mod Literals

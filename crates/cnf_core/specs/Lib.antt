@@ -1,0 +1,9 @@
+pub mod Literal
+pub mod Clauses
+pub mod Formula
+pub mod Events
+pub mod Reading
+pub mod Steps
+pub mod FormulaInside
+pub mod LogInside
+pub mod Codes

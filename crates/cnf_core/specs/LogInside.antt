@@ -1,0 +1,13 @@
+-- What contracts see of a log, and what is true of each.
+use Rattle.std.specs.Prelude.{◌≡◌, map}
+use Rattle.cnf_core.specs.declared.log.Log.TheInside.{Inside}
+use Rattle.cnf_core.specs.Events.{LogState, plain_event, plain_note, nonempty_steps, HasBase, HintsAreEarlier}
+
+abbrev pub state_of : Inside → LogState
+state_of l = record { events = map plain_event l.events.items; notes = map plain_note l.notes.items; base = l.base }
+
+-- the steps with a literal are counted, each hint is the position of an earlier event, and the first events are givens
+pub record IsLog (l : Inside) : Type 0 where
+  pub counted : l.steps ≡ nonempty_steps (map plain_event l.events.items)
+  pub hints : HintsAreEarlier (map plain_event l.events.items)
+  pub first : HasBase (map plain_event l.events.items) l.base

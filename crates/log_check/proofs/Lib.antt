@@ -1,0 +1,5 @@
+pub mod Trues
+pub mod Lives
+pub mod Hints
+pub mod Checked
+mod Vectors

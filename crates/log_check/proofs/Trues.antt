@@ -1,0 +1,156 @@
+-- Which literals are true, as the kept signs and as a list.
+use Rattle.std.proofs.Common.{◌≡◌, ℕ, ◌+◌, ◌<◌, Bool, true, false, not, ◌&&◌, ◌||◌, eqb, List, [], ◌∷◌, ◌++◌, length, map, take, drop, get_or, Option, Some, None, refl, sym, ap, subst, ◌∙◌, arith, inl, inr, ◌⊎◌}
+use Rattle.std.proofs.lemmas.Bool.{eqb-true}
+use Rattle.std.proofs.lemmas.Bool.Decides.{nat_tests}
+use Rattle.std.specs.List.{list_any}
+use Rattle.std.specs.HashMap.{get}
+use Rattle.std.proofs.lemmas.List.{take-append-drop, take_more}
+use Rattle.std.proofs.Math.Seq.{drop-cons}
+use Rattle.std.proofs.lemmas.List.Folds.{list_any-append}
+use Rattle.cnf_core.specs.Literal.{Literal, negation, same_sign, same_literal, is_among}
+use Rattle.cnf_core.specs.Reading.{is_false, has_contradiction}
+use Rattle.log_check.specs.Kept.{Signs, is_sign, KeepsTrues}
+
+pub bool_cases : (b : Bool) → (b ≡ true) ⊎ (b ≡ false)
+bool_cases true = inl refl
+bool_cases false = inr refl
+
+or_left : (a b : Bool) → a ≡ true → (a || b) ≡ true
+or_left true b e = refl
+or_left false b e = absurd cc
+
+or_right : (a b : Bool) → b ≡ true → (a || b) ≡ true
+or_right true b e = refl
+or_right false b e = e
+
+or_swap : (a b : Bool) → (a || (b || false)) ≡ (b || a)
+or_swap true true = refl
+or_swap true false = refl
+or_swap false true = refl
+or_swap false false = refl
+
+same_sign_is : (a b : Bool) → same_sign a b ≡ true → a ≡ b
+same_sign_is true true e = refl
+same_sign_is true false e = absurd cc
+same_sign_is false true e = absurd cc
+same_sign_is false false e = refl
+
+same_sign_same : (a : Bool) → same_sign a a ≡ true
+same_sign_same true = refl
+same_sign_same false = refl
+
+and_parts : (a b : Bool) → (a && b) ≡ true → (a ≡ true) × (b ≡ true)
+and_parts true b e = (refl, e)
+and_parts false b e = absurd cc
+
+and_both : (a b : Bool) → a ≡ true → b ≡ true → (a && b) ≡ true
+and_both true b e f = f
+and_both false b e f = absurd cc
+
+not_not : (a : Bool) → not (not a) ≡ a
+not_not true = refl
+not_not false = refl
+
+pub same_is : (a b : Literal) → same_literal a b ≡ true → a ≡ b
+same_is a b e =
+    let both = and_parts (eqb a.var b.var) (same_sign a.positive b.positive) e in
+    let v : a.var ≡ b.var = eqb-true _ _ both.0 in
+    let s : a.positive ≡ b.positive = same_sign_is a.positive b.positive both.1 in
+    let one : Literal → Literal → Type 0 = λ x y. x ≡ y in
+    let first : one (record { var = a.var; positive = a.positive }) (record { var = b.var; positive = a.positive }) = ap (λ (w : ℕ). record { var = w; positive = a.positive }) v in
+    let second : one (record { var = b.var; positive = a.positive }) (record { var = b.var; positive = b.positive }) = ap (λ (p : Bool). record { var = b.var; positive = p }) s in
+    first ∙ second
+
+pub same_same : (a : Literal) → same_literal a a ≡ true
+same_same a = and_both (eqb a.var a.var) (same_sign a.positive a.positive) (grind (arith, nat_tests)) (same_sign_same a.positive)
+
+-- ---- among literals
+
+pub among_push : (xs : List Literal) (l q : Literal) → is_among (xs ++ l ∷ []) q ≡ is_among (l ∷ xs) q
+among_push xs l q = list_any-append (same_literal q) xs (l ∷ []) ∙ or_swap (is_among xs q) (same_literal q l)
+
+among_append_left : (xs ys : List Literal) (q : Literal) → is_among xs q ≡ true → is_among (xs ++ ys) q ≡ true
+among_append_left xs ys q e = list_any-append (same_literal q) xs ys ∙ or_left (is_among xs q) (is_among ys q) e
+
+among_append_right : (xs ys : List Literal) (q : Literal) → is_among ys q ≡ true → is_among (xs ++ ys) q ≡ true
+among_append_right xs ys q e = list_any-append (same_literal q) xs ys ∙ or_right (is_among xs q) (is_among ys q) e
+
+among_head : (x : Literal) (xs : List Literal) → is_among (x ∷ xs) x ≡ true
+among_head x xs = or_left (same_literal x x) (is_among xs x) (same_same x)
+
+-- ---- kept signs
+
+pub keeps_push : (signs : Signs) (xs : List Literal) (l : Literal) → KeepsTrues signs (l ∷ xs) → KeepsTrues signs (xs ++ l ∷ [])
+keeps_push signs xs l kept v positive = kept v positive ∙ sym (among_push xs l (record { var = v; positive = positive }))
+
+or_same : (a b : Bool) → (a ≡ true → b ≡ true) → (a || b) ≡ b
+or_same true b h = sym (h refl)
+or_same false b h = refl
+
+-- a literal that is true already brings nothing in
+pub keeps_again : (signs : Signs) (xs : List Literal) (l : Literal) → is_among xs l ≡ true → KeepsTrues signs (l ∷ xs) → KeepsTrues signs xs
+keeps_again signs xs l there kept v positive =
+    let q : Literal = record { var = v; positive = positive } in
+    kept v positive ∙ or_same (same_literal q l) (is_among xs q) (λ e. subst (λ (x : Literal). is_among xs x ≡ true) (sym (same_is q l e)) there)
+
+signs_differ : (o : Option Bool) (b : Bool) → is_sign o b ≡ true → is_sign o (not b) ≡ false
+signs_differ None b e = absurd cc
+signs_differ (Some true) true e = refl
+signs_differ (Some false) true e = absurd cc
+signs_differ (Some true) false e = absurd cc
+signs_differ (Some false) false e = refl
+
+keeps_one : (signs : Signs) (trues : List Literal) → KeepsTrues signs trues → (l : Literal) → is_among trues l ≡ true → is_among trues (negation l) ≡ false
+keeps_one signs trues kept l e = sym (kept l.var (not l.positive)) ∙ signs_differ (get eqb signs l.var) l.positive (kept l.var l.positive ∙ e)
+
+none_false : (trues ys : List Literal) → ((l : Literal) → is_among ys l ≡ true → is_among trues (negation l) ≡ false) → list_any (is_false trues) ys ≡ false
+none_false trues [] h = refl
+none_false trues (y ∷ ys) h =
+    let first : is_false trues y ≡ false = h y (among_head y ys) in
+    let others = none_false trues ys (λ l e. h l (or_right (same_literal l y) (is_among ys l) e)) in
+    rw first others
+
+pub keeps_consistent : (signs : Signs) (trues : List Literal) → KeepsTrues signs trues → has_contradiction trues ≡ false
+keeps_consistent signs trues kept = none_false trues trues (keeps_one signs trues kept)
+
+some_false : (trues ys : List Literal) (l : Literal) → is_among ys l ≡ true → is_among trues (negation l) ≡ true → list_any (is_false trues) ys ≡ true
+some_false trues [] l there e = absurd cc
+some_false trues (y ∷ ys) l there e =
+    elim (bool_cases (same_literal l y)) [
+      | inl s ↦ or_left (is_false trues y) (list_any (is_false trues) ys) (subst (λ (x : Literal). is_among trues (negation x) ≡ true) (same_is l y s) e)
+      | inr s ↦ or_right (is_false trues y) (list_any (is_false trues) ys) (some_false trues ys l (rw s at there) e)
+    ]
+
+map_append : (xs ys : List Literal) → map negation (xs ++ ys) ≡ map negation xs ++ map negation ys
+map_append [] ys = refl
+map_append (x ∷ xs) ys = ap (λ (zs : List Literal). negation x ∷ zs) (map_append xs ys)
+
+split_at : (clause : List Literal) (k : ℕ) (x : Literal) → k < length clause → x ≡ get_or clause k x → map negation clause ≡ map negation (take k clause) ++ (negation x ∷ map negation (drop (k + 1) clause))
+split_at clause k x lt is =
+    let cut : drop k clause ≡ x ∷ drop (k + 1) clause = grind (arith, drop-cons) in
+    ap (map negation) (sym (take-append-drop k clause) ∙ ap (λ (ys : List Literal). take k clause ++ ys) cut) ∙ map_append (take k clause) (x ∷ drop (k + 1) clause)
+
+-- the negation of a literal of the clause contradicts that of an earlier one
+pub contradicts : (clause : List Literal) (k : ℕ) (x n : Literal) → k < length clause → x ≡ get_or clause k x → n ≡ negation x → is_among (map negation (take k clause)) (negation n) ≡ true → has_contradiction (map negation clause) ≡ true
+contradicts clause k x n lt is n-is found =
+    let before : is_among (map negation (take k clause)) (negation (negation x)) ≡ true = subst (λ (m : Literal). is_among (map negation (take k clause)) (negation m) ≡ true) n-is found in
+    let parts = split_at clause k x lt is in
+    let earlier = map negation (take k clause) in
+    let later = negation x ∷ map negation (drop (k + 1) clause) in
+    let l : Literal = negation (negation x) in
+    let one : is_among (earlier ++ later) l ≡ true = among_append_left earlier later l before in
+    let l-neg : negation l ≡ negation x = ap (λ (p : Bool). record { var = x.var; positive = not p }) (not_not x.positive) in
+    let two : is_among (earlier ++ later) (negation l) ≡ true = subst (λ (q : Literal). is_among (earlier ++ later) q ≡ true) (sym l-neg) (among_append_right earlier later (negation x) (among_head (negation x) (map negation (drop (k + 1) clause)))) in
+    subst (λ (ls : List Literal). has_contradiction ls ≡ true) (sym parts) (some_false (earlier ++ later) (earlier ++ later) l one two)
+
+-- a literal that could not be made true
+pub is_contradicted : (trues : List Literal) (l : Literal) (done : Bool) → done ≡ not (is_among trues (negation l)) → done ≡ false → is_among trues (negation l) ≡ true
+is_contradicted trues l done e f = sym (not_not (is_among trues (negation l))) ∙ ap not (sym e ∙ f)
+
+-- one more literal of the clause
+pub keeps_more : (signs : Signs) (clause : List Literal) (k : ℕ) (x n : Literal) → k < length clause → x ≡ get_or clause k x → n ≡ negation x → KeepsTrues signs (n ∷ map negation (take k clause)) → KeepsTrues signs (map negation (take (k + 1) clause))
+keeps_more signs clause k x n lt is n-is made =
+    let kept : KeepsTrues signs (negation x ∷ map negation (take k clause)) = subst (λ (m : Literal). KeepsTrues signs (m ∷ map negation (take k clause))) n-is made in
+    let more : take (k + 1) clause ≡ take k clause ++ x ∷ [] = grind (arith, take_more) in
+    let all : map negation (take (k + 1) clause) ≡ map negation (take k clause) ++ negation x ∷ [] = ap (map negation) more ∙ map_append (take k clause) (x ∷ []) in
+    subst (KeepsTrues signs) (sym all) (keeps_push signs (map negation (take k clause)) (negation x) kept)

@@ -1,0 +1,56 @@
+-- What the check keeps as it goes, against the lists that the verdict speaks of.
+use Rattle.std.specs.Prelude.{◌≡◌, ℕ, Bool, true, false, ◌&&◌, nat_eq, nat_lt, List, [], ◌∷◌, Option, Some, None, option_copied}
+use Rattle.std.specs.Borrow.{Bor}
+use Rattle.std.specs.HashMap.{get, HashMap}
+use Rattle.std.specs.declared.hash.FoldHasher.{FoldHasher}
+use Rattle.std.specs.declared.hash.BuildHasherDefault.{BuildHasherDefault}
+use Rattle.cnf_core.specs.Literal.{Literal, same_sign, is_among}
+use Rattle.cnf_core.specs.Reading.{is_shown_by}
+use Rattle.log_check.specs.Lines.{ProofLine, add, delete}
+use Rattle.log_check.specs.Verdict.{Live, live_clause, hinted_clauses}
+use Rattle.log_check.specs.declared.reading.Remaining.{Remaining}
+use Rattle.log_check.specs.declared.reading.Remaining.TheVariants.{Nothing, One, More}
+
+-- the sign that is kept for each variable with a value
+abbrev pub Signs : Type 0
+Signs = HashMap ℕ Bool (BuildHasherDefault FoldHasher)
+
+-- the clause that is kept for each live id
+abbrev pub Clauses : Type 0
+Clauses = HashMap ℕ (Bor (List Literal)) (BuildHasherDefault FoldHasher)
+
+-- whether a kept sign is this one
+abbrev pub is_sign : Option Bool → Bool → Bool
+is_sign None positive = false
+is_sign (Some sign) positive = same_sign positive sign
+
+-- the signs that are kept are those of the true literals
+abbrev pub KeepsTrues : Signs → List Literal → Type 0
+KeepsTrues signs trues = (v : ℕ) (positive : Bool) → is_sign (get nat_eq signs v) positive ≡ is_among trues (record { var = v; positive = positive })
+
+-- the clauses that are kept are the live ones
+abbrev pub KeepsLive : Clauses → List Live → Type 0
+KeepsLive clauses live = (id : ℕ) → option_copied (get nat_eq clauses id) ≡ live_clause live id
+
+-- no literal, one, or more
+abbrev pub remaining_of : List Literal → Remaining
+remaining_of [] = Nothing
+remaining_of (l ∷ []) = One l
+remaining_of (l ∷ m ∷ others) = More
+
+-- whether a line is valid where the greatest id so far is newest
+abbrev pub is_accepted : ℕ → List Live → ProofLine → Bool
+is_accepted newest live (add id clause hints) = nat_lt newest id && is_shown_by clause (hinted_clauses live hints)
+is_accepted newest live (delete ids) = true
+
+-- the greatest id behind a valid line
+abbrev pub newest_after : ℕ → ProofLine → ℕ
+newest_after newest (add id clause hints) = id
+newest_after newest (delete ids) = newest
+
+-- the same of one that was found before and of those behind it
+abbrev pub remaining_with : Remaining → List Literal → Remaining
+remaining_with Nothing rest = remaining_of rest
+remaining_with (One l) [] = One l
+remaining_with (One l) (m ∷ others) = More
+remaining_with More rest = More
