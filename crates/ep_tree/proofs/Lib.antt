@@ -21,3 +21,4 @@ pub mod SortedDomains
 pub mod TypedParts
 pub mod TypedEvaluation
 pub mod FirstFault
+pub mod ReachEquations
