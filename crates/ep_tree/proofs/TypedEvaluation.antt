@@ -12,7 +12,7 @@ use Rattle.ep_tree.specs.Evaluation.{binary_value, domain_values, evaluate, fold
 use Rattle.ep_tree.specs.Names.{put}
 use Rattle.ep_tree.specs.Trees.{DomainTree, ExprTree, ExprTrees, Generators, Indices, absolute, all_different, all_of, any_of, at_least, at_most, binary, bool, chain, compare, comprehension, every_and, factorial, flatten, folded, gcc, generator_and, group, group_domain, in_domain, in_set, index_and, int, lex, literal, matrix_domain, minus, named, named_domain, negation, no_generators, no_indices, no_trees, number, quantified, ranges, read, set_domain, table, to_int, tree_and, truth}
 use Rattle.ep_tree.specs.TypedValues.{IsOf, IsOfDims, IsTypedBound, IsTypedEnv, is_number_of}
-use Rattle.ep_tree.specs.Types.{Context, Judged, JudgedParts, a_value, all_typed, are_lists, binary_type, both_scalars, domain_readings, folded_type, from_many, from_one, from_two, gives, has_dimensions, indexed_type, inside, is_boolean, is_integer, is_matrix, is_matrix_of_bool, judge, judge_all, judge_comprehension, judge_domain, judge_generators, judge_index, judge_indices, judge_ranges, judge_terms, left_type, list_type, mistyped, named_domain_type, named_type, of_scalar, quantified_name, quantified_type, read_type, scalar_of, slice_count, type_from, typed, untyped, with_domains}
+use Rattle.ep_tree.specs.Types.{Context, Judged, JudgedParts, a_value, all_typed, are_lists, binary_type, both_scalars, domain_readings, folded_type, from_all, from_many, from_one, from_two, gives, has_dimensions, indexed_type, inside, is_boolean, is_integer, is_matrix, is_matrix_of_bool, judge, judge_all, judge_comprehension, judge_domain, judge_generators, judge_index, judge_indices, judge_ranges, judge_terms, left_type, list_type, mistyped, named_domain_type, named_type, of_scalar, quantified_name, quantified_type, read_type, scalar_of, slice_count, type_from, typed, untyped, with_domains}
 use Rattle.ep_tree.specs.Values.{Index, ValueTree, all_defined, any_index, as_parts, at_index, list_value, matrix, read_value, scalars_of, single, with_indices}
 use Rattle.ep_tree.specs.declared.syntax.BinaryOp.{BinaryOp}
 use Rattle.ep_tree.specs.declared.syntax.FoldOp.{FoldOp}
@@ -476,7 +476,7 @@ no_values_are vs e = subst (λ ws. AllOf [] ws) (some_is e) tt
 -- ---- all forms
 
 mutual
-  unfolding evaluate judge from_many all_typed domain_readings over_names inside context_of is_number_of
+  unfolding evaluate judge from_many from_all all_typed domain_readings over_names inside context_of is_number_of
 
   -- The value of an expression is of its type.
   pub value_typed : (mode : Mode) (env : Env) → IsTypedEnv env → (e : ExprTree) (t : ValueType) → judge (context_of env) e ≡ typed t

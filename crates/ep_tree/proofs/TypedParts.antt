@@ -6,7 +6,7 @@ use Rattle.std.specs.Ordering.{int_eq}
 use Rattle.ep_base.specs.Numbers.{of_bool}
 use Rattle.ep_tree.specs.Evaluation.{on_both, truth_in}
 use Rattle.ep_tree.specs.TypedValues.{AreOfDims, IsOf, IsOfDims, is_number_of}
-use Rattle.ep_tree.specs.Types.{Judged, all_typed, from_many, from_one, from_three, from_two, gives, has_dimensions, is_bool_scalar, is_boolean, is_integer, is_matrix, is_matrix_of_bool, list_of_matrices, list_type, mistyped, scalar_of, stated_dimensions, typed, untyped}
+use Rattle.ep_tree.specs.Types.{Judged, all_typed, from_all, from_many, from_one, from_three, from_two, gives, has_dimensions, is_bool_scalar, is_boolean, is_integer, is_matrix, is_matrix_of_bool, list_of_matrices, list_type, mistyped, scalar_of, stated_dimensions, typed, untyped}
 use Rattle.ep_tree.specs.Values.{Index, ValueTree, ValueTrees, all_defined, any_index, as_parts, at_index, list_value, listed_values, matrix, no_values, numbers_from, part_at, read_value, scalars_of, scalars_of_all, single, value_and}
 use Rattle.ep_tree.specs.declared.values.Mode.{Mode}
 use Rattle.ep_tree.specs.declared.values.Scalar.{Scalar}
@@ -46,12 +46,13 @@ unfolding gives
 gives_is r true t h = (typed_is h, refl)
 gives_is r false t h = mistyped_is h
 
-pub from_many_is : (js : List Judged) (rule : List ValueType → Judged) (t : ValueType) → from_many js rule ≡ typed t
+pub from_many_is :
+    (js : List Judged) (rule : List ValueType → Judged) (t : ValueType) → from_many js rule ≡ typed t
     → (ts : List ValueType) × (all_typed js ≡ Some ts) × (rule ts ≡ typed t)
-unfolding from_many
+unfolding from_many from_all
 from_many_is js rule t h = go (all_typed js) refl h
   where
-    go : (o : Option (List ValueType)) → all_typed js ≡ o → (elim o [ None ↦ untyped | Some ts ↦ rule ts ]) ≡ typed t
+    go : (o : Option (List ValueType)) → all_typed js ≡ o → from_all o rule ≡ typed t
         → (ts : List ValueType) × (all_typed js ≡ Some ts) × (rule ts ≡ typed t)
     go None p h = untyped_is h
     go (Some ts) p h = (ts, p, h)

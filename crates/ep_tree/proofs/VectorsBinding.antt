@@ -6,10 +6,11 @@ use Rattle.ep_base.specs.declared.operators.Limit.{Limit}
 use Rattle.ep_base.specs.declared.operators.Sense.{Sense}
 use Rattle.ep_base.specs.declared.places.Place.{Place}
 use Rattle.ep_tree.proofs.Opened.{the_language}
-use Rattle.ep_tree.specs.Binding.{Find, Instance, Refusal, bind, missing_parameter, model_text, outside_domain, over_limit, parameter_text, undefined_at, where_false}
+use Rattle.ep_tree.specs.Binding.{Find, Instance, Refusal, bind, missing_parameter, model_text, outside_domain, over_limit, parameter_text, solution_text, undefined_at, where_false}
 use Rattle.ep_tree.specs.Environments.{Bound, has_value}
+use Rattle.ep_tree.specs.SolutionTexts.{Shaped, fits, read_solution, wrong_shape}
 use Rattle.ep_tree.specs.Solutions.{Assigned, NamedValue, found_values, goal_value, instance_reach, instance_size, instance_weight, violated}
-use Rattle.ep_tree.specs.Statements.{constraints, decided, domain_letting, given, letting, objective, requirements}
+use Rattle.ep_tree.specs.Statements.{TextTree, constraints, decided, domain_letting, given, letting, objective, requirements}
 use Rattle.ep_tree.specs.Trees.{all_different, binary, bool, chain, compare, comprehension, domain_and, end_at, folded, generator_and, index_and, int, literal, matrix_domain, minus, named, named_domain, no_domains, no_end, no_generators, no_indices, no_ranges, no_terms, no_trees, number, one_and, over, quantified, ranges, read, set_domain, span_and, term_and, tree_and, truth, unstated}
 use Rattle.ep_tree.specs.Values.{matrix, no_values, single, value_and}
 use Rattle.ep_tree.specs.declared.syntax.BinaryOp.{BinaryOp}
@@ -450,3 +451,56 @@ pair = bind Mode.Relational (decided (at 2 1) (record { names = ((codes "x"), (a
 pair-weight : weight_bound pair ≡ 203
 unfolding the_language
 pair-weight = refl
+
+-- what a solution text gives an instance
+abbrev solution : Result Instance (List Refusal) → TextTree → Result Shaped (List Refusal)
+solution (Ok i) text = read_solution Mode.Relational i text
+solution (Err rs) text = Err rs
+
+-- a value of the decision variable
+--     letting x be 2
+solution-fits : solution quotient (letting (at 1 1) (codes "x") (at 1 9) None (number (at 1 14) (pos 2)) ∷ []) ≡ Ok (fits (record { name = codes "x"; ty = ValueType.Int; value = single (pos 2) } ∷ []))
+unfolding the_language
+solution-fits = refl
+
+-- no value
+solution-none : solution quotient [] ≡ Ok (wrong_shape (codes "x" ∷ []))
+unfolding the_language
+solution-none = refl
+
+-- a value outside its domain
+--     letting x be 9
+solution-outside : solution quotient (letting (at 1 1) (codes "x") (at 1 9) None (number (at 1 14) (pos 9)) ∷ []) ≡ Ok (wrong_shape (codes "x" ∷ []))
+unfolding the_language
+solution-outside = refl
+
+-- a letting that is no decision variable
+--     letting z be 2
+--     letting x be 2
+solution-strange : solution quotient (letting (at 1 1) (codes "z") (at 1 9) None (number (at 1 14) (pos 2)) ∷ letting (at 2 1) (codes "x") (at 2 9) None (number (at 2 14) (pos 2)) ∷ []) ≡ Ok (wrong_shape (codes "z" ∷ []))
+unfolding the_language
+solution-strange = refl
+
+-- either of two names may be named
+--     letting z be 2
+solution-both : solution quotient (letting (at 1 1) (codes "z") (at 1 9) None (number (at 1 14) (pos 2)) ∷ []) ≡ Ok (wrong_shape (codes "x" ∷ codes "z" ∷ []))
+unfolding the_language
+solution-both = refl
+
+-- a domain is no value
+--     letting x be domain int(2)
+solution-domain : solution quotient (domain_letting (at 1 1) (codes "x") (at 1 9) (ranges (at 1 21) (one_and (number (at 1 25) (pos 2)) no_ranges)) ∷ []) ≡ Ok (wrong_shape (codes "x" ∷ []))
+unfolding the_language
+solution-domain = refl
+
+-- a value outside the domain that the letting itself states
+--     letting x : int(0..1) be 2
+solution-own_domain : solution quotient (letting (at 1 1) (codes "x") (at 1 9) (Some (ranges (at 1 13) (span_and (end_at (number (at 1 17) (pos 0))) (end_at (number (at 1 20) (pos 1))) no_ranges))) (number (at 1 26) (pos 2)) ∷ []) ≡ Err (outside_domain (codes "x") ∷ [])
+unfolding the_language
+solution-own_domain = refl
+
+-- a letting without a value
+--     letting x be 1/0
+solution-undefined : solution quotient (letting (at 1 1) (codes "x") (at 1 9) None (binary (at 1 14) BinaryOp.Div (number (at 1 14) (pos 1)) (number (at 1 16) (pos 0))) ∷ []) ≡ Err (undefined_at solution_text (at 1 1) ∷ [])
+unfolding the_language
+solution-undefined = refl

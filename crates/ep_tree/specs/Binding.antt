@@ -3,7 +3,7 @@
 -- The lettings of the parameter text are evaluated in their order, and then the statements of the model in theirs. The
 -- first statement at which something stands is answered; only where two limits stand at one statement may either be
 -- named. The whole order is this project's own choice.
-use Rattle.std.specs.Prelude.{ℕ, ◌+◌, Bool, true, false, ◌&&◌, ◌||◌, List, [], ◌∷◌, ◌++◌, map, length, ℤ, pos, if◌then◌else◌, nat_lt, int_lt, int_le, Some, None, Ok, Err, flat_map, Option, Result, unwrap_or, option_map, option_and_then}
+use Rattle.std.specs.Prelude.{ℕ, ◌+◌, Bool, true, false, ◌&&◌, ◌||◌, List, [], ◌∷◌, ◌++◌, map, length, ℤ, pos, is_some, if◌then◌else◌, nat_lt, int_lt, int_le, Some, None, Ok, Err, flat_map, Option, Result, unwrap_or, option_map, option_and_then}
 use Rattle.std.specs.Ordering.{int_eq}
 use Rattle.ep_base.specs.Numbers.{has_number}
 use Rattle.ep_base.specs.declared.names.Name.{Name}
@@ -209,11 +209,11 @@ unfoldable pub parameter : Option Bound → Option (ValueType × ValueTree)
 parameter (Some (has_value t v)) = Some (t, v)
 parameter _ = None
 
--- the names of a group without a parameter, of which the first is named
+-- the first name of a group without a parameter
 unfoldable pub first_missing : Env → List (Name × Place) → List Refusal
 first_missing params [] = []
 first_missing params (name ∷ names) =
-    elim (parameter (params name.0)) [ None ↦ missing_parameter name.0 ∷ [] | Some entry ↦ first_missing params names ]
+    if is_some (parameter (params name.0)) then first_missing params names else missing_parameter name.0 ∷ []
 
 -- a parameter fitted into a domain
 unfoldable pub given_bound : Shape → Name → Option (ValueType × ValueTree) → Result Bound (List Refusal)

@@ -1,7 +1,7 @@
 -- Solution texts: the assignment that the lettings of a text give the decision variables of an instance.
 --
 -- All of this is this project's own choice.
-use Rattle.std.specs.Prelude.{Bool, not, List, [], ◌∷◌, ◌++◌, Some, None, Ok, bytes_eq, filter, Option, Result, option_map, option_and_then}
+use Rattle.std.specs.Prelude.{Bool, not, List, [], ◌∷◌, ◌++◌, is_some, if◌then◌else◌, Ok, bytes_eq, filter, Option, Result, option_map, option_to_list, option_and_then}
 use Rattle.std.specs.List.{list_any}
 use Rattle.ep_base.specs.Numbers.{has_number}
 use Rattle.ep_base.specs.declared.names.Name.{Name}
@@ -40,13 +40,12 @@ fitting_letting known f =
 unfoldable pub without_letting : Env → List Find → List Name
 without_letting known [] = []
 without_letting known (f ∷ fs) =
-    elim (fitting_letting known f) [ None ↦ f.name ∷ without_letting known fs | Some g ↦ without_letting known fs ]
+    (if is_some (fitting_letting known f) then [] else f.name ∷ []) ++ without_letting known fs
 
 -- the decision variables with their values, where each has one
 unfoldable pub with_lettings : Env → List Find → Assigned
 with_lettings known [] = []
-with_lettings known (f ∷ fs) =
-    elim (fitting_letting known f) [ None ↦ with_lettings known fs | Some g ↦ g ∷ with_lettings known fs ]
+with_lettings known (f ∷ fs) = option_to_list (fitting_letting known f) ++ with_lettings known fs
 
 -- whether a name is that of a decision variable
 unfoldable pub is_find : List Find → Name → Bool
@@ -56,11 +55,15 @@ is_find fs name = list_any (λ f. bytes_eq f.name name) fs
 unfoldable pub strangers : List Find → List Name → List Name
 strangers fs names = filter (λ name. not (is_find fs name)) names
 
+-- an assignment, if no name keeps it from having a right shape
+unfoldable pub shaped : List Name → Assigned → Shaped
+shaped [] a = fits a
+shaped (name ∷ names) a = wrong_shape (name ∷ names)
+
 -- the assignment of a text whose lettings stand for this, or the names that keep it from having a right shape
 unfoldable pub shaped_by : List Find → Env → TextTree → Shaped
 shaped_by fs known text =
-    elim (without_letting known fs ++ strangers fs (letting_names text))
-    [ [] ↦ fits (with_lettings known fs) | name ∷ names ↦ wrong_shape (name ∷ names) ]
+    shaped (without_letting known fs ++ strangers fs (letting_names text)) (with_lettings known fs)
 
 -- What a solution text gives an instance: its lettings are evaluated in their order, each of which sees the earlier ones
 -- and nothing else; what refuses one of them is named, and else an assignment, or a wrong shape.

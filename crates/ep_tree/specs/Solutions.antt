@@ -145,12 +145,14 @@ instance_weight mode i =
 unfoldable pub instance_reach : Mode → Instance → ℤ
 instance_reach mode i = farthest_reach mode (met_instance mode i)
 
--- The limits that an instance passes, of which one may be named: its size and its reach, and only where it passes neither
--- its weight.
+-- the limit of weight, which is named only where no other is passed
+unfoldable pub or_weight : List Refusal → ℕ → List Refusal
+or_weight [] weight = if nat_lt MOST_WEIGHT weight then over_limit Limit.Weight ∷ [] else []
+or_weight (r ∷ rs) weight = r ∷ rs
+
+-- the limits that an instance passes, of which one may be named
 unfoldable pub instance_limits : Mode → Instance → List Refusal
 instance_limits mode i =
-    let first : List Refusal = limits_passed mode (sum_by (λ f. cell_count f.indices) i.finds) (met_instance mode i) in
-    elim first [
-      | [] ↦ if nat_lt MOST_WEIGHT (instance_weight mode i) then over_limit Limit.Weight ∷ [] else []
-      | r ∷ rs ↦ r ∷ rs
-    ]
+    or_weight
+    (limits_passed mode (sum_by (λ f. cell_count f.indices) i.finds) (met_instance mode i))
+    (instance_weight mode i)

@@ -115,9 +115,14 @@ all_typed (typed t ∷ parts) = option_map (λ ts. t ∷ ts) (all_typed parts)
 all_typed (mistyped ∷ parts) = None
 all_typed (untyped ∷ parts) = None
 
--- a node of many parts
+-- a node whose parts have these types, if each has one
+unfoldable pub from_all : Option (List ValueType) → (List ValueType → Judged) → Judged
+from_all None rule = untyped
+from_all (Some ts) rule = rule ts
+
+-- a node of many parts, which has no type where a part has none
 unfoldable pub from_many : List Judged → (List ValueType → Judged) → Judged
-from_many parts rule = elim (all_typed parts) [ None ↦ untyped | Some ts ↦ rule ts ]
+from_many parts rule = from_all (all_typed parts) rule
 
 -- the type of a name that stands as an expression
 unfoldable pub named_type : Option Meaning → Judged
