@@ -22,3 +22,4 @@ pub mod TypedParts
 pub mod TypedEvaluation
 pub mod FirstFault
 pub mod ReachEquations
+pub mod TypedFitting

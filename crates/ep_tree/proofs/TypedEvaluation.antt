@@ -295,7 +295,7 @@ generated_typed mode t judged next each (generator_and names d gens) env k ds h 
 
 -- ---- the forms whose value is a matrix
 
-with_indices_is : (is : List ℤ) (vs : List ValueTree) (v : ValueTree) → with_indices is vs ≡ Some v → (length is ≡ length vs) × (matrix is (as_parts vs) ≡ v)
+pub with_indices_is : (is : List ℤ) (vs : List ValueTree) (v : ValueTree) → with_indices is vs ≡ Some v → (length is ≡ length vs) × (matrix is (as_parts vs) ≡ v)
 unfolding with_indices
 with_indices_is is vs v e = go (length is == length vs) refl e
   where

@@ -1,11 +1,12 @@
 //! Laws that hold of the definitions, each the contract of a function that does nothing.
 
 ghost use Rattle.std.specs.List.{list_all};
-ghost use Rattle.std.specs.Prelude.{◌≡◌, ℕ, zero, suc, ◌&&◌, ℤ, pos, negsuc, ◌+ℤ◌, ◌*ℤ◌, ◌≤ℤ◌, ◌<ℤ◌, int_le, List, Some, None, IsTrue, option_map};
+ghost use Rattle.std.specs.Prelude.{◌≡◌, ℕ, zero, suc, Bool, length, ◌&&◌, ℤ, pos, negsuc, ◌+ℤ◌, ◌*ℤ◌, ◌≤ℤ◌, ◌<ℤ◌, int_le, List, Some, None, IsTrue, option_map};
 ghost use Rattle.ep_base.specs.declared.names.Name.{Name};
 ghost use Rattle.ep_base.specs.Numbers.{has_number, quotient};
 ghost use Rattle.ep_tree.specs.declared.syntax.SetOp.{SetOp};
 ghost use Rattle.ep_tree.specs.declared.values.Mode.{Mode};
+ghost use Rattle.ep_tree.specs.declared.values.Scalar.{Scalar};
 ghost use Rattle.ep_tree.specs.declared.values.ValueType.{ValueType};
 ghost use Rattle.ep_tree.specs.Heights.{domain_height, height};
 ghost use Rattle.ep_tree.specs.Phrases.{Lexeme};
@@ -19,8 +20,8 @@ ghost use Rattle.ep_tree.specs.Domains.{IsAscending, between, set_has, set_value
 ghost use Rattle.ep_tree.specs.Names.{put};
 ghost use Rattle.ep_tree.specs.Environments.{Bound, Env, HasAscendingDomain, context_of};
 ghost use Rattle.ep_tree.specs.Types.{Context, Meaning, judge, judge_domain, scalar_of, typed};
-ghost use Rattle.ep_tree.specs.TypedValues.{IsOf, IsTypedEnv, is_number_of};
-ghost use Rattle.ep_tree.specs.Values.{ValueTree};
+ghost use Rattle.ep_tree.specs.TypedValues.{IsOf, IsOfDims, IsTypedEnv, is_number_of};
+ghost use Rattle.ep_tree.specs.Values.{ValueTree, fitted};
 ghost use Rattle.ep_tree.specs.Evaluation.{domain_values, evaluate};
 
 /// Hiding is lexical: what an expression or a domain is worth doesn't depend on what a name stood for that
@@ -52,10 +53,11 @@ pub fn domains_are_sets()
 {}
 
 /// Where a value is defined it is of its expression's type, in an environment whose names are of their types; and the
-/// numbers of a domain are of its scalar.
+/// numbers of a domain are of its scalar. A value that fits a domain has its dimensions and its scalar.
 pub fn values_are_of_their_types()
     ensures values { (mode : Mode) (env : Env) → IsTypedEnv env → (e : ExprTree) (t : ValueType) → judge (context_of env) e ≡ typed t → (v : ValueTree) → evaluate mode env e ≡ Some v → IsOf t v }
     ensures numbers { (mode : Mode) (env : Env) → IsTypedEnv env → (d : DomainTree) (t : ValueType) → judge_domain (context_of env) d ≡ typed t → (ns : List ℤ) → domain_values mode env d ≡ Some ns → IsTrue (list_all (is_number_of (scalar_of t)) ns) }
+    ensures fitted { (own wanted : Scalar) (passes : ℤ → Bool) → ((n : ℤ) → IsTrue (passes n) → IsTrue (is_number_of wanted n)) → (indices : List (List ℤ)) (v fit : ValueTree) → fitted own wanted passes indices v ≡ Some fit → IsOfDims wanted (length indices) fit }
 {}
 
 /// At most one token is the first with which nothing goes on, be it in an expression, a domain, a model or a parameter
