@@ -1,0 +1,35 @@
+-- The number of tokens that still go well is determined: what begins a tree still does so with fewer tokens.
+use Rattle.std.specs.Prelude.{◌≡◌, ℕ, zero, suc, ◌<◌, ◌≤◌, Bool, true, false, nat_lt, List, [], ◌∷◌, ◌++◌, take, drop, refl}
+use Rattle.std.proofs.Common.{arith, ap, subst}
+use Rattle.ep_tree.specs.Phrases.{Lexeme, Phrase}
+use Rattle.ep_tree.specs.Reading.{Begins, BeginsWithin, Stops}
+
+-- a front of the tokens, and what follows in a longer front
+front : (m n : ℕ) (tokens rest : List Lexeme) → m ≤ n → take n tokens ++ rest ≡ take m tokens ++ (drop m (take n tokens) ++ rest)
+front zero n tokens rest h = refl
+front (suc m) zero tokens rest h = absurd (omega (arith, h))
+front (suc m) (suc n) [] rest h = refl
+front (suc m) (suc n) (t ∷ ts) rest h = ap (λ ls. t ∷ ls) (front m n ts rest (omega (arith, h)))
+
+pub Begins-fewer : {A : Type 0} (spells : A → Phrase) (tokens : List Lexeme) (m n : ℕ) → m ≤ n → Begins spells (take n tokens) → Begins spells (take m tokens)
+Begins-fewer spells tokens m n h b = (b.0, drop m (take n tokens) ++ b.1, subst (λ ls. spells b.0 ls) (front m n tokens b.1 h) b.2)
+
+pub BeginsWithin-fewer : {A : Type 0} (spells : A → Phrase) (height_of : A → ℕ) (most : ℕ) (tokens : List Lexeme) (m n : ℕ) → m ≤ n
+    → BeginsWithin spells height_of most (take n tokens) → BeginsWithin spells height_of most (take m tokens)
+BeginsWithin-fewer spells height_of most tokens m n h b =
+    (b.0, drop m (take n tokens) ++ b.1, b.2, subst (λ ls. spells b.0 ls) (front m n tokens b.1 h) b.3)
+
+-- Where fewer tokens still begin a tree, at most one number of tokens is that up to which all goes well.
+pub stops_once : (begins : List Lexeme → Type 0) (tokens : List Lexeme)
+    → ((m n : ℕ) → m ≤ n → begins (take n tokens) → begins (take m tokens))
+    → (m n : ℕ) → Stops begins tokens m → Stops begins tokens n → m ≡ n
+stops_once begins tokens fewer m n a b = go (nat_lt m n) (nat_lt n m) refl refl
+  where
+    go : (p q : Bool) → nat_lt m n ≡ p → nat_lt n m ≡ q → m ≡ n
+    go true q r s =
+        let less : m < n = grind arith in
+        absurd (a.after (omega (arith, less, b.within)) (fewer (suc m) n (omega (arith, less)) b.before))
+    go false true r s =
+        let less : n < m = grind arith in
+        absurd (b.after (omega (arith, less, a.within)) (fewer (suc n) m (omega (arith, less)) a.before))
+    go false false r s = grind arith

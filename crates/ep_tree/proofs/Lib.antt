@@ -1,0 +1,25 @@
+pub mod Opened
+pub mod ViewLemmas
+mod VectorsValues
+mod VectorsMatrices
+mod VectorsDomains
+mod VectorsTypes
+mod VectorsFaults
+mod VectorsHeights
+mod VectorsMeasures
+mod VectorsBinding
+mod VectorsSpelling
+pub mod NumberLaws
+pub mod DomainLaws
+pub mod ClosedDomains
+pub mod EvaluationEquations
+pub mod TypeEquations
+pub mod FaultEquations
+pub mod MetEquations
+pub mod HeightEquations
+pub mod SortedDomains
+pub mod TypedParts
+pub mod TypedEvaluation
+pub mod FirstFault
+pub mod ReachEquations
+pub mod TypedFitting

@@ -1,0 +1,123 @@
+-- Values: a number, or a matrix with its indices and its parts.
+--
+-- Numbers stand for Booleans, 1 for true. That a Boolean is such a number is the language's public description; how a
+-- value fits a domain is this project's own choice.
+use Rattle.std.specs.Prelude.{ℕ, zero, suc, Bool, true, false, ◌&&◌, List, [], ◌∷◌, ◌++◌, map, length, ℤ, pos, ◌+ℤ◌, if◌then◌else◌, ◌==◌, Some, None, Option, option_map, option_and_then}
+use Rattle.std.specs.Ordering.{int_eq}
+use Rattle.ep_base.specs.Numbers.{same_numbers}
+use Rattle.ep_base.specs.Runs.{numbers}
+use Rattle.ep_tree.specs.declared.values.Scalar.{Scalar}
+
+mutual
+  -- a number, or a matrix with its list of indices and its list of parts
+  pub data ValueTree : Type 0 where
+    single : ℤ → ValueTree
+    matrix : List ℤ → ValueTrees → ValueTree
+
+  -- the parts of a matrix in their order
+  pub data ValueTrees : Type 0 where
+    no_values : ValueTrees
+    value_and : ValueTree → ValueTrees → ValueTrees
+
+-- the parts of a matrix as a list
+unfoldable pub listed_values : ValueTrees → List ValueTree
+listed_values no_values = []
+listed_values (value_and v vs) = v ∷ listed_values vs
+
+-- a list of values as the parts of a matrix
+unfoldable pub as_parts : List ValueTree → ValueTrees
+as_parts [] = no_values
+as_parts (v ∷ vs) = value_and v (as_parts vs)
+
+-- the scalars of a value, row by row
+unfoldable mutual
+  pub scalars_of : ValueTree → List ℤ
+  scalars_of (single n) = n ∷ []
+  scalars_of (matrix indices parts) = scalars_of_all parts
+
+  -- the scalars of the parts of a matrix
+  pub scalars_of_all : ValueTrees → List ℤ
+  scalars_of_all no_values = []
+  scalars_of_all (value_and v vs) = scalars_of v ++ scalars_of_all vs
+
+-- the rows of a matrix, each with its scalars
+unfoldable pub rows_of : ValueTree → List (List ℤ)
+rows_of (single n) = []
+rows_of (matrix indices parts) = map scalars_of (listed_values parts)
+
+-- the numbers from 1 on, so many of them
+unfoldable pub numbers_from : ℤ → ℕ → List ℤ
+numbers_from first zero = []
+numbers_from first (suc count) = first ∷ numbers_from (first +ℤ pos 1) count
+
+-- a list of values as a matrix, if its indices are as many as its parts
+unfoldable pub with_indices : List ℤ → List ValueTree → Option ValueTree
+with_indices indices parts = if length indices == length parts then Some (matrix indices (as_parts parts)) else None
+
+-- numbers as a matrix of one dimension, with indices from 1
+unfoldable pub list_value : List ℤ → ValueTree
+list_value numbers = matrix (numbers_from (pos 1) (length numbers)) (as_parts (map single numbers))
+
+-- an index of a read: one that is stated, or `..`
+pub data Index : Type 0 where
+  at_index : ℤ → Index
+  any_index : Index
+
+-- the part of a matrix with an index, where it has one
+unfoldable pub part_at : List ℤ → ValueTrees → ℤ → Option ValueTree
+part_at [] parts i = None
+part_at (j ∷ js) no_values i = None
+part_at (j ∷ js) (value_and v vs) i = if int_eq i j then Some v else part_at js vs i
+
+-- values of which each is defined
+unfoldable pub all_defined : {A : Type 0} → List (Option A) → Option (List A)
+all_defined [] = Some []
+all_defined (None ∷ xs) = None
+all_defined (Some x ∷ xs) = option_map (λ ys. x ∷ ys) (all_defined xs)
+
+-- What a read gives: the part with that index in each dimension, and nothing where there is none. `..` keeps a
+-- dimension with its indices, and so do indices that are left out at the end.
+unfoldable pub read_value : List Index → ValueTree → Option ValueTree
+read_value [] v = Some v
+read_value (i ∷ is) (single n) = None
+read_value (at_index i ∷ is) (matrix indices parts) = option_and_then (read_value is) (part_at indices parts i)
+read_value (any_index ∷ is) (matrix indices parts) =
+    option_map (λ vs. matrix indices (as_parts vs)) (all_defined (map (read_value is) (listed_values parts)))
+
+-- whether a number of one scalar may stand where one of another is wanted: an integer is no Boolean
+unfoldable pub scalar_fits : Scalar → Scalar → Bool
+scalar_fits Scalar.Int Scalar.Bool = false
+scalar_fits Scalar.Int Scalar.Int = true
+scalar_fits Scalar.Bool wanted = true
+
+-- A value of numbers of one scalar, fitted into a domain: of another scalar, with these index domains, and with the
+-- numbers that pass a test. A number fits where it passes, and its scalar fits. A matrix fits where it has as many parts
+-- as the index domain has values and each part fits, and takes these values as its indices.
+unfoldable mutual
+  pub fitted : Scalar → Scalar → (ℤ → Bool) → List (List ℤ) → ValueTree → Option ValueTree
+  fitted own wanted passes [] (single n) = if scalar_fits own wanted && passes n then Some (single n) else None
+  fitted own wanted passes (indices ∷ inner) (single n) = None
+  fitted own wanted passes [] (matrix old parts) = None
+  fitted own wanted passes (indices ∷ inner) (matrix old parts) =
+      option_and_then (with_indices indices) (all_fitted own wanted passes inner parts)
+
+  -- the parts of a matrix, each fitted
+  pub all_fitted : Scalar → Scalar → (ℤ → Bool) → List (List ℤ) → ValueTrees → Option (List ValueTree)
+  all_fitted own wanted passes inner no_values = Some []
+  all_fitted own wanted passes inner (value_and v vs) =
+      option_and_then (λ x. option_map (λ xs. x ∷ xs) (all_fitted own wanted passes inner vs)) (fitted own wanted passes inner v)
+
+-- whether two values are equal, indices included
+unfoldable mutual
+  pub same_value : ValueTree → ValueTree → Bool
+  same_value (single m) (single n) = int_eq m n
+  same_value (single m) (matrix js ws) = false
+  same_value (matrix is vs) (single n) = false
+  same_value (matrix is vs) (matrix js ws) = same_numbers is js && same_values vs ws
+
+  -- whether the parts of two matrices are equal
+  pub same_values : ValueTrees → ValueTrees → Bool
+  same_values no_values no_values = true
+  same_values no_values (value_and w ws) = false
+  same_values (value_and v vs) no_values = false
+  same_values (value_and v vs) (value_and w ws) = same_value v w && same_values vs ws
