@@ -19,3 +19,4 @@ pub mod Solutions
 pub mod Views
 pub mod SolutionTexts
 pub mod TypedValues
+pub mod Laws

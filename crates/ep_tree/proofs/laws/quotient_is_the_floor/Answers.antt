@@ -9,11 +9,11 @@ returns-clause-positive_low c = quotient-low
 pub returns-clause-positive_high : goal.returns-clause-positive_high
 returns-clause-positive_high c = quotient-high
 
-pub returns-clause-negative_high : goal.returns-clause-negative_high
-returns-clause-negative_high c = quotient-negative_high
-
 pub returns-clause-negative_low : goal.returns-clause-negative_low
-returns-clause-negative_low c = quotient-negative_low
+returns-clause-negative_low c = quotient-negative_high
+
+pub returns-clause-negative_high : goal.returns-clause-negative_high
+returns-clause-negative_high c = quotient-negative_low
 
 pub returns-clause-by_zero : goal.returns-clause-by_zero
 unfolding quotient
