@@ -140,9 +140,21 @@ fn words_that_are_no_command_are_refused(rt: HostRuntime) -> Result<(), Fail> {
 fn failing_devices_are_named(rt: HostRuntime) -> Result<(), Fail> {
     let alloc = rt.alloc();
     let text = with_first_line(alloc, "find x : int(1..3)\nsuch that x > 2\n")?;
-    for (name, fails, line) in [
-        ("none.eprime", 9, "device read none.eprime\n"),
-        ("m.eprime", 1, "device read m.eprime\n"),
+    // A run reads one file, once: a call after that fails for nobody.
+    for (name, fails, status, line) in [
+        (
+            "none.eprime",
+            9,
+            Status::Device,
+            "device read none.eprime\n",
+        ),
+        ("m.eprime", 1, Status::Device, "device read m.eprime\n"),
+        (
+            "m.eprime",
+            2,
+            Status::Answered,
+            "language ESSENCE' 1.0\n$ solution\nletting x be 3\n",
+        ),
     ] {
         let mut out = MemSink::new(alloc, 1000, Vec::new(alloc));
         let ended = run_on(
@@ -152,7 +164,7 @@ fn failing_devices_are_named(rt: HostRuntime) -> Result<(), Fail> {
             &[fails],
             &mut out,
         )?;
-        assert_eq!(rt; ended, Status::Device, "{name}");
+        assert_eq!(rt; ended, status, "{name}");
         assert_eq!(rt; out.taken(), line.as_bytes(), "{name}");
     }
     let mut out = MemSink::new(alloc, 1, vec![in alloc; 2]?);
