@@ -1,10 +1,9 @@
 -- Counting: how often a number stands in a list, and how many literals of a clause are true or false.
-use Rattle.std.proofs.Common.{◌≡◌, ◌≢◌, ℕ, ◌+◌, ◌-◌, ◌<◌, ◌≤◌, Bool, true, false, not, ◌||◌, cond, eqb, List, [], ◌∷◌, ◌++◌, length, take, drop, get_or, replicate, map, count_by, All, Contains, refl, sym, ap, ◌∙◌, subst, inl, inr, ◌⊎◌, ⊎_elim, arith, rules}
-use Rattle.std.proofs.lemmas.Bool.{eq-eqb, ne_eqb, eqb-true}
+use Rattle.std.proofs.Common.{◌≡◌, ℕ, ◌+◌, ◌<◌, ◌≤◌, Bool, false, cond, eqb, List, [], ◌∷◌, length, take, get_or, count_by, All, refl, sym, ap, ◌∙◌, arith}
+use Rattle.std.proofs.lemmas.Bool.{eq-eqb}
 use Rattle.std.proofs.lemmas.List.Elements.{All-head, All-tail}
-use Rattle.std.proofs.lemmas.List.Sums.{sum_by_more_le, sum_by-cons, sum_by-append}
-use Rattle.cnf_core.specs.Literal.{Literal, negation, same_literal, is_among}
-use Rattle.sat_state.specs.Counted.{times, occurrences, clause_at}
+use Rattle.std.proofs.lemmas.List.Sums.{sum_by_more_le, sum_by-cons}
+use Rattle.sat_state.specs.Counted.{times}
 
 -- one for true
 abbrev pub one_if : Bool → ℕ

@@ -1,15 +1,15 @@
 -- Trails that are grounded, and propagation that is at its end.
-use Rattle.std.proofs.Common.{◌≡◌, ◌≢◌, ℕ, zero, suc, ◌+◌, ◌-◌, ◌<◌, ◌≤◌, Bool, true, false, not, Option, Some, None, IsNone, IsSome, is_none, is_some, List, [], ◌∷◌, ◌++◌, length, take, drop, get_or, map, count_by, All, AllPairs, Contains, refl, sym, ap, ◌∙◌, subst, inl, inr, ◌⊎◌, ⊎_elim, arith, rules, add-one}
+use Rattle.std.proofs.Common.{◌≡◌, ◌≢◌, ℕ, zero, suc, ◌+◌, ◌<◌, ◌≤◌, Bool, true, false, not, Option, Some, None, IsNone, IsSome, is_none, List, [], ◌∷◌, ◌++◌, length, take, drop, get_or, count_by, All, AllPairs, Contains, refl, sym, ap, ◌∙◌, subst, inl, inr, ◌⊎◌, ⊎_elim, arith, add-one}
 use Rattle.std.proofs.lemmas.Bool.{cases_lt, cases_order, cases_Bool, both_ways, true≢false, false≢true}
 use Rattle.std.proofs.lemmas.List.{get_or_default, get_or-map, take-map, length-map, get_or-take, length-take-le, get_or_append_left, take_more, take_all, take-take, get_or-drop, length-drop, length-append}
-use Rattle.std.proofs.lemmas.List.Elements.{All-nil, All-more, All-contains, All-map, Contains-append_left, Contains-append_right}
-use Rattle.std.proofs.lemmas.List.Sums.{sum_by-take-le, count_by-le-length}
+use Rattle.std.proofs.lemmas.List.Elements.{All-nil, All-more, All-contains, All-map, Contains-append_right}
+use Rattle.std.proofs.lemmas.List.Sums.{sum_by-take-le}
 use Rattle.cnf_core.specs.Literal.{Literal, negation, is_among, same_literal, IsOrdered, Precedes}
-use Rattle.cnf_core.specs.Clauses.{Satisfies, SatisfiesClause, IsTrueUnder}
+use Rattle.cnf_core.specs.Clauses.{Satisfies, IsTrueUnder}
 use Rattle.cnf_core.specs.Steps.{IsAtEnd, IsConsistent, HasTrueLiteral, HasTwoNotFalse, IsLastOf}
-use Rattle.sat_state.specs.Trail.{Entry, literals, level_of, value_of, IsFalsified, Gives, HasReason, StandsOn, IsGrounded, IsForcedAt, FollowsFromDecisions}
+use Rattle.sat_state.specs.Trail.{Entry, literals, level_of, IsFalsified, Gives, HasReason, IsGrounded, IsForcedAt, FollowsFromDecisions}
 use Rattle.sat_state.specs.Counted.{clause_at}
-use Rattle.sat_state.specs.Joined.{is_false, count_true, count_false, IsSettled, AreAllSettled}
+use Rattle.sat_state.specs.Joined.{is_false, count_true, IsSettled, AreAllSettled}
 use Rattle.sat_state.proofs.Literals.{Contains-from_among, among_from_Contains, same_literal_is, same_literal_itself, no_literal}
 use Rattle.sat_state.proofs.Tables.{Apart}
 use Rattle.sat_state.proofs.Counts.{one_if}

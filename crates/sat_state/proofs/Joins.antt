@@ -1,15 +1,15 @@
 -- The counters as a literal becomes true or is taken back, and what the entries of a trail stand on.
-use Rattle.std.proofs.Common.{◌≡◌, ◌≢◌, ℕ, ◌+◌, ◌-◌, ◌*◌, ◌<◌, ◌≤◌, Bool, true, false, cond, ◌||◌, Option, Some, None, is_none, List, [], ◌∷◌, ◌++◌, length, take, get_or, slice_index, map, count_by, All, refl, sym, ap, ◌∙◌, subst, inl, inr, ◌⊎◌, ⊎_elim, arith, rules}
-use Rattle.std.proofs.lemmas.Bool.{cases_lt, cases_Bool}
+use Rattle.std.proofs.Common.{◌≡◌, ℕ, ◌+◌, ◌-◌, ◌<◌, ◌≤◌, Bool, true, false, ◌||◌, Option, None, is_none, List, [], ◌∷◌, ◌++◌, length, take, slice_index, count_by, refl, sym, ap, ◌∙◌, ⊎_elim, arith}
+use Rattle.std.proofs.lemmas.Bool.{cases_lt}
 use Rattle.std.proofs.lemmas.List.{take-append-le, take_at, get_or_append_left, get_or_push, get_or-take, take-take, length_push, length-take-le, map_push}
 use Rattle.std.proofs.lemmas.List.Elements.{All-push}
 use Rattle.std.proofs.lemmas.List.Sums.{sum_by-cons, sum_by_push, count_by-le-length}
 use Rattle.cnf_core.specs.Literal.{Literal, negation, is_among, same_literal, VariablesUpTo}
 use Rattle.sat_state.specs.Trail.{Entry, literals, level_of, next_level, value_of, HasReason, StandsOn, IsGrounded}
 use Rattle.sat_state.specs.Assigned.{Assigned}
-use Rattle.sat_state.specs.Counted.{Counted, AreRaised, HasRoom, IsCounted, occurrences, clause_at}
+use Rattle.sat_state.specs.Counted.{Counted, AreRaised, HasRoom, occurrences, clause_at}
 use Rattle.sat_state.specs.Joined.{is_false, count_true, count_false, AreJoined}
-use Rattle.sat_state.proofs.Literals.{is_among_push, same_literal_is, same_literal_sym, same_literal-negation, not_true, not_false}
+use Rattle.sat_state.proofs.Literals.{is_among_push, same_literal_is, same_literal_sym, same_literal-negation, not_true}
 use Rattle.sat_state.proofs.Counts.{one_if}
 use Rattle.sat_state.proofs.Ends.{grounded_more}
 

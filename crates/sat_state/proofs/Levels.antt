@@ -1,12 +1,12 @@
 -- The levels along a trail, and what is left when entries are taken back.
-use Rattle.std.proofs.Common.{◌≡◌, ℕ, ◌+◌, ◌-◌, ◌<◌, ◌≤◌, Bool, true, false, cond, Option, Some, None, is_none, List, [], ◌∷◌, ◌++◌, length, take, drop, get_or, filter, nat_le, All, refl, sym, ap, ◌∙◌, subst, arith, rules}
+use Rattle.std.proofs.Common.{◌≡◌, ℕ, ◌+◌, ◌-◌, ◌<◌, ◌≤◌, Bool, true, false, cond, Option, Some, None, is_none, List, [], ◌∷◌, ◌++◌, length, take, get_or, filter, nat_le, All, refl, sym, ap, ◌∙◌, arith}
 use Rattle.std.proofs.lemmas.Bool.{le-leb, lt-leb}
-use Rattle.std.proofs.lemmas.List.{take_more, take_all, take-take, length-take, length-take-le, append-nil}
+use Rattle.std.proofs.lemmas.List.{take_more, take_all, take-take, length-take-le, append-nil}
 use Rattle.std.proofs.lemmas.List.Elements.{All-head, All-tail, filter-append}
 use Rattle.std.proofs.lemmas.List.Sums.{sum_by_push, sum_by-take-le}
 use Rattle.cnf_core.specs.Literal.{Literal}
 use Rattle.cnf_core.specs.Steps.{IsAtEnd}
-use Rattle.sat_state.specs.Trail.{Entry, literals, level_of, HasReason, StandsOn, IsGrounded}
+use Rattle.sat_state.specs.Trail.{Entry, literals, level_of, HasReason, IsGrounded}
 use Rattle.sat_state.proofs.Counts.{one_if}
 
 one_or_none : (b : Bool) → 1 ≤ one_if b → one_if b ≡ 1

@@ -1,14 +1,14 @@
 -- The clauses of a literal, and their counters.
-use Rattle.std.proofs.Common.{◌≡◌, ◌≢◌, ℕ, ◌+◌, ◌-◌, ◌*◌, ◌^◌, ◌<◌, ◌≤◌, Bool, true, false, ◌&&◌, cond, eqb, lit<, List, [], ◌∷◌, ◌++◌, length, take, get_or, set, replicate, map, count_by, All, refl, sym, ap, ◌∙◌, subst, inl, inr, ◌⊎◌, ⊎_elim, arith, rules}
+use Rattle.std.proofs.Common.{◌≡◌, ◌≢◌, ℕ, ◌+◌, ◌*◌, ◌^◌, ◌<◌, ◌≤◌, Bool, true, false, ◌&&◌, cond, eqb, lit<, List, [], ◌∷◌, ◌++◌, length, get_or, set, replicate, count_by, All, sym, ap, ◌∙◌, subst, ⊎_elim, arith}
 use Rattle.std.proofs.lemmas.Bool.{cases_lt, cases_eq, eq-eqb, ne_eqb}
 use Rattle.std.proofs.lemmas.Bool.Decides.{nat_tests}
 use Rattle.std.proofs.lemmas.List.Sums.{sum_by-append}
 use Rattle.std.proofs.lemmas.List.Folds.{sum_by-replicate}
 use Rattle.std.proofs.lemmas.List.{get_or_append_left, get_or_push, get_or_past, length_push, get_or-set_same, get_or-set_other, append_assoc, replicate_more}
 use Rattle.std.proofs.lemmas.List.Elements.{All-same, All-append, All-replicate}
-use Rattle.cnf_core.specs.Literal.{Literal, negation, code_of, same_literal, same_sign}
+use Rattle.cnf_core.specs.Literal.{Literal, code_of, same_literal, same_sign}
 use Rattle.sat_state.proofs.Counts.{one_if, count_agree, count_none}
-use Rattle.sat_state.specs.Counted.{Counted, IsLinked, AreRaised, HasRoom, IsCounted, times, occurrences, clause_at, holders_of}
+use Rattle.sat_state.specs.Counted.{IsLinked, AreRaised, HasRoom, IsCounted, times, occurrences, clause_at, holders_of}
 
 -- a number more at one place of the table
 pub linked_more : (table : List (List ℕ)) (start : List ℕ) (at k n number : ℕ) → at < length table → get_or table k [] ≡ start ++ replicate n number

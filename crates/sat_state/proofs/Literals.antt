@@ -1,8 +1,7 @@
 -- Literals, and the value of a variable as literals become true.
-use Rattle.std.proofs.Common.{◌≡◌, ◌≢◌, ℕ, ◌+◌, ◌<◌, ◌≤◌, Bool, true, false, not, ◌||◌, ◌&&◌, Option, Some, None, IsSome, is_some, if◌then◌else◌, List, [], ◌∷◌, ◌++◌, length, take, get_or, All, Contains, eqb, refl, sym, ap, ◌∙◌, subst, inl, inr, ◌⊎◌, arith, rules}
-use Rattle.std.specs.List.{list_any}
+use Rattle.std.proofs.Common.{◌≡◌, ◌≢◌, ℕ, ◌<◌, Bool, true, false, not, ◌||◌, ◌&&◌, Option, Some, None, IsSome, if◌then◌else◌, List, [], ◌∷◌, ◌++◌, length, get_or, All, Contains, eqb, refl, sym, ap, ◌∙◌, arith}
 use Rattle.std.proofs.Math.Bool.{or_comm, or-true as or_true}
-use Rattle.std.proofs.lemmas.Bool.{both_ways, true≢false, false≢true, eqb-true, eq-eqb, and_parts, and_from, and_left, ne_eqb}
+use Rattle.std.proofs.lemmas.Bool.{both_ways, false≢true, eqb-true, eq-eqb, and_parts, and_from, and_left, ne_eqb}
 use Rattle.std.proofs.lemmas.Bool.Decides.{nat_tests}
 use Rattle.std.proofs.lemmas.List.Folds.{list_any-append, list_any_at, list_any_none}
 use Rattle.std.proofs.lemmas.Map.Views.{Contains-from_any}

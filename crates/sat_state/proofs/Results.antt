@@ -1,5 +1,5 @@
 -- Facts of what was answered with Ok.
-use Rattle.std.proofs.Common.{◌≡◌, true, Result, Ok, Err, OnOk, is_ok, refl, sym}
+use Rattle.std.proofs.Common.{◌≡◌, true, Result, Ok, Err, OnOk, is_ok, refl}
 use Rattle.std.proofs.lemmas.Bool.{false≢true}
 
 pub when_ok : {T E : Type 0} (r : Result T E) (P : Type 0) → (is_ok r ≡ true → P) → OnOk r P

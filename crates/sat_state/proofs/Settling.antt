@@ -1,16 +1,15 @@
 -- Which clauses are settled, as literals become true.
-use Rattle.std.proofs.Common.{◌≡◌, ◌≢◌, ℕ, zero, suc, ◌+◌, ◌-◌, ◌*◌, ◌<◌, ◌≤◌, Bool, true, false, cond, not, ◌||◌, Option, Some, None, IsSome, is_some, is_none, List, [], ◌∷◌, ◌++◌, length, take, drop, get_or, slice_index, map, count_by, All, Contains, zero-le, refl, sym, ap, ◌∙◌, subst, inl, inr, ◌⊎◌, ⊎_elim, arith, rules}
-use Rattle.std.specs.List.{list_any}
-use Rattle.std.proofs.lemmas.Bool.{cases_lt, cases_Bool, both_ways, true≢false, false≢true, or_cases}
-use Rattle.std.proofs.lemmas.List.{take-append-le, take_at, drop_at, drop-append-le, get_or_append_left, get_or_push, length_push, length-append, drop_more, drop_all, get_or_default, take-append-drop, map-append, length-take, take-take}
-use Rattle.std.proofs.lemmas.List.Elements.{All-head, All-tail, All-contains, All-cons, All-nil, Contains-push}
-use Rattle.std.proofs.lemmas.List.Folds.{list_any-append, list_any_at}
-use Rattle.std.proofs.lemmas.List.Sums.{sum_by-cons, sum_by_push, count_by-le-length, sum_by_more, get_or-le-sum_by}
+use Rattle.std.proofs.Common.{◌≡◌, ◌≢◌, ℕ, zero, suc, ◌+◌, ◌≤◌, Bool, true, false, ◌||◌, None, List, [], ◌∷◌, ◌++◌, length, take, drop, get_or, count_by, Contains, zero-le, refl, sym, ap, ◌∙◌, subst, inl, inr, ◌⊎◌, ⊎_elim, arith}
+use Rattle.std.proofs.lemmas.Bool.{cases_Bool, true≢false}
+use Rattle.std.proofs.lemmas.List.{drop-append-le, get_or_default, take-append-drop, map-append, length-take, take-take}
+use Rattle.std.proofs.lemmas.List.Elements.{Contains-push}
+use Rattle.std.proofs.lemmas.List.Folds.{list_any-append}
+use Rattle.std.proofs.lemmas.List.Sums.{sum_by-cons, count_by-le-length}
 use Rattle.cnf_core.specs.Literal.{Literal, negation, is_among, same_literal}
-use Rattle.sat_state.specs.Trail.{Entry, literals, level_of, value_of, IsFalsified, Gives}
-use Rattle.sat_state.specs.Counted.{occurrences, clause_at}
+use Rattle.sat_state.specs.Trail.{Entry, literals, value_of, IsFalsified, Gives}
+use Rattle.sat_state.specs.Counted.{occurrences}
 use Rattle.sat_state.specs.Joined.{is_false, count_true, count_false, IsSettled, is_touched}
-use Rattle.sat_state.proofs.Literals.{Contains-from_among, among_from_Contains, same_literal_itself, true_or_false, not_false, or_false, same_literal_sym, same_literal-negation}
+use Rattle.sat_state.proofs.Literals.{Contains-from_among, among_from_Contains, not_false, or_false, same_literal_sym, same_literal-negation}
 use Rattle.sat_state.proofs.Counts.{one_if}
 
 Contains-cons : {X : Type 0} (x y : X) (xs : List X) → Contains (x ∷ xs) y → (x ≡ y) ⊎ Contains xs y

@@ -1,11 +1,10 @@
 -- The table of values as a literal becomes true, and as the last one is taken back.
-use Rattle.std.proofs.Common.{◌≡◌, ◌≢◌, ℕ, ◌+◌, ◌-◌, ◌<◌, ◌≤◌, Bool, true, false, cond, Option, Some, None, IsSome, is_some, is_none, List, [], ◌∷◌, ◌++◌, length, take, get_or, eqb, set, replicate, map, count_by, All, refl, sym, ap, ◌∙◌, subst, inl, inr, ◌⊎◌, ⊎_elim, arith, rules}
-use Rattle.std.specs.Option.{option_map, option_map_or}
-use Rattle.std.specs.List.{sum_by}
+use Rattle.std.proofs.Common.{◌≡◌, ◌≢◌, ℕ, ◌+◌, ◌-◌, ◌<◌, ◌≤◌, Bool, true, false, cond, Option, Some, None, IsSome, is_some, is_none, List, [], ◌∷◌, ◌++◌, length, take, get_or, eqb, set, replicate, count_by, All, refl, sym, ap, ◌∙◌, subst, inl, inr, ◌⊎◌, ⊎_elim, arith}
+use Rattle.std.specs.Option.{option_map, option_map_or, option_to_list}
 use Rattle.std.proofs.lemmas.Bool.{cases_eq, cases_lt, eqb-true, eqb-false, true≢false}
-use Rattle.std.proofs.lemmas.List.{get_or-set_same, get_or-set_other, get_or_append_left, get_or-append_right, length-set, length-append, length_push, length-replicate, get_or-replicate, take-append-le, take_at, get_or_push, map-append, get_or-take, take-take, length-take-le}
+use Rattle.std.proofs.lemmas.List.{get_or-set_same, get_or-set_other, get_or_append_left, get_or-append_right, length-set, length-append, length_push, length-replicate, get_or-replicate, take-append-le, take_at, get_or_push, map-append}
 use Rattle.std.proofs.lemmas.List.Elements.{All-nil, All-cons, All-head, All-tail, All-push}
-use Rattle.std.proofs.lemmas.List.Sums.{sum_by-set, sum_by_push, sum_by-append, count_by-le-length, get_or-le-sum_by}
+use Rattle.std.proofs.lemmas.List.Sums.{sum_by-set, sum_by_push, sum_by-append, count_by-le-length}
 use Rattle.std.proofs.lemmas.List.Folds.{sum_by-replicate}
 use Rattle.cnf_core.specs.Literal.{Literal}
 use Rattle.sat_state.specs.declared.assignment.Slot.{Slot}
@@ -226,3 +225,15 @@ entries-unset slots trues u level capacity t = entries-set slots u.var None true
 
 pub seen_has : (a : Inside) (now : Assigned) (v : ℕ) → seen a ≡ now → IsSome (value_of (literals now.trail) v) → IsSome (value_of a.trail.items v)
 seen_has a now v e has = ap is_some (sym (seen_value a now v e)) ∙ has
+
+-- what a pop of the literals says: the table was that of those that are left, and the last one
+pub before_pop : (slots : List (Option Slot)) (items left : List Literal) (popped : Option Literal) (u : Literal) (level capacity : ℕ) → items ≡ left ++ option_to_list popped → popped ≡ Some u
+    → IsTable slots items level capacity → IsTable slots (left ++ u ∷ []) level capacity
+before_pop slots items left popped u level capacity split some t =
+    subst (λ (ls : List Literal). IsTable slots ls level capacity) (split ∙ ap (λ (o : Option Literal). left ++ option_to_list o) some) t
+
+pub trail_before_pop : (a : Inside) (now : Assigned) (left : List Literal) (popped : Option Literal) (u : Literal) → seen a ≡ now → a.trail.items ≡ left ++ option_to_list popped → popped ≡ Some u
+    → now.trail ≡ entries a.slots.items left ++ entry_at a.slots.items u ∷ []
+trail_before_pop a now left popped u e split some =
+    sym (ap (λ (x : Assigned). x.trail) e) ∙ ap (entries a.slots.items) (split ∙ ap (λ (o : Option Literal). left ++ option_to_list o) some)
+    ∙ entries-more a.slots.items left u

@@ -1,10 +1,10 @@
 -- How the values of the variables are kept: a table by variable beside the literals in order.
-use Rattle.std.specs.Prelude.{◌≡◌, ℕ, ◌-◌, ◌<◌, ◌≤◌, Bool, Option, Some, None, is_some, List, length, map, take, count_by, slice_index_or, All, vec_capacity}
+use Rattle.std.specs.Prelude.{◌≡◌, ℕ, ◌-◌, ◌<◌, ◌≤◌, Option, None, is_some, List, length, map, take, count_by, slice_index_or, All, vec_capacity}
 use Rattle.std.specs.Option.{option_map, option_map_or}
 use Rattle.cnf_core.specs.Literal.{Literal}
 use Rattle.sat_state.specs.declared.assignment.Slot.{Slot}
 use Rattle.sat_state.specs.declared.assignment.Assignment.TheInside.{Inside}
-use Rattle.sat_state.specs.Trail.{Entry, literals, level_of, value_of}
+use Rattle.sat_state.specs.Trail.{Entry, level_of, value_of}
 use Rattle.sat_state.specs.Assigned.{Assigned}
 
 -- what the table has for a variable

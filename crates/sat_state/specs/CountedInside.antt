@@ -1,5 +1,5 @@
 -- How the clauses with their counters are kept.
-use Rattle.std.specs.Prelude.{List, map}
+use Rattle.std.specs.Prelude.{map}
 use Rattle.sat_state.specs.declared.clauses.CountedClauses.TheInside.{Inside}
 use Rattle.sat_state.specs.Counted.{Counted, IsLinked}
 

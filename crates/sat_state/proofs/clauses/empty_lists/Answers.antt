@@ -1,7 +1,6 @@
-use Rattle.std.proofs.Common.{◌≡◌, ◌≢◌, ℕ, ◌<◌, [], List, Vec, Global, length, get_or, set, map, sym, ap, ◌∙◌, subst, ⊎_elim, arith}
+use Rattle.std.proofs.Common.{◌≡◌, ◌≢◌, ℕ, [], List, Vec, Global, get_or, set, map, sym, ap, ◌∙◌, subst, ⊎_elim, arith}
 use Rattle.std.proofs.lemmas.Bool.{cases_eq}
 use Rattle.std.proofs.lemmas.List.{map-set, length-set, length-map, get_or-set_same, get_or-set_other}
-use Rattle.sat_state.specs.Counted.{numbers_at}
 use Rattle.sat_state.proofs.clauses.empty_lists.Goals as goal
 
 pub loop-k-preserved : goal.loop-k-preserved

@@ -1,4 +1,4 @@
-use Rattle.std.proofs.Common.{◌≡◌, ℕ, ◌<◌, ◌++◌, ◌==◌, length, take, replicate, count_by}
+use Rattle.std.proofs.Common.{◌≡◌, ℕ, ◌++◌, ◌==◌, length, take, replicate, count_by}
 use Rattle.cnf_core.specs.Literal.{code_of}
 use Rattle.sat_state.specs.Counted.{numbers_at}
 use Rattle.sat_state.proofs.clauses.link.Given as goal

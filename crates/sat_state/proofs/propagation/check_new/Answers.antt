@@ -1,6 +1,6 @@
-use Rattle.std.proofs.Common.{ℕ, List, sym, subst, ◌∙◌, arith, rules}
+use Rattle.std.proofs.Common.{List, subst, ◌∙◌, arith}
 use Rattle.cnf_core.specs.Literal.{Literal}
-use Rattle.sat_state.specs.Trail.{literals, NamesFalsified}
+use Rattle.sat_state.specs.Trail.{NamesFalsified}
 use Rattle.sat_state.proofs.Settling.{front_again}
 use Rattle.sat_state.proofs.Queues.{queue_more, queue_checked}
 use Rattle.sat_state.proofs.propagation.check_new.Goals as goal

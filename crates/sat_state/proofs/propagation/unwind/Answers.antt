@@ -1,8 +1,6 @@
 use Rattle.std.proofs.Common.{◌≡◌, ℕ, ◌+◌, ◌-◌, ◌<◌, ◌≤◌, List, None, is_none, length, filter, nat_le, sym, ap, subst, ◌∙◌, arith, rules}
 use Rattle.std.proofs.lemmas.List.Sums.{count_by-le-length}
-use Rattle.cnf_core.specs.Literal.{Literal}
-use Rattle.cnf_core.specs.Steps.{IsAtEnd}
-use Rattle.sat_state.specs.Trail.{Entry, literals, level_of}
+use Rattle.sat_state.specs.Trail.{Entry, level_of}
 use Rattle.sat_state.proofs.Levels.{kept_all, kept_without_last, at_end_below, level_below, front_below}
 use Rattle.sat_state.proofs.propagation.unwind.Goals as goal
 

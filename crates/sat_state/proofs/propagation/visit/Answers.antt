@@ -1,9 +1,9 @@
-use Rattle.std.proofs.Common.{◌≡◌, ℕ, ◌+◌, List, length, Contains, sym, ap, subst, ◌∙◌, arith}
+use Rattle.std.proofs.Common.{◌≡◌, List, length, Contains, ap, subst, ◌∙◌, arith}
 use Rattle.std.proofs.lemmas.List.Sums.{count_by-le-length}
 use Rattle.cnf_core.specs.Literal.{Literal}
 use Rattle.sat_state.specs.Trail.{literals}
 use Rattle.sat_state.specs.Counted.{clause_at}
-use Rattle.sat_state.specs.Joined.{is_false, count_false}
+use Rattle.sat_state.specs.Joined.{is_false}
 use Rattle.sat_state.proofs.Settling.{falsified, gives}
 use Rattle.sat_state.proofs.propagation.visit.Goals as goal
 

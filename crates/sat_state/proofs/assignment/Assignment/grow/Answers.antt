@@ -1,8 +1,7 @@
-use Rattle.std.proofs.Common.{◌≡◌, ℕ, ◌+◌, ◌-◌, ◌<◌, Option, List, length, take, replicate, ◌++◌, vec_capacity, vec_len, None, sym, ap, ◌∙◌, arith}
+use Rattle.std.proofs.Common.{◌≡◌, ◌-◌, Option, List, replicate, ◌++◌, vec_capacity, vec_len, None, ap, ◌∙◌, arith}
 use Rattle.std.proofs.lemmas.List.{take_all}
 use Rattle.sat_state.specs.declared.assignment.Slot.{Slot}
 use Rattle.sat_state.specs.Assigned.{Assigned}
-use Rattle.sat_state.specs.Trail.{Entry}
 use Rattle.sat_state.proofs.Tables.{grown, entries-append}
 use Rattle.sat_state.proofs.assignment.Assignment.grow.Goals as goal
 use Rattle.sat_state.proofs.assignment.Assignment.grow.Goals.{In_ok-resize}

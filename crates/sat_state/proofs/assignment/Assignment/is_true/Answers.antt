@@ -1,7 +1,6 @@
-use Rattle.std.proofs.Common.{ℕ, Bool, Option, Some, List, ap, subst, sym, ◌∙◌}
+use Rattle.std.proofs.Common.{Bool, Option, Some, ap, subst, sym, ◌∙◌}
 use Rattle.std.specs.Option.{option_eq}
 use mathlib.Core.Bool.{beq}
-use Rattle.cnf_core.specs.Literal.{Literal}
 use Rattle.cnf_core.specs.Steps.{IsConsistent}
 use Rattle.sat_state.specs.Trail.{literals, value_of}
 use Rattle.sat_state.proofs.Literals.{value_test}

@@ -1,34 +1,21 @@
 use Rattle.std.proofs.Common.{◌≡◌, ℕ, ◌+◌, ◌-◌, ◌<◌, ◌∷◌, [], ◌++◌, List, Option, cond, length, take, vec_capacity, Some, None, is_none, sym, ap, subst, ◌∙◌, arith}
 use Rattle.std.specs.Option.{option_to_list, option_map_or}
-use Rattle.std.proofs.lemmas.List.{get_or_read, get_or_push, length_push, length-map, take_at}
+use Rattle.std.proofs.lemmas.List.{get_or_read, length_push, take_at}
 use Rattle.std.proofs.lemmas.List.Sums.{sum_by_push}
 use Rattle.cnf_core.specs.Literal.{Literal}
 use Rattle.sat_state.specs.declared.assignment.Slot.{Slot}
 use Rattle.sat_state.specs.Assigned.{Assigned}
-use Rattle.sat_state.specs.Trail.{Entry, literals, value_of, level_of}
-use Rattle.sat_state.specs.AssignmentInside.{slot_of, entry_at, entries, IsTable}
-use Rattle.sat_state.proofs.Tables.{seen_value, seen_literals, literals-entries, last_known, last_free, popped, entries-set, entries-more, entries-unset}
+use Rattle.sat_state.specs.Trail.{Entry, value_of, level_of}
+use Rattle.sat_state.specs.AssignmentInside.{slot_of, entry_at, entries}
+use Rattle.sat_state.proofs.Tables.{seen_literals, literals-entries, last_known, last_free, popped, before_pop, trail_before_pop, entries-more, entries-unset}
 use Rattle.sat_state.proofs.assignment.Assignment.pop.Goals as goal
-use Rattle.sat_state.proofs.assignment.Assignment.pop.Goals.{After-self-2-1}
-
--- the literals were those that are left, and the last one
-items_are : (c : After-self-2-1) → c.self.inside.trail.items ≡ c.pop.new.self.items ++ c.unwrap-lit.result ∷ []
-items_are c = c.pop.ensures.items ∙ ap (λ (o : Option Literal). c.pop.new.self.items ++ option_to_list o) c.unwrap-lit.ensures
-
-table : (c : After-self-2-1) → IsTable c.self.inside.slots.items (c.pop.new.self.items ++ c.unwrap-lit.result ∷ []) c.self.inside.level (vec_capacity c.self.inside.trail)
-table c = subst (λ (ls : List Literal). IsTable c.self.inside.slots.items ls c.self.inside.level (vec_capacity c.self.inside.trail)) (items_are c) c.self.invariant
-
-trail_was : (c : After-self-2-1) → c.args.self.now.trail ≡ entries c.self.inside.slots.items c.pop.new.self.items ++ entry_at c.self.inside.slots.items c.unwrap-lit.result ∷ []
-trail_was c =
-    sym (ap (λ (x : Assigned). x.trail) c.self.view_is) ∙ ap (entries c.self.inside.slots.items) (items_are c)
-    ∙ entries-more c.self.inside.slots.items c.pop.new.self.items c.unwrap-lit.result
 
 pub invariant_of-self : goal.invariant_of-self
 invariant_of-self c =
     let a = c.self.inside in
     let left = c.pop.new.self.items in
     let lit = c.unwrap-lit.result in
-    let t = table c in
+    let t = before_pop a.slots.items a.trail.items c.pop.new.self.items c.pop.result c.unwrap-lit.result a.level (vec_capacity a.trail) c.pop.ensures.items c.unwrap-lit.ensures c.self.invariant in
     let known : lit.var < length a.slots.items = last_known a.slots.items left lit a.level (vec_capacity a.trail) t in
     let slot = get_or_read a.slots.items c.var-var.result c.index.result.now (omega (arith, c.var-var.ensures.value, known)) c.index.ensures None in
     let reason : c.reason_in-reason.result ≡ (entry_at a.slots.items lit).reason =
@@ -45,24 +32,24 @@ returns-clause-trail c =
     let left = c.pop.new.self.items in
     let front = entries a.slots.items left in
     let last = entry_at a.slots.items c.unwrap-lit.result ∷ [] in
-    let len : length c.args.self.now.trail ≡ length front + 1 = ap length (trail_was c) ∙ length_push front (entry_at a.slots.items c.unwrap-lit.result) in
+    let len : length c.args.self.now.trail ≡ length front + 1 = ap length (trail_before_pop a c.args.self.now c.pop.new.self.items c.pop.result c.unwrap-lit.result c.self.view_is c.pop.ensures.items c.unwrap-lit.ensures) ∙ length_push front (entry_at a.slots.items c.unwrap-lit.result) in
     rw c.var-var.ensures.value
-    (entries-unset a.slots.items left c.unwrap-lit.result a.level (vec_capacity a.trail) (table c)
+    (entries-unset a.slots.items left c.unwrap-lit.result a.level (vec_capacity a.trail) (before_pop a.slots.items a.trail.items c.pop.new.self.items c.pop.result c.unwrap-lit.result a.level (vec_capacity a.trail) c.pop.ensures.items c.unwrap-lit.ensures c.self.invariant)
     ∙ sym (take_at front last (length c.args.self.now.trail - 1) (omega (arith, len)))
-    ∙ ap (take (length c.args.self.now.trail - 1)) (sym (trail_was c)))
+    ∙ ap (take (length c.args.self.now.trail - 1)) (sym (trail_before_pop a c.args.self.now c.pop.new.self.items c.pop.result c.unwrap-lit.result c.self.view_is c.pop.ensures.items c.unwrap-lit.ensures)))
 
 pub returns-clause-literal : goal.returns-clause-literal
 returns-clause-literal c =
     let a = c.self.inside in
     let left = c.pop.new.self.items in
     let slots = Rattle.std.proofs.Common.set a.slots.items c.var-var.result None in
-    seen_literals a c.args.self.now c.self.view_is ∙ items_are c
+    seen_literals a c.args.self.now c.self.view_is ∙ c.pop.ensures.items ∙ ap (λ (o : Option Literal). left ++ option_to_list o) c.unwrap-lit.ensures
     ∙ ap (λ (ls : List Literal). ls ++ c.unwrap-lit.result ∷ []) (sym (literals-entries slots left))
 
 pub returns-clause-known : goal.returns-clause-known
 returns-clause-known c =
     let a = c.self.inside in
-    let known = last_known a.slots.items c.pop.new.self.items c.unwrap-lit.result a.level (vec_capacity a.trail) (table c) in
+    let known = last_known a.slots.items c.pop.new.self.items c.unwrap-lit.result a.level (vec_capacity a.trail) (before_pop a.slots.items a.trail.items c.pop.new.self.items c.pop.result c.unwrap-lit.result a.level (vec_capacity a.trail) c.pop.ensures.items c.unwrap-lit.ensures c.self.invariant) in
     let vars : length a.slots.items - 1 ≡ c.args.self.now.vars = ap (λ (x : Assigned). x.vars) c.self.view_is in
     omega (arith, known, vars)
 
@@ -72,4 +59,4 @@ returns-clause-free c =
     let left = c.pop.new.self.items in
     let slots = Rattle.std.proofs.Common.set a.slots.items c.var-var.result None in
     ap (λ (ls : List Literal). value_of ls c.unwrap-lit.result.var) (literals-entries slots left)
-    ∙ last_free a.slots.items left c.unwrap-lit.result a.level (vec_capacity a.trail) (table c)
+    ∙ last_free a.slots.items left c.unwrap-lit.result a.level (vec_capacity a.trail) (before_pop a.slots.items a.trail.items c.pop.new.self.items c.pop.result c.unwrap-lit.result a.level (vec_capacity a.trail) c.pop.ensures.items c.unwrap-lit.ensures c.self.invariant)

@@ -1,7 +1,7 @@
-use Rattle.std.proofs.Common.{◌≡◌, ℕ, ◌≤◌, ◌+◌, ◌∷◌, [], ◌++◌, List, cond, vec_capacity, Some, None, is_none, sym, ap, ◌∙◌, arith}
+use Rattle.std.proofs.Common.{◌≡◌, ℕ, ◌≤◌, ◌+◌, ◌∷◌, [], ◌++◌, List, cond, vec_capacity, None, is_none, sym, ap, ◌∙◌, arith}
 use Rattle.sat_state.specs.declared.assignment.Slot.{Slot}
 use Rattle.sat_state.specs.Assigned.{Assigned}
-use Rattle.sat_state.specs.Trail.{Entry, value_of, level_of, next_level}
+use Rattle.sat_state.specs.Trail.{Entry, value_of, level_of}
 use Rattle.sat_state.specs.AssignmentInside.{entries}
 use Rattle.sat_state.proofs.Tables.{seen_value, seen_var, room_left, pushed, entries_push}
 use Rattle.sat_state.proofs.assignment.Assignment.push.Goals as goal

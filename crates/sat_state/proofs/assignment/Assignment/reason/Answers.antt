@@ -1,10 +1,9 @@
-use Rattle.std.proofs.Common.{◌≡◌, ℕ, Option, Some, IsSome, is_some, vec_capacity, None, sym, ap, ◌∙◌, arith}
+use Rattle.std.proofs.Common.{◌≡◌, ℕ, Option, Some, is_some, vec_capacity, None, sym, ap, ◌∙◌, arith}
 use Rattle.std.specs.Option.{option_map, option_map_or}
 use Rattle.std.proofs.lemmas.List.{get_or_read}
-use Rattle.cnf_core.specs.Literal.{Literal}
 use Rattle.sat_state.specs.declared.assignment.Slot.{Slot}
 use Rattle.sat_state.specs.Assigned.{Assigned}
-use Rattle.sat_state.specs.Trail.{Entry, entry_of, value_of}
+use Rattle.sat_state.specs.Trail.{Entry, entry_of}
 use Rattle.sat_state.specs.AssignmentInside.{slot_of}
 use Rattle.sat_state.proofs.Tables.{seen_has, known_var, known_slot, has_literal, entry_found}
 use Rattle.sat_state.proofs.assignment.Assignment.reason.Goals as goal

@@ -1,4 +1,4 @@
-use Rattle.std.proofs.Common.{◌≡◌, ℕ, ◌+◌, ◌^◌, ◌<◌, ◌∷◌, [], ◌++◌, List, eqb, length, get_or, replicate, count_by, sym, ap, ◌∙◌, arith}
+use Rattle.std.proofs.Common.{◌≡◌, ℕ, ◌^◌, ◌<◌, ◌∷◌, [], ◌++◌, List, eqb, length, get_or, replicate, count_by, ap, ◌∙◌, arith}
 use Rattle.cnf_core.specs.Literal.{Literal, code_of}
 use Rattle.sat_state.specs.Counted.{numbers_at}
 use Rattle.sat_state.specs.CountedInside.{seen_clauses}

@@ -1,6 +1,6 @@
-use Rattle.std.proofs.Common.{◌≡◌, sym, ap, subst, ◌∙◌}
+use Rattle.std.proofs.Common.{sym, ap, subst, ◌∙◌}
 use Rattle.cnf_core.specs.Literal.{code_of, negation}
-use Rattle.sat_state.specs.Counted.{Counted, HasRoom, IsCounted, AreRaised, numbers_at}
+use Rattle.sat_state.specs.Counted.{Counted, IsCounted, AreRaised, numbers_at}
 use Rattle.sat_state.specs.CountedInside.{seen_clauses}
 use Rattle.sat_state.proofs.Links as links
 use Rattle.sat_state.proofs.clauses.CountedClauses.take_back.Goals as goal

@@ -1,8 +1,7 @@
-use Rattle.std.proofs.Common.{◌≡◌, ◌∷◌, [], ◌++◌, List, Bool, not, All, true, is_ok, ap, sym, subst, ◌∙◌}
+use Rattle.std.proofs.Common.{◌≡◌, ◌∷◌, [], ◌++◌, not, true, is_ok, ap, ◌∙◌}
 use Rattle.std.proofs.lemmas.List.Elements.{All-push}
-use Rattle.cnf_core.specs.Literal.{Literal, IsOrdered}
-use Rattle.sat_state.specs.Joined.{AreJoined, IsQueue}
-use Rattle.sat_state.specs.Trail.{Entry}
+use Rattle.cnf_core.specs.Literal.{IsOrdered}
+use Rattle.sat_state.specs.Joined.{AreJoined}
 use Rattle.sat_state.proofs.Queues.{queue_clause}
 use Rattle.sat_state.proofs.Results.{from_ok}
 use Rattle.sat_state.proofs.state.State.add.Goals as goal

@@ -1,7 +1,7 @@
 use Rattle.std.proofs.Common.{◌≡◌, List, is_some, sym, ap, subst}
 use Rattle.cnf_core.specs.Literal.{Literal}
 use Rattle.cnf_core.specs.Steps.{IsAtEnd}
-use Rattle.sat_state.specs.Trail.{Entry, literals, IsGrounded}
+use Rattle.sat_state.specs.Trail.{literals, IsGrounded}
 use Rattle.sat_state.specs.declared.state.Propagated.TheVariants.{Done}
 use Rattle.sat_state.specs.View.{StateView}
 use Rattle.sat_state.proofs.Ends.{all_forced, at_end_from_settled, none_falsified, none_unit}
