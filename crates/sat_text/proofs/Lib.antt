@@ -9,3 +9,5 @@ pub mod FormulaSteps
 pub mod NotePieces
 pub mod Again
 pub mod LogAgain
+pub mod CnfAgain
+pub mod TextAgain
