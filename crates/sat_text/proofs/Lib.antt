@@ -11,3 +11,4 @@ pub mod Again
 pub mod LogAgain
 pub mod CnfAgain
 pub mod TextAgain
+mod Vectors

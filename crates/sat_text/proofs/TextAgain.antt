@@ -41,9 +41,9 @@ header_is vars count =
     let v = decimal vars in
     let n = decimal count in
     let three : joined (header_words vars count) ≡ (32 ∷ cnf_word) ++ ((32 ∷ v) ++ (32 ∷ n))
-        = flat_map-cons (λ word. 32 ∷ word) cnf_word (v ∷ n ∷ []) ∙ ap (λ (t : List ℕ). (32 ∷ cnf_word) ++ t) (flat_map-cons (λ word. 32 ∷ word) v (n ∷ []) ∙ ap (λ (t : List ℕ). (32 ∷ v) ++ t) (flat_map-cons (λ word. 32 ∷ word) n [] ∙ append-nil (32 ∷ n))) in
+    = flat_map-cons (λ word. 32 ∷ word) cnf_word (v ∷ n ∷ []) ∙ ap (λ (t : List ℕ). (32 ∷ cnf_word) ++ t) (flat_map-cons (λ word. 32 ∷ word) v (n ∷ []) ∙ ap (λ (t : List ℕ). (32 ∷ v) ++ t) (flat_map-cons (λ word. 32 ∷ word) n [] ∙ append-nil (32 ∷ n))) in
     let grouped : 112 ∷ (((32 ∷ cnf_word) ++ ((32 ∷ v) ++ (32 ∷ n))) ++ 10 ∷ []) ≡ header_text vars count
-        = ap (λ (t : List ℕ). 112 ∷ 32 ∷ 99 ∷ 110 ∷ 102 ∷ 32 ∷ t) (append_assoc v (32 ∷ n) (10 ∷ [])) in
+    = ap (λ (t : List ℕ). 112 ∷ 32 ∷ 99 ∷ 110 ∷ 102 ∷ 32 ∷ t) (append_assoc v (32 ∷ n) (10 ∷ [])) in
     sym (ap (λ (t : List ℕ). (112 ∷ t) ++ 10 ∷ []) three ∙ grouped)
 
 header_are_words : (vars count : ℕ) → vars < 10 ^ 18 → count < 10 ^ 18 → AreWords (header_words vars count)
@@ -88,9 +88,9 @@ note_is_line note r =
 
 plain_no_space : (b : ℕ) → is_plain b ≡ true → eqb b 32 ≡ false
 plain_no_space b e = elim (bool_cases (eqb b 32)) [
-    | inl t ↦ absurd (let h : is_blank b ≡ true = rw t refl in let k : true ≡ false = sym h ∙ plain_not_blank b e in cc)
-    | inr f ↦ f
-  ]
+  | inl t ↦ absurd (let h : is_blank b ≡ true = rw t refl in let k : true ≡ false = sym h ∙ plain_not_blank b e in cc)
+  | inr f ↦ f
+]
 
 space_cut : (word rest : List ℕ) → list_all is_plain word ≡ true → slice_split (λ b. eqb b 32) (word ++ 32 ∷ rest) ≡ word ∷ slice_split (λ b. eqb b 32) rest
 space_cut [] rest p = refl
@@ -173,8 +173,8 @@ text_lines f notes added r n a =
     let header = header_text f.vars (length f.clauses) in
     lines_of_notes notes (added_text added ++ (header ++ clauses)) n
     ∙ ap (λ (ls : List (List ℕ)). map note_line notes ++ ls) (lines_of_added added (header ++ clauses) a
-      ∙ ap (λ (ls : List (List ℕ)). added_line added ∷ ls) (lines_of_header f.vars (length f.clauses) clauses r.0 r.1
-        ∙ ap (λ (ls : List (List ℕ)). header_line f.vars (length f.clauses) ∷ ls) (lines_of_clauses f.vars f.clauses r.2)))
+    ∙ ap (λ (ls : List (List ℕ)). added_line added ∷ ls) (lines_of_header f.vars (length f.clauses) clauses r.0 r.1
+    ∙ ap (λ (ls : List (List ℕ)). header_line f.vars (length f.clauses) ∷ ls) (lines_of_clauses f.vars f.clauses r.2)))
 
 -- ---- what these lines say
 

@@ -234,7 +234,12 @@ fn cnf_bytes(alloc: Global, f: &Formula, notes: &[CellNote], added: u64) -> Resu
 }
 
 /// The text of a formula, with the notes of its cells and the number of clauses that were added last. Linear in the text.
-pub fn write_cnf(alloc: Global, f: &Formula, notes: &[CellNote], added: u64) -> Result<Vec<u8>, Memory>
+pub fn write_cnf(
+    alloc: Global,
+    f: &Formula,
+    notes: &[CellNote],
+    added: u64,
+) -> Result<Vec<u8>, Memory>
     ensures text { IfOk result (λ text. text.items ≡ cnf_text f.now (map plain_note notes.now) added) }
     // Reading gives the formula, the notes and the number back.
     ensures again { IsReadableFormula f.now → AllByRecursion IsReadableNote (map plain_note notes.now) → added < 10 ^ 18 →
