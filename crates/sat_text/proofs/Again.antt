@@ -12,15 +12,15 @@ use Rattle.std.specs.Str.Parse.{digits_value}
 use Rattle.std.proofs.lemmas.Str.Parse.{IsNumeralModel, IsDigitsTest, numerals_by_value}
 use Rattle.std.proofs.lemmas.Fmt.{digits_decimal, digits_value-decimal, length-decimal-le, decimal_nonempty}
 use Rattle.std.specs.Option.{option_map}
-use Rattle.sat_text.specs.Words.{ended_by, lines, is_blank, has_bytes, words}
+use Rattle.sat_text.specs.Words.{ended_by, lines, is_blank, has_bytes, words, is_plain}
 use Rattle.sat_text.specs.Numbers.{are_digits, natural_of, whole_of}
 use Rattle.sat_text.proofs.Cuts.{bool_cases}
 
-and_parts : (a b : Bool) → (a && b) ≡ true → (a ≡ true) × (b ≡ true)
+pub and_parts : (a b : Bool) → (a && b) ≡ true → (a ≡ true) × (b ≡ true)
 and_parts true b e = (refl, e)
 and_parts false b e = absurd cc
 
-and_both : (a b : Bool) → a ≡ true → b ≡ true → (a && b) ≡ true
+pub and_both : (a b : Bool) → a ≡ true → b ≡ true → (a && b) ≡ true
 and_both true b e f = f
 and_both false b e f = absurd cc
 
@@ -47,7 +47,7 @@ own = numerals_by_value Digits tells
 below_word : (n : ℕ) → n < 10 ^ 18 → n < 2 ^ 64
 below_word n lt = omega (arith, lt)
 
-natural_again : (n : ℕ) → n < 10 ^ 18 → natural_of (decimal n) ≡ Some n
+pub natural_again : (n : ℕ) → n < 10 ^ 18 → natural_of (decimal n) ≡ Some n
 natural_again n lt =
     let small = below_word n lt in
     let digits : list_all is_ascii_digit (decimal n) ≡ true = digits_decimal own n small in
@@ -73,7 +73,7 @@ whole_again (negsuc n) lt = ap (option_map (λ m. neg_ℤ (pos m))) (natural_aga
 
 -- ---- words
 
-first_false : (a b : Bool) → not (a || b) ≡ true → a ≡ false
+pub first_false : (a b : Bool) → not (a || b) ≡ true → a ≡ false
 first_false true b e = absurd cc
 first_false false b e = refl
 
@@ -81,10 +81,6 @@ second_false : (a b : Bool) → not (a || b) ≡ true → b ≡ false
 second_false true b e = absurd cc
 second_false false true e = absurd cc
 second_false false false e = refl
-
--- a byte that ends neither a word nor a line
-abbrev pub is_plain : ℕ → Bool
-is_plain b = not (is_blank b || b == 10)
 
 -- a word without such bytes
 abbrev pub IsWord : List ℕ → Type 0
@@ -99,7 +95,7 @@ plain_digit b e =
     let f : eqb b 10 ≡ false = grind (arith, nat_tests) in
     rw (a, c, d, f) refl
 
-plain_not_blank : (b : ℕ) → is_plain b ≡ true → is_blank b ≡ false
+pub plain_not_blank : (b : ℕ) → is_plain b ≡ true → is_blank b ≡ false
 plain_not_blank b e = first_false (is_blank b) (b == 10) e
 
 plain_not_end : (b : ℕ) → is_plain b ≡ true → (b == 10) ≡ false
@@ -168,13 +164,13 @@ line_again (b ∷ line) rest l =
     let no : (b == 10) ≡ false = not_true (b == 10) both.0 in
     rw no (ap (onto_first b) (line_again line rest both.1))
 
-all_append : (p : ℕ → Bool) (xs ys : List ℕ) → list_all p xs ≡ true → list_all p ys ≡ true → list_all p (xs ++ ys) ≡ true
+pub all_append : (p : ℕ → Bool) (xs ys : List ℕ) → list_all p xs ≡ true → list_all p ys ≡ true → list_all p (xs ++ ys) ≡ true
 all_append p [] ys a b = b
 all_append p (x ∷ xs) ys a b =
     let both = and_parts (p x) (list_all p xs) a in
     and_both (p x) (list_all p (xs ++ ys)) both.0 (all_append p xs ys both.1 b)
 
-plain_line : (word : List ℕ) → list_all is_plain word ≡ true → IsLine word
+pub plain_line : (word : List ℕ) → list_all is_plain word ≡ true → IsLine word
 plain_line [] p = refl
 plain_line (b ∷ word) p =
     let both = and_parts (is_plain b) (list_all is_plain word) p in

@@ -9,3 +9,6 @@ pub mod FormulaSteps
 pub mod NotePieces
 pub mod Again
 pub mod LogAgain
+pub mod CnfAgain
+pub mod TextAgain
+mod Vectors

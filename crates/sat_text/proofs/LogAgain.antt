@@ -22,7 +22,7 @@ use Rattle.sat_text.proofs.Order.{clause_again}
 use Rattle.sat_text.proofs.Again.{whole_again, IsWord, AreWords, number_is_word, joined, words_again, IsLine, line_again, joined_line}
 
 -- the word of a 0
-abbrev zero_word : List ℕ
+abbrev pub zero_word : List ℕ
 zero_word = 48 ∷ []
 
 -- numbers of at most eighteen digits, none of which is 0
@@ -30,7 +30,7 @@ abbrev pub AreNumbers : List ℤ → Type 0
 AreNumbers [] = Unit {0}
 AreNumbers (n ∷ numbers) = (unsigned_abs n < 10 ^ 18) × (is_zero n ≡ false) × AreNumbers numbers
 
-spaced_is : (numbers : List ℤ) → spaced numbers ≡ joined (map signed_decimal numbers)
+pub spaced_is : (numbers : List ℤ) → spaced numbers ≡ joined (map signed_decimal numbers)
 spaced_is [] = refl
 spaced_is (n ∷ numbers) = flat_map-cons (λ n. 32 ∷ signed_decimal n) n numbers ∙ ap (λ (t : List ℕ). (32 ∷ signed_decimal n) ++ t) (spaced_is numbers) ∙ sym (flat_map-cons (λ word. 32 ∷ word) (signed_decimal n) (map signed_decimal numbers))
 
@@ -69,7 +69,7 @@ signed_again (suc v) false some = refl
 pub literal_again : (l : Literal) → IsVariable l.var → literal_of (number_of l) ≡ l
 literal_again l v = signed_again l.var l.positive v.0
 
-signed_short : (v : ℕ) (positive : Bool) → IsVariable v → IsShort (cond positive (pos v) (neg_ℤ (pos v)))
+pub signed_short : (v : ℕ) (positive : Bool) → IsVariable v → IsShort (cond positive (pos v) (neg_ℤ (pos v)))
 signed_short zero positive v = absurd (omega (arith, v.0))
 signed_short (suc k) true v = (omega (arith, v.1), grind (arith, nat_tests))
 signed_short (suc k) false v = (omega (arith, v.1), refl)
@@ -103,7 +103,7 @@ number_not_d (b ∷ []) n e = elim (bool_cases (eqb b 100)) [
 ]
 number_not_d (b ∷ c ∷ word) n e = refl
 
-number_no_comment : (word rest : List ℕ) (n : ℤ) → whole_of word ≡ Some n → is_comment (word ++ rest) ≡ false
+pub number_no_comment : (word rest : List ℕ) (n : ℤ) → whole_of word ≡ Some n → is_comment (word ++ rest) ≡ false
 number_no_comment [] rest n e = absurd cc
 number_no_comment (b ∷ word) rest n e = elim (bool_cases (eqb b 99)) [
   | inl t ↦ absurd (let same : b ≡ 99 = eqb-true _ _ t in let none : None ≡ Some n = subst (λ (c : ℕ). whole_of (c ∷ word) ≡ Some n) same e in cc)

@@ -1,5 +1,5 @@
 -- Texts as lines, and lines as words.
-use Rattle.std.specs.Prelude.{ℕ, max, Bool, true, false, ◌||◌, ◌==◌, if◌then◌else◌, List, [], ◌∷◌, length, filter}
+use Rattle.std.specs.Prelude.{ℕ, max, Bool, true, false, ◌||◌, not, ◌==◌, if◌then◌else◌, List, [], ◌∷◌, length, filter}
 use Rattle.std.specs.List.{slice_split, onto_first}
 
 -- The pieces of a text. Each byte that passes the test ends one, and what follows the last of them is one too, where it isn't
@@ -32,3 +32,7 @@ words line = filter has_bytes (slice_split is_blank line)
 abbrev pub is_comment : List ℕ → Bool
 is_comment [] = false
 is_comment (b ∷ line) = b == 99
+
+-- a byte that ends neither a word nor a line
+abbrev pub is_plain : ℕ → Bool
+is_plain b = not (is_blank b || b == 10)

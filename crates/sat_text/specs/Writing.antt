@@ -1,7 +1,10 @@
 -- The texts that are written.
-use Rattle.std.specs.Prelude.{◌≡◌, ◌<◌, ◌^◌, unsigned_abs, false, ℕ, ◌+◌, ℤ, pos, neg_ℤ, if◌then◌else◌, List, [], ◌∷◌, ◌++◌, length, map, codes, decimal, slice_index}
+use Rattle.std.specs.Prelude.{◌≡◌, ◌<◌, ◌≤◌, ◌^◌, unsigned_abs, false, true, Ok, ℕ, ◌+◌, ℤ, pos, neg_ℤ, if◌then◌else◌, List, [], ◌∷◌, ◌++◌, length, map, codes, decimal, slice_index}
 use Rattle.std.specs.Fmt.{signed_decimal}
-use Rattle.std.specs.List.{flat_map, AllByRecursion}
+use Rattle.std.specs.List.{flat_map, list_all, AllByRecursion}
+use Rattle.sat_text.specs.Words.{is_plain, lines}
+use Rattle.sat_text.specs.Notes.{is_cell, notes_of, added_of}
+use Rattle.sat_text.specs.Cnf.{formula_of, plain_formula}
 use Rattle.sat_text.specs.Clauses.{is_zero}
 use Rattle.cnf_core.specs.Literal.{Literal, IsOrdered, IsVariable}
 use Rattle.cnf_core.specs.Formula.{Cnf}
@@ -75,3 +78,17 @@ IsShort n = (unsigned_abs n < 10 ^ 18) × (is_zero n ≡ false)
 abbrev pub IsReadable : ProofLine → Type 0
 IsReadable (add id clause hints) = (0 < id) × (id < 10 ^ 18) × IsOrdered clause × AllByRecursion (λ l. IsVariable l.var) clause × AllByRecursion IsShort hints
 IsReadable (delete ids) = ⊥
+
+-- a note of a cell's name, without a blank, and of a value of at most eighteen digits
+abbrev pub IsReadableNote : Note → Type 0
+IsReadableNote note = (is_cell note.cell ≡ true) × (list_all is_plain note.cell ≡ true) × (unsigned_abs note.value < 10 ^ 18) × IsVariable note.lit.var
+
+-- clauses in order over the variables of a formula, where both numbers have at most eighteen digits
+abbrev pub IsReadableFormula : Cnf → Type 0
+IsReadableFormula f = (f.vars < 10 ^ 18) × (length f.clauses < 10 ^ 18) × AllByRecursion (λ clause. IsOrdered clause × AllByRecursion (λ l. IsVariable l.var × (l.var ≤ f.vars)) clause) f.clauses
+
+-- a text says the formula, its notes and its number of clauses that were added
+pub record SaysAgain (text : List ℕ) (f : Cnf) (notes : List Note) (added : ℕ) : Type 0 where
+  pub same_formula : formula_of text ≡ Ok (plain_formula f)
+  pub same_notes : notes_of (lines text) ≡ notes
+  pub same_number : added_of 0 (lines text) ≡ added

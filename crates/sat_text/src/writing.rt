@@ -1,13 +1,13 @@
 //! Writes the texts of formulas and of logs.
 
-ghost use Rattle.std.specs.Prelude.{◌≡◌, ◌≤◌, ◌+◌, ◌<◌, ℕ, pos, ◌++◌, ◌∷◌, [], length, map, count_by, All, OnOk, IfOk, Ok, codes, decimal, slice_index};
+ghost use Rattle.std.specs.Prelude.{◌≡◌, ◌^◌, ◌<◌, ℕ, pos, ◌++◌, ◌∷◌, [], length, map, count_by, All, OnOk, IfOk, Ok, codes, decimal, slice_index};
 ghost use Rattle.std.specs.Fmt.{signed_decimal};
 ghost use Rattle.std.specs.List.{flat_map, AllByRecursion};
 ghost use Rattle.cnf_core.specs.Literal.{Literal};
 ghost use Rattle.cnf_core.specs.Events.{plain_event, plain_note, is_given, HintsAreEarlier};
 ghost use Rattle.sat_text.specs.Lines.{add};
 ghost use Rattle.sat_text.specs.Proofs.{proof_of};
-ghost use Rattle.sat_text.specs.Writing.{number_of, spaced, event_ids, step_lines, log_lines, line_text, log_text, IsReadable, note_text, clause_text, header_text, added_text, cnf_text};
+ghost use Rattle.sat_text.specs.Writing.{number_of, spaced, event_ids, step_lines, log_lines, line_text, log_text, IsReadable, note_text, clause_text, header_text, added_text, cnf_text, IsReadableNote, IsReadableFormula, SaysAgain};
 
 use cnf_core::{CellNote, Clause, Event, Formula, Lit, Log};
 use ep_base::Memory;
@@ -221,13 +221,7 @@ pub fn write_log(alloc: Global, log: &Log) -> Result<Vec<u8>, Memory>
     log_bytes(alloc, log)
 }
 
-/// The text of a formula, with the notes of its cells and the number of clauses that were added last. Linear in the text.
-pub fn write_cnf(
-    alloc: Global,
-    f: &Formula,
-    notes: &[CellNote],
-    added: u64,
-) -> Result<Vec<u8>, Memory>
+fn cnf_bytes(alloc: Global, f: &Formula, notes: &[CellNote], added: u64) -> Result<Vec<u8>, Memory>
     ensures { IfOk result (λ text. text.items ≡ cnf_text f.now (map plain_note notes.now) added) }
 {
     let mut out = Vec::new(alloc);
@@ -237,4 +231,19 @@ pub fn write_cnf(
     put_header(&mut out, f.vars(), clauses.len())?;
     put_clauses(&mut out, clauses)?;
     Ok(out)
+}
+
+/// The text of a formula, with the notes of its cells and the number of clauses that were added last. Linear in the text.
+pub fn write_cnf(
+    alloc: Global,
+    f: &Formula,
+    notes: &[CellNote],
+    added: u64,
+) -> Result<Vec<u8>, Memory>
+    ensures text { IfOk result (λ text. text.items ≡ cnf_text f.now (map plain_note notes.now) added) }
+    // Reading gives the formula, the notes and the number back.
+    ensures again { IsReadableFormula f.now → AllByRecursion IsReadableNote (map plain_note notes.now) → added < 10 ^ 18 →
+        IfOk result (λ text. SaysAgain text.items f.now (map plain_note notes.now) added) }
+{
+    cnf_bytes(alloc, f, notes, added)
 }

@@ -1,0 +1,7 @@
+use Rattle.std.proofs.Common.{map}
+use Rattle.cnf_core.specs.Events.{plain_note}
+use Rattle.sat_text.proofs.TextAgain.{written_again}
+use Rattle.sat_text.proofs.writing.write_cnf.Goals as goal
+
+pub returns-clause-again : goal.returns-clause-again
+returns-clause-again c = λ r n a. written_again c.cnf_bytes.result c.args.f.now (map plain_note c.args.notes.now) c.args.added r n a c.cnf_bytes.ensures
