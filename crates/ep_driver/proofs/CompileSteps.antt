@@ -1,5 +1,5 @@
 -- Steps of making flat clauses.
-use Rattle.std.proofs.Common.{◌≡◌, ℕ, zero, suc, ◌+◌, ◌<◌, ℤ, pos, ◌+ℤ◌, ◌-ℤ◌, neg_ℤ, Contains, Bool, true, false, not, cond, nat_lt, List, [], ◌∷◌, ◌++◌, length, get_or, take, drop, map, Bor, Vec, Global, Option, Some, None, if◌then◌else◌, refl, sym, ap, subst, ◌∙◌, arith}
+use Rattle.std.proofs.Common.{◌≡◌, ℕ, zero, suc, ◌+◌, ◌<◌, ℤ, pos, ◌+ℤ◌, ◌-ℤ◌, neg_ℤ, Contains, Bool, true, false, not, cond, nat_lt, List, [], ◌∷◌, ◌++◌, length, get_or, take, drop, map, Bor, Option, Some, None, if◌then◌else◌, refl, sym, ap, subst, ◌∙◌, arith}
 use Rattle.std.specs.List.{list_any, AllZip, position, position_or_len}
 use Rattle.std.specs.Str.{bytes_eq}
 use Rattle.std.specs.Map.{lookup}
@@ -9,10 +9,8 @@ use Rattle.std.proofs.lemmas.Slice.Eq.{bytes_eq-Decides}
 use Rattle.std.proofs.lemmas.List.{drop_more, append-nil, append_assoc, map_more}
 use Rattle.std.proofs.lemmas.Int.{ints}
 use Rattle.ep_early.specs.declared.expressions.Expr.{Expr}
-use Rattle.ep_early.specs.declared.expressions.Kind.{Add, Row_of-Kind-Add-0-2, end_of-Kind-Add-0-2, more_of-Kind-Add-0-2, items-the_row-Kind-Add-0-2, items_hidden-the_row-Kind-Add-0-2-0}
-use Rattle.ep_early.specs.declared.expressions.Kind.TheBlock.{hidden-the_row-Kind-Add-0-2-0}
-use Rattle.ep_early.specs.Trees.{ExprTree, expr_at, more_terms, add}
-use Rattle.ep_early.specs.Views.{expr_tree, kind_tree, row_tree, term_trees}
+use Rattle.ep_early.specs.Trees.{ExprTree}
+use Rattle.ep_early.specs.Views.{expr_tree, term_trees}
 use Rattle.ep_early.specs.Values.{value_of, sum_of, added}
 use Rattle.ep_early.specs.EarlyForms.{IsOperand, AreOperands}
 use Rattle.ep_early.specs.WellFormed.{UsesOnly, TermsUseOnly}
@@ -109,19 +107,6 @@ chain-next names parts i part sum operand whole values h e means len so_far =
     let more : added part.0 (value_of a (expr_tree part.1)) (Some t) ≡ Some (total values (sum ++ s ∷ [])) =
     ap (λ x. added part.0 x (Some t)) (means values len) ∙ ap (λ x. Some x) (added-is part.0 v t ∙ sym (total-push values sum s)) in
     ap (λ x. sum_of a x (term_trees rest)) (sym more) ∙ ap (λ x. sum_of a (Some t) (term_trees x)) (sym step) ∙ so_far
-
--- ---- the parts of a chain as a list
-
-row_tree-items : {count : _} (row : Row_of-Kind-Add-0-2 count) → row_tree row ≡ term_trees (items-the_row-Kind-Add-0-2 _ row)
-row_tree-items end_of-Kind-Add-0-2 = refl
-row_tree-items (more_of-Kind-Add-0-2 plus place kind rest) = ap (more_terms plus (expr_at place (kind_tree kind))) (row_tree-items rest)
-
-pub row_tree-vec : (v : Vec (Bool × Expr) Global) → row_tree (hidden-the_row-Kind-Add-0-2-0 v) ≡ term_trees v.items
-row_tree-vec v = row_tree-items (hidden-the_row-Kind-Add-0-2-0 v) ∙ ap term_trees (items_hidden-the_row-Kind-Add-0-2-0 v)
-
--- a chain read as a plain tree
-pub kind_tree-add : (v : Vec (Bool × Expr) Global) → kind_tree (Add v) ≡ add (term_trees v.items)
-kind_tree-add v = ap add (row_tree-vec v)
 
 -- ---- lists of clauses
 

@@ -1,4 +1,5 @@
 pub mod Steps
+pub mod Places
 pub mod Order
 pub mod FindSteps
 pub mod CompileSteps

@@ -8,7 +8,8 @@ use Rattle.std.proofs.lemmas.Int.{ints}
 use Rattle.ep_early.specs.Values.{at_least_zero}
 use Rattle.ep_driver.specs.declared.bounds.Bounds.{Bounds}
 use Rattle.ep_driver.specs.declared.clauses.Clause.{Clause}
-use Rattle.ep_driver.specs.Bounds.{size_of, combinations, AreWithin, first_values, next_values, values_at}
+use Rattle.ep_driver.specs.Bounds.{size_of, combinations, AreWithin, first_values, next_values}
+use Rattle.ep_driver.proofs.Places.{values_at}
 use Rattle.ep_driver.specs.Clauses.{are_met}
 
 step-less : (bs : List Bounds) (vs : List ℤ) (i : ℕ) (d : Bounds) (e : ℤ) → i < length bs → i < length vs → int_lt (get_or vs i e) (get_or bs i d).high ≡ true → next_values (drop i bs) (drop i vs) ≡ (get_or vs i e +ℤ pos 1) ∷ drop (suc i) vs
@@ -41,7 +42,7 @@ first-values_at (b ∷ bs) =
     let low : b.low ≡ b.low +ℤ pos 0 = omega (arith, ints) in
     rw (zero-mod (size_of b), zero-div (size_of b), ← low, ← first-values_at bs)
 
-below_part : (z : ℤ) (r : ℕ) → r < at_least_zero z → pos (r + 1) ≤ℤ z
+pub below_part : (z : ℤ) (r : ℕ) → r < at_least_zero z → pos (r + 1) ≤ℤ z
 below_part (pos n) r h = omega (arith, ints)
 below_part (negsuc n) r h = absurd (omega arith)
 
@@ -107,7 +108,7 @@ next-values_at (b ∷ bs) n h =
           ∙ ap (λ x. (b.low +ℤ pos 0) ∷ x) (next-values_at bs q (rest-positive b bs h)))
     ]
 
-whole_part : (z : ℤ) → pos 0 ≤ℤ z → z ≡ pos (at_least_zero z)
+pub whole_part : (z : ℤ) → pos 0 ≤ℤ z → z ≡ pos (at_least_zero z)
 whole_part (pos n) h = refl
 whole_part (negsuc n) h = absurd (omega (arith, ints))
 

@@ -1,5 +1,5 @@
 -- From the flat search to the instance of a model.
-use Rattle.std.proofs.Common.{◌≡◌, ℕ, zero, suc, ◌+◌, ◌*◌, ◌<◌, ℤ, pos, negsuc, ◌+ℤ◌, ◌-ℤ◌, ◌≤ℤ◌, Bool, true, false, ◌&&◌, Contains, if◌then◌else◌, List, [], ◌∷◌, ◌++◌, length, get_or, map, Bor, Vec, Global, Option, Some, None, IfSome, IfNone, refl, sym, ap, subst, ◌∙◌, arith}
+use Rattle.std.proofs.Common.{◌≡◌, ℕ, zero, suc, ◌*◌, ◌<◌, ℤ, pos, ◌+ℤ◌, ◌-ℤ◌, ◌≤ℤ◌, Bool, true, false, ◌&&◌, Contains, if◌then◌else◌, List, [], ◌∷◌, ◌++◌, length, get_or, map, Bor, Vec, Global, Option, Some, None, IfSome, IfNone, refl, sym, ap, subst, ◌∙◌, arith}
 use Rattle.std.specs.List.{AllZip, AllByRecursion, flat_map}
 use Rattle.std.proofs.lemmas.Bool.{false≢true}
 use Rattle.std.proofs.lemmas.List.{append_assoc}
@@ -14,6 +14,7 @@ use Rattle.ep_driver.specs.declared.clauses.Clause.{Clause}
 use Rattle.ep_driver.specs.Bounds.{size_of, combinations, AreWithin}
 use Rattle.ep_driver.specs.Clauses.{is_met, are_met, ClausesUseBelow}
 use Rattle.ep_driver.specs.Finds.{finds_of, find_names}
+use Rattle.ep_driver.proofs.Order.{whole_part, below_part}
 use Rattle.ep_driver.proofs.FindSteps.{find_names-finds_of, names-flat, kind-names}
 use Rattle.ep_driver.specs.Compiled.{texts_of, assignment_of, AreCompiled, found_answer}
 use Rattle.ep_driver.specs.Answers.{Answers}
@@ -29,14 +30,6 @@ get_or-ascending first zero k d h = absurd (omega arith)
 get_or-ascending first (suc n) zero d h = omega (arith, ints)
 get_or-ascending first (suc n) (suc k) d h =
     let rest = get_or-ascending (first +ℤ pos 1) n k d (omega arith) in omega (arith, ints, rest)
-
-whole_part : (z : ℤ) → pos 0 ≤ℤ z → z ≡ pos (at_least_zero z)
-whole_part (pos n) h = refl
-whole_part (negsuc n) h = absurd (omega (arith, ints))
-
-below_part : (z : ℤ) (r : ℕ) → r < at_least_zero z → pos (r + 1) ≤ℤ z
-below_part (pos n) r h = omega (arith, ints)
-below_part (negsuc n) r h = absurd (omega arith)
 
 -- a number between the ends is in the interval, and no other is
 contains-interval : (low high v : ℤ) → low ≤ℤ v → v ≤ℤ high → Contains (interval low high) v

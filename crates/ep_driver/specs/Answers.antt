@@ -21,5 +21,6 @@ letting_lines assignment = flat_map (λ entry. letting_line entry.0 entry.1) ass
 
 -- the text of an answer
 abbrev pub answer_text : Answer → List ℕ
-answer_text (solution assignment) = codes "language ESSENCE' 1.0\n$ solution\n" ++ letting_lines assignment
+answer_text (solution assignment) =
+    codes "language ESSENCE' 1.0\n$ solution\n" ++ letting_lines assignment
 answer_text no_solution = codes "language ESSENCE' 1.0\n$ no solution\n"

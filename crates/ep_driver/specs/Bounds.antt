@@ -1,5 +1,5 @@
 -- Lists of numbers within bounds.
-use Rattle.std.specs.Prelude.{ℕ, ℤ, pos, ◌+ℤ◌, ◌-ℤ◌, ◌≤ℤ◌, ◌*◌, ◌/◌, ◌%◌, int_lt, if◌then◌else◌, List, [], ◌∷◌, map}
+use Rattle.std.specs.Prelude.{ℕ, ℤ, pos, ◌+ℤ◌, ◌-ℤ◌, ◌≤ℤ◌, ◌*◌, int_lt, if◌then◌else◌, List, [], ◌∷◌, map}
 use Rattle.ep_early.specs.Values.{at_least_zero}
 use Rattle.ep_driver.specs.declared.bounds.Bounds.{Bounds}
 
@@ -23,14 +23,10 @@ AreWithin (v ∷ vs) (b ∷ bs) = (b.low ≤ℤ v) × (v ≤ℤ b.high) × AreWi
 abbrev pub first_values : List Bounds → List ℤ
 first_values bounds = map (λ b. b.low) bounds
 
--- the numbers after the given ones: the first that isn't at its bound grows by one, and those before it start again
+-- the numbers after the given ones: the first that isn't at its bound grows by one, and those
+-- before it start again
 abbrev pub next_values : List Bounds → List ℤ → List ℤ
 next_values [] vs = vs
 next_values (b ∷ bs) [] = []
 next_values (b ∷ bs) (v ∷ vs) =
     if int_lt v b.high then (v +ℤ pos 1) ∷ vs else b.low ∷ next_values bs vs
-
--- the list of numbers that stands at a place of the order, counted from 0
-abbrev pub values_at : List Bounds → ℕ → List ℤ
-values_at [] n = []
-values_at (b ∷ bs) n = (b.low +ℤ pos (n % size_of b)) ∷ values_at bs (n / size_of b)

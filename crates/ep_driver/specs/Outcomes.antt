@@ -34,9 +34,11 @@ abbrev pub Refuses : List (List ℕ) → Held → Status → List ℕ → Type 0
 -- the words aren't a command
 Refuses words held Usage line = (line ≡ codes "fault usage\n") × AreNoCommand words
 -- the file that they name isn't held
-Refuses words held Device line = (name : List ℕ) × (line ≡ device_line name) × IsCommand words name × (held name ≡ None)
+Refuses words held Device line =
+    (name : List ℕ) × (line ≡ device_line name) × IsCommand words name × (held name ≡ None)
 -- its text is no early model
-Refuses words held Text line = (line ≡ codes "fault early\n") × (text : List ℕ) × NamesText words held text × IsNotEarly text
+Refuses words held Text line =
+    (line ≡ codes "fault early\n") × (text : List ℕ) × NamesText words held text × IsNotEarly text
 -- the model has too many assignments
 Refuses words held Limit line =
     (line ≡ codes "limit early\n") × (text : List ℕ) × (model : ModelTree)

@@ -44,9 +44,12 @@ IsNotRead words told rose line =
 abbrev pub SaidToWords : List (List ℕ) → Option Held → Type 0 → Status → List ℕ → Type 0
 SaidToWords words told rose Usage line = (line ≡ codes "fault usage\n") × AreNoCommand words
 SaidToWords words told rose Device line = IsNotRead words told rose line
-SaidToWords words told rose Text line = ((name : List ℕ) × IsCommand words name) × SaidToFile words told Text line
-SaidToWords words told rose Limit line = ((name : List ℕ) × IsCommand words name) × SaidToFile words told Limit line
-SaidToWords words told rose Answered line = ((name : List ℕ) × IsCommand words name) × SaidToFile words told Answered line
+SaidToWords words told rose Text line =
+    ((name : List ℕ) × IsCommand words name) × SaidToFile words told Text line
+SaidToWords words told rose Limit line =
+    ((name : List ℕ) × IsCommand words name) × SaidToFile words told Limit line
+SaidToWords words told rose Answered line =
+    ((name : List ℕ) × IsCommand words name) × SaidToFile words told Answered line
 SaidToWords words told rose Unknown line = ⊥
 SaidToWords words told rose Memory line = ⊥
 SaidToWords words told rose Refuted line = ⊥

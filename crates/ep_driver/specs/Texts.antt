@@ -8,4 +8,5 @@ device_line name = codes "device read " ++ name ++ codes "\n"
 
 -- a find has a value
 abbrev pub letting_line : List ℕ → ℤ → List ℕ
-letting_line name value = codes "letting " ++ name ++ codes " be " ++ signed_decimal value ++ codes "\n"
+letting_line name value =
+    codes "letting " ++ name ++ codes " be " ++ signed_decimal value ++ codes "\n"

@@ -21,7 +21,8 @@ fn index_of(names: &IndexSet<&str>, name: &str) -> usize
     requires { Contains (texts_of names.now.keys) name.now }
     ensures within { result < length names.now.keys }
     ensures found { (values : List ℤ) → length values ≡ length names.now.keys →
-        lookup (bytes_eq name.now) (assignment_of names.now.keys values) ≡ Some (slice_index_or values result (pos 0)) }
+        lookup (bytes_eq name.now) (assignment_of names.now.keys values)
+        ≡ Some (slice_index_or values result (pos 0)) }
 {
     match names.get_index_of(name) {
         Some(index) => index,
@@ -52,7 +53,8 @@ fn sum_of_parts(
     requires early { AreOperands (term_trees parts.now) }
     requires declared { TermsUseOnly (texts_of names.now.keys) (term_trees parts.now) }
     ensures below { IfOk result (λ sum. SumUsesBelow (length names.now.keys) sum.items) }
-    ensures means { IfOk result (λ sum. ChainMeans names.now.keys sum.items (term_trees parts.now)) }
+    ensures means { IfOk result (λ sum.
+        ChainMeans names.now.keys sum.items (term_trees parts.now)) }
 {
     let mut sum = Vec::with_capacity(alloc, parts.len())?;
     for (added, part) in parts {
@@ -83,7 +85,8 @@ fn sum_of_side(
 
 /// The sum of one operand.
 fn sum_of_operand(alloc: Global, operand: Operand) -> Result<Vec<Summand>, AllocError>
-    ensures { IfOk result (λ sum. sum.items ≡ record { operand = operand; subtracted = false } ∷ []) }
+    ensures { IfOk result (λ sum.
+        sum.items ≡ record { operand = operand; subtracted = false } ∷ []) }
 {
     let mut sum = Vec::new(alloc);
     sum.push(Summand {
@@ -120,7 +123,8 @@ fn add_clauses(
 ) -> Result<(), AllocError>
     requires early { AllByRecursion IsEarlyClause (map expr_tree clauses.now) }
     requires declared { AllByRecursion (UsesOnly (texts_of names.now.keys)) (map expr_tree clauses.now) }
-    ensures { OnOk result (AddsCompiled names.now.keys flat.old.items flat.new.items (map expr_tree clauses.now)) }
+    ensures { OnOk result (AddsCompiled names.now.keys flat.old.items flat.new.items
+        (map expr_tree clauses.now)) }
 {
     for clause in clauses {
         flat.push(clause_of(alloc, names, clause)?)?;
@@ -137,7 +141,8 @@ fn add_statement(
 ) -> Result<(), AllocError>
     requires early { IsEarlyStatement (statement_tree statement.now) }
     requires declared { KindUsesOnly (texts_of names.now.keys) (statement_tree statement.now).kind }
-    ensures { OnOk result (AddsCompiled names.now.keys flat.old.items flat.new.items (kind_clauses (statement_tree statement.now).kind)) }
+    ensures { OnOk result (AddsCompiled names.now.keys flat.old.items flat.new.items
+        (kind_clauses (statement_tree statement.now).kind)) }
 {
     match &statement.kind {
         StatementKind::SuchThat(clauses) => add_clauses(alloc, names, clauses, flat),
@@ -152,8 +157,10 @@ fn add_statements(
     flat: &mut Vec<Clause>,
 ) -> Result<(), AllocError>
     requires early { AllByRecursion IsEarlyStatement (map statement_tree statements.now) }
-    requires declared { AllByRecursion (λ s. KindUsesOnly (texts_of names.now.keys) s.kind) (map statement_tree statements.now) }
-    ensures { OnOk result (AddsCompiled names.now.keys flat.old.items flat.new.items (flat_map (λ s. kind_clauses s.kind) (map statement_tree statements.now))) }
+    requires declared { AllByRecursion (λ s. KindUsesOnly (texts_of names.now.keys) s.kind)
+        (map statement_tree statements.now) }
+    ensures { OnOk result (AddsCompiled names.now.keys flat.old.items flat.new.items
+        (flat_map (λ s. kind_clauses s.kind) (map statement_tree statements.now))) }
 {
     for statement in statements {
         add_statement(alloc, names, statement, flat)?;
@@ -168,8 +175,10 @@ pub fn clauses_of_model(
     model: &Model,
 ) -> Result<Vec<Clause>, AllocError>
     requires early { HasEarlyForms (model_tree model.now) }
-    requires declared { AllByRecursion (λ s. KindUsesOnly (texts_of names.now.keys) s.kind) (model_tree model.now).statements }
-    ensures { IfOk result (λ flat. AreCompiled names.now.keys flat.items (instance_of (model_tree model.now)).clauses) }
+    requires declared { AllByRecursion (λ s. KindUsesOnly (texts_of names.now.keys) s.kind)
+        (model_tree model.now).statements }
+    ensures { IfOk result (λ flat.
+        AreCompiled names.now.keys flat.items (instance_of (model_tree model.now)).clauses) }
 {
     let mut flat = Vec::new(alloc);
     add_statements(alloc, names, &model.statements, &mut flat)?;

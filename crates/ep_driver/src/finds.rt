@@ -30,7 +30,8 @@ fn add_find<'a>(finds: &mut Finds<'a>, name: &'a str, bounds: Bounds) -> Result<
     requires distinct { AreDistinct (find_names (finds_in finds.old) ++ name.now ∷ []) }
     ensures paired { OnOk result (IsPaired finds.new) }
     ensures added { OnOk result (finds_in finds.new
-        ≡ finds_in finds.old ++ record { name = name.now; values = interval bounds.low bounds.high } ∷ []) }
+        ≡ finds_in finds.old
+        ++ record { name = name.now; values = interval bounds.low bounds.high } ∷ []) }
 {
     finds.names.insert(name)?;
     finds.bounds.push(bounds)?;
@@ -60,7 +61,8 @@ fn bound_value(end: &Option<Expr>) -> i64
 fn span_bounds(range: &Range) -> Bounds
     requires one { IsOneRange (more_ranges (range_tree range.now) no_ranges) }
     requires small { IsSmallRange (range_tree range.now) }
-    ensures { range_values (more_ranges (range_tree range.now) no_ranges) ≡ Some (interval result.low result.high) }
+    ensures { range_values (more_ranges (range_tree range.now) no_ranges)
+        ≡ Some (interval result.low result.high) }
 {
     match range {
         Range::Span(low, high) => Bounds {
@@ -96,9 +98,11 @@ fn add_names<'a>(
     bounds: Bounds,
 ) -> Result<(), AllocError>
     requires paired { IsPaired finds.old }
-    requires distinct { AreDistinct (find_names (finds_in finds.old) ++ map (λ entry. entry.0) names.now) }
+    requires distinct { AreDistinct (find_names (finds_in finds.old)
+        ++ map (λ entry. entry.0) names.now) }
     ensures paired { OnOk result (IsPaired finds.new) }
-    ensures added { OnOk result (finds_in finds.new ≡ finds_in finds.old ++ flat_map (named_find bounds) names.now) }
+    ensures added { OnOk result (finds_in finds.new
+        ≡ finds_in finds.old ++ flat_map (named_find bounds) names.now) }
 {
     for (name, _) in names {
         add_find(finds, name.text(), bounds)?;
@@ -111,9 +115,11 @@ fn add_declared<'a>(finds: &mut Finds<'a>, declared: &'a Declared) -> Result<(),
     requires paired { IsPaired finds.old }
     requires early { IsEarlyDomain (domain_tree declared.now.domain) }
     requires small { IsSmallDomain (domain_tree declared.now.domain) }
-    requires distinct { AreDistinct (find_names (finds_in finds.old) ++ names_of (declared_tree declared.now)) }
+    requires distinct { AreDistinct (find_names (finds_in finds.old)
+        ++ names_of (declared_tree declared.now)) }
     ensures paired { OnOk result (IsPaired finds.new) }
-    ensures added { OnOk result (finds_in finds.new ≡ finds_in finds.old ++ declared_finds (declared_tree declared.now)) }
+    ensures added { OnOk result (finds_in finds.new
+        ≡ finds_in finds.old ++ declared_finds (declared_tree declared.now)) }
 {
     add_names(finds, &declared.names, domain_bounds(&declared.domain))?;
     Ok(())
@@ -124,11 +130,15 @@ fn add_declarations<'a>(
     declarations: &'a [Declared],
 ) -> Result<(), AllocError>
     requires paired { IsPaired finds.old }
-    requires early { AllByRecursion (λ d. IsEarlyDomain d.domain) (map declared_tree declarations.now) }
-    requires small { AllByRecursion (λ d. IsSmallDomain d.domain) (map declared_tree declarations.now) }
-    requires distinct { AreDistinct (find_names (finds_in finds.old) ++ flat_map names_of (map declared_tree declarations.now)) }
+    requires early { AllByRecursion (λ d. IsEarlyDomain d.domain)
+        (map declared_tree declarations.now) }
+    requires small { AllByRecursion (λ d. IsSmallDomain d.domain)
+        (map declared_tree declarations.now) }
+    requires distinct { AreDistinct (find_names (finds_in finds.old)
+        ++ flat_map names_of (map declared_tree declarations.now)) }
     ensures paired { OnOk result (IsPaired finds.new) }
-    ensures added { OnOk result (finds_in finds.new ≡ finds_in finds.old ++ flat_map declared_finds (map declared_tree declarations.now)) }
+    ensures added { OnOk result (finds_in finds.new
+        ≡ finds_in finds.old ++ flat_map declared_finds (map declared_tree declarations.now)) }
 {
     for declared in declarations {
         add_declared(finds, declared)?;
@@ -141,9 +151,11 @@ fn add_statement<'a>(finds: &mut Finds<'a>, statement: &'a Statement) -> Result<
     requires paired { IsPaired finds.old }
     requires early { IsEarlyStatement (statement_tree statement.now) }
     requires small { IsSmallKind (statement_tree statement.now).kind }
-    requires distinct { AreDistinct (find_names (finds_in finds.old) ++ declared_by (statement_tree statement.now)) }
+    requires distinct { AreDistinct (find_names (finds_in finds.old)
+        ++ declared_by (statement_tree statement.now)) }
     ensures paired { OnOk result (IsPaired finds.new) }
-    ensures added { OnOk result (finds_in finds.new ≡ finds_in finds.old ++ kind_finds (statement_tree statement.now).kind) }
+    ensures added { OnOk result (finds_in finds.new
+        ≡ finds_in finds.old ++ kind_finds (statement_tree statement.now).kind) }
 {
     match &statement.kind {
         StatementKind::Find(declarations) => add_declarations(finds, declarations),
@@ -155,9 +167,12 @@ fn add_statements<'a>(finds: &mut Finds<'a>, statements: &'a [Statement]) -> Res
     requires paired { IsPaired finds.old }
     requires early { AllByRecursion IsEarlyStatement (map statement_tree statements.now) }
     requires small { AllByRecursion (λ s. IsSmallKind s.kind) (map statement_tree statements.now) }
-    requires distinct { AreDistinct (find_names (finds_in finds.old) ++ flat_map declared_by (map statement_tree statements.now)) }
+    requires distinct { AreDistinct (find_names (finds_in finds.old)
+        ++ flat_map declared_by (map statement_tree statements.now)) }
     ensures paired { OnOk result (IsPaired finds.new) }
-    ensures added { OnOk result (finds_in finds.new ≡ finds_in finds.old ++ flat_map (λ s. kind_finds s.kind) (map statement_tree statements.now)) }
+    ensures added { OnOk result (finds_in finds.new
+        ≡ finds_in finds.old
+        ++ flat_map (λ s. kind_finds s.kind) (map statement_tree statements.now)) }
 {
     for statement in statements {
         add_statement(finds, statement)?;
@@ -171,7 +186,8 @@ pub fn finds_of_model(alloc: Global, model: &Model) -> Result<Finds<'_>, AllocEr
     requires small { IsSmallModel (model_tree model.now) }
     requires distinct { AreDistinct (declared_names (model_tree model.now)) }
     ensures paired { IfOk result IsPaired }
-    ensures all { IfOk result (λ finds. finds_in finds ≡ (instance_of (model_tree model.now)).finds) }
+    ensures all { IfOk result (λ finds.
+        finds_in finds ≡ (instance_of (model_tree model.now)).finds) }
 {
     let mut finds = Finds {
         names: IndexSet::new(alloc),

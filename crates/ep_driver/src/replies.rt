@@ -24,7 +24,8 @@ pub struct Reply {
 
 /// What the words ask to be said.
 pub fn reply_to<F: Files>(alloc: Global, words: &[Word], files: &mut F) -> Result<Reply, Memory>
-    ensures said { IfOk result (λ reply. SaidToWords words.now (F.held files.old) (Rose (F.faults files.old) (F.faults files.new)) reply.status reply.text.items) }
+    ensures said { IfOk result (λ reply. SaidToWords words.now (F.held files.old)
+        (Rose (F.faults files.old) (F.faults files.new)) reply.status reply.text.items) }
     ensures held { F.held files.new ≡ F.held files.old }
     ensures faults { F.faults files.old ≤ F.faults files.new }
 {

@@ -18,9 +18,12 @@ pub fn first_solution(
 ) -> Result<Option<Vec<i64>>, AllocError>
     requires counted { count ≡ combinations all.now }
     requires uses { ClausesUseBelow (length all.now) clauses.now }
-    ensures within { IfOk result (λ answer. IfSome answer (λ values. AreWithin values.items all.now)) }
-    ensures met { IfOk result (λ answer. IfSome answer (λ values. are_met values.items clauses.now ≡ true)) }
-    ensures none { IfOk result (λ answer. IfNone answer ((values : List ℤ) → AreWithin values all.now → are_met values clauses.now ≡ false)) }
+    ensures within { IfOk result (λ answer. IfSome answer (λ values.
+        AreWithin values.items all.now)) }
+    ensures met { IfOk result (λ answer. IfSome answer (λ values.
+        are_met values.items clauses.now ≡ true)) }
+    ensures none { IfOk result (λ answer. IfNone answer ((values : List ℤ) →
+        AreWithin values all.now → are_met values clauses.now ≡ false)) }
 {
     let mut values = lowest(alloc, all)?;
     for _ in 0..count {

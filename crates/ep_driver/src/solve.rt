@@ -29,9 +29,11 @@ pub fn answer_of(alloc: Global, model: &Model) -> Result<Option<Vec<u8>>, AllocE
     requires small { IsSmallModel (model_tree model.now) }
     requires well_formed { IsWellFormed (model_tree model.now) }
     ensures too_large { IfOk result (λ answer. IfNone answer (IsTooLarge (model_tree model.now))) }
-    ensures not_too_large { IfOk result (λ answer. IfSome answer (λ text. assignment_count (instance_of (model_tree model.now)) ≤ most_assignments)) }
+    ensures not_too_large { IfOk result (λ answer. IfSome answer (λ text.
+        assignment_count (instance_of (model_tree model.now)) ≤ most_assignments)) }
     ensures right { IfOk result (λ answer. IfSome answer (λ text.
-        (answer : Answer) × Answers (instance_of (model_tree model.now)) answer × (text.items ≡ answer_text answer))) }
+        (answer : Answer) × Answers (instance_of (model_tree model.now)) answer
+        × (text.items ≡ answer_text answer))) }
 {
     let finds = finds_of_model(alloc, model)?;
     let count = capped_combinations(&finds.bounds, MOST_ASSIGNMENTS);
@@ -54,8 +56,10 @@ fn solution_values(
     requires paired { IsPaired finds.now }
     requires all { finds_in finds.now ≡ (instance_of (model_tree model.now)).finds }
     requires counted { count ≡ combinations finds.now.bounds.items }
-    ensures values { IfOk result (λ found. IfSome found (λ values. length values.items ≡ length finds.now.names.keys)) }
-    ensures right { IfOk result (λ found. Answers (instance_of (model_tree model.now)) (found_answer finds.now.names.keys found)) }
+    ensures values { IfOk result (λ found. IfSome found (λ values.
+        length values.items ≡ length finds.now.names.keys)) }
+    ensures right { IfOk result (λ found.
+        Answers (instance_of (model_tree model.now)) (found_answer finds.now.names.keys found)) }
 {
     let clauses = clauses_of_model(alloc, &finds.names, model)?;
     let found = first_solution(alloc, &finds.bounds, &clauses, count)?;

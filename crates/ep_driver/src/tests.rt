@@ -1,5 +1,5 @@
-//! Runs over devices in memory: the answers, each refusal, and devices that fail. With ample memory none of
-//! them ends for want of it.
+//! Runs over devices in memory: the answers, each refusal, and devices that fail. With ample memory
+//! none of them ends for want of it.
 
 use crate::{Status, run};
 use ep_base::{MemFiles, MemSink, Word};

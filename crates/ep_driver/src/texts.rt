@@ -33,7 +33,8 @@ fn push_letting(text: &mut Vec<u8>, name: &str, value: i64) -> Result<(), AllocE
 /// Adds a line for each find, with its value.
 pub fn push_lettings(text: &mut Vec<u8>, names: &[&str], values: &[i64]) -> Result<(), AllocError>
     requires { length values.now ≡ length names.now }
-    ensures { OnOk result (text.new.items ≡ text.old.items ++ letting_lines (assignment_of names.now values.now)) }
+    ensures { OnOk result (text.new.items
+        ≡ text.old.items ++ letting_lines (assignment_of names.now values.now)) }
 {
     for (i, name) in names.iter().enumerate() {
         push_letting(text, name, values[i])?;

@@ -24,32 +24,42 @@ pub fn run<R: Threads, F: Files, K: Sink>(
     files: &mut F,
     out: &mut K,
 ) -> Status
-    // An answer is right for the model that the named file holds, and its text and nothing else was put out.
+    // An answer is right for the model that the named file holds, and its text was put out, and
+    // nothing else.
     ensures answered { result ≡ Status.Answered → IfSome (F.held files.old) (λ held.
         (model : ModelTree) × (answer : Answer) × Accepts words.now held model
-        × Answers (instance_of model) answer × (K.taken out.new ≡ with_more (answer_text answer) (K.taken out.old))) }
+        × Answers (instance_of model) answer
+        × (K.taken out.new ≡ with_more (answer_text answer) (K.taken out.old))) }
 
-    // A fault or a limit is one that the words and the named file show, and its line and nothing else was put out.
-    ensures refused { (result ≡ Status.Usage) ⊎ (result ≡ Status.Text) ⊎ (result ≡ Status.Limit) → IfSome (F.held files.old) (λ held.
-        (line : List ℕ) × Refuses words.now held result line × (K.taken out.new ≡ with_more line (K.taken out.old))) }
+    // A fault or a limit is one that the words and the named file show. Its line was put out, and
+    // nothing else.
+    ensures refused { (result ≡ Status.Usage) ⊎ (result ≡ Status.Text) ⊎ (result ≡ Status.Limit) →
+        IfSome (F.held files.old) (λ held.
+        (line : List ℕ) × Refuses words.now held result line
+        × (K.taken out.new ≡ with_more line (K.taken out.old))) }
     ensures usage { result ≡ Status.Usage → AreNoCommand words.now }
 
     // A failure is one that a device counted in this call, or the named file isn't held.
     ensures device { result ≡ Status.Device →
         Rose (F.faults files.old) (F.faults files.new) ⊎ Rose (K.faults out.old) (K.faults out.new)
-        ⊎ IsSomeAnd (F.held files.old) (λ held. (line : List ℕ) × Refuses words.now held Status.Device line) }
+        ⊎ IsSomeAnd (F.held files.old) (λ held.
+        (line : List ℕ) × Refuses words.now held Status.Device line) }
     ensures device_line { result ≡ Status.Device → ¬ Rose (K.faults out.old) (K.faults out.new) →
-        (name : List ℕ) × IsCommand words.now name × (K.taken out.new ≡ with_more (device_line name) (K.taken out.old)) }
+        (name : List ℕ) × IsCommand words.now name
+        × (K.taken out.new ≡ with_more (device_line name) (K.taken out.old)) }
 
     // Nothing else comes, want of memory aside.
     ensures never_unknown { result ≢ Status.Unknown }
     ensures never_refuted { result ≢ Status.Refuted }
 
-    // Where no device failed, a refusal that stands comes, and else the answer, want of memory aside.
-    ensures refuses { ¬ Rose (F.faults files.old) (F.faults files.new) → ¬ Rose (K.faults out.old) (K.faults out.new) →
+    // Where no device failed, a refusal that stands comes, and else the answer, want of memory
+    // aside.
+    ensures refuses { ¬ Rose (F.faults files.old) (F.faults files.new) →
+        ¬ Rose (K.faults out.old) (K.faults out.new) →
         IfSome (F.held files.old) (λ held. (status : Status) (line : List ℕ) →
         Refuses words.now held status line → (result ≡ status) ⊎ (result ≡ Status.Memory)) }
-    ensures answers { ¬ Rose (F.faults files.old) (F.faults files.new) → ¬ Rose (K.faults out.old) (K.faults out.new) →
+    ensures answers { ¬ Rose (F.faults files.old) (F.faults files.new) →
+        ¬ Rose (K.faults out.old) (K.faults out.new) →
         IfSome (F.held files.old) (λ held. (model : ModelTree) →
         Accepts words.now held model → (result ≡ Status.Answered) ⊎ (result ≡ Status.Memory)) }
     ensures usage_refused { AreNoCommand words.now → ¬ Rose (K.faults out.old) (K.faults out.new) →

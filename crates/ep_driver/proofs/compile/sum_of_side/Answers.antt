@@ -4,7 +4,7 @@ use Rattle.ep_early.specs.Views.{kind_tree, term_trees}
 use Rattle.ep_early.specs.EarlyForms.{IsSide}
 use Rattle.ep_early.specs.WellFormed.{UsesOnly}
 use Rattle.ep_driver.specs.Compiled.{texts_of, SumMeans}
-use Rattle.ep_driver.proofs.CompileSteps.{kind_tree-add}
+use Rattle.ep_early.proofs.Rows.{kind_tree-add}
 use Rattle.ep_driver.proofs.compile.sum_of_side.Goals as goal
 
 pub sum_of_parts-requires-clause-early : goal.sum_of_parts-requires-clause-early

@@ -2,7 +2,8 @@ use Rattle.std.proofs.Common.{◌≡◌, arith, false, sym, ◌∙◌, ap, subst
 use Rattle.std.proofs.lemmas.List.{take_at}
 use Rattle.ep_driver.specs.Clauses.{are_met}
 use Rattle.std.proofs.lemmas.Grind.{common_steps}
-use Rattle.ep_driver.specs.Bounds.{AreWithin, next_values, values_at}
+use Rattle.ep_driver.specs.Bounds.{AreWithin, next_values}
+use Rattle.ep_driver.proofs.Places.{values_at}
 use Rattle.ep_driver.proofs.Order.{first-values_at, within-values_at, next-values_at, fails-everywhere}
 use Rattle.ep_driver.proofs.search.first_solution.Goals as goal
 

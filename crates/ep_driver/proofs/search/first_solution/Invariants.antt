@@ -1,5 +1,5 @@
 use Rattle.std.proofs.Common.{◌≡◌, ℕ, ◌<◌, false}
-use Rattle.ep_driver.specs.Bounds.{values_at}
+use Rattle.ep_driver.proofs.Places.{values_at}
 use Rattle.ep_driver.specs.Clauses.{are_met}
 use Rattle.ep_driver.proofs.search.first_solution.Given as goal
 
