@@ -21,9 +21,10 @@ pub record Stops (begins : List Lexeme → Type 0) (tokens : List Lexeme) (count
   pub before : begins (take count tokens)
   pub after : count < length tokens → begins (take (suc count) tokens) → ⊥
 
--- The first tokens, so many of them, spell a tree of at most this height, and it can't go on with the next.
+-- The first tokens, so many of them, spell a tree of at most this height, and no tree, however high, goes on with the
+-- next.
 pub record Reads {A : Type 0} (spells : A → Phrase) (height_of : A → ℕ) (most : ℕ) (tokens : List Lexeme) (count : ℕ) (tree : A) : Type 0 where
-  pub stops : Stops (BeginsWithin spells height_of most) tokens count
+  pub stops : Stops (Begins spells) tokens count
   pub spelled : spells tree (take count tokens)
   pub low : height_of tree ≤ most
 
