@@ -2,7 +2,7 @@
 use Rattle.std.specs.Prelude.{◌≡◌, ℕ, zero, suc, ◌<◌, ◌≤◌, Bool, true, false, nat_lt, List, [], ◌∷◌, ◌++◌, take, drop, refl}
 use Rattle.std.proofs.Common.{arith, ap, subst}
 use Rattle.ep_tree.specs.Phrases.{Lexeme, Phrase}
-use Rattle.ep_tree.specs.Reading.{Begins, BeginsWithin, Stops}
+use Rattle.ep_tree.specs.Reading.{Begins, BeginsWithin, IsTooHigh, Reads, Stops}
 
 -- a front of the tokens, and what follows in a longer front
 front : (m n : ℕ) (tokens rest : List Lexeme) → m ≤ n → take n tokens ++ rest ≡ take m tokens ++ (drop m (take n tokens) ++ rest)
@@ -33,3 +33,23 @@ stops_once begins tokens fewer m n a b = go (nat_lt m n) (nat_lt n m) refl refl
         let less : n < m = grind arith in
         absurd (b.after (omega (arith, less, a.within)) (fewer (suc n) m (omega (arith, less)) a.before))
     go false false r s = grind arith
+
+nothing_after : (ls : List Lexeme) → ls ≡ ls ++ []
+nothing_after [] = refl
+nothing_after (l ∷ ls) = ap (λ ks. l ∷ ks) (nothing_after ls)
+
+-- What is read isn't also too high: a low tree stands before any token with which only high ones go on.
+pub read_not_too_high : {A : Type 0} (spells : A → Phrase) (height_of : A → ℕ) (most : ℕ) (tokens : List Lexeme) (m n : ℕ) (tree : A)
+    → Reads spells height_of most tokens m tree → IsTooHigh spells height_of most tokens n → ⊥
+read_not_too_high spells height_of most tokens m n tree r h = go (nat_lt n m) refl
+  where
+    low : BeginsWithin spells height_of most (take m tokens)
+    low = (tree, [], r.low, subst (λ ls. spells tree ls) (nothing_after (take m tokens)) r.spelled)
+
+    go : (b : Bool) → nat_lt n m ≡ b → ⊥
+    go true q =
+        let less : n < m = grind arith in
+        h.stops.after h.inside (BeginsWithin-fewer spells height_of most tokens (suc n) m (omega (arith, less)) low)
+    go false q =
+        let at_most : m ≤ n = grind arith in
+        r.stops.after (omega (arith, at_most, h.inside)) (Begins-fewer spells tokens (suc m) (suc n) (omega (arith, at_most)) h.higher)

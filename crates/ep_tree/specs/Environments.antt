@@ -50,7 +50,7 @@ domain_bound (Some (has_cells s indices values)) = None
 domain_bound (Some (has_domain s [] values)) = Some values
 domain_bound (Some (has_domain s (indices ∷ inner) values)) = None
 
--- the scalar of a domain's values in an environment
+-- the scalar of a domain's values in an environment; Int where it has no type
 unfoldable pub scalar_in : Env → DomainTree → Scalar
 scalar_in env d = unwrap_or (option_map scalar_of (type_from (judge_domain (context_of env) d))) Scalar.Int
 

@@ -1,4 +1,5 @@
--- The faults of types and categories of a text: every fault of every node. They stand in no order that matters.
+-- The faults of types and categories of a text: every fault of every node. A fault may stand twice in the list, and its
+-- order says nothing.
 --
 -- A text is well formed when it has none. That a name is declared before it is used, where decision variables may
 -- stand, and where a range may be open, is this project's own choice of what the public description leaves open.

@@ -8,8 +8,8 @@ use Rattle.ep_tree.specs.Domains.{IsAscending, between, set_has, set_values}
 use Rattle.ep_tree.specs.Environments.{Bound, Env, HasAscendingDomain, context_of}
 use Rattle.ep_tree.specs.Evaluation.{domain_values, evaluate}
 use Rattle.ep_tree.specs.Names.{put}
-use Rattle.ep_tree.specs.Phrases.{Lexeme}
-use Rattle.ep_tree.specs.Reading.{Stops}
+use Rattle.ep_tree.specs.Phrases.{Lexeme, Phrase}
+use Rattle.ep_tree.specs.Reading.{IsTooHigh, Reads, Stops}
 use Rattle.ep_tree.specs.Trees.{DomainTree, ExprTree}
 use Rattle.ep_tree.specs.TypedValues.{IsOf, IsOfDims, IsTypedEnv, is_number_of}
 use Rattle.ep_tree.specs.Types.{Context, Meaning, judge, judge_domain, scalar_of, typed}
@@ -108,3 +108,9 @@ FitIsOfDimensions =
 -- of each list of tokens at most one number is that up to which all goes well
 abbrev pub StopsOnce : (List Lexeme → Type 0) → Type 0
 StopsOnce begins = (tokens : List Lexeme) (m n : ℕ) → Stops begins tokens m → Stops begins tokens n → m ≡ n
+
+-- what is read isn't also too high
+abbrev pub ReadIsNotTooHigh : {A : Type 0} → (A → Phrase) → (A → ℕ) → Type 0
+ReadIsNotTooHigh {A} spells height_of =
+    (most : ℕ) (tokens : List Lexeme) (m n : ℕ) (tree : A)
+    → Reads spells height_of most tokens m tree → IsTooHigh spells height_of most tokens n → ⊥

@@ -232,7 +232,8 @@ unfoldable pub listed_parts : Extent → List Extent
 listed_parts (one_span s) = []
 listed_parts (grid indices parts) = listed_extents parts
 
--- the weight of a node that holds a decision variable
+-- The weight of a node that holds a decision variable. toInt, brackets, lists, comprehensions, `flatten`, names, and reads
+-- whose indices have no decision variable weigh nothing.
 unfoldable pub decided_weight : Mode → Env → ExprTree → ℕ
 decided_weight mode env (negation _ e) = 2
 decided_weight mode env (minus _ e) = (span_of (extent mode env e)).spread

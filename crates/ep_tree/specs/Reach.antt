@@ -44,8 +44,8 @@ truth_span = record { low = pos 0; high = pos 1; spread = 2; decided = true }
 unfoldable pub wide_span : ℤ → ℤ → Span
 wide_span low high = record { low = low; high = high; spread = count_between low high; decided = true }
 
--- a cell: a Boolean one from 0 to 1, another from its least value to its greatest, or 0 where it has none; its spread is the
--- number of its values
+-- a cell: 0 and 1 for a Boolean, else from its least value to its greatest, or 0 for none; its spread is the number of
+-- its values
 unfoldable pub cell_span : Scalar → List ℤ → Span
 cell_span Scalar.Bool values = record { low = pos 0; high = pos 1; spread = length values; decided = true }
 cell_span Scalar.Int values =

@@ -1,7 +1,7 @@
 -- Which lists of tokens spell which expression or domain: the grammar, with one case for each of its rules.
 --
 -- Operators bind, tightest first: the indices of a read; unary `!` and `-`, and quantifiers; `**`; `*`, `/` and `%`;
--- `+` and `-`; comparisons and `in`; `/\`; `\/`; `->` and `<->`. Chains of `+` and `-`, of `/\` and of `\/` are one
+-- `+` and `-`; comparisons, lexicographic ones too, and `in`; `/\`; `\/`; `->` and `<->`. Chains of `+` and `-`, of `/\` and of `\/` are one
 -- node with many parts, all other chains nest to the left, and comparisons make no chain. The body of a quantifier
 -- reaches as far right as it can. The forms are those of the language's public description, without those that are
 -- left out here; the whole order, and that `**` and `->` nest to the left, is this project's own choice.
@@ -10,7 +10,6 @@ use Rattle.ep_base.specs.declared.operators.CompareOp.{CompareOp}
 use Rattle.ep_base.specs.declared.operators.LexOp.{LexOp}
 use Rattle.ep_base.specs.declared.places.Place.{Place}
 use Prim.Native.String.{String}
-use Rattle.ep_tree.specs.Evaluation.{joined}
 use Rattle.ep_tree.specs.Phrases.{Choice, From, Is, Names, Nothing, Phrase, Says, Silence, When, a_name, a_number, ◌followed_by◌, ◌or_else◌}
 use Rattle.ep_tree.specs.Trees.{DomainTree, Domains, End, ExprTree, ExprTrees, Generators, IndexDomain, Indices, Ranges, Terms, absolute, all_different, all_of, any_of, at_least, at_most, binary, bool, chain, compare, comprehension, domain_and, end_at, every_and, factorial, flatten, folded, gcc, generator_and, group, group_domain, in_domain, in_set, index_and, int, lex, literal, matrix_domain, minus, named, named_domain, negation, no_domains, no_end, no_generators, no_indices, no_ranges, no_terms, no_trees, number, one_and, over, quantified, ranges, read, set_domain, span_and, table, term_and, to_int, tree_and, truth, unstated}
 use Rattle.ep_tree.specs.declared.syntax.BinaryOp.{BinaryOp}
@@ -273,7 +272,7 @@ unfoldable mutual
   Spells asked (comprehension p e gens conditions d) =
       Node asked primaries p
       (Says "[" followed_by Spells implications e followed_by Says "|" followed_by SpellsGenerators gens
-      followed_by SpellsConditions conditions followed_by SpellsIndexDomain d followed_by Says "]")
+      followed_by SpellsMore conditions followed_by SpellsIndexDomain d followed_by Says "]")
   Spells asked (read p m indices) =
       Node asked reads p (When (takes_own_group m) (Spells reads m) followed_by Says "[" followed_by SpellsIndices true indices)
   Spells asked (folded p op m) = Node asked primaries p (Call1 (fold_word op) (Spells implications m))
@@ -328,12 +327,12 @@ unfoldable mutual
   -- expressions with commas between them, or none
   pub SpellsList : ExprTrees → Phrase
   SpellsList no_trees = Silence
-  SpellsList (tree_and e es) = Spells implications e followed_by SpellsConditions es
+  SpellsList (tree_and e es) = Spells implications e followed_by SpellsMore es
 
-  -- expressions with a comma before each, or none: the conditions of a comprehension
-  pub SpellsConditions : ExprTrees → Phrase
-  SpellsConditions no_trees = Silence
-  SpellsConditions (tree_and e es) = Says "," followed_by Spells implications e followed_by SpellsConditions es
+  -- expressions with a comma before each, or none: the further parts of a list, and the conditions of a comprehension
+  pub SpellsMore : ExprTrees → Phrase
+  SpellsMore no_trees = Silence
+  SpellsMore (tree_and e es) = Says "," followed_by Spells implications e followed_by SpellsMore es
 
   -- the domain of a list's indices, behind a semicolon, or nothing
   pub SpellsIndexDomain : IndexDomain → Phrase
@@ -349,13 +348,13 @@ unfoldable mutual
 
   -- the indices of a read after its first bracket; a bracket group is joined with the next where it has no `..`
   pub SpellsIndices : Bool → Indices → Phrase
-  SpellsIndices joined no_indices = Nothing
-  SpellsIndices joined (every_and indices) =
+  SpellsIndices joins no_indices = Nothing
+  SpellsIndices joins (every_and indices) =
       Says ".." followed_by Choice (has_indices indices) (Says "," followed_by SpellsIndices false indices) (Says "]")
-  SpellsIndices joined (index_and e indices) =
+  SpellsIndices joins (index_and e indices) =
       Spells implications e
       followed_by Choice (has_indices indices)
-      ((Says "," or_else When joined (Says "]" followed_by Says "[")) followed_by SpellsIndices joined indices)
+      ((Says "," or_else When joins (Says "]" followed_by Says "[")) followed_by SpellsIndices joins indices)
       (Says "]")
 
   -- ranges with commas between them, at least one

@@ -45,7 +45,7 @@ unfoldable pub rows_of : ValueTree → List (List ℤ)
 rows_of (single n) = []
 rows_of (matrix indices parts) = map scalars_of (listed_values parts)
 
--- the numbers from a first one on, so many of them
+-- so many numbers, one after another, from a first one on
 unfoldable pub numbers_from : ℤ → ℕ → List ℤ
 numbers_from first zero = []
 numbers_from first (suc count) = first ∷ numbers_from (first +ℤ pos 1) count

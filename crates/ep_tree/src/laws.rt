@@ -2,7 +2,7 @@
 
 ghost use Rattle.std.specs.Prelude.{ℕ};
 ghost use Rattle.ep_tree.specs.Heights.{domain_height, height};
-ghost use Rattle.ep_tree.specs.Laws.{ClosedDomainPassesItsNumbers, DomainAscends, DomainHidesLexically, DomainIsOfScalar, FitIsOfDimensions, NegativeQuotientIsHigh, NegativeQuotientIsLow, NoQuotientByZero, OperationIsOfSets, PositiveQuotientIsHigh, PositiveQuotientIsLow, RangeIsInterval, StopsOnce, TypeHidesLexically, ValueHidesLexically, ValueIsOfType};
+ghost use Rattle.ep_tree.specs.Laws.{ClosedDomainPassesItsNumbers, DomainAscends, DomainHidesLexically, DomainIsOfScalar, FitIsOfDimensions, NegativeQuotientIsHigh, NegativeQuotientIsLow, NoQuotientByZero, OperationIsOfSets, PositiveQuotientIsHigh, PositiveQuotientIsLow, RangeIsInterval, ReadIsNotTooHigh, StopsOnce, TypeHidesLexically, ValueHidesLexically, ValueIsOfType};
 ghost use Rattle.ep_tree.specs.Reading.{Begins, BeginsWithin};
 ghost use Rattle.ep_tree.specs.Spelling.{DomainLevel, Level, Spells, SpellsDomain};
 ghost use Rattle.ep_tree.specs.StatementSpelling.{SpellsModel, SpellsParams};
@@ -56,4 +56,10 @@ pub fn first_faults_are_unique()
     ensures low_domains { (level : DomainLevel) (most : ℕ) → StopsOnce (BeginsWithin (SpellsDomain level) domain_height most) }
     ensures low_models { (most : ℕ) → StopsOnce (BeginsWithin SpellsModel text_height most) }
     ensures low_params { (most : ℕ) → StopsOnce (BeginsWithin SpellsParams text_height most) }
+{}
+
+/// What is read isn't also too high, in an expression and in a domain.
+pub fn readings_exclude_heights()
+    ensures expressions { (level : Level) → ReadIsNotTooHigh (Spells level) height }
+    ensures domains { (level : DomainLevel) → ReadIsNotTooHigh (SpellsDomain level) domain_height }
 {}

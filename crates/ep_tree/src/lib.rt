@@ -8,7 +8,7 @@ mod values;
 
 pub use laws::{
     domains_are_sets, first_faults_are_unique, hiding_is_lexical, quotient_is_the_floor,
-    values_are_of_their_types,
+    readings_exclude_heights, values_are_of_their_types,
 };
 pub use statements::{Declared, Model, Objective, Params, Statement, StatementKind};
 pub use syntax::{
