@@ -6,6 +6,7 @@ ghost use Rattle.cnf_core.specs.Literal.{Literal, negation, IsOrdered};
 ghost use Rattle.sat_state.specs.Trail.{literals, value_of, entry_of, NamesFalsified};
 ghost use Rattle.sat_search.specs.Analysis.{IsKnown, is_marked, MarksClause, IsTraced, IsDecisionAt, IsUnmarkedBetween, IsCut, KeepsMore, HasLast, IsExplained};
 
+use crate::order::Order;
 use cnf_core::{Clause, Lit};
 use ep_base::Memory;
 use sat_state::State;
@@ -247,12 +248,20 @@ fn trace(
     Ok(Explanation { lits, hints })
 }
 
-/// Explains a falsified clause by the decisions.
-pub fn explain(alloc: Global, state: &State, vars: u64, number: u64) -> Result<Explanation, Memory>
+/// Explains a falsified clause by the decisions, and brings the variables that it met forward in the order.
+pub fn explain(
+    alloc: Global,
+    state: &State,
+    order: &mut Order,
+    vars: u64,
+    number: u64,
+) -> Result<Explanation, Memory>
     requires known { IsKnown vars state.now }
     requires falsified { NamesFalsified state.now.clauses state.now.trail number }
     ensures { IfOk result (λ found. IsExplained state.now.clauses found.lits.items found.hints.items) }
 {
     let mut marks = vec![in alloc; false; vars as usize + 1]?;
-    trace(alloc, state, vars, number, &mut marks)
+    let found = trace(alloc, state, vars, number, &mut marks)?;
+    order.learn(state.trail(), marks.as_slice());
+    Ok(found)
 }
