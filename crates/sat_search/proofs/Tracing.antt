@@ -1,10 +1,10 @@
 -- How a conflict is traced down a trail.
-use Rattle.std.proofs.Common.{◌≡◌, ◌≢◌, ℕ, ◌+◌, ◌<◌, ◌≤◌, Bool, true, false, ◌⊎◌, inl, inr, None, List, [], ◌∷◌, ◌++◌, length, get_or, take, map, refl, ap, ◌∙◌, sym, subst, arith, reverse, All}
+use Rattle.std.proofs.Common.{◌≡◌, ◌≢◌, ℕ, zero, suc, add-zero, ◌+◌, ◌<◌, ◌≤◌, Bool, true, false, ◌⊎◌, inl, inr, None, List, [], ◌∷◌, ◌++◌, length, get_or, take, map, refl, ap, ◌∙◌, sym, subst, arith, reverse, All}
 use Rattle.std.specs.Prelude.{Contains}
 use Rattle.std.specs.List.{AllByRecursion}
 use Rattle.std.proofs.lemmas.Bool.{false≢true, eqb-true, eqb-false}
-use Rattle.std.proofs.lemmas.List.{take_more, take_all, reverse-append, length-take-le, get_or-take}
-use Rattle.std.proofs.lemmas.List.Elements.{Contains-push_cases, Contains-push, Contains-append_left, Contains-get_or, All-contains, All-map, All-weaker, All-get_or, All-nil, All-push, All-cons}
+use Rattle.std.proofs.lemmas.List.{take_more, take_all, reverse-append, length-take-le, get_or-take, get_or_default, take-take}
+use Rattle.std.proofs.lemmas.List.Elements.{Contains-push_cases, Contains-push, Contains-append_left, Contains-get_or, All-contains, All-map, All-weaker, All-get_or, All-nil, All-push, All-cons, All-take}
 use Rattle.cnf_core.specs.Literal.{Literal, negation, same_literal, IsOrdered}
 use Rattle.cnf_core.specs.Reading.{reading_succeeds}
 use Rattle.cnf_core.specs.Steps.{IsAtEnd, HasTrueLiteral, HasTwoNotFalse}
@@ -12,9 +12,9 @@ use Rattle.cnf_core.proofs.Members.{either, none_in_nil, negation-negation, Cont
 use Rattle.cnf_core.proofs.Readings.{reading_ends, reading_goes_on}
 use Rattle.cnf_core.proofs.Reading.{Settled, reading_fails}
 use Rattle.sat_state.specs.Trail.{Gives, IsFalsified, value_of}
-use Rattle.sat_state.proofs.Literals.{not_true, not_false}
+use Rattle.sat_state.proofs.Literals.{not_true, not_false, no_literal, no_value}
 use Rattle.std.proofs.lemmas.List.Sorted.{IsPermutation-reverse, IsPermutation-sym, Contains-permutation}
-use Rattle.sat_search.specs.Analysis.{is_marked, IsNamedIn, MarksClause, clauses_of_numbers, StandsIn, AreFalse, AreTrueWhereMarked, IsTraced, KeepsMore, IsDecisionAt, HasLast, IsExplained}
+use Rattle.sat_search.specs.Analysis.{is_marked, IsNamedIn, MarksClause, clauses_of_numbers, StandsIn, AreFalse, AreTrueWhereMarked, IsTraced, KeepsMore, IsDecisionAt, HasLast, IsExplained, IsCut, IsUnmarkedBetween}
 
 -- the clause of a number
 abbrev at : List (List Literal) → ℕ → List Literal
@@ -169,12 +169,12 @@ in_front trail from i l below within is = (i, omega (arith, length-take-le from 
 in_one : (x y : Literal) → Contains (x ∷ []) y → x ≡ y
 in_one x y found = elim (Contains-cases x [] y found) [ inl is ↦ is | inr none ↦ absurd (none_in_nil y none) ]
 
--- the negation of a decision is the last of what is kept from it on
-pub last_kept : (clauses : List (List Literal)) (trail : List Literal) (place : ℕ) (l : Literal) (first lits : List Literal) → IsDecisionAt clauses trail place → l ≡ get_or trail place l → first ≡ negation l ∷ [] → KeepsMore (take place trail) first lits → HasLast clauses lits
-last_kept clauses trail place l first lits decision is one keeps =
-    let free : value_of (take place trail) l.var ≡ None = ap (λ (x : Literal). value_of (take place trail) x.var) is ∙ decision.free l in
+-- the negation of the literal at a cut is the last of what is kept from it on
+pub last_kept : (clauses : List (List Literal)) (trail : List Literal) (marks : List Bool) (place decision : ℕ) (l : Literal) (first lits : List Literal) → IsCut clauses trail marks place decision → l ≡ get_or trail place l → first ≡ negation l ∷ [] → KeepsMore (take decision trail) first lits → HasLast clauses lits
+last_kept clauses trail marks place decision l first lits cut is one keeps =
+    let free : value_of (take decision trail) l.var ≡ None = ap (λ (x : Literal). value_of (take decision trail) x.var) is ∙ cut.free l in
     record {
-      trues = take place trail;
+      trues = take decision trail;
       last = negation l;
       is_last = record {
         in_clause = keeps.stays (negation l) (subst (λ (ls : List Literal). Contains ls (negation l)) (sym one) (Contains-here (negation l) []));
@@ -182,11 +182,42 @@ last_kept clauses trail place l first lits decision is one keeps =
           | inl here ↦ absurd (differs (sym (in_one (negation l) m (subst (λ (ls : List Literal). Contains ls m) one here))))
           | inr below ↦ below
         ];
-        not_true = λ found. false≢true (sym (not_false (take place trail) l free) ∙ test_from_Contains (take place trail) (negation l) found);
-        not_false = λ found. false≢true (sym (not_true (take place trail) l free) ∙ test_from_Contains (take place trail) l (subst (Contains (take place trail)) (negation-negation l) found));
+        not_true = λ found. false≢true (sym (not_false (take decision trail) l free) ∙ test_from_Contains (take decision trail) (negation l) found);
+        not_false = λ found. false≢true (sym (not_true (take decision trail) l free) ∙ test_from_Contains (take decision trail) l (subst (Contains (take decision trail)) (negation-negation l) found));
       };
-      at_end = decision.at_end;
+      at_end = cut.at_end;
     }
+
+-- what isn't marked between two places is passed over
+pub traced_down : (clauses : List (List Literal)) (trail : List Literal) (marks : List Bool) (kept : List Literal) (hints : List ℕ) (low more : ℕ) → low + more ≤ length trail → IsUnmarkedBetween trail marks low (low + more)
+    → IsTraced clauses trail marks kept hints (low + more) → IsTraced clauses trail marks kept hints low
+traced_down clauses trail marks kept hints low zero within unmarked traced = subst (IsTraced clauses trail marks kept hints) (add-zero low) traced
+traced_down clauses trail marks kept hints low (suc more) within unmarked traced =
+    let d : Literal = record { var = 0; positive = true } in
+    let l = get_or trail (low + more) d in
+    let below : low + more < length trail = omega arith in
+    let next : low + suc more ≡ (low + more) + 1 = omega arith in
+    traced_down clauses trail marks kept hints low more (omega arith) (λ k e from upto. unmarked k e from (omega arith))
+    (traced_skip clauses trail marks kept hints (low + more) l below (get_or_default trail (low + more) d l below)
+    (unmarked (low + more) d (omega arith) (omega arith))
+    (subst (IsTraced clauses trail marks kept hints) next traced))
+
+-- a decision is a cut by itself
+pub decision_cut : (clauses : List (List Literal)) (trail : List Literal) (marks : List Bool) (hints : List ℕ) (i : ℕ) (l : Literal) → l ≡ get_or trail i l → IsDecisionAt clauses trail i → IsTraced clauses trail marks [] hints (i + 1) → IsCut clauses trail marks i i
+decision_cut clauses trail marks hints i l is decision traced = record {
+  order = omega arith;
+  there = decision.there;
+  at_end = decision.at_end;
+  free = decision.free;
+  marked = λ d. ap (λ (x : Literal). is_marked marks x.var) (get_or_default trail i d l decision.there ∙ sym is)
+      ∙ decision_marked clauses trail marks hints i l decision.there is decision.at_end traced;
+  alone = λ k d low high. absurd (omega arith);
+}
+
+-- a variable without a value before a place has none before a lower one
+pub free_below : (trail : List Literal) (low high v : ℕ) → low ≤ high → value_of (take high trail) v ≡ None → value_of (take low trail) v ≡ None
+free_below trail low high v order free =
+    no_value (take low trail) v (subst (All (λ (l : Literal). l.var ≢ v)) (take-take low high trail order) (All-take (λ (l : Literal). l.var ≢ v) low (take high trail) (no_literal (take high trail) v free)))
 
 -- at the start of the trail nothing is left to be true
 pub explained : (clauses : List (List Literal)) (trail : List Literal) (marks : List Bool) (kept : List Literal) (hints : List ℕ) → IsTraced clauses trail marks kept hints 0 → (kept ≡ []) ⊎ HasLast clauses kept → IsExplained clauses kept (reverse hints)

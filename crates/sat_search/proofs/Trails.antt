@@ -71,3 +71,10 @@ pub decision_read : (clauses : List (List Literal)) (trail : List Entry) (lits :
 decision_read clauses trail lits i v l grounded are within is var read =
     decision_at clauses trail i l grounded (omega (arith, within, ap length are)) (is ∙ ap (λ (ls : List Literal). get_or ls i l) are)
     (ap (λ (w : ℕ). option_map (λ (e : Entry). e.reason) (entry_of trail w)) (sym var) ∙ read)
+
+-- the variable of a place had no value before it
+pub free_at : (clauses : List (List Literal)) (trail : List Entry) (i : ℕ) (d : Literal) → IsGrounded clauses trail → i < length (literals trail) → value_of (take i (literals trail)) (get_or (literals trail) i d).var ≡ None
+free_at clauses trail i d grounded within =
+    let get = λ (e : Entry). e.literal in
+    let there : i < length trail = omega (arith, within, length-map trail get) in
+    rw (take-map get i trail, get_or-map get trail i some_entry d there) (grounded i some_entry there).free

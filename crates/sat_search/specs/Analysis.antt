@@ -48,6 +48,19 @@ pub record IsDecisionAt (clauses : List (List Literal)) (trail : List Literal) (
   pub at_end : IsAtEnd (take place trail) clauses
   pub free : (d : Literal) → value_of (take place trail) (slice_index_or trail place d).var ≡ None
 
+-- no literal of the trail between these places is marked
+abbrev pub IsUnmarkedBetween : List Literal → List Bool → ℕ → ℕ → Type 0
+IsUnmarkedBetween trail marks low high = (k : ℕ) (d : Literal) → low ≤ k → k < high → is_marked marks (slice_index_or trail k d).var ≡ false
+
+-- The one marked literal of the last level stands at this place. The decision of the level stands there or below.
+pub record IsCut (clauses : List (List Literal)) (trail : List Literal) (marks : List Bool) (place decision : ℕ) : Type 0 where
+  pub order : decision ≤ place
+  pub there : place < length trail
+  pub at_end : IsAtEnd (take decision trail) clauses
+  pub free : (d : Literal) → value_of (take decision trail) (slice_index_or trail place d).var ≡ None
+  pub marked : (d : Literal) → is_marked marks (slice_index_or trail place d).var ≡ true
+  pub alone : IsUnmarkedBetween trail marks decision place
+
 -- the new list has the literals of the old one, and else only negations of these
 pub record KeepsMore (trues old new : List Literal) : Type 0 where
   pub stays : (l : Literal) → Contains old l → Contains new l

@@ -4,6 +4,7 @@
 
 mod adding;
 mod learning;
+mod order;
 mod outcome;
 mod search;
 mod solver;

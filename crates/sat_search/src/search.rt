@@ -9,37 +9,75 @@ ghost use Rattle.sat_search.specs.Logs.{IsSound, IsContinued, HasEnded, IsAnswer
 
 use crate::adding::copied;
 use crate::learning::{Explanation, explain};
+use crate::order::Order;
 use crate::outcome::Outcome;
 use cnf_core::{Clause, Lit, Log};
 use ep_base::Memory;
 use sat_state::{Propagated, State};
 use std::alloc::Global;
 
-// Decides a variable if it has no value, and propagates. Answers the number of a clause that is falsified then.
-fn decide(state: &mut State, vars: u64, var: u64) -> Option<u64>
+// Decides a variable if it is there and has no value, and propagates. Answers the number of a clause that is falsified then.
+fn decide(state: &mut State, vars: u64, var: u64, positive: bool) -> Option<u64>
     requires known { IsKnown vars state.old }
-    requires low { 1 ≤ var }
-    requires high { var ≤ vars }
     requires propagated { IsPropagated state.old }
     ensures clauses { state.new.clauses ≡ state.old.clauses }
     ensures vars { state.new.vars ≡ state.old.vars }
     ensures falsified { IfSome result (NamesFalsified state.new.clauses state.new.trail) }
     ensures propagated { IsNone result → IsPropagated state.new }
     ensures stays { KeepsValues state.old.trail state.new.trail }
-    ensures value { IsSome (value_of (literals state.new.trail) var) }
+    ensures value { 1 ≤ var → var ≤ vars → IsSome (value_of (literals state.new.trail) var) }
 {
-    if state.value(var).is_some() {
+    if var == 0 || var > vars || state.value(var).is_some() {
         return None;
     }
-    state.decide(Lit::new(var, false));
+    state.decide(Lit::new(var, positive));
     match state.propagate() {
         Propagated::Conflict(number) => Some(number),
         Propagated::Done => None,
     }
 }
 
+// Decides variables in their order.
+fn decide_in_order(state: &mut State, order: &Order, vars: u64) -> Option<u64>
+    requires known { IsKnown vars state.old }
+    requires propagated { IsPropagated state.old }
+    ensures clauses { state.new.clauses ≡ state.old.clauses }
+    ensures vars { state.new.vars ≡ state.old.vars }
+    ensures falsified { IfSome result (NamesFalsified state.new.clauses state.new.trail) }
+    ensures propagated { IsNone result → IsPropagated state.new }
+{
+    let mut var = order.next(0);
+    for _ in 0..vars {
+        let falsified = decide(state, vars, var, order.phase(var));
+        if falsified.is_some() {
+            return falsified;
+        }
+        var = order.next(var);
+    }
+    None
+}
+
+// Decides what has no value yet.
+fn decide_rest(state: &mut State, order: &Order, vars: u64) -> Option<u64>
+    requires known { IsKnown vars state.old }
+    requires propagated { IsPropagated state.old }
+    ensures clauses { state.new.clauses ≡ state.old.clauses }
+    ensures vars { state.new.vars ≡ state.old.vars }
+    ensures falsified { IfSome result (NamesFalsified state.new.clauses state.new.trail) }
+    ensures propagated { IsNone result → IsPropagated state.new }
+    ensures values { IsNone result → AllHaveValues vars state.new.trail }
+{
+    for place in 0..vars {
+        let falsified = decide(state, vars, place + 1, order.phase(place + 1));
+        if falsified.is_some() {
+            return falsified;
+        }
+    }
+    None
+}
+
 // Propagates and decides until each variable has a value, or up to a falsified clause, whose number it answers.
-fn decide_all(state: &mut State, vars: u64) -> Option<u64>
+fn decide_all(state: &mut State, order: &Order, vars: u64) -> Option<u64>
     requires known { IsKnown vars state.old }
     ensures clauses { state.new.clauses ≡ state.old.clauses }
     ensures vars { state.new.vars ≡ state.old.vars }
@@ -50,13 +88,11 @@ fn decide_all(state: &mut State, vars: u64) -> Option<u64>
     if let Propagated::Conflict(number) = state.propagate() {
         return Some(number);
     }
-    for place in 0..vars {
-        let falsified = decide(state, vars, place + 1);
-        if falsified.is_some() {
-            return falsified;
-        }
+    let falsified = decide_in_order(state, order, vars);
+    if falsified.is_some() {
+        return falsified;
     }
-    None
+    decide_rest(state, order, vars)
 }
 
 // Appends the clause to the log as a step, and at level 0 to the clauses.
@@ -86,6 +122,7 @@ fn append(
 fn learn(
     alloc: Global,
     state: &mut State,
+    order: &mut Order,
     vars: u64,
     number: u64,
     budget: u64,
@@ -102,7 +139,7 @@ fn learn(
     ensures more { IfOk result (λ ended. IsNone ended → nonempty_steps log.old.events < nonempty_steps log.new.events) }
     ensures ended { IfOk result (λ ended. IfSome ended (HasEnded budget log.new.events)) }
 {
-    let Explanation { lits, hints } = explain(alloc, state, vars, number)?;
+    let Explanation { lits, hints } = explain(alloc, state, order, vars, number)?;
     if lits.is_empty() {
         append(state, vars, Clause::new(alloc, lits)?, hints, log)?;
         Ok(Some(Outcome::Unsat))
@@ -118,6 +155,7 @@ fn learn(
 pub fn search(
     alloc: Global,
     state: &mut State,
+    order: &mut Order,
     vars: u64,
     budget: u64,
     log: &mut Log,
@@ -131,11 +169,12 @@ pub fn search(
     ensures clauses { OnOk result (state.new.clauses ≡ clauses_of log.new.events) }
     ensures answer { IfOk result (IsAnswer budget (literals state.new.trail) log.new.events) }
 {
+    order.grow(vars)?;
     'conflicts: loop {
-        match decide_all(state, vars) {
+        match decide_all(state, order, vars) {
             None => return Ok(Outcome::Sat),
             Some(number) => {
-                if let Some(outcome) = learn(alloc, state, vars, number, budget, log)? {
+                if let Some(outcome) = learn(alloc, state, order, vars, number, budget, log)? {
                     return Ok(outcome);
                 }
             }

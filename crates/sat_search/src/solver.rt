@@ -8,6 +8,7 @@ ghost use Rattle.sat_search.specs.View.{SolverView, value_in};
 ghost use Rattle.sat_search.specs.Logs.{IsSound, AddsSteps, EndsWithEmptyStep, NoneIsEmpty};
 
 use crate::adding::{give, state_of};
+use crate::order::Order;
 use crate::outcome::{Outcome, SolveError};
 use crate::search::search;
 use cnf_core::{Clause, Log};
@@ -21,6 +22,7 @@ use std::marker::Model;
 pub struct Solver {
     alloc: Global,
     state: State,
+    order: Order,
     vars: u64,
     answered: bool,
     broken: bool,
@@ -47,6 +49,7 @@ impl Solver {
         Ok(Solver {
             alloc,
             state,
+            order: Order::new(alloc),
             vars,
             answered: false,
             broken: false,
@@ -100,7 +103,14 @@ impl Solver {
             return Err(SolveError::Broken);
         }
         self.broken = true;
-        let outcome = search(self.alloc, &mut self.state, self.vars, budget, log)?;
+        let outcome = search(
+            self.alloc,
+            &mut self.state,
+            &mut self.order,
+            self.vars,
+            budget,
+            log,
+        )?;
         self.broken = false;
         self.answered = outcome == Outcome::Sat;
         Ok(outcome)

@@ -12,8 +12,8 @@ resolve-requires-clause-there c =
     (reason_read c.args.state.now.clauses c.args.state.now.trail c.trail-trail.result.now (c.loop-place.place - 1) c.index-trail-place.result.var c.index-trail-place.result (Some c.in-Some.number)
     c.trail-trail.ensures.grounded c.trail-trail.ensures.value (omega (arith, c.loop-place.invariant.within, c.requires.within, ap length c.trail-trail.ensures.value)) c.index-trail-place.is refl c.in-Some.ensures).0
 
-pub loop-place-preserved-in-Continue-1 : goal.loop-place-preserved-in-Continue-1
-loop-place-preserved-in-Continue-1 c =
+pub loop-place-preserved-in-Some : goal.loop-place-preserved-in-Some
+loop-place-preserved-in-Some c =
     let lits = c.trail-trail.result.now in
     let p = c.loop-place.place - 1 in
     let within : p < length lits = omega (arith, c.loop-place.invariant.within, c.requires.within, ap length c.trail-trail.ensures.value) in
@@ -23,8 +23,8 @@ loop-place-preserved-in-Continue-1 c =
     let next : c.loop-place.place ≡ p + 1 = omega arith in
     record {
       within = omega (arith, c.loop-place.invariant.within);
-      traced = rw c.in_ok-resolve-in-Some.ensures.hints (traced_resolve c.args.state.now.clauses lits c.loop-place.marks c.resolve.new.marks c.loop-place.lits.items c.loop-place.hints.items p c.in-Some.number c.index-trail-place.result
-          within c.index-trail-place.is reason.0 reason.1 c.in_ok-resolve-in-Some.ensures.ordered c.in_ok-resolve-in-Some.ensures.marks
+      traced = rw c.in_ok-_fresh-in-Some.ensures.hints (traced_resolve c.args.state.now.clauses lits c.loop-place.marks c.resolve.new.marks c.loop-place.lits.items c.loop-place.hints.items p c.in-Some.number c.index-trail-place.result
+          within c.index-trail-place.is reason.0 reason.1 c.in_ok-_fresh-in-Some.ensures.ordered c.in_ok-_fresh-in-Some.ensures.marks
           (subst (IsTraced c.args.state.now.clauses lits c.loop-place.marks c.loop-place.lits.items c.loop-place.hints.items) next c.loop-place.invariant.traced));
       keeps = c.loop-place.invariant.keeps;
     }

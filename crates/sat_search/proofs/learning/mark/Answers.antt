@@ -16,7 +16,7 @@ loop-lit-preserved c =
     let here : l ≡ get_or c.args.clause.now i l = c.lit-item.is ∙ ap (λ (ls : List Literal). get_or ls i l) c.lits-lits.ensures.value in
     let within : i < length c.args.clause.now = omega (arith, c.loop-lit-test.true, ap length c.lits-lits.ensures.value) in
     let room : l.var < length c.loop-lit.marks = omega (arith, c.requires i l within, ap (λ (x : Literal). x.var) here, c.loop-lit.auto.marks) in
-    rw c.var.ensures.value (marks_more c.args.marks.now c.loop-lit.marks lits i l c.loop-lit.invariant c.loop-lit-test.true c.lit-item.is room)
+    rw c.var-var.ensures.value (marks_more c.args.marks.now c.loop-lit.marks lits i l c.loop-lit.invariant c.loop-lit-test.true c.lit-item.is room)
 
 pub returns-clause-marks : goal.returns-clause-marks
 returns-clause-marks c =

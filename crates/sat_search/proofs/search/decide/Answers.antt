@@ -8,7 +8,7 @@ pub returns-in-Conflict-clause-stays : goal.returns-in-Conflict-clause-stays
 returns-in-Conflict-clause-stays c = stays_decided c.args.state.now.trail c.decide.new.self.trail c.propagate.new.self.trail _ c.decide.ensures.trail c.propagate.ensures.front
 
 pub returns-in-Conflict-clause-value : goal.returns-in-Conflict-clause-value
-returns-in-Conflict-clause-value c =
+returns-in-Conflict-clause-value c = λ low high.
     subst (λ (v : ℕ). IsSome (value_of (literals c.propagate.new.self.trail) v)) (ap (λ (l : Literal). l.var) c.new.ensures)
     (value_decided c.args.state.now.trail c.decide.new.self.trail c.propagate.new.self.trail (record { literal = c.new.result; level = level_of c.args.state.now.trail + 1; reason = None }) c.decide.ensures.trail c.propagate.ensures.front)
 
@@ -16,6 +16,6 @@ pub returns-in-Done-clause-stays : goal.returns-in-Done-clause-stays
 returns-in-Done-clause-stays c = stays_decided c.args.state.now.trail c.decide.new.self.trail c.propagate.new.self.trail _ c.decide.ensures.trail c.propagate.ensures.front
 
 pub returns-in-Done-clause-value : goal.returns-in-Done-clause-value
-returns-in-Done-clause-value c =
+returns-in-Done-clause-value c = λ low high.
     subst (λ (v : ℕ). IsSome (value_of (literals c.propagate.new.self.trail) v)) (ap (λ (l : Literal). l.var) c.new.ensures)
     (value_decided c.args.state.now.trail c.decide.new.self.trail c.propagate.new.self.trail (record { literal = c.new.result; level = level_of c.args.state.now.trail + 1; reason = None }) c.decide.ensures.trail c.propagate.ensures.front)

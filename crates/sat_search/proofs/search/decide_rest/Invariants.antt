@@ -1,7 +1,7 @@
-use Rattle.std.proofs.Common.{◌≡◌, ℕ, ◌≤◌, IsSome}
+use Rattle.std.proofs.Common.{◌≡◌}
 use Rattle.sat_state.specs.View.{IsPropagated}
 use Rattle.sat_search.specs.Analysis.{AllHaveValues}
-use Rattle.sat_search.proofs.search.decide_all.Given as goal
+use Rattle.sat_search.proofs.search.decide_rest.Given as goal
 
 abbrev pub invariant-loop-place : goal.invariant-loop-place
 invariant-loop-place l = record {
