@@ -8,6 +8,8 @@ mod order;
 mod outcome;
 mod search;
 mod solver;
+#[cfg(test)]
+mod tests;
 
 pub use outcome::{Outcome, SolveError};
 pub use solver::Solver;
