@@ -55,7 +55,7 @@ added_push_delete [] gone = refl
 added_push_delete (add i c h ∷ lines) gone = ap (λ (ids : List ℕ). i ∷ ids) (added_push_delete lines gone)
 added_push_delete (delete ids ∷ lines) gone = added_push_delete lines gone
 
-live_push : (start : List Live) (lines : List ProofLine) (line : ProofLine) → fold live_after start (lines ++ line ∷ []) ≡ live_after (fold live_after start lines) line
+pub live_push : (start : List Live) (lines : List ProofLine) (line : ProofLine) → fold live_after start (lines ++ line ∷ []) ≡ live_after (fold live_after start lines) line
 live_push start [] line = refl
 live_push start (l ∷ lines) line = live_push (live_after start l) lines line
 

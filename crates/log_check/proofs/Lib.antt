@@ -3,3 +3,4 @@ pub mod Lives
 pub mod Hints
 pub mod Checked
 mod Vectors
+pub mod Verified

@@ -6,17 +6,19 @@ ghost use Rattle.std.specs.List.{list_any};
 ghost use Rattle.log_check.specs.Lines.{plain_line, plain_lines};
 ghost use Rattle.log_check.specs.Verdict.{verdict_of, verdict_from, is_empty_clause, adds_empty_clause};
 
+mod laws;
 mod lines;
 mod reading;
 
 use cnf_core::{Clause, Formula, Line, Proof};
 use ep_base::Memory;
+pub use laws::verified_formulas_have_no_solution;
 use std::alloc::Global;
 
 /// What the check of a proof found.
 #[derive(Clone, Copy, Debug, PartialEq, Eq)]
 pub enum Verdict {
-    /// Each line is valid, and there is an empty clause.
+    /// Each line is valid, and there is an empty clause: the formula has no satisfying assignment.
     Verified,
     /// The first line that isn't valid, counted from 1.
     BadStep(u64),
