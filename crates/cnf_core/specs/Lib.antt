@@ -7,3 +7,4 @@ pub mod Steps
 pub mod FormulaInside
 pub mod LogInside
 pub mod Codes
+pub mod Lines

@@ -24,6 +24,11 @@ Precedes a b = (a.var < b.var) ⊎ ((a.var ≡ b.var) × (a.positive ≡ true) �
 abbrev pub IsOrdered : List Literal → Type 0
 IsOrdered literals = AllPairs Precedes literals
 
+-- the literals of a clause are in order, and each is of a variable that there can be
+pub record IsClause (literals : List Literal) : Type 0 where
+  pub ordered : IsOrdered literals
+  pub variables : All (λ l. IsVariable l.var) literals
+
 -- both lists have the same literals, in whatever order and however often
 pub record HaveSameLiterals (xs ys : List Literal) : Type 0 where
   pub from_first : All (Contains ys) xs

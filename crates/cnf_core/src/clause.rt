@@ -1,9 +1,9 @@
 //! Clauses: distinct literals in order.
 
-ghost use Rattle.std.specs.Prelude.{◌≡◌, ℕ, ◌≤◌, IfOk};
-ghost use Rattle.cnf_core.specs.Literal.{IsOrdered, HaveSameLiterals, VariablesUpTo};
+ghost use Rattle.std.specs.Prelude.{◌≡◌, ℕ, ◌≤◌, All, IfOk};
+ghost use Rattle.cnf_core.specs.Literal.{IsOrdered, IsVariable, HaveSameLiterals, VariablesUpTo};
 
-use crate::lit::Lit;
+use crate::lit::{Lit, MOST_VARIABLE};
 use ep_base::Memory;
 use std::alloc::Global;
 use std::marker::Model;
@@ -17,13 +17,13 @@ pub struct Clause {
 
 impl Model for Clause {
     ghost use Rattle.std.specs.Prelude.{List};
-    ghost use Rattle.cnf_core.specs.Literal.{Literal, IsOrdered};
+    ghost use Rattle.cnf_core.specs.Literal.{Literal, IsClause};
 
     ghost Value = { List Literal };
 
     ghost view = { λ a. a.lits.items };
 
-    ghost invariant = { λ a. IsOrdered a.lits.items };
+    ghost invariant = { λ a. IsClause a.lits.items };
 }
 
 impl Clause {
@@ -37,6 +37,9 @@ impl Clause {
         let mut lits = lits;
         lits.sort_unstable();
         lits.dedup();
+        for lit in &lits {
+            prove!(lit.var() <= MOST_VARIABLE);
+        }
         let lits = Vec::from_slice(alloc, lits.as_slice())?;
         Ok(Clause { lits })
     }
@@ -45,6 +48,7 @@ impl Clause {
     pub fn lits(&self) -> &[Lit]
         ensures value { result.now ≡ self.now }
         ensures ordered { IsOrdered result.now }
+        ensures variables { All (λ l. IsVariable l.var) result.now }
     {
         self.lits.as_slice()
     }

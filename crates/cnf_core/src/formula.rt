@@ -1,7 +1,7 @@
 //! Formulas: clauses over variables that are numbered from 1.
 
-ghost use Rattle.std.specs.Prelude.{◌≡◌, ◌+◌, ◌≤◌, ◌++◌, [], ◌∷◌, IsTrue, true, false, IfOk, OnOk, OnErr};
-ghost use Rattle.cnf_core.specs.Literal.{VariablesUpTo, IsVariable};
+ghost use Rattle.std.specs.Prelude.{◌≡◌, ◌+◌, ◌≤◌, All, ◌++◌, [], ◌∷◌, IsTrue, true, false, IfOk, OnOk, OnErr};
+ghost use Rattle.cnf_core.specs.Literal.{VariablesUpTo, IsVariable, IsClause};
 ghost use Rattle.cnf_core.specs.Formula.{NamesItsVariables};
 
 use crate::clause::Clause;
@@ -84,6 +84,8 @@ impl Formula {
             (self.new ≡ record self.old { clauses = self.old.clauses ++ clause ∷ [] }) }
         ensures err { OnErr result (self.new ≡ self.old) }
     {
+        // What each clause keeps, `clauses` promises of this one too.
+        let _lits = clause.lits();
         self.clauses.push(clause)?;
         Ok(())
     }
@@ -99,6 +101,7 @@ impl Formula {
     /// The clauses, in the order in which they were added.
     pub fn clauses(&self) -> &[Clause]
         ensures value { result.now ≡ self.now.clauses }
+        ensures clauses { All IsClause self.now.clauses }
         ensures names { NamesItsVariables self.now }
     {
         self.clauses.as_slice()

@@ -1,7 +1,8 @@
 //! Logs: clauses that were given, and steps that are said to follow from the events before them.
 
-ghost use Rattle.std.specs.Prelude.{◌≡◌, ◌+◌, ◌≤◌, ◌↔◌, ◌++◌, [], ◌∷◌, IsTrue, OnOk, OnErr, map};
-ghost use Rattle.cnf_core.specs.Events.{given, step, plain_event, plain_note, nonempty_steps, HasBase, HintsAreThere, HintsAreEarlier};
+ghost use Rattle.std.specs.Prelude.{◌≡◌, ◌+◌, ◌≤◌, ◌↔◌, ◌++◌, [], ◌∷◌, IsTrue, All, OnOk, OnErr, map};
+ghost use Rattle.cnf_core.specs.Literal.{IsClause};
+ghost use Rattle.cnf_core.specs.Events.{given, step, plain_event, plain_note, clauses_of, nonempty_steps, HasBase, HintsAreThere, HintsAreEarlier};
 
 use crate::clause::Clause;
 use crate::lit::Lit;
@@ -81,6 +82,7 @@ impl Log {
     /// The events in order.
     pub fn events(&self) -> &[Event]
         ensures value { map plain_event result.now ≡ self.now.events }
+        ensures clauses { All IsClause (clauses_of self.now.events) }
         ensures hints { HintsAreEarlier self.now.events }
     {
         self.events.as_slice()
@@ -107,6 +109,8 @@ impl Log {
             (self.new ≡ record self.old { events = self.old.events ++ given clause ∷ [] }) }
         ensures err { OnErr result (self.new ≡ self.old) }
     {
+        // What each clause keeps, `events` promises of this one too.
+        let _lits = clause.lits();
         self.events.push(Event::Given(clause))?;
         Ok(())
     }

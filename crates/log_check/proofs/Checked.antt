@@ -8,7 +8,7 @@ use Rattle.cnf_core.specs.Reading.{is_shown_by}
 use Rattle.cnf_core.specs.declared.proof.Line.{Line}
 use Rattle.std.proofs.lemmas.Bool.Decides.{nat_tests}
 use Rattle.cnf_core.specs.Literal.{Literal}
-use Rattle.log_check.specs.Lines.{ProofLine, add, delete, plain_line, plain_lines}
+use Rattle.cnf_core.specs.Lines.{ProofLine, add, delete, plain_line, plain_lines}
 use Rattle.log_check.specs.Verdict.{Live, numbered_from, live_after, live_behind, hinted_clauses, added_ids, is_valid_line, first_bad, is_empty_clause, adds_empty_clause, has_empty_clause, verdict_from, verdict_of}
 use Rattle.log_check.specs.declared.Verdict.TheVariants.{BadStep}
 use Rattle.log_check.specs.Kept.{Clauses, KeepsLive, is_accepted, newest_after}

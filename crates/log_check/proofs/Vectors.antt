@@ -1,7 +1,7 @@
 -- Worked verdicts, computed by the checker.
 use Rattle.std.proofs.Common.{◌≡◌, ℕ, ℤ, pos, negsuc, true, false, List, [], ◌∷◌, refl}
 use Rattle.cnf_core.specs.Literal.{Literal}
-use Rattle.log_check.specs.Lines.{ProofLine, add, delete}
+use Rattle.cnf_core.specs.Lines.{ProofLine, add, delete}
 use Rattle.log_check.specs.Verdict.{verdict_of}
 use Rattle.log_check.specs.declared.Verdict.TheVariants.{Verified, BadStep, NoEmptyClause}
 

@@ -9,7 +9,7 @@ use Rattle.cnf_core.specs.Clauses.{SatisfiesClause, Satisfies}
 use Rattle.cnf_core.specs.Reading.{is_shown_by}
 use Rattle.cnf_core.proofs.Members.{passes_some, none_in_nil}
 use Rattle.cnf_core.proofs.Following.{shown_follows}
-use Rattle.log_check.specs.Lines.{ProofLine, add, delete}
+use Rattle.cnf_core.specs.Lines.{ProofLine, add, delete}
 use Rattle.log_check.specs.Verdict.{Live, numbered_from, is_one_of, live_after, live_behind, live_clause, hinted_clause, before_later, hinted_clauses, added_ids, is_valid_line, first_bad, is_empty_clause, adds_empty_clause, has_empty_clause, verdict_from, verdict_of}
 use Rattle.log_check.specs.declared.Verdict.{Verdict}
 use Rattle.log_check.specs.declared.Verdict.TheVariants.{Verified, BadStep, NoEmptyClause}

@@ -6,7 +6,7 @@ use Rattle.std.specs.declared.hash.FoldHasher.{FoldHasher}
 use Rattle.std.specs.declared.hash.BuildHasherDefault.{BuildHasherDefault}
 use Rattle.cnf_core.specs.Literal.{Literal, same_sign, is_among}
 use Rattle.cnf_core.specs.Reading.{is_shown_by}
-use Rattle.log_check.specs.Lines.{ProofLine, add, delete}
+use Rattle.cnf_core.specs.Lines.{ProofLine, add, delete}
 use Rattle.log_check.specs.Verdict.{Live, live_clause, hinted_clauses}
 use Rattle.log_check.specs.declared.reading.Remaining.{Remaining}
 use Rattle.log_check.specs.declared.reading.Remaining.TheVariants.{Nothing, One, More}

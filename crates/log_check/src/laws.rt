@@ -3,7 +3,7 @@
 ghost use Rattle.std.specs.Prelude.{◌≡◌, ℕ, Bool, List};
 ghost use Rattle.cnf_core.specs.Literal.{Literal};
 ghost use Rattle.cnf_core.specs.Clauses.{Satisfies};
-ghost use Rattle.log_check.specs.Lines.{ProofLine};
+ghost use Rattle.cnf_core.specs.Lines.{ProofLine};
 ghost use Rattle.log_check.specs.Verdict.{verdict_of};
 ghost use Rattle.log_check.specs.declared.Verdict.TheVariants.{Verified};
 

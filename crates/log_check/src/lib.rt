@@ -3,7 +3,7 @@
 
 ghost use Rattle.std.specs.Prelude.{◌≡◌, ◌||◌, None, IfOk};
 ghost use Rattle.std.specs.List.{list_any};
-ghost use Rattle.log_check.specs.Lines.{plain_line, plain_lines};
+ghost use Rattle.cnf_core.specs.Lines.{plain_line, plain_lines};
 ghost use Rattle.log_check.specs.Verdict.{verdict_of, verdict_from, is_empty_clause, adds_empty_clause};
 
 mod laws;

@@ -1,7 +1,7 @@
 //! Goes over the lines of a proof, with the clauses that are live.
 
 ghost use Rattle.std.specs.Prelude.{◌≡◌, ℕ, List, IfOk, IsTrue, length};
-ghost use Rattle.log_check.specs.Lines.{plain_line, delete};
+ghost use Rattle.cnf_core.specs.Lines.{plain_line, delete};
 ghost use Rattle.log_check.specs.Verdict.{Live, numbered_from, live_after};
 ghost use Rattle.log_check.specs.Kept.{KeepsLive, is_accepted, newest_after};
 

@@ -12,7 +12,7 @@ use Rattle.cnf_core.specs.Literal.{Literal}
 use Rattle.cnf_core.specs.declared.log.Event.{Event}
 use Rattle.cnf_core.specs.declared.log.Event.TheVariants as variants
 use Rattle.cnf_core.specs.Events.{LogEvent, given, step, plain_event, is_given, givens, EachStep, HintsAreThere, HintsAreEarlier}
-use Rattle.sat_text.specs.Lines.{ProofLine, add, delete}
+use Rattle.cnf_core.specs.Lines.{ProofLine, add, delete}
 use Rattle.sat_text.specs.Writing.{ids_from, event_ids, step_lines, log_lines, line_text, log_text}
 
 abbrev pub plain_events : List Event → List LogEvent

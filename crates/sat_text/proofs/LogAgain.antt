@@ -13,7 +13,7 @@ use Rattle.cnf_core.specs.Literal.{Literal, IsOrdered, IsVariable}
 use Rattle.sat_text.specs.Words.{lines, words, is_comment}
 use Rattle.sat_text.specs.Numbers.{whole_of}
 use Rattle.sat_text.specs.Clauses.{is_zero, literal_of, clause_of}
-use Rattle.sat_text.specs.Lines.{ProofLine, add, delete}
+use Rattle.cnf_core.specs.Lines.{ProofLine, add, delete}
 use Rattle.sat_text.specs.Answers.{◌>>=◌}
 use Rattle.sat_text.specs.Proofs.{whole_at, items_at, positive_of, any_literal, any_hint, at_end, addition_at, is_d, behind_id, line_of, has_no_word, says_nothing, before_others, proof_from, proof_of}
 use Rattle.sat_text.specs.Writing.{number_of, spaced, line_text, log_lines, log_text, IsShort, IsReadable}

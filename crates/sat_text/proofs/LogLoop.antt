@@ -8,7 +8,7 @@ use Rattle.cnf_core.specs.declared.proof.Proof.{Proof}
 use Rattle.sat_text.specs.declared.proof.LogError.{LogError}
 use Rattle.sat_text.specs.declared.proof.LogError.TheVariants.{Bad}
 use Rattle.sat_text.specs.Words.{lines, words}
-use Rattle.sat_text.specs.Lines.{ProofLine, plain_line, plain_lines}
+use Rattle.cnf_core.specs.Lines.{ProofLine, plain_line, plain_lines}
 use Rattle.sat_text.specs.Proofs.{says_nothing, line_of, before_others, proof_from, proof_of}
 
 -- the lines that were read before, and those that are still read

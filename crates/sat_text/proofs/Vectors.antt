@@ -7,7 +7,7 @@ use Rattle.cnf_core.specs.Events.{given, step}
 use Rattle.sat_text.specs.Words.{lines, last_line, words}
 use Rattle.sat_text.specs.Numbers.{natural_of, whole_of}
 use Rattle.sat_text.specs.Clauses.{clause_of}
-use Rattle.sat_text.specs.Lines.{ProofLine, add, delete}
+use Rattle.cnf_core.specs.Lines.{ProofLine, add, delete}
 use Rattle.sat_text.specs.Proofs.{whole_at, items_at, addition_at, deletion_at, behind_id, line_of, proof_from, proof_of}
 use Rattle.sat_text.specs.Cnf.{header_of, header_format, header_vars, header_count, clauses_at, formula_from, formula_of}
 use Rattle.sat_text.specs.Notes.{note_with, note_literal, note_value, note_at, is_cell, notes_of, added_of}

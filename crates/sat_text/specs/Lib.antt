@@ -1,7 +1,6 @@
 pub mod Words
 pub mod Numbers
 pub mod Clauses
-pub mod Lines
 pub mod Answers
 pub mod Proofs
 pub mod Writing

@@ -4,7 +4,7 @@ use Rattle.cnf_core.specs.Literal.{Literal}
 use Rattle.sat_text.specs.Words.{lines, words, is_comment}
 use Rattle.sat_text.specs.Numbers.{whole_of}
 use Rattle.sat_text.specs.Clauses.{is_zero, literal_of, clause_of}
-use Rattle.sat_text.specs.Lines.{ProofLine, add, delete}
+use Rattle.cnf_core.specs.Lines.{ProofLine, add, delete}
 use Rattle.sat_text.specs.Answers.{◌>>=◌}
 
 -- the number of the first word, and the words behind it

@@ -9,7 +9,7 @@ use Rattle.sat_text.specs.Clauses.{is_zero}
 use Rattle.cnf_core.specs.Literal.{Literal, IsOrdered, IsVariable}
 use Rattle.cnf_core.specs.Formula.{Cnf}
 use Rattle.cnf_core.specs.Events.{LogEvent, given, step, givens, Note}
-use Rattle.sat_text.specs.Lines.{ProofLine, add, delete}
+use Rattle.cnf_core.specs.Lines.{ProofLine, add, delete}
 
 -- the number of a literal: its variable's, negative where the literal is
 abbrev pub number_of : Literal → ℤ

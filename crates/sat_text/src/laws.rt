@@ -2,7 +2,7 @@
 
 ghost use Rattle.std.specs.Prelude.{◌≡◌, List, Ok};
 ghost use Rattle.std.specs.List.{flat_map, AllByRecursion};
-ghost use Rattle.sat_text.specs.Lines.{ProofLine};
+ghost use Rattle.cnf_core.specs.Lines.{ProofLine};
 ghost use Rattle.sat_text.specs.Proofs.{proof_of};
 ghost use Rattle.sat_text.specs.Writing.{line_text, IsReadable};
 

@@ -4,7 +4,7 @@ ghost use Rattle.std.specs.Prelude.{◌≡◌, ◌<◌, ◌↔◌, ℕ, length, 
 ghost use Rattle.cnf_core.specs.Literal.{HaveSameLiterals};
 ghost use Rattle.sat_text.specs.Words.{words};
 ghost use Rattle.sat_text.specs.Clauses.{clause_of};
-ghost use Rattle.sat_text.specs.Lines.{plain_line, plain_lines};
+ghost use Rattle.cnf_core.specs.Lines.{plain_line, plain_lines};
 ghost use Rattle.sat_text.specs.Answers.{Gives};
 ghost use Rattle.sat_text.specs.Proofs.{is_d, says_nothing, addition_at, deletion_at, behind_id, line_of, proof_of};
 

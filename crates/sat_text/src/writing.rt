@@ -5,7 +5,7 @@ ghost use Rattle.std.specs.Fmt.{signed_decimal};
 ghost use Rattle.std.specs.List.{flat_map, AllByRecursion};
 ghost use Rattle.cnf_core.specs.Literal.{Literal};
 ghost use Rattle.cnf_core.specs.Events.{plain_event, plain_note, is_given, HintsAreEarlier};
-ghost use Rattle.sat_text.specs.Lines.{add};
+ghost use Rattle.cnf_core.specs.Lines.{add};
 ghost use Rattle.sat_text.specs.Proofs.{proof_of};
 ghost use Rattle.sat_text.specs.Writing.{number_of, spaced, event_ids, step_lines, log_lines, line_text, log_text, IsReadable, note_text, clause_text, header_text, added_text, cnf_text, IsReadableNote, IsReadableFormula, SaysAgain};
 

@@ -2,7 +2,7 @@ use Rattle.std.proofs.Common.{refl, sym, ap, ◌∙◌, List, Bool, ◌||◌, No
 use Rattle.std.specs.List.{list_any}
 use Rattle.cnf_core.specs.Literal.{Literal}
 use Rattle.cnf_core.specs.declared.proof.Line.{Line}
-use Rattle.log_check.specs.Lines.{plain_line, plain_lines}
+use Rattle.cnf_core.specs.Lines.{plain_line, plain_lines}
 use Rattle.log_check.specs.Verdict.{is_empty_clause, adds_empty_clause, verdict_from, verdict_of}
 use Rattle.log_check.proofs.Checked.{checked_start, checked_next, checked_stops, checked_all}
 use Rattle.log_check.proofs.check_log.Goals as goal

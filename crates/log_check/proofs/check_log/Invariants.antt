@@ -1,5 +1,5 @@
 use Rattle.std.proofs.Common.{take, drop}
-use Rattle.log_check.specs.Lines.{plain_lines}
+use Rattle.cnf_core.specs.Lines.{plain_lines}
 use Rattle.log_check.proofs.Checked.{Checked}
 use Rattle.log_check.proofs.check_log.Given as goal
 

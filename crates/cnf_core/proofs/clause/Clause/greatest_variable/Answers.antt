@@ -8,5 +8,5 @@ pub returns-in-Some-clause-none_above : goal.returns-in-Some-clause-none_above
 returns-in-Some-clause-none_above c =
     let last = c.in-Some.last.now in
     subst (λ (most : ℕ). VariablesUpTo most c.args.self.now) (sym c.var.ensures.value)
-    (last_is_greatest c.args.self.now last (subst IsOrdered c.self.view_is c.self.invariant)
+    (last_is_greatest c.args.self.now last (subst IsOrdered c.self.view_is c.self.invariant.ordered)
     (subst (λ (ls : List Literal). last ≡ get_or ls (length ls - 1) last) (c.deref.ensures.value ∙ c.self.view_is) c.in-Some.ensures.item.1))

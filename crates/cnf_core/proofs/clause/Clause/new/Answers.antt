@@ -1,9 +1,17 @@
 -- What the sort and `dedup` leave is the clause.
 use Rattle.std.proofs.Common.{List, subst, sym, ◌∙◌}
-use Rattle.cnf_core.specs.Literal.{Literal, IsOrdered, HaveSameLiterals}
+use Rattle.std.specs.Prelude.{All}
+use Rattle.std.proofs.lemmas.List.{take_all}
+use Rattle.std.proofs.lemmas.List.Elements.{All-more}
+use Rattle.cnf_core.specs.Literal.{Literal, IsVariable, IsOrdered, HaveSameLiterals}
 use Rattle.cnf_core.proofs.Literals.{from_sort_and_dedup}
 use Rattle.cnf_core.proofs.clause.Clause.new.Goals as goal
 use Rattle.cnf_core.proofs.clause.Clause.new.Goals.{In_ok-lits}
+
+pub loop-lit-preserved : goal.loop-lit-preserved
+loop-lit-preserved c =
+    All-more (λ l. IsVariable l.var) c.deref-lit-items.result.now c.loop-lit.lit-index c.lit-item.result c.loop-lit-test.true c.loop-lit.invariant
+    (subst (λ (l : Literal). IsVariable l.var) c.lit-item.is (subst IsVariable c.var.ensures.value c.var.ensures.in_range))
 
 made : (c : In_ok-lits) → IsOrdered c.in_ok-lits.lits.items × HaveSameLiterals c.in_ok-lits.lits.items c.args.lits.items
 made c =
@@ -11,8 +19,15 @@ made c =
     (sym (c.in_ok-lits.ensures.items ∙ c.as_slice.ensures.value))
     (from_sort_and_dedup _ _ _ c.sort_unstable.ensures.permutation c.sort_unstable.ensures.sorted c.dedup.ensures.filtered)
 
+in_range : (c : In_ok-lits) → All (λ l. IsVariable l.var) c.in_ok-lits.lits.items
+in_range c =
+    subst (All (λ l. IsVariable l.var))
+    (take_all c.loop-lit.lit-index c.deref-lit-items.result.now c.loop-lit-test.false
+    ∙ c.deref-lit-items.ensures.value ∙ sym (c.in_ok-lits.ensures.items ∙ c.as_slice.ensures.value))
+    c.loop-lit.invariant
+
 pub invariant_of-result : goal.invariant_of-result
-invariant_of-result c = (made c).0
+invariant_of-result c = record { ordered = (made c).0; variables = in_range c }
 
 pub returns-clause-ordered : goal.returns-clause-ordered
 returns-clause-ordered c = (made (goal.at.returns-clause-ordered c).In_ok-lits).0
