@@ -6,7 +6,7 @@ use Rattle.std.proofs.lemmas.List.{drop_all}
 use Rattle.cnf_core.specs.Literal.{Literal, negation, is_among}
 use Rattle.cnf_core.specs.Reading.{is_false, not_false, trues_after, reading_succeeds}
 use Rattle.log_check.specs.Verdict.{Live, hinted_clause, before_later, hinted_clauses}
-use Rattle.log_check.specs.Kept.{Signs, KeepsTrues, remaining_of, remaining_with}
+use Rattle.log_check.specs.Kept.{KeepsTrues, remaining_of, remaining_with}
 use Rattle.log_check.specs.declared.reading.Remaining.{Remaining}
 use Rattle.log_check.specs.declared.reading.Remaining.TheVariants.{Nothing, One, More}
 use Rattle.log_check.proofs.Trues.{bool_cases, keeps_again}
@@ -103,7 +103,7 @@ read_more now clause clauses e =
     rw (all_false_cons now clause more.0 (more.1 ∷ more.2) more.3) (ap (λ (xs : List Literal). reading_succeeds (trues_after now xs) clauses) more.3)
 
 -- the literal that is left becomes true
-pub read_on_one : (signs : Signs) (now clause : List Literal) (l : Literal) (clauses : List (List Literal)) (done whole : Bool) → One l ≡ remaining_of (not_false now clause)
+pub read_on_one : (signs : List Literal) (now clause : List Literal) (l : Literal) (clauses : List (List Literal)) (done whole : Bool) → One l ≡ remaining_of (not_false now clause)
     → (done ≡ not (is_among now (negation l))) × (IsTrue done → KeepsTrues signs (l ∷ now)) → reading_succeeds now (clause ∷ clauses) ≡ whole
     → (x : List Literal) × KeepsTrues signs x × (reading_succeeds x clauses ≡ whole)
 read_on_one signs now clause l clauses done whole e made so_far =
@@ -127,26 +127,26 @@ next_hint live hints k d found lt e =
     ap (hinted_clauses live) (next_item hints k d lt) ∙ ap (λ (o : Option (List Literal)). before_later o (hinted_clauses live (drop (k + 1) hints))) (sym e)
 
 -- what the reading keeps: it goes on from what is true now as the whole reading went on from the start
-pub record GoesOn (signs : Signs) (live : List Live) (hints : List ℤ) (whole : Bool) : Type 0 where
+pub record GoesOn (signs : List Literal) (live : List Live) (hints : List ℤ) (whole : Bool) : Type 0 where
   pub now : List Literal
   pub kept : KeepsTrues signs now
   pub same : reading_succeeds now (hinted_clauses live hints) ≡ whole
 
-pub stops : (signs : Signs) (live : List Live) (hints : List ℤ) (k : ℕ) (d : ℤ) (found : Option (List Literal)) (whole : Bool) → GoesOn signs live (drop k hints) whole → k < length hints
+pub stops : (signs : List Literal) (live : List Live) (hints : List ℤ) (k : ℕ) (d : ℤ) (found : Option (List Literal)) (whole : Bool) → GoesOn signs live (drop k hints) whole → k < length hints
     → found ≡ hinted_clause live (get_or hints k d) → found ≡ None → false ≡ whole
 stops signs live hints k d found whole g lt e none =
     sym (ap (reading_succeeds g.now) (next_hint live hints k d found lt e ∙ ap (λ (o : Option (List Literal)). before_later o (hinted_clauses live (drop (k + 1) hints))) none)) ∙ g.same
 
-at_clause : (signs : Signs) (live : List Live) (hints : List ℤ) (k : ℕ) (d : ℤ) (clause : List Literal) (whole : Bool) (g : GoesOn signs live (drop k hints) whole) → k < length hints
+at_clause : (signs : List Literal) (live : List Live) (hints : List ℤ) (k : ℕ) (d : ℤ) (clause : List Literal) (whole : Bool) (g : GoesOn signs live (drop k hints) whole) → k < length hints
     → Some clause ≡ hinted_clause live (get_or hints k d) → reading_succeeds g.now (clause ∷ hinted_clauses live (drop (k + 1) hints)) ≡ whole
 at_clause signs live hints k d clause whole g lt e = sym (ap (reading_succeeds g.now) (next_hint live hints k d (Some clause) lt e)) ∙ g.same
 
-pub shows : (signs : Signs) (live : List Live) (hints : List ℤ) (k : ℕ) (d : ℤ) (clause : List Literal) (whole : Bool) → GoesOn signs live (drop k hints) whole → k < length hints
+pub shows : (signs : List Literal) (live : List Live) (hints : List ℤ) (k : ℕ) (d : ℤ) (clause : List Literal) (whole : Bool) → GoesOn signs live (drop k hints) whole → k < length hints
     → Some clause ≡ hinted_clause live (get_or hints k d) → ((trues : List Literal) → KeepsTrues signs trues → Nothing ≡ remaining_of (not_false trues clause)) → true ≡ whole
 shows signs live hints k d clause whole g lt e none =
     sym (read_false g.now clause (hinted_clauses live (drop (k + 1) hints)) (none g.now g.kept)) ∙ at_clause signs live hints k d clause whole g lt e
 
-pub passes : (signs : Signs) (live : List Live) (hints : List ℤ) (k : ℕ) (d : ℤ) (clause : List Literal) (whole : Bool) → GoesOn signs live (drop k hints) whole → k < length hints
+pub passes : (signs : List Literal) (live : List Live) (hints : List ℤ) (k : ℕ) (d : ℤ) (clause : List Literal) (whole : Bool) → GoesOn signs live (drop k hints) whole → k < length hints
     → Some clause ≡ hinted_clause live (get_or hints k d) → ((trues : List Literal) → KeepsTrues signs trues → More ≡ remaining_of (not_false trues clause)) → GoesOn signs live (drop (k + 1) hints) whole
 passes signs live hints k d clause whole g lt e more = record {
   now = g.now;
@@ -154,13 +154,13 @@ passes signs live hints k d clause whole g lt e more = record {
   same = sym (read_more g.now clause (hinted_clauses live (drop (k + 1) hints)) (more g.now g.kept)) ∙ at_clause signs live hints k d clause whole g lt e;
 }
 
-pub gives : (old new : Signs) (live : List Live) (hints : List ℤ) (k : ℕ) (d : ℤ) (clause : List Literal) (l : Literal) (done whole : Bool) → GoesOn old live (drop k hints) whole → k < length hints
+pub gives : (old new : List Literal) (live : List Live) (hints : List ℤ) (k : ℕ) (d : ℤ) (clause : List Literal) (l : Literal) (done whole : Bool) → GoesOn old live (drop k hints) whole → k < length hints
     → Some clause ≡ hinted_clause live (get_or hints k d) → ((trues : List Literal) → KeepsTrues old trues → One l ≡ remaining_of (not_false trues clause))
     → ((trues : List Literal) → KeepsTrues old trues → (done ≡ not (is_among trues (negation l))) × (IsTrue done → KeepsTrues new (l ∷ trues))) → GoesOn new live (drop (k + 1) hints) whole
 gives old new live hints k d clause l done whole g lt e one made =
     let r = read_on_one new g.now clause l (hinted_clauses live (drop (k + 1) hints)) done whole (one g.now g.kept) (made g.now g.kept) (at_clause old live hints k d clause whole g lt e) in
     record { now = r.0; kept = r.1; same = r.2 }
 
-pub ends : (signs : Signs) (live : List Live) (hints : List ℤ) (k : ℕ) (whole : Bool) → GoesOn signs live (drop k hints) whole → length hints ≤ k → false ≡ whole
+pub ends : (signs : List Literal) (live : List Live) (hints : List ℤ) (k : ℕ) (whole : Bool) → GoesOn signs live (drop k hints) whole → length hints ≤ k → false ≡ whole
 ends signs live hints k whole g le =
     sym (ap (λ (hs : List ℤ). reading_succeeds g.now (hinted_clauses live hs)) (drop_all k hints le)) ∙ g.same

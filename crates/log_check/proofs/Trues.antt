@@ -1,15 +1,14 @@
 -- Which literals are true, as the kept signs and as a list.
-use Rattle.std.proofs.Common.{◌≡◌, ℕ, ◌+◌, ◌<◌, Bool, true, false, not, ◌&&◌, ◌||◌, eqb, List, [], ◌∷◌, ◌++◌, length, map, take, drop, get_or, Option, Some, None, refl, sym, ap, subst, ◌∙◌, arith, inl, inr, ◌⊎◌}
+use Rattle.std.proofs.Common.{◌≡◌, ℕ, ◌+◌, ◌<◌, Bool, true, false, cond, not, IsTrue, ◌&&◌, ◌||◌, eqb, List, [], ◌∷◌, ◌++◌, length, map, take, drop, get_or, Option, Some, None, refl, sym, ap, subst, ◌∙◌, arith, inl, inr, ◌⊎◌}
 use Rattle.std.proofs.lemmas.Bool.{eqb-true}
 use Rattle.std.proofs.lemmas.Bool.Decides.{nat_tests}
 use Rattle.std.specs.List.{list_any}
-use Rattle.std.specs.HashMap.{get}
 use Rattle.std.proofs.lemmas.List.{take-append-drop, take_more}
 use Rattle.std.proofs.Math.Seq.{drop-cons}
 use Rattle.std.proofs.lemmas.List.Folds.{list_any-append}
 use Rattle.cnf_core.specs.Literal.{Literal, negation, same_sign, same_literal, is_among}
 use Rattle.cnf_core.specs.Reading.{is_false, has_contradiction}
-use Rattle.log_check.specs.Kept.{Signs, is_sign, KeepsTrues}
+use Rattle.log_check.specs.Kept.{is_sign, KeepsTrues, MakesTrue}
 
 pub bool_cases : (b : Bool) → (b ≡ true) ⊎ (b ≡ false)
 bool_cases true = inl refl
@@ -80,28 +79,65 @@ among_head x xs = or_left (same_literal x x) (is_among xs x) (same_same x)
 
 -- ---- kept signs
 
-pub keeps_push : (signs : Signs) (xs : List Literal) (l : Literal) → KeepsTrues signs (l ∷ xs) → KeepsTrues signs (xs ++ l ∷ [])
+pub keeps_push : (signs : List Literal) (xs : List Literal) (l : Literal) → KeepsTrues signs (l ∷ xs) → KeepsTrues signs (xs ++ l ∷ [])
 keeps_push signs xs l kept v positive = kept v positive ∙ sym (among_push xs l (record { var = v; positive = positive }))
+
+-- what a literal that is made true is to any list of the true ones
+pub made_true : (old new trues : List Literal) (l : Literal) (done : Bool) → MakesTrue old new l done → KeepsTrues old trues
+    → (done ≡ not (is_among trues (negation l))) × (IsTrue done → KeepsTrues new (l ∷ trues))
+made_true old new trues l done made kept = (
+  made.unless_false ∙ ap not (kept l.var (not l.positive)),
+  λ is v positive. made.kept is v positive ∙ ap (λ b. same_literal (record { var = v; positive = positive }) l || b) (kept v positive),
+)
 
 or_same : (a b : Bool) → (a ≡ true → b ≡ true) → (a || b) ≡ b
 or_same true b h = sym (h refl)
 or_same false b h = refl
 
 -- a literal that is true already brings nothing in
-pub keeps_again : (signs : Signs) (xs : List Literal) (l : Literal) → is_among xs l ≡ true → KeepsTrues signs (l ∷ xs) → KeepsTrues signs xs
+pub keeps_again : (signs : List Literal) (xs : List Literal) (l : Literal) → is_among xs l ≡ true → KeepsTrues signs (l ∷ xs) → KeepsTrues signs xs
 keeps_again signs xs l there kept v positive =
     let q : Literal = record { var = v; positive = positive } in
     kept v positive ∙ or_same (same_literal q l) (is_among xs q) (λ e. subst (λ (x : Literal). is_among xs x ≡ true) (sym (same_is q l e)) there)
 
-signs_differ : (o : Option Bool) (b : Bool) → is_sign o b ≡ true → is_sign o (not b) ≡ false
+pub signs_differ : (o : Option Bool) (b : Bool) → is_sign o b ≡ true → is_sign o (not b) ≡ false
 signs_differ None b e = absurd cc
 signs_differ (Some true) true e = refl
 signs_differ (Some false) true e = absurd cc
 signs_differ (Some true) false e = absurd cc
 signs_differ (Some false) false e = refl
 
-keeps_one : (signs : Signs) (trues : List Literal) → KeepsTrues signs trues → (l : Literal) → is_among trues l ≡ true → is_among trues (negation l) ≡ false
-keeps_one signs trues kept l e = sym (kept l.var (not l.positive)) ∙ signs_differ (get eqb signs l.var) l.positive (kept l.var l.positive ∙ e)
+-- no literal is kept together with its negation
+abbrev pub IsConsistent : List Literal → Type 0
+IsConsistent kept = (l : Literal) → is_among kept l ≡ true → is_among kept (negation l) ≡ false
+
+and_false : (a : Bool) → (a && false) ≡ false
+and_false true = refl
+and_false false = refl
+
+differs : (v : ℕ) (positive : Bool) → same_literal (record { var = v; positive = positive }) (record { var = v; positive = not positive }) ≡ false
+differs v true = and_false (eqb v v)
+differs v false = and_false (eqb v v)
+
+-- a literal whose negation isn't true leaves no literal with its negation
+pub consistent_more : (old new : List Literal) (l : Literal) → IsConsistent old → is_among old (negation l) ≡ false → KeepsTrues new (l ∷ old) → IsConsistent new
+consistent_more old new l consistent open_l kept q e =
+    let here : is_among (l ∷ old) q ≡ true = sym (kept q.var q.positive) ∙ e in
+    kept q.var (not q.positive) ∙ elim (bool_cases (same_literal (negation q) l)) [
+      | inl s ↦
+          let is : negation q ≡ l = same_is (negation q) l s in
+          let other : same_literal q l ≡ false = subst (λ (m : Literal). same_literal q m ≡ false) is (differs q.var q.positive) in
+          let back : negation l ≡ q = ap negation (sym is) ∙ ap (λ b. record { var = q.var; positive = b }) (not_not q.positive) in
+          let gone : is_among old q ≡ false = subst (λ (m : Literal). is_among old m ≡ false) back open_l in
+          absurd (let none : true ≡ false = sym here ∙ rw (other, gone) refl in cc)
+      | inr s ↦ rw s (elim (bool_cases (same_literal q l)) [
+        | inl t ↦ subst (λ (m : Literal). is_among old (negation m) ≡ false) (sym (same_is q l t)) open_l
+        | inr t ↦ consistent q (rw t at here)
+      ])
+    ]
+
+keeps_one : (signs : List Literal) (trues : List Literal) → IsConsistent signs → KeepsTrues signs trues → (l : Literal) → is_among trues l ≡ true → is_among trues (negation l) ≡ false
+keeps_one signs trues consistent kept l e = sym (kept l.var (not l.positive)) ∙ consistent l (kept l.var l.positive ∙ e)
 
 none_false : (trues ys : List Literal) → ((l : Literal) → is_among ys l ≡ true → is_among trues (negation l) ≡ false) → list_any (is_false trues) ys ≡ false
 none_false trues [] h = refl
@@ -110,8 +146,8 @@ none_false trues (y ∷ ys) h =
     let others = none_false trues ys (λ l e. h l (or_right (same_literal l y) (is_among ys l) e)) in
     rw first others
 
-pub keeps_consistent : (signs : Signs) (trues : List Literal) → KeepsTrues signs trues → has_contradiction trues ≡ false
-keeps_consistent signs trues kept = none_false trues trues (keeps_one signs trues kept)
+pub keeps_consistent : (signs : List Literal) (trues : List Literal) → IsConsistent signs → KeepsTrues signs trues → has_contradiction trues ≡ false
+keeps_consistent signs trues consistent kept = none_false trues trues (keeps_one signs trues consistent kept)
 
 some_false : (trues ys : List Literal) (l : Literal) → is_among ys l ≡ true → is_among trues (negation l) ≡ true → list_any (is_false trues) ys ≡ true
 some_false trues [] l there e = absurd cc
@@ -148,9 +184,30 @@ pub is_contradicted : (trues : List Literal) (l : Literal) (done : Bool) → don
 is_contradicted trues l done e f = sym (not_not (is_among trues (negation l))) ∙ ap not (sym e ∙ f)
 
 -- one more literal of the clause
-pub keeps_more : (signs : Signs) (clause : List Literal) (k : ℕ) (x n : Literal) → k < length clause → x ≡ get_or clause k x → n ≡ negation x → KeepsTrues signs (n ∷ map negation (take k clause)) → KeepsTrues signs (map negation (take (k + 1) clause))
+pub keeps_more : (signs : List Literal) (clause : List Literal) (k : ℕ) (x n : Literal) → k < length clause → x ≡ get_or clause k x → n ≡ negation x → KeepsTrues signs (n ∷ map negation (take k clause)) → KeepsTrues signs (map negation (take (k + 1) clause))
 keeps_more signs clause k x n lt is n-is made =
     let kept : KeepsTrues signs (negation x ∷ map negation (take k clause)) = subst (λ (m : Literal). KeepsTrues signs (m ∷ map negation (take k clause))) n-is made in
     let more : take (k + 1) clause ≡ take k clause ++ x ∷ [] = grind (arith, take_more) in
     let all : map negation (take (k + 1) clause) ≡ map negation (take k clause) ++ negation x ∷ [] = ap (map negation) more ∙ map_append (take k clause) (x ∷ []) in
     subst (KeepsTrues signs) (sym all) (keeps_push signs (map negation (take k clause)) (negation x) kept)
+
+-- where a literal was made true, its negation wasn't
+pub made_open : (old : List Literal) (l : Literal) (done : Bool) → done ≡ not (is_among old (negation l)) → done ≡ true → is_among old (negation l) ≡ false
+made_open old l done made e = sym (not_not (is_among old (negation l))) ∙ ap not (sym made ∙ e)
+
+-- where the last literal is taken out and its variable has no sign any more, a sign that is kept is that of a literal that is left
+pub left_signs : (old new : ℕ → Option Bool) (before left : List Literal) (l : Literal) → before ≡ left ++ l ∷ []
+    → ((v : ℕ) (positive : Bool) → is_sign (old v) positive ≡ true → is_among before (record { var = v; positive = positive }) ≡ true)
+    → ((v : ℕ) → new v ≡ cond (eqb l.var v) None (old v))
+    → (v : ℕ) (positive : Bool) → is_sign (new v) positive ≡ true → is_among left (record { var = v; positive = positive }) ≡ true
+left_signs old new before left l cut among next v positive e =
+    elim (bool_cases (eqb l.var v)) [
+      | inl s ↦ absurd (let none : new v ≡ None = next v ∙ rw s refl in let no : is_sign None positive ≡ true = subst (λ (o : Option Bool). is_sign o positive ≡ true) none e in cc)
+      | inr s ↦
+          let q : Literal = record { var = v; positive = positive } in
+          let same : new v ≡ old v = next v ∙ rw s refl in
+          let there : is_among (l ∷ left) q ≡ true = sym (among_push left l q) ∙ subst (λ (xs : List Literal). is_among xs q ≡ true) cut (among v positive (subst (λ (o : Option Bool). is_sign o positive ≡ true) same e)) in
+          let turned : eqb v l.var ≡ false = grind (arith, nat_tests) in
+          let other : same_literal q l ≡ false = rw turned refl in
+          rw other at there
+    ]

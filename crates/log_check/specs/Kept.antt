@@ -1,19 +1,15 @@
 -- What the check keeps as it goes, against the lists that the verdict speaks of.
-use Rattle.std.specs.Prelude.{◌≡◌, ℕ, Bool, true, false, ◌&&◌, nat_eq, nat_lt, List, [], ◌∷◌, Option, Some, None, option_copied}
+use Rattle.std.specs.Prelude.{◌≡◌, ℕ, Bool, true, false, not, IsTrue, ◌&&◌, nat_eq, nat_lt, List, [], ◌∷◌, Option, Some, None, option_copied}
 use Rattle.std.specs.Borrow.{Bor}
 use Rattle.std.specs.HashMap.{get, HashMap}
 use Rattle.std.specs.declared.hash.FoldHasher.{FoldHasher}
 use Rattle.std.specs.declared.hash.BuildHasherDefault.{BuildHasherDefault}
-use Rattle.cnf_core.specs.Literal.{Literal, same_sign, is_among}
+use Rattle.cnf_core.specs.Literal.{Literal, negation, same_sign, is_among}
 use Rattle.cnf_core.specs.Reading.{is_shown_by}
 use Rattle.cnf_core.specs.Lines.{ProofLine, add, delete}
 use Rattle.log_check.specs.Verdict.{Live, live_clause, hinted_clauses}
 use Rattle.log_check.specs.declared.reading.Remaining.{Remaining}
 use Rattle.log_check.specs.declared.reading.Remaining.TheVariants.{Nothing, One, More}
-
--- the sign that is kept for each variable with a value
-abbrev pub Signs : Type 0
-Signs = HashMap ℕ Bool (BuildHasherDefault FoldHasher)
 
 -- the clause that is kept for each live id
 abbrev pub Clauses : Type 0
@@ -24,9 +20,16 @@ abbrev pub is_sign : Option Bool → Bool → Bool
 is_sign None positive = false
 is_sign (Some sign) positive = same_sign positive sign
 
--- the signs that are kept are those of the true literals
-abbrev pub KeepsTrues : Signs → List Literal → Type 0
-KeepsTrues signs trues = (v : ℕ) (positive : Bool) → is_sign (get nat_eq signs v) positive ≡ is_among trues (record { var = v; positive = positive })
+-- the literals that are kept are the true ones, in whatever order
+abbrev pub KeepsTrues : List Literal → List Literal → Type 0
+KeepsTrues kept trues =
+    (v : ℕ) (positive : Bool)
+    → is_among kept (record { var = v; positive = positive }) ≡ is_among trues (record { var = v; positive = positive })
+
+-- A literal is made true where its negation isn't. Then it is kept with those that were.
+pub record MakesTrue (old new : List Literal) (l : Literal) (done : Bool) : Type 0 where
+  pub unless_false : done ≡ not (is_among old (negation l))
+  pub kept : IsTrue done → KeepsTrues new (l ∷ old)
 
 -- the clauses that are kept are the live ones
 abbrev pub KeepsLive : Clauses → List Live → Type 0

@@ -1,2 +1,4 @@
 pub mod Verdict
 pub mod Kept
+pub mod Table
+pub mod SignsInside

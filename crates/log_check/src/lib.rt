@@ -9,10 +9,12 @@ ghost use Rattle.log_check.specs.Verdict.{verdict_of, verdict_from, is_empty_cla
 mod laws;
 mod lines;
 mod reading;
+mod signs;
 
 use cnf_core::{Clause, Formula, Line, Proof};
 use ep_base::Memory;
 pub use laws::verified_formulas_have_no_solution;
+use signs::Signs;
 use std::alloc::Global;
 
 /// What the check of a proof found.
@@ -72,9 +74,10 @@ pub fn check_log(alloc: Global, f: &Formula, p: &Proof) -> Result<Verdict, Memor
 {
     let clauses = f.clauses();
     let mut live = lines::numbered(alloc, clauses)?;
+    let mut signs = Signs::new(alloc, f)?;
     let mut newest = clauses.len() as u64;
     for (index, line) in p.lines.iter().enumerate() {
-        if !lines::accepts(alloc, &mut live, &mut newest, line)? {
+        if !lines::accepts(&mut live, &mut signs, &mut newest, line)? {
             return Ok(Verdict::BadStep(index as u64 + 1));
         }
     }

@@ -6,6 +6,7 @@ ghost use Rattle.log_check.specs.Verdict.{Live, numbered_from, live_after};
 ghost use Rattle.log_check.specs.Kept.{KeepsLive, is_accepted, newest_after};
 
 use crate::reading::is_shown;
+use crate::signs::Signs;
 use cnf_core::{Clause, Line};
 use ep_base::Memory;
 use std::alloc::Global;
@@ -32,8 +33,8 @@ fn delete(live: &mut HashMap<u64, &Clause>, ids: &[u64])
 
 /// Whether a line is valid, and what is live behind it.
 pub(crate) fn accepts<'a>(
-    alloc: Global,
     live: &mut HashMap<u64, &'a Clause>,
+    signs: &mut Signs,
     newest: &mut u64,
     line: &'a Line,
 ) -> Result<bool, Memory>
@@ -43,7 +44,7 @@ pub(crate) fn accepts<'a>(
 {
     match line {
         Line::Add { id, clause, hints } => {
-            if *id <= *newest || !is_shown(alloc, live, clause, hints)? {
+            if *id <= *newest || !is_shown(live, signs, clause, hints)? {
                 return Ok(false);
             }
             live.insert(*id, clause)?;

@@ -5,6 +5,7 @@ use Rattle.log_check.specs.Kept.{remaining_of}
 use Rattle.cnf_core.specs.Literal.{Literal}
 use Rattle.log_check.specs.declared.reading.Remaining.TheVariants.{Nothing}
 use Rattle.log_check.proofs.Hints.{stops, shows, passes, gives, ends}
+use Rattle.log_check.proofs.Trues.{made_true}
 use Rattle.log_check.proofs.reading.reads.Goals as goal
 use Rattle.log_check.proofs.reading.reads.Goals.{in-One+in_ok-_is_true-in-One, in-More}
 
@@ -22,7 +23,7 @@ loop-hint-preserved c = λ trues numbered a b.
     let hinted = ap (λ (ls : List Literal). Some ls) c.lits.ensures.value ∙ c.in-Some.ensures numbered b in
     elim c.match-what_remains.branch [
       | in-One+in_ok-_is_true-in-One w ↦
-          rw w.signs-is (gives c.loop-hint.signs w.set_true.new.signs numbered c.args.hints.now c.loop-hint.hint-index (pos 0) c.lits.result.now _ _ _ (c.loop-hint.invariant trues numbered a b) c.loop-hint-test.true hinted w.in-One.ensures w.in_ok-_is_true-in-One.ensures)
+          rw w.signs-is (gives c.loop-hint.signs w.set_true.new.self numbered c.args.hints.now c.loop-hint.hint-index (pos 0) c.lits.result.now _ _ _ (c.loop-hint.invariant trues numbered a b) c.loop-hint-test.true hinted w.in-One.ensures (λ t k. made_true c.loop-hint.signs w.set_true.new.self t _ _ w.in_ok-_is_true-in-One.ensures k))
       | in-More w ↦
           rw w.signs-is (passes c.loop-hint.signs numbered c.args.hints.now c.loop-hint.hint-index (pos 0) c.lits.result.now _ (c.loop-hint.invariant trues numbered a b) c.loop-hint-test.true hinted w.in-More.ensures)
     ]
