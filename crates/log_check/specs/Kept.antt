@@ -24,7 +24,8 @@ is_sign (Some sign) positive = same_sign positive sign
 abbrev pub KeepsTrues : List Literal → List Literal → Type 0
 KeepsTrues kept trues =
     (v : ℕ) (positive : Bool)
-    → is_among kept (record { var = v; positive = positive }) ≡ is_among trues (record { var = v; positive = positive })
+    → is_among kept (record { var = v; positive = positive })
+    ≡ is_among trues (record { var = v; positive = positive })
 
 -- A literal is made true where its negation isn't. Then it is kept with those that were.
 pub record MakesTrue (old new : List Literal) (l : Literal) (done : Bool) : Type 0 where
@@ -43,7 +44,8 @@ remaining_of (l ∷ m ∷ others) = More
 
 -- whether a line is valid where the greatest id so far is newest
 abbrev pub is_accepted : ℕ → List Live → ProofLine → Bool
-is_accepted newest live (add id clause hints) = nat_lt newest id && is_shown_by clause (hinted_clauses live hints)
+is_accepted newest live (add id clause hints) =
+    nat_lt newest id && is_shown_by clause (hinted_clauses live hints)
 is_accepted newest live (delete ids) = true
 
 -- the greatest id behind a valid line

@@ -7,4 +7,6 @@ use Rattle.log_check.specs.Table.{sign_of}
 
 -- the signs in the table are those of the literals in the list
 abbrev pub HasSigns : Inside → Type 0
-HasSigns s = (v : ℕ) (positive : Bool) → is_sign (sign_of s.table v) positive ≡ is_among s.trues.items (record { var = v; positive = positive })
+HasSigns s =
+    (v : ℕ) (positive : Bool)
+    → is_sign (sign_of s.table v) positive ≡ is_among s.trues.items (record { var = v; positive = positive })

@@ -5,4 +5,5 @@ use Rattle.log_check.specs.declared.signs.Table.{Table}
 
 -- the sign that is kept for a variable: small ones have a place of their own
 abbrev pub sign_of : Table → ℕ → Option Bool
-sign_of t v = if nat_lt v (length t.small.items) then slice_index_or t.small.items v None else get nat_eq t.large v
+sign_of t v =
+    if nat_lt v (length t.small.items) then slice_index_or t.small.items v None else get nat_eq t.large v

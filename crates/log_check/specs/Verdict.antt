@@ -15,7 +15,8 @@ pub record Live : Type 0 where
 -- the clauses with ids in order, the first having the id n
 abbrev pub numbered_from : ℕ → List (List Literal) → List Live
 numbered_from n [] = []
-numbered_from n (clause ∷ clauses) = record { id = n; clause = clause } ∷ numbered_from (n + 1) clauses
+numbered_from n (clause ∷ clauses) =
+    record { id = n; clause = clause } ∷ numbered_from (n + 1) clauses
 
 -- whether the number is one of these
 abbrev pub is_one_of : List ℕ → ℕ → Bool
@@ -45,10 +46,12 @@ abbrev pub before_later : Option (List Literal) → List (List Literal) → List
 before_later None later = []
 before_later (Some clause) later = clause ∷ later
 
--- The clauses that hints name, in order, up to the first hint that names no live clause: the reading goes no further.
+-- The clauses that hints name, in order, up to the first hint that names no live clause: the reading
+-- goes no further.
 abbrev pub hinted_clauses : List Live → List ℤ → List (List Literal)
 hinted_clauses live [] = []
-hinted_clauses live (hint ∷ hints) = before_later (hinted_clause live hint) (hinted_clauses live hints)
+hinted_clauses live (hint ∷ hints) =
+    before_later (hinted_clause live hint) (hinted_clauses live hints)
 
 -- the ids under which lines add
 abbrev pub added_ids : List ProofLine → List ℕ
@@ -56,18 +59,21 @@ added_ids [] = []
 added_ids (add id clause hints ∷ lines) = id ∷ added_ids lines
 added_ids (delete ids ∷ lines) = added_ids lines
 
--- Whether a line is valid behind earlier ones. One that adds is, where its id is greater than the number of the formula's
--- clauses and than each earlier added id, and the live clauses that its hints name show its clause. One that deletes always is.
+-- Whether a line is valid behind earlier ones. One that adds is, where its id is greater than the
+-- number of the formula's clauses and than each earlier added id, and the live clauses that its hints
+-- name show its clause. One that deletes always is.
 abbrev pub is_valid_line : List (List Literal) → List ProofLine → ProofLine → Bool
 is_valid_line formula earlier (add id clause hints) =
-    list_all (λ n. nat_lt n id) (length formula ∷ added_ids earlier) && is_shown_by clause (hinted_clauses (live_behind formula earlier) hints)
+    list_all (λ n. nat_lt n id) (length formula ∷ added_ids earlier)
+    && is_shown_by clause (hinted_clauses (live_behind formula earlier) hints)
 is_valid_line formula earlier (delete ids) = true
 
 -- the number of the first of the later lines that isn't valid, where lines are counted from 1
 abbrev pub first_bad : List (List Literal) → List ProofLine → List ProofLine → Option ℕ
 first_bad formula earlier [] = None
 first_bad formula earlier (line ∷ later) =
-    if is_valid_line formula earlier line then first_bad formula (earlier ++ line ∷ []) later else Some (length earlier + 1)
+    if is_valid_line formula earlier line then first_bad formula (earlier ++ line ∷ []) later
+    else Some (length earlier + 1)
 
 -- whether a clause has no literal
 abbrev pub is_empty_clause : List Literal → Bool
@@ -81,7 +87,8 @@ adds_empty_clause (delete ids) = false
 
 -- whether the formula, or a line that adds, has the empty clause
 abbrev pub has_empty_clause : List (List Literal) → List ProofLine → Bool
-has_empty_clause formula lines = list_any is_empty_clause formula || list_any adds_empty_clause lines
+has_empty_clause formula lines =
+    list_any is_empty_clause formula || list_any adds_empty_clause lines
 
 -- the verdict, where a line isn't valid or none is, and where there is an empty clause or none
 abbrev pub verdict_from : Option ℕ → Bool → Verdict
@@ -91,4 +98,5 @@ verdict_from None false = NoEmptyClause
 
 -- A bad step is named first. Otherwise the proof is verified where there is an empty clause.
 abbrev pub verdict_of : List (List Literal) → List ProofLine → Verdict
-verdict_of formula lines = verdict_from (first_bad formula [] lines) (has_empty_clause formula lines)
+verdict_of formula lines =
+    verdict_from (first_bad formula [] lines) (has_empty_clause formula lines)

@@ -1,4 +1,5 @@
-//! Checks a proof against a formula: whether each clause that it adds is shown by the live clauses that its hints name.
+//! Checks a proof against a formula: whether each clause that it adds is shown by the live clauses
+//! that its hints name.
 #![tactic(auto)]
 
 ghost use Rattle.std.specs.Prelude.{◌≡◌, ◌||◌, None, IfOk};
@@ -57,7 +58,9 @@ fn some_adds_empty(lines: &[Line]) -> bool
 
 /// The verdict where each line is valid.
 fn without_bad_step(clauses: &[Clause], lines: &[Line]) -> Verdict
-    ensures { result ≡ verdict_from None (list_any is_empty_clause clauses.now || list_any (λ line. adds_empty_clause (plain_line line)) lines.now) }
+    ensures { result ≡ verdict_from None
+        (list_any is_empty_clause clauses.now
+        || list_any (λ line. adds_empty_clause (plain_line line)) lines.now) }
 {
     if some_is_empty(clauses) || some_adds_empty(lines) {
         Verdict::Verified
@@ -66,11 +69,13 @@ fn without_bad_step(clauses: &[Clause], lines: &[Line]) -> Verdict
     }
 }
 
-/// Checks the lines of a proof in order, over the clauses of the formula and those that earlier lines added.
+/// Checks the lines of a proof in order, over the clauses of the formula and those that earlier
+/// lines added.
 ///
 /// A line costs the literals of its clause and of the clauses that its hints name.
 pub fn check_log(alloc: Global, f: &Formula, p: &Proof) -> Result<Verdict, Memory>
-    ensures { IfOk result (λ verdict. verdict ≡ verdict_of f.now.clauses (plain_lines p.now.lines.items)) }
+    ensures { IfOk result
+        (λ verdict. verdict ≡ verdict_of f.now.clauses (plain_lines p.now.lines.items)) }
 {
     let clauses = f.clauses();
     let mut live = lines::numbered(alloc, clauses)?;

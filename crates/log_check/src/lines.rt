@@ -24,7 +24,8 @@ pub(crate) fn numbered(alloc: Global, clauses: &[Clause]) -> Result<HashMap<u64,
 }
 
 fn delete(live: &mut HashMap<u64, &Clause>, ids: &[u64])
-    ensures { (numbered : List Live) → KeepsLive live.old numbered → KeepsLive live.new (live_after numbered (delete ids.now)) }
+    ensures { (numbered : List Live) → KeepsLive live.old numbered →
+        KeepsLive live.new (live_after numbered (delete ids.now)) }
 {
     for id in ids {
         live.remove(id);
@@ -40,7 +41,8 @@ pub(crate) fn accepts<'a>(
 ) -> Result<bool, Memory>
     ensures { IfOk result (λ valid. (numbered : List Live) → KeepsLive live.old numbered →
         (valid ≡ is_accepted newest.old numbered (plain_line line.now))
-        × (IsTrue valid → KeepsLive live.new (live_after numbered (plain_line line.now)) × (newest.new ≡ newest_after newest.old (plain_line line.now)))) }
+        × (IsTrue valid → KeepsLive live.new (live_after numbered (plain_line line.now))
+        × (newest.new ≡ newest_after newest.old (plain_line line.now)))) }
 {
     match line {
         Line::Add { id, clause, hints } => {

@@ -38,7 +38,8 @@ fn what_remains(signs: &Signs, clause: &[Lit]) -> Remaining
     found
 }
 
-/// Makes the negations of a clause's literals true and no others, or answers that two of them contradict each other.
+/// Makes the negations of a clause's literals true and no others, or answers that two of them
+/// contradict each other.
 fn set_negations(signs: &mut Signs, clause: &[Lit]) -> Result<bool, Memory>
     ensures { IfOk result (λ contradict. (contradict ≡ has_contradiction (map negation clause.now))
         × (contradict ≡ false → KeepsTrues signs.new (map negation clause.now))) }
@@ -53,7 +54,8 @@ fn set_negations(signs: &mut Signs, clause: &[Lit]) -> Result<bool, Memory>
 }
 
 fn hinted<'a>(live: &HashMap<u64, &'a Clause>, hint: &i64) -> Option<&'a Clause>
-    ensures { (numbered : List Live) → KeepsLive live.now numbered → option_copied result ≡ hinted_clause numbered hint.now }
+    ensures { (numbered : List Live) → KeepsLive live.now numbered →
+        option_copied result ≡ hinted_clause numbered hint.now }
 {
     let id = u64::try_from(*hint).ok()?;
     live.get(&id).copied()
@@ -79,7 +81,8 @@ fn reads(live: &HashMap<u64, &Clause>, signs: &mut Signs, hints: &[i64]) -> Resu
     Ok(false)
 }
 
-/// Whether the live clauses that the hints name show the clause. What was true before doesn't count.
+/// Whether the live clauses that the hints name show the clause. What was true before doesn't
+/// count.
 pub(crate) fn is_shown(
     live: &HashMap<u64, &Clause>,
     signs: &mut Signs,

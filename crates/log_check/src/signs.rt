@@ -41,7 +41,8 @@ impl Table {
 
     fn put(&mut self, var: u64, sign: bool) -> Result<(), Memory>
         ensures ok { OnOk result
-            ((v : ℕ) → sign_of self.new v ≡ (if nat_eq var v then Some sign else sign_of self.old v)) }
+            ((v : ℕ) → sign_of self.new v
+            ≡ (if nat_eq var v then Some sign else sign_of self.old v)) }
         ensures err { OnErr result ((v : ℕ) → sign_of self.new v ≡ sign_of self.old v) }
     {
         let place = var as usize;
@@ -54,7 +55,8 @@ impl Table {
     }
 
     fn take_out(&mut self, var: u64)
-        ensures { (v : ℕ) → sign_of self.new v ≡ (if nat_eq var v then None else sign_of self.old v) }
+        ensures { (v : ℕ) → sign_of self.new v
+            ≡ (if nat_eq var v then None else sign_of self.old v) }
     {
         let place = var as usize;
         if place < self.small.len() {

@@ -81,3 +81,21 @@ fn deletions_take_out_what_is_live(rt: HostRuntime) -> Result<(), Fail> {
     }
     Ok(())
 }
+
+#[test]
+fn a_proof_without_lines_asks_for_an_empty_clause(rt: HostRuntime) -> Result<(), Fail> {
+    let alloc = rt.alloc();
+    let cases: [(&[&[i64]], Verdict); 3] = [
+        (&[], Verdict::NoEmptyClause),
+        (&[&[]], Verdict::Verified),
+        (&[&[1]], Verdict::NoEmptyClause),
+    ];
+    for (clauses, verdict) in cases {
+        let f = formula(alloc, clauses)?;
+        let p = Proof {
+            lines: Vec::new(alloc),
+        };
+        assert_eq!(rt; check_log(alloc, &f, &p)?, verdict);
+    }
+    Ok(())
+}

@@ -1,24 +1,18 @@
 -- A formula that is written is read again.
-use Rattle.std.proofs.Common.{◌≡◌, neg_ℤ, ℕ, zero, suc, ℤ, pos, negsuc, ◌+◌, ◌-◌, ◌^◌, ◌<◌, ◌≤◌, Bool, true, false, not, cond, eqb, leb, ◌&&◌, List, [], ◌∷◌, ◌++◌, length, map, drop, fold, Option, Some, None, Result, Ok, Err, IfOk, refl, sym, ap, subst, ◌∙◌, append_assoc, arith, inl, inr}
+use Rattle.std.proofs.Common.{◌≡◌, ℕ, suc, ◌+◌, ◌≤◌, true, false, leb, List, [], ◌∷◌, ◌++◌, length, map, Ok, refl, sym, ap, ◌∙◌, append_assoc, arith}
 use Rattle.std.proofs.lemmas.Bool.Decides.{nat_tests}
-use Rattle.std.proofs.lemmas.Bool.{eqb-true}
 use Rattle.std.proofs.lemmas.List.{append-nil}
-use Rattle.std.proofs.lemmas.List.Concat.{flat_map-cons, flat_map-append}
-use Rattle.std.specs.List.{list_all, flat_map, filter_map, AllByRecursion, starts_with, slice_split}
-use Rattle.std.specs.Prelude.{decimal, unsigned_abs, codes, unwrap_or}
+use Rattle.std.proofs.lemmas.List.Concat.{flat_map-cons}
+use Rattle.std.specs.List.{flat_map, AllByRecursion}
+use Rattle.std.specs.Prelude.{codes}
 use Rattle.std.specs.Fmt.{signed_decimal}
 use Rattle.cnf_core.specs.Literal.{Literal, IsOrdered, IsVariable}
-use Rattle.cnf_core.specs.Formula.{Cnf}
-use Rattle.cnf_core.specs.Events.{Note}
 use Rattle.sat_text.specs.Words.{lines, words, is_comment}
-use Rattle.sat_text.specs.Numbers.{natural_of, whole_of}
-use Rattle.sat_text.specs.Clauses.{is_zero, literal_of, clause_of}
-use Rattle.sat_text.specs.Proofs.{says_nothing}
-use Rattle.sat_text.specs.Cnf.{Word, words_on, said_words, text_words, with_clause, clauses_at, number_next}
-use Rattle.sat_text.specs.Writing.{number_of, clause_text, IsShort}
-use Rattle.sat_text.proofs.Cuts.{bool_cases}
+use Rattle.sat_text.specs.Clauses.{clause_of}
+use Rattle.sat_text.specs.Cnf.{Word, words_on, said_words, text_words, with_clause, clauses_at}
+use Rattle.sat_text.specs.Writing.{number_of, clause_text}
 use Rattle.sat_text.proofs.Order.{clause_again}
-use Rattle.sat_text.proofs.Again.{whole_again, IsWord, AreWords, number_is_word, joined, words_again, IsLine, line_again, joined_line}
+use Rattle.sat_text.proofs.Again.{whole_again, AreWords, number_is_word, joined, words_again, IsLine, line_again, joined_line}
 use Rattle.sat_text.proofs.LogAgain.{literal_again, signed_short, number_no_comment, zero_word}
 
 -- ---- a clause's line

@@ -1,9 +1,8 @@
 -- The ids of events, and the lines of steps.
-use Rattle.std.proofs.Common.{◌≡◌, ℕ, zero, suc, ◌+◌, ◌<◌, ◌≤◌, Bool, true, false, cond, List, [], ◌∷◌, ◌++◌, length, map, take, drop, get_or, All, refl, sym, ap, subst, ◌∙◌, append_assoc, arith, pos, slice_index}
+use Rattle.std.proofs.Common.{◌≡◌, ℕ, zero, suc, ◌+◌, ◌<◌, ◌≤◌, cond, List, [], ◌∷◌, ◌++◌, length, map, take, drop, get_or, All, refl, sym, ap, subst, ◌∙◌, append_assoc, arith, pos, slice_index}
 use Rattle.std.specs.Prelude.{count_by}
 use Rattle.std.specs.List.{flat_map}
 use Rattle.std.specs.Global.{Vec}
-use Rattle.std.specs.declared.alloc.Global.{Global}
 use Rattle.std.proofs.lemmas.List.Sums.{sum_by-cons}
 use Rattle.std.proofs.lemmas.List.Concat.{flat_map-cons}
 use Rattle.std.proofs.Math.Seq.{drop-cons}
@@ -12,8 +11,8 @@ use Rattle.cnf_core.specs.Literal.{Literal}
 use Rattle.cnf_core.specs.declared.log.Event.{Event}
 use Rattle.cnf_core.specs.declared.log.Event.TheVariants as variants
 use Rattle.cnf_core.specs.Events.{LogEvent, given, step, plain_event, is_given, givens, EachStep, HintsAreThere, HintsAreEarlier}
-use Rattle.cnf_core.specs.Lines.{ProofLine, add, delete}
-use Rattle.sat_text.specs.Writing.{ids_from, event_ids, step_lines, log_lines, line_text, log_text}
+use Rattle.cnf_core.specs.Lines.{ProofLine, add}
+use Rattle.sat_text.specs.Writing.{ids_from, event_ids, step_lines, line_text}
 
 abbrev pub plain_events : List Event → List LogEvent
 plain_events events = map plain_event events
@@ -32,7 +31,7 @@ given_count [] = refl
 given_count (variants.Given clause ∷ events) = sum_by-cons (λ event. cond (is_given (plain_event event)) 1 0) (variants.Given clause) events ∙ omega (arith, given_count events)
 given_count (variants.Step clause hints ∷ events) = sum_by-cons (λ event. cond (is_given (plain_event event)) 1 0) (variants.Step clause hints) events ∙ omega (arith, given_count events)
 
-given_count_small : (events : List Event) → length (givens (plain_events events)) ≤ length events
+pub given_count_small : (events : List Event) → length (givens (plain_events events)) ≤ length events
 given_count_small [] = omega arith
 given_count_small (variants.Given clause ∷ events) = omega (arith, given_count_small events)
 given_count_small (variants.Step clause hints ∷ events) = omega (arith, given_count_small events)
@@ -75,7 +74,7 @@ length-ids given_id step_id [] = refl
 length-ids given_id step_id (given clause ∷ events) = ap suc (length-ids (given_id + 1) step_id events)
 length-ids given_id step_id (step clause hints ∷ events) = ap suc (length-ids given_id (step_id + 1) events)
 
-length-plain : (events : List Event) → length (plain_events events) ≡ length events
+pub length-plain : (events : List Event) → length (plain_events events) ≡ length events
 length-plain [] = refl
 length-plain (x ∷ events) = ap suc (length-plain events)
 

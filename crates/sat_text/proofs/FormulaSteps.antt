@@ -1,14 +1,13 @@
 -- Reading the text of a formula line by line.
-use Rattle.std.proofs.Common.{◌≡◌, ℕ, suc, ◌+◌, ◌<◌, ◌≤◌, Bool, true, false, cond, List, [], ◌∷◌, ◌++◌, length, Result, Ok, Err, IfOk, MatchResult, refl, sym, ap, subst, ◌∙◌, arith}
+use Rattle.std.proofs.Common.{◌≡◌, ℕ, ◌+◌, true, false, List, [], ◌∷◌, Result, Ok, Err, IfOk, MatchResult, refl, sym, ap, ◌∙◌}
 use Rattle.cnf_core.specs.Literal.{Literal}
 use Rattle.cnf_core.specs.Formula.{Cnf}
 use Rattle.sat_text.specs.declared.faults.Stop.{Stop}
 use Rattle.sat_text.specs.declared.faults.Stop.TheVariants.{Memory, At, Ends}
 use Rattle.sat_text.specs.declared.header.HeaderLine.{HeaderLine}
-use Rattle.sat_text.specs.declared.header.HeaderLine.TheVariants.{Good, Short, Wrong}
-use Rattle.sat_text.specs.Words.{lines, words}
+use Rattle.sat_text.specs.Words.{words}
 use Rattle.sat_text.specs.Proofs.{says_nothing}
-use Rattle.sat_text.specs.Cnf.{Formula, with_vars, behind_header, formula_from, header_of, Stops, Names, plain_formula, text_words, first_word_line}
+use Rattle.sat_text.specs.Cnf.{Formula, with_vars, behind_header, formula_from, header_of, Stops, Names, plain_formula}
 
 pub formula_quiet : (last number : ℕ) (rest later : List (List ℕ)) (line : List ℕ) → rest ≡ line ∷ later → says_nothing line ≡ true → formula_from last number rest ≡ formula_from last (number + 1) later
 unfolding formula_from

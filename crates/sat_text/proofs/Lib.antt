@@ -11,4 +11,5 @@ pub mod Again
 pub mod LogAgain
 pub mod CnfAgain
 pub mod TextAgain
+pub mod Readable
 mod Vectors

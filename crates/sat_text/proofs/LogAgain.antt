@@ -1,25 +1,24 @@
 -- A log that is written is read again.
-use Rattle.std.proofs.Common.{◌≡◌, neg_ℤ, ℕ, zero, suc, ℤ, pos, negsuc, ◌+◌, ◌-◌, ◌^◌, ◌<◌, ◌≤◌, Bool, true, false, not, cond, eqb, List, [], ◌∷◌, ◌++◌, length, map, Option, Some, None, Result, Ok, Err, IfOk, refl, sym, ap, subst, ◌∙◌, append_assoc, arith, inl, inr}
+use Rattle.std.proofs.Common.{◌≡◌, neg_ℤ, ℕ, zero, suc, ℤ, pos, ◌+◌, ◌^◌, ◌<◌, ◌≤◌, Bool, true, false, cond, eqb, List, [], ◌∷◌, ◌++◌, map, Option, Some, None, Result, Ok, Err, IfOk, refl, sym, ap, subst, ◌∙◌, append_assoc, arith, inl, inr}
 use Rattle.std.proofs.lemmas.Bool.Decides.{nat_tests}
 use Rattle.std.proofs.lemmas.Bool.{eqb-true}
-use Rattle.std.proofs.lemmas.List.{append-nil}
 use Rattle.std.proofs.lemmas.List.Concat.{flat_map-cons, flat_map-append}
-use Rattle.std.specs.List.{list_all, flat_map, AllByRecursion}
+use Rattle.std.specs.List.{flat_map, AllByRecursion}
 use Rattle.std.specs.Global.{Vec}
 use Rattle.cnf_core.specs.Events.{LogEvent}
-use Rattle.std.specs.Prelude.{decimal, unsigned_abs, codes}
+use Rattle.std.specs.Prelude.{All, unsigned_abs, codes}
+use Rattle.std.proofs.lemmas.List.Elements.{recursion_from_All}
 use Rattle.std.specs.Fmt.{signed_decimal}
-use Rattle.cnf_core.specs.Literal.{Literal, IsOrdered, IsVariable}
+use Rattle.cnf_core.specs.Literal.{Literal, IsVariable, IsClause}
 use Rattle.sat_text.specs.Words.{lines, words, is_comment}
 use Rattle.sat_text.specs.Numbers.{whole_of}
-use Rattle.sat_text.specs.Clauses.{is_zero, literal_of, clause_of}
+use Rattle.sat_text.specs.Clauses.{is_zero, literal_of}
 use Rattle.cnf_core.specs.Lines.{ProofLine, add, delete}
-use Rattle.sat_text.specs.Answers.{◌>>=◌}
-use Rattle.sat_text.specs.Proofs.{whole_at, items_at, positive_of, any_literal, any_hint, at_end, addition_at, is_d, behind_id, line_of, has_no_word, says_nothing, before_others, proof_from, proof_of}
+use Rattle.sat_text.specs.Proofs.{whole_at, items_at, positive_of, any_literal, any_hint, addition_at, is_d, behind_id, line_of, says_nothing, before_others, proof_from, proof_of}
 use Rattle.sat_text.specs.Writing.{number_of, spaced, line_text, log_lines, log_text, IsShort, IsReadable}
 use Rattle.sat_text.proofs.Cuts.{bool_cases}
 use Rattle.sat_text.proofs.Order.{clause_again}
-use Rattle.sat_text.proofs.Again.{whole_again, IsWord, AreWords, number_is_word, joined, words_again, IsLine, line_again, joined_line}
+use Rattle.sat_text.proofs.Again.{whole_again, IsWord, AreWords, number_is_word, joined, words_again, line_again, joined_line}
 
 -- the word of a 0
 abbrev pub zero_word : List ℕ
@@ -82,6 +81,12 @@ hints_short : (hints : List ℤ) → AllByRecursion IsShort hints → AreNumbers
 hints_short [] h = tt
 hints_short (n ∷ hints) h = (h.0.0, h.0.1, hints_short hints h.1)
 
+pub in_range : (clause : List Literal) → IsClause clause → AllByRecursion (λ l. IsVariable l.var) clause
+in_range clause is = recursion_from_All (λ l. IsVariable l.var) clause is.variables
+
+each_short : (hints : List ℤ) → All IsShort hints → AllByRecursion IsShort hints
+each_short hints all = recursion_from_All IsShort hints all
+
 literals_again : (literals : List Literal) (later : List (List ℕ)) → AllByRecursion (λ l. IsVariable l.var) literals → items_at any_literal (map signed_decimal (map number_of literals) ++ (zero_word ∷ later)) ≡ Some (literals, later)
 unfolding items_at
 literals_again [] later v = refl
@@ -117,14 +122,14 @@ positive_again (suc n) some = refl
 addition_again : (id : ℕ) (clause : List Literal) (hints : List ℤ) → IsReadable (add id clause hints) → addition_at id (add_words (map number_of clause) hints) ≡ Some (add id clause hints)
 unfolding addition_at
 addition_again id clause hints r =
-    rw (literals_again clause (map signed_decimal hints ++ (zero_word ∷ [])) r.3, hints_again hints [] r.4)
-    (ap (λ (c : List Literal). Some (add id c hints)) (clause_again clause r.2))
+    rw (literals_again clause (map signed_decimal hints ++ (zero_word ∷ [])) (in_range clause r.2), hints_again hints [] (each_short hints r.3))
+    (ap (λ (c : List Literal). Some (add id c hints)) (clause_again clause r.2.ordered))
 
 behind_again : (id : ℕ) (clause : List Literal) (hints : List ℤ) → IsReadable (add id clause hints) → behind_id id (add_words (map number_of clause) hints) ≡ addition_at id (add_words (map number_of clause) hints)
 unfolding behind_id
 behind_again id [] hints r = refl
 behind_again id (l ∷ clause) hints r =
-    let s = signed_short l.var l.positive r.3.0 in
+    let s = signed_short l.var l.positive (in_range (l ∷ clause) r.2).0 in
     rw (number_not_d (signed_decimal (number_of l)) (number_of l) (whole_again (number_of l) s.0)) refl
 
 line_of_again : (id : ℕ) (clause : List Literal) (hints : List ℤ) → IsReadable (add id clause hints) → line_of (signed_decimal (pos id) ∷ add_words (map number_of clause) hints) ≡ Some (add id clause hints)
@@ -156,7 +161,7 @@ line_read number id clause hints rest r =
     let ws = add_words (map number_of clause) hints in
     let body = line_body id clause hints in
     let id_word : IsWord (signed_decimal (pos id)) = number_is_word (pos id) r.1 in
-    let all_words = words_are_words clause hints r.3 r.4 in
+    let all_words = words_are_words clause hints (in_range clause r.2) (each_short hints r.3) in
     let cut : lines (line_text (add id clause hints) ++ rest) ≡ body ∷ lines rest = ap lines (text_is id clause hints rest) ∙ line_again body rest (joined_line (signed_decimal (pos id)) ws id_word all_words) in
     let found : words body ≡ signed_decimal (pos id) ∷ ws = words_again (signed_decimal (pos id)) ws id_word all_words in
     let speaks : says_nothing body ≡ false = rw (number_no_comment (signed_decimal (pos id)) (joined ws) (pos id) (whole_again (pos id) r.1), found) refl in
@@ -164,7 +169,7 @@ line_read number id clause hints rest r =
     ap (proof_from number) cut ∙ rw (speaks, says) refl
 
 -- lines that can be read are read as they were written
-pub lines_read : (number : ℕ) (written : List ProofLine) → AllByRecursion IsReadable written → proof_from number (lines (flat_map line_text written)) ≡ Ok written
+lines_read : (number : ℕ) (written : List ProofLine) → AllByRecursion IsReadable written → proof_from number (lines (flat_map line_text written)) ≡ Ok written
 unfolding proof_from
 lines_read number [] r = refl
 lines_read number (delete ids ∷ written) r = absurd r.0
@@ -173,8 +178,11 @@ lines_read number (add id clause hints ∷ written) r =
     ∙ line_read number id clause hints (flat_map line_text written) r.0
     ∙ ap (before_others number (Some (add id clause hints))) (lines_read (number + 1) written r.1)
 
+pub lines_are_read : (written : List ProofLine) → All IsReadable written → proof_of (flat_map line_text written) ≡ Ok written
+lines_are_read written r = lines_read 1 written (recursion_from_All IsReadable written r)
+
 -- the text of a log, where there is memory for it
 pub log_again : {E : Type 0} (r : Result (Vec ℕ) E) (events : List LogEvent) → IfOk r (λ text. text.items ≡ log_text events)
-    → IfOk r (λ text. AllByRecursion IsReadable (log_lines events) → proof_of text.items ≡ Ok (log_lines events))
-log_again (Ok text) events is = λ readable. ap proof_of is ∙ lines_read 1 (log_lines events) readable
-log_again (Err e) events is = tt
+    → IfOk r (λ _. All IsReadable (log_lines events)) → IfOk r (λ text. proof_of text.items ≡ Ok (log_lines events))
+log_again (Ok text) events is readable = ap proof_of is ∙ lines_are_read (log_lines events) readable
+log_again (Err e) events is readable = tt

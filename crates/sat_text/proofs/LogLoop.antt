@@ -1,9 +1,7 @@
 -- Reading the lines of a proof one after the other.
-use Rattle.std.proofs.Common.{◌≡◌, ℕ, suc, ◌+◌, ◌<◌, ◌≤◌, Bool, true, false, cond, List, [], ◌∷◌, ◌++◌, length, map, Option, Some, None, Result, Ok, Err, refl, sym, ap, subst, ◌∙◌, append_assoc, arith}
+use Rattle.std.proofs.Common.{◌≡◌, ℕ, ◌+◌, ◌<◌, ◌≤◌, true, false, List, [], ◌∷◌, ◌++◌, length, Option, Some, None, Result, Ok, Err, refl, sym, ap, ◌∙◌, append_assoc, arith}
 use Rattle.std.proofs.lemmas.List.{append-nil}
 use Rattle.cnf_core.specs.declared.proof.Line.{Line}
-use Rattle.sat_text.specs.declared.faults.Fault.{Fault}
-use Rattle.sat_text.specs.declared.faults.Fault.TheVariants.{Memory, Wrong}
 use Rattle.cnf_core.specs.declared.proof.Proof.{Proof}
 use Rattle.sat_text.specs.declared.proof.LogError.{LogError}
 use Rattle.sat_text.specs.declared.proof.LogError.TheVariants.{Bad}

@@ -1,5 +1,5 @@
 -- The pieces of a note.
-use Rattle.std.proofs.Common.{◌≡◌, ℕ, Bool, true, false, cond, List, [], ◌∷◌, Option, Some, None, MatchOption, refl, sym, ap, subst, ◌∙◌, inl, inr}
+use Rattle.std.proofs.Common.{◌≡◌, ℕ, Bool, List, [], ◌∷◌, None, refl, inl, inr}
 use Rattle.std.specs.List.{slice_split, onto_first}
 use Rattle.sat_text.specs.Notes.{note_at, note_value, note_literal}
 use Rattle.sat_text.proofs.Cuts.{bool_cases}

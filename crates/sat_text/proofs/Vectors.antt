@@ -1,5 +1,5 @@
 -- Worked texts, computed by the checker.
-use Rattle.std.proofs.Common.{◌≡◌, ℕ, ℤ, pos, negsuc, true, false, List, [], ◌∷◌, Option, Some, None, Ok, Err, refl}
+use Rattle.std.proofs.Common.{◌≡◌, ℕ, pos, negsuc, true, false, [], ◌∷◌, Some, None, Ok, Err, refl}
 use Rattle.std.specs.Prelude.{codes}
 use Rattle.std.specs.Fmt.{digits}
 use Rattle.cnf_core.specs.Literal.{Literal}
@@ -7,10 +7,10 @@ use Rattle.cnf_core.specs.Events.{given, step}
 use Rattle.sat_text.specs.Words.{lines, last_line, words}
 use Rattle.sat_text.specs.Numbers.{natural_of, whole_of}
 use Rattle.sat_text.specs.Clauses.{clause_of}
-use Rattle.cnf_core.specs.Lines.{ProofLine, add, delete}
+use Rattle.cnf_core.specs.Lines.{add, delete}
 use Rattle.sat_text.specs.Proofs.{whole_at, items_at, addition_at, deletion_at, behind_id, line_of, proof_from, proof_of}
 use Rattle.sat_text.specs.Cnf.{header_of, header_format, header_vars, header_count, clauses_at, formula_from, formula_of}
-use Rattle.sat_text.specs.Notes.{note_with, note_literal, note_value, note_at, is_cell, notes_of, added_of}
+use Rattle.sat_text.specs.Notes.{is_cell, added_of}
 use Rattle.sat_text.specs.Writing.{log_text, cnf_text}
 
 abbrev yes : ℕ → Literal

@@ -1,5 +1,5 @@
 -- Clauses as numbers spell them.
-use Rattle.std.specs.Prelude.{ℕ, suc, ℤ, pos, negsuc, Bool, true, false, ◌==◌, nat_lt, if◌then◌else◌, List, [], ◌∷◌}
+use Rattle.std.specs.Prelude.{suc, ℤ, pos, negsuc, Bool, true, false, ◌==◌, nat_lt, if◌then◌else◌, List, [], ◌∷◌}
 use Rattle.cnf_core.specs.Literal.{Literal, same_literal, code_of}
 
 abbrev pub is_zero : ℤ → Bool
@@ -15,7 +15,8 @@ literal_of (negsuc n) = record { var = suc n; positive = false }
 abbrev pub with_literal : Literal → List Literal → List Literal
 with_literal l [] = l ∷ []
 with_literal l (m ∷ literals) =
-    if nat_lt (code_of l) (code_of m) then l ∷ m ∷ literals else if same_literal l m then m ∷ literals else m ∷ with_literal l literals
+    if nat_lt (code_of l) (code_of m) then l ∷ m ∷ literals
+    else if same_literal l m then m ∷ literals else m ∷ with_literal l literals
 
 -- the clause of these literals: in order, and each once
 abbrev pub clause_of : List Literal → List Literal

@@ -1,5 +1,5 @@
 -- The text of a formula: its header and its clauses.
-use Rattle.std.specs.Prelude.{◌≡◌, ◌<◌, ◌^◌, ℕ, zero, suc, ◌+◌, ℤ, Bool, true, false, ◌==◌, ◌&&◌, nat_le, if◌then◌else◌, List, [], ◌∷◌, ◌++◌, map, codes, Option, Some, None, Result, Ok, Err}
+use Rattle.std.specs.Prelude.{◌≡◌, ◌<◌, ◌^◌, ℕ, zero, suc, ◌+◌, ℤ, Bool, false, ◌==◌, ◌&&◌, nat_le, if◌then◌else◌, List, [], ◌∷◌, ◌++◌, map, Option, Some, None, Result, Ok, Err}
 use Rattle.cnf_core.specs.Literal.{Literal}
 use Rattle.sat_text.specs.Words.{lines, last_line, words, is_comment}
 use Rattle.sat_text.specs.Numbers.{natural_of, whole_of}
@@ -26,7 +26,8 @@ said_words line = if is_comment line then [] else words line
 -- the words of lines, where the first line has this number
 abbrev pub text_words : ℕ → List (List ℕ) → List Word
 text_words number [] = []
-text_words number (line ∷ later) = words_on number (said_words line) ++ text_words (number + 1) later
+text_words number (line ∷ later) =
+    words_on number (said_words line) ++ text_words (number + 1) later
 
 -- ---- the header: `p cnf` and two numbers, on one line
 
@@ -61,7 +62,8 @@ unfoldable pub header_format : List (List ℕ) → HeaderLine
 header_format [] = Short
 header_format (word ∷ later) = if is_cnf word then header_vars later else Wrong
 
--- What the words of a line say as the header. It is short where words are wanting, and wrong from its first wrong word on.
+-- What the words of a line say as the header. It is short where words are wanting, and wrong from its
+-- first wrong word on.
 unfoldable pub header_of : List (List ℕ) → HeaderLine
 header_of [] = Short
 header_of (word ∷ later) = if is_p word then header_format later else Wrong
@@ -69,24 +71,31 @@ header_of (word ∷ later) = if is_p word then header_format later else Wrong
 -- ---- the clauses
 
 -- a clause before others, unless these are wrong
-abbrev pub with_clause : List Literal → Result (List (List Literal)) ℕ → Result (List (List Literal)) ℕ
+abbrev pub with_clause :
+    List Literal → Result (List (List Literal)) ℕ → Result (List (List Literal)) ℕ
 with_clause clause (Ok clauses) = Ok (clause ∷ clauses)
 with_clause clause (Err line) = Err line
 
--- Where the next word is a number: what follows a literal, or what follows the end of a clause. Otherwise the word is wrong, and so is
--- a variable that is too great.
-abbrev pub number_next : ℕ → ℕ → Option ℤ → (ℤ → Result (List (List Literal)) ℕ) → Result (List (List Literal)) ℕ → Result (List (List Literal)) ℕ
+-- Where the next word is a number: what follows a literal, or what follows the end of a clause.
+-- Otherwise the word is wrong, and so is a variable that is too great.
+abbrev pub number_next :
+    ℕ → ℕ → Option ℤ → (ℤ → Result (List (List Literal)) ℕ) → Result (List (List Literal)) ℕ → Result (List (List Literal)) ℕ
 number_next line vars None at_literal at_end = Err line
-number_next line vars (Some n) at_literal at_end = if is_zero n then at_end else if nat_le (literal_of n).var vars then at_literal n else Err line
+number_next line vars (Some n) at_literal at_end =
+    if is_zero n then at_end
+    else if nat_le (literal_of n).var vars then at_literal n else Err line
 
--- The clauses of words: each is whole numbers, none of which names a variable over vars, and a 0. As many as count are still to come,
--- and the next one begins with these literals. If not, the line of the first word that is wrong, or last where words are wanting.
+-- The clauses of words: each is whole numbers, none of which names a variable over vars, and a 0. As
+-- many as count are still to come, and the next one begins with these literals. If not, the line of
+-- the first word that is wrong, or last where words are wanting.
 unfoldable pub clauses_at : ℕ → ℕ → ℕ → List Literal → List Word → Result (List (List Literal)) ℕ
 clauses_at last vars zero begun [] = Ok []
 clauses_at last vars (suc count) begun [] = Err last
 clauses_at last vars zero begun (word ∷ later) = Err word.line
 clauses_at last vars (suc count) begun (word ∷ later) =
-    number_next word.line vars (whole_of word.bytes) (λ n. clauses_at last vars (suc count) (begun ++ literal_of n ∷ []) later) (with_clause (clause_of begun) (clauses_at last vars count [] later))
+    number_next word.line vars (whole_of word.bytes)
+    (λ n. clauses_at last vars (suc count) (begun ++ literal_of n ∷ []) later)
+    (with_clause (clause_of begun) (clauses_at last vars count [] later))
 
 -- ---- the whole text
 
@@ -106,14 +115,18 @@ first_word_line last (word ∷ later) = word.line
 
 -- what follows the header on line number: behind a short one the next word is wrong
 abbrev pub behind_header : ℕ → ℕ → HeaderLine → List (List ℕ) → Result Formula ℕ
-behind_header last number (Good vars count) later = with_vars vars (clauses_at last vars count [] (text_words (number + 1) later))
+behind_header last number (Good vars count) later =
+    with_vars vars (clauses_at last vars count [] (text_words (number + 1) later))
 behind_header last number Short later = Err (first_word_line last (text_words (number + 1) later))
 behind_header last number Wrong later = Err number
 
--- the formula of lines, where the first line has this number: the first one that says something is the header
+-- the formula of lines, where the first line has this number: the first one that says something is
+-- the header
 unfoldable pub formula_from : ℕ → ℕ → List (List ℕ) → Result Formula ℕ
 formula_from last number [] = Err last
-formula_from last number (line ∷ later) = if says_nothing line then formula_from last (number + 1) later else behind_header last number (header_of (words line)) later
+formula_from last number (line ∷ later) =
+    if says_nothing line then formula_from last (number + 1) later
+    else behind_header last number (header_of (words line)) later
 
 -- what a text says, or the line of its fault
 abbrev pub formula_of : List ℕ → Result Formula ℕ
@@ -122,13 +135,16 @@ formula_of text = formula_from (last_line text) 1 (lines text)
 -- ---- what a reader keeps as it goes
 
 -- clauses that were read before those that are still read
-abbrev pub behind_clauses : List (List Literal) → Result (List (List Literal)) ℕ → Result (List (List Literal)) ℕ
+abbrev pub behind_clauses :
+    List (List Literal) → Result (List (List Literal)) ℕ → Result (List (List Literal)) ℕ
 behind_clauses front (Ok clauses) = Ok (front ++ clauses)
 behind_clauses front (Err line) = Err line
 
 -- these words complete the clauses so far to the answer
-abbrev pub Completes : ℕ → Cnf → ℕ → List Literal → List Word → Result (List (List Literal)) ℕ → Type 0
-Completes last f left begun later answer = behind_clauses f.clauses (clauses_at last f.vars left begun later) ≡ answer
+abbrev pub Completes :
+    ℕ → Cnf → ℕ → List Literal → List Word → Result (List (List Literal)) ℕ → Type 0
+Completes last f left begun later answer =
+    behind_clauses f.clauses (clauses_at last f.vars left begun later) ≡ answer
 
 -- a reader stops for want of memory, at the line of a wrong word, or where words are wanting
 abbrev pub Stops : {Y : Type 0} → ℕ → Stop → Result Y ℕ → Type 0

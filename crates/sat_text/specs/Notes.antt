@@ -3,7 +3,7 @@ use Rattle.std.specs.Prelude.{ℕ, ◌+◌, ℤ, Bool, true, false, not, ◌&&�
 use Rattle.std.specs.List.{list_any, list_all, slice_split, filter_map, starts_with}
 use Rattle.std.specs.Char.{is_ascii_alphabetic, is_ascii_alphanumeric}
 use Rattle.cnf_core.specs.Events.{Note}
-use Rattle.sat_text.specs.Words.{lines, words}
+use Rattle.sat_text.specs.Words.{words}
 use Rattle.sat_text.specs.Numbers.{natural_of, whole_of}
 use Rattle.sat_text.specs.Clauses.{is_zero, literal_of}
 
@@ -37,15 +37,19 @@ is_name (b ∷ word) = begins_name b && (list_all is_in_name word && not (is_res
 abbrev pub are_wholes : List (List ℕ) → Bool
 are_wholes pieces = list_all (λ piece. is_some (whole_of piece)) pieces
 
--- what stands behind an opening bracket: whole numbers between commas, and a closing one at the end, whose place is given
+-- what stands behind an opening bracket: whole numbers between commas, and a closing one at the end,
+-- whose place is given
 abbrev pub are_indices : Option ℕ → List ℕ → Bool
 are_indices None bytes = false
-are_indices (Some end) bytes = nat_eq (end + 1) (length bytes) && are_wholes (slice_split (λ b. b == 44) (take end bytes))
+are_indices (Some end) bytes =
+    nat_eq (end + 1) (length bytes) && are_wholes (slice_split (λ b. b == 44) (take end bytes))
 
 -- a name, or one with indices, where the place of the first opening bracket is given
 abbrev pub is_cell_at : Option ℕ → List ℕ → Bool
 is_cell_at None bytes = is_name bytes
-is_cell_at (Some start) bytes = is_name (take start bytes) && are_indices (position (λ b. b == 93) (drop (start + 1) bytes)) (drop (start + 1) bytes)
+is_cell_at (Some start) bytes =
+    is_name (take start bytes)
+    && are_indices (position (λ b. b == 93) (drop (start + 1) bytes)) (drop (start + 1) bytes)
 
 abbrev pub is_cell : List ℕ → Bool
 is_cell bytes = is_cell_at (position (λ b. b == 91) bytes) bytes
@@ -55,12 +59,15 @@ is_cell bytes = is_cell_at (position (λ b. b == 91) bytes) bytes
 unfoldable pub note_with : List ℕ → Option ℤ → Option ℤ → Option Note
 note_with cell None lit = None
 note_with cell (Some value) None = None
-note_with cell (Some value) (Some number) = if is_zero number then None else Some (record { cell = cell; value = value; lit = literal_of number })
+note_with cell (Some value) (Some number) =
+    if is_zero number then None
+    else Some (record { cell = cell; value = value; lit = literal_of number })
 
 -- three pieces between spaces: a cell's name, a value, and a literal's number
 unfoldable pub note_literal : List ℕ → List ℕ → List (List ℕ) → Option Note
 note_literal cell value [] = None
-note_literal cell value (lit ∷ []) = if is_cell cell then note_with cell (whole_of value) (whole_of lit) else None
+note_literal cell value (lit ∷ []) =
+    if is_cell cell then note_with cell (whole_of value) (whole_of lit) else None
 note_literal cell value (lit ∷ more ∷ pieces) = None
 
 unfoldable pub note_value : List ℕ → List (List ℕ) → Option Note
@@ -72,10 +79,12 @@ note_at [] = None
 note_at (cell ∷ pieces) = note_value cell pieces
 
 abbrev pub note_of : List ℕ → Option Note
-note_of line = if starts_with nat_eq line (codes "c cell ") then note_at (slice_split (λ b. b == 32) (drop 7 line)) else None
+note_of line =
+    if starts_with nat_eq line (codes "c cell ") then note_at (slice_split (λ b. b == 32) (drop 7 line)) else None
 
 abbrev pub added_on : List ℕ → Option ℕ
-added_on line = if starts_with nat_eq line (codes "c added ") then natural_of (drop 8 line) else None
+added_on line =
+    if starts_with nat_eq line (codes "c added ") then natural_of (drop 8 line) else None
 
 -- the notes of a text in order
 abbrev pub notes_of : List (List ℕ) → List Note

@@ -1,5 +1,5 @@
 -- The text of a proof: what each line says.
-use Rattle.std.specs.Prelude.{ℕ, suc, ◌+◌, ℤ, pos, negsuc, zero, Bool, true, false, ◌==◌, ◌||◌, not, if◌then◌else◌, List, [], ◌∷◌, Option, Some, None, Result, Ok, Err}
+use Rattle.std.specs.Prelude.{ℕ, suc, ◌+◌, ℤ, pos, negsuc, zero, Bool, true, false, ◌==◌, ◌||◌, if◌then◌else◌, List, [], ◌∷◌, Option, Some, None, Result, Ok, Err}
 use Rattle.cnf_core.specs.Literal.{Literal}
 use Rattle.sat_text.specs.Words.{lines, words, is_comment}
 use Rattle.sat_text.specs.Numbers.{whole_of}
@@ -14,12 +14,15 @@ whole_at (word ∷ later) = do
   n ← whole_of word
   Some (n, later)
 
--- The items of the numbers up to the first 0, and the words behind it. A number that is no item is wrong.
-unfoldable pub items_at : {X : Type 0} → (ℤ → Option X) → List (List ℕ) → Option (List X × List (List ℕ))
+-- The items of the numbers up to the first 0, and the words behind it. A number that is no item is
+-- wrong.
+unfoldable pub items_at :
+    {X : Type 0} → (ℤ → Option X) → List (List ℕ) → Option (List X × List (List ℕ))
 items_at item [] = None
 items_at item (word ∷ later) = do
   n ← whole_of word
-  if is_zero n then Some ([], later) else item n >>= λ x. items_at item later >>= λ others. Some (x ∷ others.0, others.1)
+  if is_zero n then Some ([], later)
+      else item n >>= λ x. items_at item later >>= λ others. Some (x ∷ others.0, others.1)
 
 -- a number that is positive
 abbrev pub positive_of : ℤ → Option ℕ
@@ -78,16 +81,19 @@ abbrev pub says_nothing : List ℕ → Bool
 says_nothing line = is_comment line || has_no_word (words line)
 
 -- a line before others, or the number of the line that is wrong
-abbrev pub before_others : ℕ → Option ProofLine → Result (List ProofLine) ℕ → Result (List ProofLine) ℕ
+abbrev pub before_others :
+    ℕ → Option ProofLine → Result (List ProofLine) ℕ → Result (List ProofLine) ℕ
 before_others number None others = Err number
 before_others number (Some line) (Ok others) = Ok (line ∷ others)
 before_others number (Some line) (Err wrong) = Err wrong
 
--- The lines of a proof that lines say, where the first of them has this number; or the number of the first that says none.
+-- The lines of a proof that lines say, where the first of them has this number; or the number of the
+-- first that says none.
 unfoldable pub proof_from : ℕ → List (List ℕ) → Result (List ProofLine) ℕ
 proof_from number [] = Ok []
 proof_from number (line ∷ later) =
-    if says_nothing line then proof_from (number + 1) later else before_others number (line_of (words line)) (proof_from (number + 1) later)
+    if says_nothing line then proof_from (number + 1) later
+    else before_others number (line_of (words line)) (proof_from (number + 1) later)
 
 -- what a text says
 abbrev pub proof_of : List ℕ → Result (List ProofLine) ℕ

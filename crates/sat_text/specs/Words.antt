@@ -2,11 +2,12 @@
 use Rattle.std.specs.Prelude.{ℕ, max, Bool, true, false, ◌||◌, not, ◌==◌, if◌then◌else◌, List, [], ◌∷◌, length, filter}
 use Rattle.std.specs.List.{slice_split, onto_first}
 
--- The pieces of a text. Each byte that passes the test ends one, and what follows the last of them is one too, where it isn't
--- empty.
+-- The pieces of a text. Each byte that passes the test ends one, and what follows the last of them is
+-- one too, where it isn't empty.
 abbrev pub ended_by : (ℕ → Bool) → List ℕ → List (List ℕ)
 ended_by ends [] = []
-ended_by ends (b ∷ text) = if ends b then [] ∷ ended_by ends text else onto_first b (ended_by ends text)
+ended_by ends (b ∷ text) =
+    if ends b then [] ∷ ended_by ends text else onto_first b (ended_by ends text)
 
 -- the lines of a text, each ended by a byte 10
 abbrev pub lines : List ℕ → List (List ℕ)

@@ -1,13 +1,13 @@
 -- The texts that are written.
-use Rattle.std.specs.Prelude.{◌≡◌, ◌<◌, ◌≤◌, ◌^◌, unsigned_abs, false, true, Ok, ℕ, ◌+◌, ℤ, pos, neg_ℤ, if◌then◌else◌, List, [], ◌∷◌, ◌++◌, length, map, codes, decimal, slice_index}
+use Rattle.std.specs.Prelude.{◌≡◌, ◌<◌, ◌^◌, All, unsigned_abs, false, true, Ok, ℕ, ◌+◌, ℤ, pos, neg_ℤ, if◌then◌else◌, List, [], ◌∷◌, ◌++◌, length, map, codes, decimal, slice_index}
 use Rattle.std.specs.Fmt.{signed_decimal}
-use Rattle.std.specs.List.{flat_map, list_all, AllByRecursion}
+use Rattle.std.specs.List.{flat_map, list_all}
 use Rattle.sat_text.specs.Words.{is_plain, lines}
 use Rattle.sat_text.specs.Notes.{is_cell, notes_of, added_of}
 use Rattle.sat_text.specs.Cnf.{formula_of, plain_formula}
 use Rattle.sat_text.specs.Clauses.{is_zero}
-use Rattle.cnf_core.specs.Literal.{Literal, IsOrdered, IsVariable}
-use Rattle.cnf_core.specs.Formula.{Cnf}
+use Rattle.cnf_core.specs.Literal.{Literal, IsVariable, IsClause}
+use Rattle.cnf_core.specs.Formula.{Cnf, NamesItsVariables}
 use Rattle.cnf_core.specs.Events.{LogEvent, given, step, givens, Note}
 use Rattle.cnf_core.specs.Lines.{ProofLine, add, delete}
 
@@ -24,8 +24,10 @@ spaced numbers = flat_map (λ n. 32 ∷ signed_decimal n) numbers
 -- the ids of events, where the next given and the next step have these
 abbrev pub ids_from : ℕ → ℕ → List LogEvent → List ℕ
 ids_from given_id step_id [] = []
-ids_from given_id step_id (given clause ∷ events) = given_id ∷ ids_from (given_id + 1) step_id events
-ids_from given_id step_id (step clause hints ∷ events) = step_id ∷ ids_from given_id (step_id + 1) events
+ids_from given_id step_id (given clause ∷ events) =
+    given_id ∷ ids_from (given_id + 1) step_id events
+ids_from given_id step_id (step clause hints ∷ events) =
+    step_id ∷ ids_from given_id (step_id + 1) events
 
 -- the givens have the first ids, from 1 on, and the steps those behind them
 abbrev pub event_ids : List LogEvent → List ℕ
@@ -36,7 +38,9 @@ abbrev pub step_lines : List ℕ → List ℕ → List LogEvent → List ProofLi
 step_lines ids own [] = []
 step_lines ids [] (event ∷ events) = []
 step_lines ids (id ∷ own) (given clause ∷ events) = step_lines ids own events
-step_lines ids (id ∷ own) (step clause hints ∷ events) = add id clause (map (λ hint. pos (slice_index ids hint)) hints) ∷ step_lines ids own events
+step_lines ids (id ∷ own) (step clause hints ∷ events) =
+    add id clause (map (λ hint. pos (slice_index ids hint)) hints)
+    ∷ step_lines ids own events
 
 -- the lines of a log: one for each step
 abbrev pub log_lines : List LogEvent → List ProofLine
@@ -44,7 +48,9 @@ log_lines events = step_lines (event_ids events) (event_ids events) events
 
 -- a line's text: the id, the literals and a 0, the hints and a 0; or the id, a `d`, the ids and a 0
 abbrev pub line_text : ProofLine → List ℕ
-line_text (add id clause hints) = decimal id ++ (spaced (map number_of clause) ++ (codes " 0" ++ (spaced hints ++ codes " 0\n")))
+line_text (add id clause hints) =
+    decimal id
+    ++ (spaced (map number_of clause) ++ (codes " 0" ++ (spaced hints ++ codes " 0\n")))
 line_text (delete ids) = codes "1 d" ++ (spaced (map (λ id. pos id) ids) ++ codes " 0\n")
 
 abbrev pub log_text : List LogEvent → List ℕ
@@ -53,20 +59,24 @@ log_text events = flat_map line_text (log_lines events)
 -- ---- the text of a formula
 
 abbrev pub note_text : Note → List ℕ
-note_text note = codes "c cell " ++ (note.cell ++ (spaced (note.value ∷ number_of note.lit ∷ []) ++ codes "\n"))
+note_text note =
+    codes "c cell " ++ (note.cell ++ (spaced (note.value ∷ number_of note.lit ∷ []) ++ codes "\n"))
 
 -- a clause's literals with a space behind each, and a 0
 abbrev pub clause_text : List Literal → List ℕ
 clause_text clause = flat_map (λ l. signed_decimal (number_of l) ++ 32 ∷ []) clause ++ codes "0\n"
 
 abbrev pub header_text : ℕ → ℕ → List ℕ
-header_text vars clauses = codes "p cnf " ++ (decimal vars ++ (codes " " ++ (decimal clauses ++ codes "\n")))
+header_text vars clauses =
+    codes "p cnf " ++ (decimal vars ++ (codes " " ++ (decimal clauses ++ codes "\n")))
 
 abbrev pub added_text : ℕ → List ℕ
 added_text added = codes "c added " ++ (decimal added ++ codes "\n")
 
 abbrev pub cnf_text : Cnf → List Note → ℕ → List ℕ
-cnf_text f notes added = flat_map note_text notes ++ (added_text added ++ (header_text f.vars (length f.clauses) ++ flat_map clause_text f.clauses))
+cnf_text f notes added =
+    flat_map note_text notes
+    ++ (added_text added ++ (header_text f.vars (length f.clauses) ++ flat_map clause_text f.clauses))
 
 -- ---- what can be read again
 
@@ -74,18 +84,28 @@ cnf_text f notes added = flat_map note_text notes ++ (added_text added ++ (heade
 abbrev pub IsShort : ℤ → Type 0
 IsShort n = (unsigned_abs n < 10 ^ 18) × (is_zero n ≡ false)
 
--- a line that adds, with a positive id, a clause in order, and hints that aren't 0, all of at most eighteen digits
+-- a line that adds, with a positive id, a clause, and hints that aren't 0, all of at most eighteen
+-- digits
 abbrev pub IsReadable : ProofLine → Type 0
-IsReadable (add id clause hints) = (0 < id) × (id < 10 ^ 18) × IsOrdered clause × AllByRecursion (λ l. IsVariable l.var) clause × AllByRecursion IsShort hints
+IsReadable (add id clause hints) = (0 < id) × (id < 10 ^ 18) × IsClause clause × All IsShort hints
 IsReadable (delete ids) = ⊥
 
 -- a note of a cell's name, without a blank, and of a value of at most eighteen digits
-abbrev pub IsReadableNote : Note → Type 0
-IsReadableNote note = (is_cell note.cell ≡ true) × (list_all is_plain note.cell ≡ true) × (unsigned_abs note.value < 10 ^ 18) × IsVariable note.lit.var
+pub record IsReadableNote (note : Note) : Type 0 where
+  pub named : is_cell note.cell ≡ true
+  pub without_blank : list_all is_plain note.cell ≡ true
+  pub short : unsigned_abs note.value < 10 ^ 18
 
--- clauses in order over the variables of a formula, where both numbers have at most eighteen digits
-abbrev pub IsReadableFormula : Cnf → Type 0
-IsReadableFormula f = (f.vars < 10 ^ 18) × (length f.clauses < 10 ^ 18) × AllByRecursion (λ clause. IsOrdered clause × AllByRecursion (λ l. IsVariable l.var × (l.var ≤ f.vars)) clause) f.clauses
+-- clauses over the variables of a formula, where both numbers have at most eighteen digits
+pub record IsReadableFormula (f : Cnf) : Type 0 where
+  pub few_variables : f.vars < 10 ^ 18
+  pub few_clauses : length f.clauses < 10 ^ 18
+  pub clauses : All IsClause f.clauses
+  pub names : NamesItsVariables f
+
+-- each note's literal is of a variable that there can be
+abbrev pub NamesVariables : List Note → Type 0
+NamesVariables notes = All (λ note. IsVariable note.lit.var) notes
 
 -- a text says the formula, its notes and its number of clauses that were added
 pub record SaysAgain (text : List ℕ) (f : Cnf) (notes : List Note) (added : ℕ) : Type 0 where

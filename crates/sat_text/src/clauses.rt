@@ -19,7 +19,8 @@ use std::mem;
 /// Adds the clause that was begun, and begins the next one.
 fn end_clause(alloc: Global, f: &mut Formula, begun: &mut Vec<Lit>) -> Result<(), Memory>
     requires { VariablesUpTo f.old.vars begun.old.items }
-    ensures ok { OnOk result (f.new ≡ record f.old { clauses = f.old.clauses ++ clause_of begun.old.items ∷ [] }) }
+    ensures ok { OnOk result
+        (f.new ≡ record f.old { clauses = f.old.clauses ++ clause_of begun.old.items ∷ [] }) }
     ensures empty { OnOk result (begun.new.items ≡ []) }
 {
     let literals = mem::replace(begun, Vec::new(alloc));
@@ -40,8 +41,11 @@ fn take_word(
     ensures small { OnOk result (VariablesUpTo f.new.vars begun.new.items) }
     ensures vars { OnOk result (f.new.vars ≡ f.old.vars) }
     ensures next { (last : ℕ) (later : List Word) (answer : Result (List (List Literal)) ℕ) →
-        Completes last f.old left.old begun.old.items (record { line = line; bytes = word.now } ∷ later) answer →
-        MatchResult result (λ _. Completes last f.new left.new begun.new.items later answer) (λ stop. Stops last stop answer) }
+        Completes last f.old left.old begun.old.items
+        (record { line = line; bytes = word.now } ∷ later) answer →
+        MatchResult result
+        (λ _. Completes last f.new left.new begun.new.items later answer)
+        (λ stop. Stops last stop answer) }
 {
     if *left == 0 {
         return Err(Stop::At(line));
@@ -75,8 +79,11 @@ fn take_line(
     ensures small { OnOk result (VariablesUpTo f.new.vars begun.new.items) }
     ensures vars { OnOk result (f.new.vars ≡ f.old.vars) }
     ensures next { (last : ℕ) (later : List Word) (answer : Result (List (List Literal)) ℕ) →
-        Completes last f.old left.old begun.old.items (words_on number (words line.now) ++ later) answer →
-        MatchResult result (λ _. Completes last f.new left.new begun.new.items later answer) (λ stop. Stops last stop answer) }
+        Completes last f.old left.old begun.old.items
+        (words_on number (words line.now) ++ later) answer →
+        MatchResult result
+        (λ _. Completes last f.new left.new begun.new.items later answer)
+        (λ stop. Stops last stop answer) }
 {
     let mut rest = line;
     while let Some((word, after)) = next_word(rest) {
@@ -104,8 +111,10 @@ pub(crate) fn read_clauses(
     requires few { before + length text.now < 2 ^ 62 }
     ensures vars { IfOk result (λ f. f.vars ≡ vars) }
     ensures clauses { (last : ℕ) → MatchResult result
-        (λ f. clauses_at last vars count [] (text_words (before + 1) (lines text.now)) ≡ Ok f.clauses)
-        (λ stop. Stops last stop (clauses_at last vars count [] (text_words (before + 1) (lines text.now)))) }
+        (λ f. clauses_at last vars count [] (text_words (before + 1) (lines text.now))
+        ≡ Ok f.clauses)
+        (λ stop. Stops last stop
+        (clauses_at last vars count [] (text_words (before + 1) (lines text.now)))) }
 {
     let mut f = Formula::with_vars(alloc, vars);
     let mut left = count;

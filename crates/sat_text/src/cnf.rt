@@ -30,7 +30,8 @@ pub struct CnfFile {
 pub enum CnfError {
     /// It has more than [`MOST_BYTES`] bytes.
     TooLong,
-    /// The first wrong word stands on this line, counted from 1, or words are wanting behind the last one.
+    /// The first wrong word stands on this line, counted from 1, or words are wanting behind the
+    /// last one.
     Bad(u64),
     /// An allocation was refused.
     Memory,
@@ -65,12 +66,13 @@ fn formula(alloc: Global, text: &[u8]) -> Result<Formula, CnfError>
 ///
 /// # Errors
 ///
-/// [`CnfError::TooLong`] exactly where the text has more than [`MOST_BYTES`] bytes, and otherwise [`CnfError::Bad`] with the line
-/// of the first wrong word, or with the last line where words are wanting.
+/// [`CnfError::TooLong`] exactly where the text has more than [`MOST_BYTES`] bytes, and otherwise
+/// [`CnfError::Bad`] with the line of the first wrong word, or with the last line where words are wanting.
 pub fn read_cnf(alloc: Global, text: &[u8]) -> Result<CnfFile, CnfError>
     ensures too_long { IsErrOf result CnfError.TooLong ↔ (MOST_BYTES < length text.now) }
     ensures formula { IfOk result (λ file. formula_of text.now ≡ Ok (plain_formula file.formula)) }
-    ensures notes { IfOk result (λ file. map plain_note file.notes.items ≡ notes_of (lines text.now)) }
+    ensures notes { IfOk result
+        (λ file. map plain_note file.notes.items ≡ notes_of (lines text.now)) }
     ensures added { IfOk result (λ file. file.added ≡ added_of 0 (lines text.now)) }
     ensures bad { (line : ℕ) → result ≡ Err (CnfError.Bad line) → formula_of text.now ≡ Err line }
 {

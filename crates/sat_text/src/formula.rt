@@ -29,7 +29,8 @@ pub(crate) fn last_line(text: &[u8]) -> u64
 /// The line of the first word of a text, whose first line has the number behind this one.
 fn first_word(before: u64, text: &[u8]) -> Stop
     requires few { before + length text.now < 2 ^ 62 }
-    ensures { (last : ℕ) → Names last result (first_word_line last (text_words (before + 1) (lines text.now))) }
+    ensures { (last : ℕ) → Names last result
+        (first_word_line last (text_words (before + 1) (lines text.now))) }
 {
     let mut rest = text;
     let mut number = before;

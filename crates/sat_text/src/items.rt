@@ -56,7 +56,8 @@ pub(crate) fn literal(number: i64) -> Lit
 
 /// The literals of the numbers up to a 0, and what stands behind it.
 pub(crate) fn literals(alloc: Global, line: &[u8]) -> Result<(Vec<Lit>, &[u8]), Fault>
-    ensures { Gives (λ x. (x.0.items, words x.1.now)) result (items_at any_literal (words line.now)) }
+    ensures { Gives (λ x. (x.0.items, words x.1.now)) result
+        (items_at any_literal (words line.now)) }
 {
     let mut found = Vec::new(alloc);
     let mut rest = line;
@@ -88,7 +89,8 @@ pub(crate) fn hints(alloc: Global, line: &[u8]) -> Result<(Vec<i64>, &[u8]), Fau
 
 /// The positive numbers up to a 0, and what stands behind it.
 pub(crate) fn ids(alloc: Global, line: &[u8]) -> Result<(Vec<u64>, &[u8]), Fault>
-    ensures { Gives (λ x. (x.0.items, words x.1.now)) result (items_at positive_of (words line.now)) }
+    ensures { Gives (λ x. (x.0.items, words x.1.now)) result
+        (items_at positive_of (words line.now)) }
 {
     let mut found = Vec::new(alloc);
     let mut rest = line;

@@ -71,7 +71,8 @@ fn is_plain_name(word: &[u8]) -> bool
 fn next_piece(bytes: &[u8], separator: u8) -> (&[u8], Option<&[u8]>)
     ensures cuts { MatchOption result.1
         (slice_split (λ b. b == separator) bytes.now ≡ result.0.now ∷ [])
-        (λ later. slice_split (λ b. b == separator) bytes.now ≡ result.0.now ∷ slice_split (λ b. b == separator) later.now) }
+        (λ later. slice_split (λ b. b == separator) bytes.now
+        ≡ result.0.now ∷ slice_split (λ b. b == separator) later.now) }
     ensures shorter { IfSome result.1 (λ later. length later.now < length bytes.now) }
 {
     match place_of(bytes, separator) {
@@ -134,7 +135,8 @@ fn note_of_words(
     value: &[u8],
     lit: &[u8],
 ) -> Result<Option<CellNote>, Memory>
-    ensures { IfOk result (λ found. option_map plain_note found ≡ note_with cell.now (whole_of value.now) (whole_of lit.now)) }
+    ensures { IfOk result (λ found. option_map plain_note found
+        ≡ note_with cell.now (whole_of value.now) (whole_of lit.now)) }
 {
     let Some(value) = whole(value) else {
         return Ok(None);
@@ -158,7 +160,8 @@ fn note_of_literal(
     value: &[u8],
     bytes: &[u8],
 ) -> Result<Option<CellNote>, Memory>
-    ensures { IfOk result (λ found. option_map plain_note found ≡ note_literal cell.now value.now (slice_split (λ b. b == 32) bytes.now)) }
+    ensures { IfOk result (λ found. option_map plain_note found
+        ≡ note_literal cell.now value.now (slice_split (λ b. b == 32) bytes.now)) }
 {
     let (lit, rest) = next_piece(bytes, b' ');
     match rest {
@@ -176,7 +179,8 @@ fn note_of_literal(
 /// The note whose value and literal the bytes give.
 #[tactic(auto, unfolding(crate::specs::Notes::note_value))]
 fn note_of_value(alloc: Global, cell: &[u8], bytes: &[u8]) -> Result<Option<CellNote>, Memory>
-    ensures { IfOk result (λ found. option_map plain_note found ≡ note_value cell.now (slice_split (λ b. b == 32) bytes.now)) }
+    ensures { IfOk result (λ found. option_map plain_note found
+        ≡ note_value cell.now (slice_split (λ b. b == 32) bytes.now)) }
 {
     let (value, rest) = next_piece(bytes, b' ');
     match rest {
@@ -188,7 +192,8 @@ fn note_of_value(alloc: Global, cell: &[u8], bytes: &[u8]) -> Result<Option<Cell
 /// The note that stands behind `c cell `.
 #[tactic(auto, unfolding(crate::specs::Notes::note_at))]
 fn note_behind(alloc: Global, bytes: &[u8]) -> Result<Option<CellNote>, Memory>
-    ensures { IfOk result (λ found. option_map plain_note found ≡ note_at (slice_split (λ b. b == 32) bytes.now)) }
+    ensures { IfOk result (λ found. option_map plain_note found
+        ≡ note_at (slice_split (λ b. b == 32) bytes.now)) }
 {
     let (cell, rest) = next_piece(bytes, b' ');
     match rest {

@@ -116,8 +116,8 @@ pub(crate) fn is_silent(line: &[u8]) -> bool
 ///
 /// # Errors
 ///
-/// [`LogError::TooLong`] exactly where the text has more than [`MOST_BYTES`] bytes, and otherwise [`LogError::Bad`] with the first
-/// line that isn't in the grammar.
+/// [`LogError::TooLong`] exactly where the text has more than [`MOST_BYTES`] bytes, and otherwise
+/// [`LogError::Bad`] with the first line that isn't in the grammar.
 pub fn read_log(alloc: Global, text: &[u8]) -> Result<Proof, LogError>
     ensures too_long { IsErrOf result LogError.TooLong ↔ (MOST_BYTES < length text.now) }
     ensures found { IfOk result (λ p. proof_of text.now ≡ Ok (plain_lines p.lines.items)) }

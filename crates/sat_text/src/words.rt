@@ -5,7 +5,8 @@ ghost use Rattle.sat_text.specs.Words.{lines, words, is_blank};
 
 /// The first line of a text, and what stands behind its line end.
 pub(crate) fn next_line(text: &[u8]) -> Option<(&[u8], &[u8])>
-    ensures cuts { MatchOption result (lines text.now ≡ []) (λ found. lines text.now ≡ found.0.now ∷ lines found.1.now) }
+    ensures cuts { MatchOption result (lines text.now ≡ [])
+        (λ found. lines text.now ≡ found.0.now ∷ lines found.1.now) }
     ensures shorter { IfSome result (λ found. length found.1.now < length text.now) }
 {
     if text.is_empty() {
@@ -22,7 +23,8 @@ pub(crate) fn next_line(text: &[u8]) -> Option<(&[u8], &[u8])>
 
 /// The first word of a line, and what stands behind it.
 pub(crate) fn next_word(line: &[u8]) -> Option<(&[u8], &[u8])>
-    ensures cuts { MatchOption result (words line.now ≡ []) (λ found. words line.now ≡ found.0.now ∷ words found.1.now) }
+    ensures cuts { MatchOption result (words line.now ≡ [])
+        (λ found. words line.now ≡ found.0.now ∷ words found.1.now) }
     ensures shorter { IfSome result (λ found. length found.1.now < length line.now) }
 {
     let start = word_start(line)?;

@@ -2,12 +2,12 @@
 
 ghost use Rattle.std.specs.Prelude.{◌≡◌, ◌^◌, ◌<◌, ℕ, pos, ◌++◌, ◌∷◌, [], length, map, count_by, All, OnOk, IfOk, Ok, codes, decimal, slice_index};
 ghost use Rattle.std.specs.Fmt.{signed_decimal};
-ghost use Rattle.std.specs.List.{flat_map, AllByRecursion};
-ghost use Rattle.cnf_core.specs.Literal.{Literal};
+ghost use Rattle.std.specs.List.{flat_map};
+ghost use Rattle.cnf_core.specs.Literal.{Literal, IsVariable};
 ghost use Rattle.cnf_core.specs.Events.{plain_event, plain_note, is_given, HintsAreEarlier};
 ghost use Rattle.cnf_core.specs.Lines.{add};
 ghost use Rattle.sat_text.specs.Proofs.{proof_of};
-ghost use Rattle.sat_text.specs.Writing.{number_of, spaced, event_ids, step_lines, log_lines, line_text, log_text, IsReadable, note_text, clause_text, header_text, added_text, cnf_text, IsReadableNote, IsReadableFormula, SaysAgain};
+ghost use Rattle.sat_text.specs.Writing.{number_of, spaced, event_ids, step_lines, log_lines, line_text, log_text, IsReadable, note_text, clause_text, header_text, added_text, cnf_text, IsReadableNote, IsReadableFormula, NamesVariables, SaysAgain};
 
 use cnf_core::{CellNote, Clause, Event, Formula, Lit, Log};
 use ep_base::Memory;
@@ -16,7 +16,8 @@ use std::alloc::Global;
 
 /// The number of a literal: its variable's, negative where the literal is.
 fn number(lit: &Lit) -> i64
-    ensures { result ≡ number_of lit.now }
+    ensures value { result ≡ number_of lit.now }
+    ensures variable { IsVariable lit.now.var }
 {
     let var = lit.var() as i64;
     if lit.positive() { var } else { -var }
@@ -59,7 +60,9 @@ fn put_clause(out: &mut Vec<u8>, clause: &[Lit]) -> Result<(), Memory>
 }
 
 fn put_note(out: &mut Vec<u8>, note: &CellNote) -> Result<(), Memory>
-    ensures { OnOk result (out.new.items ≡ out.old.items ++ note_text (plain_note note.now)) }
+    ensures text { OnOk result
+        (out.new.items ≡ out.old.items ++ note_text (plain_note note.now)) }
+    ensures variable { OnOk result (IsVariable note.now.lit.var) }
 {
     out.extend_from_slice(b"c cell ")?;
     out.extend_from_slice(&note.cell)?;
@@ -90,7 +93,9 @@ fn put_added(out: &mut Vec<u8>, added: u64) -> Result<(), Memory>
 }
 
 fn put_notes(out: &mut Vec<u8>, notes: &[CellNote]) -> Result<(), Memory>
-    ensures { OnOk result (out.new.items ≡ out.old.items ++ flat_map note_text (map plain_note notes.now)) }
+    ensures text { OnOk result
+        (out.new.items ≡ out.old.items ++ flat_map note_text (map plain_note notes.now)) }
+    ensures variables { OnOk result (NamesVariables (map plain_note notes.now)) }
 {
     for note in notes {
         put_note(out, note)?;
@@ -111,6 +116,7 @@ fn put_clauses(out: &mut Vec<u8>, clauses: &[Clause]) -> Result<(), Memory>
 fn ids(alloc: Global, events: &[Event]) -> Result<Vec<u64>, Memory>
     ensures ids { IfOk result (λ made. made.items ≡ event_ids (map plain_event events.now)) }
     ensures all { IfOk result (λ made. length made.items ≡ length events.now) }
+    ensures few { length events.now < 2 ^ 58 }
 {
     let mut given_id = 1;
     let mut step_id = count_givens(events) as u64 + 1;
@@ -158,7 +164,8 @@ fn put_literals(out: &mut Vec<u8>, clause: &[Lit]) -> Result<(), Memory>
 /// The ids of a step's hints with a space before each.
 fn put_hints(out: &mut Vec<u8>, ids: &[u64], hints: &[u64]) -> Result<(), Memory>
     requires { All (λ hint. hint < length ids.now) hints.now }
-    ensures { OnOk result (out.new.items ≡ out.old.items ++ spaced (map (λ hint. pos (slice_index ids.now hint)) hints.now)) }
+    ensures { OnOk result (out.new.items
+        ≡ out.old.items ++ spaced (map (λ hint. pos (slice_index ids.now hint)) hints.now)) }
 {
     for hint in hints {
         out.push(b' ')?;
@@ -176,7 +183,8 @@ fn put_step(
     hints: &[u64],
 ) -> Result<(), Memory>
     requires { All (λ hint. hint < length ids.now) hints.now }
-    ensures { OnOk result (out.new.items ≡ out.old.items ++ line_text (add id clause.now (map (λ hint. pos (slice_index ids.now hint)) hints.now))) }
+    ensures { OnOk result (out.new.items ≡ out.old.items
+        ++ line_text (add id clause.now (map (λ hint. pos (slice_index ids.now hint)) hints.now))) }
 {
     put_natural(out, id)?;
     put_literals(out, clause)?;
@@ -190,7 +198,8 @@ fn put_step(
 fn put_steps(out: &mut Vec<u8>, ids: &[u64], events: &[Event]) -> Result<(), Memory>
     requires all { length ids.now ≡ length events.now }
     requires hints { HintsAreEarlier (map plain_event events.now) }
-    ensures { OnOk result (out.new.items ≡ out.old.items ++ flat_map line_text (step_lines ids.now ids.now (map plain_event events.now))) }
+    ensures { OnOk result (out.new.items ≡ out.old.items
+        ++ flat_map line_text (step_lines ids.now ids.now (map plain_event events.now))) }
 {
     for (index, event) in events.iter().enumerate() {
         match event {
@@ -203,7 +212,8 @@ fn put_steps(out: &mut Vec<u8>, ids: &[u64], events: &[Event]) -> Result<(), Mem
 
 /// The lines of the steps of a log.
 fn log_bytes(alloc: Global, log: &Log) -> Result<Vec<u8>, Memory>
-    ensures { IfOk result (λ text. text.items ≡ log_text log.now.events) }
+    ensures text { IfOk result (λ text. text.items ≡ log_text log.now.events) }
+    ensures readable { IfOk result (λ _. All IsReadable (log_lines log.now.events)) }
 {
     let events = log.events();
     let ids = ids(alloc, events)?;
@@ -212,17 +222,21 @@ fn log_bytes(alloc: Global, log: &Log) -> Result<Vec<u8>, Memory>
     Ok(out)
 }
 
-/// The text of a log: a line for each step, with ids as a proof has them over the clauses that were given. Linear in the log.
+/// The text of a log: a line for each step, with ids as a proof has them over the clauses that were
+/// given. Linear in the log.
 pub fn write_log(alloc: Global, log: &Log) -> Result<Vec<u8>, Memory>
     ensures text { IfOk result (λ text. text.items ≡ log_text log.now.events) }
     // Reading gives the lines of the log back.
-    ensures again { IfOk result (λ text. AllByRecursion IsReadable (log_lines log.now.events) → proof_of text.items ≡ Ok (log_lines log.now.events)) }
+    ensures again { IfOk result (λ text. proof_of text.items ≡ Ok (log_lines log.now.events)) }
 {
     log_bytes(alloc, log)
 }
 
 fn cnf_bytes(alloc: Global, f: &Formula, notes: &[CellNote], added: u64) -> Result<Vec<u8>, Memory>
-    ensures { IfOk result (λ text. text.items ≡ cnf_text f.now (map plain_note notes.now) added) }
+    ensures text { IfOk result
+        (λ text. text.items ≡ cnf_text f.now (map plain_note notes.now) added) }
+    ensures readable { IfOk result (λ _. IsReadableFormula f.now) }
+    ensures variables { IfOk result (λ _. NamesVariables (map plain_note notes.now)) }
 {
     let mut out = Vec::new(alloc);
     put_notes(&mut out, notes)?;
@@ -233,16 +247,18 @@ fn cnf_bytes(alloc: Global, f: &Formula, notes: &[CellNote], added: u64) -> Resu
     Ok(out)
 }
 
-/// The text of a formula, with the notes of its cells and the number of clauses that were added last. Linear in the text.
+/// The text of a formula, with the notes of its cells and the number of clauses that were added
+/// last. Linear in the text.
 pub fn write_cnf(
     alloc: Global,
     f: &Formula,
     notes: &[CellNote],
     added: u64,
 ) -> Result<Vec<u8>, Memory>
-    ensures text { IfOk result (λ text. text.items ≡ cnf_text f.now (map plain_note notes.now) added) }
+    ensures text { IfOk result
+        (λ text. text.items ≡ cnf_text f.now (map plain_note notes.now) added) }
     // Reading gives the formula, the notes and the number back.
-    ensures again { IsReadableFormula f.now → AllByRecursion IsReadableNote (map plain_note notes.now) → added < 10 ^ 18 →
+    ensures again { All IsReadableNote (map plain_note notes.now) → added < 10 ^ 18 →
         IfOk result (λ text. SaysAgain text.items f.now (map plain_note notes.now) added) }
 {
     cnf_bytes(alloc, f, notes, added)

@@ -1,4 +1,4 @@
-use Rattle.std.proofs.Common.{◌≡◌, ◌<◌, sym, ap, subst, ◌∙◌, arith}
+use Rattle.std.proofs.Common.{◌≡◌, sym, ap, ◌∙◌, arith}
 use Rattle.cnf_core.specs.Literal.{Literal}
 use Rattle.sat_text.specs.Clauses.{literal_of}
 use Rattle.sat_text.proofs.ItemSteps.{stored, zero_stored}

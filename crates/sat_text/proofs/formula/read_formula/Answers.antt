@@ -1,4 +1,4 @@
-use Rattle.std.proofs.Common.{◌≡◌, ◌+◌, sym, ◌∙◌, ap, ℕ, List, arith}
+use Rattle.std.proofs.Common.{◌+◌, sym, ◌∙◌, arith}
 use Rattle.sat_text.specs.Words.{lines}
 use Rattle.sat_text.proofs.FormulaSteps.{formula_quiet, formula_header, formula_ends, names_stop, formula_good}
 use Rattle.sat_text.proofs.formula.read_formula.Goals as goal

@@ -1,10 +1,8 @@
-use Rattle.std.proofs.Common.{◌≡◌, ℤ, sym, ◌∙◌, ap, subst, Some}
+use Rattle.std.proofs.Common.{ℤ, sym, ap, Some}
 use Rattle.std.proofs.lemmas.Result.{err_from_is_err_and}
-use Rattle.cnf_core.specs.Literal.{Literal}
-use Rattle.sat_text.specs.Answers.{Fails}
 use Rattle.sat_text.specs.Words.{words}
-use Rattle.sat_text.specs.Proofs.{items_at, any_hint}
-use Rattle.sat_text.proofs.ItemSteps.{item_fails, item_ends, item_more, item_refused, stored, zero_stored}
+use Rattle.sat_text.specs.Proofs.{any_hint}
+use Rattle.sat_text.proofs.ItemSteps.{item_fails, item_ends, item_more, stored, zero_stored}
 use Rattle.sat_text.proofs.items.hints.Goals as goal
 
 pub returns-in_err-number : goal.returns-in_err-number

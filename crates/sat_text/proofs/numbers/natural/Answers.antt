@@ -1,5 +1,5 @@
 use Rattle.std.proofs.Common.{arith, sym}
-use Rattle.sat_text.proofs.Digits.{room, read_none, read_more, read_stops, read_all, too_short, too_long, small_value, digit_small}
+use Rattle.sat_text.proofs.Digits.{room, read_none, read_more, small_value}
 use Rattle.sat_text.proofs.numbers.natural.Goals as goal
 
 pub loop-b-init : goal.loop-b-init

@@ -1,9 +1,9 @@
-use Rattle.std.proofs.Common.{◌≡◌, ◌+◌, sym, ◌∙◌, ap, subst, Result, Ok, Err, ℕ, None}
-use Rattle.sat_text.specs.Words.{lines, words}
+use Rattle.std.proofs.Common.{◌≡◌, ◌+◌, sym, ◌∙◌, subst, None}
+use Rattle.sat_text.specs.Words.{words}
 use Rattle.sat_text.specs.Answers.{Fails}
 use Rattle.sat_text.specs.Proofs.{line_of, proof_of}
 use Rattle.sat_text.specs.declared.faults.Fault.{Fault}
-use Rattle.sat_text.proofs.LogLoop.{Reading, reading_quiet, reading_wrong, reading_more, reading_ends, bad_line}
+use Rattle.sat_text.proofs.LogLoop.{reading_quiet, reading_wrong, reading_more, reading_ends, bad_line}
 use Rattle.sat_text.proofs.proof.read_log.Goals as goal
 
 pub returns-in-Err-Wrong-clause-bad : goal.returns-in-Err-Wrong-clause-bad

@@ -1,4 +1,4 @@
-use Rattle.std.proofs.Common.{◌≡◌, ap, subst, sym, ◌∙◌, length, List, ℕ, All, ◌<◌, arith}
+use Rattle.std.proofs.Common.{length, arith}
 use Rattle.sat_text.proofs.EventIds.{written_starts, written_given, written_step, written_ends, hints_there, item_is}
 use Rattle.sat_text.proofs.writing.put_steps.Goals as goal
 use Rattle.sat_text.proofs.writing.put_steps.Goals.{in-Given, in-Step+in_ok-put_step-in-Step}

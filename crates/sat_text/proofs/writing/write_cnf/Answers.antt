@@ -4,4 +4,6 @@ use Rattle.sat_text.proofs.TextAgain.{written_again}
 use Rattle.sat_text.proofs.writing.write_cnf.Goals as goal
 
 pub returns-clause-again : goal.returns-clause-again
-returns-clause-again c = λ r n a. written_again c.cnf_bytes.result c.args.f.now (map plain_note c.args.notes.now) c.args.added r n a c.cnf_bytes.ensures
+returns-clause-again c =
+    written_again c.cnf_bytes.result c.args.f.now (map plain_note c.args.notes.now) c.args.added c.cnf_bytes.ensures.readable c.cnf_bytes.ensures.variables
+    c.cnf_bytes.ensures.text

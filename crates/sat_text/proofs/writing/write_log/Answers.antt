@@ -2,4 +2,4 @@ use Rattle.sat_text.proofs.LogAgain.{log_again}
 use Rattle.sat_text.proofs.writing.write_log.Goals as goal
 
 pub returns-clause-again : goal.returns-clause-again
-returns-clause-again c = log_again c.log_bytes.result c.args.log.now.events c.log_bytes.ensures
+returns-clause-again c = log_again c.log_bytes.result c.args.log.now.events c.log_bytes.ensures.text c.log_bytes.ensures.readable
