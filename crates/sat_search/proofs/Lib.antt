@@ -1,4 +1,4 @@
-pub mod Marks
+pub mod Marking
 pub mod Tracing
 pub mod Trails
 pub mod Learnt

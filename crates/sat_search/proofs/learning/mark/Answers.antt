@@ -2,7 +2,7 @@ use Rattle.std.proofs.Common.{◌≡◌, ℕ, ◌+◌, ◌<◌, get_or, List, ta
 use Rattle.std.proofs.lemmas.List.{take_all}
 use Rattle.cnf_core.specs.Literal.{Literal}
 use Rattle.sat_search.specs.Analysis.{MarksClause, is_marked}
-use Rattle.sat_search.proofs.Marks.{marks_none, marks_more}
+use Rattle.sat_search.proofs.Marking.{marks_none, marks_more}
 use Rattle.sat_search.proofs.learning.mark.Goals as goal
 
 pub loop-lit-init : goal.loop-lit-init

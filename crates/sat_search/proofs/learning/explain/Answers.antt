@@ -1,7 +1,7 @@
 use Rattle.std.proofs.Common.{◌≡◌, List, [], length, sym, ap, refl}
 use Rattle.sat_state.specs.Trail.{literals}
 use Rattle.sat_search.proofs.Tracing.{traced_conflict, explained}
-use Rattle.sat_search.proofs.learning.trace.Goals as goal
+use Rattle.sat_search.proofs.learning.explain.Goals as goal
 
 pub resolve_level-requires-clause-traced : goal.resolve_level-requires-clause-traced
 resolve_level-requires-clause-traced c =

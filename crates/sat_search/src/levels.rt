@@ -1,0 +1,56 @@
+//! Levels: where a variable got its value, where a learnt clause leads back to, and going back.
+
+ghost use Rattle.std.specs.Prelude.{◌≡◌, ◌⊎◌, ℕ, ◌≤◌, Contains, nat_le, filter};
+ghost use Rattle.sat_state.specs.Trail.{Entry, level_of};
+ghost use Rattle.sat_search.specs.Analysis.{IsFrom, HasTwoFrom};
+
+use crate::order::Order;
+use cnf_core::Clause;
+use sat_state::State;
+
+/// The level at which a variable got its value, or 0 where it has none.
+pub fn level_in(state: &State, var: u64) -> u64
+    ensures { IsFrom state.now.trail result var }
+{
+    if state.value(var).is_some() {
+        state.level_of(var)
+    } else {
+        0
+    }
+}
+
+/// The level to which a clause leads back: that of the second highest of its literals.
+pub fn second_level(state: &State, clause: &Clause) -> u64
+    ensures { (result ≡ 0) ⊎ HasTwoFrom state.now.trail result clause.now }
+{
+    let lits = clause.lits();
+    let mut highest = 0;
+    let mut second = 0;
+    for lit in lits {
+        let level = level_in(state, lit.var());
+        if level > highest {
+            second = highest;
+            highest = level;
+        } else if level > second {
+            second = level;
+        }
+    }
+    second
+}
+
+// Keeps the values of the literals that are of a level above this one.
+fn release_above(state: &State, order: &mut Order, level: u64) {
+    for lit in state.trail().iter().rev() {
+        if level_in(state, lit.var()) <= level {
+            return;
+        }
+        order.release(*lit);
+    }
+}
+
+/// Goes back to a level, if it is below the present one.
+pub fn go_back(state: &mut State, order: &mut Order, level: u64)
+{
+    release_above(state, order, level);
+    state.backtrack(level.min(state.level()));
+}
