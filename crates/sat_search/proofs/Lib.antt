@@ -4,3 +4,5 @@ pub mod Trails
 pub mod Learnt
 pub mod Values
 pub mod Continued
+pub mod Counting
+pub mod GoingBack

@@ -8,7 +8,7 @@ use Rattle.cnf_core.specs.Literal.{Literal}
 use Rattle.cnf_core.proofs.Members.{either, none_in_nil}
 use Rattle.sat_search.specs.Analysis.{is_marked, IsNamedIn, MarksClause}
 
-same_or_not : (v w : ℕ) → (v ≡ w) ⊎ (v ≢ w)
+pub same_or_not : (v w : ℕ) → (v ≡ w) ⊎ (v ≢ w)
 same_or_not v w = elim (either (eqb v w)) [ inl same ↦ inl (eqb-true v w same) | inr differs ↦ inr (eqb-false v w differs) ]
 
 set_marks : (marks : List Bool) (w : ℕ) → w < length marks → is_marked (set marks w true) w ≡ true
@@ -50,5 +50,21 @@ marks_more old now lits i l marks within is room =
           | inr named ↦ inr (record { literal = named.literal; in_clause = Contains-append_left (take i lits) (l ∷ []) named.literal named.in_clause; names = named.names })
         ]
         | inr same ↦ inr (record { literal = l; in_clause = Contains-push (take i lits) l; names = same })
+      ];
+    })
+
+-- a literal whose variable is marked already adds nothing
+pub marks_already : (old now : List Bool) (lits : List Literal) (i : ℕ) (l : Literal) → MarksClause old now (take i lits) → i < length lits → l ≡ get_or lits i l → is_marked now l.var ≡ true → MarksClause old now (take (i + 1) lits)
+marks_already old now lits i l marks within is marked =
+    let more : take (i + 1) lits ≡ take i lits ++ l ∷ [] = take_more lits i l within ∙ ap (λ (m : Literal). take i lits ++ m ∷ []) (sym is) in
+    subst (MarksClause old now) (sym more) (record {
+      marked = λ m found. elim (Contains-push_cases (take i lits) l m found) [
+        | inl before ↦ marks.marked m before
+        | inr here ↦ subst (λ (x : Literal). is_marked now x.var ≡ true) here marked
+      ];
+      keeps = marks.keeps;
+      only = λ v now_is. elim (marks.only v now_is) [
+        | inl was ↦ inl was
+        | inr named ↦ inr (record { literal = named.literal; in_clause = Contains-append_left (take i lits) (l ∷ []) named.literal named.in_clause; names = named.names })
       ];
     })

@@ -1,10 +1,10 @@
 //! Learning: from a falsified clause back to the literals that made it false.
 
-ghost use Rattle.std.specs.Prelude.{◌≡◌, ◌⊎◌, ℕ, ◌+◌, ◌<◌, ◌≤◌, [], ◌∷◌, ◌++◌, length, take, All, Bool, true, false, Some, None, IfOk, OnOk, IsSome, IfSome, slice_index_or, vec_len};
+ghost use Rattle.std.specs.Prelude.{◌≡◌, ◌⊎◌, ℕ, ◌+◌, ◌<◌, ◌≤◌, [], ◌∷◌, ◌++◌, length, take, All, Bool, true, false, Some, None, IfOk, OnOk, IsSome, IfSome, slice_index_or, slice_set, vec_len, IsOk};
 ghost use Rattle.std.specs.Option.{option_map, option_map_or, ForSome};
 ghost use Rattle.cnf_core.specs.Literal.{Literal, negation, IsOrdered};
 ghost use Rattle.sat_state.specs.Trail.{literals, value_of, entry_of, NamesFalsified};
-ghost use Rattle.sat_search.specs.Analysis.{IsKnown, is_marked, MarksClause, IsTraced, IsDecisionAt, IsUnmarkedBetween, IsCut, KeepsMore, HasLast, IsExplained};
+ghost use Rattle.sat_search.specs.Analysis.{IsKnown, is_marked, MarksClause, IsTraced, IsDecisionAt, IsUnmarkedBetween, IsCut, KeepsMore, HasLast, IsExplained, count_marked, CountsMarks};
 
 use crate::levels::level_in;
 use crate::marks::Marks;
@@ -21,7 +21,7 @@ use std::alloc::Global;
 pub struct Analysis {
     marks: Marks,
     met: Vec<u64>,
-    open: u64,
+    pending: u64,
     last: u64,
     seen: Seen,
 }
@@ -32,7 +32,7 @@ impl Analysis {
         Analysis {
             marks: Marks::new(alloc),
             met: Vec::new(alloc),
-            open: 0,
+            pending: 0,
             last: 0,
             seen: Seen::new(alloc),
         }
@@ -41,21 +41,25 @@ impl Analysis {
 
 // Begins with a conflict over the variables up to this number.
 fn begin(analysis: &mut Analysis, vars: u64) -> Result<(), Memory>
+    ensures room { OnOk result (vars < length analysis.new.marks) }
+    ensures unmarked { OnOk result ((v : ℕ) → is_marked analysis.new.marks v ≡ false) }
 {
     analysis.marks.grow(vars)?;
     analysis.marks.clear();
     analysis.met.clear();
-    analysis.open = 0;
+    analysis.pending = 0;
     analysis.last = 0;
     analysis.seen.begin(vars)
 }
 
-// Marks a variable that wasn't marked, got its value at this level, and counts as of the last level where it is so.
+// Marks a variable, and counts it, also as one of the last level where it is so.
 fn meet(analysis: &mut Analysis, var: u64, is_last: bool) -> Result<(), Memory>
+    ensures marks { OnOk result (analysis.new.marks ≡ slice_set analysis.old.marks var true) }
+    ensures pending { OnOk result (analysis.new.pending ≡ analysis.old.pending + 1) }
 {
+    analysis.pending = analysis.pending.checked_add(1).ok_or(Memory)?;
     analysis.met.push(var)?;
     analysis.marks.mark(var);
-    analysis.open = analysis.open.saturating_add(1);
     if is_last {
         analysis.last = analysis.last.saturating_add(1);
     }
@@ -64,7 +68,13 @@ fn meet(analysis: &mut Analysis, var: u64, is_last: bool) -> Result<(), Memory>
 
 // Marks the variables of a clause, and counts those that weren't marked before.
 fn mark(state: &State, analysis: &mut Analysis, clause: &Clause) -> Result<(), Memory>
+    requires { All (λ l. l.var < length analysis.old.marks) clause.now }
+    ensures ordered { OnOk result (IsOrdered clause.now) }
+    ensures room { OnOk result (length analysis.new.marks ≡ length analysis.old.marks) }
+    ensures marks { OnOk result (MarksClause analysis.old.marks analysis.new.marks clause.now) }
+    ensures counts { OnOk result (CountsMarks (literals state.now.trail) analysis.old.marks analysis.new.marks analysis.old.pending analysis.new.pending) }
 {
+    let _trail = state.trail();
     let lits = clause.lits();
     let level = state.level();
     for lit in lits {
@@ -83,6 +93,13 @@ fn resolve(
     analysis: &mut Analysis,
     hints: &mut Vec<u64>,
 ) -> Result<(), Memory>
+    requires there { number < length state.now.clauses }
+    requires room { All (λ l. l.var < length analysis.old.marks) (slice_index_or state.now.clauses number []) }
+    ensures hints { OnOk result (hints.new.items ≡ hints.old.items ++ number ∷ []) }
+    ensures ordered { OnOk result (IsOrdered (slice_index_or state.now.clauses number [])) }
+    ensures room { OnOk result (length analysis.new.marks ≡ length analysis.old.marks) }
+    ensures marks { OnOk result (MarksClause analysis.old.marks analysis.new.marks (slice_index_or state.now.clauses number [])) }
+    ensures counts { OnOk result (CountsMarks (literals state.now.trail) analysis.old.marks analysis.new.marks analysis.old.pending analysis.new.pending) }
 {
     hints.push(number)?;
     mark(state, analysis, state.clause(number))
@@ -90,6 +107,10 @@ fn resolve(
 
 // The place of the last decision below a place, where nothing between is marked.
 fn decision_below(state: &State, marks: &Marks, place: usize) -> Option<usize>
+    requires { place ≤ length (literals state.now.trail) }
+    ensures below { IfSome result (λ decision. decision < place) }
+    ensures decision { IfSome result (IsDecisionAt state.now.clauses (literals state.now.trail)) }
+    ensures alone { IfSome result (λ decision. IsUnmarkedBetween (literals state.now.trail) marks.now decision place) }
 {
     let trail = state.trail();
     let mut below = place;
@@ -116,6 +137,10 @@ struct Cut {
 
 // The cut at a marked literal, if it is the last one that is marked of its level.
 fn cut_at(state: &State, marks: &Marks, place: usize, last: u64) -> Option<Cut>
+    requires within { place < length (literals state.now.trail) }
+    requires marked { (d : Literal) → is_marked marks.now (slice_index_or (literals state.now.trail) place d).var ≡ true }
+    requires free { (d : Literal) → value_of (take place (literals state.now.trail)) (slice_index_or (literals state.now.trail) place d).var ≡ None }
+    ensures { IfSome result (λ cut. (cut.place ≡ place) × IsCut state.now.clauses (literals state.now.trail) marks.now place cut.decision) }
 {
     if last != 1 {
         return None;
@@ -131,6 +156,14 @@ fn resolve_level(
     analysis: &mut Analysis,
     hints: &mut Vec<u64>,
 ) -> Result<Option<Cut>, Memory>
+    requires known { IsKnown vars state.now }
+    requires room { vars < length analysis.old.marks }
+    requires traced { IsTraced state.now.clauses (literals state.now.trail) analysis.old.marks [] hints.old.items (length (literals state.now.trail)) }
+    requires counted { count_marked (literals state.now.trail) analysis.old.marks (length (literals state.now.trail)) ≤ analysis.old.pending }
+    ensures room { IsOk result → vars < length analysis.new.marks }
+    ensures traced { IfOk result (λ cut. IsTraced state.now.clauses (literals state.now.trail) analysis.new.marks [] hints.new.items (option_map_or (λ c. c.place + 1) cut 0)) }
+    ensures counted { IfOk result (λ cut. count_marked (literals state.now.trail) analysis.new.marks (option_map_or (λ c. c.place + 1) cut 0) ≤ analysis.new.pending) }
+    ensures cut { IfOk result (λ cut. IfSome cut (λ c. IsCut state.now.clauses (literals state.now.trail) analysis.new.marks c.place c.decision)) }
 {
     let trail = state.trail();
     let mut place = trail.len();
@@ -149,7 +182,7 @@ fn resolve_level(
                     if let Some(cut) = cut_at(state, &analysis.marks, place, analysis.last) {
                         return Ok(Some(cut));
                     }
-                    analysis.open = analysis.open.saturating_sub(1);
+                    analysis.pending = analysis.pending.saturating_sub(1);
                     analysis.last = analysis.last.saturating_sub(1);
                     resolve(state, number, analysis, hints)?;
                 }
@@ -169,14 +202,21 @@ fn keep_below(
     lits: &mut Vec<Lit>,
     hints: &mut Vec<u64>,
 ) -> Result<(), Memory>
+    requires known { IsKnown vars state.now }
+    requires room { vars < length analysis.old.marks }
+    requires within { from ≤ length (literals state.now.trail) }
+    requires traced { IsTraced state.now.clauses (literals state.now.trail) analysis.old.marks lits.old.items hints.old.items from }
+    requires counted { count_marked (literals state.now.trail) analysis.old.marks from ≤ analysis.old.pending }
+    ensures traced { OnOk result (IsTraced state.now.clauses (literals state.now.trail) analysis.new.marks lits.new.items hints.new.items 0) }
+    ensures keeps { OnOk result (KeepsMore (take from (literals state.now.trail)) lits.old.items lits.new.items) }
 {
     let trail = state.trail();
     let mut place = from;
-    while place > 0 && analysis.open > 0 {
+    while place > 0 && analysis.pending > 0 {
         place -= 1;
         let lit = trail[place];
         if analysis.marks.is_marked(lit.var()) {
-            analysis.open -= 1;
+            analysis.pending -= 1;
             match removal(state, &analysis.marks, &mut analysis.seen, lit) {
                 Some(number) => resolve(state, number, analysis, hints)?,
                 None => lits.push(lit.negated())?,
@@ -195,12 +235,19 @@ fn keep(
     analysis: &mut Analysis,
     hints: &mut Vec<u64>,
 ) -> Result<Vec<Lit>, Memory>
+    requires known { IsKnown vars state.now }
+    requires room { vars < length analysis.old.marks }
+    requires traced { IsTraced state.now.clauses (literals state.now.trail) analysis.old.marks [] hints.old.items (option_map_or (λ c. c.place + 1) cut 0) }
+    requires counted { count_marked (literals state.now.trail) analysis.old.marks (option_map_or (λ c. c.place + 1) cut 0) ≤ analysis.old.pending }
+    requires cut { ForSome cut (λ c. IsCut state.now.clauses (literals state.now.trail) analysis.old.marks c.place c.decision) }
+    ensures traced { IfOk result (λ lits. IsTraced state.now.clauses (literals state.now.trail) analysis.new.marks lits.items hints.new.items 0) }
+    ensures last { IfOk result (λ lits. (lits.items ≡ []) ⊎ HasLast state.now.clauses lits.items) }
 {
     let mut lits = Vec::new(alloc);
     match cut {
         None => Ok(lits),
         Some(at) => {
-            analysis.open = analysis.open.saturating_sub(1);
+            analysis.pending = analysis.pending.saturating_sub(1);
             lits.push(state.trail()[at.place].negated())?;
             keep_below(state, vars, at.decision, analysis, &mut lits, hints)?;
             Ok(lits)

@@ -1,6 +1,6 @@
 //! Levels: where a variable got its value, where a learnt clause leads back to, and going back.
 
-ghost use Rattle.std.specs.Prelude.{◌≡◌, ◌⊎◌, ℕ, ◌≤◌, Contains, nat_le, filter};
+ghost use Rattle.std.specs.Prelude.{◌≡◌, ◌⊎◌, ℕ, ◌≤◌, Contains, All};
 ghost use Rattle.sat_state.specs.Trail.{Entry, level_of};
 ghost use Rattle.sat_search.specs.Analysis.{IsFrom, HasTwoFrom};
 
@@ -12,6 +12,7 @@ use sat_state::State;
 pub fn level_in(state: &State, var: u64) -> u64
     ensures { IsFrom state.now.trail result var }
 {
+    let _trail = state.trail();
     if state.value(var).is_some() {
         state.level_of(var)
     } else {
@@ -24,16 +25,12 @@ pub fn second_level(state: &State, clause: &Clause) -> u64
     ensures { (result ≡ 0) ⊎ HasTwoFrom state.now.trail result clause.now }
 {
     let lits = clause.lits();
-    let mut highest = 0;
-    let mut second = 0;
+    let mut highest = 0u64;
+    let mut second = 0u64;
     for lit in lits {
         let level = level_in(state, lit.var());
-        if level > highest {
-            second = highest;
-            highest = level;
-        } else if level > second {
-            second = level;
-        }
+        second = second.max(level.min(highest));
+        highest = highest.max(level);
     }
     second
 }
@@ -50,6 +47,10 @@ fn release_above(state: &State, order: &mut Order, level: u64) {
 
 /// Goes back to a level, if it is below the present one.
 pub fn go_back(state: &mut State, order: &mut Order, level: u64)
+    ensures clauses { state.new.clauses ≡ state.old.clauses }
+    ensures vars { state.new.vars ≡ state.old.vars }
+    ensures trail { All (Contains state.old.trail) state.new.trail }
+    ensures level { level_of state.new.trail ≤ level }
 {
     release_above(state, order, level);
     state.backtrack(level.min(state.level()));

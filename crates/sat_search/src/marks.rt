@@ -1,6 +1,6 @@
 //! Marks on variables, which are all taken away in one step.
 
-ghost use Rattle.std.specs.Prelude.{◌≡◌, ℕ, ◌<◌, [], length, slice_set, true, false, OnOk};
+ghost use Rattle.std.specs.Prelude.{◌≡◌, ℕ, ◌+◌, ◌^◌, ◌<◌, ◌≤◌, [], length, slice_set, true, false, All, OnOk};
 ghost use Rattle.sat_search.specs.Analysis.{is_marked};
 
 use ep_base::Memory;
@@ -12,6 +12,20 @@ use std::marker::Model;
 pub struct Marks {
     stamps: Vec<u64>,
     stamp: u64,
+}
+
+// The latest stamp, after which there is another one: the one given, or else 0, to which all stamps are set.
+fn latest(stamps: &mut Vec<u64>, stamp: u64) -> u64
+    requires { All (λ s. s ≤ stamp) stamps.old.items }
+    ensures room { length stamps.new.items ≡ length stamps.old.items }
+    ensures none_later { All (λ s. s ≤ result) stamps.new.items }
+    ensures below { result + 1 < 2 ^ 64 }
+{
+    if stamp == u64::MAX {
+        stamps.fill(0);
+        return 0;
+    }
+    stamp
 }
 
 impl Model for Marks {
@@ -53,11 +67,7 @@ impl Marks {
         ensures room { length self.new ≡ length self.old }
         ensures none { (v : ℕ) → is_marked self.new v ≡ false }
     {
-        if self.stamp == u64::MAX {
-            self.stamps.fill(0);
-            self.stamp = 0;
-        }
-        self.stamp += 1;
+        self.stamp = latest(&mut self.stamps, self.stamp) + 1;
     }
 
     /// Marks a variable, if it is known.

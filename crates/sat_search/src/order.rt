@@ -122,8 +122,9 @@ impl Order {
     // Brings the variables of the batch forward, in its order.
     fn bring_batch(&mut self) {
         for place in 0..self.batch.len() {
-            let (_, var) = self.batch[place];
-            self.bring_forward(var);
+            if let Some((_named, var)) = self.batch.get(place).copied() {
+                self.bring_forward(var);
+            }
         }
     }
 

@@ -4,7 +4,7 @@ ghost use Rattle.std.specs.Prelude.{◌≡◌, ◌⊎◌, ℕ, ◌<◌, ◌≤�
 ghost use Rattle.cnf_core.specs.Events.{clauses_of, nonempty_steps, HintsAreThere};
 ghost use Rattle.sat_state.specs.Trail.{literals, value_of, NamesFalsified};
 ghost use Rattle.sat_state.specs.View.{IsPropagated};
-ghost use Rattle.sat_search.specs.Analysis.{IsKnown, AreInRange, AllHaveValues, KeepsValues};
+ghost use Rattle.sat_search.specs.Analysis.{IsKnown, AreInRange, AllHaveValues, KeepsValues, HasTwoFrom};
 ghost use Rattle.sat_search.specs.Logs.{IsSound, IsContinued, HasEnded, IsAnswer, with_step};
 
 use crate::adding::copied;
@@ -116,7 +116,19 @@ fn decide_all(state: &mut State, order: &mut Order, vars: u64) -> Option<u64>
     decide_rest(state, order, vars)
 }
 
-// Appends the clause to the log as a step, and at level 0 to the clauses.
+// The level from which the search goes on with a clause: the start where it is time to restart, or else that to which the clause
+// leads back.
+fn next_level(state: &State, restarts: &mut Restarts, clause: &Clause) -> u64
+    ensures { (result ≡ 0) ⊎ HasTwoFrom state.now.trail result clause.now }
+{
+    if restarts.count() {
+        0
+    } else {
+        second_level(state, clause)
+    }
+}
+
+// Appends the clause to the log as a step, and to the clauses at the level from which the search goes on.
 fn append(
     state: &mut State,
     tools: &mut Tools,
@@ -136,11 +148,7 @@ fn append(
 {
     let copy = copied(&clause)?;
     log.step(copy, hints)?;
-    let level = if tools.restarts.count() {
-        0
-    } else {
-        second_level(state, &clause)
-    };
+    let level = next_level(state, &mut tools.restarts, &clause);
     go_back(state, &mut tools.order, level);
     state.add(clause)
 }
