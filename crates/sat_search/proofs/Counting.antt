@@ -54,6 +54,14 @@ pub count_taken : (trail : List Literal) (marks : List Bool) (i most : ℕ) (l :
 count_taken trail marks i most l within is marked few =
     omega (arith, few, count_by_more_yes (λ (m : Literal). is_marked marks m.var) trail i l within (ap (λ (m : Literal). is_marked marks m.var) (sym is) ∙ marked))
 
+-- where nothing is marked nothing is counted
+pub count_unmarked : (trail : List Literal) (marks : List Bool) (n : ℕ) → n ≤ length trail → ((v : ℕ) → is_marked marks v ≡ false) → count_marked trail marks n ≡ 0
+count_unmarked trail marks zero within none = refl
+count_unmarked trail marks (suc n) within none =
+    let next : suc n ≡ n + 1 = omega arith in
+    subst (λ (k : ℕ). count_marked trail marks k ≡ 0) (sym next)
+    (count_by_more_no (λ (l : Literal). is_marked marks l.var) trail n some_literal (omega arith) (none (get_or trail n some_literal).var) ∙ count_unmarked trail marks n (omega arith) none)
+
 -- where none is counted none is marked
 pub none_counted : (trail : List Literal) (marks : List Bool) (upto : ℕ) → upto ≤ length trail → count_marked trail marks upto ≡ 0 → IsUnmarkedBetween trail marks 0 upto
 none_counted trail marks upto within none k e low high = elim (either (is_marked marks (get_or trail k e).var)) [

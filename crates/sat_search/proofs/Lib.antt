@@ -6,3 +6,4 @@ pub mod Values
 pub mod Continued
 pub mod Counting
 pub mod GoingBack
+pub mod Known

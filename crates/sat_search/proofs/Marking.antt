@@ -2,7 +2,7 @@
 use Rattle.std.proofs.Common.{◌≡◌, ◌≢◌, ℕ, ◌+◌, ◌<◌, Bool, true, false, ◌⊎◌, inl, inr, List, [], ◌∷◌, ◌++◌, length, get_or, set, take, refl, ap, ◌∙◌, sym, subst, arith, eqb}
 use Rattle.std.specs.Prelude.{Contains}
 use Rattle.std.proofs.lemmas.Bool.{eqb-true, eqb-false, false≢true}
-use Rattle.std.proofs.lemmas.List.{take_more, get_or-set_same, get_or-set_other}
+use Rattle.std.proofs.lemmas.List.{take_more, get_or-set_same, get_or-set_other, set-get_or}
 use Rattle.std.proofs.lemmas.List.Elements.{Contains-push_cases, Contains-push, Contains-append_left}
 use Rattle.cnf_core.specs.Literal.{Literal}
 use Rattle.cnf_core.proofs.Members.{either, none_in_nil}
@@ -53,18 +53,6 @@ marks_more old now lits i l marks within is room =
       ];
     })
 
--- a literal whose variable is marked already adds nothing
-pub marks_already : (old now : List Bool) (lits : List Literal) (i : ℕ) (l : Literal) → MarksClause old now (take i lits) → i < length lits → l ≡ get_or lits i l → is_marked now l.var ≡ true → MarksClause old now (take (i + 1) lits)
-marks_already old now lits i l marks within is marked =
-    let more : take (i + 1) lits ≡ take i lits ++ l ∷ [] = take_more lits i l within ∙ ap (λ (m : Literal). take i lits ++ m ∷ []) (sym is) in
-    subst (MarksClause old now) (sym more) (record {
-      marked = λ m found. elim (Contains-push_cases (take i lits) l m found) [
-        | inl before ↦ marks.marked m before
-        | inr here ↦ subst (λ (x : Literal). is_marked now x.var ≡ true) here marked
-      ];
-      keeps = marks.keeps;
-      only = λ v now_is. elim (marks.only v now_is) [
-        | inl was ↦ inl was
-        | inr named ↦ inr (record { literal = named.literal; in_clause = Contains-append_left (take i lits) (l ∷ []) named.literal named.in_clause; names = named.names })
-      ];
-    })
+-- marking a variable that is marked changes nothing
+pub marked_already : (marks : List Bool) (v : ℕ) → is_marked marks v ≡ true → marks ≡ set marks v true
+marked_already marks v is = sym (set-get_or marks v false) ∙ ap (set marks v) is

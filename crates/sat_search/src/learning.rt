@@ -52,17 +52,20 @@ fn begin(analysis: &mut Analysis, vars: u64) -> Result<(), Memory>
     analysis.seen.begin(vars)
 }
 
-// Marks a variable, and counts it, also as one of the last level where it is so.
-fn meet(analysis: &mut Analysis, var: u64, is_last: bool) -> Result<(), Memory>
+// Marks a variable, and counts it if it wasn't marked, also as one of the last level where it is so.
+fn meet(state: &State, analysis: &mut Analysis, level: u64, var: u64) -> Result<(), Memory>
     ensures marks { OnOk result (analysis.new.marks ≡ slice_set analysis.old.marks var true) }
-    ensures pending { OnOk result (analysis.new.pending ≡ analysis.old.pending + 1) }
+    ensures counts { OnOk result (CountsMarks (literals state.now.trail) analysis.old.marks analysis.new.marks analysis.old.pending analysis.new.pending) }
 {
+    let _trail = state.trail();
+    if analysis.marks.is_marked(var) {
+        return Ok(());
+    }
+    let is_last = level_in(state, var) == level;
     analysis.pending = analysis.pending.checked_add(1).ok_or(Memory)?;
+    analysis.last = analysis.last.saturating_add(u64::from(is_last));
     analysis.met.push(var)?;
     analysis.marks.mark(var);
-    if is_last {
-        analysis.last = analysis.last.saturating_add(1);
-    }
     Ok(())
 }
 
@@ -74,14 +77,10 @@ fn mark(state: &State, analysis: &mut Analysis, clause: &Clause) -> Result<(), M
     ensures marks { OnOk result (MarksClause analysis.old.marks analysis.new.marks clause.now) }
     ensures counts { OnOk result (CountsMarks (literals state.now.trail) analysis.old.marks analysis.new.marks analysis.old.pending analysis.new.pending) }
 {
-    let _trail = state.trail();
     let lits = clause.lits();
     let level = state.level();
     for lit in lits {
-        let var = lit.var();
-        if !analysis.marks.is_marked(var) {
-            meet(analysis, var, level_in(state, var) == level)?;
-        }
+        meet(state, analysis, level, lit.var())?;
     }
     Ok(())
 }

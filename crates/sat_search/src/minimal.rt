@@ -65,13 +65,7 @@ fn known(state: &State, marks: &Marks, seen: &Seen, var: u64) -> Option<bool> {
 }
 
 // Whether a variable has a reason whose other literals follow from what is marked, as far as so many reasons tell.
-fn has_implied_reason(
-    state: &State,
-    marks: &Marks,
-    seen: &mut Seen,
-    var: u64,
-    depth: u64,
-) -> bool {
+fn has_implied_reason(state: &State, marks: &Marks, seen: &mut Seen, var: u64, depth: u64) -> bool {
     if depth == 0 {
         return false;
     }

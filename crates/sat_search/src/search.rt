@@ -150,7 +150,8 @@ fn append(
     log.step(copy, hints)?;
     let level = next_level(state, &mut tools.restarts, &clause);
     go_back(state, &mut tools.order, level);
-    state.add(clause)
+    state.add(clause)?;
+    Ok(())
 }
 
 // Explains a falsified clause, and learns what follows. Answers how the search ends, if it does.
