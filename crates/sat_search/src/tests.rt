@@ -200,55 +200,46 @@ fn drawn_clauses_have_none(rt: HostRuntime) -> Result<(), Fail> {
     Ok(())
 }
 
-// The hints of a Latin square, and the only square that has them; 0 where there is no hint.
-const HINTS: [[u64; 8]; 8] = [
-    [6, 0, 0, 8, 0, 0, 0, 0],
-    [0, 7, 8, 1, 0, 0, 0, 0],
-    [0, 6, 0, 7, 0, 0, 0, 0],
-    [3, 1, 0, 0, 0, 2, 8, 7],
-    [2, 0, 3, 0, 0, 0, 5, 6],
-    [0, 0, 5, 0, 0, 4, 0, 0],
-    [0, 0, 0, 0, 7, 6, 0, 4],
-    [0, 5, 0, 3, 0, 8, 4, 0],
-];
-
-const SQUARE: [[u64; 8]; 8] = [
-    [6, 4, 7, 8, 3, 1, 2, 5],
-    [5, 7, 8, 1, 4, 3, 6, 2],
-    [4, 6, 2, 7, 8, 5, 1, 3],
-    [3, 1, 4, 6, 5, 2, 8, 7],
-    [2, 8, 3, 4, 1, 7, 5, 6],
-    [1, 3, 5, 2, 6, 4, 7, 8],
-    [8, 2, 1, 5, 7, 6, 3, 4],
-    [7, 5, 6, 3, 2, 8, 4, 1],
-];
-
-// The variables of the cells that have numbers, in order.
-fn cells(alloc: Global, square: &[[u64; 8]; 8]) -> Result<Vec<i64>, AllocError> {
+// The variables of the cells of a square that have digits, row by row.
+fn cells(alloc: Global, square: &[u8]) -> Result<Vec<i64>, AllocError> {
     let mut found = Vec::new(alloc);
-    for row in 0..8usize {
-        for column in 0..8usize {
-            let number = square[row][column];
-            if number >= 1 && number <= 8 {
-                found.push(cell(row as u64, column as u64, number - 1))?;
-            }
+    for (place, digit) in square.iter().enumerate() {
+        let place = place as u64 % 64;
+        if *digit >= b'1' && *digit <= b'8' {
+            found.push(cell(place / 8, place % 8, (*digit - b'1') as u64))?;
         }
     }
     Ok(found)
+}
+
+// The variables of the hints of a Latin square.
+fn hints(alloc: Global) -> Result<Vec<i64>, AllocError> {
+    cells(
+        alloc,
+        b"6..8.....781.....6.7....31...2872.3...56..5..4......76.4.5.3.84.",
+    )
+}
+
+// Those of the only square that has these hints.
+fn square(alloc: Global) -> Result<Vec<i64>, AllocError> {
+    cells(
+        alloc,
+        b"6478312557814362462785133146528728341756135264788215763475632841",
+    )
 }
 
 #[test]
 fn hints_make_a_latin_square(rt: HostRuntime) -> Result<(), Fail> {
     let alloc = rt.alloc();
     let mut clauses = latin_square(alloc)?;
-    for hint in cells(alloc, &HINTS)?.as_slice() {
+    for hint in hints(alloc)?.as_slice() {
         clauses.push(vec![in alloc; *hint]?)?;
     }
     let (mut solver, mut log) = pose(alloc, clauses.as_slice())?;
     assert_eq!(rt; log.steps(), 0);
     let outcome = solver.solve(1_000_000, &mut log)?;
     assert!(rt; outcome == Outcome::Sat);
-    for variable in cells(alloc, &SQUARE)?.as_slice() {
+    for variable in square(alloc)?.as_slice() {
         assert!(rt; solver.value(variable.unsigned_abs()));
     }
     Ok(())
