@@ -4,8 +4,14 @@
 
 mod adding;
 mod learning;
+mod levels;
+mod marks;
+mod minimal;
 mod order;
 mod outcome;
+#[cfg(test)]
+mod problems;
+mod restarts;
 mod search;
 mod solver;
 #[cfg(test)]

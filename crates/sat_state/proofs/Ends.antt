@@ -2,12 +2,12 @@
 use Rattle.std.proofs.Common.{◌≡◌, ◌≢◌, ℕ, zero, suc, ◌+◌, ◌<◌, ◌≤◌, Bool, true, false, not, Option, Some, None, IsNone, IsSome, is_none, List, [], ◌∷◌, ◌++◌, length, take, drop, get_or, count_by, All, AllPairs, Contains, refl, sym, ap, ◌∙◌, subst, inl, inr, ◌⊎◌, ⊎_elim, arith, add-one}
 use Rattle.std.proofs.lemmas.Bool.{cases_lt, cases_order, cases_Bool, both_ways, true≢false, false≢true}
 use Rattle.std.proofs.lemmas.List.{get_or_default, get_or-map, take-map, length-map, get_or-take, length-take-le, get_or_append_left, take_more, take_all, take-take, get_or-drop, length-drop, length-append}
-use Rattle.std.proofs.lemmas.List.Elements.{All-nil, All-more, All-contains, All-map, Contains-append_right}
+use Rattle.std.proofs.lemmas.List.Elements.{All-nil, All-more, All-push, All-contains, All-map, Contains-append_right}
 use Rattle.std.proofs.lemmas.List.Sums.{sum_by-take-le}
 use Rattle.cnf_core.specs.Literal.{Literal, negation, is_among, same_literal, IsOrdered, Precedes}
 use Rattle.cnf_core.specs.Clauses.{Satisfies, IsTrueUnder}
 use Rattle.cnf_core.specs.Steps.{IsAtEnd, IsConsistent, HasTrueLiteral, HasTwoNotFalse, IsLastOf}
-use Rattle.sat_state.specs.Trail.{Entry, literals, level_of, IsFalsified, Gives, HasReason, IsGrounded, IsForcedAt, FollowsFromDecisions}
+use Rattle.sat_state.specs.Trail.{Entry, literals, level_of, IsFalsified, Gives, HasReason, IsGrounded, IsForcedAt, IsOpenBelow, FollowsFromDecisions}
 use Rattle.sat_state.specs.Counted.{clause_at}
 use Rattle.sat_state.specs.Joined.{is_false, count_true, IsSettled, AreAllSettled}
 use Rattle.sat_state.proofs.Literals.{Contains-from_among, among_from_Contains, same_literal_is, same_literal_itself, no_literal}
@@ -185,14 +185,48 @@ all_forced clauses old new grounded front level k d h =
     } in
     subst (IsForcedAt (level_of old)) (sym (get_or-drop n new k d)) forced
 
-reason_more : (clauses : List (List Literal)) (clause trues : List Literal) (l : Literal) (reason : Option ℕ) → one_if (is_none reason) ≡ 0 → HasReason clauses trues l reason → HasReason (clauses ++ clause ∷ []) trues l reason
-reason_more clauses clause trues l None none has = absurd (omega (arith, none))
-reason_more clauses clause trues l (Some n) none has =
+reason_more : (clauses : List (List Literal)) (clause trues : List Literal) (l : Literal) (reason : Option ℕ)
+    → (one_if (is_none reason) ≡ 1 → HasTrueLiteral trues clause ⊎ HasTwoNotFalse trues clause) → HasReason clauses trues l reason → HasReason (clauses ++ clause ∷ []) trues l reason
+reason_more clauses clause trues l None settled has = record {
+  consistent = has.consistent;
+  settled = All-push (λ c. HasTrueLiteral trues c ⊎ HasTwoNotFalse trues c) clauses clause has.settled (settled refl);
+}
+reason_more clauses clause trues l (Some n) settled has =
     (omega (arith, has.0, length-append clauses (clause ∷ [])), subst (λ (c : List Literal). Gives trues c l) (sym (get_or_append_left clauses (clause ∷ []) [] n has.0)) has.1)
 
--- a further clause leaves a trail without decisions grounded
-pub grounded_more : (clauses : List (List Literal)) (clause : List Literal) (trail : List Entry) → IsGrounded clauses trail → level_of trail ≡ 0 → IsGrounded (clauses ++ clause ∷ []) trail
-grounded_more clauses clause trail grounded level k d h =
+-- what isn't false by an entry below the trail's level isn't false in a front of a lower level
+not_false_before : (clauses : List (List Literal)) (trail : List Entry) (k : ℕ) (l : Literal) → IsGrounded clauses trail → k ≤ length trail → level_of (take k trail) < level_of trail
+    → All (λ e. e.level < level_of trail → e.literal ≢ negation l) trail → Contains (literals (take k trail)) (negation l) → ⊥
+not_false_before clauses trail k l grounded within lower none (j, h, e) =
+    let get = λ (x : Entry). x.literal in
+    let before : j < k = omega (arith, h, length-map (take k trail) get, length-take-le k trail within) in
+    let there : j < length trail = omega (arith, before, within) in
+    let entry = get_or trail j some_entry in
+    let up_to : entry.level ≡ level_of (take (j + 1) trail) = (grounded j some_entry there).level ∙ ap level_of (sym (take_more trail j some_entry there)) in
+    let same : level_of (take (j + 1) (take k trail)) ≡ level_of (take (j + 1) trail) = ap level_of (take-take (j + 1) k trail (omega arith)) in
+    let low = sum_by-take-le (λ (x : Entry). one_if (is_none x.reason)) (take k trail) (j + 1) in
+    let is_negation : entry.literal ≡ negation l =
+    ap get (sym (get_or-take k trail j some_entry before)) ∙ sym (get_or-map get (take k trail) j some_entry (negation l) (omega (arith, before, length-take-le k trail within))) ∙ e in
+    none j some_entry there (omega (arith, up_to, same, low, lower)) is_negation
+
+-- so a clause that is open below the trail's level is settled there
+settled_before : (clauses : List (List Literal)) (clause : List Literal) (trail : List Entry) (k : ℕ) → IsGrounded clauses trail → k ≤ length trail → level_of (take k trail) < level_of trail
+    → (level_of trail ≡ 0) ⊎ IsOpenBelow trail clause → HasTrueLiteral (literals (take k trail)) clause ⊎ HasTwoNotFalse (literals (take k trail)) clause
+settled_before clauses clause trail k grounded within lower (inl none) = absurd (omega (arith, none, lower))
+settled_before clauses clause trail k grounded within lower (inr pair) = inr (record {
+  one = pair.one;
+  other = pair.other;
+  two = pair.two;
+  one_in = pair.one_in;
+  other_in = pair.other_in;
+  one_not_false = not_false_before clauses trail k pair.one grounded within lower pair.one_not_false_below;
+  other_not_false = not_false_before clauses trail k pair.other grounded within lower pair.other_not_false_below;
+})
+
+-- a further clause leaves a trail grounded that has no decision, or below whose level the clause is open
+pub grounded_more : (clauses : List (List Literal)) (clause : List Literal) (trail : List Entry) → IsGrounded clauses trail → (level_of trail ≡ 0) ⊎ IsOpenBelow trail clause
+    → IsGrounded (clauses ++ clause ∷ []) trail
+grounded_more clauses clause trail grounded may k d h =
     let e = get_or trail k d in
     let stands = grounded k d h in
     let more : level_of (take (k + 1) trail) ≡ level_of (take k trail) + one_if (is_none e.reason) = ap level_of (take_more trail k d h) ∙ level_push (take k trail) e in
@@ -200,7 +234,8 @@ grounded_more clauses clause trail grounded level k d h =
     record {
       free = stands.free;
       level = stands.level;
-      reason = reason_more clauses clause (literals (take k trail)) e.literal e.reason (omega (arith, more, high, level)) stands.reason;
+      reason = reason_more clauses clause (literals (take k trail)) e.literal e.reason
+          (λ (decided : one_if (is_none e.reason) ≡ 1). settled_before clauses clause trail k grounded (omega (arith, h)) (omega (arith, more, high, decided)) may) stands.reason;
     }
 
 true_by_reason : (s : ℕ → Bool) (clauses : List (List Literal)) (trues : List Literal) (l : Literal) (reason : Option ℕ) → Satisfies s clauses → All (IsTrueUnder s) trues

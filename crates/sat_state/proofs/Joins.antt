@@ -1,11 +1,11 @@
 -- The counters as a literal becomes true or is taken back, and what the entries of a trail stand on.
-use Rattle.std.proofs.Common.{◌≡◌, ℕ, ◌+◌, ◌-◌, ◌<◌, ◌≤◌, Bool, true, false, ◌||◌, Option, None, is_none, List, [], ◌∷◌, ◌++◌, length, take, slice_index, count_by, refl, sym, ap, ◌∙◌, ⊎_elim, arith}
+use Rattle.std.proofs.Common.{◌≡◌, ℕ, ◌+◌, ◌-◌, ◌<◌, ◌≤◌, Bool, true, false, ◌||◌, Option, None, is_none, List, [], ◌∷◌, ◌++◌, length, take, slice_index, count_by, refl, sym, ap, ◌∙◌, ◌⊎◌, ⊎_elim, arith}
 use Rattle.std.proofs.lemmas.Bool.{cases_lt}
 use Rattle.std.proofs.lemmas.List.{take-append-le, take_at, get_or_append_left, get_or_push, get_or-take, take-take, length_push, length-take-le, map_push}
 use Rattle.std.proofs.lemmas.List.Elements.{All-push}
 use Rattle.std.proofs.lemmas.List.Sums.{sum_by-cons, sum_by_push, count_by-le-length}
 use Rattle.cnf_core.specs.Literal.{Literal, negation, is_among, same_literal, VariablesUpTo}
-use Rattle.sat_state.specs.Trail.{Entry, literals, level_of, next_level, value_of, HasReason, StandsOn, IsGrounded}
+use Rattle.sat_state.specs.Trail.{Entry, literals, level_of, next_level, value_of, HasReason, StandsOn, IsGrounded, IsOpenBelow}
 use Rattle.sat_state.specs.Assigned.{Assigned}
 use Rattle.sat_state.specs.Counted.{Counted, AreRaised, HasRoom, occurrences, clause_at}
 use Rattle.sat_state.specs.Joined.{is_false, count_true, count_false, AreJoined}
@@ -142,8 +142,8 @@ joined_pop old new was now u j ls free same_clauses same_holders trues falses sa
       grounded = rw (same_clauses, less) (grounded_take old.clauses was.trail (length was.trail - 1) (omega arith) j.grounded);
     }
 
--- a clause with its counts is appended where there is no decision
-pub joined_clause : (old new : Counted) (assigned : Assigned) (clause : List Literal) → AreJoined old assigned → level_of assigned.trail ≡ 0 → VariablesUpTo assigned.vars clause
+-- a clause with its counts is appended where there is no decision, or where it is open below the last one
+pub joined_clause : (old new : Counted) (assigned : Assigned) (clause : List Literal) → AreJoined old assigned → (level_of assigned.trail ≡ 0) ⊎ IsOpenBelow assigned.trail clause → VariablesUpTo assigned.vars clause
     → length old.trues ≡ length old.clauses → length old.falses ≡ length old.clauses → length new.holders ≡ length old.holders
     → new.clauses ≡ old.clauses ++ clause ∷ [] → new.trues ≡ old.trues ++ count_true (literals assigned.trail) clause ∷ [] → new.falses ≡ old.falses ++ count_false (literals assigned.trail) clause ∷ []
     → AreJoined new assigned

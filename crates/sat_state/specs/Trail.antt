@@ -68,6 +68,16 @@ pub record IsForcedAt (level : ℕ) (entry : Entry) : Type 0 where
   pub has_clause : IsSome entry.reason
   pub at_level : entry.level ≡ level
 
+-- two different literals of the clause aren't false by an entry of a level below that of the trail
+pub record IsOpenBelow (trail : List Entry) (clause : List Literal) : Type 0 where
+  pub one : Literal
+  pub other : Literal
+  pub two : one ≢ other
+  pub one_in : Contains clause one
+  pub other_in : Contains clause other
+  pub one_not_false_below : All (λ e. e.level < level_of trail → e.literal ≢ negation one) trail
+  pub other_not_false_below : All (λ e. e.level < level_of trail → e.literal ≢ negation other) trail
+
 -- each assignment that satisfies the clauses and makes the decisions true makes each literal of the trail true
 abbrev pub FollowsFromDecisions : List (List Literal) → List Entry → Type 0
 FollowsFromDecisions clauses trail =

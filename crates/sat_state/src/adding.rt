@@ -1,8 +1,8 @@
 //! Clauses and variables that are added.
 
-ghost use Rattle.std.specs.Prelude.{◌≡◌, ℕ, ◌+◌, ◌*◌, ◌<◌, ◌≤◌, [], ◌∷◌, ◌++◌, length, max, OnOk};
+ghost use Rattle.std.specs.Prelude.{◌≡◌, ℕ, ◌+◌, ◌*◌, ◌<◌, ◌≤◌, ◌⊎◌, [], ◌∷◌, ◌++◌, length, max, OnOk};
 ghost use Rattle.cnf_core.specs.Literal.{VariablesUpTo, IsOrdered};
-ghost use Rattle.sat_state.specs.Trail.{literals, level_of};
+ghost use Rattle.sat_state.specs.Trail.{literals, level_of, IsOpenBelow};
 ghost use Rattle.sat_state.specs.View.{BringsIn};
 ghost use Rattle.sat_state.specs.Joined.{AreJoined, IsQueue, count_true, count_false};
 
@@ -43,7 +43,7 @@ fn grow(clauses: &mut CountedClauses, assigned: &mut Assignment, vars: u64) -> R
 // Appends a clause of known variables.
 fn append(clauses: &mut CountedClauses, assigned: &Assignment, clause: Clause) -> Result<(), Memory>
     requires joined { AreJoined clauses.old assigned.now }
-    requires level { level_of assigned.now.trail ≡ 0 }
+    requires level { (level_of assigned.now.trail ≡ 0) ⊎ IsOpenBelow assigned.now.trail clause }
     requires known { VariablesUpTo assigned.now.vars clause }
     ensures room { length clauses.new.holders ≡ length clauses.old.holders }
     ensures joined { OnOk result (AreJoined clauses.new assigned.now) }
@@ -62,7 +62,7 @@ pub fn add(
     clause: Clause,
 ) -> Result<(), Memory>
     requires joined { AreJoined clauses.old assigned.old }
-    requires level { level_of assigned.old.trail ≡ 0 }
+    requires level { (level_of assigned.old.trail ≡ 0) ⊎ IsOpenBelow assigned.old.trail clause }
     ensures room { 2 ≤ length clauses.new.holders }
     ensures joined { OnOk result (AreJoined clauses.new assigned.new) }
     ensures clauses { OnOk result (clauses.new.clauses ≡ clauses.old.clauses ++ clause ∷ []) }

@@ -1,10 +1,10 @@
 //! The state of a search: clauses, and the literals that are true by decision or by a clause.
 
-ghost use Rattle.std.specs.Prelude.{◌≡◌, ◌≢◌, ℕ, ◌+◌, ◌<◌, ◌≤◌, [], ◌∷◌, ◌++◌, length, take, drop, Bool, All, AllPairs, None, Some, IfOk, OnOk, OnErr, IsSome, filter, nat_le, slice_index_or};
+ghost use Rattle.std.specs.Prelude.{◌≡◌, ◌≢◌, ℕ, ◌+◌, ◌<◌, ◌≤◌, ◌⊎◌, [], ◌∷◌, ◌++◌, length, take, drop, Bool, All, AllPairs, None, Some, IfOk, OnOk, OnErr, IsSome, filter, nat_le, slice_index_or};
 ghost use Rattle.std.specs.Option.{option_map};
 ghost use Rattle.cnf_core.specs.Literal.{Literal, VariablesUpTo};
 ghost use Rattle.cnf_core.specs.Steps.{IsLastOf};
-ghost use Rattle.sat_state.specs.Trail.{literals, value_of, level_of, entry_of, IsFalsified, NamesFalsified, IsGrounded, IsForcedAt, FollowsFromDecisions};
+ghost use Rattle.sat_state.specs.Trail.{literals, value_of, level_of, entry_of, IsFalsified, NamesFalsified, IsGrounded, IsForcedAt, IsOpenBelow, FollowsFromDecisions};
 ghost use Rattle.sat_state.specs.View.{StateView, IsPropagated, BringsIn, nothing};
 
 use crate::adding::{add, forget};
@@ -89,10 +89,11 @@ impl State {
         Ok(state)
     }
 
-    /// Appends a clause, and makes its variables known. What it forces is left to `propagate`. After a refusal the state has no
-    /// clause, no variable and no literal.
+    /// Appends a clause, and makes its variables known. What it forces is left to `propagate`. Where there are decisions, the
+    /// clause has two literals that aren't false below their last level, as a learnt clause has at the level to which it leads
+    /// back. After a refusal the state has no clause, no variable and no literal.
     pub fn add(&mut self, clause: Clause) -> Result<(), Memory>
-        requires { level_of self.old.trail ≡ 0 }
+        requires { (level_of self.old.trail ≡ 0) ⊎ IsOpenBelow self.old.trail clause }
         ensures clauses { OnOk result (self.new.clauses ≡ self.old.clauses ++ clause ∷ []) }
         ensures vars { OnOk result (BringsIn self.old.vars clause self.new.vars) }
         ensures trail { OnOk result (self.new.trail ≡ self.old.trail) }
