@@ -1,0 +1,1 @@
+//! The program on small formulas, and the logs that it writes.
