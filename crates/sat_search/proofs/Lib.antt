@@ -1,6 +1,9 @@
-pub mod Marks
+pub mod Marking
 pub mod Tracing
 pub mod Trails
 pub mod Learnt
 pub mod Values
 pub mod Continued
+pub mod Counting
+pub mod GoingBack
+pub mod Known

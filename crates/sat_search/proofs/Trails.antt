@@ -1,12 +1,13 @@
 -- What a place of a grounded trail says.
-use Rattle.std.proofs.Common.{◌≡◌, ◌≢◌, ℕ, zero, suc, ◌+◌, ◌<◌, Bool, true, false, cond, Option, Some, None, List, [], ◌∷◌, ◌++◌, length, get_or, take, map, All, refl, ap, ◌∙◌, sym, subst, arith, eqb}
+use Rattle.std.proofs.Common.{◌≡◌, ◌≢◌, ℕ, zero, suc, ◌+◌, ◌<◌, Bool, true, false, cond, Option, Some, None, ◌⊎◌, inl, inr, List, [], ◌∷◌, ◌++◌, length, get_or, take, map, All, refl, ap, ◌∙◌, sym, subst, arith, eqb}
 use Rattle.std.specs.List.{find}
 use Rattle.std.specs.Option.{option_map}
-use Rattle.std.specs.Prelude.{Contains}
+use Rattle.std.specs.Prelude.{Contains, IfSome}
 use Rattle.std.proofs.lemmas.Bool.{eqb-true, ne_eqb, eq-eqb}
 use Rattle.std.proofs.lemmas.List.{get_or-map, take-map, length-map, get_or_default}
 use Rattle.std.proofs.lemmas.List.Elements.{All-head, All-tail, All-nil, All-map, All-weaker, All-get_or}
 use Rattle.cnf_core.specs.Literal.{Literal}
+use Rattle.cnf_core.proofs.Members.{either, Contains-here, Contains-there}
 use Rattle.cnf_core.specs.Steps.{IsAtEnd}
 use Rattle.sat_state.specs.Trail.{Entry, literals, value_of, entry_of, HasReason, Gives, IsGrounded}
 use Rattle.sat_state.proofs.Literals.{no_literal}
@@ -24,7 +25,7 @@ find_at p (x ∷ xs) (suc i) d within passes none =
     ∙ find_at p xs i d (omega arith) passes (All-tail (λ y. p y ≡ false) x (take i xs) none)
 
 -- the entry of the variable of a place is the one at that place
-entry_at_place : (clauses : List (List Literal)) (trail : List Entry) (i : ℕ) (d : Entry) → IsGrounded clauses trail → i < length trail → entry_of trail (get_or trail i d).literal.var ≡ Some (get_or trail i d)
+pub entry_at_place : (clauses : List (List Literal)) (trail : List Entry) (i : ℕ) (d : Entry) → IsGrounded clauses trail → i < length trail → entry_of trail (get_or trail i d).literal.var ≡ Some (get_or trail i d)
 entry_at_place clauses trail i d grounded within =
     let v = (get_or trail i d).literal.var in
     let others : All (λ (l : Literal). l.var ≢ v) (literals (take i trail)) = no_literal (literals (take i trail)) v (grounded i d within).free in
@@ -78,3 +79,29 @@ free_at clauses trail i d grounded within =
     let get = λ (e : Entry). e.literal in
     let there : i < length trail = omega (arith, within, length-map trail get) in
     rw (take-map get i trail, get_or-map get trail i some_entry d there) (grounded i some_entry there).free
+
+-- the reason that is read for a variable is that of an entry
+reason_found : (p : Entry → Bool) (trail : List Entry) (r : Option ℕ) → option_map (λ e. e.reason) (find p trail) ≡ Some r → (e : Entry) × Contains trail e × (e.reason ≡ r)
+reason_found p [] r read = absurd (cc)
+reason_found p (x ∷ trail) r read = elim (either (p x)) [
+  | inl is ↦
+      let same : Some x.reason ≡ Some r = sym (ap (λ (b : Bool). option_map (λ (e : Entry). e.reason) (cond b (Some x) (find p trail))) is) ∙ read in
+      (x, Contains-here x trail, cc)
+  | inr isnt ↦
+      let more : option_map (λ (e : Entry). e.reason) (find p trail) ≡ Some r = sym (ap (λ (b : Bool). option_map (λ (e : Entry). e.reason) (cond b (Some x) (find p trail))) isnt) ∙ read in
+      let found = reason_found p trail r more in
+      (found.0, Contains-there x trail found.0 found.1, found.2)
+]
+
+reason_numbers : (clauses : List (List Literal)) (trues : List Literal) (l : Literal) (r : Option ℕ) → HasReason clauses trues l r → IfSome r (λ n. n < length clauses)
+reason_numbers clauses trues l None reason = tt
+reason_numbers clauses trues l (Some n) reason = reason.0
+
+-- so it is the number of a clause
+pub reason_there : (clauses : List (List Literal)) (trail : List Entry) (v : ℕ) (r : Option ℕ) → IsGrounded clauses trail → option_map (λ e. e.reason) (entry_of trail v) ≡ Some r → IfSome r (λ n. n < length clauses)
+reason_there clauses trail v r grounded read =
+    let found = reason_found (λ (e : Entry). eqb e.literal.var v) trail r read in
+    let k = found.1.0 in
+    let e : get_or trail k found.0 ≡ found.0 = found.1.2 in
+    subst (λ (o : Option ℕ). IfSome o (λ (n : ℕ). n < length clauses)) (ap (λ (x : Entry). x.reason) e ∙ found.2)
+    (reason_numbers clauses (literals (take k trail)) (get_or trail k found.0).literal (get_or trail k found.0).reason (grounded k found.0 found.1.1).reason)

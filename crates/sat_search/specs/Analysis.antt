@@ -1,5 +1,5 @@
 -- What a falsified clause is traced to.
-use Rattle.std.specs.Prelude.{◌≡◌, ◌⊎◌, ℕ, ◌<◌, ◌≤◌, Bool, true, false, IsSome, None, List, [], length, map, take, reverse, slice_index_or, All, Contains}
+use Rattle.std.specs.Prelude.{◌≡◌, ◌≢◌, ◌⊎◌, ℕ, ◌<◌, ◌≤◌, Bool, true, false, IsSome, None, List, [], length, map, take, reverse, count_by, slice_index_or, All, Contains}
 use Rattle.std.specs.List.{AllByRecursion}
 use Rattle.cnf_core.specs.Literal.{Literal, negation, IsOrdered}
 use Rattle.cnf_core.specs.declared.lit.TheConstants.{MOST_VARIABLE}
@@ -109,3 +109,25 @@ pub record IsExplained (clauses : List (List Literal)) (lits : List Literal) (hi
   pub hints_there : All (λ h. h < length clauses) hints
   pub named : All (λ l. StandsIn clauses l.var) lits
   pub last : (lits ≡ []) ⊎ HasLast clauses lits
+
+-- how many of the first literals of a trail are marked
+abbrev pub count_marked : List Literal → List Bool → ℕ → ℕ
+count_marked trail marks upto = count_by (λ l. is_marked marks l.var) (take upto trail)
+
+-- Where of a trail's first literals at most so many were marked before, at most so many are now.
+abbrev pub CountsMarks : List Literal → List Bool → List Bool → ℕ → ℕ → Type 0
+CountsMarks trail old new before now = (upto : ℕ) → upto ≤ length trail → count_marked trail old upto ≤ before → count_marked trail new upto ≤ now
+
+-- each entry of this variable is of the level or a higher one
+abbrev pub IsFrom : List Entry → ℕ → ℕ → Type 0
+IsFrom trail level var = All (λ e. e.literal.var ≡ var → level ≤ e.level) trail
+
+-- two different literals of the clause are of the level or a higher one, as far as they have values
+pub record HasTwoFrom (trail : List Entry) (level : ℕ) (clause : List Literal) : Type 0 where
+  pub one : Literal
+  pub other : Literal
+  pub two : one ≢ other
+  pub one_in : Contains clause one
+  pub other_in : Contains clause other
+  pub one_from : IsFrom trail level one.var
+  pub other_from : IsFrom trail level other.var

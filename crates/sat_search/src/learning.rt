@@ -1,66 +1,112 @@
 //! Learning: from a falsified clause back to the literals that made it false.
 
-ghost use Rattle.std.specs.Prelude.{◌≡◌, ◌⊎◌, ℕ, ◌+◌, ◌<◌, ◌≤◌, [], ◌∷◌, ◌++◌, length, take, All, Bool, true, false, Some, None, IfOk, OnOk, IsSome, IfSome, slice_index_or, vec_len};
+ghost use Rattle.std.specs.Prelude.{◌≡◌, ◌⊎◌, ℕ, ◌+◌, ◌<◌, ◌≤◌, [], ◌∷◌, ◌++◌, length, take, All, Bool, true, false, Some, None, IfOk, OnOk, IsSome, IfSome, slice_index_or, slice_set, vec_len, IsOk};
 ghost use Rattle.std.specs.Option.{option_map, option_map_or, ForSome};
 ghost use Rattle.cnf_core.specs.Literal.{Literal, negation, IsOrdered};
 ghost use Rattle.sat_state.specs.Trail.{literals, value_of, entry_of, NamesFalsified};
-ghost use Rattle.sat_search.specs.Analysis.{IsKnown, is_marked, MarksClause, IsTraced, IsDecisionAt, IsUnmarkedBetween, IsCut, KeepsMore, HasLast, IsExplained};
+ghost use Rattle.sat_search.specs.Analysis.{IsKnown, is_marked, MarksClause, IsTraced, IsDecisionAt, IsUnmarkedBetween, IsCut, KeepsMore, HasLast, IsExplained, count_marked, CountsMarks};
 
+use crate::levels::level_in;
+use crate::marks::Marks;
+use crate::minimal::{Seen, removal};
 use crate::order::Order;
 use cnf_core::{Clause, Lit};
 use ep_base::Memory;
 use sat_state::State;
 use std::alloc::Global;
 
-// Whether a variable got its value at this level.
-fn is_of_level(state: &State, level: u64, var: u64) -> bool {
-    if state.value(var).is_some() {
-        state.level_of(var) == level
-    } else {
-        false
+/// What explaining a conflict writes on, kept from one conflict to the next: the variables that were met, marked and in a list,
+/// and how many of them were not yet looked at, of all levels and of the last.
+#[derive(Debug, Drop)]
+pub struct Analysis {
+    marks: Marks,
+    met: Vec<u64>,
+    pending: u64,
+    last: u64,
+    seen: Seen,
+}
+
+impl Analysis {
+    /// Nothing was met.
+    pub fn new(alloc: Global) -> Analysis {
+        Analysis {
+            marks: Marks::new(alloc),
+            met: Vec::new(alloc),
+            pending: 0,
+            last: 0,
+            seen: Seen::new(alloc),
+        }
     }
 }
 
-// Marks the variables of a clause. Answers how many of the last level weren't marked before.
-fn mark(state: &State, marks: &mut [bool], clause: &Clause) -> u64
-    requires { All (λ l. l.var < length marks.old) clause.now }
-    ensures ordered { IsOrdered clause.now }
-    ensures marks { MarksClause marks.old marks.new clause.now }
+// Begins with a conflict over the variables up to this number.
+fn begin(analysis: &mut Analysis, vars: u64) -> Result<(), Memory>
+    ensures room { OnOk result (vars < length analysis.new.marks) }
+    ensures unmarked { OnOk result ((v : ℕ) → is_marked analysis.new.marks v ≡ false) }
+{
+    analysis.marks.grow(vars)?;
+    analysis.marks.clear();
+    analysis.met.clear();
+    analysis.pending = 0;
+    analysis.last = 0;
+    analysis.seen.begin(vars)
+}
+
+// Marks a variable, and counts it if it wasn't marked, also as one of the last level where it is so.
+fn meet(state: &State, analysis: &mut Analysis, level: u64, var: u64) -> Result<(), Memory>
+    ensures marks { OnOk result (analysis.new.marks ≡ slice_set analysis.old.marks var true) }
+    ensures counts { OnOk result (CountsMarks (literals state.now.trail) analysis.old.marks analysis.new.marks analysis.old.pending analysis.new.pending) }
+{
+    let _trail = state.trail();
+    if analysis.marks.is_marked(var) {
+        return Ok(());
+    }
+    let is_last = level_in(state, var) == level;
+    analysis.pending = analysis.pending.checked_add(1).ok_or(Memory)?;
+    analysis.last = analysis.last.saturating_add(u64::from(is_last));
+    analysis.met.push(var)?;
+    analysis.marks.mark(var);
+    Ok(())
+}
+
+// Marks the variables of a clause, and counts those that weren't marked before.
+fn mark(state: &State, analysis: &mut Analysis, clause: &Clause) -> Result<(), Memory>
+    requires { All (λ l. l.var < length analysis.old.marks) clause.now }
+    ensures ordered { OnOk result (IsOrdered clause.now) }
+    ensures room { OnOk result (length analysis.new.marks ≡ length analysis.old.marks) }
+    ensures marks { OnOk result (MarksClause analysis.old.marks analysis.new.marks clause.now) }
+    ensures counts { OnOk result (CountsMarks (literals state.now.trail) analysis.old.marks analysis.new.marks analysis.old.pending analysis.new.pending) }
 {
     let lits = clause.lits();
     let level = state.level();
-    let mut fresh = 0u64;
     for lit in lits {
-        let var = lit.var();
-        if !marks[var as usize] && is_of_level(state, level, var) {
-            fresh = fresh.saturating_add(1);
-        }
-        marks[var as usize] = true;
+        meet(state, analysis, level, lit.var())?;
     }
-    fresh
+    Ok(())
 }
 
-// Makes the clause of this number a hint, and marks its variables. Answers how many of the last level weren't marked before.
+// Makes the clause of this number a hint, and marks its variables.
 fn resolve(
     state: &State,
     number: u64,
-    marks: &mut [bool],
+    analysis: &mut Analysis,
     hints: &mut Vec<u64>,
-) -> Result<u64, Memory>
+) -> Result<(), Memory>
     requires there { number < length state.now.clauses }
-    requires room { All (λ l. l.var < length marks.old) (slice_index_or state.now.clauses number []) }
+    requires room { All (λ l. l.var < length analysis.old.marks) (slice_index_or state.now.clauses number []) }
     ensures hints { OnOk result (hints.new.items ≡ hints.old.items ++ number ∷ []) }
     ensures ordered { OnOk result (IsOrdered (slice_index_or state.now.clauses number [])) }
-    ensures marks { OnOk result (MarksClause marks.old marks.new (slice_index_or state.now.clauses number [])) }
+    ensures room { OnOk result (length analysis.new.marks ≡ length analysis.old.marks) }
+    ensures marks { OnOk result (MarksClause analysis.old.marks analysis.new.marks (slice_index_or state.now.clauses number [])) }
+    ensures counts { OnOk result (CountsMarks (literals state.now.trail) analysis.old.marks analysis.new.marks analysis.old.pending analysis.new.pending) }
 {
     hints.push(number)?;
-    Ok(mark(state, marks, state.clause(number)))
+    mark(state, analysis, state.clause(number))
 }
 
 // The place of the last decision below a place, where nothing between is marked.
-fn decision_below(state: &State, marks: &[bool], place: usize) -> Option<usize>
-    requires within { place ≤ length (literals state.now.trail) }
-    requires room { All (λ l. l.var < length marks.now) (literals state.now.trail) }
+fn decision_below(state: &State, marks: &Marks, place: usize) -> Option<usize>
+    requires { place ≤ length (literals state.now.trail) }
     ensures below { IfSome result (λ decision. decision < place) }
     ensures decision { IfSome result (IsDecisionAt state.now.clauses (literals state.now.trail)) }
     ensures alone { IfSome result (λ decision. IsUnmarkedBetween (literals state.now.trail) marks.now decision place) }
@@ -70,7 +116,7 @@ fn decision_below(state: &State, marks: &[bool], place: usize) -> Option<usize>
     while below > 0 {
         below -= 1;
         let lit = trail[below];
-        if marks[lit.var() as usize] {
+        if marks.is_marked(lit.var()) {
             return None;
         }
         match state.reason(lit.var()) {
@@ -89,14 +135,13 @@ struct Cut {
 }
 
 // The cut at a marked literal, if it is the last one that is marked of its level.
-fn cut_at(state: &State, marks: &[bool], place: usize, open: u64) -> Option<Cut>
+fn cut_at(state: &State, marks: &Marks, place: usize, last: u64) -> Option<Cut>
     requires within { place < length (literals state.now.trail) }
-    requires room { All (λ l. l.var < length marks.now) (literals state.now.trail) }
     requires marked { (d : Literal) → is_marked marks.now (slice_index_or (literals state.now.trail) place d).var ≡ true }
     requires free { (d : Literal) → value_of (take place (literals state.now.trail)) (slice_index_or (literals state.now.trail) place d).var ≡ None }
     ensures { IfSome result (λ cut. (cut.place ≡ place) × IsCut state.now.clauses (literals state.now.trail) marks.now place cut.decision) }
 {
-    if open != 1 {
+    if last != 1 {
         return None;
     }
     let decision = decision_below(state, marks, place)?;
@@ -107,18 +152,19 @@ fn cut_at(state: &State, marks: &[bool], place: usize, open: u64) -> Option<Cut>
 fn resolve_level(
     state: &State,
     vars: u64,
-    fresh: u64,
-    marks: &mut [bool],
+    analysis: &mut Analysis,
     hints: &mut Vec<u64>,
 ) -> Result<Option<Cut>, Memory>
     requires known { IsKnown vars state.now }
-    requires room { length marks.old ≡ vars + 1 }
-    requires traced { IsTraced state.now.clauses (literals state.now.trail) marks.old [] hints.old.items (length (literals state.now.trail)) }
-    ensures traced { IfOk result (λ cut. IsTraced state.now.clauses (literals state.now.trail) marks.new [] hints.new.items (option_map_or (λ c. c.place + 1) cut 0)) }
-    ensures cut { IfOk result (λ cut. IfSome cut (λ c. IsCut state.now.clauses (literals state.now.trail) marks.new c.place c.decision)) }
+    requires room { vars < length analysis.old.marks }
+    requires traced { IsTraced state.now.clauses (literals state.now.trail) analysis.old.marks [] hints.old.items (length (literals state.now.trail)) }
+    requires counted { count_marked (literals state.now.trail) analysis.old.marks (length (literals state.now.trail)) ≤ analysis.old.pending }
+    ensures room { IsOk result → vars < length analysis.new.marks }
+    ensures traced { IfOk result (λ cut. IsTraced state.now.clauses (literals state.now.trail) analysis.new.marks [] hints.new.items (option_map_or (λ c. c.place + 1) cut 0)) }
+    ensures counted { IfOk result (λ cut. count_marked (literals state.now.trail) analysis.new.marks (option_map_or (λ c. c.place + 1) cut 0) ≤ analysis.new.pending) }
+    ensures cut { IfOk result (λ cut. IfSome cut (λ c. IsCut state.now.clauses (literals state.now.trail) analysis.new.marks c.place c.decision)) }
 {
     let trail = state.trail();
-    let mut open = fresh;
     let mut place = trail.len();
     while place > 0 {
         place -= 1;
@@ -131,12 +177,13 @@ fn resolve_level(
                 }));
             }
             Some(number) => {
-                if marks[lit.var() as usize] {
-                    if let Some(cut) = cut_at(state, marks, place, open) {
+                if analysis.marks.is_marked(lit.var()) {
+                    if let Some(cut) = cut_at(state, &analysis.marks, place, analysis.last) {
                         return Ok(Some(cut));
                     }
-                    let more = resolve(state, number, marks, hints)?;
-                    open = open.saturating_sub(1).saturating_add(more);
+                    analysis.pending = analysis.pending.saturating_sub(1);
+                    analysis.last = analysis.last.saturating_sub(1);
+                    resolve(state, number, analysis, hints)?;
                 }
             }
         }
@@ -144,50 +191,38 @@ fn resolve_level(
     Ok(None)
 }
 
-// Goes on from the decision at this place down to the start of the trail: what is marked is resolved at level 0, and its negation
-// is kept at the levels above.
+// Goes on from the decision at this place down the trail, as long as there is something marked: it is resolved where it can be
+// left out, and else its negation is kept.
 fn keep_below(
     state: &State,
     vars: u64,
     from: usize,
-    marks: &mut [bool],
+    analysis: &mut Analysis,
     lits: &mut Vec<Lit>,
     hints: &mut Vec<u64>,
 ) -> Result<(), Memory>
     requires known { IsKnown vars state.now }
-    requires room { length marks.old ≡ vars + 1 }
+    requires room { vars < length analysis.old.marks }
     requires within { from ≤ length (literals state.now.trail) }
-    requires traced { IsTraced state.now.clauses (literals state.now.trail) marks.old lits.old.items hints.old.items from }
-    ensures traced { OnOk result (IsTraced state.now.clauses (literals state.now.trail) marks.new lits.new.items hints.new.items 0) }
+    requires traced { IsTraced state.now.clauses (literals state.now.trail) analysis.old.marks lits.old.items hints.old.items from }
+    requires counted { count_marked (literals state.now.trail) analysis.old.marks from ≤ analysis.old.pending }
+    ensures traced { OnOk result (IsTraced state.now.clauses (literals state.now.trail) analysis.new.marks lits.new.items hints.new.items 0) }
     ensures keeps { OnOk result (KeepsMore (take from (literals state.now.trail)) lits.old.items lits.new.items) }
 {
     let trail = state.trail();
     let mut place = from;
-    while place > 0 {
+    while place > 0 && analysis.pending > 0 {
         place -= 1;
         let lit = trail[place];
-        if marks[lit.var() as usize] {
-            match root_reason(state, lit) {
-                Some(number) => {
-                    let _fresh = resolve(state, number, marks, hints)?;
-                }
+        if analysis.marks.is_marked(lit.var()) {
+            analysis.pending -= 1;
+            match removal(state, &analysis.marks, &mut analysis.seen, lit) {
+                Some(number) => resolve(state, number, analysis, hints)?,
                 None => lits.push(lit.negated())?,
             }
         }
     }
     Ok(())
-}
-
-// The number of the clause that gave a literal at level 0, or none for another literal.
-fn root_reason(state: &State, lit: Lit) -> Option<u64>
-    requires { IsSome (value_of (literals state.now.trail) lit.var) }
-    ensures { IfSome result (λ number. option_map (λ e. e.reason) (entry_of state.now.trail lit.var) ≡ Some (Some number)) }
-{
-    if state.level_of(lit.var()) == 0 {
-        state.reason(lit.var())
-    } else {
-        None
-    }
 }
 
 // The literals that are kept from the cut on, none where there is no cut.
@@ -196,22 +231,24 @@ fn keep(
     state: &State,
     vars: u64,
     cut: Option<Cut>,
-    marks: &mut [bool],
+    analysis: &mut Analysis,
     hints: &mut Vec<u64>,
 ) -> Result<Vec<Lit>, Memory>
     requires known { IsKnown vars state.now }
-    requires room { length marks.old ≡ vars + 1 }
-    requires traced { IsTraced state.now.clauses (literals state.now.trail) marks.old [] hints.old.items (option_map_or (λ c. c.place + 1) cut 0) }
-    requires cut { ForSome cut (λ c. IsCut state.now.clauses (literals state.now.trail) marks.old c.place c.decision) }
-    ensures traced { IfOk result (λ lits. IsTraced state.now.clauses (literals state.now.trail) marks.new lits.items hints.new.items 0) }
+    requires room { vars < length analysis.old.marks }
+    requires traced { IsTraced state.now.clauses (literals state.now.trail) analysis.old.marks [] hints.old.items (option_map_or (λ c. c.place + 1) cut 0) }
+    requires counted { count_marked (literals state.now.trail) analysis.old.marks (option_map_or (λ c. c.place + 1) cut 0) ≤ analysis.old.pending }
+    requires cut { ForSome cut (λ c. IsCut state.now.clauses (literals state.now.trail) analysis.old.marks c.place c.decision) }
+    ensures traced { IfOk result (λ lits. IsTraced state.now.clauses (literals state.now.trail) analysis.new.marks lits.items hints.new.items 0) }
     ensures last { IfOk result (λ lits. (lits.items ≡ []) ⊎ HasLast state.now.clauses lits.items) }
 {
     let mut lits = Vec::new(alloc);
     match cut {
         None => Ok(lits),
         Some(at) => {
+            analysis.pending = analysis.pending.saturating_sub(1);
             lits.push(state.trail()[at.place].negated())?;
-            keep_below(state, vars, at.decision, marks, &mut lits, hints)?;
+            keep_below(state, vars, at.decision, analysis, &mut lits, hints)?;
             Ok(lits)
         }
     }
@@ -226,33 +263,12 @@ pub struct Explanation {
     pub hints: Vec<u64>,
 }
 
-// Explains a falsified clause, where nothing is marked yet.
-fn trace(
-    alloc: Global,
-    state: &State,
-    vars: u64,
-    number: u64,
-    marks: &mut [bool],
-) -> Result<Explanation, Memory>
-    requires known { IsKnown vars state.now }
-    requires room { length marks.old ≡ vars + 1 }
-    requires unmarked { (v : ℕ) → is_marked marks.old v ≡ false }
-    requires falsified { NamesFalsified state.now.clauses state.now.trail number }
-    ensures { IfOk result (λ found. IsExplained state.now.clauses found.lits.items found.hints.items) }
-{
-    let mut hints = Vec::new(alloc);
-    let fresh = resolve(state, number, marks, &mut hints)?;
-    let cut = resolve_level(state, vars, fresh, marks, &mut hints)?;
-    let lits = keep(alloc, state, vars, cut, marks, &mut hints)?;
-    hints.reverse();
-    Ok(Explanation { lits, hints })
-}
-
-/// Explains a falsified clause by the decisions, and brings the variables that it met forward in the order.
+/// Explains a falsified clause by the decisions, and brings the variables that it met down to the cut forward in the order.
 pub fn explain(
     alloc: Global,
     state: &State,
     order: &mut Order,
+    analysis: &mut Analysis,
     vars: u64,
     number: u64,
 ) -> Result<Explanation, Memory>
@@ -260,8 +276,12 @@ pub fn explain(
     requires falsified { NamesFalsified state.now.clauses state.now.trail number }
     ensures { IfOk result (λ found. IsExplained state.now.clauses found.lits.items found.hints.items) }
 {
-    let mut marks = vec![in alloc; false; vars as usize + 1]?;
-    let found = trace(alloc, state, vars, number, &mut marks)?;
-    order.learn(state.trail(), marks.as_slice());
-    Ok(found)
+    let mut hints = Vec::new(alloc);
+    begin(analysis, vars)?;
+    resolve(state, number, analysis, &mut hints)?;
+    let cut = resolve_level(state, vars, analysis, &mut hints)?;
+    order.name(analysis.met.as_slice())?;
+    let lits = keep(alloc, state, vars, cut, analysis, &mut hints)?;
+    hints.reverse();
+    Ok(Explanation { lits, hints })
 }

@@ -4,8 +4,12 @@
 
 mod adding;
 mod learning;
+mod levels;
+mod marks;
+mod minimal;
 mod order;
 mod outcome;
+mod restarts;
 mod search;
 mod solver;
 #[cfg(test)]

@@ -1,90 +1,141 @@
 //! Which variable is decided next, and with which value: first those that conflicts named last, each with the value that it had
-//! last. The choice is free, so nothing is promised of it.
+//! last (Biere and Fröhlich 2015). The choice is free, so nothing is promised of it.
 
 use cnf_core::Lit;
 use ep_base::Memory;
 use std::alloc::Global;
 
-/// A queue of the variables as a ring of links, in which 0 stands before the first and after the last, and the last values.
+/// What is kept of a variable: its neighbours in the queue, when a conflict named it last, and the value that it had last.
+#[derive(Clone, Copy, Debug)]
+struct Link {
+    after: u64,
+    before: u64,
+    named: u64,
+    phase: bool,
+}
+
+const UNLINKED: Link = Link {
+    after: 0,
+    before: 0,
+    named: 0,
+    phase: false,
+};
+
+/// A queue of the variables as a ring, in which 0 stands before the first and after the last. Those before the place at which
+/// the search looks have values.
 #[derive(Drop)]
 pub struct Order {
-    after: Vec<u64>,
-    before: Vec<u64>,
-    phases: Vec<bool>,
-}
-
-// The entry of a list, or 0 past its end.
-fn entry(links: &Vec<u64>, place: u64) -> u64 {
-    links.get(place as usize).copied().unwrap_or(0)
-}
-
-// Sets the entry of a list, if it is there.
-fn set(links: &mut Vec<u64>, place: u64, value: u64) {
-    if let Some(link) = links.get_mut(place as usize) {
-        *link = value;
-    }
+    links: Vec<Link>,
+    batch: Vec<(u64, u64)>,
+    place: u64,
+    time: u64,
 }
 
 impl Order {
     /// An order of no variables.
     pub fn new(alloc: Global) -> Order {
         Order {
-            after: Vec::new(alloc),
-            before: Vec::new(alloc),
-            phases: Vec::new(alloc),
+            links: Vec::new(alloc),
+            batch: Vec::new(alloc),
+            place: 0,
+            time: 0,
         }
     }
 
-    /// Brings the variables up to this number in, the new ones last.
+    /// Brings the variables up to this number in, the new ones first, and looks at the first.
     pub fn grow(&mut self, vars: u64) -> Result<(), Memory> {
-        for var in self.phases.len() as u64..vars.saturating_add(1) {
-            self.after.push(var)?;
-            self.before.push(var)?;
-            self.phases.push(false)?;
-            let last = entry(&self.before, 0);
-            self.link(last, var);
+        let known = self.links.len() as u64;
+        let wanted = vars.checked_add(1).ok_or(Memory)?;
+        if known < wanted {
+            self.links.resize(wanted as usize, UNLINKED)?;
         }
+        for var in (known.max(1)..wanted).rev() {
+            self.link_first(var);
+        }
+        self.place = self.link(0).after;
         Ok(())
     }
 
-    /// The variable after this one, or 0 behind the last; after 0 the first.
-    pub fn next(&self, var: u64) -> u64 {
-        entry(&self.after, var)
+    /// The variable at which the search looks, or 0 behind the last.
+    pub fn place(&self) -> u64 {
+        self.place
+    }
+
+    /// Looks at the next variable.
+    pub fn advance(&mut self) {
+        self.place = self.link(self.place).after;
     }
 
     /// The value that a variable had last.
     pub fn phase(&self, var: u64) -> bool {
-        self.phases.get(var as usize).copied().unwrap_or(false)
+        self.link(var).phase
     }
 
-    // Links a variable in behind another.
-    fn link(&mut self, behind: u64, var: u64) {
-        let next = entry(&self.after, behind);
-        set(&mut self.after, var, next);
-        set(&mut self.before, var, behind);
-        set(&mut self.after, behind, var);
-        set(&mut self.before, next, var);
+    // What is kept of a variable.
+    fn link(&self, var: u64) -> Link {
+        self.links.get(var as usize).copied().unwrap_or(UNLINKED)
     }
 
-    // Takes a variable out of the ring and links it in as the first.
+    // Says which variables come after and before another.
+    fn join(&mut self, before: u64, after: u64) {
+        if let Some(link) = self.links.get_mut(before as usize) {
+            link.after = after;
+        }
+        if let Some(link) = self.links.get_mut(after as usize) {
+            link.before = before;
+        }
+    }
+
+    // Links a variable in as the first, named now.
+    fn link_first(&mut self, var: u64) {
+        let first = self.link(0).after;
+        self.join(var, first);
+        self.join(0, var);
+        self.time = self.time.wrapping_add(1);
+        if let Some(link) = self.links.get_mut(var as usize) {
+            link.named = self.time;
+        }
+    }
+
+    // Takes a variable that has a value out of the ring, and links it in as the first.
     fn bring_forward(&mut self, var: u64) {
-        let next = entry(&self.after, var);
-        let last = entry(&self.before, var);
-        set(&mut self.after, last, next);
-        set(&mut self.before, next, last);
-        self.link(0, var);
+        let Link { after, before, .. } = self.link(var);
+        if self.place == var {
+            self.place = after;
+        }
+        self.join(before, after);
+        self.link_first(var);
     }
 
-    /// Brings the marked variables of a trail forward, and keeps the values of all.
-    pub fn learn(&mut self, trail: &[Lit], marks: &[bool]) {
-        for lit in trail {
-            let var = lit.var();
-            if let Some(phase) = self.phases.get_mut(var as usize) {
-                *phase = lit.positive();
-            }
-            if marks.get(var as usize).copied().unwrap_or(false) {
+    /// Brings variables that have values forward, in the order in which they were named before.
+    pub fn name(&mut self, vars: &[u64]) -> Result<(), Memory> {
+        self.batch.clear();
+        for var in vars {
+            let named = self.link(*var).named;
+            self.batch.push((named, *var))?;
+        }
+        self.batch.sort_unstable();
+        self.bring_batch();
+        Ok(())
+    }
+
+    // Brings the variables of the batch forward, in its order.
+    fn bring_batch(&mut self) {
+        for place in 0..self.batch.len() {
+            if let Some((_named, var)) = self.batch.get(place).copied() {
                 self.bring_forward(var);
             }
+        }
+    }
+
+    /// Keeps the value of a literal that is about to be taken back, and looks at its variable if it stands before the place.
+    pub fn release(&mut self, lit: Lit) {
+        let var = lit.var();
+        if let Some(link) = self.links.get_mut(var as usize) {
+            link.phase = lit.positive();
+        }
+        if self.link(var).named > self.link(self.place).named {
+            self.place = var;
         }
     }
 }

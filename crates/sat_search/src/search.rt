@@ -4,17 +4,38 @@ ghost use Rattle.std.specs.Prelude.{◌≡◌, ◌⊎◌, ℕ, ◌<◌, ◌≤�
 ghost use Rattle.cnf_core.specs.Events.{clauses_of, nonempty_steps, HintsAreThere};
 ghost use Rattle.sat_state.specs.Trail.{literals, value_of, NamesFalsified};
 ghost use Rattle.sat_state.specs.View.{IsPropagated};
-ghost use Rattle.sat_search.specs.Analysis.{IsKnown, AreInRange, AllHaveValues, KeepsValues};
+ghost use Rattle.sat_search.specs.Analysis.{IsKnown, AreInRange, AllHaveValues, KeepsValues, HasTwoFrom};
 ghost use Rattle.sat_search.specs.Logs.{IsSound, IsContinued, HasEnded, IsAnswer, with_step};
 
 use crate::adding::copied;
-use crate::learning::{Explanation, explain};
+use crate::learning::{Analysis, Explanation, explain};
+use crate::levels::{go_back, second_level};
 use crate::order::Order;
 use crate::outcome::Outcome;
+use crate::restarts::Restarts;
 use cnf_core::{Clause, Lit, Log};
 use ep_base::Memory;
 use sat_state::{Propagated, State};
 use std::alloc::Global;
+
+/// What the search keeps beside the state: the choice of decisions, what conflicts are explained on, and when it restarts.
+#[derive(Drop)]
+pub struct Tools {
+    order: Order,
+    analysis: Analysis,
+    restarts: Restarts,
+}
+
+impl Tools {
+    /// Nothing is kept yet.
+    pub fn new(alloc: Global) -> Tools {
+        Tools {
+            order: Order::new(alloc),
+            analysis: Analysis::new(alloc),
+            restarts: Restarts::new(),
+        }
+    }
+}
 
 // Decides a variable if it is there and has no value, and propagates. Answers the number of a clause that is falsified then.
 fn decide(state: &mut State, vars: u64, var: u64, positive: bool) -> Option<u64>
@@ -38,7 +59,7 @@ fn decide(state: &mut State, vars: u64, var: u64, positive: bool) -> Option<u64>
 }
 
 // Decides variables in their order.
-fn decide_in_order(state: &mut State, order: &Order, vars: u64) -> Option<u64>
+fn decide_in_order(state: &mut State, order: &mut Order, vars: u64) -> Option<u64>
     requires known { IsKnown vars state.old }
     requires propagated { IsPropagated state.old }
     ensures clauses { state.new.clauses ≡ state.old.clauses }
@@ -46,13 +67,13 @@ fn decide_in_order(state: &mut State, order: &Order, vars: u64) -> Option<u64>
     ensures falsified { IfSome result (NamesFalsified state.new.clauses state.new.trail) }
     ensures propagated { IsNone result → IsPropagated state.new }
 {
-    let mut var = order.next(0);
     for _ in 0..vars {
+        let var = order.place();
         let falsified = decide(state, vars, var, order.phase(var));
         if falsified.is_some() {
             return falsified;
         }
-        var = order.next(var);
+        order.advance();
     }
     None
 }
@@ -77,7 +98,7 @@ fn decide_rest(state: &mut State, order: &Order, vars: u64) -> Option<u64>
 }
 
 // Propagates and decides until each variable has a value, or up to a falsified clause, whose number it answers.
-fn decide_all(state: &mut State, order: &Order, vars: u64) -> Option<u64>
+fn decide_all(state: &mut State, order: &mut Order, vars: u64) -> Option<u64>
     requires known { IsKnown vars state.old }
     ensures clauses { state.new.clauses ≡ state.old.clauses }
     ensures vars { state.new.vars ≡ state.old.vars }
@@ -95,9 +116,22 @@ fn decide_all(state: &mut State, order: &Order, vars: u64) -> Option<u64>
     decide_rest(state, order, vars)
 }
 
-// Appends the clause to the log as a step, and at level 0 to the clauses.
+// The level from which the search goes on with a clause: the start where it is time to restart, or else that to which the clause
+// leads back.
+fn next_level(state: &State, restarts: &mut Restarts, clause: &Clause) -> u64
+    ensures { (result ≡ 0) ⊎ HasTwoFrom state.now.trail result clause.now }
+{
+    if restarts.count() {
+        0
+    } else {
+        second_level(state, clause)
+    }
+}
+
+// Appends the clause to the log as a step, and to the clauses at the level from which the search goes on.
 fn append(
     state: &mut State,
+    tools: &mut Tools,
     vars: u64,
     clause: Clause,
     hints: Vec<u64>,
@@ -114,15 +148,17 @@ fn append(
 {
     let copy = copied(&clause)?;
     log.step(copy, hints)?;
-    state.backtrack(0);
-    state.add(clause)
+    let level = next_level(state, &mut tools.restarts, &clause);
+    go_back(state, &mut tools.order, level);
+    state.add(clause)?;
+    Ok(())
 }
 
 // Explains a falsified clause, and learns what follows. Answers how the search ends, if it does.
 fn learn(
     alloc: Global,
     state: &mut State,
-    order: &mut Order,
+    tools: &mut Tools,
     vars: u64,
     number: u64,
     budget: u64,
@@ -139,14 +175,21 @@ fn learn(
     ensures more { IfOk result (λ ended. IsNone ended → nonempty_steps log.old.events < nonempty_steps log.new.events) }
     ensures ended { IfOk result (λ ended. IfSome ended (HasEnded budget log.new.events)) }
 {
-    let Explanation { lits, hints } = explain(alloc, state, order, vars, number)?;
+    let Explanation { lits, hints } = explain(
+        alloc,
+        state,
+        &mut tools.order,
+        &mut tools.analysis,
+        vars,
+        number,
+    )?;
     if lits.is_empty() {
-        append(state, vars, Clause::new(alloc, lits)?, hints, log)?;
+        append(state, tools, vars, Clause::new(alloc, lits)?, hints, log)?;
         Ok(Some(Outcome::Unsat))
     } else if log.steps() == budget {
         Ok(Some(Outcome::Spent))
     } else {
-        append(state, vars, Clause::new(alloc, lits)?, hints, log)?;
+        append(state, tools, vars, Clause::new(alloc, lits)?, hints, log)?;
         Ok(None)
     }
 }
@@ -155,7 +198,7 @@ fn learn(
 pub fn search(
     alloc: Global,
     state: &mut State,
-    order: &mut Order,
+    tools: &mut Tools,
     vars: u64,
     budget: u64,
     log: &mut Log,
@@ -169,12 +212,12 @@ pub fn search(
     ensures clauses { OnOk result (state.new.clauses ≡ clauses_of log.new.events) }
     ensures answer { IfOk result (IsAnswer budget (literals state.new.trail) log.new.events) }
 {
-    order.grow(vars)?;
+    tools.order.grow(vars)?;
     'conflicts: loop {
-        match decide_all(state, order, vars) {
+        match decide_all(state, &mut tools.order, vars) {
             None => return Ok(Outcome::Sat),
             Some(number) => {
-                if let Some(outcome) = learn(alloc, state, order, vars, number, budget, log)? {
+                if let Some(outcome) = learn(alloc, state, tools, vars, number, budget, log)? {
                     return Ok(outcome);
                 }
             }

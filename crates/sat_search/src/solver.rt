@@ -8,9 +8,8 @@ ghost use Rattle.sat_search.specs.View.{SolverView, value_in};
 ghost use Rattle.sat_search.specs.Logs.{IsSound, AddsSteps, EndsWithEmptyStep, NoneIsEmpty};
 
 use crate::adding::{give, state_of};
-use crate::order::Order;
 use crate::outcome::{Outcome, SolveError};
-use crate::search::search;
+use crate::search::{Tools, search};
 use cnf_core::{Clause, Log};
 use ep_base::Memory;
 use sat_state::State;
@@ -22,7 +21,7 @@ use std::marker::Model;
 pub struct Solver {
     alloc: Global,
     state: State,
-    order: Order,
+    tools: Tools,
     vars: u64,
     answered: bool,
     broken: bool,
@@ -49,7 +48,7 @@ impl Solver {
         Ok(Solver {
             alloc,
             state,
-            order: Order::new(alloc),
+            tools: Tools::new(alloc),
             vars,
             answered: false,
             broken: false,
@@ -106,7 +105,7 @@ impl Solver {
         let outcome = search(
             self.alloc,
             &mut self.state,
-            &mut self.order,
+            &mut self.tools,
             self.vars,
             budget,
             log,

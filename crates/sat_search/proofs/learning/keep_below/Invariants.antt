@@ -1,13 +1,15 @@
-use Rattle.std.proofs.Common.{◌≤◌, length, take}
-use Rattle.sat_search.specs.Analysis.{IsTraced, KeepsMore}
+use Rattle.std.proofs.Common.{◌<◌, ◌≤◌, length, take}
+use Rattle.sat_search.specs.Analysis.{IsTraced, KeepsMore, count_marked}
 use Rattle.sat_search.proofs.learning.keep_below.Given as goal
 
--- what comes from the place on is traced
+-- what comes from the place on is traced, and what is marked before it is counted
 abbrev pub invariant-loop-place : goal.invariant-loop-place
 invariant-loop-place l = record {
   within : l.place ≤ l.from;
-  traced : IsTraced l.state.clauses l.trail l.marks l.lits.items l.hints.items l.place;
-  keeps : KeepsMore (take l.from l.trail) l.initial.lits.items l.lits.items;
+  room : l.vars < length l.analysis.marks;
+  traced : IsTraced l.state.clauses l.trail l.analysis.marks l.lits.items l.hints.items l.place;
+  counted : count_marked l.trail l.analysis.marks l.place ≤ l.analysis.pending;
+  keeps : KeepsMore (take l.from l.trail) l.fn.lits.items l.lits.items;
 }
 
 abbrev pub decreases-loop-place : goal.decreases-loop-place

@@ -1,25 +1,36 @@
-use Rattle.std.proofs.Common.{◌≡◌, ℕ, ◌+◌, ◌<◌, get_or, List, take, length, subst, sym, arith, ◌∙◌, ap}
-use Rattle.std.proofs.lemmas.List.{take_all}
+use Rattle.std.proofs.Common.{◌≡◌, ℕ, ◌+◌, ◌<◌, List, Bool, true, set, get_or, take, length, subst, sym, refl, arith, ◌∙◌, ap}
+use Rattle.std.proofs.lemmas.List.{take_all, length-set}
 use Rattle.cnf_core.specs.Literal.{Literal}
-use Rattle.sat_search.specs.Analysis.{MarksClause, is_marked}
-use Rattle.sat_search.proofs.Marks.{marks_none, marks_more}
+use Rattle.sat_search.specs.Analysis.{MarksClause}
+use Rattle.sat_search.proofs.Marking.{marks_none, marks_more}
 use Rattle.sat_search.proofs.learning.mark.Goals as goal
 
 pub loop-lit-init : goal.loop-lit-init
-loop-lit-init c = marks_none c.args.marks.now
+loop-lit-init c = record {
+  room = refl;
+  marks = marks_none c.args.analysis.now.marks;
+  counts = λ upto within few. few;
+}
 
 pub loop-lit-preserved : goal.loop-lit-preserved
 loop-lit-preserved c =
     let l = c.lit-item.result in
     let lits = c.lits-lits.result.now in
     let i = c.loop-lit.lit-index in
+    let now = c.loop-lit.analysis.marks in
     let here : l ≡ get_or c.args.clause.now i l = c.lit-item.is ∙ ap (λ (ls : List Literal). get_or ls i l) c.lits-lits.ensures.value in
     let within : i < length c.args.clause.now = omega (arith, c.loop-lit-test.true, ap length c.lits-lits.ensures.value) in
-    let room : l.var < length c.loop-lit.marks = omega (arith, c.requires i l within, ap (λ (x : Literal). x.var) here, c.loop-lit.auto.marks) in
-    rw c.var-var.ensures.value (marks_more c.args.marks.now c.loop-lit.marks lits i l c.loop-lit.invariant c.loop-lit-test.true c.lit-item.is room)
+    let room : l.var < length now = omega (arith, c.requires i l within, ap (λ (x : Literal). x.var) here, c.loop-lit.invariant.room) in
+    let set_is : c.meet.new.analysis.marks ≡ set now l.var true = c.in_ok-meet.ensures.marks ∙ ap (λ (v : ℕ). set now v true) c.var.ensures.value in
+    record {
+      room = ap length set_is ∙ length-set now l.var true ∙ c.loop-lit.invariant.room;
+      marks = subst (λ (m : List Bool). MarksClause c.args.analysis.now.marks m (take (i + 1) lits)) (sym set_is)
+          (marks_more c.args.analysis.now.marks now lits i l c.loop-lit.invariant.marks c.loop-lit-test.true c.lit-item.is room);
+      counts = λ upto inside few. c.in_ok-meet.ensures.counts upto inside (c.loop-lit.invariant.counts upto inside few);
+    }
 
 pub returns-clause-marks : goal.returns-clause-marks
 returns-clause-marks c =
     let lits = c.lits-lits.result.now in
     let all : take c.loop-lit.lit-index lits ≡ c.args.clause.now = take_all c.loop-lit.lit-index lits (omega (arith)) ∙ c.lits-lits.ensures.value in
-    subst (MarksClause c.args.marks.now c.loop-lit.marks) all c.loop-lit.invariant
+    subst (MarksClause c.args.analysis.now.marks c.loop-lit.analysis.marks) all c.loop-lit.invariant.marks

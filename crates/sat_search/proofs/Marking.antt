@@ -2,13 +2,13 @@
 use Rattle.std.proofs.Common.{◌≡◌, ◌≢◌, ℕ, ◌+◌, ◌<◌, Bool, true, false, ◌⊎◌, inl, inr, List, [], ◌∷◌, ◌++◌, length, get_or, set, take, refl, ap, ◌∙◌, sym, subst, arith, eqb}
 use Rattle.std.specs.Prelude.{Contains}
 use Rattle.std.proofs.lemmas.Bool.{eqb-true, eqb-false, false≢true}
-use Rattle.std.proofs.lemmas.List.{take_more, get_or-set_same, get_or-set_other}
+use Rattle.std.proofs.lemmas.List.{take_more, get_or-set_same, get_or-set_other, set-get_or}
 use Rattle.std.proofs.lemmas.List.Elements.{Contains-push_cases, Contains-push, Contains-append_left}
 use Rattle.cnf_core.specs.Literal.{Literal}
 use Rattle.cnf_core.proofs.Members.{either, none_in_nil}
 use Rattle.sat_search.specs.Analysis.{is_marked, IsNamedIn, MarksClause}
 
-same_or_not : (v w : ℕ) → (v ≡ w) ⊎ (v ≢ w)
+pub same_or_not : (v w : ℕ) → (v ≡ w) ⊎ (v ≢ w)
 same_or_not v w = elim (either (eqb v w)) [ inl same ↦ inl (eqb-true v w same) | inr differs ↦ inr (eqb-false v w differs) ]
 
 set_marks : (marks : List Bool) (w : ℕ) → w < length marks → is_marked (set marks w true) w ≡ true
@@ -52,3 +52,7 @@ marks_more old now lits i l marks within is room =
         | inr same ↦ inr (record { literal = l; in_clause = Contains-push (take i lits) l; names = same })
       ];
     })
+
+-- marking a variable that is marked changes nothing
+pub marked_already : (marks : List Bool) (v : ℕ) → is_marked marks v ≡ true → marks ≡ set marks v true
+marked_already marks v is = sym (set-get_or marks v false) ∙ ap (set marks v) is
