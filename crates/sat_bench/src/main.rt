@@ -3,6 +3,8 @@
 
 mod answer;
 mod posing;
+#[cfg(test)]
+mod problems;
 mod refusal;
 #[cfg(test)]
 mod tests;
