@@ -9,6 +9,8 @@ mod marks;
 mod minimal;
 mod order;
 mod outcome;
+#[cfg(test)]
+mod problems;
 mod restarts;
 mod search;
 mod solver;

@@ -4,8 +4,9 @@ ghost use Rattle.std.specs.Prelude.{◌≡◌, false, IfOk};
 ghost use Rattle.cnf_core.specs.Events.{clauses_of};
 ghost use Rattle.sat_search.specs.Logs.{IsSound};
 
+use crate::problems::{Numbers, cell, drawn, latin_square, pigeons};
 use crate::{Outcome, Solver};
-use cnf_core::{Clause, Lit, Log, MOST_VARIABLE};
+use cnf_core::{Clause, Event, Lit, Log, MOST_VARIABLE};
 use std::alloc::{AllocError, Global};
 use std::process::Abort;
 use std::test::Fail;
@@ -36,6 +37,81 @@ fn pose(alloc: Global, clauses: &[Vec<i64>]) -> Result<(Solver, Log), Fail>
     Ok((solver, log))
 }
 
+// Whether the last event is the empty step.
+fn is_closed(log: &Log) -> bool {
+    match log.events().last() {
+        Some(Event::Step(clause, _)) => clause.lits().is_empty(),
+        _ => false,
+    }
+}
+
+// The literals of an event's clause that aren't false.
+fn not_false(alloc: Global, event: &Event, trues: &[Lit]) -> Result<Vec<Lit>, AllocError> {
+    let clause = match event {
+        Event::Given(clause) => clause,
+        Event::Step(clause, _) => clause,
+    };
+    let mut found = Vec::new(alloc);
+    for lit in clause.lits() {
+        if !trues.contains(&lit.negated()) {
+            found.push(*lit)?;
+        }
+    }
+    Ok(found)
+}
+
+// Whether each hint of a step gives a literal in its turn, and the last one is falsified.
+fn is_strict(
+    alloc: Global,
+    events: &[Event],
+    clause: &Clause,
+    hints: &[u64],
+) -> Result<bool, AllocError> {
+    let mut trues = Vec::new(alloc);
+    for lit in clause.lits() {
+        trues.push(lit.negated())?;
+    }
+    let mut ended = false;
+    for hint in hints {
+        let Some(event) = events.get(*hint as usize) else {
+            return Ok(false);
+        };
+        let found = not_false(alloc, event, trues.as_slice())?;
+        match found.as_slice() {
+            [] if !ended => ended = true,
+            [only] if !ended && !trues.contains(only) => trues.push(*only)?,
+            _ => return Ok(false),
+        }
+    }
+    Ok(ended)
+}
+
+// Whether this holds of each step of a log.
+fn is_strict_log(alloc: Global, log: &Log) -> Result<bool, AllocError> {
+    for event in log.events() {
+        if let Event::Step(clause, hints) = event {
+            if !is_strict(alloc, log.events(), clause, hints.as_slice())? {
+                return Ok(false);
+            }
+        }
+    }
+    Ok(true)
+}
+
+// How the search ends, and its log.
+fn run(
+    rt: &impl Abort,
+    alloc: Global,
+    clauses: &[Vec<i64>],
+    budget: u64,
+) -> Result<(Outcome, Log), Fail> {
+    let (mut solver, mut log) = pose(alloc, clauses)?;
+    assert!(rt; log.steps() <= budget);
+    let outcome = solver.solve(budget, &mut log)?;
+    assert_eq!(rt; is_closed(&log), outcome == Outcome::Unsat);
+    Ok((outcome, log))
+}
+
 // How the search ends, and how many steps have a literal then.
 fn outcome_of(
     rt: &impl Abort,
@@ -43,40 +119,8 @@ fn outcome_of(
     clauses: &[Vec<i64>],
     budget: u64,
 ) -> Result<(Outcome, u64), Fail> {
-    let (mut solver, mut log) = pose(alloc, clauses)?;
-    assert!(rt; log.steps() <= budget);
-    let outcome = solver.solve(budget, &mut log)?;
+    let (outcome, log) = run(rt, alloc, clauses, budget)?;
     Ok((outcome, log.steps()))
-}
-
-// Each pigeon has a hole, and no hole has two pigeons.
-fn pigeons(alloc: Global, pigeons: i64, holes: i64) -> Result<Vec<Vec<i64>>, AllocError> {
-    let mut clauses = Vec::new(alloc);
-    for pigeon in 0..pigeons {
-        let mut numbers = Vec::new(alloc);
-        for hole in 0..holes {
-            numbers.push(
-                pigeon
-                    .wrapping_mul(holes)
-                    .wrapping_add(hole)
-                    .wrapping_add(1),
-            )?;
-        }
-        clauses.push(numbers)?;
-    }
-    for hole in 0..holes {
-        for second in 0..pigeons {
-            for first in 0..second {
-                let a = first.wrapping_mul(holes).wrapping_add(hole).wrapping_add(1);
-                let b = second
-                    .wrapping_mul(holes)
-                    .wrapping_add(hole)
-                    .wrapping_add(1);
-                clauses.push(vec![in alloc; a.wrapping_neg(), b.wrapping_neg()]?)?;
-            }
-        }
-    }
-    Ok(clauses)
 }
 
 #[test]
@@ -92,7 +136,7 @@ fn small_problems_end_as_they_must(rt: HostRuntime) -> Result<(), Fail> {
         outcome_of(&rt, alloc, square.as_slice(), 10)?.0,
         Outcome::Unsat
     );
-    let nothing: Vec<Vec<i64>> = Vec::new(alloc);
+    let nothing: Numbers = Vec::new(alloc);
     assert_eq!(rt;
         outcome_of(&rt, alloc, nothing.as_slice(), 1)?,
         (Outcome::Sat, 0)
@@ -111,16 +155,92 @@ fn small_problems_end_as_they_must(rt: HostRuntime) -> Result<(), Fail> {
 }
 
 #[test]
-fn pigeons_need_steps(rt: HostRuntime) -> Result<(), Fail> {
+fn few_pigeons_need_steps(rt: HostRuntime) -> Result<(), Fail> {
     let alloc = rt.alloc();
     let few = pigeons(alloc, 4, 3)?;
     assert_eq!(rt;
         outcome_of(&rt, alloc, few.as_slice(), 1)?,
         (Outcome::Spent, 1)
     );
+    let (outcome, log) = run(&rt, alloc, few.as_slice(), 1_000_000)?;
+    assert_eq!(rt; outcome, Outcome::Unsat);
+    assert!(rt; is_strict_log(alloc, &log)?);
+    Ok(())
+}
+
+#[test]
+fn seven_pigeons_have_no_six_holes(rt: HostRuntime) -> Result<(), Fail> {
+    let alloc = rt.alloc();
+    let many = pigeons(alloc, 7, 6)?;
+    let (outcome, log) = run(&rt, alloc, many.as_slice(), 1_000_000)?;
+    assert_eq!(rt; outcome, Outcome::Unsat);
+    assert!(rt; is_strict_log(alloc, &log)?);
+    Ok(())
+}
+
+#[test]
+fn drawn_clauses_have_values(rt: HostRuntime) -> Result<(), Fail> {
+    let alloc = rt.alloc();
+    let clauses = drawn(alloc, 18)?;
     assert_eq!(rt;
-        outcome_of(&rt, alloc, few.as_slice(), 1_000_000)?.0,
+        outcome_of(&rt, alloc, clauses.as_slice(), 1_000_000)?.0,
+        Outcome::Sat
+    );
+    Ok(())
+}
+
+#[test]
+fn drawn_clauses_have_none(rt: HostRuntime) -> Result<(), Fail> {
+    let alloc = rt.alloc();
+    let clauses = drawn(alloc, 6)?;
+    assert_eq!(rt;
+        outcome_of(&rt, alloc, clauses.as_slice(), 1_000_000)?.0,
         Outcome::Unsat
     );
+    Ok(())
+}
+
+// The variables of the cells of a square that have digits, row by row.
+fn cells(alloc: Global, square: &[u8]) -> Result<Vec<i64>, AllocError> {
+    let mut found = Vec::new(alloc);
+    for (place, digit) in square.iter().enumerate() {
+        let place = place as u64 % 64;
+        if *digit >= b'1' && *digit <= b'8' {
+            found.push(cell(place / 8, place % 8, (*digit - b'1') as u64))?;
+        }
+    }
+    Ok(found)
+}
+
+// The variables of the hints of a Latin square.
+fn hints(alloc: Global) -> Result<Vec<i64>, AllocError> {
+    cells(
+        alloc,
+        b"6..8.....781.....6.7....31...2872.3...56..5..4......76.4.5.3.84.",
+    )
+}
+
+// Those of the only square that has these hints.
+fn square(alloc: Global) -> Result<Vec<i64>, AllocError> {
+    cells(
+        alloc,
+        b"6478312557814362462785133146528728341756135264788215763475632841",
+    )
+}
+
+#[test]
+fn hints_make_a_latin_square(rt: HostRuntime) -> Result<(), Fail> {
+    let alloc = rt.alloc();
+    let mut clauses = latin_square(alloc)?;
+    for hint in hints(alloc)?.as_slice() {
+        clauses.push(vec![in alloc; *hint]?)?;
+    }
+    let (mut solver, mut log) = pose(alloc, clauses.as_slice())?;
+    assert_eq!(rt; log.steps(), 0);
+    let outcome = solver.solve(1_000_000, &mut log)?;
+    assert!(rt; outcome == Outcome::Sat);
+    for variable in square(alloc)?.as_slice() {
+        assert!(rt; solver.value(variable.unsigned_abs()));
+    }
     Ok(())
 }
