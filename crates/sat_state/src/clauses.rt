@@ -72,12 +72,13 @@ fn lower(counts: &mut Vec<usize>, numbers: &[usize])
     }
 }
 
-// Lengthens the table by empty lists.
+// Lengthens the table by empty lists. Asks for all the room at once, so that what memory can't hold is refused before any is used.
 fn lengthen(holders: &mut Vec<Vec<usize>>, alloc: Global, wanted: usize) -> Result<(), Memory>
     ensures room { OnOk result (wanted ≤ length holders.new.items) }
     ensures longer { length holders.old.items ≤ length holders.new.items }
     ensures same { (k : ℕ) → numbers_at holders.new.items k ≡ numbers_at holders.old.items k }
 {
+    holders.reserve(wanted.saturating_sub(holders.len()))?;
     'longer: while holders.len() < wanted {
         holders.push(Vec::new(alloc))?;
     }

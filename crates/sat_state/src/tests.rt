@@ -197,6 +197,20 @@ fn decisions_are_followed_and_taken_back(rt: HostRuntime) -> Result<(), Fail> {
     run(&rt, rt.alloc(), &steps)
 }
 
+#[test]
+fn a_clause_is_added_where_it_is_unit(rt: HostRuntime) -> Result<(), Fail> {
+    let mut state = State::new(rt.alloc(), &[], 2)?;
+    let decided = Lit::new(1, true);
+    let forced = Lit::new(2, true);
+    state.decide(decided);
+    let lits = vec![in rt.alloc(); decided.negated(), forced]?;
+    state.add(Clause::new(rt.alloc(), lits)?)?;
+    propagate(&rt, &mut state, None);
+    assert_true(&rt, &state, &[1, 2]);
+    assert_from(&rt, &state, 2, 1, Some(0));
+    Ok(())
+}
+
 // Adds the clause that one variable implies the next.
 fn add_implication(
     rt: &impl Abort,

@@ -1,0 +1,46 @@
+//! A formula as a problem for the solver.
+
+ghost use Rattle.std.specs.Prelude.{◌≡◌, false, IfOk};
+ghost use Rattle.cnf_core.specs.Events.{clauses_of, nonempty_steps};
+ghost use Rattle.sat_search.specs.Logs.{IsSound};
+
+use crate::refusal::Refusal;
+use cnf_core::{Clause, Formula, Log};
+use ep_base::{FileError, Files, Memory};
+use sat_search::Solver;
+use sat_text::{MOST_BYTES, read_cnf};
+use std::alloc::Global;
+
+/// The formula that a file has.
+pub fn read_formula<F: Files>(
+    alloc: Global,
+    files: &mut F,
+    name: &str,
+) -> Result<Formula, Refusal> {
+    match files.read(alloc, name, MOST_BYTES as u64 + 1) {
+        Ok(Some(text)) => Ok(read_cnf(alloc, &text)?.formula),
+        Ok(None) | Err(FileError::Failed) => Err(Refusal::Unread),
+        Err(FileError::Memory) => Err(Refusal::Memory),
+    }
+}
+
+/// A copy of a clause.
+fn copied(clause: &Clause) -> Result<Clause, Memory> {
+    Ok(clause.clone()?)
+}
+
+/// A solver of the clauses of a formula, and its log, in which they are the givens.
+///
+/// A clause that has a literal and its negation is given too, so that the steps of the log find each clause under its number.
+pub fn pose(alloc: Global, formula: &Formula) -> Result<(Solver, Log), Refusal>
+    ensures sound { IfOk result (λ posed. IsSound posed.1.events) }
+    ensures clauses { IfOk result (λ posed. posed.0.broken ≡ false → posed.0.clauses ≡ clauses_of posed.1.events) }
+    ensures steps { IfOk result (λ posed. nonempty_steps posed.1.events ≡ 0) }
+{
+    let mut log = Log::new(alloc);
+    let mut solver = Solver::new(alloc, &log)?;
+    for clause in formula.clauses() {
+        solver.add_given(copied(clause)?, &mut log)?;
+    }
+    Ok((solver, log))
+}
