@@ -3,8 +3,6 @@
 
 mod answer;
 mod posing;
-#[cfg(test)]
-mod problems;
 mod refusal;
 #[cfg(test)]
 mod tests;

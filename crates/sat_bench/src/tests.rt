@@ -1,11 +1,11 @@
 //! The program over files in memory: what it answers, and that its logs are accepted once they are written and read again.
 
 use crate::answer::answer;
-use crate::problems::{drawn, latin_square, pigeons};
 use crate::refusal::Refusal;
 use cnf_core::{Clause, Formula, Lit, MOST_VARIABLE};
 use ep_base::{MemFiles, Word};
 use log_check::{Verdict, check_log};
+use sat_problems::{drawn, hinted_square, pigeons};
 use sat_text::{read_cnf, read_log, write_cnf};
 use std::alloc::Global;
 use std::process::Abort;
@@ -105,7 +105,7 @@ fn logs_of_searches_are_accepted(rt: HostRuntime) -> Result<(), Fail> {
     assert_refuted(&rt, alloc, &pigeons(alloc, 7, 6)?)?;
     assert_refuted(&rt, alloc, &drawn(alloc, 6)?)?;
     assert_satisfied(&rt, alloc, &drawn(alloc, 18)?)?;
-    assert_satisfied(&rt, alloc, &latin_square(alloc)?)
+    assert_satisfied(&rt, alloc, &hinted_square(alloc)?)
 }
 
 #[test]

@@ -9,8 +9,6 @@ mod marks;
 mod minimal;
 mod order;
 mod outcome;
-#[cfg(test)]
-mod problems;
 mod restarts;
 mod search;
 mod solver;

@@ -4,9 +4,9 @@ ghost use Rattle.std.specs.Prelude.{◌≡◌, false, IfOk};
 ghost use Rattle.cnf_core.specs.Events.{clauses_of};
 ghost use Rattle.sat_search.specs.Logs.{IsSound};
 
-use crate::problems::{Numbers, cell, drawn, latin_square, pigeons};
 use crate::{Outcome, Solver};
 use cnf_core::{Clause, Event, Lit, Log, MOST_VARIABLE};
+use sat_problems::{Numbers, drawn, hinted_square, pigeons, square_of_hints};
 use std::alloc::{AllocError, Global};
 use std::process::Abort;
 use std::test::Fail;
@@ -200,46 +200,15 @@ fn drawn_clauses_have_none(rt: HostRuntime) -> Result<(), Fail> {
     Ok(())
 }
 
-// The variables of the cells of a square that have digits, row by row.
-fn cells(alloc: Global, square: &[u8]) -> Result<Vec<i64>, AllocError> {
-    let mut found = Vec::new(alloc);
-    for (place, digit) in square.iter().enumerate() {
-        let place = place as u64 % 64;
-        if *digit >= b'1' && *digit <= b'8' {
-            found.push(cell(place / 8, place % 8, (*digit - b'1') as u64))?;
-        }
-    }
-    Ok(found)
-}
-
-// The variables of the hints of a Latin square.
-fn hints(alloc: Global) -> Result<Vec<i64>, AllocError> {
-    cells(
-        alloc,
-        b"6..8.....781.....6.7....31...2872.3...56..5..4......76.4.5.3.84.",
-    )
-}
-
-// Those of the only square that has these hints.
-fn square(alloc: Global) -> Result<Vec<i64>, AllocError> {
-    cells(
-        alloc,
-        b"6478312557814362462785133146528728341756135264788215763475632841",
-    )
-}
-
 #[test]
 fn hints_make_a_latin_square(rt: HostRuntime) -> Result<(), Fail> {
     let alloc = rt.alloc();
-    let mut clauses = latin_square(alloc)?;
-    for hint in hints(alloc)?.as_slice() {
-        clauses.push(vec![in alloc; *hint]?)?;
-    }
+    let clauses = hinted_square(alloc)?;
     let (mut solver, mut log) = pose(alloc, clauses.as_slice())?;
     assert_eq!(rt; log.steps(), 0);
     let outcome = solver.solve(1_000_000, &mut log)?;
     assert!(rt; outcome == Outcome::Sat);
-    for variable in square(alloc)?.as_slice() {
+    for variable in square_of_hints(alloc)?.as_slice() {
         assert!(rt; solver.value(variable.unsigned_abs()));
     }
     Ok(())
