@@ -2,7 +2,6 @@ pub mod Steps
 pub mod Places
 pub mod Order
 pub mod FindSteps
+pub mod RangeSteps
+pub mod EarlyKinds
 pub mod CompileSteps
-pub mod Solving
-pub mod Saying
-mod VectorsRuns
