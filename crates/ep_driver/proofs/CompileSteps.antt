@@ -1,11 +1,14 @@
 -- Steps of making flat clauses, and what they mean.
-use Rattle.std.proofs.Common.{◌≡◌, ℕ, zero, suc, ◌+◌, ◌<◌, ℤ, pos, ◌+ℤ◌, neg_ℤ, Contains, Bool, true, false, not, cond, nat_lt, List, [], ◌∷◌, ◌++◌, length, get_or, take, drop, map, Bor, Option, Some, None, option_map, if◌then◌else◌, refl, sym, ap, subst, ◌∙◌, arith}
+use Rattle.std.proofs.Common.{◌≡◌, ℕ, zero, suc, ◌+◌, ◌<◌, ◌≤◌, ℤ, pos, ◌+ℤ◌, neg_ℤ, Contains, Bool, true, false, not, cond, nat_lt, List, [], ◌∷◌, ◌++◌, length, get_or, take, drop, map, Bor, Option, Some, None, option_map, Result, Ok, Err, IfOk, if◌then◌else◌, refl, sym, ap, subst, ◌∙◌, arith}
 use Rattle.std.specs.List.{list_any, AllZip, position, position_or_len}
 use Rattle.std.specs.Str.{bytes_eq}
+use Rattle.std.specs.declared.boxed.Box.{Box}
+use Rattle.std.specs.declared.vec.Vec.{Vec}
+use Rattle.std.specs.declared.alloc.Global.{Global}
 use Rattle.std.proofs.lemmas.Bool.{ltb-true}
 use Rattle.std.proofs.Math.Bool.{or-true}
 use Rattle.std.proofs.lemmas.Slice.Eq.{bytes_eq-Decides}
-use Rattle.std.proofs.lemmas.List.{drop_more, append-nil, append_assoc, map_more}
+use Rattle.std.proofs.lemmas.List.{drop_more, append-nil, append_assoc, drop_all, map_more}
 use Rattle.std.proofs.lemmas.Int.{ints}
 use Rattle.ep_base.specs.Numbers.{compare_holds, of_bool, sum_of}
 use Rattle.ep_base.specs.declared.names.Name.{Name}
@@ -18,12 +21,12 @@ use Rattle.ep_tree.specs.Trees.{ExprTree, Terms, chain, compare, named, no_terms
 use Rattle.ep_tree.specs.Values.{ValueTree, all_defined, single}
 use Rattle.ep_tree.specs.Views.{expr_tree, kind_tree, terms_of}
 use Rattle.ep_tree.specs.declared.syntax.Expr.{Expr}
-use Rattle.ep_tree.specs.declared.syntax.Kind.{Kind, Named}
+use Rattle.ep_tree.specs.declared.syntax.Kind.{Kind, Named, Add, Compare}
 use Rattle.ep_tree.specs.declared.values.Mode.{Mode}
 use Rattle.ep_tree.specs.declared.values.ValueType.{ValueType}
 use Rattle.ep_tree.proofs.EvaluationEquations.{evaluate-chain, evaluate-compare, evaluate-named}
-use Rattle.ep_tree.proofs.ViewLemmas.{kind_tree-named}
-use Rattle.ep_parse_model.specs.EarlyForms.{IsOperand, AreOperands, IsSide}
+use Rattle.ep_tree.proofs.ViewLemmas.{kind_tree-chain, kind_tree-compare, kind_tree-named}
+use Rattle.ep_parse_model.specs.EarlyForms.{IsEarlyClause, IsOperand, AreOperands, IsSide}
 use Rattle.ep_driver.specs.declared.clauses.Operand.{Operand}
 use Rattle.ep_driver.specs.declared.clauses.Summand.{Summand}
 use Rattle.ep_driver.specs.declared.clauses.Clause.{Clause}
@@ -99,6 +102,35 @@ worth-named env p k x q v e same found =
     ∙ ap (λ y. value_bound (env y)) (sym same)
     ∙ ap value_bound found
 
+-- ---- sides and clauses, read from the code's trees
+
+pub side-terms : (p : Place) (k : Kind) (v : Vec (Bool × Expr) Global) (items : List (Bool × Expr)) → k ≡ Add v → items ≡ v.items → kind_tree p k ≡ chain p (terms_of items)
+side-terms p k v items e same = ap (kind_tree p) e ∙ kind_tree-chain p v ∙ ap (λ x. chain p (terms_of x)) (sym same)
+
+pub early-terms : (p : Place) (terms : Terms) → IsSide (chain p terms) → AreOperands terms
+unfolding IsSide
+early-terms p terms h = h
+
+pub declared-terms : (names : List Name) (p : Place) (terms : Terms) → UsesOnly names (chain p terms) → TermsUseOnly names terms
+unfolding UsesOnly
+declared-terms names p terms h = h
+
+pub clause-sides : (p : Place) (k : Kind) (op : CompareOp) (a b : Box Expr Global) → k ≡ Compare op a b → kind_tree p k ≡ compare p op (expr_tree a.value) (expr_tree b.value)
+clause-sides p k op a b e = ap (kind_tree p) e ∙ kind_tree-compare p op a b
+
+pub early-sides : (p : Place) (op : CompareOp) (a b whole : ExprTree) → whole ≡ compare p op a b → IsEarlyClause whole → IsSide a × IsSide b
+unfolding IsEarlyClause
+early-sides p op a b whole e h = let P : ExprTree → Type 0 = λ x. IsEarlyClause x in subst P e h
+
+pub declared-sides : (names : List Name) (p : Place) (op : CompareOp) (a b whole : ExprTree) → whole ≡ compare p op a b → UsesOnly names whole → UsesOnly names a × UsesOnly names b
+unfolding UsesOnly
+declared-sides names p op a b whole e h = let P : ExprTree → Type 0 = λ x. UsesOnly names x in subst P e h
+
+-- what follows for what is in an `Ok`
+pub ok-more : {A E : Type 0} (P Q : A → Type 0) (x : Result A E) → ((v : A) → P v → Q v) → IfOk x P → IfOk x Q
+ok-more P Q (Ok v) f h = f v h
+ok-more P Q (Err e) f h = tt
+
 -- ---- chains
 
 pub uses-push : (n : ℕ) (xs : List Summand) (s : Summand) → SumUsesBelow n xs → UsesBelow n s.operand → SumUsesBelow n (xs ++ s ∷ [])
@@ -124,6 +156,10 @@ means-next names sum new more s plus e terms left whole same added sign means so
     let P : Terms → Type 0 = λ x. TermsMean names (s ∷ more) x in
     let Q : List Summand → Type 0 = λ x. TermsMean names x whole in
     subst Q (sym (ap (λ x. x ++ more) added ∙ append_assoc sum (s ∷ []) more)) (so_far (s ∷ more) (subst P (sym same) (sign, means, h)))
+
+pub no-more : (parts : List (Bool × Expr)) (i : ℕ) → length parts ≤ i → terms_of (drop i parts) ≡ no_terms
+unfolding terms_of
+no-more parts i h = ap terms_of (drop_all i parts h)
 
 -- nothing is left
 pub means-all : (names : List (Bor (List ℕ))) (sum : List Summand) (left whole : Terms) → left ≡ no_terms → ((rest : List Summand) → TermsMean names rest left → TermsMean names (sum ++ rest) whole) → TermsMean names sum whole

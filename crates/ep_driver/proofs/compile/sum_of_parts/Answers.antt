@@ -1,19 +1,18 @@
 use Rattle.std.proofs.Common.{◌≡◌, ◌∙◌, ◌++◌, ◌∷◌, [], List, ◌+◌, length, drop, not, refl, sym, ap, subst, arith}
-use Rattle.std.proofs.lemmas.List.{drop_all}
 use Rattle.ep_tree.specs.Trees.{no_terms}
 use Rattle.ep_tree.specs.Views.{terms_of, expr_tree}
 use Rattle.ep_driver.specs.Clauses.{SumUsesBelow}
 use Rattle.ep_driver.specs.declared.clauses.Summand.{Summand}
 use Rattle.ep_driver.specs.Compiled.{texts_of, TermsMean}
-use Rattle.ep_driver.proofs.CompileSteps.{uses-push, next-terms, early-next, declared-next, means-next, means-all}
+use Rattle.ep_driver.proofs.CompileSteps.{uses-push, next-terms, early-next, declared-next, means-next, means-all, no-more}
 use Rattle.ep_driver.proofs.compile.sum_of_parts.Goals as goal
 
 pub loop-added-init : goal.loop-added-init
 loop-added-init c = record {
-  below = rw (c.with_capacity-sum.ensures.items) tt;
+  below = rw (c.in_ok-sum.ensures.items) tt;
   early = c.requires.early;
   declared = c.requires.declared;
-  so_far = λ rest h. ?;
+  so_far = λ rest h. rw (c.in_ok-sum.ensures.items) h;
 }
 
 pub loop-added-preserved : goal.loop-added-preserved
@@ -52,4 +51,4 @@ operand_of-requires-clause-declared c =
 pub returns-clause-means : goal.returns-clause-means
 returns-clause-means c =
     let l = c.loop-added in
-    means-all c.args.names.now.keys l.sum.items _ (terms_of c.args.parts.now) ? l.invariant.so_far
+    means-all c.args.names.now.keys l.sum.items _ (terms_of c.args.parts.now) (no-more c.args.parts.now l.added-index c.loop-added-test.false) l.invariant.so_far
