@@ -36,7 +36,7 @@ use Rattle.ep_driver.specs.Naming.{UsesOnly, TermsUseOnly}
 
 -- ---- names
 
-equal-bytes : (q x : List ℕ) → x ≡ q → bytes_eq q x ≡ true
+pub equal-bytes : (q x : List ℕ) → x ≡ q → bytes_eq q x ≡ true
 equal-bytes q x e = (bytes_eq-Decides q x).1 (sym e)
 
 -- a name that is there is among the keys

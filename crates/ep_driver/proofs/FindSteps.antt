@@ -36,7 +36,7 @@ finds_of-push [] (c ∷ bs) n b h = absurd (omega arith)
 finds_of-push (m ∷ ns) [] n b h = absurd (omega arith)
 finds_of-push (m ∷ ns) (c ∷ bs) n b h = ap (λ x. integer_find m.now (between c.low c.high) ∷ x) (finds_of-push ns bs n b (omega arith))
 
-differs : (q x : List ℕ) → x ≢ q → bytes_eq q x ≡ false
+pub differs : (q x : List ℕ) → x ≢ q → bytes_eq q x ≡ false
 differs q x h = false_from_ne_true (bytes_eq q x) (λ e. h (sym ((bytes_eq-Decides q x).0 e)))
 
 -- a name that differs from all before it isn't among the keys

@@ -5,3 +5,6 @@ pub mod FindSteps
 pub mod RangeSteps
 pub mod EarlyKinds
 pub mod CompileSteps
+pub mod NamingSteps
+pub mod Fitting
+pub mod Solving

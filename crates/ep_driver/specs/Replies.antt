@@ -15,15 +15,19 @@ use Rattle.ep_driver.specs.Outcomes.{NamesText, AreNoCommand, IsNotEarly, Binds,
 abbrev pub IsEarlyAs : List ℕ → TextTree → Type 0
 IsEarlyAs text model = IsEarly text model × ((other : TextTree) → IsEarly text other → other ≡ model)
 
+-- the text is that of a right answer for what the model asks for, which has not too many assignments
+abbrev pub IsAnswerTo : TextTree → List ℕ → Type 0
+IsAnswerTo model line =
+    (instance : Instance) × (answer : Answer) × Binds model instance
+    × (assignment_count instance ≤ most_assignments) × Answers instance answer × (line ≡ answer_text answer)
+
 -- what is said to a text
 abbrev pub SaidToText : List ℕ → Status → List ℕ → Type 0
 SaidToText text Text line = (line ≡ codes "fault early\n") × IsNotEarly text
 SaidToText text Limit line =
     (line ≡ codes "limit early\n") × (model : TextTree) × IsEarlyAs text model × IsTooLarge model
 SaidToText text Answered line =
-    (model : TextTree) × (instance : Instance) × (answer : Answer) × (line ≡ answer_text answer)
-    × IsEarlyAs text model × Binds model instance × (assignment_count instance ≤ most_assignments)
-    × Answers instance answer
+    (model : TextTree) × IsEarlyAs text model × IsAnswerTo model line
 SaidToText text Usage line = ⊥
 SaidToText text Device line = ⊥
 SaidToText text Unknown line = ⊥

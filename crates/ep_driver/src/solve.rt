@@ -1,15 +1,16 @@
 //! The answer of an early model, by trying its assignments.
 
-ghost use Rattle.std.specs.Prelude.{◌≡◌, ◌<◌, ◌≤◌, length, IfOk, IfSome, IfNone};
+ghost use Rattle.std.specs.Prelude.{◌≡◌, length, IfOk, IfSome, IfNone};
 ghost use Rattle.ep_parse_model.specs.EarlyForms.{HasEarlyForms};
 ghost use Rattle.ep_parse_model.specs.Small.{IsSmallModel};
 ghost use Rattle.ep_tree.specs.Faults.{IsWellFormed};
 ghost use Rattle.ep_tree.specs.Views.{model_tree};
-ghost use Rattle.ep_driver.specs.Answers.{Answer, Answers, answer_text};
+ghost use Rattle.ep_driver.specs.Answers.{Answers, answer_text};
 ghost use Rattle.ep_driver.specs.Bounds.{combinations};
 ghost use Rattle.ep_driver.specs.Finds.{early_instance, finds_in, IsPaired};
 ghost use Rattle.ep_driver.specs.Compiled.{found_answer};
-ghost use Rattle.ep_driver.specs.Outcomes.{assignment_count, most_assignments};
+ghost use Rattle.ep_driver.specs.Outcomes.{IsTooLarge};
+ghost use Rattle.ep_driver.specs.Replies.{IsAnswerTo};
 
 use super::bounds::capped_combinations;
 use super::compile::clauses_of_model;
@@ -27,13 +28,9 @@ pub fn answer_of(alloc: Global, model: &Model) -> Result<Option<Vec<u8>>, AllocE
     requires early { HasEarlyForms (model_tree model.now) }
     requires small { IsSmallModel (model_tree model.now) }
     requires well_formed { IsWellFormed (model_tree model.now) }
-    ensures too_large { IfOk result (λ answer. IfNone answer
-        (most_assignments < assignment_count (early_instance (model_tree model.now)))) }
-    ensures not_too_large { IfOk result (λ answer. IfSome answer (λ text.
-        assignment_count (early_instance (model_tree model.now)) ≤ most_assignments)) }
+    ensures too_large { IfOk result (λ answer. IfNone answer (IsTooLarge (model_tree model.now))) }
     ensures right { IfOk result (λ answer. IfSome answer (λ text.
-        (answer : Answer) × Answers (early_instance (model_tree model.now)) answer
-        × (text.items ≡ answer_text answer))) }
+        IsAnswerTo (model_tree model.now) text.items)) }
 {
     let finds = finds_of_model(alloc, model)?;
     let count = capped_combinations(&finds.bounds, MOST_ASSIGNMENTS);
