@@ -8,3 +8,6 @@ pub mod CompileSteps
 pub mod NamingSteps
 pub mod Fitting
 pub mod Solving
+pub mod LimitSteps
+pub mod BindingSteps
+pub mod Saying

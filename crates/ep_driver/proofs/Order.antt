@@ -65,7 +65,7 @@ within-values_at (b ∷ bs) n h =
 pub is_less : (a b : ℤ) → a <ℤ b → int_lt a b ≡ true
 is_less a b h = grind (arith, ints)
 
-is_more : (a b : ℤ) → b ≤ℤ a → int_lt a b ≡ false
+pub is_more : (a b : ℤ) → b ≤ℤ a → int_lt a b ≡ false
 is_more a b h = grind (arith, ints)
 
 -- a number below its bound grows by one
