@@ -11,3 +11,5 @@ pub mod Solving
 pub mod LimitSteps
 pub mod BindingSteps
 pub mod Saying
+mod VectorsRuns
+mod VectorsAnswers
