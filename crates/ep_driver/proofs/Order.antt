@@ -5,7 +5,7 @@ use Rattle.std.proofs.lemmas.Nat.{div-add-mod', div-mul-add, mod-mul-add, mod_be
 use Rattle.std.proofs.lemmas.Bool.{cases_lt}
 use Rattle.std.proofs.Math.Nat.{zero-mul, mul-zero, zero-mod, zero-div}
 use Rattle.std.proofs.lemmas.Int.{ints}
-use Rattle.ep_early.specs.Values.{at_least_zero}
+use Rattle.ep_base.specs.Runs.{or_zero}
 use Rattle.ep_driver.specs.declared.bounds.Bounds.{Bounds}
 use Rattle.ep_driver.specs.declared.clauses.Clause.{Clause}
 use Rattle.ep_driver.specs.Bounds.{size_of, combinations, AreWithin, first_values, next_values}
@@ -42,11 +42,11 @@ first-values_at (b ∷ bs) =
     let low : b.low ≡ b.low +ℤ pos 0 = omega (arith, ints) in
     rw (zero-mod (size_of b), zero-div (size_of b), ← low, ← first-values_at bs)
 
-pub below_part : (z : ℤ) (r : ℕ) → r < at_least_zero z → pos (r + 1) ≤ℤ z
+pub below_part : (z : ℤ) (r : ℕ) → r < or_zero z → pos (r + 1) ≤ℤ z
 below_part (pos n) r h = omega (arith, ints)
 below_part (negsuc n) r h = absurd (omega arith)
 
-is_part : (z : ℤ) (r : ℕ) → 0 < r → r ≡ at_least_zero z → z ≡ pos r
+is_part : (z : ℤ) (r : ℕ) → 0 < r → r ≡ or_zero z → z ≡ pos r
 is_part (pos n) r p e = omega (arith, ints)
 is_part (negsuc n) r p e = absurd (omega arith)
 
@@ -65,7 +65,7 @@ within-values_at (b ∷ bs) n h =
 pub is_less : (a b : ℤ) → a <ℤ b → int_lt a b ≡ true
 is_less a b h = grind (arith, ints)
 
-is_more : (a b : ℤ) → b ≤ℤ a → int_lt a b ≡ false
+pub is_more : (a b : ℤ) → b ≤ℤ a → int_lt a b ≡ false
 is_more a b h = grind (arith, ints)
 
 -- a number below its bound grows by one
@@ -108,7 +108,7 @@ next-values_at (b ∷ bs) n h =
           ∙ ap (λ x. (b.low +ℤ pos 0) ∷ x) (next-values_at bs q (rest-positive b bs h)))
     ]
 
-pub whole_part : (z : ℤ) → pos 0 ≤ℤ z → z ≡ pos (at_least_zero z)
+pub whole_part : (z : ℤ) → pos 0 ≤ℤ z → z ≡ pos (or_zero z)
 whole_part (pos n) h = refl
 whole_part (negsuc n) h = absurd (omega (arith, ints))
 
@@ -119,7 +119,7 @@ place-of [] (b ∷ bs) h = absurd h
 place-of (v ∷ vs) [] h = absurd h
 place-of (v ∷ vs) (b ∷ bs) h =
     let s = size_of b in
-    let r = at_least_zero (v -ℤ b.low) in
+    let r = or_zero (v -ℤ b.low) in
     let rest = place-of vs bs h.2 in
     let above = whole_part (v -ℤ b.low) (omega (arith, ints, h.0)) in
     let size = whole_part ((b.high +ℤ pos 1) -ℤ b.low) (omega (arith, ints, h.0, h.1)) in

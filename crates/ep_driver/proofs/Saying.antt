@@ -3,41 +3,41 @@ use Rattle.std.proofs.Common.{◌≡◌, ℕ, ◌≤◌, List, length, take, Opt
 use Rattle.std.proofs.lemmas.List.{take_all, length-take}
 use Rattle.ep_base.specs.Outside.{Held, ReadGives}
 use Rattle.ep_base.specs.declared.errors.Memory.{Memory as Want}
-use Rattle.ep_early.specs.Trees.{ModelTree}
-use Rattle.ep_early.specs.Early.{IsEarly}
+use Rattle.ep_parse_model.specs.Early.{IsEarly}
+use Rattle.ep_tree.specs.Binding.{Instance}
+use Rattle.ep_tree.specs.Statements.{TextTree}
 use Rattle.ep_driver.specs.declared.status.Status.{Status}
 use Rattle.ep_driver.specs.declared.status.Status.TheVariants.{Answered, Unknown, Usage, Text, Limit, Device, Memory, Refuted}
 use Rattle.ep_driver.specs.declared.replies.Reply.{Reply}
 use Rattle.ep_driver.specs.Command.{IsCommand}
-use Rattle.ep_early.specs.Solutions.{instance_of, assignment_count}
-use Rattle.ep_driver.specs.Outcomes.{NamesText, AreNoCommand, IsNotEarly, IsTooLarge, most_assignments, Refuses, Accepts}
+use Rattle.ep_driver.specs.Outcomes.{NamesText, AreNoCommand, Binds, IsNotEarly, IsTooLarge, assignment_count, most_assignments, Refuses, Accepts}
 use Rattle.ep_driver.specs.Replies.{IsEarlyAs, SaidToText, SaidToFile, IsNotRead, SaidToWords}
 use Rattle.ep_driver.specs.Texts.{device_line}
 
 -- ---- the first bytes of a text tell whether it is early
 
-early-whole : (text : List ℕ) (model : ModelTree) → IsEarly text model → take 65537 text ≡ text
+early-whole : (text : List ℕ) (model : TextTree) → IsEarly text model → take 65537 text ≡ text
 early-whole text model early = take_all 65537 text (omega (arith, early.within))
 
-early-first : (text : List ℕ) (model : ModelTree) → IsEarly (take 65537 text) model → IsEarly text model
+early-first : (text : List ℕ) (model : TextTree) → IsEarly (take 65537 text) model → IsEarly text model
 early-first text model early =
     let short : length text ≤ 65537 = omega (arith, early.within, length-take 65537 text) in
     let P : List ℕ → Type 0 = λ x. IsEarly x model in
     subst P (take_all 65537 text short) early
 
-early-cut : (text : List ℕ) (model : ModelTree) → IsEarly text model → IsEarly (take 65537 text) model
+early-cut : (text : List ℕ) (model : TextTree) → IsEarly text model → IsEarly (take 65537 text) model
 early-cut text model early =
     let P : List ℕ → Type 0 = λ x. IsEarly x model in
     subst P (sym (early-whole text model early)) early
 
-early-as-first : (text : List ℕ) (model : ModelTree) → IsEarlyAs (take 65537 text) model → IsEarlyAs text model
+early-as-first : (text : List ℕ) (model : TextTree) → IsEarlyAs (take 65537 text) model → IsEarlyAs text model
 early-as-first text model early =
     (early-first text model early.0, λ other h. early.1 other (early-cut text other h))
 
 said-whole : (text : List ℕ) (status : Status) (line : List ℕ) → SaidToText (take 65537 text) status line → SaidToText text status line
 said-whole text Text line h = (h.0, λ model early. h.1 model (early-cut text model early))
 said-whole text Limit line h = (h.0, h.1, early-as-first text h.1 h.2, h.3)
-said-whole text Answered line h = (h.0, h.1, h.2, early-as-first text h.0 h.3, h.4, h.5)
+said-whole text Answered line h = (h.0, early-as-first text h.0 h.1, h.2)
 said-whole text Usage line h = absurd h
 said-whole text Device line h = absurd h
 said-whole text Unknown line h = absurd h
@@ -89,10 +89,10 @@ abbrev pub AsksFor : List (List ℕ) → Held → Status → Type 0
 AsksFor words held Usage = AreNoCommand words
 AsksFor words held Device = (name : List ℕ) × IsCommand words name × (held name ≡ None)
 AsksFor words held Text = (text : List ℕ) × NamesText words held text × IsNotEarly text
-AsksFor words held Limit = (text : List ℕ) × NamesText words held text × (model : ModelTree) × IsEarly text model × IsTooLarge model
+AsksFor words held Limit = (text : List ℕ) × NamesText words held text × (model : TextTree) × IsEarly text model × IsTooLarge model
 AsksFor words held Answered =
-    (text : List ℕ) × NamesText words held text × (model : ModelTree) × IsEarly text model
-    × (assignment_count (instance_of model) ≤ most_assignments)
+    (text : List ℕ) × NamesText words held text × (model : TextTree) × IsEarly text model
+    × (instance : Instance) × Binds model instance × (assignment_count instance ≤ most_assignments)
 AsksFor words held Unknown = ⊥
 AsksFor words held Memory = ⊥
 AsksFor words held Refuted = ⊥
@@ -108,9 +108,15 @@ held-twice : (words : List (List ℕ)) (held : Held) (name text : List ℕ) → 
 held-twice words held name text command missing names =
     let e = sym missing ∙ ap held (same-name words name names.0 command names.1) ∙ names.2 in cc
 
-early-twice : (words : List (List ℕ)) (held : Held) (a b : List ℕ) (model : ModelTree) → NamesText words held a → NamesText words held b → IsEarly a model → IsEarly b model
+early-twice : (words : List (List ℕ)) (held : Held) (a b : List ℕ) (model : TextTree) → NamesText words held a → NamesText words held b → IsEarly a model → IsEarly b model
 early-twice words held a b model p q early =
     let P : List ℕ → Type 0 = λ x. IsEarly x model in subst P (same-text words held a b p q) early
+
+-- a model asks for one instance
+same-instance : (a b : TextTree) (i j : Instance) → a ≡ b → Binds a i → Binds b j → i ≡ j
+same-instance a b i j same p q =
+    let P : TextTree → Type 0 = λ x. Binds x i in
+    let e = sym (subst P same p) ∙ q in cc
 
 asked-usage : (words : List (List ℕ)) (held : Held) (status : Status) → AreNoCommand words → AsksFor words held status → Usage ≡ status
 asked-usage words held Usage none asks = refl
@@ -142,31 +148,31 @@ asked-text words held text Unknown names not_early asks = absurd asks
 asked-text words held text Memory names not_early asks = absurd asks
 asked-text words held text Refuted names not_early asks = absurd asks
 
-asked-limit : (words : List (List ℕ)) (held : Held) (text : List ℕ) (model : ModelTree) (status : Status) → NamesText words held text → IsEarlyAs text model → IsTooLarge model → AsksFor words held status → Limit ≡ status
+asked-limit : (words : List (List ℕ)) (held : Held) (text : List ℕ) (model : TextTree) (status : Status) → NamesText words held text → IsEarlyAs text model → IsTooLarge model → AsksFor words held status → Limit ≡ status
 asked-limit words held text model Usage names early large asks = absurd (asks names.0 names.1)
 asked-limit words held text model Device names early large asks = absurd (held-twice words held asks.0 text asks.1 asks.2 names)
 asked-limit words held text model Text names early large asks = absurd (asks.2 model (early-twice words held text asks.0 model names asks.1 early.0))
 asked-limit words held text model Limit names early large asks = refl
 asked-limit words held text model Answered names early large asks =
     let same : asks.2 ≡ model = early.1 asks.2 (early-twice words held asks.0 text asks.2 asks.1 names asks.3) in
-    let sizes = ap (λ m. assignment_count (instance_of m)) same in
-    absurd (omega (arith, asks.4, large, sizes))
+    let sizes = ap assignment_count (same-instance asks.2 model asks.4 large.0 same asks.5 large.1) in
+    absurd (omega (arith, asks.6, large.2, sizes))
 asked-limit words held text model Unknown names early large asks = absurd asks
 asked-limit words held text model Memory names early large asks = absurd asks
 asked-limit words held text model Refuted names early large asks = absurd asks
 
-asked-answer : (words : List (List ℕ)) (held : Held) (text : List ℕ) (model : ModelTree) (status : Status) → NamesText words held text → IsEarlyAs text model → assignment_count (instance_of model) ≤ most_assignments → AsksFor words held status → Answered ≡ status
-asked-answer words held text model Usage names early small asks = absurd (asks names.0 names.1)
-asked-answer words held text model Device names early small asks = absurd (held-twice words held asks.0 text asks.1 asks.2 names)
-asked-answer words held text model Text names early small asks = absurd (asks.2 model (early-twice words held text asks.0 model names asks.1 early.0))
-asked-answer words held text model Limit names early small asks =
+asked-answer : (words : List (List ℕ)) (held : Held) (text : List ℕ) (model : TextTree) (instance : Instance) (status : Status) → NamesText words held text → IsEarlyAs text model → Binds model instance → assignment_count instance ≤ most_assignments → AsksFor words held status → Answered ≡ status
+asked-answer words held text model instance Usage names early binds small asks = absurd (asks names.0 names.1)
+asked-answer words held text model instance Device names early binds small asks = absurd (held-twice words held asks.0 text asks.1 asks.2 names)
+asked-answer words held text model instance Text names early binds small asks = absurd (asks.2 model (early-twice words held text asks.0 model names asks.1 early.0))
+asked-answer words held text model instance Limit names early binds small asks =
     let same : asks.2 ≡ model = early.1 asks.2 (early-twice words held asks.0 text asks.2 asks.1 names asks.3) in
-    let sizes = ap (λ m. assignment_count (instance_of m)) same in
-    absurd (omega (arith, asks.4, small, sizes))
-asked-answer words held text model Answered names early small asks = refl
-asked-answer words held text model Unknown names early small asks = absurd asks
-asked-answer words held text model Memory names early small asks = absurd asks
-asked-answer words held text model Refuted names early small asks = absurd asks
+    let sizes = ap assignment_count (same-instance asks.2 model asks.4.0 instance same asks.4.1 binds) in
+    absurd (omega (arith, asks.4.2, small, sizes))
+asked-answer words held text model instance Answered names early binds small asks = refl
+asked-answer words held text model instance Unknown names early binds small asks = absurd asks
+asked-answer words held text model instance Memory names early binds small asks = absurd asks
+asked-answer words held text model instance Refuted names early binds small asks = absurd asks
 
 -- where the files counted no fault, the status is the one that is asked for
 pub said-asked : (words : List (List ℕ)) (held : Held) (rose : Type 0) (said : Status) (line : List ℕ) (asked : Status) → SaidToWords words (Some held) rose said line → ¬ rose → AsksFor words held asked → said ≡ asked
@@ -175,7 +181,7 @@ said-asked words held rose Device line asked said calm asks =
     elim said.3 [ inl r ↦ absurd (calm r) | inr missing ↦ asked-device words held said.0 asked said.1 missing asks ]
 said-asked words held rose Text line asked said calm asks = let t = said.1 in asked-text words held t.0 asked t.1 t.2.1 asks
 said-asked words held rose Limit line asked said calm asks = let t = said.1 in asked-limit words held t.0 t.2.1 asked t.1 t.2.2 t.2.3 asks
-said-asked words held rose Answered line asked said calm asks = let t = said.1 in asked-answer words held t.0 t.2.0 asked t.1 t.2.3 t.2.4 asks
+said-asked words held rose Answered line asked said calm asks = let t = said.1 in asked-answer words held t.0 t.2.0 t.2.2.0 asked t.1 t.2.1 t.2.2.2 t.2.2.3 asks
 said-asked words held rose Unknown line asked said calm asks = absurd said
 said-asked words held rose Memory line asked said calm asks = absurd said
 said-asked words held rose Refuted line asked said calm asks = absurd said
@@ -233,7 +239,7 @@ refusal-said words (Some held) rose said line s calm =
     λ status refusal h. inl (said-asked words held rose said line status s calm (refusal-asked words held status refusal h))
 
 -- where they counted none and no refusal stands, the answer is said
-pub answer-said : (words : List (List ℕ)) (told : Option Held) (rose : Type 0) (said : Status) (line : List ℕ) → SaidToWords words told rose said line → ¬ rose → IfSome told (λ held. (model : ModelTree) → Accepts words held model → (said ≡ Answered) ⊎ (said ≡ Memory))
+pub answer-said : (words : List (List ℕ)) (told : Option Held) (rose : Type 0) (said : Status) (line : List ℕ) → SaidToWords words told rose said line → ¬ rose → IfSome told (λ held. (model : TextTree) (instance : Instance) → Accepts words held model instance → (said ≡ Answered) ⊎ (said ≡ Memory))
 answer-said words None rose said line s calm = tt
 answer-said words (Some held) rose said line s calm =
-    λ model h. inl (said-asked words held rose said line Answered s calm (h.0, h.1, model, h.2, h.3))
+    λ model instance h. inl (said-asked words held rose said line Answered s calm (h.0, h.1, model, h.2, instance, h.3, h.4))

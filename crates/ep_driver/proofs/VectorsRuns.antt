@@ -2,12 +2,11 @@
 use Rattle.std.proofs.Common.{◌≡◌, ℕ, pos, negsuc, List, [], ◌∷◌, None, codes, refl}
 use Rattle.std.specs.Fmt.{digits}
 use Rattle.ep_base.specs.Outside.{Held}
-use Rattle.ep_early.specs.Solutions.{instance_of}
 use Rattle.ep_driver.specs.declared.status.Status.TheVariants.{Usage, Device, Refuted}
 use Rattle.ep_driver.specs.Status.{code_of}
 use Rattle.ep_driver.specs.Command.{IsCommand, IsFileName}
 use Rattle.ep_driver.specs.Texts.{device_line}
-use Rattle.ep_driver.specs.Answers.{Answers, answer_text, solution, no_solution}
+use Rattle.ep_driver.specs.Answers.{answer_text, solution, no_solution}
 use Rattle.ep_driver.specs.Outcomes.{AreNoCommand, Refuses}
 
 -- ---- texts
@@ -59,14 +58,6 @@ missing-refused = (codes "none.eprime", refl, (refl, λ e. cc), refl)
 
 never-refuted : (words : List (List ℕ)) (held : Held) (line : List ℕ) → ¬ Refuses words held Refuted line
 never-refuted words held line = λ h. h
-
--- ---- an answer
-
-the-empty-model : Answers (instance_of (record { statements = [] })) (solution [])
-the-empty-model = record { gives = tt; holds = tt }
-
-the-empty-model-has-one : ¬ Answers (instance_of (record { statements = [] })) no_solution
-the-empty-model-has-one = λ none. none [] (record { gives = tt; holds = tt })
 
 -- ---- codes
 

@@ -1,11 +1,11 @@
 -- Lists of numbers within bounds.
 use Rattle.std.specs.Prelude.{ℕ, ℤ, pos, ◌+ℤ◌, ◌-ℤ◌, ◌≤ℤ◌, ◌*◌, int_lt, if◌then◌else◌, List, [], ◌∷◌, map}
-use Rattle.ep_early.specs.Values.{at_least_zero}
+use Rattle.ep_base.specs.Runs.{or_zero}
 use Rattle.ep_driver.specs.declared.bounds.Bounds.{Bounds}
 
 -- how many numbers lie within the bounds
 abbrev pub size_of : Bounds → ℕ
-size_of b = at_least_zero ((b.high +ℤ pos 1) -ℤ b.low)
+size_of b = or_zero ((b.high +ℤ pos 1) -ℤ b.low)
 
 -- how many lists of numbers lie within a list of bounds
 abbrev pub combinations : List Bounds → ℕ

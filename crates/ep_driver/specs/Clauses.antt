@@ -1,6 +1,6 @@
 -- Comparisons of sums, under a list of values.
 use Rattle.std.specs.Prelude.{ℕ, ◌<◌, ℤ, pos, ◌+ℤ◌, neg_ℤ, Bool, true, ◌&&◌, if◌then◌else◌, slice_index_or, List, [], ◌∷◌}
-use Rattle.ep_early.specs.Values.{compares}
+use Rattle.ep_base.specs.Numbers.{compare_holds}
 use Rattle.ep_driver.specs.declared.clauses.Operand.{Operand}
 use Rattle.ep_driver.specs.declared.clauses.Operand.TheVariants.{Number, Find}
 use Rattle.ep_driver.specs.declared.clauses.Summand.{Summand}
@@ -23,7 +23,7 @@ total values (s ∷ ss) = summand_value values s +ℤ total values ss
 
 -- whether the clause is true under the values
 abbrev pub is_met : List ℤ → Clause → Bool
-is_met values c = compares c.op (total values c.left.items) (total values c.right.items)
+is_met values c = compare_holds c.op (total values c.left.items) (total values c.right.items)
 
 -- whether each clause is true under the values
 abbrev pub are_met : List ℤ → List Clause → Bool

@@ -4,7 +4,9 @@ pub mod Command
 pub mod Status
 pub mod Texts
 pub mod Answers
-pub mod Outcomes
+pub mod Naming
 pub mod Finds
 pub mod Compiled
+pub mod Outcomes
 pub mod Replies
+pub mod Laws

@@ -1,28 +1,33 @@
 -- What is said to the words and to a text, before it is put out.
 use Rattle.std.specs.Prelude.{◌≡◌, ℕ, ◌≤◌, ◌⊎◌, List, Option, None, codes, IfSome, IsSomeAnd}
 use Rattle.ep_base.specs.Outside.{Held}
-use Rattle.ep_early.specs.Trees.{ModelTree}
-use Rattle.ep_early.specs.Early.{IsEarly}
-use Rattle.ep_early.specs.Solutions.{instance_of, assignment_count}
+use Rattle.ep_parse_model.specs.Early.{IsEarly}
+use Rattle.ep_tree.specs.Binding.{Instance}
+use Rattle.ep_tree.specs.Statements.{TextTree}
 use Rattle.ep_driver.specs.declared.status.Status.{Status}
 use Rattle.ep_driver.specs.declared.status.Status.TheVariants.{Answered, Unknown, Usage, Text, Limit, Device, Memory, Refuted}
 use Rattle.ep_driver.specs.Command.{IsCommand}
 use Rattle.ep_driver.specs.Texts.{device_line}
 use Rattle.ep_driver.specs.Answers.{Answer, Answers, answer_text}
-use Rattle.ep_driver.specs.Outcomes.{NamesText, AreNoCommand, IsNotEarly, most_assignments, IsTooLarge}
+use Rattle.ep_driver.specs.Outcomes.{NamesText, AreNoCommand, IsNotEarly, Binds, assignment_count, most_assignments, IsTooLarge}
 
 -- the text is early, as this model and no other
-abbrev pub IsEarlyAs : List ℕ → ModelTree → Type 0
-IsEarlyAs text model = IsEarly text model × ((other : ModelTree) → IsEarly text other → other ≡ model)
+abbrev pub IsEarlyAs : List ℕ → TextTree → Type 0
+IsEarlyAs text model = IsEarly text model × ((other : TextTree) → IsEarly text other → other ≡ model)
+
+-- the text is that of a right answer for what the model asks for, which has not too many assignments
+abbrev pub IsAnswerTo : TextTree → List ℕ → Type 0
+IsAnswerTo model line =
+    (instance : Instance) × (answer : Answer) × Binds model instance
+    × (assignment_count instance ≤ most_assignments) × Answers instance answer × (line ≡ answer_text answer)
 
 -- what is said to a text
 abbrev pub SaidToText : List ℕ → Status → List ℕ → Type 0
 SaidToText text Text line = (line ≡ codes "fault early\n") × IsNotEarly text
 SaidToText text Limit line =
-    (line ≡ codes "limit early\n") × (model : ModelTree) × IsEarlyAs text model × IsTooLarge model
+    (line ≡ codes "limit early\n") × (model : TextTree) × IsEarlyAs text model × IsTooLarge model
 SaidToText text Answered line =
-    (model : ModelTree) × (answer : Answer) × (line ≡ answer_text answer) × IsEarlyAs text model
-    × (assignment_count (instance_of model) ≤ most_assignments) × Answers (instance_of model) answer
+    (model : TextTree) × IsEarlyAs text model × IsAnswerTo model line
 SaidToText text Usage line = ⊥
 SaidToText text Device line = ⊥
 SaidToText text Unknown line = ⊥

@@ -1,7 +1,7 @@
 //! Comparisons of sums over the numbers that the finds have at the moment.
 
 ghost use Rattle.std.specs.Prelude.{◌≡◌, ◌^◌, pos, neg_ℤ, ◌≤ℤ◌, length};
-ghost use Rattle.ep_early.specs.Values.{compares};
+ghost use Rattle.ep_base.specs.Numbers.{compare_holds};
 ghost use Rattle.ep_driver.specs.Clauses.{operand_value, summand_value, total, is_met, are_met, UsesBelow, SumUsesBelow, ClausesUseBelow};
 
 use ep_base::CompareOp;
@@ -61,8 +61,9 @@ fn sum_of(summands: &[Summand], values: &[i64]) -> i128
     sum
 }
 
+#[tactic(auto, unfolding(ep_base::specs::Numbers::compare_holds))]
 fn compares(op: CompareOp, left: i128, right: i128) -> bool
-    ensures { result ≡ compares op left right }
+    ensures { result ≡ compare_holds op left right }
 {
     match op {
         CompareOp::Equal => left == right,

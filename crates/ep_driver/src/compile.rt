@@ -2,17 +2,18 @@
 
 ghost use Rattle.std.specs.Prelude.{◌≡◌, ◌<◌, ℤ, pos, List, [], ◌∷◌, false, length, Some, Contains, map, IfOk, OnOk, slice_index_or};
 ghost use Rattle.std.specs.List.{flat_map, AllByRecursion};
-ghost use Rattle.std.specs.Str.{bytes_eq};
-ghost use Rattle.std.specs.Map.{lookup};
-ghost use Rattle.ep_early.specs.Views.{expr_tree, term_trees, statement_tree, model_tree};
-ghost use Rattle.ep_early.specs.EarlyForms.{IsOperand, AreOperands, IsSide, IsEarlyClause, IsEarlyStatement, HasEarlyForms};
-ghost use Rattle.ep_early.specs.WellFormed.{UsesOnly, TermsUseOnly, KindUsesOnly};
-ghost use Rattle.ep_early.specs.Solutions.{kind_clauses, instance_of};
+ghost use Rattle.ep_parse_model.specs.EarlyForms.{IsOperand, AreOperands, IsSide, IsEarlyClause, IsEarlyStatement, HasEarlyForms};
+ghost use Rattle.ep_tree.specs.Environments.{has_value};
+ghost use Rattle.ep_tree.specs.Values.{single};
+ghost use Rattle.ep_tree.specs.Views.{expr_tree, terms_of, statement_tree, model_tree};
+ghost use Rattle.ep_tree.specs.declared.values.ValueType.{ValueType};
 ghost use Rattle.ep_driver.specs.Clauses.{UsesBelow, SumUsesBelow};
-ghost use Rattle.ep_driver.specs.Compiled.{texts_of, assignment_of, OperandMeans, SumMeans, ChainMeans, ClauseMeans, AreCompiled, AddsCompiled};
+ghost use Rattle.ep_driver.specs.Compiled.{texts_of, env_of, OperandMeans, SumMeans, TermsMean, ClauseMeans, AreCompiled, AddsCompiled};
+ghost use Rattle.ep_driver.specs.Naming.{UsesOnly, TermsUseOnly, StatementUsesOnly};
+ghost use Rattle.ep_driver.specs.Finds.{clauses_of_statement, early_instance};
 
 use super::clauses::{Clause, Operand, Summand};
-use ep_early::{Expr, Kind, Model, Statement, StatementKind};
+use ep_tree::{Expr, Kind, Model, Statement, StatementKind};
 use indexmap::IndexSet;
 use std::alloc::{AllocError, Global};
 
@@ -21,8 +22,8 @@ fn index_of(names: &IndexSet<&str>, name: &str) -> usize
     requires { Contains (texts_of names.now.keys) name.now }
     ensures within { result < length names.now.keys }
     ensures found { (values : List ℤ) → length values ≡ length names.now.keys →
-        lookup (bytes_eq name.now) (assignment_of names.now.keys values)
-        ≡ Some (slice_index_or values result (pos 0)) }
+        env_of names.now.keys values name.now
+        ≡ Some (has_value ValueType.Int (single (slice_index_or values result (pos 0)))) }
 {
     match names.get_index_of(name) {
         Some(index) => index,
@@ -50,11 +51,10 @@ fn sum_of_parts(
     names: &IndexSet<&str>,
     parts: &[(bool, Expr)],
 ) -> Result<Vec<Summand>, AllocError>
-    requires early { AreOperands (term_trees parts.now) }
-    requires declared { TermsUseOnly (texts_of names.now.keys) (term_trees parts.now) }
+    requires early { AreOperands (terms_of parts.now) }
+    requires declared { TermsUseOnly (texts_of names.now.keys) (terms_of parts.now) }
     ensures below { IfOk result (λ sum. SumUsesBelow (length names.now.keys) sum.items) }
-    ensures means { IfOk result (λ sum.
-        ChainMeans names.now.keys sum.items (term_trees parts.now)) }
+    ensures means { IfOk result (λ sum. TermsMean names.now.keys sum.items (terms_of parts.now)) }
 {
     let mut sum = Vec::with_capacity(alloc, parts.len())?;
     for (added, part) in parts {
@@ -140,13 +140,13 @@ fn add_statement(
     flat: &mut Vec<Clause>,
 ) -> Result<(), AllocError>
     requires early { IsEarlyStatement (statement_tree statement.now) }
-    requires declared { KindUsesOnly (texts_of names.now.keys) (statement_tree statement.now).kind }
+    requires declared { StatementUsesOnly (texts_of names.now.keys) (statement_tree statement.now) }
     ensures { OnOk result (AddsCompiled names.now.keys flat.old.items flat.new.items
-        (kind_clauses (statement_tree statement.now).kind)) }
+        (clauses_of_statement (statement_tree statement.now))) }
 {
     match &statement.kind {
         StatementKind::SuchThat(clauses) => add_clauses(alloc, names, clauses, flat),
-        StatementKind::Find(_) => Ok(()),
+        _ => Ok(()),
     }
 }
 
@@ -157,10 +157,10 @@ fn add_statements(
     flat: &mut Vec<Clause>,
 ) -> Result<(), AllocError>
     requires early { AllByRecursion IsEarlyStatement (map statement_tree statements.now) }
-    requires declared { AllByRecursion (λ s. KindUsesOnly (texts_of names.now.keys) s.kind)
+    requires declared { AllByRecursion (StatementUsesOnly (texts_of names.now.keys))
         (map statement_tree statements.now) }
     ensures { OnOk result (AddsCompiled names.now.keys flat.old.items flat.new.items
-        (flat_map (λ s. kind_clauses s.kind) (map statement_tree statements.now))) }
+        (flat_map clauses_of_statement (map statement_tree statements.now))) }
 {
     for statement in statements {
         add_statement(alloc, names, statement, flat)?;
@@ -175,10 +175,10 @@ pub fn clauses_of_model(
     model: &Model,
 ) -> Result<Vec<Clause>, AllocError>
     requires early { HasEarlyForms (model_tree model.now) }
-    requires declared { AllByRecursion (λ s. KindUsesOnly (texts_of names.now.keys) s.kind)
-        (model_tree model.now).statements }
+    requires declared { AllByRecursion (StatementUsesOnly (texts_of names.now.keys))
+        (model_tree model.now) }
     ensures { IfOk result (λ flat.
-        AreCompiled names.now.keys flat.items (instance_of (model_tree model.now)).clauses) }
+        AreCompiled names.now.keys flat.items (early_instance (model_tree model.now)).clauses) }
 {
     let mut flat = Vec::new(alloc);
     add_statements(alloc, names, &model.statements, &mut flat)?;

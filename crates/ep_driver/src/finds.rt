@@ -2,18 +2,20 @@
 
 ghost use Rattle.std.specs.Prelude.{◌≡◌, ◌++◌, [], ◌∷◌, length, map, Some, IfOk, OnOk};
 ghost use Rattle.std.specs.List.{flat_map, AllByRecursion};
-ghost use Rattle.ep_early.specs.Views.{end_tree, range_tree, range_trees, domain_tree, declared_tree, statement_tree, model_tree};
-ghost use Rattle.ep_early.specs.Trees.{more_ranges, no_ranges};
-ghost use Rattle.ep_early.specs.Values.{end_value, range_values, domain_values, interval};
-ghost use Rattle.ep_early.specs.EarlyForms.{IsClosedEnd, IsOneRange, IsEarlyDomain, IsEarlyStatement, HasEarlyForms};
-ghost use Rattle.ep_early.specs.Small.{IsSmallEnd, IsSmallRange, AreSmallRanges, IsSmallDomain, IsSmallKind, IsSmallModel};
-ghost use Rattle.ep_early.specs.WellFormed.{AreDistinct, names_of, declared_by, declared_names};
-ghost use Rattle.ep_early.specs.Solutions.{declared_finds, kind_finds, instance_of};
-ghost use Rattle.ep_driver.specs.Finds.{find_names, finds_in, named_find, IsPaired};
+ghost use Rattle.ep_parse_model.specs.EarlyForms.{IsBound, IsClosedEnd, IsNumber, IsOneRange, IsEarlyDomain, IsEarlyGroup, IsEarlyStatement, HasEarlyForms};
+ghost use Rattle.ep_parse_model.specs.Small.{IsSmall, IsSmallEnd, AreSmallRanges, IsSmallDomain, IsSmallGroup, IsSmallStatement, IsSmallModel};
+ghost use Rattle.ep_tree.specs.Domains.{between};
+ghost use Rattle.ep_tree.specs.Evaluation.{domain_values, end_value, evaluate, range_values};
+ghost use Rattle.ep_tree.specs.Names.{nothing_known};
+ghost use Rattle.ep_tree.specs.Values.{single};
+ghost use Rattle.ep_tree.specs.Views.{expr_tree, end_of, ranges_of, domain_tree, group_of, statement_tree, model_tree};
+ghost use Rattle.ep_tree.specs.declared.values.Mode.{Mode};
+ghost use Rattle.ep_driver.specs.Naming.{AreNew, group_names, declared_by, declared_names};
+ghost use Rattle.ep_driver.specs.Finds.{integer_find, find_names, finds_in, finds_of_group, finds_of_statement, early_instance, named_find, IsPaired};
 
 use super::bounds::Bounds;
 use ep_base::{Name, Place};
-use ep_early::{Declared, Domain, DomainKind, Expr, Kind, Model, Range, Statement, StatementKind};
+use ep_tree::{Declared, Domain, DomainKind, Expr, Kind, Model, Range, Statement, StatementKind};
 use indexmap::IndexSet;
 use std::alloc::{AllocError, Global};
 
@@ -27,56 +29,66 @@ pub struct Finds<'a> {
 /// Adds one decision variable.
 fn add_find<'a>(finds: &mut Finds<'a>, name: &'a str, bounds: Bounds) -> Result<(), AllocError>
     requires paired { IsPaired finds.old }
-    requires distinct { AreDistinct (find_names (finds_in finds.old) ++ name.now ∷ []) }
+    requires new { AreNew (find_names (finds_in finds.old)) (name.now ∷ []) }
     ensures paired { OnOk result (IsPaired finds.new) }
     ensures added { OnOk result (finds_in finds.new
-        ≡ finds_in finds.old
-        ++ record { name = name.now; values = interval bounds.low bounds.high } ∷ []) }
+        ≡ finds_in finds.old ++ integer_find name.now (between bounds.low bounds.high) ∷ []) }
 {
     finds.names.insert(name)?;
     finds.bounds.push(bounds)?;
     Ok(())
 }
 
-/// The number that a bound of a range is.
-fn bound_value(end: &Option<Expr>) -> i64
-    requires closed { IsClosedEnd (end_tree end.now) }
-    requires small { IsSmallEnd (end_tree end.now) }
-    ensures { end_value (end_tree end.now) ≡ Some result }
+/// The number that a bound is: a number, or one with a `-` before it.
+fn number_of(bound: &Expr) -> i64
+    requires early { IsBound (expr_tree bound.now) }
+    requires small { IsSmall (expr_tree bound.now) }
+    ensures { evaluate Mode.Relational nothing_known (expr_tree bound.now) ≡ Some (single result) }
 {
-    match end {
-        Some(bound) => match &bound.kind {
-            Kind::Number(number) => *number,
-            Kind::Neg(operand) => match &operand.kind {
-                Kind::Number(number) => -*number,
-                _ => unreachable!(),
-            },
+    match &bound.kind {
+        Kind::Number(number) => *number,
+        Kind::Neg(operand) => match &operand.kind {
+            Kind::Number(number) => -*number,
             _ => unreachable!(),
         },
+        _ => unreachable!(),
+    }
+}
+
+/// The number at an end of a range.
+fn bound_value(end: &Option<Expr>) -> i64
+    requires closed { IsClosedEnd (end_of end.now) }
+    requires small { IsSmallEnd (end_of end.now) }
+    ensures { end_value Mode.Relational nothing_known (end_of end.now) ≡ Some result }
+{
+    match end {
+        Some(bound) => number_of(bound),
         None => unreachable!(),
     }
 }
 
 /// The bounds of a range with both ends.
 fn span_bounds(range: &Range) -> Bounds
-    requires one { IsOneRange (more_ranges (range_tree range.now) no_ranges) }
-    requires small { IsSmallRange (range_tree range.now) }
-    ensures { range_values (more_ranges (range_tree range.now) no_ranges)
-        ≡ Some (interval result.low result.high) }
+    requires one { IsOneRange (ranges_of (range.now ∷ [])) }
+    requires small { AreSmallRanges (ranges_of (range.now ∷ [])) }
+    ensures { range_values Mode.Relational nothing_known (ranges_of (range.now ∷ []))
+        ≡ Some (between result.low result.high) }
 {
     match range {
         Range::Span(low, high) => Bounds {
             low: bound_value(low),
             high: bound_value(high),
         },
+        Range::One(_) => unreachable!(),
     }
 }
 
 /// The bounds of the one range that there is.
 fn range_bounds(ranges: &[Range]) -> Bounds
-    requires one { IsOneRange (range_trees ranges.now) }
-    requires small { AreSmallRanges (range_trees ranges.now) }
-    ensures { range_values (range_trees ranges.now) ≡ Some (interval result.low result.high) }
+    requires one { IsOneRange (ranges_of ranges.now) }
+    requires small { AreSmallRanges (ranges_of ranges.now) }
+    ensures { range_values Mode.Relational nothing_known (ranges_of ranges.now)
+        ≡ Some (between result.low result.high) }
 {
     span_bounds(&ranges[0])
 }
@@ -85,10 +97,13 @@ fn range_bounds(ranges: &[Range]) -> Bounds
 fn domain_bounds(domain: &Domain) -> Bounds
     requires early { IsEarlyDomain (domain_tree domain.now) }
     requires small { IsSmallDomain (domain_tree domain.now) }
-    ensures { domain_values (domain_tree domain.now) ≡ Some (interval result.low result.high) }
+    ensures { domain_values Mode.Relational nothing_known (domain_tree domain.now)
+        ≡ Some (between result.low result.high) }
 {
-    let DomainKind::Ranges(ranges) = &domain.kind;
-    range_bounds(ranges)
+    match &domain.kind {
+        DomainKind::Ranges(ranges) => range_bounds(ranges),
+        _ => unreachable!(),
+    }
 }
 
 /// Adds the decision variables of some names with the same bounds.
@@ -98,8 +113,7 @@ fn add_names<'a>(
     bounds: Bounds,
 ) -> Result<(), AllocError>
     requires paired { IsPaired finds.old }
-    requires distinct { AreDistinct (find_names (finds_in finds.old)
-        ++ map (λ entry. entry.0) names.now) }
+    requires new { AreNew (find_names (finds_in finds.old)) (map (λ entry. entry.0) names.now) }
     ensures paired { OnOk result (IsPaired finds.new) }
     ensures added { OnOk result (finds_in finds.new
         ≡ finds_in finds.old ++ flat_map (named_find bounds) names.now) }
@@ -110,38 +124,32 @@ fn add_names<'a>(
     Ok(())
 }
 
-/// Adds the decision variables of a declaration.
-fn add_declared<'a>(finds: &mut Finds<'a>, declared: &'a Declared) -> Result<(), AllocError>
+/// Adds the decision variables of a group.
+fn add_group<'a>(finds: &mut Finds<'a>, group: &'a Declared) -> Result<(), AllocError>
     requires paired { IsPaired finds.old }
-    requires early { IsEarlyDomain (domain_tree declared.now.domain) }
-    requires small { IsSmallDomain (domain_tree declared.now.domain) }
-    requires distinct { AreDistinct (find_names (finds_in finds.old)
-        ++ names_of (declared_tree declared.now)) }
+    requires early { IsEarlyGroup (group_of group.now) }
+    requires small { IsSmallGroup (group_of group.now) }
+    requires new { AreNew (find_names (finds_in finds.old)) (group_names (group_of group.now)) }
     ensures paired { OnOk result (IsPaired finds.new) }
     ensures added { OnOk result (finds_in finds.new
-        ≡ finds_in finds.old ++ declared_finds (declared_tree declared.now)) }
+        ≡ finds_in finds.old ++ finds_of_group (group_of group.now)) }
 {
-    add_names(finds, &declared.names, domain_bounds(&declared.domain))?;
+    add_names(finds, &group.names, domain_bounds(&group.domain))?;
     Ok(())
 }
 
-fn add_declarations<'a>(
-    finds: &mut Finds<'a>,
-    declarations: &'a [Declared],
-) -> Result<(), AllocError>
+fn add_groups<'a>(finds: &mut Finds<'a>, groups: &'a [Declared]) -> Result<(), AllocError>
     requires paired { IsPaired finds.old }
-    requires early { AllByRecursion (λ d. IsEarlyDomain d.domain)
-        (map declared_tree declarations.now) }
-    requires small { AllByRecursion (λ d. IsSmallDomain d.domain)
-        (map declared_tree declarations.now) }
-    requires distinct { AreDistinct (find_names (finds_in finds.old)
-        ++ flat_map names_of (map declared_tree declarations.now)) }
+    requires early { AllByRecursion IsEarlyGroup (map group_of groups.now) }
+    requires small { AllByRecursion IsSmallGroup (map group_of groups.now) }
+    requires new { AreNew (find_names (finds_in finds.old))
+        (flat_map group_names (map group_of groups.now)) }
     ensures paired { OnOk result (IsPaired finds.new) }
     ensures added { OnOk result (finds_in finds.new
-        ≡ finds_in finds.old ++ flat_map declared_finds (map declared_tree declarations.now)) }
+        ≡ finds_in finds.old ++ flat_map finds_of_group (map group_of groups.now)) }
 {
-    for declared in declarations {
-        add_declared(finds, declared)?;
+    for group in groups {
+        add_group(finds, group)?;
     }
     Ok(())
 }
@@ -150,29 +158,28 @@ fn add_declarations<'a>(
 fn add_statement<'a>(finds: &mut Finds<'a>, statement: &'a Statement) -> Result<(), AllocError>
     requires paired { IsPaired finds.old }
     requires early { IsEarlyStatement (statement_tree statement.now) }
-    requires small { IsSmallKind (statement_tree statement.now).kind }
-    requires distinct { AreDistinct (find_names (finds_in finds.old)
-        ++ declared_by (statement_tree statement.now)) }
+    requires small { IsSmallStatement (statement_tree statement.now) }
+    requires new { AreNew (find_names (finds_in finds.old))
+        (declared_by (statement_tree statement.now)) }
     ensures paired { OnOk result (IsPaired finds.new) }
     ensures added { OnOk result (finds_in finds.new
-        ≡ finds_in finds.old ++ kind_finds (statement_tree statement.now).kind) }
+        ≡ finds_in finds.old ++ finds_of_statement (statement_tree statement.now)) }
 {
     match &statement.kind {
-        StatementKind::Find(declarations) => add_declarations(finds, declarations),
-        StatementKind::SuchThat(_) => Ok(()),
+        StatementKind::Find(groups) => add_groups(finds, groups),
+        _ => Ok(()),
     }
 }
 
 fn add_statements<'a>(finds: &mut Finds<'a>, statements: &'a [Statement]) -> Result<(), AllocError>
     requires paired { IsPaired finds.old }
     requires early { AllByRecursion IsEarlyStatement (map statement_tree statements.now) }
-    requires small { AllByRecursion (λ s. IsSmallKind s.kind) (map statement_tree statements.now) }
-    requires distinct { AreDistinct (find_names (finds_in finds.old)
-        ++ flat_map declared_by (map statement_tree statements.now)) }
+    requires small { AllByRecursion IsSmallStatement (map statement_tree statements.now) }
+    requires new { AreNew (find_names (finds_in finds.old))
+        (flat_map declared_by (map statement_tree statements.now)) }
     ensures paired { OnOk result (IsPaired finds.new) }
     ensures added { OnOk result (finds_in finds.new
-        ≡ finds_in finds.old
-        ++ flat_map (λ s. kind_finds s.kind) (map statement_tree statements.now)) }
+        ≡ finds_in finds.old ++ flat_map finds_of_statement (map statement_tree statements.now)) }
 {
     for statement in statements {
         add_statement(finds, statement)?;
@@ -184,10 +191,10 @@ fn add_statements<'a>(finds: &mut Finds<'a>, statements: &'a [Statement]) -> Res
 pub fn finds_of_model(alloc: Global, model: &Model) -> Result<Finds<'_>, AllocError>
     requires early { HasEarlyForms (model_tree model.now) }
     requires small { IsSmallModel (model_tree model.now) }
-    requires distinct { AreDistinct (declared_names (model_tree model.now)) }
+    requires new { AreNew [] (declared_names (model_tree model.now)) }
     ensures paired { IfOk result IsPaired }
     ensures all { IfOk result (λ finds.
-        finds_in finds ≡ (instance_of (model_tree model.now)).finds) }
+        finds_in finds ≡ (early_instance (model_tree model.now)).finds) }
 {
     let mut finds = Finds {
         names: IndexSet::new(alloc),

@@ -6,6 +6,7 @@ mod clauses;
 mod command;
 mod compile;
 mod finds;
+mod laws;
 mod replies;
 mod search;
 mod solve;
@@ -15,5 +16,6 @@ mod tests;
 mod texts;
 mod top;
 
+pub use laws::early_models_bind;
 pub use status::Status;
 pub use top::run;

@@ -1,23 +1,23 @@
 //! The answer of an early model, by trying its assignments.
 
-ghost use Rattle.std.specs.Prelude.{◌≡◌, ◌≤◌, length, IfOk, IfSome, IfNone};
-ghost use Rattle.ep_early.specs.Views.{model_tree};
-ghost use Rattle.ep_early.specs.EarlyForms.{HasEarlyForms};
-ghost use Rattle.ep_early.specs.Small.{IsSmallModel};
-ghost use Rattle.ep_early.specs.WellFormed.{IsWellFormed};
-ghost use Rattle.ep_early.specs.Solutions.{instance_of, assignment_count};
-ghost use Rattle.ep_driver.specs.Answers.{Answer, Answers, answer_text};
+ghost use Rattle.std.specs.Prelude.{◌≡◌, length, IfOk, IfSome, IfNone};
+ghost use Rattle.ep_parse_model.specs.EarlyForms.{HasEarlyForms};
+ghost use Rattle.ep_parse_model.specs.Small.{IsSmallModel};
+ghost use Rattle.ep_tree.specs.Faults.{IsWellFormed};
+ghost use Rattle.ep_tree.specs.Views.{model_tree};
+ghost use Rattle.ep_driver.specs.Answers.{Answers, answer_text};
 ghost use Rattle.ep_driver.specs.Bounds.{combinations};
-ghost use Rattle.ep_driver.specs.Finds.{finds_in, IsPaired};
+ghost use Rattle.ep_driver.specs.Finds.{early_instance, finds_in, IsPaired};
 ghost use Rattle.ep_driver.specs.Compiled.{found_answer};
-ghost use Rattle.ep_driver.specs.Outcomes.{most_assignments, IsTooLarge};
+ghost use Rattle.ep_driver.specs.Outcomes.{IsTooLarge};
+ghost use Rattle.ep_driver.specs.Replies.{IsAnswerTo};
 
 use super::bounds::capped_combinations;
 use super::compile::clauses_of_model;
 use super::finds::{Finds, finds_of_model};
 use super::search::first_solution;
 use super::texts::push_lettings;
-use ep_early::Model;
+use ep_tree::Model;
 use std::alloc::{AllocError, Global};
 
 /// As many assignments are tried at most.
@@ -29,11 +29,8 @@ pub fn answer_of(alloc: Global, model: &Model) -> Result<Option<Vec<u8>>, AllocE
     requires small { IsSmallModel (model_tree model.now) }
     requires well_formed { IsWellFormed (model_tree model.now) }
     ensures too_large { IfOk result (λ answer. IfNone answer (IsTooLarge (model_tree model.now))) }
-    ensures not_too_large { IfOk result (λ answer. IfSome answer (λ text.
-        assignment_count (instance_of (model_tree model.now)) ≤ most_assignments)) }
     ensures right { IfOk result (λ answer. IfSome answer (λ text.
-        (answer : Answer) × Answers (instance_of (model_tree model.now)) answer
-        × (text.items ≡ answer_text answer))) }
+        IsAnswerTo (model_tree model.now) text.items)) }
 {
     let finds = finds_of_model(alloc, model)?;
     let count = capped_combinations(&finds.bounds, MOST_ASSIGNMENTS);
@@ -54,12 +51,12 @@ fn solution_values(
     requires early { HasEarlyForms (model_tree model.now) }
     requires well_formed { IsWellFormed (model_tree model.now) }
     requires paired { IsPaired finds.now }
-    requires all { finds_in finds.now ≡ (instance_of (model_tree model.now)).finds }
+    requires all { finds_in finds.now ≡ (early_instance (model_tree model.now)).finds }
     requires counted { count ≡ combinations finds.now.bounds.items }
     ensures values { IfOk result (λ found. IfSome found (λ values.
         length values.items ≡ length finds.now.names.keys)) }
     ensures right { IfOk result (λ found.
-        Answers (instance_of (model_tree model.now)) (found_answer finds.now.names.keys found)) }
+        Answers (early_instance (model_tree model.now)) (found_answer finds.now.names.keys found)) }
 {
     let clauses = clauses_of_model(alloc, &finds.names, model)?;
     let found = first_solution(alloc, &finds.bounds, &clauses, count)?;

@@ -3,7 +3,7 @@
 ghost use Rattle.std.specs.Prelude.{◌≡◌, ◌++◌, length, IfOk, OnOk};
 ghost use Rattle.ep_driver.specs.Texts.{device_line, letting_line};
 ghost use Rattle.ep_driver.specs.Answers.{letting_lines};
-ghost use Rattle.ep_driver.specs.Compiled.{assignment_of};
+ghost use Rattle.ep_driver.specs.Compiled.{numbers_of};
 
 use itoa::Buffer;
 use std::alloc::{AllocError, Global};
@@ -34,7 +34,7 @@ fn push_letting(text: &mut Vec<u8>, name: &str, value: i64) -> Result<(), AllocE
 pub fn push_lettings(text: &mut Vec<u8>, names: &[&str], values: &[i64]) -> Result<(), AllocError>
     requires { length values.now ≡ length names.now }
     ensures { OnOk result (text.new.items
-        ≡ text.old.items ++ letting_lines (assignment_of names.now values.now)) }
+        ≡ text.old.items ++ letting_lines (numbers_of names.now values.now)) }
 {
     for (i, name) in names.iter().enumerate() {
         push_letting(text, name, values[i])?;

@@ -2,8 +2,8 @@
 
 ghost use Rattle.std.specs.Prelude.{◌≡◌, ◌≢◌, ◌⊎◌, ◌≤◌, ℕ, List, IfSome, IsSomeAnd};
 ghost use Rattle.ep_base.specs.Outside.{Held, Rose, with_more};
-ghost use Rattle.ep_early.specs.Trees.{ModelTree};
-ghost use Rattle.ep_early.specs.Solutions.{instance_of};
+ghost use Rattle.ep_tree.specs.Binding.{Instance};
+ghost use Rattle.ep_tree.specs.Statements.{TextTree};
 ghost use Rattle.ep_driver.specs.Command.{IsCommand};
 ghost use Rattle.ep_driver.specs.Texts.{device_line};
 ghost use Rattle.ep_driver.specs.Answers.{Answer, Answers, answer_text};
@@ -27,8 +27,8 @@ pub fn run<R: Threads, F: Files, K: Sink>(
     // An answer is right for the model that the named file holds, and its text was put out, and
     // nothing else.
     ensures answered { result ≡ Status.Answered → IfSome (F.held files.old) (λ held.
-        (model : ModelTree) × (answer : Answer) × Accepts words.now held model
-        × Answers (instance_of model) answer
+        (model : TextTree) × (instance : Instance) × (answer : Answer)
+        × Accepts words.now held model instance × Answers instance answer
         × (K.taken out.new ≡ with_more (answer_text answer) (K.taken out.old))) }
 
     // A fault or a limit is one that the words and the named file show. Its line was put out, and
@@ -60,8 +60,9 @@ pub fn run<R: Threads, F: Files, K: Sink>(
         Refuses words.now held status line → (result ≡ status) ⊎ (result ≡ Status.Memory)) }
     ensures answers { ¬ Rose (F.faults files.old) (F.faults files.new) →
         ¬ Rose (K.faults out.old) (K.faults out.new) →
-        IfSome (F.held files.old) (λ held. (model : ModelTree) →
-        Accepts words.now held model → (result ≡ Status.Answered) ⊎ (result ≡ Status.Memory)) }
+        IfSome (F.held files.old) (λ held. (model : TextTree) (instance : Instance) →
+        Accepts words.now held model instance →
+        (result ≡ Status.Answered) ⊎ (result ≡ Status.Memory)) }
     ensures usage_refused { AreNoCommand words.now → ¬ Rose (K.faults out.old) (K.faults out.new) →
         (result ≡ Status.Usage) ⊎ (result ≡ Status.Memory) }
 

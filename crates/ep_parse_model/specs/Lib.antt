@@ -1,3 +1,3 @@
-pub mod Tokens
-pub mod Reading
-pub mod Names
+pub mod EarlyForms
+pub mod Early
+pub mod Small

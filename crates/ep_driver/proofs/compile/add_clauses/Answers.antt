@@ -1,6 +1,6 @@
-use Rattle.ep_early.specs.EarlyForms.{IsEarlyClause}
-use Rattle.ep_early.specs.WellFormed.{UsesOnly}
-use Rattle.ep_early.specs.Views.{expr_tree}
+use Rattle.ep_parse_model.specs.EarlyForms.{IsEarlyClause}
+use Rattle.ep_driver.specs.Naming.{UsesOnly}
+use Rattle.ep_tree.specs.Views.{expr_tree}
 use Rattle.ep_driver.specs.Compiled.{texts_of}
 use Rattle.ep_driver.proofs.FindSteps.{all-at}
 use Rattle.ep_driver.proofs.CompileSteps.{adds-clause}

@@ -1,5 +1,5 @@
 use Rattle.std.proofs.Common.{map, take}
-use Rattle.ep_early.specs.Views.{expr_tree}
+use Rattle.ep_tree.specs.Views.{expr_tree}
 use Rattle.ep_driver.specs.Compiled.{AddsCompiled}
 use Rattle.ep_driver.proofs.compile.add_clauses.Given as goal
 

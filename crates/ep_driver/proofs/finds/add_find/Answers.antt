@@ -8,7 +8,7 @@ pub returns-clause-paired : goal.returns-clause-paired
 returns-clause-paired c =
     let f = c.args.finds.now in
     let keys : c.insert.new.self.keys ≡ f.names.keys ++ c.args.name ∷ [] =
-    c.in_ok-insert.ensures.keys ∙ keys-added f.names.keys f.bounds.items c.args.name c.requires.paired c.requires.distinct in
+    c.in_ok-insert.ensures.keys ∙ keys-added f.names.keys f.bounds.items c.args.name c.requires.paired c.requires.new.0 in
     let bounds : c.push.new.self.items ≡ f.bounds.items ++ c.args.bounds ∷ [] = c.in_ok-push.ensures.items in
     omega (arith, ap length keys, ap length bounds, length_push f.names.keys c.args.name, length_push f.bounds.items c.args.bounds)
 
@@ -16,7 +16,7 @@ pub returns-clause-added : goal.returns-clause-added
 returns-clause-added c =
     let f = c.args.finds.now in
     let keys : c.insert.new.self.keys ≡ f.names.keys ++ c.args.name ∷ [] =
-    c.in_ok-insert.ensures.keys ∙ keys-added f.names.keys f.bounds.items c.args.name c.requires.paired c.requires.distinct in
+    c.in_ok-insert.ensures.keys ∙ keys-added f.names.keys f.bounds.items c.args.name c.requires.paired c.requires.new.0 in
     let bounds : c.push.new.self.items ≡ f.bounds.items ++ c.args.bounds ∷ [] = c.in_ok-push.ensures.items in
     ap (λ x. finds_of x c.push.new.self.items) keys
     ∙ ap (finds_of (f.names.keys ++ c.args.name ∷ [])) bounds
