@@ -1,0 +1,14 @@
+mod Cursors
+mod Lists
+mod Takes
+mod EarlyCases
+mod Phrasing
+mod EarlySpelling
+mod DomainSpelling
+mod SoundExpressions
+mod Items
+mod Objectives
+mod SoundStatements
+mod PlaceLaws
+mod CompleteExpressions
+mod CompleteDomains
