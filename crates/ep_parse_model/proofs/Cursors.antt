@@ -1,11 +1,12 @@
 -- What a cursor reads, from the tokens that it has left.
-use Rattle.std.proofs.Common.{◌≡◌, ℕ, Bool, cond, List, [], ◌∷◌, length, Option, Some, None, refl, sym, ap, ◌∙◌, arith}
+use Rattle.std.proofs.Common.{◌≡◌, ℕ, suc, Bool, false, cond, List, [], ◌∷◌, length, Option, Some, None, refl, sym, ap, ◌∙◌, arith}
 use Rattle.ep_base.specs.declared.places.Place.{Place}
 use Rattle.ep_base.specs.declared.tokens.Token.{Token}
 use Rattle.ep_base.specs.Tokens.{token_text}
 use Rattle.ep_tree.specs.Phrases.{Lexeme, Saying, lexemes_of, saying_of}
 use Rattle.ep_parse_model.specs.Reading.{lexeme_at}
 use Rattle.std.specs.Bool.{◌==◌}
+use Rattle.std.proofs.lemmas.Bool.Decides.{nat_tests}
 use Rattle.ep_parse_model.specs.Reading.{Read, ◌>>=◌, Took, is_empty, is_word, number_of, name_of, word_from, number_from, name_from}
 
 -- what a token says
@@ -51,8 +52,11 @@ pub name_from-some : (now : List Lexeme) (place : Place) (what : Saying) (ls : L
 unfolding name_from
 name_from-some now place what ls e = rw e refl
 
+some_count : (n : ℕ) → (suc n == 0) ≡ false
+some_count n = grind (arith, nat_tests)
+
 -- whether no token is left, by a count of them
 pub empty_by_count : (text : List ℕ) (tokens : List Token) (now : List Lexeme) (seen : Bool) → lexemes_of text tokens ≡ now → seen ≡ (length tokens == 0) → seen ≡ is_empty now
 unfolding lexemes_of
 empty_by_count text [] now seen e h = h ∙ ap is_empty e
-empty_by_count text (t ∷ ts) now seen e h = h ∙ ap is_empty e
+empty_by_count text (t ∷ ts) now seen e h = h ∙ some_count (length ts) ∙ ap is_empty e

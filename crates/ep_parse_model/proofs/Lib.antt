@@ -12,3 +12,4 @@ mod SoundStatements
 mod PlaceLaws
 mod CompleteExpressions
 mod CompleteDomains
+mod CompleteStatements
