@@ -13,3 +13,5 @@ mod PlaceLaws
 mod CompleteExpressions
 mod CompleteDomains
 mod CompleteStatements
+mod UseLaws
+mod NameLaws
