@@ -99,11 +99,11 @@ comma_is_no_sign : (p : Place) (ls : List Lexeme) → begins_term (lexeme_at p c
 unfolding is_at
 comma_is_no_sign p ls = refl
 
-clauses_cut : (x y : ExprTree) (ys : List ExprTree) (ls : List Lexeme) → SpellsExpressions (x ∷ y ∷ ys) ls → Between (Spells implications x) comma (SpellsExpressions (y ∷ ys)) ls
+pub clauses_cut : (x y : ExprTree) (ys : List ExprTree) (ls : List Lexeme) → SpellsExpressions (x ∷ y ∷ ys) ls → Between (Spells implications x) comma (SpellsExpressions (y ∷ ys)) ls
 unfolding SpellsExpressions
 clauses_cut x y ys ls h = between (Spells implications x) comma (SpellsExpressions (y ∷ ys)) ls h
 
-last_cut : (x : ExprTree) (ls : List Lexeme) → SpellsExpressions (x ∷ []) ls → Cut (Spells implications x) (Silence or_else Says ",") ls
+pub last_cut : (x : ExprTree) (ls : List Lexeme) → SpellsExpressions (x ∷ []) ls → Cut (Spells implications x) (Silence or_else Says ",") ls
 unfolding SpellsExpressions
 last_cut x ls h = cut (Spells implications x) (Silence or_else Says ",") ls h
 
@@ -234,7 +234,7 @@ statement_starts s front rest h is =
     (λ p clauses are g. rw (such_that_cut p clauses front g).parts (inr refl, refl))
     s is h
 
-statements_cut : (s : StatementTree) (statements : TextTree) (ls : List Lexeme) → SpellsStatements (s ∷ statements) ls → Cut (SpellsStatement s) (SpellsStatements statements) ls
+pub statements_cut : (s : StatementTree) (statements : TextTree) (ls : List Lexeme) → SpellsStatements (s ∷ statements) ls → Cut (SpellsStatement s) (SpellsStatements statements) ls
 unfolding SpellsStatements
 statements_cut s statements ls h = cut (SpellsStatement s) (SpellsStatements statements) ls h
 

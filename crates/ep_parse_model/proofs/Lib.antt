@@ -15,3 +15,7 @@ mod CompleteDomains
 mod CompleteStatements
 mod UseLaws
 mod NameLaws
+mod NameSteps
+mod TokenFacts
+mod SmallLaws
+mod EarlyLaws
