@@ -1,5 +1,5 @@
 -- When a text is early, from what was read of it.
-use Rattle.std.proofs.Common.{◌≡◌, ℕ, suc, ◌-◌, ◌≤◌, Bool, true, false, List, [], ◌∷◌, length, Some, None, Result, Ok, Err, refl, sym, ap, ◌∙◌, subst, arith}
+use Rattle.std.proofs.Common.{◌≡◌, ℕ, suc, ◌-◌, ◌≤◌, Bool, true, false, List, [], ◌∷◌, map, length, Some, None, Result, Ok, Err, refl, sym, ap, ◌∙◌, subst, arith}
 use Rattle.ep_parse_model.specs.declared.errors.EarlyError.{EarlyError}
 use Rattle.ep_parse_model.specs.declared.errors.EarlyError.TheVariants.{NotEarly, Memory}
 use Rattle.std.specs.Prelude.{IsErrOf, is_some, ◌&&◌}
@@ -11,6 +11,9 @@ use Rattle.ep_base.specs.declared.tokens.TokenKind.TheVariants.{Name, Number, Wo
 use Rattle.ep_base.specs.Tokens.{TokenFault, tokens_of}
 use Rattle.ep_tree.specs.Phrases.{Lexeme, lexemes_of}
 use Rattle.ep_tree.specs.Statements.{TextTree}
+use Rattle.ep_tree.specs.Views.{model_tree, statement_tree}
+use Rattle.ep_tree.specs.declared.statements.Model.{Model}
+use Rattle.ep_tree.specs.declared.statements.Statement.{Statement}
 use Rattle.ep_parse_model.specs.Early.{IsShort, IsShortKind, IsEarly, MOST_EARLY_BYTES}
 use Rattle.ep_parse_model.specs.Small.{IsSmallModel}
 use Rattle.ep_parse_model.specs.Tokens.{is_short_kind, is_short}
@@ -132,3 +135,14 @@ model_refuses Memory text tokens now e same fails is model early = absurd cc
 pub passed_on : {X Y : Type 0} (Q : Type 0) (e : EarlyError) → (IsErrOf {T = X} (Err e) NotEarly → Q) → IsErrOf {T = Y} (Err e) NotEarly → Q
 passed_on Q NotEarly h is = h refl
 passed_on Q Memory h is = absurd cc
+
+-- the statements of a model, as the code's check of names sees them
+pub statements_of_model : (model : Model) → model_tree model ≡ map statement_tree model.statements.items
+unfolding model_tree
+statements_of_model model = refl
+
+-- the answer of the check of names, said of the model
+pub names_of_model : (model : Model) (statements : List Statement) (answer : Bool) → answer ≡ is_some (check_statements none_known (map statement_tree statements)) → statements ≡ model.statements.items
+    → is_some (check_statements none_known (model_tree model)) ≡ answer
+names_of_model model statements answer e same =
+    ap (λ trees. is_some (check_statements none_known trees)) (statements_of_model model ∙ ap (λ xs. map statement_tree xs) (sym same)) ∙ sym e

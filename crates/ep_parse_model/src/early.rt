@@ -57,6 +57,11 @@ pub fn one_early_model()
         IsEarly text one → IsEarly text other → one ≡ other }
 {}
 
+/// A law: the numbers of an early model are small, its sums aren't long, and its statements haven't many groups.
+pub fn early_models_are_small()
+    ensures { (text : List ℕ) (model : TextTree) → IsEarly text model → IsSmallModel model }
+{}
+
 /// The tokens of a text in which no number is long.
 fn short_tokens(alloc: Global, text: &[u8]) -> Result<Vec<Token>, EarlyError>
     ensures tokens { IfOk result (λ tokens. tokens_of text.now ≡ Ok tokens.items) }

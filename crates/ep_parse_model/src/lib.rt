@@ -8,7 +8,7 @@ mod expressions;
 mod names;
 mod statements;
 
-pub use early::{one_early_model, parse_early};
+pub use early::{early_models_are_small, one_early_model, parse_early};
 pub use errors::EarlyError;
 
 #[cfg(test)]

@@ -2,13 +2,13 @@ use Rattle.std.proofs.Common.{◌≡◌, true, false, Some, sym, ◌∙◌, arit
 use Rattle.std.specs.Prelude.{is_some}
 use Rattle.std.proofs.lemmas.Result.{err_from_is_err_and}
 use Rattle.ep_tree.specs.Phrases.{lexemes_of}
-use Rattle.ep_tree.specs.Trees.{TextTree}
+use Rattle.ep_tree.specs.Statements.{TextTree}
 use Rattle.ep_tree.specs.Views.{model_tree}
 use Rattle.ep_parse_model.specs.Early.{IsEarly}
 use Rattle.ep_parse_model.specs.Reading.{model_from}
 use Rattle.ep_parse_model.specs.Names.{none_known, check_statements}
 use Rattle.ep_parse_model.proofs.TokenFacts.{tokens_lie_in}
-use Rattle.ep_parse_model.proofs.EarlyLaws.{is_early, early_as, is_small, names_refuse, model_refuses, passed_on}
+use Rattle.ep_parse_model.proofs.EarlyLaws.{is_early, early_as, is_small, names_of_model, names_refuse, model_refuses, passed_on}
 use Rattle.ep_parse_model.proofs.early.parse_early.Goals as goal
 
 pub returns-in_err-tokens-clause-not_early : goal.returns-in_err-tokens-clause-not_early
@@ -27,16 +27,16 @@ returns-in_err-model-clause-not_early c =
 pub returns-then-not-branch-clause-not_early : goal.returns-then-not-branch-clause-not_early
 returns-then-not-branch-clause-not_early c =
     let model = model_tree c.in_ok-model.model in
-    let read : model_from (lexemes c.args.text.now c.in_ok-tokens.tokens.items) ≡ Some (model, c.in_ok-model.ensures.0) = rw c.deref.ensures.value at c.in_ok-model.ensures.1 in
-    let names : is_some (check_statements none_known model.statements) ≡ false = sym (rw c.deref-2.ensures.value at c.in_ok-names_are_declared.ensures) ∙ c.if-not-branch.true in
+    let read : model_from (lexemes_of c.args.text.now c.in_ok-tokens.tokens.items) ≡ Some (model, c.in_ok-model.ensures.0) = rw c.deref.ensures.value at c.in_ok-model.ensures.1 in
+    let names : is_some (check_statements none_known model) ≡ false = names_of_model c.in_ok-model.model _ _ c.in_ok-names_are_declared.ensures c.deref-2.ensures.value ∙ c.if-not-branch.true in
     λ is. names_refuse c.args.text.now c.in_ok-tokens.tokens.items model c.in_ok-model.ensures.0 c.in_ok-tokens.ensures.tokens read names
 
 -- what the function returned is early
 found : (c : goal.After-drop-tokens-2) → IsEarly c.args.text.now (model_tree c.in_ok-model.model)
 found c =
     let model = model_tree c.in_ok-model.model in
-    let read : model_from (lexemes c.args.text.now c.in_ok-tokens.tokens.items) ≡ Some (model, c.in_ok-model.ensures.0) = rw c.deref.ensures.value at c.in_ok-model.ensures.1 in
-    let names : is_some (check_statements none_known model.statements) ≡ true = sym (rw c.deref-2.ensures.value at c.in_ok-names_are_declared.ensures) ∙ c.if-not-branch.false in
+    let read : model_from (lexemes_of c.args.text.now c.in_ok-tokens.tokens.items) ≡ Some (model, c.in_ok-model.ensures.0) = rw c.deref.ensures.value at c.in_ok-model.ensures.1 in
+    let names : is_some (check_statements none_known model) ≡ true = names_of_model c.in_ok-model.model _ _ c.in_ok-names_are_declared.ensures c.deref-2.ensures.value ∙ c.if-not-branch.false in
     is_early c.args.text.now c.in_ok-tokens.tokens.items model c.in_ok-model.ensures.0 (omega arith) c.in_ok-tokens.ensures.tokens c.in_ok-tokens.ensures.short read names
 
 pub returns-clause-found : goal.returns-clause-found
@@ -45,7 +45,7 @@ returns-clause-found c = found c
 pub returns-clause-only : goal.returns-clause-only
 returns-clause-only c =
     let model = model_tree c.in_ok-model.model in
-    let read : model_from (lexemes c.args.text.now c.in_ok-tokens.tokens.items) ≡ Some (model, c.in_ok-model.ensures.0) = rw c.deref.ensures.value at c.in_ok-model.ensures.1 in
+    let read : model_from (lexemes_of c.args.text.now c.in_ok-tokens.tokens.items) ≡ Some (model, c.in_ok-model.ensures.0) = rw c.deref.ensures.value at c.in_ok-model.ensures.1 in
     early_as c.args.text.now c.in_ok-tokens.tokens.items model c.in_ok-model.ensures.0 c.in_ok-tokens.ensures.tokens read
 
 pub returns-clause-small : goal.returns-clause-small
