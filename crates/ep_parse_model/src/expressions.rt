@@ -147,7 +147,7 @@ fn comparison(cursor: &mut Cursor<'_>) -> Result<CompareOp, EarlyError>
 }
 
 /// Two sides with a comparison between them.
-#[tactic(auto, unfolding(crate::specs::Reading::clause_from, ep_tree::specs::Views::kind_tree))]
+#[tactic(auto, unfolding(crate::specs::Reading::clause_from))]
 pub(crate) fn clause(alloc: Global, cursor: &mut Cursor<'_>) -> Result<Expr, EarlyError>
     ensures { Gives expr_tree result cursor.new (clause_from cursor.old) }
 {
