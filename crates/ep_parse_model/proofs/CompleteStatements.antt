@@ -287,17 +287,16 @@ first_line-again front back h =
     let parts : front ++ back ≡ lexeme_at a.place (a_word (codes "language")) ∷ essence =
     ap (λ ls. ls ++ back) (a.parts ∙ ap (λ r. lexeme_at a.place (a_word (codes "language")) ∷ r) (b.parts
     ∙ ap (λ r. lexeme_at b.place (a_word (codes "ESSENCE'")) ∷ r) (c.parts
-    ∙ ap (λ r. lexeme_at c.place one ∷ r) (d.parts ∙ ap (λ r. lexeme_at d.place (a_word (codes ".")) ∷ r) e.1)))) in
-    (
+    ∙ ap (λ r. lexeme_at c.place one ∷ r) (d.parts ∙ ap (λ r. lexeme_at d.place (a_word (codes ".")) ∷ r) e.1)))) in (
       e.0,
       ap first_line_from parts
-      ∙ rw (
-        word_from-again (codes "language") a.place essence,
-        word_from-again (codes "ESSENCE'") b.place major,
-        version-again (pos 1) c.place dot,
-        word_from-again (codes ".") d.place last,
-        version-again (pos 0) e.0 back,
-      ) refl,
+          ∙ rw (
+            word_from-again (codes "language") a.place essence,
+            word_from-again (codes "ESSENCE'") b.place major,
+            version-again (pos 1) c.place dot,
+            word_from-again (codes ".") d.place last,
+            version-again (pos 0) e.0 back,
+          ) refl,
     )
 
 pub model_cut : (statements : TextTree) (ls : List Lexeme) → SpellsModel statements ls → Cut LanguageLine (SpellsStatements statements) ls

@@ -26,14 +26,13 @@ unfolding SpellsDomain domain_rank
 domain_spelled p q r s a b front back f g =
     let rs = span_and (end_at a) (end_at b) no_ranges in
     let inner = front ++ lexeme_at r (a_word (codes "..")) ∷ back in
-    let end = lexeme_at s (a_word (codes ")")) ∷ [] in
-    (
+    let end = lexeme_at s (a_word (codes ")")) ∷ [] in (
       refl,
       (
         refl,
         behind_made (a_word (codes "int")) (Says "(" followed_by SpellsRanges rs followed_by Says ")") p (lexeme_at q (a_word (codes "(")) ∷ inner ++ end)
-        (behind_made (a_word (codes "(")) (SpellsRanges rs followed_by Says ")") q (inner ++ end)
-        (joint (SpellsRanges rs) (Says ")") inner end (span_spelled a b front r back f g) (s, refl))),
+            (behind_made (a_word (codes "(")) (SpellsRanges rs followed_by Says ")") q (inner ++ end)
+            (joint (SpellsRanges rs) (Says ")") inner end (span_spelled a b front r back f g) (s, refl))),
       ),
     )
 

@@ -78,19 +78,19 @@ pub chain_spelled : (p : Place) (e : ExprTree) (terms : Terms) (front back : Lis
     → Spells sums (chain p (term_and true e terms)) (front ++ back)
 unfolding Spells rank
 chain_spelled p e terms front back begins is has h others = (
-    refl,
-    from_made p (SpellsChain (term_and true e terms)) (front ++ back) (begins-front p front back begins)
-    (has, joint (Operand e (Spells products e)) (SpellsTerms terms) front back (ap not (operand_is_closed e is), h) others),
+  refl,
+  from_made p (SpellsChain (term_and true e terms)) (front ++ back) (begins-front p front back begins)
+      (has, joint (Operand e (Spells products e)) (SpellsTerms terms) front back (ap not (operand_is_closed e is), h) others),
 )
 
 pub compare_spelled : (p : Place) (op : CompareOp) (a b : ExprTree) (front : List Lexeme) (q : Place) (back : List Lexeme) → BeginsAt p front → IsSide a → Spells sums a front → Spells sums b back
     → Spells implications (compare p op a b) (front ++ lexeme_at q (a_word (codes (compare_word op))) ∷ back)
 unfolding Spells rank
 compare_spelled p op a b front q back begins is f g = (
-    refl,
-    from_made p (Operand a (Spells sums a) followed_by Says (compare_word op) followed_by Spells sums b) (front ++ lexeme_at q (a_word (codes (compare_word op))) ∷ back)
-    (begins-front p front (lexeme_at q (a_word (codes (compare_word op))) ∷ back) begins)
-    (between_made (Operand a (Spells sums a)) (a_word (codes (compare_word op))) (Spells sums b) front q back (ap not (side_is_closed a is), f) g),
+  refl,
+  from_made p (Operand a (Spells sums a) followed_by Says (compare_word op) followed_by Spells sums b) (front ++ lexeme_at q (a_word (codes (compare_word op))) ∷ back)
+      (begins-front p front (lexeme_at q (a_word (codes (compare_word op))) ∷ back) begins)
+      (between_made (Operand a (Spells sums a)) (a_word (codes (compare_word op))) (Spells sums b) front q back (ap not (side_is_closed a is), f) g),
 )
 
 -- ---- forms that are cut into their parts

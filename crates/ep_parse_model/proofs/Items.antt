@@ -47,8 +47,7 @@ items-split Item Q (x ∷ []) ls h = (h.0, (h.1, tt))
 items-split {A} Item Q (x ∷ y ∷ ys) ls h =
     let Both : A → Phrase = λ z front. Item z front × Q z in
     let c = items-cut Both x y ys ls h in
-    let others = items-split Item Q (y ∷ ys) c.back c.second in
-    (
+    let others = items-split Item Q (y ∷ ys) c.back c.second in (
       rejoined (Item x) comma (SpellsItems Item (y ∷ ys)) ls (record { front = c.front; place = c.place; back = c.back; parts = c.parts; first = c.first.0; second = others.0 }),
       (c.first.1, others.1),
     )

@@ -94,8 +94,7 @@ chain_small level p no_terms ls are h little = absurd (no_chain level p ls h)
 chain_small level p (term_and plus e terms) ls are h little =
     let c = chain_cut level p plus e terms ls h in
     let some = operand_some products e c.front are.0 c.first in
-    let others = signed_count terms c.back c.others in
-    (
+    let others = signed_count terms c.back c.others in (
       omega (arith, ap length c.parts, length-append c.front c.back, little.few, some, others),
       (operand_small products e c.front are.0 c.first (front ls c.front c.back c.parts little), terms_small terms c.back are.1 c.others (back ls c.front c.back c.parts little)),
     )
@@ -148,8 +147,7 @@ items_small : {A : Type 0} (Item : A → Phrase) (Form Q : A → Type 0) → ((x
 items_small Item Form Q each [] ls are h little = tt
 items_small Item Form Q each (x ∷ []) ls are h little = (each x ls are.0 h little, tt)
 items_small Item Form Q each (x ∷ y ∷ ys) ls are h little =
-    let c = items-cut Item x y ys ls h in
-    (
+    let c = items-cut Item x y ys ls h in (
       each x c.front are.0 c.first (front ls c.front _ c.parts little),
       items_small Item Form Q each (y ∷ ys) c.back are.1 c.second (beyond ls c.front _ c.back c.parts little),
     )

@@ -213,9 +213,9 @@ chain_side : (e : ExprTree) (parts : List (Bool × ExprTree)) (front back : List
     → SpellsSide (chain (place_of e) (as_terms ((true, e) ∷ parts))) (front ++ back)
 unfolding place_of AreOperands
 chain_side e parts front back t s = (
-    chain_spelled (place_of e) e (as_terms parts) front back t.2 t.1 s.has (t.0 products) s.spelled,
-    chain_is_side (place_of e) (as_terms ((true, e) ∷ parts)) (t.1, s.are),
-    begins-front (place_of e) front back t.2,
+  chain_spelled (place_of e) e (as_terms parts) front back t.2 t.1 s.has (t.0 products) s.spelled,
+  chain_is_side (place_of e) (as_terms ((true, e) ∷ parts)) (t.1, s.are),
+  begins-front (place_of e) front back t.2,
 )
 
 pub side_from-sound : IsSound side_from SpellsSide

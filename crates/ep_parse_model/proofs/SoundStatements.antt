@@ -177,12 +177,12 @@ clauses_statement : (p q : Place) (clauses : List ExprTree) (ls : List Lexeme) �
     → SpellsEarlyStatement (constraints p clauses) (lexeme_at p (a_word (codes "such")) ∷ lexeme_at q (a_word (codes "that")) ∷ ls)
 unfolding SpellsStatement IsEarlyStatement
 clauses_statement p q clauses ls h = (
-    (
-      refl,
-      behind_made (a_word (codes "such")) (Says "that" followed_by SpellsExpressions clauses) p (lexeme_at q (a_word (codes "that")) ∷ ls)
-      (behind_made (a_word (codes "that")) (SpellsExpressions clauses) q ls h.0),
-    ),
-    h.1,
+  (
+    refl,
+    behind_made (a_word (codes "such")) (Says "that" followed_by SpellsExpressions clauses) p (lexeme_at q (a_word (codes "that")) ∷ ls)
+        (behind_made (a_word (codes "that")) (SpellsExpressions clauses) q ls h.0),
+  ),
+  h.1,
 )
 
 find_statement : (p : Place) (groups : List Group) (ls : List Lexeme) → SpellsGroups groups ls → AllByRecursion IsEarlyGroup groups
