@@ -1,4 +1,0 @@
-pub mod Rows
-pub mod VectorsSpelling
-mod VectorsValues
-mod VectorsWellFormed
