@@ -1,5 +1,5 @@
 -- Which assignments fit the decision variables: those that give each a number within its bounds.
-use Rattle.std.proofs.Common.{◌≡◌, ℕ, zero, suc, ◌+◌, ◌*◌, ◌^◌, ℤ, pos, negsuc, ◌+ℤ◌, ◌-ℤ◌, ◌≤ℤ◌, Bool, true, false, ◌&&◌, int_le, if◌then◌else◌, Contains, List, [], ◌∷◌, ◌++◌, length, map, Bor, Option, Some, None, option_and_then, refl, sym, ap, subst, ◌∙◌, arith}
+use Rattle.std.proofs.Common.{◌≡◌, ℕ, zero, suc, ◌*◌, ◌^◌, ℤ, pos, negsuc, ◌+ℤ◌, ◌-ℤ◌, ◌≤ℤ◌, Bool, true, false, ◌&&◌, int_le, if◌then◌else◌, Contains, List, [], ◌∷◌, ◌++◌, length, map, Bor, Option, Some, None, option_and_then, refl, sym, ap, subst, ◌∙◌, arith}
 use Rattle.std.specs.List.Sorted.{IsPermutation}
 use Rattle.std.proofs.lemmas.List.Sorted.{IsPermutation-refl}
 use Rattle.std.proofs.lemmas.List.{append_assoc, map-append}
@@ -9,7 +9,6 @@ use Rattle.std.proofs.Math.Nat.{pow-suc, pow-zero, one-mul}
 use Rattle.ep_base.specs.Numbers.{has_number}
 use Rattle.ep_base.specs.Runs.{or_zero as at_least_zero}
 use Rattle.ep_base.specs.declared.names.Name.{Name}
-use Rattle.ep_tree.specs.Binding.{Find}
 use Rattle.ep_tree.specs.Domains.{between, count_between, or_zero}
 use Rattle.ep_tree.specs.Environments.{has_value, shape_type}
 use Rattle.ep_tree.specs.Evaluation.{on_both}
