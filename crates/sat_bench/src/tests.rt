@@ -134,6 +134,10 @@ fn answers_are_put_out_as_in_competitions(rt: HostRuntime) -> Result<(), Fail> {
             "p cnf 999999999999999999 3\n-2 0 1 -1 1 0 -1 0 ",
             "c conflicts 0\ns SATISFIABLE\nv -1 -2 0\n",
         ),
+        (
+            "p cnf 3 2\n1 0\n-2 0\n",
+            "c conflicts 0\ns SATISFIABLE\nv 1 -2 -3 0\n",
+        ),
         ("p cnf 1 2\n1 0\n-1 0\n", "c conflicts 0\ns UNSATISFIABLE\n"),
     ];
     for (cnf, wanted) in rows {

@@ -12,6 +12,9 @@ use std::alloc::{AllocError, Global};
 /// The most bytes that a line of values has.
 const WIDTH: usize = 78;
 
+/// The most variables of a formula of which a model gives each a value.
+const MOST_VALUES: u64 = 10_000_000;
+
 /// A text, and the status with which the program ends when it is put out.
 #[derive(Debug, Drop)]
 pub struct Reply {
@@ -32,7 +35,7 @@ pub fn reply_to(
     let text = format!(in alloc; "c conflicts {conflicts}\n")?;
     match outcome {
         Outcome::Sat => Ok(Reply {
-            text: with_model(text, solver, greatest_variable(formula))?,
+            text: with_model(text, solver, last_valued(formula))?,
             status: 10,
         }),
         Outcome::Unsat => Ok(Reply {
@@ -46,7 +49,18 @@ pub fn reply_to(
     }
 }
 
-/// The greatest variable that a clause names, or 0 where none does. What a model has for those over it is of no account.
+/// The last variable of which a model gives the value: that of the formula, or where it has too many, as a short text can say, the
+/// last one that a clause names. Those over that one may have any value.
+fn last_valued(formula: &Formula) -> u64 {
+    let vars = formula.vars();
+    if vars <= MOST_VALUES {
+        vars
+    } else {
+        greatest_variable(formula)
+    }
+}
+
+/// The greatest variable that a clause names, or 0 where none does.
 fn greatest_variable(formula: &Formula) -> u64 {
     let mut greatest = 0;
     for clause in formula.clauses() {
