@@ -1,5 +1,5 @@
 -- Which assignments fit the decision variables: those that give each a number within its bounds.
-use Rattle.std.proofs.Common.{◌≡◌, ℕ, zero, suc, ◌*◌, ◌^◌, ℤ, pos, negsuc, ◌+ℤ◌, ◌-ℤ◌, ◌≤ℤ◌, Bool, true, false, ◌&&◌, int_le, if◌then◌else◌, Contains, List, [], ◌∷◌, ◌++◌, length, map, Bor, Option, Some, None, option_and_then, refl, sym, ap, subst, ◌∙◌, arith}
+use Rattle.std.proofs.Common.{◌≡◌, ℕ, zero, suc, ◌+◌, ◌*◌, ◌^◌, ℤ, pos, ◌+ℤ◌, ◌≤ℤ◌, Bool, true, false, ◌&&◌, int_le, if◌then◌else◌, Contains, List, [], ◌∷◌, ◌++◌, length, map, Bor, Option, Some, None, option_and_then, refl, sym, ap, subst, ◌∙◌, arith}
 use Rattle.std.specs.List.Sorted.{IsPermutation}
 use Rattle.std.proofs.lemmas.List.Sorted.{IsPermutation-refl}
 use Rattle.std.proofs.lemmas.List.{append_assoc, map-append}
@@ -7,14 +7,14 @@ use Rattle.std.proofs.lemmas.List.Elements.{Contains-append_left, Contains-appen
 use Rattle.std.proofs.lemmas.Int.{ints}
 use Rattle.std.proofs.Math.Nat.{pow-suc, pow-zero, one-mul}
 use Rattle.ep_base.specs.Numbers.{has_number}
-use Rattle.ep_base.specs.Runs.{or_zero as at_least_zero}
+use Rattle.ep_base.specs.Runs.{counting}
 use Rattle.ep_base.specs.declared.names.Name.{Name}
-use Rattle.ep_tree.specs.Domains.{between, count_between, or_zero}
+use Rattle.ep_tree.specs.Domains.{between, count_between}
 use Rattle.ep_tree.specs.Environments.{has_value, shape_type}
 use Rattle.ep_tree.specs.Evaluation.{on_both}
 use Rattle.ep_tree.specs.Solutions.{Assigned, Found, NamedValue, cell_count, fitted_find, found_values, named_in}
 use Rattle.ep_tree.specs.Types.{of_scalar, scalar_of}
-use Rattle.ep_tree.specs.Values.{ValueTree, fitted, matrix, numbers_from, scalar_fits, single}
+use Rattle.ep_tree.specs.Values.{ValueTree, fitted, matrix, scalar_fits, single}
 use Rattle.ep_tree.specs.declared.values.Scalar.{Scalar}
 use Rattle.ep_tree.specs.declared.values.ValueType.{ValueType}
 use Rattle.ep_tree.proofs.ClosedDomains.{some_is}
@@ -31,22 +31,14 @@ use Rattle.ep_driver.proofs.FindSteps.{differs}
 
 -- ---- how many assignments there are
 
-length-numbers : (first : ℤ) (n : ℕ) → length (numbers_from first n) ≡ n
-unfolding numbers_from
-length-numbers first zero = refl
-length-numbers first (suc n) = ap (λ x. suc x) (length-numbers (first +ℤ pos 1) n)
-
-same-zero : (z : ℤ) → or_zero z ≡ at_least_zero z
-unfolding or_zero
-same-zero (pos n) = refl
-same-zero (negsuc n) = refl
-
-same-count : (low high z y : ℤ) → z ≡ (high -ℤ low) +ℤ pos 1 → y ≡ (high +ℤ pos 1) -ℤ low → or_zero z ≡ at_least_zero y
-same-count low high z y e g = let same : z ≡ y = omega (arith, ints) in same-zero z ∙ ap at_least_zero same
+length-counting : (first : ℤ) (n : ℕ) → length (counting first n) ≡ n
+unfolding counting
+length-counting first zero = refl
+length-counting first (suc n) = ap (λ x. suc x) (length-counting (first +ℤ pos 1) n)
 
 length-between : (b : Bounds) → length (between b.low b.high) ≡ size_of b
-unfolding between count_between or_zero
-length-between b = length-numbers b.low _ ∙ same-count b.low b.high _ _ refl refl
+unfolding between count_between
+length-between b = length-counting b.low (size_of b)
 
 pow-one : (n : ℕ) → n ^ 1 ≡ n
 pow-one n = pow-suc n 0 ∙ ap (λ x. x * n) (pow-zero n) ∙ one-mul n

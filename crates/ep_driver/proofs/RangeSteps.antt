@@ -4,12 +4,13 @@ use Rattle.std.specs.declared.boxed.Box.{Box}
 use Rattle.std.specs.declared.vec.Vec.{Vec}
 use Rattle.std.specs.declared.alloc.Global.{Global}
 use Rattle.std.proofs.lemmas.Int.{ints}
+use Rattle.ep_base.specs.Runs.{counting}
 use Rattle.ep_base.specs.declared.places.Place.{Place}
 use Rattle.ep_tree.specs.Domains.{between, put_in, united}
 use Rattle.ep_tree.specs.Environments.{Env}
 use Rattle.ep_tree.specs.Evaluation.{domain_values, end_value, evaluate, number_in, on_both, on_three, range_values}
-use Rattle.ep_tree.specs.Trees.{End, ExprTree, Ranges, no_ranges, span_and, end_at, ranges}
-use Rattle.ep_tree.specs.Values.{numbers_from, single}
+use Rattle.ep_tree.specs.Trees.{End, ExprTree, Ranges, no_ranges, span_and, end_at, number, ranges}
+use Rattle.ep_tree.specs.Values.{single}
 use Rattle.ep_tree.specs.Views.{domain_kind_tree, end_of, expr_tree, kind_tree, ranges_of, with_range}
 use Rattle.ep_tree.specs.declared.syntax.DomainKind.{DomainKind, Ranges as RangesDomain}
 use Rattle.ep_tree.specs.declared.syntax.Expr.{Expr}
@@ -45,13 +46,13 @@ unfolding AreSmallRanges
 small-ends a b h = (h.0, h.1)
 
 -- a number below those of a list goes before them
-put-first : (x : ℤ) (n : ℕ) → put_in x (numbers_from (x +ℤ pos 1) n) ≡ x ∷ numbers_from (x +ℤ pos 1) n
-unfolding put_in numbers_from
+put-first : (x : ℤ) (n : ℕ) → put_in x (counting (x +ℤ pos 1) n) ≡ x ∷ counting (x +ℤ pos 1) n
+unfolding put_in counting
 put-first x zero = refl
 put-first x (suc n) = rw (is_less x (x +ℤ pos 1) (omega (arith, ints)))
 
-united-nothing : (x : ℤ) (n : ℕ) → united (numbers_from x n) [] ≡ numbers_from x n
-unfolding united numbers_from
+united-nothing : (x : ℤ) (n : ℕ) → united (counting x n) [] ≡ counting x n
+unfolding united counting
 united-nothing x zero = refl
 united-nothing x (suc n) = ap (put_in x) (united-nothing (x +ℤ pos 1) n) ∙ put-first x n
 

@@ -4,9 +4,9 @@ use Rattle.std.proofs.lemmas.Bool.{false≢true}
 use Rattle.ep_base.specs.Numbers.{is_one, of_bool}
 use Rattle.ep_tree.specs.Binding.{Find, Instance}
 use Rattle.ep_tree.specs.Environments.{Env}
-use Rattle.ep_tree.specs.Evaluation.{evaluate, number_in, truth_of}
+use Rattle.ep_tree.specs.Evaluation.{evaluate, first_untrue, is_true_in, number_in, truth_of}
 use Rattle.ep_tree.specs.Names.{nothing_known, put_all}
-use Rattle.ep_tree.specs.Solutions.{Assigned, Found, IsSolution, first_violated, has_goal_value, is_true_in}
+use Rattle.ep_tree.specs.Solutions.{Assigned, Found, IsSolution, has_goal_value}
 use Rattle.ep_tree.specs.Statements.{TextTree}
 use Rattle.ep_tree.specs.Trees.{ExprTree}
 use Rattle.ep_tree.specs.Values.{single}
@@ -42,8 +42,8 @@ unfolding number_in
 clause-true env e b h = ap (λ v. unwrap_or (truth_of v) false) h ∙ one-of_bool b
 
 -- where the flat clauses are met, no clause is violated
-holds-met : (names : List (Bor (List ℕ))) (cs : List Clause) (trees : List ExprTree) (values : List ℤ) (n : ℕ) → length values ≡ length names → AreCompiled names cs trees → are_met values cs ≡ true → first_violated Mode.Relational (env_of names values) n trees ≡ None
-unfolding first_violated
+holds-met : (names : List (Bor (List ℕ))) (cs : List Clause) (trees : List ExprTree) (values : List ℤ) (n : ℕ) → length values ≡ length names → AreCompiled names cs trees → are_met values cs ≡ true → first_untrue Mode.Relational (env_of names values) n trees ≡ None
+unfolding first_untrue
 holds-met names [] [] values n h compiled met = refl
 holds-met names [] (t ∷ trees) values n h compiled met = absurd compiled
 holds-met names (c ∷ cs) [] values n h compiled met = refl
@@ -57,8 +57,8 @@ none-violated true rest n e = (refl, e)
 none-violated false rest n e = absurd cc
 
 -- and the other way round
-met-holds : (names : List (Bor (List ℕ))) (cs : List Clause) (trees : List ExprTree) (values : List ℤ) (n : ℕ) → length values ≡ length names → AreCompiled names cs trees → first_violated Mode.Relational (env_of names values) n trees ≡ None → are_met values cs ≡ true
-unfolding first_violated
+met-holds : (names : List (Bor (List ℕ))) (cs : List Clause) (trees : List ExprTree) (values : List ℤ) (n : ℕ) → length values ≡ length names → AreCompiled names cs trees → first_untrue Mode.Relational (env_of names values) n trees ≡ None → are_met values cs ≡ true
+unfolding first_untrue
 met-holds names [] trees values n h compiled holds = refl
 met-holds names (c ∷ cs) [] values n h compiled holds = absurd compiled
 met-holds names (c ∷ cs) (t ∷ trees) values n h compiled holds =
@@ -96,7 +96,7 @@ refutes : (ns : List (Bor (List ℕ))) (bs : List Bounds) (cs : List Clause) (tr
 refutes ns bs cs trees h compiled none a = λ solution.
     let fit = found-within ns bs a solution.found h solution.fits.values in
     let len : length fit.0 ≡ length ns = omega (arith, length-within fit.0 bs fit.1, h) in
-    let P : Found → Type 0 = λ x. first_violated Mode.Relational (put_all x nothing_known) 1 trees ≡ None in
+    let P : Found → Type 0 = λ x. first_untrue Mode.Relational (put_all x nothing_known) 1 trees ≡ None in
     false≢true (sym (none fit.0 fit.1) ∙ met-holds ns cs trees fit.0 1 len compiled (subst P fit.2 solution.holds))
 
 -- what the search says is right

@@ -5,9 +5,9 @@ use Rattle.std.proofs.Common.{arith, ap, sym, ◌∙◌}
 use Rattle.std.proofs.lemmas.Int.{ints}
 use Rattle.std.proofs.lemmas.Bool.Decides.{Decides-int_eq}
 use Rattle.ep_base.specs.Numbers.{has_number}
+use Rattle.ep_base.specs.Runs.{counting, or_zero}
 use Rattle.ep_tree.specs.declared.syntax.SetOp.{SetOp}
-use Rattle.ep_tree.specs.Domains.{put_in, united, set_values, set_has, between, count_between, or_zero}
-use Rattle.ep_tree.specs.Values.{numbers_from}
+use Rattle.ep_tree.specs.Domains.{put_in, united, set_values, set_has, between, count_between}
 
 or_again : (a b : Bool) → (a || (a || b)) ≡ (a || b)
 or_again true b = refl
@@ -62,17 +62,17 @@ filter-has f x (y ∷ ys) = go (f y) (int_eq x y) ((Decides-int_eq x y).0) refl 
     go false false same p q ih = rw q ih
 
 -- the numbers from a on, so many of them
-pub numbers_from-has : (x a : ℤ) (n : ℕ) → has_number (numbers_from a n) x ≡ (int_le a x && int_lt x (a +ℤ pos n))
-unfolding numbers_from has_number
-numbers_from-has x a zero = grind (arith, ints)
-numbers_from-has x a (suc n) = ap (λ b. int_eq x a || b) (numbers_from-has x (a +ℤ pos 1) n) ∙ grind (arith, ints)
+pub counting-has : (x a : ℤ) (n : ℕ) → has_number (counting a n) x ≡ (int_le a x && int_lt x (a +ℤ pos n))
+unfolding counting has_number
+counting-has x a zero = grind (arith, ints)
+counting-has x a (suc n) = ap (λ b. int_eq x a || b) (counting-has x (a +ℤ pos 1) n) ∙ grind (arith, ints)
 
 -- a range has the numbers from its first to its last
 pub between-has : (x a b : ℤ) → has_number (between a b) x ≡ (int_le a x && int_le x b)
-unfolding between count_between or_zero
-between-has x a b = numbers_from-has x a (count_between a b) ∙ ends ((b -ℤ a) +ℤ pos 1) refl
+unfolding between count_between
+between-has x a b = counting-has x a (count_between a b) ∙ ends ((b +ℤ pos 1) -ℤ a) refl
   where
-    ends : (z : ℤ) → ((b -ℤ a) +ℤ pos 1) ≡ z → (int_le a x && int_lt x (a +ℤ pos (or_zero z))) ≡ (int_le a x && int_le x b)
+    ends : (z : ℤ) → ((b +ℤ pos 1) -ℤ a) ≡ z → (int_le a x && int_lt x (a +ℤ pos (or_zero z))) ≡ (int_le a x && int_le x b)
     ends (pos m) e = grind (arith, ints)
     ends (negsuc m) e = grind (arith, ints)
 

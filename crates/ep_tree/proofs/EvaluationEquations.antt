@@ -1,6 +1,7 @@
 -- One equation for each case of evaluation.
 use Rattle.std.specs.Prelude.{◌≡◌, ℕ, Bool, not, List, [], ◌∷◌, ℤ, pos, neg_ℤ, Some, None, Option, option_map, option_and_then, refl}
 use Rattle.ep_base.specs.Numbers.{absolute_of, all_one, any_one, are_different, compare_holds, counts_hold, factorial_of, has_number, is_row_of, lex_holds, of_bool, sum_of}
+use Rattle.ep_base.specs.Runs.{counting}
 use Rattle.ep_base.specs.declared.names.Name.{Name}
 use Rattle.ep_base.specs.declared.operators.CompareOp.{CompareOp}
 use Rattle.ep_base.specs.declared.operators.LexOp.{LexOp}
@@ -9,7 +10,7 @@ use Rattle.ep_tree.specs.Domains.{between, put_in, set_values, truth_values, uni
 use Rattle.ep_tree.specs.Environments.{Env, domain_bound, scalar_in, value_bound}
 use Rattle.ep_tree.specs.Evaluation.{binary_value, domain_values, end_value, evaluate, folded_value, generated, index_list, index_values, joined, matrix_value, number_in, number_value, numbers_in, on_both, on_three, over_names, part_under, quantified_value, range_values, read_result, rows_in, scalars_in, signed, term_values, truth_in, truth_of, type_in, values_of}
 use Rattle.ep_tree.specs.Trees.{DomainTree, Domains, End, ExprTree, ExprTrees, Generators, IndexDomain, Indices, Ranges, Terms, absolute, all_different, all_of, any_of, at_least, at_most, binary, bool, chain, compare, comprehension, end_at, every_and, factorial, flatten, folded, gcc, generator_and, group, group_domain, in_domain, in_set, index_and, int, lex, literal, matrix_domain, minus, named, named_domain, negation, no_end, no_generators, no_indices, no_ranges, no_terms, no_trees, number, one_and, over, quantified, ranges, read, set_domain, span_and, table, term_and, to_int, tree_and, truth, unstated}
-use Rattle.ep_tree.specs.Values.{ValueTree, all_defined, any_index, at_index, list_value, numbers_from, read_value, single}
+use Rattle.ep_tree.specs.Values.{ValueTree, all_defined, any_index, at_index, list_value, read_value, single}
 use Rattle.ep_tree.specs.declared.syntax.BinaryOp.{BinaryOp}
 use Rattle.ep_tree.specs.declared.syntax.FoldOp.{FoldOp}
 use Rattle.ep_tree.specs.declared.syntax.QuantOp.{QuantOp}
@@ -204,7 +205,7 @@ pub end_value-end_at : (mode : Mode) (env : Env) (e : ExprTree) → end_value mo
 unfolding end_value
 end_value-end_at _ _ _ = refl
 
-pub index_values-unstated : (mode : Mode) (env : Env) (count : ℕ) → index_values mode env unstated count ≡ Some (numbers_from (pos 1) count)
+pub index_values-unstated : (mode : Mode) (env : Env) (count : ℕ) → index_values mode env unstated count ≡ Some (counting (pos 1) count)
 unfolding index_values
 index_values-unstated _ _ _ = refl
 

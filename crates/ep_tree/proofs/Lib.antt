@@ -8,6 +8,7 @@ mod VectorsFaults
 mod VectorsHeights
 mod VectorsMeasures
 mod VectorsBinding
+mod VectorsSolutions
 mod VectorsSpelling
 pub mod NumberLaws
 pub mod DomainLaws

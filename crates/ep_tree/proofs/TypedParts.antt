@@ -4,10 +4,11 @@ use Rattle.std.proofs.Common.{ap, arith, subst, sym, ◌∙◌}
 use Rattle.std.specs.List.{list_all}
 use Rattle.std.specs.Ordering.{int_eq}
 use Rattle.ep_base.specs.Numbers.{of_bool}
+use Rattle.ep_base.specs.Runs.{counting}
 use Rattle.ep_tree.specs.Evaluation.{on_both, truth_in}
 use Rattle.ep_tree.specs.TypedValues.{AreOfDims, IsOf, IsOfDims, is_number_of}
 use Rattle.ep_tree.specs.Types.{Judged, all_typed, from_all, from_many, from_one, from_three, from_two, gives, has_dimensions, is_bool_scalar, is_boolean, is_integer, is_matrix, is_matrix_of_bool, list_of_matrices, list_type, mistyped, scalar_of, stated_dimensions, typed, untyped}
-use Rattle.ep_tree.specs.Values.{Index, ValueTree, ValueTrees, all_defined, any_index, as_parts, at_index, list_value, listed_values, matrix, no_values, numbers_from, part_at, read_value, scalars_of, scalars_of_all, single, value_and}
+use Rattle.ep_tree.specs.Values.{Index, ValueTree, ValueTrees, all_defined, any_index, as_parts, at_index, list_value, listed_values, matrix, no_values, part_at, read_value, scalars_of, scalars_of_all, single, value_and}
 use Rattle.ep_tree.specs.declared.values.Mode.{Mode}
 use Rattle.ep_tree.specs.declared.values.Scalar.{Scalar}
 use Rattle.ep_tree.specs.declared.values.ValueType.{ValueType}
@@ -170,10 +171,10 @@ unfolding listed_values as_parts
 listed-as_parts [] = refl
 listed-as_parts (v ∷ vs) = ap (λ ws. v ∷ ws) (listed-as_parts vs)
 
-length-numbers_from : (a : ℤ) (n : ℕ) → length (numbers_from a n) ≡ n
-unfolding numbers_from
-length-numbers_from a zero = refl
-length-numbers_from a (suc n) = ap suc (length-numbers_from (a +ℤ pos 1) n)
+length-counting : (a : ℤ) (n : ℕ) → length (counting a n) ≡ n
+unfolding counting
+length-counting a zero = refl
+length-counting a (suc n) = ap suc (length-counting (a +ℤ pos 1) n)
 
 length-singles : (ns : List ℤ) → length (map single ns) ≡ length ns
 length-singles [] = refl
@@ -188,7 +189,7 @@ singles_are s (n ∷ ns) h = (and_left (is_number_of s n) (list_all (is_number_o
 pub list_value_is : (s : Scalar) (ns : List ℤ) → list_all (is_number_of s) ns ≡ true → IsOfDims s 1 (list_value ns)
 unfolding list_value
 list_value_is s ns h =
-    (length-numbers_from (pos 1) (length ns) ∙ sym (ap length (listed-as_parts (map single ns)) ∙ length-singles ns), singles_are s ns h)
+    (length-counting (pos 1) (length ns) ∙ sym (ap length (listed-as_parts (map single ns)) ∙ length-singles ns), singles_are s ns h)
 
 -- the numbers of a value of a matrix type
 pub matrix_scalars : (t : ValueType) (v : ValueTree) → is_matrix t ≡ true → IsOf t v → list_all (is_number_of (scalar_of t)) (scalars_of v) ≡ true

@@ -867,3 +867,66 @@ two_objectives : (a b : ExprTree) (tokens : List Lexeme)
     → SpellsModel (objective (at 2 1) Sense.Minimising a ∷ objective (at 3 1) Sense.Maximising b ∷ []) tokens → ⊥
 unfolding the_language
 two_objectives a b tokens h = let too_many : false ≡ true = h.0 in cc
+
+-- what binds looser is no part of what binds tighter: `a \/ b -> c` is no disjunction with an implication
+implication_in_disjunction : (a b c : ExprTree) (tokens : List Lexeme)
+    → Spells implications (any_of (at 1 1) (tree_and a (tree_and (binary (at 1 6) BinaryOp.Implies b c) no_trees))) tokens → ⊥
+unfolding the_language
+implication_in_disjunction a b c [] h = h.1
+implication_in_disjunction a b c (t ∷ ts) h = let false_rank : false ≡ true = h.1.1.1.4.4.3.1.0 in cc
+
+-- `a /\ b \/ c` is no conjunction with a disjunction
+disjunction_in_conjunction : (a b c : ExprTree) (tokens : List Lexeme)
+    → Spells implications (all_of (at 1 1) (tree_and a (tree_and (any_of (at 1 6) (tree_and b (tree_and c no_trees))) no_trees))) tokens → ⊥
+unfolding the_language
+disjunction_in_conjunction a b c [] h = h.1
+disjunction_in_conjunction a b c (t ∷ ts) h = let false_rank : false ≡ true = h.1.1.1.4.4.3.1.0 in cc
+
+-- `a < b /\ c` is no comparison with a conjunction
+conjunction_in_comparison : (a b c : ExprTree) (tokens : List Lexeme)
+    → Spells implications (compare (at 1 1) CompareOp.Less a (all_of (at 1 5) (tree_and b (tree_and c no_trees)))) tokens → ⊥
+unfolding the_language
+conjunction_in_comparison a b c [] h = h.1
+conjunction_in_comparison a b c (t ∷ ts) h = let false_rank : false ≡ true = h.1.1.4.4.0 in cc
+
+-- `a + b < c` is no sum with a comparison
+comparison_in_sum : (a b c : ExprTree) (tokens : List Lexeme)
+    → Spells implications (chain (at 1 1) (term_and true a (term_and true (compare (at 1 5) CompareOp.Less b c) no_terms))) tokens → ⊥
+unfolding the_language
+comparison_in_sum a b c [] h = h.1
+comparison_in_sum a b c (t ∷ ts) h = let false_rank : false ≡ true = h.1.1.1.4.4.3.1.0 in cc
+
+-- `a * b + c` is no product with a sum
+sum_in_product : (a b c : ExprTree) (tokens : List Lexeme)
+    → Spells implications (binary (at 1 1) BinaryOp.Mul a (chain (at 1 5) (term_and true b (term_and true c no_terms)))) tokens → ⊥
+unfolding the_language
+sum_in_product a b c [] h = h.1
+sum_in_product a b c (t ∷ ts) h = let false_rank : false ≡ true = h.1.1.4.4.0 in cc
+
+-- products nest to the left: `a * b * c` is no product with a product behind its `*`
+product_behind : (a b c : ExprTree) (tokens : List Lexeme)
+    → Spells implications (binary (at 1 1) BinaryOp.Mul a (binary (at 1 5) BinaryOp.Mul b c)) tokens → ⊥
+unfolding the_language
+product_behind a b c [] h = h.1
+product_behind a b c (t ∷ ts) h = let false_rank : false ≡ true = h.1.1.4.4.0 in cc
+
+-- `a * b ** c` is no power of a product
+product_in_power : (a b c : ExprTree) (tokens : List Lexeme)
+    → Spells implications (binary (at 1 1) BinaryOp.Pow (binary (at 1 1) BinaryOp.Mul a b) c) tokens → ⊥
+unfolding the_language
+product_in_power a b c [] h = h.1
+product_in_power a b c (t ∷ ts) h = let false_rank : false ≡ true = h.1.1.3.1.0 in cc
+
+-- `-a ** b` is no minus of a power
+power_in_minus : (a b : ExprTree) (tokens : List Lexeme)
+    → Spells implications (minus (at 1 1) (binary (at 1 2) BinaryOp.Pow a b)) tokens → ⊥
+unfolding the_language
+power_in_minus a b [] h = h.1
+power_in_minus a b (t ∷ ts) h = let false_rank : false ≡ true = h.1.1.4.0 in cc
+
+-- `-M[i]` is no read of a minus
+minus_in_read : (m i : ExprTree) (tokens : List Lexeme)
+    → Spells implications (read (at 1 1) (minus (at 1 1) m) (index_and i no_indices)) tokens → ⊥
+unfolding the_language
+minus_in_read m i [] h = h.1
+minus_in_read m i (t ∷ ts) h = let false_rank : false ≡ true = h.1.1.3.1.0 in cc

@@ -3,7 +3,7 @@
 -- The lettings of the parameter text are evaluated in their order, and then the statements of the model in theirs. The
 -- first statement at which something stands is answered; only where two limits stand at one statement may either be
 -- named. The whole order is this project's own choice.
-use Rattle.std.specs.Prelude.{ℕ, ◌+◌, Bool, true, false, ◌&&◌, ◌||◌, List, [], ◌∷◌, ◌++◌, map, length, ℤ, pos, is_some, if◌then◌else◌, nat_lt, int_lt, int_le, Some, None, Ok, Err, flat_map, Option, Result, unwrap_or, option_map, option_and_then}
+use Rattle.std.specs.Prelude.{ℕ, ◌+◌, Bool, true, false, ◌&&◌, ◌||◌, List, [], ◌∷◌, ◌++◌, map, length, ℤ, pos, is_some, if◌then◌else◌, nat_lt, int_lt, int_le, Some, None, Ok, Err, flat_map, Option, Result, option_map, option_and_then, option_to_list}
 use Rattle.std.specs.Ordering.{int_eq}
 use Rattle.ep_base.specs.Numbers.{has_number}
 use Rattle.ep_base.specs.declared.names.Name.{Name}
@@ -12,7 +12,7 @@ use Rattle.ep_base.specs.declared.operators.Sense.{Sense}
 use Rattle.ep_base.specs.declared.places.Place.{Place}
 use Rattle.ep_tree.specs.Domains.{set_has, truth_values}
 use Rattle.ep_tree.specs.Environments.{Bound, Env, has_domain, has_value, scalar_in, shape_type}
-use Rattle.ep_tree.specs.Evaluation.{domain_values, evaluate, number_in, on_both, on_three, truth_of, type_in}
+use Rattle.ep_tree.specs.Evaluation.{domain_values, evaluate, first_untrue, number_in, on_both, on_three, type_in}
 use Rattle.ep_tree.specs.Measures.{Met, farthest_reach, met, met_domain, size_of}
 use Rattle.ep_tree.specs.Names.{nothing_known, put}
 use Rattle.ep_tree.specs.Statements.{Group, StatementTree, TextTree, branching, constraints, decided, domain_letting, given, heuristic, letting, objective, requirements}
@@ -252,11 +252,9 @@ bound_finds mode env (g ∷ groups) =
     on_both shape.values (bound_finds mode env groups) (λ values rest. Some (group_finds shape values g.names ++ rest)))
     (shape_of mode env g.domain)
 
--- the first of some `where` clauses that isn't true, where they are numbered on from a number
+-- the refusal of the first of some `where` clauses that isn't true, where they are numbered on from a number
 unfoldable pub first_false : Mode → Env → ℕ → List ExprTree → List Refusal
-first_false mode env n [] = []
-first_false mode env n (e ∷ es) =
-    if unwrap_or (truth_of (evaluate mode env e)) false then first_false mode env (n + 1) es else where_false n ∷ []
+first_false mode env n es = option_to_list (option_map where_false (first_untrue mode env n es))
 
 -- how far binding has come: the instance so far, and the number of the next `where` clause
 pub record Progress : Type 0 where

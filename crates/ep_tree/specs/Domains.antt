@@ -2,10 +2,10 @@
 --
 -- `int` domains with ranges are those of the language's public description; their union, intersection and difference
 -- are this project's own.
-use Rattle.std.specs.Prelude.{ℕ, Bool, not, ◌&&◌, ◌||◌, List, [], ◌∷◌, ℤ, pos, negsuc, ◌+ℤ◌, ◌-ℤ◌, ◌<ℤ◌, if◌then◌else◌, int_lt, filter}
+use Rattle.std.specs.Prelude.{ℕ, Bool, not, ◌&&◌, ◌||◌, List, [], ◌∷◌, ℤ, pos, ◌+ℤ◌, ◌-ℤ◌, ◌<ℤ◌, if◌then◌else◌, int_lt, filter}
 use Rattle.std.specs.Ordering.{int_eq}
 use Rattle.ep_base.specs.Numbers.{has_number}
-use Rattle.ep_tree.specs.Values.{numbers_from}
+use Rattle.ep_base.specs.Runs.{counting, or_zero}
 use Rattle.ep_tree.specs.declared.syntax.SetOp.{SetOp}
 
 -- a number put into a sorted list, where it isn't there yet
@@ -18,18 +18,13 @@ unfoldable pub united : List ℤ → List ℤ → List ℤ
 united [] ys = ys
 united (x ∷ xs) ys = put_in x (united xs ys)
 
--- a number, or 0 where it is negative
-unfoldable pub or_zero : ℤ → ℕ
-or_zero (pos n) = n
-or_zero (negsuc n) = 0
-
 -- how many numbers there are from a to b: none where b < a
 unfoldable pub count_between : ℤ → ℤ → ℕ
-count_between a b = or_zero ((b -ℤ a) +ℤ pos 1)
+count_between a b = or_zero ((b +ℤ pos 1) -ℤ a)
 
 -- the numbers from a to b
 unfoldable pub between : ℤ → ℤ → List ℤ
-between a b = numbers_from a (count_between a b)
+between a b = counting a (count_between a b)
 
 -- the numbers of an operation on two domains
 unfoldable pub set_values : SetOp → List ℤ → List ℤ → List ℤ

@@ -5,16 +5,17 @@
 -- integer or matrix expression has no value where a part has none, after `/` and `%` by 0, and for a read outside the
 -- index domains. That a read outside a Boolean matrix is false, that a matrix with one undefined part is undefined, what
 -- an undefined quantifier's domain does, and the remaining undefined forms are this project's own choice.
-use Rattle.std.specs.Prelude.{ℕ, Bool, true, false, not, ◌||◌, List, [], ◌∷◌, ◌++◌, map, length, ℤ, pos, ◌*ℤ◌, neg_ℤ, if◌then◌else◌, Some, None, fold, Option, unwrap_or, option_map, option_and_then}
+use Rattle.std.specs.Prelude.{ℕ, ◌+◌, Bool, true, false, not, ◌||◌, List, [], ◌∷◌, ◌++◌, map, length, ℤ, pos, ◌*ℤ◌, neg_ℤ, if◌then◌else◌, Some, None, fold, Option, unwrap_or, option_map, option_and_then}
 use Rattle.std.specs.Int.{int_max, int_min}
 use Rattle.ep_base.specs.Numbers.{absolute_of, all_one, any_one, are_different, compare_holds, counts_hold, factorial_of, greatest_of, has_number, is_one, is_row_of, least_of, lex_holds, of_bool, power, product_of, quotient, remainder, sum_of}
+use Rattle.ep_base.specs.Runs.{counting}
 use Rattle.ep_base.specs.declared.names.Name.{Name}
 use Rattle.ep_base.specs.declared.operators.CompareOp.{CompareOp}
 use Rattle.ep_tree.specs.Domains.{between, put_in, set_values, truth_values, united}
 use Rattle.ep_tree.specs.Environments.{Env, context_of, domain_bound, scalar_in, value_bound, with_number}
 use Rattle.ep_tree.specs.Trees.{DomainTree, End, ExprTree, ExprTrees, Generators, IndexDomain, Indices, Ranges, Terms, absolute, all_different, all_of, any_of, at_least, at_most, binary, bool, chain, compare, comprehension, end_at, every_and, factorial, flatten, folded, gcc, generator_and, group, group_domain, in_domain, in_set, index_and, int, lex, literal, matrix_domain, minus, named, named_domain, negation, no_end, no_generators, no_indices, no_ranges, no_terms, no_trees, number, one_and, over, quantified, ranges, read, set_domain, span_and, table, term_and, to_int, tree_and, truth, unstated}
 use Rattle.ep_tree.specs.Types.{judge, type_from}
-use Rattle.ep_tree.specs.Values.{Index, ValueTree, all_defined, any_index, at_index, list_value, matrix, numbers_from, read_value, rows_of, scalars_of, single, with_indices}
+use Rattle.ep_tree.specs.Values.{Index, ValueTree, all_defined, any_index, at_index, list_value, matrix, read_value, rows_of, scalars_of, single, with_indices}
 use Rattle.ep_tree.specs.declared.syntax.BinaryOp.{BinaryOp}
 use Rattle.ep_tree.specs.declared.syntax.FoldOp.{FoldOp}
 use Rattle.ep_tree.specs.declared.syntax.QuantOp.{QuantOp}
@@ -240,7 +241,7 @@ unfoldable mutual
 
   -- the indices of so many parts: the index domain's values, else the numbers from 1 on
   pub index_values : Mode → Env → IndexDomain → ℕ → Option (List ℤ)
-  index_values mode env unstated count = Some (numbers_from (pos 1) count)
+  index_values mode env unstated count = Some (counting (pos 1) count)
   index_values mode env (over d) count = domain_values mode env d
 
   -- the parts that generators give, one after another; none is defined where a domain isn't
@@ -250,3 +251,12 @@ unfoldable mutual
       over_names names
       (λ e. domain_values mode e d) (λ e. scalar_in e d)
       joined (λ e. generated mode e gens inner) env
+
+-- whether an expression is true
+abbrev pub is_true_in : Mode → Env → ExprTree → Bool
+is_true_in mode env e = unwrap_or (truth_of (evaluate mode env e)) false
+
+-- the number of the first expression that isn't true, where they are numbered on from a number
+unfoldable pub first_untrue : Mode → Env → ℕ → List ExprTree → Option ℕ
+first_untrue mode env n [] = None
+first_untrue mode env n (e ∷ es) = if is_true_in mode env e then first_untrue mode env (n + 1) es else Some n

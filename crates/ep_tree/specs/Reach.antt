@@ -6,13 +6,14 @@ use Rattle.std.specs.Prelude.{ℕ, zero, suc, Bool, true, false, ◌&&◌, ◌||
 use Rattle.std.specs.Int.{int_max, int_min}
 use Rattle.std.specs.Ordering.{int_eq}
 use Rattle.ep_base.specs.Numbers.{absolute_of, all_one, greatest_of, least_of, nth_power, of_bool, sum_of}
+use Rattle.ep_base.specs.Runs.{counting}
 use Rattle.ep_base.specs.declared.names.Name.{Name}
 use Rattle.ep_tree.specs.Domains.{count_between}
 use Rattle.ep_tree.specs.Environments.{Bound, Env, has_cells, scalar_in, with_number}
 use Rattle.ep_tree.specs.Evaluation.{domain_values, evaluate, index_values, number_in, numbers_in, over_names, type_in, values_of}
 use Rattle.ep_tree.specs.Trees.{ExprTree, ExprTrees, Generators, Indices, Terms, absolute, all_different, all_of, any_of, at_least, at_most, binary, chain, compare, comprehension, every_and, factorial, flatten, folded, gcc, generator_and, group, in_domain, in_set, index_and, lex, literal, minus, named, negation, no_generators, no_indices, no_terms, no_trees, number, quantified, read, table, term_and, to_int, tree_and, truth}
 use Rattle.ep_tree.specs.Types.{is_integer}
-use Rattle.ep_tree.specs.Values.{ValueTree, ValueTrees, matrix, no_values, numbers_from, single, value_and}
+use Rattle.ep_tree.specs.Values.{ValueTree, ValueTrees, matrix, no_values, single, value_and}
 use Rattle.ep_tree.specs.declared.syntax.BinaryOp.{BinaryOp}
 use Rattle.ep_tree.specs.declared.syntax.FoldOp.{FoldOp}
 use Rattle.ep_tree.specs.declared.syntax.QuantOp.{QuantOp}
@@ -360,8 +361,8 @@ joined_all (Some ls) = fold (λ xs ys. xs ++ ys) [] ls
 -- The indices of a list's parts as they are measured: those of the index domain where it has a value for each part, and
 -- else the numbers from 1 on.
 unfoldable pub measured_indices : Option (List ℤ) → ℕ → List ℤ
-measured_indices None count = numbers_from (pos 1) count
-measured_indices (Some indices) count = if length indices == count then indices else numbers_from (pos 1) count
+measured_indices None count = counting (pos 1) count
+measured_indices (Some indices) count = if length indices == count then indices else counting (pos 1) count
 
 -- parts as a matrix
 unfoldable pub grid_over : (ℕ → Option (List ℤ)) → List Extent → Extent
@@ -369,7 +370,7 @@ grid_over indices parts = grid (measured_indices (indices (length parts)) (lengt
 
 -- spans as a matrix of one dimension
 unfoldable pub list_extent : List Span → Extent
-list_extent spans = grid (numbers_from (pos 1) (length spans)) (as_extents (map one_span spans))
+list_extent spans = grid (counting (pos 1) (length spans)) (as_extents (map one_span spans))
 
 -- a name's extent
 unfoldable pub named_extent : Option Bound → Extent

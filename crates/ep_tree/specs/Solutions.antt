@@ -2,14 +2,14 @@
 --
 -- The meaning of a solution is that of the language's public description; that an assignment under which the objective
 -- has no value is no solution is this project's own choice.
-use Rattle.std.specs.Prelude.{◌≡◌, ℕ, ◌+◌, ◌*◌, Bool, false, ◌||◌, List, [], ◌∷◌, ◌++◌, map, length, ℤ, is_some, is_none, if◌then◌else◌, IsTrue, nat_lt, int_lt, Some, None, bytes_eq, sum_by, Option, unwrap_or, option_map, option_to_list, option_and_then, IsPermutation}
+use Rattle.std.specs.Prelude.{◌≡◌, ℕ, ◌+◌, ◌*◌, Bool, ◌||◌, List, [], ◌∷◌, ◌++◌, map, length, ℤ, is_some, is_none, if◌then◌else◌, IsTrue, nat_lt, int_lt, Some, None, bytes_eq, sum_by, Option, option_map, option_to_list, option_and_then, IsPermutation}
 use Rattle.ep_base.specs.Numbers.{has_number}
 use Rattle.ep_base.specs.declared.names.Name.{Name}
 use Rattle.ep_base.specs.declared.operators.Limit.{Limit}
 use Rattle.ep_base.specs.declared.operators.Sense.{Sense}
 use Rattle.ep_tree.specs.Binding.{Find, Instance, MOST_WEIGHT, Refusal, limits_passed, met_in, over_limit}
 use Rattle.ep_tree.specs.Environments.{Bound, Env, has_cells, has_value, shape_type}
-use Rattle.ep_tree.specs.Evaluation.{evaluate, number_in, on_both, truth_of}
+use Rattle.ep_tree.specs.Evaluation.{evaluate, first_untrue, number_in, on_both}
 use Rattle.ep_tree.specs.Measures.{Met, farthest_reach, size_of, weight_of}
 use Rattle.ep_tree.specs.Names.{put_all}
 use Rattle.ep_tree.specs.Trees.{ExprTree}
@@ -62,18 +62,9 @@ pub record Fits (i : Instance) (a : Assigned) (found : Found) : Type 0 where
 abbrev pub under : Instance → Found → Env
 under i found = put_all found i.env
 
--- whether a clause is true
-abbrev pub is_true_in : Mode → Env → ExprTree → Bool
-is_true_in mode env clause = unwrap_or (truth_of (evaluate mode env clause)) false
-
--- the number of the first clause that isn't true, where they are numbered on from a number
-unfoldable pub first_violated : Mode → Env → ℕ → List ExprTree → Option ℕ
-first_violated mode env n [] = None
-first_violated mode env n (e ∷ es) = if is_true_in mode env e then first_violated mode env (n + 1) es else Some n
-
 -- the least number of a clause that an assignment violates, if it violates one
 abbrev pub violated : Mode → Instance → Found → Option ℕ
-violated mode i found = first_violated mode (under i found) 1 i.clauses
+violated mode i found = first_untrue mode (under i found) 1 i.clauses
 
 -- the objective's number, where one is stated
 unfoldable pub goal_value : Mode → Instance → Found → Option ℤ

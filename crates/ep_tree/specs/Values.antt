@@ -2,10 +2,10 @@
 --
 -- Numbers stand for Booleans, 1 for true. That a Boolean is such a number is the language's public description; how a
 -- value fits a domain is this project's own choice.
-use Rattle.std.specs.Prelude.{ℕ, zero, suc, Bool, true, false, ◌&&◌, List, [], ◌∷◌, ◌++◌, map, length, ℤ, pos, ◌+ℤ◌, if◌then◌else◌, ◌==◌, Some, None, Option, option_map, option_and_then}
+use Rattle.std.specs.Prelude.{Bool, true, false, ◌&&◌, List, [], ◌∷◌, ◌++◌, map, length, ℤ, pos, if◌then◌else◌, ◌==◌, Some, None, Option, option_map, option_and_then}
 use Rattle.std.specs.Ordering.{int_eq}
 use Rattle.ep_base.specs.Numbers.{same_numbers}
-use Rattle.ep_base.specs.Runs.{numbers}
+use Rattle.ep_base.specs.Runs.{counting}
 use Rattle.ep_tree.specs.declared.values.Scalar.{Scalar}
 
 mutual
@@ -45,18 +45,13 @@ unfoldable pub rows_of : ValueTree → List (List ℤ)
 rows_of (single n) = []
 rows_of (matrix indices parts) = map scalars_of (listed_values parts)
 
--- so many numbers, one after another, from a first one on
-unfoldable pub numbers_from : ℤ → ℕ → List ℤ
-numbers_from first zero = []
-numbers_from first (suc count) = first ∷ numbers_from (first +ℤ pos 1) count
-
 -- a list of values as a matrix, if its indices are as many as its parts
 unfoldable pub with_indices : List ℤ → List ValueTree → Option ValueTree
 with_indices indices parts = if length indices == length parts then Some (matrix indices (as_parts parts)) else None
 
 -- numbers as a matrix of one dimension, with indices from 1
 unfoldable pub list_value : List ℤ → ValueTree
-list_value numbers = matrix (numbers_from (pos 1) (length numbers)) (as_parts (map single numbers))
+list_value numbers = matrix (counting (pos 1) (length numbers)) (as_parts (map single numbers))
 
 -- an index of a read: one that is stated, or `..`
 pub data Index : Type 0 where
