@@ -8,7 +8,7 @@ use Rattle.ep_tree.specs.Trees.{DomainTree, ExprTree, end_at, minus, no_ranges, 
 use Rattle.ep_parse_model.specs.EarlyForms.{IsBound, IsEarlyDomain}
 use Rattle.ep_parse_model.specs.Reading.{bound_from, domain_from, lexeme_at, number_expr_from, number_from, word_from}
 use Rattle.ep_parse_model.proofs.CompleteExpressions.{word_from-again}
-use Rattle.ep_parse_model.proofs.DomainSpelling.{DomainCut, domain_cut, int_tokens}
+use Rattle.ep_parse_model.proofs.DomainSpelling.{domain_cut, int_tokens}
 use Rattle.ep_parse_model.proofs.EarlyCases.{bound_case, domain_case}
 use Rattle.ep_parse_model.proofs.EarlySpelling.{minus_cut, number_cut}
 

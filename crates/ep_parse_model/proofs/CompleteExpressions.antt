@@ -1,6 +1,5 @@
 -- What is spelled as an expression or a domain is read so.
-use Rattle.std.proofs.Common.{◌≡◌, ℕ, ℤ, Bool, true, false, List, [], ◌∷◌, ◌++◌, Some, refl, sym, ap, ◌∙◌, subst, append_assoc}
-use Rattle.std.specs.Prelude.{codes}
+use Rattle.std.proofs.Common.{◌≡◌, ℕ, ℤ, Bool, true, false, List, [], ◌∷◌, ◌++◌, Some, refl, ap, ◌∙◌, subst, append_assoc}
 use Rattle.std.proofs.lemmas.Slice.Eq.{bytes_eq-Decides}
 use Rattle.ep_base.specs.declared.names.Name.{Name}
 use Rattle.ep_base.specs.declared.places.Place.{Place}
@@ -8,12 +7,12 @@ use Rattle.ep_base.specs.declared.operators.CompareOp.{CompareOp}
 use Rattle.ep_base.specs.declared.operators.CompareOp.TheVariants.{Equal, NotEqual, Less, AtMost, Greater, AtLeast}
 use Rattle.ep_tree.specs.Faults.{place_of}
 use Rattle.ep_tree.specs.Phrases.{Lexeme, a_name, a_number, a_word}
-use Rattle.ep_tree.specs.Spelling.{Level, Spells, SpellsDomain, SpellsTerms, compare_word, has_terms, implications, products, sign_word, sums, unaries}
-use Rattle.ep_tree.specs.Trees.{DomainTree, ExprTree, Terms, chain, compare, end_at, minus, named, no_ranges, no_terms, number, ranges, span_and, term_and}
-use Rattle.ep_parse_model.specs.EarlyForms.{AreOperands, IsBound, IsEarlyClause, IsEarlyDomain, IsOperand, IsSide}
-use Rattle.ep_parse_model.specs.Reading.{as_terms, at_sign, begins_operand, begins_term, bound_from, clause_from, comparison_from, domain_from, is_at, lexeme_at, list_from, name_from, number_expr_from, number_from, operand_from, pass, side_from, sign_from, term_from, word_from}
-use Rattle.ep_parse_model.proofs.EarlyCases.{bound_case, clause_case, domain_case, operand_case, side_case}
-use Rattle.ep_parse_model.proofs.EarlySpelling.{chain_cut, compare_cut, minus_cut, name_cut, no_chain, no_terms_cut, number_cut, terms_cut}
+use Rattle.ep_tree.specs.Spelling.{Level, Spells, SpellsTerms, compare_word, has_terms, implications, products, sign_word, sums}
+use Rattle.ep_tree.specs.Trees.{ExprTree, Terms, chain, compare, named, no_terms, number, term_and}
+use Rattle.ep_parse_model.specs.EarlyForms.{AreOperands, IsEarlyClause, IsOperand, IsSide}
+use Rattle.ep_parse_model.specs.Reading.{as_terms, at_sign, begins_operand, begins_term, clause_from, comparison_from, is_at, lexeme_at, list_from, name_from, number_from, operand_from, pass, side_from, sign_from, term_from, word_from}
+use Rattle.ep_parse_model.proofs.EarlyCases.{clause_case, operand_case, side_case}
+use Rattle.ep_parse_model.proofs.EarlySpelling.{chain_cut, compare_cut, name_cut, no_chain, no_terms_cut, number_cut, terms_cut}
 use Rattle.ep_parse_model.proofs.Lists.{list_from-step}
 use Rattle.ep_parse_model.proofs.Phrasing.{BeginsAt, same_place}
 use Rattle.ep_parse_model.proofs.SoundExpressions.{compare_saying, sign_saying, terms-shorten}

@@ -3,22 +3,22 @@ use Rattle.std.proofs.Common.{◌≡◌, ℤ, pos, true, false, List, [], ◌∷
 use Rattle.std.specs.Prelude.{codes, ◌⊎◌}
 use Rattle.std.specs.List.{AllByRecursion}
 use Rattle.std.proofs.lemmas.Bool.Decides.{Decides-int_eq}
-use Rattle.ep_base.specs.declared.names.Name.{Name}
 use Rattle.ep_base.specs.declared.places.Place.{Place}
-use Rattle.ep_tree.specs.Phrases.{Is, Lexeme, Phrase, PlacedNames, Says, Silence, a_name, a_number, a_word, ◌followed_by◌, ◌or_else◌}
-use Rattle.ep_tree.specs.Spelling.{Spells, SpellsDomain, domains, implications}
+use Rattle.ep_tree.specs.Phrases.{Is, Lexeme, Says, Silence, a_number, a_word, ◌followed_by◌, ◌or_else◌}
+use Rattle.ep_tree.specs.Spelling.{Spells, implications}
 use Rattle.ep_tree.specs.StatementSpelling.{LanguageLine, SpellsExpressions, SpellsGroup, SpellsGroups, SpellsModel, SpellsStatement, SpellsStatements}
 use Rattle.ep_tree.specs.Statements.{Group, StatementTree, TextTree, constraints, decided}
 use Rattle.ep_tree.specs.Trees.{ExprTree}
 use Rattle.ep_parse_model.specs.EarlyForms.{HasEarlyForms, IsEarlyClause, IsEarlyGroup, IsEarlyStatement}
-use Rattle.ep_parse_model.specs.Reading.{Read, after_clause, after_comma, at_more, begins_operand, begins_term, clause_from, clauses_from, find_from, first_line_from, group_from, is_at, is_empty, lexeme_at, list_from, model_from, name_from, number_from, pass, statement_after, statement_from, statements_from, such_that_from, version_from, word_from}
-use Rattle.ep_parse_model.proofs.CompleteDomains.{domain_from-again}
+use Rattle.ep_parse_model.specs.Reading.{after_clause, after_comma, at_more, begins_operand, begins_term, clause_from, clauses_from, find_from, first_line_from, group_from, is_at, is_empty, lexeme_at, list_from, model_from, number_from, pass, statement_from, statements_from, such_that_from, version_from, word_from}
 use Rattle.ep_parse_model.proofs.CompleteExpressions.{clause_begins, clause_from-again, pass-again, word_from-again}
 use Rattle.ep_parse_model.proofs.EarlyCases.{statement_case}
-use Rattle.ep_parse_model.proofs.Items.{PlacedName, SpellsItems, comma, items-cut, items-join, items_of_groups, items_of_placed}
-use Rattle.ep_parse_model.proofs.Lists.{Shortens, list_from-step}
-use Rattle.ep_parse_model.proofs.Phrasing.{Behind, Between, Cut, behind, between, cut, from_is, begins_so}
-use Rattle.ep_parse_model.proofs.SoundStatements.{clauses-shorten, groups-shorten, names-shorten, statements-shorten}
+use Rattle.ep_parse_model.proofs.Items.{comma, items-join, items_of_groups}
+use Rattle.ep_parse_model.proofs.Lists.{list_from-step}
+use Rattle.ep_parse_model.proofs.Phrasing.{Between, Cut, behind, between, cut, from_is, begins_so}
+use Rattle.ep_parse_model.proofs.SoundGroups.{groups-shorten}
+use Rattle.ep_parse_model.proofs.SoundStatements.{clauses-shorten, statements-shorten}
+use Rattle.ep_parse_model.proofs.CompleteGroups.{group_from-again, items_from-again}
 
 -- ---- what may follow a statement: the end, or another statement, which begins with a word
 
@@ -47,50 +47,6 @@ starts-no_comma (l ∷ ls) (inr h) = rw h refl
 starts-no_clause : (ls : List Lexeme) → Starts ls → after_clause ls ≡ (false, ls)
 unfolding after_clause
 starts-no_clause ls h = rw (starts-no_comma ls h) refl
-
--- ---- lists with commas
-
--- an item is read, whatever follows it
-abbrev IsReadAgain : {A : Type 0} → (List Lexeme → Read A) → (A → Phrase) → Type 0
-IsReadAgain {A} item Item = (x : A) (front rest : List Lexeme) → Item x front → item (front ++ rest) ≡ Some (x, rest)
-
-items_from-again : {A : Type 0} (item : List Lexeme → Read A) (Item : A → Phrase) → Shortens item after_comma → IsReadAgain item Item
-    → (xs : List A) (front rest : List Lexeme) → SpellsItems Item xs front → after_comma rest ≡ (false, rest) → list_from item after_comma (front ++ rest) ≡ Some (xs, rest)
-items_from-again item Item short again [] front rest h ends = absurd h
-items_from-again item Item short again (x ∷ []) front rest h ends =
-    list_from-step item after_comma short (front ++ rest) ∙ rw (again x front rest h, ends) refl
-items_from-again item Item short again (x ∷ y ∷ ys) front rest h ends =
-    let c = items-cut Item x y ys front h in
-    let regrouped : front ++ rest ≡ c.front ++ (lexeme_at c.place comma ∷ c.back ++ rest) = ap (λ ls. ls ++ rest) c.parts ∙ append_assoc c.front (lexeme_at c.place comma ∷ c.back) rest in
-    let one : item (front ++ rest) ≡ Some (x, lexeme_at c.place comma ∷ c.back ++ rest) = ap item regrouped ∙ again x c.front (lexeme_at c.place comma ∷ c.back ++ rest) c.first in
-    let others = items_from-again item Item short again (y ∷ ys) c.back rest c.second ends in
-    list_from-step item after_comma short (front ++ rest) ∙ rw (one, pass-again (codes ",") c.place (c.back ++ rest), others) refl
-
--- ---- groups
-
-placed_again : (x : Name × Place) (rest : List Lexeme) → name_from (lexeme_at x.1 (a_name x.0) ∷ rest) ≡ Some (x, rest)
-unfolding name_from
-placed_again x rest = refl
-
-placed_name-again : IsReadAgain name_from PlacedName
-placed_name-again x front rest h =
-    let f = from_is x.1 (Is (a_name x.0)) front h in
-    let at = begins_so x.1 front f.1.0 (a_name x.0) [] f.1.1 f.0 in
-    ap (λ ls. name_from (ls ++ rest)) (f.1.1 ∙ ap (λ p. lexeme_at p (a_name x.0) ∷ []) at) ∙ placed_again x rest
-
--- a `:` is no comma
-colon_ends : (p : Place) (ls : List Lexeme) → after_comma (lexeme_at p (a_word (codes ":")) ∷ ls) ≡ (false, lexeme_at p (a_word (codes ":")) ∷ ls)
-unfolding pass word_from
-colon_ends p ls = refl
-
-group_from-again : IsReadAgain group_from (λ x front. SpellsGroup x front × IsEarlyGroup x)
-unfolding group_from
-group_from-again x front rest h =
-    let s = between (PlacedNames x.names) (a_word (codes ":")) (SpellsDomain domains x.domain) front h.0 in
-    let back = lexeme_at s.place (a_word (codes ":")) ∷ s.back ++ rest in
-    let regrouped : front ++ rest ≡ s.front ++ back = ap (λ ls. ls ++ rest) s.parts ∙ append_assoc s.front (lexeme_at s.place (a_word (codes ":")) ∷ s.back) rest in
-    let names = items_from-again name_from PlacedName names-shorten placed_name-again x.names s.front back (items_of_placed x.names s.front s.first) (colon_ends s.place (s.back ++ rest)) in
-    ap group_from regrouped ∙ rw (names, word_from-again (codes ":") s.place (s.back ++ rest), domain_from-again x.domain s.back rest s.second h.1) refl
 
 -- ---- clauses
 

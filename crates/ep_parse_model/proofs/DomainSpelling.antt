@@ -4,10 +4,10 @@ use Rattle.std.specs.Prelude.{codes}
 use Rattle.std.proofs.lemmas.List.{append-nil}
 use Rattle.ep_base.specs.declared.places.Place.{Place}
 use Rattle.ep_tree.specs.Phrases.{Lexeme, Says, a_word, ◌followed_by◌}
-use Rattle.ep_tree.specs.Spelling.{DomainLevel, Spells, SpellsDomain, SpellsEnd, SpellsMoreRanges, SpellsRanges, domain_rank, domains, implications}
+use Rattle.ep_tree.specs.Spelling.{Spells, SpellsDomain, SpellsEnd, SpellsMoreRanges, SpellsRanges, domain_rank, domains, implications}
 use Rattle.ep_tree.specs.Trees.{ExprTree, end_at, no_ranges, ranges, span_and}
 use Rattle.ep_parse_model.specs.Reading.{lexeme_at}
-use Rattle.ep_parse_model.proofs.Phrasing.{begins_so, behind, behind_made, between, between_made, cut, from_is, from_made, joint}
+use Rattle.ep_parse_model.proofs.Phrasing.{begins_so, behind, behind_made, between, between_made, cut, from_is, joint}
 
 -- the tokens of `int(a..b)`
 abbrev pub int_tokens : Place → Place → Place → Place → List Lexeme → List Lexeme → List Lexeme

@@ -1,17 +1,16 @@
 -- How expressions of the early forms are spelled: each form made from its parts, and cut into them.
-use Rattle.std.proofs.Common.{◌≡◌, ℤ, ◌<◌, lit<, Bool, true, false, not, nat_le, List, [], ◌∷◌, ◌++◌, length, refl, sym, ap, ◌∙◌, subst, arith, length-append}
+use Rattle.std.proofs.Common.{◌≡◌, ℤ, Bool, true, false, not, nat_le, List, [], ◌∷◌, ◌++◌, refl, ap, ◌∙◌}
 use Rattle.std.specs.Prelude.{codes, ◌&&◌}
 use Rattle.ep_base.specs.declared.names.Name.{Name}
 use Rattle.ep_base.specs.declared.operators.CompareOp.{CompareOp}
 use Rattle.ep_base.specs.declared.places.Place.{Place}
-use Rattle.ep_tree.specs.Faults.{place_of}
-use Rattle.ep_tree.specs.Phrases.{From, Is, Lexeme, Phrase, Saying, Says, a_name, a_number, a_word, ◌followed_by◌}
+use Rattle.ep_tree.specs.Phrases.{From, Is, Lexeme, Saying, Says, a_name, a_number, a_word, ◌followed_by◌}
 use Rattle.ep_tree.specs.Spelling.{Level, Operand, OperandBefore, Spells, SpellsChain, SpellsTerms, compare_word, comparisons, conjunctions, disjunctions, ends_open, has_terms, implications, powers, primaries, products, rank, reads, sign_word, sums, unaries}
 use Rattle.ep_tree.specs.Trees.{ExprTree, Terms, chain, compare, minus, named, no_terms, number, term_and}
 use Rattle.ep_parse_model.specs.EarlyForms.{AreOperands, IsOperand, IsSide}
 use Rattle.ep_parse_model.specs.Reading.{lexeme_at}
 use Rattle.ep_parse_model.proofs.EarlyCases.{operand_case, side_case}
-use Rattle.ep_parse_model.proofs.Phrasing.{BeginsAt, Behind, Between, Cut, begins-front, begins_so, behind, behind_made, between, between_made, cut, from_is, from_made, joint}
+use Rattle.ep_parse_model.proofs.Phrasing.{BeginsAt, begins-front, begins_so, behind, behind_made, between, between_made, cut, from_is, from_made, joint}
 
 -- ---- no operand or side ends open
 

@@ -5,13 +5,16 @@ mod EarlyCases
 mod Phrasing
 mod EarlySpelling
 mod DomainSpelling
+mod SoundTokens
 mod SoundExpressions
+mod SoundGroups
 mod Items
 mod Objectives
 mod SoundStatements
 mod PlaceLaws
 mod CompleteExpressions
 mod CompleteDomains
+mod CompleteGroups
 mod CompleteStatements
 mod UseLaws
 mod NameLaws

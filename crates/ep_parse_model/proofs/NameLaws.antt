@@ -5,10 +5,10 @@ use Rattle.std.specs.List.{AllByRecursion, list_all}
 use Rattle.std.proofs.lemmas.Slice.Eq.{bytes_eq-Decides}
 use Rattle.ep_base.specs.declared.names.Name.{Name}
 use Rattle.ep_base.specs.declared.places.Place.{Place}
-use Rattle.ep_tree.specs.Faults.{Fault, after_groups, after_statement, clause_faults, declaration_faults, declare, domain_faults, end_faults, faults, faults_after, faults_of_ranges, group_faults, has_open_range, IsWellFormed, redeclared, statement_faults, text_faults, type_fault, unless}
+use Rattle.ep_tree.specs.Faults.{Fault, after_groups, after_statement, clause_faults, declaration_faults, declare, domain_faults, faults, faults_after, group_faults, has_open_range, IsWellFormed, redeclared, statement_faults, text_faults, type_fault, unless}
 use Rattle.ep_tree.specs.Names.{nothing_known, put}
 use Rattle.ep_tree.specs.Statements.{Group, StatementTree, TextTree, constraints, decided}
-use Rattle.ep_tree.specs.Trees.{DomainTree, ExprTree, end_at, minus, no_ranges, number, ranges, span_and}
+use Rattle.ep_tree.specs.Trees.{DomainTree, ExprTree, end_at, no_ranges, ranges, span_and}
 use Rattle.ep_tree.specs.Types.{Context, Meaning, a_value, all_typed, from_all, from_many, from_one, gives, is_integer, judge, judge_domain, type_from, typed}
 use Rattle.ep_tree.specs.declared.values.ValueType.{ValueType}
 use Rattle.ep_parse_model.specs.EarlyForms.{HasEarlyForms, IsBound, IsEarlyClause, IsEarlyDomain, IsEarlyGroup, IsEarlyStatement}

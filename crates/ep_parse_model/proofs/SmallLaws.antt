@@ -1,13 +1,13 @@
 -- What few short tokens spell in the early forms is small.
-use Rattle.std.proofs.Common.{◌≡◌, ℕ, ℤ, ◌<◌, ◌≤◌, Bool, List, [], ◌∷◌, ◌++◌, length, refl, ap, ◌∙◌, subst, arith, length-append, inl, inr}
-use Rattle.std.specs.Prelude.{codes, ◌⊎◌}
+use Rattle.std.proofs.Common.{◌≡◌, ℤ, ◌<◌, ◌≤◌, List, [], ◌∷◌, ◌++◌, length, refl, ap, subst, arith, length-append}
+use Rattle.std.specs.Prelude.{codes}
 use Rattle.std.specs.List.{AllByRecursion}
 use Rattle.ep_base.specs.declared.names.Name.{Name}
 use Rattle.ep_base.specs.declared.operators.CompareOp.{CompareOp}
 use Rattle.ep_base.specs.declared.places.Place.{Place}
-use Rattle.ep_tree.specs.Phrases.{Lexeme, Phrase, PlacedNames, Saying, Says, Silence, a_number, a_word, ◌followed_by◌, ◌or_else◌}
-use Rattle.ep_tree.specs.Spelling.{Level, Spells, SpellsDomain, SpellsTerms, compare_word, domains, implications, products, sums, unaries}
-use Rattle.ep_tree.specs.StatementSpelling.{LanguageLine, SpellsExpressions, SpellsGroup, SpellsModel, SpellsStatement, SpellsStatements}
+use Rattle.ep_tree.specs.Phrases.{Lexeme, Phrase, PlacedNames, a_word}
+use Rattle.ep_tree.specs.Spelling.{Level, Spells, SpellsDomain, SpellsTerms, domains, implications, products, sums, unaries}
+use Rattle.ep_tree.specs.StatementSpelling.{SpellsExpressions, SpellsGroup, SpellsModel, SpellsStatement, SpellsStatements}
 use Rattle.ep_tree.specs.Statements.{Group, StatementTree, TextTree, constraints, decided}
 use Rattle.ep_tree.specs.Trees.{DomainTree, ExprTree, Terms, chain, compare, end_at, minus, named, no_ranges, no_terms, number, ranges, span_and, term_and}
 use Rattle.ep_parse_model.specs.Early.{MOST_EARLY_BYTES}

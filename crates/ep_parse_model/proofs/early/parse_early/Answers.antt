@@ -1,4 +1,4 @@
-use Rattle.std.proofs.Common.{◌≡◌, true, false, Some, sym, ◌∙◌, arith}
+use Rattle.std.proofs.Common.{◌≡◌, true, false, Some, ◌∙◌, arith}
 use Rattle.std.specs.Prelude.{is_some}
 use Rattle.std.proofs.lemmas.Result.{err_from_is_err_and}
 use Rattle.ep_tree.specs.Phrases.{lexemes_of}

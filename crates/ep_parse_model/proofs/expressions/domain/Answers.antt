@@ -1,4 +1,4 @@
-use Rattle.std.proofs.Common.{◌≡◌, List, [], ◌∷◌, Some, refl, ap, ◌∙◌}
+use Rattle.std.proofs.Common.{◌≡◌, List, [], ◌∷◌, Some, refl}
 use Rattle.std.specs.Prelude.{codes}
 use Rattle.std.specs.Global.{Vec}
 use Rattle.ep_base.specs.declared.places.Place.{Place}
@@ -6,7 +6,7 @@ use Rattle.ep_tree.specs.declared.syntax.DomainKind.{Ranges}
 use Rattle.ep_tree.specs.declared.syntax.Expr.{Expr}
 use Rattle.ep_tree.specs.declared.syntax.Range.{Range, Span}
 use Rattle.ep_tree.specs.Phrases.{Lexeme}
-use Rattle.ep_tree.specs.Trees.{end_at, no_ranges, ranges, span_and}
+use Rattle.ep_tree.specs.Trees.{end_at, no_ranges, span_and}
 use Rattle.ep_tree.specs.Views.{domain_kind_tree, expr_tree, kind_tree, ranges_of}
 use Rattle.ep_tree.proofs.ViewLemmas.{domain_kind_tree-ranges}
 use Rattle.ep_parse_model.specs.Reading.{bound_from, domain_from, word_from}

@@ -2,7 +2,6 @@ use Rattle.std.proofs.Common.{◌≡◌, Bool, List, [], ◌∷◌, map, refl, s
 use Rattle.std.specs.Global.{Vec}
 use Rattle.ep_tree.specs.declared.syntax.Expr.{Expr}
 use Rattle.ep_tree.specs.declared.syntax.Kind.{Add}
-use Rattle.ep_tree.specs.Faults.{place_of}
 use Rattle.ep_tree.specs.Phrases.{Lexeme}
 use Rattle.ep_tree.specs.Trees.{term_and}
 use Rattle.ep_tree.specs.Views.{expr_tree, kind_tree, terms_of}

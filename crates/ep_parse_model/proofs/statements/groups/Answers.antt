@@ -4,7 +4,7 @@ use Rattle.std.proofs.lemmas.Result.{err_from_is_err_and}
 use Rattle.ep_tree.specs.Views.{group_of}
 use Rattle.ep_parse_model.specs.Reading.{group_from, after_comma}
 use Rattle.ep_parse_model.proofs.Lists.{goes, ends, fails, smaller}
-use Rattle.ep_parse_model.proofs.SoundStatements.{groups-shorten}
+use Rattle.ep_parse_model.proofs.SoundGroups.{groups-shorten}
 use Rattle.ep_parse_model.proofs.statements.groups.Goals as goal
 
 pub returns-in_err-group : goal.returns-in_err-group

@@ -2,7 +2,7 @@ use Rattle.std.proofs.Common.{true}
 use Rattle.std.proofs.lemmas.Result.{err_from_is_err_and}
 use Rattle.ep_parse_model.specs.Reading.{name_from, after_comma}
 use Rattle.ep_parse_model.proofs.Lists.{goes, ends, fails, smaller}
-use Rattle.ep_parse_model.proofs.SoundStatements.{names-shorten}
+use Rattle.ep_parse_model.proofs.SoundGroups.{names-shorten}
 use Rattle.ep_parse_model.proofs.statements.names.Goals as goal
 
 pub returns-in_err-placed_name : goal.returns-in_err-placed_name
