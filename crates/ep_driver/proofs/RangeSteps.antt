@@ -9,7 +9,7 @@ use Rattle.ep_base.specs.declared.places.Place.{Place}
 use Rattle.ep_tree.specs.Domains.{between, put_in, united}
 use Rattle.ep_tree.specs.Environments.{Env}
 use Rattle.ep_tree.specs.Evaluation.{domain_values, end_value, evaluate, number_in, on_both, on_three, range_values}
-use Rattle.ep_tree.specs.Trees.{End, ExprTree, Ranges, no_ranges, span_and, end_at, number, ranges}
+use Rattle.ep_tree.specs.Trees.{End, ExprTree, Ranges, no_ranges, span_and, end_at, ranges}
 use Rattle.ep_tree.specs.Values.{single}
 use Rattle.ep_tree.specs.Views.{domain_kind_tree, end_of, expr_tree, kind_tree, ranges_of, with_range}
 use Rattle.ep_tree.specs.declared.syntax.DomainKind.{DomainKind, Ranges as RangesDomain}

@@ -25,7 +25,9 @@ pub fn read_formula<F: Files>(
 }
 
 /// A copy of a clause.
-fn copied(clause: &Clause) -> Result<Clause, Memory> {
+fn copied(clause: &Clause) -> Result<Clause, Memory>
+    ensures { IfOk result (λ copy. copy ≡ clause.now) }
+{
     Ok(clause.clone()?)
 }
 
@@ -36,10 +38,12 @@ pub fn pose(alloc: Global, formula: &Formula) -> Result<(Solver, Log), Refusal>
     ensures sound { IfOk result (λ posed. IsSound posed.1.events) }
     ensures clauses { IfOk result (λ posed. posed.0.broken ≡ false → posed.0.clauses ≡ clauses_of posed.1.events) }
     ensures steps { IfOk result (λ posed. nonempty_steps posed.1.events ≡ 0) }
+    ensures same { IfOk result (λ posed. clauses_of posed.1.events ≡ formula.now.clauses) }
 {
     let mut log = Log::new(alloc);
     let mut solver = Solver::new(alloc, &log)?;
-    for clause in formula.clauses() {
+    let givens = formula.clauses();
+    for clause in givens {
         solver.add_given(copied(clause)?, &mut log)?;
     }
     Ok((solver, log))

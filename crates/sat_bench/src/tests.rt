@@ -41,21 +41,37 @@ fn cnf_text(alloc: Global, clauses: &[Vec<i64>]) -> Result<Vec<u8>, Fail> {
     Ok(write_cnf(alloc, &formula, &[], 0)?)
 }
 
-// What the check finds in the text of a log.
-fn verdict(alloc: Global, cnf: &[u8], log: &[u8]) -> Result<Verdict, Fail> {
+// What the check finds in the text of a log, and how many lines it has.
+fn verdict(alloc: Global, cnf: &[u8], log: &[u8]) -> Result<(Verdict, usize), Fail> {
     let file = read_cnf(alloc, cnf)?;
     let proof = read_log(alloc, log)?;
-    Ok(check_log(alloc, &file.formula, &proof)?)
+    let verdict = check_log(alloc, &file.formula, &proof)?;
+    Ok((verdict, proof.lines.len()))
 }
 
-// The status with which the program ends, and what the check finds in the log that it wrote.
-fn checked(alloc: Global, cnf: &[u8], conflicts: &str) -> Result<(u8, Verdict), Fail> {
+// Whether a text says first that there were so many conflicts.
+fn says_conflicts(alloc: Global, text: &str, conflicts: usize) -> Result<bool, Fail> {
+    let line = format!(in alloc; "c conflicts {conflicts}\n")?;
+    Ok(text.starts_with(line.as_str()))
+}
+
+// The status with which the program ends, what the check finds in the log that it wrote, and how many of its lines aren't the empty
+// step. The text that is put out has the same number.
+fn checked(
+    rt: &impl Abort,
+    alloc: Global,
+    cnf: &[u8],
+    conflicts: &str,
+) -> Result<(u8, Verdict, usize), Fail> {
     let mut files = MemFiles::new(alloc, Vec::new(alloc));
     files.hold("a.cnf", cnf)?;
     let words = words_of(alloc, &["a.cnf", conflicts, "a.lrat"])?;
     let reply = answer(alloc, &words, &mut files)?;
     let log = files.get("a.lrat").ok_or("the log is written")?;
-    Ok((reply.status, verdict(alloc, cnf, log)?))
+    let (verdict, lines) = verdict(alloc, cnf, log)?;
+    let steps = lines.saturating_sub(usize::from(verdict == Verdict::Verified));
+    assert!(rt; says_conflicts(alloc, reply.text.as_str(), steps)?);
+    Ok((reply.status, verdict, steps))
 }
 
 #[test]
@@ -63,6 +79,11 @@ fn logs_of_small_problems_are_accepted(rt: HostRuntime) -> Result<(), Fail> {
     let rows = [
         (
             "p cnf 2 4\n1 2 0\n1 -2 0\n-1 2 0\n-1 -2 0\n",
+            20,
+            Verdict::Verified,
+        ),
+        (
+            "p cnf 2 5\n1 -1 0\n1 2 0\n1 -2 0\n-1 2 0\n-1 -2 0\n",
             20,
             Verdict::Verified,
         ),
@@ -75,26 +96,25 @@ fn logs_of_small_problems_are_accepted(rt: HostRuntime) -> Result<(), Fail> {
         ("p cnf 0 1\n0\n", 20, Verdict::Verified),
     ];
     for (cnf, status, verdict) in rows {
-        assert_eq!(rt;
-            checked(rt.alloc(), cnf.as_bytes(), "10")?,
-            (status, verdict)
-        );
+        let (ended, found, _) = checked(&rt, rt.alloc(), cnf.as_bytes(), "10")?;
+        assert_eq!(rt; (ended, found), (status, verdict));
     }
     Ok(())
 }
 
 fn assert_refuted(rt: &impl Abort, alloc: Global, clauses: &[Vec<i64>]) -> Result<(), Fail> {
     let cnf = cnf_text(alloc, clauses)?;
-    assert_eq!(rt; checked(alloc, &cnf, "1000000")?, (20, Verdict::Verified));
+    let (status, verdict, steps) = checked(rt, alloc, &cnf, "1000000")?;
+    assert_eq!(rt; (status, verdict), (20, Verdict::Verified));
+    assert!(rt; steps > 0);
     Ok(())
 }
 
 fn assert_satisfied(rt: &impl Abort, alloc: Global, clauses: &[Vec<i64>]) -> Result<(), Fail> {
     let cnf = cnf_text(alloc, clauses)?;
-    assert_eq!(rt;
-        checked(alloc, &cnf, "1000000")?,
-        (10, Verdict::NoEmptyClause)
-    );
+    let (status, verdict, steps) = checked(rt, alloc, &cnf, "1000000")?;
+    assert_eq!(rt; (status, verdict), (10, Verdict::NoEmptyClause));
+    assert!(rt; steps > 0);
     Ok(())
 }
 
@@ -104,7 +124,7 @@ fn logs_of_searches_are_accepted(rt: HostRuntime) -> Result<(), Fail> {
     assert_refuted(&rt, alloc, &pigeons(alloc, 4, 3)?)?;
     assert_refuted(&rt, alloc, &pigeons(alloc, 7, 6)?)?;
     assert_refuted(&rt, alloc, &drawn(alloc, 6)?)?;
-    assert_satisfied(&rt, alloc, &drawn(alloc, 18)?)?;
+    assert_satisfied(&rt, alloc, &drawn(alloc, 13)?)?;
     assert_satisfied(&rt, alloc, &hinted_square(alloc)?)
 }
 
@@ -112,9 +132,15 @@ fn logs_of_searches_are_accepted(rt: HostRuntime) -> Result<(), Fail> {
 fn logs_of_searches_that_are_cut_off_are_accepted(rt: HostRuntime) -> Result<(), Fail> {
     let alloc = rt.alloc();
     let few = cnf_text(alloc, &pigeons(alloc, 4, 3)?)?;
-    assert_eq!(rt; checked(alloc, &few, "1")?, (0, Verdict::NoEmptyClause));
+    assert_eq!(rt;
+        checked(&rt, alloc, &few, "1")?,
+        (0, Verdict::NoEmptyClause, 1)
+    );
     let many = cnf_text(alloc, &pigeons(alloc, 7, 6)?)?;
-    assert_eq!(rt; checked(alloc, &many, "100")?, (0, Verdict::NoEmptyClause));
+    assert_eq!(rt;
+        checked(&rt, alloc, &many, "100")?,
+        (0, Verdict::NoEmptyClause, 100)
+    );
     Ok(())
 }
 
@@ -164,7 +190,7 @@ fn refusal(
 fn what_cannot_be_answered_is_refused(rt: HostRuntime) -> Result<(), Fail> {
     let alloc = rt.alloc();
     let usage = "usage: sat_bench FILE CONFLICTS [LOG]";
-    let rows: [(&[&str], &[u64], &str); 13] = [
+    let rows: [(&[&str], &[u64], &str); 15] = [
         (&[], &[], usage),
         (&["a.cnf"], &[], usage),
         (&["a.cnf", "0"], &[], usage),
@@ -172,6 +198,8 @@ fn what_cannot_be_answered_is_refused(rt: HostRuntime) -> Result<(), Fail> {
         (&["a.cnf", "+1"], &[], usage),
         (&["a.cnf", "00000000001"], &[], usage),
         (&["a.cnf", "1", "a.lrat", "more"], &[], usage),
+        (&["a.cnf", "1", ""], &[], usage),
+        (&["a.cnf", "1", "a.cnf"], &[], usage),
         (&["b.cnf", "1"], &[], "the file can't be read"),
         (&["a.cnf", "1"], &[1], "the file can't be read"),
         (&["a.cnf", "1", "a.lrat"], &[2], "the log can't be written"),

@@ -1,6 +1,6 @@
 //! The text of an answer, as solvers in competitions print it.
 
-ghost use Rattle.std.specs.Prelude.{◌≡◌, ◌≤◌, IsSome};
+ghost use Rattle.std.specs.Prelude.{◌≡◌, ◌≤◌, IsSome, IfOk};
 ghost use Rattle.sat_bench.specs.declared.texts.TheConstants.{WIDTH};
 
 use crate::refusal::Refusal;
@@ -31,6 +31,9 @@ pub fn reply_to(
     conflicts: u64,
 ) -> Result<Reply, Refusal>
     requires { outcome ≡ Outcome.Sat → IsSome solver.now.kept }
+    ensures sat { outcome ≡ Outcome.Sat → IfOk result (λ reply. reply.status ≡ 10) }
+    ensures unsat { outcome ≡ Outcome.Unsat → IfOk result (λ reply. reply.status ≡ 20) }
+    ensures spent { outcome ≡ Outcome.Spent → IfOk result (λ reply. reply.status ≡ 0) }
 {
     let text = format!(in alloc; "c conflicts {conflicts}\n")?;
     match outcome {

@@ -20,13 +20,21 @@ pub struct Request<'a> {
 ///
 /// # Errors
 ///
-/// [`Refusal::Usage`] where there are fewer or more, or where CONFLICTS isn't a number.
+/// [`Refusal::Usage`] where there are fewer or more, where CONFLICTS isn't a number, or where LOG is empty or FILE again.
 pub fn read_request(words: &[Word]) -> Result<Request<'_>, Refusal> {
     match words {
         [file, conflicts] => asked(file, conflicts, None),
-        [file, conflicts, log] => asked(file, conflicts, Some(log.text())),
+        [file, conflicts, log] => asked(file, conflicts, Some(log_name(file, log)?)),
         _ => Err(Refusal::Usage),
     }
+}
+
+/// The name of the file for the log, which isn't that of the formula.
+fn log_name<'a>(file: &Word, log: &'a Word) -> Result<&'a str, Refusal> {
+    if log.text().is_empty() || log.text() == file.text() {
+        return Err(Refusal::Usage);
+    }
+    Ok(log.text())
 }
 
 fn asked<'a>(

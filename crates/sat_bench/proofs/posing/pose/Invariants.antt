@@ -1,4 +1,4 @@
-use Rattle.std.proofs.Common.{◌≡◌, false}
+use Rattle.std.proofs.Common.{◌≡◌, false, take}
 use Rattle.cnf_core.specs.Events.{clauses_of, nonempty_steps}
 use Rattle.sat_search.specs.Logs.{IsSound}
 use Rattle.sat_bench.proofs.posing.pose.Given as goal
@@ -8,4 +8,5 @@ invariant-loop-clause l = record {
   sound : IsSound l.log.events;
   clauses : l.solver.broken ≡ false → l.solver.clauses ≡ clauses_of l.log.events;
   steps : nonempty_steps l.log.events ≡ 0;
+  same : clauses_of l.log.events ≡ take l.clause-index l.givens;
 }
