@@ -1,5 +1,5 @@
 -- A log that goes on soundly.
-use Rattle.std.proofs.Common.{◌≡◌, ◌≢◌, ℕ, ◌+◌, ◌<◌, ◌≤◌, Bool, true, false, cond, ◌⊎◌, inl, inr, List, [], ◌∷◌, ◌++◌, length, refl, ap, ◌∙◌, sym, subst, arith, append_assoc, All, ◌^◌}
+use Rattle.std.proofs.Common.{◌≡◌, ℕ, ◌+◌, ◌<◌, ◌≤◌, Bool, true, false, cond, ◌⊎◌, inl, inr, List, [], ◌∷◌, ◌++◌, length, refl, ap, ◌∙◌, sym, subst, arith, append_assoc, ◌^◌}
 use Rattle.std.specs.Prelude.{Contains}
 use Rattle.std.proofs.lemmas.List.{append-nil}
 use Rattle.std.proofs.lemmas.List.Elements.{All-nil, All-cons, All-append, All-contains}
@@ -12,7 +12,7 @@ use Rattle.sat_search.specs.declared.outcome.Outcome.{Outcome}
 use Rattle.sat_search.specs.declared.outcome.Outcome.TheVariants.{Spent}
 use Rattle.cnf_core.proofs.Members.{none_in_nil, Contains-here}
 use Rattle.sat_search.specs.Analysis.{IsExplained}
-use Rattle.sat_search.specs.Logs.{IsSound, AddsSteps, EndsWithEmptyStep, IsContinued, IsAnswer, with_step}
+use Rattle.sat_search.specs.Logs.{IsSound, EndsWithEmptyStep, IsContinued, IsAnswer, with_step}
 use Rattle.sat_search.proofs.Learnt.{sound_push}
 
 pub continued_same : (budget : ℕ) (log : LogState) → IsSound log.events → nonempty_steps log.events ≤ budget → IsContinued budget log log

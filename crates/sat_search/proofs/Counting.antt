@@ -1,10 +1,9 @@
 -- How many of a trail's first literals are marked.
-use Rattle.std.proofs.Common.{◌≡◌, ◌≢◌, ℕ, zero, suc, add-zero, ◌+◌, ◌-◌, ◌<◌, ◌≤◌, Bool, true, false, ◌⊎◌, inl, inr, None, List, [], ◌∷◌, ◌++◌, length, get_or, set, take, map, refl, ap, ◌∙◌, sym, subst, arith, eqb, All}
-use Rattle.std.specs.List.{count_by}
-use Rattle.std.proofs.lemmas.Bool.{ne_eqb, false≢true, cases_lt}
+use Rattle.std.proofs.Common.{◌≡◌, ◌≢◌, ℕ, zero, suc, add-zero, ◌+◌, ◌-◌, ◌<◌, ◌≤◌, Bool, true, false, inl, inr, List, length, get_or, set, take, map, refl, ap, ◌∙◌, sym, subst, arith, eqb, All}
+use Rattle.std.proofs.lemmas.Bool.{ne_eqb, cases_lt}
 use Rattle.std.proofs.lemmas.List.{get_or-set_other, get_or-map, get_or-take, get_or_past, length-map, length-take-le, take-take}
 use Rattle.std.proofs.lemmas.List.Elements.{All-take}
-use Rattle.std.proofs.lemmas.List.Sums.{count_by-le-length, count_by_more_yes, count_by_more_no}
+use Rattle.std.proofs.lemmas.List.Sums.{count_by_more_yes, count_by_more_no}
 use Rattle.cnf_core.specs.Literal.{Literal}
 use Rattle.cnf_core.proofs.Members.{either}
 use Rattle.sat_state.specs.Trail.{Entry, literals, IsGrounded}

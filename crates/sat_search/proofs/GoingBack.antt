@@ -1,9 +1,9 @@
 -- Levels of a trail, and where a clause leads back to.
-use Rattle.std.proofs.Common.{◌≡◌, ◌≢◌, ℕ, ◌+◌, ◌<◌, ◌≤◌, Bool, max, min, Option, Some, ◌⊎◌, inl, inr, List, [], ◌∷◌, ◌++◌, length, get_or, take, refl, ap, ◌∙◌, sym, subst, arith, All}
+use Rattle.std.proofs.Common.{◌≡◌, ◌≢◌, ℕ, ◌+◌, ◌<◌, ◌≤◌, Bool, max, min, Some, ◌⊎◌, inl, inr, List, [], ◌∷◌, ◌++◌, length, get_or, take, ap, ◌∙◌, sym, subst, arith, All}
 use Rattle.std.specs.Prelude.{Contains, filter}
 use Rattle.std.specs.Option.{option_map}
 use Rattle.std.proofs.lemmas.Bool.{false≢true, cases_lt}
-use Rattle.std.proofs.lemmas.List.{get_or_default, take_more, take_all, get_or-take, length-take-le}
+use Rattle.std.proofs.lemmas.List.{get_or_default, take_more, get_or-take, length-take-le}
 use Rattle.std.proofs.lemmas.List.Elements.{All-contains, All-weaker, Contains-push, Contains-append_left}
 use Rattle.cnf_core.specs.Literal.{Literal, negation, Precedes, IsOrdered}
 use Rattle.cnf_core.proofs.Members.{All-from_contains, Contains-from_filter}

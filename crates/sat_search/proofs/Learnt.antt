@@ -3,15 +3,15 @@ use Rattle.std.proofs.Common.{◌≡◌, ◌≢◌, ℕ, ◌+◌, ◌<◌, ◌�
 use Rattle.std.specs.Prelude.{Contains}
 use Rattle.std.proofs.lemmas.Bool.{false≢true}
 use Rattle.std.proofs.lemmas.List.{get_or-map, length-map, append-nil}
-use Rattle.std.proofs.lemmas.List.Elements.{Contains-append_left, Contains-push, All-contains, All-weaker, All-nil, All-push, All-append}
+use Rattle.std.proofs.lemmas.List.Elements.{Contains-append_left, Contains-push, All-contains, All-weaker, All-nil, All-push}
 use Rattle.cnf_core.specs.Literal.{Literal, negation, same_literal, HaveSameLiterals}
 use Rattle.cnf_core.specs.Events.{LogEvent, given, step, clause_of, clauses_of, givens, EachStep}
-use Rattle.cnf_core.specs.Steps.{IsValidStep, StandsInGiven, IsConsistent, Includes, IsNewStep, IsLastOf, IsAtEnd, HasTrueLiteral, HasTwoNotFalse, IsEffectiveStep, NonEmptyStepsAreNew}
+use Rattle.cnf_core.specs.Steps.{IsValidStep, StandsInGiven, IsConsistent, Includes, IsNewStep, IsLastOf, HasTrueLiteral, HasTwoNotFalse, IsEffectiveStep, NonEmptyStepsAreNew}
 use Rattle.cnf_core.proofs.Members.{either, none_in_nil, negation-negation, literals_from_test, same_literal-true, All-from_contains}
 use Rattle.cnf_core.proofs.Readings.{shown_by_reading}
 use Rattle.cnf_core.proofs.Following.{clauses_of-push}
 use Rattle.cnf_core.proofs.Events.{EachStep-step}
-use Rattle.sat_search.specs.Analysis.{StandsIn, AreFalse, HasLast, IsExplained, AreInRange}
+use Rattle.sat_search.specs.Analysis.{StandsIn, HasLast, IsExplained, AreInRange}
 use Rattle.sat_search.specs.Logs.{IsSound}
 
 same_or_not : (a b : Literal) → (a ≡ b) ⊎ (a ≢ b)

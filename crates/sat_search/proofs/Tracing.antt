@@ -1,11 +1,11 @@
 -- How a conflict is traced down a trail.
-use Rattle.std.proofs.Common.{◌≡◌, ◌≢◌, ℕ, zero, suc, add-zero, ◌+◌, ◌<◌, ◌≤◌, Bool, true, false, ◌⊎◌, inl, inr, None, List, [], ◌∷◌, ◌++◌, length, get_or, take, map, refl, ap, ◌∙◌, sym, subst, arith, reverse, All}
+use Rattle.std.proofs.Common.{◌≡◌, ◌≢◌, ℕ, zero, suc, add-zero, ◌+◌, ◌<◌, ◌≤◌, Bool, true, false, ◌⊎◌, inl, inr, None, List, [], ◌∷◌, ◌++◌, length, get_or, take, ap, ◌∙◌, sym, subst, arith, reverse, All}
 use Rattle.std.specs.Prelude.{Contains}
 use Rattle.std.specs.List.{AllByRecursion}
-use Rattle.std.proofs.lemmas.Bool.{false≢true, eqb-true, eqb-false}
+use Rattle.std.proofs.lemmas.Bool.{false≢true}
 use Rattle.std.proofs.lemmas.List.{take_more, take_all, reverse-append, length-take-le, get_or-take, get_or_default, take-take}
 use Rattle.std.proofs.lemmas.List.Elements.{Contains-push_cases, Contains-push, Contains-append_left, Contains-get_or, All-contains, All-map, All-weaker, All-get_or, All-nil, All-push, All-cons, All-take}
-use Rattle.cnf_core.specs.Literal.{Literal, negation, same_literal, IsOrdered}
+use Rattle.cnf_core.specs.Literal.{Literal, negation, IsOrdered}
 use Rattle.cnf_core.specs.Reading.{reading_succeeds}
 use Rattle.cnf_core.specs.Steps.{IsAtEnd, HasTrueLiteral, HasTwoNotFalse}
 use Rattle.cnf_core.proofs.Members.{either, none_in_nil, negation-negation, Contains-here, Contains-there, Contains-cases, test_from_Contains, All-from_contains}
@@ -14,7 +14,7 @@ use Rattle.cnf_core.proofs.Reading.{Settled, reading_fails}
 use Rattle.sat_state.specs.Trail.{Gives, IsFalsified, value_of}
 use Rattle.sat_state.proofs.Literals.{not_true, not_false, no_literal, no_value}
 use Rattle.std.proofs.lemmas.List.Sorted.{IsPermutation-reverse, IsPermutation-sym, Contains-permutation}
-use Rattle.sat_search.specs.Analysis.{is_marked, IsNamedIn, MarksClause, clauses_of_numbers, StandsIn, AreFalse, AreTrueWhereMarked, IsTraced, KeepsMore, IsDecisionAt, HasLast, IsExplained, IsCut, IsUnmarkedBetween}
+use Rattle.sat_search.specs.Analysis.{is_marked, IsNamedIn, MarksClause, clauses_of_numbers, StandsIn, IsTraced, KeepsMore, IsDecisionAt, HasLast, IsExplained, IsCut, IsUnmarkedBetween}
 
 -- the clause of a number
 abbrev at : List (List Literal) → ℕ → List Literal

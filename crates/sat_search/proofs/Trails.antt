@@ -1,15 +1,14 @@
 -- What a place of a grounded trail says.
-use Rattle.std.proofs.Common.{◌≡◌, ◌≢◌, ℕ, zero, suc, ◌+◌, ◌<◌, Bool, true, false, cond, Option, Some, None, ◌⊎◌, inl, inr, List, [], ◌∷◌, ◌++◌, length, get_or, take, map, All, refl, ap, ◌∙◌, sym, subst, arith, eqb}
+use Rattle.std.proofs.Common.{◌≡◌, ◌≢◌, ℕ, zero, suc, ◌<◌, Bool, true, false, cond, Option, Some, None, inl, inr, List, [], ◌∷◌, length, get_or, take, All, refl, ap, ◌∙◌, sym, subst, arith, eqb}
 use Rattle.std.specs.List.{find}
 use Rattle.std.specs.Option.{option_map}
 use Rattle.std.specs.Prelude.{Contains, IfSome}
-use Rattle.std.proofs.lemmas.Bool.{eqb-true, ne_eqb, eq-eqb}
-use Rattle.std.proofs.lemmas.List.{get_or-map, take-map, length-map, get_or_default}
-use Rattle.std.proofs.lemmas.List.Elements.{All-head, All-tail, All-nil, All-map, All-weaker, All-get_or}
+use Rattle.std.proofs.lemmas.Bool.{ne_eqb, eq-eqb}
+use Rattle.std.proofs.lemmas.List.{get_or-map, take-map, length-map}
+use Rattle.std.proofs.lemmas.List.Elements.{All-head, All-tail}
 use Rattle.cnf_core.specs.Literal.{Literal}
 use Rattle.cnf_core.proofs.Members.{either, Contains-here, Contains-there}
-use Rattle.cnf_core.specs.Steps.{IsAtEnd}
-use Rattle.sat_state.specs.Trail.{Entry, literals, value_of, entry_of, HasReason, Gives, IsGrounded}
+use Rattle.sat_state.specs.Trail.{Entry, literals, value_of, entry_of, HasReason, IsGrounded}
 use Rattle.sat_state.proofs.Literals.{no_literal}
 use Rattle.sat_search.specs.Analysis.{IsDecisionAt}
 

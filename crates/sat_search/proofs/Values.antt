@@ -1,11 +1,11 @@
 -- The values that a trail gives, and the clauses that they satisfy.
-use Rattle.std.proofs.Common.{◌≡◌, ℕ, ◌+◌, ◌<◌, ◌≤◌, Bool, true, false, cond, ◌||◌, Option, Some, None, IsSome, ◌⊎◌, inl, inr, List, [], ◌∷◌, ◌++◌, length, get_or, take, map, refl, ap, ◌∙◌, sym, subst, arith, All}
+use Rattle.std.proofs.Common.{◌≡◌, ℕ, ◌+◌, ◌<◌, ◌≤◌, Bool, true, false, cond, Option, Some, None, IsSome, ◌⊎◌, inl, inr, List, [], ◌∷◌, ◌++◌, length, take, refl, ap, ◌∙◌, sym, subst, arith, All}
 use Rattle.std.specs.Prelude.{Contains}
 use Rattle.std.proofs.lemmas.Bool.{false≢true, cases_lt}
-use Rattle.std.proofs.lemmas.List.{take-map, length-map, length-take-le, get_or-take, get_or_default, take-append-le, take_all, map_push}
-use Rattle.std.proofs.lemmas.List.Elements.{Contains-push, All-contains, All-weaker, All-nil, All-cons, All-head, All-tail}
+use Rattle.std.proofs.lemmas.List.{take-map, length-map, length-take-le, get_or-take, take-append-le, take_all, map_push}
+use Rattle.std.proofs.lemmas.List.Elements.{Contains-push, All-contains, All-nil, All-cons, All-head, All-tail}
 use Rattle.cnf_core.specs.Literal.{Literal, negation, is_among}
-use Rattle.cnf_core.specs.Clauses.{IsTrueUnder, SatisfiesClause, Satisfies}
+use Rattle.cnf_core.specs.Clauses.{SatisfiesClause, Satisfies}
 use Rattle.cnf_core.specs.Events.{LogEvent, given, step, clauses_of, givens}
 use Rattle.cnf_core.specs.Steps.{IsAtEnd, IsConsistent, HasTrueLiteral, HasTwoNotFalse}
 use Rattle.cnf_core.proofs.Members.{either, or_cases, Contains-from_test, test_from_Contains, All-from_contains}

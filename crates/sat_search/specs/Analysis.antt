@@ -116,7 +116,9 @@ count_marked trail marks upto = count_by (λ l. is_marked marks l.var) (take upt
 
 -- Where of a trail's first literals at most so many were marked before, at most so many are now.
 abbrev pub CountsMarks : List Literal → List Bool → List Bool → ℕ → ℕ → Type 0
-CountsMarks trail old new before now = (upto : ℕ) → upto ≤ length trail → count_marked trail old upto ≤ before → count_marked trail new upto ≤ now
+CountsMarks trail old new before now =
+    (upto : ℕ) → upto ≤ length trail
+    → count_marked trail old upto ≤ before → count_marked trail new upto ≤ now
 
 -- each entry of this variable is of the level or a higher one
 abbrev pub IsFrom : List Entry → ℕ → ℕ → Type 0

@@ -1,7 +1,7 @@
 -- Logs that a solver extends.
-use Rattle.std.specs.Prelude.{◌≡◌, ◌≢◌, ℕ, ◌≤◌, Bool, false, List, [], ◌∷◌, ◌++◌, All}
+use Rattle.std.specs.Prelude.{◌≡◌, ◌≢◌, ℕ, ◌≤◌, false, List, [], ◌∷◌, ◌++◌, All}
 use Rattle.cnf_core.specs.Literal.{Literal}
-use Rattle.cnf_core.specs.Events.{LogEvent, LogState, Note, step, is_given, clauses_of, givens, nonempty_steps}
+use Rattle.cnf_core.specs.Events.{LogEvent, LogState, step, is_given, clauses_of, givens, nonempty_steps}
 use Rattle.cnf_core.specs.Clauses.{Satisfies}
 use Rattle.sat_search.specs.View.{value_in}
 use Rattle.sat_search.specs.declared.outcome.Outcome.{Outcome}

@@ -1,5 +1,5 @@
 -- How marks are kept.
-use Rattle.std.specs.Prelude.{ℕ, ◌≤◌, ◌==◌, Bool, List, map, All}
+use Rattle.std.specs.Prelude.{◌≤◌, ◌==◌, Bool, List, map, All}
 use Rattle.sat_search.specs.declared.marks.Marks.TheInside.{Inside}
 
 -- a variable is marked where its stamp is the current one

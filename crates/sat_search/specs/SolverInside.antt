@@ -1,9 +1,6 @@
 -- How a solver is kept.
-use Rattle.std.specs.Prelude.{◌≡◌, ℕ, ◌≤◌, Bool, false, if◌then◌else◌, Option, Some, None, List, All}
-use Rattle.cnf_core.specs.Literal.{Literal}
-use Rattle.cnf_core.specs.declared.lit.TheConstants.{MOST_VARIABLE}
+use Rattle.std.specs.Prelude.{◌≡◌, false, if◌then◌else◌, Some, None}
 use Rattle.sat_state.specs.Trail.{literals}
-use Rattle.sat_state.specs.View.{StateView}
 use Rattle.sat_search.specs.declared.solver.Solver.TheInside.{Inside}
 use Rattle.sat_search.specs.View.{SolverView}
 use Rattle.sat_search.specs.Analysis.{IsKnown}

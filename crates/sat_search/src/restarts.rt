@@ -1,7 +1,7 @@
 //! When the search goes back to its start: after so many conflicts, by Luby's sequence. Nothing is promised of it.
 
 /// The number of conflicts for which each 1 of the sequence stands.
-const UNIT: u64 = 64;
+const UNIT: u64 = 128;
 
 /// A place in Luby's sequence 1, 1, 2, 1, 1, 2, 4, .. (Luby, Sinclair and Zuckerman 1993), by Knuth's reluctant doubling: the
 /// second number of the pair runs through it.

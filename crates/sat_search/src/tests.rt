@@ -181,7 +181,7 @@ fn seven_pigeons_have_no_six_holes(rt: HostRuntime) -> Result<(), Fail> {
 #[test]
 fn drawn_clauses_have_values(rt: HostRuntime) -> Result<(), Fail> {
     let alloc = rt.alloc();
-    let clauses = drawn(alloc, 18)?;
+    let clauses = drawn(alloc, 13)?;
     assert_eq!(rt;
         outcome_of(&rt, alloc, clauses.as_slice(), 1_000_000)?.0,
         Outcome::Sat

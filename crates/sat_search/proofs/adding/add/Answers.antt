@@ -1,4 +1,4 @@
-use Rattle.std.proofs.Common.{◌≡◌, ℕ, ◌+◌, ◌<◌, ◌≤◌, List, ◌++◌, ◌∷◌, [], subst, sym, arith, ◌∙◌, ap, All}
+use Rattle.std.proofs.Common.{◌≤◌, subst, sym, arith, All}
 use Rattle.std.proofs.lemmas.List.Elements.{All-push, All-weaker}
 use Rattle.cnf_core.specs.Literal.{Literal, VariablesUpTo}
 use Rattle.sat_search.specs.Analysis.{AreInRange}

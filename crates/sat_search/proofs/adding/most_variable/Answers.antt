@@ -1,4 +1,4 @@
-use Rattle.std.proofs.Common.{◌≡◌, ℕ, ◌+◌, ◌<◌, ◌≤◌, List, take, length, get_or, max, subst, sym, arith, ◌∙◌, ap, All}
+use Rattle.std.proofs.Common.{◌≡◌, ◌≤◌, take, get_or, subst, arith, ◌∙◌, ap}
 use Rattle.std.proofs.lemmas.List.{take_all}
 use Rattle.std.proofs.lemmas.List.Elements.{All-more, All-weaker}
 use Rattle.cnf_core.specs.Literal.{Literal}

@@ -1,5 +1,4 @@
 use Rattle.std.proofs.Common.{refl, arith}
-use Rattle.cnf_core.specs.Literal.{Literal}
 use Rattle.sat_state.specs.Trail.{literals}
 use Rattle.sat_search.proofs.Tracing.{free_below}
 use Rattle.sat_search.proofs.learning.cut_at.Goals as goal

@@ -1,4 +1,4 @@
-use Rattle.std.proofs.Common.{◌-◌, arith, ap, length, ◌≤◌, ◌<◌}
+use Rattle.std.proofs.Common.{◌-◌, arith, ap, length}
 use Rattle.sat_search.proofs.Trails.{decision_read}
 use Rattle.sat_search.proofs.learning.decision_below.Goals as goal
 

@@ -1,6 +1,6 @@
-use Rattle.std.proofs.Common.{◌≡◌, ℕ, List, Bool, [], length, sym, ap, refl, arith}
+use Rattle.std.proofs.Common.{length, arith}
 use Rattle.sat_state.specs.Trail.{literals}
-use Rattle.sat_search.proofs.Tracing.{traced_conflict, explained}
+use Rattle.sat_search.proofs.Tracing.{traced_conflict}
 use Rattle.sat_search.proofs.Counting.{count_unmarked}
 use Rattle.sat_search.proofs.learning.explain.Goals as goal
 

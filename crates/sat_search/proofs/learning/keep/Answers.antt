@@ -1,4 +1,4 @@
-use Rattle.std.proofs.Common.{◌≡◌, ℕ, ◌+◌, ◌-◌, ◌<◌, ◌≤◌, ◌++◌, ◌∷◌, List, Bool, Option, [], take, length, get_or, subst, sym, arith, ◌∙◌, ap, refl, Some, None, inr, true}
+use Rattle.std.proofs.Common.{◌≡◌, ◌+◌, ◌-◌, ◌≤◌, ◌++◌, ◌∷◌, List, Option, [], get_or, subst, arith, ◌∙◌, ap, refl, inr, true}
 use Rattle.std.specs.Option.{option_map_or}
 use Rattle.cnf_core.specs.Literal.{Literal, negation}
 use Rattle.sat_state.specs.Trail.{literals}

@@ -1,8 +1,8 @@
-use Rattle.std.proofs.Common.{◌≡◌, ℕ, ◌+◌, ◌-◌, ◌<◌, ◌≤◌, List, Bool, true, [], take, length, get_or, refl, subst, sym, arith, ◌∙◌, ap, Some, None}
+use Rattle.std.proofs.Common.{◌≡◌, ℕ, ◌+◌, ◌-◌, ◌<◌, ◌≤◌, List, true, take, length, refl, subst, sym, arith, ◌∙◌, ap, Some}
 use Rattle.std.specs.Prelude.{Contains}
 use Rattle.cnf_core.specs.Literal.{Literal}
-use Rattle.sat_state.specs.Trail.{HasReason, literals}
-use Rattle.sat_search.specs.Analysis.{IsTraced, is_marked, KeepsMore, count_marked, CountsMarks, IsUnmarkedBetween}
+use Rattle.sat_state.specs.Trail.{HasReason}
+use Rattle.sat_search.specs.Analysis.{IsTraced, is_marked, count_marked, CountsMarks, IsUnmarkedBetween}
 use Rattle.sat_search.proofs.Trails.{reason_read}
 use Rattle.sat_search.proofs.Tracing.{traced_down, traced_skip, traced_keep, traced_resolve, keeps_push, in_front}
 use Rattle.sat_search.proofs.Counting.{count_taken, count_below, none_counted}

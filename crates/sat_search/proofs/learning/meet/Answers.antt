@@ -1,4 +1,4 @@
-use Rattle.std.proofs.Common.{rules, ◌≡◌, ℕ, ◌+◌, List, Bool, sym, arith, ◌∙◌}
+use Rattle.std.proofs.Common.{rules, ◌≡◌, ◌+◌, sym, arith, ◌∙◌}
 use Rattle.sat_search.proofs.Marking.{marked_already}
 use Rattle.sat_search.proofs.Counting.{counts_one}
 use Rattle.sat_search.proofs.learning.meet.Goals as goal

@@ -1,4 +1,4 @@
-use Rattle.std.proofs.Common.{◌≡◌, ℕ, ◌+◌, ◌-◌, ◌<◌, ◌≤◌, List, Bool, true, [], take, length, get_or, subst, sym, arith, ◌∙◌, ap, Some, None}
+use Rattle.std.proofs.Common.{◌≡◌, ℕ, ◌+◌, ◌-◌, ◌<◌, ◌≤◌, List, true, [], take, length, get_or, subst, sym, arith, ◌∙◌, ap, Some}
 use Rattle.cnf_core.specs.Literal.{Literal}
 use Rattle.sat_state.specs.Trail.{HasReason, literals}
 use Rattle.sat_search.specs.Analysis.{IsTraced, is_marked, count_marked, CountsMarks}

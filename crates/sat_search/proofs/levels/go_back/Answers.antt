@@ -1,4 +1,3 @@
-use Rattle.std.proofs.Common.{◌≡◌, ℕ, ◌≤◌, subst, sym, arith}
 use Rattle.sat_search.proofs.GoingBack.{filter_contained}
 use Rattle.sat_search.proofs.levels.go_back.Goals as goal
 

@@ -1,4 +1,4 @@
-use Rattle.std.proofs.Common.{◌≡◌, ℕ, ap, ◌∙◌, subst, sym, inl, refl, arith, max, min}
+use Rattle.std.proofs.Common.{ap, ◌∙◌, subst, max}
 use Rattle.sat_search.specs.Analysis.{IsFrom}
 use Rattle.sat_search.proofs.GoingBack.{one_after, two_after}
 use Rattle.sat_search.proofs.levels.second_level.Goals as goal

@@ -1,4 +1,4 @@
-use Rattle.std.proofs.Common.{◌≡◌, ◌≤◌, ◌⊎◌, take}
+use Rattle.std.proofs.Common.{◌≡◌, ◌⊎◌, take}
 use Rattle.sat_search.specs.Analysis.{HasTwoFrom}
 use Rattle.sat_search.proofs.GoingBack.{HasOneFrom}
 use Rattle.sat_search.proofs.levels.second_level.Given as goal

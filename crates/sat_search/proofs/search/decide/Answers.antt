@@ -1,4 +1,4 @@
-use Rattle.std.proofs.Common.{◌≡◌, ℕ, ◌+◌, None, false, sym, ap, subst, ◌∙◌, IsSome}
+use Rattle.std.proofs.Common.{ℕ, ◌+◌, None, ap, subst, IsSome}
 use Rattle.cnf_core.specs.Literal.{Literal}
 use Rattle.sat_state.specs.Trail.{literals, value_of, level_of}
 use Rattle.sat_search.proofs.Values.{stays_decided, value_decided}

@@ -1,4 +1,4 @@
-use Rattle.std.proofs.Common.{◌≡◌, ℕ, ◌+◌, ◌∙◌, sym, arith}
+use Rattle.std.proofs.Common.{◌∙◌, sym, arith}
 use Rattle.sat_search.proofs.Values.{values_more}
 use Rattle.sat_search.proofs.search.decide_rest.Goals as goal
 

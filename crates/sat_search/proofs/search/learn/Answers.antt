@@ -1,10 +1,8 @@
-use Rattle.std.proofs.Common.{◌≡◌, ℕ, ◌+◌, ◌<◌, ◌≤◌, ◌++◌, ◌∷◌, [], List, length, vec_len, sym, ap, subst, ◌∙◌, arith, eqb, true, false}
+use Rattle.std.proofs.Common.{◌≡◌, ◌<◌, length, sym, ap, ◌∙◌, arith}
 use Rattle.std.proofs.lemmas.Bool.{eqb-true, eqb-false}
-use Rattle.cnf_core.specs.Events.{LogEvent, LogState, clauses_of, nonempty_steps, step}
-use Rattle.sat_search.specs.Analysis.{AreInRange}
-use Rattle.sat_search.specs.Logs.{with_step}
+use Rattle.cnf_core.specs.Events.{LogState, nonempty_steps}
 use Rattle.sat_search.proofs.Learnt.{learnt_range}
-use Rattle.sat_search.proofs.Continued.{continued_or, continued_step, count_some, count_none, ends_empty}
+use Rattle.sat_search.proofs.Continued.{continued_or, count_some, count_none, ends_empty}
 use Rattle.sat_search.proofs.search.learn.Goals as goal
 
 pub append-requires-clause-range : goal.append-requires-clause-range

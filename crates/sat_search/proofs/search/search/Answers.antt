@@ -1,4 +1,4 @@
-use Rattle.std.proofs.Common.{◌≡◌, ℕ, ◌∙◌, refl, subst}
+use Rattle.std.proofs.Common.{refl, subst}
 use Rattle.cnf_core.specs.Steps.{IsAtEnd}
 use Rattle.sat_state.specs.Trail.{literals}
 use Rattle.sat_search.proofs.Values.{satisfies_givens}

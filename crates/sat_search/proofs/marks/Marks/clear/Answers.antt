@@ -1,4 +1,3 @@
-use Rattle.std.proofs.Common.{◌≡◌, ℕ}
 use Rattle.sat_search.proofs.Counting.{none_marked}
 use Rattle.sat_search.proofs.marks.Marks.clear.Goals as goal
 

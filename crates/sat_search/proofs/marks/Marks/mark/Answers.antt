@@ -1,4 +1,4 @@
-use Rattle.std.proofs.Common.{◌≡◌, ℕ, Bool, true, List, map, set, eqb, refl, ap, ◌∙◌}
+use Rattle.std.proofs.Common.{ℕ, Bool, true, List, map, set, eqb, refl, ap, ◌∙◌}
 use Rattle.std.proofs.lemmas.Bool.{eq-eqb}
 use Rattle.std.proofs.lemmas.List.{map-set}
 use Rattle.sat_search.proofs.marks.Marks.mark.Goals as goal

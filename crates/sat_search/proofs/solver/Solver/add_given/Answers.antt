@@ -1,4 +1,4 @@
-use Rattle.std.proofs.Common.{sym, ap, subst}
+use Rattle.std.proofs.Common.{sym, subst}
 use Rattle.cnf_core.specs.Events.{LogState}
 use Rattle.sat_search.specs.Logs.{IsSound}
 use Rattle.sat_search.proofs.Continued.{sound_given}

@@ -1,4 +1,4 @@
-use Rattle.std.proofs.Common.{◌≡◌, sym, ap, subst}
+use Rattle.std.proofs.Common.{◌≡◌}
 use Rattle.sat_search.specs.declared.outcome.Outcome.TheVariants.{Spent}
 use Rattle.sat_search.proofs.Continued.{spent_few}
 use Rattle.sat_search.proofs.solver.Solver.solve.Goals as goal
