@@ -104,7 +104,7 @@ fn logs_of_searches_are_accepted(rt: HostRuntime) -> Result<(), Fail> {
     assert_refuted(&rt, alloc, &pigeons(alloc, 4, 3)?)?;
     assert_refuted(&rt, alloc, &pigeons(alloc, 7, 6)?)?;
     assert_refuted(&rt, alloc, &drawn(alloc, 6)?)?;
-    assert_satisfied(&rt, alloc, &drawn(alloc, 18)?)?;
+    assert_satisfied(&rt, alloc, &drawn(alloc, 13)?)?;
     assert_satisfied(&rt, alloc, &latin_square(alloc)?)
 }
 
