@@ -1,14 +1,13 @@
 -- How the tokens of an expression begin, and what may stand behind its first token.
-use Rattle.std.specs.Prelude.{◌≡◌, ℕ, zero, suc, ◌+◌, ◌<◌, max, Bool, true, false, not, ◌&&◌, ◌||◌, ◌⊎◌, if◌then◌else◌, List, [], ◌∷◌, ◌++◌, bytes_eq, codes, refl}
-use Rattle.std.proofs.Common.{ap, arith, inl, inr, subst, sym, ◌∙◌}
+use Rattle.std.specs.Prelude.{◌≡◌, ℕ, zero, suc, ◌+◌, ◌<◌, max, Bool, true, false, ◌&&◌, ◌||◌, ◌⊎◌, if◌then◌else◌, List, [], ◌∷◌, ◌++◌, bytes_eq, codes, refl}
+use Rattle.std.proofs.Common.{ap, arith, inl, inr, ◌∙◌}
 use Rattle.std.proofs.lemmas.Bool.{false≢true}
 use Rattle.std.proofs.Math.Nat.{le-max_left}
 use Rattle.ep_base.specs.declared.operators.CompareOp.{CompareOp}
 use Rattle.ep_base.specs.declared.operators.LexOp.{LexOp}
-use Rattle.ep_base.specs.declared.places.Place.{Place}
 use Rattle.ep_tree.proofs.Opened.{the_language}
 use Rattle.ep_tree.specs.Heights.{height}
-use Rattle.ep_tree.specs.Phrases.{From, Is, Lexeme, Phrase, Saying, When, a_name, a_number, a_word, ◌followed_by◌}
+use Rattle.ep_tree.specs.Phrases.{Is, Lexeme, Phrase, Saying, When, a_name, a_number, a_word, ◌followed_by◌}
 use Rattle.ep_tree.specs.Spelling.{DomainLevel, Level, Spells, SpellsDomain, compare_word, fold_word, implications, lex_word, powers, products, quantifier_word, reads, sign_word, sums, unaries, comparisons, conjunctions, disjunctions}
 use Rattle.ep_tree.specs.Trees.{DomainTree, ExprTree, absolute, all_different, all_of, any_of, at_least, at_most, binary, bool, chain, compare, comprehension, every_and, factorial, flatten, folded, gcc, group, group_domain, in_domain, in_set, index_and, int, lex, literal, matrix_domain, minus, named, named_domain, negation, no_indices, no_terms, no_trees, number, quantified, ranges, read, set_domain, table, term_and, to_int, tree_and, truth}
 use Rattle.ep_tree.specs.declared.syntax.BinaryOp.{BinaryOp}
@@ -322,12 +321,12 @@ opening asked (comprehension p e gens conditions d) (t ∷ ts) h =
 opening asked (read p a no_indices) [] h = absurd h.1
 opening asked (read p a no_indices) (t ∷ ts) h =
     absurd h.1.1.4.4
-opening asked (read p a (every_and indices)) [] h = absurd h.1
-opening asked (read p a (every_and indices)) (t ∷ ts) h =
+opening asked (read p a (every_and _)) [] h = absurd h.1
+opening asked (read p a (every_and _)) (t ∷ ts) h =
     by-part reads a _ (codes "[") _ _ (t ∷ ts) h.1.1 refl refl
     (λ us g. word-filled (codes "..") _ us g) (left _ _)
-opening asked (read p a (index_and b indices)) [] h = absurd h.1
-opening asked (read p a (index_and b indices)) (t ∷ ts) h =
+opening asked (read p a (index_and b _)) [] h = absurd h.1
+opening asked (read p a (index_and b _)) (t ∷ ts) h =
     by-part reads a _ (codes "[") _ _ (t ∷ ts) h.1.1 refl refl
     (λ us g. part-filled _ _ us g (λ vs k. opening-filled _ vs (opening implications b vs k))) (left _ _)
 opening asked (folded p op m) [] h = absurd h.1

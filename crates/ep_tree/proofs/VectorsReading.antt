@@ -1,14 +1,18 @@
 -- How far tokens go well, and which fault stands where they don't, checked.
-use Rattle.std.specs.Prelude.{◌≡◌, ℕ, true, false, ◌<◌, ◌≤◌, List, [], ◌∷◌, ◌++◌, take, pos, Bool, codes, refl}
+use Rattle.std.specs.Prelude.{◌≡◌, ℕ, Bool, true, false, List, [], ◌∷◌, ◌++◌, take, drop, pos, codes, refl}
 use Rattle.std.proofs.Common.{ap, arith, inl, inr, sym, ◌∙◌}
 use Rattle.std.proofs.lemmas.Bool.{false≢true}
+use Rattle.ep_base.specs.declared.operators.Sense.{Sense}
 use Rattle.ep_base.specs.declared.places.Place.{Place}
+use Prim.Native.String.{String}
 use Rattle.ep_tree.proofs.Opened.{the_language}
-use Rattle.ep_tree.proofs.Openings.{bangs-below, begins, begins_well, goes_on}
+use Rattle.ep_tree.proofs.Openings.{bangs-below, begins, begins_well, one_of, says_one}
 use Rattle.ep_tree.specs.Heights.{height}
-use Rattle.ep_tree.specs.Phrases.{Lexeme, Phrase, Saying, a_name, a_number, a_word}
-use Rattle.ep_tree.specs.Reading.{Begins, BeginsWithin, IsSyntaxFault, IsTooHigh, MOST_HEIGHT, Reads, Stops}
+use Rattle.ep_tree.specs.Phrases.{Is, Lexeme, Phrase, Saying, a_name, a_number, a_word, ◌followed_by◌}
+use Rattle.ep_tree.specs.Reading.{IsSyntaxFault, IsTextFault, IsTooHigh, MOST_HEIGHT, Reads, ReadsWhole}
 use Rattle.ep_tree.specs.Spelling.{Spells, implications}
+use Rattle.ep_tree.specs.StatementSpelling.{LanguageLine, SpellsModel, SpellsParams, SpellsSense, SpellsStatement, SpellsStatements}
+use Rattle.ep_tree.specs.Statements.{StatementTree, TextTree, branching, constraints, decided, domain_letting, given, heuristic, letting, objective, requirements, text_height}
 use Rattle.ep_tree.specs.Trees.{ExprTree, chain, named, negation, no_terms, number, term_and}
 
 abbrev at : ℕ → ℕ → Place
@@ -164,4 +168,188 @@ not_not-reads = record {
   };
   spelled = not_not-spelled;
   low = omega arith;
+}
+
+-- ---- whole texts
+
+-- the words that begin a statement
+abbrev statement_words : List (List ℕ)
+statement_words =
+    codes "given" ∷ codes "find" ∷ codes "letting" ∷ codes "where" ∷ codes "such" ∷ codes "minimising"
+    ∷ codes "minimizing" ∷ codes "maximising" ∷ codes "maximizing" ∷ codes "branching" ∷ codes "heuristic" ∷ []
+
+-- whether the first token is one of some words
+abbrev first_is : List (List ℕ) → List Lexeme → Bool
+first_is words [] = false
+first_is words (t ∷ ts) = says_one words t.saying
+
+-- whether there is no token, or the first begins a statement
+abbrev begins_statements : List Lexeme → Bool
+begins_statements [] = true
+begins_statements (t ∷ ts) = says_one statement_words t.saying
+
+one-word : (words : List (List ℕ)) (word : List ℕ) (tokens : List Lexeme) → Is (a_word word) tokens → one_of words word ≡ true → first_is words tokens ≡ true
+one-word words word tokens h e = ap (first_is words) h.1 ∙ e
+
+first-front : (words : List (List ℕ)) (front back : List Lexeme) → first_is words front ≡ true → first_is words (front ++ back) ≡ true
+first-front words [] back h = absurd cc
+first-front words (t ∷ ts) back h = h
+
+first-part : (words : List (List ℕ)) (first rest : Phrase) (tokens : List Lexeme) → (first followed_by rest) tokens → ((front : List Lexeme) → first front → first_is words front ≡ true) → first_is words tokens ≡ true
+first-part words first rest tokens h begin = ap (first_is words) h.2 ∙ first-front words h.0 h.1 (begin h.0 h.3)
+
+sense-begins : (sense : Sense) (tokens : List Lexeme) → SpellsSense sense tokens → first_is statement_words tokens ≡ true
+unfolding SpellsSense
+sense-begins Sense.Minimising tokens (inl h) = one-word statement_words (codes "minimising") tokens h refl
+sense-begins Sense.Minimising tokens (inr h) = one-word statement_words (codes "minimizing") tokens h refl
+sense-begins Sense.Maximising tokens (inl h) = one-word statement_words (codes "maximising") tokens h refl
+sense-begins Sense.Maximising tokens (inr h) = one-word statement_words (codes "maximizing") tokens h refl
+
+statement-begins : (s : StatementTree) (tokens : List Lexeme) → SpellsStatement s tokens → first_is statement_words tokens ≡ true
+unfolding SpellsStatement
+statement-begins (given p groups) [] h = absurd h
+statement-begins (given p groups) (t ∷ ts) h =
+    first-part statement_words _ _ (t ∷ ts) h.1 (λ front k. one-word statement_words (codes "given") front k refl)
+statement-begins (decided p groups) [] h = absurd h
+statement-begins (decided p groups) (t ∷ ts) h =
+    first-part statement_words _ _ (t ∷ ts) h.1 (λ front k. one-word statement_words (codes "find") front k refl)
+statement-begins (letting p name q d e) [] h = absurd h
+statement-begins (letting p name q d e) (t ∷ ts) h =
+    first-part statement_words _ _ (t ∷ ts) h.1 (λ front k. one-word statement_words (codes "letting") front k refl)
+statement-begins (domain_letting p name q d) [] h = absurd h
+statement-begins (domain_letting p name q d) (t ∷ ts) h =
+    first-part statement_words _ _ (t ∷ ts) h.1 (λ front k. one-word statement_words (codes "letting") front k refl)
+statement-begins (requirements p es) [] h = absurd h
+statement-begins (requirements p es) (t ∷ ts) h =
+    first-part statement_words _ _ (t ∷ ts) h.1 (λ front k. one-word statement_words (codes "where") front k refl)
+statement-begins (constraints p es) [] h = absurd h
+statement-begins (constraints p es) (t ∷ ts) h =
+    first-part statement_words _ _ (t ∷ ts) h.1 (λ front k. one-word statement_words (codes "such") front k refl)
+statement-begins (objective p sense e) [] h = absurd h
+statement-begins (objective p sense e) (t ∷ ts) h =
+    first-part statement_words _ _ (t ∷ ts) h.1 (λ front k. sense-begins sense front k)
+statement-begins (branching p names) [] h = absurd h
+statement-begins (branching p names) (t ∷ ts) h =
+    first-part statement_words _ _ (t ∷ ts) h.1 (λ front k. one-word statement_words (codes "branching") front k refl)
+statement-begins (heuristic p name) [] h = absurd h
+statement-begins (heuristic p name) (t ∷ ts) h =
+    first-part statement_words _ _ (t ∷ ts) h.1 (λ front k. one-word statement_words (codes "heuristic") front k refl)
+
+statements-begin : (text : TextTree) (tokens : List Lexeme) → SpellsStatements text tokens → begins_statements tokens ≡ true
+unfolding SpellsStatements
+statements-begin [] tokens h = ap begins_statements h
+statements-begin (s ∷ text) [] h = refl
+statements-begin (s ∷ text) (t ∷ ts) h = first-part statement_words _ _ (t ∷ ts) h (λ front k. statement-begins s front k)
+
+-- the language line, token by token
+line-tokens : (front : List Lexeme) → LanguageLine front → (one : Lexeme) × (two : Lexeme) × (three : Lexeme) × (four : Lexeme) × (five : Lexeme) × (front ≡ one ∷ two ∷ three ∷ four ∷ five ∷ [])
+line-tokens front h =
+    let word : String → Place → Lexeme = λ w p. record { place = p; saying = a_word (codes w) } in
+    let one : Lexeme = word "language" h.3.0 in
+    let two : Lexeme = word "ESSENCE'" h.4.3.0 in
+    let three : Lexeme = record { place = h.4.4.3.0; saying = a_number (pos 1) } in
+    let four : Lexeme = word "." h.4.4.4.3.0 in
+    let five : Lexeme = record { place = h.4.4.4.4.0; saying = a_number (pos 0) } in (
+      one,
+      two,
+      three,
+      four,
+      five,
+      h.2 ∙ ap (λ x. x ++ h.1) h.3.1
+          ∙ ap (λ x. one ∷ x) (h.4.2 ∙ ap (λ x. x ++ h.4.1) h.4.3.1)
+          ∙ ap (λ x. one ∷ two ∷ x) (h.4.4.2 ∙ ap (λ x. x ++ h.4.4.1) h.4.4.3.1)
+          ∙ ap (λ x. one ∷ two ∷ three ∷ x) (h.4.4.4.2 ∙ ap (λ x. x ++ h.4.4.4.1) h.4.4.4.3.1)
+          ∙ ap (λ x. one ∷ two ∷ three ∷ four ∷ x) h.4.4.4.4.1,
+    )
+
+-- a model begins with `language`, and behind its language line stand no tokens or those of a statement
+model-begins : (text : TextTree) (tokens : List Lexeme) → SpellsModel text tokens → (first_is (codes "language" ∷ []) tokens ≡ true) × (begins_statements (drop 5 tokens) ≡ true)
+unfolding SpellsModel
+model-begins text tokens h =
+    let line = line-tokens h.1.0 h.1.3 in
+    let cut : drop 5 tokens ≡ h.1.1 = ap (drop 5) (h.1.2 ∙ ap (λ x. x ++ h.1.1) line.5) in (
+      first-part (codes "language" ∷ []) _ _ tokens h.1 (λ front k. first-part (codes "language" ∷ []) _ _ front k (λ f i. one-word (codes "language" ∷ []) (codes "language") f i refl)),
+      ap begins_statements cut ∙ statements-begin text h.1.1 h.1.4,
+    )
+
+-- `language ESSENCE' 1.0`
+abbrev language_line : List Lexeme
+language_line =
+    token 1 1 (a_word (codes "language"))
+    ∷ token 1 10 (a_word (codes "ESSENCE'"))
+    ∷ token 1 19 (a_number (pos 1))
+    ∷ token 1 20 (a_word (codes "."))
+    ∷ token 1 21 (a_number (pos 0)) ∷ []
+
+line-spelled : SpellsModel [] language_line
+unfolding the_language
+line-spelled =
+    let part : ℕ → ℕ → List Lexeme = λ from count. take count (drop from language_line) in
+    (refl, (language_line, [], refl, (part 0 1, part 1 4, refl, (at 1 1, refl), (part 1 1, part 2 3, refl, (at 1 10, refl), (part 2 1, part 3 2, refl, (at 1 19, refl), (part 3 1, part 4 1, refl, (at 1 20, refl), (at 1 21, refl))))), refl))
+
+-- a model without a statement
+line-reads : ReadsWhole SpellsModel MOST_HEIGHT language_line []
+unfolding the_language
+line-reads = record { spelled = line-spelled; low = omega arith }
+
+-- a model has a language line: without a token, the fault stands at the end
+no_model : IsTextFault SpellsModel MOST_HEIGHT [] 0
+unfolding text_height
+no_model = record {
+  stops = record {
+    within = omega arith;
+    before = ([], language_line, omega arith, line-spelled);
+    after = λ beyond _. absurd (omega (arith, beyond));
+  };
+  no_higher = record {
+    within = omega arith;
+    before = ([], language_line, line-spelled);
+    after = λ beyond _. absurd (omega (arith, beyond));
+  };
+  incomplete = λ _ text h. false≢true (model-begins text [] h).0;
+}
+
+-- a parameter text may have none
+no_params : ReadsWhole SpellsParams MOST_HEIGHT [] []
+unfolding the_language
+no_params = record { spelled = (refl, ([], [], refl, inr refl, refl)); low = omega arith }
+
+-- no statement before the language line: `find`
+abbrev early_find : List Lexeme
+early_find = token 1 1 (a_word (codes "find")) ∷ []
+
+early_find-fault : IsTextFault SpellsModel MOST_HEIGHT early_find 0
+unfolding text_height
+early_find-fault = record {
+  stops = record {
+    within = omega arith;
+    before = ([], language_line, omega arith, line-spelled);
+    after = λ _ b. false≢true (model-begins b.0 (early_find ++ b.1) b.3).0;
+  };
+  no_higher = record {
+    within = omega arith;
+    before = ([], language_line, line-spelled);
+    after = λ _ b. false≢true (model-begins b.0 (early_find ++ b.1) b.2).0;
+  };
+  incomplete = λ short _ _. absurd (omega (arith, short));
+}
+
+-- no statement begins with `)`
+abbrev line_closing : List Lexeme
+line_closing = language_line ++ token 2 1 (a_word (codes ")")) ∷ []
+
+line_closing-fault : IsTextFault SpellsModel MOST_HEIGHT line_closing 5
+unfolding text_height
+line_closing-fault = record {
+  stops = record {
+    within = omega arith;
+    before = ([], [], omega arith, line-spelled);
+    after = λ _ b. false≢true (model-begins b.0 (line_closing ++ b.1) b.3).1;
+  };
+  no_higher = record {
+    within = omega arith;
+    before = ([], [], line-spelled);
+    after = λ _ b. false≢true (model-begins b.0 (line_closing ++ b.1) b.2).1;
+  };
+  incomplete = λ short _ _. absurd (omega (arith, short));
 }
