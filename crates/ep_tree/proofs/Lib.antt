@@ -10,6 +10,8 @@ mod VectorsMeasures
 mod VectorsBinding
 mod VectorsSolutions
 mod VectorsSpelling
+pub mod Openings
+mod VectorsReading
 pub mod NumberLaws
 pub mod DomainLaws
 pub mod ClosedDomains
