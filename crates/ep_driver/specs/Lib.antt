@@ -9,4 +9,3 @@ pub mod Finds
 pub mod Compiled
 pub mod Outcomes
 pub mod Replies
-pub mod Laws

@@ -16,6 +16,6 @@ mod tests;
 mod texts;
 mod top;
 
-pub use laws::early_models_bind;
+pub use laws::early_texts_bind;
 pub use status::Status;
 pub use top::run;

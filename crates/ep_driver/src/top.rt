@@ -1,6 +1,6 @@
 //! The top call.
 
-ghost use Rattle.std.specs.Prelude.{◌≡◌, ◌≢◌, ◌⊎◌, ◌≤◌, ℕ, List, IfSome, IsSomeAnd};
+ghost use Rattle.std.specs.Prelude.{◌≡◌, ◌≢◌, ◌⊎◌, ◌≤◌, ℕ, List, IfSome, IsSomeAnd, codes};
 ghost use Rattle.ep_base.specs.Outside.{Held, Rose, with_more};
 ghost use Rattle.ep_tree.specs.Binding.{Instance};
 ghost use Rattle.ep_tree.specs.Statements.{TextTree};
@@ -38,6 +38,8 @@ pub fn run<R: Threads, F: Files, K: Sink>(
         (line : List ℕ) × Refuses words.now held result line
         × (K.taken out.new ≡ with_more line (K.taken out.old))) }
     ensures usage { result ≡ Status.Usage → AreNoCommand words.now }
+    ensures usage_line { result ≡ Status.Usage →
+        K.taken out.new ≡ with_more (codes "fault usage\n") (K.taken out.old) }
 
     // A failure is one that a device counted in this call, or the named file isn't held.
     ensures device { result ≡ Status.Device →

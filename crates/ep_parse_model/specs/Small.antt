@@ -1,5 +1,5 @@
--- Bounds on the numbers of an early model, on the lengths of its sums and on the groups of its statements: so each value
--- fits well into 64 bits, and no limit of the language is passed.
+-- Bounds on the numbers of the early forms, on the lengths of their sums and on the groups of a statement: so each value
+-- fits well into 64 bits, and binding passes no limit. They say nothing of other forms.
 use Rattle.std.specs.Prelude.{ℕ, suc, ◌<◌, ◌≤◌, ℤ, pos, negsuc, length}
 use Rattle.std.specs.List.{AllByRecursion}
 use Rattle.ep_tree.specs.Statements.{Group, StatementTree, TextTree, constraints, decided}
@@ -17,7 +17,7 @@ term_count no_terms = 0
 term_count (term_and _ e terms) = suc (term_count terms)
 
 unfoldable mutual
-  -- each number is small, and no chain has more terms than an early text has bytes
+  -- in an early clause or bound each number is small, and no chain has more terms than an early text has bytes
   pub IsSmall : ExprTree → Type 0
   IsSmall (number _ n) = IsSmallNumber n
   IsSmall (minus _ e) = IsSmall e
@@ -35,7 +35,7 @@ unfoldable pub IsSmallEnd : End → Type 0
 IsSmallEnd (end_at e) = IsSmall e
 IsSmallEnd _ = Unit {0}
 
--- the same of each end of some ranges
+-- the same of each end of early ranges
 unfoldable pub AreSmallRanges : Ranges → Type 0
 AreSmallRanges (span_and a b rs) = IsSmallEnd a × IsSmallEnd b × AreSmallRanges rs
 AreSmallRanges _ = Unit {0}
@@ -55,6 +55,6 @@ IsSmallStatement (decided _ groups) = (length groups ≤ MOST_EARLY_BYTES) × Al
 IsSmallStatement (constraints _ clauses) = AllByRecursion IsSmall clauses
 IsSmallStatement _ = Unit {0}
 
--- each number of the model is small, no chain is long, and no statement has many groups
+-- in an early model each number is small, no chain is long, and no statement has many groups
 abbrev pub IsSmallModel : TextTree → Type 0
 IsSmallModel model = AllByRecursion IsSmallStatement model
