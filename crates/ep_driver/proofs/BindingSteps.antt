@@ -1,15 +1,15 @@
 -- An early model with small numbers asks for an instance: its decision variables and its clauses.
-use Rattle.std.proofs.Common.{◌≡◌, ℕ, ◌+◌, ℤ, neg_ℤ, Bool, true, false, ◌&&◌, ◌||◌, int_le, List, [], ◌∷◌, ◌++◌, map, Option, Some, None, Ok, Err, Result, unwrap_or, option_map, refl, sym, ap, subst, ◌∙◌}
+use Rattle.std.proofs.Common.{◌≡◌, ℤ, neg_ℤ, Bool, true, false, ◌&&◌, ◌||◌, int_le, List, [], ◌∷◌, ◌++◌, map, Option, Some, None, Ok, unwrap_or, option_map, refl, sym, ap, ◌∙◌}
 use Rattle.std.specs.List.{flat_map, list_all, AllByRecursion}
 use Rattle.std.proofs.lemmas.List.{append-nil, append_assoc}
 use Rattle.ep_base.specs.declared.places.Place.{Place}
-use Rattle.ep_tree.specs.Binding.{Find, Instance, Progress, Refusal, Shape, above_end, and_next, below_end, bind, bind_params, bind_statement, bind_statements, bound_finds, element_values, elements_pass, group_finds, index_domains, or_refuse, ranges_pass, shape_of, unless_any}
+use Rattle.ep_tree.specs.Binding.{Find, Progress, Shape, above_end, and_next, below_end, bind, bind_params, bind_statement, bind_statements, bound_finds, element_values, elements_pass, group_finds, index_domains, or_refuse, ranges_pass, shape_of, unless_any}
 use Rattle.ep_tree.specs.Domains.{between}
-use Rattle.ep_tree.specs.Environments.{Env, context_of, scalar_in}
+use Rattle.ep_tree.specs.Environments.{Env, scalar_in}
 use Rattle.ep_tree.specs.Evaluation.{domain_values, evaluate, number_in, on_both, on_three}
 use Rattle.ep_tree.specs.Names.{nothing_known}
 use Rattle.ep_tree.specs.Statements.{Group, StatementTree, TextTree, constraints, decided}
-use Rattle.ep_tree.specs.Trees.{DomainTree, End, ExprTree, Ranges, end_at, minus, no_ranges, number, ranges, span_and}
+use Rattle.ep_tree.specs.Trees.{DomainTree, ExprTree, Ranges, end_at, minus, no_ranges, number, ranges, span_and}
 use Rattle.ep_tree.specs.Types.{from_all, from_many, gives, is_integer, judge_domain, scalar_of, type_from}
 use Rattle.ep_tree.specs.Values.{single}
 use Rattle.ep_tree.specs.declared.values.Mode.{Mode}

@@ -1,5 +1,5 @@
 -- Steps of making flat clauses, and what they mean.
-use Rattle.std.proofs.Common.{◌≡◌, ℕ, zero, suc, ◌+◌, ◌<◌, ◌≤◌, ℤ, pos, ◌+ℤ◌, neg_ℤ, Contains, Bool, true, false, not, cond, nat_lt, List, [], ◌∷◌, ◌++◌, length, get_or, take, drop, map, Bor, Option, Some, None, option_map, Result, Ok, Err, IfOk, if◌then◌else◌, refl, sym, ap, subst, ◌∙◌, arith}
+use Rattle.std.proofs.Common.{◌≡◌, ℕ, zero, suc, ◌+◌, ◌<◌, ◌≤◌, ℤ, pos, ◌+ℤ◌, Contains, Bool, true, false, not, cond, nat_lt, List, [], ◌∷◌, ◌++◌, length, get_or, take, drop, map, Bor, Option, Some, None, option_map, Result, Ok, Err, IfOk, if◌then◌else◌, refl, sym, ap, subst, ◌∙◌, arith}
 use Rattle.std.specs.List.{list_any, AllZip, position, position_or_len}
 use Rattle.std.specs.Str.{bytes_eq}
 use Rattle.std.specs.declared.boxed.Box.{Box}
@@ -10,15 +10,15 @@ use Rattle.std.proofs.Math.Bool.{or-true}
 use Rattle.std.proofs.lemmas.Slice.Eq.{bytes_eq-Decides}
 use Rattle.std.proofs.lemmas.List.{drop_more, append-nil, append_assoc, drop_all, map_more}
 use Rattle.std.proofs.lemmas.Int.{ints}
-use Rattle.ep_base.specs.Numbers.{compare_holds, of_bool, sum_of}
+use Rattle.ep_base.specs.Numbers.{sum_of}
 use Rattle.ep_base.specs.declared.names.Name.{Name}
 use Rattle.ep_base.specs.declared.operators.CompareOp.{CompareOp}
 use Rattle.ep_base.specs.declared.places.Place.{Place}
 use Rattle.ep_tree.specs.Environments.{Bound, Env, has_value, value_bound}
 use Rattle.ep_tree.specs.Evaluation.{evaluate, number_in, on_both, signed, term_values, truth_in}
 use Rattle.ep_tree.specs.Names.{put_all}
-use Rattle.ep_tree.specs.Trees.{ExprTree, Terms, chain, compare, named, no_terms, term_and}
-use Rattle.ep_tree.specs.Values.{ValueTree, all_defined, single}
+use Rattle.ep_tree.specs.Trees.{ExprTree, Terms, chain, compare, no_terms, term_and}
+use Rattle.ep_tree.specs.Values.{all_defined, single}
 use Rattle.ep_tree.specs.Views.{expr_tree, kind_tree, terms_of}
 use Rattle.ep_tree.specs.declared.syntax.Expr.{Expr}
 use Rattle.ep_tree.specs.declared.syntax.Kind.{Kind, Named, Add, Compare}
@@ -30,7 +30,7 @@ use Rattle.ep_parse_model.specs.EarlyForms.{IsEarlyClause, IsOperand, AreOperand
 use Rattle.ep_driver.specs.declared.clauses.Operand.{Operand}
 use Rattle.ep_driver.specs.declared.clauses.Summand.{Summand}
 use Rattle.ep_driver.specs.declared.clauses.Clause.{Clause}
-use Rattle.ep_driver.specs.Clauses.{operand_value, summand_value, total, is_met, UsesBelow, SumUsesBelow}
+use Rattle.ep_driver.specs.Clauses.{operand_value, summand_value, total, UsesBelow, SumUsesBelow}
 use Rattle.ep_driver.specs.Compiled.{texts_of, env_of, OperandMeans, SumMeans, TermsMean, ClauseMeans, IsCompiled, AreCompiled, AddsCompiled}
 use Rattle.ep_driver.specs.Naming.{UsesOnly, TermsUseOnly}
 

@@ -1,19 +1,18 @@
 -- What the kinds of early trees are: each other kind of the code's trees has no early form.
-use Rattle.std.proofs.Common.{◌≡◌, ℤ, Bool, List, [], map, refl, sym, ap, subst, ◌∙◌}
-use Rattle.std.specs.List.{AllByRecursion, flat_map}
+use Rattle.std.proofs.Common.{◌≡◌, ℤ, Bool, List, [], map, refl, sym, ap, ◌∙◌}
+use Rattle.std.specs.List.{AllByRecursion}
 use Rattle.std.specs.declared.boxed.Box.{Box}
 use Rattle.std.specs.declared.vec.Vec.{Vec}
 use Rattle.std.specs.declared.alloc.Global.{Global}
 use Rattle.ep_base.specs.declared.names.Name.{Name}
 use Rattle.ep_base.specs.declared.operators.CompareOp.{CompareOp}
 use Rattle.ep_base.specs.declared.places.Place.{Place}
-use Rattle.ep_tree.specs.Binding.{Find}
-use Rattle.ep_tree.specs.Statements.{Group, StatementTree, constraints, decided}
+use Rattle.ep_tree.specs.Statements.{Group, constraints, decided}
 use Rattle.ep_tree.specs.Trees.{ExprTree}
 use Rattle.ep_tree.specs.Views.{kind_tree, domain_kind_tree, expr_tree, group_of, statement_kind_tree}
 use Rattle.ep_tree.specs.declared.statements.Declared.{Declared}
 use Rattle.ep_tree.specs.declared.statements.StatementKind.{StatementKind}
-use Rattle.ep_tree.specs.declared.statements.StatementKind.TheVariants.{Given, Find as FindStatement, Letting, LettingDomain, Where, SuchThat, Objective, Branching, Heuristic}
+use Rattle.ep_tree.specs.declared.statements.StatementKind.TheVariants.{Find as FindStatement, SuchThat}
 use Rattle.ep_tree.specs.declared.syntax.Expr.{Expr}
 use Rattle.ep_tree.specs.declared.syntax.Kind.{Kind, Number, Named, Neg, Neg', Add, Add', Compare, Compare', roll-Kind, roll-out-Kind}
 use Rattle.ep_tree.specs.declared.syntax.Kind.TheVariants.{outs-Add', rolls-Add}

@@ -1,5 +1,5 @@
 -- An early model with small numbers passes no limit: its domains meet few nodes, and each reaches a small number.
-use Rattle.std.proofs.Common.{◌≡◌, ℕ, zero, suc, ◌+◌, ◌*◌, ◌<◌, ◌≤◌, ℤ, pos, negsuc, neg_ℤ, ◌≤ℤ◌, false, nat_lt, int_lt, List, [], ◌∷◌, ◌++◌, length, map, Some, None, refl, sym, ap, subst, ◌∙◌, arith}
+use Rattle.std.proofs.Common.{◌≡◌, ℕ, zero, suc, ◌+◌, ◌*◌, ◌<◌, ◌≤◌, ℤ, pos, negsuc, neg_ℤ, ◌≤ℤ◌, false, nat_lt, int_lt, List, [], ◌∷◌, ◌++◌, length, map, Some, refl, sym, subst, arith}
 use Rattle.std.specs.List.{flat_map, fold, AllByRecursion}
 use Rattle.std.specs.Int.{int_max}
 use Rattle.std.proofs.lemmas.Bool.{false_from_ne_true, ltb-true}
@@ -10,7 +10,7 @@ use Rattle.ep_base.specs.declared.places.Place.{Place}
 use Rattle.ep_tree.specs.Binding.{MOST_REACH, MOST_SIZE, limits_passed, met_groups}
 use Rattle.ep_tree.specs.Environments.{Env}
 use Rattle.ep_tree.specs.Evaluation.{evaluate, number_in}
-use Rattle.ep_tree.specs.Measures.{Met, a_node, farthest_of, farthest_reach, met, met_domain, met_end, met_ranges, reaches_at, size_of}
+use Rattle.ep_tree.specs.Measures.{Met, a_node, farthest_of, farthest_reach, met, met_domain, met_end, reaches_at, size_of}
 use Rattle.ep_tree.specs.Reach.{Span, extent, farthest_end, fixed_extent, fixed_span, holds_decision, measured, spans_of, value_extent}
 use Rattle.ep_tree.specs.Statements.{Group}
 use Rattle.ep_tree.specs.Trees.{DomainTree, End, ExprTree, end_at, minus, no_ranges, number, ranges, span_and}
@@ -109,11 +109,13 @@ AreFew most ms = (length ms ≤ most) × AllByRecursion LowMet ms
 bound-met : (env : Env) (e : ExprTree) → IsBound e → IsSmall e → AreFew 2 (met Mode.Relational env e)
 unfolding IsBound IsNumber IsSmall met
 bound-met env (number p n) h s = (omega arith, (low-met (a_node env (number p n)) (fixed_span (Some n)) (reach-number env p n) (small-low n s), tt))
-bound-met env (minus p (number q n)) h s =
-    (omega arith, (
-      low-met (a_node env (minus p (number q n))) (fixed_span (Some (neg_ℤ n))) (reach-minus env p q n) (negated-low n s),
-      (low-met (a_node env (number q n)) (fixed_span (Some n)) (reach-number env q n) (small-low n s), tt),
-    ))
+bound-met env (minus p (number q n)) h s = (
+  omega arith,
+  (
+    low-met (a_node env (minus p (number q n))) (fixed_span (Some (neg_ℤ n))) (reach-minus env p q n) (negated-low n s),
+    (low-met (a_node env (number q n)) (fixed_span (Some n)) (reach-number env q n) (small-low n s), tt),
+  ),
+)
 bound-met env _ h s = absurd h
 
 end-met : (env : Env) (x : End) → IsClosedEnd x → IsSmallEnd x → AreFew 2 (met_end Mode.Relational env x)

@@ -11,7 +11,7 @@ use Rattle.ep_tree.specs.Faults.{Fault, IsWellFormed, after_groups, after_statem
 use Rattle.ep_tree.specs.Names.{nothing_known, put}
 use Rattle.ep_tree.specs.Statements.{Group, StatementTree, TextTree, constraints, decided}
 use Rattle.ep_tree.specs.Trees.{ExprTree, Terms, chain, compare, named, no_terms, number, term_and}
-use Rattle.ep_tree.specs.Types.{Context, Meaning, a_domain, a_value, from_one, gives, is_boolean, judge, judge_domain, type_from}
+use Rattle.ep_tree.specs.Types.{Context, Meaning, a_value, from_one, gives, is_boolean, judge, judge_domain, type_from}
 use Rattle.ep_parse_model.specs.EarlyForms.{AreOperands, HasEarlyForms, IsEarlyClause, IsEarlyStatement, IsOperand, IsSide}
 use Rattle.ep_driver.specs.declared.bounds.Bounds.{Bounds}
 use Rattle.ep_driver.specs.Compiled.{texts_of}
@@ -207,7 +207,7 @@ statements-use final seen context (s ∷ model) k h sub e =
     let P : Name → List Name → Type 0 = λ x names. Contains names x in (
       statement-uses final context (λ x known. sub x (Contains-append_left seen (declared_by s ++ rest) x (k.only x known))) s h.0 (first-nothing _ _ e),
       statements-use final (seen ++ declared_by s) (after_statement context s) model (statement-known context seen s k h.0) h.1
-      (λ x c. sub x (subst (P x) (append_assoc seen (declared_by s) rest) c)) (rest-nothing _ _ e),
+          (λ x c. sub x (subst (P x) (append_assoc seen (declared_by s) rest) c)) (rest-nothing _ _ e),
     )
 
 -- each name in a clause is the name of a decision variable

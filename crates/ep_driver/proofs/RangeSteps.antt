@@ -1,5 +1,5 @@
 -- The bounds of the one range of an early domain.
-use Rattle.std.proofs.Common.{◌≡◌, ℕ, zero, suc, ◌<◌, ℤ, pos, negsuc, neg_ℤ, ◌+ℤ◌, ◌-ℤ◌, ◌<ℤ◌, true, List, [], ◌∷◌, get_or, length, int_lt, FitsSigned, w64, if◌then◌else◌, Option, Some, None, refl, sym, ap, subst, ◌∙◌, arith}
+use Rattle.std.proofs.Common.{◌≡◌, ℕ, zero, suc, ◌<◌, ℤ, pos, negsuc, neg_ℤ, ◌+ℤ◌, ◌-ℤ◌, List, [], ◌∷◌, get_or, length, FitsSigned, w64, Option, Some, None, refl, sym, ap, subst, ◌∙◌, arith}
 use Rattle.std.specs.declared.boxed.Box.{Box}
 use Rattle.std.specs.declared.vec.Vec.{Vec}
 use Rattle.std.specs.declared.alloc.Global.{Global}
@@ -9,7 +9,7 @@ use Rattle.ep_base.specs.declared.places.Place.{Place}
 use Rattle.ep_tree.specs.Domains.{between, put_in, united}
 use Rattle.ep_tree.specs.Environments.{Env}
 use Rattle.ep_tree.specs.Evaluation.{domain_values, end_value, evaluate, number_in, on_both, on_three, range_values}
-use Rattle.ep_tree.specs.Trees.{End, ExprTree, Ranges, no_ranges, span_and, end_at, number, ranges}
+use Rattle.ep_tree.specs.Trees.{End, ExprTree, Ranges, no_ranges, span_and, end_at, ranges}
 use Rattle.ep_tree.specs.Values.{single}
 use Rattle.ep_tree.specs.Views.{domain_kind_tree, end_of, expr_tree, kind_tree, ranges_of, with_range}
 use Rattle.ep_tree.specs.declared.syntax.DomainKind.{DomainKind, Ranges as RangesDomain}

@@ -1,5 +1,5 @@
 -- From the flat search to the instance of a model.
-use Rattle.std.proofs.Common.{◌≡◌, ℕ, suc, ◌+◌, ℤ, Bool, true, false, ◌&&◌, is_none, if◌then◌else◌, List, [], ◌∷◌, length, map, Bor, Vec, Global, Option, Some, None, unwrap_or, IfSome, IfNone, refl, sym, ap, subst, ◌∙◌, arith, rules}
+use Rattle.std.proofs.Common.{◌≡◌, ℕ, suc, ◌+◌, ℤ, Bool, true, false, ◌&&◌, if◌then◌else◌, List, [], ◌∷◌, length, Bor, Vec, Global, Option, Some, None, unwrap_or, IfSome, IfNone, refl, sym, ap, subst, ◌∙◌, arith}
 use Rattle.std.proofs.lemmas.Bool.{false≢true}
 use Rattle.ep_base.specs.Numbers.{is_one, of_bool}
 use Rattle.ep_tree.specs.Binding.{Find, Instance}

@@ -1,5 +1,5 @@
 -- Worked values of the words on instances and answers, computed by the checker.
-use Rattle.std.specs.Prelude.{◌≡◌, ℕ, ℤ, pos, List, [], ◌∷◌, Option, Some, None, codes, refl}
+use Rattle.std.specs.Prelude.{◌≡◌, ℕ, ℤ, pos, List, [], ◌∷◌, Some, None, codes, refl}
 use Rattle.std.proofs.Common.{get_or, ap, sym, subst, ◌∙◌, arith}
 use Rattle.std.proofs.lemmas.List.Sorted.{IsPermutation-refl}
 use Rattle.ep_base.specs.declared.operators.CompareOp.{CompareOp}
@@ -16,7 +16,7 @@ use Rattle.ep_tree.specs.declared.values.Scalar.{Scalar}
 use Rattle.ep_tree.specs.declared.values.ValueType.{ValueType}
 use Rattle.ep_tree.proofs.ClosedDomains.{some_is}
 use Rattle.ep_tree.proofs.Opened.{the_language}
-use Rattle.ep_driver.specs.Answers.{AreInOrder, Answers, Numbers, assigned, no_solution, solution}
+use Rattle.ep_driver.specs.Answers.{Answers, Numbers, assigned, no_solution, solution}
 use Rattle.ep_driver.specs.Outcomes.{Binds, assignment_count, value_count}
 
 abbrev at : ℕ → ℕ → Place
@@ -73,12 +73,15 @@ three = (codes "x", pos 3) ∷ (codes "y", pos 1) ∷ []
 
 x-is-three : Answers instance (solution three)
 unfolding the_language
-x-is-three = (refl, record {
-  found = (codes "x", has_value ValueType.Int (single (pos 3))) ∷ (codes "y", has_value ValueType.Int (single (pos 1))) ∷ [];
-  fits = record { same_names = IsPermutation-refl _; values = refl };
-  holds = refl;
-  measured = refl;
-})
+x-is-three = (
+  refl,
+  record {
+    found = (codes "x", has_value ValueType.Int (single (pos 3))) ∷ (codes "y", has_value ValueType.Int (single (pos 1))) ∷ [];
+    fits = record { same_names = IsPermutation-refl _; values = refl };
+    holds = refl;
+    measured = refl;
+  },
+)
 
 there-is-one : ¬ Answers instance no_solution
 there-is-one = λ none. none (assigned three) x-is-three.1

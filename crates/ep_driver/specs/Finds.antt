@@ -1,4 +1,4 @@
--- The decision variables and the clauses of an early model, and those that names and bounds stand for.
+-- The decision variables and clauses of an early model, and those that names and bounds stand for.
 use Rattle.std.specs.Prelude.{◌≡◌, ℕ, ℤ, List, [], ◌∷◌, map, length, None, unwrap_or}
 use Rattle.std.specs.List.{flat_map}
 use Rattle.std.specs.Borrow.{Bor}
@@ -17,12 +17,16 @@ use Rattle.ep_driver.specs.declared.finds.Finds.{Finds}
 
 -- an integer with these values
 abbrev pub integer_find : Name → List ℤ → Find
-integer_find name values = record { name = name; scalar = Scalar.Int; indices = []; values = values }
+integer_find name values =
+    record { name = name; scalar = Scalar.Int; indices = []; values = values }
 
--- the decision variables of a group, whose domain is defined in an early model
+-- the numbers of a group's domain, which is defined in an early model
+abbrev pub group_values : Group → List ℤ
+group_values g = unwrap_or (domain_values Mode.Relational nothing_known g.domain) []
+
+-- the decision variables of a group
 abbrev pub finds_of_group : Group → List Find
-finds_of_group g =
-    map (λ name. integer_find name.0 (unwrap_or (domain_values Mode.Relational nothing_known g.domain) [])) g.names
+finds_of_group g = map (λ name. integer_find name.0 (group_values g)) g.names
 
 -- the decision variables of a statement
 abbrev pub finds_of_statement : StatementTree → List Find

@@ -5,7 +5,9 @@ use Rattle.ep_tree.specs.Binding.{Instance}
 use Rattle.ep_tree.specs.Statements.{TextTree}
 use Rattle.ep_driver.specs.Outcomes.{Binds}
 
--- a model of the early forms with small numbers asks for an instance: no limit refuses it, and each domain is defined
+-- A model of the early forms with small numbers asks for an instance: no limit refuses it, and each
+-- domain is defined.
 abbrev pub EarlyModelBinds : Type 0
 EarlyModelBinds =
-    (model : TextTree) → HasEarlyForms model → IsSmallModel model → (instance : Instance) × Binds model instance
+    (model : TextTree) → HasEarlyForms model → IsSmallModel model →
+    (instance : Instance) × Binds model instance

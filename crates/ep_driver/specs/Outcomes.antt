@@ -69,7 +69,8 @@ Refuses words held Unknown line = ⊥
 Refuses words held Memory line = ⊥
 Refuses words held Refuted line = ⊥
 
--- the words name a file whose text is this model, which asks for this instance, with not too many assignments
+-- the words name a file whose text is this model, which asks for this instance, and there are not
+-- too many assignments
 abbrev pub Accepts : List (List ℕ) → Held → TextTree → Instance → Type 0
 Accepts words held model instance =
     (text : List ℕ) × NamesText words held text × IsEarly text model × Binds model instance

@@ -15,11 +15,13 @@ use Rattle.ep_driver.specs.Outcomes.{NamesText, AreNoCommand, IsNotEarly, Binds,
 abbrev pub IsEarlyAs : List ℕ → TextTree → Type 0
 IsEarlyAs text model = IsEarly text model × ((other : TextTree) → IsEarly text other → other ≡ model)
 
--- the text is that of a right answer for what the model asks for, which has not too many assignments
+-- the text is that of a right answer for what the model asks for, and there are not too many
+-- assignments
 abbrev pub IsAnswerTo : TextTree → List ℕ → Type 0
 IsAnswerTo model line =
     (instance : Instance) × (answer : Answer) × Binds model instance
-    × (assignment_count instance ≤ most_assignments) × Answers instance answer × (line ≡ answer_text answer)
+    × (assignment_count instance ≤ most_assignments) × Answers instance answer
+    × (line ≡ answer_text answer)
 
 -- what is said to a text
 abbrev pub SaidToText : List ℕ → Status → List ℕ → Type 0

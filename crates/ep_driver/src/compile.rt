@@ -122,7 +122,8 @@ fn add_clauses(
     flat: &mut Vec<Clause>,
 ) -> Result<(), AllocError>
     requires early { AllByRecursion IsEarlyClause (map expr_tree clauses.now) }
-    requires declared { AllByRecursion (UsesOnly (texts_of names.now.keys)) (map expr_tree clauses.now) }
+    requires declared { AllByRecursion (UsesOnly (texts_of names.now.keys))
+        (map expr_tree clauses.now) }
     ensures { OnOk result (AddsCompiled names.now.keys flat.old.items flat.new.items
         (map expr_tree clauses.now)) }
 {

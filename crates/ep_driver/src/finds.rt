@@ -1,8 +1,8 @@
 //! The decision variables of a model: their names in the order of the text, and the bounds of each.
 
-ghost use Rattle.std.specs.Prelude.{◌≡◌, ◌++◌, [], ◌∷◌, length, map, Some, IfOk, OnOk};
+ghost use Rattle.std.specs.Prelude.{◌≡◌, ◌++◌, [], ◌∷◌, map, Some, IfOk, OnOk};
 ghost use Rattle.std.specs.List.{flat_map, AllByRecursion};
-ghost use Rattle.ep_parse_model.specs.EarlyForms.{IsBound, IsClosedEnd, IsNumber, IsOneRange, IsEarlyDomain, IsEarlyGroup, IsEarlyStatement, HasEarlyForms};
+ghost use Rattle.ep_parse_model.specs.EarlyForms.{IsBound, IsClosedEnd, IsOneRange, IsEarlyDomain, IsEarlyGroup, IsEarlyStatement, HasEarlyForms};
 ghost use Rattle.ep_parse_model.specs.Small.{IsSmall, IsSmallEnd, AreSmallRanges, IsSmallDomain, IsSmallGroup, IsSmallStatement, IsSmallModel};
 ghost use Rattle.ep_tree.specs.Domains.{between};
 ghost use Rattle.ep_tree.specs.Evaluation.{domain_values, end_value, evaluate, range_values};

@@ -1,3 +1,6 @@
 pub mod EarlyForms
 pub mod Early
 pub mod Small
+pub mod Tokens
+pub mod Reading
+pub mod Names

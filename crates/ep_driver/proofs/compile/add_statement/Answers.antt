@@ -1,5 +1,4 @@
-use Rattle.std.proofs.Common.{◌≡◌, subst, sym}
-use Rattle.std.specs.List.{AllByRecursion}
+use Rattle.std.proofs.Common.{subst}
 use Rattle.ep_parse_model.specs.EarlyForms.{IsEarlyStatement}
 use Rattle.ep_tree.specs.Statements.{StatementTree}
 use Rattle.ep_driver.specs.Compiled.{texts_of}

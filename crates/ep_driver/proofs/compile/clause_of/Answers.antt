@@ -1,4 +1,4 @@
-use Rattle.std.proofs.Common.{◌≡◌, sym, subst, ap}
+use Rattle.std.proofs.Common.{sym, subst}
 use Rattle.ep_parse_model.specs.EarlyForms.{IsSide}
 use Rattle.ep_tree.specs.Trees.{ExprTree}
 use Rattle.ep_tree.specs.Views.{expr_tree}

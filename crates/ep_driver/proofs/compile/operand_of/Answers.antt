@@ -1,4 +1,4 @@
-use Rattle.std.proofs.Common.{◌≡◌, ◌∙◌, ℕ, List, Contains, Some, sym, ap, subst, w64, rules, arith}
+use Rattle.std.proofs.Common.{◌∙◌, ℕ, List, Contains, Some, sym, ap, subst, w64, arith}
 use Rattle.std.proofs.lemmas.Int.{ints, to_z-of_z}
 use Rattle.ep_tree.specs.Values.{single}
 use Rattle.ep_tree.specs.declared.values.Mode.{Mode}

@@ -1,9 +1,8 @@
-use Rattle.std.proofs.Common.{◌≡◌, ◌∙◌, ◌++◌, ◌∷◌, [], List, ◌+◌, length, drop, not, refl, sym, ap, subst, arith}
-use Rattle.ep_tree.specs.Trees.{no_terms}
+use Rattle.std.proofs.Common.{◌≡◌, ◌++◌, ◌∷◌, [], List, length, not, refl, sym, subst}
 use Rattle.ep_tree.specs.Views.{terms_of, expr_tree}
 use Rattle.ep_driver.specs.Clauses.{SumUsesBelow}
 use Rattle.ep_driver.specs.declared.clauses.Summand.{Summand}
-use Rattle.ep_driver.specs.Compiled.{texts_of, TermsMean}
+use Rattle.ep_driver.specs.Compiled.{texts_of}
 use Rattle.ep_driver.proofs.CompileSteps.{uses-push, next-terms, early-next, declared-next, means-next, means-all, no-more}
 use Rattle.ep_driver.proofs.compile.sum_of_parts.Goals as goal
 

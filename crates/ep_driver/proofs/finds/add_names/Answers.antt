@@ -1,5 +1,4 @@
-use Rattle.std.proofs.Common.{◌++◌, ◌∷◌, [], ℕ, List, refl, sym, subst}
-use Rattle.ep_base.specs.declared.names.Name.{Name}
+use Rattle.std.proofs.Common.{◌∷◌, [], ℕ, List, refl, sym, subst}
 use Rattle.ep_base.specs.declared.places.Place.{Place}
 use Rattle.ep_driver.specs.Naming.{AreNew}
 use Rattle.ep_driver.specs.Finds.{find_names, finds_in, named_find}

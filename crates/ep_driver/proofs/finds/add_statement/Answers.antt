@@ -1,4 +1,4 @@
-use Rattle.std.proofs.Common.{◌≡◌, subst, sym}
+use Rattle.std.proofs.Common.{subst, sym}
 use Rattle.std.proofs.lemmas.List.{append-nil}
 use Rattle.ep_parse_model.specs.EarlyForms.{IsEarlyStatement}
 use Rattle.ep_parse_model.specs.Small.{IsSmallStatement}

@@ -1,6 +1,4 @@
-use Rattle.std.proofs.Common.{◌≡◌, ◌∙◌, ap, subst, sym}
-use Rattle.ep_parse_model.specs.EarlyForms.{IsEarlyDomain, IsOneRange}
-use Rattle.ep_parse_model.specs.Small.{IsSmallDomain, AreSmallRanges}
+use Rattle.std.proofs.Common.{◌∙◌, ap}
 use Rattle.ep_tree.specs.Evaluation.{domain_values}
 use Rattle.ep_tree.specs.Names.{nothing_known}
 use Rattle.ep_tree.specs.declared.values.Mode.{Mode}

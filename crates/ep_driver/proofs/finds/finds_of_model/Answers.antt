@@ -1,11 +1,11 @@
-use Rattle.std.proofs.Common.{◌≡◌, ◌∙◌, ◌++◌, [], List, map, subst, sym, ap}
+use Rattle.std.proofs.Common.{◌∙◌, ◌++◌, [], List, map, subst, sym, ap}
 use Rattle.std.specs.List.{AllByRecursion, flat_map}
 use Rattle.ep_parse_model.specs.EarlyForms.{IsEarlyStatement}
 use Rattle.ep_parse_model.specs.Small.{IsSmallStatement}
 use Rattle.ep_tree.specs.Binding.{Find}
 use Rattle.ep_tree.specs.Statements.{TextTree}
 use Rattle.ep_tree.specs.Views.{statement_tree}
-use Rattle.ep_driver.specs.Finds.{find_names, finds_in, finds_of_statement}
+use Rattle.ep_driver.specs.Finds.{find_names, finds_of_statement}
 use Rattle.ep_driver.specs.Naming.{AreNew, declared_names}
 use Rattle.ep_driver.proofs.FindSteps.{finds_of-nothing, model-items}
 use Rattle.ep_driver.proofs.finds.finds_of_model.Goals as goal

@@ -1,4 +1,4 @@
-use Rattle.std.proofs.Common.{◌≡◌, ℤ, pos, ◌-ℤ◌, Some, to_z, of_z, w64, FitsSigned, Bor, sym, ap, subst, ◌∙◌}
+use Rattle.std.proofs.Common.{◌≡◌, ℤ, pos, ◌-ℤ◌, Some, to_z, of_z, w64, FitsSigned, sym, ap, subst, ◌∙◌}
 use Rattle.std.proofs.lemmas.Int.{to_z-of_z}
 use Rattle.ep_parse_model.specs.EarlyForms.{IsNumber}
 use Rattle.ep_parse_model.specs.Small.{IsSmallNumber}

@@ -1,4 +1,4 @@
-use Rattle.std.proofs.Common.{◌≡◌, ◌∙◌, [], ◌∷◌, Some, subst, sym, ap, to_z, of_z, w64, rules}
+use Rattle.std.proofs.Common.{◌∙◌, Some, subst, sym, ap, to_z, of_z, w64, rules}
 use Rattle.std.proofs.lemmas.Int.{to_z-of_z}
 use Rattle.ep_tree.specs.Domains.{between}
 use Rattle.ep_parse_model.specs.EarlyForms.{IsOneRange}

@@ -1,4 +1,4 @@
-use Rattle.std.proofs.Common.{◌≡◌, ◌∙◌, sym, ap, map, length, arith}
+use Rattle.std.proofs.Common.{◌≡◌, ◌∙◌, sym, ap, map, arith}
 use Rattle.ep_tree.specs.Views.{model_tree}
 use Rattle.ep_driver.specs.Answers.{answer_text}
 use Rattle.ep_driver.specs.Bounds.{combinations}

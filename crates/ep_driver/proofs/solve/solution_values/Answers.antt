@@ -1,11 +1,10 @@
-use Rattle.std.proofs.Common.{◌≡◌, ◌∙◌, ℕ, List, [], length, sym, ap, subst}
-use Rattle.ep_tree.specs.Binding.{Find, Instance}
+use Rattle.std.proofs.Common.{◌≡◌, ◌∙◌, ℕ, List, length, sym, ap, subst}
+use Rattle.ep_tree.specs.Binding.{Instance}
 use Rattle.ep_tree.specs.Views.{model_tree}
-use Rattle.ep_base.specs.declared.names.Name.{Name}
 use Rattle.ep_driver.specs.declared.clauses.Clause.{Clause}
 use Rattle.ep_driver.specs.Answers.{Answers}
-use Rattle.ep_driver.specs.Finds.{early_instance, find_names, finds_of, finds_of_statement}
-use Rattle.ep_driver.specs.Compiled.{AreCompiled, found_answer, texts_of}
+use Rattle.ep_driver.specs.Finds.{early_instance, finds_of}
+use Rattle.ep_driver.specs.Compiled.{AreCompiled, found_answer}
 use Rattle.ep_driver.specs.Clauses.{ClausesUseBelow}
 use Rattle.ep_driver.proofs.NamingSteps.{declared-all, texts-new}
 use Rattle.ep_driver.proofs.Solving.{uses-compiled, answers-found, length-found, same-instance}
