@@ -10,6 +10,7 @@ pub mod NotePieces
 pub mod Again
 pub mod LogAgain
 pub mod CnfAgain
+pub mod CellPlain
 pub mod TextAgain
 pub mod Readable
 mod Vectors

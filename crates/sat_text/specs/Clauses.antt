@@ -2,6 +2,7 @@
 use Rattle.std.specs.Prelude.{suc, ℤ, pos, negsuc, Bool, true, false, ◌==◌, nat_lt, if◌then◌else◌, List, [], ◌∷◌}
 use Rattle.cnf_core.specs.Literal.{Literal, same_literal, code_of}
 
+-- whether a whole number is 0
 abbrev pub is_zero : ℤ → Bool
 is_zero (pos n) = n == 0
 is_zero (negsuc n) = false
@@ -18,7 +19,7 @@ with_literal l (m ∷ literals) =
     if nat_lt (code_of l) (code_of m) then l ∷ m ∷ literals
     else if same_literal l m then m ∷ literals else m ∷ with_literal l literals
 
--- the clause of these literals: in order, and each once
-abbrev pub clause_of : List Literal → List Literal
-clause_of [] = []
-clause_of (l ∷ literals) = with_literal l (clause_of literals)
+-- these literals in order, and each once
+abbrev pub in_order : List Literal → List Literal
+in_order [] = []
+in_order (l ∷ literals) = with_literal l (in_order literals)

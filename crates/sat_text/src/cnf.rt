@@ -1,6 +1,6 @@
 //! Reads the text of a formula.
 
-ghost use Rattle.std.specs.Prelude.{◌≡◌, ◌<◌, ◌^◌, ◌↔◌, ℕ, length, map, Ok, Err, IfOk, IsErrOf};
+ghost use Rattle.std.specs.Prelude.{◌≡◌, ◌<◌, ◌^◌, ◌↔◌, ℕ, false, length, map, Ok, Err, IfOk, IsErrOf};
 ghost use Rattle.cnf_core.specs.Events.{plain_note};
 ghost use Rattle.sat_text.specs.Words.{lines};
 ghost use Rattle.sat_text.specs.Cnf.{formula_of, plain_formula};
@@ -50,6 +50,7 @@ impl From<Memory> for CnfError {
 /// The formula alone, or the line of its text's fault.
 fn formula(alloc: Global, text: &[u8]) -> Result<Formula, CnfError>
     requires { length text.now < 2 ^ 62 }
+    ensures origin { IfOk result (λ f. f.from_new ≡ false) }
     ensures found { IfOk result (λ f. formula_of text.now ≡ Ok (plain_formula f)) }
     ensures bad { (line : ℕ) → result ≡ Err (CnfError.Bad line) → formula_of text.now ≡ Err line }
     ensures short { IsErrOf result CnfError.TooLong → ⊥ }
@@ -71,6 +72,7 @@ fn formula(alloc: Global, text: &[u8]) -> Result<Formula, CnfError>
 pub fn read_cnf(alloc: Global, text: &[u8]) -> Result<CnfFile, CnfError>
     ensures too_long { IsErrOf result CnfError.TooLong ↔ (MOST_BYTES < length text.now) }
     ensures formula { IfOk result (λ file. formula_of text.now ≡ Ok (plain_formula file.formula)) }
+    ensures read { IfOk result (λ file. file.formula.from_new ≡ false) }
     ensures notes { IfOk result
         (λ file. map plain_note file.notes.items ≡ notes_of (lines text.now)) }
     ensures added { IfOk result (λ file. file.added ≡ added_of 0 (lines text.now)) }

@@ -3,7 +3,7 @@
 ghost use Rattle.std.specs.Prelude.{◌≡◌, ◌<◌, ◌↔◌, ℕ, length, Ok, Err, IfOk, IsErrOf};
 ghost use Rattle.cnf_core.specs.Literal.{HaveSameLiterals};
 ghost use Rattle.sat_text.specs.Words.{words};
-ghost use Rattle.sat_text.specs.Clauses.{clause_of};
+ghost use Rattle.sat_text.specs.Clauses.{in_order};
 ghost use Rattle.cnf_core.specs.Lines.{plain_line, plain_lines};
 ghost use Rattle.sat_text.specs.Answers.{Gives};
 ghost use Rattle.sat_text.specs.Proofs.{is_d, says_nothing, addition_at, deletion_at, behind_id, line_of, proof_of};
@@ -39,7 +39,7 @@ impl<T: Drop> From<AllocFailed<T>> for LogError {
 
 /// The clause of these literals.
 pub(crate) fn clause(alloc: Global, lits: Vec<Lit>) -> Result<Clause, Memory>
-    ensures made { IfOk result (λ made. made ≡ clause_of lits.items) }
+    ensures made { IfOk result (λ made. made ≡ in_order lits.items) }
     ensures same { IfOk result (λ made. HaveSameLiterals made lits.items) }
 {
     Clause::new(alloc, lits)
