@@ -6,7 +6,8 @@ use Rattle.cnf_core.specs.Literal.{Literal, HaveSameLiterals, VariablesUpTo}
 use Rattle.cnf_core.specs.Formula.{Cnf}
 use Rattle.sat_text.specs.Numbers.{whole_of}
 use Rattle.sat_text.specs.Clauses.{is_zero, literal_of, in_order}
-use Rattle.sat_text.specs.Cnf.{PlacedWord, with_clause, number_next, clauses_at, behind_clauses, Completes}
+use Rattle.sat_text.specs.Words.{PlacedWord}
+use Rattle.sat_text.specs.Cnf.{with_clause, number_next, clauses_at, behind_clauses, Completes}
 
 pub clause_small : (most : ℕ) (clause literals : List Literal) → HaveSameLiterals clause literals → VariablesUpTo most literals → VariablesUpTo most clause
 clause_small most clause literals same small k d lt =

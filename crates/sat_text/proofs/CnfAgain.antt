@@ -7,10 +7,10 @@ use Rattle.std.specs.List.{flat_map, AllByRecursion}
 use Rattle.std.specs.Prelude.{codes}
 use Rattle.std.specs.Fmt.{signed_decimal}
 use Rattle.cnf_core.specs.Literal.{Literal, IsOrdered, IsVariable}
-use Rattle.sat_text.specs.Words.{lines, words, is_comment}
-use Rattle.sat_text.specs.Clauses.{in_order}
-use Rattle.sat_text.specs.Cnf.{PlacedWord, words_on, said_words, text_words, with_clause, clauses_at}
-use Rattle.sat_text.specs.Writing.{number_of, clause_text}
+use Rattle.sat_text.specs.Words.{lines, words, is_comment, PlacedWord, words_on, said_words, text_words}
+use Rattle.sat_text.specs.Clauses.{in_order, number_of}
+use Rattle.sat_text.specs.Cnf.{with_clause, clauses_at}
+use Rattle.sat_text.specs.Writing.{clause_text}
 use Rattle.sat_text.proofs.Order.{clause_again}
 use Rattle.sat_text.proofs.Again.{whole_again, AreWords, number_is_word, joined, words_again, IsLine, line_again, joined_line}
 use Rattle.sat_text.proofs.LogAgain.{literal_again, signed_short, number_no_comment, zero_word}

@@ -5,8 +5,7 @@ use Rattle.cnf_core.specs.Formula.{Cnf}
 use Rattle.sat_text.specs.declared.faults.Stop.{Stop}
 use Rattle.sat_text.specs.declared.faults.Stop.TheVariants.{Memory, At, Ends}
 use Rattle.sat_text.specs.declared.header.HeaderLine.{HeaderLine}
-use Rattle.sat_text.specs.Words.{words}
-use Rattle.sat_text.specs.Proofs.{says_nothing}
+use Rattle.sat_text.specs.Words.{words, says_nothing}
 use Rattle.sat_text.specs.Cnf.{CnfContent, with_vars, behind_header, formula_from, header_of, Stops, Names, plain_formula}
 
 pub formula_quiet : (last number : ℕ) (rest later : List (List ℕ)) (line : List ℕ) → rest ≡ line ∷ later → says_nothing line ≡ true → formula_from last number rest ≡ formula_from last (number + 1) later

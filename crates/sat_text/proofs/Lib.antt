@@ -13,4 +13,9 @@ pub mod CnfAgain
 pub mod CellPlain
 pub mod TextAgain
 pub mod Readable
+pub mod Spelling
+pub mod ClausesSpelled
+pub mod CnfSpelled
+pub mod ItemsSpelled
+pub mod LogSpelled
 mod Vectors

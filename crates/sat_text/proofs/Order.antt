@@ -3,6 +3,8 @@ use Rattle.std.proofs.Common.{◌≡◌, ℕ, suc, ◌<◌, ◌≤◌, Bool, tru
 use Rattle.std.proofs.lemmas.Bool.Decides.{nat_tests}
 use Rattle.std.proofs.lemmas.Bool.{ltb-true, ltb-false, eqb-true}
 use Rattle.std.specs.List.{All, Contains}
+use Rattle.std.proofs.lemmas.List.Elements.{All-nil, All-cons}
+use Rattle.std.proofs.lemmas.List.Kept.{AllPairs-cons}
 use Rattle.std.proofs.lemmas.List.Folds.{list_any_at, Any-from_list_any}
 use Rattle.cnf_core.specs.Literal.{Literal, Precedes, IsOrdered, HaveSameLiterals, same_sign, same_literal, is_among, code_of}
 use Rattle.sat_text.specs.Clauses.{with_literal, in_order}
@@ -199,6 +201,51 @@ among_all xs ys q each e =
     let there = each found.0 found.1 found.2 in
     let at : get_or ys there.0 (get_or xs found.0 found.1) ≡ found.1 = there.2 ∙ found.3 in
     list_any_at (same_literal q) ys there.0 (get_or xs found.0 found.1) there.1 (subst (λ (z : Literal). same_literal q z ≡ true) (sym at) found.4)
+
+-- ---- the clause of literals
+
+sign_zero : (b : Bool) → sign_of b ≡ 0 → b ≡ true
+sign_zero true e = refl
+sign_zero false e = absurd (omega (arith, e))
+
+sign_one : (b : Bool) → sign_of b ≡ 1 → b ≡ false
+sign_one true e = absurd (omega (arith, e))
+sign_one false e = refl
+
+code_precedes : (a b : Literal) → code_of a < code_of b → Precedes a b
+code_precedes a b lt = elim (bool_cases (ltb a.var b.var)) [
+  | inl t ↦ inl (ltb-true _ _ t)
+  | inr f ↦
+      let le : b.var ≤ a.var = ltb-false _ _ f in
+      let same : a.var ≡ b.var = omega (arith, le, lt, sign_le a.positive, sign_le b.positive) in
+      inr (same, sign_zero a.positive (omega (arith, same, lt, sign_le a.positive, sign_le b.positive)), sign_one b.positive (omega (arith, same, lt, sign_le a.positive, sign_le b.positive)))
+]
+
+all_above : (l : Literal) (literals : List Literal) → Above l literals → All (Precedes l) literals
+all_above l [] a = All-nil (Precedes l)
+all_above l (m ∷ literals) a = All-cons (Precedes l) m literals (code_precedes l m a.0) (all_above l literals a.1)
+
+ordered_from : (literals : List Literal) → Ascends literals → IsOrdered literals
+ordered_from [] a = λ i j d ij jl. absurd (omega (arith, ij, jl))
+ordered_from (l ∷ literals) a = AllPairs-cons Precedes l literals (all_above l literals a.0) (ordered_from literals a.1)
+
+contains : (literals : List Literal) (q : Literal) → is_among literals q ≡ true → Contains literals q
+contains literals q e =
+    let found = Any-from_list_any (same_literal q) literals e in
+    let q-is : q ≡ found.1 = same_is q found.1 found.4 in
+    subst (Contains literals) (sym q-is) (found.0, found.2, found.3)
+
+each_among : (literals : List Literal) (k : ℕ) (d : Literal) → k < length literals → is_among literals (get_or literals k d) ≡ true
+each_among literals k d lt = list_any_at (same_literal (get_or literals k d)) literals k d lt (same_same (get_or literals k d))
+
+pub in_order_ordered : (literals : List Literal) → IsOrdered (in_order literals)
+in_order_ordered literals = ordered_from (in_order literals) (clause_ascends literals)
+
+pub in_order_same : (literals : List Literal) → HaveSameLiterals (in_order literals) literals
+in_order_same literals = record {
+  from_first = λ k d lt. let q = get_or (in_order literals) k d in contains literals q (sym (clause_among literals q) ∙ each_among (in_order literals) k d lt);
+  from_second = λ k d lt. let q = get_or literals k d in contains (in_order literals) q (clause_among literals q ∙ each_among literals k d lt);
+}
 
 pub clause_is : (clause literals : List Literal) → IsOrdered clause → HaveSameLiterals clause literals → clause ≡ in_order literals
 clause_is clause literals ordered same =

@@ -11,12 +11,12 @@ use Rattle.std.specs.Fmt.{signed_decimal}
 use Rattle.cnf_core.specs.Literal.{Literal, IsVariable, IsClause, VariablesUpTo}
 use Rattle.cnf_core.specs.Formula.{Cnf}
 use Rattle.cnf_core.specs.Events.{Note}
-use Rattle.sat_text.specs.Words.{lines, last_line, words, is_comment, is_plain, is_blank}
-use Rattle.sat_text.specs.Proofs.{says_nothing, has_no_word}
-use Rattle.sat_text.specs.declared.header.HeaderLine.TheVariants.{Good}
+use Rattle.sat_text.specs.Words.{lines, last_line, words, is_comment, is_plain, is_blank, says_nothing, has_no_word}
 use Rattle.sat_text.specs.Cnf.{header_count, header_vars, header_format, header_of, with_vars, formula_from, plain_formula}
+use Rattle.sat_text.specs.Clauses.{number_of}
+use Rattle.sat_text.specs.Writing.{note_text, clause_text, header_text, added_text, cnf_text, IsReadableNote, IsReadableFormula, NamesVariables, SaysAgain}
+use Rattle.sat_text.specs.declared.header.HeaderLine.TheVariants.{Good}
 use Rattle.sat_text.specs.Notes.{is_cell, note_with, note_literal, note_value, note_at, note_of, added_on, notes_of, added_of}
-use Rattle.sat_text.specs.Writing.{number_of, note_text, clause_text, header_text, added_text, cnf_text, IsReadableNote, IsReadableFormula, NamesVariables, SaysAgain}
 use Rattle.sat_text.proofs.Cuts.{bool_cases}
 use Rattle.sat_text.proofs.Again.{natural_again, whole_again, IsWord, AreWords, number_is_word, joined, words_again, IsLine, line_again, joined_line, all_append, plain_line, plain_not_blank, and_parts}
 use Rattle.sat_text.proofs.LogAgain.{literal_again, signed_short, spaced_is, in_range}

@@ -1,5 +1,5 @@
 -- Clauses as numbers spell them.
-use Rattle.std.specs.Prelude.{suc, ℤ, pos, negsuc, Bool, true, false, ◌==◌, nat_lt, if◌then◌else◌, List, [], ◌∷◌}
+use Rattle.std.specs.Prelude.{suc, ℤ, pos, negsuc, neg_ℤ, Bool, true, false, ◌==◌, nat_lt, if◌then◌else◌, List, [], ◌∷◌}
 use Rattle.cnf_core.specs.Literal.{Literal, same_literal, code_of}
 
 -- whether a whole number is 0
@@ -11,6 +11,10 @@ is_zero (negsuc n) = false
 abbrev pub literal_of : ℤ → Literal
 literal_of (pos n) = record { var = n; positive = true }
 literal_of (negsuc n) = record { var = suc n; positive = false }
+
+-- the number of a literal: its variable's, negative where the literal is
+abbrev pub number_of : Literal → ℤ
+number_of l = if l.positive then pos l.var else neg_ℤ (pos l.var)
 
 -- the literals with one more at its place, or as they are where they have it
 abbrev pub with_literal : Literal → List Literal → List Literal

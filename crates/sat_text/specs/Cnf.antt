@@ -1,34 +1,14 @@
 -- The text of a formula: its header and its clauses.
-use Rattle.std.specs.Prelude.{◌≡◌, ◌<◌, ◌^◌, ℕ, zero, suc, ◌+◌, ℤ, Bool, false, ◌==◌, ◌&&◌, nat_le, if◌then◌else◌, List, [], ◌∷◌, ◌++◌, map, Option, Some, None, Result, Ok, Err}
+use Rattle.std.specs.Prelude.{◌≡◌, ◌<◌, ◌^◌, ℕ, zero, suc, ◌+◌, ℤ, Bool, false, ◌==◌, ◌&&◌, nat_le, if◌then◌else◌, List, [], ◌∷◌, ◌++◌, Option, Some, None, Result, Ok, Err}
 use Rattle.cnf_core.specs.Literal.{Literal}
-use Rattle.sat_text.specs.Words.{lines, last_line, words, is_comment}
-use Rattle.sat_text.specs.Numbers.{natural_of, whole_of}
+use Rattle.sat_text.specs.Words.{lines, last_line, words, says_nothing, PlacedWord, text_words}
 use Rattle.sat_text.specs.Clauses.{is_zero, literal_of, in_order}
-use Rattle.sat_text.specs.Proofs.{says_nothing}
+use Rattle.sat_text.specs.Numbers.{natural_of, whole_of}
 use Rattle.cnf_core.specs.Formula.{Cnf}
 use Rattle.sat_text.specs.declared.faults.Stop.{Stop}
 use Rattle.sat_text.specs.declared.faults.Stop.TheVariants.{Memory, At, Ends}
 use Rattle.sat_text.specs.declared.header.HeaderLine.{HeaderLine}
 use Rattle.sat_text.specs.declared.header.HeaderLine.TheVariants.{Good, Short, Wrong}
-
--- a word, and the line that it stands on
-pub record PlacedWord : Type 0 where
-  pub line : ℕ
-  pub bytes : List ℕ
-
--- words that stand on one line
-abbrev pub words_on : ℕ → List (List ℕ) → List PlacedWord
-words_on number found = map (λ bytes. record { line = number; bytes = bytes }) found
-
--- the words of a line, of which a comment has none
-abbrev pub said_words : List ℕ → List (List ℕ)
-said_words line = if is_comment line then [] else words line
-
--- the words of lines, where the first line has this number
-abbrev pub text_words : ℕ → List (List ℕ) → List PlacedWord
-text_words number [] = []
-text_words number (line ∷ later) =
-    words_on number (said_words line) ++ text_words (number + 1) later
 
 -- ---- the header: `p cnf` and two numbers, on one line
 

@@ -1,7 +1,7 @@
 -- The text of a proof: what each line says.
-use Rattle.std.specs.Prelude.{ℕ, suc, ◌+◌, ℤ, pos, negsuc, zero, Bool, true, false, ◌==◌, ◌||◌, if◌then◌else◌, List, [], ◌∷◌, Option, Some, None, Result, Ok, Err}
+use Rattle.std.specs.Prelude.{ℕ, suc, ◌+◌, ℤ, pos, negsuc, zero, Bool, false, ◌==◌, if◌then◌else◌, List, [], ◌∷◌, Option, Some, None, Result, Ok, Err}
 use Rattle.cnf_core.specs.Literal.{Literal}
-use Rattle.sat_text.specs.Words.{lines, words, is_comment}
+use Rattle.sat_text.specs.Words.{lines, words, says_nothing}
 use Rattle.sat_text.specs.Numbers.{whole_of}
 use Rattle.sat_text.specs.Clauses.{is_zero, literal_of, in_order}
 use Rattle.cnf_core.specs.Lines.{ProofLine, add, delete}
@@ -73,15 +73,6 @@ line_of all = do
   first ← whole_at all
   id ← positive_of first.0
   behind_id id first.1
-
--- whether there is no word
-abbrev pub has_no_word : List (List ℕ) → Bool
-has_no_word [] = true
-has_no_word (word ∷ later) = false
-
--- whether a line is a comment or blank
-abbrev pub says_nothing : List ℕ → Bool
-says_nothing line = is_comment line || has_no_word (words line)
 
 -- a line before others, or the number of the line that is wrong
 abbrev pub before_others :

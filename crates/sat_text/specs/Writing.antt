@@ -1,19 +1,15 @@
 -- The texts that are written.
-use Rattle.std.specs.Prelude.{◌≡◌, ◌<◌, ◌^◌, All, unsigned_abs, false, true, Ok, ℕ, ◌+◌, ℤ, pos, neg_ℤ, if◌then◌else◌, List, [], ◌∷◌, ◌++◌, length, map, codes, decimal, slice_index}
+use Rattle.std.specs.Prelude.{◌≡◌, ◌<◌, ◌^◌, All, unsigned_abs, false, true, Ok, ℕ, ◌+◌, ℤ, pos, List, [], ◌∷◌, ◌++◌, length, map, codes, decimal, slice_index}
 use Rattle.std.specs.Fmt.{signed_decimal}
 use Rattle.std.specs.List.{flat_map}
 use Rattle.sat_text.specs.Words.{lines}
 use Rattle.sat_text.specs.Notes.{is_cell, notes_of, added_of}
 use Rattle.sat_text.specs.Cnf.{formula_of, plain_formula}
-use Rattle.sat_text.specs.Clauses.{is_zero}
+use Rattle.sat_text.specs.Clauses.{is_zero, number_of}
 use Rattle.cnf_core.specs.Literal.{Literal, IsVariable, IsClause}
 use Rattle.cnf_core.specs.Formula.{Cnf, NamesItsVariables}
 use Rattle.cnf_core.specs.Events.{LogEvent, given, step, givens, Note}
 use Rattle.cnf_core.specs.Lines.{ProofLine, add, delete}
-
--- the number of a literal: its variable's, negative where the literal is
-abbrev pub number_of : Literal → ℤ
-number_of l = if l.positive then pos l.var else neg_ℤ (pos l.var)
 
 -- numbers with a space before each
 abbrev pub spaced : List ℤ → List ℕ

@@ -2,9 +2,9 @@
 
 ghost use Rattle.std.specs.Prelude.{◌≡◌, ◌<◌, ◌≤◌, ◌+◌, ◌^◌, ◌++◌, ◌∷◌, [], false, ℕ, List, Result, Ok, length, OnOk, IfOk, MatchResult};
 ghost use Rattle.cnf_core.specs.Literal.{Literal, VariablesUpTo};
-ghost use Rattle.sat_text.specs.Words.{lines, words, is_comment};
+ghost use Rattle.sat_text.specs.Words.{lines, words, is_comment, PlacedWord, words_on, text_words};
 ghost use Rattle.sat_text.specs.Clauses.{in_order};
-ghost use Rattle.sat_text.specs.Cnf.{PlacedWord, words_on, text_words, clauses_at, Completes, Stops};
+ghost use Rattle.sat_text.specs.Cnf.{clauses_at, Completes, Stops};
 
 use crate::faults::Stop;
 use crate::items::{is_zero, literal};

@@ -1,8 +1,8 @@
 //! Reads the text of a formula, without what its comments say.
 
 ghost use Rattle.std.specs.Prelude.{◌≡◌, ◌<◌, ◌≤◌, ◌+◌, ◌^◌, ℕ, Ok, Err, false, length, IfOk, MatchResult};
-ghost use Rattle.sat_text.specs.Words.{lines, last_line, words};
-ghost use Rattle.sat_text.specs.Cnf.{text_words, first_word_line, formula_from, formula_of, Stops, Names, plain_formula};
+ghost use Rattle.sat_text.specs.Words.{lines, last_line, words, text_words};
+ghost use Rattle.sat_text.specs.Cnf.{first_word_line, formula_from, formula_of, Stops, Names, plain_formula};
 
 use crate::clauses::read_clauses;
 use crate::faults::Stop;

@@ -1,7 +1,7 @@
 use Rattle.std.proofs.Common.{◌≡◌, ℕ, ◌+◌, ◌≤◌, [], false, length}
 use Rattle.cnf_core.specs.Literal.{VariablesUpTo}
-use Rattle.sat_text.specs.Words.{lines}
-use Rattle.sat_text.specs.Cnf.{text_words, clauses_at, Completes}
+use Rattle.sat_text.specs.Words.{lines, text_words}
+use Rattle.sat_text.specs.Cnf.{clauses_at, Completes}
 use Rattle.sat_text.proofs.clauses.read_clauses.Given as goal
 
 abbrev pub invariant-loop-line : goal.invariant-loop-line

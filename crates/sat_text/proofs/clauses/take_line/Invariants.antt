@@ -1,7 +1,7 @@
 use Rattle.std.proofs.Common.{◌≡◌, ℕ, List, ◌++◌, length, Result}
 use Rattle.cnf_core.specs.Literal.{Literal, VariablesUpTo}
-use Rattle.sat_text.specs.Words.{words}
-use Rattle.sat_text.specs.Cnf.{PlacedWord, words_on, Completes}
+use Rattle.sat_text.specs.Words.{words, PlacedWord, words_on}
+use Rattle.sat_text.specs.Cnf.{Completes}
 use Rattle.sat_text.proofs.clauses.take_line.Given as goal
 
 abbrev pub invariant-loop-word : goal.invariant-loop-word
