@@ -49,7 +49,7 @@ digits_some word e = elim (bool_cases (are_digits word)) [
   | inr f ↦ absurd (let none : false ≡ true = rw f at e in cc)
 ]
 
-whole_plain : (piece : List ℕ) → is_some (whole_of piece) ≡ true → list_all is_plain piece ≡ true
+pub whole_plain : (piece : List ℕ) → is_some (whole_of piece) ≡ true → list_all is_plain piece ≡ true
 whole_plain [] e = refl
 whole_plain (b ∷ word) e = elim (bool_cases (eqb b 45)) [
   | inl t ↦

@@ -18,4 +18,5 @@ pub mod ClausesSpelled
 pub mod CnfSpelled
 pub mod ItemsSpelled
 pub mod LogSpelled
+pub mod NoteSpelled
 mod Vectors

@@ -91,13 +91,13 @@ plain_no_space b e = elim (bool_cases (eqb b 32)) [
   | inr f ↦ f
 ]
 
-space_cut : (word rest : List ℕ) → list_all is_plain word ≡ true → slice_split (λ b. eqb b 32) (word ++ 32 ∷ rest) ≡ word ∷ slice_split (λ b. eqb b 32) rest
+pub space_cut : (word rest : List ℕ) → list_all is_plain word ≡ true → slice_split (λ b. eqb b 32) (word ++ 32 ∷ rest) ≡ word ∷ slice_split (λ b. eqb b 32) rest
 space_cut [] rest p = refl
 space_cut (b ∷ word) rest p =
     let both = and_parts (is_plain b) (list_all is_plain word) p in
     rw (plain_no_space b both.0) (ap (onto_first b) (space_cut word rest both.1))
 
-space_none : (word : List ℕ) → list_all is_plain word ≡ true → slice_split (λ b. eqb b 32) word ≡ word ∷ []
+pub space_none : (word : List ℕ) → list_all is_plain word ≡ true → slice_split (λ b. eqb b 32) word ≡ word ∷ []
 space_none [] p = refl
 space_none (b ∷ word) p =
     let both = and_parts (is_plain b) (list_all is_plain word) p in

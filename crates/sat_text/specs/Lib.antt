@@ -8,3 +8,4 @@ pub mod CnfGrammar
 pub mod LogGrammar
 pub mod Cnf
 pub mod Notes
+pub mod NoteGrammar

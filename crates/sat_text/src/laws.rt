@@ -1,10 +1,13 @@
 //! What is written is read again, and a text has one meaning.
 
-ghost use Rattle.std.specs.Prelude.{◌≡◌, ℕ, All, List, Ok};
+ghost use Rattle.std.specs.Prelude.{◌≡◌, ◌↔◌, ℕ, All, List, Ok, Some};
 ghost use Rattle.std.specs.List.{flat_map};
 ghost use Rattle.cnf_core.specs.Lines.{ProofLine};
 ghost use Rattle.cnf_core.specs.Literal.{Literal};
 ghost use Rattle.sat_text.specs.CnfGrammar.{SpellsCnf};
+ghost use Rattle.cnf_core.specs.Events.{Note};
+ghost use Rattle.sat_text.specs.NoteGrammar.{SpellsNote, SpellsAdded};
+ghost use Rattle.sat_text.specs.Notes.{note_of, added_on};
 ghost use Rattle.sat_text.specs.LogGrammar.{SpellsLog};
 ghost use Rattle.sat_text.specs.Proofs.{proof_of};
 ghost use Rattle.sat_text.specs.Writing.{line_text, IsReadable};
@@ -26,4 +29,12 @@ pub fn cnf_texts_have_one_meaning()
 pub fn log_texts_have_one_meaning()
     ensures { (text : List ℕ) (lines others : List ProofLine) →
         SpellsLog text lines → SpellsLog text others → lines ≡ others }
+{}
+
+/// The notes of a text, and its numbers of clauses that were added, are those that its lines spell.
+pub fn notes_are_spelled()
+    ensures notes { (line : List ℕ) (note : Note) →
+        (note_of line ≡ Some note) ↔ (SpellsNote line note) }
+    ensures added { (line : List ℕ) (added : ℕ) →
+        (added_on line ≡ Some added) ↔ (SpellsAdded line added) }
 {}
