@@ -53,7 +53,7 @@ next_cases line vars (Some n) f g clauses e = elim (bool_cases (is_zero n)) [
   ]
 ]
 
-clause_before : (clause : List Literal) (read : Read) (clauses : List (List Literal)) → with_clause clause read ≡ Ok clauses → (later : List (List Literal)) × (read ≡ Ok later) × (clauses ≡ clause ∷ later)
+pub clause_before : (clause : List Literal) (read : Read) (clauses : List (List Literal)) → with_clause clause read ≡ Ok clauses → (later : List (List Literal)) × (read ≡ Ok later) × (clauses ≡ clause ∷ later)
 clause_before clause (Ok later) clauses e = let same : clause ∷ later ≡ clauses = cc in (later, refl, sym same)
 clause_before clause (Err line) clauses e = absurd cc
 

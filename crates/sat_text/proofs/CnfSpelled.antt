@@ -19,12 +19,12 @@ use Rattle.sat_text.proofs.FormulaSteps.{formula_quiet, formula_header}
 
 -- ---- the header
 
-p_word : (word : List ℕ) → is_p word ≡ true → word ≡ codes "p"
+pub p_word : (word : List ℕ) → is_p word ≡ true → word ≡ codes "p"
 p_word [] e = absurd cc
 p_word (b ∷ []) e = ap (λ (c : ℕ). c ∷ []) (eqb-true _ _ e)
 p_word (b ∷ c ∷ word) e = absurd cc
 
-cnf_word : (word : List ℕ) → is_cnf word ≡ true → word ≡ codes "cnf"
+pub cnf_word : (word : List ℕ) → is_cnf word ≡ true → word ≡ codes "cnf"
 cnf_word [] e = absurd cc
 cnf_word (a ∷ []) e = absurd cc
 cnf_word (a ∷ b ∷ []) e = absurd cc
@@ -35,7 +35,7 @@ cnf_word (a ∷ b ∷ c ∷ []) e =
 cnf_word (a ∷ b ∷ c ∷ d ∷ word) e = absurd cc
 
 -- two words are the numbers of variables and of clauses
-abbrev AreCounts : ℕ → ℕ → List ℕ → List ℕ → Type 0
+abbrev pub AreCounts : ℕ → ℕ → List ℕ → List ℕ → Type 0
 AreCounts vars count vars_word count_word = (natural_of vars_word ≡ Some vars) × (natural_of count_word ≡ Some count)
 
 end_sound : (vars v n : ℕ) (o : Option ℕ) (found : List (List ℕ)) → header_end vars o found ≡ Good v n → (o ≡ Some n) × (found ≡ []) × (vars ≡ v)
@@ -68,7 +68,7 @@ format_sound v n (word ∷ found) e = elim (bool_cases (is_cnf word)) [
   | inr f ↦ absurd (let wrong = rw f at e in cc)
 ]
 
-header_sound : (v n : ℕ) (found : List (List ℕ)) → header_of found ≡ Good v n → (w c : List ℕ) × (found ≡ codes "p" ∷ codes "cnf" ∷ w ∷ c ∷ []) × AreCounts v n w c
+pub header_sound : (v n : ℕ) (found : List (List ℕ)) → header_of found ≡ Good v n → (w c : List ℕ) × (found ≡ codes "p" ∷ codes "cnf" ∷ w ∷ c ∷ []) × AreCounts v n w c
 unfolding header_of
 header_sound v n [] e = absurd cc
 header_sound v n (word ∷ found) e = elim (bool_cases (is_p word)) [
@@ -78,7 +78,7 @@ header_sound v n (word ∷ found) e = elim (bool_cases (is_p word)) [
   | inr f ↦ absurd (let wrong = rw f at e in cc)
 ]
 
-header_complete : (v n : ℕ) (w c : List ℕ) → AreCounts v n w c → header_of (codes "p" ∷ codes "cnf" ∷ w ∷ c ∷ []) ≡ Good v n
+pub header_complete : (v n : ℕ) (w c : List ℕ) → AreCounts v n w c → header_of (codes "p" ∷ codes "cnf" ∷ w ∷ c ∷ []) ≡ Good v n
 unfolding header_of header_format header_vars header_count
 header_complete v n w c e = rw (e.0, e.1) refl
 
@@ -100,7 +100,7 @@ spoken_words line e = elim (bool_cases (is_comment line)) [
   | inr f ↦ rw f refl
 ]
 
-some_word : (line : List ℕ) → says_nothing line ≡ false → (word : List ℕ) × (later : List (List ℕ)) × (words line ≡ word ∷ later)
+pub some_word : (line : List ℕ) → says_nothing line ≡ false → (word : List ℕ) × (later : List (List ℕ)) × (words line ≡ word ∷ later)
 some_word line e = some (words line) (spoken line e)
   where
     some : (found : List (List ℕ)) → has_no_word found ≡ false → (word : List ℕ) × (later : List (List ℕ)) × (found ≡ word ∷ later)
@@ -210,7 +210,7 @@ header_read last number vars clauses line later s same =
     (subst (λ (n : ℕ). AreBehind n s.later) (sym same) (recursion_from_All (λ (word : PlacedWord). s.line < word.line) s.later s.alone))
     (s.words ∙ ap (λ (n : ℕ). words_on n (codes "p" ∷ codes "cnf" ∷ s.vars_word ∷ s.count_word ∷ []) ++ s.later) (sym same))
 
-same_line : (number other : ℕ) (word first : List ℕ) (found rest : List (List ℕ)) (a b : List PlacedWord) → words_on number (word ∷ found) ++ a ≡ words_on other (first ∷ rest) ++ b → number ≡ other
+pub same_line : (number other : ℕ) (word first : List ℕ) (found rest : List (List ℕ)) (a b : List PlacedWord) → words_on number (word ∷ found) ++ a ≡ words_on other (first ∷ rest) ++ b → number ≡ other
 same_line number other word first found rest a b e =
     ap (λ (w : PlacedWord). w.line) (cons_head (record { line = number; bytes = word }) (record { line = other; bytes = first }) (words_on number found ++ a) (words_on other rest ++ b) e)
 

@@ -19,4 +19,7 @@ pub mod CnfSpelled
 pub mod ItemsSpelled
 pub mod LogSpelled
 pub mod NoteSpelled
+pub mod ClauseFaults
+pub mod CnfFaults
 mod Vectors
+mod VectorsGrammar

@@ -1,5 +1,5 @@
 -- The reader of notes reads what their grammar spells.
-use Rattle.std.proofs.Common.{◌≡◌, ℕ, ℤ, ◌≤◌, Bool, true, false, eqb, List, [], ◌∷◌, ◌++◌, length, drop, Option, Some, None, refl, sym, ap, subst, ◌∙◌, arith, inl, inr, ◌⊎◌}
+use Rattle.std.proofs.Common.{◌≡◌, ℕ, ℤ, ◌≤◌, true, eqb, List, [], ◌∷◌, ◌++◌, length, drop, Option, Some, None, refl, sym, ap, subst, ◌∙◌, inl, inr, ◌⊎◌}
 use Rattle.std.proofs.lemmas.Bool.{eqb-true}
 use Rattle.std.proofs.lemmas.Bool.Decides.{Decides-eqb}
 use Rattle.std.proofs.lemmas.Slice.Eq.{starts_is}
@@ -8,7 +8,7 @@ use Rattle.std.specs.Prelude.{codes, nat_eq, is_some}
 use Rattle.cnf_core.specs.Literal.{Literal}
 use Rattle.cnf_core.specs.Events.{Note}
 use Rattle.sat_text.specs.Words.{is_plain}
-use Rattle.sat_text.specs.Numbers.{natural_of, whole_of}
+use Rattle.sat_text.specs.Numbers.{whole_of}
 use Rattle.sat_text.specs.Clauses.{is_zero, literal_of, number_of}
 use Rattle.sat_text.specs.Notes.{is_cell, note_with, note_literal, note_value, note_at, note_of, added_on}
 use Rattle.sat_text.specs.NoteGrammar.{SpellsNote, SpellsAdded}

@@ -1,4 +1,5 @@
--- The text of a formula: its header and its clauses.
+-- How the text of a formula is read from left to right. What a text means, and where its fault is, says
+-- CnfGrammar; that reading answers it is a clause of `read_cnf`.
 use Rattle.std.specs.Prelude.{◌≡◌, ◌<◌, ◌^◌, ℕ, zero, suc, ◌+◌, ℤ, Bool, false, ◌==◌, ◌&&◌, nat_le, if◌then◌else◌, List, [], ◌∷◌, ◌++◌, Option, Some, None, Result, Ok, Err}
 use Rattle.cnf_core.specs.Literal.{Literal}
 use Rattle.sat_text.specs.Words.{lines, last_line, words, says_nothing, PlacedWord, text_words}

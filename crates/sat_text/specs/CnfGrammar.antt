@@ -1,7 +1,7 @@
 -- Which texts spell which formula, told without a reader.
-use Rattle.std.specs.Prelude.{◌≡◌, ◌<◌, ◌≤◌, ℕ, ℤ, pos, List, [], ◌∷◌, ◌++◌, All, length, map, codes, Some}
+use Rattle.std.specs.Prelude.{◌≡◌, ◌<◌, ◌≤◌, ◌⊎◌, ℕ, ℤ, pos, List, [], ◌∷◌, ◌++◌, All, length, map, codes, Some}
 use Rattle.cnf_core.specs.Literal.{Literal, IsOrdered, HaveSameLiterals}
-use Rattle.sat_text.specs.Words.{PlacedWord, words_on, placed_words}
+use Rattle.sat_text.specs.Words.{last_line, PlacedWord, words_on, placed_words}
 use Rattle.sat_text.specs.Numbers.{natural_of, whole_of}
 use Rattle.sat_text.specs.Clauses.{number_of}
 
@@ -44,3 +44,23 @@ pub record SpellsFormula (vars : ℕ) (clauses : List (List Literal)) (found : L
 -- a text spells a formula where its words do, without those of its comments
 abbrev pub SpellsCnf : List ℕ → ℕ → List (List Literal) → Type 0
 SpellsCnf text vars clauses = SpellsFormula vars clauses (placed_words text)
+
+-- words behind which others can stand, so that all of them spell a formula
+abbrev pub CanGoOn : List PlacedWord → Type 0
+CanGoOn front =
+    (later : List PlacedWord) × (vars : ℕ) × (clauses : List (List Literal)) × SpellsFormula vars clauses (front ++ later)
+
+-- the first word with which no text can go on
+pub record IsFirstWrongWord (found : List PlacedWord) (word : PlacedWord) : Type 0 where
+  pub front : List PlacedWord
+  pub later : List PlacedWord
+  pub all_words : found ≡ front ++ word ∷ later
+  pub good_before : CanGoOn front
+  pub not_good : CanGoOn (front ++ word ∷ []) → ⊥
+
+-- The line of a text's fault: that of the first word with which no text can go on, or the last line
+-- where the words could go on, and are too few.
+abbrev pub IsFaultLine : List ℕ → ℕ → Type 0
+IsFaultLine text line =
+    ((word : PlacedWord) × IsFirstWrongWord (placed_words text) word × (line ≡ word.line))
+    ⊎ (CanGoOn (placed_words text) × (line ≡ last_line text))

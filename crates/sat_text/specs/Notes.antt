@@ -1,4 +1,4 @@
--- What the comments of a formula's text say.
+-- What the comments of a formula's text say, and how it is read. Which lines are notes says NoteGrammar.
 use Rattle.std.specs.Prelude.{ℕ, ◌+◌, ℤ, Bool, false, not, ◌&&◌, ◌==◌, nat_eq, if◌then◌else◌, is_some, unwrap_or, position, List, [], ◌∷◌, length, take, drop, fold, codes, Option, Some, None}
 use Rattle.std.specs.List.{list_all, slice_split, filter_map, starts_with}
 use Rattle.ep_base.specs.TokenTexts.{is_name, is_word}

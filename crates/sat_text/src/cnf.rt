@@ -3,7 +3,7 @@
 ghost use Rattle.std.specs.Prelude.{◌≡◌, ◌<◌, ◌^◌, ◌↔◌, ℕ, List, false, length, map, Ok, Err, IfOk, MatchResult, IsErrOf};
 ghost use Rattle.cnf_core.specs.Events.{plain_note};
 ghost use Rattle.cnf_core.specs.Literal.{Literal};
-ghost use Rattle.sat_text.specs.CnfGrammar.{SpellsCnf};
+ghost use Rattle.sat_text.specs.CnfGrammar.{SpellsCnf, IsFaultLine};
 ghost use Rattle.sat_text.specs.Words.{lines};
 ghost use Rattle.sat_text.specs.Cnf.{formula_of, plain_formula};
 ghost use Rattle.sat_text.specs.Notes.{notes_of, added_of};
@@ -59,6 +59,7 @@ fn formula(alloc: Global, text: &[u8]) -> Result<Formula, CnfError>
         (λ error. (line : ℕ) → error ≡ CnfError.Bad line → ⊥) }
     ensures origin { IfOk result (λ f. f.from_new ≡ false) }
     ensures found { IfOk result (λ f. formula_of text.now ≡ Ok (plain_formula f)) }
+    ensures fault { (line : ℕ) → result ≡ Err (CnfError.Bad line) → IsFaultLine text.now line }
     ensures bad { (line : ℕ) → result ≡ Err (CnfError.Bad line) → formula_of text.now ≡ Err line }
     ensures short { IsErrOf result CnfError.TooLong → ⊥ }
 {
@@ -90,6 +91,8 @@ pub fn read_cnf(alloc: Global, text: &[u8]) -> Result<CnfFile, CnfError>
     ensures notes { IfOk result
         (λ file. map plain_note file.notes.items ≡ notes_of (lines text.now)) }
     ensures added { IfOk result (λ file. file.added ≡ added_of 0 (lines text.now)) }
+    // The line of a fault is that of the first word with which no text can go on, or the last line.
+    ensures fault { (line : ℕ) → result ≡ Err (CnfError.Bad line) → IsFaultLine text.now line }
     ensures bad { (line : ℕ) → result ≡ Err (CnfError.Bad line) → formula_of text.now ≡ Err line }
 {
     if text.len() > MOST_BYTES {
