@@ -1,5 +1,5 @@
--- How the text of a formula is read from left to right. What a text means, and where its fault is, says
--- CnfGrammar; that reading answers it is a clause of `read_cnf`.
+-- How the text of a formula is read from left to right. What a text means, and where its fault is,
+-- says CnfGrammar; that reading answers it is a clause of `read_cnf`.
 use Rattle.std.specs.Prelude.{◌≡◌, ◌<◌, ◌^◌, ℕ, zero, suc, ◌+◌, ℤ, Bool, false, ◌==◌, ◌&&◌, nat_le, if◌then◌else◌, List, [], ◌∷◌, ◌++◌, Option, Some, None, Result, Ok, Err}
 use Rattle.cnf_core.specs.Literal.{Literal}
 use Rattle.sat_text.specs.Words.{lines, last_line, words, says_nothing, PlacedWord, text_words}
@@ -66,7 +66,8 @@ with_clause clause (Err line) = Err line
 -- Where the next word is a number: what follows a literal, or what follows the end of a clause.
 -- Otherwise the word is wrong, and so is a variable that is too great.
 abbrev pub number_next :
-    ℕ → ℕ → Option ℤ → (ℤ → Result (List (List Literal)) ℕ) → Result (List (List Literal)) ℕ → Result (List (List Literal)) ℕ
+    ℕ → ℕ → Option ℤ → (ℤ → Result (List (List Literal)) ℕ) → Result (List (List Literal)) ℕ
+    → Result (List (List Literal)) ℕ
 number_next line vars None at_literal at_end = Err line
 number_next line vars (Some n) at_literal at_end =
     if is_zero n then at_end

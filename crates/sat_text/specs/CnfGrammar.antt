@@ -18,23 +18,26 @@ pub record IsClauseOf (clause literals : List Literal) : Type 0 where
   pub ordered : IsOrdered clause
   pub same : HaveSameLiterals clause literals
 
--- The numbers of clauses: those of the literals that make the first clause, a 0, and then the numbers
--- of the other clauses.
+-- The numbers of clauses: those of the literals that make the first clause, a 0, and then the
+-- numbers of the other clauses.
 abbrev pub SpellsClauses : ℕ → List (List Literal) → List ℤ → Type 0
 SpellsClauses vars [] numbers = numbers ≡ []
 SpellsClauses vars (clause ∷ clauses) numbers =
-    (literals : List Literal) × (later : List ℤ) × (numbers ≡ map number_of literals ++ pos 0 ∷ later)
+    (literals : List Literal) × (later : List ℤ)
+    × (numbers ≡ map number_of literals ++ pos 0 ∷ later)
     × AreLiteralsUpTo vars literals × IsClauseOf clause literals × SpellsClauses vars clauses later
 
--- Words that spell a formula: `p`, `cnf`, the number of variables and the number of clauses, alone on
--- one line, and then the numbers of the clauses.
-pub record SpellsFormula (vars : ℕ) (clauses : List (List Literal)) (found : List PlacedWord) : Type 0 where
+-- Words that spell a formula: `p`, `cnf`, the number of variables and the number of clauses, alone
+-- on one line, and then the numbers of the clauses.
+pub record SpellsFormula
+    (vars : ℕ) (clauses : List (List Literal)) (found : List PlacedWord) : Type 0 where
   pub line : ℕ
   pub vars_word : List ℕ
   pub count_word : List ℕ
   pub later : List PlacedWord
   pub numbers : List ℤ
-  pub words : found ≡ words_on line (codes "p" ∷ codes "cnf" ∷ vars_word ∷ count_word ∷ []) ++ later
+  pub words :
+      found ≡ words_on line (codes "p" ∷ codes "cnf" ∷ vars_word ∷ count_word ∷ []) ++ later
   pub variables : natural_of vars_word ≡ Some vars
   pub count : natural_of count_word ≡ Some (length clauses)
   pub alone : All (λ word. line < word.line) later
@@ -48,7 +51,8 @@ SpellsCnf text vars clauses = SpellsFormula vars clauses (placed_words text)
 -- words behind which others can stand, so that all of them spell a formula
 abbrev pub CanGoOn : List PlacedWord → Type 0
 CanGoOn front =
-    (later : List PlacedWord) × (vars : ℕ) × (clauses : List (List Literal)) × SpellsFormula vars clauses (front ++ later)
+    (later : List PlacedWord) × (vars : ℕ) × (clauses : List (List Literal))
+    × SpellsFormula vars clauses (front ++ later)
 
 -- the first word with which no text can go on
 pub record IsFirstWrongWord (found : List PlacedWord) (word : PlacedWord) : Type 0 where
@@ -58,8 +62,8 @@ pub record IsFirstWrongWord (found : List PlacedWord) (word : PlacedWord) : Type
   pub good_before : CanGoOn front
   pub not_good : CanGoOn (front ++ word ∷ []) → ⊥
 
--- The line of a text's fault: that of the first word with which no text can go on, or the last line
--- where the words could go on, and are too few.
+-- The line of a text's fault: that of the first word with which no text can go on, or the last
+-- line where the words could go on, and are too few.
 abbrev pub IsFaultLine : List ℕ → ℕ → Type 0
 IsFaultLine text line =
     ((word : PlacedWord) × IsFirstWrongWord (placed_words text) word × (line ≡ word.line))

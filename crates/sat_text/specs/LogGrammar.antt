@@ -7,12 +7,13 @@ use Rattle.sat_text.specs.Numbers.{whole_of}
 use Rattle.sat_text.specs.Clauses.{number_of}
 use Rattle.sat_text.specs.CnfGrammar.{SpellsNumbers, IsClauseOf}
 
--- Words that spell a line: an id, the numbers of the literals that make its clause, a 0, its hints,
--- none of which is 0, and a 0. Or an id, a `d`, the ids that the line deletes, and a 0. Ids aren't 0.
+-- Words that spell a line: an id, the numbers of the literals that make its clause, a 0, its
+-- hints, none of which is 0, and a 0. Or an id, a `d`, the ids that the line deletes, and a 0. Ids
+-- aren't 0.
 abbrev pub SpellsLine : ProofLine → List (List ℕ) → Type 0
 SpellsLine (add id clause hints) found =
-    (literals : List Literal) × (1 ≤ id) × All (λ l. 1 ≤ l.var) literals × IsClauseOf clause literals
-    × All (λ hint. hint ≡ pos 0 → ⊥) hints
+    (literals : List Literal) × (1 ≤ id) × All (λ l. 1 ≤ l.var) literals
+    × IsClauseOf clause literals × All (λ hint. hint ≡ pos 0 → ⊥) hints
     × SpellsNumbers (pos id ∷ (map number_of literals ++ pos 0 ∷ (hints ++ pos 0 ∷ []))) found
 SpellsLine (delete ids) found =
     (id : ℕ) × (id_word : List ℕ) × (later : List (List ℕ)) × (found ≡ id_word ∷ codes "d" ∷ later)

@@ -5,8 +5,8 @@ use Rattle.sat_text.specs.Numbers.{natural_of, whole_of}
 use Rattle.sat_text.specs.Clauses.{number_of}
 use Rattle.sat_text.specs.Notes.{is_cell}
 
--- A line spells a note: `c cell `, the name of the cell, the number of its value and the number of the
--- literal, with one space between each two, and nothing else.
+-- A line spells a note: `c cell `, the name of the cell, the number of its value and the number
+-- of the literal, with one space between each two, and nothing else.
 pub record SpellsNote (line : List ℕ) (note : Note) : Type 0 where
   pub value_word : List ℕ
   pub literal_word : List ℕ

@@ -1,4 +1,5 @@
--- What the comments of a formula's text say, and how it is read. Which lines are notes says NoteGrammar.
+-- What the comments of a formula's text say, and how it is read. Which lines are notes says
+-- NoteGrammar.
 use Rattle.std.specs.Prelude.{ℕ, ◌+◌, ℤ, Bool, false, not, ◌&&◌, ◌==◌, nat_eq, if◌then◌else◌, is_some, unwrap_or, position, List, [], ◌∷◌, length, take, drop, fold, codes, Option, Some, None}
 use Rattle.std.specs.List.{list_all, slice_split, filter_map, starts_with}
 use Rattle.ep_base.specs.TokenTexts.{is_name, is_word}
@@ -64,7 +65,8 @@ note_at (cell ∷ pieces) = note_value cell pieces
 -- the note that a line is
 abbrev pub note_of : List ℕ → Option Note
 note_of line =
-    if starts_with nat_eq line (codes "c cell ") then note_at (slice_split (λ b. b == 32) (drop 7 line)) else None
+    if starts_with nat_eq line (codes "c cell ") then note_at (slice_split (λ b. b == 32) (drop 7 line))
+    else None
 
 -- the number of clauses that a line says were added
 abbrev pub added_on : List ℕ → Option ℕ

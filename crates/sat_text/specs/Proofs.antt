@@ -1,5 +1,5 @@
--- How the text of a proof is read from left to right. What a text means, and where its fault is, says
--- LogGrammar; that reading answers it is a clause of `read_log`.
+-- How the text of a proof is read from left to right. What a text means, and where its fault is,
+-- says LogGrammar; that reading answers it is a clause of `read_log`.
 use Rattle.std.specs.Prelude.{ℕ, suc, ◌+◌, ℤ, pos, negsuc, zero, Bool, false, ◌==◌, if◌then◌else◌, List, [], ◌∷◌, Option, Some, None, Result, Ok, Err}
 use Rattle.cnf_core.specs.Literal.{Literal}
 use Rattle.sat_text.specs.Words.{lines, words, says_nothing}

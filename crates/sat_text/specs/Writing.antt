@@ -42,8 +42,8 @@ step_lines ids (id ∷ own) (step clause hints ∷ events) =
 abbrev pub log_lines : List LogEvent → List ProofLine
 log_lines events = step_lines (event_ids events) (event_ids events) events
 
--- A line's text: the id, the literals and a 0, the hints and a 0. A line that deletes keeps no id of
--- its own, and gets a 1 for it: the 1, a `d`, the ids and a 0.
+-- A line's text: the id, the literals and a 0, the hints and a 0. A line that deletes keeps no id
+-- of its own, and gets a 1 for it: the 1, a `d`, the ids and a 0.
 abbrev pub line_text : ProofLine → List ℕ
 line_text (add id clause hints) =
     decimal id

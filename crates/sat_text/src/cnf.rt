@@ -53,8 +53,8 @@ impl From<Memory> for CnfError {
 fn formula(alloc: Global, text: &[u8]) -> Result<Formula, CnfError>
     requires { length text.now < 2 ^ 62 }
     ensures spelled { IfOk result (λ f. SpellsCnf text.now f.vars f.clauses) }
-    ensures complete { (vars : ℕ) (clauses : List (List Literal)) → SpellsCnf text.now vars clauses →
-        MatchResult result
+    ensures complete { (vars : ℕ) (clauses : List (List Literal)) →
+        SpellsCnf text.now vars clauses → MatchResult result
         (λ f. (f.vars ≡ vars) × (f.clauses ≡ clauses))
         (λ error. (line : ℕ) → error ≡ CnfError.Bad line → ⊥) }
     ensures origin { IfOk result (λ f. f.from_new ≡ false) }
@@ -82,8 +82,8 @@ pub fn read_cnf(alloc: Global, text: &[u8]) -> Result<CnfFile, CnfError>
     // What is read is what the text spells, and no text that spells a formula is refused as bad.
     ensures spelled { IfOk result
         (λ file. SpellsCnf text.now file.formula.vars file.formula.clauses) }
-    ensures complete { (vars : ℕ) (clauses : List (List Literal)) → SpellsCnf text.now vars clauses →
-        MatchResult result
+    ensures complete { (vars : ℕ) (clauses : List (List Literal)) →
+        SpellsCnf text.now vars clauses → MatchResult result
         (λ file. (file.formula.vars ≡ vars) × (file.formula.clauses ≡ clauses))
         (λ error. (line : ℕ) → error ≡ CnfError.Bad line → ⊥) }
     ensures formula { IfOk result (λ file. formula_of text.now ≡ Ok (plain_formula file.formula)) }
@@ -91,7 +91,7 @@ pub fn read_cnf(alloc: Global, text: &[u8]) -> Result<CnfFile, CnfError>
     ensures notes { IfOk result
         (λ file. map plain_note file.notes.items ≡ notes_of (lines text.now)) }
     ensures added { IfOk result (λ file. file.added ≡ added_of 0 (lines text.now)) }
-    // The line of a fault is that of the first word with which no text can go on, or the last line.
+    // A fault is the line of the first word with which no text can go on, or the last line.
     ensures fault { (line : ℕ) → result ≡ Err (CnfError.Bad line) → IsFaultLine text.now line }
     ensures bad { (line : ℕ) → result ≡ Err (CnfError.Bad line) → formula_of text.now ≡ Err line }
 {

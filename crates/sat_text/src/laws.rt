@@ -31,7 +31,7 @@ pub fn log_texts_have_one_meaning()
         SpellsLog text lines → SpellsLog text others → lines ≡ others }
 {}
 
-/// The notes of a text, and its numbers of clauses that were added, are those that its lines spell.
+/// Which lines are read as notes, and as numbers of clauses that were added.
 pub fn notes_are_spelled()
     ensures notes { (line : List ℕ) (note : Note) →
         (note_of line ≡ Some note) ↔ (SpellsNote line note) }
