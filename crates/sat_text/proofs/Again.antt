@@ -100,7 +100,7 @@ plain_not_blank b e = first_false (is_blank b) (b == 10) e
 plain_not_end : (b : ℕ) → is_plain b ≡ true → (b == 10) ≡ false
 plain_not_end b e = second_false (is_blank b) (b == 10) e
 
-plain_digits : (ds : List ℕ) → Digits ds → list_all is_plain ds ≡ true
+pub plain_digits : (ds : List ℕ) → Digits ds → list_all is_plain ds ≡ true
 plain_digits [] d = refl
 plain_digits (b ∷ ds) d =
     let both = and_parts (is_ascii_digit b) (list_all is_ascii_digit ds) d in

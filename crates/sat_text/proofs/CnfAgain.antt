@@ -7,10 +7,10 @@ use Rattle.std.specs.List.{flat_map, AllByRecursion}
 use Rattle.std.specs.Prelude.{codes}
 use Rattle.std.specs.Fmt.{signed_decimal}
 use Rattle.cnf_core.specs.Literal.{Literal, IsOrdered, IsVariable}
-use Rattle.sat_text.specs.Words.{lines, words, is_comment}
-use Rattle.sat_text.specs.Clauses.{clause_of}
-use Rattle.sat_text.specs.Cnf.{Word, words_on, said_words, text_words, with_clause, clauses_at}
-use Rattle.sat_text.specs.Writing.{number_of, clause_text}
+use Rattle.sat_text.specs.Words.{lines, words, is_comment, PlacedWord, words_on, said_words, text_words}
+use Rattle.sat_text.specs.Clauses.{in_order, number_of}
+use Rattle.sat_text.specs.Cnf.{with_clause, clauses_at}
+use Rattle.sat_text.specs.Writing.{clause_text}
 use Rattle.sat_text.proofs.Order.{clause_again}
 use Rattle.sat_text.proofs.Again.{whole_again, AreWords, number_is_word, joined, words_again, IsLine, line_again, joined_line}
 use Rattle.sat_text.proofs.LogAgain.{literal_again, signed_short, number_no_comment, zero_word}
@@ -48,17 +48,17 @@ clause_spaced (l ∷ clause) =
 abbrev pub IsClauseUpTo : ℕ → List Literal → Type 0
 IsClauseUpTo vars clause = IsOrdered clause × AllByRecursion (λ l. IsVariable l.var × (l.var ≤ vars)) clause
 
-read_literals : (last vars count number : ℕ) (begun literals : List Literal) (later : List Word) → AllByRecursion (λ l. IsVariable l.var × (l.var ≤ vars)) literals
-    → clauses_at last vars (suc count) begun (words_on number (clause_words literals) ++ later) ≡ with_clause (clause_of (begun ++ literals)) (clauses_at last vars count [] later)
+read_literals : (last vars count number : ℕ) (begun literals : List Literal) (later : List PlacedWord) → AllByRecursion (λ l. IsVariable l.var × (l.var ≤ vars)) literals
+    → clauses_at last vars (suc count) begun (words_on number (clause_words literals) ++ later) ≡ with_clause (in_order (begun ++ literals)) (clauses_at last vars count [] later)
 unfolding clauses_at
-read_literals last vars count number begun [] later v = ap (λ (c : List Literal). with_clause (clause_of c) (clauses_at last vars count [] later)) (sym (append-nil begun))
+read_literals last vars count number begun [] later v = ap (λ (c : List Literal). with_clause (in_order c) (clauses_at last vars count [] later)) (sym (append-nil begun))
 read_literals last vars count number begun (l ∷ literals) later v =
     let s = signed_short l.var l.positive v.0.0 in
     let fits : leb l.var vars ≡ true = grind (arith, nat_tests, v.0.1) in
     rw (whole_again (number_of l) s.0, s.1, literal_again l v.0.0, fits)
-    (read_literals last vars count number (begun ++ l ∷ []) literals later v.1 ∙ ap (λ (c : List Literal). with_clause (clause_of c) (clauses_at last vars count [] later)) (append_assoc begun (l ∷ []) literals))
+    (read_literals last vars count number (begun ++ l ∷ []) literals later v.1 ∙ ap (λ (c : List Literal). with_clause (in_order c) (clauses_at last vars count [] later)) (append_assoc begun (l ∷ []) literals))
 
-clause_read : (last vars count number : ℕ) (clause : List Literal) (later : List Word) → IsClauseUpTo vars clause
+clause_read : (last vars count number : ℕ) (clause : List Literal) (later : List PlacedWord) → IsClauseUpTo vars clause
     → clauses_at last vars (suc count) [] (words_on number (clause_words clause) ++ later) ≡ with_clause clause (clauses_at last vars count [] later)
 clause_read last vars count number clause later c =
     read_literals last vars count number [] clause later c.1 ∙ ap (λ (k : List Literal). with_clause k (clauses_at last vars count [] later)) (clause_again clause c.0)

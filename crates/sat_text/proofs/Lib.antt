@@ -10,6 +10,16 @@ pub mod NotePieces
 pub mod Again
 pub mod LogAgain
 pub mod CnfAgain
+pub mod CellPlain
 pub mod TextAgain
 pub mod Readable
+pub mod Spelling
+pub mod ClausesSpelled
+pub mod CnfSpelled
+pub mod ItemsSpelled
+pub mod LogSpelled
+pub mod NoteSpelled
+pub mod ClauseFaults
+pub mod CnfFaults
 mod Vectors
+mod VectorsGrammar

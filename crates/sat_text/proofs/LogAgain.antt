@@ -10,12 +10,12 @@ use Rattle.std.specs.Prelude.{All, unsigned_abs, codes}
 use Rattle.std.proofs.lemmas.List.Elements.{recursion_from_All}
 use Rattle.std.specs.Fmt.{signed_decimal}
 use Rattle.cnf_core.specs.Literal.{Literal, IsVariable, IsClause}
-use Rattle.sat_text.specs.Words.{lines, words, is_comment}
+use Rattle.sat_text.specs.Words.{lines, words, is_comment, says_nothing}
+use Rattle.sat_text.specs.Clauses.{is_zero, literal_of, number_of}
+use Rattle.sat_text.specs.Proofs.{whole_at, items_at, positive_of, any_literal, any_hint, addition_at, is_d, behind_id, line_of, before_others, proof_from, proof_of}
+use Rattle.sat_text.specs.Writing.{spaced, line_text, log_lines, log_text, IsShort, IsReadable}
 use Rattle.sat_text.specs.Numbers.{whole_of}
-use Rattle.sat_text.specs.Clauses.{is_zero, literal_of}
 use Rattle.cnf_core.specs.Lines.{ProofLine, add, delete}
-use Rattle.sat_text.specs.Proofs.{whole_at, items_at, positive_of, any_literal, any_hint, addition_at, is_d, behind_id, line_of, says_nothing, before_others, proof_from, proof_of}
-use Rattle.sat_text.specs.Writing.{number_of, spaced, line_text, log_lines, log_text, IsShort, IsReadable}
 use Rattle.sat_text.proofs.Cuts.{bool_cases}
 use Rattle.sat_text.proofs.Order.{clause_again}
 use Rattle.sat_text.proofs.Again.{whole_again, IsWord, AreWords, number_is_word, joined, words_again, line_again, joined_line}
@@ -60,7 +60,7 @@ unfolding items_at
 items_again item number [] later a h = refl
 items_again item number (x ∷ xs) later a h = rw (whole_again (number x) a.0, a.1, h x, items_again item number xs later a.2 h) refl
 
-signed_again : (v : ℕ) (positive : Bool) → 1 ≤ v → literal_of (cond positive (pos v) (neg_ℤ (pos v))) ≡ record { var = v; positive = positive }
+pub signed_again : (v : ℕ) (positive : Bool) → 1 ≤ v → literal_of (cond positive (pos v) (neg_ℤ (pos v))) ≡ record { var = v; positive = positive }
 signed_again zero positive some = absurd (omega arith)
 signed_again (suc v) true some = refl
 signed_again (suc v) false some = refl
@@ -100,7 +100,7 @@ hints_again [] later h = refl
 hints_again (n ∷ hints) later h = rw (whole_again n h.0.0, h.0.1, hints_again hints later h.1) refl
 
 -- a number's word is no `d`, and begins no comment
-number_not_d : (word : List ℕ) (n : ℤ) → whole_of word ≡ Some n → is_d word ≡ false
+pub number_not_d : (word : List ℕ) (n : ℤ) → whole_of word ≡ Some n → is_d word ≡ false
 number_not_d [] n e = refl
 number_not_d (b ∷ []) n e = elim (bool_cases (eqb b 100)) [
   | inl t ↦ absurd (let same : b ≡ 100 = eqb-true _ _ t in let none : None ≡ Some n = subst (λ (c : ℕ). whole_of (c ∷ []) ≡ Some n) same e in cc)

@@ -5,9 +5,9 @@ use Rattle.cnf_core.specs.declared.proof.Line.{Line}
 use Rattle.cnf_core.specs.declared.proof.Proof.{Proof}
 use Rattle.sat_text.specs.declared.proof.LogError.{LogError}
 use Rattle.sat_text.specs.declared.proof.LogError.TheVariants.{Bad}
-use Rattle.sat_text.specs.Words.{lines, words}
+use Rattle.sat_text.specs.Words.{lines, words, says_nothing}
+use Rattle.sat_text.specs.Proofs.{line_of, before_others, proof_from, proof_of}
 use Rattle.cnf_core.specs.Lines.{ProofLine, plain_line, plain_lines}
-use Rattle.sat_text.specs.Proofs.{says_nothing, line_of, before_others, proof_from, proof_of}
 
 -- the lines that were read before, and those that are still read
 abbrev pub with_read : List ProofLine → Result (List ProofLine) ℕ → Result (List ProofLine) ℕ

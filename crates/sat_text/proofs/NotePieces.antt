@@ -9,7 +9,7 @@ onto_some : (b : ℕ) (pieces : List (List ℕ)) → (piece : List ℕ) × (more
 onto_some b [] = (b ∷ [], [], refl)
 onto_some b (piece ∷ pieces) = (b ∷ piece, pieces, refl)
 
-some_piece : (p : ℕ → Bool) (bytes : List ℕ) → (piece : List ℕ) × (more : List (List ℕ)) × (slice_split p bytes ≡ piece ∷ more)
+pub some_piece : (p : ℕ → Bool) (bytes : List ℕ) → (piece : List ℕ) × (more : List (List ℕ)) × (slice_split p bytes ≡ piece ∷ more)
 some_piece p [] = ([], [], refl)
 some_piece p (b ∷ bytes) = elim (bool_cases (p b)) [
   | inl t ↦ ([], slice_split p bytes, rw t refl)

@@ -3,9 +3,11 @@ use Rattle.std.proofs.Common.{◌≡◌, ℕ, suc, ◌<◌, ◌≤◌, Bool, tru
 use Rattle.std.proofs.lemmas.Bool.Decides.{nat_tests}
 use Rattle.std.proofs.lemmas.Bool.{ltb-true, ltb-false, eqb-true}
 use Rattle.std.specs.List.{All, Contains}
+use Rattle.std.proofs.lemmas.List.Elements.{All-nil, All-cons}
+use Rattle.std.proofs.lemmas.List.Kept.{AllPairs-cons}
 use Rattle.std.proofs.lemmas.List.Folds.{list_any_at, Any-from_list_any}
 use Rattle.cnf_core.specs.Literal.{Literal, Precedes, IsOrdered, HaveSameLiterals, same_sign, same_literal, is_among, code_of}
-use Rattle.sat_text.specs.Clauses.{with_literal, clause_of}
+use Rattle.sat_text.specs.Clauses.{with_literal, in_order}
 use Rattle.sat_text.proofs.Cuts.{bool_cases}
 
 same_sign_is : (a b : Bool) → same_sign a b ≡ true → a ≡ b
@@ -185,13 +187,13 @@ among_with l q (m ∷ literals) =
       ]
     ]
 
-clause_ascends : (literals : List Literal) → Ascends (clause_of literals)
+clause_ascends : (literals : List Literal) → Ascends (in_order literals)
 clause_ascends [] = tt
-clause_ascends (l ∷ literals) = ascends_with l (clause_of literals) (clause_ascends literals)
+clause_ascends (l ∷ literals) = ascends_with l (in_order literals) (clause_ascends literals)
 
-clause_among : (literals : List Literal) (q : Literal) → is_among (clause_of literals) q ≡ is_among literals q
+clause_among : (literals : List Literal) (q : Literal) → is_among (in_order literals) q ≡ is_among literals q
 clause_among [] q = refl
-clause_among (l ∷ literals) q = among_with l q (clause_of literals) ∙ ap (λ (b : Bool). same_literal q l || b) (clause_among literals q)
+clause_among (l ∷ literals) q = among_with l q (in_order literals) ∙ ap (λ (b : Bool). same_literal q l || b) (clause_among literals q)
 
 among_all : (xs ys : List Literal) (q : Literal) → All (Contains ys) xs → is_among xs q ≡ true → is_among ys q ≡ true
 among_all xs ys q each e =
@@ -200,17 +202,62 @@ among_all xs ys q each e =
     let at : get_or ys there.0 (get_or xs found.0 found.1) ≡ found.1 = there.2 ∙ found.3 in
     list_any_at (same_literal q) ys there.0 (get_or xs found.0 found.1) there.1 (subst (λ (z : Literal). same_literal q z ≡ true) (sym at) found.4)
 
-pub clause_is : (clause literals : List Literal) → IsOrdered clause → HaveSameLiterals clause literals → clause ≡ clause_of literals
+-- ---- the clause of literals
+
+sign_zero : (b : Bool) → sign_of b ≡ 0 → b ≡ true
+sign_zero true e = refl
+sign_zero false e = absurd (omega (arith, e))
+
+sign_one : (b : Bool) → sign_of b ≡ 1 → b ≡ false
+sign_one true e = absurd (omega (arith, e))
+sign_one false e = refl
+
+code_precedes : (a b : Literal) → code_of a < code_of b → Precedes a b
+code_precedes a b lt = elim (bool_cases (ltb a.var b.var)) [
+  | inl t ↦ inl (ltb-true _ _ t)
+  | inr f ↦
+      let le : b.var ≤ a.var = ltb-false _ _ f in
+      let same : a.var ≡ b.var = omega (arith, le, lt, sign_le a.positive, sign_le b.positive) in
+      inr (same, sign_zero a.positive (omega (arith, same, lt, sign_le a.positive, sign_le b.positive)), sign_one b.positive (omega (arith, same, lt, sign_le a.positive, sign_le b.positive)))
+]
+
+all_above : (l : Literal) (literals : List Literal) → Above l literals → All (Precedes l) literals
+all_above l [] a = All-nil (Precedes l)
+all_above l (m ∷ literals) a = All-cons (Precedes l) m literals (code_precedes l m a.0) (all_above l literals a.1)
+
+ordered_from : (literals : List Literal) → Ascends literals → IsOrdered literals
+ordered_from [] a = λ i j d ij jl. absurd (omega (arith, ij, jl))
+ordered_from (l ∷ literals) a = AllPairs-cons Precedes l literals (all_above l literals a.0) (ordered_from literals a.1)
+
+contains : (literals : List Literal) (q : Literal) → is_among literals q ≡ true → Contains literals q
+contains literals q e =
+    let found = Any-from_list_any (same_literal q) literals e in
+    let q-is : q ≡ found.1 = same_is q found.1 found.4 in
+    subst (Contains literals) (sym q-is) (found.0, found.2, found.3)
+
+each_among : (literals : List Literal) (k : ℕ) (d : Literal) → k < length literals → is_among literals (get_or literals k d) ≡ true
+each_among literals k d lt = list_any_at (same_literal (get_or literals k d)) literals k d lt (same_same (get_or literals k d))
+
+pub in_order_ordered : (literals : List Literal) → IsOrdered (in_order literals)
+in_order_ordered literals = ordered_from (in_order literals) (clause_ascends literals)
+
+pub in_order_same : (literals : List Literal) → HaveSameLiterals (in_order literals) literals
+in_order_same literals = record {
+  from_first = λ k d lt. let q = get_or (in_order literals) k d in contains literals q (sym (clause_among literals q) ∙ each_among (in_order literals) k d lt);
+  from_second = λ k d lt. let q = get_or literals k d in contains (in_order literals) q (clause_among literals q ∙ each_among literals k d lt);
+}
+
+pub clause_is : (clause literals : List Literal) → IsOrdered clause → HaveSameLiterals clause literals → clause ≡ in_order literals
 clause_is clause literals ordered same =
-    unique clause (clause_of literals) (ascends_from clause ordered) (clause_ascends literals)
+    unique clause (in_order literals) (ascends_from clause ordered) (clause_ascends literals)
     (λ q e. clause_among literals q ∙ among_all clause literals q same.from_first e)
     (λ q e. among_all literals clause q same.from_second (sym (clause_among literals q) ∙ e))
 
 -- a clause that is in order already
-pub clause_again : (clause : List Literal) → IsOrdered clause → clause_of clause ≡ clause
+pub clause_again : (clause : List Literal) → IsOrdered clause → in_order clause ≡ clause
 clause_again clause ordered =
-    unique (clause_of clause) clause (clause_ascends clause) (ascends_from clause ordered) (λ q e. sym (clause_among clause q) ∙ e) (λ q e. clause_among clause q ∙ e)
+    unique (in_order clause) clause (clause_ascends clause) (ascends_from clause ordered) (λ q e. sym (clause_among clause q) ∙ e) (λ q e. clause_among clause q ∙ e)
 
-pub clause_made : {E : Type 0} (r : Result (List Literal) E) (literals : List Literal) → IfOk r IsOrdered → IfOk r (λ clause. HaveSameLiterals clause literals) → IfOk r (λ clause. clause ≡ clause_of literals)
+pub clause_made : {E : Type 0} (r : Result (List Literal) E) (literals : List Literal) → IfOk r IsOrdered → IfOk r (λ clause. HaveSameLiterals clause literals) → IfOk r (λ clause. clause ≡ in_order literals)
 clause_made (Ok clause) literals ordered same = clause_is clause literals ordered same
 clause_made (Err e) literals ordered same = tt

@@ -11,16 +11,17 @@ use Rattle.std.specs.Fmt.{signed_decimal}
 use Rattle.cnf_core.specs.Literal.{Literal, IsVariable, IsClause, VariablesUpTo}
 use Rattle.cnf_core.specs.Formula.{Cnf}
 use Rattle.cnf_core.specs.Events.{Note}
-use Rattle.sat_text.specs.Words.{lines, last_line, words, is_comment, is_plain, is_blank}
-use Rattle.sat_text.specs.Proofs.{says_nothing, has_no_word}
-use Rattle.sat_text.specs.declared.header.HeaderLine.TheVariants.{Good}
+use Rattle.sat_text.specs.Words.{lines, last_line, words, is_comment, is_plain, is_blank, says_nothing, has_no_word}
 use Rattle.sat_text.specs.Cnf.{header_count, header_vars, header_format, header_of, with_vars, formula_from, plain_formula}
+use Rattle.sat_text.specs.Clauses.{number_of}
+use Rattle.sat_text.specs.Writing.{note_text, clause_text, header_text, added_text, cnf_text, IsReadableNote, IsReadableFormula, NamesVariables, SaysAgain}
+use Rattle.sat_text.specs.declared.header.HeaderLine.TheVariants.{Good}
 use Rattle.sat_text.specs.Notes.{is_cell, note_with, note_literal, note_value, note_at, note_of, added_on, notes_of, added_of}
-use Rattle.sat_text.specs.Writing.{number_of, note_text, clause_text, header_text, added_text, cnf_text, IsReadableNote, IsReadableFormula, NamesVariables, SaysAgain}
 use Rattle.sat_text.proofs.Cuts.{bool_cases}
 use Rattle.sat_text.proofs.Again.{natural_again, whole_again, IsWord, AreWords, number_is_word, joined, words_again, IsLine, line_again, joined_line, all_append, plain_line, plain_not_blank, and_parts}
 use Rattle.sat_text.proofs.LogAgain.{literal_again, signed_short, spaced_is, in_range}
 use Rattle.sat_text.proofs.FormulaSteps.{formula_quiet, formula_header}
+use Rattle.sat_text.proofs.CellPlain.{cell_plain}
 use Rattle.sat_text.proofs.CnfAgain.{with_spaces, clause_words, clause_lines, lines_of_clauses, clauses_read, clause_no_comment, IsClauseUpTo, AreClausesUpTo}
 
 -- ---- the header
@@ -82,7 +83,7 @@ cell_some (b ∷ cell) e = omega arith
 note_is_line : (note : Note) → IsReadableNote note → IsVariable note.lit.var → IsLine (note_line note)
 note_is_line note r v =
     let ws = signed_decimal note.value ∷ signed_decimal (number_of note.lit) ∷ [] in
-    all_append (λ b. not (eqb b 10)) (codes "c cell ") (note.cell ++ joined ws) refl (joined_line note.cell ws (r.without_blank, cell_some note.cell r.named) (two_words note r v))
+    all_append (λ b. not (eqb b 10)) (codes "c cell ") (note.cell ++ joined ws) refl (joined_line note.cell ws ((cell_plain note.cell r.named), cell_some note.cell r.named) (two_words note r v))
 
 plain_no_space : (b : ℕ) → is_plain b ≡ true → eqb b 32 ≡ false
 plain_no_space b e = elim (bool_cases (eqb b 32)) [
@@ -90,13 +91,13 @@ plain_no_space b e = elim (bool_cases (eqb b 32)) [
   | inr f ↦ f
 ]
 
-space_cut : (word rest : List ℕ) → list_all is_plain word ≡ true → slice_split (λ b. eqb b 32) (word ++ 32 ∷ rest) ≡ word ∷ slice_split (λ b. eqb b 32) rest
+pub space_cut : (word rest : List ℕ) → list_all is_plain word ≡ true → slice_split (λ b. eqb b 32) (word ++ 32 ∷ rest) ≡ word ∷ slice_split (λ b. eqb b 32) rest
 space_cut [] rest p = refl
 space_cut (b ∷ word) rest p =
     let both = and_parts (is_plain b) (list_all is_plain word) p in
     rw (plain_no_space b both.0) (ap (onto_first b) (space_cut word rest both.1))
 
-space_none : (word : List ℕ) → list_all is_plain word ≡ true → slice_split (λ b. eqb b 32) word ≡ word ∷ []
+pub space_none : (word : List ℕ) → list_all is_plain word ≡ true → slice_split (λ b. eqb b 32) word ≡ word ∷ []
 space_none [] p = refl
 space_none (b ∷ word) p =
     let both = and_parts (is_plain b) (list_all is_plain word) p in
@@ -113,7 +114,7 @@ note_again note r here =
     let s = signed_short note.lit.var note.lit.positive here in
     let v = number_is_word note.value r.short in
     let w = number_is_word (number_of note.lit) s.0 in
-    let pieces = three_pieces note.cell (signed_decimal note.value) (signed_decimal (number_of note.lit)) r.without_blank v.0 w.0 in
+    let pieces = three_pieces note.cell (signed_decimal note.value) (signed_decimal (number_of note.lit)) (cell_plain note.cell r.named) v.0 w.0 in
     rw (pieces, r.named, whole_again note.value r.short, whole_again (number_of note.lit) s.0, s.1, literal_again note.lit here) refl
 
 -- ---- lines that say nothing of cells and of added clauses

@@ -6,10 +6,11 @@ use Rattle.cnf_core.specs.Literal.{Literal}
 use Rattle.cnf_core.specs.Events.{given, step}
 use Rattle.sat_text.specs.Words.{lines, last_line, words}
 use Rattle.sat_text.specs.Numbers.{natural_of, whole_of}
-use Rattle.sat_text.specs.Clauses.{clause_of}
+use Rattle.sat_text.specs.Clauses.{in_order}
 use Rattle.cnf_core.specs.Lines.{add, delete}
 use Rattle.sat_text.specs.Proofs.{whole_at, items_at, addition_at, deletion_at, behind_id, line_of, proof_from, proof_of}
 use Rattle.sat_text.specs.Cnf.{header_of, header_format, header_vars, header_count, clauses_at, formula_from, formula_of}
+use Rattle.ep_base.specs.TokenTexts.{is_word}
 use Rattle.sat_text.specs.Notes.{is_cell, added_of}
 use Rattle.sat_text.specs.Writing.{log_text, cnf_text}
 
@@ -52,7 +53,7 @@ plus : whole_of (codes "+1") ≡ None
 plus = refl
 
 -- a clause is in order, and has each literal once
-clause_in_order : clause_of (yes 2 ∷ no 1 ∷ yes 1 ∷ yes 2 ∷ []) ≡ yes 1 ∷ no 1 ∷ yes 2 ∷ []
+clause_in_order : in_order (yes 2 ∷ no 1 ∷ yes 1 ∷ yes 2 ∷ []) ≡ yes 1 ∷ no 1 ∷ yes 2 ∷ []
 clause_in_order = refl
 
 -- ---- the text of a proof
@@ -106,15 +107,19 @@ nothing = refl
 -- ---- cells
 
 plain_cell : is_cell (codes "x_1") ≡ true
+unfolding is_word
 plain_cell = refl
 
 matrix_cell : is_cell (codes "q[1,-2]") ≡ true
+unfolding is_word
 matrix_cell = refl
 
 no_index : is_cell (codes "q[]") ≡ false
+unfolding is_word
 no_index = refl
 
 reserved : is_cell (codes "find") ≡ false
+unfolding is_word
 reserved = refl
 
 last_added : added_of 0 (lines (codes "c added 3\nc added x\nc added 07\n")) ≡ 7

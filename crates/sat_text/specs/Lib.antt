@@ -4,5 +4,8 @@ pub mod Clauses
 pub mod Answers
 pub mod Proofs
 pub mod Writing
+pub mod CnfGrammar
+pub mod LogGrammar
 pub mod Cnf
 pub mod Notes
+pub mod NoteGrammar

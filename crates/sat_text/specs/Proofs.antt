@@ -1,9 +1,10 @@
--- The text of a proof: what each line says.
-use Rattle.std.specs.Prelude.{ℕ, suc, ◌+◌, ℤ, pos, negsuc, zero, Bool, true, false, ◌==◌, ◌||◌, if◌then◌else◌, List, [], ◌∷◌, Option, Some, None, Result, Ok, Err}
+-- How the text of a proof is read from left to right. What a text means, and where its fault is,
+-- says LogGrammar; that reading answers it is a clause of `read_log`.
+use Rattle.std.specs.Prelude.{ℕ, suc, ◌+◌, ℤ, pos, negsuc, zero, Bool, false, ◌==◌, if◌then◌else◌, List, [], ◌∷◌, Option, Some, None, Result, Ok, Err}
 use Rattle.cnf_core.specs.Literal.{Literal}
-use Rattle.sat_text.specs.Words.{lines, words, is_comment}
+use Rattle.sat_text.specs.Words.{lines, words, says_nothing}
 use Rattle.sat_text.specs.Numbers.{whole_of}
-use Rattle.sat_text.specs.Clauses.{is_zero, literal_of, clause_of}
+use Rattle.sat_text.specs.Clauses.{is_zero, literal_of, in_order}
 use Rattle.cnf_core.specs.Lines.{ProofLine, add, delete}
 use Rattle.sat_text.specs.Answers.{◌>>=◌}
 
@@ -30,9 +31,11 @@ positive_of (pos zero) = None
 positive_of (pos (suc n)) = Some (suc n)
 positive_of (negsuc n) = None
 
+-- the literal of a number
 abbrev pub any_literal : ℤ → Option Literal
 any_literal n = Some (literal_of n)
 
+-- a hint is whatever number isn't 0
 abbrev pub any_hint : ℤ → Option ℤ
 any_hint n = Some n
 
@@ -46,7 +49,7 @@ unfoldable pub addition_at : ℕ → List (List ℕ) → Option ProofLine
 addition_at id later = do
   literals ← items_at any_literal later
   hints ← items_at any_hint literals.1
-  at_end (add id (clause_of literals.0) hints.0) hints.1
+  at_end (add id (in_order literals.0) hints.0) hints.1
 
 -- behind the id and a `d`: ids, a 0
 unfoldable pub deletion_at : List (List ℕ) → Option ProofLine
@@ -71,14 +74,6 @@ line_of all = do
   first ← whole_at all
   id ← positive_of first.0
   behind_id id first.1
-
--- whether a line is a comment or blank
-abbrev pub has_no_word : List (List ℕ) → Bool
-has_no_word [] = true
-has_no_word (word ∷ later) = false
-
-abbrev pub says_nothing : List ℕ → Bool
-says_nothing line = is_comment line || has_no_word (words line)
 
 -- a line before others, or the number of the line that is wrong
 abbrev pub before_others :

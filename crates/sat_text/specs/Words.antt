@@ -1,5 +1,5 @@
 -- Texts as lines, and lines as words.
-use Rattle.std.specs.Prelude.{ℕ, max, Bool, true, false, ◌||◌, not, ◌==◌, if◌then◌else◌, List, [], ◌∷◌, length, filter}
+use Rattle.std.specs.Prelude.{ℕ, ◌+◌, max, Bool, true, false, ◌||◌, not, ◌==◌, if◌then◌else◌, List, [], ◌∷◌, ◌++◌, length, filter, map}
 use Rattle.std.specs.List.{slice_split, onto_first}
 
 -- The pieces of a text. Each byte that passes the test ends one, and what follows the last of them is
@@ -21,6 +21,7 @@ last_line text = max 1 (length (lines text))
 abbrev pub is_blank : ℕ → Bool
 is_blank b = b == 32 || (b == 9 || b == 13)
 
+-- whether a word has a byte
 abbrev pub has_bytes : List ℕ → Bool
 has_bytes [] = false
 has_bytes (b ∷ bytes) = true
@@ -33,6 +34,38 @@ words line = filter has_bytes (slice_split is_blank line)
 abbrev pub is_comment : List ℕ → Bool
 is_comment [] = false
 is_comment (b ∷ line) = b == 99
+
+-- whether there is no word
+abbrev pub has_no_word : List (List ℕ) → Bool
+has_no_word [] = true
+has_no_word (word ∷ later) = false
+
+-- whether a line is a comment or blank
+abbrev pub says_nothing : List ℕ → Bool
+says_nothing line = is_comment line || has_no_word (words line)
+
+-- a word, and the line that it stands on
+pub record PlacedWord : Type 0 where
+  pub line : ℕ
+  pub bytes : List ℕ
+
+-- words that stand on one line
+abbrev pub words_on : ℕ → List (List ℕ) → List PlacedWord
+words_on number found = map (λ bytes. record { line = number; bytes = bytes }) found
+
+-- the words of a line, of which a comment has none
+abbrev pub said_words : List ℕ → List (List ℕ)
+said_words line = if is_comment line then [] else words line
+
+-- the words of lines, where the first line has this number
+abbrev pub text_words : ℕ → List (List ℕ) → List PlacedWord
+text_words number [] = []
+text_words number (line ∷ later) =
+    words_on number (said_words line) ++ text_words (number + 1) later
+
+-- the words of a text, each with the number of its line
+abbrev pub placed_words : List ℕ → List PlacedWord
+placed_words text = text_words 1 (lines text)
 
 -- a byte that ends neither a word nor a line
 abbrev pub is_plain : ℕ → Bool

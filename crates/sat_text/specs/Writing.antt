@@ -1,19 +1,15 @@
 -- The texts that are written.
-use Rattle.std.specs.Prelude.{◌≡◌, ◌<◌, ◌^◌, All, unsigned_abs, false, true, Ok, ℕ, ◌+◌, ℤ, pos, neg_ℤ, if◌then◌else◌, List, [], ◌∷◌, ◌++◌, length, map, codes, decimal, slice_index}
+use Rattle.std.specs.Prelude.{◌≡◌, ◌<◌, ◌^◌, All, unsigned_abs, false, true, Ok, ℕ, ◌+◌, ℤ, pos, List, [], ◌∷◌, ◌++◌, length, map, codes, decimal, slice_index}
 use Rattle.std.specs.Fmt.{signed_decimal}
-use Rattle.std.specs.List.{flat_map, list_all}
-use Rattle.sat_text.specs.Words.{is_plain, lines}
+use Rattle.std.specs.List.{flat_map}
+use Rattle.sat_text.specs.Words.{lines}
 use Rattle.sat_text.specs.Notes.{is_cell, notes_of, added_of}
 use Rattle.sat_text.specs.Cnf.{formula_of, plain_formula}
-use Rattle.sat_text.specs.Clauses.{is_zero}
+use Rattle.sat_text.specs.Clauses.{is_zero, number_of}
 use Rattle.cnf_core.specs.Literal.{Literal, IsVariable, IsClause}
 use Rattle.cnf_core.specs.Formula.{Cnf, NamesItsVariables}
 use Rattle.cnf_core.specs.Events.{LogEvent, given, step, givens, Note}
 use Rattle.cnf_core.specs.Lines.{ProofLine, add, delete}
-
--- the number of a literal: its variable's, negative where the literal is
-abbrev pub number_of : Literal → ℤ
-number_of l = if l.positive then pos l.var else neg_ℤ (pos l.var)
 
 -- numbers with a space before each
 abbrev pub spaced : List ℤ → List ℕ
@@ -46,18 +42,21 @@ step_lines ids (id ∷ own) (step clause hints ∷ events) =
 abbrev pub log_lines : List LogEvent → List ProofLine
 log_lines events = step_lines (event_ids events) (event_ids events) events
 
--- a line's text: the id, the literals and a 0, the hints and a 0; or the id, a `d`, the ids and a 0
+-- A line's text: the id, the literals and a 0, the hints and a 0. A line that deletes keeps no id
+-- of its own, and gets a 1 for it: the 1, a `d`, the ids and a 0.
 abbrev pub line_text : ProofLine → List ℕ
 line_text (add id clause hints) =
     decimal id
     ++ (spaced (map number_of clause) ++ (codes " 0" ++ (spaced hints ++ codes " 0\n")))
 line_text (delete ids) = codes "1 d" ++ (spaced (map (λ id. pos id) ids) ++ codes " 0\n")
 
+-- the text of a log: that of its lines, one after another
 abbrev pub log_text : List LogEvent → List ℕ
 log_text events = flat_map line_text (log_lines events)
 
 -- ---- the text of a formula
 
+-- the line of a note
 abbrev pub note_text : Note → List ℕ
 note_text note =
     codes "c cell " ++ (note.cell ++ (spaced (note.value ∷ number_of note.lit ∷ []) ++ codes "\n"))
@@ -66,13 +65,16 @@ note_text note =
 abbrev pub clause_text : List Literal → List ℕ
 clause_text clause = flat_map (λ l. signed_decimal (number_of l) ++ 32 ∷ []) clause ++ codes "0\n"
 
+-- the line of a header
 abbrev pub header_text : ℕ → ℕ → List ℕ
 header_text vars clauses =
     codes "p cnf " ++ (decimal vars ++ (codes " " ++ (decimal clauses ++ codes "\n")))
 
+-- the line that says how many clauses were added
 abbrev pub added_text : ℕ → List ℕ
 added_text added = codes "c added " ++ (decimal added ++ codes "\n")
 
+-- the text of a formula: the notes, the number of clauses that were added, the header, the clauses
 abbrev pub cnf_text : Cnf → List Note → ℕ → List ℕ
 cnf_text f notes added =
     flat_map note_text notes
@@ -90,10 +92,9 @@ abbrev pub IsReadable : ProofLine → Type 0
 IsReadable (add id clause hints) = (0 < id) × (id < 10 ^ 18) × IsClause clause × All IsShort hints
 IsReadable (delete ids) = ⊥
 
--- a note of a cell's name, without a blank, and of a value of at most eighteen digits
+-- a note of a cell's name, and of a value of at most eighteen digits
 pub record IsReadableNote (note : Note) : Type 0 where
   pub named : is_cell note.cell ≡ true
-  pub without_blank : list_all is_plain note.cell ≡ true
   pub short : unsigned_abs note.value < 10 ^ 18
 
 -- clauses over the variables of a formula, where both numbers have at most eighteen digits

@@ -1,10 +1,10 @@
 //! Reads the clauses of a formula's text.
 
-ghost use Rattle.std.specs.Prelude.{◌≡◌, ◌<◌, ◌≤◌, ◌+◌, ◌^◌, ◌++◌, ◌∷◌, [], ℕ, List, Result, Ok, length, OnOk, IfOk, MatchResult};
+ghost use Rattle.std.specs.Prelude.{◌≡◌, ◌<◌, ◌≤◌, ◌+◌, ◌^◌, ◌++◌, ◌∷◌, [], false, ℕ, List, Result, Ok, length, OnOk, IfOk, MatchResult};
 ghost use Rattle.cnf_core.specs.Literal.{Literal, VariablesUpTo};
-ghost use Rattle.sat_text.specs.Words.{lines, words, is_comment};
-ghost use Rattle.sat_text.specs.Clauses.{clause_of};
-ghost use Rattle.sat_text.specs.Cnf.{Word, words_on, text_words, clauses_at, Completes, Stops};
+ghost use Rattle.sat_text.specs.Words.{lines, words, is_comment, PlacedWord, words_on, text_words};
+ghost use Rattle.sat_text.specs.Clauses.{in_order};
+ghost use Rattle.sat_text.specs.Cnf.{clauses_at, Completes, Stops};
 
 use crate::faults::Stop;
 use crate::items::{is_zero, literal};
@@ -20,7 +20,7 @@ use std::mem;
 fn end_clause(alloc: Global, f: &mut Formula, begun: &mut Vec<Lit>) -> Result<(), Memory>
     requires { VariablesUpTo f.old.vars begun.old.items }
     ensures ok { OnOk result
-        (f.new ≡ record f.old { clauses = f.old.clauses ++ clause_of begun.old.items ∷ [] }) }
+        (f.new ≡ record f.old { clauses = f.old.clauses ++ in_order begun.old.items ∷ [] }) }
     ensures empty { OnOk result (begun.new.items ≡ []) }
 {
     let literals = mem::replace(begun, Vec::new(alloc));
@@ -40,7 +40,8 @@ fn take_word(
     requires { VariablesUpTo f.old.vars begun.old.items }
     ensures small { OnOk result (VariablesUpTo f.new.vars begun.new.items) }
     ensures vars { OnOk result (f.new.vars ≡ f.old.vars) }
-    ensures next { (last : ℕ) (later : List Word) (answer : Result (List (List Literal)) ℕ) →
+    ensures origin { OnOk result (f.new.from_new ≡ f.old.from_new) }
+    ensures next { (last : ℕ) (later : List PlacedWord) (answer : Result (List (List Literal)) ℕ) →
         Completes last f.old left.old begun.old.items
         (record { line = line; bytes = word.now } ∷ later) answer →
         MatchResult result
@@ -78,7 +79,8 @@ fn take_line(
     requires { VariablesUpTo f.old.vars begun.old.items }
     ensures small { OnOk result (VariablesUpTo f.new.vars begun.new.items) }
     ensures vars { OnOk result (f.new.vars ≡ f.old.vars) }
-    ensures next { (last : ℕ) (later : List Word) (answer : Result (List (List Literal)) ℕ) →
+    ensures origin { OnOk result (f.new.from_new ≡ f.old.from_new) }
+    ensures next { (last : ℕ) (later : List PlacedWord) (answer : Result (List (List Literal)) ℕ) →
         Completes last f.old left.old begun.old.items
         (words_on number (words line.now) ++ later) answer →
         MatchResult result
@@ -110,6 +112,7 @@ pub(crate) fn read_clauses(
     requires small { vars < 10 ^ 18 }
     requires few { before + length text.now < 2 ^ 62 }
     ensures vars { IfOk result (λ f. f.vars ≡ vars) }
+    ensures origin { IfOk result (λ f. f.from_new ≡ false) }
     ensures clauses { (last : ℕ) → MatchResult result
         (λ f. clauses_at last vars count [] (text_words (before + 1) (lines text.now))
         ≡ Ok f.clauses)

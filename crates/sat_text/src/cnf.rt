@@ -1,7 +1,9 @@
 //! Reads the text of a formula.
 
-ghost use Rattle.std.specs.Prelude.{◌≡◌, ◌<◌, ◌^◌, ◌↔◌, ℕ, length, map, Ok, Err, IfOk, IsErrOf};
+ghost use Rattle.std.specs.Prelude.{◌≡◌, ◌<◌, ◌^◌, ◌↔◌, ℕ, List, false, length, map, Ok, Err, IfOk, MatchResult, IsErrOf};
 ghost use Rattle.cnf_core.specs.Events.{plain_note};
+ghost use Rattle.cnf_core.specs.Literal.{Literal};
+ghost use Rattle.sat_text.specs.CnfGrammar.{SpellsCnf, IsFaultLine};
 ghost use Rattle.sat_text.specs.Words.{lines};
 ghost use Rattle.sat_text.specs.Cnf.{formula_of, plain_formula};
 ghost use Rattle.sat_text.specs.Notes.{notes_of, added_of};
@@ -50,7 +52,14 @@ impl From<Memory> for CnfError {
 /// The formula alone, or the line of its text's fault.
 fn formula(alloc: Global, text: &[u8]) -> Result<Formula, CnfError>
     requires { length text.now < 2 ^ 62 }
+    ensures spelled { IfOk result (λ f. SpellsCnf text.now f.vars f.clauses) }
+    ensures complete { (vars : ℕ) (clauses : List (List Literal)) →
+        SpellsCnf text.now vars clauses → MatchResult result
+        (λ f. (f.vars ≡ vars) × (f.clauses ≡ clauses))
+        (λ error. (line : ℕ) → error ≡ CnfError.Bad line → ⊥) }
+    ensures origin { IfOk result (λ f. f.from_new ≡ false) }
     ensures found { IfOk result (λ f. formula_of text.now ≡ Ok (plain_formula f)) }
+    ensures fault { (line : ℕ) → result ≡ Err (CnfError.Bad line) → IsFaultLine text.now line }
     ensures bad { (line : ℕ) → result ≡ Err (CnfError.Bad line) → formula_of text.now ≡ Err line }
     ensures short { IsErrOf result CnfError.TooLong → ⊥ }
 {
@@ -70,10 +79,20 @@ fn formula(alloc: Global, text: &[u8]) -> Result<Formula, CnfError>
 /// [`CnfError::Bad`] with the line of the first wrong word, or with the last line where words are wanting.
 pub fn read_cnf(alloc: Global, text: &[u8]) -> Result<CnfFile, CnfError>
     ensures too_long { IsErrOf result CnfError.TooLong ↔ (MOST_BYTES < length text.now) }
+    // What is read is what the text spells, and no text that spells a formula is refused as bad.
+    ensures spelled { IfOk result
+        (λ file. SpellsCnf text.now file.formula.vars file.formula.clauses) }
+    ensures complete { (vars : ℕ) (clauses : List (List Literal)) →
+        SpellsCnf text.now vars clauses → MatchResult result
+        (λ file. (file.formula.vars ≡ vars) × (file.formula.clauses ≡ clauses))
+        (λ error. (line : ℕ) → error ≡ CnfError.Bad line → ⊥) }
     ensures formula { IfOk result (λ file. formula_of text.now ≡ Ok (plain_formula file.formula)) }
+    ensures read { IfOk result (λ file. file.formula.from_new ≡ false) }
     ensures notes { IfOk result
         (λ file. map plain_note file.notes.items ≡ notes_of (lines text.now)) }
     ensures added { IfOk result (λ file. file.added ≡ added_of 0 (lines text.now)) }
+    // A fault is the line of the first word with which no text can go on, or the last line.
+    ensures fault { (line : ℕ) → result ≡ Err (CnfError.Bad line) → IsFaultLine text.now line }
     ensures bad { (line : ℕ) → result ≡ Err (CnfError.Bad line) → formula_of text.now ≡ Err line }
 {
     if text.len() > MOST_BYTES {

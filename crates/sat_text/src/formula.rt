@@ -1,8 +1,8 @@
 //! Reads the text of a formula, without what its comments say.
 
-ghost use Rattle.std.specs.Prelude.{◌≡◌, ◌<◌, ◌≤◌, ◌+◌, ◌^◌, ℕ, Ok, Err, length, MatchResult};
-ghost use Rattle.sat_text.specs.Words.{lines, last_line, words};
-ghost use Rattle.sat_text.specs.Cnf.{text_words, first_word_line, formula_from, formula_of, Stops, Names, plain_formula};
+ghost use Rattle.std.specs.Prelude.{◌≡◌, ◌<◌, ◌≤◌, ◌+◌, ◌^◌, ℕ, Ok, Err, false, length, IfOk, MatchResult};
+ghost use Rattle.sat_text.specs.Words.{lines, last_line, words, text_words};
+ghost use Rattle.sat_text.specs.Cnf.{first_word_line, formula_from, formula_of, Stops, Names, plain_formula};
 
 use crate::clauses::read_clauses;
 use crate::faults::Stop;
@@ -47,7 +47,8 @@ fn first_word(before: u64, text: &[u8]) -> Stop
 /// The formula of a text, without what its comments say.
 pub(crate) fn read_formula(alloc: Global, text: &[u8]) -> Result<Formula, Stop>
     requires { length text.now < 2 ^ 62 }
-    ensures { (last : ℕ) → MatchResult result
+    ensures origin { IfOk result (λ f. f.from_new ≡ false) }
+    ensures found { (last : ℕ) → MatchResult result
         (λ f. formula_from last 1 (lines text.now) ≡ Ok (plain_formula f))
         (λ stop. Stops last stop (formula_from last 1 (lines text.now))) }
 {

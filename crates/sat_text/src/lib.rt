@@ -15,7 +15,9 @@ mod words;
 mod writing;
 
 pub use cnf::{CnfError, CnfFile, read_cnf};
-pub use laws::lines_are_read_again;
+pub use laws::{
+    cnf_texts_have_one_meaning, lines_are_read_again, log_texts_have_one_meaning, notes_are_spelled,
+};
 pub use proof::{LogError, read_log};
 pub use writing::{write_cnf, write_log};
 

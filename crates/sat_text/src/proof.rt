@@ -1,12 +1,13 @@
 //! Reads the text of a proof.
 
-ghost use Rattle.std.specs.Prelude.{◌≡◌, ◌<◌, ◌↔◌, ℕ, length, Ok, Err, IfOk, IsErrOf};
+ghost use Rattle.std.specs.Prelude.{◌≡◌, ◌<◌, ◌↔◌, ℕ, List, length, Ok, Err, IfOk, MatchResult, IsErrOf};
 ghost use Rattle.cnf_core.specs.Literal.{HaveSameLiterals};
-ghost use Rattle.sat_text.specs.Words.{words};
-ghost use Rattle.sat_text.specs.Clauses.{clause_of};
-ghost use Rattle.cnf_core.specs.Lines.{plain_line, plain_lines};
+ghost use Rattle.sat_text.specs.Words.{words, says_nothing};
+ghost use Rattle.sat_text.specs.Clauses.{in_order};
+ghost use Rattle.sat_text.specs.Proofs.{is_d, addition_at, deletion_at, behind_id, line_of, proof_of};
+ghost use Rattle.cnf_core.specs.Lines.{ProofLine, plain_line, plain_lines};
+ghost use Rattle.sat_text.specs.LogGrammar.{SpellsLog, IsFirstWrongLine};
 ghost use Rattle.sat_text.specs.Answers.{Gives};
-ghost use Rattle.sat_text.specs.Proofs.{is_d, says_nothing, addition_at, deletion_at, behind_id, line_of, proof_of};
 
 use crate::MOST_BYTES;
 use crate::faults::Fault;
@@ -39,7 +40,7 @@ impl<T: Drop> From<AllocFailed<T>> for LogError {
 
 /// The clause of these literals.
 pub(crate) fn clause(alloc: Global, lits: Vec<Lit>) -> Result<Clause, Memory>
-    ensures made { IfOk result (λ made. made ≡ clause_of lits.items) }
+    ensures made { IfOk result (λ made. made ≡ in_order lits.items) }
     ensures same { IfOk result (λ made. HaveSameLiterals made lits.items) }
 {
     Clause::new(alloc, lits)
@@ -120,6 +121,14 @@ pub(crate) fn is_silent(line: &[u8]) -> bool
 /// [`LogError::Bad`] with the first line that isn't in the grammar.
 pub fn read_log(alloc: Global, text: &[u8]) -> Result<Proof, LogError>
     ensures too_long { IsErrOf result LogError.TooLong ↔ (MOST_BYTES < length text.now) }
+    // What is read is what the text spells, and no text that spells a proof is refused as bad.
+    ensures spelled { IfOk result (λ p. SpellsLog text.now (plain_lines p.lines.items)) }
+    ensures complete { (proof : List ProofLine) → SpellsLog text.now proof → MatchResult result
+        (λ p. plain_lines p.lines.items ≡ proof)
+        (λ error. (line : ℕ) → error ≡ LogError.Bad line → ⊥) }
+    // The line of a fault is the first that isn't in the grammar.
+    ensures fault { (line : ℕ) → result ≡ Err (LogError.Bad line) →
+        IsFirstWrongLine text.now line }
     ensures found { IfOk result (λ p. proof_of text.now ≡ Ok (plain_lines p.lines.items)) }
     ensures bad { (line : ℕ) → result ≡ Err (LogError.Bad line) → proof_of text.now ≡ Err line }
 {

@@ -7,7 +7,8 @@ ghost use Rattle.cnf_core.specs.Literal.{Literal, IsVariable};
 ghost use Rattle.cnf_core.specs.Events.{plain_event, plain_note, is_given, HintsAreEarlier};
 ghost use Rattle.cnf_core.specs.Lines.{add};
 ghost use Rattle.sat_text.specs.Proofs.{proof_of};
-ghost use Rattle.sat_text.specs.Writing.{number_of, spaced, event_ids, step_lines, log_lines, line_text, log_text, IsReadable, note_text, clause_text, header_text, added_text, cnf_text, IsReadableNote, IsReadableFormula, NamesVariables, SaysAgain};
+ghost use Rattle.sat_text.specs.Clauses.{number_of};
+ghost use Rattle.sat_text.specs.Writing.{spaced, event_ids, step_lines, log_lines, line_text, log_text, IsReadable, note_text, clause_text, header_text, added_text, cnf_text, IsReadableNote, IsReadableFormula, NamesVariables, SaysAgain};
 
 use cnf_core::{CellNote, Clause, Event, Formula, Lit, Log};
 use ep_base::Memory;

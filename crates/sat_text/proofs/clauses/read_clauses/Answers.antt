@@ -1,5 +1,5 @@
 use Rattle.std.proofs.Common.{◌+◌, ap, List, ℕ}
-use Rattle.sat_text.specs.Cnf.{text_words}
+use Rattle.sat_text.specs.Words.{text_words}
 use Rattle.sat_text.proofs.ClauseSteps.{clauses_done, clauses_wanting}
 use Rattle.sat_text.proofs.clauses.read_clauses.Goals as goal
 

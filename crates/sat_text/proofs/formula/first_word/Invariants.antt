@@ -1,6 +1,6 @@
 use Rattle.std.proofs.Common.{◌≡◌, ℕ, ◌+◌, ◌≤◌, length}
-use Rattle.sat_text.specs.Words.{lines}
-use Rattle.sat_text.specs.Cnf.{text_words, first_word_line}
+use Rattle.sat_text.specs.Words.{lines, text_words}
+use Rattle.sat_text.specs.Cnf.{first_word_line}
 use Rattle.sat_text.proofs.formula.first_word.Given as goal
 
 abbrev pub invariant-loop-line : goal.invariant-loop-line

@@ -3,18 +3,18 @@ use Rattle.sat_text.specs.Words.{lines}
 use Rattle.sat_text.proofs.FormulaSteps.{formula_quiet, formula_header, formula_ends, names_stop, formula_good}
 use Rattle.sat_text.proofs.formula.read_formula.Goals as goal
 
-pub returns-in-Good : goal.returns-in-Good
-returns-in-Good c = λ last.
+pub returns-in-Good-clause-found : goal.returns-in-Good-clause-found
+returns-in-Good-clause-found c = λ last.
     formula_good last c.in-Good.vars c.read_clauses.result _ _ c.read_clauses.ensures.vars (c.read_clauses.ensures.clauses last)
     (sym (c.loop-line.invariant.0 last) ∙ formula_header last (c.loop-line.number + 1) (lines c.loop-line.rest.now) (lines c.in-Some.later.now) c.in-Some.line.now _ c.in-Some.ensures.cuts (sym c.is_silent.ensures ∙ c.if-not-is_silent.true) c.in-Good.ensures.value)
 
-pub returns-in-Short : goal.returns-in-Short
-returns-in-Short c = λ last.
+pub returns-in-Short-clause-found : goal.returns-in-Short-clause-found
+returns-in-Short-clause-found c = λ last.
     names_stop last c.first_word.result _ _ (c.first_word.ensures last)
     (sym (c.loop-line.invariant.0 last) ∙ formula_header last (c.loop-line.number + 1) (lines c.loop-line.rest.now) (lines c.in-Some.later.now) c.in-Some.line.now _ c.in-Some.ensures.cuts (sym c.is_silent.ensures ∙ c.if-not-is_silent.true) c.in-Short.ensures.value)
 
-pub returns-in-Wrong : goal.returns-in-Wrong
-returns-in-Wrong c = λ last.
+pub returns-in-Wrong-clause-found : goal.returns-in-Wrong-clause-found
+returns-in-Wrong-clause-found c = λ last.
     sym (c.loop-line.invariant.0 last) ∙ formula_header last (c.loop-line.number + 1) (lines c.loop-line.rest.now) (lines c.in-Some.later.now) c.in-Some.line.now _ c.in-Some.ensures.cuts (sym c.is_silent.ensures ∙ c.if-not-is_silent.true) c.in-Wrong.ensures.value
 
 pub loop-line-preserved : goal.loop-line-preserved
@@ -23,5 +23,5 @@ loop-line-preserved c = (
   omega (arith, c.loop-line.invariant.1, c.in-Some.ensures.shorter),
 )
 
-pub returns : goal.returns
-returns c = λ last. sym (c.loop-line.invariant.0 last) ∙ formula_ends last (c.loop-line.number + 1) (lines c.loop-line.rest.now) c.in_default.ensures.cuts
+pub returns-clause-found : goal.returns-clause-found
+returns-clause-found c = λ last. sym (c.loop-line.invariant.0 last) ∙ formula_ends last (c.loop-line.number + 1) (lines c.loop-line.rest.now) c.in_default.ensures.cuts

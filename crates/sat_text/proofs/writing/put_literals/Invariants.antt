@@ -1,5 +1,6 @@
 use Rattle.std.proofs.Common.{◌≡◌, ◌++◌, map, take}
-use Rattle.sat_text.specs.Writing.{number_of, spaced}
+use Rattle.sat_text.specs.Clauses.{number_of}
+use Rattle.sat_text.specs.Writing.{spaced}
 use Rattle.sat_text.proofs.writing.put_literals.Given as goal
 
 abbrev pub invariant-loop-lit : goal.invariant-loop-lit
