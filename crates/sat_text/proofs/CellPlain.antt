@@ -13,7 +13,7 @@ use Rattle.sat_text.specs.Words.{is_plain}
 use Rattle.sat_text.specs.Numbers.{are_digits, natural_of, whole_of}
 use Rattle.sat_text.specs.Notes.{is_free_name, are_wholes, are_indices, is_cell_at, is_cell}
 use Rattle.sat_text.proofs.Cuts.{bool_cases}
-use Rattle.sat_text.proofs.Again.{and_parts, and_both, all_append, plain_digits}
+use Rattle.sat_text.proofs.Again.{and_parts, and_both, all_append}
 
 not_byte : (p : ℕ → Bool) (b c : ℕ) → p c ≡ false → p b ≡ true → eqb b c ≡ false
 not_byte p b c fails passes = elim (bool_cases (eqb b c)) [
@@ -49,35 +49,66 @@ digits_some word e = elim (bool_cases (are_digits word)) [
   | inr f ↦ absurd (let none : false ≡ true = rw f at e in cc)
 ]
 
-pub whole_plain : (piece : List ℕ) → is_some (whole_of piece) ≡ true → list_all is_plain piece ≡ true
-whole_plain [] e = refl
-whole_plain (b ∷ word) e = elim (bool_cases (eqb b 45)) [
+-- what is true of digits, of `-` and of `,` is true of the bytes of whole numbers between commas
+record HoldsOfNumbers (q : ℕ → Bool) : Type 0 where
+  digits : (b : ℕ) → is_ascii_digit b ≡ true → q b ≡ true
+  minus : q 45 ≡ true
+  comma : q 44 ≡ true
+
+whole_by : (q : ℕ → Bool) → HoldsOfNumbers q → (piece : List ℕ) → is_some (whole_of piece) ≡ true → list_all q piece ≡ true
+whole_by q holds [] e = refl
+whole_by q holds (b ∷ word) e = elim (bool_cases (eqb b 45)) [
   | inl t ↦
       let here : is_some (natural_of word) ≡ true = sym (some_map _ (natural_of word)) ∙ rw t at e in
-      and_both (is_plain b) (list_all is_plain word) (subst (λ (x : ℕ). is_plain x ≡ true) (sym (eqb-true _ _ t)) refl) (plain_digits word (digits_some word here))
+      and_both (q b) (list_all q word) (subst (λ (x : ℕ). q x ≡ true) (sym (eqb-true _ _ t)) holds.minus) (all_by is_ascii_digit q holds.digits word (digits_some word here))
   | inr f ↦
       let here : is_some (natural_of (b ∷ word)) ≡ true = sym (some_map _ (natural_of (b ∷ word))) ∙ rw f at e in
-      plain_digits (b ∷ word) (digits_some (b ∷ word) here)
+      all_by is_ascii_digit q holds.digits (b ∷ word) (digits_some (b ∷ word) here)
 ]
 
-onto_plain : (b : ℕ) (pieces : List (List ℕ)) → list_all (list_all is_plain) (onto_first b pieces) ≡ true → (is_plain b ≡ true) × (list_all (list_all is_plain) pieces ≡ true)
-onto_plain b [] e = ((and_parts (is_plain b) true (and_parts (is_plain b && true) true e).0).0, refl)
-onto_plain b (piece ∷ pieces) e =
-    let outer = and_parts (is_plain b && list_all is_plain piece) (list_all (list_all is_plain) pieces) e in
-    let inner = and_parts (is_plain b) (list_all is_plain piece) outer.0 in
-    (inner.0, and_both (list_all is_plain piece) (list_all (list_all is_plain) pieces) inner.1 outer.1)
+onto_by : (q : ℕ → Bool) (b : ℕ) (pieces : List (List ℕ)) → list_all (list_all q) (onto_first b pieces) ≡ true → (q b ≡ true) × (list_all (list_all q) pieces ≡ true)
+onto_by q b [] e = ((and_parts (q b) true (and_parts (q b && true) true e).0).0, refl)
+onto_by q b (piece ∷ pieces) e =
+    let outer = and_parts (q b && list_all q piece) (list_all (list_all q) pieces) e in
+    let inner = and_parts (q b) (list_all q piece) outer.0 in
+    (inner.0, and_both (list_all q piece) (list_all (list_all q) pieces) inner.1 outer.1)
 
-pieces_plain : (bytes : List ℕ) → list_all (list_all is_plain) (slice_split (λ b. eqb b 44) bytes) ≡ true → list_all is_plain bytes ≡ true
-pieces_plain [] e = refl
-pieces_plain (b ∷ bytes) e = elim (bool_cases (eqb b 44)) [
-  | inl t ↦ and_both (is_plain b) (list_all is_plain bytes) (subst (λ (x : ℕ). is_plain x ≡ true) (sym (eqb-true _ _ t)) refl) (pieces_plain bytes (rw t at e))
+pieces_by : (q : ℕ → Bool) → HoldsOfNumbers q → (bytes : List ℕ) → list_all (list_all q) (slice_split (λ b. eqb b 44) bytes) ≡ true → list_all q bytes ≡ true
+pieces_by q holds [] e = refl
+pieces_by q holds (b ∷ bytes) e = elim (bool_cases (eqb b 44)) [
+  | inl t ↦ and_both (q b) (list_all q bytes) (subst (λ (x : ℕ). q x ≡ true) (sym (eqb-true _ _ t)) holds.comma) (pieces_by q holds bytes (rw t at e))
   | inr f ↦
-      let parts = onto_plain b (slice_split (λ c. eqb c 44) bytes) (rw f at e) in
-      and_both (is_plain b) (list_all is_plain bytes) parts.0 (pieces_plain bytes parts.1)
+      let parts = onto_by q b (slice_split (λ c. eqb c 44) bytes) (rw f at e) in
+      and_both (q b) (list_all q bytes) parts.0 (pieces_by q holds bytes parts.1)
 ]
+
+wholes_by : (q : ℕ → Bool) → HoldsOfNumbers q → (bytes : List ℕ) → are_wholes (slice_split (λ b. eqb b 44) bytes) ≡ true → list_all q bytes ≡ true
+wholes_by q holds bytes e = pieces_by q holds bytes (all_by (λ piece. is_some (whole_of piece)) (list_all q) (whole_by q holds) (slice_split (λ b. eqb b 44) bytes) e)
+
+plain_numbers : HoldsOfNumbers is_plain
+plain_numbers = record { digits = plain_by is_ascii_digit refl refl refl refl; minus = refl; comma = refl }
+
+pub whole_plain : (piece : List ℕ) → is_some (whole_of piece) ≡ true → list_all is_plain piece ≡ true
+whole_plain piece e = whole_by is_plain plain_numbers piece e
 
 wholes_plain : (bytes : List ℕ) → are_wholes (slice_split (λ b. eqb b 44) bytes) ≡ true → list_all is_plain bytes ≡ true
-wholes_plain bytes e = pieces_plain bytes (all_by (λ piece. is_some (whole_of piece)) (list_all is_plain) whole_plain (slice_split (λ b. eqb b 44) bytes) e)
+wholes_plain bytes e = wholes_by is_plain plain_numbers bytes e
+
+-- ---- bytes that a name and an index don't have
+
+-- no name has an opening bracket
+pub name_without : (word : List ℕ) → is_free_name word ≡ true → list_all (λ b. not (eqb b 91)) word ≡ true
+name_without [] e = refl
+name_without (b ∷ word) e =
+    let formed = and_parts (is_name (b ∷ word)) (not (is_word (b ∷ word))) e in
+    let parts = and_parts (begins_name b) (list_all continues_name word) formed.0 in
+    and_both (not (eqb b 91)) (list_all (λ x. not (eqb x 91)) word) (rw (not_byte begins_name b 91 refl parts.0) refl)
+    (all_by continues_name (λ x. not (eqb x 91)) (λ x h. rw (not_byte continues_name x 91 refl h) refl) word parts.1)
+
+-- no index has a closing bracket
+pub wholes_without : (bytes : List ℕ) → are_wholes (slice_split (λ b. eqb b 44) bytes) ≡ true → list_all (λ b. not (eqb b 93)) bytes ≡ true
+wholes_without bytes e =
+    wholes_by (λ b. not (eqb b 93)) (record { digits = λ b h. rw (not_byte is_ascii_digit b 93 refl h) refl; minus = refl; comma = refl }) bytes e
 
 -- what stands before a byte, the byte, and what stands behind it
 cut_plain : (c : ℕ) (bytes : List ℕ) (place : ℕ) → position (λ b. eqb b c) bytes ≡ Some place → is_plain c ≡ true → list_all is_plain (take place bytes) ≡ true → list_all is_plain (drop (place + 1) bytes) ≡ true

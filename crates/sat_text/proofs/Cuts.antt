@@ -27,10 +27,10 @@ place_some p xs i e = elim (bool_cases (ltb (position_or_len p xs) (length xs)))
   | inr f ↦ absurd (let h : None ≡ Some i = sym (rw f refl) ∙ e in cc)
 ]
 
-place_yes : {X : Type 0} (p : X → Bool) (x : X) (xs : List X) → p x ≡ true → position_or_len p (x ∷ xs) ≡ 0
+pub place_yes : {X : Type 0} (p : X → Bool) (x : X) (xs : List X) → p x ≡ true → position_or_len p (x ∷ xs) ≡ 0
 place_yes p x xs t = rw t refl
 
-place_no : {X : Type 0} (p : X → Bool) (x : X) (xs : List X) → p x ≡ false → position_or_len p (x ∷ xs) ≡ suc (position_or_len p xs)
+pub place_no : {X : Type 0} (p : X → Bool) (x : X) (xs : List X) → p x ≡ false → position_or_len p (x ∷ xs) ≡ suc (position_or_len p xs)
 place_no p x xs f = rw f (omega arith)
 
 -- ---- lines

@@ -11,6 +11,7 @@ pub mod Again
 pub mod LogAgain
 pub mod CnfAgain
 pub mod CellPlain
+pub mod CellSpelled
 pub mod TextAgain
 pub mod Readable
 pub mod Spelling

@@ -14,6 +14,7 @@ use Rattle.sat_text.specs.Notes.{is_cell, note_with, note_literal, note_value, n
 use Rattle.sat_text.specs.NoteGrammar.{SpellsNote, SpellsAdded}
 use Rattle.sat_text.proofs.Cuts.{bool_cases}
 use Rattle.sat_text.proofs.NotePieces.{some_piece}
+use Rattle.sat_text.proofs.CellSpelled.{cell_sound, cell_complete}
 use Rattle.sat_text.proofs.CellPlain.{cell_plain, whole_plain}
 use Rattle.sat_text.proofs.TextAgain.{space_cut, space_none}
 use Rattle.sat_text.proofs.Spelling.{cons_head, cons_tail, literal_of_number, number_not_zero, number_of_literal, literal_some}
@@ -124,7 +125,7 @@ note_sound line note e = elim (bool_cases (starts_with nat_eq line (codes "c cel
         value_word = behind.value_word;
         literal_word = behind.literal_word;
         bytes = starts line (codes "c cell ") t ∙ ap (λ (b : List ℕ). codes "c cell " ++ b) behind.parts;
-        named = behind.named;
+        named = cell_sound note.cell behind.named;
         value = behind.value;
         literal = behind.literal;
         variable = behind.variable;
@@ -149,8 +150,8 @@ behind_complete note value_word literal_word named value literal variable = rw (
 pub note_complete : (line : List ℕ) (note : Note) → SpellsNote line note → note_of line ≡ Some note
 note_complete line note s =
     ap note_of s.bytes
-    ∙ ap note_at (pieces_of note.cell s.value_word s.literal_word (cell_plain note.cell s.named) (number_plain s.value_word note.value s.value) (number_plain s.literal_word (number_of note.lit) s.literal))
-    ∙ behind_complete note s.value_word s.literal_word s.named s.value s.literal s.variable
+    ∙ ap note_at (pieces_of note.cell s.value_word s.literal_word (cell_plain note.cell (cell_complete note.cell s.named)) (number_plain s.value_word note.value s.value) (number_plain s.literal_word (number_of note.lit) s.literal))
+    ∙ behind_complete note s.value_word s.literal_word (cell_complete note.cell s.named) s.value s.literal s.variable
 
 -- ---- the number of added clauses
 

@@ -1,5 +1,5 @@
 -- Worked texts of the grammars.
-use Rattle.std.proofs.Common.{◌≡◌, ◌<◌, ◌≤◌, ℕ, ℤ, pos, negsuc, true, false, [], ◌∷◌, List, refl, arith}
+use Rattle.std.proofs.Common.{◌≡◌, ◌<◌, ◌≤◌, ℕ, ℤ, pos, negsuc, true, false, [], ◌∷◌, List, refl, arith, inr}
 use Rattle.std.proofs.lemmas.List.Elements.{All-nil, All-from_recursion}
 use Rattle.std.specs.Prelude.{codes}
 use Rattle.ep_base.specs.TokenTexts.{is_word}
@@ -99,7 +99,7 @@ cell_note = record {
   value_word = codes "3";
   literal_word = codes "-01";
   bytes = refl;
-  named = refl;
+  named = inr (record { name = codes "q"; indices = codes "1,-2"; parts = refl; named = refl; wholes = refl });
   value = refl;
   literal = refl;
   variable = omega arith;
