@@ -1,6 +1,10 @@
 //! The program `epsat`: hands the words of its command line to `run`, and ends with the code of the status.
 #![tactic(auto)]
 
+ghost use Rattle.std.specs.Prelude.{◌≡◌};
+ghost use Rattle.std.specs.Process.{exit_status};
+ghost use Rattle.ep_driver.specs.Status.{code_of};
+
 use ep_base::{StdFiles, StdSink, Word};
 use ep_driver::{Status, run};
 use std::env;
@@ -17,6 +21,13 @@ fn main(rt: HostRuntime) -> ExitCode {
         }
         Err(status) => status,
     };
+    ended(status)
+}
+
+/// How the program ends with a status.
+fn ended(status: Status) -> ExitCode
+    ensures { exit_status result ≡ code_of status }
+{
     ExitCode::from(status.code())
 }
 

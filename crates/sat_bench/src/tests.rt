@@ -5,7 +5,7 @@ use crate::refusal::Refusal;
 use cnf_core::{Clause, Formula, Lit, MOST_VARIABLE};
 use ep_base::{MemFiles, Word};
 use log_check::{Verdict, check_log};
-use sat_problems::{drawn, hinted_square, pigeons};
+use sat_problems::{drawn, hinted_square, pigeons, square_of_hints};
 use sat_text::{read_cnf, read_log, write_cnf};
 use std::alloc::Global;
 use std::process::Abort;
@@ -141,6 +141,27 @@ fn logs_of_searches_that_are_cut_off_are_accepted(rt: HostRuntime) -> Result<(),
         checked(&rt, alloc, &many, "100")?,
         (0, Verdict::NoEmptyClause, 100)
     );
+    Ok(())
+}
+
+// Whether the lines of values have this number.
+fn has_value(alloc: Global, text: &str, number: i64) -> Result<bool, Fail> {
+    let within = format!(in alloc; " {number} ")?;
+    let last = format!(in alloc; " {number}\n")?;
+    Ok(text.contains(within.as_str()) || text.contains(last.as_str()))
+}
+
+#[test]
+fn a_model_has_the_values_of_the_only_solution(rt: HostRuntime) -> Result<(), Fail> {
+    let alloc = rt.alloc();
+    let cnf = cnf_text(alloc, &hinted_square(alloc)?)?;
+    let mut files = MemFiles::new(alloc, Vec::new(alloc));
+    files.hold("a.cnf", &cnf)?;
+    let words = words_of(alloc, &["a.cnf", "1000"])?;
+    let reply = answer(alloc, &words, &mut files)?;
+    for variable in square_of_hints(alloc)?.as_slice() {
+        assert!(rt; has_value(alloc, reply.text.as_str(), *variable)?);
+    }
     Ok(())
 }
 
