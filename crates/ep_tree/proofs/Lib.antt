@@ -3,12 +3,15 @@ pub mod ViewLemmas
 mod VectorsValues
 mod VectorsMatrices
 mod VectorsDomains
-mod VectorsTypes
+pub mod VectorsTypes
 mod VectorsFaults
 mod VectorsHeights
 mod VectorsMeasures
 mod VectorsBinding
 mod VectorsSolutions
+mod VectorsTypeTables
+mod VectorsFaultTables
+mod VectorsBindingTables
 mod VectorsSpelling
 pub mod Openings
 mod VectorsReading
