@@ -12,7 +12,7 @@ use Rattle.ep_tree.specs.Evaluation.{binary_value, domain_values, evaluate, fold
 use Rattle.ep_tree.specs.Names.{put}
 use Rattle.ep_tree.specs.Trees.{DomainTree, ExprTree, ExprTrees, Generators, Indices, absolute, all_different, all_of, any_of, at_least, at_most, binary, bool, chain, compare, comprehension, every_and, factorial, flatten, folded, gcc, generator_and, group, group_domain, in_domain, in_set, index_and, int, lex, literal, matrix_domain, minus, named, named_domain, negation, no_generators, no_indices, no_trees, number, quantified, ranges, read, set_domain, table, to_int, tree_and, truth}
 use Rattle.ep_tree.specs.TypedValues.{IsOf, IsOfDims, IsTypedBound, IsTypedEnv, is_number_of}
-use Rattle.ep_tree.specs.Types.{Context, Judged, JudgedParts, a_value, all_typed, are_lists, binary_type, both_scalars, domain_readings, folded_type, from_all, from_many, from_one, from_two, gives, has_dimensions, indexed_type, inside, is_boolean, is_integer, is_matrix, is_matrix_of_bool, judge, judge_all, judge_comprehension, judge_domain, judge_generators, judge_index, judge_indices, judge_ranges, judge_terms, left_type, list_type, mistyped, named_domain_type, named_type, of_scalar, quantified_name, quantified_type, read_type, scalar_of, slice_count, type_from, typed, untyped, with_domains}
+use Rattle.ep_tree.specs.Types.{Context, Judged, a_value, all_typed, are_lists, binary_type, both_scalars, comprehension_type, folded_type, from_all, from_many, from_one, from_two, gives, has_dimensions, indexed_type, inside, inside_all, is_boolean, is_integer, is_matrix, is_matrix_of_bool, judge, judge_all, judge_domain, judge_generators, judge_index, judge_indices, judge_ranges, judge_terms, left_type, list_type, mistyped, named_domain_type, named_type, of_scalar, quantified_name, quantified_type, read_type, reading_contexts, scalar_of, slice_count, type_from, typed, untyped}
 use Rattle.ep_tree.specs.Values.{Index, ValueTree, all_defined, any_index, as_parts, at_index, list_value, matrix, read_value, scalars_of, single, with_indices}
 use Rattle.ep_tree.specs.declared.syntax.BinaryOp.{BinaryOp}
 use Rattle.ep_tree.specs.declared.syntax.FoldOp.{FoldOp}
@@ -246,14 +246,14 @@ number_bound env name d u n k j h =
 
 -- the parts under some names over one domain
 over_typed : (mode : Mode) (t : ValueType) (d : DomainTree) (next : Env → Option (List (Option ValueTree))) (names : List Name) (env : Env) → IsTypedEnv env
-    → (ds : List ValueType) → all_typed (domain_readings names (λ c. judge_domain c d) (context_of env)) ≡ Some ds → list_all is_integer ds ≡ true
+    → (ds : List ValueType) → all_typed (map (λ c. judge_domain c d) (reading_contexts names (λ c. judge_domain c d) (context_of env))) ≡ Some ds → list_all is_integer ds ≡ true
     → ((inner : Env) → IsTypedEnv inner → context_of inner ≡ inside names (λ c. judge_domain c d) (context_of env)
     → (os : List (Option ValueTree)) → next inner ≡ Some os → EachPart t os)
     → (os : List (Option ValueTree)) → over_names names (λ e. domain_values mode e d) (λ e. scalar_in e d) joined next env ≡ Some os → EachPart t os
-unfolding domain_readings inside over_names
+unfolding reading_contexts inside over_names
 over_typed mode t d next [] env k ds h c each os e = each env k refl os e
 over_typed mode t d next (name ∷ names) env k ds h c each os e =
-    let readings : Context → List Judged = domain_readings names (λ x. judge_domain x d) in
+    let readings : Context → List Judged = λ y. map (λ x. judge_domain x d) (reading_contexts names (λ x. judge_domain x d) y) in
     let first : _ = all_typed_first (judge_domain (context_of env) d) (readings (put name (quantified_name (judge_domain (context_of env) d)) (context_of env))) ds h in
     let is_int : list_all is_integer (first.0 ∷ first.1) ≡ true = subst (λ us. list_all is_integer us ≡ true) (sym first.4) c in
     over_step mode t d env
@@ -272,24 +272,24 @@ over_typed mode t d next (name ∷ names) env k ds h c each os e =
     os e
 
 -- the parts that generators give
-generated_typed : (mode : Mode) (t : ValueType) (judged : Context → List Judged × Judged) (next : Env → Option (List (Option ValueTree)))
-    → ((inner : Env) → IsTypedEnv inner → (judged (context_of inner)).1 ≡ typed t → (os : List (Option ValueTree)) → next inner ≡ Some os → EachPart t os)
+generated_typed : (mode : Mode) (t : ValueType) (judged : Context → Judged) (next : Env → Option (List (Option ValueTree)))
+    → ((inner : Env) → IsTypedEnv inner → judged (context_of inner) ≡ typed t → (os : List (Option ValueTree)) → next inner ≡ Some os → EachPart t os)
     → (gens : Generators) (env : Env) → IsTypedEnv env
-    → (ds : List ValueType) → all_typed (judge_generators (context_of env) gens judged).domains ≡ Some ds → list_all is_integer ds ≡ true
-    → (judge_generators (context_of env) gens judged).part ≡ typed t
+    → (ds : List ValueType) → all_typed (judge_generators (context_of env) gens) ≡ Some ds → list_all is_integer ds ≡ true
+    → judged (inside_all gens (context_of env)) ≡ typed t
     → (os : List (Option ValueTree)) → generated mode env gens next ≡ Some os → EachPart t os
-unfolding judge_generators generated with_domains
+unfolding judge_generators inside_all generated
 generated_typed mode t judged next each no_generators env k ds h c p os e = each env k p os e
 generated_typed mode t judged next each (generator_and names d gens) env k ds h c p os e =
     let outer : Context = inside names (λ x. judge_domain x d) (context_of env) in
-    let q : _ = all_typed_append (domain_readings names (λ x. judge_domain x d) (context_of env)) (judge_generators outer gens judged).domains ds h in
+    let q : _ = all_typed_append (map (λ x. judge_domain x d) (reading_contexts names (λ x. judge_domain x d) (context_of env))) (judge_generators outer gens) ds h in
     let ints : _ = integers_append q.0 q.1 (subst (λ us. list_all is_integer us ≡ true) (sym q.4) c) in
     over_typed mode t d (λ x. generated mode x gens next) names env k q.0 q.2 ints.0
     (λ inner l r ps f.
     generated_typed mode t judged next each gens inner l q.1
-    (subst (λ x. all_typed (judge_generators x gens judged).domains ≡ Some q.1) (sym r) q.3)
+    (subst (λ x. all_typed (judge_generators x gens) ≡ Some q.1) (sym r) q.3)
     ints.1
-    (subst (λ x. (judge_generators x gens judged).part ≡ typed t) (sym r) p)
+    (subst (λ x. judged (inside_all gens x) ≡ typed t) (sym r) p)
     ps f)
     os e
 
@@ -444,20 +444,19 @@ part_typed conditions part t os e each =
     go false = tt
 
 -- a comprehension's type comes from that of its expression
-comprehension_is : (index : List ValueType) (parts : JudgedParts) (t : ValueType) → judge_comprehension index parts ≡ typed t
-    → (ds : List ValueType) × (s : ValueType) × (all_typed parts.domains ≡ Some ds) × (list_all is_integer ds ≡ true) × (parts.part ≡ typed s) × (list_type (s ∷ []) ≡ typed t)
-unfolding judge_comprehension
-comprehension_is index parts t h =
-    let inner : List ValueType → List ValueType → ValueType → Judged =
-    λ domains conditions s. if list_all is_boolean conditions then indexed_type (index ++ domains) (list_type (s ∷ [])) else mistyped in
-    let p : _ = from_many_is parts.domains (λ domains. from_many parts.conditions (λ conditions. from_one parts.part (λ s. inner domains conditions s))) t h in
-    let q : _ = from_many_is parts.conditions (λ conditions. from_one parts.part (λ s. inner p.0 conditions s)) t p.2 in
-    let r : _ = from_one_is parts.part (λ s. inner p.0 q.0 s) t q.2 in
+comprehension_is : (index : List ValueType) (domains conditions : List Judged) (part : Judged) (t : ValueType)
+    → from_many domains (λ ds. from_many conditions (λ cs. from_one part (comprehension_type index ds cs))) ≡ typed t
+    → (ds : List ValueType) × (s : ValueType) × (all_typed domains ≡ Some ds) × (list_all is_integer ds ≡ true) × (part ≡ typed s) × (list_type (s ∷ []) ≡ typed t)
+unfolding comprehension_type
+comprehension_is index domains conditions part t h =
+    let p : _ = from_many_is domains (λ ds. from_many conditions (λ cs. from_one part (comprehension_type index ds cs))) t h in
+    let q : _ = from_many_is conditions (λ cs. from_one part (comprehension_type index p.0 cs)) t p.2 in
+    let r : _ = from_one_is part (comprehension_type index p.0 q.0) t q.2 in
     go p.0 r.0 p.1 r.1 (list_all is_boolean q.0) r.2
   where
-    go : (ds : List ValueType) (s : ValueType) → all_typed parts.domains ≡ Some ds → parts.part ≡ typed s → (b : Bool)
+    go : (ds : List ValueType) (s : ValueType) → all_typed domains ≡ Some ds → part ≡ typed s → (b : Bool)
         → (if b then indexed_type (index ++ ds) (list_type (s ∷ [])) else mistyped) ≡ typed t
-        → (ds : List ValueType) × (s : ValueType) × (all_typed parts.domains ≡ Some ds) × (list_all is_integer ds ≡ true) × (parts.part ≡ typed s) × (list_type (s ∷ []) ≡ typed t)
+        → (ds : List ValueType) × (s : ValueType) × (all_typed domains ≡ Some ds) × (list_all is_integer ds ≡ true) × (part ≡ typed s) × (list_type (s ∷ []) ≡ typed t)
     go ds s a j true h = let i : _ = indexed_is (index ++ ds) (list_type (s ∷ [])) t h in (ds, s, a, (integers_append index ds i.0).1, j, i.1)
     go ds s a j false h = mistyped_is h
 
@@ -476,7 +475,7 @@ no_values_are vs e = subst (λ ws. AllOf [] ws) (some_is e) tt
 -- ---- all forms
 
 mutual
-  unfolding evaluate judge from_many from_all all_typed domain_readings over_names inside context_of is_number_of
+  unfolding evaluate judge from_many from_all all_typed reading_contexts over_names inside context_of is_number_of
 
   -- The value of an expression is of its type.
   pub value_typed : (mode : Mode) (env : Env) → IsTypedEnv env → (e : ExprTree) (t : ValueType) → judge (context_of env) e ≡ typed t
@@ -530,7 +529,7 @@ mutual
       body_typed op q.0 t v q.2 (value_typed mode env k a q.0 q.1 v e)
   value_typed mode env k (quantified p op (name ∷ names) d a) t h v e =
       let body : Judged = judge (inside (name ∷ names) (λ c. judge_domain c d) (context_of env)) a in
-      let q : _ = from_many_is (domain_readings (name ∷ names) (λ c. judge_domain c d) (context_of env)) (λ ds. from_one body (quantified_type op ds)) t h in
+      let q : _ = from_many_is (map (λ c. judge_domain c d) (reading_contexts (name ∷ names) (λ c. judge_domain c d) (context_of env))) (λ ds. from_one body (quantified_type op ds)) t h in
       let r : _ = from_one_is body (quantified_type op q.0) t q.2 in
       quantified_typed mode op _ q.0 r.0 t v r.2 e
   value_typed mode env k (literal p parts d) t h v e =
@@ -540,16 +539,18 @@ mutual
       let m : _ = matrix_value_is (index_values mode env d) (values_of mode env parts) v e in
       subst (λ w. IsOf t w) m.4 (list_is r.0 m.1 m.0 t (values_typed mode env k parts r.0 r.1 m.1 m.2) m.3 l.1)
   value_typed mode env k (comprehension p a gens conditions d) t h v e =
-      let judged : Context → List Judged × Judged = λ inner. (judge_all inner conditions, judge inner a) in
-      let q : _ = from_many_is (judge_index (context_of env) d) (λ ds. judge_comprehension ds (judge_generators (context_of env) gens judged)) t h in
-      let c : _ = comprehension_is q.0 (judge_generators (context_of env) gens judged) t q.2 in
+      let domains : List Judged = judge_generators (context_of env) gens in
+      let truths : List Judged = judge_all (inside_all gens (context_of env)) conditions in
+      let part : Judged = judge (inside_all gens (context_of env)) a in
+      let q : _ = from_many_is (judge_index (context_of env) d) (λ index. from_many domains (λ ds. from_many truths (λ cs. from_one part (comprehension_type index ds cs)))) t h in
+      let c : _ = comprehension_is q.0 domains truths part t q.2 in
       let next : Env → Option (List (Option ValueTree)) = λ inner. part_under (values_of mode inner conditions) (evaluate mode inner a) in
       let g : _ = then_is (matrix_value (index_values mode env d)) (generated mode env gens next) v e in
       let m : _ = matrix_value_is (index_values mode env d) g.0 v g.2 in
       subst (λ w. IsOf t w) m.4
       (each_is c.1 m.1 m.0 t
       (each_defined c.1 g.0 m.1
-      (generated_typed mode c.1 judged next
+      (generated_typed mode c.1 (λ x. judge x a) next
       (λ inner l j os f. part_typed (values_of mode inner conditions) (evaluate mode inner a) c.1 os f
       (λ w x. value_typed mode inner l a c.1 j w x))
       gens env k c.0 c.2 c.3 c.4 g.0 g.1)
