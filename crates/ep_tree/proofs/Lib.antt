@@ -9,6 +9,7 @@ mod VectorsHeights
 mod VectorsMeasures
 mod VectorsBinding
 mod VectorsSolutions
+pub mod Cuts
 mod VectorsSpelling
 pub mod Openings
 mod VectorsReading
