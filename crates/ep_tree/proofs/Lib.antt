@@ -12,6 +12,7 @@ mod VectorsSolutions
 mod VectorsTypeTables
 mod VectorsFaultTables
 mod VectorsBindingTables
+pub mod Cuts
 mod VectorsSpelling
 pub mod Openings
 mod VectorsReading
