@@ -21,4 +21,5 @@ pub mod Solutions
 pub mod Views
 pub mod SolutionTexts
 pub mod TypedValues
+pub mod Closed
 pub mod Laws

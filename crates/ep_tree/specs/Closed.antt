@@ -1,0 +1,47 @@
+-- Instances that are closed and well typed, as binding gives them, and environments that differ in decision variables
+-- alone.
+use Rattle.std.specs.Prelude.{◌≡◌, List, true, false, List, [], ◌++◌, All, bytes_eq, map, IsTrue, None, Some, flat_map, Option, option_to_list}
+use Rattle.std.specs.List.{IsDistinct, list_all}
+use Rattle.ep_base.specs.Numbers.{has_number}
+use Rattle.ep_base.specs.declared.names.Name.{Name}
+use Rattle.ep_tree.specs.Binding.{Instance}
+use Rattle.ep_tree.specs.Environments.{Bound, Env, context_of, has_cells, has_value, shape_type}
+use Rattle.ep_tree.specs.Faults.{Fault, clause_faults, goal_faults}
+use Rattle.ep_tree.specs.Names.{put_all}
+use Rattle.ep_tree.specs.Reach.{decisions_in}
+use Rattle.ep_tree.specs.Solutions.{cells_bound}
+use Rattle.ep_tree.specs.TypedValues.{IsTypedEnv, is_number_of}
+use Rattle.ep_tree.specs.Types.{Context}
+use Rattle.ep_tree.specs.Values.{ValueTree, fitted}
+
+-- the names of an instance as its clauses see them: its own, and the cells of its decision variables
+abbrev pub clause_env : Instance → Env
+clause_env i = put_all (cells_bound i.finds) i.env
+
+-- the faults of an instance's clauses and of its objective
+unfoldable pub instance_faults : Instance → List Fault
+instance_faults i =
+    let context : Context = context_of (clause_env i) in
+    clause_faults context true i.clauses ++ flat_map (λ goal. goal_faults context goal.1) (option_to_list i.goal)
+
+-- An instance is closed and well typed: the names of its decision variables are distinct, and stand for nothing else;
+-- their values are of their scalars; each other name stands for something of its type; and no fault stands in a clause
+-- or in the objective.
+pub record IsClosed (i : Instance) : Type 0 where
+  pub distinct : IsDistinct bytes_eq (map (λ f. f.name) i.finds)
+  pub apart : All (λ f. i.env f.name ≡ None) i.finds
+  pub values : All (λ f. IsTrue (list_all (is_number_of f.scalar) f.values)) i.finds
+  pub decided : (name : Name) → decisions_in i.env name ≡ false
+  pub of_types : IsTypedEnv i.env
+  pub faultless : instance_faults i ≡ []
+
+-- what stands for a decision variable's cells in one environment, and for a value that lies in them in another; all
+-- else stands for the same
+unfoldable pub IsDecided : Option Bound → Option Bound → Type 0
+IsDecided (Some (has_cells s indices values)) decided =
+    (v : ValueTree) × (decided ≡ Some (has_value (shape_type s indices) v)) × (fitted s s (has_number values) indices v ≡ Some v)
+IsDecided cells decided = decided ≡ cells
+
+-- an environment agrees with another but for decision variables, each of which has a value
+abbrev pub Decides : Env → Env → Type 0
+Decides cells decided = (name : Name) → IsDecided (cells name) (decided name)
