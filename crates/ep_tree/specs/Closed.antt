@@ -1,5 +1,4 @@
--- Instances that are closed and well typed, as binding gives them, and environments that differ in decision variables
--- alone.
+-- Instances that are closed and well typed, as binding gives them.
 use Rattle.std.specs.Prelude.{◌≡◌, List, true, false, List, [], ◌++◌, All, bytes_eq, map, IsTrue, None, Some, flat_map, Option, option_to_list}
 use Rattle.std.specs.List.{IsDistinct, list_all}
 use Rattle.ep_base.specs.Numbers.{has_number}
@@ -34,14 +33,3 @@ pub record IsClosed (i : Instance) : Type 0 where
   pub decided : (name : Name) → decisions_in i.env name ≡ false
   pub of_types : IsTypedEnv i.env
   pub faultless : instance_faults i ≡ []
-
--- what stands for a decision variable's cells in one environment, and for a value that lies in them in another; all
--- else stands for the same
-unfoldable pub IsDecided : Option Bound → Option Bound → Type 0
-IsDecided (Some (has_cells s indices values)) decided =
-    (v : ValueTree) × (decided ≡ Some (has_value (shape_type s indices) v)) × (fitted s s (has_number values) indices v ≡ Some v)
-IsDecided cells decided = decided ≡ cells
-
--- an environment agrees with another but for decision variables, each of which has a value
-abbrev pub Decides : Env → Env → Type 0
-Decides cells decided = (name : Name) → IsDecided (cells name) (decided name)
