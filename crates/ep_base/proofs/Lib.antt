@@ -1,8 +1,10 @@
 pub mod PutSteps
 pub mod Contents
 pub mod RunSteps
+pub mod Ascending
 pub mod VectorsOutside
 pub mod VectorsRuns
+pub mod VectorsIntervals
 pub mod TokenKinds
 pub mod TokenLaws
 pub mod VectorsTokens

@@ -1,4 +1,5 @@
 pub mod Calls
+pub mod Intervals
 pub mod MemoryDevices
 pub mod Numbers
 pub mod Outside

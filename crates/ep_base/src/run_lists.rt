@@ -1,8 +1,8 @@
 //! Sets of whole numbers, kept as runs.
 
 ghost use Rattle.std.specs.Prelude.{◌≡◌, ◌↔◌, ◌⊎◌, ◌++◌, ◌∷◌, [], ℕ, ℤ, pos, ◌+ℤ◌, ◌≤ℤ◌, ◌<ℤ◌, length, IsTrue, IfOk, IfSome, OnOk, MatchOption};
-ghost use Rattle.std.specs.List.{All, AllAdjacentBelow, AllPairs, Any, Contains};
-ghost use Rattle.ep_base.specs.Runs.{AreApart, IsIn, numbers};
+ghost use Rattle.std.specs.List.{All, AllAdjacentBelow, Any, Contains};
+ghost use Rattle.ep_base.specs.Runs.{AreApart, IsAscending, IsIn, numbers};
 
 use crate::Memory;
 use std::alloc::{AllocError, Global};
@@ -40,7 +40,7 @@ impl Runs {
     pub fn new(alloc: Global, parts: Vec<Run>) -> Result<Runs, Memory>
         ensures numbers { IfOk result (λ set.
             (number : ℤ) → Contains set number ↔ Any (IsIn number) parts.items) }
-        ensures ascending { IfOk result (AllPairs ◌<ℤ◌) }
+        ensures ascending { IfOk result IsAscending }
     {
         let mut sorted = parts;
         sorted.sort_unstable();
