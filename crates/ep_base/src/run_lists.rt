@@ -1,6 +1,6 @@
 //! Sets of whole numbers, kept as runs.
 
-ghost use Rattle.std.specs.Prelude.{◌≡◌, ◌↔◌, ◌⊎◌, ◌++◌, ◌∷◌, [], ℕ, ℤ, pos, ◌+ℤ◌, ◌≤ℤ◌, ◌<ℤ◌, length, IsTrue, IfOk, IfSome, OnOk, MatchOption};
+ghost use Rattle.std.specs.Prelude.{◌≡◌, ◌↔◌, ◌⊎◌, ◌++◌, ◌∷◌, [], ℕ, ℤ, pos, ◌+ℤ◌, ◌≤ℤ◌, ◌<ℤ◌, length, IsTrue, IfOk, IfSome, OnOk, MatchOption, option_map, slice_get};
 ghost use Rattle.std.specs.List.{All, AllAdjacentBelow, Any, Contains};
 ghost use Rattle.ep_base.specs.Runs.{AreApart, IsAscending, IsIn, numbers};
 
@@ -106,9 +106,15 @@ impl Hash for Runs {
 
     /// Feeds the least number alone.
     fn hash<H: Hasher>(&self, state: &mut H) {
-        let least = self.runs.first().map(|run| run.lo);
-        least.hash(state);
+        first_start(&self.runs).hash(state);
     }
+}
+
+/// The number with which the first run starts.
+fn first_start(runs: &[Run]) -> Option<i64>
+    ensures { result ≡ option_map (λ run. run.lo) (slice_get runs.now 0) }
+{
+    runs.first().map(|run| run.lo)
 }
 
 /// Whether the number is in one of the runs, by binary search.
