@@ -48,7 +48,7 @@ size e = size_of (met Mode.Relational cells e)
 
 -- the ends of an expression's reach, and its spread
 abbrev reach : ExprTree → ℤ × ℤ × ℕ
-reach e = let s : Span = span_of (extent Mode.Relational cells e) in (s.low, s.high, s.spread)
+reach e = let s : Span = span_of (extent Mode.Relational cells e) in (s.reach.low, s.reach.high, s.spread)
 
 -- the weight of an expression
 abbrev weight : ExprTree → ℕ
