@@ -26,3 +26,6 @@ pub mod TypedEvaluation
 pub mod FirstFault
 pub mod ReachEquations
 pub mod TypedFitting
+mod VectorsForms
+mod VectorsModes
+mod VectorsMoreMeasures
