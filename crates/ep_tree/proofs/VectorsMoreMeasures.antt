@@ -10,7 +10,8 @@ use Rattle.ep_tree.specs.declared.syntax.QuantOp.{QuantOp}
 use Rattle.ep_tree.specs.declared.syntax.SetOp.{SetOp}
 use Rattle.ep_tree.specs.declared.values.Mode.{Mode}
 use Rattle.ep_tree.specs.Environments.{Env, has_cells}
-use Rattle.ep_tree.specs.Names.{put}
+use Rattle.ep_tree.specs.Names.{nothing_known, put}
+use Rattle.ep_base.specs.Runs.{counting}
 use Rattle.ep_tree.specs.Measures.{farthest_reach, met, size_of, weight_of}
 use Rattle.ep_tree.specs.Reach.{Span, extent, span_of}
 use Rattle.ep_tree.specs.declared.values.Scalar.{Scalar}
@@ -247,3 +248,12 @@ farthest_numbers :
     pos 4096 ∷ pos 4096 ∷ pos 100 ∷ pos 100 ∷ pos 77 ∷ pos 50 ∷ []
 unfolding the_language
 farthest_numbers = refl
+
+-- sixty Boolean cells x
+abbrev sixty : Env
+sixty = put (codes "x") (has_cells Scalar.Bool (counting (pos 1) 60 ∷ []) (pos 0 ∷ pos 1 ∷ [])) nothing_known
+
+-- `sum([x[i] * 10000 | i : int(1..60)]) = 600000`: a wide sum weighs what binary adders cost
+wide_sum : weight_of Mode.Relational (met Mode.Relational sixty (compare p CompareOp.Equal (folded p FoldOp.Sum (comprehension p (binary p BinaryOp.Mul (read p (named p (codes "x")) (index_and (named p (codes "i")) no_indices)) (number p (pos 10000))) (generator_and (codes "i" ∷ []) (ranges p (span_and (end_at (number p (pos 1))) (end_at (number p (pos 60))) no_ranges)) no_generators) no_trees unstated)) (number p (pos 600000)))) ≡ 5462530
+unfolding the_language
+wide_sum = refl
