@@ -3,12 +3,16 @@ pub mod ViewLemmas
 mod VectorsValues
 mod VectorsMatrices
 mod VectorsDomains
-mod VectorsTypes
+pub mod VectorsTypes
 mod VectorsFaults
 mod VectorsHeights
 mod VectorsMeasures
 mod VectorsBinding
 mod VectorsSolutions
+mod VectorsTypeTables
+mod VectorsFaultTables
+mod VectorsBindingTables
+pub mod Cuts
 mod VectorsSpelling
 pub mod Openings
 mod VectorsReading

@@ -9,7 +9,7 @@ use Rattle.ep_base.specs.declared.places.Place.{Place}
 use Rattle.ep_tree.specs.Names.{nothing_known, put}
 use Rattle.ep_tree.specs.StatementSpelling.{is_letting}
 use Rattle.ep_tree.specs.Statements.{Group, StatementTree, TextTree, branching, constraints, decided, domain_letting, given, heuristic, letting, objective, requirements}
-use Rattle.ep_tree.specs.Trees.{DomainTree, Domains, End, ExprTree, ExprTrees, Generators, IndexDomain, Indices, Ranges, Terms, absolute, all_different, all_of, any_of, at_least, at_most, binary, bool, chain, compare, comprehension, domain_and, end_at, every_and, factorial, flatten, folded, gcc, generator_and, group, group_domain, in_domain, in_set, index_and, int, lex, literal, matrix_domain, minus, named, named_domain, negation, no_domains, no_end, no_generators, no_indices, no_ranges, no_terms, no_trees, number, one_and, over, quantified, ranges, read, set_domain, span_and, table, term_and, to_int, tree_and, truth, unstated}
+use Rattle.ep_tree.specs.Trees.{DomainTree, Domains, End, ExprTree, ExprTrees, Generators, IndexDomain, Indices, Ranges, Terms, absolute, all_different, all_of, any_of, at_least, at_most, binary, bool, chain, compare, comprehension, domain_and, end_at, every_and, factorial, flatten, folded, gcc, generator_and, group, group_domain, in_domain, in_set, index_and, int, lex, literal, matrix_domain, minus, named, named_domain, negation, no_domains, no_end, no_generators, no_indices, no_ranges, no_terms, no_trees, number, one_and, over, place_of, quantified, ranges, read, set_domain, span_and, table, term_and, to_int, tree_and, truth, unstated}
 use Rattle.ep_tree.specs.Types.{Context, Judged, Meaning, a_domain, a_value, from_one, gives, inside, inside_all, is_boolean, is_integer, judge, judge_domain, mistyped, reading_contexts, slice_count, type_from, typed, untyped}
 use Rattle.ep_tree.specs.declared.syntax.BinaryOp.{BinaryOp}
 use Rattle.ep_tree.specs.declared.values.ValueType.{ValueType}
@@ -21,37 +21,6 @@ pub data Fault : Type 0 where
   ill_typed : Place → Fault
   wrong_category : Place → Fault
   open_domain : Place → Fault
-
--- the place of an expression's first token
-unfoldable pub place_of : ExprTree → Place
-place_of (number p _) = p
-place_of (truth p _) = p
-place_of (named p _) = p
-place_of (group p _) = p
-place_of (negation p _) = p
-place_of (minus p _) = p
-place_of (absolute p _) = p
-place_of (to_int p _) = p
-place_of (factorial p _) = p
-place_of (flatten p _) = p
-place_of (chain p _) = p
-place_of (binary p _ _ _) = p
-place_of (compare p _ _ _) = p
-place_of (lex p _ _ _) = p
-place_of (in_domain p _ _) = p
-place_of (in_set p _ _) = p
-place_of (all_of p _) = p
-place_of (any_of p _) = p
-place_of (quantified p _ _ _ _) = p
-place_of (literal p _ _) = p
-place_of (comprehension p _ _ _ _) = p
-place_of (read p _ _) = p
-place_of (folded p _ _) = p
-place_of (all_different p _) = p
-place_of (gcc p _ _ _) = p
-place_of (at_least p _ _ _) = p
-place_of (at_most p _ _ _) = p
-place_of (table p _ _) = p
 
 -- a node whose parts have types that it doesn't take is ill typed
 unfoldable pub type_fault : Place → Judged → List Fault

@@ -106,7 +106,7 @@ FitIsOfDimensions =
     → (indices : List (List ℤ)) (v fit : ValueTree) → fitted own wanted passes indices v ≡ Some fit
     → IsOfDims wanted (length indices) fit
 
--- of each list of tokens at most one number is that up to which all goes well
+-- of each list of tokens at most one is the first with which nothing goes on
 abbrev pub StopsOnce : (List Lexeme → Type 0) → Type 0
 StopsOnce begins = (tokens : List Lexeme) (m n : ℕ) → Stops begins tokens m → Stops begins tokens n → m ≡ n
 

@@ -6,6 +6,7 @@ pub mod Spelling
 pub mod Statements
 pub mod StatementSpelling
 pub mod Reading
+pub mod Texts
 pub mod Types
 pub mod Faults
 pub mod Values
