@@ -30,3 +30,6 @@ pub mod TypedEvaluation
 pub mod FirstFault
 pub mod ReachEquations
 pub mod TypedFitting
+mod VectorsForms
+mod VectorsModes
+mod VectorsMoreMeasures

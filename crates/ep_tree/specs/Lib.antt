@@ -15,6 +15,7 @@ pub mod Environments
 pub mod Evaluation
 pub mod Reach
 pub mod Measures
+pub mod Agreement
 pub mod Limits
 pub mod Binding
 pub mod Solutions
