@@ -8,3 +8,5 @@ pub mod VectorsIntervals
 pub mod TokenKinds
 pub mod TokenLaws
 pub mod VectorsTokens
+pub mod RunEquality
+pub mod VectorsReads

@@ -1,6 +1,7 @@
 -- What devices tell of themselves, and what their calls may answer and change.
 use Rattle.std.specs.Prelude.{◌≡◌, ◌≢◌, ◌⊎◌, ℕ, ◌-◌, ◌^◌, ◌<◌, ◌≤◌, List, ◌++◌, length, take, Option, Some, None, option_map, if◌then◌else◌, IsSomeAnd}
 use Rattle.std.specs.Str.{bytes_eq}
+use Rattle.std.specs.Io.KnownBytes.{Consumes}
 
 -- the contents of a device of files: the bytes under each name, where it has the name
 abbrev pub Held : Type 0
@@ -31,3 +32,8 @@ with_more more taken = option_map (λ before. before ++ more) taken
 -- of these bytes a first part that isn't the whole was taken, in order, and nothing else
 abbrev pub TookPart : List ℕ → Option (List ℕ) → Option (List ℕ) → Type 0
 TookPart bytes before after = (count : ℕ) × (count < length bytes) × (after ≡ with_more (take count bytes) before)
+
+-- a read appended so many bytes to a list: those with which what was left began, which are gone from it
+abbrev pub AppendsRead : Option (List ℕ) → Option (List ℕ) → List ℕ → List ℕ → ℕ → Type 0
+AppendsRead before after old new count =
+    (more : List ℕ) × (new ≡ old ++ more) × (length more ≡ count) × Consumes before after more

@@ -77,6 +77,7 @@ impl Files for MemFiles {
         ensures never_falls { self.old.calls.faults ≤ self.new.calls.faults }
         ensures fits { self.new.calls.faults < 2 ^ 64 }
         ensures failed { IsErrOf result FileError.Failed ↔ IsTrue (next_fails self.old.calls) }
+        ensures quiet { (IsErrOf result FileError.Failed → ⊥) → self.new.calls.faults ≡ self.old.calls.faults }
         ensures after { self.new ≡ record self.old { calls = after_call self.old.calls } }
     {
         if self.calls.next_fails() {
@@ -93,7 +94,7 @@ impl Files for MemFiles {
         ensures never_falls { self.old.calls.faults ≤ self.new.calls.faults }
         ensures fits { self.new.calls.faults < 2 ^ 64 }
         ensures failed { IsErrOf result FileError.Failed ↔ IsTrue (next_fails self.old.calls) }
-        ensures uncounted { IsErrOf result FileError.Memory → self.new.calls.faults ≡ self.old.calls.faults }
+        ensures quiet { (IsErrOf result FileError.Failed → ⊥) → self.new.calls.faults ≡ self.old.calls.faults }
         ensures refused { OnErr result (self.new.files ≡ self.old.files) }
         ensures calls { self.new.calls ≡ after_call self.old.calls }
     {

@@ -65,6 +65,7 @@ impl Sink for MemSink {
         ensures never_falls { self.old.calls.faults ≤ self.new.calls.faults }
         ensures fits { self.new.calls.faults < 2 ^ 64 }
         ensures failed { IsErrOf result PutError.Failed ↔ IsTrue (next_fails self.old.calls) }
+        ensures quiet { (IsErrOf result PutError.Failed → ⊥) → self.new.calls.faults ≡ self.old.calls.faults }
         ensures refused { OnErr result (self.new.taken ≡ self.old.taken) }
         ensures calls { self.new.calls ≡ after_call self.old.calls }
         ensures most { self.new.most ≡ self.old.most }

@@ -1,11 +1,13 @@
 //! The trusted edge: the files of the system and its standard output, as devices that tell nothing of
 //! their contents.
 
-ghost use Rattle.std.specs.Prelude.{◌≡◌, ◌+◌, ◌≤◌, length, vec_len, IfOk};
+ghost use Rattle.std.specs.Io.KnownBytes.{Appends, Consumes, IsAtEnd};
+ghost use Rattle.std.specs.Prelude.{◌≡◌, ◌<◌, ◌≤◌, length, take, vec_len, IfOk, IfSome, OnOk};
+ghost use Rattle.ep_base.specs.Outside.{AppendsRead};
 
 use crate::{FileError, Files, PutError, Sink};
 use std::alloc::{AllocError, Global};
-use std::io::{ErrorKind, Read, Write};
+use std::io::{Read, Write};
 use std::marker::Model;
 use std::rt::Files as HostFiles;
 use std::{fs, io};
@@ -82,30 +84,45 @@ fn read_file<R: HostFiles>(
     let Ok(mut file) = fs::open(rt, name) else {
         return Err(FileError::Failed);
     };
+    read_first(&mut file, alloc, at_most)
+}
+
+/// The first bytes that a reader gives, or all where there are fewer. Linear in them.
+fn read_first<F: Read>(file: &mut F, alloc: Global, at_most: u64) -> Result<Vec<u8>, FileError>
+    ensures within { IfOk result (λ bytes. length bytes.items ≤ at_most) }
+    ensures first { IfOk result (λ bytes.
+        IfSome (F.remaining file.old) (λ left. bytes.items ≡ take at_most left)) }
+{
     let mut buffer = zeros(alloc, CHUNK)?;
     let mut bytes = Vec::new(alloc);
     while (bytes.len() as u64) < at_most {
         let left = at_most - bytes.len() as u64;
-        if append_some(&mut file, &mut buffer, &mut bytes, left)? == 0 {
-            break;
+        if append_some(file, &mut buffer, &mut bytes, left)? == 0 {
+            return Ok(bytes);
         }
     }
     Ok(bytes)
 }
 
 /// A buffer of so many bytes.
-fn zeros(alloc: Global, count: usize) -> Result<Vec<u8>, AllocError> {
+fn zeros(alloc: Global, count: usize) -> Result<Vec<u8>, AllocError>
+    ensures length { IfOk result (λ buffer. vec_len buffer ≡ count) }
+{
     vec![in alloc; 0u8; count]
 }
 
-/// Reads once, and appends what was read.
+/// Reads once, at most `left` bytes, and appends what was read: nothing only at the reader's end.
 fn append_some<F: Read>(
     file: &mut F,
     buffer: &mut [u8],
     bytes: &mut Vec<u8>,
     left: u64,
 ) -> Result<usize, FileError>
-    ensures appended { IfOk result (λ count. vec_len bytes.new ≡ vec_len bytes.old + count) }
+    requires some { 0 < left }
+    requires room { 0 < length buffer.old }
+    ensures appended { IfOk result (λ count. AppendsRead (F.remaining file.old) (F.remaining file.new)
+        bytes.old.items bytes.new.items count) }
+    ensures end { IfOk result (λ count. count ≡ 0 → IsAtEnd (F.remaining file.new)) }
     ensures within { IfOk result (λ count. count ≤ left) }
 {
     let asked = left.min(buffer.len() as u64) as usize;
@@ -117,6 +134,10 @@ fn append_some<F: Read>(
 /// Reads once.
 fn read_some<F: Read>(file: &mut F, buffer: &mut [u8]) -> Result<usize, FileError>
     ensures within { IfOk result (λ count. count ≤ length buffer.old) }
+    ensures consumed { IfOk result (λ count.
+        Consumes (F.remaining file.old) (F.remaining file.new) (take count buffer.new)) }
+    ensures end { IfOk result (λ count.
+        count ≡ 0 → 0 < length buffer.new → IsAtEnd (F.remaining file.new)) }
 {
     match file.read(buffer) {
         Ok(count) => Ok(count),
@@ -126,16 +147,27 @@ fn read_some<F: Read>(file: &mut F, buffer: &mut [u8]) -> Result<usize, FileErro
 
 /// Makes a file hold these bytes and no others.
 fn write_file<R: HostFiles>(rt: &R, name: &str, bytes: &[u8]) -> io::Result<()> {
-    let mut file = fs::create(rt, name)?;
-    let mut rest = bytes;
-    while !rest.is_empty() {
-        let count = file.write(rest)?;
-        if count == 0 {
-            return Err(ErrorKind::WriteZero.into());
-        }
-        rest = &rest[count..];
+    write_whole(&mut fs::create(rt, name)?, bytes)
+}
+
+/// Writes all the bytes.
+fn write_whole<W: Write>(writer: &mut W, bytes: &[u8]) -> io::Result<()>
+    ensures written { OnOk result (Appends (W.contents writer.old) (W.contents writer.new) bytes.now) }
+{
+    writer.write_all(bytes)
+}
+
+/// Writes once, and says how many bytes were taken, at least one.
+fn write_once<W: Write>(writer: &mut W, piece: &[u8]) -> Option<usize>
+    ensures some { IfSome result (λ count. 1 ≤ count) }
+    ensures within { IfSome result (λ count. count ≤ length piece.now) }
+    ensures taken { IfSome result (λ count.
+        Appends (W.contents writer.old) (W.contents writer.new) (take count piece.now)) }
+{
+    match writer.write(piece) {
+        Ok(count) if count > 0 => Some(count),
+        _ => None,
     }
-    Ok(())
 }
 
 /// Standard output. Contracts see the count of its faults: each error of the system is one, and a write
@@ -173,9 +205,9 @@ impl<R: Print + Drop> Sink for StdSink<R> {
     /// Writes to standard output once.
     fn put(&mut self, piece: &[u8]) -> Result<usize, PutError> {
         let faults = self.faults;
-        match self.rt.write_some(piece) {
-            Ok(count) if count > 0 => Ok(count),
-            _ => {
+        match write_once(&mut io::writer(&self.rt), piece) {
+            Some(count) => Ok(count),
+            None => {
                 self.faults = faults.saturating_add(1);
                 Err(PutError::Failed)
             }
