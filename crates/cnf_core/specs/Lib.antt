@@ -8,3 +8,4 @@ pub mod FormulaInside
 pub mod LogInside
 pub mod Codes
 pub mod Lines
+pub mod LogLines

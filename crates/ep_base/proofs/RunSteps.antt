@@ -34,7 +34,7 @@ any_push_cases P xs y h =
       | inr e ↦ inr (subst P (sym e) h.4)
     ]
 
-any_cons_cases : {X : Type 0} (P : X → Type 0) (x : X) (xs : List X) → Any P (x ∷ xs) → P x ⊎ Any P xs
+pub any_cons_cases : {X : Type 0} (P : X → Type 0) (x : X) (xs : List X) → Any P (x ∷ xs) → P x ⊎ Any P xs
 any_cons_cases P x xs h =
     elim (Contains-append_cases (x ∷ []) xs h.1 (h.0, h.2, h.3)) as (λ _. P x ⊎ Any P xs) [
       | inl w ↦ elim (Contains-push_cases [] x h.1 w) as (λ _. P x ⊎ Any P xs) [ inl v ↦ no_element h.1 v | inr e ↦ inl (subst P (sym e) h.4) ]
@@ -173,7 +173,7 @@ counting_ascends first (suc n) rest up behind =
     (counting_ascends (first +ℤ pos 1) n rest up
     (All-weaker (λ v. (first +ℤ pos (suc n)) ≤ℤ v) (λ v. ((first +ℤ pos 1) +ℤ pos n) ≤ℤ v) (λ v h. omega (arith, ints, h)) rest behind))
 
-apart_tail : (run : Run) (runs : List Run) → AreApart (run ∷ runs) → AreApart runs
+pub apart_tail : (run : Run) (runs : List Run) → AreApart (run ∷ runs) → AreApart runs
 apart_tail run runs h = record {
   filled = λ k d lt. h.filled (suc k) d (omega arith);
   gaps = λ i j d lt inside. h.gaps (suc i) (suc j) d (omega arith) (omega arith);

@@ -2,9 +2,9 @@
 --
 -- An operation that has no value for some numbers answers `None` there. Numbers stand for truth values, 1 for true.
 -- The floor of a quotient and the sign of a remainder are those of the language's public description; that
--- `0 ** 0` is 1, and that `min` and `max` of no part, a negative exponent and the factorial of a negative number have no
--- value, is this project's own choice.
-use Rattle.std.specs.Prelude.{ℕ, zero, suc, ◌*◌, ◌/◌, Bool, true, false, not, ◌&&◌, ◌||◌, List, [], ◌∷◌, length, ℤ, pos, negsuc, ◌+ℤ◌, ◌-ℤ◌, ◌*ℤ◌, neg_ℤ, ◌==◌, int_lt, int_le, Some, None, fold, count_by, Option, option_map}
+-- `0 ** 0` is 1, and that `min` and `max` of no part, a negative exponent, the factorial of a negative number, and counts or
+-- rows of another length have no value, is this project's own choice.
+use Rattle.std.specs.Prelude.{ℕ, zero, suc, ◌*◌, ◌/◌, Bool, true, false, not, ◌&&◌, ◌||◌, List, [], ◌∷◌, length, ℤ, pos, negsuc, ◌+ℤ◌, ◌-ℤ◌, ◌*ℤ◌, neg_ℤ, ◌==◌, if◌then◌else◌, int_lt, int_le, Some, None, fold, count_by, Option, option_map}
 use Rattle.std.specs.Int.{int_max, int_min}
 use Rattle.std.specs.List.{list_all, list_any}
 use Rattle.std.specs.Ordering.{int_eq}
@@ -131,15 +131,16 @@ are_different (x ∷ xs) = not (has_number xs x) && are_different xs
 unfoldable pub times_in : List ℤ → ℤ → ℤ
 times_in xs x = pos (count_by (λ y. int_eq x y) xs)
 
--- whether each of some numbers stands in a list as often as is compared with its count; false where the numbers and
--- the counts are not equally many
-unfoldable pub counts_hold : CompareOp → List ℤ → List ℤ → List ℤ → Bool
-counts_hold op xs [] [] = true
-counts_hold op xs [] (count ∷ counts) = false
-counts_hold op xs (value ∷ values) [] = false
+-- Whether each of some numbers stands in a list as often as is compared with its count. This has no value where the
+-- numbers and the counts are not equally many.
+unfoldable pub counts_hold : CompareOp → List ℤ → List ℤ → List ℤ → Option Bool
+counts_hold op xs [] [] = Some true
+counts_hold op xs [] (count ∷ counts) = None
+counts_hold op xs (value ∷ values) [] = None
 counts_hold op xs (value ∷ values) (count ∷ counts) =
-    compare_holds op (times_in xs value) count && counts_hold op xs values counts
+    option_map (λ others. compare_holds op (times_in xs value) count && others) (counts_hold op xs values counts)
 
--- whether a list is one of some rows; false where a row has another length
-unfoldable pub is_row_of : List (List ℤ) → List ℤ → Bool
-is_row_of rows xs = list_all (λ row. length row == length xs) rows && list_any (λ row. same_numbers row xs) rows
+-- Whether a list is one of some rows. This has no value where a row has another length.
+unfoldable pub is_row_of : List (List ℤ) → List ℤ → Option Bool
+is_row_of rows xs =
+    if list_all (λ row. length row == length xs) rows then Some (list_any (λ row. same_numbers row xs) rows) else None

@@ -26,6 +26,10 @@ unfoldable pub numbers : List Run → List ℤ
 numbers [] = []
 numbers (run ∷ runs) = numbers_in run ++ numbers runs
 
+-- the numbers ascend, each greater than all before it
+abbrev pub IsAscending : List ℤ → Type 0
+IsAscending xs = AllPairs ◌<ℤ◌ xs
+
 -- the runs ascend, each has a number, and at least one number lies between any two
 pub record AreApart (runs : List Run) : Type 0 where
   pub filled : All (λ run. run.lo ≤ℤ run.hi) runs

@@ -3,6 +3,7 @@
 
 mod calls;
 mod errors;
+mod keys;
 mod mem_files;
 mod mem_sink;
 mod names;
@@ -17,6 +18,7 @@ mod tokens;
 mod words;
 
 pub use errors::Memory;
+pub use keys::Key;
 pub use mem_files::MemFiles;
 pub use mem_sink::MemSink;
 pub use names::Name;

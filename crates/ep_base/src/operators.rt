@@ -8,7 +8,7 @@ pub enum Sense {
 }
 
 /// A comparison of two numbers.
-#[derive(Clone, Copy, Debug, PartialEq, Eq)]
+#[derive(Clone, Copy, Debug, PartialEq, Eq, Hash)]
 pub enum CompareOp {
     Equal,
     NotEqual,
@@ -19,7 +19,7 @@ pub enum CompareOp {
 }
 
 /// A lexicographic comparison of two lists of numbers.
-#[derive(Clone, Copy, Debug, PartialEq, Eq)]
+#[derive(Clone, Copy, Debug, PartialEq, Eq, Hash)]
 pub enum LexOp {
     Less,
     AtMost,

@@ -1,11 +1,12 @@
 //! Sets of whole numbers, kept as runs.
 
-ghost use Rattle.std.specs.Prelude.{◌≡◌, ◌↔◌, ◌⊎◌, ◌++◌, ◌∷◌, [], ℕ, ℤ, pos, ◌+ℤ◌, ◌≤ℤ◌, ◌<ℤ◌, length, IsTrue, IfOk, IfSome, OnOk, MatchOption};
-ghost use Rattle.std.specs.List.{All, AllAdjacentBelow, AllPairs, Any, Contains};
-ghost use Rattle.ep_base.specs.Runs.{AreApart, IsIn, numbers};
+ghost use Rattle.std.specs.Prelude.{◌≡◌, ◌↔◌, ◌⊎◌, ◌++◌, ◌∷◌, [], ℕ, ℤ, pos, ◌+ℤ◌, ◌≤ℤ◌, ◌<ℤ◌, length, IsTrue, IfOk, IfSome, OnOk, MatchOption, option_map, slice_get};
+ghost use Rattle.std.specs.List.{All, AllAdjacentBelow, Any, Contains};
+ghost use Rattle.ep_base.specs.Runs.{AreApart, IsAscending, IsIn, numbers};
 
 use crate::Memory;
 use std::alloc::{AllocError, Global};
+use std::hash::{Hash, Hasher};
 use std::marker::Model;
 
 /// The whole numbers from `lo` to `hi`; none where `hi` is less than `lo`.
@@ -39,7 +40,7 @@ impl Runs {
     pub fn new(alloc: Global, parts: Vec<Run>) -> Result<Runs, Memory>
         ensures numbers { IfOk result (λ set.
             (number : ℤ) → Contains set number ↔ Any (IsIn number) parts.items) }
-        ensures ascending { IfOk result (AllPairs ◌<ℤ◌) }
+        ensures ascending { IfOk result IsAscending }
     {
         let mut sorted = parts;
         sorted.sort_unstable();
@@ -61,6 +62,59 @@ impl Runs {
     {
         some_has(&self.runs, number)
     }
+
+    /// The same set once more.
+    pub fn copy(&self, alloc: Global) -> Result<Runs, Memory>
+        ensures { IfOk result (λ set. set ≡ self.now) }
+    {
+        let runs = Vec::from_slice(alloc, self.runs.as_slice())?;
+        Ok(Runs { runs })
+    }
+}
+
+impl PartialEq for Runs {
+    ghost use Rattle.std.proofs.Common.{rules};
+    ghost use Rattle.std.specs.Cmp.Lexicographic.{pointwise};
+    ghost use Rattle.std.specs.Cmp.Rules.{comparing};
+    ghost use Rattle.std.specs.Ordering.{int_eq};
+
+    ghost eq = { pointwise int_eq };
+
+    ghost laws = { Prim.search (comparing, rules) };
+
+    fn eq(&self, other: &Runs) -> bool {
+        self.runs.as_slice() == other.runs.as_slice()
+    }
+}
+
+impl Eq for Runs {
+    ghost use Rattle.std.proofs.Common.{rules};
+    ghost use Rattle.std.specs.Cmp.Rules.{comparing};
+
+    ghost laws = { Prim.search (comparing, rules) };
+}
+
+impl Hash for Runs {
+    ghost use Rattle.std.proofs.Common.{rules};
+    ghost use Rattle.std.specs.Cmp.Rules.{hashing};
+    ghost use Rattle.std.specs.Hash as fed;
+    ghost use Rattle.std.specs.Prelude.{slice_get};
+
+    ghost hash_input = { λ numbers. fed.option fed.i64 (slice_get numbers 0) };
+
+    ghost respects_eq = { Prim.search (hashing, rules) };
+
+    /// Feeds the least number alone.
+    fn hash<H: Hasher>(&self, state: &mut H) {
+        first_start(&self.runs).hash(state);
+    }
+}
+
+/// The number with which the first run starts.
+fn first_start(runs: &[Run]) -> Option<i64>
+    ensures { result ≡ option_map (λ run. run.lo) (slice_get runs.now 0) }
+{
+    runs.first().map(|run| run.lo)
 }
 
 /// Whether the number is in one of the runs, by binary search.

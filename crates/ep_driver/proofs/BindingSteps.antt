@@ -3,7 +3,7 @@ use Rattle.std.proofs.Common.{◌≡◌, ℤ, neg_ℤ, Bool, true, false, ◌&&�
 use Rattle.std.specs.List.{flat_map, list_all, AllByRecursion}
 use Rattle.std.proofs.lemmas.List.{append-nil, append_assoc}
 use Rattle.ep_base.specs.declared.places.Place.{Place}
-use Rattle.ep_tree.specs.Binding.{Find, Progress, Shape, above_end, and_next, below_end, bind, bind_params, bind_statement, bind_statements, bound_finds, element_values, elements_pass, group_finds, index_domains, or_refuse, ranges_pass, shape_of, unless_any}
+use Rattle.ep_tree.specs.Binding.{Find, Progress, Shape, above_end, and_next, below_end, bind, bind_params, bind_statement, bind_statements, bound_finds, element_values, elements_pass, group_finds, index_domains, now_with, or_refuse, ranges_pass, shape_of, unless_any, with_clauses, with_finds}
 use Rattle.ep_tree.specs.Domains.{between}
 use Rattle.ep_tree.specs.Environments.{Env, scalar_in}
 use Rattle.ep_tree.specs.Evaluation.{domain_values, evaluate, number_in, on_both, on_three}
@@ -95,7 +95,7 @@ abbrev progress : List Find → List ExprTree → Progress
 progress fs cs = record { instance = record { finds = fs; clauses = cs; goal = None; env = nothing_known }; next_where = 1 }
 
 bind-step : (s : StatementTree) (fs : List Find) (cs : List ExprTree) → IsEarlyStatement s → IsSmallStatement s → bind_statement Mode.Relational nothing_known (progress fs cs) s ≡ Ok (progress (fs ++ finds_of_statement s) (cs ++ clauses_of_statement s))
-unfolding bind_statement unless_any and_next or_refuse IsEarlyStatement IsSmallStatement
+unfolding bind_statement unless_any and_next or_refuse with_finds with_clauses now_with IsEarlyStatement IsSmallStatement
 bind-step (decided p groups) fs cs h s =
     rw (limits-none nothing_known groups h s.1 s.0, finds-bound groups h) (ap (λ x. Ok (progress (fs ++ flat_map finds_of_group groups) x)) (sym (append-nil cs)))
 bind-step (constraints p es) fs cs h s = ap (λ x. Ok (progress x (cs ++ es))) (sym (append-nil fs))

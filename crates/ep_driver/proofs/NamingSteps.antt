@@ -7,7 +7,7 @@ use Rattle.std.proofs.lemmas.List.{append-nil, append_assoc}
 use Rattle.std.proofs.lemmas.List.Elements.{Contains-append_left, Contains-append_right, Contains-append_cases}
 use Rattle.ep_base.specs.declared.names.Name.{Name}
 use Rattle.ep_base.specs.declared.places.Place.{Place}
-use Rattle.ep_tree.specs.Faults.{Fault, IsWellFormed, after_groups, after_statement, clause_faults, declaration_faults, declare, domain_faults, faults, faults_after, faults_of_terms, group_faults, name_faults, place_of, statement_faults, text_faults, type_fault, unless}
+use Rattle.ep_tree.specs.Faults.{Fault, IsWellFormed, after_group, after_groups, after_statement, clause_faults, declaration_faults, declare, domain_faults, faults, faults_after, faults_of_terms, group_faults, group_meaning, name_faults, place_of, statement_faults, text_faults, type_fault, unless}
 use Rattle.ep_tree.specs.Names.{nothing_known, put}
 use Rattle.ep_tree.specs.Statements.{Group, StatementTree, TextTree, constraints, decided}
 use Rattle.ep_tree.specs.Trees.{ExprTree, Terms, chain, compare, named, no_terms, number, term_and}
@@ -80,17 +80,16 @@ unless-true false f e = absurd cc
 
 -- ---- declarations
 
-declared-new : (context : Context) (seen : List Name) (names : List (Name × Place)) → Knows context seen → declaration_faults context names ≡ [] → AreNew seen (map (λ entry. entry.0) names)
+declared-new : (m : Meaning) (context : Context) (seen : List Name) (names : List (Name × Place)) → Knows context seen → declaration_faults m context names ≡ [] → AreNew seen (map (λ entry. entry.0) names)
 unfolding declaration_faults
-declared-new context seen [] k e = tt
-declared-new context seen (n ∷ names) k e =
-    let none = unless-true _ _ (first-nothing _ _ e) in
-    let other : Meaning = a_value None false in (
+declared-new m context seen [] k e = tt
+declared-new m context seen (n ∷ names) k e =
+    let none = unless-true _ _ (first-nothing _ _ e) in (
       λ c. let known = k.has n.0 c in cc,
-      declared-new (put n.0 other context) (seen ++ n.0 ∷ []) names (knows-put context seen n.0 other k) (rest-nothing _ _ e),
+      declared-new m (put n.0 m context) (seen ++ n.0 ∷ []) names (knows-put context seen n.0 m k) (rest-nothing _ _ e),
     )
 
-declare-knows : (names : List (Name × Place)) (m : Meaning) (context : Context) (seen : List Name) → Knows context seen → Knows (declare names m context) (seen ++ map (λ entry. entry.0) names)
+declare-knows : (names : List (Name × Place)) (m : Meaning) (context : Context) (seen : List Name) → Knows context seen → Knows (declare m context names) (seen ++ map (λ entry. entry.0) names)
 unfolding declare
 declare-knows [] m context seen k = knows-same _ _ _ (sym (append-nil seen)) k
 declare-knows (n ∷ names) m context seen k =
@@ -104,25 +103,25 @@ new-both seen (x ∷ xs) ys h g =
     (h.0, new-both (seen ++ x ∷ []) xs ys h.1 (subst P (sym (append_assoc seen (x ∷ []) xs)) g))
 
 groups-new : (context : Context) (seen : List Name) (decisions may_open : Bool) (groups : List Group) → Knows context seen → group_faults context decisions may_open groups ≡ [] → AreNew seen (flat_map group_names groups)
-unfolding group_faults
+unfolding group_faults after_group
 groups-new context seen decisions may_open [] k e = tt
 groups-new context seen decisions may_open (g ∷ groups) k e =
-    let m = a_value (type_from (judge_domain context g.domain)) decisions in
-    let after = declare g.names m context in
+    let m = group_meaning context decisions g in
+    let after = after_group context decisions g in
     let rest = group_faults after decisions may_open groups in
     let domain = domain_faults context may_open g.domain in
-    let names = declaration_faults context g.names in
+    let names = declaration_faults m context g.names in
     new-both seen (group_names g) (flat_map group_names groups)
-    (declared-new context seen g.names k (rest-nothing domain names (first-nothing (domain ++ names) rest e)))
+    (declared-new m context seen g.names k (rest-nothing domain names (first-nothing (domain ++ names) rest e)))
     (groups-new after (seen ++ group_names g) decisions may_open groups (declare-knows g.names m context seen k) (rest-nothing (domain ++ names) rest e))
 
 groups-known : (context : Context) (seen : List Name) (decisions : Bool) (groups : List Group) → Knows context seen → Knows (after_groups context decisions groups) (seen ++ flat_map group_names groups)
-unfolding after_groups
+unfolding after_groups after_group
 groups-known context seen decisions [] k = knows-same _ _ _ (sym (append-nil seen)) k
 groups-known context seen decisions (g ∷ groups) k =
-    let m = a_value (type_from (judge_domain context g.domain)) decisions in
+    let m = group_meaning context decisions g in
     knows-same _ _ _ (append_assoc seen (group_names g) (flat_map group_names groups))
-    (groups-known (declare g.names m context) (seen ++ group_names g) decisions groups (declare-knows g.names m context seen k))
+    (groups-known (after_group context decisions g) (seen ++ group_names g) decisions groups (declare-knows g.names m context seen k))
 
 statement-new : (context : Context) (seen : List Name) (s : StatementTree) → Knows context seen → IsEarlyStatement s → statement_faults context s ≡ [] → AreNew seen (declared_by s)
 unfolding statement_faults IsEarlyStatement

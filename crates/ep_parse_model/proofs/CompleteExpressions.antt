@@ -5,10 +5,9 @@ use Rattle.ep_base.specs.declared.names.Name.{Name}
 use Rattle.ep_base.specs.declared.places.Place.{Place}
 use Rattle.ep_base.specs.declared.operators.CompareOp.{CompareOp}
 use Rattle.ep_base.specs.declared.operators.CompareOp.TheVariants.{Equal, NotEqual, Less, AtMost, Greater, AtLeast}
-use Rattle.ep_tree.specs.Faults.{place_of}
 use Rattle.ep_tree.specs.Phrases.{Lexeme, a_name, a_number, a_word}
 use Rattle.ep_tree.specs.Spelling.{Level, Spells, SpellsTerms, compare_word, has_terms, implications, products, sign_word, sums}
-use Rattle.ep_tree.specs.Trees.{ExprTree, Terms, chain, compare, named, no_terms, number, term_and}
+use Rattle.ep_tree.specs.Trees.{ExprTree, Terms, chain, compare, named, no_terms, number, place_of, term_and}
 use Rattle.ep_parse_model.specs.EarlyForms.{AreOperands, IsEarlyClause, IsOperand, IsSide}
 use Rattle.ep_parse_model.specs.Reading.{as_terms, at_sign, begins_operand, begins_term, clause_from, comparison_from, is_at, lexeme_at, list_from, name_from, number_from, operand_from, pass, side_from, sign_from, term_from, word_from}
 use Rattle.ep_parse_model.proofs.EarlyCases.{clause_case, operand_case, side_case}

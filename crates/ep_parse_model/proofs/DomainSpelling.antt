@@ -4,8 +4,8 @@ use Rattle.std.specs.Prelude.{codes}
 use Rattle.std.proofs.lemmas.List.{append-nil}
 use Rattle.ep_base.specs.declared.places.Place.{Place}
 use Rattle.ep_tree.specs.Phrases.{Lexeme, Says, a_word, ◌followed_by◌}
-use Rattle.ep_tree.specs.Spelling.{Spells, SpellsDomain, SpellsEnd, SpellsMoreRanges, SpellsRanges, domain_rank, domains, implications}
-use Rattle.ep_tree.specs.Trees.{ExprTree, end_at, no_ranges, ranges, span_and}
+use Rattle.ep_tree.specs.Spelling.{Spells, SpellsDomain, SpellsDomainNode, SpellsEnd, SpellsMoreRanges, SpellsRanges, domain_rank, domains, implications, own_domain_level}
+use Rattle.ep_tree.specs.Trees.{ExprTree, end_at, no_ranges, place_of_domain, ranges, span_and}
 use Rattle.ep_parse_model.specs.Reading.{lexeme_at}
 use Rattle.ep_parse_model.proofs.Phrasing.{begins_so, behind, behind_made, between, between_made, cut, from_is, joint}
 
@@ -16,13 +16,13 @@ int_tokens p q r s front back =
 
 span_spelled : (a b : ExprTree) (front : List Lexeme) (r : Place) (back : List Lexeme) → Spells implications a front → Spells implications b back
     → SpellsRanges (span_and (end_at a) (end_at b) no_ranges) (front ++ lexeme_at r (a_word (codes "..")) ∷ back)
-unfolding SpellsDomain
+unfolding SpellsDomainNode own_domain_level place_of_domain
 span_spelled a b front r back f g =
     between_made (SpellsEnd (end_at a)) (a_word (codes "..")) (SpellsEnd (end_at b) followed_by SpellsMoreRanges no_ranges) front r back f (back, [], sym (append-nil back), g, refl)
 
 pub domain_spelled : (p q r s : Place) (a b : ExprTree) (front back : List Lexeme) → Spells implications a front → Spells implications b back
     → SpellsDomain domains (ranges p (span_and (end_at a) (end_at b) no_ranges)) (int_tokens p q r s front back)
-unfolding SpellsDomain domain_rank
+unfolding SpellsDomainNode own_domain_level place_of_domain domain_rank
 domain_spelled p q r s a b front back f g =
     let rs = span_and (end_at a) (end_at b) no_ranges in
     let inner = front ++ lexeme_at r (a_word (codes "..")) ∷ back in
@@ -57,7 +57,7 @@ pub record SpanCut (a b : ExprTree) (ls : List Lexeme) : Type 0 where
   pub second : Spells implications b high
 
 span_cut : (a b : ExprTree) (ls : List Lexeme) → SpellsRanges (span_and (end_at a) (end_at b) no_ranges) ls → SpanCut a b ls
-unfolding SpellsDomain
+unfolding SpellsDomainNode own_domain_level place_of_domain
 span_cut a b ls h =
     let c = between (SpellsEnd (end_at a)) (a_word (codes "..")) (SpellsEnd (end_at b) followed_by SpellsMoreRanges no_ranges) ls h in
     let d = cut (SpellsEnd (end_at b)) (SpellsMoreRanges no_ranges) c.back c.second in
@@ -72,7 +72,7 @@ span_cut a b ls h =
     }
 
 pub domain_cut : (p : Place) (a b : ExprTree) (ls : List Lexeme) → SpellsDomain domains (ranges p (span_and (end_at a) (end_at b) no_ranges)) ls → DomainCut p a b ls
-unfolding SpellsDomain
+unfolding SpellsDomainNode own_domain_level place_of_domain
 domain_cut p a b ls h =
     let rs = span_and (end_at a) (end_at b) no_ranges in
     let f = from_is p (Says "int" followed_by Says "(" followed_by SpellsRanges rs followed_by Says ")") ls h.1 in

@@ -5,8 +5,8 @@ use Rattle.ep_base.specs.declared.names.Name.{Name}
 use Rattle.ep_base.specs.declared.operators.CompareOp.{CompareOp}
 use Rattle.ep_base.specs.declared.places.Place.{Place}
 use Rattle.ep_tree.specs.Phrases.{From, Is, Lexeme, Saying, Says, a_name, a_number, a_word, ◌followed_by◌}
-use Rattle.ep_tree.specs.Spelling.{Level, Operand, OperandBefore, Spells, SpellsChain, SpellsTerms, compare_word, comparisons, conjunctions, disjunctions, ends_open, has_terms, implications, powers, primaries, products, rank, reads, sign_word, sums, unaries}
-use Rattle.ep_tree.specs.Trees.{ExprTree, Terms, chain, compare, minus, named, no_terms, number, term_and}
+use Rattle.ep_tree.specs.Spelling.{Closed, ClosedBefore, Level, Spells, SpellsChain, SpellsTerms, SpellsNode, compare_word, comparisons, conjunctions, disjunctions, ends_open, has_terms, implications, own_level, powers, primaries, products, rank, reads, sign_word, sums, unaries}
+use Rattle.ep_tree.specs.Trees.{ExprTree, Terms, chain, compare, minus, named, no_terms, number, place_of, term_and}
 use Rattle.ep_parse_model.specs.EarlyForms.{AreOperands, IsOperand, IsSide}
 use Rattle.ep_parse_model.specs.Reading.{lexeme_at}
 use Rattle.ep_parse_model.proofs.EarlyCases.{operand_case, side_case}
@@ -47,49 +47,49 @@ any_level reads = refl
 any_level primaries = refl
 
 pub number_spelled : (level : Level) (p : Place) (n : ℤ) → Spells level (number p n) (lexeme_at p (a_number n) ∷ [])
-unfolding Spells
+unfolding SpellsNode own_level place_of
 number_spelled level p n = (any_level level, (refl, (p, refl)))
 
 pub name_spelled : (level : Level) (p : Place) (x : Name) → Spells level (named p x) (lexeme_at p (a_name x) ∷ [])
-unfolding Spells
+unfolding SpellsNode own_level place_of
 name_spelled level p x = (any_level level, (refl, (p, refl)))
 
 pub minus_spelled : (p : Place) (e : ExprTree) (ls : List Lexeme) → Spells unaries e ls → Spells implications (minus p e) (lexeme_at p (a_word (codes "-")) ∷ ls)
-unfolding Spells rank
+unfolding SpellsNode own_level place_of rank
 minus_spelled p e ls h = (refl, (refl, behind_made (a_word (codes "-")) (Spells unaries e) p ls h))
 
 pub terms_spelled : (plus : Bool) (e : ExprTree) (terms : Terms) (p : Place) (front back : List Lexeme) → IsOperand e → Spells products e front → SpellsTerms terms back
     → SpellsTerms (term_and plus e terms) (lexeme_at p (a_word (codes (sign_word plus))) ∷ front ++ back)
-unfolding Spells
+unfolding SpellsNode own_level place_of
 terms_spelled plus e terms p front back is h others =
-    behind_made (a_word (codes (sign_word plus))) (OperandBefore (has_terms terms) e (Spells products e) followed_by SpellsTerms terms) p (front ++ back)
-    (joint (OperandBefore (has_terms terms) e (Spells products e)) (SpellsTerms terms) front back (closed (has_terms terms) (ends_open e) (operand_is_closed e is), h) others)
+    behind_made (a_word (codes (sign_word plus))) (ClosedBefore (has_terms terms) e (Spells products e) followed_by SpellsTerms terms) p (front ++ back)
+    (joint (ClosedBefore (has_terms terms) e (Spells products e)) (SpellsTerms terms) front back (closed (has_terms terms) (ends_open e) (operand_is_closed e is), h) others)
   where
     closed : (others bare : Bool) → bare ≡ false → not (others && bare) ≡ true
     closed true bare e = ap not e
     closed false bare e = refl
 
 pub no_terms_spelled : SpellsTerms no_terms []
-unfolding Spells
+unfolding SpellsNode own_level place_of
 no_terms_spelled = refl
 
 pub chain_spelled : (p : Place) (e : ExprTree) (terms : Terms) (front back : List Lexeme) → BeginsAt p front → IsOperand e → has_terms terms ≡ true → Spells products e front → SpellsTerms terms back
     → Spells sums (chain p (term_and true e terms)) (front ++ back)
-unfolding Spells rank
+unfolding SpellsNode own_level place_of rank
 chain_spelled p e terms front back begins is has h others = (
   refl,
   from_made p (SpellsChain (term_and true e terms)) (front ++ back) (begins-front p front back begins)
-      (has, joint (Operand e (Spells products e)) (SpellsTerms terms) front back (ap not (operand_is_closed e is), h) others),
+      (has, joint (Closed e (Spells products e)) (SpellsTerms terms) front back (ap not (operand_is_closed e is), h) others),
 )
 
 pub compare_spelled : (p : Place) (op : CompareOp) (a b : ExprTree) (front : List Lexeme) (q : Place) (back : List Lexeme) → BeginsAt p front → IsSide a → Spells sums a front → Spells sums b back
     → Spells implications (compare p op a b) (front ++ lexeme_at q (a_word (codes (compare_word op))) ∷ back)
-unfolding Spells rank
+unfolding SpellsNode own_level place_of rank
 compare_spelled p op a b front q back begins is f g = (
   refl,
-  from_made p (Operand a (Spells sums a) followed_by Says (compare_word op) followed_by Spells sums b) (front ++ lexeme_at q (a_word (codes (compare_word op))) ∷ back)
+  from_made p (Closed a (Spells sums a) followed_by Says (compare_word op) followed_by Spells sums b) (front ++ lexeme_at q (a_word (codes (compare_word op))) ∷ back)
       (begins-front p front (lexeme_at q (a_word (codes (compare_word op))) ∷ back) begins)
-      (between_made (Operand a (Spells sums a)) (a_word (codes (compare_word op))) (Spells sums b) front q back (ap not (side_is_closed a is), f) g),
+      (between_made (Closed a (Spells sums a)) (a_word (codes (compare_word op))) (Spells sums b) front q back (ap not (side_is_closed a is), f) g),
 )
 
 -- ---- forms that are cut into their parts
@@ -105,16 +105,16 @@ one_at p said ls h =
     f.1.1 ∙ ap (λ q. lexeme_at q said ∷ []) (begins_so p ls f.1.0 said [] f.1.1 f.0)
 
 pub number_cut : (level : Level) (p : Place) (n : ℤ) (ls : List Lexeme) → Spells level (number p n) ls → ls ≡ lexeme_at p (a_number n) ∷ []
-unfolding Spells
+unfolding SpellsNode own_level place_of
 number_cut level p n ls h = one_at p (a_number n) ls h.1
 
 pub name_cut : (level : Level) (p : Place) (x : Name) (ls : List Lexeme) → Spells level (named p x) ls → ls ≡ lexeme_at p (a_name x) ∷ []
-unfolding Spells
+unfolding SpellsNode own_level place_of
 name_cut level p x ls h = one_at p (a_name x) ls h.1
 
 pub minus_cut : (level : Level) (p : Place) (e : ExprTree) (ls : List Lexeme) → Spells level (minus p e) ls
     → (rest : List Lexeme) × (ls ≡ lexeme_at p (a_word (codes "-")) ∷ rest) × Spells unaries e rest
-unfolding Spells
+unfolding SpellsNode own_level place_of
 minus_cut level p e ls h =
     let f = from_is p (Says "-" followed_by Spells unaries e) ls h.1 in
     let b = behind (a_word (codes "-")) (Spells unaries e) ls f.1 in
@@ -122,18 +122,18 @@ minus_cut level p e ls h =
 
 pub terms_cut : (plus : Bool) (e : ExprTree) (terms : Terms) (ls : List Lexeme) → SpellsTerms (term_and plus e terms) ls
     → (p : Place) × (front : List Lexeme) × (back : List Lexeme) × (ls ≡ lexeme_at p (a_word (codes (sign_word plus))) ∷ front ++ back) × Spells products e front × SpellsTerms terms back
-unfolding Spells
+unfolding SpellsNode own_level place_of
 terms_cut plus e terms ls h =
-    let b = behind (a_word (codes (sign_word plus))) (OperandBefore (has_terms terms) e (Spells products e) followed_by SpellsTerms terms) ls h in
-    let c = cut (OperandBefore (has_terms terms) e (Spells products e)) (SpellsTerms terms) b.rest b.spelled in
+    let b = behind (a_word (codes (sign_word plus))) (ClosedBefore (has_terms terms) e (Spells products e) followed_by SpellsTerms terms) ls h in
+    let c = cut (ClosedBefore (has_terms terms) e (Spells products e)) (SpellsTerms terms) b.rest b.spelled in
     (b.place, c.front, c.back, b.parts ∙ ap (λ r. lexeme_at b.place (a_word (codes (sign_word plus))) ∷ r) c.parts, c.first.1, c.second)
 
 pub no_terms_cut : (ls : List Lexeme) → SpellsTerms no_terms ls → ls ≡ []
-unfolding Spells
+unfolding SpellsNode own_level place_of
 no_terms_cut ls h = h
 
 pub no_chain : (level : Level) (p : Place) (ls : List Lexeme) → Spells level (chain p no_terms) ls → ⊥
-unfolding Spells
+unfolding SpellsNode own_level place_of
 no_chain level p ls h = (from_is p (SpellsChain no_terms) ls h.1).1
 
 -- a chain, cut behind its first part
@@ -148,11 +148,11 @@ pub record ChainCut (p : Place) (plus : Bool) (e : ExprTree) (terms : Terms) (ls
   pub others : SpellsTerms terms back
 
 pub chain_cut : (level : Level) (p : Place) (plus : Bool) (e : ExprTree) (terms : Terms) (ls : List Lexeme) → Spells level (chain p (term_and plus e terms)) ls → ChainCut p plus e terms ls
-unfolding Spells
+unfolding SpellsNode own_level place_of
 chain_cut level p plus e terms ls h =
     let f = from_is p (SpellsChain (term_and plus e terms)) ls h.1 in
     let both = both_true plus (has_terms terms) f.1.0 in
-    let c = cut (Operand e (Spells products e)) (SpellsTerms terms) ls f.1.1 in
+    let c = cut (Closed e (Spells products e)) (SpellsTerms terms) ls f.1.1 in
     record { begins = f.0; is_plus = both.0; has = both.1; front = c.front; back = c.back; parts = c.parts; first = c.first.1; others = c.second }
 
 -- a comparison, cut at its sign
@@ -166,9 +166,9 @@ pub record CompareCut (p : Place) (op : CompareOp) (a b : ExprTree) (ls : List L
   pub second : Spells sums b back
 
 pub compare_cut : (level : Level) (p : Place) (op : CompareOp) (a b : ExprTree) (ls : List Lexeme) → Spells level (compare p op a b) ls → CompareCut p op a b ls
-unfolding Spells
+unfolding SpellsNode own_level place_of
 compare_cut level p op a b ls h =
-    let phrase = Operand a (Spells sums a) followed_by Says (compare_word op) followed_by Spells sums b in
+    let phrase = Closed a (Spells sums a) followed_by Says (compare_word op) followed_by Spells sums b in
     let f = from_is p phrase ls h.1 in
-    let c = between (Operand a (Spells sums a)) (a_word (codes (compare_word op))) (Spells sums b) ls f.1 in
+    let c = between (Closed a (Spells sums a)) (a_word (codes (compare_word op))) (Spells sums b) ls f.1 in
     record { begins = f.0; front = c.front; place = c.place; back = c.back; parts = c.parts; first = c.first.1; second = c.second }

@@ -5,7 +5,7 @@ use Rattle.std.specs.List.{AllByRecursion, list_all}
 use Rattle.std.proofs.lemmas.Slice.Eq.{bytes_eq-Decides}
 use Rattle.ep_base.specs.declared.names.Name.{Name}
 use Rattle.ep_base.specs.declared.places.Place.{Place}
-use Rattle.ep_tree.specs.Faults.{Fault, after_groups, after_statement, clause_faults, declaration_faults, declare, domain_faults, faults, faults_after, group_faults, has_open_range, IsWellFormed, redeclared, statement_faults, text_faults, type_fault, unless}
+use Rattle.ep_tree.specs.Faults.{Fault, IsWellFormed, after_group, after_groups, after_statement, clause_faults, declaration_faults, declare, domain_faults, faults, faults_after, group_faults, group_meaning, has_open_range, redeclared, statement_faults, text_faults, type_fault, unless}
 use Rattle.ep_tree.specs.Names.{nothing_known, put}
 use Rattle.ep_tree.specs.Statements.{Group, StatementTree, TextTree, constraints, decided}
 use Rattle.ep_tree.specs.Trees.{DomainTree, ExprTree, end_at, no_ranges, ranges, span_and}
@@ -94,37 +94,37 @@ redeclared_is_fault : (p : Place) (x : Name) (others : List Fault) → unless fa
 unfolding unless
 redeclared_is_fault p x others e = cc
 
-names-sound : (names : List (Name × Place)) (known now : Known) (context : Context) → Presents known context → declare_all known (plain names) ≡ Some now → declaration_faults context names ≡ []
+names-sound : (m : Meaning) (names : List (Name × Place)) (known now : Known) (context : Context) → Presents known context → declare_all known (plain names) ≡ Some now → declaration_faults m context names ≡ []
 unfolding declare_all declaration_faults unless
-names-sound [] known now context presents e = refl
-names-sound (x ∷ xs) known now context presents e =
-    chosen (known x.0) None (declare_all (adding x.0 known) (plain xs)) now e (declaration_faults context (x ∷ xs) ≡ [])
+names-sound m [] known now context presents e = refl
+names-sound m (x ∷ xs) known now context presents e =
+    chosen (known x.0) None (declare_all (adding x.0 known) (plain xs)) now e (declaration_faults m context (x ∷ xs) ≡ [])
     (λ was g. absurd cc)
     (λ was g.
     let new : is_none (context x.0) ≡ true = presents x.0 ∙ ap not was in
-    rw new (names-sound xs (adding x.0 known) now (put x.0 (a_value None false) context) (presents_adding known context x.0 (a_value None false) presents) g))
+    rw new (names-sound m xs (adding x.0 known) now (put x.0 m context) (presents_adding known context x.0 m presents) g))
 
-names-again : (names : List (Name × Place)) (known : Known) (context : Context) → Presents known context → declaration_faults context names ≡ []
+names-again : (m : Meaning) (names : List (Name × Place)) (known : Known) (context : Context) → Presents known context → declaration_faults m context names ≡ []
     → (now : Known) × (declare_all known (plain names) ≡ Some now)
 unfolding declare_all declaration_faults unless
-names-again [] known context presents h = (known, refl)
-names-again (x ∷ xs) known context presents h =
-    let inner = put x.0 (a_value None false) context in
-    let apart = none_apart (unless (is_none (context x.0)) (redeclared x.1 x.0)) (declaration_faults inner xs) h in
-    go (known x.0) refl (names-again xs (adding x.0 known) inner (presents_adding known context x.0 (a_value None false) presents) apart.1)
+names-again m [] known context presents h = (known, refl)
+names-again m (x ∷ xs) known context presents h =
+    let inner = put x.0 m context in
+    let apart = none_apart (unless (is_none (context x.0)) (redeclared x.1 x.0)) (declaration_faults m inner xs) h in
+    go (known x.0) refl (names-again m xs (adding x.0 known) inner (presents_adding known context x.0 m presents) apart.1)
   where
     go : (b : Bool) → known x.0 ≡ b → (now : Known) × (declare_all (adding x.0 known) (plain xs) ≡ Some now) → (now : Known) × (declare_all known (plain (x ∷ xs)) ≡ Some now)
     go true e others =
         let old : is_none (context x.0) ≡ false = presents x.0 ∙ ap not e in
-        let inner = put x.0 (a_value None false) context in
-        absurd (redeclared_is_fault x.1 x.0 (declaration_faults inner xs) (ap (λ b. unless b (redeclared x.1 x.0) ++ declaration_faults inner xs) (sym old) ∙ h))
+        let inner = put x.0 m context in
+        absurd (redeclared_is_fault x.1 x.0 (declaration_faults m inner xs) (ap (λ b. unless b (redeclared x.1 x.0) ++ declaration_faults m inner xs) (sym old) ∙ h))
     go false e others = (others.0, rw e others.1)
 
-names-mean : (names : List (Name × Place)) (known now : Known) (context : Context) → Means known context → declare_all known (plain names) ≡ Some now → Means now (declare names variable context)
+names-mean : (names : List (Name × Place)) (known now : Known) (context : Context) → Means known context → declare_all known (plain names) ≡ Some now → Means now (declare variable context names)
 unfolding declare_all declare
 names-mean [] known now context means e = same_known known now e context means
 names-mean (x ∷ xs) known now context means e =
-    chosen (known x.0) None (declare_all (adding x.0 known) (plain xs)) now e (Means now (declare (x ∷ xs) variable context))
+    chosen (known x.0) None (declare_all (adding x.0 known) (plain xs)) now e (Means now (declare variable context (x ∷ xs)))
     (λ was g. absurd cc)
     (λ was g. names-mean xs (adding x.0 known) now (put x.0 variable context) (means_adding known context x.0 means) g)
 
@@ -132,8 +132,8 @@ names-mean (x ∷ xs) known now context means e =
 
 -- the context behind a group
 group_context : (context : Context) (g : Group) → IsEarlyGroup g
-    → declare g.names (a_value (type_from (judge_domain context g.domain)) true) context ≡ declare g.names variable context
-unfolding type_from
+    → after_group context true g ≡ declare variable context g.names
+unfolding type_from after_group group_meaning
 group_context context g is = rw (domain_int context g.domain is).type refl
 
 -- what was checked: no fault, and what the known names stand for behind it
@@ -148,9 +148,9 @@ groups-sound [] known now context means are e = record { faultless = refl; means
 groups-sound (g ∷ groups) known now context means are e =
     let first = bind_some (declare_all known (names_of g)) (λ mid. declare_groups mid groups) now e in
     let domain = domain_int context g.domain are.0 in
-    let new = names-sound g.names known first.0 context (means_presents known context means) first.1 in
+    let new = names-sound (group_meaning context true g) g.names known first.0 context (means_presents known context means) first.1 in
     let behind = names-mean g.names known first.0 context means first.1 in
-    let others = groups-sound groups first.0 now (declare g.names variable context) behind are.1 first.2 in
+    let others = groups-sound groups first.0 now (declare variable context g.names) behind are.1 first.2 in
     let same = group_context context g are.0 in
     record { faultless = rw (same, domain.faultless, new) others.faultless; means = rw same others.means }
 
@@ -159,13 +159,14 @@ groups-again : (groups : List Group) (known : Known) (context : Context) → Mea
 unfolding declare_groups group_faults
 groups-again [] known context means are h = (known, refl)
 groups-again (g ∷ groups) known context means are h =
-    let inner = declare g.names (a_value (type_from (judge_domain context g.domain)) true) context in
-    let whole = none_apart (domain_faults context false g.domain ++ declaration_faults context g.names) (group_faults inner true false groups) h in
-    let apart = none_apart (domain_faults context false g.domain) (declaration_faults context g.names) whole.0 in
-    let first = names-again g.names known context (means_presents known context means) apart.1 in
+    let inner = after_group context true g in
+    let m = group_meaning context true g in
+    let whole = none_apart (domain_faults context false g.domain ++ declaration_faults m context g.names) (group_faults inner true false groups) h in
+    let apart = none_apart (domain_faults context false g.domain) (declaration_faults m context g.names) whole.0 in
+    let first = names-again m g.names known context (means_presents known context means) apart.1 in
     let behind = names-mean g.names known first.0 context means first.1 in
     let same = group_context context g are.0 in
-    let others = groups-again groups first.0 (declare g.names variable context) behind are.1 (ap (λ c. group_faults c true false groups) (sym same) ∙ whole.1) in
+    let others = groups-again groups first.0 (declare variable context g.names) behind are.1 (ap (λ c. group_faults c true false groups) (sym same) ∙ whole.1) in
     (others.0, rw first.1 others.1)
 
 -- ---- statements

@@ -1,21 +1,18 @@
 -- Phrases that stand one after another: how they are cut, and how they are made.
 use Rattle.std.proofs.Common.{◌≡◌, List, [], ◌∷◌, ◌++◌, refl, sym, ap, ◌∙◌, subst}
 use Rattle.ep_base.specs.declared.places.Place.{Place}
-use Rattle.ep_tree.specs.Phrases.{From, Is, Lexeme, Phrase, Saying, ◌followed_by◌}
+use Rattle.ep_tree.specs.Phrases.{From, Is, Lexeme, Phrase, Saying, StartsAt, ◌followed_by◌}
 use Rattle.ep_parse_model.specs.Reading.{lexeme_at}
 
 -- the tokens begin at a place
 abbrev pub BeginsAt : Place → List Lexeme → Type 0
-BeginsAt place [] = ⊥
-BeginsAt place (l ∷ ls) = l.place ≡ place
+BeginsAt = StartsAt
 
 pub from_is : (place : Place) (phrase : Phrase) (ls : List Lexeme) → From place phrase ls → BeginsAt place ls × phrase ls
-from_is place phrase [] h = absurd h
-from_is place phrase (l ∷ ls) h = (h.0, h.1)
+from_is place phrase ls h = h
 
 pub from_made : (place : Place) (phrase : Phrase) (ls : List Lexeme) → BeginsAt place ls → phrase ls → From place phrase ls
-from_made place phrase [] b h = absurd b
-from_made place phrase (l ∷ ls) b h = (b, h)
+from_made place phrase ls b h = (b, h)
 
 -- a front begins where its own front does
 pub begins-front : (place : Place) (xs ys : List Lexeme) → BeginsAt place xs → BeginsAt place (xs ++ ys)

@@ -1,8 +1,8 @@
 -- The place of an expression of the code's trees is that of its node.
 use Rattle.std.proofs.Common.{◌≡◌, refl}
 use Rattle.ep_base.specs.declared.places.Place.{Place}
+use Rattle.ep_tree.specs.Trees.{place_of}
 use Rattle.ep_tree.specs.declared.syntax.Kind.{Kind, Number, Truth, Named as NamedExpr, Group' as GroupExpr', Not', Neg', Abs', ToInt', Factorial', Flatten', Add', Binary', Compare', Lex', InDomain', InSet', And', Or', Quant', Literal', Comprehension', Read', Fold', AllDiff', Gcc', AtLeast', AtMost', Table'}
-use Rattle.ep_tree.specs.Faults.{place_of}
 use Rattle.ep_tree.specs.Views.{kind_tree}
 
 pub place_of_tree : (p : Place) (k : Kind) → place_of (kind_tree p k) ≡ p

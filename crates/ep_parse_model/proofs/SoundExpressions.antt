@@ -5,10 +5,9 @@ use Rattle.std.proofs.lemmas.List.{append-nil}
 use Rattle.ep_base.specs.declared.places.Place.{Place}
 use Rattle.ep_base.specs.declared.operators.CompareOp.{CompareOp}
 use Rattle.ep_base.specs.declared.operators.CompareOp.TheVariants.{Equal, NotEqual, Less, AtMost, Greater, AtLeast}
-use Rattle.ep_tree.specs.Faults.{place_of}
 use Rattle.ep_tree.specs.Phrases.{Lexeme, Phrase, Saying, a_name, a_number, a_word}
 use Rattle.ep_tree.specs.Spelling.{Level, Spells, SpellsDomain, SpellsTerms, compare_word, domains, has_terms, implications, products, sign_word, sums, unaries}
-use Rattle.ep_tree.specs.Trees.{DomainTree, ExprTree, chain, minus, named, no_terms, number}
+use Rattle.ep_tree.specs.Trees.{DomainTree, ExprTree, chain, minus, named, no_terms, number, place_of}
 use Rattle.ep_parse_model.specs.EarlyForms.{AreOperands, IsBound, IsEarlyClause, IsEarlyDomain, IsOperand, IsSide}
 use Rattle.ep_parse_model.specs.Reading.{Read, GoesOn, as_terms, at_sign, begins_term, bound_after, bound_from, clause_from, comparison_from, domain_from, lexeme_at, list_from, number_expr_from, number_from, operand_after, operand_from, side_from, sign_from, term_from, word_from}
 use Rattle.ep_parse_model.proofs.EarlyCases.{chain_is_side, compare_is_clause, minus_is_bound, name_is_operand, number_is_bound, number_is_operand, operand_is_side, range_is_domain}

@@ -5,8 +5,8 @@ use Rattle.std.specs.List.{AllByRecursion, list_all}
 use Rattle.ep_base.specs.declared.names.Name.{Name}
 use Rattle.ep_base.specs.declared.operators.CompareOp.{CompareOp}
 use Rattle.ep_base.specs.declared.places.Place.{Place}
-use Rattle.ep_tree.specs.Faults.{Fault, clause_faults, faults, faults_of_terms, name_faults, place_of, type_fault, unless}
-use Rattle.ep_tree.specs.Trees.{ExprTree, Terms, chain, compare, named, no_terms, number, term_and}
+use Rattle.ep_tree.specs.Faults.{Fault, clause_faults, faults, faults_of_terms, name_faults, type_fault, unless}
+use Rattle.ep_tree.specs.Trees.{ExprTree, Terms, chain, compare, named, no_terms, number, place_of, term_and}
 use Rattle.ep_tree.specs.Types.{Context, Meaning, a_value, all_typed, from_all, from_many, from_one, from_two, gives, is_boolean, is_integer, judge, judge_terms, named_type, typed}
 use Rattle.ep_tree.specs.declared.values.ValueType.{ValueType}
 use Rattle.ep_parse_model.specs.EarlyForms.{AreOperands, IsEarlyClause, IsOperand, IsSide}

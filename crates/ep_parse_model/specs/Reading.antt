@@ -8,10 +8,9 @@ use Rattle.ep_base.specs.declared.places.Place.{Place}
 use Rattle.ep_base.specs.declared.operators.CompareOp.{CompareOp}
 use Rattle.ep_base.specs.declared.operators.CompareOp.TheVariants.{Equal, NotEqual, Less, AtMost, Greater, AtLeast}
 use Rattle.ep_tree.specs.declared.syntax.Expr.{Expr}
-use Rattle.ep_tree.specs.Faults.{place_of}
 use Rattle.ep_tree.specs.Phrases.{Lexeme, Saying, a_name, a_number, a_word}
 use Rattle.ep_tree.specs.Statements.{Group, StatementTree, TextTree, constraints, decided}
-use Rattle.ep_tree.specs.Trees.{DomainTree, ExprTree, Terms, chain, compare, end_at, minus, named, no_ranges, no_terms, number, ranges, span_and, term_and}
+use Rattle.ep_tree.specs.Trees.{DomainTree, ExprTree, Terms, chain, compare, end_at, minus, named, no_ranges, no_terms, number, place_of, ranges, span_and, term_and}
 use Rattle.ep_tree.specs.Views.{expr_tree}
 use Rattle.ep_parse_model.specs.declared.errors.EarlyError.{EarlyError}
 use Rattle.ep_parse_model.specs.declared.errors.EarlyError.TheVariants.{NotEarly, Memory}

@@ -8,7 +8,7 @@ use Rattle.ep_tree.specs.declared.values.Mode.{Mode}
 use Rattle.ep_tree.specs.Trees.{DomainTree, bool, int, ranges, named_domain, group_domain, set_domain, matrix_domain, Ranges, no_ranges, one_and, span_and, no_end, end_at}
 use Rattle.ep_tree.specs.Domains.{between, put_in, set_has, set_values, united}
 use Rattle.ep_tree.specs.Environments.{Bound, Env, domain_bound, has_cells, has_domain, has_value}
-use Rattle.ep_tree.specs.Evaluation.{domain_values, end_value, evaluate, number_in, on_both, on_three, range_values}
+use Rattle.ep_tree.specs.Evaluation.{domain_values, end_value, evaluate, map_both, number_in, on_both, on_three, range_values}
 use Rattle.ep_tree.specs.Binding.{above_end, below_end, elements_pass, numbers_bound, ranges_pass}
 use Rattle.ep_tree.proofs.DomainLaws.{between-has, put_in-has, set_values-has, united-has}
 
@@ -48,12 +48,12 @@ span_answer x u v (Some g) b h = ap (λ c. Some ((int_le u x && int_le x v) || c
 
 pub ranges_pass-values : (mode : Mode) (env : Env) (x : ℤ) (rs : Ranges) (values : List ℤ) → range_values mode env rs ≡ Some values
     → answer x (ranges_pass mode env rs) ≡ Some (has_number values x)
-unfolding ranges_pass range_values has_number on_both on_three above_end below_end end_value
+unfolding ranges_pass range_values has_number map_both on_both on_three above_end below_end end_value
 ranges_pass-values mode env x no_ranges values e = ap (λ vs. Some (has_number vs x)) (some_is e)
 ranges_pass-values mode env x (one_and first rs) values e =
     go (number_in (evaluate mode env first)) (range_values mode env rs) refl e (ranges_pass-values mode env x rs)
   where
-    go : (n : Option ℤ) (ns : Option (List ℤ)) → range_values mode env rs ≡ ns → on_both n ns (λ m ms. Some (put_in m ms)) ≡ Some values
+    go : (n : Option ℤ) (ns : Option (List ℤ)) → range_values mode env rs ≡ ns → map_both put_in n ns ≡ Some values
         → ((vs : List ℤ) → range_values mode env rs ≡ Some vs → answer x (ranges_pass mode env rs) ≡ Some (has_number vs x))
         → answer x (on_both n (ranges_pass mode env rs) (λ m others. Some (λ y. int_eq y m || others y))) ≡ Some (has_number values x)
     go None ns p e ih = nothing_is_some e
@@ -63,7 +63,7 @@ ranges_pass-values mode env x (one_and first rs) values e =
         ∙ ap Some (sym (put_in-has x n ns)) ∙ ap (λ vs. Some (has_number vs x)) (some_is e)
 ranges_pass-values mode env x (span_and a no_end rs) values e = no_last (end_value mode env a) e
   where
-    no_last : (u : Option ℤ) → on_three {A = ℤ} {B = ℤ} u None (range_values mode env rs) (λ m n ms. Some (united (between m n) ms)) ≡ Some values
+    no_last : (u : Option ℤ) → map_both united (map_both between u None) (range_values mode env rs) ≡ Some values
         → answer x (ranges_pass mode env (span_and a no_end rs)) ≡ Some (has_number values x)
     no_last None e = nothing_is_some e
     no_last (Some u) e = nothing_is_some e
@@ -72,7 +72,7 @@ ranges_pass-values mode env x (span_and (end_at a) (end_at b) rs) values e =
     go (number_in (evaluate mode env a)) (number_in (evaluate mode env b)) (range_values mode env rs) refl e (ranges_pass-values mode env x rs)
   where
     go : (u v : Option ℤ) (ns : Option (List ℤ)) → range_values mode env rs ≡ ns
-        → on_three u v ns (λ m n ms. Some (united (between m n) ms)) ≡ Some values
+        → map_both united (map_both between u v) ns ≡ Some values
         → ((vs : List ℤ) → range_values mode env rs ≡ Some vs → answer x (ranges_pass mode env rs) ≡ Some (has_number vs x))
         → answer x (on_three {A = ℤ → Bool} {B = ℤ → Bool} (option_map (λ n y. int_le n y) u) (option_map (λ n y. int_le y n) v) (ranges_pass mode env rs)
         (λ above below others. Some (λ y. (above y && below y) || others y))) ≡ Some (has_number values x)
@@ -96,7 +96,7 @@ named_passes x (Some (has_domain s (i ∷ is) vs)) values e = nothing_is_some e
 
 pub elements_pass-values : (mode : Mode) (env : Env) (x : ℤ) (d : DomainTree) (values : List ℤ) → domain_values mode env d ≡ Some values
     → answer x (elements_pass mode env d) ≡ Some (has_number values x)
-unfolding elements_pass domain_values on_both
+unfolding elements_pass domain_values map_both on_both
 elements_pass-values mode env x (bool p) values e = ap (λ vs. Some (has_number vs x)) (some_is e)
 elements_pass-values mode env x (int p) values e = nothing_is_some e
 elements_pass-values mode env x (ranges p rs) values e = ranges_pass-values mode env x rs values e
@@ -106,7 +106,7 @@ elements_pass-values mode env x (set_domain p op c d) values e =
     go (domain_values mode env c) (domain_values mode env d) refl refl e (elements_pass-values mode env x c) (elements_pass-values mode env x d)
   where
     go : (xs ys : Option (List ℤ)) → domain_values mode env c ≡ xs → domain_values mode env d ≡ ys
-        → on_both xs ys (λ us vs. Some (set_values op us vs)) ≡ Some values
+        → map_both (set_values op) xs ys ≡ Some values
         → ((vs : List ℤ) → domain_values mode env c ≡ Some vs → answer x (elements_pass mode env c) ≡ Some (has_number vs x))
         → ((vs : List ℤ) → domain_values mode env d ≡ Some vs → answer x (elements_pass mode env d) ≡ Some (has_number vs x))
         → answer x (on_both (elements_pass mode env c) (elements_pass mode env d) (λ f g. Some (λ y. set_has op (f y) (g y)))) ≡ Some (has_number values x)

@@ -1,16 +1,16 @@
 -- One equation for each case of evaluation.
-use Rattle.std.specs.Prelude.{◌≡◌, ℕ, Bool, not, List, [], ◌∷◌, ℤ, pos, neg_ℤ, Some, None, Option, option_map, option_and_then, refl}
-use Rattle.ep_base.specs.Numbers.{absolute_of, all_one, any_one, are_different, compare_holds, counts_hold, factorial_of, has_number, is_row_of, lex_holds, of_bool, sum_of}
+use Rattle.std.specs.Prelude.{◌≡◌, ℕ, Bool, true, not, ◌&&◌, List, [], ◌∷◌, map, ℤ, pos, neg_ℤ, if◌then◌else◌, Some, None, option_map, option_and_then, refl}
+use Rattle.ep_base.specs.Numbers.{absolute_of, are_different, compare_holds, counts_hold, factorial_of, has_number, is_row_of, lex_holds, of_bool, sum_of}
 use Rattle.ep_base.specs.Runs.{counting}
 use Rattle.ep_base.specs.declared.names.Name.{Name}
 use Rattle.ep_base.specs.declared.operators.CompareOp.{CompareOp}
 use Rattle.ep_base.specs.declared.operators.LexOp.{LexOp}
 use Rattle.ep_base.specs.declared.places.Place.{Place}
 use Rattle.ep_tree.specs.Domains.{between, put_in, set_values, truth_values, united}
-use Rattle.ep_tree.specs.Environments.{Env, domain_bound, scalar_in, value_bound}
-use Rattle.ep_tree.specs.Evaluation.{binary_value, domain_values, end_value, evaluate, folded_value, generated, index_list, index_values, joined, matrix_value, number_in, number_value, numbers_in, on_both, on_three, over_names, part_under, quantified_value, range_values, read_result, rows_in, scalars_in, signed, term_values, truth_in, truth_of, type_in, values_of}
+use Rattle.ep_tree.specs.Environments.{Env, domain_bound, value_bound}
+use Rattle.ep_tree.specs.Evaluation.{all_hold, all_joined, all_true, any_true, are_told, binary_value, domain_values, domains_defined, end_value, evaluate, folded_value, holding, index_list, index_values, map_both, matrix_value, number_in, number_value, on_both, on_three, over_names, quantified_value, range_values, reached, read_result, rows_in, scalars_in, signed, standing_for, term_values, truth_in, truth_of, type_in, values_of}
 use Rattle.ep_tree.specs.Trees.{DomainTree, Domains, End, ExprTree, ExprTrees, Generators, IndexDomain, Indices, Ranges, Terms, absolute, all_different, all_of, any_of, at_least, at_most, binary, bool, chain, compare, comprehension, end_at, every_and, factorial, flatten, folded, gcc, generator_and, group, group_domain, in_domain, in_set, index_and, int, lex, literal, matrix_domain, minus, named, named_domain, negation, no_end, no_generators, no_indices, no_ranges, no_terms, no_trees, number, one_and, over, quantified, ranges, read, set_domain, span_and, table, term_and, to_int, tree_and, truth, unstated}
-use Rattle.ep_tree.specs.Values.{ValueTree, all_defined, any_index, at_index, list_value, read_value, single}
+use Rattle.ep_tree.specs.Values.{all_defined, any_index, at_index, list_value, read_value, single}
 use Rattle.ep_tree.specs.declared.syntax.BinaryOp.{BinaryOp}
 use Rattle.ep_tree.specs.declared.syntax.FoldOp.{FoldOp}
 use Rattle.ep_tree.specs.declared.syntax.QuantOp.{QuantOp}
@@ -65,31 +65,31 @@ pub evaluate-binary : (mode : Mode) (env : Env) (place : Place) (op : BinaryOp) 
 unfolding evaluate
 evaluate-binary _ _ _ _ _ _ = refl
 
-pub evaluate-compare : (mode : Mode) (env : Env) (place : Place) (op : CompareOp) (a : ExprTree) (b : ExprTree) → evaluate mode env (compare place op a b) ≡ truth_in mode (on_both (number_in (evaluate mode env a)) (number_in (evaluate mode env b)) (λ x y. Some (compare_holds op x y)))
+pub evaluate-compare : (mode : Mode) (env : Env) (place : Place) (op : CompareOp) (a : ExprTree) (b : ExprTree) → evaluate mode env (compare place op a b) ≡ truth_in mode (map_both (compare_holds op) (number_in (evaluate mode env a)) (number_in (evaluate mode env b)))
 unfolding evaluate
 evaluate-compare _ _ _ _ _ _ = refl
 
-pub evaluate-lex : (mode : Mode) (env : Env) (place : Place) (op : LexOp) (a : ExprTree) (b : ExprTree) → evaluate mode env (lex place op a b) ≡ truth_in mode (on_both (scalars_in (evaluate mode env a)) (scalars_in (evaluate mode env b)) (λ xs ys. Some (lex_holds op xs ys)))
+pub evaluate-lex : (mode : Mode) (env : Env) (place : Place) (op : LexOp) (a : ExprTree) (b : ExprTree) → evaluate mode env (lex place op a b) ≡ truth_in mode (map_both (lex_holds op) (scalars_in (evaluate mode env a)) (scalars_in (evaluate mode env b)))
 unfolding evaluate
 evaluate-lex _ _ _ _ _ _ = refl
 
-pub evaluate-in_domain : (mode : Mode) (env : Env) (place : Place) (e : ExprTree) (d : DomainTree) → evaluate mode env (in_domain place e d) ≡ truth_in mode (on_both (number_in (evaluate mode env e)) (domain_values mode env d) (λ x values. Some (has_number values x)))
+pub evaluate-in_domain : (mode : Mode) (env : Env) (place : Place) (e : ExprTree) (d : DomainTree) → evaluate mode env (in_domain place e d) ≡ truth_in mode (map_both has_number (domain_values mode env d) (number_in (evaluate mode env e)))
 unfolding evaluate
 evaluate-in_domain _ _ _ _ _ = refl
 
-pub evaluate-in_set : (mode : Mode) (env : Env) (place : Place) (e : ExprTree) (m : ExprTree) → evaluate mode env (in_set place e m) ≡ truth_in mode (on_both (number_in (evaluate mode env e)) (scalars_in (evaluate mode env m)) (λ x parts. Some (has_number parts x)))
+pub evaluate-in_set : (mode : Mode) (env : Env) (place : Place) (e : ExprTree) (m : ExprTree) → evaluate mode env (in_set place e m) ≡ truth_in mode (map_both has_number (scalars_in (evaluate mode env m)) (number_in (evaluate mode env e)))
 unfolding evaluate
 evaluate-in_set _ _ _ _ _ = refl
 
-pub evaluate-all_of : (mode : Mode) (env : Env) (place : Place) (parts : ExprTrees) → evaluate mode env (all_of place parts) ≡ truth_in mode (option_map all_one (numbers_in (values_of mode env parts)))
+pub evaluate-all_of : (mode : Mode) (env : Env) (place : Place) (parts : ExprTrees) → evaluate mode env (all_of place parts) ≡ truth_in mode (all_true (values_of mode env parts))
 unfolding evaluate
 evaluate-all_of _ _ _ _ = refl
 
-pub evaluate-any_of : (mode : Mode) (env : Env) (place : Place) (parts : ExprTrees) → evaluate mode env (any_of place parts) ≡ truth_in mode (option_map any_one (numbers_in (values_of mode env parts)))
+pub evaluate-any_of : (mode : Mode) (env : Env) (place : Place) (parts : ExprTrees) → evaluate mode env (any_of place parts) ≡ truth_in mode (any_true (values_of mode env parts))
 unfolding evaluate
 evaluate-any_of _ _ _ _ = refl
 
-pub evaluate-quantified : (mode : Mode) (env : Env) (place : Place) (op : QuantOp) (names : List Name) (d : DomainTree) (e : ExprTree) → evaluate mode env (quantified place op names d e) ≡ over_names names (λ inner. domain_values mode inner d) (λ inner. scalar_in inner d) (quantified_value mode op) (λ inner. evaluate mode inner e) env
+pub evaluate-quantified : (mode : Mode) (env : Env) (place : Place) (op : QuantOp) (names : List Name) (d : DomainTree) (e : ExprTree) → evaluate mode env (quantified place op names d e) ≡ over_names (standing_for d (λ inner. domain_values mode inner d)) (quantified_value mode op) (λ inner. evaluate mode inner e) names env
 unfolding evaluate
 evaluate-quantified _ _ _ _ _ _ _ = refl
 
@@ -97,7 +97,7 @@ pub evaluate-literal : (mode : Mode) (env : Env) (place : Place) (parts : ExprTr
 unfolding evaluate
 evaluate-literal _ _ _ _ _ = refl
 
-pub evaluate-comprehension : (mode : Mode) (env : Env) (place : Place) (e : ExprTree) (gens : Generators) (conditions : ExprTrees) (d : IndexDomain) → evaluate mode env (comprehension place e gens conditions d) ≡ option_and_then (matrix_value (index_values mode env d)) (generated mode env gens (λ inner. part_under (values_of mode inner conditions) (evaluate mode inner e)))
+pub evaluate-comprehension : (mode : Mode) (env : Env) (place : Place) (e : ExprTree) (gens : Generators) (conditions : ExprTrees) (d : IndexDomain) → evaluate mode env (comprehension place e gens conditions d) ≡ if domains_defined mode env gens && are_told (λ inner. values_of mode inner conditions) (reached mode env gens) then matrix_value (index_values mode env d) (map (λ inner. evaluate mode inner e) (holding (λ inner. values_of mode inner conditions) (reached mode env gens))) else None
 unfolding evaluate
 evaluate-comprehension _ _ _ _ _ _ _ = refl
 
@@ -113,19 +113,19 @@ pub evaluate-all_different : (mode : Mode) (env : Env) (place : Place) (m : Expr
 unfolding evaluate
 evaluate-all_different _ _ _ _ = refl
 
-pub evaluate-gcc : (mode : Mode) (env : Env) (place : Place) (m : ExprTree) (values : ExprTree) (counts : ExprTree) → evaluate mode env (gcc place m values counts) ≡ truth_in mode (on_three (scalars_in (evaluate mode env m)) (scalars_in (evaluate mode env values)) (scalars_in (evaluate mode env counts)) (λ xs vs cs. Some (counts_hold CompareOp.Equal xs vs cs)))
+pub evaluate-gcc : (mode : Mode) (env : Env) (place : Place) (m : ExprTree) (values : ExprTree) (counts : ExprTree) → evaluate mode env (gcc place m values counts) ≡ truth_in mode (on_three (scalars_in (evaluate mode env m)) (scalars_in (evaluate mode env values)) (scalars_in (evaluate mode env counts)) (counts_hold CompareOp.Equal))
 unfolding evaluate
 evaluate-gcc _ _ _ _ _ _ = refl
 
-pub evaluate-at_least : (mode : Mode) (env : Env) (place : Place) (m : ExprTree) (counts : ExprTree) (values : ExprTree) → evaluate mode env (at_least place m counts values) ≡ truth_in mode (on_three (scalars_in (evaluate mode env m)) (scalars_in (evaluate mode env counts)) (scalars_in (evaluate mode env values)) (λ xs cs vs. Some (counts_hold CompareOp.AtLeast xs vs cs)))
+pub evaluate-at_least : (mode : Mode) (env : Env) (place : Place) (m : ExprTree) (counts : ExprTree) (values : ExprTree) → evaluate mode env (at_least place m counts values) ≡ truth_in mode (on_three (scalars_in (evaluate mode env m)) (scalars_in (evaluate mode env values)) (scalars_in (evaluate mode env counts)) (counts_hold CompareOp.AtLeast))
 unfolding evaluate
 evaluate-at_least _ _ _ _ _ _ = refl
 
-pub evaluate-at_most : (mode : Mode) (env : Env) (place : Place) (m : ExprTree) (counts : ExprTree) (values : ExprTree) → evaluate mode env (at_most place m counts values) ≡ truth_in mode (on_three (scalars_in (evaluate mode env m)) (scalars_in (evaluate mode env counts)) (scalars_in (evaluate mode env values)) (λ xs cs vs. Some (counts_hold CompareOp.AtMost xs vs cs)))
+pub evaluate-at_most : (mode : Mode) (env : Env) (place : Place) (m : ExprTree) (counts : ExprTree) (values : ExprTree) → evaluate mode env (at_most place m counts values) ≡ truth_in mode (on_three (scalars_in (evaluate mode env m)) (scalars_in (evaluate mode env values)) (scalars_in (evaluate mode env counts)) (counts_hold CompareOp.AtMost))
 unfolding evaluate
 evaluate-at_most _ _ _ _ _ _ = refl
 
-pub evaluate-table : (mode : Mode) (env : Env) (place : Place) (row : ExprTree) (rows : ExprTree) → evaluate mode env (table place row rows) ≡ truth_in mode (on_both (scalars_in (evaluate mode env row)) (rows_in (evaluate mode env rows)) (λ xs rs. Some (is_row_of rs xs)))
+pub evaluate-table : (mode : Mode) (env : Env) (place : Place) (row : ExprTree) (rows : ExprTree) → evaluate mode env (table place row rows) ≡ truth_in mode (on_both (rows_in (evaluate mode env rows)) (scalars_in (evaluate mode env row)) is_row_of)
 unfolding evaluate
 evaluate-table _ _ _ _ _ = refl
 
@@ -149,7 +149,7 @@ pub domain_values-group_domain : (mode : Mode) (env : Env) (place : Place) (d : 
 unfolding domain_values
 domain_values-group_domain _ _ _ _ = refl
 
-pub domain_values-set_domain : (mode : Mode) (env : Env) (place : Place) (op : SetOp) (c : DomainTree) (d : DomainTree) → domain_values mode env (set_domain place op c d) ≡ on_both (domain_values mode env c) (domain_values mode env d) (λ xs ys. Some (set_values op xs ys))
+pub domain_values-set_domain : (mode : Mode) (env : Env) (place : Place) (op : SetOp) (c : DomainTree) (d : DomainTree) → domain_values mode env (set_domain place op c d) ≡ map_both (set_values op) (domain_values mode env c) (domain_values mode env d)
 unfolding domain_values
 domain_values-set_domain _ _ _ _ _ _ = refl
 
@@ -181,7 +181,7 @@ pub index_list-every_and : (mode : Mode) (env : Env) (indices : Indices) → ind
 unfolding index_list
 index_list-every_and _ _ _ = refl
 
-pub index_list-index_and : (mode : Mode) (env : Env) (e : ExprTree) (indices : Indices) → index_list mode env (index_and e indices) ≡ on_both (number_in (evaluate mode env e)) (index_list mode env indices) (λ i is. Some (at_index i ∷ is))
+pub index_list-index_and : (mode : Mode) (env : Env) (e : ExprTree) (indices : Indices) → index_list mode env (index_and e indices) ≡ map_both (λ i is. at_index i ∷ is) (number_in (evaluate mode env e)) (index_list mode env indices)
 unfolding index_list
 index_list-index_and _ _ _ _ = refl
 
@@ -189,11 +189,11 @@ pub range_values-no_ranges : (mode : Mode) (env : Env) → range_values mode env
 unfolding range_values
 range_values-no_ranges _ _ = refl
 
-pub range_values-one_and : (mode : Mode) (env : Env) (e : ExprTree) (rs : Ranges) → range_values mode env (one_and e rs) ≡ on_both (number_in (evaluate mode env e)) (range_values mode env rs) (λ n ns. Some (put_in n ns))
+pub range_values-one_and : (mode : Mode) (env : Env) (e : ExprTree) (rs : Ranges) → range_values mode env (one_and e rs) ≡ map_both put_in (number_in (evaluate mode env e)) (range_values mode env rs)
 unfolding range_values
 range_values-one_and _ _ _ _ = refl
 
-pub range_values-span_and : (mode : Mode) (env : Env) (a : End) (b : End) (rs : Ranges) → range_values mode env (span_and a b rs) ≡ on_three (end_value mode env a) (end_value mode env b) (range_values mode env rs) (λ x y ns. Some (united (between x y) ns))
+pub range_values-span_and : (mode : Mode) (env : Env) (a : End) (b : End) (rs : Ranges) → range_values mode env (span_and a b rs) ≡ map_both united (map_both between (end_value mode env a) (end_value mode env b)) (range_values mode env rs)
 unfolding range_values
 range_values-span_and _ _ _ _ _ = refl
 
@@ -213,10 +213,18 @@ pub index_values-over : (mode : Mode) (env : Env) (d : DomainTree) (count : ℕ)
 unfolding index_values
 index_values-over _ _ _ _ = refl
 
-pub generated-no_generators : (mode : Mode) (env : Env) (inner : (Env → Option (List (Option ValueTree)))) → generated mode env no_generators inner ≡ inner env
-unfolding generated
-generated-no_generators _ _ _ = refl
+pub reached-no_generators : (mode : Mode) (env : Env) → reached mode env no_generators ≡ env ∷ []
+unfolding reached
+reached-no_generators _ _ = refl
 
-pub generated-generator_and : (mode : Mode) (env : Env) (names : List Name) (d : DomainTree) (gens : Generators) (inner : (Env → Option (List (Option ValueTree)))) → generated mode env (generator_and names d gens) inner ≡ over_names names (λ e. domain_values mode e d) (λ e. scalar_in e d) joined (λ e. generated mode e gens inner) env
-unfolding generated
-generated-generator_and _ _ _ _ _ _ = refl
+pub reached-generator_and : (mode : Mode) (env : Env) (names : List Name) (d : DomainTree) (gens : Generators) → reached mode env (generator_and names d gens) ≡ over_names (standing_for d (λ inner. domain_values mode inner d)) all_joined (λ inner. reached mode inner gens) names env
+unfolding reached
+reached-generator_and _ _ _ _ _ = refl
+
+pub domains_defined-no_generators : (mode : Mode) (env : Env) → domains_defined mode env no_generators ≡ true
+unfolding domains_defined
+domains_defined-no_generators _ _ = refl
+
+pub domains_defined-generator_and : (mode : Mode) (env : Env) (names : List Name) (d : DomainTree) (gens : Generators) → domains_defined mode env (generator_and names d gens) ≡ over_names (standing_for d (λ inner. domain_values mode inner d)) all_hold (λ inner. domains_defined mode inner gens) names env
+unfolding domains_defined
+domains_defined-generator_and _ _ _ _ _ = refl

@@ -1,12 +1,12 @@
 -- One equation for each case of the faults of expressions and domains.
-use Rattle.std.specs.Prelude.{◌≡◌, Bool, false, not, ◌&&◌, ◌||◌, List, [], ◌++◌, ℤ, refl}
+use Rattle.std.specs.Prelude.{◌≡◌, Bool, false, not, ◌&&◌, ◌||◌, List, [], ◌++◌, ℤ, flat_map, refl}
 use Rattle.ep_base.specs.declared.names.Name.{Name}
 use Rattle.ep_base.specs.declared.operators.CompareOp.{CompareOp}
 use Rattle.ep_base.specs.declared.operators.LexOp.{LexOp}
 use Rattle.ep_base.specs.declared.places.Place.{Place}
-use Rattle.ep_tree.specs.Faults.{Fault, domain_faults, domain_name_faults, end_faults, faults, faults_of_all, faults_of_domains, faults_of_generators, faults_of_indices, faults_of_ranges, faults_of_terms, has_open_range, index_faults, is_judged_matrix, is_power, name_faults, open_domain, reading_faults, type_fault, unless}
+use Rattle.ep_tree.specs.Faults.{domain_faults, domain_name_faults, end_faults, entry_count, faults, faults_of_all, faults_of_domains, faults_of_generators, faults_of_indices, faults_of_ranges, faults_of_terms, has_open_range, index_faults, is_power, leaves_matrix, name_faults, open_domain, type_fault, unless}
 use Rattle.ep_tree.specs.Trees.{DomainTree, Domains, End, ExprTree, ExprTrees, Generators, IndexDomain, Indices, Ranges, Terms, absolute, all_different, all_of, any_of, at_least, at_most, binary, bool, chain, compare, comprehension, domain_and, end_at, every_and, factorial, flatten, folded, gcc, generator_and, group, group_domain, in_domain, in_set, index_and, int, lex, literal, matrix_domain, minus, named, named_domain, negation, no_domains, no_end, no_generators, no_indices, no_ranges, no_terms, no_trees, number, one_and, over, quantified, ranges, read, set_domain, span_and, table, term_and, to_int, tree_and, truth, unstated}
-use Rattle.ep_tree.specs.Types.{Context, inside, judge, judge_domain}
+use Rattle.ep_tree.specs.Types.{Context, inside, inside_all, judge, judge_domain, reading_contexts, slice_count}
 use Rattle.ep_tree.specs.declared.syntax.BinaryOp.{BinaryOp}
 use Rattle.ep_tree.specs.declared.syntax.FoldOp.{FoldOp}
 use Rattle.ep_tree.specs.declared.syntax.QuantOp.{QuantOp}
@@ -84,7 +84,7 @@ pub faults-any_of : (context : Context) (decisions : Bool) (p : Place) (parts : 
 unfolding faults
 faults-any_of _ _ _ _ = refl
 
-pub faults-quantified : (context : Context) (decisions : Bool) (p : Place) (op : QuantOp) (names : List Name) (d : DomainTree) (e : ExprTree) → faults context decisions (quantified p op names d e) ≡ type_fault p (judge context (quantified p op names d e)) ++ reading_faults names (λ c. judge_domain c d) (λ c. domain_faults c false d) context ++ faults (inside names (λ c. judge_domain c d) context) decisions e
+pub faults-quantified : (context : Context) (decisions : Bool) (p : Place) (op : QuantOp) (names : List Name) (d : DomainTree) (e : ExprTree) → faults context decisions (quantified p op names d e) ≡ type_fault p (judge context (quantified p op names d e)) ++ flat_map (λ c. domain_faults c false d) (reading_contexts names (λ c. judge_domain c d) context) ++ faults (inside names (λ c. judge_domain c d) context) decisions e
 unfolding faults
 faults-quantified _ _ _ _ _ _ _ = refl
 
@@ -92,11 +92,11 @@ pub faults-literal : (context : Context) (decisions : Bool) (p : Place) (parts :
 unfolding faults
 faults-literal _ _ _ _ _ = refl
 
-pub faults-comprehension : (context : Context) (decisions : Bool) (p : Place) (e : ExprTree) (gens : Generators) (conditions : ExprTrees) (d : IndexDomain) → faults context decisions (comprehension p e gens conditions d) ≡ type_fault p (judge context (comprehension p e gens conditions d)) ++ faults_of_generators context gens (λ inner. faults inner decisions e ++ faults_of_all inner false conditions) ++ index_faults context d
+pub faults-comprehension : (context : Context) (decisions : Bool) (p : Place) (e : ExprTree) (gens : Generators) (conditions : ExprTrees) (d : IndexDomain) → faults context decisions (comprehension p e gens conditions d) ≡ type_fault p (judge context (comprehension p e gens conditions d)) ++ index_faults context d ++ faults_of_generators context gens ++ faults_of_all (inside_all gens context) false conditions ++ faults (inside_all gens context) decisions e
 unfolding faults
 faults-comprehension _ _ _ _ _ _ _ = refl
 
-pub faults-read : (context : Context) (decisions : Bool) (p : Place) (m : ExprTree) (indices : Indices) → faults context decisions (read p m indices) ≡ type_fault p (judge context (read p m indices)) ++ faults context decisions m ++ faults_of_indices context (decisions && not (is_judged_matrix (judge context (read p m indices)))) indices
+pub faults-read : (context : Context) (decisions : Bool) (p : Place) (m : ExprTree) (indices : Indices) → faults context decisions (read p m indices) ≡ type_fault p (judge context (read p m indices)) ++ faults context decisions m ++ faults_of_indices context (decisions && not (leaves_matrix (judge context m) (entry_count indices) (slice_count indices))) indices
 unfolding faults
 faults-read _ _ _ _ _ = refl
 
@@ -216,10 +216,10 @@ pub index_faults-over : (context : Context) (d : DomainTree) → index_faults co
 unfolding index_faults
 index_faults-over _ _ = refl
 
-pub faults_of_generators-no_generators : (context : Context) (inner : (Context → List Fault)) → faults_of_generators context no_generators inner ≡ inner context
+pub faults_of_generators-no_generators : (context : Context) → faults_of_generators context no_generators ≡ []
 unfolding faults_of_generators
-faults_of_generators-no_generators _ _ = refl
+faults_of_generators-no_generators _ = refl
 
-pub faults_of_generators-generator_and : (context : Context) (names : List Name) (d : DomainTree) (gens : Generators) (inner : (Context → List Fault)) → faults_of_generators context (generator_and names d gens) inner ≡ reading_faults names (λ c. judge_domain c d) (λ c. domain_faults c false d) context ++ faults_of_generators (inside names (λ c. judge_domain c d) context) gens inner
+pub faults_of_generators-generator_and : (context : Context) (names : List Name) (d : DomainTree) (gens : Generators) → faults_of_generators context (generator_and names d gens) ≡ flat_map (λ c. domain_faults c false d) (reading_contexts names (λ c. judge_domain c d) context) ++ faults_of_generators (inside names (λ c. judge_domain c d) context) gens
 unfolding faults_of_generators
-faults_of_generators-generator_and _ _ _ _ _ = refl
+faults_of_generators-generator_and _ _ _ _ = refl

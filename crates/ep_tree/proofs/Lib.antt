@@ -3,12 +3,16 @@ pub mod ViewLemmas
 mod VectorsValues
 mod VectorsMatrices
 mod VectorsDomains
-mod VectorsTypes
+pub mod VectorsTypes
 mod VectorsFaults
 mod VectorsHeights
 mod VectorsMeasures
 mod VectorsBinding
 mod VectorsSolutions
+mod VectorsTypeTables
+mod VectorsFaultTables
+mod VectorsBindingTables
+pub mod Cuts
 mod VectorsSpelling
 pub mod Openings
 mod VectorsReading
@@ -26,3 +30,6 @@ pub mod TypedEvaluation
 pub mod FirstFault
 pub mod ReachEquations
 pub mod TypedFitting
+mod VectorsForms
+mod VectorsModes
+mod VectorsMoreMeasures

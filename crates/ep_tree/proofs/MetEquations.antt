@@ -1,13 +1,12 @@
 -- One equation for each case of the nodes that an expression meets.
-use Rattle.std.specs.Prelude.{◌≡◌, Bool, false, List, [], ◌∷◌, ◌++◌, ℤ, if◌then◌else◌, unwrap_or, option_map, refl}
-use Rattle.ep_base.specs.Numbers.{all_one}
+use Rattle.std.specs.Prelude.{Bool, ◌≡◌, List, [], ◌∷◌, ◌++◌, ℤ, flat_map, refl}
 use Rattle.ep_base.specs.declared.names.Name.{Name}
 use Rattle.ep_base.specs.declared.operators.CompareOp.{CompareOp}
 use Rattle.ep_base.specs.declared.operators.LexOp.{LexOp}
 use Rattle.ep_base.specs.declared.places.Place.{Place}
-use Rattle.ep_tree.specs.Environments.{Env, scalar_in}
-use Rattle.ep_tree.specs.Evaluation.{domain_values, numbers_in, values_of}
-use Rattle.ep_tree.specs.Measures.{Met, a_generator, a_node, met, met_all, met_domain, met_domains, met_end, met_generators, met_index, met_indices, met_names, met_ranges, met_terms}
+use Rattle.ep_tree.specs.Environments.{Env}
+use Rattle.ep_tree.specs.Evaluation.{chosen, numbered, reached}
+use Rattle.ep_tree.specs.Measures.{a_generator, a_node, met, met_all, met_domain, met_domains, met_end, met_generators, met_index, met_indices, met_names, met_ranges, met_terms}
 use Rattle.ep_tree.specs.Trees.{DomainTree, Domains, End, ExprTree, ExprTrees, Generators, IndexDomain, Indices, Ranges, Terms, absolute, all_different, all_of, any_of, at_least, at_most, binary, bool, chain, compare, comprehension, domain_and, end_at, every_and, factorial, flatten, folded, gcc, generator_and, group, group_domain, in_domain, in_set, index_and, int, lex, literal, matrix_domain, minus, named, named_domain, negation, no_domains, no_end, no_generators, no_indices, no_ranges, no_terms, no_trees, number, one_and, over, quantified, ranges, read, set_domain, span_and, table, term_and, to_int, tree_and, truth, unstated}
 use Rattle.ep_tree.specs.declared.syntax.BinaryOp.{BinaryOp}
 use Rattle.ep_tree.specs.declared.syntax.FoldOp.{FoldOp}
@@ -87,7 +86,7 @@ pub met-any_of : (mode : Mode) (env : Env) (p : Place) (parts : ExprTrees) → m
 unfolding met
 met-any_of _ _ _ _ = refl
 
-pub met-quantified : (mode : Mode) (env : Env) (p : Place) (op : QuantOp) (names : List Name) (d : DomainTree) (e : ExprTree) → met mode env (quantified p op names d e) ≡ met_names names (λ left inner. a_node inner (quantified p op left d e)) (λ inner. met_domain mode inner d) (λ inner. domain_values mode inner d) (λ inner. scalar_in inner d) (λ inner. met mode inner e) env
+pub met-quantified : (mode : Mode) (env : Env) (p : Place) (op : QuantOp) (names : List Name) (d : DomainTree) (e : ExprTree) → met mode env (quantified p op names d e) ≡ met_names (λ left inner. a_node inner (quantified p op left d e) ∷ met_domain mode inner d) (numbered mode d) (λ inner. met mode inner e) names env
 unfolding met
 met-quantified _ _ _ _ _ _ _ = refl
 
@@ -95,7 +94,7 @@ pub met-literal : (mode : Mode) (env : Env) (p : Place) (parts : ExprTrees) (d :
 unfolding met
 met-literal _ _ _ _ _ = refl
 
-pub met-comprehension : (mode : Mode) (env : Env) (p : Place) (e : ExprTree) (gens : Generators) (conditions : ExprTrees) (d : IndexDomain) → met mode env (comprehension p e gens conditions d) ≡ a_node env (comprehension p e gens conditions d) ∷ met_generators mode env gens (λ inner. met_all mode inner conditions ++ (if unwrap_or (option_map all_one (numbers_in (values_of mode inner conditions))) false then met mode inner e else [])) ++ met_index mode env d
+pub met-comprehension : (mode : Mode) (env : Env) (p : Place) (e : ExprTree) (gens : Generators) (conditions : ExprTrees) (d : IndexDomain) → met mode env (comprehension p e gens conditions d) ≡ a_node env (comprehension p e gens conditions d) ∷ met_generators mode env gens ++ flat_map (λ inner. met_all mode inner conditions) (reached mode env gens) ++ flat_map (λ inner. met mode inner e) (chosen mode env gens conditions) ++ met_index mode env d
 unfolding met
 met-comprehension _ _ _ _ _ _ _ = refl
 
@@ -139,7 +138,7 @@ pub met_domain-ranges : (mode : Mode) (env : Env) (place : Place) (rs : Ranges) 
 unfolding met_domain
 met_domain-ranges _ _ _ _ = refl
 
-pub met_domain-named_domain : (mode : Mode) (env : Env) (place : Place) (op : Name) → met_domain mode env (named_domain place op) ≡ []
+pub met_domain-named_domain : (mode : Mode) (env : Env) (place : Place) (name : Name) → met_domain mode env (named_domain place name) ≡ []
 unfolding met_domain
 met_domain-named_domain _ _ _ _ = refl
 
@@ -167,7 +166,7 @@ pub met_terms-no_terms : (mode : Mode) (env : Env) → met_terms mode env no_ter
 unfolding met_terms
 met_terms-no_terms _ _ = refl
 
-pub met_terms-term_and : (mode : Mode) (env : Env) (place : Bool) (e : ExprTree) (terms : Terms) → met_terms mode env (term_and place e terms) ≡ met mode env e ++ met_terms mode env terms
+pub met_terms-term_and : (mode : Mode) (env : Env) (b : Bool) (e : ExprTree) (terms : Terms) → met_terms mode env (term_and b e terms) ≡ met mode env e ++ met_terms mode env terms
 unfolding met_terms
 met_terms-term_and _ _ _ _ _ = refl
 
@@ -219,10 +218,10 @@ pub met_index-over : (mode : Mode) (env : Env) (d : DomainTree) → met_index mo
 unfolding met_index
 met_index-over _ _ _ = refl
 
-pub met_generators-no_generators : (mode : Mode) (env : Env) (inner : (Env → List Met)) → met_generators mode env no_generators inner ≡ inner env
+pub met_generators-no_generators : (mode : Mode) (env : Env) → met_generators mode env no_generators ≡ []
 unfolding met_generators
-met_generators-no_generators _ _ _ = refl
+met_generators-no_generators _ _ = refl
 
-pub met_generators-generator_and : (mode : Mode) (env : Env) (names : List Name) (d : DomainTree) (gens : Generators) (inner : (Env → List Met)) → met_generators mode env (generator_and names d gens) inner ≡ met_names names (λ left e. a_generator) (λ e. met_domain mode e d) (λ e. domain_values mode e d) (λ e. scalar_in e d) (λ e. met_generators mode e gens inner) env
+pub met_generators-generator_and : (mode : Mode) (env : Env) (names : List Name) (d : DomainTree) (gens : Generators) → met_generators mode env (generator_and names d gens) ≡ met_names (λ left inner. a_generator ∷ met_domain mode inner d) (numbered mode d) (λ inner. met_generators mode inner gens) names env
 unfolding met_generators
-met_generators-generator_and _ _ _ _ _ _ = refl
+met_generators-generator_and _ _ _ _ _ = refl

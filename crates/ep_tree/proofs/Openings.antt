@@ -8,8 +8,8 @@ use Rattle.ep_base.specs.declared.operators.LexOp.{LexOp}
 use Rattle.ep_tree.proofs.Opened.{the_language}
 use Rattle.ep_tree.specs.Heights.{height}
 use Rattle.ep_tree.specs.Phrases.{Is, Lexeme, Phrase, Saying, When, a_name, a_number, a_word, ◌followed_by◌}
-use Rattle.ep_tree.specs.Spelling.{DomainLevel, Level, Spells, SpellsDomain, compare_word, fold_word, implications, lex_word, powers, products, quantifier_word, reads, sign_word, sums, unaries, comparisons, conjunctions, disjunctions}
-use Rattle.ep_tree.specs.Trees.{DomainTree, ExprTree, absolute, all_different, all_of, any_of, at_least, at_most, binary, bool, chain, compare, comprehension, every_and, factorial, flatten, folded, gcc, group, group_domain, in_domain, in_set, index_and, int, lex, literal, matrix_domain, minus, named, named_domain, negation, no_indices, no_terms, no_trees, number, quantified, ranges, read, set_domain, table, term_and, to_int, tree_and, truth}
+use Rattle.ep_tree.specs.Spelling.{DomainLevel, Level, Spells, SpellsDomain, compare_word, fold_word, implications, lex_word, powers, products, quantifier_word, reads, sign_word, set_operations, sums, unaries, comparisons, conjunctions, disjunctions}
+use Rattle.ep_tree.specs.Trees.{DomainTree, ExprTree, absolute, all_different, all_of, any_of, at_least, at_most, binary, chain, compare, comprehension, every_and, factorial, flatten, folded, gcc, group, in_domain, in_set, index_and, lex, literal, minus, named, negation, no_indices, no_terms, no_trees, number, quantified, read, table, term_and, to_int, tree_and, truth}
 use Rattle.ep_tree.specs.declared.syntax.BinaryOp.{BinaryOp}
 use Rattle.ep_tree.specs.declared.syntax.FoldOp.{FoldOp}
 use Rattle.ep_tree.specs.declared.syntax.QuantOp.{QuantOp}
@@ -118,13 +118,7 @@ opening-filled high tokens o = cases o.1
 
 domain-filled : (asked : DomainLevel) (d : DomainTree) (tokens : List Lexeme) → SpellsDomain asked d tokens → is_filled tokens ≡ true
 unfolding the_language
-domain-filled asked (bool p) [] h = absurd h.1
-domain-filled asked (int p) [] h = absurd h.1
-domain-filled asked (ranges p rs) [] h = absurd h.1
-domain-filled asked (named_domain p name) [] h = absurd h.1
-domain-filled asked (group_domain p d) [] h = absurd h.1
-domain-filled asked (set_domain p op c d) [] h = absurd h.1
-domain-filled asked (matrix_domain p ds d) [] h = absurd h.1
+domain-filled asked d [] h = absurd h.1.0
 domain-filled asked d (t ∷ ts) h = refl
 
 -- ---- how it begins
@@ -197,156 +191,112 @@ lone false e = false≢true e
 -- word follows.
 pub opening : (asked : Level) (e : ExprTree) (tokens : List Lexeme) → Spells asked e tokens → Opening (height e) tokens
 unfolding the_language
-opening asked (number p n) [] h = absurd h.1
-opening asked (number p n) (t ∷ ts) h =
+opening asked (number p n) tokens h =
     let g = h.1.1 in (omega arith, inl (record { place = g.0; saying = a_number n }, g.1, refl))
-opening asked (truth p true) [] h = absurd h.1
-opening asked (truth p true) (t ∷ ts) h =
+opening asked (truth p true) tokens h =
     let g = h.1.1 in
     (omega arith, inr (inl (record { place = g.0; saying = a_word (codes "true") }, [], g.1, refl, refl)))
-opening asked (truth p false) [] h = absurd h.1
-opening asked (truth p false) (t ∷ ts) h =
+opening asked (truth p false) tokens h =
     let g = h.1.1 in
     (omega arith, inr (inl (record { place = g.0; saying = a_word (codes "false") }, [], g.1, refl, refl)))
-opening asked (named p name) [] h = absurd h.1
-opening asked (named p name) (t ∷ ts) h =
+opening asked (named p name) tokens h =
     let g = h.1.1 in (omega arith, inl (record { place = g.0; saying = a_name name }, g.1, refl))
-opening asked (group p e) [] h = absurd h.1
-opening asked (group p e) (t ∷ ts) h =
-    by-word (codes "(") _ _ (t ∷ ts) h.1.1 refl refl (up _)
-opening asked (negation p e) [] h = absurd h.1
-opening asked (negation p e) (t ∷ ts) h =
+opening asked (group p e) tokens h =
+    by-word (codes "(") _ _ tokens h.1.1 refl refl (up _)
+opening asked (negation p e) tokens h =
     let g = h.1.1 in
     (up _, inr (inr (inl (record { place = g.3.0; saying = a_word (codes "!") }, g.1, e, g.2 ∙ ap (λ x. x ++ g.1) g.3.1, refl, g.4, refl))))
-opening asked (minus p e) [] h = absurd h.1
-opening asked (minus p e) (t ∷ ts) h =
-    by-word (codes "-") _ _ (t ∷ ts) h.1.1 refl refl (up _)
-opening asked (absolute p e) [] h = absurd h.1
-opening asked (absolute p e) (t ∷ ts) h =
-    by-word (codes "|") _ _ (t ∷ ts) h.1.1 refl refl (up _)
-opening asked (to_int p e) [] h = absurd h.1
-opening asked (to_int p e) (t ∷ ts) h =
-    by-word (codes "toInt") _ _ (t ∷ ts) h.1.1 refl refl (up _)
-opening asked (factorial p e) [] h = absurd h.1
-opening asked (factorial p e) (t ∷ ts) h =
-    by-word (codes "factorial") _ _ (t ∷ ts) h.1.1 refl refl (up _)
-opening asked (flatten p m) [] h = absurd h.1
-opening asked (flatten p m) (t ∷ ts) h =
-    by-word (codes "flatten") _ _ (t ∷ ts) h.1.1 refl refl (up _)
-opening asked (chain p no_terms) [] h = absurd h.1
-opening asked (chain p no_terms) (t ∷ ts) h =
+opening asked (minus p e) tokens h =
+    by-word (codes "-") _ _ tokens h.1.1 refl refl (up _)
+opening asked (absolute p e) tokens h =
+    by-word (codes "|") _ _ tokens h.1.1 refl refl (up _)
+opening asked (to_int p e) tokens h =
+    by-word (codes "toInt") _ _ tokens h.1.1 refl refl (up _)
+opening asked (factorial p e) tokens h =
+    by-word (codes "factorial") _ _ tokens h.1.1 refl refl (up _)
+opening asked (flatten p m) tokens h =
+    by-word (codes "flatten") _ _ tokens h.1.1 refl refl (up _)
+opening asked (chain p no_terms) tokens h =
     absurd h.1.1
-opening asked (chain p (term_and plus a no_terms)) [] h = absurd h.1
-opening asked (chain p (term_and plus a no_terms)) (t ∷ ts) h =
+opening asked (chain p (term_and plus a no_terms)) tokens h =
     absurd (lone plus h.1.1.0)
-opening asked (chain p (term_and plus a (term_and sign b terms))) [] h = absurd h.1
-opening asked (chain p (term_and plus a (term_and sign b terms))) (t ∷ ts) h =
-    by-part products a _ (codes (sign_word sign)) _ _ (t ∷ ts) h.1.1.1 (sign-word sign).0 (sign-word sign).1
+opening asked (chain p (term_and plus a (term_and sign b terms))) tokens h =
+    by-part products a _ (codes (sign_word sign)) _ _ tokens h.1.1.1 (sign-word sign).0 (sign-word sign).1
     (λ us g. part-filled _ _ us g (λ vs k. opening-filled _ vs (opening products b vs k.1))) (left _ _)
-opening asked (binary p BinaryOp.Mul a b) [] h = absurd h.1
-opening asked (binary p BinaryOp.Mul a b) (t ∷ ts) h =
-    by-part products a _ (codes "*") _ _ (t ∷ ts) h.1.1 refl refl
+opening asked (binary p BinaryOp.Mul a b) tokens h =
+    by-part products a _ (codes "*") _ _ tokens h.1.1 refl refl
     (λ us g. opening-filled _ us (opening powers b us g)) (left _ _)
-opening asked (binary p BinaryOp.Div a b) [] h = absurd h.1
-opening asked (binary p BinaryOp.Div a b) (t ∷ ts) h =
-    by-part products a _ (codes "/") _ _ (t ∷ ts) h.1.1 refl refl
+opening asked (binary p BinaryOp.Div a b) tokens h =
+    by-part products a _ (codes "/") _ _ tokens h.1.1 refl refl
     (λ us g. opening-filled _ us (opening powers b us g)) (left _ _)
-opening asked (binary p BinaryOp.Mod a b) [] h = absurd h.1
-opening asked (binary p BinaryOp.Mod a b) (t ∷ ts) h =
-    by-part products a _ (codes "%") _ _ (t ∷ ts) h.1.1 refl refl
+opening asked (binary p BinaryOp.Mod a b) tokens h =
+    by-part products a _ (codes "%") _ _ tokens h.1.1 refl refl
     (λ us g. opening-filled _ us (opening powers b us g)) (left _ _)
-opening asked (binary p BinaryOp.Pow a b) [] h = absurd h.1
-opening asked (binary p BinaryOp.Pow a b) (t ∷ ts) h =
-    by-part powers a _ (codes "**") _ _ (t ∷ ts) h.1.1 refl refl
+opening asked (binary p BinaryOp.Pow a b) tokens h =
+    by-part powers a _ (codes "**") _ _ tokens h.1.1 refl refl
     (λ us g. opening-filled _ us (opening unaries b us g)) (left _ _)
-opening asked (binary p BinaryOp.Min a b) [] h = absurd h.1
-opening asked (binary p BinaryOp.Min a b) (t ∷ ts) h =
-    by-word (codes "min") _ _ (t ∷ ts) h.1.1 refl refl (up _)
-opening asked (binary p BinaryOp.Max a b) [] h = absurd h.1
-opening asked (binary p BinaryOp.Max a b) (t ∷ ts) h =
-    by-word (codes "max") _ _ (t ∷ ts) h.1.1 refl refl (up _)
-opening asked (binary p BinaryOp.Implies a b) [] h = absurd h.1
-opening asked (binary p BinaryOp.Implies a b) (t ∷ ts) h =
-    by-part implications a _ (codes "->") _ _ (t ∷ ts) h.1.1 refl refl
+opening asked (binary p BinaryOp.Min a b) tokens h =
+    by-word (codes "min") _ _ tokens h.1.1 refl refl (up _)
+opening asked (binary p BinaryOp.Max a b) tokens h =
+    by-word (codes "max") _ _ tokens h.1.1 refl refl (up _)
+opening asked (binary p BinaryOp.Implies a b) tokens h =
+    by-part implications a _ (codes "->") _ _ tokens h.1.1 refl refl
     (λ us g. opening-filled _ us (opening disjunctions b us g)) (left _ _)
-opening asked (binary p BinaryOp.Iff a b) [] h = absurd h.1
-opening asked (binary p BinaryOp.Iff a b) (t ∷ ts) h =
-    by-part implications a _ (codes "<->") _ _ (t ∷ ts) h.1.1 refl refl
+opening asked (binary p BinaryOp.Iff a b) tokens h =
+    by-part implications a _ (codes "<->") _ _ tokens h.1.1 refl refl
     (λ us g. opening-filled _ us (opening disjunctions b us g)) (left _ _)
-opening asked (compare p op a b) [] h = absurd h.1
-opening asked (compare p op a b) (t ∷ ts) h =
-    by-part sums a _ (codes (compare_word op)) _ _ (t ∷ ts) h.1.1 (compare-word op).0 (compare-word op).1
+opening asked (compare p op a b) tokens h =
+    by-part sums a _ (codes (compare_word op)) _ _ tokens h.1.1 (compare-word op).0 (compare-word op).1
     (λ us g. opening-filled _ us (opening sums b us g)) (left _ _)
-opening asked (lex p op a b) [] h = absurd h.1
-opening asked (lex p op a b) (t ∷ ts) h =
-    by-part sums a _ (codes (lex_word op)) _ _ (t ∷ ts) h.1.1 (lex-word op).0 (lex-word op).1
+opening asked (lex p op a b) tokens h =
+    by-part sums a _ (codes (lex_word op)) _ _ tokens h.1.1 (lex-word op).0 (lex-word op).1
     (λ us g. opening-filled _ us (opening sums b us g)) (left _ _)
-opening asked (in_domain p a d) [] h = absurd h.1
-opening asked (in_domain p a d) (t ∷ ts) h =
-    by-part sums a _ (codes "in") _ _ (t ∷ ts) h.1.1 refl refl
-    (λ us g. domain-filled _ d us g) (left _ _)
-opening asked (in_set p a m) [] h = absurd h.1
-opening asked (in_set p a m) (t ∷ ts) h =
-    by-part sums a _ (codes "in") _ _ (t ∷ ts) h.1.1 refl refl
+opening asked (in_domain p a d) tokens h =
+    by-part sums a _ (codes "in") _ _ tokens h.1.1 refl refl
+    (λ us g. domain-filled set_operations d us g) (left _ _)
+opening asked (in_set p a m) tokens h =
+    by-part sums a _ (codes "in") _ _ tokens h.1.1 refl refl
     (λ us g. word-filled (codes "toSet") _ us g) (left _ _)
-opening asked (all_of p no_trees) [] h = absurd h.1
-opening asked (all_of p no_trees) (t ∷ ts) h =
+opening asked (all_of p no_trees) tokens h =
     absurd h.1.1
-opening asked (all_of p (tree_and a no_trees)) [] h = absurd h.1
-opening asked (all_of p (tree_and a no_trees)) (t ∷ ts) h =
+opening asked (all_of p (tree_and a no_trees)) tokens h =
     let wrong : false ≡ true = h.1.1.0 in absurd cc
-opening asked (all_of p (tree_and a (tree_and b es))) [] h = absurd h.1
-opening asked (all_of p (tree_and a (tree_and b es))) (t ∷ ts) h =
-    by-part comparisons a _ (codes "/\\") _ _ (t ∷ ts) h.1.1.1 refl refl
+opening asked (all_of p (tree_and a (tree_and b es))) tokens h =
+    by-part comparisons a _ (codes "/\\") _ _ tokens h.1.1.1 refl refl
     (λ us g. part-filled _ _ us g (λ vs k. opening-filled _ vs (opening comparisons b vs k.1))) (left _ _)
-opening asked (any_of p no_trees) [] h = absurd h.1
-opening asked (any_of p no_trees) (t ∷ ts) h =
+opening asked (any_of p no_trees) tokens h =
     absurd h.1.1
-opening asked (any_of p (tree_and a no_trees)) [] h = absurd h.1
-opening asked (any_of p (tree_and a no_trees)) (t ∷ ts) h =
+opening asked (any_of p (tree_and a no_trees)) tokens h =
     let wrong : false ≡ true = h.1.1.0 in absurd cc
-opening asked (any_of p (tree_and a (tree_and b es))) [] h = absurd h.1
-opening asked (any_of p (tree_and a (tree_and b es))) (t ∷ ts) h =
-    by-part conjunctions a _ (codes "\\/") _ _ (t ∷ ts) h.1.1.1 refl refl
+opening asked (any_of p (tree_and a (tree_and b es))) tokens h =
+    by-part conjunctions a _ (codes "\\/") _ _ tokens h.1.1.1 refl refl
     (λ us g. part-filled _ _ us g (λ vs k. opening-filled _ vs (opening conjunctions b vs k.1))) (left _ _)
-opening asked (quantified p op names d e) [] h = absurd h.1
-opening asked (quantified p op names d e) (t ∷ ts) h =
-    by-word (codes (quantifier_word op)) _ _ (t ∷ ts) h.1.1 (quantifier-word op).0 (quantifier-word op).1 (up _)
-opening asked (literal p parts d) [] h = absurd h.1
-opening asked (literal p parts d) (t ∷ ts) h =
-    by-word (codes "[") _ _ (t ∷ ts) h.1.1 refl refl (up _)
-opening asked (comprehension p e gens conditions d) [] h = absurd h.1
-opening asked (comprehension p e gens conditions d) (t ∷ ts) h =
-    by-word (codes "[") _ _ (t ∷ ts) h.1.1 refl refl (up _)
-opening asked (read p a no_indices) [] h = absurd h.1
-opening asked (read p a no_indices) (t ∷ ts) h =
-    absurd h.1.1.4.4
-opening asked (read p a (every_and _)) [] h = absurd h.1
-opening asked (read p a (every_and _)) (t ∷ ts) h =
-    by-part reads a _ (codes "[") _ _ (t ∷ ts) h.1.1 refl refl
-    (λ us g. word-filled (codes "..") _ us g) (left _ _)
-opening asked (read p a (index_and b _)) [] h = absurd h.1
-opening asked (read p a (index_and b _)) (t ∷ ts) h =
-    by-part reads a _ (codes "[") _ _ (t ∷ ts) h.1.1 refl refl
-    (λ us g. part-filled _ _ us g (λ vs k. opening-filled _ vs (opening implications b vs k))) (left _ _)
-opening asked (folded p op m) [] h = absurd h.1
-opening asked (folded p op m) (t ∷ ts) h =
-    by-word (codes (fold_word op)) _ _ (t ∷ ts) h.1.1 (fold-word op).0 (fold-word op).1 (up _)
-opening asked (all_different p m) [] h = absurd h.1
-opening asked (all_different p m) (t ∷ ts) h =
-    by-word (codes "allDiff") _ _ (t ∷ ts) h.1.1 refl refl (up _)
-opening asked (gcc p m values counts) [] h = absurd h.1
-opening asked (gcc p m values counts) (t ∷ ts) h =
-    by-word (codes "gcc") _ _ (t ∷ ts) h.1.1 refl refl (up _)
-opening asked (at_least p m counts values) [] h = absurd h.1
-opening asked (at_least p m counts values) (t ∷ ts) h =
-    by-word (codes "atleast") _ _ (t ∷ ts) h.1.1 refl refl (up _)
-opening asked (at_most p m counts values) [] h = absurd h.1
-opening asked (at_most p m counts values) (t ∷ ts) h =
-    by-word (codes "atmost") _ _ (t ∷ ts) h.1.1 refl refl (up _)
-opening asked (table p row rows) [] h = absurd h.1
-opening asked (table p row rows) (t ∷ ts) h =
-    by-word (codes "table") _ _ (t ∷ ts) h.1.1 refl refl (up _)
+opening asked (quantified p op names d e) tokens h =
+    by-word (codes (quantifier_word op)) _ _ tokens h.1.1 (quantifier-word op).0 (quantifier-word op).1 (up _)
+opening asked (literal p parts d) tokens h =
+    by-word (codes "[") _ _ tokens h.1.1 refl refl (up _)
+opening asked (comprehension p e gens conditions d) tokens h =
+    by-word (codes "[") _ _ tokens h.1.1 refl refl (up _)
+opening asked (read p a no_indices) tokens h =
+    absurd h.1.1.4.4.3
+opening asked (read p a (every_and _)) tokens h =
+    by-part reads a _ (codes "[") _ _ tokens h.1.1 refl refl
+    (λ us g. part-filled _ _ us g (λ vs k. word-filled (codes "..") _ vs k)) (left _ _)
+opening asked (read p a (index_and b _)) tokens h =
+    by-part reads a _ (codes "[") _ _ tokens h.1.1 refl refl
+    (λ us g. part-filled _ _ us g (λ vs k. part-filled _ _ vs k (λ ws i. opening-filled _ ws (opening implications b ws i)))) (left _ _)
+opening asked (folded p op m) tokens h =
+    by-word (codes (fold_word op)) _ _ tokens h.1.1 (fold-word op).0 (fold-word op).1 (up _)
+opening asked (all_different p m) tokens h =
+    by-word (codes "allDiff") _ _ tokens h.1.1 refl refl (up _)
+opening asked (gcc p m values counts) tokens h =
+    by-word (codes "gcc") _ _ tokens h.1.1 refl refl (up _)
+opening asked (at_least p m counts values) tokens h =
+    by-word (codes "atleast") _ _ tokens h.1.1 refl refl (up _)
+opening asked (at_most p m counts values) tokens h =
+    by-word (codes "atmost") _ _ tokens h.1.1 refl refl (up _)
+opening asked (table p row rows) tokens h =
+    by-word (codes "table") _ _ tokens h.1.1 refl refl (up _)
 
 -- ---- what stands behind the first token
 

@@ -1,172 +1,166 @@
 -- One equation for each case of reaches and of where decision variables stand.
-use Rattle.std.specs.Prelude.{◌≡◌, Bool, false, ◌||◌, List, [], ◌∷◌, ℤ, if◌then◌else◌, Some, None, unwrap_or, option_map, refl}
-use Rattle.ep_base.specs.Numbers.{all_one, of_bool}
+use Rattle.std.specs.Prelude.{◌≡◌, Bool, false, ◌||◌, List, [], ◌∷◌, map, ℤ, Some, None, refl}
+use Rattle.ep_base.specs.Intervals.{absolute_interval}
+use Rattle.ep_base.specs.Numbers.{of_bool}
 use Rattle.ep_base.specs.declared.names.Name.{Name}
 use Rattle.ep_base.specs.declared.operators.CompareOp.{CompareOp}
 use Rattle.ep_base.specs.declared.operators.LexOp.{LexOp}
 use Rattle.ep_base.specs.declared.places.Place.{Place}
-use Rattle.ep_tree.specs.Environments.{Env, scalar_in}
-use Rattle.ep_tree.specs.Evaluation.{domain_values, evaluate, index_values, number_in, numbers_in, over_names, type_in, values_of}
-use Rattle.ep_tree.specs.Reach.{Extent, absolute_reach, are_cells, binary_reach, extent, extents_of, fixed_span, folded_reach, generated_extents, grid_over, group_extent, hiding, hiding_all, holds_decision, index_holds_decision, is_decision, joined_all, list_extent, measured, measured_index, measured_list, named_extent, negated_reach, one_holds_decision, one_span, quantified_extent, read_extent, signed_reach, span_of, spans_of, sum_reach, term_holds_decision, term_spans, truth_span, whole_index}
-use Rattle.ep_tree.specs.Trees.{DomainTree, ExprTree, ExprTrees, Generators, IndexDomain, Indices, Terms, absolute, all_different, all_of, any_of, at_least, at_most, binary, chain, compare, comprehension, every_and, factorial, flatten, folded, gcc, generator_and, group, in_domain, in_set, index_and, lex, literal, minus, named, negation, no_generators, no_indices, no_terms, no_trees, number, quantified, read, table, term_and, to_int, tree_and, truth}
+use Rattle.ep_tree.specs.Environments.{Env}
+use Rattle.ep_tree.specs.Evaluation.{chosen, evaluate, index_values, number_in, numbered, over_names, type_in}
+use Rattle.ep_tree.specs.Reach.{MeasuredIndex, binary_span, decisions_in, extent, extents_of, fixed_span, folded_span, generator_names, group_extent, hiding, holds_decision, index_holds_decision, matrix_extent, measured, measured_index, measured_list, named_extent, negated_span, one_holds_decision, quantified_span, read_extent, reads_cell, signed_span, span_of, sum_span, term_holds_decision, term_spans, truth_span, whole_index, wide_span}
+use Rattle.ep_tree.specs.Trees.{DomainTree, ExprTree, ExprTrees, Generators, IndexDomain, Indices, Terms, absolute, all_different, all_of, any_of, at_least, at_most, binary, chain, compare, comprehension, every_and, factorial, flatten, folded, gcc, group, in_domain, in_set, index_and, lex, literal, minus, named, negation, no_indices, no_terms, no_trees, number, quantified, read, table, term_and, to_int, tree_and, truth}
+use Rattle.ep_tree.specs.Values.{list_value, scalars_of, single}
 use Rattle.ep_tree.specs.declared.syntax.BinaryOp.{BinaryOp}
 use Rattle.ep_tree.specs.declared.syntax.FoldOp.{FoldOp}
 use Rattle.ep_tree.specs.declared.syntax.QuantOp.{QuantOp}
 use Rattle.ep_tree.specs.declared.values.Mode.{Mode}
 
-pub holds_decision-number : (env : Env) (place : Place) (op : ℤ) → holds_decision env (number place op) ≡ false
+pub holds_decision-number : (decided : (Name → Bool)) (place : Place) (n : ℤ) → holds_decision decided (number place n) ≡ false
 unfolding holds_decision
 holds_decision-number _ _ _ = refl
 
-pub holds_decision-truth : (env : Env) (place : Place) (op : Bool) → holds_decision env (truth place op) ≡ false
+pub holds_decision-truth : (decided : (Name → Bool)) (place : Place) (b : Bool) → holds_decision decided (truth place b) ≡ false
 unfolding holds_decision
 holds_decision-truth _ _ _ = refl
 
-pub holds_decision-named : (env : Env) (place : Place) (name : Name) → holds_decision env (named place name) ≡ is_decision (env name)
+pub holds_decision-named : (decided : (Name → Bool)) (place : Place) (name : Name) → holds_decision decided (named place name) ≡ decided name
 unfolding holds_decision
 holds_decision-named _ _ _ = refl
 
-pub holds_decision-group : (env : Env) (place : Place) (e : ExprTree) → holds_decision env (group place e) ≡ holds_decision env e
+pub holds_decision-group : (decided : (Name → Bool)) (place : Place) (e : ExprTree) → holds_decision decided (group place e) ≡ holds_decision decided e
 unfolding holds_decision
 holds_decision-group _ _ _ = refl
 
-pub holds_decision-negation : (env : Env) (place : Place) (e : ExprTree) → holds_decision env (negation place e) ≡ holds_decision env e
+pub holds_decision-negation : (decided : (Name → Bool)) (place : Place) (e : ExprTree) → holds_decision decided (negation place e) ≡ holds_decision decided e
 unfolding holds_decision
 holds_decision-negation _ _ _ = refl
 
-pub holds_decision-minus : (env : Env) (place : Place) (e : ExprTree) → holds_decision env (minus place e) ≡ holds_decision env e
+pub holds_decision-minus : (decided : (Name → Bool)) (place : Place) (e : ExprTree) → holds_decision decided (minus place e) ≡ holds_decision decided e
 unfolding holds_decision
 holds_decision-minus _ _ _ = refl
 
-pub holds_decision-absolute : (env : Env) (place : Place) (e : ExprTree) → holds_decision env (absolute place e) ≡ holds_decision env e
+pub holds_decision-absolute : (decided : (Name → Bool)) (place : Place) (e : ExprTree) → holds_decision decided (absolute place e) ≡ holds_decision decided e
 unfolding holds_decision
 holds_decision-absolute _ _ _ = refl
 
-pub holds_decision-to_int : (env : Env) (place : Place) (e : ExprTree) → holds_decision env (to_int place e) ≡ holds_decision env e
+pub holds_decision-to_int : (decided : (Name → Bool)) (place : Place) (e : ExprTree) → holds_decision decided (to_int place e) ≡ holds_decision decided e
 unfolding holds_decision
 holds_decision-to_int _ _ _ = refl
 
-pub holds_decision-factorial : (env : Env) (place : Place) (e : ExprTree) → holds_decision env (factorial place e) ≡ holds_decision env e
+pub holds_decision-factorial : (decided : (Name → Bool)) (place : Place) (e : ExprTree) → holds_decision decided (factorial place e) ≡ holds_decision decided e
 unfolding holds_decision
 holds_decision-factorial _ _ _ = refl
 
-pub holds_decision-flatten : (env : Env) (place : Place) (m : ExprTree) → holds_decision env (flatten place m) ≡ holds_decision env m
+pub holds_decision-flatten : (decided : (Name → Bool)) (place : Place) (m : ExprTree) → holds_decision decided (flatten place m) ≡ holds_decision decided m
 unfolding holds_decision
 holds_decision-flatten _ _ _ = refl
 
-pub holds_decision-chain : (env : Env) (place : Place) (terms : Terms) → holds_decision env (chain place terms) ≡ term_holds_decision env terms
+pub holds_decision-chain : (decided : (Name → Bool)) (place : Place) (terms : Terms) → holds_decision decided (chain place terms) ≡ term_holds_decision decided terms
 unfolding holds_decision
 holds_decision-chain _ _ _ = refl
 
-pub holds_decision-binary : (env : Env) (place : Place) (op : BinaryOp) (a : ExprTree) (b : ExprTree) → holds_decision env (binary place op a b) ≡ holds_decision env a || holds_decision env b
+pub holds_decision-binary : (decided : (Name → Bool)) (place : Place) (op : BinaryOp) (a : ExprTree) (b : ExprTree) → holds_decision decided (binary place op a b) ≡ holds_decision decided a || holds_decision decided b
 unfolding holds_decision
 holds_decision-binary _ _ _ _ _ = refl
 
-pub holds_decision-compare : (env : Env) (place : Place) (op : CompareOp) (a : ExprTree) (b : ExprTree) → holds_decision env (compare place op a b) ≡ holds_decision env a || holds_decision env b
+pub holds_decision-compare : (decided : (Name → Bool)) (place : Place) (op : CompareOp) (a : ExprTree) (b : ExprTree) → holds_decision decided (compare place op a b) ≡ holds_decision decided a || holds_decision decided b
 unfolding holds_decision
 holds_decision-compare _ _ _ _ _ = refl
 
-pub holds_decision-lex : (env : Env) (place : Place) (op : LexOp) (a : ExprTree) (b : ExprTree) → holds_decision env (lex place op a b) ≡ holds_decision env a || holds_decision env b
+pub holds_decision-lex : (decided : (Name → Bool)) (place : Place) (op : LexOp) (a : ExprTree) (b : ExprTree) → holds_decision decided (lex place op a b) ≡ holds_decision decided a || holds_decision decided b
 unfolding holds_decision
 holds_decision-lex _ _ _ _ _ = refl
 
-pub holds_decision-in_domain : (env : Env) (place : Place) (e : ExprTree) (d : DomainTree) → holds_decision env (in_domain place e d) ≡ holds_decision env e
+pub holds_decision-in_domain : (decided : (Name → Bool)) (place : Place) (e : ExprTree) (d : DomainTree) → holds_decision decided (in_domain place e d) ≡ holds_decision decided e
 unfolding holds_decision
 holds_decision-in_domain _ _ _ _ = refl
 
-pub holds_decision-in_set : (env : Env) (place : Place) (e : ExprTree) (m : ExprTree) → holds_decision env (in_set place e m) ≡ holds_decision env e || holds_decision env m
+pub holds_decision-in_set : (decided : (Name → Bool)) (place : Place) (e : ExprTree) (m : ExprTree) → holds_decision decided (in_set place e m) ≡ holds_decision decided e || holds_decision decided m
 unfolding holds_decision
 holds_decision-in_set _ _ _ _ = refl
 
-pub holds_decision-all_of : (env : Env) (place : Place) (parts : ExprTrees) → holds_decision env (all_of place parts) ≡ one_holds_decision env parts
+pub holds_decision-all_of : (decided : (Name → Bool)) (place : Place) (parts : ExprTrees) → holds_decision decided (all_of place parts) ≡ one_holds_decision decided parts
 unfolding holds_decision
 holds_decision-all_of _ _ _ = refl
 
-pub holds_decision-any_of : (env : Env) (place : Place) (parts : ExprTrees) → holds_decision env (any_of place parts) ≡ one_holds_decision env parts
+pub holds_decision-any_of : (decided : (Name → Bool)) (place : Place) (parts : ExprTrees) → holds_decision decided (any_of place parts) ≡ one_holds_decision decided parts
 unfolding holds_decision
 holds_decision-any_of _ _ _ = refl
 
-pub holds_decision-quantified : (env : Env) (place : Place) (op : QuantOp) (names : List Name) (v : DomainTree) (e : ExprTree) → holds_decision env (quantified place op names v e) ≡ holds_decision (hiding names env) e
+pub holds_decision-quantified : (decided : (Name → Bool)) (place : Place) (op : QuantOp) (names : List Name) (d : DomainTree) (e : ExprTree) → holds_decision decided (quantified place op names d e) ≡ holds_decision (hiding names decided) e
 unfolding holds_decision
 holds_decision-quantified _ _ _ _ _ _ = refl
 
-pub holds_decision-literal : (env : Env) (place : Place) (parts : ExprTrees) (u : IndexDomain) → holds_decision env (literal place parts u) ≡ one_holds_decision env parts
+pub holds_decision-literal : (decided : (Name → Bool)) (place : Place) (parts : ExprTrees) (index : IndexDomain) → holds_decision decided (literal place parts index) ≡ one_holds_decision decided parts
 unfolding holds_decision
 holds_decision-literal _ _ _ _ = refl
 
-pub holds_decision-comprehension : (env : Env) (place : Place) (e : ExprTree) (gens : Generators) (v : ExprTrees) (w : IndexDomain) → holds_decision env (comprehension place e gens v w) ≡ holds_decision (hiding_all gens env) e
+pub holds_decision-comprehension : (decided : (Name → Bool)) (place : Place) (e : ExprTree) (gens : Generators) (es : ExprTrees) (index : IndexDomain) → holds_decision decided (comprehension place e gens es index) ≡ holds_decision (hiding (generator_names gens) decided) e
 unfolding holds_decision
 holds_decision-comprehension _ _ _ _ _ _ = refl
 
-pub holds_decision-read : (env : Env) (place : Place) (m : ExprTree) (indices : Indices) → holds_decision env (read place m indices) ≡ holds_decision env m || index_holds_decision env indices
+pub holds_decision-read : (decided : (Name → Bool)) (place : Place) (m : ExprTree) (indices : Indices) → holds_decision decided (read place m indices) ≡ holds_decision decided m || index_holds_decision decided indices
 unfolding holds_decision
 holds_decision-read _ _ _ _ = refl
 
-pub holds_decision-folded : (env : Env) (place : Place) (op : FoldOp) (m : ExprTree) → holds_decision env (folded place op m) ≡ holds_decision env m
+pub holds_decision-folded : (decided : (Name → Bool)) (place : Place) (op : FoldOp) (m : ExprTree) → holds_decision decided (folded place op m) ≡ holds_decision decided m
 unfolding holds_decision
 holds_decision-folded _ _ _ _ = refl
 
-pub holds_decision-all_different : (env : Env) (place : Place) (m : ExprTree) → holds_decision env (all_different place m) ≡ holds_decision env m
+pub holds_decision-all_different : (decided : (Name → Bool)) (place : Place) (m : ExprTree) → holds_decision decided (all_different place m) ≡ holds_decision decided m
 unfolding holds_decision
 holds_decision-all_different _ _ _ = refl
 
-pub holds_decision-gcc : (env : Env) (place : Place) (m : ExprTree) (values : ExprTree) (counts : ExprTree) → holds_decision env (gcc place m values counts) ≡ holds_decision env m || holds_decision env values || holds_decision env counts
+pub holds_decision-gcc : (decided : (Name → Bool)) (place : Place) (m : ExprTree) (values : ExprTree) (counts : ExprTree) → holds_decision decided (gcc place m values counts) ≡ holds_decision decided m || holds_decision decided values || holds_decision decided counts
 unfolding holds_decision
 holds_decision-gcc _ _ _ _ _ = refl
 
-pub holds_decision-at_least : (env : Env) (place : Place) (m : ExprTree) (counts : ExprTree) (values : ExprTree) → holds_decision env (at_least place m counts values) ≡ holds_decision env m || holds_decision env counts || holds_decision env values
+pub holds_decision-at_least : (decided : (Name → Bool)) (place : Place) (m : ExprTree) (counts : ExprTree) (values : ExprTree) → holds_decision decided (at_least place m counts values) ≡ holds_decision decided m || holds_decision decided counts || holds_decision decided values
 unfolding holds_decision
 holds_decision-at_least _ _ _ _ _ = refl
 
-pub holds_decision-at_most : (env : Env) (place : Place) (m : ExprTree) (counts : ExprTree) (values : ExprTree) → holds_decision env (at_most place m counts values) ≡ holds_decision env m || holds_decision env counts || holds_decision env values
+pub holds_decision-at_most : (decided : (Name → Bool)) (place : Place) (m : ExprTree) (counts : ExprTree) (values : ExprTree) → holds_decision decided (at_most place m counts values) ≡ holds_decision decided m || holds_decision decided counts || holds_decision decided values
 unfolding holds_decision
 holds_decision-at_most _ _ _ _ _ = refl
 
-pub holds_decision-table : (env : Env) (place : Place) (row : ExprTree) (rows : ExprTree) → holds_decision env (table place row rows) ≡ holds_decision env row || holds_decision env rows
+pub holds_decision-table : (decided : (Name → Bool)) (place : Place) (row : ExprTree) (rows : ExprTree) → holds_decision decided (table place row rows) ≡ holds_decision decided row || holds_decision decided rows
 unfolding holds_decision
 holds_decision-table _ _ _ _ = refl
 
-pub one_holds_decision-no_trees : (env : Env) → one_holds_decision env no_trees ≡ false
+pub one_holds_decision-no_trees : (decided : (Name → Bool)) → one_holds_decision decided no_trees ≡ false
 unfolding one_holds_decision
 one_holds_decision-no_trees _ = refl
 
-pub one_holds_decision-tree_and : (env : Env) (e : ExprTree) (es : ExprTrees) → one_holds_decision env (tree_and e es) ≡ holds_decision env e || one_holds_decision env es
+pub one_holds_decision-tree_and : (decided : (Name → Bool)) (e : ExprTree) (es : ExprTrees) → one_holds_decision decided (tree_and e es) ≡ holds_decision decided e || one_holds_decision decided es
 unfolding one_holds_decision
 one_holds_decision-tree_and _ _ _ = refl
 
-pub term_holds_decision-no_terms : (env : Env) → term_holds_decision env no_terms ≡ false
+pub term_holds_decision-no_terms : (decided : (Name → Bool)) → term_holds_decision decided no_terms ≡ false
 unfolding term_holds_decision
 term_holds_decision-no_terms _ = refl
 
-pub term_holds_decision-term_and : (env : Env) (place : Bool) (e : ExprTree) (terms : Terms) → term_holds_decision env (term_and place e terms) ≡ holds_decision env e || term_holds_decision env terms
+pub term_holds_decision-term_and : (decided : (Name → Bool)) (b : Bool) (e : ExprTree) (terms : Terms) → term_holds_decision decided (term_and b e terms) ≡ holds_decision decided e || term_holds_decision decided terms
 unfolding term_holds_decision
 term_holds_decision-term_and _ _ _ _ = refl
 
-pub index_holds_decision-no_indices : (env : Env) → index_holds_decision env no_indices ≡ false
+pub index_holds_decision-no_indices : (decided : (Name → Bool)) → index_holds_decision decided no_indices ≡ false
 unfolding index_holds_decision
 index_holds_decision-no_indices _ = refl
 
-pub index_holds_decision-every_and : (env : Env) (indices : Indices) → index_holds_decision env (every_and indices) ≡ index_holds_decision env indices
+pub index_holds_decision-every_and : (decided : (Name → Bool)) (indices : Indices) → index_holds_decision decided (every_and indices) ≡ index_holds_decision decided indices
 unfolding index_holds_decision
 index_holds_decision-every_and _ _ = refl
 
-pub index_holds_decision-index_and : (env : Env) (e : ExprTree) (indices : Indices) → index_holds_decision env (index_and e indices) ≡ holds_decision env e || index_holds_decision env indices
+pub index_holds_decision-index_and : (decided : (Name → Bool)) (e : ExprTree) (indices : Indices) → index_holds_decision decided (index_and e indices) ≡ holds_decision decided e || index_holds_decision decided indices
 unfolding index_holds_decision
 index_holds_decision-index_and _ _ _ = refl
 
-pub hiding_all-no_generators : (env : Env) → hiding_all no_generators env ≡ env
-unfolding hiding_all
-hiding_all-no_generators _ = refl
-
-pub hiding_all-generator_and : (names : List Name) (op : DomainTree) (gens : Generators) (env : Env) → hiding_all (generator_and names op gens) env ≡ hiding_all gens (hiding names env)
-unfolding hiding_all
-hiding_all-generator_and _ _ _ _ = refl
-
-pub extent-number : (mode : Mode) (env : Env) (p : Place) (n : ℤ) → extent mode env (number p n) ≡ one_span (fixed_span (Some n))
+pub extent-number : (mode : Mode) (env : Env) (p : Place) (n : ℤ) → extent mode env (number p n) ≡ single (fixed_span (Some n))
 unfolding extent
 extent-number _ _ _ _ = refl
 
-pub extent-truth : (mode : Mode) (env : Env) (p : Place) (b : Bool) → extent mode env (truth p b) ≡ one_span (fixed_span (Some (of_bool b)))
+pub extent-truth : (mode : Mode) (env : Env) (p : Place) (b : Bool) → extent mode env (truth p b) ≡ single (fixed_span (Some (of_bool b)))
 unfolding extent
 extent-truth _ _ _ _ = refl
 
@@ -178,99 +172,99 @@ pub extent-group : (mode : Mode) (env : Env) (p : Place) (e : ExprTree) → exte
 unfolding extent
 extent-group _ _ _ _ = refl
 
-pub extent-negation : (mode : Mode) (env : Env) (p : Place) (e : ExprTree) → extent mode env (negation p e) ≡ measured mode env (negation p e) (one_span truth_span)
+pub extent-negation : (mode : Mode) (env : Env) (p : Place) (e : ExprTree) → extent mode env (negation p e) ≡ measured mode env (negation p e) (single truth_span)
 unfolding extent
 extent-negation _ _ _ _ = refl
 
-pub extent-minus : (mode : Mode) (env : Env) (p : Place) (e : ExprTree) → extent mode env (minus p e) ≡ measured mode env (minus p e) (one_span (negated_reach (span_of (extent mode env e))))
+pub extent-minus : (mode : Mode) (env : Env) (p : Place) (e : ExprTree) → extent mode env (minus p e) ≡ measured mode env (minus p e) (single (negated_span (span_of (extent mode env e))))
 unfolding extent
 extent-minus _ _ _ _ = refl
 
-pub extent-absolute : (mode : Mode) (env : Env) (p : Place) (e : ExprTree) → extent mode env (absolute p e) ≡ measured mode env (absolute p e) (one_span (absolute_reach (span_of (extent mode env e))))
+pub extent-absolute : (mode : Mode) (env : Env) (p : Place) (e : ExprTree) → extent mode env (absolute p e) ≡ measured mode env (absolute p e) (single (wide_span (absolute_interval (span_of (extent mode env e)).reach)))
 unfolding extent
 extent-absolute _ _ _ _ = refl
 
-pub extent-to_int : (mode : Mode) (env : Env) (p : Place) (e : ExprTree) → extent mode env (to_int p e) ≡ measured mode env (to_int p e) (one_span truth_span)
+pub extent-to_int : (mode : Mode) (env : Env) (p : Place) (e : ExprTree) → extent mode env (to_int p e) ≡ measured mode env (to_int p e) (single truth_span)
 unfolding extent
 extent-to_int _ _ _ _ = refl
 
-pub extent-factorial : (mode : Mode) (env : Env) (p : Place) (e : ExprTree) → extent mode env (factorial p e) ≡ measured mode env (factorial p e) (one_span (fixed_span None))
+pub extent-factorial : (mode : Mode) (env : Env) (p : Place) (e : ExprTree) → extent mode env (factorial p e) ≡ measured mode env (factorial p e) (single (fixed_span None))
 unfolding extent
 extent-factorial _ _ _ _ = refl
 
-pub extent-flatten : (mode : Mode) (env : Env) (p : Place) (m : ExprTree) → extent mode env (flatten p m) ≡ measured mode env (flatten p m) (list_extent (spans_of (extent mode env m)))
+pub extent-flatten : (mode : Mode) (env : Env) (p : Place) (m : ExprTree) → extent mode env (flatten p m) ≡ measured mode env (flatten p m) (list_value (scalars_of (extent mode env m)))
 unfolding extent
 extent-flatten _ _ _ _ = refl
 
-pub extent-chain : (mode : Mode) (env : Env) (p : Place) (terms : Terms) → extent mode env (chain p terms) ≡ measured mode env (chain p terms) (one_span (sum_reach (term_spans mode env terms)))
+pub extent-chain : (mode : Mode) (env : Env) (p : Place) (terms : Terms) → extent mode env (chain p terms) ≡ measured mode env (chain p terms) (single (sum_span (term_spans mode env terms)))
 unfolding extent
 extent-chain _ _ _ _ = refl
 
-pub extent-binary : (mode : Mode) (env : Env) (p : Place) (op : BinaryOp) (a : ExprTree) (b : ExprTree) → extent mode env (binary p op a b) ≡ measured mode env (binary p op a b) (one_span (binary_reach op (span_of (extent mode env a)) (span_of (extent mode env b)) (number_in (evaluate mode env b))))
+pub extent-binary : (mode : Mode) (env : Env) (p : Place) (op : BinaryOp) (a : ExprTree) (b : ExprTree) → extent mode env (binary p op a b) ≡ measured mode env (binary p op a b) (single (binary_span op (span_of (extent mode env a)) (span_of (extent mode env b)) (number_in (evaluate mode env b))))
 unfolding extent
 extent-binary _ _ _ _ _ _ = refl
 
-pub extent-compare : (mode : Mode) (env : Env) (p : Place) (op : CompareOp) (a : ExprTree) (b : ExprTree) → extent mode env (compare p op a b) ≡ measured mode env (compare p op a b) (one_span truth_span)
+pub extent-compare : (mode : Mode) (env : Env) (p : Place) (op : CompareOp) (a : ExprTree) (b : ExprTree) → extent mode env (compare p op a b) ≡ measured mode env (compare p op a b) (single truth_span)
 unfolding extent
 extent-compare _ _ _ _ _ _ = refl
 
-pub extent-lex : (mode : Mode) (env : Env) (p : Place) (op : LexOp) (a : ExprTree) (b : ExprTree) → extent mode env (lex p op a b) ≡ measured mode env (lex p op a b) (one_span truth_span)
+pub extent-lex : (mode : Mode) (env : Env) (p : Place) (op : LexOp) (a : ExprTree) (b : ExprTree) → extent mode env (lex p op a b) ≡ measured mode env (lex p op a b) (single truth_span)
 unfolding extent
 extent-lex _ _ _ _ _ _ = refl
 
-pub extent-in_domain : (mode : Mode) (env : Env) (p : Place) (e : ExprTree) (d : DomainTree) → extent mode env (in_domain p e d) ≡ measured mode env (in_domain p e d) (one_span truth_span)
+pub extent-in_domain : (mode : Mode) (env : Env) (p : Place) (e : ExprTree) (d : DomainTree) → extent mode env (in_domain p e d) ≡ measured mode env (in_domain p e d) (single truth_span)
 unfolding extent
 extent-in_domain _ _ _ _ _ = refl
 
-pub extent-in_set : (mode : Mode) (env : Env) (p : Place) (e : ExprTree) (m : ExprTree) → extent mode env (in_set p e m) ≡ measured mode env (in_set p e m) (one_span truth_span)
+pub extent-in_set : (mode : Mode) (env : Env) (p : Place) (e : ExprTree) (m : ExprTree) → extent mode env (in_set p e m) ≡ measured mode env (in_set p e m) (single truth_span)
 unfolding extent
 extent-in_set _ _ _ _ _ = refl
 
-pub extent-all_of : (mode : Mode) (env : Env) (p : Place) (parts : ExprTrees) → extent mode env (all_of p parts) ≡ measured mode env (all_of p parts) (one_span truth_span)
+pub extent-all_of : (mode : Mode) (env : Env) (p : Place) (parts : ExprTrees) → extent mode env (all_of p parts) ≡ measured mode env (all_of p parts) (single truth_span)
 unfolding extent
 extent-all_of _ _ _ _ = refl
 
-pub extent-any_of : (mode : Mode) (env : Env) (p : Place) (parts : ExprTrees) → extent mode env (any_of p parts) ≡ measured mode env (any_of p parts) (one_span truth_span)
+pub extent-any_of : (mode : Mode) (env : Env) (p : Place) (parts : ExprTrees) → extent mode env (any_of p parts) ≡ measured mode env (any_of p parts) (single truth_span)
 unfolding extent
 extent-any_of _ _ _ _ = refl
 
-pub extent-quantified : (mode : Mode) (env : Env) (p : Place) (op : QuantOp) (names : List Name) (d : DomainTree) (e : ExprTree) → extent mode env (quantified p op names d e) ≡ measured mode env (quantified p op names d e) (quantified_extent op (over_names names (λ inner. domain_values mode inner d) (λ inner. scalar_in inner d) joined_all (λ inner. span_of (extent mode inner e) ∷ []) env))
+pub extent-quantified : (mode : Mode) (env : Env) (p : Place) (op : QuantOp) (names : List Name) (d : DomainTree) (e : ExprTree) → extent mode env (quantified p op names d e) ≡ measured mode env (quantified p op names d e) (single (over_names (numbered mode d) (quantified_span op) (λ inner. span_of (extent mode inner e)) names env))
 unfolding extent
 extent-quantified _ _ _ _ _ _ _ = refl
 
-pub extent-literal : (mode : Mode) (env : Env) (p : Place) (parts : ExprTrees) (d : IndexDomain) → extent mode env (literal p parts d) ≡ measured mode env (literal p parts d) (grid_over (index_values mode env d) (extents_of mode env parts))
+pub extent-literal : (mode : Mode) (env : Env) (p : Place) (parts : ExprTrees) (d : IndexDomain) → extent mode env (literal p parts d) ≡ measured mode env (literal p parts d) (matrix_extent (index_values mode env d) (extents_of mode env parts))
 unfolding extent
 extent-literal _ _ _ _ _ = refl
 
-pub extent-comprehension : (mode : Mode) (env : Env) (p : Place) (e : ExprTree) (gens : Generators) (conditions : ExprTrees) (d : IndexDomain) → extent mode env (comprehension p e gens conditions d) ≡ measured mode env (comprehension p e gens conditions d) (grid_over (index_values mode env d) (generated_extents mode env gens conditions (λ inner. extent mode inner e)))
+pub extent-comprehension : (mode : Mode) (env : Env) (p : Place) (e : ExprTree) (gens : Generators) (conditions : ExprTrees) (d : IndexDomain) → extent mode env (comprehension p e gens conditions d) ≡ measured mode env (comprehension p e gens conditions d) (matrix_extent (index_values mode env d) (map (λ inner. extent mode inner e) (chosen mode env gens conditions)))
 unfolding extent
 extent-comprehension _ _ _ _ _ _ _ = refl
 
-pub extent-read : (mode : Mode) (env : Env) (p : Place) (m : ExprTree) (indices : Indices) → extent mode env (read p m indices) ≡ measured mode env (read p m indices) (read_extent (type_in env (read p m indices)) (are_cells env m) (measured_list mode env indices) (extent mode env m))
+pub extent-read : (mode : Mode) (env : Env) (p : Place) (m : ExprTree) (indices : Indices) → extent mode env (read p m indices) ≡ let is : List MeasuredIndex = measured_list mode env indices in measured mode env (read p m indices) (read_extent (type_in env (read p m indices)) (reads_cell env m is) is (extent mode env m))
 unfolding extent
 extent-read _ _ _ _ _ = refl
 
-pub extent-folded : (mode : Mode) (env : Env) (p : Place) (op : FoldOp) (m : ExprTree) → extent mode env (folded p op m) ≡ measured mode env (folded p op m) (one_span (folded_reach op (spans_of (extent mode env m))))
+pub extent-folded : (mode : Mode) (env : Env) (p : Place) (op : FoldOp) (m : ExprTree) → extent mode env (folded p op m) ≡ measured mode env (folded p op m) (single (folded_span op (scalars_of (extent mode env m))))
 unfolding extent
 extent-folded _ _ _ _ _ = refl
 
-pub extent-all_different : (mode : Mode) (env : Env) (p : Place) (m : ExprTree) → extent mode env (all_different p m) ≡ measured mode env (all_different p m) (one_span truth_span)
+pub extent-all_different : (mode : Mode) (env : Env) (p : Place) (m : ExprTree) → extent mode env (all_different p m) ≡ measured mode env (all_different p m) (single truth_span)
 unfolding extent
 extent-all_different _ _ _ _ = refl
 
-pub extent-gcc : (mode : Mode) (env : Env) (p : Place) (m : ExprTree) (values : ExprTree) (counts : ExprTree) → extent mode env (gcc p m values counts) ≡ measured mode env (gcc p m values counts) (one_span truth_span)
+pub extent-gcc : (mode : Mode) (env : Env) (p : Place) (m : ExprTree) (values : ExprTree) (counts : ExprTree) → extent mode env (gcc p m values counts) ≡ measured mode env (gcc p m values counts) (single truth_span)
 unfolding extent
 extent-gcc _ _ _ _ _ _ = refl
 
-pub extent-at_least : (mode : Mode) (env : Env) (p : Place) (m : ExprTree) (counts : ExprTree) (values : ExprTree) → extent mode env (at_least p m counts values) ≡ measured mode env (at_least p m counts values) (one_span truth_span)
+pub extent-at_least : (mode : Mode) (env : Env) (p : Place) (m : ExprTree) (counts : ExprTree) (values : ExprTree) → extent mode env (at_least p m counts values) ≡ measured mode env (at_least p m counts values) (single truth_span)
 unfolding extent
 extent-at_least _ _ _ _ _ _ = refl
 
-pub extent-at_most : (mode : Mode) (env : Env) (p : Place) (m : ExprTree) (counts : ExprTree) (values : ExprTree) → extent mode env (at_most p m counts values) ≡ measured mode env (at_most p m counts values) (one_span truth_span)
+pub extent-at_most : (mode : Mode) (env : Env) (p : Place) (m : ExprTree) (counts : ExprTree) (values : ExprTree) → extent mode env (at_most p m counts values) ≡ measured mode env (at_most p m counts values) (single truth_span)
 unfolding extent
 extent-at_most _ _ _ _ _ _ = refl
 
-pub extent-table : (mode : Mode) (env : Env) (p : Place) (row : ExprTree) (rows : ExprTree) → extent mode env (table p row rows) ≡ measured mode env (table p row rows) (one_span truth_span)
+pub extent-table : (mode : Mode) (env : Env) (p : Place) (row : ExprTree) (rows : ExprTree) → extent mode env (table p row rows) ≡ measured mode env (table p row rows) (single truth_span)
 unfolding extent
 extent-table _ _ _ _ _ = refl
 
@@ -286,7 +280,7 @@ pub term_spans-no_terms : (mode : Mode) (env : Env) → term_spans mode env no_t
 unfolding term_spans
 term_spans-no_terms _ _ = refl
 
-pub term_spans-term_and : (mode : Mode) (env : Env) (plus : Bool) (e : ExprTree) (terms : Terms) → term_spans mode env (term_and plus e terms) ≡ signed_reach plus (span_of (extent mode env e)) ∷ term_spans mode env terms
+pub term_spans-term_and : (mode : Mode) (env : Env) (plus : Bool) (e : ExprTree) (terms : Terms) → term_spans mode env (term_and plus e terms) ≡ signed_span plus (span_of (extent mode env e)) ∷ term_spans mode env terms
 unfolding term_spans
 term_spans-term_and _ _ _ _ _ = refl
 
@@ -298,14 +292,6 @@ pub measured_list-every_and : (mode : Mode) (env : Env) (indices : Indices) → 
 unfolding measured_list
 measured_list-every_and _ _ _ = refl
 
-pub measured_list-index_and : (mode : Mode) (env : Env) (e : ExprTree) (indices : Indices) → measured_list mode env (index_and e indices) ≡ measured_index (holds_decision env e) (span_of (extent mode env e)) (number_in (evaluate mode env e)) ∷ measured_list mode env indices
+pub measured_list-index_and : (mode : Mode) (env : Env) (e : ExprTree) (indices : Indices) → measured_list mode env (index_and e indices) ≡ measured_index (holds_decision (decisions_in env) e) (span_of (extent mode env e)) (number_in (evaluate mode env e)) ∷ measured_list mode env indices
 unfolding measured_list
 measured_list-index_and _ _ _ _ = refl
-
-pub generated_extents-no_generators : (mode : Mode) (env : Env) (conditions : ExprTrees) (part : (Env → Extent)) → generated_extents mode env no_generators conditions part ≡ unwrap_or (option_map (λ ns. if all_one ns then part env ∷ [] else []) (numbers_in (values_of mode env conditions))) []
-unfolding generated_extents
-generated_extents-no_generators _ _ _ _ = refl
-
-pub generated_extents-generator_and : (mode : Mode) (env : Env) (names : List Name) (d : DomainTree) (gens : Generators) (conditions : ExprTrees) (part : (Env → Extent)) → generated_extents mode env (generator_and names d gens) conditions part ≡ over_names names (λ e. domain_values mode e d) (λ e. scalar_in e d) joined_all (λ e. generated_extents mode e gens conditions part) env
-unfolding generated_extents
-generated_extents-generator_and _ _ _ _ _ _ _ = refl

@@ -1,12 +1,12 @@
 -- One equation for each case of the types of expressions and domains.
-use Rattle.std.specs.Prelude.{◌≡◌, Bool, ◌&&◌, List, [], ◌∷◌, ◌++◌, ℤ, refl}
+use Rattle.std.specs.Prelude.{◌≡◌, Bool, ◌&&◌, List, [], ◌∷◌, ◌++◌, map, ℤ, refl}
 use Rattle.std.specs.List.{list_all}
 use Rattle.ep_base.specs.declared.names.Name.{Name}
 use Rattle.ep_base.specs.declared.operators.CompareOp.{CompareOp}
 use Rattle.ep_base.specs.declared.operators.LexOp.{LexOp}
 use Rattle.ep_base.specs.declared.places.Place.{Place}
 use Rattle.ep_tree.specs.Trees.{DomainTree, Domains, End, ExprTree, ExprTrees, Generators, IndexDomain, Indices, Ranges, Terms, absolute, all_different, all_of, any_of, at_least, at_most, binary, bool, chain, compare, comprehension, domain_and, end_at, every_and, factorial, flatten, folded, gcc, generator_and, group, group_domain, in_domain, in_set, index_and, int, lex, literal, matrix_domain, minus, named, named_domain, negation, no_domains, no_end, no_generators, no_indices, no_ranges, no_terms, no_trees, number, one_and, over, quantified, ranges, read, set_domain, span_and, table, term_and, to_int, tree_and, truth, unstated}
-use Rattle.ep_tree.specs.Types.{Context, Judged, are_lists, binary_type, both_scalars, domain_readings, folded_type, from_many, from_one, from_three, from_two, gives, has_dimensions, indexed_type, inside, is_boolean, is_integer, is_matrix, judge, judge_all, judge_comprehension, judge_domain, judge_domains, judge_end, judge_generators, judge_index, judge_indices, judge_ranges, judge_terms, list_type, matrix_type, named_domain_type, named_type, of_scalar, quantified_type, read_type, scalar_of, slice_count, typed, with_domains}
+use Rattle.ep_tree.specs.Types.{Context, are_lists, binary_type, both_scalars, comprehension_type, folded_type, from_many, from_one, from_three, from_two, gives, has_dimensions, indexed_type, inside, inside_all, is_boolean, is_integer, is_matrix, judge, judge_all, judge_domain, judge_domains, judge_end, judge_generators, judge_index, judge_indices, judge_ranges, judge_terms, list_type, matrix_type, named_domain_type, named_type, of_scalar, quantified_type, read_type, reading_contexts, scalar_of, slice_count, typed}
 use Rattle.ep_tree.specs.declared.syntax.BinaryOp.{BinaryOp}
 use Rattle.ep_tree.specs.declared.syntax.FoldOp.{FoldOp}
 use Rattle.ep_tree.specs.declared.syntax.QuantOp.{QuantOp}
@@ -85,7 +85,7 @@ pub judge-any_of : (context : Context) (place : Place) (parts : ExprTrees) → j
 unfolding judge
 judge-any_of _ _ _ = refl
 
-pub judge-quantified : (context : Context) (place : Place) (op : QuantOp) (names : List Name) (d : DomainTree) (e : ExprTree) → judge context (quantified place op names d e) ≡ from_many (domain_readings names (λ c. judge_domain c d) context) (λ ds. from_one (judge (inside names (λ c. judge_domain c d) context) e) (quantified_type op ds))
+pub judge-quantified : (context : Context) (place : Place) (op : QuantOp) (names : List Name) (d : DomainTree) (e : ExprTree) → judge context (quantified place op names d e) ≡ from_many (map (λ c. judge_domain c d) (reading_contexts names (λ c. judge_domain c d) context)) (λ ds. from_one (judge (inside names (λ c. judge_domain c d) context) e) (quantified_type op ds))
 unfolding judge
 judge-quantified _ _ _ _ _ _ = refl
 
@@ -93,7 +93,7 @@ pub judge-literal : (context : Context) (place : Place) (parts : ExprTrees) (d :
 unfolding judge
 judge-literal _ _ _ _ = refl
 
-pub judge-comprehension : (context : Context) (place : Place) (e : ExprTree) (gens : Generators) (conditions : ExprTrees) (d : IndexDomain) → judge context (comprehension place e gens conditions d) ≡ from_many (judge_index context d) (λ ds. judge_comprehension ds (judge_generators context gens (λ inner. (judge_all inner conditions, judge inner e))))
+pub judge-comprehension : (context : Context) (place : Place) (e : ExprTree) (gens : Generators) (conditions : ExprTrees) (d : IndexDomain) → judge context (comprehension place e gens conditions d) ≡ from_many (judge_index context d) (λ index. from_many (judge_generators context gens) (λ domains. from_many (judge_all (inside_all gens context) conditions) (λ truths. from_one (judge (inside_all gens context) e) (comprehension_type index domains truths))))
 unfolding judge
 judge-comprehension _ _ _ _ _ _ = refl
 
@@ -217,10 +217,18 @@ pub judge_index-over : (context : Context) (d : DomainTree) → judge_index cont
 unfolding judge_index
 judge_index-over _ _ = refl
 
-pub judge_generators-no_generators : (context : Context) (inner : (Context → List Judged × Judged)) → judge_generators context no_generators inner ≡ record { domains = []; conditions = (inner context).0; part = (inner context).1 }
+pub judge_generators-no_generators : (context : Context) → judge_generators context no_generators ≡ []
 unfolding judge_generators
-judge_generators-no_generators _ _ = refl
+judge_generators-no_generators _ = refl
 
-pub judge_generators-generator_and : (context : Context) (names : List Name) (d : DomainTree) (gens : Generators) (inner : (Context → List Judged × Judged)) → judge_generators context (generator_and names d gens) inner ≡ with_domains (domain_readings names (λ c. judge_domain c d) context) (judge_generators (inside names (λ c. judge_domain c d) context) gens inner)
+pub judge_generators-generator_and : (context : Context) (names : List Name) (d : DomainTree) (gens : Generators) → judge_generators context (generator_and names d gens) ≡ map (λ c. judge_domain c d) (reading_contexts names (λ c. judge_domain c d) context) ++ judge_generators (inside names (λ c. judge_domain c d) context) gens
 unfolding judge_generators
-judge_generators-generator_and _ _ _ _ _ = refl
+judge_generators-generator_and _ _ _ _ = refl
+
+pub inside_all-no_generators : (context : Context) → inside_all no_generators context ≡ context
+unfolding inside_all
+inside_all-no_generators _ = refl
+
+pub inside_all-generator_and : (context : Context) (names : List Name) (d : DomainTree) (gens : Generators) → inside_all (generator_and names d gens) context ≡ inside_all gens (inside names (λ c. judge_domain c d) context)
+unfolding inside_all
+inside_all-generator_and _ _ _ _ = refl

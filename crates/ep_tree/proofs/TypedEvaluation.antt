@@ -1,18 +1,18 @@
 -- The value of an expression is of its type, in an environment of typed names.
-use Rattle.std.specs.Prelude.{◌≡◌, ℕ, zero, suc, ◌+◌, ◌-◌, ◌≤◌, Bool, true, false, cond, not, ◌&&◌, List, [], ◌∷◌, ◌++◌, map, length, ℤ, if◌then◌else◌, nat_le, ◌==◌, int_lt, Some, None, bytes_eq, fold, filter, Option, option_map, option_and_then, refl}
+use Rattle.std.specs.Prelude.{◌≡◌, ℕ, zero, suc, ◌+◌, ◌-◌, ◌≤◌, Bool, true, false, cond, not, ◌&&◌, List, [], ◌∷◌, ◌++◌, map, length, ℤ, if◌then◌else◌, nat_le, ◌==◌, int_lt, Some, None, bytes_eq, filter, flat_map, Option, option_map, refl}
 use Rattle.std.proofs.Common.{ap, arith, subst, sym, ◌∙◌}
 use Rattle.std.specs.List.{list_all}
 use Rattle.std.specs.Ordering.{int_eq}
-use Rattle.ep_base.specs.Numbers.{all_one, has_number, of_bool}
+use Rattle.ep_base.specs.Numbers.{has_number, of_bool}
 use Rattle.ep_base.specs.declared.names.Name.{Name}
-use Rattle.ep_tree.proofs.TypedParts.{AllOf, EachOf, and_left, and_right, boolean_is, both_is, dims_as_int, each_is, from_many_is, from_one_is, gives_is, integer_is, list_is, list_value_is, many_give, map_is, matrix_scalars, mistyped_is, no_some, number_is, one_gives, read_is, some_is, stated, then_is, three_give, truth_is, truths_differ, two_give, typed_is, untyped_is}
+use Rattle.ep_tree.proofs.TypedParts.{AllOf, EachOf, and_left, and_right, boolean_is, both_is, dims_as_int, map_both_is, each_is, from_many_is, from_one_is, gives_is, integer_is, list_is, list_value_is, many_give, map_is, matrix_scalars, mistyped_is, no_some, number_is, one_gives, read_is, some_is, stated, three_give, truth_is, truths_differ, two_give, typed_is, untyped_is}
 use Rattle.ep_tree.specs.Domains.{put_in, set_values, truth_values, united}
 use Rattle.ep_tree.specs.Environments.{Bound, Env, context_of, domain_bound, has_cells, has_domain, has_value, meaning_in, scalar_in, shape_type, value_bound, with_number}
-use Rattle.ep_tree.specs.Evaluation.{binary_value, domain_values, evaluate, folded_value, generated, index_list, index_values, joined, joins_truths, matrix_value, number_in, numbers_in, on_both, over_names, part_under, quantified_value, read_result, scalars_in, type_in, values_of}
+use Rattle.ep_tree.specs.Evaluation.{all_joined, are_told, binary_value, domain_values, domains_defined, evaluate, folded_value, holding, index_list, index_values, joins_truths, matrix_value, number_in, on_both, over_names, quantified_value, reached, read_result, scalars_in, standing_for, type_in, values_of}
 use Rattle.ep_tree.specs.Names.{put}
 use Rattle.ep_tree.specs.Trees.{DomainTree, ExprTree, ExprTrees, Generators, Indices, absolute, all_different, all_of, any_of, at_least, at_most, binary, bool, chain, compare, comprehension, every_and, factorial, flatten, folded, gcc, generator_and, group, group_domain, in_domain, in_set, index_and, int, lex, literal, matrix_domain, minus, named, named_domain, negation, no_generators, no_indices, no_trees, number, quantified, ranges, read, set_domain, table, to_int, tree_and, truth}
 use Rattle.ep_tree.specs.TypedValues.{IsOf, IsOfDims, IsTypedBound, IsTypedEnv, is_number_of}
-use Rattle.ep_tree.specs.Types.{Context, Judged, JudgedParts, a_value, all_typed, are_lists, binary_type, both_scalars, domain_readings, folded_type, from_all, from_many, from_one, from_two, gives, has_dimensions, indexed_type, inside, is_boolean, is_integer, is_matrix, is_matrix_of_bool, judge, judge_all, judge_comprehension, judge_domain, judge_generators, judge_index, judge_indices, judge_ranges, judge_terms, left_type, list_type, mistyped, named_domain_type, named_type, of_scalar, quantified_name, quantified_type, read_type, scalar_of, slice_count, type_from, typed, untyped, with_domains}
+use Rattle.ep_tree.specs.Types.{Context, Judged, a_value, all_typed, are_lists, binary_type, both_scalars, comprehension_type, folded_type, from_all, from_many, from_one, from_two, gives, has_dimensions, indexed_type, inside, inside_all, is_boolean, is_integer, is_matrix, is_matrix_of_bool, judge, judge_all, judge_domain, judge_generators, judge_index, judge_indices, judge_ranges, judge_terms, left_type, list_type, mistyped, named_domain_type, named_type, of_scalar, quantified_name, quantified_type, read_type, reading_contexts, scalar_of, slice_count, type_from, typed, untyped}
 use Rattle.ep_tree.specs.Values.{Index, ValueTree, all_defined, any_index, as_parts, at_index, list_value, matrix, read_value, scalars_of, single, with_indices}
 use Rattle.ep_tree.specs.declared.syntax.BinaryOp.{BinaryOp}
 use Rattle.ep_tree.specs.declared.syntax.FoldOp.{FoldOp}
@@ -127,10 +127,10 @@ domain_typed mode env k (set_domain p op c d) t h values e =
     (λ s. from_one (judge_domain (context_of env) d) (λ u. gives (of_scalar (both_scalars (scalar_of s) (scalar_of u))) (is_integer s && is_integer u))) t h in
     let r : _ = from_one_is (judge_domain (context_of env) d) (λ u. gives (of_scalar (both_scalars (scalar_of q.0) (scalar_of u))) (is_integer q.0 && is_integer u)) t q.2 in
     let g : _ = gives_is (of_scalar (both_scalars (scalar_of q.0) (scalar_of r.0))) (is_integer q.0 && is_integer r.0) t r.2 in
-    let b : _ = both_is (domain_values mode env c) (domain_values mode env d) (λ xs ys. Some (set_values op xs ys)) values e in
+    let b : _ = map_both_is (set_values op) (domain_values mode env c) (domain_values mode env d) values e in
     subst (λ u. list_all (is_number_of (scalar_of u)) values ≡ true) g.0
     (subst (λ a. list_all (is_number_of a) values ≡ true) (sym (scalar_again (both_scalars (scalar_of q.0) (scalar_of r.0))))
-    (subst (λ ns. list_all (is_number_of (both_scalars (scalar_of q.0) (scalar_of r.0))) ns ≡ true) (some_is b.4)
+    (subst (λ ns. list_all (is_number_of (both_scalars (scalar_of q.0) (scalar_of r.0))) ns ≡ true) b.4
     (set_typed op (scalar_of q.0) (scalar_of r.0) b.0 b.1
     (domain_typed mode env k c q.0 q.1 b.0 b.2) (domain_typed mode env k d r.0 r.1 b.1 b.3))))
 domain_typed mode env k (matrix_domain p ds d) t h values e = no_some e
@@ -197,23 +197,30 @@ each_defined t (Some o ∷ os) vs h e =
     let p : _ = map_is (λ ws. o ∷ ws) (all_defined os) vs e in
     subst (λ ws. EachOf t ws) p.2 (h.0 o refl, each_defined t os p.0 h.1 p.1)
 
--- lists of parts, joined
-each_joined : (t : ValueType) (f : ℤ → Option (List (Option ValueTree))) (s : Scalar) (ns : List ℤ) (acc : List (Option ValueTree)) (ls : List (List (Option ValueTree)))
-    → ((n : ℤ) → is_number_of s n ≡ true → (os : List (Option ValueTree)) → f n ≡ Some os → EachPart t os)
-    → list_all (is_number_of s) ns ≡ true → EachPart t acc → all_defined (map f ns) ≡ Some ls → EachPart t (fold (λ xs ys. xs ++ ys) acc ls)
-unfolding all_defined
-each_joined t f s [] acc ls each c h e = subst (λ ks. EachPart t (fold (λ xs ys. xs ++ ys) acc ks)) (some_is e) h
-each_joined t f s (n ∷ ns) acc ls each c h e =
-    go (f n) refl (λ acc' ks h' e'. each_joined t f s ns acc' ks each (and_right (is_number_of s n) (list_all (is_number_of s) ns) c) h' e') e
+-- environments of typed names, each with this context
+abbrev pub EachEnv : Context → List Env → Type 0
+EachEnv c [] = Unit {0}
+EachEnv c (inner ∷ envs) = (IsTypedEnv inner × (context_of inner ≡ c)) × EachEnv c envs
+
+envs_append : (c : Context) (is js : List Env) → EachEnv c is → EachEnv c js → EachEnv c (is ++ js)
+envs_append c [] js h k = k
+envs_append c (i ∷ is) js h k = (h.0, envs_append c is js h.1 k)
+
+-- fewer of them
+envs_filter : (c : Context) (p : Env → Bool) (is : List Env) → EachEnv c is → EachEnv c (filter p is)
+envs_filter c p [] h = tt
+envs_filter c p (i ∷ is) h = go (p i) (envs_filter c p is h.1)
   where
-    go : (o : Option (List (Option ValueTree))) → f n ≡ o
-        → ((acc' : List (Option ValueTree)) (ks : List (List (Option ValueTree))) → EachPart t acc' → all_defined (map f ns) ≡ Some ks → EachPart t (fold (λ xs ys. xs ++ ys) acc' ks))
-        → all_defined (o ∷ map f ns) ≡ Some ls → EachPart t (fold (λ xs ys. xs ++ ys) acc ls)
-    go None q ih e = no_some e
-    go (Some os) q ih e =
-        let p : _ = map_is (λ ks. os ∷ ks) (all_defined (map f ns)) ls e in
-        subst (λ ks. EachPart t (fold (λ xs ys. xs ++ ys) acc ks)) p.2
-        (ih (acc ++ os) p.0 (each_append t acc os h (each n (and_left (is_number_of s n) (list_all (is_number_of s) ns) c) os q)) p.1)
+    go : (b : Bool) → EachEnv c (filter p is) → EachEnv c (cond b (i ∷ filter p is) (filter p is))
+    go true k = (h.0, k)
+    go false k = k
+
+-- what an expression of a type gives in each of them
+parts_are : (t : ValueType) (c : Context) (f : Env → Option ValueTree) (envs : List Env)
+    → ((inner : Env) → IsTypedEnv inner → context_of inner ≡ c → (v : ValueTree) → f inner ≡ Some v → IsOf t v)
+    → EachEnv c envs → EachPart t (map f envs)
+parts_are t c f [] each h = tt
+parts_are t c f (inner ∷ envs) each h = (each inner h.0.0 h.0.1, parts_are t c f envs each h.1)
 
 -- the context of a name that is bound to a number of its domain
 bound_context : (env : Env) (name : Name) (d : DomainTree) (t : ValueType) (n : ℤ) → judge_domain (context_of env) d ≡ typed t → is_integer t ≡ true
@@ -223,18 +230,15 @@ bound_context env name d t n h c =
     context_put env name (has_value (of_scalar (scalar_in env d)) (single n))
     ∙ ap (λ m. put name m (context_of env)) (ap (λ s. a_value (Some (of_scalar s)) false) (scalar_in_is env d t h) ∙ quantified_is t c ∙ ap quantified_name (sym h))
 
--- the parts under one name and what follows, where those under each of its numbers are of a type
-over_step : (mode : Mode) (t : ValueType) (d : DomainTree) (env : Env) (f : ℤ → Option (List (Option ValueTree))) → IsTypedEnv env
-    → (u : ValueType) → judge_domain (context_of env) d ≡ typed u
-    → ((n : ℤ) → is_number_of (scalar_of u) n ≡ true → (os : List (Option ValueTree)) → f n ≡ Some os → EachPart t os)
-    → (os : List (Option ValueTree)) → joined (option_map (map f) (domain_values mode env d)) ≡ Some os → EachPart t os
-unfolding joined
-over_step mode t d env f k u j each os e =
-    let p : _ = map_is (λ ls. fold (λ xs ys. xs ++ ys) [] ls) (option_and_then all_defined (option_map (map f) (domain_values mode env d))) os e in
-    let q : _ = then_is all_defined (option_map (map f) (domain_values mode env d)) p.0 p.1 in
-    let r : _ = map_is (map f) (domain_values mode env d) q.0 q.1 in
-    subst (λ ps. EachPart t ps) p.2
-    (each_joined t f (scalar_of u) r.0 [] p.0 each (domain_typed mode env k d u j r.0 r.1) tt (ap all_defined r.2 ∙ q.2))
+-- the environments under one name and what follows, where those under each of its numbers have a context
+over_step : (c : Context) (s : Scalar) (bound : ℤ → Env) (next : Env → List Env)
+    → ((n : ℤ) → is_number_of s n ≡ true → EachEnv c (next (bound n)))
+    → (ns : List ℤ) → list_all (is_number_of s) ns ≡ true → EachEnv c (flat_map (λ xs. xs) (map next (map bound ns)))
+over_step c s bound next each [] h = tt
+over_step c s bound next each (n ∷ ns) h =
+    envs_append c (next (bound n)) (flat_map (λ xs. xs) (map next (map bound ns)))
+    (each n (and_left (is_number_of s n) (list_all (is_number_of s) ns) h))
+    (over_step c s bound next each ns (and_right (is_number_of s n) (list_all (is_number_of s) ns) h))
 
 -- a name that is bound to a number of its domain is of its type
 number_bound : (env : Env) (name : Name) (d : DomainTree) (u : ValueType) (n : ℤ) → IsTypedEnv env → judge_domain (context_of env) d ≡ typed u
@@ -244,54 +248,70 @@ number_bound env name d u n k j h =
     put_typed env name (has_value (of_scalar (scalar_in env d)) (single n)) k
     (number_typed (scalar_in env d) n (ap (λ s. is_number_of s n) (scalar_in_is env d u j) ∙ h))
 
--- the parts under some names over one domain
-over_typed : (mode : Mode) (t : ValueType) (d : DomainTree) (next : Env → Option (List (Option ValueTree))) (names : List Name) (env : Env) → IsTypedEnv env
-    → (ds : List ValueType) → all_typed (domain_readings names (λ c. judge_domain c d) (context_of env)) ≡ Some ds → list_all is_integer ds ≡ true
-    → ((inner : Env) → IsTypedEnv inner → context_of inner ≡ inside names (λ c. judge_domain c d) (context_of env)
-    → (os : List (Option ValueTree)) → next inner ≡ Some os → EachPart t os)
-    → (os : List (Option ValueTree)) → over_names names (λ e. domain_values mode e d) (λ e. scalar_in e d) joined next env ≡ Some os → EachPart t os
-unfolding domain_readings inside over_names
-over_typed mode t d next [] env k ds h c each os e = each env k refl os e
-over_typed mode t d next (name ∷ names) env k ds h c each os e =
-    let readings : Context → List Judged = domain_readings names (λ x. judge_domain x d) in
-    let first : _ = all_typed_first (judge_domain (context_of env) d) (readings (put name (quantified_name (judge_domain (context_of env) d)) (context_of env))) ds h in
-    let is_int : list_all is_integer (first.0 ∷ first.1) ≡ true = subst (λ us. list_all is_integer us ≡ true) (sym first.4) c in
-    over_step mode t d env
-    (λ n. over_names names (λ x. domain_values mode x d) (λ x. scalar_in x d) joined next (with_number name (scalar_in env d) n env))
-    k first.0 first.2
-    (λ n in_scalar ps q.
-    let bound : context_of (with_number name (scalar_in env d) n env) ≡ put name (quantified_name (judge_domain (context_of env) d)) (context_of env) =
-    bound_context env name d first.0 n first.2 (and_left (is_integer first.0) (list_all is_integer first.1) is_int) in
-    over_typed mode t d next names (with_number name (scalar_in env d) n env)
-    (number_bound env name d first.0 n k first.2 in_scalar)
-    first.1
-    (subst (λ x. all_typed (readings x) ≡ Some first.1) (sym bound) first.3)
-    (and_right (is_integer first.0) (list_all is_integer first.1) is_int)
-    (λ inner l r. each inner l (r ∙ ap (inside names (λ x. judge_domain x d)) bound))
-    ps q)
-    os e
+-- the environments under some names over one domain
+over_typed : (mode : Mode) (c : Context) (d : DomainTree) (next : Env → List Env) (names : List Name) (env : Env) → IsTypedEnv env
+    → (ds : List ValueType) → all_typed (map (λ x. judge_domain x d) (reading_contexts names (λ x. judge_domain x d) (context_of env))) ≡ Some ds → list_all is_integer ds ≡ true
+    → ((inner : Env) → IsTypedEnv inner → context_of inner ≡ inside names (λ x. judge_domain x d) (context_of env) → EachEnv c (next inner))
+    → EachEnv c (over_names (standing_for d (λ x. domain_values mode x d)) all_joined next names env)
+unfolding reading_contexts inside over_names standing_for all_joined
+over_typed mode c d next [] env k ds h is_int each = each env k refl
+over_typed mode c d next (name ∷ names) env k ds h all_int_types each =
+    go (λ n l ts js is inner_each. over_typed mode c d next names (bound n) l ts js is inner_each) (domain_values mode env d) refl
+  where
+    step : Env → List Env
+    step inner = over_names (standing_for d (λ x. domain_values mode x d)) all_joined next names inner
 
--- the parts that generators give
-generated_typed : (mode : Mode) (t : ValueType) (judged : Context → List Judged × Judged) (next : Env → Option (List (Option ValueTree)))
-    → ((inner : Env) → IsTypedEnv inner → (judged (context_of inner)).1 ≡ typed t → (os : List (Option ValueTree)) → next inner ≡ Some os → EachPart t os)
-    → (gens : Generators) (env : Env) → IsTypedEnv env
-    → (ds : List ValueType) → all_typed (judge_generators (context_of env) gens judged).domains ≡ Some ds → list_all is_integer ds ≡ true
-    → (judge_generators (context_of env) gens judged).part ≡ typed t
-    → (os : List (Option ValueTree)) → generated mode env gens next ≡ Some os → EachPart t os
-unfolding judge_generators generated with_domains
-generated_typed mode t judged next each no_generators env k ds h c p os e = each env k p os e
-generated_typed mode t judged next each (generator_and names d gens) env k ds h c p os e =
+    bound : ℤ → Env
+    bound n = with_number name (scalar_in env d) n env
+
+    outer : Context
+    outer = put name (quantified_name (judge_domain (context_of env) d)) (context_of env)
+
+    readings : Context → List Judged
+    readings y = map (λ x. judge_domain x d) (reading_contexts names (λ x. judge_domain x d) y)
+
+    Rest : Type 0
+    Rest =
+        (n : ℤ) → IsTypedEnv (bound n) → (ts : List ValueType) → all_typed (readings (context_of (bound n))) ≡ Some ts → list_all is_integer ts ≡ true
+        → ((inner : Env) → IsTypedEnv inner → context_of inner ≡ inside names (λ x. judge_domain x d) (context_of (bound n)) → EachEnv c (next inner))
+        → EachEnv c (step (bound n))
+
+    under : Rest → (n : ℤ) (t : ValueType) (ts : List ValueType) → judge_domain (context_of env) d ≡ typed t → all_typed (readings outer) ≡ Some ts
+        → is_integer t ≡ true → list_all is_integer ts ≡ true → is_number_of (scalar_of t) n ≡ true → EachEnv c (step (bound n))
+    under rest n t ts j js i is h =
+        let same : context_of (bound n) ≡ outer = bound_context env name d t n j i in
+        rest n (number_bound env name d t n k j h) ts
+        (subst (λ x. all_typed (readings x) ≡ Some ts) (sym same) js) is
+        (λ inner l r. each inner l (r ∙ ap (inside names (λ x. judge_domain x d)) same))
+
+    go : Rest → (o : Option (List ℤ)) → domain_values mode env d ≡ o → EachEnv c (all_joined (option_map (map step) (option_map (map bound) o)))
+    go rest None e = tt
+    go rest (Some ns) e =
+        let first : _ = all_typed_first (judge_domain (context_of env) d) (readings outer) ds h in
+        let are_int : list_all is_integer (first.0 ∷ first.1) ≡ true = subst (λ us. list_all is_integer us ≡ true) (sym first.4) all_int_types in
+        over_step c (scalar_of first.0) bound step
+        (λ n in_scalar. under rest n first.0 first.1 first.2 first.3 (and_left (is_integer first.0) (list_all is_integer first.1) are_int) (and_right (is_integer first.0) (list_all is_integer first.1) are_int) in_scalar)
+        ns (domain_typed mode env k d first.0 first.2 ns e)
+
+-- the environments that generators reach
+reached_typed : (mode : Mode) (gens : Generators) (env : Env) → IsTypedEnv env
+    → (ds : List ValueType) → all_typed (judge_generators (context_of env) gens) ≡ Some ds → list_all is_integer ds ≡ true
+    → EachEnv (inside_all gens (context_of env)) (reached mode env gens)
+unfolding judge_generators inside_all reached
+reached_typed mode no_generators env k ds h c = ((k, refl), tt)
+reached_typed mode (generator_and names d gens) env k ds h c =
     let outer : Context = inside names (λ x. judge_domain x d) (context_of env) in
-    let q : _ = all_typed_append (domain_readings names (λ x. judge_domain x d) (context_of env)) (judge_generators outer gens judged).domains ds h in
+    let q : _ = all_typed_append (map (λ x. judge_domain x d) (reading_contexts names (λ x. judge_domain x d) (context_of env))) (judge_generators outer gens) ds h in
     let ints : _ = integers_append q.0 q.1 (subst (λ us. list_all is_integer us ≡ true) (sym q.4) c) in
-    over_typed mode t d (λ x. generated mode x gens next) names env k q.0 q.2 ints.0
-    (λ inner l r ps f.
-    generated_typed mode t judged next each gens inner l q.1
-    (subst (λ x. all_typed (judge_generators x gens judged).domains ≡ Some q.1) (sym r) q.3)
-    ints.1
-    (subst (λ x. (judge_generators x gens judged).part ≡ typed t) (sym r) p)
-    ps f)
-    os e
+    over_typed mode (inside_all gens outer) d (λ x. reached mode x gens) names env k q.0 q.2 ints.0
+    (λ inner l r.
+    subst (λ x. EachEnv (inside_all gens x) (reached mode inner gens)) r
+    (reached_typed mode gens inner l q.1 (subst (λ x. all_typed (judge_generators x gens) ≡ Some q.1) (sym r) q.3) ints.1))
+
+-- a value that is there only under a condition
+if_is : {A : Type 0} (b : Bool) (o : Option A) (v : A) → (if b then o else None) ≡ Some v → o ≡ Some v
+if_is true o v e = e
+if_is false o v e = no_some e
 
 -- ---- the forms whose value is a matrix
 
@@ -328,6 +348,7 @@ read_result_is Mode.Relational ValueType.Bool (Some w) v e each = subst (λ x. I
 read_result_is Mode.Relational ValueType.Int o v e each = each v e
 read_result_is Mode.Relational (ValueType.Matrix k s) o v e each = each v e
 read_result_is Mode.Relational ValueType.Empty o v e each = each v e
+read_result_is Mode.Strict t o v e each = each v e
 
 -- ---- single forms
 
@@ -392,10 +413,10 @@ indices_are mode env (every_and indices) is ts e h =
     let q : _ = indices_are mode env indices p.0 ts p.1 h in
     subst (λ js. (stated js ≡ length ts) × (length js ≡ length ts + suc (slice_count indices))) p.2 (q.0, omega (arith, q.1))
 indices_are mode env (index_and first indices) is ts e h =
-    let p : _ = both_is (number_in (evaluate mode env first)) (index_list mode env indices) (λ i js. Some (at_index i ∷ js)) is e in
+    let p : _ = map_both_is (λ i js. at_index i ∷ js) (number_in (evaluate mode env first)) (index_list mode env indices) is e in
     let f : _ = all_typed_first (judge (context_of env) first) (judge_indices (context_of env) indices) ts h in
     let q : _ = indices_are mode env indices p.1 f.1 p.3 f.3 in
-    subst (λ js. (stated js ≡ length ts) × (length js ≡ length ts + slice_count indices)) (some_is p.4)
+    subst (λ js. (stated js ≡ length ts) × (length js ≡ length ts + slice_count indices)) p.4
     (subst (λ us. (suc (stated p.1) ≡ length us) × (suc (length p.1) ≡ length us + slice_count indices)) f.4
     (ap suc q.0, omega (arith, q.1)))
 
@@ -431,33 +452,25 @@ unfolding all_defined
 defined_first None os vs e = no_some e
 defined_first (Some v) os vs e = let p : _ = map_is (λ ws. v ∷ ws) (all_defined os) vs e in (v, p.0, refl, p.1, p.2)
 
--- the part of a comprehension under some names
-part_typed : (conditions : List (Option ValueTree)) (part : Option ValueTree) (t : ValueType) (os : List (Option ValueTree)) → part_under conditions part ≡ Some os
-    → ((v : ValueTree) → part ≡ Some v → IsOf t v) → EachPart t os
-unfolding part_under
-part_typed conditions part t os e each =
-    let p : _ = map_is (λ ns. if all_one ns then part ∷ [] else []) (numbers_in conditions) os e in
-    subst (λ ps. EachPart t ps) p.2 (go (all_one p.0))
-  where
-    go : (b : Bool) → EachPart t (if b then part ∷ [] else [])
-    go true = (each, tt)
-    go false = tt
+-- those of the environments in which conditions hold
+holding_typed : (c : Context) (conditions : Env → List (Option ValueTree)) (envs : List Env) → EachEnv c envs → EachEnv c (holding conditions envs)
+unfolding holding
+holding_typed c conditions envs h = envs_filter c _ envs h
 
 -- a comprehension's type comes from that of its expression
-comprehension_is : (index : List ValueType) (parts : JudgedParts) (t : ValueType) → judge_comprehension index parts ≡ typed t
-    → (ds : List ValueType) × (s : ValueType) × (all_typed parts.domains ≡ Some ds) × (list_all is_integer ds ≡ true) × (parts.part ≡ typed s) × (list_type (s ∷ []) ≡ typed t)
-unfolding judge_comprehension
-comprehension_is index parts t h =
-    let inner : List ValueType → List ValueType → ValueType → Judged =
-    λ domains conditions s. if list_all is_boolean conditions then indexed_type (index ++ domains) (list_type (s ∷ [])) else mistyped in
-    let p : _ = from_many_is parts.domains (λ domains. from_many parts.conditions (λ conditions. from_one parts.part (λ s. inner domains conditions s))) t h in
-    let q : _ = from_many_is parts.conditions (λ conditions. from_one parts.part (λ s. inner p.0 conditions s)) t p.2 in
-    let r : _ = from_one_is parts.part (λ s. inner p.0 q.0 s) t q.2 in
+comprehension_is : (index : List ValueType) (domains conditions : List Judged) (part : Judged) (t : ValueType)
+    → from_many domains (λ ds. from_many conditions (λ cs. from_one part (comprehension_type index ds cs))) ≡ typed t
+    → (ds : List ValueType) × (s : ValueType) × (all_typed domains ≡ Some ds) × (list_all is_integer ds ≡ true) × (part ≡ typed s) × (list_type (s ∷ []) ≡ typed t)
+unfolding comprehension_type
+comprehension_is index domains conditions part t h =
+    let p : _ = from_many_is domains (λ ds. from_many conditions (λ cs. from_one part (comprehension_type index ds cs))) t h in
+    let q : _ = from_many_is conditions (λ cs. from_one part (comprehension_type index p.0 cs)) t p.2 in
+    let r : _ = from_one_is part (comprehension_type index p.0 q.0) t q.2 in
     go p.0 r.0 p.1 r.1 (list_all is_boolean q.0) r.2
   where
-    go : (ds : List ValueType) (s : ValueType) → all_typed parts.domains ≡ Some ds → parts.part ≡ typed s → (b : Bool)
+    go : (ds : List ValueType) (s : ValueType) → all_typed domains ≡ Some ds → part ≡ typed s → (b : Bool)
         → (if b then indexed_type (index ++ ds) (list_type (s ∷ [])) else mistyped) ≡ typed t
-        → (ds : List ValueType) × (s : ValueType) × (all_typed parts.domains ≡ Some ds) × (list_all is_integer ds ≡ true) × (parts.part ≡ typed s) × (list_type (s ∷ []) ≡ typed t)
+        → (ds : List ValueType) × (s : ValueType) × (all_typed domains ≡ Some ds) × (list_all is_integer ds ≡ true) × (part ≡ typed s) × (list_type (s ∷ []) ≡ typed t)
     go ds s a j true h = let i : _ = indexed_is (index ++ ds) (list_type (s ∷ [])) t h in (ds, s, a, (integers_append index ds i.0).1, j, i.1)
     go ds s a j false h = mistyped_is h
 
@@ -476,7 +489,7 @@ no_values_are vs e = subst (λ ws. AllOf [] ws) (some_is e) tt
 -- ---- all forms
 
 mutual
-  unfolding evaluate judge from_many from_all all_typed domain_readings over_names inside context_of is_number_of
+  unfolding evaluate judge from_many from_all all_typed reading_contexts over_names inside context_of is_number_of
 
   -- The value of an expression is of its type.
   pub value_typed : (mode : Mode) (env : Env) → IsTypedEnv env → (e : ExprTree) (t : ValueType) → judge (context_of env) e ≡ typed t
@@ -530,7 +543,7 @@ mutual
       body_typed op q.0 t v q.2 (value_typed mode env k a q.0 q.1 v e)
   value_typed mode env k (quantified p op (name ∷ names) d a) t h v e =
       let body : Judged = judge (inside (name ∷ names) (λ c. judge_domain c d) (context_of env)) a in
-      let q : _ = from_many_is (domain_readings (name ∷ names) (λ c. judge_domain c d) (context_of env)) (λ ds. from_one body (quantified_type op ds)) t h in
+      let q : _ = from_many_is (map (λ c. judge_domain c d) (reading_contexts (name ∷ names) (λ c. judge_domain c d) (context_of env))) (λ ds. from_one body (quantified_type op ds)) t h in
       let r : _ = from_one_is body (quantified_type op q.0) t q.2 in
       quantified_typed mode op _ q.0 r.0 t v r.2 e
   value_typed mode env k (literal p parts d) t h v e =
@@ -540,19 +553,22 @@ mutual
       let m : _ = matrix_value_is (index_values mode env d) (values_of mode env parts) v e in
       subst (λ w. IsOf t w) m.4 (list_is r.0 m.1 m.0 t (values_typed mode env k parts r.0 r.1 m.1 m.2) m.3 l.1)
   value_typed mode env k (comprehension p a gens conditions d) t h v e =
-      let judged : Context → List Judged × Judged = λ inner. (judge_all inner conditions, judge inner a) in
-      let q : _ = from_many_is (judge_index (context_of env) d) (λ ds. judge_comprehension ds (judge_generators (context_of env) gens judged)) t h in
-      let c : _ = comprehension_is q.0 (judge_generators (context_of env) gens judged) t q.2 in
-      let next : Env → Option (List (Option ValueTree)) = λ inner. part_under (values_of mode inner conditions) (evaluate mode inner a) in
-      let g : _ = then_is (matrix_value (index_values mode env d)) (generated mode env gens next) v e in
-      let m : _ = matrix_value_is (index_values mode env d) g.0 v g.2 in
+      let domains : List Judged = judge_generators (context_of env) gens in
+      let truths : List Judged = judge_all (inside_all gens (context_of env)) conditions in
+      let part : Judged = judge (inside_all gens (context_of env)) a in
+      let q : _ = from_many_is (judge_index (context_of env) d) (λ index. from_many domains (λ ds. from_many truths (λ cs. from_one part (comprehension_type index ds cs)))) t h in
+      let c : _ = comprehension_is q.0 domains truths part t q.2 in
+      let told : Bool = domains_defined mode env gens && are_told (λ inner. values_of mode inner conditions) (reached mode env gens) in
+      let envs : List Env = holding (λ inner. values_of mode inner conditions) (reached mode env gens) in
+      let os : List (Option ValueTree) = map (λ inner. evaluate mode inner a) envs in
+      let m : _ = matrix_value_is (index_values mode env d) os v (if_is told (matrix_value (index_values mode env d) os) v e) in
       subst (λ w. IsOf t w) m.4
       (each_is c.1 m.1 m.0 t
-      (each_defined c.1 g.0 m.1
-      (generated_typed mode c.1 judged next
-      (λ inner l j os f. part_typed (values_of mode inner conditions) (evaluate mode inner a) c.1 os f
-      (λ w x. value_typed mode inner l a c.1 j w x))
-      gens env k c.0 c.2 c.3 c.4 g.0 g.1)
+      (each_defined c.1 os m.1
+      (parts_are c.1 (inside_all gens (context_of env)) (λ inner. evaluate mode inner a) envs
+      (λ inner l r w x. value_typed mode inner l a c.1 (subst (λ y. judge y a ≡ typed c.1) (sym r) c.4) w x)
+      (holding_typed (inside_all gens (context_of env)) (λ inner. values_of mode inner conditions) (reached mode env gens)
+      (reached_typed mode gens env k c.0 c.2 c.3)))
       m.2)
       m.3 c.5)
   value_typed mode env k (read p m indices) t h v e =

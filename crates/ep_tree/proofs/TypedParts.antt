@@ -5,7 +5,7 @@ use Rattle.std.specs.List.{list_all}
 use Rattle.std.specs.Ordering.{int_eq}
 use Rattle.ep_base.specs.Numbers.{of_bool}
 use Rattle.ep_base.specs.Runs.{counting}
-use Rattle.ep_tree.specs.Evaluation.{on_both, truth_in}
+use Rattle.ep_tree.specs.Evaluation.{map_both, on_both, truth_in, undefined_truth}
 use Rattle.ep_tree.specs.TypedValues.{AreOfDims, IsOf, IsOfDims, is_number_of}
 use Rattle.ep_tree.specs.Types.{Judged, all_typed, from_all, from_many, from_one, from_three, from_two, gives, has_dimensions, is_bool_scalar, is_boolean, is_integer, is_matrix, is_matrix_of_bool, list_of_matrices, list_type, mistyped, scalar_of, stated_dimensions, typed, untyped}
 use Rattle.ep_tree.specs.Values.{Index, ValueTree, ValueTrees, all_defined, any_index, as_parts, at_index, list_value, listed_values, matrix, no_values, part_at, read_value, scalars_of, scalars_of_all, single, value_and}
@@ -94,11 +94,19 @@ both_is None b f v e = no_some e
 both_is (Some x) None f v e = no_some e
 both_is (Some x) (Some y) f v e = (x, y, refl, refl, e)
 
+pub map_both_is : {A B C : Type 0} (f : A → B → C) (a : Option A) (b : Option B) (v : C) → map_both f a b ≡ Some v
+    → (x : A) × (y : B) × (a ≡ Some x) × (b ≡ Some y) × (f x y ≡ v)
+unfolding map_both
+map_both_is f None b v e = no_some e
+map_both_is f (Some x) None v e = no_some e
+map_both_is f (Some x) (Some y) v e = (x, y, refl, refl, some_is e)
+
 pub truth_is : (mode : Mode) (o : Option Bool) (v : ValueTree) → truth_in mode o ≡ Some v → IsOfDims Scalar.Bool 0 v
-unfolding truth_in of_bool is_number_of
+unfolding truth_in undefined_truth of_bool is_number_of
 truth_is Mode.Relational None v e = subst (λ w. IsOfDims Scalar.Bool 0 w) (some_is e) refl
-truth_is Mode.Relational (Some true) v e = subst (λ w. IsOfDims Scalar.Bool 0 w) (some_is e) refl
-truth_is Mode.Relational (Some false) v e = subst (λ w. IsOfDims Scalar.Bool 0 w) (some_is e) refl
+truth_is Mode.Strict None v e = no_some e
+truth_is mode (Some true) v e = subst (λ w. IsOfDims Scalar.Bool 0 w) (some_is e) refl
+truth_is mode (Some false) v e = subst (λ w. IsOfDims Scalar.Bool 0 w) (some_is e) refl
 
 pub number_is : (o : Option ℤ) (v : ValueTree) → option_map single o ≡ Some v → IsOfDims Scalar.Int 0 v
 unfolding is_number_of
@@ -288,7 +296,7 @@ EachOf t [] = Unit {0}
 EachOf t (v ∷ vs) = IsOf t v × EachOf t vs
 
 -- no parts, and no indices
-pub empty_matrix : (is : List ℤ) → length is ≡ 0 → matrix is no_values ≡ matrix [] no_values
+pub empty_matrix : (is : List ℤ) → length is ≡ 0 → ◌≡◌ {A = ValueTree} (matrix is no_values) (matrix [] no_values)
 empty_matrix [] h = refl
 empty_matrix (i ∷ is) h = absurd cc
 

@@ -346,7 +346,7 @@ matrix_of_named-finds = refl
 abbrev send : Result Instance (List Refusal)
 send = bind Mode.Relational (decided (at 2 1) (record { names = ((codes "S"), (at 2 6)) ∷ ((codes "E"), (at 2 9)) ∷ ((codes "N"), (at 2 12)) ∷ ((codes "D"), (at 2 15)) ∷ ((codes "M"), (at 2 18)) ∷ ((codes "O"), (at 2 21)) ∷ ((codes "R"), (at 2 24)) ∷ ((codes "Y"), (at 2 27)) ∷ []; domain = (ranges (at 2 31) (span_and (end_at (number (at 2 35) (pos 0))) (end_at (number (at 2 38) (pos 9))) no_ranges)) } ∷ []) ∷ constraints (at 3 1) ((compare (at 3 11) CompareOp.Equal (chain (at 3 11) (term_and true (binary (at 3 11) BinaryOp.Mul (number (at 3 11) (pos 1000)) (named (at 3 16) (codes "S"))) (term_and true (binary (at 3 20) BinaryOp.Mul (number (at 3 20) (pos 100)) (named (at 3 24) (codes "E"))) (term_and true (binary (at 3 28) BinaryOp.Mul (number (at 3 28) (pos 10)) (named (at 3 31) (codes "N"))) (term_and true (named (at 3 35) (codes "D")) (term_and true (binary (at 3 39) BinaryOp.Mul (number (at 3 39) (pos 1000)) (named (at 3 44) (codes "M"))) (term_and true (binary (at 3 48) BinaryOp.Mul (number (at 3 48) (pos 100)) (named (at 3 52) (codes "O"))) (term_and true (binary (at 3 56) BinaryOp.Mul (number (at 3 56) (pos 10)) (named (at 3 59) (codes "R"))) (term_and true (named (at 3 63) (codes "E")) no_terms))))))))) (chain (at 3 67) (term_and true (binary (at 3 67) BinaryOp.Mul (number (at 3 67) (pos 10000)) (named (at 3 73) (codes "M"))) (term_and true (binary (at 3 77) BinaryOp.Mul (number (at 3 77) (pos 1000)) (named (at 3 82) (codes "O"))) (term_and true (binary (at 3 86) BinaryOp.Mul (number (at 3 86) (pos 100)) (named (at 3 90) (codes "N"))) (term_and true (binary (at 3 94) BinaryOp.Mul (number (at 3 94) (pos 10)) (named (at 3 97) (codes "E"))) (term_and true (named (at 3 101) (codes "Y")) no_terms))))))) ∷ (compare (at 4 1) CompareOp.NotEqual (named (at 4 1) (codes "S")) (number (at 4 6) (pos 0))) ∷ (compare (at 4 9) CompareOp.NotEqual (named (at 4 9) (codes "M")) (number (at 4 14) (pos 0))) ∷ (all_different (at 4 17) (literal (at 4 25) (tree_and (named (at 4 26) (codes "S")) (tree_and (named (at 4 29) (codes "E")) (tree_and (named (at 4 32) (codes "N")) (tree_and (named (at 4 35) (codes "D")) (tree_and (named (at 4 38) (codes "M")) (tree_and (named (at 4 41) (codes "O")) (tree_and (named (at 4 44) (codes "R")) (tree_and (named (at 4 47) (codes "Y")) no_trees)))))))) unstated)) ∷ []) ∷ []) []
 
-send-weight : weight_bound send ≡ 6720761
+send-weight : weight_bound send ≡ 1095185
 unfolding the_language
 send-weight = refl
 

@@ -18,7 +18,7 @@ use Rattle.ep_tree.specs.declared.values.Scalar.{Scalar}
 use Rattle.ep_tree.specs.declared.values.ValueType.{ValueType}
 
 -- places: one that measures don't depend on, and a place of a text
-abbrev p : Place
+abbrev pub p : Place
 p = record { line = 1; column = 1 }
 
 abbrev at : ℕ → ℕ → Place
@@ -26,7 +26,7 @@ at line column = record { line = line; column = column }
 
 -- decision variables x : int(0..9), y : int(-3..2), z : int(2..4), s : int(1, 5), b : bool, e : int(1..0); lists v of
 -- int(1..3), g of int(1, 5) and w of bool over int(1..2), and Q of int(1..2) over both; a domain D of 1 to 3, and k = 3
-abbrev cells : Env
+abbrev pub cells : Env
 cells = put_all (
     (codes "x", has_cells Scalar.Int ([]) ((pos 0) ∷ (pos 1) ∷ (pos 2) ∷ (pos 3) ∷ (pos 4) ∷ (pos 5) ∷ (pos 6) ∷ (pos 7) ∷ (pos 8) ∷ (pos 9) ∷ []))
     ∷ (codes "y", has_cells Scalar.Int ([]) ((negsuc 2) ∷ (negsuc 1) ∷ (negsuc 0) ∷ (pos 0) ∷ (pos 1) ∷ (pos 2) ∷ []))
@@ -48,7 +48,7 @@ size e = size_of (met Mode.Relational cells e)
 
 -- the ends of an expression's reach, and its spread
 abbrev reach : ExprTree → ℤ × ℤ × ℕ
-reach e = let s : Span = span_of (extent Mode.Relational cells e) in (s.low, s.high, s.spread)
+reach e = let s : Span = span_of (extent Mode.Relational cells e) in (s.reach.low, s.reach.high, s.spread)
 
 -- the weight of an expression
 abbrev weight : ExprTree → ℕ

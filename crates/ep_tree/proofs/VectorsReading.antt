@@ -42,12 +42,12 @@ unfolding the_language
 closing-fault = record {
   stops = record {
     within = omega arith;
-    before = (number (at 1 1) (pos 7), token 1 1 (a_number (pos 7)) ∷ [], omega arith, seven);
-    after = λ _ b. no_closing b.0 b.1 b.3;
+    before = λ _. (number (at 1 1) (pos 7), token 1 1 (a_number (pos 7)) ∷ [], (omega arith, seven));
+    after = λ _ b. no_closing b.0 b.1 b.2.1;
   };
   no_higher = record {
     within = omega arith;
-    before = (number (at 1 1) (pos 7), token 1 1 (a_number (pos 7)) ∷ [], seven);
+    before = λ _. (number (at 1 1) (pos 7), token 1 1 (a_number (pos 7)) ∷ [], seven);
     after = λ _ b. no_closing b.0 b.1 b.2;
   };
   incomplete = λ e h. false≢true (begins implications e [] h);
@@ -63,7 +63,7 @@ unfolding the_language
 seven_closing-reads = record {
   stops = record {
     within = omega arith;
-    before = (number (at 1 1) (pos 7), [], seven);
+    before = λ _. (number (at 1 1) (pos 7), [], seven);
     after = λ _ b. false≢true (sym (foreign b.1) ∙ begins implications b.0 (seven_closing ++ b.1) b.2);
   };
   spelled = seven;
@@ -84,7 +84,7 @@ unfolding the_language
 x_not-reads = record {
   stops = record {
     within = omega arith;
-    before = (named (at 1 1) (codes "x"), [], x_spelled);
+    before = λ _. (named (at 1 1) (codes "x"), [], x_spelled);
     after = λ _ b. false≢true (sym (foreign b.1) ∙ begins implications b.0 (take 2 x_not ++ b.1) b.2);
   };
   spelled = x_spelled;
@@ -119,12 +119,12 @@ unfolding the_language
 x_plus-fault = record {
   stops = record {
     within = omega arith;
-    before = (x_plus_one, one, omega arith, x_plus_one-spelled);
+    before = λ _. (x_plus_one, one, (omega arith, x_plus_one-spelled));
     after = λ beyond _. absurd (omega (arith, beyond));
   };
   no_higher = record {
     within = omega arith;
-    before = (x_plus_one, one, x_plus_one-spelled);
+    before = λ _. (x_plus_one, one, x_plus_one-spelled);
     after = λ beyond _. absurd (omega (arith, beyond));
   };
   incomplete = λ e h. false≢true (begins implications e x_plus h);
@@ -147,8 +147,8 @@ unfolding the_language
 not_not-too_high = record {
   stops = record {
     within = omega arith;
-    before = (negation (at 1 1) (named (at 1 2) (codes "x")), x, omega arith, (refl, (refl, (take 1 not_not, x, refl, (at 1 1, refl), (refl, (refl, (at 1 2, refl)))))));
-    after = λ _ b. absurd (omega (arith, b.2, bangs-below implications b.0 (take 2 not_not ++ b.1) b.3));
+    before = λ _. (negation (at 1 1) (named (at 1 2) (codes "x")), x, (omega arith, (refl, (refl, (take 1 not_not, x, refl, (at 1 1, refl), (refl, (refl, (at 1 2, refl))))))));
+    after = λ _ b. absurd (omega (arith, b.2.0, bangs-below implications b.0 (take 2 not_not ++ b.1) b.2.1));
   };
   inside = omega arith;
   higher = (not_not_x, token 1 3 (a_name (codes "x")) ∷ [], not_not-spelled);
@@ -163,7 +163,7 @@ unfolding the_language
 not_not-reads = record {
   stops = record {
     within = omega arith;
-    before = (not_not_x, [], not_not-spelled);
+    before = λ _. (not_not_x, [], not_not-spelled);
     after = λ beyond _. absurd (omega (arith, beyond));
   };
   spelled = not_not-spelled;
@@ -207,33 +207,24 @@ sense-begins Sense.Maximising tokens (inr h) = one-word statement_words (codes "
 
 statement-begins : (s : StatementTree) (tokens : List Lexeme) → SpellsStatement s tokens → first_is statement_words tokens ≡ true
 unfolding SpellsStatement
-statement-begins (given p groups) [] h = absurd h
-statement-begins (given p groups) (t ∷ ts) h =
-    first-part statement_words _ _ (t ∷ ts) h.1 (λ front k. one-word statement_words (codes "given") front k refl)
-statement-begins (decided p groups) [] h = absurd h
-statement-begins (decided p groups) (t ∷ ts) h =
-    first-part statement_words _ _ (t ∷ ts) h.1 (λ front k. one-word statement_words (codes "find") front k refl)
-statement-begins (letting p name q d e) [] h = absurd h
-statement-begins (letting p name q d e) (t ∷ ts) h =
-    first-part statement_words _ _ (t ∷ ts) h.1 (λ front k. one-word statement_words (codes "letting") front k refl)
-statement-begins (domain_letting p name q d) [] h = absurd h
-statement-begins (domain_letting p name q d) (t ∷ ts) h =
-    first-part statement_words _ _ (t ∷ ts) h.1 (λ front k. one-word statement_words (codes "letting") front k refl)
-statement-begins (requirements p es) [] h = absurd h
-statement-begins (requirements p es) (t ∷ ts) h =
-    first-part statement_words _ _ (t ∷ ts) h.1 (λ front k. one-word statement_words (codes "where") front k refl)
-statement-begins (constraints p es) [] h = absurd h
-statement-begins (constraints p es) (t ∷ ts) h =
-    first-part statement_words _ _ (t ∷ ts) h.1 (λ front k. one-word statement_words (codes "such") front k refl)
-statement-begins (objective p sense e) [] h = absurd h
-statement-begins (objective p sense e) (t ∷ ts) h =
-    first-part statement_words _ _ (t ∷ ts) h.1 (λ front k. sense-begins sense front k)
-statement-begins (branching p names) [] h = absurd h
-statement-begins (branching p names) (t ∷ ts) h =
-    first-part statement_words _ _ (t ∷ ts) h.1 (λ front k. one-word statement_words (codes "branching") front k refl)
-statement-begins (heuristic p name) [] h = absurd h
-statement-begins (heuristic p name) (t ∷ ts) h =
-    first-part statement_words _ _ (t ∷ ts) h.1 (λ front k. one-word statement_words (codes "heuristic") front k refl)
+statement-begins (given p groups) tokens h =
+    first-part statement_words _ _ tokens h.1 (λ front k. one-word statement_words (codes "given") front k refl)
+statement-begins (decided p groups) tokens h =
+    first-part statement_words _ _ tokens h.1 (λ front k. one-word statement_words (codes "find") front k refl)
+statement-begins (letting p name q d e) tokens h =
+    first-part statement_words _ _ tokens h.1 (λ front k. one-word statement_words (codes "letting") front k refl)
+statement-begins (domain_letting p name q d) tokens h =
+    first-part statement_words _ _ tokens h.1 (λ front k. one-word statement_words (codes "letting") front k refl)
+statement-begins (requirements p es) tokens h =
+    first-part statement_words _ _ tokens h.1 (λ front k. one-word statement_words (codes "where") front k refl)
+statement-begins (constraints p es) tokens h =
+    first-part statement_words _ _ tokens h.1 (λ front k. one-word statement_words (codes "such") front k refl)
+statement-begins (objective p sense e) tokens h =
+    first-part statement_words _ _ tokens h.1 (λ front k. sense-begins sense front k)
+statement-begins (branching p names) tokens h =
+    first-part statement_words _ _ tokens h.1 (λ front k. one-word statement_words (codes "branching") front k refl)
+statement-begins (heuristic p name) tokens h =
+    first-part statement_words _ _ tokens h.1 (λ front k. one-word statement_words (codes "heuristic") front k refl)
 
 statements-begin : (text : TextTree) (tokens : List Lexeme) → SpellsStatements text tokens → begins_statements tokens ≡ true
 unfolding SpellsStatements
@@ -298,12 +289,12 @@ unfolding text_height
 no_model = record {
   stops = record {
     within = omega arith;
-    before = ([], language_line, omega arith, line-spelled);
+    before = λ _. ([], language_line, (omega arith, line-spelled));
     after = λ beyond _. absurd (omega (arith, beyond));
   };
   no_higher = record {
     within = omega arith;
-    before = ([], language_line, line-spelled);
+    before = λ _. ([], language_line, line-spelled);
     after = λ beyond _. absurd (omega (arith, beyond));
   };
   incomplete = λ _ text h. false≢true (model-begins text [] h).0;
@@ -323,12 +314,12 @@ unfolding text_height
 early_find-fault = record {
   stops = record {
     within = omega arith;
-    before = ([], language_line, omega arith, line-spelled);
-    after = λ _ b. false≢true (model-begins b.0 (early_find ++ b.1) b.3).0;
+    before = λ _. ([], language_line, (omega arith, line-spelled));
+    after = λ _ b. false≢true (model-begins b.0 (early_find ++ b.1) b.2.1).0;
   };
   no_higher = record {
     within = omega arith;
-    before = ([], language_line, line-spelled);
+    before = λ _. ([], language_line, line-spelled);
     after = λ _ b. false≢true (model-begins b.0 (early_find ++ b.1) b.2).0;
   };
   incomplete = λ short _ _. absurd (omega (arith, short));
@@ -343,12 +334,12 @@ unfolding text_height
 line_closing-fault = record {
   stops = record {
     within = omega arith;
-    before = ([], [], omega arith, line-spelled);
-    after = λ _ b. false≢true (model-begins b.0 (line_closing ++ b.1) b.3).1;
+    before = λ _. ([], [], (omega arith, line-spelled));
+    after = λ _ b. false≢true (model-begins b.0 (line_closing ++ b.1) b.2.1).1;
   };
   no_higher = record {
     within = omega arith;
-    before = ([], [], line-spelled);
+    before = λ _. ([], [], line-spelled);
     after = λ _ b. false≢true (model-begins b.0 (line_closing ++ b.1) b.2).1;
   };
   incomplete = λ short _ _. absurd (omega (arith, short));

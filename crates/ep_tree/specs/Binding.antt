@@ -3,7 +3,7 @@
 -- The lettings of the parameter text are evaluated in their order, and then the statements of the model in theirs. The
 -- first statement at which something stands is answered; only where two limits stand at one statement may either be
 -- named. The whole order is this project's own choice.
-use Rattle.std.specs.Prelude.{ℕ, ◌+◌, Bool, true, false, ◌&&◌, ◌||◌, List, [], ◌∷◌, ◌++◌, map, length, ℤ, pos, is_some, if◌then◌else◌, nat_lt, int_lt, int_le, Some, None, Ok, Err, flat_map, Option, Result, option_map, option_and_then, option_to_list}
+use Rattle.std.specs.Prelude.{ℕ, ◌+◌, Bool, true, false, ◌&&◌, ◌||◌, List, [], ◌∷◌, ◌++◌, map, length, ℤ, is_some, if◌then◌else◌, int_le, Some, None, Ok, Err, flat_map, Option, Result, option_map, option_and_then, option_to_list}
 use Rattle.std.specs.Ordering.{int_eq}
 use Rattle.ep_base.specs.Numbers.{has_number}
 use Rattle.ep_base.specs.declared.names.Name.{Name}
@@ -13,7 +13,9 @@ use Rattle.ep_base.specs.declared.places.Place.{Place}
 use Rattle.ep_tree.specs.Domains.{set_has, truth_values}
 use Rattle.ep_tree.specs.Environments.{Bound, Env, has_domain, has_value, scalar_in, shape_type}
 use Rattle.ep_tree.specs.Evaluation.{domain_values, evaluate, first_untrue, number_in, on_both, on_three, type_in}
-use Rattle.ep_tree.specs.Measures.{Met, farthest_reach, met, met_domain, size_of}
+use Rattle.ep_tree.specs.Faults.{lettings_of}
+use Rattle.ep_tree.specs.Limits.{limits_of_values}
+use Rattle.ep_tree.specs.Measures.{Met, met, met_domain}
 use Rattle.ep_tree.specs.Names.{nothing_known, put}
 use Rattle.ep_tree.specs.Statements.{Group, StatementTree, TextTree, branching, constraints, decided, domain_letting, given, heuristic, letting, objective, requirements}
 use Rattle.ep_tree.specs.Trees.{DomainTree, Domains, End, ExprTree, Ranges, bool, domain_and, end_at, group_domain, int, matrix_domain, named_domain, no_domains, no_end, no_ranges, one_and, ranges, set_domain, span_and}
@@ -52,23 +54,9 @@ pub record Instance : Type 0 where
   pub goal : Option (Sense × ExprTree)
   pub env : Env
 
--- the greatest size of a statement and of an instance
-abbrev pub MOST_SIZE : ℕ
-MOST_SIZE = 5000000
-
--- the greatest absolute value of a number
-abbrev pub MOST_REACH : ℤ
-MOST_REACH = pos 1099511627776
-
--- the greatest weight of an instance
-abbrev pub MOST_WEIGHT : ℕ
-MOST_WEIGHT = 20000000
-
--- the limits that some nodes pass: of size, and of the numbers that they reach
-unfoldable pub limits_passed : Mode → ℕ → List Met → List Refusal
-limits_passed mode cells ms =
-    (if nat_lt MOST_SIZE (cells + size_of ms) then over_limit Limit.Size ∷ [] else [])
-    ++ (if int_lt MOST_REACH (farthest_reach mode ms) then over_limit Limit.Reach ∷ [] else [])
+-- the limits that the nodes of a statement pass by their values
+unfoldable pub limits_met : Mode → List Met → List Refusal
+limits_met mode ms = map over_limit (limits_of_values mode 0 ms)
 
 -- an answer where nothing stands before it, and else what stands
 unfoldable pub unless_any : {A : Type 0} → List Refusal → Result A (List Refusal) → Result A (List Refusal)
@@ -189,16 +177,16 @@ letting_bound mode env refusal name (Some d) e v =
 -- a letting of a text: first the limits, then a value or a domain that isn't defined, then a value outside its domain
 unfoldable pub bind_letting : Mode → TextName → Env → StatementTree → Result Env (List Refusal)
 bind_letting mode text env (letting p name at d e) =
-    unless_any (limits_passed mode 0 (met_stated mode env d ++ met mode env e))
+    unless_any (limits_met mode (met_stated mode env d ++ met mode env e))
     (and_next (or_refuse (undefined_at text p) (evaluate mode env e)) (λ v.
     and_next (letting_bound mode env (undefined_at text p) name d e v) (λ b. Ok (put name b env))))
 bind_letting mode text env (domain_letting p name at d) =
-    unless_any (limits_passed mode 0 (met_domain mode env d))
+    unless_any (limits_met mode (met_domain mode env d))
     (and_next (or_refuse (undefined_at text p) (option_and_then shape_bound (shape_of mode env d))) (λ b.
     Ok (put name b env)))
 bind_letting mode text env _ = Ok env
 
--- the lettings of a parameter text, each of which sees the earlier ones
+-- lettings of a text, each of which sees the earlier ones
 unfoldable pub bind_params : Mode → TextName → Env → TextTree → Result Env (List Refusal)
 bind_params mode text env [] = Ok env
 bind_params mode text env (s ∷ statements) =
@@ -234,7 +222,7 @@ bind_names params shape (name ∷ names) env =
 unfoldable pub bind_givens : Mode → Place → Env → List Group → Env → Result Env (List Refusal)
 bind_givens mode p params [] env = Ok env
 bind_givens mode p params (g ∷ groups) env =
-    unless_any (limits_passed mode 0 (met_domain mode env g.domain))
+    unless_any (limits_met mode (met_domain mode env g.domain))
     (and_next (or_refuse (undefined_at model_text p) (shape_of mode env g.domain)) (λ shape.
     unless_any (first_missing params g.names)
     (and_next (bind_names params shape g.names env) (λ next. bind_givens mode p params groups next))))
@@ -269,30 +257,46 @@ met_groups mode env groups = flat_map (λ g. met_domain mode env g.domain) group
 unfoldable pub met_in : Mode → Env → List ExprTree → List Met
 met_in mode env es = flat_map (met mode env) es
 
--- progress in another environment
-unfoldable pub in_env : Progress → Env → Progress
-in_env at env = record at { instance = record (at.instance) { env = env } }
+-- an instance in another environment
+unfoldable pub in_env : Instance → Env → Instance
+in_env i env = record i { env = env }
+
+-- an instance with more decision variables
+unfoldable pub with_finds : Instance → List Find → Instance
+with_finds i fs = record i { finds = i.finds ++ fs }
+
+-- an instance with more clauses
+unfoldable pub with_clauses : Instance → List ExprTree → Instance
+with_clauses i es = record i { clauses = i.clauses ++ es }
+
+-- an instance with an objective
+unfoldable pub with_goal : Instance → Sense → ExprTree → Instance
+with_goal i sense e = record i { goal = Some (sense, e) }
+
+-- progress with what the instance has become
+unfoldable pub now_with : Progress → Instance → Progress
+now_with at i = record at { instance = i }
 
 -- a statement of a model
 unfoldable pub bind_statement : Mode → Env → Progress → StatementTree → Result Progress (List Refusal)
 bind_statement mode params at (given p groups) =
-    and_next (bind_givens mode p params groups at.instance.env) (λ env. Ok (in_env at env))
+    and_next (bind_givens mode p params groups at.instance.env) (λ env. Ok (now_with at (in_env at.instance env)))
 bind_statement mode params at (decided p groups) =
-    unless_any (limits_passed mode 0 (met_groups mode at.instance.env groups))
+    unless_any (limits_met mode (met_groups mode at.instance.env groups))
     (and_next (or_refuse (undefined_at model_text p) (bound_finds mode at.instance.env groups)) (λ fs.
-    Ok (record at { instance = record (at.instance) { finds = at.instance.finds ++ fs } })))
+    Ok (now_with at (with_finds at.instance fs))))
 bind_statement mode params at (letting p name q d e) =
-    and_next (bind_letting mode model_text at.instance.env (letting p name q d e)) (λ env. Ok (in_env at env))
+    and_next (bind_letting mode model_text at.instance.env (letting p name q d e)) (λ env.
+    Ok (now_with at (in_env at.instance env)))
 bind_statement mode params at (domain_letting p name q d) =
-    and_next (bind_letting mode model_text at.instance.env (domain_letting p name q d)) (λ env. Ok (in_env at env))
+    and_next (bind_letting mode model_text at.instance.env (domain_letting p name q d)) (λ env.
+    Ok (now_with at (in_env at.instance env)))
 bind_statement mode params at (requirements p es) =
-    unless_any (limits_passed mode 0 (met_in mode at.instance.env es))
+    unless_any (limits_met mode (met_in mode at.instance.env es))
     (unless_any (first_false mode at.instance.env at.next_where es)
     (Ok (record at { next_where = at.next_where + length es })))
-bind_statement mode params at (constraints p es) =
-    Ok (record at { instance = record (at.instance) { clauses = at.instance.clauses ++ es } })
-bind_statement mode params at (objective p sense e) =
-    Ok (record at { instance = record (at.instance) { goal = Some (sense, e) } })
+bind_statement mode params at (constraints p es) = Ok (now_with at (with_clauses at.instance es))
+bind_statement mode params at (objective p sense e) = Ok (now_with at (with_goal at.instance sense e))
 bind_statement mode params at (branching p names) = Ok at
 bind_statement mode params at (heuristic p name) = Ok at
 
@@ -312,5 +316,5 @@ nothing_bound = record {
 -- the instance of a model under a parameter text, or the refusals that may be named
 unfoldable pub bind : Mode → TextTree → TextTree → Result Instance (List Refusal)
 bind mode model params =
-    and_next (bind_params mode parameter_text nothing_known params) (λ known.
+    and_next (bind_params mode parameter_text nothing_known (lettings_of params)) (λ known.
     and_next (bind_statements mode known nothing_bound model) (λ at. Ok at.instance))

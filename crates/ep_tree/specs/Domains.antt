@@ -2,7 +2,7 @@
 --
 -- `int` domains with ranges are those of the language's public description; their union, intersection and difference
 -- are this project's own.
-use Rattle.std.specs.Prelude.{ℕ, Bool, not, ◌&&◌, ◌||◌, List, [], ◌∷◌, ℤ, pos, ◌+ℤ◌, ◌-ℤ◌, ◌<ℤ◌, if◌then◌else◌, int_lt, filter}
+use Rattle.std.specs.Prelude.{ℕ, Bool, not, ◌&&◌, ◌||◌, List, [], ◌∷◌, ℤ, pos, ◌+ℤ◌, ◌-ℤ◌, if◌then◌else◌, int_lt, filter}
 use Rattle.std.specs.Ordering.{int_eq}
 use Rattle.ep_base.specs.Numbers.{has_number}
 use Rattle.ep_base.specs.Runs.{counting, or_zero}
@@ -41,13 +41,3 @@ set_has SetOp.Minus one other = one && not other
 -- the numbers of a Boolean domain
 abbrev pub truth_values : List ℤ
 truth_values = pos 0 ∷ pos 1 ∷ []
-
--- the numbers ascend, each greater than the one before, from a number on
-abbrev pub Above : ℤ → List ℤ → Type 0
-Above low [] = Unit {0}
-Above low (x ∷ xs) = (low <ℤ x) × Above x xs
-
--- the numbers ascend, each greater than the one before
-abbrev pub IsAscending : List ℤ → Type 0
-IsAscending [] = Unit {0}
-IsAscending (x ∷ xs) = Above x xs

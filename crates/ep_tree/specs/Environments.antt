@@ -1,7 +1,7 @@
 -- Environments: what each name stands for where an expression has a value.
 use Rattle.std.specs.Prelude.{true, false, List, [], ◌∷◌, length, ℤ, Some, None, Option, unwrap_or, option_map}
+use Rattle.ep_base.specs.Runs.{IsAscending}
 use Rattle.ep_base.specs.declared.names.Name.{Name}
-use Rattle.ep_tree.specs.Domains.{IsAscending}
 use Rattle.ep_tree.specs.Names.{Known, put}
 use Rattle.ep_tree.specs.Trees.{DomainTree}
 use Rattle.ep_tree.specs.Types.{Context, Meaning, a_domain, a_value, judge_domain, of_scalar, scalar_of, type_from}

@@ -1,12 +1,15 @@
 -- The value of an expression: direct evaluation on its tree, under one mode and one environment.
 --
 -- In the relational mode an integer or a matrix without a value makes the nearest Boolean expression around it false,
--- and a Boolean expression always has a value; this is the relational semantics of Nightingale and others (2017). An
--- integer or matrix expression has no value where a part has none, after `/` and `%` by 0, and for a read outside the
--- index domains. That a read outside a Boolean matrix is false, that a matrix with one undefined part is undefined, what
--- an undefined quantifier's domain does, and the remaining undefined forms are this project's own choice.
-use Rattle.std.specs.Prelude.{ℕ, ◌+◌, Bool, true, false, not, ◌||◌, List, [], ◌∷◌, ◌++◌, map, length, ℤ, pos, ◌*ℤ◌, neg_ℤ, if◌then◌else◌, Some, None, fold, Option, unwrap_or, option_map, option_and_then}
+-- and a Boolean expression always has a value; this is the relational semantics of Nightingale and others (2017). In the
+-- strict mode every expression with a part without a value has none; this is the strict semantics of Frisch and Stuckey
+-- (2009). An integer or matrix expression has no value where a part has none, after `/` and `%` by 0, and for a read
+-- outside the index domains. That a read outside a Boolean matrix is false (relational) or undefined (strict), that a
+-- matrix with one undefined part is undefined, what an undefined quantifier's domain or condition does, lists of different
+-- lengths in a count or a table, and the remaining undefined forms are this project's own choice.
+use Rattle.std.specs.Prelude.{ℕ, ◌+◌, Bool, true, false, not, ◌&&◌, ◌||◌, List, [], ◌∷◌, map, length, ℤ, pos, ◌*ℤ◌, neg_ℤ, is_some, if◌then◌else◌, Some, None, filter, flat_map, Option, unwrap_or, option_map, option_and_then}
 use Rattle.std.specs.Int.{int_max, int_min}
+use Rattle.std.specs.List.{list_all}
 use Rattle.ep_base.specs.Numbers.{absolute_of, all_one, any_one, are_different, compare_holds, counts_hold, factorial_of, greatest_of, has_number, is_one, is_row_of, least_of, lex_holds, of_bool, power, product_of, quotient, remainder, sum_of}
 use Rattle.ep_base.specs.Runs.{counting}
 use Rattle.ep_base.specs.declared.names.Name.{Name}
@@ -20,13 +23,17 @@ use Rattle.ep_tree.specs.declared.syntax.BinaryOp.{BinaryOp}
 use Rattle.ep_tree.specs.declared.syntax.FoldOp.{FoldOp}
 use Rattle.ep_tree.specs.declared.syntax.QuantOp.{QuantOp}
 use Rattle.ep_tree.specs.declared.values.Mode.{Mode}
-use Rattle.ep_tree.specs.declared.values.Scalar.{Scalar}
 use Rattle.ep_tree.specs.declared.values.ValueType.{ValueType}
 
--- a Boolean's value: in the relational mode it is 0 where a part has none
+-- a Boolean that has a part without a value: it is 0 in the relational mode, and has no value in the strict mode
+unfoldable pub undefined_truth : Mode → Option ValueTree
+undefined_truth Mode.Relational = Some (single (pos 0))
+undefined_truth Mode.Strict = None
+
+-- a Boolean's value
 unfoldable pub truth_in : Mode → Option Bool → Option ValueTree
-truth_in Mode.Relational None = Some (single (pos 0))
-truth_in Mode.Relational (Some b) = Some (single (of_bool b))
+truth_in mode None = undefined_truth mode
+truth_in mode (Some b) = Some (single (of_bool b))
 
 -- a number's value
 abbrev pub number_value : Option ℤ → Option ValueTree
@@ -51,16 +58,28 @@ abbrev pub rows_in : Option ValueTree → Option (List (List ℤ))
 rows_in v = option_map rows_of v
 
 -- the numbers of many values, where each is defined
-abbrev pub numbers_in : List (Option ValueTree) → Option (List ℤ)
-numbers_in vs = all_defined (map number_in vs)
+abbrev pub all_numbers : List (Option ValueTree) → Option (List ℤ)
+all_numbers vs = all_defined (map number_in vs)
+
+-- whether many values are all true, where each is defined
+unfoldable pub all_true : List (Option ValueTree) → Option Bool
+all_true vs = option_map all_one (all_numbers vs)
+
+-- whether one of many values is true, where each is defined
+unfoldable pub any_true : List (Option ValueTree) → Option Bool
+any_true vs = option_map any_one (all_numbers vs)
 
 -- a function of two parts, where each is defined
-unfoldable pub on_both : {A B C : Type 0} → Option A → Option B → (A → B → Option C) → Option C
-on_both a b f = option_and_then (λ x. option_and_then (λ y. f x y) b) a
+unfoldable pub map_both : {A B C : Type 0} → (A → B → C) → Option A → Option B → Option C
+map_both f a b = option_and_then (λ x. option_map (f x) b) a
 
--- a function of three parts, where each is defined
+-- what a function gives of two parts, where each is defined; the function may have no value there
+unfoldable pub on_both : {A B C : Type 0} → Option A → Option B → (A → B → Option C) → Option C
+on_both a b f = option_and_then (λ x. option_and_then (f x) b) a
+
+-- the same of three parts
 unfoldable pub on_three : {A B C D : Type 0} → Option A → Option B → Option C → (A → B → C → Option D) → Option D
-on_three a b c f = option_and_then (λ x. on_both b c (λ y z. f x y z)) a
+on_three a b c f = option_and_then (λ x. on_both b c (f x)) a
 
 -- `*`, `/`, `%`, `**`, `min` and `max` of two numbers
 unfoldable pub binary_number : BinaryOp → ℤ → ℤ → Option ℤ
@@ -97,29 +116,40 @@ folded_value mode FoldOp.Max xs = number_value (option_and_then greatest_of xs)
 -- A quantifier's value by the values of its instances in the order of the domain's values; there are none where the
 -- domain is undefined.
 unfoldable pub quantified_value : Mode → QuantOp → Option (List (Option ValueTree)) → Option ValueTree
-quantified_value mode QuantOp.ForAll instances = truth_in mode (option_map all_one (option_and_then numbers_in instances))
-quantified_value mode QuantOp.Exists instances = truth_in mode (option_map any_one (option_and_then numbers_in instances))
-quantified_value mode QuantOp.Sum instances = number_value (option_map sum_of (option_and_then numbers_in instances))
+quantified_value mode QuantOp.ForAll instances = truth_in mode (option_and_then all_true instances)
+quantified_value mode QuantOp.Exists instances = truth_in mode (option_and_then any_true instances)
+quantified_value mode QuantOp.Sum instances = number_value (option_map sum_of (option_and_then all_numbers instances))
 
--- What some names over one domain give: for each name in turn the domain's text is read, with the names before it bound,
--- and what its values give is joined.
-unfoldable pub over_names : {A : Type 0} → List Name → (Env → Option (List ℤ)) → (Env → Scalar) → (Option (List A) → A) → (Env → A) → Env → A
-over_names [] domain scalar join inner env = inner env
-over_names (name ∷ names) domain scalar join inner env =
-    join
-    (option_map
-    (map (λ n. over_names names domain scalar join inner (with_number name (scalar env) n env)))
-    (domain env))
+-- What some names over one domain give. Each name in turn stands for each of the domain's numbers, which is read anew with
+-- the names before it, and what these environments give is joined; where the domain is undefined there are none.
+unfoldable pub over_names : {A : Type 0} → (Name → Env → Option (List Env)) → (Option (List A) → A) → (Env → A) → List Name → Env → A
+over_names numbered join inner [] env = inner env
+over_names numbered join inner (name ∷ names) env =
+    join (option_map (map (over_names numbered join inner names)) (numbered name env))
 
--- lists that are all defined, joined into one
-unfoldable pub joined : {A : Type 0} → Option (List (Option (List A))) → Option (List A)
-joined lists = option_map (λ ls. fold (λ xs ys. xs ++ ys) [] ls) (option_and_then all_defined lists)
+-- the environments in which a name stands for each number of a domain; there are none where the domain is undefined
+unfoldable pub standing_for : DomainTree → (Env → Option (List ℤ)) → Name → Env → Option (List Env)
+standing_for d numbers name env = option_map (map (λ n. with_number name (scalar_in env d) n env)) (numbers env)
 
--- the part of a comprehension under some names, where the conditions hold
-unfoldable pub part_under : List (Option ValueTree) → Option ValueTree → Option (List (Option ValueTree))
-part_under conditions part = option_map (λ ns. if all_one ns then part ∷ [] else []) (numbers_in conditions)
+-- all that some lists have, one list after another; nothing where there are none
+unfoldable pub all_joined : {A : Type 0} → Option (List (List A)) → List A
+all_joined None = []
+all_joined (Some lists) = flat_map (λ xs. xs) lists
 
--- parts as a matrix with these indices; it has no value where a part or an index has none
+-- whether there are answers, and each is true
+unfoldable pub all_hold : Option (List Bool) → Bool
+all_hold None = false
+all_hold (Some answers) = list_all (λ b. b) answers
+
+-- the environments in which conditions hold
+unfoldable pub holding : (Env → List (Option ValueTree)) → List Env → List Env
+holding conditions envs = filter (λ env. unwrap_or (all_true (conditions env)) false) envs
+
+-- whether conditions are defined in each of some environments, also behind one that is false
+unfoldable pub are_told : (Env → List (Option ValueTree)) → List Env → Bool
+are_told conditions envs = list_all (λ env. is_some (all_true (conditions env))) envs
+
+-- parts as a matrix with these indices, which are as many; it has no value where a part or the indices have none
 unfoldable pub matrix_value : (ℕ → Option (List ℤ)) → List (Option ValueTree) → Option ValueTree
 matrix_value indices parts = on_both (indices (length parts)) (all_defined parts) with_indices
 
@@ -154,27 +184,24 @@ unfoldable mutual
   evaluate mode env (binary _ op a b) =
       binary_value mode op (number_in (evaluate mode env a)) (number_in (evaluate mode env b))
   evaluate mode env (compare _ op a b) =
-      truth_in mode
-      (on_both (number_in (evaluate mode env a)) (number_in (evaluate mode env b)) (λ x y. Some (compare_holds op x y)))
+      truth_in mode (map_both (compare_holds op) (number_in (evaluate mode env a)) (number_in (evaluate mode env b)))
   evaluate mode env (lex _ op a b) =
-      truth_in mode
-      (on_both (scalars_in (evaluate mode env a)) (scalars_in (evaluate mode env b)) (λ xs ys. Some (lex_holds op xs ys)))
+      truth_in mode (map_both (lex_holds op) (scalars_in (evaluate mode env a)) (scalars_in (evaluate mode env b)))
   evaluate mode env (in_domain _ e d) =
-      truth_in mode
-      (on_both (number_in (evaluate mode env e)) (domain_values mode env d) (λ x values. Some (has_number values x)))
+      truth_in mode (map_both has_number (domain_values mode env d) (number_in (evaluate mode env e)))
   evaluate mode env (in_set _ e m) =
-      truth_in mode
-      (on_both (number_in (evaluate mode env e)) (scalars_in (evaluate mode env m)) (λ x parts. Some (has_number parts x)))
-  evaluate mode env (all_of _ parts) = truth_in mode (option_map all_one (numbers_in (values_of mode env parts)))
-  evaluate mode env (any_of _ parts) = truth_in mode (option_map any_one (numbers_in (values_of mode env parts)))
+      truth_in mode (map_both has_number (scalars_in (evaluate mode env m)) (number_in (evaluate mode env e)))
+  evaluate mode env (all_of _ parts) = truth_in mode (all_true (values_of mode env parts))
+  evaluate mode env (any_of _ parts) = truth_in mode (any_true (values_of mode env parts))
   evaluate mode env (quantified _ op names d e) =
-      over_names names
-      (λ inner. domain_values mode inner d) (λ inner. scalar_in inner d)
-      (quantified_value mode op) (λ inner. evaluate mode inner e) env
+      over_names (standing_for d (λ inner. domain_values mode inner d))
+      (quantified_value mode op) (λ inner. evaluate mode inner e) names env
   evaluate mode env (literal _ parts d) = matrix_value (index_values mode env d) (values_of mode env parts)
   evaluate mode env (comprehension _ e gens conditions d) =
-      option_and_then (matrix_value (index_values mode env d))
-      (generated mode env gens (λ inner. part_under (values_of mode inner conditions) (evaluate mode inner e)))
+      if domains_defined mode env gens && are_told (λ inner. values_of mode inner conditions) (reached mode env gens)
+      then matrix_value (index_values mode env d)
+      (map (λ inner. evaluate mode inner e) (holding (λ inner. values_of mode inner conditions) (reached mode env gens)))
+      else None
   evaluate mode env (read p m indices) =
       read_result mode (type_in env (read p m indices))
       (on_both (index_list mode env indices) (evaluate mode env m) read_value)
@@ -183,18 +210,17 @@ unfoldable mutual
   evaluate mode env (gcc _ m values counts) =
       truth_in mode
       (on_three (scalars_in (evaluate mode env m)) (scalars_in (evaluate mode env values)) (scalars_in (evaluate mode env counts))
-      (λ xs vs cs. Some (counts_hold CompareOp.Equal xs vs cs)))
+      (counts_hold CompareOp.Equal))
   evaluate mode env (at_least _ m counts values) =
       truth_in mode
-      (on_three (scalars_in (evaluate mode env m)) (scalars_in (evaluate mode env counts)) (scalars_in (evaluate mode env values))
-      (λ xs cs vs. Some (counts_hold CompareOp.AtLeast xs vs cs)))
+      (on_three (scalars_in (evaluate mode env m)) (scalars_in (evaluate mode env values)) (scalars_in (evaluate mode env counts))
+      (counts_hold CompareOp.AtLeast))
   evaluate mode env (at_most _ m counts values) =
       truth_in mode
-      (on_three (scalars_in (evaluate mode env m)) (scalars_in (evaluate mode env counts)) (scalars_in (evaluate mode env values))
-      (λ xs cs vs. Some (counts_hold CompareOp.AtMost xs vs cs)))
+      (on_three (scalars_in (evaluate mode env m)) (scalars_in (evaluate mode env values)) (scalars_in (evaluate mode env counts))
+      (counts_hold CompareOp.AtMost))
   evaluate mode env (table _ row rows) =
-      truth_in mode
-      (on_both (scalars_in (evaluate mode env row)) (rows_in (evaluate mode env rows)) (λ xs rs. Some (is_row_of rs xs)))
+      truth_in mode (on_both (rows_in (evaluate mode env rows)) (scalars_in (evaluate mode env row)) is_row_of)
 
   -- the numbers of a scalar domain in ascending order, or None where a bound has no value or a range is open
   pub domain_values : Mode → Env → DomainTree → Option (List ℤ)
@@ -204,7 +230,7 @@ unfoldable mutual
   domain_values mode env (named_domain _ name) = domain_bound (env name)
   domain_values mode env (group_domain _ d) = domain_values mode env d
   domain_values mode env (set_domain _ op c d) =
-      on_both (domain_values mode env c) (domain_values mode env d) (λ xs ys. Some (set_values op xs ys))
+      map_both (set_values op) (domain_values mode env c) (domain_values mode env d)
   domain_values mode env (matrix_domain _ ds d) = None
 
   -- the values of some expressions
@@ -223,16 +249,15 @@ unfoldable mutual
   index_list mode env no_indices = Some []
   index_list mode env (every_and indices) = option_map (λ is. any_index ∷ is) (index_list mode env indices)
   index_list mode env (index_and e indices) =
-      on_both (number_in (evaluate mode env e)) (index_list mode env indices) (λ i is. Some (at_index i ∷ is))
+      map_both (λ i is. at_index i ∷ is) (number_in (evaluate mode env e)) (index_list mode env indices)
 
   -- the numbers of ranges together
   pub range_values : Mode → Env → Ranges → Option (List ℤ)
   range_values mode env no_ranges = Some []
   range_values mode env (one_and e rs) =
-      on_both (number_in (evaluate mode env e)) (range_values mode env rs) (λ n ns. Some (put_in n ns))
+      map_both put_in (number_in (evaluate mode env e)) (range_values mode env rs)
   range_values mode env (span_and a b rs) =
-      on_three (end_value mode env a) (end_value mode env b) (range_values mode env rs)
-      (λ x y ns. Some (united (between x y) ns))
+      map_both united (map_both between (end_value mode env a) (end_value mode env b)) (range_values mode env rs)
 
   -- the number at an end of a range, which an open one doesn't have
   pub end_value : Mode → Env → End → Option ℤ
@@ -244,13 +269,28 @@ unfoldable mutual
   index_values mode env unstated count = Some (counting (pos 1) count)
   index_values mode env (over d) count = domain_values mode env d
 
-  -- the parts that generators give, one after another; none is defined where a domain isn't
-  pub generated : Mode → Env → Generators → (Env → Option (List (Option ValueTree))) → Option (List (Option ValueTree))
-  generated mode env no_generators inner = inner env
-  generated mode env (generator_and names d gens) inner =
-      over_names names
-      (λ e. domain_values mode e d) (λ e. scalar_in e d)
-      joined (λ e. generated mode e gens inner) env
+  -- The environments that generators reach, one for each list of their numbers. Later domains see earlier names; an
+  -- undefined one leads nowhere.
+  pub reached : Mode → Env → Generators → List Env
+  reached mode env no_generators = env ∷ []
+  reached mode env (generator_and names d gens) =
+      over_names (standing_for d (λ inner. domain_values mode inner d))
+      all_joined (λ inner. reached mode inner gens) names env
+
+  -- whether each domain that generators come to is defined
+  pub domains_defined : Mode → Env → Generators → Bool
+  domains_defined mode env no_generators = true
+  domains_defined mode env (generator_and names d gens) =
+      over_names (standing_for d (λ inner. domain_values mode inner d))
+      all_hold (λ inner. domains_defined mode inner gens) names env
+
+-- the environments in which a name stands for each number of a domain
+abbrev pub numbered : Mode → DomainTree → Name → Env → Option (List Env)
+numbered mode d name env = standing_for d (λ inner. domain_values mode inner d) name env
+
+-- the environments that generators reach in which conditions hold: for each of them a comprehension has a part
+abbrev pub chosen : Mode → Env → Generators → ExprTrees → List Env
+chosen mode env gens conditions = holding (λ inner. values_of mode inner conditions) (reached mode env gens)
 
 -- whether an expression is true
 abbrev pub is_true_in : Mode → Env → ExprTree → Bool

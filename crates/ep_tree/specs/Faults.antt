@@ -3,13 +3,14 @@
 --
 -- A text is well formed when it has none. That a name is declared before it is used, where decision variables may
 -- stand, and where a range may be open, is this project's own choice of what the public description leaves open.
-use Rattle.std.specs.Prelude.{◌≡◌, Bool, true, false, not, ◌&&◌, ◌||◌, List, [], ◌∷◌, ◌++◌, is_some, is_none, Some, None, Contains, Option}
+use Rattle.std.specs.Prelude.{◌≡◌, ℕ, suc, ◌+◌, Bool, true, false, not, ◌&&◌, ◌||◌, List, [], ◌∷◌, ◌++◌, is_some, is_none, nat_le, nat_lt, Some, None, Contains, filter, flat_map, Option}
 use Rattle.ep_base.specs.declared.names.Name.{Name}
 use Rattle.ep_base.specs.declared.places.Place.{Place}
 use Rattle.ep_tree.specs.Names.{nothing_known, put}
+use Rattle.ep_tree.specs.StatementSpelling.{is_letting}
 use Rattle.ep_tree.specs.Statements.{Group, StatementTree, TextTree, branching, constraints, decided, domain_letting, given, heuristic, letting, objective, requirements}
-use Rattle.ep_tree.specs.Trees.{DomainTree, Domains, End, ExprTree, ExprTrees, Generators, IndexDomain, Indices, Ranges, Terms, absolute, all_different, all_of, any_of, at_least, at_most, binary, bool, chain, compare, comprehension, domain_and, end_at, every_and, factorial, flatten, folded, gcc, generator_and, group, group_domain, in_domain, in_set, index_and, int, lex, literal, matrix_domain, minus, named, named_domain, negation, no_domains, no_end, no_generators, no_indices, no_ranges, no_terms, no_trees, number, one_and, over, quantified, ranges, read, set_domain, span_and, table, term_and, to_int, tree_and, truth, unstated}
-use Rattle.ep_tree.specs.Types.{Context, Judged, Meaning, a_domain, a_value, from_one, gives, inside, is_boolean, is_integer, is_matrix, judge, judge_domain, mistyped, quantified_name, type_from, typed, untyped}
+use Rattle.ep_tree.specs.Trees.{DomainTree, Domains, End, ExprTree, ExprTrees, Generators, IndexDomain, Indices, Ranges, Terms, absolute, all_different, all_of, any_of, at_least, at_most, binary, bool, chain, compare, comprehension, domain_and, end_at, every_and, factorial, flatten, folded, gcc, generator_and, group, group_domain, in_domain, in_set, index_and, int, lex, literal, matrix_domain, minus, named, named_domain, negation, no_domains, no_end, no_generators, no_indices, no_ranges, no_terms, no_trees, number, one_and, over, place_of, quantified, ranges, read, set_domain, span_and, table, term_and, to_int, tree_and, truth, unstated}
+use Rattle.ep_tree.specs.Types.{Context, Judged, Meaning, a_domain, a_value, from_one, gives, inside, inside_all, is_boolean, is_integer, judge, judge_domain, mistyped, reading_contexts, slice_count, type_from, typed, untyped}
 use Rattle.ep_tree.specs.declared.syntax.BinaryOp.{BinaryOp}
 use Rattle.ep_tree.specs.declared.values.ValueType.{ValueType}
 
@@ -20,37 +21,6 @@ pub data Fault : Type 0 where
   ill_typed : Place → Fault
   wrong_category : Place → Fault
   open_domain : Place → Fault
-
--- the place of an expression's first token
-unfoldable pub place_of : ExprTree → Place
-place_of (number p _) = p
-place_of (truth p _) = p
-place_of (named p _) = p
-place_of (group p _) = p
-place_of (negation p _) = p
-place_of (minus p _) = p
-place_of (absolute p _) = p
-place_of (to_int p _) = p
-place_of (factorial p _) = p
-place_of (flatten p _) = p
-place_of (chain p _) = p
-place_of (binary p _ _ _) = p
-place_of (compare p _ _ _) = p
-place_of (lex p _ _ _) = p
-place_of (in_domain p _ _) = p
-place_of (in_set p _ _) = p
-place_of (all_of p _) = p
-place_of (any_of p _) = p
-place_of (quantified p _ _ _ _) = p
-place_of (literal p _ _) = p
-place_of (comprehension p _ _ _ _) = p
-place_of (read p _ _) = p
-place_of (folded p _ _) = p
-place_of (all_different p _) = p
-place_of (gcc p _ _ _) = p
-place_of (at_least p _ _ _) = p
-place_of (at_most p _ _ _) = p
-place_of (table p _ _) = p
 
 -- a node whose parts have types that it doesn't take is ill typed
 unfoldable pub type_fault : Place → Judged → List Fault
@@ -85,17 +55,17 @@ has_open_range (span_and no_end _ _) = true
 has_open_range (span_and (end_at _) no_end _) = true
 has_open_range (span_and (end_at _) (end_at _) rs) = has_open_range rs
 
--- whether a node is a matrix by its type
-unfoldable pub is_judged_matrix : Judged → Bool
-is_judged_matrix (typed t) = is_matrix t
-is_judged_matrix mistyped = false
-is_judged_matrix untyped = false
+-- how many entries a read has, of which some may be `..`
+unfoldable pub entry_count : Indices → ℕ
+entry_count no_indices = 0
+entry_count (every_and indices) = suc (entry_count indices)
+entry_count (index_and _ indices) = suc (entry_count indices)
 
--- The domain's text is read once for each name, and each reading sees the names before: the faults of each.
-unfoldable pub reading_faults : List Name → (Context → Judged) → (Context → List Fault) → Context → List Fault
-reading_faults [] domain faults_in context = []
-reading_faults (name ∷ names) domain faults_in context =
-    faults_in context ++ reading_faults names domain faults_in (put name (quantified_name (domain context)) context)
+-- Whether a read of a node, with so many entries of which so many are `..`, would leave a matrix. Nothing else of the
+-- entries is looked at.
+unfoldable pub leaves_matrix : Judged → ℕ → ℕ → Bool
+leaves_matrix (typed (ValueType.Matrix dims _)) entries slices = nat_le entries dims && nat_lt entries (dims + slices)
+leaves_matrix _ entries slices = false
 
 -- whether an operator is `**`, whose second part has no decision variable
 unfoldable pub is_power : BinaryOp → Bool
@@ -140,18 +110,18 @@ unfoldable mutual
       type_fault p (judge context (any_of p parts)) ++ faults_of_all context decisions parts
   faults context decisions (quantified p op names d e) =
       type_fault p (judge context (quantified p op names d e))
-      ++ reading_faults names (λ c. judge_domain c d) (λ c. domain_faults c false d) context
+      ++ flat_map (λ c. domain_faults c false d) (reading_contexts names (λ c. judge_domain c d) context)
       ++ faults (inside names (λ c. judge_domain c d) context) decisions e
   faults context decisions (literal p parts d) =
       type_fault p (judge context (literal p parts d)) ++ faults_of_all context decisions parts ++ index_faults context d
   faults context decisions (comprehension p e gens conditions d) =
       type_fault p (judge context (comprehension p e gens conditions d))
-      ++ faults_of_generators context gens
-      (λ inner. faults inner decisions e ++ faults_of_all inner false conditions)
-      ++ index_faults context d
+      ++ index_faults context d ++ faults_of_generators context gens
+      ++ faults_of_all (inside_all gens context) false conditions ++ faults (inside_all gens context) decisions e
   faults context decisions (read p m indices) =
       type_fault p (judge context (read p m indices)) ++ faults context decisions m
-      ++ faults_of_indices context (decisions && not (is_judged_matrix (judge context (read p m indices)))) indices
+      ++ faults_of_indices context
+      (decisions && not (leaves_matrix (judge context m) (entry_count indices) (slice_count indices))) indices
   faults context decisions (folded p op m) =
       type_fault p (judge context (folded p op m)) ++ faults context decisions m
   faults context decisions (all_different p m) =
@@ -225,54 +195,71 @@ unfoldable mutual
   index_faults context unstated = []
   index_faults context (over d) = domain_faults context false d
 
-  -- the faults of generators, and of what stands in the context of all their names
-  pub faults_of_generators : Context → Generators → (Context → List Fault) → List Fault
-  faults_of_generators context no_generators inner = inner context
-  faults_of_generators context (generator_and names d gens) inner =
-      reading_faults names (λ c. judge_domain c d) (λ c. domain_faults c false d) context
-      ++ faults_of_generators (inside names (λ c. judge_domain c d) context) gens inner
+  -- the faults of the domains of generators, each reading in the context of the names before it
+  pub faults_of_generators : Context → Generators → List Fault
+  faults_of_generators context no_generators = []
+  faults_of_generators context (generator_and names d gens) =
+      flat_map (λ c. domain_faults c false d) (reading_contexts names (λ c. judge_domain c d) context)
+      ++ faults_of_generators (inside names (λ c. judge_domain c d) context) gens
 
--- a name that a statement declares isn't declared before
-unfoldable pub declaration_faults : Context → List (Name × Place) → List Fault
-declaration_faults context [] = []
-declaration_faults context (name ∷ names) =
+-- names that a statement declares, each with this meaning, aren't declared before
+unfoldable pub declaration_faults : Meaning → Context → List (Name × Place) → List Fault
+declaration_faults meaning context [] = []
+declaration_faults meaning context (name ∷ names) =
     unless (is_none (context name.0)) (redeclared name.1 name.0)
-    ++ declaration_faults (put name.0 (a_value None false) context) names
+    ++ declaration_faults meaning (put name.0 meaning context) names
 
 -- the context with names of this meaning
-unfoldable pub declare : List (Name × Place) → Meaning → Context → Context
-declare [] meaning context = context
-declare (name ∷ names) meaning context = declare names meaning (put name.0 meaning context)
+unfoldable pub declare : Meaning → Context → List (Name × Place) → Context
+declare meaning context [] = context
+declare meaning context (name ∷ names) = declare meaning (put name.0 meaning context) names
 
--- the faults of groups, of which each declares its names at its end
+-- what the names of a group stand for: values of its domain's type, which may be decision variables
+unfoldable pub group_meaning : Context → Bool → Group → Meaning
+group_meaning context decisions g = a_value (type_from (judge_domain context g.domain)) decisions
+
+-- the context after a group, which declares its names at its end
+unfoldable pub after_group : Context → Bool → Group → Context
+after_group context decisions g = declare (group_meaning context decisions g) context g.names
+
+-- the faults of groups, each in the context after those before it
 unfoldable pub group_faults : Context → Bool → Bool → List Group → List Fault
 group_faults context decisions may_open [] = []
 group_faults context decisions may_open (g ∷ groups) =
-    domain_faults context may_open g.domain ++ declaration_faults context g.names
-    ++ group_faults (declare g.names (a_value (type_from (judge_domain context g.domain)) decisions) context) decisions may_open groups
+    domain_faults context may_open g.domain
+    ++ declaration_faults (group_meaning context decisions g) context g.names
+    ++ group_faults (after_group context decisions g) decisions may_open groups
 
 -- the context after groups
 unfoldable pub after_groups : Context → Bool → List Group → Context
 after_groups context decisions [] = context
-after_groups context decisions (g ∷ groups) =
-    after_groups (declare g.names (a_value (type_from (judge_domain context g.domain)) decisions) context) decisions groups
+after_groups context decisions (g ∷ groups) = after_groups (after_group context decisions g) decisions groups
 
--- a clause is Boolean, and an objective integer
+-- a clause is Boolean
 unfoldable pub clause_faults : Context → Bool → List ExprTree → List Fault
 clause_faults context decisions [] = []
 clause_faults context decisions (e ∷ es) =
     type_fault (place_of e) (from_one (judge context e) (λ t. gives t (is_boolean t)))
     ++ faults context decisions e ++ clause_faults context decisions es
 
+-- an objective is integer
+unfoldable pub goal_faults : Context → ExprTree → List Fault
+goal_faults context e =
+    type_fault (place_of e) (from_one (judge context e) (λ t. gives t (is_integer t))) ++ faults context true e
+
 -- the faults of the domain that a letting states
 unfoldable pub stated_faults : Context → Option DomainTree → List Fault
 stated_faults context None = []
 stated_faults context (Some d) = domain_faults context false d
 
--- the type of a letting's name: that of its domain where it states one, else that of its expression
-unfoldable pub letting_type : Context → Option DomainTree → ExprTree → Option ValueType
-letting_type context None e = type_from (judge context e)
-letting_type context (Some d) e = type_from (judge_domain context d)
+-- what a letting's name stands for: a value of the type of its domain where it states one, else of its expression's
+unfoldable pub letting_meaning : Context → Option DomainTree → ExprTree → Meaning
+letting_meaning context None e = a_value (type_from (judge context e)) false
+letting_meaning context (Some d) e = a_value (type_from (judge_domain context d)) false
+
+-- what the name of a domain's letting stands for
+unfoldable pub domain_meaning : Context → DomainTree → Meaning
+domain_meaning context d = a_domain (type_from (judge_domain context d))
 
 -- the names of `branching on` are declared
 unfoldable pub branching_faults : Context → List (Name × Place) → List Fault
@@ -285,13 +272,13 @@ unfoldable pub statement_faults : Context → StatementTree → List Fault
 statement_faults context (given _ groups) = group_faults context false true groups
 statement_faults context (decided _ groups) = group_faults context true false groups
 statement_faults context (letting _ name at d e) =
-    stated_faults context d ++ faults context false e ++ declaration_faults context ((name, at) ∷ [])
+    stated_faults context d ++ faults context false e
+    ++ declaration_faults (letting_meaning context d e) context ((name, at) ∷ [])
 statement_faults context (domain_letting _ name at d) =
-    domain_faults context false d ++ declaration_faults context ((name, at) ∷ [])
+    domain_faults context false d ++ declaration_faults (domain_meaning context d) context ((name, at) ∷ [])
 statement_faults context (requirements _ es) = clause_faults context false es
 statement_faults context (constraints _ es) = clause_faults context true es
-statement_faults context (objective _ _ e) =
-    type_fault (place_of e) (from_one (judge context e) (λ t. gives t (is_integer t))) ++ faults context true e
+statement_faults context (objective _ _ e) = goal_faults context e
 statement_faults context (branching _ names) = branching_faults context names
 statement_faults context (heuristic _ _) = []
 
@@ -299,8 +286,8 @@ statement_faults context (heuristic _ _) = []
 unfoldable pub after_statement : Context → StatementTree → Context
 after_statement context (given _ groups) = after_groups context false groups
 after_statement context (decided _ groups) = after_groups context true groups
-after_statement context (letting _ name _ d e) = put name (a_value (letting_type context d e) false) context
-after_statement context (domain_letting _ name _ d) = put name (a_domain (type_from (judge_domain context d))) context
+after_statement context (letting _ name _ d e) = put name (letting_meaning context d e) context
+after_statement context (domain_letting _ name _ d) = put name (domain_meaning context d) context
 after_statement context _ = context
 
 -- the faults of the statements of a text after what the context declares
@@ -311,6 +298,14 @@ faults_after context (s ∷ statements) = statement_faults context s ++ faults_a
 -- the faults of a text
 unfoldable pub text_faults : TextTree → List Fault
 text_faults statements = faults_after nothing_known statements
+
+-- the lettings of a text; of a parameter or solution text nothing else counts
+abbrev pub lettings_of : TextTree → TextTree
+lettings_of statements = filter is_letting statements
+
+-- the faults of a parameter or solution text
+unfoldable pub params_faults : TextTree → List Fault
+params_faults statements = text_faults (lettings_of statements)
 
 -- a text is well formed when it has no fault
 abbrev pub IsWellFormed : TextTree → Type 0

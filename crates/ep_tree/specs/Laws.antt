@@ -2,9 +2,10 @@
 use Rattle.std.specs.Prelude.{◌≡◌, ℕ, zero, suc, Bool, ◌&&◌, List, length, ℤ, pos, negsuc, ◌+ℤ◌, ◌*ℤ◌, ◌≤ℤ◌, ◌<ℤ◌, IsTrue, int_le, Some, None, option_map}
 use Rattle.std.specs.List.{list_all}
 use Rattle.ep_base.specs.Numbers.{has_number, quotient}
+use Rattle.ep_base.specs.Runs.{IsAscending}
 use Rattle.ep_base.specs.declared.names.Name.{Name}
 use Rattle.ep_tree.specs.Binding.{elements_pass}
-use Rattle.ep_tree.specs.Domains.{IsAscending, between, set_has, set_values}
+use Rattle.ep_tree.specs.Domains.{between, set_has, set_values}
 use Rattle.ep_tree.specs.Environments.{Bound, Env, HasAscendingDomain, context_of}
 use Rattle.ep_tree.specs.Evaluation.{domain_values, evaluate}
 use Rattle.ep_tree.specs.Names.{put}
@@ -105,7 +106,7 @@ FitIsOfDimensions =
     → (indices : List (List ℤ)) (v fit : ValueTree) → fitted own wanted passes indices v ≡ Some fit
     → IsOfDims wanted (length indices) fit
 
--- of each list of tokens at most one number is that up to which all goes well
+-- of each list of tokens at most one is the first with which nothing goes on
 abbrev pub StopsOnce : (List Lexeme → Type 0) → Type 0
 StopsOnce begins = (tokens : List Lexeme) (m n : ℕ) → Stops begins tokens m → Stops begins tokens n → m ≡ n
 

@@ -6,6 +6,7 @@ pub mod Spelling
 pub mod Statements
 pub mod StatementSpelling
 pub mod Reading
+pub mod Texts
 pub mod Types
 pub mod Faults
 pub mod Values
@@ -14,6 +15,8 @@ pub mod Environments
 pub mod Evaluation
 pub mod Reach
 pub mod Measures
+pub mod Agreement
+pub mod Limits
 pub mod Binding
 pub mod Solutions
 pub mod Views

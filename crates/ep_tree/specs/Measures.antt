@@ -2,36 +2,33 @@
 -- are written out.
 --
 -- All of these measures are this project's own.
-use Rattle.std.specs.Prelude.{ℕ, ◌+◌, ◌*◌, Bool, true, false, List, [], ◌∷◌, ◌++◌, map, length, ℤ, pos, if◌then◌else◌, fold, sum_by, flat_map, Option, unwrap_or, option_map}
+use Rattle.std.specs.Prelude.{ℕ, ◌+◌, ◌*◌, List, [], ◌∷◌, ◌++◌, map, length, ℤ, pos, if◌then◌else◌, filter, fold, sum_by, flat_map, Option, unwrap_or}
 use Rattle.std.specs.Int.{int_max}
-use Rattle.ep_base.specs.Numbers.{absolute_of, all_one}
+use Rattle.std.specs.List.{list_any}
+use Rattle.ep_base.specs.Intervals.{Interval, farthest_end, greatest_interval, least_interval, only, product_interval, sum_cost, sum_interval, width}
+use Rattle.ep_base.specs.Numbers.{absolute_of}
 use Rattle.ep_base.specs.declared.names.Name.{Name}
-use Rattle.ep_base.specs.declared.places.Place.{Place}
-use Rattle.ep_tree.specs.Environments.{Env, scalar_in, with_number}
-use Rattle.ep_tree.specs.Evaluation.{domain_values, numbers_in, values_of}
-use Rattle.ep_tree.specs.Reach.{Extent, MeasuredIndex, Span, decided_index, extent, extents_of, farthest_end, fixed_index, greatest_reach, grid, holds_decision, least_reach, listed_extents, measured_list, one_span, parts_left, product_reach, span_of, spans_of, term_spans, whole_index, wide_span, width}
+use Rattle.ep_tree.specs.Environments.{Env}
+use Rattle.ep_tree.specs.Evaluation.{chosen, numbered, reached}
+use Rattle.ep_tree.specs.Reach.{Extent, MeasuredIndex, Span, decided_index, decisions_in, extent, extents_of, fixed_index, holds_decision, instance_span, is_decided_index, measured_list, parts_left, reaches, span_of, term_spans, whole_index}
 use Rattle.ep_tree.specs.Trees.{DomainTree, Domains, End, ExprTree, ExprTrees, Generators, IndexDomain, Indices, Ranges, Terms, absolute, all_different, all_of, any_of, at_least, at_most, binary, bool, chain, compare, comprehension, domain_and, end_at, every_and, factorial, flatten, folded, gcc, generator_and, group, group_domain, in_domain, in_set, index_and, int, lex, literal, matrix_domain, minus, named, named_domain, negation, no_domains, no_end, no_generators, no_indices, no_ranges, no_terms, no_trees, number, one_and, over, quantified, ranges, read, set_domain, span_and, table, term_and, to_int, tree_and, truth, unstated}
 use Rattle.ep_tree.specs.declared.syntax.BinaryOp.{BinaryOp}
 use Rattle.ep_tree.specs.declared.syntax.FoldOp.{FoldOp}
 use Rattle.ep_tree.specs.declared.syntax.QuantOp.{QuantOp}
+use Rattle.ep_tree.specs.Values.{matrix, rows_of, scalars_of, single}
 use Rattle.ep_tree.specs.declared.values.Mode.{Mode}
-use Rattle.ep_tree.specs.declared.values.Scalar.{Scalar}
 
 -- what is met: a node in one of its environments, or a name of a generator
 pub data Met : Type 0 where
   a_node : Env → ExprTree → Met
   a_generator : Met
 
--- what names of a quantifier meet: each in turn is a quantifier over what follows, which meets its domain once and what
--- follows once for each value; an undefined domain has none
-unfoldable pub met_names : List Name → (List Name → Env → Met) → (Env → List Met) → (Env → Option (List ℤ)) → (Env → Scalar) → (Env → List Met) → Env → List Met
-met_names [] node bounds domain scalar inner env = inner env
-met_names (name ∷ names) node bounds domain scalar inner env =
-    node (name ∷ names) env
-    ∷ bounds env
-    ++ flat_map
-    (λ n. met_names names node bounds domain scalar inner (with_number name (scalar env) n env))
-    (unwrap_or (domain env) [])
+-- What some names over one domain meet: each in turn what stands there with the names that are left, and then, for each
+-- number of the domain, what follows; an undefined domain has none.
+unfoldable pub met_names : (List Name → Env → List Met) → (Name → Env → Option (List Env)) → (Env → List Met) → List Name → Env → List Met
+met_names here numbered inner [] env = inner env
+met_names here numbered inner (name ∷ names) env =
+    here (name ∷ names) env ++ flat_map (met_names here numbered inner names) (unwrap_or (numbered name env) [])
 
 unfoldable mutual
   -- the nodes that an expression meets: itself, and what its parts meet
@@ -55,17 +52,15 @@ unfoldable mutual
   met mode env (all_of p parts) = a_node env (all_of p parts) ∷ met_all mode env parts
   met mode env (any_of p parts) = a_node env (any_of p parts) ∷ met_all mode env parts
   met mode env (quantified p op names d e) =
-      met_names names
-      (λ left inner. a_node inner (quantified p op left d e))
-      (λ inner. met_domain mode inner d) (λ inner. domain_values mode inner d) (λ inner. scalar_in inner d)
-      (λ inner. met mode inner e) env
+      met_names
+      (λ left inner. a_node inner (quantified p op left d e) ∷ met_domain mode inner d)
+      (numbered mode d) (λ inner. met mode inner e) names env
   met mode env (literal p parts d) = a_node env (literal p parts d) ∷ met_all mode env parts ++ met_index mode env d
   met mode env (comprehension p e gens conditions d) =
       a_node env (comprehension p e gens conditions d)
       ∷ met_generators mode env gens
-      (λ inner. met_all mode inner conditions
-      ++ (if unwrap_or (option_map all_one (numbers_in (values_of mode inner conditions))) false
-      then met mode inner e else []))
+      ++ flat_map (λ inner. met_all mode inner conditions) (reached mode env gens)
+      ++ flat_map (λ inner. met mode inner e) (chosen mode env gens conditions)
       ++ met_index mode env d
   met mode env (read p m indices) = a_node env (read p m indices) ∷ met mode env m ++ met_indices mode env indices
   met mode env (folded p op m) = a_node env (folded p op m) ∷ met mode env m
@@ -125,14 +120,14 @@ unfoldable mutual
   met_index mode env unstated = []
   met_index mode env (over d) = met_domain mode env d
 
-  -- what generators meet: each name its domain once, and what follows once for each value
-  pub met_generators : Mode → Env → Generators → (Env → List Met) → List Met
-  met_generators mode env no_generators inner = inner env
-  met_generators mode env (generator_and names d gens) inner =
-      met_names names
-      (λ left e. a_generator)
-      (λ e. met_domain mode e d) (λ e. domain_values mode e d) (λ e. scalar_in e d)
-      (λ e. met_generators mode e gens inner) env
+  -- what the names of generators meet: each is one itself, and meets its domain, once for each list of numbers of the
+  -- names before it
+  pub met_generators : Mode → Env → Generators → List Met
+  met_generators mode env no_generators = []
+  met_generators mode env (generator_and names d gens) =
+      met_names
+      (λ left inner. a_generator ∷ met_domain mode inner d)
+      (numbered mode d) (λ inner. met_generators mode inner gens) names env
 
 -- the size of what is met: the nodes, each once in each of its environments, and the names of generators
 abbrev pub size_of : List Met → ℕ
@@ -142,49 +137,64 @@ size_of ms = length ms
 unfoldable pub farthest_of : List ℤ → ℤ
 farthest_of xs = fold int_max (pos 0) (map absolute_of xs)
 
--- the products of the first parts of a `product`, for each number of them
-unfoldable pub first_products : Span → List Span → List Span
+-- the reach of the product of the first parts, for each number of them
+unfoldable pub first_products : Interval → List Interval → List Interval
 first_products before [] = []
-first_products before (s ∷ spans) =
-    let whole : Span = product_reach before s in whole ∷ first_products whole spans
+first_products before (i ∷ is) =
+    let whole : Interval = product_interval before i in whole ∷ first_products whole is
 
--- the reaches at a node: its own, or those of its parts, and at a `product` those of its first parts together
-unfoldable pub reaches_at : Mode → Met → List Span
+-- the reach of what is a number; a matrix has none of its own
+unfoldable pub number_reach : Extent → List Interval
+number_reach (single s) = s.reach ∷ []
+number_reach (matrix indices parts) = []
+
+-- the reaches at a node: its own, where it is a number, and at a `product` those of its first parts together
+unfoldable pub reaches_at : Mode → Met → List Interval
 reaches_at mode a_generator = []
 reaches_at mode (a_node env (folded p FoldOp.Product m)) =
-    spans_of (extent mode env (folded p FoldOp.Product m)) ++ first_products (wide_span (pos 1) (pos 1)) (spans_of (extent mode env m))
-reaches_at mode (a_node env e) = spans_of (extent mode env e)
+    number_reach (extent mode env (folded p FoldOp.Product m))
+    ++ first_products (only (pos 1)) (reaches (scalars_of (extent mode env m)))
+reaches_at mode (a_node env e) = number_reach (extent mode env e)
 
 -- the greatest absolute value of what some nodes reach; without decision variables, that is of their values
 unfoldable pub farthest_reach : Mode → List Met → ℤ
 farthest_reach mode ms = farthest_of (map farthest_end (flat_map (reaches_at mode) ms))
 
 -- the weight of folding parts one after another: the width of the parts before, folded, times the spread of the next
-unfoldable pub folding_weight : (Span → Span → Span) → Span → List Span → ℕ
+unfoldable pub folding_weight : (Interval → Interval → Interval) → Interval → List Span → ℕ
 folding_weight step before [] = 0
-folding_weight step before (s ∷ spans) = width before * s.spread + folding_weight step (step before s) spans
+folding_weight step before (s ∷ spans) = width before * s.spread + folding_weight step (step before s.reach) spans
 
 -- the same from the first part on
-unfoldable pub fold_weight : (Span → Span → Span) → List Span → ℕ
+unfoldable pub fold_weight : (Interval → Interval → Interval) → List Span → ℕ
 fold_weight step [] = 0
-fold_weight step (s ∷ spans) = folding_weight step s spans
+fold_weight step (s ∷ spans) = folding_weight step s.reach spans
 
 -- the widths of some parts, added
 abbrev pub widths : List Span → ℕ
-widths spans = sum_by width spans
+widths spans = sum_by (λ s. width s.reach) spans
 
--- the spreads of the parts that hold a decision variable, added
-abbrev pub decided_spreads : List Span → ℕ
-decided_spreads spans = sum_by (λ s. if s.decided then s.spread else 0) spans
+-- the parts that hold a decision variable
+abbrev pub decided_parts : List Span → List Span
+decided_parts spans = filter (λ s. s.decided) spans
+
+-- the weight of a sum: what it costs by its width, and by the spreads and the number of the parts that hold a decision
+-- variable
+unfoldable pub sum_weight : List Span → ℕ
+sum_weight parts =
+    sum_cost
+    (width (sum_interval (reaches parts)))
+    (sum_by (λ s. s.spread) (decided_parts parts))
+    (length (decided_parts parts))
 
 -- the weight of a matrix folded into a number
-unfoldable pub folded_weight : FoldOp → Span → List Span → ℕ
-folded_weight FoldOp.Sum whole spans = width whole * decided_spreads spans
-folded_weight FoldOp.Product whole spans = fold_weight product_reach spans
-folded_weight FoldOp.And whole spans = length spans + 1
-folded_weight FoldOp.Or whole spans = length spans + 1
-folded_weight FoldOp.Min whole spans = fold_weight (λ s t. least_reach (s ∷ t ∷ [])) spans
-folded_weight FoldOp.Max whole spans = fold_weight (λ s t. greatest_reach (s ∷ t ∷ [])) spans
+unfoldable pub folded_weight : FoldOp → List Span → ℕ
+folded_weight FoldOp.Sum spans = sum_weight spans
+folded_weight FoldOp.Product spans = fold_weight product_interval spans
+folded_weight FoldOp.And spans = length spans + 1
+folded_weight FoldOp.Or spans = length spans + 1
+folded_weight FoldOp.Min spans = fold_weight (λ i j. least_interval (i ∷ j ∷ [])) spans
+folded_weight FoldOp.Max spans = fold_weight (λ i j. greatest_interval (i ∷ j ∷ [])) spans
 
 -- the weight of two parts with an operator between them
 unfoldable pub binary_weight : BinaryOp → Span → Span → ℕ
@@ -194,43 +204,25 @@ binary_weight BinaryOp.Iff s t = 3
 binary_weight _ s t = s.spread * t.spread
 
 -- the weight of a quantifier by its instances
-unfoldable pub quantified_weight : QuantOp → Span → List Span → ℕ
-quantified_weight QuantOp.ForAll whole instances = length instances + 1
-quantified_weight QuantOp.Exists whole instances = length instances + 1
-quantified_weight QuantOp.Sum whole instances = width whole * decided_spreads instances
+unfoldable pub quantified_weight : QuantOp → List Span → ℕ
+quantified_weight QuantOp.ForAll instances = length instances + 1
+quantified_weight QuantOp.Exists instances = length instances + 1
+quantified_weight QuantOp.Sum instances = sum_weight instances
 
 -- the weight of a `gcc`, `atleast` or `atmost`
 unfoldable pub counting_weight : List Span → List Span → List Span → ℕ
 counting_weight xs values counts = length values * (length xs * (length xs + 1)) + (widths xs + widths counts)
 
--- a read has weight where an index has a decision variable
-unfoldable pub has_decided_index : List MeasuredIndex → Bool
-has_decided_index [] = false
-has_decided_index (decided_index s ∷ is) = true
-has_decided_index (_ ∷ is) = has_decided_index is
-
 -- the width of an index: 1 where it has no decision variable
 unfoldable pub index_width : MeasuredIndex → ℕ
-index_width (decided_index s) = width s
+index_width (decided_index s) = width s.reach
 index_width (fixed_index n) = 1
 index_width whole_index = 0
 
--- what a quantifier's first name leaves of it
-unfoldable pub after_first : Place → QuantOp → List Name → DomainTree → ExprTree → ExprTree
-after_first p op [] d e = e
-after_first p op (name ∷ []) d e = e
-after_first p op (name ∷ other ∷ names) d e = quantified p op (other ∷ names) d e
-
--- the instances of a quantifier's first name
-unfoldable pub instances_of : Mode → Env → List Name → DomainTree → ExprTree → List Span
-instances_of mode env [] d e = []
-instances_of mode env (name ∷ names) d e =
-    map (λ n. span_of (extent mode (with_number name (scalar_in env d) n env) e)) (unwrap_or (domain_values mode env d) [])
-
--- the rows of a matrix
-unfoldable pub listed_parts : Extent → List Extent
-listed_parts (one_span s) = []
-listed_parts (grid indices parts) = listed_extents parts
+-- the weight of a read, by its own reach and the parts that are left: it has one where an index has a decision variable
+unfoldable pub read_weight : List MeasuredIndex → Span → List Span → ℕ
+read_weight is whole left =
+    if list_any is_decided_index is then length left * (width whole.reach + sum_by index_width is) else 0
 
 -- The weight of a node that holds a decision variable. toInt, brackets, lists, comprehensions, `flatten`, names, and reads
 -- whose indices have no decision variable weigh nothing.
@@ -238,46 +230,42 @@ unfoldable pub decided_weight : Mode → Env → ExprTree → ℕ
 decided_weight mode env (negation _ e) = 2
 decided_weight mode env (minus _ e) = (span_of (extent mode env e)).spread
 decided_weight mode env (absolute _ e) = (span_of (extent mode env e)).spread
-decided_weight mode env (chain p terms) =
-    width (span_of (extent mode env (chain p terms))) * decided_spreads (term_spans mode env terms)
+decided_weight mode env (chain p terms) = sum_weight (term_spans mode env terms)
 decided_weight mode env (binary _ op a b) = binary_weight op (span_of (extent mode env a)) (span_of (extent mode env b))
-decided_weight mode env (compare _ op a b) = width (span_of (extent mode env a)) + width (span_of (extent mode env b))
-decided_weight mode env (lex _ op a b) = widths (spans_of (extent mode env a)) + widths (spans_of (extent mode env b))
-decided_weight mode env (in_domain _ e d) = width (span_of (extent mode env e))
+decided_weight mode env (compare _ op a b) = widths (span_of (extent mode env a) ∷ span_of (extent mode env b) ∷ [])
+decided_weight mode env (lex _ op a b) = widths (scalars_of (extent mode env a)) + widths (scalars_of (extent mode env b))
+decided_weight mode env (in_domain _ e d) = widths (span_of (extent mode env e) ∷ [])
 decided_weight mode env (in_set _ e m) =
-    let parts : List Span = spans_of (extent mode env m) in
-    length parts * width (span_of (extent mode env e)) + widths parts
+    let parts : List Span = scalars_of (extent mode env m) in
+    length parts * width (span_of (extent mode env e)).reach + widths parts
 decided_weight mode env (all_of _ parts) = length (extents_of mode env parts) + 1
 decided_weight mode env (any_of _ parts) = length (extents_of mode env parts) + 1
-decided_weight mode env (quantified p op names d e) =
-    quantified_weight op
-    (span_of (extent mode env (quantified p op names d e)))
-    (instances_of mode env names d (after_first p op names d e))
+decided_weight mode env (quantified _ op (name ∷ names) d e) =
+    quantified_weight op (map (instance_span mode op d e names) (unwrap_or (numbered mode d name env) []))
 decided_weight mode env (read p m indices) =
     let is : List MeasuredIndex = measured_list mode env indices in
-    if has_decided_index is
-    then length (flat_map spans_of (parts_left is (extent mode env m)))
-    * (width (span_of (extent mode env (read p m indices))) + sum_by index_width is)
-    else 0
-decided_weight mode env (folded p op m) =
-    folded_weight op (span_of (extent mode env (folded p op m))) (spans_of (extent mode env m))
+    read_weight is (span_of (extent mode env (read p m indices))) (flat_map scalars_of (parts_left is (extent mode env m)))
+decided_weight mode env (folded _ op m) = folded_weight op (scalars_of (extent mode env m))
 decided_weight mode env (all_different _ m) =
-    let parts : List Span = spans_of (extent mode env m) in length parts * widths parts
+    let parts : List Span = scalars_of (extent mode env m) in length parts * widths parts
 decided_weight mode env (gcc _ m values counts) =
-    counting_weight (spans_of (extent mode env m)) (spans_of (extent mode env values)) (spans_of (extent mode env counts))
+    counting_weight
+    (scalars_of (extent mode env m)) (scalars_of (extent mode env values)) (scalars_of (extent mode env counts))
 decided_weight mode env (at_least _ m counts values) =
-    counting_weight (spans_of (extent mode env m)) (spans_of (extent mode env values)) (spans_of (extent mode env counts))
+    counting_weight
+    (scalars_of (extent mode env m)) (scalars_of (extent mode env values)) (scalars_of (extent mode env counts))
 decided_weight mode env (at_most _ m counts values) =
-    counting_weight (spans_of (extent mode env m)) (spans_of (extent mode env values)) (spans_of (extent mode env counts))
+    counting_weight
+    (scalars_of (extent mode env m)) (scalars_of (extent mode env values)) (scalars_of (extent mode env counts))
 decided_weight mode env (table _ row rows) =
-    let parts : List Span = spans_of (extent mode env row) in
-    length (listed_parts (extent mode env rows)) * length parts + widths parts
+    let parts : List Span = scalars_of (extent mode env row) in
+    length (rows_of (extent mode env rows)) * length parts + widths parts
 decided_weight mode env _ = 0
 
 -- the weight of what is met
 unfoldable pub weight_at : Mode → Met → ℕ
 weight_at mode a_generator = 0
-weight_at mode (a_node env e) = if holds_decision env e then decided_weight mode env e else 0
+weight_at mode (a_node env e) = if holds_decision (decisions_in env) e then decided_weight mode env e else 0
 
 -- the weight of some nodes
 unfoldable pub weight_of : Mode → List Met → ℕ

@@ -2,7 +2,7 @@
 --
 -- A phrase is a condition on a whole list of tokens. Phrases that stand one after another cut the list; nothing here
 -- looks ahead or keeps a state.
-use Rattle.std.specs.Prelude.{◌≡◌, ℕ, Bool, true, false, ◌⊎◌, List, [], ◌∷◌, ◌++◌, ℤ, IsTrue, codes}
+use Rattle.std.specs.Prelude.{◌≡◌, ℕ, Bool, true, false, ◌⊎◌, List, [], ◌∷◌, ◌++◌, map, ℤ, IsTrue, codes}
 use Rattle.ep_base.specs.Tokens.{token_text}
 use Rattle.ep_base.specs.declared.names.Name.{Name}
 use Rattle.ep_base.specs.declared.places.Place.{Place}
@@ -28,11 +28,13 @@ saying_of word (TokenKind.Number n) = a_number n
 saying_of word TokenKind.Word = a_word word
 saying_of word TokenKind.Symbol = a_word word
 
--- the tokens of a text, each with what it says
+-- a token of a text, with its place and what it says
+abbrev pub lexeme_of : List ℕ → Token → Lexeme
+lexeme_of text token = record { place = token.place; saying = saying_of (token_text text token) token.kind }
+
+-- the tokens of a text, each with its place and what it says
 unfoldable pub lexemes_of : List ℕ → List Token → List Lexeme
-lexemes_of text [] = []
-lexemes_of text (token ∷ tokens) =
-    record { place = token.place; saying = saying_of (token_text text token) token.kind } ∷ lexemes_of text tokens
+lexemes_of text tokens = map (lexeme_of text) tokens
 
 -- a condition on a list of tokens
 abbrev pub Phrase : Type 1
@@ -74,10 +76,14 @@ abbrev pub Choice : Bool → Phrase → Phrase → Phrase
 Choice true yes_phrase no_phrase = yes_phrase
 Choice false yes_phrase no_phrase = no_phrase
 
+-- there is a first token, and it stands at a place
+abbrev pub StartsAt : Place → Phrase
+StartsAt place [] = ⊥
+StartsAt place (token ∷ tokens) = token.place ≡ place
+
 -- a phrase whose first token stands at a place
 abbrev pub From : Place → Phrase → Phrase
-From place phrase [] = ⊥
-From place phrase (token ∷ tokens) = (token.place ≡ place) × phrase (token ∷ tokens)
+From place phrase tokens = StartsAt place tokens × phrase tokens
 
 -- names with commas between them, at least one
 unfoldable pub Names : List Name → Phrase

@@ -3,15 +3,13 @@
 -- All of this is this project's own choice.
 use Rattle.std.specs.Prelude.{Bool, not, List, [], ◌∷◌, ◌++◌, is_some, if◌then◌else◌, Ok, bytes_eq, filter, Option, Result, option_map, option_to_list, option_and_then}
 use Rattle.std.specs.List.{list_any}
-use Rattle.ep_base.specs.Numbers.{has_number}
 use Rattle.ep_base.specs.declared.names.Name.{Name}
 use Rattle.ep_tree.specs.Binding.{Find, Instance, Refusal, and_next, bind_params, parameter, solution_text}
 use Rattle.ep_tree.specs.Environments.{Env}
+use Rattle.ep_tree.specs.Faults.{lettings_of}
 use Rattle.ep_tree.specs.Names.{nothing_known}
-use Rattle.ep_tree.specs.Solutions.{Assigned, NamedValue, find_type}
+use Rattle.ep_tree.specs.Solutions.{Assigned, NamedValue, find_type, fitted_find}
 use Rattle.ep_tree.specs.Statements.{TextTree, domain_letting, letting}
-use Rattle.ep_tree.specs.Types.{scalar_of}
-use Rattle.ep_tree.specs.Values.{fitted}
 use Rattle.ep_tree.specs.declared.values.Mode.{Mode}
 
 -- an assignment that fits, or the names of which one may be named where it doesn't
@@ -33,7 +31,7 @@ fitting_letting known f =
     (λ entry.
     option_map
     (λ v. record { name = f.name; ty = find_type f; value = v })
-    (fitted (scalar_of entry.0) f.scalar (has_number f.values) f.indices entry.1))
+    (fitted_find f (record { name = f.name; ty = entry.0; value = entry.1 })))
     (parameter (known f.name))
 
 -- the decision variables without a letting that fits; a domain's letting is none
@@ -69,4 +67,4 @@ shaped_by fs known text =
 -- and nothing else; what refuses one of them is named, and else an assignment, or a wrong shape.
 unfoldable pub read_solution : Mode → Instance → TextTree → Result Shaped (List Refusal)
 read_solution mode i text =
-    and_next (bind_params mode solution_text nothing_known text) (λ known. Ok (shaped_by i.finds known text))
+    and_next (bind_params mode solution_text nothing_known (lettings_of text)) (λ known. Ok (shaped_by i.finds known text))

@@ -2,14 +2,15 @@
 --
 -- The meaning of a solution is that of the language's public description; that an assignment under which the objective
 -- has no value is no solution is this project's own choice.
-use Rattle.std.specs.Prelude.{◌≡◌, ℕ, ◌+◌, ◌*◌, Bool, ◌||◌, List, [], ◌∷◌, ◌++◌, map, length, ℤ, is_some, is_none, if◌then◌else◌, IsTrue, nat_lt, int_lt, Some, None, bytes_eq, sum_by, Option, option_map, option_to_list, option_and_then, IsPermutation}
+use Rattle.std.specs.Prelude.{◌≡◌, ℕ, ◌+◌, ◌*◌, Bool, true, false, ◌||◌, List, [], ◌∷◌, ◌++◌, map, length, ℤ, is_some, is_none, if◌then◌else◌, IsTrue, nat_lt, int_lt, Some, None, bytes_eq, sum_by, Option, option_map, option_to_list, option_and_then, IsPermutation}
 use Rattle.ep_base.specs.Numbers.{has_number}
 use Rattle.ep_base.specs.declared.names.Name.{Name}
 use Rattle.ep_base.specs.declared.operators.Limit.{Limit}
 use Rattle.ep_base.specs.declared.operators.Sense.{Sense}
-use Rattle.ep_tree.specs.Binding.{Find, Instance, MOST_WEIGHT, Refusal, limits_passed, met_in, over_limit}
+use Rattle.ep_tree.specs.Binding.{Find, Instance, Refusal, met_in, over_limit}
 use Rattle.ep_tree.specs.Environments.{Bound, Env, has_cells, has_value, shape_type}
 use Rattle.ep_tree.specs.Evaluation.{evaluate, first_untrue, number_in, on_both}
+use Rattle.ep_tree.specs.Limits.{MOST_REACH, MOST_SIZE, MOST_WEIGHT}
 use Rattle.ep_tree.specs.Measures.{Met, farthest_reach, size_of, weight_of}
 use Rattle.ep_tree.specs.Names.{put_all}
 use Rattle.ep_tree.specs.Trees.{ExprTree}
@@ -82,6 +83,24 @@ pub record IsSolution (mode : Mode) (i : Instance) (a : Assigned) : Type 0 where
   pub holds : violated mode i found ≡ None
   pub measured : IsTrue (has_goal_value mode i found)
 
+-- what judging an assignment says: a solution, with its objective's number where one is stated; the least number of a
+-- clause that it violates; or that the objective has no value
+pub data Judgement : Type 0 where
+  a_solution : Option ℤ → Judgement
+  violates : ℕ → Judgement
+  goal_undefined : Judgement
+
+-- a judgement by the least clause violated, by whether the objective has a value where one is stated, and by its value
+unfoldable pub judged_by : Option ℕ → Bool → Option ℤ → Judgement
+judged_by (Some n) measured goal = violates n
+judged_by None false goal = goal_undefined
+judged_by None true goal = a_solution goal
+
+-- the judgement of an assignment that fits; a clause that is violated comes before an objective without a value
+unfoldable pub judgement : Mode → Instance → Found → Judgement
+judgement mode i found =
+    judged_by (violated mode i found) (has_goal_value mode i found) (goal_value mode i found)
+
 -- whether one number of an objective is better than another
 unfoldable pub better_number : Sense → ℤ → ℤ → Bool
 better_number Sense.Minimising x y = int_lt x y
@@ -135,6 +154,12 @@ instance_weight mode i =
 -- the greatest absolute value that a node of an instance reaches
 unfoldable pub instance_reach : Mode → Instance → ℤ
 instance_reach mode i = farthest_reach mode (met_instance mode i)
+
+-- the limits of size and of reach that so many cells and some nodes pass, of which either may be named
+unfoldable pub limits_passed : Mode → ℕ → List Met → List Refusal
+limits_passed mode cells ms =
+    (if nat_lt MOST_SIZE (cells + size_of ms) then over_limit Limit.Size ∷ [] else [])
+    ++ (if int_lt MOST_REACH (farthest_reach mode ms) then over_limit Limit.Reach ∷ [] else [])
 
 -- the limit of weight, which is named only where no other is passed
 unfoldable pub or_weight : List Refusal → ℕ → List Refusal

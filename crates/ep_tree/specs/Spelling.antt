@@ -1,17 +1,17 @@
 -- Which lists of tokens spell which expression or domain: the grammar, with one case for each of its rules.
 --
 -- Operators bind, tightest first: the indices of a read; unary `!` and `-`, and quantifiers; `**`; `*`, `/` and `%`;
--- `+` and `-`; comparisons, lexicographic ones too, and `in`; `/\`; `\/`; `->` and `<->`. Chains of `+` and `-`, of `/\` and of `\/` are one
--- node with many parts, all other chains nest to the left, and comparisons make no chain. The body of a quantifier
--- reaches as far right as it can. The forms are those of the language's public description, without those that are
--- left out here; the whole order, and that `**` and `->` nest to the left, is this project's own choice.
+-- `+` and `-`; comparisons, lexicographic ones too, and `in`; `/\`; `\/`; `->` and `<->`. Chains of `+` and `-`, of
+-- `/\` and of `\/` are one node with many parts, all other chains nest to the left, and comparisons make no chain.
+-- The body of a quantifier reaches as far right as it can. The forms are those of the language's public description,
+-- without those that are left out here; the whole order, and that `**` and `->` nest to the left, is this project's
+-- own choice.
 use Rattle.std.specs.Prelude.{ℕ, Bool, true, false, not, ◌&&◌, if◌then◌else◌, nat_le}
 use Rattle.ep_base.specs.declared.operators.CompareOp.{CompareOp}
 use Rattle.ep_base.specs.declared.operators.LexOp.{LexOp}
-use Rattle.ep_base.specs.declared.places.Place.{Place}
 use Prim.Native.String.{String}
 use Rattle.ep_tree.specs.Phrases.{Choice, From, Is, Names, Nothing, Phrase, Says, Silence, When, a_name, a_number, ◌followed_by◌, ◌or_else◌}
-use Rattle.ep_tree.specs.Trees.{DomainTree, Domains, End, ExprTree, ExprTrees, Generators, IndexDomain, Indices, Ranges, Terms, absolute, all_different, all_of, any_of, at_least, at_most, binary, bool, chain, compare, comprehension, domain_and, end_at, every_and, factorial, flatten, folded, gcc, generator_and, group, group_domain, in_domain, in_set, index_and, int, lex, literal, matrix_domain, minus, named, named_domain, negation, no_domains, no_end, no_generators, no_indices, no_ranges, no_terms, no_trees, number, one_and, over, quantified, ranges, read, set_domain, span_and, table, term_and, to_int, tree_and, truth, unstated}
+use Rattle.ep_tree.specs.Trees.{DomainTree, Domains, End, ExprTree, ExprTrees, Generators, IndexDomain, Indices, Ranges, Terms, absolute, all_different, all_of, any_of, at_least, at_most, binary, bool, chain, compare, comprehension, domain_and, end_at, every_and, factorial, flatten, folded, gcc, generator_and, group, group_domain, in_domain, in_set, index_and, int, lex, literal, matrix_domain, minus, named, named_domain, negation, no_domains, no_end, no_generators, no_indices, no_ranges, no_terms, no_trees, number, one_and, over, place_of, place_of_domain, quantified, ranges, read, set_domain, span_and, table, term_and, to_int, tree_and, truth, unstated}
 use Rattle.ep_tree.specs.declared.syntax.BinaryOp.{BinaryOp}
 use Rattle.ep_tree.specs.declared.syntax.FoldOp.{FoldOp}
 use Rattle.ep_tree.specs.declared.syntax.QuantOp.{QuantOp}
@@ -43,9 +43,55 @@ rank unaries = 7
 rank reads = 8
 rank primaries = 9
 
--- a node of one level, standing where a level is asked for that it meets, with its first token at its place
-abbrev pub Node : Level → Level → Place → Phrase → Phrase
-Node asked own place phrase = When (nat_le (rank asked) (rank own)) (From place phrase)
+-- the next tighter level
+unfoldable pub tighter : Level → Level
+tighter implications = disjunctions
+tighter disjunctions = conjunctions
+tighter conjunctions = comparisons
+tighter comparisons = sums
+tighter sums = products
+tighter products = powers
+tighter powers = unaries
+tighter unaries = reads
+tighter reads = primaries
+tighter primaries = primaries
+
+-- the level of two parts with an operator, or of two parts in brackets behind a function's name
+unfoldable pub binary_level : BinaryOp → Level
+binary_level BinaryOp.Mul = products
+binary_level BinaryOp.Div = products
+binary_level BinaryOp.Mod = products
+binary_level BinaryOp.Pow = powers
+binary_level BinaryOp.Min = primaries
+binary_level BinaryOp.Max = primaries
+binary_level BinaryOp.Implies = implications
+binary_level BinaryOp.Iff = implications
+
+-- whether two parts stand in brackets behind a function's name
+unfoldable pub is_called : BinaryOp → Bool
+is_called BinaryOp.Min = true
+is_called BinaryOp.Max = true
+is_called _ = false
+
+-- the level of an expression, which is that of its outermost form
+unfoldable pub own_level : ExprTree → Level
+own_level (negation _ _) = unaries
+own_level (minus _ _) = unaries
+own_level (chain _ _) = sums
+own_level (binary _ op _ _) = binary_level op
+own_level (compare _ _ _ _) = comparisons
+own_level (lex _ _ _ _) = comparisons
+own_level (in_domain _ _ _) = comparisons
+own_level (in_set _ _ _) = comparisons
+own_level (all_of _ _) = conjunctions
+own_level (any_of _ _) = disjunctions
+own_level (quantified _ _ _ _ _) = unaries
+own_level (read _ _ _) = reads
+own_level _ = primaries
+
+-- An expression stands where a level is asked for: its own level is as tight, and its first token stands at its place.
+abbrev pub At : Level → ExprTree → Phrase → Phrase
+At asked e phrase = When (nat_le (rank asked) (rank (own_level e))) (From (place_of e) phrase)
 
 -- where a domain stands: where a matrix domain may, where set operations may, or where neither may
 pub data DomainLevel : Type 0 where
@@ -59,9 +105,24 @@ domain_rank domains = 0
 domain_rank set_operations = 1
 domain_rank set_parts = 2
 
--- a domain of one level, standing where a level is asked for that it meets, with its first token at its place
-abbrev pub DomainNode : DomainLevel → DomainLevel → Place → Phrase → Phrase
-DomainNode asked own place phrase = When (nat_le (domain_rank asked) (domain_rank own)) (From place phrase)
+-- an expression in which any operator may stand
+abbrev pub Whole : ExprTree → Phrase → Phrase
+Whole = At implications
+
+-- the level of a domain
+unfoldable pub own_domain_level : DomainTree → DomainLevel
+own_domain_level (set_domain _ _ _ _) = set_operations
+own_domain_level (matrix_domain _ _ _) = domains
+own_domain_level _ = set_parts
+
+-- A domain stands where a level is asked for: its own level is as tight, and its first token stands at its place.
+abbrev pub DomainAt : DomainLevel → DomainTree → Phrase → Phrase
+DomainAt asked d phrase =
+    When (nat_le (domain_rank asked) (domain_rank (own_domain_level d))) (From (place_of_domain d) phrase)
+
+-- a domain in which operations may stand, and which is no matrix domain
+abbrev pub OfNumbers : DomainTree → Phrase → Phrase
+OfNumbers = DomainAt set_operations
 
 -- the word of an operator of two parts
 unfoldable pub binary_word : BinaryOp → String
@@ -131,28 +192,6 @@ unfoldable pub has_trees : ExprTrees → Bool
 has_trees no_trees = false
 has_trees (tree_and _ _) = true
 
--- whether there are indices
-unfoldable pub has_indices : Indices → Bool
-has_indices no_indices = false
-has_indices (every_and _) = true
-has_indices (index_and _ _) = true
-
--- whether there are ranges
-unfoldable pub has_ranges : Ranges → Bool
-has_ranges no_ranges = false
-has_ranges (one_and _ _) = true
-has_ranges (span_and _ _ _) = true
-
--- whether there are domains
-unfoldable pub has_domains : Domains → Bool
-has_domains no_domains = false
-has_domains (domain_and _ _) = true
-
--- whether there are generators
-unfoldable pub has_generators : Generators → Bool
-has_generators no_generators = false
-has_generators (generator_and _ _ _) = true
-
 -- whether the last part of an expression is a quantifier without brackets around it
 unfoldable mutual
   pub ends_open : ExprTree → Bool
@@ -179,13 +218,13 @@ unfoldable mutual
   trees_end_open no_trees = false
   trees_end_open (tree_and e es) = if has_trees es then trees_end_open es else ends_open e
 
--- an operand that an operator follows: what would belong to the body of a bare quantifier can't follow one
-abbrev pub Operand : ExprTree → Phrase → Phrase
-Operand e phrase = When (not (ends_open e)) phrase
+-- An operand that an operator follows doesn't end in a bare quantifier: the operator would belong to its body.
+abbrev pub Closed : ExprTree → Phrase → Phrase
+Closed e phrase = When (not (ends_open e)) phrase
 
 -- an operand that an operator follows where more operands do
-abbrev pub OperandBefore : Bool → ExprTree → Phrase → Phrase
-OperandBefore others e phrase = When (not (others && ends_open e)) phrase
+abbrev pub ClosedBefore : Bool → ExprTree → Phrase → Phrase
+ClosedBefore others e phrase = When (not (others && ends_open e)) phrase
 
 -- whether some indices have a `..`
 unfoldable pub has_every : Indices → Bool
@@ -221,166 +260,189 @@ MatrixHead = Says "matrix" followed_by Says "indexed" followed_by Says "by" foll
 abbrev pub MatrixTail : Phrase
 MatrixTail = Says "]" followed_by Says "of"
 
+-- What stands between two index domains. A matrix domain whose elements are written as a matrix domain has the index
+-- domains of both.
+abbrev pub BetweenDomains : Phrase
+BetweenDomains = Says "," or_else MatrixTail followed_by MatrixHead
+
+-- What stands between two indices before which there is no `..`. Such a bracket group is joined with the next.
+abbrev pub BetweenIndices : Phrase
+BetweenIndices = Says "," or_else Says "]" followed_by Says "["
+
 -- two operands with an operator between them
 abbrev pub Infix : String → Phrase → Phrase → Phrase
 Infix word a b = a followed_by Says word followed_by b
 
--- a binary node where a level is asked for, given the phrases of its parts at each level
-unfoldable pub SpellsBinary : Level → Place → BinaryOp → ExprTree → (Level → Phrase) → (Level → Phrase) → Phrase
-SpellsBinary asked p BinaryOp.Mul e a b = Node asked products p (Infix "*" (Operand e (a products)) (b powers))
-SpellsBinary asked p BinaryOp.Div e a b = Node asked products p (Infix "/" (Operand e (a products)) (b powers))
-SpellsBinary asked p BinaryOp.Mod e a b = Node asked products p (Infix "%" (Operand e (a products)) (b powers))
-SpellsBinary asked p BinaryOp.Pow e a b = Node asked powers p (Infix "**" (Operand e (a powers)) (b unaries))
-SpellsBinary asked p BinaryOp.Min e a b = Node asked primaries p (Call2 "min" (a implications) (b implications))
-SpellsBinary asked p BinaryOp.Max e a b = Node asked primaries p (Call2 "max" (a implications) (b implications))
-SpellsBinary asked p BinaryOp.Implies e a b =
-    Node asked implications p (Infix "->" (Operand e (a implications)) (b disjunctions))
-SpellsBinary asked p BinaryOp.Iff e a b =
-    Node asked implications p (Infix "<->" (Operand e (a implications)) (b disjunctions))
-
 unfoldable mutual
-  -- The tokens spell an expression that stands where a level is asked for.
-  pub Spells : Level → ExprTree → Phrase
-  Spells asked (number p n) = Node asked primaries p (Is (a_number n))
-  Spells asked (truth p b) = Node asked primaries p (Says (truth_word b))
-  Spells asked (named p name) = Node asked primaries p (Is (a_name name))
-  Spells asked (group p e) = Node asked primaries p (Says "(" followed_by Spells implications e followed_by Says ")")
-  Spells asked (negation p e) = Node asked unaries p (Says "!" followed_by Spells unaries e)
-  Spells asked (minus p e) = Node asked unaries p (Says "-" followed_by Spells unaries e)
-  Spells asked (absolute p e) = Node asked primaries p (Says "|" followed_by Spells implications e followed_by Says "|")
-  Spells asked (to_int p e) = Node asked primaries p (Call1 "toInt" (Spells implications e))
-  Spells asked (factorial p e) = Node asked primaries p (Call1 "factorial" (Spells implications e))
-  Spells asked (flatten p m) = Node asked primaries p (Call1 "flatten" (Spells implications m))
-  Spells asked (chain p terms) = Node asked sums p (SpellsChain terms)
-  Spells asked (binary p op a b) = SpellsBinary asked p op a (λ level. Spells level a) (λ level. Spells level b)
-  Spells asked (compare p op a b) =
-      Node asked comparisons p (Infix (compare_word op) (Operand a (Spells sums a)) (Spells sums b))
-  Spells asked (lex p op a b) = Node asked comparisons p (Infix (lex_word op) (Operand a (Spells sums a)) (Spells sums b))
-  Spells asked (in_domain p e d) =
-      Node asked comparisons p (Infix "in" (Operand e (Spells sums e)) (SpellsDomain set_operations d))
-  Spells asked (in_set p e m) =
-      Node asked comparisons p (Infix "in" (Operand e (Spells sums e)) (Call1 "toSet" (Spells implications m)))
-  Spells asked (all_of p parts) = Node asked conjunctions p (SpellsParts "/\\" comparisons parts)
-  Spells asked (any_of p parts) = Node asked disjunctions p (SpellsParts "\\/" conjunctions parts)
-  Spells asked (quantified p op names d e) =
-      Node asked unaries p
-      (Says (quantifier_word op) followed_by Names names followed_by Says ":"
-      followed_by SpellsDomain set_operations d followed_by Says "." followed_by Spells implications e)
-  Spells asked (literal p parts d) =
-      Node asked primaries p
-      (Says "[" followed_by SpellsList parts followed_by SpellsIndexDomain d followed_by Says "]")
-  Spells asked (comprehension p e gens conditions d) =
-      Node asked primaries p
-      (Says "[" followed_by Spells implications e followed_by Says "|" followed_by SpellsGenerators gens
-      followed_by SpellsMore conditions followed_by SpellsIndexDomain d followed_by Says "]")
-  Spells asked (read p m indices) =
-      Node asked reads p (When (takes_own_group m) (Spells reads m) followed_by Says "[" followed_by SpellsIndices true indices)
-  Spells asked (folded p op m) = Node asked primaries p (Call1 (fold_word op) (Spells implications m))
-  Spells asked (all_different p m) = Node asked primaries p (Call1 "allDiff" (Spells implications m))
-  Spells asked (gcc p m values counts) =
-      Node asked primaries p (Call3 "gcc" (Spells implications m) (Spells implications values) (Spells implications counts))
-  Spells asked (at_least p m counts values) =
-      Node asked primaries p (Call3 "atleast" (Spells implications m) (Spells implications counts) (Spells implications values))
-  Spells asked (at_most p m counts values) =
-      Node asked primaries p (Call3 "atmost" (Spells implications m) (Spells implications counts) (Spells implications values))
-  Spells asked (table p row rows) =
-      Node asked primaries p (Call2 "table" (Spells implications row) (Spells implications rows))
+  -- The tokens spell an expression by the rule of its outermost form.
+  pub SpellsNode : ExprTree → Phrase
+  SpellsNode (number _ n) = Is (a_number n)
+  SpellsNode (truth _ b) = Says (truth_word b)
+  SpellsNode (named _ name) = Is (a_name name)
+  SpellsNode (group _ e) = Says "(" followed_by Whole e (SpellsNode e) followed_by Says ")"
+  SpellsNode (negation _ e) = Says "!" followed_by At unaries e (SpellsNode e)
+  SpellsNode (minus _ e) = Says "-" followed_by At unaries e (SpellsNode e)
+  SpellsNode (absolute _ e) = Says "|" followed_by Whole e (SpellsNode e) followed_by Says "|"
+  SpellsNode (to_int _ e) = Call1 "toInt" (Whole e (SpellsNode e))
+  SpellsNode (factorial _ e) = Call1 "factorial" (Whole e (SpellsNode e))
+  SpellsNode (flatten _ m) = Call1 "flatten" (Whole m (SpellsNode m))
+  SpellsNode (chain _ terms) = SpellsChain terms
+  SpellsNode (binary _ op a b) =
+      Choice (is_called op) (Call2 (binary_word op) (Whole a (SpellsNode a)) (Whole b (SpellsNode b)))
+      (Infix (binary_word op) (Closed a (At (binary_level op) a (SpellsNode a)))
+      (At (tighter (binary_level op)) b (SpellsNode b)))
+  SpellsNode (compare _ op a b) =
+      Infix (compare_word op) (Closed a (At sums a (SpellsNode a))) (At sums b (SpellsNode b))
+  SpellsNode (lex _ op a b) = Infix (lex_word op) (Closed a (At sums a (SpellsNode a))) (At sums b (SpellsNode b))
+  SpellsNode (in_domain _ e d) = Infix "in" (Closed e (At sums e (SpellsNode e))) (OfNumbers d (SpellsDomainNode d))
+  SpellsNode (in_set _ e m) =
+      Infix "in" (Closed e (At sums e (SpellsNode e))) (Call1 "toSet" (Whole m (SpellsNode m)))
+  SpellsNode (all_of _ parts) = SpellsParts "/\\" comparisons parts
+  SpellsNode (any_of _ parts) = SpellsParts "\\/" conjunctions parts
+  SpellsNode (quantified _ op names d e) =
+      Says (quantifier_word op) followed_by Names names followed_by Says ":"
+      followed_by OfNumbers d (SpellsDomainNode d) followed_by Says "." followed_by Whole e (SpellsNode e)
+  SpellsNode (literal _ parts d) =
+      Says "[" followed_by SpellsList parts followed_by SpellsIndexDomain d followed_by Says "]"
+  SpellsNode (comprehension _ e gens conditions d) =
+      Says "[" followed_by Whole e (SpellsNode e) followed_by Says "|" followed_by SpellsGenerators gens
+      followed_by SpellsMore conditions followed_by SpellsIndexDomain d followed_by Says "]"
+  SpellsNode (read _ m indices) =
+      When (takes_own_group m) (At reads m (SpellsNode m)) followed_by Says "[" followed_by SpellsIndices indices
+      followed_by Says "]"
+  SpellsNode (folded _ op m) = Call1 (fold_word op) (Whole m (SpellsNode m))
+  SpellsNode (all_different _ m) = Call1 "allDiff" (Whole m (SpellsNode m))
+  SpellsNode (gcc _ m values counts) =
+      Call3 "gcc" (Whole m (SpellsNode m)) (Whole values (SpellsNode values)) (Whole counts (SpellsNode counts))
+  SpellsNode (at_least _ m counts values) =
+      Call3 "atleast" (Whole m (SpellsNode m)) (Whole counts (SpellsNode counts)) (Whole values (SpellsNode values))
+  SpellsNode (at_most _ m counts values) =
+      Call3 "atmost" (Whole m (SpellsNode m)) (Whole counts (SpellsNode counts)) (Whole values (SpellsNode values))
+  SpellsNode (table _ row rows) = Call2 "table" (Whole row (SpellsNode row)) (Whole rows (SpellsNode rows))
 
-  -- The tokens spell a domain that stands where a level is asked for.
-  pub SpellsDomain : DomainLevel → DomainTree → Phrase
-  SpellsDomain asked (bool p) = DomainNode asked set_parts p (Says "bool")
-  SpellsDomain asked (int p) = DomainNode asked set_parts p (Says "int")
-  SpellsDomain asked (ranges p rs) =
-      DomainNode asked set_parts p (Says "int" followed_by Says "(" followed_by SpellsRanges rs followed_by Says ")")
-  SpellsDomain asked (named_domain p name) = DomainNode asked set_parts p (Is (a_name name))
-  SpellsDomain asked (group_domain p d) =
-      DomainNode asked set_parts p (Says "(" followed_by SpellsDomain set_operations d followed_by Says ")")
-  SpellsDomain asked (set_domain p op c d) =
-      DomainNode asked set_operations p (Infix (set_word op) (SpellsDomain set_operations c) (SpellsDomain set_parts d))
-  SpellsDomain asked (matrix_domain p ds d) =
-      DomainNode asked domains p (MatrixHead followed_by SpellsIndexDomains ds followed_by SpellsDomain set_operations d)
+  -- The tokens spell a domain by the rule of its outermost form.
+  pub SpellsDomainNode : DomainTree → Phrase
+  SpellsDomainNode (bool _) = Says "bool"
+  SpellsDomainNode (int _) = Says "int"
+  SpellsDomainNode (ranges _ rs) = Says "int" followed_by Says "(" followed_by SpellsRanges rs followed_by Says ")"
+  SpellsDomainNode (named_domain _ name) = Is (a_name name)
+  SpellsDomainNode (group_domain _ d) = Says "(" followed_by OfNumbers d (SpellsDomainNode d) followed_by Says ")"
+  SpellsDomainNode (set_domain _ op c d) =
+      Infix (set_word op) (OfNumbers c (SpellsDomainNode c)) (DomainAt set_parts d (SpellsDomainNode d))
+  SpellsDomainNode (matrix_domain _ ds d) =
+      MatrixHead followed_by SpellsIndexDomains ds followed_by MatrixTail
+      followed_by OfNumbers d (SpellsDomainNode d)
 
   -- a chain of sums: two terms or more, the first without a sign
   pub SpellsChain : Terms → Phrase
   SpellsChain no_terms = Nothing
   SpellsChain (term_and plus e terms) =
-      When (plus && has_terms terms) (Operand e (Spells products e) followed_by SpellsTerms terms)
+      When (plus && has_terms terms) (Closed e (At products e (SpellsNode e)) followed_by SpellsTerms terms)
 
   -- the further terms of a chain, each with its sign before it
   pub SpellsTerms : Terms → Phrase
   SpellsTerms no_terms = Silence
   SpellsTerms (term_and plus e terms) =
-      Says (sign_word plus) followed_by OperandBefore (has_terms terms) e (Spells products e) followed_by SpellsTerms terms
+      Says (sign_word plus) followed_by ClosedBefore (has_terms terms) e (At products e (SpellsNode e))
+      followed_by SpellsTerms terms
 
   -- a chain of parts with a word between any two: two parts or more
   pub SpellsParts : String → Level → ExprTrees → Phrase
   SpellsParts word level no_trees = Nothing
   SpellsParts word level (tree_and e es) =
-      When (has_trees es) (Operand e (Spells level e) followed_by SpellsMoreParts word level es)
+      When (has_trees es) (Closed e (At level e (SpellsNode e)) followed_by SpellsMoreParts word level es)
 
   -- the further parts of such a chain, each with the word before it
   pub SpellsMoreParts : String → Level → ExprTrees → Phrase
   SpellsMoreParts word level no_trees = Silence
   SpellsMoreParts word level (tree_and e es) =
-      Says word followed_by OperandBefore (has_trees es) e (Spells level e) followed_by SpellsMoreParts word level es
+      Says word followed_by ClosedBefore (has_trees es) e (At level e (SpellsNode e))
+      followed_by SpellsMoreParts word level es
 
   -- expressions with commas between them, or none
   pub SpellsList : ExprTrees → Phrase
   SpellsList no_trees = Silence
-  SpellsList (tree_and e es) = Spells implications e followed_by SpellsMore es
+  SpellsList (tree_and e es) = Whole e (SpellsNode e) followed_by SpellsMore es
 
   -- expressions with a comma before each, or none: the further parts of a list, and the conditions of a comprehension
   pub SpellsMore : ExprTrees → Phrase
   SpellsMore no_trees = Silence
-  SpellsMore (tree_and e es) = Says "," followed_by Spells implications e followed_by SpellsMore es
+  SpellsMore (tree_and e es) = Says "," followed_by Whole e (SpellsNode e) followed_by SpellsMore es
 
   -- the domain of a list's indices, behind a semicolon, or nothing
   pub SpellsIndexDomain : IndexDomain → Phrase
   SpellsIndexDomain unstated = Silence
-  SpellsIndexDomain (over d) = Says ";" followed_by SpellsDomain set_operations d
+  SpellsIndexDomain (over d) = Says ";" followed_by OfNumbers d (SpellsDomainNode d)
 
   -- the generators of a comprehension with commas between them, at least one
   pub SpellsGenerators : Generators → Phrase
   SpellsGenerators no_generators = Nothing
   SpellsGenerators (generator_and names d gens) =
-      Names names followed_by Says ":" followed_by SpellsDomain set_operations d
-      followed_by Choice (has_generators gens) (Says "," followed_by SpellsGenerators gens) Silence
+      Names names followed_by Says ":" followed_by OfNumbers d (SpellsDomainNode d)
+      followed_by SpellsMoreGenerators gens
 
-  -- the indices of a read after its first bracket; a bracket group is joined with the next where it has no `..`
-  pub SpellsIndices : Bool → Indices → Phrase
-  SpellsIndices joins no_indices = Nothing
-  SpellsIndices joins (every_and indices) =
-      Says ".." followed_by Choice (has_indices indices) (Says "," followed_by SpellsIndices false indices) (Says "]")
-  SpellsIndices joins (index_and e indices) =
-      Spells implications e
-      followed_by Choice (has_indices indices)
-      ((Says "," or_else When joins (Says "]" followed_by Says "[")) followed_by SpellsIndices joins indices)
-      (Says "]")
+  -- further generators with a comma before each
+  pub SpellsMoreGenerators : Generators → Phrase
+  SpellsMoreGenerators no_generators = Silence
+  SpellsMoreGenerators (generator_and names d gens) =
+      Says "," followed_by Names names followed_by Says ":" followed_by OfNumbers d (SpellsDomainNode d)
+      followed_by SpellsMoreGenerators gens
+
+  -- the indices of a read, at least one
+  pub SpellsIndices : Indices → Phrase
+  SpellsIndices no_indices = Nothing
+  SpellsIndices (every_and indices) = Says ".." followed_by SpellsLastIndices indices
+  SpellsIndices (index_and e indices) = Whole e (SpellsNode e) followed_by SpellsMoreIndices indices
+
+  -- further indices, where no `..` stands before them
+  pub SpellsMoreIndices : Indices → Phrase
+  SpellsMoreIndices no_indices = Silence
+  SpellsMoreIndices (every_and indices) =
+      BetweenIndices followed_by Says ".." followed_by SpellsLastIndices indices
+  SpellsMoreIndices (index_and e indices) =
+      BetweenIndices followed_by Whole e (SpellsNode e) followed_by SpellsMoreIndices indices
+
+  -- further indices, where a `..` stands before them
+  pub SpellsLastIndices : Indices → Phrase
+  SpellsLastIndices no_indices = Silence
+  SpellsLastIndices (every_and indices) = Says "," followed_by Says ".." followed_by SpellsLastIndices indices
+  SpellsLastIndices (index_and e indices) =
+      Says "," followed_by Whole e (SpellsNode e) followed_by SpellsLastIndices indices
 
   -- ranges with commas between them, at least one
   pub SpellsRanges : Ranges → Phrase
   SpellsRanges no_ranges = Nothing
-  SpellsRanges (one_and e rs) = Spells implications e followed_by SpellsMoreRanges rs
-  SpellsRanges (span_and a b rs) = SpellsEnd a followed_by Says ".." followed_by SpellsEnd b followed_by SpellsMoreRanges rs
+  SpellsRanges (one_and e rs) = Whole e (SpellsNode e) followed_by SpellsMoreRanges rs
+  SpellsRanges (span_and a b rs) =
+      SpellsEnd a followed_by Says ".." followed_by SpellsEnd b followed_by SpellsMoreRanges rs
 
   -- further ranges with a comma before each
   pub SpellsMoreRanges : Ranges → Phrase
   SpellsMoreRanges no_ranges = Silence
-  SpellsMoreRanges (one_and e rs) = Says "," followed_by Spells implications e followed_by SpellsMoreRanges rs
+  SpellsMoreRanges (one_and e rs) = Says "," followed_by Whole e (SpellsNode e) followed_by SpellsMoreRanges rs
   SpellsMoreRanges (span_and a b rs) =
       Says "," followed_by SpellsEnd a followed_by Says ".." followed_by SpellsEnd b followed_by SpellsMoreRanges rs
 
   -- an end of a range, which may be left out
   pub SpellsEnd : End → Phrase
   SpellsEnd no_end = Silence
-  SpellsEnd (end_at e) = Spells implications e
+  SpellsEnd (end_at e) = Whole e (SpellsNode e)
 
-  -- Index domains after the head of a matrix domain, at least one, up to the word `of` before the element domain. A
-  -- matrix domain whose elements are written as a matrix domain has the index domains of both.
+  -- the index domains of a matrix domain, at least one
   pub SpellsIndexDomains : Domains → Phrase
   SpellsIndexDomains no_domains = Nothing
-  SpellsIndexDomains (domain_and d ds) =
-      SpellsDomain set_operations d
-      followed_by Choice (has_domains ds)
-      ((Says "," or_else MatrixTail followed_by MatrixHead) followed_by SpellsIndexDomains ds)
-      MatrixTail
+  SpellsIndexDomains (domain_and d ds) = OfNumbers d (SpellsDomainNode d) followed_by SpellsMoreIndexDomains ds
+
+  -- further index domains
+  pub SpellsMoreIndexDomains : Domains → Phrase
+  SpellsMoreIndexDomains no_domains = Silence
+  SpellsMoreIndexDomains (domain_and d ds) =
+      BetweenDomains followed_by OfNumbers d (SpellsDomainNode d) followed_by SpellsMoreIndexDomains ds
+
+-- The tokens spell an expression that stands where a level is asked for.
+abbrev pub Spells : Level → ExprTree → Phrase
+Spells asked e = At asked e (SpellsNode e)
+
+-- The tokens spell a domain that stands where a level is asked for.
+abbrev pub SpellsDomain : DomainLevel → DomainTree → Phrase
+SpellsDomain asked d = DomainAt asked d (SpellsDomainNode d)

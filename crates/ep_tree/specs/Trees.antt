@@ -95,3 +95,44 @@ mutual
   pub data IndexDomain : Type 0 where
     unstated : IndexDomain
     over : DomainTree → IndexDomain
+
+-- the place of an expression's first token
+unfoldable pub place_of : ExprTree → Place
+place_of (number p _) = p
+place_of (truth p _) = p
+place_of (named p _) = p
+place_of (group p _) = p
+place_of (negation p _) = p
+place_of (minus p _) = p
+place_of (absolute p _) = p
+place_of (to_int p _) = p
+place_of (factorial p _) = p
+place_of (flatten p _) = p
+place_of (chain p _) = p
+place_of (binary p _ _ _) = p
+place_of (compare p _ _ _) = p
+place_of (lex p _ _ _) = p
+place_of (in_domain p _ _) = p
+place_of (in_set p _ _) = p
+place_of (all_of p _) = p
+place_of (any_of p _) = p
+place_of (quantified p _ _ _ _) = p
+place_of (literal p _ _) = p
+place_of (comprehension p _ _ _ _) = p
+place_of (read p _ _) = p
+place_of (folded p _ _) = p
+place_of (all_different p _) = p
+place_of (gcc p _ _ _) = p
+place_of (at_least p _ _ _) = p
+place_of (at_most p _ _ _) = p
+place_of (table p _ _) = p
+
+-- the place of a domain
+unfoldable pub place_of_domain : DomainTree → Place
+place_of_domain (bool p) = p
+place_of_domain (int p) = p
+place_of_domain (ranges p _) = p
+place_of_domain (named_domain p _) = p
+place_of_domain (group_domain p _) = p
+place_of_domain (set_domain p _ _ _) = p
+place_of_domain (matrix_domain p _ _) = p

@@ -34,10 +34,10 @@ IsOf (ValueType.Matrix zero s) v = ⊥
 IsOf (ValueType.Matrix (suc k) s) v = IsOfDims s (suc k) v
 IsOf ValueType.Empty v = v ≡ matrix [] no_values
 
--- what a name stands for is of its type, and the numbers of a scalar domain's name are of its scalar
+-- what a name stands for is of its type, and the numbers of a domain's name are of its scalar, be it that of a matrix
 unfoldable pub IsTypedBound : Option Bound → Type 0
 IsTypedBound (Some (has_value t v)) = IsOf t v
-IsTypedBound (Some (has_domain s [] values)) = IsTrue (list_all (is_number_of s) values)
+IsTypedBound (Some (has_domain s indices values)) = IsTrue (list_all (is_number_of s) values)
 IsTypedBound _ = Unit {0}
 
 -- each name stands for something of its type

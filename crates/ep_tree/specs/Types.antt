@@ -3,7 +3,7 @@
 -- An expression is typed in a context, which says of each declared name what it stands for. The rules are those of the
 -- language's public description: a Boolean becomes 0 or 1 where an integer is wanted, and an integer never becomes a
 -- Boolean. That `[]` is of every matrix type, and the type of a list of such, is this project's own choice.
-use Rattle.std.specs.Prelude.{ℕ, zero, suc, ◌+◌, ◌-◌, Bool, true, false, not, ◌&&◌, List, [], ◌∷◌, ◌++◌, length, if◌then◌else◌, nat_le, ◌==◌, Some, None, Option, option_map}
+use Rattle.std.specs.Prelude.{ℕ, zero, suc, ◌+◌, ◌-◌, Bool, true, false, not, ◌&&◌, List, [], ◌∷◌, ◌++◌, map, length, if◌then◌else◌, nat_le, ◌==◌, Some, None, Option, option_map}
 use Rattle.std.specs.List.{list_all}
 use Rattle.ep_base.specs.declared.names.Name.{Name}
 use Rattle.ep_tree.specs.Names.{Known, put}
@@ -207,11 +207,15 @@ slice_count no_indices = 0
 slice_count (every_and indices) = suc (slice_count indices)
 slice_count (index_and _ indices) = slice_count indices
 
--- a matrix domain: scalar index domains, and the dimensions of its element domain behind its own
+-- whether domains may be the index domains of a matrix: there is one, and all are scalar
+unfoldable pub can_index : List ValueType → Bool
+can_index [] = false
+can_index (t ∷ ts) = list_all is_integer (t ∷ ts)
+
+-- a matrix domain: its own index domains, and the dimensions of its element domain behind them
 unfoldable pub matrix_type : List ValueType → ValueType → Judged
-matrix_type domains (ValueType.Matrix dims s) =
-    gives (ValueType.Matrix (length domains + dims) s) (list_all is_integer domains)
-matrix_type domains t = gives (ValueType.Matrix (length domains) (scalar_of t)) (list_all is_integer domains)
+matrix_type domains (ValueType.Matrix dims s) = gives (ValueType.Matrix (length domains + dims) s) (can_index domains)
+matrix_type domains t = gives (ValueType.Matrix (length domains) (scalar_of t)) (can_index domains)
 
 -- the type of a name of a quantifier or generator: Bool over a Boolean domain, and else Int
 unfoldable pub quantified_name : Judged → Meaning
@@ -219,38 +223,23 @@ quantified_name (typed t) = a_value (Some (if is_boolean t then ValueType.Bool e
 quantified_name mistyped = a_value None false
 quantified_name untyped = a_value None false
 
--- The domain's text is read once for each name, and each reading sees the names before: what the rules say of each.
-unfoldable pub domain_readings : List Name → (Context → Judged) → Context → List Judged
-domain_readings [] domain context = []
-domain_readings (name ∷ names) domain context =
-    domain context ∷ domain_readings names domain (put name (quantified_name (domain context)) context)
+-- The domain of several names is read once for each, and each reading sees the names before: the contexts of the
+-- readings.
+unfoldable pub reading_contexts : List Name → (Context → Judged) → Context → List Context
+reading_contexts [] domain context = []
+reading_contexts (name ∷ names) domain context =
+    context ∷ reading_contexts names domain (put name (quantified_name (domain context)) context)
 
 -- the context of the body: the names of a quantifier or generator hide what they stood for
 unfoldable pub inside : List Name → (Context → Judged) → Context → Context
 inside [] domain context = context
 inside (name ∷ names) domain context = inside names domain (put name (quantified_name (domain context)) context)
 
--- What the rules say of the several parts of a comprehension, and of its expression and conditions in the context of
--- its generators.
-pub record JudgedParts : Type 0 where
-  pub domains : List Judged
-  pub conditions : List Judged
-  pub part : Judged
-
--- the parts of a comprehension with more domains in front
-unfoldable pub with_domains : List Judged → JudgedParts → JudgedParts
-with_domains ds parts = record parts { domains = ds ++ parts.domains }
-
--- The type of a comprehension whose index domain has such types: its own domains are scalar and its conditions
--- Boolean, and it is typed as a list of what its expression gives.
-unfoldable pub judge_comprehension : List ValueType → JudgedParts → Judged
-judge_comprehension index parts =
-    from_many parts.domains (λ domains.
-    from_many parts.conditions (λ conditions.
-    from_one parts.part (λ t.
-    if list_all is_boolean conditions
-    then indexed_type (index ++ domains) (list_type (t ∷ []))
-    else mistyped)))
+-- The type of a comprehension by the types of its index domain, of its generators' domains, of its conditions and of
+-- its expression: the domains are scalar and the conditions Boolean, and it is a list of what its expression gives.
+unfoldable pub comprehension_type : List ValueType → List ValueType → List ValueType → ValueType → Judged
+comprehension_type index domains conditions t =
+    if list_all is_boolean conditions then indexed_type (index ++ domains) (list_type (t ∷ [])) else mistyped
 
 unfoldable mutual
   -- what the rules say of an expression
@@ -282,14 +271,15 @@ unfoldable mutual
   judge context (any_of _ parts) =
       from_many (judge_all context parts) (λ ts. gives ValueType.Bool (list_all is_boolean ts))
   judge context (quantified _ op names d e) =
-      from_many (domain_readings names (λ c. judge_domain c d) context) (λ ds.
+      from_many (map (λ c. judge_domain c d) (reading_contexts names (λ c. judge_domain c d) context)) (λ ds.
       from_one (judge (inside names (λ c. judge_domain c d) context) e) (quantified_type op ds))
   judge context (literal _ parts d) =
       from_many (judge_index context d) (λ ds. from_many (judge_all context parts) (λ ts. indexed_type ds (list_type ts)))
   judge context (comprehension _ e gens conditions d) =
-      from_many (judge_index context d) (λ ds.
-      judge_comprehension ds
-      (judge_generators context gens (λ inner. (judge_all inner conditions, judge inner e))))
+      from_many (judge_index context d) (λ index.
+      from_many (judge_generators context gens) (λ domains.
+      from_many (judge_all (inside_all gens context) conditions) (λ truths.
+      from_one (judge (inside_all gens context) e) (comprehension_type index domains truths))))
   judge context (read _ m indices) =
       from_one (judge context m) (λ t.
       from_many (judge_indices context indices) (λ ts. read_type t ts (slice_count indices)))
@@ -359,11 +349,14 @@ unfoldable mutual
   judge_index context unstated = []
   judge_index context (over d) = judge_domain context d ∷ []
 
-  -- the same of the domains of generators, each in the context of the names before it, and of what stands in the
-  -- context of all their names
-  pub judge_generators : Context → Generators → (Context → List Judged × Judged) → JudgedParts
-  judge_generators context no_generators inner =
-      record { domains = []; conditions = (inner context).0; part = (inner context).1 }
-  judge_generators context (generator_and names d gens) inner =
-      with_domains (domain_readings names (λ c. judge_domain c d) context)
-      (judge_generators (inside names (λ c. judge_domain c d) context) gens inner)
+  -- the same of the domains of generators, each reading in the context of the names before it
+  pub judge_generators : Context → Generators → List Judged
+  judge_generators context no_generators = []
+  judge_generators context (generator_and names d gens) =
+      map (λ c. judge_domain c d) (reading_contexts names (λ c. judge_domain c d) context)
+      ++ judge_generators (inside names (λ c. judge_domain c d) context) gens
+
+  -- the context of what stands behind generators
+  pub inside_all : Generators → Context → Context
+  inside_all no_generators context = context
+  inside_all (generator_and names d gens) context = inside_all gens (inside names (λ c. judge_domain c d) context)

@@ -3,7 +3,7 @@
 ghost use Rattle.std.specs.Prelude.{ℕ};
 ghost use Rattle.ep_tree.specs.Heights.{domain_height, height};
 ghost use Rattle.ep_tree.specs.Laws.{ClosedDomainPassesItsNumbers, DomainAscends, DomainHidesLexically, DomainIsOfScalar, FitIsOfDimensions, NegativeQuotientIsHigh, NegativeQuotientIsLow, NoQuotientByZero, OperationIsOfSets, PositiveQuotientIsHigh, PositiveQuotientIsLow, RangeIsInterval, ReadIsNotTooHigh, StopsOnce, TypeHidesLexically, ValueHidesLexically, ValueIsOfType};
-ghost use Rattle.ep_tree.specs.Reading.{Begins, BeginsWithin};
+ghost use Rattle.ep_tree.specs.Reading.{Begins, Low};
 ghost use Rattle.ep_tree.specs.Spelling.{DomainLevel, Level, Spells, SpellsDomain};
 ghost use Rattle.ep_tree.specs.StatementSpelling.{SpellsModel, SpellsParams};
 ghost use Rattle.ep_tree.specs.Statements.{text_height};
@@ -52,10 +52,10 @@ pub fn first_faults_are_unique()
     ensures models { StopsOnce (Begins SpellsModel) }
     ensures params { StopsOnce (Begins SpellsParams) }
 
-    ensures low_expressions { (level : Level) (most : ℕ) → StopsOnce (BeginsWithin (Spells level) height most) }
-    ensures low_domains { (level : DomainLevel) (most : ℕ) → StopsOnce (BeginsWithin (SpellsDomain level) domain_height most) }
-    ensures low_models { (most : ℕ) → StopsOnce (BeginsWithin SpellsModel text_height most) }
-    ensures low_params { (most : ℕ) → StopsOnce (BeginsWithin SpellsParams text_height most) }
+    ensures low_expressions { (level : Level) (most : ℕ) → StopsOnce (Begins (Low height most (Spells level))) }
+    ensures low_domains { (level : DomainLevel) (most : ℕ) → StopsOnce (Begins (Low domain_height most (SpellsDomain level))) }
+    ensures low_models { (most : ℕ) → StopsOnce (Begins (Low text_height most SpellsModel)) }
+    ensures low_params { (most : ℕ) → StopsOnce (Begins (Low text_height most SpellsParams)) }
 {}
 
 /// What is read isn't also too high, in an expression and in a domain.

@@ -47,4 +47,6 @@ pub struct Assignment {
 pub enum Mode {
     /// The nearest Boolean expression around it is false.
     Relational,
+    /// Everything around it has no value either.
+    Strict,
 }

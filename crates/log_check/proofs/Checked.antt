@@ -41,11 +41,11 @@ and_assoc : (a b c : Bool) → ((a && b) && c) ≡ (a && (b && c))
 and_assoc true b c = refl
 and_assoc false b c = refl
 
-all_push : (p : ℕ → Bool) (xs : List ℕ) (x : ℕ) → list_all p (xs ++ x ∷ []) ≡ (list_all p xs && p x)
+pub all_push : (p : ℕ → Bool) (xs : List ℕ) (x : ℕ) → list_all p (xs ++ x ∷ []) ≡ (list_all p xs && p x)
 all_push p [] x = and_true (p x)
 all_push p (y ∷ ys) x = ap (λ b. p y && b) (all_push p ys x) ∙ sym (and_assoc (p y) (list_all p ys) (p x))
 
-added_push : (lines : List ProofLine) (id : ℕ) (clause : List Literal) (hints : List ℤ) → added_ids (lines ++ add id clause hints ∷ []) ≡ added_ids lines ++ id ∷ []
+pub added_push : (lines : List ProofLine) (id : ℕ) (clause : List Literal) (hints : List ℤ) → added_ids (lines ++ add id clause hints ∷ []) ≡ added_ids lines ++ id ∷ []
 added_push [] id clause hints = refl
 added_push (add i c h ∷ lines) id clause hints = ap (λ (ids : List ℕ). i ∷ ids) (added_push lines id clause hints)
 added_push (delete ids ∷ lines) id clause hints = added_push lines id clause hints

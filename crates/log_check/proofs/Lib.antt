@@ -4,3 +4,4 @@ pub mod Hints
 pub mod Checked
 mod Vectors
 pub mod Verified
+pub mod Accepted

@@ -14,7 +14,7 @@ mod signs;
 
 use cnf_core::{Clause, Formula, Line, Proof};
 use ep_base::Memory;
-pub use laws::verified_formulas_have_no_solution;
+pub use laws::{valid_logs_are_accepted, verified_formulas_have_no_solution};
 use signs::Signs;
 use std::alloc::Global;
 

@@ -2,17 +2,21 @@
 use Rattle.std.proofs.Common.{◌≡◌, ℕ, ◌+◌, ◌<◌, ◌≤◌, Bool, true, false, cond, ◌⊎◌, inl, inr, List, [], ◌∷◌, ◌++◌, length, refl, ap, ◌∙◌, sym, subst, arith, append_assoc, ◌^◌}
 use Rattle.std.specs.Prelude.{Contains}
 use Rattle.std.proofs.lemmas.List.{append-nil}
-use Rattle.std.proofs.lemmas.List.Elements.{All-nil, All-cons, All-append, All-contains}
+use Rattle.std.proofs.lemmas.Bool.{false≢true}
+use Rattle.std.proofs.lemmas.List.Elements.{All-nil, All-cons, All-head, All-tail, All-append, All-contains}
+use Rattle.std.specs.Prelude.{All}
 use Rattle.cnf_core.specs.Literal.{Literal, HaveSameLiterals}
-use Rattle.cnf_core.specs.Events.{LogEvent, LogState, step, given, is_given, clauses_of, nonempty_steps, is_nonempty_step}
-use Rattle.cnf_core.specs.Steps.{IsValidStep, IsNewStep, IsEffectiveStep, GivensNameOnly}
+use Rattle.cnf_core.specs.Events.{LogEvent, LogState, step, given, is_given, clauses_of, givens, nonempty_steps, is_nonempty_step, EachStep}
+use Rattle.cnf_core.specs.Clauses.{Satisfies}
+use Rattle.cnf_core.specs.Steps.{IsValidLog, IsValidStep, IsNewStep, IsEffectiveStep, GivensNameOnly}
 use Rattle.cnf_core.proofs.Events.{nonempty_steps-push, EachStep-given}
 use Rattle.cnf_core.proofs.Count.{fewer_new_steps}
+use Rattle.cnf_core.proofs.Following.{step_follows}
 use Rattle.sat_search.specs.declared.outcome.Outcome.{Outcome}
-use Rattle.sat_search.specs.declared.outcome.Outcome.TheVariants.{Spent}
+use Rattle.sat_search.specs.declared.outcome.Outcome.TheVariants.{Spent, Unsat}
 use Rattle.cnf_core.proofs.Members.{none_in_nil, Contains-here}
 use Rattle.sat_search.specs.Analysis.{IsExplained}
-use Rattle.sat_search.specs.Logs.{IsSound, EndsWithEmptyStep, IsContinued, IsAnswer, with_step}
+use Rattle.sat_search.specs.Logs.{IsSound, AddsSteps, EndsWithEmptyStep, IsContinued, IsAnswer, with_step}
 use Rattle.sat_search.proofs.Learnt.{sound_push}
 
 pub continued_same : (budget : ℕ) (log : LogState) → IsSound log.events → nonempty_steps log.events ≤ budget → IsContinued budget log log
@@ -91,3 +95,50 @@ pub spent_few : (budget : ℕ) (trues : List Literal) (events : List LogEvent) (
 spent_few budget trues events outcome answer is sound vars names =
     let ended = subst (IsAnswer budget trues events) is answer in
     subst (λ (n : ℕ). n < 3 ^ length vars) ended.0 (fewer_new_steps events vars sound.new names)
+
+-- where all events are givens, nothing is said of steps
+each_of_givens : (P : List LogEvent → List Literal → List ℕ → Type 0) (earlier events : List LogEvent) → All (λ e. is_given e ≡ true) events → EachStep P earlier events
+each_of_givens P earlier [] all = tt
+each_of_givens P earlier (given clause ∷ events) all = each_of_givens P (earlier ++ given clause ∷ []) events (All-tail (λ e. is_given e ≡ true) (given clause) events all)
+each_of_givens P earlier (step clause hints ∷ events) all = absurd (false≢true (All-head (λ e. is_given e ≡ true) (step clause hints) events all))
+
+pub sound_givens : (events : List LogEvent) → All (λ e. is_given e ≡ true) events → IsSound events
+sound_givens events all = record {
+  valid = each_of_givens IsValidStep [] events all;
+  new = each_of_givens (λ earlier c hs. 0 < length c → IsNewStep earlier c) [] events all;
+  effective = each_of_givens (λ earlier c hs. 0 < length c → IsEffectiveStep earlier c) [] events all;
+}
+
+givens_append : (before added : List LogEvent) → givens (before ++ added) ≡ givens before ++ givens added
+givens_append [] added = refl
+givens_append (given clause ∷ before) added = ap (λ (cs : List (List Literal)). clause ∷ cs) (givens_append before added)
+givens_append (step clause hints ∷ before) added = givens_append before added
+
+no_givens : (added : List LogEvent) → All (λ e. is_given e ≡ false) added → givens added ≡ []
+no_givens [] all = refl
+no_givens (given clause ∷ added) all = absurd (false≢true (sym (All-head (λ e. is_given e ≡ false) (given clause) added all)))
+no_givens (step clause hints ∷ added) all = no_givens added (All-tail (λ e. is_given e ≡ false) (step clause hints) added all)
+
+-- steps leave the givens
+pub givens_kept : (old new : LogState) → AddsSteps old new → givens new.events ≡ givens old.events
+givens_kept old new adds =
+    ap givens adds.events ∙ givens_append old.events adds.added
+    ∙ ap (λ (cs : List (List Literal)). givens old.events ++ cs) (no_givens adds.added adds.are_steps) ∙ append-nil (givens old.events)
+
+-- a given is no step
+pub steps_given : (events : List LogEvent) (clause : List Literal) → nonempty_steps (events ++ given clause ∷ []) ≡ nonempty_steps events
+steps_given events clause = omega (arith, nonempty_steps-push events (given clause))
+
+-- where the empty clause follows, nothing satisfies the givens
+pub ended_has_no_solution : (events : List LogEvent) → EndsWithEmptyStep events → IsSound events → (s : ℕ → Bool) → Satisfies s (givens events) → ⊥
+ended_has_no_solution events ends sound s satisfied =
+    let valid : IsValidLog (ends.before ++ step [] ends.hints ∷ []) = subst IsValidLog ends.events_are sound.valid in
+    let same : givens events ≡ givens ends.before
+    = ap givens ends.events_are ∙ givens_append ends.before (step [] ends.hints ∷ []) ∙ append-nil (givens ends.before) in
+    let found = step_follows s ends.before [] [] ends.hints valid (subst (λ (cs : List (List Literal)). Satisfies s cs) same satisfied) in
+    none_in_nil found.literal found.in_clause
+
+-- the same of an answer
+pub unsat_none : (budget : ℕ) (trues : List Literal) (events : List LogEvent) (outcome : Outcome) → IsAnswer budget trues events outcome → outcome ≡ Unsat → IsSound events → (s : ℕ → Bool) → Satisfies s (givens events) → ⊥
+unsat_none budget trues events outcome answer is sound =
+    ended_has_no_solution events (subst (IsAnswer budget trues events) is answer) sound

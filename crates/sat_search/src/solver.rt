@@ -2,7 +2,7 @@
 
 ghost use Rattle.std.specs.Prelude.{◌≡◌, ℕ, ◌+◌, ◌<◌, ◌≤◌, ◌^◌, ◌↔◌, [], ◌∷◌, ◌++◌, length, List, Bool, true, false, All, None, Some, IfOk, OnOk, OnErr, IsSome, IsSomeAnd, IfSome, IsErr, IsTrue};
 ghost use Rattle.cnf_core.specs.Clauses.{Satisfies};
-ghost use Rattle.cnf_core.specs.Events.{LogEvent, given, clauses_of, givens, nonempty_steps};
+ghost use Rattle.cnf_core.specs.Events.{LogEvent, given, is_given, clauses_of, givens, nonempty_steps};
 ghost use Rattle.cnf_core.specs.Steps.{GivensNameOnly};
 ghost use Rattle.sat_search.specs.View.{SolverView, value_in};
 ghost use Rattle.sat_search.specs.Logs.{IsSound, AddsSteps, EndsWithEmptyStep, NoneIsEmpty};
@@ -42,7 +42,9 @@ impl Model for Solver {
 impl Solver {
     /// A solver of the log's clauses.
     pub fn new(alloc: Global, log: &Log) -> Result<Solver, Memory>
-        ensures { IfOk result (λ solver. solver ≡ record { clauses = clauses_of log.now.events; broken = false; kept = None }) }
+        ensures made { IfOk result (λ solver. solver ≡ record { clauses = clauses_of log.now.events; broken = false; kept = None }) }
+        // What the calls below require of the log holds of one that has givens alone.
+        ensures sound { All (λ e. is_given e ≡ true) log.now.events → IsSound log.now.events }
     {
         let (state, vars) = state_of(alloc, log)?;
         Ok(Solver {
@@ -63,6 +65,7 @@ impl Solver {
         ensures clauses { self.new.broken ≡ false → self.new.clauses ≡ clauses_of log.new.events }
         ensures ok { OnOk result (log.new ≡ record log.old { events = log.old.events ++ given clause ∷ [] }) }
         ensures err { OnErr result (log.new ≡ log.old) }
+        ensures steps { nonempty_steps log.new.events ≡ nonempty_steps log.old.events }
         ensures kept { self.new.kept ≡ None }
         ensures broken { (result ≡ Err SolveError.Broken) ↔ (self.old.broken ≡ true) }
         ensures breaks { (self.new.broken ≡ true) ↔ (IsErr result) }
@@ -79,6 +82,7 @@ impl Solver {
 
     /// Searches for values that satisfy every given, or for the empty clause, within as many steps
     /// with a literal as the budget allows.
+    #[tactic(auto, using(crate::proofs::Continued::givens_kept))]
     pub fn solve(&mut self, budget: u64, log: &mut Log) -> Result<Outcome, SolveError>
         requires sound { IsSound log.old.events }
         requires clauses { self.old.broken ≡ false → self.old.clauses ≡ clauses_of log.old.events }
@@ -86,9 +90,11 @@ impl Solver {
         ensures sound { IsSound log.new.events }
         ensures clauses { self.new.broken ≡ false → self.new.clauses ≡ clauses_of log.new.events }
         ensures steps { AddsSteps log.old log.new }
+        ensures givens { givens log.new.events ≡ givens log.old.events }
         ensures within { nonempty_steps log.new.events ≤ budget }
         ensures sat { result ≡ Ok Outcome.Sat → IsSomeAnd self.new.kept (λ trues. Satisfies (value_in trues) (givens log.new.events)) }
         ensures unsat { result ≡ Ok Outcome.Unsat → EndsWithEmptyStep log.new.events }
+        ensures unsat_none { result ≡ Ok Outcome.Unsat → (s : ℕ → Bool) → Satisfies s (givens log.new.events) → ⊥ }
         ensures spent { result ≡ Ok Outcome.Spent → nonempty_steps log.new.events ≡ budget }
         ensures spent_open { result ≡ Ok Outcome.Spent → NoneIsEmpty log.new.events }
         ensures spent_few { result ≡ Ok Outcome.Spent → (vars : List ℕ) → GivensNameOnly vars log.new.events → budget < 3 ^ length vars }

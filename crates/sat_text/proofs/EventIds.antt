@@ -12,7 +12,8 @@ use Rattle.cnf_core.specs.declared.log.Event.{Event}
 use Rattle.cnf_core.specs.declared.log.Event.TheVariants as variants
 use Rattle.cnf_core.specs.Events.{LogEvent, given, step, plain_event, is_given, givens, EachStep, HintsAreThere, HintsAreEarlier}
 use Rattle.cnf_core.specs.Lines.{ProofLine, add}
-use Rattle.sat_text.specs.Writing.{ids_from, event_ids, step_lines, line_text}
+use Rattle.cnf_core.specs.LogLines.{ids_from, event_ids, step_lines}
+use Rattle.sat_text.specs.Writing.{line_text}
 
 abbrev pub plain_events : List Event → List LogEvent
 plain_events events = map plain_event events

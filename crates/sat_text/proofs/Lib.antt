@@ -20,6 +20,7 @@ pub mod CnfSpelled
 pub mod ItemsSpelled
 pub mod LogSpelled
 pub mod NoteSpelled
+pub mod Written
 pub mod ClauseFaults
 pub mod CnfFaults
 mod Vectors

@@ -13,7 +13,8 @@ use Rattle.cnf_core.specs.Literal.{Literal, IsVariable, IsClause}
 use Rattle.sat_text.specs.Words.{lines, words, is_comment, says_nothing}
 use Rattle.sat_text.specs.Clauses.{is_zero, literal_of, number_of}
 use Rattle.sat_text.specs.Proofs.{whole_at, items_at, positive_of, any_literal, any_hint, addition_at, is_d, behind_id, line_of, before_others, proof_from, proof_of}
-use Rattle.sat_text.specs.Writing.{spaced, line_text, log_lines, log_text, IsShort, IsReadable}
+use Rattle.cnf_core.specs.LogLines.{log_lines}
+use Rattle.sat_text.specs.Writing.{spaced, line_text, log_text, IsShort, IsReadable}
 use Rattle.sat_text.specs.Numbers.{whole_of}
 use Rattle.cnf_core.specs.Lines.{ProofLine, add, delete}
 use Rattle.sat_text.proofs.Cuts.{bool_cases}

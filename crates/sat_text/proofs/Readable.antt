@@ -6,7 +6,8 @@ use Rattle.std.proofs.lemmas.List.Elements.{All-from_recursion, recursion_from_A
 use Rattle.cnf_core.specs.Literal.{IsClause}
 use Rattle.cnf_core.specs.declared.log.Event.{Event}
 use Rattle.cnf_core.specs.Events.{LogEvent, given, step, clauses_of, givens, EachStep, HintsAreThere, HintsAreEarlier}
-use Rattle.sat_text.specs.Writing.{ids_from, event_ids, step_lines, log_lines, IsShort, IsReadable}
+use Rattle.cnf_core.specs.LogLines.{ids_from, event_ids, step_lines, log_lines}
+use Rattle.sat_text.specs.Writing.{IsShort, IsReadable}
 use Rattle.sat_text.proofs.EventIds.{plain_events, length-plain, length-event_ids, given_count_small}
 
 -- a positive number of at most eighteen digits

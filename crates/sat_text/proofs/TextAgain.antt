@@ -22,6 +22,7 @@ use Rattle.sat_text.proofs.Again.{natural_again, whole_again, IsWord, AreWords, 
 use Rattle.sat_text.proofs.LogAgain.{literal_again, signed_short, spaced_is, in_range}
 use Rattle.sat_text.proofs.FormulaSteps.{formula_quiet, formula_header}
 use Rattle.sat_text.proofs.CellPlain.{cell_plain}
+use Rattle.sat_text.proofs.CellSpelled.{cell_complete}
 use Rattle.sat_text.proofs.CnfAgain.{with_spaces, clause_words, clause_lines, lines_of_clauses, clauses_read, clause_no_comment, IsClauseUpTo, AreClausesUpTo}
 
 -- ---- the header
@@ -83,7 +84,7 @@ cell_some (b ∷ cell) e = omega arith
 note_is_line : (note : Note) → IsReadableNote note → IsVariable note.lit.var → IsLine (note_line note)
 note_is_line note r v =
     let ws = signed_decimal note.value ∷ signed_decimal (number_of note.lit) ∷ [] in
-    all_append (λ b. not (eqb b 10)) (codes "c cell ") (note.cell ++ joined ws) refl (joined_line note.cell ws ((cell_plain note.cell r.named), cell_some note.cell r.named) (two_words note r v))
+    all_append (λ b. not (eqb b 10)) (codes "c cell ") (note.cell ++ joined ws) refl (joined_line note.cell ws ((cell_plain note.cell (cell_complete note.cell r.named)), cell_some note.cell (cell_complete note.cell r.named)) (two_words note r v))
 
 plain_no_space : (b : ℕ) → is_plain b ≡ true → eqb b 32 ≡ false
 plain_no_space b e = elim (bool_cases (eqb b 32)) [
@@ -114,8 +115,8 @@ note_again note r here =
     let s = signed_short note.lit.var note.lit.positive here in
     let v = number_is_word note.value r.short in
     let w = number_is_word (number_of note.lit) s.0 in
-    let pieces = three_pieces note.cell (signed_decimal note.value) (signed_decimal (number_of note.lit)) (cell_plain note.cell r.named) v.0 w.0 in
-    rw (pieces, r.named, whole_again note.value r.short, whole_again (number_of note.lit) s.0, s.1, literal_again note.lit here) refl
+    let pieces = three_pieces note.cell (signed_decimal note.value) (signed_decimal (number_of note.lit)) (cell_plain note.cell (cell_complete note.cell r.named)) v.0 w.0 in
+    rw (pieces, cell_complete note.cell r.named, whole_again note.value r.short, whole_again (number_of note.lit) s.0, s.1, literal_again note.lit here) refl
 
 -- ---- lines that say nothing of cells and of added clauses
 

@@ -1,46 +1,23 @@
 -- The texts that are written.
-use Rattle.std.specs.Prelude.{◌≡◌, ◌<◌, ◌^◌, All, unsigned_abs, false, true, Ok, ℕ, ◌+◌, ℤ, pos, List, [], ◌∷◌, ◌++◌, length, map, codes, decimal, slice_index}
+use Rattle.std.specs.Prelude.{◌≡◌, ◌<◌, ◌^◌, All, unsigned_abs, false, Ok, ℕ, ℤ, pos, List, [], ◌∷◌, ◌++◌, length, map, codes, decimal}
 use Rattle.std.specs.Fmt.{signed_decimal}
 use Rattle.std.specs.List.{flat_map}
 use Rattle.sat_text.specs.Words.{lines}
-use Rattle.sat_text.specs.Notes.{is_cell, notes_of, added_of}
+use Rattle.sat_text.specs.Notes.{notes_of, added_of}
+use Rattle.sat_text.specs.NoteGrammar.{IsCell}
 use Rattle.sat_text.specs.Cnf.{formula_of, plain_formula}
 use Rattle.sat_text.specs.Clauses.{is_zero, number_of}
 use Rattle.cnf_core.specs.Literal.{Literal, IsVariable, IsClause}
 use Rattle.cnf_core.specs.Formula.{Cnf, NamesItsVariables}
-use Rattle.cnf_core.specs.Events.{LogEvent, given, step, givens, Note}
+use Rattle.cnf_core.specs.Events.{LogEvent, Note}
 use Rattle.cnf_core.specs.Lines.{ProofLine, add, delete}
+use Rattle.cnf_core.specs.LogLines.{log_lines}
 
 -- numbers with a space before each
 abbrev pub spaced : List ℤ → List ℕ
 spaced numbers = flat_map (λ n. 32 ∷ signed_decimal n) numbers
 
 -- ---- the text of a log
-
--- the ids of events, where the next given and the next step have these
-abbrev pub ids_from : ℕ → ℕ → List LogEvent → List ℕ
-ids_from given_id step_id [] = []
-ids_from given_id step_id (given clause ∷ events) =
-    given_id ∷ ids_from (given_id + 1) step_id events
-ids_from given_id step_id (step clause hints ∷ events) =
-    step_id ∷ ids_from given_id (step_id + 1) events
-
--- the givens have the first ids, from 1 on, and the steps those behind them
-abbrev pub event_ids : List LogEvent → List ℕ
-event_ids events = ids_from 1 (length (givens events) + 1) events
-
--- the lines for the steps of some events: ids has the ids of all events, and own those of these
-abbrev pub step_lines : List ℕ → List ℕ → List LogEvent → List ProofLine
-step_lines ids own [] = []
-step_lines ids [] (event ∷ events) = []
-step_lines ids (id ∷ own) (given clause ∷ events) = step_lines ids own events
-step_lines ids (id ∷ own) (step clause hints ∷ events) =
-    add id clause (map (λ hint. pos (slice_index ids hint)) hints)
-    ∷ step_lines ids own events
-
--- the lines of a log: one for each step
-abbrev pub log_lines : List LogEvent → List ProofLine
-log_lines events = step_lines (event_ids events) (event_ids events) events
 
 -- A line's text: the id, the literals and a 0, the hints and a 0. A line that deletes keeps no id
 -- of its own, and gets a 1 for it: the 1, a `d`, the ids and a 0.
@@ -92,9 +69,9 @@ abbrev pub IsReadable : ProofLine → Type 0
 IsReadable (add id clause hints) = (0 < id) × (id < 10 ^ 18) × IsClause clause × All IsShort hints
 IsReadable (delete ids) = ⊥
 
--- a note of a cell's name, and of a value of at most eighteen digits
+-- a note of a cell, and of a value of at most eighteen digits
 pub record IsReadableNote (note : Note) : Type 0 where
-  pub named : is_cell note.cell ≡ true
+  pub named : IsCell note.cell
   pub short : unsigned_abs note.value < 10 ^ 18
 
 -- clauses over the variables of a formula, where both numbers have at most eighteen digits

@@ -8,7 +8,10 @@ ghost use Rattle.cnf_core.specs.Events.{plain_event, plain_note, is_given, Hints
 ghost use Rattle.cnf_core.specs.Lines.{add};
 ghost use Rattle.sat_text.specs.Proofs.{proof_of};
 ghost use Rattle.sat_text.specs.Clauses.{number_of};
-ghost use Rattle.sat_text.specs.Writing.{spaced, event_ids, step_lines, log_lines, line_text, log_text, IsReadable, note_text, clause_text, header_text, added_text, cnf_text, IsReadableNote, IsReadableFormula, NamesVariables, SaysAgain};
+ghost use Rattle.cnf_core.specs.LogLines.{event_ids, step_lines, log_lines};
+ghost use Rattle.sat_text.specs.CnfGrammar.{SpellsCnf};
+ghost use Rattle.sat_text.specs.LogGrammar.{SpellsLog};
+ghost use Rattle.sat_text.specs.Writing.{spaced, line_text, log_text, IsReadable, note_text, clause_text, header_text, added_text, cnf_text, IsReadableNote, IsReadableFormula, NamesVariables, SaysAgain};
 
 use cnf_core::{CellNote, Clause, Event, Formula, Lit, Log};
 use ep_base::Memory;
@@ -229,6 +232,7 @@ pub fn write_log(alloc: Global, log: &Log) -> Result<Vec<u8>, Memory>
     ensures text { IfOk result (λ text. text.items ≡ log_text log.now.events) }
     // Reading gives the lines of the log back.
     ensures again { IfOk result (λ text. proof_of text.items ≡ Ok (log_lines log.now.events)) }
+    ensures spells { IfOk result (λ text. SpellsLog text.items (log_lines log.now.events)) }
 {
     log_bytes(alloc, log)
 }
@@ -261,6 +265,8 @@ pub fn write_cnf(
     // Reading gives the formula, the notes and the number back.
     ensures again { All IsReadableNote (map plain_note notes.now) → added < 10 ^ 18 →
         IfOk result (λ text. SaysAgain text.items f.now (map plain_note notes.now) added) }
+    ensures spells { All IsReadableNote (map plain_note notes.now) → added < 10 ^ 18 →
+        IfOk result (λ text. SpellsCnf text.items f.now.vars f.now.clauses) }
 {
     cnf_bytes(alloc, f, notes, added)
 }

@@ -2,7 +2,8 @@ use Rattle.std.proofs.Common.{List, subst, sym}
 use Rattle.std.specs.Prelude.{All}
 use Rattle.cnf_core.specs.Literal.{IsClause}
 use Rattle.cnf_core.specs.Events.{LogEvent, clauses_of, HintsAreEarlier}
-use Rattle.sat_text.specs.Writing.{log_lines, IsReadable}
+use Rattle.cnf_core.specs.LogLines.{log_lines}
+use Rattle.sat_text.specs.Writing.{IsReadable}
 use Rattle.sat_text.proofs.Readable.{log_readable}
 use Rattle.sat_text.proofs.writing.log_bytes.Goals as goal
 

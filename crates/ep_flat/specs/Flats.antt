@@ -1,0 +1,43 @@
+-- Flat problems: variables with domains and constraints on them, and which numbers of the variables meet them.
+use Rattle.std.specs.Prelude.{ℕ, ◌<◌, ℤ, IsTrue, List, length, Option}
+use Rattle.std.specs.List.{All, AllZip, Contains}
+use Rattle.ep_base.specs.Reads.{IsWithinNumbers}
+use Rattle.ep_base.specs.declared.operators.Sense.{Sense}
+use Rattle.ep_flat.specs.Cons.{FlatCon, con_holds, con_variables, kind_coefficients, numbers_at}
+
+-- the domains of variables, and the constraints on them
+pub record FlatState : Type 0 where
+  pub vars : List (List ℤ)
+  pub cons : List FlatCon
+
+-- the variable of each cell, and that of the objective where there is one
+pub record MapState : Type 0 where
+  pub cells : List ℕ
+  pub objective : Option (Sense × ℕ)
+
+-- Numbers of the variables that meet a flat problem: each is of its variable's domain, and each constraint holds.
+pub record Meets (flat : FlatState) (values : List ℤ) : Type 0 where
+  pub domains : AllZip Contains flat.vars values
+  pub cons : All (λ con. IsTrue (con_holds values con)) flat.cons
+
+-- the numbers that the cells have where the variables have these
+abbrev pub cell_numbers : MapState → List ℤ → List ℤ
+cell_numbers m values = numbers_at values m.cells
+
+-- each variable that a constraint names is one of so many
+abbrev pub NamesBelow : ℕ → FlatCon → Type 0
+NamesBelow vars con = All (λ x. x < vars) (con_variables con)
+
+-- each coefficient of a constraint lies within the numbers that the stages compute with
+abbrev pub HasSmallCoefficients : FlatCon → Type 0
+HasSmallCoefficients con = All IsWithinNumbers (kind_coefficients con.kind)
+
+-- each number of these domains lies within the numbers that the stages compute with
+abbrev pub HaveSmallNumbers : List (List ℤ) → Type 0
+HaveSmallNumbers domains = All (λ domain. All IsWithinNumbers domain) domains
+
+-- each constraint names variables of the flat problem alone, and all numbers and coefficients are small enough
+pub record IsSound (flat : FlatState) : Type 0 where
+  pub names : All (NamesBelow (length flat.vars)) flat.cons
+  pub numbers : HaveSmallNumbers flat.vars
+  pub coefficients : All HasSmallCoefficients flat.cons

@@ -1,0 +1,3 @@
+pub mod Cons
+pub mod Flats
+pub mod FlatViews

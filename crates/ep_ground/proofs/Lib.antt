@@ -1,0 +1,2 @@
+pub mod VectorsTerms
+pub mod VectorsGrounds

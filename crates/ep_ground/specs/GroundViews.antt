@@ -1,0 +1,11 @@
+-- The code's grounds, without where their lists lie in memory.
+use Rattle.ep_ground.specs.declared.grounds.Ground.{Ground}
+use Rattle.ep_ground.specs.Grounds.{GroundState}
+
+abbrev pub plain_ground : Ground → GroundState
+plain_ground g = record {
+  nodes = g.arena;
+  cells = g.cells.items;
+  clauses = g.clauses.items;
+  objective = g.objective;
+}

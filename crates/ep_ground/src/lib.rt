@@ -1,0 +1,16 @@
+//! Shared terms over cells, and grounds: the clauses and the objective that an instance asks for.
+#![tactic(auto)]
+
+mod arena;
+mod cells;
+mod grounds;
+mod nodes;
+mod terms;
+#[cfg(test)]
+mod tests;
+
+pub use arena::{Arena, InternError};
+pub use cells::Cell;
+pub use grounds::Ground;
+pub use nodes::Node;
+pub use terms::Term;
