@@ -1,0 +1,16 @@
+//! Reads the words of a command line as a job.
+#![tactic(auto)]
+
+mod errors;
+mod job;
+mod jobs;
+mod read;
+mod settings;
+mod task;
+#[cfg(test)]
+mod tests;
+mod values;
+
+pub use errors::WordsError;
+pub use job::Job;
+pub use read::{one_job_for_words, read_words};
