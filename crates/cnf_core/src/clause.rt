@@ -1,7 +1,7 @@
 //! Clauses: distinct literals in order.
 
 ghost use Rattle.std.specs.Prelude.{◌≡◌, ℕ, ◌≤◌, All, IfOk};
-ghost use Rattle.cnf_core.specs.Literal.{IsOrdered, IsVariable, HaveSameLiterals, VariablesUpTo};
+ghost use Rattle.cnf_core.specs.Literal.{IsClause, IsOrdered, IsVariable, HaveSameLiterals, VariablesUpTo};
 
 use crate::lit::{Lit, MOST_VARIABLE};
 use ep_base::Memory;
@@ -32,6 +32,7 @@ impl Clause {
     /// Costs a sort, and one allocation of the clause's size.
     pub fn new(alloc: Global, lits: Vec<Lit>) -> Result<Clause, Memory>
         ensures ordered { IfOk result (λ clause. IsOrdered clause) }
+        ensures clause { IfOk result (λ clause. IsClause clause) }
         ensures same { IfOk result (λ clause. HaveSameLiterals clause lits.items) }
     {
         let mut lits = lits;

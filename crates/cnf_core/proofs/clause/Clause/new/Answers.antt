@@ -34,3 +34,7 @@ returns-clause-ordered c = (made (goal.at.returns-clause-ordered c).In_ok-lits).
 
 pub returns-clause-same : goal.returns-clause-same
 returns-clause-same c = (made (goal.at.returns-clause-same c).In_ok-lits).1
+
+pub returns-clause-clause : goal.returns-clause-clause
+returns-clause-clause c =
+    let ended = (goal.at.returns-clause-clause c).In_ok-lits in record { ordered = (made ended).0; variables = in_range ended }

@@ -1,8 +1,8 @@
 -- A clause at the end leaves what is true of a formula.
-use Rattle.std.proofs.Common.{List, sym, subst}
+use Rattle.std.proofs.Common.{sym, subst}
 use Rattle.std.specs.Prelude.{All}
 use Rattle.std.proofs.lemmas.List.Elements.{All-push}
-use Rattle.cnf_core.specs.Literal.{Literal, VariablesUpTo, IsClause}
+use Rattle.cnf_core.specs.Literal.{VariablesUpTo, IsClause}
 use Rattle.cnf_core.specs.Formula.{Cnf}
 use Rattle.cnf_core.proofs.Events.{clause_is}
 use Rattle.cnf_core.proofs.formula.Formula.add.Goals as goal
