@@ -5,6 +5,8 @@ mod copies;
 mod environments;
 mod errors;
 mod evaluation;
+mod held;
+mod scopes;
 
 pub use environments::{Env, NamedDomain};
 pub use errors::EvalError;
