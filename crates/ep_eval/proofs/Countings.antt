@@ -1,0 +1,111 @@
+-- How counts and causes compose.
+use Rattle.std.proofs.Common.{◌≡◌, ℕ, ◌+◌, ◌<◌, ◌≤◌, Bool, true, false, List, [], ◌∷◌, ◌++◌, length, refl, sym, ap, subst, ◌∙◌, inl, inr, arith}
+use Rattle.std.specs.Prelude.{Contains, flat_map, nat_lt, ◌||◌, if◌then◌else◌, ℤ, option_to_list, Option, Some, None}
+use Rattle.std.specs.List.{list_any}
+use Rattle.std.proofs.lemmas.List.{length-append}
+use Rattle.std.proofs.lemmas.Grind.{flat_map-append}
+use Rattle.std.proofs.lemmas.List.Elements.{Contains-append_left, Contains-append_right, Contains-append_cases}
+use Rattle.ep_base.specs.declared.operators.Limit.{Limit as LimitName}
+use Rattle.ep_tree.specs.Environments.{Env}
+use Rattle.ep_tree.specs.Evaluation.{evaluate, number_in}
+use Rattle.ep_tree.specs.Limits.{MOST_SIZE, is_too_far, limits_of_values, numbers_at}
+use Rattle.ep_tree.specs.Measures.{Met, a_node, met, size_of}
+use Rattle.ep_tree.specs.Trees.{ExprTree}
+use Rattle.ep_tree.specs.declared.values.Mode.{Mode}
+use Rattle.ep_eval.specs.Counting.{Counted, IsPlain, met_below}
+use Rattle.ep_eval.specs.Outcomes.{IsCause}
+use Rattle.ep_eval.specs.declared.errors.EvalError.{EvalError}
+use Rattle.ep_eval.specs.declared.errors.EvalError.TheVariants.{Limit, Memory}
+
+any_append : (f : ℤ → Bool) (xs ys : List ℤ) → list_any f (xs ++ ys) ≡ (list_any f xs || list_any f ys)
+any_append f [] ys = refl
+any_append f (x ∷ xs) ys = by (f x) (any_append f xs ys)
+  where
+    by : (b : Bool) → list_any f (xs ++ ys) ≡ (list_any f xs || list_any f ys) → (b || list_any f (xs ++ ys)) ≡ ((b || list_any f xs) || list_any f ys)
+    by true h = refl
+    by false h = h
+
+neither : (a b : Bool) → a ≡ false → b ≡ false → (a || b) ≡ false
+neither false b h k = k
+neither true b h k = absurd cc
+
+left_true : (a b : Bool) → a ≡ true → (a || b) ≡ true
+left_true true b h = refl
+left_true false b h = absurd cc
+
+right_true : (a b : Bool) → b ≡ true → (a || b) ≡ true
+right_true true b h = refl
+right_true false b h = h
+
+flat_append : {A B : Type 0} (f : A → List B) (xs ys : List A) → flat_map f (xs ++ ys) ≡ flat_map f xs ++ flat_map f ys
+flat_append f xs ys = flat_map-append f xs ys
+
+-- nodes that are met after others
+pub counted_append : (mode : Mode) (a b c : ℕ) (ms ns : List Met) → Counted mode a b ms → Counted mode b c ns → Counted mode a c (ms ++ ns)
+counted_append mode a b c ms ns h k = record {
+  count = omega (arith, h.count, k.count, length-append ms ns);
+  small = k.small;
+  near =
+    ap (list_any is_too_far) (flat_append (numbers_at mode) ms ns)
+    ∙ any_append is_too_far (flat_map (numbers_at mode) ms) (flat_map (numbers_at mode) ns)
+    ∙ neither _ _ h.near k.near;
+}
+
+-- no nodes
+pub counted_none : (mode : Mode) (a : ℕ) → a ≤ MOST_SIZE → Counted mode a a []
+counted_none mode a h = record { count = omega arith; small = h; near = refl }
+
+-- a plain node in front, whose number is near
+pub counted_node : (mode : Mode) (env : Env) (e : ExprTree) (a b : ℕ) → IsPlain mode env e
+    → list_any is_too_far (option_to_list (number_in (evaluate mode env e))) ≡ false
+    → Counted mode (a + 1) b (met_below mode env e) → Counted mode a b (met mode env e)
+counted_node mode env e a b p n h =
+    subst (λ ms. Counted mode a b ms) (sym p.first) (record {
+      count = omega (arith, h.count);
+      small = h.small;
+      near =
+        any_append is_too_far (numbers_at mode (a_node env e)) (flat_map (numbers_at mode) (met_below mode env e))
+        ∙ neither _ _ (ap (list_any is_too_far) p.own ∙ n) h.near;
+    })
+
+-- ---- causes
+
+-- the two limits, by whether each is passed
+size_limit : (b c : Bool) → b ≡ true → Contains ((if b then LimitName.Size ∷ [] else []) ++ (if c then LimitName.Reach ∷ [] else [])) LimitName.Size
+size_limit true c h = (0, omega arith, refl)
+size_limit false c h = absurd cc
+
+reach_limit : (b c : Bool) → c ≡ true → Contains ((if b then LimitName.Size ∷ [] else []) ++ (if c then LimitName.Reach ∷ [] else [])) LimitName.Reach
+reach_limit true true h = (1, omega arith, refl)
+reach_limit false true h = (0, omega arith, refl)
+reach_limit b false h = absurd cc
+
+-- more limits are passed where each that was passed still is
+more_limits : (b c b' c' : Bool) (l : LimitName) → (b ≡ true → b' ≡ true) → (c ≡ true → c' ≡ true)
+    → Contains ((if b then LimitName.Size ∷ [] else []) ++ (if c then LimitName.Reach ∷ [] else [])) l
+    → Contains ((if b' then LimitName.Size ∷ [] else []) ++ (if c' then LimitName.Reach ∷ [] else [])) l
+more_limits b c b' c' l h k m =
+    elim (Contains-append_cases (if b then LimitName.Size ∷ [] else []) (if c then LimitName.Reach ∷ [] else []) l m)
+    as (λ _. Contains ((if b' then LimitName.Size ∷ [] else []) ++ (if c' then LimitName.Reach ∷ [] else [])) l) [
+      | inl w ↦ Contains-append_left (if b' then LimitName.Size ∷ [] else []) (if c' then LimitName.Reach ∷ [] else []) l (kept b b' LimitName.Size l h w)
+      | inr w ↦ Contains-append_right (if b' then LimitName.Size ∷ [] else []) (if c' then LimitName.Reach ∷ [] else []) l (kept c c' LimitName.Reach l k w)
+    ]
+  where
+    kept : (x y : Bool) (one l : LimitName) → (x ≡ true → y ≡ true) → Contains (if x then one ∷ [] else []) l → Contains (if y then one ∷ [] else []) l
+    kept true true one l f w = w
+    kept true false one l f w = absurd (let e = f refl in cc)
+    kept false y one l f w = absurd (omega (arith, w.1))
+
+-- whether the first sum of a test on numbers passes where a lesser one does
+grows : (m a b : ℕ) → a ≤ b → nat_lt m a ≡ true → nat_lt m b ≡ true
+grows m a b h k = grind arith
+
+-- what refuses some nodes refuses them among more
+pub cause_more : (mode : Mode) (a b : ℕ) (ms ns : List Met) (error : EvalError)
+    → (a + length ms ≤ b + length ns)
+    → (list_any is_too_far (flat_map (numbers_at mode) ms) ≡ true → list_any is_too_far (flat_map (numbers_at mode) ns) ≡ true)
+    → IsCause (limits_of_values mode a ms) error → IsCause (limits_of_values mode b ns) error
+unfolding limits_of_values
+cause_more mode a b ms ns Memory h k c = tt
+cause_more mode a b ms ns (Limit l) h k c =
+    more_limits (nat_lt MOST_SIZE (a + length ms)) _ (nat_lt MOST_SIZE (b + length ns)) _ l (grows MOST_SIZE (a + length ms) (b + length ns) h) k c
