@@ -97,7 +97,7 @@ pub record Takes (phrase : Phrase) (ls rest : List Lexeme) : Type 0 where
   pub parts : ls ≡ front ++ rest
   pub spelled : phrase front
 
-pub takes_then : (a b : Phrase) (ls mid rest : List Lexeme) → Takes a ls mid → Takes b mid rest → Takes (a followed_by b) ls rest
+abbrev pub takes_then : (a b : Phrase) (ls mid rest : List Lexeme) → Takes a ls mid → Takes b mid rest → Takes (a followed_by b) ls rest
 takes_then a b ls mid rest s t =
     record {
       front = s.front ++ t.front;
@@ -111,7 +111,7 @@ takes_nothing ls = record { front = []; parts = refl; spelled = refl }
 pub takes_as : (a b : Phrase) (ls rest : List Lexeme) → ((front : List Lexeme) → a front → b front) → Takes a ls rest → Takes b ls rest
 takes_as a b ls rest f t = record { front = t.front; parts = t.parts; spelled = f t.front t.spelled }
 
-pub takes_token : (l : Lexeme) (ls : List Lexeme) (s : Saying) → l.saying ≡ s → Takes (Is s) (l ∷ ls) ls
+abbrev pub takes_token : (l : Lexeme) (ls : List Lexeme) (s : Saying) → l.saying ≡ s → Takes (Is s) (l ∷ ls) ls
 takes_token l ls s e =
     record { front = l ∷ []; parts = refl; spelled = (l.place, ap (λ (x : Saying). record { place = l.place; saying = x } ∷ []) e) }
 
@@ -175,3 +175,20 @@ module _ {A : Type 0} (word_of : A → List ℕ) where
   unfolding next_in
   next_in-sound entries h [] x e = absurd cc
   next_in-sound entries h (l ∷ ls) x e = takes_token l ls (a_word (word_of x)) (meant_by-sound entries h l.saying x e)
+
+-- phrases that follow one another are grouped to the right
+pub regrouped : (a b c : Phrase) (front : List Lexeme) → ((a followed_by b) followed_by c) front → (a followed_by b followed_by c) front
+regrouped a b c front h =
+    (h.3.0, h.3.1 ++ h.1, h.2 ∙ ap (λ x. x ++ h.1) h.3.2 ∙ append_assoc h.3.0 h.3.1 h.1, h.3.3, (h.3.1, h.1, refl, h.3.4, h.4))
+
+-- a phrase behind two
+pub behind_two : (a b c : Phrase) (ls mid rest : List Lexeme) → Takes (a followed_by b) ls mid → Takes c mid rest → Takes (a followed_by b followed_by c) ls rest
+behind_two a b c ls mid rest s t =
+    takes_as ((a followed_by b) followed_by c) (a followed_by b followed_by c) ls rest (regrouped a b c) (takes_then (a followed_by b) c ls mid rest s t)
+
+-- a phrase behind three
+pub behind_three : (a b c d : Phrase) (ls mid rest : List Lexeme) → Takes (a followed_by b followed_by c) ls mid → Takes d mid rest
+    → Takes (a followed_by b followed_by c followed_by d) ls rest
+behind_three a b c d ls mid rest s t =
+    takes_as (a followed_by ((b followed_by c) followed_by d)) (a followed_by b followed_by c followed_by d) ls rest
+    (λ front k. (k.0, k.1, k.2, k.3, regrouped b c d k.1 k.4)) (behind_two a (b followed_by c) d ls mid rest s t)

@@ -2,7 +2,7 @@
 --
 -- A reader gives what it took and the tokens behind it; or the tokens from the first one with which nothing goes on; or
 -- those from the first one with which only what is too high goes on.
-use Rattle.std.specs.Prelude.{ℕ, zero, suc, Bool, true, false, not, ◌&&◌, ◌||◌, List, [], ◌∷◌, length, Option, Some, None, nat_lt, bytes_eq, codes}
+use Rattle.std.specs.Prelude.{ℕ, zero, suc, Bool, true, false, not, ◌&&◌, ◌||◌, List, [], ◌∷◌, length, Option, Some, None, nat_lt, nat_le, bytes_eq, codes}
 use Rattle.std.specs.List.{list_any}
 use Rattle.ep_base.specs.declared.names.Name.{Name}
 use Rattle.ep_base.specs.declared.operators.CompareOp.{CompareOp}
@@ -10,7 +10,7 @@ use Rattle.ep_base.specs.declared.operators.LexOp.{LexOp}
 use Rattle.ep_base.specs.declared.places.Place.{Place}
 use Rattle.ep_tree.specs.Heights.{domain_height, height}
 use Rattle.ep_tree.specs.Phrases.{Lexeme, Saying, a_name, a_number, a_word}
-use Rattle.ep_tree.specs.Spelling.{DomainLevel, Level, comparisons, conjunctions, disjunctions, domains, ends_open, implications, powers, primaries, products, reads, set_operations, set_parts, sums, takes_own_group, unaries}
+use Rattle.ep_tree.specs.Spelling.{DomainLevel, Level, comparisons, conjunctions, disjunctions, domains, ends_open, implications, own_level, powers, primaries, products, rank, reads, set_operations, set_parts, sums, takes_own_group, unaries}
 use Rattle.ep_tree.specs.Trees.{DomainTree, Domains, End, ExprTree, ExprTrees, Generators, IndexDomain, Indices, Ranges, Terms, absolute, all_different, all_of, any_of, at_least, at_most, binary, bool, chain, compare, comprehension, domain_and, end_at, every_and, factorial, flatten, folded, gcc, generator_and, group, group_domain, in_domain, in_set, index_and, int, lex, literal, matrix_domain, minus, named, named_domain, negation, no_domains, no_end, no_generators, no_indices, no_ranges, no_terms, no_trees, number, one_and, over, place_of, place_of_domain, quantified, ranges, read, set_domain, span_and, table, term_and, to_int, tree_and, truth, unstated}
 use Rattle.ep_tree.specs.declared.syntax.BinaryOp.{BinaryOp}
 use Rattle.ep_tree.specs.declared.syntax.FoldOp.{FoldOp}
@@ -458,10 +458,15 @@ abbrev pub only_if : {A : Type 0} → Bool → (List Lexeme → Read A) → List
 only_if true reader ls = Some (reader ls)
 only_if false reader ls = None
 
--- A further read of what was read. A read without `..` has taken all bracket groups already.
+-- Whether indices may stand behind an expression: not behind `!`, `-` or a quantifier, and a read without `..` has taken
+-- all bracket groups already.
+unfoldable pub takes_group : ExprTree → Bool
+takes_group m = nat_le (rank reads) (rank (own_level m)) && takes_own_group m
+
+-- a further read of what was read
 unfoldable pub another_read : ℕ → Lower → ExprTree → List Lexeme → Option (Read ExprTree)
 another_read most low m ls =
-    only_if (says (codes "[") ls && takes_own_group m) (if_low (nat_lt (height m) most) (λ all. read_from low m (behind all))) ls
+    only_if (says (codes "[") ls && takes_group m) (if_low (nat_lt (height m) most) (λ all. read_from low m (behind all))) ls
 
 -- an operand, with reads of it
 unfoldable pub unary_from : ℕ → Lower → Reader ExprTree
@@ -612,7 +617,7 @@ unfoldable pub implication_from : ℕ → Lower → Reader ExprTree
 implication_from most low ls =
     disjunction_from most low ls and_then grown (another_binary most low implication_words disjunctions)
 
--- an expression where a level is asked for
+-- an expression where a level is asked for, which is that of unary operators or a looser one
 unfoldable pub at_level : ℕ → Lower → Level → Reader ExprTree
 at_level most low implications = implication_from most low
 at_level most low disjunctions = disjunction_from most low
