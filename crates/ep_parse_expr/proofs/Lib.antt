@@ -1,0 +1,4 @@
+mod Vectors
+pub mod Holding
+pub mod SoundParts
+pub mod SoundLists
