@@ -3,7 +3,7 @@
 -- A variable with the values d0 < d1 < .. < dn has one literal for each "it is at least di" with i from 1 on, and behind
 -- these one for each "it is di" that isn't the first or the last. A variable with a single value has one literal, which is
 -- always true.
-use Rattle.std.specs.Prelude.{◌≡◌, ℕ, zero, suc, ◌+◌, ◌-◌, ◌≤◌, ◌==◌, nat_le, ℤ, Bool, true, false, List, [], ◌∷◌, length, map, count_by, filter, slice_index_or, if◌then◌else◌, int_le, int_lt}
+use Rattle.std.specs.Prelude.{◌≡◌, ℕ, ◌+◌, ◌-◌, ◌≤◌, ◌==◌, nat_le, ℤ, Bool, true, false, List, length, filter, if◌then◌else◌, int_le, int_lt}
 use Rattle.std.specs.List.{Contains}
 use Rattle.std.specs.Ordering.{int_eq}
 use Rattle.ep_base.specs.Numbers.{has_number}
@@ -25,27 +25,31 @@ no v = record { var = v; positive = false }
 
 -- how many values are below v
 unfoldable pub values_below : List ℤ → ℤ → ℕ
-values_below values v = count_by (λ w. int_lt w v) values
+values_below values v = length (filter (λ w. int_lt w v) values)
 
 -- how many values are at most v
 unfoldable pub values_up_to : List ℤ → ℤ → ℕ
-values_up_to values v = count_by (λ w. int_le w v) values
+values_up_to values v = length (filter (λ w. int_le w v) values)
 
 -- "it is one of the first so many values"
 unfoldable pub among_first : Entry → ℕ → Known
-among_first e zero = known.False
-among_first e (suc count) =
-    if nat_le (length e.domain) (suc count) then known.True else known.Is (no (e.first + count))
+among_first e count =
+    if count == 0
+    then known.False
+    else (if nat_le (length e.domain) count then known.True else known.Is (no (e.first + (count - 1))))
 
 -- "it is at most v"
 unfoldable pub le_of : Entry → ℤ → Known
 le_of e v = among_first e (values_up_to e.domain v)
 
--- the literal that says that it is the value at this place, of so many
+-- the literal that says that it is the value at this place, where there are so many and this is the first variable
 unfoldable pub place_literal : ℕ → ℕ → ℕ → Literal
-place_literal first count zero = if nat_le count 1 then yes first else no first
-place_literal first count (suc place) =
-    if nat_le count (suc (suc place)) then yes (first + place) else yes (first + count - 1 + place)
+place_literal first count place =
+    if nat_le count 1
+    then yes first
+    else (if place == 0
+    then no first
+    else (if nat_le count (place + 1) then yes (first + (place - 1)) else yes (first + (count - 1) + (place - 1))))
 
 -- the literal that says that it is v, one of its values
 unfoldable pub note_of : Entry → ℤ → Literal

@@ -1,16 +1,14 @@
 -- Layouts: the literals of many variables, when they are those of a formula, and what it is to go on from one.
-use Rattle.std.specs.Prelude.{◌≡◌, ℕ, ◌+◌, ◌≤◌, ℤ, Bool, IsTrue, List, [], ◌∷◌, ◌++◌, length, map, take, slice_index_or, Option, option_map}
+use Rattle.std.specs.Prelude.{◌≡◌, ℕ, ◌≤◌, ℤ, Bool, IsTrue, List, [], ◌++◌, length, map, take, slice_index_or}
 use Rattle.std.specs.List.{All, Contains}
 use Rattle.ep_base.specs.Reads.{IsWithinNumbers}
-use Rattle.ep_base.specs.declared.operators.Sense.{Sense}
 use Rattle.cnf_core.specs.Clauses.{Satisfies}
-use Rattle.cnf_core.specs.Events.{Note}
-use Rattle.cnf_core.specs.Formula.{Cnf, Extends, Keeps}
+use Rattle.cnf_core.specs.Formula.{Cnf, Extends}
 use Rattle.cnf_core.specs.Literal.{Literal}
 use Rattle.cnf_core.specs.Steps.{IsConsistent}
-use Rattle.ep_flat.specs.Cons.{FlatCon, con_holds, con_variables, number_at}
-use Rattle.ep_flat.specs.Flats.{FlatState, HasSmallCoefficients, MapState, Meets, NamesBelow}
-use Rattle.enc_var.specs.Entries.{Entry, HasLiteralsUpTo, Means, decoded, note_of}
+use Rattle.ep_flat.specs.Cons.{FlatCon, con_holds, con_variables}
+use Rattle.ep_flat.specs.Flats.{FlatState, HasSmallCoefficients, Meets, NamesBelow}
+use Rattle.enc_var.specs.Entries.{Entry, HasLiteralsUpTo, Means, decoded}
 
 -- the literals of a variable; of one that isn't there, those of a variable without a value
 abbrev pub entry_at : List Entry → ℕ → Entry

@@ -4,6 +4,7 @@ ghost use Rattle.std.specs.Prelude.{◌≡◌, ◌+◌, ◌<◌, ◌++◌, ◌�
 ghost use Rattle.enc_var.specs.Entries.{eq_of, le_of};
 ghost use Rattle.enc_var.specs.Layouts.{AddsVariable, GoesOn, IsLayoutOf, entry_at};
 
+use crate::known::Known;
 use crate::variables::Variable;
 use cnf_core::Formula;
 use ep_base::{Memory, Runs};
@@ -51,6 +52,24 @@ impl Layout {
         let _vars = f.vars();
         let _runs = domain.runs();
         Err(Memory)
+    }
+
+    /// What is known of "the variable is at most `v`", by binary search.
+    pub fn le(&self, var: u64, v: i64) -> Known
+        requires { var < length self.now }
+        ensures { result ≡ le_of (entry_at self.now var) v }
+    {
+        let variable = &self.variables[var as usize];
+        variable.le(v)
+    }
+
+    /// What is known of "the variable is `v`", by binary search.
+    pub fn eq(&self, var: u64, v: i64) -> Known
+        requires { var < length self.now }
+        ensures { result ≡ eq_of (entry_at self.now var) v }
+    {
+        let variable = &self.variables[var as usize];
+        variable.eq(v)
     }
 
     /// The domain of a variable.
