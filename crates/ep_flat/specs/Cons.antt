@@ -1,7 +1,7 @@
 -- Flat constraints on variables, which are numbers from 0 on, and when one holds.
 --
 -- That a quotient, a remainder or an element without a value is 0, or the first part, is this project's own choice.
-use Rattle.std.specs.Prelude.{ℕ, ℤ, pos, ◌*ℤ◌, Bool, false, List, [], ◌∷◌, ◌++◌, map, Option, Some, None, option_to_list, unwrap_or, slice_index_or}
+use Rattle.std.specs.Prelude.{true, ℕ, ℤ, pos, ◌*ℤ◌, Bool, false, List, [], ◌∷◌, ◌++◌, map, Option, Some, None, option_to_list, unwrap_or, slice_index_or}
 use Rattle.std.specs.List.{list_all, list_any}
 use Rattle.std.specs.Ordering.{int_eq}
 use Rattle.ep_base.specs.Numbers.{absolute_of, are_different, compare_holds, counts_hold, greatest_of, has_number, is_one, is_row_of, least_of, lex_holds, nth_power, of_bool}
@@ -143,3 +143,8 @@ family_of (at_least xs cs ns) = of_counts
 family_of (at_most xs cs ns) = of_counts
 family_of (table xs rows) = of_rows
 family_of (lex op xs ys) = of_rows
+
+-- a sum that is compared with a number
+unfoldable pub is_linear : FlatKind → Bool
+is_linear (linear parts op c) = true
+is_linear _ = false

@@ -1,9 +1,9 @@
 -- Flat problems: variables with domains and constraints on them, and which numbers of the variables meet them.
-use Rattle.std.specs.Prelude.{ℕ, ◌<◌, ℤ, IsTrue, List, length, Option}
+use Rattle.std.specs.Prelude.{ℕ, ◌<◌, ℤ, option_map, IsTrue, List, length, Option}
 use Rattle.std.specs.List.{All, AllZip, Contains}
 use Rattle.ep_base.specs.Reads.{IsWithinNumbers}
 use Rattle.ep_base.specs.declared.operators.Sense.{Sense}
-use Rattle.ep_flat.specs.Cons.{FlatCon, con_holds, con_variables, kind_coefficients, numbers_at}
+use Rattle.ep_flat.specs.Cons.{FlatCon, con_holds, con_variables, kind_coefficients, number_at, numbers_at}
 
 -- the domains of variables, and the constraints on them
 pub record FlatState : Type 0 where
@@ -23,6 +23,10 @@ pub record Meets (flat : FlatState) (values : List ℤ) : Type 0 where
 -- the numbers that the cells have where the variables have these
 abbrev pub cell_numbers : MapState → List ℤ → List ℤ
 cell_numbers m values = numbers_at values m.cells
+
+-- the number of the objective's variable, where there is one
+unfoldable pub objective_number : MapState → List ℤ → Option ℤ
+objective_number m values = option_map (λ goal. number_at values goal.1) m.objective
 
 -- each variable that a constraint names is one of so many
 abbrev pub NamesBelow : ℕ → FlatCon → Type 0

@@ -1,0 +1,6 @@
+//! Flat problems as formulas.
+#![tactic(auto)]
+
+mod whole;
+
+pub use whole::encode;

@@ -1,0 +1,6 @@
+//! Different variables and counts of values, as clauses.
+#![tactic(auto)]
+
+mod encode;
+
+pub use encode::encode_con;

@@ -1,0 +1,6 @@
+//! Sums compared with numbers, and membership in sets, as clauses.
+#![tactic(auto)]
+
+mod encode;
+
+pub use encode::encode_con;

@@ -1,0 +1,83 @@
+//! Layouts: the literals of many variables.
+
+ghost use Rattle.std.specs.Prelude.{◌≡◌, ◌+◌, ◌<◌, ◌++◌, ◌∷◌, [], length, IsTrue, IfOk, OnOk};
+ghost use Rattle.enc_var.specs.Entries.{eq_of, le_of};
+ghost use Rattle.enc_var.specs.Layouts.{AddsVariable, GoesOn, IsLayoutOf, entry_at};
+
+use crate::known::Known;
+use crate::variables::Variable;
+use cnf_core::Formula;
+use ep_base::{Memory, Runs};
+use std::alloc::Global;
+use std::marker::Model;
+
+/// The literals of variables, which are numbered from 0. Contracts see the list of their entries.
+#[derive(Drop)]
+pub struct Layout {
+    variables: Vec<Variable>,
+}
+
+impl Model for Layout {
+    ghost use Rattle.std.specs.Prelude.{List};
+    ghost use Rattle.enc_var.specs.Entries.{Entry};
+
+    ghost Value = { List Entry };
+
+    ghost view = { λ layout. layout.variables.items };
+}
+
+impl Layout {
+    /// A layout without a variable.
+    pub fn new(alloc: Global) -> Layout
+        ensures { result ≡ [] }
+    {
+        Layout {
+            variables: Vec::new(alloc),
+        }
+    }
+
+    /// Adds a variable with this domain, and answers its number. After want of memory nothing is
+    /// promised of layout and formula.
+    pub fn new_var(&mut self, f: &mut Formula, domain: &Runs) -> Result<u64, Memory>
+        requires from_new { IsTrue f.old.from_new }
+        requires is_layout { IsLayoutOf self.old f.old }
+        ensures number { IfOk result (λ var. var ≡ length self.old) }
+        ensures entry { OnOk result
+            (self.new ≡ self.old ++ record { domain = domain.now; first = f.old.vars + 1 } ∷ []) }
+        ensures goes_on { OnOk result (GoesOn self.old f.old self.new f.new) }
+        ensures choice { OnOk result (AddsVariable f.old
+            (record { domain = domain.now; first = f.old.vars + 1 }) f.new) }
+    {
+        let _variables = &self.variables;
+        let _vars = f.vars();
+        let _runs = domain.runs();
+        Err(Memory)
+    }
+
+    /// What is known of "the variable is at most `v`", by binary search.
+    pub fn le(&self, var: u64, v: i64) -> Known
+        requires { var < length self.now }
+        ensures { result ≡ le_of (entry_at self.now var) v }
+    {
+        let variable = &self.variables[var as usize];
+        variable.le(v)
+    }
+
+    /// What is known of "the variable is `v`", by binary search.
+    pub fn eq(&self, var: u64, v: i64) -> Known
+        requires { var < length self.now }
+        ensures { result ≡ eq_of (entry_at self.now var) v }
+    {
+        let variable = &self.variables[var as usize];
+        variable.eq(v)
+    }
+
+    /// The domain of a variable.
+    pub fn domain(&self, var: u64) -> &Runs
+        requires { var < length self.now }
+        ensures { result.now ≡ (entry_at self.now var).domain }
+    {
+        let variable = &self.variables[var as usize];
+        variable.domain()
+    }
+}

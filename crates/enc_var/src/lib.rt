@@ -1,0 +1,10 @@
+//! Literals for variables with finite domains: what a literal says of a variable's value, and which
+//! value an assignment gives it.
+#![tactic(auto)]
+
+mod known;
+mod layout;
+mod variables;
+
+pub use known::Known;
+pub use layout::Layout;

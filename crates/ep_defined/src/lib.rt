@@ -1,0 +1,6 @@
+//! Grounds without undefinedness.
+#![tactic(auto)]
+
+mod remove;
+
+pub use remove::{MOST_NODES, remove_undefined};

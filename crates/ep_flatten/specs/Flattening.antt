@@ -1,0 +1,28 @@
+-- What it means that a flat problem stands for a ground.
+use Rattle.std.specs.Prelude.{◌≡◌, ℕ, ◌<◌, ℤ, List, [], map, length, Option, MatchOption, option_map, slice_index_or}
+use Rattle.std.specs.List.{All}
+use Rattle.ep_flat.specs.Cons.{number_at}
+use Rattle.ep_flat.specs.Flats.{FlatState, IsSound, MapState, Meets, cell_numbers, objective_number}
+use Rattle.ep_ground.specs.Grounds.{GroundState, IsGroundSolution, ground_objective}
+
+-- the map names a variable for each cell, with the cell's values as its domain, and one for the objective
+pub record IsMapOf (g : GroundState) (vars : List (List ℤ)) (m : MapState) : Type 0 where
+  pub cells : All (λ x. x < length vars) m.cells
+  pub domains : map (λ x. slice_index_or vars x []) m.cells ≡ map (λ one. one.values) g.cells
+  pub objective : MatchOption m.objective (Unit {0}) (λ goal. goal.1 < length vars)
+  pub senses : option_map (λ goal. goal.0) m.objective ≡ option_map (λ goal. goal.0) g.objective
+
+-- numbers of the variables that meet a flat problem and give the cells these values
+pub record IsMetBy (flat : FlatState) (m : MapState) (cells : List ℤ) : Type 0 where
+  pub values : List ℤ
+  pub meets : Meets flat values
+  pub gives : cell_numbers m values ≡ cells
+
+-- Values of the cells extend to numbers that meet the flat problem exactly where the ground keeps them, and the variable
+-- of the objective then has its number.
+pub record StandsFor (g : GroundState) (flat : FlatState) (m : MapState) : Type 0 where
+  pub is_sound : IsSound flat
+  pub is_map : IsMapOf g flat.vars m
+  pub extends : (cells : List ℤ) → IsGroundSolution g cells → IsMetBy flat m cells
+  pub restricts : (values : List ℤ) → Meets flat values → IsGroundSolution g (cell_numbers m values)
+  pub objective : (values : List ℤ) → Meets flat values → objective_number m values ≡ ground_objective g (cell_numbers m values)

@@ -1,0 +1,6 @@
+//! Grounds as flat problems.
+#![tactic(auto)]
+
+mod flattening;
+
+pub use flattening::flatten;
