@@ -9,7 +9,7 @@ use Rattle.ep_tree.specs.Faults.{Fault, IsWellFormed, after_group, after_groups,
 use Rattle.ep_tree.specs.Names.{nothing_known, put}
 use Rattle.ep_tree.specs.Statements.{Group, StatementTree, TextTree, constraints, decided}
 use Rattle.ep_tree.specs.Trees.{DomainTree, ExprTree, end_at, no_ranges, ranges, span_and}
-use Rattle.ep_tree.specs.Types.{Context, Meaning, a_value, all_typed, from_all, from_many, from_one, gives, is_integer, judge, judge_domain, type_from, typed}
+use Rattle.ep_tree.specs.Types.{Context, Meaning, all_typed, from_all, from_many, from_one, gives, is_integer, judge, judge_domain, type_from, typed}
 use Rattle.ep_tree.specs.declared.values.ValueType.{ValueType}
 use Rattle.ep_parse_model.specs.EarlyForms.{HasEarlyForms, IsBound, IsEarlyClause, IsEarlyDomain, IsEarlyGroup, IsEarlyStatement}
 use Rattle.ep_parse_model.specs.Names.{Known, adding, check_statement, check_statements, declare_all, declare_groups, names_of, none_known, uses_known}

@@ -12,7 +12,7 @@ use Rattle.ep_tree.specs.Measures.{met}
 use Rattle.ep_tree.specs.Names.{nothing_known, put}
 use Rattle.ep_tree.specs.Solutions.{Judgement, a_solution, found_values, goal_undefined, judgement, violates}
 use Rattle.ep_tree.specs.Statements.{TextTree, branching, constraints, decided, domain_letting, given, heuristic, letting, objective, requirements}
-use Rattle.ep_tree.specs.Trees.{ExprTree, binary, bool, chain, compare, end_at, folded, group, index_and, literal, minus, named, no_indices, no_ranges, no_terms, no_trees, number, ranges, read, span_and, term_and, tree_and, truth, unstated}
+use Rattle.ep_tree.specs.Trees.{ExprTree, any_of, binary, bool, chain, compare, comprehension, end_at, folded, generator_and, group, index_and, literal, minus, named, no_generators, no_indices, no_ranges, no_terms, no_trees, number, ranges, read, span_and, term_and, tree_and, truth, unstated}
 use Rattle.ep_tree.specs.Values.{list_value, single}
 use Rattle.ep_tree.specs.declared.syntax.BinaryOp.{BinaryOp}
 use Rattle.ep_tree.specs.declared.syntax.FoldOp.{FoldOp}
@@ -144,6 +144,33 @@ order =
 order-kept : map (λ row. refusals (bind Mode.Relational row.0 row.1)) order ≡ map (λ row. row.2) order
 unfolding the_language
 order-kept = refl
+
+-- ---- the two modes
+
+-- models behind their language line, what refuses them where what is undefined makes the nearest Boolean false, and
+-- what where it makes the whole undefined
+abbrev modes : List (TextTree × List Refusal × List Refusal)
+modes =
+    --     where true \/ (1/0 = 1)
+    ((requirements (at 2 1) ((any_of (at 2 7) (tree_and (truth (at 2 7) true) (tree_and (group (at 2 15) (compare (at 2 16) CompareOp.Equal (binary (at 2 16) BinaryOp.Div (number (at 2 16) (pos 1)) (number (at 2 18) (pos 0))) (number (at 2 22) (pos 1)))) no_trees))) ∷ []) ∷ []), [], (where_false 1 ∷ []))
+    ∷
+    --     letting b be 1/0 = 1
+    ((letting (at 2 1) (codes "b") (at 2 9) None (compare (at 2 14) CompareOp.Equal (binary (at 2 14) BinaryOp.Div (number (at 2 14) (pos 1)) (number (at 2 16) (pos 0))) (number (at 2 20) (pos 1))) ∷ []), [], (undefined_at model_text (at 2 1) ∷ []))
+    ∷
+    --     where 1 = 2, 1/0 = 1
+    ((requirements (at 2 1) ((compare (at 2 7) CompareOp.Equal (number (at 2 7) (pos 1)) (number (at 2 11) (pos 2))) ∷ (compare (at 2 14) CompareOp.Equal (binary (at 2 14) BinaryOp.Div (number (at 2 14) (pos 1)) (number (at 2 16) (pos 0))) (number (at 2 20) (pos 1))) ∷ []) ∷ []), (where_false 1 ∷ []), (where_false 1 ∷ []))
+    ∷
+    --     letting D be domain int(1..min([i | i : int(1..3), 1/(i-1) > 0]))
+    ((domain_letting (at 2 1) (codes "D") (at 2 9) (ranges (at 2 21) (span_and (end_at (number (at 2 25) (pos 1))) (end_at (folded (at 2 28) FoldOp.Min (comprehension (at 2 32) (named (at 2 33) (codes "i")) (generator_and ((codes "i") ∷ []) (ranges (at 2 41) (span_and (end_at (number (at 2 45) (pos 1))) (end_at (number (at 2 48) (pos 3))) no_ranges)) no_generators) (tree_and (compare (at 2 52) CompareOp.Greater (binary (at 2 52) BinaryOp.Div (number (at 2 52) (pos 1)) (group (at 2 54) (chain (at 2 55) (term_and true (named (at 2 55) (codes "i")) (term_and false (number (at 2 57) (pos 1)) no_terms))))) (number (at 2 62) (pos 0))) no_trees) unstated))) no_ranges)) ∷ []), [], (undefined_at model_text (at 2 1) ∷ []))
+    ∷ []
+
+relational-refused : map (λ row. refusals (bind Mode.Relational row.0 [])) modes ≡ map (λ row. row.1) modes
+unfolding the_language
+relational-refused = refl
+
+strict-refused : map (λ row. refusals (bind Mode.Strict row.0 [])) modes ≡ map (λ row. row.2) modes
+unfolding the_language
+strict-refused = refl
 
 -- ---- limits of values
 

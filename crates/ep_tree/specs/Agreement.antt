@@ -18,7 +18,9 @@ use Rattle.ep_tree.specs.declared.values.Mode.{Mode}
 -- what two environments say of one name agrees: they say the same, or the first has cells that the second's value fits
 abbrev pub AgreeOn : Option Bound → Option Bound → Type 0
 AgreeOn (Some (has_cells s indices values)) other =
-    (v : ValueTree) × (other ≡ Some (has_value (shape_type s indices) v)) × (fitted s s (has_number values) indices v ≡ Some v)
+    (v : ValueTree)
+    × (other ≡ Some (has_value (shape_type s indices) v))
+    × (fitted s s (has_number values) indices v ≡ Some v)
 AgreeOn one other = one ≡ other
 
 -- two environments agree but for decision variables

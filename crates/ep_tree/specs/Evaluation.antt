@@ -1,12 +1,12 @@
 -- The value of an expression: direct evaluation on its tree, under one mode and one environment.
 --
 -- In the relational mode an integer or a matrix without a value makes the nearest Boolean expression around it false,
--- and a Boolean expression always has a value; this is the relational semantics of Nightingale and others (2017). In the
--- strict mode every expression with a part without a value has none; this is the strict semantics of Frisch and Stuckey
--- (2009). An integer or matrix expression has no value where a part has none, after `/` and `%` by 0, and for a read
--- outside the index domains. That a read outside a Boolean matrix is false (relational) or undefined (strict), that a
--- matrix with one undefined part is undefined, what an undefined quantifier's domain or condition does, lists of different
--- lengths in a count or a table, and the remaining undefined forms are this project's own choice.
+-- and a Boolean expression always has a value; this is the relational semantics of Nightingale and others (2017). In
+-- the strict mode every expression with a part without a value has none; this is the strict semantics of Frisch and
+-- Stuckey (2009). An integer or matrix expression has no value where a part has none, after `/` and `%` by 0, and for a
+-- read outside the index domains. That a read outside a Boolean matrix is false (relational) or undefined (strict), that
+-- a matrix with one undefined part is undefined, what an undefined quantifier's domain or condition does, lists of
+-- different lengths in a count or a table, and the remaining undefined forms are this project's own choice.
 use Rattle.std.specs.Prelude.{ℕ, ◌+◌, Bool, true, false, not, ◌&&◌, ◌||◌, List, [], ◌∷◌, map, length, ℤ, pos, ◌*ℤ◌, neg_ℤ, is_some, if◌then◌else◌, Some, None, filter, flat_map, Option, unwrap_or, option_map, option_and_then}
 use Rattle.std.specs.Int.{int_max, int_min}
 use Rattle.std.specs.List.{list_all}
@@ -120,9 +120,10 @@ quantified_value mode QuantOp.ForAll instances = truth_in mode (option_and_then 
 quantified_value mode QuantOp.Exists instances = truth_in mode (option_and_then any_true instances)
 quantified_value mode QuantOp.Sum instances = number_value (option_map sum_of (option_and_then all_numbers instances))
 
--- What some names over one domain give. Each name in turn stands for each of the domain's numbers, which is read anew with
+-- What some names over one domain give. Each name in turn stands for each number of the domain, which is read anew with
 -- the names before it, and what these environments give is joined; where the domain is undefined there are none.
-unfoldable pub over_names : {A : Type 0} → (Name → Env → Option (List Env)) → (Option (List A) → A) → (Env → A) → List Name → Env → A
+unfoldable pub over_names :
+    {A : Type 0} → (Name → Env → Option (List Env)) → (Option (List A) → A) → (Env → A) → List Name → Env → A
 over_names numbered join inner [] env = inner env
 over_names numbered join inner (name ∷ names) env =
     join (option_map (map (over_names numbered join inner names)) (numbered name env))
@@ -200,7 +201,8 @@ unfoldable mutual
   evaluate mode env (comprehension _ e gens conditions d) =
       if domains_defined mode env gens && are_told (λ inner. values_of mode inner conditions) (reached mode env gens)
       then matrix_value (index_values mode env d)
-      (map (λ inner. evaluate mode inner e) (holding (λ inner. values_of mode inner conditions) (reached mode env gens)))
+      (map (λ inner. evaluate mode inner e)
+      (holding (λ inner. values_of mode inner conditions) (reached mode env gens)))
       else None
   evaluate mode env (read p m indices) =
       read_result mode (type_in env (read p m indices))
@@ -209,15 +211,18 @@ unfoldable mutual
   evaluate mode env (all_different _ m) = truth_in mode (option_map are_different (scalars_in (evaluate mode env m)))
   evaluate mode env (gcc _ m values counts) =
       truth_in mode
-      (on_three (scalars_in (evaluate mode env m)) (scalars_in (evaluate mode env values)) (scalars_in (evaluate mode env counts))
+      (on_three
+      (scalars_in (evaluate mode env m)) (scalars_in (evaluate mode env values)) (scalars_in (evaluate mode env counts))
       (counts_hold CompareOp.Equal))
   evaluate mode env (at_least _ m counts values) =
       truth_in mode
-      (on_three (scalars_in (evaluate mode env m)) (scalars_in (evaluate mode env values)) (scalars_in (evaluate mode env counts))
+      (on_three
+      (scalars_in (evaluate mode env m)) (scalars_in (evaluate mode env values)) (scalars_in (evaluate mode env counts))
       (counts_hold CompareOp.AtLeast))
   evaluate mode env (at_most _ m counts values) =
       truth_in mode
-      (on_three (scalars_in (evaluate mode env m)) (scalars_in (evaluate mode env values)) (scalars_in (evaluate mode env counts))
+      (on_three
+      (scalars_in (evaluate mode env m)) (scalars_in (evaluate mode env values)) (scalars_in (evaluate mode env counts))
       (counts_hold CompareOp.AtMost))
   evaluate mode env (table _ row rows) =
       truth_in mode (on_both (rows_in (evaluate mode env rows)) (scalars_in (evaluate mode env row)) is_row_of)

@@ -7,6 +7,7 @@ pub mod Statements
 pub mod StatementSpelling
 pub mod Reading
 pub mod Texts
+pub mod Placeless
 pub mod Types
 pub mod Faults
 pub mod Values
@@ -22,4 +23,5 @@ pub mod Solutions
 pub mod Views
 pub mod SolutionTexts
 pub mod TypedValues
+pub mod Closed
 pub mod Laws

@@ -25,7 +25,8 @@ pub data Met : Type 0 where
 
 -- What some names over one domain meet: each in turn what stands there with the names that are left, and then, for each
 -- number of the domain, what follows; an undefined domain has none.
-unfoldable pub met_names : (List Name → Env → List Met) → (Name → Env → Option (List Env)) → (Env → List Met) → List Name → Env → List Met
+unfoldable pub met_names :
+    (List Name → Env → List Met) → (Name → Env → Option (List Env)) → (Env → List Met) → List Name → Env → List Met
 met_names here numbered inner [] env = inner env
 met_names here numbered inner (name ∷ names) env =
     here (name ∷ names) env ++ flat_map (met_names here numbered inner names) (unwrap_or (numbered name env) [])
@@ -224,8 +225,8 @@ unfoldable pub read_weight : List MeasuredIndex → Span → List Span → ℕ
 read_weight is whole left =
     if list_any is_decided_index is then length left * (width whole.reach + sum_by index_width is) else 0
 
--- The weight of a node that holds a decision variable. toInt, brackets, lists, comprehensions, `flatten`, names, and reads
--- whose indices have no decision variable weigh nothing.
+-- The weight of a node that holds a decision variable. toInt, brackets, lists, comprehensions, `flatten`, names, and
+-- reads whose indices have no decision variable weigh nothing.
 unfoldable pub decided_weight : Mode → Env → ExprTree → ℕ
 decided_weight mode env (negation _ e) = 2
 decided_weight mode env (minus _ e) = (span_of (extent mode env e)).spread
@@ -233,7 +234,8 @@ decided_weight mode env (absolute _ e) = (span_of (extent mode env e)).spread
 decided_weight mode env (chain p terms) = sum_weight (term_spans mode env terms)
 decided_weight mode env (binary _ op a b) = binary_weight op (span_of (extent mode env a)) (span_of (extent mode env b))
 decided_weight mode env (compare _ op a b) = widths (span_of (extent mode env a) ∷ span_of (extent mode env b) ∷ [])
-decided_weight mode env (lex _ op a b) = widths (scalars_of (extent mode env a)) + widths (scalars_of (extent mode env b))
+decided_weight mode env (lex _ op a b) =
+    widths (scalars_of (extent mode env a)) + widths (scalars_of (extent mode env b))
 decided_weight mode env (in_domain _ e d) = widths (span_of (extent mode env e) ∷ [])
 decided_weight mode env (in_set _ e m) =
     let parts : List Span = scalars_of (extent mode env m) in
@@ -244,7 +246,8 @@ decided_weight mode env (quantified _ op (name ∷ names) d e) =
     quantified_weight op (map (instance_span mode op d e names) (unwrap_or (numbered mode d name env) []))
 decided_weight mode env (read p m indices) =
     let is : List MeasuredIndex = measured_list mode env indices in
-    read_weight is (span_of (extent mode env (read p m indices))) (flat_map scalars_of (parts_left is (extent mode env m)))
+    read_weight is
+    (span_of (extent mode env (read p m indices))) (flat_map scalars_of (parts_left is (extent mode env m)))
 decided_weight mode env (folded _ op m) = folded_weight op (scalars_of (extent mode env m))
 decided_weight mode env (all_different _ m) =
     let parts : List Span = scalars_of (extent mode env m) in length parts * widths parts

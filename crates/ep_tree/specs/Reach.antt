@@ -141,8 +141,8 @@ plain_index (decided_index s) = None
 unfoldable pub slice_extent : List MeasuredIndex → Extent → Extent
 slice_extent is x = unwrap_or (option_and_then (λ js. read_value js x) (all_defined (map plain_index is))) no_extent
 
--- A read that gives a scalar, by the scalars that are left. Where it reads a cell, and it is told which one, that is all;
--- else the reach is from the least lower end to the greatest upper end.
+-- A read that gives a scalar, by the scalars that are left. Where it reads a cell, and it is told which one, that is
+-- all; else the reach is from the least lower end to the greatest upper end.
 unfoldable pub read_span : Bool → Scalar → List Span → Span
 read_span true s (cell ∷ []) = cell
 read_span _ Scalar.Bool spans = truth_span
@@ -203,9 +203,12 @@ unfoldable mutual
   holds_decision decided (read _ m indices) = holds_decision decided m || index_holds_decision decided indices
   holds_decision decided (folded _ _ m) = holds_decision decided m
   holds_decision decided (all_different _ m) = holds_decision decided m
-  holds_decision decided (gcc _ m values counts) = holds_decision decided m || holds_decision decided values || holds_decision decided counts
-  holds_decision decided (at_least _ m counts values) = holds_decision decided m || holds_decision decided counts || holds_decision decided values
-  holds_decision decided (at_most _ m counts values) = holds_decision decided m || holds_decision decided counts || holds_decision decided values
+  holds_decision decided (gcc _ m values counts) =
+      holds_decision decided m || holds_decision decided values || holds_decision decided counts
+  holds_decision decided (at_least _ m counts values) =
+      holds_decision decided m || holds_decision decided counts || holds_decision decided values
+  holds_decision decided (at_most _ m counts values) =
+      holds_decision decided m || holds_decision decided counts || holds_decision decided values
   holds_decision decided (table _ row rows) = holds_decision decided row || holds_decision decided rows
 
   -- whether one of some expressions holds a decision variable

@@ -1,4 +1,4 @@
--- Values: a number, or a matrix with its indices and its parts. Of other things than numbers there are such matrices too.
+-- Values: a number, or a matrix with its indices and its parts. There are such matrices of other things too.
 --
 -- Numbers stand for Booleans, 1 for true. That a Boolean is such a number is the language's public description; how a
 -- value fits a domain is this project's own choice.
@@ -110,8 +110,8 @@ scalar_fits Scalar.Int Scalar.Int = true
 scalar_fits Scalar.Bool wanted = true
 
 -- A value of numbers of one scalar, fitted into a domain: of another scalar, with these index domains, and with the
--- numbers that pass a test. A number fits where it passes, and its scalar fits. A matrix fits where it has as many parts
--- as the index domain has values and each part fits, and takes these values as its indices.
+-- numbers that pass a test. A number fits where it passes, and its scalar fits. A matrix fits where it has as many
+-- parts as the index domain has values and each part fits, and takes these values as its indices.
 unfoldable mutual
   pub fitted : Scalar → Scalar → (ℤ → Bool) → List (List ℤ) → ValueTree → Option ValueTree
   fitted own wanted passes [] (single n) = if scalar_fits own wanted && passes n then Some (single n) else None
@@ -124,7 +124,8 @@ unfoldable mutual
   pub all_fitted : Scalar → Scalar → (ℤ → Bool) → List (List ℤ) → ValueTrees → Option (List ValueTree)
   all_fitted own wanted passes inner no_values = Some []
   all_fitted own wanted passes inner (value_and v vs) =
-      option_and_then (λ x. option_map (λ xs. x ∷ xs) (all_fitted own wanted passes inner vs)) (fitted own wanted passes inner v)
+      option_and_then
+      (λ x. option_map (λ xs. x ∷ xs) (all_fitted own wanted passes inner vs)) (fitted own wanted passes inner v)
 
 -- whether two values are equal, indices included
 unfoldable mutual

@@ -1,0 +1,6 @@
+pub mod Joining
+pub mod Values
+pub mod Answers
+pub mod Words
+pub mod Models
+pub mod Refusals
