@@ -1,7 +1,7 @@
 //! Values fitted into domains.
 
-ghost use Rattle.std.specs.Prelude.{◌≡◌, ℤ, Bool, IfOk, option_map};
-ghost use Rattle.ep_tree.specs.Values.{fitted, scalar_fits};
+ghost use Rattle.std.specs.Prelude.{◌≡◌, ◌&&◌, ℤ, Bool, IfOk, option_map};
+ghost use Rattle.ep_tree.specs.Values.{fitted, scalar_fits, single};
 ghost use Rattle.ep_tree.specs.Views.{value_tree};
 ghost use Rattle.ep_instance.specs.Elements.{PassesAs};
 
@@ -19,6 +19,35 @@ fn scalar_fits(own: Scalar, wanted: Scalar) -> bool
     own == Scalar::Bool || wanted == Scalar::Int
 }
 
+/// Whether a number of one scalar may be an element of a domain with numbers of another.
+fn number_fits(number: i64, own: Scalar, wanted: Scalar, elements: &Elements) -> bool
+    ensures { (passes : ℤ → Bool) → PassesAs elements.now passes →
+        result ≡ (scalar_fits own wanted && passes number) }
+{
+    scalar_fits(own, wanted) && passes(elements, number)
+}
+
+/// A number fitted into a domain.
+fn fit_number(
+    number: i64,
+    own: Scalar,
+    wanted: Scalar,
+    elements: &Elements,
+    indices: &[Runs],
+) -> Option<Value>
+    ensures { (passes : ℤ → Bool) → PassesAs elements.now passes →
+        option_map value_tree result ≡ fitted own wanted passes indices.now (single number) }
+{
+    if !indices.is_empty() {
+        return None;
+    }
+    if number_fits(number, own, wanted, elements) {
+        Some(Value::Number(number))
+    } else {
+        None
+    }
+}
+
 /// A copy of a value of numbers of one scalar, fitted into a domain: of a scalar, with these elements and index
 /// domains; nothing where it doesn't fit. Linear in the value.
 pub fn fit(
@@ -33,10 +62,7 @@ pub fn fit(
         option_map value_tree fit ≡ fitted own wanted passes indices.now (value_tree value.now)) }
 {
     match value {
-        Value::Number(number) => {
-            let fits = indices.is_empty() && scalar_fits(own, wanted) && passes(elements, *number);
-            Ok(if fits { Some(Value::Number(*number)) } else { None })
-        }
+        Value::Number(number) => Ok(fit_number(*number, own, wanted, elements, indices)),
         Value::Matrix(_, parts) => {
             let Some((first, inner)) = indices.split_first() else {
                 return Ok(None);

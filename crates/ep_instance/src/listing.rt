@@ -1,10 +1,19 @@
 //! Sets of numbers as lists, and how many numbers they have.
 
-ghost use Rattle.std.specs.Prelude.{◌≡◌, ◌==◌, ◌≤ℤ◌, ◌++◌, length, IfOk, OnOk};
+ghost use Rattle.std.specs.Prelude.{◌≡◌, ◌==◌, ◌≤◌, ◌≤ℤ◌, ◌++◌, length, IfOk, OnOk};
 ghost use Rattle.ep_base.specs.Runs.{numbers_in};
 
 use ep_base::{Memory, Run, Runs};
 use std::alloc::{AllocError, Global};
+
+/// How many numbers a run has.
+fn run_length(run: Run) -> u128
+    requires { run.lo ≤ℤ run.hi }
+    ensures length { result ≡ length (numbers_in run) }
+    ensures small { result ≤ 18446744073709551616 }
+{
+    (i128::from(run.hi) - i128::from(run.lo) + 1) as u128
+}
 
 /// Whether there are so many numbers.
 pub fn has_count(numbers: &Runs, count: usize) -> bool
@@ -12,7 +21,7 @@ pub fn has_count(numbers: &Runs, count: usize) -> bool
 {
     let mut total: u128 = 0;
     for run in numbers.runs() {
-        total += (i128::from(run.hi) - i128::from(run.lo) + 1) as u128;
+        total += run_length(*run);
     }
     total == count as u128
 }
