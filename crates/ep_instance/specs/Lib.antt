@@ -1,2 +1,4 @@
-pub mod Refusals
 pub mod Elements
+pub mod Instances
+pub mod Refusals
+pub mod Judgements

@@ -1,7 +1,8 @@
-use Rattle.std.proofs.Common.{◌≡◌, ◌∙◌, ◌+◌, ◌≤◌, ◌==◌, ℕ, ℤ, Bool, true, false, List, [], ◌∷◌, ◌++◌, drop, length, get_or, Some, None, Option, sym, ap, subst, arith, option_map}
+use Rattle.std.proofs.Common.{◌≡◌, ◌∙◌, ◌+◌, ◌≤◌, ◌==◌, ℕ, ℤ, Bool, true, false, List, [], ◌∷◌, ◌++◌, drop, length, get_or, Some, None, Option, sym, ap, subst, arith, option_map, rules, vec_len, w64, to_z, of_z}
 use Rattle.std.proofs.lemmas.List.{drop_more}
-use Rattle.ep_tree.proofs.ViewLemmas.{value_tree-matrix}
-use Rattle.ep_tree.specs.Values.{ValueTree, fitted, matrix}
+use Rattle.std.proofs.lemmas.Int.{ints, to_z-of_z}
+use Rattle.ep_tree.proofs.ViewLemmas.{value_tree-matrix, value_tree-number}
+use Rattle.ep_tree.specs.Values.{ValueTree, fitted, matrix, single}
 use Rattle.ep_tree.specs.Views.{value_tree, values_from}
 use Rattle.ep_tree.specs.declared.values.Value.{Value}
 use Rattle.ep_instance.specs.Elements.{PassesAs}
@@ -9,7 +10,11 @@ use Rattle.ep_instance.proofs.FitSteps.{FitsSoFar, fitted_alike, fitted_matrix, 
 use Rattle.ep_instance.proofs.fitting.+fit.Goals as goal
 
 pub returns-in-Number : goal.returns-in-Number
-returns-in-Number t c = λ passes agrees. let h = c.fit_number.ensures passes agrees in let k = c.in-Number.is in ?
+returns-in-Number t c = λ passes agrees.
+    let e : to_z w64 (of_z w64 c.in-Number.number) ≡ c.in-Number.number = to_z-of_z w64 c.in-Number.number (omega (arith, ints)) in
+    c.fit_number.ensures passes agrees
+    ∙ ap (λ n. fitted c.args.own c.args.wanted passes c.args.indices.now (single n)) e
+    ∙ sym (ap (fitted c.args.own c.args.wanted passes c.args.indices.now) (ap value_tree c.in-Number.is ∙ value_tree-number c.in-Number.number))
 
 pub returns-in_default : goal.returns-in_default
 returns-in_default t c = λ passes agrees.
@@ -22,8 +27,9 @@ pub returns-then-not-has_count : goal.returns-then-not-has_count
 returns-then-not-has_count t c = λ passes agrees.
     let first : List ℤ = c.in-Some.first.now in
     let parts : List Value = c.in-Matrix.parts.items in
+    let counted : vec_len c.in-Matrix.parts ≡ length parts = search rules in
     let differs : (length first == length parts) ≡ false =
-        ap (λ n. length first == n) (sym c.len.ensures) ∙ sym c.has_count.ensures ∙ c.if-not-has_count.true in
+        ap (λ n. length first == n) (sym (c.len.ensures ∙ counted)) ∙ sym c.has_count.ensures ∙ c.if-not-has_count.true in
     fitted_alike c.args.own c.args.wanted passes _ _ _ _ None
     c.in-Some.ensures.cases.0
     (ap value_tree c.in-Matrix.is ∙ value_tree-matrix c.in-Matrix.field-0 c.in-Matrix.parts)
@@ -65,8 +71,9 @@ returns-in_ok-listed-in-Matrix t c = λ passes agrees.
     let first : List ℤ = c.in-Some.first.now in
     let parts : List Value = c.deref-part-items.result.now in
     let done : List Value = c.loop-part.fitted.items in
+    let counted : vec_len c.in-Matrix.parts ≡ length parts = search rules in
     let equal : (length first == length parts) ≡ true =
-        ap (λ n. length first == n) (ap length c.deref-part-items.ensures.value ∙ sym c.len.ensures)
+        ap (λ n. length first == n) (sym (c.len.ensures ∙ counted))
         ∙ sym c.has_count.ensures ∙ c.if-not-has_count.false in
     let at_end : c.loop-part.part-index ≡ length parts = omega arith in
     ap Some
