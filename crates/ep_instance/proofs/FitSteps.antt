@@ -127,9 +127,9 @@ unfolding fitted with_indices values_from
 fitted_matrix elements own wanted first inner old parts done e h passes agrees =
     let ys : List ValueTree = map value_tree done in
     let all : all_fitted own wanted passes inner (values_from parts) ≡ Some ys =
-        h.rest passes agrees
-        ∙ ap (λ vs. option_map (λ xs. ys ++ xs) (all_fitted own wanted passes inner (values_from vs))) (drop_all (length parts) parts (omega arith))
-        ∙ ap Some (append-nil ys) in
+    h.rest passes agrees
+    ∙ ap (λ vs. option_map (λ xs. ys ++ xs) (all_fitted own wanted passes inner (values_from vs))) (drop_all (length parts) parts (omega arith))
+    ∙ ap Some (append-nil ys) in
     sym
     (ap (option_and_then (with_indices first)) all
     ∙ ap (λ n. if length first == n then Some (matrix first (as_parts ys)) else None) (counted_parts own wanted passes inner parts ys all)

@@ -51,11 +51,7 @@ pub fn read_assignment(
 }
 
 /// Judges an assignment that fits: the clauses in their order, and then the objective.
-pub fn is_solution(
-    alloc: Global,
-    instance: &Instance,
-    a: &Assignment,
-) -> Result<Judgement, Memory>
+pub fn is_solution(alloc: Global, instance: &Instance, a: &Assignment) -> Result<Judgement, Memory>
     requires closed { IsClosed (instance_of instance.now) }
     requires small { IsWithinLimits (mode_of instance.now) (instance_of instance.now) }
     requires fits { (found : Found) × Fits (instance_of instance.now) (assigned a.now) found }

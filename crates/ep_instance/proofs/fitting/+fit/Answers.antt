@@ -29,7 +29,7 @@ returns-then-not-has_count t c = λ passes agrees.
     let parts : List Value = c.in-Matrix.parts.items in
     let counted : vec_len c.in-Matrix.parts ≡ length parts = search rules in
     let differs : (length first == length parts) ≡ false =
-        ap (λ n. length first == n) (sym (c.len.ensures ∙ counted)) ∙ sym c.has_count.ensures ∙ c.if-not-has_count.true in
+    ap (λ n. length first == n) (sym (c.len.ensures ∙ counted)) ∙ sym c.has_count.ensures ∙ c.if-not-has_count.true in
     fitted_alike c.args.own c.args.wanted passes _ _ _ _ None
     c.in-Some.ensures.cases.0
     (ap value_tree c.in-Matrix.is ∙ value_tree-matrix c.in-Matrix.field-0 c.in-Matrix.parts)
@@ -41,7 +41,7 @@ returns-in_default-2 t c = λ passes agrees.
     let k : ℕ = c.loop-part.part-index in
     let part : Value = c.part-item.result in
     let cut : drop k parts ≡ part ∷ drop (k + 1) parts =
-        drop_more parts k part c.loop-part-test.true ∙ ap (λ v. v ∷ drop (k + 1) parts) (sym c.part-item.is) in
+    drop_more parts k part c.loop-part-test.true ∙ ap (λ v. v ∷ drop (k + 1) parts) (sym c.part-item.is) in
     fitted_alike c.args.own c.args.wanted passes _ _ _ _ None
     c.in-Some.ensures.cases.0
     (ap value_tree c.in-Matrix.is ∙ value_tree-matrix c.in-Matrix.field-0 c.in-Matrix.parts
@@ -58,7 +58,7 @@ loop-part-preserved t c =
     let k : ℕ = c.loop-part.part-index in
     let part : Value = c.part-item.result in
     let cut : drop k parts ≡ part ∷ drop (k + 1) parts =
-        drop_more parts k part c.loop-part-test.true ∙ ap (λ v. v ∷ drop (k + 1) parts) (sym c.part-item.is) in
+    drop_more parts k part c.loop-part-test.true ∙ ap (λ v. v ∷ drop (k + 1) parts) (sym c.part-item.is) in
     subst
     (FitsSoFar c.args.elements.now c.args.own c.args.wanted c.in-Some.inner.now parts (k + 1))
     (sym c.in_ok-push-in-Matrix.ensures.items)
@@ -73,8 +73,8 @@ returns-in_ok-listed-in-Matrix t c = λ passes agrees.
     let done : List Value = c.loop-part.fitted.items in
     let counted : vec_len c.in-Matrix.parts ≡ length parts = search rules in
     let equal : (length first == length parts) ≡ true =
-        ap (λ n. length first == n) (sym (c.len.ensures ∙ counted))
-        ∙ sym c.has_count.ensures ∙ c.if-not-has_count.false in
+    ap (λ n. length first == n) (sym (c.len.ensures ∙ counted))
+    ∙ sym c.has_count.ensures ∙ c.if-not-has_count.false in
     let at_end : c.loop-part.part-index ≡ length parts = omega arith in
     ap Some
     (value_tree-matrix c.in_ok-listed-in-Matrix.field-0 c.loop-part.fitted

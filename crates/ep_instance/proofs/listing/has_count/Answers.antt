@@ -16,12 +16,12 @@ loop-run-preserved c =
     let d : Run = record { lo = pos 0; hi = pos 0 } in
     let run : Run = get_or runs k d in
     let more : length (numbers (take (k + 1) runs)) ≡ length (numbers (take k runs)) + length (numbers_in run) =
-        ap length (numbers_more runs k d c.loop-run-test.true) ∙ length-append (numbers (take k runs)) (numbers_in run) in
+    ap length (numbers_more runs k d c.loop-run-test.true) ∙ length-append (numbers (take k runs)) (numbers_in run) in
     (omega (arith, more, c.run_length-total.ensures.length), omega (arith, c.run_length-total.ensures.small))
 
 pub returns : goal.returns
 returns c =
     let all : numbers (take c.loop-run.run-index c.runs-run-items.result.now) ≡ c.args.numbers.now =
-        ap numbers (take_all c.loop-run.run-index c.runs-run-items.result.now c.loop-run-test.false) ∙ c.runs-run-items.ensures.numbers in
+    ap numbers (take_all c.loop-run.run-index c.runs-run-items.result.now c.loop-run-test.false) ∙ c.runs-run-items.ensures.numbers in
     let e : c.loop-run.total ≡ length c.args.numbers.now = c.loop-run.invariant.0 ∙ ap length all in
     ap (λ n. n == c.args.count) e

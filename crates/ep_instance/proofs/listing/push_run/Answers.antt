@@ -10,8 +10,8 @@ loop-number-init c =
     let e : to_z w64 (of_z w64 c.args.run.lo) ≡ c.args.run.lo = to_z-of_z w64 c.args.run.lo (omega (arith, ints)) in
     subst
     (λ (v : ℤ).
-        (v ≤ℤ c.args.run.hi)
-        × (c.args.numbers.now.items ++ counting v (or_zero ((c.args.run.hi +ℤ pos 1) -ℤ v)) ≡ c.args.numbers.now.items ++ numbers_in c.args.run))
+    (v ≤ℤ c.args.run.hi)
+    × (c.args.numbers.now.items ++ counting v (or_zero ((c.args.run.hi +ℤ pos 1) -ℤ v)) ≡ c.args.numbers.now.items ++ numbers_in c.args.run))
     (sym e) (c.requires, refl)
 
 pub loop-number-preserved : goal.loop-number-preserved
@@ -24,13 +24,13 @@ loop-number-preserved c =
     let rest : List ℤ = counting (n +ℤ pos 1) (or_zero ((hi +ℤ pos 1) -ℤ (n +ℤ pos 1))) in
     subst
     (λ (v : ℤ).
-        (v ≤ℤ hi) × (c.push.new.self.items ++ counting v (or_zero ((hi +ℤ pos 1) -ℤ v)) ≡ c.args.numbers.now.items ++ numbers_in c.args.run))
+    (v ≤ℤ hi) × (c.push.new.self.items ++ counting v (or_zero ((hi +ℤ pos 1) -ℤ v)) ≡ c.args.numbers.now.items ++ numbers_in c.args.run))
     (sym e) (
       omega (arith, ints),
       ap (λ xs. xs ++ rest) c.in_ok-push.ensures.items
-      ∙ append_assoc items (n ∷ []) rest
-      ∙ ap (λ xs. items ++ xs) (sym (counting_step n hi below))
-      ∙ c.loop-number.invariant.1,
+          ∙ append_assoc items (n ∷ []) rest
+          ∙ ap (λ xs. items ++ xs) (sym (counting_step n hi below))
+          ∙ c.loop-number.invariant.1,
     )
 
 pub returns : goal.returns
