@@ -1,3 +1,7 @@
+pub mod Chains
+pub mod Linked
+pub mod Watched
+pub mod Walked
 pub mod Literals
 pub mod Tables
 pub mod Counts

@@ -6,3 +6,6 @@ pub mod Counted
 pub mod CountedInside
 pub mod Joined
 pub mod StateInside
+pub mod Chains
+pub mod Watching
+pub mod WatchesInside

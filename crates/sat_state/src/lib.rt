@@ -6,6 +6,7 @@ mod assignment;
 mod clauses;
 mod propagation;
 mod state;
+mod watches;
 
 pub use state::{Propagated, State};
 
