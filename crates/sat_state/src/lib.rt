@@ -4,7 +4,7 @@
 mod adding;
 mod assignment;
 mod clauses;
-mod propagation;
+mod parts;
 mod state;
 mod watches;
 

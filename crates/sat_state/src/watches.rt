@@ -47,8 +47,8 @@ impl Model for Watches {
     ghost invariant = { AreWatches };
 }
 
-// Where the list of a literal is kept.
-fn code(lit: Lit) -> usize
+/// Where the list of a literal is kept.
+pub fn code(lit: Lit) -> usize
     ensures value { result ≡ code_of lit }
     ensures some { 2 ≤ result }
 {
@@ -154,6 +154,7 @@ impl Watches {
         ensures lits { self.new.lits ≡ self.old.lits }
         ensures lists { self.new.lists ≡ self.old.lists }
         ensures walked { self.new.walked ≡ lit }
+        ensures some { 1 ≤ lit.var }
         ensures all { (entry : ℕ) → entry < length self.old.lits → lit_at self.old.lits entry ≡ lit
             → Contains self.new.waiting entry }
     {
