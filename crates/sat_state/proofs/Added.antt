@@ -1,5 +1,5 @@
 -- A clause that is added, with the two literals that it watches.
-use Rattle.std.proofs.Common.{◌≡◌, ◌≢◌, ℕ, zero, suc, ◌+◌, ◌*◌, ◌/◌, ◌<◌, ◌≤◌, Bool, true, false, List, [], ◌∷◌, ◌++◌, length, take, get_or, set, All, Contains, refl, sym, ap, ◌∙◌, subst, inl, inr, ◌⊎◌, ⊎_elim, arith}
+use Rattle.std.proofs.Common.{◌≡◌, ◌≢◌, ℕ, suc, ◌+◌, ◌*◌, ◌/◌, ◌<◌, ◌≤◌, true, List, [], ◌∷◌, ◌++◌, length, take, get_or, set, All, Contains, sym, ap, ◌∙◌, subst, inl, inr, ◌⊎◌, ⊎_elim, arith}
 use Rattle.std.proofs.lemmas.Bool.{cases_eq, cases_lt, true≢false}
 use Rattle.std.proofs.lemmas.List.{get_or_append_left, get_or_push, get_or-append-add, get_or-set_same, get_or-set_other, length-set, length-append, length_push, get_or-take}
 use Rattle.std.proofs.lemmas.List.Elements.{All-push, All-contains}
@@ -7,17 +7,15 @@ use Rattle.cnf_core.specs.Literal.{Literal, negation, code_of, IsOrdered, Preced
 use Rattle.cnf_core.proofs.Members.{Contains-here, Contains-there, Contains-cases, none_in_nil}
 use Rattle.sat_state.specs.Trail.{Entry, literals, level_of, IsOpenBelow}
 use Rattle.sat_state.specs.Stored.{clause_at}
-use Rattle.sat_state.specs.Assigned.{Assigned}
 use Rattle.sat_state.specs.Watching.{no_lit, lit_at}
 use Rattle.sat_state.specs.Guards.{is_false, IsFresh, ArePartners, IsPair, AreWatched}
-use Rattle.sat_state.specs.Joined.{AreJoined, some_entry, IsNotLow, HasHigh}
+use Rattle.sat_state.specs.Joined.{AreJoined, IsNotLow, HasHigh}
 use Rattle.sat_state.specs.declared.parts.Parts.{Parts}
 use Rattle.sat_state.proofs.Literals.{Contains-from_among, among_from_Contains}
 use Rattle.sat_state.proofs.Linked.{literal_again}
 use Rattle.sat_state.specs.WatchesInside.{literal_at}
 use Rattle.sat_state.proofs.Ends.{grounded_more}
 use Rattle.sat_state.proofs.Guarded.{literal_of_entry, entry_at_place}
-use Rattle.sat_state.proofs.Going.{joined_low}
 
 -- ---- some literal can be watched
 
@@ -80,9 +78,9 @@ fresh_by trail head clause a b low high others = λ k d h is.
     let falsified : is_false (literals trail) a ≡ true
     = among_from_Contains (literals trail) (negation a) (subst (λ (x : Literal). Contains (literals trail) x) names (literal_of_entry trail (get_or trail k d) (entry_at_place trail k d less.1))) in
     let level : z.level ≡ level_of trail = ⊎_elim
-        (λ (lower : (get_or trail k d).level < level_of trail). absurd (high falsified k d less.1 lower names))
-        (λ (ge : level_of trail ≤ (get_or trail k d).level). omega (arith, ge, low k d less.1, ap (λ (e : Entry). e.level) at))
-        (cases_lt (get_or trail k d).level (level_of trail)) in
+    (λ (lower : (get_or trail k d).level < level_of trail). absurd (high falsified k d less.1 lower names))
+    (λ (ge : level_of trail ≤ (get_or trail k d).level). omega (arith, ge, low k d less.1, ap (λ (e : Entry). e.level) at))
+    (cases_lt (get_or trail k d).level (level_of trail)) in
     (level, others falsified)
 
 -- what two literals are that a clause is to watch

@@ -1,11 +1,10 @@
 -- Lists that are linked through a table, as elements come in and go out.
-use Rattle.std.proofs.Common.{◌≡◌, ◌≢◌, ℕ, zero, suc, ◌+◌, ◌<◌, ◌≤◌, Bool, true, false, ◌||◌, eqb, List, [], ◌∷◌, ◌++◌, length, get_or, Contains, refl, sym, ap, ◌∙◌, subst, inl, inr, ◌⊎◌, arith, add-one}
+use Rattle.std.proofs.Common.{◌≡◌, ◌≢◌, ℕ, zero, suc, ◌+◌, ◌<◌, ◌≤◌, true, false, eqb, List, [], ◌∷◌, ◌++◌, length, get_or, Contains, refl, sym, ap, ◌∙◌, subst, inl, inr, add-one}
 use Rattle.std.specs.List.{IsDistinct, list_any, AllByRecursion}
 use Rattle.std.proofs.lemmas.Bool.{ne_eqb, eqb-true, false≢true}
 use Rattle.std.proofs.lemmas.List.Elements.{Contains-append_right}
-use Rattle.std.proofs.lemmas.Map.Keys.{IsDistinct-cons}
 use Rattle.std.proofs.lemmas.Map.Steps.{length-le_from_distinct_below}
-use Rattle.cnf_core.proofs.Members.{Contains-here, Contains-there, Contains-cases, none_in_nil, or_cases}
+use Rattle.cnf_core.proofs.Members.{Contains-here, Contains-there, Contains-cases, or_cases}
 use Rattle.sat_state.specs.Chains.{chain, Apart}
 
 abbrev pub IsChain : List ℕ → ℕ → List ℕ → Type 0
@@ -45,9 +44,11 @@ pub chain_bridged : (nexts now : List ℕ) (first : ℕ) (front : List ℕ) (p e
     → IsChain now first (front ++ p ∷ rest)
 chain_bridged nexts now first [] p e rest c before at after =
     (c.0, subst (λ (f : ℕ). IsChain now f rest) (sym at) (chain_kept nexts now (get_or nexts e 0) rest c.1.1 after))
-chain_bridged nexts now first (x ∷ front) p e rest c before at after =
-    (c.0, subst (λ (f : ℕ). IsChain now f (front ++ p ∷ rest)) (sym (before x (Contains-here x front)))
-        (chain_bridged nexts now (get_or nexts x 0) front p e rest c.1 (λ y h. before y (Contains-there x front y h)) at after))
+chain_bridged nexts now first (x ∷ front) p e rest c before at after = (
+  c.0,
+  subst (λ (f : ℕ). IsChain now f (front ++ p ∷ rest)) (sym (before x (Contains-here x front)))
+      (chain_bridged nexts now (get_or nexts x 0) front p e rest c.1 (λ y h. before y (Contains-there x front y h)) at after),
+)
 
 -- ---- elements that stand once
 

@@ -1,10 +1,10 @@
 -- Trails that are grounded, and propagation that is at its end.
-use Rattle.std.proofs.Common.{◌≡◌, ◌≢◌, ℕ, zero, suc, ◌+◌, ◌<◌, ◌≤◌, Bool, true, false, not, Option, Some, None, IsNone, IsSome, is_none, List, [], ◌∷◌, ◌++◌, length, take, drop, get_or, count_by, All, AllPairs, Contains, refl, sym, ap, ◌∙◌, subst, inl, inr, ◌⊎◌, ⊎_elim, arith, add-one}
-use Rattle.std.proofs.lemmas.Bool.{cases_lt, cases_order, cases_Bool, both_ways, true≢false, false≢true}
+use Rattle.std.proofs.Common.{◌≡◌, ◌≢◌, ℕ, zero, suc, ◌+◌, ◌<◌, ◌≤◌, Bool, true, false, not, Option, Some, None, IsNone, IsSome, is_none, List, [], ◌∷◌, ◌++◌, length, take, drop, get_or, All, AllPairs, Contains, refl, sym, ap, ◌∙◌, subst, inl, inr, ◌⊎◌, ⊎_elim, arith, add-one}
+use Rattle.std.proofs.lemmas.Bool.{cases_order, cases_Bool, both_ways, true≢false, false≢true}
 use Rattle.std.proofs.lemmas.List.{get_or_default, get_or-map, take-map, length-map, get_or-take, length-take-le, get_or_append_left, take_more, take_all, take-take, get_or-drop, length-drop, length-append}
-use Rattle.std.proofs.lemmas.List.Elements.{All-nil, All-more, All-push, All-contains, All-map, Contains-append_right}
+use Rattle.std.proofs.lemmas.List.Elements.{All-nil, All-more, All-push, All-contains, All-map}
 use Rattle.std.proofs.lemmas.List.Sums.{sum_by-take-le}
-use Rattle.cnf_core.specs.Literal.{Literal, negation, is_among, same_literal, IsOrdered, Precedes}
+use Rattle.cnf_core.specs.Literal.{Literal, negation, is_among, same_literal}
 use Rattle.cnf_core.specs.Clauses.{Satisfies, IsTrueUnder}
 use Rattle.cnf_core.specs.Steps.{IsAtEnd, IsConsistent, HasTrueLiteral, HasTwoNotFalse, IsLastOf}
 use Rattle.sat_state.specs.Trail.{Entry, literals, level_of, IsFalsified, Gives, HasReason, IsGrounded, IsForcedAt, IsOpenBelow, FollowsFromDecisions}

@@ -1,5 +1,5 @@
 -- What is read of the entry of a variable.
-use Rattle.std.proofs.Common.{◌≡◌, ◌≢◌, ℕ, zero, suc, ◌<◌, ◌≤◌, Bool, true, false, cond, Option, Some, None, inl, inr, List, [], ◌∷◌, length, get_or, take, All, Contains, refl, ap, ◌∙◌, sym, subst, arith, eqb}
+use Rattle.std.proofs.Common.{◌≡◌, ◌≢◌, ℕ, zero, suc, ◌<◌, ◌≤◌, Bool, true, false, cond, Some, List, [], ◌∷◌, length, get_or, take, All, Contains, refl, ap, ◌∙◌, sym, subst, arith, eqb}
 use Rattle.std.specs.List.{find}
 use Rattle.std.specs.Option.{option_map}
 use Rattle.std.proofs.lemmas.Bool.{ne_eqb, eq-eqb}
@@ -8,7 +8,7 @@ use Rattle.std.proofs.lemmas.List.Elements.{All-head, All-tail}
 use Rattle.cnf_core.specs.Literal.{Literal, negation}
 use Rattle.sat_state.specs.Trail.{Entry, literals, level_of, entry_of, IsGrounded}
 use Rattle.sat_state.specs.Guards.{is_false}
-use Rattle.sat_state.specs.Joined.{some_entry, IsNotLow}
+use Rattle.sat_state.specs.Joined.{IsNotLow}
 use Rattle.sat_state.proofs.Literals.{no_literal, Contains-from_among}
 use Rattle.sat_state.proofs.Ends.{not_among}
 use Rattle.sat_state.proofs.Guarded.{entry_of_literal, literal_of_entry, entry_at_place}

@@ -5,7 +5,7 @@ use Rattle.std.proofs.lemmas.Bool.{cases_lt}
 use Rattle.std.proofs.lemmas.List.{take_all, get_or-drop, length-drop}
 use Rattle.cnf_core.specs.Literal.{Literal, negation}
 use Rattle.cnf_core.specs.Steps.{IsAtEnd, IsLastOf}
-use Rattle.sat_state.specs.Trail.{Entry, literals, level_of, value_of, HasReason, Gives, StandsOn, IsGrounded, IsFalsified, NamesFalsified}
+use Rattle.sat_state.specs.Trail.{Entry, literals, level_of, value_of, HasReason, Gives, StandsOn, IsGrounded, NamesFalsified}
 use Rattle.sat_state.specs.Joined.{some_entry}
 use Rattle.sat_state.proofs.Literals.{not_true, not_false}
 use Rattle.sat_state.proofs.Ends.{all_forced, none_falsified, none_unit, not_among}

@@ -5,19 +5,17 @@ use Rattle.std.proofs.lemmas.List.{take_all, take_at, take-append-le, drop-appen
 use Rattle.std.proofs.lemmas.List.Elements.{All-nil, All-push, All-same, All-contains, All-weaker}
 use Rattle.cnf_core.specs.Literal.{Literal, negation, is_among, code_of, IsClause, VariablesUpTo}
 use Rattle.cnf_core.specs.Steps.{IsAtEnd, IsConsistent, HasTrueLiteral, HasTwoNotFalse}
-use Rattle.cnf_core.proofs.Members.{Contains-here, Contains-there, Contains-cases, none_in_nil}
-use Rattle.sat_state.specs.Trail.{Entry, literals, level_of, next_level, value_of, HasReason, Gives, IsFalsified, NamesFalsified, IsGrounded}
+use Rattle.cnf_core.proofs.Members.{Contains-here, Contains-cases, none_in_nil}
+use Rattle.sat_state.specs.Trail.{Entry, literals, level_of, next_level, value_of, Gives, IsFalsified, IsGrounded}
 use Rattle.sat_state.specs.Stored.{Stored, clause_at}
 use Rattle.sat_state.specs.Assigned.{Assigned}
-use Rattle.sat_state.specs.Watching.{Watching, no_lit, lit_at, IsNext}
-use Rattle.sat_state.specs.Guards.{is_false, IsPair, ArePartners, AreWatched}
+use Rattle.sat_state.specs.Watching.{no_lit, lit_at, IsNext}
+use Rattle.sat_state.specs.Guards.{is_false, IsPair, ArePartners}
 use Rattle.sat_state.specs.Joined.{AreJoined, GoesOn, IsAllSeen, IsWalking, some_entry}
 use Rattle.sat_state.specs.declared.parts.Parts.{Parts}
-use Rattle.sat_state.specs.declared.parts.Queue.{Queue}
-use Rattle.sat_state.proofs.Counts.{one_if}
-use Rattle.sat_state.proofs.Literals.{Contains-from_among, among_from_Contains}
+use Rattle.sat_state.proofs.Literals.{Contains-from_among}
 use Rattle.sat_state.proofs.Levels.{level_push, levels_within}
-use Rattle.sat_state.proofs.Settling.{length_front, front_again}
+use Rattle.sat_state.proofs.Settling.{front_again}
 use Rattle.sat_state.proofs.Ends.{consistent, apart_from_grounded, not_among, none_falsified}
 use Rattle.sat_state.proofs.Grounds.{grounded_push, next_stands, literals_push}
 use Rattle.sat_state.proofs.Guarded.{turned, literals_grow, watched_push, watched_checked, watched_head, watched_moved, at_end, watched_back}
@@ -162,9 +160,9 @@ pub goes_walked : (old : Parts) → AreJoined old → IsWalking old → old.watc
 goes_walked old j w none new is =
     let each : (e f : ℕ) → ArePartners e f → e < length old.watches.lits → lit_at old.watches.lits e ≡ old.watches.walked → Contains (literals old.assigned.trail) (lit_at old.watches.lits f)
     = λ e f p lt same. ⊎_elim
-        (λ (waits : Contains old.watches.waiting e). absurd (none_in_nil e (subst (λ (ws : List ℕ). Contains ws e) none waits)))
-        (λ (done : Contains (literals old.assigned.trail) (lit_at old.watches.lits f)). done)
-        (w.partners e f p lt same) in
+    (λ (waits : Contains old.watches.waiting e). absurd (none_in_nil e (subst (λ (ws : List ℕ). Contains ws e) none waits)))
+    (λ (done : Contains (literals old.assigned.trail) (lit_at old.watches.lits f)). done)
+    (w.partners e f p lt same) in
     let watched = watched_head old.clauses.lists old.watches.lits old.assigned.trail old.queue.checked old.queue.head j.watched (joined_consistent old j) (joined_low old j) w.checked w.more old.watches.walked w.walked
     (next_level_is old j w.more) each in
     subst (GoesOn old) (sym is) (record {
@@ -235,7 +233,7 @@ module _ (old : Parts) (j : AreJoined old) (w : IsWalking old) (e : ℕ) (next :
         let q_e : ArePartners e y = subst (λ (z : ℕ). ArePartners z y) here q in
         let one : y ≡ f = same_partner f e y (turned e f p) (turned e y q_e) in
         inr (subst (λ (ls : List Literal). Contains (literals new.assigned.trail) (lit_at ls y)) (sym lits)
-            (subst (λ (z : ℕ). Contains (literals new.assigned.trail) (lit_at old.watches.lits z)) (sym one) is_true)))
+        (subst (λ (z : ℕ). Contains (literals new.assigned.trail) (lit_at old.watches.lits z)) (sym one) is_true)))
         (λ (ne : x ≢ e). ⊎_elim
         (λ (waits : Contains old.watches.waiting x). inl (subst (λ (ws : List ℕ). Contains ws x) (sym waiting) (rest_of old.watches.waiting e x next.first waits ne)))
         (λ (done : Contains (literals old.assigned.trail) (lit_at old.watches.lits y)).

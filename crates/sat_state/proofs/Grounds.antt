@@ -1,10 +1,10 @@
 -- What the entries of a trail stand on, as the trail gets longer or shorter.
-use Rattle.std.proofs.Common.{◌≡◌, ℕ, ◌+◌, ◌<◌, ◌≤◌, Option, None, is_none, List, [], ◌∷◌, ◌++◌, length, take, sym, ⊎_elim, arith}
+use Rattle.std.proofs.Common.{◌≡◌, ℕ, ◌<◌, ◌≤◌, Option, None, is_none, List, [], ◌∷◌, ◌++◌, length, take, sym, ⊎_elim, arith}
 use Rattle.std.proofs.lemmas.Bool.{cases_lt}
 use Rattle.std.proofs.lemmas.List.{take-append-le, take_at, get_or_append_left, get_or_push, get_or-take, take-take, length_push, length-take-le, map_push}
 use Rattle.std.proofs.lemmas.List.Sums.{sum_by_push}
 use Rattle.cnf_core.specs.Literal.{Literal}
-use Rattle.sat_state.specs.Trail.{Entry, literals, level_of, next_level, value_of, HasReason, StandsOn, IsGrounded}
+use Rattle.sat_state.specs.Trail.{Entry, literals, next_level, value_of, HasReason, StandsOn, IsGrounded}
 use Rattle.sat_state.proofs.Counts.{one_if}
 
 -- an entry that stands on the trail is appended

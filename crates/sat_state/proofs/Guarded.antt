@@ -1,16 +1,16 @@
 -- Watched literals, as literals become true, as clauses are looked at, and as entries move.
-use Rattle.std.proofs.Common.{◌≡◌, ◌≢◌, ℕ, zero, suc, ◌+◌, ◌-◌, ◌*◌, ◌/◌, ◌%◌, ◌<◌, ◌≤◌, Bool, true, false, eqb, List, [], ◌∷◌, ◌++◌, length, map, take, drop, get_or, filter, nat_le, All, Contains, refl, sym, ap, ◌∙◌, subst, inl, inr, ◌⊎◌, ⊎_elim, arith}
+use Rattle.std.proofs.Common.{◌≡◌, ◌≢◌, ℕ, ◌+◌, ◌-◌, ◌*◌, ◌/◌, ◌<◌, ◌≤◌, true, false, List, [], ◌∷◌, ◌++◌, length, take, drop, get_or, filter, nat_le, All, Contains, refl, sym, ap, ◌∙◌, subst, inl, inr, ◌⊎◌, ⊎_elim, arith}
 use Rattle.std.proofs.lemmas.Bool.{cases_eq, cases_lt, cases_Bool, le-leb}
 use Rattle.std.proofs.lemmas.Bool.Decides.{nat_tests}
 use Rattle.std.proofs.lemmas.List.{get_or_default, get_or-map, length-map, take-append-le, take_all, get_or-take, get_or-drop, length-drop, length-take-le, length-append, get_or_append_left, get_or_push}
 use Rattle.std.proofs.lemmas.List.Elements.{All-nil, All-cons, All-more, All-contains, All-weaker, Contains-append_left}
-use Rattle.cnf_core.specs.Literal.{Literal, negation, is_among}
+use Rattle.cnf_core.specs.Literal.{Literal, negation}
 use Rattle.cnf_core.specs.Steps.{IsAtEnd, IsConsistent, HasTrueLiteral, HasTwoNotFalse}
 use Rattle.cnf_core.proofs.Members.{Contains-here, Contains-cases, none_in_nil, Contains-filter, Contains-from_filter}
 use Rattle.sat_state.specs.Trail.{Entry, literals, level_of}
 use Rattle.sat_state.specs.Stored.{clause_at}
 use Rattle.sat_state.specs.Watching.{no_lit, lit_at}
-use Rattle.sat_state.specs.Guards.{is_false, IsTrueBy, Guards, AreOthersFalse, IsFresh, ArePartners, IsPair, AreWatched}
+use Rattle.sat_state.specs.Guards.{is_false, IsTrueBy, Guards, AreOthersFalse, ArePartners, IsPair, AreWatched}
 use Rattle.sat_state.specs.Joined.{some_entry}
 use Rattle.sat_state.proofs.Literals.{Contains-from_among, negation-negation}
 use Rattle.sat_state.proofs.Ends.{same_or_not, not_among}
@@ -306,26 +306,26 @@ module _ (clauses : List (List Literal)) (lits : List Literal) (trail : List Ent
       let whole : take (length new) new ≡ new = take_all (length new) new (omega arith) in
       let same : (k : ℕ) (d : Entry) → k < length new → (k < length trail) × (get_or new k d ≡ get_or trail k d)
       = λ k d h.
-          let len : length (take (length new) trail) ≡ length new = ap length front in
-          let at = taken_within (length new) trail k d (omega (arith, len, h)) in
-          (at.1, ap (λ (es : List Entry). get_or es k d) (sym front) ∙ at.2) in
+      let len : length (take (length new) trail) ≡ length new = ap length front in
+      let at = taken_within (length new) trail k d (omega (arith, len, h)) in
+      (at.1, ap (λ (es : List Entry). get_or es k d) (sym front) ∙ at.2) in
       let in_head : (k : ℕ) (d : Entry) → k < length new → k < head
       = λ k d h. ⊎_elim
-          (λ (lt : k < head). lt)
-          (λ (ge : head ≤ k).
-          let at = same k d h in
-          let j = k - head in
-          let there : j < length (drop head trail) = omega (arith, length-drop head trail, at.0, ge) in
-          let up : (get_or (drop head trail) j d).level ≡ level_of trail = present j d there in
-          let is : get_or (drop head trail) j d ≡ get_or trail k d = get_or-drop head trail j d ∙ ap (λ (n : ℕ). get_or trail n d) (let whole_k : head + j ≡ k = omega (arith, ge) in whole_k) in
-          let under : (get_or new k d).level ≤ level = low (get_or new k d) (entry_at_place new k d h) in
-          absurd (omega (arith, up, ap (λ (e : Entry). e.level) is, ap (λ (e : Entry). e.level) at.1, under, lower)))
-          (cases_lt k head) in
+      (λ (lt : k < head). lt)
+      (λ (ge : head ≤ k).
+      let at = same k d h in
+      let j = k - head in
+      let there : j < length (drop head trail) = omega (arith, length-drop head trail, at.0, ge) in
+      let up : (get_or (drop head trail) j d).level ≡ level_of trail = present j d there in
+      let is : get_or (drop head trail) j d ≡ get_or trail k d = get_or-drop head trail j d ∙ ap (λ (n : ℕ). get_or trail n d) (let whole_k : head + j ≡ k = omega (arith, ge) in whole_k) in
+      let under : (get_or new k d).level ≤ level = low (get_or new k d) (entry_at_place new k d h) in
+      absurd (omega (arith, up, ap (λ (e : Entry). e.level) is, ap (λ (e : Entry). e.level) at.1, under, lower)))
+      (cases_lt k head) in
       let taken : (k : ℕ) (d : Entry) → k < length new → (k < length (take head trail)) × (get_or (take head trail) k d ≡ get_or new k d)
       = λ k d h.
-          let at = same k d h in
-          let less = in_head k d h in
-          (grind (arith, Rattle.std.proofs.lemmas.List.length-take), get_or-take head trail k d less ∙ sym at.1) in
+      let at = same k d h in
+      let less = in_head k d h in
+      (grind (arith, Rattle.std.proofs.lemmas.List.length-take), get_or-take head trail k d less ∙ sym at.1) in
       let keeps : (l : Literal) (n : ℕ) → n ≤ level → IsTrueBy trail l n → IsTrueBy new l n
       = λ l n le t. record { entry = t.entry; there = stays t.entry t.there (omega (arith, t.low, le)); names = t.names; low = t.low } in
       record {

@@ -1,17 +1,17 @@
 -- The lists of watched literals, as entries come in and go out.
-use Rattle.std.proofs.Common.{◌≡◌, ◌≢◌, ℕ, zero, suc, ◌+◌, ◌-◌, ◌*◌, ◌/◌, ◌%◌, ◌^◌, ◌<◌, ◌≤◌, Bool, true, false, cond, eqb, List, [], ◌∷◌, ◌++◌, length, map, get_or, set, replicate, drop, Contains, refl, sym, ap, ◌∙◌, subst, inl, inr, ◌⊎◌, ⊎_elim, arith, append_assoc}
+use Rattle.std.proofs.Common.{◌≡◌, ◌≢◌, ℕ, zero, suc, ◌+◌, ◌*◌, ◌/◌, ◌%◌, ◌^◌, ◌<◌, ◌≤◌, Bool, true, false, cond, eqb, List, [], ◌∷◌, ◌++◌, length, map, get_or, set, replicate, Contains, refl, sym, ap, ◌∙◌, subst, inl, inr, ◌⊎◌, ⊎_elim, arith}
 use Rattle.std.proofs.lemmas.Bool.{cases_eq}
 use Rattle.std.proofs.lemmas.Bool.Decides.{nat_tests}
-use Rattle.std.proofs.lemmas.List.{get_or-set_same, get_or-set_other, get_or_append_left, get_or-append_right, length-set, length-append, length-map, map-set}
+use Rattle.std.proofs.lemmas.List.{get_or-set_same, get_or-set_other, get_or_append_left, length-set, length-append}
 use Rattle.cnf_core.specs.Literal.{Literal, code_of}
 use Rattle.cnf_core.proofs.Literals.{literal_ext}
-use Rattle.cnf_core.proofs.Members.{Contains-here, Contains-there, Contains-cases, none_in_nil}
+use Rattle.cnf_core.proofs.Members.{Contains-here, Contains-there, Contains-cases}
 use Rattle.sat_state.specs.declared.watches.Entry.{Entry}
 use Rattle.sat_state.specs.declared.watches.Head.{Head}
-use Rattle.sat_state.specs.Chains.{chain, Apart, IsBehind}
-use Rattle.sat_state.specs.Watching.{no_lit, lit_at}
-use Rattle.sat_state.specs.WatchesInside.{literal_at, codes_of, nexts_of, head_at, list_of, IsLinked, Walks}
-use Rattle.sat_state.proofs.Chains.{IsChain, is_chain, chain_is, chain_more, chain_same, chain_bridged, length-chain, middle, widen, narrow, apart_out, not_twice, few_below}
+use Rattle.sat_state.specs.Chains.{chain, Apart}
+use Rattle.sat_state.specs.Watching.{lit_at}
+use Rattle.sat_state.specs.WatchesInside.{literal_at, codes_of, head_at, list_of, IsLinked, Walks}
+use Rattle.sat_state.proofs.Chains.{chain_more, chain_same, length-chain, middle, widen, narrow, apart_out, not_twice, few_below}
 
 -- ---- literals and their codes
 

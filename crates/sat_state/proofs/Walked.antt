@@ -1,16 +1,16 @@
 -- The list that is walked, as its entries are kept or go out.
-use Rattle.std.proofs.Common.{◌≡◌, ◌≢◌, ℕ, ◌+◌, ◌-◌, ◌^◌, ◌<◌, ◌≤◌, List, [], ◌∷◌, ◌++◌, length, map, get_or, set, drop, Contains, refl, sym, ap, ◌∙◌, subst, arith}
+use Rattle.std.proofs.Common.{◌≡◌, ℕ, ◌+◌, ◌-◌, ◌^◌, ◌<◌, ◌≤◌, List, [], ◌∷◌, ◌++◌, length, map, get_or, set, drop, refl, sym, ap, ◌∙◌, arith}
 use Rattle.std.proofs.lemmas.List.{get_or-map, length-map, map-append}
 use Rattle.std.proofs.Math.Seq.{map-set_same}
-use Rattle.cnf_core.specs.Literal.{Literal, code_of}
+use Rattle.cnf_core.specs.Literal.{Literal}
 use Rattle.sat_state.specs.declared.watches.Entry.{Entry}
 use Rattle.sat_state.specs.declared.watches.Head.{Head}
 use Rattle.sat_state.specs.declared.watches.Watches.TheInside.{Inside}
 use Rattle.sat_state.specs.Chains.{chain}
-use Rattle.sat_state.specs.Watching.{Watching, no_lit, lit_at, IsNext}
-use Rattle.sat_state.specs.WatchesInside.{literal_at, codes_of, nexts_of, head_at, list_of, IsLinked, Walks, seen_watches, AreWatches}
+use Rattle.sat_state.specs.Watching.{Watching, no_lit, IsNext}
+use Rattle.sat_state.specs.WatchesInside.{literal_at, codes_of, nexts_of, head_at, IsLinked, Walks, seen_watches, AreWatches}
 use Rattle.sat_state.proofs.Linked.{linked_none}
-use Rattle.sat_state.proofs.Watched.{lits_seen, length_seen, lists_seen, walked_seen, waiting_seen, lit_seen, left_seen, codes_set, nexts_set, lits_set, waits, held_link, linked_first, walk_first, first_left, linked_later, walk_later, later_left, previous_there}
+use Rattle.sat_state.proofs.Watched.{length_seen, walked_seen, waiting_seen, lit_seen, left_seen, codes_set, nexts_set, lits_set, waits, held_link, linked_first, walk_first, first_left, linked_later, walk_later, later_left, previous_there}
 
 pub next_read : (entries : List Entry) (e : ℕ) (x : Entry) → e < length entries → x ≡ get_or entries e x → x.next ≡ get_or (nexts_of entries) e 0
 next_read entries e x lt is = ap (λ (y : Entry). y.next) is ∙ sym (get_or-map (λ (y : Entry). y.next) entries e x 0 lt)
@@ -116,7 +116,7 @@ module _ (entries : List Entry) (heads : List Head) (walked previous link left n
     lits_later =
         lits_set (set entries previous (record { lit = before.lit; next = next })) link unused no_lit refl
         ∙ ap (λ (ls : List Literal). set ls link no_lit)
-            (map-set_same (λ (y : Entry). literal_at y.lit) entries previous (record { lit = before.lit; next = next }) before (ap (λ (y : Entry). literal_at y.lit) read))
+        (map-set_same (λ (y : Entry). literal_at y.lit) entries previous (record { lit = before.lit; next = next }) before (ap (λ (y : Entry). literal_at y.lit) read))
 
   pub previous_in : left < h.count → previous < length entries
   previous_in less =

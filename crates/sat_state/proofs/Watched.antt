@@ -2,17 +2,16 @@
 use Rattle.std.proofs.Common.{◌≡◌, ◌≢◌, ℕ, zero, suc, ◌+◌, ◌-◌, ◌^◌, ◌<◌, ◌≤◌, List, [], ◌∷◌, ◌++◌, length, map, get_or, set, drop, Contains, refl, sym, ap, ◌∙◌, subst, inl, inr, ◌⊎◌, ⊎_elim, arith, append_assoc, add-one}
 use Rattle.std.proofs.lemmas.Bool.{cases_eq}
 use Rattle.std.proofs.lemmas.List.{get_or_read, get_or-set_same, get_or-set_other, length-set, length-map, map-set, map-append}
-use Rattle.std.proofs.Math.Seq.{map-set_same}
 use Rattle.cnf_core.specs.Literal.{Literal, code_of}
 use Rattle.cnf_core.proofs.Members.{Contains-here, Contains-there}
 use Rattle.sat_state.specs.declared.watches.Entry.{Entry}
 use Rattle.sat_state.specs.declared.watches.Head.{Head}
 use Rattle.sat_state.specs.declared.watches.Watches.TheInside.{Inside}
 use Rattle.sat_state.specs.Chains.{chain, Apart, IsBehind}
-use Rattle.sat_state.specs.Watching.{Watching, no_lit, lit_at}
-use Rattle.sat_state.specs.WatchesInside.{literal_at, codes_of, nexts_of, head_at, list_of, IsLinked, Walks, seen_watches, AreWatches}
+use Rattle.sat_state.specs.Watching.{Watching, lit_at}
+use Rattle.sat_state.specs.WatchesInside.{literal_at, codes_of, nexts_of, head_at, list_of, IsLinked, Walks, seen_watches}
 use Rattle.sat_state.proofs.Chains.{IsChain, is_chain, chain_is, chain_more, chain_same, chain_bridged, length-chain, middle, not_twice}
-use Rattle.sat_state.proofs.Linked.{some_head, in_nexts, in_heads, linked_in, linked_out, walk_in, walk_within, chain_in, list_short, not_in_other, lits_are, lit_of, code_known, literal_again, code_again}
+use Rattle.sat_state.proofs.Linked.{some_head, in_nexts, in_heads, linked_in, linked_out, walk_in, walk_within, chain_in, not_in_other, lits_are, lit_of, code_known, literal_again}
 
 module _ (a : Inside) (now : Watching) (is : seen_watches a ≡ now) where
   pub lits_seen : now.lits ≡ map literal_at (codes_of a.entries.items)
@@ -249,8 +248,13 @@ module _ (codes nexts : List ℕ) (heads : List Head) (walked previous link left
 
     size : (head_at heads walked).count - 1 ≡ length (was.front ++ previous ∷ left_behind)
     size =
-        omega (arith, length-chain nexts (head_at heads walked).first (head_at heads walked).count, ap length parts,
-            Rattle.std.proofs.Common.length-append was.front (previous ∷ link ∷ left_behind), Rattle.std.proofs.Common.length-append was.front (previous ∷ left_behind))
+        omega (
+          arith,
+          length-chain nexts (head_at heads walked).first (head_at heads walked).count,
+          ap length parts,
+          Rattle.std.proofs.Common.length-append was.front (previous ∷ link ∷ left_behind),
+          Rattle.std.proofs.Common.length-append was.front (previous ∷ left_behind),
+        )
 
     list_later : list_of later_nexts later_heads walked ≡ was.front ++ previous ∷ left_behind
     list_later =
@@ -264,9 +268,9 @@ module _ (codes nexts : List ℕ) (heads : List Head) (walked previous link left
         (list_later ∙ sym (append_assoc was.front (previous ∷ []) left_behind))
         (λ k ne. ap (λ (h : Head). chain later_nexts h.first h.count) (get_or-set_other heads walked k (record { first = (head_at heads walked).first; count = (head_at heads walked).count - 1 }) some_head ne)
         ∙ chain_same nexts later_nexts (head_at heads k).first (head_at heads k).count
-            (λ x h. later_in x (not_in_other codes nexts heads linked k walked x link ne h held_link.1)
-            (not_in_other codes nexts heads linked k walked x previous ne h
-            (linked.held walked previous (subst (λ (xs : List ℕ). Contains xs previous) (sym parts) (middle was.front previous (link ∷ left_behind)))).1)))
+        (λ x h. later_in x (not_in_other codes nexts heads linked k walked x link ne h held_link.1)
+        (not_in_other codes nexts heads linked k walked x previous ne h
+        (linked.held walked previous (subst (λ (xs : List ℕ). Contains xs previous) (sym parts) (middle was.front previous (link ∷ left_behind)))).1)))
         (length-set (set nexts previous next) link 0 ∙ length-set nexts previous next) (length-set heads walked (record { first = (head_at heads walked).first; count = (head_at heads walked).count - 1 }))
 
     pub walk_later : Walks later_nexts later_heads walked previous next (left - 1)

@@ -1,5 +1,5 @@
 -- Watched literals against the trail.
-use Rattle.std.specs.Prelude.{◌≡◌, ◌≢◌, ℕ, ◌*◌, ◌/◌, ◌+◌, ◌<◌, ◌≤◌, Bool, List, length, take, All, Contains}
+use Rattle.std.specs.Prelude.{◌≡◌, ◌≢◌, ℕ, ◌*◌, ◌/◌, ◌<◌, ◌≤◌, Bool, List, length, take, All, Contains}
 use Rattle.cnf_core.specs.Literal.{Literal, negation, is_among}
 use Rattle.sat_state.specs.Trail.{Entry, literals, level_of}
 use Rattle.sat_state.specs.Stored.{clause_at}

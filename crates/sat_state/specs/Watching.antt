@@ -1,5 +1,5 @@
 -- The literals that clauses watch, apart from the clauses.
-use Rattle.std.specs.Prelude.{◌≡◌, ◌<◌, ℕ, Bool, true, List, ◌∷◌, Contains, length, drop, slice_index_or}
+use Rattle.std.specs.Prelude.{◌≡◌, ◌<◌, ℕ, true, List, ◌∷◌, length, drop, slice_index_or}
 use Rattle.cnf_core.specs.Literal.{Literal}
 
 -- the literal that stands for none

@@ -80,12 +80,7 @@ fn open_place(
 }
 
 // The same of all places, from one on and then from the first.
-fn open_place_from(
-    assigned: &Assignment,
-    lits: &[Lit],
-    lit: Lit,
-    begin: usize,
-) -> Option<usize>
+fn open_place_from(assigned: &Assignment, lits: &[Lit], lit: Lit, begin: usize) -> Option<usize>
     requires { begin ≤ length lits.now }
     ensures there { IfSome result (λ place. place < length lits.now) }
     ensures other { IfSome result (λ place. lit_at lits.now place ≢ lit) }

@@ -103,7 +103,11 @@ impl Parts {
         if self.assigned.is_true(one) {
             return true;
         }
-        if self.clauses.other_open(&self.assigned, number, one).is_some() {
+        if self
+            .clauses
+            .other_open(&self.assigned, number, one)
+            .is_some()
+        {
             return true;
         }
         self.force(one, number);

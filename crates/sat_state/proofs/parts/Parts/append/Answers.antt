@@ -56,8 +56,8 @@ returns-clause-joined c =
     = λ f. subst (λ (k : ℕ). All (λ l. code_of l ≢ k → is_false trues l ≡ true) found) c.code.ensures.value (c.choose-other.ensures.others f) in
     let pick : ArePicked trail head found a b
     = picked trail head found a b (joined_low old c.requires.joined) c.choose-one.ensures.in_clause c.choose-other.ensures.in_clause (λ same. c.choose-other.ensures.other (same ∙ sym c.code.ensures.value))
-        (λ k d h. code_some (Rattle.std.proofs.Common.get_or found k d) (c.lits-lits.ensures.variables k d h).0)
-        c.choose-one.ensures.high c.choose-one.ensures.others c.choose-other.ensures.high others_b in
+    (λ k d h. code_some (Rattle.std.proofs.Common.get_or found k d) (c.lits-lits.ensures.variables k d h).0)
+    c.choose-one.ensures.high c.choose-one.ensures.others c.choose-other.ensures.high others_b in
     let fresh : IsNew trail head n clause (set (set (lits ++ no_lit ∷ no_lit ∷ []) (2 * n) a) (2 * n + 1) b)
     = new_long trail head n clause lits a b entries long (subst (λ (ls : List Literal). ArePicked trail head ls a b) value pick) in
     let is : c.link-2.new.self.lits ≡ set (set (lits ++ no_lit ∷ no_lit ∷ []) (2 * n) a) (2 * n + 1) b

@@ -1,4 +1,4 @@
-use Rattle.std.proofs.Common.{◌≡◌, ◌-◌, length}
+use Rattle.std.proofs.Common.{◌-◌, length}
 use Rattle.sat_state.specs.Joined.{GoesOn}
 use Rattle.sat_state.proofs.parts.Parts.check_new.Given as goal
 

@@ -1,6 +1,6 @@
 use Rattle.std.proofs.Common.{◌≡◌, ◌≤◌, ◌<◌, true, false, sym, ap, ◌∙◌, arith}
 use Rattle.std.proofs.lemmas.Bool.Decides.{nat_tests}
-use Rattle.cnf_core.specs.Literal.{negation, is_among}
+use Rattle.cnf_core.specs.Literal.{is_among}
 use Rattle.sat_state.specs.Trail.{literals, level_of}
 use Rattle.sat_state.specs.Guards.{is_false}
 use Rattle.sat_state.proofs.Entries.{not_low_free, not_low_level, low_level}

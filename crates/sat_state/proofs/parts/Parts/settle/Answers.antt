@@ -1,9 +1,8 @@
-use Rattle.std.proofs.Common.{◌≡◌, ◌++◌, ◌∷◌, [], ℕ, List, Some, Contains, refl, sym, ap, ◌∙◌, subst, inl, inr, ◌⊎◌, All}
+use Rattle.std.proofs.Common.{◌≡◌, List, Some, Contains, refl, sym, ap, ◌∙◌, subst, inl, inr}
 use Rattle.cnf_core.specs.Literal.{Literal}
-use Rattle.cnf_core.specs.Steps.{HasTrueLiteral, HasTwoNotFalse}
+use Rattle.cnf_core.specs.Steps.{HasTwoNotFalse}
 use Rattle.sat_state.specs.Trail.{Entry, literals, next_level, Gives}
 use Rattle.sat_state.specs.Stored.{Stored, clause_at}
-use Rattle.sat_state.specs.Guards.{is_false}
 use Rattle.sat_state.proofs.Literals.{Contains-from_among}
 use Rattle.sat_state.proofs.Going.{joined_same, goes_same, none_open, two_open, pushed_true, gives_by}
 use Rattle.sat_state.proofs.parts.Parts.settle.Goals as goal
@@ -29,7 +28,7 @@ returns-then-is_some-clause-settled c = λ e.
     let clause = clause_at c.args.self.now.clauses.lists c.args.number in
     let in_clause = subst (λ (ls : List Literal). Contains ls c.in-Some.one) (c.lits-lits.ensures.value ∙ c.clause.ensures) c.in-Some.ensures.in_clause in
     inr (subst (λ (cs : List (List Literal)). HasTwoNotFalse trues (clause_at cs c.args.number)) (sym c.other_open.ensures.clauses)
-        (two_open c.other_open.result trues clause c.in-Some.one (sym c.is_some.ensures ∙ c.if-is_some.true) c.other_open.ensures.in_clause c.other_open.ensures.other c.other_open.ensures.open in_clause c.in-Some.ensures.open))
+    (two_open c.other_open.result trues clause c.in-Some.one (sym c.is_some.ensures ∙ c.if-is_some.true) c.other_open.ensures.in_clause c.other_open.ensures.other c.other_open.ensures.open in_clause c.in-Some.ensures.open))
 
 pub force-requires-clause-joined : goal.force-requires-clause-joined
 force-requires-clause-joined c = joined_same c.args.self.now _ c.requires.joined c.other_open.ensures.clauses refl refl refl refl
@@ -49,8 +48,11 @@ returns-clause-settled c = λ e.
     let x : Entry = record { literal = one; level = next_level trail (Some c.args.number); reason = Some c.args.number } in
     let in_clause = subst (λ (ls : List Literal). Contains ls one) (c.lits-lits.ensures.value ∙ c.clause.ensures) c.in-Some.ensures.in_clause in
     let same : c.force.new.self.clauses.lists ≡ c.args.self.now.clauses.lists = ap (λ (s : Stored). s.lists) c.force.ensures.clauses ∙ c.other_open.ensures.clauses in
-    inl (one, subst (λ (cs : List (List Literal)). Contains (clause_at cs c.args.number) one) (sym same) in_clause,
-        subst (λ (es : List Entry). Contains (literals es) one) (sym c.force.ensures.trail) (pushed_true trail x))
+    inl (
+      one,
+      subst (λ (cs : List (List Literal)). Contains (clause_at cs c.args.number) one) (sym same) in_clause,
+      subst (λ (es : List Entry). Contains (literals es) one) (sym c.force.ensures.trail) (pushed_true trail x),
+    )
 
 pub returns-clause-goes : goal.returns-clause-goes
 returns-clause-goes c =

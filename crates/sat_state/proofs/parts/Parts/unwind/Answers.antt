@@ -1,8 +1,7 @@
-use Rattle.std.proofs.Common.{◌≡◌, ◌+◌, ◌-◌, ◌<◌, ◌≤◌, List, None, is_none, length, filter, nat_le, refl, sym, ap, ◌∙◌, arith}
+use Rattle.std.proofs.Common.{◌-◌, ◌<◌, is_none, length, refl, sym, ap, ◌∙◌, arith}
 use Rattle.std.proofs.lemmas.List.{length-map, take_all}
 use Rattle.std.proofs.lemmas.List.Sums.{count_by-le-length}
 use Rattle.sat_state.specs.Trail.{Entry, level_of}
-use Rattle.sat_state.specs.Stored.{Stored}
 use Rattle.sat_state.specs.Joined.{some_entry}
 use Rattle.sat_state.specs.declared.parts.Queue.{Queue}
 use Rattle.sat_state.proofs.Levels.{kept_all, kept_without_last, at_end_below, level_below, front_below}

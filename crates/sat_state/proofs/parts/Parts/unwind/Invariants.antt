@@ -1,4 +1,4 @@
-use Rattle.std.proofs.Common.{◌≡◌, ◌<◌, ◌≤◌, length, take, filter, nat_le}
+use Rattle.std.proofs.Common.{◌≡◌, ◌≤◌, length, take, filter, nat_le}
 use Rattle.cnf_core.specs.Steps.{IsAtEnd}
 use Rattle.sat_state.specs.Trail.{literals, level_of, IsGrounded}
 use Rattle.sat_state.proofs.parts.Parts.unwind.Given as goal

@@ -1,6 +1,6 @@
 use Rattle.std.proofs.Common.{◌≡◌, ◌≢◌, ◌+◌, ◌/◌, ◌<◌, ◌≤◌, ◌∷◌, [], ◌++◌, ℕ, List, Some, length, get_or, set, Contains, refl, sym, ap, ◌∙◌, subst, inl, inr, arith}
 use Rattle.std.proofs.lemmas.List.{get_or_append_left, length_push}
-use Rattle.cnf_core.specs.Literal.{Literal, negation, is_among}
+use Rattle.cnf_core.specs.Literal.{Literal, is_among}
 use Rattle.sat_state.specs.Trail.{Entry, literals, next_level, Gives, IsFalsified}
 use Rattle.sat_state.specs.Stored.{Stored, clause_at}
 use Rattle.sat_state.specs.Watching.{Watching, no_lit, lit_at}
@@ -8,7 +8,7 @@ use Rattle.sat_state.specs.Guards.{is_false}
 use Rattle.sat_state.specs.Joined.{some_entry}
 use Rattle.sat_state.proofs.Literals.{Contains-from_among}
 use Rattle.sat_state.proofs.Guarded.{literals_grow}
-use Rattle.sat_state.proofs.Going.{joined_same, goes_same, goes_again, entry_clause, entry_long, other_there, other_pair, other_var, open_not_walked, first_is, walking_kept, goes_moved, walking_moved, gives_by, falsified_by, pushed_true}
+use Rattle.sat_state.proofs.Going.{joined_same, goes_same, entry_clause, entry_long, other_there, other_pair, other_var, open_not_walked, first_is, walking_kept, goes_moved, walking_moved, gives_by, falsified_by, pushed_true}
 use Rattle.sat_state.proofs.parts.Parts.visit.Goals as goal
 
 pub lit-other-requires-clause-some : goal.lit-other-requires-clause-some

@@ -1,4 +1,4 @@
-use Rattle.std.proofs.Common.{◌≡◌, ◌-◌, ◌++◌, List, replicate, vec_len, length, ap, ◌∙◌, arith}
+use Rattle.std.proofs.Common.{◌≡◌, ◌-◌, ◌++◌, List, replicate, vec_len, ap, ◌∙◌, arith}
 use Rattle.std.proofs.lemmas.List.{take_all}
 use Rattle.sat_state.specs.declared.watches.Head.{Head}
 use Rattle.sat_state.specs.WatchesInside.{codes_of, nexts_of}

@@ -1,4 +1,4 @@
-use Rattle.std.proofs.Common.{◌<◌, length, arith}
+use Rattle.std.proofs.Common.{arith}
 use Rattle.sat_state.specs.WatchesInside.{codes_of, nexts_of}
 use Rattle.sat_state.proofs.Watched.{walk_on}
 use Rattle.sat_state.proofs.Walked.{next_read, some_left, link_there, drop_seen}

@@ -1,7 +1,4 @@
-use Rattle.std.proofs.Common.{◌≡◌, ◌<◌, ◌≤◌, List, length, map, get_or, set, sym, ap, ◌∙◌, arith}
-use Rattle.std.proofs.lemmas.List.{length-map}
-use Rattle.cnf_core.specs.Literal.{Literal, code_of}
-use Rattle.sat_state.specs.declared.watches.Entry.{Entry}
+use Rattle.std.proofs.Common.{◌<◌, length, get_or, set, ap, ◌∙◌, arith}
 use Rattle.sat_state.specs.declared.watches.Head.{Head}
 use Rattle.sat_state.specs.Watching.{Watching, no_lit}
 use Rattle.sat_state.specs.WatchesInside.{literal_at, codes_of, nexts_of}

@@ -1,4 +1,4 @@
-use Rattle.std.proofs.Common.{◌∷◌, [], ◌++◌, length, length-append, arith}
+use Rattle.std.proofs.Common.{◌∷◌, [], ◌++◌, length-append, arith}
 use Rattle.std.proofs.lemmas.List.{length-map}
 use Rattle.sat_state.specs.declared.watches.Entry.{Entry}
 use Rattle.sat_state.proofs.Watched.{length_seen}

@@ -1,5 +1,4 @@
 use Rattle.std.proofs.Common.{◌≡◌, ◌<◌, ◌≤◌, ℕ, List, length, get_or, Contains, sym, ap, ◌∙◌, subst, arith}
-use Rattle.cnf_core.specs.Literal.{code_of}
 use Rattle.sat_state.specs.declared.watches.Head.{Head}
 use Rattle.sat_state.specs.Chains.{chain}
 use Rattle.sat_state.specs.WatchesInside.{codes_of, nexts_of, list_of}

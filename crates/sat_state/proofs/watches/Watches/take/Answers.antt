@@ -1,9 +1,5 @@
-use Rattle.std.proofs.Common.{◌≡◌, ◌<◌, ℕ, List, length, map, get_or, set, refl, sym, ap, ◌∙◌, arith}
-use Rattle.std.proofs.lemmas.List.{get_or_read}
-use Rattle.cnf_core.specs.Literal.{Literal}
-use Rattle.sat_state.specs.declared.watches.Entry.{Entry}
+use Rattle.std.proofs.Common.{◌<◌, ℕ, set, refl, sym, ap, ◌∙◌, arith}
 use Rattle.sat_state.specs.Watching.{Watching, no_lit}
-use Rattle.sat_state.specs.WatchesInside.{literal_at, codes_of, nexts_of}
 use Rattle.sat_state.proofs.Watched.{head_read, lits_set}
 use Rattle.sat_state.proofs.Walked.{next_read, some_left, link_there, drop_seen, first_seen, unused, taken_first, walked_first, rest_first, taken_later, walked_later, rest_later, lits_later, previous_in}
 use Rattle.sat_state.proofs.watches.Watches.take.Goals as goal
@@ -34,8 +30,12 @@ index-before-requires c =
     let w = c.self.invariant.walk some in
     let head = head_read a.heads.items a.walked c.index-head.result.now w.known c.index-head.ensures in
     let less : a.left < c.index-head.result.now.count = omega (arith, c.if-self-head.false, w.within, ap (λ (h : Rattle.sat_state.specs.declared.watches.Head.Head). h.count) head) in
-    omega (arith, a.entries.ok.0, previous_in a.entries.items a.heads.items a.walked a.previous a.link a.left c.index.result.now.next c.index-head.result.now head c.self.invariant.linked w some
-        (next_read a.entries.items a.link c.index.result.now there c.index.ensures) less)
+    omega (
+      arith,
+      a.entries.ok.0,
+      previous_in a.entries.items a.heads.items a.walked a.previous a.link a.left c.index.result.now.next c.index-head.result.now head c.self.invariant.linked w some
+          (next_read a.entries.items a.link c.index.result.now there c.index.ensures) less,
+    )
 
 pub index_mut-requires-else-self-head : goal.index_mut-requires-else-self-head
 index_mut-requires-else-self-head c =
@@ -45,8 +45,12 @@ index_mut-requires-else-self-head c =
     let w = c.self.invariant.walk some in
     let head = head_read a.heads.items a.walked c.index-head.result.now w.known c.index-head.ensures in
     let less : a.left < c.index-head.result.now.count = omega (arith, c.if-self-head.false, w.within, ap (λ (h : Rattle.sat_state.specs.declared.watches.Head.Head). h.count) head) in
-    omega (arith, a.entries.ok.0, previous_in a.entries.items a.heads.items a.walked a.previous a.link a.left c.index.result.now.next c.index-head.result.now head c.self.invariant.linked w some
-        (next_read a.entries.items a.link c.index.result.now there c.index.ensures) less)
+    omega (
+      arith,
+      a.entries.ok.0,
+      previous_in a.entries.items a.heads.items a.walked a.previous a.link a.left c.index.result.now.next c.index-head.result.now head c.self.invariant.linked w some
+          (next_read a.entries.items a.link c.index.result.now there c.index.ensures) less,
+    )
 
 pub invariant_of-self : goal.invariant_of-self
 invariant_of-self c =
