@@ -1,19 +1,16 @@
 -- Trails that are grounded, and propagation that is at its end.
-use Rattle.std.proofs.Common.{◌≡◌, ◌≢◌, ℕ, zero, suc, ◌+◌, ◌<◌, ◌≤◌, Bool, true, false, not, Option, Some, None, IsNone, IsSome, is_none, List, [], ◌∷◌, ◌++◌, length, take, drop, get_or, count_by, All, AllPairs, Contains, refl, sym, ap, ◌∙◌, subst, inl, inr, ◌⊎◌, ⊎_elim, arith, add-one}
-use Rattle.std.proofs.lemmas.Bool.{cases_lt, cases_order, cases_Bool, both_ways, true≢false, false≢true}
+use Rattle.std.proofs.Common.{◌≡◌, ◌≢◌, ℕ, zero, suc, ◌+◌, ◌<◌, ◌≤◌, Bool, true, false, not, Option, Some, None, IsNone, IsSome, is_none, List, [], ◌∷◌, ◌++◌, length, take, drop, get_or, All, AllPairs, Contains, refl, sym, ap, ◌∙◌, subst, inl, inr, ◌⊎◌, ⊎_elim, arith, add-one}
+use Rattle.std.proofs.lemmas.Bool.{cases_order, cases_Bool, both_ways, true≢false, false≢true}
 use Rattle.std.proofs.lemmas.List.{get_or_default, get_or-map, take-map, length-map, get_or-take, length-take-le, get_or_append_left, take_more, take_all, take-take, get_or-drop, length-drop, length-append}
-use Rattle.std.proofs.lemmas.List.Elements.{All-nil, All-more, All-push, All-contains, All-map, Contains-append_right}
+use Rattle.std.proofs.lemmas.List.Elements.{All-nil, All-more, All-push, All-contains, All-map}
 use Rattle.std.proofs.lemmas.List.Sums.{sum_by-take-le}
-use Rattle.cnf_core.specs.Literal.{Literal, negation, is_among, same_literal, IsOrdered, Precedes}
+use Rattle.cnf_core.specs.Literal.{Literal, negation, is_among, same_literal}
 use Rattle.cnf_core.specs.Clauses.{Satisfies, IsTrueUnder}
 use Rattle.cnf_core.specs.Steps.{IsAtEnd, IsConsistent, HasTrueLiteral, HasTwoNotFalse, IsLastOf}
 use Rattle.sat_state.specs.Trail.{Entry, literals, level_of, IsFalsified, Gives, HasReason, IsGrounded, IsForcedAt, IsOpenBelow, FollowsFromDecisions}
-use Rattle.sat_state.specs.Counted.{clause_at}
-use Rattle.sat_state.specs.Joined.{is_false, count_true, IsSettled, AreAllSettled}
 use Rattle.sat_state.proofs.Literals.{Contains-from_among, among_from_Contains, same_literal_is, same_literal_itself, no_literal}
 use Rattle.sat_state.proofs.Tables.{Apart}
 use Rattle.sat_state.proofs.Counts.{one_if}
-use Rattle.sat_state.proofs.Settling.{count_cons, one_passes, two_fail}
 use Rattle.sat_state.proofs.Levels.{level_push}
 
 some_entry : Entry
@@ -48,91 +45,13 @@ consistent trues apart l (i, hi, ei) (j, hj, ej) =
     ne)
     (cases_order i j)
 
--- one that passes, where one is counted
-pub some_passes : {X : Type 0} (p : X → Bool) (xs : List X) → 1 ≤ count_by p xs → (x : X) × Contains xs x × (p x ≡ true)
-some_passes p [] h = absurd (omega (arith, h))
-some_passes p (x ∷ xs) h = ⊎_elim
-    (λ (e : p x ≡ true). (x, (0, omega arith, refl), e))
-    (λ (e : p x ≡ false).
-    let later = some_passes p xs (omega (arith, h, count_cons p x xs false e)) in
-    (later.0, Contains-append_right (x ∷ []) xs later.0 later.1, later.2))
-    (cases_Bool (p x))
-
-pub some_fails : {X : Type 0} (p : X → Bool) (xs : List X) → count_by p xs + 1 ≤ length xs → (x : X) × Contains xs x × (p x ≡ false)
-some_fails p [] h = absurd (omega (arith, h))
-some_fails p (x ∷ xs) h = ⊎_elim
-    (λ (e : p x ≡ true).
-    let later = some_fails p xs (omega (arith, h, count_cons p x xs true e)) in
-    (later.0, Contains-append_right (x ∷ []) xs later.0 later.1, later.2))
-    (λ (e : p x ≡ false). (x, (0, omega arith, refl), e))
-    (cases_Bool (p x))
-
-precedes_apart : (a b : Literal) → Precedes a b → a ≡ b → ⊥
-precedes_apart a b (inl lt) e = absurd (omega (arith, lt, ap (λ (l : Literal). l.var) e))
-precedes_apart a b (inr (same, yes', no')) e = true≢false (sym yes' ∙ ap (λ (l : Literal). l.positive) e ∙ no')
-
-ordered_tail : (x : Literal) (xs : List Literal) → IsOrdered (x ∷ xs) → IsOrdered xs
-ordered_tail x xs ordered i j d lt h = ordered (suc i) (suc j) d (omega arith) (omega arith)
-
-first_apart : (x y : Literal) (xs : List Literal) → IsOrdered (x ∷ xs) → Contains xs y → x ≡ y → ⊥
-first_apart x y xs ordered (k, h, e) = precedes_apart x y (subst (λ (l : Literal). Precedes x l) e (ordered 0 (suc k) y (omega arith) (omega arith)))
-
--- two that fail, where two aren't counted
-pub two_of : (p : Literal → Bool) (xs : List Literal) → IsOrdered xs → count_by p xs + 2 ≤ length xs
-    → (x : Literal) × (y : Literal) × (x ≢ y) × Contains xs x × Contains xs y × (p x ≡ false) × (p y ≡ false)
-two_of p [] ordered h = absurd (omega (arith, h))
-two_of p (x ∷ xs) ordered h = ⊎_elim
-    (λ (e : p x ≡ true).
-    let later = two_of p xs (ordered_tail x xs ordered) (omega (arith, h, count_cons p x xs true e)) in
-    (later.0, later.1, later.2, Contains-append_right (x ∷ []) xs later.0 later.3, Contains-append_right (x ∷ []) xs later.1 later.4, later.5, later.6))
-    (λ (e : p x ≡ false).
-    let later = some_fails p xs (omega (arith, h, count_cons p x xs false e)) in
-    (x, later.0, first_apart x later.0 xs ordered later.1, (0, omega arith, refl), Contains-append_right (x ∷ []) xs later.0 later.1, e, later.2))
-    (cases_Bool (p x))
-
-not_among : (trues : List Literal) (l : Literal) → is_among trues l ≡ false → Contains trues l → ⊥
+pub not_among : (trues : List Literal) (l : Literal) → is_among trues l ≡ false → Contains trues l → ⊥
 not_among trues l none has = both_ways (is_among trues l) none (among_from_Contains trues l has)
 
-among_none : (trues : List Literal) (l : Literal) → (Contains trues l → ⊥) → is_among trues l ≡ false
+pub among_none : (trues : List Literal) (l : Literal) → (Contains trues l → ⊥) → is_among trues l ≡ false
 among_none trues l none = ⊎_elim (λ (e : is_among trues l ≡ true). absurd (none (Contains-from_among trues l e))) (λ (e : is_among trues l ≡ false). e) (cases_Bool (is_among trues l))
 
-clause_settled : (trues clause : List Literal) → IsOrdered clause → IsSettled trues clause → HasTrueLiteral trues clause ⊎ HasTwoNotFalse trues clause
-clause_settled trues clause ordered settled = ⊎_elim
-    (λ (none : count_true trues clause < 1).
-    let two = two_of (is_false trues) clause ordered (settled (omega arith)) in
-    inr (record {
-      one = two.0;
-      other = two.1;
-      two = two.2;
-      one_in = two.3;
-      other_in = two.4;
-      one_not_false = not_among trues (negation two.0) two.5;
-      other_not_false = not_among trues (negation two.1) two.6;
-    }))
-    (λ (some : 1 ≤ count_true trues clause).
-    let one = some_passes (is_among trues) clause some in
-    inl (one.0, one.1, Contains-from_among trues one.0 one.2))
-    (cases_lt (count_true trues clause) 1)
-
--- where each clause is settled by its counts, propagation is at its end
-pub at_end_from_settled : (clauses : List (List Literal)) (trail : List Entry) → IsGrounded clauses trail → All IsOrdered clauses → AreAllSettled clauses trail → IsAtEnd (literals trail) clauses
-at_end_from_settled clauses trail grounded ordered settled = record {
-  consistent = consistent (literals trail) (apart_from_grounded clauses trail grounded);
-  settled = λ k d h.
-      subst (λ (clause : List Literal). HasTrueLiteral (literals trail) clause ⊎ HasTwoNotFalse (literals trail) clause) (get_or_default clauses k [] d h)
-      (clause_settled (literals trail) (clause_at clauses k) (ordered k [] h) (settled k h));
-}
-
-settled_by_cases : (trues clause : List Literal) → HasTrueLiteral trues clause ⊎ HasTwoNotFalse trues clause → IsSettled trues clause
-settled_by_cases trues clause (inl (l, in_clause, is_true)) none =
-    absurd (omega (arith, none, one_passes (is_among trues) clause l in_clause (among_from_Contains trues l is_true)))
-settled_by_cases trues clause (inr two) none =
-    two_fail (is_false trues) clause two.one two.other two.two two.one_in two.other_in (among_none trues (negation two.one) two.one_not_false) (among_none trues (negation two.other) two.other_not_false)
-
-pub settled_from_end : (trues : List Literal) (clauses : List (List Literal)) → IsAtEnd trues clauses → (number : ℕ) → number < length clauses → IsSettled trues (clause_at clauses number)
-settled_from_end trues clauses at_end number h = settled_by_cases trues (clause_at clauses number) (at_end.settled number [] h)
-
-same_or_not : (a b : Literal) → (a ≡ b) ⊎ (a ≢ b)
+pub same_or_not : (a b : Literal) → (a ≡ b) ⊎ (a ≢ b)
 same_or_not a b = ⊎_elim
     (λ (e : same_literal a b ≡ true). inl (same_literal_is a b e))
     (λ (e : same_literal a b ≡ false). inr (λ (f : a ≡ b). both_ways (same_literal a b) e (ap (same_literal a) (sym f) ∙ same_literal_itself a)))

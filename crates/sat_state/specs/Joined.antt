@@ -1,49 +1,55 @@
--- The clauses with their counters, and the trail that they count by.
-use Rattle.std.specs.Prelude.{◌≡◌, ℕ, ◌+◌, ◌*◌, ◌<◌, ◌≤◌, Bool, false, List, length, drop, count_by, slice_index, All}
-use Rattle.std.specs.List.{list_any}
-use Rattle.cnf_core.specs.Literal.{Literal, negation, is_among, VariablesUpTo}
-use Rattle.sat_state.specs.Trail.{Entry, literals, IsGrounded}
-use Rattle.sat_state.specs.Assigned.{Assigned}
-use Rattle.sat_state.specs.Counted.{Counted, clause_at, occurrences}
+-- The clauses with their watched literals, and the trail, together.
+use Rattle.std.specs.Prelude.{◌≡◌, ◌≢◌, ℕ, ◌+◌, ◌*◌, ◌<◌, ◌≤◌, List, length, take, drop, slice_index_or, None, All, Contains, ◌⊎◌}
+use Rattle.cnf_core.specs.Literal.{Literal, negation, code_of, IsClause, VariablesUpTo}
+use Rattle.sat_state.specs.Trail.{Entry, literals, level_of, IsGrounded}
+use Rattle.sat_state.specs.Watching.{no_lit, lit_at}
+use Rattle.sat_state.specs.Guards.{AreWatched, ArePartners}
+use Rattle.sat_state.specs.declared.parts.Parts.{Parts}
 
--- whether a literal is false where these literals are true
-abbrev pub is_false : List Literal → Literal → Bool
-is_false trues l = is_among trues (negation l)
+-- Each entry stands on those before it, what is left of the trail to look at is of its level, and the clauses are watched. The
+-- variables are known.
+pub record AreJoined (p : Parts) : Type 0 where
+  pub grounded : IsGrounded p.clauses.lists p.assigned.trail
+  pub watched : AreWatched p.clauses.lists p.watches.lits p.assigned.trail p.queue.checked p.queue.head
+  pub checked_in : p.queue.checked ≤ length p.clauses.lists
+  pub head_in : p.queue.head ≤ length p.assigned.trail
+  pub present : All (λ e. e.level ≡ level_of p.assigned.trail) (drop p.queue.head p.assigned.trail)
+  pub lists : 2 * p.assigned.vars + 2 ≤ p.watches.lists
+  pub in_range : All (VariablesUpTo p.assigned.vars) p.clauses.lists
+  pub clauses : All IsClause p.clauses.lists
 
--- how many literals of a clause are true, and how many false
-abbrev pub count_true : List Literal → List Literal → ℕ
-count_true trues clause = count_by (is_among trues) clause
+-- the same clauses and variables, and a trail that goes on at its level
+pub record GoesOn (old new : Parts) : Type 0 where
+  pub joined : AreJoined new
+  pub clauses : new.clauses.lists ≡ old.clauses.lists
+  pub vars : new.assigned.vars ≡ old.assigned.vars
+  pub front : take (length old.assigned.trail) new.assigned.trail ≡ old.assigned.trail
+  pub level : level_of new.assigned.trail ≡ level_of old.assigned.trail
 
-abbrev pub count_false : List Literal → List Literal → ℕ
-count_false trues clause = count_by (is_false trues) clause
+-- nothing is left to look at
+pub record IsAllSeen (p : Parts) : Type 0 where
+  pub checked : p.queue.checked ≡ length p.clauses.lists
+  pub head : p.queue.head ≡ length p.assigned.trail
 
--- a clause without a true literal has two at least that aren't false
-abbrev pub IsSettled : List Literal → List Literal → Type 0
-IsSettled trues clause = count_true trues clause ≡ 0 → count_false trues clause + 2 ≤ length clause
+abbrev pub some_entry : Entry
+some_entry = record { literal = no_lit; level = 0; reason = None }
 
--- the counters are those of the trail, whose variables and those of the clauses are known, and each entry stands on those before it
-pub record AreJoined (counted : Counted) (assigned : Assigned) : Type 0 where
-  pub trues : (number : ℕ) → number < length counted.clauses → slice_index counted.trues number ≡ count_true (literals assigned.trail) (clause_at counted.clauses number)
-  pub falses : (number : ℕ) → number < length counted.clauses → slice_index counted.falses number ≡ count_false (literals assigned.trail) (clause_at counted.clauses number)
-  pub room : 2 * assigned.vars + 2 ≤ length counted.holders
-  pub in_range : All (VariablesUpTo assigned.vars) counted.clauses
-  pub grounded : IsGrounded counted.clauses assigned.trail
+-- the list of the literal is walked that the next entry of the trail makes false: each clause that was looked at has its other literal true
+pub record IsWalking (p : Parts) : Type 0 where
+  pub checked : p.queue.checked ≡ length p.clauses.lists
+  pub more : p.queue.head < length p.assigned.trail
+  pub some : 1 ≤ p.watches.walked.var
+  pub walked : (slice_index_or p.assigned.trail p.queue.head some_entry).literal ≡ negation p.watches.walked
+  pub partners : (e f : ℕ) → ArePartners e f → e < length p.watches.lits → lit_at p.watches.lits e ≡ p.watches.walked
+      → Contains p.watches.waiting e ⊎ Contains (literals p.assigned.trail) (lit_at p.watches.lits f)
 
--- whether these literals make one of the clause false
-abbrev pub is_touched : List Literal → List Literal → Bool
-is_touched trues clause = list_any (is_false trues) clause
+-- the literal isn't false by an entry of a level below the trail's
+abbrev pub IsNotLow : List Entry → Literal → Type 0
+IsNotLow trail l = All (λ e. e.level < level_of trail → e.literal ≢ negation l) trail
 
--- each clause that holds the literal is settled, unless what became true on the way touches it
-abbrev pub AreHoldersSettled : List (List Literal) → Literal → List Entry → List Entry → Type 0
-AreHoldersSettled clauses l old new =
-    (number : ℕ) → number < length clauses → 1 ≤ occurrences l (clause_at clauses number)
-    → is_touched (literals (drop (length old) new)) (clause_at clauses number) ≡ false → IsSettled (literals new) (clause_at clauses number)
-
-abbrev pub AreAllSettled : List (List Literal) → List Entry → Type 0
-AreAllSettled clauses trail = (number : ℕ) → number < length clauses → IsSettled (literals trail) (clause_at clauses number)
-
--- what has to be looked at: each clause below `checked` that no literal of the trail from `head` on touches is settled
-pub record IsQueue (clauses : List (List Literal)) (trail : List Entry) (checked head : ℕ) : Type 0 where
-  pub checked_in : checked ≤ length clauses
-  pub head_in : head ≤ length trail
-  pub settled : (number : ℕ) → number < checked → is_touched (literals (drop head trail)) (clause_at clauses number) ≡ false → IsSettled (literals trail) (clause_at clauses number)
+-- a literal of these, of another code than this one, isn't false by an entry of a level below the trail's
+pub record HasHigh (trail : List Entry) (clause : List Literal) (skipped : ℕ) : Type 0 where
+  pub literal : Literal
+  pub in_clause : Contains clause literal
+  pub other : code_of literal ≢ skipped
+  pub high : IsNotLow trail literal

@@ -2,7 +2,11 @@ pub mod Trail
 pub mod View
 pub mod Assigned
 pub mod AssignmentInside
-pub mod Counted
-pub mod CountedInside
+pub mod Chains
+pub mod Watching
+pub mod WatchesInside
+pub mod Stored
+pub mod StoredInside
+pub mod Guards
 pub mod Joined
 pub mod StateInside

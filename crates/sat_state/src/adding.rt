@@ -1,92 +1,132 @@
 //! Clauses and variables that are added.
 
-ghost use Rattle.std.specs.Prelude.{◌≡◌, ℕ, ◌+◌, ◌*◌, ◌<◌, ◌≤◌, ◌⊎◌, [], ◌∷◌, ◌++◌, length, max, OnOk};
-ghost use Rattle.cnf_core.specs.Literal.{VariablesUpTo, IsOrdered};
+ghost use Rattle.std.specs.Prelude.{◌≡◌, ◌≢◌, ℕ, ◌+◌, ◌*◌, ◌^◌, ◌<◌, ◌≤◌, ◌⊎◌, [], ◌∷◌, ◌++◌, length, max, All, Contains, true, false, IsTrue, IsNone, IfSome, OnOk, OnErr};
+ghost use Rattle.cnf_core.specs.Literal.{VariablesUpTo, IsClause, code_of};
 ghost use Rattle.sat_state.specs.Trail.{literals, level_of, IsOpenBelow};
 ghost use Rattle.sat_state.specs.View.{BringsIn};
-ghost use Rattle.sat_state.specs.Joined.{AreJoined, IsQueue, count_true, count_false};
+ghost use Rattle.sat_state.specs.Guards.{is_false};
+ghost use Rattle.sat_state.specs.Joined.{AreJoined, IsNotLow, HasHigh};
 
-use crate::assignment::Assignment;
-use crate::clauses::CountedClauses;
-use crate::propagation::Queue;
+use crate::clauses::first_open;
+use crate::parts::Parts;
+use crate::watches::code;
 use cnf_core::{Clause, Lit};
 use ep_base::Memory;
 
-// How many of these literals are true.
-fn true_literals(assigned: &Assignment, lits: &[Lit]) -> usize
-    ensures { result ≡ count_true (literals assigned.now.trail) lits.now }
-{
-    lits.iter().filter(|lit| assigned.is_true(**lit)).count()
-}
+impl Parts {
+    // Whether a literal is false by an entry of a level below the trail's.
+    fn is_low(&self, lit: Lit) -> bool
+        requires { AreJoined self.now }
+        ensures high { result ≡ false → IsNotLow self.now.assigned.trail lit }
+        ensures low { IsTrue result → IsNotLow self.now.assigned.trail lit → ⊥ }
+    {
+        if !self.assigned.is_true(lit.negated()) {
+            return false;
+        }
+        self.assigned.level_of(lit.var()) < self.assigned.level()
+    }
 
-// How many of these literals are false.
-fn false_literals(assigned: &Assignment, lits: &[Lit]) -> usize
-    ensures { result ≡ count_false (literals assigned.now.trail) lits.now }
-{
-    lits.iter()
-        .filter(|lit| assigned.is_true(lit.negated()))
-        .count()
-}
+    // A literal of these, of another code than this one, that isn't false by an entry of a level below the trail's.
+    fn first_high(&self, lits: &[Lit], skipped: usize) -> Option<Lit>
+        requires { AreJoined self.now }
+        ensures in_clause { IfSome result (λ l. Contains lits.now l) }
+        ensures other { IfSome result (λ l. code_of l ≢ skipped) }
+        ensures high { IfSome result (IsNotLow self.now.assigned.trail) }
+        ensures none { IsNone result → All (λ l. code_of l ≢ skipped → IsNotLow self.now.assigned.trail l → ⊥) lits.now }
+    {
+        for lit in lits {
+            if code(*lit) != skipped {
+                if !self.is_low(*lit) {
+                    return Some(*lit);
+                }
+            }
+        }
+        None
+    }
 
-// Makes the variables up to this number known.
-fn grow(clauses: &mut CountedClauses, assigned: &mut Assignment, vars: u64) -> Result<(), Memory>
-    requires { AreJoined clauses.old assigned.old }
-    ensures joined { AreJoined clauses.new assigned.new }
-    ensures clauses { clauses.new.clauses ≡ clauses.old.clauses }
-    ensures trail { assigned.new.trail ≡ assigned.old.trail }
-    ensures vars { OnOk result (assigned.new.vars ≡ max assigned.old.vars vars) }
-{
-    clauses.grow(vars)?;
-    assigned.grow(vars)
-}
+    // The literal of these that is watched, of another code than this one: one that isn't false, or where there is none, one that
+    // isn't false by an entry of a level below the trail's.
+    fn choose(&self, lits: &[Lit], skipped: usize) -> Lit
+        requires joined { AreJoined self.now }
+        requires some { HasHigh self.now.assigned.trail lits.now skipped }
+        ensures in_clause { Contains lits.now result }
+        ensures other { code_of result ≢ skipped }
+        ensures high { is_false (literals self.now.assigned.trail) result ≡ true → IsNotLow self.now.assigned.trail result }
+        ensures others { is_false (literals self.now.assigned.trail) result ≡ true
+            → All (λ l. code_of l ≢ skipped → is_false (literals self.now.assigned.trail) l ≡ true) lits.now }
+    {
+        if let Some(lit) = first_open(&self.assigned, lits, skipped) {
+            return lit;
+        }
+        match self.first_high(lits, skipped) {
+            Some(lit) => lit,
+            None => unreachable!(),
+        }
+    }
 
-// Appends a clause of known variables.
-fn append(clauses: &mut CountedClauses, assigned: &Assignment, clause: Clause) -> Result<(), Memory>
-    requires joined { AreJoined clauses.old assigned.now }
-    requires level { (level_of assigned.now.trail ≡ 0) ⊎ IsOpenBelow assigned.now.trail clause }
-    requires known { VariablesUpTo assigned.now.vars clause }
-    ensures room { length clauses.new.holders ≡ length clauses.old.holders }
-    ensures joined { OnOk result (AreJoined clauses.new assigned.now) }
-    ensures clauses { OnOk result (clauses.new.clauses ≡ clauses.old.clauses ++ clause ∷ []) }
-    ensures ordered { OnOk result (IsOrdered clause) }
-{
-    let trues = true_literals(assigned, clause.lits());
-    let falses = false_literals(assigned, clause.lits());
-    clauses.push(clause, trues, falses)
-}
+    // Appends a clause of known variables.
+    fn append(&mut self, clause: Clause)
+        requires joined { AreJoined self.old }
+        requires level { (level_of self.old.assigned.trail ≡ 0) ⊎ IsOpenBelow self.old.assigned.trail clause }
+        requires known { VariablesUpTo self.old.assigned.vars clause }
+        requires clauses_room { 1 ≤ self.old.clauses.room }
+        requires watches_room { 2 ≤ self.old.watches.room }
+        requires fits { length self.old.watches.lits + 3 < 2 ^ 32 }
+        ensures joined { AreJoined self.new }
+        ensures clauses { self.new.clauses.lists ≡ self.old.clauses.lists ++ clause ∷ [] }
+        ensures assigned { self.new.assigned ≡ self.old.assigned }
+        ensures queue { self.new.queue ≡ self.old.queue }
+    {
+        let lits = clause.lits();
+        if lits.len() < 2 {
+            self.watches.push();
+            self.clauses.push(clause);
+            return;
+        }
+        let one = self.choose(lits, 0);
+        let other = self.choose(lits, code(one));
+        let entry = 2 * self.clauses.len();
+        self.watches.push();
+        self.watches.link(entry, one);
+        self.watches.link(entry + 1, other);
+        self.clauses.push(clause);
+    }
 
-/// Brings in the variables of a clause, and appends it. After a refusal nothing is said of the clauses.
-pub fn add(
-    clauses: &mut CountedClauses,
-    assigned: &mut Assignment,
-    clause: Clause,
-) -> Result<(), Memory>
-    requires joined { AreJoined clauses.old assigned.old }
-    requires level { (level_of assigned.old.trail ≡ 0) ⊎ IsOpenBelow assigned.old.trail clause }
-    ensures room { 2 ≤ length clauses.new.holders }
-    ensures joined { OnOk result (AreJoined clauses.new assigned.new) }
-    ensures clauses { OnOk result (clauses.new.clauses ≡ clauses.old.clauses ++ clause ∷ []) }
-    ensures ordered { OnOk result (IsOrdered clause) }
-    ensures trail { OnOk result (assigned.new.trail ≡ assigned.old.trail) }
-    ensures vars { OnOk result (BringsIn assigned.old.vars clause assigned.new.vars) }
-{
-    grow(clauses, assigned, clause.greatest_variable())?;
-    append(clauses, assigned, clause)
-}
+    /// Makes the variables up to this number known.
+    pub fn grow(&mut self, vars: u64) -> Result<(), Memory>
+        requires { AreJoined self.old }
+        ensures joined { AreJoined self.new }
+        ensures clauses { self.new.clauses ≡ self.old.clauses }
+        ensures room { self.new.watches.room ≡ self.old.watches.room }
+        ensures lits { self.new.watches.lits ≡ self.old.watches.lits }
+        ensures trail { self.new.assigned.trail ≡ self.old.assigned.trail }
+        ensures queue { self.new.queue ≡ self.old.queue }
+        ensures vars { OnOk result (self.new.assigned.vars ≡ max self.old.assigned.vars vars) }
+        ensures err { OnErr result (self.new.assigned.vars ≡ self.old.assigned.vars) }
+    {
+        if vars >= u64::from(u32::MAX / 2) {
+            return Err(Memory);
+        }
+        self.watches.grow(2 * vars as usize + 2)?;
+        self.assigned.grow(vars)
+    }
 
-/// Forgets all clauses and variables.
-pub fn forget(clauses: &mut CountedClauses, assigned: &mut Assignment, queue: &mut Queue)
-    requires { 2 ≤ length clauses.old.holders }
-    ensures joined { AreJoined clauses.new assigned.new }
-    ensures clauses { clauses.new.clauses ≡ [] }
-    ensures vars { assigned.new.vars ≡ 0 }
-    ensures trail { assigned.new.trail ≡ [] }
-    ensures queue { IsQueue [] [] queue.new.checked queue.new.head }
-{
-    clauses.clear();
-    assigned.clear();
-    *queue = Queue {
-        checked: 0,
-        head: 0,
-    };
+    /// Brings in the variables of a clause, and appends it. After a refusal nothing has changed.
+    pub fn add(&mut self, clause: Clause) -> Result<(), Memory>
+        requires joined { AreJoined self.old }
+        requires level { (level_of self.old.assigned.trail ≡ 0) ⊎ IsOpenBelow self.old.assigned.trail clause }
+        ensures joined { AreJoined self.new }
+        ensures clauses { OnOk result (self.new.clauses.lists ≡ self.old.clauses.lists ++ clause ∷ []) }
+        ensures vars { OnOk result (BringsIn self.old.assigned.vars clause self.new.assigned.vars) }
+        ensures trail { self.new.assigned.trail ≡ self.old.assigned.trail }
+        ensures queue { self.new.queue ≡ self.old.queue }
+        ensures err_clauses { OnErr result (self.new.clauses.lists ≡ self.old.clauses.lists) }
+        ensures err_vars { OnErr result (self.new.assigned.vars ≡ self.old.assigned.vars) }
+    {
+        self.clauses.reserve()?;
+        self.watches.reserve()?;
+        self.grow(clause.greatest_variable())?;
+        self.append(clause);
+        Ok(())
+    }
 }

@@ -4,8 +4,9 @@
 mod adding;
 mod assignment;
 mod clauses;
-mod propagation;
+mod parts;
 mod state;
+mod watches;
 
 pub use state::{Propagated, State};
 

@@ -5,12 +5,9 @@ ghost use Rattle.std.specs.Option.{option_map};
 ghost use Rattle.cnf_core.specs.Literal.{Literal, VariablesUpTo};
 ghost use Rattle.cnf_core.specs.Steps.{IsLastOf};
 ghost use Rattle.sat_state.specs.Trail.{literals, value_of, level_of, entry_of, IsFalsified, NamesFalsified, IsGrounded, IsForcedAt, IsOpenBelow, FollowsFromDecisions};
-ghost use Rattle.sat_state.specs.View.{StateView, IsPropagated, BringsIn, nothing};
+ghost use Rattle.sat_state.specs.View.{StateView, IsPropagated, BringsIn};
 
-use crate::adding::{add, forget};
-use crate::assignment::Assignment;
-use crate::clauses::CountedClauses;
-use crate::propagation::{Queue, assign, propagate, unwind};
+use crate::parts::Parts;
 use cnf_core::{Clause, Lit};
 use ep_base::Memory;
 use std::alloc::Global;
@@ -29,9 +26,7 @@ pub enum Propagated {
 /// by a clause, in order. Each decision opens a level.
 #[derive(Debug, Drop)]
 pub struct State {
-    clauses: CountedClauses,
-    assigned: Assignment,
-    queue: Queue,
+    parts: Parts,
 }
 
 impl Model for State {
@@ -60,18 +55,9 @@ impl State {
         ensures vars { IfOk result (λ state. state.vars ≡ vars) }
         ensures trail { IfOk result (λ state. state.trail ≡ []) }
     {
-        let mut clauses = CountedClauses::new(alloc);
-        clauses.grow(vars)?;
-        let mut assigned = Assignment::new(alloc)?;
-        assigned.grow(vars)?;
-        Ok(State {
-            clauses,
-            assigned,
-            queue: Queue {
-                checked: 0,
-                head: 0,
-            },
-        })
+        let mut parts = Parts::new(alloc)?;
+        parts.grow(vars)?;
+        Ok(State { parts })
     }
 
     /// The clauses in order, at level 0 with no literal true. The variables up to this number are known. Reserves what the calls
@@ -91,20 +77,17 @@ impl State {
 
     /// Appends a clause, and makes its variables known. What it forces is left to `propagate`. Where there are decisions, the
     /// clause has two literals that aren't false below their last level, as a learnt clause has at the level to which it leads
-    /// back. After a refusal the state has no clause, no variable and no literal.
+    /// back. After a refusal all is as it was.
     pub fn add(&mut self, clause: Clause) -> Result<(), Memory>
         requires { (level_of self.old.trail ≡ 0) ⊎ IsOpenBelow self.old.trail clause }
         ensures clauses { OnOk result (self.new.clauses ≡ self.old.clauses ++ clause ∷ []) }
         ensures vars { OnOk result (BringsIn self.old.vars clause self.new.vars) }
-        ensures trail { OnOk result (self.new.trail ≡ self.old.trail) }
-        ensures grounded { OnOk result (IsGrounded self.new.clauses self.new.trail) }
-        ensures err { OnErr result (self.new ≡ nothing) }
+        ensures trail { self.new.trail ≡ self.old.trail }
+        ensures grounded { IsGrounded self.new.clauses self.new.trail }
+        ensures err_clauses { OnErr result (self.new.clauses ≡ self.old.clauses) }
+        ensures err_vars { OnErr result (self.new.vars ≡ self.old.vars) }
     {
-        let added = add(&mut self.clauses, &mut self.assigned, clause);
-        if added.is_err() {
-            forget(&mut self.clauses, &mut self.assigned, &mut self.queue);
-        }
-        added
+        self.parts.add(clause)
     }
 
     /// Opens a level, at which a literal is made true without a reason. Takes no memory.
@@ -118,7 +101,8 @@ impl State {
             ≡ self.old.trail ++ record { literal = lit; level = level_of self.old.trail + 1; reason = None } ∷ [] }
         ensures grounded { IsGrounded self.new.clauses self.new.trail }
     {
-        assign(&mut self.clauses, &mut self.assigned, lit, None);
+        self.parts.finish();
+        self.parts.decide(lit);
     }
 
     /// Takes back what was made true at the levels above this one. Takes no memory, and is linear in what it undoes.
@@ -132,9 +116,8 @@ impl State {
         ensures propagated { level < level_of self.old.trail → IsPropagated self.new }
         ensures grounded { IsGrounded self.new.clauses self.new.trail }
     {
-        if level < self.assigned.level() {
-            unwind(&mut self.clauses, &mut self.assigned, level);
-            self.queue.head = self.assigned.trail().len();
+        if level < self.parts.assigned.level() {
+            self.parts.unwind(level);
         }
     }
 
@@ -155,7 +138,7 @@ impl State {
         ensures conflict { (number : ℕ) → result ≡ Propagated.Conflict number
             → NamesFalsified self.new.clauses self.new.trail number }
     {
-        match propagate(&mut self.clauses, &mut self.assigned, &mut self.queue) {
+        match self.parts.propagate() {
             Some(number) => Propagated::Conflict(number as u64),
             None => Propagated::Done,
         }
@@ -166,14 +149,14 @@ impl State {
         ensures value { result ≡ value_of (literals self.now.trail) var }
         ensures unknown { self.now.vars < var → result ≡ None }
     {
-        self.assigned.value(var)
+        self.parts.assigned.value(var)
     }
 
     /// How many decisions there are.
     pub fn level(&self) -> u64
         ensures { result ≡ level_of self.now.trail }
     {
-        self.assigned.level()
+        self.parts.assigned.level()
     }
 
     /// The literals that are true, in the order in which they were made true.
@@ -186,8 +169,8 @@ impl State {
         ensures grounded { IsGrounded self.now.clauses self.now.trail }
         ensures follows { FollowsFromDecisions self.now.clauses self.now.trail }
     {
-        let _clauses = &self.clauses;
-        self.assigned.trail()
+        let _clauses = &self.parts.clauses;
+        self.parts.assigned.trail()
     }
 
     /// The clause of this number.
@@ -195,7 +178,7 @@ impl State {
         requires { number < length self.now.clauses }
         ensures { result.now ≡ slice_index_or self.now.clauses number [] }
     {
-        self.clauses.clause(number as usize)
+        self.parts.clauses.clause(number as usize)
     }
 
     /// The level at which a variable got its value.
@@ -203,7 +186,7 @@ impl State {
         requires { IsSome (value_of (literals self.now.trail) var) }
         ensures { option_map (λ e. e.level) (entry_of self.now.trail var) ≡ Some result }
     {
-        self.assigned.level_of(var)
+        self.parts.assigned.level_of(var)
     }
 
     /// The number of the clause that gave a variable its value, or none where it was decided.
@@ -211,6 +194,6 @@ impl State {
         requires { IsSome (value_of (literals self.now.trail) var) }
         ensures { option_map (λ e. e.reason) (entry_of self.now.trail var) ≡ Some result }
     {
-        self.assigned.reason(var)
+        self.parts.assigned.reason(var)
     }
 }

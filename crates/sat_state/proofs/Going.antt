@@ -1,0 +1,408 @@
+-- The parts of a state, as propagation goes on.
+use Rattle.std.proofs.Common.{◌≡◌, ◌≢◌, ℕ, ◌+◌, ◌-◌, ◌*◌, ◌/◌, ◌<◌, ◌≤◌, Bool, true, false, is_none, Option, Some, None, List, [], ◌∷◌, ◌++◌, length, take, drop, get_or, set, filter, nat_le, All, Contains, refl, sym, ap, ◌∙◌, subst, inl, inr, ◌⊎◌, ⊎_elim, arith}
+use Rattle.std.proofs.lemmas.Bool.{cases_eq}
+use Rattle.std.proofs.lemmas.List.{take_all, take_at, take-append-le, drop-append-le, drop_all, drop_more, length_push, length-append, length-set, get_or-set_same, get_or-set_other, get_or-drop, length-drop}
+use Rattle.std.proofs.lemmas.List.Elements.{All-nil, All-push, All-same, All-contains, All-weaker}
+use Rattle.cnf_core.specs.Literal.{Literal, negation, is_among, code_of, IsClause, VariablesUpTo}
+use Rattle.cnf_core.specs.Steps.{IsAtEnd, IsConsistent, HasTrueLiteral, HasTwoNotFalse}
+use Rattle.cnf_core.proofs.Members.{Contains-here, Contains-cases, none_in_nil}
+use Rattle.sat_state.specs.Trail.{Entry, literals, level_of, next_level, value_of, Gives, IsFalsified, IsGrounded}
+use Rattle.sat_state.specs.Stored.{Stored, clause_at}
+use Rattle.sat_state.specs.Assigned.{Assigned}
+use Rattle.sat_state.specs.Watching.{no_lit, lit_at, IsNext}
+use Rattle.sat_state.specs.Guards.{is_false, IsPair, ArePartners}
+use Rattle.sat_state.specs.Joined.{AreJoined, GoesOn, IsAllSeen, IsWalking, some_entry}
+use Rattle.sat_state.specs.declared.parts.Parts.{Parts}
+use Rattle.sat_state.proofs.Literals.{Contains-from_among}
+use Rattle.sat_state.proofs.Levels.{level_push, levels_within}
+use Rattle.sat_state.proofs.Settling.{front_again}
+use Rattle.sat_state.proofs.Ends.{consistent, apart_from_grounded, not_among, none_falsified}
+use Rattle.sat_state.proofs.Grounds.{grounded_push, next_stands, literals_push}
+use Rattle.sat_state.proofs.Guarded.{turned, literals_grow, watched_push, watched_checked, watched_head, watched_moved, at_end, watched_back}
+
+-- a literal that is neither true nor false is of a variable without a value
+pub free_literal : (trues : List Literal) (l : Literal) → is_among trues l ≡ false → is_among trues (negation l) ≡ false → value_of trues l.var ≡ None
+free_literal trues l a b = by_sign l.positive refl
+  where
+    by_sign : (p : Bool) → l.positive ≡ p → value_of trues l.var ≡ None
+    by_sign true e =
+        let first : is_among trues (record { var = l.var; positive = true }) ≡ false = subst (λ (p : Bool). is_among trues (record { var = l.var; positive = p }) ≡ false) e a in
+        let second : is_among trues (record { var = l.var; positive = false }) ≡ false = subst (λ (p : Bool). is_among trues (record { var = l.var; positive = Rattle.std.proofs.Common.not p }) ≡ false) e b in
+        rw (first, second) refl
+    by_sign false e =
+        let first : is_among trues (record { var = l.var; positive = true }) ≡ false = subst (λ (p : Bool). is_among trues (record { var = l.var; positive = Rattle.std.proofs.Common.not p }) ≡ false) e b in
+        let second : is_among trues (record { var = l.var; positive = false }) ≡ false = subst (λ (p : Bool). is_among trues (record { var = l.var; positive = p }) ≡ false) e a in
+        rw (first, second) refl
+
+pub all_falsified : (trues clause : List Literal) → All (λ l. is_false trues l ≡ true) clause → IsFalsified trues clause
+all_falsified trues clause all = All-weaker (λ l. is_false trues l ≡ true) (λ l. Contains trues (negation l)) (λ l h. Contains-from_among trues (negation l) h) clause all
+
+module _ (p : Parts) (j : AreJoined p) where
+  pub joined_consistent : IsConsistent (literals p.assigned.trail)
+  joined_consistent = consistent (literals p.assigned.trail) (apart_from_grounded p.clauses.lists p.assigned.trail j.grounded)
+
+  pub joined_low : All (λ e. e.level ≤ level_of p.assigned.trail) p.assigned.trail
+  joined_low = levels_within p.clauses.lists p.assigned.trail j.grounded
+
+  -- the next entry of the trail is of its level
+  pub next_level_is : p.queue.head < length p.assigned.trail → (get_or p.assigned.trail p.queue.head some_entry).level ≡ level_of p.assigned.trail
+  next_level_is more =
+      let h = p.queue.head in
+      let trail = p.assigned.trail in
+      let there : 0 < length (drop h trail) = omega (arith, length-drop h trail, more) in
+      let is : get_or (drop h trail) 0 some_entry ≡ get_or trail h some_entry = get_or-drop h trail 0 some_entry ∙ ap (λ (n : ℕ). get_or trail n some_entry) (let e : h + 0 ≡ h = omega arith in e) in
+      sym (ap (λ (e : Entry). e.level) is) ∙ j.present 0 some_entry there
+
+  pub joined_end : IsAllSeen p → IsAtEnd (literals p.assigned.trail) p.clauses.lists
+  joined_end seen = at_end p.clauses.lists p.watches.lits p.assigned.trail p.queue.checked p.queue.head j.watched joined_consistent joined_low seen.checked seen.head
+
+  pub var_known : (number : ℕ) (l : Literal) → number < length p.clauses.lists → Contains (clause_at p.clauses.lists number) l → l.var ≤ p.assigned.vars
+  var_known number l there in_clause = All-contains (λ (x : Literal). x.var ≤ p.assigned.vars) (clause_at p.clauses.lists number) l (j.in_range number [] there) in_clause
+
+  pub var_some : (number : ℕ) (l : Literal) → number < length p.clauses.lists → Contains (clause_at p.clauses.lists number) l → 1 ≤ l.var
+  var_some number l there in_clause =
+      (All-contains (λ (x : Literal). Rattle.cnf_core.specs.Literal.IsVariable x.var) (clause_at p.clauses.lists number) l (j.clauses number [] there).variables in_clause).0
+
+  pub code_listed : (number : ℕ) (l : Literal) → number < length p.clauses.lists → Contains (clause_at p.clauses.lists number) l → code_of l < p.watches.lists
+  code_listed number l there in_clause = omega (arith, code_small l.var l.positive, var_known number l there in_clause, j.lists)
+    where
+      code_small : (v : ℕ) (b : Bool) → code_of (record { var = v; positive = b }) ≤ 2 * v + 1
+      code_small v true = omega arith
+      code_small v false = omega arith
+
+-- the same clauses, watched literals, trail and queue
+pub joined_same : (old new : Parts) → AreJoined old → new.clauses.lists ≡ old.clauses.lists → new.watches.lits ≡ old.watches.lits → new.watches.lists ≡ old.watches.lists → new.assigned ≡ old.assigned → new.queue ≡ old.queue → AreJoined new
+joined_same old new j clauses lits lists assigned queue = record {
+  grounded = rw (clauses, assigned) j.grounded;
+  watched = rw (clauses, lits, assigned, queue) j.watched;
+  checked_in = rw (clauses, queue) j.checked_in;
+  head_in = rw (assigned, queue) j.head_in;
+  present = rw (assigned, queue) j.present;
+  lists = rw (lists, assigned) j.lists;
+  in_range = rw (clauses, assigned) j.in_range;
+  clauses = rw clauses j.clauses;
+}
+
+pub goes_same : (old new : Parts) → AreJoined old → new.clauses.lists ≡ old.clauses.lists → new.watches.lits ≡ old.watches.lits → new.watches.lists ≡ old.watches.lists → new.assigned ≡ old.assigned → new.queue ≡ old.queue → GoesOn old new
+goes_same old new j clauses lits lists assigned queue = record {
+  joined = joined_same old new j clauses lits lists assigned queue;
+  clauses = clauses;
+  vars = ap (λ (a : Assigned). a.vars) assigned;
+  front = ap (λ (a : Assigned). take (length old.assigned.trail) a.trail) assigned ∙ take_all (length old.assigned.trail) old.assigned.trail (omega arith);
+  level = ap (λ (a : Assigned). level_of a.trail) assigned;
+}
+
+pub goes_here : (p : Parts) → AreJoined p → GoesOn p p
+goes_here p j = goes_same p p j refl refl refl refl refl
+
+pub goes_again : (first second third : Parts) → GoesOn first second → GoesOn second third → GoesOn first third
+goes_again first second third one two = record {
+  joined = two.joined;
+  clauses = two.clauses ∙ one.clauses;
+  vars = two.vars ∙ one.vars;
+  front = front_again first.assigned.trail second.assigned.trail third.assigned.trail one.front two.front;
+  level = two.level ∙ one.level;
+}
+
+-- a literal that a clause gives becomes true
+pub goes_forced : (old new : Parts) (l : Literal) (number : ℕ) → AreJoined old → number < length old.clauses.lists → Gives (literals old.assigned.trail) (clause_at old.clauses.lists number) l
+    → value_of (literals old.assigned.trail) l.var ≡ None → new.clauses ≡ old.clauses → new.watches ≡ old.watches → new.queue ≡ old.queue → new.assigned.vars ≡ old.assigned.vars
+    → new.assigned.trail ≡ old.assigned.trail ++ record { literal = l; level = next_level old.assigned.trail (Some number); reason = Some number } ∷ [] → GoesOn old new
+goes_forced old new l number j there gives free clauses watches queue vars more =
+    let trail = old.assigned.trail in
+    let x : Entry = record { literal = l; level = next_level trail (Some number); reason = Some number } in
+    let level : level_of (trail ++ x ∷ []) ≡ level_of trail = omega (arith, level_push trail x) in
+    record {
+      joined = record {
+        grounded = rw (clauses, more) (grounded_push old.clauses.lists trail x j.grounded (next_stands old.clauses.lists trail l (Some number) free (there, gives)));
+        watched = rw (clauses, watches, queue, more) (watched_push old.clauses.lists old.watches.lits trail old.queue.checked old.queue.head j.watched x j.head_in (λ c lt le. level));
+        checked_in = rw (clauses, queue) j.checked_in;
+        head_in = rw (queue, more) (omega (arith, j.head_in, length_push trail x));
+        present = rw (queue, more)
+            (subst (All (λ (e : Entry). e.level ≡ level_of (trail ++ x ∷ []))) (sym (drop-append-le old.queue.head trail (x ∷ []) j.head_in))
+            (subst (λ (n : ℕ). All (λ (e : Entry). e.level ≡ n) (drop old.queue.head trail ++ x ∷ [])) (sym level)
+            (All-push (λ (e : Entry). e.level ≡ level_of trail) (drop old.queue.head trail) x j.present (omega arith))));
+        lists = rw (watches, vars) j.lists;
+        in_range = rw (clauses, vars) j.in_range;
+        clauses = rw clauses j.clauses;
+      };
+      clauses = ap (λ (s : Stored). s.lists) clauses;
+      vars = vars;
+      front = ap (take (length trail)) more ∙ take_at trail (x ∷ []) (length trail) refl;
+      level = ap level_of more ∙ level;
+    }
+
+-- a clause was looked at
+pub goes_checked : (old : Parts) → AreJoined old → old.queue.checked < length old.clauses.lists
+    → HasTrueLiteral (literals old.assigned.trail) (clause_at old.clauses.lists old.queue.checked) ⊎ HasTwoNotFalse (literals old.assigned.trail) (clause_at old.clauses.lists old.queue.checked)
+    → (new : Parts) → new ≡ record old { queue = record { checked = old.queue.checked + 1; head = old.queue.head } } → GoesOn old new
+goes_checked old j there settled new is =
+    let watched = watched_checked old.clauses.lists old.watches.lits old.assigned.trail old.queue.checked old.queue.head j.watched (joined_consistent old j) (joined_low old j) there settled in
+    subst (GoesOn old) (sym is) (record {
+      joined = record {
+        grounded = j.grounded;
+        watched = watched;
+        checked_in = omega (arith, there);
+        head_in = j.head_in;
+        present = j.present;
+        lists = j.lists;
+        in_range = j.in_range;
+        clauses = j.clauses;
+      };
+      clauses = refl;
+      vars = refl;
+      front = take_all (length old.assigned.trail) old.assigned.trail (omega arith);
+      level = refl;
+    })
+
+-- the clauses of a literal were looked at
+pub goes_walked : (old : Parts) → AreJoined old → IsWalking old → old.watches.waiting ≡ [] → (new : Parts) → new ≡ record old { queue = record { checked = old.queue.checked; head = old.queue.head + 1 } } → GoesOn old new
+goes_walked old j w none new is =
+    let each : (e f : ℕ) → ArePartners e f → e < length old.watches.lits → lit_at old.watches.lits e ≡ old.watches.walked → Contains (literals old.assigned.trail) (lit_at old.watches.lits f)
+    = λ e f p lt same. ⊎_elim
+    (λ (waits : Contains old.watches.waiting e). absurd (none_in_nil e (subst (λ (ws : List ℕ). Contains ws e) none waits)))
+    (λ (done : Contains (literals old.assigned.trail) (lit_at old.watches.lits f)). done)
+    (w.partners e f p lt same) in
+    let watched = watched_head old.clauses.lists old.watches.lits old.assigned.trail old.queue.checked old.queue.head j.watched (joined_consistent old j) (joined_low old j) w.checked w.more old.watches.walked w.walked
+    (next_level_is old j w.more) each in
+    subst (GoesOn old) (sym is) (record {
+      joined = record {
+        grounded = j.grounded;
+        watched = watched;
+        checked_in = j.checked_in;
+        head_in = omega (arith, w.more);
+        present = λ k d h.
+            let there : k + 1 < length (drop old.queue.head old.assigned.trail) = omega (arith, h, length-drop (old.queue.head + 1) old.assigned.trail, length-drop old.queue.head old.assigned.trail, w.more) in
+            let same : get_or (drop (old.queue.head + 1) old.assigned.trail) k d ≡ get_or (drop old.queue.head old.assigned.trail) (k + 1) d
+            = get_or-drop (old.queue.head + 1) old.assigned.trail k d ∙ ap (λ (n : ℕ). get_or old.assigned.trail n d) (let e : (old.queue.head + 1) + k ≡ old.queue.head + (k + 1) = omega arith in e) ∙ sym (get_or-drop old.queue.head old.assigned.trail (k + 1) d) in
+            ap (λ (e : Entry). e.level) same ∙ j.present (k + 1) d there;
+        lists = j.lists;
+        in_range = j.in_range;
+        clauses = j.clauses;
+      };
+      clauses = refl;
+      vars = refl;
+      front = take_all (length old.assigned.trail) old.assigned.trail (omega arith);
+      level = refl;
+    })
+
+-- ---- one entry of a walk
+
+rest_of : (waiting : List ℕ) (e x : ℕ) → waiting ≡ e ∷ drop 1 waiting → Contains waiting x → x ≢ e → Contains (drop 1 waiting) x
+rest_of waiting e x is h ne =
+    elim (Contains-cases e (drop 1 waiting) x (subst (λ (ws : List ℕ). Contains ws x) is h)) [
+      | inl same ↦ absurd (ne (sym same))
+      | inr later ↦ later
+    ]
+
+pub shorter_by_one : (waiting now : List ℕ) (e : ℕ) → waiting ≡ e ∷ drop 1 waiting → now ≡ drop 1 waiting → length now + 1 ≡ length waiting
+shorter_by_one waiting now e is same = omega (arith, ap length is, ap length same)
+
+-- where two entries have one partner, they are one
+same_partner : (e f x : ℕ) → ArePartners e f → ArePartners x f → x ≡ e
+same_partner e f x p q = omega (arith, p.clause, q.clause, p.apart, q.apart)
+
+module _ (old : Parts) (j : AreJoined old) (w : IsWalking old) (e : ℕ) (next : IsNext old.watches e) where
+  pub entry_clause : e / 2 < length old.clauses.lists
+  entry_clause = omega (arith, next.there, j.watched.entries)
+
+  pub entry_long : 1 ≤ old.watches.walked.var → 2 ≤ length (clause_at old.clauses.lists (e / 2))
+  entry_long some = j.watched.long e next.there (subst (λ (l : Literal). 1 ≤ l.var) (sym next.walked) some)
+
+  -- the literal that is walked is false
+  pub walked_false : Contains (literals old.assigned.trail) (negation old.watches.walked)
+  walked_false =
+      subst (λ (l : Literal). Contains (literals old.assigned.trail) l) w.walked
+      (Rattle.sat_state.proofs.Guarded.literal_of_entry old.assigned.trail (get_or old.assigned.trail old.queue.head some_entry)
+      (Rattle.sat_state.proofs.Guarded.entry_at_place old.assigned.trail old.queue.head some_entry w.more))
+
+  -- the entry is kept where the other literal is true
+  pub walking_kept : (f : ℕ) → ArePartners e f → (new : Parts) → Contains (literals new.assigned.trail) (lit_at old.watches.lits f) → ((l : Literal) → Contains (literals old.assigned.trail) l → Contains (literals new.assigned.trail) l)
+      → get_or new.assigned.trail new.queue.head some_entry ≡ get_or old.assigned.trail old.queue.head some_entry → length old.assigned.trail ≤ length new.assigned.trail
+      → new.clauses.lists ≡ old.clauses.lists → new.queue ≡ old.queue → new.watches.lits ≡ old.watches.lits → new.watches.walked ≡ old.watches.walked → new.watches.waiting ≡ drop 1 old.watches.waiting → IsWalking new
+  walking_kept f p new is_true grows at longer clauses queue lits walked waiting = record {
+    checked = rw (clauses, queue) w.checked;
+    more = rw queue (omega (arith, w.more, longer));
+    some = rw walked w.some;
+    walked = ap (λ (x : Entry). x.literal) at ∙ w.walked ∙ ap negation (sym walked);
+    partners = λ x y q lt same.
+        let old_in : x < length old.watches.lits = omega (arith, lt, ap length lits) in
+        let old_same : lit_at old.watches.lits x ≡ old.watches.walked = ap (λ (ls : List Literal). lit_at ls x) (sym lits) ∙ same ∙ walked in
+        ⊎_elim
+        (λ (here : x ≡ e).
+        let q_e : ArePartners e y = subst (λ (z : ℕ). ArePartners z y) here q in
+        let one : y ≡ f = same_partner f e y (turned e f p) (turned e y q_e) in
+        inr (subst (λ (ls : List Literal). Contains (literals new.assigned.trail) (lit_at ls y)) (sym lits)
+        (subst (λ (z : ℕ). Contains (literals new.assigned.trail) (lit_at old.watches.lits z)) (sym one) is_true)))
+        (λ (ne : x ≢ e). ⊎_elim
+        (λ (waits : Contains old.watches.waiting x). inl (subst (λ (ws : List ℕ). Contains ws x) (sym waiting) (rest_of old.watches.waiting e x next.first waits ne)))
+        (λ (done : Contains (literals old.assigned.trail) (lit_at old.watches.lits y)).
+        inr (subst (λ (ls : List Literal). Contains (literals new.assigned.trail) (lit_at ls y)) (sym lits) (grows (lit_at old.watches.lits y) done)))
+        (w.partners x y q old_in old_same))
+        (cases_eq x e);
+  }
+
+  -- the entry moves to another literal of its clause, which isn't false
+  module _ (l : Literal) (lg : 2 ≤ length (clause_at old.clauses.lists (e / 2))) (in_clause : Contains (clause_at old.clauses.lists (e / 2)) l) (not_false : is_false (literals old.assigned.trail) l ≡ false)
+      (f : ℕ) (p : ArePartners e f) (not_other : l ≢ lit_at old.watches.lits f) (new : Parts) (assigned : new.assigned ≡ old.assigned) (clauses : new.clauses.lists ≡ old.clauses.lists) (queue : new.queue ≡ old.queue)
+      (lists : new.watches.lists ≡ old.watches.lists) (walked : new.watches.walked ≡ old.watches.walked) (waiting : new.watches.waiting ≡ drop 1 old.watches.waiting)
+      (lits : new.watches.lits ≡ set (set old.watches.lits e no_lit) e l) where
+    size : length new.watches.lits ≡ length old.watches.lits
+    size = ap length lits ∙ length-set (set old.watches.lits e no_lit) e l ∙ length-set old.watches.lits e no_lit
+
+    at : lit_at new.watches.lits e ≡ l
+    at = ap (λ (ls : List Literal). lit_at ls e) lits ∙ get_or-set_same (set old.watches.lits e no_lit) e l no_lit (omega (arith, next.there, length-set old.watches.lits e no_lit))
+
+    others : (x : ℕ) → x ≢ e → lit_at new.watches.lits x ≡ lit_at old.watches.lits x
+    others x ne = ap (λ (ls : List Literal). lit_at ls x) lits ∙ get_or-set_other (set old.watches.lits e no_lit) e x l no_lit ne ∙ get_or-set_other old.watches.lits e x no_lit no_lit ne
+
+    pub goes_moved : GoesOn old new
+    goes_moved = record {
+      joined = record {
+        grounded = rw (clauses, assigned) j.grounded;
+        watched = rw (clauses, assigned, queue)
+            (watched_moved old.clauses.lists old.watches.lits old.assigned.trail old.queue.checked old.queue.head j.watched (joined_consistent old j) (joined_low old j) w.checked new.watches.lits e old.watches.walked l size next.there at others next.walked
+            walked_false lg in_clause (λ g q. subst (λ (z : ℕ). l ≢ lit_at old.watches.lits z) (sym (same_partner f e g (turned e f p) (turned e g q))) not_other)
+            (not_among (literals old.assigned.trail) (negation l) not_false));
+        checked_in = rw (clauses, queue) j.checked_in;
+        head_in = rw (assigned, queue) j.head_in;
+        present = rw (assigned, queue) j.present;
+        lists = rw (lists, assigned) j.lists;
+        in_range = rw (clauses, assigned) j.in_range;
+        clauses = rw clauses j.clauses;
+      };
+      clauses = clauses;
+      vars = ap (λ (a : Assigned). a.vars) assigned;
+      front = ap (λ (a : Assigned). take (length old.assigned.trail) a.trail) assigned ∙ take_all (length old.assigned.trail) old.assigned.trail (omega arith);
+      level = ap (λ (a : Assigned). level_of a.trail) assigned;
+    }
+
+    not_walked : l ≢ old.watches.walked
+    not_walked same = not_among (literals old.assigned.trail) (negation l) not_false (subst (λ (x : Literal). Contains (literals old.assigned.trail) (negation x)) (sym same) walked_false)
+
+    pub walking_moved : IsWalking new
+    walking_moved = record {
+      checked = rw (clauses, queue) w.checked;
+      more = rw (assigned, queue) w.more;
+      some = rw walked w.some;
+      walked = rw (assigned, queue, walked) w.walked;
+      partners = λ x y q lt same. ⊎_elim
+          (λ (here : x ≡ e). absurd (not_walked (sym at ∙ ap (lit_at new.watches.lits) (sym here) ∙ same ∙ walked)))
+          (λ (ne : x ≢ e).
+          let old_same : lit_at old.watches.lits x ≡ old.watches.walked = sym (others x ne) ∙ same ∙ walked in
+          ⊎_elim
+          (λ (waits : Contains old.watches.waiting x). inl (subst (λ (ws : List ℕ). Contains ws x) (sym waiting) (rest_of old.watches.waiting e x next.first waits ne)))
+          (λ (done : Contains (literals old.assigned.trail) (lit_at old.watches.lits y)). ⊎_elim
+          (λ (there : y ≡ e).
+          let q_e : ArePartners e x = turned x e (subst (λ (z : ℕ). ArePartners x z) there q) in
+          let place : e / 2 ≡ e / 2 = refl in
+          absurd ((j.watched.pairs e x q_e next.there lg).two (next.walked ∙ sym old_same)))
+          (λ (nf : y ≢ e). inr (subst (λ (z : Literal). Contains (literals new.assigned.trail) z) (sym (others y nf)) (rw assigned done)))
+          (cases_eq y e))
+          (w.partners x y q (omega (arith, lt, size)) old_same))
+          (cases_eq x e);
+    }
+
+none_behind : (trail : List Entry) (head : ℕ) (P : Entry → Type 0) → head ≡ length trail → All P (drop head trail)
+none_behind trail head P seen = λ k d h. absurd (omega (arith, h, length-drop head trail, seen))
+
+-- a literal is decided
+pub joined_decided : (old new : Parts) (l : Literal) → AreJoined old → IsAllSeen old → IsAtEnd (literals old.assigned.trail) old.clauses.lists → value_of (literals old.assigned.trail) l.var ≡ None
+    → new.clauses ≡ old.clauses → new.watches ≡ old.watches → new.queue ≡ old.queue → new.assigned.vars ≡ old.assigned.vars
+    → new.assigned.trail ≡ old.assigned.trail ++ record { literal = l; level = next_level old.assigned.trail None; reason = None } ∷ [] → AreJoined new
+joined_decided old new l j seen ends free clauses watches queue vars more =
+    let trail = old.assigned.trail in
+    let x : Entry = record { literal = l; level = next_level trail None; reason = None } in
+    record {
+      grounded = rw (clauses, more) (grounded_push old.clauses.lists trail x j.grounded (next_stands old.clauses.lists trail l None free ends));
+      watched = rw (clauses, watches, queue, more)
+          (watched_push old.clauses.lists old.watches.lits trail old.queue.checked old.queue.head j.watched x j.head_in (λ c lt le. absurd (omega (arith, lt, le, seen.checked))));
+      checked_in = rw (clauses, queue) j.checked_in;
+      head_in = rw (queue, more) (omega (arith, j.head_in, length_push trail x));
+      present = rw (queue, more)
+          (subst (All (λ (e : Entry). e.level ≡ level_of (trail ++ x ∷ []))) (sym (drop-append-le old.queue.head trail (x ∷ []) j.head_in))
+          (All-push (λ (e : Entry). e.level ≡ level_of (trail ++ x ∷ [])) (drop old.queue.head trail) x
+          (none_behind trail old.queue.head (λ (e : Entry). e.level ≡ level_of (trail ++ x ∷ [])) seen.head) (omega (arith, level_push trail x))));
+      lists = rw (watches, vars) j.lists;
+      in_range = rw (clauses, vars) j.in_range;
+      clauses = rw clauses j.clauses;
+    }
+
+-- literals are taken back
+pub joined_back : (old new : Parts) (level : ℕ) → AreJoined old → level < level_of old.assigned.trail → IsGrounded old.clauses.lists new.assigned.trail
+    → new.clauses ≡ old.clauses → new.watches ≡ old.watches → new.queue.checked ≡ old.queue.checked → new.queue.head ≡ length new.assigned.trail → new.assigned.vars ≡ old.assigned.vars
+    → new.assigned.trail ≡ filter (λ e. nat_le e.level level) old.assigned.trail → take (length new.assigned.trail) old.assigned.trail ≡ new.assigned.trail → AreJoined new
+joined_back old new level j lower grounded clauses watches checked head vars kept front = record {
+  grounded = rw clauses grounded;
+  watched = rw (clauses, watches, checked, head)
+      (watched_back old.clauses.lists old.watches.lits old.assigned.trail old.queue.checked old.queue.head j.watched j.present level new.assigned.trail lower kept front);
+  checked_in = rw (clauses, checked) j.checked_in;
+  head_in = omega (arith, head);
+  present = none_behind new.assigned.trail new.queue.head (λ (e : Entry). e.level ≡ level_of new.assigned.trail) head;
+  lists = rw (watches, vars) j.lists;
+  in_range = rw (clauses, vars) j.in_range;
+  clauses = rw clauses j.clauses;
+}
+
+-- ---- what the literals of a clause are
+
+-- a literal of a variable has a code
+pub code_some : (l : Literal) → 1 ≤ l.var → code_of l ≢ 0
+code_some l some is = absurd (omega (arith, some, is))
+
+pub none_open : (trues clause lits : List Literal) → lits ≡ clause → All (λ l. Rattle.cnf_core.specs.Literal.IsVariable l.var) lits → All (λ l. code_of l ≢ 0 → is_false trues l ≡ true) lits → IsFalsified trues clause
+none_open trues clause lits same variables none =
+    subst (IsFalsified trues) same
+    (λ k d h. Contains-from_among trues (negation (get_or lits k d)) (none k d h (code_some (get_or lits k d) (variables k d h).0)))
+
+pub two_open : (o : Option Literal) (trues clause : List Literal) (one : Literal) → Rattle.std.proofs.Common.is_some o ≡ true → Rattle.std.specs.Option.IfSome o (λ l. Contains clause l) → Rattle.std.specs.Option.IfSome o (λ l. l ≢ one)
+    → Rattle.std.specs.Option.IfSome o (λ l. is_false trues l ≡ false) → Contains clause one → is_false trues one ≡ false → HasTwoNotFalse trues clause
+two_open None trues clause one some in_clause other not_false one_in one_open = absurd (let no : ⊥ = cc some in no)
+two_open (Some l) trues clause one some in_clause other not_false one_in one_open = record {
+  one = l;
+  other = one;
+  two = other;
+  one_in = in_clause;
+  other_in = one_in;
+  one_not_false = not_among trues (negation l) not_false;
+  other_not_false = not_among trues (negation one) one_open;
+}
+
+pub pushed_true : (trail : List Entry) (x : Entry) → Contains (literals (trail ++ x ∷ [])) x.literal
+pushed_true trail x =
+    subst (λ (ls : List Literal). Contains ls x.literal) (sym (literals_push trail x))
+    (Rattle.std.proofs.lemmas.List.Elements.Contains-append_right (literals trail) (x.literal ∷ []) x.literal (Contains-here x.literal []))
+
+-- all literals of the clause but one are false
+pub gives_by : (trues clause : List Literal) (one : Literal) → Contains clause one → All (λ l. l ≢ one → is_false trues l ≡ true) clause → Gives trues clause one
+gives_by trues clause one in_clause none = record {
+  in_clause = in_clause;
+  others_false = λ l h ne. Contains-from_among trues (negation l) (All-contains (λ (x : Literal). x ≢ one → is_false trues x ≡ true) clause l none h ne);
+}
+
+pub falsified_by : (trues clause : List Literal) (one : Literal) → is_false trues one ≡ true → All (λ l. l ≢ one → is_false trues l ≡ true) clause → IsFalsified trues clause
+falsified_by trues clause one falsified none =
+    λ k d h. elim (Rattle.sat_state.proofs.Ends.same_or_not (get_or clause k d) one) [
+      | inl same ↦ subst (λ (x : Literal). Contains trues (negation x)) (sym same) (Contains-from_among trues (negation one) falsified)
+      | inr ne ↦ Contains-from_among trues (negation (get_or clause k d)) (none k d h ne)
+    ]
+
+module _ (old : Parts) (j : AreJoined old) (w : IsWalking old) (e : ℕ) (next : IsNext old.watches e) (f : ℕ) (p : ArePartners e f) where
+  pub other_there : f < length old.watches.lits
+  other_there = omega (arith, entry_clause old j w e next, p.clause, j.watched.entries)
+
+  pub other_pair : IsPair (clause_at old.clauses.lists (e / 2)) (lit_at old.watches.lits f) (lit_at old.watches.lits e)
+  other_pair =
+      let lg = entry_long old j w e next w.some in
+      subst (λ (n : ℕ). IsPair (clause_at old.clauses.lists n) (lit_at old.watches.lits f) (lit_at old.watches.lits e)) (sym p.clause)
+      (j.watched.pairs f e (turned e f p) other_there (subst (λ (n : ℕ). 2 ≤ length (clause_at old.clauses.lists n)) p.clause lg))
+
+  pub other_var : 1 ≤ (lit_at old.watches.lits f).var
+  other_var = var_some old j (e / 2) (lit_at old.watches.lits f) (entry_clause old j w e next) other_pair.in_clause
+
+  pub open_not_walked : (l : Literal) → is_false (literals old.assigned.trail) l ≡ false → l ≢ old.watches.walked
+  open_not_walked l not_false same =
+      not_among (literals old.assigned.trail) (negation l) not_false (subst (λ (x : Literal). Contains (literals old.assigned.trail) (negation x)) (sym same) (walked_false old j w e next))
+
+pub first_is : (waiting : List ℕ) (e : ℕ) → waiting ≡ e ∷ drop 1 waiting → get_or waiting 0 0 ≡ e
+first_is waiting e is = ap (λ (ws : List ℕ). get_or ws 0 0) is

@@ -1,0 +1,51 @@
+-- Watched literals against the trail.
+use Rattle.std.specs.Prelude.{◌≡◌, ◌≢◌, ℕ, ◌*◌, ◌/◌, ◌<◌, ◌≤◌, Bool, List, length, take, All, Contains}
+use Rattle.cnf_core.specs.Literal.{Literal, negation, is_among}
+use Rattle.sat_state.specs.Trail.{Entry, literals, level_of}
+use Rattle.sat_state.specs.Stored.{clause_at}
+use Rattle.sat_state.specs.Watching.{lit_at}
+
+-- whether a literal is false where these literals are true
+abbrev pub is_false : List Literal → Literal → Bool
+is_false trues l = is_among trues (negation l)
+
+-- the literal is true by an entry of at most this level
+pub record IsTrueBy (trail : List Entry) (l : Literal) (level : ℕ) : Type 0 where
+  pub entry : Entry
+  pub there : Contains trail entry
+  pub names : entry.literal ≡ l
+  pub low : entry.level ≤ level
+
+-- where a literal is false by one of the first entries, another is true by one of no higher level
+abbrev pub Guards : List Entry → ℕ → Literal → Literal → Type 0
+Guards trail head l other = All (λ e. e.literal ≡ negation l → IsTrueBy trail other e.level) (take head trail)
+
+-- all literals of a clause but one are false
+abbrev pub AreOthersFalse : List Literal → List Literal → Literal → Type 0
+AreOthersFalse trues clause other = (l : Literal) → Contains clause l → l ≢ other → Contains trues (negation l)
+
+-- where a literal is false by one of the first entries, that one is of the trail's level, and all literals but another are false
+abbrev pub IsFresh : List Entry → ℕ → List Literal → Literal → Literal → Type 0
+IsFresh trail head clause l other =
+    All (λ e. e.literal ≡ negation l → (e.level ≡ level_of trail) × AreOthersFalse (literals trail) clause other) (take head trail)
+
+-- two entries are those of one clause
+pub record ArePartners (entry other : ℕ) : Type 0 where
+  pub clause : entry / 2 ≡ other / 2
+  pub apart : entry ≢ other
+
+-- a literal of a clause, and not the other one that it watches
+pub record IsPair (clause : List Literal) (l other : Literal) : Type 0 where
+  pub in_clause : Contains clause l
+  pub two : l ≢ other
+
+-- Each clause of two or more literals watches two of them; a literal of a clause that was looked at is guarded by the other, and
+-- one of another clause is fresh. A shorter clause that was looked at is true without decisions.
+pub record AreWatched (clauses : List (List Literal)) (lits : List Literal) (trail : List Entry) (checked head : ℕ) : Type 0 where
+  pub entries : length lits ≡ 2 * length clauses
+  pub long : (e : ℕ) → e < length lits → 1 ≤ (lit_at lits e).var → 2 ≤ length (clause_at clauses (e / 2))
+  pub pairs : (e f : ℕ) → ArePartners e f → e < length lits → 2 ≤ length (clause_at clauses (e / 2)) → IsPair (clause_at clauses (e / 2)) (lit_at lits e) (lit_at lits f)
+  pub guarded : (e f : ℕ) → ArePartners e f → e / 2 < checked → 2 ≤ length (clause_at clauses (e / 2)) → Guards trail head (lit_at lits e) (lit_at lits f)
+  pub fresh : (e f : ℕ) → ArePartners e f → e < length lits → checked ≤ e / 2 → 2 ≤ length (clause_at clauses (e / 2)) → IsFresh trail head (clause_at clauses (e / 2)) (lit_at lits e) (lit_at lits f)
+  pub short : (c : ℕ) → c < checked → length (clause_at clauses c) < 2 → (0 < length (clause_at clauses c)) × All (λ l. IsTrueBy trail l 0) (clause_at clauses c)
+  pub unchecked : (c : ℕ) → c < length clauses → checked ≤ c → length (clause_at clauses c) < 2 → level_of trail ≡ 0

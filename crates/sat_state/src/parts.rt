@@ -1,0 +1,266 @@
+//! The parts of a state, and propagation over them.
+
+ghost use Rattle.std.specs.Prelude.{◌≡◌, ℕ, ◌+◌, ◌*◌, ◌^◌, ◌<◌, ◌≤◌, ◌⊎◌, [], ◌∷◌, ◌++◌, length, take, max, None, Some, false, IsTrue, Contains, IsNone, IfSome, IfOk, OnOk, OnErr, filter, nat_le, ◌/◌, ◌≢◌, if◌then◌else◌};
+ghost use Rattle.cnf_core.specs.Literal.{VariablesUpTo};
+ghost use Rattle.cnf_core.specs.Steps.{IsAtEnd, HasTrueLiteral, HasTwoNotFalse};
+ghost use Rattle.sat_state.specs.Trail.{literals, value_of, next_level, level_of, HasReason, IsFalsified, NamesFalsified, Gives, IsOpenBelow};
+ghost use Rattle.sat_state.specs.Stored.{clause_at};
+ghost use Rattle.sat_state.specs.Watching.{IsNext};
+ghost use Rattle.sat_state.specs.Guards.{ArePartners};
+ghost use Rattle.sat_state.specs.Joined.{AreJoined, GoesOn, IsAllSeen, IsWalking};
+
+use crate::assignment::Assignment;
+use crate::clauses::{Clauses, first_open};
+use crate::watches::Watches;
+use cnf_core::Lit;
+use ep_base::Memory;
+use std::alloc::Global;
+
+/// What propagation still has to look at: the clauses from `checked` on, and the literals of the trail from `head` on.
+#[derive(Clone, Copy, Debug)]
+pub struct Queue {
+    pub checked: usize,
+    pub head: usize,
+}
+
+/// The clauses with the literals that they watch, the trail, and what is left to look at.
+#[derive(Debug, Drop)]
+pub struct Parts {
+    pub clauses: Clauses,
+    pub watches: Watches,
+    pub assigned: Assignment,
+    pub queue: Queue,
+}
+
+// The other entry of the clause of an entry.
+fn partner(entry: usize) -> usize
+    ensures { ArePartners entry result }
+{
+    if entry % 2 == 0 { entry + 1 } else { entry - 1 }
+}
+
+impl Parts {
+    /// No clause, no variable and no literal.
+    pub fn new(alloc: Global) -> Result<Parts, Memory>
+        ensures joined { IfOk result (λ parts. AreJoined parts) }
+        ensures clauses { IfOk result (λ parts. parts.clauses.lists ≡ []) }
+        ensures vars { IfOk result (λ parts. parts.assigned.vars ≡ 0) }
+        ensures trail { IfOk result (λ parts. parts.assigned.trail ≡ []) }
+    {
+        let mut watches = Watches::new(alloc);
+        watches.grow(2)?;
+        Ok(Parts {
+            clauses: Clauses::new(alloc),
+            watches,
+            assigned: Assignment::new(alloc)?,
+            queue: Queue {
+                checked: 0,
+                head: 0,
+            },
+        })
+    }
+
+    /// Whether nothing is left to look at.
+    pub fn is_seen(&self) -> bool
+        ensures { IsTrue result → IsAllSeen self.now }
+    {
+        self.queue.checked == self.clauses.len() && self.queue.head == self.assigned.trail().len()
+    }
+
+    // Makes a literal true that a clause gives.
+    fn force(&mut self, lit: Lit, number: usize)
+        requires joined { AreJoined self.old }
+        requires there { number < length self.old.clauses.lists }
+        requires gives { Gives (literals self.old.assigned.trail) (clause_at self.old.clauses.lists number) lit }
+        requires free { value_of (literals self.old.assigned.trail) lit.var ≡ None }
+        ensures goes { GoesOn self.old self.new }
+        ensures clauses { self.new.clauses ≡ self.old.clauses }
+        ensures watches { self.new.watches ≡ self.old.watches }
+        ensures queue { self.new.queue ≡ self.old.queue }
+        ensures trail { self.new.assigned.trail ≡ self.old.assigned.trail
+            ++ record { literal = lit; level = next_level self.old.assigned.trail (Some number); reason = Some number } ∷ [] }
+    {
+        self.assigned.push(lit, Some(number as u64));
+    }
+
+    // Looks at all of a clause. Where all its literals but one are false and that one has no value, it becomes true. Answers
+    // whether the clause isn't falsified.
+    fn settle(&mut self, number: usize) -> bool
+        requires joined { AreJoined self.old }
+        requires there { number < length self.old.clauses.lists }
+        ensures goes { GoesOn self.old self.new }
+        ensures watches { self.new.watches ≡ self.old.watches }
+        ensures queue { self.new.queue ≡ self.old.queue }
+        ensures settled { IsTrue result
+            → HasTrueLiteral (literals self.new.assigned.trail) (clause_at self.new.clauses.lists number)
+            ⊎ HasTwoNotFalse (literals self.new.assigned.trail) (clause_at self.new.clauses.lists number) }
+        ensures falsified { result ≡ false → NamesFalsified self.new.clauses.lists self.new.assigned.trail number }
+    {
+        let lits = self.clauses.clause(number).lits();
+        let Some(one) = first_open(&self.assigned, lits, 0) else {
+            return false;
+        };
+        if self.assigned.is_true(one) {
+            return true;
+        }
+        if self
+            .clauses
+            .other_open(&self.assigned, number, one)
+            .is_some()
+        {
+            return true;
+        }
+        self.force(one, number);
+        true
+    }
+
+    // Looks at the clauses that weren't looked at yet, up to a falsified one, whose number it answers.
+    fn check_new(&mut self) -> Option<usize>
+        requires joined { AreJoined self.old }
+        ensures goes { GoesOn self.old self.new }
+        ensures falsified { IfSome result (NamesFalsified self.new.clauses.lists self.new.assigned.trail) }
+        ensures done { IsNone result → self.new.queue.checked ≡ length self.new.clauses.lists }
+    {
+        while self.queue.checked < self.clauses.len() {
+            let number = self.queue.checked;
+            if !self.settle(number) {
+                return Some(number);
+            }
+            self.queue.checked += 1;
+        }
+        None
+    }
+
+    // Looks at the clause of the next entry of the list that is walked. Answers whether it isn't falsified.
+    fn visit(&mut self, entry: usize) -> bool
+        requires joined { AreJoined self.old }
+        requires walking { IsWalking self.old }
+        requires next { IsNext self.old.watches entry }
+        ensures goes { GoesOn self.old self.new }
+        ensures walking { IsTrue result → IsWalking self.new }
+        ensures shorter { IsTrue result → length self.new.watches.waiting + 1 ≡ length self.old.watches.waiting }
+        ensures queue { self.new.queue ≡ self.old.queue }
+        ensures falsified { result ≡ false → NamesFalsified self.new.clauses.lists self.new.assigned.trail (entry / 2) }
+    {
+        let other = self.watches.lit(partner(entry));
+        if self.assigned.is_true(other) {
+            self.watches.keep();
+            return true;
+        }
+        let number = entry / 2;
+        if let Some(lit) = self.clauses.other_open(&self.assigned, number, other) {
+            self.watches.take();
+            self.watches.link(entry, lit);
+            return true;
+        }
+        if self.assigned.is_true(other.negated()) {
+            return false;
+        }
+        self.force(other, number);
+        self.watches.keep();
+        true
+    }
+
+    // Looks at the clauses that watch the literal that the next entry of the trail makes false, up to a falsified one, whose number
+    // it answers.
+    fn walk(&mut self) -> Option<usize>
+        requires joined { AreJoined self.old }
+        requires checked { self.old.queue.checked ≡ length self.old.clauses.lists }
+        requires more { self.old.queue.head < length self.old.assigned.trail }
+        ensures goes { GoesOn self.old self.new }
+        ensures checked { self.new.queue.checked ≡ self.old.queue.checked }
+        ensures falsified { IfSome result (NamesFalsified self.new.clauses.lists self.new.assigned.trail) }
+        ensures done { IsNone result → self.new.queue.head ≡ self.old.queue.head + 1 }
+    {
+        let lit = self.assigned.trail()[self.queue.head].negated();
+        self.watches.start(lit);
+        'walk: while let Some(entry) = self.watches.current() {
+            if !self.visit(entry) {
+                return Some(entry / 2);
+            }
+        }
+        self.queue.head += 1;
+        None
+    }
+
+    // Looks at the literals of the trail that weren't looked at yet, up to a falsified clause, whose number it answers.
+    fn follow(&mut self) -> Option<usize>
+        requires joined { AreJoined self.old }
+        requires checked { self.old.queue.checked ≡ length self.old.clauses.lists }
+        ensures goes { GoesOn self.old self.new }
+        ensures falsified { IfSome result (NamesFalsified self.new.clauses.lists self.new.assigned.trail) }
+        ensures done { IsNone result → IsAllSeen self.new }
+    {
+        'follow: while self.queue.head < self.assigned.trail().len() {
+            let falsified = self.walk();
+            if falsified.is_some() {
+                return falsified;
+            }
+        }
+        None
+    }
+
+    /// Looks at all that has to be looked at, up to a falsified clause, whose number it answers.
+    pub fn propagate(&mut self) -> Option<usize>
+        requires joined { AreJoined self.old }
+        ensures goes { GoesOn self.old self.new }
+        ensures falsified { IfSome result (NamesFalsified self.new.clauses.lists self.new.assigned.trail) }
+        ensures done { IsNone result → IsAllSeen self.new }
+        ensures at_end { IsNone result → IsAtEnd (literals self.new.assigned.trail) self.new.clauses.lists }
+    {
+        let falsified = self.check_new();
+        if falsified.is_some() {
+            return falsified;
+        }
+        self.follow()
+    }
+
+    /// Looks at all that has to be looked at, where the clauses force nothing more.
+    pub fn finish(&mut self)
+        requires joined { AreJoined self.old }
+        requires at_end { IsAtEnd (literals self.old.assigned.trail) self.old.clauses.lists }
+        ensures joined { AreJoined self.new }
+        ensures seen { IsAllSeen self.new }
+        ensures clauses { self.new.clauses.lists ≡ self.old.clauses.lists }
+        ensures vars { self.new.assigned.vars ≡ self.old.assigned.vars }
+        ensures trail { self.new.assigned.trail ≡ self.old.assigned.trail }
+    {
+        if self.is_seen() {
+            return;
+        }
+        self.propagate();
+    }
+
+    /// Makes a literal true without a reason, which opens a level.
+    pub fn decide(&mut self, lit: Lit)
+        requires joined { AreJoined self.old }
+        requires seen { IsAllSeen self.old }
+        requires at_end { IsAtEnd (literals self.old.assigned.trail) self.old.clauses.lists }
+        requires known { lit.var ≤ self.old.assigned.vars }
+        requires free { value_of (literals self.old.assigned.trail) lit.var ≡ None }
+        ensures joined { AreJoined self.new }
+        ensures clauses { self.new.clauses ≡ self.old.clauses }
+        ensures vars { self.new.assigned.vars ≡ self.old.assigned.vars }
+        ensures trail { self.new.assigned.trail ≡ self.old.assigned.trail
+            ++ record { literal = lit; level = level_of self.old.assigned.trail + 1; reason = None } ∷ [] }
+    {
+        self.assigned.push(lit, None);
+    }
+
+    /// Takes literals back until no level above this one is left.
+    pub fn unwind(&mut self, level: u64)
+        requires joined { AreJoined self.old }
+        requires above { level < level_of self.old.assigned.trail }
+        ensures joined { AreJoined self.new }
+        ensures clauses { self.new.clauses ≡ self.old.clauses }
+        ensures vars { self.new.assigned.vars ≡ self.old.assigned.vars }
+        ensures trail { self.new.assigned.trail ≡ filter (λ e. nat_le e.level level) self.old.assigned.trail }
+        ensures level { level_of self.new.assigned.trail ≡ level }
+        ensures at_end { IsAtEnd (literals self.new.assigned.trail) self.old.clauses.lists }
+    {
+        'above: while self.assigned.level() > level {
+            self.assigned.pop();
+        }
+        self.queue.head = self.assigned.trail().len();
+    }
+}
