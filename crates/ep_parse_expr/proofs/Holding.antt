@@ -192,3 +192,9 @@ pub behind_three : (a b c d : Phrase) (ls mid rest : List Lexeme) → Takes (a f
 behind_three a b c d ls mid rest s t =
     takes_as (a followed_by ((b followed_by c) followed_by d)) (a followed_by b followed_by c followed_by d) ls rest
     (λ front k. (k.0, k.1, k.2, k.3, regrouped b c d k.1 k.4)) (behind_two a (b followed_by c) d ls mid rest s t)
+
+-- and to the left
+pub ungrouped : (a b c : Phrase) (front : List Lexeme) → (a followed_by b followed_by c) front → ((a followed_by b) followed_by c) front
+ungrouped a b c front h =
+    let k = h.4 in
+    (h.0 ++ k.0, k.1, h.2 ∙ ap (λ x. h.0 ++ x) k.2 ∙ sym (append_assoc h.0 k.0 k.1), (h.0, k.0, refl, h.3, k.3), k.4)

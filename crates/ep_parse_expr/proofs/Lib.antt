@@ -2,3 +2,4 @@ mod Vectors
 pub mod Holding
 pub mod SoundParts
 pub mod SoundLists
+pub mod SoundOpened
