@@ -3,3 +3,4 @@ pub mod Holding
 pub mod SoundParts
 pub mod SoundLists
 pub mod SoundOpened
+pub mod SoundReads
