@@ -4,3 +4,4 @@ pub mod SoundParts
 pub mod SoundLists
 pub mod SoundOpened
 pub mod SoundReads
+pub mod SoundOperators
