@@ -55,7 +55,7 @@ holds_as Q R r h k = record { holds = λ x ls e. k x ls (h.holds x ls e) }
 module _ {A : Type 0} (goes_on : A → List Lexeme → Option (List Lexeme)) (item : A → Reader A) (R : A → List Lexeme → List A → List Lexeme → Type 0)
     (nil : (last : A) (ls : List Lexeme) → R last ls [] ls)
     (cons : (last : A) (ls next : List Lexeme) → goes_on last ls ≡ Some next
-        → Holds (λ x rest. (xs : List A) (end : List Lexeme) → R x rest xs end → R last ls (x ∷ xs) end) (item last next)) where
+    → Holds (λ x rest. (xs : List A) (end : List Lexeme) → R x rest xs end → R last ls (x ∷ xs) end) (item last next)) where
   step : (n : ℕ) → ((last : A) (ls : List Lexeme) → Holds (R last ls) (more_from goes_on item n last ls))
       → (last : A) (ls : List Lexeme) (o : Option (List Lexeme)) → goes_on last ls ≡ o
       → Holds (R last ls) (going_on o ls (λ next. item last next and_then λ x rest. more_from goes_on item n x rest and_then λ xs end. took (x ∷ xs) end))

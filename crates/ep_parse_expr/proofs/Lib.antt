@@ -5,3 +5,4 @@ pub mod SoundLists
 pub mod SoundOpened
 pub mod SoundReads
 pub mod SoundOperators
+pub mod Sound

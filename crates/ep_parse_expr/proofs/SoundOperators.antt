@@ -87,14 +87,14 @@ module _ (less : ℕ) (low : Lower) (good : AreSound less low) where
       (rw is.0 same)
       (let high : max (height left) (height b) ≤ less = max-le (below (height left) less lt) h.low in omega (arith, high))))))
 
-  power_sound : (ls : List Lexeme) → Holds (IsExpr powers (suc less) ls) (power_from (suc less) low ls)
+  pub power_sound : (ls : List Lexeme) → Holds (IsExpr powers (suc less) ls) (power_from (suc less) low ls)
   unfolding power_from rank tighter
   power_sound ls =
       holds_then (IsExpr unaries (suc less) ls) (IsExpr powers (suc less) ls) (unary_from (suc less) low ls) _ (unary_sound less low good ls)
       (λ e rest h. grown_sound (another_binary (suc less) low power_words unaries) (IsExpr powers (suc less) ls)
       (binary_step powers unaries power_words are_powers.0 are_powers.1 refl refl refl ls) (length rest) e rest (looser powers unaries (suc less) ls e rest refl h))
 
-  product_sound : (ls : List Lexeme) → Holds (IsExpr products (suc less) ls) (product_from (suc less) low ls)
+  pub product_sound : (ls : List Lexeme) → Holds (IsExpr products (suc less) ls) (product_from (suc less) low ls)
   unfolding product_from rank tighter
   product_sound ls =
       holds_then (IsExpr powers (suc less) ls) (IsExpr products (suc less) ls) (power_from (suc less) low ls) _ (power_sound ls)
@@ -156,7 +156,7 @@ module _ (less : ℕ) (low : Lower) (good : AreSound less low) where
       (let high : max (height first) (max (height t.1) (highest_term (as_terms ts))) ≤ less = max-le (below (height first) less lt) (max-le h.1 m.1) in omega (arith, high)))))))
       (holds_took Q first from (looser sums products (suc less) ls first from refl q))
 
-  chain_sound : (ls : List Lexeme) → Holds (IsExpr sums (suc less) ls) (chain_from (suc less) low ls)
+  pub chain_sound : (ls : List Lexeme) → Holds (IsExpr sums (suc less) ls) (chain_from (suc less) low ls)
   unfolding chain_from
   chain_sound ls =
       holds_then (IsExpr products (suc less) ls) (IsExpr sums (suc less) ls) (product_from (suc less) low ls) _ (product_sound ls) (terms_behind_sound ls)
@@ -200,7 +200,7 @@ module _ (less : ℕ) (low : Lower) (good : AreSound less low) where
       (λ front k. (k.0, k.1, k.2, (closed, k.3), k.4)) refl
       (let high : max (height a) (domain_height d) ≤ less = max-le small h.low in omega (arith, high)))))
 
-  comparison_sound : (ls : List Lexeme) → Holds (IsExpr comparisons (suc less) ls) (comparison_from (suc less) low ls)
+  pub comparison_sound : (ls : List Lexeme) → Holds (IsExpr comparisons (suc less) ls) (comparison_from (suc less) low ls)
   unfolding comparison_from comparison_behind rank
   comparison_sound ls =
       let Q : ExprTree → List Lexeme → Type 0 = IsExpr comparisons (suc less) ls in
@@ -269,19 +269,19 @@ module _ (less : ℕ) (low : Lower) (good : AreSound less low) where
         (let top : max (height first) (max (height t) (highest (as_trees ts))) ≤ less = max-le (below (height first) less lt) (max-le h.1 m.1) in subst (λ n. n ≤ suc less) (sym (high (place_of first) parts)) (omega (arith, top))))))))
         (holds_took Q first from (looser own level (suc less) ls first from le q))
 
-  conjunction_sound : (ls : List Lexeme) → Holds (IsExpr conjunctions (suc less) ls) (conjunction_from (suc less) low ls)
+  pub conjunction_sound : (ls : List Lexeme) → Holds (IsExpr conjunctions (suc less) ls) (conjunction_from (suc less) low ls)
   unfolding conjunction_from rank place_of SpellsNode own_level height
   conjunction_sound ls =
       holds_then (IsExpr comparisons (suc less) ls) (IsExpr conjunctions (suc less) ls) (comparison_from (suc less) low ls) _ (comparison_sound ls)
       (parts_behind_sound "/\\" comparisons refl conjunctions all_of (λ p es. refl) (λ p es front x. x) (λ p es. refl) (λ p es. refl) refl ls)
 
-  disjunction_sound : (ls : List Lexeme) → Holds (IsExpr disjunctions (suc less) ls) (disjunction_from (suc less) low ls)
+  pub disjunction_sound : (ls : List Lexeme) → Holds (IsExpr disjunctions (suc less) ls) (disjunction_from (suc less) low ls)
   unfolding disjunction_from rank place_of SpellsNode own_level height
   disjunction_sound ls =
       holds_then (IsExpr conjunctions (suc less) ls) (IsExpr disjunctions (suc less) ls) (conjunction_from (suc less) low ls) _ (conjunction_sound ls)
       (parts_behind_sound "\\/" conjunctions refl disjunctions any_of (λ p es. refl) (λ p es front x. x) (λ p es. refl) (λ p es. refl) refl ls)
 
-  implication_sound : (ls : List Lexeme) → Holds (IsExpr implications (suc less) ls) (implication_from (suc less) low ls)
+  pub implication_sound : (ls : List Lexeme) → Holds (IsExpr implications (suc less) ls) (implication_from (suc less) low ls)
   unfolding implication_from rank tighter
   implication_sound ls =
       holds_then (IsExpr disjunctions (suc less) ls) (IsExpr implications (suc less) ls) (disjunction_from (suc less) low ls) _ (disjunction_sound ls)
