@@ -4,7 +4,7 @@ use Rattle.std.proofs.Common.{ap, sym, subst, ◌∙◌, append_assoc}
 use Rattle.std.proofs.lemmas.Slice.Eq.{bytes_eq-Decides}
 use Rattle.ep_base.specs.declared.places.Place.{Place}
 use Rattle.ep_tree.specs.Phrases.{Is, Lexeme, Phrase, Saying, Silence, StartsAt, a_name, a_number, a_word, ◌followed_by◌}
-use Rattle.ep_parse_expr.specs.Readers.{Read, Reader, behind, chosen, found_or, going_on, grown_from, growing, high, if_low, is_word, looked_up, meant_by, more_from, next_in, says, took, word_from, wrong, ◌and_then◌}
+use Rattle.ep_parse_expr.specs.Readers.{Read, Reader, behind, chosen, found_or, going_on, grown_from, growing, high, if_low, if_some, only_if, operated, is_word, looked_up, meant_by, more_from, next_in, says, took, word_from, wrong, ◌and_then◌}
 
 -- something holds of what is taken and of the tokens behind it
 pub record Holds {A : Type 0} (Q : A → List Lexeme → Type 0) (r : Read A) : Type 0 where
@@ -55,7 +55,7 @@ holds_as Q R r h k = record { holds = λ x ls e. k x ls (h.holds x ls e) }
 module _ {A : Type 0} (goes_on : A → List Lexeme → Option (List Lexeme)) (item : A → Reader A) (R : A → List Lexeme → List A → List Lexeme → Type 0)
     (nil : (last : A) (ls : List Lexeme) → R last ls [] ls)
     (cons : (last : A) (ls next : List Lexeme) → goes_on last ls ≡ Some next
-        → Holds (λ x rest. (xs : List A) (end : List Lexeme) → R x rest xs end → R last ls (x ∷ xs) end) (item last next)) where
+    → Holds (λ x rest. (xs : List A) (end : List Lexeme) → R x rest xs end → R last ls (x ∷ xs) end) (item last next)) where
   step : (n : ℕ) → ((last : A) (ls : List Lexeme) → Holds (R last ls) (more_from goes_on item n last ls))
       → (last : A) (ls : List Lexeme) (o : Option (List Lexeme)) → goes_on last ls ≡ o
       → Holds (R last ls) (going_on o ls (λ next. item last next and_then λ x rest. more_from goes_on item n x rest and_then λ xs end. took (x ∷ xs) end))
@@ -192,3 +192,59 @@ pub behind_three : (a b c d : Phrase) (ls mid rest : List Lexeme) → Takes (a f
 behind_three a b c d ls mid rest s t =
     takes_as (a followed_by ((b followed_by c) followed_by d)) (a followed_by b followed_by c followed_by d) ls rest
     (λ front k. (k.0, k.1, k.2, k.3, regrouped b c d k.1 k.4)) (behind_two a (b followed_by c) d ls mid rest s t)
+
+-- and to the left
+pub ungrouped : (a b c : Phrase) (front : List Lexeme) → (a followed_by b followed_by c) front → ((a followed_by b) followed_by c) front
+ungrouped a b c front h =
+    let k = h.4 in
+    (h.0 ++ k.0, k.1, h.2 ∙ ap (λ x. h.0 ++ x) k.2 ∙ sym (append_assoc h.0 k.0 k.1), (h.0, k.0, refl, h.3, k.3), k.4)
+
+-- something holds of each entry of a table
+abbrev pub AllEntries : {A : Type 0} → (A → Type 0) → List (List ℕ × A) → Type 0
+AllEntries P [] = Unit {0}
+AllEntries P (entry ∷ entries) = P entry.1 × AllEntries P entries
+
+module _ {A : Type 0} (P : A → Type 0) where
+  found_all : (b : Bool) (y x : A) (other : Option A) → found_or b y other ≡ Some x → P y → (other ≡ Some x → P x) → P x
+  found_all true y x other e here there = subst P (ap (λ o. or_else o) e) here
+    where
+      or_else : Option A → A
+      or_else None = x
+      or_else (Some z) = z
+  found_all false y x other e here there = there e
+
+  looked_up-all : (entries : List (List ℕ × A)) → AllEntries P entries → (w : List ℕ) (x : A) → looked_up entries w ≡ Some x → P x
+  unfolding looked_up
+  looked_up-all [] h w x e = absurd cc
+  looked_up-all (entry ∷ entries) h w x e = found_all (bytes_eq entry.0 w) entry.1 x (looked_up entries w) e h.0 (looked_up-all entries h.1 w x)
+
+  meant_by-all : (entries : List (List ℕ × A)) → AllEntries P entries → (s : Saying) (x : A) → meant_by entries s ≡ Some x → P x
+  meant_by-all entries h (a_word w) x e = looked_up-all entries h w x e
+  meant_by-all entries h (a_name y) x e = absurd cc
+  meant_by-all entries h (a_number n) x e = absurd cc
+
+  pub next_in-all : (entries : List (List ℕ × A)) → AllEntries P entries → (ls : List Lexeme) (x : A) → next_in entries ls ≡ Some x → P x
+  unfolding next_in
+  next_in-all entries h [] x e = absurd cc
+  next_in-all entries h (l ∷ ls) x e = meant_by-all entries h l.saying x e
+
+pub operated_sound : {A B : Type 0} (Q : B → List Lexeme → Type 0) (closed : Bool) (o : Option A) (go : A → Read B)
+    → ((op : A) → closed ≡ true → o ≡ Some op → Holds Q (go op)) → HoldsIf Q (operated closed o go)
+operated_sound Q closed None go k = tt
+operated_sound Q false (Some op) go k = tt
+operated_sound Q true (Some op) go k = k op refl refl
+
+pub only_if_sound : {A : Type 0} (Q : A → List Lexeme → Type 0) (b : Bool) (reader : Reader A) (ls : List Lexeme)
+    → (b ≡ true → Holds Q (reader ls)) → HoldsIf Q (only_if b reader ls)
+only_if_sound Q true reader ls k = k refl
+only_if_sound Q false reader ls k = tt
+
+pub if_grown_sound : {A : Type 0} (Q : A → List Lexeme → Type 0) (o : Option (Read A)) (x : A) (ls : List Lexeme)
+    → HoldsIf Q o → Q x ls → Holds Q (if_some o (λ r. r) (took x ls))
+if_grown_sound Q None x ls h q = holds_took Q x ls q
+if_grown_sound Q (Some r) x ls h q = h
+
+pub if_some_sound : {A B : Type 0} (Q : A → List Lexeme → Type 0) (o : Option B) (go : B → Read A) (other : Read A)
+    → ((x : B) → o ≡ Some x → Holds Q (go x)) → Holds Q other → Holds Q (if_some o go other)
+if_some_sound Q None go other h k = k
+if_some_sound Q (Some x) go other h k = h x refl

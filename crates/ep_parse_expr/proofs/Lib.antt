@@ -2,3 +2,7 @@ mod Vectors
 pub mod Holding
 pub mod SoundParts
 pub mod SoundLists
+pub mod SoundOpened
+pub mod SoundReads
+pub mod SoundOperators
+pub mod Sound

@@ -46,9 +46,11 @@ module _ (less : ℕ) (low : Lower) (good : AreSound less low) where
       more_sound behind_comma (λ last. low.expr implications) (λ last from es end. Takes (SpellsMore (as_trees es)) from end × (highest (as_trees es) ≤ less))
       (λ last from. (takes_nothing from, omega arith))
       (λ last from next c. holds_as (IsExpr implications less next) _ (low.expr implications next) (whole next)
-      (λ x r h xs end m.
-      (takes_then (Says ",") (Spells implications x followed_by SpellsMore (as_trees xs)) from next end (comma_sound last from next c)
-      (takes_then (Spells implications x) (SpellsMore (as_trees xs)) next r end (takes_expr implications less next x r h) m.0), max-le h.low m.1)))
+      (λ x r h xs end m. (
+        takes_then (Says ",") (Spells implications x followed_by SpellsMore (as_trees xs)) from next end (comma_sound last from next c)
+            (takes_then (Spells implications x) (SpellsMore (as_trees xs)) next r end (takes_expr implications less next x r h) m.0),
+        max-le h.low m.1,
+      )))
       (length ls) e ls
 
   -- ---- generators
@@ -60,9 +62,11 @@ module _ (less : ℕ) (low : Lower) (good : AreSound less low) where
       holds_then (λ xs rest. Takes (Names xs) ls rest) Q (names_from ls) _ (names_sound ls)
       (λ xs rest t. holds_then (λ p next. Takes (Says ":") rest next) Q (word_from (codes ":") rest) _ (word_sound (codes ":") rest)
       (λ p next u. holds_then (IsDomain set_operations less next) Q (low.domain set_operations next) _ (good.domain set_operations next)
-      (λ d end h. holds_took Q (xs, d) end
-      (takes_then (Names xs) (Says ":" followed_by SpellsDomain set_operations d) ls rest end t
-      (takes_then (Says ":") (SpellsDomain set_operations d) rest next end u (takes_domain set_operations less next d end h)), h.low))))
+      (λ d end h. holds_took Q (xs, d) end (
+        takes_then (Names xs) (Says ":" followed_by SpellsDomain set_operations d) ls rest end t
+            (takes_then (Says ":") (SpellsDomain set_operations d) rest next end u (takes_domain set_operations less next d end h)),
+        h.low,
+      ))))
 
   another_sound : (last : Generator) (ls next : List Lexeme) → another_generator last ls ≡ Some next → Takes (Says ",") ls next
   unfolding another_generator
@@ -76,9 +80,11 @@ module _ (less : ℕ) (low : Lower) (good : AreSound less low) where
       more_sound another_generator (λ last. generator_from low) (λ last from gens end. Takes (SpellsMoreGenerators (as_generators gens)) from end × (highest_generator (as_generators gens) ≤ less))
       (λ last from. (takes_nothing from, omega arith))
       (λ last from next c. holds_as (λ x rest. Takes (Names x.0 followed_by Says ":" followed_by SpellsDomain set_operations x.1) next rest × (domain_height x.1 ≤ less)) _ (generator_from low next) (gen_sound next)
-      (λ x r h xs end m.
-      (takes_then (Says ",") (Names x.0 followed_by Says ":" followed_by SpellsDomain set_operations x.1 followed_by SpellsMoreGenerators (as_generators xs)) from next end (another_sound last from next c)
-      (behind_three (Names x.0) (Says ":") (SpellsDomain set_operations x.1) (SpellsMoreGenerators (as_generators xs)) next r end h.0 m.0), max-le h.1 m.1)))
+      (λ x r h xs end m. (
+        takes_then (Says ",") (Names x.0 followed_by Says ":" followed_by SpellsDomain set_operations x.1 followed_by SpellsMoreGenerators (as_generators xs)) from next end (another_sound last from next c)
+            (behind_three (Names x.0) (Says ":") (SpellsDomain set_operations x.1) (SpellsMoreGenerators (as_generators xs)) next r end h.0 m.0),
+        max-le h.1 m.1,
+      )))
       (length ls) g ls
 
   conditions_sound : (ls : List Lexeme) → Holds (λ es end. Takes (SpellsMore (as_trees es)) ls end × (highest (as_trees es) ≤ less)) (conditions_from low ls)
@@ -92,7 +98,7 @@ module _ (less : ℕ) (low : Lower) (good : AreSound less low) where
 
   pub comprehension_sound : (Q : ExprTree → List Lexeme → Type 0) (b : Bool) (p : Place) (e : ExprTree) (ls : List Lexeme)
       → ((gens : Generators) (conditions : ExprTrees) (d : IndexDomain) (rest : List Lexeme) → highest_generator gens ≤ less → highest conditions ≤ less → index_height d ≤ less
-          → Takes (SpellsGenerators gens followed_by SpellsMore conditions followed_by SpellsIndexDomain d followed_by Says "]") ls rest → Q (comprehension p e gens conditions d) rest)
+      → Takes (SpellsGenerators gens followed_by SpellsMore conditions followed_by SpellsIndexDomain d followed_by Says "]") ls rest → Q (comprehension p e gens conditions d) rest)
       → Holds Q (comprehension_from b low p e ls)
   unfolding comprehension_from SpellsNode as_generators height
   comprehension_sound Q b p e ls k =
@@ -107,7 +113,7 @@ module _ (less : ℕ) (low : Lower) (good : AreSound less low) where
 
   pub literal_sound : (Q : ExprTree → List Lexeme → Type 0) (b : Bool) (p : Place) (e : ExprTree) (ls : List Lexeme)
       → ((es : ExprTrees) (d : IndexDomain) (rest : List Lexeme) → highest es ≤ less → index_height d ≤ less
-          → Takes (SpellsMore es followed_by SpellsIndexDomain d followed_by Says "]") ls rest → Q (literal p (tree_and e es) d) rest)
+      → Takes (SpellsMore es followed_by SpellsIndexDomain d followed_by Says "]") ls rest → Q (literal p (tree_and e es) d) rest)
       → Holds Q (literal_from b low p e ls)
   unfolding literal_from as_trees
   literal_sound Q b p e ls k =
