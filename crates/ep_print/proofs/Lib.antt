@@ -1,1 +1,6 @@
 mod Vectors
+pub mod Puts
+pub mod Turns
+pub mod RunLaws
+pub mod Appends
+pub mod Matrices

@@ -4,3 +4,4 @@ pub mod Answers
 pub mod Words
 pub mod Models
 pub mod Refusals
+pub mod Putting

@@ -2,9 +2,15 @@
 #![tactic(auto)]
 
 mod answers;
+mod indices;
+mod lines;
+mod numbers;
 mod refusals;
 mod texts;
+mod values;
 
-pub use answers::Answer;
+pub use answers::{Answer, print_answer};
+pub use lines::refusal_line;
 pub use refusals::{Refusal, TextFile};
-pub use texts::{print_answer, print_model, print_value, refusal_line};
+pub use texts::print_model;
+pub use values::print_value;
