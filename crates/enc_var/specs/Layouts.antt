@@ -1,5 +1,5 @@
 -- Layouts: the literals of many variables, when they are those of a formula, and what it is to go on from one.
-use Rattle.std.specs.Prelude.{◌≡◌, ℕ, ◌≤◌, ℤ, Bool, IsTrue, List, [], ◌++◌, length, map, take, slice_index_or}
+use Rattle.std.specs.Prelude.{◌≡◌, ℕ, ◌≤◌, ℤ, Bool, IsTrue, List, [], ◌++◌, length, map, take, slice_index_or, Option}
 use Rattle.std.specs.List.{All, Contains}
 use Rattle.ep_base.specs.Reads.{IsWithinNumbers}
 use Rattle.cnf_core.specs.Clauses.{Satisfies}
@@ -7,7 +7,7 @@ use Rattle.cnf_core.specs.Formula.{Cnf, Extends}
 use Rattle.cnf_core.specs.Literal.{Literal}
 use Rattle.cnf_core.specs.Steps.{IsConsistent}
 use Rattle.ep_flat.specs.Cons.{FlatCon, con_holds, con_variables}
-use Rattle.ep_flat.specs.Flats.{FlatState, HasSmallCoefficients, Meets, NamesBelow}
+use Rattle.ep_flat.specs.Flats.{FlatState, HasSmallCoefficients, MapState, Meets, NamesBelow, cell_numbers, objective_number}
 use Rattle.enc_var.specs.Entries.{Entry, HasLiteralsUpTo, Means, decoded}
 
 -- the literals of a variable; of one that isn't there, those of a variable without a value
@@ -68,3 +68,14 @@ pub record IsEncoding (flat : FlatState) (layout : List Entry) (f : Cnf) : Type 
   pub consistent : All IsConsistent f.clauses
   pub sound : (s : ℕ → Bool) → Satisfies s f.clauses → Meets flat (take (length flat.vars) (decoded_values layout s))
   pub complete : (values : List ℤ) → Meets flat values → IsDecoded layout f (length flat.vars) values
+
+-- the numbers that an assignment gives the cells
+abbrev pub decoded_cells : List Entry → MapState → (ℕ → Bool) → List ℤ
+decoded_cells layout m s = cell_numbers m (decoded_values layout s)
+
+-- An assignment that satisfies clauses gives the cells these numbers, and the objective, where there is one, this number.
+pub record GivesCells (layout : List Entry) (m : MapState) (clauses : List (List Literal)) (cells : List ℤ) (goal : Option ℤ) : Type 0 where
+  pub assignment : ℕ → Bool
+  pub satisfies : Satisfies assignment clauses
+  pub gives : decoded_cells layout m assignment ≡ cells
+  pub drives : objective_number m (decoded_values layout assignment) ≡ goal

@@ -1,5 +1,5 @@
 -- Flat problems: variables with domains and constraints on them, and which numbers of the variables meet them.
-use Rattle.std.specs.Prelude.{ℕ, ◌<◌, ℤ, option_map, IsTrue, List, length, Option}
+use Rattle.std.specs.Prelude.{◌≡◌, [], map, MatchOption, slice_index_or, ℕ, ◌<◌, ℤ, option_map, IsTrue, List, length, Option}
 use Rattle.std.specs.List.{All, AllZip, Contains}
 use Rattle.ep_base.specs.Reads.{IsWithinNumbers}
 use Rattle.ep_base.specs.declared.operators.Sense.{Sense}
@@ -27,6 +27,12 @@ cell_numbers m values = numbers_at values m.cells
 -- the number of the objective's variable, where there is one
 unfoldable pub objective_number : MapState → List ℤ → Option ℤ
 objective_number m values = option_map (λ goal. number_at values goal.1) m.objective
+
+-- A map names for each cell a variable whose domain is the cell's values, and one for the objective, where there is one.
+pub record MapsCells (values : List (List ℤ)) (vars : List (List ℤ)) (m : MapState) : Type 0 where
+  pub cells : All (λ x. x < length vars) m.cells
+  pub domains : map (λ x. slice_index_or vars x []) m.cells ≡ values
+  pub objective : MatchOption m.objective (Unit {0}) (λ goal. goal.1 < length vars)
 
 -- each variable that a constraint names is one of so many
 abbrev pub NamesBelow : ℕ → FlatCon → Type 0

@@ -1,15 +1,11 @@
 -- What it means that a flat problem stands for a ground.
-use Rattle.std.specs.Prelude.{◌≡◌, ℕ, ◌<◌, ℤ, List, [], map, length, Option, MatchOption, option_map, slice_index_or}
-use Rattle.std.specs.List.{All}
-use Rattle.ep_flat.specs.Cons.{number_at}
-use Rattle.ep_flat.specs.Flats.{FlatState, IsSound, MapState, Meets, cell_numbers, objective_number}
+use Rattle.std.specs.Prelude.{◌≡◌, ℤ, List, map, option_map}
+use Rattle.ep_flat.specs.Flats.{FlatState, IsSound, MapState, MapsCells, Meets, cell_numbers, objective_number}
 use Rattle.ep_ground.specs.Grounds.{GroundState, IsGroundSolution, ground_objective}
 
--- the map names a variable for each cell, with the cell's values as its domain, and one for the objective
+-- the map names variables for the cells of a ground and for its objective, which is to be driven the same way
 pub record IsMapOf (g : GroundState) (vars : List (List ℤ)) (m : MapState) : Type 0 where
-  pub cells : All (λ x. x < length vars) m.cells
-  pub domains : map (λ x. slice_index_or vars x []) m.cells ≡ map (λ one. one.values) g.cells
-  pub objective : MatchOption m.objective (Unit {0}) (λ goal. goal.1 < length vars)
+  pub maps : MapsCells (map (λ one. one.values) g.cells) vars m
   pub senses : option_map (λ goal. goal.0) m.objective ≡ option_map (λ goal. goal.0) g.objective
 
 -- numbers of the variables that meet a flat problem and give the cells these values

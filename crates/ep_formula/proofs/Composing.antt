@@ -1,18 +1,18 @@
 -- The stages' promises compose.
-use Rattle.std.proofs.Common.{◌≡◌, ◌↔◌, ℕ, ◌<◌, ◌≤◌, ℤ, pos, Bool, List, [], ◌∷◌, zero, suc, length, take, Option, Some, None, refl, sym, ap, subst, ◌∙◌, arith, slice_index_or}
+use Rattle.std.proofs.Common.{◌≡◌, ℕ, ◌<◌, ◌≤◌, ℤ, pos, Bool, List, [], ◌∷◌, zero, suc, length, take, Option, Some, None, refl, sym, ap, subst, ◌∙◌, arith, slice_index_or}
 use Rattle.std.specs.Prelude.{map, option_map, MatchOption}
-use Rattle.std.specs.List.{All, Contains}
+use Rattle.std.specs.List.{All}
 use Rattle.std.proofs.lemmas.List.Elements.{All-head, All-tail, All-weaker}
 use Rattle.cnf_core.specs.Clauses.{Satisfies}
 use Rattle.cnf_core.specs.Formula.{Cnf}
 use Rattle.ep_base.specs.declared.operators.Sense.{Sense}
 use Rattle.ep_flat.specs.Cons.{number_at, numbers_at}
-use Rattle.ep_flat.specs.Flats.{FlatState, MapState, Meets, cell_numbers, objective_number}
-use Rattle.ep_flatten.specs.Flattening.{IsMapOf, IsMetBy, StandsFor}
-use Rattle.ep_formula.specs.Formulas.{GivesCells, IsFormulaOf, decoded_cells}
+use Rattle.ep_flat.specs.Flats.{FlatState, MapState, MapsCells, cell_numbers, objective_number}
+use Rattle.ep_flatten.specs.Flattening.{IsMetBy, StandsFor}
+use Rattle.ep_formula.specs.Formulas.{IsFormulaOf}
 use Rattle.ep_ground.specs.Grounds.{GroundState, IsGroundSolution, KeepsSolutions, ground_objective}
 use Rattle.enc_var.specs.Entries.{Entry}
-use Rattle.enc_var.specs.Layouts.{IsEncoding, decoded_values}
+use Rattle.enc_var.specs.Layouts.{GivesCells, IsEncoding, decoded_cells, decoded_values}
 
 -- what stands among the first elements stands at the same place among all
 pub taken_at : {X : Type 0} (count : ℕ) (xs : List X) (k : ℕ) (d : X) → k < count → slice_index_or (take count xs) k d ≡ slice_index_or xs k d
@@ -45,15 +45,14 @@ pub taken_objective : (count : ℕ) (m : MapState) (values : List ℤ) → Match
 unfolding objective_number
 taken_objective count m values below = taken_goal count m.objective values below
 
--- the first variables of a layout are those of the flat problem, so that the map's domains are those of the layout
-map_of_layout : (g : GroundState) (vars domains : List (List ℤ)) (m : MapState) → take (length vars) domains ≡ vars → IsMapOf g vars m → IsMapOf g domains m
-map_of_layout g vars domains m first h = record {
+-- the first variables of a layout are those of the flat problem, so that what a map names there it names in the layout
+maps_in_layout : (values vars domains : List (List ℤ)) (m : MapState) → take (length vars) domains ≡ vars → MapsCells values vars m → MapsCells values domains m
+maps_in_layout values vars domains m first h = record {
   cells = All-weaker (λ x. x < length vars) (λ x. x < length domains) (λ x low. omega (arith, low, long)) m.cells h.cells;
   domains =
       sym (map_same (λ x. slice_index_or vars x []) (λ x. slice_index_or domains x []) (λ x. x < length vars) m.cells h.cells
       (λ x low. ap (λ xs. slice_index_or xs x []) (sym first) ∙ taken_at (length vars) domains x [] low)) ∙ h.domains;
   objective = goal_below m.objective h.objective;
-  senses = h.senses;
 }
   where
     taken_long : {X : Type 0} (n : ℕ) (xs : List X) → length (take n xs) ≤ length xs
@@ -75,38 +74,40 @@ stages_compose old new flat m layout f keeps stands encodes = record {
   from_new = encodes.from_new;
   is_layout = encodes.is_layout;
   is_map = record {
-    cells = named.cells;
-    domains = named.domains ∙ ap (λ cs. map (λ one. one.values) cs) keeps.cells;
-    objective = named.objective;
-    senses = named.senses ∙ keeps.senses;
+    maps = subst (λ values. MapsCells values (map (λ e. e.domain) layout) m) (ap (λ cs. map (λ one. one.values) cs) keeps.cells)
+        (maps_in_layout (map (λ one. one.values) new.cells) flat.vars (map (λ e. e.domain) layout) m encodes.domains stands.is_map.maps);
+    senses = stands.is_map.senses ∙ keeps.senses;
   };
   consistent = encodes.consistent;
   sound = λ s met. (keeps.same (decoded_cells layout m s)).0 (kept s met);
-  complete = λ cells solution. given_by cells (stands.extends cells ((keeps.same cells).1 solution));
-  objective = λ s met.
-      sym (taken_objective count m (decoded_values layout s) stands.is_map.objective)
-      ∙ stands.objective (take count (decoded_values layout s)) (encodes.sound s met)
-      ∙ ap (λ cells. ground_objective new cells) (taken_cells count m (decoded_values layout s) stands.is_map.cells)
-      ∙ keeps.objective (decoded_cells layout m s) ((keeps.same (decoded_cells layout m s)).0 (kept s met));
+  complete = λ cells solution. given_by cells solution (stands.extends cells ((keeps.same cells).1 solution));
+  objective = driven;
 }
   where
     count : ℕ
     count = length flat.vars
 
-    named : IsMapOf new (map (λ e. e.domain) layout) m
-    named = map_of_layout new flat.vars (map (λ e. e.domain) layout) m encodes.domains stands.is_map
-
     kept : (s : ℕ → Bool) → Satisfies s f.clauses → IsGroundSolution new (decoded_cells layout m s)
     kept s met =
-        subst (IsGroundSolution new) (taken_cells count m (decoded_values layout s) stands.is_map.cells)
+        subst (IsGroundSolution new) (taken_cells count m (decoded_values layout s) stands.is_map.maps.cells)
         (stands.restricts (take count (decoded_values layout s)) (encodes.sound s met))
 
-    given_by : (cells : List ℤ) → IsMetBy flat m cells → GivesCells layout m f cells
-    given_by cells by =
-        let found = encodes.complete by.values by.meets in record {
+    driven : (s : ℕ → Bool) → Satisfies s f.clauses → objective_number m (decoded_values layout s) ≡ ground_objective old (decoded_cells layout m s)
+    driven s met =
+        sym (taken_objective count m (decoded_values layout s) stands.is_map.maps.objective)
+        ∙ stands.objective (take count (decoded_values layout s)) (encodes.sound s met)
+        ∙ ap (λ cells. ground_objective new cells) (taken_cells count m (decoded_values layout s) stands.is_map.maps.cells)
+        ∙ keeps.objective (decoded_cells layout m s) ((keeps.same (decoded_cells layout m s)).0 (kept s met))
+
+    given_by : (cells : List ℤ) → IsGroundSolution old cells → IsMetBy flat m cells → GivesCells layout m f.clauses cells (ground_objective old cells)
+    given_by cells solution by =
+        let found = encodes.complete by.values by.meets in
+        let same : decoded_cells layout m found.assignment ≡ cells =
+        sym (taken_cells count m (decoded_values layout found.assignment) stands.is_map.maps.cells)
+        ∙ ap (λ values. cell_numbers m values) found.values_are ∙ by.gives in
+        record {
           assignment = found.assignment;
           satisfies = found.satisfies;
-          gives =
-              sym (taken_cells count m (decoded_values layout found.assignment) stands.is_map.cells)
-              ∙ ap (λ values. cell_numbers m values) found.values_are ∙ by.gives;
+          gives = same;
+          drives = driven found.assignment found.satisfies ∙ ap (λ c. ground_objective old c) same;
         }

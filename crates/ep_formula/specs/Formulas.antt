@@ -4,21 +4,11 @@ use Rattle.std.specs.List.{All}
 use Rattle.cnf_core.specs.Clauses.{Satisfies}
 use Rattle.cnf_core.specs.Formula.{Cnf}
 use Rattle.cnf_core.specs.Steps.{IsConsistent}
-use Rattle.ep_flat.specs.Flats.{MapState, cell_numbers, objective_number}
+use Rattle.ep_flat.specs.Flats.{MapState, objective_number}
 use Rattle.ep_flatten.specs.Flattening.{IsMapOf}
 use Rattle.ep_ground.specs.Grounds.{GroundState, IsGroundSolution, ground_objective}
 use Rattle.enc_var.specs.Entries.{Entry}
-use Rattle.enc_var.specs.Layouts.{IsLayoutOf, decoded_values}
-
--- the numbers that an assignment gives the cells
-abbrev pub decoded_cells : List Entry → MapState → (ℕ → Bool) → List ℤ
-decoded_cells layout m s = cell_numbers m (decoded_values layout s)
-
--- an assignment that satisfies a formula gives the cells these numbers
-pub record GivesCells (layout : List Entry) (m : MapState) (f : Cnf) (cells : List ℤ) : Type 0 where
-  pub assignment : ℕ → Bool
-  pub satisfies : Satisfies assignment f.clauses
-  pub gives : decoded_cells layout m assignment ≡ cells
+use Rattle.enc_var.specs.Layouts.{GivesCells, IsLayoutOf, decoded_cells, decoded_values}
 
 -- The assignments that satisfy a formula decode to exactly the values of the cells that a ground keeps, and the variable
 -- of the objective then to its number.
@@ -28,6 +18,6 @@ pub record IsFormulaOf (g : GroundState) (layout : List Entry) (m : MapState) (f
   pub is_map : IsMapOf g (map (λ e. e.domain) layout) m
   pub consistent : All IsConsistent f.clauses
   pub sound : (s : ℕ → Bool) → Satisfies s f.clauses → IsGroundSolution g (decoded_cells layout m s)
-  pub complete : (cells : List ℤ) → IsGroundSolution g cells → GivesCells layout m f cells
+  pub complete : (cells : List ℤ) → IsGroundSolution g cells → GivesCells layout m f.clauses cells (ground_objective g cells)
   pub objective : (s : ℕ → Bool) → Satisfies s f.clauses
       → objective_number m (decoded_values layout s) ≡ ground_objective g (decoded_cells layout m s)
