@@ -1,6 +1,6 @@
 -- How counts and causes compose.
 use Rattle.std.proofs.Common.{◌≡◌, ℕ, ◌+◌, ◌<◌, ◌≤◌, Bool, true, false, List, [], ◌∷◌, ◌++◌, length, refl, sym, ap, subst, ◌∙◌, inl, inr, arith}
-use Rattle.std.specs.Prelude.{Contains, flat_map, nat_lt, ◌||◌, if◌then◌else◌, ℤ, option_to_list, Option, Some, None}
+use Rattle.std.specs.Prelude.{Contains, flat_map, nat_lt, ◌||◌, if◌then◌else◌, ℤ, option_to_list, Result, Ok, Err, IfErr}
 use Rattle.std.specs.List.{list_any}
 use Rattle.std.proofs.lemmas.List.{length-append}
 use Rattle.std.proofs.lemmas.Grind.{flat_map-append}
@@ -9,10 +9,10 @@ use Rattle.ep_base.specs.declared.operators.Limit.{Limit as LimitName}
 use Rattle.ep_tree.specs.Environments.{Env}
 use Rattle.ep_tree.specs.Evaluation.{evaluate, number_in}
 use Rattle.ep_tree.specs.Limits.{MOST_SIZE, is_too_far, limits_of_values, numbers_at}
-use Rattle.ep_tree.specs.Measures.{Met, a_node, met, size_of}
+use Rattle.ep_tree.specs.Measures.{Met, a_node, met}
 use Rattle.ep_tree.specs.Trees.{ExprTree}
 use Rattle.ep_tree.specs.declared.values.Mode.{Mode}
-use Rattle.ep_eval.specs.Counting.{Counted, IsPlain, met_below}
+use Rattle.ep_eval.specs.Counting.{Counted, IsPlain, IsRefusedBelow, met_below}
 use Rattle.ep_eval.specs.Outcomes.{IsCause}
 use Rattle.ep_eval.specs.declared.errors.EvalError.{EvalError}
 use Rattle.ep_eval.specs.declared.errors.EvalError.TheVariants.{Limit, Memory}
@@ -46,9 +46,9 @@ counted_append mode a b c ms ns h k = record {
   count = omega (arith, h.count, k.count, length-append ms ns);
   small = k.small;
   near =
-    ap (list_any is_too_far) (flat_append (numbers_at mode) ms ns)
-    ∙ any_append is_too_far (flat_map (numbers_at mode) ms) (flat_map (numbers_at mode) ns)
-    ∙ neither _ _ h.near k.near;
+      ap (list_any is_too_far) (flat_append (numbers_at mode) ms ns)
+      ∙ any_append is_too_far (flat_map (numbers_at mode) ms) (flat_map (numbers_at mode) ns)
+      ∙ neither _ _ h.near k.near;
 }
 
 -- no nodes
@@ -64,8 +64,8 @@ counted_node mode env e a b p n h =
       count = omega (arith, h.count);
       small = h.small;
       near =
-        any_append is_too_far (numbers_at mode (a_node env e)) (flat_map (numbers_at mode) (met_below mode env e))
-        ∙ neither _ _ (ap (list_any is_too_far) p.own ∙ n) h.near;
+          any_append is_too_far (numbers_at mode (a_node env e)) (flat_map (numbers_at mode) (met_below mode env e))
+          ∙ neither _ _ (ap (list_any is_too_far) p.own ∙ n) h.near;
     })
 
 -- ---- causes
@@ -109,3 +109,54 @@ unfolding limits_of_values
 cause_more mode a b ms ns Memory h k c = tt
 cause_more mode a b ms ns (Limit l) h k c =
     more_limits (nat_lt MOST_SIZE (a + length ms)) _ (nat_lt MOST_SIZE (b + length ns)) _ l (grows MOST_SIZE (a + length ms) (b + length ns) h) k c
+
+-- what refuses the first of some nodes refuses them all
+pub cause_first : (mode : Mode) (a : ℕ) (ms ns : List Met) (error : EvalError) → IsCause (limits_of_values mode a ms) error → IsCause (limits_of_values mode a (ms ++ ns)) error
+cause_first mode a ms ns error c =
+    cause_more mode a a ms (ms ++ ns) error (omega (arith, length-append ms ns))
+    (λ h. ap (list_any is_too_far) (flat_append (numbers_at mode) ms ns)
+    ∙ any_append is_too_far (flat_map (numbers_at mode) ms) (flat_map (numbers_at mode) ns) ∙ left_true _ _ h) c
+
+-- what refuses the later of some nodes refuses them all
+pub cause_then : (mode : Mode) (a b : ℕ) (ms ns : List Met) (error : EvalError) → Counted mode a b ms
+    → IsCause (limits_of_values mode b ns) error → IsCause (limits_of_values mode a (ms ++ ns)) error
+cause_then mode a b ms ns error counted c =
+    cause_more mode b a ns (ms ++ ns) error (omega (arith, counted.count, length-append ms ns))
+    (λ h. ap (list_any is_too_far) (flat_append (numbers_at mode) ms ns)
+    ∙ any_append is_too_far (flat_map (numbers_at mode) ms) (flat_map (numbers_at mode) ns) ∙ right_true _ _ h) c
+
+-- what refuses the parts of a plain node refuses the node
+pub cause_below : (mode : Mode) (env : Env) (e : ExprTree) (a : ℕ) (error : EvalError) → IsPlain mode env e
+    → IsCause (limits_of_values mode (a + 1) (met_below mode env e)) error → IsCause (limits_of_values mode a (met mode env e)) error
+cause_below mode env e a error p c =
+    subst (λ ms. IsCause (limits_of_values mode a ms) error) (sym p.first)
+    (cause_more mode (a + 1) a (met_below mode env e) (a_node env e ∷ met_below mode env e) error (omega arith)
+    (λ h. any_append is_too_far (numbers_at mode (a_node env e)) (flat_map (numbers_at mode) (met_below mode env e)) ∙ right_true _ _ h) c)
+
+-- so many nodes refuse
+pub size_refuses : (mode : Mode) (a : ℕ) (ms : List Met) → MOST_SIZE < a + length ms → Contains (limits_of_values mode a ms) LimitName.Size
+unfolding limits_of_values
+size_refuses mode a ms h = size_limit (nat_lt MOST_SIZE (a + length ms)) _ (grind arith)
+
+-- a plain node whose number is too far refuses
+pub node_refuses : (mode : Mode) (env : Env) (e : ExprTree) (a : ℕ) → IsPlain mode env e
+    → list_any is_too_far (option_to_list (number_in (evaluate mode env e))) ≡ true → Contains (limits_of_values mode a (met mode env e)) LimitName.Reach
+unfolding limits_of_values
+node_refuses mode env e a p h =
+    reach_limit (nat_lt MOST_SIZE (a + length (met mode env e))) _
+    (ap (λ ms. list_any is_too_far (flat_map (numbers_at mode) ms)) p.first
+    ∙ any_append is_too_far (numbers_at mode (a_node env e)) (flat_map (numbers_at mode) (met_below mode env e))
+    ∙ left_true _ _ (ap (list_any is_too_far) p.own ∙ h))
+
+-- what refuses a part of an expression, behind its own node, refuses the expression
+pub refused_whole : (mode : Mode) (env : Env) (e : ExprTree) (a n : ℕ) (error : EvalError) → n ≡ a + 1
+    → IsRefusedBelow mode env e n error → IsCause (limits_of_values mode a (met mode env e)) error
+refused_whole mode env e a n Memory same h = tt
+refused_whole mode env e a n (Limit l) same h =
+    cause_below mode env e a (Limit l) h.1 (subst (λ m. IsCause (limits_of_values mode m (met_below mode env e)) (Limit l)) same h.0)
+
+-- a number that is too far has its cause
+pub far_cause : {T : Type 0} (r : Result T EvalError) (ls : List LimitName) (F : Type 0)
+    → IfErr r (λ e. e ≡ Limit LimitName.Reach) → IfErr r (λ _. F) → (F → Contains ls LimitName.Reach) → IfErr r (IsCause ls)
+far_cause (Ok x) ls F same far h = tt
+far_cause (Err e) ls F same far h = subst (IsCause ls) (sym same) (h far)

@@ -1,3 +1,5 @@
 pub mod Lists
 pub mod KnownNames
 pub mod Countings
+pub mod Reaches
+pub mod FormParts

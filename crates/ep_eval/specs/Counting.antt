@@ -1,5 +1,5 @@
 -- What evaluation has met so far, and what refuses it.
-use Rattle.std.specs.Prelude.{◌≡◌, ℕ, ◌+◌, ◌≤◌, Bool, false, List, [], ◌∷◌, length, ℤ, flat_map, Option, option_to_list, Contains}
+use Rattle.std.specs.Prelude.{◌≡◌, ℕ, ◌+◌, ◌≤◌, false, List, [], ◌∷◌, length, flat_map, Option, option_to_list, Contains}
 use Rattle.std.specs.List.{list_any}
 use Rattle.ep_tree.specs.Environments.{Env}
 use Rattle.ep_tree.specs.Evaluation.{evaluate, number_in}

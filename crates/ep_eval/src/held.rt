@@ -1,7 +1,9 @@
 //! Values as the evaluator has them: a matrix of the environment is lent and never copied to be read.
 
-ghost use Rattle.std.specs.Prelude.{◌≡◌, Some};
-ghost use Rattle.ep_tree.specs.Evaluation.{number_in};
+ghost use Rattle.std.specs.Prelude.{◌≡◌, Some, option_map};
+ghost use Rattle.ep_base.specs.Numbers.{is_one, of_bool};
+ghost use Rattle.ep_tree.specs.Evaluation.{number_in, truth_of};
+ghost use Rattle.ep_tree.specs.Values.{single};
 ghost use Rattle.ep_tree.specs.Views.{value_tree};
 ghost use Rattle.ep_eval.specs.Helds.{held_value, seen_held};
 
@@ -46,6 +48,26 @@ pub fn number_of(seen: &Option<Held>) -> Option<i64>
 {
     match seen {
         Some(held) => held_number(held),
+        None => None,
+    }
+}
+
+/// A truth value, as the number that stands for it.
+pub fn held_truth<'a>(truth: bool) -> Option<Held<'a>>
+    ensures { seen_held result ≡ Some (single (of_bool truth)) }
+{
+    if truth {
+        return Some(Held::Number(1));
+    }
+    Some(Held::Number(0))
+}
+
+/// The truth of what was seen, if it was a number.
+pub fn truth_seen(seen: &Option<Held>) -> Option<bool>
+    ensures { result ≡ truth_of (seen_held seen.now) }
+{
+    match number_of(seen) {
+        Some(number) => Some(number == 1),
         None => None,
     }
 }

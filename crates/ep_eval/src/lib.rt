@@ -4,7 +4,9 @@
 mod copies;
 mod environments;
 mod errors;
+mod evaluating;
 mod evaluation;
+mod forms;
 mod held;
 mod scopes;
 

@@ -1,4 +1,4 @@
-use Rattle.std.proofs.Common.{◌≡◌, Some, None, w64, sym, ap, ◌∙◌, arith}
+use Rattle.std.proofs.Common.{Some, w64, sym, ap, ◌∙◌, arith}
 use Rattle.std.proofs.lemmas.Int.{to_z-of_z, ints}
 use Rattle.ep_tree.proofs.ViewLemmas.{value_tree-matrix, value_tree-number}
 use Rattle.ep_tree.specs.Evaluation.{number_in}

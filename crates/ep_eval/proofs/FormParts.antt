@@ -1,0 +1,93 @@
+-- Forms by their parts: what evaluating the parts shows of the whole.
+use Rattle.std.proofs.Common.{◌≡◌, ℕ, ◌≤◌, List, [], ◌∷◌, length, arith, refl, sym, ap, subst, ◌∙◌}
+use Rattle.std.specs.Prelude.{Option}
+use Rattle.ep_base.specs.declared.places.Place.{Place}
+use Rattle.ep_tree.specs.Environments.{Env}
+use Rattle.ep_tree.specs.Evaluation.{evaluate}
+use Rattle.ep_tree.specs.Limits.{limits_of_values, numbers_at}
+use Rattle.ep_tree.specs.Measures.{Met, met, met_names}
+use Rattle.ep_tree.specs.Trees.{ExprTree, group, negation, number, quantified, to_int, truth}
+use Rattle.ep_tree.specs.Values.{ValueTree}
+use Rattle.ep_tree.specs.Views.{expr_tree, kind_tree}
+use Rattle.ep_tree.specs.declared.syntax.Expr.{Expr}
+use Rattle.ep_tree.specs.declared.syntax.Kind.{Kind}
+use Rattle.ep_tree.specs.declared.values.Mode.{Mode}
+use Rattle.ep_eval.specs.Counting.{Counted, Evaluated, IsPlain, IsRefusedBelow, all_but_first, met_below}
+use Rattle.ep_eval.specs.Outcomes.{IsCause}
+use Rattle.ep_eval.specs.declared.errors.EvalError.{EvalError}
+use Rattle.ep_eval.specs.declared.errors.EvalError.TheVariants.{Limit, Memory}
+
+-- a plain form whose parts meet these nodes
+pub record Meets (mode : Mode) (env : Env) (e : ExprTree) (below : List Met) : Type 0 where
+  pub plain : IsPlain mode env e
+  pub parts : met_below mode env e ≡ below
+
+-- its value by that of its parts
+pub form_value : (mode : Mode) (env : Env) (below : List Met) (b c : ℕ) (v : Option ValueTree) (shape : Place → ExprTree) (k : Kind)
+    → ((p : Place) → kind_tree p k ≡ shape p) → ((p : Place) → Meets mode env (shape p) below) → Counted mode b c below
+    → ((p : Place) → evaluate mode env (shape p) ≡ v) → (p : Place) → Evaluated mode env (kind_tree p k) b c v
+form_value mode env below b c v shape k is meets counted value p =
+    subst (λ e. Evaluated mode env e b c v) (sym (is p)) (record {
+      plain = (meets p).plain;
+      counted = subst (λ ms. Counted mode b c ms) (sym (meets p).parts) counted;
+      value = value p;
+    })
+
+-- what refuses its parts refuses it
+pub form_cause : (mode : Mode) (env : Env) (below : List Met) (b : ℕ) (shape : Place → ExprTree) (k : Kind)
+    → ((p : Place) → kind_tree p k ≡ shape p) → ((p : Place) → Meets mode env (shape p) below)
+    → (error : EvalError) → IsCause (limits_of_values mode b below) error → (p : Place) → IsRefusedBelow mode env (kind_tree p k) b error
+form_cause mode env below b shape k is meets Memory cause p = tt
+form_cause mode env below b shape k is meets (Limit l) cause p =
+    subst (λ e. IsRefusedBelow mode env e b (Limit l)) (sym (is p))
+    (subst (λ ms. IsCause (limits_of_values mode b ms) (Limit l)) (sym (meets p).parts) cause, (meets p).plain)
+
+-- a form of one part
+pub one_value : (mode : Mode) (env : Env) (b c : ℕ) (s v : Option ValueTree) (shape : Place → ExprTree → ExprTree) (k : Kind) (part target : Expr)
+    → ((p : Place) → kind_tree p k ≡ shape p (expr_tree part)) → target ≡ part
+    → ((p : Place) (e : ExprTree) → Meets mode env (shape p e) (met mode env e))
+    → Counted mode b c (met mode env (expr_tree target)) → evaluate mode env (expr_tree target) ≡ s
+    → ((p : Place) (e : ExprTree) → evaluate mode env e ≡ s → evaluate mode env (shape p e) ≡ v)
+    → (p : Place) → Evaluated mode env (kind_tree p k) b c v
+one_value mode env b c s v shape k part target is same meets counted value whole =
+    form_value mode env (met mode env (expr_tree target)) b c v (λ q. shape q (expr_tree target)) k
+    (λ q. is q ∙ ap (λ x. shape q (expr_tree x)) (sym same)) (λ q. meets q (expr_tree target)) counted
+    (λ q. whole q (expr_tree target) value)
+
+pub one_cause : (mode : Mode) (env : Env) (b : ℕ) (shape : Place → ExprTree → ExprTree) (k : Kind) (part target : Expr)
+    → ((p : Place) → kind_tree p k ≡ shape p (expr_tree part)) → target ≡ part
+    → ((p : Place) (e : ExprTree) → Meets mode env (shape p e) (met mode env e))
+    → (error : EvalError) → IsCause (limits_of_values mode b (met mode env (expr_tree target))) error
+    → (p : Place) → IsRefusedBelow mode env (kind_tree p k) b error
+one_cause mode env b shape k part target is same meets error cause =
+    form_cause mode env (met mode env (expr_tree target)) b (λ q. shape q (expr_tree target)) k
+    (λ q. is q ∙ ap (λ x. shape q (expr_tree x)) (sym same)) (λ q. meets q (expr_tree target)) error cause
+
+-- ---- which nodes each form meets
+
+pub meets_number : (mode : Mode) (env : Env) (p : Place) (n : _) → Meets mode env (number p n) []
+unfolding met all_but_first numbers_at
+meets_number mode env p n = record { plain = record { first = refl; own = refl }; parts = refl }
+
+pub meets_truth : (mode : Mode) (env : Env) (p : Place) (b : _) → Meets mode env (truth p b) []
+unfolding met all_but_first numbers_at
+meets_truth mode env p b = record { plain = record { first = refl; own = refl }; parts = refl }
+
+pub meets_group : (mode : Mode) (env : Env) (p : Place) (e : ExprTree) → Meets mode env (group p e) (met mode env e)
+unfolding met all_but_first numbers_at
+meets_group mode env p e = record { plain = record { first = refl; own = refl }; parts = refl }
+
+pub meets_to_int : (mode : Mode) (env : Env) (p : Place) (e : ExprTree) → Meets mode env (to_int p e) (met mode env e)
+unfolding met all_but_first numbers_at
+meets_to_int mode env p e = record { plain = record { first = refl; own = refl }; parts = refl }
+
+pub meets_negation : (mode : Mode) (env : Env) (p : Place) (e : ExprTree) → Meets mode env (negation p e) (met mode env e)
+unfolding met all_but_first numbers_at
+meets_negation mode env p e = record { plain = record { first = refl; own = refl }; parts = refl }
+
+-- an expression meets a node
+pub meets_some : (mode : Mode) (env : Env) (e : ExprTree) → 1 ≤ length (met mode env e)
+unfolding met met_names
+meets_some mode env (quantified p op [] d e) = meets_some mode env e
+meets_some mode env (quantified p op (name ∷ names) d e) = omega arith
+meets_some mode env _ = omega arith

@@ -1,0 +1,120 @@
+//! Evaluation of the parts of an expression.
+
+ghost use Rattle.std.specs.Prelude.{◌≡◌, ◌+◌, ◌≤◌, ◌<◌, Some, true, false, option_to_list, option_map, IfOk, IfErr, OnOk};
+ghost use Rattle.std.specs.List.{list_any};
+ghost use Rattle.ep_base.specs.declared.places.Place.{Place};
+ghost use Rattle.ep_tree.specs.Environments.{value_bound};
+ghost use Rattle.ep_tree.specs.Evaluation.{evaluate, number_in};
+ghost use Rattle.ep_tree.specs.Limits as limits;
+ghost use Rattle.ep_tree.specs.Limits.{is_too_far, limits_of_values};
+ghost use Rattle.ep_tree.specs.Measures as measures;
+ghost use Rattle.ep_tree.specs.Views.{expr_tree, kind_tree};
+ghost use Rattle.ep_eval.specs.Counting.{Counted, Evaluated, IsRefusedBelow};
+ghost use Rattle.ep_eval.specs.Helds.{seen_held};
+ghost use Rattle.ep_eval.specs.Outcomes.{IsCause};
+ghost use Rattle.ep_eval.specs.Scopes.{env_in, mode_in};
+ghost use Rattle.ep_eval.specs.declared.errors.EvalError.TheVariants as error;
+ghost use Rattle.ep_base.specs.declared.operators.Limit.TheVariants as limit;
+
+use super::errors::EvalError;
+use super::forms::negation;
+use super::held::{Held, held_truth, number_of};
+use super::scopes::Scope;
+use ep_base::Limit;
+use ep_tree::{Expr, Kind};
+
+/// The greatest number of nodes that may be met.
+const MOST_SIZE: u64 = 5_000_000;
+
+/// The greatest absolute value of a number.
+const MOST_REACH: i64 = 1_099_511_627_776;
+
+/// Counts a node.
+fn count(met: &mut u64) -> Result<(), EvalError>
+    ensures counted { OnOk result (met.new ≡ met.old + 1) }
+    ensures small { OnOk result (met.new ≤ limits.MOST_SIZE) }
+    ensures cause { IfErr result (λ e. e ≡ error.Limit limit.Size) }
+    ensures refused { IfErr result (λ _. limits.MOST_SIZE < met.old + 1) }
+{
+    if *met >= MOST_SIZE {
+        return Err(EvalError::Limit(Limit::Size));
+    }
+    *met += 1;
+    Ok(())
+}
+
+/// Whether a number is too far from 0.
+fn is_far(number: i64) -> bool
+    ensures { result ≡ is_too_far number }
+{
+    number > MOST_REACH || number < -MOST_REACH
+}
+
+/// A value, if it isn't a number too far from 0.
+fn check(seen: Option<Held>) -> Result<Option<Held>, EvalError>
+    ensures same { IfOk result (λ kept. kept ≡ seen.entry) }
+    ensures near { OnOk result (list_any is_too_far (option_to_list (number_in (seen_held seen.entry))) ≡ false) }
+    ensures cause { IfErr result (λ e. e ≡ error.Limit limit.Reach) }
+    ensures far { IfErr result (λ _. list_any is_too_far (option_to_list (number_in (seen_held seen.entry))) ≡ true) }
+{
+    match number_of(&seen) {
+        Some(number) => {
+            if is_far(number) {
+                return Err(EvalError::Limit(Limit::Reach));
+            }
+            Ok(seen)
+        }
+        None => Ok(seen),
+    }
+}
+
+/// The value of an expression.
+#[cycle(evaluating)]
+pub fn value_of<'a>(
+    scope: Scope<'_, 'a>,
+    met: &mut u64,
+    e: &Expr,
+) -> Result<Option<Held<'a>>, EvalError>
+    ensures counted { OnOk result (Counted (mode_in scope.entry) met.old met.new
+        (measures.met (mode_in scope.entry) (env_in scope.entry) (expr_tree e.now))) }
+    ensures value { IfOk result (λ seen.
+        evaluate (mode_in scope.entry) (env_in scope.entry) (expr_tree e.now) ≡ seen_held seen) }
+    ensures cause { IfErr result (IsCause (limits_of_values (mode_in scope.entry) met.old
+        (measures.met (mode_in scope.entry) (env_in scope.entry) (expr_tree e.now)))) }
+{
+    count(met)?;
+    let seen = kind_value(scope, met, &e.kind)?;
+    check(seen)
+}
+
+/// The value of an expression of this kind, whose own node is counted.
+#[cycle(evaluating)]
+fn kind_value<'a>(
+    scope: Scope<'_, 'a>,
+    met: &mut u64,
+    kind: &Kind,
+) -> Result<Option<Held<'a>>, EvalError>
+    requires small { met.old ≤ limits.MOST_SIZE }
+    ensures value { IfOk result (λ seen. (p : Place) → Evaluated (mode_in scope.entry) (env_in scope.entry)
+        (kind_tree p kind.now) met.old met.new (seen_held seen)) }
+    ensures cause { IfErr result (λ e. (p : Place) → IsRefusedBelow (mode_in scope.entry) (env_in scope.entry)
+        (kind_tree p kind.now) met.old e) }
+{
+    match kind {
+        Kind::Number(number) => Ok(Some(Held::Number(*number))),
+        Kind::Truth(truth) => Ok(held_truth(*truth)),
+        Kind::Group(part) => {
+            let seen = value_of(scope, met, part)?;
+            Ok(seen)
+        }
+        Kind::ToInt(part) => {
+            let seen = value_of(scope, met, part)?;
+            Ok(seen)
+        }
+        Kind::Not(part) => {
+            let seen = value_of(scope, met, part)?;
+            Ok(negation(scope.env.mode(), &seen))
+        }
+        _ => Err(EvalError::Memory),
+    }
+}
