@@ -11,6 +11,7 @@ mod VectorsBinding
 mod VectorsSolutions
 pub mod Cuts
 mod VectorsSpelling
+mod VectorsStatements
 pub mod Openings
 mod VectorsReading
 pub mod NumberLaws
