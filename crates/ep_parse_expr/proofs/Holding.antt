@@ -1,5 +1,5 @@
 -- What holds of whatever a reader takes, and how this is shown of readers that are made of others.
-use Rattle.std.specs.Prelude.{◌≡◌, ℕ, zero, suc, Bool, true, false, List, [], ◌∷◌, ◌++◌, length, Option, Some, None, bytes_eq, refl}
+use Rattle.std.specs.Prelude.{◌≡◌, ℕ, zero, suc, Bool, true, false, List, [], ◌∷◌, ◌++◌, Option, Some, None, bytes_eq, refl}
 use Rattle.std.proofs.Common.{ap, sym, subst, ◌∙◌, append_assoc}
 use Rattle.std.proofs.lemmas.Slice.Eq.{bytes_eq-Decides}
 use Rattle.ep_base.specs.declared.places.Place.{Place}

@@ -1,4 +1,6 @@
-mod Vectors
+pub mod Vectors
+mod VectorsTrees
+mod VectorsWords
 pub mod Holding
 pub mod SoundParts
 pub mod SoundLists

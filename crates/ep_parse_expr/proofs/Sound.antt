@@ -1,17 +1,17 @@
 -- What is taken is spelled, and isn't higher than it may be.
-use Rattle.std.specs.Prelude.{◌≡◌, ℕ, zero, suc, ◌+◌, ◌≤◌, max, Bool, true, false, not, ◌&&◌, ◌||◌, nat_le, nat_lt, List, [], ◌∷◌, ◌++◌, length, Option, Some, None, codes, refl}
+use Rattle.std.specs.Prelude.{◌≡◌, ℕ, zero, suc, ◌≤◌, max, Bool, true, false, ◌&&◌, ◌||◌, nat_le, nat_lt, List, [], ◌∷◌, length, Option, Some, None, codes, refl}
 use Rattle.std.proofs.Common.{ap, arith, sym, subst, ◌∙◌, inl, inr}
 use Rattle.std.proofs.Math.Nat.{max-le}
 use Rattle.std.proofs.lemmas.Bool.{and_parts}
 use Rattle.std.proofs.lemmas.Bool.Decides.{nat_tests}
 use Rattle.ep_base.specs.declared.places.Place.{Place}
 use Rattle.ep_tree.specs.Heights.{domain_height, end_height, height, highest_domain, highest_range}
-use Rattle.ep_tree.specs.Phrases.{Is, Lexeme, Phrase, Says, Saying, Silence, When, a_name, a_number, a_word, ◌followed_by◌, ◌or_else◌}
+use Rattle.ep_tree.specs.Phrases.{Lexeme, Phrase, Says, Saying, Silence, a_name, a_number, a_word, ◌followed_by◌}
 use Rattle.ep_tree.specs.Spelling.{BetweenDomains, DomainLevel, Level, MatrixHead, MatrixTail, Spells, SpellsDomain, SpellsDomainNode, SpellsEnd, SpellsIndexDomains, SpellsMoreIndexDomains, SpellsMoreRanges, SpellsRanges, comparisons, conjunctions, disjunctions, domain_rank, domains, implications, own_domain_level, powers, primaries, products, rank, reads, set_operations, set_parts, set_word, sums, unaries}
-use Rattle.ep_tree.specs.Trees.{DomainTree, Domains, End, ExprTree, bool, domain_and, end_at, group_domain, int, matrix_domain, named_domain, no_end, place_of_domain, ranges, set_domain}
+use Rattle.ep_tree.specs.Trees.{DomainTree, Domains, End, bool, domain_and, end_at, group_domain, int, matrix_domain, named_domain, no_end, place_of_domain, ranges, set_domain}
 use Rattle.ep_tree.specs.declared.syntax.SetOp.{SetOp}
-use Rattle.ep_parse_expr.specs.Readers.{DomainOpening, Lower, RangeRead, Read, Reader, a_bool, a_domain_group, an_int, another_index_domain, another_operation, any_domain_from, as_domains, as_ranges, at_level, behind, behind_comma, domain_at_level, domain_begun_from, domain_next, domain_open_from, domain_openings, domain_part_from, end_from, expr_from, expression_next, grown, index_domain_behind, is_word, looked_up, matrix_follows, matrix_from, matrix_head_from, next_in, none_low, of_number, of_span, operations_from, others_from, place_next, range_from, ranges_from, says, set_words, some_domain_from, took, word_from, wrong, ◌and_then◌}
-use Rattle.ep_parse_expr.proofs.Holding.{AreWordsOf, Holds, HoldsIf, Takes, behind_three, behind_two, grown_sound, holds_as, holds_chosen, holds_high, holds_low, holds_then, holds_took, holds_wrong, is_word-sound, looked_up-sound, more_sound, next_in-sound, operated_sound, says_sound, takes_as, takes_nothing, takes_then, takes_token, ungrouped, word_sound}
+use Rattle.ep_parse_expr.specs.Readers.{DomainOpening, Lower, RangeRead, a_bool, a_domain_group, an_int, another_index_domain, another_operation, any_domain_from, as_domains, as_ranges, at_level, behind, behind_comma, domain_at_level, domain_begun_from, domain_next, domain_open_from, domain_openings, domain_part_from, end_from, expr_from, expression_next, index_domain_behind, is_word, looked_up, matrix_follows, matrix_from, matrix_head_from, next_in, none_low, of_number, of_span, operations_from, others_from, range_from, ranges_from, says, set_words, some_domain_from, word_from}
+use Rattle.ep_parse_expr.proofs.Holding.{AreWordsOf, Holds, HoldsIf, Takes, behind_three, behind_two, grown_sound, holds_as, holds_chosen, holds_high, holds_low, holds_then, holds_took, holds_wrong, is_word-sound, looked_up-sound, more_sound, next_in-sound, operated_sound, says_sound, takes_as, takes_nothing, takes_then, ungrouped, word_sound}
 use Rattle.ep_parse_expr.proofs.SoundLists.{whole}
 use Rattle.ep_parse_expr.proofs.SoundOperators.{chain_sound, comparison_sound, conjunction_sound, disjunction_sound, implication_sound, power_sound, product_sound}
 use Rattle.ep_parse_expr.proofs.SoundParts.{AreSound, IsDomain, IsExpr, comma_sound, domain_alone, domain_begun_by, domain_opened_by, kept-sound, looser_domain, takes_domain, takes_expr}

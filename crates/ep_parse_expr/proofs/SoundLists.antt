@@ -1,15 +1,14 @@
 -- What is taken as a list, a comprehension, a function with its parts, or a quantifier, is spelled.
-use Rattle.std.specs.Prelude.{◌≡◌, ℕ, zero, suc, ◌+◌, ◌≤◌, max, Bool, true, false, ◌&&◌, nat_le, List, [], ◌∷◌, ◌++◌, length, Option, Some, None, codes, refl}
-use Rattle.std.proofs.Common.{ap, arith, sym, subst, ◌∙◌}
+use Rattle.std.specs.Prelude.{◌≡◌, ℕ, suc, ◌+◌, ◌≤◌, Bool, true, ◌&&◌, List, ◌∷◌, length, Some, codes, refl}
+use Rattle.std.proofs.Common.{arith, sym, subst}
 use Rattle.std.proofs.Math.Nat.{max-le}
 use Rattle.std.proofs.lemmas.Bool.{and_parts}
 use Rattle.ep_base.specs.declared.places.Place.{Place}
 use Rattle.ep_tree.specs.Heights.{domain_height, height, highest, highest_generator, index_height}
-use Rattle.ep_tree.specs.Phrases.{Is, Lexeme, Names, Phrase, Says, Saying, Silence, a_word, ◌followed_by◌}
-use Rattle.ep_tree.specs.Spelling.{Level, Spells, SpellsDomain, SpellsGenerators, SpellsIndexDomain, SpellsList, SpellsMore, SpellsMoreGenerators, SpellsNode, binary_level, binary_word, fold_word, implications, is_called, own_level, quantifier_word, rank, set_operations, unaries}
-use Rattle.ep_tree.specs.Trees.{DomainTree, ExprTree, ExprTrees, Generators, IndexDomain, comprehension, generator_and, literal, no_trees, over, place_of, tree_and, truth, unstated}
-use Rattle.ep_tree.specs.declared.syntax.QuantOp.{QuantOp}
-use Rattle.ep_parse_expr.specs.Readers.{Generator, Lower, Read, Reader, another_generator, as_generators, as_trees, behind, behind_comma, closed_by, colon_comes, comprehension_from, conditions_from, generator_from, index_domain_from, list_end, literal_from, more_from, names_from, others_from, says, took, word_from, ◌and_then◌}
+use Rattle.ep_tree.specs.Phrases.{Lexeme, Names, Says, ◌followed_by◌}
+use Rattle.ep_tree.specs.Spelling.{Spells, SpellsDomain, SpellsGenerators, SpellsIndexDomain, SpellsMore, SpellsMoreGenerators, SpellsNode, implications, rank, set_operations}
+use Rattle.ep_tree.specs.Trees.{ExprTree, ExprTrees, Generators, IndexDomain, comprehension, literal, over, tree_and, truth, unstated}
+use Rattle.ep_parse_expr.specs.Readers.{Generator, Lower, another_generator, as_generators, as_trees, behind, behind_comma, closed_by, colon_comes, comprehension_from, conditions_from, generator_from, index_domain_from, list_end, literal_from, names_from, others_from, says, took, word_from}
 use Rattle.ep_parse_expr.proofs.Holding.{Holds, Takes, holds_as, holds_chosen, holds_low, holds_then, behind_three, holds_took, more_sound, says_sound, takes_nothing, takes_then, word_sound}
 use Rattle.ep_parse_expr.proofs.SoundParts.{AreSound, IsDomain, IsExpr, closed_sound, comma_sound, kept-sound, names_sound, takes_domain, takes_expr}
 

@@ -1,17 +1,17 @@
 -- What is taken as an operand is spelled.
-use Rattle.std.specs.Prelude.{◌≡◌, ℕ, zero, suc, ◌+◌, ◌≤◌, max, Bool, true, false, ◌&&◌, nat_le, List, [], ◌∷◌, ◌++◌, length, Option, Some, None, codes, refl}
+use Rattle.std.specs.Prelude.{◌≡◌, ℕ, suc, ◌+◌, ◌≤◌, max, Bool, true, nat_le, List, [], ◌∷◌, Option, Some, None, codes, refl}
 use Rattle.std.proofs.Common.{ap, arith, sym, subst, ◌∙◌}
 use Rattle.std.proofs.Math.Nat.{max-le}
 use Rattle.ep_base.specs.declared.places.Place.{Place}
 use Prim.Native.String.{String}
 use Rattle.ep_tree.specs.Heights.{domain_height, height, highest, highest_generator, index_height}
-use Rattle.ep_tree.specs.Phrases.{Is, Lexeme, Names, Phrase, Says, Saying, Silence, a_name, a_number, a_word, ◌followed_by◌}
-use Rattle.ep_tree.specs.Spelling.{Call1, Call2, Call3, Level, Spells, SpellsDomain, SpellsGenerators, SpellsIndexDomain, SpellsList, SpellsMore, SpellsNode, binary_level, binary_word, fold_word, implications, is_called, own_level, primaries, quantifier_word, rank, set_operations, truth_word, unaries}
-use Rattle.ep_tree.specs.Trees.{ExprTree, ExprTrees, absolute, all_different, binary, comprehension, factorial, flatten, folded, group, literal, minus, named, negation, no_trees, number, place_of, quantified, table, to_int, tree_and, truth}
+use Rattle.ep_tree.specs.Phrases.{Lexeme, Names, Says, Saying, Silence, a_name, a_number, a_word, ◌followed_by◌}
+use Rattle.ep_tree.specs.Spelling.{Call1, Call3, Spells, SpellsDomain, SpellsGenerators, SpellsIndexDomain, SpellsList, SpellsMore, SpellsNode, binary_level, binary_word, fold_word, implications, is_called, own_level, primaries, quantifier_word, rank, set_operations, truth_word, unaries}
+use Rattle.ep_tree.specs.Trees.{ExprTree, absolute, binary, comprehension, folded, group, literal, minus, named, negation, no_trees, number, place_of, quantified, table, tree_and, truth}
 use Rattle.ep_tree.specs.declared.syntax.BinaryOp.{BinaryOp}
 use Rattle.ep_tree.specs.declared.syntax.FoldOp.{FoldOp}
 use Rattle.ep_tree.specs.declared.syntax.QuantOp.{QuantOp}
-use Rattle.ep_parse_expr.specs.Readers.{Lower, OnePart, Opening, Read, Reader, ThreeParts, a_bar, a_bracket, a_greatest, a_group, a_least, a_minus, a_negation, a_quantifier, a_sum, a_table, a_truth, all_different_in, and_part, begun_from, behind, bracket_from, call_from, call_of_three_from, call_of_two_from, chosen, closed_by, comprehension_from, counts_at_least, counts_at_most, counts_in, expression_next, factorial_of, flatten_of, folded_by, in_brackets, list_end, literal_from, looked_up, names_from, of_one, of_three, one_part, open_from, opened_from, openings, operand_from, quantifier_from, says, sum_from, table_from, three_parts, to_int_of, took, word_from, wrong, ◌and_then◌}
+use Rattle.ep_parse_expr.specs.Readers.{Lower, OnePart, Opening, ThreeParts, a_bar, a_bracket, a_greatest, a_group, a_least, a_minus, a_negation, a_quantifier, a_sum, a_table, a_truth, all_different_in, and_part, begun_from, behind, bracket_from, call_from, call_of_three_from, call_of_two_from, closed_by, counts_at_least, counts_at_most, counts_in, expression_next, factorial_of, flatten_of, folded_by, looked_up, names_from, of_one, of_three, one_part, open_from, opened_from, openings, operand_from, quantifier_from, says, sum_from, table_from, three_parts, to_int_of, took, word_from, ◌and_then◌}
 use Rattle.ep_parse_expr.proofs.Holding.{AreWordsOf, Holds, Takes, behind_two, holds_chosen, holds_low, holds_then, holds_took, holds_wrong, looked_up-sound, says_sound, takes_as, takes_nothing, takes_then, ungrouped, word_sound}
 use Rattle.ep_parse_expr.proofs.SoundLists.{comprehension_sound, list_end_sound, literal_sound, whole}
 use Rattle.ep_parse_expr.proofs.SoundParts.{AreSound, IsDomain, IsExpr, alone, and_part_sound, brackets_sound, closed_sound, names_sound, opened_by, takes_domain, takes_expr}

@@ -1,21 +1,18 @@
 -- What is taken with operators is spelled.
-use Rattle.std.specs.Prelude.{◌≡◌, ℕ, zero, suc, ◌+◌, ◌≤◌, max, Bool, true, false, not, ◌&&◌, nat_le, nat_lt, List, [], ◌∷◌, ◌++◌, length, Option, Some, None, codes, refl}
-use Rattle.std.proofs.Common.{ap, arith, sym, subst, ◌∙◌}
+use Rattle.std.specs.Prelude.{◌≡◌, ℕ, suc, ◌+◌, ◌≤◌, max, Bool, true, false, not, ◌&&◌, nat_le, nat_lt, List, length, Some, codes, refl}
+use Rattle.std.proofs.Common.{arith, sym, subst}
 use Rattle.std.proofs.Math.Nat.{max-le}
 use Rattle.std.proofs.lemmas.Bool.{and_parts}
 use Rattle.std.proofs.lemmas.Bool.Decides.{nat_tests}
-use Rattle.ep_base.specs.declared.operators.CompareOp.{CompareOp}
-use Rattle.ep_base.specs.declared.operators.LexOp.{LexOp}
 use Rattle.ep_base.specs.declared.places.Place.{Place}
 use Prim.Native.String.{String}
 use Rattle.ep_tree.specs.Heights.{domain_height, height, highest, highest_term}
-use Rattle.ep_tree.specs.Phrases.{Is, Lexeme, Phrase, Says, Saying, Silence, When, a_word, ◌followed_by◌}
-use Rattle.ep_tree.specs.Spelling.{Call1, Closed, ClosedBefore, Level, Spells, SpellsDomain, SpellsMoreParts, SpellsNode, SpellsParts, SpellsTerms, binary_level, binary_word, compare_word, comparisons, conjunctions, disjunctions, ends_open, has_terms, has_trees, implications, is_called, lex_word, own_level, powers, products, rank, set_operations, sign_word, sums, tighter, unaries}
-use Rattle.ep_tree.specs.Trees.{ExprTree, ExprTrees, Terms, all_of, any_of, binary, chain, compare, in_domain, in_set, lex, place_of, term_and, tree_and}
+use Rattle.ep_tree.specs.Phrases.{Is, Lexeme, Says, a_word, ◌followed_by◌}
+use Rattle.ep_tree.specs.Spelling.{Call1, ClosedBefore, Level, Spells, SpellsDomain, SpellsMoreParts, SpellsNode, SpellsParts, SpellsTerms, binary_level, binary_word, compare_word, comparisons, conjunctions, disjunctions, ends_open, has_terms, has_trees, implications, is_called, lex_word, own_level, powers, products, rank, set_operations, sign_word, sums, tighter, unaries}
+use Rattle.ep_tree.specs.Trees.{ExprTree, ExprTrees, all_of, any_of, binary, chain, compare, in_domain, in_set, lex, place_of, term_and, tree_and}
 use Rattle.ep_tree.specs.declared.syntax.BinaryOp.{BinaryOp}
-use Rattle.ep_parse_expr.specs.Readers.{Comparison, Lower, Read, Reader, Term, another_binary, as_terms, as_trees, behind, call_from, chain_from, chosen, closed_by, compared_with, comparison_behind, comparison_from, comparison_words, conjunction_from, disjunction_from, grown, if_low, implication_from, implication_words, in_brackets, is_there, next_in, of_lists, of_numbers, of_set, only_word, others_from, part_from, parts_behind, parts_from, power_from, power_words, product_from, product_words, says, sign_words, term_behind, term_from, terms_behind, terms_from, took, unary_from, with_operator, word_from, wrong, ◌and_then◌}
+use Rattle.ep_parse_expr.specs.Readers.{Comparison, Lower, Term, another_binary, as_terms, as_trees, behind, call_from, chain_from, closed_by, compared_with, comparison_behind, comparison_from, comparison_words, conjunction_from, disjunction_from, implication_from, implication_words, is_there, next_in, of_lists, of_numbers, of_set, only_word, others_from, part_from, parts_behind, parts_from, power_from, power_words, product_from, product_words, says, sign_words, term_behind, term_from, terms_behind, terms_from, took, unary_from, with_operator, word_from, wrong}
 use Rattle.ep_parse_expr.proofs.Holding.{AllEntries, AreWordsOf, Holds, HoldsIf, Takes, behind_two, grown_sound, holds_as, holds_chosen, holds_low, holds_then, holds_took, holds_wrong, if_grown_sound, if_some_sound, more_sound, next_in-all, next_in-sound, operated_sound, says_sound, takes_as, takes_nothing, takes_then, word_sound}
-use Rattle.ep_parse_expr.proofs.SoundLists.{whole}
 use Rattle.ep_parse_expr.proofs.SoundParts.{AreSound, IsDomain, IsExpr, begun_by, brackets_sound, closed_sound, kept-sound, looser, takes_domain, takes_expr}
 use Rattle.ep_parse_expr.proofs.SoundReads.{unary_sound}
 

@@ -1,15 +1,13 @@
 -- What the readers of names, words and parts take is spelled.
-use Rattle.std.specs.Prelude.{◌≡◌, ℕ, zero, suc, ◌+◌, ◌≤◌, ◌<◌, max, Bool, true, false, not, ◌&&◌, nat_le, nat_lt, List, [], ◌∷◌, ◌++◌, length, Option, Some, None, codes, refl}
+use Rattle.std.specs.Prelude.{◌≡◌, ℕ, ◌≤◌, Bool, true, false, nat_le, List, [], ◌∷◌, ◌++◌, length, Option, Some, None, codes, refl}
 use Rattle.std.proofs.Common.{ap, arith, sym, subst, ◌∙◌}
-use Rattle.std.proofs.lemmas.Bool.{and_parts}
 use Rattle.std.proofs.lemmas.Bool.Decides.{nat_tests}
 use Rattle.ep_base.specs.declared.names.Name.{Name}
-use Rattle.ep_base.specs.declared.places.Place.{Place}
 use Rattle.ep_tree.specs.Heights.{domain_height, height}
-use Rattle.ep_tree.specs.Phrases.{From, Is, Lexeme, Names, Phrase, Says, Saying, Silence, StartsAt, When, a_name, a_number, a_word, ◌followed_by◌}
-use Rattle.ep_tree.specs.Spelling.{Closed, DomainLevel, Level, Spells, SpellsDomain, SpellsDomainNode, SpellsNode, comparisons, conjunctions, disjunctions, domain_rank, domains, ends_open, implications, own_domain_level, own_level, powers, primaries, products, rank, reads, set_operations, set_parts, sums, unaries}
+use Rattle.ep_tree.specs.Phrases.{Is, Lexeme, Names, Phrase, Says, Saying, Silence, StartsAt, a_name, a_number, a_word, ◌followed_by◌}
+use Rattle.ep_tree.specs.Spelling.{DomainLevel, Level, Spells, SpellsDomain, SpellsDomainNode, SpellsNode, domain_rank, implications, own_domain_level, own_level, rank, unaries}
 use Rattle.ep_tree.specs.Trees.{DomainTree, ExprTree, place_of, place_of_domain}
-use Rattle.ep_parse_expr.specs.Readers.{Lower, Read, Reader, and_part, behind, behind_comma, behind_word, closed_by, in_brackets, kept, more_from, name_from, name_in, names_from, others_from, says, took, word_from, wrong, ◌and_then◌}
+use Rattle.ep_parse_expr.specs.Readers.{Lower, Reader, and_part, behind, behind_comma, closed_by, in_brackets, kept, name_from, name_in, names_from, others_from, says, took, word_from, ◌and_then◌}
 use Rattle.ep_parse_expr.proofs.Holding.{Holds, Takes, holds_as, holds_then, holds_took, holds_wrong, more_sound, says_sound, starts_front, takes_as, takes_nothing, takes_then, takes_token, word_sound}
 
 -- ---- expressions and domains that are taken

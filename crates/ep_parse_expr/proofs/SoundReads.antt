@@ -1,15 +1,15 @@
 -- What is taken as a read, or as an operand that reads follow, is spelled.
-use Rattle.std.specs.Prelude.{◌≡◌, ℕ, zero, suc, ◌+◌, ◌≤◌, max, Bool, true, false, not, ◌&&◌, nat_le, nat_lt, List, [], ◌∷◌, ◌++◌, length, Option, Some, None, codes, refl}
-use Rattle.std.proofs.Common.{ap, arith, sym, subst, ◌∙◌, inl, inr}
+use Rattle.std.specs.Prelude.{◌≡◌, ℕ, suc, ◌≤◌, max, Bool, true, false, not, ◌&&◌, nat_le, nat_lt, List, length, Option, Some, None, codes, refl}
+use Rattle.std.proofs.Common.{arith, sym, subst, inl, inr}
 use Rattle.std.proofs.Math.Nat.{max-le}
 use Rattle.std.proofs.lemmas.Bool.{and_parts}
 use Rattle.std.proofs.lemmas.Bool.Decides.{nat_tests}
 use Rattle.ep_tree.specs.Heights.{height, highest_index}
-use Rattle.ep_tree.specs.Phrases.{Is, Lexeme, Phrase, Says, Saying, Silence, When, a_word, ◌followed_by◌, ◌or_else◌}
-use Rattle.ep_tree.specs.Spelling.{BetweenIndices, Level, Spells, SpellsIndices, SpellsLastIndices, SpellsMoreIndices, SpellsNode, implications, own_level, rank, reads, takes_own_group, unaries}
-use Rattle.ep_tree.specs.Trees.{ExprTree, Indices, every_and, index_and, no_indices, place_of, read}
-use Rattle.ep_parse_expr.specs.Readers.{Index, Lower, Read, Reader, another_index, another_read, as_indices, behind, chosen, closed_by, grown, if_low, index_from, kept, kept_or, operand_from, others_from, read_from, says, takes_group, took, unary_from, with_index, ◌and_then◌}
-use Rattle.ep_parse_expr.proofs.Holding.{Holds, HoldsIf, Takes, behind_two, grown_sound, holds_as, holds_chosen, holds_low, holds_then, holds_took, more_sound, only_if_sound, says_sound, takes_as, takes_nothing, takes_then}
+use Rattle.ep_tree.specs.Phrases.{Lexeme, Phrase, Says, ◌followed_by◌}
+use Rattle.ep_tree.specs.Spelling.{BetweenIndices, Spells, SpellsIndices, SpellsLastIndices, SpellsMoreIndices, SpellsNode, implications, own_level, rank, reads, takes_own_group, unaries}
+use Rattle.ep_tree.specs.Trees.{ExprTree, Indices, no_indices, place_of, read}
+use Rattle.ep_parse_expr.specs.Readers.{Index, Lower, another_index, another_read, as_indices, behind, index_from, kept, kept_or, operand_from, others_from, read_from, says, takes_group, unary_from, with_index}
+use Rattle.ep_parse_expr.proofs.Holding.{Holds, HoldsIf, Takes, grown_sound, holds_as, holds_chosen, holds_low, holds_then, holds_took, more_sound, only_if_sound, says_sound, takes_as, takes_nothing, takes_then}
 use Rattle.ep_parse_expr.proofs.SoundLists.{whole}
 use Rattle.ep_parse_expr.proofs.SoundOpened.{operand_sound}
 use Rattle.ep_parse_expr.proofs.SoundParts.{AreSound, IsExpr, begun_by, closed_sound, kept-sound, takes_expr}

@@ -8,12 +8,12 @@ use Rattle.ep_tree.specs.Spelling.{domains, implications}
 use Rattle.ep_parse_expr.specs.Readers.{Read, high, took, wrong, says, word_from, name_in, name_from, looked_up, next_in, more_from, grown_from, names_from, expression_next, domain_next, as_trees, index_domain_from, as_generators, generator_from, colon_comes, another_generator, conditions_from, comprehension_from, literal_from, bracket_from, quantifier_from, call_from, call_of_two_from, table_from, call_of_three_from, sum_from, opened_from, open_from, begun_from, operand_from, as_indices, index_from, another_index, read_from, another_read, takes_group, unary_from, another_binary, power_from, product_from, as_terms, term_behind, term_from, terms_from, terms_behind, chain_from, compared_with, comparison_behind, comparison_from, part_from, parts_from, parts_behind, conjunction_from, disjunction_from, implication_from, at_level, as_ranges, end_from, range_from, ranges_from, domain_open_from, domain_begun_from, domain_part_from, another_operation, operations_from, matrix_head_from, matrix_follows, another_index_domain, index_domain_behind, as_domains, matrix_from, any_domain_from, domain_at_level, expr_from, some_domain_from}
 
 -- a vector that says `unfolding the_readers` computes with all of these
-unfoldable the_readers : ℕ
+unfoldable pub the_readers : ℕ
 unfolding says word_from name_in name_from looked_up next_in more_from grown_from names_from expression_next domain_next as_trees index_domain_from as_generators generator_from colon_comes another_generator conditions_from comprehension_from literal_from bracket_from quantifier_from call_from call_of_two_from table_from call_of_three_from sum_from opened_from open_from begun_from operand_from as_indices index_from another_index read_from takes_group another_read unary_from another_binary power_from product_from as_terms term_behind term_from terms_from terms_behind chain_from compared_with comparison_behind comparison_from part_from parts_from parts_behind conjunction_from disjunction_from implication_from at_level as_ranges end_from range_from ranges_from domain_open_from domain_begun_from domain_part_from another_operation operations_from matrix_head_from matrix_follows another_index_domain index_domain_behind as_domains matrix_from any_domain_from domain_at_level expr_from some_domain_from is_word is_symbol kind_of
 the_readers = 0
 
 -- the tokens of words, all on one line, the first in the first column and so on
-abbrev in_columns : ℕ → List String → List Lexeme
+abbrev pub in_columns : ℕ → List String → List Lexeme
 in_columns column [] = []
 in_columns column (w ∷ ws) =
     record { place = record { line = 1; column = column }; saying = saying_of (codes w) (kind_of (codes w)) } ∷ in_columns (suc column) ws

@@ -22,3 +22,4 @@ mod NameSteps
 mod TokenFacts
 mod SmallLaws
 mod EarlyLaws
+pub mod OneAnswer

@@ -14,6 +14,7 @@ mod VectorsFaultTables
 mod VectorsBindingTables
 pub mod Cuts
 mod VectorsSpelling
+mod VectorsStatements
 pub mod Openings
 mod VectorsReading
 pub mod NumberLaws
