@@ -1,3 +1,5 @@
 pub mod Tests
 pub mod Counting
 pub mod FitSteps
+pub mod LimitSteps
+pub mod RangeSteps

@@ -2,6 +2,7 @@
 #![tactic(auto)]
 
 mod binding;
+mod bounds;
 mod elements;
 mod errors;
 mod fitting;
