@@ -3,3 +3,4 @@ pub mod Counting
 pub mod FitSteps
 pub mod LimitSteps
 pub mod RangeSteps
+pub mod IndexSteps

@@ -1,16 +1,14 @@
 -- Ranges of domains, read one by one.
-use Rattle.std.proofs.Common.{◌≡◌, ◌↔◌, ◌∙◌, ◌^◌, ◌+◌, ◌<◌, ◌≤◌, ℕ, Bool, true, false, ◌&&◌, ◌||◌, ℤ, pos, neg_ℤ, ◌≤ℤ◌, ◌<ℤ◌, List, [], ◌∷◌, ◌++◌, Option, Some, None, option_map, refl, sym, ap, subst, arith, drop, append_assoc}
+use Rattle.std.proofs.Common.{◌≡◌, ◌↔◌, ◌∙◌, ◌^◌, ◌≤◌, ℕ, Bool, true, false, ◌&&◌, ◌||◌, ℤ, pos, neg_ℤ, ◌≤ℤ◌, ◌<ℤ◌, List, [], ◌∷◌, ◌++◌, Option, Some, None, option_map, refl, sym, ap, arith, append_assoc}
 use Rattle.std.specs.Prelude.{int_le}
 use Rattle.std.specs.Ordering.{int_eq}
 use Rattle.std.specs.List.{list_any}
 use Rattle.std.proofs.lemmas.Int.{ints}
 use Rattle.ep_base.specs.declared.run_lists.Run.{Run}
-use Rattle.ep_tree.proofs.ViewLemmas.{with_range-one, with_range-span}
 use Rattle.ep_tree.specs.Binding.{above_end, below_end, ranges_pass}
 use Rattle.ep_tree.specs.Environments.{Env}
 use Rattle.ep_tree.specs.Evaluation.{evaluate, map_both, number_in, on_both, on_three}
 use Rattle.ep_tree.specs.Measures.{Met, met, met_end, met_ranges}
-use Rattle.ep_tree.specs.Trees.{end_at, no_end}
 use Rattle.ep_tree.specs.Views.{end_of, expr_tree, held_end, kind_tree, ranges_of, with_range}
 use Rattle.ep_tree.specs.declared.syntax.Expr.{Expr}
 use Rattle.ep_tree.specs.declared.syntax.Range.{One, One', Range, Span, Span'}
@@ -260,7 +258,7 @@ ranges_more mode env before count after all r left runs more run h here counted 
       ∙ ap (map_both (λ x y. x || y) (option_map (λ rs. runs_test rs n) runs)) (ranges_pass-cons mode env n r left)
       ∙ or_regroup (option_map (λ rs. runs_test rs n) runs) (answer n (range_passes mode env r)) (answer n (ranges_pass mode env (ranges_of left)))
       ∙ ap (λ o. map_both (λ x y. x || y) (map_both (λ x y. x || y) (option_map (λ rs. runs_test rs n) runs) o) (answer n (ranges_pass mode env (ranges_of left))))
-        (sym (here.same n low high))
+      (sym (here.same n low high))
       ∙ ap (λ o. map_both (λ x y. x || y) o (answer n (ranges_pass mode env (ranges_of left)))) (sym (runs_and_run n runs run) ∙ ap (option_map (λ rs. runs_test rs n)) (sym is));
 }
 

@@ -1,5 +1,5 @@
 -- What the program's refusals say in the words of the definitions.
-use Rattle.std.specs.Prelude.{◌≡◌, Bool, List, Result, Ok, Err, Contains}
+use Rattle.std.specs.Prelude.{◌≡◌, List, Result, Ok, Err, Contains}
 use Rattle.ep_tree.specs.Binding.{Refusal, TextName, missing_parameter, model_text, outside_domain, over_limit, parameter_text, solution_text, undefined_at, where_false}
 use Rattle.ep_base.specs.declared.names.Name.{Name}
 use Rattle.ep_tree.specs.SolutionTexts as defined

@@ -1,8 +1,6 @@
-use Rattle.std.proofs.Common.{◌≡◌, ◌∙◌, [], ap, subst}
+use Rattle.std.proofs.Common.{subst}
 use Rattle.std.proofs.lemmas.Result.{err_from_is_err_and}
 use Rattle.ep_eval.specs.Known.{env_of}
-use Rattle.ep_eval.specs.Outcomes.{IsCause}
-use Rattle.ep_tree.specs.Limits.{limits_of_values}
 use Rattle.ep_instance.specs.Counted.{IsCounted}
 use Rattle.ep_instance.proofs.LimitSteps.{cause_along, counted_none}
 use Rattle.ep_instance.proofs.RangeSteps.{high_number, high_open, met_end-none, met_end-some}

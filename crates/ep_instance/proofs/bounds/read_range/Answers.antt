@@ -1,9 +1,5 @@
-use Rattle.std.proofs.Common.{◌≡◌, ◌∙◌, ◌++◌, ap, subst}
 use Rattle.std.proofs.lemmas.Result.{err_from_is_err_and}
 use Rattle.ep_eval.specs.Known.{env_of}
-use Rattle.ep_tree.specs.Measures.{met, met_end}
-use Rattle.ep_tree.specs.Views.{end_of, expr_tree}
-use Rattle.ep_instance.specs.Tests.{met_range}
 use Rattle.ep_instance.proofs.LimitSteps.{cause_along, cause_first, cause_next, counted_along, counted_on, counted_small}
 use Rattle.ep_instance.proofs.RangeSteps.{met_range-one, met_range-span, range_one, range_span}
 use Rattle.ep_instance.proofs.bounds.read_range.Goals as goal
