@@ -41,6 +41,8 @@ met_range mode env (Span' low high) = met_end mode env (held_end low) ++ met_end
 
 -- which numbers a range has
 unfoldable pub range_passes : Mode → Env → Range → Option (ℤ → Bool)
-range_passes mode env (One' place kind) = option_map (λ n x. int_eq x n) (number_in (evaluate mode env (kind_tree place kind)))
+range_passes mode env (One' place kind) =
+    option_map (λ n x. int_eq x n) (number_in (evaluate mode env (kind_tree place kind)))
 range_passes mode env (Span' low high) =
-    map_both (λ above below x. above x && below x) (above_end mode env (held_end low)) (below_end mode env (held_end high))
+    map_both (λ above below x. above x && below x)
+    (above_end mode env (held_end low)) (below_end mode env (held_end high))

@@ -39,7 +39,8 @@ fn seen_number(seen: &Seen) -> Option<i64>
     }
 }
 
-/// The number of an expression behind others that met so many nodes, and how many are met by its end.
+/// The number of an expression behind others that met so many nodes, and how many are met by its
+/// end.
 fn number_at(
     alloc: Global,
     env: &Env,
@@ -163,8 +164,8 @@ fn with_run(runs: Option<Vec<Run>>, run: Option<Run>) -> Result<Option<Vec<Run>>
     Ok(Some(runs))
 }
 
-/// The numbers of ranges, and how many nodes are met by their end. All are read, also behind an undefined one, since
-/// limits come first.
+/// The numbers of ranges, and how many nodes are met by their end. All are read, also behind an
+/// undefined one, since limits come first.
 pub fn read_ranges(
     alloc: Global,
     env: &Env,

@@ -31,8 +31,8 @@ fn with_set(sets: Option<Vec<Runs>>, set: Option<Runs>) -> Result<Option<Vec<Run
     Ok(Some(sets))
 }
 
-/// The numbers of index domains, where each is defined, and how many nodes are met by their end. All are read, also
-/// behind an undefined one, since limits come first.
+/// The numbers of index domains, where each is defined, and how many nodes are met by their end.
+/// All are read, also behind an undefined one, since limits come first.
 pub fn read_indices(
     alloc: Global,
     env: &Env,
