@@ -1,8 +1,8 @@
 -- The parts of a matrix, fitted one by one.
-use Rattle.std.proofs.Common.{◌≡◌, ℕ, zero, suc, ◌+◌, ◌<◌, ◌≤◌, Bool, true, false, ◌&&◌, ℤ, List, [], ◌∷◌, ◌++◌, map, length, get_or, take, drop, Option, Some, None, refl, sym, ap, ◌∙◌, append_assoc, arith, option_map, if◌then◌else◌, ◌==◌}
+use Rattle.std.proofs.Common.{◌≡◌, ℕ, suc, ◌+◌, Bool, true, false, ◌&&◌, ℤ, List, [], ◌∷◌, ◌++◌, map, length, drop, Option, Some, None, refl, sym, ap, ◌∙◌, arith, option_map, if◌then◌else◌, ◌==◌}
 use Rattle.std.specs.Prelude.{option_and_then}
 use Rattle.std.proofs.lemmas.List.{append-nil, drop_all}
-use Rattle.ep_tree.specs.Values.{ValueTree, all_fitted, as_parts, fitted, matrix, no_values, scalar_fits, single, value_and, with_indices}
+use Rattle.ep_tree.specs.Values.{ValueTree, all_fitted, as_parts, fitted, matrix, scalar_fits, single, value_and, with_indices}
 use Rattle.ep_tree.specs.Views.{value_tree, values_from}
 use Rattle.ep_tree.specs.declared.values.Scalar.{Scalar}
 use Rattle.ep_tree.specs.declared.values.Value.{Value}

@@ -3,6 +3,9 @@ use Rattle.std.specs.Prelude.{◌≡◌, [], sum_by}
 use Rattle.ep_tree.specs.Binding.{Instance}
 use Rattle.ep_tree.specs.Solutions as defined
 use Rattle.ep_tree.specs.declared.values.Mode.{Mode}
+use Rattle.ep_tree.specs.Views.{assigned}
+use Rattle.ep_instance.specs.declared.judging.Shaped.{Shaped}
+use Rattle.ep_instance.specs.declared.judging.Shaped.TheVariants.{Fits, WrongShape}
 use Rattle.ep_instance.specs.declared.judging.Judgement.{Judgement}
 use Rattle.ep_instance.specs.declared.judging.Judgement.TheVariants.{Solution, Violated, ObjectiveUndefined}
 
@@ -16,3 +19,8 @@ judgement_of ObjectiveUndefined = defined.goal_undefined
 abbrev pub IsWithinLimits : Mode → Instance → Type 0
 IsWithinLimits mode i =
     defined.limits_passed mode (sum_by (λ f. defined.cell_count f.indices) i.finds) (defined.met_instance mode i) ≡ []
+
+-- an assignment that is read fits
+abbrev pub FitsIfShaped : Instance → Shaped → Type 0
+FitsIfShaped i (Fits a) = (found : defined.Found) × defined.Fits i (assigned a) found
+FitsIfShaped i (WrongShape name) = Unit {0}

@@ -2,3 +2,5 @@ pub mod Elements
 pub mod Instances
 pub mod Refusals
 pub mod Judgements
+pub mod Counted
+pub mod Tests

@@ -1,5 +1,5 @@
 -- What the program's refusals say in the words of the definitions.
-use Rattle.std.specs.Prelude.{◌≡◌, Bool, List, Result, Ok, Err, Contains}
+use Rattle.std.specs.Prelude.{◌≡◌, List, Result, Ok, Err, Contains}
 use Rattle.ep_tree.specs.Binding.{Refusal, TextName, missing_parameter, model_text, outside_domain, over_limit, parameter_text, solution_text, undefined_at, where_false}
 use Rattle.ep_base.specs.declared.names.Name.{Name}
 use Rattle.ep_tree.specs.SolutionTexts as defined
@@ -37,9 +37,10 @@ abbrev pub Answers : {V A : Type 0} → (V → A) → Result V BindError → Res
 Answers view (Ok x) said = said ≡ Ok (view x)
 Answers view (Err e) said = Refuses e said
 
--- An answer to a solution text is what is defined: an assignment that fits, or one of the names that keep it from having
--- a right shape.
+-- An answer to a solution text is what is defined: an assignment that fits, or one of the names that keep it from
+-- having a right shape.
 abbrev pub ShapeAnswers : Result Shaped BindError → Result defined.Shaped (List Refusal) → Type 0
 ShapeAnswers (Ok (Fits a)) said = said ≡ Ok (defined.fits (assigned a))
-ShapeAnswers (Ok (WrongShape name)) said = (names : List Name) × (said ≡ Ok (defined.wrong_shape names)) × Contains names name
+ShapeAnswers (Ok (WrongShape name)) said =
+    (names : List Name) × (said ≡ Ok (defined.wrong_shape names)) × Contains names name
 ShapeAnswers (Err e) said = Refuses e said

@@ -13,8 +13,9 @@ use ep_tree::Mode;
 use ep_types::{Typed, TypedParams};
 use std::alloc::Global;
 
-/// The instance of a model under its parameters. The lettings of the parameters are evaluated in their order, and then
-/// the statements of the model in theirs; the first one at which something stands is answered.
+/// The instance of a model under its parameters. The lettings of the parameters are evaluated in
+/// their order, and then the statements of the model in theirs; the first one at which something
+/// stands is answered.
 pub fn bind(
     alloc: Global,
     typed: Typed,

@@ -7,8 +7,8 @@ ghost use Rattle.ep_instance.specs.Elements.{element_passes};
 use ep_base::Runs;
 use ep_tree::SetOp;
 
-/// The numbers that the elements of a domain may be, of which an open domain doesn't list them all: runs in which an
-/// open end is the least or the greatest number, and operations on such.
+/// The numbers that the elements of a domain may be, of which an open domain doesn't list them all:
+/// runs in which an open end is the least or the greatest number, and operations on such.
 #[derive(Drop)]
 pub enum Elements {
     Within(Runs),

@@ -48,8 +48,8 @@ fn fit_number(
     }
 }
 
-/// A copy of a value of numbers of one scalar, fitted into a domain: of a scalar, with these elements and index
-/// domains; nothing where it doesn't fit. Linear in the value.
+/// A copy of a value of numbers of one scalar, fitted into a domain: of a scalar, with these
+/// elements and index domains; nothing where it doesn't fit. Linear in the value.
 pub fn fit(
     alloc: Global,
     value: &Value,

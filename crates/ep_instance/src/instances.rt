@@ -10,8 +10,8 @@ use ep_base::{Name, Runs};
 use ep_eval::Env;
 use ep_tree::{Expr, Objective, ValueType};
 
-/// A decision variable: its name and type, the numbers of its index domains, none for a scalar, and the values of each
-/// of its cells.
+/// A decision variable: its name and type, the numbers of its index domains, none for a scalar, and
+/// the values of each of its cells.
 #[derive(Drop)]
 pub struct Find {
     pub name: Name,
@@ -21,8 +21,8 @@ pub struct Find {
     pub ghost shaped: { ty ≡ shape_type (scalar_of ty) indices.items },
 }
 
-/// What a model asks for under its parameters: its decision variables in the order of the text, its clauses, its
-/// objective, and what the parameters and the lettings stand for.
+/// What a model asks for under its parameters: its decision variables in the order of the text, its
+/// clauses, its objective, and what the parameters and the lettings stand for.
 #[derive(Drop)]
 pub struct Instance {
     finds: Vec<Find>,

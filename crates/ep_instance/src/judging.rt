@@ -7,7 +7,7 @@ ghost use Rattle.ep_tree.specs.Solutions.{Fits, Found, judgement};
 ghost use Rattle.ep_tree.specs.Views.{assigned};
 ghost use Rattle.ep_types.specs.Texts.{typed_params_tree};
 ghost use Rattle.ep_instance.specs.Instances.{instance_of, mode_of};
-ghost use Rattle.ep_instance.specs.Judgements.{IsWithinLimits, judgement_of};
+ghost use Rattle.ep_instance.specs.Judgements.{FitsIfShaped, IsWithinLimits, judgement_of};
 ghost use Rattle.ep_instance.specs.Refusals.{ShapeAnswers};
 
 use super::errors::BindError;
@@ -44,8 +44,9 @@ pub fn read_assignment(
     params: TypedParams,
 ) -> Result<Shaped, BindError>
     requires closed { IsClosed (instance_of instance.now) }
-    ensures { ShapeAnswers result
+    ensures answer { ShapeAnswers result
         (read_solution (mode_of instance.now) (instance_of instance.now) (typed_params_tree params)) }
+    ensures fits { IfOk result (FitsIfShaped (instance_of instance.now)) }
 {
     Err(BindError::Memory)
 }

@@ -2,14 +2,18 @@
 #![tactic(auto)]
 
 mod binding;
+mod bounds;
 mod elements;
 mod errors;
 mod fitting;
+mod indices;
 mod instances;
 mod judging;
+mod laws;
 mod listing;
 
 pub use binding::bind;
 pub use errors::{BindError, Source};
 pub use instances::{Find, Instance};
 pub use judging::{Judgement, Shaped, is_solution, read_assignment};
+pub use laws::no_limit_is_passed;

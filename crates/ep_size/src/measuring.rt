@@ -19,8 +19,8 @@ pub struct Measures {
     pub weight: u64,
 }
 
-/// Measures an instance. Where one of the limits is passed, one that is passed is named, the limit of weight only where
-/// no other is.
+/// Measures an instance. Where one of the limits is passed, one that is passed is named, the limit
+/// of weight only where no other is.
 pub fn measure(alloc: Global, instance: &Instance) -> Result<Measures, SizeError>
     requires { IsClosed (instance_of instance.now) }
     ensures size { IfOk result (λ m. m.size ≡ instance_size (mode_of instance.now) (instance_of instance.now)) }

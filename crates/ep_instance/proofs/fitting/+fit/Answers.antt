@@ -1,11 +1,10 @@
-use Rattle.std.proofs.Common.{◌≡◌, ◌∙◌, ◌+◌, ◌≤◌, ◌==◌, ℕ, ℤ, Bool, true, false, List, [], ◌∷◌, ◌++◌, drop, length, get_or, Some, None, Option, sym, ap, subst, arith, option_map, rules, vec_len, w64, to_z, of_z}
+use Rattle.std.proofs.Common.{◌≡◌, ◌∙◌, ◌+◌, ◌==◌, ℕ, ℤ, true, false, List, ◌∷◌, drop, length, Some, None, sym, ap, subst, arith, option_map, rules, vec_len, w64, to_z, of_z}
 use Rattle.std.proofs.lemmas.List.{drop_more}
 use Rattle.std.proofs.lemmas.Int.{ints, to_z-of_z}
 use Rattle.ep_tree.proofs.ViewLemmas.{value_tree-matrix, value_tree-number}
-use Rattle.ep_tree.specs.Values.{ValueTree, fitted, matrix, single}
+use Rattle.ep_tree.specs.Values.{fitted, matrix, single}
 use Rattle.ep_tree.specs.Views.{value_tree, values_from}
 use Rattle.ep_tree.specs.declared.values.Value.{Value}
-use Rattle.ep_instance.specs.Elements.{PassesAs}
 use Rattle.ep_instance.proofs.FitSteps.{FitsSoFar, fitted_alike, fitted_matrix, miscounted_matrix, no_elements, one_fitted, one_unfitted, unfitted_matrix, unfitted_scalar}
 use Rattle.ep_instance.proofs.fitting.+fit.Goals as goal
 

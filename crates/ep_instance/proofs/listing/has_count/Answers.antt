@@ -1,4 +1,4 @@
-use Rattle.std.proofs.Common.{◌≡◌, ◌∙◌, ◌+◌, ◌*◌, ◌==◌, ◌≤◌, ◌<◌, ℕ, pos, length, get_or, refl, sym, ap, rules, arith, length-append, take, ◌++◌}
+use Rattle.std.proofs.Common.{◌≡◌, ◌∙◌, ◌+◌, ◌==◌, pos, length, get_or, refl, ap, arith, length-append, take}
 use Rattle.std.proofs.lemmas.List.{take_all}
 use Rattle.ep_base.specs.declared.run_lists.Run.{Run}
 use Rattle.ep_base.specs.Runs.{numbers, numbers_in}

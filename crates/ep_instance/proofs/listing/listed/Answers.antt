@@ -1,4 +1,4 @@
-use Rattle.std.proofs.Common.{◌≡◌, ◌∙◌, ◌++◌, pos, refl, sym, ap, get_or, rules}
+use Rattle.std.proofs.Common.{◌∙◌, pos}
 use Rattle.ep_base.specs.declared.run_lists.Run.{Run}
 use Rattle.ep_base.specs.Runs.{numbers}
 use Rattle.ep_instance.proofs.Counting.{numbers_more}

@@ -1,4 +1,4 @@
-use Rattle.std.proofs.Common.{◌≡◌, ◌∙◌, ℤ, pos, ◌+ℤ◌, ◌-ℤ◌, sym, arith}
+use Rattle.std.proofs.Common.{◌∙◌, pos, ◌+ℤ◌, ◌-ℤ◌, sym, arith}
 use Rattle.std.proofs.lemmas.Int.{ints}
 use Rattle.ep_instance.proofs.Counting.{length_of_run, or_zero_is}
 use Rattle.ep_instance.proofs.listing.run_length.Goals as goal
