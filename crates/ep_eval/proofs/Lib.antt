@@ -3,3 +3,4 @@ pub mod KnownNames
 pub mod Countings
 pub mod Reaches
 pub mod FormParts
+pub mod Both

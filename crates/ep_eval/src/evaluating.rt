@@ -17,7 +17,7 @@ ghost use Rattle.ep_eval.specs.declared.errors.EvalError.TheVariants as error;
 ghost use Rattle.ep_base.specs.declared.operators.Limit.TheVariants as limit;
 
 use super::errors::EvalError;
-use super::forms::negation;
+use super::forms::{comparison, negation};
 use super::held::{Held, held_truth, number_of};
 use super::scopes::Scope;
 use ep_base::Limit;
@@ -114,6 +114,11 @@ fn kind_value<'a>(
         Kind::Not(part) => {
             let seen = value_of(scope, met, part)?;
             Ok(negation(scope.env.mode(), &seen))
+        }
+        Kind::Compare(op, left, right) => {
+            let first = value_of(scope, met, left)?;
+            let second = value_of(scope, met, right)?;
+            Ok(comparison(scope.env.mode(), *op, &first, &second))
         }
         _ => Err(EvalError::Memory),
     }
