@@ -1,5 +1,5 @@
 -- A function of two parts, where each is defined.
-use Rattle.std.proofs.Common.{◌≡◌, refl, sym, ap, ◌∙◌}
+use Rattle.std.proofs.Common.{◌≡◌, ap, ◌∙◌}
 use Rattle.std.specs.Prelude.{Option, Some, None}
 use Rattle.ep_tree.specs.Evaluation.{map_both}
 

@@ -7,7 +7,7 @@ use Rattle.ep_tree.specs.Environments.{Env}
 use Rattle.ep_tree.specs.Evaluation.{evaluate}
 use Rattle.ep_tree.specs.Limits.{limits_of_values, numbers_at}
 use Rattle.ep_tree.specs.Measures.{Met, met, met_names}
-use Rattle.ep_tree.specs.Trees.{ExprTree, compare, group, negation, number, quantified, to_int, truth}
+use Rattle.ep_tree.specs.Trees.{ExprTree, compare, group, named, negation, number, quantified, to_int, truth}
 use Rattle.ep_tree.specs.Values.{ValueTree}
 use Rattle.ep_tree.specs.Views.{expr_tree, kind_tree}
 use Rattle.ep_tree.specs.declared.syntax.Expr.{Expr}
@@ -109,6 +109,10 @@ second_cause mode env b c shape k one other first second is same again meets cou
 pub meets_number : (mode : Mode) (env : Env) (p : Place) (n : _) → Meets mode env (number p n) []
 unfolding met all_but_first numbers_at
 meets_number mode env p n = record { plain = record { first = refl; own = refl }; parts = refl }
+
+pub meets_named : (mode : Mode) (env : Env) (p : Place) (name : _) → Meets mode env (named p name) []
+unfolding met all_but_first numbers_at
+meets_named mode env p name = record { plain = record { first = refl; own = refl }; parts = refl }
 
 pub meets_truth : (mode : Mode) (env : Env) (p : Place) (b : _) → Meets mode env (truth p b) []
 unfolding met all_but_first numbers_at

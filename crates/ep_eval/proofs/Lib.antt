@@ -4,3 +4,4 @@ pub mod Countings
 pub mod Reaches
 pub mod FormParts
 pub mod Both
+pub mod Looking

@@ -19,7 +19,7 @@ ghost use Rattle.ep_base.specs.declared.operators.Limit.TheVariants as limit;
 use super::errors::EvalError;
 use super::forms::{comparison, negation};
 use super::held::{Held, held_truth, number_of};
-use super::scopes::Scope;
+use super::scopes::{Scope, look_up};
 use ep_base::Limit;
 use ep_tree::{Expr, Kind};
 
@@ -103,6 +103,7 @@ fn kind_value<'a>(
     match kind {
         Kind::Number(number) => Ok(Some(Held::Number(*number))),
         Kind::Truth(truth) => Ok(held_truth(*truth)),
+        Kind::Named(name) => Ok(look_up(scope, name)),
         Kind::Group(part) => {
             let seen = value_of(scope, met, part)?;
             Ok(seen)

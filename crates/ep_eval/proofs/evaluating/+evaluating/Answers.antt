@@ -4,18 +4,18 @@ use Rattle.std.specs.List.{list_any}
 use Rattle.ep_tree.specs.Limits.{is_too_far, limits_of_values}
 use Rattle.std.proofs.lemmas.Int.{to_z-of_z, ints}
 use Rattle.std.proofs.lemmas.Result.{err_from_is_err_and}
-use Rattle.ep_tree.proofs.EvaluationEquations.{evaluate-compare, evaluate-group, evaluate-negation, evaluate-number, evaluate-to_int, evaluate-truth}
-use Rattle.ep_tree.proofs.ViewLemmas.{kind_tree-compare, kind_tree-group, kind_tree-negation, kind_tree-number, kind_tree-to_int, kind_tree-truth}
+use Rattle.ep_tree.proofs.EvaluationEquations.{evaluate-named, evaluate-compare, evaluate-group, evaluate-negation, evaluate-number, evaluate-to_int, evaluate-truth}
+use Rattle.ep_tree.proofs.ViewLemmas.{kind_tree-named, kind_tree-compare, kind_tree-group, kind_tree-negation, kind_tree-number, kind_tree-to_int, kind_tree-truth}
 use Rattle.ep_tree.specs.Evaluation.{evaluate, map_both, number_in, truth_in, truth_of}
 use Rattle.ep_base.specs.Numbers.{compare_holds}
 use Rattle.ep_tree.specs.Measures.{met}
-use Rattle.ep_tree.specs.Trees.{compare, group, negation, number, to_int, truth}
+use Rattle.ep_tree.specs.Trees.{named, compare, group, negation, number, to_int, truth}
 use Rattle.ep_tree.specs.Values.{single}
 use Rattle.ep_tree.specs.Views.{expr_tree, kind_tree}
 use Rattle.ep_eval.specs.Helds.{held_value, seen_held}
 use Rattle.ep_eval.specs.Scopes.{env_in, mode_in}
 use Rattle.ep_eval.proofs.Countings.{counted_none, node_refuses, size_refuses}
-use Rattle.ep_eval.proofs.FormParts.{first_cause, meets_compare, second_cause, two_value, form_value, meets_group, meets_negation, meets_number, meets_some, meets_to_int, meets_truth, one_cause, one_value}
+use Rattle.ep_eval.proofs.FormParts.{meets_named, first_cause, meets_compare, second_cause, two_value, form_value, meets_group, meets_negation, meets_number, meets_some, meets_to_int, meets_truth, one_cause, one_value}
 use Rattle.ep_eval.proofs.Countings.{far_cause, refused_whole}
 use Rattle.ep_eval.proofs.evaluating.+evaluating.Goals as goal
 
@@ -39,6 +39,16 @@ kind_value-returns-in-Truth-clause-value t c =
     (λ p. ap (kind_tree p) c.in-Truth.is ∙ kind_tree-truth p b) (λ p. meets_truth mode env p b)
     (counted_none mode c.args.met.now c.requires.small)
     (λ p. evaluate-truth mode env p b ∙ sym c.held_truth.ensures)
+
+pub kind_value-returns-in-Named-clause-value : goal.kind_value-returns-in-Named-clause-value
+kind_value-returns-in-Named-clause-value t c =
+    let mode = mode_in c.args.scope in
+    let env = env_in c.args.scope in
+    let name = c.in-Named.name in
+    form_value mode env [] c.args.met.now c.args.met.now (seen_held c.look_up.result) (λ p. named p name) c.args.kind.now
+    (λ p. ap (kind_tree p) c.in-Named.is ∙ kind_tree-named p name) (λ p. meets_named mode env p name)
+    (counted_none mode c.args.met.now c.requires.small)
+    (λ p. evaluate-named mode env p name ∙ sym c.look_up.ensures)
 
 pub kind_value-returns-in_ok-seen-in-Group-clause-value : goal.kind_value-returns-in_ok-seen-in-Group-clause-value
 kind_value-returns-in_ok-seen-in-Group-clause-value t c =
