@@ -1,6 +1,6 @@
 -- How counts and causes compose.
 use Rattle.std.proofs.Common.{◌≡◌, ℕ, ◌+◌, ◌<◌, ◌≤◌, Bool, true, false, List, [], ◌∷◌, ◌++◌, length, refl, sym, ap, subst, ◌∙◌, inl, inr, arith}
-use Rattle.std.specs.Prelude.{Contains, flat_map, nat_lt, ◌||◌, if◌then◌else◌, ℤ, option_to_list, Result, Ok, Err, IfErr}
+use Rattle.std.specs.Prelude.{Contains, flat_map, nat_lt, ◌||◌, if◌then◌else◌, ℤ, option_to_list, Result, Ok, Err, IfErr, Option}
 use Rattle.std.specs.List.{list_any}
 use Rattle.std.proofs.lemmas.List.{length-append}
 use Rattle.std.proofs.lemmas.Grind.{flat_map-append}
@@ -8,7 +8,8 @@ use Rattle.std.proofs.lemmas.List.Elements.{Contains-append_left, Contains-appen
 use Rattle.ep_base.specs.declared.operators.Limit.{Limit as LimitName}
 use Rattle.ep_tree.specs.Environments.{Env}
 use Rattle.ep_tree.specs.Evaluation.{evaluate, number_in}
-use Rattle.ep_tree.specs.Limits.{MOST_SIZE, is_too_far, limits_of_values, numbers_at}
+use Rattle.ep_tree.specs.Limits.{MOST_SIZE, counted_value, is_too_far, limits_of_values, numbers_at, within}
+use Rattle.ep_tree.specs.Values.{ValueTree}
 use Rattle.ep_tree.specs.Measures.{Met, a_node, met}
 use Rattle.ep_tree.specs.Trees.{ExprTree}
 use Rattle.ep_tree.specs.declared.values.Mode.{Mode}
@@ -160,3 +161,24 @@ pub far_cause : {T : Type 0} (r : Result T EvalError) (ls : List LimitName) (F :
     → IfErr r (λ e. e ≡ Limit LimitName.Reach) → IfErr r (λ _. F) → (F → Contains ls LimitName.Reach) → IfErr r (IsCause ls)
 far_cause (Ok x) ls F same far h = tt
 far_cause (Err e) ls F same far h = subst (IsCause ls) (sym same) (h far)
+
+-- no limit is passed where the nodes are counted
+pub nothing_passed : (mode : Mode) (a b : ℕ) (ms : List Met) → Counted mode a b ms → limits_of_values mode a ms ≡ []
+unfolding limits_of_values
+nothing_passed mode a b ms h = none (nat_lt MOST_SIZE (a + length ms)) _ (small MOST_SIZE a (length ms) b h.count h.small) h.near
+  where
+    none : (c d : Bool) → c ≡ false → d ≡ false → ((if c then LimitName.Size ∷ [] else []) ++ (if d then LimitName.Reach ∷ [] else [])) ≡ []
+    none false false p q = refl
+    none true d p q = absurd cc
+    none false true p q = absurd cc
+
+    small : (m x y z : ℕ) → z ≡ x + y → z ≤ m → nat_lt m (x + y) ≡ false
+    small m x y z p q = grind arith
+
+-- an expression whose nodes are counted has its value, and so many nodes
+pub counted_value_is : (mode : Mode) (a b : ℕ) (env : Env) (e : ExprTree) (v : Option ValueTree) → Counted mode a b (met mode env e) → evaluate mode env e ≡ v
+    → counted_value mode a env e ≡ Ok (v, b)
+unfolding counted_value within
+counted_value_is mode a b env e v h value =
+    ap (λ ls. within ls (evaluate mode env e, a + length (met mode env e))) (nothing_passed mode a b (met mode env e) h)
+    ∙ ap (λ w. Ok (w, a + length (met mode env e))) value ∙ ap (λ n. Ok (v, n)) (sym h.count)

@@ -1,17 +1,19 @@
 -- Forms by their parts: what evaluating the parts shows of the whole.
-use Rattle.std.proofs.Common.{◌≡◌, ℕ, ◌≤◌, List, [], ◌∷◌, length, arith, refl, sym, ap, subst, ◌∙◌}
+use Rattle.std.proofs.Common.{◌≡◌, ℕ, ◌≤◌, List, [], ◌∷◌, ◌++◌, length, arith, refl, sym, ap, subst, ◌∙◌}
 use Rattle.std.specs.Prelude.{Option}
+use Rattle.ep_base.specs.declared.operators.CompareOp.{CompareOp}
 use Rattle.ep_base.specs.declared.places.Place.{Place}
 use Rattle.ep_tree.specs.Environments.{Env}
 use Rattle.ep_tree.specs.Evaluation.{evaluate}
 use Rattle.ep_tree.specs.Limits.{limits_of_values, numbers_at}
 use Rattle.ep_tree.specs.Measures.{Met, met, met_names}
-use Rattle.ep_tree.specs.Trees.{ExprTree, group, negation, number, quantified, to_int, truth}
+use Rattle.ep_tree.specs.Trees.{ExprTree, compare, group, named, negation, number, quantified, to_int, truth}
 use Rattle.ep_tree.specs.Values.{ValueTree}
 use Rattle.ep_tree.specs.Views.{expr_tree, kind_tree}
 use Rattle.ep_tree.specs.declared.syntax.Expr.{Expr}
 use Rattle.ep_tree.specs.declared.syntax.Kind.{Kind}
 use Rattle.ep_tree.specs.declared.values.Mode.{Mode}
+use Rattle.ep_eval.proofs.Countings.{cause_first, cause_then, counted_append}
 use Rattle.ep_eval.specs.Counting.{Counted, Evaluated, IsPlain, IsRefusedBelow, all_but_first, met_below}
 use Rattle.ep_eval.specs.Outcomes.{IsCause}
 use Rattle.ep_eval.specs.declared.errors.EvalError.{EvalError}
@@ -63,11 +65,54 @@ one_cause mode env b shape k part target is same meets error cause =
     form_cause mode env (met mode env (expr_tree target)) b (λ q. shape q (expr_tree target)) k
     (λ q. is q ∙ ap (λ x. shape q (expr_tree x)) (sym same)) (λ q. meets q (expr_tree target)) error cause
 
+-- a form of two parts, the second of which is evaluated behind the first
+pub two_value : (mode : Mode) (env : Env) (b c d : ℕ) (s u v : Option ValueTree) (shape : Place → ExprTree → ExprTree → ExprTree) (k : Kind) (one other first second : Expr)
+    → ((p : Place) → kind_tree p k ≡ shape p (expr_tree one) (expr_tree other)) → first ≡ one → second ≡ other
+    → ((p : Place) (e f : ExprTree) → Meets mode env (shape p e f) (met mode env e ++ met mode env f))
+    → Counted mode b c (met mode env (expr_tree first)) → evaluate mode env (expr_tree first) ≡ s
+    → Counted mode c d (met mode env (expr_tree second)) → evaluate mode env (expr_tree second) ≡ u
+    → ((p : Place) (e f : ExprTree) → evaluate mode env e ≡ s → evaluate mode env f ≡ u → evaluate mode env (shape p e f) ≡ v)
+    → (p : Place) → Evaluated mode env (kind_tree p k) b d v
+two_value mode env b c d s u v shape k one other first second is same again meets counted value more more_value whole =
+    form_value mode env (met mode env (expr_tree first) ++ met mode env (expr_tree second)) b d v (λ q. shape q (expr_tree first) (expr_tree second)) k
+    (λ q. is q ∙ ap (λ x. shape q (expr_tree x) (expr_tree other)) (sym same) ∙ ap (λ x. shape q (expr_tree first) (expr_tree x)) (sym again))
+    (λ q. meets q (expr_tree first) (expr_tree second))
+    (counted_append mode b c d (met mode env (expr_tree first)) (met mode env (expr_tree second)) counted more)
+    (λ q. whole q (expr_tree first) (expr_tree second) value more_value)
+
+-- what refuses the first of two parts
+pub first_cause : (mode : Mode) (env : Env) (b : ℕ) (shape : Place → ExprTree → ExprTree → ExprTree) (k : Kind) (one other first : Expr)
+    → ((p : Place) → kind_tree p k ≡ shape p (expr_tree one) (expr_tree other)) → first ≡ one
+    → ((p : Place) (e f : ExprTree) → Meets mode env (shape p e f) (met mode env e ++ met mode env f))
+    → (error : EvalError) → IsCause (limits_of_values mode b (met mode env (expr_tree first))) error
+    → (p : Place) → IsRefusedBelow mode env (kind_tree p k) b error
+first_cause mode env b shape k one other first is same meets error cause =
+    form_cause mode env (met mode env (expr_tree first) ++ met mode env (expr_tree other)) b (λ q. shape q (expr_tree first) (expr_tree other)) k
+    (λ q. is q ∙ ap (λ x. shape q (expr_tree x) (expr_tree other)) (sym same)) (λ q. meets q (expr_tree first) (expr_tree other)) error
+    (cause_first mode b (met mode env (expr_tree first)) (met mode env (expr_tree other)) error cause)
+
+-- what refuses the second
+pub second_cause : (mode : Mode) (env : Env) (b c : ℕ) (shape : Place → ExprTree → ExprTree → ExprTree) (k : Kind) (one other first second : Expr)
+    → ((p : Place) → kind_tree p k ≡ shape p (expr_tree one) (expr_tree other)) → first ≡ one → second ≡ other
+    → ((p : Place) (e f : ExprTree) → Meets mode env (shape p e f) (met mode env e ++ met mode env f))
+    → Counted mode b c (met mode env (expr_tree first))
+    → (error : EvalError) → IsCause (limits_of_values mode c (met mode env (expr_tree second))) error
+    → (p : Place) → IsRefusedBelow mode env (kind_tree p k) b error
+second_cause mode env b c shape k one other first second is same again meets counted error cause =
+    form_cause mode env (met mode env (expr_tree first) ++ met mode env (expr_tree second)) b (λ q. shape q (expr_tree first) (expr_tree second)) k
+    (λ q. is q ∙ ap (λ x. shape q (expr_tree x) (expr_tree other)) (sym same) ∙ ap (λ x. shape q (expr_tree first) (expr_tree x)) (sym again))
+    (λ q. meets q (expr_tree first) (expr_tree second)) error
+    (cause_then mode b c (met mode env (expr_tree first)) (met mode env (expr_tree second)) error counted cause)
+
 -- ---- which nodes each form meets
 
 pub meets_number : (mode : Mode) (env : Env) (p : Place) (n : _) → Meets mode env (number p n) []
 unfolding met all_but_first numbers_at
 meets_number mode env p n = record { plain = record { first = refl; own = refl }; parts = refl }
+
+pub meets_named : (mode : Mode) (env : Env) (p : Place) (name : _) → Meets mode env (named p name) []
+unfolding met all_but_first numbers_at
+meets_named mode env p name = record { plain = record { first = refl; own = refl }; parts = refl }
 
 pub meets_truth : (mode : Mode) (env : Env) (p : Place) (b : _) → Meets mode env (truth p b) []
 unfolding met all_but_first numbers_at
@@ -84,6 +129,10 @@ meets_to_int mode env p e = record { plain = record { first = refl; own = refl }
 pub meets_negation : (mode : Mode) (env : Env) (p : Place) (e : ExprTree) → Meets mode env (negation p e) (met mode env e)
 unfolding met all_but_first numbers_at
 meets_negation mode env p e = record { plain = record { first = refl; own = refl }; parts = refl }
+
+pub meets_compare : (mode : Mode) (env : Env) (op : CompareOp) (p : Place) (e f : ExprTree) → Meets mode env (compare p op e f) (met mode env e ++ met mode env f)
+unfolding met all_but_first numbers_at
+meets_compare mode env op p e f = record { plain = record { first = refl; own = refl }; parts = refl }
 
 -- an expression meets a node
 pub meets_some : (mode : Mode) (env : Env) (e : ExprTree) → 1 ≤ length (met mode env e)

@@ -1,5 +1,7 @@
 -- Where an expression is evaluated, as the definitions' environment.
+use Rattle.std.specs.Prelude.{ℤ, Option, Some, None}
 use Rattle.ep_tree.specs.Environments.{Env, with_number}
+use Rattle.ep_tree.specs.Values.{ValueTree, single}
 use Rattle.ep_tree.specs.declared.values.Mode.{Mode}
 use Rattle.ep_eval.specs.Known.{env_of}
 use Rattle.ep_eval.specs.declared.scopes.Around.{Around, Nothing, Number'}
@@ -17,3 +19,8 @@ env_in scope = with_all (env_of scope.env.now) scope.around.now
 -- the mode of a scope
 abbrev pub mode_in : Scope → Mode
 mode_in scope = scope.env.now.mode
+
+-- the number of a quantified name, and else what the name is worth without it
+unfoldable pub number_or : Option ℤ → Option ValueTree → Option ValueTree
+number_or None v = v
+number_or (Some n) v = Some (single n)

@@ -17,9 +17,9 @@ ghost use Rattle.ep_eval.specs.declared.errors.EvalError.TheVariants as error;
 ghost use Rattle.ep_base.specs.declared.operators.Limit.TheVariants as limit;
 
 use super::errors::EvalError;
-use super::forms::negation;
+use super::forms::{comparison, negation};
 use super::held::{Held, held_truth, number_of};
-use super::scopes::Scope;
+use super::scopes::{Scope, look_up};
 use ep_base::Limit;
 use ep_tree::{Expr, Kind};
 
@@ -103,6 +103,7 @@ fn kind_value<'a>(
     match kind {
         Kind::Number(number) => Ok(Some(Held::Number(*number))),
         Kind::Truth(truth) => Ok(held_truth(*truth)),
+        Kind::Named(name) => Ok(look_up(scope, name)),
         Kind::Group(part) => {
             let seen = value_of(scope, met, part)?;
             Ok(seen)
@@ -114,6 +115,11 @@ fn kind_value<'a>(
         Kind::Not(part) => {
             let seen = value_of(scope, met, part)?;
             Ok(negation(scope.env.mode(), &seen))
+        }
+        Kind::Compare(op, left, right) => {
+            let first = value_of(scope, met, left)?;
+            let second = value_of(scope, met, right)?;
+            Ok(comparison(scope.env.mode(), *op, &first, &second))
         }
         _ => Err(EvalError::Memory),
     }

@@ -5,12 +5,17 @@ ghost use Rattle.ep_tree.specs.Evaluation as defined;
 ghost use Rattle.ep_tree.specs.Environments as names;
 ghost use Rattle.ep_tree.specs.Limits.{counted_domain, counted_value, limits_of_values};
 ghost use Rattle.ep_tree.specs.Measures.{met, met_domain};
-ghost use Rattle.ep_tree.specs.Views.{domain_tree, expr_tree};
+ghost use Rattle.ep_tree.specs.Views.{domain_tree, expr_tree, value_tree};
 ghost use Rattle.ep_eval.specs.Known.{env_of};
+ghost use Rattle.ep_eval.specs.Helds.{held_value, seen_held};
 ghost use Rattle.ep_eval.specs.Outcomes.{IsCause, seen_value};
 
+use super::copies::copy_value;
 use super::environments::Env;
 use super::errors::EvalError;
+use super::evaluating::value_of;
+use super::held::Held;
+use super::scopes::{Around, Scope};
 use ep_base::{Memory, Runs};
 use ep_tree::{Domain, Expr, Scalar, Value, ValueType};
 use std::alloc::Global;
@@ -38,7 +43,7 @@ pub fn evaluate(alloc: Global, env: &Env, e: &Expr) -> Result<Seen, EvalError>
 
 /// The value of an expression behind others that met so many nodes, and how many are met by its end.
 pub fn evaluate_after(
-    _alloc: Global,
+    alloc: Global,
     env: &Env,
     before: u64,
     e: &Expr,
@@ -48,7 +53,42 @@ pub fn evaluate_after(
     ensures cause { IfErr result (IsCause (limits_of_values env.now.mode before
         (met env.now.mode (env_of env.now) (expr_tree e.now)))) }
 {
-    Err(EvalError::Memory)
+    let scope = Scope {
+        alloc,
+        env,
+        around: &Around::Nothing,
+    };
+    let mut met = before;
+    let seen = value_of(scope, &mut met, e)?;
+    let given = given(alloc, seen)?;
+    Ok((given, met))
+}
+
+/// A value for the caller: what is lent is copied.
+fn given_value(alloc: Global, held: Held) -> Result<Value, Memory>
+    ensures { IfOk result (λ value. value_tree value ≡ held_value held.entry) }
+{
+    match held {
+        Held::Number(number) => Ok(Value::Number(number)),
+        Held::Lent(value) => {
+            let copy = copy_value(alloc, value)?;
+            Ok(copy)
+        }
+        Held::Made(value) => Ok(value),
+    }
+}
+
+/// What was seen, for the caller.
+fn given(alloc: Global, seen: Option<Held>) -> Result<Seen, Memory>
+    ensures { IfOk result (λ given. seen_value given ≡ seen_held seen.entry) }
+{
+    match seen {
+        Some(held) => {
+            let value = given_value(alloc, held)?;
+            Ok(Seen::Value(value))
+        }
+        None => Ok(Seen::Undefined),
+    }
 }
 
 /// The numbers of a scalar domain, or None where it is undefined.

@@ -1,10 +1,12 @@
 //! The values of forms by the values of their parts.
 
 ghost use Rattle.std.specs.Prelude.{◌≡◌, Some, not, option_map};
-ghost use Rattle.ep_tree.specs.Evaluation.{number_in, truth_in, truth_of};
+ghost use Rattle.ep_base.specs.Numbers.{compare_holds};
+ghost use Rattle.ep_tree.specs.Evaluation.{map_both, number_in, truth_in, truth_of};
 ghost use Rattle.ep_eval.specs.Helds.{seen_held};
 
-use super::held::{Held, held_truth, truth_seen};
+use super::held::{Held, held_truth, number_of, truth_seen};
+use ep_base::CompareOp;
 use ep_tree::Mode;
 
 /// A Boolean's value, where one of its parts may have none.
@@ -26,6 +28,40 @@ pub fn negation<'a>(mode: Mode, seen: &Option<Held>) -> Option<Held<'a>>
 {
     match truth_seen(seen) {
         Some(truth) => truth_value(mode, Some(!truth)),
+        None => truth_value(mode, None),
+    }
+}
+
+/// Whether a comparison of two numbers holds.
+#[tactic(auto, unfolding(ep_base::specs::Numbers::compare_holds))]
+fn holds(op: CompareOp, left: i64, right: i64) -> bool
+    ensures { result ≡ compare_holds op left right }
+{
+    match op {
+        CompareOp::Equal => left == right,
+        CompareOp::NotEqual => left != right,
+        CompareOp::Less => left < right,
+        CompareOp::AtMost => left <= right,
+        CompareOp::Greater => left > right,
+        CompareOp::AtLeast => left >= right,
+    }
+}
+
+/// `x = y` and its like
+pub fn comparison<'a>(
+    mode: Mode,
+    op: CompareOp,
+    first: &Option<Held>,
+    second: &Option<Held>,
+) -> Option<Held<'a>>
+    ensures { seen_held result ≡ truth_in mode (map_both (compare_holds op)
+        (number_in (seen_held first.now)) (number_in (seen_held second.now))) }
+{
+    match number_of(first) {
+        Some(left) => match number_of(second) {
+            Some(right) => truth_value(mode, Some(holds(op, left, right))),
+            None => truth_value(mode, None),
+        },
         None => truth_value(mode, None),
     }
 }

@@ -9,6 +9,8 @@ mod evaluation;
 mod forms;
 mod held;
 mod scopes;
+#[cfg(test)]
+mod tests;
 
 pub use environments::{Env, NamedDomain};
 pub use errors::EvalError;

@@ -1,0 +1,12 @@
+use Rattle.std.proofs.Common.{ap, sym, ◌∙◌, Some}
+use Rattle.ep_eval.specs.Helds.{seen_held}
+use Rattle.ep_eval.specs.Outcomes.{seen_value}
+use Rattle.ep_eval.proofs.evaluation.given.Goals as goal
+
+pub returns-in_ok-value-in-Some : goal.returns-in_ok-value-in-Some
+unfolding seen_value
+returns-in_ok-value-in-Some c = ap Some c.in_ok-value-in-Some.ensures ∙ ap seen_held (sym c.in-Some.is)
+
+pub returns-in-None : goal.returns-in-None
+unfolding seen_value
+returns-in-None c = ap seen_held (sym c.in-None.is)

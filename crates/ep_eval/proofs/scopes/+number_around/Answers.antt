@@ -1,0 +1,30 @@
+use Rattle.std.proofs.Common.{ap, sym, ◌∙◌, Some, arith, w64}
+use Rattle.std.specs.Prelude.{if◌then◌else◌}
+use Rattle.std.proofs.lemmas.Int.{ints, to_z-of_z}
+use Rattle.ep_tree.specs.Environments.{has_value, value_bound, with_number}
+use Rattle.ep_tree.specs.Types.{of_scalar}
+use Rattle.ep_tree.specs.Values.{single}
+use Rattle.ep_eval.specs.Scopes.{number_or, with_all}
+use Rattle.ep_eval.proofs.scopes.+number_around.Goals as goal
+
+pub returns-in-Nothing : goal.returns-in-Nothing
+unfolding with_all number_or
+returns-in-Nothing t c env = ap (λ a. value_bound (with_all env a c.args.name.now)) c.in-Nothing.is
+
+pub returns-then-eq : goal.returns-then-eq
+unfolding with_all number_or with_number value_bound
+returns-then-eq t c env =
+    let name = c.args.name.now in
+    let rest = with_all env c.in-Number.outer.now in
+    ap (λ a. value_bound (with_all env a name)) c.in-Number.is
+    ∙ ap (λ b. value_bound (if b then Some (has_value (of_scalar c.in-Number.field-2) (single c.in-Number.number)) else rest name)) (sym c.eq.ensures ∙ c.if-eq.true)
+    ∙ ap (λ m. Some (single m)) (sym (to_z-of_z w64 c.in-Number.number (omega (arith, ints))))
+
+pub returns-else-eq : goal.returns-else-eq
+unfolding with_all with_number
+returns-else-eq t c env =
+    let name = c.args.name.now in
+    let rest = with_all env c.in-Number.outer.now in
+    ap (λ a. value_bound (with_all env a name)) c.in-Number.is
+    ∙ ap (λ b. value_bound (if b then Some (has_value (of_scalar c.in-Number.field-2) (single c.in-Number.number)) else rest name)) (sym c.eq.ensures ∙ c.if-eq.false)
+    ∙ c.number_around.ensures env

@@ -1,0 +1,20 @@
+use Rattle.std.proofs.Common.{ap, sym, ◌∙◌}
+use Rattle.std.specs.Prelude.{option_map}
+use Rattle.ep_tree.specs.Environments.{value_bound}
+use Rattle.ep_eval.specs.Bounds.{entry_bound}
+use Rattle.ep_eval.specs.Helds.{held_value}
+use Rattle.ep_eval.specs.Known.{env_of}
+use Rattle.ep_eval.proofs.Looking.{only_value-value}
+use Rattle.ep_eval.proofs.scopes.value_named.Goals as goal
+
+pub returns-in-Some : goal.returns-in-Some
+unfolding held_value value_bound
+returns-in-Some c =
+    let b = env_of c.args.env.now c.args.name.now in
+    ap (λ r. value_bound (option_map (λ e. entry_bound e.now) r)) (sym c.in-Some.is) ∙ ap value_bound c.entry.ensures ∙ only_value-value b
+
+pub returns-in-None : goal.returns-in-None
+unfolding value_bound
+returns-in-None c =
+    let b = env_of c.args.env.now c.args.name.now in
+    ap (λ r. value_bound (option_map (λ e. entry_bound e.now) r)) (sym c.in-None.is) ∙ ap value_bound c.entry.ensures ∙ only_value-value b
