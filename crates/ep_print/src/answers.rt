@@ -115,7 +115,7 @@ fn push_unknown(text: &mut Vec<u8>, conflicts: u64) -> Result<(), AllocError>
 }
 
 /// A line for each value.
-fn push_lettings(text: &mut Vec<u8>, entries: &[Entry]) -> Result<(), AllocError>
+pub(crate) fn push_lettings(text: &mut Vec<u8>, entries: &[Entry]) -> Result<(), AllocError>
     ensures { OnOk result (text.new.items
         ≡ text.old.items ++ letting_texts (map named_value entries.now)) }
 {

@@ -6,6 +6,8 @@ mod indices;
 mod lines;
 mod numbers;
 mod refusals;
+#[cfg(test)]
+mod tests;
 mod texts;
 mod values;
 
