@@ -1,11 +1,11 @@
 -- What is known of small variables, what assignments give them, and how cells are named, as the checker computes it.
-use Rattle.std.proofs.Common.{◌≡◌, ℕ, ◌≤◌, ℤ, pos, negsuc, Bool, true, false, nat_le, List, [], ◌∷◌, refl}
+use Rattle.std.proofs.Common.{◌≡◌, pos, negsuc, true, false, nat_le, [], ◌∷◌, refl}
+use Rattle.std.specs.Fmt.{digits}
 use Rattle.std.specs.Prelude.{codes, map}
 use Rattle.ep_base.specs.Numbers.{has_number}
 use Rattle.ep_base.specs.Reads.{first_or_zero, same_bool}
 use Rattle.enc_var.specs.Entries.{Entry, among_first, decoded, eq_of, known_holds, le_of, literal_holds, no, note_of, place_literal, values_below, values_up_to, yes}
 use Rattle.enc_var.specs.Notes.{cell_text, indices_text, joined_numbers}
-use Rattle.enc_var.specs.declared.known.Known.{Known}
 use Rattle.enc_var.specs.declared.known.Known.TheVariants as known
 
 -- the values -1, 2, 3 and 5, over the variables from 7 on: 7 to 9 say "at least 2, 3, 5", and 10 and 11 "it is 2, 3"
@@ -38,5 +38,5 @@ decodings = refl
 
 names : cell_text (record { name = codes "x"; indices = []; truth = false; values = [] }) ∷ cell_text (record { name = codes "q"; indices = pos 1 ∷ negsuc 1 ∷ []; truth = false; values = [] }) ∷ []
     ≡ codes "x" ∷ codes "q[1,-2]" ∷ []
-unfolding cell_text indices_text joined_numbers
+unfolding cell_text indices_text joined_numbers digits
 names = refl
