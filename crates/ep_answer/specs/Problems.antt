@@ -9,6 +9,7 @@ use Rattle.ep_flat.specs.Flats.{MapState, MapsCells}
 use Rattle.ep_ground.specs.declared.cells.Cell.{Cell}
 use Rattle.enc_var.specs.Entries.{Entry, Means}
 use Rattle.enc_var.specs.Layouts.{GivesCells}
+use Rattle.enc_var.specs.Notes.{cell_notes}
 use Rattle.sat_search.specs.View.{SolverView}
 
 -- the literals of the flat variables, the cells, which variables stand for them, and the solver of the clauses
@@ -32,12 +33,13 @@ abbrev pub IsLeft : ProblemState → LogState → List ℤ → Option ℤ → Ty
 IsLeft p log cells goal = GivesCells p.layout p.variables (givens log.events) cells goal
 
 -- A search may begin: no earlier call wanted memory, the log has the problem's clauses as givens and nothing else, none of
--- them with a literal together with its negation, the solver has them too, the map names variables of the layout whose
+-- them with a literal together with its negation, and the notes of all cells, the solver has the clauses too, the map names variables of the layout whose
 -- domains are the cells' values, and under each assignment that satisfies the clauses the literals mean what they say.
 pub record CanSearch (p : ProblemState) (log : LogState) : Type 0 where
   pub is_whole : p.solver.broken ≡ false
   pub are_givens : All (λ e. is_given e ≡ true) log.events
   pub is_base : log.base ≡ length log.events
+  pub notes : log.notes ≡ cell_notes p.layout p.cells p.variables.cells
   pub consistent : All IsConsistent (clauses_of log.events)
   pub clauses : p.solver.clauses ≡ clauses_of log.events
   pub maps : MapsCells (map (λ one. one.values) p.cells) (map (λ e. e.domain) p.layout) p.variables

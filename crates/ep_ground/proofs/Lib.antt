@@ -1,2 +1,4 @@
 pub mod VectorsTerms
 pub mod VectorsGrounds
+pub mod SameNodes
+pub mod Taking

@@ -5,3 +5,4 @@ pub mod Bounds
 pub mod NodeViews
 pub mod ArenaSteps
 pub mod GroundViews
+pub mod ArenaInside

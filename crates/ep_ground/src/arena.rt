@@ -1,6 +1,6 @@
 //! The arena of shared nodes.
 
-ghost use Rattle.std.specs.Prelude.{◌≡◌, ◌-◌, ◌<◌, ◌^◌, ◌⊎◌, [], length, Some, IfOk, IfErr, OnOk, OnErr, slice_get};
+ghost use Rattle.std.specs.Prelude.{◌≡◌, ◌-◌, ◌<◌, ◌≤◌, ◌^◌, ◌⊎◌, [], length, Some, IfOk, IfErr, OnOk, OnErr, slice_get};
 ghost use Rattle.std.specs.List.{All, Contains};
 ghost use Rattle.ep_ground.specs.ArenaSteps.{Interned};
 ghost use Rattle.ep_ground.specs.Nodes.{parts_of};
@@ -11,6 +11,8 @@ use crate::nodes::Node;
 use crate::terms::Term;
 use indexmap::IndexSet;
 use std::alloc::{AllocFailed, Global};
+use std::error::Error;
+use std::fmt;
 use std::marker::Model;
 
 /// The greatest number of nodes in an arena.
@@ -24,6 +26,17 @@ pub enum InternError {
     /// An allocation was refused.
     Memory,
 }
+
+impl fmt::Display for InternError {
+    fn fmt<W: fmt::Write>(&self, f: &mut fmt::Formatter<W>) -> fmt::Result {
+        match self {
+            InternError::Full => write!(f, "too many terms"),
+            InternError::Memory => write!(f, "memory"),
+        }
+    }
+}
+
+impl Error for InternError {}
 
 impl From<AllocFailed<Node>> for InternError {
     ghost use Rattle.ep_ground.specs.declared.arena.InternError.{InternError};
@@ -44,14 +57,14 @@ pub struct Arena {
 impl Model for Arena {
     ghost use Rattle.std.specs.Prelude.{List};
     ghost use Rattle.ep_ground.specs.Nodes.{GroundNode};
-    ghost use Rattle.ep_ground.specs.NodeViews.{plain_nodes};
-    ghost use Rattle.ep_ground.specs.Terms.{IsArena};
 
     ghost Value = { List GroundNode };
 
-    ghost view = { λ arena. plain_nodes arena.nodes.keys };
+    ghost use Rattle.ep_ground.specs.ArenaInside.{IsArenaInside, nodes_of};
 
-    ghost invariant = { λ arena. IsArena (plain_nodes arena.nodes.keys) };
+    ghost view = { nodes_of };
+
+    ghost invariant = { IsArenaInside };
 }
 
 impl Arena {
@@ -76,9 +89,23 @@ impl Arena {
             → (length self.old ≡ 2 ^ 32 - 1) × (Contains self.old (plain_node node) → ⊥)) }
         ensures err { OnErr result (self.new ≡ self.old) }
     {
-        let _nodes = &self.nodes;
-        let _node = node;
-        Err(InternError::Memory)
+        if self.nodes.len() >= MOST_TERMS {
+            return self.known(&node);
+        }
+        let (place, _) = self.nodes.insert_full(node)?;
+        Ok(Term::new(place as u32))
+    }
+
+    /// The term of a node that is there.
+    fn known(&self, node: &Node) -> Result<Term, InternError>
+        ensures term { IfOk result (λ term. slice_get self.now term ≡ Some (plain_node node.now)) }
+        ensures full { IfErr result (λ error. Contains self.now (plain_node node.now) → ⊥) }
+        ensures room { length self.now ≤ 2 ^ 32 - 1 }
+    {
+        match self.nodes.get_index_of(node) {
+            Some(place) => Ok(Term::new(place as u32)),
+            None => Err(InternError::Full),
+        }
     }
 
     /// The node of a term.
@@ -93,6 +120,7 @@ impl Arena {
     /// How many nodes there are.
     pub fn len(&self) -> u64
         ensures value { result ≡ length self.now }
+        ensures fits { result < 2 ^ 32 }
         ensures arena { IsArena self.now }
     {
         self.nodes.len() as u64
