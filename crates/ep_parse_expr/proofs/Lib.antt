@@ -8,3 +8,4 @@ pub mod SoundOpened
 pub mod SoundReads
 pub mod SoundOperators
 pub mod Sound
+pub mod Again
