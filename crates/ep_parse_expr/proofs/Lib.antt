@@ -9,3 +9,4 @@ pub mod SoundReads
 pub mod SoundOperators
 pub mod Sound
 pub mod Again
+pub mod AgainChains
