@@ -10,3 +10,4 @@ pub mod SoundOperators
 pub mod Sound
 pub mod Again
 pub mod AgainChains
+pub mod AgainLevels
