@@ -11,3 +11,4 @@ pub mod Sound
 pub mod Again
 pub mod AgainChains
 pub mod AgainLevels
+pub mod AgainParts
