@@ -12,3 +12,4 @@ pub mod Again
 pub mod AgainChains
 pub mod AgainLevels
 pub mod AgainParts
+pub mod AgainJunctions
