@@ -13,3 +13,4 @@ pub mod AgainChains
 pub mod AgainLevels
 pub mod AgainParts
 pub mod AgainJunctions
+pub mod AgainSums
