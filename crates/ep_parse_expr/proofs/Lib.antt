@@ -8,3 +8,9 @@ pub mod SoundOpened
 pub mod SoundReads
 pub mod SoundOperators
 pub mod Sound
+pub mod Again
+pub mod AgainChains
+pub mod AgainLevels
+pub mod AgainParts
+pub mod AgainJunctions
+pub mod AgainSums

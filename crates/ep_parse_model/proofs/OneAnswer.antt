@@ -80,7 +80,7 @@ module _ (spells : TextTree → Phrase) where
       one tree other (lexemes_of text h.tokens) h.reads.spelled (subst (λ ts. spells other (lexemes_of text ts)) (sym (same_tokens text h.tokens k.tokens h.found k.found)) k.reads.spelled)
 
   found_not : (text : List ℕ) (tokens : List Token) (fault : TokenFault) → tokens_of text ≡ Ok tokens → HasTokenFault text fault → ⊥
-  found_not text tokens fault h k = let wrong : Ok {E = TokenFault} tokens ≡ Err fault = sym h ∙ k.found in cc
+  found_not text tokens fault h k = let wrong : ◌≡◌ {A = Result (List Token) TokenFault} (Ok tokens) (Err fault) = sym h ∙ k.found in cc
 
   same_token_fault : (text : List ℕ) (one other : TokenFault) → HasTokenFault text one → HasTokenFault text other → one ≡ other
   same_token_fault text one other h k = ap (λ r. or_one r) (sym h.found ∙ k.found)
