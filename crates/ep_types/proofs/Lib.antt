@@ -1,2 +1,3 @@
-pub mod Memory
+pub mod Said
 pub mod Sound
+pub mod NameSteps

@@ -15,7 +15,7 @@ use Rattle.ep_tree.specs.declared.syntax.BinaryOp.{BinaryOp}
 use Rattle.ep_tree.specs.declared.syntax.FoldOp.{FoldOp}
 use Rattle.ep_tree.specs.declared.syntax.QuantOp.{QuantOp}
 use Rattle.ep_tree.specs.declared.values.ValueType.{ValueType}
-use Rattle.ep_types.specs.Checking.{Checked, check, check_all, check_domain, check_domain_name, check_domains, check_end, check_generators, check_index, check_indices, check_name, check_ranges, check_branching, check_clause, check_clauses, check_declared, check_goal, check_groups, check_readings, check_stated, check_statement, check_terms, check_text, conclude, quantified_over, unless_fault, ◌>>=◌}
+use Rattle.ep_types.specs.Checking.{Checked, check, check_all, check_domain, check_domain_name, check_domains, check_end, check_generators, check_index, check_indices, check_name, check_ranges, check_branching, check_clause, check_value, check_clauses, check_declared, check_goal, check_groups, check_readings, check_stated, check_statement, check_terms, check_text, conclude, quantified_over, unless_fault, ◌>>=◌}
 
 -- what a check says is right of these faults: none stands, and something holds of what is checked; or the fault stands
 abbrev pub Sound : {A : Type 0} → List Fault → (A → Type 0) → Checked A → Type 0
@@ -280,7 +280,7 @@ unfolding quantified_name
 quantified_typed t = tt
 
 name_sound : (d : Bool) (p : Place) (name : Name) (m : Option Meaning) → HasType m → Sound (name_faults d p name m) (λ t. named_type m ≡ typed t) (check_name d p name m)
-unfolding name_faults named_type check_name unless
+unfolding name_faults named_type check_name check_value unless
 name_sound d p name None h = first_stands (unknown_name p name) []
 name_sound d p name (Some (a_domain t)) h = first_stands (ill_typed p) []
 name_sound d p name (Some (a_value None b)) h = absurd h

@@ -11,6 +11,8 @@ use Rattle.ep_tree.specs.Statements.{Group, StatementTree, TextTree, branching, 
 use Rattle.ep_tree.specs.Trees.{place_of, DomainTree, Domains, End, ExprTree, ExprTrees, Generators, IndexDomain, Indices, Ranges, Terms, absolute, all_different, all_of, any_of, at_least, at_most, binary, bool, chain, compare, comprehension, domain_and, end_at, every_and, factorial, flatten, folded, gcc, generator_and, group, group_domain, in_domain, in_set, index_and, int, lex, literal, matrix_domain, minus, named, named_domain, negation, no_domains, no_end, no_generators, no_indices, no_ranges, no_terms, no_trees, number, one_and, over, quantified, ranges, read, set_domain, span_and, table, term_and, to_int, tree_and, truth, unstated}
 use Rattle.ep_tree.specs.Types.{Context, Judged, Meaning, a_domain, a_value, are_lists, binary_type, both_scalars, folded_type, gives, has_dimensions, is_boolean, is_integer, is_matrix, list_type, matrix_type, mistyped, of_scalar, quantified_name, quantified_type, read_type, scalar_of, slice_count, typed, untyped}
 use Rattle.ep_tree.specs.declared.values.ValueType.{ValueType}
+use Rattle.ep_types.specs.Named.{fault_of}
+use Rattle.ep_types.specs.declared.errors.StaticError.{StaticError}
 
 -- what is checked, or the first fault
 abbrev pub Checked : Type 0 → Type 0
@@ -20,6 +22,11 @@ infixl 10 ◌>>=◌
 abbrev pub ◌>>=◌ : {A B : Type 0} → Checked A → (A → Checked B) → Checked B
 (Ok x) >>= next = next x
 (Err fault) >>= next = Err fault
+
+-- What a function returned, seen by view, is what checking says. Want of memory says nothing.
+abbrev pub Says : {X Y : Type 0} → (X → Y) → Result X StaticError → Checked Y → Type 0
+Says view (Ok x) check = check ≡ Ok (view x)
+Says view (Err e) check = (fault : Fault) → fault_of e ≡ Some fault → check ≡ Err fault
 
 -- the type of a node whose parts have types
 abbrev pub conclude : Place → Judged → Checked ValueType
@@ -32,13 +39,18 @@ abbrev pub unless_fault : Bool → Fault → Checked (Unit {0})
 unless_fault true fault = Ok tt
 unless_fault false fault = Err fault
 
+-- a value, which may be a decision variable's
+unfoldable pub check_value : Bool → Place → ValueType → Bool → Checked ValueType
+check_value decisions p t false = Ok t
+check_value true p t true = Ok t
+check_value false p t true = Err (wrong_category p)
+
 -- a name as an expression
 unfoldable pub check_name : Bool → Place → Name → Option Meaning → Checked ValueType
 check_name decisions p name None = Err (unknown_name p name)
 check_name decisions p name (Some (a_domain t)) = Err (ill_typed p)
 check_name decisions p name (Some (a_value None d)) = Err (ill_typed p)
-check_name decisions p name (Some (a_value (Some t) false)) = Ok t
-check_name decisions p name (Some (a_value (Some t) true)) = if decisions then Ok t else Err (wrong_category p)
+check_name decisions p name (Some (a_value (Some t) decision)) = check_value decisions p t decision
 
 -- a name as a domain
 unfoldable pub check_domain_name : Place → Name → Option Meaning → Checked ValueType

@@ -1,3 +1,4 @@
 pub mod Named
 pub mod Texts
 pub mod Checking
+pub mod Meanings

@@ -1,5 +1,7 @@
 -- What an error of checking says of a text.
 use Rattle.std.specs.Prelude.{◌≡◌, List, Some, None, Contains, Option}
+use Rattle.ep_base.specs.declared.names.Name.{Name}
+use Rattle.ep_base.specs.declared.places.Place.{Place}
 use Rattle.ep_tree.specs.Faults.{Fault, ill_typed, open_domain, redeclared, unknown_name, wrong_category}
 use Rattle.ep_types.specs.declared.errors.StaticError.{StaticError}
 use Rattle.ep_types.specs.declared.errors.StaticError.TheVariants.{IllTyped, Memory, OpenDomain, Redeclared, UnknownName, WrongCategory}
@@ -16,3 +18,7 @@ fault_of Memory = None
 -- an error may be answered where these faults stand: what it names is one of them
 abbrev pub IsNamed : List Fault → StaticError → Type 0
 IsNamed faults error = (fault : Fault) → fault_of error ≡ Some fault → Contains faults fault
+
+-- an error says that a name is unknown, or want of memory
+abbrev pub IsUnknown : Place → Name → StaticError → Type 0
+IsUnknown p name error = (fault : Fault) → fault_of error ≡ Some fault → unknown_name p name ≡ fault

@@ -3,6 +3,8 @@
 
 mod check;
 mod errors;
+mod names;
+mod rules;
 mod typed;
 
 pub use check::{check_model, check_params};

@@ -1,4 +1,4 @@
-use Rattle.ep_types.proofs.Memory.{memory_names_none}
+use Rattle.ep_types.proofs.Said.{memory_names_none}
 use Rattle.ep_types.proofs.check.check_model.Goals as goal
 
 pub returns-clause-named : goal.returns-clause-named

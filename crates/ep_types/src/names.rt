@@ -1,0 +1,139 @@
+//! What names stand for while a text is checked.
+
+ghost use Rattle.std.specs.Prelude.{◌≡◌, ◌++◌, ◌∷◌, [], OnOk, option_map};
+ghost use Rattle.ep_tree.specs.Types.{Context};
+ghost use Rattle.ep_types.specs.Checking.{Says, check_domain_name, check_name, check_value};
+ghost use Rattle.ep_types.specs.Meanings.{behind_names, context_of, meaning_of, or_else};
+ghost use Rattle.ep_types.specs.Named.{IsUnknown};
+
+use crate::errors::StaticError;
+use ep_base::{Name, Place};
+use ep_tree::ValueType;
+use indexmap::IndexMap;
+use std::alloc::Global;
+
+/// What a name stands for.
+#[derive(Clone, Copy, Debug, PartialEq, Eq)]
+pub(crate) enum Meaning {
+    /// A value of a type, and whether it is a decision variable's.
+    Value(ValueType, bool),
+    /// A domain whose values are of a type.
+    Domain(ValueType),
+}
+
+/// The names of the statements before, and those of the quantifiers and generators around, of which
+/// a later one hides an earlier one.
+#[derive(Drop)]
+pub(crate) struct Names<'a> {
+    pub(crate) alloc: Global,
+    pub(crate) declared: &'a IndexMap<&'a str, Meaning>,
+    pub(crate) inner: Vec<(&'a str, Meaning)>,
+}
+
+/// The last of some names that is this one.
+fn hidden_by(inner: &[(&str, Meaning)], name: &str) -> Option<Meaning>
+    ensures { (c : Context) → behind_names inner.now c name.now
+        ≡ or_else (option_map meaning_of result) (c name.now) }
+{
+    let mut left = inner.len();
+    while left > 0 {
+        left -= 1;
+        let (other, meaning) = inner[left];
+        if name == other {
+            return Some(meaning);
+        }
+    }
+    None
+}
+
+/// The type of a name, where it isn't a decision variable's, or such a one may stand.
+fn may_stand(
+    decisions: bool,
+    place: Place,
+    ty: ValueType,
+    decision: bool,
+) -> Result<ValueType, StaticError>
+    ensures { Says (λ t. t) result (check_value decisions place ty decision) }
+{
+    if !decision {
+        return Ok(ty);
+    }
+    if decisions {
+        return Ok(ty);
+    }
+    Err(StaticError::WrongCategory(place))
+}
+
+impl<'a> Names<'a> {
+    /// The names of statements alone.
+    pub(crate) fn new(alloc: Global, declared: &'a IndexMap<&'a str, Meaning>) -> Names<'a> {
+        Names {
+            alloc,
+            declared,
+            inner: Vec::new(alloc),
+        }
+    }
+
+    /// What a name stands for.
+    ///
+    /// Linear in the names of the quantifiers around.
+    fn find(&self, name: &str) -> Option<Meaning>
+        ensures { option_map meaning_of result ≡ context_of self.now name.now }
+    {
+        match hidden_by(&self.inner, name) {
+            Some(meaning) => Some(meaning),
+            None => self.declared.get(name).copied(),
+        }
+    }
+
+    /// The type of a name as an expression, where decision variables may stand or may not.
+    pub(crate) fn value_type(
+        &self,
+        decisions: bool,
+        place: Place,
+        name: &Name,
+    ) -> Result<ValueType, StaticError>
+        ensures { Says (λ t. t) result
+            (check_name decisions place name.now (context_of self.now name.now)) }
+    {
+        match self.find(name.text()) {
+            None => Err(self.unknown(place, name)),
+            Some(Meaning::Domain(_)) => Err(StaticError::IllTyped(place)),
+            Some(Meaning::Value(ty, decision)) => may_stand(decisions, place, ty, decision),
+        }
+    }
+
+    /// The type of a name as a domain.
+    pub(crate) fn domain_type(&self, place: Place, name: &Name) -> Result<ValueType, StaticError>
+        ensures { Says (λ t. t) result
+            (check_domain_name place name.now (context_of self.now name.now)) }
+    {
+        match self.find(name.text()) {
+            None => Err(self.unknown(place, name)),
+            Some(Meaning::Value(_, _)) => Err(StaticError::IllTyped(place)),
+            Some(Meaning::Domain(ty)) => Ok(ty),
+        }
+    }
+
+    /// The error of a name that isn't declared.
+    #[tactic(auto, unfolding(crate::specs::Named::fault_of))]
+    fn unknown(&self, place: Place, name: &Name) -> StaticError
+        ensures { IsUnknown place name.now result }
+    {
+        match Name::new(self.alloc, name.text()) {
+            Ok(name) => StaticError::UnknownName(place, name),
+            Err(_) => StaticError::Memory,
+        }
+    }
+
+    /// A name stands for something new, until it is shown again.
+    pub(crate) fn hide(&mut self, name: &'a Name, meaning: Meaning) -> Result<(), StaticError> {
+        self.inner.push((name.text(), meaning))?;
+        Ok(())
+    }
+
+    /// The names that were hidden since there were so many stand for what they did.
+    pub(crate) fn show(&mut self, depth: usize) {
+        self.inner.truncate(depth);
+    }
+}
