@@ -10,6 +10,7 @@ const FIRST_STEP: u64 = 1 << 20;
 
 /// Where weights are over this, all are divided by 2 to the power of [`SHIFT`].
 const MOST_STEP: u64 = 1 << 58;
+
 const SHIFT: u32 = 40;
 
 /// More levels than a heap in memory has.

@@ -53,13 +53,7 @@ pub fn first_open(assigned: &Values, lits: &[Lit], skipped: usize) -> Option<Lit
 }
 
 // The first place from one on, before another, of a literal that isn't this one and isn't false.
-fn open_place(
-    assigned: &Values,
-    lits: &[Lit],
-    lit: Lit,
-    from: usize,
-    to: usize,
-) -> Option<usize>
+fn open_place(assigned: &Values, lits: &[Lit], lit: Lit, from: usize, to: usize) -> Option<usize>
     requires { to ≤ length lits.now }
     ensures there { IfSome result (λ place. place < length lits.now) }
     ensures other { IfSome result (λ place. lit_at lits.now place ≢ lit) }

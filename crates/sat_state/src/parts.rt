@@ -10,8 +10,8 @@ ghost use Rattle.sat_state.specs.View.{AreTwoOf, IsGuarded};
 ghost use Rattle.sat_state.specs.Guards.{ArePartners};
 ghost use Rattle.sat_state.specs.Joined.{AreJoined, GoesOn, IsAllSeen, IsWalking};
 
-use crate::values::Values;
 use crate::clauses::{Clauses, first_open};
+use crate::values::Values;
 use crate::watches::Watches;
 use cnf_core::Lit;
 use ep_base::Memory;
