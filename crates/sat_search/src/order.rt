@@ -1,141 +1,188 @@
-//! Which variable is decided next, and with which value: first those that conflicts named last, each with the value that it had
-//! last (Biere and Fröhlich 2015). The choice is free, so nothing is promised of it.
+//! Which variable is decided next, and with which value: those that conflicts met most, of late above all, each with the value that
+//! it had last (the order of MiniSat, in whole numbers). The choice is free, so nothing is promised of it.
 
 use cnf_core::Lit;
 use ep_base::Memory;
 use std::alloc::Global;
 
-/// What is kept of a variable: its neighbours in the queue, when a conflict named it last, and the value that it had last.
-#[derive(Clone, Copy, Debug)]
-struct Link {
-    after: u64,
-    before: u64,
-    named: u64,
-    phase: bool,
-}
+/// The weight of the first conflict.
+const FIRST_STEP: u64 = 1 << 20;
 
-const UNLINKED: Link = Link {
-    after: 0,
-    before: 0,
-    named: 0,
-    phase: false,
-};
+/// Where weights are over this, all are divided by 2 to the power of [`SHIFT`].
+const MOST_STEP: u64 = 1 << 58;
 
-/// A queue of the variables as a ring, in which 0 stands before the first and after the last. Those before the place at which
-/// the search looks have values.
+const SHIFT: u32 = 40;
+
+/// More levels than a heap in memory has.
+const LEVELS: u32 = 64;
+
+/// The variables in a heap by their scores, the greatest first: a conflict adds its weight to the scores of the variables that it
+/// met, and the weights grow. A variable that isn't in the heap has a value.
 #[derive(Drop)]
 pub struct Order {
-    links: Vec<Link>,
-    batch: Vec<(u64, u64)>,
-    place: u64,
-    time: u64,
+    scores: Vec<u64>,
+    phases: Vec<bool>,
+    // One more than the place of each variable in the heap, or 0.
+    places: Vec<usize>,
+    heap: Vec<u64>,
+    step: u64,
 }
 
 impl Order {
     /// An order of no variables.
     pub fn new(alloc: Global) -> Order {
         Order {
-            links: Vec::new(alloc),
-            batch: Vec::new(alloc),
-            place: 0,
-            time: 0,
+            scores: Vec::new(alloc),
+            phases: Vec::new(alloc),
+            places: Vec::new(alloc),
+            heap: Vec::new(alloc),
+            step: FIRST_STEP,
         }
     }
 
-    /// Brings the variables up to this number in, the new ones first, and looks at the first.
+    /// Brings all variables up to this number in.
     pub fn grow(&mut self, vars: u64) -> Result<(), Memory> {
-        let known = self.links.len() as u64;
-        let wanted = vars.checked_add(1).ok_or(Memory)?;
-        if known < wanted {
-            self.links.resize(wanted as usize, UNLINKED)?;
+        let wanted = vars.checked_add(1).ok_or(Memory)? as usize;
+        if self.scores.len() < wanted {
+            self.scores.resize(wanted, 0)?;
+            self.phases.resize(wanted, true)?;
+            self.places.resize(wanted, 0)?;
+            self.heap.reserve(wanted.saturating_sub(self.heap.len()))?;
         }
-        for var in (known.max(1)..wanted).rev() {
-            self.link_first(var);
+        for var in 1..wanted {
+            if self.heap.len() < wanted {
+                self.insert(var as u64)?;
+            }
         }
-        self.place = self.link(0).after;
         Ok(())
     }
 
-    /// The variable at which the search looks, or 0 behind the last.
+    /// The variable of the greatest score in the heap, or 0 where it is empty.
     pub fn place(&self) -> u64 {
-        self.place
+        self.at(0)
     }
 
-    /// Looks at the next variable.
+    /// Takes the variable of the greatest score out of the heap.
     pub fn advance(&mut self) {
-        self.place = self.link(self.place).after;
-    }
-
-    /// The value that a variable had last.
-    pub fn phase(&self, var: u64) -> bool {
-        self.link(var).phase
-    }
-
-    // What is kept of a variable.
-    fn link(&self, var: u64) -> Link {
-        self.links.get(var as usize).copied().unwrap_or(UNLINKED)
-    }
-
-    // Says which variables come after and before another.
-    fn join(&mut self, before: u64, after: u64) {
-        if let Some(link) = self.links.get_mut(before as usize) {
-            link.after = after;
+        let first = self.at(0);
+        if let Some(place) = self.places.get_mut(first as usize) {
+            *place = 0;
         }
-        if let Some(link) = self.links.get_mut(after as usize) {
-            link.before = before;
-        }
-    }
-
-    // Links a variable in as the first, named now.
-    fn link_first(&mut self, var: u64) {
-        let first = self.link(0).after;
-        self.join(var, first);
-        self.join(0, var);
-        self.time = self.time.wrapping_add(1);
-        if let Some(link) = self.links.get_mut(var as usize) {
-            link.named = self.time;
-        }
-    }
-
-    // Takes a variable that has a value out of the ring, and links it in as the first.
-    fn bring_forward(&mut self, var: u64) {
-        let Link { after, before, .. } = self.link(var);
-        if self.place == var {
-            self.place = after;
-        }
-        self.join(before, after);
-        self.link_first(var);
-    }
-
-    /// Brings variables that have values forward, in the order in which they were named before.
-    pub fn name(&mut self, vars: &[u64]) -> Result<(), Memory> {
-        self.batch.clear();
-        for var in vars {
-            let named = self.link(*var).named;
-            self.batch.push((named, *var))?;
-        }
-        self.batch.sort_unstable();
-        self.bring_batch();
-        Ok(())
-    }
-
-    // Brings the variables of the batch forward, in its order.
-    fn bring_batch(&mut self) {
-        for place in 0..self.batch.len() {
-            if let Some((_named, var)) = self.batch.get(place).copied() {
-                self.bring_forward(var);
+        if let Some(last) = self.heap.pop() {
+            if last != first {
+                self.sink(last);
             }
         }
     }
 
-    /// Keeps the value of a literal that is about to be taken back, and looks at its variable if it stands before the place.
+    /// The value that a variable had last.
+    pub fn phase(&self, var: u64) -> bool {
+        self.phases.get(var as usize).copied().unwrap_or(true)
+    }
+
+    fn score(&self, var: u64) -> u64 {
+        self.scores.get(var as usize).copied().unwrap_or(0)
+    }
+
+    // The variable at a place of the heap, or 0.
+    fn at(&self, place: usize) -> u64 {
+        self.heap.get(place).copied().unwrap_or(0)
+    }
+
+    fn put(&mut self, place: usize, var: u64) {
+        if let Some(there) = self.heap.get_mut(place) {
+            *there = var;
+        }
+        if let Some(kept) = self.places.get_mut(var as usize) {
+            *kept = place.saturating_add(1);
+        }
+    }
+
+    // Puts a variable to this place, or above it.
+    fn rise(&mut self, place: usize, var: u64) {
+        let score = self.score(var);
+        let mut place = place;
+        for _ in 0..LEVELS {
+            let above = place.saturating_sub(1) / 2;
+            let parent = self.at(above);
+            if place == 0 || self.score(parent) >= score {
+                break;
+            }
+            self.put(place, parent);
+            place = above;
+        }
+        self.put(place, var);
+    }
+
+    // Puts a variable to the first place, or below it.
+    fn sink(&mut self, var: u64) {
+        let score = self.score(var);
+        let mut place: usize = 0;
+        for _ in 0..LEVELS {
+            let left = place.saturating_mul(2).saturating_add(1);
+            let right = left.saturating_add(1);
+            let below = if self.score(self.at(right)) > self.score(self.at(left)) {
+                right
+            } else {
+                left
+            };
+            let child = self.at(below);
+            if child == 0 || score >= self.score(child) {
+                break;
+            }
+            self.put(place, child);
+            place = below;
+        }
+        self.put(place, var);
+    }
+
+    // Brings a variable into the heap, unless it is there.
+    fn insert(&mut self, var: u64) -> Result<(), Memory> {
+        if self.places.get(var as usize).copied().unwrap_or(1) == 0 {
+            self.heap.push(var)?;
+            let place = self.heap.len().saturating_sub(1);
+            self.rise(place, var);
+        }
+        Ok(())
+    }
+
+    /// Raises the scores of the variables that a conflict met.
+    pub fn name(&mut self, vars: &[u64]) -> Result<(), Memory> {
+        for var in vars {
+            self.raise(*var);
+        }
+        self.step = self.step.saturating_add(self.step / 19);
+        if self.step > MOST_STEP {
+            self.shrink();
+        }
+        Ok(())
+    }
+
+    fn raise(&mut self, var: u64) {
+        let step = self.step;
+        if let Some(score) = self.scores.get_mut(var as usize) {
+            *score = score.saturating_add(step);
+        }
+        let place = self.places.get(var as usize).copied().unwrap_or(0);
+        if place > 0 {
+            self.rise(place.saturating_sub(1), var);
+        }
+    }
+
+    fn shrink(&mut self) {
+        for score in self.scores.iter_mut() {
+            *score >>= SHIFT;
+        }
+        self.step = (self.step >> SHIFT).max(1);
+    }
+
+    /// Keeps the value of a literal that is about to be taken back, and brings its variable into the heap.
     pub fn release(&mut self, lit: Lit) {
         let var = lit.var();
-        if let Some(link) = self.links.get_mut(var as usize) {
-            link.phase = lit.positive();
+        if let Some(phase) = self.phases.get_mut(var as usize) {
+            *phase = lit.positive();
         }
-        if self.link(var).named > self.link(self.place).named {
-            self.place = var;
-        }
+        // There is room for each variable.
+        let _ = self.insert(var);
     }
 }

@@ -10,7 +10,8 @@ use Rattle.sat_state.specs.Trail.{Entry, literals, level_of, next_level, value_o
 use Rattle.sat_state.specs.Stored.{Stored, clause_at}
 use Rattle.sat_state.specs.Assigned.{Assigned}
 use Rattle.sat_state.specs.Watching.{no_lit, lit_at, IsNext}
-use Rattle.sat_state.specs.Guards.{is_false, IsPair, ArePartners}
+use Rattle.sat_state.specs.View.{IsGuarded}
+use Rattle.sat_state.specs.Guards.{is_false, IsTrueBy, IsPair, ArePartners}
 use Rattle.sat_state.specs.Joined.{AreJoined, GoesOn, IsAllSeen, IsWalking, some_entry}
 use Rattle.sat_state.specs.declared.parts.Parts.{Parts}
 use Rattle.sat_state.proofs.Literals.{Contains-from_among}
@@ -406,3 +407,54 @@ module _ (old : Parts) (j : AreJoined old) (w : IsWalking old) (e : ℕ) (next :
 
 pub first_is : (waiting : List ℕ) (e : ℕ) → waiting ≡ e ∷ drop 1 waiting → get_or waiting 0 0 ≡ e
 first_is waiting e is = ap (λ (ws : List ℕ). get_or ws 0 0) is
+
+-- ---- what a clause watches
+
+module _ (p : Parts) (j : AreJoined p) (n : ℕ) (there : n < length p.clauses.lists) (lg : 2 ≤ length (clause_at p.clauses.lists n)) where
+  first_place : (2 * n) / 2 ≡ n
+  first_place = omega arith
+
+  second_place : (2 * n + 1) / 2 ≡ n
+  second_place = omega arith
+
+  sides : ArePartners (2 * n) (2 * n + 1)
+  sides = record { clause = omega (arith, first_place, second_place); apart = λ same. absurd (omega (arith, same)) }
+
+  first_long : 2 ≤ length (clause_at p.clauses.lists ((2 * n) / 2))
+  first_long = subst (λ (k : ℕ). 2 ≤ length (clause_at p.clauses.lists k)) (sym first_place) lg
+
+  second_long : 2 ≤ length (clause_at p.clauses.lists ((2 * n + 1) / 2))
+  second_long = subst (λ (k : ℕ). 2 ≤ length (clause_at p.clauses.lists k)) (sym second_place) lg
+
+  pub pair_there : 2 * n + 1 < length p.watches.lits
+  pair_there = omega (arith, j.watched.entries, there)
+
+  pub first_pair : IsPair (clause_at p.clauses.lists n) (lit_at p.watches.lits (2 * n)) (lit_at p.watches.lits (2 * n + 1))
+  first_pair =
+      subst (λ (k : ℕ). IsPair (clause_at p.clauses.lists k) (lit_at p.watches.lits (2 * n)) (lit_at p.watches.lits (2 * n + 1))) first_place
+      (j.watched.pairs (2 * n) (2 * n + 1) sides (omega (arith, pair_there)) first_long)
+
+  pub second_pair : IsPair (clause_at p.clauses.lists n) (lit_at p.watches.lits (2 * n + 1)) (lit_at p.watches.lits (2 * n))
+  second_pair =
+      subst (λ (k : ℕ). IsPair (clause_at p.clauses.lists k) (lit_at p.watches.lits (2 * n + 1)) (lit_at p.watches.lits (2 * n))) second_place
+      (j.watched.pairs (2 * n + 1) (2 * n) (turned (2 * n) (2 * n + 1) sides) pair_there second_long)
+
+  pub first_var : 1 ≤ (lit_at p.watches.lits (2 * n)).var
+  first_var = var_some p j n (lit_at p.watches.lits (2 * n)) there first_pair.in_clause
+
+  pub second_var : 1 ≤ (lit_at p.watches.lits (2 * n + 1)).var
+  second_var = var_some p j n (lit_at p.watches.lits (2 * n + 1)) there second_pair.in_clause
+
+  pub first_guard : IsAllSeen p → IsGuarded p.assigned.trail (lit_at p.watches.lits (2 * n)) (lit_at p.watches.lits (2 * n + 1))
+  first_guard seen =
+      let a = lit_at p.watches.lits (2 * n) in
+      let b = lit_at p.watches.lits (2 * n + 1) in
+      subst (All (λ (e : Entry). e.literal ≡ negation a → IsTrueBy p.assigned.trail b e.level)) (take_all p.queue.head p.assigned.trail (omega (arith, seen.head)))
+      (j.watched.guarded (2 * n) (2 * n + 1) sides (omega (arith, first_place, seen.checked, there)) first_long)
+
+  pub second_guard : IsAllSeen p → IsGuarded p.assigned.trail (lit_at p.watches.lits (2 * n + 1)) (lit_at p.watches.lits (2 * n))
+  second_guard seen =
+      let a = lit_at p.watches.lits (2 * n + 1) in
+      let b = lit_at p.watches.lits (2 * n) in
+      subst (All (λ (e : Entry). e.literal ≡ negation a → IsTrueBy p.assigned.trail b e.level)) (take_all p.queue.head p.assigned.trail (omega (arith, seen.head)))
+      (j.watched.guarded (2 * n + 1) (2 * n) (turned (2 * n) (2 * n + 1) sides) (omega (arith, second_place, seen.checked, there)) second_long)

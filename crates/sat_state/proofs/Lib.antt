@@ -9,6 +9,7 @@ pub mod Chains
 pub mod Linked
 pub mod Watched
 pub mod Walked
+pub mod Truths
 pub mod Guarded
 pub mod Going
 pub mod Entries

@@ -5,6 +5,7 @@ pub mod AssignmentInside
 pub mod Chains
 pub mod Watching
 pub mod WatchesInside
+pub mod ValuesInside
 pub mod Stored
 pub mod StoredInside
 pub mod Guards

@@ -74,17 +74,6 @@ impl Assignment {
         })
     }
 
-    /// Forgets all variables and takes all literals back.
-    pub fn clear(&mut self)
-        ensures vars { self.new.vars ≡ 0 }
-        ensures trail { self.new.trail ≡ [] }
-    {
-        self.slots.truncate(1);
-        self.slots[0] = None;
-        self.trail.clear();
-        self.level = 0;
-    }
-
     /// Makes the variables up to this number known.
     pub fn grow(&mut self, vars: u64) -> Result<(), Memory>
         ensures vars { OnOk result (self.new.vars ≡ max self.old.vars vars) }
@@ -111,14 +100,6 @@ impl Assignment {
         } else {
             None
         }
-    }
-
-    /// Whether a literal is true.
-    pub fn is_true(&self, lit: Lit) -> bool
-        ensures { result ≡ is_among (literals self.now.trail) lit }
-    {
-        let _trail = &self.trail;
-        self.value(lit.var()) == Some(lit.positive())
     }
 
     /// How many decisions there are.

@@ -8,7 +8,7 @@ ghost use Rattle.sat_state.specs.Stored.{Stored, clause_at};
 ghost use Rattle.sat_state.specs.Watching.{lit_at};
 ghost use Rattle.sat_state.specs.Guards.{is_false};
 
-use crate::assignment::Assignment;
+use crate::values::Values;
 use crate::watches::code;
 use cnf_core::{Clause, Lit};
 use ep_base::Memory;
@@ -35,7 +35,7 @@ impl Model for Clauses {
 }
 
 /// A literal of these, of another code than this one, that isn't false.
-pub fn first_open(assigned: &Assignment, lits: &[Lit], skipped: usize) -> Option<Lit>
+pub fn first_open(assigned: &Values, lits: &[Lit], skipped: usize) -> Option<Lit>
     ensures in_clause { IfSome result (λ l. Contains lits.now l) }
     ensures other { IfSome result (λ l. code_of l ≢ skipped) }
     ensures open { IfSome result (λ l. is_false (literals assigned.now.trail) l ≡ false) }
@@ -53,13 +53,7 @@ pub fn first_open(assigned: &Assignment, lits: &[Lit], skipped: usize) -> Option
 }
 
 // The first place from one on, before another, of a literal that isn't this one and isn't false.
-fn open_place(
-    assigned: &Assignment,
-    lits: &[Lit],
-    lit: Lit,
-    from: usize,
-    to: usize,
-) -> Option<usize>
+fn open_place(assigned: &Values, lits: &[Lit], lit: Lit, from: usize, to: usize) -> Option<usize>
     requires { to ≤ length lits.now }
     ensures there { IfSome result (λ place. place < length lits.now) }
     ensures other { IfSome result (λ place. lit_at lits.now place ≢ lit) }
@@ -80,7 +74,7 @@ fn open_place(
 }
 
 // The same of all places, from one on and then from the first.
-fn open_place_from(assigned: &Assignment, lits: &[Lit], lit: Lit, begin: usize) -> Option<usize>
+fn open_place_from(assigned: &Values, lits: &[Lit], lit: Lit, begin: usize) -> Option<usize>
     requires { begin ≤ length lits.now }
     ensures there { IfSome result (λ place. place < length lits.now) }
     ensures other { IfSome result (λ place. lit_at lits.now place ≢ lit) }
@@ -140,7 +134,7 @@ impl Clauses {
     }
 
     /// A literal of a clause that isn't this one and isn't false.
-    pub fn other_open(&mut self, assigned: &Assignment, number: usize, lit: Lit) -> Option<Lit>
+    pub fn other_open(&mut self, assigned: &Values, number: usize, lit: Lit) -> Option<Lit>
         requires { number < length self.old.lists }
         ensures clauses { self.new.lists ≡ self.old.lists }
         ensures in_clause { IfSome result (λ l. Contains (clause_at self.old.lists number) l) }

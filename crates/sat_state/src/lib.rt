@@ -6,6 +6,7 @@ mod assignment;
 mod clauses;
 mod parts;
 mod state;
+mod values;
 mod watches;
 
 pub use state::{Propagated, State};

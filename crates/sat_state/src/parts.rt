@@ -6,11 +6,12 @@ ghost use Rattle.cnf_core.specs.Steps.{IsAtEnd, HasTrueLiteral, HasTwoNotFalse};
 ghost use Rattle.sat_state.specs.Trail.{literals, value_of, next_level, level_of, HasReason, IsFalsified, NamesFalsified, Gives, IsOpenBelow};
 ghost use Rattle.sat_state.specs.Stored.{clause_at};
 ghost use Rattle.sat_state.specs.Watching.{IsNext};
+ghost use Rattle.sat_state.specs.View.{AreTwoOf, IsGuarded};
 ghost use Rattle.sat_state.specs.Guards.{ArePartners};
 ghost use Rattle.sat_state.specs.Joined.{AreJoined, GoesOn, IsAllSeen, IsWalking};
 
-use crate::assignment::Assignment;
 use crate::clauses::{Clauses, first_open};
+use crate::values::Values;
 use crate::watches::Watches;
 use cnf_core::Lit;
 use ep_base::Memory;
@@ -28,7 +29,7 @@ pub struct Queue {
 pub struct Parts {
     pub clauses: Clauses,
     pub watches: Watches,
-    pub assigned: Assignment,
+    pub assigned: Values,
     pub queue: Queue,
 }
 
@@ -52,7 +53,7 @@ impl Parts {
         Ok(Parts {
             clauses: Clauses::new(alloc),
             watches,
-            assigned: Assignment::new(alloc)?,
+            assigned: Values::new(alloc)?,
             queue: Queue {
                 checked: 0,
                 head: 0,
@@ -229,6 +230,23 @@ impl Parts {
             return;
         }
         self.propagate();
+    }
+
+    /// The two literals that a clause watches, or none where it has fewer than two.
+    pub fn watched(&self, number: usize) -> Option<(Lit, Lit)>
+        requires joined { AreJoined self.now }
+        requires there { number < length self.now.clauses.lists }
+        ensures none { IsNone result → length (clause_at self.now.clauses.lists number) < 2 }
+        ensures short { length (clause_at self.now.clauses.lists number) < 2 → IsNone result }
+        ensures two { IfSome result (λ pair. AreTwoOf (clause_at self.now.clauses.lists number) pair.0 pair.1) }
+        ensures one { IsAllSeen self.now → IfSome result (λ pair. IsGuarded self.now.assigned.trail pair.0 pair.1) }
+        ensures other { IsAllSeen self.now → IfSome result (λ pair. IsGuarded self.now.assigned.trail pair.1 pair.0) }
+    {
+        let lits = self.clauses.clause(number).lits();
+        if lits.len() < 2 {
+            return None;
+        }
+        Some(self.watches.of_clause(number))
     }
 
     /// Makes a literal true without a reason, which opens a level.

@@ -1,11 +1,11 @@
 //! The state of a search: clauses, and the literals that are true by decision or by a clause.
 
-ghost use Rattle.std.specs.Prelude.{◌≡◌, ◌≢◌, ℕ, ◌+◌, ◌<◌, ◌≤◌, ◌⊎◌, [], ◌∷◌, ◌++◌, length, take, drop, Bool, All, AllPairs, None, Some, IfOk, OnOk, OnErr, IsSome, filter, nat_le, slice_index_or};
+ghost use Rattle.std.specs.Prelude.{◌≡◌, ◌≢◌, ℕ, ◌+◌, ◌<◌, ◌≤◌, ◌⊎◌, [], ◌∷◌, ◌++◌, length, take, drop, Bool, All, AllPairs, None, Some, IfOk, OnOk, OnErr, IsSome, IsNone, IfSome, ◌↔◌, true, filter, nat_le, slice_index_or};
 ghost use Rattle.std.specs.Option.{option_map};
 ghost use Rattle.cnf_core.specs.Literal.{Literal, VariablesUpTo};
 ghost use Rattle.cnf_core.specs.Steps.{IsLastOf};
 ghost use Rattle.sat_state.specs.Trail.{literals, value_of, level_of, entry_of, IsFalsified, NamesFalsified, IsGrounded, IsForcedAt, IsOpenBelow, FollowsFromDecisions};
-ghost use Rattle.sat_state.specs.View.{StateView, IsPropagated, BringsIn};
+ghost use Rattle.sat_state.specs.View.{StateView, IsPropagated, BringsIn, AreTwoOf, IsGuarded};
 
 use crate::parts::Parts;
 use cnf_core::{Clause, Lit};
@@ -131,6 +131,7 @@ impl State {
         ensures level { level_of self.new.trail ≡ level_of self.old.trail }
         ensures grounded { IsGrounded self.new.clauses self.new.trail }
         ensures done { result ≡ Propagated.Done → IsPropagated self.new }
+        ensures seen { result ≡ Propagated.Done → self.new.seen ≡ true }
         ensures none_falsified { result ≡ Propagated.Done
             → All (λ clause. IsFalsified (literals self.new.trail) clause → ⊥) self.new.clauses }
         ensures none_unit { result ≡ Propagated.Done
@@ -179,6 +180,18 @@ impl State {
         ensures { result.now ≡ slice_index_or self.now.clauses number [] }
     {
         self.parts.clauses.clause(number as usize)
+    }
+
+    /// The two literals that propagation watches in a clause, or none where it has fewer than two. Where propagation is known to be
+    /// at its end and one of them is false, the other is true and was so at no higher level.
+    pub fn watched(&self, number: u64) -> Option<(Lit, Lit)>
+        requires { number < length self.now.clauses }
+        ensures none { IsNone result ↔ (length (slice_index_or self.now.clauses number []) < 2) }
+        ensures two { IfSome result (λ pair. AreTwoOf (slice_index_or self.now.clauses number []) pair.0 pair.1) }
+        ensures one { self.now.seen ≡ true → IfSome result (λ pair. IsGuarded self.now.trail pair.0 pair.1) }
+        ensures other { self.now.seen ≡ true → IfSome result (λ pair. IsGuarded self.now.trail pair.1 pair.0) }
+    {
+        self.parts.watched(number as usize)
     }
 
     /// The level at which a variable got its value.

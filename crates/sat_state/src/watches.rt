@@ -125,6 +125,20 @@ impl Watches {
         Lit::new(u64::from(code / 2), code % 2 == 0)
     }
 
+    /// The literals that the two entries of a clause watch.
+    pub fn of_clause(&self, number: usize) -> (Lit, Lit)
+        requires there { 2 * number + 1 < length self.now.lits }
+        requires one { 1 ≤ (lit_at self.now.lits (2 * number)).var }
+        requires other { 1 ≤ (lit_at self.now.lits (2 * number + 1)).var }
+        ensures one { result.0 ≡ lit_at self.now.lits (2 * number) }
+        ensures other { result.1 ≡ lit_at self.now.lits (2 * number + 1) }
+    {
+        // That there are so many entries shows that their numbers fit.
+        let _entries = self.entries.len();
+        let entry = 2 * number;
+        (self.lit(entry), self.lit(entry + 1))
+    }
+
     /// Puts an entry that watches nothing into the list of a literal, as the first.
     pub fn link(&mut self, entry: usize, lit: Lit)
         requires there { entry < length self.old.lits }

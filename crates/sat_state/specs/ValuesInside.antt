@@ -1,0 +1,18 @@
+-- How the values of the variables are kept beside the table of true literals.
+use Rattle.std.specs.Prelude.{◌≡◌, ℕ, ◌+◌, ◌*◌, ◌<◌, ◌≤◌, Bool, false, List, length, slice_index_or}
+use Rattle.cnf_core.specs.Literal.{Literal, is_among, code_of}
+use Rattle.sat_state.specs.Trail.{literals}
+use Rattle.sat_state.specs.Assigned.{Assigned}
+use Rattle.sat_state.specs.declared.values.Values.TheInside.{Inside}
+
+abbrev pub seen_values : Inside → Assigned
+seen_values a = a.assigned
+
+-- the table has whether each literal is true
+abbrev pub AreTruths : List Bool → List Literal → Type 0
+AreTruths truths trues = (l : Literal) → slice_index_or truths (code_of l) false ≡ is_among trues l
+
+-- the table is that of the trail, and has each literal of a variable that is known
+pub record AreValues (a : Inside) : Type 0 where
+  pub truths : AreTruths a.truths.items (literals a.assigned.trail)
+  pub room : 0 < a.assigned.vars → 2 * a.assigned.vars + 2 ≤ length a.truths.items
