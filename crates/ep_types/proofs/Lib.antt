@@ -1,3 +1,4 @@
 pub mod Said
 pub mod Sound
 pub mod NameSteps
+pub mod Scopes

@@ -537,8 +537,8 @@ mutual
       (λ r g. behind_context (inside names D c) r.1 g.context d e (check_sound r.1 g.typed_names d e))
       (λ r t g h. (
         many_is _ (λ ds. from_one (judge (inside names D c) e) (quantified_type op ds)) g.types g.judged
-        ∙ one_is (judge (inside names D c) e) (quantified_type op g.types) t h
-        ∙ quantified_by op g.types t ∙ ap (λ b. quantified_over b (quantified_type op [] t)) g.scalar,
+            ∙ one_is (judge (inside names D c) e) (quantified_type op g.types) t h
+            ∙ quantified_by op g.types t ∙ ap (λ b. quantified_over b (quantified_type op [] t)) g.scalar,
         settled_over r.0 _ (settled_quantified op [] t),
       ))
   check_sound c k d (literal p parts dom) =
@@ -546,7 +546,7 @@ mutual
       (all_sound c k d parts) (λ ts h. index_sound c k dom)
       (λ ts scalar h g. (
         many_is (judge_index c dom) (λ ds. from_many (judge_all c parts) (λ ts. indexed_type ds (list_type ts))) g.0 g.1
-        ∙ many_is (judge_all c parts) (λ ts. indexed_type g.0 (list_type ts)) ts h ∙ indexed_by g.0 (list_type ts) scalar g.2,
+            ∙ many_is (judge_all c parts) (λ ts. indexed_type g.0 (list_type ts)) ts h ∙ indexed_by g.0 (list_type ts) scalar g.2,
         settled_over scalar _ (settled_list ts),
       ))
   check_sound c k d (comprehension p e gens conditions dom) =
@@ -558,8 +558,8 @@ mutual
       (λ index r truths h g l. behind_context inner r.1 g.context d e (check_sound r.1 g.typed_names d e))
       (λ index r truths t h g l m. (
         many_is (judge_index c dom) _ h.0 h.1 ∙ many_is (judge_generators c gens) _ g.types g.judged ∙ many_is (judge_all inner conditions) _ truths l
-        ∙ one_is (judge inner e) (comprehension_type h.0 g.types truths) t m
-        ∙ comprehension_by h.0 g.types truths t index r.0 h.2 g.scalar,
+            ∙ one_is (judge inner e) (comprehension_type h.0 g.types truths) t m
+            ∙ comprehension_by h.0 g.types truths t index r.0 h.2 g.scalar,
         settled_over _ _ (settled_list (t ∷ [])),
       ))
   check_sound c k d (read p m indices) =

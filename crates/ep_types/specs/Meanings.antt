@@ -36,3 +36,4 @@ context_of names = behind_names names.inner.items (known_by names.declared.now.e
 pub record IsSame (old new : Names) : Type 0 where
   pub inner : new.inner.items ≡ old.inner.items
   pub declared : new.declared ≡ old.declared
+  pub context : context_of new ≡ context_of old

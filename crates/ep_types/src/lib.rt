@@ -3,6 +3,7 @@
 
 mod check;
 mod errors;
+mod expressions;
 mod names;
 mod rules;
 mod typed;

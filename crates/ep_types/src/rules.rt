@@ -47,7 +47,11 @@ pub(crate) fn is_matrix_of_bool(ty: ValueType) -> bool
     ensures { result ≡ types.is_matrix_of_bool ty }
 {
     match ty {
-        ValueType::Matrix { of: Scalar::Bool, .. } | ValueType::Empty => true,
+        ValueType::Matrix {
+            of: Scalar::Bool,
+            ..
+        }
+        | ValueType::Empty => true,
         _ => false,
     }
 }
@@ -194,7 +198,11 @@ pub(crate) fn counting(
     ensures { Says (λ t. t) result (conclude place
         (types.gives ValueType.Bool (types.is_matrix one && types.are_lists other third))) }
 {
-    gives(place, ValueType::Bool, is_matrix(one) && are_lists(other, third))
+    gives(
+        place,
+        ValueType::Bool,
+        is_matrix(one) && are_lists(other, third),
+    )
 }
 
 /// A quantifier over domains that are scalar or aren't.
@@ -218,11 +226,7 @@ pub(crate) fn quantified(
 }
 
 /// A set operation on two domains.
-pub(crate) fn set(
-    place: Place,
-    one: ValueType,
-    other: ValueType,
-) -> Result<ValueType, StaticError>
+pub(crate) fn set(place: Place, one: ValueType, other: ValueType) -> Result<ValueType, StaticError>
     ensures { Says (λ t. t) result (conclude place
         (types.gives (types.of_scalar (types.both_scalars (types.scalar_of one) (types.scalar_of other)))
         (types.is_integer one && types.is_integer other))) }

@@ -11,7 +11,7 @@ pub loop-left-preserved : goal.loop-left-preserved
 loop-left-preserved c = (
   omega (arith, c.loop-left.invariant.0),
   λ k. c.loop-left.invariant.1 k
-  ∙ behind_other c.args.inner.now c.loop-left.left _ c.args.name.now k c.loop-left-test.true c.loop-left.invariant.0 (sym c.eq.ensures ∙ c.if-eq.false),
+      ∙ behind_other c.args.inner.now c.loop-left.left _ c.args.name.now k c.loop-left-test.true c.loop-left.invariant.0 (sym c.eq.ensures ∙ c.if-eq.false),
 )
 
 pub returns-then-eq : goal.returns-then-eq

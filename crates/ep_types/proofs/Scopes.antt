@@ -1,0 +1,11 @@
+-- Names that stand for the same from call to call.
+use Rattle.std.specs.Prelude.{◌≡◌, refl}
+use Rattle.std.proofs.Common.{◌∙◌}
+use Rattle.ep_types.specs.Meanings.{IsSame}
+use Rattle.ep_types.specs.declared.names.Names.{Names}
+
+pub same_again : (names : Names) → IsSame names names
+same_again names = record { inner = refl; declared = refl; context = refl }
+
+pub same_after : (old mid new : Names) → IsSame old mid → IsSame mid new → IsSame old new
+same_after old mid new a b = record { inner = b.inner ∙ a.inner; declared = b.declared ∙ a.declared; context = b.context ∙ a.context }
