@@ -14,3 +14,4 @@ pub mod AgainLevels
 pub mod AgainParts
 pub mod AgainJunctions
 pub mod AgainSums
+pub mod AgainComparisons
