@@ -1,17 +1,17 @@
 -- Comparisons are read again.
-use Rattle.std.specs.Prelude.{◌≡◌, ℕ, suc, ◌+◌, ◌≤◌, max, Bool, true, false, not, nat_le, nat_lt, List, [], ◌∷◌, ◌++◌, Option, Some, None, codes, refl}
-use Rattle.std.proofs.Common.{ap, arith, sym, subst, ◌∙◌, append_assoc}
+use Rattle.std.specs.Prelude.{◌≡◌, ℕ, suc, ◌≤◌, Bool, true, false, not, nat_le, List, ◌∷◌, ◌++◌, Some, None, codes, refl}
+use Rattle.std.proofs.Common.{ap, arith, subst, ◌∙◌, append_assoc}
 use Rattle.std.proofs.Math.Nat.{le-max_left, le-max_right}
 use Rattle.ep_base.specs.declared.operators.CompareOp.{CompareOp}
 use Rattle.ep_base.specs.declared.operators.LexOp.{LexOp}
 use Rattle.ep_base.specs.declared.places.Place.{Place}
 use Rattle.ep_tree.specs.Heights.{domain_height, height}
-use Rattle.ep_tree.specs.Phrases.{Is, Lexeme, Phrase, Says, StartsAt, a_word, ◌followed_by◌}
+use Rattle.ep_tree.specs.Phrases.{Lexeme, Says, StartsAt, a_word, ◌followed_by◌}
 use Rattle.ep_tree.specs.Spelling.{Call1, Closed, Level, Spells, SpellsDomain, SpellsDomainNode, SpellsNode, binary_level, compare_word, comparisons, conjunctions, disjunctions, ends_open, implications, lex_word, own_level, powers, primaries, products, rank, reads, set_operations, sums, unaries}
 use Rattle.ep_tree.specs.Trees.{DomainTree, ExprTree, absolute, all_different, all_of, any_of, at_least, at_most, binary, bool, chain, compare, comprehension, factorial, flatten, folded, gcc, group, group_domain, in_domain, in_set, int, lex, literal, matrix_domain, minus, named, named_domain, negation, number, place_of, quantified, ranges, read, set_domain, table, to_int, truth}
 use Rattle.ep_tree.specs.declared.syntax.BinaryOp.{BinaryOp}
-use Rattle.ep_parse_expr.specs.Readers.{Comparison, Lower, call_from, chain_from, chosen, closed_by, compared_with, comparison_behind, comparison_from, comparison_words, looked_up, next_in, of_lists, of_numbers, of_set, says, took, word_from, ◌and_then◌}
-use Rattle.ep_parse_expr.proofs.Again.{AreComplete, Ends, EndsBefore, NoComparisons, NoImplications, around_cut, around_rest, behind_word_cut, below_again, lexeme, same_place, word_again}
+use Rattle.ep_parse_expr.specs.Readers.{Comparison, Lower, call_from, chain_from, compared_with, comparison_behind, comparison_from, comparison_words, looked_up, next_in, of_lists, of_numbers, of_set, says, took, word_from, ◌and_then◌}
+use Rattle.ep_parse_expr.proofs.Again.{AreComplete, Ends, EndsBefore, NoImplications, around_cut, around_rest, behind_word_cut, below_again, lexeme, same_place}
 
 not_open : (b : Bool) → not b ≡ true → b ≡ true → ⊥
 not_open true e k = cc

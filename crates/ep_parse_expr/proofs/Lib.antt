@@ -15,3 +15,4 @@ pub mod AgainParts
 pub mod AgainJunctions
 pub mod AgainSums
 pub mod AgainComparisons
+pub mod AgainLists
