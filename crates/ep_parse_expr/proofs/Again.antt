@@ -1,14 +1,14 @@
 -- What is spelled is read again: words, lists that grow, and what may not follow.
-use Rattle.std.specs.Prelude.{◌≡◌, ℕ, zero, suc, ◌+◌, ◌≤◌, ◌<◌, Bool, true, false, not, ◌&&◌, nat_le, nat_lt, List, [], ◌∷◌, ◌++◌, length, Option, Some, None, bytes_eq, codes, refl}
-use Rattle.std.proofs.Common.{ap, arith, sym, subst, ◌∙◌, append_assoc}
+use Rattle.std.specs.Prelude.{◌≡◌, ℕ, zero, suc, ◌≤◌, ◌<◌, Bool, true, false, nat_le, nat_lt, List, [], ◌∷◌, ◌++◌, length, Option, Some, None, bytes_eq, codes, refl}
+use Rattle.std.proofs.Common.{ap, arith, sym, ◌∙◌, append_assoc}
 use Rattle.std.proofs.lemmas.Bool.Decides.{nat_tests}
 use Rattle.std.proofs.lemmas.Slice.Eq.{bytes_eq-Decides}
 use Rattle.ep_base.specs.declared.places.Place.{Place}
 use Rattle.ep_tree.specs.Heights.{domain_height, height}
-use Rattle.ep_tree.specs.Phrases.{From, Is, Lexeme, Phrase, Says, Saying, StartsAt, a_name, a_number, a_word, ◌followed_by◌}
-use Rattle.ep_tree.specs.Spelling.{DomainLevel, Level, Spells, SpellsDomain, comparisons, conjunctions, disjunctions, domains, ends_open, implications, powers, primaries, products, rank, reads, set_operations, set_parts, sums, unaries}
-use Rattle.ep_tree.specs.Trees.{DomainTree, ExprTree, place_of}
-use Rattle.ep_parse_expr.specs.Readers.{Lower, Read, Reader, behind, chosen, comparison_words, grown, grown_from, growing, implication_words, is_word, next_in, only_word, power_words, product_words, says, set_words, sign_words, took, word_from, wrong, ◌and_then◌}
+use Rattle.ep_tree.specs.Phrases.{Is, Lexeme, Phrase, Saying, StartsAt, a_word, ◌followed_by◌}
+use Rattle.ep_tree.specs.Spelling.{DomainLevel, Level, Spells, SpellsDomain, comparisons, conjunctions, disjunctions, ends_open, implications, powers, primaries, products, rank, reads, sums, unaries}
+use Rattle.ep_tree.specs.Trees.{DomainTree, ExprTree}
+use Rattle.ep_parse_expr.specs.Readers.{Lower, Read, chosen, comparison_words, grown, grown_from, growing, implication_words, next_in, only_word, power_words, product_words, says, set_words, sign_words, took, word_from, wrong, ◌and_then◌}
 
 -- a token that says this, at a place
 abbrev pub lexeme : Place → Saying → Lexeme

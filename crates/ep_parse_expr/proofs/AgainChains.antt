@@ -1,12 +1,11 @@
 -- Chains that nest to the left are read again.
-use Rattle.std.specs.Prelude.{◌≡◌, ℕ, zero, suc, ◌+◌, ◌≤◌, ◌<◌, max, Bool, true, false, not, nat_le, nat_lt, List, [], ◌∷◌, ◌++◌, length, Option, Some, None, codes, refl}
-use Rattle.std.proofs.Common.{ap, arith, sym, subst, ◌∙◌, length-append}
+use Rattle.std.specs.Prelude.{◌≡◌, ℕ, zero, suc, ◌≤◌, ◌<◌, Bool, true, false, not, nat_le, List, ◌∷◌, ◌++◌, Option, Some, None, codes, refl}
+use Rattle.std.proofs.Common.{arith, sym, subst, ◌∙◌, length-append}
 use Rattle.std.proofs.Math.Nat.{le-max_left, le-max_right}
 use Rattle.ep_base.specs.declared.places.Place.{Place}
-use Prim.Native.String.{String}
 use Rattle.ep_tree.specs.Heights.{height}
-use Rattle.ep_tree.specs.Phrases.{Choice, Is, Lexeme, Phrase, Says, StartsAt, a_word, ◌followed_by◌}
-use Rattle.ep_tree.specs.Spelling.{Closed, Infix, Level, Spells, SpellsNode, binary_level, binary_word, disjunctions, ends_open, implications, is_called, own_level, powers, products, rank, tighter, unaries}
+use Rattle.ep_tree.specs.Phrases.{Choice, Lexeme, Phrase, StartsAt, a_word}
+use Rattle.ep_tree.specs.Spelling.{Closed, Infix, Level, Spells, SpellsNode, binary_level, binary_word, ends_open, is_called, own_level, rank, tighter, unaries}
 use Rattle.ep_tree.specs.Trees.{ExprTree, binary, place_of}
 use Rattle.ep_tree.specs.declared.syntax.BinaryOp.{BinaryOp}
 use Rattle.ep_parse_expr.specs.Readers.{Lower, Read, Reader, another_binary, grown, next_in, took, ◌and_then◌}

@@ -1,5 +1,5 @@
 -- The levels whose chains nest to the left.
-use Rattle.std.specs.Prelude.{◌≡◌, ℕ, suc, ◌≤◌, Bool, true, false, nat_le, List, [], ◌∷◌, ◌++◌, Option, Some, None, codes, refl}
+use Rattle.std.specs.Prelude.{◌≡◌, ℕ, suc, ◌≤◌, Bool, true, false, nat_le, List, ◌∷◌, ◌++◌, Some, codes, refl}
 use Rattle.std.proofs.Common.{ap, sym, ◌∙◌}
 use Rattle.ep_base.specs.declared.places.Place.{Place}
 use Rattle.ep_tree.specs.Heights.{height}
@@ -7,8 +7,8 @@ use Rattle.ep_tree.specs.Phrases.{Lexeme, a_word}
 use Rattle.ep_tree.specs.Spelling.{Level, Spells, binary_level, binary_word, comparisons, conjunctions, disjunctions, implications, is_called, own_level, powers, primaries, products, rank, reads, sums, tighter, unaries}
 use Rattle.ep_tree.specs.Trees.{ExprTree, absolute, all_different, all_of, any_of, at_least, at_most, binary, chain, compare, comprehension, factorial, flatten, folded, gcc, group, in_domain, in_set, lex, literal, minus, named, negation, number, quantified, read, table, to_int, truth}
 use Rattle.ep_tree.specs.declared.syntax.BinaryOp.{BinaryOp}
-use Rattle.ep_parse_expr.specs.Readers.{Lower, comparison_words, implication_words, implication_from, disjunction_from, looked_up, next_in, only_word, power_from, power_words, product_from, product_words, says, set_words, sign_words, took, unary_from}
-use Rattle.ep_parse_expr.proofs.Again.{AreComplete, Ends, EndsBefore, NoComparisons, NoConjunctions, NoDisjunctions, NoImplications, NoPowers, NoProducts, NoReads, NoSums, lexeme}
+use Rattle.ep_parse_expr.specs.Readers.{Lower, implication_words, implication_from, disjunction_from, looked_up, next_in, power_from, power_words, product_from, product_words, says, took, unary_from}
+use Rattle.ep_parse_expr.proofs.Again.{AreComplete, Ends, EndsBefore, lexeme}
 use Rattle.ep_parse_expr.proofs.AgainChains.{IsChainLevel, IsInfix, chain_again}
 
 -- whether the chains of a level nest to the left

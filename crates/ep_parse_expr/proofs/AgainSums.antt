@@ -2,14 +2,13 @@
 use Rattle.std.specs.Prelude.{◌≡◌, ℕ, zero, suc, ◌+◌, ◌≤◌, max, Bool, true, false, not, ◌&&◌, nat_le, nat_lt, List, [], ◌∷◌, ◌++◌, length, Option, Some, None, codes, refl}
 use Rattle.std.proofs.Common.{ap, arith, sym, subst, ◌∙◌, length-append, append_assoc}
 use Rattle.std.proofs.Math.Nat.{le-max_left, le-max_right}
-use Rattle.std.proofs.lemmas.Bool.{and_parts}
 use Rattle.ep_base.specs.declared.places.Place.{Place}
 use Rattle.ep_tree.specs.Heights.{height, highest_term}
-use Rattle.ep_tree.specs.Phrases.{Is, Lexeme, Phrase, Says, StartsAt, a_word, ◌followed_by◌}
+use Rattle.ep_tree.specs.Phrases.{Lexeme, StartsAt, a_word, ◌followed_by◌}
 use Rattle.ep_tree.specs.Spelling.{ClosedBefore, Level, Spells, SpellsChain, SpellsNode, SpellsTerms, binary_level, comparisons, conjunctions, disjunctions, ends_open, has_terms, implications, own_level, powers, primaries, products, rank, reads, sign_word, sums, terms_end_open, unaries}
 use Rattle.ep_tree.specs.Trees.{ExprTree, Terms, absolute, all_different, all_of, any_of, at_least, at_most, binary, chain, compare, comprehension, factorial, flatten, folded, gcc, group, in_domain, in_set, lex, literal, minus, named, negation, no_terms, number, place_of, quantified, read, table, term_and, to_int, truth}
 use Rattle.ep_tree.specs.declared.syntax.BinaryOp.{BinaryOp}
-use Rattle.ep_parse_expr.specs.Readers.{Lower, Read, Reader, Term, as_terms, behind, chain_from, going_on, if_low, if_some, is_there, kept, looked_up, more_from, next_in, others_from, product_from, says, sign_words, term_behind, term_from, terms_behind, terms_from, took, with_operator, wrong, ◌and_then◌}
+use Rattle.ep_parse_expr.specs.Readers.{Lower, Reader, Term, as_terms, behind, chain_from, going_on, if_low, if_some, is_there, kept, looked_up, more_from, next_in, others_from, product_from, says, sign_words, term_behind, term_from, terms_behind, terms_from, took, with_operator, wrong, ◌and_then◌}
 use Rattle.ep_parse_expr.proofs.Again.{AreComplete, Ends, EndsBefore, NoImplications, NoSums, behind_word_cut, below_again, lexeme, same_place}
 
 -- terms as a list

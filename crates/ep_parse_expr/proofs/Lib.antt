@@ -14,3 +14,5 @@ pub mod AgainLevels
 pub mod AgainParts
 pub mod AgainJunctions
 pub mod AgainSums
+pub mod AgainComparisons
+pub mod AgainLists
