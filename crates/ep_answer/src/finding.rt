@@ -4,6 +4,8 @@ ghost use Rattle.std.specs.Prelude.{◌≡◌, ◌≢◌, None, IfOk, map};
 ghost use Rattle.ep_answer.specs.Answered.{AnswersCells, ListsCells};
 ghost use Rattle.ep_answer.specs.AnswerViews.{plain_answer, plain_end, plain_problem};
 ghost use Rattle.ep_answer.specs.Problems.{CanSearch};
+ghost use Rattle.cnf_core.specs.Events.{givens};
+ghost use Rattle.sat_search.specs.Logs.{IsSound};
 
 use crate::answers::{CellAnswer, CellListing};
 use crate::problem::Problem;
@@ -20,8 +22,12 @@ pub fn find_cells(
 ) -> Result<CellAnswer, Memory>
     requires can_search { CanSearch (plain_problem p.old) log.old }
     requires no_objective { (plain_problem p.old).variables.objective ≡ None }
-    ensures { IfOk result (λ answer.
+    ensures answers { IfOk result (λ answer.
         AnswersCells (plain_problem p.old) budget log.old log.new (plain_answer answer)) }
+    ensures givens { givens log.new.events ≡ givens log.old.events }
+    ensures sound { IsSound log.old.events → IsSound log.new.events }
+    ensures notes { log.new.notes ≡ log.old.notes }
+    ensures base { log.new.base ≡ log.old.base }
 {
     let _problem = p;
     let _budget = budget;
@@ -39,8 +45,11 @@ pub fn optimise_cells(
 ) -> Result<CellAnswer, Memory>
     requires can_search { CanSearch (plain_problem p.old) log.old }
     requires objective { (plain_problem p.old).variables.objective ≢ None }
-    ensures { IfOk result (λ answer.
+    ensures answers { IfOk result (λ answer.
         AnswersCells (plain_problem p.old) budget log.old log.new (plain_answer answer)) }
+    ensures sound { IsSound log.old.events → IsSound log.new.events }
+    ensures notes { log.new.notes ≡ log.old.notes }
+    ensures base { log.new.base ≡ log.old.base }
 {
     let _problem = p;
     let _budget = budget;
@@ -58,8 +67,11 @@ pub fn enumerate_cells(
     log: &mut Log,
 ) -> Result<CellListing, Memory>
     requires { CanSearch (plain_problem p.old) log.old }
-    ensures { IfOk result (λ listing. ListsCells (plain_problem p.old) budget most log.old log.new
+    ensures lists { IfOk result (λ listing. ListsCells (plain_problem p.old) budget most log.old log.new
         (map (λ cells. cells.items) listing.found.items) (plain_end listing.end)) }
+    ensures sound { IsSound log.old.events → IsSound log.new.events }
+    ensures notes { log.new.notes ≡ log.old.notes }
+    ensures base { log.new.base ≡ log.old.base }
 {
     let _problem = p;
     let _most = most;

@@ -17,11 +17,11 @@ pub const MOST_NODES: u64 = 200_000_000;
 pub fn remove_undefined(_alloc: Global, g: Ground) -> Result<Ground, Memory>
     requires nodes { length (plain_ground g).nodes ≤ MOST_NODES }
     requires well_formed { IsWellFormed (plain_ground g) }
-    requires bounded { IsBounded (plain_ground g) }
     ensures keeps { IfOk result (λ new. KeepsSolutions (plain_ground g) (plain_ground new)) }
     ensures no_partial { IfOk result (λ new. HasNoPartialNode (plain_ground new)) }
     ensures well_formed { IfOk result (λ new. IsWellFormed (plain_ground new)) }
-    ensures bounded { IfOk result (λ new. IsBounded (plain_ground new)) }
+    ensures bounded { IfOk result (λ new.
+        IsBounded (plain_ground g) → IsBounded (plain_ground new)) }
     ensures nodes { IfOk result (λ new.
         length (plain_ground new).nodes ≤ 8 * length (plain_ground g).nodes + 8) }
 {
