@@ -1,7 +1,7 @@
 -- Steps of the proofs on rules and names.
-use Rattle.std.specs.Prelude.{◌≡◌, ℕ, Bool, true, false, not, ◌&&◌, List, [], ◌∷◌, ◌++◌, if◌then◌else◌, bytes_eq, Some, None, Ok, Err, Option, Result, option_map, cond, length, take, ◌≤◌, ◌<◌, ◌+◌, ◌-◌, refl}
+use Rattle.std.specs.Prelude.{◌≡◌, ℕ, Bool, true, false, List, [], ◌∷◌, ◌++◌, if◌then◌else◌, bytes_eq, Some, None, Ok, Err, Option, Result, option_map, length, take, ◌≤◌, ◌<◌, ◌+◌, ◌-◌, refl}
 use Rattle.std.proofs.Common.{ap, arith, subst, sym, ◌∙◌}
-use Rattle.std.proofs.lemmas.List.{take_more, take_all}
+use Rattle.std.proofs.lemmas.List.{take_more}
 use Rattle.std.specs.Prelude.{slice_index_or}
 use Rattle.std.specs.Borrow.{Bor}
 use Rattle.std.specs.Map.{lookup}
@@ -14,10 +14,10 @@ use Rattle.ep_tree.specs.Types.{Context, Judged, gives}
 use Rattle.ep_tree.specs.declared.values.ValueType.{ValueType}
 use Rattle.ep_types.proofs.Said.{ill_typed_says, wrong_category_says}
 use Rattle.ep_types.specs.Checking.{Checked, Says, check_domain_name, check_name, check_value, conclude, quantified_over}
-use Rattle.ep_types.specs.Meanings.{behind_names, known_by, meaning_of, or_else}
+use Rattle.ep_types.specs.Meanings.{behind_names, known_by, meaning_of}
 use Rattle.ep_types.specs.Named.{IsUnknown, fault_of}
 use Rattle.ep_types.specs.declared.errors.StaticError.{StaticError}
-use Rattle.ep_types.specs.declared.errors.StaticError.TheVariants.{IllTyped, Memory, UnknownName, WrongCategory}
+use Rattle.ep_types.specs.declared.errors.StaticError.TheVariants.{IllTyped, WrongCategory}
 use Rattle.ep_types.specs.declared.names.Meaning.{Meaning}
 use Rattle.ep_types.specs.declared.names.Meaning.TheVariants.{Domain, Value}
 

@@ -1,8 +1,8 @@
 -- What errors say of checks.
-use Rattle.std.specs.Prelude.{◌≡◌, List, Some, Ok, Err, refl}
+use Rattle.std.specs.Prelude.{◌≡◌, List, Some, Err, refl}
 use Rattle.ep_base.specs.declared.places.Place.{Place}
 use Rattle.ep_tree.specs.Faults.{Fault, ill_typed, open_domain, wrong_category}
-use Rattle.ep_types.specs.Checking.{Checked, Says, ◌>>=◌}
+use Rattle.ep_types.specs.Checking.{Checked, ◌>>=◌}
 use Rattle.ep_types.specs.Named.{IsNamed, fault_of}
 use Rattle.ep_types.specs.declared.errors.StaticError.{StaticError}
 use Rattle.ep_types.specs.declared.errors.StaticError.TheVariants.{IllTyped, Memory, OpenDomain, WrongCategory}

@@ -1,5 +1,5 @@
 -- Names that stand for the same from call to call.
-use Rattle.std.specs.Prelude.{◌≡◌, refl}
+use Rattle.std.specs.Prelude.{refl}
 use Rattle.std.proofs.Common.{◌∙◌}
 use Rattle.ep_types.specs.Meanings.{IsSame}
 use Rattle.ep_types.specs.declared.names.Names.{Names}

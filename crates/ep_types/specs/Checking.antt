@@ -1,7 +1,7 @@
 -- Checking from left to right: the type of an expression or domain, or the first fault that is met.
 --
 -- That a first fault is one of those that stand, and that none stands where there is a type, is proved of trees alone.
-use Rattle.std.specs.Prelude.{◌≡◌, Bool, true, false, not, ◌&&◌, ◌||◌, List, [], ◌∷◌, if◌then◌else◌, Some, None, Ok, Err, is_none, is_some, unwrap_or, Option, Result}
+use Rattle.std.specs.Prelude.{◌≡◌, Bool, true, false, not, ◌&&◌, ◌||◌, List, [], ◌∷◌, Some, None, Ok, Err, is_none, is_some, unwrap_or, Option, Result}
 use Rattle.std.specs.List.{list_all}
 use Rattle.ep_base.specs.declared.names.Name.{Name}
 use Rattle.ep_base.specs.declared.places.Place.{Place}

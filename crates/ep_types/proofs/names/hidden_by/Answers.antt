@@ -1,7 +1,7 @@
-use Rattle.std.proofs.Common.{◌≡◌, ap, sym, ◌∙◌, arith, take}
+use Rattle.std.proofs.Common.{ap, sym, ◌∙◌, arith}
 use Rattle.std.proofs.lemmas.List.{take_all}
 use Rattle.ep_types.proofs.NameSteps.{behind_nothing, behind_other, behind_this}
-use Rattle.ep_types.specs.Meanings.{behind_names, meaning_of, or_else}
+use Rattle.ep_types.specs.Meanings.{behind_names, or_else}
 use Rattle.ep_types.proofs.names.hidden_by.Goals as goal
 
 pub loop-left-init : goal.loop-left-init

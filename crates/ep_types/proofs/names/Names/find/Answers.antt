@@ -1,4 +1,4 @@
-use Rattle.std.proofs.Common.{◌≡◌, Some, None, option_map, refl, sym, ap, ◌∙◌}
+use Rattle.std.proofs.Common.{option_map, refl, sym, ap, ◌∙◌}
 use Rattle.ep_tree.specs.Types.{Context}
 use Rattle.ep_types.proofs.NameSteps.{lookup_known}
 use Rattle.ep_types.specs.Meanings.{behind_names, context_of, known_by, meaning_of, or_else}

@@ -1,4 +1,4 @@
-use Rattle.std.proofs.Common.{◌≡◌, Some, option_map, sym, ap, ◌∙◌}
+use Rattle.std.proofs.Common.{Some, option_map, sym, ap, ◌∙◌}
 use Rattle.ep_types.proofs.NameSteps.{ill_typed_is, named_domain, named_none, named_value, says_same, unknown_is}
 use Rattle.ep_types.specs.Meanings.{context_of, meaning_of}
 use Rattle.ep_types.proofs.names.Names.value_type.Goals as goal
