@@ -1,17 +1,15 @@
 -- Instances that are closed and well typed, as binding gives them.
-use Rattle.std.specs.Prelude.{◌≡◌, List, true, false, List, [], ◌++◌, All, bytes_eq, map, IsTrue, None, Some, flat_map, Option, option_to_list}
+use Rattle.std.specs.Prelude.{◌≡◌, true, false, List, [], ◌++◌, All, bytes_eq, map, IsTrue, None, flat_map, option_to_list}
 use Rattle.std.specs.List.{IsDistinct, list_all}
-use Rattle.ep_base.specs.Numbers.{has_number}
 use Rattle.ep_base.specs.declared.names.Name.{Name}
 use Rattle.ep_tree.specs.Binding.{Instance}
-use Rattle.ep_tree.specs.Environments.{Bound, Env, context_of, has_cells, has_value, shape_type}
+use Rattle.ep_tree.specs.Environments.{Env, context_of}
 use Rattle.ep_tree.specs.Faults.{Fault, clause_faults, goal_faults}
 use Rattle.ep_tree.specs.Names.{put_all}
 use Rattle.ep_tree.specs.Reach.{decisions_in}
 use Rattle.ep_tree.specs.Solutions.{cells_bound}
 use Rattle.ep_tree.specs.TypedValues.{IsTypedEnv, is_number_of}
 use Rattle.ep_tree.specs.Types.{Context}
-use Rattle.ep_tree.specs.Values.{ValueTree, fitted}
 
 -- the names of an instance as its clauses see them: its own, and the cells of its decision variables
 abbrev pub clause_env : Instance → Env
