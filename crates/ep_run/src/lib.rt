@@ -1,0 +1,8 @@
+//! The top call: from the words and the bytes of files to the answer's text.
+#![tactic(auto)]
+
+mod status;
+mod stops;
+mod wanted;
+
+pub use status::Status;
