@@ -4,3 +4,4 @@ pub mod Small
 pub mod Tokens
 pub mod Reading
 pub mod Names
+pub mod Answers

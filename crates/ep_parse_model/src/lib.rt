@@ -1,15 +1,19 @@
 //! Reads whole texts as models.
 #![tactic(auto)]
 
+mod calls;
 mod cursor;
 mod early;
 mod errors;
 mod expressions;
 mod names;
 mod statements;
+mod text_errors;
 
+pub use calls::{parse_model, parse_params};
 pub use early::{early_models_are_small, one_early_model, parse_early};
 pub use errors::EarlyError;
+pub use text_errors::TextError;
 
 #[cfg(test)]
 mod tests;

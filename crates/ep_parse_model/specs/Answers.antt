@@ -1,0 +1,30 @@
+-- What the calls that read whole texts answer.
+use Rattle.std.specs.Prelude.{ℕ, List, Result, Ok, Err}
+use Rattle.ep_tree.specs.Phrases.{Phrase}
+use Rattle.ep_tree.specs.StatementSpelling.{SpellsModel, SpellsParams}
+use Rattle.ep_tree.specs.Statements.{TextTree}
+use Rattle.ep_tree.specs.Texts.{Answers, bad_byte, long_number, read_as, syntax_fault, too_high, too_long}
+use Rattle.ep_tree.specs.Views.{model_tree, params_tree}
+use Rattle.ep_tree.specs.declared.statements.Model.{Model}
+use Rattle.ep_tree.specs.declared.statements.Params.{Params}
+use Rattle.ep_parse_model.specs.declared.text_errors.TextError.{TextError}
+use Rattle.ep_parse_model.specs.declared.text_errors.TextError.TheVariants.{BadByte, LongNumber, Memory, Syntax, TooHigh, TooLong}
+
+-- A refusal is the one that the text meets. Want of memory says nothing.
+abbrev pub Refuses : (TextTree → Phrase) → List ℕ → TextError → Type 0
+Refuses spells text TooLong = Answers spells text too_long
+Refuses spells text (BadByte place) = Answers spells text (bad_byte place)
+Refuses spells text (LongNumber place) = Answers spells text (long_number place)
+Refuses spells text (Syntax place) = Answers spells text (syntax_fault place)
+Refuses spells text (TooHigh place) = Answers spells text (too_high place)
+Refuses spells text Memory = Unit {0}
+
+-- what is said of a text that is read as a model
+abbrev pub GivesModel : List ℕ → Result Model TextError → Type 0
+GivesModel text (Ok model) = Answers SpellsModel text (read_as (model_tree model))
+GivesModel text (Err e) = Refuses SpellsModel text e
+
+-- what is said of a text that is read as a parameter text
+abbrev pub GivesParams : List ℕ → Result Params TextError → Type 0
+GivesParams text (Ok params) = Answers SpellsParams text (read_as (params_tree params))
+GivesParams text (Err e) = Refuses SpellsParams text e
