@@ -6,3 +6,5 @@ pub mod Shown
 pub mod Answers
 pub mod Puts
 pub mod Steps
+pub mod Needed
+pub mod NeededFinds

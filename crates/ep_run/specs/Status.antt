@@ -4,7 +4,7 @@ use Rattle.ep_print.specs.declared.refusals.Refusal.{Refusal}
 use Rattle.ep_run.specs.declared.status.Status.{Status}
 
 -- the code with which the program ends
-unfoldable pub code_of : Status → ℕ
+abbrev pub code_of : Status → ℕ
 code_of Status.Answered = 0
 code_of Status.Unknown = 1
 code_of Status.Usage = 2
