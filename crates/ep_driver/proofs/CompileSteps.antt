@@ -15,7 +15,7 @@ use Rattle.ep_base.specs.declared.names.Name.{Name}
 use Rattle.ep_base.specs.declared.operators.CompareOp.{CompareOp}
 use Rattle.ep_base.specs.declared.places.Place.{Place}
 use Rattle.ep_tree.specs.Environments.{Bound, Env, has_value, value_bound}
-use Rattle.ep_tree.specs.Evaluation.{evaluate, number_in, on_both, signed, term_values, truth_in}
+use Rattle.ep_tree.specs.Evaluation.{evaluate, map_both, number_in, signed, term_values, truth_in}
 use Rattle.ep_tree.specs.Names.{put_all}
 use Rattle.ep_tree.specs.Trees.{ExprTree, Terms, chain, compare, no_terms, term_and}
 use Rattle.ep_tree.specs.Values.{all_defined, single}
@@ -211,7 +211,7 @@ operand-uses n operand sum same h = let P : List Summand → Type 0 = λ x. SumU
 
 -- the flat clause of a comparison
 pub compare-means : (names : List (Bor (List ℕ))) (c : Clause) (p : Place) (a b : ExprTree) → SumMeans names c.left.items a → SumMeans names c.right.items b → ClauseMeans names c (compare p c.op a b)
-unfolding on_both number_in truth_in
+unfolding map_both number_in truth_in
 compare-means names c p a b left right = λ values h.
     evaluate-compare Mode.Relational (env_of names values) p c.op a b
     ∙ rw (left values h, right values h)

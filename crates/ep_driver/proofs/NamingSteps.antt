@@ -7,10 +7,10 @@ use Rattle.std.proofs.lemmas.List.{append-nil, append_assoc}
 use Rattle.std.proofs.lemmas.List.Elements.{Contains-append_left, Contains-append_right, Contains-append_cases}
 use Rattle.ep_base.specs.declared.names.Name.{Name}
 use Rattle.ep_base.specs.declared.places.Place.{Place}
-use Rattle.ep_tree.specs.Faults.{Fault, IsWellFormed, after_group, after_groups, after_statement, clause_faults, declaration_faults, declare, domain_faults, faults, faults_after, faults_of_terms, group_faults, group_meaning, name_faults, place_of, statement_faults, text_faults, type_fault, unless}
+use Rattle.ep_tree.specs.Faults.{Fault, IsWellFormed, after_group, after_groups, after_statement, clause_faults, declaration_faults, declare, domain_faults, faults, faults_after, faults_of_terms, group_faults, group_meaning, name_faults, statement_faults, text_faults, type_fault, unless}
 use Rattle.ep_tree.specs.Names.{nothing_known, put}
 use Rattle.ep_tree.specs.Statements.{Group, StatementTree, TextTree, constraints, decided}
-use Rattle.ep_tree.specs.Trees.{ExprTree, Terms, chain, compare, named, no_terms, number, term_and}
+use Rattle.ep_tree.specs.Trees.{ExprTree, Terms, chain, compare, named, no_terms, number, place_of, term_and}
 use Rattle.ep_tree.specs.Types.{Context, Meaning, a_value, from_one, gives, is_boolean, judge, judge_domain, type_from}
 use Rattle.ep_parse_model.specs.EarlyForms.{AreOperands, HasEarlyForms, IsEarlyClause, IsEarlyStatement, IsOperand, IsSide}
 use Rattle.ep_driver.specs.declared.bounds.Bounds.{Bounds}

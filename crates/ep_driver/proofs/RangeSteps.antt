@@ -8,7 +8,7 @@ use Rattle.ep_base.specs.Runs.{counting}
 use Rattle.ep_base.specs.declared.places.Place.{Place}
 use Rattle.ep_tree.specs.Domains.{between, put_in, united}
 use Rattle.ep_tree.specs.Environments.{Env}
-use Rattle.ep_tree.specs.Evaluation.{domain_values, end_value, evaluate, number_in, on_both, on_three, range_values}
+use Rattle.ep_tree.specs.Evaluation.{domain_values, end_value, evaluate, map_both, number_in, range_values}
 use Rattle.ep_tree.specs.Trees.{End, ExprTree, Ranges, no_ranges, span_and, end_at, ranges}
 use Rattle.ep_tree.specs.Values.{single}
 use Rattle.ep_tree.specs.Views.{domain_kind_tree, end_of, expr_tree, kind_tree, ranges_of, with_range}
@@ -58,7 +58,7 @@ united-nothing x (suc n) = ap (put_in x) (united-nothing (x +ℤ pos 1) n) ∙ p
 
 -- the numbers of one range are those between its ends
 pub span-values : (mode : Mode) (env : Env) (a b : End) (x y : ℤ) → end_value mode env a ≡ Some x → end_value mode env b ≡ Some y → range_values mode env (span_and a b no_ranges) ≡ Some (between x y)
-unfolding range_values on_three on_both between
+unfolding range_values map_both between
 span-values mode env a b x y p q = rw (p, q) (ap (λ ns. Some ns) (united-nothing x _))
 
 -- the number at an end
