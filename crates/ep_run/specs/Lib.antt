@@ -5,6 +5,5 @@ pub mod Outcomes
 pub mod Shown
 pub mod Answers
 pub mod Puts
+pub mod Stops
 pub mod Steps
-pub mod Needed
-pub mod NeededFinds

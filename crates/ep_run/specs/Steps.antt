@@ -1,13 +1,20 @@
 -- What the steps of a run tell.
-use Rattle.std.specs.Prelude.{◌≡◌, ◌⊎◌, ℕ, List, Option, None, Ok, Err, Result, Contains, IfSome, IsSomeAnd}
-use Rattle.ep_base.specs.Outside.{Held}
+use Rattle.std.specs.Prelude.{◌≡◌, ◌⊎◌, ◌+◌, ℕ, List, [], ◌∷◌, Vec, Global, Option, Some, None, Ok, Err, Result, Contains, IfSome, IsSomeAnd, ⊥}
+use Rattle.ep_base.specs.Outside.{Held, ReadGives}
 use Rattle.ep_tree.specs.Statements.{TextTree}
+use Rattle.ep_tree.specs.Texts.{MOST_BYTES}
+use Rattle.ep_tree.specs.Views.{params_tree}
+use Rattle.ep_tree.specs.declared.statements.Params.{Params}
+use Rattle.ep_print.specs.Refusals.{refusal_text}
 use Rattle.ep_print.specs.declared.refusals.Refusal.{Refusal}
 use Rattle.ep_print.specs.declared.refusals.TextFile.{TextFile}
-use Rattle.ep_run.specs.Commands.{AreNoCommand, Want}
-use Rattle.ep_run.specs.Outcomes.{Outcome}
-use Rattle.ep_run.specs.Readings.{IsReadAs, IsTextReadAs}
+use Rattle.ep_run.specs.Answers.{Answers}
+use Rattle.ep_run.specs.Commands.{AreNoCommand, Want, files_of}
+use Rattle.ep_run.specs.Outcomes.{Outcome, Task}
+use Rattle.ep_run.specs.Readings.{AreParams, IsReadAs, IsTextReadAs, without}
+use Rattle.ep_run.specs.Shown.{ComesTo}
 use Rattle.ep_run.specs.Status.{status_of}
+use Rattle.ep_run.specs.declared.replies.Reply.{Reply}
 use Rattle.ep_run.specs.declared.status.Status.{Status}
 use Rattle.ep_run.specs.declared.stops.Stop.{Stop}
 use Rattle.ep_run.specs.declared.wanted.Wanted.{Wanted}
@@ -22,17 +29,53 @@ TellsWanted words (Err Stop.Memory) = Unit {0}
 abbrev pub IsOfText : Refusal → Type 0
 IsOfText refusal = (status_of refusal ≡ Status.Text) ⊎ (status_of refusal ≡ Status.Limit)
 
+-- some refusals come out, and this is one of them
+abbrev pub IsAmong : {A : Type 0} → Outcome A → Refusal → Type 0
+IsAmong outcome refusal = (refusals : List Refusal) × (outcome ≡ Err refusals) × Contains refusals refusal
+
 -- a step tells what an outcome is: it gives the value, or one of the refusals; want of memory tells nothing
 abbrev pub Tells : {V A : Type 0} → (V → A) → Outcome A → Result V Stop → Type 0
 Tells view outcome (Ok x) = outcome ≡ Ok (view x)
-Tells view outcome (Err (Stop.Refused refusal)) =
-    IsOfText refusal × (refusals : List Refusal) × (outcome ≡ Err refusals) × Contains refusals refusal
+Tells view outcome (Err (Stop.Refused refusal)) = IsOfText refusal × IsAmong outcome refusal
 Tells view outcome (Err Stop.Memory) = Unit {0}
 
--- why a file gives no tree: a fault was counted, there is no such file, or its text is refused
+-- a step passes where there are no refusals, and else names one of them
+abbrev pub Passes : {V : Type 0} → List Refusal → Result V Stop → Type 0
+Passes refusals (Ok x) = refusals ≡ []
+Passes refusals (Err (Stop.Refused refusal)) = IsOfText refusal × Contains refusals refusal
+Passes refusals (Err Stop.Memory) = Unit {0}
+
+-- a reply answers the task that comes out, or one of the refusals
+abbrev pub TellsReply : Outcome Task → Result Reply Stop → Type 0
+TellsReply outcome (Ok reply) =
+    (task : Task) × (outcome ≡ Ok task) × Answers task reply.status reply.text.items
+TellsReply outcome (Err (Stop.Refused refusal)) = IsOfText refusal × IsAmong outcome refusal
+TellsReply outcome (Err Stop.Memory) = Unit {0}
+
+-- ---- reading
+
+-- a file isn't there, or it wasn't read: a fault was counted
+abbrev pub IsNotThere : Option Held → List ℕ → Type 0 → Type 0
+IsNotThere told name rose = rose ⊎ IsSomeAnd told (λ held. held name ≡ None)
+
+-- the bytes of a file were read, one more at most than a text may have; or it can't be read
+abbrev pub TellsBytes : Option Held → List ℕ → Type 0 → Result (Vec ℕ Global) Stop → Type 0
+TellsBytes told name rose (Ok bytes) = ReadGives told name (MOST_BYTES + 1) (Some bytes.items)
+TellsBytes told name rose (Err (Stop.Refused refusal)) =
+    (refusal ≡ Refusal.CannotRead name) × IsNotThere told name rose
+TellsBytes told name rose (Err Stop.Memory) = Unit {0}
+
+-- a text is read as a tree, or it has a refusal
+abbrev pub TellsText : {V : Type 0} → (V → TextTree) → TextFile → List ℕ → Result V Stop → Type 0
+TellsText view file text (Ok x) = IsTextReadAs file text (Ok (view x))
+TellsText view file text (Err (Stop.Refused refusal)) =
+    IsOfText refusal × IsTextReadAs file text (Err refusal)
+TellsText view file text (Err Stop.Memory) = Unit {0}
+
+-- why a file gives no tree: it can't be read, or its text is refused
 abbrev pub IsUnread : Option Held → TextFile → List ℕ → Type 0 → Refusal → Type 0
 IsUnread told file name rose refusal =
-    ((refusal ≡ Refusal.CannotRead name) × (rose ⊎ IsSomeAnd told (λ held. held name ≡ None)))
+    ((refusal ≡ Refusal.CannotRead name) × IsNotThere told name rose)
     ⊎ (IsOfText refusal × IfSome told (λ held. IsReadAs held file name (Err refusal)))
 
 -- what reading a file tells, where `rose` says that a fault was counted
@@ -40,3 +83,75 @@ abbrev pub TellsRead : {V : Type 0} → (V → TextTree) → Option Held → Tex
 TellsRead view told file name rose (Ok x) = IfSome told (λ held. IsReadAs held file name (Ok (view x)))
 TellsRead view told file name rose (Err (Stop.Refused refusal)) = IsUnread told file name rose refusal
 TellsRead view told file name rose (Err Stop.Memory) = Unit {0}
+
+-- the same of a parameter file that may be left out
+abbrev pub TellsParams : Option Held → Option (List ℕ) → Type 0 → Result Params Stop → Type 0
+TellsParams told params rose (Ok x) = IfSome told (λ held. AreParams held params (Ok (params_tree x)))
+TellsParams told params rose (Err (Stop.Refused refusal)) =
+    (name : List ℕ) × (params ≡ Some name) × IsUnread told TextFile.Params name rose refusal
+TellsParams told params rose (Err Stop.Memory) = Unit {0}
+
+-- ---- a run
+
+-- what comes to something over held files
+abbrev pub Shows : Type 1
+Shows = Held → Outcome Task → Type 0
+
+-- one of these files can't be read, and without it the line that says so comes out
+abbrev pub IsFailed : List (List ℕ) → Shows → Option Held → Type 0 → Refusal → Type 0
+IsFailed names shows told rose refusal =
+    (name : List ℕ) × Contains names name × (refusal ≡ Refusal.CannotRead name)
+    × IfSome told (λ held. shows (without name held) (Err (Refusal.CannotRead name ∷ [])))
+    × (rose ⊎ IsSomeAnd told (λ held. shows held (Err (Refusal.CannotRead name ∷ []))))
+
+-- a fault or a limit of a text comes out
+abbrev pub IsFaulty : Shows → Option Held → Refusal → Type 0
+IsFaulty shows told refusal =
+    IsOfText refusal
+    × IfSome told (λ held. (refusals : List Refusal) × shows held (Err refusals) × Contains refusals refusal)
+
+-- a task comes out, and the reply answers it
+abbrev pub IsAnswer : Shows → Option Held → Status → List ℕ → Type 0
+IsAnswer shows told status text =
+    IfSome told (λ held. (task : Task) × shows held (Ok task) × Answers task status text)
+
+-- what a run tells that has some files to read
+abbrev pub TellsTask : List (List ℕ) → Shows → Option Held → Type 0 → Result Reply Stop → Type 0
+TellsTask names shows told rose (Ok reply) = IsAnswer shows told reply.status reply.text.items
+TellsTask names shows told rose (Err (Stop.Refused refusal)) =
+    IsFailed names shows told rose refusal ⊎ IsFaulty shows told refusal
+TellsTask names shows told rose (Err Stop.Memory) = Unit {0}
+
+-- how a run may end that has its answer
+abbrev pub IsEnd : Wanted → Status → Type 0
+IsEnd (Wanted.Solve _ _) status = status ≡ Status.Answered
+IsEnd (Wanted.Verify _ _ _) status = (status ≡ Status.Answered) ⊎ (status ≡ Status.Refuted)
+
+-- how a run ends, where it has its answer
+abbrev pub EndsAs : Wanted → Result Reply Stop → Type 0
+EndsAs wanted (Ok reply) = IsEnd wanted reply.status
+EndsAs wanted (Err stop) = Unit {0}
+
+-- a status and a text that are said to what is wanted
+abbrev pub SaysTo : Wanted → Option Held → Type 0 → Status → List ℕ → Type 0
+SaysTo wanted told rose status text =
+    (IsEnd wanted status × IsAnswer (ComesTo wanted) told status text)
+    ⊎ ((refusal : Refusal) × (status ≡ status_of refusal) × (text ≡ refusal_text refusal)
+    × (IsFailed (files_of wanted) (ComesTo wanted) told rose refusal ⊎ IsFaulty (ComesTo wanted) told refusal))
+
+-- a status and a text that are said to the words
+abbrev pub Says : List (List ℕ) → Option Held → Type 0 → Status → List ℕ → Type 0
+Says words told rose status text =
+    ((status ≡ Status.Usage) × (text ≡ refusal_text Refusal.Usage) × AreNoCommand words)
+    ⊎ ((wanted : Wanted) × Want words wanted × SaysTo wanted told rose status text)
+
+-- what a run tells of the words
+abbrev pub TellsRun : List (List ℕ) → Option Held → Type 0 → Result Reply Stop → Type 0
+TellsRun words told rose (Ok reply) =
+    (wanted : Wanted) × Want words wanted × IsEnd wanted reply.status
+    × IsAnswer (ComesTo wanted) told reply.status reply.text.items
+TellsRun words told rose (Err (Stop.Refused refusal)) =
+    ((refusal ≡ Refusal.Usage) × AreNoCommand words)
+    ⊎ ((wanted : Wanted) × Want words wanted
+    × (IsFailed (files_of wanted) (ComesTo wanted) told rose refusal ⊎ IsFaulty (ComesTo wanted) told refusal))
+TellsRun words told rose (Err Stop.Memory) = Unit {0}
