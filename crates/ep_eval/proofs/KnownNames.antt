@@ -1,0 +1,40 @@
+-- What names stand for, by the entries of a table.
+use Rattle.std.proofs.Common.{◌≡◌, Bool, true, false, List, refl, sym, ap, ◌∙◌}
+use Rattle.std.specs.Prelude.{cond, Option, Some, option_map, bytes_eq, if◌then◌else◌}
+use Rattle.std.specs.Map.{lookup}
+use Rattle.std.specs.Bool.{one_answer}
+use Rattle.std.proofs.lemmas.Slice.Eq.{bytes_eq-Decides}
+use Rattle.ep_base.specs.declared.names.Name.{Name}
+use Rattle.ep_tree.specs.Environments.{Bound, Env}
+use Rattle.ep_tree.specs.Names.{put}
+use Rattle.ep_eval.specs.Bounds.{bound_of}
+use Rattle.ep_eval.specs.declared.environments.Meaning.{Meaning}
+
+-- the environment of some entries
+abbrev pub entries_env : List (Name × Meaning) → Env
+entries_env es name = option_map bound_of (lookup (bytes_eq name) es)
+
+-- whatever holds of what no name and what one name stands for holds after one more name
+pub kept_by : (P : Option Bound → Type 0) (env : Env) (k : Name) (b : Bound) → P (Some b) → ((name : Name) → P (env name)) → (name : Name) → P (put k b env name)
+kept_by P env k b new old name = elim (bytes_eq name k) as (λ c. P (if c then Some b else env name)) [ true ↦ new | false ↦ old name ]
+
+pub bytes_eq-symmetric : (k q : Name) → bytes_eq k q ≡ bytes_eq q k
+bytes_eq-symmetric k q =
+    one_answer {P = k ≡ q} (bytes_eq k q) (bytes_eq q k) (bytes_eq-Decides k q)
+    (λ h. sym ((bytes_eq-Decides q k).0 h), λ e. (bytes_eq-Decides q k).1 (sym e))
+
+-- an entry more
+pub entries_env-put :
+    (old new : List (Name × Meaning)) (k : Name) (m : Meaning)
+    → ((q : Name) → lookup (bytes_eq q) new ≡ cond (bytes_eq k q) (Some m) (lookup (bytes_eq q) old))
+    → entries_env new ≡ put k (bound_of m) (entries_env old)
+entries_env-put old new k m h = λ i q. at q i
+  where
+    by : (c : Bool) (q : Name) → option_map bound_of (cond c (Some m) (lookup (bytes_eq q) old)) ≡ (if c then Some (bound_of m) else option_map bound_of (lookup (bytes_eq q) old))
+    by true q = refl
+    by false q = refl
+
+    at : (q : Name) → entries_env new q ≡ put k (bound_of m) (entries_env old) q
+    at q =
+        ap (option_map bound_of) (h q) ∙ by (bytes_eq k q) q
+        ∙ ap (λ c. if c then Some (bound_of m) else option_map bound_of (lookup (bytes_eq q) old)) (bytes_eq-symmetric k q)

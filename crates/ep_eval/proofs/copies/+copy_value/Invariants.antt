@@ -1,0 +1,7 @@
+use Rattle.std.proofs.Common.{◌≡◌, take}
+use Rattle.std.specs.Prelude.{map}
+use Rattle.ep_tree.specs.Views.{value_tree}
+use Rattle.ep_eval.proofs.copies.+copy_value.Given as goal
+
+abbrev pub invariant-loop-part : goal.invariant-loop-part
+invariant-loop-part l = map value_tree l.copies.items ≡ map value_tree (take l.part-index l.part-items)

@@ -1,0 +1,16 @@
+use Rattle.ep_tree.specs.Environments.{HasAscendingDomain}
+use Rattle.ep_tree.specs.TypedValues.{IsTypedBound}
+use Rattle.ep_eval.specs.Bounds.{bound_of}
+use Rattle.ep_eval.proofs.environments.Env.name_cells.Goals as goal
+
+pub put-requires-clause-typed : goal.put-requires-clause-typed
+unfolding IsTypedBound bound_of
+put-requires-clause-typed c = tt
+
+pub put-requires-clause-ascending : goal.put-requires-clause-ascending
+unfolding HasAscendingDomain bound_of
+put-requires-clause-ascending c = tt
+
+pub returns-clause-known : goal.returns-clause-known
+unfolding bound_of
+returns-clause-known c = c.put.ensures.known

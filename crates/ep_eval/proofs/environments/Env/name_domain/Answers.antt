@@ -1,0 +1,20 @@
+use Rattle.std.proofs.Common.{subst}
+use Rattle.ep_base.proofs.RunSteps.{numbers_ascend}
+use Rattle.ep_base.specs.Runs.{IsAscending}
+use Rattle.ep_tree.specs.Environments.{HasAscendingDomain}
+use Rattle.ep_tree.specs.TypedValues.{IsTypedBound}
+use Rattle.ep_eval.specs.Bounds.{bound_of}
+use Rattle.ep_eval.proofs.environments.Env.name_domain.Goals as goal
+
+pub put-requires-clause-typed : goal.put-requires-clause-typed
+unfolding IsTypedBound bound_of
+put-requires-clause-typed c = c.requires.scalar
+
+pub put-requires-clause-ascending : goal.put-requires-clause-ascending
+unfolding HasAscendingDomain bound_of
+put-requires-clause-ascending c =
+    subst (λ ns. IsAscending ns) c.runs.ensures.numbers (numbers_ascend c.runs.result.now c.runs.ensures.apart)
+
+pub returns-clause-known : goal.returns-clause-known
+unfolding bound_of
+returns-clause-known c = c.put.ensures.known

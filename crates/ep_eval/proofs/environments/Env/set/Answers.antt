@@ -1,0 +1,21 @@
+use Rattle.std.proofs.Common.{◌≡◌, subst, ◌∙◌, OnOk}
+use Rattle.ep_tree.specs.Environments.{HasAscendingDomain}
+use Rattle.ep_tree.specs.Names.{put}
+use Rattle.ep_tree.specs.TypedValues.{IsTypedBound}
+use Rattle.ep_eval.specs.Bounds.{bound_of, entry_bound}
+use Rattle.ep_eval.specs.Known.{env_of}
+use Rattle.ep_eval.proofs.environments.Env.set.Goals as goal
+
+pub put-requires-clause-typed : goal.put-requires-clause-typed
+unfolding IsTypedBound bound_of
+put-requires-clause-typed c = c.requires.typed
+
+pub put-requires-clause-ascending : goal.put-requires-clause-ascending
+unfolding HasAscendingDomain bound_of
+put-requires-clause-ascending c = tt
+
+pub returns-clause-known : goal.returns-clause-known
+unfolding bound_of
+returns-clause-known c =
+    let same : c.in_ok-name.name ≡ c.args.entry.name = c.in_ok-name.ensures.copied ∙ c.text.ensures.text in
+    subst (λ k. OnOk c.put.result (env_of c.put.new.self ≡ put k (entry_bound c.args.entry) (env_of c.args.self.now))) same c.put.ensures.known

@@ -1,0 +1,4 @@
+pub mod Bounds
+pub mod Known
+pub mod EnvInside
+pub mod Outcomes

@@ -1,0 +1,63 @@
+//! Copies of values and of domains.
+
+ghost use Rattle.std.specs.Prelude.{◌≡◌, IfOk};
+ghost use Rattle.ep_tree.specs.Views.{value_tree};
+
+use super::environments::NamedDomain;
+use ep_base::{Memory, Name, Runs};
+use ep_tree::{Entry, Value};
+use std::alloc::Global;
+
+/// The same value once more. Linear in its numbers.
+pub fn copy_value(alloc: Global, value: &Value) -> Result<Value, Memory>
+    ensures { IfOk result (λ copy. value_tree copy ≡ value_tree value.now) }
+{
+    match value {
+        Value::Number(number) => Ok(Value::Number(*number)),
+        Value::Matrix(indices, parts) => {
+            let indices = Vec::from_slice(alloc, indices.as_slice())?;
+            let mut copies = Vec::with_capacity(alloc, parts.len())?;
+            for part in parts {
+                copies.push(copy_value(alloc, part)?)?;
+            }
+            Ok(Value::Matrix(indices, copies))
+        }
+    }
+}
+
+/// The same sets of numbers once more.
+fn copy_sets(alloc: Global, sets: &[Runs]) -> Result<Vec<Runs>, Memory>
+    ensures { IfOk result (λ copies. copies.items ≡ sets.now) }
+{
+    let mut copies = Vec::with_capacity(alloc, sets.len())?;
+    for set in sets {
+        copies.push(set.copy(alloc)?)?;
+    }
+    Ok(copies)
+}
+
+/// The same domain once more.
+pub fn copy_domain(alloc: Global, domain: &NamedDomain) -> Result<NamedDomain, Memory>
+    ensures indices { IfOk result (λ copy. copy.indices.items ≡ domain.now.indices.items) }
+    ensures values { IfOk result (λ copy. copy.values ≡ domain.now.values) }
+    ensures of { IfOk result (λ copy. copy.of ≡ domain.now.of) }
+{
+    Ok(NamedDomain {
+        indices: copy_sets(alloc, &domain.indices)?,
+        values: domain.values.copy(alloc)?,
+        of: domain.of,
+    })
+}
+
+/// The same entry once more.
+pub fn copy_entry(alloc: Global, entry: &Entry) -> Result<Entry, Memory>
+    ensures name { IfOk result (λ copy. copy.name ≡ entry.now.name) }
+    ensures ty { IfOk result (λ copy. copy.ty ≡ entry.now.ty) }
+    ensures value { IfOk result (λ copy. value_tree copy.value ≡ value_tree entry.now.value) }
+{
+    Ok(Entry {
+        name: Name::new(alloc, entry.name.text())?,
+        ty: entry.ty,
+        value: copy_value(alloc, &entry.value)?,
+    })
+}

@@ -1,0 +1,202 @@
+//! Environments: what each name stands for.
+
+ghost use Rattle.std.specs.Prelude.{◌≡◌, Some, IfOk, OnOk, OnErr, IsTrue, option_map};
+ghost use Rattle.std.specs.List.{list_all};
+ghost use Rattle.ep_tree.specs.Environments.{HasAscendingDomain, has_cells, has_domain};
+ghost use Rattle.ep_tree.specs.Names.{nothing_known, put};
+ghost use Rattle.ep_tree.specs.TypedValues.{IsOf, IsTypedBound, IsTypedEnv, is_number_of};
+ghost use Rattle.ep_tree.specs.Views.{value_tree};
+ghost use Rattle.ep_eval.specs.Bounds.{bound_of, cells_of, domain_of, entry_bound, only_cells, only_domain, only_value};
+ghost use Rattle.ep_eval.specs.Known.{HasAscendingDomains, env_of};
+
+use super::copies::{copy_domain, copy_entry};
+use ep_base::{Memory, Name, Runs};
+use ep_tree::{Entry, Mode, Scalar};
+use indexmap::IndexMap;
+use std::alloc::Global;
+use std::marker::Model;
+
+/// A domain that a name stands for: the numbers of its index domains, none for a scalar domain, and of its elements, and
+/// what these stand for.
+#[derive(Drop)]
+pub struct NamedDomain {
+    pub indices: Vec<Runs>,
+    pub values: Runs,
+    pub of: Scalar,
+}
+
+/// What a name stands for.
+#[derive(Drop)]
+enum Meaning {
+    /// A value of a type.
+    Value(Entry),
+    /// The cells of a decision variable, by its domain.
+    Cells(NamedDomain),
+    /// A domain.
+    Domain(NamedDomain),
+}
+
+/// What names stand for, and the mode in which expressions are evaluated. Contracts see both.
+#[derive(Drop)]
+pub struct Env {
+    alloc: Global,
+    mode: Mode,
+    known: IndexMap<Name, Meaning>,
+}
+
+impl Model for Env {
+    ghost use Rattle.ep_eval.specs.Known.{KnownNames};
+
+    ghost Value = { KnownNames };
+
+    ghost use Rattle.std.specs.Coded.{codes};
+    ghost use Rattle.ep_tree.specs.contracts.values.Value as value;
+
+    ghost coded = { Prim.hlevel (codes, value.the_row.coded) };
+
+    ghost use Rattle.ep_eval.specs.EnvInside.{IsSound, known_of};
+
+    ghost view = { known_of };
+
+    ghost invariant = { IsSound };
+}
+
+impl Env {
+    /// No name stands for anything.
+    pub fn new(alloc: Global, mode: Mode) -> Env
+        ensures mode { result.mode ≡ mode }
+        ensures empty { env_of result ≡ nothing_known }
+    {
+        Env {
+            alloc,
+            mode,
+            known: IndexMap::new(alloc),
+        }
+    }
+
+    /// The mode in which expressions are evaluated.
+    pub fn mode(&self) -> Mode
+        ensures mode { result ≡ self.now.mode }
+        ensures typed { IsTypedEnv (env_of self.now) }
+        ensures ascending { HasAscendingDomains (env_of self.now) }
+    {
+        self.mode
+    }
+
+    /// A name stands for something new. Where memory is refused all is as before.
+    fn put(&mut self, name: Name, meaning: Meaning) -> Result<(), Memory>
+        requires typed { IsTypedBound (Some (bound_of meaning)) }
+        requires ascending { HasAscendingDomain (Some (bound_of meaning)) }
+        ensures mode { self.new.mode ≡ self.old.mode }
+        ensures known { OnOk result (env_of self.new ≡ put name (bound_of meaning) (env_of self.old)) }
+        ensures unchanged { OnErr result (self.new ≡ self.old) }
+    {
+        self.known.insert(name, meaning)?;
+        Ok(())
+    }
+
+    /// A name stands for the value of an entry, in place of what it stood for. Where memory is refused all is as
+    /// before.
+    pub fn set(&mut self, entry: Entry) -> Result<(), Memory>
+        requires typed { IsOf entry.ty (value_tree entry.value) }
+        ensures mode { self.new.mode ≡ self.old.mode }
+        ensures known { OnOk result (env_of self.new ≡ put entry.name (entry_bound entry) (env_of self.old)) }
+        ensures unchanged { OnErr result (self.new ≡ self.old) }
+    {
+        let name = Name::new(self.alloc, entry.name.text())?;
+        self.put(name, Meaning::Value(entry))
+    }
+
+    /// A name stands for a domain, in place of what it stood for. Where memory is refused all is as before.
+    pub fn name_domain(
+        &mut self,
+        name: Name,
+        indices: Vec<Runs>,
+        values: Runs,
+        of: Scalar,
+    ) -> Result<(), Memory>
+        requires scalar { IsTrue (list_all (is_number_of of) values) }
+        ensures mode { self.new.mode ≡ self.old.mode }
+        ensures known { OnOk result (env_of self.new
+            ≡ put name (has_domain of indices.items values) (env_of self.old)) }
+        ensures unchanged { OnErr result (self.new ≡ self.old) }
+    {
+        let _ = values.runs();
+        let domain = NamedDomain {
+            indices,
+            values,
+            of,
+        };
+        self.put(name, Meaning::Domain(domain))
+    }
+
+    /// A name stands for the cells of a decision variable with this domain, in place of what it stood for. Where memory
+    /// is refused all is as before.
+    pub fn name_cells(
+        &mut self,
+        name: Name,
+        indices: Vec<Runs>,
+        values: Runs,
+        of: Scalar,
+    ) -> Result<(), Memory>
+        ensures mode { self.new.mode ≡ self.old.mode }
+        ensures known { OnOk result (env_of self.new
+            ≡ put name (has_cells of indices.items values) (env_of self.old)) }
+        ensures unchanged { OnErr result (self.new ≡ self.old) }
+    {
+        let domain = NamedDomain {
+            indices,
+            values,
+            of,
+        };
+        self.put(name, Meaning::Cells(domain))
+    }
+
+    /// The same environment once more.
+    pub fn copy(&self) -> Result<Env, Memory>
+        ensures mode { IfOk result (λ env. env.mode ≡ self.now.mode) }
+        ensures known { IfOk result (λ env. env_of env ≡ env_of self.now) }
+    {
+        Err(Memory)
+    }
+
+    /// What a name stands for, where it stands for anything.
+    fn meaning(&self, name: &Name) -> Option<&Meaning>
+        ensures { option_map (λ m. bound_of m.now) result ≡ env_of self.now name.now }
+    {
+        self.known.get(name)
+    }
+
+    /// The value that a name stands for, where it stands for one.
+    #[tactic(auto, unfolding(crate::specs::Bounds::bound_of, crate::specs::Bounds::only_value))]
+    pub fn entry(&self, name: &Name) -> Option<&Entry>
+        ensures { option_map (λ e. entry_bound e.now) result ≡ only_value (env_of self.now name.now) }
+    {
+        match self.meaning(name) {
+            Some(Meaning::Value(entry)) => Some(entry),
+            _ => None,
+        }
+    }
+
+    /// The domain that a name stands for, where it stands for one.
+    #[tactic(auto, unfolding(crate::specs::Bounds::bound_of, crate::specs::Bounds::only_domain))]
+    pub fn domain(&self, name: &Name) -> Option<&NamedDomain>
+        ensures { option_map (λ d. domain_of d.now) result ≡ only_domain (env_of self.now name.now) }
+    {
+        match self.meaning(name) {
+            Some(Meaning::Domain(domain)) => Some(domain),
+            _ => None,
+        }
+    }
+
+    /// The domain of the decision variable that a name stands for, where it stands for one.
+    #[tactic(auto, unfolding(crate::specs::Bounds::bound_of, crate::specs::Bounds::only_cells))]
+    pub fn cells(&self, name: &Name) -> Option<&NamedDomain>
+        ensures { option_map (λ d. cells_of d.now) result ≡ only_cells (env_of self.now name.now) }
+    {
+        match self.meaning(name) {
+            Some(Meaning::Cells(domain)) => Some(domain),
+            _ => None,
+        }
+    }
+}

@@ -1,0 +1,13 @@
+//! The value of an expression under an environment, by direct evaluation of its tree.
+#![tactic(auto)]
+
+mod copies;
+mod environments;
+mod errors;
+mod evaluation;
+
+pub use environments::{Env, NamedDomain};
+pub use errors::EvalError;
+pub use evaluation::{
+    Seen, domain_values, domain_values_after, evaluate, evaluate_after, scalar_in, type_in,
+};

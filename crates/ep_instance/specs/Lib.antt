@@ -1,0 +1,4 @@
+pub mod Elements
+pub mod Instances
+pub mod Refusals
+pub mod Judgements

@@ -1,0 +1,45 @@
+-- What the program's refusals say in the words of the definitions.
+use Rattle.std.specs.Prelude.{◌≡◌, Bool, List, Result, Ok, Err, Contains}
+use Rattle.ep_tree.specs.Binding.{Refusal, TextName, missing_parameter, model_text, outside_domain, over_limit, parameter_text, solution_text, undefined_at, where_false}
+use Rattle.ep_base.specs.declared.names.Name.{Name}
+use Rattle.ep_tree.specs.SolutionTexts as defined
+use Rattle.ep_tree.specs.Views.{assigned}
+use Rattle.ep_instance.specs.declared.judging.Shaped.{Shaped}
+use Rattle.ep_instance.specs.declared.judging.Shaped.TheVariants.{Fits, WrongShape}
+use Rattle.ep_instance.specs.declared.errors.BindError.{BindError}
+use Rattle.ep_instance.specs.declared.errors.BindError.TheVariants.{Missing, Outside, Undefined, WhereFalse, Limit, Memory}
+use Rattle.ep_instance.specs.declared.errors.Source.{Source}
+use Rattle.ep_instance.specs.declared.errors.Source.TheVariants.{Model, Params, Solution}
+
+-- which text a place is in
+abbrev pub text_name : Source → TextName
+text_name Model = model_text
+text_name Params = parameter_text
+text_name Solution = solution_text
+
+-- an error is one of some refusals; want of memory is the one that needs no cause
+abbrev pub IsOneOf : BindError → List Refusal → Type 0
+IsOneOf (Missing name) refusals = Contains refusals (missing_parameter name)
+IsOneOf (Outside name) refusals = Contains refusals (outside_domain name)
+IsOneOf (Undefined source place) refusals = Contains refusals (undefined_at (text_name source) place)
+IsOneOf (WhereFalse number) refusals = Contains refusals (where_false number)
+IsOneOf (Limit limit) refusals = Contains refusals (over_limit limit)
+IsOneOf Memory refusals = Unit {0}
+
+-- an error answers what is defined, where that is a list of refusals; want of memory may come at any point
+abbrev pub Refuses : {A : Type 0} → BindError → Result A (List Refusal) → Type 0
+Refuses Memory said = Unit {0}
+Refuses e (Ok x) = ⊥
+Refuses e (Err refusals) = IsOneOf e refusals
+
+-- an answer, seen by a view, is what is defined
+abbrev pub Answers : {V A : Type 0} → (V → A) → Result V BindError → Result A (List Refusal) → Type 0
+Answers view (Ok x) said = said ≡ Ok (view x)
+Answers view (Err e) said = Refuses e said
+
+-- An answer to a solution text is what is defined: an assignment that fits, or one of the names that keep it from having
+-- a right shape.
+abbrev pub ShapeAnswers : Result Shaped BindError → Result defined.Shaped (List Refusal) → Type 0
+ShapeAnswers (Ok (Fits a)) said = said ≡ Ok (defined.fits (assigned a))
+ShapeAnswers (Ok (WrongShape name)) said = (names : List Name) × (said ≡ Ok (defined.wrong_shape names)) × Contains names name
+ShapeAnswers (Err e) said = Refuses e said

