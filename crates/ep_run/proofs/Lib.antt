@@ -1,1 +1,10 @@
 mod Wanting
+mod Refusing
+mod FileReading
+mod Binding
+mod Chains
+mod Tasks
+mod Saying
+mod Promises
+mod Once
+mod VectorsOutcomes

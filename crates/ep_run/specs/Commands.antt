@@ -1,5 +1,5 @@
 -- What the words of a command want of a run.
-use Rattle.std.specs.Prelude.{◌≡◌, ℕ, List, [], ◌∷◌, ◌++◌, Option, Some, None, option_to_list, ¬◌}
+use Rattle.std.specs.Prelude.{◌≡◌, ℕ, List, [], ◌∷◌, ◌++◌, Option, Some, None, option_to_list}
 use Rattle.ep_words.specs.Commands.{IsCommand}
 use Rattle.ep_words.specs.declared.job.Job.{Job}
 use Rattle.ep_run.specs.declared.wanted.Wanted.{Wanted}
@@ -20,6 +20,6 @@ abbrev pub AreNoCommand : List (List ℕ) → Type 0
 AreNoCommand words = (wanted : Wanted) → ¬ Want words wanted
 
 -- the files that have to be read, in this order
-unfoldable pub files_of : Wanted → List (List ℕ)
+abbrev pub files_of : Wanted → List (List ℕ)
 files_of (Wanted.Solve model params) = model ∷ option_to_list params
 files_of (Wanted.Verify model params solution) = (model ∷ option_to_list params) ++ solution ∷ []

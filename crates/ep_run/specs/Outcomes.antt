@@ -49,17 +49,25 @@ bind_refusal (missing_parameter name) = Refusal.Missing name
 bind_refusal (outside_domain name) = Refusal.Outside name
 bind_refusal (where_false number) = Refusal.WhereFalse number
 
+-- the same of several
+abbrev pub bind_refusals : List BindRefusal → List Refusal
+bind_refusals refusals = map bind_refusal refusals
+
 -- the outcome of binding as one of a run
 unfoldable pub as_outcome : {A : Type 0} → Result A (List BindRefusal) → Outcome A
 as_outcome (Ok x) = Ok x
-as_outcome (Err rs) = Err (map bind_refusal rs)
+as_outcome (Err refusals) = Err (bind_refusals refusals)
+
+-- what binding a model and its parameters comes to
+abbrev pub bound_outcome : TextTree → TextTree → Outcome Instance
+bound_outcome model params = as_outcome (bind Mode.Relational model params)
 
 -- The instance of a model and its parameters, within the limits: what refuses to bind comes first, and then what the
 -- measures pass.
 unfoldable pub instance_of : TextTree → TextTree → Outcome Instance
 instance_of model params =
-    and_then (as_outcome (bind Mode.Relational model params)) (λ i.
-    unless_refused (map bind_refusal (instance_limits Mode.Relational i)) (Ok i))
+    and_then (bound_outcome model params) (λ i.
+    unless_refused (bind_refusals (instance_limits Mode.Relational i)) (Ok i))
 
 -- how many values a decision variable has: one of its numbers in each of its cells
 unfoldable pub value_count : Find → ℕ
@@ -94,6 +102,11 @@ solve_outcome model params =
     (unless_refused (fault_refusals TextFile.Params (params_faults params))
     (and_then (instance_of model params) (λ i.
     unless_refused (count_refusals i) (Ok (to_solve i)))))
+
+-- what judging a solution text by an instance comes to
+unfoldable pub judge_outcome : Instance → TextTree → Outcome Task
+judge_outcome i solution =
+    and_then (as_outcome (read_solution Mode.Relational i solution)) (λ shaped. Ok (to_judge i shaped))
 
 -- What verifying a solution text comes to. Its faults come before binding, and its lettings are evaluated last.
 unfoldable pub verify_outcome : TextTree → TextTree → TextTree → Outcome Task

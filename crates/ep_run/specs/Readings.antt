@@ -13,6 +13,11 @@ abbrev pub spells_in : TextFile → TextTree → Phrase
 spells_in TextFile.Model = SpellsModel
 spells_in _ = SpellsParams
 
+-- the text of such a file is a parameter or solution text
+abbrev pub HasParams : TextFile → Type 0
+HasParams TextFile.Model = ⊥
+HasParams _ = Unit {0}
+
 -- the tree that a text is read as, or its refusal
 unfoldable pub tree_or_refusal : TextFile → TextAnswer → Result TextTree Refusal
 tree_or_refusal file (read_as tree) = Ok tree

@@ -2,7 +2,7 @@
 --
 -- The words come first, then each file in its turn, then what is wrong in the texts, in the instance and in the solution.
 -- This order is the project's own choice.
-use Rattle.std.specs.Prelude.{◌≡◌, ◌⊎◌, ℕ, List, [], ◌∷◌, Result, Ok, Err, Contains}
+use Rattle.std.specs.Prelude.{◌≡◌, ◌⊎◌, ℕ, List, [], ◌∷◌, Option, Result, Ok, Err, Contains}
 use Rattle.ep_base.specs.Outside.{Held}
 use Rattle.ep_tree.specs.Statements.{TextTree}
 use Rattle.ep_print.specs.Refusals.{refusal_text}
@@ -21,17 +21,27 @@ ThenShows reads next outcome =
     ((tree : TextTree) × reads (Ok tree) × next tree outcome)
     ⊎ ((refusal : Refusal) × reads (Err refusal) × (outcome ≡ Err (refusal ∷ [])))
 
--- what is wanted comes to this over held files
-unfoldable pub ComesTo : Wanted → Held → Outcome Task → Type 0
+-- a model that was read is solved: its parameters are read
+abbrev pub comes_to_solve : Option (List ℕ) → TextTree → Held → Outcome Task → Type 0
+comes_to_solve params model held =
+    ThenShows (AreParams held params) (λ p outcome. outcome ≡ solve_outcome model p)
+
+-- a model and its parameters were read, and a solution is judged: its text is read
+abbrev pub comes_to_judge : List ℕ → TextTree → TextTree → Held → Outcome Task → Type 0
+comes_to_judge solution model params held =
+    ThenShows (IsReadAs held TextFile.Solution solution) (λ s outcome. outcome ≡ verify_outcome model params s)
+
+-- a model was read, and a solution of it is verified: its parameters are read
+abbrev pub comes_to_verify : Option (List ℕ) → List ℕ → TextTree → Held → Outcome Task → Type 0
+comes_to_verify params solution model held =
+    ThenShows (AreParams held params) (λ p. comes_to_judge solution model p held)
+
+-- what is wanted comes to this over held files: the model is read first
+abbrev pub ComesTo : Wanted → Held → Outcome Task → Type 0
 ComesTo (Wanted.Solve model params) held =
-    ThenShows (IsReadAs held TextFile.Model model) (λ m.
-    ThenShows (AreParams held params) (λ p outcome.
-    outcome ≡ solve_outcome m p))
+    ThenShows (IsReadAs held TextFile.Model model) (λ m. comes_to_solve params m held)
 ComesTo (Wanted.Verify model params solution) held =
-    ThenShows (IsReadAs held TextFile.Model model) (λ m.
-    ThenShows (AreParams held params) (λ p.
-    ThenShows (IsReadAs held TextFile.Solution solution) (λ s outcome.
-    outcome ≡ verify_outcome m p s)))
+    ThenShows (IsReadAs held TextFile.Model model) (λ m. comes_to_verify params solution m held)
 
 -- the words show this over held files
 abbrev pub Show : List (List ℕ) → Held → Outcome Task → Type 0

@@ -1,16 +1,21 @@
 -- What the steps of a run tell.
-use Rattle.std.specs.Prelude.{◌≡◌, ◌⊎◌, ◌+◌, ℕ, List, [], ◌∷◌, Vec, Global, Option, Some, None, Ok, Err, Result, Contains, IfSome, IsSomeAnd, ⊥}
+use Rattle.std.specs.Prelude.{◌≡◌, ◌⊎◌, ◌+◌, ℕ, List, [], ◌∷◌, Option, Some, None, Ok, Err, Result, Contains, IfSome, IsSomeAnd}
 use Rattle.ep_base.specs.Outside.{Held, ReadGives}
 use Rattle.ep_tree.specs.Statements.{TextTree}
 use Rattle.ep_tree.specs.Texts.{MOST_BYTES}
-use Rattle.ep_tree.specs.Views.{params_tree}
+use Rattle.ep_tree.specs.Views.{assigned, params_tree}
 use Rattle.ep_tree.specs.declared.statements.Params.{Params}
 use Rattle.ep_print.specs.Refusals.{refusal_text}
 use Rattle.ep_print.specs.declared.refusals.Refusal.{Refusal}
 use Rattle.ep_print.specs.declared.refusals.TextFile.{TextFile}
-use Rattle.ep_run.specs.Answers.{Answers}
+use Rattle.ep_tree.specs.Binding.{Instance}
+use Rattle.ep_tree.specs.SolutionTexts.{Shaped as PlainShaped, fits, read_solution, wrong_shape}
+use Rattle.ep_tree.specs.Solutions.{Fits, Found, judgement}
+use Rattle.ep_tree.specs.declared.values.Mode.{Mode}
+use Rattle.ep_instance.specs.declared.judging.Shaped.{Shaped}
+use Rattle.ep_run.specs.Answers.{Answers, judgement_status, judgement_text}
 use Rattle.ep_run.specs.Commands.{AreNoCommand, Want, files_of}
-use Rattle.ep_run.specs.Outcomes.{Outcome, Task}
+use Rattle.ep_run.specs.Outcomes.{Outcome, Task, as_outcome}
 use Rattle.ep_run.specs.Readings.{AreParams, IsReadAs, IsTextReadAs, without}
 use Rattle.ep_run.specs.Shown.{ComesTo}
 use Rattle.ep_run.specs.Status.{status_of}
@@ -52,6 +57,26 @@ TellsReply outcome (Ok reply) =
 TellsReply outcome (Err (Stop.Refused refusal)) = IsOfText refusal × IsAmong outcome refusal
 TellsReply outcome (Err Stop.Memory) = Unit {0}
 
+-- a status and a text are those of the judgement of an assignment
+abbrev pub IsJudged : Instance → Found → Status → List ℕ → Type 0
+IsJudged i found status text =
+    (status ≡ judgement_status (judgement Mode.Relational i found))
+    × (text ≡ judgement_text (judgement Mode.Relational i found))
+
+-- what an instance gives a solution text
+abbrev pub shape_outcome : Instance → TextTree → Outcome PlainShaped
+shape_outcome i solution = as_outcome (read_solution Mode.Relational i solution)
+
+-- a solution text gives an assignment that fits, or it is one of the names that keep it from that
+abbrev pub TellsShape : Instance → TextTree → Result Shaped Stop → Type 0
+TellsShape i solution (Ok (Shaped.Fits a)) =
+    (shape_outcome i solution ≡ Ok (fits (assigned a))) × (found : Found) × Fits i (assigned a) found
+TellsShape i solution (Ok (Shaped.WrongShape name)) =
+    (names : List (List ℕ)) × (shape_outcome i solution ≡ Ok (wrong_shape names)) × Contains names name
+TellsShape i solution (Err (Stop.Refused refusal)) =
+    IsOfText refusal × IsAmong (shape_outcome i solution) refusal
+TellsShape i solution (Err Stop.Memory) = Unit {0}
+
 -- ---- reading
 
 -- a file isn't there, or it wasn't read: a fault was counted
@@ -59,11 +84,11 @@ abbrev pub IsNotThere : Option Held → List ℕ → Type 0 → Type 0
 IsNotThere told name rose = rose ⊎ IsSomeAnd told (λ held. held name ≡ None)
 
 -- the bytes of a file were read, one more at most than a text may have; or it can't be read
-abbrev pub TellsBytes : Option Held → List ℕ → Type 0 → Result (Vec ℕ Global) Stop → Type 0
-TellsBytes told name rose (Ok bytes) = ReadGives told name (MOST_BYTES + 1) (Some bytes.items)
-TellsBytes told name rose (Err (Stop.Refused refusal)) =
+abbrev pub TellsBytes : {V : Type 0} → (V → List ℕ) → Option Held → List ℕ → Type 0 → Result V Stop → Type 0
+TellsBytes view told name rose (Ok bytes) = ReadGives told name (MOST_BYTES + 1) (Some (view bytes))
+TellsBytes view told name rose (Err (Stop.Refused refusal)) =
     (refusal ≡ Refusal.CannotRead name) × IsNotThere told name rose
-TellsBytes told name rose (Err Stop.Memory) = Unit {0}
+TellsBytes view told name rose (Err Stop.Memory) = Unit {0}
 
 -- a text is read as a tree, or it has a refusal
 abbrev pub TellsText : {V : Type 0} → (V → TextTree) → TextFile → List ℕ → Result V Stop → Type 0

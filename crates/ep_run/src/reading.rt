@@ -2,10 +2,9 @@
 
 ghost use Rattle.std.specs.Prelude.{◌≡◌, ◌≤◌, OnOk};
 ghost use Rattle.ep_base.specs.Outside.{Rose};
-ghost use Rattle.ep_tree.specs.StatementSpelling.{SpellsParams};
 ghost use Rattle.ep_tree.specs.Views.{model_tree, params_tree};
 ghost use Rattle.ep_print.specs.declared.refusals.TextFile.{TextFile as TextFileValue};
-ghost use Rattle.ep_run.specs.Readings.{spells_in};
+ghost use Rattle.ep_run.specs.Readings.{HasParams};
 ghost use Rattle.ep_run.specs.Steps.{TellsBytes, TellsParams, TellsRead, TellsText};
 
 use super::errors::text_stop;
@@ -38,7 +37,7 @@ pub fn read_params<F: Files>(
     file: TextFile,
     name: &Word,
 ) -> Result<Params, Stop>
-    requires { spells_in file ≡ SpellsParams }
+    requires { HasParams file }
     ensures tells { TellsRead params_tree (F.held files.old) file name.now
         (Rose (F.faults files.old) (F.faults files.new)) result }
     ensures held { F.held files.new ≡ F.held files.old }
@@ -71,7 +70,7 @@ pub fn read_named_params<F: Files>(
 
 /// Reads a file, one byte more at most than a text may have.
 fn read_bytes<F: Files>(alloc: Global, files: &mut F, name: &Word) -> Result<Vec<u8>, Stop>
-    ensures tells { TellsBytes (F.held files.old) name.now
+    ensures tells { TellsBytes (λ bytes. bytes.items) (F.held files.old) name.now
         (Rose (F.faults files.old) (F.faults files.new)) result }
     ensures held { F.held files.new ≡ F.held files.old }
     ensures faults { F.faults files.old ≤ F.faults files.new }
@@ -98,7 +97,7 @@ fn model_in(alloc: Global, text: &[u8]) -> Result<Model, Stop>
 
 /// The parameter text or the solution text that a text is.
 fn params_in(alloc: Global, file: TextFile, text: &[u8]) -> Result<Params, Stop>
-    requires { spells_in file ≡ SpellsParams }
+    requires { HasParams file }
     ensures { TellsText params_tree file text.now result }
 {
     match parse_params(alloc, text) {

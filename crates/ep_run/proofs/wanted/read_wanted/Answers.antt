@@ -7,4 +7,4 @@ returns-in-None c =
     (refl, no-wanted c.args.words.now c.in-Ok.job c.one_job_for_words.ensures c.in-Ok.ensures.job cc)
 
 pub returns-in-Err-Usage : goal.returns-in-Err-Usage
-returns-in-Err-Usage c = (refl, no-job c.args.words.now (c.in-Err-Usage.ensures.usage refl))
+returns-in-Err-Usage c = (refl, no-job c.args.words.now (c.in-Err-Usage.ensures.usage cc))
