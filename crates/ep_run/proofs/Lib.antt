@@ -1,10 +1,3 @@
 mod Wanting
-mod Refusing
-mod FileReading
-mod Binding
-mod Chains
-mod Tasks
-mod Saying
-mod Promises
-mod Once
+mod Puts
 mod VectorsOutcomes

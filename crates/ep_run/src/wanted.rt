@@ -15,7 +15,10 @@ use std::alloc::Global;
 #[derive(Debug, Drop)]
 pub enum Wanted {
     /// To solve a model.
-    Solve { model: Word, params: Option<Word> },
+    Solve {
+        model: Word,
+        params: Option<Word>,
+    },
     /// To say whether a solution text is a solution of a model.
     Verify {
         model: Word,
