@@ -90,6 +90,11 @@ TellsBytes view told name rose (Err (Stop.Refused refusal)) =
     (refusal ≡ Refusal.CannotRead name) × IsNotThere told name rose
 TellsBytes view told name rose (Err Stop.Memory) = Unit {0}
 
+-- a file can't be read; want of memory says nothing
+abbrev pub IsUnreadStop : List ℕ → Stop → Type 0
+IsUnreadStop name (Stop.Refused refusal) = refusal ≡ Refusal.CannotRead name
+IsUnreadStop name Stop.Memory = Unit {0}
+
 -- a text is read as a tree, or it has a refusal
 abbrev pub TellsText : {V : Type 0} → (V → TextTree) → TextFile → List ℕ → Result V Stop → Type 0
 TellsText view file text (Ok x) = IsTextReadAs file text (Ok (view x))

@@ -57,7 +57,10 @@ fn bound(alloc: Global, model: Typed, params: TypedParams) -> Result<Instance, S
     ensures mode { IfOk result (λ i. mode_of i ≡ ModeValue.Relational) }
     ensures closed { IfOk result (λ i. IsClosed (plain_instance i)) }
 {
-    Err(Stop::Memory)
+    match bind(alloc, model, params, Mode::Relational) {
+        Ok(instance) => Ok(instance),
+        Err(error) => Err(bind_stop(error)),
+    }
 }
 
 /// Passes an instance that is within the limits of its measures.
@@ -67,5 +70,9 @@ fn check_limits(alloc: Global, instance: &Instance) -> Result<(), Stop>
     ensures { Passes
         (bind_refusals (instance_limits ModeValue.Relational (plain_instance instance.now))) result }
 {
-    Err(Stop::Memory)
+    match measure(alloc, instance) {
+        Ok(_) => Ok(()),
+        Err(SizeError::Limit(limit)) => Err(Stop::Refused(Refusal::Over(limit))),
+        Err(SizeError::Memory) => Err(Stop::Memory),
+    }
 }

@@ -59,7 +59,11 @@ fn judged(alloc: Global, instance: &Instance, assignment: &Assignment) -> Result
         → Fits (plain_instance instance.now) (assigned assignment.now) found
         → IsJudged (plain_instance instance.now) found reply.status reply.text.items) }
 {
-    Err(Memory)
+    let judgement = is_solution(alloc, instance, assignment)?;
+    Ok(Reply {
+        status: judgement_status(&judgement),
+        text: judgement_text(alloc, &judgement)?,
+    })
 }
 
 /// How a run ends that judges an assignment.

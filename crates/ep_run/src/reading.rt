@@ -5,11 +5,11 @@ ghost use Rattle.ep_base.specs.Outside.{Rose};
 ghost use Rattle.ep_tree.specs.Views.{model_tree, params_tree};
 ghost use Rattle.ep_print.specs.declared.refusals.TextFile.{TextFile as TextFileValue};
 ghost use Rattle.ep_run.specs.Readings.{HasParams};
-ghost use Rattle.ep_run.specs.Steps.{TellsBytes, TellsParams, TellsRead, TellsText};
+ghost use Rattle.ep_run.specs.Steps.{TellsBytes, TellsParams, TellsRead, TellsText, IsUnreadStop};
 
 use super::errors::text_stop;
 use super::stops::Stop;
-use ep_base::{FileError, Files, Word};
+use ep_base::{FileError, Files, Memory, Word};
 use ep_parse_model::{parse_model, parse_params};
 use ep_print::{Refusal, TextFile};
 use ep_tree::{Model, Params};
@@ -72,11 +72,24 @@ fn read_bytes<F: Files>(alloc: Global, files: &mut F, name: &Word) -> Result<Vec
     Err(Stop::Memory)
 }
 
+/// A file can't be read.
+fn unread(alloc: Global, name: &Word) -> Stop
+    ensures { IsUnreadStop name.now result }
+{
+    match Word::new(alloc, name.text()) {
+        Ok(word) => Stop::Refused(Refusal::CannotRead(word)),
+        Err(Memory) => Stop::Memory,
+    }
+}
+
 /// The model that a text is.
 fn model_in(alloc: Global, text: &[u8]) -> Result<Model, Stop>
     ensures { TellsText model_tree TextFileValue.Model text.now result }
 {
-    Err(Stop::Memory)
+    match parse_model(alloc, text) {
+        Ok(model) => Ok(model),
+        Err(error) => Err(text_stop(TextFile::Model, error)),
+    }
 }
 
 /// The parameter text or the solution text that a text is.
@@ -84,5 +97,8 @@ fn params_in(alloc: Global, file: TextFile, text: &[u8]) -> Result<Params, Stop>
     requires { HasParams file }
     ensures { TellsText params_tree file text.now result }
 {
-    Err(Stop::Memory)
+    match parse_params(alloc, text) {
+        Ok(params) => Ok(params),
+        Err(error) => Err(text_stop(file, error)),
+    }
 }
