@@ -1,0 +1,12 @@
+mod Wanting
+mod Puts
+mod VectorsOutcomes
+mod Refusing
+mod FileReading
+mod Binding
+mod Limits
+mod Chains
+mod Tasks
+mod Saying
+mod Promises
+mod Once

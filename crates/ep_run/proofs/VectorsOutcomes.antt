@@ -1,0 +1,118 @@
+-- Worked examples of what commands want, of what texts come to, and of what is said, computed by the checker.
+use Rattle.std.proofs.Common.{◌≡◌, ℕ, List, [], ◌∷◌, ℤ, pos, negsuc, codes, Some, None, Ok, Err, refl}
+use Rattle.std.specs.Fmt.{digits}
+use Rattle.ep_base.specs.declared.places.Place.{Place}
+use Rattle.ep_base.specs.declared.operators.Sense.{Sense}
+use Rattle.ep_print.specs.declared.refusals.Refusal.{Refusal}
+use Rattle.ep_print.specs.declared.refusals.TextFile.{TextFile}
+use Rattle.ep_tree.specs.Solutions.{a_solution, goal_undefined, violates}
+use Rattle.ep_tree.specs.Statements.{StatementTree, TextTree, constraints, letting}
+use Rattle.ep_tree.specs.Trees.{ExprTree, named, number}
+use Rattle.ep_tree.specs.Faults.{clause_faults, declaration_faults, faults, faults_after, name_faults, params_faults, stated_faults, statement_faults, text_faults, type_fault, unless}
+use Rattle.ep_tree.specs.StatementSpelling.{is_letting}
+use Rattle.ep_tree.specs.Types.{from_one, judge, named_type}
+use Rattle.ep_words.specs.declared.job.Job.{Job}
+use Rattle.ep_run.specs.Answers.{judgement_status, judgement_text}
+use Rattle.ep_run.specs.Commands.{wanted_of}
+use Rattle.ep_run.specs.Outcomes.{fault_refusal, solve_outcome, unless_refused, verify_outcome}
+use Rattle.ep_run.specs.Status.{code_of, status_of}
+use Rattle.ep_run.specs.declared.status.Status.{Status}
+use Rattle.ep_run.specs.declared.wanted.Wanted.{Wanted}
+
+-- ---- what is wanted
+
+abbrev m : List ℕ
+m = codes "m"
+
+abbrev s : List ℕ
+s = codes "s"
+
+solve-runs : wanted_of (Job.Solve m None 7 None None None) ≡ Some (Wanted.Solve m None)
+unfolding wanted_of
+solve-runs = refl
+
+files-are-not-written : wanted_of (Job.Solve m None 7 (Some s) None None) ≡ None
+unfolding wanted_of
+files-are-not-written = refl
+
+verify-runs : wanted_of (Job.Verify m s (Some m)) ≡ Some (Wanted.Verify m (Some m) s)
+unfolding wanted_of
+verify-runs = refl
+
+-- ---- faults: those of the model come first, then those of the parameters, then those of the solution text
+
+abbrev at : ℕ → ℕ → Place
+at line column = record { line = line; column = column }
+
+abbrev unknown : ℕ → ExprTree
+unknown column = named (at 1 column) (codes "y")
+
+abbrev faulty-model : TextTree
+faulty-model = constraints (at 1 1) (unknown 11 ∷ []) ∷ []
+
+abbrev faulty-params : TextTree
+faulty-params = letting (at 1 1) (codes "n") (at 1 9) None (unknown 14) ∷ []
+
+model-first : solve_outcome faulty-model faulty-params ≡ Err (Refusal.UnknownName TextFile.Model (at 1 11) (codes "y") ∷ [])
+unfolding clause_faults fault_refusal faults faults_after from_one judge name_faults named_type solve_outcome statement_faults text_faults type_fault unless_refused
+model-first = refl
+
+params-next : solve_outcome [] faulty-params ≡ Err (Refusal.UnknownName TextFile.Params (at 1 14) (codes "y") ∷ [])
+unfolding declaration_faults fault_refusal faults faults_after is_letting name_faults params_faults solve_outcome stated_faults statement_faults text_faults unless unless_refused
+params-next = refl
+
+solution-last : verify_outcome [] [] faulty-params ≡ Err (Refusal.UnknownName TextFile.Solution (at 1 14) (codes "y") ∷ [])
+unfolding declaration_faults fault_refusal faults faults_after is_letting name_faults params_faults stated_faults statement_faults text_faults unless unless_refused verify_outcome
+solution-last = refl
+
+params-before-solution : verify_outcome [] faulty-params faulty-params ≡ Err (Refusal.UnknownName TextFile.Params (at 1 14) (codes "y") ∷ [])
+unfolding declaration_faults fault_refusal faults faults_after is_letting name_faults params_faults stated_faults statement_faults text_faults unless unless_refused verify_outcome
+params-before-solution = refl
+
+-- ---- what is said of an assignment
+
+solution-says : judgement_text (a_solution None) ≡ codes "$ solution\n"
+unfolding judgement_text
+solution-says = refl
+
+objective-says : judgement_text (a_solution (Some (negsuc 2))) ≡ codes "$ solution objective -3\n"
+unfolding digits judgement_text
+objective-says = refl
+
+violated-says : judgement_text (violates 12) ≡ codes "$ violated 12\n"
+unfolding digits judgement_text
+violated-says = refl
+
+undefined-says : judgement_text goal_undefined ≡ codes "$ objective undefined\n"
+unfolding judgement_text
+undefined-says = refl
+
+solution-ends : code_of (judgement_status (a_solution None)) ≡ 0
+unfolding judgement_status
+solution-ends = refl
+
+violated-ends : code_of (judgement_status (violates 1)) ≡ 7
+unfolding judgement_status
+violated-ends = refl
+
+undefined-ends : code_of (judgement_status goal_undefined) ≡ 7
+unfolding judgement_status
+undefined-ends = refl
+
+-- ---- codes
+
+usage-code : code_of (status_of Refusal.Usage) ≡ 2
+unfolding status_of
+usage-code = refl
+
+fault-code : code_of (status_of (Refusal.WhereFalse 1)) ≡ 3
+unfolding status_of
+fault-code = refl
+
+early-code : code_of (status_of Refusal.TooManyToTry) ≡ 4
+unfolding status_of
+early-code = refl
+
+device-code : code_of (status_of (Refusal.CannotRead m)) ≡ 5
+unfolding status_of
+device-code = refl

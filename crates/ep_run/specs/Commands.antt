@@ -1,0 +1,25 @@
+-- What the words of a command want of a run.
+use Rattle.std.specs.Prelude.{◌≡◌, ℕ, List, [], ◌∷◌, ◌++◌, Option, Some, None, option_to_list}
+use Rattle.ep_words.specs.Commands.{IsCommand}
+use Rattle.ep_words.specs.declared.job.Job.{Job}
+use Rattle.ep_run.specs.declared.wanted.Wanted.{Wanted}
+
+-- What a job wants of a run: to solve a model, or to verify a solution. Files to write, lists of solutions, proofs to
+-- check and inputs to generate don't run yet. Trying assignments makes no conflict, so any number of them is enough.
+unfoldable pub wanted_of : Job → Option Wanted
+wanted_of (Job.Solve model params conflicts None None None) = Some (Wanted.Solve model params)
+wanted_of (Job.Verify model solution params) = Some (Wanted.Verify model params solution)
+wanted_of _ = None
+
+-- the words are a command that wants this
+abbrev pub Want : List (List ℕ) → Wanted → Type 0
+Want words wanted = (job : Job) × IsCommand words job × (wanted_of job ≡ Some wanted)
+
+-- the words are no command that runs
+abbrev pub AreNoCommand : List (List ℕ) → Type 0
+AreNoCommand words = (wanted : Wanted) → ¬ Want words wanted
+
+-- the files that have to be read, in this order
+abbrev pub files_of : Wanted → List (List ℕ)
+files_of (Wanted.Solve model params) = model ∷ option_to_list params
+files_of (Wanted.Verify model params solution) = (model ∷ option_to_list params) ++ solution ∷ []

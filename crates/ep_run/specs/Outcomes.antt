@@ -1,0 +1,118 @@
+-- What steps over trees come to: the task with what it needs, or the refusals of the first step that refuses.
+use Rattle.std.specs.Prelude.{ℕ, ◌*◌, ◌^◌, List, [], ◌∷◌, map, length, nat_lt, if◌then◌else◌, Result, Ok, Err}
+use Rattle.ep_tree.specs.Binding.{Find, Instance, Refusal as BindRefusal, TextName, bind, missing_parameter, model_text, outside_domain, over_limit, parameter_text, solution_text, undefined_at, where_false}
+use Rattle.ep_tree.specs.Faults.{Fault, ill_typed, open_domain, params_faults, redeclared, text_faults, unknown_name, wrong_category}
+use Rattle.ep_tree.specs.SolutionTexts.{Shaped, read_solution}
+use Rattle.ep_tree.specs.Solutions.{cell_count, instance_limits}
+use Rattle.ep_tree.specs.Statements.{TextTree}
+use Rattle.ep_tree.specs.declared.values.Mode.{Mode}
+use Rattle.ep_print.specs.declared.refusals.Refusal.{Refusal}
+use Rattle.ep_print.specs.declared.refusals.TextFile.{TextFile}
+
+-- what steps come to: what they give, or the refusals of which one is answered
+abbrev pub Outcome : Type 0 → Type 0
+Outcome A = Result A (List Refusal)
+
+-- refusals come first where there are any, and else an outcome
+unfoldable pub unless_refused : {A : Type 0} → List Refusal → Outcome A → Outcome A
+unless_refused [] outcome = outcome
+unless_refused (r ∷ rs) outcome = Err (r ∷ rs)
+
+-- a step, and then another that needs what it gives
+unfoldable pub and_then : {A B : Type 0} → Outcome A → (A → Outcome B) → Outcome B
+and_then (Ok x) next = next x
+and_then (Err rs) next = Err rs
+
+-- the refusal of a fault in a text
+unfoldable pub fault_refusal : TextFile → Fault → Refusal
+fault_refusal file (unknown_name place name) = Refusal.UnknownName file place name
+fault_refusal file (redeclared place name) = Refusal.Redeclared file place name
+fault_refusal file (ill_typed place) = Refusal.IllTyped file place
+fault_refusal file (wrong_category place) = Refusal.WrongCategory file place
+fault_refusal file (open_domain place) = Refusal.OpenDomain file place
+
+-- the refusals of the faults of a text, of which any may be named
+abbrev pub fault_refusals : TextFile → List Fault → List Refusal
+fault_refusals file faults = map (fault_refusal file) faults
+
+-- the word for the text of a place
+unfoldable pub file_of : TextName → TextFile
+file_of model_text = TextFile.Model
+file_of parameter_text = TextFile.Params
+file_of solution_text = TextFile.Solution
+
+-- what refuses to bind, as a refusal of a run
+unfoldable pub bind_refusal : BindRefusal → Refusal
+bind_refusal (over_limit limit) = Refusal.Over limit
+bind_refusal (undefined_at text place) = Refusal.Undefined (file_of text) place
+bind_refusal (missing_parameter name) = Refusal.Missing name
+bind_refusal (outside_domain name) = Refusal.Outside name
+bind_refusal (where_false number) = Refusal.WhereFalse number
+
+-- the same of several
+abbrev pub bind_refusals : List BindRefusal → List Refusal
+bind_refusals refusals = map bind_refusal refusals
+
+-- the outcome of binding as one of a run
+unfoldable pub as_outcome : {A : Type 0} → Result A (List BindRefusal) → Outcome A
+as_outcome (Ok x) = Ok x
+as_outcome (Err refusals) = Err (bind_refusals refusals)
+
+-- what binding a model and its parameters comes to
+abbrev pub bound_outcome : TextTree → TextTree → Outcome Instance
+bound_outcome model params = as_outcome (bind Mode.Relational model params)
+
+-- The instance of a model and its parameters, within the limits: what refuses to bind comes first, and then what the
+-- measures pass.
+unfoldable pub instance_of : TextTree → TextTree → Outcome Instance
+instance_of model params =
+    and_then (bound_outcome model params) (λ i.
+    unless_refused (bind_refusals (instance_limits Mode.Relational i)) (Ok i))
+
+-- how many values a decision variable has: one of its numbers in each of its cells
+unfoldable pub value_count : Find → ℕ
+value_count f = length f.values ^ cell_count f.indices
+
+-- the product of some numbers
+unfoldable pub product_of : List ℕ → ℕ
+product_of [] = 1
+product_of (n ∷ ns) = n * product_of ns
+
+-- how many assignments give each decision variable one of its values
+unfoldable pub assignment_count : Instance → ℕ
+assignment_count i = product_of (map value_count i.finds)
+
+-- no more assignments than these are tried
+abbrev pub MOST_ASSIGNMENTS : ℕ
+MOST_ASSIGNMENTS = 1000000
+
+-- an instance with too many assignments to try them is refused
+unfoldable pub count_refusals : Instance → List Refusal
+count_refusals i = if nat_lt MOST_ASSIGNMENTS (assignment_count i) then Refusal.TooManyToTry ∷ [] else []
+
+-- a task with what it needs: an instance to solve, or an instance with what a solution text gives it
+pub data Task : Type 0 where
+  to_solve : Instance → Task
+  to_judge : Instance → Shaped → Task
+
+-- What solving a model under parameters comes to. The faults of the model come first, then those of the parameters.
+unfoldable pub solve_outcome : TextTree → TextTree → Outcome Task
+solve_outcome model params =
+    unless_refused (fault_refusals TextFile.Model (text_faults model))
+    (unless_refused (fault_refusals TextFile.Params (params_faults params))
+    (and_then (instance_of model params) (λ i.
+    unless_refused (count_refusals i) (Ok (to_solve i)))))
+
+-- what judging a solution text by an instance comes to
+unfoldable pub judge_outcome : Instance → TextTree → Outcome Task
+judge_outcome i solution =
+    and_then (as_outcome (read_solution Mode.Relational i solution)) (λ shaped. Ok (to_judge i shaped))
+
+-- What verifying a solution text comes to. Its faults come before binding, and its lettings are evaluated last.
+unfoldable pub verify_outcome : TextTree → TextTree → TextTree → Outcome Task
+verify_outcome model params solution =
+    unless_refused (fault_refusals TextFile.Model (text_faults model))
+    (unless_refused (fault_refusals TextFile.Params (params_faults params))
+    (unless_refused (fault_refusals TextFile.Solution (params_faults solution))
+    (and_then (instance_of model params) (λ i.
+    and_then (as_outcome (read_solution Mode.Relational i solution)) (λ shaped. Ok (to_judge i shaped))))))

@@ -1,0 +1,64 @@
+-- What a command over held files shows: the task with what it needs, or the refusals of the first step that refuses.
+--
+-- The words come first, then each file in its turn, then what is wrong in the texts, in the instance and in the solution.
+-- This order is the project's own choice.
+use Rattle.std.specs.Prelude.{◌≡◌, ◌⊎◌, ℕ, List, [], ◌∷◌, Option, Result, Ok, Err, Contains}
+use Rattle.ep_base.specs.Outside.{Held}
+use Rattle.ep_tree.specs.Statements.{TextTree}
+use Rattle.ep_print.specs.Refusals.{refusal_text}
+use Rattle.ep_print.specs.declared.refusals.Refusal.{Refusal}
+use Rattle.ep_print.specs.declared.refusals.TextFile.{TextFile}
+use Rattle.ep_run.specs.Commands.{AreNoCommand, Want}
+use Rattle.ep_run.specs.Outcomes.{Outcome, Task, solve_outcome, verify_outcome}
+use Rattle.ep_run.specs.Readings.{AreParams, IsReadAs}
+use Rattle.ep_run.specs.Status.{status_of}
+use Rattle.ep_run.specs.declared.status.Status.{Status}
+use Rattle.ep_run.specs.declared.wanted.Wanted.{Wanted}
+
+-- a file is read, and what follows comes out; or it is refused, and that comes out
+abbrev pub ThenShows : (Result TextTree Refusal → Type 0) → (TextTree → Outcome Task → Type 0) → Outcome Task → Type 0
+ThenShows reads next outcome =
+    ((tree : TextTree) × reads (Ok tree) × next tree outcome)
+    ⊎ ((refusal : Refusal) × reads (Err refusal) × (outcome ≡ Err (refusal ∷ [])))
+
+-- a model that was read is solved: its parameters are read
+abbrev pub comes_to_solve : Option (List ℕ) → TextTree → Held → Outcome Task → Type 0
+comes_to_solve params model held =
+    ThenShows (AreParams held params) (λ p outcome. outcome ≡ solve_outcome model p)
+
+-- a model and its parameters were read, and a solution is judged: its text is read
+abbrev pub comes_to_judge : List ℕ → TextTree → TextTree → Held → Outcome Task → Type 0
+comes_to_judge solution model params held =
+    ThenShows (IsReadAs held TextFile.Solution solution) (λ s outcome. outcome ≡ verify_outcome model params s)
+
+-- a model was read, and a solution of it is verified: its parameters are read
+abbrev pub comes_to_verify : Option (List ℕ) → List ℕ → TextTree → Held → Outcome Task → Type 0
+comes_to_verify params solution model held =
+    ThenShows (AreParams held params) (λ p. comes_to_judge solution model p held)
+
+-- what is wanted comes to this over held files: the model is read first
+abbrev pub ComesTo : Wanted → Held → Outcome Task → Type 0
+ComesTo (Wanted.Solve model params) held =
+    ThenShows (IsReadAs held TextFile.Model model) (λ m. comes_to_solve params m held)
+ComesTo (Wanted.Verify model params solution) held =
+    ThenShows (IsReadAs held TextFile.Model model) (λ m. comes_to_verify params solution m held)
+
+-- the words show this over held files
+abbrev pub Show : List (List ℕ) → Held → Outcome Task → Type 0
+Show words held outcome =
+    (AreNoCommand words × (outcome ≡ Err (Refusal.Usage ∷ [])))
+    ⊎ ((wanted : Wanted) × Want words wanted × ComesTo wanted held outcome)
+
+-- the words show the task
+abbrev pub Ask : List (List ℕ) → Held → Task → Type 0
+Ask words held task = Show words held (Ok task)
+
+-- the words show refusals, of which this is one
+abbrev pub Refuse : List (List ℕ) → Held → Refusal → Type 0
+Refuse words held refusal =
+    (refusals : List Refusal) × Show words held (Err refusals) × Contains refusals refusal
+
+-- the words show a refusal with this status and this line
+abbrev pub Refuses : List (List ℕ) → Held → Status → List ℕ → Type 0
+Refuses words held status line =
+    (refusal : Refusal) × Refuse words held refusal × (status ≡ status_of refusal) × (line ≡ refusal_text refusal)

@@ -1,0 +1,40 @@
+-- How a run ends.
+use Rattle.std.specs.Prelude.{ℕ}
+use Rattle.ep_print.specs.declared.refusals.Refusal.{Refusal}
+use Rattle.ep_run.specs.declared.status.Status.{Status}
+
+-- the code with which the program ends
+abbrev pub code_of : Status → ℕ
+code_of Status.Answered = 0
+code_of Status.Unknown = 1
+code_of Status.Usage = 2
+code_of Status.Text = 3
+code_of Status.Limit = 4
+code_of Status.Device = 5
+code_of Status.Memory = 6
+code_of Status.Refuted = 7
+
+-- how a run ends that is refused
+unfoldable pub status_of : Refusal → Status
+status_of Refusal.Usage = Status.Usage
+status_of (Refusal.BadByte _ _) = Status.Text
+status_of (Refusal.Syntax _ _) = Status.Text
+status_of (Refusal.UnknownName _ _ _) = Status.Text
+status_of (Refusal.Redeclared _ _ _) = Status.Text
+status_of (Refusal.IllTyped _ _) = Status.Text
+status_of (Refusal.WrongCategory _ _) = Status.Text
+status_of (Refusal.OpenDomain _ _) = Status.Text
+status_of (Refusal.Missing _) = Status.Text
+status_of (Refusal.Outside _) = Status.Text
+status_of (Refusal.Undefined _ _) = Status.Text
+status_of (Refusal.WhereFalse _) = Status.Text
+status_of (Refusal.BadCnf _) = Status.Text
+status_of (Refusal.BadLog _) = Status.Text
+status_of (Refusal.TooLong _) = Status.Limit
+status_of (Refusal.LongNumber _ _) = Status.Limit
+status_of (Refusal.TooHigh _ _) = Status.Limit
+status_of (Refusal.Over _) = Status.Limit
+status_of Refusal.TooManyToTry = Status.Limit
+status_of (Refusal.CannotRead _) = Status.Device
+status_of (Refusal.CannotWrite _) = Status.Device
+status_of Refusal.Memory = Status.Memory

@@ -1,0 +1,187 @@
+-- What the steps of a run tell.
+use Rattle.std.specs.Prelude.{◌≡◌, ◌⊎◌, ◌+◌, ℕ, List, [], ◌∷◌, Option, Some, None, Ok, Err, Result, Contains, IfSome, IsSomeAnd}
+use Rattle.ep_base.specs.Outside.{Held, ReadGives}
+use Rattle.ep_tree.specs.Statements.{TextTree}
+use Rattle.ep_tree.specs.Texts.{MOST_BYTES}
+use Rattle.ep_tree.specs.Views.{assigned, params_tree}
+use Rattle.ep_tree.specs.declared.statements.Params.{Params}
+use Rattle.ep_print.specs.Refusals.{refusal_text}
+use Rattle.ep_print.specs.declared.refusals.Refusal.{Refusal}
+use Rattle.ep_print.specs.declared.refusals.TextFile.{TextFile}
+use Rattle.ep_tree.specs.Binding.{Instance}
+use Rattle.ep_tree.specs.SolutionTexts.{Shaped as PlainShaped, fits, read_solution, wrong_shape}
+use Rattle.ep_tree.specs.Solutions.{Fits, Found, judgement}
+use Rattle.ep_tree.specs.declared.values.Mode.{Mode}
+use Rattle.ep_instance.specs.declared.judging.Shaped.{Shaped}
+use Rattle.ep_run.specs.Answers.{Answers, judgement_status, judgement_text}
+use Rattle.ep_run.specs.Commands.{AreNoCommand, Want, files_of}
+use Rattle.ep_run.specs.Outcomes.{Outcome, Task, as_outcome}
+use Rattle.ep_run.specs.Readings.{AreParams, IsReadAs, IsTextReadAs, without}
+use Rattle.ep_run.specs.Shown.{ComesTo}
+use Rattle.ep_run.specs.Status.{status_of}
+use Rattle.ep_run.specs.declared.replies.Reply.{Reply}
+use Rattle.ep_run.specs.declared.status.Status.{Status}
+use Rattle.ep_run.specs.declared.stops.Stop.{Stop}
+use Rattle.ep_run.specs.declared.wanted.Wanted.{Wanted}
+
+-- the words want this, or they are no command
+abbrev pub TellsWanted : List (List ℕ) → Result Wanted Stop → Type 0
+TellsWanted words (Ok wanted) = Want words wanted
+TellsWanted words (Err (Stop.Refused refusal)) = (refusal ≡ Refusal.Usage) × AreNoCommand words
+TellsWanted words (Err Stop.Memory) = Unit {0}
+
+-- a refusal is a fault or a limit of a text
+abbrev pub IsOfText : Refusal → Type 0
+IsOfText refusal = (status_of refusal ≡ Status.Text) ⊎ (status_of refusal ≡ Status.Limit)
+
+-- some refusals come out, and this is one of them
+abbrev pub IsAmong : {A : Type 0} → Outcome A → Refusal → Type 0
+IsAmong outcome refusal = (refusals : List Refusal) × (outcome ≡ Err refusals) × Contains refusals refusal
+
+-- a step tells what an outcome is: it gives the value, or one of the refusals; want of memory tells nothing
+abbrev pub Tells : {V A : Type 0} → (V → A) → Outcome A → Result V Stop → Type 0
+Tells view outcome (Ok x) = outcome ≡ Ok (view x)
+Tells view outcome (Err (Stop.Refused refusal)) = IsOfText refusal × IsAmong outcome refusal
+Tells view outcome (Err Stop.Memory) = Unit {0}
+
+-- a step passes where there are no refusals, and else names one of them
+abbrev pub Passes : {V : Type 0} → List Refusal → Result V Stop → Type 0
+Passes refusals (Ok x) = refusals ≡ []
+Passes refusals (Err (Stop.Refused refusal)) = IsOfText refusal × Contains refusals refusal
+Passes refusals (Err Stop.Memory) = Unit {0}
+
+-- a reply answers the task that comes out, or one of the refusals
+abbrev pub TellsReply : Outcome Task → Result Reply Stop → Type 0
+TellsReply outcome (Ok reply) =
+    (task : Task) × (outcome ≡ Ok task) × Answers task reply.status reply.text.items
+TellsReply outcome (Err (Stop.Refused refusal)) = IsOfText refusal × IsAmong outcome refusal
+TellsReply outcome (Err Stop.Memory) = Unit {0}
+
+-- a status and a text are those of the judgement of an assignment
+abbrev pub IsJudged : Instance → Found → Status → List ℕ → Type 0
+IsJudged i found status text =
+    (status ≡ judgement_status (judgement Mode.Relational i found))
+    × (text ≡ judgement_text (judgement Mode.Relational i found))
+
+-- what an instance gives a solution text
+abbrev pub shape_outcome : Instance → TextTree → Outcome PlainShaped
+shape_outcome i solution = as_outcome (read_solution Mode.Relational i solution)
+
+-- a solution text gives an assignment that fits, or it is one of the names that keep it from that
+abbrev pub TellsShape : Instance → TextTree → Result Shaped Stop → Type 0
+TellsShape i solution (Ok (Shaped.Fits a)) =
+    (shape_outcome i solution ≡ Ok (fits (assigned a))) × (found : Found) × Fits i (assigned a) found
+TellsShape i solution (Ok (Shaped.WrongShape name)) =
+    (names : List (List ℕ)) × (shape_outcome i solution ≡ Ok (wrong_shape names)) × Contains names name
+TellsShape i solution (Err (Stop.Refused refusal)) =
+    IsOfText refusal × IsAmong (shape_outcome i solution) refusal
+TellsShape i solution (Err Stop.Memory) = Unit {0}
+
+-- ---- reading
+
+-- a file isn't there, or it wasn't read: a fault was counted
+abbrev pub IsNotThere : Option Held → List ℕ → Type 0 → Type 0
+IsNotThere told name rose = rose ⊎ IsSomeAnd told (λ held. held name ≡ None)
+
+-- the bytes of a file were read, one more at most than a text may have; or it can't be read
+abbrev pub TellsBytes : {V : Type 0} → (V → List ℕ) → Option Held → List ℕ → Type 0 → Result V Stop → Type 0
+TellsBytes view told name rose (Ok bytes) = ReadGives told name (MOST_BYTES + 1) (Some (view bytes))
+TellsBytes view told name rose (Err (Stop.Refused refusal)) =
+    (refusal ≡ Refusal.CannotRead name) × IsNotThere told name rose
+TellsBytes view told name rose (Err Stop.Memory) = Unit {0}
+
+-- a file can't be read; want of memory says nothing
+abbrev pub IsUnreadStop : List ℕ → Stop → Type 0
+IsUnreadStop name (Stop.Refused refusal) = refusal ≡ Refusal.CannotRead name
+IsUnreadStop name Stop.Memory = Unit {0}
+
+-- a text is read as a tree, or it has a refusal
+abbrev pub TellsText : {V : Type 0} → (V → TextTree) → TextFile → List ℕ → Result V Stop → Type 0
+TellsText view file text (Ok x) = IsTextReadAs file text (Ok (view x))
+TellsText view file text (Err (Stop.Refused refusal)) =
+    IsOfText refusal × IsTextReadAs file text (Err refusal)
+TellsText view file text (Err Stop.Memory) = Unit {0}
+
+-- why a file gives no tree: it can't be read, or its text is refused
+abbrev pub IsUnread : Option Held → TextFile → List ℕ → Type 0 → Refusal → Type 0
+IsUnread told file name rose refusal =
+    ((refusal ≡ Refusal.CannotRead name) × IsNotThere told name rose)
+    ⊎ (IsOfText refusal × IfSome told (λ held. IsReadAs held file name (Err refusal)))
+
+-- what reading a file tells, where `rose` says that a fault was counted
+abbrev pub TellsRead : {V : Type 0} → (V → TextTree) → Option Held → TextFile → List ℕ → Type 0 → Result V Stop → Type 0
+TellsRead view told file name rose (Ok x) = IfSome told (λ held. IsReadAs held file name (Ok (view x)))
+TellsRead view told file name rose (Err (Stop.Refused refusal)) = IsUnread told file name rose refusal
+TellsRead view told file name rose (Err Stop.Memory) = Unit {0}
+
+-- the same of a parameter file that may be left out
+abbrev pub TellsParams : Option Held → Option (List ℕ) → Type 0 → Result Params Stop → Type 0
+TellsParams told params rose (Ok x) = IfSome told (λ held. AreParams held params (Ok (params_tree x)))
+TellsParams told params rose (Err (Stop.Refused refusal)) =
+    (name : List ℕ) × (params ≡ Some name) × IsUnread told TextFile.Params name rose refusal
+TellsParams told params rose (Err Stop.Memory) = Unit {0}
+
+-- ---- a run
+
+-- what comes to something over held files
+abbrev pub Shows : Type 1
+Shows = Held → Outcome Task → Type 0
+
+-- one of these files can't be read, and without it the line that says so comes out
+abbrev pub IsFailed : List (List ℕ) → Shows → Option Held → Type 0 → Refusal → Type 0
+IsFailed names shows told rose refusal =
+    (name : List ℕ) × Contains names name × (refusal ≡ Refusal.CannotRead name)
+    × IfSome told (λ held. shows (without name held) (Err (Refusal.CannotRead name ∷ [])))
+    × (rose ⊎ IsSomeAnd told (λ held. shows held (Err (Refusal.CannotRead name ∷ []))))
+
+-- a fault or a limit of a text comes out
+abbrev pub IsFaulty : Shows → Option Held → Refusal → Type 0
+IsFaulty shows told refusal =
+    IsOfText refusal
+    × IfSome told (λ held. (refusals : List Refusal) × shows held (Err refusals) × Contains refusals refusal)
+
+-- a task comes out, and the reply answers it
+abbrev pub IsAnswer : Shows → Option Held → Status → List ℕ → Type 0
+IsAnswer shows told status text =
+    IfSome told (λ held. (task : Task) × shows held (Ok task) × Answers task status text)
+
+-- what a run tells that has some files to read
+abbrev pub TellsTask : List (List ℕ) → Shows → Option Held → Type 0 → Result Reply Stop → Type 0
+TellsTask names shows told rose (Ok reply) = IsAnswer shows told reply.status reply.text.items
+TellsTask names shows told rose (Err (Stop.Refused refusal)) =
+    IsFailed names shows told rose refusal ⊎ IsFaulty shows told refusal
+TellsTask names shows told rose (Err Stop.Memory) = Unit {0}
+
+-- how a run may end that has its answer
+abbrev pub IsEnd : Wanted → Status → Type 0
+IsEnd (Wanted.Solve _ _) status = status ≡ Status.Answered
+IsEnd (Wanted.Verify _ _ _) status = (status ≡ Status.Answered) ⊎ (status ≡ Status.Refuted)
+
+-- how a run ends, where it has its answer
+abbrev pub EndsAs : Wanted → Result Reply Stop → Type 0
+EndsAs wanted (Ok reply) = IsEnd wanted reply.status
+EndsAs wanted (Err stop) = Unit {0}
+
+-- a status and a text that are said to what is wanted
+abbrev pub SaysTo : Wanted → Option Held → Type 0 → Status → List ℕ → Type 0
+SaysTo wanted told rose status text =
+    (IsEnd wanted status × IsAnswer (ComesTo wanted) told status text)
+    ⊎ ((refusal : Refusal) × (status ≡ status_of refusal) × (text ≡ refusal_text refusal)
+    × (IsFailed (files_of wanted) (ComesTo wanted) told rose refusal ⊎ IsFaulty (ComesTo wanted) told refusal))
+
+-- a status and a text that are said to the words
+abbrev pub Says : List (List ℕ) → Option Held → Type 0 → Status → List ℕ → Type 0
+Says words told rose status text =
+    ((status ≡ Status.Usage) × (text ≡ refusal_text Refusal.Usage) × AreNoCommand words)
+    ⊎ ((wanted : Wanted) × Want words wanted × SaysTo wanted told rose status text)
+
+-- what a run tells of the words
+abbrev pub TellsRun : List (List ℕ) → Option Held → Type 0 → Result Reply Stop → Type 0
+TellsRun words told rose (Ok reply) =
+    (wanted : Wanted) × Want words wanted × IsEnd wanted reply.status
+    × IsAnswer (ComesTo wanted) told reply.status reply.text.items
+TellsRun words told rose (Err (Stop.Refused refusal)) =
+    ((refusal ≡ Refusal.Usage) × AreNoCommand words)
+    ⊎ ((wanted : Wanted) × Want words wanted
+    × (IsFailed (files_of wanted) (ComesTo wanted) told rose refusal ⊎ IsFaulty (ComesTo wanted) told refusal))
+TellsRun words told rose (Err Stop.Memory) = Unit {0}

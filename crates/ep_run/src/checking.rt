@@ -1,0 +1,78 @@
+//! What is wrong in the texts of a run and in its instance.
+
+ghost use Rattle.std.specs.Prelude.{◌≡◌, [], IfOk};
+ghost use Rattle.ep_tree.specs.Closed.{IsClosed};
+ghost use Rattle.ep_tree.specs.Faults.{params_faults, text_faults};
+ghost use Rattle.ep_tree.specs.Solutions.{instance_limits};
+ghost use Rattle.ep_tree.specs.Views.{model_tree, params_tree};
+ghost use Rattle.ep_tree.specs.declared.values.Mode.{Mode as ModeValue};
+ghost use Rattle.ep_types.specs.Texts.{typed_params_tree, typed_tree};
+ghost use Rattle.ep_instance.specs.Instances.{instance_of as plain_instance, mode_of};
+ghost use Rattle.ep_print.specs.declared.refusals.TextFile.{TextFile as TextFileValue};
+ghost use Rattle.ep_run.specs.Outcomes.{bind_refusals, bound_outcome, fault_refusals, instance_of};
+ghost use Rattle.ep_run.specs.Steps.{Passes, Tells};
+
+use super::errors::{bind_stop, static_stop};
+use super::stops::Stop;
+use ep_instance::{Instance, bind};
+use ep_print::{Refusal, TextFile};
+use ep_size::{SizeError, measure};
+use ep_tree::{Mode, Model, Params};
+use ep_types::{Typed, TypedParams, check_model, check_params};
+use std::alloc::Global;
+
+/// The model, if no fault of types or categories stands in it.
+pub fn checked_model(alloc: Global, model: Model) -> Result<Typed, Stop>
+    ensures same { IfOk result (λ typed. typed_tree typed ≡ model_tree model) }
+    ensures passes { Passes
+        (fault_refusals TextFileValue.Model (text_faults (model_tree model))) result }
+{
+    Err(Stop::Memory)
+}
+
+/// A parameter text or a solution text, if no such fault stands in it.
+pub fn checked_params(alloc: Global, file: TextFile, params: Params) -> Result<TypedParams, Stop>
+    ensures same { IfOk result (λ typed. typed_params_tree typed ≡ params_tree params) }
+    ensures passes { Passes (fault_refusals file (params_faults (params_tree params))) result }
+{
+    Err(Stop::Memory)
+}
+
+/// The instance of a model and its parameters, if it is within the limits.
+pub fn instance_of(alloc: Global, model: Typed, params: TypedParams) -> Result<Instance, Stop>
+    ensures tells { Tells plain_instance
+        (instance_of (typed_tree model) (typed_params_tree params)) result }
+    ensures mode { IfOk result (λ i. mode_of i ≡ ModeValue.Relational) }
+    ensures closed { IfOk result (λ i. IsClosed (plain_instance i)) }
+    ensures within { IfOk result (λ i.
+        instance_limits ModeValue.Relational (plain_instance i) ≡ []) }
+{
+    Err(Stop::Memory)
+}
+
+/// The instance of a model and its parameters.
+fn bound(alloc: Global, model: Typed, params: TypedParams) -> Result<Instance, Stop>
+    ensures tells { Tells plain_instance
+        (bound_outcome (typed_tree model) (typed_params_tree params)) result }
+    ensures mode { IfOk result (λ i. mode_of i ≡ ModeValue.Relational) }
+    ensures closed { IfOk result (λ i. IsClosed (plain_instance i)) }
+{
+    match bind(alloc, model, params, Mode::Relational) {
+        Ok(instance) => Ok(instance),
+        Err(error) => Err(bind_stop(error)),
+    }
+}
+
+/// Passes an instance that is within the limits of its measures.
+fn check_limits(alloc: Global, instance: &Instance) -> Result<(), Stop>
+    requires mode { mode_of instance.now ≡ ModeValue.Relational }
+    requires closed { IsClosed (plain_instance instance.now) }
+    ensures { Passes
+        (bind_refusals (instance_limits ModeValue.Relational (plain_instance instance.now))) result }
+{
+    match measure(alloc, instance) {
+        Ok(_) => Ok(()),
+        Err(SizeError::Limit(limit)) => Err(Stop::Refused(Refusal::Over(limit))),
+        Err(SizeError::Memory) => Err(Stop::Memory),
+    }
+}

@@ -1,0 +1,18 @@
+//! The top call: from the words and the bytes of files to the answer's text.
+#![tactic(auto)]
+
+mod checking;
+mod counting;
+mod errors;
+mod judging;
+mod reading;
+mod replies;
+mod runs;
+mod search;
+mod status;
+mod stops;
+mod top;
+mod wanted;
+
+pub use status::Status;
+pub use top::run;

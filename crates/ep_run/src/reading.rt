@@ -1,0 +1,104 @@
+//! Reads the files of a run.
+
+ghost use Rattle.std.specs.Prelude.{◌≡◌, ◌≤◌, OnOk};
+ghost use Rattle.ep_base.specs.Outside.{Rose};
+ghost use Rattle.ep_tree.specs.Views.{model_tree, params_tree};
+ghost use Rattle.ep_print.specs.declared.refusals.TextFile.{TextFile as TextFileValue};
+ghost use Rattle.ep_run.specs.Readings.{HasParams};
+ghost use Rattle.ep_run.specs.Steps.{TellsBytes, TellsParams, TellsRead, TellsText, IsUnreadStop};
+
+use super::errors::text_stop;
+use super::stops::Stop;
+use ep_base::{FileError, Files, Memory, Word};
+use ep_parse_model::{parse_model, parse_params};
+use ep_print::{Refusal, TextFile};
+use ep_tree::{Model, Params};
+use std::alloc::Global;
+
+/// A text has at most so many bytes.
+const MOST_BYTES: u64 = 16_777_216;
+
+/// Reads the model.
+pub fn read_model<F: Files>(alloc: Global, files: &mut F, name: &Word) -> Result<Model, Stop>
+    ensures tells { TellsRead model_tree (F.held files.old) TextFileValue.Model name.now
+        (Rose (F.faults files.old) (F.faults files.new)) result }
+    ensures held { F.held files.new ≡ F.held files.old }
+    ensures faults { F.faults files.old ≤ F.faults files.new }
+    ensures quiet { OnOk result (F.faults files.new ≡ F.faults files.old) }
+{
+    Err(Stop::Memory)
+}
+
+/// Reads a parameter text or a solution text.
+pub fn read_params<F: Files>(
+    alloc: Global,
+    files: &mut F,
+    file: TextFile,
+    name: &Word,
+) -> Result<Params, Stop>
+    requires { HasParams file }
+    ensures tells { TellsRead params_tree (F.held files.old) file name.now
+        (Rose (F.faults files.old) (F.faults files.new)) result }
+    ensures held { F.held files.new ≡ F.held files.old }
+    ensures faults { F.faults files.old ≤ F.faults files.new }
+    ensures quiet { OnOk result (F.faults files.new ≡ F.faults files.old) }
+{
+    Err(Stop::Memory)
+}
+
+/// Reads the parameters, if a file is named that has them.
+pub fn read_named_params<F: Files>(
+    alloc: Global,
+    files: &mut F,
+    name: &Option<Word>,
+) -> Result<Params, Stop>
+    ensures tells { TellsParams (F.held files.old) name.now
+        (Rose (F.faults files.old) (F.faults files.new)) result }
+    ensures held { F.held files.new ≡ F.held files.old }
+    ensures faults { F.faults files.old ≤ F.faults files.new }
+    ensures quiet { OnOk result (F.faults files.new ≡ F.faults files.old) }
+{
+    Err(Stop::Memory)
+}
+
+/// Reads a file, one byte more at most than a text may have.
+fn read_bytes<F: Files>(alloc: Global, files: &mut F, name: &Word) -> Result<Vec<u8>, Stop>
+    ensures tells { TellsBytes (λ bytes. bytes.items) (F.held files.old) name.now
+        (Rose (F.faults files.old) (F.faults files.new)) result }
+    ensures held { F.held files.new ≡ F.held files.old }
+    ensures faults { F.faults files.old ≤ F.faults files.new }
+    ensures quiet { OnOk result (F.faults files.new ≡ F.faults files.old) }
+{
+    Err(Stop::Memory)
+}
+
+/// A file can't be read.
+fn unread(alloc: Global, name: &Word) -> Stop
+    ensures { IsUnreadStop name.now result }
+{
+    match Word::new(alloc, name.text()) {
+        Ok(word) => Stop::Refused(Refusal::CannotRead(word)),
+        Err(Memory) => Stop::Memory,
+    }
+}
+
+/// The model that a text is.
+fn model_in(alloc: Global, text: &[u8]) -> Result<Model, Stop>
+    ensures { TellsText model_tree TextFileValue.Model text.now result }
+{
+    match parse_model(alloc, text) {
+        Ok(model) => Ok(model),
+        Err(error) => Err(text_stop(TextFile::Model, error)),
+    }
+}
+
+/// The parameter text or the solution text that a text is.
+fn params_in(alloc: Global, file: TextFile, text: &[u8]) -> Result<Params, Stop>
+    requires { HasParams file }
+    ensures { TellsText params_tree file text.now result }
+{
+    match parse_params(alloc, text) {
+        Ok(params) => Ok(params),
+        Err(error) => Err(text_stop(file, error)),
+    }
+}

@@ -1,0 +1,53 @@
+//! What is to be said to the words, and with which status.
+
+ghost use Rattle.std.specs.Prelude.{◌≡◌, ◌≤◌, IfOk};
+ghost use Rattle.ep_base.specs.Outside.{Rose};
+ghost use Rattle.ep_print.specs.Refusals.{refusal_text};
+ghost use Rattle.ep_run.specs.Status.{status_of};
+ghost use Rattle.ep_run.specs.Steps.{Says, TellsRun};
+
+use super::runs::do_wanted;
+use super::status::Status;
+use super::stops::{Stop, status_of};
+use super::wanted::read_wanted;
+use ep_base::{Files, Memory, Word};
+use ep_print::{Refusal, refusal_line};
+use std::alloc::Global;
+
+/// A status and the text that goes with it.
+#[derive(Drop)]
+pub struct Reply {
+    pub status: Status,
+    pub text: Vec<u8>,
+}
+
+/// What the words ask to be said.
+pub fn reply_to<F: Files>(alloc: Global, words: &[Word], files: &mut F) -> Result<Reply, Memory>
+    ensures says { IfOk result (λ reply. Says words.now (F.held files.old)
+        (Rose (F.faults files.old) (F.faults files.new)) reply.status reply.text.items) }
+    ensures held { F.held files.new ≡ F.held files.old }
+    ensures faults { F.faults files.old ≤ F.faults files.new }
+{
+    Err(Memory)
+}
+
+/// Does what the words want.
+fn run_words<F: Files>(alloc: Global, words: &[Word], files: &mut F) -> Result<Reply, Stop>
+    ensures tells { TellsRun words.now (F.held files.old)
+        (Rose (F.faults files.old) (F.faults files.new)) result }
+    ensures held { F.held files.new ≡ F.held files.old }
+    ensures faults { F.faults files.old ≤ F.faults files.new }
+{
+    Err(Stop::Memory)
+}
+
+/// The status and the line of a refusal.
+fn refused(alloc: Global, refusal: &Refusal) -> Result<Reply, Memory>
+    ensures status { IfOk result (λ reply. reply.status ≡ status_of refusal.now) }
+    ensures line { IfOk result (λ reply. reply.text.items ≡ refusal_text refusal.now) }
+{
+    Ok(Reply {
+        status: status_of(refusal),
+        text: refusal_line(alloc, refusal)?,
+    })
+}

@@ -1,0 +1,112 @@
+//! The top call.
+
+ghost use Rattle.std.specs.Prelude.{◌≡◌, ◌≢◌, ◌⊎◌, ◌≤◌, ℕ, List, Err, Contains, IfSome, IsSomeAnd, Option, codes};
+ghost use Rattle.ep_base.specs.Outside.{Held, Rose, TookPart, with_more};
+ghost use Rattle.ep_print.specs.Refusals.{refusal_text};
+ghost use Rattle.ep_print.specs.declared.refusals.Refusal.{Refusal};
+ghost use Rattle.ep_run.specs.Answers.{Answers};
+ghost use Rattle.ep_run.specs.Commands.{AreNoCommand, Want};
+ghost use Rattle.ep_run.specs.Outcomes.{Task};
+ghost use Rattle.ep_run.specs.Puts.{IsFailedRead, MayBePut, TookFirst, TookOnWant, device_line};
+ghost use Rattle.ep_run.specs.Shown.{Ask, Refuse, Refuses, Show};
+ghost use Rattle.ep_run.specs.Status.{status_of};
+ghost use Rattle.ep_run.specs.declared.status.Status.{Status as StatusValue};
+ghost use Rattle.ep_run.specs.declared.wanted.Wanted.{Wanted};
+
+use super::replies::reply_to;
+use super::status::Status;
+use ep_base::{Files, PutError, Sink, Word, put_all};
+use std::alloc::Global;
+use std::thread::Threads;
+
+/// Does what the words ask for, and says how it ended.
+pub fn run<R: Threads, F: Files, K: Sink>(
+    rt: &R,
+    alloc: Global,
+    words: &[Word],
+    files: &mut F,
+    out: &mut K,
+) -> Status
+    // An answer is right for the task that the words and the held files show: an optimum or a
+    // solution, or that there is none; a judgement of a solution text. Its text was put out, and
+    // nothing else.
+    ensures answered { (result ≡ StatusValue.Answered) ⊎ (result ≡ StatusValue.Refuted) →
+        IfSome (F.held files.old) (λ held. (task : Task) × (text : List ℕ)
+        × Ask words.now held task × Answers task result text
+        × (K.taken out.new ≡ with_more text (K.taken out.old))) }
+    ensures refuted { result ≡ StatusValue.Refuted →
+        (model : List ℕ) × (params : Option (List ℕ)) × (solution : List ℕ)
+        × Want words.now (Wanted.Verify model params solution) }
+
+    // A fault or a limit is one that the words and the held files show. Its line was put out, and
+    // nothing else.
+    ensures refused { (result ≡ StatusValue.Usage) ⊎ (result ≡ StatusValue.Text)
+        ⊎ (result ≡ StatusValue.Limit) →
+        IfSome (F.held files.old) (λ held. (line : List ℕ) × Refuses words.now held result line
+        × (K.taken out.new ≡ with_more line (K.taken out.old))) }
+    ensures usage { result ≡ StatusValue.Usage → AreNoCommand words.now }
+    ensures usage_line { result ≡ StatusValue.Usage →
+        K.taken out.new ≡ with_more (refusal_text Refusal.Usage) (K.taken out.old) }
+
+    // A failure is one that a device counted in this call, or a file that has to be read isn't held.
+    ensures device { result ≡ StatusValue.Device →
+        Rose (F.faults files.old) (F.faults files.new) ⊎ Rose (K.faults out.old) (K.faults out.new)
+        ⊎ IsSomeAnd (F.held files.old) (λ held.
+        (line : List ℕ) × Refuses words.now held StatusValue.Device line) }
+    ensures not_held { result ≡ StatusValue.Device →
+        ¬ Rose (F.faults files.old) (F.faults files.new) →
+        ¬ Rose (K.faults out.old) (K.faults out.new) →
+        IfSome (F.held files.old) (λ held. (line : List ℕ)
+        × Refuses words.now held StatusValue.Device line
+        × (K.taken out.new ≡ with_more line (K.taken out.old))) }
+
+    // Then the line of a file that can't be read was put out, and nothing else; or the sink failed,
+    // and took of one text that may be put out a part that isn't the whole.
+    ensures failed { result ≡ StatusValue.Device →
+        ((name : List ℕ) × IsFailedRead words.now (F.held files.old) name
+        × (K.taken out.new ≡ with_more (device_line name) (K.taken out.old)))
+        ⊎ (Rose (K.faults out.old) (K.faults out.new) × (text : List ℕ)
+        × MayBePut words.now (F.held files.old)
+        (Rose (F.faults files.old) (F.faults files.new)) text
+        × TookPart text (K.taken out.old) (K.taken out.new)) }
+
+    // Where memory was wanting, the sink took no more than its line, or a part of one text that may
+    // be put out.
+    ensures wanting { result ≡ StatusValue.Memory → TookOnWant words.now (F.held files.old)
+        (Rose (F.faults files.old) (F.faults files.new)) (K.taken out.old) (K.taken out.new) }
+
+    // Nothing else comes.
+    ensures never_unknown { result ≢ StatusValue.Unknown }
+
+    // Where no device failed, a refusal that stands comes, and else the answer, want of memory
+    // aside.
+    ensures refuses { ¬ Rose (F.faults files.old) (F.faults files.new) →
+        ¬ Rose (K.faults out.old) (K.faults out.new) →
+        IfSome (F.held files.old) (λ held. (refusals : List Refusal) →
+        Show words.now held (Err refusals) → (result ≡ StatusValue.Memory)
+        ⊎ ((refusal : Refusal) × Contains refusals refusal × (result ≡ status_of refusal))) }
+    ensures answers { ¬ Rose (F.faults files.old) (F.faults files.new) →
+        ¬ Rose (K.faults out.old) (K.faults out.new) →
+        IfSome (F.held files.old) (λ held. (task : Task) → Ask words.now held task →
+        (result ≡ StatusValue.Memory)
+        ⊎ ((result ≡ StatusValue.Answered) ⊎ (result ≡ StatusValue.Refuted))) }
+    ensures usage_refused { AreNoCommand words.now → ¬ Rose (K.faults out.old) (K.faults out.new) →
+        (result ≡ StatusValue.Usage) ⊎ (result ≡ StatusValue.Memory) }
+
+    // The files stay as they were, and no count of faults falls.
+    ensures held { F.held files.new ≡ F.held files.old }
+    ensures files_faults { F.faults files.old ≤ F.faults files.new }
+    ensures out_faults { K.faults out.old ≤ K.faults out.new }
+{
+    let _ = rt;
+    put_memory(out);
+    Status::Memory
+}
+
+/// Puts out the line that says that memory is wanting, or what the sink takes of it.
+fn put_memory<K: Sink>(out: &mut K)
+    ensures taken { TookFirst (codes "memory\n") (K.taken out.old) (K.taken out.new) }
+    ensures faults { K.faults out.old ≤ K.faults out.new }
+{
+    let _ = put_all(out, b"memory\n");
+}
