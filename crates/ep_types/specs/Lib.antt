@@ -2,3 +2,4 @@ pub mod Named
 pub mod Texts
 pub mod Checking
 pub mod Meanings
+pub mod Hiding

@@ -1,10 +1,13 @@
 //! What names stand for while a text is checked.
 
-ghost use Rattle.std.specs.Prelude.{◌≡◌, ◌++◌, ◌∷◌, [], OnOk, option_map};
+ghost use Rattle.std.specs.Prelude.{◌≡◌, IfErr, OnOk, option_map, take};
+ghost use Rattle.ep_tree.specs.Names.{put};
 ghost use Rattle.ep_tree.specs.Types.{Context};
 ghost use Rattle.ep_types.specs.Checking.{Says, check_domain_name, check_name, check_value};
-ghost use Rattle.ep_types.specs.Meanings.{behind_names, context_of, meaning_of, or_else};
+ghost use Rattle.ep_types.specs.Meanings.{behind_names, context_of, known_by, meaning_of, or_else};
+ghost use Rattle.ep_types.specs.Hiding.{Hides};
 ghost use Rattle.ep_types.specs.Named.{IsUnknown};
+ghost use Rattle.ep_types.specs.declared.errors.StaticError.TheVariants.{Memory as OutOfMemory};
 
 use crate::errors::StaticError;
 use ep_base::{Name, Place};
@@ -66,7 +69,10 @@ fn may_stand(
 
 impl<'a> Names<'a> {
     /// The names of statements alone.
-    pub(crate) fn new(alloc: Global, declared: &'a IndexMap<&'a str, Meaning>) -> Names<'a> {
+    #[tactic(auto, unfolding(crate::specs::Meanings::context_of, crate::specs::Meanings::behind_names))]
+    pub(crate) fn new(alloc: Global, declared: &'a IndexMap<&'a str, Meaning>) -> Names<'a>
+        ensures { context_of result ≡ known_by declared.now.entries }
+    {
         Names {
             alloc,
             declared,
@@ -127,13 +133,21 @@ impl<'a> Names<'a> {
     }
 
     /// A name stands for something new, until it is shown again.
-    pub(crate) fn hide(&mut self, name: &'a Name, meaning: Meaning) -> Result<(), StaticError> {
+    pub(crate) fn hide(&mut self, name: &'a Name, meaning: Meaning) -> Result<(), StaticError>
+        ensures hides { OnOk result (Hides self.old self.new) }
+        ensures known { OnOk result (context_of self.new
+            ≡ put name.now (meaning_of meaning) (context_of self.old)) }
+        ensures memory { IfErr result (λ e. e ≡ OutOfMemory) }
+    {
         self.inner.push((name.text(), meaning))?;
         Ok(())
     }
 
     /// The names that were hidden since there were so many stand for what they did.
-    pub(crate) fn show(&mut self, depth: usize) {
+    pub(crate) fn show(&mut self, depth: usize)
+        ensures inner { self.new.inner.items ≡ take depth self.old.inner.items }
+        ensures declared { self.new.declared ≡ self.old.declared }
+    {
         self.inner.truncate(depth);
     }
 }

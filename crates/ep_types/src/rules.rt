@@ -1,15 +1,21 @@
 //! The types of nodes by those of their parts.
 
-ghost use Rattle.std.specs.Prelude.{◌≡◌, ◌&&◌, []};
+ghost use Rattle.std.specs.Prelude.{◌≡◌, ◌&&◌, ◌||◌, ◌+◌, ◌-◌, ◌≤◌, ◌∷◌, [], if◌then◌else◌, length, nat_le, nat_lt};
 ghost use Rattle.std.specs.List.{list_all};
-ghost use Rattle.ep_tree.specs.Faults.{is_power};
+ghost use Rattle.ep_tree.specs.Faults.{entry_count, has_open_range, is_power, leaves_matrix, open_domain};
 ghost use Rattle.ep_tree.specs.Types as types;
+ghost use Rattle.ep_tree.specs.Types.{typed};
+ghost use Rattle.ep_tree.specs.Trees.{Ranges, span_and};
+ghost use Rattle.ep_tree.specs.Views.{end_of, indices_of, ranges_of, with_range};
+ghost use Rattle.ep_tree.specs.declared.values.Scalar.{Scalar};
 ghost use Rattle.ep_tree.specs.declared.values.ValueType.{ValueType};
-ghost use Rattle.ep_types.specs.Checking.{Says, conclude, quantified_over};
+ghost use Rattle.ep_types.specs.Checking.{Says, conclude, quantified_over, unless_fault};
+ghost use Rattle.ep_types.specs.Meanings.{meaning_of};
 
 use crate::errors::StaticError;
+use crate::names::Meaning;
 use ep_base::Place;
-use ep_tree::{BinaryOp, FoldOp, QuantOp, Scalar, ValueType};
+use ep_tree::{BinaryOp, Expr, FoldOp, QuantOp, Range, Scalar, ValueType};
 
 /// Whether a type is integer, which Boolean is too.
 #[tactic(auto, unfolding(ep_tree::specs::Types::is_integer))]
@@ -233,4 +239,337 @@ pub(crate) fn set(place: Place, one: ValueType, other: ValueType) -> Result<Valu
 {
     let of = both_scalars(scalar_of(one), scalar_of(other));
     gives(place, of_scalar(of), is_integer(one) && is_integer(other))
+}
+
+/// Whether all types are those of matrices.
+fn all_matrix(parts: &[ValueType]) -> bool
+    ensures { result ≡ list_all types.is_matrix parts.now }
+{
+    parts.iter().all(|ty| is_matrix(*ty))
+}
+
+/// Whether all types are those of matrices of Booleans.
+fn all_of_bool(parts: &[ValueType]) -> bool
+    ensures { result ≡ list_all types.is_matrix_of_bool parts.now }
+{
+    parts.iter().all(|ty| is_matrix_of_bool(*ty))
+}
+
+/// Whether all types are those of matrices of so many dimensions.
+fn all_of_dimensions(count: u64, parts: &[ValueType]) -> bool
+    ensures { result ≡ list_all (types.has_dimensions count) parts.now }
+{
+    parts.iter().all(|ty| has_dimensions(count, *ty))
+}
+
+/// The dimensions of a matrix.
+#[tactic(auto, unfolding(ep_tree::specs::Types::stated_dimensions))]
+fn dimensions(ty: ValueType) -> Option<u64>
+    ensures { result ≡ types.stated_dimensions (ty ∷ []) }
+{
+    match ty {
+        ValueType::Matrix { dims, .. } => Some(dims),
+        ValueType::Bool => None,
+        ValueType::Int => None,
+        ValueType::Empty => None,
+    }
+}
+
+/// The dimensions that the first matrix among some types states.
+fn stated_dimensions(parts: &[ValueType]) -> Option<u64>
+    ensures { result ≡ types.stated_dimensions parts.now }
+{
+    for part in parts {
+        match dimensions(*part) {
+            Some(dims) => return Some(dims),
+            None => {}
+        }
+    }
+    None
+}
+
+/// Bool where all are.
+fn bool_if(all: bool) -> Scalar
+    ensures { result ≡ (if all then Scalar.Bool else Scalar.Int) }
+{
+    if all {
+        Scalar::Bool
+    } else {
+        Scalar::Int
+    }
+}
+
+/// A list, where the domain of its indices is scalar or isn't.
+pub(crate) fn list(
+    place: Place,
+    parts: &[ValueType],
+    scalar: bool,
+) -> Result<ValueType, StaticError>
+    ensures { Says (λ t. t) result
+        (conclude place (quantified_over scalar (types.list_type parts.now))) }
+{
+    if !scalar {
+        return Err(StaticError::IllTyped(place));
+    }
+    if parts.is_empty() {
+        return Ok(ValueType::Empty);
+    }
+    if all_integer(parts) {
+        return Ok(ValueType::Matrix {
+            dims: 1,
+            of: bool_if(all_boolean(parts)),
+        });
+    }
+    if !all_matrix(parts) {
+        return Err(StaticError::IllTyped(place));
+    }
+    list_of_matrices(place, parts, stated_dimensions(parts))
+}
+
+/// A list of matrices, of which the first that says so has so many dimensions.
+#[tactic(auto, using(crate::proofs::Said::memory_says), unfolding(ep_tree::specs::Types::list_of_matrices))]
+fn list_of_matrices(
+    place: Place,
+    parts: &[ValueType],
+    stated: Option<u64>,
+) -> Result<ValueType, StaticError>
+    ensures { Says (λ t. t) result (conclude place (types.list_of_matrices parts.now stated)) }
+{
+    match stated {
+        None => Ok(ValueType::Matrix {
+            dims: 2,
+            of: Scalar::Bool,
+        }),
+        Some(dims) => match dims.checked_add(1) {
+            None => Err(StaticError::Memory),
+            Some(more) => {
+                let of = bool_if(all_of_bool(parts));
+                gives(place, ValueType::Matrix { dims: more, of }, all_of_dimensions(dims, parts))
+            }
+        },
+    }
+}
+
+/// What is left of a matrix: its scalar where no dimension is left.
+fn left(dims: u64, of: Scalar) -> ValueType
+    ensures { result ≡ types.left_type dims of }
+{
+    if dims == 0 {
+        return of_scalar(of);
+    }
+    ValueType::Matrix { dims, of }
+}
+
+/// A read of a matrix by indices of these types and so many `..`.
+#[tactic(auto, using(crate::proofs::Said::ill_typed_says), unfolding(ep_tree::specs::Types::read_type))]
+pub(crate) fn read(
+    place: Place,
+    ty: ValueType,
+    indices: &[ValueType],
+    slices: u64,
+) -> Result<ValueType, StaticError>
+    ensures { Says (λ t. t) result (conclude place (types.read_type ty indices.now slices)) }
+{
+    match ty {
+        ValueType::Matrix { dims, of } => read_matrix(place, dims, of, indices, slices),
+        ValueType::Bool => Err(StaticError::IllTyped(place)),
+        ValueType::Int => Err(StaticError::IllTyped(place)),
+        ValueType::Empty => Err(StaticError::IllTyped(place)),
+    }
+}
+
+/// A read of a matrix of so many dimensions.
+fn read_matrix(
+    place: Place,
+    dims: u64,
+    of: Scalar,
+    indices: &[ValueType],
+    slices: u64,
+) -> Result<ValueType, StaticError>
+    ensures { Says (λ t. t) result (conclude place (types.gives
+        (types.left_type (dims - length indices.now) of)
+        (list_all types.is_integer indices.now && nat_le (length indices.now + slices) dims))) }
+{
+    let stated = indices.len() as u64;
+    if stated > dims {
+        return Err(StaticError::IllTyped(place));
+    }
+    let others = dims - stated;
+    if slices > others {
+        return Err(StaticError::IllTyped(place));
+    }
+    gives(place, left(others, of), all_integer(indices))
+}
+
+/// Whether domains of these types may be the index domains of a matrix.
+#[tactic(auto, unfolding(ep_tree::specs::Types::can_index))]
+fn can_index(indices: &[ValueType]) -> bool
+    ensures { result ≡ types.can_index indices.now }
+{
+    if indices.is_empty() {
+        return false;
+    }
+    all_integer(indices)
+}
+
+/// A matrix domain with index domains of these types.
+#[tactic(auto, unfolding(ep_tree::specs::Types::matrix_type, ep_tree::specs::Types::scalar_of))]
+pub(crate) fn matrix(
+    place: Place,
+    indices: &[ValueType],
+    element: ValueType,
+) -> Result<ValueType, StaticError>
+    ensures { Says (λ t. t) result (conclude place (types.matrix_type indices.now element)) }
+{
+    match element {
+        ValueType::Matrix { dims, of } => matrix_of(place, indices, dims, of),
+        ValueType::Bool => matrix_of(place, indices, 0, Scalar::Bool),
+        ValueType::Int => matrix_of(place, indices, 0, Scalar::Int),
+        ValueType::Empty => matrix_of(place, indices, 0, Scalar::Bool),
+    }
+}
+
+/// A matrix domain whose elements have so many dimensions.
+fn matrix_of(
+    place: Place,
+    indices: &[ValueType],
+    inner: u64,
+    of: Scalar,
+) -> Result<ValueType, StaticError>
+    ensures { Says (λ t. t) result (conclude place (types.gives
+        (ValueType.Matrix (length indices.now + inner) of) (types.can_index indices.now))) }
+{
+    let own = indices.len() as u64;
+    match own.checked_add(inner) {
+        None => Err(StaticError::Memory),
+        Some(dims) => gives(place, ValueType::Matrix { dims, of }, can_index(indices)),
+    }
+}
+
+/// One for `..`, and else nothing.
+#[tactic(auto, unfolding(ep_tree::specs::Types::slice_count, ep_tree::specs::Views::indices_of))]
+fn count_one(index: &Option<Expr>) -> u64
+    ensures count { result ≡ types.slice_count (indices_of (index.now ∷ [])) }
+    ensures within { result ≤ 1 }
+{
+    match index {
+        None => 1,
+        Some(_) => 0,
+    }
+}
+
+/// How many indices of a read are `..`.
+pub(crate) fn slice_count(indices: &[Option<Expr>]) -> u64
+    ensures count { result ≡ types.slice_count (indices_of indices.now) }
+    ensures within { result ≤ length indices.now }
+{
+    let mut count = 0;
+    for index in indices {
+        let one = count_one(index);
+        count += one;
+    }
+    count
+}
+
+/// Whether so many entries, of which so many are `..`, leave some of so many dimensions.
+fn leaves_some(entries: u64, slices: u64, dims: u64) -> bool
+    requires { slices ≤ entries }
+    ensures { result ≡ (nat_le entries dims && nat_lt entries (dims + slices)) }
+{
+    if entries > dims {
+        return false;
+    }
+    entries - slices < dims
+}
+
+/// Whether a read with these entries would leave a matrix.
+#[tactic(auto, using(crate::proofs::RuleSteps::entries), unfolding(ep_tree::specs::Faults::leaves_matrix))]
+pub(crate) fn leaves_matrix(ty: ValueType, indices: &[Option<Expr>]) -> bool
+    ensures { result ≡ leaves_matrix (typed ty) (entry_count (indices_of indices.now))
+        (types.slice_count (indices_of indices.now)) }
+{
+    match ty {
+        ValueType::Matrix { dims, .. } => {
+            leaves_some(indices.len() as u64, slice_count(indices), dims)
+        }
+        ValueType::Bool => false,
+        ValueType::Int => false,
+        ValueType::Empty => false,
+    }
+}
+
+/// Whether a range has an end that is left out.
+fn is_open(range: &Range) -> bool
+    ensures { (rs : Ranges) → has_open_range (with_range range.now rs)
+        ≡ (result || has_open_range rs) }
+{
+    match range {
+        Range::One(_) => false,
+        Range::Span(low, high) => lacks_end(low, high),
+    }
+}
+
+/// Whether an end is left out.
+fn lacks_end(low: &Option<Expr>, high: &Option<Expr>) -> bool
+    ensures { (rs : Ranges) → has_open_range (span_and (end_of low.now) (end_of high.now) rs)
+        ≡ (result || has_open_range rs) }
+{
+    !both(low.is_some(), high.is_some())
+}
+
+/// Whether one of some ranges has an end that is left out.
+pub(crate) fn has_open_range(ranges: &[Range]) -> bool
+    ensures { result ≡ has_open_range (ranges_of ranges.now) }
+{
+    for range in ranges {
+        if is_open(range) {
+            return true;
+        }
+    }
+    false
+}
+
+/// What a name of a quantifier or generator over a domain of this type stands for.
+#[tactic(auto, unfolding(ep_tree::specs::Types::quantified_name, crate::specs::Meanings::meaning_of))]
+pub(crate) fn quantified_name(ty: ValueType) -> Meaning
+    ensures { meaning_of result ≡ types.quantified_name (typed ty) }
+{
+    if is_boolean(ty) {
+        Meaning::Value(ValueType::Bool, false)
+    } else {
+        Meaning::Value(ValueType::Int, false)
+    }
+}
+
+/// A comprehension over domains that are scalar or aren't, with conditions of these types.
+pub(crate) fn comprehension(
+    place: Place,
+    index: bool,
+    scalar: bool,
+    conditions: &[ValueType],
+    ty: ValueType,
+) -> Result<ValueType, StaticError>
+    ensures { Says (λ t. t) result (conclude place (quantified_over
+        (index && scalar && list_all types.is_boolean conditions.now) (types.list_type (ty ∷ [])))) }
+{
+    let holds = both(both(index, scalar), all_boolean(conditions));
+    list(place, &[ty], holds)
+}
+
+/// Whether both hold.
+pub(crate) fn both(one: bool, other: bool) -> bool
+    ensures { result ≡ (one && other) }
+{
+    one && other
+}
+
+/// A range may be open, or none is; else the domain is at fault.
+#[tactic(auto, using(crate::proofs::Said::open_domain_says))]
+pub(crate) fn check_open(place: Place, holds: bool) -> Result<(), StaticError>
+    ensures { Says (λ _. tt) result (unless_fault holds (open_domain place)) }
+{
+    if holds {
+        return Ok(());
+    }
+    Err(StaticError::OpenDomain(place))
 }
