@@ -8,8 +8,8 @@ use Rattle.ep_base.specs.declared.places.Place.{Place}
 use Rattle.ep_tree.specs.Environments.{Env}
 use Rattle.ep_tree.specs.Evaluation.{evaluate}
 use Rattle.ep_tree.specs.Limits.{is_too_far, limits_of_values, numbers_at}
-use Rattle.ep_tree.specs.Measures.{Met, met, met_all, met_names}
-use Rattle.ep_tree.specs.Trees.{ExprTree, ExprTrees, all_of, any_of, absolute, all_different, binary, factorial, flatten, in_set, lex, minus, table, compare, group, named, negation, number, quantified, to_int, truth}
+use Rattle.ep_tree.specs.Measures.{Met, met, met_all, met_names, met_terms}
+use Rattle.ep_tree.specs.Trees.{ExprTree, ExprTrees, Terms, chain, all_of, any_of, absolute, all_different, binary, factorial, flatten, in_set, lex, minus, table, compare, group, named, negation, number, quantified, to_int, truth}
 use Rattle.ep_tree.specs.Values.{ValueTree}
 use Rattle.ep_tree.specs.Views.{expr_tree, kind_tree}
 use Rattle.ep_tree.specs.declared.syntax.BinaryOp.{BinaryOp}
@@ -242,3 +242,7 @@ meets_all_of mode env p es = record { plain = record { first = refl; own = refl 
 pub meets_any_of : (mode : Mode) (env : Env) (p : Place) (es : ExprTrees) → Meets mode env (any_of p es) (met_all mode env es)
 unfolding met all_but_first numbers_at
 meets_any_of mode env p es = record { plain = record { first = refl; own = refl }; parts = refl }
+
+pub meets_chain : (mode : Mode) (env : Env) (p : Place) (terms : Terms) → Meets mode env (chain p terms) (met_terms mode env terms)
+unfolding met all_but_first numbers_at
+meets_chain mode env p terms = record { plain = record { first = refl; own = refl }; parts = refl }

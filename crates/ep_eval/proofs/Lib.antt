@@ -6,5 +6,6 @@ pub mod FormParts
 pub mod Quotients
 pub mod Walks
 pub mod PartSteps
+pub mod TermSteps
 pub mod Both
 pub mod Looking

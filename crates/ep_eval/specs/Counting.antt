@@ -1,5 +1,5 @@
 -- What evaluation has met so far, and what refuses it.
-use Rattle.std.specs.Prelude.{◌≡◌, ◌⊎◌, ◌&&◌, ◌||◌, ℕ, ◌+◌, ◌≤◌, Bool, true, false, Result, Ok, Err, List, [], ◌∷◌, length, flat_map, Option, None, option_to_list, Contains}
+use Rattle.std.specs.Prelude.{◌≡◌, ◌⊎◌, ◌&&◌, ◌||◌, ℤ, nat_abs, ℕ, ◌+◌, ◌≤◌, Bool, true, false, Result, Ok, Err, List, [], ◌∷◌, length, flat_map, Option, Some, None, option_to_list, Contains}
 use Rattle.std.specs.List.{list_any}
 use Rattle.ep_base.specs.declared.operators.Limit.{Limit as LimitName}
 use Rattle.ep_tree.specs.Environments.{Env}
@@ -87,3 +87,8 @@ together false a b = a || b
 unfoldable pub of_all : Bool → List (Option ValueTree) → Option Bool
 of_all true vs = all_true vs
 of_all false vs = any_true vs
+
+-- a total, where there is one, lies at most so far from 0
+unfoldable pub IsWithin : ℕ → Option ℤ → Type 0
+IsWithin most None = Unit {0}
+IsWithin most (Some n) = nat_abs n ≤ most

@@ -62,7 +62,7 @@ fn remainder(left: i64, right: i64) -> Option<i128>
 }
 
 /// A number, if there is one that isn't too far from 0.
-fn some_number<'a>(number: Option<i128>) -> Result<Option<Held<'a>>, EvalError>
+pub fn some_number<'a>(number: Option<i128>) -> Result<Option<Held<'a>>, EvalError>
     ensures { Gives result (number_value number) }
 {
     match number {

@@ -3,12 +3,14 @@
 ghost use Rattle.std.specs.Prelude.{◌≡◌, ◌+◌, ◌≤◌, ◌<◌, Some, true, false, option_to_list, option_map, IfOk, IfErr, OnOk};
 ghost use Rattle.std.specs.List.{list_any};
 ghost use Rattle.ep_base.specs.declared.places.Place.{Place};
+ghost use Rattle.ep_base.specs.Numbers.{sum_of};
 ghost use Rattle.ep_tree.specs.Environments.{value_bound};
-ghost use Rattle.ep_tree.specs.Evaluation.{evaluate, number_in, values_of};
+ghost use Rattle.ep_tree.specs.Values.{all_defined};
+ghost use Rattle.ep_tree.specs.Evaluation.{evaluate, number_in, term_values, values_of};
 ghost use Rattle.ep_tree.specs.Limits as limits;
 ghost use Rattle.ep_tree.specs.Limits.{is_too_far, limits_of_values};
 ghost use Rattle.ep_tree.specs.Measures as measures;
-ghost use Rattle.ep_tree.specs.Views.{expr_tree, expr_trees, kind_tree};
+ghost use Rattle.ep_tree.specs.Views.{expr_tree, expr_trees, kind_tree, terms_of};
 ghost use Rattle.ep_eval.specs.Counting.{Counted, Evaluated, IsRefused, of_all};
 ghost use Rattle.ep_eval.specs.Helds.{seen_held};
 ghost use Rattle.ep_eval.specs.Outcomes.{IsCause};
@@ -16,12 +18,13 @@ ghost use Rattle.ep_eval.specs.Scopes.{env_in, mode_in};
 ghost use Rattle.ep_eval.specs.declared.errors.EvalError.TheVariants as error;
 ghost use Rattle.ep_base.specs.declared.operators.Limit.TheVariants as limit;
 
-use super::binaries::binary;
+use super::binaries::{binary, some_number};
 use super::errors::EvalError;
 use super::forms::{comparison, negation, together, truth_value};
 use super::held::{Held, held_truth, number_of, truth_seen};
 use super::numbers::{absolute, minus};
 use super::scopes::{Scope, look_up};
+use super::totals::with_term;
 use ep_base::Limit;
 use ep_tree::{Expr, Kind};
 
@@ -136,6 +139,10 @@ fn kind_value<'a>(
             let second = value_of(scope, met, right)?;
             Ok(comparison(scope.env.mode(), *op, &first, &second))
         }
+        Kind::Add(terms) => {
+            let total = total(scope, met, terms)?;
+            some_number(total)
+        }
         Kind::And(parts) => {
             let truth = truths(scope, met, true, parts)?;
             Ok(truth_value(scope.env.mode(), truth))
@@ -170,4 +177,27 @@ fn truths(
         truth = together(every, truth, truth_seen(&seen));
     }
     Ok(truth)
+}
+
+/// The total of the terms of a chain, where each has a value. All are evaluated.
+#[cycle(evaluating)]
+fn total(
+    scope: Scope<'_, '_>,
+    met: &mut u64,
+    terms: &[(bool, Expr)],
+) -> Result<Option<i128>, EvalError>
+    requires small { met.old ≤ limits.MOST_SIZE }
+    ensures counted { OnOk result (Counted (mode_in scope.entry) met.old met.new
+        (measures.met_terms (mode_in scope.entry) (env_in scope.entry) (terms_of terms.now))) }
+    ensures value { IfOk result (λ total. total ≡ option_map sum_of
+        (all_defined (term_values (mode_in scope.entry) (env_in scope.entry) (terms_of terms.now)))) }
+    ensures cause { IfErr result (IsCause (limits_of_values (mode_in scope.entry) met.old
+        (measures.met_terms (mode_in scope.entry) (env_in scope.entry) (terms_of terms.now)))) }
+{
+    let mut total = Some(0);
+    for term in terms {
+        let seen = value_of(scope, met, &term.1)?;
+        total = with_term(total, term.0, number_of(&seen));
+    }
+    Ok(total)
 }

@@ -13,6 +13,7 @@ mod numbers;
 mod scopes;
 #[cfg(test)]
 mod tests;
+mod totals;
 
 pub use environments::{Env, NamedDomain};
 pub use errors::EvalError;

@@ -1,17 +1,18 @@
-use Rattle.std.proofs.Common.{◌≡◌, ◌+◌, ◌∷◌, ℕ, List, drop, subst, [], ap, sym, ◌∙◌, arith, Some, w64, to_z, of_z}
+use Rattle.std.proofs.Common.{◌≡◌, ◌+◌, ◌+ℤ◌, Bool, ◌∷◌, ℕ, List, drop, subst, [], ap, sym, ◌∙◌, arith, Some, w64, to_z, of_z}
 use Rattle.std.specs.Prelude.{neg_ℤ, option_map, option_to_list, not}
 use Rattle.std.specs.List.{list_any}
 use Rattle.ep_tree.specs.Limits.{is_too_far, limits_of_values}
 use Rattle.std.proofs.lemmas.Int.{to_z-of_z, ints}
 use Rattle.std.proofs.lemmas.Result.{err_from_is_err_and}
-use Rattle.ep_tree.proofs.EvaluationEquations.{evaluate-all_of, evaluate-any_of, evaluate-absolute, evaluate-binary, evaluate-minus, evaluate-named, evaluate-compare, evaluate-group, evaluate-negation, evaluate-number, evaluate-to_int, evaluate-truth}
-use Rattle.ep_tree.proofs.ViewLemmas.{kind_tree-all_of, kind_tree-any_of, kind_tree-absolute, kind_tree-binary, kind_tree-minus, kind_tree-named, kind_tree-compare, kind_tree-group, kind_tree-negation, kind_tree-number, kind_tree-to_int, kind_tree-truth}
-use Rattle.ep_tree.specs.Evaluation.{binary_value, evaluate, map_both, number_in, number_value, truth_in, truth_of}
+use Rattle.ep_tree.proofs.EvaluationEquations.{evaluate-chain, evaluate-all_of, evaluate-any_of, evaluate-absolute, evaluate-binary, evaluate-minus, evaluate-named, evaluate-compare, evaluate-group, evaluate-negation, evaluate-number, evaluate-to_int, evaluate-truth}
+use Rattle.ep_tree.proofs.ViewLemmas.{kind_tree-chain, kind_tree-all_of, kind_tree-any_of, kind_tree-absolute, kind_tree-binary, kind_tree-minus, kind_tree-named, kind_tree-compare, kind_tree-group, kind_tree-negation, kind_tree-number, kind_tree-to_int, kind_tree-truth}
+use Rattle.ep_tree.specs.Evaluation.{signed, binary_value, evaluate, map_both, number_in, number_value, truth_in, truth_of}
 use Rattle.ep_base.specs.Numbers.{absolute_of, compare_holds}
-use Rattle.ep_tree.specs.Measures.{met, met_all}
-use Rattle.ep_tree.specs.Trees.{absolute, all_of, any_of, binary, minus, named, compare, group, negation, number, to_int, truth}
+use Rattle.ep_tree.specs.Measures.{met, met_all, met_terms}
+use Rattle.ep_tree.specs.Trees.{chain, absolute, all_of, any_of, binary, minus, named, compare, group, negation, number, to_int, truth}
 use Rattle.ep_tree.specs.Values.{single}
-use Rattle.ep_tree.specs.Views.{expr_tree, expr_trees, kind_tree}
+use Rattle.ep_tree.specs.Views.{expr_tree, expr_trees, kind_tree, terms_of}
+use Rattle.ep_eval.proofs.TermSteps.{small_total, total_begins, total_cause, total_counted, total_goes_on, total_value}
 use Rattle.ep_tree.specs.declared.syntax.Expr.{Expr}
 use Rattle.std.proofs.lemmas.List.{drop_all, drop_more}
 use Rattle.ep_eval.proofs.PartSteps.{TruthsSoFar, truths_begin, truths_cause, truths_counted, truths_more, truths_value}
@@ -19,7 +20,7 @@ use Rattle.ep_eval.specs.Counting.{is_far_value, of_all, together}
 use Rattle.ep_eval.specs.Helds.{held_value, seen_held}
 use Rattle.ep_eval.specs.Scopes.{env_in, mode_in}
 use Rattle.ep_eval.proofs.Countings.{counted_none, node_refuses, size_refuses}
-use Rattle.ep_eval.proofs.FormParts.{form_cause, meets_all_of, meets_any_of, given_cause, given_value, meets_absolute, meets_binary, meets_minus, one_far, two_far, meets_named, first_cause, meets_compare, second_cause, two_value, form_value, meets_group, meets_negation, meets_number, meets_some, meets_to_int, meets_truth, one_cause, one_value}
+use Rattle.ep_eval.proofs.FormParts.{form_far, meets_chain, form_cause, meets_all_of, meets_any_of, given_cause, given_value, meets_absolute, meets_binary, meets_minus, one_far, two_far, meets_named, first_cause, meets_compare, second_cause, two_value, form_value, meets_group, meets_negation, meets_number, meets_some, meets_to_int, meets_truth, one_cause, one_value}
 use Rattle.ep_eval.proofs.Countings.{far_cause, refused_whole}
 use Rattle.ep_eval.proofs.evaluating.+evaluating.Goals as goal
 
@@ -366,6 +367,81 @@ kind_value-returns-in_err-truth-in-Or-clause-cause t c =
     (form_cause mode env (met_all mode env parts) c.args.met.now (λ q. any_of q parts) c.args.kind.now
     (λ q. ap (kind_tree q) c.in-Or.is ∙ kind_tree-any_of q c.in-Or.parts ∙ ap (λ l. any_of q (expr_trees l)) (sym c.deref-in-Or.ensures.value))
     (λ q. meets_any_of mode env q parts) c.in_err-truth-in-Or.field-0.0 c.in_err-truth-in-Or.ensures.cause)
+
+pub total-loop-term-init : goal.total-loop-term-init
+total-loop-term-init t c = total_begins (mode_in c.args.scope) (env_in c.args.scope) c.args.met.now c.args.terms.now c.requires.small
+
+pub total-with_term-total-requires : goal.total-with_term-total-requires
+total-with_term-total-requires t c = record {
+  small = small_total (mode_in c.args.scope) (env_in c.args.scope) c.args.met.now c.loop-term.met c.args.terms.now _ c.loop-term.total c.loop-term.invariant;
+}
+
+pub total-loop-term-preserved : goal.total-loop-term-preserved
+total-loop-term-preserved t c =
+    let all : List (Bool × Expr) = c.args.terms.now in
+    let k : ℕ = c.loop-term.term-index in
+    let term : Bool × Expr = c.term-item.result in
+    let cut : drop k all ≡ term ∷ drop (k + 1) all =
+    drop_more all k term c.loop-term-test.true ∙ ap (λ r. r ∷ drop (k + 1) all) (sym c.term-item.is) in
+    total_goes_on (mode_in c.args.scope) (env_in c.args.scope) c.args.met.now c.loop-term.met c.value_of.new.met all _ c.loop-term.total c.with_term-total.result term (drop (k + 1) all) (seen_held c.in_ok-seen.seen)
+    c.loop-term.invariant cut c.in_ok-seen.ensures.counted c.in_ok-seen.ensures.value
+    (c.with_term-total.ensures.value ∙ ap (λ n. map_both ◌+ℤ◌ c.loop-term.total (option_map (signed term.0) n)) c.number_of.ensures)
+    c.with_term-total.ensures.within
+
+pub total-returns-in_err-seen-clause-cause : goal.total-returns-in_err-seen-clause-cause
+total-returns-in_err-seen-clause-cause t c =
+    let all : List (Bool × Expr) = c.args.terms.now in
+    let k : ℕ = c.loop-term.term-index in
+    let term : Bool × Expr = c.term-item.result in
+    let cut : drop k all ≡ term ∷ drop (k + 1) all =
+    drop_more all k term c.loop-term-test.true ∙ ap (λ r. r ∷ drop (k + 1) all) (sym c.term-item.is) in
+    let p = err_from_is_err_and c.from_residual.result c.from_residual.ensures.1 in
+    rw (p.1, p.2)
+    (total_cause (mode_in c.args.scope) (env_in c.args.scope) c.args.met.now c.loop-term.met all _ c.loop-term.total term (drop (k + 1) all)
+    c.loop-term.invariant cut c.in_err-seen.field-0.0 c.in_err-seen.ensures.cause)
+
+pub total-returns-clause-counted : goal.total-returns-clause-counted
+total-returns-clause-counted t c =
+    total_counted (mode_in c.args.scope) (env_in c.args.scope) c.args.met.now c.loop-term.met c.args.terms.now _ c.loop-term.total c.loop-term.invariant
+    (drop_all c.loop-term.term-index c.args.terms.now c.loop-term-test.false)
+
+pub total-returns-clause-value : goal.total-returns-clause-value
+total-returns-clause-value t c =
+    total_value (mode_in c.args.scope) (env_in c.args.scope) c.args.met.now c.loop-term.met c.args.terms.now _ c.loop-term.total c.loop-term.invariant
+    (drop_all c.loop-term.term-index c.args.terms.now c.loop-term-test.false)
+
+pub kind_value-returns-in_ok-total-in-Add-clause-value : goal.kind_value-returns-in_ok-total-in-Add-clause-value
+kind_value-returns-in_ok-total-in-Add-clause-value t c =
+    let mode = mode_in c.args.scope in
+    let env = env_in c.args.scope in
+    let terms = terms_of c.deref-in-Add.result.now in
+    given_value mode env c.args.met.now c.total.new.met (number_value c.in_ok-total-in-Add.total) c.args.kind.now c.some_number.result c.some_number.ensures
+    (λ w same. form_value mode env (met_terms mode env terms) c.args.met.now c.total.new.met w (λ q. chain q terms) c.args.kind.now
+    (λ q. ap (kind_tree q) c.in-Add.is ∙ kind_tree-chain q c.in-Add.terms ∙ ap (λ l. chain q (terms_of l)) (sym c.deref-in-Add.ensures.value))
+    (λ q. meets_chain mode env q terms) c.in_ok-total-in-Add.ensures.counted
+    (λ q. evaluate-chain mode env q terms ∙ ap number_value (sym c.in_ok-total-in-Add.ensures.value) ∙ same))
+
+pub kind_value-returns-in_ok-total-in-Add-clause-cause : goal.kind_value-returns-in_ok-total-in-Add-clause-cause
+kind_value-returns-in_ok-total-in-Add-clause-cause t c =
+    let mode = mode_in c.args.scope in
+    let env = env_in c.args.scope in
+    let terms = terms_of c.deref-in-Add.result.now in
+    given_cause mode env c.args.met.now (number_value c.in_ok-total-in-Add.total) c.args.kind.now c.some_number.result c.some_number.ensures
+    (form_far mode env (met_terms mode env terms) c.args.met.now (number_value c.in_ok-total-in-Add.total) (λ q. chain q terms) c.args.kind.now
+    (λ q. ap (kind_tree q) c.in-Add.is ∙ kind_tree-chain q c.in-Add.terms ∙ ap (λ l. chain q (terms_of l)) (sym c.deref-in-Add.ensures.value))
+    (λ q. meets_chain mode env q terms)
+    (λ q. evaluate-chain mode env q terms ∙ ap number_value (sym c.in_ok-total-in-Add.ensures.value)))
+
+pub kind_value-returns-in_err-total-in-Add-clause-cause : goal.kind_value-returns-in_err-total-in-Add-clause-cause
+kind_value-returns-in_err-total-in-Add-clause-cause t c =
+    let mode = mode_in c.args.scope in
+    let env = env_in c.args.scope in
+    let terms = terms_of c.deref-in-Add.result.now in
+    let p = err_from_is_err_and c.from_residual-in_err-total-in-Add.result c.from_residual-in_err-total-in-Add.ensures.1 in
+    rw (p.1, p.2)
+    (form_cause mode env (met_terms mode env terms) c.args.met.now (λ q. chain q terms) c.args.kind.now
+    (λ q. ap (kind_tree q) c.in-Add.is ∙ kind_tree-chain q c.in-Add.terms ∙ ap (λ l. chain q (terms_of l)) (sym c.deref-in-Add.ensures.value))
+    (λ q. meets_chain mode env q terms) c.in_err-total-in-Add.field-0.0 c.in_err-total-in-Add.ensures.cause)
 
 pub value_of-returns-in_err-count-clause-cause : goal.value_of-returns-in_err-count-clause-cause
 value_of-returns-in_err-count-clause-cause t c =
