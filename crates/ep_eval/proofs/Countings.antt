@@ -13,7 +13,7 @@ use Rattle.ep_tree.specs.Values.{ValueTree}
 use Rattle.ep_tree.specs.Measures.{Met, a_node, met}
 use Rattle.ep_tree.specs.Trees.{ExprTree}
 use Rattle.ep_tree.specs.declared.values.Mode.{Mode}
-use Rattle.ep_eval.specs.Counting.{Counted, IsPlain, IsRefusedBelow, met_below}
+use Rattle.ep_eval.specs.Counting.{Counted, IsNode, IsRefused, is_far_node, met_below}
 use Rattle.ep_eval.specs.Outcomes.{IsCause}
 use Rattle.ep_eval.specs.declared.errors.EvalError.{EvalError}
 use Rattle.ep_eval.specs.declared.errors.EvalError.TheVariants.{Limit, Memory}
@@ -56,9 +56,9 @@ counted_append mode a b c ms ns h k = record {
 pub counted_none : (mode : Mode) (a : ℕ) → a ≤ MOST_SIZE → Counted mode a a []
 counted_none mode a h = record { count = omega arith; small = h; near = refl }
 
--- a plain node in front, whose number is near
-pub counted_node : (mode : Mode) (env : Env) (e : ExprTree) (a b : ℕ) → IsPlain mode env e
-    → list_any is_too_far (option_to_list (number_in (evaluate mode env e))) ≡ false
+-- a node in front, whose numbers are near
+pub counted_node : (mode : Mode) (env : Env) (e : ExprTree) (a b : ℕ) → IsNode mode env e
+    → is_far_node mode env e ≡ false
     → Counted mode (a + 1) b (met_below mode env e) → Counted mode a b (met mode env e)
 counted_node mode env e a b p n h =
     subst (λ ms. Counted mode a b ms) (sym p.first) (record {
@@ -66,7 +66,7 @@ counted_node mode env e a b p n h =
       small = h.small;
       near =
           any_append is_too_far (numbers_at mode (a_node env e)) (flat_map (numbers_at mode) (met_below mode env e))
-          ∙ neither _ _ (ap (list_any is_too_far) p.own ∙ n) h.near;
+          ∙ neither _ _ n h.near;
     })
 
 -- ---- causes
@@ -126,8 +126,8 @@ cause_then mode a b ms ns error counted c =
     (λ h. ap (list_any is_too_far) (flat_append (numbers_at mode) ms ns)
     ∙ any_append is_too_far (flat_map (numbers_at mode) ms) (flat_map (numbers_at mode) ns) ∙ right_true _ _ h) c
 
--- what refuses the parts of a plain node refuses the node
-pub cause_below : (mode : Mode) (env : Env) (e : ExprTree) (a : ℕ) (error : EvalError) → IsPlain mode env e
+-- what refuses the parts of a node refuses the node
+pub cause_below : (mode : Mode) (env : Env) (e : ExprTree) (a : ℕ) (error : EvalError) → IsNode mode env e
     → IsCause (limits_of_values mode (a + 1) (met_below mode env e)) error → IsCause (limits_of_values mode a (met mode env e)) error
 cause_below mode env e a error p c =
     subst (λ ms. IsCause (limits_of_values mode a ms) error) (sym p.first)
@@ -139,22 +139,25 @@ pub size_refuses : (mode : Mode) (a : ℕ) (ms : List Met) → MOST_SIZE < a + l
 unfolding limits_of_values
 size_refuses mode a ms h = size_limit (nat_lt MOST_SIZE (a + length ms)) _ (grind arith)
 
--- a plain node whose number is too far refuses
-pub node_refuses : (mode : Mode) (env : Env) (e : ExprTree) (a : ℕ) → IsPlain mode env e
-    → list_any is_too_far (option_to_list (number_in (evaluate mode env e))) ≡ true → Contains (limits_of_values mode a (met mode env e)) LimitName.Reach
+-- a node with a number that is too far refuses
+pub node_refuses : (mode : Mode) (env : Env) (e : ExprTree) (a : ℕ) → IsNode mode env e
+    → is_far_node mode env e ≡ true → Contains (limits_of_values mode a (met mode env e)) LimitName.Reach
 unfolding limits_of_values
 node_refuses mode env e a p h =
     reach_limit (nat_lt MOST_SIZE (a + length (met mode env e))) _
     (ap (λ ms. list_any is_too_far (flat_map (numbers_at mode) ms)) p.first
     ∙ any_append is_too_far (numbers_at mode (a_node env e)) (flat_map (numbers_at mode) (met_below mode env e))
-    ∙ left_true _ _ (ap (list_any is_too_far) p.own ∙ h))
+    ∙ left_true _ _ h)
 
--- what refuses a part of an expression, behind its own node, refuses the expression
+-- what refuses a node behind its own count refuses the expression
 pub refused_whole : (mode : Mode) (env : Env) (e : ExprTree) (a n : ℕ) (error : EvalError) → n ≡ a + 1
-    → IsRefusedBelow mode env e n error → IsCause (limits_of_values mode a (met mode env e)) error
+    → IsRefused mode env e n error → IsCause (limits_of_values mode a (met mode env e)) error
 refused_whole mode env e a n Memory same h = tt
 refused_whole mode env e a n (Limit l) same h =
-    cause_below mode env e a (Limit l) h.1 (subst (λ m. IsCause (limits_of_values mode m (met_below mode env e)) (Limit l)) same h.0)
+    elim h.0 as (λ _. IsCause (limits_of_values mode a (met mode env e)) (Limit l)) [
+      | inl c ↦ cause_below mode env e a (Limit l) h.1 (subst (λ m. IsCause (limits_of_values mode m (met_below mode env e)) (Limit l)) same c)
+      | inr f ↦ subst (λ k. Contains (limits_of_values mode a (met mode env e)) k) (sym f.0) (node_refuses mode env e a h.1 f.1)
+    ]
 
 -- a number that is too far has its cause
 pub far_cause : {T : Type 0} (r : Result T EvalError) (ls : List LimitName) (F : Type 0)

@@ -3,5 +3,9 @@ pub mod KnownNames
 pub mod Countings
 pub mod Reaches
 pub mod FormParts
+pub mod Quotients
+pub mod Walks
+pub mod PartSteps
+pub mod TermSteps
 pub mod Both
 pub mod Looking

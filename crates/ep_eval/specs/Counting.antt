@@ -1,15 +1,19 @@
 -- What evaluation has met so far, and what refuses it.
-use Rattle.std.specs.Prelude.{◌≡◌, ℕ, ◌+◌, ◌≤◌, false, List, [], ◌∷◌, length, flat_map, Option, option_to_list, Contains}
+use Rattle.std.specs.Prelude.{◌≡◌, ◌⊎◌, ◌&&◌, ◌||◌, ℤ, nat_abs, ℕ, ◌+◌, ◌≤◌, Bool, true, false, Result, Ok, Err, List, [], ◌∷◌, length, flat_map, Option, Some, None, option_to_list, Contains}
 use Rattle.std.specs.List.{list_any}
+use Rattle.ep_base.specs.declared.operators.Limit.{Limit as LimitName}
 use Rattle.ep_tree.specs.Environments.{Env}
-use Rattle.ep_tree.specs.Evaluation.{evaluate, number_in}
+use Rattle.ep_tree.specs.Evaluation.{all_true, any_true, evaluate, number_in, truth_in}
 use Rattle.ep_tree.specs.Limits.{MOST_SIZE, is_too_far, limits_of_values, numbers_at}
 use Rattle.ep_tree.specs.Measures.{Met, a_node, met}
 use Rattle.ep_tree.specs.Trees.{ExprTree}
 use Rattle.ep_tree.specs.Values.{ValueTree}
+use Rattle.ep_tree.specs.declared.syntax.BinaryOp.{BinaryOp}
 use Rattle.ep_tree.specs.declared.values.Mode.{Mode}
+use Rattle.ep_eval.specs.Helds.{seen_held}
 use Rattle.ep_eval.specs.declared.errors.EvalError.{EvalError}
 use Rattle.ep_eval.specs.declared.errors.EvalError.TheVariants.{Limit, Memory}
+use Rattle.ep_eval.specs.declared.held.Held.{Held}
 
 -- nodes that pass no limit, behind so many others: how many were met by their end
 pub record Counted (mode : Mode) (before after : ℕ) (ms : List Met) : Type 0 where
@@ -25,19 +29,66 @@ all_but_first (m ∷ ms) = ms
 abbrev pub met_below : Mode → Env → ExprTree → List Met
 met_below mode env e = all_but_first (met mode env e)
 
--- a node that meets itself first, and whose value is its only number
+-- whether a value is a number too far from 0
+abbrev pub is_far_value : Option ValueTree → Bool
+is_far_value v = list_any is_too_far (option_to_list (number_in v))
+
+-- whether one of the numbers at a node is too far from 0
+abbrev pub is_far_node : Mode → Env → ExprTree → Bool
+is_far_node mode env e = list_any is_too_far (numbers_at mode (a_node env e))
+
+-- a node that meets itself first, and whose value is among its numbers
+pub record IsNode (mode : Mode) (env : Env) (e : ExprTree) : Type 0 where
+  pub first : met mode env e ≡ a_node env e ∷ met_below mode env e
+  pub far : is_far_value (evaluate mode env e) ≡ true → is_far_node mode env e ≡ true
+
+-- a node whose only number is its value
 pub record IsPlain (mode : Mode) (env : Env) (e : ExprTree) : Type 0 where
   pub first : met mode env e ≡ a_node env e ∷ met_below mode env e
   pub own : numbers_at mode (a_node env e) ≡ option_to_list (number_in (evaluate mode env e))
 
 -- what the parts of a node gave: its value, and how many nodes were met by then
 pub record Evaluated (mode : Mode) (env : Env) (e : ExprTree) (before after : ℕ) (v : Option ValueTree) : Type 0 where
-  pub plain : IsPlain mode env e
+  pub node : IsNode mode env e
+  pub near : is_far_value v ≡ false → is_far_node mode env e ≡ false
   pub counted : Counted mode before after (met_below mode env e)
   pub value : evaluate mode env e ≡ v
 
--- a part of a node is refused
-abbrev pub IsRefusedBelow : Mode → Env → ExprTree → ℕ → EvalError → Type 0
-IsRefusedBelow mode env e before Memory = Unit {0}
-IsRefusedBelow mode env e before (Limit l) =
-    Contains (limits_of_values mode before (met_below mode env e)) l × IsPlain mode env e
+-- a node is refused: a part of it is, or one of its own numbers is too far from 0
+abbrev pub IsRefused : Mode → Env → ExprTree → ℕ → EvalError → Type 0
+IsRefused mode env e before Memory = Unit {0}
+IsRefused mode env e before (Limit l) =
+    (Contains (limits_of_values mode before (met_below mode env e)) l
+    ⊎ ((l ≡ LimitName.Reach) × (is_far_node mode env e ≡ true)))
+    × IsNode mode env e
+
+-- a value is refused: it is a number too far from 0
+abbrev pub IsTooFar : Option ValueTree → EvalError → Type 0
+IsTooFar v (Limit l) = (l ≡ LimitName.Reach) × (is_far_value v ≡ true)
+IsTooFar v Memory = Unit {0}
+
+-- a value, unless it is a number too far from 0
+abbrev pub Gives : Result (Option Held) EvalError → Option ValueTree → Type 0
+Gives (Ok seen) v = seen_held seen ≡ v
+Gives (Err e) v = IsTooFar v e
+
+-- what an operator gives where a part has no value
+unfoldable pub undefined_binary : Mode → BinaryOp → Option ValueTree
+undefined_binary mode BinaryOp.Implies = truth_in mode None
+undefined_binary mode BinaryOp.Iff = truth_in mode None
+undefined_binary mode _ = None
+
+-- two truths together: both, or one of them
+unfoldable pub together : Bool → Bool → Bool → Bool
+together true a b = a && b
+together false a b = a || b
+
+-- whether all of some values are true, or one is, where each is defined
+unfoldable pub of_all : Bool → List (Option ValueTree) → Option Bool
+of_all true vs = all_true vs
+of_all false vs = any_true vs
+
+-- a total, where there is one, lies at most so far from 0
+unfoldable pub IsWithin : ℕ → Option ℤ → Type 0
+IsWithin most None = Unit {0}
+IsWithin most (Some n) = nat_abs n ≤ most

@@ -3,23 +3,28 @@
 ghost use Rattle.std.specs.Prelude.{◌≡◌, ◌+◌, ◌≤◌, ◌<◌, Some, true, false, option_to_list, option_map, IfOk, IfErr, OnOk};
 ghost use Rattle.std.specs.List.{list_any};
 ghost use Rattle.ep_base.specs.declared.places.Place.{Place};
+ghost use Rattle.ep_base.specs.Numbers.{sum_of};
 ghost use Rattle.ep_tree.specs.Environments.{value_bound};
-ghost use Rattle.ep_tree.specs.Evaluation.{evaluate, number_in};
+ghost use Rattle.ep_tree.specs.Values.{all_defined};
+ghost use Rattle.ep_tree.specs.Evaluation.{evaluate, number_in, term_values, values_of};
 ghost use Rattle.ep_tree.specs.Limits as limits;
 ghost use Rattle.ep_tree.specs.Limits.{is_too_far, limits_of_values};
 ghost use Rattle.ep_tree.specs.Measures as measures;
-ghost use Rattle.ep_tree.specs.Views.{expr_tree, kind_tree};
-ghost use Rattle.ep_eval.specs.Counting.{Counted, Evaluated, IsRefusedBelow};
+ghost use Rattle.ep_tree.specs.Views.{expr_tree, expr_trees, kind_tree, terms_of};
+ghost use Rattle.ep_eval.specs.Counting.{Counted, Evaluated, IsRefused, of_all};
 ghost use Rattle.ep_eval.specs.Helds.{seen_held};
 ghost use Rattle.ep_eval.specs.Outcomes.{IsCause};
 ghost use Rattle.ep_eval.specs.Scopes.{env_in, mode_in};
 ghost use Rattle.ep_eval.specs.declared.errors.EvalError.TheVariants as error;
 ghost use Rattle.ep_base.specs.declared.operators.Limit.TheVariants as limit;
 
+use super::binaries::{binary, some_number};
 use super::errors::EvalError;
-use super::forms::{comparison, negation};
-use super::held::{Held, held_truth, number_of};
+use super::forms::{comparison, negation, together, truth_value};
+use super::held::{Held, held_truth, number_of, truth_seen};
+use super::numbers::{absolute, minus};
 use super::scopes::{Scope, look_up};
+use super::totals::with_term;
 use ep_base::Limit;
 use ep_tree::{Expr, Kind};
 
@@ -97,7 +102,7 @@ fn kind_value<'a>(
     requires small { met.old ≤ limits.MOST_SIZE }
     ensures value { IfOk result (λ seen. (p : Place) → Evaluated (mode_in scope.entry) (env_in scope.entry)
         (kind_tree p kind.now) met.old met.new (seen_held seen)) }
-    ensures cause { IfErr result (λ e. (p : Place) → IsRefusedBelow (mode_in scope.entry) (env_in scope.entry)
+    ensures cause { IfErr result (λ e. (p : Place) → IsRefused (mode_in scope.entry) (env_in scope.entry)
         (kind_tree p kind.now) met.old e) }
 {
     match kind {
@@ -116,11 +121,83 @@ fn kind_value<'a>(
             let seen = value_of(scope, met, part)?;
             Ok(negation(scope.env.mode(), &seen))
         }
+        Kind::Neg(part) => {
+            let seen = value_of(scope, met, part)?;
+            minus(&seen)
+        }
+        Kind::Abs(part) => {
+            let seen = value_of(scope, met, part)?;
+            absolute(&seen)
+        }
+        Kind::Binary(op, left, right) => {
+            let first = value_of(scope, met, left)?;
+            let second = value_of(scope, met, right)?;
+            binary(scope.env.mode(), *op, &first, &second)
+        }
         Kind::Compare(op, left, right) => {
             let first = value_of(scope, met, left)?;
             let second = value_of(scope, met, right)?;
             Ok(comparison(scope.env.mode(), *op, &first, &second))
         }
+        Kind::Add(terms) => {
+            let total = total(scope, met, terms)?;
+            some_number(total)
+        }
+        Kind::And(parts) => {
+            let truth = truths(scope, met, true, parts)?;
+            Ok(truth_value(scope.env.mode(), truth))
+        }
+        Kind::Or(parts) => {
+            let truth = truths(scope, met, false, parts)?;
+            Ok(truth_value(scope.env.mode(), truth))
+        }
         _ => Err(EvalError::Memory),
     }
+}
+
+/// Whether all of some expressions are true, or one is, where each has a value. All are evaluated.
+#[cycle(evaluating)]
+fn truths(
+    scope: Scope<'_, '_>,
+    met: &mut u64,
+    every: bool,
+    parts: &[Expr],
+) -> Result<Option<bool>, EvalError>
+    requires small { met.old ≤ limits.MOST_SIZE }
+    ensures counted { OnOk result (Counted (mode_in scope.entry) met.old met.new
+        (measures.met_all (mode_in scope.entry) (env_in scope.entry) (expr_trees parts.now))) }
+    ensures value { IfOk result (λ truth. truth
+        ≡ of_all every (values_of (mode_in scope.entry) (env_in scope.entry) (expr_trees parts.now))) }
+    ensures cause { IfErr result (IsCause (limits_of_values (mode_in scope.entry) met.old
+        (measures.met_all (mode_in scope.entry) (env_in scope.entry) (expr_trees parts.now)))) }
+{
+    let mut truth = Some(every);
+    for part in parts {
+        let seen = value_of(scope, met, part)?;
+        truth = together(every, truth, truth_seen(&seen));
+    }
+    Ok(truth)
+}
+
+/// The total of the terms of a chain, where each has a value. All are evaluated.
+#[cycle(evaluating)]
+fn total(
+    scope: Scope<'_, '_>,
+    met: &mut u64,
+    terms: &[(bool, Expr)],
+) -> Result<Option<i128>, EvalError>
+    requires small { met.old ≤ limits.MOST_SIZE }
+    ensures counted { OnOk result (Counted (mode_in scope.entry) met.old met.new
+        (measures.met_terms (mode_in scope.entry) (env_in scope.entry) (terms_of terms.now))) }
+    ensures value { IfOk result (λ total. total ≡ option_map sum_of
+        (all_defined (term_values (mode_in scope.entry) (env_in scope.entry) (terms_of terms.now)))) }
+    ensures cause { IfErr result (IsCause (limits_of_values (mode_in scope.entry) met.old
+        (measures.met_terms (mode_in scope.entry) (env_in scope.entry) (terms_of terms.now)))) }
+{
+    let mut total = Some(0);
+    for term in terms {
+        let seen = value_of(scope, met, &term.1)?;
+        total = with_term(total, term.0, number_of(&seen));
+    }
+    Ok(total)
 }

@@ -3,6 +3,7 @@
 ghost use Rattle.std.specs.Prelude.{◌≡◌, Some, not, option_map};
 ghost use Rattle.ep_base.specs.Numbers.{compare_holds};
 ghost use Rattle.ep_tree.specs.Evaluation.{map_both, number_in, truth_in, truth_of};
+ghost use Rattle.ep_eval.specs.Counting as both;
 ghost use Rattle.ep_eval.specs.Helds.{seen_held};
 
 use super::held::{Held, held_truth, number_of, truth_seen};
@@ -34,7 +35,7 @@ pub fn negation<'a>(mode: Mode, seen: &Option<Held>) -> Option<Held<'a>>
 
 /// Whether a comparison of two numbers holds.
 #[tactic(auto, unfolding(ep_base::specs::Numbers::compare_holds))]
-fn holds(op: CompareOp, left: i64, right: i64) -> bool
+pub fn holds(op: CompareOp, left: i64, right: i64) -> bool
     ensures { result ≡ compare_holds op left right }
 {
     match op {
@@ -63,5 +64,24 @@ pub fn comparison<'a>(
             None => truth_value(mode, None),
         },
         None => truth_value(mode, None),
+    }
+}
+
+/// Two truths together, where both are there.
+#[tactic(auto, unfolding(crate::specs::Counting::together, ep_tree::specs::Evaluation::map_both))]
+pub fn together(every: bool, one: Option<bool>, other: Option<bool>) -> Option<bool>
+    ensures { result ≡ map_both (both.together every) one other }
+{
+    match one {
+        Some(first) => match other {
+            Some(second) => {
+                if every {
+                    return Some(first && second);
+                }
+                Some(first || second)
+            }
+            None => None,
+        },
+        None => None,
     }
 }

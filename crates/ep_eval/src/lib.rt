@@ -1,6 +1,7 @@
 //! The value of an expression under an environment, by direct evaluation of its tree.
 #![tactic(auto)]
 
+mod binaries;
 mod copies;
 mod environments;
 mod errors;
@@ -8,9 +9,11 @@ mod evaluating;
 mod evaluation;
 mod forms;
 mod held;
+mod numbers;
 mod scopes;
 #[cfg(test)]
 mod tests;
+mod totals;
 
 pub use environments::{Env, NamedDomain};
 pub use errors::EvalError;

@@ -1,21 +1,26 @@
-use Rattle.std.proofs.Common.{[], ap, sym, ◌∙◌, arith, Some, w64, to_z, of_z}
-use Rattle.std.specs.Prelude.{option_map, option_to_list, not}
+use Rattle.std.proofs.Common.{◌≡◌, ◌+◌, ◌+ℤ◌, Bool, ◌∷◌, ℕ, List, drop, subst, [], ap, sym, ◌∙◌, arith, Some, w64, to_z, of_z}
+use Rattle.std.specs.Prelude.{neg_ℤ, option_map, option_to_list, not}
 use Rattle.std.specs.List.{list_any}
 use Rattle.ep_tree.specs.Limits.{is_too_far, limits_of_values}
 use Rattle.std.proofs.lemmas.Int.{to_z-of_z, ints}
 use Rattle.std.proofs.lemmas.Result.{err_from_is_err_and}
-use Rattle.ep_tree.proofs.EvaluationEquations.{evaluate-named, evaluate-compare, evaluate-group, evaluate-negation, evaluate-number, evaluate-to_int, evaluate-truth}
-use Rattle.ep_tree.proofs.ViewLemmas.{kind_tree-named, kind_tree-compare, kind_tree-group, kind_tree-negation, kind_tree-number, kind_tree-to_int, kind_tree-truth}
-use Rattle.ep_tree.specs.Evaluation.{evaluate, map_both, number_in, truth_in, truth_of}
-use Rattle.ep_base.specs.Numbers.{compare_holds}
-use Rattle.ep_tree.specs.Measures.{met}
-use Rattle.ep_tree.specs.Trees.{named, compare, group, negation, number, to_int, truth}
+use Rattle.ep_tree.proofs.EvaluationEquations.{evaluate-chain, evaluate-all_of, evaluate-any_of, evaluate-absolute, evaluate-binary, evaluate-minus, evaluate-named, evaluate-compare, evaluate-group, evaluate-negation, evaluate-number, evaluate-to_int, evaluate-truth}
+use Rattle.ep_tree.proofs.ViewLemmas.{kind_tree-chain, kind_tree-all_of, kind_tree-any_of, kind_tree-absolute, kind_tree-binary, kind_tree-minus, kind_tree-named, kind_tree-compare, kind_tree-group, kind_tree-negation, kind_tree-number, kind_tree-to_int, kind_tree-truth}
+use Rattle.ep_tree.specs.Evaluation.{signed, binary_value, evaluate, map_both, number_in, number_value, truth_in, truth_of}
+use Rattle.ep_base.specs.Numbers.{absolute_of, compare_holds}
+use Rattle.ep_tree.specs.Measures.{met, met_all, met_terms}
+use Rattle.ep_tree.specs.Trees.{chain, absolute, all_of, any_of, binary, minus, named, compare, group, negation, number, to_int, truth}
 use Rattle.ep_tree.specs.Values.{single}
-use Rattle.ep_tree.specs.Views.{expr_tree, kind_tree}
+use Rattle.ep_tree.specs.Views.{expr_tree, expr_trees, kind_tree, terms_of}
+use Rattle.ep_eval.proofs.TermSteps.{small_total, total_begins, total_cause, total_counted, total_goes_on, total_value}
+use Rattle.ep_tree.specs.declared.syntax.Expr.{Expr}
+use Rattle.std.proofs.lemmas.List.{drop_all, drop_more}
+use Rattle.ep_eval.proofs.PartSteps.{TruthsSoFar, truths_begin, truths_cause, truths_counted, truths_more, truths_value}
+use Rattle.ep_eval.specs.Counting.{is_far_value, of_all, together}
 use Rattle.ep_eval.specs.Helds.{held_value, seen_held}
 use Rattle.ep_eval.specs.Scopes.{env_in, mode_in}
 use Rattle.ep_eval.proofs.Countings.{counted_none, node_refuses, size_refuses}
-use Rattle.ep_eval.proofs.FormParts.{meets_named, first_cause, meets_compare, second_cause, two_value, form_value, meets_group, meets_negation, meets_number, meets_some, meets_to_int, meets_truth, one_cause, one_value}
+use Rattle.ep_eval.proofs.FormParts.{form_far, meets_chain, form_cause, meets_all_of, meets_any_of, given_cause, given_value, meets_absolute, meets_binary, meets_minus, one_far, two_far, meets_named, first_cause, meets_compare, second_cause, two_value, form_value, meets_group, meets_negation, meets_number, meets_some, meets_to_int, meets_truth, one_cause, one_value}
 use Rattle.ep_eval.proofs.Countings.{far_cause, refused_whole}
 use Rattle.ep_eval.proofs.evaluating.+evaluating.Goals as goal
 
@@ -151,6 +156,293 @@ kind_value-returns-in_err-second-in-Compare-clause-cause t c =
     (meets_compare mode env op) c.in_ok-first-in-Compare.ensures.counted
     c.in_err-second-in-Compare.field-0.0 c.in_err-second-in-Compare.ensures.cause)
 
+pub kind_value-returns-in_ok-seen-in-Neg-clause-value : goal.kind_value-returns-in_ok-seen-in-Neg-clause-value
+kind_value-returns-in_ok-seen-in-Neg-clause-value t c =
+    let mode = mode_in c.args.scope in
+    let env = env_in c.args.scope in
+    let seen = seen_held c.in_ok-seen-in-Neg.seen in
+    given_value mode env c.args.met.now c.value_of-in-Neg.new.met (number_value (option_map neg_ℤ (number_in seen))) c.args.kind.now c.minus.result c.minus.ensures
+    (λ w same. one_value mode env c.args.met.now c.value_of-in-Neg.new.met seen w minus c.args.kind.now c.in-Neg.part.value c.deref-in-Neg.result.now
+    (λ p. ap (kind_tree p) c.in-Neg.is ∙ kind_tree-minus p c.in-Neg.part) c.deref-in-Neg.ensures (meets_minus mode env)
+    c.in_ok-seen-in-Neg.ensures.counted c.in_ok-seen-in-Neg.ensures.value
+    (λ p e h. evaluate-minus mode env p e ∙ ap (λ s. number_value (option_map neg_ℤ (number_in s))) h ∙ same))
+
+pub kind_value-returns-in_ok-seen-in-Neg-clause-cause : goal.kind_value-returns-in_ok-seen-in-Neg-clause-cause
+kind_value-returns-in_ok-seen-in-Neg-clause-cause t c =
+    let mode = mode_in c.args.scope in
+    let env = env_in c.args.scope in
+    let seen = seen_held c.in_ok-seen-in-Neg.seen in
+    given_cause mode env c.args.met.now (number_value (option_map neg_ℤ (number_in seen))) c.args.kind.now c.minus.result c.minus.ensures
+    (one_far mode env c.args.met.now seen (number_value (option_map neg_ℤ (number_in seen))) minus c.args.kind.now c.in-Neg.part.value c.deref-in-Neg.result.now
+    (λ p. ap (kind_tree p) c.in-Neg.is ∙ kind_tree-minus p c.in-Neg.part) c.deref-in-Neg.ensures (meets_minus mode env)
+    c.in_ok-seen-in-Neg.ensures.value
+    (λ p e h. evaluate-minus mode env p e ∙ ap (λ s. number_value (option_map neg_ℤ (number_in s))) h))
+
+pub kind_value-returns-in_err-seen-in-Neg-clause-cause : goal.kind_value-returns-in_err-seen-in-Neg-clause-cause
+kind_value-returns-in_err-seen-in-Neg-clause-cause t c =
+    let mode = mode_in c.args.scope in
+    let env = env_in c.args.scope in
+    let p = err_from_is_err_and c.from_residual-in_err-seen-in-Neg.result c.from_residual-in_err-seen-in-Neg.ensures.1 in
+    rw (p.1, p.2)
+    (one_cause mode env c.args.met.now minus c.args.kind.now c.in-Neg.part.value c.deref-in-Neg.result.now
+    (λ p. ap (kind_tree p) c.in-Neg.is ∙ kind_tree-minus p c.in-Neg.part) c.deref-in-Neg.ensures (meets_minus mode env)
+    c.in_err-seen-in-Neg.field-0.0 c.in_err-seen-in-Neg.ensures.cause)
+
+pub kind_value-returns-in_ok-seen-in-Abs-clause-value : goal.kind_value-returns-in_ok-seen-in-Abs-clause-value
+kind_value-returns-in_ok-seen-in-Abs-clause-value t c =
+    let mode = mode_in c.args.scope in
+    let env = env_in c.args.scope in
+    let seen = seen_held c.in_ok-seen-in-Abs.seen in
+    given_value mode env c.args.met.now c.value_of-in-Abs.new.met (number_value (option_map absolute_of (number_in seen))) c.args.kind.now c.absolute.result c.absolute.ensures
+    (λ w same. one_value mode env c.args.met.now c.value_of-in-Abs.new.met seen w absolute c.args.kind.now c.in-Abs.part.value c.deref-in-Abs.result.now
+    (λ p. ap (kind_tree p) c.in-Abs.is ∙ kind_tree-absolute p c.in-Abs.part) c.deref-in-Abs.ensures (meets_absolute mode env)
+    c.in_ok-seen-in-Abs.ensures.counted c.in_ok-seen-in-Abs.ensures.value
+    (λ p e h. evaluate-absolute mode env p e ∙ ap (λ s. number_value (option_map absolute_of (number_in s))) h ∙ same))
+
+pub kind_value-returns-in_ok-seen-in-Abs-clause-cause : goal.kind_value-returns-in_ok-seen-in-Abs-clause-cause
+kind_value-returns-in_ok-seen-in-Abs-clause-cause t c =
+    let mode = mode_in c.args.scope in
+    let env = env_in c.args.scope in
+    let seen = seen_held c.in_ok-seen-in-Abs.seen in
+    given_cause mode env c.args.met.now (number_value (option_map absolute_of (number_in seen))) c.args.kind.now c.absolute.result c.absolute.ensures
+    (one_far mode env c.args.met.now seen (number_value (option_map absolute_of (number_in seen))) absolute c.args.kind.now c.in-Abs.part.value c.deref-in-Abs.result.now
+    (λ p. ap (kind_tree p) c.in-Abs.is ∙ kind_tree-absolute p c.in-Abs.part) c.deref-in-Abs.ensures (meets_absolute mode env)
+    c.in_ok-seen-in-Abs.ensures.value
+    (λ p e h. evaluate-absolute mode env p e ∙ ap (λ s. number_value (option_map absolute_of (number_in s))) h))
+
+pub kind_value-returns-in_err-seen-in-Abs-clause-cause : goal.kind_value-returns-in_err-seen-in-Abs-clause-cause
+kind_value-returns-in_err-seen-in-Abs-clause-cause t c =
+    let mode = mode_in c.args.scope in
+    let env = env_in c.args.scope in
+    let p = err_from_is_err_and c.from_residual-in_err-seen-in-Abs.result c.from_residual-in_err-seen-in-Abs.ensures.1 in
+    rw (p.1, p.2)
+    (one_cause mode env c.args.met.now absolute c.args.kind.now c.in-Abs.part.value c.deref-in-Abs.result.now
+    (λ p. ap (kind_tree p) c.in-Abs.is ∙ kind_tree-absolute p c.in-Abs.part) c.deref-in-Abs.ensures (meets_absolute mode env)
+    c.in_err-seen-in-Abs.field-0.0 c.in_err-seen-in-Abs.ensures.cause)
+
+pub kind_value-returns-in_ok-second-in-Binary-clause-value : goal.kind_value-returns-in_ok-second-in-Binary-clause-value
+kind_value-returns-in_ok-second-in-Binary-clause-value t c =
+    let mode = mode_in c.args.scope in
+    let env = env_in c.args.scope in
+    let op = c.in-Binary.op in
+    let own = c.mode-in-Binary.result in
+    let first = seen_held c.in_ok-first-in-Binary.first in
+    let second = seen_held c.in_ok-second-in-Binary.second in
+    given_value mode env c.args.met.now c.value_of-in-Binary-2.new.met (binary_value own op (number_in first) (number_in second)) c.args.kind.now c.binary.result c.binary.ensures
+    (λ w same. two_value mode env c.args.met.now c.value_of-in-Binary.new.met c.value_of-in-Binary-2.new.met first second w
+    (λ p. binary p op) c.args.kind.now c.in-Binary.left.value c.in-Binary.right.value c.deref-in-Binary.result.now c.deref-in-Binary-2.result.now
+    (λ p. ap (kind_tree p) c.in-Binary.is ∙ kind_tree-binary p op c.in-Binary.left c.in-Binary.right) c.deref-in-Binary.ensures c.deref-in-Binary-2.ensures
+    (meets_binary mode env op)
+    c.in_ok-first-in-Binary.ensures.counted c.in_ok-first-in-Binary.ensures.value
+    c.in_ok-second-in-Binary.ensures.counted c.in_ok-second-in-Binary.ensures.value
+    (λ p e f h k.
+    evaluate-binary mode env p op e f
+    ∙ ap (λ s. binary_value mode op (number_in s) (number_in (evaluate mode env f))) h
+    ∙ ap (λ s. binary_value mode op (number_in first) (number_in s)) k
+    ∙ ap (λ m. binary_value m op (number_in first) (number_in second)) (sym c.mode-in-Binary.ensures.mode)
+    ∙ same))
+
+pub kind_value-returns-in_ok-second-in-Binary-clause-cause : goal.kind_value-returns-in_ok-second-in-Binary-clause-cause
+kind_value-returns-in_ok-second-in-Binary-clause-cause t c =
+    let mode = mode_in c.args.scope in
+    let env = env_in c.args.scope in
+    let op = c.in-Binary.op in
+    let own = c.mode-in-Binary.result in
+    let first = seen_held c.in_ok-first-in-Binary.first in
+    let second = seen_held c.in_ok-second-in-Binary.second in
+    given_cause mode env c.args.met.now (binary_value own op (number_in first) (number_in second)) c.args.kind.now c.binary.result c.binary.ensures
+    (two_far mode env c.args.met.now first second (binary_value own op (number_in first) (number_in second))
+    (λ p. binary p op) c.args.kind.now c.in-Binary.left.value c.in-Binary.right.value c.deref-in-Binary.result.now c.deref-in-Binary-2.result.now
+    (λ p. ap (kind_tree p) c.in-Binary.is ∙ kind_tree-binary p op c.in-Binary.left c.in-Binary.right) c.deref-in-Binary.ensures c.deref-in-Binary-2.ensures
+    (meets_binary mode env op)
+    c.in_ok-first-in-Binary.ensures.value c.in_ok-second-in-Binary.ensures.value
+    (λ p e f h k.
+    evaluate-binary mode env p op e f
+    ∙ ap (λ s. binary_value mode op (number_in s) (number_in (evaluate mode env f))) h
+    ∙ ap (λ s. binary_value mode op (number_in first) (number_in s)) k
+    ∙ ap (λ m. binary_value m op (number_in first) (number_in second)) (sym c.mode-in-Binary.ensures.mode)))
+
+pub kind_value-returns-in_err-first-in-Binary-clause-cause : goal.kind_value-returns-in_err-first-in-Binary-clause-cause
+kind_value-returns-in_err-first-in-Binary-clause-cause t c =
+    let mode = mode_in c.args.scope in
+    let env = env_in c.args.scope in
+    let op = c.in-Binary.op in
+    let p = err_from_is_err_and c.from_residual-in_err-first-in-Binary.result c.from_residual-in_err-first-in-Binary.ensures.1 in
+    rw (p.1, p.2)
+    (first_cause mode env c.args.met.now (λ p. binary p op) c.args.kind.now c.in-Binary.left.value c.in-Binary.right.value c.deref-in-Binary.result.now
+    (λ p. ap (kind_tree p) c.in-Binary.is ∙ kind_tree-binary p op c.in-Binary.left c.in-Binary.right) c.deref-in-Binary.ensures
+    (meets_binary mode env op) c.in_err-first-in-Binary.field-0.0 c.in_err-first-in-Binary.ensures.cause)
+
+pub kind_value-returns-in_err-second-in-Binary-clause-cause : goal.kind_value-returns-in_err-second-in-Binary-clause-cause
+kind_value-returns-in_err-second-in-Binary-clause-cause t c =
+    let mode = mode_in c.args.scope in
+    let env = env_in c.args.scope in
+    let op = c.in-Binary.op in
+    let p = err_from_is_err_and c.from_residual-in_err-second-in-Binary.result c.from_residual-in_err-second-in-Binary.ensures.1 in
+    rw (p.1, p.2)
+    (second_cause mode env c.args.met.now c.value_of-in-Binary.new.met (λ p. binary p op) c.args.kind.now c.in-Binary.left.value c.in-Binary.right.value c.deref-in-Binary.result.now c.deref-in-Binary-2.result.now
+    (λ p. ap (kind_tree p) c.in-Binary.is ∙ kind_tree-binary p op c.in-Binary.left c.in-Binary.right) c.deref-in-Binary.ensures c.deref-in-Binary-2.ensures
+    (meets_binary mode env op) c.in_ok-first-in-Binary.ensures.counted
+    c.in_err-second-in-Binary.field-0.0 c.in_err-second-in-Binary.ensures.cause)
+
+pub truths-loop-part-init : goal.truths-loop-part-init
+truths-loop-part-init t c = truths_begin (mode_in c.args.scope) (env_in c.args.scope) c.args.every c.args.met.now c.args.parts.now c.requires.small
+
+pub truths-loop-part-preserved : goal.truths-loop-part-preserved
+truths-loop-part-preserved t c =
+    let all : List Expr = c.args.parts.now in
+    let k : ℕ = c.loop-part.part-index in
+    let part : Expr = c.part-item.result in
+    let cut : drop k all ≡ part ∷ drop (k + 1) all =
+    drop_more all k part c.loop-part-test.true ∙ ap (λ r. r ∷ drop (k + 1) all) (sym c.part-item.is) in
+    subst (λ o. TruthsSoFar (mode_in c.args.scope) (env_in c.args.scope) c.args.every c.args.met.now c.value_of.new.met all (drop (k + 1) all) o)
+    (ap (map_both (together c.args.every) c.loop-part.truth) (sym c.truth_seen.ensures) ∙ sym c.together-truth.ensures)
+    (truths_more (mode_in c.args.scope) (env_in c.args.scope) c.args.every c.args.met.now c.loop-part.met c.value_of.new.met all _ c.loop-part.truth part (drop (k + 1) all) (seen_held c.in_ok-seen.seen)
+    c.loop-part.invariant cut c.in_ok-seen.ensures.counted c.in_ok-seen.ensures.value)
+
+pub truths-returns-in_err-seen-clause-cause : goal.truths-returns-in_err-seen-clause-cause
+truths-returns-in_err-seen-clause-cause t c =
+    let all : List Expr = c.args.parts.now in
+    let k : ℕ = c.loop-part.part-index in
+    let part : Expr = c.part-item.result in
+    let cut : drop k all ≡ part ∷ drop (k + 1) all =
+    drop_more all k part c.loop-part-test.true ∙ ap (λ r. r ∷ drop (k + 1) all) (sym c.part-item.is) in
+    let p = err_from_is_err_and c.from_residual.result c.from_residual.ensures.1 in
+    rw (p.1, p.2)
+    (truths_cause (mode_in c.args.scope) (env_in c.args.scope) c.args.every c.args.met.now c.loop-part.met all _ c.loop-part.truth part (drop (k + 1) all)
+    c.loop-part.invariant cut c.in_err-seen.field-0.0 c.in_err-seen.ensures.cause)
+
+pub truths-returns-clause-counted : goal.truths-returns-clause-counted
+truths-returns-clause-counted t c =
+    truths_counted (mode_in c.args.scope) (env_in c.args.scope) c.args.every c.args.met.now c.loop-part.met c.args.parts.now _ c.loop-part.truth c.loop-part.invariant
+    (drop_all c.loop-part.part-index c.args.parts.now c.loop-part-test.false)
+
+pub truths-returns-clause-value : goal.truths-returns-clause-value
+truths-returns-clause-value t c =
+    truths_value (mode_in c.args.scope) (env_in c.args.scope) c.args.every c.args.met.now c.loop-part.met c.args.parts.now _ c.loop-part.truth c.loop-part.invariant
+    (drop_all c.loop-part.part-index c.args.parts.now c.loop-part-test.false)
+
+pub kind_value-returns-in_ok-truth-in-And-clause-value : goal.kind_value-returns-in_ok-truth-in-And-clause-value
+unfolding of_all
+kind_value-returns-in_ok-truth-in-And-clause-value t c =
+    let mode = mode_in c.args.scope in
+    let env = env_in c.args.scope in
+    let parts = expr_trees c.deref-in-And.result.now in
+    form_value mode env (met_all mode env parts) c.args.met.now c.truths.new.met (seen_held c.truth_value.result) (λ q. all_of q parts) c.args.kind.now
+    (λ q. ap (kind_tree q) c.in-And.is ∙ kind_tree-all_of q c.in-And.parts ∙ ap (λ l. all_of q (expr_trees l)) (sym c.deref-in-And.ensures.value))
+    (λ q. meets_all_of mode env q parts) c.in_ok-truth-in-And.ensures.counted
+    (λ q. evaluate-all_of mode env q parts ∙ ap (truth_in mode) (sym c.in_ok-truth-in-And.ensures.value)
+    ∙ ap (λ m. truth_in m c.in_ok-truth-in-And.truth) (sym c.mode-in-And.ensures.mode) ∙ sym c.truth_value.ensures)
+
+pub kind_value-returns-in_err-truth-in-And-clause-cause : goal.kind_value-returns-in_err-truth-in-And-clause-cause
+kind_value-returns-in_err-truth-in-And-clause-cause t c =
+    let mode = mode_in c.args.scope in
+    let env = env_in c.args.scope in
+    let parts = expr_trees c.deref-in-And.result.now in
+    let p = err_from_is_err_and c.from_residual-in_err-truth-in-And.result c.from_residual-in_err-truth-in-And.ensures.1 in
+    rw (p.1, p.2)
+    (form_cause mode env (met_all mode env parts) c.args.met.now (λ q. all_of q parts) c.args.kind.now
+    (λ q. ap (kind_tree q) c.in-And.is ∙ kind_tree-all_of q c.in-And.parts ∙ ap (λ l. all_of q (expr_trees l)) (sym c.deref-in-And.ensures.value))
+    (λ q. meets_all_of mode env q parts) c.in_err-truth-in-And.field-0.0 c.in_err-truth-in-And.ensures.cause)
+
+pub kind_value-returns-in_ok-truth-in-Or-clause-value : goal.kind_value-returns-in_ok-truth-in-Or-clause-value
+unfolding of_all
+kind_value-returns-in_ok-truth-in-Or-clause-value t c =
+    let mode = mode_in c.args.scope in
+    let env = env_in c.args.scope in
+    let parts = expr_trees c.deref-in-Or.result.now in
+    form_value mode env (met_all mode env parts) c.args.met.now c.truths-in-Or.new.met (seen_held c.truth_value-in-Or.result) (λ q. any_of q parts) c.args.kind.now
+    (λ q. ap (kind_tree q) c.in-Or.is ∙ kind_tree-any_of q c.in-Or.parts ∙ ap (λ l. any_of q (expr_trees l)) (sym c.deref-in-Or.ensures.value))
+    (λ q. meets_any_of mode env q parts) c.in_ok-truth-in-Or.ensures.counted
+    (λ q. evaluate-any_of mode env q parts ∙ ap (truth_in mode) (sym c.in_ok-truth-in-Or.ensures.value)
+    ∙ ap (λ m. truth_in m c.in_ok-truth-in-Or.truth) (sym c.mode-in-Or.ensures.mode) ∙ sym c.truth_value-in-Or.ensures)
+
+pub kind_value-returns-in_err-truth-in-Or-clause-cause : goal.kind_value-returns-in_err-truth-in-Or-clause-cause
+kind_value-returns-in_err-truth-in-Or-clause-cause t c =
+    let mode = mode_in c.args.scope in
+    let env = env_in c.args.scope in
+    let parts = expr_trees c.deref-in-Or.result.now in
+    let p = err_from_is_err_and c.from_residual-in_err-truth-in-Or.result c.from_residual-in_err-truth-in-Or.ensures.1 in
+    rw (p.1, p.2)
+    (form_cause mode env (met_all mode env parts) c.args.met.now (λ q. any_of q parts) c.args.kind.now
+    (λ q. ap (kind_tree q) c.in-Or.is ∙ kind_tree-any_of q c.in-Or.parts ∙ ap (λ l. any_of q (expr_trees l)) (sym c.deref-in-Or.ensures.value))
+    (λ q. meets_any_of mode env q parts) c.in_err-truth-in-Or.field-0.0 c.in_err-truth-in-Or.ensures.cause)
+
+pub total-loop-term-init : goal.total-loop-term-init
+total-loop-term-init t c = total_begins (mode_in c.args.scope) (env_in c.args.scope) c.args.met.now c.args.terms.now c.requires.small
+
+pub total-with_term-total-requires : goal.total-with_term-total-requires
+total-with_term-total-requires t c = record {
+  small = small_total (mode_in c.args.scope) (env_in c.args.scope) c.args.met.now c.loop-term.met c.args.terms.now _ c.loop-term.total c.loop-term.invariant;
+}
+
+pub total-loop-term-preserved : goal.total-loop-term-preserved
+total-loop-term-preserved t c =
+    let all : List (Bool × Expr) = c.args.terms.now in
+    let k : ℕ = c.loop-term.term-index in
+    let term : Bool × Expr = c.term-item.result in
+    let cut : drop k all ≡ term ∷ drop (k + 1) all =
+    drop_more all k term c.loop-term-test.true ∙ ap (λ r. r ∷ drop (k + 1) all) (sym c.term-item.is) in
+    total_goes_on (mode_in c.args.scope) (env_in c.args.scope) c.args.met.now c.loop-term.met c.value_of.new.met all _ c.loop-term.total c.with_term-total.result term (drop (k + 1) all) (seen_held c.in_ok-seen.seen)
+    c.loop-term.invariant cut c.in_ok-seen.ensures.counted c.in_ok-seen.ensures.value
+    (c.with_term-total.ensures.value ∙ ap (λ n. map_both ◌+ℤ◌ c.loop-term.total (option_map (signed term.0) n)) c.number_of.ensures)
+    c.with_term-total.ensures.within
+
+pub total-returns-in_err-seen-clause-cause : goal.total-returns-in_err-seen-clause-cause
+total-returns-in_err-seen-clause-cause t c =
+    let all : List (Bool × Expr) = c.args.terms.now in
+    let k : ℕ = c.loop-term.term-index in
+    let term : Bool × Expr = c.term-item.result in
+    let cut : drop k all ≡ term ∷ drop (k + 1) all =
+    drop_more all k term c.loop-term-test.true ∙ ap (λ r. r ∷ drop (k + 1) all) (sym c.term-item.is) in
+    let p = err_from_is_err_and c.from_residual.result c.from_residual.ensures.1 in
+    rw (p.1, p.2)
+    (total_cause (mode_in c.args.scope) (env_in c.args.scope) c.args.met.now c.loop-term.met all _ c.loop-term.total term (drop (k + 1) all)
+    c.loop-term.invariant cut c.in_err-seen.field-0.0 c.in_err-seen.ensures.cause)
+
+pub total-returns-clause-counted : goal.total-returns-clause-counted
+total-returns-clause-counted t c =
+    total_counted (mode_in c.args.scope) (env_in c.args.scope) c.args.met.now c.loop-term.met c.args.terms.now _ c.loop-term.total c.loop-term.invariant
+    (drop_all c.loop-term.term-index c.args.terms.now c.loop-term-test.false)
+
+pub total-returns-clause-value : goal.total-returns-clause-value
+total-returns-clause-value t c =
+    total_value (mode_in c.args.scope) (env_in c.args.scope) c.args.met.now c.loop-term.met c.args.terms.now _ c.loop-term.total c.loop-term.invariant
+    (drop_all c.loop-term.term-index c.args.terms.now c.loop-term-test.false)
+
+pub kind_value-returns-in_ok-total-in-Add-clause-value : goal.kind_value-returns-in_ok-total-in-Add-clause-value
+kind_value-returns-in_ok-total-in-Add-clause-value t c =
+    let mode = mode_in c.args.scope in
+    let env = env_in c.args.scope in
+    let terms = terms_of c.deref-in-Add.result.now in
+    given_value mode env c.args.met.now c.total.new.met (number_value c.in_ok-total-in-Add.total) c.args.kind.now c.some_number.result c.some_number.ensures
+    (λ w same. form_value mode env (met_terms mode env terms) c.args.met.now c.total.new.met w (λ q. chain q terms) c.args.kind.now
+    (λ q. ap (kind_tree q) c.in-Add.is ∙ kind_tree-chain q c.in-Add.terms ∙ ap (λ l. chain q (terms_of l)) (sym c.deref-in-Add.ensures.value))
+    (λ q. meets_chain mode env q terms) c.in_ok-total-in-Add.ensures.counted
+    (λ q. evaluate-chain mode env q terms ∙ ap number_value (sym c.in_ok-total-in-Add.ensures.value) ∙ same))
+
+pub kind_value-returns-in_ok-total-in-Add-clause-cause : goal.kind_value-returns-in_ok-total-in-Add-clause-cause
+kind_value-returns-in_ok-total-in-Add-clause-cause t c =
+    let mode = mode_in c.args.scope in
+    let env = env_in c.args.scope in
+    let terms = terms_of c.deref-in-Add.result.now in
+    given_cause mode env c.args.met.now (number_value c.in_ok-total-in-Add.total) c.args.kind.now c.some_number.result c.some_number.ensures
+    (form_far mode env (met_terms mode env terms) c.args.met.now (number_value c.in_ok-total-in-Add.total) (λ q. chain q terms) c.args.kind.now
+    (λ q. ap (kind_tree q) c.in-Add.is ∙ kind_tree-chain q c.in-Add.terms ∙ ap (λ l. chain q (terms_of l)) (sym c.deref-in-Add.ensures.value))
+    (λ q. meets_chain mode env q terms)
+    (λ q. evaluate-chain mode env q terms ∙ ap number_value (sym c.in_ok-total-in-Add.ensures.value)))
+
+pub kind_value-returns-in_err-total-in-Add-clause-cause : goal.kind_value-returns-in_err-total-in-Add-clause-cause
+kind_value-returns-in_err-total-in-Add-clause-cause t c =
+    let mode = mode_in c.args.scope in
+    let env = env_in c.args.scope in
+    let terms = terms_of c.deref-in-Add.result.now in
+    let p = err_from_is_err_and c.from_residual-in_err-total-in-Add.result c.from_residual-in_err-total-in-Add.ensures.1 in
+    rw (p.1, p.2)
+    (form_cause mode env (met_terms mode env terms) c.args.met.now (λ q. chain q terms) c.args.kind.now
+    (λ q. ap (kind_tree q) c.in-Add.is ∙ kind_tree-chain q c.in-Add.terms ∙ ap (λ l. chain q (terms_of l)) (sym c.deref-in-Add.ensures.value))
+    (λ q. meets_chain mode env q terms) c.in_err-total-in-Add.field-0.0 c.in_err-total-in-Add.ensures.cause)
+
 pub value_of-returns-in_err-count-clause-cause : goal.value_of-returns-in_err-count-clause-cause
 value_of-returns-in_err-count-clause-cause t c =
     let mode = mode_in c.args.scope in
@@ -175,4 +467,4 @@ value_of-returns-clause-cause t c =
     let e = expr_tree c.args.e.now in
     let told = c.in_ok-seen.ensures.value c.args.e.now.place in
     far_cause c.check.result (limits_of_values mode c.args.met.now (met mode env e)) _ c.check.ensures.cause c.check.ensures.far
-    (λ far. node_refuses mode env e c.args.met.now told.plain (ap (λ v. list_any is_too_far (option_to_list (number_in v))) told.value ∙ far))
+    (λ far. node_refuses mode env e c.args.met.now told.node (told.node.far (ap is_far_value told.value ∙ far)))

@@ -1,0 +1,126 @@
+-- Truths of expressions one after another.
+use Rattle.std.proofs.Common.{◌≡◌, ℕ, ◌≤◌, Bool, true, false, List, [], ◌∷◌, ◌++◌, ℤ, refl, sym, ap, subst, ◌∙◌}
+use Rattle.std.specs.Prelude.{Option, Some, None, map, option_map}
+use Rattle.ep_base.specs.Numbers.{all_one, any_one, is_one}
+use Rattle.ep_tree.specs.Environments.{Env}
+use Rattle.ep_tree.specs.Evaluation.{all_true, any_true, evaluate, map_both, number_in, truth_of, values_of}
+use Rattle.ep_tree.specs.Limits.{MOST_SIZE, limits_of_values}
+use Rattle.ep_tree.specs.Measures.{Met, met, met_all}
+use Rattle.ep_tree.specs.Values.{ValueTree, all_defined}
+use Rattle.ep_tree.specs.Views.{expr_tree, expr_trees}
+use Rattle.ep_tree.specs.declared.syntax.Expr.{Expr}
+use Rattle.ep_tree.specs.declared.values.Mode.{Mode}
+use Rattle.ep_eval.proofs.Walks.{Walked, walk_begins, walk_cause, walk_ends, walk_more}
+use Rattle.ep_eval.specs.Counting.{Counted, of_all, together}
+use Rattle.ep_eval.specs.Outcomes.{IsCause}
+use Rattle.ep_eval.specs.declared.errors.EvalError.{EvalError}
+
+first_unit : (e : Bool) (o : Option Bool) → map_both (together e) (Some e) o ≡ o
+unfolding map_both together
+first_unit true None = refl
+first_unit true (Some b) = refl
+first_unit false None = refl
+first_unit false (Some b) = refl
+
+last_unit : (e : Bool) (o : Option Bool) → map_both (together e) o (Some e) ≡ o
+unfolding map_both together
+last_unit true None = refl
+last_unit true (Some true) = refl
+last_unit true (Some false) = refl
+last_unit false None = refl
+last_unit false (Some true) = refl
+last_unit false (Some false) = refl
+
+regrouped : (e : Bool) (a b c : Option Bool) → map_both (together e) a (map_both (together e) b c) ≡ map_both (together e) (map_both (together e) a b) c
+unfolding map_both together
+regrouped e None b c = refl
+regrouped e (Some x) None c = refl
+regrouped e (Some x) (Some y) None = refl
+regrouped true (Some true) (Some y) (Some z) = refl
+regrouped true (Some false) (Some y) (Some z) = refl
+regrouped false (Some true) (Some y) (Some z) = refl
+regrouped false (Some false) (Some y) (Some z) = refl
+
+inner_every : (x : ℤ) (o : Option (List ℤ)) → option_map all_one (option_map (λ ys. x ∷ ys) o) ≡ map_both (together true) (Some (is_one x)) (option_map all_one o)
+unfolding all_one map_both together
+inner_every x None = refl
+inner_every x (Some ys) = refl
+
+inner_any : (x : ℤ) (o : Option (List ℤ)) → option_map any_one (option_map (λ ys. x ∷ ys) o) ≡ map_both (together false) (Some (is_one x)) (option_map any_one o)
+unfolding any_one map_both together
+inner_any x None = refl
+inner_any x (Some ys) = refl
+
+every_more : (n : Option ℤ) (ns : List (Option ℤ)) → option_map all_one (all_defined (n ∷ ns)) ≡ map_both (together true) (option_map is_one n) (option_map all_one (all_defined ns))
+unfolding all_defined map_both
+every_more None ns = refl
+every_more (Some x) ns = inner_every x (all_defined ns)
+
+any_more : (n : Option ℤ) (ns : List (Option ℤ)) → option_map any_one (all_defined (n ∷ ns)) ≡ map_both (together false) (option_map is_one n) (option_map any_one (all_defined ns))
+unfolding all_defined map_both
+any_more None ns = refl
+any_more (Some x) ns = inner_any x (all_defined ns)
+
+-- one value more in front
+of_all_more : (e : Bool) (v : Option ValueTree) (vs : List (Option ValueTree)) → of_all e (v ∷ vs) ≡ map_both (together e) (truth_of v) (of_all e vs)
+unfolding of_all all_true any_true
+of_all_more true v vs = every_more (number_in v) (map number_in vs)
+of_all_more false v vs = any_more (number_in v) (map number_in vs)
+
+-- some expressions are evaluated, and others are left
+pub record TruthsSoFar (mode : Mode) (env : Env) (every : Bool) (start now : ℕ) (parts left : List Expr) (truth : Option Bool) : Type 0 where
+  pub walked : Walked mode start now (met_all mode env (expr_trees parts)) (met_all mode env (expr_trees left))
+  pub value : of_all every (values_of mode env (expr_trees parts)) ≡ map_both (together every) truth (of_all every (values_of mode env (expr_trees left)))
+
+pub truths_begin : (mode : Mode) (env : Env) (every : Bool) (start : ℕ) (parts : List Expr) → start ≤ MOST_SIZE → TruthsSoFar mode env every start start parts parts (Some every)
+truths_begin mode env every start parts h = record {
+  walked = walk_begins mode start (met_all mode env (expr_trees parts)) h;
+  value = sym (first_unit every (of_all every (values_of mode env (expr_trees parts))));
+}
+
+met_part : (mode : Mode) (env : Env) (part : Expr) (rest : List Expr) → met_all mode env (expr_trees (part ∷ rest)) ≡ met mode env (expr_tree part) ++ met_all mode env (expr_trees rest)
+unfolding met_all expr_trees
+met_part mode env part rest = refl
+
+values_part : (mode : Mode) (env : Env) (part : Expr) (rest : List Expr) → values_of mode env (expr_trees (part ∷ rest)) ≡ evaluate mode env (expr_tree part) ∷ values_of mode env (expr_trees rest)
+unfolding values_of expr_trees
+values_part mode env part rest = refl
+
+pub truths_more : (mode : Mode) (env : Env) (every : Bool) (start now after : ℕ) (parts left : List Expr) (truth : Option Bool) (part : Expr) (rest : List Expr) (seen : Option ValueTree)
+    → TruthsSoFar mode env every start now parts left truth → left ≡ part ∷ rest
+    → Counted mode now after (met mode env (expr_tree part)) → evaluate mode env (expr_tree part) ≡ seen
+    → TruthsSoFar mode env every start after parts rest (map_both (together every) truth (truth_of seen))
+truths_more mode env every start now after parts left truth part rest seen h cut counted value = record {
+  walked = walk_more mode start now after _ _ (met mode env (expr_tree part)) _ h.walked (ap (λ l. met_all mode env (expr_trees l)) cut ∙ met_part mode env part rest) counted;
+  value =
+      h.value
+      ∙ ap (λ l. map_both (together every) truth (of_all every l))
+      (ap (λ l. values_of mode env (expr_trees l)) cut ∙ values_part mode env part rest ∙ ap (λ v. v ∷ values_of mode env (expr_trees rest)) value)
+      ∙ ap (map_both (together every) truth) (of_all_more every seen (values_of mode env (expr_trees rest)))
+      ∙ regrouped every truth (truth_of seen) (of_all every (values_of mode env (expr_trees rest)));
+}
+
+pub truths_cause : (mode : Mode) (env : Env) (every : Bool) (start now : ℕ) (parts left : List Expr) (truth : Option Bool) (part : Expr) (rest : List Expr)
+    → TruthsSoFar mode env every start now parts left truth → left ≡ part ∷ rest
+    → (error : EvalError) → IsCause (limits_of_values mode now (met mode env (expr_tree part))) error
+    → IsCause (limits_of_values mode start (met_all mode env (expr_trees parts))) error
+truths_cause mode env every start now parts left truth part rest h cut error cause =
+    walk_cause mode start now _ _ (met mode env (expr_tree part)) _ h.walked (ap (λ l. met_all mode env (expr_trees l)) cut ∙ met_part mode env part rest) error cause
+
+pub truths_counted : (mode : Mode) (env : Env) (every : Bool) (start now : ℕ) (parts left : List Expr) (truth : Option Bool)
+    → TruthsSoFar mode env every start now parts left truth → left ≡ [] → Counted mode start now (met_all mode env (expr_trees parts))
+unfolding met_all expr_trees
+truths_counted mode env every start now parts left truth h none =
+    walk_ends mode start now _ (subst (λ l. Walked mode start now (met_all mode env (expr_trees parts)) (met_all mode env (expr_trees l))) none h.walked)
+
+of_none : (e : Bool) → of_all e [] ≡ Some e
+unfolding of_all all_true any_true all_defined all_one any_one
+of_none true = refl
+of_none false = refl
+
+pub truths_value : (mode : Mode) (env : Env) (every : Bool) (start now : ℕ) (parts left : List Expr) (truth : Option Bool)
+    → TruthsSoFar mode env every start now parts left truth → left ≡ [] → truth ≡ of_all every (values_of mode env (expr_trees parts))
+unfolding values_of expr_trees
+truths_value mode env every start now parts left truth h none =
+    sym (h.value ∙ ap (λ l. map_both (together every) truth (of_all every (values_of mode env (expr_trees l)))) none
+    ∙ ap (map_both (together every) truth) (of_none every) ∙ last_unit every truth)
