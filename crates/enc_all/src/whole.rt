@@ -3,7 +3,7 @@
 ghost use Rattle.std.specs.Prelude.{IfOk};
 ghost use Rattle.enc_var.specs.Layouts.{IsEncoding};
 ghost use Rattle.ep_flat.specs.FlatViews.{plain_flat};
-ghost use Rattle.ep_flat.specs.Flats.{IsSound};
+ghost use Rattle.ep_flat.specs.Flats.{IsSoundFlat};
 
 use cnf_core::Formula;
 use enc_var::Layout;
@@ -14,7 +14,7 @@ use std::alloc::Global;
 /// A formula whose assignments decode to exactly the numbers that meet the flat problem, and the
 /// layout by which they do.
 pub fn encode(_alloc: Global, flat: &Flat) -> Result<(Formula, Layout), Memory>
-    requires { IsSound (plain_flat flat.now) }
+    requires { IsSoundFlat (plain_flat flat.now) }
     ensures { IfOk result (λ made. IsEncoding (plain_flat flat.now) made.1 made.0) }
 {
     let _flat = flat;

@@ -1,3 +1,4 @@
 pub mod Counts
 pub mod Choices
-pub mod VectorsEntries
+pub mod VectorsDecoding
+pub mod NotesDecode

@@ -1,4 +1,4 @@
-pub mod Entries
+pub mod Decoding
 pub mod Layouts
 pub mod VariableInside
 pub mod Notes

@@ -4,8 +4,8 @@ ghost use Rattle.std.specs.Prelude.{◌≡◌, ◌+◌, ◌<◌, ◌++◌, ◌�
 ghost use Rattle.cnf_core.specs.Events.{plain_note};
 ghost use Rattle.ep_flat.specs.Flats.{MapsCells};
 ghost use Rattle.ep_flat.specs.FlatViews.{plain_map};
-ghost use Rattle.enc_var.specs.Entries.{eq_of, le_of};
-ghost use Rattle.enc_var.specs.Layouts.{AddsVariable, GoesOn, IsLayoutOf, entry_at};
+ghost use Rattle.enc_var.specs.Decoding.{eq_of, le_of};
+ghost use Rattle.enc_var.specs.Layouts.{HasFreeChoice, GoesOn, IsLayoutOf, literals_at};
 ghost use Rattle.enc_var.specs.Notes.{cell_notes};
 
 use crate::known::Known;
@@ -25,9 +25,9 @@ pub struct Layout {
 
 impl Model for Layout {
     ghost use Rattle.std.specs.Prelude.{List};
-    ghost use Rattle.enc_var.specs.Entries.{Entry};
+    ghost use Rattle.enc_var.specs.Decoding.{VariableLiterals};
 
-    ghost Value = { List Entry };
+    ghost Value = { List VariableLiterals };
 
     ghost view = { λ layout. layout.variables.items };
 }
@@ -51,7 +51,7 @@ impl Layout {
         ensures entry { OnOk result
             (self.new ≡ self.old ++ record { domain = domain.now; first = f.old.vars + 1 } ∷ []) }
         ensures goes_on { OnOk result (GoesOn self.old f.old self.new f.new) }
-        ensures choice { OnOk result (AddsVariable f.old
+        ensures choice { OnOk result (HasFreeChoice f.old
             (record { domain = domain.now; first = f.old.vars + 1 }) f.new) }
     {
         let _variables = &self.variables;
@@ -63,7 +63,7 @@ impl Layout {
     /// What is known of "the variable is at most `v`", by binary search.
     pub fn le(&self, var: u64, v: i64) -> Known
         requires { var < length self.now }
-        ensures { result ≡ le_of (entry_at self.now var) v }
+        ensures { result ≡ le_of (literals_at self.now var) v }
     {
         let variable = &self.variables[var as usize];
         variable.le(v)
@@ -72,7 +72,7 @@ impl Layout {
     /// What is known of "the variable is `v`", by binary search.
     pub fn eq(&self, var: u64, v: i64) -> Known
         requires { var < length self.now }
-        ensures { result ≡ eq_of (entry_at self.now var) v }
+        ensures { result ≡ eq_of (literals_at self.now var) v }
     {
         let variable = &self.variables[var as usize];
         variable.eq(v)
@@ -100,7 +100,7 @@ impl Layout {
     /// The domain of a variable.
     pub fn domain(&self, var: u64) -> &Runs
         requires { var < length self.now }
-        ensures { result.now ≡ (entry_at self.now var).domain }
+        ensures { result.now ≡ (literals_at self.now var).domain }
     {
         let variable = &self.variables[var as usize];
         variable.domain()

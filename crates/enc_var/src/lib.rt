@@ -3,8 +3,10 @@
 #![tactic(auto)]
 
 mod known;
+mod laws;
 mod layout;
 mod variables;
 
 pub use known::Known;
+pub use laws::notes_tell_the_numbers;
 pub use layout::Layout;

@@ -4,7 +4,7 @@ ghost use Rattle.std.specs.Prelude.{◌≡◌, ◌≤◌, ◌+◌, ◌*◌, leng
 ghost use Rattle.cnf_core.specs.Literal.{IsVariable};
 ghost use Rattle.cnf_core.specs.declared.lit.TheConstants.{MOST_VARIABLE};
 ghost use Rattle.ep_base.specs.Runs.{IsAscending};
-ghost use Rattle.enc_var.specs.Entries.{eq_of, le_of, note_of, place_literal as place_literal_of, values_below, values_up_to};
+ghost use Rattle.enc_var.specs.Decoding.{eq_of, le_of, note_of, place_literal as place_literal_of, values_below, values_up_to};
 
 use crate::known::Known;
 use cnf_core::Lit;
@@ -23,13 +23,13 @@ pub struct Variable {
 }
 
 impl Model for Variable {
-    ghost use Rattle.enc_var.specs.Entries.{Entry};
+    ghost use Rattle.enc_var.specs.Decoding.{VariableLiterals};
 
-    ghost Value = { Entry };
+    ghost Value = { VariableLiterals };
 
-    ghost use Rattle.enc_var.specs.VariableInside.{IsVariableInside, entry_of};
+    ghost use Rattle.enc_var.specs.VariableInside.{IsVariableInside, literals_of};
 
-    ghost view = { entry_of };
+    ghost view = { literals_of };
 
     ghost invariant = { IsVariableInside };
 }

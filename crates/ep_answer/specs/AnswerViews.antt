@@ -9,6 +9,7 @@ use Rattle.ep_answer.specs.declared.answers.End.{End}
 use Rattle.ep_answer.specs.declared.answers.End.TheVariants as ends
 use Rattle.ep_answer.specs.declared.problem.Problem.{Problem}
 
+-- a problem with plain lists in place of the vectors
 abbrev pub plain_problem : Problem → ProblemState
 plain_problem p = record {
   layout = p.layout;
@@ -17,12 +18,14 @@ plain_problem p = record {
   solver = p.solver;
 }
 
+-- an answer with plain lists in place of the vectors
 abbrev pub plain_answer : CellAnswer → FoundCells
 plain_answer (code.Solution cells) = solution cells.items
 plain_answer (code.Optimum number cells) = optimum number cells.items
 plain_answer code.NoSolution = no_solution
 plain_answer (code.Unknown best) = unknown (option_map (λ one. (one.0, one.1.items)) best)
 
+-- the end of a listing
 abbrev pub plain_end : End → ListingEnd
 plain_end ends.Complete = complete
 plain_end ends.Stopped = stopped

@@ -1,10 +1,14 @@
 -- What an answer says, over the numbers of the cells: that it is allowed, that nothing better is, or that the budget is
 -- spent; and what a list of answers says.
-use Rattle.std.specs.Prelude.{◌≡◌, ◌≢◌, ◌↔◌, ◌<◌, ℕ, ℤ, Bool, int_lt, IsTrue, IfSome, List, length, Option, Some, None}
-use Rattle.std.specs.List.{All, AllPairs, Contains}
-use Rattle.cnf_core.specs.Events.{LogState, nonempty_steps}
+use Rattle.std.specs.Prelude.{◌≡◌, ◌≢◌, ◌↔◌, ◌<◌, ◌≤◌, ◌-◌, ℕ, ℤ, Bool, int_lt, IsTrue, IfSome, List, drop, length, Option, Some, None, option_map, slice_get}
+use Rattle.std.specs.List.{All, AllPairs, AllZip, Contains}
+use Rattle.cnf_core.specs.Clauses.{Satisfies, SatisfiesClause}
+use Rattle.cnf_core.specs.Events.{LogState, Note, givens, nonempty_steps}
+use Rattle.cnf_core.specs.Literal.{Literal, negation}
 use Rattle.ep_base.specs.declared.operators.Sense.{Sense}
-use Rattle.ep_answer.specs.Problems.{IsAllowed, IsLeft, ProblemState}
+use Rattle.enc_var.specs.Layouts.{decoded_cells, decoded_values}
+use Rattle.ep_flat.specs.Flats.{objective_number}
+use Rattle.ep_answer.specs.Problems.{IsAllowed, IsLeft, ProblemState, base_clauses}
 use Rattle.sat_search.specs.Logs.{EndsWithEmptyStep, IsSound, NoneIsEmpty}
 
 -- One solution, the best one with its objective, none, or the budget is spent, with the best so far where there is one.
@@ -49,29 +53,58 @@ unfoldable pub IsStillWanted : ProblemState → Option (ℤ × List ℤ) → Opt
 IsStillWanted p None goal = Unit {0}
 IsStillWanted p (Some best) goal = IsBetterThan p best.0 goal
 
--- The steps with a literal are as many as the budget says, none is empty, the best so far is allowed with its objective, and
--- what is left is exactly what is allowed and still wanted.
+-- The steps with a literal are as many as the budget says, no event is empty, the best so far is allowed with its objective,
+-- and what is left is exactly what is allowed and still wanted.
 pub record IsBudgetSpent (p : ProblemState) (budget : ℕ) (log : LogState) (best : Option (ℤ × List ℤ)) : Type 0 where
   pub steps : nonempty_steps log.events ≡ budget
-  pub open_yet : NoneIsEmpty log.events
+  pub none_is_empty : NoneIsEmpty log.events
   pub incumbent : IfSome best (λ one. IsAllowed p log one.1 (Some one.0))
-  pub left : (cells : List ℤ) (goal : Option ℤ) → IsLeft p log cells goal ↔ (IsAllowed p log cells goal × IsStillWanted p best goal)
+  pub left : (cells : List ℤ) (goal : Option ℤ)
+      → IsLeft p log cells goal ↔ (IsAllowed p log cells goal × IsStillWanted p best goal)
 
--- what each answer says
-unfoldable pub IsAsFound : ProblemState → ℕ → LogState → FoundCells → Type 0
-IsAsFound p budget log (solution cells) = IsSolutionFound p log cells
-IsAsFound p budget log (optimum number cells) = IsOptimumFound p log number cells
-IsAsFound p budget log no_solution = IsNothingFound p log
-IsAsFound p budget log (unknown best) = IsBudgetSpent p budget log best
+-- when an answer is right
+unfoldable pub IsRightAnswer : ProblemState → ℕ → LogState → FoundCells → Type 0
+IsRightAnswer p budget log (solution cells) = IsSolutionFound p log cells
+IsRightAnswer p budget log (optimum number cells) = IsOptimumFound p log number cells
+IsRightAnswer p budget log no_solution = IsNothingFound p log
+IsRightAnswer p budget log (unknown best) = IsBudgetSpent p budget log best
 
--- An answer: the log's steps are valid, and those with a literal are new and effective; notes and base are the old ones, and
--- the answer says what is so.
-pub record AnswersCells (p : ProblemState) (budget : ℕ) (old new : LogState) (found : FoundCells) : Type 0 where
-  pub sound : IsSound new.events
-  pub notes : new.notes ≡ old.notes
-  pub base : new.base ≡ old.base
-  pub same : (cells : List ℤ) (goal : Option ℤ) → IsAllowed p new cells goal ↔ IsAllowed p old cells goal
-  pub is_so : IsAsFound p budget new found
+-- An answer: the log's steps are valid, those with a literal are new and effective and no more than the budget says, and the
+-- answer is right.
+pub record AnswersCells (p : ProblemState) (budget : ℕ) (log : LogState) (found : FoundCells) : Type 0 where
+  pub sound : IsSound log.events
+  pub within : nonempty_steps log.events ≤ budget
+  pub right : IsRightAnswer p budget log found
+
+-- the givens that were added to an old log
+abbrev pub added_givens : LogState → LogState → List (List Literal)
+added_givens old new = givens (drop (length old.events) new.events)
+
+-- under each assignment that satisfies the problem's clauses, this clause holds exactly where the objective is better
+pub record SaysBetter (p : ProblemState) (log : LogState) (best : ℤ) (clause : List Literal) : Type 0 where
+  pub says : (s : ℕ → Bool) → Satisfies s (base_clauses log)
+      → SatisfiesClause s clause ↔ IsBetterThan p best (objective_number p.variables (decoded_values p.layout s))
+
+-- this number of the objective comes with numbers of the cells that are allowed
+pub record IsReachedGoal (p : ProblemState) (log : LogState) (number : ℤ) : Type 0 where
+  pub cells : List ℤ
+  pub allowed : IsAllowed p log cells (Some number)
+
+-- the objective's number in the best solution that an answer has, where it has one
+unfoldable pub best_number : FoundCells → Option ℤ
+best_number (solution cells) = None
+best_number (optimum number cells) = Some number
+best_number no_solution = None
+best_number (unknown best) = option_map (λ one. one.0) best
+
+-- How the best solution was looked for: some numbers of the objective were reached one after another, each better than those
+-- before and the last the answer's own, and the givens added say one by one that the objective is better than each.
+pub record Improves (p : ProblemState) (old new : LogState) (found : FoundCells) : Type 0 where
+  pub bests : List ℤ
+  pub reached : All (IsReachedGoal p new) bests
+  pub better : AllPairs (λ earlier later. IsBetterThan p earlier (Some later)) bests
+  pub last : slice_get bests (length bests - 1) ≡ best_number found
+  pub said : AllZip (SaysBetter p new) bests (added_givens old new)
 
 -- how a listing ends: with all, with as many as were wanted, or with the budget
 pub data ListingEnd : Type 0 where
@@ -79,22 +112,34 @@ pub data ListingEnd : Type 0 where
   stopped : ListingEnd
   spent : ListingEnd
 
--- what each end says of how many were found and of the log
-unfoldable pub IsAsEnded : ℕ → ℕ → LogState → ℕ → ListingEnd → Type 0
-IsAsEnded budget most log count complete = (count < most) × EndsWithEmptyStep log.events
-IsAsEnded budget most log count stopped = count ≡ most
-IsAsEnded budget most log count spent =
+-- when such an end of a listing of so many is right
+unfoldable pub IsRightEnd : ℕ → ℕ → LogState → ℕ → ListingEnd → Type 0
+IsRightEnd budget most log count complete = (count < most) × EndsWithEmptyStep log.events
+IsRightEnd budget most log count stopped = count ≡ most
+IsRightEnd budget most log count spent =
     (count < most) × (nonempty_steps log.events ≡ budget) × NoneIsEmpty log.events
 
--- A list: each numbers of cells is allowed, no two are equal, what is left is exactly what is allowed and wasn't found, and
--- the end says what is so.
+-- a literal is the negation of that of a note
+pub record IsNegatedNote (log : LogState) (l : Literal) : Type 0 where
+  pub note : Note
+  pub noted : Contains log.notes note
+  pub negated : l ≡ negation note.lit
+
+-- Under each assignment that satisfies the problem's clauses, this clause holds exactly where the cells have other numbers than
+-- these; and each of its literals is the negation of a note's.
+pub record BlocksCells (p : ProblemState) (log : LogState) (cells : List ℤ) (clause : List Literal) : Type 0 where
+  pub says : (s : ℕ → Bool) → Satisfies s (base_clauses log)
+      → SatisfiesClause s clause ↔ (decoded_cells p.layout p.variables s ≢ cells)
+  pub literals : All (IsNegatedNote log) clause
+
+-- A list: each numbers of cells is allowed, no two are equal, the givens added block them one by one, what is left is exactly
+-- what is allowed and wasn't found, and the end is right.
 pub record ListsCells (p : ProblemState) (budget most : ℕ) (old new : LogState) (found : List (List ℤ)) (end : ListingEnd) : Type 0 where
   pub sound : IsSound new.events
-  pub notes : new.notes ≡ old.notes
-  pub base : new.base ≡ old.base
-  pub same : (cells : List ℤ) (goal : Option ℤ) → IsAllowed p new cells goal ↔ IsAllowed p old cells goal
+  pub within : nonempty_steps new.events ≤ budget
   pub allowed : All (λ cells. (goal : Option ℤ) × IsAllowed p new cells goal) found
   pub different : AllPairs ◌≢◌ found
+  pub blocked : AllZip (BlocksCells p new) found (added_givens old new)
   pub left : (cells : List ℤ) (goal : Option ℤ)
       → IsLeft p new cells goal ↔ (IsAllowed p new cells goal × (Contains found cells → ⊥))
-  pub ends : IsAsEnded budget most new (length found) end
+  pub right_end : IsRightEnd budget most new (length found) end

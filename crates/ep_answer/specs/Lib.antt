@@ -1,3 +1,4 @@
 pub mod Problems
 pub mod Answered
 pub mod AnswerViews
+pub mod Posed

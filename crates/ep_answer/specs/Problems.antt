@@ -7,14 +7,14 @@ use Rattle.cnf_core.specs.Literal.{Literal}
 use Rattle.cnf_core.specs.Steps.{IsConsistent}
 use Rattle.ep_flat.specs.Flats.{MapState, MapsCells}
 use Rattle.ep_ground.specs.declared.cells.Cell.{Cell}
-use Rattle.enc_var.specs.Entries.{Entry, Means}
+use Rattle.enc_var.specs.Decoding.{VariableLiterals, Means}
 use Rattle.enc_var.specs.Layouts.{GivesCells}
 use Rattle.enc_var.specs.Notes.{cell_notes}
 use Rattle.sat_search.specs.View.{SolverView}
 
 -- the literals of the flat variables, the cells, which variables stand for them, and the solver of the clauses
 pub record ProblemState : Type 0 where
-  pub layout : List Entry
+  pub layout : List VariableLiterals
   pub cells : List Cell
   pub variables : MapState
   pub solver : SolverView

@@ -1,10 +1,10 @@
 //! The search for solutions.
 
-ghost use Rattle.std.specs.Prelude.{◌≡◌, ◌≢◌, None, IfOk, map};
-ghost use Rattle.ep_answer.specs.Answered.{AnswersCells, ListsCells};
+ghost use Rattle.std.specs.Prelude.{◌≡◌, ◌≢◌, false, None, IfOk, length, map, take};
+ghost use Rattle.ep_answer.specs.Answered.{AnswersCells, Improves, ListsCells};
 ghost use Rattle.ep_answer.specs.AnswerViews.{plain_answer, plain_end, plain_problem};
 ghost use Rattle.ep_answer.specs.Problems.{CanSearch};
-ghost use Rattle.cnf_core.specs.Events.{givens};
+ghost use Rattle.cnf_core.specs.Events.{clauses_of, givens};
 ghost use Rattle.sat_search.specs.Logs.{IsSound};
 
 use crate::answers::{CellAnswer, CellListing};
@@ -23,11 +23,14 @@ pub fn find_cells(
     requires can_search { CanSearch (plain_problem p.old) log.old }
     requires no_objective { (plain_problem p.old).variables.objective ≡ None }
     ensures answers { IfOk result (λ answer.
-        AnswersCells (plain_problem p.old) budget log.old log.new (plain_answer answer)) }
+        AnswersCells (plain_problem p.old) budget log.new (plain_answer answer)) }
     ensures givens { givens log.new.events ≡ givens log.old.events }
+    ensures front { take (length log.old.events) log.new.events ≡ log.old.events }
     ensures sound { IsSound log.old.events → IsSound log.new.events }
     ensures notes { log.new.notes ≡ log.old.notes }
     ensures base { log.new.base ≡ log.old.base }
+    ensures problem { plain_problem p.new ≡ record (plain_problem p.old) { solver = p.new.solver } }
+    ensures clauses { p.new.solver.broken ≡ false → p.new.solver.clauses ≡ clauses_of log.new.events }
 {
     let _problem = p;
     let _budget = budget;
@@ -46,10 +49,15 @@ pub fn optimise_cells(
     requires can_search { CanSearch (plain_problem p.old) log.old }
     requires objective { (plain_problem p.old).variables.objective ≢ None }
     ensures answers { IfOk result (λ answer.
-        AnswersCells (plain_problem p.old) budget log.old log.new (plain_answer answer)) }
+        AnswersCells (plain_problem p.old) budget log.new (plain_answer answer)) }
+    ensures improves { IfOk result (λ answer.
+        Improves (plain_problem p.old) log.old log.new (plain_answer answer)) }
+    ensures front { take (length log.old.events) log.new.events ≡ log.old.events }
     ensures sound { IsSound log.old.events → IsSound log.new.events }
     ensures notes { log.new.notes ≡ log.old.notes }
     ensures base { log.new.base ≡ log.old.base }
+    ensures problem { plain_problem p.new ≡ record (plain_problem p.old) { solver = p.new.solver } }
+    ensures clauses { p.new.solver.broken ≡ false → p.new.solver.clauses ≡ clauses_of log.new.events }
 {
     let _problem = p;
     let _budget = budget;
@@ -69,9 +77,12 @@ pub fn enumerate_cells(
     requires { CanSearch (plain_problem p.old) log.old }
     ensures lists { IfOk result (λ listing. ListsCells (plain_problem p.old) budget most log.old log.new
         (map (λ cells. cells.items) listing.found.items) (plain_end listing.end)) }
+    ensures front { take (length log.old.events) log.new.events ≡ log.old.events }
     ensures sound { IsSound log.old.events → IsSound log.new.events }
     ensures notes { log.new.notes ≡ log.old.notes }
     ensures base { log.new.base ≡ log.old.base }
+    ensures problem { plain_problem p.new ≡ record (plain_problem p.old) { solver = p.new.solver } }
+    ensures clauses { p.new.solver.broken ≡ false → p.new.solver.clauses ≡ clauses_of log.new.events }
 {
     let _problem = p;
     let _most = most;

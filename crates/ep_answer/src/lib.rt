@@ -3,8 +3,10 @@
 
 mod answers;
 mod finding;
+mod laws;
 mod problem;
 
 pub use answers::{CellAnswer, CellListing, End};
 pub use finding::{enumerate_cells, find_cells, optimise_cells};
+pub use laws::what_is_posed_is_allowed;
 pub use problem::Problem;

@@ -10,7 +10,7 @@ use ep_ground::Ground;
 use std::alloc::Global;
 
 /// The most nodes that a ground may have.
-pub const MOST_NODES: u64 = 200_000_000;
+pub const MOST_NODES: u64 = 100_000_000;
 
 /// A ground that keeps the same values of the cells, with the same numbers of the objective, and has
 /// no node that may lack a value.
@@ -23,7 +23,7 @@ pub fn remove_undefined(_alloc: Global, g: Ground) -> Result<Ground, Memory>
     ensures bounded { IfOk result (λ new.
         IsBounded (plain_ground g) → IsBounded (plain_ground new)) }
     ensures nodes { IfOk result (λ new.
-        length (plain_ground new).nodes ≤ 8 * length (plain_ground g).nodes + 8) }
+        length (plain_ground new).nodes ≤ 4 * length (plain_ground g).nodes + 8) }
 {
     let _ground = g;
     Err(Memory)

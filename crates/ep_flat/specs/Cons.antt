@@ -123,6 +123,7 @@ pub data Family : Type 0 where
   of_counts : Family
   of_rows : Family
 
+-- the part of the encoding to which a kind of constraint belongs
 unfoldable pub family_of : FlatKind → Family
 family_of (clause parts) = of_truths
 family_of (all_of xs) = of_truths

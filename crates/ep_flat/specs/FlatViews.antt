@@ -8,6 +8,7 @@ use Rattle.ep_flat.specs.declared.flats.ConKind.TheVariants as code
 use Rattle.ep_flat.specs.Cons.{FlatKind, FlatCon, clause, all_of, same_truth, linear, member, product, quotient, remainder, power, absolute, least, greatest, element, all_different, counts, at_least, at_most, table, lex}
 use Rattle.ep_flat.specs.Flats.{FlatState, MapState}
 
+-- a kind of constraint with plain lists in place of the vectors
 abbrev pub plain_kind : ConKind → FlatKind
 plain_kind (code.Clause parts) = clause parts.items
 plain_kind (code.All xs) = all_of xs.items
@@ -29,11 +30,14 @@ plain_kind (code.AtMost xs cs ns) = at_most xs.items cs.items ns.items
 plain_kind (code.Table xs rows) = table xs.items rows.items
 plain_kind (code.Lex op xs ys) = lex op xs.items ys.items
 
+-- a constraint with plain lists in place of the vectors
 abbrev pub plain_con : Con → FlatCon
 plain_con con = record { truth = con.truth; kind = plain_kind con.kind }
 
+-- a flat problem with plain lists in place of the vectors
 abbrev pub plain_flat : Flat → FlatState
 plain_flat flat = record { vars = flat.vars.items; cons = map plain_con flat.cons.items }
 
+-- a map of cells with a plain list in place of the vector
 abbrev pub plain_map : CellMap → MapState
 plain_map m = record { cells = m.cells.items; objective = m.objective }

@@ -47,7 +47,7 @@ abbrev pub HaveSmallNumbers : List (List ℤ) → Type 0
 HaveSmallNumbers domains = All (λ domain. All IsWithinNumbers domain) domains
 
 -- each constraint names variables of the flat problem alone, and all numbers and coefficients are small enough
-pub record IsSound (flat : FlatState) : Type 0 where
+pub record IsSoundFlat (flat : FlatState) : Type 0 where
   pub names : All (NamesBelow (length flat.vars)) flat.cons
   pub numbers : HaveSmallNumbers flat.vars
   pub coefficients : All HasSmallCoefficients flat.cons

@@ -1,6 +1,6 @@
 -- What it means that a flat problem stands for a ground.
 use Rattle.std.specs.Prelude.{◌≡◌, ℤ, List, map, option_map}
-use Rattle.ep_flat.specs.Flats.{FlatState, IsSound, MapState, MapsCells, Meets, cell_numbers, objective_number}
+use Rattle.ep_flat.specs.Flats.{FlatState, IsSoundFlat, MapState, MapsCells, Meets, cell_numbers, objective_number}
 use Rattle.ep_ground.specs.Grounds.{GroundState, IsGroundSolution, ground_objective}
 
 -- the map names variables for the cells of a ground and for its objective, which is to be driven the same way
@@ -17,7 +17,7 @@ pub record IsMetBy (flat : FlatState) (m : MapState) (cells : List ℤ) : Type 0
 -- Values of the cells extend to numbers that meet the flat problem exactly where the ground keeps them, and the variable
 -- of the objective then has its number.
 pub record StandsFor (g : GroundState) (flat : FlatState) (m : MapState) : Type 0 where
-  pub is_sound : IsSound flat
+  pub is_sound : IsSoundFlat flat
   pub is_map : IsMapOf g flat.vars m
   pub extends : (cells : List ℤ) → IsGroundSolution g cells → IsMetBy flat m cells
   pub restricts : (values : List ℤ) → Meets flat values → IsGroundSolution g (cell_numbers m values)

@@ -11,8 +11,8 @@ use Rattle.ep_flat.specs.Flats.{FlatState, MapState, MapsCells, cell_numbers, ob
 use Rattle.ep_flatten.specs.Flattening.{IsMetBy, StandsFor}
 use Rattle.ep_formula.specs.Formulas.{IsFormulaOf}
 use Rattle.ep_ground.specs.Grounds.{GroundState, IsGroundSolution, KeepsSolutions, ground_objective}
-use Rattle.enc_var.specs.Entries.{Entry}
-use Rattle.enc_var.specs.Layouts.{GivesCells, IsEncoding, decoded_cells, decoded_values}
+use Rattle.enc_var.specs.Decoding.{VariableLiterals}
+use Rattle.enc_var.specs.Layouts.{AreGiven, IsEncoding, decoded_cells, decoded_values}
 
 -- what stands among the first elements stands at the same place among all
 pub taken_at : {X : Type 0} (count : ℕ) (xs : List X) (k : ℕ) (d : X) → k < count → slice_index_or (take count xs) k d ≡ slice_index_or xs k d
@@ -69,7 +69,7 @@ maps_in_layout values vars domains m first h = record {
 
 -- A ground that keeps what another keeps, a flat problem that stands for it, and its encoding: the formula stands for the
 -- first ground.
-pub stages_compose : (old new : GroundState) (flat : FlatState) (m : MapState) (layout : List Entry) (f : Cnf) → KeepsSolutions old new → StandsFor new flat m → IsEncoding flat layout f → IsFormulaOf old layout m f
+pub stages_compose : (old new : GroundState) (flat : FlatState) (m : MapState) (layout : List VariableLiterals) (f : Cnf) → KeepsSolutions old new → StandsFor new flat m → IsEncoding flat layout f → IsFormulaOf old layout m f
 stages_compose old new flat m layout f keeps stands encodes = record {
   from_new = encodes.from_new;
   is_layout = encodes.is_layout;
@@ -99,7 +99,7 @@ stages_compose old new flat m layout f keeps stands encodes = record {
         ∙ ap (λ cells. ground_objective new cells) (taken_cells count m (decoded_values layout s) stands.is_map.maps.cells)
         ∙ keeps.objective (decoded_cells layout m s) ((keeps.same (decoded_cells layout m s)).0 (kept s met))
 
-    given_by : (cells : List ℤ) → IsGroundSolution old cells → IsMetBy flat m cells → GivesCells layout m f.clauses cells (ground_objective old cells)
+    given_by : (cells : List ℤ) → IsGroundSolution old cells → IsMetBy flat m cells → AreGiven layout m f.clauses cells
     given_by cells solution by =
         let found = encodes.complete by.values by.meets in
         let same : decoded_cells layout m found.assignment ≡ cells =
@@ -109,5 +109,4 @@ stages_compose old new flat m layout f keeps stands encodes = record {
           assignment = found.assignment;
           satisfies = found.satisfies;
           gives = same;
-          drives = driven found.assignment found.satisfies ∙ ap (λ c. ground_objective old c) same;
         }

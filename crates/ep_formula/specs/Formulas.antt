@@ -7,17 +7,17 @@ use Rattle.cnf_core.specs.Steps.{IsConsistent}
 use Rattle.ep_flat.specs.Flats.{MapState, objective_number}
 use Rattle.ep_flatten.specs.Flattening.{IsMapOf}
 use Rattle.ep_ground.specs.Grounds.{GroundState, IsGroundSolution, ground_objective}
-use Rattle.enc_var.specs.Entries.{Entry}
-use Rattle.enc_var.specs.Layouts.{GivesCells, IsLayoutOf, decoded_cells, decoded_values}
+use Rattle.enc_var.specs.Decoding.{VariableLiterals}
+use Rattle.enc_var.specs.Layouts.{AreGiven, IsLayoutOf, decoded_cells, decoded_values}
 
 -- The assignments that satisfy a formula decode to exactly the values of the cells that a ground keeps, and the variable
 -- of the objective then to its number.
-pub record IsFormulaOf (g : GroundState) (layout : List Entry) (m : MapState) (f : Cnf) : Type 0 where
+pub record IsFormulaOf (g : GroundState) (layout : List VariableLiterals) (m : MapState) (f : Cnf) : Type 0 where
   pub from_new : IsTrue f.from_new
   pub is_layout : IsLayoutOf layout f
   pub is_map : IsMapOf g (map (λ e. e.domain) layout) m
   pub consistent : All IsConsistent f.clauses
   pub sound : (s : ℕ → Bool) → Satisfies s f.clauses → IsGroundSolution g (decoded_cells layout m s)
-  pub complete : (cells : List ℤ) → IsGroundSolution g cells → GivesCells layout m f.clauses cells (ground_objective g cells)
+  pub complete : (cells : List ℤ) → IsGroundSolution g cells → AreGiven layout m f.clauses cells
   pub objective : (s : ℕ → Bool) → Satisfies s f.clauses
       → objective_number m (decoded_values layout s) ≡ ground_objective g (decoded_cells layout m s)

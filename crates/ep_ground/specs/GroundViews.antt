@@ -2,6 +2,7 @@
 use Rattle.ep_ground.specs.declared.grounds.Ground.{Ground}
 use Rattle.ep_ground.specs.Grounds.{GroundState}
 
+-- a ground with plain lists in place of the vectors
 abbrev pub plain_ground : Ground → GroundState
 plain_ground g = record {
   nodes = g.arena;

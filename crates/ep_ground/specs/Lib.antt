@@ -6,3 +6,4 @@ pub mod NodeViews
 pub mod ArenaSteps
 pub mod GroundViews
 pub mod ArenaInside
+pub mod SameTrees

@@ -1,9 +1,10 @@
--- The code's nodes and grounds, without where their lists lie in memory.
+-- The code's nodes, without where their lists lie in memory.
 use Rattle.std.specs.Prelude.{List, map}
 use Rattle.ep_ground.specs.declared.nodes.Node.{Node}
 use Rattle.ep_ground.specs.declared.nodes.Node.TheVariants as code
 use Rattle.ep_ground.specs.Nodes.{GroundNode, constant, undefined, cell, sum, product, quotient, remainder, power, absolute, least, greatest, pick, whole, safe_quotient, safe_remainder, safe_pick, compare, lex, member, negation, all_of, any_of, same_truth, all_different, counts, at_least, at_most, table}
 
+-- a node with plain lists in place of the vectors
 abbrev pub plain_node : Node → GroundNode
 plain_node (code.Const n) = constant n
 plain_node code.Undefined = undefined
@@ -34,5 +35,6 @@ plain_node (code.AtLeast ts cs ns) = at_least ts.items cs.items ns.items
 plain_node (code.AtMost ts cs ns) = at_most ts.items cs.items ns.items
 plain_node (code.Table ts rows) = table ts.items rows.items
 
+-- nodes with plain lists in place of the vectors, in order
 abbrev pub plain_nodes : List Node → List GroundNode
 plain_nodes nodes = map plain_node nodes

@@ -4,6 +4,7 @@
 mod arena;
 mod cells;
 mod grounds;
+mod laws;
 mod nodes;
 mod terms;
 #[cfg(test)]
@@ -12,5 +13,6 @@ mod tests;
 pub use arena::{Arena, InternError};
 pub use cells::Cell;
 pub use grounds::Ground;
+pub use laws::equal_trees_are_equal_terms;
 pub use nodes::Node;
 pub use terms::Term;

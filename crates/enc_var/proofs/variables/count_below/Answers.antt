@@ -1,6 +1,6 @@
 use Rattle.std.proofs.Common.{rules, int_lt}
 use Rattle.std.proofs.lemmas.List.Sorted.{IsPartitionPoint-from_clause}
-use Rattle.enc_var.specs.Entries.{values_below}
+use Rattle.enc_var.specs.Decoding.{values_below}
 use Rattle.enc_var.proofs.Counts.{parted_below, passed_at}
 use Rattle.enc_var.proofs.variables.count_below.Goals as goal
 

@@ -1,6 +1,6 @@
 use Rattle.std.proofs.Common.{rules, int_le}
 use Rattle.std.proofs.lemmas.List.Sorted.{IsPartitionPoint-from_clause}
-use Rattle.enc_var.specs.Entries.{values_up_to}
+use Rattle.enc_var.specs.Decoding.{values_up_to}
 use Rattle.enc_var.proofs.Counts.{parted_up_to, passed_at}
 use Rattle.enc_var.proofs.variables.count_up_to.Goals as goal
 

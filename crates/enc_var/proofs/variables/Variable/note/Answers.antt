@@ -1,7 +1,7 @@
 use Rattle.std.proofs.Common.{◌≡◌, length, w64, ap, subst, arith}
 use Rattle.std.proofs.lemmas.Int.{to_z-of_z}
-use Rattle.enc_var.specs.Entries.{Entry, note_of}
-use Rattle.enc_var.specs.VariableInside.{entry_of}
+use Rattle.enc_var.specs.Decoding.{VariableLiterals, note_of}
+use Rattle.enc_var.specs.VariableInside.{literals_of}
 use Rattle.enc_var.proofs.Choices.{counted_below, noted_at}
 use Rattle.enc_var.proofs.variables.Variable.note.Goals as goal
 
@@ -11,5 +11,5 @@ returns c =
     let inside = c.self.inside in
     let is = counted_below c.count_below-place.result _ _ inside.domain _ v c.deref.ensures.value c.self.invariant.values (to_z-of_z w64 v c.ranges.v) c.count_below-place.ensures.count in
     let long : length inside.values.items ≡ length inside.domain = ap length c.self.invariant.values in
-    subst (λ (e : Entry). c.place_literal.result ≡ note_of e v) c.self.view_is
-    (noted_at (entry_of inside) v c.len.result c.count_below-place.result c.place_literal.result (omega (arith, long, c.len.ensures)) is c.place_literal.ensures)
+    subst (λ (e : VariableLiterals). c.place_literal.result ≡ note_of e v) c.self.view_is
+    (noted_at (literals_of inside) v c.len.result c.count_below-place.result c.place_literal.result (omega (arith, long, c.len.ensures)) is c.place_literal.ensures)

@@ -13,13 +13,15 @@ use Rattle.enc_var.specs.declared.known.Known.{Known}
 use Rattle.enc_var.specs.declared.known.Known.TheVariants as known
 
 -- the values that a variable may have, in ascending order, and the first of its literals' variables
-pub record Entry : Type 0 where
+pub record VariableLiterals : Type 0 where
   pub domain : List ℤ
   pub first : ℕ
 
+-- the literal that is true where the variable is
 abbrev pub yes : ℕ → Literal
 yes v = record { var = v; positive = true }
 
+-- the literal that is true where the variable is false
 abbrev pub no : ℕ → Literal
 no v = record { var = v; positive = false }
 
@@ -32,14 +34,14 @@ unfoldable pub values_up_to : List ℤ → ℤ → ℕ
 values_up_to values v = length (filter (λ w. int_le w v) values)
 
 -- "it is one of the first so many values"
-unfoldable pub among_first : Entry → ℕ → Known
+unfoldable pub among_first : VariableLiterals → ℕ → Known
 among_first e count =
     if count == 0
     then known.False
     else (if nat_le (length e.domain) count then known.True else known.Is (no (e.first + (count - 1))))
 
 -- "it is at most v"
-unfoldable pub le_of : Entry → ℤ → Known
+unfoldable pub le_of : VariableLiterals → ℤ → Known
 le_of e v = among_first e (values_up_to e.domain v)
 
 -- the literal that says that it is the value at this place, where there are so many and this is the first variable
@@ -52,11 +54,11 @@ place_literal first count place =
     else (if nat_le count (place + 1) then yes (first + (place - 1)) else yes (first + (count - 1) + (place - 1))))
 
 -- the literal that says that it is v, one of its values
-unfoldable pub note_of : Entry → ℤ → Literal
+unfoldable pub note_of : VariableLiterals → ℤ → Literal
 note_of e v = place_literal e.first (length e.domain) (values_below e.domain v)
 
 -- "it is v"
-unfoldable pub eq_of : Entry → ℤ → Known
+unfoldable pub eq_of : VariableLiterals → ℤ → Known
 eq_of e v =
     if has_number e.domain v
     then (if nat_le (length e.domain) 1 then known.True else known.Is (note_of e v))
@@ -73,11 +75,11 @@ known_holds s known.False = false
 known_holds s (known.Is l) = literal_holds s l
 
 -- The value that an assignment gives a variable: the first one whose literal is true.
-unfoldable pub decoded : (ℕ → Bool) → Entry → ℤ
+unfoldable pub decoded : (ℕ → Bool) → VariableLiterals → ℤ
 decoded s e = first_or_zero (filter (λ v. known_holds s (eq_of e v)) e.domain)
 
 -- Under an assignment a variable has one of its values, and what its literals say of it is so.
-pub record Means (s : ℕ → Bool) (e : Entry) : Type 0 where
+pub record Means (s : ℕ → Bool) (e : VariableLiterals) : Type 0 where
   pub among : Contains e.domain (decoded s e)
   pub at_most : (v : ℤ) → known_holds s (le_of e v) ≡ int_le (decoded s e) v
   pub equal : (v : ℤ) → known_holds s (eq_of e v) ≡ int_eq (decoded s e) v
@@ -94,7 +96,7 @@ IsKnownUpTo most known.False = Unit {0}
 IsKnownUpTo most (known.Is l) = IsLiteralUpTo most l
 
 -- each literal of a variable is over a variable from 1 up to this number
-pub record HasLiteralsUpTo (most : ℕ) (e : Entry) : Type 0 where
+pub record HasLiteralsUpTo (most : ℕ) (e : VariableLiterals) : Type 0 where
   pub at_most : (v : ℤ) → IsKnownUpTo most (le_of e v)
   pub equal : (v : ℤ) → IsKnownUpTo most (eq_of e v)
   pub noted : (v : ℤ) → Contains e.domain v → IsLiteralUpTo most (note_of e v)

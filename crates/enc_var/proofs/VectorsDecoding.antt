@@ -4,18 +4,18 @@ use Rattle.std.specs.Fmt.{digits}
 use Rattle.std.specs.Prelude.{codes, map}
 use Rattle.ep_base.specs.Numbers.{has_number}
 use Rattle.ep_base.specs.Reads.{first_or_zero, same_bool}
-use Rattle.enc_var.specs.Entries.{Entry, among_first, decoded, eq_of, known_holds, le_of, literal_holds, no, note_of, place_literal, values_below, values_up_to, yes}
+use Rattle.enc_var.specs.Decoding.{VariableLiterals, among_first, decoded, eq_of, known_holds, le_of, literal_holds, no, note_of, place_literal, values_below, values_up_to, yes}
 use Rattle.enc_var.specs.Notes.{cell_text, indices_text, joined_numbers}
 use Rattle.enc_var.specs.declared.known.Known.TheVariants as known
 
 -- the values -1, 2, 3 and 5, over the variables from 7 on: 7 to 9 say "at least 2, 3, 5", and 10 and 11 "it is 2, 3"
-abbrev four : Entry
+abbrev four : VariableLiterals
 four = record { domain = negsuc 0 ∷ pos 2 ∷ pos 3 ∷ pos 5 ∷ []; first = 7 }
 
-abbrev two : Entry
+abbrev two : VariableLiterals
 two = record { domain = pos 0 ∷ pos 1 ∷ []; first = 3 }
 
-abbrev one : Entry
+abbrev one : VariableLiterals
 one = record { domain = pos 4 ∷ []; first = 3 }
 
 at_most : map (le_of four) (negsuc 1 ∷ negsuc 0 ∷ pos 2 ∷ pos 4 ∷ pos 5 ∷ pos 9 ∷ []) ≡ known.False ∷ known.Is (no 7) ∷ known.Is (no 8) ∷ known.Is (no 9) ∷ known.True ∷ known.True ∷ []
