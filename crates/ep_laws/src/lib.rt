@@ -1,0 +1,14 @@
+//! Laws of the definitions of `ep_tree` that binding and judging stand on, each the contract of a
+//! function that does nothing.
+#![tactic(auto)]
+
+ghost use Rattle.ep_laws.specs.Shapes.{ElementsAreOfScalar, ShapeIsOfType, ShapeListsItsScalar, ShapePassesItsScalar};
+
+/// A domain that is bound has the type that the rules give it. The numbers that it passes, and those that it lists, are
+/// of its scalar: 0 or 1 where it is Boolean. This holds of open ranges and of the names of matrix domains too.
+pub fn bound_domains_are_of_their_types()
+    ensures types { ShapeIsOfType }
+    ensures elements { ElementsAreOfScalar }
+    ensures passed { ShapePassesItsScalar }
+    ensures listed { ShapeListsItsScalar }
+{}
