@@ -2,6 +2,7 @@
 //! function that does nothing.
 #![tactic(auto)]
 
+ghost use Rattle.ep_laws.specs.Deciding.{DecisionsAreNotNeeded, NamesDecideDomainFaults, NamesDecideDomainType, NamesDecideFaults, NamesDecideType};
 ghost use Rattle.ep_laws.specs.Shapes.{ElementsAreOfScalar, ShapeIsOfType, ShapeListsItsScalar, ShapePassesItsScalar};
 
 /// A domain that is bound has the type that the rules give it. The numbers that it passes, and those that it lists, are
@@ -11,4 +12,14 @@ pub fn bound_domains_are_of_their_types()
     ensures elements { ElementsAreOfScalar }
     ensures passed { ShapePassesItsScalar }
     ensures listed { ShapeListsItsScalar }
+{}
+
+/// What the rules say of an expression or a domain without a fault depends only on the names that may stand in it. Where
+/// no decision variable may stand, none has to be known.
+pub fn names_decide_types()
+    ensures types { NamesDecideType }
+    ensures faults { NamesDecideFaults }
+    ensures domain_types { NamesDecideDomainType }
+    ensures domain_faults { NamesDecideDomainFaults }
+    ensures not_needed { DecisionsAreNotNeeded }
 {}
