@@ -3,6 +3,7 @@
 #![tactic(auto)]
 
 ghost use Rattle.ep_laws.specs.Deciding.{DecisionsAreNotNeeded, NamesDecideDomainFaults, NamesDecideDomainType, NamesDecideFaults, NamesDecideType};
+ghost use Rattle.ep_laws.specs.FixedLimits.{LimitsOfFixed, MetDomainIsFixed, MetIsFixed};
 ghost use Rattle.ep_laws.specs.Shapes.{ElementsAreOfScalar, ShapeIsOfType, ShapeListsItsScalar, ShapePassesItsScalar};
 
 /// A domain that is bound has the type that the rules give it. The numbers that it passes, and those that it lists, are
@@ -22,4 +23,12 @@ pub fn names_decide_types()
     ensures domain_types { NamesDecideDomainType }
     ensures domain_faults { NamesDecideDomainFaults }
     ensures not_needed { DecisionsAreNotNeeded }
+{}
+
+/// Where no decision variable stands, the limits that values pass are those that the reaches pass. In an environment
+/// without cells none stands in what an expression or a domain meets.
+pub fn limits_are_of_values()
+    ensures limits { LimitsOfFixed }
+    ensures expressions { MetIsFixed }
+    ensures domains { MetDomainIsFixed }
 {}
