@@ -13,11 +13,11 @@ use Rattle.ep_tree.specs.declared.values.ValueType.{ValueType}
 
 -- ---- lists without a fault
 
-left_none : {A : Type 0} (xs ys : List A) → xs ++ ys ≡ [] → xs ≡ []
+pub left_none : {A : Type 0} (xs ys : List A) → xs ++ ys ≡ [] → xs ≡ []
 left_none [] ys h = refl
 left_none (x ∷ xs) ys h = absurd cc
 
-right_none : {A : Type 0} (xs ys : List A) → xs ++ ys ≡ [] → ys ≡ []
+pub right_none : {A : Type 0} (xs ys : List A) → xs ++ ys ≡ [] → ys ≡ []
 right_none [] ys h = h
 right_none (x ∷ xs) ys h = absurd cc
 

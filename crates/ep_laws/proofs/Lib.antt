@@ -1,3 +1,5 @@
 pub mod Shapes
 pub mod Deciding
 pub mod FixedLimits
+pub mod SameTypes
+pub mod Typing

@@ -1,3 +1,4 @@
 pub mod Shapes
 pub mod Deciding
 pub mod FixedLimits
+pub mod Typing

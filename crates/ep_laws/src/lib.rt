@@ -5,6 +5,8 @@
 ghost use Rattle.ep_laws.specs.Deciding.{DecisionsAreNotNeeded, NamesDecideDomainFaults, NamesDecideDomainType, NamesDecideFaults, NamesDecideType};
 ghost use Rattle.ep_laws.specs.FixedLimits.{LimitsOfFixed, MetDomainIsFixed, MetIsFixed};
 ghost use Rattle.ep_laws.specs.Shapes.{ElementsAreOfScalar, ShapeIsOfType, ShapeListsItsScalar, ShapePassesItsScalar};
+ghost use Rattle.ep_laws.specs.Typing.{EnvironmentHasTypes, FaultlessDomainHasType, FaultlessHasType};
+ghost use Rattle.ep_tree.specs.Agreement.{TypeIsKept};
 
 /// A domain that is bound has the type that the rules give it. The numbers that it passes, and those that it lists, are
 /// of its scalar: 0 or 1 where it is Boolean. This holds of open ranges and of the names of matrix domains too.
@@ -31,4 +33,16 @@ pub fn limits_are_of_values()
     ensures limits { LimitsOfFixed }
     ensures expressions { MetIsFixed }
     ensures domains { MetDomainIsFixed }
+{}
+
+/// What has no fault has a type, in a context in which each name has one; and those of an environment have.
+pub fn faultless_has_a_type()
+    ensures expressions { FaultlessHasType }
+    ensures domains { FaultlessDomainHasType }
+    ensures names { EnvironmentHasTypes }
+{}
+
+/// An expression has one type, whether a decision variable has cells or a value.
+pub fn agreement_keeps_types()
+    ensures types { TypeIsKept }
 {}
