@@ -3,3 +3,5 @@ pub mod Deciding
 pub mod FixedLimits
 pub mod SameTypes
 pub mod Typing
+pub mod Pairs
+pub mod DecidedValues

@@ -2,3 +2,4 @@ pub mod Shapes
 pub mod Deciding
 pub mod FixedLimits
 pub mod Typing
+pub mod DecidedValues

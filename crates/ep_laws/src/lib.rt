@@ -2,6 +2,7 @@
 //! function that does nothing.
 #![tactic(auto)]
 
+ghost use Rattle.ep_laws.specs.DecidedValues.{NamesDecideNumbers, NamesDecideValue};
 ghost use Rattle.ep_laws.specs.Deciding.{DecisionsAreNotNeeded, NamesDecideDomainFaults, NamesDecideDomainType, NamesDecideFaults, NamesDecideType};
 ghost use Rattle.ep_laws.specs.FixedLimits.{LimitsOfFixed, MetDomainIsFixed, MetIsFixed};
 ghost use Rattle.ep_laws.specs.Shapes.{ElementsAreOfScalar, ShapeIsOfType, ShapeListsItsScalar, ShapePassesItsScalar};
@@ -45,4 +46,11 @@ pub fn faultless_has_a_type()
 /// An expression has one type, whether a decision variable has cells or a value.
 pub fn agreement_keeps_types()
     ensures types { TypeIsKept }
+{}
+
+/// The value of an expression without a fault, in which no decision variable may stand, depends only on the values and
+/// the domains that its names stand for; so do the numbers of a domain.
+pub fn names_decide_values()
+    ensures values { NamesDecideValue }
+    ensures numbers { NamesDecideNumbers }
 {}
