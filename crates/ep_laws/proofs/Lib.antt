@@ -5,3 +5,5 @@ pub mod SameTypes
 pub mod Typing
 pub mod Pairs
 pub mod DecidedValues
+pub mod Fixed
+pub mod Agreeing

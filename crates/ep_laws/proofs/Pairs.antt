@@ -37,7 +37,7 @@ integers_of (typed t ∷ js) ts h c =
 integers_of (mistyped ∷ js) ts h c = no_some h
 integers_of (untyped ∷ js) ts h c = no_some h
 
-integers_split : (is js : List Judged) → Integers (is ++ js) → Integers is × Integers js
+pub integers_split : (is js : List Judged) → Integers (is ++ js) → Integers is × Integers js
 integers_split [] js h = (tt, h)
 integers_split (i ∷ is) js h = let q : _ = integers_split is js h.1 in ((h.0, q.0), q.1)
 

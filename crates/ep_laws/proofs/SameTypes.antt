@@ -7,7 +7,7 @@ use Rattle.ep_tree.specs.Agreement.{Agree, AgreeOn}
 use Rattle.ep_tree.specs.Environments.{Bound, Env, context_of, has_cells, has_domain, has_value, meaning_in}
 use Rattle.ep_tree.specs.Names.{put}
 use Rattle.ep_tree.specs.Trees.{DomainTree, Domains, End, ExprTree, ExprTrees, Generators, IndexDomain, Indices, Ranges, Terms, absolute, all_different, all_of, any_of, at_least, at_most, binary, bool, chain, compare, comprehension, domain_and, end_at, every_and, factorial, flatten, folded, gcc, generator_and, group, group_domain, in_domain, in_set, index_and, int, lex, literal, matrix_domain, minus, named, named_domain, negation, no_domains, no_end, no_generators, no_indices, no_ranges, no_terms, no_trees, number, one_and, over, quantified, ranges, read, set_domain, span_and, table, term_and, to_int, tree_and, truth, unstated}
-use Rattle.ep_tree.specs.Types.{Context, Judged, Meaning, a_domain, a_value, all_typed, are_lists, binary_type, both_scalars, can_index, comprehension_type, folded_type, from_all, from_many, from_one, from_three, from_two, gives, has_dimensions, indexed_type, inside, inside_all, is_boolean, is_integer, is_matrix, is_matrix_of_bool, judge, judge_all, judge_domain, judge_domains, judge_end, judge_generators, judge_index, judge_indices, judge_ranges, judge_terms, left_type, list_of_matrices, list_type, matrix_type, mistyped, named_domain_type, named_type, of_scalar, quantified_name, quantified_type, read_type, reading_contexts, scalar_of, slice_count, stated_dimensions, typed, untyped}
+use Rattle.ep_tree.specs.Types.{Context, Judged, Meaning, are_lists, binary_type, both_scalars, comprehension_type, folded_type, from_many, from_one, from_three, from_two, gives, has_dimensions, indexed_type, inside, inside_all, is_boolean, is_integer, is_matrix, judge, judge_all, judge_domain, judge_domains, judge_end, judge_generators, judge_index, judge_indices, judge_ranges, judge_terms, list_type, matrix_type, named_domain_type, named_type, of_scalar, quantified_name, quantified_type, read_type, reading_contexts, scalar_of, slice_count, typed}
 use Rattle.ep_tree.specs.declared.values.ValueType.{ValueType}
 
 -- two contexts give each name the same type

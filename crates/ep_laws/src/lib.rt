@@ -7,7 +7,7 @@ ghost use Rattle.ep_laws.specs.Deciding.{DecisionsAreNotNeeded, NamesDecideDomai
 ghost use Rattle.ep_laws.specs.FixedLimits.{LimitsOfFixed, MetDomainIsFixed, MetIsFixed};
 ghost use Rattle.ep_laws.specs.Shapes.{ElementsAreOfScalar, ShapeIsOfType, ShapeListsItsScalar, ShapePassesItsScalar};
 ghost use Rattle.ep_laws.specs.Typing.{EnvironmentHasTypes, FaultlessDomainHasType, FaultlessHasType};
-ghost use Rattle.ep_tree.specs.Agreement.{TypeIsKept};
+ghost use Rattle.ep_tree.specs.Agreement.{DomainIsKept, FixedValueIsKept, MeetsAsMany, TypeIsKept};
 
 /// A domain that is bound has the type that the rules give it. The numbers that it passes, and those that it lists, are
 /// of its scalar: 0 or 1 where it is Boolean. This holds of open ranges and of the names of matrix domains too.
@@ -43,14 +43,18 @@ pub fn faultless_has_a_type()
     ensures names { EnvironmentHasTypes }
 {}
 
-/// An expression has one type, whether a decision variable has cells or a value.
-pub fn agreement_keeps_types()
-    ensures types { TypeIsKept }
-{}
-
 /// The value of an expression without a fault, in which no decision variable may stand, depends only on the values and
 /// the domains that its names stand for; so do the numbers of a domain.
 pub fn names_decide_values()
     ensures values { NamesDecideValue }
     ensures numbers { NamesDecideNumbers }
+{}
+
+/// Whether a decision variable has cells or a value that fits them: an expression has one type, and meets as many nodes;
+/// what holds no decision variable has one value, and a domain one list of numbers.
+pub fn agreement_keeps()
+    ensures types { TypeIsKept }
+    ensures values { FixedValueIsKept }
+    ensures domains { DomainIsKept }
+    ensures met { MeetsAsMany }
 {}
