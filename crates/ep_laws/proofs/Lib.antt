@@ -7,3 +7,4 @@ pub mod Pairs
 pub mod DecidedValues
 pub mod Fixed
 pub mod Agreeing
+pub mod Intervals

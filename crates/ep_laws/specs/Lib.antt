@@ -3,3 +3,4 @@ pub mod Deciding
 pub mod FixedLimits
 pub mod Typing
 pub mod DecidedValues
+pub mod Intervals

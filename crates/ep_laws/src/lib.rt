@@ -5,6 +5,7 @@
 ghost use Rattle.ep_laws.specs.DecidedValues.{NamesDecideNumbers, NamesDecideValue};
 ghost use Rattle.ep_laws.specs.Deciding.{DecisionsAreNotNeeded, NamesDecideDomainFaults, NamesDecideDomainType, NamesDecideFaults, NamesDecideType};
 ghost use Rattle.ep_laws.specs.FixedLimits.{LimitsOfFixed, MetDomainIsFixed, MetIsFixed};
+ghost use Rattle.ep_laws.specs.Intervals.{AbsoluteLies, GreatestLies, LeastLies, NegatedLies, ProductLies, QuotientLies, RemainderLies, SumLies};
 ghost use Rattle.ep_laws.specs.Shapes.{ElementsAreOfScalar, ShapeIsOfType, ShapeListsItsScalar, ShapePassesItsScalar};
 ghost use Rattle.ep_laws.specs.Typing.{EnvironmentHasTypes, FaultlessDomainHasType, FaultlessHasType};
 ghost use Rattle.ep_tree.specs.Agreement.{DomainIsKept, FixedValueIsKept, MeetsAsMany, TypeIsKept};
@@ -57,4 +58,16 @@ pub fn agreement_keeps()
     ensures values { FixedValueIsKept }
     ensures domains { DomainIsKept }
     ensures met { MeetsAsMany }
+{}
+
+/// The results of operations lie in the intervals of the operations, where the parts lie in theirs.
+pub fn results_lie_in_intervals()
+    ensures negated { NegatedLies }
+    ensures absolute { AbsoluteLies }
+    ensures sums { SumLies }
+    ensures least { LeastLies }
+    ensures greatest { GreatestLies }
+    ensures products { ProductLies }
+    ensures quotients { QuotientLies }
+    ensures remainders { RemainderLies }
 {}
