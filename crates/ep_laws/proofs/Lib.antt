@@ -1,0 +1,10 @@
+pub mod Shapes
+pub mod Deciding
+pub mod FixedLimits
+pub mod SameTypes
+pub mod Typing
+pub mod Pairs
+pub mod DecidedValues
+pub mod Fixed
+pub mod Agreeing
+pub mod Intervals

@@ -1,0 +1,6 @@
+pub mod Shapes
+pub mod Deciding
+pub mod FixedLimits
+pub mod Typing
+pub mod DecidedValues
+pub mod Intervals
