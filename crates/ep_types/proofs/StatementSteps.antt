@@ -103,17 +103,21 @@ known_insert (e ∷ es) k m n = go (bytes_eq k.now e.0.now) refl
   where
     same : (a b : Name) → bytes_eq a b ≡ true → a ≡ b
     same a b h = (bytes_eq-Decides a b).0 h
+
     P : Bool → Type 0
     P b = known_by (if b then (e.0, m) ∷ es else e ∷ insert_entry (λ a b. bytes_eq a.now b.now) es k m) n ≡ put k.now (meaning_of m) (known_by (e ∷ es)) n
+
     both : (x y : Bool) → bytes_eq n e.0.now ≡ x → bytes_eq n k.now ≡ y → bytes_eq k.now e.0.now ≡ false
         → (if x then Some (meaning_of e.1) else (if y then Some (meaning_of m) else known_by es n)) ≡ (if y then Some (meaning_of m) else (if x then Some (meaning_of e.1) else known_by es n))
     both true true h g f = let w : bytes_eq k.now e.0.now ≡ true = ap (λ a. bytes_eq a e.0.now) (sym (same n k.now g)) ∙ h in let z : true ≡ false = sym w ∙ f in absurd cc
     both true false h g f = refl
     both false true h g f = refl
     both false false h g f = refl
+
     again : (x : Bool) (a b : Option types.Meaning) → (if x then a else b) ≡ (if x then a else (if x then Some (meaning_of e.1) else b))
     again true a b = refl
     again false a b = refl
+
     go : (b : Bool) → bytes_eq k.now e.0.now ≡ b → P b
     go true h = ap (λ w. if bytes_eq n e.0.now then Some (meaning_of m) else known_by es n) h ∙ again (bytes_eq n e.0.now) (Some (meaning_of m)) (known_by es n)
         ∙ ap (λ w. if bytes_eq n w then Some (meaning_of m) else (if bytes_eq n e.0.now then Some (meaning_of e.1) else known_by es n)) (sym (same k.now e.0.now h))
