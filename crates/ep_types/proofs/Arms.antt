@@ -157,6 +157,7 @@ module _ (c : Context) (xs : List Range) (i : ℕ) (x : Range) (lt : i < length 
       ap (λ l. check_ranges c (ranges_of l)) (next_is xs i x lt at) ∙ ap (λ y. check_ranges c (ranges_of (y ∷ drop (i + 1) xs))) is
       ∙ ap (check_ranges c) (with_range-span a b (ranges_of (drop (i + 1) xs)))
       ∙ regroup (check_end c (end_of a)) (check_end c (end_of b)) (check_ranges c (ranges_of (drop (i + 1) xs)))
+
 pub no_range : (c : Context) (xs : List Range) (i : ℕ) → length xs ≤ i → check_ranges c (ranges_of (drop i xs)) ≡ Ok []
 unfolding check ranges_of
 no_range c xs i le = ap (λ l. check_ranges c (ranges_of l)) (drop_of_length-le xs le)

@@ -292,11 +292,7 @@ fn stated_dimensions(parts: &[ValueType]) -> Option<u64>
 fn bool_if(all: bool) -> Scalar
     ensures { result ≡ (if all then Scalar.Bool else Scalar.Int) }
 {
-    if all {
-        Scalar::Bool
-    } else {
-        Scalar::Int
-    }
+    if all { Scalar::Bool } else { Scalar::Int }
 }
 
 /// A list, where the domain of its indices is scalar or isn't.
@@ -344,7 +340,11 @@ fn list_of_matrices(
             None => Err(StaticError::Memory),
             Some(more) => {
                 let of = bool_if(all_of_bool(parts));
-                gives(place, ValueType::Matrix { dims: more, of }, all_of_dimensions(dims, parts))
+                gives(
+                    place,
+                    ValueType::Matrix { dims: more, of },
+                    all_of_dimensions(dims, parts),
+                )
             }
         },
     }
