@@ -6,3 +6,5 @@ pub mod Walks
 pub mod RuleSteps
 pub mod Arms
 pub mod Hiding
+pub mod PlaceLaws
+pub mod StatementSteps

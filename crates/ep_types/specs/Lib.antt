@@ -3,3 +3,4 @@ pub mod Texts
 pub mod Checking
 pub mod Meanings
 pub mod Hiding
+pub mod Declaring

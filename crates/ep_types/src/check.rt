@@ -7,6 +7,7 @@ ghost use Rattle.ep_types.specs.Named.{IsNamed};
 ghost use Rattle.ep_types.specs.Texts.{typed_params_tree, typed_tree};
 
 use crate::errors::StaticError;
+use crate::statements::{check_lettings, check_statements};
 use crate::typed::{Typed, TypedParams};
 use ep_tree::{Model, Params};
 use std::alloc::Global;
@@ -20,7 +21,8 @@ pub fn check_model(alloc: Global, model: Model) -> Result<Typed, StaticError>
     ensures faultless { OnOk result (text_faults (model_tree model) ≡ []) }
     ensures named { IfErr result (IsNamed (text_faults (model_tree model))) }
 {
-    Err(StaticError::Memory)
+    check_statements(alloc, &model.statements)?;
+    Ok(Typed::new(model))
 }
 
 /// Checks a parameter text or a solution text, of which the lettings alone count. Otherwise as
@@ -30,5 +32,6 @@ pub fn check_params(alloc: Global, params: Params) -> Result<TypedParams, Static
     ensures faultless { OnOk result (params_faults (params_tree params) ≡ []) }
     ensures named { IfErr result (IsNamed (params_faults (params_tree params))) }
 {
-    Err(StaticError::Memory)
+    check_lettings(alloc, &params.statements)?;
+    Ok(TypedParams::new(params))
 }

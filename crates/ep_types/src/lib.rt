@@ -2,10 +2,12 @@
 #![tactic(auto)]
 
 mod check;
+mod domains;
 mod errors;
 mod expressions;
 mod names;
 mod rules;
+mod statements;
 mod typed;
 
 pub use check::{check_model, check_params};

@@ -1,10 +1,11 @@
 //! Statements: what they ask for, and what they declare.
 
 ghost use Rattle.std.specs.Prelude.{◌≡◌, Some, is_some, map, option_map};
-ghost use Rattle.ep_tree.specs.Faults.{Fault, redeclared, unknown_name};
+ghost use Rattle.ep_tree.specs.Faults.{Fault, lettings_of, redeclared, unknown_name};
 ghost use Rattle.ep_tree.specs.Names.{nothing_known};
+ghost use Rattle.ep_tree.specs.StatementSpelling.{is_letting};
 ghost use Rattle.ep_tree.specs.Views.{domain_tree, expr_tree, group_of, statement_tree};
-ghost use Rattle.ep_types.proofs.StatementSteps.{declares};
+ghost use Rattle.ep_types.specs.Declaring.{declares};
 ghost use Rattle.ep_types.specs.Checking as checking;
 ghost use Rattle.ep_types.specs.Checking.{Says, check_declared, unless_fault};
 ghost use Rattle.ep_types.specs.Meanings.{known_by, meaning_of};
@@ -267,6 +268,42 @@ pub(crate) fn check_statements<'a>(
 {
     let mut declared = IndexMap::new(alloc);
     for statement in statements {
+        check_statement(alloc, &mut declared, statement)?;
+    }
+    Ok(())
+}
+
+/// Whether a statement is a letting.
+#[tactic(auto, unfolding(ep_tree::specs::Views::statement_kind_tree, ep_tree::specs::StatementSpelling::is_letting))]
+fn is_letting(statement: &Statement) -> bool
+    ensures { result ≡ is_letting (statement_tree statement.now) }
+{
+    match &statement.kind {
+        StatementKind::Letting(_, _, _, _) => true,
+        StatementKind::LettingDomain(_, _, _) => true,
+        StatementKind::Given(_) => false,
+        StatementKind::Find(_) => false,
+        StatementKind::Where(_) => false,
+        StatementKind::SuchThat(_) => false,
+        StatementKind::Objective(_, _) => false,
+        StatementKind::Branching(_) => false,
+        StatementKind::Heuristic(_) => false,
+    }
+}
+
+/// Checks the lettings of a text.
+pub(crate) fn check_lettings<'a>(
+    alloc: Global,
+    statements: &'a [Statement],
+) -> Result<(), StaticError>
+    ensures { Says (λ _. tt) result
+        (checking.check_text nothing_known (lettings_of (map statement_tree statements.now))) }
+{
+    let mut declared = IndexMap::new(alloc);
+    for statement in statements {
+        if !is_letting(statement) {
+            continue;
+        }
         check_statement(alloc, &mut declared, statement)?;
     }
     Ok(())
