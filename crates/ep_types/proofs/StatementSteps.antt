@@ -166,12 +166,6 @@ known_insert (e ∷ es) k m n = go (bytes_eq k.now e.0.now) (known_insert es k m
     same : (a b : Name) → bytes_eq a b ≡ true → a ≡ b
     same a b h = (bytes_eq-Decides a b).0 h
 
-<<<<<<< HEAD
-    P : Bool → Type 0
-    P b = known_by (if b then (e.0, m) ∷ es else e ∷ insert_entry (λ a b. bytes_eq a.now b.now) es k m) n ≡ put k.now (meaning_of m) (known_by (e ∷ es)) n
-
-=======
->>>>>>> 0d2d07f
     both : (x y : Bool) → bytes_eq n e.0.now ≡ x → bytes_eq n k.now ≡ y → bytes_eq k.now e.0.now ≡ false
         → (if x then Some (meaning_of e.1) else (if y then Some (meaning_of m) else known_by es n)) ≡ (if y then Some (meaning_of m) else (if x then Some (meaning_of e.1) else known_by es n))
     both true true h g f = let w : bytes_eq k.now e.0.now ≡ true = ap (λ a. bytes_eq a e.0.now) (sym (same n k.now g)) ∙ h in let z : true ≡ false = sym w ∙ f in absurd cc
@@ -179,14 +173,6 @@ known_insert (e ∷ es) k m n = go (bytes_eq k.now e.0.now) (known_insert es k m
     both false true h g f = refl
     both false false h g f = refl
 
-<<<<<<< HEAD
-    again : (x : Bool) (a b : Option types.Meaning) → (if x then a else b) ≡ (if x then a else (if x then Some (meaning_of e.1) else b))
-    again true a b = refl
-    again false a b = refl
-
-    go : (b : Bool) → bytes_eq k.now e.0.now ≡ b → P b
-    go true h = ap (λ w. if bytes_eq n e.0.now then Some (meaning_of m) else known_by es n) h ∙ again (bytes_eq n e.0.now) (Some (meaning_of m)) (known_by es n)
-=======
     again : (x : Bool) (b : Option types.Meaning) → (if x then Some (meaning_of m) else b) ≡ (if x then Some (meaning_of m) else (if x then Some (meaning_of e.1) else b))
     again true b = refl
     again false b = refl
@@ -195,7 +181,6 @@ known_insert (e ∷ es) k m n = go (bytes_eq k.now e.0.now) (known_insert es k m
         → known_by (if b then (e.0, m) ∷ es else e ∷ insert_entry (λ a b. bytes_eq a.now b.now) es k m) n ≡ put k.now (meaning_of m) (known_by (e ∷ es)) n
     go true ih h =
         again (bytes_eq n e.0.now) (known_by es n)
->>>>>>> 0d2d07f
         ∙ ap (λ w. if bytes_eq n w then Some (meaning_of m) else (if bytes_eq n e.0.now then Some (meaning_of e.1) else known_by es n)) (sym (same k.now e.0.now h))
     go false ih h =
         ap (λ o. if bytes_eq n e.0.now then Some (meaning_of e.1) else o) ih
