@@ -5,7 +5,7 @@
 ghost use Rattle.ep_laws.specs.DecidedValues.{NamesDecideNumbers, NamesDecideValue};
 ghost use Rattle.ep_laws.specs.Deciding.{DecisionsAreNotNeeded, NamesDecideDomainFaults, NamesDecideDomainType, NamesDecideFaults, NamesDecideType};
 ghost use Rattle.ep_laws.specs.FixedLimits.{LimitsOfFixed, MetDomainIsFixed, MetIsFixed};
-ghost use Rattle.ep_laws.specs.Intervals.{AbsoluteLies, GreatestLies, LeastLies, NegatedLies, ProductLies, QuotientLies, RemainderLies, SumLies};
+ghost use Rattle.ep_laws.specs.Intervals.{AbsoluteLies, GreatestLies, LeastLies, NegatedLies, PowerLies, ProductLies, ProductsLie, QuotientLies, RemainderLies, SumLies};
 ghost use Rattle.ep_laws.specs.Shapes.{ElementsAreOfScalar, ShapeIsOfType, ShapeListsItsScalar, ShapePassesItsScalar};
 ghost use Rattle.ep_laws.specs.Typing.{EnvironmentHasTypes, FaultlessDomainHasType, FaultlessHasType};
 ghost use Rattle.ep_tree.specs.Agreement.{DomainIsKept, FixedValueIsKept, MeetsAsMany, TypeIsKept};
@@ -70,4 +70,6 @@ pub fn results_lie_in_intervals()
     ensures products { ProductLies }
     ensures quotients { QuotientLies }
     ensures remainders { RemainderLies }
+    ensures many { ProductsLie }
+    ensures powers { PowerLies }
 {}
