@@ -86,7 +86,7 @@ measured_fixed : (mode : Mode) (env : Env) (e : ExprTree) (x : Extent) → holds
 unfolding measured
 measured_fixed mode env e x h = ap (λ b. if b then x else fixed_extent (type_in env e) (evaluate mode env e)) h
 
-extent_fixed : (mode : Mode) (env : Env) (e : ExprTree) → holds_decision (decisions_in env) e ≡ false
+pub extent_fixed : (mode : Mode) (env : Env) (e : ExprTree) → holds_decision (decisions_in env) e ≡ false
     → extent mode env e ≡ fixed_extent (type_in env e) (evaluate mode env e)
 unfolding extent fixed_extent map_grid evaluate
 extent_fixed mode env (number p n) h = refl

@@ -8,3 +8,4 @@ pub mod DecidedValues
 pub mod Fixed
 pub mod Agreeing
 pub mod Intervals
+pub mod Undecided

@@ -8,6 +8,7 @@ ghost use Rattle.ep_laws.specs.FixedLimits.{LimitsOfFixed, MetDomainIsFixed, Met
 ghost use Rattle.ep_laws.specs.Intervals.{AbsoluteLies, GreatestLies, LeastLies, NegatedLies, PowerLies, ProductLies, ProductsLie, QuotientLies, RemainderLies, SumLies};
 ghost use Rattle.ep_laws.specs.Shapes.{ElementsAreOfScalar, ShapeIsOfType, ShapeListsItsScalar, ShapePassesItsScalar};
 ghost use Rattle.ep_laws.specs.Typing.{EnvironmentHasTypes, FaultlessDomainHasType, FaultlessHasType};
+ghost use Rattle.ep_laws.specs.Undecided.{FaultlessHoldsNone, FixedLiesWithin};
 ghost use Rattle.ep_tree.specs.Agreement.{DomainIsKept, FixedValueIsKept, MeetsAsMany, TypeIsKept};
 
 /// A domain that is bound has the type that the rules give it. The numbers that it passes, and those that it lists, are
@@ -72,4 +73,11 @@ pub fn results_lie_in_intervals()
     ensures remainders { RemainderLies }
     ensures many { ProductsLie }
     ensures powers { PowerLies }
+{}
+
+/// Where no decision variable may stand, an expression without a fault holds none; and the value of what holds none lies
+/// in what is known of it.
+pub fn undecided_is_known()
+    ensures none { FaultlessHoldsNone }
+    ensures within { FixedLiesWithin }
 {}
