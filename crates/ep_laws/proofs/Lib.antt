@@ -9,3 +9,5 @@ pub mod Fixed
 pub mod Agreeing
 pub mod Intervals
 pub mod Undecided
+pub mod Bindings
+pub mod WithoutCells
