@@ -14,7 +14,7 @@ use Rattle.ep_tree.specs.Trees.{ExprTree, ExprTrees, Generators, Indices, Terms,
 use Rattle.ep_tree.specs.Types.{Context, Judged, Meaning, a_domain, a_value, inside, inside_all, judge, judge_domain, mistyped, quantified_name, reading_contexts, slice_count, typed, untyped}
 
 -- whether a name is a decision variable
-pub is_flagged : Option Meaning → Bool
+unfoldable pub is_flagged : Option Meaning → Bool
 is_flagged None = false
 is_flagged (Some (a_value t flag)) = flag
 is_flagged (Some (a_domain t)) = false

@@ -1,14 +1,15 @@
 -- The results of operations lie in the intervals of the operations.
-use Rattle.std.specs.Prelude.{◌≡◌, ℕ, zero, suc, ◌+◌, ◌*◌, ◌/◌, ◌≤◌, Bool, true, false, ◌&&◌, List, [], ◌∷◌, map, ℤ, pos, negsuc, ◌+ℤ◌, ◌-ℤ◌, ◌*ℤ◌, ◌≤ℤ◌, ◌<ℤ◌, neg_ℤ, if◌then◌else◌, int_le, Some, None, fold, unwrap_or, option_map, refl}
+use Rattle.std.specs.Prelude.{◌≡◌, ℕ, zero, suc, ◌≤◌, Bool, true, false, ◌&&◌, List, [], ◌∷◌, ℤ, pos, negsuc, ◌+ℤ◌, ◌-ℤ◌, ◌*ℤ◌, ◌≤ℤ◌, ◌<ℤ◌, neg_ℤ, if◌then◌else◌, int_le, Some, fold, refl}
 use Rattle.std.proofs.Common.{ap, arith, subst, sym, ◌∙◌}
 use Rattle.std.proofs.lemmas.Int.{ints}
 use Rattle.std.specs.Int.{int_max, int_min}
-use Rattle.ep_base.specs.Intervals.{Interval, LiesIn, absolute_interval, farthest_end, from_to, greatest_interval, greatest_or_zero, has_zero, highs, least_interval, least_or_zero, lows, negated, product_interval, quotient_interval, remainder_interval, spanned, sum_interval}
-use Rattle.ep_base.specs.Numbers.{absolute_of, floor_over, greatest_of, least_of, quotient, remainder, sum_of}
+use Rattle.ep_base.specs.Intervals.{Interval, LiesIn, absolute_interval, farthest_end, from_to, greatest_interval, greatest_or_zero, has_zero, highs, least_interval, least_or_zero, lows, negated, nth_power_interval, power_interval, product_interval, products_interval, quotient_interval, remainder_interval, spanned, sum_interval}
+use Rattle.ep_base.specs.Numbers.{absolute_of, floor_over, greatest_of, least_of, nth_power, power, product_of, quotient, remainder, sum_of}
 use Rattle.ep_laws.specs.Intervals.{LieInEach}
-use Rattle.std.proofs.Math.Nat.{div-le_self, mul-le-mul_left}
+use Rattle.std.proofs.Math.Nat.{div-le_self, mul-le-mul_left, mul_assoc}
+use Rattle.std.proofs.lemmas.Nat.{mul-le}
 use Rattle.ep_tree.proofs.NumberLaws.{floor_over-high, floor_over-low}
-use Rattle.ep_tree.proofs.TypedParts.{map_is, no_some, some_is}
+use Rattle.ep_tree.proofs.TypedParts.{no_some, some_is}
 
 pub negated_lies : (n : ℤ) (i : Interval) → LiesIn n i → LiesIn (neg_ℤ n) (negated i)
 unfolding negated
@@ -270,3 +271,177 @@ remainder_lies x (negsuc k) r j h e =
     (subst (λ t. RemainderEnds j (int_max (pos 1) (int_max (absolute_of j.low) (absolute_of j.high)) -ℤ pos 1) (x -ℤ t)) (sym (negative_times k (floor_over (neg_ℤ x) (suc k))))
     (negative_ends j k (int_max (pos 1) (int_max (absolute_of j.low) (absolute_of j.high)) -ℤ pos 1) (x -ℤ neg_ℤ (pos (suc k) *ℤ floor_over (neg_ℤ x) (suc k))) h m.0 m.1
     (left_below x (pos (suc k) *ℤ floor_over (neg_ℤ x) (suc k)) k (floor_over-low (neg_ℤ x) k) (floor_over-high (neg_ℤ x) k))))
+
+-- ---- products of many, and powers
+
+half_negated : (a c : ℤ) → (a *ℤ neg_ℤ c) ≡ neg_ℤ (a *ℤ c)
+half_negated a c = grind (arith, ints)
+
+other_negated : (a c : ℤ) → (neg_ℤ a *ℤ c) ≡ neg_ℤ (a *ℤ c)
+other_negated a c = grind (arith, ints)
+
+times_third : (a b : ℕ) (c : ℤ) → ((pos a *ℤ pos b) *ℤ c) ≡ (pos a *ℤ (pos b *ℤ c))
+times_third a b (pos c) = ap pos (mul_assoc a b c)
+times_third a b (negsuc c) =
+    half_negated (pos a *ℤ pos b) (pos (suc c)) ∙ ap (λ n. neg_ℤ (pos n)) (mul_assoc a b (suc c)) ∙ sym (half_negated (pos a) (pos b *ℤ pos (suc c)))
+    ∙ ap (λ x. pos a *ℤ x) (sym (half_negated (pos b) (pos (suc c))))
+
+times_second : (a : ℕ) (b c : ℤ) → ((pos a *ℤ b) *ℤ c) ≡ (pos a *ℤ (b *ℤ c))
+times_second a (pos b) c = times_third a b c
+times_second a (negsuc b) c =
+    ap (λ x. x *ℤ c) (half_negated (pos a) (pos (suc b))) ∙ other_negated (pos a *ℤ pos (suc b)) c ∙ ap neg_ℤ (times_third a (suc b) c)
+    ∙ sym (half_negated (pos a) (pos (suc b) *ℤ c)) ∙ ap (λ x. pos a *ℤ x) (sym (other_negated (pos (suc b)) c))
+
+times_again : (a b c : ℤ) → ((a *ℤ b) *ℤ c) ≡ (a *ℤ (b *ℤ c))
+times_again (pos a) b c = times_second a b c
+times_again (negsuc a) b c =
+    ap (λ x. x *ℤ c) (other_negated (pos (suc a)) b) ∙ other_negated (pos (suc a) *ℤ b) c ∙ ap neg_ℤ (times_second (suc a) b c)
+    ∙ sym (other_negated (pos (suc a)) (b *ℤ c))
+
+products_from : (a : ℤ) (i : Interval) (ns : List ℤ) (is : List Interval) → LiesIn a i → LieInEach ns is → LiesIn (a *ℤ product_of ns) (fold product_interval i is)
+unfolding product_of
+products_from a i [] [] h k = subst (λ x. LiesIn x i) (sym (times_one a)) h
+  where
+    times_one : (x : ℤ) → (x *ℤ pos 1) ≡ x
+    times_one x = omega (arith, ints)
+products_from a i [] (j ∷ is) h k = absurd k
+products_from a i (n ∷ ns) [] h k = absurd k
+products_from a i (n ∷ ns) (j ∷ is) h k =
+    subst (λ x. LiesIn x (fold product_interval (product_interval i j) is)) (times_again a n (product_of ns))
+    (products_from (a *ℤ n) (product_interval i j) ns is (product_lies a n i j h k.0) k.1)
+
+one_times : (x : ℤ) → (pos 1 *ℤ x) ≡ x
+one_times x = omega (arith, ints)
+
+pub products_lie : (ns : List ℤ) (is : List Interval) → LieInEach ns is → LiesIn (product_of ns) (products_interval is)
+unfolding products_interval
+products_lie ns is h =
+    subst (λ x. LiesIn x (products_interval is)) (one_times (product_of ns)) (products_from (pos 1) (from_to (pos 1) (pos 1)) ns is (omega (arith, ints), omega (arith, ints)) h)
+
+-- a product of numbers that aren't negative, of numbers that aren't positive, and of one of each
+both_high : (a b c d : ℤ) → pos 0 ≤ℤ a → a ≤ℤ b → pos 0 ≤ℤ c → c ≤ℤ d → (pos 0 ≤ℤ (a *ℤ c)) × ((a *ℤ c) ≤ℤ (b *ℤ d))
+both_high (pos a) (pos b) (pos c) (pos d) h k l m =
+    let p : a ≤ b = omega (arith, ints, k) in let q : c ≤ d = omega (arith, ints, m) in
+    (omega (arith, ints), omega (arith, ints, mul-le a c b d p q))
+both_high (negsuc a) b c d h k l m = absurd (omega (arith, ints, h))
+both_high (pos a) (negsuc b) c d h k l m = absurd (omega (arith, ints, k))
+both_high (pos a) (pos b) (negsuc c) d h k l m = absurd (omega (arith, ints, l))
+both_high (pos a) (pos b) (pos c) (negsuc d) h k l m = absurd (omega (arith, ints, m))
+
+negated_product : (a c : ℤ) → (neg_ℤ a *ℤ neg_ℤ c) ≡ (a *ℤ c)
+negated_product a c = grind (arith, ints)
+
+-- b ≤ a ≤ 0 and d ≤ c ≤ 0
+both_low : (a b c d : ℤ) → a ≤ℤ pos 0 → b ≤ℤ a → c ≤ℤ pos 0 → d ≤ℤ c → (pos 0 ≤ℤ (a *ℤ c)) × ((a *ℤ c) ≤ℤ (b *ℤ d))
+both_low a b c d h k l m =
+    let p : (pos 0 ≤ℤ (neg_ℤ a *ℤ neg_ℤ c)) × ((neg_ℤ a *ℤ neg_ℤ c) ≤ℤ (neg_ℤ b *ℤ neg_ℤ d)) =
+    both_high (neg_ℤ a) (neg_ℤ b) (neg_ℤ c) (neg_ℤ d) (omega (arith, ints, h)) (omega (arith, ints, k)) (omega (arith, ints, l)) (omega (arith, ints, m)) in
+    subst (λ x. (pos 0 ≤ℤ x) × (x ≤ℤ (b *ℤ d))) (negated_product a c)
+    (subst (λ y. (pos 0 ≤ℤ (neg_ℤ a *ℤ neg_ℤ c)) × ((neg_ℤ a *ℤ neg_ℤ c) ≤ℤ y)) (negated_product b d) p)
+
+-- 0 ≤ a ≤ b and d ≤ c ≤ 0
+one_low : (a b c d : ℤ) → pos 0 ≤ℤ a → a ≤ℤ b → c ≤ℤ pos 0 → d ≤ℤ c → ((a *ℤ c) ≤ℤ pos 0) × ((b *ℤ d) ≤ℤ (a *ℤ c))
+one_low a b c d h k l m =
+    let p : (pos 0 ≤ℤ (a *ℤ neg_ℤ c)) × ((a *ℤ neg_ℤ c) ≤ℤ (b *ℤ neg_ℤ d)) =
+    both_high a b (neg_ℤ c) (neg_ℤ d) h k (omega (arith, ints, l)) (omega (arith, ints, m)) in
+    let q : (pos 0 ≤ℤ neg_ℤ (a *ℤ c)) × (neg_ℤ (a *ℤ c) ≤ℤ neg_ℤ (b *ℤ d)) =
+    subst (λ x. (pos 0 ≤ℤ x) × (x ≤ℤ neg_ℤ (b *ℤ d))) (half_negated a c)
+    (subst (λ y. (pos 0 ≤ℤ (a *ℤ neg_ℤ c)) × ((a *ℤ neg_ℤ c) ≤ℤ y)) (half_negated b d) p) in
+    let s : pos 0 ≤ℤ neg_ℤ (a *ℤ c) = q.0 in
+    let t : neg_ℤ (a *ℤ c) ≤ℤ neg_ℤ (b *ℤ d) = q.1 in
+    (omega (arith, ints, s), omega (arith, ints, t))
+
+-- powers of numbers that aren't negative ascend
+high_powers : (x y : ℤ) (n : ℕ) → pos 0 ≤ℤ x → x ≤ℤ y → (pos 0 ≤ℤ nth_power x n) × (nth_power x n ≤ℤ nth_power y n)
+unfolding nth_power
+high_powers x y zero h k = (omega (arith, ints), omega (arith, ints))
+high_powers x y (suc n) h k =
+    let p : _ = high_powers x y n h k in both_high (nth_power x n) (nth_power y n) x y p.0 p.1 h k
+
+-- of numbers that aren't positive, even powers descend and odd ones ascend
+data LowPowers (p q : ℤ) : Type 0 where
+  even_powers : pos 0 ≤ℤ p → p ≤ℤ q → LowPowers p q
+  odd_powers : p ≤ℤ pos 0 → q ≤ℤ p → LowPowers p q
+
+-- y ≤ x ≤ 0
+low_powers : (x y : ℤ) (n : ℕ) → x ≤ℤ pos 0 → y ≤ℤ x → LowPowers (nth_power x n) (nth_power y n)
+unfolding nth_power
+low_powers x y zero h k = even_powers (omega (arith, ints)) (omega (arith, ints))
+low_powers x y (suc n) h k = go (nth_power x n) (nth_power y n) (low_powers x y n h k)
+  where
+    go : (p q : ℤ) → LowPowers p q → LowPowers (p *ℤ x) (q *ℤ y)
+    go p q (even_powers l m) = let r : _ = one_low p q x y l m h k in odd_powers r.0 r.1
+    go p q (odd_powers l m) = let r : _ = both_low p q x y l m h k in even_powers r.0 r.1
+
+two_ends : (a b v : ℤ) → Between a b v → LiesIn v (spanned (a ∷ b ∷ []))
+unfolding spanned least_or_zero greatest_or_zero least_of greatest_of
+two_ends a b v h = h
+
+three_ends : (a b v : ℤ) → int_min (int_min a b) (pos 0) ≤ℤ v → v ≤ℤ int_max (int_max a b) (pos 0) → LiesIn v (spanned (a ∷ b ∷ pos 0 ∷ []))
+unfolding spanned least_or_zero greatest_or_zero least_of greatest_of
+three_ends a b v h k = (h, k)
+
+-- between one end and 0
+from_first : (a b v : ℤ) → Between a (pos 0) v → LiesIn v (spanned (a ∷ b ∷ pos 0 ∷ []))
+from_first a b v h =
+    three_ends a b v
+    (least_two (int_min (int_min a b) (pos 0)) a (pos 0) v (up (min_left (int_min a b) (pos 0)) (min_left a b)) (min_right (int_min a b) (pos 0)) h.0)
+    (greatest_two (int_max (int_max a b) (pos 0)) a (pos 0) v (up (max_left a b) (max_left (int_max a b) (pos 0))) (max_right (int_max a b) (pos 0)) h.1)
+
+from_second : (a b v : ℤ) → Between b (pos 0) v → LiesIn v (spanned (a ∷ b ∷ pos 0 ∷ []))
+from_second a b v h =
+    three_ends a b v
+    (least_two (int_min (int_min a b) (pos 0)) b (pos 0) v (up (min_left (int_min a b) (pos 0)) (min_right a b)) (min_right (int_min a b) (pos 0)) h.0)
+    (greatest_two (int_max (int_max a b) (pos 0)) b (pos 0) v (up (max_right a b) (max_left (int_max a b) (pos 0))) (max_right (int_max a b) (pos 0)) h.1)
+
+low_between : (p q : ℤ) → LowPowers p q → Between q (pos 0) p
+low_between p q (even_powers l m) = turned q (pos 0) p l m
+low_between p q (odd_powers l m) = ordered q (pos 0) p m l
+
+low_ends : (b v a : ℤ) → LowPowers b v → LowPowers v a → Between a b v
+low_ends b v a (even_powers l m) (even_powers n o) = turned a b v m o
+low_ends b v a (even_powers l m) (odd_powers n o) = zero_ends a b v (up l m) n m o l
+  where
+    zero_ends : (a b v : ℤ) → pos 0 ≤ℤ v → v ≤ℤ pos 0 → b ≤ℤ v → a ≤ℤ v → pos 0 ≤ℤ b → Between a b v
+    zero_ends a b v p q r s t = ordered a b v s (up q t)
+low_ends b v a (odd_powers l m) (odd_powers n o) = ordered a b v o m
+low_ends b v a (odd_powers l m) (even_powers n o) = turned a b v (up l n) o
+
+below_zero : (low high : ℤ) → int_le (pos 0) low ≡ false → (int_le low (pos 0) && int_le (pos 0) high) ≡ false → high ≤ℤ pos 0
+below_zero low high p e = grind (arith, ints)
+
+is_high : (x : ℤ) → int_le (pos 0) x ≡ true → pos 0 ≤ℤ x
+is_high x p = grind (arith, ints)
+
+is_low : (x : ℤ) → int_le (pos 0) x ≡ false → x ≤ℤ pos 0
+is_low x p = grind (arith, ints)
+
+power_between : (i : Interval) (x : ℤ) (n : ℕ) → LiesIn x i → (b : Bool) → (int_le i.low (pos 0) && int_le (pos 0) i.high) ≡ b
+    → LiesIn (nth_power x n) (spanned (nth_power i.low n ∷ nth_power i.high n ∷ (if b then pos 0 ∷ [] else [])))
+power_between i x n h true e = go (int_le (pos 0) x) refl
+  where
+    go : (c : Bool) → int_le (pos 0) x ≡ c → LiesIn (nth_power x n) (spanned (nth_power i.low n ∷ nth_power i.high n ∷ pos 0 ∷ []))
+    go true p =
+        let q : pos 0 ≤ℤ x = is_high x p in
+        let r : _ = high_powers x i.high n q h.1 in from_second (nth_power i.low n) (nth_power i.high n) (nth_power x n) (turned (nth_power i.high n) (pos 0) (nth_power x n) r.0 r.1)
+    go false p =
+        let q : x ≤ℤ pos 0 = is_low x p in
+        from_first (nth_power i.low n) (nth_power i.high n) (nth_power x n) (low_between (nth_power x n) (nth_power i.low n) (low_powers x i.low n q h.0))
+power_between i x n h false e = go (int_le (pos 0) i.low) refl
+  where
+    go : (c : Bool) → int_le (pos 0) i.low ≡ c → LiesIn (nth_power x n) (spanned (nth_power i.low n ∷ nth_power i.high n ∷ []))
+    go true p =
+        let q : pos 0 ≤ℤ i.low = is_high i.low p in
+        two_ends (nth_power i.low n) (nth_power i.high n) (nth_power x n)
+        (ordered (nth_power i.low n) (nth_power i.high n) (nth_power x n) (high_powers i.low x n q h.0).1 (high_powers x i.high n (up q h.0) h.1).1)
+    go false p =
+        let q : i.high ≤ℤ pos 0 = below_zero i.low i.high p e in
+        two_ends (nth_power i.low n) (nth_power i.high n) (nth_power x n)
+        (low_ends (nth_power i.high n) (nth_power x n) (nth_power i.low n) (low_powers i.high x n q h.1) (low_powers x i.low n (up h.1 q) h.0))
+
+pub power_lies : (x n p : ℤ) (i : Interval) → LiesIn x i → power x n ≡ Some p → LiesIn p (power_interval i (Some n))
+unfolding power power_interval nth_power_interval nth_power has_zero
+power_lies x (negsuc n) p i h e = no_some e
+power_lies x (pos zero) p i h e = subst (λ q. LiesIn q (from_to (pos 1) (pos 1))) (some_is e) (omega (arith, ints), omega (arith, ints))
+power_lies x (pos (suc n)) p i h e =
+    subst (λ q. LiesIn q (power_interval i (Some (pos (suc n))))) (some_is e) (power_between i x (suc n) h (int_le i.low (pos 0) && int_le (pos 0) i.high) refl)

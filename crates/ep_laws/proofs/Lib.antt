@@ -8,3 +8,6 @@ pub mod DecidedValues
 pub mod Fixed
 pub mod Agreeing
 pub mod Intervals
+pub mod Undecided
+pub mod Bindings
+pub mod WithoutCells

@@ -182,7 +182,7 @@ indices_typed mode env (matrix_domain p ds d) t h is e =
     (matrix_shape b.0 b.1 q.1 q.0 t (listed_length mode env ds q.1 b.0 q.3 b.2) q.4 (indices_typed mode env d q.0 q.2 b.1 b.3))
 
 -- a shape by its parts
-shape_parts : (mode : Mode) (env : Env) (d : DomainTree) (shape : Shape) → shape_of mode env d ≡ Some shape
+pub shape_parts : (mode : Mode) (env : Env) (d : DomainTree) (shape : Shape) → shape_of mode env d ≡ Some shape
     → (index_domains mode env d ≡ Some shape.indices) × (elements_pass mode env d ≡ Some shape.passes) × (scalar_in env d ≡ shape.scalar) × (element_values mode env d ≡ shape.values)
 unfolding shape_of
 shape_parts mode env d shape e =

@@ -1,7 +1,7 @@
 -- The results of operations lie in the intervals of the operations: laws, as statements.
 use Rattle.std.specs.Prelude.{◌≡◌, List, [], ◌∷◌, ℤ, ◌*ℤ◌, neg_ℤ, Some}
-use Rattle.ep_base.specs.Intervals.{Interval, LiesIn, absolute_interval, greatest_interval, least_interval, negated, product_interval, quotient_interval, remainder_interval, sum_interval}
-use Rattle.ep_base.specs.Numbers.{absolute_of, greatest_of, least_of, quotient, remainder, sum_of}
+use Rattle.ep_base.specs.Intervals.{Interval, LiesIn, absolute_interval, greatest_interval, least_interval, negated, power_interval, product_interval, products_interval, quotient_interval, remainder_interval, sum_interval}
+use Rattle.ep_base.specs.Numbers.{absolute_of, greatest_of, least_of, power, product_of, quotient, remainder, sum_of}
 
 -- some numbers lie in some intervals, one in each
 abbrev pub LieInEach : List ℤ → List Interval → Type 0
@@ -44,3 +44,12 @@ QuotientLies = (x y q : ℤ) (i : Interval) → LiesIn x i → quotient x y ≡ 
 -- a remainder, by the interval of the divisor
 abbrev pub RemainderLies : Type 0
 RemainderLies = (x y r : ℤ) (j : Interval) → LiesIn y j → remainder x y ≡ Some r → LiesIn r (remainder_interval j)
+
+-- a product of many numbers
+abbrev pub ProductsLie : Type 0
+ProductsLie = (ns : List ℤ) (is : List Interval) → LieInEach ns is → LiesIn (product_of ns) (products_interval is)
+
+-- a power
+abbrev pub PowerLies : Type 0
+PowerLies =
+    (x n p : ℤ) (i : Interval) → LiesIn x i → power x n ≡ Some p → LiesIn p (power_interval i (Some n))

@@ -4,3 +4,4 @@ pub mod FixedLimits
 pub mod Typing
 pub mod DecidedValues
 pub mod Intervals
+pub mod Undecided

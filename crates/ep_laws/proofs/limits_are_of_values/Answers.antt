@@ -1,4 +1,5 @@
-use Rattle.ep_laws.proofs.FixedLimits.{limits_fixed, met_domain_fixed, met_fixed}
+use Rattle.ep_laws.proofs.FixedLimits.{limits_fixed}
+use Rattle.ep_laws.proofs.WithoutCells.{met_domain_fixed, met_fixed}
 use Rattle.ep_laws.proofs.limits_are_of_values.Goals as goal
 
 pub returns-clause-limits : goal.returns-clause-limits

@@ -1,4 +1,4 @@
-use Rattle.ep_laws.proofs.Intervals.{absolute_lies, greatest_lies, least_lies, negated_lies, product_lies, quotient_lies, remainder_lies, sum_lies}
+use Rattle.ep_laws.proofs.Intervals.{absolute_lies, greatest_lies, least_lies, negated_lies, power_lies, product_lies, products_lie, quotient_lies, remainder_lies, sum_lies}
 use Rattle.ep_laws.proofs.results_lie_in_intervals.Goals as goal
 
 pub returns-clause-negated : goal.returns-clause-negated
@@ -24,3 +24,9 @@ returns-clause-quotients c = quotient_lies
 
 pub returns-clause-remainders : goal.returns-clause-remainders
 returns-clause-remainders c = remainder_lies
+
+pub returns-clause-many : goal.returns-clause-many
+returns-clause-many c = products_lie
+
+pub returns-clause-powers : goal.returns-clause-powers
+returns-clause-powers c = power_lies
