@@ -1,8 +1,8 @@
 //! The types of domains.
 
-ghost use Rattle.std.specs.Prelude.{◌≡◌, OnOk};
-ghost use Rattle.ep_tree.specs.Views.{domain_tree};
-ghost use Rattle.ep_types.specs.Checking.{Says, check_domain};
+ghost use Rattle.std.specs.Prelude.{◌≡◌, false, OnOk};
+ghost use Rattle.ep_tree.specs.Views.{domain_tree, domains_of};
+ghost use Rattle.ep_types.specs.Checking.{Says, check_domain, check_domains};
 ghost use Rattle.ep_types.specs.Meanings.{IsSame, context_of};
 
 use crate::errors::StaticError;
@@ -11,6 +11,7 @@ use crate::rules;
 use ep_tree::{Domain, DomainKind, ValueType};
 
 /// The type of a domain, whose ranges may be open or may not.
+#[cycle(domains)]
 #[tactic(auto, using(crate::proofs::Said::passed_on, crate::proofs::Said::memory_says, crate::proofs::Scopes::same_again, crate::proofs::Scopes::same_after), unfolding(crate::specs::Checking::check, ep_tree::specs::Views::domain_kind_tree))]
 pub(crate) fn domain_type<'a>(
     names: &mut Names<'a>,
@@ -28,6 +29,7 @@ pub(crate) fn domain_type<'a>(
             rules::check_open(place, may_open)?;
             Ok(ValueType::Int)
         }
+        DomainKind::Ranges(_) => Err(StaticError::Memory),
         DomainKind::Named(name) => names.domain_type(place, name),
         DomainKind::Group(inner) => domain_type(names, may_open, inner),
         DomainKind::Set(_, left, right) => {
@@ -35,6 +37,29 @@ pub(crate) fn domain_type<'a>(
             let other = domain_type(names, may_open, right)?;
             rules::set(place, one, other)
         }
-        _ => Err(StaticError::Memory),
+        DomainKind::Matrix(indices, elements) => {
+            let types = domain_types(names, indices)?;
+            let element = domain_type(names, may_open, elements)?;
+            rules::matrix(place, &types, element)
+        }
     }
+}
+
+/// The types of index domains.
+#[cycle(domains)]
+#[tactic(auto, using(crate::proofs::Said::memory_says))]
+fn domain_types<'a>(
+    names: &mut Names<'a>,
+    domains: &'a [Domain],
+) -> Result<Vec<ValueType>, StaticError>
+    ensures same { OnOk result (IsSame names.old names.new) }
+    ensures says { Says (λ v. v.items) result
+        (check_domains (context_of names.old) (domains_of domains.now)) }
+{
+    let mut types = Vec::with_capacity(names.alloc, domains.len())?;
+    for domain in domains {
+        let ty = domain_type(names, false, domain)?;
+        types.push(ty)?;
+    }
+    Ok(types)
 }
