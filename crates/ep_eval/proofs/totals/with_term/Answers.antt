@@ -27,8 +27,8 @@ returns-then-plus-clause-value c =
     let word : to_z w64 (of_z w64 number) ≡ number = to_z-of_z w64 number (omega (arith, ints)) in
     let right : to_z w128 (of_z w128 c.from.result) ≡ number = to_z-of_z w128 c.from.result (omega (arith, ints)) ∙ c.from.ensures ∙ word in
     let exact : to_z w128 (of_z w128 (to_z w128 (of_z w128 sum) +ℤ to_z w128 (of_z w128 c.from.result))) ≡ sum +ℤ number =
-        ap (λ m. to_z w128 (of_z w128 (m +ℤ to_z w128 (of_z w128 c.from.result)))) left ∙ ap (λ m. to_z w128 (of_z w128 (sum +ℤ m))) right
-        ∙ to_z-of_z w128 (sum +ℤ number) (let f = fits_more sum number near (omega (arith, ints)) in omega (arith, ints, f)) in
+    ap (λ m. to_z w128 (of_z w128 (m +ℤ to_z w128 (of_z w128 c.from.result)))) left ∙ ap (λ m. to_z w128 (of_z w128 (sum +ℤ m))) right
+    ∙ to_z-of_z w128 (sum +ℤ number) (let f = fits_more sum number near (omega (arith, ints)) in omega (arith, ints, f)) in
     added sum number c.args.plus c.args.total c.args.term _ c.in-Some.is c.in-Some-term.is
     (exact ∙ ap (λ b. sum +ℤ signed b number) (sym c.if-plus.true))
 
@@ -42,8 +42,8 @@ returns-then-plus-clause-within c most h =
     let word : to_z w64 (of_z w64 number) ≡ number = to_z-of_z w64 number (omega (arith, ints)) in
     let right : to_z w128 (of_z w128 c.from.result) ≡ number = to_z-of_z w128 c.from.result (omega (arith, ints)) ∙ c.from.ensures ∙ word in
     let exact : to_z w128 (of_z w128 (to_z w128 (of_z w128 sum) +ℤ to_z w128 (of_z w128 c.from.result))) ≡ sum +ℤ number =
-        ap (λ m. to_z w128 (of_z w128 (m +ℤ to_z w128 (of_z w128 c.from.result)))) left ∙ ap (λ m. to_z w128 (of_z w128 (sum +ℤ m))) right
-        ∙ to_z-of_z w128 (sum +ℤ number) (let f = fits_more sum number near (omega (arith, ints)) in omega (arith, ints, f)) in
+    ap (λ m. to_z w128 (of_z w128 (m +ℤ to_z w128 (of_z w128 c.from.result)))) left ∙ ap (λ m. to_z w128 (of_z w128 (sum +ℤ m))) right
+    ∙ to_z-of_z w128 (sum +ℤ number) (let f = fits_more sum number near (omega (arith, ints)) in omega (arith, ints, f)) in
     subst (λ m. IsWithin (most + 9223372036854775808) (Some m)) (sym exact)
     (more_within most sum number (subst (IsWithin most) c.in-Some.is h) (omega (arith, ints)))
 
@@ -67,8 +67,8 @@ returns-else-plus-clause-value c =
     let word : to_z w64 (of_z w64 number) ≡ number = to_z-of_z w64 number (omega (arith, ints)) in
     let right : to_z w128 (of_z w128 c.from-in-Some-term.result) ≡ number = to_z-of_z w128 c.from-in-Some-term.result (omega (arith, ints)) ∙ c.from-in-Some-term.ensures ∙ word in
     let exact : to_z w128 (of_z w128 (to_z w128 (of_z w128 sum) -ℤ to_z w128 (of_z w128 c.from-in-Some-term.result))) ≡ sum -ℤ number =
-        ap (λ m. to_z w128 (of_z w128 (m -ℤ to_z w128 (of_z w128 c.from-in-Some-term.result)))) left ∙ ap (λ m. to_z w128 (of_z w128 (sum -ℤ m))) right
-        ∙ to_z-of_z w128 (sum -ℤ number) (let f = fits_less sum number near (omega (arith, ints)) in omega (arith, ints, f)) in
+    ap (λ m. to_z w128 (of_z w128 (m -ℤ to_z w128 (of_z w128 c.from-in-Some-term.result)))) left ∙ ap (λ m. to_z w128 (of_z w128 (sum -ℤ m))) right
+    ∙ to_z-of_z w128 (sum -ℤ number) (let f = fits_less sum number near (omega (arith, ints)) in omega (arith, ints, f)) in
     added sum number c.args.plus c.args.total c.args.term _ c.in-Some.is c.in-Some-term.is
     (exact ∙ less_is sum number ∙ ap (λ b. sum +ℤ signed b number) (sym c.if-plus.false))
 
@@ -82,8 +82,8 @@ returns-else-plus-clause-within c most h =
     let word : to_z w64 (of_z w64 number) ≡ number = to_z-of_z w64 number (omega (arith, ints)) in
     let right : to_z w128 (of_z w128 c.from-in-Some-term.result) ≡ number = to_z-of_z w128 c.from-in-Some-term.result (omega (arith, ints)) ∙ c.from-in-Some-term.ensures ∙ word in
     let exact : to_z w128 (of_z w128 (to_z w128 (of_z w128 sum) -ℤ to_z w128 (of_z w128 c.from-in-Some-term.result))) ≡ sum -ℤ number =
-        ap (λ m. to_z w128 (of_z w128 (m -ℤ to_z w128 (of_z w128 c.from-in-Some-term.result)))) left ∙ ap (λ m. to_z w128 (of_z w128 (sum -ℤ m))) right
-        ∙ to_z-of_z w128 (sum -ℤ number) (let f = fits_less sum number near (omega (arith, ints)) in omega (arith, ints, f)) in
+    ap (λ m. to_z w128 (of_z w128 (m -ℤ to_z w128 (of_z w128 c.from-in-Some-term.result)))) left ∙ ap (λ m. to_z w128 (of_z w128 (sum -ℤ m))) right
+    ∙ to_z-of_z w128 (sum -ℤ number) (let f = fits_less sum number near (omega (arith, ints)) in omega (arith, ints, f)) in
     subst (λ m. IsWithin (most + 9223372036854775808) (Some m)) (sym exact)
     (less_within most sum number (subst (IsWithin most) c.in-Some.is h) (omega (arith, ints)))
 
