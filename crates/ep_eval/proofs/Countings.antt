@@ -7,11 +7,11 @@ use Rattle.std.proofs.lemmas.Grind.{flat_map-append}
 use Rattle.std.proofs.lemmas.List.Elements.{Contains-append_left, Contains-append_right, Contains-append_cases}
 use Rattle.ep_base.specs.declared.operators.Limit.{Limit as LimitName}
 use Rattle.ep_tree.specs.Environments.{Env}
-use Rattle.ep_tree.specs.Evaluation.{evaluate, number_in}
-use Rattle.ep_tree.specs.Limits.{MOST_SIZE, counted_value, is_too_far, limits_of_values, numbers_at, within}
+use Rattle.ep_tree.specs.Evaluation.{domain_values, evaluate, number_in}
+use Rattle.ep_tree.specs.Limits.{MOST_SIZE, counted_domain, counted_value, is_too_far, limits_of_values, numbers_at, within}
 use Rattle.ep_tree.specs.Values.{ValueTree}
-use Rattle.ep_tree.specs.Measures.{Met, a_node, met}
-use Rattle.ep_tree.specs.Trees.{ExprTree}
+use Rattle.ep_tree.specs.Measures.{Met, a_node, met, met_domain}
+use Rattle.ep_tree.specs.Trees.{DomainTree, ExprTree}
 use Rattle.ep_tree.specs.declared.values.Mode.{Mode}
 use Rattle.ep_eval.specs.Counting.{Counted, IsNode, IsRefused, is_far_node, met_below}
 use Rattle.ep_eval.specs.Outcomes.{IsCause}
@@ -185,3 +185,11 @@ unfolding counted_value within
 counted_value_is mode a b env e v h value =
     ap (λ ls. within ls (evaluate mode env e, a + length (met mode env e))) (nothing_passed mode a b (met mode env e) h)
     ∙ ap (λ w. Ok (w, a + length (met mode env e))) value ∙ ap (λ n. Ok (v, n)) (sym h.count)
+
+-- the same of a domain
+pub counted_domain_is : (mode : Mode) (a b : ℕ) (env : Env) (d : DomainTree) (v : Option (List ℤ)) → Counted mode a b (met_domain mode env d) → domain_values mode env d ≡ v
+    → counted_domain mode a env d ≡ Ok (v, b)
+unfolding counted_domain within
+counted_domain_is mode a b env d v h value =
+    ap (λ ls. within ls (domain_values mode env d, a + length (met_domain mode env d))) (nothing_passed mode a b (met_domain mode env d) h)
+    ∙ ap (λ w. Ok (w, a + length (met_domain mode env d))) value ∙ ap (λ n. Ok (v, n)) (sym h.count)

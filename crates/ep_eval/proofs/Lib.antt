@@ -7,5 +7,6 @@ pub mod Quotients
 pub mod Walks
 pub mod PartSteps
 pub mod TermSteps
+pub mod RangeNumbers
 pub mod Both
 pub mod Looking

@@ -5,3 +5,4 @@ pub mod Outcomes
 pub mod Helds
 pub mod Scopes
 pub mod Counting
+pub mod Ranges

@@ -29,7 +29,7 @@ use ep_base::Limit;
 use ep_tree::{Expr, Kind};
 
 /// The greatest number of nodes that may be met.
-const MOST_SIZE: u64 = 5_000_000;
+pub const MOST_SIZE: u64 = 5_000_000;
 
 /// The greatest absolute value of a number.
 const MOST_REACH: i64 = 1_099_511_627_776;

@@ -11,12 +11,13 @@ ghost use Rattle.ep_eval.specs.Helds.{held_value, seen_held};
 ghost use Rattle.ep_eval.specs.Outcomes.{IsCause, seen_value};
 
 use super::copies::copy_value;
+use super::domains::numbers_of;
 use super::environments::Env;
 use super::errors::EvalError;
-use super::evaluating::value_of;
+use super::evaluating::{MOST_SIZE, value_of};
 use super::held::Held;
 use super::scopes::{Around, Scope};
-use ep_base::{Memory, Runs};
+use ep_base::{Limit, Memory, Runs};
 use ep_tree::{Domain, Expr, Scalar, Value, ValueType};
 use std::alloc::Global;
 
@@ -104,7 +105,7 @@ pub fn domain_values(alloc: Global, env: &Env, d: &Domain) -> Result<Option<Runs
 
 /// The numbers of a scalar domain behind what met so many nodes, and how many are met by its end.
 pub fn domain_values_after(
-    _alloc: Global,
+    alloc: Global,
     env: &Env,
     before: u64,
     d: &Domain,
@@ -114,7 +115,17 @@ pub fn domain_values_after(
     ensures cause { IfErr result (IsCause (limits_of_values env.now.mode before
         (met_domain env.now.mode (env_of env.now) (domain_tree d.now)))) }
 {
-    Err(EvalError::Memory)
+    let scope = Scope {
+        alloc,
+        env,
+        around: &Around::Nothing,
+    };
+    if before > MOST_SIZE {
+        return Err(EvalError::Limit(Limit::Size));
+    }
+    let mut met = before;
+    let values = numbers_of(scope, &mut met, d)?;
+    Ok((values, met))
 }
 
 /// The type of an expression, Int where it has none.

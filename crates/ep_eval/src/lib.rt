@@ -3,6 +3,7 @@
 
 mod binaries;
 mod copies;
+mod domains;
 mod environments;
 mod errors;
 mod evaluating;

@@ -1,0 +1,18 @@
+use Rattle.std.proofs.Common.{subst, sym, ap}
+use Rattle.ep_tree.specs.Environments.{HasAscendingDomain, has_value, with_number}
+use Rattle.ep_tree.specs.Types.{of_scalar}
+use Rattle.ep_tree.specs.Values.{single}
+use Rattle.ep_eval.proofs.KnownNames.{kept_by}
+use Rattle.ep_eval.specs.Known.{HasAscendingDomains}
+use Rattle.ep_eval.specs.Scopes.{with_all}
+use Rattle.ep_eval.proofs.domains.+ascends.Goals as goal
+
+pub returns-in-Nothing : goal.returns-in-Nothing
+unfolding with_all
+returns-in-Nothing t c env h = subst (λ a. HasAscendingDomains (with_all env a)) (sym c.in-Nothing.is) h
+
+pub returns-in-Number : goal.returns-in-Number
+unfolding with_all with_number HasAscendingDomain
+returns-in-Number t c env h =
+    subst (λ a. HasAscendingDomains (with_all env a)) (sym c.in-Number.is)
+    (λ other. kept_by HasAscendingDomain (with_all env c.in-Number.outer.now) c.in-Number.field-1.now (has_value (of_scalar c.in-Number.field-2) (single c.in-Number.field-3)) tt (c.ascends.ensures env h) other)

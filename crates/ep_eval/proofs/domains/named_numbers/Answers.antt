@@ -1,0 +1,25 @@
+use Rattle.std.proofs.Common.{ap, sym, ◌∙◌, Some, None, option_map}
+use Rattle.std.specs.Prelude.{if◌then◌else◌}
+use Rattle.ep_tree.specs.Environments.{domain_bound}
+use Rattle.ep_eval.proofs.RangeNumbers.{only_domain-numbers}
+use Rattle.ep_eval.specs.Bounds.{domain_of}
+use Rattle.ep_eval.specs.Known.{env_of}
+use Rattle.ep_eval.proofs.domains.named_numbers.Goals as goal
+
+pub returns-in_ok-set-in-Some : goal.returns-in_ok-set-in-Some
+returns-in_ok-set-in-Some c =
+    let env = env_of c.args.scope.env.now in
+    let name = c.args.name.now in
+    c.in_ok-set-in-Some.ensures
+    ∙ ap (λ r. domain_bound (option_map (λ d. domain_of d.now) r)) (sym c.in-Some.is)
+    ∙ ap domain_bound c.domain.ensures ∙ only_domain-numbers (env name)
+    ∙ ap (λ b. if b then None else domain_bound (env name)) (sym c.if-hides.false) ∙ sym (c.hides.ensures env)
+
+pub returns-in-None : goal.returns-in-None
+unfolding domain_bound
+returns-in-None c =
+    let env = env_of c.args.scope.env.now in
+    let name = c.args.name.now in
+    ap (λ r. domain_bound (option_map (λ d. domain_of d.now) r)) (sym c.in-None.is)
+    ∙ ap domain_bound c.domain.ensures ∙ only_domain-numbers (env name)
+    ∙ ap (λ b. if b then None else domain_bound (env name)) (sym c.if-hides.false) ∙ sym (c.hides.ensures env)
