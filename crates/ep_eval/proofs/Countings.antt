@@ -1,13 +1,13 @@
 -- How counts and causes compose.
 use Rattle.std.proofs.Common.{◌≡◌, ℕ, ◌+◌, ◌<◌, ◌≤◌, Bool, true, false, List, [], ◌∷◌, ◌++◌, length, refl, sym, ap, subst, ◌∙◌, inl, inr, arith}
-use Rattle.std.specs.Prelude.{Contains, flat_map, nat_lt, ◌||◌, if◌then◌else◌, ℤ, option_to_list, Result, Ok, Err, IfErr, Option}
+use Rattle.std.specs.Prelude.{Contains, flat_map, nat_lt, ◌||◌, if◌then◌else◌, ℤ, Result, Ok, Err, IfErr, Option}
 use Rattle.std.specs.List.{list_any}
 use Rattle.std.proofs.lemmas.List.{length-append}
 use Rattle.std.proofs.lemmas.Grind.{flat_map-append}
 use Rattle.std.proofs.lemmas.List.Elements.{Contains-append_left, Contains-append_right, Contains-append_cases}
 use Rattle.ep_base.specs.declared.operators.Limit.{Limit as LimitName}
 use Rattle.ep_tree.specs.Environments.{Env}
-use Rattle.ep_tree.specs.Evaluation.{domain_values, evaluate, number_in}
+use Rattle.ep_tree.specs.Evaluation.{domain_values, evaluate}
 use Rattle.ep_tree.specs.Limits.{MOST_SIZE, counted_domain, counted_value, is_too_far, limits_of_values, numbers_at, within}
 use Rattle.ep_tree.specs.Values.{ValueTree}
 use Rattle.ep_tree.specs.Measures.{Met, a_node, met, met_domain}

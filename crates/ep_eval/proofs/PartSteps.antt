@@ -5,7 +5,7 @@ use Rattle.ep_base.specs.Numbers.{all_one, any_one, is_one}
 use Rattle.ep_tree.specs.Environments.{Env}
 use Rattle.ep_tree.specs.Evaluation.{all_true, any_true, evaluate, map_both, number_in, truth_of, values_of}
 use Rattle.ep_tree.specs.Limits.{MOST_SIZE, limits_of_values}
-use Rattle.ep_tree.specs.Measures.{Met, met, met_all}
+use Rattle.ep_tree.specs.Measures.{met, met_all}
 use Rattle.ep_tree.specs.Values.{ValueTree, all_defined}
 use Rattle.ep_tree.specs.Views.{expr_tree, expr_trees}
 use Rattle.ep_tree.specs.declared.syntax.Expr.{Expr}

@@ -24,7 +24,7 @@ use Rattle.ep_tree.specs.declared.values.Scalar.{Scalar}
 use Rattle.ep_eval.specs.Bounds.{only_domain}
 use Rattle.ep_tree.specs.Evaluation.{end_value, evaluate, map_both, number_in, range_values}
 use Rattle.ep_tree.specs.Limits.{MOST_SIZE, limits_of_values}
-use Rattle.ep_tree.specs.Measures.{Met, met, met_end, met_ranges}
+use Rattle.ep_tree.specs.Measures.{met, met_end, met_ranges}
 use Rattle.ep_tree.specs.Trees.{no_ranges}
 use Rattle.ep_tree.specs.Views.{end_of, expr_tree, held_end, kind_tree, ranges_of, with_range}
 use Rattle.ep_tree.specs.declared.syntax.Expr.{Expr}

@@ -1,13 +1,13 @@
 -- Totals of terms one after another.
-use Rattle.std.proofs.Common.{◌≡◌, ℕ, ◌+◌, ◌*◌, ◌≤◌, Bool, List, [], ◌∷◌, ◌++◌, length, ℤ, pos, ◌+ℤ◌, ◌-ℤ◌, FitsSigned, SFits, w64, refl, sym, ap, subst, arith, ◌∙◌}
-use Rattle.std.specs.Prelude.{Option, Some, None, option_map, nat_abs, neg_ℤ}
+use Rattle.std.proofs.Common.{◌≡◌, ℕ, ◌+◌, ◌*◌, ◌≤◌, Bool, List, [], ◌∷◌, ◌++◌, ℤ, pos, ◌+ℤ◌, ◌-ℤ◌, FitsSigned, SFits, w64, refl, sym, ap, subst, arith, ◌∙◌}
+use Rattle.std.specs.Prelude.{Option, Some, None, option_map, neg_ℤ}
 use Rattle.std.specs.Int.{w128}
 use Rattle.std.proofs.lemmas.Int.{ints}
 use Rattle.ep_base.specs.Numbers.{sum_of}
 use Rattle.ep_tree.specs.Environments.{Env}
 use Rattle.ep_tree.specs.Evaluation.{evaluate, map_both, number_in, signed, term_values}
 use Rattle.ep_tree.specs.Limits.{MOST_SIZE, limits_of_values}
-use Rattle.ep_tree.specs.Measures.{Met, met, met_terms}
+use Rattle.ep_tree.specs.Measures.{met, met_terms}
 use Rattle.ep_tree.specs.Values.{ValueTree, all_defined}
 use Rattle.ep_tree.specs.Views.{expr_tree, terms_of}
 use Rattle.ep_tree.specs.declared.syntax.Expr.{Expr}

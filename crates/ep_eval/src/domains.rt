@@ -158,8 +158,8 @@ fn hides(around: &Around, name: &Name) -> bool
     }
 }
 
-/// The numbers of each domain's name ascend also where names are quantified. This only walks around, so that its
-/// contract is proved.
+/// The numbers of each domain's name ascend also where names are quantified. It does nothing: it
+/// walks around, so that its contract is proved.
 fn ascends(around: &Around)
     ensures { (env : names.Env) → HasAscendingDomains env → HasAscendingDomains (with_all env around.now) }
 {

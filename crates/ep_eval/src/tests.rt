@@ -2,7 +2,7 @@
 
 use crate::{Env, EvalError, Seen, evaluate};
 use ep_base::{CompareOp, Name, Place};
-use ep_tree::{Expr, Kind, Mode, Value};
+use ep_tree::{BinaryOp, Expr, Kind, Mode, Value};
 use std::alloc::{AllocError, Global};
 use std::test::Fail;
 
@@ -59,5 +59,55 @@ fn a_number_too_far_from_0_is_refused(rt: HostRuntime) -> Result<(), Fail> {
         worth(alloc, Mode::Strict, &near)?,
         Some(-1_099_511_627_776)
     );
+    Ok(())
+}
+
+/// What an operator gives of two numbers.
+fn worth_of_two(
+    alloc: Global,
+    mode: Mode,
+    op: BinaryOp,
+    left: i64,
+    right: i64,
+) -> Result<Option<i64>, EvalError> {
+    let first = Box::new(alloc, placed(Kind::Number(left)))?;
+    let second = Box::new(alloc, placed(Kind::Number(right)))?;
+    worth(alloc, mode, &placed(Kind::Binary(op, first, second)))
+}
+
+#[test]
+fn quotients_are_floors(rt: HostRuntime) -> Result<(), Fail> {
+    let alloc = rt.alloc();
+    assert_eq!(rt;
+        worth_of_two(alloc, Mode::Strict, BinaryOp::Div, -7, 2)?,
+        Some(-4)
+    );
+    assert_eq!(rt;
+        worth_of_two(alloc, Mode::Strict, BinaryOp::Mod, -7, 2)?,
+        Some(1)
+    );
+    assert_eq!(rt;
+        worth_of_two(alloc, Mode::Strict, BinaryOp::Mod, 7, -2)?,
+        Some(-1)
+    );
+    assert_eq!(rt;
+        worth_of_two(alloc, Mode::Relational, BinaryOp::Div, 7, 0)?,
+        None
+    );
+    assert_eq!(rt;
+        worth_of_two(alloc, Mode::Relational, BinaryOp::Implies, 1, 0)?,
+        Some(0)
+    );
+    Ok(())
+}
+
+#[test]
+fn chains_have_their_totals(rt: HostRuntime) -> Result<(), Fail> {
+    let alloc = rt.alloc();
+    let mut terms = Vec::new(alloc);
+    terms.push((true, placed(Kind::Number(5))))?;
+    terms.push((false, placed(Kind::Number(8))))?;
+    let total = placed(Kind::Add(terms));
+    assert_eq!(rt; worth(alloc, Mode::Strict, &total)?, Some(-3));
     Ok(())
 }

@@ -1,4 +1,4 @@
-use Rattle.std.proofs.Common.{Some, None, sym, ap, subst, ◌∙◌, arith, w64, to_z, of_z}
+use Rattle.std.proofs.Common.{Some, sym, ap, subst, ◌∙◌, arith, w64, to_z, of_z}
 use Rattle.std.proofs.lemmas.Int.{ints, to_z-of_z}
 use Rattle.ep_tree.specs.Evaluation.{binary_number, binary_value, number_in, number_value}
 use Rattle.ep_eval.specs.Counting.{Gives}

@@ -1,4 +1,4 @@
-use Rattle.std.proofs.Common.{ap, sym, ◌∙◌, Some, None}
+use Rattle.std.proofs.Common.{ap, sym, ◌∙◌, Some}
 use Rattle.std.specs.Prelude.{if◌then◌else◌}
 use Rattle.ep_tree.specs.Environments.{domain_bound, has_value, with_number}
 use Rattle.ep_tree.specs.Types.{of_scalar}

@@ -1,4 +1,4 @@
-use Rattle.std.proofs.Common.{ap, sym, ◌∙◌, Some, None, option_map}
+use Rattle.std.proofs.Common.{ap, sym, ◌∙◌, None, option_map}
 use Rattle.std.specs.Prelude.{if◌then◌else◌}
 use Rattle.ep_tree.specs.Environments.{domain_bound}
 use Rattle.ep_eval.proofs.RangeNumbers.{only_domain-numbers}

@@ -1,4 +1,4 @@
-use Rattle.std.proofs.Common.{Some, ap, sym, ◌∙◌, option_map}
+use Rattle.std.proofs.Common.{ap, sym, ◌∙◌, option_map}
 use Rattle.ep_eval.proofs.RangeNumbers.{none_is, set_is}
 use Rattle.ep_eval.specs.Ranges.{runs_have}
 use Rattle.ep_eval.proofs.domains.set_of.Goals as goal

@@ -1,7 +1,6 @@
 use Rattle.std.proofs.Common.{◌≡◌, ◌+◌, ◌+ℤ◌, Bool, ◌∷◌, ℕ, List, drop, subst, [], ap, sym, ◌∙◌, arith, Some, w64, to_z, of_z}
-use Rattle.std.specs.Prelude.{neg_ℤ, option_map, option_to_list, not}
-use Rattle.std.specs.List.{list_any}
-use Rattle.ep_tree.specs.Limits.{is_too_far, limits_of_values}
+use Rattle.std.specs.Prelude.{neg_ℤ, option_map, not}
+use Rattle.ep_tree.specs.Limits.{limits_of_values}
 use Rattle.std.proofs.lemmas.Int.{to_z-of_z, ints}
 use Rattle.std.proofs.lemmas.Result.{err_from_is_err_and}
 use Rattle.ep_tree.proofs.EvaluationEquations.{evaluate-chain, evaluate-all_of, evaluate-any_of, evaluate-absolute, evaluate-binary, evaluate-minus, evaluate-named, evaluate-compare, evaluate-group, evaluate-negation, evaluate-number, evaluate-to_int, evaluate-truth}

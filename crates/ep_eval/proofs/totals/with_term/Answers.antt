@@ -1,5 +1,4 @@
-use Rattle.std.proofs.Common.{◌≡◌, ◌+◌, ◌≤◌, Some, ◌+ℤ◌, ◌-ℤ◌, sym, ap, subst, ◌∙◌, arith, w64, to_z, of_z, FitsSigned}
-use Rattle.std.specs.Prelude.{nat_abs}
+use Rattle.std.proofs.Common.{◌≡◌, ◌+◌, Some, ◌+ℤ◌, ◌-ℤ◌, sym, ap, subst, ◌∙◌, arith, w64, to_z, of_z}
 use Rattle.std.specs.Int.{w128}
 use Rattle.std.proofs.lemmas.Int.{ints, to_z-of_z}
 use Rattle.ep_tree.specs.Evaluation.{signed}
