@@ -4,3 +4,6 @@ pub mod VectorsDecoding
 pub mod NotesDecode
 pub mod Places
 pub mod TiedPlaces
+pub mod Saying
+pub mod Counting
+pub mod Growing

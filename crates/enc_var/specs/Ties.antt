@@ -26,3 +26,18 @@ pub record SaysMore (old new : Cnf) (condition : (ℕ → Bool) → Type 0) : Ty
   pub clauses : new.clauses ≡ old.clauses ++ added
   pub consistent : All IsConsistent added
   pub says : (s : ℕ → Bool) → Satisfies s added ↔ condition s
+
+-- what the clauses of a variable with so many values say, where its literals begin at this variable
+pub record AreMet (first count : ℕ) (s : ℕ → Bool) : Type 0 where
+  pub some : count ≡ 0 → ⊥
+  pub single : count ≡ 1 → IsTrueUnder s (yes first)
+  pub tied : 1 < count → AreTied first count s
+
+-- A formula has so many variables more than another, and clauses which say this, none with a literal together with its negation.
+pub record Grows (old new : Cnf) (more : ℕ) (condition : (ℕ → Bool) → Type 0) : Type 0 where
+  pub vars : new.vars ≡ old.vars + more
+  pub from_new : new.from_new ≡ old.from_new
+  pub added : List (List Literal)
+  pub clauses : new.clauses ≡ old.clauses ++ added
+  pub consistent : All IsConsistent added
+  pub says : (s : ℕ → Bool) → Satisfies s added ↔ condition s
