@@ -2,15 +2,16 @@
 use Rattle.std.proofs.Common.{◌≡◌, ◌↔◌, ◌⊎◌, inl, inr, ℕ, zero, suc, ◌+◌, ◌-◌, ◌*◌, ◌<◌, ◌≤◌, nat_lt, ◌==◌, ℤ, Bool, true, false, List, [], ◌∷◌, ◌++◌, length, refl, sym, ap, subst, ◌∙◌, arith}
 use Rattle.std.specs.List.{All, Contains}
 use Rattle.std.proofs.lemmas.Bool.Decides.{nat_tests}
-use Rattle.std.proofs.lemmas.List.Elements.{All-append, All-contains, All-head}
+use Rattle.std.proofs.lemmas.List.Elements.{All-append, All-contains, All-head, Contains-push}
 use Rattle.cnf_core.proofs.Keeping.{satisfied_along}
-use Rattle.cnf_core.proofs.Members.{none_in_nil}
+use Rattle.cnf_core.proofs.Members.{All-from_contains, none_in_nil}
 use Rattle.cnf_core.specs.Clauses.{IsTrueUnder, Satisfies, SatisfiesClause}
 use Rattle.cnf_core.specs.Formula.{Cnf, NamesItsVariables}
-use Rattle.cnf_core.specs.Literal.{HaveSameLiterals, IsClause, IsOrdered, Literal}
+use Rattle.cnf_core.specs.Literal.{HaveSameLiterals, IsClause, IsOrdered, Literal, VariablesUpTo}
 use Rattle.ep_base.specs.Runs.{IsAscending}
+use Rattle.cnf_core.specs.declared.lit.TheConstants.{MOST_VARIABLE}
 use Rattle.enc_var.proofs.Places.{IsAtPlace, decoded_at_place, lt_back, lt_back_false, means_at_place, stands_at}
-use Rattle.enc_var.proofs.Saying.{only_one}
+use Rattle.enc_var.proofs.Saying.{only_one, says_nothing}
 use Rattle.enc_var.proofs.TiedPlaces.{chosen, chosen_agrees, chosen_reaches, chosen_single, chosen_tied, single_at_place, tied_at_place, tied_somewhere}
 use Rattle.enc_var.specs.Decoding.{Means, VariableLiterals, yes}
 use Rattle.enc_var.specs.Layouts.{HasFreeChoice}
@@ -128,3 +129,38 @@ met_more first count s many = (
   λ tied. record { some = λ none. omega (arith, many, none); single = λ one. absurd (omega (arith, many, one)); tied = λ more. tied },
   λ met. met.tied (omega (arith, many)),
 )
+
+pub one_named : (most : ℕ) (a : Literal) → a.var ≤ most → VariablesUpTo most (a ∷ [])
+one_named most a low = All-from_contains (λ l. l.var ≤ most) (a ∷ []) (λ l found. subst (λ (m : Literal). m.var ≤ most) (only_one a l found) low)
+
+pub one_stands : (f g : Cnf) (c : List Literal) (a : Literal) → IsOrdered c → HaveSameLiterals c (a ∷ []) → g ≡ record f { clauses = f.clauses ++ c ∷ [] } → Contains g.clauses (a ∷ [])
+one_stands f g c a ordered same is =
+    subst (λ (x : Cnf). Contains x.clauses (a ∷ [])) (sym is)
+    (subst (λ d. Contains (f.clauses ++ d ∷ []) (a ∷ [])) (sym (ordered_single c a ordered same)) (Contains-push f.clauses (a ∷ [])))
+
+same_vars : (f : Cnf) (more : ℕ) → more ≡ 0 → f ≡ record f { vars = f.vars + more }
+same_vars f more none = ap (λ n. record f { vars = n }) (omega (arith, none))
+
+pub grows_none : (f g : Cnf) (first count : ℕ) (c : List Literal) → count ≡ 0 → c ≡ [] → SaysMore f g (λ s. SatisfiesClause s c) → Grows f g (2 * count - 4) (AreMet first count)
+grows_none f g first count c none empty h =
+    grown_like f g (2 * count - 4) (λ s. SatisfiesClause s c) (AreMet first count) (grown f f g (2 * count - 4) (λ s. SatisfiesClause s c) (same_vars f (2 * count - 4) (omega (arith, none))) h)
+    (λ s. (λ met. absurd (none_in_nil met.literal (subst (λ d. Contains d met.literal) empty met.in_clause)), λ met. absurd (met.some none)))
+
+pub grows_single : (f g : Cnf) (first count : ℕ) (l : Literal) → count ≡ 1 → l ≡ yes first → SaysMore f g (λ s. IsTrueUnder s l) → Grows f g (2 * count - 4) (AreMet first count)
+grows_single f g first count l one is h =
+    grown_like f g (2 * count - 4) (λ s. IsTrueUnder s (yes first)) (AreMet first count)
+    (grown f f g (2 * count - 4) (λ s. IsTrueUnder s (yes first)) (same_vars f (2 * count - 4) (omega (arith, one))) (subst (λ m. SaysMore f g (λ s. IsTrueUnder s m)) is h))
+    (λ s. met_single first count s one)
+
+pub grows_two : (f : Cnf) (first count : ℕ) → count ≡ 2 → Grows f f (2 * count - 4) (AreMet first count)
+grows_two f first count two =
+    grown_like f f (2 * count - 4) (λ s. Unit {0}) (AreMet first count) (grown f f f (2 * count - 4) (λ s. Unit {0}) (same_vars f (2 * count - 4) (omega (arith, two))) (says_nothing f))
+    (λ s. met_two first count s two)
+
+pub grows_more : (f mid g : Cnf) (first count : ℕ) → 2 < count → mid ≡ record f { vars = f.vars + (2 * count - 4) } → SaysMore mid g (AreTied first count) → Grows f g (2 * count - 4) (AreMet first count)
+grows_more f mid g first count many is h =
+    grown_like f g (2 * count - 4) (AreTied first count) (AreMet first count) (grown f mid g (2 * count - 4) (AreTied first count) is h) (λ s. met_more first count s many)
+
+-- the literals of so many values lie within the variables that there can be
+pub has_room : (first count vars most : ℕ) → first ≡ vars → most ≡ vars + (2 * count - 4) → most ≤ MOST_VARIABLE → first ≤ MOST_VARIABLE → first + 2 * count ≤ MOST_VARIABLE + 4
+has_room first count vars most last all within low = omega (arith, last, all, within, low)

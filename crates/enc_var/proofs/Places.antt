@@ -231,3 +231,9 @@ means_at_place s e p h =
       equal = λ v. equal_at_place s e p h v ∙ ap (λ d. int_eq d v) (sym dec);
       noted = λ v found. noted_at_place s e p h v found ∙ ap (λ d. int_eq d v) (sym dec);
     }
+
+-- fewer values than there are lie below one of them
+pub below_found : (xs : List ℤ) (v : ℤ) → IsAscending xs → Contains xs v → values_below xs v < length xs
+below_found xs v up found =
+    let is : values_below xs v ≡ found.0 = ap (values_below xs) (sym (stands_at xs v found)) ∙ below_at xs found.0 up found.1 in
+    omega (arith, is, found.1)

@@ -111,6 +111,7 @@ fn add_unit(alloc: Global, f: &mut Formula, literal: Lit) -> Result<(), Memory>
 
 /// Adds the other literals of a variable with so many values, whose first one is the formula's last
 /// variable, and their clauses.
+#[tactic(auto, using(crate::proofs::Growing::grows_two))]
 pub(crate) fn add_literals(alloc: Global, f: &mut Formula, first: u64, count: u64) -> Result<(), Memory>
     requires from_new { IsTrue f.old.from_new }
     requires first { first ≡ f.old.vars }
