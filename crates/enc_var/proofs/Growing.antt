@@ -1,8 +1,7 @@
 -- What a new variable's literals and clauses give.
-use Rattle.std.proofs.Common.{◌≡◌, ◌↔◌, ◌⊎◌, inl, inr, ℕ, zero, suc, ◌+◌, ◌-◌, ◌*◌, ◌<◌, ◌≤◌, nat_lt, ◌==◌, ℤ, Bool, true, false, List, [], ◌∷◌, ◌++◌, length, refl, sym, ap, subst, ◌∙◌, arith}
+use Rattle.std.proofs.Common.{◌≡◌, ◌↔◌, inl, inr, ℕ, zero, suc, ◌+◌, ◌-◌, ◌*◌, ◌<◌, ◌≤◌, Bool, true, false, List, [], ◌∷◌, ◌++◌, length, refl, sym, ap, subst, ◌∙◌, arith}
 use Rattle.std.specs.List.{All, Contains}
-use Rattle.std.proofs.lemmas.Bool.Decides.{nat_tests}
-use Rattle.std.proofs.lemmas.List.Elements.{All-append, All-contains, All-head, Contains-push}
+use Rattle.std.proofs.lemmas.List.Elements.{All-append, All-head, Contains-push}
 use Rattle.cnf_core.proofs.Keeping.{satisfied_along}
 use Rattle.cnf_core.proofs.Members.{All-from_contains, none_in_nil}
 use Rattle.cnf_core.specs.Clauses.{IsTrueUnder, Satisfies, SatisfiesClause}
@@ -10,7 +9,7 @@ use Rattle.cnf_core.specs.Formula.{Cnf, NamesItsVariables}
 use Rattle.cnf_core.specs.Literal.{HaveSameLiterals, IsClause, IsOrdered, Literal, VariablesUpTo}
 use Rattle.ep_base.specs.Runs.{IsAscending}
 use Rattle.cnf_core.specs.declared.lit.TheConstants.{MOST_VARIABLE}
-use Rattle.enc_var.proofs.Places.{IsAtPlace, decoded_at_place, lt_back, lt_back_false, means_at_place, stands_at}
+use Rattle.enc_var.proofs.Places.{IsAtPlace, decoded_at_place, means_at_place, stands_at}
 use Rattle.enc_var.proofs.Saying.{only_one, says_nothing}
 use Rattle.enc_var.proofs.TiedPlaces.{chosen, chosen_agrees, chosen_reaches, chosen_single, chosen_tied, single_at_place, tied_at_place, tied_somewhere}
 use Rattle.enc_var.specs.Decoding.{Means, VariableLiterals, yes}
@@ -53,19 +52,18 @@ pub free_choice : (f g : Cnf) (e : VariableLiterals) (more : ℕ) → e.first �
     → Grows f g more (AreMet e.first (length e.domain)) → (length e.domain ≡ 1 → Contains g.clauses (yes e.first ∷ [])) → HasFreeChoice f e g
 free_choice f g e more begins up are names grows fixed = record {
   choice = λ s v met found.
-    let p = found.0 in
-    let t = chosen s f.vars (length e.domain) p in
-    let agrees = chosen_agrees s f.vars (length e.domain) p in
-    (
-      record {
-        values = t;
-        agrees = agrees;
-        satisfies = subst (Satisfies t) (sym grows.clauses) (All-append (SatisfiesClause t) f.clauses grows.added
-            (satisfied_along f.vars s t f.clauses are names agrees met)
-            ((grows.says t).1 (chosen_met s f.vars e p begins found.1)));
-      },
-      decoded_at_place t e p (chosen_at s f.vars e p begins up found.1) ∙ stands_at e.domain v found,
-    );
+      let p = found.0 in
+      let t = chosen s f.vars (length e.domain) p in
+      let agrees = chosen_agrees s f.vars (length e.domain) p in (
+        record {
+          values = t;
+          agrees = agrees;
+          satisfies = subst (Satisfies t) (sym grows.clauses) (All-append (SatisfiesClause t) f.clauses grows.added
+              (satisfied_along f.vars s t f.clauses are names agrees met)
+              ((grows.says t).1 (chosen_met s f.vars e p begins found.1)));
+        },
+        decoded_at_place t e p (chosen_at s f.vars e p begins up found.1) ∙ stands_at e.domain v found,
+      );
   fixed = fixed;
 }
 

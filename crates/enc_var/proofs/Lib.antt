@@ -7,3 +7,4 @@ pub mod TiedPlaces
 pub mod Saying
 pub mod Counting
 pub mod Growing
+pub mod GoingOn

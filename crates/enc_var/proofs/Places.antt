@@ -1,5 +1,5 @@
 -- Under an assignment that makes the literals of one place true, a variable means what it says.
-use Rattle.std.proofs.Common.{◌≡◌, ◌≢◌, ◌⊎◌, inl, inr, ℕ, zero, suc, ◌+◌, ◌-◌, ◌<◌, ◌≤◌, nat_lt, nat_le, ◌==◌, ℤ, ◌<ℤ◌, ◌≤ℤ◌, Bool, true, false, not, int_le, int_lt, List, [], ◌∷◌, length, cond, refl, sym, ap, subst, ◌∙◌, arith, slice_index_or}
+use Rattle.std.proofs.Common.{◌≡◌, ◌≢◌, ℕ, zero, suc, ◌+◌, ◌-◌, ◌<◌, ◌≤◌, nat_lt, nat_le, ◌==◌, ℤ, ◌<ℤ◌, ◌≤ℤ◌, Bool, true, false, not, int_le, int_lt, List, [], ◌∷◌, length, cond, refl, sym, ap, subst, ◌∙◌, arith, slice_index_or}
 use Rattle.std.specs.Prelude.{filter, pos}
 use Rattle.std.specs.List.{Contains}
 use Rattle.std.specs.List.Sorted.{IsPartitionedBy}
@@ -9,12 +9,9 @@ use Rattle.std.proofs.lemmas.Int.{ints}
 use Rattle.ep_base.specs.Numbers.{has_number}
 use Rattle.ep_base.specs.Reads.{first_or_zero, same_bool}
 use Rattle.ep_base.specs.Runs.{IsAscending}
-use Rattle.cnf_core.specs.Literal.{Literal}
 use Rattle.enc_var.proofs.Choices.{eq_is, eq_none, eq_single, le_all, le_is, le_none}
-use Rattle.enc_var.proofs.Counts.{has_number_decides, is_at_most, is_below, none_pass, parted_up_to, passed_at}
-use Rattle.enc_var.specs.Decoding.{Means, VariableLiterals, decoded, eq_of, known_holds, le_of, literal_holds, no, note_of, place_literal, values_below, values_up_to, yes}
-use Rattle.enc_var.specs.declared.known.Known.{Known}
-use Rattle.enc_var.specs.declared.known.Known.TheVariants as known
+use Rattle.enc_var.proofs.Counts.{has_number_decides, is_below, none_pass, parted_up_to, passed_at}
+use Rattle.enc_var.specs.Decoding.{Means, VariableLiterals, decoded, eq_of, known_holds, le_of, literal_holds, note_of, place_literal, values_below, values_up_to}
 
 pub lt_true : (a b : ℕ) → a < b → nat_lt a b ≡ true
 lt_true a b h = grind (arith, nat_tests)

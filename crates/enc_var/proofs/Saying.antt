@@ -1,10 +1,10 @@
 -- What added clauses say.
 use Rattle.std.proofs.Common.{◌≡◌, ◌↔◌, ◌⊎◌, inl, inr, ℕ, ◌+◌, ◌-◌, ◌<◌, nat_lt, Bool, true, false, not, List, [], ◌∷◌, ◌++◌, refl, sym, ap, subst, ◌∙◌, arith, append_assoc}
-use Rattle.std.specs.List.{All, Contains}
-use Rattle.std.proofs.lemmas.List.Elements.{All-append, All-cons, All-contains, All-head, Contains-append_left, Contains-append_right}
+use Rattle.std.specs.List.{Contains}
+use Rattle.std.proofs.lemmas.List.Elements.{All-append, All-contains, All-head, Contains-append_left, Contains-append_right}
 use Rattle.cnf_core.proofs.Keeping.{same_consistent, same_satisfied}
 use Rattle.cnf_core.proofs.Members.{All-from_contains, Contains-cases, Contains-here, Contains-there, none_in_nil}
-use Rattle.cnf_core.specs.Clauses.{IsTrueUnder, Satisfies, SatisfiesClause}
+use Rattle.cnf_core.specs.Clauses.{IsTrueUnder, SatisfiesClause}
 use Rattle.cnf_core.specs.Formula.{Cnf}
 use Rattle.cnf_core.specs.Literal.{HaveSameLiterals, Literal, negation}
 use Rattle.cnf_core.specs.Steps.{IsConsistent}
@@ -156,15 +156,15 @@ tie_said f one two three four low high is a b c d e g h i j la lb lc ld le lg lh
     let Third : (ℕ → Bool) → Type 0 = λ s. IsTrueUnder s (no is) ⊎ IsTrueUnder s (no high) in
     let Fourth : (ℕ → Bool) → Type 0 = λ s. IsTrueUnder s (yes is) ⊎ (IsTrueUnder s (no low) ⊎ IsTrueUnder s (yes high)) in
     let first_is : SaysMore f one First =
-        subst (λ l. SaysMore f one (λ s. IsTrueUnder s (no high) ⊎ IsTrueUnder s l)) lb (subst (λ l. SaysMore f one (λ s. IsTrueUnder s l ⊎ IsTrueUnder s b)) la first) in
+    subst (λ l. SaysMore f one (λ s. IsTrueUnder s (no high) ⊎ IsTrueUnder s l)) lb (subst (λ l. SaysMore f one (λ s. IsTrueUnder s l ⊎ IsTrueUnder s b)) la first) in
     let second_is : SaysMore one two Second =
-        subst (λ l. SaysMore one two (λ s. IsTrueUnder s (no is) ⊎ IsTrueUnder s l)) ld (subst (λ l. SaysMore one two (λ s. IsTrueUnder s l ⊎ IsTrueUnder s d)) lc second) in
+    subst (λ l. SaysMore one two (λ s. IsTrueUnder s (no is) ⊎ IsTrueUnder s l)) ld (subst (λ l. SaysMore one two (λ s. IsTrueUnder s l ⊎ IsTrueUnder s d)) lc second) in
     let third_is : SaysMore two three Third =
-        subst (λ l. SaysMore two three (λ s. IsTrueUnder s (no is) ⊎ IsTrueUnder s l)) lg (subst (λ l. SaysMore two three (λ s. IsTrueUnder s l ⊎ IsTrueUnder s g)) le third) in
+    subst (λ l. SaysMore two three (λ s. IsTrueUnder s (no is) ⊎ IsTrueUnder s l)) lg (subst (λ l. SaysMore two three (λ s. IsTrueUnder s l ⊎ IsTrueUnder s g)) le third) in
     let fourth_is : SaysMore three four Fourth =
-        subst (λ l. SaysMore three four (λ s. IsTrueUnder s (yes is) ⊎ (IsTrueUnder s (no low) ⊎ IsTrueUnder s l))) lj
-        (subst (λ l. SaysMore three four (λ s. IsTrueUnder s (yes is) ⊎ (IsTrueUnder s l ⊎ IsTrueUnder s j))) li
-        (subst (λ l. SaysMore three four (λ s. IsTrueUnder s l ⊎ (IsTrueUnder s i ⊎ IsTrueUnder s j))) lh fourth)) in
+    subst (λ l. SaysMore three four (λ s. IsTrueUnder s (yes is) ⊎ (IsTrueUnder s (no low) ⊎ IsTrueUnder s l))) lj
+    (subst (λ l. SaysMore three four (λ s. IsTrueUnder s (yes is) ⊎ (IsTrueUnder s l ⊎ IsTrueUnder s j))) li
+    (subst (λ l. SaysMore three four (λ s. IsTrueUnder s l ⊎ (IsTrueUnder s i ⊎ IsTrueUnder s j))) lh fourth)) in
     let both = says_both f one two First Second first_is second_is in
     let all_three = says_both f two three (λ s. First s × Second s) Third both third_is in
     let all_four = says_both f three four (λ s. (First s × Second s) × Third s) Fourth all_three fourth_is in

@@ -1,13 +1,12 @@
 -- Tied literals are those of one place, and an assignment can be chosen for each place.
-use Rattle.std.proofs.Common.{◌≡◌, ◌≢◌, ◌⊎◌, inl, inr, ℕ, zero, suc, ◌+◌, ◌-◌, ◌*◌, ◌<◌, ◌≤◌, nat_lt, nat_le, ◌==◌, ℤ, Bool, true, false, not, List, length, refl, sym, ap, subst, ◌∙◌, arith, if◌then◌else◌}
-use Rattle.std.specs.List.{Contains}
+use Rattle.std.proofs.Common.{◌≡◌, inl, inr, ℕ, zero, suc, ◌+◌, ◌-◌, ◌<◌, ◌≤◌, nat_lt, nat_le, ◌==◌, Bool, true, false, not, length, refl, sym, ap, ◌∙◌, arith, if◌then◌else◌}
 use Rattle.std.proofs.lemmas.Bool.Decides.{nat_tests}
 use Rattle.ep_base.specs.Reads.{same_bool}
 use Rattle.ep_base.specs.Runs.{IsAscending}
-use Rattle.cnf_core.specs.Clauses.{AgreeUpTo, IsTrueUnder}
+use Rattle.cnf_core.specs.Clauses.{AgreeUpTo}
 use Rattle.enc_var.proofs.Choices.{at_most, not_at_most, place_first, place_inner, place_last, place_single}
 use Rattle.enc_var.proofs.Places.{IsAtPlace, lt_back, lt_back_false, lt_false, lt_true, same_false, same_true}
-use Rattle.enc_var.specs.Decoding.{VariableLiterals, literal_holds, no, place_literal, yes}
+use Rattle.enc_var.specs.Decoding.{VariableLiterals, literal_holds, place_literal}
 use Rattle.enc_var.specs.Ties.{AreTied, IsTied}
 
 clash : {X : Type 0} (b : Bool) → b ≡ true → b ≡ false → X
@@ -153,8 +152,8 @@ single_at_place s e up one on = record {
   there = omega (arith, one);
   reaches = λ j low. absurd (omega (arith, low, one));
   is = λ q low.
-    ap (literal_holds s) (sym (place_single e.first (length e.domain) q (omega (arith, one)))) ∙ kept (s e.first) ∙ on
-    ∙ sym (same_true q 0 (omega (arith, one, low)));
+      ap (literal_holds s) (sym (place_single e.first (length e.domain) q (omega (arith, one)))) ∙ kept (s e.first) ∙ on
+      ∙ sym (same_true q 0 (omega (arith, one, low)));
 }
 
 -- the assignment that goes on from one, over the variables up to a number, so that the next variable is at a place

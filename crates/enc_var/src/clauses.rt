@@ -93,7 +93,13 @@ pub(crate) fn add_ties(alloc: Global, f: &mut Formula, first: u64, count: u64) -
     ensures { OnOk result (SaysMore f.old f.new (AreTied first count)) }
 {
     for k in 0..count - 2 {
-        add_tie(alloc, f, first + k, first + (k + 1), first + (count - 1) + k)?;
+        add_tie(
+            alloc,
+            f,
+            first + k,
+            first + (k + 1),
+            first + (count - 1) + k,
+        )?;
     }
     Ok(())
 }
@@ -112,7 +118,12 @@ fn add_unit(alloc: Global, f: &mut Formula, literal: Lit) -> Result<(), Memory>
 /// Adds the other literals of a variable with so many values, whose first one is the formula's last
 /// variable, and their clauses.
 #[tactic(auto, using(crate::proofs::Growing::grows_two))]
-pub(crate) fn add_literals(alloc: Global, f: &mut Formula, first: u64, count: u64) -> Result<(), Memory>
+pub(crate) fn add_literals(
+    alloc: Global,
+    f: &mut Formula,
+    first: u64,
+    count: u64,
+) -> Result<(), Memory>
     requires from_new { IsTrue f.old.from_new }
     requires first { first ≡ f.old.vars }
     requires variable { IsVariable first }

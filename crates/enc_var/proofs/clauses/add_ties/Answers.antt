@@ -1,4 +1,4 @@
-use Rattle.std.proofs.Common.{◌∙◌, ◌+◌, ◌-◌, arith}
+use Rattle.std.proofs.Common.{◌∙◌, arith}
 use Rattle.enc_var.proofs.Saying.{ties_all, ties_more}
 use Rattle.enc_var.proofs.clauses.add_ties.Goals as goal
 

@@ -1,6 +1,4 @@
 use Rattle.enc_var.proofs.NotesDecode.{notes_decode}
-use Rattle.enc_var.proofs.TiedPlaces.{chosen_tied}
-use Rattle.enc_var.proofs.Growing.{free_choice}
 use Rattle.enc_var.proofs.laws.notes_tell_the_numbers.Goals as goal
 
 pub returns : goal.returns

@@ -1,5 +1,4 @@
-use Rattle.std.proofs.Common.{◌≡◌, ◌+◌, ◌-◌, ◌*◌, ◌≤◌, ℕ, length, ap, subst, sym, ◌∙◌, arith}
-use Rattle.cnf_core.specs.declared.lit.TheConstants.{MOST_VARIABLE}
+use Rattle.std.proofs.Common.{◌+◌, ◌-◌, ◌*◌, length, ap, subst, sym, ◌∙◌}
 use Rattle.ep_base.proofs.RunSteps.{numbers_ascend}
 use Rattle.ep_base.specs.Runs.{IsAscending}
 use Rattle.enc_var.proofs.Growing.{has_room}
