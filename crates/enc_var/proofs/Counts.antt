@@ -48,7 +48,7 @@ parted_below xs v up i j d le below holds =
     (λ lt. let rises = up i j d lt below in is_below (slice_index_or xs i d) v (omega (arith, ints, rises, holds)))
     (λ e. subst (λ k. int_lt (slice_index_or xs k d) v ≡ true) (sym e) holds)
 
-none_pass : {X : Type 0} (p : X → Bool) (xs : List X) → AllWithin (λ y. p y ≡ false) xs 0 (length xs) → length (filter p xs) ≡ 0
+pub none_pass : {X : Type 0} (p : X → Bool) (xs : List X) → AllWithin (λ y. p y ≡ false) xs 0 (length xs) → length (filter p xs) ≡ 0
 none_pass p [] none = refl
 none_pass {X} p (x ∷ xs) none =
     let here : p x ≡ false = none 0 x (omega arith) (omega arith) in

@@ -2,3 +2,9 @@ pub mod Counts
 pub mod Choices
 pub mod VectorsDecoding
 pub mod NotesDecode
+pub mod Places
+pub mod TiedPlaces
+pub mod Saying
+pub mod Counting
+pub mod Growing
+pub mod GoingOn

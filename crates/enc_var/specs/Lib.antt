@@ -2,3 +2,4 @@ pub mod Decoding
 pub mod Layouts
 pub mod VariableInside
 pub mod Notes
+pub mod Ties

@@ -15,4 +15,4 @@ pub record IsVariableInside (v : Inside) : Type 0 where
   pub values : v.values.items ≡ v.domain
   pub ascending : IsAscending v.values.items
   pub first : IsVariable v.first
-  pub room : v.first + 2 * length v.values.items ≤ MOST_VARIABLE + 2
+  pub room : v.first + 2 * length v.values.items ≤ MOST_VARIABLE + 4

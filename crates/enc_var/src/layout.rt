@@ -44,7 +44,7 @@ impl Layout {
 
     /// Adds a variable with this domain, and answers its number. After want of memory nothing is
     /// promised of layout and formula.
-    pub fn new_var(&mut self, f: &mut Formula, domain: &Runs) -> Result<u64, Memory>
+    pub fn new_var(&mut self, alloc: Global, f: &mut Formula, domain: &Runs) -> Result<u64, Memory>
         requires from_new { IsTrue f.old.from_new }
         requires is_layout { IsLayoutOf self.old f.old }
         ensures number { IfOk result (λ var. var ≡ length self.old) }
@@ -54,10 +54,13 @@ impl Layout {
         ensures choice { OnOk result (HasFreeChoice f.old
             (record { domain = domain.now; first = f.old.vars + 1 }) f.new) }
     {
-        let _variables = &self.variables;
-        let _vars = f.vars();
-        let _runs = domain.runs();
-        Err(Memory)
+        let number = self.variables.as_slice().len() as u64;
+        // What each clause of a formula keeps, the continued assignments rest on.
+        let _clauses = f.clauses();
+        let variable = Variable::new(alloc, f, domain)?;
+        let _most = f.vars();
+        self.variables.push(variable)?;
+        Ok(number)
     }
 
     /// What is known of "the variable is at most `v`", by binary search.

@@ -2,9 +2,11 @@
 //! value an assignment gives it.
 #![tactic(auto)]
 
+mod clauses;
 mod known;
 mod laws;
 mod layout;
+mod listing;
 mod variables;
 
 pub use known::Known;

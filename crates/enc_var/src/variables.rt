@@ -1,14 +1,19 @@
 //! The literals of one variable.
 
-ghost use Rattle.std.specs.Prelude.{◌≡◌, ◌≤◌, ◌+◌, ◌*◌, length};
+ghost use Rattle.std.specs.Prelude.{◌≡◌, ◌≤◌, ◌<◌, ◌+◌, ◌-◌, ◌*◌, [], ◌∷◌, length, IsTrue, IfOk, OnOk};
 ghost use Rattle.cnf_core.specs.Literal.{IsVariable};
 ghost use Rattle.cnf_core.specs.declared.lit.TheConstants.{MOST_VARIABLE};
 ghost use Rattle.ep_base.specs.Runs.{IsAscending};
-ghost use Rattle.enc_var.specs.Decoding.{eq_of, le_of, note_of, place_literal as place_literal_of, values_below, values_up_to};
+ghost use Rattle.enc_var.specs.Decoding.{eq_of, le_of, note_of, place_literal as place_literal_of, values_below, values_up_to, yes};
+ghost use Rattle.enc_var.specs.Ties.{AreMet, Grows};
+ghost use Rattle.std.specs.List.{Contains};
 
+use crate::clauses::add_literals;
 use crate::known::Known;
-use cnf_core::Lit;
-use ep_base::Runs;
+use crate::listing::listed;
+use cnf_core::{Formula, Lit};
+use ep_base::{Memory, Runs};
+use std::alloc::Global;
 use std::marker::Model;
 
 /// A variable's values, and where its literals begin.
@@ -35,6 +40,31 @@ impl Model for Variable {
 }
 
 impl Variable {
+    /// A variable with this domain, whose literals are new variables of the formula, with their
+    /// clauses.
+    pub(crate) fn new(alloc: Global, f: &mut Formula, domain: &Runs) -> Result<Variable, Memory>
+        requires { IsTrue f.old.from_new }
+        ensures variable { IfOk result (λ variable.
+            variable ≡ record { domain = domain.now; first = f.old.vars + 1 }) }
+        ensures grows { OnOk result (Grows f.old f.new (1 + (2 * length domain.now - 4))
+            (AreMet (f.old.vars + 1) (length domain.now))) }
+        ensures fixed { OnOk result
+            (length domain.now ≡ 1 → Contains f.new.clauses (yes (f.old.vars + 1) ∷ [])) }
+        ensures ascending { OnOk result (IsAscending domain.now) }
+    {
+        let values = listed(alloc, domain)?;
+        let domain = domain.copy(alloc)?;
+        let first = f.fresh()?;
+        let count = values.as_slice().len() as u64;
+        add_literals(alloc, f, first, count)?;
+        let _most = f.vars();
+        Ok(Variable {
+            domain,
+            values,
+            first,
+        })
+    }
+
     /// What is known of "it is at most `v`", by binary search.
     pub fn le(&self, v: i64) -> Known
         ensures { result ≡ le_of self.now v }
@@ -64,6 +94,7 @@ impl Variable {
 
     /// The literal that says that it is `v`, one of its values.
     pub fn note(&self, v: i64) -> Lit
+        requires { Contains self.now.domain v }
         ensures { result ≡ note_of self.now v }
     {
         let place = count_below(&self.values, v) as u64;
@@ -82,8 +113,8 @@ impl Variable {
 #[tactic(auto, using(crate::proofs::Choices::place_single, crate::proofs::Choices::place_first, crate::proofs::Choices::place_last, crate::proofs::Choices::place_inner))]
 fn place_literal(first: u64, count: u64, place: u64) -> Lit
     requires first { IsVariable first }
-    requires room { first + 2 * count ≤ MOST_VARIABLE + 2 }
-    requires place { place ≤ count }
+    requires room { first + 2 * count ≤ MOST_VARIABLE + 4 }
+    requires place { place < count }
     ensures { result ≡ place_literal_of first count place }
 {
     if count <= 1 {
