@@ -8,3 +8,4 @@ pub mod Arms
 pub mod Hiding
 pub mod PlaceLaws
 pub mod StatementSteps
+pub mod Readings

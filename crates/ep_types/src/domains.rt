@@ -2,12 +2,14 @@
 
 ghost use Rattle.std.specs.Prelude.{◌≡◌, false, OnOk};
 ghost use Rattle.ep_tree.specs.Views.{domain_tree, domains_of};
-ghost use Rattle.ep_types.specs.Checking.{Says, check_domain, check_domains};
+ghost use Rattle.ep_types.specs.Checking.{Says, check_domain, check_domains, check_readings};
+ghost use Rattle.ep_types.specs.Hiding.{Hides};
 ghost use Rattle.ep_types.specs.Meanings.{IsSame, context_of};
 
 use crate::errors::StaticError;
 use crate::names::Names;
 use crate::rules;
+use ep_base::Name;
 use ep_tree::{Domain, DomainKind, ValueType};
 
 /// The type of a domain, whose ranges may be open or may not.
@@ -62,4 +64,25 @@ fn domain_types<'a>(
         types.push(ty)?;
     }
     Ok(types)
+}
+
+/// Reads a domain once for each of some names, which hide what they stood for, and says whether each
+/// reading is scalar.
+pub(crate) fn read_domain<'a>(
+    names: &mut Names<'a>,
+    quantified: &'a [Name],
+    domain: &'a Domain,
+) -> Result<bool, StaticError>
+    ensures hides { OnOk result (Hides names.old names.new) }
+    ensures says { Says (λ b. (b, context_of names.new)) result
+        (check_readings quantified.now (λ c. check_domain c false (domain_tree domain.now))
+        (context_of names.old)) }
+{
+    let mut scalar = true;
+    for name in quantified {
+        let ty = domain_type(names, false, domain)?;
+        scalar = rules::both(scalar, rules::is_integer(ty));
+        names.hide(name, rules::quantified_name(ty))?;
+    }
+    Ok(scalar)
 }

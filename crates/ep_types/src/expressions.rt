@@ -1,16 +1,18 @@
 //! The types of expressions and domains.
 
 ghost use Rattle.std.specs.Prelude.{◌≡◌, OnOk};
-ghost use Rattle.ep_tree.specs.Views.{expr_tree};
-ghost use Rattle.ep_types.specs.Checking.{Says, check};
+ghost use Rattle.ep_tree.specs.Views.{expr_tree, expr_trees, terms_of};
+ghost use Rattle.ep_types.specs.Checking.{Says, check, check_all, check_terms};
 ghost use Rattle.ep_types.specs.Meanings.{IsSame, context_of};
 
+use crate::domains::domain_type;
 use crate::errors::StaticError;
 use crate::names::Names;
 use crate::rules;
 use ep_tree::{Expr, Kind, ValueType};
 
 /// The type of an expression, where decision variables may stand or may not.
+#[cycle(checking)]
 #[tactic(auto, using(crate::proofs::Said::passed_on, crate::proofs::Said::memory_says, crate::proofs::Scopes::same_again, crate::proofs::Scopes::same_after), unfolding(crate::specs::Checking::check, ep_tree::specs::Views::kind_tree))]
 pub(crate) fn type_of<'a>(
     names: &mut Names<'a>,
@@ -50,6 +52,10 @@ pub(crate) fn type_of<'a>(
             };
             rules::gives(place, flat, rules::is_matrix(ty))
         }
+        Kind::Add(terms) => {
+            let types = term_types(names, decisions, terms)?;
+            rules::gives(place, ValueType::Int, rules::all_integer(&types))
+        }
         Kind::Binary(op, left, right) => {
             let one = type_of(names, decisions, left)?;
             let may_decide = decisions && !rules::is_power(*op);
@@ -66,11 +72,24 @@ pub(crate) fn type_of<'a>(
             let other = type_of(names, decisions, right)?;
             rules::gives(place, ValueType::Bool, rules::are_lists(one, other))
         }
+        Kind::InDomain(e, domain) => {
+            let one = type_of(names, decisions, e)?;
+            let other = domain_type(names, false, domain)?;
+            rules::both_integer(place, one, other)
+        }
         Kind::InSet(e, m) => {
             let one = type_of(names, decisions, e)?;
             let other = type_of(names, decisions, m)?;
             let holds = rules::is_integer(one) && rules::is_matrix(other);
             rules::gives(place, ValueType::Bool, holds)
+        }
+        Kind::And(parts) => {
+            let types = types_of(names, decisions, parts)?;
+            rules::gives(place, ValueType::Bool, rules::all_boolean(&types))
+        }
+        Kind::Or(parts) => {
+            let types = types_of(names, decisions, parts)?;
+            rules::gives(place, ValueType::Bool, rules::all_boolean(&types))
         }
         Kind::Fold(op, m) => {
             let ty = type_of(names, decisions, m)?;
@@ -100,4 +119,44 @@ pub(crate) fn type_of<'a>(
         }
         _ => Err(StaticError::Memory),
     }
+}
+
+/// The types of some expressions.
+#[cycle(checking)]
+#[tactic(auto, using(crate::proofs::Said::memory_says))]
+fn types_of<'a>(
+    names: &mut Names<'a>,
+    decisions: bool,
+    parts: &'a [Expr],
+) -> Result<Vec<ValueType>, StaticError>
+    ensures same { OnOk result (IsSame names.old names.new) }
+    ensures says { Says (λ v. v.items) result
+        (check_all (context_of names.old) decisions (expr_trees parts.now)) }
+{
+    let mut types = Vec::with_capacity(names.alloc, parts.len())?;
+    for part in parts {
+        let ty = type_of(names, decisions, part)?;
+        types.push(ty)?;
+    }
+    Ok(types)
+}
+
+/// The types of the terms of a chain.
+#[cycle(checking)]
+#[tactic(auto, using(crate::proofs::Said::memory_says))]
+fn term_types<'a>(
+    names: &mut Names<'a>,
+    decisions: bool,
+    terms: &'a [(bool, Expr)],
+) -> Result<Vec<ValueType>, StaticError>
+    ensures same { OnOk result (IsSame names.old names.new) }
+    ensures says { Says (λ v. v.items) result
+        (check_terms (context_of names.old) decisions (terms_of terms.now)) }
+{
+    let mut types = Vec::with_capacity(names.alloc, terms.len())?;
+    for term in terms {
+        let ty = type_of(names, decisions, &term.1)?;
+        types.push(ty)?;
+    }
+    Ok(types)
 }

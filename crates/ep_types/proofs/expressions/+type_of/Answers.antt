@@ -1,5 +1,0 @@
-use Rattle.ep_types.proofs.Said.{memory_says}
-use Rattle.ep_types.proofs.expressions.+type_of.Goals as goal
-
-pub returns-in_default-clause-says : goal.returns-in_default-clause-says
-returns-in_default-clause-says t c = memory_says _
