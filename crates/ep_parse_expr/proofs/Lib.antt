@@ -16,3 +16,4 @@ pub mod AgainJunctions
 pub mod AgainSums
 pub mod AgainComparisons
 pub mod AgainLists
+pub mod AgainStarts
