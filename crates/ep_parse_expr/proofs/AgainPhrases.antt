@@ -172,6 +172,32 @@ some_domain (matrix_domain p ds d) = omega arith
 pub enough : (n less : ℕ) → 1 ≤ n → n ≤ less → nat_lt 1 (suc less) ≡ true
 enough n less h k = let m : 1 ≤ less = omega (arith, h, k) in grind (arith, nat_tests)
 
+-- ---- the end of a list
+
+-- the domain of a list's indices, and its bracket
+abbrev pub Tail : IndexDomain → Phrase
+Tail d = SpellsIndexDomain d followed_by Is (a_word (codes "]"))
+
+-- what is so of all that begins with a semicolon or a closing bracket is so of the end of a list
+pub tail_is : (Q : List Lexeme → Type 0) → ((p : Place) (ls : List Lexeme) → Q (lexeme p (a_word (codes ";")) ∷ ls)) → ((p : Place) (ls : List Lexeme) → Q (lexeme p (a_word (codes "]")) ∷ ls))
+    → (d : IndexDomain) (rest front : List Lexeme) → Tail d front → Q (front ++ rest)
+unfolding SpellsNode
+tail_is Q semicolon bracket unstated rest front h =
+    subst (λ x. Q (x ++ rest)) (sym (h.2 ∙ ap (λ x. x ++ h.1) h.3 ∙ h.4.1)) (bracket h.4.0 rest)
+tail_is Q semicolon bracket (over d) rest front h =
+    let c = behind_word_cut (codes ";") (SpellsDomain set_operations d) h.0 h.3 in
+    subst (λ x. Q (x ++ rest)) (sym (h.2 ∙ ap (λ x. x ++ h.1) c.parts)) (semicolon c.place ((c.rest ++ h.1) ++ rest))
+
+-- the same of the end of a list with further items
+pub more_is : (Q : List Lexeme → Type 0) → ((p : Place) (ls : List Lexeme) → Q (lexeme p (a_word (codes ",")) ∷ ls)) → ((p : Place) (ls : List Lexeme) → Q (lexeme p (a_word (codes ";")) ∷ ls))
+    → ((p : Place) (ls : List Lexeme) → Q (lexeme p (a_word (codes "]")) ∷ ls)) → (es : ExprTrees) (d : IndexDomain) (rest front : List Lexeme) → (SpellsMore es followed_by Tail d) front → Q (front ++ rest)
+unfolding SpellsNode
+more_is Q comma semicolon bracket no_trees d rest front h =
+    subst (λ x. Q (x ++ rest)) (sym (h.2 ∙ ap (λ x. x ++ h.1) h.3)) (tail_is Q semicolon bracket d rest h.1 h.4)
+more_is Q comma semicolon bracket (tree_and e es) d rest front h =
+    let c = behind_word_cut (codes ",") (Spells implications e followed_by SpellsMore es) h.0 h.3 in
+    subst (λ x. Q (x ++ rest)) (sym (h.2 ∙ ap (λ x. x ++ h.1) c.parts)) (comma c.place ((c.rest ++ h.1) ++ rest))
+
 -- ---- parts
 
 module _ (less : ℕ) (low : Lower) (good : AreComplete less low) where
@@ -191,31 +217,11 @@ module _ (less : ℕ) (low : Lower) (good : AreComplete less low) where
       ∙ ap (λ r. r and_then k) (good.domain set_operations d h.0 (h.1 ++ rest) h.3 small (ends h.1 h.4))
       ∙ on h.1 h.4
 
-  -- ---- the end of a list
-
-  -- the domain of a list's indices, and its bracket
-  abbrev pub Tail : IndexDomain → Phrase
-  Tail d = SpellsIndexDomain d followed_by Is (a_word (codes "]"))
-
-  -- what is so of all that begins with a semicolon or a closing bracket is so of the end of a list
-  pub tail_is : (Q : List Lexeme → Type 0) → ((p : Place) (ls : List Lexeme) → Q (lexeme p (a_word (codes ";")) ∷ ls)) → ((p : Place) (ls : List Lexeme) → Q (lexeme p (a_word (codes "]")) ∷ ls))
-      → (d : IndexDomain) (rest front : List Lexeme) → Tail d front → Q (front ++ rest)
-  unfolding SpellsNode
-  tail_is Q semicolon bracket unstated rest front h =
-      subst (λ x. Q (x ++ rest)) (sym (h.2 ∙ ap (λ x. x ++ h.1) h.3 ∙ h.4.1)) (bracket h.4.0 rest)
-  tail_is Q semicolon bracket (over d) rest front h =
-      let c = behind_word_cut (codes ";") (SpellsDomain set_operations d) h.0 h.3 in
-      subst (λ x. Q (x ++ rest)) (sym (h.2 ∙ ap (λ x. x ++ h.1) c.parts)) (semicolon c.place ((c.rest ++ h.1) ++ rest))
-
-  -- the same of the end of a list with further items
-  pub more_is : (Q : List Lexeme → Type 0) → ((p : Place) (ls : List Lexeme) → Q (lexeme p (a_word (codes ",")) ∷ ls)) → ((p : Place) (ls : List Lexeme) → Q (lexeme p (a_word (codes ";")) ∷ ls))
-      → ((p : Place) (ls : List Lexeme) → Q (lexeme p (a_word (codes "]")) ∷ ls)) → (es : ExprTrees) (d : IndexDomain) (rest front : List Lexeme) → (SpellsMore es followed_by Tail d) front → Q (front ++ rest)
-  unfolding SpellsNode
-  more_is Q comma semicolon bracket no_trees d rest front h =
-      subst (λ x. Q (x ++ rest)) (sym (h.2 ∙ ap (λ x. x ++ h.1) h.3)) (tail_is Q semicolon bracket d rest h.1 h.4)
-  more_is Q comma semicolon bracket (tree_and e es) d rest front h =
-      let c = behind_word_cut (codes ",") (Spells implications e followed_by SpellsMore es) h.0 h.3 in
-      subst (λ x. Q (x ++ rest)) (sym (h.2 ∙ ap (λ x. x ++ h.1) c.parts)) (comma c.place ((c.rest ++ h.1) ++ rest))
+  ends_over : (make : IndexDomain → ExprTree) (d : DomainTree) (low_enough : Bool) (p q : Place) (f rest : List Lexeme) → low_enough ≡ true
+      → low.domain set_operations (f ++ lexeme q (a_word (codes "]")) ∷ rest) ≡ took d (lexeme q (a_word (codes "]")) ∷ rest)
+      → list_end low_enough low make (lexeme p (a_word (codes ";")) ∷ (f ++ lexeme q (a_word (codes "]")) ∷ rest)) ≡ took (make (over d)) rest
+  unfolding index_domain_from says word_from
+  ends_over make d low_enough p q f rest enough_here again = rw (enough_here, again) refl
 
   pub list_end_again : (make : IndexDomain → ExprTree) (d : IndexDomain) (low_enough : Bool) (rest : List Lexeme) → index_height d ≤ less → (1 ≤ less → low_enough ≡ true)
       → Again (Tail d) (list_end low_enough low make) (make d) rest
@@ -229,10 +235,5 @@ module _ (less : ℕ) (low : Lower) (good : AreComplete less low) where
       ap (λ x. x ++ rest) h.2 ∙ append_assoc h.0 h.1 rest ∙ ap (λ x. x ++ (h.1 ++ rest)) c.parts
       ∙ ap (λ x. lexeme c.place (a_word (codes ";")) ∷ (c.rest ++ (x ++ rest))) h.4.1 in
       ap (list_end low_enough low make) cut
-      ∙ ends_over d low_enough c.place h.4.0 c.rest (enough_for (omega (arith, some_domain d, small)))
+      ∙ ends_over make d low_enough c.place h.4.0 c.rest rest (enough_for (omega (arith, some_domain d, small)))
       (good.domain set_operations d c.rest (last ∷ rest) c.spelled small (bracket_closes.domain h.4.0 rest))
-    where
-      ends_over : (d : DomainTree) (low_enough : Bool) (p q : Place) (f : List Lexeme) → low_enough ≡ true
-          → low.domain set_operations (f ++ lexeme q (a_word (codes "]")) ∷ rest) ≡ took d (lexeme q (a_word (codes "]")) ∷ rest)
-          → list_end low_enough low make (lexeme p (a_word (codes ";")) ∷ (f ++ lexeme q (a_word (codes "]")) ∷ rest)) ≡ took (make (over d)) rest
-      ends_over d low_enough p q f enough_here again = rw (enough_here, again) refl

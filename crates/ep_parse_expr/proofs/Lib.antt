@@ -17,3 +17,4 @@ pub mod AgainSums
 pub mod AgainComparisons
 pub mod AgainLists
 pub mod AgainStarts
+pub mod AgainPhrases
