@@ -18,3 +18,5 @@ pub mod AgainComparisons
 pub mod AgainLists
 pub mod AgainStarts
 pub mod AgainPhrases
+pub mod AgainOpened
+pub mod AgainBrackets
