@@ -20,3 +20,4 @@ pub mod AgainStarts
 pub mod AgainPhrases
 pub mod AgainOpened
 pub mod AgainBrackets
+pub mod AgainOperands
