@@ -21,3 +21,4 @@ pub mod AgainPhrases
 pub mod AgainOpened
 pub mod AgainBrackets
 pub mod AgainOperands
+pub mod AgainReads
