@@ -22,3 +22,4 @@ pub mod AgainOpened
 pub mod AgainBrackets
 pub mod AgainOperands
 pub mod AgainReads
+pub mod AgainRanges
