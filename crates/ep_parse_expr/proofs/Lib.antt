@@ -23,3 +23,4 @@ pub mod AgainBrackets
 pub mod AgainOperands
 pub mod AgainReads
 pub mod AgainRanges
+pub mod AgainDomains
