@@ -36,10 +36,13 @@ generator_cut xs d M f h =
     let a = h.0 in
     let w = h.4.0 in
     let x = h.4.4.0 in
-    let m = h.4.4.1 in
-    (a ++ (w ++ x), m,
-    h.2 ∙ ap (λ y. a ++ y) (h.4.2 ∙ ap (λ y. w ++ y) h.4.4.2 ∙ sym (append_assoc w x m)) ∙ sym (append_assoc a (w ++ x) m),
-    (a, w ++ x, refl, h.3, (w, x, refl, h.4.3, h.4.4.3)), h.4.4.4)
+    let m = h.4.4.1 in (
+      a ++ (w ++ x),
+      m,
+      h.2 ∙ ap (λ y. a ++ y) (h.4.2 ∙ ap (λ y. w ++ y) h.4.4.2 ∙ sym (append_assoc w x m)) ∙ sym (append_assoc a (w ++ x) m),
+      (a, w ++ x, refl, h.3, (w, x, refl, h.4.3, h.4.4.3)),
+      h.4.4.4,
+    )
 
 generator_colon : (xs : List Name) (d : DomainTree) (f tail : List Lexeme) → OneGenerator xs d f → colon_comes true (f ++ tail) ≡ true
 unfolding colon_comes

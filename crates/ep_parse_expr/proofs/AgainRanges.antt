@@ -53,10 +53,13 @@ span_cut a b M f h =
     let u = h.0 in
     let w = h.4.0 in
     let x = h.4.4.0 in
-    let m = h.4.4.1 in
-    (u ++ (w ++ x), m,
-    h.2 ∙ ap (λ y. u ++ y) (h.4.2 ∙ ap (λ y. w ++ y) h.4.4.2 ∙ sym (append_assoc w x m)) ∙ sym (append_assoc u (w ++ x) m),
-    (u, w ++ x, refl, h.3, (w, x, refl, h.4.3, h.4.4.3)), h.4.4.4)
+    let m = h.4.4.1 in (
+      u ++ (w ++ x),
+      m,
+      h.2 ∙ ap (λ y. u ++ y) (h.4.2 ∙ ap (λ y. w ++ y) h.4.4.2 ∙ sym (append_assoc w x m)) ∙ sym (append_assoc u (w ++ x) m),
+      (u, w ++ x, refl, h.3, (w, x, refl, h.4.3, h.4.4.3)),
+      h.4.4.4,
+    )
 
 module _ (less : ℕ) (low : Lower) (good : AreComplete less low) where
   end_again : (first b : End) (rest : List Lexeme) → end_height b ≤ less → BehindRange rest → Again (SpellsEnd b) (end_from low first) (of_span first b) rest

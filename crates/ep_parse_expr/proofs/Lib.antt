@@ -24,3 +24,4 @@ pub mod AgainOperands
 pub mod AgainReads
 pub mod AgainRanges
 pub mod AgainDomains
+pub mod AgainAll

@@ -3,6 +3,8 @@
 
 mod calls;
 mod errors;
+mod laws;
 
 pub use calls::{parse_domain, parse_expr};
 pub use errors::ParseError;
+pub use laws::tokens_spell_one_tree;
