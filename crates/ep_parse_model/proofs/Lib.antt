@@ -23,3 +23,4 @@ mod TokenFacts
 mod SmallLaws
 mod EarlyLaws
 pub mod OneAnswer
+mod GroupsAgain
