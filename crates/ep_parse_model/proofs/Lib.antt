@@ -23,4 +23,5 @@ mod TokenFacts
 mod SmallLaws
 mod EarlyLaws
 pub mod OneAnswer
-mod GroupsAgain
+pub mod GroupsAgain
+pub mod TextsAgain
