@@ -8,7 +8,10 @@ use Rattle.ep_tree.specs.Heights.{domain_height, height}
 use Rattle.ep_tree.specs.Phrases.{Is, Lexeme, Phrase, Saying, StartsAt, a_word, ◌followed_by◌}
 use Rattle.ep_tree.specs.Spelling.{DomainLevel, Level, Spells, SpellsDomain, comparisons, conjunctions, disjunctions, domains, ends_open, implications, powers, primaries, products, rank, reads, set_operations, set_parts, sums, unaries}
 use Rattle.ep_tree.specs.Trees.{DomainTree, ExprTree}
-use Rattle.ep_parse_expr.specs.Readers.{Lower, Read, chosen, comparison_words, grown, grown_from, growing, implication_words, next_in, only_word, power_words, product_words, says, set_words, sign_words, took, word_from, wrong, ◌and_then◌}
+use Rattle.ep_parse_expr.specs.DomainReaders.{set_words}
+use Rattle.ep_parse_expr.specs.OperandReaders.{Lower}
+use Rattle.ep_parse_expr.specs.OperatorReaders.{comparison_words, implication_words, only_word, power_words, product_words, sign_words}
+use Rattle.ep_parse_expr.specs.Readers.{Read, chosen, grown, grown_from, growing, next_in, says, took, word_from, wrong, ◌and_then◌}
 
 -- a token that says this, at a place
 abbrev pub lexeme : Place → Saying → Lexeme

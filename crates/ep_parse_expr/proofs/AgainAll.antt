@@ -8,7 +8,11 @@ use Rattle.ep_tree.specs.Heights.{domain_height, height}
 use Rattle.ep_tree.specs.Phrases.{Lexeme}
 use Rattle.ep_tree.specs.Spelling.{DomainLevel, Level, Spells, SpellsDomain, comparisons, conjunctions, disjunctions, domain_rank, domains, implications, own_domain_level, own_level, powers, primaries, products, rank, reads, set_operations, set_parts, sums, unaries}
 use Rattle.ep_tree.specs.Trees.{DomainTree, ExprTree}
-use Rattle.ep_parse_expr.specs.Readers.{Lower, Read, at_level, domain_at_level, expr_from, high, next_in, says, some_domain_from, took, wrong}
+use Rattle.ep_parse_expr.specs.DomainReaders.{domain_at_level}
+use Rattle.ep_parse_expr.specs.OperandReaders.{Lower}
+use Rattle.ep_parse_expr.specs.OperatorReaders.{at_level}
+use Rattle.ep_parse_expr.specs.Readers.{Read, high, next_in, says, took, wrong}
+use Rattle.ep_parse_expr.specs.TreeReaders.{expr_from, some_domain_from}
 use Rattle.ep_parse_expr.proofs.Again.{AreComplete, DomainEnds, DomainEndsAt, EndsBefore, NoImplications}
 use Rattle.ep_parse_expr.proofs.AgainComparisons.{comparison_again}
 use Rattle.ep_parse_expr.proofs.AgainDomains.{any_domain_again, operations_again, part_again}

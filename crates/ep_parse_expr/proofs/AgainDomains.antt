@@ -8,7 +8,9 @@ use Rattle.ep_tree.specs.Phrases.{Is, Lexeme, Phrase, Says, StartsAt, a_word, �
 use Rattle.ep_tree.specs.Spelling.{BetweenDomains, DomainLevel, MatrixHead, MatrixTail, SpellsDomain, SpellsDomainNode, SpellsIndexDomains, SpellsMoreIndexDomains, SpellsNode, SpellsRanges, domain_rank, domains, own_domain_level, set_operations, set_parts, set_word}
 use Rattle.ep_tree.specs.Trees.{DomainTree, Domains, bool, domain_and, group_domain, int, matrix_domain, named_domain, no_domains, place_of_domain, ranges, set_domain}
 use Rattle.ep_tree.specs.declared.syntax.SetOp.{SetOp}
-use Rattle.ep_parse_expr.specs.Readers.{Lower, Read, Reader, another_index_domain, another_operation, any_domain_from, as_domains, behind, chosen, domain_begun_from, domain_open_from, domain_openings, domain_part_from, grown, if_low, index_domain_behind, kept, looked_up, matrix_follows, matrix_from, matrix_head_from, more_from, next_in, operations_from, others_from, place_next, ranges_from, says, set_words, took, word_from, ◌and_then◌}
+use Rattle.ep_parse_expr.specs.DomainReaders.{another_index_domain, another_operation, any_domain_from, as_domains, domain_begun_from, domain_open_from, domain_openings, domain_part_from, index_domain_behind, matrix_follows, matrix_from, matrix_head_from, operations_from, place_next, ranges_from, set_words}
+use Rattle.ep_parse_expr.specs.OperandReaders.{Lower, if_low}
+use Rattle.ep_parse_expr.specs.Readers.{Read, Reader, behind, chosen, grown, kept, looked_up, more_from, next_in, others_from, says, took, word_from, ◌and_then◌}
 use Rattle.ep_parse_expr.proofs.Again.{AreComplete, DomainEnds, GrownTo, around_cut, around_rest, behind_word_cut, below_again, grown_end, grown_more, grown_start, lexeme, same_place}
 use Rattle.ep_parse_expr.proofs.AgainPhrases.{Again, bracket_closes, comma_closes, domain_then, enough, group_closes, last_ends_domain, some_domain, word_then}
 use Rattle.ep_parse_expr.proofs.AgainRanges.{ranges_again}

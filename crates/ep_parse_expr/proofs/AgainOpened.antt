@@ -11,7 +11,8 @@ use Rattle.ep_tree.specs.Trees.{DomainTree, ExprTree, absolute, binary, folded, 
 use Rattle.ep_tree.specs.declared.syntax.BinaryOp.{BinaryOp}
 use Rattle.ep_tree.specs.declared.syntax.FoldOp.{FoldOp}
 use Rattle.ep_tree.specs.declared.syntax.QuantOp.{QuantOp}
-use Rattle.ep_parse_expr.specs.Readers.{Lower, OnePart, Opening, Reader, ThreeParts, a_bar, a_bracket, a_greatest, a_group, a_least, a_minus, a_negation, a_quantifier, a_sum, a_table, a_truth, and_part, begun_from, call_from, call_of_three_from, call_of_two_from, chosen, closed_by, looked_up, names_from, of_one, of_three, one_part, open_from, opened_from, openings, operand_from, quantifier_from, says, sum_from, table_from, three_parts, took, word_from, ◌and_then◌}
+use Rattle.ep_parse_expr.specs.OperandReaders.{Lower, OnePart, Opening, ThreeParts, a_bar, a_bracket, a_greatest, a_group, a_least, a_minus, a_negation, a_quantifier, a_sum, a_table, a_truth, and_part, begun_from, call_from, call_of_three_from, call_of_two_from, closed_by, of_one, of_three, one_part, open_from, opened_from, openings, operand_from, quantifier_from, sum_from, table_from, three_parts}
+use Rattle.ep_parse_expr.specs.Readers.{Reader, chosen, looked_up, names_from, says, took, word_from, ◌and_then◌}
 use Rattle.ep_parse_expr.proofs.Again.{AreComplete, EndsBefore, NoImplications, NoReads, behind_word_cut, lexeme}
 use Rattle.ep_parse_expr.proofs.AgainPhrases.{Again, EndsExpr, bar_closes, closed_again, comma_closes, domain_then, dot_closes, enough, expr_then, group_closes, last_ends, names_cut, names_then, word_ends, word_ends_domain, word_then}
 

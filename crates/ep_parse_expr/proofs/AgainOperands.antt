@@ -10,7 +10,8 @@ use Rattle.ep_tree.specs.Trees.{ExprTree, absolute, all_different, all_of, any_o
 use Rattle.ep_tree.specs.declared.syntax.BinaryOp.{BinaryOp}
 use Rattle.ep_tree.specs.declared.syntax.FoldOp.{FoldOp}
 use Rattle.ep_tree.specs.declared.syntax.QuantOp.{QuantOp}
-use Rattle.ep_parse_expr.specs.Readers.{Lower, a_bar, a_greatest, a_group, a_least, a_minus, a_negation, a_quantifier, a_sum, a_table, all_different_in, begun_from, bracket_from, counts_at_least, counts_at_most, counts_in, factorial_of, flatten_of, folded_by, looked_up, of_one, of_three, one_part, open_from, opened_from, operand_from, three_parts, to_int_of, took}
+use Rattle.ep_parse_expr.specs.OperandReaders.{Lower, a_bar, a_greatest, a_group, a_least, a_minus, a_negation, a_quantifier, a_sum, a_table, all_different_in, begun_from, bracket_from, counts_at_least, counts_at_most, counts_in, factorial_of, flatten_of, folded_by, of_one, of_three, one_part, open_from, opened_from, operand_from, three_parts, to_int_of}
+use Rattle.ep_parse_expr.specs.Readers.{looked_up, took}
 use Rattle.ep_parse_expr.proofs.Again.{AreComplete, EndsBefore, behind_word_cut, lexeme}
 use Rattle.ep_parse_expr.proofs.AgainBrackets.{comprehension_again, literal_again}
 use Rattle.ep_parse_expr.proofs.AgainOpened.{bar_again, call_again, group_again, minus_again, negation_again, one_of_two_again, quantifier_again, sum_call_again, sum_over_again, table_again, three_again, two_of_two_again, word_opens}

@@ -8,7 +8,8 @@ use Rattle.ep_tree.specs.Heights.{domain_height, height, highest, index_height}
 use Rattle.ep_tree.specs.Phrases.{Is, Lexeme, Names, Phrase, a_name, a_word, ◌followed_by◌}
 use Rattle.ep_tree.specs.Spelling.{Spells, SpellsDomain, SpellsIndexDomain, SpellsMore, SpellsNode, implications, rank, set_operations, unaries}
 use Rattle.ep_tree.specs.Trees.{DomainTree, Domains, ExprTree, ExprTrees, IndexDomain, Ranges, bool, domain_and, group_domain, int, matrix_domain, named_domain, no_trees, over, ranges, set_domain, tree_and, unstated}
-use Rattle.ep_parse_expr.specs.Readers.{Lower, Read, Reader, behind, behind_comma, chosen, closed_by, colon_comes, colon_or, expression_next, if_low, index_domain_from, list_end, looked_up, more_from, name_from, name_in, names_from, next_in, others_from, says, took, word_from, ◌and_then◌}
+use Rattle.ep_parse_expr.specs.OperandReaders.{Lower, closed_by, colon_comes, colon_or, expression_next, if_low, index_domain_from, list_end}
+use Rattle.ep_parse_expr.specs.Readers.{Read, Reader, behind, behind_comma, chosen, looked_up, more_from, name_from, name_in, names_from, next_in, others_from, says, took, word_from, ◌and_then◌}
 use Rattle.ep_parse_expr.proofs.Again.{AreComplete, DomainEnds, EndsBefore, NoImplications, behind_word_cut, lexeme, word_again}
 use Rattle.ep_parse_expr.proofs.AgainStarts.{Start, colon_unseen, starts}
 

@@ -7,7 +7,9 @@ use Rattle.ep_tree.specs.Heights.{end_height, height, highest_range}
 use Rattle.ep_tree.specs.Phrases.{Lexeme, Phrase, Says, a_word, ◌followed_by◌}
 use Rattle.ep_tree.specs.Spelling.{Spells, SpellsEnd, SpellsMoreRanges, SpellsNode, SpellsRanges, implications, rank}
 use Rattle.ep_tree.specs.Trees.{End, ExprTree, Ranges, end_at, no_end, no_ranges, one_and, ranges, span_and}
-use Rattle.ep_parse_expr.specs.Readers.{Lower, RangeRead, Reader, as_ranges, behind, behind_comma, chosen, end_from, expression_next, looked_up, more_from, of_number, of_span, others_from, range_from, ranges_from, says, took, word_from, ◌and_then◌}
+use Rattle.ep_parse_expr.specs.DomainReaders.{RangeRead, as_ranges, end_from, of_number, of_span, range_from, ranges_from}
+use Rattle.ep_parse_expr.specs.OperandReaders.{Lower, expression_next}
+use Rattle.ep_parse_expr.specs.Readers.{Reader, behind, behind_comma, chosen, looked_up, more_from, others_from, says, took, word_from, ◌and_then◌}
 use Rattle.ep_parse_expr.proofs.Again.{AreComplete, NoImplications, behind_word_cut, lexeme}
 use Rattle.ep_parse_expr.proofs.AgainPhrases.{Again, comma_closes, group_closes, span_closes}
 use Rattle.ep_parse_expr.proofs.AgainStarts.{expression_seen, starts, word_unseen}

@@ -9,7 +9,9 @@ use Rattle.ep_tree.specs.Phrases.{Lexeme, Says, StartsAt, When, a_word, ◌follo
 use Rattle.ep_tree.specs.Spelling.{At, BetweenIndices, Level, Spells, SpellsIndices, SpellsLastIndices, SpellsMoreIndices, SpellsNode, binary_level, comparisons, conjunctions, disjunctions, has_every, implications, own_level, powers, primaries, products, rank, reads, sums, takes_own_group, unaries}
 use Rattle.ep_tree.specs.Trees.{ExprTree, Indices, absolute, all_different, all_of, any_of, at_least, at_most, binary, chain, compare, comprehension, every_and, factorial, flatten, folded, gcc, group, in_domain, in_set, index_and, lex, literal, minus, named, negation, no_indices, number, place_of, quantified, read, table, to_int, truth}
 use Rattle.ep_tree.specs.declared.syntax.BinaryOp.{BinaryOp}
-use Rattle.ep_parse_expr.specs.Readers.{Index, Lower, Read, Reader, another_index, another_read, as_indices, behind, closed_by, grown, index_from, kept, kept_or, looked_up, more_from, operand_from, others_from, read_from, says, takes_group, took, unary_from, ◌and_then◌}
+use Rattle.ep_parse_expr.specs.OperandReaders.{Lower, closed_by, operand_from}
+use Rattle.ep_parse_expr.specs.OperatorReaders.{Index, another_index, another_read, as_indices, index_from, read_from, takes_group, unary_from}
+use Rattle.ep_parse_expr.specs.Readers.{Read, Reader, behind, grown, kept, kept_or, looked_up, more_from, others_from, says, took, ◌and_then◌}
 use Rattle.ep_parse_expr.proofs.Again.{AreComplete, EndsBefore, GrownTo, NoImplications, around_cut, around_rest, behind_word_cut, below_again, grown_end, grown_more, grown_start, lexeme, same_place}
 use Rattle.ep_parse_expr.proofs.AgainOperands.{operand_again}
 use Rattle.ep_parse_expr.proofs.AgainPhrases.{Again, bracket_closes, closed_again, comma_closes}

@@ -13,7 +13,8 @@ use Rattle.ep_tree.specs.Trees.{ExprTree, absolute, all_different, all_of, any_o
 use Rattle.ep_tree.specs.declared.syntax.BinaryOp.{BinaryOp}
 use Rattle.ep_tree.specs.declared.syntax.FoldOp.{FoldOp}
 use Rattle.ep_tree.specs.declared.syntax.QuantOp.{QuantOp}
-use Rattle.ep_parse_expr.specs.Readers.{colon_comes, colon_or, expression_next, is_name, is_there, is_word, looked_up, openings, opens, says}
+use Rattle.ep_parse_expr.specs.OperandReaders.{colon_comes, colon_or, expression_next, is_name, is_there, openings, opens}
+use Rattle.ep_parse_expr.specs.Readers.{is_word, looked_up, says}
 use Rattle.ep_parse_expr.proofs.Again.{around_cut, behind_word_cut, lexeme}
 
 -- A name alone, or a token that opens an expression and is no name, or a name before what is neither a colon nor a comma.

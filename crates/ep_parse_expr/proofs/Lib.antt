@@ -25,3 +25,4 @@ pub mod AgainReads
 pub mod AgainRanges
 pub mod AgainDomains
 pub mod AgainAll
+pub mod Cursors

@@ -2,9 +2,11 @@
 #![tactic(auto)]
 
 mod calls;
+mod cursor;
 mod errors;
 mod laws;
 
 pub use calls::{parse_domain, parse_expr};
+pub use cursor::{Cursor, Stop};
 pub use errors::ParseError;
 pub use laws::tokens_spell_one_tree;

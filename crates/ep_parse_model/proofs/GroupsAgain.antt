@@ -4,7 +4,8 @@ use Rattle.std.proofs.Common.{ap, arith, inl, inr, sym, subst, ◌∙◌, length
 use Rattle.std.proofs.Math.Nat.{le-max_left, le-max_right}
 use Rattle.ep_base.specs.declared.names.Name.{Name}
 use Rattle.ep_base.specs.declared.places.Place.{Place}
-use Rattle.ep_parse_expr.specs.Readers.{Lower, Reader, behind, behind_comma, chosen, expression_next, kept, looked_up, more_from, next_in, others_from, says, took, word_from, ◌and_then◌}
+use Rattle.ep_parse_expr.specs.OperandReaders.{Lower, expression_next}
+use Rattle.ep_parse_expr.specs.Readers.{Reader, behind, behind_comma, chosen, kept, looked_up, more_from, next_in, others_from, says, took, word_from, ◌and_then◌}
 use Rattle.ep_parse_expr.proofs.Again.{AreComplete, DomainEnds, NoImplications, behind_word_cut, lexeme}
 use Rattle.ep_parse_expr.proofs.AgainPhrases.{Again, comma_closes, word_then}
 use Rattle.ep_parse_expr.proofs.AgainStarts.{expression_seen, starts}

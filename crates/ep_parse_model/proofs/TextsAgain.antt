@@ -5,7 +5,8 @@ use Rattle.std.proofs.Math.Nat.{le-max_left, le-max_right}
 use Rattle.ep_base.specs.declared.names.Name.{Name}
 use Rattle.ep_base.specs.declared.operators.Sense.{Sense}
 use Rattle.ep_base.specs.declared.places.Place.{Place}
-use Rattle.ep_parse_expr.specs.Readers.{Lower, Read, Reader, behind, chosen, expression_next, high, if_some, looked_up, more_from, name_from, name_in, next_in, says, took, word_from, wrong, ◌and_then◌}
+use Rattle.ep_parse_expr.specs.OperandReaders.{Lower, expression_next}
+use Rattle.ep_parse_expr.specs.Readers.{Read, Reader, behind, chosen, high, if_some, looked_up, more_from, name_from, name_in, next_in, says, took, word_from, wrong, ◌and_then◌}
 use Rattle.ep_parse_expr.proofs.Again.{AreComplete, DomainEnds, NoImplications, behind_word_cut, lexeme}
 use Rattle.ep_parse_expr.proofs.AgainAll.{all_complete, readers}
 use Rattle.ep_parse_expr.proofs.AgainPhrases.{Again, word_then}

@@ -3,7 +3,9 @@ use Rattle.std.specs.Prelude.{ℕ, Bool, true, false, ◌&&◌, List, [], ◌∷
 use Rattle.ep_base.specs.declared.names.Name.{Name}
 use Rattle.ep_base.specs.declared.operators.Sense.{Sense}
 use Rattle.ep_base.specs.declared.places.Place.{Place}
-use Rattle.ep_parse_expr.specs.Readers.{Lower, Read, Reader, behind, behind_comma, chosen, expression_next, if_some, kept, name_from, next_in, others_from, place_next, says, took, word_from, wrong, ◌and_then◌}
+use Rattle.ep_parse_expr.specs.DomainReaders.{place_next}
+use Rattle.ep_parse_expr.specs.OperandReaders.{Lower, expression_next}
+use Rattle.ep_parse_expr.specs.Readers.{Read, Reader, behind, behind_comma, chosen, if_some, kept, name_from, next_in, others_from, says, took, word_from, wrong, ◌and_then◌}
 use Rattle.ep_tree.specs.Phrases.{Lexeme, Saying, a_name, a_number, a_word}
 use Rattle.ep_tree.specs.Spelling.{domains, implications}
 use Rattle.ep_tree.specs.Statements.{Group, StatementTree, TextTree, branching, constraints, decided, domain_letting, given, heuristic, letting, objective, requirements}
