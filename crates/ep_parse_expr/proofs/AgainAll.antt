@@ -1,6 +1,6 @@
 -- Whatever is spelled is read again: of the tokens that spell a tree, with others behind them that can't go on from it,
 -- the reader takes that tree.
-use Rattle.std.specs.Prelude.{◌≡◌, ℕ, zero, suc, ◌≤◌, true, false, max, nat_le, List, [], ◌∷◌, ◌++◌, refl}
+use Rattle.std.specs.Prelude.{◌≡◌, ℕ, zero, suc, ◌≤◌, true, false, max, nat_le, List, [], ◌++◌, refl}
 use Rattle.std.proofs.Common.{ap, arith, sym, ◌∙◌, append-nil}
 use Rattle.std.proofs.lemmas.Bool.Decides.{nat_tests}
 use Rattle.std.proofs.Math.Nat.{le-max_left, le-max_right}

@@ -1,15 +1,15 @@
 -- Lists and comprehensions are read again.
-use Rattle.std.specs.Prelude.{◌≡◌, ℕ, zero, suc, ◌+◌, ◌≤◌, max, Bool, true, false, ◌&&◌, List, [], ◌∷◌, ◌++◌, length, Some, None, codes, refl}
+use Rattle.std.specs.Prelude.{◌≡◌, ℕ, zero, suc, ◌≤◌, Bool, true, false, ◌&&◌, List, [], ◌∷◌, ◌++◌, length, codes, refl}
 use Rattle.std.proofs.Common.{ap, arith, sym, subst, ◌∙◌, length-append, append_assoc}
 use Rattle.std.proofs.Math.Nat.{le-max_left, le-max_right}
 use Rattle.ep_base.specs.declared.names.Name.{Name}
 use Rattle.ep_base.specs.declared.places.Place.{Place}
 use Rattle.ep_tree.specs.Heights.{domain_height, height, highest, highest_generator, index_height}
-use Rattle.ep_tree.specs.Phrases.{Is, Lexeme, Names, Phrase, Says, a_word, ◌followed_by◌}
+use Rattle.ep_tree.specs.Phrases.{Lexeme, Names, Phrase, Says, a_word, ◌followed_by◌}
 use Rattle.ep_tree.specs.Spelling.{Spells, SpellsDomain, SpellsGenerators, SpellsMore, SpellsMoreGenerators, SpellsNode, SpellsList, implications, set_operations}
 use Rattle.ep_tree.specs.Trees.{DomainTree, ExprTree, ExprTrees, Generators, IndexDomain, comprehension, generator_and, literal, no_generators, no_trees, tree_and, truth}
-use Rattle.ep_parse_expr.specs.OperandReaders.{Generator, Lower, another_generator, as_generators, as_trees, bracket_from, colon_comes, colon_or, comprehension_from, conditions_from, expression_next, generator_from, list_end, literal_from}
-use Rattle.ep_parse_expr.specs.Readers.{Read, Reader, behind, behind_comma, chosen, kept, looked_up, more_from, others_from, says, took, word_from, ◌and_then◌}
+use Rattle.ep_parse_expr.specs.OperandReaders.{Generator, Lower, another_generator, as_generators, as_trees, bracket_from, colon_comes, comprehension_from, conditions_from, expression_next, generator_from, list_end, literal_from}
+use Rattle.ep_parse_expr.specs.Readers.{Reader, behind, chosen, looked_up, more_from, others_from, says, took, word_from, ◌and_then◌}
 use Rattle.ep_parse_expr.proofs.Again.{AreComplete, Behind, DomainEnds, NoImplications, behind_word_cut, lexeme}
 use Rattle.ep_parse_expr.proofs.AgainLists.{BehindList, more_again}
 use Rattle.ep_parse_expr.proofs.AgainParts.{as_listed, listed}

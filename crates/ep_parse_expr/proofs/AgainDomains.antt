@@ -1,18 +1,18 @@
 -- Domains are read again.
-use Rattle.std.specs.Prelude.{◌≡◌, ℕ, zero, suc, ◌+◌, ◌≤◌, ◌<◌, max, Bool, true, false, ◌&&◌, ◌||◌, nat_le, nat_lt, List, [], ◌∷◌, ◌++◌, length, Option, Some, None, codes, refl}
+use Rattle.std.specs.Prelude.{◌≡◌, ℕ, zero, suc, ◌≤◌, Bool, true, false, nat_le, nat_lt, List, [], ◌∷◌, ◌++◌, length, Option, Some, None, codes, refl}
 use Rattle.std.proofs.Common.{ap, arith, inl, inr, sym, subst, ◌∙◌, length-append, append_assoc}
 use Rattle.std.proofs.Math.Nat.{le-max_left, le-max_right}
 use Rattle.ep_base.specs.declared.places.Place.{Place}
-use Rattle.ep_tree.specs.Heights.{domain_height, height, highest_domain}
-use Rattle.ep_tree.specs.Phrases.{Is, Lexeme, Phrase, Says, StartsAt, a_word, ◌followed_by◌}
-use Rattle.ep_tree.specs.Spelling.{BetweenDomains, DomainLevel, MatrixHead, MatrixTail, SpellsDomain, SpellsDomainNode, SpellsIndexDomains, SpellsMoreIndexDomains, SpellsNode, SpellsRanges, domain_rank, domains, own_domain_level, set_operations, set_parts, set_word}
+use Rattle.ep_tree.specs.Heights.{domain_height, highest_domain}
+use Rattle.ep_tree.specs.Phrases.{Lexeme, Phrase, Says, StartsAt, a_word, ◌followed_by◌}
+use Rattle.ep_tree.specs.Spelling.{BetweenDomains, MatrixHead, MatrixTail, SpellsDomain, SpellsDomainNode, SpellsIndexDomains, SpellsMoreIndexDomains, SpellsRanges, domain_rank, domains, own_domain_level, set_operations, set_parts, set_word}
 use Rattle.ep_tree.specs.Trees.{DomainTree, Domains, bool, domain_and, group_domain, int, matrix_domain, named_domain, no_domains, place_of_domain, ranges, set_domain}
 use Rattle.ep_tree.specs.declared.syntax.SetOp.{SetOp}
-use Rattle.ep_parse_expr.specs.DomainReaders.{another_index_domain, another_operation, any_domain_from, as_domains, domain_begun_from, domain_open_from, domain_openings, domain_part_from, index_domain_behind, matrix_follows, matrix_from, matrix_head_from, operations_from, place_next, ranges_from, set_words}
+use Rattle.ep_parse_expr.specs.DomainReaders.{another_index_domain, another_operation, any_domain_from, as_domains, domain_begun_from, domain_open_from, domain_part_from, index_domain_behind, matrix_follows, matrix_from, matrix_head_from, operations_from, place_next, ranges_from, set_words}
 use Rattle.ep_parse_expr.specs.OperandReaders.{Lower, if_low}
-use Rattle.ep_parse_expr.specs.Readers.{Read, Reader, behind, chosen, grown, kept, looked_up, more_from, next_in, others_from, says, took, word_from, ◌and_then◌}
+use Rattle.ep_parse_expr.specs.Readers.{Read, Reader, behind, chosen, grown, looked_up, more_from, next_in, others_from, says, took, word_from, ◌and_then◌}
 use Rattle.ep_parse_expr.proofs.Again.{AreComplete, DomainEnds, GrownTo, around_cut, around_rest, behind_word_cut, below_again, grown_end, grown_more, grown_start, lexeme, same_place}
-use Rattle.ep_parse_expr.proofs.AgainPhrases.{Again, bracket_closes, comma_closes, domain_then, enough, group_closes, last_ends_domain, some_domain, word_then}
+use Rattle.ep_parse_expr.proofs.AgainPhrases.{Again, bracket_closes, comma_closes, domain_then, enough, group_closes, last_ends_domain, some_domain}
 use Rattle.ep_parse_expr.proofs.AgainRanges.{ranges_again}
 use Rattle.ep_parse_expr.proofs.Holding.{regrouped}
 

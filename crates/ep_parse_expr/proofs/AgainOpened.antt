@@ -1,19 +1,18 @@
 -- What a word opens is read again: signs, brackets, functions and quantifiers.
-use Rattle.std.specs.Prelude.{◌≡◌, ℕ, suc, ◌≤◌, max, Bool, true, false, nat_lt, List, [], ◌∷◌, ◌++◌, Option, Some, bytes_eq, codes, refl}
+use Rattle.std.specs.Prelude.{◌≡◌, ℕ, suc, ◌≤◌, true, false, nat_lt, List, [], ◌∷◌, ◌++◌, Some, codes, refl}
 use Rattle.std.proofs.Common.{ap, arith, sym, subst, ◌∙◌, append_assoc}
-use Rattle.std.proofs.Math.Nat.{le-max_left, le-max_right}
 use Rattle.ep_base.specs.declared.names.Name.{Name}
 use Rattle.ep_base.specs.declared.places.Place.{Place}
 use Rattle.ep_tree.specs.Heights.{domain_height, height}
-use Rattle.ep_tree.specs.Phrases.{Is, Lexeme, Names, Phrase, Says, StartsAt, a_name, a_word, ◌followed_by◌}
-use Rattle.ep_tree.specs.Spelling.{Spells, SpellsDomain, ends_open, implications, rank, set_operations, unaries}
+use Rattle.ep_tree.specs.Phrases.{Is, Lexeme, Names, Phrase, Says, StartsAt, a_word, ◌followed_by◌}
+use Rattle.ep_tree.specs.Spelling.{Spells, SpellsDomain, implications, rank, set_operations, unaries}
 use Rattle.ep_tree.specs.Trees.{DomainTree, ExprTree, absolute, binary, folded, group, minus, negation, quantified, table}
 use Rattle.ep_tree.specs.declared.syntax.BinaryOp.{BinaryOp}
 use Rattle.ep_tree.specs.declared.syntax.FoldOp.{FoldOp}
 use Rattle.ep_tree.specs.declared.syntax.QuantOp.{QuantOp}
-use Rattle.ep_parse_expr.specs.OperandReaders.{Lower, OnePart, Opening, ThreeParts, a_bar, a_bracket, a_greatest, a_group, a_least, a_minus, a_negation, a_quantifier, a_sum, a_table, a_truth, and_part, begun_from, call_from, call_of_three_from, call_of_two_from, closed_by, of_one, of_three, one_part, open_from, opened_from, openings, operand_from, quantifier_from, sum_from, table_from, three_parts}
-use Rattle.ep_parse_expr.specs.Readers.{Reader, chosen, looked_up, names_from, says, took, word_from, ◌and_then◌}
-use Rattle.ep_parse_expr.proofs.Again.{AreComplete, EndsBefore, NoImplications, NoReads, behind_word_cut, lexeme}
+use Rattle.ep_parse_expr.specs.OperandReaders.{Lower, Opening, ThreeParts, a_bar, a_bracket, a_greatest, a_group, a_least, a_minus, a_negation, a_quantifier, a_sum, a_table, a_truth, and_part, begun_from, call_from, call_of_three_from, call_of_two_from, closed_by, of_one, of_three, open_from, opened_from, openings, operand_from, quantifier_from, sum_from, table_from, three_parts}
+use Rattle.ep_parse_expr.specs.Readers.{Reader, chosen, looked_up, says, took, word_from, ◌and_then◌}
+use Rattle.ep_parse_expr.proofs.Again.{AreComplete, EndsBefore, NoImplications, behind_word_cut, lexeme}
 use Rattle.ep_parse_expr.proofs.AgainPhrases.{Again, EndsExpr, bar_closes, closed_again, comma_closes, domain_then, dot_closes, enough, expr_then, group_closes, last_ends, names_cut, names_then, word_ends, word_ends_domain, word_then}
 
 -- what a word opens, where the height is enough

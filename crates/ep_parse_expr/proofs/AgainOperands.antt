@@ -1,18 +1,18 @@
 -- Operands are read again.
-use Rattle.std.specs.Prelude.{◌≡◌, ℕ, suc, ◌≤◌, max, Bool, true, false, nat_le, nat_lt, List, ◌∷◌, ◌++◌, codes, refl}
+use Rattle.std.specs.Prelude.{◌≡◌, ℕ, suc, ◌≤◌, max, Bool, true, false, nat_le, nat_lt, List, ◌++◌, codes, refl}
 use Rattle.std.proofs.Common.{ap, arith, subst, ◌∙◌}
 use Rattle.std.proofs.Math.Nat.{le-max_left, le-max_right}
 use Rattle.ep_base.specs.declared.places.Place.{Place}
 use Rattle.ep_tree.specs.Heights.{domain_height, height, highest, highest_generator, index_height}
-use Rattle.ep_tree.specs.Phrases.{Lexeme, Phrase, Says, StartsAt, a_word, ◌followed_by◌}
-use Rattle.ep_tree.specs.Spelling.{Level, SpellsNode, binary_level, binary_word, comparisons, conjunctions, disjunctions, ends_open, fold_word, implications, is_called, own_level, powers, primaries, products, quantifier_word, rank, reads, sums, truth_word, unaries}
+use Rattle.ep_tree.specs.Phrases.{Lexeme, Phrase, Says, StartsAt, ◌followed_by◌}
+use Rattle.ep_tree.specs.Spelling.{SpellsNode, binary_level, binary_word, ends_open, fold_word, is_called, own_level, quantifier_word, rank, reads, truth_word, unaries}
 use Rattle.ep_tree.specs.Trees.{ExprTree, absolute, all_different, all_of, any_of, at_least, at_most, binary, chain, compare, comprehension, factorial, flatten, folded, gcc, group, in_domain, in_set, lex, literal, minus, named, negation, number, place_of, quantified, read, table, to_int, truth}
 use Rattle.ep_tree.specs.declared.syntax.BinaryOp.{BinaryOp}
 use Rattle.ep_tree.specs.declared.syntax.FoldOp.{FoldOp}
 use Rattle.ep_tree.specs.declared.syntax.QuantOp.{QuantOp}
-use Rattle.ep_parse_expr.specs.OperandReaders.{Lower, a_bar, a_greatest, a_group, a_least, a_minus, a_negation, a_quantifier, a_sum, a_table, all_different_in, begun_from, bracket_from, counts_at_least, counts_at_most, counts_in, factorial_of, flatten_of, folded_by, of_one, of_three, one_part, open_from, opened_from, operand_from, three_parts, to_int_of}
+use Rattle.ep_parse_expr.specs.OperandReaders.{Lower, a_bar, a_greatest, a_group, a_least, a_minus, a_negation, a_quantifier, a_sum, a_table, all_different_in, begun_from, bracket_from, counts_at_least, counts_at_most, counts_in, factorial_of, flatten_of, folded_by, of_one, of_three, one_part, open_from, opened_from, operand_from, to_int_of}
 use Rattle.ep_parse_expr.specs.Readers.{looked_up, took}
-use Rattle.ep_parse_expr.proofs.Again.{AreComplete, EndsBefore, behind_word_cut, lexeme}
+use Rattle.ep_parse_expr.proofs.Again.{AreComplete, EndsBefore, behind_word_cut}
 use Rattle.ep_parse_expr.proofs.AgainBrackets.{comprehension_again, literal_again}
 use Rattle.ep_parse_expr.proofs.AgainOpened.{bar_again, call_again, group_again, minus_again, negation_again, one_of_two_again, quantifier_again, sum_call_again, sum_over_again, table_again, three_again, two_of_two_again, word_opens}
 use Rattle.ep_parse_expr.proofs.AgainPhrases.{Again, enough}

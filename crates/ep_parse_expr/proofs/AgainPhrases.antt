@@ -1,17 +1,16 @@
 -- Parts, words, names and the ends of lists are read again, with what follows them.
-use Rattle.std.specs.Prelude.{◌≡◌, ℕ, zero, suc, ◌+◌, ◌≤◌, ◌<◌, Bool, true, false, ◌&&◌, nat_le, nat_lt, List, [], ◌∷◌, ◌++◌, length, bytes_eq, codes, refl}
+use Rattle.std.specs.Prelude.{◌≡◌, ℕ, zero, suc, ◌≤◌, Bool, true, false, nat_lt, List, [], ◌∷◌, ◌++◌, length, codes, refl}
 use Rattle.std.proofs.Common.{ap, arith, sym, subst, ◌∙◌, length-append, append_assoc}
 use Rattle.std.proofs.lemmas.Bool.Decides.{nat_tests}
 use Rattle.ep_base.specs.declared.names.Name.{Name}
 use Rattle.ep_base.specs.declared.places.Place.{Place}
-use Rattle.ep_tree.specs.Heights.{domain_height, height, highest, index_height}
+use Rattle.ep_tree.specs.Heights.{domain_height, height, index_height}
 use Rattle.ep_tree.specs.Phrases.{Is, Lexeme, Names, Phrase, a_name, a_word, ◌followed_by◌}
-use Rattle.ep_tree.specs.Spelling.{Spells, SpellsDomain, SpellsIndexDomain, SpellsMore, SpellsNode, implications, rank, set_operations, unaries}
-use Rattle.ep_tree.specs.Trees.{DomainTree, Domains, ExprTree, ExprTrees, IndexDomain, Ranges, bool, domain_and, group_domain, int, matrix_domain, named_domain, no_trees, over, ranges, set_domain, tree_and, unstated}
-use Rattle.ep_parse_expr.specs.OperandReaders.{Lower, closed_by, colon_comes, colon_or, expression_next, if_low, index_domain_from, list_end}
-use Rattle.ep_parse_expr.specs.Readers.{Read, Reader, behind, behind_comma, chosen, looked_up, more_from, name_from, name_in, names_from, next_in, others_from, says, took, word_from, ◌and_then◌}
-use Rattle.ep_parse_expr.proofs.Again.{AreComplete, DomainEnds, EndsBefore, NoImplications, behind_word_cut, lexeme, word_again}
-use Rattle.ep_parse_expr.proofs.AgainStarts.{Start, colon_unseen, starts}
+use Rattle.ep_tree.specs.Spelling.{Spells, SpellsDomain, SpellsIndexDomain, SpellsMore, SpellsNode, implications, rank, set_operations}
+use Rattle.ep_tree.specs.Trees.{DomainTree, ExprTree, ExprTrees, IndexDomain, bool, group_domain, int, matrix_domain, named_domain, no_trees, over, ranges, set_domain, tree_and, unstated}
+use Rattle.ep_parse_expr.specs.OperandReaders.{Lower, closed_by, colon_comes, index_domain_from, list_end}
+use Rattle.ep_parse_expr.specs.Readers.{Reader, behind_comma, looked_up, more_from, name_from, name_in, names_from, next_in, says, took, word_from, ◌and_then◌}
+use Rattle.ep_parse_expr.proofs.Again.{AreComplete, DomainEnds, NoImplications, behind_word_cut, lexeme, word_again}
 
 -- whatever tokens say this, with others behind them, a reader takes as this
 abbrev pub Again : {A : Type 0} → Phrase → Reader A → A → List Lexeme → Type 0

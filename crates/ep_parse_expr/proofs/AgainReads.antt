@@ -1,12 +1,12 @@
 -- Reads are read again, and with them whatever stands at the level of unary operators.
-use Rattle.std.specs.Prelude.{◌≡◌, ℕ, zero, suc, ◌+◌, ◌≤◌, ◌<◌, max, Bool, true, false, not, ◌&&◌, nat_le, nat_lt, List, [], ◌∷◌, ◌++◌, length, Option, Some, None, codes, refl}
+use Rattle.std.specs.Prelude.{◌≡◌, ℕ, zero, suc, ◌≤◌, Bool, true, false, not, ◌&&◌, nat_le, nat_lt, List, [], ◌∷◌, ◌++◌, length, Option, Some, None, codes, refl}
 use Rattle.std.proofs.Common.{ap, arith, inl, inr, sym, subst, ◌∙◌, length-append, append_assoc}
 use Rattle.std.proofs.Math.Nat.{le-max_left, le-max_right}
 use Rattle.std.proofs.lemmas.Bool.Decides.{nat_tests}
 use Rattle.ep_base.specs.declared.places.Place.{Place}
 use Rattle.ep_tree.specs.Heights.{height, highest_index}
 use Rattle.ep_tree.specs.Phrases.{Lexeme, Says, StartsAt, When, a_word, ◌followed_by◌}
-use Rattle.ep_tree.specs.Spelling.{At, BetweenIndices, Level, Spells, SpellsIndices, SpellsLastIndices, SpellsMoreIndices, SpellsNode, binary_level, comparisons, conjunctions, disjunctions, has_every, implications, own_level, powers, primaries, products, rank, reads, sums, takes_own_group, unaries}
+use Rattle.ep_tree.specs.Spelling.{At, BetweenIndices, Spells, SpellsIndices, SpellsLastIndices, SpellsMoreIndices, SpellsNode, binary_level, comparisons, conjunctions, disjunctions, has_every, implications, own_level, powers, primaries, products, rank, reads, sums, takes_own_group, unaries}
 use Rattle.ep_tree.specs.Trees.{ExprTree, Indices, absolute, all_different, all_of, any_of, at_least, at_most, binary, chain, compare, comprehension, every_and, factorial, flatten, folded, gcc, group, in_domain, in_set, index_and, lex, literal, minus, named, negation, no_indices, number, place_of, quantified, read, table, to_int, truth}
 use Rattle.ep_tree.specs.declared.syntax.BinaryOp.{BinaryOp}
 use Rattle.ep_parse_expr.specs.OperandReaders.{Lower, closed_by, operand_from}

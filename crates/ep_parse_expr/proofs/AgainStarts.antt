@@ -1,6 +1,6 @@
 -- How the tokens of an expression start, and what a reader that looks ahead sees of them.
 use Rattle.std.specs.Prelude.{◌≡◌, ℕ, Bool, true, false, ◌&&◌, List, [], ◌∷◌, ◌++◌, bytes_eq, codes, refl}
-use Rattle.std.proofs.Common.{ap, subst, ◌∙◌, append_assoc}
+use Rattle.std.proofs.Common.{ap, subst, ◌∙◌}
 use Rattle.std.proofs.lemmas.Slice.Eq.{bytes_eq-Decides}
 use Rattle.ep_base.specs.declared.names.Name.{Name}
 use Rattle.ep_base.specs.declared.operators.CompareOp.{CompareOp}
@@ -8,7 +8,7 @@ use Rattle.ep_base.specs.declared.operators.LexOp.{LexOp}
 use Rattle.ep_base.specs.declared.places.Place.{Place}
 use Rattle.ep_tree.proofs.Opened.{the_language}
 use Rattle.ep_tree.specs.Phrases.{Is, Lexeme, Phrase, Saying, a_name, a_number, a_word, ◌followed_by◌}
-use Rattle.ep_tree.specs.Spelling.{SpellsNode, compare_word, fold_word, lex_word, quantifier_word, sign_word, truth_word}
+use Rattle.ep_tree.specs.Spelling.{SpellsNode, compare_word, fold_word, lex_word, quantifier_word, sign_word}
 use Rattle.ep_tree.specs.Trees.{ExprTree, absolute, all_different, all_of, any_of, at_least, at_most, binary, chain, compare, comprehension, factorial, flatten, folded, gcc, group, in_domain, in_set, lex, literal, minus, named, negation, no_terms, no_trees, number, quantified, read, table, term_and, to_int, tree_and, truth}
 use Rattle.ep_tree.specs.declared.syntax.BinaryOp.{BinaryOp}
 use Rattle.ep_tree.specs.declared.syntax.FoldOp.{FoldOp}

@@ -26,3 +26,4 @@ pub mod AgainRanges
 pub mod AgainDomains
 pub mod AgainAll
 pub mod Cursors
+pub mod Turns
