@@ -4,7 +4,8 @@ use Rattle.ep_base.specs.Tokens.{token_text}
 use Rattle.ep_base.specs.declared.places.Place.{Place}
 use Rattle.ep_base.specs.declared.tokens.Token.{Token}
 use Rattle.ep_parse_expr.proofs.Again.{lexeme}
-use Rattle.ep_parse_expr.specs.Readers.{is_word, name_from, name_in, took, word_from, wrong}
+use Rattle.ep_parse_expr.specs.Cursors.{passing}
+use Rattle.ep_parse_expr.specs.Readers.{is_word, name_from, name_in, says, took, word_from, wrong}
 use Rattle.ep_parse_expr.specs.Sayings.{name_of}
 use Rattle.ep_tree.specs.Phrases.{Lexeme, Saying, a_name, a_number, a_word, lexemes_of, saying_of}
 
@@ -54,3 +55,15 @@ name_read now place (a_name y) ls x e found = rw e (ap (λ o. took (or_this o) l
     or_this None = y
 name_read now place (a_number n) ls x e found = absurd cc
 name_read now place (a_word w) ls x e found = absurd cc
+
+pub pass_at_end : (bytes : List ℕ) (now : List Lexeme) → now ≡ [] → (false, now) ≡ passing bytes now
+unfolding passing says
+pass_at_end bytes now e = rw e refl
+
+pub pass_not : (bytes : List ℕ) (now : List Lexeme) (place : Place) (what : Saying) (ls : List Lexeme) → now ≡ lexeme place what ∷ ls → is_word bytes what ≡ false → (false, now) ≡ passing bytes now
+unfolding passing says
+pass_not bytes now place what ls e none = rw e (rw none refl)
+
+pub pass_read : (bytes : List ℕ) (now : List Lexeme) (place : Place) (what : Saying) (ls : List Lexeme) → now ≡ lexeme place what ∷ ls → is_word bytes what ≡ true → (true, ls) ≡ passing bytes now
+unfolding passing says
+pass_read bytes now place what ls e found = rw e (rw found refl)

@@ -27,3 +27,4 @@ pub mod AgainDomains
 pub mod AgainAll
 pub mod Cursors
 pub mod Turns
+pub mod NameTurns

@@ -4,11 +4,13 @@ ghost use Rattle.std.specs.Prelude.{◌≡◌, ℕ, List};
 ghost use Rattle.std.specs.Option.{option_copied};
 ghost use Rattle.ep_base.specs.Tokens.{token_text};
 ghost use Rattle.ep_tree.specs.Phrases.{lexemes_of, saying_of};
-ghost use Rattle.ep_parse_expr.specs.Cursors.{Gives, LieIn, LiesIn};
+ghost use Rattle.ep_parse_expr.specs.Cursors.{Gives, LieIn, LiesIn, passing};
 ghost use Rattle.ep_parse_expr.specs.Readers.{is_word, name_from, says, word_from};
+ghost use Rattle.ep_parse_expr.specs.declared.cursor.Stop.TheVariants.{Memory as OutOfMemory};
 ghost use Rattle.ep_parse_expr.specs.Sayings.{name_of};
 
-use ep_base::{Place, Token, TokenKind};
+use ep_base::{Memory, Place, Token, TokenKind};
+use std::alloc::AllocFailed;
 use std::marker::Model;
 
 /// Why nothing was read. The tokens that are left begin with the one that is named.
@@ -20,6 +22,22 @@ pub enum Stop {
     TooHigh,
     /// An allocation was refused.
     Memory,
+}
+
+impl From<Memory> for Stop {
+    ghost from_gives = { λ _ e. e ≡ OutOfMemory };
+
+    fn from(_refused: Memory) -> Stop {
+        Stop::Memory
+    }
+}
+
+impl<T: Drop> From<AllocFailed<T>> for Stop {
+    ghost from_gives = { λ _ e. e ≡ OutOfMemory };
+
+    fn from(_refused: AllocFailed<T>) -> Stop {
+        Stop::Memory
+    }
 }
 
 /// The tokens of a text that are still to be read. Contracts see the list of what they say.
@@ -73,6 +91,20 @@ impl<'a> Cursor<'a> {
         }
         self.tokens = rest;
         Ok(token.place)
+    }
+
+    /// Passes this word or symbol, where it is next, and tells whether it was.
+    pub fn passes(&mut self, word: &[u8]) -> bool
+        ensures passed { (result, self.new) ≡ passing word.now self.old }
+    {
+        let Some((token, rest)) = self.tokens.split_first() else {
+            return false;
+        };
+        if !is_said(self.text, token, word) {
+            return false;
+        }
+        self.tokens = rest;
+        true
     }
 
     /// Passes a name, and gives it.
