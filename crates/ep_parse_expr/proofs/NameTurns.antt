@@ -1,12 +1,12 @@
 -- A turn of a list of names.
-use Rattle.std.specs.Prelude.{◌≡◌, ℕ, zero, suc, ◌≤◌, ◌<◌, Bool, true, false, List, [], ◌∷◌, ◌++◌, length, Option, Some, None, codes, if◌then◌else◌, refl}
-use Rattle.std.proofs.Common.{ap, arith, sym, subst, ◌∙◌, append_assoc}
+use Rattle.std.specs.Prelude.{◌≡◌, ◌≤◌, ◌<◌, Bool, true, false, List, [], ◌∷◌, ◌++◌, length, Option, Some, None, codes, if◌then◌else◌, refl}
+use Rattle.std.proofs.Common.{ap, arith, sym, ◌∙◌, append_assoc}
 use Rattle.ep_base.specs.declared.names.Name.{Name}
 use Rattle.ep_parse_expr.proofs.Turns.{list_turn}
 use Rattle.ep_parse_expr.specs.Cursors.{Stops, passing}
 use Rattle.ep_parse_expr.specs.declared.cursor.Stop.{Stop}
 use Rattle.ep_parse_expr.specs.declared.cursor.Stop.TheVariants.{Memory, TooHigh, Wrong}
-use Rattle.ep_parse_expr.specs.Readers.{Read, Reader, behind, behind_comma, going_on, high, kept, name_from, name_in, names_from, others_from, says, took, wrong, ◌and_then◌}
+use Rattle.ep_parse_expr.specs.Readers.{Read, behind, behind_comma, going_on, high, kept, name_from, name_in, names_from, others_from, says, took, wrong, ◌and_then◌}
 use Rattle.ep_tree.specs.Phrases.{Lexeme, Saying, a_name, a_number, a_word}
 
 -- items before those that are read
