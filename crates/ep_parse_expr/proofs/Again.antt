@@ -6,9 +6,12 @@ use Rattle.std.proofs.lemmas.Slice.Eq.{bytes_eq-Decides}
 use Rattle.ep_base.specs.declared.places.Place.{Place}
 use Rattle.ep_tree.specs.Heights.{domain_height, height}
 use Rattle.ep_tree.specs.Phrases.{Is, Lexeme, Phrase, Saying, StartsAt, a_word, ◌followed_by◌}
-use Rattle.ep_tree.specs.Spelling.{DomainLevel, Level, Spells, SpellsDomain, comparisons, conjunctions, disjunctions, ends_open, implications, powers, primaries, products, rank, reads, sums, unaries}
+use Rattle.ep_tree.specs.Spelling.{DomainLevel, Level, Spells, SpellsDomain, comparisons, conjunctions, disjunctions, domains, ends_open, implications, powers, primaries, products, rank, reads, set_operations, set_parts, sums, unaries}
 use Rattle.ep_tree.specs.Trees.{DomainTree, ExprTree}
-use Rattle.ep_parse_expr.specs.Readers.{Lower, Read, chosen, comparison_words, grown, grown_from, growing, implication_words, next_in, only_word, power_words, product_words, says, set_words, sign_words, took, word_from, wrong, ◌and_then◌}
+use Rattle.ep_parse_expr.specs.DomainReaders.{set_words}
+use Rattle.ep_parse_expr.specs.OperandReaders.{Lower}
+use Rattle.ep_parse_expr.specs.OperatorReaders.{comparison_words, implication_words, only_word, power_words, product_words, sign_words}
+use Rattle.ep_parse_expr.specs.Readers.{Read, chosen, grown, grown_from, growing, next_in, says, took, word_from, wrong, ◌and_then◌}
 
 -- a token that says this, at a place
 abbrev pub lexeme : Place → Saying → Lexeme
@@ -73,12 +76,18 @@ pub record DomainEnds (ls : List Lexeme) : Type 0 where
   pub none : next_in set_words ls ≡ None
   pub no_group : says (codes "(") ls ≡ false
 
+-- A domain that stands at a level ends before these tokens: behind a part of an operation another operation may come.
+abbrev pub DomainEndsAt : DomainLevel → List Lexeme → Type 0
+DomainEndsAt domains ls = DomainEnds ls
+DomainEndsAt set_operations ls = DomainEnds ls
+DomainEndsAt set_parts ls = says (codes "(") ls ≡ false
+
 -- What is spelled low enough is read again by readers of lower trees.
 pub record AreComplete (less : ℕ) (low : Lower) : Type 0 where
   pub expr : (level : Level) → nat_le (rank level) (rank unaries) ≡ true → (e : ExprTree) (front rest : List Lexeme) → Spells level e front → height e ≤ less
       → EndsBefore level e rest → low.expr level (front ++ rest) ≡ took e rest
   pub domain : (level : DomainLevel) (d : DomainTree) (front rest : List Lexeme) → SpellsDomain level d front → domain_height d ≤ less
-      → DomainEnds rest → low.domain level (front ++ rest) ≡ took d rest
+      → DomainEndsAt level rest → low.domain level (front ++ rest) ≡ took d rest
 
 -- ---- cutting
 

@@ -8,7 +8,9 @@ use Rattle.ep_tree.specs.Phrases.{Choice, Lexeme, Phrase, StartsAt, a_word}
 use Rattle.ep_tree.specs.Spelling.{Closed, Infix, Level, Spells, SpellsNode, binary_level, binary_word, ends_open, is_called, own_level, rank, tighter, unaries}
 use Rattle.ep_tree.specs.Trees.{ExprTree, binary, place_of}
 use Rattle.ep_tree.specs.declared.syntax.BinaryOp.{BinaryOp}
-use Rattle.ep_parse_expr.specs.Readers.{Lower, Read, Reader, another_binary, grown, next_in, took, ◌and_then◌}
+use Rattle.ep_parse_expr.specs.OperandReaders.{Lower}
+use Rattle.ep_parse_expr.specs.OperatorReaders.{another_binary}
+use Rattle.ep_parse_expr.specs.Readers.{Read, Reader, grown, next_in, took, ◌and_then◌}
 use Rattle.ep_parse_expr.proofs.Again.{AreComplete, Ends, EndsBefore, GrownTo, around_cut, around_rest, below_again, grown_end, grown_more, grown_start, lexeme, same_place}
 
 -- an operator that stands between two parts of a level

@@ -10,7 +10,9 @@ use Rattle.ep_tree.specs.Phrases.{Lexeme, Says, StartsAt, a_word, ◌followed_by
 use Rattle.ep_tree.specs.Spelling.{Call1, Closed, Level, Spells, SpellsDomain, SpellsDomainNode, SpellsNode, binary_level, compare_word, comparisons, conjunctions, disjunctions, ends_open, implications, lex_word, own_level, powers, primaries, products, rank, reads, set_operations, sums, unaries}
 use Rattle.ep_tree.specs.Trees.{DomainTree, ExprTree, absolute, all_different, all_of, any_of, at_least, at_most, binary, bool, chain, compare, comprehension, factorial, flatten, folded, gcc, group, group_domain, in_domain, in_set, int, lex, literal, matrix_domain, minus, named, named_domain, negation, number, place_of, quantified, ranges, read, set_domain, table, to_int, truth}
 use Rattle.ep_tree.specs.declared.syntax.BinaryOp.{BinaryOp}
-use Rattle.ep_parse_expr.specs.Readers.{Comparison, Lower, call_from, chain_from, compared_with, comparison_behind, comparison_from, comparison_words, looked_up, next_in, of_lists, of_numbers, of_set, says, took, word_from, ◌and_then◌}
+use Rattle.ep_parse_expr.specs.OperandReaders.{Lower, call_from}
+use Rattle.ep_parse_expr.specs.OperatorReaders.{Comparison, chain_from, compared_with, comparison_behind, comparison_from, comparison_words, of_lists, of_numbers, of_set}
+use Rattle.ep_parse_expr.specs.Readers.{looked_up, next_in, says, took, word_from, ◌and_then◌}
 use Rattle.ep_parse_expr.proofs.Again.{AreComplete, Ends, EndsBefore, NoImplications, around_cut, around_rest, behind_word_cut, below_again, lexeme, same_place}
 
 not_open : (b : Bool) → not b ≡ true → b ≡ true → ⊥

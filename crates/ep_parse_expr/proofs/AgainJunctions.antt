@@ -6,7 +6,9 @@ use Rattle.ep_tree.specs.Phrases.{Lexeme, a_word}
 use Rattle.ep_tree.specs.Spelling.{Level, Spells, SpellsNode, binary_level, comparisons, conjunctions, disjunctions, ends_open, implications, own_level, powers, primaries, products, rank, reads, sums, unaries}
 use Rattle.ep_tree.specs.Trees.{ExprTree, ExprTrees, absolute, all_different, all_of, any_of, at_least, at_most, binary, chain, compare, comprehension, factorial, flatten, folded, gcc, group, in_domain, in_set, lex, literal, minus, named, negation, number, place_of, quantified, read, table, to_int, truth}
 use Rattle.ep_tree.specs.declared.syntax.BinaryOp.{BinaryOp}
-use Rattle.ep_parse_expr.specs.Readers.{Lower, comparison_from, conjunction_from, disjunction_from, looked_up, next_in, only_word, says, took}
+use Rattle.ep_parse_expr.specs.OperandReaders.{Lower}
+use Rattle.ep_parse_expr.specs.OperatorReaders.{comparison_from, conjunction_from, disjunction_from, only_word}
+use Rattle.ep_parse_expr.specs.Readers.{looked_up, next_in, says, took}
 use Rattle.ep_parse_expr.proofs.Again.{AreComplete, Ends, EndsBefore, lexeme}
 use Rattle.ep_parse_expr.proofs.AgainParts.{IsPartsLevel, parts_chain_again}
 

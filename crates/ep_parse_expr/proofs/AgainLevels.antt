@@ -7,7 +7,9 @@ use Rattle.ep_tree.specs.Phrases.{Lexeme, a_word}
 use Rattle.ep_tree.specs.Spelling.{Level, Spells, binary_level, binary_word, comparisons, conjunctions, disjunctions, implications, is_called, own_level, powers, primaries, products, rank, reads, sums, tighter, unaries}
 use Rattle.ep_tree.specs.Trees.{ExprTree, absolute, all_different, all_of, any_of, at_least, at_most, binary, chain, compare, comprehension, factorial, flatten, folded, gcc, group, in_domain, in_set, lex, literal, minus, named, negation, number, quantified, read, table, to_int, truth}
 use Rattle.ep_tree.specs.declared.syntax.BinaryOp.{BinaryOp}
-use Rattle.ep_parse_expr.specs.Readers.{Lower, implication_words, implication_from, disjunction_from, looked_up, next_in, power_from, power_words, product_from, product_words, says, took, unary_from}
+use Rattle.ep_parse_expr.specs.OperandReaders.{Lower}
+use Rattle.ep_parse_expr.specs.OperatorReaders.{implication_words, implication_from, disjunction_from, power_from, power_words, product_from, product_words, unary_from}
+use Rattle.ep_parse_expr.specs.Readers.{looked_up, next_in, says, took}
 use Rattle.ep_parse_expr.proofs.Again.{AreComplete, Ends, EndsBefore, lexeme}
 use Rattle.ep_parse_expr.proofs.AgainChains.{IsChainLevel, IsInfix, chain_again}
 

@@ -7,7 +7,8 @@ use Rattle.ep_tree.specs.Heights.{height, highest}
 use Rattle.ep_tree.specs.Phrases.{Lexeme, a_word, ◌followed_by◌}
 use Rattle.ep_tree.specs.Spelling.{Spells, SpellsMore, SpellsNode, implications, rank}
 use Rattle.ep_tree.specs.Trees.{ExprTree, ExprTrees, no_trees, tree_and}
-use Rattle.ep_parse_expr.specs.Readers.{Lower, Reader, behind_comma, looked_up, more_from, next_in, says, took, ◌and_then◌}
+use Rattle.ep_parse_expr.specs.OperandReaders.{Lower}
+use Rattle.ep_parse_expr.specs.Readers.{Reader, behind_comma, looked_up, more_from, next_in, says, took, ◌and_then◌}
 use Rattle.ep_parse_expr.proofs.Again.{AreComplete, NoImplications, behind_word_cut, lexeme}
 use Rattle.ep_parse_expr.proofs.AgainParts.{listed}
 

@@ -8,7 +8,9 @@ use Rattle.ep_tree.specs.Heights.{height, highest}
 use Rattle.ep_tree.specs.Phrases.{Lexeme, StartsAt, a_word, ◌followed_by◌}
 use Rattle.ep_tree.specs.Spelling.{ClosedBefore, Level, Spells, SpellsMoreParts, SpellsNode, SpellsParts, ends_open, has_trees, own_level, rank, trees_end_open, unaries}
 use Rattle.ep_tree.specs.Trees.{ExprTree, ExprTrees, no_trees, place_of, tree_and}
-use Rattle.ep_parse_expr.specs.Readers.{Lower, Reader, as_trees, going_on, if_low, if_some, is_there, kept, more_from, next_in, only_word, others_from, part_from, parts_behind, parts_from, took, with_operator, ◌and_then◌}
+use Rattle.ep_parse_expr.specs.OperandReaders.{Lower, as_trees, if_low, is_there}
+use Rattle.ep_parse_expr.specs.OperatorReaders.{only_word, part_from, parts_behind, parts_from, with_operator}
+use Rattle.ep_parse_expr.specs.Readers.{Reader, going_on, if_some, kept, more_from, next_in, others_from, took, ◌and_then◌}
 use Rattle.ep_parse_expr.proofs.Again.{AreComplete, Ends, EndsBefore, NoImplications, behind_word_cut, below_again, lexeme, same_place, word_again}
 
 -- expressions as a list

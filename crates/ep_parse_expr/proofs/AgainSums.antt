@@ -8,7 +8,9 @@ use Rattle.ep_tree.specs.Phrases.{Lexeme, StartsAt, a_word, ◌followed_by◌}
 use Rattle.ep_tree.specs.Spelling.{ClosedBefore, Level, Spells, SpellsChain, SpellsNode, SpellsTerms, binary_level, comparisons, conjunctions, disjunctions, ends_open, has_terms, implications, own_level, powers, primaries, products, rank, reads, sign_word, sums, terms_end_open, unaries}
 use Rattle.ep_tree.specs.Trees.{ExprTree, Terms, absolute, all_different, all_of, any_of, at_least, at_most, binary, chain, compare, comprehension, factorial, flatten, folded, gcc, group, in_domain, in_set, lex, literal, minus, named, negation, no_terms, number, place_of, quantified, read, table, term_and, to_int, truth}
 use Rattle.ep_tree.specs.declared.syntax.BinaryOp.{BinaryOp}
-use Rattle.ep_parse_expr.specs.Readers.{Lower, Reader, Term, as_terms, behind, chain_from, going_on, if_low, if_some, is_there, kept, looked_up, more_from, next_in, others_from, product_from, says, sign_words, term_behind, term_from, terms_behind, terms_from, took, with_operator, wrong, ◌and_then◌}
+use Rattle.ep_parse_expr.specs.OperandReaders.{Lower, if_low, is_there}
+use Rattle.ep_parse_expr.specs.OperatorReaders.{Term, as_terms, chain_from, product_from, sign_words, term_behind, term_from, terms_behind, terms_from, with_operator}
+use Rattle.ep_parse_expr.specs.Readers.{Reader, behind, going_on, if_some, kept, looked_up, more_from, next_in, others_from, says, took, wrong, ◌and_then◌}
 use Rattle.ep_parse_expr.proofs.Again.{AreComplete, Ends, EndsBefore, NoImplications, NoSums, behind_word_cut, below_again, lexeme, same_place}
 
 -- terms as a list

@@ -4,7 +4,9 @@ use Rattle.std.proofs.Common.{ap, sym, subst, ◌∙◌, append_assoc}
 use Rattle.std.proofs.lemmas.Slice.Eq.{bytes_eq-Decides}
 use Rattle.ep_base.specs.declared.places.Place.{Place}
 use Rattle.ep_tree.specs.Phrases.{Is, Lexeme, Phrase, Saying, Silence, StartsAt, a_name, a_number, a_word, ◌followed_by◌}
-use Rattle.ep_parse_expr.specs.Readers.{Read, Reader, behind, chosen, found_or, going_on, grown_from, growing, high, if_low, if_some, only_if, operated, is_word, looked_up, meant_by, more_from, next_in, says, took, word_from, wrong, ◌and_then◌}
+use Rattle.ep_parse_expr.specs.OperandReaders.{if_low}
+use Rattle.ep_parse_expr.specs.OperatorReaders.{only_if, operated}
+use Rattle.ep_parse_expr.specs.Readers.{Read, Reader, behind, chosen, found_or, going_on, grown_from, growing, high, if_some, is_word, looked_up, meant_by, more_from, next_in, says, took, word_from, wrong, ◌and_then◌}
 
 -- something holds of what is taken and of the tokens behind it
 pub record Holds {A : Type 0} (Q : A → List Lexeme → Type 0) (r : Read A) : Type 0 where

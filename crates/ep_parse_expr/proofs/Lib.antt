@@ -16,3 +16,15 @@ pub mod AgainJunctions
 pub mod AgainSums
 pub mod AgainComparisons
 pub mod AgainLists
+pub mod AgainStarts
+pub mod AgainPhrases
+pub mod AgainOpened
+pub mod AgainBrackets
+pub mod AgainOperands
+pub mod AgainReads
+pub mod AgainRanges
+pub mod AgainDomains
+pub mod AgainAll
+pub mod Cursors
+pub mod Turns
+pub mod NameTurns

@@ -10,7 +10,11 @@ use Rattle.ep_tree.specs.Phrases.{Lexeme, Phrase, Says, Saying, Silence, a_name,
 use Rattle.ep_tree.specs.Spelling.{BetweenDomains, DomainLevel, Level, MatrixHead, MatrixTail, Spells, SpellsDomain, SpellsDomainNode, SpellsEnd, SpellsIndexDomains, SpellsMoreIndexDomains, SpellsMoreRanges, SpellsRanges, comparisons, conjunctions, disjunctions, domain_rank, domains, implications, own_domain_level, powers, primaries, products, rank, reads, set_operations, set_parts, set_word, sums, unaries}
 use Rattle.ep_tree.specs.Trees.{DomainTree, Domains, End, bool, domain_and, end_at, group_domain, int, matrix_domain, named_domain, no_end, place_of_domain, ranges, set_domain}
 use Rattle.ep_tree.specs.declared.syntax.SetOp.{SetOp}
-use Rattle.ep_parse_expr.specs.Readers.{DomainOpening, Lower, RangeRead, a_bool, a_domain_group, an_int, another_index_domain, another_operation, any_domain_from, as_domains, as_ranges, at_level, behind, behind_comma, domain_at_level, domain_begun_from, domain_next, domain_open_from, domain_openings, domain_part_from, end_from, expr_from, expression_next, index_domain_behind, is_word, looked_up, matrix_follows, matrix_from, matrix_head_from, next_in, none_low, of_number, of_span, operations_from, others_from, range_from, ranges_from, says, set_words, some_domain_from, word_from}
+use Rattle.ep_parse_expr.specs.DomainReaders.{DomainOpening, RangeRead, a_bool, a_domain_group, an_int, another_index_domain, another_operation, any_domain_from, as_domains, as_ranges, domain_at_level, domain_begun_from, domain_open_from, domain_openings, domain_part_from, end_from, index_domain_behind, matrix_follows, matrix_from, matrix_head_from, of_number, of_span, operations_from, range_from, ranges_from, set_words}
+use Rattle.ep_parse_expr.specs.OperandReaders.{Lower, domain_next, expression_next, none_low}
+use Rattle.ep_parse_expr.specs.OperatorReaders.{at_level}
+use Rattle.ep_parse_expr.specs.Readers.{behind, behind_comma, is_word, looked_up, next_in, others_from, says, word_from}
+use Rattle.ep_parse_expr.specs.TreeReaders.{expr_from, some_domain_from}
 use Rattle.ep_parse_expr.proofs.Holding.{AreWordsOf, Holds, HoldsIf, Takes, behind_three, behind_two, grown_sound, holds_as, holds_chosen, holds_high, holds_low, holds_then, holds_took, holds_wrong, is_word-sound, looked_up-sound, more_sound, next_in-sound, operated_sound, says_sound, takes_as, takes_nothing, takes_then, ungrouped, word_sound}
 use Rattle.ep_parse_expr.proofs.SoundLists.{whole}
 use Rattle.ep_parse_expr.proofs.SoundOperators.{chain_sound, comparison_sound, conjunction_sound, disjunction_sound, implication_sound, power_sound, product_sound}

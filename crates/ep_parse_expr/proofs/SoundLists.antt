@@ -8,7 +8,8 @@ use Rattle.ep_tree.specs.Heights.{domain_height, height, highest, highest_genera
 use Rattle.ep_tree.specs.Phrases.{Lexeme, Names, Says, ◌followed_by◌}
 use Rattle.ep_tree.specs.Spelling.{Spells, SpellsDomain, SpellsGenerators, SpellsIndexDomain, SpellsMore, SpellsMoreGenerators, SpellsNode, implications, rank, set_operations}
 use Rattle.ep_tree.specs.Trees.{ExprTree, ExprTrees, Generators, IndexDomain, comprehension, literal, over, tree_and, truth, unstated}
-use Rattle.ep_parse_expr.specs.Readers.{Generator, Lower, another_generator, as_generators, as_trees, behind, behind_comma, closed_by, colon_comes, comprehension_from, conditions_from, generator_from, index_domain_from, list_end, literal_from, names_from, others_from, says, took, word_from}
+use Rattle.ep_parse_expr.specs.OperandReaders.{Generator, Lower, another_generator, as_generators, as_trees, closed_by, colon_comes, comprehension_from, conditions_from, generator_from, index_domain_from, list_end, literal_from}
+use Rattle.ep_parse_expr.specs.Readers.{behind, behind_comma, names_from, others_from, says, took, word_from}
 use Rattle.ep_parse_expr.proofs.Holding.{Holds, Takes, holds_as, holds_chosen, holds_low, holds_then, behind_three, holds_took, more_sound, says_sound, takes_nothing, takes_then, word_sound}
 use Rattle.ep_parse_expr.proofs.SoundParts.{AreSound, IsDomain, IsExpr, closed_sound, comma_sound, kept-sound, names_sound, takes_domain, takes_expr}
 

@@ -11,7 +11,8 @@ use Rattle.ep_tree.specs.Trees.{ExprTree, absolute, binary, comprehension, folde
 use Rattle.ep_tree.specs.declared.syntax.BinaryOp.{BinaryOp}
 use Rattle.ep_tree.specs.declared.syntax.FoldOp.{FoldOp}
 use Rattle.ep_tree.specs.declared.syntax.QuantOp.{QuantOp}
-use Rattle.ep_parse_expr.specs.Readers.{Lower, OnePart, Opening, ThreeParts, a_bar, a_bracket, a_greatest, a_group, a_least, a_minus, a_negation, a_quantifier, a_sum, a_table, a_truth, all_different_in, and_part, begun_from, behind, bracket_from, call_from, call_of_three_from, call_of_two_from, closed_by, counts_at_least, counts_at_most, counts_in, expression_next, factorial_of, flatten_of, folded_by, looked_up, names_from, of_one, of_three, one_part, open_from, opened_from, openings, operand_from, quantifier_from, says, sum_from, table_from, three_parts, to_int_of, took, word_from, ◌and_then◌}
+use Rattle.ep_parse_expr.specs.OperandReaders.{Lower, OnePart, Opening, ThreeParts, a_bar, a_bracket, a_greatest, a_group, a_least, a_minus, a_negation, a_quantifier, a_sum, a_table, a_truth, all_different_in, and_part, begun_from, bracket_from, call_from, call_of_three_from, call_of_two_from, closed_by, counts_at_least, counts_at_most, counts_in, expression_next, factorial_of, flatten_of, folded_by, of_one, of_three, one_part, open_from, opened_from, openings, operand_from, quantifier_from, sum_from, table_from, three_parts, to_int_of}
+use Rattle.ep_parse_expr.specs.Readers.{behind, looked_up, names_from, says, took, word_from, ◌and_then◌}
 use Rattle.ep_parse_expr.proofs.Holding.{AreWordsOf, Holds, Takes, behind_two, holds_chosen, holds_low, holds_then, holds_took, holds_wrong, looked_up-sound, says_sound, takes_as, takes_nothing, takes_then, ungrouped, word_sound}
 use Rattle.ep_parse_expr.proofs.SoundLists.{comprehension_sound, list_end_sound, literal_sound, whole}
 use Rattle.ep_parse_expr.proofs.SoundParts.{AreSound, IsDomain, IsExpr, alone, and_part_sound, brackets_sound, closed_sound, names_sound, opened_by, takes_domain, takes_expr}

@@ -11,7 +11,9 @@ use Rattle.ep_tree.specs.Phrases.{Is, Lexeme, Says, a_word, ◌followed_by◌}
 use Rattle.ep_tree.specs.Spelling.{Call1, ClosedBefore, Level, Spells, SpellsDomain, SpellsMoreParts, SpellsNode, SpellsParts, SpellsTerms, binary_level, binary_word, compare_word, comparisons, conjunctions, disjunctions, ends_open, has_terms, has_trees, implications, is_called, lex_word, own_level, powers, products, rank, set_operations, sign_word, sums, tighter, unaries}
 use Rattle.ep_tree.specs.Trees.{ExprTree, ExprTrees, all_of, any_of, binary, chain, compare, in_domain, in_set, lex, place_of, term_and, tree_and}
 use Rattle.ep_tree.specs.declared.syntax.BinaryOp.{BinaryOp}
-use Rattle.ep_parse_expr.specs.Readers.{Comparison, Lower, Term, another_binary, as_terms, as_trees, behind, call_from, chain_from, closed_by, compared_with, comparison_behind, comparison_from, comparison_words, conjunction_from, disjunction_from, implication_from, implication_words, is_there, next_in, of_lists, of_numbers, of_set, only_word, others_from, part_from, parts_behind, parts_from, power_from, power_words, product_from, product_words, says, sign_words, term_behind, term_from, terms_behind, terms_from, took, unary_from, with_operator, word_from, wrong}
+use Rattle.ep_parse_expr.specs.OperandReaders.{Lower, as_trees, call_from, closed_by, is_there}
+use Rattle.ep_parse_expr.specs.OperatorReaders.{Comparison, Term, another_binary, as_terms, chain_from, compared_with, comparison_behind, comparison_from, comparison_words, conjunction_from, disjunction_from, implication_from, implication_words, of_lists, of_numbers, of_set, only_word, part_from, parts_behind, parts_from, power_from, power_words, product_from, product_words, sign_words, term_behind, term_from, terms_behind, terms_from, unary_from, with_operator}
+use Rattle.ep_parse_expr.specs.Readers.{behind, next_in, others_from, says, took, word_from, wrong}
 use Rattle.ep_parse_expr.proofs.Holding.{AllEntries, AreWordsOf, Holds, HoldsIf, Takes, behind_two, grown_sound, holds_as, holds_chosen, holds_low, holds_then, holds_took, holds_wrong, if_grown_sound, if_some_sound, more_sound, next_in-all, next_in-sound, operated_sound, says_sound, takes_as, takes_nothing, takes_then, word_sound}
 use Rattle.ep_parse_expr.proofs.SoundParts.{AreSound, IsDomain, IsExpr, begun_by, brackets_sound, closed_sound, kept-sound, looser, takes_domain, takes_expr}
 use Rattle.ep_parse_expr.proofs.SoundReads.{unary_sound}

@@ -7,7 +7,8 @@ use Rattle.ep_tree.specs.Heights.{domain_height, height}
 use Rattle.ep_tree.specs.Phrases.{Is, Lexeme, Names, Phrase, Says, Saying, Silence, StartsAt, a_name, a_number, a_word, ◌followed_by◌}
 use Rattle.ep_tree.specs.Spelling.{DomainLevel, Level, Spells, SpellsDomain, SpellsDomainNode, SpellsNode, domain_rank, implications, own_domain_level, own_level, rank, unaries}
 use Rattle.ep_tree.specs.Trees.{DomainTree, ExprTree, place_of, place_of_domain}
-use Rattle.ep_parse_expr.specs.Readers.{Lower, Reader, and_part, behind, behind_comma, closed_by, in_brackets, kept, name_from, name_in, names_from, others_from, says, took, word_from, ◌and_then◌}
+use Rattle.ep_parse_expr.specs.OperandReaders.{Lower, and_part, closed_by, in_brackets}
+use Rattle.ep_parse_expr.specs.Readers.{Reader, behind, behind_comma, kept, name_from, name_in, names_from, others_from, says, took, word_from, ◌and_then◌}
 use Rattle.ep_parse_expr.proofs.Holding.{Holds, Takes, holds_as, holds_then, holds_took, holds_wrong, more_sound, says_sound, starts_front, takes_as, takes_nothing, takes_then, takes_token, word_sound}
 
 -- ---- expressions and domains that are taken

@@ -8,7 +8,9 @@ use Rattle.ep_tree.specs.Heights.{height, highest_index}
 use Rattle.ep_tree.specs.Phrases.{Lexeme, Phrase, Says, ◌followed_by◌}
 use Rattle.ep_tree.specs.Spelling.{BetweenIndices, Spells, SpellsIndices, SpellsLastIndices, SpellsMoreIndices, SpellsNode, implications, own_level, rank, reads, takes_own_group, unaries}
 use Rattle.ep_tree.specs.Trees.{ExprTree, Indices, no_indices, place_of, read}
-use Rattle.ep_parse_expr.specs.Readers.{Index, Lower, another_index, another_read, as_indices, behind, index_from, kept, kept_or, operand_from, others_from, read_from, says, takes_group, unary_from, with_index}
+use Rattle.ep_parse_expr.specs.OperandReaders.{Lower, operand_from}
+use Rattle.ep_parse_expr.specs.OperatorReaders.{Index, another_index, another_read, as_indices, index_from, read_from, takes_group, unary_from, with_index}
+use Rattle.ep_parse_expr.specs.Readers.{behind, kept, kept_or, others_from, says}
 use Rattle.ep_parse_expr.proofs.Holding.{Holds, HoldsIf, Takes, grown_sound, holds_as, holds_chosen, holds_low, holds_then, holds_took, more_sound, only_if_sound, says_sound, takes_as, takes_nothing, takes_then}
 use Rattle.ep_parse_expr.proofs.SoundLists.{whole}
 use Rattle.ep_parse_expr.proofs.SoundOpened.{operand_sound}

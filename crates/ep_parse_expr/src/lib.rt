@@ -2,7 +2,13 @@
 #![tactic(auto)]
 
 mod calls;
+mod cursor;
 mod errors;
+mod laws;
+mod lists;
 
 pub use calls::{parse_domain, parse_expr};
+pub use cursor::{Cursor, Stop};
 pub use errors::ParseError;
+pub use laws::tokens_spell_one_tree;
+pub use lists::names;

@@ -23,3 +23,5 @@ mod TokenFacts
 mod SmallLaws
 mod EarlyLaws
 pub mod OneAnswer
+pub mod GroupsAgain
+pub mod TextsAgain

@@ -5,3 +5,4 @@ pub mod Tokens
 pub mod Reading
 pub mod Names
 pub mod Answers
+pub mod TextReaders

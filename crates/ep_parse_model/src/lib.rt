@@ -6,6 +6,7 @@ mod cursor;
 mod early;
 mod errors;
 mod expressions;
+mod laws;
 mod names;
 mod statements;
 mod text_errors;
@@ -13,6 +14,7 @@ mod text_errors;
 pub use calls::{parse_model, parse_params};
 pub use early::{early_models_are_small, one_early_model, parse_early};
 pub use errors::EarlyError;
+pub use laws::{texts_have_one_answer, tokens_spell_one_text};
 pub use text_errors::TextError;
 
 #[cfg(test)]
