@@ -1,5 +1,5 @@
 -- What checking does at the forms with lists of parts, domains or quantified names, as the code's trees have them.
-use Rattle.std.proofs.Common.{◌≡◌, ℕ, ◌+◌, ◌<◌, ◌≤◌, Bool, true, false, not, ◌&&◌, ◌||◌, List, [], ◌∷◌, ◌++◌, length, drop, get_or, Some, None, Ok, Err, Option, refl, sym, ap, ◌∙◌}
+use Rattle.std.proofs.Common.{◌≡◌, ℕ, ◌+◌, ◌<◌, ◌≤◌, Bool, true, false, not, ◌&&◌, ◌||◌, List, [], ◌∷◌, length, drop, get_or, Some, None, Ok, Option, refl, sym, ap, ◌∙◌}
 use Rattle.std.proofs.Math.ListN.{drop_of_length-le}
 use Rattle.std.specs.List.{list_all}
 use Rattle.std.specs.declared.boxed.Box.{Box}
@@ -10,20 +10,26 @@ use Rattle.ep_base.specs.declared.places.Place.{Place}
 use Rattle.ep_tree.specs.Faults.{entry_count, has_open_range, leaves_matrix, open_domain}
 use Rattle.ep_tree.specs.Names.{put}
 use Rattle.ep_tree.specs.Types.{Context, gives, is_boolean, is_integer, list_type, matrix_type, quantified_name, quantified_type, read_type, slice_count, typed}
-use Rattle.ep_tree.specs.Views.{domain_kind_tree, domain_tree, domains_of, end_of, expr_tree, expr_trees, generators_of, indices_of, kind_tree, ranges_of, terms_of}
+use Rattle.ep_tree.specs.Views.{domain_kind_tree, domain_tree, domains_of, expr_tree, expr_trees, generators_of, indices_of, kind_tree, ranges_of, terms_of}
 use Rattle.ep_tree.specs.declared.syntax.Domain.{Domain}
 use Rattle.ep_tree.specs.declared.syntax.DomainKind.{DomainKind, Matrix, Ranges}
 use Rattle.ep_tree.specs.declared.syntax.Expr.{Expr}
 use Rattle.ep_tree.specs.declared.syntax.Generator.{Generator}
 use Rattle.ep_tree.specs.declared.syntax.Kind.{Kind, Add, And, Comprehension, Literal, Or, Quant, Read}
 use Rattle.ep_tree.specs.declared.syntax.QuantOp.{QuantOp}
-use Rattle.ep_tree.specs.declared.syntax.Range.{One, Range, Span}
+use Rattle.ep_tree.specs.declared.syntax.Range.{Range}
 use Rattle.ep_tree.specs.declared.values.ValueType.{ValueType}
-use Rattle.ep_tree.proofs.ViewLemmas.{domain_kind_tree-matrix, domain_kind_tree-ranges, index_of, kind_tree-all_of, kind_tree-any_of, kind_tree-chain, kind_tree-comprehension, kind_tree-literal, kind_tree-quantified, kind_tree-read, with_range-one, with_range-span}
+use Rattle.ep_tree.proofs.ViewLemmas.{domain_kind_tree-matrix, domain_kind_tree-ranges, index_of, kind_tree-all_of, kind_tree-any_of, kind_tree-chain, kind_tree-comprehension, kind_tree-literal, kind_tree-quantified, kind_tree-read}
 use Rattle.ep_types.proofs.Walks.{Walks, behind_all, next_is}
-use Rattle.ep_types.specs.Checking.{Checked, check, check_all, check_domain, check_domains, check_end, check_generators, check_index, check_indices, check_ranges, check_readings, check_terms, conclude, quantified_over, unless_fault, ◌>>=◌}
+use Rattle.ep_types.specs.Reading.{stated_index}
+use Rattle.ep_types.specs.Checking.{Checked, check, check_all, check_domain, check_domains, check_generators, check_index, check_indices, check_ranges, check_readings, check_terms, conclude, quantified_over, unless_fault, ◌>>=◌}
 
 -- ---- expressions
+
+index_is : (dom : Option (Box Domain Global)) → index_of dom ≡ stated_index dom
+unfolding index_of stated_index
+index_is None = refl
+index_is (Some dom) = refl
 
 module _ (c : Context) (d : Bool) (p : Place) (k : Kind) where
   pub chain_parts : (terms : Vec (Bool × Expr) Global) (s : List (Bool × Expr)) → k ≡ Add terms → s ≡ terms.items
@@ -55,22 +61,23 @@ module _ (c : Context) (d : Bool) (p : Place) (k : Kind) where
       ∙ rw (sym at) (rw (sym dx) (rw (sym dy) refl))
 
   pub literal_parts : (parts : Vec Expr Global) (dom : Option (Box Domain Global)) (s : List Expr) → k ≡ Literal parts dom → s ≡ parts.items
-      → check c d (kind_tree p k) ≡ (check_all c d (expr_trees s) >>= λ ts. check_index c (index_of dom) >>= λ scalar. conclude p (quantified_over scalar (list_type ts)))
+      → check c d (kind_tree p k) ≡ (check_all c d (expr_trees s) >>= λ ts. check_index c (stated_index dom) >>= λ scalar. conclude p (quantified_over scalar (list_type ts)))
   unfolding check
   literal_parts parts dom s is at =
       ap (λ x. check c d (kind_tree p x)) is ∙ ap (check c d) (kind_tree-literal p parts dom)
       ∙ ap (λ x. check_all c d (expr_trees x) >>= λ ts. check_index c (index_of dom) >>= λ scalar. conclude p (quantified_over scalar (list_type ts))) (sym at)
+      ∙ ap (λ x. check_all c d (expr_trees s) >>= λ ts. check_index c x >>= λ scalar. conclude p (quantified_over scalar (list_type ts))) (index_is dom)
 
   pub comprehension_parts : (e : Box Expr Global) (gens : Vec Generator Global) (conditions : Vec Expr Global) (dom : Option (Box Domain Global)) (gs : List Generator) (s : List Expr) (y : Expr)
       → k ≡ Comprehension e gens conditions dom → gs ≡ gens.items → s ≡ conditions.items → y ≡ e.value
-      → check c d (kind_tree p k) ≡ (check_index c (index_of dom) >>= λ index. check_generators c (generators_of gs) >>= λ behind.
+      → check c d (kind_tree p k) ≡ (check_index c (stated_index dom) >>= λ index. check_generators c (generators_of gs) >>= λ behind.
       check_all behind.1 false (expr_trees s) >>= λ truths.
       check behind.1 d (expr_tree y) >>= λ t.
       conclude p (quantified_over (index && behind.0 && list_all is_boolean truths) (list_type (t ∷ []))))
   unfolding check
   comprehension_parts e gens conditions dom gs s y is ag at dy =
       ap (λ z. check c d (kind_tree p z)) is ∙ ap (check c d) (kind_tree-comprehension p e gens conditions dom)
-      ∙ rw (sym ag) (rw (sym at) (rw (sym dy) refl))
+      ∙ rw (sym ag) (rw (sym at) (rw (sym dy) (rw (index_is dom) refl)))
 
   pub read_parts : (m : Box Expr Global) (indices : Vec (Option Expr) Global) (s : List (Option Expr)) (y : Expr) → k ≡ Read m indices → s ≡ indices.items → y ≡ m.value
       → check c d (kind_tree p k) ≡ (check c d (expr_tree y) >>= λ t.
@@ -129,34 +136,6 @@ unfolding check indices_of
 no_index c d xs i le = ap (λ l. check_indices c d (indices_of l)) (drop_of_length-le xs le)
 
 -- ---- ranges
-
--- two types before others
-abbrev both_before : Checked ValueType → Checked (List ValueType) → ValueType → Checked (List ValueType)
-both_before o r s = o >>= λ t. r >>= λ ts. Ok (s ∷ t ∷ ts)
-
-abbrev then_before : Checked ValueType → Checked (List ValueType) → ValueType → Checked (List ValueType)
-then_before o r s = (o >>= λ t. r >>= λ ts. Ok (t ∷ ts)) >>= λ us. Ok (s ∷ us)
-
-regroup : (one o : Checked ValueType) (r : Checked (List ValueType)) → (one >>= both_before o r) ≡ (one >>= then_before o r)
-regroup (Err f) o r = refl
-regroup (Ok s) (Err f) r = refl
-regroup (Ok s) (Ok t) (Err f) = refl
-regroup (Ok s) (Ok t) (Ok ts) = refl
-
-module _ (c : Context) (xs : List Range) (i : ℕ) (x : Range) (lt : i < length xs) (at : x ≡ get_or xs i x) where
-  pub one_range : (e : Expr) → x ≡ One e → check_ranges c (ranges_of (drop i xs)) ≡ (check c false (expr_tree e) >>= λ t. check_ranges c (ranges_of (drop (i + 1) xs)) >>= λ ts. Ok (t ∷ ts))
-  unfolding check ranges_of
-  one_range e is =
-      ap (λ l. check_ranges c (ranges_of l)) (next_is xs i x lt at) ∙ ap (λ y. check_ranges c (ranges_of (y ∷ drop (i + 1) xs))) is
-      ∙ ap (check_ranges c) (with_range-one e (ranges_of (drop (i + 1) xs)))
-
-  pub span_range : (a b : Option Expr) → x ≡ Span a b
-      → check_ranges c (ranges_of (drop i xs)) ≡ (check_end c (end_of a) >>= λ s. (check_end c (end_of b) >>= λ t. check_ranges c (ranges_of (drop (i + 1) xs)) >>= λ ts. Ok (t ∷ ts)) >>= λ us. Ok (s ∷ us))
-  unfolding check ranges_of
-  span_range a b is =
-      ap (λ l. check_ranges c (ranges_of l)) (next_is xs i x lt at) ∙ ap (λ y. check_ranges c (ranges_of (y ∷ drop (i + 1) xs))) is
-      ∙ ap (check_ranges c) (with_range-span a b (ranges_of (drop (i + 1) xs)))
-      ∙ regroup (check_end c (end_of a)) (check_end c (end_of b)) (check_ranges c (ranges_of (drop (i + 1) xs)))
 
 pub no_range : (c : Context) (xs : List Range) (i : ℕ) → length xs ≤ i → check_ranges c (ranges_of (drop i xs)) ≡ Ok []
 unfolding check ranges_of

@@ -1,6 +1,6 @@
 -- Names that hide what others stood for, and show it again.
-use Rattle.std.specs.Prelude.{◌≡◌, ℕ, List, [], ◌++◌, length, take, refl}
-use Rattle.std.proofs.Common.{ap, sym, ◌∙◌, append_assoc}
+use Rattle.std.specs.Prelude.{◌≡◌, ℕ, [], ◌++◌, length, take, vec_len}
+use Rattle.std.proofs.Common.{arith, ap, sym, ◌∙◌, append_assoc}
 use Rattle.std.proofs.lemmas.List.{append-nil, take_at}
 use Rattle.ep_types.specs.Hiding.{Hides}
 use Rattle.ep_types.specs.Meanings.{IsSame, behind_names, context_of, known_by}
@@ -27,3 +27,7 @@ shown old mid new depth h d i t =
       declared = same;
       context = ap (λ es. behind_names es (known_by new.declared.now.entries)) inner ∙ ap (λ m. behind_names old.inner.items (known_by m.now.entries)) same;
     }
+
+-- how many names hide others
+pub counted : (names : Names) → vec_len names.inner ≡ length names.inner.items
+counted names = omega (arith, names.inner.ok.0)

@@ -9,3 +9,4 @@ pub mod Hiding
 pub mod PlaceLaws
 pub mod StatementSteps
 pub mod Readings
+pub mod Bounds

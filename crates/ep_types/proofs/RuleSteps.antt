@@ -1,6 +1,6 @@
 -- Steps of the proofs on the rules of lists, reads and matrices.
-use Rattle.std.proofs.Common.{◌≡◌, ℕ, suc, ◌+◌, ◌-◌, ◌<◌, ◌≤◌, Bool, true, false, not, ◌&&◌, ◌||◌, ◌==◌, List, [], ◌∷◌, length, drop, get_or, Some, None, Ok, Err, Option, refl, sym, ap, ◌∙◌, if◌then◌else◌, arith}
-use Rattle.std.specs.Prelude.{zero, nat_le, nat_lt, is_some}
+use Rattle.std.proofs.Common.{◌≡◌, ℕ, suc, ◌+◌, ◌<◌, ◌≤◌, Bool, true, false, not, ◌&&◌, ◌||◌, ◌==◌, List, [], ◌∷◌, length, drop, get_or, Some, None, Ok, Err, Option, refl, sym, ap, ◌∙◌, if◌then◌else◌, arith}
+use Rattle.std.specs.Prelude.{zero, nat_le, is_some}
 use Rattle.std.specs.List.{list_all}
 use Rattle.std.proofs.Math.ListN.{drop_of_length-le}
 use Rattle.std.proofs.lemmas.Bool.{ne_eqb}

@@ -1,6 +1,6 @@
 -- Steps of the proofs on statements and the names that they declare.
-use Rattle.std.proofs.Common.{◌≡◌, ℕ, ◌+◌, ◌<◌, ◌≤◌, Bool, true, false, List, [], ◌∷◌, ◌++◌, length, drop, get_or, map, filter, subst, bytes_eq, if◌then◌else◌, Some, None, Ok, Err, Option, refl, sym, ap, ◌∙◌}
-use Rattle.std.specs.Prelude.{is_none, is_some, option_map, unwrap_or}
+use Rattle.std.proofs.Common.{◌≡◌, ℕ, ◌+◌, ◌<◌, ◌≤◌, Bool, true, false, List, [], ◌∷◌, length, drop, get_or, map, filter, subst, bytes_eq, if◌then◌else◌, Some, None, Ok, Err, Option, refl, sym, ap, ◌∙◌}
+use Rattle.std.specs.Prelude.{is_none, is_some, option_map}
 use Rattle.std.proofs.Math.ListN.{drop_of_length-le}
 use Rattle.std.proofs.Math.Path.{fun_ext}
 use Rattle.std.specs.Borrow.{Bor}
@@ -8,7 +8,7 @@ use Rattle.indexmap.specs.IndexMap.{insert_entry}
 use Rattle.std.proofs.lemmas.Slice.Eq.{bytes_eq-Decides}
 use Rattle.ep_base.specs.declared.names.Name.{Name}
 use Rattle.ep_base.specs.declared.places.Place.{Place}
-use Rattle.ep_tree.specs.Faults.{Fault, faults_after, redeclared, text_faults, unknown_name}
+use Rattle.ep_tree.specs.Faults.{faults_after, redeclared, text_faults, unknown_name}
 use Rattle.ep_tree.specs.Names.{nothing_known, put}
 use Rattle.ep_tree.specs.Types as types
 use Rattle.ep_tree.specs.Types.{Context, a_value, gives, is_boolean, is_integer}
@@ -20,7 +20,6 @@ use Rattle.ep_tree.specs.declared.syntax.Expr.{Expr}
 use Rattle.ep_types.proofs.PlaceLaws.{place_of_tree}
 use Rattle.ep_tree.specs.declared.statements.Declared.{Declared}
 use Rattle.ep_tree.specs.declared.statements.Statement.{Statement}
-use Rattle.ep_tree.specs.declared.values.ValueType.{ValueType}
 use Rattle.ep_types.proofs.Walks.{Blames, next_is}
 use Rattle.ep_types.proofs.Sound.{AreTyped, Sound, text_sound}
 use Rattle.ep_types.specs.Checking.{Checked, check, check_goal, check_stated, conclude, check_branching, check_clause, check_clauses, check_declared, check_domain, check_groups, check_statement, check_text, unless_fault, ◌>>=◌}

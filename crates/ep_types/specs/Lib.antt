@@ -4,3 +4,4 @@ pub mod Checking
 pub mod Meanings
 pub mod Hiding
 pub mod Declaring
+pub mod Reading

@@ -2,7 +2,6 @@
 #![tactic(auto)]
 
 mod check;
-mod domains;
 mod errors;
 mod expressions;
 mod names;

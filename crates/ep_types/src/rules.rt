@@ -1,6 +1,6 @@
 //! The types of nodes by those of their parts.
 
-ghost use Rattle.std.specs.Prelude.{◌≡◌, ◌&&◌, ◌||◌, ◌+◌, ◌-◌, ◌≤◌, ◌∷◌, [], if◌then◌else◌, length, nat_le, nat_lt};
+ghost use Rattle.std.specs.Prelude.{◌≡◌, ◌&&◌, ◌||◌, ◌+◌, ◌-◌, ◌≤◌, ◌∷◌, [], if◌then◌else◌, length, nat_le, nat_lt, not};
 ghost use Rattle.std.specs.List.{list_all};
 ghost use Rattle.ep_tree.specs.Faults.{entry_count, has_open_range, is_power, leaves_matrix, open_domain};
 ghost use Rattle.ep_tree.specs.Types as types;
@@ -161,6 +161,13 @@ pub(crate) fn binary(
         }
         _ => gives(place, ValueType::Int, is_integer(one) && is_integer(other)),
     }
+}
+
+/// Whether two types are integer.
+pub(crate) fn are_integer(one: ValueType, other: ValueType) -> bool
+    ensures { result ≡ (types.is_integer one && types.is_integer other) }
+{
+    is_integer(one) && is_integer(other)
 }
 
 /// A Boolean node of two integers.
@@ -561,6 +568,31 @@ pub(crate) fn both(one: bool, other: bool) -> bool
     ensures { result ≡ (one && other) }
 {
     one && other
+}
+
+/// The list of all parts of a matrix.
+#[tactic(auto, unfolding(ep_tree::specs::Types::gives))]
+pub(crate) fn flattened(place: Place, ty: ValueType) -> Result<ValueType, StaticError>
+    ensures { Says (λ t. t) result (conclude place
+        (types.gives (ValueType.Matrix 1 (types.scalar_of ty)) (types.is_matrix ty))) }
+{
+    let of = scalar_of(ty);
+    gives(place, ValueType::Matrix { dims: 1, of }, is_matrix(ty))
+}
+
+/// Whether a decision variable's name may stand in the indices of a read of this type.
+pub(crate) fn may_decide_indices(decisions: bool, ty: ValueType, indices: &[Option<Expr>]) -> bool
+    ensures { result ≡ (decisions && not (leaves_matrix (typed ty) (entry_count (indices_of indices.now))
+        (types.slice_count (indices_of indices.now)))) }
+{
+    both(decisions, !leaves_matrix(ty, indices))
+}
+
+/// Whether these ranges may stand where open ones may or may not.
+pub(crate) fn may_have_ranges(may_open: bool, ranges: &[Range]) -> bool
+    ensures { result ≡ (may_open || not (has_open_range (ranges_of ranges.now))) }
+{
+    may_open || !has_open_range(ranges)
 }
 
 /// A range may be open, or none is; else the domain is at fault.

@@ -11,9 +11,8 @@ ghost use Rattle.ep_types.specs.Checking.{Says, check_declared, unless_fault};
 ghost use Rattle.ep_types.specs.Meanings.{known_by, meaning_of};
 ghost use Rattle.ep_types.specs.Named.{IsUnknown, fault_of};
 
-use crate::domains::domain_type;
 use crate::errors::StaticError;
-use crate::expressions::type_of;
+use crate::expressions::{domain_type, type_of};
 use crate::names::{Meaning, Names};
 use crate::rules;
 use ep_base::{Name, Place};

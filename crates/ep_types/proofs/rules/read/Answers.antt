@@ -1,4 +1,4 @@
-use Rattle.std.proofs.Common.{ap, ◌∙◌}
+use Rattle.std.proofs.Common.{ap}
 use Rattle.ep_tree.specs.Types.{read_type}
 use Rattle.ep_types.proofs.NameSteps.{ill_typed_is}
 use Rattle.ep_types.specs.Checking.{conclude}

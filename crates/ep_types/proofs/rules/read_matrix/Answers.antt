@@ -1,5 +1,4 @@
-use Rattle.std.proofs.Common.{sym, ap, ◌∙◌, ◌&&◌, ◌+◌, ◌-◌, length, arith}
-use Rattle.std.specs.Prelude.{nat_le}
+use Rattle.std.proofs.Common.{sym, ap, ◌∙◌, ◌+◌, ◌-◌, length, arith}
 use Rattle.std.specs.List.{list_all}
 use Rattle.ep_tree.specs.Types.{gives, is_integer, left_type}
 use Rattle.ep_types.proofs.NameSteps.{ill_typed_is, says_same}

@@ -1,4 +1,4 @@
-use Rattle.std.proofs.Common.{sym, ◌∙◌, arith}
+use Rattle.std.proofs.Common.{arith}
 use Rattle.ep_types.proofs.RuleSteps.{count_end, count_next}
 use Rattle.ep_types.proofs.rules.slice_count.Goals as goal
 

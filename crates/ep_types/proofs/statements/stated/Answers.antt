@@ -1,4 +1,3 @@
-use Rattle.std.proofs.Common.{ap, ◌∙◌}
 use Rattle.std.proofs.lemmas.Result.{err_from_is_err_and}
 use Rattle.ep_types.proofs.StatementSteps.{stated_none, stated_some}
 use Rattle.ep_types.proofs.Walks.{blames_first, then_is}
