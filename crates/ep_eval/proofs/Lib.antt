@@ -10,3 +10,11 @@ pub mod TermSteps
 pub mod RangeNumbers
 pub mod Both
 pub mod Looking
+pub mod ListForms
+pub mod ListLaws
+pub mod Products
+pub mod Sums
+pub mod ValueScalars
+pub mod Defined
+pub mod FoldGiven
+pub mod DomainForms

@@ -6,3 +6,4 @@ pub mod Helds
 pub mod Scopes
 pub mod Counting
 pub mod Ranges
+pub mod Folding

@@ -11,11 +11,12 @@ use super::errors::EvalError;
 use super::forms::{holds, truth_value};
 use super::held::{Held, held_truth, number_of};
 use super::numbers::number_seen;
+use super::powers::power;
 use ep_base::CompareOp;
 use ep_tree::{BinaryOp, Mode};
 
 /// Whether a number stands for true.
-fn is_true(number: i64) -> bool
+pub fn is_true(number: i64) -> bool
     ensures { result ≡ is_one number }
 {
     number == 1
@@ -80,7 +81,7 @@ fn of_two<'a>(op: BinaryOp, left: i64, right: i64) -> Result<Option<Held<'a>>, E
         BinaryOp::Mul => number_seen(i128::from(left) * i128::from(right)),
         BinaryOp::Div => some_number(quotient(left, right)),
         BinaryOp::Mod => some_number(remainder(left, right)),
-        BinaryOp::Pow => Err(EvalError::Memory),
+        BinaryOp::Pow => power(left, right),
         BinaryOp::Min => number_seen(i128::from(left.min(right))),
         BinaryOp::Max => number_seen(i128::from(left.max(right))),
         BinaryOp::Implies => Ok(held_truth(implies(left, right))),

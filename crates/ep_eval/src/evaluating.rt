@@ -19,13 +19,18 @@ ghost use Rattle.ep_eval.specs.declared.errors.EvalError.TheVariants as error;
 ghost use Rattle.ep_base.specs.declared.operators.Limit.TheVariants as limit;
 
 use super::binaries::{binary, some_number};
+use super::counts::{counting, look_up_row};
 use super::errors::EvalError;
+use super::folds::folded;
 use super::forms::{comparison, negation, together, truth_value};
 use super::held::{Held, held_truth, number_of, truth_seen};
 use super::numbers::{absolute, minus};
+use super::operands::flattened;
+use super::orders::{difference, lex_comparison, membership};
+use super::powers::factorial;
 use super::scopes::{Scope, look_up};
 use super::totals::with_term;
-use ep_base::Limit;
+use ep_base::{CompareOp, Limit};
 use ep_tree::{Expr, Kind};
 
 /// The greatest number of nodes that may be met.
@@ -150,6 +155,76 @@ fn kind_value<'a>(
         Kind::Or(parts) => {
             let truth = truths(scope, met, false, parts)?;
             Ok(truth_value(scope.env.mode(), truth))
+        }
+        Kind::Fold(op, part) => {
+            let seen = value_of(scope, met, part)?;
+            folded(scope.alloc, scope.env.mode(), *op, &seen)
+        }
+        Kind::AllDiff(part) => {
+            let seen = value_of(scope, met, part)?;
+            difference(scope.alloc, scope.env.mode(), &seen)
+        }
+        Kind::Factorial(part) => {
+            let seen = value_of(scope, met, part)?;
+            factorial(&seen)
+        }
+        Kind::Flatten(part) => {
+            let seen = value_of(scope, met, part)?;
+            flattened(scope.alloc, &seen)
+        }
+        Kind::Lex(op, left, right) => {
+            let first = value_of(scope, met, left)?;
+            let second = value_of(scope, met, right)?;
+            lex_comparison(scope.alloc, scope.env.mode(), *op, &first, &second)
+        }
+        Kind::InSet(part, set) => {
+            let first = value_of(scope, met, part)?;
+            let second = value_of(scope, met, set)?;
+            membership(scope.alloc, scope.env.mode(), &first, &second)
+        }
+        Kind::Table(row, rows) => {
+            let first = value_of(scope, met, row)?;
+            let second = value_of(scope, met, rows)?;
+            look_up_row(scope.alloc, scope.env.mode(), &first, &second)
+        }
+        Kind::Gcc(part, values, counts) => {
+            let first = value_of(scope, met, part)?;
+            let second = value_of(scope, met, values)?;
+            let third = value_of(scope, met, counts)?;
+            counting(
+                scope.alloc,
+                scope.env.mode(),
+                CompareOp::Equal,
+                &first,
+                &second,
+                &third,
+            )
+        }
+        Kind::AtLeast(part, counts, values) => {
+            let first = value_of(scope, met, part)?;
+            let second = value_of(scope, met, counts)?;
+            let third = value_of(scope, met, values)?;
+            counting(
+                scope.alloc,
+                scope.env.mode(),
+                CompareOp::AtLeast,
+                &first,
+                &third,
+                &second,
+            )
+        }
+        Kind::AtMost(part, counts, values) => {
+            let first = value_of(scope, met, part)?;
+            let second = value_of(scope, met, counts)?;
+            let third = value_of(scope, met, values)?;
+            counting(
+                scope.alloc,
+                scope.env.mode(),
+                CompareOp::AtMost,
+                &first,
+                &third,
+                &second,
+            )
         }
         _ => Err(EvalError::Memory),
     }

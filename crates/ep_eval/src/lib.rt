@@ -3,14 +3,19 @@
 
 mod binaries;
 mod copies;
+mod counts;
 mod domains;
 mod environments;
 mod errors;
 mod evaluating;
 mod evaluation;
+mod folds;
 mod forms;
 mod held;
 mod numbers;
+mod operands;
+mod orders;
+mod powers;
 mod scopes;
 #[cfg(test)]
 mod tests;

@@ -16,7 +16,7 @@ use ep_base::Limit;
 const MOST_REACH: i128 = 1_099_511_627_776;
 
 /// Whether a number is too far from 0.
-fn is_far_wide(number: i128) -> bool
+pub fn is_far_wide(number: i128) -> bool
     ensures { result ≡ is_too_far number }
 {
     number > MOST_REACH || number < -MOST_REACH
@@ -48,6 +48,16 @@ pub fn absolute<'a>(seen: &Option<Held>) -> Result<Option<Held<'a>>, EvalError>
 {
     match number_of(seen) {
         Some(number) => number_seen(i128::from(number).abs()),
+        None => Ok(None),
+    }
+}
+
+/// A number, if there is one, and it isn't too far from 0.
+pub fn some_word<'a>(number: Option<i64>) -> Result<Option<Held<'a>>, EvalError>
+    ensures { Gives result (number_value number) }
+{
+    match number {
+        Some(number) => number_seen(i128::from(number)),
         None => Ok(None),
     }
 }

@@ -1,8 +1,12 @@
 //! Small expressions in both modes.
 
+use crate::counts::{counting, look_up_row};
+use crate::folds::folded;
+use crate::held::{Held, number_of};
+use crate::orders::{difference, lex_comparison, membership};
 use crate::{Env, EvalError, Seen, evaluate};
-use ep_base::{CompareOp, Name, Place};
-use ep_tree::{BinaryOp, Expr, Kind, Mode, Value};
+use ep_base::{CompareOp, LexOp, Name, Place};
+use ep_tree::{BinaryOp, Expr, FoldOp, Kind, Mode, Value};
 use std::alloc::{AllocError, Global};
 use std::test::Fail;
 
@@ -109,5 +113,105 @@ fn chains_have_their_totals(rt: HostRuntime) -> Result<(), Fail> {
     terms.push((false, placed(Kind::Number(8))))?;
     let total = placed(Kind::Add(terms));
     assert_eq!(rt; worth(alloc, Mode::Strict, &total)?, Some(-3));
+    Ok(())
+}
+
+/// A power.
+fn power_of(alloc: Global, left: i64, right: i64) -> Result<Option<i64>, EvalError> {
+    worth_of_two(alloc, Mode::Strict, BinaryOp::Pow, left, right)
+}
+
+#[test]
+fn powers_end_at_numbers_too_far_from_0(rt: HostRuntime) -> Result<(), Fail> {
+    let alloc = rt.alloc();
+    assert_eq!(rt; power_of(alloc, -2, 3)?, Some(-8));
+    assert_eq!(rt; power_of(alloc, 0, 0)?, Some(1));
+    assert_eq!(rt; power_of(alloc, -1, 1_099_511_627_775)?, Some(-1));
+    assert_eq!(rt; power_of(alloc, 2, -1)?, None);
+    assert!(rt; power_of(alloc, 2, 41).is_err());
+    Ok(())
+}
+
+/// A matrix of one dimension.
+fn list(alloc: Global, numbers: &[i64]) -> Result<Option<Held<'static>>, AllocError> {
+    let mut indices = Vec::new(alloc);
+    let mut parts = Vec::new(alloc);
+    for number in numbers {
+        indices.push(1)?;
+        parts.push(Value::Number(*number))?;
+    }
+    Ok(Some(Held::Made(Value::Matrix(indices, parts))))
+}
+
+/// A fold of a matrix.
+fn fold_of(alloc: Global, op: FoldOp, numbers: &[i64]) -> Result<Option<i64>, EvalError> {
+    let seen = list(alloc, numbers)?;
+    let given = folded(alloc, Mode::Strict, op, &seen)?;
+    Ok(number_of(&given))
+}
+
+#[test]
+fn lists_are_folded(rt: HostRuntime) -> Result<(), Fail> {
+    let alloc = rt.alloc();
+    assert_eq!(rt; fold_of(alloc, FoldOp::Sum, &[3, -8])?, Some(-5));
+    assert_eq!(rt; fold_of(alloc, FoldOp::Product, &[3, -8])?, Some(-24));
+    assert_eq!(rt; fold_of(alloc, FoldOp::And, &[])?, Some(1));
+    assert_eq!(rt; fold_of(alloc, FoldOp::Or, &[])?, Some(0));
+    assert_eq!(rt; fold_of(alloc, FoldOp::Min, &[3, -8])?, Some(-8));
+    assert_eq!(rt; fold_of(alloc, FoldOp::Max, &[])?, None);
+    assert!(rt; fold_of(alloc, FoldOp::Product, &[1_099_511_627_776, 2, 0]).is_err());
+    Ok(())
+}
+
+#[test]
+fn lists_are_compared(rt: HostRuntime) -> Result<(), Fail> {
+    let alloc = rt.alloc();
+    let short = list(alloc, &[1, 2])?;
+    let long = list(alloc, &[1, 2, 1])?;
+    let lex = lex_comparison(alloc, Mode::Strict, LexOp::Less, &short, &long)?;
+    assert_eq!(rt; number_of(&lex), Some(1));
+    let differ = difference(alloc, Mode::Strict, &long)?;
+    assert_eq!(rt; number_of(&differ), Some(0));
+    let within = membership(alloc, Mode::Relational, &None, &long)?;
+    assert_eq!(rt; number_of(&within), Some(0));
+    Ok(())
+}
+
+#[test]
+fn counts_of_another_length_have_no_value(rt: HostRuntime) -> Result<(), Fail> {
+    let alloc = rt.alloc();
+    let parts = list(alloc, &[2, 1, 1])?;
+    let counts = list(alloc, &[2, 1])?;
+    let values = list(alloc, &[1, 2])?;
+    let gcc = counting(
+        alloc,
+        Mode::Strict,
+        CompareOp::Equal,
+        &parts,
+        &values,
+        &counts,
+    )?;
+    assert_eq!(rt; number_of(&gcc), Some(1));
+    let longer = counting(
+        alloc,
+        Mode::Relational,
+        CompareOp::AtMost,
+        &parts,
+        &parts,
+        &counts,
+    )?;
+    assert_eq!(rt; number_of(&longer), Some(0));
+    let none = counting(
+        alloc,
+        Mode::Strict,
+        CompareOp::AtLeast,
+        &parts,
+        &parts,
+        &counts,
+    )?;
+    assert_eq!(rt; number_of(&none), None);
+    let no_rows = list(alloc, &[])?;
+    let row = look_up_row(alloc, Mode::Strict, &parts, &no_rows)?;
+    assert_eq!(rt; number_of(&row), Some(0));
     Ok(())
 }

@@ -1,25 +1,28 @@
-use Rattle.std.proofs.Common.{◌≡◌, ◌+◌, ◌+ℤ◌, Bool, ◌∷◌, ℕ, List, drop, subst, [], ap, sym, ◌∙◌, arith, Some, w64, to_z, of_z}
-use Rattle.std.specs.Prelude.{neg_ℤ, option_map, not}
+use Rattle.std.proofs.Common.{refl, ◌≡◌, ◌+◌, ◌+ℤ◌, Bool, ◌∷◌, ℕ, List, drop, subst, [], ap, sym, ◌∙◌, arith, Some, w64, to_z, of_z}
+use Rattle.std.specs.Prelude.{neg_ℤ, option_and_then, option_map, not}
 use Rattle.ep_tree.specs.Limits.{limits_of_values}
 use Rattle.std.proofs.lemmas.Int.{to_z-of_z, ints}
 use Rattle.std.proofs.lemmas.Result.{err_from_is_err_and}
-use Rattle.ep_tree.proofs.EvaluationEquations.{evaluate-chain, evaluate-all_of, evaluate-any_of, evaluate-absolute, evaluate-binary, evaluate-minus, evaluate-named, evaluate-compare, evaluate-group, evaluate-negation, evaluate-number, evaluate-to_int, evaluate-truth}
-use Rattle.ep_tree.proofs.ViewLemmas.{kind_tree-chain, kind_tree-all_of, kind_tree-any_of, kind_tree-absolute, kind_tree-binary, kind_tree-minus, kind_tree-named, kind_tree-compare, kind_tree-group, kind_tree-negation, kind_tree-number, kind_tree-to_int, kind_tree-truth}
-use Rattle.ep_tree.specs.Evaluation.{signed, binary_value, evaluate, map_both, number_in, number_value, truth_in, truth_of}
-use Rattle.ep_base.specs.Numbers.{absolute_of, compare_holds}
+use Rattle.ep_tree.proofs.EvaluationEquations.{evaluate-all_different, evaluate-at_least, evaluate-at_most, evaluate-factorial, evaluate-flatten, evaluate-gcc, evaluate-in_set, evaluate-lex, evaluate-table, evaluate-chain, evaluate-all_of, evaluate-any_of, evaluate-absolute, evaluate-binary, evaluate-minus, evaluate-named, evaluate-compare, evaluate-group, evaluate-negation, evaluate-number, evaluate-to_int, evaluate-truth}
+use Rattle.ep_tree.proofs.ViewLemmas.{kind_tree-all_different, kind_tree-at_least, kind_tree-at_most, kind_tree-factorial, kind_tree-flatten, kind_tree-folded, kind_tree-gcc, kind_tree-in_set, kind_tree-lex, kind_tree-table, kind_tree-chain, kind_tree-all_of, kind_tree-any_of, kind_tree-absolute, kind_tree-binary, kind_tree-minus, kind_tree-named, kind_tree-compare, kind_tree-group, kind_tree-negation, kind_tree-number, kind_tree-to_int, kind_tree-truth}
+use Rattle.ep_tree.specs.Evaluation.{folded_value, on_both, on_three, rows_in, scalars_in, signed, binary_value, evaluate, map_both, number_in, number_value, truth_in, truth_of}
+use Rattle.ep_base.specs.Numbers.{absolute_of, are_different, compare_holds, counts_hold, factorial_of, has_number, is_row_of, lex_holds}
+use Rattle.ep_base.specs.declared.operators.CompareOp.{CompareOp}
 use Rattle.ep_tree.specs.Measures.{met, met_all, met_terms}
-use Rattle.ep_tree.specs.Trees.{chain, absolute, all_of, any_of, binary, minus, named, compare, group, negation, number, to_int, truth}
-use Rattle.ep_tree.specs.Values.{single}
+use Rattle.ep_tree.specs.Trees.{all_different, at_least, at_most, factorial, flatten, gcc, in_set, lex, table, chain, absolute, all_of, any_of, binary, minus, named, compare, group, negation, number, to_int, truth}
+use Rattle.ep_tree.specs.Values.{list_value, single}
 use Rattle.ep_tree.specs.Views.{expr_tree, expr_trees, kind_tree, terms_of}
 use Rattle.ep_eval.proofs.TermSteps.{small_total, total_begins, total_cause, total_counted, total_goes_on, total_value}
 use Rattle.ep_tree.specs.declared.syntax.Expr.{Expr}
 use Rattle.std.proofs.lemmas.List.{drop_all, drop_more}
 use Rattle.ep_eval.proofs.PartSteps.{TruthsSoFar, truths_begin, truths_cause, truths_counted, truths_more, truths_value}
+use Rattle.ep_eval.proofs.ListForms.{fold_cause, fold_refused, fold_value, meets_at_least, meets_at_most, meets_gcc, one_given, one_given_cause, three, three_first, three_given, three_given_cause, three_second, three_third, two_given, two_given_cause}
 use Rattle.ep_eval.specs.Counting.{is_far_value, of_all, together}
+use Rattle.ep_eval.specs.Folding.{GivesAt, folded_numbers}
 use Rattle.ep_eval.specs.Helds.{held_value, seen_held}
 use Rattle.ep_eval.specs.Scopes.{env_in, mode_in}
 use Rattle.ep_eval.proofs.Countings.{counted_none, node_refuses, size_refuses}
-use Rattle.ep_eval.proofs.FormParts.{form_far, meets_chain, form_cause, meets_all_of, meets_any_of, given_cause, given_value, meets_absolute, meets_binary, meets_minus, one_far, two_far, meets_named, first_cause, meets_compare, second_cause, two_value, form_value, meets_group, meets_negation, meets_number, meets_some, meets_to_int, meets_truth, one_cause, one_value}
+use Rattle.ep_eval.proofs.FormParts.{meets_all_different, meets_factorial, meets_flatten, meets_in_set, meets_lex, meets_table, form_far, meets_chain, form_cause, meets_all_of, meets_any_of, given_cause, given_value, meets_absolute, meets_binary, meets_minus, one_far, two_far, meets_named, first_cause, meets_compare, second_cause, two_value, form_value, meets_group, meets_negation, meets_number, meets_some, meets_to_int, meets_truth, one_cause, one_value}
 use Rattle.ep_eval.proofs.Countings.{far_cause, refused_whole}
 use Rattle.ep_eval.proofs.evaluating.+evaluating.Goals as goal
 
@@ -283,6 +286,418 @@ kind_value-returns-in_err-second-in-Binary-clause-cause t c =
     (λ p. ap (kind_tree p) c.in-Binary.is ∙ kind_tree-binary p op c.in-Binary.left c.in-Binary.right) c.deref-in-Binary.ensures c.deref-in-Binary-2.ensures
     (meets_binary mode env op) c.in_ok-first-in-Binary.ensures.counted
     c.in_err-second-in-Binary.field-0.0 c.in_err-second-in-Binary.ensures.cause)
+
+pub kind_value-returns-in_ok-seen-in-Fold-clause-value : goal.kind_value-returns-in_ok-seen-in-Fold-clause-value
+kind_value-returns-in_ok-seen-in-Fold-clause-value t c =
+    let op = c.in-Fold.op in
+    let seen = seen_held c.in_ok-seen-in-Fold.seen in
+    fold_value (mode_in c.args.scope) (env_in c.args.scope) c.args.met.now c.value_of-in-Fold.new.met seen op c.args.kind.now c.in-Fold.part.value c.deref-in-Fold.result.now c.folded.result
+    (λ p. ap (kind_tree p) c.in-Fold.is ∙ kind_tree-folded p op c.in-Fold.part) c.deref-in-Fold.ensures
+    c.in_ok-seen-in-Fold.ensures.counted c.in_ok-seen-in-Fold.ensures.value
+    (subst (λ m. GivesAt c.folded.result (folded_value m op (scalars_in seen)) (folded_numbers m op (scalars_in seen))) c.mode-in-Fold.ensures.mode c.folded.ensures)
+
+pub kind_value-returns-in_ok-seen-in-Fold-clause-cause : goal.kind_value-returns-in_ok-seen-in-Fold-clause-cause
+kind_value-returns-in_ok-seen-in-Fold-clause-cause t c =
+    let op = c.in-Fold.op in
+    let seen = seen_held c.in_ok-seen-in-Fold.seen in
+    fold_cause (mode_in c.args.scope) (env_in c.args.scope) c.args.met.now seen op c.args.kind.now c.in-Fold.part.value c.deref-in-Fold.result.now c.folded.result
+    (λ p. ap (kind_tree p) c.in-Fold.is ∙ kind_tree-folded p op c.in-Fold.part) c.deref-in-Fold.ensures
+    c.in_ok-seen-in-Fold.ensures.value
+    (subst (λ m. GivesAt c.folded.result (folded_value m op (scalars_in seen)) (folded_numbers m op (scalars_in seen))) c.mode-in-Fold.ensures.mode c.folded.ensures)
+
+pub kind_value-returns-in_err-seen-in-Fold-clause-cause : goal.kind_value-returns-in_err-seen-in-Fold-clause-cause
+kind_value-returns-in_err-seen-in-Fold-clause-cause t c =
+    let op = c.in-Fold.op in
+    let p = err_from_is_err_and c.from_residual-in_err-seen-in-Fold.result c.from_residual-in_err-seen-in-Fold.ensures.1 in
+    rw (p.1, p.2)
+    (fold_refused (mode_in c.args.scope) (env_in c.args.scope) c.args.met.now op c.args.kind.now c.in-Fold.part.value c.deref-in-Fold.result.now
+    (λ p. ap (kind_tree p) c.in-Fold.is ∙ kind_tree-folded p op c.in-Fold.part) c.deref-in-Fold.ensures
+    c.in_err-seen-in-Fold.field-0.0 c.in_err-seen-in-Fold.ensures.cause)
+
+pub kind_value-returns-in_ok-seen-in-AllDiff-clause-value : goal.kind_value-returns-in_ok-seen-in-AllDiff-clause-value
+kind_value-returns-in_ok-seen-in-AllDiff-clause-value t c =
+    let mode = mode_in c.args.scope in
+    let env = env_in c.args.scope in
+    one_given mode c.mode-in-AllDiff.result env c.args.met.now c.value_of-in-AllDiff.new.met (seen_held c.in_ok-seen-in-AllDiff.seen) (λ m s. truth_in m (option_map are_different (scalars_in s)))
+    all_different c.args.kind.now c.in-AllDiff.part.value c.deref-in-AllDiff.result.now c.difference.result
+    (λ p. ap (kind_tree p) c.in-AllDiff.is ∙ kind_tree-all_different p c.in-AllDiff.part) c.deref-in-AllDiff.ensures (meets_all_different mode env) (evaluate-all_different mode env)
+    c.in_ok-seen-in-AllDiff.ensures.counted c.in_ok-seen-in-AllDiff.ensures.value c.mode-in-AllDiff.ensures.mode c.difference.ensures
+
+pub kind_value-returns-in_ok-seen-in-AllDiff-clause-cause : goal.kind_value-returns-in_ok-seen-in-AllDiff-clause-cause
+kind_value-returns-in_ok-seen-in-AllDiff-clause-cause t c =
+    let mode = mode_in c.args.scope in
+    let env = env_in c.args.scope in
+    one_given_cause mode c.mode-in-AllDiff.result env c.args.met.now (seen_held c.in_ok-seen-in-AllDiff.seen) (λ m s. truth_in m (option_map are_different (scalars_in s)))
+    all_different c.args.kind.now c.in-AllDiff.part.value c.deref-in-AllDiff.result.now c.difference.result
+    (λ p. ap (kind_tree p) c.in-AllDiff.is ∙ kind_tree-all_different p c.in-AllDiff.part) c.deref-in-AllDiff.ensures (meets_all_different mode env) (evaluate-all_different mode env)
+    c.in_ok-seen-in-AllDiff.ensures.value c.mode-in-AllDiff.ensures.mode c.difference.ensures
+
+pub kind_value-returns-in_err-seen-in-AllDiff-clause-cause : goal.kind_value-returns-in_err-seen-in-AllDiff-clause-cause
+kind_value-returns-in_err-seen-in-AllDiff-clause-cause t c =
+    let mode = mode_in c.args.scope in
+    let env = env_in c.args.scope in
+    let p = err_from_is_err_and c.from_residual-in_err-seen-in-AllDiff.result c.from_residual-in_err-seen-in-AllDiff.ensures.1 in
+    rw (p.1, p.2)
+    (one_cause mode env c.args.met.now all_different c.args.kind.now c.in-AllDiff.part.value c.deref-in-AllDiff.result.now
+    (λ p. ap (kind_tree p) c.in-AllDiff.is ∙ kind_tree-all_different p c.in-AllDiff.part) c.deref-in-AllDiff.ensures (meets_all_different mode env)
+    c.in_err-seen-in-AllDiff.field-0.0 c.in_err-seen-in-AllDiff.ensures.cause)
+
+pub kind_value-returns-in_ok-seen-in-Factorial-clause-value : goal.kind_value-returns-in_ok-seen-in-Factorial-clause-value
+kind_value-returns-in_ok-seen-in-Factorial-clause-value t c =
+    let mode = mode_in c.args.scope in
+    let env = env_in c.args.scope in
+    one_given mode mode env c.args.met.now c.value_of-in-Factorial.new.met (seen_held c.in_ok-seen-in-Factorial.seen) (λ m s. number_value (option_and_then factorial_of (number_in s)))
+    factorial c.args.kind.now c.in-Factorial.part.value c.deref-in-Factorial.result.now c.factorial.result
+    (λ p. ap (kind_tree p) c.in-Factorial.is ∙ kind_tree-factorial p c.in-Factorial.part) c.deref-in-Factorial.ensures (meets_factorial mode env) (evaluate-factorial mode env)
+    c.in_ok-seen-in-Factorial.ensures.counted c.in_ok-seen-in-Factorial.ensures.value refl c.factorial.ensures
+
+pub kind_value-returns-in_ok-seen-in-Factorial-clause-cause : goal.kind_value-returns-in_ok-seen-in-Factorial-clause-cause
+kind_value-returns-in_ok-seen-in-Factorial-clause-cause t c =
+    let mode = mode_in c.args.scope in
+    let env = env_in c.args.scope in
+    one_given_cause mode mode env c.args.met.now (seen_held c.in_ok-seen-in-Factorial.seen) (λ m s. number_value (option_and_then factorial_of (number_in s)))
+    factorial c.args.kind.now c.in-Factorial.part.value c.deref-in-Factorial.result.now c.factorial.result
+    (λ p. ap (kind_tree p) c.in-Factorial.is ∙ kind_tree-factorial p c.in-Factorial.part) c.deref-in-Factorial.ensures (meets_factorial mode env) (evaluate-factorial mode env)
+    c.in_ok-seen-in-Factorial.ensures.value refl c.factorial.ensures
+
+pub kind_value-returns-in_err-seen-in-Factorial-clause-cause : goal.kind_value-returns-in_err-seen-in-Factorial-clause-cause
+kind_value-returns-in_err-seen-in-Factorial-clause-cause t c =
+    let mode = mode_in c.args.scope in
+    let env = env_in c.args.scope in
+    let p = err_from_is_err_and c.from_residual-in_err-seen-in-Factorial.result c.from_residual-in_err-seen-in-Factorial.ensures.1 in
+    rw (p.1, p.2)
+    (one_cause mode env c.args.met.now factorial c.args.kind.now c.in-Factorial.part.value c.deref-in-Factorial.result.now
+    (λ p. ap (kind_tree p) c.in-Factorial.is ∙ kind_tree-factorial p c.in-Factorial.part) c.deref-in-Factorial.ensures (meets_factorial mode env)
+    c.in_err-seen-in-Factorial.field-0.0 c.in_err-seen-in-Factorial.ensures.cause)
+
+pub kind_value-returns-in_ok-seen-in-Flatten-clause-value : goal.kind_value-returns-in_ok-seen-in-Flatten-clause-value
+kind_value-returns-in_ok-seen-in-Flatten-clause-value t c =
+    let mode = mode_in c.args.scope in
+    let env = env_in c.args.scope in
+    one_given mode mode env c.args.met.now c.value_of-in-Flatten.new.met (seen_held c.in_ok-seen-in-Flatten.seen) (λ m s. option_map list_value (scalars_in s))
+    flatten c.args.kind.now c.in-Flatten.part.value c.deref-in-Flatten.result.now c.flattened.result
+    (λ p. ap (kind_tree p) c.in-Flatten.is ∙ kind_tree-flatten p c.in-Flatten.part) c.deref-in-Flatten.ensures (meets_flatten mode env) (evaluate-flatten mode env)
+    c.in_ok-seen-in-Flatten.ensures.counted c.in_ok-seen-in-Flatten.ensures.value refl c.flattened.ensures
+
+pub kind_value-returns-in_ok-seen-in-Flatten-clause-cause : goal.kind_value-returns-in_ok-seen-in-Flatten-clause-cause
+kind_value-returns-in_ok-seen-in-Flatten-clause-cause t c =
+    let mode = mode_in c.args.scope in
+    let env = env_in c.args.scope in
+    one_given_cause mode mode env c.args.met.now (seen_held c.in_ok-seen-in-Flatten.seen) (λ m s. option_map list_value (scalars_in s))
+    flatten c.args.kind.now c.in-Flatten.part.value c.deref-in-Flatten.result.now c.flattened.result
+    (λ p. ap (kind_tree p) c.in-Flatten.is ∙ kind_tree-flatten p c.in-Flatten.part) c.deref-in-Flatten.ensures (meets_flatten mode env) (evaluate-flatten mode env)
+    c.in_ok-seen-in-Flatten.ensures.value refl c.flattened.ensures
+
+pub kind_value-returns-in_err-seen-in-Flatten-clause-cause : goal.kind_value-returns-in_err-seen-in-Flatten-clause-cause
+kind_value-returns-in_err-seen-in-Flatten-clause-cause t c =
+    let mode = mode_in c.args.scope in
+    let env = env_in c.args.scope in
+    let p = err_from_is_err_and c.from_residual-in_err-seen-in-Flatten.result c.from_residual-in_err-seen-in-Flatten.ensures.1 in
+    rw (p.1, p.2)
+    (one_cause mode env c.args.met.now flatten c.args.kind.now c.in-Flatten.part.value c.deref-in-Flatten.result.now
+    (λ p. ap (kind_tree p) c.in-Flatten.is ∙ kind_tree-flatten p c.in-Flatten.part) c.deref-in-Flatten.ensures (meets_flatten mode env)
+    c.in_err-seen-in-Flatten.field-0.0 c.in_err-seen-in-Flatten.ensures.cause)
+
+pub kind_value-returns-in_ok-second-in-Lex-clause-value : goal.kind_value-returns-in_ok-second-in-Lex-clause-value
+kind_value-returns-in_ok-second-in-Lex-clause-value t c =
+    let mode = mode_in c.args.scope in
+    let env = env_in c.args.scope in
+    let op = c.in-Lex.op in
+    two_given mode c.mode-in-Lex.result env c.args.met.now c.value_of-in-Lex.new.met c.value_of-in-Lex-2.new.met
+    (seen_held c.in_ok-first-in-Lex.first) (seen_held c.in_ok-second-in-Lex.second) (λ m s u. truth_in m (map_both (lex_holds op) (scalars_in s) (scalars_in u)))
+    (λ p. lex p op) c.args.kind.now c.in-Lex.left.value c.in-Lex.right.value c.deref-in-Lex.result.now c.deref-in-Lex-2.result.now c.lex_comparison.result
+    (λ p. ap (kind_tree p) c.in-Lex.is ∙ kind_tree-lex p op c.in-Lex.left c.in-Lex.right) c.deref-in-Lex.ensures c.deref-in-Lex-2.ensures (meets_lex mode env op) (λ p e f. evaluate-lex mode env p op e f)
+    c.in_ok-first-in-Lex.ensures.counted c.in_ok-first-in-Lex.ensures.value
+    c.in_ok-second-in-Lex.ensures.counted c.in_ok-second-in-Lex.ensures.value c.mode-in-Lex.ensures.mode c.lex_comparison.ensures
+
+pub kind_value-returns-in_ok-second-in-Lex-clause-cause : goal.kind_value-returns-in_ok-second-in-Lex-clause-cause
+kind_value-returns-in_ok-second-in-Lex-clause-cause t c =
+    let mode = mode_in c.args.scope in
+    let env = env_in c.args.scope in
+    let op = c.in-Lex.op in
+    two_given_cause mode c.mode-in-Lex.result env c.args.met.now
+    (seen_held c.in_ok-first-in-Lex.first) (seen_held c.in_ok-second-in-Lex.second) (λ m s u. truth_in m (map_both (lex_holds op) (scalars_in s) (scalars_in u)))
+    (λ p. lex p op) c.args.kind.now c.in-Lex.left.value c.in-Lex.right.value c.deref-in-Lex.result.now c.deref-in-Lex-2.result.now c.lex_comparison.result
+    (λ p. ap (kind_tree p) c.in-Lex.is ∙ kind_tree-lex p op c.in-Lex.left c.in-Lex.right) c.deref-in-Lex.ensures c.deref-in-Lex-2.ensures (meets_lex mode env op) (λ p e f. evaluate-lex mode env p op e f)
+    c.in_ok-first-in-Lex.ensures.value c.in_ok-second-in-Lex.ensures.value c.mode-in-Lex.ensures.mode c.lex_comparison.ensures
+
+pub kind_value-returns-in_err-first-in-Lex-clause-cause : goal.kind_value-returns-in_err-first-in-Lex-clause-cause
+kind_value-returns-in_err-first-in-Lex-clause-cause t c =
+    let mode = mode_in c.args.scope in
+    let env = env_in c.args.scope in
+    let op = c.in-Lex.op in
+    let p = err_from_is_err_and c.from_residual-in_err-first-in-Lex.result c.from_residual-in_err-first-in-Lex.ensures.1 in
+    rw (p.1, p.2)
+    (first_cause mode env c.args.met.now (λ p. lex p op) c.args.kind.now c.in-Lex.left.value c.in-Lex.right.value c.deref-in-Lex.result.now
+    (λ p. ap (kind_tree p) c.in-Lex.is ∙ kind_tree-lex p op c.in-Lex.left c.in-Lex.right) c.deref-in-Lex.ensures
+    (meets_lex mode env op) c.in_err-first-in-Lex.field-0.0 c.in_err-first-in-Lex.ensures.cause)
+
+pub kind_value-returns-in_err-second-in-Lex-clause-cause : goal.kind_value-returns-in_err-second-in-Lex-clause-cause
+kind_value-returns-in_err-second-in-Lex-clause-cause t c =
+    let mode = mode_in c.args.scope in
+    let env = env_in c.args.scope in
+    let op = c.in-Lex.op in
+    let p = err_from_is_err_and c.from_residual-in_err-second-in-Lex.result c.from_residual-in_err-second-in-Lex.ensures.1 in
+    rw (p.1, p.2)
+    (second_cause mode env c.args.met.now c.value_of-in-Lex.new.met (λ p. lex p op) c.args.kind.now c.in-Lex.left.value c.in-Lex.right.value c.deref-in-Lex.result.now c.deref-in-Lex-2.result.now
+    (λ p. ap (kind_tree p) c.in-Lex.is ∙ kind_tree-lex p op c.in-Lex.left c.in-Lex.right) c.deref-in-Lex.ensures c.deref-in-Lex-2.ensures
+    (meets_lex mode env op) c.in_ok-first-in-Lex.ensures.counted
+    c.in_err-second-in-Lex.field-0.0 c.in_err-second-in-Lex.ensures.cause)
+
+pub kind_value-returns-in_ok-second-in-InSet-clause-value : goal.kind_value-returns-in_ok-second-in-InSet-clause-value
+kind_value-returns-in_ok-second-in-InSet-clause-value t c =
+    let mode = mode_in c.args.scope in
+    let env = env_in c.args.scope in
+    two_given mode c.mode-in-InSet.result env c.args.met.now c.value_of-in-InSet.new.met c.value_of-in-InSet-2.new.met
+    (seen_held c.in_ok-first-in-InSet.first) (seen_held c.in_ok-second-in-InSet.second) (λ m s u. truth_in m (map_both has_number (scalars_in u) (number_in s)))
+    in_set c.args.kind.now c.in-InSet.part.value c.in-InSet.set.value c.deref-in-InSet.result.now c.deref-in-InSet-2.result.now c.membership.result
+    (λ p. ap (kind_tree p) c.in-InSet.is ∙ kind_tree-in_set p c.in-InSet.part c.in-InSet.set) c.deref-in-InSet.ensures c.deref-in-InSet-2.ensures (meets_in_set mode env) (evaluate-in_set mode env)
+    c.in_ok-first-in-InSet.ensures.counted c.in_ok-first-in-InSet.ensures.value
+    c.in_ok-second-in-InSet.ensures.counted c.in_ok-second-in-InSet.ensures.value c.mode-in-InSet.ensures.mode c.membership.ensures
+
+pub kind_value-returns-in_ok-second-in-InSet-clause-cause : goal.kind_value-returns-in_ok-second-in-InSet-clause-cause
+kind_value-returns-in_ok-second-in-InSet-clause-cause t c =
+    let mode = mode_in c.args.scope in
+    let env = env_in c.args.scope in
+    two_given_cause mode c.mode-in-InSet.result env c.args.met.now
+    (seen_held c.in_ok-first-in-InSet.first) (seen_held c.in_ok-second-in-InSet.second) (λ m s u. truth_in m (map_both has_number (scalars_in u) (number_in s)))
+    in_set c.args.kind.now c.in-InSet.part.value c.in-InSet.set.value c.deref-in-InSet.result.now c.deref-in-InSet-2.result.now c.membership.result
+    (λ p. ap (kind_tree p) c.in-InSet.is ∙ kind_tree-in_set p c.in-InSet.part c.in-InSet.set) c.deref-in-InSet.ensures c.deref-in-InSet-2.ensures (meets_in_set mode env) (evaluate-in_set mode env)
+    c.in_ok-first-in-InSet.ensures.value c.in_ok-second-in-InSet.ensures.value c.mode-in-InSet.ensures.mode c.membership.ensures
+
+pub kind_value-returns-in_err-first-in-InSet-clause-cause : goal.kind_value-returns-in_err-first-in-InSet-clause-cause
+kind_value-returns-in_err-first-in-InSet-clause-cause t c =
+    let mode = mode_in c.args.scope in
+    let env = env_in c.args.scope in
+    let p = err_from_is_err_and c.from_residual-in_err-first-in-InSet.result c.from_residual-in_err-first-in-InSet.ensures.1 in
+    rw (p.1, p.2)
+    (first_cause mode env c.args.met.now in_set c.args.kind.now c.in-InSet.part.value c.in-InSet.set.value c.deref-in-InSet.result.now
+    (λ p. ap (kind_tree p) c.in-InSet.is ∙ kind_tree-in_set p c.in-InSet.part c.in-InSet.set) c.deref-in-InSet.ensures
+    (meets_in_set mode env) c.in_err-first-in-InSet.field-0.0 c.in_err-first-in-InSet.ensures.cause)
+
+pub kind_value-returns-in_err-second-in-InSet-clause-cause : goal.kind_value-returns-in_err-second-in-InSet-clause-cause
+kind_value-returns-in_err-second-in-InSet-clause-cause t c =
+    let mode = mode_in c.args.scope in
+    let env = env_in c.args.scope in
+    let p = err_from_is_err_and c.from_residual-in_err-second-in-InSet.result c.from_residual-in_err-second-in-InSet.ensures.1 in
+    rw (p.1, p.2)
+    (second_cause mode env c.args.met.now c.value_of-in-InSet.new.met in_set c.args.kind.now c.in-InSet.part.value c.in-InSet.set.value c.deref-in-InSet.result.now c.deref-in-InSet-2.result.now
+    (λ p. ap (kind_tree p) c.in-InSet.is ∙ kind_tree-in_set p c.in-InSet.part c.in-InSet.set) c.deref-in-InSet.ensures c.deref-in-InSet-2.ensures
+    (meets_in_set mode env) c.in_ok-first-in-InSet.ensures.counted
+    c.in_err-second-in-InSet.field-0.0 c.in_err-second-in-InSet.ensures.cause)
+
+pub kind_value-returns-in_ok-second-in-Table-clause-value : goal.kind_value-returns-in_ok-second-in-Table-clause-value
+kind_value-returns-in_ok-second-in-Table-clause-value t c =
+    let mode = mode_in c.args.scope in
+    let env = env_in c.args.scope in
+    two_given mode c.mode-in-Table.result env c.args.met.now c.value_of-in-Table.new.met c.value_of-in-Table-2.new.met
+    (seen_held c.in_ok-first-in-Table.first) (seen_held c.in_ok-second-in-Table.second) (λ m s u. truth_in m (on_both (rows_in u) (scalars_in s) is_row_of))
+    table c.args.kind.now c.in-Table.row.value c.in-Table.rows.value c.deref-in-Table.result.now c.deref-in-Table-2.result.now c.look_up_row.result
+    (λ p. ap (kind_tree p) c.in-Table.is ∙ kind_tree-table p c.in-Table.row c.in-Table.rows) c.deref-in-Table.ensures c.deref-in-Table-2.ensures (meets_table mode env) (evaluate-table mode env)
+    c.in_ok-first-in-Table.ensures.counted c.in_ok-first-in-Table.ensures.value
+    c.in_ok-second-in-Table.ensures.counted c.in_ok-second-in-Table.ensures.value c.mode-in-Table.ensures.mode c.look_up_row.ensures
+
+pub kind_value-returns-in_ok-second-in-Table-clause-cause : goal.kind_value-returns-in_ok-second-in-Table-clause-cause
+kind_value-returns-in_ok-second-in-Table-clause-cause t c =
+    let mode = mode_in c.args.scope in
+    let env = env_in c.args.scope in
+    two_given_cause mode c.mode-in-Table.result env c.args.met.now
+    (seen_held c.in_ok-first-in-Table.first) (seen_held c.in_ok-second-in-Table.second) (λ m s u. truth_in m (on_both (rows_in u) (scalars_in s) is_row_of))
+    table c.args.kind.now c.in-Table.row.value c.in-Table.rows.value c.deref-in-Table.result.now c.deref-in-Table-2.result.now c.look_up_row.result
+    (λ p. ap (kind_tree p) c.in-Table.is ∙ kind_tree-table p c.in-Table.row c.in-Table.rows) c.deref-in-Table.ensures c.deref-in-Table-2.ensures (meets_table mode env) (evaluate-table mode env)
+    c.in_ok-first-in-Table.ensures.value c.in_ok-second-in-Table.ensures.value c.mode-in-Table.ensures.mode c.look_up_row.ensures
+
+pub kind_value-returns-in_err-first-in-Table-clause-cause : goal.kind_value-returns-in_err-first-in-Table-clause-cause
+kind_value-returns-in_err-first-in-Table-clause-cause t c =
+    let mode = mode_in c.args.scope in
+    let env = env_in c.args.scope in
+    let p = err_from_is_err_and c.from_residual-in_err-first-in-Table.result c.from_residual-in_err-first-in-Table.ensures.1 in
+    rw (p.1, p.2)
+    (first_cause mode env c.args.met.now table c.args.kind.now c.in-Table.row.value c.in-Table.rows.value c.deref-in-Table.result.now
+    (λ p. ap (kind_tree p) c.in-Table.is ∙ kind_tree-table p c.in-Table.row c.in-Table.rows) c.deref-in-Table.ensures
+    (meets_table mode env) c.in_err-first-in-Table.field-0.0 c.in_err-first-in-Table.ensures.cause)
+
+pub kind_value-returns-in_err-second-in-Table-clause-cause : goal.kind_value-returns-in_err-second-in-Table-clause-cause
+kind_value-returns-in_err-second-in-Table-clause-cause t c =
+    let mode = mode_in c.args.scope in
+    let env = env_in c.args.scope in
+    let p = err_from_is_err_and c.from_residual-in_err-second-in-Table.result c.from_residual-in_err-second-in-Table.ensures.1 in
+    rw (p.1, p.2)
+    (second_cause mode env c.args.met.now c.value_of-in-Table.new.met table c.args.kind.now c.in-Table.row.value c.in-Table.rows.value c.deref-in-Table.result.now c.deref-in-Table-2.result.now
+    (λ p. ap (kind_tree p) c.in-Table.is ∙ kind_tree-table p c.in-Table.row c.in-Table.rows) c.deref-in-Table.ensures c.deref-in-Table-2.ensures
+    (meets_table mode env) c.in_ok-first-in-Table.ensures.counted
+    c.in_err-second-in-Table.field-0.0 c.in_err-second-in-Table.ensures.cause)
+
+pub kind_value-returns-in_ok-third-in-Gcc-clause-value : goal.kind_value-returns-in_ok-third-in-Gcc-clause-value
+kind_value-returns-in_ok-third-in-Gcc-clause-value t c =
+    let mode = mode_in c.args.scope in
+    let env = env_in c.args.scope in
+    three_given mode c.mode-in-Gcc.result env c.args.met.now c.value_of-in-Gcc.new.met c.value_of-in-Gcc-2.new.met c.value_of-in-Gcc-3.new.met
+    (seen_held c.in_ok-first-in-Gcc.first) (seen_held c.in_ok-second-in-Gcc.second) (seen_held c.in_ok-third-in-Gcc.third) (λ m s u w. truth_in m (on_three (scalars_in s) (scalars_in u) (scalars_in w) (counts_hold CompareOp.Equal)))
+    gcc c.args.kind.now c.deref-in-Gcc.result.now c.deref-in-Gcc-2.result.now c.deref-in-Gcc-3.result.now c.counting.result
+    (three c.args.kind.now gcc c.in-Gcc.part.value c.in-Gcc.values.value c.in-Gcc.counts.value c.deref-in-Gcc.result.now c.deref-in-Gcc-2.result.now c.deref-in-Gcc-3.result.now
+    (λ p. ap (kind_tree p) c.in-Gcc.is ∙ kind_tree-gcc p c.in-Gcc.part c.in-Gcc.values c.in-Gcc.counts) c.deref-in-Gcc.ensures c.deref-in-Gcc-2.ensures c.deref-in-Gcc-3.ensures) (meets_gcc mode env) (evaluate-gcc mode env)
+    c.in_ok-first-in-Gcc.ensures.counted c.in_ok-first-in-Gcc.ensures.value
+    c.in_ok-second-in-Gcc.ensures.counted c.in_ok-second-in-Gcc.ensures.value
+    c.in_ok-third-in-Gcc.ensures.counted c.in_ok-third-in-Gcc.ensures.value c.mode-in-Gcc.ensures.mode c.counting.ensures
+
+pub kind_value-returns-in_ok-third-in-Gcc-clause-cause : goal.kind_value-returns-in_ok-third-in-Gcc-clause-cause
+kind_value-returns-in_ok-third-in-Gcc-clause-cause t c =
+    let mode = mode_in c.args.scope in
+    let env = env_in c.args.scope in
+    three_given_cause mode c.mode-in-Gcc.result env c.args.met.now
+    (seen_held c.in_ok-first-in-Gcc.first) (seen_held c.in_ok-second-in-Gcc.second) (seen_held c.in_ok-third-in-Gcc.third) (λ m s u w. truth_in m (on_three (scalars_in s) (scalars_in u) (scalars_in w) (counts_hold CompareOp.Equal)))
+    gcc c.args.kind.now c.deref-in-Gcc.result.now c.deref-in-Gcc-2.result.now c.deref-in-Gcc-3.result.now c.counting.result
+    (three c.args.kind.now gcc c.in-Gcc.part.value c.in-Gcc.values.value c.in-Gcc.counts.value c.deref-in-Gcc.result.now c.deref-in-Gcc-2.result.now c.deref-in-Gcc-3.result.now
+    (λ p. ap (kind_tree p) c.in-Gcc.is ∙ kind_tree-gcc p c.in-Gcc.part c.in-Gcc.values c.in-Gcc.counts) c.deref-in-Gcc.ensures c.deref-in-Gcc-2.ensures c.deref-in-Gcc-3.ensures) (meets_gcc mode env) (evaluate-gcc mode env)
+    c.in_ok-first-in-Gcc.ensures.value c.in_ok-second-in-Gcc.ensures.value c.in_ok-third-in-Gcc.ensures.value c.mode-in-Gcc.ensures.mode c.counting.ensures
+
+pub kind_value-returns-in_err-first-in-Gcc-clause-cause : goal.kind_value-returns-in_err-first-in-Gcc-clause-cause
+kind_value-returns-in_err-first-in-Gcc-clause-cause t c =
+    let mode = mode_in c.args.scope in
+    let env = env_in c.args.scope in
+    let p = err_from_is_err_and c.from_residual-in_err-first-in-Gcc.result c.from_residual-in_err-first-in-Gcc.ensures.1 in
+    rw (p.1, p.2)
+    (three_first mode env c.args.met.now gcc c.args.kind.now c.deref-in-Gcc.result.now c.in-Gcc.values.value c.in-Gcc.counts.value
+    (three c.args.kind.now gcc c.in-Gcc.part.value c.in-Gcc.values.value c.in-Gcc.counts.value c.deref-in-Gcc.result.now c.in-Gcc.values.value c.in-Gcc.counts.value
+    (λ p. ap (kind_tree p) c.in-Gcc.is ∙ kind_tree-gcc p c.in-Gcc.part c.in-Gcc.values c.in-Gcc.counts) c.deref-in-Gcc.ensures refl refl) (meets_gcc mode env)
+    c.in_err-first-in-Gcc.field-0.0 c.in_err-first-in-Gcc.ensures.cause)
+
+pub kind_value-returns-in_err-second-in-Gcc-clause-cause : goal.kind_value-returns-in_err-second-in-Gcc-clause-cause
+kind_value-returns-in_err-second-in-Gcc-clause-cause t c =
+    let mode = mode_in c.args.scope in
+    let env = env_in c.args.scope in
+    let p = err_from_is_err_and c.from_residual-in_err-second-in-Gcc.result c.from_residual-in_err-second-in-Gcc.ensures.1 in
+    rw (p.1, p.2)
+    (three_second mode env c.args.met.now c.value_of-in-Gcc.new.met gcc c.args.kind.now c.deref-in-Gcc.result.now c.deref-in-Gcc-2.result.now c.in-Gcc.counts.value
+    (three c.args.kind.now gcc c.in-Gcc.part.value c.in-Gcc.values.value c.in-Gcc.counts.value c.deref-in-Gcc.result.now c.deref-in-Gcc-2.result.now c.in-Gcc.counts.value
+    (λ p. ap (kind_tree p) c.in-Gcc.is ∙ kind_tree-gcc p c.in-Gcc.part c.in-Gcc.values c.in-Gcc.counts) c.deref-in-Gcc.ensures c.deref-in-Gcc-2.ensures refl) (meets_gcc mode env) c.in_ok-first-in-Gcc.ensures.counted
+    c.in_err-second-in-Gcc.field-0.0 c.in_err-second-in-Gcc.ensures.cause)
+
+pub kind_value-returns-in_err-third-in-Gcc-clause-cause : goal.kind_value-returns-in_err-third-in-Gcc-clause-cause
+kind_value-returns-in_err-third-in-Gcc-clause-cause t c =
+    let mode = mode_in c.args.scope in
+    let env = env_in c.args.scope in
+    let p = err_from_is_err_and c.from_residual-in_err-third-in-Gcc.result c.from_residual-in_err-third-in-Gcc.ensures.1 in
+    rw (p.1, p.2)
+    (three_third mode env c.args.met.now c.value_of-in-Gcc.new.met c.value_of-in-Gcc-2.new.met gcc c.args.kind.now c.deref-in-Gcc.result.now c.deref-in-Gcc-2.result.now c.deref-in-Gcc-3.result.now
+    (three c.args.kind.now gcc c.in-Gcc.part.value c.in-Gcc.values.value c.in-Gcc.counts.value c.deref-in-Gcc.result.now c.deref-in-Gcc-2.result.now c.deref-in-Gcc-3.result.now
+    (λ p. ap (kind_tree p) c.in-Gcc.is ∙ kind_tree-gcc p c.in-Gcc.part c.in-Gcc.values c.in-Gcc.counts) c.deref-in-Gcc.ensures c.deref-in-Gcc-2.ensures c.deref-in-Gcc-3.ensures) (meets_gcc mode env) c.in_ok-first-in-Gcc.ensures.counted c.in_ok-second-in-Gcc.ensures.counted
+    c.in_err-third-in-Gcc.field-0.0 c.in_err-third-in-Gcc.ensures.cause)
+
+pub kind_value-returns-in_ok-third-in-AtLeast-clause-value : goal.kind_value-returns-in_ok-third-in-AtLeast-clause-value
+kind_value-returns-in_ok-third-in-AtLeast-clause-value t c =
+    let mode = mode_in c.args.scope in
+    let env = env_in c.args.scope in
+    three_given mode c.mode-in-AtLeast.result env c.args.met.now c.value_of-in-AtLeast.new.met c.value_of-in-AtLeast-2.new.met c.value_of-in-AtLeast-3.new.met
+    (seen_held c.in_ok-first-in-AtLeast.first) (seen_held c.in_ok-second-in-AtLeast.second) (seen_held c.in_ok-third-in-AtLeast.third) (λ m s u w. truth_in m (on_three (scalars_in s) (scalars_in w) (scalars_in u) (counts_hold CompareOp.AtLeast)))
+    at_least c.args.kind.now c.deref-in-AtLeast.result.now c.deref-in-AtLeast-2.result.now c.deref-in-AtLeast-3.result.now c.counting-in-AtLeast.result
+    (three c.args.kind.now at_least c.in-AtLeast.part.value c.in-AtLeast.counts.value c.in-AtLeast.values.value c.deref-in-AtLeast.result.now c.deref-in-AtLeast-2.result.now c.deref-in-AtLeast-3.result.now
+    (λ p. ap (kind_tree p) c.in-AtLeast.is ∙ kind_tree-at_least p c.in-AtLeast.part c.in-AtLeast.counts c.in-AtLeast.values) c.deref-in-AtLeast.ensures c.deref-in-AtLeast-2.ensures c.deref-in-AtLeast-3.ensures) (meets_at_least mode env) (evaluate-at_least mode env)
+    c.in_ok-first-in-AtLeast.ensures.counted c.in_ok-first-in-AtLeast.ensures.value
+    c.in_ok-second-in-AtLeast.ensures.counted c.in_ok-second-in-AtLeast.ensures.value
+    c.in_ok-third-in-AtLeast.ensures.counted c.in_ok-third-in-AtLeast.ensures.value c.mode-in-AtLeast.ensures.mode c.counting-in-AtLeast.ensures
+
+pub kind_value-returns-in_ok-third-in-AtLeast-clause-cause : goal.kind_value-returns-in_ok-third-in-AtLeast-clause-cause
+kind_value-returns-in_ok-third-in-AtLeast-clause-cause t c =
+    let mode = mode_in c.args.scope in
+    let env = env_in c.args.scope in
+    three_given_cause mode c.mode-in-AtLeast.result env c.args.met.now
+    (seen_held c.in_ok-first-in-AtLeast.first) (seen_held c.in_ok-second-in-AtLeast.second) (seen_held c.in_ok-third-in-AtLeast.third) (λ m s u w. truth_in m (on_three (scalars_in s) (scalars_in w) (scalars_in u) (counts_hold CompareOp.AtLeast)))
+    at_least c.args.kind.now c.deref-in-AtLeast.result.now c.deref-in-AtLeast-2.result.now c.deref-in-AtLeast-3.result.now c.counting-in-AtLeast.result
+    (three c.args.kind.now at_least c.in-AtLeast.part.value c.in-AtLeast.counts.value c.in-AtLeast.values.value c.deref-in-AtLeast.result.now c.deref-in-AtLeast-2.result.now c.deref-in-AtLeast-3.result.now
+    (λ p. ap (kind_tree p) c.in-AtLeast.is ∙ kind_tree-at_least p c.in-AtLeast.part c.in-AtLeast.counts c.in-AtLeast.values) c.deref-in-AtLeast.ensures c.deref-in-AtLeast-2.ensures c.deref-in-AtLeast-3.ensures) (meets_at_least mode env) (evaluate-at_least mode env)
+    c.in_ok-first-in-AtLeast.ensures.value c.in_ok-second-in-AtLeast.ensures.value c.in_ok-third-in-AtLeast.ensures.value c.mode-in-AtLeast.ensures.mode c.counting-in-AtLeast.ensures
+
+pub kind_value-returns-in_err-first-in-AtLeast-clause-cause : goal.kind_value-returns-in_err-first-in-AtLeast-clause-cause
+kind_value-returns-in_err-first-in-AtLeast-clause-cause t c =
+    let mode = mode_in c.args.scope in
+    let env = env_in c.args.scope in
+    let p = err_from_is_err_and c.from_residual-in_err-first-in-AtLeast.result c.from_residual-in_err-first-in-AtLeast.ensures.1 in
+    rw (p.1, p.2)
+    (three_first mode env c.args.met.now at_least c.args.kind.now c.deref-in-AtLeast.result.now c.in-AtLeast.counts.value c.in-AtLeast.values.value
+    (three c.args.kind.now at_least c.in-AtLeast.part.value c.in-AtLeast.counts.value c.in-AtLeast.values.value c.deref-in-AtLeast.result.now c.in-AtLeast.counts.value c.in-AtLeast.values.value
+    (λ p. ap (kind_tree p) c.in-AtLeast.is ∙ kind_tree-at_least p c.in-AtLeast.part c.in-AtLeast.counts c.in-AtLeast.values) c.deref-in-AtLeast.ensures refl refl) (meets_at_least mode env)
+    c.in_err-first-in-AtLeast.field-0.0 c.in_err-first-in-AtLeast.ensures.cause)
+
+pub kind_value-returns-in_err-second-in-AtLeast-clause-cause : goal.kind_value-returns-in_err-second-in-AtLeast-clause-cause
+kind_value-returns-in_err-second-in-AtLeast-clause-cause t c =
+    let mode = mode_in c.args.scope in
+    let env = env_in c.args.scope in
+    let p = err_from_is_err_and c.from_residual-in_err-second-in-AtLeast.result c.from_residual-in_err-second-in-AtLeast.ensures.1 in
+    rw (p.1, p.2)
+    (three_second mode env c.args.met.now c.value_of-in-AtLeast.new.met at_least c.args.kind.now c.deref-in-AtLeast.result.now c.deref-in-AtLeast-2.result.now c.in-AtLeast.values.value
+    (three c.args.kind.now at_least c.in-AtLeast.part.value c.in-AtLeast.counts.value c.in-AtLeast.values.value c.deref-in-AtLeast.result.now c.deref-in-AtLeast-2.result.now c.in-AtLeast.values.value
+    (λ p. ap (kind_tree p) c.in-AtLeast.is ∙ kind_tree-at_least p c.in-AtLeast.part c.in-AtLeast.counts c.in-AtLeast.values) c.deref-in-AtLeast.ensures c.deref-in-AtLeast-2.ensures refl) (meets_at_least mode env) c.in_ok-first-in-AtLeast.ensures.counted
+    c.in_err-second-in-AtLeast.field-0.0 c.in_err-second-in-AtLeast.ensures.cause)
+
+pub kind_value-returns-in_err-third-in-AtLeast-clause-cause : goal.kind_value-returns-in_err-third-in-AtLeast-clause-cause
+kind_value-returns-in_err-third-in-AtLeast-clause-cause t c =
+    let mode = mode_in c.args.scope in
+    let env = env_in c.args.scope in
+    let p = err_from_is_err_and c.from_residual-in_err-third-in-AtLeast.result c.from_residual-in_err-third-in-AtLeast.ensures.1 in
+    rw (p.1, p.2)
+    (three_third mode env c.args.met.now c.value_of-in-AtLeast.new.met c.value_of-in-AtLeast-2.new.met at_least c.args.kind.now c.deref-in-AtLeast.result.now c.deref-in-AtLeast-2.result.now c.deref-in-AtLeast-3.result.now
+    (three c.args.kind.now at_least c.in-AtLeast.part.value c.in-AtLeast.counts.value c.in-AtLeast.values.value c.deref-in-AtLeast.result.now c.deref-in-AtLeast-2.result.now c.deref-in-AtLeast-3.result.now
+    (λ p. ap (kind_tree p) c.in-AtLeast.is ∙ kind_tree-at_least p c.in-AtLeast.part c.in-AtLeast.counts c.in-AtLeast.values) c.deref-in-AtLeast.ensures c.deref-in-AtLeast-2.ensures c.deref-in-AtLeast-3.ensures) (meets_at_least mode env) c.in_ok-first-in-AtLeast.ensures.counted c.in_ok-second-in-AtLeast.ensures.counted
+    c.in_err-third-in-AtLeast.field-0.0 c.in_err-third-in-AtLeast.ensures.cause)
+
+pub kind_value-returns-in_ok-third-in-AtMost-clause-value : goal.kind_value-returns-in_ok-third-in-AtMost-clause-value
+kind_value-returns-in_ok-third-in-AtMost-clause-value t c =
+    let mode = mode_in c.args.scope in
+    let env = env_in c.args.scope in
+    three_given mode c.mode-in-AtMost.result env c.args.met.now c.value_of-in-AtMost.new.met c.value_of-in-AtMost-2.new.met c.value_of-in-AtMost-3.new.met
+    (seen_held c.in_ok-first-in-AtMost.first) (seen_held c.in_ok-second-in-AtMost.second) (seen_held c.in_ok-third-in-AtMost.third) (λ m s u w. truth_in m (on_three (scalars_in s) (scalars_in w) (scalars_in u) (counts_hold CompareOp.AtMost)))
+    at_most c.args.kind.now c.deref-in-AtMost.result.now c.deref-in-AtMost-2.result.now c.deref-in-AtMost-3.result.now c.counting-in-AtMost.result
+    (three c.args.kind.now at_most c.in-AtMost.part.value c.in-AtMost.counts.value c.in-AtMost.values.value c.deref-in-AtMost.result.now c.deref-in-AtMost-2.result.now c.deref-in-AtMost-3.result.now
+    (λ p. ap (kind_tree p) c.in-AtMost.is ∙ kind_tree-at_most p c.in-AtMost.part c.in-AtMost.counts c.in-AtMost.values) c.deref-in-AtMost.ensures c.deref-in-AtMost-2.ensures c.deref-in-AtMost-3.ensures) (meets_at_most mode env) (evaluate-at_most mode env)
+    c.in_ok-first-in-AtMost.ensures.counted c.in_ok-first-in-AtMost.ensures.value
+    c.in_ok-second-in-AtMost.ensures.counted c.in_ok-second-in-AtMost.ensures.value
+    c.in_ok-third-in-AtMost.ensures.counted c.in_ok-third-in-AtMost.ensures.value c.mode-in-AtMost.ensures.mode c.counting-in-AtMost.ensures
+
+pub kind_value-returns-in_ok-third-in-AtMost-clause-cause : goal.kind_value-returns-in_ok-third-in-AtMost-clause-cause
+kind_value-returns-in_ok-third-in-AtMost-clause-cause t c =
+    let mode = mode_in c.args.scope in
+    let env = env_in c.args.scope in
+    three_given_cause mode c.mode-in-AtMost.result env c.args.met.now
+    (seen_held c.in_ok-first-in-AtMost.first) (seen_held c.in_ok-second-in-AtMost.second) (seen_held c.in_ok-third-in-AtMost.third) (λ m s u w. truth_in m (on_three (scalars_in s) (scalars_in w) (scalars_in u) (counts_hold CompareOp.AtMost)))
+    at_most c.args.kind.now c.deref-in-AtMost.result.now c.deref-in-AtMost-2.result.now c.deref-in-AtMost-3.result.now c.counting-in-AtMost.result
+    (three c.args.kind.now at_most c.in-AtMost.part.value c.in-AtMost.counts.value c.in-AtMost.values.value c.deref-in-AtMost.result.now c.deref-in-AtMost-2.result.now c.deref-in-AtMost-3.result.now
+    (λ p. ap (kind_tree p) c.in-AtMost.is ∙ kind_tree-at_most p c.in-AtMost.part c.in-AtMost.counts c.in-AtMost.values) c.deref-in-AtMost.ensures c.deref-in-AtMost-2.ensures c.deref-in-AtMost-3.ensures) (meets_at_most mode env) (evaluate-at_most mode env)
+    c.in_ok-first-in-AtMost.ensures.value c.in_ok-second-in-AtMost.ensures.value c.in_ok-third-in-AtMost.ensures.value c.mode-in-AtMost.ensures.mode c.counting-in-AtMost.ensures
+
+pub kind_value-returns-in_err-first-in-AtMost-clause-cause : goal.kind_value-returns-in_err-first-in-AtMost-clause-cause
+kind_value-returns-in_err-first-in-AtMost-clause-cause t c =
+    let mode = mode_in c.args.scope in
+    let env = env_in c.args.scope in
+    let p = err_from_is_err_and c.from_residual-in_err-first-in-AtMost.result c.from_residual-in_err-first-in-AtMost.ensures.1 in
+    rw (p.1, p.2)
+    (three_first mode env c.args.met.now at_most c.args.kind.now c.deref-in-AtMost.result.now c.in-AtMost.counts.value c.in-AtMost.values.value
+    (three c.args.kind.now at_most c.in-AtMost.part.value c.in-AtMost.counts.value c.in-AtMost.values.value c.deref-in-AtMost.result.now c.in-AtMost.counts.value c.in-AtMost.values.value
+    (λ p. ap (kind_tree p) c.in-AtMost.is ∙ kind_tree-at_most p c.in-AtMost.part c.in-AtMost.counts c.in-AtMost.values) c.deref-in-AtMost.ensures refl refl) (meets_at_most mode env)
+    c.in_err-first-in-AtMost.field-0.0 c.in_err-first-in-AtMost.ensures.cause)
+
+pub kind_value-returns-in_err-second-in-AtMost-clause-cause : goal.kind_value-returns-in_err-second-in-AtMost-clause-cause
+kind_value-returns-in_err-second-in-AtMost-clause-cause t c =
+    let mode = mode_in c.args.scope in
+    let env = env_in c.args.scope in
+    let p = err_from_is_err_and c.from_residual-in_err-second-in-AtMost.result c.from_residual-in_err-second-in-AtMost.ensures.1 in
+    rw (p.1, p.2)
+    (three_second mode env c.args.met.now c.value_of-in-AtMost.new.met at_most c.args.kind.now c.deref-in-AtMost.result.now c.deref-in-AtMost-2.result.now c.in-AtMost.values.value
+    (three c.args.kind.now at_most c.in-AtMost.part.value c.in-AtMost.counts.value c.in-AtMost.values.value c.deref-in-AtMost.result.now c.deref-in-AtMost-2.result.now c.in-AtMost.values.value
+    (λ p. ap (kind_tree p) c.in-AtMost.is ∙ kind_tree-at_most p c.in-AtMost.part c.in-AtMost.counts c.in-AtMost.values) c.deref-in-AtMost.ensures c.deref-in-AtMost-2.ensures refl) (meets_at_most mode env) c.in_ok-first-in-AtMost.ensures.counted
+    c.in_err-second-in-AtMost.field-0.0 c.in_err-second-in-AtMost.ensures.cause)
+
+pub kind_value-returns-in_err-third-in-AtMost-clause-cause : goal.kind_value-returns-in_err-third-in-AtMost-clause-cause
+kind_value-returns-in_err-third-in-AtMost-clause-cause t c =
+    let mode = mode_in c.args.scope in
+    let env = env_in c.args.scope in
+    let p = err_from_is_err_and c.from_residual-in_err-third-in-AtMost.result c.from_residual-in_err-third-in-AtMost.ensures.1 in
+    rw (p.1, p.2)
+    (three_third mode env c.args.met.now c.value_of-in-AtMost.new.met c.value_of-in-AtMost-2.new.met at_most c.args.kind.now c.deref-in-AtMost.result.now c.deref-in-AtMost-2.result.now c.deref-in-AtMost-3.result.now
+    (three c.args.kind.now at_most c.in-AtMost.part.value c.in-AtMost.counts.value c.in-AtMost.values.value c.deref-in-AtMost.result.now c.deref-in-AtMost-2.result.now c.deref-in-AtMost-3.result.now
+    (λ p. ap (kind_tree p) c.in-AtMost.is ∙ kind_tree-at_most p c.in-AtMost.part c.in-AtMost.counts c.in-AtMost.values) c.deref-in-AtMost.ensures c.deref-in-AtMost-2.ensures c.deref-in-AtMost-3.ensures) (meets_at_most mode env) c.in_ok-first-in-AtMost.ensures.counted c.in_ok-second-in-AtMost.ensures.counted
+    c.in_err-third-in-AtMost.field-0.0 c.in_err-third-in-AtMost.ensures.cause)
 
 pub truths-loop-part-init : goal.truths-loop-part-init
 truths-loop-part-init t c = truths_begin (mode_in c.args.scope) (env_in c.args.scope) c.args.every c.args.met.now c.args.parts.now c.requires.small

@@ -1,0 +1,6 @@
+use Rattle.std.proofs.Common.{◌≡◌, drop}
+use Rattle.ep_base.specs.Numbers.{same_numbers}
+use Rattle.ep_eval.proofs.counts.are_same.Given as goal
+
+abbrev pub invariant-loop-i : goal.invariant-loop-i
+invariant-loop-i l = same_numbers l.left l.right ≡ same_numbers (drop l.i l.left) (drop l.i l.right)

@@ -1,0 +1,7 @@
+use Rattle.std.proofs.Common.{◌≡◌, drop}
+use Rattle.std.specs.Prelude.{map, option_map, ◌||◌}
+use Rattle.ep_base.specs.Numbers.{is_row_of}
+use Rattle.ep_eval.proofs.counts.is_row.Given as goal
+
+abbrev pub invariant-loop-row : goal.invariant-loop-row
+invariant-loop-row l = is_row_of (map (λ v. v.items) l.rows) l.parts ≡ option_map (λ b. l.found || b) (is_row_of (map (λ v. v.items) (drop l.row-index l.rows)) l.parts)

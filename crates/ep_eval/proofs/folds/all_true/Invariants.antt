@@ -1,0 +1,6 @@
+use Rattle.std.proofs.Common.{◌≡◌, drop}
+use Rattle.ep_base.specs.Numbers.{all_one}
+use Rattle.ep_eval.proofs.folds.all_true.Given as goal
+
+abbrev pub invariant-loop-part : goal.invariant-loop-part
+invariant-loop-part l = all_one l.parts ≡ all_one (drop l.part-index l.parts)

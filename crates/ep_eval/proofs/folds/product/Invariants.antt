@@ -1,0 +1,12 @@
+use Rattle.std.proofs.Common.{◌≡◌, ◌*ℤ◌, pos, false, drop}
+use Rattle.std.specs.List.{list_any}
+use Rattle.ep_base.specs.Numbers.{product_of}
+use Rattle.ep_tree.specs.Limits.{is_too_far, products_from}
+use Rattle.ep_eval.proofs.folds.product.Given as goal
+
+abbrev pub invariant-loop-part : goal.invariant-loop-part
+invariant-loop-part l = record {
+  value : product_of l.parts ≡ l.product *ℤ product_of (drop l.part-index l.parts);
+  far : list_any is_too_far (products_from (pos 1) l.parts) ≡ list_any is_too_far (products_from l.product (drop l.part-index l.parts));
+  near : is_too_far l.product ≡ false;
+}

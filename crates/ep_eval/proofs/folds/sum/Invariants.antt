@@ -1,0 +1,10 @@
+use Rattle.std.proofs.Common.{◌≡◌, ◌+ℤ◌, ◌≤◌, ◌*◌, drop}
+use Rattle.std.specs.Prelude.{unsigned_abs}
+use Rattle.ep_base.specs.Numbers.{sum_of}
+use Rattle.ep_eval.proofs.folds.sum.Given as goal
+
+abbrev pub invariant-loop-part : goal.invariant-loop-part
+invariant-loop-part l = record {
+  value : sum_of l.parts ≡ l.sum +ℤ sum_of (drop l.part-index l.parts);
+  near : unsigned_abs l.sum ≤ 9223372036854775808 * l.part-index;
+}
