@@ -28,3 +28,4 @@ pub mod AgainAll
 pub mod Cursors
 pub mod Turns
 pub mod NameTurns
+pub mod OpeningWords

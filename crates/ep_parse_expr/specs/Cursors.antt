@@ -1,5 +1,5 @@
 -- What functions that read tokens return, said by readers of lists.
-use Rattle.std.specs.Prelude.{◌≡◌, ◌≤◌, Bool, List, length, Result, Ok, Err, ℕ, if◌then◌else◌}
+use Rattle.std.specs.Prelude.{◌≡◌, ◌≤◌, Bool, true, false, List, [], ◌∷◌, length, Result, Ok, Err, ℕ, if◌then◌else◌}
 use Rattle.std.specs.List.{AllByRecursion}
 use Rattle.std.specs.Str.{IsAscii}
 use Rattle.ep_base.specs.Tokens.{token_text}
@@ -36,3 +36,8 @@ Gives view (Err e) left read = Stops e left read
 -- whether this word or symbol is next, with the tokens behind it, or else all
 unfoldable pub passing : List ℕ → List Lexeme → Bool × List Lexeme
 passing bytes ls = (says bytes ls, if says bytes ls then behind ls else ls)
+
+-- whether no token is left
+abbrev pub none_left : List Lexeme → Bool
+none_left [] = true
+none_left (l ∷ ls) = false

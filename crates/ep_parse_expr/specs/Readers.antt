@@ -2,9 +2,10 @@
 --
 -- A reader gives what it took and the tokens behind it; or the tokens from the first one with which nothing goes on; or
 -- those from the first one with which only what is too high goes on.
-use Rattle.std.specs.Prelude.{ℕ, zero, suc, Bool, true, false, List, [], ◌∷◌, length, Option, Some, None, bytes_eq, codes}
+use Rattle.std.specs.Prelude.{ℕ, ℤ, zero, suc, Bool, true, false, List, [], ◌∷◌, length, Option, Some, None, bytes_eq, codes}
 use Rattle.ep_base.specs.declared.names.Name.{Name}
 use Rattle.ep_base.specs.declared.places.Place.{Place}
+use Rattle.ep_parse_expr.specs.Sayings.{says_number}
 use Rattle.ep_tree.specs.Phrases.{Lexeme, Saying, a_name, a_number, a_word}
 
 -- what is taken, with the tokens behind it; or the tokens from the first that is wrong, or too high
@@ -62,6 +63,11 @@ name_in l (a_word w) ls = wrong (l ∷ ls)
 unfoldable pub name_from : Reader Name
 name_from [] = wrong []
 name_from (l ∷ ls) = name_in l l.saying ls
+
+-- this number
+unfoldable pub number_from : ℤ → Reader Place
+number_from n [] = wrong []
+number_from n (l ∷ ls) = chosen (says_number n l.saying) (λ all. took l.place ls) (λ all. wrong all) (l ∷ ls)
 
 -- a finding, or else another
 abbrev pub found_or : {A : Type 0} → Bool → A → Option A → Option A

@@ -9,6 +9,8 @@ ghost use Rattle.ep_parse_expr.specs.Readers.{is_word, name_from, says, word_fro
 ghost use Rattle.ep_parse_expr.specs.declared.cursor.Stop.TheVariants.{Memory as OutOfMemory};
 ghost use Rattle.ep_parse_expr.specs.Sayings.{name_of};
 
+mod next;
+
 use ep_base::{Memory, Place, Token, TokenKind};
 use std::alloc::AllocFailed;
 use std::marker::Model;

@@ -1,21 +1,21 @@
 -- Names with places, groups and lists of expressions are read again.
-use Rattle.std.specs.Prelude.{◌≡◌, ℕ, zero, suc, ◌+◌, ◌≤◌, max, Bool, true, false, ◌&&◌, List, [], ◌∷◌, ◌++◌, length, Option, Some, None, codes, refl}
+use Rattle.std.specs.Prelude.{◌≡◌, ℕ, zero, suc, ◌+◌, ◌≤◌, max, true, false, List, [], ◌∷◌, ◌++◌, length, codes, refl}
 use Rattle.std.proofs.Common.{ap, arith, inl, inr, sym, subst, ◌∙◌, length-append, append-nil, append_assoc}
 use Rattle.std.proofs.Math.Nat.{le-max_left, le-max_right}
 use Rattle.ep_base.specs.declared.names.Name.{Name}
 use Rattle.ep_base.specs.declared.places.Place.{Place}
 use Rattle.ep_parse_expr.specs.OperandReaders.{Lower, expression_next}
-use Rattle.ep_parse_expr.specs.Readers.{Reader, behind, behind_comma, chosen, kept, looked_up, more_from, next_in, others_from, says, took, word_from, ◌and_then◌}
+use Rattle.ep_parse_expr.specs.Readers.{Reader, behind_comma, more_from, others_from, says, took, word_from, ◌and_then◌}
 use Rattle.ep_parse_expr.proofs.Again.{AreComplete, DomainEnds, NoImplications, behind_word_cut, lexeme}
 use Rattle.ep_parse_expr.proofs.AgainPhrases.{Again, comma_closes, word_then}
 use Rattle.ep_parse_expr.proofs.AgainStarts.{expression_seen, starts}
-use Rattle.ep_parse_model.specs.TextReaders.{after_last, another_expression, expressions_from, group_from, groups_from, placed_name_from, placed_name_in, placed_names_from}
+use Rattle.ep_parse_model.specs.TextReaders.{expressions_from, expressions_within, group_from, groups_from, placed_name_from, placed_name_in, placed_names_from}
 use Rattle.ep_tree.specs.Heights.{domain_height, height}
-use Rattle.ep_tree.specs.Phrases.{From, Is, Lexeme, Phrase, PlacedNames, Says, Silence, StartsAt, a_name, a_word, ◌followed_by◌, ◌or_else◌}
+use Rattle.ep_tree.specs.Phrases.{From, Is, Lexeme, PlacedNames, Says, Silence, StartsAt, a_name, a_word, ◌or_else◌}
 use Rattle.ep_tree.specs.Spelling.{Spells, SpellsDomain, domains, implications, rank}
 use Rattle.ep_tree.specs.StatementSpelling.{SpellsExpressions, SpellsGroup, SpellsGroups}
 use Rattle.ep_tree.specs.Statements.{Group, highest_group, highest_of}
-use Rattle.ep_tree.specs.Trees.{DomainTree, ExprTree}
+use Rattle.ep_tree.specs.Trees.{ExprTree}
 
 abbrev comma : Place → Lexeme
 comma p = lexeme p (a_word (codes ","))
@@ -75,6 +75,11 @@ placed_names_again (x ∷ xs) rest none front h =
     let k = placed_cut x xs front h in
     ap (λ z. placed_names_from (z ++ rest)) k.parts
     ∙ ap (λ r. r and_then λ ys end. took (x ∷ ys) end) (k.more (length (k.rest ++ rest)) x rest (omega (arith, length-append k.rest rest)) none)
+
+-- an expression has a token
+some_room : (e : ExprTree) (f rest : List Lexeme) → Spells implications e f → length (f ++ rest) ≤ 0 → ⊥
+some_room e [] rest h none = absurd h.1.0
+some_room e (l ∷ ls) rest h none = absurd (omega (arith, none))
 
 module _ (less : ℕ) (low : Lower) (good : AreComplete less low) where
   -- ---- groups
@@ -158,95 +163,61 @@ module _ (less : ℕ) (low : Lower) (good : AreComplete less low) where
 
   -- ---- expressions
 
-  abbrev expr_item : ExprTree → Reader ExprTree
-  expr_item last = low.expr implications
-
-  exprs_end : (n : ℕ) (last : ExprTree) (end tail : List Lexeme) → (Silence or_else Says ",") end → After tail → more_from another_expression expr_item n last (end ++ tail) ≡ took [] (end ++ tail)
-  unfolding more_from another_expression says
-  exprs_end zero last end tail h after = refl
-  exprs_end (suc n) last end tail (inl h) after =
-      subst (λ x. more_from another_expression expr_item (suc n) last (x ++ tail) ≡ took [] (x ++ tail)) (sym h) (rw (after.no_comma) refl)
-  exprs_end (suc n) last end tail (inr h) after =
-      subst (λ x. more_from another_expression expr_item (suc n) last (x ++ tail) ≡ took [] (x ++ tail)) (sym h.1) (rw (after.no_expr) refl)
-
-  after_last_again : (es : List ExprTree) (end tail : List Lexeme) → (Silence or_else Says ",") end → After tail → after_last es (end ++ tail) ≡ took es tail
-  unfolding after_last says
-  after_last_again es end tail (inl h) after = subst (λ x. after_last es (x ++ tail) ≡ took es tail) (sym h) (rw (after.no_comma) refl)
-  after_last_again es end tail (inr h) after = ap (λ x. after_last es (x ++ tail)) h.1
-
-  end_ends : (end tail : List Lexeme) → (Silence or_else Says ",") end → After tail → NoImplications (end ++ tail)
-  end_ends end tail (inl h) after = subst (λ x. NoImplications (x ++ tail)) (sym h) after.ends
-  end_ends end tail (inr h) after = subst (λ x. NoImplications (x ++ tail)) (sym h.1) (comma_closes.expr h.0 tail)
-
-  exprs_go : (n : ℕ) (last e : ExprTree) (es : List ExprTree) (p : Place) (next mid tail : List Lexeme) → expression_next next ≡ true → low.expr implications next ≡ took e mid
-      → more_from another_expression expr_item n e mid ≡ took es tail → more_from another_expression expr_item (suc n) last (comma p ∷ next) ≡ took (e ∷ es) tail
-  unfolding more_from another_expression says
-  exprs_go n last e es p next mid tail seen first others = rw (seen, first, others) refl
-
-  -- expressions that begin with this one, cut behind it, are read again
-  record ExprsCut (e : ExprTree) (es : List ExprTree) (front : List Lexeme) : Type 0 where
-    f : List Lexeme
-    r : List Lexeme
-    end : List Lexeme
-    parts : front ≡ f ++ r
-    first : Spells implications e f
-    closed : (Silence or_else Says ",") end
-    ends : (tail : List Lexeme) → After tail → NoImplications (r ++ tail)
-    more : (n : ℕ) (last : ExprTree) (tail : List Lexeme) → length r ≤ n → highest_of es ≤ less → After tail → more_from another_expression expr_item n last (r ++ tail) ≡ took es (end ++ tail)
-
   one_again : (e : ExprTree) (f rest : List Lexeme) → Spells implications e f → height e ≤ less → NoImplications rest → low.expr implications (f ++ rest) ≡ took e rest
   unfolding rank
   one_again e f rest h small ends = good.expr implications refl e f rest h small (record { ends = ends; open_ends = λ _. ends })
 
-  exprs_cut : (e : ExprTree) (es : List ExprTree) (front : List Lexeme) → SpellsExpressions (e ∷ es) front → ExprsCut e es front
+  none_again : (n : ℕ) (rest : List Lexeme) → expression_next rest ≡ false → expressions_within low n rest ≡ took [] rest
+  unfolding expressions_within
+  none_again zero rest none = refl
+  none_again (suc n) rest none = rw none refl
+
+  -- one expression, with no comma behind it
+  last_again : (n : ℕ) (e : ExprTree) (all mid : List Lexeme) → expression_next all ≡ true → low.expr implications all ≡ took e mid → says (codes ",") mid ≡ false
+      → expressions_within low (suc n) all ≡ took (e ∷ []) mid
+  unfolding expressions_within
+  last_again n e all mid seen first none = rw (seen, first, none) refl
+
+  -- one expression, with a comma behind it
+  more_again : (n : ℕ) (e : ExprTree) (es : List ExprTree) (all next tail : List Lexeme) (p : Place) → expression_next all ≡ true → low.expr implications all ≡ took e (comma p ∷ next)
+      → expressions_within low n next ≡ took es tail → expressions_within low (suc n) all ≡ took (e ∷ es) tail
+  unfolding expressions_within says
+  more_again n e es all next tail p seen first others = rw (seen, first, others) refl
+
+  seen_in : (e : ExprTree) (f rest : List Lexeme) → Spells implications e f → expression_next (f ++ rest) ≡ true
+  seen_in e f rest h = expression_seen f rest (starts e f h.1.1)
+
+  pub exprs_again : (es : List ExprTree) (n : ℕ) (front rest : List Lexeme) → SpellsExpressions es front → length (front ++ rest) ≤ n → highest_of es ≤ less → After rest
+      → expressions_within low n (front ++ rest) ≡ took es rest
   unfolding SpellsExpressions highest_of
-  exprs_cut e [] front h = record {
-    f = h.0;
-    r = h.1;
-    end = h.1;
-    parts = h.2;
-    first = h.3;
-    closed = h.4;
-    ends = λ tail after. end_ends h.1 tail h.4 after;
-    more = λ n last tail room small after. exprs_end n last h.1 tail h.4 after;
-  }
-  exprs_cut e (y ∷ ys) front h =
-      let c = behind_word_cut (codes ",") (SpellsExpressions (y ∷ ys)) h.1 h.4 in
-      let k = exprs_cut y ys c.rest c.spelled in
-      record {
-        f = h.0;
-        r = comma c.place ∷ c.rest;
-        end = k.end;
-        parts = h.2 ∙ ap (λ z. h.0 ++ z) c.parts;
-        first = h.3;
-        closed = k.closed;
-        ends = λ tail after. comma_closes.expr c.place (c.rest ++ tail);
-        more = λ n last tail room small after. further c.place c.rest k n last tail room small after;
-      }
+  exprs_again [] n front rest h room small after = ap (λ x. expressions_within low n (x ++ rest)) h ∙ none_again n rest after.no_expr
+  exprs_again (e ∷ []) zero front rest h room small after =
+      absurd (some_room e h.0 (h.1 ++ rest) h.3 (subst (λ x. length x ≤ 0) (ap (λ x. x ++ rest) h.2 ∙ append_assoc h.0 h.1 rest) room))
+  exprs_again (e ∷ []) (suc n) front rest h room small after = ap (expressions_within low (suc n)) (ap (λ x. x ++ rest) h.2 ∙ append_assoc h.0 h.1 rest) ∙ go h.4
     where
-      further : (p : Place) (others : List Lexeme) (k : ExprsCut y ys others) (n : ℕ) (last : ExprTree) (tail : List Lexeme) → suc (length others) ≤ n → max (height y) (highest_of ys) ≤ less → After tail
-          → more_from another_expression expr_item n last (comma p ∷ (others ++ tail)) ≡ took (y ∷ ys) (k.end ++ tail)
-      further p others k zero last tail room small after = absurd (omega (arith, room))
-      further p others k (suc n) last tail room small after =
-          let long : length others ≡ length (k.f ++ k.r) = ap length k.parts in
-          let low_y : height y ≤ less = omega (arith, small, le-max_left (height y) (highest_of ys)) in
-          let low_ys : highest_of ys ≤ less = omega (arith, small, le-max_right (height y) (highest_of ys)) in
-          ap (λ z. more_from another_expression expr_item (suc n) last (comma p ∷ z)) (ap (λ z. z ++ tail) k.parts ∙ append_assoc k.f k.r tail)
-          ∙ exprs_go n last y ys p (k.f ++ (k.r ++ tail)) (k.r ++ tail) (k.end ++ tail) (expression_seen k.f (k.r ++ tail) (starts y k.f k.first.1.1))
-          (one_again y k.f (k.r ++ tail) k.first low_y (k.ends tail after))
-          (k.more n y tail (omega (arith, room, long, length-append k.f k.r)) low_ys after)
+      low_e : height e ≤ less
+      low_e = omega (arith, small, le-max_left (height e) 0)
+
+      go : (Silence or_else Says ",") h.1 → expressions_within low (suc n) (h.0 ++ (h.1 ++ rest)) ≡ took (e ∷ []) rest
+      go (inl k) =
+          ap (λ x. expressions_within low (suc n) (h.0 ++ (x ++ rest))) k
+          ∙ last_again n e (h.0 ++ rest) rest (seen_in e h.0 rest h.3) (one_again e h.0 rest h.3 low_e after.ends) after.no_comma
+      go (inr k) =
+          ap (λ x. expressions_within low (suc n) (h.0 ++ (x ++ rest))) k.1
+          ∙ more_again n e [] (h.0 ++ comma k.0 ∷ rest) rest rest k.0 (seen_in e h.0 (comma k.0 ∷ rest) h.3)
+          (one_again e h.0 (comma k.0 ∷ rest) h.3 low_e (comma_closes.expr k.0 rest)) (none_again n rest after.no_expr)
+  exprs_again (e ∷ y ∷ ys) zero front rest h room small after =
+      absurd (some_room e h.0 (h.1 ++ rest) h.3 (subst (λ x. length x ≤ 0) (ap (λ x. x ++ rest) h.2 ∙ append_assoc h.0 h.1 rest) room))
+  exprs_again (e ∷ y ∷ ys) (suc n) front rest h room small after =
+      let c = behind_word_cut (codes ",") (SpellsExpressions (y ∷ ys)) h.1 h.4 in
+      let back = comma c.place ∷ (c.rest ++ rest) in
+      let cut : front ++ rest ≡ h.0 ++ back = ap (λ x. x ++ rest) h.2 ∙ append_assoc h.0 h.1 rest ∙ ap (λ x. h.0 ++ (x ++ rest)) c.parts in
+      let low_e : height e ≤ less = omega (arith, small, le-max_left (height e) (highest_of (y ∷ ys))) in
+      let low_es : highest_of (y ∷ ys) ≤ less = omega (arith, small, le-max_right (height e) (highest_of (y ∷ ys))) in
+      let long : length (front ++ rest) ≡ length h.0 + suc (length (c.rest ++ rest)) = ap length cut ∙ length-append h.0 back in
+      ap (expressions_within low (suc n)) cut
+      ∙ more_again n e (y ∷ ys) (h.0 ++ back) (c.rest ++ rest) rest c.place (seen_in e h.0 back h.3) (one_again e h.0 back h.3 low_e (comma_closes.expr c.place (c.rest ++ rest)))
+      (exprs_again (y ∷ ys) n c.rest rest c.spelled (omega (arith, room, long)) low_es after)
 
   pub expressions_again : (es : List ExprTree) (rest : List Lexeme) → highest_of es ≤ less → After rest → Again (SpellsExpressions es) (expressions_from low) es rest
-  unfolding expressions_from SpellsExpressions highest_of
-  expressions_again [] rest small after front h =
-      subst (λ x. expressions_from low (x ++ rest) ≡ took [] rest) (sym h) (ap (λ b. chosen b (λ all. low.expr implications all and_then λ e next. others_from another_expression expr_item e next and_then λ es end. after_last (e ∷ es) end) (λ all. took [] all) rest) after.no_expr)
-  expressions_again (e ∷ es) rest small after front h =
-      let k = exprs_cut e es front h in
-      let low_e : height e ≤ less = omega (arith, small, le-max_left (height e) (highest_of es)) in
-      let low_es : highest_of es ≤ less = omega (arith, small, le-max_right (height e) (highest_of es)) in
-      ap (expressions_from low) (ap (λ x. x ++ rest) k.parts ∙ append_assoc k.f k.r rest)
-      ∙ ap (λ b. chosen b (λ all. low.expr implications all and_then λ x next. others_from another_expression expr_item x next and_then λ xs end. after_last (x ∷ xs) end) (λ all. took [] all) (k.f ++ (k.r ++ rest)))
-      (expression_seen k.f (k.r ++ rest) (starts e k.f k.first.1.1))
-      ∙ ap (λ z. z and_then λ x next. others_from another_expression expr_item x next and_then λ xs end. after_last (x ∷ xs) end) (one_again e k.f (k.r ++ rest) k.first low_e (k.ends rest after))
-      ∙ ap (λ z. z and_then λ xs end. after_last (e ∷ xs) end) (k.more (length (k.r ++ rest)) e rest (omega (arith, length-append k.r rest)) low_es after)
-      ∙ after_last_again (e ∷ es) k.end rest k.closed after
+  expressions_again es rest small after front h = exprs_again es (length (front ++ rest)) front rest h (omega arith) small after

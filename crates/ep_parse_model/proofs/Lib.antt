@@ -25,3 +25,11 @@ mod EarlyLaws
 pub mod OneAnswer
 pub mod GroupsAgain
 pub mod TextsAgain
+pub mod Fitting
+pub mod GroupsSound
+pub mod TextsSound
+pub mod Shrinking
+pub mod CommaTurns
+pub mod TextTurns
+pub mod NextSteps
+pub mod WholeTexts

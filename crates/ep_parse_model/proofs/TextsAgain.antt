@@ -1,24 +1,29 @@
 -- Statements are read again, so some tokens spell one text at most.
-use Rattle.std.specs.Prelude.{◌≡◌, ℕ, zero, suc, ◌+◌, ◌≤◌, max, Bool, true, false, List, [], ◌∷◌, ◌++◌, length, ◌⊎◌, Option, Some, None, bytes_eq, codes, refl}
-use Rattle.std.proofs.Common.{ap, arith, inl, inr, sym, subst, ◌∙◌, length-append, append-nil, append_assoc}
+use Rattle.std.specs.Prelude.{◌≡◌, ℕ, zero, suc, ℤ, pos, ◌≤◌, max, true, false, List, [], ◌∷◌, ◌++◌, length, ◌⊎◌, Option, Some, None, bytes_eq, codes, refl}
+use Rattle.std.proofs.Common.{ap, arith, inl, inr, sym, subst, ◌∙◌, length-append, append_assoc}
 use Rattle.std.proofs.Math.Nat.{le-max_left, le-max_right}
 use Rattle.ep_base.specs.declared.names.Name.{Name}
 use Rattle.ep_base.specs.declared.operators.Sense.{Sense}
 use Rattle.ep_base.specs.declared.places.Place.{Place}
+use Rattle.ep_parse_model.specs.declared.openings.Allowed.{Allowed}
+use Rattle.ep_parse_model.specs.declared.openings.Opening.{Opening}
 use Rattle.ep_parse_expr.specs.OperandReaders.{Lower, expression_next}
-use Rattle.ep_parse_expr.specs.Readers.{Read, Reader, behind, chosen, high, if_some, looked_up, more_from, name_from, name_in, next_in, says, took, word_from, wrong, ◌and_then◌}
+use Rattle.ep_parse_expr.specs.Readers.{Read, behind, chosen, high, if_some, looked_up, name_from, name_in, next_in, number_from, says, took, word_from, wrong, ◌and_then◌}
 use Rattle.ep_parse_expr.proofs.Again.{AreComplete, DomainEnds, NoImplications, behind_word_cut, lexeme}
 use Rattle.ep_parse_expr.proofs.AgainAll.{all_complete, readers}
 use Rattle.ep_parse_expr.proofs.AgainPhrases.{Again, word_then}
 use Rattle.ep_parse_expr.proofs.AgainStarts.{starts, word_unseen}
 use Rattle.ep_parse_expr.proofs.Holding.{regrouped}
+use Rattle.ep_parse_model.proofs.Fitting.{Fits, model_fits, opening_of, params_fits}
+use Rattle.ep_parse_model.proofs.Phrasing.{behind as next}
+use Rattle.ep_parse_expr.specs.DomainReaders.{place_next}
 use Rattle.ep_parse_model.proofs.GroupsAgain.{After, expressions_again, groups_again, placed_alone, placed_cut, placed_names_again}
-use Rattle.ep_parse_model.specs.TextReaders.{StatementOpening, another_statement, be_from, bracket_names_from, branching_from, expressions_from, groups_from, let_from, letting_from, of_branching, of_finds, of_givens, of_heuristic, of_letting, of_sense, of_such, of_where, placed_name_from, placed_name_in, placed_names_from, stated_from, statement_behind, statement_from, statement_words, statements_from, value_from}
+use Rattle.ep_parse_model.specs.TextReaders.{allowed_behind, allowed_statement_from, allows, be_from, bracket_names_from, branching_from, expressions_from, let_from, letting_from, line_from, model_from, params_from, placed_name_from, placed_name_in, placed_names_from, stated_from, statement_behind, statement_words, statements_from, statements_within, value_from}
 use Rattle.ep_tree.specs.Heights.{domain_height, height}
-use Rattle.ep_tree.specs.Phrases.{Is, Lexeme, Phrase, PlacedNames, Says, Saying, StartsAt, a_name, a_word, ◌followed_by◌}
+use Rattle.ep_tree.specs.Phrases.{Is, Lexeme, Phrase, PlacedNames, Says, StartsAt, a_name, a_number, a_word, ◌followed_by◌}
 use Rattle.ep_tree.specs.Spelling.{Spells, SpellsDomain, domains, implications, rank}
 use Rattle.ep_tree.specs.StatementSpelling.{LanguageLine, SaysBe, SpellsExpressions, SpellsGroups, SpellsModel, SpellsNames, SpellsParams, SpellsSense, SpellsStated, SpellsStatement, SpellsStatements}
-use Rattle.ep_tree.specs.Statements.{Group, StatementTree, TextTree, branching, constraints, decided, domain_letting, given, heuristic, highest_group, highest_of, letting, objective, requirements, stated_height, statement_height, text_height}
+use Rattle.ep_tree.specs.Statements.{StatementTree, TextTree, branching, constraints, decided, domain_letting, given, heuristic, letting, objective, requirements, stated_height, statement_height, text_height}
 use Rattle.ep_tree.specs.Trees.{DomainTree, ExprTree}
 
 -- ---- what stands behind a statement
@@ -84,7 +89,7 @@ after_heuristic p ls =
     record { ends = record { tighter = record { tighter = record { tighter = record { tighter = record { tighter = record { tighter = record { tighter = record { bracket = refl }; none = refl }; none = refl }; none = refl }; none = refl; no_set = refl; no_group = refl }; none = refl }; none = refl }; none = refl }; domain = record { none = refl; no_group = refl }; no_comma = refl; no_expr = refl }
 
 -- tokens that begin with the word of a statement, and what stands behind it
-record Headed (what : StatementOpening) (P : Phrase) (front : List Lexeme) : Type 0 where
+pub record Headed (what : Opening) (P : Phrase) (front : List Lexeme) : Type 0 where
   place : Place
   word : List ℕ
   rest : List Lexeme
@@ -95,81 +100,69 @@ record Headed (what : StatementOpening) (P : Phrase) (front : List Lexeme) : Typ
   spelled : P rest
 
 -- what a word of statements is
-record IsStatementWord (w : List ℕ) (what : StatementOpening) : Type 0 where
+record IsStatementWord (w : List ℕ) (what : Opening) : Type 0 where
   found : (p : Place) (ls : List Lexeme) → next_in statement_words (lexeme p (a_word w) ∷ ls) ≡ Some what
   after : (p : Place) (ls : List Lexeme) → After (lexeme p (a_word w) ∷ ls)
   other : bytes_eq w (codes "language") ≡ false
 
-is_given : IsStatementWord (codes "given") of_givens
+is_given : IsStatementWord (codes "given") Opening.Given
 unfolding next_in looked_up
 is_given = record { found = λ p ls. refl; after = after_given; other = refl }
 
-is_find : IsStatementWord (codes "find") of_finds
+is_find : IsStatementWord (codes "find") Opening.Find
 unfolding next_in looked_up
 is_find = record { found = λ p ls. refl; after = after_find; other = refl }
 
-is_letting : IsStatementWord (codes "letting") of_letting
+is_letting : IsStatementWord (codes "letting") Opening.Letting
 unfolding next_in looked_up
 is_letting = record { found = λ p ls. refl; after = after_letting; other = refl }
 
-is_where : IsStatementWord (codes "where") of_where
+is_where : IsStatementWord (codes "where") Opening.Where
 unfolding next_in looked_up
 is_where = record { found = λ p ls. refl; after = after_where; other = refl }
 
-is_such : IsStatementWord (codes "such") of_such
+is_such : IsStatementWord (codes "such") Opening.SuchThat
 unfolding next_in looked_up
 is_such = record { found = λ p ls. refl; after = after_such; other = refl }
 
-is_minimising : IsStatementWord (codes "minimising") (of_sense Sense.Minimising)
+is_minimising : IsStatementWord (codes "minimising") (Opening.Objective Sense.Minimising)
 unfolding next_in looked_up
 is_minimising = record { found = λ p ls. refl; after = after_minimising; other = refl }
 
-is_minimizing : IsStatementWord (codes "minimizing") (of_sense Sense.Minimising)
+is_minimizing : IsStatementWord (codes "minimizing") (Opening.Objective Sense.Minimising)
 unfolding next_in looked_up
 is_minimizing = record { found = λ p ls. refl; after = after_minimizing; other = refl }
 
-is_maximising : IsStatementWord (codes "maximising") (of_sense Sense.Maximising)
+is_maximising : IsStatementWord (codes "maximising") (Opening.Objective Sense.Maximising)
 unfolding next_in looked_up
 is_maximising = record { found = λ p ls. refl; after = after_maximising; other = refl }
 
-is_maximizing : IsStatementWord (codes "maximizing") (of_sense Sense.Maximising)
+is_maximizing : IsStatementWord (codes "maximizing") (Opening.Objective Sense.Maximising)
 unfolding next_in looked_up
 is_maximizing = record { found = λ p ls. refl; after = after_maximizing; other = refl }
 
-is_branching : IsStatementWord (codes "branching") of_branching
+is_branching : IsStatementWord (codes "branching") Opening.Branching
 unfolding next_in looked_up
 is_branching = record { found = λ p ls. refl; after = after_branching; other = refl }
 
-is_heuristic : IsStatementWord (codes "heuristic") of_heuristic
+is_heuristic : IsStatementWord (codes "heuristic") Opening.Heuristic
 unfolding next_in looked_up
 is_heuristic = record { found = λ p ls. refl; after = after_heuristic; other = refl }
 
-headed : (w : List ℕ) (what : StatementOpening) (P : Phrase) (front : List Lexeme) → IsStatementWord w what → (Is (a_word w) followed_by P) front → Headed what P front
+headed : (w : List ℕ) (what : Opening) (P : Phrase) (front : List Lexeme) → IsStatementWord w what → (Is (a_word w) followed_by P) front → Headed what P front
 headed w what P front is h =
     let c = behind_word_cut w P front h in
     record { place = c.place; word = w; rest = c.rest; parts = c.parts; found = is.found c.place; after = is.after c.place; other = is.other; spelled = c.spelled }
 
-headed_sense : (sense : Sense) (P : Phrase) (front : List Lexeme) → (SpellsSense sense followed_by P) front → Headed (of_sense sense) P front
+headed_sense : (sense : Sense) (P : Phrase) (front : List Lexeme) → (SpellsSense sense followed_by P) front → Headed (Opening.Objective sense) P front
 unfolding SpellsSense
 headed_sense sense P front h = go sense h.3
   where
-    go : (sense : Sense) → SpellsSense sense h.0 → Headed (of_sense sense) P front
-    go Sense.Minimising (inl k) = headed (codes "minimising") (of_sense Sense.Minimising) P front is_minimising (h.0, h.1, h.2, k, h.4)
-    go Sense.Minimising (inr k) = headed (codes "minimizing") (of_sense Sense.Minimising) P front is_minimizing (h.0, h.1, h.2, k, h.4)
-    go Sense.Maximising (inl k) = headed (codes "maximising") (of_sense Sense.Maximising) P front is_maximising (h.0, h.1, h.2, k, h.4)
-    go Sense.Maximising (inr k) = headed (codes "maximizing") (of_sense Sense.Maximising) P front is_maximizing (h.0, h.1, h.2, k, h.4)
-
--- the word of a statement
-abbrev opening_of : StatementTree → StatementOpening
-opening_of (given p gs) = of_givens
-opening_of (decided p gs) = of_finds
-opening_of (letting p x at d e) = of_letting
-opening_of (domain_letting p x at d) = of_letting
-opening_of (requirements p es) = of_where
-opening_of (constraints p es) = of_such
-opening_of (objective p sense e) = of_sense sense
-opening_of (branching p xs) = of_branching
-opening_of (heuristic p x) = of_heuristic
+    go : (sense : Sense) → SpellsSense sense h.0 → Headed (Opening.Objective sense) P front
+    go Sense.Minimising (inl k) = headed (codes "minimising") (Opening.Objective Sense.Minimising) P front is_minimising (h.0, h.1, h.2, k, h.4)
+    go Sense.Minimising (inr k) = headed (codes "minimizing") (Opening.Objective Sense.Minimising) P front is_minimizing (h.0, h.1, h.2, k, h.4)
+    go Sense.Maximising (inl k) = headed (codes "maximising") (Opening.Objective Sense.Maximising) P front is_maximising (h.0, h.1, h.2, k, h.4)
+    go Sense.Maximising (inr k) = headed (codes "maximizing") (Opening.Objective Sense.Maximising) P front is_maximizing (h.0, h.1, h.2, k, h.4)
 
 -- what stands behind it
 abbrev Behind_word : StatementTree → Phrase
@@ -184,7 +177,7 @@ Behind_word (branching p xs) = Says "on" followed_by Says "[" followed_by Spells
 Behind_word (heuristic p x) = Is (a_name x)
 
 -- its place
-abbrev at : StatementTree → Place
+abbrev pub at : StatementTree → Place
 at (given p gs) = p
 at (decided p gs) = p
 at (letting p x q d e) = p
@@ -195,17 +188,49 @@ at (objective p sense e) = p
 at (branching p xs) = p
 at (heuristic p x) = p
 
-statement_headed : (s : StatementTree) (front : List Lexeme) → SpellsStatement s front → StartsAt (at s) front × Headed (opening_of s) (Behind_word s) front
+pub statement_headed : (s : StatementTree) (front : List Lexeme) → SpellsStatement s front → StartsAt (at s) front × Headed (opening_of s) (Behind_word s) front
 unfolding SpellsStatement
-statement_headed (given p gs) front h = (h.0, headed (codes "given") of_givens _ front is_given h.1)
-statement_headed (decided p gs) front h = (h.0, headed (codes "find") of_finds _ front is_find h.1)
-statement_headed (letting p x q d e) front h = (h.0, headed (codes "letting") of_letting _ front is_letting h.1)
-statement_headed (domain_letting p x q d) front h = (h.0, headed (codes "letting") of_letting _ front is_letting h.1)
-statement_headed (requirements p es) front h = (h.0, headed (codes "where") of_where _ front is_where h.1)
-statement_headed (constraints p es) front h = (h.0, headed (codes "such") of_such _ front is_such h.1)
+statement_headed (given p gs) front h = (h.0, headed (codes "given") Opening.Given _ front is_given h.1)
+statement_headed (decided p gs) front h = (h.0, headed (codes "find") Opening.Find _ front is_find h.1)
+statement_headed (letting p x q d e) front h = (h.0, headed (codes "letting") Opening.Letting _ front is_letting h.1)
+statement_headed (domain_letting p x q d) front h = (h.0, headed (codes "letting") Opening.Letting _ front is_letting h.1)
+statement_headed (requirements p es) front h = (h.0, headed (codes "where") Opening.Where _ front is_where h.1)
+statement_headed (constraints p es) front h = (h.0, headed (codes "such") Opening.SuchThat _ front is_such h.1)
 statement_headed (objective p sense e) front h = (h.0, headed_sense sense _ front h.1)
-statement_headed (branching p xs) front h = (h.0, headed (codes "branching") of_branching _ front is_branching h.1)
-statement_headed (heuristic p x) front h = (h.0, headed (codes "heuristic") of_heuristic _ front is_heuristic h.1)
+statement_headed (branching p xs) front h = (h.0, headed (codes "branching") Opening.Branching _ front is_branching h.1)
+statement_headed (heuristic p x) front h = (h.0, headed (codes "heuristic") Opening.Heuristic _ front is_heuristic h.1)
+
+-- ---- the language line
+
+abbrev number : Place → ℤ → Lexeme
+number p n = lexeme p (a_number n)
+
+line_tokens : (a b c d e : Place) (rest : List Lexeme)
+    → line_from (lexeme a (a_word (codes "language")) ∷ lexeme b (a_word (codes "ESSENCE'")) ∷ number c (pos 1) ∷ lexeme d (a_word (codes ".")) ∷ number e (pos 0) ∷ rest) ≡ took e rest
+unfolding line_from word_from number_from
+line_tokens a b c d e rest = refl
+
+line_again : (front rest : List Lexeme) → LanguageLine front → (p : Place) × (line_from (front ++ rest) ≡ took p rest)
+line_again front rest h =
+    let a = next (a_word (codes "language")) (Says "ESSENCE'" followed_by Is (a_number (pos 1)) followed_by Says "." followed_by Is (a_number (pos 0))) front h in
+    let b = next (a_word (codes "ESSENCE'")) (Is (a_number (pos 1)) followed_by Says "." followed_by Is (a_number (pos 0))) a.rest a.spelled in
+    let c = next (a_number (pos 1)) (Says "." followed_by Is (a_number (pos 0))) b.rest b.spelled in
+    let d = next (a_word (codes ".")) (Is (a_number (pos 0))) c.rest c.spelled in
+    let e : d.rest ≡ number d.spelled.0 (pos 0) ∷ [] = d.spelled.1 in
+    let parts : front ≡ lexeme a.place (a_word (codes "language")) ∷ lexeme b.place (a_word (codes "ESSENCE'")) ∷ number c.place (pos 1) ∷ lexeme d.place (a_word (codes ".")) ∷ number d.spelled.0 (pos 0) ∷ [] =
+    a.parts ∙ ap (λ x. lexeme a.place (a_word (codes "language")) ∷ x)
+    (b.parts ∙ ap (λ x. lexeme b.place (a_word (codes "ESSENCE'")) ∷ x) (c.parts ∙ ap (λ x. number c.place (pos 1) ∷ x) (d.parts ∙ ap (λ x. lexeme d.place (a_word (codes ".")) ∷ x) e))) in
+    (d.spelled.0, ap (λ x. line_from (x ++ rest)) parts ∙ line_tokens a.place b.place c.place d.place d.spelled.0 rest)
+
+no_line : (ss : TextTree) (front : List Lexeme) → SpellsStatements ss front → says (codes "language") front ≡ false
+unfolding SpellsStatements says
+no_line [] front h = ap (says (codes "language")) h
+no_line (s ∷ ss) front h =
+    let c = (statement_headed s h.0 h.3).1 in ap (says (codes "language")) (h.2 ∙ ap (λ x. x ++ h.1) c.parts) ∙ c.other
+
+with_line : (P : Phrase) (front : List Lexeme) → (LanguageLine followed_by P) front → says (codes "language") front ≡ true
+unfolding says
+with_line P front h = ap (says (codes "language")) (behind_word_cut (codes "language") _ front (regrouped _ _ P front h)).parts
 
 -- ---- lettings
 
@@ -327,14 +352,17 @@ module _ (less : ℕ) (low : Lower) (good : AreComplete less low) where
   behind_again (branching p xs) rest small after f h = branching_again p xs rest f h
   behind_again (heuristic p x) rest small after f h = ap (λ z. name_from (z ++ rest) and_then λ y end. took (heuristic p y) end) h.1
 
-  statement_again : (s : StatementTree) (front rest : List Lexeme) → SpellsStatement s front → statement_height s ≤ less → After rest → statement_from low (front ++ rest) ≡ took s rest
-  unfolding statement_from
-  statement_again s front rest h small after =
+  allowed_again : (allowed : Allowed) (s : StatementTree) (front rest : List Lexeme) → SpellsStatement s front → statement_height s ≤ less → allows allowed (opening_of s) ≡ true → After rest
+      → allowed_statement_from low allowed (front ++ rest) ≡ took s rest
+  unfolding allowed_statement_from
+  allowed_again allowed s front rest h small may after =
       let k = statement_headed s front h in
       let c = k.1 in
       let here : c.place ≡ at s = subst (λ x. StartsAt (at s) x) c.parts k.0 in
-      ap (λ x. statement_from low (x ++ rest)) c.parts
-      ∙ ap (λ o. if_some o (λ what. statement_behind low c.place what (c.rest ++ rest)) (wrong (lexeme c.place (a_word c.word) ∷ (c.rest ++ rest)))) (c.found (c.rest ++ rest))
+      let all = lexeme c.place (a_word c.word) ∷ (c.rest ++ rest) in
+      ap (λ x. allowed_statement_from low allowed (x ++ rest)) c.parts
+      ∙ ap (λ o. if_some o (λ what. chosen (allows allowed what) (λ ls. statement_behind low (place_next ls) what (behind ls)) (λ ls. wrong ls) all) (wrong all)) (c.found (c.rest ++ rest))
+      ∙ ap (λ b. chosen b (λ ls. statement_behind low (place_next ls) (opening_of s) (behind ls)) (λ ls. wrong ls) all) may
       ∙ ap (λ q. statement_behind low q (opening_of s) (c.rest ++ rest)) here
       ∙ behind_again s rest small after c.rest c.spelled
 
@@ -345,39 +373,64 @@ module _ (less : ℕ) (low : Lower) (good : AreComplete less low) where
       let c = (statement_headed s h.0 h.3).1 in
       subst After (sym (h.2 ∙ ap (λ x. x ++ h.1) c.parts)) (c.after (c.rest ++ h.1))
 
-  abbrev item : StatementTree → Reader StatementTree
-  item last = statement_from low
+  statements_go : (n : ℕ) (allowed : Allowed) (s : StatementTree) (ss : TextTree) (l : Lexeme) (ls mid : List Lexeme) → allowed_statement_from low allowed (l ∷ ls) ≡ took s mid
+      → statements_within low n (allowed_behind s allowed) mid ≡ took ss [] → statements_within low (suc n) allowed (l ∷ ls) ≡ took (s ∷ ss) []
+  unfolding statements_within
+  statements_go n allowed s ss l ls mid first others = rw (first, others) refl
 
-  statements_go : (n : ℕ) (last s : StatementTree) (ss : TextTree) (all mid tail : List Lexeme) → another_statement last all ≡ Some all → statement_from low all ≡ took s mid
-      → more_from another_statement item n s mid ≡ took ss tail → more_from another_statement item (suc n) last all ≡ took (s ∷ ss) tail
-  unfolding more_from
-  statements_go n last s ss all mid tail on first others = rw (on, first, others) refl
+  no_statement : (n : ℕ) (allowed : Allowed) → statements_within low n allowed [] ≡ took [] []
+  unfolding statements_within
+  no_statement zero allowed = refl
+  no_statement (suc n) allowed = refl
 
-  statements_end : (n : ℕ) (last : StatementTree) → more_from another_statement item n last [] ≡ took [] []
-  unfolding more_from another_statement
-  statements_end zero last = refl
-  statements_end (suc n) last = refl
-
-  statements_more : (ss : TextTree) (n : ℕ) (last : StatementTree) (front : List Lexeme) → length front ≤ n → SpellsStatements ss front → text_height ss ≤ less → more_from another_statement item n last front ≡ took ss []
-  unfolding SpellsStatements text_height another_statement
-  statements_more [] n last front room h small = subst (λ x. more_from another_statement item n last x ≡ took [] []) (sym h) (statements_end n last)
-  statements_more (s ∷ ss) zero last front room h small =
+  statements_more : (ss : TextTree) (n : ℕ) (allowed : Allowed) (front : List Lexeme) → length front ≤ n → SpellsStatements ss front → text_height ss ≤ less → Fits allowed ss
+      → statements_within low n allowed front ≡ took ss []
+  unfolding SpellsStatements text_height Fits
+  statements_more [] n allowed front room h small fits = ap (statements_within low n allowed) h ∙ no_statement n allowed
+  statements_more (s ∷ ss) zero allowed front room h small fits =
       let c = (statement_headed s h.0 h.3).1 in
       let long : length front ≡ suc (length (c.rest ++ h.1)) = ap length (h.2 ∙ ap (λ x. x ++ h.1) c.parts) in
       absurd (omega (arith, room, long))
-  statements_more (s ∷ ss) (suc n) last front room h small =
+  statements_more (s ∷ ss) (suc n) allowed front room h small fits =
       let c = (statement_headed s h.0 h.3).1 in
       let cut : front ≡ lexeme c.place (a_word c.word) ∷ (c.rest ++ h.1) = h.2 ∙ ap (λ x. x ++ h.1) c.parts in
       let long : length front ≡ suc (length (c.rest ++ h.1)) = ap length cut in
-      let on : another_statement last front ≡ Some front = subst (λ x. another_statement last x ≡ Some x) (sym cut) refl in
       let low_s : statement_height s ≤ less = omega (arith, small, le-max_left (statement_height s) (text_height ss)) in
       let low_ss : text_height ss ≤ less = omega (arith, small, le-max_right (statement_height s) (text_height ss)) in
-      statements_go n last s ss front h.1 [] on (ap (statement_from low) h.2 ∙ statement_again s h.0 h.1 h.3 low_s (text_after ss h.1 h.4))
-      (statements_more ss n s h.1 (omega (arith, room, long, length-append c.rest h.1)) h.4 low_ss)
+      ap (statements_within low (suc n) allowed) cut
+      ∙ statements_go n allowed s ss (lexeme c.place (a_word c.word)) (c.rest ++ h.1) h.1
+      (sym (ap (allowed_statement_from low allowed) cut) ∙ ap (allowed_statement_from low allowed) h.2 ∙ allowed_again allowed s h.0 h.1 h.3 low_s fits.0 (text_after ss h.1 h.4))
+      (statements_more ss n (allowed_behind s allowed) h.1 (omega (arith, room, long, length-append c.rest h.1)) h.4 low_ss fits.1)
 
-  statements_again : (ss : TextTree) (front : List Lexeme) → SpellsStatements ss front → text_height ss ≤ less → statements_from low front ≡ took ss []
-  unfolding statements_from
-  statements_again ss front h small = statements_more ss (length front) (branching (record { line = 0; column = 0 }) []) front (omega arith) h small
+  pub statements_again : (allowed : Allowed) (ss : TextTree) (front : List Lexeme) → SpellsStatements ss front → text_height ss ≤ less → Fits allowed ss → statements_from low allowed front ≡ took ss []
+  statements_again allowed ss front h small fits = statements_more ss (length front) allowed front (omega arith) h small fits
+
+  pub model_again : (ss : TextTree) (front : List Lexeme) → SpellsModel ss front → text_height ss ≤ less → model_from low front ≡ took ss []
+  unfolding model_from SpellsModel
+  model_again ss front h small =
+      let k = line_again h.1.0 h.1.1 h.1.3 in
+      ap (model_from low) h.1.2
+      ∙ ap (λ r. r and_then λ _ rest. statements_from low Allowed.All rest) k.1
+      ∙ statements_again Allowed.All ss h.1.1 h.1.4 small (model_fits ss h.0)
+
+  pub params_again : (ss : TextTree) (front : List Lexeme) → SpellsParams ss front → text_height ss ≤ less → params_from low front ≡ took ss []
+  unfolding params_from SpellsParams
+  params_again ss front h small = go h.1.3
+    where
+      fits : Fits Allowed.Lettings ss
+      fits = params_fits ss h.0
+
+      go : (LanguageLine h.1.0 ⊎ (h.1.0 ≡ [])) → params_from low front ≡ took ss []
+      go (inl l) =
+          ap (λ b. chosen b (λ all. line_from all and_then λ _ rest. statements_from low Allowed.Lettings rest) (statements_from low Allowed.Lettings) front)
+          (with_line (SpellsStatements ss) front (h.1.0, h.1.1, h.1.2, l, h.1.4))
+          ∙ ap (λ ls. line_from ls and_then λ _ rest. statements_from low Allowed.Lettings rest) h.1.2
+          ∙ ap (λ r. r and_then λ _ rest. statements_from low Allowed.Lettings rest) (line_again h.1.0 h.1.1 l).1
+          ∙ statements_again Allowed.Lettings ss h.1.1 h.1.4 small fits
+      go (inr l) =
+          let all : SpellsStatements ss front = subst (SpellsStatements ss) (sym (h.1.2 ∙ ap (λ x. x ++ h.1.1) l)) h.1.4 in
+          ap (λ b. chosen b (λ all. line_from all and_then λ _ rest. statements_from low Allowed.Lettings rest) (statements_from low Allowed.Lettings) front) (no_line ss front all)
+          ∙ statements_again Allowed.Lettings ss front all small fits
 
 -- ---- one text
 
@@ -386,58 +439,18 @@ taken other (took x ls) = x
 taken other (wrong ls) = other
 taken other (high ls) = other
 
--- Some tokens spell one list of statements at most.
-pub one_statements : (a b : TextTree) (ls : List Lexeme) → SpellsStatements a ls → SpellsStatements b ls → a ≡ b
-one_statements a b ls h k =
-    let most = max (text_height a) (text_height b) in
-    ap (taken a)
-    (sym (statements_again most (readers most) (all_complete most) a ls h (le-max_left (text_height a) (text_height b)))
-    ∙ statements_again most (readers most) (all_complete most) b ls k (le-max_right (text_height a) (text_height b)))
-
--- the tokens behind the language line
-abbrev behind_line : List Lexeme → List Lexeme
-behind_line ls = behind (behind (behind (behind (behind ls))))
-
-next_behind : (s : Saying) (P : Phrase) (front : List Lexeme) → (Is s followed_by P) front → P (behind front)
-next_behind s P front h = subst P (sym (ap behind (h.2 ∙ ap (λ x. x ++ h.1) h.3.1))) h.4
-
-line_behind : (P : Phrase) (front : List Lexeme) → (LanguageLine followed_by P) front → P (behind_line front)
-line_behind P front h =
-    let a = next_behind _ _ front (regrouped _ _ P front h) in
-    let b = next_behind _ _ (behind front) (regrouped _ _ P (behind front) a) in
-    let c = next_behind _ _ (behind (behind front)) (regrouped _ _ P (behind (behind front)) b) in
-    let d = next_behind _ _ (behind (behind (behind front))) (regrouped _ _ P (behind (behind (behind front))) c) in
-    next_behind _ P (behind (behind (behind (behind front)))) d
-
 -- Some tokens spell one model at most.
 pub one_model : (a b : TextTree) (ls : List Lexeme) → SpellsModel a ls → SpellsModel b ls → a ≡ b
-unfolding SpellsModel
-one_model a b ls h k = one_statements a b (behind_line ls) (line_behind (SpellsStatements a) ls h.1) (line_behind (SpellsStatements b) ls k.1)
-
-no_line : (ss : TextTree) (front : List Lexeme) → SpellsStatements ss front → says (codes "language") front ≡ false
-unfolding SpellsStatements says
-no_line [] front h = ap (says (codes "language")) h
-no_line (s ∷ ss) front h =
-    let c = (statement_headed s h.0 h.3).1 in ap (says (codes "language")) (h.2 ∙ ap (λ x. x ++ h.1) c.parts) ∙ c.other
-
-with_line : (P : Phrase) (front : List Lexeme) → (LanguageLine followed_by P) front → says (codes "language") front ≡ true
-unfolding says
-with_line P front h = ap (says (codes "language")) (behind_word_cut (codes "language") _ front (regrouped _ _ P front h)).parts
-
-both : (b : Bool) → b ≡ true → b ≡ false → ⊥
-both true j k = let wrong_way : true ≡ false = k in absurd cc
-both false j k = let wrong_way : false ≡ true = j in absurd cc
+one_model a b ls h k =
+    let most = max (text_height a) (text_height b) in
+    ap (taken a)
+    (sym (model_again most (readers most) (all_complete most) a ls h (le-max_left (text_height a) (text_height b)))
+    ∙ model_again most (readers most) (all_complete most) b ls k (le-max_right (text_height a) (text_height b)))
 
 -- Some tokens spell one parameter text at most.
 pub one_params : (a b : TextTree) (ls : List Lexeme) → SpellsParams a ls → SpellsParams b ls → a ≡ b
-unfolding SpellsParams
-one_params a b ls h k = go h.1.3 k.1.3
-  where
-    go : (LanguageLine h.1.0 ⊎ (h.1.0 ≡ [])) → (LanguageLine k.1.0 ⊎ (k.1.0 ≡ [])) → a ≡ b
-    go (inl l) (inl m) = one_statements a b (behind_line ls) (line_behind (SpellsStatements a) ls (h.1.0, h.1.1, h.1.2, l, h.1.4)) (line_behind (SpellsStatements b) ls (k.1.0, k.1.1, k.1.2, m, k.1.4))
-    go (inr l) (inr m) =
-        one_statements a b ls (subst (SpellsStatements a) (sym (h.1.2 ∙ ap (λ x. x ++ h.1.1) l)) h.1.4) (subst (SpellsStatements b) (sym (k.1.2 ∙ ap (λ x. x ++ k.1.1) m)) k.1.4)
-    go (inl l) (inr m) =
-        absurd (both (says (codes "language") ls) (with_line (SpellsStatements a) ls (h.1.0, h.1.1, h.1.2, l, h.1.4)) (no_line b ls (subst (SpellsStatements b) (sym (k.1.2 ∙ ap (λ x. x ++ k.1.1) m)) k.1.4)))
-    go (inr l) (inl m) =
-        absurd (both (says (codes "language") ls) (with_line (SpellsStatements b) ls (k.1.0, k.1.1, k.1.2, m, k.1.4)) (no_line a ls (subst (SpellsStatements a) (sym (h.1.2 ∙ ap (λ x. x ++ h.1.1) l)) h.1.4)))
+one_params a b ls h k =
+    let most = max (text_height a) (text_height b) in
+    ap (taken a)
+    (sym (params_again most (readers most) (all_complete most) a ls h (le-max_left (text_height a) (text_height b)))
+    ∙ params_again most (readers most) (all_complete most) b ls k (le-max_right (text_height a) (text_height b)))

@@ -1,9 +1,10 @@
 -- What the calls that read whole texts answer.
-use Rattle.std.specs.Prelude.{ℕ, List, Result, Ok, Err}
+use Rattle.std.specs.Prelude.{ℕ, ◌<◌, List, length, Result, Ok, Err}
+use Rattle.ep_base.specs.Tokens as tokens
 use Rattle.ep_tree.specs.Phrases.{Phrase}
 use Rattle.ep_tree.specs.StatementSpelling.{SpellsModel, SpellsParams}
 use Rattle.ep_tree.specs.Statements.{TextTree}
-use Rattle.ep_tree.specs.Texts.{Answers, bad_byte, long_number, read_as, syntax_fault, too_high, too_long}
+use Rattle.ep_tree.specs.Texts.{Answers, HasTokenFault, MOST_BYTES, bad_byte, long_number, read_as, syntax_fault, too_high, too_long}
 use Rattle.ep_tree.specs.Views.{model_tree, params_tree}
 use Rattle.ep_tree.specs.declared.statements.Model.{Model}
 use Rattle.ep_tree.specs.declared.statements.Params.{Params}
@@ -18,6 +19,15 @@ Refuses spells text (LongNumber place) = Answers spells text (long_number place)
 Refuses spells text (Syntax place) = Answers spells text (syntax_fault place)
 Refuses spells text (TooHigh place) = Answers spells text (too_high place)
 Refuses spells text Memory = Unit {0}
+
+-- A text is refused for its bytes or its tokens. Want of memory says nothing.
+abbrev pub RefusesTokens : List ℕ → TextError → Type 0
+RefusesTokens text TooLong = MOST_BYTES < length text
+RefusesTokens text (BadByte place) = HasTokenFault text (tokens.BadByte place)
+RefusesTokens text (LongNumber place) = HasTokenFault text (tokens.LongNumber place)
+RefusesTokens text (Syntax place) = ⊥
+RefusesTokens text (TooHigh place) = ⊥
+RefusesTokens text Memory = Unit {0}
 
 -- what is said of a text that is read as a model
 abbrev pub GivesModel : List ℕ → Result Model TextError → Type 0

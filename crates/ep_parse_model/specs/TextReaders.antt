@@ -1,15 +1,23 @@
 -- Reading statements from left to right, with a height that may not be passed.
-use Rattle.std.specs.Prelude.{ℕ, Bool, true, false, ◌&&◌, List, [], ◌∷◌, Option, Some, None, codes}
+use Rattle.std.specs.Prelude.{ℕ, zero, suc, pos, Bool, true, false, List, [], ◌∷◌, length, Option, Some, None, codes}
 use Rattle.ep_base.specs.declared.names.Name.{Name}
 use Rattle.ep_base.specs.declared.operators.Sense.{Sense}
 use Rattle.ep_base.specs.declared.places.Place.{Place}
+use Rattle.ep_parse_model.specs.declared.openings.Allowed.{Allowed}
+use Rattle.ep_parse_model.specs.declared.openings.Opening.{Opening}
 use Rattle.ep_parse_expr.specs.DomainReaders.{place_next}
 use Rattle.ep_parse_expr.specs.OperandReaders.{Lower, expression_next}
-use Rattle.ep_parse_expr.specs.Readers.{Read, Reader, behind, behind_comma, chosen, if_some, kept, name_from, next_in, others_from, says, took, word_from, wrong, ◌and_then◌}
+use Rattle.ep_parse_expr.specs.Readers.{Reader, behind, behind_comma, chosen, if_some, name_from, next_in, number_from, others_from, says, took, word_from, wrong, ◌and_then◌}
+use Rattle.ep_parse_expr.specs.TreeReaders.{expr_from, some_domain_from}
+use Rattle.ep_tree.specs.Reading.{MOST_HEIGHT}
 use Rattle.ep_tree.specs.Phrases.{Lexeme, Saying, a_name, a_number, a_word}
 use Rattle.ep_tree.specs.Spelling.{domains, implications}
 use Rattle.ep_tree.specs.Statements.{Group, StatementTree, TextTree, branching, constraints, decided, domain_letting, given, heuristic, letting, objective, requirements}
 use Rattle.ep_tree.specs.Trees.{DomainTree, ExprTree}
+
+-- the readers of expressions and domains, as high as the language has them
+abbrev pub full : Lower
+full = record { expr = expr_from MOST_HEIGHT; domain = some_domain_from MOST_HEIGHT }
 
 -- a name with its place
 unfoldable pub placed_name_in : Lexeme → Saying → Reader (Name × Place)
@@ -40,21 +48,19 @@ groups_from low ls =
     group_from low ls and_then λ g rest. others_from behind_comma (λ last. group_from low) g rest and_then λ gs end.
     took (g ∷ gs) end
 
--- expressions go on behind a comma, where one is next there
-unfoldable pub another_expression : ExprTree → List Lexeme → Option (List Lexeme)
-another_expression last ls = kept (says (codes ",") ls && expression_next (behind ls)) (behind ls)
-
--- a comma behind the last expression, where there is one
-unfoldable pub after_last : List ExprTree → Reader (List ExprTree)
-after_last es ls = chosen (says (codes ",") ls) (λ all. took es (behind all)) (λ all. took es all) ls
-
--- expressions with commas between them, or none
-unfoldable pub expressions_from : Lower → Reader (List ExprTree)
-expressions_from low ls =
+-- Expressions with commas between them, or none, where so many are enough; a comma may stand behind the last.
+unfoldable pub expressions_within : Lower → ℕ → Reader (List ExprTree)
+expressions_within low zero ls = took [] ls
+expressions_within low (suc more) ls =
     chosen (expression_next ls)
     (λ all. low.expr implications all and_then λ e rest.
-    others_from another_expression (λ last. low.expr implications) e rest and_then λ es end. after_last (e ∷ es) end)
+    chosen (says (codes ",") rest)
+    (λ next. expressions_within low more (behind next) and_then λ es end. took (e ∷ es) end) (λ next. took (e ∷ []) next) rest)
     (λ all. took [] all) ls
+
+-- expressions with commas between them, or none; there are no more than tokens
+abbrev pub expressions_from : Lower → Reader (List ExprTree)
+expressions_from low ls = expressions_within low (length ls) ls
 
 -- the domain that a letting states, where it does
 unfoldable pub stated_from : Lower → Reader (Option DomainTree)
@@ -84,25 +90,14 @@ letting_from low p ls =
     placed_name_from ls and_then λ x rest. stated_from low rest and_then λ d next. be_from next and_then λ _ value.
     let_from low p x d value
 
--- what a word begins
-pub data StatementOpening : Type 0 where
-  of_givens : StatementOpening
-  of_finds : StatementOpening
-  of_letting : StatementOpening
-  of_where : StatementOpening
-  of_such : StatementOpening
-  of_sense : Sense → StatementOpening
-  of_branching : StatementOpening
-  of_heuristic : StatementOpening
-
 -- the words that begin a statement
-abbrev pub statement_words : List (List ℕ × StatementOpening)
+abbrev pub statement_words : List (List ℕ × Opening)
 statement_words =
-    (codes "given", of_givens) ∷ (codes "find", of_finds) ∷ (codes "letting", of_letting) ∷ (codes "where", of_where)
-    ∷ (codes "such", of_such) ∷ (codes "minimising", of_sense Sense.Minimising)
-    ∷ (codes "minimizing", of_sense Sense.Minimising) ∷ (codes "maximising", of_sense Sense.Maximising)
-    ∷ (codes "maximizing", of_sense Sense.Maximising) ∷ (codes "branching", of_branching)
-    ∷ (codes "heuristic", of_heuristic) ∷ []
+    (codes "given", Opening.Given) ∷ (codes "find", Opening.Find) ∷ (codes "letting", Opening.Letting) ∷ (codes "where", Opening.Where)
+    ∷ (codes "such", Opening.SuchThat) ∷ (codes "minimising", Opening.Objective Sense.Minimising)
+    ∷ (codes "minimizing", Opening.Objective Sense.Minimising) ∷ (codes "maximising", Opening.Objective Sense.Maximising)
+    ∷ (codes "maximizing", Opening.Objective Sense.Maximising) ∷ (codes "branching", Opening.Branching)
+    ∷ (codes "heuristic", Opening.Heuristic) ∷ []
 
 -- the names of a branching behind their bracket, or none
 unfoldable pub bracket_names_from : Reader (List (Name × Place))
@@ -115,28 +110,62 @@ branching_from p ls =
     bracket_names_from next and_then λ names end. word_from (codes "]") end and_then λ _ after. took (branching p names) after
 
 -- a statement behind its first word
-unfoldable pub statement_behind : Lower → Place → StatementOpening → Reader StatementTree
-statement_behind low p of_givens ls = groups_from low ls and_then λ gs rest. took (given p gs) rest
-statement_behind low p of_finds ls = groups_from low ls and_then λ gs rest. took (decided p gs) rest
-statement_behind low p of_letting ls = letting_from low p ls
-statement_behind low p of_where ls = expressions_from low ls and_then λ es rest. took (requirements p es) rest
-statement_behind low p of_such ls =
+unfoldable pub statement_behind : Lower → Place → Opening → Reader StatementTree
+statement_behind low p Opening.Given ls = groups_from low ls and_then λ gs rest. took (given p gs) rest
+statement_behind low p Opening.Find ls = groups_from low ls and_then λ gs rest. took (decided p gs) rest
+statement_behind low p Opening.Letting ls = letting_from low p ls
+statement_behind low p Opening.Where ls = expressions_from low ls and_then λ es rest. took (requirements p es) rest
+statement_behind low p Opening.SuchThat ls =
     word_from (codes "that") ls and_then λ _ next. expressions_from low next and_then λ es rest. took (constraints p es) rest
-statement_behind low p (of_sense sense) ls = low.expr implications ls and_then λ e rest. took (objective p sense e) rest
-statement_behind low p of_branching ls = branching_from p ls
-statement_behind low p of_heuristic ls = name_from ls and_then λ x rest. took (heuristic p x) rest
+statement_behind low p (Opening.Objective sense) ls = low.expr implications ls and_then λ e rest. took (objective p sense e) rest
+statement_behind low p Opening.Branching ls = branching_from p ls
+statement_behind low p Opening.Heuristic ls = name_from ls and_then λ x rest. took (heuristic p x) rest
 
--- a statement
-unfoldable pub statement_from : Lower → Reader StatementTree
-statement_from low ls =
-    if_some (next_in statement_words ls) (λ what. statement_behind low (place_next ls) what (behind ls)) (wrong ls)
+-- ---- whole texts
 
--- statements go on as long as there are tokens
-unfoldable pub another_statement : StatementTree → List Lexeme → Option (List Lexeme)
-another_statement last [] = None
-another_statement last (l ∷ ls) = Some (l ∷ ls)
+-- whether a statement that a word begins may come
+abbrev pub allows : Allowed → Opening → Bool
+allows Allowed.All what = true
+allows Allowed.NoObjective (Opening.Objective sense) = false
+allows Allowed.NoObjective what = true
+allows Allowed.Lettings Opening.Letting = true
+allows Allowed.Lettings what = false
 
--- statements up to the end of the text
-unfoldable pub statements_from : Lower → Reader TextTree
-statements_from low ls =
-    others_from another_statement (λ last. statement_from low) (branching (record { line = 0; column = 0 }) []) ls
+-- which statements may come behind one: no objective behind an objective
+abbrev pub allowed_behind : StatementTree → Allowed → Allowed
+allowed_behind (objective p sense e) Allowed.All = Allowed.NoObjective
+allowed_behind s allowed = allowed
+
+-- a statement, where it may come
+unfoldable pub allowed_statement_from : Lower → Allowed → Reader StatementTree
+allowed_statement_from low allowed ls =
+    if_some (next_in statement_words ls)
+    (λ what. chosen (allows allowed what) (λ all. statement_behind low (place_next all) what (behind all)) (λ all. wrong all) ls) (wrong ls)
+
+-- Statements up to the end of the text, where so many are enough.
+unfoldable pub statements_within : Lower → ℕ → Allowed → Reader TextTree
+statements_within low most allowed [] = took [] []
+statements_within low zero allowed (l ∷ ls) = wrong (l ∷ ls)
+statements_within low (suc more) allowed (l ∷ ls) =
+    allowed_statement_from low allowed (l ∷ ls) and_then λ s rest.
+    statements_within low more (allowed_behind s allowed) rest and_then λ ss end. took (s ∷ ss) end
+
+-- statements up to the end of the text; there are no more than tokens
+abbrev pub statements_from : Lower → Allowed → Reader TextTree
+statements_from low allowed ls = statements_within low (length ls) allowed ls
+
+-- the language line
+unfoldable pub line_from : Reader Place
+line_from ls =
+    word_from (codes "language") ls and_then λ _ essence. word_from (codes "ESSENCE'") essence and_then λ _ major.
+    number_from (pos 1) major and_then λ _ dot. word_from (codes ".") dot and_then λ _ minor. number_from (pos 0) minor
+
+-- a model
+unfoldable pub model_from : Lower → Reader TextTree
+model_from low ls = line_from ls and_then λ _ rest. statements_from low Allowed.All rest
+
+-- a parameter text
+unfoldable pub params_from : Lower → Reader TextTree
+params_from low ls =
+    chosen (says (codes "language") ls) (λ all. line_from all and_then λ _ rest. statements_from low Allowed.Lettings rest)
+    (statements_from low Allowed.Lettings) ls

@@ -6,10 +6,15 @@ mod cursor;
 mod early;
 mod errors;
 mod expressions;
+mod groups;
 mod laws;
+mod lettings;
 mod names;
+mod openings;
+mod parts;
 mod statements;
 mod text_errors;
+mod texts;
 
 pub use calls::{parse_model, parse_params};
 pub use early::{early_models_are_small, one_early_model, parse_early};
