@@ -47,3 +47,4 @@ pub mod CompletingDomains
 pub mod CompletingAll
 pub mod Answering
 pub mod OneOutcome
+pub mod Calling

@@ -1,6 +1,6 @@
 -- Reading ends in one way only, and at one token.
-use Rattle.std.specs.Prelude.{◌≡◌, ℕ, zero, suc, ◌≤◌, ◌<◌, List, [], ◌∷◌, ◌++◌, take, refl}
-use Rattle.std.proofs.Common.{ap, append-nil, append_assoc, arith, sym, subst}
+use Rattle.std.specs.Prelude.{◌≡◌, ◌+◌, ℕ, zero, suc, ◌≤◌, ◌<◌, List, [], ◌∷◌, ◌++◌, take, refl}
+use Rattle.std.proofs.Common.{ap, append-nil, append_assoc, arith, sym, subst, ◌∙◌}
 use Rattle.ep_tree.specs.Phrases.{Lexeme, Phrase}
 use Rattle.ep_tree.specs.Reading.{Begins, IsSyntaxFault, IsTooHigh, Low, Reads, Stops}
 
@@ -71,3 +71,19 @@ module _ {A : Type 0} (spells : A → Phrase) (height_of : A → ℕ) where
           not_less zero n k = omega arith
           not_less (suc m) zero k = absurd (k (omega arith))
           not_less (suc m) (suc n) k = let le = not_less m n (λ lt. k (omega (arith, lt))) in omega (arith, le)
+
+  -- a tree is read up to one token, and a fault stands at one
+  pub read_once : (most : ℕ) (ls : List Lexeme) (m n : ℕ) (x y : A) → ((front : List Lexeme) → spells x front → spells y front → x ≡ y)
+      → Reads spells height_of most ls m x → Reads spells height_of most ls n y → (x ≡ y) × (m ≡ n)
+  read_once most ls m n x y one r s =
+      let same = stops_once (Begins spells) any_closed ls m n r.stops s.stops in (one (take n ls) (subst (λ z. spells x (take z ls)) same r.spelled) s.spelled, same)
+
+  pub fault_once : (most : ℕ) (ls : List Lexeme) (m n : ℕ) → IsSyntaxFault spells height_of most ls m → IsSyntaxFault spells height_of most ls n → m ≡ n
+  fault_once most ls m n f g = stops_once (Begins spells) any_closed ls m n f.no_higher g.no_higher
+
+  pub high_once : (most : ℕ) (ls : List Lexeme) (m n : ℕ) → IsTooHigh spells height_of most ls m → IsTooHigh spells height_of most ls n → m ≡ n
+  high_once most ls m n f g = stops_once (Begins (Low height_of most spells)) (low_closed most) ls m n f.stops g.stops
+
+-- two numbers that count on from one
+pub counted_on : (from m n a b : ℕ) → a ≡ from + m → b ≡ from + n → m ≡ n → a ≡ b
+counted_on from m n a b e k same = e ∙ ap (λ z. from + z) same ∙ sym k

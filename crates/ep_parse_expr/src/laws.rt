@@ -4,6 +4,7 @@ ghost use Rattle.std.specs.Prelude.{◌≡◌, ◌≤◌, ◌++◌, ◌⊎◌, L
 ghost use Rattle.ep_parse_expr.specs.Outcomes.{DomainGoesTooHigh, DomainIsFaulty, DomainIsRead, GoesTooHigh, IsFaulty, IsRead};
 ghost use Rattle.ep_tree.specs.Heights.{domain_height, height};
 ghost use Rattle.ep_tree.specs.Phrases.{Lexeme};
+ghost use Rattle.ep_tree.specs.Reading.{DomainFault, DomainTooHigh, ExprFault, ExprTooHigh, ReadsDomain, ReadsExpr};
 ghost use Rattle.ep_tree.specs.Spelling.{DomainLevel, Level, Spells, SpellsDomain};
 ghost use Rattle.ep_tree.specs.Trees.{DomainTree, ExprTree};
 
@@ -25,7 +26,7 @@ pub fn a_front_is_no_higher()
 {}
 
 /// From each token on an expression is read, or there is a fault of syntax, or one of height, and never two of
-/// these.
+/// these; the tree and the token are the only ones.
 pub fn an_expression_has_one_outcome()
     ensures some { (most from : ℕ) (tokens : List Lexeme) →
         IsRead most from tokens ⊎ (IsFaulty most from tokens ⊎ GoesTooHigh most from tokens) }
@@ -35,6 +36,12 @@ pub fn an_expression_has_one_outcome()
         IsRead most from tokens → GoesTooHigh most from tokens → ⊥ }
     ensures faulty_not_high { (most from : ℕ) (tokens : List Lexeme) →
         IsFaulty most from tokens → GoesTooHigh most from tokens → ⊥ }
+    ensures read_once { (most from : ℕ) (tokens : List Lexeme) (one other : ExprTree) (m n : ℕ) →
+        ReadsExpr most from tokens one m → ReadsExpr most from tokens other n → (one ≡ other) × (m ≡ n) }
+    ensures faulty_once { (most from : ℕ) (tokens : List Lexeme) (m n : ℕ) →
+        ExprFault most from tokens m → ExprFault most from tokens n → m ≡ n }
+    ensures high_once { (most from : ℕ) (tokens : List Lexeme) (m n : ℕ) →
+        ExprTooHigh most from tokens m → ExprTooHigh most from tokens n → m ≡ n }
 {}
 
 /// The same of domains.
@@ -47,4 +54,10 @@ pub fn a_domain_has_one_outcome()
         DomainIsRead most from tokens → DomainGoesTooHigh most from tokens → ⊥ }
     ensures faulty_not_high { (most from : ℕ) (tokens : List Lexeme) →
         DomainIsFaulty most from tokens → DomainGoesTooHigh most from tokens → ⊥ }
+    ensures read_once { (most from : ℕ) (tokens : List Lexeme) (one other : DomainTree) (m n : ℕ) →
+        ReadsDomain most from tokens one m → ReadsDomain most from tokens other n → (one ≡ other) × (m ≡ n) }
+    ensures faulty_once { (most from : ℕ) (tokens : List Lexeme) (m n : ℕ) →
+        DomainFault most from tokens m → DomainFault most from tokens n → m ≡ n }
+    ensures high_once { (most from : ℕ) (tokens : List Lexeme) (m n : ℕ) →
+        DomainTooHigh most from tokens m → DomainTooHigh most from tokens n → m ≡ n }
 {}
