@@ -273,3 +273,22 @@ outcome_domain most from tokens = go (some_domain_from most domains (drop from t
     go (took x rest) e = let h = reads_it (SpellsDomain domains) domain_height domain_reader domain_again domain_steady domain_front domain_refuses most (drop from tokens) x rest e in inl (x, from + h.count, (h.count, refl, h.is))
     go (wrong rest) e = let h = is_fault (SpellsDomain domains) domain_height domain_reader domain_again domain_steady domain_front domain_refuses most (drop from tokens) rest e in inr (inl (from + h.count, (h.count, refl, h.is)))
     go (high rest) e = let h = is_too_high (SpellsDomain domains) domain_height domain_reader domain_again domain_steady domain_front domain_refuses most (drop from tokens) rest e in inr (inr (from + h.count, (h.count, refl, h.is)))
+
+-- the same of a whole list
+pub list_outcome_expr : (most : ℕ) (ls : List Lexeme) → ((e : ExprTree) × (count : ℕ) × Reads (Spells implications) height most ls count e) ⊎ (((count : ℕ) × IsSyntaxFault (Spells implications) height most ls count) ⊎ ((count : ℕ) × IsTooHigh (Spells implications) height most ls count))
+list_outcome_expr most ls = go (outcome_expr most 0 ls)
+  where
+    go : ((e : ExprTree) × (number : ℕ) × ReadsExpr most 0 ls e number) ⊎ (((number : ℕ) × ExprFault most 0 ls number) ⊎ ((number : ℕ) × ExprTooHigh most 0 ls number))
+        → ((e : ExprTree) × (count : ℕ) × Reads (Spells implications) height most ls count e) ⊎ (((count : ℕ) × IsSyntaxFault (Spells implications) height most ls count) ⊎ ((count : ℕ) × IsTooHigh (Spells implications) height most ls count))
+    go (inl r) = inl (r.0, r.2.0, r.2.2)
+    go (inr (inl f)) = inr (inl (f.1.0, f.1.2))
+    go (inr (inr h)) = inr (inr (h.1.0, h.1.2))
+
+pub list_outcome_domain : (most : ℕ) (ls : List Lexeme) → ((d : DomainTree) × (count : ℕ) × Reads (SpellsDomain domains) domain_height most ls count d) ⊎ (((count : ℕ) × IsSyntaxFault (SpellsDomain domains) domain_height most ls count) ⊎ ((count : ℕ) × IsTooHigh (SpellsDomain domains) domain_height most ls count))
+list_outcome_domain most ls = go (outcome_domain most 0 ls)
+  where
+    go : ((d : DomainTree) × (number : ℕ) × ReadsDomain most 0 ls d number) ⊎ (((number : ℕ) × DomainFault most 0 ls number) ⊎ ((number : ℕ) × DomainTooHigh most 0 ls number))
+        → ((d : DomainTree) × (count : ℕ) × Reads (SpellsDomain domains) domain_height most ls count d) ⊎ (((count : ℕ) × IsSyntaxFault (SpellsDomain domains) domain_height most ls count) ⊎ ((count : ℕ) × IsTooHigh (SpellsDomain domains) domain_height most ls count))
+    go (inl r) = inl (r.0, r.2.0, r.2.2)
+    go (inr (inl f)) = inr (inl (f.1.0, f.1.2))
+    go (inr (inr h)) = inr (inr (h.1.0, h.1.2))

@@ -1,6 +1,6 @@
 -- Reading ends in one way only, and at one token.
-use Rattle.std.specs.Prelude.{◌≡◌, ◌+◌, ℕ, zero, suc, ◌≤◌, ◌<◌, List, [], ◌∷◌, ◌++◌, take, refl}
-use Rattle.std.proofs.Common.{ap, append-nil, append_assoc, arith, sym, subst, ◌∙◌}
+use Rattle.std.specs.Prelude.{◌≡◌, ◌+◌, ◌⊎◌, ℕ, zero, suc, ◌≤◌, ◌<◌, List, [], ◌∷◌, ◌++◌, take, refl}
+use Rattle.std.proofs.Common.{ap, append-nil, append_assoc, arith, inl, inr, sym, subst, ◌∙◌}
 use Rattle.ep_tree.specs.Phrases.{Lexeme, Phrase}
 use Rattle.ep_tree.specs.Reading.{Begins, IsSyntaxFault, IsTooHigh, Low, Reads, Stops}
 
@@ -83,6 +83,46 @@ module _ {A : Type 0} (spells : A → Phrase) (height_of : A → ℕ) where
 
   pub high_once : (most : ℕ) (ls : List Lexeme) (m n : ℕ) → IsTooHigh spells height_of most ls m → IsTooHigh spells height_of most ls n → m ≡ n
   high_once most ls m n f g = stops_once (Begins (Low height_of most spells)) (low_closed most) ls m n f.stops g.stops
+
+  -- ---- by the first token with which nothing low enough goes on, and the first with which nothing does
+
+  abbrev LowStops : ℕ → List Lexeme → ℕ → Type 0
+  LowStops most = Stops (Begins (Low height_of most spells))
+
+  abbrev AnyStops : List Lexeme → ℕ → Type 0
+  AnyStops = Stops (Begins spells)
+
+  pub high_by_two : (most : ℕ) (ls : List Lexeme) (p q : ℕ) → LowStops most ls p → AnyStops ls q → p < q → IsTooHigh spells height_of most ls p
+  high_by_two most ls p q low any lt = record {
+    stops = low;
+    inside = let within = any.within in omega (arith, within, lt);
+    higher = shorter (Begins spells) any_closed (suc p) q ls (omega (arith, lt)) (any.before (omega (arith, lt)));
+  }
+
+  low_first : (most : ℕ) (ls : List Lexeme) (p q : ℕ) → LowStops most ls p → AnyStops ls q → q < p → ⊥
+  low_first most ls p q low any lt =
+      let b = shorter (Begins (Low height_of most spells)) (low_closed most) (suc q) p ls (omega (arith, lt)) (low.before (omega (arith, lt))) in
+      any.after (let within = low.within in omega (arith, within, lt)) (b.0, b.1, b.2.1)
+
+  same_place : (most : ℕ) (ls : List Lexeme) (p q : ℕ) → LowStops most ls p → AnyStops ls q → q ≤ p → p ≡ q
+  same_place most ls p q low any le = apart p q (λ lt. omega (arith, le, lt)) (low_first most ls p q low any)
+
+  pub fault_by_two : (most : ℕ) (ls : List Lexeme) (p q : ℕ) → LowStops most ls p → AnyStops ls q → q ≤ p → ((tree : A) → spells tree (take q ls) → ⊥) → IsSyntaxFault spells height_of most ls q
+  fault_by_two most ls p q low any le none = record { stops = subst (λ z. LowStops most ls z) (same_place most ls p q low any le) low; no_higher = any; incomplete = none }
+
+  pub read_by_two : (most : ℕ) (ls : List Lexeme) (p q : ℕ) (x : A) → ((one other : A) (front : List Lexeme) → spells one front → spells other front → one ≡ other)
+      → ((y : A) × (n : ℕ) × Reads spells height_of most ls n y) ⊎ (((n : ℕ) × IsSyntaxFault spells height_of most ls n) ⊎ ((n : ℕ) × IsTooHigh spells height_of most ls n))
+      → LowStops most ls p → AnyStops ls q → q ≤ p → spells x (take q ls) → Reads spells height_of most ls q x
+  read_by_two most ls p q x one (inl r) low any le s =
+      let both = read_once most ls r.1 q r.0 r.0 (λ front a b. refl) r.2 (subst (λ z. Reads spells height_of most ls z r.0) (stops_once (Begins spells) any_closed ls r.1 q r.2.stops any) r.2) in
+      let here : Reads spells height_of most ls q r.0 = subst (λ z. Reads spells height_of most ls z r.0) both.1 r.2 in
+      subst (λ z. Reads spells height_of most ls q z) (one r.0 x (take q ls) here.spelled s) here
+  read_by_two most ls p q x one (inr (inl f)) low any le s =
+      let same = stops_once (Begins spells) any_closed ls f.0 q f.1.no_higher any in absurd (f.1.incomplete x (subst (λ z. spells x (take z ls)) (sym same) s))
+  read_by_two most ls p q x one (inr (inr h)) low any le s =
+      let same = stops_once (Begins (Low height_of most spells)) (low_closed most) ls h.0 p h.1.stops low in
+      let k = h.1 in
+      absurd (any.after (let inside = k.inside in omega (arith, inside, same, le)) (shorter (Begins spells) any_closed (suc q) (suc h.0) ls (omega (arith, same, le)) k.higher))
 
 -- two numbers that count on from one
 pub counted_on : (from m n a b : ℕ) → a ≡ from + m → b ≡ from + n → m ≡ n → a ≡ b

@@ -1,11 +1,11 @@
 //! Laws that hold of the definitions, each the contract of a function that does nothing.
 
-ghost use Rattle.std.specs.Prelude.{◌≡◌, ◌≤◌, ◌++◌, ◌⊎◌, List, ℕ};
-ghost use Rattle.ep_parse_expr.specs.Outcomes.{DomainGoesTooHigh, DomainIsFaulty, DomainIsRead, GoesTooHigh, IsFaulty, IsRead};
+ghost use Rattle.std.specs.Prelude.{◌≡◌, ◌≤◌, ◌<◌, ◌++◌, ◌⊎◌, List, take, ℕ};
+ghost use Rattle.ep_parse_expr.specs.Outcomes.{DomainGoesTooHigh, DomainIsFaulty, DomainIsRead, DomainStopsAt, DomainStopsLowAt, GoesTooHigh, IsFaulty, IsRead, StopsAt, StopsLowAt};
 ghost use Rattle.ep_tree.specs.Heights.{domain_height, height};
 ghost use Rattle.ep_tree.specs.Phrases.{Lexeme};
-ghost use Rattle.ep_tree.specs.Reading.{DomainFault, DomainTooHigh, ExprFault, ExprTooHigh, ReadsDomain, ReadsExpr};
-ghost use Rattle.ep_tree.specs.Spelling.{DomainLevel, Level, Spells, SpellsDomain};
+ghost use Rattle.ep_tree.specs.Reading.{DomainFault, DomainTooHigh, ExprFault, ExprTooHigh, IsSyntaxFault, IsTooHigh, Reads, ReadsDomain, ReadsExpr};
+ghost use Rattle.ep_tree.specs.Spelling.{DomainLevel, Level, Spells, SpellsDomain, domains, implications};
 ghost use Rattle.ep_tree.specs.Trees.{DomainTree, ExprTree};
 
 /// Some tokens spell one expression at most where a level is asked for, and one domain at most: the grammar is
@@ -60,4 +60,28 @@ pub fn a_domain_has_one_outcome()
         DomainFault most from tokens m → DomainFault most from tokens n → m ≡ n }
     ensures high_once { (most from : ℕ) (tokens : List Lexeme) (m n : ℕ) →
         DomainTooHigh most from tokens m → DomainTooHigh most from tokens n → m ≡ n }
+{}
+
+/// Of two tokens, the first with which no expression of at most a height goes on, and the first with which none goes
+/// on: where the one comes before the other it is a fault of height. Else an expression is read exactly where the
+/// tokens before are one, and otherwise there is a fault of syntax.
+pub fn an_outcome_goes_by_two_tokens()
+    ensures too_high { (most : ℕ) (tokens : List Lexeme) (p q : ℕ) → StopsLowAt most tokens p → StopsAt tokens q →
+        p < q → IsTooHigh (Spells implications) height most tokens p }
+    ensures read { (most : ℕ) (tokens : List Lexeme) (p q : ℕ) (e : ExprTree) →
+        StopsLowAt most tokens p → StopsAt tokens q → q ≤ p →
+        Spells implications e (take q tokens) → Reads (Spells implications) height most tokens q e }
+    ensures faulty { (most : ℕ) (tokens : List Lexeme) (p q : ℕ) → StopsLowAt most tokens p → StopsAt tokens q →
+        q ≤ p → ((e : ExprTree) → Spells implications e (take q tokens) → ⊥) →
+        IsSyntaxFault (Spells implications) height most tokens q }
+    ensures domain_too_high { (most : ℕ) (tokens : List Lexeme) (p q : ℕ) →
+        DomainStopsLowAt most tokens p → DomainStopsAt tokens q →
+        p < q → IsTooHigh (SpellsDomain domains) domain_height most tokens p }
+    ensures domain_read { (most : ℕ) (tokens : List Lexeme) (p q : ℕ) (d : DomainTree) →
+        DomainStopsLowAt most tokens p → DomainStopsAt tokens q → q ≤ p →
+        SpellsDomain domains d (take q tokens) → Reads (SpellsDomain domains) domain_height most tokens q d }
+    ensures domain_faulty { (most : ℕ) (tokens : List Lexeme) (p q : ℕ) →
+        DomainStopsLowAt most tokens p → DomainStopsAt tokens q →
+        q ≤ p → ((d : DomainTree) → SpellsDomain domains d (take q tokens) → ⊥) →
+        IsSyntaxFault (SpellsDomain domains) domain_height most tokens q }
 {}

@@ -12,6 +12,6 @@ pub use cursor::{Cursor, Stop};
 pub use errors::ParseError;
 pub use laws::{
     a_domain_has_one_outcome, a_front_is_no_higher, an_expression_has_one_outcome,
-    tokens_spell_one_tree,
+    an_outcome_goes_by_two_tokens, tokens_spell_one_tree,
 };
 pub use lists::names;
