@@ -5,3 +5,4 @@ pub mod Meanings
 pub mod Hiding
 pub mod Declaring
 pub mod Reading
+pub mod First

@@ -1,8 +1,9 @@
 //! Whole texts: whether they are well formed.
 
 ghost use Rattle.std.specs.Prelude.{◌≡◌, [], IfOk, OnOk, IfErr};
-ghost use Rattle.ep_tree.specs.Faults.{params_faults, text_faults};
+ghost use Rattle.ep_tree.specs.Faults.{lettings_of, params_faults, text_faults};
 ghost use Rattle.ep_tree.specs.Views.{model_tree, params_tree};
+ghost use Rattle.ep_types.specs.First.{IsFirst};
 ghost use Rattle.ep_types.specs.Named.{IsNamed};
 ghost use Rattle.ep_types.specs.Texts.{typed_params_tree, typed_tree};
 
@@ -12,7 +13,8 @@ use crate::typed::{Typed, TypedParams};
 use ep_tree::{Model, Params};
 use std::alloc::Global;
 
-/// Checks a model. It is well formed where no fault stands in it; otherwise one that stands is named.
+/// Checks a model. It is well formed where no fault stands in it; otherwise the first that is met from left
+/// to right is named.
 ///
 /// Linear in the text, but that a name is sought among the names of the quantifiers around it, and a
 /// domain is read once for each name that it is written for.
@@ -20,6 +22,7 @@ pub fn check_model(alloc: Global, model: Model) -> Result<Typed, StaticError>
     ensures same { IfOk result (λ typed. typed_tree typed ≡ model_tree model) }
     ensures faultless { OnOk result (text_faults (model_tree model) ≡ []) }
     ensures named { IfErr result (IsNamed (text_faults (model_tree model))) }
+    ensures first { IfErr result (IsFirst (model_tree model)) }
 {
     check_statements(alloc, &model.statements)?;
     Ok(Typed::new(model))
@@ -31,6 +34,7 @@ pub fn check_params(alloc: Global, params: Params) -> Result<TypedParams, Static
     ensures same { IfOk result (λ typed. typed_params_tree typed ≡ params_tree params) }
     ensures faultless { OnOk result (params_faults (params_tree params) ≡ []) }
     ensures named { IfErr result (IsNamed (params_faults (params_tree params))) }
+    ensures first { IfErr result (IsFirst (lettings_of (params_tree params))) }
 {
     check_lettings(alloc, &params.statements)?;
     Ok(TypedParams::new(params))

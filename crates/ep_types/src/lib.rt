@@ -7,6 +7,8 @@ mod expressions;
 mod names;
 mod rules;
 mod statements;
+#[cfg(test)]
+mod tests;
 mod typed;
 
 pub use check::{check_model, check_params};

@@ -22,3 +22,10 @@ returns-in_err-check_statements-clause-named c =
 pub returns-clause-faultless : goal.returns-clause-faultless
 unfolding model_tree
 returns-clause-faultless c = faultless (model_tree c.args.model) (ap (λ xs. check_text nothing_known (map statement_tree xs)) (sym c.deref.ensures.value) ∙ c.in_ok-check_statements.ensures)
+
+pub returns-in_err-check_statements-clause-first : goal.returns-in_err-check_statements-clause-first
+unfolding model_tree
+returns-in_err-check_statements-clause-first c =
+    let p = err_from_is_err_and c.from_residual.result c.from_residual.ensures.1 in
+    rw (p.1, p.2)
+    (blames_same c.in_err-check_statements.field-0.0 _ _ (ap (λ xs. check_text nothing_known (map statement_tree xs)) (sym c.deref.ensures.value)) c.in_err-check_statements.ensures)

@@ -23,3 +23,10 @@ returns-in_err-check_lettings-clause-named c =
 pub returns-clause-faultless : goal.returns-clause-faultless
 unfolding params_faults params_tree
 returns-clause-faultless c = faultless (lettings_of (params_tree c.args.params)) (ap (λ xs. check_text nothing_known (lettings_of (map statement_tree xs))) (sym c.deref.ensures.value) ∙ c.in_ok-check_lettings.ensures)
+
+pub returns-in_err-check_lettings-clause-first : goal.returns-in_err-check_lettings-clause-first
+unfolding params_tree
+returns-in_err-check_lettings-clause-first c =
+    let p = err_from_is_err_and c.from_residual.result c.from_residual.ensures.1 in
+    rw (p.1, p.2)
+    (blames_same c.in_err-check_lettings.field-0.0 _ _ (ap (λ xs. check_text nothing_known (lettings_of (map statement_tree xs))) (sym c.deref.ensures.value)) c.in_err-check_lettings.ensures)
