@@ -1,5 +1,5 @@
 -- What errors of checking and binding say.
-use Rattle.std.proofs.Common.{◌≡◌, ℕ, List, [], ◌∷◌, Some, Ok, Err, Result, Contains, inl, inr, refl}
+use Rattle.std.proofs.Common.{List, Ok, Err, Result, Contains, inl, inr, refl}
 use Rattle.ep_base.specs.declared.operators.Limit.{Limit}
 use Rattle.ep_instance.specs.Refusals.{Refuses}
 use Rattle.ep_instance.specs.declared.errors.BindError.{BindError}
@@ -12,9 +12,8 @@ use Rattle.ep_types.specs.Named.{IsNamed, fault_of}
 use Rattle.ep_types.specs.declared.errors.StaticError.{StaticError}
 use Rattle.ep_run.specs.Outcomes.{as_outcome, bind_refusal, bind_refusals, fault_refusal, fault_refusals, file_of}
 use Rattle.ep_run.specs.Status.{status_of}
-use Rattle.ep_run.specs.Steps.{IsAmong, IsOfText, Passes, Tells}
+use Rattle.ep_run.specs.Steps.{Passes, Tells}
 use Rattle.ep_run.specs.Stops.{bind_stop, static_stop}
-use Rattle.ep_run.specs.declared.stops.Stop.{Stop}
 use Rattle.ep_run.proofs.Refusing.{contains-map}
 
 -- an error of types or categories names one of the faults

@@ -1,5 +1,5 @@
 -- From what is read to what comes out over the held files.
-use Rattle.std.proofs.Common.{◌≡◌, ℕ, ◌⊎◌, Bool, true, false, List, [], ◌∷◌, ◌++◌, Option, Some, None, option_to_list, Ok, Err, Result, Contains, IfSome, IsSomeAnd, bytes_eq, if◌then◌else◌, inl, inr, refl, sym, ap, subst, ◌∙◌}
+use Rattle.std.proofs.Common.{◌≡◌, ℕ, ◌⊎◌, Bool, true, false, List, [], ◌∷◌, ◌++◌, Option, Some, None, option_to_list, Ok, Err, Result, Contains, IfSome, IsSomeAnd, bytes_eq, if◌then◌else◌, inl, inr, refl, sym, ap, subst}
 use Rattle.std.proofs.lemmas.List.Elements.{Contains-append_right}
 use Rattle.std.proofs.lemmas.Slice.Eq.{bytes_eq-Decides}
 use Rattle.ep_base.specs.Outside.{Held}
@@ -9,10 +9,9 @@ use Rattle.ep_tree.specs.Statements.{TextTree}
 use Rattle.ep_run.specs.Outcomes.{Outcome, Task}
 use Rattle.ep_run.specs.Readings.{AreParams, IsHeldReadAs, IsReadAs, without}
 use Rattle.ep_run.specs.Shown.{ThenShows}
-use Rattle.ep_run.specs.Steps.{IsFailed, IsFaulty, IsNotThere, IsUnread, TellsParams, TellsRead, TellsReply, TellsTask}
+use Rattle.ep_run.specs.Steps.{IsFailed, IsFaulty, IsUnread, TellsParams, TellsRead, TellsReply, TellsTask}
 use Rattle.ep_run.specs.declared.replies.Reply.{Reply}
 use Rattle.ep_run.specs.declared.stops.Stop.{Stop}
-use Rattle.ep_tree.specs.declared.statements.Params.{Params}
 use Rattle.ep_run.proofs.Refusing.{contains-first}
 
 -- what is read of held files

@@ -1,5 +1,5 @@
 -- From the first bytes of a file to what the file is read as.
-use Rattle.std.proofs.Common.{◌≡◌, ℕ, ◌+◌, ◌<◌, ◌≤◌, ◌⊎◌, List, length, take, Option, Some, None, Ok, Err, Result, IfSome, IsSomeAnd, option_map, inl, inr, refl, sym, ap, subst, ◌∙◌, arith}
+use Rattle.std.proofs.Common.{◌≡◌, ℕ, ◌+◌, ◌≤◌, List, length, take, Option, Some, None, Ok, Err, Result, IfSome, IsSomeAnd, option_map, inl, inr, refl, subst, arith}
 use Rattle.std.proofs.lemmas.List.{take_all, length-take}
 use Rattle.ep_base.specs.Outside.{Held, ReadGives}
 use Rattle.ep_parse_model.specs.Answers.{Refuses}
@@ -13,7 +13,7 @@ use Rattle.ep_tree.specs.Texts.{Answers, HasHeightFault, HasSyntaxFault, HasToke
 use Rattle.ep_base.specs.Tokens.{BadByte, LongNumber}
 use Rattle.ep_run.specs.Readings.{HasParams, IsHeldReadAs, IsReadAs, IsTextReadAs, spells_in, tree_or_refusal}
 use Rattle.ep_run.specs.Status.{status_of}
-use Rattle.ep_run.specs.Steps.{IsOfText, TellsRead, TellsText}
+use Rattle.ep_run.specs.Steps.{TellsRead, TellsText}
 use Rattle.ep_run.specs.Stops.{text_stop}
 use Rattle.ep_run.specs.declared.stops.Stop.{Stop}
 

@@ -1,8 +1,8 @@
 -- An instance within its limits.
-use Rattle.std.proofs.Common.{◌≡◌, ℕ, List, [], ◌∷◌, refl, sum_by}
+use Rattle.std.proofs.Common.{◌≡◌, ℕ, List, [], ◌∷◌, refl}
 use Rattle.ep_instance.specs.Judgements.{IsWithinLimits}
 use Rattle.ep_tree.specs.Binding.{Instance, Refusal}
-use Rattle.ep_tree.specs.Solutions.{cell_count, instance_limits, limits_passed, met_instance, or_weight}
+use Rattle.ep_tree.specs.Solutions.{instance_limits, or_weight}
 use Rattle.ep_tree.specs.declared.values.Mode.{Mode}
 
 first-none : (rs : List Refusal) (weight : ℕ) → or_weight rs weight ≡ [] → rs ≡ []

@@ -1,16 +1,14 @@
 -- The words and the held files show one thing alone.
-use Rattle.std.proofs.Common.{◌≡◌, ℕ, ◌⊎◌, List, [], ◌∷◌, Option, Some, None, Ok, Err, Result, Contains, IfSome, IsSomeAnd, inl, inr, refl, sym, ap, subst, ◌∙◌}
+use Rattle.std.proofs.Common.{◌≡◌, ℕ, ◌⊎◌, List, [], ◌∷◌, Option, Some, None, Ok, Err, Result, Contains, IfSome, inl, inr, sym, ap, subst, ◌∙◌}
 use Rattle.ep_base.specs.Outside.{Held}
-use Rattle.ep_print.specs.Refusals.{refusal_text}
 use Rattle.ep_print.specs.declared.refusals.Refusal.{Refusal}
 use Rattle.ep_print.specs.declared.refusals.TextFile.{TextFile}
-use Rattle.ep_tree.specs.StatementSpelling.{SpellsModel, SpellsParams}
 use Rattle.ep_tree.specs.Statements.{TextTree}
 use Rattle.ep_tree.specs.Texts.{Answers as TextAnswers, TextAnswer}
 use Rattle.ep_words.specs.Commands.{IsCommand}
 use Rattle.ep_words.specs.declared.job.Job.{Job}
 use Rattle.ep_run.specs.Answers.{Answers}
-use Rattle.ep_run.specs.Commands.{AreNoCommand, Want, wanted_of}
+use Rattle.ep_run.specs.Commands.{Want, wanted_of}
 use Rattle.ep_run.specs.Outcomes.{Outcome, Task, solve_outcome, verify_outcome}
 use Rattle.ep_run.specs.Readings.{AreParams, IsHeldReadAs, IsReadAs, spells_in, tree_or_refusal}
 use Rattle.ep_run.specs.Shown.{Ask, ComesTo, Refuse, Show, ThenShows, comes_to_judge, comes_to_solve, comes_to_verify}

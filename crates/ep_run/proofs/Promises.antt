@@ -1,5 +1,5 @@
 -- What a run promises, by the cases of what is said.
-use Rattle.std.proofs.Common.{◌≡◌, ◌≢◌, ℕ, ◌⊎◌, ◌<◌, ◌≤◌, List, [], ◌∷◌, length, take, Option, Some, None, Ok, Err, Contains, IfSome, IsSomeAnd, codes, inl, inr, refl, sym, ap, subst, ◌∙◌, arith}
+use Rattle.std.proofs.Common.{◌≡◌, ◌≢◌, ℕ, ◌⊎◌, List, [], ◌∷◌, length, take, Option, Some, None, IfSome, IsSomeAnd, inl, inr, refl, sym, ap, subst, ◌∙◌, arith}
 use Rattle.std.proofs.lemmas.List.{take_all}
 use Rattle.ep_base.specs.Outside.{Held, TookPart, with_more}
 use Rattle.ep_print.specs.Refusals.{refusal_text}
@@ -7,7 +7,7 @@ use Rattle.ep_print.specs.declared.refusals.Refusal.{Refusal}
 use Rattle.ep_run.specs.Answers.{Answers}
 use Rattle.ep_run.specs.Commands.{AreNoCommand, Want}
 use Rattle.ep_run.specs.Outcomes.{Task}
-use Rattle.ep_run.specs.Puts.{IsFailedRead, IsShownText, MayBePut, TookFirst, TookOnWant, device_line}
+use Rattle.ep_run.specs.Puts.{IsFailedRead, IsShownText, MayBePut, TookFirst, device_line}
 use Rattle.ep_run.specs.Shown.{Ask, Refuse, Refuses}
 use Rattle.ep_run.specs.Status.{status_of}
 use Rattle.ep_run.specs.Steps.{IsEnd, IsOfText}

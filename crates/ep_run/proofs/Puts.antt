@@ -1,5 +1,5 @@
 -- What a sink took of a line.
-use Rattle.std.proofs.Common.{◌≡◌, ℕ, ◌<◌, ◌≤◌, List, length, take, Option, refl, sym, subst, arith}
+use Rattle.std.proofs.Common.{◌≡◌, ℕ, List, length, take, Option, sym, subst, arith}
 use Rattle.std.proofs.lemmas.List.{take_all}
 use Rattle.ep_base.specs.Outside.{TookPart, with_more}
 use Rattle.ep_run.specs.Puts.{TookFirst}

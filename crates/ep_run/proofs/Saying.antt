@@ -1,17 +1,15 @@
 -- From what is said to the words to what a run promises.
-use Rattle.std.proofs.Common.{◌≡◌, ◌≢◌, ℕ, ◌⊎◌, ◌<◌, ◌≤◌, List, [], ◌∷◌, length, take, Option, Some, None, Ok, Err, Result, Contains, IfSome, IsSomeAnd, codes, inl, inr, refl, sym, ap, subst, ◌∙◌, arith}
-use Rattle.std.proofs.lemmas.List.{take_all}
-use Rattle.ep_base.specs.Outside.{Held, TookPart, with_more}
+use Rattle.std.proofs.Common.{◌≡◌, ℕ, ◌⊎◌, List, [], ◌∷◌, Option, Some, None, Ok, Err, Result, IfSome, IsSomeAnd, inl, inr, refl, sym, ap, subst, ◌∙◌}
+use Rattle.ep_base.specs.Outside.{Held}
 use Rattle.ep_print.specs.Refusals.{refusal_text}
 use Rattle.ep_print.specs.declared.refusals.Refusal.{Refusal}
 use Rattle.ep_run.specs.Answers.{Answers}
 use Rattle.ep_run.specs.Commands.{AreNoCommand, Want, files_of}
 use Rattle.ep_run.specs.Outcomes.{Task}
-use Rattle.ep_run.specs.Puts.{IsFailedRead, IsShownText, MayBePut, NameFile, TookFirst, TookOnWant, device_line}
-use Rattle.ep_run.specs.Readings.{without}
-use Rattle.ep_run.specs.Shown.{Ask, ComesTo, Refuse, Refuses, Show}
+use Rattle.ep_run.specs.Puts.{IsFailedRead, device_line}
+use Rattle.ep_run.specs.Shown.{Ask, ComesTo, Refuse}
 use Rattle.ep_run.specs.Status.{status_of}
-use Rattle.ep_run.specs.Steps.{EndsAs, IsAnswer, IsEnd, IsFailed, IsFaulty, IsOfText, Says, SaysTo, TellsRun, TellsTask}
+use Rattle.ep_run.specs.Steps.{EndsAs, IsAnswer, IsEnd, IsFailed, IsFaulty, IsOfText, Says, TellsRun, TellsTask}
 use Rattle.ep_run.specs.declared.replies.Reply.{Reply}
 use Rattle.ep_run.specs.declared.status.Status.{Status}
 use Rattle.ep_run.specs.declared.stops.Stop.{Stop}

@@ -1,15 +1,15 @@
 -- What the steps over trees come to, one after another.
-use Rattle.std.proofs.Common.{◌≡◌, ℕ, ◌⊎◌, List, [], ◌∷◌, Some, None, Ok, Err, Contains, inl, inr, refl, ap, subst, ◌∙◌}
+use Rattle.std.proofs.Common.{◌≡◌, ℕ, ◌⊎◌, List, [], Ok, Contains, inl, inr, ◌∙◌}
 use Rattle.ep_print.specs.declared.refusals.Refusal.{Refusal}
 use Rattle.ep_print.specs.declared.refusals.TextFile.{TextFile}
 use Rattle.ep_tree.specs.Binding.{Instance}
 use Rattle.ep_tree.specs.Faults.{params_faults, text_faults}
 use Rattle.ep_tree.specs.SolutionTexts.{Shaped, fits, wrong_shape}
-use Rattle.ep_tree.specs.Solutions.{Assigned, Fits, Found, Judgement, a_solution, goal_undefined, instance_limits, judgement, violates}
+use Rattle.ep_tree.specs.Solutions.{Judgement, a_solution, goal_undefined, instance_limits, judgement, violates}
 use Rattle.ep_tree.specs.Statements.{TextTree}
 use Rattle.ep_tree.specs.declared.values.Mode.{Mode}
 use Rattle.ep_run.specs.Answers.{Answers, judgement_status}
-use Rattle.ep_run.specs.Outcomes.{Outcome, Task, and_then, bind_refusals, bound_outcome, count_refusals, fault_refusals, instance_of, judge_outcome, solve_outcome, to_judge, to_solve, unless_refused, verify_outcome}
+use Rattle.ep_run.specs.Outcomes.{Task, and_then, bind_refusals, bound_outcome, count_refusals, fault_refusals, instance_of, judge_outcome, solve_outcome, to_judge, to_solve, verify_outcome}
 use Rattle.ep_run.specs.Steps.{IsAmong, shape_outcome}
 use Rattle.ep_run.specs.declared.status.Status.{Status}
 use Rattle.ep_run.proofs.Refusing.{among-first, among-later, among-next, among-then, none-refused, then-next}

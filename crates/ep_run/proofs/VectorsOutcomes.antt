@@ -1,13 +1,12 @@
 -- Worked examples of what commands want, of what texts come to, and of what is said, computed by the checker.
-use Rattle.std.proofs.Common.{◌≡◌, ℕ, List, [], ◌∷◌, ℤ, pos, negsuc, codes, Some, None, Ok, Err, refl}
+use Rattle.std.proofs.Common.{◌≡◌, ℕ, List, [], ◌∷◌, negsuc, codes, Some, None, Err, refl}
 use Rattle.std.specs.Fmt.{digits}
 use Rattle.ep_base.specs.declared.places.Place.{Place}
-use Rattle.ep_base.specs.declared.operators.Sense.{Sense}
 use Rattle.ep_print.specs.declared.refusals.Refusal.{Refusal}
 use Rattle.ep_print.specs.declared.refusals.TextFile.{TextFile}
 use Rattle.ep_tree.specs.Solutions.{a_solution, goal_undefined, violates}
-use Rattle.ep_tree.specs.Statements.{StatementTree, TextTree, constraints, letting}
-use Rattle.ep_tree.specs.Trees.{ExprTree, named, number}
+use Rattle.ep_tree.specs.Statements.{TextTree, constraints, letting}
+use Rattle.ep_tree.specs.Trees.{ExprTree, named}
 use Rattle.ep_tree.specs.Faults.{clause_faults, declaration_faults, faults, faults_after, name_faults, params_faults, stated_faults, statement_faults, text_faults, type_fault, unless}
 use Rattle.ep_tree.specs.StatementSpelling.{is_letting}
 use Rattle.ep_tree.specs.Types.{from_one, judge, named_type}
@@ -16,7 +15,6 @@ use Rattle.ep_run.specs.Answers.{judgement_status, judgement_text}
 use Rattle.ep_run.specs.Commands.{wanted_of}
 use Rattle.ep_run.specs.Outcomes.{fault_refusal, solve_outcome, unless_refused, verify_outcome}
 use Rattle.ep_run.specs.Status.{code_of, status_of}
-use Rattle.ep_run.specs.declared.status.Status.{Status}
 use Rattle.ep_run.specs.declared.wanted.Wanted.{Wanted}
 
 -- ---- what is wanted

@@ -2,7 +2,7 @@
 use Rattle.std.proofs.Common.{◌≡◌, ℕ, List, None, ap, sym, ◌∙◌}
 use Rattle.ep_words.specs.Commands.{IsCommand}
 use Rattle.ep_words.specs.declared.job.Job.{Job}
-use Rattle.ep_run.specs.Commands.{AreNoCommand, Want, wanted_of}
+use Rattle.ep_run.specs.Commands.{AreNoCommand, wanted_of}
 
 -- the job of the words isn't one that runs
 pub no-wanted : (words : List (List ℕ)) (job : Job) → ((ws : List (List ℕ)) (one other : Job) → IsCommand ws one → IsCommand ws other → one ≡ other) → IsCommand words job → wanted_of job ≡ None → AreNoCommand words

@@ -1,5 +1,5 @@
 -- Which answers are right for a task, and their texts.
-use Rattle.std.specs.Prelude.{◌≡◌, ℕ, ℤ, List, ◌++◌, map, codes, Option, Some, None, Contains}
+use Rattle.std.specs.Prelude.{◌≡◌, ℕ, ℤ, List, ◌++◌, map, codes, Some, None, Contains}
 use Rattle.std.specs.Fmt.{decimal, signed_decimal}
 use Rattle.ep_tree.specs.Binding.{Instance}
 use Rattle.ep_tree.specs.Environments.{has_value}

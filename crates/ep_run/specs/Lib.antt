@@ -7,3 +7,5 @@ pub mod Answers
 pub mod Puts
 pub mod Stops
 pub mod Steps
+pub mod Candidates
+pub mod Counts

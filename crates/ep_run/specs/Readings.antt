@@ -1,5 +1,5 @@
 -- What files are read as.
-use Rattle.std.specs.Prelude.{◌≡◌, ℕ, List, [], ◌∷◌, Option, Some, None, Result, Ok, Err, bytes_eq, if◌then◌else◌}
+use Rattle.std.specs.Prelude.{◌≡◌, ℕ, List, [], Option, Some, None, Result, Ok, Err, bytes_eq, if◌then◌else◌}
 use Rattle.ep_base.specs.Outside.{Held}
 use Rattle.ep_tree.specs.Phrases.{Phrase}
 use Rattle.ep_tree.specs.StatementSpelling.{SpellsModel, SpellsParams}

@@ -27,7 +27,10 @@ pub fn checked_model(alloc: Global, model: Model) -> Result<Typed, Stop>
     ensures passes { Passes
         (fault_refusals TextFileValue.Model (text_faults (model_tree model))) result }
 {
-    Err(Stop::Memory)
+    match check_model(alloc, model) {
+        Ok(typed) => Ok(typed),
+        Err(error) => Err(static_stop(TextFile::Model, error)),
+    }
 }
 
 /// A parameter text or a solution text, if no such fault stands in it.
@@ -35,7 +38,10 @@ pub fn checked_params(alloc: Global, file: TextFile, params: Params) -> Result<T
     ensures same { IfOk result (λ typed. typed_params_tree typed ≡ params_tree params) }
     ensures passes { Passes (fault_refusals file (params_faults (params_tree params))) result }
 {
-    Err(Stop::Memory)
+    match check_params(alloc, params) {
+        Ok(typed) => Ok(typed),
+        Err(error) => Err(static_stop(file, error)),
+    }
 }
 
 /// The instance of a model and its parameters, if it is within the limits.
@@ -47,7 +53,9 @@ pub fn instance_of(alloc: Global, model: Typed, params: TypedParams) -> Result<I
     ensures within { IfOk result (λ i.
         instance_limits ModeValue.Relational (plain_instance i) ≡ []) }
 {
-    Err(Stop::Memory)
+    let instance = bound(alloc, model, params)?;
+    check_limits(alloc, &instance)?;
+    Ok(instance)
 }
 
 /// The instance of a model and its parameters.

@@ -37,7 +37,13 @@ pub fn judged_reply(
     ensures { TellsReply
         (judge_outcome (plain_instance instance.now) (typed_params_tree solution)) result }
 {
-    Err(Stop::Memory)
+    match shaped(alloc, instance, solution)? {
+        Shaped::Fits(assignment) => Ok(judged(alloc, instance, &assignment)?),
+        Shaped::WrongShape(name) => Ok(Reply {
+            status: Status::Refuted,
+            text: wrong_shape_text(alloc, name.text())?,
+        }),
+    }
 }
 
 /// The assignment of a solution text, or a name that keeps it from giving one.
@@ -46,7 +52,10 @@ fn shaped(alloc: Global, instance: &Instance, solution: TypedParams) -> Result<S
     requires closed { IsClosed (plain_instance instance.now) }
     ensures { TellsShape (plain_instance instance.now) (typed_params_tree solution) result }
 {
-    Err(Stop::Memory)
+    match read_assignment(alloc, instance, solution) {
+        Ok(shaped) => Ok(shaped),
+        Err(error) => Err(bind_stop(error)),
+    }
 }
 
 /// What is said of an assignment that fits.

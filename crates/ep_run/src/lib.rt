@@ -1,10 +1,12 @@
 //! The top call: from the words and the bytes of files to the answer's text.
 #![tactic(auto)]
 
+mod candidates;
 mod checking;
 mod counting;
 mod errors;
 mod judging;
+mod numbers;
 mod reading;
 mod replies;
 mod runs;

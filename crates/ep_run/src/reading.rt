@@ -1,6 +1,6 @@
 //! Reads the files of a run.
 
-ghost use Rattle.std.specs.Prelude.{◌≡◌, ◌≤◌, OnOk};
+ghost use Rattle.std.specs.Prelude.{◌≡◌, ◌≤◌, [], OnOk};
 ghost use Rattle.ep_base.specs.Outside.{Rose};
 ghost use Rattle.ep_tree.specs.Views.{model_tree, params_tree};
 ghost use Rattle.ep_print.specs.declared.refusals.TextFile.{TextFile as TextFileValue};
@@ -26,7 +26,8 @@ pub fn read_model<F: Files>(alloc: Global, files: &mut F, name: &Word) -> Result
     ensures faults { F.faults files.old ≤ F.faults files.new }
     ensures quiet { OnOk result (F.faults files.new ≡ F.faults files.old) }
 {
-    Err(Stop::Memory)
+    let text = read_bytes(alloc, files, name)?;
+    model_in(alloc, &text)
 }
 
 /// Reads a parameter text or a solution text.
@@ -43,7 +44,8 @@ pub fn read_params<F: Files>(
     ensures faults { F.faults files.old ≤ F.faults files.new }
     ensures quiet { OnOk result (F.faults files.new ≡ F.faults files.old) }
 {
-    Err(Stop::Memory)
+    let text = read_bytes(alloc, files, name)?;
+    params_in(alloc, file, &text)
 }
 
 /// Reads the parameters, if a file is named that has them.
@@ -58,7 +60,20 @@ pub fn read_named_params<F: Files>(
     ensures faults { F.faults files.old ≤ F.faults files.new }
     ensures quiet { OnOk result (F.faults files.new ≡ F.faults files.old) }
 {
-    Err(Stop::Memory)
+    match name {
+        Some(name) => read_params(alloc, files, TextFile::Params, name),
+        None => Ok(no_params(alloc)),
+    }
+}
+
+/// No parameters.
+#[tactic(auto, unfolding(ep_tree::specs::Views::params_tree))]
+fn no_params(alloc: Global) -> Params
+    ensures { params_tree result ≡ [] }
+{
+    Params {
+        statements: Vec::new(alloc),
+    }
 }
 
 /// Reads a file, one byte more at most than a text may have.
@@ -69,7 +84,12 @@ fn read_bytes<F: Files>(alloc: Global, files: &mut F, name: &Word) -> Result<Vec
     ensures faults { F.faults files.old ≤ F.faults files.new }
     ensures quiet { OnOk result (F.faults files.new ≡ F.faults files.old) }
 {
-    Err(Stop::Memory)
+    match files.read(alloc, name.text(), MOST_BYTES + 1) {
+        Ok(Some(bytes)) => Ok(bytes),
+        Ok(None) => Err(unread(alloc, name)),
+        Err(FileError::Failed) => Err(unread(alloc, name)),
+        Err(FileError::Memory) => Err(Stop::Memory),
+    }
 }
 
 /// A file can't be read.

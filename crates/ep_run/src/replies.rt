@@ -28,7 +28,11 @@ pub fn reply_to<F: Files>(alloc: Global, words: &[Word], files: &mut F) -> Resul
     ensures held { F.held files.new ≡ F.held files.old }
     ensures faults { F.faults files.old ≤ F.faults files.new }
 {
-    Err(Memory)
+    match run_words(alloc, words, files) {
+        Ok(reply) => Ok(reply),
+        Err(Stop::Refused(refusal)) => refused(alloc, &refusal),
+        Err(Stop::Memory) => Err(Memory),
+    }
 }
 
 /// Does what the words want.
@@ -38,7 +42,8 @@ fn run_words<F: Files>(alloc: Global, words: &[Word], files: &mut F) -> Result<R
     ensures held { F.held files.new ≡ F.held files.old }
     ensures faults { F.faults files.old ≤ F.faults files.new }
 {
-    Err(Stop::Memory)
+    let wanted = read_wanted(alloc, words)?;
+    do_wanted(alloc, files, &wanted)
 }
 
 /// The status and the line of a refusal.

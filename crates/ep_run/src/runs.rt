@@ -32,7 +32,20 @@ pub fn do_wanted<F: Files>(alloc: Global, files: &mut F, wanted: &Wanted) -> Res
     ensures held { F.held files.new ≡ F.held files.old }
     ensures faults { F.faults files.old ≤ F.faults files.new }
 {
-    Err(Stop::Memory)
+    match wanted {
+        Wanted::Solve { model, params } => {
+            let model = read_model(alloc, files, model)?;
+            solve_model(alloc, files, model, params)
+        }
+        Wanted::Verify {
+            model,
+            params,
+            solution,
+        } => {
+            let model = read_model(alloc, files, model)?;
+            verify_model(alloc, files, model, params, solution)
+        }
+    }
 }
 
 /// Solves a model, once its parameters are read.
@@ -48,7 +61,8 @@ fn solve_model<F: Files>(
     ensures held { F.held files.new ≡ F.held files.old }
     ensures faults { F.faults files.old ≤ F.faults files.new }
 {
-    Err(Stop::Memory)
+    let params = read_named_params(alloc, files, params)?;
+    solve_texts(alloc, model, params)
 }
 
 /// Verifies a solution text of a model, once its parameters are read.
@@ -67,7 +81,8 @@ fn verify_model<F: Files>(
     ensures held { F.held files.new ≡ F.held files.old }
     ensures faults { F.faults files.old ≤ F.faults files.new }
 {
-    Err(Stop::Memory)
+    let params = read_named_params(alloc, files, params)?;
+    verify_solution(alloc, files, model, params, solution)
 }
 
 /// Verifies a solution text, once it is read.
@@ -86,7 +101,8 @@ fn verify_solution<F: Files>(
     ensures held { F.held files.new ≡ F.held files.old }
     ensures faults { F.faults files.old ≤ F.faults files.new }
 {
-    Err(Stop::Memory)
+    let solution = read_params(alloc, files, TextFile::Solution, solution)?;
+    verify_texts(alloc, model, params, solution)
 }
 
 /// Solves a model under its parameters.
@@ -94,7 +110,15 @@ fn solve_texts(alloc: Global, model: Model, params: Params) -> Result<Reply, Sto
     ensures tells { TellsReply (solve_outcome (model_tree model) (params_tree params)) result }
     ensures status { IfOk result (λ reply. reply.status ≡ StatusValue.Answered) }
 {
-    Err(Stop::Memory)
+    let model = checked_model(alloc, model)?;
+    let params = checked_params(alloc, TextFile::Params, params)?;
+    let instance = instance_of(alloc, model, params)?;
+    let count = check_count(&instance)?;
+    let answer = answer_of(alloc, &instance, count)?;
+    Ok(Reply {
+        status: Status::Answered,
+        text: print_answer(alloc, &answer)?,
+    })
 }
 
 /// Verifies a solution text of a model under its parameters.
@@ -107,5 +131,9 @@ fn verify_texts(
     ensures tells { TellsReply
         (verify_outcome (model_tree model) (params_tree params) (params_tree solution)) result }
 {
-    Err(Stop::Memory)
+    let model = checked_model(alloc, model)?;
+    let params = checked_params(alloc, TextFile::Params, params)?;
+    let solution = checked_params(alloc, TextFile::Solution, solution)?;
+    let instance = instance_of(alloc, model, params)?;
+    judged_reply(alloc, &instance, solution)
 }

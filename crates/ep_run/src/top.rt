@@ -16,6 +16,8 @@ ghost use Rattle.ep_run.specs.declared.wanted.Wanted.{Wanted};
 use super::replies::reply_to;
 use super::status::Status;
 use ep_base::{Files, PutError, Sink, Word, put_all};
+use ep_parse_model::texts_have_one_answer;
+use ep_words::one_job_for_words;
 use std::alloc::Global;
 use std::thread::Threads;
 
@@ -99,8 +101,17 @@ pub fn run<R: Threads, F: Files, K: Sink>(
     ensures out_faults { K.faults out.old ≤ K.faults out.new }
 {
     let _ = rt;
-    put_memory(out);
-    Status::Memory
+    one_job_for_words();
+    texts_have_one_answer();
+    let Ok(reply) = reply_to(alloc, words, files) else {
+        put_memory(out);
+        return Status::Memory;
+    };
+    match put_all(out, &reply.text) {
+        Ok(()) => reply.status,
+        Err(PutError::Failed) => Status::Device,
+        Err(PutError::Memory) => Status::Memory,
+    }
 }
 
 /// Puts out the line that says that memory is wanting, or what the sink takes of it.

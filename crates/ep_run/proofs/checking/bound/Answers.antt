@@ -1,4 +1,4 @@
-use Rattle.std.proofs.Common.{◌≡◌, Err, ap, sym, subst}
+use Rattle.std.proofs.Common.{Err, ap, sym, subst}
 use Rattle.ep_instance.specs.Instances.{instance_of as plain_instance}
 use Rattle.ep_tree.specs.Binding.{bind}
 use Rattle.ep_tree.specs.declared.values.Mode.{Mode}

@@ -1,8 +1,7 @@
-use Rattle.std.proofs.Common.{◌≡◌, List, inr, refl, subst, Contains}
+use Rattle.std.proofs.Common.{inr, refl, subst}
 use Rattle.ep_size.specs.Causes.{IsCause}
 use Rattle.ep_size.specs.declared.errors.SizeError.{SizeError}
 use Rattle.ep_instance.specs.Instances.{instance_of as plain_instance, mode_of}
-use Rattle.ep_tree.specs.Binding.{over_limit}
 use Rattle.ep_tree.specs.Solutions.{instance_limits}
 use Rattle.ep_tree.specs.declared.values.Mode.{Mode}
 use Rattle.ep_run.specs.Status.{status_of}

@@ -1,4 +1,4 @@
-use Rattle.std.proofs.Common.{refl, sym, ◌∙◌}
+use Rattle.std.proofs.Common.{refl}
 use Rattle.ep_run.proofs.Wanting.{no-wanted, no-job}
 use Rattle.ep_run.proofs.wanted.read_wanted.Goals as goal
 

@@ -1,0 +1,19 @@
+use Rattle.std.proofs.Common.{Err, sym, subst}
+use Rattle.ep_instance.specs.Instances.{instance_of as plain_instance, mode_of}
+use Rattle.ep_types.specs.Texts.{typed_params_tree}
+use Rattle.ep_run.specs.Steps.{TellsShape}
+use Rattle.ep_run.specs.declared.stops.Stop.{Stop}
+use Rattle.ep_run.proofs.Running.{shape-bound, shaped-tells}
+use Rattle.ep_run.proofs.judging.shaped.Goals as goal
+
+pub returns-in-Ok : goal.returns-in-Ok
+returns-in-Ok c =
+    shaped-tells (mode_of c.args.instance.now) (plain_instance c.args.instance.now) (typed_params_tree c.args.solution) c.in-Ok.shaped
+    c.requires.mode c.in-Ok.ensures.answer c.in-Ok.ensures.fits
+
+pub returns-in-Err : goal.returns-in-Err
+returns-in-Err c =
+    let i = plain_instance c.args.instance.now in
+    let s = typed_params_tree c.args.solution in
+    let P : Stop → Type 0 = λ x. TellsShape i s (Err x) in
+    subst P (sym c.bind_stop.ensures) (shape-bound (mode_of c.args.instance.now) i s c.in-Err.error c.requires.mode c.in-Err.ensures.answer)

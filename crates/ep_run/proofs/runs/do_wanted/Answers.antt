@@ -1,0 +1,61 @@
+use Rattle.std.proofs.lemmas.Result.{err_from_is_err_and}
+use Rattle.std.proofs.Common.{[], ◌∷◌, ◌++◌, Err, option_to_list, sym, subst}
+use Rattle.ep_base.specs.Outside.{Rose}
+use Rattle.ep_print.specs.declared.refusals.TextFile.{TextFile}
+use Rattle.ep_tree.specs.Views.{model_tree}
+use Rattle.ep_run.specs.Commands.{files_of}
+use Rattle.ep_run.specs.Readings.{IsReadAs}
+use Rattle.ep_run.specs.Shown.{ComesTo, comes_to_solve, comes_to_verify}
+use Rattle.ep_run.specs.Steps.{TellsTask}
+use Rattle.ep_run.specs.declared.wanted.Wanted.{Wanted}
+use Rattle.ep_run.proofs.Chains.{after, stable-file, unread}
+use Rattle.ep_run.proofs.Running.{rose-from}
+use Rattle.ep_run.proofs.runs.do_wanted.Goals as goal
+
+pub returns-in_err-model-in-Solve-clause-tells : goal.returns-in_err-model-in-Solve-clause-tells
+returns-in_err-model-in-Solve-clause-tells g c =
+    let p = err_from_is_err_and c.from_residual.result c.from_residual.ensures.1 in
+    let told = g.F.Files.held c.args.files.now in
+    let rose = Rose (g.F.Files.faults c.args.files.now) (g.F.Files.faults c.read_model.new.files) in
+    let stop = c.in_err-model-in-Solve.field-0.0 in
+    let W : Wanted → Type 0 = λ w. TellsTask (files_of w) (ComesTo w) told rose (Err stop) in
+    rw (p.1, p.2)
+    (subst W (sym c.in-Solve.is)
+    (unread model_tree TextFile.Model c.in-Solve.model (option_to_list c.in-Solve.params) (λ m. comes_to_solve c.in-Solve.params m) told rose stop c.in_err-model-in-Solve.ensures.tells))
+
+pub returns-in_err-model-in-Verify-clause-tells : goal.returns-in_err-model-in-Verify-clause-tells
+returns-in_err-model-in-Verify-clause-tells g c =
+    let p = err_from_is_err_and c.from_residual-in_err-model-in-Verify.result c.from_residual-in_err-model-in-Verify.ensures.1 in
+    let told = g.F.Files.held c.args.files.now in
+    let rose = Rose (g.F.Files.faults c.args.files.now) (g.F.Files.faults c.read_model-in-Verify.new.files) in
+    let stop = c.in_err-model-in-Verify.field-0.0 in
+    let W : Wanted → Type 0 = λ w. TellsTask (files_of w) (ComesTo w) told rose (Err stop) in
+    rw (p.1, p.2)
+    (subst W (sym c.in-Verify.is)
+    (unread model_tree TextFile.Model c.in-Verify.model (option_to_list c.in-Verify.params ++ c.in-Verify.solution ∷ []) (λ m. comes_to_verify c.in-Verify.params c.in-Verify.solution m) told rose stop c.in_err-model-in-Verify.ensures.tells))
+
+pub returns-in_ok-model-in-Solve-clause-tells : goal.returns-in_ok-model-in-Solve-clause-tells
+returns-in_ok-model-in-Solve-clause-tells g c =
+    let told = g.F.Files.held c.args.files.now in
+    let rose = Rose (g.F.Files.faults c.args.files.now) (g.F.Files.faults c.solve_model.new.files) in
+    let now = g.F.Files.faults c.read_model.new.files in
+    let W : Wanted → Type 0 = λ w. TellsTask (files_of w) (ComesTo w) told rose c.solve_model.result in
+    subst W (sym c.in-Solve.is)
+    (after (c.in-Solve.model ∷ []) (option_to_list c.in-Solve.params) (λ held. IsReadAs held TextFile.Model c.in-Solve.model) (λ m. comes_to_solve c.in-Solve.params m)
+    (stable-file TextFile.Model c.in-Solve.model) (model_tree c.in_ok-model-in-Solve.model) told (g.F.Files.held c.read_model.new.files) rose
+    (Rose now (g.F.Files.faults c.solve_model.new.files)) c.solve_model.result c.in_ok-model-in-Solve.ensures.held
+    (rose-from (g.F.Files.faults c.args.files.now) now (g.F.Files.faults c.solve_model.new.files) c.in_ok-model-in-Solve.ensures.quiet)
+    c.in_ok-model-in-Solve.ensures.tells c.solve_model.ensures.tells)
+
+pub returns-in_ok-model-in-Verify-clause-tells : goal.returns-in_ok-model-in-Verify-clause-tells
+returns-in_ok-model-in-Verify-clause-tells g c =
+    let told = g.F.Files.held c.args.files.now in
+    let rose = Rose (g.F.Files.faults c.args.files.now) (g.F.Files.faults c.verify_model.new.files) in
+    let now = g.F.Files.faults c.read_model-in-Verify.new.files in
+    let W : Wanted → Type 0 = λ w. TellsTask (files_of w) (ComesTo w) told rose c.verify_model.result in
+    subst W (sym c.in-Verify.is)
+    (after (c.in-Verify.model ∷ []) (option_to_list c.in-Verify.params ++ c.in-Verify.solution ∷ []) (λ held. IsReadAs held TextFile.Model c.in-Verify.model) (λ m. comes_to_verify c.in-Verify.params c.in-Verify.solution m)
+    (stable-file TextFile.Model c.in-Verify.model) (model_tree c.in_ok-model-in-Verify.model) told (g.F.Files.held c.read_model-in-Verify.new.files) rose
+    (Rose now (g.F.Files.faults c.verify_model.new.files)) c.verify_model.result c.in_ok-model-in-Verify.ensures.held
+    (rose-from (g.F.Files.faults c.args.files.now) now (g.F.Files.faults c.verify_model.new.files) c.in_ok-model-in-Verify.ensures.quiet)
+    c.in_ok-model-in-Verify.ensures.tells c.verify_model.ensures.tells)
