@@ -4,3 +4,11 @@ pub mod FitSteps
 pub mod LimitSteps
 pub mod RangeSteps
 pub mod IndexSteps
+pub mod Answering
+pub mod ListedSteps
+pub mod BindSteps
+pub mod ReadySteps
+pub mod StatementReady
+pub mod FindSteps
+pub mod ConditionSteps
+pub mod ParamSteps

@@ -4,3 +4,6 @@ pub mod Refusals
 pub mod Judgements
 pub mod Counted
 pub mod Tests
+pub mod Reading
+pub mod Steps
+pub mod Finding

@@ -2,6 +2,8 @@
 use Rattle.std.specs.Prelude.{◌≡◌, List, Result, Ok, Err, Contains}
 use Rattle.ep_tree.specs.Binding.{Refusal, TextName, missing_parameter, model_text, outside_domain, over_limit, parameter_text, solution_text, undefined_at, where_false}
 use Rattle.ep_base.specs.declared.names.Name.{Name}
+use Rattle.ep_eval.specs.declared.errors.EvalError.{EvalError}
+use Rattle.ep_eval.specs.declared.errors.EvalError.TheVariants as error
 use Rattle.ep_tree.specs.SolutionTexts as defined
 use Rattle.ep_tree.specs.Views.{assigned}
 use Rattle.ep_instance.specs.declared.judging.Shaped.{Shaped}
@@ -44,3 +46,8 @@ ShapeAnswers (Ok (Fits a)) said = said ≡ Ok (defined.fits (assigned a))
 ShapeAnswers (Ok (WrongShape name)) said =
     (names : List Name) × (said ≡ Ok (defined.wrong_shape names)) × Contains names name
 ShapeAnswers (Err e) said = Refuses e said
+
+-- an error of the evaluator, as one of binding
+abbrev pub bind_error : EvalError → BindError
+bind_error (error.Limit l) = Limit l
+bind_error error.Memory = Memory

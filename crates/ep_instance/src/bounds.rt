@@ -17,6 +17,9 @@ use ep_eval::{Env, EvalError, Seen, evaluate_after};
 use ep_tree::{Expr, Range, Value};
 use std::alloc::{AllocError, Global};
 
+/// The greatest size of a statement.
+pub const MOST_SIZE: u64 = 5_000_000;
+
 /// The number that a value is.
 #[tactic(auto, unfolding(ep_tree::specs::Views::value_tree, ep_tree::specs::Evaluation::number_in))]
 fn value_number(value: &Value) -> Option<i64>
@@ -30,7 +33,7 @@ fn value_number(value: &Value) -> Option<i64>
 
 /// The number that was seen.
 #[tactic(auto, unfolding(ep_eval::specs::Outcomes::seen_value, ep_tree::specs::Evaluation::number_in))]
-fn seen_number(seen: &Seen) -> Option<i64>
+pub fn seen_number(seen: &Seen) -> Option<i64>
     ensures { result ≡ number_in (seen_value seen.now) }
 {
     match seen {

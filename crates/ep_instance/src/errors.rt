@@ -1,9 +1,11 @@
 //! Why a model and its parameters make no instance.
 
 ghost use Rattle.std.specs.Prelude.{◌≡◌};
+ghost use Rattle.ep_instance.specs.Refusals.{bind_error};
 ghost use Rattle.ep_instance.specs.declared.errors.BindError.TheVariants.{Memory as OutOfMemory};
 
 use ep_base::{Memory, Name, Place};
+use ep_eval::EvalError;
 use std::alloc::{AllocError, AllocFailed};
 
 /// The text that a place is in.
@@ -52,5 +54,16 @@ impl<T: Drop> From<AllocFailed<T>> for BindError {
 
     fn from(_refused: AllocFailed<T>) -> BindError {
         BindError::Memory
+    }
+}
+
+impl From<EvalError> for BindError {
+    ghost from_gives = { λ refused e. e ≡ bind_error refused };
+
+    fn from(refused: EvalError) -> BindError {
+        match refused {
+            EvalError::Limit(limit) => BindError::Limit(limit),
+            EvalError::Memory => BindError::Memory,
+        }
     }
 }

@@ -3,14 +3,22 @@
 
 mod binding;
 mod bounds;
+mod conditions;
 mod elements;
 mod errors;
+mod finds;
+mod fitted;
 mod fitting;
+mod givens;
 mod indices;
 mod instances;
 mod judging;
 mod laws;
+mod lettings;
+mod listed;
 mod listing;
+mod opened;
+mod shapes;
 
 pub use binding::bind;
 pub use errors::{BindError, Source};
