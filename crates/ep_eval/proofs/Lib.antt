@@ -10,3 +10,7 @@ pub mod TermSteps
 pub mod RangeNumbers
 pub mod Both
 pub mod Looking
+pub mod Instances
+pub mod WalkSteps
+pub mod ScalarSteps
+pub mod Depths

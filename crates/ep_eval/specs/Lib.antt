@@ -6,3 +6,8 @@ pub mod Helds
 pub mod Scopes
 pub mod Counting
 pub mod Ranges
+pub mod Gathering
+pub mod Walking
+pub mod Scalars
+pub mod Instances
+pub mod Ranks

@@ -9,12 +9,15 @@ mod errors;
 mod evaluating;
 mod evaluation;
 mod forms;
+mod gathering;
 mod held;
 mod numbers;
+mod scalars;
 mod scopes;
 #[cfg(test)]
 mod tests;
 mod totals;
+mod walking;
 
 pub use environments::{Env, NamedDomain};
 pub use errors::EvalError;
