@@ -18,3 +18,7 @@ pub mod ValueScalars
 pub mod Defined
 pub mod FoldGiven
 pub mod DomainForms
+pub mod Instances
+pub mod WalkSteps
+pub mod ScalarSteps
+pub mod Depths

@@ -1,11 +1,13 @@
 -- Lists of numbers, seen from one part on.
 use Rattle.std.proofs.Common.{◌≡◌, ◌≢◌, ℕ, suc, zero, ◌+◌, ◌<◌, ℤ, pos, ◌+ℤ◌, Bool, true, false, List, [], ◌∷◌, ◌++◌, length, get_or, take, refl, sym, ap, ◌∙◌, arith, add-one}
-use Rattle.std.specs.Prelude.{Option, Some, None, option_map, not, ◌&&◌, ◌||◌, cond, ◌==◌, if◌then◌else◌, int_lt}
+use Rattle.std.specs.Prelude.{Contains, Option, Some, None, option_map, not, ◌&&◌, ◌||◌, cond, ◌==◌, if◌then◌else◌, int_lt}
 use Rattle.std.specs.List.{list_all, list_any}
 use Rattle.std.specs.Ordering.{int_eq, is_eq}
 use Rattle.std.specs.declared.cmp.Ordering.TheVariants.{Less, Equal, Greater}
 use Rattle.std.specs.Bool.{one_answer}
-use Rattle.std.proofs.lemmas.Bool.Decides.{Decides-int_eq}
+use Rattle.std.proofs.lemmas.Bool.Decides.{Decides-int_eq, same_from_decides}
+use Rattle.std.proofs.lemmas.Cmp.{eq_by_cmp_equiv, int_cmp_total}
+use Rattle.std.proofs.lemmas.Map.Views.{Contains-from_any, list_any-from_Contains}
 use Rattle.std.proofs.lemmas.Int.{ints}
 use Rattle.std.proofs.lemmas.List.Sums.{count_by_more_no, count_by_more_yes}
 use Rattle.ep_base.specs.Numbers.{all_one, any_one, are_different, compare_holds, counts_hold, has_number, is_one, is_row_of, lex_less, same_numbers, times_in}
@@ -51,6 +53,12 @@ has_found n x xs h = ap (λ b. b || list_any (λ y. int_eq n y) xs) h
 pub has_none : (n : ℤ) → has_number [] n ≡ false
 unfolding has_number
 has_none n = refl
+
+pub has_is : (b : Bool) (ns : List ℤ) (n : ℤ) → (b ≡ true → Contains ns n) → (Contains ns n → b ≡ true) → b ≡ has_number ns n
+unfolding has_number
+has_is b ns n f g =
+    same_from_decides {P = Contains ns n} b (list_any (λ y. int_eq n y) ns) (f, g)
+    (Contains-from_any (λ x y h. (Decides-int_eq x y).0 h) n ns, list_any-from_Contains (eq_by_cmp_equiv int_cmp_total) n ns)
 
 -- ---- order
 

@@ -22,7 +22,7 @@ first_unit true (Some b) = refl
 first_unit false None = refl
 first_unit false (Some b) = refl
 
-last_unit : (e : Bool) (o : Option Bool) → map_both (together e) o (Some e) ≡ o
+pub last_unit : (e : Bool) (o : Option Bool) → map_both (together e) o (Some e) ≡ o
 unfolding map_both together
 last_unit true None = refl
 last_unit true (Some true) = refl
@@ -31,7 +31,7 @@ last_unit false None = refl
 last_unit false (Some true) = refl
 last_unit false (Some false) = refl
 
-regrouped : (e : Bool) (a b c : Option Bool) → map_both (together e) a (map_both (together e) b c) ≡ map_both (together e) (map_both (together e) a b) c
+pub regrouped : (e : Bool) (a b c : Option Bool) → map_both (together e) a (map_both (together e) b c) ≡ map_both (together e) (map_both (together e) a b) c
 unfolding map_both together
 regrouped e None b c = refl
 regrouped e (Some x) None c = refl
@@ -62,7 +62,7 @@ any_more None ns = refl
 any_more (Some x) ns = inner_any x (all_defined ns)
 
 -- one value more in front
-of_all_more : (e : Bool) (v : Option ValueTree) (vs : List (Option ValueTree)) → of_all e (v ∷ vs) ≡ map_both (together e) (truth_of v) (of_all e vs)
+pub of_all_more : (e : Bool) (v : Option ValueTree) (vs : List (Option ValueTree)) → of_all e (v ∷ vs) ≡ map_both (together e) (truth_of v) (of_all e vs)
 unfolding of_all all_true any_true
 of_all_more true v vs = every_more (number_in v) (map number_in vs)
 of_all_more false v vs = any_more (number_in v) (map number_in vs)
@@ -113,7 +113,7 @@ unfolding met_all expr_trees
 truths_counted mode env every start now parts left truth h none =
     walk_ends mode start now _ (subst (λ l. Walked mode start now (met_all mode env (expr_trees parts)) (met_all mode env (expr_trees l))) none h.walked)
 
-of_none : (e : Bool) → of_all e [] ≡ Some e
+pub of_none : (e : Bool) → of_all e [] ≡ Some e
 unfolding of_all all_true any_true all_defined all_one any_one
 of_none true = refl
 of_none false = refl

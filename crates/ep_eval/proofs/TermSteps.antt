@@ -23,17 +23,17 @@ unfolding map_both
 nothing_more None = refl
 nothing_more (Some x) = ap Some (omega (arith, ints))
 
-nothing_behind : (o : Option ℤ) → map_both ◌+ℤ◌ o (Some (pos 0)) ≡ o
+pub nothing_behind : (o : Option ℤ) → map_both ◌+ℤ◌ o (Some (pos 0)) ≡ o
 unfolding map_both
 nothing_behind None = refl
 nothing_behind (Some x) = ap Some (omega (arith, ints))
 
-regrouped : (a b c : Option ℤ) → map_both ◌+ℤ◌ a (map_both ◌+ℤ◌ b c) ≡ map_both ◌+ℤ◌ (map_both ◌+ℤ◌ a b) c
+pub total_regrouped : (a b c : Option ℤ) → map_both ◌+ℤ◌ a (map_both ◌+ℤ◌ b c) ≡ map_both ◌+ℤ◌ (map_both ◌+ℤ◌ a b) c
 unfolding map_both
-regrouped None b c = refl
-regrouped (Some x) None c = refl
-regrouped (Some x) (Some y) None = refl
-regrouped (Some x) (Some y) (Some z) = ap Some (omega (arith, ints))
+total_regrouped None b c = refl
+total_regrouped (Some x) None c = refl
+total_regrouped (Some x) (Some y) None = refl
+total_regrouped (Some x) (Some y) (Some z) = ap Some (omega (arith, ints))
 
 inner_total : (x : ℤ) (o : Option (List ℤ)) → option_map sum_of (option_map (λ ys. x ∷ ys) o) ≡ map_both ◌+ℤ◌ (Some x) (option_map sum_of o)
 unfolding map_both sum_of
@@ -41,13 +41,13 @@ inner_total x None = refl
 inner_total x (Some ys) = refl
 
 -- one number more in front
-total_more : (o : Option ℤ) (os : List (Option ℤ)) → option_map sum_of (all_defined (o ∷ os)) ≡ map_both ◌+ℤ◌ o (option_map sum_of (all_defined os))
+pub total_more : (o : Option ℤ) (os : List (Option ℤ)) → option_map sum_of (all_defined (o ∷ os)) ≡ map_both ◌+ℤ◌ o (option_map sum_of (all_defined os))
 unfolding map_both all_defined
 total_more None os = refl
 total_more (Some x) os = inner_total x (all_defined os)
 
 -- a total that lies within a bound lies within a greater one
-wider : (a b : ℕ) (o : Option ℤ) → a ≤ b → IsWithin a o → IsWithin b o
+pub wider : (a b : ℕ) (o : Option ℤ) → a ≤ b → IsWithin a o → IsWithin b o
 unfolding IsWithin
 wider a b None h k = tt
 wider a b (Some n) h k = omega (arith, h, k)
@@ -98,7 +98,7 @@ total_goes_on mode env start now after terms left total more term rest seen h cu
       (ap (λ l. term_values mode env (terms_of l)) cut ∙ values_term mode env term rest
       ∙ ap (λ v. option_map (signed term.0) (number_in v) ∷ term_values mode env (terms_of rest)) value)
       ∙ ap (map_both ◌+ℤ◌ total) (total_more (option_map (signed term.0) (number_in seen)) (term_values mode env (terms_of rest)))
-      ∙ regrouped total (option_map (signed term.0) (number_in seen)) (option_map sum_of (all_defined (term_values mode env (terms_of rest))))
+      ∙ total_regrouped total (option_map (signed term.0) (number_in seen)) (option_map sum_of (all_defined (term_values mode env (terms_of rest))))
       ∙ ap (λ o. map_both ◌+ℤ◌ o (option_map sum_of (all_defined (term_values mode env (terms_of rest))))) (sym is);
   within =
       wider (now * 9223372036854775808 + 9223372036854775808) (after * 9223372036854775808) more

@@ -7,3 +7,8 @@ pub mod Scopes
 pub mod Counting
 pub mod Ranges
 pub mod Folding
+pub mod Gathering
+pub mod Walking
+pub mod Scalars
+pub mod Instances
+pub mod Ranks

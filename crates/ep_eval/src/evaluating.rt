@@ -1,37 +1,47 @@
 //! Evaluation of the parts of an expression.
 
-ghost use Rattle.std.specs.Prelude.{◌≡◌, ◌+◌, ◌≤◌, ◌<◌, Some, true, false, option_to_list, option_map, IfOk, IfErr, OnOk};
+ghost use Rattle.std.specs.Prelude.{◌≡◌, ◌+◌, ◌≤◌, ◌<◌, ◌∷◌, ℤ, Some, true, false, flat_map, map, option_to_list, option_map, IfOk, IfErr, OnOk};
 ghost use Rattle.std.specs.List.{list_any};
 ghost use Rattle.ep_base.specs.declared.places.Place.{Place};
 ghost use Rattle.ep_base.specs.Numbers.{sum_of};
 ghost use Rattle.ep_tree.specs.Environments.{value_bound};
 ghost use Rattle.ep_tree.specs.Values.{all_defined};
-ghost use Rattle.ep_tree.specs.Evaluation.{evaluate, number_in, term_values, values_of};
+ghost use Rattle.ep_tree.specs.Evaluation.{domain_values, end_value, evaluate, number_in, range_values, term_values, values_of};
 ghost use Rattle.ep_tree.specs.Limits as limits;
 ghost use Rattle.ep_tree.specs.Limits.{is_too_far, limits_of_values};
 ghost use Rattle.ep_tree.specs.Measures as measures;
-ghost use Rattle.ep_tree.specs.Views.{expr_tree, expr_trees, kind_tree, terms_of};
+ghost use Rattle.ep_tree.specs.Views as views;
+ghost use Rattle.ep_tree.specs.Views.{domain_tree, expr_tree, expr_trees, kind_tree, ranges_of, terms_of};
 ghost use Rattle.ep_eval.specs.Counting.{Counted, Evaluated, IsRefused, of_all};
+ghost use Rattle.ep_eval.specs.Gathering.{nothing_yet, with_more};
 ghost use Rattle.ep_eval.specs.Helds.{seen_held};
+ghost use Rattle.ep_eval.specs.Instances.{instance_nodes, instance_value, quantified_tree};
 ghost use Rattle.ep_eval.specs.Outcomes.{IsCause};
+ghost use Rattle.ep_eval.specs.Ranges.{alone, has_in, run_has, runs_have};
 ghost use Rattle.ep_eval.specs.Scopes.{env_in, mode_in};
 ghost use Rattle.ep_eval.specs.declared.errors.EvalError.TheVariants as error;
 ghost use Rattle.ep_base.specs.declared.operators.Limit.TheVariants as limit;
 
 use super::binaries::{binary, some_number};
 use super::counts::{counting, look_up_row};
+use super::domains::{ascends, named_numbers, run_between, set_of, truth_set, with_run};
 use super::errors::EvalError;
 use super::folds::folded;
 use super::forms::{comparison, negation, together, truth_value};
+use super::gathering::{
+    Gathered, Quantifier, before_all, gathered_value, with_instance, without_domain,
+};
 use super::held::{Held, held_truth, number_of, truth_seen};
 use super::numbers::{absolute, minus};
 use super::operands::flattened;
-use super::orders::{difference, lex_comparison, membership};
+use super::orders::{difference, lex_comparison, membership, within};
 use super::powers::factorial;
-use super::scopes::{Scope, look_up};
+use super::scalars::scalar_of;
+use super::scopes::{Around, Scope, look_up};
 use super::totals::with_term;
-use ep_base::{CompareOp, Limit};
-use ep_tree::{Expr, Kind};
+use super::walking::{next_number, walk_of};
+use ep_base::{CompareOp, Limit, Name, Run, Runs};
+use ep_tree::{Domain, DomainKind, Expr, Kind, Range};
 
 /// The greatest number of nodes that may be met.
 pub const MOST_SIZE: u64 = 5_000_000;
@@ -92,6 +102,14 @@ pub fn value_of<'a>(
     ensures cause { IfErr result (IsCause (limits_of_values (mode_in scope.entry) met.old
         (measures.met (mode_in scope.entry) (env_in scope.entry) (expr_tree e.now)))) }
 {
+    if let Kind::Quant(op, names, domain, body) = &e.kind {
+        let quantifier = Quantifier {
+            op: *op,
+            domain,
+            body,
+        };
+        return quantified(scope, met, quantifier, names);
+    }
     count(met)?;
     let seen = kind_value(scope, met, &e.kind)?;
     check(seen)
@@ -176,6 +194,11 @@ fn kind_value<'a>(
             let first = value_of(scope, met, left)?;
             let second = value_of(scope, met, right)?;
             lex_comparison(scope.alloc, scope.env.mode(), *op, &first, &second)
+        }
+        Kind::InDomain(part, domain) => {
+            let seen = value_of(scope, met, part)?;
+            let numbers = numbers_of(scope, met, domain)?;
+            Ok(within(scope.env.mode(), &seen, &numbers))
         }
         Kind::InSet(part, set) => {
             let first = value_of(scope, met, part)?;
@@ -275,4 +298,210 @@ fn total(
         total = with_term(total, term.0, number_of(&seen));
     }
     Ok(total)
+}
+
+/// The number at an end of a range.
+#[cycle(evaluating)]
+fn end_number(
+    scope: Scope<'_, '_>,
+    met: &mut u64,
+    end: &Option<Expr>,
+) -> Result<Option<i64>, EvalError>
+    requires small { met.old ≤ limits.MOST_SIZE }
+    ensures counted { OnOk result (Counted (mode_in scope.entry) met.old met.new
+        (measures.met_end (mode_in scope.entry) (env_in scope.entry) (views.end_of end.now))) }
+    ensures value { IfOk result (λ n. n
+        ≡ end_value (mode_in scope.entry) (env_in scope.entry) (views.end_of end.now)) }
+    ensures cause { IfErr result (IsCause (limits_of_values (mode_in scope.entry) met.old
+        (measures.met_end (mode_in scope.entry) (env_in scope.entry) (views.end_of end.now)))) }
+{
+    match end {
+        Some(e) => {
+            let seen = value_of(scope, met, e)?;
+            Ok(number_of(&seen))
+        }
+        None => Ok(None),
+    }
+}
+
+/// The numbers of a range.
+#[cycle(evaluating)]
+fn run_of(scope: Scope<'_, '_>, met: &mut u64, range: &Range) -> Result<Option<Run>, EvalError>
+    requires small { met.old ≤ limits.MOST_SIZE }
+    ensures counted { OnOk result (Counted (mode_in scope.entry) met.old met.new
+        (measures.met_ranges (mode_in scope.entry) (env_in scope.entry) (alone range.now))) }
+    ensures value { IfOk result (λ run. (n : ℤ) → option_map (run_has n) run
+        ≡ has_in n (range_values (mode_in scope.entry) (env_in scope.entry) (alone range.now))) }
+    ensures cause { IfErr result (IsCause (limits_of_values (mode_in scope.entry) met.old
+        (measures.met_ranges (mode_in scope.entry) (env_in scope.entry) (alone range.now)))) }
+{
+    match range {
+        Range::One(e) => {
+            let seen = value_of(scope, met, e)?;
+            let number = number_of(&seen);
+            Ok(run_between(number, number))
+        }
+        Range::Span(low, high) => {
+            let first = end_number(scope, met, low)?;
+            let last = end_number(scope, met, high)?;
+            Ok(run_between(first, last))
+        }
+    }
+}
+
+/// The runs of some ranges. All are read, also behind an undefined one.
+#[cycle(evaluating)]
+fn runs_of(
+    scope: Scope<'_, '_>,
+    met: &mut u64,
+    ranges: &[Range],
+) -> Result<Option<Vec<Run>>, EvalError>
+    requires small { met.old ≤ limits.MOST_SIZE }
+    ensures counted { OnOk result (Counted (mode_in scope.entry) met.old met.new
+        (measures.met_ranges (mode_in scope.entry) (env_in scope.entry) (ranges_of ranges.now))) }
+    ensures value { IfOk result (λ runs. (n : ℤ) → option_map (λ v. runs_have n v.items) runs
+        ≡ has_in n (range_values (mode_in scope.entry) (env_in scope.entry) (ranges_of ranges.now))) }
+    ensures cause { IfErr result (IsCause (limits_of_values (mode_in scope.entry) met.old
+        (measures.met_ranges (mode_in scope.entry) (env_in scope.entry) (ranges_of ranges.now)))) }
+{
+    let mut runs = Some(Vec::new(scope.alloc));
+    for range in ranges {
+        let run = run_of(scope, met, range)?;
+        runs = with_run(runs, run)?;
+    }
+    Ok(runs)
+}
+
+/// The numbers of a domain of scalars.
+#[cycle(evaluating)]
+pub fn numbers_of(
+    scope: Scope<'_, '_>,
+    met: &mut u64,
+    d: &Domain,
+) -> Result<Option<Runs>, EvalError>
+    requires small { met.old ≤ limits.MOST_SIZE }
+    ensures counted { OnOk result (Counted (mode_in scope.entry) met.old met.new
+        (measures.met_domain (mode_in scope.entry) (env_in scope.entry) (domain_tree d.now))) }
+    ensures value { IfOk result (λ set. set
+        ≡ domain_values (mode_in scope.entry) (env_in scope.entry) (domain_tree d.now)) }
+    ensures cause { IfErr result (IsCause (limits_of_values (mode_in scope.entry) met.old
+        (measures.met_domain (mode_in scope.entry) (env_in scope.entry) (domain_tree d.now)))) }
+{
+    let _mode = scope.env.mode();
+    ascends(scope.around);
+    match &d.kind {
+        DomainKind::Bool => {
+            let set = truth_set(scope.alloc)?;
+            Ok(Some(set))
+        }
+        DomainKind::Int => Ok(None),
+        DomainKind::Ranges(ranges) => {
+            let runs = runs_of(scope, met, ranges)?;
+            let set = set_of(scope.alloc, runs)?;
+            Ok(set)
+        }
+        DomainKind::Named(name) => {
+            let set = named_numbers(scope, name)?;
+            Ok(set)
+        }
+        DomainKind::Group(inner) => {
+            let set = numbers_of(scope, met, inner)?;
+            Ok(set)
+        }
+        _ => Err(EvalError::Memory),
+    }
+}
+
+/// The value of a quantifier over these names; without any it is its body, and no node of its own.
+#[cycle(evaluating)]
+fn quantified<'a>(
+    scope: Scope<'_, 'a>,
+    met: &mut u64,
+    quantifier: Quantifier<'_>,
+    names: &[Name],
+) -> Result<Option<Held<'a>>, EvalError>
+    ensures counted { OnOk result ((p : Place) → Counted (mode_in scope.entry) met.old met.new
+        (measures.met (mode_in scope.entry) (env_in scope.entry) (quantified_tree p quantifier.entry names.now))) }
+    ensures value { IfOk result (λ seen. (p : Place) →
+        evaluate (mode_in scope.entry) (env_in scope.entry) (quantified_tree p quantifier.entry names.now)
+        ≡ seen_held seen) }
+    ensures cause { IfErr result (λ e. (p : Place) → IsCause (limits_of_values (mode_in scope.entry) met.old
+        (measures.met (mode_in scope.entry) (env_in scope.entry) (quantified_tree p quantifier.entry names.now))) e) }
+{
+    match names.split_first() {
+        Some((name, rest)) => {
+            count(met)?;
+            let seen = over_domain(scope, met, quantifier, name, rest)?;
+            check(seen)
+        }
+        None => {
+            let seen = value_of(scope, met, quantifier.body)?;
+            Ok(seen)
+        }
+    }
+}
+
+/// The value of a quantifier over a name and others, whose own node is counted.
+#[cycle(evaluating)]
+fn over_domain<'a>(
+    scope: Scope<'_, 'a>,
+    met: &mut u64,
+    quantifier: Quantifier<'_>,
+    name: &Name,
+    rest: &[Name],
+) -> Result<Option<Held<'a>>, EvalError>
+    requires small { met.old ≤ limits.MOST_SIZE }
+    ensures value { IfOk result (λ seen. (p : Place) → Evaluated (mode_in scope.entry) (env_in scope.entry)
+        (quantified_tree p quantifier.entry (name.now ∷ rest.now)) met.old met.new (seen_held seen)) }
+    ensures cause { IfErr result (λ e. (p : Place) → IsRefused (mode_in scope.entry) (env_in scope.entry)
+        (quantified_tree p quantifier.entry (name.now ∷ rest.now)) met.old e) }
+{
+    let numbers = numbers_of(scope, met, quantifier.domain)?;
+    match numbers {
+        Some(set) => {
+            let gathered = instances(scope, met, quantifier, name, rest, &set)?;
+            gathered_value(scope.env.mode(), gathered)
+        }
+        None => gathered_value(scope.env.mode(), without_domain(quantifier.op)),
+    }
+}
+
+/// What the instances of a quantifier give, one for each number of its domain. The name stands for the number while its
+/// instance is evaluated.
+#[cycle(evaluating)]
+fn instances(
+    scope: Scope<'_, '_>,
+    met: &mut u64,
+    quantifier: Quantifier<'_>,
+    name: &Name,
+    rest: &[Name],
+    set: &Runs,
+) -> Result<Gathered, EvalError>
+    requires small { met.old ≤ limits.MOST_SIZE }
+    requires set { domain_values (mode_in scope) (env_in scope) (domain_tree quantifier.domain.now) ≡ Some set.now }
+    ensures counted { OnOk result ((p : Place) → Counted (mode_in scope.entry) met.old met.new
+        (flat_map (instance_nodes (mode_in scope.entry) (env_in scope.entry) p quantifier.entry name.now rest.now)
+        set.now)) }
+    ensures value { IfOk result (λ gathered. (p : Place) → gathered ≡ with_more (nothing_yet quantifier.entry.op)
+        (map (instance_value (mode_in scope.entry) (env_in scope.entry) p quantifier.entry name.now rest.now)
+        set.now)) }
+    ensures cause { IfErr result (λ e. (p : Place) → IsCause (limits_of_values (mode_in scope.entry) met.old
+        (flat_map (instance_nodes (mode_in scope.entry) (env_in scope.entry) p quantifier.entry name.now rest.now)
+        set.now)) e) }
+{
+    let scalar = scalar_of(scope, quantifier.domain);
+    let mut gathered = before_all(quantifier.op);
+    let mut walk = walk_of(set.runs());
+    while let Some((number, behind)) = next_number(walk) {
+        let around = Around::Number(scope.around, name, scalar, number);
+        let inner = Scope {
+            alloc: scope.alloc,
+            env: scope.env,
+            around: &around,
+        };
+        let seen = quantified(inner, met, quantifier, rest)?;
+        gathered = with_instance(gathered, seen);
+        walk = behind;
+    }
+    Ok(gathered)
 }

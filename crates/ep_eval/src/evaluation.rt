@@ -11,10 +11,9 @@ ghost use Rattle.ep_eval.specs.Helds.{held_value, seen_held};
 ghost use Rattle.ep_eval.specs.Outcomes.{IsCause, seen_value};
 
 use super::copies::copy_value;
-use super::domains::numbers_of;
 use super::environments::Env;
 use super::errors::EvalError;
-use super::evaluating::{MOST_SIZE, value_of};
+use super::evaluating::{MOST_SIZE, numbers_of, value_of};
 use super::held::Held;
 use super::scopes::{Around, Scope};
 use ep_base::{Limit, Memory, Runs};

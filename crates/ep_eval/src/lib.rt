@@ -11,15 +11,18 @@ mod evaluating;
 mod evaluation;
 mod folds;
 mod forms;
+mod gathering;
 mod held;
 mod numbers;
 mod operands;
 mod orders;
 mod powers;
+mod scalars;
 mod scopes;
 #[cfg(test)]
 mod tests;
 mod totals;
+mod walking;
 
 pub use environments::{Env, NamedDomain};
 pub use errors::EvalError;

@@ -12,7 +12,7 @@ use super::errors::EvalError;
 use super::forms::truth_value;
 use super::held::{Held, number_of};
 use super::operands::scalars;
-use ep_base::LexOp;
+use ep_base::{LexOp, Runs};
 use ep_tree::Mode;
 use std::alloc::{AllocError, Global};
 use std::collections::BTreeSet;
@@ -106,6 +106,19 @@ pub fn membership<'a>(
             None => Ok(truth_value(mode, None)),
         },
         None => Ok(truth_value(mode, None)),
+    }
+}
+
+/// `x in D`
+pub fn within<'a>(mode: Mode, seen: &Option<Held>, set: &Option<Runs>) -> Option<Held<'a>>
+    ensures { seen_held result ≡ truth_in mode (map_both numbers.has_number set.now (number_in (seen_held seen.now))) }
+{
+    match set {
+        Some(set) => match number_of(seen) {
+            Some(number) => truth_value(mode, Some(set.has(number))),
+            None => truth_value(mode, None),
+        },
+        None => truth_value(mode, None),
     }
 }
 

@@ -14,6 +14,7 @@ use ep_tree::Scalar;
 use std::alloc::Global;
 
 /// The quantified names around an expression, with the numbers that they stand for.
+#[derive(Clone, Copy)]
 pub enum Around<'s> {
     /// There is none.
     Nothing,

@@ -1,28 +1,29 @@
 use Rattle.std.proofs.Common.{ap, sym, ◌∙◌, Some}
 use Rattle.std.specs.Prelude.{if◌then◌else◌}
-use Rattle.ep_tree.specs.Environments.{domain_bound, has_value, with_number}
+use Rattle.ep_tree.specs.Environments.{has_value, with_number}
 use Rattle.ep_tree.specs.Types.{of_scalar}
 use Rattle.ep_tree.specs.Values.{single}
+use Rattle.ep_eval.specs.Bounds.{only_domain}
 use Rattle.ep_eval.specs.Scopes.{with_all}
 use Rattle.ep_eval.proofs.domains.+hides.Goals as goal
 
 pub returns-in-Nothing : goal.returns-in-Nothing
 unfolding with_all
-returns-in-Nothing t c env = ap (λ a. domain_bound (with_all env a c.args.name.now)) c.in-Nothing.is
+returns-in-Nothing t c env = ap (λ a. only_domain (with_all env a c.args.name.now)) c.in-Nothing.is
 
 pub returns-then-eq : goal.returns-then-eq
-unfolding with_all with_number domain_bound
+unfolding with_all with_number only_domain
 returns-then-eq t c env =
     let name = c.args.name.now in
     let rest = with_all env c.in-Number.outer.now in
-    ap (λ a. domain_bound (with_all env a name)) c.in-Number.is
-    ∙ ap (λ b. domain_bound (if b then Some (has_value (of_scalar c.in-Number.field-2) (single c.in-Number.field-3)) else rest name)) (sym c.eq.ensures ∙ c.if-eq.true)
+    ap (λ a. only_domain (with_all env a name)) c.in-Number.is
+    ∙ ap (λ b. only_domain (if b then Some (has_value (of_scalar c.in-Number.field-2) (single c.in-Number.field-3)) else rest name)) (sym c.eq.ensures ∙ c.if-eq.true)
 
 pub returns-else-eq : goal.returns-else-eq
 unfolding with_all with_number
 returns-else-eq t c env =
     let name = c.args.name.now in
     let rest = with_all env c.in-Number.outer.now in
-    ap (λ a. domain_bound (with_all env a name)) c.in-Number.is
-    ∙ ap (λ b. domain_bound (if b then Some (has_value (of_scalar c.in-Number.field-2) (single c.in-Number.field-3)) else rest name)) (sym c.eq.ensures ∙ c.if-eq.false)
+    ap (λ a. only_domain (with_all env a name)) c.in-Number.is
+    ∙ ap (λ b. only_domain (if b then Some (has_value (of_scalar c.in-Number.field-2) (single c.in-Number.field-3)) else rest name)) (sym c.eq.ensures ∙ c.if-eq.false)
     ∙ c.hides.ensures env

@@ -2,9 +2,18 @@ use Rattle.std.proofs.Common.{ap, sym, ◌∙◌, None, option_map}
 use Rattle.std.specs.Prelude.{if◌then◌else◌}
 use Rattle.ep_tree.specs.Environments.{domain_bound}
 use Rattle.ep_eval.proofs.RangeNumbers.{only_domain-numbers}
-use Rattle.ep_eval.specs.Bounds.{domain_of}
+use Rattle.ep_eval.specs.Bounds.{domain_of, only_domain}
 use Rattle.ep_eval.specs.Known.{env_of}
+use Rattle.ep_eval.specs.Scopes.{env_in}
 use Rattle.ep_eval.proofs.domains.named_numbers.Goals as goal
+
+pub returns-then-hides : goal.returns-then-hides
+unfolding domain_bound
+returns-then-hides c =
+    let env = env_of c.args.scope.env.now in
+    let name = c.args.name.now in
+    sym (sym (only_domain-numbers (env_in c.args.scope name))
+    ∙ ap domain_bound (c.hides.ensures env ∙ ap (λ b. if b then None else only_domain (env name)) c.if-hides.true))
 
 pub returns-in_ok-set-in-Some : goal.returns-in_ok-set-in-Some
 returns-in_ok-set-in-Some c =
@@ -12,8 +21,8 @@ returns-in_ok-set-in-Some c =
     let name = c.args.name.now in
     c.in_ok-set-in-Some.ensures
     ∙ ap (λ r. domain_bound (option_map (λ d. domain_of d.now) r)) (sym c.in-Some.is)
-    ∙ ap domain_bound c.domain.ensures ∙ only_domain-numbers (env name)
-    ∙ ap (λ b. if b then None else domain_bound (env name)) (sym c.if-hides.false) ∙ sym (c.hides.ensures env)
+    ∙ ap domain_bound (c.domain.ensures ∙ ap (λ b. if b then None else only_domain (env name)) (sym c.if-hides.false) ∙ sym (c.hides.ensures env))
+    ∙ only_domain-numbers (env_in c.args.scope name)
 
 pub returns-in-None : goal.returns-in-None
 unfolding domain_bound
@@ -21,5 +30,5 @@ returns-in-None c =
     let env = env_of c.args.scope.env.now in
     let name = c.args.name.now in
     ap (λ r. domain_bound (option_map (λ d. domain_of d.now) r)) (sym c.in-None.is)
-    ∙ ap domain_bound c.domain.ensures ∙ only_domain-numbers (env name)
-    ∙ ap (λ b. if b then None else domain_bound (env name)) (sym c.if-hides.false) ∙ sym (c.hides.ensures env)
+    ∙ ap domain_bound (c.domain.ensures ∙ ap (λ b. if b then None else only_domain (env name)) (sym c.if-hides.false) ∙ sym (c.hides.ensures env))
+    ∙ only_domain-numbers (env_in c.args.scope name)

@@ -1,29 +1,46 @@
-use Rattle.std.proofs.Common.{refl, ◌≡◌, ◌+◌, ◌+ℤ◌, Bool, ◌∷◌, ℕ, List, drop, subst, [], ap, sym, ◌∙◌, arith, Some, w64, to_z, of_z}
-use Rattle.std.specs.Prelude.{neg_ℤ, option_and_then, option_map, not}
+use Rattle.std.proofs.Common.{refl, ◌≡◌, ◌+◌, ◌+ℤ◌, Bool, ◌∷◌, ℕ, List, drop, subst, [], ap, sym, ◌∙◌, arith, Some, w64, to_z, of_z, ◌++◌, length, ◌≤◌}
+use Rattle.std.specs.Prelude.{neg_ℤ, option_and_then, option_map, not, Contains, flat_map}
 use Rattle.ep_tree.specs.Limits.{limits_of_values}
 use Rattle.std.proofs.lemmas.Int.{to_z-of_z, ints}
 use Rattle.std.proofs.lemmas.Result.{err_from_is_err_and}
 use Rattle.ep_tree.proofs.EvaluationEquations.{evaluate-all_different, evaluate-at_least, evaluate-at_most, evaluate-factorial, evaluate-flatten, evaluate-gcc, evaluate-in_set, evaluate-lex, evaluate-table, evaluate-chain, evaluate-all_of, evaluate-any_of, evaluate-absolute, evaluate-binary, evaluate-minus, evaluate-named, evaluate-compare, evaluate-group, evaluate-negation, evaluate-number, evaluate-to_int, evaluate-truth}
-use Rattle.ep_tree.proofs.ViewLemmas.{kind_tree-all_different, kind_tree-at_least, kind_tree-at_most, kind_tree-factorial, kind_tree-flatten, kind_tree-folded, kind_tree-gcc, kind_tree-in_set, kind_tree-lex, kind_tree-table, kind_tree-chain, kind_tree-all_of, kind_tree-any_of, kind_tree-absolute, kind_tree-binary, kind_tree-minus, kind_tree-named, kind_tree-compare, kind_tree-group, kind_tree-negation, kind_tree-number, kind_tree-to_int, kind_tree-truth}
-use Rattle.ep_tree.specs.Evaluation.{folded_value, on_both, on_three, rows_in, scalars_in, signed, binary_value, evaluate, map_both, number_in, number_value, truth_in, truth_of}
+use Rattle.ep_tree.proofs.ViewLemmas.{kind_tree-in_domain, kind_tree-all_different, kind_tree-at_least, kind_tree-at_most, kind_tree-factorial, kind_tree-flatten, kind_tree-folded, kind_tree-gcc, kind_tree-in_set, kind_tree-lex, kind_tree-table, kind_tree-chain, kind_tree-all_of, kind_tree-any_of, kind_tree-absolute, kind_tree-binary, kind_tree-minus, kind_tree-named, kind_tree-compare, kind_tree-group, kind_tree-negation, kind_tree-number, kind_tree-to_int, kind_tree-truth, domain_kind_tree-bool, domain_kind_tree-group, domain_kind_tree-int, domain_kind_tree-named, domain_kind_tree-ranges}
+use Rattle.ep_tree.specs.Evaluation.{folded_value, on_both, on_three, rows_in, scalars_in, signed, binary_value, evaluate, map_both, number_in, number_value, truth_in, truth_of, domain_values, range_values}
 use Rattle.ep_base.specs.Numbers.{absolute_of, are_different, compare_holds, counts_hold, factorial_of, has_number, is_row_of, lex_holds}
 use Rattle.ep_base.specs.declared.operators.CompareOp.{CompareOp}
-use Rattle.ep_tree.specs.Measures.{met, met_all, met_terms}
-use Rattle.ep_tree.specs.Trees.{all_different, at_least, at_most, factorial, flatten, gcc, in_set, lex, table, chain, absolute, all_of, any_of, binary, minus, named, compare, group, negation, number, to_int, truth}
+use Rattle.ep_tree.specs.Measures.{met, met_all, met_terms, met_domain, met_end}
+use Rattle.ep_tree.specs.Trees.{all_different, at_least, at_most, factorial, flatten, gcc, in_set, lex, table, chain, absolute, all_of, any_of, binary, minus, named, compare, group, negation, number, to_int, truth, bool, group_domain, int, named_domain, ranges}
 use Rattle.ep_tree.specs.Values.{list_value, single}
-use Rattle.ep_tree.specs.Views.{expr_tree, expr_trees, kind_tree, terms_of}
+use Rattle.ep_tree.specs.Views.{expr_tree, expr_trees, kind_tree, terms_of, domain_kind_tree, domain_tree, ranges_of, end_of}
+use Rattle.ep_tree.specs.declared.syntax.Domain.{size-Domain}
+use Rattle.ep_tree.specs.Environments.{scalar_in, with_number}
+use Rattle.ep_eval.proofs.Depths.{first_within, quantifier_depth, second_within}
+use Rattle.ep_eval.specs.Ranks.{depth_of}
 use Rattle.ep_eval.proofs.TermSteps.{small_total, total_begins, total_cause, total_counted, total_goes_on, total_value}
-use Rattle.ep_tree.specs.declared.syntax.Expr.{Expr}
+use Rattle.ep_tree.specs.declared.syntax.Expr.{Expr, size-Expr}
 use Rattle.std.proofs.lemmas.List.{drop_all, drop_more}
 use Rattle.ep_eval.proofs.PartSteps.{TruthsSoFar, truths_begin, truths_cause, truths_counted, truths_more, truths_value}
 use Rattle.ep_eval.proofs.ListForms.{fold_cause, fold_refused, fold_value, meets_at_least, meets_at_most, meets_gcc, one_given, one_given_cause, three, three_first, three_given, three_given_cause, three_second, three_third, two_given, two_given_cause}
-use Rattle.ep_eval.specs.Counting.{is_far_value, of_all, together}
+use Rattle.ep_eval.proofs.DomainForms.{within_first, within_is, within_second, within_value}
+use Rattle.ep_eval.specs.Counting.{is_far_value, of_all, together, Counted, Evaluated, IsRefused, met_below}
 use Rattle.ep_eval.specs.Folding.{GivesAt, folded_numbers}
 use Rattle.ep_eval.specs.Helds.{held_value, seen_held}
-use Rattle.ep_eval.specs.Scopes.{env_in, mode_in}
-use Rattle.ep_eval.proofs.Countings.{counted_none, node_refuses, size_refuses}
+use Rattle.ep_eval.specs.Scopes.{env_in, mode_in, with_all}
+use Rattle.ep_eval.proofs.Countings.{counted_none, node_refuses, size_refuses, far_cause, refused_whole, cause_first, cause_then, counted_append, counted_node}
 use Rattle.ep_eval.proofs.FormParts.{meets_all_different, meets_factorial, meets_flatten, meets_in_set, meets_lex, meets_table, form_far, meets_chain, form_cause, meets_all_of, meets_any_of, given_cause, given_value, meets_absolute, meets_binary, meets_minus, one_far, two_far, meets_named, first_cause, meets_compare, second_cause, two_value, form_value, meets_group, meets_negation, meets_number, meets_some, meets_to_int, meets_truth, one_cause, one_value}
-use Rattle.ep_eval.proofs.Countings.{far_cause, refused_whole}
+use Rattle.ep_tree.proofs.SortedDomains.{domain_values-ascend}
+use Rattle.ep_eval.specs.Known.{env_of}
+use Rattle.ep_eval.specs.Outcomes.{IsCause}
+use Rattle.ep_base.specs.declared.run_lists.Run.{Run}
+use Rattle.ep_tree.specs.declared.syntax.Range.{Range}
+use Rattle.ep_eval.proofs.RangeNumbers.{RunsSoFar, runs_begin, runs_cause, runs_counted, runs_more, runs_value, alone-one, alone-span, met_alone-one, met_alone-span, end_value-none, end_value-some, met_end-none, met_end-some}
+use Rattle.ep_eval.proofs.Instances.{far_causes, gathered_is, gathering_begins, gathering_cause, gathering_counted, gathering_goes_on, gathering_small, gathering_value, gives_cause, gives_value, meets_domain, meets_instances, meets_some_instances, met_bare, on_ok, plain_cause, plain_far, plain_value, quantified_bare, quantified_none, worth_none, if_err, if_ok, quantifier_tree, a_place}
+use Rattle.ep_eval.specs.Instances.{instance_nodes, instance_value, quantified_tree, instance_env}
+use Rattle.ep_eval.specs.Walking.{numbers_left, IsWalkBehind, before_rest}
+use Rattle.ep_eval.specs.Gathering.{worth}
+use Rattle.ep_eval.proofs.WalkSteps.{no_runs}
+use Rattle.ep_base.specs.declared.places.Place.{Place}
+use Rattle.ep_base.specs.declared.operators.Limit.{Limit as LimitName}
 use Rattle.ep_eval.proofs.evaluating.+evaluating.Goals as goal
 
 pub kind_value-returns-in-Number-clause-value : goal.kind_value-returns-in-Number-clause-value
@@ -397,6 +414,33 @@ kind_value-returns-in_err-seen-in-Flatten-clause-cause t c =
     (one_cause mode env c.args.met.now flatten c.args.kind.now c.in-Flatten.part.value c.deref-in-Flatten.result.now
     (λ p. ap (kind_tree p) c.in-Flatten.is ∙ kind_tree-flatten p c.in-Flatten.part) c.deref-in-Flatten.ensures (meets_flatten mode env)
     c.in_err-seen-in-Flatten.field-0.0 c.in_err-seen-in-Flatten.ensures.cause)
+
+pub kind_value-returns-in_ok-numbers-in-InDomain-clause-value : goal.kind_value-returns-in_ok-numbers-in-InDomain-clause-value
+kind_value-returns-in_ok-numbers-in-InDomain-clause-value t c =
+    within_value (mode_in c.args.scope) c.mode-in-InDomain.result (env_in c.args.scope) c.args.met.now c.value_of-in-InDomain.new.met c.numbers_of.new.met (seen_held c.within.result)
+    c.args.kind.now c.deref-in-InDomain.result.now c.deref-in-InDomain-2.result.now (seen_held c.in_ok-seen-in-InDomain.seen) c.in_ok-numbers-in-InDomain.numbers
+    (within_is c.args.kind.now c.in-InDomain.part.value c.deref-in-InDomain.result.now c.in-InDomain.domain.value c.deref-in-InDomain-2.result.now
+    (λ p. ap (kind_tree p) c.in-InDomain.is ∙ kind_tree-in_domain p c.in-InDomain.part c.in-InDomain.domain) c.deref-in-InDomain.ensures c.deref-in-InDomain-2.ensures)
+    c.in_ok-seen-in-InDomain.ensures.counted c.in_ok-seen-in-InDomain.ensures.value c.in_ok-numbers-in-InDomain.ensures.counted c.in_ok-numbers-in-InDomain.ensures.value
+    c.mode-in-InDomain.ensures.mode c.within.ensures
+
+pub kind_value-returns-in_err-seen-in-InDomain-clause-cause : goal.kind_value-returns-in_err-seen-in-InDomain-clause-cause
+kind_value-returns-in_err-seen-in-InDomain-clause-cause t c =
+    let p = err_from_is_err_and c.from_residual-in_err-seen-in-InDomain.result c.from_residual-in_err-seen-in-InDomain.ensures.1 in
+    rw (p.1, p.2)
+    (within_first (mode_in c.args.scope) (env_in c.args.scope) c.args.met.now c.args.kind.now c.deref-in-InDomain.result.now c.in-InDomain.domain.value
+    (within_is c.args.kind.now c.in-InDomain.part.value c.deref-in-InDomain.result.now c.in-InDomain.domain.value c.in-InDomain.domain.value
+    (λ p. ap (kind_tree p) c.in-InDomain.is ∙ kind_tree-in_domain p c.in-InDomain.part c.in-InDomain.domain) c.deref-in-InDomain.ensures refl)
+    c.in_err-seen-in-InDomain.field-0.0 c.in_err-seen-in-InDomain.ensures.cause)
+
+pub kind_value-returns-in_err-numbers-in-InDomain-clause-cause : goal.kind_value-returns-in_err-numbers-in-InDomain-clause-cause
+kind_value-returns-in_err-numbers-in-InDomain-clause-cause t c =
+    let p = err_from_is_err_and c.from_residual-in_err-numbers-in-InDomain.result c.from_residual-in_err-numbers-in-InDomain.ensures.1 in
+    rw (p.1, p.2)
+    (within_second (mode_in c.args.scope) (env_in c.args.scope) c.args.met.now c.value_of-in-InDomain.new.met c.args.kind.now c.deref-in-InDomain.result.now c.deref-in-InDomain-2.result.now
+    (within_is c.args.kind.now c.in-InDomain.part.value c.deref-in-InDomain.result.now c.in-InDomain.domain.value c.deref-in-InDomain-2.result.now
+    (λ p. ap (kind_tree p) c.in-InDomain.is ∙ kind_tree-in_domain p c.in-InDomain.part c.in-InDomain.domain) c.deref-in-InDomain.ensures c.deref-in-InDomain-2.ensures)
+    c.in_ok-seen-in-InDomain.ensures.counted c.in_err-numbers-in-InDomain.field-0.0 c.in_err-numbers-in-InDomain.ensures.cause)
 
 pub kind_value-returns-in_ok-second-in-Lex-clause-value : goal.kind_value-returns-in_ok-second-in-Lex-clause-value
 kind_value-returns-in_ok-second-in-Lex-clause-value t c =
@@ -882,3 +926,548 @@ value_of-returns-clause-cause t c =
     let told = c.in_ok-seen.ensures.value c.args.e.now.place in
     far_cause c.check.result (limits_of_values mode c.args.met.now (met mode env e)) _ c.check.ensures.cause c.check.ensures.far
     (λ far. node_refuses mode env e c.args.met.now told.node (told.node.far (ap is_far_value told.value ∙ far)))
+
+pub numbers_of-returns-in_ok-set-in-Bool-clause-counted : goal.numbers_of-returns-in_ok-set-in-Bool-clause-counted
+unfolding met_domain
+numbers_of-returns-in_ok-set-in-Bool-clause-counted t c =
+    let mode = mode_in c.args.scope in
+    let env = env_in c.args.scope in
+    let p = c.args.d.now.place in
+    let tree : domain_tree c.args.d.now ≡ bool p = ap (domain_kind_tree p) c.in-Bool.is ∙ domain_kind_tree-bool p in
+    subst (λ e. Counted mode c.args.met.now c.args.met.now (met_domain mode env e)) (sym tree) (counted_none mode c.args.met.now c.requires.small)
+
+pub numbers_of-returns-in_ok-set-in-Bool-clause-value : goal.numbers_of-returns-in_ok-set-in-Bool-clause-value
+unfolding domain_values
+numbers_of-returns-in_ok-set-in-Bool-clause-value t c =
+    let mode = mode_in c.args.scope in
+    let env = env_in c.args.scope in
+    let p = c.args.d.now.place in
+    let tree : domain_tree c.args.d.now ≡ bool p = ap (domain_kind_tree p) c.in-Bool.is ∙ domain_kind_tree-bool p in
+    ap Some c.in_ok-set-in-Bool.ensures ∙ sym (ap (domain_values mode env) tree)
+
+pub numbers_of-returns-in-Int-clause-counted : goal.numbers_of-returns-in-Int-clause-counted
+unfolding met_domain
+numbers_of-returns-in-Int-clause-counted t c =
+    let mode = mode_in c.args.scope in
+    let env = env_in c.args.scope in
+    let p = c.args.d.now.place in
+    let tree : domain_tree c.args.d.now ≡ int p = ap (domain_kind_tree p) c.in-Int.is ∙ domain_kind_tree-int p in
+    subst (λ e. Counted mode c.args.met.now c.args.met.now (met_domain mode env e)) (sym tree) (counted_none mode c.args.met.now c.requires.small)
+
+pub numbers_of-returns-in-Int-clause-value : goal.numbers_of-returns-in-Int-clause-value
+unfolding domain_values
+numbers_of-returns-in-Int-clause-value t c =
+    let mode = mode_in c.args.scope in
+    let env = env_in c.args.scope in
+    let p = c.args.d.now.place in
+    let tree : domain_tree c.args.d.now ≡ int p = ap (domain_kind_tree p) c.in-Int.is ∙ domain_kind_tree-int p in
+    sym (ap (domain_values mode env) tree)
+
+pub numbers_of-returns-in_ok-set-in-Named-clause-counted : goal.numbers_of-returns-in_ok-set-in-Named-clause-counted
+unfolding met_domain
+numbers_of-returns-in_ok-set-in-Named-clause-counted t c =
+    let mode = mode_in c.args.scope in
+    let env = env_in c.args.scope in
+    let p = c.args.d.now.place in
+    let tree : domain_tree c.args.d.now ≡ named_domain p c.in-Named.name = ap (domain_kind_tree p) c.in-Named.is ∙ domain_kind_tree-named p c.in-Named.name in
+    subst (λ e. Counted mode c.args.met.now c.args.met.now (met_domain mode env e)) (sym tree) (counted_none mode c.args.met.now c.requires.small)
+
+pub numbers_of-returns-in_ok-set-in-Named-clause-value : goal.numbers_of-returns-in_ok-set-in-Named-clause-value
+unfolding domain_values
+numbers_of-returns-in_ok-set-in-Named-clause-value t c =
+    let mode = mode_in c.args.scope in
+    let env = env_in c.args.scope in
+    let p = c.args.d.now.place in
+    let tree : domain_tree c.args.d.now ≡ named_domain p c.in-Named.name = ap (domain_kind_tree p) c.in-Named.is ∙ domain_kind_tree-named p c.in-Named.name in
+    c.in_ok-set-in-Named.ensures ∙ sym (ap (domain_values mode env) tree)
+
+pub numbers_of-returns-in_ok-set-in-Ranges-clause-counted : goal.numbers_of-returns-in_ok-set-in-Ranges-clause-counted
+unfolding met_domain
+numbers_of-returns-in_ok-set-in-Ranges-clause-counted t c =
+    let mode = mode_in c.args.scope in
+    let env = env_in c.args.scope in
+    let p = c.args.d.now.place in
+    let rs = ranges_of c.deref.result.now in
+    let tree : domain_tree c.args.d.now ≡ ranges p rs =
+    ap (domain_kind_tree p) c.in-Ranges.is ∙ domain_kind_tree-ranges p c.in-Ranges.ranges ∙ ap (λ l. ranges p (ranges_of l)) (sym c.deref.ensures.value) in
+    subst (λ e. Counted mode c.args.met.now c.runs_of.new.met (met_domain mode env e)) (sym tree) c.in_ok-runs-in-Ranges.ensures.counted
+
+pub numbers_of-returns-in_ok-set-in-Ranges-clause-value : goal.numbers_of-returns-in_ok-set-in-Ranges-clause-value
+unfolding domain_values
+numbers_of-returns-in_ok-set-in-Ranges-clause-value t c =
+    let mode = mode_in c.args.scope in
+    let env = env_in c.args.scope in
+    let p = c.args.d.now.place in
+    let rs = ranges_of c.deref.result.now in
+    let tree : domain_tree c.args.d.now ≡ ranges p rs =
+    ap (domain_kind_tree p) c.in-Ranges.is ∙ domain_kind_tree-ranges p c.in-Ranges.ranges ∙ ap (λ l. ranges p (ranges_of l)) (sym c.deref.ensures.value) in
+    c.in_ok-set-in-Ranges.ensures (range_values mode env rs)
+    (λ ns e. domain_values-ascend mode env (c.ascends.ensures (env_of c.args.scope.env.now) c.mode-mode.ensures.ascending) (ranges p rs) ns e)
+    c.in_ok-runs-in-Ranges.ensures.value
+    ∙ sym (ap (domain_values mode env) tree)
+
+pub numbers_of-returns-in_err-runs-in-Ranges-clause-cause : goal.numbers_of-returns-in_err-runs-in-Ranges-clause-cause
+unfolding met_domain
+numbers_of-returns-in_err-runs-in-Ranges-clause-cause t c =
+    let mode = mode_in c.args.scope in
+    let env = env_in c.args.scope in
+    let p = c.args.d.now.place in
+    let rs = ranges_of c.deref.result.now in
+    let tree : domain_tree c.args.d.now ≡ ranges p rs =
+    ap (domain_kind_tree p) c.in-Ranges.is ∙ domain_kind_tree-ranges p c.in-Ranges.ranges ∙ ap (λ l. ranges p (ranges_of l)) (sym c.deref.ensures.value) in
+    let q = err_from_is_err_and c.from_residual-in_err-runs-in-Ranges.result c.from_residual-in_err-runs-in-Ranges.ensures.1 in
+    rw (q.1, q.2)
+    (subst (λ e. IsCause (limits_of_values mode c.args.met.now (met_domain mode env e)) c.in_err-runs-in-Ranges.field-0.0) (sym tree) c.in_err-runs-in-Ranges.ensures.cause)
+
+pub numbers_of-returns-in_ok-set-in-Group-clause-counted : goal.numbers_of-returns-in_ok-set-in-Group-clause-counted
+unfolding met_domain
+numbers_of-returns-in_ok-set-in-Group-clause-counted t c =
+    let mode = mode_in c.args.scope in
+    let env = env_in c.args.scope in
+    let p = c.args.d.now.place in
+    let inner = domain_tree c.deref-in-Group.result.now in
+    let tree : domain_tree c.args.d.now ≡ group_domain p inner =
+    ap (domain_kind_tree p) c.in-Group.is ∙ domain_kind_tree-group p c.in-Group.inner ∙ ap (λ x. group_domain p (domain_tree x)) (sym c.deref-in-Group.ensures) in
+    subst (λ e. Counted mode c.args.met.now c.numbers_of.new.met (met_domain mode env e)) (sym tree) c.in_ok-set-in-Group.ensures.counted
+
+pub numbers_of-returns-in_ok-set-in-Group-clause-value : goal.numbers_of-returns-in_ok-set-in-Group-clause-value
+unfolding domain_values
+numbers_of-returns-in_ok-set-in-Group-clause-value t c =
+    let mode = mode_in c.args.scope in
+    let env = env_in c.args.scope in
+    let p = c.args.d.now.place in
+    let inner = domain_tree c.deref-in-Group.result.now in
+    let tree : domain_tree c.args.d.now ≡ group_domain p inner =
+    ap (domain_kind_tree p) c.in-Group.is ∙ domain_kind_tree-group p c.in-Group.inner ∙ ap (λ x. group_domain p (domain_tree x)) (sym c.deref-in-Group.ensures) in
+    c.in_ok-set-in-Group.ensures.value ∙ sym (ap (domain_values mode env) tree)
+
+pub numbers_of-returns-in_err-set-in-Group-clause-cause : goal.numbers_of-returns-in_err-set-in-Group-clause-cause
+unfolding met_domain
+numbers_of-returns-in_err-set-in-Group-clause-cause t c =
+    let mode = mode_in c.args.scope in
+    let env = env_in c.args.scope in
+    let p = c.args.d.now.place in
+    let inner = domain_tree c.deref-in-Group.result.now in
+    let tree : domain_tree c.args.d.now ≡ group_domain p inner =
+    ap (domain_kind_tree p) c.in-Group.is ∙ domain_kind_tree-group p c.in-Group.inner ∙ ap (λ x. group_domain p (domain_tree x)) (sym c.deref-in-Group.ensures) in
+    let q = err_from_is_err_and c.from_residual-in_err-set-in-Group.result c.from_residual-in_err-set-in-Group.ensures.1 in
+    rw (q.1, q.2)
+    (subst (λ e. IsCause (limits_of_values mode c.args.met.now (met_domain mode env e)) c.in_err-set-in-Group.field-0.0) (sym tree) c.in_err-set-in-Group.ensures.cause)
+
+pub runs_of-loop-range-init : goal.runs_of-loop-range-init
+runs_of-loop-range-init t c =
+    subst (λ (runs : List Run). RunsSoFar (mode_in c.args.scope) (env_in c.args.scope) c.args.met.now c.args.met.now c.args.ranges.now c.args.ranges.now (Some runs))
+    (sym c.new.ensures.items) (runs_begin (mode_in c.args.scope) (env_in c.args.scope) c.args.met.now c.args.ranges.now c.requires.small)
+
+pub runs_of-loop-range-preserved : goal.runs_of-loop-range-preserved
+runs_of-loop-range-preserved t c =
+    let all : List Range = c.args.ranges.now in
+    let k : ℕ = c.loop-range.range-index in
+    let range : Range = c.range-item.result in
+    let cut : drop k all ≡ range ∷ drop (k + 1) all =
+    drop_more all k range c.loop-range-test.true ∙ ap (λ r. r ∷ drop (k + 1) all) (sym c.range-item.is) in
+    runs_more (mode_in c.args.scope) (env_in c.args.scope) c.args.met.now c.loop-range.met c.run_of.new.met all _ range (drop (k + 1) all) _ _ c.in_ok-run.run'
+    c.loop-range.invariant cut c.in_ok-run.ensures.counted c.in_ok-run.ensures.value c.in_ok-runs.ensures
+
+pub runs_of-returns-in_err-run-clause-cause : goal.runs_of-returns-in_err-run-clause-cause
+runs_of-returns-in_err-run-clause-cause t c =
+    let all : List Range = c.args.ranges.now in
+    let k : ℕ = c.loop-range.range-index in
+    let range : Range = c.range-item.result in
+    let cut : drop k all ≡ range ∷ drop (k + 1) all =
+    drop_more all k range c.loop-range-test.true ∙ ap (λ r. r ∷ drop (k + 1) all) (sym c.range-item.is) in
+    let p = err_from_is_err_and c.from_residual.result c.from_residual.ensures.1 in
+    rw (p.1, p.2)
+    (runs_cause (mode_in c.args.scope) (env_in c.args.scope) c.args.met.now c.loop-range.met all _ range (drop (k + 1) all) _ c.loop-range.invariant cut c.in_err-run.field-0.0 c.in_err-run.ensures.cause)
+
+pub runs_of-returns-clause-counted : goal.runs_of-returns-clause-counted
+runs_of-returns-clause-counted t c =
+    runs_counted (mode_in c.args.scope) (env_in c.args.scope) c.args.met.now c.loop-range.met c.args.ranges.now _ _ c.loop-range.invariant
+    (drop_all c.loop-range.range-index c.args.ranges.now c.loop-range-test.false)
+
+pub runs_of-returns-clause-value : goal.runs_of-returns-clause-value
+runs_of-returns-clause-value t c =
+    runs_value (mode_in c.args.scope) (env_in c.args.scope) c.args.met.now c.loop-range.met c.args.ranges.now _ c.loop-range.runs c.loop-range.invariant
+    (drop_all c.loop-range.range-index c.args.ranges.now c.loop-range-test.false)
+
+pub run_of-returns-in_err-seen-in-One-clause-cause : goal.run_of-returns-in_err-seen-in-One-clause-cause
+run_of-returns-in_err-seen-in-One-clause-cause t c =
+    let p = err_from_is_err_and c.from_residual.result c.from_residual.ensures.1 in
+    rw (p.1, p.2)
+    (subst (λ ms. IsCause (limits_of_values (mode_in c.args.scope) c.args.met.now ms) c.in_err-seen-in-One.field-0.0)
+    (met_alone-one (mode_in c.args.scope) (env_in c.args.scope) c.args.range.now c.in-One.e c.in-One.is) c.in_err-seen-in-One.ensures.cause)
+
+pub run_of-returns-in_ok-seen-in-One-clause-counted : goal.run_of-returns-in_ok-seen-in-One-clause-counted
+run_of-returns-in_ok-seen-in-One-clause-counted t c =
+    subst (λ ms. Counted (mode_in c.args.scope) c.args.met.now c.value_of.new.met ms)
+    (met_alone-one (mode_in c.args.scope) (env_in c.args.scope) c.args.range.now c.in-One.e c.in-One.is) c.in_ok-seen-in-One.ensures.counted
+
+pub run_of-returns-in_ok-seen-in-One-clause-value : goal.run_of-returns-in_ok-seen-in-One-clause-value
+run_of-returns-in_ok-seen-in-One-clause-value t c =
+    alone-one (mode_in c.args.scope) (env_in c.args.scope) c.args.range.now c.in-One.e c.number_of-number.result c.run_between.result c.in-One.is
+    (c.number_of-number.ensures ∙ ap number_in (sym c.in_ok-seen-in-One.ensures.value)) c.run_between.ensures
+
+pub run_of-returns-in_err-first-in-Span-clause-cause : goal.run_of-returns-in_err-first-in-Span-clause-cause
+run_of-returns-in_err-first-in-Span-clause-cause t c =
+    let mode = mode_in c.args.scope in
+    let env = env_in c.args.scope in
+    let p = err_from_is_err_and c.from_residual-in_err-first-in-Span.result c.from_residual-in_err-first-in-Span.ensures.1 in
+    rw (p.1, p.2)
+    (subst (λ ms. IsCause (limits_of_values mode c.args.met.now ms) c.in_err-first-in-Span.field-0.0)
+    (met_alone-span mode env c.args.range.now c.in-Span.low c.in-Span.high c.in-Span.is)
+    (cause_first mode c.args.met.now (met_end mode env (end_of c.in-Span.low)) (met_end mode env (end_of c.in-Span.high)) c.in_err-first-in-Span.field-0.0 c.in_err-first-in-Span.ensures.cause))
+
+pub run_of-returns-in_err-last-in-Span-clause-cause : goal.run_of-returns-in_err-last-in-Span-clause-cause
+run_of-returns-in_err-last-in-Span-clause-cause t c =
+    let mode = mode_in c.args.scope in
+    let env = env_in c.args.scope in
+    let p = err_from_is_err_and c.from_residual-in_err-last-in-Span.result c.from_residual-in_err-last-in-Span.ensures.1 in
+    rw (p.1, p.2)
+    (subst (λ ms. IsCause (limits_of_values mode c.args.met.now ms) c.in_err-last-in-Span.field-0.0)
+    (met_alone-span mode env c.args.range.now c.in-Span.low c.in-Span.high c.in-Span.is)
+    (cause_then mode c.args.met.now c.end_number.new.met (met_end mode env (end_of c.in-Span.low)) (met_end mode env (end_of c.in-Span.high)) c.in_err-last-in-Span.field-0.0
+    c.in_ok-first-in-Span.ensures.counted c.in_err-last-in-Span.ensures.cause))
+
+pub run_of-returns-in_ok-last-in-Span-clause-counted : goal.run_of-returns-in_ok-last-in-Span-clause-counted
+run_of-returns-in_ok-last-in-Span-clause-counted t c =
+    let mode = mode_in c.args.scope in
+    let env = env_in c.args.scope in
+    subst (λ ms. Counted mode c.args.met.now c.end_number-in-Span.new.met ms)
+    (met_alone-span mode env c.args.range.now c.in-Span.low c.in-Span.high c.in-Span.is)
+    (counted_append mode c.args.met.now c.end_number.new.met c.end_number-in-Span.new.met (met_end mode env (end_of c.in-Span.low)) (met_end mode env (end_of c.in-Span.high))
+    c.in_ok-first-in-Span.ensures.counted c.in_ok-last-in-Span.ensures.counted)
+
+pub run_of-returns-in_ok-last-in-Span-clause-value : goal.run_of-returns-in_ok-last-in-Span-clause-value
+run_of-returns-in_ok-last-in-Span-clause-value t c =
+    alone-span (mode_in c.args.scope) (env_in c.args.scope) c.args.range.now c.in-Span.low c.in-Span.high c.in_ok-first-in-Span.first c.in_ok-last-in-Span.last c.run_between-in-Span.result c.in-Span.is
+    c.in_ok-first-in-Span.ensures.value c.in_ok-last-in-Span.ensures.value c.run_between-in-Span.ensures
+
+pub end_number-returns-in_err-seen-in-Some-clause-cause : goal.end_number-returns-in_err-seen-in-Some-clause-cause
+end_number-returns-in_err-seen-in-Some-clause-cause t c =
+    let p = err_from_is_err_and c.from_residual.result c.from_residual.ensures.1 in
+    rw (p.1, p.2)
+    (subst (λ ms. IsCause (limits_of_values (mode_in c.args.scope) c.args.met.now ms) c.in_err-seen-in-Some.field-0.0)
+    (met_end-some (mode_in c.args.scope) (env_in c.args.scope) c.args.end.now c.in-Some.e c.in-Some.is) c.in_err-seen-in-Some.ensures.cause)
+
+pub end_number-returns-in_ok-seen-in-Some-clause-counted : goal.end_number-returns-in_ok-seen-in-Some-clause-counted
+end_number-returns-in_ok-seen-in-Some-clause-counted t c =
+    subst (λ ms. Counted (mode_in c.args.scope) c.args.met.now c.value_of.new.met ms)
+    (met_end-some (mode_in c.args.scope) (env_in c.args.scope) c.args.end.now c.in-Some.e c.in-Some.is) c.in_ok-seen-in-Some.ensures.counted
+
+pub end_number-returns-in_ok-seen-in-Some-clause-value : goal.end_number-returns-in_ok-seen-in-Some-clause-value
+end_number-returns-in_ok-seen-in-Some-clause-value t c =
+    c.number_of.ensures ∙ ap number_in (sym c.in_ok-seen-in-Some.ensures.value) ∙ end_value-some (mode_in c.args.scope) (env_in c.args.scope) c.args.end.now c.in-Some.e c.in-Some.is
+
+pub end_number-returns-in-None-clause-counted : goal.end_number-returns-in-None-clause-counted
+end_number-returns-in-None-clause-counted t c =
+    subst (λ ms. Counted (mode_in c.args.scope) c.args.met.now c.args.met.now ms)
+    (met_end-none (mode_in c.args.scope) (env_in c.args.scope) c.args.end.now c.in-None.is) (counted_none (mode_in c.args.scope) c.args.met.now c.requires.small)
+
+pub end_number-returns-in-None-clause-value : goal.end_number-returns-in-None-clause-value
+end_number-returns-in-None-clause-value t c = end_value-none (mode_in c.args.scope) (env_in c.args.scope) c.args.end.now c.in-None.is
+
+pub quantified-returns-in_ok-seen-in-Some-clause-counted : goal.quantified-returns-in_ok-seen-in-Some-clause-counted
+quantified-returns-in_ok-seen-in-Some-clause-counted t c =
+    let mode = mode_in c.args.scope in
+    let env = env_in c.args.scope in
+    let q = c.args.quantifier in
+    let name = c.in-Some.name.now in
+    let rest = c.in-Some.rest.now in
+    on_ok c.check.result _ _ c.check.ensures.near (λ near p.
+    let told = c.in_ok-seen-in-Some.ensures.value p in
+    subst (λ ns. Counted mode c.args.met.now c.over_domain.new.met (met mode env (quantified_tree p q ns))) (sym c.in-Some.ensures.cases.0)
+    (counted_node mode env (quantified_tree p q (name ∷ rest)) c.args.met.now c.over_domain.new.met told.node (told.near near)
+    (subst (λ m. Counted mode m c.over_domain.new.met (met_below mode env (quantified_tree p q (name ∷ rest)))) c.in_ok-count-in-Some.ensures.counted told.counted)))
+
+pub quantified-returns-in_ok-seen-in-Some-clause-cause : goal.quantified-returns-in_ok-seen-in-Some-clause-cause
+quantified-returns-in_ok-seen-in-Some-clause-cause t c =
+    let mode = mode_in c.args.scope in
+    let env = env_in c.args.scope in
+    let q = c.args.quantifier in
+    let name = c.in-Some.name.now in
+    let rest = c.in-Some.rest.now in
+    far_causes c.check.result (λ p. limits_of_values mode c.args.met.now (met mode env (quantified_tree p q c.args.names.now))) _ c.check.ensures.cause c.check.ensures.far
+    (λ p far.
+    let told = c.in_ok-seen-in-Some.ensures.value p in
+    subst (λ ns. Contains (limits_of_values mode c.args.met.now (met mode env (quantified_tree p q ns))) LimitName.Reach) (sym c.in-Some.ensures.cases.0)
+    (node_refuses mode env (quantified_tree p q (name ∷ rest)) c.args.met.now told.node (told.node.far (ap is_far_value told.value ∙ far))))
+
+pub quantified-returns-in_err-count-in-Some-clause-cause : goal.quantified-returns-in_err-count-in-Some-clause-cause
+quantified-returns-in_err-count-in-Some-clause-cause t c =
+    let mode = mode_in c.args.scope in
+    let env = env_in c.args.scope in
+    let r = err_from_is_err_and c.from_residual.result c.from_residual.ensures.1 in
+    rw (r.1, r.2, c.in_err-count-in-Some.ensures.cause)
+    (λ p. size_refuses mode c.args.met.now (met mode env (quantified_tree p c.args.quantifier c.args.names.now))
+    (let some = meets_some mode env (quantified_tree p c.args.quantifier c.args.names.now) in omega (arith, c.in_err-count-in-Some.ensures.refused, some)))
+
+pub quantified-returns-in_err-seen-in-Some-clause-cause : goal.quantified-returns-in_err-seen-in-Some-clause-cause
+quantified-returns-in_err-seen-in-Some-clause-cause t c =
+    let mode = mode_in c.args.scope in
+    let env = env_in c.args.scope in
+    let q = c.args.quantifier in
+    let r = err_from_is_err_and c.from_residual-in_err-seen-in-Some.result c.from_residual-in_err-seen-in-Some.ensures.1 in
+    rw (r.1, r.2)
+    (λ p. subst (λ ns. IsCause (limits_of_values mode c.args.met.now (met mode env (quantified_tree p q ns))) c.in_err-seen-in-Some.field-0.0) (sym c.in-Some.ensures.cases.0)
+    (refused_whole mode env (quantified_tree p q (c.in-Some.name.now ∷ c.in-Some.rest.now)) c.args.met.now c.count.new.met c.in_err-seen-in-Some.field-0.0
+    c.in_ok-count-in-Some.ensures.counted (c.in_err-seen-in-Some.ensures.cause p)))
+
+pub quantified-returns-in_ok-seen-in-None-clause-counted : goal.quantified-returns-in_ok-seen-in-None-clause-counted
+quantified-returns-in_ok-seen-in-None-clause-counted t c p =
+    let mode = mode_in c.args.scope in
+    let env = env_in c.args.scope in
+    let q = c.args.quantifier in
+    subst (λ ns. Counted mode c.args.met.now c.value_of.new.met (met mode env (quantified_tree p q ns))) (sym (no_runs c.args.names.now c.in-None.ensures.cases))
+    (subst (λ ms. Counted mode c.args.met.now c.value_of.new.met ms) (sym (met_bare mode env p q.op (domain_tree q.domain.now) (expr_tree q.body.now))) c.in_ok-seen-in-None.ensures.counted)
+
+pub quantified-returns-in_ok-seen-in-None-clause-value : goal.quantified-returns-in_ok-seen-in-None-clause-value
+quantified-returns-in_ok-seen-in-None-clause-value t c p =
+    let mode = mode_in c.args.scope in
+    let env = env_in c.args.scope in
+    let q = c.args.quantifier in
+    ap (λ ns. evaluate mode env (quantified_tree p q ns)) (no_runs c.args.names.now c.in-None.ensures.cases)
+    ∙ quantified_bare mode env p q.op (domain_tree q.domain.now) (expr_tree q.body.now) ∙ c.in_ok-seen-in-None.ensures.value
+
+pub quantified-returns-in_err-seen-in-None-clause-cause : goal.quantified-returns-in_err-seen-in-None-clause-cause
+quantified-returns-in_err-seen-in-None-clause-cause t c =
+    let mode = mode_in c.args.scope in
+    let env = env_in c.args.scope in
+    let q = c.args.quantifier in
+    let r = err_from_is_err_and c.from_residual-in_err-seen-in-None.result c.from_residual-in_err-seen-in-None.ensures.1 in
+    rw (r.1, r.2)
+    (λ p. subst (λ ns. IsCause (limits_of_values mode c.args.met.now (met mode env (quantified_tree p q ns))) c.in_err-seen-in-None.field-0.0) (sym (no_runs c.args.names.now c.in-None.ensures.cases))
+    (subst (λ ms. IsCause (limits_of_values mode c.args.met.now ms) c.in_err-seen-in-None.field-0.0) (sym (met_bare mode env p q.op (domain_tree q.domain.now) (expr_tree q.body.now))) c.in_err-seen-in-None.ensures.cause))
+
+pub over_domain-returns-in_err-numbers-clause-cause : goal.over_domain-returns-in_err-numbers-clause-cause
+over_domain-returns-in_err-numbers-clause-cause t c =
+    let mode = mode_in c.args.scope in
+    let env = env_in c.args.scope in
+    let q = c.args.quantifier in
+    let d = domain_tree q.domain.now in
+    let r = err_from_is_err_and c.from_residual.result c.from_residual.ensures.1 in
+    rw (r.1, r.2)
+    (λ p. plain_cause mode env (quantified_tree p q (c.args.name.now ∷ c.args.rest.now)) _ c.args.met.now c.in_err-numbers.field-0.0
+    (meets_some_instances mode env p q.op c.args.name.now c.args.rest.now d (expr_tree q.body.now))
+    (cause_first mode c.args.met.now (met_domain mode env d) _ c.in_err-numbers.field-0.0 c.in_err-numbers.ensures.cause))
+
+pub over_domain-returns-in_ok-gathered-in-Some-clause-value : goal.over_domain-returns-in_ok-gathered-in-Some-clause-value
+over_domain-returns-in_ok-gathered-in-Some-clause-value t c =
+    let mode = mode_in c.args.scope in
+    let env = env_in c.args.scope in
+    let q = c.args.quantifier in
+    let d = domain_tree q.domain.now in
+    let e = expr_tree q.body.now in
+    let name = c.args.name.now in
+    let rest = c.args.rest.now in
+    let is = sym c.in_ok-numbers.ensures.value ∙ c.in-Some.is in
+    gives_value (worth c.mode.result c.in_ok-gathered-in-Some.gathered) c.gathered_value.result
+    (λ v. (p : Place) → Evaluated mode env (quantified_tree p q (name ∷ rest)) c.args.met.now c.instances.new.met v) c.gathered_value.ensures
+    (λ p. plain_value mode env (quantified_tree p q (name ∷ rest)) (met_domain mode env d ++ flat_map (instance_nodes mode env p q name rest) c.in-Some.set)
+    c.args.met.now c.instances.new.met (worth c.mode.result c.in_ok-gathered-in-Some.gathered)
+    (meets_instances mode env p q.op name rest d e c.in-Some.set is)
+    (counted_append mode c.args.met.now c.numbers_of.new.met c.instances.new.met (met_domain mode env d) _ c.in_ok-numbers.ensures.counted (c.in_ok-gathered-in-Some.ensures.counted p))
+    (gathered_is mode env p q.op name rest d e c.in-Some.set c.in_ok-gathered-in-Some.gathered is (c.in_ok-gathered-in-Some.ensures.value p)
+    ∙ ap (λ m. worth m c.in_ok-gathered-in-Some.gathered) (sym c.mode.ensures.mode)))
+
+pub over_domain-returns-in_ok-gathered-in-Some-clause-cause : goal.over_domain-returns-in_ok-gathered-in-Some-clause-cause
+over_domain-returns-in_ok-gathered-in-Some-clause-cause t c =
+    let mode = mode_in c.args.scope in
+    let env = env_in c.args.scope in
+    let q = c.args.quantifier in
+    let d = domain_tree q.domain.now in
+    let e = expr_tree q.body.now in
+    let name = c.args.name.now in
+    let rest = c.args.rest.now in
+    let is = sym c.in_ok-numbers.ensures.value ∙ c.in-Some.is in
+    gives_cause (worth c.mode.result c.in_ok-gathered-in-Some.gathered) c.gathered_value.result
+    (λ error. (p : Place) → IsRefused mode env (quantified_tree p q (name ∷ rest)) c.args.met.now error) c.gathered_value.ensures
+    (λ error far p. plain_far mode env (quantified_tree p q (name ∷ rest)) _ c.args.met.now (worth c.mode.result c.in_ok-gathered-in-Some.gathered) error
+    (meets_instances mode env p q.op name rest d e c.in-Some.set is)
+    (gathered_is mode env p q.op name rest d e c.in-Some.set c.in_ok-gathered-in-Some.gathered is (c.in_ok-gathered-in-Some.ensures.value p)
+    ∙ ap (λ m. worth m c.in_ok-gathered-in-Some.gathered) (sym c.mode.ensures.mode)) far)
+
+pub over_domain-returns-in_err-gathered-in-Some-clause-cause : goal.over_domain-returns-in_err-gathered-in-Some-clause-cause
+over_domain-returns-in_err-gathered-in-Some-clause-cause t c =
+    let mode = mode_in c.args.scope in
+    let env = env_in c.args.scope in
+    let q = c.args.quantifier in
+    let d = domain_tree q.domain.now in
+    let e = expr_tree q.body.now in
+    let name = c.args.name.now in
+    let rest = c.args.rest.now in
+    let is = sym c.in_ok-numbers.ensures.value ∙ c.in-Some.is in
+    let r = err_from_is_err_and c.from_residual-in_err-gathered-in-Some.result c.from_residual-in_err-gathered-in-Some.ensures.1 in
+    rw (r.1, r.2)
+    (λ p. plain_cause mode env (quantified_tree p q (name ∷ rest)) _ c.args.met.now c.in_err-gathered-in-Some.field-0.0
+    (meets_instances mode env p q.op name rest d e c.in-Some.set is)
+    (cause_then mode c.args.met.now c.numbers_of.new.met (met_domain mode env d) _ c.in_err-gathered-in-Some.field-0.0
+    c.in_ok-numbers.ensures.counted (c.in_err-gathered-in-Some.ensures.cause p)))
+
+pub over_domain-returns-in-None-clause-value : goal.over_domain-returns-in-None-clause-value
+over_domain-returns-in-None-clause-value t c =
+    let mode = mode_in c.args.scope in
+    let env = env_in c.args.scope in
+    let q = c.args.quantifier in
+    let d = domain_tree q.domain.now in
+    let e = expr_tree q.body.now in
+    let name = c.args.name.now in
+    let rest = c.args.rest.now in
+    let is = sym c.in_ok-numbers.ensures.value ∙ c.in-None.is in
+    gives_value (worth c.mode-in-None.result c.without_domain.result) c.gathered_value-in-None.result
+    (λ v. (p : Place) → Evaluated mode env (quantified_tree p q (name ∷ rest)) c.args.met.now c.numbers_of.new.met v) c.gathered_value-in-None.ensures
+    (λ p. plain_value mode env (quantified_tree p q (name ∷ rest)) (met_domain mode env d)
+    c.args.met.now c.numbers_of.new.met (worth c.mode-in-None.result c.without_domain.result)
+    (meets_domain mode env p q.op name rest d e is) c.in_ok-numbers.ensures.counted
+    (quantified_none mode env p q.op name rest d e is ∙ sym (worth_none mode q.op) ∙ ap (worth mode) (sym c.without_domain.ensures)
+    ∙ ap (λ m. worth m c.without_domain.result) (sym c.mode-in-None.ensures.mode)))
+
+pub over_domain-returns-in-None-clause-cause : goal.over_domain-returns-in-None-clause-cause
+over_domain-returns-in-None-clause-cause t c =
+    let mode = mode_in c.args.scope in
+    let env = env_in c.args.scope in
+    let q = c.args.quantifier in
+    let d = domain_tree q.domain.now in
+    let e = expr_tree q.body.now in
+    let name = c.args.name.now in
+    let rest = c.args.rest.now in
+    let is = sym c.in_ok-numbers.ensures.value ∙ c.in-None.is in
+    gives_cause (worth c.mode-in-None.result c.without_domain.result) c.gathered_value-in-None.result
+    (λ error. (p : Place) → IsRefused mode env (quantified_tree p q (name ∷ rest)) c.args.met.now error) c.gathered_value-in-None.ensures
+    (λ error far p. plain_far mode env (quantified_tree p q (name ∷ rest)) _ c.args.met.now (worth c.mode-in-None.result c.without_domain.result) error
+    (meets_domain mode env p q.op name rest d e is)
+    (quantified_none mode env p q.op name rest d e is ∙ sym (worth_none mode q.op) ∙ ap (worth mode) (sym c.without_domain.ensures)
+    ∙ ap (λ m. worth m c.without_domain.result) (sym c.mode-in-None.ensures.mode)) far)
+
+pub quantified-value_of-requires : goal.quantified-value_of-requires
+quantified-value_of-requires t c =
+    let q = c.args.quantifier in
+    let within : size-Expr q.body.now ≤ depth_of q = second_within (size-Domain q.domain.now) (size-Expr q.body.now) in
+    (omega (arith, within, c.decreases), tt)
+
+pub over_domain-numbers_of-requires : goal.over_domain-numbers_of-requires
+over_domain-numbers_of-requires t c =
+    let q = c.args.quantifier in
+    let within : size-Domain q.domain.now ≤ depth_of q = first_within (size-Domain q.domain.now) (size-Expr q.body.now) in
+    (omega (arith, within, c.decreases), c.requires.small)
+
+pub value_of-quantified-requires : goal.value_of-quantified-requires
+value_of-quantified-requires t c =
+    let below = quantifier_depth c.args.e.now c.in-Quant.op c.in-Quant.names c.in-Quant.domain c.in-Quant.body c.deref.result.now c.deref-in-Quant.result.now c.in-Quant.is c.deref.ensures c.deref-in-Quant.ensures in
+    (omega (arith, below, c.decreases, c.deref-in-Quant-2.ensures.len), tt)
+
+pub instances-loop-number-init : goal.instances-loop-number-init
+instances-loop-number-init t c =
+    let mode = mode_in c.args.scope in
+    let env = env_in c.args.scope in
+    let q = c.args.quantifier in (
+      c.walk_of-walk.ensures.walk,
+      λ p. gathering_begins mode q.op (instance_value mode env p q c.args.name.now c.args.rest.now) (instance_nodes mode env p q c.args.name.now c.args.rest.now)
+          c.args.met.now c.args.set.now (numbers_left c.walk_of-walk.result) c.before_all-gathered.result
+          c.requires.small (c.walk_of-walk.ensures.numbers ∙ c.runs.ensures.numbers) c.before_all-gathered.ensures,
+    )
+
+pub instances-with_instance-gathered-requires : goal.instances-with_instance-gathered-requires
+instances-with_instance-gathered-requires t c =
+    let mode = mode_in c.args.scope in
+    let env = env_in c.args.scope in
+    let q = c.args.quantifier in
+    record {
+      small = gathering_small mode q.op (instance_value mode env a_place q c.args.name.now c.args.rest.now) (instance_nodes mode env a_place q c.args.name.now c.args.rest.now)
+          c.args.met.now c.loop-number.met c.args.set.now (numbers_left c.loop-number.walk) c.loop-number.gathered (c.loop-number.invariant.1 a_place);
+    }
+
+pub instances-loop-number-smaller : goal.instances-loop-number-smaller
+unfolding before_rest
+instances-loop-number-smaller t c =
+    let cut : numbers_left c.loop-number.walk ≡ c.in-Some.number ∷ numbers_left c.in-Some.behind = c.next_number.ensures.numbers ∙ ap before_rest c.in-Some.is in
+    let longer = ap length cut in
+    omega (arith, longer)
+
+pub instances-loop-number-preserved : goal.instances-loop-number-preserved
+unfolding before_rest IsWalkBehind with_all
+instances-loop-number-preserved t c =
+    let mode = mode_in c.args.scope in
+    let env = env_in c.args.scope in
+    let q = c.args.quantifier in
+    let name = c.args.name.now in
+    let rest = c.args.rest.now in
+    let n = c.in-Some.number in
+    let cut : numbers_left c.loop-number.walk ≡ n ∷ numbers_left c.in-Some.behind = c.next_number.ensures.numbers ∙ ap before_rest c.in-Some.is in
+    let scalar : c.scalar_of-scalar.result ≡ scalar_in env (domain_tree q.domain.now) = c.scalar_of-scalar.ensures mode (λ none. absurd (let e = sym c.requires.set ∙ none in cc)) in
+    let same : to_z w64 (of_z w64 n) ≡ n = to_z-of_z w64 n (omega (arith, ints)) in (
+      subst IsWalkBehind c.in-Some.is c.next_number.ensures.walk,
+      λ p. gathering_goes_on mode q.op (instance_value mode env p q name rest) (instance_nodes mode env p q name rest)
+          c.args.met.now c.loop-number.met c.quantified.new.met c.args.set.now (numbers_left c.loop-number.walk) (numbers_left c.in-Some.behind)
+          c.loop-number.gathered c.with_instance-gathered.result n (seen_held c.in_ok-seen.seen)
+          (c.loop-number.invariant.1 p) cut
+          (subst (λ s. Counted mode c.loop-number.met c.quantified.new.met (met mode (with_number name s n env) (quantified_tree p q rest))) scalar
+          (subst (λ m. Counted mode c.loop-number.met c.quantified.new.met (met mode (with_number name c.scalar_of-scalar.result m env) (quantified_tree p q rest))) same (c.in_ok-seen.ensures.counted p)))
+          (subst (λ s. evaluate mode (with_number name s n env) (quantified_tree p q rest) ≡ seen_held c.in_ok-seen.seen) scalar
+          (subst (λ m. evaluate mode (with_number name c.scalar_of-scalar.result m env) (quantified_tree p q rest) ≡ seen_held c.in_ok-seen.seen) same (c.in_ok-seen.ensures.value p)))
+          (meets_some mode (instance_env env q name n) (quantified_tree p q rest))
+          c.with_instance-gathered.ensures.more c.with_instance-gathered.ensures.small,
+    )
+
+pub instances-returns-in_err-seen-clause-cause : goal.instances-returns-in_err-seen-clause-cause
+unfolding before_rest with_all
+instances-returns-in_err-seen-clause-cause t c =
+    let mode = mode_in c.args.scope in
+    let env = env_in c.args.scope in
+    let q = c.args.quantifier in
+    let name = c.args.name.now in
+    let rest = c.args.rest.now in
+    let n = c.in-Some.number in
+    let cut : numbers_left c.loop-number.walk ≡ n ∷ numbers_left c.in-Some.behind = c.next_number.ensures.numbers ∙ ap before_rest c.in-Some.is in
+    let scalar : c.scalar_of-scalar.result ≡ scalar_in env (domain_tree q.domain.now) = c.scalar_of-scalar.ensures mode (λ none. absurd (let e = sym c.requires.set ∙ none in cc)) in
+    let same : to_z w64 (of_z w64 n) ≡ n = to_z-of_z w64 n (omega (arith, ints)) in
+    let r = err_from_is_err_and c.from_residual.result c.from_residual.ensures.1 in
+    rw (r.1, r.2)
+    (λ p. gathering_cause mode q.op (instance_value mode env p q name rest) (instance_nodes mode env p q name rest)
+    c.args.met.now c.loop-number.met c.args.set.now (numbers_left c.loop-number.walk) (numbers_left c.in-Some.behind) c.loop-number.gathered n
+    (c.loop-number.invariant.1 p) cut c.in_err-seen.field-0.0
+    (subst (λ s. IsCause (limits_of_values mode c.loop-number.met (met mode (with_number name s n env) (quantified_tree p q rest))) c.in_err-seen.field-0.0) scalar
+    (subst (λ m. IsCause (limits_of_values mode c.loop-number.met (met mode (with_number name c.scalar_of-scalar.result m env) (quantified_tree p q rest))) c.in_err-seen.field-0.0) same (c.in_err-seen.ensures.cause p))))
+
+pub instances-returns-clause-counted : goal.instances-returns-clause-counted
+unfolding before_rest
+instances-returns-clause-counted t c p =
+    let mode = mode_in c.args.scope in
+    let env = env_in c.args.scope in
+    let q = c.args.quantifier in
+    gathering_counted mode q.op (instance_value mode env p q c.args.name.now c.args.rest.now) (instance_nodes mode env p q c.args.name.now c.args.rest.now)
+    c.args.met.now c.loop-number.met c.args.set.now (numbers_left c.loop-number.walk) c.loop-number.gathered (c.loop-number.invariant.1 p)
+    (c.next_number.ensures.numbers ∙ ap before_rest c.in_default.is)
+
+pub instances-returns-clause-value : goal.instances-returns-clause-value
+unfolding before_rest
+instances-returns-clause-value t c p =
+    let mode = mode_in c.args.scope in
+    let env = env_in c.args.scope in
+    let q = c.args.quantifier in
+    gathering_value mode q.op (instance_value mode env p q c.args.name.now c.args.rest.now) (instance_nodes mode env p q c.args.name.now c.args.rest.now)
+    c.args.met.now c.loop-number.met c.args.set.now (numbers_left c.loop-number.walk) c.loop-number.gathered (c.loop-number.invariant.1 p)
+    (c.next_number.ensures.numbers ∙ ap before_rest c.in_default.is)
+
+pub value_of-returns-in-Quant-clause-counted : goal.value_of-returns-in-Quant-clause-counted
+value_of-returns-in-Quant-clause-counted t c =
+    let p = c.args.e.now.place in
+    on_ok c.quantified.result _ _ c.quantified.ensures.counted
+    (λ h. subst (λ e. Counted (mode_in c.args.scope) c.args.met.now c.quantified.new.met (met (mode_in c.args.scope) (env_in c.args.scope) e))
+    (sym (quantifier_tree p c.args.e.now c.in-Quant.op c.in-Quant.names c.in-Quant.domain c.in-Quant.body c.deref.result.now c.deref-in-Quant.result.now c.deref-in-Quant-2.result.now refl c.in-Quant.is
+    c.deref.ensures c.deref-in-Quant.ensures c.deref-in-Quant-2.ensures.value)) (h p))
+
+pub value_of-returns-in-Quant-clause-value : goal.value_of-returns-in-Quant-clause-value
+value_of-returns-in-Quant-clause-value t c =
+    let p = c.args.e.now.place in
+    if_ok c.quantified.result _ _ c.quantified.ensures.value
+    (λ seen h. ap (evaluate (mode_in c.args.scope) (env_in c.args.scope))
+    (quantifier_tree p c.args.e.now c.in-Quant.op c.in-Quant.names c.in-Quant.domain c.in-Quant.body c.deref.result.now c.deref-in-Quant.result.now c.deref-in-Quant-2.result.now refl c.in-Quant.is
+    c.deref.ensures c.deref-in-Quant.ensures c.deref-in-Quant-2.ensures.value) ∙ h p)
+
+pub value_of-returns-in-Quant-clause-cause : goal.value_of-returns-in-Quant-clause-cause
+value_of-returns-in-Quant-clause-cause t c =
+    let p = c.args.e.now.place in
+    if_err c.quantified.result _ _ c.quantified.ensures.cause
+    (λ error h. subst (λ e. IsCause (limits_of_values (mode_in c.args.scope) c.args.met.now (met (mode_in c.args.scope) (env_in c.args.scope) e)) error)
+    (sym (quantifier_tree p c.args.e.now c.in-Quant.op c.in-Quant.names c.in-Quant.domain c.in-Quant.body c.deref.result.now c.deref-in-Quant.result.now c.deref-in-Quant-2.result.now refl c.in-Quant.is
+    c.deref.ensures c.deref-in-Quant.ensures c.deref-in-Quant-2.ensures.value)) (h p))
