@@ -22,3 +22,6 @@ pub mod Instances
 pub mod WalkSteps
 pub mod ScalarSteps
 pub mod Depths
+pub mod ReadSteps
+pub mod IndexSteps
+pub mod ReadResults

@@ -12,3 +12,4 @@ pub mod Walking
 pub mod Scalars
 pub mod Instances
 pub mod Ranks
+pub mod Reading

@@ -6,18 +6,19 @@ ghost use Rattle.ep_base.specs.declared.places.Place.{Place};
 ghost use Rattle.ep_base.specs.Numbers.{sum_of};
 ghost use Rattle.ep_tree.specs.Environments.{value_bound};
 ghost use Rattle.ep_tree.specs.Values.{all_defined};
-ghost use Rattle.ep_tree.specs.Evaluation.{domain_values, end_value, evaluate, number_in, range_values, term_values, values_of};
+ghost use Rattle.ep_tree.specs.Evaluation.{domain_values, end_value, evaluate, index_list, number_in, range_values, term_values, values_of};
 ghost use Rattle.ep_tree.specs.Limits as limits;
 ghost use Rattle.ep_tree.specs.Limits.{is_too_far, limits_of_values};
 ghost use Rattle.ep_tree.specs.Measures as measures;
 ghost use Rattle.ep_tree.specs.Views as views;
-ghost use Rattle.ep_tree.specs.Views.{domain_tree, expr_tree, expr_trees, kind_tree, ranges_of, terms_of};
+ghost use Rattle.ep_tree.specs.Views.{domain_tree, expr_tree, expr_trees, indices_of, kind_tree, ranges_of, terms_of};
 ghost use Rattle.ep_eval.specs.Counting.{Counted, Evaluated, IsRefused, of_all};
 ghost use Rattle.ep_eval.specs.Gathering.{nothing_yet, with_more};
 ghost use Rattle.ep_eval.specs.Helds.{seen_held};
 ghost use Rattle.ep_eval.specs.Instances.{instance_nodes, instance_value, quantified_tree};
 ghost use Rattle.ep_eval.specs.Outcomes.{IsCause};
 ghost use Rattle.ep_eval.specs.Ranges.{alone, has_in, run_has, runs_have};
+ghost use Rattle.ep_eval.specs.Reading.{indices_in};
 ghost use Rattle.ep_eval.specs.Scopes.{env_in, mode_in};
 ghost use Rattle.ep_eval.specs.declared.errors.EvalError.TheVariants as error;
 ghost use Rattle.ep_base.specs.declared.operators.Limit.TheVariants as limit;
@@ -36,9 +37,11 @@ use super::numbers::{absolute, minus};
 use super::operands::flattened;
 use super::orders::{difference, lex_comparison, membership, within};
 use super::powers::factorial;
+use super::reads::{read, with_next};
 use super::scalars::scalar_of;
 use super::scopes::{Around, Scope, look_up};
 use super::totals::with_term;
+use super::typing::given_read;
 use super::walking::{next_number, walk_of};
 use ep_base::{CompareOp, Limit, Name, Run, Runs};
 use ep_tree::{Domain, DomainKind, Expr, Kind, Range};
@@ -249,6 +252,13 @@ fn kind_value<'a>(
                 &second,
             )
         }
+        Kind::Read(matrix, indices) => {
+            let seen = value_of(scope, met, matrix)?;
+            let values = index_values(scope, met, indices)?;
+            let found = read(scope.alloc, seen, values)?;
+            let given = given_read(scope, matrix, indices, found)?;
+            Ok(given)
+        }
         _ => Err(EvalError::Memory),
     }
 }
@@ -322,6 +332,29 @@ fn end_number(
         }
         None => Ok(None),
     }
+}
+
+/// The numbers of the indices of a read, where each that is stated has one; `..` has none.
+#[cycle(evaluating)]
+fn index_values(
+    scope: Scope<'_, '_>,
+    met: &mut u64,
+    indices: &[Option<Expr>],
+) -> Result<Option<Vec<Option<i64>>>, EvalError>
+    requires small { met.old ≤ limits.MOST_SIZE }
+    ensures counted { OnOk result (Counted (mode_in scope.entry) met.old met.new
+        (measures.met_indices (mode_in scope.entry) (env_in scope.entry) (indices_of indices.now))) }
+    ensures value { IfOk result (λ values. option_map (λ v. indices_in v.items) values
+        ≡ index_list (mode_in scope.entry) (env_in scope.entry) (indices_of indices.now)) }
+    ensures cause { IfErr result (IsCause (limits_of_values (mode_in scope.entry) met.old
+        (measures.met_indices (mode_in scope.entry) (env_in scope.entry) (indices_of indices.now)))) }
+{
+    let mut values = Some(Vec::new(scope.alloc));
+    for index in indices {
+        let number = end_number(scope, met, index)?;
+        values = with_next(values, index.is_some(), number)?;
+    }
+    Ok(values)
 }
 
 /// The numbers of a range.

@@ -17,11 +17,13 @@ mod numbers;
 mod operands;
 mod orders;
 mod powers;
+mod reads;
 mod scalars;
 mod scopes;
 #[cfg(test)]
 mod tests;
 mod totals;
+mod typing;
 mod walking;
 
 pub use environments::{Env, NamedDomain};

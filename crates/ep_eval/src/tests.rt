@@ -6,7 +6,7 @@ use crate::held::{Held, number_of};
 use crate::orders::{difference, lex_comparison, membership};
 use crate::{Env, EvalError, Seen, evaluate};
 use ep_base::{CompareOp, LexOp, Name, Place};
-use ep_tree::{BinaryOp, Expr, FoldOp, Kind, Mode, Value};
+use ep_tree::{BinaryOp, Domain, DomainKind, Expr, FoldOp, Kind, Mode, QuantOp, Range, Value};
 use std::alloc::{AllocError, Global};
 use std::test::Fail;
 
@@ -213,5 +213,64 @@ fn counts_of_another_length_have_no_value(rt: HostRuntime) -> Result<(), Fail> {
     let no_rows = list(alloc, &[])?;
     let row = look_up_row(alloc, Mode::Strict, &parts, &no_rows)?;
     assert_eq!(rt; number_of(&row), Some(0));
+    Ok(())
+}
+
+/// `op i, j : int(1..high) . j`, where no end stands for one without a value.
+fn quantifier(alloc: Global, op: QuantOp, high: Option<i64>) -> Result<Expr, EvalError> {
+    let mut names = Vec::new(alloc);
+    names.push(Name::new(alloc, "i")?)?;
+    names.push(Name::new(alloc, "j")?)?;
+    let end = match high {
+        Some(number) => placed(Kind::Number(number)),
+        None => placed(Kind::Named(Name::new(alloc, "y")?)),
+    };
+    let mut ranges = Vec::new(alloc);
+    ranges.push(Range::Span(Some(placed(Kind::Number(1))), Some(end)))?;
+    let place = Place { line: 1, column: 1 };
+    let kind = DomainKind::Ranges(ranges);
+    let domain = Box::new(alloc, Domain { place, kind })?;
+    let body = Box::new(alloc, placed(Kind::Named(Name::new(alloc, "j")?)))?;
+    Ok(placed(Kind::Quant(op, names, domain, body)))
+}
+
+/// Whether a quantifier has these values in the two modes.
+fn has_values(
+    alloc: Global,
+    op: QuantOp,
+    high: Option<i64>,
+    relational: Option<i64>,
+    strict: Option<i64>,
+) -> Result<bool, EvalError> {
+    let e = quantifier(alloc, op, high)?;
+    let one = worth(alloc, Mode::Relational, &e)?;
+    let other = worth(alloc, Mode::Strict, &e)?;
+    Ok(one == relational && other == strict)
+}
+
+#[test]
+fn quantifiers_join_their_instances(rt: HostRuntime) -> Result<(), Fail> {
+    let alloc = rt.alloc();
+    assert!(rt; has_values(alloc, QuantOp::Sum, Some(3), Some(18), Some(18))?);
+    assert!(rt; has_values(alloc, QuantOp::ForAll, Some(2), Some(0), Some(0))?);
+    assert!(rt; has_values(alloc, QuantOp::Exists, Some(2), Some(1), Some(1))?);
+    Ok(())
+}
+
+#[test]
+fn quantifiers_over_no_number_have_their_values(rt: HostRuntime) -> Result<(), Fail> {
+    let alloc = rt.alloc();
+    assert!(rt; has_values(alloc, QuantOp::ForAll, Some(0), Some(1), Some(1))?);
+    assert!(rt; has_values(alloc, QuantOp::Exists, Some(0), Some(0), Some(0))?);
+    assert!(rt; has_values(alloc, QuantOp::Sum, Some(0), Some(0), Some(0))?);
+    Ok(())
+}
+
+#[test]
+fn quantifiers_over_an_undefined_domain_differ_by_mode(rt: HostRuntime) -> Result<(), Fail> {
+    let alloc = rt.alloc();
+    assert!(rt; has_values(alloc, QuantOp::ForAll, None, Some(0), None)?);
+    assert!(rt; has_values(alloc, QuantOp::Exists, None, Some(0), None)?);
+    assert!(rt; has_values(alloc, QuantOp::Sum, None, None, None)?);
     Ok(())
 }

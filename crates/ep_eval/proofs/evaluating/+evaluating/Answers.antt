@@ -1,17 +1,20 @@
-use Rattle.std.proofs.Common.{refl, ◌≡◌, ◌+◌, ◌+ℤ◌, Bool, ◌∷◌, ℕ, List, drop, subst, [], ap, sym, ◌∙◌, arith, Some, w64, to_z, of_z, ◌++◌, length, ◌≤◌}
+use Rattle.std.proofs.Common.{refl, ◌≡◌, ◌+◌, ◌+ℤ◌, Bool, ◌∷◌, ℕ, List, drop, subst, [], ap, sym, ◌∙◌, arith, Some, w64, to_z, of_z, ◌++◌, length, ◌≤◌, Option, ℤ}
 use Rattle.std.specs.Prelude.{neg_ℤ, option_and_then, option_map, not, Contains, flat_map}
 use Rattle.ep_tree.specs.Limits.{limits_of_values}
 use Rattle.std.proofs.lemmas.Int.{to_z-of_z, ints}
 use Rattle.std.proofs.lemmas.Result.{err_from_is_err_and}
-use Rattle.ep_tree.proofs.EvaluationEquations.{evaluate-all_different, evaluate-at_least, evaluate-at_most, evaluate-factorial, evaluate-flatten, evaluate-gcc, evaluate-in_set, evaluate-lex, evaluate-table, evaluate-chain, evaluate-all_of, evaluate-any_of, evaluate-absolute, evaluate-binary, evaluate-minus, evaluate-named, evaluate-compare, evaluate-group, evaluate-negation, evaluate-number, evaluate-to_int, evaluate-truth}
-use Rattle.ep_tree.proofs.ViewLemmas.{kind_tree-in_domain, kind_tree-all_different, kind_tree-at_least, kind_tree-at_most, kind_tree-factorial, kind_tree-flatten, kind_tree-folded, kind_tree-gcc, kind_tree-in_set, kind_tree-lex, kind_tree-table, kind_tree-chain, kind_tree-all_of, kind_tree-any_of, kind_tree-absolute, kind_tree-binary, kind_tree-minus, kind_tree-named, kind_tree-compare, kind_tree-group, kind_tree-negation, kind_tree-number, kind_tree-to_int, kind_tree-truth, domain_kind_tree-bool, domain_kind_tree-group, domain_kind_tree-int, domain_kind_tree-named, domain_kind_tree-ranges}
-use Rattle.ep_tree.specs.Evaluation.{folded_value, on_both, on_three, rows_in, scalars_in, signed, binary_value, evaluate, map_both, number_in, number_value, truth_in, truth_of, domain_values, range_values}
+use Rattle.ep_tree.proofs.EvaluationEquations.{evaluate-all_different, evaluate-at_least, evaluate-at_most, evaluate-factorial, evaluate-flatten, evaluate-gcc, evaluate-in_set, evaluate-lex, evaluate-table, evaluate-chain, evaluate-all_of, evaluate-any_of, evaluate-absolute, evaluate-binary, evaluate-minus, evaluate-named, evaluate-compare, evaluate-group, evaluate-negation, evaluate-number, evaluate-to_int, evaluate-truth, evaluate-read}
+use Rattle.ep_tree.proofs.ViewLemmas.{kind_tree-in_domain, kind_tree-all_different, kind_tree-at_least, kind_tree-at_most, kind_tree-factorial, kind_tree-flatten, kind_tree-folded, kind_tree-gcc, kind_tree-in_set, kind_tree-lex, kind_tree-table, kind_tree-chain, kind_tree-all_of, kind_tree-any_of, kind_tree-absolute, kind_tree-binary, kind_tree-minus, kind_tree-named, kind_tree-compare, kind_tree-group, kind_tree-negation, kind_tree-number, kind_tree-to_int, kind_tree-truth, domain_kind_tree-bool, domain_kind_tree-group, domain_kind_tree-int, domain_kind_tree-named, domain_kind_tree-ranges, kind_tree-read}
+use Rattle.ep_tree.specs.Evaluation.{folded_value, on_both, on_three, rows_in, scalars_in, signed, binary_value, evaluate, map_both, number_in, number_value, truth_in, truth_of, domain_values, range_values, read_result, type_in}
 use Rattle.ep_base.specs.Numbers.{absolute_of, are_different, compare_holds, counts_hold, factorial_of, has_number, is_row_of, lex_holds}
 use Rattle.ep_base.specs.declared.operators.CompareOp.{CompareOp}
-use Rattle.ep_tree.specs.Measures.{met, met_all, met_terms, met_domain, met_end}
-use Rattle.ep_tree.specs.Trees.{all_different, at_least, at_most, factorial, flatten, gcc, in_set, lex, table, chain, absolute, all_of, any_of, binary, minus, named, compare, group, negation, number, to_int, truth, bool, group_domain, int, named_domain, ranges}
-use Rattle.ep_tree.specs.Values.{list_value, single}
-use Rattle.ep_tree.specs.Views.{expr_tree, expr_trees, kind_tree, terms_of, domain_kind_tree, domain_tree, ranges_of, end_of}
+use Rattle.ep_tree.specs.Measures.{met, met_all, met_terms, met_domain, met_end, met_indices}
+use Rattle.ep_tree.specs.Trees.{all_different, at_least, at_most, factorial, flatten, gcc, in_set, lex, table, chain, absolute, all_of, any_of, binary, minus, named, compare, group, negation, number, to_int, truth, bool, group_domain, int, named_domain, ranges, read}
+use Rattle.ep_tree.specs.Values.{list_value, single, read_value}
+use Rattle.ep_tree.specs.Views.{expr_tree, expr_trees, kind_tree, terms_of, domain_kind_tree, domain_tree, ranges_of, end_of, indices_of}
+use Rattle.ep_eval.specs.Reading.{indices_in, with_index}
+use Rattle.ep_eval.proofs.ReadResults.{meets_read}
+use Rattle.ep_eval.proofs.IndexSteps.{IndicesSoFar, in_option, indices_begin, indices_cause, indices_counted, indices_more, indices_value}
 use Rattle.ep_tree.specs.declared.syntax.Domain.{size-Domain}
 use Rattle.ep_tree.specs.Environments.{scalar_in, with_number}
 use Rattle.ep_eval.proofs.Depths.{first_within, quantifier_depth, second_within}
@@ -1471,3 +1474,91 @@ value_of-returns-in-Quant-clause-cause t c =
     (λ error h. subst (λ e. IsCause (limits_of_values (mode_in c.args.scope) c.args.met.now (met (mode_in c.args.scope) (env_in c.args.scope) e)) error)
     (sym (quantifier_tree p c.args.e.now c.in-Quant.op c.in-Quant.names c.in-Quant.domain c.in-Quant.body c.deref.result.now c.deref-in-Quant.result.now c.deref-in-Quant-2.result.now refl c.in-Quant.is
     c.deref.ensures c.deref-in-Quant.ensures c.deref-in-Quant-2.ensures.value)) (h p))
+
+pub index_values-loop-index-init : goal.index_values-loop-index-init
+index_values-loop-index-init t c =
+    subst (λ (l : List (Option ℤ)). IndicesSoFar (mode_in c.args.scope) (env_in c.args.scope) c.args.met.now c.args.met.now c.args.indices.now c.args.indices.now (Some l))
+    (sym c.new.ensures.items) (indices_begin (mode_in c.args.scope) (env_in c.args.scope) c.args.met.now c.args.indices.now c.requires.small)
+
+pub index_values-loop-index-preserved : goal.index_values-loop-index-preserved
+index_values-loop-index-preserved t c =
+    let all : List (Option Expr) = c.args.indices.now in
+    let k : ℕ = c.loop-index.index-index in
+    let index : Option Expr = c.index-item.result in
+    let cut : drop k all ≡ index ∷ drop (k + 1) all =
+    drop_more all k index c.loop-index-test.true ∙ ap (λ r. r ∷ drop (k + 1) all) (sym c.index-item.is) in
+    indices_more (mode_in c.args.scope) (env_in c.args.scope) c.args.met.now c.loop-index.met c.end_number.new.met all _ index (drop (k + 1) all) _ _ c.in_ok-number.number
+    c.loop-index.invariant cut c.in_ok-number.ensures.counted c.in_ok-number.ensures.value
+    (c.in_ok-values.ensures ∙ ap (λ b. with_index (option_map (λ v. v.items) c.loop-index.values) b c.in_ok-number.number) c.is_some.ensures)
+
+pub index_values-returns-in_err-number-clause-cause : goal.index_values-returns-in_err-number-clause-cause
+index_values-returns-in_err-number-clause-cause t c =
+    let all : List (Option Expr) = c.args.indices.now in
+    let k : ℕ = c.loop-index.index-index in
+    let index : Option Expr = c.index-item.result in
+    let cut : drop k all ≡ index ∷ drop (k + 1) all =
+    drop_more all k index c.loop-index-test.true ∙ ap (λ r. r ∷ drop (k + 1) all) (sym c.index-item.is) in
+    let p = err_from_is_err_and c.from_residual.result c.from_residual.ensures.1 in
+    rw (p.1, p.2)
+    (indices_cause (mode_in c.args.scope) (env_in c.args.scope) c.args.met.now c.loop-index.met all _ index (drop (k + 1) all) _ c.loop-index.invariant cut c.in_err-number.field-0.0 c.in_err-number.ensures.cause)
+
+pub index_values-returns-clause-counted : goal.index_values-returns-clause-counted
+index_values-returns-clause-counted t c =
+    indices_counted (mode_in c.args.scope) (env_in c.args.scope) c.args.met.now c.loop-index.met c.args.indices.now _ _ c.loop-index.invariant
+    (drop_all c.loop-index.index-index c.args.indices.now c.loop-index-test.false)
+
+pub index_values-returns-clause-value : goal.index_values-returns-clause-value
+index_values-returns-clause-value t c =
+    in_option c.loop-index.values
+    ∙ indices_value (mode_in c.args.scope) (env_in c.args.scope) c.args.met.now c.loop-index.met c.args.indices.now _ (option_map (λ v. v.items) c.loop-index.values) c.loop-index.invariant
+    (drop_all c.loop-index.index-index c.args.indices.now c.loop-index-test.false)
+
+pub kind_value-returns-in_ok-given-in-Read-clause-value : goal.kind_value-returns-in_ok-given-in-Read-clause-value
+kind_value-returns-in_ok-given-in-Read-clause-value t c =
+    let mode = mode_in c.args.scope in
+    let env = env_in c.args.scope in
+    let m = expr_tree c.deref-in-Read.result.now in
+    let is = indices_of c.deref-in-Read-2.result.now in
+    let values = c.in_ok-values-in-Read.values in
+    form_value mode env (met mode env m ++ met_indices mode env is) c.args.met.now c.index_values.new.met (seen_held c.in_ok-given-in-Read.given) (λ q. read q m is) c.args.kind.now
+    (λ q. ap (kind_tree q) c.in-Read.is ∙ kind_tree-read q c.in-Read.matrix c.in-Read.indices
+    ∙ ap (λ x. read q (expr_tree x) (indices_of c.in-Read.indices.items)) (sym c.deref-in-Read.ensures) ∙ ap (λ l. read q m (indices_of l)) (sym c.deref-in-Read-2.ensures.value))
+    (λ q. meets_read mode env q m is)
+    (counted_append mode c.args.met.now c.value_of-in-Read.new.met c.index_values.new.met (met mode env m) (met_indices mode env is)
+    c.in_ok-seen-in-Read.ensures.counted c.in_ok-values-in-Read.ensures.counted)
+    (λ q. evaluate-read mode env q m is
+    ∙ ap (λ o. read_result mode (type_in env (read q m is)) (on_both o (evaluate mode env m) read_value)) (sym c.in_ok-values-in-Read.ensures.value)
+    ∙ ap (λ s. read_result mode (type_in env (read q m is)) (on_both (option_map (λ v. indices_in v.items) values) s read_value)) c.in_ok-seen-in-Read.ensures.value
+    ∙ ap (read_result mode (type_in env (read q m is))) (sym c.in_ok-found-in-Read.ensures)
+    ∙ ap (λ x. read_result mode (type_in env (read q (expr_tree x) is)) (seen_held c.in_ok-found-in-Read.found)) (c.deref-in-Read.ensures ∙ sym c.deref-in-Read-3.ensures)
+    ∙ ap (λ l. read_result mode (type_in env (read q (expr_tree c.deref-in-Read-3.result.now) (indices_of l))) (seen_held c.in_ok-found-in-Read.found))
+    (c.deref-in-Read-2.ensures.value ∙ sym c.deref-in-Read-4.ensures.value)
+    ∙ sym (c.in_ok-given-in-Read.ensures q))
+
+pub kind_value-returns-in_err-seen-in-Read-clause-cause : goal.kind_value-returns-in_err-seen-in-Read-clause-cause
+kind_value-returns-in_err-seen-in-Read-clause-cause t c =
+    let mode = mode_in c.args.scope in
+    let env = env_in c.args.scope in
+    let m = expr_tree c.deref-in-Read.result.now in
+    let is = indices_of c.in-Read.indices.items in
+    let r = err_from_is_err_and c.from_residual-in_err-seen-in-Read.result c.from_residual-in_err-seen-in-Read.ensures.1 in
+    rw (r.1, r.2)
+    (form_cause mode env (met mode env m ++ met_indices mode env is) c.args.met.now (λ q. read q m is) c.args.kind.now
+    (λ q. ap (kind_tree q) c.in-Read.is ∙ kind_tree-read q c.in-Read.matrix c.in-Read.indices ∙ ap (λ x. read q (expr_tree x) is) (sym c.deref-in-Read.ensures))
+    (λ q. meets_read mode env q m is) c.in_err-seen-in-Read.field-0.0
+    (cause_first mode c.args.met.now (met mode env m) (met_indices mode env is) c.in_err-seen-in-Read.field-0.0 c.in_err-seen-in-Read.ensures.cause))
+
+pub kind_value-returns-in_err-values-in-Read-clause-cause : goal.kind_value-returns-in_err-values-in-Read-clause-cause
+kind_value-returns-in_err-values-in-Read-clause-cause t c =
+    let mode = mode_in c.args.scope in
+    let env = env_in c.args.scope in
+    let m = expr_tree c.deref-in-Read.result.now in
+    let is = indices_of c.deref-in-Read-2.result.now in
+    let r = err_from_is_err_and c.from_residual-in_err-values-in-Read.result c.from_residual-in_err-values-in-Read.ensures.1 in
+    rw (r.1, r.2)
+    (form_cause mode env (met mode env m ++ met_indices mode env is) c.args.met.now (λ q. read q m is) c.args.kind.now
+    (λ q. ap (kind_tree q) c.in-Read.is ∙ kind_tree-read q c.in-Read.matrix c.in-Read.indices
+    ∙ ap (λ x. read q (expr_tree x) (indices_of c.in-Read.indices.items)) (sym c.deref-in-Read.ensures) ∙ ap (λ l. read q m (indices_of l)) (sym c.deref-in-Read-2.ensures.value))
+    (λ q. meets_read mode env q m is) c.in_err-values-in-Read.field-0.0
+    (cause_then mode c.args.met.now c.value_of-in-Read.new.met (met mode env m) (met_indices mode env is) c.in_err-values-in-Read.field-0.0
+    c.in_ok-seen-in-Read.ensures.counted c.in_err-values-in-Read.ensures.cause))

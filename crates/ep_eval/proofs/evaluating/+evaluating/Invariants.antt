@@ -1,5 +1,6 @@
 use Rattle.std.proofs.Common.{◌+◌, ◌*◌, drop, length, option_map}
 use Rattle.ep_base.specs.declared.places.Place.{Place}
+use Rattle.ep_eval.proofs.IndexSteps.{IndicesSoFar}
 use Rattle.ep_eval.proofs.Instances.{Gathering}
 use Rattle.ep_eval.proofs.PartSteps.{TruthsSoFar}
 use Rattle.ep_eval.proofs.RangeNumbers.{RunsSoFar}
@@ -64,3 +65,10 @@ decreases-over_domain l = depth_of l.quantifier * 73786976294838206464 + (3 * le
 
 abbrev pub decreases-instances : goal.decreases-instances
 decreases-instances l = depth_of l.quantifier * 73786976294838206464 + (3 * length l.rest.now + 9000000000000000002)
+
+abbrev pub decreases-index_values : goal.decreases-index_values
+decreases-index_values l = goal.size-index_values l * 73786976294838206464 + 9000000000000000002
+
+abbrev pub invariant-index_values-loop-index : goal.invariant-index_values-loop-index
+invariant-index_values-loop-index l =
+    IndicesSoFar (mode_in l.scope) (env_in l.scope) l.fn.met l.met l.indices (drop l.index-index l.indices) (option_map (λ v. v.items) l.values)

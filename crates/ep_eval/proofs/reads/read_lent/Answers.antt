@@ -1,0 +1,16 @@
+use Rattle.std.proofs.Common.{ap, sym, ◌∙◌, arith}
+use Rattle.std.specs.Prelude.{option_and_then}
+use Rattle.ep_tree.specs.Values.{read_value}
+use Rattle.ep_tree.specs.Views.{value_tree}
+use Rattle.ep_eval.proofs.ReadSteps.{read_none}
+use Rattle.ep_eval.proofs.WalkSteps.{no_runs}
+use Rattle.ep_eval.specs.Helds.{held_value}
+use Rattle.ep_eval.specs.Reading.{indices_in}
+use Rattle.ep_eval.proofs.reads.read_lent.Goals as goal
+
+pub returns-then-rest-eq0 : goal.returns-then-rest-eq0
+unfolding held_value
+returns-then-rest-eq0 c =
+    sym (c.descend.ensures
+    ∙ ap (option_and_then (λ found. read_value (indices_in found.1.now) (value_tree found.0.now))) c.in-Some.is
+    ∙ read_none c.in-Some.rest.now (value_tree c.in-Some.part.now) (no_runs c.in-Some.rest.now (omega (arith, c.if-rest-eq0.true))))
