@@ -114,11 +114,6 @@ pub capped-product : (m n : ℕ) → capped (capped m * capped n) ≡ capped (m 
 unfolding capped
 capped-product m n = capped-times 1000001 m n
 
--- a count cut off twice
-pub capped-twice : (n : ℕ) → capped (capped n) ≡ capped n
-unfolding capped
-capped-twice n = omega arith
-
 -- one factor more of a power
 pub capped-factor : (base k : ℕ) → base ≤ 1000001 → capped (capped (base ^ k) * base) ≡ capped (base ^ (k + 1))
 unfolding capped

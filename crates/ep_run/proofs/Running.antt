@@ -1,5 +1,5 @@
 -- From what the steps of a run tell to what the run tells.
-use Rattle.std.proofs.Common.{◌≡◌, ℕ, ◌⊎◌, List, [], ◌∷◌, ◌++◌, map, Option, Some, None, Ok, Err, Result, IfOk, Contains, inl, refl, sym, ap, subst, ◌∙◌}
+use Rattle.std.proofs.Common.{◌≡◌, ℕ, ◌⊎◌, List, [], ◌∷◌, ◌++◌, map, Option, Some, None, Ok, Err, Result, IfOk, Contains, refl, sym, ap, subst, ◌∙◌}
 use Rattle.std.specs.declared.alloc.Global.{Global}
 use Rattle.std.specs.declared.vec.Vec.{Vec}
 use Rattle.std.proofs.lemmas.List.{append-nil}
@@ -24,21 +24,16 @@ use Rattle.ep_tree.specs.declared.values.Mode.{Mode}
 use Rattle.ep_run.specs.Answers.{Answers, IsRight, wrong_shape_text}
 use Rattle.ep_run.specs.Outcomes.{Outcome, Task, as_outcome, bind_refusal, bind_refusals, bound_outcome, count_refusals, fault_refusals, instance_of, judge_outcome, solve_outcome, to_judge, to_solve, verify_outcome}
 use Rattle.ep_run.specs.Status.{status_of}
-use Rattle.ep_run.specs.Steps.{EndsAs, IsAmong, IsJudged, IsNotThere, IsUnreadStop, Passes, Says, Tells, TellsBytes, TellsParams, TellsRead, TellsReply, TellsRun, TellsShape, TellsTask, TellsWanted, shape_outcome}
+use Rattle.ep_run.specs.Steps.{IsAmong, IsJudged, IsNotThere, IsUnreadStop, Passes, Says, Tells, TellsBytes, TellsParams, TellsReply, TellsRun, TellsShape, TellsTask, shape_outcome}
 use Rattle.ep_run.specs.Stops.{bind_stop}
 use Rattle.ep_run.specs.declared.replies.Reply.{Reply}
 use Rattle.ep_run.specs.declared.status.Status.{Status}
 use Rattle.ep_run.specs.declared.stops.Stop.{Stop}
-use Rattle.ep_run.specs.declared.wanted.Wanted.{Wanted}
 use Rattle.ep_run.proofs.Binding.{bind-stopped}
 use Rattle.ep_run.proofs.Saying.{said-refusal}
 use Rattle.ep_run.proofs.Tasks.{AreAllFaultless, AreFaultless, bound-refused, is-judge, is-solve, is-verify, limits-refused, shape-refused, solve-count, solve-instance, solve-model, solve-params, task-ends, verify-instance, verify-model, verify-params, verify-solution}
 
 -- ---- words
-
-pub wanted-stopped : (words : List (List ℕ)) (told : Option Held) (rose : Type 0) (stop : Stop) → TellsWanted words (Err stop) → TellsRun words told rose (Err stop)
-wanted-stopped words told rose (Stop.Refused r) h = inl h
-wanted-stopped words told rose Stop.Memory h = tt
 
 pub refused-said : (words : List (List ℕ)) (told : Option Held) (rose : Type 0) (r : Refusal) (result : Result Reply Memory)
     → IfOk result (λ reply. reply.status ≡ status_of r) → IfOk result (λ reply. reply.text.items ≡ refusal_text r)
@@ -47,31 +42,12 @@ pub refused-said : (words : List (List ℕ)) (told : Option Held) (rose : Type 0
 refused-said words told rose r (Ok reply) s t h = said-refusal words told rose r reply.status reply.text.items s t h
 refused-said words told rose r (Err e) s t h = tt
 
--- ---- ends
-
-pub solve-ends : (model : List ℕ) (params : Option (List ℕ)) (result : Result Reply Stop) → IfOk result (λ reply. reply.status ≡ Status.Answered) → EndsAs (Wanted.Solve model params) result
-solve-ends model params (Ok reply) h = h
-solve-ends model params (Err stop) h = tt
-
-pub verify-ends : (model : List ℕ) (params : Option (List ℕ)) (solution : List ℕ) (result : Result Reply Stop) → IfOk result (λ reply. (reply.status ≡ Status.Answered) ⊎ (reply.status ≡ Status.Refuted)) → EndsAs (Wanted.Verify model params solution) result
-verify-ends model params solution (Ok reply) h = h
-verify-ends model params solution (Err stop) h = tt
-
-pub stopped-ends : (wanted : Wanted) (stop : Stop) → EndsAs wanted (Err stop)
-stopped-ends wanted stop = tt
-
 -- ---- faults that rose
 
 pub rose-from : (old now new : ℕ) → now ≡ old → Rose now new → Rose old new
 rose-from old now new e h = let P : ℕ → Type 0 = λ x. Rose x new in subst P e h
 
 -- ---- reading
-
-pub named-read : (view : Params → TextTree) (told : Option Held) (name : List ℕ) (rose : Type 0) (result : Result Params Stop)
-    → TellsRead params_tree told TextFile.Params name rose result → TellsParams told (Some name) rose result
-named-read view told name rose (Ok params) h = h
-named-read view told name rose (Err (Stop.Refused r)) h = (name, refl, h)
-named-read view told name rose (Err Stop.Memory) h = tt
 
 pub none-read : (told : Option Held) (rose : Type 0) (params : Params) → params_tree params ≡ [] → TellsParams told None rose (Ok params)
 none-read None rose params e = tt

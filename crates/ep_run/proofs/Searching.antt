@@ -190,28 +190,8 @@ right-optimum i a sense e count n value closed counted stated top same =
 
 -- ---- one assignment more
 
-pub none-yet : (i : Instance) → NoneSolves i 0
-none-yet i = λ n below. absurd (omega (arith, below))
-
-pub none-more : (i : Instance) (number : ℕ) → NoneSolves i number → solves (judgement_at i number) ≡ false → NoneSolves i (number + 1)
-none-more i number none here = below_more (λ n. solves (judgement_at i n) ≡ false) number none here
-
 abbrev Unbeaten : Instance → Sense → ℤ → ℕ → Type 0
 Unbeaten i sense value n = (x : ℤ) → objective_of (judgement_at i n) ≡ Some x → better_number sense x value ≡ false
-
-pub best-yet : (i : Instance) (sense : Sense) → IsBest i sense 0 None
-best-yet i sense = λ n below x h. omega (arith, below)
-
--- an assignment without an objective changes nothing
-pub best-kept : (i : Instance) (sense : Sense) (number : ℕ) (best : Option (ℤ × ℕ)) → IsBest i sense number best → objective_of (judgement_at i number) ≡ None → IsBest i sense (number + 1) best
-best-kept i sense number None best none =
-    below_more (λ n. (x : ℤ) → objective_of (judgement_at i n) ≡ Some x → ⊥) number best
-    (λ x h. let no : None ≡ Some x = sym none ∙ h in cc)
-best-kept i sense number (Some held) best none = (
-  omega (arith, best.0),
-  best.1,
-  below_more (Unbeaten i sense held.0) number best.2 (λ x h. let no : None ≡ Some x = sym none ∙ h in absurd cc),
-)
 
 not-less : (a b : ℤ) (t : Bool) → int_lt a b ≡ t → b ≤ℤ a → t ≡ false
 not-less a b true e h = absurd (omega (arith, ints, h, e))
@@ -256,15 +236,6 @@ best-replaced i sense number held value best here better = (
   below_more (Unbeaten i sense value) number
       (λ n below x h. still-unbeaten sense x held.0 value (best.2 n below x h) better)
       (itself-unbeaten i sense number value here),
-)
-
--- an objective that isn't better changes nothing
-pub best-stays : (i : Instance) (sense : Sense) (number : ℕ) (held : ℤ × ℕ) (value : ℤ) → IsBest i sense number (Some held) → objective_of (judgement_at i number) ≡ Some value → better_number sense value held.0 ≡ false → IsBest i sense (number + 1) (Some held)
-best-stays i sense number held value best here worse = (
-  omega (arith, best.0),
-  best.1,
-  below_more (Unbeaten i sense held.0) number best.2
-      (λ x h. ap (λ t. better_number sense t held.0) (same-objective (objective_of (judgement_at i number)) x value here h) ∙ worse),
 )
 
 -- ---- what is judged
