@@ -94,17 +94,17 @@ taken other (took x ls) = x
 taken other (wrong ls) = other
 taken other (high ls) = other
 
-whole_again : (most : ℕ) (e : ExprTree) (ls : List Lexeme) → Spells implications e ls → height e ≤ most → expr_from most implications ls ≡ took e []
+pub whole_again : (most : ℕ) (e : ExprTree) (ls : List Lexeme) → Spells implications e ls → height e ≤ most → expr_from most implications ls ≡ took e []
 unfolding rank
 whole_again most e ls h low =
     ap (expr_from most implications) (sym (append-nil ls))
     ∙ (all_complete most).expr implications refl e ls [] h low (record { ends = nothing_follows; open_ends = λ _. nothing_follows })
 
-domain_again : (most : ℕ) (d : DomainTree) (ls : List Lexeme) → SpellsDomain domains d ls → domain_height d ≤ most → some_domain_from most domains ls ≡ took d []
+pub domain_again : (most : ℕ) (d : DomainTree) (ls : List Lexeme) → SpellsDomain domains d ls → domain_height d ≤ most → some_domain_from most domains ls ≡ took d []
 domain_again most d ls h low =
     ap (some_domain_from most domains) (sym (append-nil ls)) ∙ (all_complete most).domain domains d ls [] h low nothing_follows_domain
 
-zero_least : (n : ℕ) → nat_le 0 n ≡ true
+pub zero_least : (n : ℕ) → nat_le 0 n ≡ true
 zero_least n = grind (arith, nat_tests)
 
 -- Some tokens spell one expression at most.

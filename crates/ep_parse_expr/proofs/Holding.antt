@@ -168,7 +168,7 @@ module _ {A : Type 0} (word_of : A → List ℕ) where
   looked_up-sound (entry ∷ entries) h w x e =
       here_or (bytes_eq entry.0 w) w entry.0 entry.1 x (looked_up entries w) e (λ k. (bytes_eq-Decides entry.0 w).0 k) h.0 (looked_up-sound entries h.1 w x)
 
-  meant_by-sound : (entries : List (List ℕ × A)) → AreWordsOf word_of entries → (s : Saying) (x : A) → meant_by entries s ≡ Some x → s ≡ a_word (word_of x)
+  pub meant_by-sound : (entries : List (List ℕ × A)) → AreWordsOf word_of entries → (s : Saying) (x : A) → meant_by entries s ≡ Some x → s ≡ a_word (word_of x)
   meant_by-sound entries h (a_word w) x e = ap a_word (looked_up-sound entries h w x e)
   meant_by-sound entries h (a_name y) x e = absurd cc
   meant_by-sound entries h (a_number n) x e = absurd cc

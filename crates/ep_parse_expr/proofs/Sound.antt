@@ -26,29 +26,29 @@ below m n e = grind (arith, nat_tests)
 
 -- ---- the words of domains
 
-abbrev domain_word : DomainOpening → List ℕ
+abbrev pub domain_word : DomainOpening → List ℕ
 domain_word a_bool = codes "bool"
 domain_word an_int = codes "int"
 domain_word a_domain_group = codes "("
 
-are_domain_openings : AreWordsOf domain_word domain_openings
+pub are_domain_openings : AreWordsOf domain_word domain_openings
 are_domain_openings = (refl, (refl, (refl, tt)))
 
-abbrev set_bytes : SetOp → List ℕ
+abbrev pub set_bytes : SetOp → List ℕ
 set_bytes op = codes (set_word op)
 
-are_operations : AreWordsOf set_bytes set_words
+pub are_operations : AreWordsOf set_bytes set_words
 unfolding set_word
 are_operations = (refl, (refl, (refl, tt)))
 
 -- ---- ranges
 
 -- a range
-abbrev SpellsRange : RangeRead → Phrase
+abbrev pub SpellsRange : RangeRead → Phrase
 SpellsRange (of_number e) = Spells implications e
 SpellsRange (of_span a b) = SpellsEnd a followed_by Says ".." followed_by SpellsEnd b
 
-abbrev range_high : RangeRead → ℕ
+abbrev pub range_high : RangeRead → ℕ
 range_high (of_number e) = height e
 range_high (of_span a b) = max (end_height a) (end_height b)
 
@@ -76,7 +76,7 @@ ranges_high less (of_number e) rs h k = max-le h k
 ranges_high less (of_span a b) rs h k = max-le h k
 
 module _ (less : ℕ) (low : Lower) (good : AreSound less low) where
-  abbrev IsRange : List Lexeme → RangeRead → List Lexeme → Type 0
+  abbrev pub IsRange : List Lexeme → RangeRead → List Lexeme → Type 0
   IsRange ls r rest = Takes (SpellsRange r) ls rest × (range_high r ≤ less)
 
   end_sound : (ls : List Lexeme) (first : End) (from : List Lexeme) → Takes (SpellsEnd first) ls from → end_height first ≤ less → says (codes "..") from ≡ true
@@ -96,7 +96,7 @@ module _ (less : ℕ) (low : Lower) (good : AreSound less low) where
         max-le small (omega arith),
       ))
 
-  range_sound : (ls : List Lexeme) → Holds (IsRange ls) (range_from low ls)
+  pub range_sound : (ls : List Lexeme) → Holds (IsRange ls) (range_from low ls)
   unfolding range_from SpellsDomainNode height
   range_sound ls =
       holds_chosen (IsRange ls) (says (codes "..") ls) _ _ ls
@@ -160,14 +160,14 @@ module _ (less : ℕ) (low : Lower) (good : AreSound less low) where
     domain_begun_sound b (a_number n) said = holds_wrong IsPartDomain (l ∷ ls)
     domain_begun_sound b (a_word w) said = domain_open_sound b (looked_up domain_openings w) (λ what e. said ∙ ap a_word (looked_up-sound domain_word domain_openings are_domain_openings w what e))
 
-  domain_part_sound : (b : Bool) (ls : List Lexeme) → Holds (IsDomain set_parts (suc less) ls) (domain_part_from b low ls)
+  pub domain_part_sound : (b : Bool) (ls : List Lexeme) → Holds (IsDomain set_parts (suc less) ls) (domain_part_from b low ls)
   unfolding domain_part_from
   domain_part_sound b [] = holds_wrong (IsDomain set_parts (suc less) []) []
   domain_part_sound b (l ∷ ls) = domain_begun_sound l ls b l.saying refl
 
   -- ---- operations of sets
 
-  operation_step : (ls : List Lexeme) (left : DomainTree) (from : List Lexeme) → IsDomain set_operations (suc less) ls left from
+  pub operation_step : (ls : List Lexeme) (left : DomainTree) (from : List Lexeme) → IsDomain set_operations (suc less) ls left from
       → HoldsIf (IsDomain set_operations (suc less) ls) (another_operation (suc less) low left from)
   unfolding another_operation SpellsDomainNode own_domain_level domain_rank place_of_domain height
   operation_step ls left from q =
@@ -181,7 +181,7 @@ module _ (less : ℕ) (low : Lower) (good : AreSound less low) where
       (λ front k. k) refl
       (let high : max (domain_height left) (domain_height d) ≤ less = max-le (below (domain_height left) less lt) h.low in omega (arith, high))))))
 
-  operations_sound : (ls : List Lexeme) → Holds (IsDomain set_operations (suc less) ls) (operations_from (suc less) low ls)
+  pub operations_sound : (ls : List Lexeme) → Holds (IsDomain set_operations (suc less) ls) (operations_from (suc less) low ls)
   unfolding operations_from domain_rank
   operations_sound ls =
       holds_then (IsDomain set_parts (suc less) ls) (IsDomain set_operations (suc less) ls) (domain_part_from (nat_lt 1 (suc less)) low ls) _ (domain_part_sound (nat_lt 1 (suc less)) ls)
@@ -190,10 +190,10 @@ module _ (less : ℕ) (low : Lower) (good : AreSound less low) where
   -- ---- matrix domains
 
   -- what stands in the head of a matrix domain behind its first word
-  abbrev HeadRest : Phrase
+  abbrev pub HeadRest : Phrase
   HeadRest = Says "indexed" followed_by Says "by" followed_by Says "["
 
-  head_sound : (ls : List Lexeme) → Holds (λ p rest. Takes HeadRest ls rest) (matrix_head_from ls)
+  pub head_sound : (ls : List Lexeme) → Holds (λ p rest. Takes HeadRest ls rest) (matrix_head_from ls)
   unfolding matrix_head_from
   head_sound ls =
       let Q : Place → List Lexeme → Type 0 = λ p rest. Takes HeadRest ls rest in
@@ -202,10 +202,10 @@ module _ (less : ℕ) (low : Lower) (good : AreSound less low) where
       (λ p bracket two. holds_as (λ p rest. Takes (Says "[") bracket rest) Q (word_from (codes "[") bracket) (word_sound (codes "[") bracket)
       (λ p rest three. takes_then (Says "indexed") (Says "by" followed_by Says "[") ls by rest one (takes_then (Says "by") (Says "[") by bracket rest two three))))
 
-  abbrev IsIndexDomain : List Lexeme → DomainTree → List Lexeme → Type 0
+  abbrev pub IsIndexDomain : List Lexeme → DomainTree → List Lexeme → Type 0
   IsIndexDomain ls d rest = Takes (BetweenDomains followed_by SpellsDomain set_operations d) ls rest × (domain_height d ≤ less)
 
-  index_behind_sound : (ls : List Lexeme) → (says (codes ",") ls || matrix_follows ls) ≡ true → Holds (IsIndexDomain ls) (index_domain_behind low ls)
+  pub index_behind_sound : (ls : List Lexeme) → (says (codes ",") ls || matrix_follows ls) ≡ true → Holds (IsIndexDomain ls) (index_domain_behind low ls)
   unfolding index_domain_behind matrix_follows
   index_behind_sound ls goes =
       holds_chosen (IsIndexDomain ls) (says (codes ",") ls) _ _ ls

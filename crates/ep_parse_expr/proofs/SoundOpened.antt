@@ -52,7 +52,7 @@ are_openings = (refl, (refl, (refl, (refl, (refl, (refl, (refl, (refl, (refl, (r
 
 -- ---- functions
 
-one_node : (what : OnePart) (p : Place) (e : ExprTree) (front : List Lexeme) → Call1 (one_word what) (Spells implications e) front → SpellsNode (one_part what p e) front
+pub one_node : (what : OnePart) (p : Place) (e : ExprTree) (front : List Lexeme) → Call1 (one_word what) (Spells implications e) front → SpellsNode (one_part what p e) front
 unfolding SpellsNode
 one_node to_int_of p e front h = h
 one_node factorial_of p e front h = h
@@ -60,7 +60,7 @@ one_node flatten_of p e front h = h
 one_node (folded_by op) p e front h = h
 one_node all_different_in p e front h = h
 
-one_place : (what : OnePart) (p : Place) (e : ExprTree) → place_of (one_part what p e) ≡ p
+pub one_place : (what : OnePart) (p : Place) (e : ExprTree) → place_of (one_part what p e) ≡ p
 unfolding place_of
 one_place to_int_of p e = refl
 one_place factorial_of p e = refl
@@ -68,7 +68,7 @@ one_place flatten_of p e = refl
 one_place (folded_by op) p e = refl
 one_place all_different_in p e = refl
 
-one_own : (what : OnePart) (p : Place) (e : ExprTree) → nat_le (rank unaries) (rank (own_level (one_part what p e))) ≡ true
+pub one_own : (what : OnePart) (p : Place) (e : ExprTree) → nat_le (rank unaries) (rank (own_level (one_part what p e))) ≡ true
 unfolding own_level rank
 one_own to_int_of p e = refl
 one_own factorial_of p e = refl
@@ -76,7 +76,7 @@ one_own flatten_of p e = refl
 one_own (folded_by op) p e = refl
 one_own all_different_in p e = refl
 
-one_height : (less : ℕ) (what : OnePart) (p : Place) (e : ExprTree) → height e ≤ less → height (one_part what p e) ≤ suc less
+pub one_height : (less : ℕ) (what : OnePart) (p : Place) (e : ExprTree) → height e ≤ less → height (one_part what p e) ≤ suc less
 unfolding height
 one_height less to_int_of p e h = omega (arith, h)
 one_height less factorial_of p e h = omega (arith, h)
@@ -84,25 +84,25 @@ one_height less flatten_of p e h = omega (arith, h)
 one_height less (folded_by op) p e h = omega (arith, h)
 one_height less all_different_in p e h = omega (arith, h)
 
-three_node : (what : ThreeParts) (p : Place) (a b c : ExprTree) (front : List Lexeme) → Call3 (three_word what) (Spells implications a) (Spells implications b) (Spells implications c) front → SpellsNode (three_parts what p a b c) front
+pub three_node : (what : ThreeParts) (p : Place) (a b c : ExprTree) (front : List Lexeme) → Call3 (three_word what) (Spells implications a) (Spells implications b) (Spells implications c) front → SpellsNode (three_parts what p a b c) front
 unfolding SpellsNode
 three_node counts_in p a b c front h = h
 three_node counts_at_least p a b c front h = h
 three_node counts_at_most p a b c front h = h
 
-three_place : (what : ThreeParts) (p : Place) (a b c : ExprTree) → place_of (three_parts what p a b c) ≡ p
+pub three_place : (what : ThreeParts) (p : Place) (a b c : ExprTree) → place_of (three_parts what p a b c) ≡ p
 unfolding place_of
 three_place counts_in p a b c = refl
 three_place counts_at_least p a b c = refl
 three_place counts_at_most p a b c = refl
 
-three_own : (what : ThreeParts) (p : Place) (a b c : ExprTree) → nat_le (rank unaries) (rank (own_level (three_parts what p a b c))) ≡ true
+pub three_own : (what : ThreeParts) (p : Place) (a b c : ExprTree) → nat_le (rank unaries) (rank (own_level (three_parts what p a b c))) ≡ true
 unfolding own_level rank
 three_own counts_in p a b c = refl
 three_own counts_at_least p a b c = refl
 three_own counts_at_most p a b c = refl
 
-three_height : (less : ℕ) (what : ThreeParts) (p : Place) (a b c : ExprTree) → height a ≤ less → height b ≤ less → height c ≤ less → height (three_parts what p a b c) ≤ suc less
+pub three_height : (less : ℕ) (what : ThreeParts) (p : Place) (a b c : ExprTree) → height a ≤ less → height b ≤ less → height c ≤ less → height (three_parts what p a b c) ≤ suc less
 unfolding height
 three_height less counts_in p a b c h k l = let m = max-le h (max-le k l) in omega (arith, m)
 three_height less counts_at_least p a b c h k l = let m = max-le h (max-le k l) in omega (arith, m)

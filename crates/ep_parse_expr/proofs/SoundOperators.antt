@@ -23,43 +23,43 @@ below m n e = grind (arith, nat_tests)
 
 -- ---- the words of operators
 
-abbrev binary_bytes : BinaryOp → List ℕ
+abbrev pub binary_bytes : BinaryOp → List ℕ
 binary_bytes op = codes (binary_word op)
 
 -- an operator that stands between two parts of a level
-abbrev IsOf : Level → BinaryOp → Type 0
+abbrev pub IsOf : Level → BinaryOp → Type 0
 IsOf own op = (binary_level op ≡ own) × (is_called op ≡ false)
 
-are_powers : AreWordsOf binary_bytes power_words × AllEntries (IsOf powers) power_words
+pub are_powers : AreWordsOf binary_bytes power_words × AllEntries (IsOf powers) power_words
 unfolding binary_word binary_level is_called
 are_powers = ((refl, tt), ((refl, refl), tt))
 
-are_products : AreWordsOf binary_bytes product_words × AllEntries (IsOf products) product_words
+pub are_products : AreWordsOf binary_bytes product_words × AllEntries (IsOf products) product_words
 unfolding binary_word binary_level is_called
 are_products = ((refl, (refl, (refl, tt))), ((refl, refl), ((refl, refl), ((refl, refl), tt))))
 
-are_implications : AreWordsOf binary_bytes implication_words × AllEntries (IsOf implications) implication_words
+pub are_implications : AreWordsOf binary_bytes implication_words × AllEntries (IsOf implications) implication_words
 unfolding binary_word binary_level is_called
 are_implications = ((refl, (refl, tt)), ((refl, refl), ((refl, refl), tt)))
 
-abbrev sign_bytes : Bool → List ℕ
+abbrev pub sign_bytes : Bool → List ℕ
 sign_bytes plus = codes (sign_word plus)
 
-are_signs : AreWordsOf sign_bytes sign_words
+pub are_signs : AreWordsOf sign_bytes sign_words
 unfolding sign_word
 are_signs = (refl, (refl, tt))
 
-abbrev comparison_bytes : Comparison → List ℕ
+abbrev pub comparison_bytes : Comparison → List ℕ
 comparison_bytes (of_numbers op) = codes (compare_word op)
 comparison_bytes (of_lists op) = codes (lex_word op)
 comparison_bytes of_set = codes "in"
 
-are_comparisons : AreWordsOf comparison_bytes comparison_words
+pub are_comparisons : AreWordsOf comparison_bytes comparison_words
 unfolding compare_word lex_word
 are_comparisons = (refl, (refl, (refl, (refl, (refl, (refl, (refl, (refl, (refl, (refl, (refl, tt)))))))))))
 
 -- what with_operator tells
-operator_sound : {A : Type 0} (words : List (List ℕ × A)) (left : ExprTree) (ls next : List Lexeme) → with_operator words left ls ≡ Some next → (not (ends_open left) ≡ true) × (next ≡ ls)
+pub operator_sound : {A : Type 0} (words : List (List ℕ × A)) (left : ExprTree) (ls next : List Lexeme) → with_operator words left ls ≡ Some next → (not (ends_open left) ≡ true) × (next ≡ ls)
 operator_sound words left ls next e =
     let k = kept-sound (not (ends_open left) && is_there (next_in words ls)) ls next e in
     ((and_parts (not (ends_open left)) (is_there (next_in words ls)) k.0).0, k.1)
@@ -67,7 +67,7 @@ operator_sound words left ls next e =
 module _ (less : ℕ) (low : Lower) (good : AreSound less low) where
   -- ---- operators of two parts
 
-  binary_step : (own right : Level) (words : List (List ℕ × BinaryOp)) → AreWordsOf binary_bytes words → AllEntries (IsOf own) words → tighter own ≡ right
+  pub binary_step : (own right : Level) (words : List (List ℕ × BinaryOp)) → AreWordsOf binary_bytes words → AllEntries (IsOf own) words → tighter own ≡ right
       → nat_le (rank right) (rank unaries) ≡ true → nat_le (rank own) (rank own) ≡ true
       → (ls : List Lexeme) (left : ExprTree) (from : List Lexeme) → IsExpr own (suc less) ls left from
       → HoldsIf (IsExpr own (suc less) ls) (another_binary (suc less) low words right left from)
@@ -102,10 +102,10 @@ module _ (less : ℕ) (low : Lower) (good : AreSound less low) where
 
   -- ---- chains of sums
 
-  abbrev IsTerm : List Lexeme → Term → List Lexeme → Type 0
+  abbrev pub IsTerm : List Lexeme → Term → List Lexeme → Type 0
   IsTerm ls t rest = Takes (Says (sign_word t.0) followed_by Spells products t.1) ls rest × (height t.1 ≤ less)
 
-  term_sound : (ls : List Lexeme) → Holds (IsTerm ls) (term_from low ls)
+  pub term_sound : (ls : List Lexeme) → Holds (IsTerm ls) (term_from low ls)
   unfolding term_from term_behind rank
   term_sound ls =
       if_some_sound (IsTerm ls) (next_in sign_words ls) _ (wrong ls)

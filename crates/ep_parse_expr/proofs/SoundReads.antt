@@ -64,7 +64,7 @@ abbrev pub index_high : Option ExprTree → ℕ
 index_high None = 0
 index_high (Some e) = height e
 
-indices_high : (less : ℕ) (x : Option ExprTree) (xs : Indices) → index_high x ≤ less → highest_index xs ≤ less → highest_index (with_index x xs) ≤ less
+pub indices_high : (less : ℕ) (x : Option ExprTree) (xs : Indices) → index_high x ≤ less → highest_index xs ≤ less → highest_index (with_index x xs) ≤ less
 unfolding height
 indices_high less None xs h k = k
 indices_high less (Some e) xs h k = max-le h k
@@ -85,7 +85,7 @@ before_sound false false ls next c e =
     (takes_then (Says "]") (Says "[") ls (behind ls) next (says_sound (codes "]") ls both.0)
     (subst (λ x. Takes (Says "[") (behind ls) x) (sym k.1) (says_sound (codes "[") (behind ls) both.1)))
 
-another_sound : (last : Index) (ls next : List Lexeme) → another_index last ls ≡ Some next → Takes (Before last.0) ls next
+pub another_sound : (last : Index) (ls next : List Lexeme) → another_index last ls ≡ Some next → Takes (Before last.0) ls next
 unfolding another_index
 another_sound last ls next e = before_sound last.0 (says (codes ",") ls) ls next refl e
 
@@ -94,10 +94,10 @@ below m n e = grind (arith, nat_tests)
 
 module _ (less : ℕ) (low : Lower) (good : AreSound less low) where
   -- an index, and whether a `..` has come
-  abbrev IsIndex : Bool → List Lexeme → Index → List Lexeme → Type 0
+  abbrev pub IsIndex : Bool → List Lexeme → Index → List Lexeme → Type 0
   IsIndex every ls x rest = Takes (SpellsIndex x.1) ls rest × (x.0 ≡ then_every every x.1) × (index_high x.1 ≤ less)
 
-  index_sound : (every : Bool) (ls : List Lexeme) → Holds (IsIndex every ls) (index_from low every ls)
+  pub index_sound : (every : Bool) (ls : List Lexeme) → Holds (IsIndex every ls) (index_from low every ls)
   unfolding index_from
   index_sound every ls =
       holds_chosen (IsIndex every ls) (says (codes "..") ls) _ _ ls
@@ -136,7 +136,7 @@ module _ (less : ℕ) (low : Lower) (good : AreSound less low) where
       (λ front k. (k.0, k.1, k.2, (both.1, k.3), k.4)) refl
       (let high : max (height m) (highest_index indices) ≤ less = max-le small (indices_high less first.1 (as_indices others) i.2 o.1) in omega (arith, high)))))
 
-  another_read_sound : (ls : List Lexeme) (m : ExprTree) (from : List Lexeme) → IsExpr unaries (suc less) ls m from
+  pub another_read_sound : (ls : List Lexeme) (m : ExprTree) (from : List Lexeme) → IsExpr unaries (suc less) ls m from
       → HoldsIf (IsExpr unaries (suc less) ls) (another_read (suc less) low m from)
   unfolding another_read
   another_read_sound ls m from q =

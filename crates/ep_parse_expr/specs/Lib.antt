@@ -6,3 +6,4 @@ pub mod DomainReaders
 pub mod TreeReaders
 pub mod Cursors
 pub mod Sayings
+pub mod Outcomes
