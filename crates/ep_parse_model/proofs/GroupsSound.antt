@@ -36,11 +36,11 @@ placed_sound [] = holds_wrong (λ x rest. Takes (Placed x) [] rest) []
 placed_sound (l ∷ ls) = placed_in_sound l l.saying ls refl
 
 -- names behind another, each behind a comma
-MorePlaced : List (Name × Place) → Phrase
+unfoldable pub MorePlaced : List (Name × Place) → Phrase
 MorePlaced [] = Silence
 MorePlaced (x ∷ xs) = Says "," followed_by Placed x followed_by MorePlaced xs
 
-placed_made : (x : Name × Place) (xs : List (Name × Place)) (front : List Lexeme) → (Placed x followed_by MorePlaced xs) front → PlacedNames (x ∷ xs) front
+pub placed_made : (x : Name × Place) (xs : List (Name × Place)) (front : List Lexeme) → (Placed x followed_by MorePlaced xs) front → PlacedNames (x ∷ xs) front
 unfolding PlacedNames MorePlaced
 placed_made x [] front h = subst (Placed x) (sym (h.2 ∙ ap (λ y. h.0 ++ y) h.4 ∙ append-nil h.0)) h.3
 placed_made x (y ∷ ys) front h = (h.0, h.1, h.2, h.3, (h.4.0, h.4.1, h.4.2, h.4.3, placed_made y ys h.4.1 h.4.4))
@@ -61,17 +61,17 @@ placed_names_sound ls =
 -- ---- groups
 
 -- groups behind another, each behind a comma
-MoreGroups : List Group → Phrase
+unfoldable pub MoreGroups : List Group → Phrase
 MoreGroups [] = Silence
 MoreGroups (g ∷ gs) = Says "," followed_by SpellsGroup g followed_by MoreGroups gs
 
-groups_made : (g : Group) (gs : List Group) (front : List Lexeme) → (SpellsGroup g followed_by MoreGroups gs) front → SpellsGroups (g ∷ gs) front
+pub groups_made : (g : Group) (gs : List Group) (front : List Lexeme) → (SpellsGroup g followed_by MoreGroups gs) front → SpellsGroups (g ∷ gs) front
 unfolding SpellsGroups MoreGroups
 groups_made g [] front h = subst (SpellsGroup g) (sym (h.2 ∙ ap (λ y. h.0 ++ y) h.4 ∙ append-nil h.0)) h.3
 groups_made g (y ∷ ys) front h = (h.0, h.1, h.2, h.3, (h.4.0, h.4.1, h.4.2, h.4.3, groups_made y ys h.4.1 h.4.4))
 
 -- an expression, a comma, and further expressions
-exprs_made : (e : ExprTree) (es : List ExprTree) (front : List Lexeme) → (Spells implications e followed_by Says "," followed_by SpellsExpressions es) front → SpellsExpressions (e ∷ es) front
+pub exprs_made : (e : ExprTree) (es : List ExprTree) (front : List Lexeme) → (Spells implications e followed_by Says "," followed_by SpellsExpressions es) front → SpellsExpressions (e ∷ es) front
 unfolding SpellsExpressions
 exprs_made e [] front h =
     let last : h.1 ≡ h.4.0 = h.4.2 ∙ ap (λ y. h.4.0 ++ y) h.4.4 ∙ append-nil h.4.0 in

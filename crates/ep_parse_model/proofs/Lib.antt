@@ -33,3 +33,8 @@ pub mod CommaTurns
 pub mod TextTurns
 pub mod NextSteps
 pub mod WholeTexts
+pub mod TextsSteady
+pub mod TextStops
+pub mod TextFaults
+pub mod TextsBegun
+pub mod TextRefusals

@@ -1,9 +1,11 @@
 -- What is next, as the functions over the tokens tell it.
-use Rattle.std.specs.Prelude.{◌≡◌, ℕ, Bool, true, false, List, [], ◌∷◌, Option, Some, None, refl}
+use Rattle.std.specs.Prelude.{◌≡◌, ℕ, Bool, true, false, List, [], ◌∷◌, length, Option, Some, None, refl}
 use Rattle.std.proofs.Common.{ap, sym, ◌∙◌}
 use Rattle.ep_base.specs.declared.names.Name.{Name}
 use Rattle.ep_base.specs.declared.places.Place.{Place}
-use Rattle.ep_parse_expr.specs.Cursors.{Stops}
+use Rattle.ep_base.specs.Tokens.{place_at}
+use Rattle.ep_parse_expr.specs.Cursors.{Stops, none_left}
+use Rattle.ep_parse_model.specs.Answers.{place_left}
 use Rattle.ep_parse_expr.specs.DomainReaders.{place_next}
 use Rattle.ep_parse_expr.specs.declared.cursor.Stop.{Stop}
 use Rattle.ep_parse_expr.specs.Readers.{Read, behind, chosen, if_some, looked_up, meant_by, name_from, name_in, next_in, took, wrong, ◌and_then◌}
@@ -80,3 +82,15 @@ pub may_come : (allowed : Allowed) (ls rest : List Lexeme) (what : Opening) (p :
     → allowed_statement_from full allowed ls ≡ statement_behind full p what rest
 may_come allowed ls rest what p h k at is =
     with_word allowed ls what true h k ∙ ap (λ q. statement_behind full q what (behind ls)) (sym at) ∙ ap (λ r. statement_behind full p what r) (sym is)
+
+-- ---- places
+
+-- the place of the end, where no token is left
+pub place_at_end : (text : List ℕ) (ls : List Lexeme) (p : Place) → none_left ls ≡ true → p ≡ place_at text (length text) → p ≡ place_left text ls
+place_at_end text [] p none is = is
+place_at_end text (l ∷ ls) p none is = let wrong_way : false ≡ true = none in absurd cc
+
+-- and else that of the next
+pub place_of_next : (text : List ℕ) (ls : List Lexeme) (p : Place) → none_left ls ≡ false → p ≡ place_next ls → p ≡ place_left text ls
+place_of_next text [] p some is = let wrong_way : true ≡ false = some in absurd cc
+place_of_next text (l ∷ ls) p some is = is

@@ -1,10 +1,11 @@
 -- What is taken takes tokens.
-use Rattle.std.specs.Prelude.{◌≡◌, ◌+◌, ◌≤◌, ◌<◌, List, [], ◌∷◌, ◌++◌, length}
+use Rattle.std.specs.Prelude.{◌≡◌, ℕ, ◌+◌, ◌≤◌, ◌<◌, List, [], ◌∷◌, ◌++◌, length}
 use Rattle.std.proofs.Common.{ap, arith, ◌∙◌, length-append}
 use Rattle.ep_base.specs.declared.names.Name.{Name}
 use Rattle.ep_base.specs.declared.places.Place.{Place}
 use Rattle.ep_parse_expr.proofs.Sound.{domain_sound, expr_sound}
 use Rattle.ep_parse_expr.proofs.SoundParts.{AreSound}
+use Rattle.ep_parse_expr.specs.OperandReaders.{Lower}
 use Rattle.ep_parse_expr.specs.Readers.{behind, took}
 use Rattle.ep_parse_model.proofs.GroupsSound.{group_sound, placed_sound, whole}
 use Rattle.ep_parse_model.proofs.TextsAgain.{at, statement_headed}
@@ -64,8 +65,12 @@ group_shrinks ls rest g h =
     let k = ((group_sound MOST_HEIGHT full full_sound ls).holds g rest h).0 in
     fewer k.front ls rest k.parts (some_group g k.front k.spelled)
 
-pub statement_shrinks : (allowed : Allowed) (l : Lexeme) (ls rest : List Lexeme) (s : StatementTree) → allowed_statement_from full allowed (l ∷ ls) ≡ took s rest → length rest ≤ length ls
-statement_shrinks allowed l ls rest s h =
-    let k = ((allowed_sound MOST_HEIGHT full full_sound allowed l ls).holds s rest h).0 in
+pub statement_shrinks_by : (less : ℕ) (low : Lower) → AreSound less low → (allowed : Allowed) (l : Lexeme) (ls rest : List Lexeme) (s : StatementTree) → allowed_statement_from low allowed (l ∷ ls) ≡ took s rest
+    → length rest ≤ length ls
+statement_shrinks_by less low good allowed l ls rest s h =
+    let k = ((allowed_sound less low good allowed l ls).holds s rest h).0 in
     let short : length rest < length (l ∷ ls) = fewer k.front (l ∷ ls) rest k.parts (some_tokens (at s) k.front (statement_headed s k.front k.spelled).0) in
     omega (arith, short)
+
+pub statement_shrinks : (allowed : Allowed) (l : Lexeme) (ls rest : List Lexeme) (s : StatementTree) → allowed_statement_from full allowed (l ∷ ls) ≡ took s rest → length rest ≤ length ls
+statement_shrinks allowed l ls rest s h = statement_shrinks_by MOST_HEIGHT full full_sound allowed l ls rest s h

@@ -165,7 +165,7 @@ headed_sense sense P front h = go sense h.3
     go Sense.Maximising (inr k) = headed (codes "maximizing") (Opening.Objective Sense.Maximising) P front is_maximizing (h.0, h.1, h.2, k, h.4)
 
 -- what stands behind it
-abbrev Behind_word : StatementTree → Phrase
+abbrev pub Behind_word : StatementTree → Phrase
 Behind_word (given p gs) = SpellsGroups gs
 Behind_word (decided p gs) = SpellsGroups gs
 Behind_word (letting p x at d e) = PlacedNames ((x, at) ∷ []) followed_by SpellsStated d followed_by SaysBe followed_by Spells implications e

@@ -25,7 +25,7 @@ use Rattle.ep_tree.specs.Trees.{DomainTree}
 -- ---- the words of statements
 
 -- each word of a table is a phrase of what it stands for
-abbrev Related : {A : Type 0} → (A → Phrase) → List (List ℕ × A) → Type 0
+abbrev pub Related : {A : Type 0} → (A → Phrase) → List (List ℕ × A) → Type 0
 Related P [] = Unit {0}
 Related P (entry ∷ entries) = ((p : Place) → P entry.1 (record { place = p; saying = a_word entry.0 } ∷ [])) × Related P entries
 
@@ -46,13 +46,13 @@ module _ {A : Type 0} (P : A → Phrase) where
   looked_up-related (entry ∷ entries) h p w x e =
       found_related (bytes_eq entry.0 w) w entry.0 p entry.1 x (looked_up entries w) e (λ k. (bytes_eq-Decides entry.0 w).0 k) (h.0 p) (looked_up-related entries h.1 p w x)
 
-  meant_by-related : (entries : List (List ℕ × A)) → Related P entries → (l : Lexeme) (s : Saying) → l.saying ≡ s → (x : A) → meant_by entries s ≡ Some x → P x (l ∷ [])
+  pub meant_by-related : (entries : List (List ℕ × A)) → Related P entries → (l : Lexeme) (s : Saying) → l.saying ≡ s → (x : A) → meant_by entries s ≡ Some x → P x (l ∷ [])
   meant_by-related entries h l (a_word w) is x e = subst (λ s. P x (record { place = l.place; saying = s } ∷ [])) (sym is) (looked_up-related entries h l.place w x e)
   meant_by-related entries h l (a_name y) is x e = absurd cc
   meant_by-related entries h l (a_number n) is x e = absurd cc
 
 -- the word that begins a statement
-abbrev Opens : Opening → Phrase
+abbrev pub Opens : Opening → Phrase
 Opens Opening.Given = Says "given"
 Opens Opening.Find = Says "find"
 Opens Opening.Letting = Says "letting"
@@ -62,7 +62,7 @@ Opens (Opening.Objective sense) = SpellsSense sense
 Opens Opening.Branching = Says "branching"
 Opens Opening.Heuristic = Says "heuristic"
 
-are_openings : Related Opens statement_words
+pub are_openings : Related Opens statement_words
 unfolding SpellsSense
 are_openings =
     (λ p. (p, refl), (λ p. (p, refl), (λ p. (p, refl), (λ p. (p, refl), (λ p. (p, refl), (λ p. inl (p, refl), (λ p. inr (p, refl), (λ p. inl (p, refl), (λ p. inr (p, refl), (λ p. (p, refl), (λ p. (p, refl), tt)))))))))))
@@ -79,14 +79,14 @@ says_number-sound n (a_number m) e = ap a_number ((Decides-int_eq m n).0 e)
 says_number-sound n (a_name x) e = absurd cc
 says_number-sound n (a_word w) e = absurd cc
 
-number_sound : (n : ℤ) (ls : List Lexeme) → Holds (λ p rest. Takes (Is (a_number n)) ls rest) (number_from n ls)
+pub number_sound : (n : ℤ) (ls : List Lexeme) → Holds (λ p rest. Takes (Is (a_number n)) ls rest) (number_from n ls)
 unfolding number_from
 number_sound n [] = holds_wrong (λ p rest. Takes (Is (a_number n)) [] rest) []
 number_sound n (l ∷ ls) =
     let Q : Place → List Lexeme → Type 0 = λ p rest. Takes (Is (a_number n)) (l ∷ ls) rest in
     holds_chosen Q (says_number n l.saying) _ _ (l ∷ ls) (λ e. holds_took Q l.place ls (takes_token l ls (a_number n) (says_number-sound n l.saying e))) (λ _. holds_wrong Q (l ∷ ls))
 
-line_sound : (ls : List Lexeme) → Holds (λ p rest. Takes LanguageLine ls rest) (line_from ls)
+pub line_sound : (ls : List Lexeme) → Holds (λ p rest. Takes LanguageLine ls rest) (line_from ls)
 unfolding line_from
 line_sound ls =
     let Q : Place → List Lexeme → Type 0 = λ p rest. Takes LanguageLine ls rest in
@@ -107,14 +107,14 @@ unfolding PlacedNames SpellsNames
 named_made [] front h = absurd h
 named_made (x ∷ xs) front h = h
 
-bracket_names_sound : (ls : List Lexeme) → Holds (λ xs rest. Takes (SpellsNames xs) ls rest) (bracket_names_from ls)
+pub bracket_names_sound : (ls : List Lexeme) → Holds (λ xs rest. Takes (SpellsNames xs) ls rest) (bracket_names_from ls)
 unfolding bracket_names_from SpellsNames
 bracket_names_sound ls =
     let Q : List (Name × Place) → List Lexeme → Type 0 = λ xs rest. Takes (SpellsNames xs) ls rest in
     holds_chosen Q (says (codes "]") ls) _ _ ls (λ _. holds_took Q [] ls (takes_nothing ls))
     (λ _. holds_as (λ xs rest. Takes (PlacedNames xs) ls rest) Q (placed_names_from ls) (placed_names_sound ls) (λ xs rest t. takes_as (PlacedNames xs) (SpellsNames xs) ls rest (named_made xs) t))
 
-be_sound : (ls : List Lexeme) → Holds (λ p rest. Takes SaysBe ls rest) (be_from ls)
+pub be_sound : (ls : List Lexeme) → Holds (λ p rest. Takes SaysBe ls rest) (be_from ls)
 unfolding be_from
 be_sound ls =
     let Q : Place → List Lexeme → Type 0 = λ p rest. Takes SaysBe ls rest in

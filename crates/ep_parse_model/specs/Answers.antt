@@ -1,7 +1,11 @@
 -- What the calls that read whole texts answer.
-use Rattle.std.specs.Prelude.{ℕ, ◌<◌, List, length, Result, Ok, Err}
+use Rattle.std.specs.Prelude.{ℕ, ◌<◌, List, [], ◌∷◌, length, Result, Ok, Err}
 use Rattle.ep_base.specs.Tokens as tokens
-use Rattle.ep_tree.specs.Phrases.{Phrase}
+use Rattle.ep_base.specs.Tokens.{place_at}
+use Rattle.ep_base.specs.declared.places.Place.{Place}
+use Rattle.ep_parse_expr.specs.declared.cursor.Stop.{Stop}
+use Rattle.ep_parse_expr.specs.declared.cursor.Stop.TheVariants as stop
+use Rattle.ep_tree.specs.Phrases.{Lexeme, Phrase}
 use Rattle.ep_tree.specs.StatementSpelling.{SpellsModel, SpellsParams}
 use Rattle.ep_tree.specs.Statements.{TextTree}
 use Rattle.ep_tree.specs.Texts.{Answers, HasTokenFault, MOST_BYTES, bad_byte, long_number, read_as, syntax_fault, too_high, too_long}
@@ -28,6 +32,17 @@ RefusesTokens text (LongNumber place) = HasTokenFault text (tokens.LongNumber pl
 RefusesTokens text (Syntax place) = ⊥
 RefusesTokens text (TooHigh place) = ⊥
 RefusesTokens text Memory = Unit {0}
+
+-- the place of the next token that is left, or of the end of the text
+abbrev pub place_left : List ℕ → List Lexeme → Place
+place_left text [] = place_at text (length text)
+place_left text (l ∷ ls) = l.place
+
+-- why a text is refused where reading stopped at these tokens
+abbrev pub refusal_of : List ℕ → List Lexeme → Stop → TextError
+refusal_of text left stop.Wrong = Syntax (place_left text left)
+refusal_of text left stop.TooHigh = TooHigh (place_left text left)
+refusal_of text left stop.Memory = Memory
 
 -- what is said of a text that is read as a model
 abbrev pub GivesModel : List ℕ → Result Model TextError → Type 0

@@ -5,6 +5,7 @@ ghost use Rattle.ep_base.specs.Tokens.{tokens_of};
 ghost use Rattle.ep_parse_model.specs.Answers.{GivesModel, GivesParams, RefusesTokens};
 ghost use Rattle.ep_tree.specs.Texts.{MOST_BYTES};
 
+use crate::places::refusal;
 use crate::text_errors::TextError;
 use crate::texts::{model, params};
 use ep_base::Token;
@@ -24,7 +25,7 @@ pub fn parse_model(alloc: Global, text: &[u8]) -> Result<Model, TextError>
     let mut cursor = Cursor::new(text, &tokens);
     match model(alloc, &mut cursor) {
         Ok(model) => Ok(model),
-        Err(_) => Err(TextError::Memory),
+        Err(stop) => Err(refusal(text, &cursor, stop)),
     }
 }
 
@@ -36,7 +37,7 @@ pub fn parse_params(alloc: Global, text: &[u8]) -> Result<Params, TextError>
     let mut cursor = Cursor::new(text, &tokens);
     match params(alloc, &mut cursor) {
         Ok(params) => Ok(params),
-        Err(_) => Err(TextError::Memory),
+        Err(stop) => Err(refusal(text, &cursor, stop)),
     }
 }
 

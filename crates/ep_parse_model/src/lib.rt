@@ -12,6 +12,7 @@ mod lettings;
 mod names;
 mod openings;
 mod parts;
+mod places;
 mod statements;
 mod text_errors;
 mod texts;

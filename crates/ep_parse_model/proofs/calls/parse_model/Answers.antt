@@ -1,5 +1,6 @@
 use Rattle.std.proofs.Common.{◌≡◌}
 use Rattle.std.proofs.lemmas.Result.{err_from_is_err_and}
+use Rattle.ep_parse_model.proofs.TextRefusals.{model_stopped}
 use Rattle.ep_parse_model.proofs.WholeTexts.{model_read, refused_so, spans_lie}
 use Rattle.ep_parse_model.proofs.calls.parse_model.Goals as goal
 use Rattle.ep_tree.specs.Phrases.{lexemes_of}
@@ -17,3 +18,8 @@ pub returns-in-Ok : goal.returns-in-Ok
 returns-in-Ok c =
     let all : c.new-cursor.result ≡ lexemes_of c.args.text.now c.in_ok-tokens.tokens.items = rw c.deref.ensures.value at c.new-cursor.ensures.all in
     record { answer = model_read _ _ _ _ _ c.in_ok-tokens.ensures.within c.in_ok-tokens.ensures.found all c.in-Ok.ensures.read }
+
+pub returns : goal.returns
+returns c =
+    let all : c.new-cursor.result ≡ lexemes_of c.args.text.now c.in_ok-tokens.tokens.items = rw c.deref.ensures.value at c.new-cursor.ensures.all in
+    record { answer = rw c.refusal.ensures.why (model_stopped _ _ _ _ _ c.in_ok-tokens.ensures.within c.in_ok-tokens.ensures.found all c.in-Err.ensures.read) }
