@@ -28,3 +28,11 @@ pub mod AgainAll
 pub mod Cursors
 pub mod Turns
 pub mod NameTurns
+pub mod OpeningTables
+pub mod LooksAhead
+pub mod ToldHeights
+pub mod Finding
+pub mod NodeFacts
+pub mod OperandFacts
+pub mod Shorter
+pub mod ListTurns

@@ -1,9 +1,36 @@
 -- What single tokens say.
-use Rattle.std.specs.Prelude.{List, None, Option, Some, ℕ}
-use Rattle.ep_tree.specs.Phrases.{Saying, a_name, a_number, a_word}
+use Rattle.std.specs.Prelude.{List, [], ◌∷◌, None, Option, Some, ℕ, ℤ}
+use Rattle.ep_tree.specs.Phrases.{Lexeme, Saying, a_name, a_number, a_word}
 
 -- the name that a token says
 abbrev pub name_of : Saying → Option (List ℕ)
 name_of (a_name x) = Some x
 name_of (a_number n) = None
 name_of (a_word w) = None
+
+-- the number that a token says
+abbrev pub number_of : Saying → Option ℤ
+number_of (a_name x) = None
+number_of (a_number n) = Some n
+number_of (a_word w) = None
+
+-- the word or symbol that a token is
+abbrev pub word_of : Saying → Option (List ℕ)
+word_of (a_name x) = None
+word_of (a_number n) = None
+word_of (a_word w) = Some w
+
+-- the name that is next
+unfoldable pub name_next : List Lexeme → Option (List ℕ)
+name_next [] = None
+name_next (l ∷ ls) = name_of l.saying
+
+-- the number that is next
+unfoldable pub number_next : List Lexeme → Option ℤ
+number_next [] = None
+number_next (l ∷ ls) = number_of l.saying
+
+-- the word or symbol that is next
+unfoldable pub word_next : List Lexeme → Option (List ℕ)
+word_next [] = None
+word_next (l ∷ ls) = word_of l.saying

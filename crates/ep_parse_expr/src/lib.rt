@@ -1,14 +1,21 @@
 //! Reads expressions and domains from the tokens of a text.
 #![tactic(auto)]
 
+mod below;
 mod calls;
 mod cursor;
+mod domain_nodes;
 mod errors;
+mod found;
 mod laws;
 mod lists;
+mod nodes;
+mod words;
 
 pub use calls::{parse_domain, parse_expr};
 pub use cursor::{Cursor, Stop};
 pub use errors::ParseError;
+pub use found::{Found, FoundDomain};
 pub use laws::tokens_spell_one_tree;
 pub use lists::names;
+pub use words::{DomainLevel, Level};
