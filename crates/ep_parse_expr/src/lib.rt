@@ -7,6 +7,7 @@ mod cursor;
 mod domain_nodes;
 mod errors;
 mod found;
+mod functions;
 mod laws;
 mod lists;
 mod nodes;
