@@ -49,3 +49,11 @@ pub mod CompletingAll
 pub mod Answering
 pub mod OneOutcome
 pub mod Calling
+pub mod OpeningTables
+pub mod LooksAhead
+pub mod ToldHeights
+pub mod Finding
+pub mod NodeFacts
+pub mod OperandFacts
+pub mod Shorter
+pub mod ListTurns

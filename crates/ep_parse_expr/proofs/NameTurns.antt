@@ -33,7 +33,7 @@ comma_ends : (last : Name) → behind_comma last [] ≡ None
 unfolding says
 comma_ends last = refl
 
-kept_is : (b : Bool) (ls next : List Lexeme) → kept b ls ≡ Some next → next ≡ ls
+pub kept_is : (b : Bool) (ls next : List Lexeme) → kept b ls ≡ Some next → next ≡ ls
 kept_is true ls next e = ap (λ o. or_this o) (sym e)
   where
     or_this : Option (List Lexeme) → List Lexeme
@@ -41,7 +41,7 @@ kept_is true ls next e = ap (λ o. or_this o) (sym e)
     or_this None = ls
 kept_is false ls next e = absurd cc
 
-behind_short : (ls : List Lexeme) → length (behind ls) ≤ length ls
+pub behind_short : (ls : List Lexeme) → length (behind ls) ≤ length ls
 behind_short [] = omega arith
 behind_short (l ∷ ls) = omega arith
 
@@ -75,7 +75,7 @@ with_name items cursor mid start x inv first =
     ∙ ap (λ r. continued items (r and_then λ y rest. others_from behind_comma (λ last. name_from) y rest and_then λ xs end. took (y ∷ xs) end)) first
     ∙ ap (λ r. continued items (r and_then λ xs end. took (x ∷ xs) end)) (names_turn x mid)
 
-passed : (seen : Bool) (new mid : List Lexeme) → (seen, new) ≡ passing (codes ",") mid → (says (codes ",") mid ≡ seen) × (new ≡ (if seen then behind mid else mid))
+pub passed : (seen : Bool) (new mid : List Lexeme) → (seen, new) ≡ passing (codes ",") mid → (says (codes ",") mid ≡ seen) × (new ≡ (if seen then behind mid else mid))
 unfolding passing
 passed seen new mid e =
     let one : says (codes ",") mid ≡ seen = sym (ap (λ (p : Bool × List Lexeme). p.0) e) in
@@ -90,7 +90,7 @@ names_end items cursor mid new start x inv first e =
     ∙ ap (λ b. continued items (going_on (kept b (behind mid)) mid names_from and_then λ xs end. took (x ∷ xs) end)) p.0
     ∙ ap (λ ls. took (items ++ x ∷ []) ls) (sym p.1)
 
-one_more : (items : List Name) (x : Name) (r : Read (List Name)) → continued items (r and_then λ xs end. took (x ∷ xs) end) ≡ continued (items ++ x ∷ []) r
+pub one_more : (items : List Name) (x : Name) (r : Read (List Name)) → continued items (r and_then λ xs end. took (x ∷ xs) end) ≡ continued (items ++ x ∷ []) r
 one_more items x (took ys ls) = ap (λ zs. took zs ls) (sym (append_assoc items (x ∷ []) ys))
 one_more items x (wrong ls) = refl
 one_more items x (high ls) = refl

@@ -1,9 +1,13 @@
 pub mod Answers
+pub mod Chains
 pub mod Readers
 pub mod OperandReaders
 pub mod OperatorReaders
 pub mod DomainReaders
 pub mod TreeReaders
 pub mod Cursors
+pub mod Founds
+pub mod Lowers
+pub mod Openings
 pub mod Sayings
 pub mod Outcomes

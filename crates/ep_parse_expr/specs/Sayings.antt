@@ -9,11 +9,27 @@ name_of (a_name x) = Some x
 name_of (a_number n) = None
 name_of (a_word w) = None
 
+-- the number that a token says
+abbrev pub number_of : Saying → Option ℤ
+number_of (a_name x) = None
+number_of (a_number n) = Some n
+number_of (a_word w) = None
+
 -- the word or symbol that a token is
 abbrev pub word_of : Saying → Option (List ℕ)
 word_of (a_name x) = None
 word_of (a_number n) = None
 word_of (a_word w) = Some w
+
+-- the name that is next
+unfoldable pub name_next : List Lexeme → Option (List ℕ)
+name_next [] = None
+name_next (l ∷ ls) = name_of l.saying
+
+-- the number that is next
+unfoldable pub number_next : List Lexeme → Option ℤ
+number_next [] = None
+number_next (l ∷ ls) = number_of l.saying
 
 -- the word or symbol that is next
 unfoldable pub word_next : List Lexeme → Option (List ℕ)

@@ -1,16 +1,19 @@
 //! The tokens of a text that are still to be read.
 
-ghost use Rattle.std.specs.Prelude.{◌≡◌, ℕ, List};
+ghost use Rattle.std.specs.Prelude.{◌≡◌, true, ℕ, List};
 ghost use Rattle.std.specs.Option.{option_copied};
 ghost use Rattle.ep_base.specs.Tokens.{token_text};
 ghost use Rattle.ep_tree.specs.Phrases.{lexemes_of, saying_of};
 ghost use Rattle.ep_parse_expr.specs.Cursors.{Gives, LieIn, LiesIn, passing};
-ghost use Rattle.ep_parse_expr.specs.Readers.{is_word, name_from, says, word_from};
+ghost use Rattle.ep_parse_expr.specs.DomainReaders.{matrix_follows, place_next};
+ghost use Rattle.ep_parse_expr.specs.OperandReaders.{colon_comes, expression_next};
+ghost use Rattle.ep_parse_expr.specs.Readers.{behind, is_word, name_from, says, word_from};
 ghost use Rattle.ep_parse_expr.specs.declared.cursor.Stop.TheVariants.{Memory as OutOfMemory};
-ghost use Rattle.ep_parse_expr.specs.Sayings.{name_of};
+ghost use Rattle.ep_parse_expr.specs.Sayings.{name_next, name_of, number_next, number_of, word_next, word_of};
 
 mod next;
 
+use crate::words::find_opening;
 use ep_base::{Memory, Place, Token, TokenKind};
 use std::alloc::AllocFailed;
 use std::marker::Model;
@@ -122,6 +125,116 @@ impl<'a> Cursor<'a> {
         self.tokens = rest;
         Ok(name)
     }
+
+    /// The name that is next.
+    #[tactic(auto, unfolding(crate::specs::Sayings::name_next, ep_tree::specs::Phrases::lexemes_of))]
+    pub fn name_next(&self) -> Option<&'a str>
+        ensures next { option_copied result ≡ name_next self.now }
+    {
+        match self.tokens.first() {
+            Some(token) => name_in(self.text, token),
+            None => None,
+        }
+    }
+
+    /// The number that is next.
+    #[tactic(auto, unfolding(crate::specs::Sayings::number_next, ep_tree::specs::Phrases::lexemes_of))]
+    pub fn number_next(&self) -> Option<i64>
+        ensures next { result ≡ number_next self.now }
+    {
+        match self.tokens.first() {
+            Some(token) => number_in(token),
+            None => None,
+        }
+    }
+
+    /// The word or symbol that is next.
+    #[tactic(auto, unfolding(crate::specs::Sayings::word_next, ep_tree::specs::Phrases::lexemes_of))]
+    pub fn word_next(&self) -> Option<&'a [u8]>
+        ensures next { option_copied result ≡ word_next self.now }
+    {
+        match self.tokens.first() {
+            Some(token) => word_in(self.text, token),
+            None => None,
+        }
+    }
+
+    /// Passes a token, and gives its place.
+    #[tactic(auto, unfolding(ep_tree::specs::Phrases::lexemes_of))]
+    pub fn pass(&mut self) -> Place
+        ensures place { result ≡ place_next self.old }
+        ensures passed { self.new ≡ behind self.old }
+    {
+        match self.tokens.split_first() {
+            Some((token, rest)) => {
+                self.tokens = rest;
+                token.place
+            }
+            None => Place { line: 0, column: 0 },
+        }
+    }
+
+    /// The same tokens once more, to look ahead.
+    pub fn ahead(&self) -> Cursor<'a>
+        ensures same { result ≡ self.now }
+    {
+        Cursor {
+            text: self.text,
+            tokens: self.tokens,
+        }
+    }
+
+    /// Whether the index domains of another matrix domain follow.
+    #[tactic(auto, unfolding(crate::specs::DomainReaders::matrix_follows))]
+    pub fn matrix_follows(&self) -> bool
+        ensures follows { result ≡ matrix_follows self.now }
+    {
+        let mut ahead = self.ahead();
+        if !ahead.is_at(b"]") {
+            return false;
+        }
+        ahead.pass();
+        if !ahead.is_at(b"of") {
+            return false;
+        }
+        ahead.pass();
+        ahead.is_at(b"matrix")
+    }
+
+    /// Whether an expression begins with the next token.
+    pub fn expression_next(&self) -> bool
+        ensures next { result ≡ expression_next self.now }
+    {
+        if self.name_next().is_some() {
+            return true;
+        }
+        if self.number_next().is_some() {
+            return true;
+        }
+        let Some(word) = self.word_next() else {
+            return false;
+        };
+        find_opening(word).is_some()
+    }
+
+    /// Whether names with commas between them are next, and then a colon.
+    pub fn colon_comes(&self) -> bool
+        ensures comes { result ≡ colon_comes true self.now }
+    {
+        let mut ahead = self.ahead();
+        loop {
+            if ahead.name_next().is_none() {
+                return false;
+            }
+            ahead.pass();
+            if ahead.is_at(b":") {
+                return true;
+            }
+            if !ahead.passes(b",") {
+                return false;
+            }
+        }
+    }
 }
 
 /// Whether a token is this word or symbol.
@@ -150,5 +263,31 @@ fn name_in<'a>(text: &'a [u8], token: &Token) -> Option<&'a str>
             Some(str::from_utf8(bytes).unwrap())
         }
         _ => None,
+    }
+}
+
+/// The number that a token is.
+#[tactic(auto, unfolding(ep_tree::specs::Phrases::saying_of))]
+fn number_in(token: &Token) -> Option<i64>
+    ensures { (text : List ℕ) →
+        result ≡ number_of (saying_of (token_text text token.now) token.now.kind) }
+{
+    match token.kind {
+        TokenKind::Number(number) => Some(number),
+        _ => None,
+    }
+}
+
+/// The text of a token that is a word or a symbol.
+#[tactic(auto, unfolding(ep_tree::specs::Phrases::saying_of))]
+fn word_in<'a>(text: &'a [u8], token: &Token) -> Option<&'a [u8]>
+    requires { LiesIn text.now token.now }
+    ensures { option_copied result ≡ word_of (saying_of (token_text text.now token.now) token.now.kind) }
+{
+    match token.kind {
+        TokenKind::Word | TokenKind::Symbol => {
+            Some(&text[token.from as usize..token.to as usize])
+        }
+        TokenKind::Name | TokenKind::Number(_) => None,
     }
 }
