@@ -12,3 +12,4 @@ pub mod StatementReady
 pub mod FindSteps
 pub mod ConditionSteps
 pub mod ParamSteps
+pub mod ProgressSteps

@@ -7,3 +7,4 @@ pub mod Tests
 pub mod Reading
 pub mod Steps
 pub mod Finding
+pub mod Progressing

@@ -7,8 +7,10 @@ ghost use Rattle.ep_types.specs.Texts.{typed_params_tree, typed_tree};
 ghost use Rattle.ep_instance.specs.Instances.{instance_of, mode_of};
 ghost use Rattle.ep_instance.specs.Refusals.{Answers};
 
-use super::errors::BindError;
+use super::errors::{BindError, Source};
 use super::instances::Instance;
+use super::lettings::bind_params;
+use super::statements::bind_statements;
 use ep_tree::Mode;
 use ep_types::{Typed, TypedParams};
 use std::alloc::Global;
@@ -26,5 +28,8 @@ pub fn bind(
     ensures mode { IfOk result (λ i. mode_of i ≡ mode) }
     ensures closed { IfOk result (λ i. IsClosed (instance_of i)) }
 {
-    Err(BindError::Memory)
+    let params = params.into_params();
+    let known = bind_params(alloc, Source::Params, mode, &params.statements)?;
+    let model = typed.into_model();
+    bind_statements(alloc, &known, mode, model.statements)
 }

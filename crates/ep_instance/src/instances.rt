@@ -25,10 +25,10 @@ pub struct Find {
 /// clauses, its objective, and what the parameters and the lettings stand for.
 #[derive(Drop)]
 pub struct Instance {
-    finds: Vec<Find>,
-    clauses: Vec<Expr>,
-    objective: Option<Objective>,
-    env: Env,
+    pub(crate) finds: Vec<Find>,
+    pub(crate) clauses: Vec<Expr>,
+    pub(crate) objective: Option<Objective>,
+    pub(crate) env: Env,
 }
 
 impl Instance {

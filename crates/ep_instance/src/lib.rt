@@ -19,6 +19,7 @@ mod listed;
 mod listing;
 mod opened;
 mod shapes;
+mod statements;
 
 pub use binding::bind;
 pub use errors::{BindError, Source};
