@@ -25,3 +25,5 @@ pub use text_errors::TextError;
 
 #[cfg(test)]
 mod tests;
+#[cfg(test)]
+mod text_tests;
