@@ -1,4 +1,8 @@
--- Checking from left to right: the type of an expression or domain, or the first fault that is met.
+-- Checking: the type of an expression or domain, or the first fault that is met.
+--
+-- A text is met from left to right, but parts before their node, and yet an open domain before its bounds; what a
+-- statement declares after its domain and its value; and of a comprehension the domain of its indices, its generators
+-- and its conditions before its expression. A domain of several names is read whole for one before the next.
 --
 -- That a first fault is one of those that stand, and that none stands where there is a type, is proved of trees alone.
 use Rattle.std.specs.Prelude.{◌≡◌, Bool, true, false, not, ◌&&◌, ◌||◌, List, [], ◌∷◌, Some, None, Ok, Err, is_none, is_some, unwrap_or, Option, Result}
@@ -28,7 +32,8 @@ abbrev pub Says : {X Y : Type 0} → (X → Y) → Result X StaticError → Chec
 Says view (Ok x) check = check ≡ Ok (view x)
 Says view (Err e) check = (fault : Fault) → fault_of e ≡ Some fault → check ≡ Err fault
 
--- the type of a node whose parts have types
+-- The type of a node whose parts have types. That it is told of no type isn't met, since a part without a type has stopped
+-- the checking before.
 abbrev pub conclude : Place → Judged → Checked ValueType
 conclude p (typed t) = Ok t
 conclude p mistyped = Err (ill_typed p)
@@ -45,14 +50,15 @@ check_value decisions p t false = Ok t
 check_value true p t true = Ok t
 check_value false p t true = Err (wrong_category p)
 
--- a name as an expression
+-- A name as an expression. A name without a type isn't met, since the domain or value that lacks it has stopped the
+-- checking before.
 unfoldable pub check_name : Bool → Place → Name → Option Meaning → Checked ValueType
 check_name decisions p name None = Err (unknown_name p name)
 check_name decisions p name (Some (a_domain t)) = Err (ill_typed p)
 check_name decisions p name (Some (a_value None d)) = Err (ill_typed p)
 check_name decisions p name (Some (a_value (Some t) decision)) = check_value decisions p t decision
 
--- a name as a domain
+-- A name as a domain. A name without a type isn't met, since the domain that lacks it has stopped the checking before.
 unfoldable pub check_domain_name : Place → Name → Option Meaning → Checked ValueType
 check_domain_name p name None = Err (unknown_name p name)
 check_domain_name p name (Some (a_value t d)) = Err (ill_typed p)

@@ -7,6 +7,8 @@ use Rattle.ep_types.specs.Checking.{check_text}
 use Rattle.ep_types.specs.Named.{fault_of}
 use Rattle.ep_types.specs.declared.errors.StaticError.{StaticError}
 
--- the fault that an error names is the first that checking a text from left to right meets
+-- The fault that an error names is the first that checking a text meets: from left to right, but parts before their
+-- node, and yet an open domain before its bounds; what a statement declares after its domain and its value; and of a
+-- comprehension the domain of its indices, its generators and its conditions before its expression.
 abbrev pub IsFirst : TextTree → StaticError → Type 0
 IsFirst text error = (fault : Fault) → fault_of error ≡ Some fault → check_text nothing_known text ≡ Err fault

@@ -13,11 +13,15 @@ use crate::typed::{Typed, TypedParams};
 use ep_tree::{Model, Params};
 use std::alloc::Global;
 
-/// Checks a model. It is well formed where no fault stands in it; otherwise the first that is met from left
-/// to right is named.
+/// Checks a model. It is well formed where no fault stands in it; otherwise the first that is met is
+/// named. A text is met from left to right, but parts before their node, and yet an open domain before
+/// its bounds; what a statement declares after its domain and its value; and of a comprehension the
+/// domain of its indices, its generators and its conditions before its expression.
 ///
-/// Linear in the text, but that a name is sought among the names of the quantifiers around it, and a
-/// domain is read once for each name that it is written for.
+/// A domain is read once for each of the names of its quantifier or generator. Such domains can stand in
+/// one another, and what stands in some is read as often as the product of their numbers of names. A
+/// reading is linear in what it reads, but that a name is sought among those of the quantifiers and
+/// generators around it.
 pub fn check_model(alloc: Global, model: Model) -> Result<Typed, StaticError>
     ensures same { IfOk result (λ typed. typed_tree typed ≡ model_tree model) }
     ensures faultless { OnOk result (text_faults (model_tree model) ≡ []) }

@@ -15,11 +15,12 @@ pub enum StaticError {
     UnknownName(Place, Name),
     /// A declaration of a name that is declared before.
     Redeclared(Place, Name),
-    /// A node whose parts have types that it doesn't take.
+    /// A node or a domain whose parts have types that it doesn't take, a clause that isn't Boolean, an
+    /// objective that isn't integer, a domain's name as an expression, or another name as a domain.
     IllTyped(Place),
     /// A decision variable's name where none may stand.
     WrongCategory(Place),
-    /// A domain with an open range where none may stand.
+    /// Plain `int`, or a domain with an open range, where neither may stand.
     OpenDomain(Place),
     /// An allocation was refused.
     Memory,
