@@ -10,3 +10,4 @@ pub mod PlaceLaws
 pub mod StatementSteps
 pub mod Readings
 pub mod Bounds
+pub mod Reread

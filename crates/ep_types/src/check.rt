@@ -18,10 +18,10 @@ use std::alloc::Global;
 /// its bounds; what a statement declares after its domain and its value; and of a comprehension the
 /// domain of its indices, its generators and its conditions before its expression.
 ///
-/// A domain is read once for each of the names of its quantifier or generator. Such domains can stand in
-/// one another, and what stands in some is read as often as the product of their numbers of names. A
-/// reading is linear in what it reads, but that a name is sought among those of the quantifiers and
-/// generators around it.
+/// The domain of a quantifier or generator with several names is read again behind a name that stood for
+/// something else before, and once for all names that didn't. Only where such names stand in one another's
+/// domains is something read as often as a product of their numbers. A reading is linear in what it reads,
+/// but that a name is sought among those of the quantifiers and generators around it.
 pub fn check_model(alloc: Global, model: Model) -> Result<Typed, StaticError>
     ensures same { IfOk result (λ typed. typed_tree typed ≡ model_tree model) }
     ensures faultless { OnOk result (text_faults (model_tree model) ≡ []) }

@@ -1,6 +1,6 @@
 //! The types of expressions and domains.
 
-ghost use Rattle.std.specs.Prelude.{◌≡◌, false, OnOk};
+ghost use Rattle.std.specs.Prelude.{◌≡◌, false, IfSome, Ok, OnOk};
 ghost use Rattle.ep_tree.specs.Views.{domain_tree, domains_of, end_of, expr_tree, expr_trees, generators_of, indices_of, ranges_of, terms_of};
 ghost use Rattle.ep_types.specs.Checking.{Says, check, check_all, check_domain, check_domains, check_end, check_generators, check_index, check_indices, check_readings, check_terms};
 ghost use Rattle.ep_types.specs.Hiding.{Hides};
@@ -396,8 +396,27 @@ fn domain_types<'a>(
     Ok(types)
 }
 
-/// Reads a domain once for each of some names, which hide what they stood for, and says whether each
-/// reading is scalar.
+/// The type of a domain, which is read where it isn't known.
+#[cycle(checking)]
+#[tactic(auto, using(crate::proofs::Scopes::same_again))]
+fn domain_again<'a>(
+    names: &mut Names<'a>,
+    known: Option<ValueType>,
+    domain: &'a Domain,
+) -> Result<ValueType, StaticError>
+    ensures same { OnOk result (IsSame names.old names.new) }
+    ensures says { IfSome known (λ t.
+        check_domain (context_of names.old) false (domain_tree domain.now) ≡ Ok t)
+        → Says (λ t. t) result (check_domain (context_of names.old) false (domain_tree domain.now)) }
+{
+    match known {
+        Some(ty) => Ok(ty),
+        None => domain_type(names, false, domain),
+    }
+}
+
+/// The types of a domain behind each of some names, which hide what they stood for: whether all are
+/// scalar. It is read again only behind a name that stood for something else before.
 #[cycle(checking)]
 fn read_domain<'a>(
     names: &mut Names<'a>,
@@ -410,10 +429,11 @@ fn read_domain<'a>(
         (context_of names.old)) }
 {
     let mut scalar = true;
+    let mut known = None;
     for name in quantified {
-        let ty = domain_type(names, false, domain)?;
+        let ty = domain_again(names, known, domain)?;
         scalar = rules::both(scalar, rules::is_integer(ty));
-        names.hide(name, rules::quantified_name(ty))?;
+        known = names.quantify(name, ty)?;
     }
     Ok(scalar)
 }

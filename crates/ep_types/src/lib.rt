@@ -7,8 +7,6 @@ mod expressions;
 mod names;
 mod rules;
 mod statements;
-#[cfg(test)]
-mod tests;
 mod typed;
 
 pub use check::{check_model, check_params};

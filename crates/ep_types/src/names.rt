@@ -1,8 +1,10 @@
 //! What names stand for while a text is checked.
 
-ghost use Rattle.std.specs.Prelude.{◌≡◌, IfErr, OnOk, option_map, take};
+ghost use Rattle.std.specs.Prelude.{◌≡◌, true, IfErr, IfOk, IfSome, OnOk, OnSome, option_map, take};
 ghost use Rattle.ep_tree.specs.Names.{put};
-ghost use Rattle.ep_tree.specs.Types.{Context};
+ghost use Rattle.ep_tree.specs.Types as types;
+ghost use Rattle.ep_tree.specs.Types.{Context, typed};
+ghost use Rattle.ep_types.specs.Again.{Keeps};
 ghost use Rattle.ep_types.specs.Checking.{Says, check_domain_name, check_name, check_value};
 ghost use Rattle.ep_types.specs.Meanings.{behind_names, context_of, known_by, meaning_of, or_else};
 ghost use Rattle.ep_types.specs.Hiding.{Hides};
@@ -10,6 +12,7 @@ ghost use Rattle.ep_types.specs.Named.{IsUnknown};
 ghost use Rattle.ep_types.specs.declared.errors.StaticError.TheVariants.{Memory as OutOfMemory};
 
 use crate::errors::StaticError;
+use crate::rules;
 use ep_base::{Name, Place};
 use ep_tree::ValueType;
 use indexmap::IndexMap;
@@ -65,6 +68,21 @@ fn may_stand(
         return Ok(ty);
     }
     Err(StaticError::WrongCategory(place))
+}
+
+/// Whether two names stand for the same.
+fn is_same(one: Meaning, other: Meaning) -> bool
+    ensures { result ≡ true → meaning_of one ≡ meaning_of other }
+{
+    one == other
+}
+
+/// A type where it is known.
+fn known_if(known: bool, ty: ValueType) -> Option<ValueType>
+    ensures same { IfSome result (λ t. t ≡ ty) }
+    ensures known { OnSome result (known ≡ true) }
+{
+    if known { Some(ty) } else { None }
 }
 
 impl<'a> Names<'a> {
@@ -133,7 +151,7 @@ impl<'a> Names<'a> {
     }
 
     /// A name stands for something new, until it is shown again.
-    pub(crate) fn hide(&mut self, name: &'a Name, meaning: Meaning) -> Result<(), StaticError>
+    fn hide(&mut self, name: &'a Name, meaning: Meaning) -> Result<(), StaticError>
         ensures hides { OnOk result (Hides self.old self.new) }
         ensures known { OnOk result (context_of self.new
             ≡ put name.now (meaning_of meaning) (context_of self.old)) }
@@ -141,6 +159,37 @@ impl<'a> Names<'a> {
     {
         self.inner.push((name.text(), meaning))?;
         Ok(())
+    }
+
+    /// Whether a name stands for nothing, or for this already.
+    fn keeps(&self, name: &Name, meaning: Meaning) -> bool
+        ensures { result ≡ true → Keeps (context_of self.now) name.now (meaning_of meaning) }
+    {
+        match self.find(name.text()) {
+            None => true,
+            Some(before) => is_same(before, meaning),
+        }
+    }
+
+    /// Hides a name of a quantifier or generator over a domain of this type. Where the name stood for
+    /// nothing, or for the same, the domain is of this type behind the name too, which is then given.
+    pub(crate) fn quantify(
+        &mut self,
+        name: &'a Name,
+        ty: ValueType,
+    ) -> Result<Option<ValueType>, StaticError>
+        ensures hides { OnOk result (Hides self.old self.new) }
+        ensures known { OnOk result (context_of self.new
+            ≡ put name.now (types.quantified_name (typed ty)) (context_of self.old)) }
+        ensures same { IfOk result (λ again. IfSome again (λ t. t ≡ ty)) }
+        ensures keeps { IfOk result (λ again. OnSome again
+            (Keeps (context_of self.old) name.now (types.quantified_name (typed ty)))) }
+        ensures memory { IfErr result (λ e. e ≡ OutOfMemory) }
+    {
+        let meaning = rules::quantified_name(ty);
+        let again = known_if(self.keeps(name, meaning), ty);
+        self.hide(name, meaning)?;
+        Ok(again)
     }
 
     /// The names that were hidden since there were so many stand for what they did.

@@ -1,7 +1,7 @@
 use Rattle.std.proofs.Common.{◌+◌, false, not, ◌&&◌, ◌||◌, List, [], ◌∷◌, drop, Ok, refl, sym, ap, subst, ◌∙◌}
 use Rattle.std.proofs.lemmas.Result.{err_from_is_err_and}
 use Rattle.std.specs.List.{list_all}
-use Rattle.ep_tree.specs.Types.{gives, is_boolean, is_integer, list_type, matrix_type, read_type, slice_count}
+use Rattle.ep_tree.specs.Types.{gives, is_boolean, is_integer, list_type, matrix_type, quantified_name, read_type, slice_count, typed}
 use Rattle.ep_tree.specs.Names.{put}
 use Rattle.ep_tree.specs.Views.{domain_tree, domains_of, end_of, expr_tree, expr_trees, generators_of, indices_of, ranges_of, terms_of}
 use Rattle.ep_tree.specs.declared.values.ValueType.{ValueType}
@@ -10,13 +10,14 @@ use Rattle.ep_types.proofs.Bounds.{all_held, by_bounds, held_fails, next_bounds,
 use Rattle.ep_types.proofs.Hiding.{counted, hides_after, hides_none, shown}
 use Rattle.ep_types.proofs.NameSteps.{says_same}
 use Rattle.ep_types.proofs.Readings.{reading}
+use Rattle.ep_types.proofs.Reread.{known_again}
 use Rattle.ep_types.proofs.Said.{memory_says}
 use Rattle.ep_types.proofs.Scopes.{on_ok, same_after, same_again}
 use Rattle.ep_types.proofs.Walks.{Goes, all_done, all_read, behind_all, blames_at, blames_first, blames_memory, fails, none_done, nothing_done, nothing_read, ok_at, one_done, one_read, read_fails, then_is, walk_ends, walk_fails, walked}
 use Rattle.ep_types.specs.Checking.{check, check_all, check_domain, check_domains, check_end, check_generators, check_index, check_indices, check_ranges, check_readings, check_terms, conclude, quantified_over, unless_fault, ◌>>=◌}
 use Rattle.ep_types.specs.Reading.{check_bounds, check_read, range_bounds, stated_index}
 use Rattle.ep_tree.specs.Faults.{has_open_range, open_domain}
-use Rattle.ep_types.specs.Meanings.{context_of, meaning_of}
+use Rattle.ep_types.specs.Meanings.{context_of}
 use Rattle.ep_types.proofs.expressions.+checking.Goals as goal
 
 pub with_one_part-returns-in_default-clause-says : goal.with_one_part-returns-in_default-clause-says
@@ -245,17 +246,22 @@ domain_types-returns-in_err-push-clause-says t c =
     rw (p.1, p.2) (memory_says _)
 
 pub read_domain-loop-name-init : goal.read_domain-loop-name-init
-read_domain-loop-name-init t c = (hides_none _ _ (same_again _), nothing_read _)
+read_domain-loop-name-init t c = (hides_none _ _ (same_again _), nothing_read _, tt)
 
 pub read_domain-loop-name-preserved : goal.read_domain-loop-name-preserved
 read_domain-loop-name-preserved t c =
-    let x = c.name-item.result in (
-      hides_after _ _ _ (hides_after _ _ _ c.loop-name.invariant.0 (hides_none _ _ c.in_ok-ty.ensures.same)) c.in_ok-hide.ensures.hides,
-      reading (λ z. check_domain z false (domain_tree c.args.domain.now)) _ c.loop-name.scalar _ c.args.quantified.now c.loop-name.name-index x (context_of c.loop-name.names) _ c.in_ok-ty.ty (meaning_of c.quantified_name.result)
-          c.loop-name.invariant.1 c.loop-name-test.true c.name-item.is c.in_ok-ty.ensures.says
+    let x = c.name-item.result in
+    let ty = c.in_ok-ty.ty in
+    let dom = domain_tree c.args.domain.now in
+    let ok = c.in_ok-ty.ensures.says c.loop-name.invariant.2 in (
+      hides_after _ _ _ (hides_after _ _ _ c.loop-name.invariant.0 (hides_none _ _ c.in_ok-ty.ensures.same)) c.in_ok-known.ensures.hides,
+      reading (λ z. check_domain z false dom) _ c.loop-name.scalar _ c.args.quantified.now c.loop-name.name-index x (context_of c.loop-name.names) _ ty (quantified_name (typed ty))
+          c.loop-name.invariant.1 c.loop-name-test.true c.name-item.is ok
           (c.both-scalar.ensures ∙ ap (λ b. c.loop-name.scalar && b) c.is_integer.ensures)
-          (c.in_ok-hide.ensures.known ∙ ap (λ z. put x (meaning_of c.quantified_name.result) z) c.in_ok-ty.ensures.same.context)
-          c.quantified_name.ensures,
+          (c.in_ok-known.ensures.known ∙ ap (λ z. put x (quantified_name (typed ty)) z) c.in_ok-ty.ensures.same.context)
+          refl,
+      known_again (context_of c.domain_again.new.names) _ x (quantified_name (typed ty)) dom ty c.in_ok-known.known
+          (ap (λ z. check_domain z false dom) c.in_ok-ty.ensures.same.context ∙ ok) c.in_ok-known.ensures.same c.in_ok-known.ensures.keeps c.in_ok-known.ensures.known,
     )
 
 pub read_domain-returns-in_err-ty-clause-says : goal.read_domain-returns-in_err-ty-clause-says
@@ -264,12 +270,12 @@ read_domain-returns-in_err-ty-clause-says t c =
     rw (p.1, p.2)
     (read_fails c.in_err-ty.field-0.0 _ c.loop-name.scalar _ _ _ c.loop-name.invariant.1
     (next_reading (λ z. check_domain z false (domain_tree c.args.domain.now)) (context_of c.loop-name.names) c.args.quantified.now c.loop-name.name-index c.name-item.result c.loop-name-test.true c.name-item.is)
-    c.in_err-ty.ensures.says)
+    (c.in_err-ty.ensures.says c.loop-name.invariant.2))
 
-pub read_domain-returns-in_err-hide-clause-says : goal.read_domain-returns-in_err-hide-clause-says
-read_domain-returns-in_err-hide-clause-says t c =
-    let p = err_from_is_err_and c.from_residual-in_err-hide.result c.from_residual-in_err-hide.ensures.1 in
-    rw (p.1, p.2) (blames_memory c.in_err-hide.field-0.0 _ c.in_err-hide.ensures.memory)
+pub read_domain-returns-in_err-known-clause-says : goal.read_domain-returns-in_err-known-clause-says
+read_domain-returns-in_err-known-clause-says t c =
+    let p = err_from_is_err_and c.from_residual-in_err-known.result c.from_residual-in_err-known.ensures.1 in
+    rw (p.1, p.2) (blames_memory c.in_err-known.field-0.0 _ c.in_err-known.ensures.memory)
 
 pub read_domain-returns-clause-says : goal.read_domain-returns-clause-says
 read_domain-returns-clause-says t c =

@@ -1,4 +1,4 @@
-use Rattle.std.proofs.Common.{drop, false}
+use Rattle.std.proofs.Common.{◌≡◌, drop, false, IfSome, Ok}
 use Rattle.ep_tree.specs.Views.{domain_tree, domains_of, expr_trees, generators_of, indices_of, ranges_of, terms_of}
 use Rattle.ep_types.specs.Checking.{check_all, check_domain, check_domains, check_generators, check_indices, check_readings, check_terms}
 use Rattle.ep_types.specs.Hiding.{Hides}
@@ -37,6 +37,7 @@ abbrev pub invariant-read_domain-loop-name : goal.invariant-read_domain-loop-nam
 invariant-read_domain-loop-name l =
     Hides l.initial.names l.names
     × Reads (check_readings l.quantified (λ c. check_domain c false (domain_tree l.domain)) (context_of l.initial.names)) l.scalar (check_readings (drop l.name-index l.quantified) (λ c. check_domain c false (domain_tree l.domain)) (context_of l.names))
+    × IfSome l.known (λ t. check_domain (context_of l.names) false (domain_tree l.domain) ≡ Ok t)
 
 abbrev pub invariant-read_generators-loop-generator : goal.invariant-read_generators-loop-generator
 invariant-read_generators-loop-generator l =
