@@ -1,5 +1,6 @@
 pub mod Lists
 pub mod KnownNames
+pub mod EnvCopies
 pub mod Countings
 pub mod Reaches
 pub mod FormParts
@@ -19,9 +20,18 @@ pub mod Defined
 pub mod FoldGiven
 pub mod DomainForms
 pub mod Instances
+pub mod GeneratingForms
+pub mod GeneratingSteps
+pub mod GeneratingDepths
 pub mod WalkSteps
 pub mod ScalarSteps
 pub mod Depths
 pub mod ReadSteps
 pub mod IndexSteps
 pub mod ReadResults
+pub mod SetSteps
+pub mod SetForms
+pub mod LiteralForms
+pub mod JudgingForms
+pub mod DomainTypes
+pub mod TypedNames

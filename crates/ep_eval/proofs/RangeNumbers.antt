@@ -146,7 +146,7 @@ runs_begin mode env start all h = record {
   small = h;
 }
 
-met_cons : (mode : Mode) (env : Env) (r : Range) (left : List Range)
+pub met_cons : (mode : Mode) (env : Env) (r : Range) (left : List Range)
     → met_ranges mode env (ranges_of (r ∷ left)) ≡ met_ranges mode env (alone r) ++ met_ranges mode env (ranges_of left)
 unfolding met_ranges ranges_of with_range
 met_cons mode env (One' place kind) left = ap (λ l. l ++ met_ranges mode env (ranges_of left)) (sym (append-nil (met mode env (kind_tree place kind))))

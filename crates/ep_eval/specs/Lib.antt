@@ -8,8 +8,12 @@ pub mod Counting
 pub mod Ranges
 pub mod Folding
 pub mod Gathering
+pub mod Generating
 pub mod Walking
 pub mod Scalars
 pub mod Instances
 pub mod Ranks
 pub mod Reading
+pub mod Literals
+pub mod Typing
+pub mod Judging

@@ -2,8 +2,10 @@
 
 ghost use Rattle.std.specs.Prelude.{◌≡◌, IfOk};
 ghost use Rattle.ep_tree.specs.Views.{value_tree};
+ghost use Rattle.ep_eval.specs.Helds.{held_value};
 
 use super::environments::NamedDomain;
+use super::held::Held;
 use ep_base::{Memory, Name, Runs};
 use ep_tree::{Entry, Value};
 use std::alloc::Global;
@@ -22,6 +24,20 @@ pub fn copy_value(alloc: Global, value: &Value) -> Result<Value, Memory>
             }
             Ok(Value::Matrix(indices, copies))
         }
+    }
+}
+
+/// A value for the caller: what is lent is copied.
+pub fn given_value(alloc: Global, held: Held) -> Result<Value, Memory>
+    ensures { IfOk result (λ value. value_tree value ≡ held_value held.entry) }
+{
+    match held {
+        Held::Number(number) => Ok(Value::Number(number)),
+        Held::Lent(value) => {
+            let copy = copy_value(alloc, value)?;
+            Ok(copy)
+        }
+        Held::Made(value) => Ok(value),
     }
 }
 

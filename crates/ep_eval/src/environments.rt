@@ -2,8 +2,9 @@
 
 ghost use Rattle.std.specs.Prelude.{◌≡◌, Some, IfOk, OnOk, OnErr, IsTrue, option_map};
 ghost use Rattle.std.specs.List.{list_all};
-ghost use Rattle.ep_tree.specs.Environments.{HasAscendingDomain, has_cells, has_domain};
+ghost use Rattle.ep_tree.specs.Environments.{HasAscendingDomain, has_cells, has_domain, meaning_in, shape_type};
 ghost use Rattle.ep_tree.specs.Names.{nothing_known, put};
+ghost use Rattle.ep_tree.specs.Types.{named_type, type_from};
 ghost use Rattle.ep_tree.specs.TypedValues.{IsOf, IsTypedBound, IsTypedEnv, is_number_of};
 ghost use Rattle.ep_tree.specs.Views.{value_tree};
 ghost use Rattle.ep_eval.specs.Bounds.{bound_of, cells_of, domain_of, entry_bound, only_cells, only_domain, only_value};
@@ -11,7 +12,8 @@ ghost use Rattle.ep_eval.specs.Known.{HasAscendingDomains, env_of};
 
 use super::copies::{copy_domain, copy_entry};
 use ep_base::{Memory, Name, Runs};
-use ep_tree::{Entry, Mode, Scalar};
+use ep_rules::of_scalar;
+use ep_tree::{Entry, Mode, Scalar, ValueType};
 use indexmap::IndexMap;
 use std::alloc::Global;
 use std::marker::Model;
@@ -34,6 +36,52 @@ enum Meaning {
     Cells(NamedDomain),
     /// A domain.
     Domain(NamedDomain),
+}
+
+/// The same meaning once more.
+#[tactic(auto, unfolding(crate::specs::Bounds::bound_of))]
+fn copy_meaning(alloc: Global, meaning: &Meaning) -> Result<Meaning, Memory>
+    ensures { IfOk result (λ copy. bound_of copy ≡ bound_of meaning.now) }
+{
+    match meaning {
+        Meaning::Value(entry) => {
+            let entry = copy_entry(alloc, entry)?;
+            Ok(Meaning::Value(entry))
+        }
+        Meaning::Cells(domain) => {
+            let domain = copy_domain(alloc, domain)?;
+            Ok(Meaning::Cells(domain))
+        }
+        Meaning::Domain(domain) => {
+            let domain = copy_domain(alloc, domain)?;
+            Ok(Meaning::Domain(domain))
+        }
+    }
+}
+
+/// The type of the values of a domain.
+pub(crate) fn shape_type(domain: &NamedDomain) -> ValueType
+    ensures { result ≡ shape_type domain.now.of domain.now.indices.items }
+{
+    if domain.indices.len() == 0 {
+        return of_scalar(domain.of);
+    }
+    ValueType::Matrix {
+        dims: domain.indices.len() as u64,
+        of: domain.of,
+    }
+}
+
+/// The type of what a name stands for, where that is a value or a decision variable.
+#[tactic(auto, unfolding(crate::specs::Bounds::bound_of, ep_tree::specs::Environments::meaning_in, ep_tree::specs::Types::named_type, ep_tree::specs::Types::type_from))]
+fn meaning_type(meaning: &Meaning) -> Option<ValueType>
+    ensures { result ≡ type_from (named_type (Some (meaning_in (bound_of meaning.now)))) }
+{
+    match meaning {
+        Meaning::Value(entry) => Some(entry.ty),
+        Meaning::Cells(domain) => Some(shape_type(domain)),
+        Meaning::Domain(_) => None,
+    }
 }
 
 /// What names stand for, and the mode in which expressions are evaluated. Contracts see both.
@@ -152,12 +200,30 @@ impl Env {
         self.put(name, Meaning::Cells(domain))
     }
 
-    /// The same environment once more.
+    /// A name stands for a copy of what is given, in place of what it stood for.
+    fn put_copy(&mut self, name: &Name, meaning: &Meaning) -> Result<(), Memory>
+        requires typed { IsTypedBound (Some (bound_of meaning.now)) }
+        requires ascending { HasAscendingDomain (Some (bound_of meaning.now)) }
+        ensures mode { self.new.mode ≡ self.old.mode }
+        ensures known { OnOk result (env_of self.new ≡ put name.now (bound_of meaning.now) (env_of self.old)) }
+    {
+        let name = Name::new(self.alloc, name.text())?;
+        let meaning = copy_meaning(self.alloc, meaning)?;
+        self.put(name, meaning)
+    }
+
+    /// The same environment once more. Linear in what it holds.
     pub fn copy(&self) -> Result<Env, Memory>
         ensures mode { IfOk result (λ env. env.mode ≡ self.now.mode) }
         ensures known { IfOk result (λ env. env_of env ≡ env_of self.now) }
     {
-        Err(Memory)
+        let mut copy = Env::new(self.alloc, self.mode());
+        for place in 0..self.known.len() {
+            if let Some((name, meaning)) = self.known.get_index(place) {
+                copy.put_copy(name, meaning)?;
+            }
+        }
+        Ok(copy)
     }
 
     /// What a name stands for, where it stands for anything.
@@ -165,6 +231,17 @@ impl Env {
         ensures { option_map (λ m. bound_of m.now) result ≡ env_of self.now name.now }
     {
         self.known.get(name)
+    }
+
+    /// The type of a name, where it stands for a value or a decision variable.
+    #[tactic(auto, unfolding(ep_tree::specs::Types::named_type, ep_tree::specs::Types::type_from))]
+    pub(crate) fn type_of(&self, name: &Name) -> Option<ValueType>
+        ensures { result ≡ type_from (named_type (option_map meaning_in (env_of self.now name.now))) }
+    {
+        match self.meaning(name) {
+            Some(meaning) => meaning_type(meaning),
+            None => None,
+        }
     }
 
     /// The value that a name stands for, where it stands for one.

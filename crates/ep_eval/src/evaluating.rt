@@ -1,20 +1,22 @@
 //! Evaluation of the parts of an expression.
 
-ghost use Rattle.std.specs.Prelude.{◌≡◌, ◌+◌, ◌≤◌, ◌<◌, ◌∷◌, ℤ, Some, true, false, flat_map, map, option_to_list, option_map, IfOk, IfErr, OnOk};
+ghost use Rattle.std.specs.Prelude.{◌≡◌, ◌++◌, ◌+◌, ◌≤◌, ◌<◌, ◌∷◌, ℤ, Some, true, false, flat_map, map, option_to_list, option_map, IfOk, IfErr, OnOk};
 ghost use Rattle.std.specs.List.{list_any};
 ghost use Rattle.ep_base.specs.declared.places.Place.{Place};
 ghost use Rattle.ep_base.specs.Numbers.{sum_of};
 ghost use Rattle.ep_tree.specs.Environments.{value_bound};
 ghost use Rattle.ep_tree.specs.Values.{all_defined};
-ghost use Rattle.ep_tree.specs.Evaluation.{domain_values, end_value, evaluate, index_list, number_in, range_values, term_values, values_of};
+ghost use Rattle.ep_tree.specs.Evaluation.{domain_values, end_value, evaluate, index_list, index_values, map_both, number_in, range_values, term_values, values_of};
 ghost use Rattle.ep_tree.specs.Limits as limits;
 ghost use Rattle.ep_tree.specs.Limits.{is_too_far, limits_of_values};
 ghost use Rattle.ep_tree.specs.Measures as measures;
 ghost use Rattle.ep_tree.specs.Views as views;
-ghost use Rattle.ep_tree.specs.Views.{domain_tree, expr_tree, expr_trees, indices_of, kind_tree, ranges_of, terms_of};
+ghost use Rattle.ep_tree.specs.Views.{domain_tree, domains_of, expr_tree, expr_trees, generators_of, indices_of, kind_tree, ranges_of, terms_of};
 ghost use Rattle.ep_eval.specs.Counting.{Counted, Evaluated, IsRefused, of_all};
 ghost use Rattle.ep_eval.specs.Gathering.{nothing_yet, with_more};
+ghost use Rattle.ep_eval.specs.Generating.{lists_joined, nodes_at, nodes_of, part_nodes, part_value, parts_at, parts_of, ranging_over};
 ghost use Rattle.ep_eval.specs.Helds.{seen_held};
+ghost use Rattle.ep_eval.specs.Literals.{index_at, listed_in};
 ghost use Rattle.ep_eval.specs.Instances.{instance_nodes, instance_value, quantified_tree};
 ghost use Rattle.ep_eval.specs.Outcomes.{IsCause};
 ghost use Rattle.ep_eval.specs.Ranges.{alone, has_in, run_has, runs_have};
@@ -32,7 +34,9 @@ use super::forms::{comparison, negation, together, truth_value};
 use super::gathering::{
     Gathered, Quantifier, before_all, gathered_value, with_instance, without_domain,
 };
+use super::generating::{Listing, Ranging, count_of};
 use super::held::{Held, held_truth, number_of, truth_seen};
+use super::literals::{first_numbers, made_matrix, with_value};
 use super::numbers::{absolute, minus};
 use super::operands::flattened;
 use super::orders::{difference, lex_comparison, membership, within};
@@ -40,11 +44,12 @@ use super::powers::factorial;
 use super::reads::{read, with_next};
 use super::scalars::scalar_of;
 use super::scopes::{Around, Scope, look_up};
+use super::sets::set_operation;
 use super::totals::with_term;
 use super::typing::given_read;
 use super::walking::{next_number, walk_of};
 use ep_base::{CompareOp, Limit, Name, Run, Runs};
-use ep_tree::{Domain, DomainKind, Expr, Kind, Range};
+use ep_tree::{Domain, DomainKind, Expr, Generator, Kind, Range, Value};
 
 /// The greatest number of nodes that may be met.
 pub const MOST_SIZE: u64 = 5_000_000;
@@ -177,6 +182,25 @@ fn kind_value<'a>(
             let truth = truths(scope, met, false, parts)?;
             Ok(truth_value(scope.env.mode(), truth))
         }
+        _ => list_value(scope, met, kind),
+    }
+}
+
+/// The value of an expression that is one of lists, matrices or domains, whose own node is counted. No other kind comes
+/// to it.
+#[cycle(evaluating)]
+fn list_value<'a>(
+    scope: Scope<'_, 'a>,
+    met: &mut u64,
+    kind: &Kind,
+) -> Result<Option<Held<'a>>, EvalError>
+    requires small { met.old ≤ limits.MOST_SIZE }
+    ensures value { IfOk result (λ seen. (p : Place) → Evaluated (mode_in scope.entry) (env_in scope.entry)
+        (kind_tree p kind.now) met.old met.new (seen_held seen)) }
+    ensures cause { IfErr result (λ e. (p : Place) → IsRefused (mode_in scope.entry) (env_in scope.entry)
+        (kind_tree p kind.now) met.old e) }
+{
+    match kind {
         Kind::Fold(op, part) => {
             let seen = value_of(scope, met, part)?;
             folded(scope.alloc, scope.env.mode(), *op, &seen)
@@ -259,7 +283,73 @@ fn kind_value<'a>(
             let given = given_read(scope, matrix, indices, found)?;
             Ok(given)
         }
+        Kind::Literal(parts, domain) => {
+            let values = part_values(scope, met, parts)?;
+            let indices = index_set(scope, met, domain, parts.len())?;
+            let made = made_matrix(scope.alloc, indices, values)?;
+            Ok(made)
+        }
+        Kind::Comprehension(body, generators, conditions, domain) => {
+            let listing = Listing { body, conditions };
+            let none = Some(Vec::new(scope.alloc));
+            let values = generated(scope, met, listing, generators, none)?;
+            let count = count_of(&values);
+            let indices = index_set(scope, met, domain, count)?;
+            let made = made_matrix(scope.alloc, indices, values)?;
+            Ok(made)
+        }
         _ => Err(EvalError::Memory),
+    }
+}
+
+/// The values of the parts of a list, where each has one. All are evaluated.
+#[cycle(evaluating)]
+fn part_values(
+    scope: Scope<'_, '_>,
+    met: &mut u64,
+    parts: &[Expr],
+) -> Result<Option<Vec<Value>>, EvalError>
+    requires small { met.old ≤ limits.MOST_SIZE }
+    ensures counted { OnOk result (Counted (mode_in scope.entry) met.old met.new
+        (measures.met_all (mode_in scope.entry) (env_in scope.entry) (expr_trees parts.now))) }
+    ensures value { IfOk result (λ values. listed_in values
+        ≡ all_defined (values_of (mode_in scope.entry) (env_in scope.entry) (expr_trees parts.now))) }
+    ensures cause { IfErr result (IsCause (limits_of_values (mode_in scope.entry) met.old
+        (measures.met_all (mode_in scope.entry) (env_in scope.entry) (expr_trees parts.now)))) }
+{
+    let mut values = Some(Vec::new(scope.alloc));
+    for part in parts {
+        let seen = value_of(scope, met, part)?;
+        values = with_value(scope.alloc, values, seen)?;
+    }
+    Ok(values)
+}
+
+/// The indices of so many parts: the numbers of the domain that is stated, and else those from 1 on.
+#[cycle(evaluating)]
+fn index_set(
+    scope: Scope<'_, '_>,
+    met: &mut u64,
+    domain: &Option<Box<Domain>>,
+    count: usize,
+) -> Result<Option<Runs>, EvalError>
+    requires small { met.old ≤ limits.MOST_SIZE }
+    ensures counted { OnOk result (Counted (mode_in scope.entry) met.old met.new
+        (measures.met_index (mode_in scope.entry) (env_in scope.entry) (index_at domain.now))) }
+    ensures value { IfOk result (λ set. set
+        ≡ index_values (mode_in scope.entry) (env_in scope.entry) (index_at domain.now) count) }
+    ensures cause { IfErr result (IsCause (limits_of_values (mode_in scope.entry) met.old
+        (measures.met_index (mode_in scope.entry) (env_in scope.entry) (index_at domain.now)))) }
+{
+    match domain {
+        Some(stated) => {
+            let set = numbers_of(scope, met, stated)?;
+            Ok(set)
+        }
+        None => {
+            let set = first_numbers(scope.alloc, count)?;
+            Ok(Some(set))
+        }
     }
 }
 
@@ -441,8 +531,33 @@ pub fn numbers_of(
             let set = numbers_of(scope, met, inner)?;
             Ok(set)
         }
-        _ => Err(EvalError::Memory),
+        DomainKind::Set(op, left, right) => {
+            let one = numbers_of(scope, met, left)?;
+            let other = numbers_of(scope, met, right)?;
+            let set = set_operation(scope.alloc, *op, one, other)?;
+            Ok(set)
+        }
+        DomainKind::Matrix(indices, elements) => {
+            meet_domains(scope, met, indices)?;
+            let _elements = numbers_of(scope, met, elements)?;
+            Ok(None)
+        }
     }
+}
+
+/// Evaluates the bounds of some domains.
+#[cycle(evaluating)]
+fn meet_domains(scope: Scope<'_, '_>, met: &mut u64, domains: &[Domain]) -> Result<(), EvalError>
+    requires small { met.old ≤ limits.MOST_SIZE }
+    ensures counted { OnOk result (Counted (mode_in scope.entry) met.old met.new
+        (measures.met_domains (mode_in scope.entry) (env_in scope.entry) (domains_of domains.now))) }
+    ensures cause { IfErr result (IsCause (limits_of_values (mode_in scope.entry) met.old
+        (measures.met_domains (mode_in scope.entry) (env_in scope.entry) (domains_of domains.now)))) }
+{
+    for domain in domains {
+        let _numbers = numbers_of(scope, met, domain)?;
+    }
+    Ok(())
 }
 
 /// The value of a quantifier over these names; without any it is its body, and no node of its own.
@@ -537,4 +652,145 @@ fn instances(
         walk = behind;
     }
     Ok(gathered)
+}
+
+/// Some values and the parts that generators lead to behind them, where all are there. All are evaluated.
+#[cycle(evaluating)]
+fn generated(
+    scope: Scope<'_, '_>,
+    met: &mut u64,
+    listing: Listing<'_>,
+    generators: &[Generator],
+    values: Option<Vec<Value>>,
+) -> Result<Option<Vec<Value>>, EvalError>
+    requires small { met.old ≤ limits.MOST_SIZE }
+    ensures counted { OnOk result (Counted (mode_in scope.entry) met.old met.new
+        (nodes_of (mode_in scope.entry) listing.entry (generators_of generators.now) (env_in scope.entry))) }
+    ensures value { IfOk result (λ more. listed_in more ≡ map_both ◌++◌ (listed_in values)
+        (parts_of (mode_in scope.entry) listing.entry (generators_of generators.now) (env_in scope.entry))) }
+    ensures cause { IfErr result (IsCause (limits_of_values (mode_in scope.entry) met.old
+        (nodes_of (mode_in scope.entry) listing.entry (generators_of generators.now) (env_in scope.entry)))) }
+{
+    match generators.split_first() {
+        Some((first, later)) => {
+            let ranging = Ranging {
+                listing,
+                domain: &first.domain,
+                later,
+            };
+            let more = over_names(scope, met, ranging, &first.names, values)?;
+            Ok(more)
+        }
+        None => {
+            let more = with_part(scope, met, listing, values)?;
+            Ok(more)
+        }
+    }
+}
+
+/// Some values and the parts that names over a domain and the generators behind them lead to.
+#[cycle(evaluating)]
+fn over_names(
+    scope: Scope<'_, '_>,
+    met: &mut u64,
+    ranging: Ranging<'_>,
+    names: &[Name],
+    values: Option<Vec<Value>>,
+) -> Result<Option<Vec<Value>>, EvalError>
+    requires small { met.old ≤ limits.MOST_SIZE }
+    ensures counted { OnOk result (Counted (mode_in scope.entry) met.old met.new
+        (nodes_of (mode_in scope.entry) ranging.entry.listing (ranging_over ranging.entry names.now)
+        (env_in scope.entry))) }
+    ensures value { IfOk result (λ more. listed_in more ≡ map_both ◌++◌ (listed_in values)
+        (parts_of (mode_in scope.entry) ranging.entry.listing (ranging_over ranging.entry names.now)
+        (env_in scope.entry))) }
+    ensures cause { IfErr result (IsCause (limits_of_values (mode_in scope.entry) met.old
+        (nodes_of (mode_in scope.entry) ranging.entry.listing (ranging_over ranging.entry names.now)
+        (env_in scope.entry)))) }
+{
+    match names.split_first() {
+        Some((name, rest)) => {
+            count(met)?;
+            let numbers = numbers_of(scope, met, ranging.domain)?;
+            match numbers {
+                Some(set) => {
+                    let more = over_numbers(scope, met, ranging, name, rest, &set, values)?;
+                    Ok(more)
+                }
+                None => Ok(None),
+            }
+        }
+        None => {
+            let more = generated(scope, met, ranging.listing, ranging.later, values)?;
+            Ok(more)
+        }
+    }
+}
+
+/// The same where the first name stands for each number of a set in turn.
+#[cycle(evaluating)]
+fn over_numbers(
+    scope: Scope<'_, '_>,
+    met: &mut u64,
+    ranging: Ranging<'_>,
+    name: &Name,
+    rest: &[Name],
+    set: &Runs,
+    values: Option<Vec<Value>>,
+) -> Result<Option<Vec<Value>>, EvalError>
+    requires small { met.old ≤ limits.MOST_SIZE }
+    requires set { domain_values (mode_in scope) (env_in scope) (domain_tree ranging.domain.now) ≡ Some set.now }
+    ensures counted { OnOk result (Counted (mode_in scope.entry) met.old met.new
+        (flat_map (nodes_at (mode_in scope.entry) (env_in scope.entry) ranging.entry name.now rest.now) set.now)) }
+    ensures value { IfOk result (λ more. listed_in more ≡ map_both ◌++◌ (listed_in values)
+        (lists_joined (map (parts_at (mode_in scope.entry) (env_in scope.entry) ranging.entry name.now rest.now)
+        set.now))) }
+    ensures cause { IfErr result (IsCause (limits_of_values (mode_in scope.entry) met.old
+        (flat_map (nodes_at (mode_in scope.entry) (env_in scope.entry) ranging.entry name.now rest.now) set.now))) }
+{
+    let scalar = scalar_of(scope, ranging.domain);
+    let mut more = values;
+    let mut walk = walk_of(set.runs());
+    while let Some((number, behind)) = next_number(walk) {
+        let around = Around::Number(scope.around, name, scalar, number);
+        let inner = Scope {
+            alloc: scope.alloc,
+            env: scope.env,
+            around: &around,
+        };
+        more = over_names(inner, met, ranging, rest, more)?;
+        walk = behind;
+    }
+    Ok(more)
+}
+
+/// Some values and the part behind them, where the conditions hold.
+#[cycle(evaluating)]
+fn with_part(
+    scope: Scope<'_, '_>,
+    met: &mut u64,
+    listing: Listing<'_>,
+    values: Option<Vec<Value>>,
+) -> Result<Option<Vec<Value>>, EvalError>
+    requires small { met.old ≤ limits.MOST_SIZE }
+    ensures counted { OnOk result (Counted (mode_in scope.entry) met.old met.new
+        (part_nodes (mode_in scope.entry) (expr_tree listing.entry.body.now) (expr_trees listing.entry.conditions.now)
+        (env_in scope.entry))) }
+    ensures value { IfOk result (λ more. listed_in more ≡ map_both ◌++◌ (listed_in values)
+        (part_value (mode_in scope.entry) (expr_tree listing.entry.body.now) (expr_trees listing.entry.conditions.now)
+        (env_in scope.entry))) }
+    ensures cause { IfErr result (IsCause (limits_of_values (mode_in scope.entry) met.old
+        (part_nodes (mode_in scope.entry) (expr_tree listing.entry.body.now) (expr_trees listing.entry.conditions.now)
+        (env_in scope.entry)))) }
+{
+    let truth = truths(scope, met, true, listing.conditions)?;
+    match truth {
+        Some(true) => {
+            let seen = value_of(scope, met, listing.body)?;
+            let more = with_value(scope.alloc, values, seen)?;
+            Ok(more)
+        }
+        Some(false) => Ok(values),
+        None => Ok(None),
+    }
 }

@@ -1,22 +1,29 @@
 //! Direct evaluation.
 
-ghost use Rattle.std.specs.Prelude.{◌≡◌, ℕ, Some, Ok, IfOk, IfErr, option_map};
+ghost use Rattle.std.specs.Prelude.{◌≡◌, ℕ, Some, Ok, IfOk, IfErr, option_map, unwrap_or};
 ghost use Rattle.ep_tree.specs.Evaluation as defined;
 ghost use Rattle.ep_tree.specs.Environments as names;
 ghost use Rattle.ep_tree.specs.Limits.{counted_domain, counted_value, limits_of_values};
 ghost use Rattle.ep_tree.specs.Measures.{met, met_domain};
-ghost use Rattle.ep_tree.specs.Views.{domain_tree, expr_tree, value_tree};
+ghost use Rattle.ep_tree.specs.Views.{domain_tree, expr_tree};
+ghost use Rattle.ep_tree.specs.Types as types;
+ghost use Rattle.ep_tree.specs.declared.values.Scalar.{Scalar as EachScalar};
+ghost use Rattle.ep_tree.specs.declared.values.ValueType.{ValueType as EachType};
 ghost use Rattle.ep_eval.specs.Known.{env_of};
-ghost use Rattle.ep_eval.specs.Helds.{held_value, seen_held};
+ghost use Rattle.ep_eval.specs.Helds.{seen_held};
 ghost use Rattle.ep_eval.specs.Outcomes.{IsCause, seen_value};
+ghost use Rattle.ep_eval.specs.Scopes.{env_in};
 
-use super::copies::copy_value;
+use super::copies::given_value;
 use super::environments::Env;
 use super::errors::EvalError;
 use super::evaluating::{MOST_SIZE, numbers_of, value_of};
 use super::held::Held;
+use super::judging::{domain_type, type_of};
 use super::scopes::{Around, Scope};
+use super::within::Within;
 use ep_base::{Limit, Memory, Runs};
+use ep_rules::scalar_of;
 use ep_tree::{Domain, Expr, Scalar, Value, ValueType};
 use std::alloc::Global;
 
@@ -62,20 +69,6 @@ pub fn evaluate_after(
     let seen = value_of(scope, &mut met, e)?;
     let given = given(alloc, seen)?;
     Ok((given, met))
-}
-
-/// A value for the caller: what is lent is copied.
-fn given_value(alloc: Global, held: Held) -> Result<Value, Memory>
-    ensures { IfOk result (λ value. value_tree value ≡ held_value held.entry) }
-{
-    match held {
-        Held::Number(number) => Ok(Value::Number(number)),
-        Held::Lent(value) => {
-            let copy = copy_value(alloc, value)?;
-            Ok(copy)
-        }
-        Held::Made(value) => Ok(value),
-    }
 }
 
 /// What was seen, for the caller.
@@ -127,16 +120,66 @@ pub fn domain_values_after(
     Ok((values, met))
 }
 
+/// A type, Int where there is none.
+fn type_or_int(ty: Option<ValueType>) -> ValueType
+    ensures { result ≡ unwrap_or ty EachType.Int }
+{
+    match ty {
+        Some(own) => own,
+        None => ValueType::Int,
+    }
+}
+
+/// The type of an expression in a scope, Int where it has none.
+pub fn type_within(scope: Scope<'_, '_>, e: &Expr) -> Result<ValueType, Memory>
+    ensures { IfOk result (λ t. t ≡ defined.type_in (env_in scope.entry) (expr_tree e.now)) }
+{
+    let none = Vec::new(scope.alloc);
+    let within = Within {
+        scope,
+        typed: &none,
+    };
+    let ty = type_of(within, e)?;
+    Ok(type_or_int(ty))
+}
+
 /// The type of an expression, Int where it has none.
-pub fn type_in(_alloc: Global, env: &Env, e: &Expr) -> Result<ValueType, Memory>
+pub fn type_in(alloc: Global, env: &Env, e: &Expr) -> Result<ValueType, Memory>
     ensures { IfOk result (λ t. t ≡ defined.type_in (env_of env.now) (expr_tree e.now)) }
 {
-    Err(Memory)
+    let scope = Scope {
+        alloc,
+        env,
+        around: &Around::Nothing,
+    };
+    let ty = type_within(scope, e)?;
+    Ok(ty)
+}
+
+/// The scalar of a type, Int where there is none.
+fn scalar_or_int(ty: Option<ValueType>) -> Scalar
+    ensures { result ≡ unwrap_or (option_map types.scalar_of ty) EachScalar.Int }
+{
+    match ty {
+        Some(own) => scalar_of(own),
+        None => Scalar::Int,
+    }
 }
 
 /// What the numbers of a domain stand for, numbers where the domain has no type.
-pub fn scalar_in(_alloc: Global, env: &Env, d: &Domain) -> Result<Scalar, Memory>
+pub fn scalar_in(alloc: Global, env: &Env, d: &Domain) -> Result<Scalar, Memory>
     ensures { IfOk result (λ s. s ≡ names.scalar_in (env_of env.now) (domain_tree d.now)) }
 {
-    Err(Memory)
+    let scope = Scope {
+        alloc,
+        env,
+        around: &Around::Nothing,
+    };
+    let none = Vec::new(alloc);
+    let within = Within {
+        scope,
+        typed: &none,
+    };
+    let ty = domain_type(within, d)?;
+    Ok(scalar_or_int(ty))
 }

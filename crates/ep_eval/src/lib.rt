@@ -12,22 +12,39 @@ mod evaluation;
 mod folds;
 mod forms;
 mod gathering;
+mod generating;
 mod held;
+mod judging;
+mod literals;
 mod numbers;
 mod operands;
 mod orders;
 mod powers;
 mod reads;
+#[cfg(test)]
+mod rows;
+mod rules;
 mod scalars;
 mod scopes;
+mod sets;
 #[cfg(test)]
 mod tests;
 mod totals;
+#[cfg(test)]
+mod type_tests;
 mod typing;
 mod walking;
+mod within;
 
 pub use environments::{Env, NamedDomain};
 pub use errors::EvalError;
+pub use evaluating::{numbers_of, value_of};
 pub use evaluation::{
     Seen, domain_values, domain_values_after, evaluate, evaluate_after, scalar_in, type_in,
+    type_within,
 };
+pub use gathering::Quantifier;
+pub use held::{Held, number_of};
+pub use scalars::scalar_of;
+pub use scopes::{Around, Scope};
+pub use walking::{Walk, next_number, walk_of};

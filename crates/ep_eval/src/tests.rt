@@ -6,7 +6,9 @@ use crate::held::{Held, number_of};
 use crate::orders::{difference, lex_comparison, membership};
 use crate::{Env, EvalError, Seen, evaluate};
 use ep_base::{CompareOp, LexOp, Name, Place};
-use ep_tree::{BinaryOp, Domain, DomainKind, Expr, FoldOp, Kind, Mode, QuantOp, Range, Value};
+use ep_tree::{
+    BinaryOp, Domain, DomainKind, Entry, Expr, FoldOp, Kind, Mode, QuantOp, Range, Value, ValueType,
+};
 use std::alloc::{AllocError, Global};
 use std::test::Fail;
 
@@ -50,6 +52,28 @@ fn modes_differ_where_a_part_has_no_value(rt: HostRuntime) -> Result<(), Fail> {
     let unknown = is_not_three(alloc, Kind::Named(Name::new(alloc, "y")?))?;
     assert_eq!(rt; worth(alloc, Mode::Relational, &unknown)?, Some(1));
     assert_eq!(rt; worth(alloc, Mode::Strict, &unknown)?, None);
+    Ok(())
+}
+
+#[test]
+fn a_copied_environment_has_the_same_names(rt: HostRuntime) -> Result<(), Fail> {
+    let alloc = rt.alloc();
+    let known = Name::new(alloc, "n")?;
+    let mut env = Env::new(alloc, Mode::Strict);
+    env.set(Entry {
+        name: Name::new(alloc, "n")?,
+        ty: ValueType::Int,
+        value: Value::Number(7),
+    })?;
+    let copy = env.copy()?;
+    let number = placed(Kind::Named(known));
+    assert!(rt;
+        matches!(
+            evaluate(alloc, &copy, &number)?,
+            Seen::Value(Value::Number(7))
+        )
+    );
+    assert!(rt; copy.entry(&Name::new(alloc, "m")?).is_none());
     Ok(())
 }
 

@@ -1,30 +1,54 @@
 //! What a read that finds nothing gives, by the read's type.
 
-ghost use Rattle.std.specs.Prelude.{◌≡◌, pos, Some, None, IfOk, if◌then◌else◌};
+ghost use Rattle.std.specs.Prelude.{◌≡◌, pos, Some, None, IfOk, if◌then◌else◌, unwrap_or};
 ghost use Rattle.ep_base.specs.declared.places.Place.{Place};
 ghost use Rattle.ep_tree.specs.Evaluation.{read_result, type_in};
 ghost use Rattle.ep_tree.specs.Trees as trees;
-ghost use Rattle.ep_tree.specs.Types.{is_boolean};
+ghost use Rattle.ep_tree.specs.Types as types;
 ghost use Rattle.ep_tree.specs.Values.{single};
 ghost use Rattle.ep_tree.specs.Views.{expr_tree, indices_of};
+ghost use Rattle.ep_tree.specs.declared.values.ValueType.{ValueType as EachType};
 ghost use Rattle.ep_eval.specs.Helds.{seen_held};
 ghost use Rattle.ep_eval.specs.Scopes.{env_in, mode_in};
 
 use super::held::{Held, held_truth};
+use super::judging::{indices_fit, type_of};
+use super::rules::read_by;
 use super::scopes::Scope;
+use super::within::Within;
 use ep_base::Memory;
-use ep_tree::{Expr, Mode};
+use ep_rules::is_boolean;
+use ep_tree::{Expr, Mode, ValueType};
+
+/// Whether there is a type, and it is Boolean.
+#[tactic(auto, unfolding(ep_tree::specs::Types::is_boolean))]
+fn is_boolean_type(ty: Option<ValueType>) -> bool
+    ensures { result ≡ types.is_boolean (unwrap_or ty EachType.Int) }
+{
+    match ty {
+        Some(own) => is_boolean(own),
+        None => false,
+    }
+}
 
 /// Whether a read has a Boolean type.
 fn is_boolean_read(
-    _scope: Scope<'_, '_>,
-    _matrix: &Expr,
-    _indices: &[Option<Expr>],
+    scope: Scope<'_, '_>,
+    matrix: &Expr,
+    indices: &[Option<Expr>],
 ) -> Result<bool, Memory>
-    ensures { IfOk result (λ boolean. (p : Place) → boolean ≡ is_boolean (type_in (env_in _scope.entry)
-        (trees.read p (expr_tree _matrix.now) (indices_of _indices.now)))) }
+    ensures { IfOk result (λ boolean. (p : Place) → boolean ≡ types.is_boolean (type_in (env_in scope.entry)
+        (trees.read p (expr_tree matrix.now) (indices_of indices.now)))) }
 {
-    Err(Memory)
+    let none = Vec::new(scope.alloc);
+    let within = Within {
+        scope,
+        typed: &none,
+    };
+    let ty = type_of(within, matrix)?;
+    let integer = indices_fit(within, indices)?;
+    let own = read_by(ty, integer, indices);
+    Ok(is_boolean_type(own))
 }
 
 /// False, where it is asked for.

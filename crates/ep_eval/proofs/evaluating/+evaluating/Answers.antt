@@ -1,17 +1,17 @@
 use Rattle.std.proofs.Common.{refl, ◌≡◌, ◌+◌, ◌+ℤ◌, Bool, ◌∷◌, ℕ, List, drop, subst, [], ap, sym, ◌∙◌, arith, Some, w64, to_z, of_z, ◌++◌, length, ◌≤◌, Option, ℤ}
-use Rattle.std.specs.Prelude.{neg_ℤ, option_and_then, option_map, not, Contains, flat_map}
+use Rattle.std.specs.Prelude.{map, neg_ℤ, option_and_then, option_map, not, Contains, flat_map}
 use Rattle.ep_tree.specs.Limits.{limits_of_values}
 use Rattle.std.proofs.lemmas.Int.{to_z-of_z, ints}
 use Rattle.std.proofs.lemmas.Result.{err_from_is_err_and}
 use Rattle.ep_tree.proofs.EvaluationEquations.{evaluate-all_different, evaluate-at_least, evaluate-at_most, evaluate-factorial, evaluate-flatten, evaluate-gcc, evaluate-in_set, evaluate-lex, evaluate-table, evaluate-chain, evaluate-all_of, evaluate-any_of, evaluate-absolute, evaluate-binary, evaluate-minus, evaluate-named, evaluate-compare, evaluate-group, evaluate-negation, evaluate-number, evaluate-to_int, evaluate-truth, evaluate-read}
-use Rattle.ep_tree.proofs.ViewLemmas.{kind_tree-in_domain, kind_tree-all_different, kind_tree-at_least, kind_tree-at_most, kind_tree-factorial, kind_tree-flatten, kind_tree-folded, kind_tree-gcc, kind_tree-in_set, kind_tree-lex, kind_tree-table, kind_tree-chain, kind_tree-all_of, kind_tree-any_of, kind_tree-absolute, kind_tree-binary, kind_tree-minus, kind_tree-named, kind_tree-compare, kind_tree-group, kind_tree-negation, kind_tree-number, kind_tree-to_int, kind_tree-truth, domain_kind_tree-bool, domain_kind_tree-group, domain_kind_tree-int, domain_kind_tree-named, domain_kind_tree-ranges, kind_tree-read}
+use Rattle.ep_tree.proofs.ViewLemmas.{kind_tree-in_domain, kind_tree-all_different, kind_tree-at_least, kind_tree-at_most, kind_tree-factorial, kind_tree-flatten, kind_tree-folded, kind_tree-gcc, kind_tree-in_set, kind_tree-lex, kind_tree-table, kind_tree-chain, kind_tree-all_of, kind_tree-any_of, kind_tree-absolute, kind_tree-binary, kind_tree-minus, kind_tree-named, kind_tree-compare, kind_tree-group, kind_tree-negation, kind_tree-number, kind_tree-to_int, kind_tree-truth, domain_kind_tree-bool, domain_kind_tree-group, domain_kind_tree-int, domain_kind_tree-named, domain_kind_tree-ranges, kind_tree-read, kind_tree-literal, index_of, domain_kind_tree-set, domain_kind_tree-matrix}
 use Rattle.ep_tree.specs.Evaluation.{folded_value, on_both, on_three, rows_in, scalars_in, signed, binary_value, evaluate, map_both, number_in, number_value, truth_in, truth_of, domain_values, range_values, read_result, type_in}
 use Rattle.ep_base.specs.Numbers.{absolute_of, are_different, compare_holds, counts_hold, factorial_of, has_number, is_row_of, lex_holds}
 use Rattle.ep_base.specs.declared.operators.CompareOp.{CompareOp}
-use Rattle.ep_tree.specs.Measures.{met, met_all, met_terms, met_domain, met_end, met_indices}
-use Rattle.ep_tree.specs.Trees.{all_different, at_least, at_most, factorial, flatten, gcc, in_set, lex, table, chain, absolute, all_of, any_of, binary, minus, named, compare, group, negation, number, to_int, truth, bool, group_domain, int, named_domain, ranges, read}
+use Rattle.ep_tree.specs.Measures.{met, met_all, met_terms, met_domain, met_domains, met_end, met_index, met_indices}
+use Rattle.ep_tree.specs.Trees.{all_different, at_least, at_most, factorial, flatten, gcc, in_set, lex, table, chain, absolute, all_of, any_of, binary, minus, named, compare, group, negation, number, to_int, truth, bool, group_domain, int, named_domain, ranges, read, literal, set_domain, matrix_domain}
 use Rattle.ep_tree.specs.Values.{list_value, single, read_value}
-use Rattle.ep_tree.specs.Views.{expr_tree, expr_trees, kind_tree, terms_of, domain_kind_tree, domain_tree, ranges_of, end_of, indices_of}
+use Rattle.ep_tree.specs.Views.{expr_tree, expr_trees, kind_tree, terms_of, domain_kind_tree, domain_tree, ranges_of, end_of, indices_of, domains_of, value_tree}
 use Rattle.ep_eval.specs.Reading.{indices_in, with_index}
 use Rattle.ep_eval.proofs.ReadResults.{meets_read}
 use Rattle.ep_eval.proofs.IndexSteps.{IndicesSoFar, in_option, indices_begin, indices_cause, indices_counted, indices_more, indices_value}
@@ -44,6 +44,21 @@ use Rattle.ep_eval.specs.Gathering.{worth}
 use Rattle.ep_eval.proofs.WalkSteps.{no_runs}
 use Rattle.ep_base.specs.declared.places.Place.{Place}
 use Rattle.ep_base.specs.declared.operators.Limit.{Limit as LimitName}
+use Rattle.ep_tree.specs.Domains.{set_values}
+use Rattle.ep_tree.specs.declared.syntax.Domain.{Domain}
+use Rattle.ep_tree.specs.declared.values.Value.{Value}
+use Rattle.ep_eval.proofs.LiteralForms.{PartsSoFar, counted_exprs, index_is, index_values-none, index_values-some, literal_is, meets_literal, met_index-none, met_index-some, parts_begin, parts_cause, parts_counted, parts_more, parts_value}
+use Rattle.ep_eval.proofs.SetForms.{domains_begin, domains_cause, domains_counted, domains_more}
+use Rattle.ep_eval.specs.Literals.{index_at, listed_in}
+use Rattle.std.specs.Prelude.{None, true, false}
+use Rattle.ep_tree.specs.Views.{generators_of}
+use Rattle.ep_tree.specs.Measures.{a_generator}
+use Rattle.ep_eval.specs.Generating.{how_many, listed_nodes, listed_values, lists_joined, nodes_at, nodes_of, parts_at, parts_of, ranging_over}
+use Rattle.ep_eval.specs.declared.generating.Listing.{Listing}
+use Rattle.ep_eval.proofs.GeneratingDepths.{comprehension_depth, first_generator, generators_depth, listing_depth}
+use Rattle.ep_eval.proofs.GeneratingSteps.{before_others, behind_cause, comprehension_at, comprehension_first, comprehension_second, comprehension_value, conditions_cause, domain_cause, generators_first, generators_none, listed_begins, listed_cause, listed_counted, listed_goes_on, listed_value, lost_behind, lost_part_is, name_domain, name_refused, name_whole, no_nodes_false, no_nodes_none, no_part_counted, no_part_is, nodes_bare, nodes_name, nodes_part, part_cause, part_counted, part_is, values_bare, values_none, values_part, values_some}
+use Rattle.ep_tree.specs.declared.syntax.Generator.{size-Generator}
+use denote.Param.Weighed.{most}
 use Rattle.ep_eval.proofs.evaluating.+evaluating.Goals as goal
 
 pub kind_value-returns-in-Number-clause-value : goal.kind_value-returns-in-Number-clause-value
@@ -307,35 +322,35 @@ kind_value-returns-in_err-second-in-Binary-clause-cause t c =
     (meets_binary mode env op) c.in_ok-first-in-Binary.ensures.counted
     c.in_err-second-in-Binary.field-0.0 c.in_err-second-in-Binary.ensures.cause)
 
-pub kind_value-returns-in_ok-seen-in-Fold-clause-value : goal.kind_value-returns-in_ok-seen-in-Fold-clause-value
-kind_value-returns-in_ok-seen-in-Fold-clause-value t c =
+pub list_value-returns-in_ok-seen-in-Fold-clause-value : goal.list_value-returns-in_ok-seen-in-Fold-clause-value
+list_value-returns-in_ok-seen-in-Fold-clause-value t c =
     let op = c.in-Fold.op in
     let seen = seen_held c.in_ok-seen-in-Fold.seen in
-    fold_value (mode_in c.args.scope) (env_in c.args.scope) c.args.met.now c.value_of-in-Fold.new.met seen op c.args.kind.now c.in-Fold.part.value c.deref-in-Fold.result.now c.folded.result
-    (λ p. ap (kind_tree p) c.in-Fold.is ∙ kind_tree-folded p op c.in-Fold.part) c.deref-in-Fold.ensures
+    fold_value (mode_in c.args.scope) (env_in c.args.scope) c.args.met.now c.value_of.new.met seen op c.args.kind.now c.in-Fold.part.value c.deref.result.now c.folded.result
+    (λ p. ap (kind_tree p) c.in-Fold.is ∙ kind_tree-folded p op c.in-Fold.part) c.deref.ensures
     c.in_ok-seen-in-Fold.ensures.counted c.in_ok-seen-in-Fold.ensures.value
-    (subst (λ m. GivesAt c.folded.result (folded_value m op (scalars_in seen)) (folded_numbers m op (scalars_in seen))) c.mode-in-Fold.ensures.mode c.folded.ensures)
+    (subst (λ m. GivesAt c.folded.result (folded_value m op (scalars_in seen)) (folded_numbers m op (scalars_in seen))) c.mode.ensures.mode c.folded.ensures)
 
-pub kind_value-returns-in_ok-seen-in-Fold-clause-cause : goal.kind_value-returns-in_ok-seen-in-Fold-clause-cause
-kind_value-returns-in_ok-seen-in-Fold-clause-cause t c =
+pub list_value-returns-in_ok-seen-in-Fold-clause-cause : goal.list_value-returns-in_ok-seen-in-Fold-clause-cause
+list_value-returns-in_ok-seen-in-Fold-clause-cause t c =
     let op = c.in-Fold.op in
     let seen = seen_held c.in_ok-seen-in-Fold.seen in
-    fold_cause (mode_in c.args.scope) (env_in c.args.scope) c.args.met.now seen op c.args.kind.now c.in-Fold.part.value c.deref-in-Fold.result.now c.folded.result
-    (λ p. ap (kind_tree p) c.in-Fold.is ∙ kind_tree-folded p op c.in-Fold.part) c.deref-in-Fold.ensures
+    fold_cause (mode_in c.args.scope) (env_in c.args.scope) c.args.met.now seen op c.args.kind.now c.in-Fold.part.value c.deref.result.now c.folded.result
+    (λ p. ap (kind_tree p) c.in-Fold.is ∙ kind_tree-folded p op c.in-Fold.part) c.deref.ensures
     c.in_ok-seen-in-Fold.ensures.value
-    (subst (λ m. GivesAt c.folded.result (folded_value m op (scalars_in seen)) (folded_numbers m op (scalars_in seen))) c.mode-in-Fold.ensures.mode c.folded.ensures)
+    (subst (λ m. GivesAt c.folded.result (folded_value m op (scalars_in seen)) (folded_numbers m op (scalars_in seen))) c.mode.ensures.mode c.folded.ensures)
 
-pub kind_value-returns-in_err-seen-in-Fold-clause-cause : goal.kind_value-returns-in_err-seen-in-Fold-clause-cause
-kind_value-returns-in_err-seen-in-Fold-clause-cause t c =
+pub list_value-returns-in_err-seen-in-Fold-clause-cause : goal.list_value-returns-in_err-seen-in-Fold-clause-cause
+list_value-returns-in_err-seen-in-Fold-clause-cause t c =
     let op = c.in-Fold.op in
-    let p = err_from_is_err_and c.from_residual-in_err-seen-in-Fold.result c.from_residual-in_err-seen-in-Fold.ensures.1 in
+    let p = err_from_is_err_and c.from_residual.result c.from_residual.ensures.1 in
     rw (p.1, p.2)
-    (fold_refused (mode_in c.args.scope) (env_in c.args.scope) c.args.met.now op c.args.kind.now c.in-Fold.part.value c.deref-in-Fold.result.now
-    (λ p. ap (kind_tree p) c.in-Fold.is ∙ kind_tree-folded p op c.in-Fold.part) c.deref-in-Fold.ensures
+    (fold_refused (mode_in c.args.scope) (env_in c.args.scope) c.args.met.now op c.args.kind.now c.in-Fold.part.value c.deref.result.now
+    (λ p. ap (kind_tree p) c.in-Fold.is ∙ kind_tree-folded p op c.in-Fold.part) c.deref.ensures
     c.in_err-seen-in-Fold.field-0.0 c.in_err-seen-in-Fold.ensures.cause)
 
-pub kind_value-returns-in_ok-seen-in-AllDiff-clause-value : goal.kind_value-returns-in_ok-seen-in-AllDiff-clause-value
-kind_value-returns-in_ok-seen-in-AllDiff-clause-value t c =
+pub list_value-returns-in_ok-seen-in-AllDiff-clause-value : goal.list_value-returns-in_ok-seen-in-AllDiff-clause-value
+list_value-returns-in_ok-seen-in-AllDiff-clause-value t c =
     let mode = mode_in c.args.scope in
     let env = env_in c.args.scope in
     one_given mode c.mode-in-AllDiff.result env c.args.met.now c.value_of-in-AllDiff.new.met (seen_held c.in_ok-seen-in-AllDiff.seen) (λ m s. truth_in m (option_map are_different (scalars_in s)))
@@ -343,8 +358,8 @@ kind_value-returns-in_ok-seen-in-AllDiff-clause-value t c =
     (λ p. ap (kind_tree p) c.in-AllDiff.is ∙ kind_tree-all_different p c.in-AllDiff.part) c.deref-in-AllDiff.ensures (meets_all_different mode env) (evaluate-all_different mode env)
     c.in_ok-seen-in-AllDiff.ensures.counted c.in_ok-seen-in-AllDiff.ensures.value c.mode-in-AllDiff.ensures.mode c.difference.ensures
 
-pub kind_value-returns-in_ok-seen-in-AllDiff-clause-cause : goal.kind_value-returns-in_ok-seen-in-AllDiff-clause-cause
-kind_value-returns-in_ok-seen-in-AllDiff-clause-cause t c =
+pub list_value-returns-in_ok-seen-in-AllDiff-clause-cause : goal.list_value-returns-in_ok-seen-in-AllDiff-clause-cause
+list_value-returns-in_ok-seen-in-AllDiff-clause-cause t c =
     let mode = mode_in c.args.scope in
     let env = env_in c.args.scope in
     one_given_cause mode c.mode-in-AllDiff.result env c.args.met.now (seen_held c.in_ok-seen-in-AllDiff.seen) (λ m s. truth_in m (option_map are_different (scalars_in s)))
@@ -352,8 +367,8 @@ kind_value-returns-in_ok-seen-in-AllDiff-clause-cause t c =
     (λ p. ap (kind_tree p) c.in-AllDiff.is ∙ kind_tree-all_different p c.in-AllDiff.part) c.deref-in-AllDiff.ensures (meets_all_different mode env) (evaluate-all_different mode env)
     c.in_ok-seen-in-AllDiff.ensures.value c.mode-in-AllDiff.ensures.mode c.difference.ensures
 
-pub kind_value-returns-in_err-seen-in-AllDiff-clause-cause : goal.kind_value-returns-in_err-seen-in-AllDiff-clause-cause
-kind_value-returns-in_err-seen-in-AllDiff-clause-cause t c =
+pub list_value-returns-in_err-seen-in-AllDiff-clause-cause : goal.list_value-returns-in_err-seen-in-AllDiff-clause-cause
+list_value-returns-in_err-seen-in-AllDiff-clause-cause t c =
     let mode = mode_in c.args.scope in
     let env = env_in c.args.scope in
     let p = err_from_is_err_and c.from_residual-in_err-seen-in-AllDiff.result c.from_residual-in_err-seen-in-AllDiff.ensures.1 in
@@ -362,8 +377,8 @@ kind_value-returns-in_err-seen-in-AllDiff-clause-cause t c =
     (λ p. ap (kind_tree p) c.in-AllDiff.is ∙ kind_tree-all_different p c.in-AllDiff.part) c.deref-in-AllDiff.ensures (meets_all_different mode env)
     c.in_err-seen-in-AllDiff.field-0.0 c.in_err-seen-in-AllDiff.ensures.cause)
 
-pub kind_value-returns-in_ok-seen-in-Factorial-clause-value : goal.kind_value-returns-in_ok-seen-in-Factorial-clause-value
-kind_value-returns-in_ok-seen-in-Factorial-clause-value t c =
+pub list_value-returns-in_ok-seen-in-Factorial-clause-value : goal.list_value-returns-in_ok-seen-in-Factorial-clause-value
+list_value-returns-in_ok-seen-in-Factorial-clause-value t c =
     let mode = mode_in c.args.scope in
     let env = env_in c.args.scope in
     one_given mode mode env c.args.met.now c.value_of-in-Factorial.new.met (seen_held c.in_ok-seen-in-Factorial.seen) (λ m s. number_value (option_and_then factorial_of (number_in s)))
@@ -371,8 +386,8 @@ kind_value-returns-in_ok-seen-in-Factorial-clause-value t c =
     (λ p. ap (kind_tree p) c.in-Factorial.is ∙ kind_tree-factorial p c.in-Factorial.part) c.deref-in-Factorial.ensures (meets_factorial mode env) (evaluate-factorial mode env)
     c.in_ok-seen-in-Factorial.ensures.counted c.in_ok-seen-in-Factorial.ensures.value refl c.factorial.ensures
 
-pub kind_value-returns-in_ok-seen-in-Factorial-clause-cause : goal.kind_value-returns-in_ok-seen-in-Factorial-clause-cause
-kind_value-returns-in_ok-seen-in-Factorial-clause-cause t c =
+pub list_value-returns-in_ok-seen-in-Factorial-clause-cause : goal.list_value-returns-in_ok-seen-in-Factorial-clause-cause
+list_value-returns-in_ok-seen-in-Factorial-clause-cause t c =
     let mode = mode_in c.args.scope in
     let env = env_in c.args.scope in
     one_given_cause mode mode env c.args.met.now (seen_held c.in_ok-seen-in-Factorial.seen) (λ m s. number_value (option_and_then factorial_of (number_in s)))
@@ -380,8 +395,8 @@ kind_value-returns-in_ok-seen-in-Factorial-clause-cause t c =
     (λ p. ap (kind_tree p) c.in-Factorial.is ∙ kind_tree-factorial p c.in-Factorial.part) c.deref-in-Factorial.ensures (meets_factorial mode env) (evaluate-factorial mode env)
     c.in_ok-seen-in-Factorial.ensures.value refl c.factorial.ensures
 
-pub kind_value-returns-in_err-seen-in-Factorial-clause-cause : goal.kind_value-returns-in_err-seen-in-Factorial-clause-cause
-kind_value-returns-in_err-seen-in-Factorial-clause-cause t c =
+pub list_value-returns-in_err-seen-in-Factorial-clause-cause : goal.list_value-returns-in_err-seen-in-Factorial-clause-cause
+list_value-returns-in_err-seen-in-Factorial-clause-cause t c =
     let mode = mode_in c.args.scope in
     let env = env_in c.args.scope in
     let p = err_from_is_err_and c.from_residual-in_err-seen-in-Factorial.result c.from_residual-in_err-seen-in-Factorial.ensures.1 in
@@ -390,8 +405,8 @@ kind_value-returns-in_err-seen-in-Factorial-clause-cause t c =
     (λ p. ap (kind_tree p) c.in-Factorial.is ∙ kind_tree-factorial p c.in-Factorial.part) c.deref-in-Factorial.ensures (meets_factorial mode env)
     c.in_err-seen-in-Factorial.field-0.0 c.in_err-seen-in-Factorial.ensures.cause)
 
-pub kind_value-returns-in_ok-seen-in-Flatten-clause-value : goal.kind_value-returns-in_ok-seen-in-Flatten-clause-value
-kind_value-returns-in_ok-seen-in-Flatten-clause-value t c =
+pub list_value-returns-in_ok-seen-in-Flatten-clause-value : goal.list_value-returns-in_ok-seen-in-Flatten-clause-value
+list_value-returns-in_ok-seen-in-Flatten-clause-value t c =
     let mode = mode_in c.args.scope in
     let env = env_in c.args.scope in
     one_given mode mode env c.args.met.now c.value_of-in-Flatten.new.met (seen_held c.in_ok-seen-in-Flatten.seen) (λ m s. option_map list_value (scalars_in s))
@@ -399,8 +414,8 @@ kind_value-returns-in_ok-seen-in-Flatten-clause-value t c =
     (λ p. ap (kind_tree p) c.in-Flatten.is ∙ kind_tree-flatten p c.in-Flatten.part) c.deref-in-Flatten.ensures (meets_flatten mode env) (evaluate-flatten mode env)
     c.in_ok-seen-in-Flatten.ensures.counted c.in_ok-seen-in-Flatten.ensures.value refl c.flattened.ensures
 
-pub kind_value-returns-in_ok-seen-in-Flatten-clause-cause : goal.kind_value-returns-in_ok-seen-in-Flatten-clause-cause
-kind_value-returns-in_ok-seen-in-Flatten-clause-cause t c =
+pub list_value-returns-in_ok-seen-in-Flatten-clause-cause : goal.list_value-returns-in_ok-seen-in-Flatten-clause-cause
+list_value-returns-in_ok-seen-in-Flatten-clause-cause t c =
     let mode = mode_in c.args.scope in
     let env = env_in c.args.scope in
     one_given_cause mode mode env c.args.met.now (seen_held c.in_ok-seen-in-Flatten.seen) (λ m s. option_map list_value (scalars_in s))
@@ -408,8 +423,8 @@ kind_value-returns-in_ok-seen-in-Flatten-clause-cause t c =
     (λ p. ap (kind_tree p) c.in-Flatten.is ∙ kind_tree-flatten p c.in-Flatten.part) c.deref-in-Flatten.ensures (meets_flatten mode env) (evaluate-flatten mode env)
     c.in_ok-seen-in-Flatten.ensures.value refl c.flattened.ensures
 
-pub kind_value-returns-in_err-seen-in-Flatten-clause-cause : goal.kind_value-returns-in_err-seen-in-Flatten-clause-cause
-kind_value-returns-in_err-seen-in-Flatten-clause-cause t c =
+pub list_value-returns-in_err-seen-in-Flatten-clause-cause : goal.list_value-returns-in_err-seen-in-Flatten-clause-cause
+list_value-returns-in_err-seen-in-Flatten-clause-cause t c =
     let mode = mode_in c.args.scope in
     let env = env_in c.args.scope in
     let p = err_from_is_err_and c.from_residual-in_err-seen-in-Flatten.result c.from_residual-in_err-seen-in-Flatten.ensures.1 in
@@ -418,8 +433,8 @@ kind_value-returns-in_err-seen-in-Flatten-clause-cause t c =
     (λ p. ap (kind_tree p) c.in-Flatten.is ∙ kind_tree-flatten p c.in-Flatten.part) c.deref-in-Flatten.ensures (meets_flatten mode env)
     c.in_err-seen-in-Flatten.field-0.0 c.in_err-seen-in-Flatten.ensures.cause)
 
-pub kind_value-returns-in_ok-numbers-in-InDomain-clause-value : goal.kind_value-returns-in_ok-numbers-in-InDomain-clause-value
-kind_value-returns-in_ok-numbers-in-InDomain-clause-value t c =
+pub list_value-returns-in_ok-numbers-in-InDomain-clause-value : goal.list_value-returns-in_ok-numbers-in-InDomain-clause-value
+list_value-returns-in_ok-numbers-in-InDomain-clause-value t c =
     within_value (mode_in c.args.scope) c.mode-in-InDomain.result (env_in c.args.scope) c.args.met.now c.value_of-in-InDomain.new.met c.numbers_of.new.met (seen_held c.within.result)
     c.args.kind.now c.deref-in-InDomain.result.now c.deref-in-InDomain-2.result.now (seen_held c.in_ok-seen-in-InDomain.seen) c.in_ok-numbers-in-InDomain.numbers
     (within_is c.args.kind.now c.in-InDomain.part.value c.deref-in-InDomain.result.now c.in-InDomain.domain.value c.deref-in-InDomain-2.result.now
@@ -427,8 +442,8 @@ kind_value-returns-in_ok-numbers-in-InDomain-clause-value t c =
     c.in_ok-seen-in-InDomain.ensures.counted c.in_ok-seen-in-InDomain.ensures.value c.in_ok-numbers-in-InDomain.ensures.counted c.in_ok-numbers-in-InDomain.ensures.value
     c.mode-in-InDomain.ensures.mode c.within.ensures
 
-pub kind_value-returns-in_err-seen-in-InDomain-clause-cause : goal.kind_value-returns-in_err-seen-in-InDomain-clause-cause
-kind_value-returns-in_err-seen-in-InDomain-clause-cause t c =
+pub list_value-returns-in_err-seen-in-InDomain-clause-cause : goal.list_value-returns-in_err-seen-in-InDomain-clause-cause
+list_value-returns-in_err-seen-in-InDomain-clause-cause t c =
     let p = err_from_is_err_and c.from_residual-in_err-seen-in-InDomain.result c.from_residual-in_err-seen-in-InDomain.ensures.1 in
     rw (p.1, p.2)
     (within_first (mode_in c.args.scope) (env_in c.args.scope) c.args.met.now c.args.kind.now c.deref-in-InDomain.result.now c.in-InDomain.domain.value
@@ -436,8 +451,8 @@ kind_value-returns-in_err-seen-in-InDomain-clause-cause t c =
     (λ p. ap (kind_tree p) c.in-InDomain.is ∙ kind_tree-in_domain p c.in-InDomain.part c.in-InDomain.domain) c.deref-in-InDomain.ensures refl)
     c.in_err-seen-in-InDomain.field-0.0 c.in_err-seen-in-InDomain.ensures.cause)
 
-pub kind_value-returns-in_err-numbers-in-InDomain-clause-cause : goal.kind_value-returns-in_err-numbers-in-InDomain-clause-cause
-kind_value-returns-in_err-numbers-in-InDomain-clause-cause t c =
+pub list_value-returns-in_err-numbers-in-InDomain-clause-cause : goal.list_value-returns-in_err-numbers-in-InDomain-clause-cause
+list_value-returns-in_err-numbers-in-InDomain-clause-cause t c =
     let p = err_from_is_err_and c.from_residual-in_err-numbers-in-InDomain.result c.from_residual-in_err-numbers-in-InDomain.ensures.1 in
     rw (p.1, p.2)
     (within_second (mode_in c.args.scope) (env_in c.args.scope) c.args.met.now c.value_of-in-InDomain.new.met c.args.kind.now c.deref-in-InDomain.result.now c.deref-in-InDomain-2.result.now
@@ -445,8 +460,8 @@ kind_value-returns-in_err-numbers-in-InDomain-clause-cause t c =
     (λ p. ap (kind_tree p) c.in-InDomain.is ∙ kind_tree-in_domain p c.in-InDomain.part c.in-InDomain.domain) c.deref-in-InDomain.ensures c.deref-in-InDomain-2.ensures)
     c.in_ok-seen-in-InDomain.ensures.counted c.in_err-numbers-in-InDomain.field-0.0 c.in_err-numbers-in-InDomain.ensures.cause)
 
-pub kind_value-returns-in_ok-second-in-Lex-clause-value : goal.kind_value-returns-in_ok-second-in-Lex-clause-value
-kind_value-returns-in_ok-second-in-Lex-clause-value t c =
+pub list_value-returns-in_ok-second-in-Lex-clause-value : goal.list_value-returns-in_ok-second-in-Lex-clause-value
+list_value-returns-in_ok-second-in-Lex-clause-value t c =
     let mode = mode_in c.args.scope in
     let env = env_in c.args.scope in
     let op = c.in-Lex.op in
@@ -457,8 +472,8 @@ kind_value-returns-in_ok-second-in-Lex-clause-value t c =
     c.in_ok-first-in-Lex.ensures.counted c.in_ok-first-in-Lex.ensures.value
     c.in_ok-second-in-Lex.ensures.counted c.in_ok-second-in-Lex.ensures.value c.mode-in-Lex.ensures.mode c.lex_comparison.ensures
 
-pub kind_value-returns-in_ok-second-in-Lex-clause-cause : goal.kind_value-returns-in_ok-second-in-Lex-clause-cause
-kind_value-returns-in_ok-second-in-Lex-clause-cause t c =
+pub list_value-returns-in_ok-second-in-Lex-clause-cause : goal.list_value-returns-in_ok-second-in-Lex-clause-cause
+list_value-returns-in_ok-second-in-Lex-clause-cause t c =
     let mode = mode_in c.args.scope in
     let env = env_in c.args.scope in
     let op = c.in-Lex.op in
@@ -468,8 +483,8 @@ kind_value-returns-in_ok-second-in-Lex-clause-cause t c =
     (λ p. ap (kind_tree p) c.in-Lex.is ∙ kind_tree-lex p op c.in-Lex.left c.in-Lex.right) c.deref-in-Lex.ensures c.deref-in-Lex-2.ensures (meets_lex mode env op) (λ p e f. evaluate-lex mode env p op e f)
     c.in_ok-first-in-Lex.ensures.value c.in_ok-second-in-Lex.ensures.value c.mode-in-Lex.ensures.mode c.lex_comparison.ensures
 
-pub kind_value-returns-in_err-first-in-Lex-clause-cause : goal.kind_value-returns-in_err-first-in-Lex-clause-cause
-kind_value-returns-in_err-first-in-Lex-clause-cause t c =
+pub list_value-returns-in_err-first-in-Lex-clause-cause : goal.list_value-returns-in_err-first-in-Lex-clause-cause
+list_value-returns-in_err-first-in-Lex-clause-cause t c =
     let mode = mode_in c.args.scope in
     let env = env_in c.args.scope in
     let op = c.in-Lex.op in
@@ -479,8 +494,8 @@ kind_value-returns-in_err-first-in-Lex-clause-cause t c =
     (λ p. ap (kind_tree p) c.in-Lex.is ∙ kind_tree-lex p op c.in-Lex.left c.in-Lex.right) c.deref-in-Lex.ensures
     (meets_lex mode env op) c.in_err-first-in-Lex.field-0.0 c.in_err-first-in-Lex.ensures.cause)
 
-pub kind_value-returns-in_err-second-in-Lex-clause-cause : goal.kind_value-returns-in_err-second-in-Lex-clause-cause
-kind_value-returns-in_err-second-in-Lex-clause-cause t c =
+pub list_value-returns-in_err-second-in-Lex-clause-cause : goal.list_value-returns-in_err-second-in-Lex-clause-cause
+list_value-returns-in_err-second-in-Lex-clause-cause t c =
     let mode = mode_in c.args.scope in
     let env = env_in c.args.scope in
     let op = c.in-Lex.op in
@@ -491,8 +506,8 @@ kind_value-returns-in_err-second-in-Lex-clause-cause t c =
     (meets_lex mode env op) c.in_ok-first-in-Lex.ensures.counted
     c.in_err-second-in-Lex.field-0.0 c.in_err-second-in-Lex.ensures.cause)
 
-pub kind_value-returns-in_ok-second-in-InSet-clause-value : goal.kind_value-returns-in_ok-second-in-InSet-clause-value
-kind_value-returns-in_ok-second-in-InSet-clause-value t c =
+pub list_value-returns-in_ok-second-in-InSet-clause-value : goal.list_value-returns-in_ok-second-in-InSet-clause-value
+list_value-returns-in_ok-second-in-InSet-clause-value t c =
     let mode = mode_in c.args.scope in
     let env = env_in c.args.scope in
     two_given mode c.mode-in-InSet.result env c.args.met.now c.value_of-in-InSet.new.met c.value_of-in-InSet-2.new.met
@@ -502,8 +517,8 @@ kind_value-returns-in_ok-second-in-InSet-clause-value t c =
     c.in_ok-first-in-InSet.ensures.counted c.in_ok-first-in-InSet.ensures.value
     c.in_ok-second-in-InSet.ensures.counted c.in_ok-second-in-InSet.ensures.value c.mode-in-InSet.ensures.mode c.membership.ensures
 
-pub kind_value-returns-in_ok-second-in-InSet-clause-cause : goal.kind_value-returns-in_ok-second-in-InSet-clause-cause
-kind_value-returns-in_ok-second-in-InSet-clause-cause t c =
+pub list_value-returns-in_ok-second-in-InSet-clause-cause : goal.list_value-returns-in_ok-second-in-InSet-clause-cause
+list_value-returns-in_ok-second-in-InSet-clause-cause t c =
     let mode = mode_in c.args.scope in
     let env = env_in c.args.scope in
     two_given_cause mode c.mode-in-InSet.result env c.args.met.now
@@ -512,8 +527,8 @@ kind_value-returns-in_ok-second-in-InSet-clause-cause t c =
     (λ p. ap (kind_tree p) c.in-InSet.is ∙ kind_tree-in_set p c.in-InSet.part c.in-InSet.set) c.deref-in-InSet.ensures c.deref-in-InSet-2.ensures (meets_in_set mode env) (evaluate-in_set mode env)
     c.in_ok-first-in-InSet.ensures.value c.in_ok-second-in-InSet.ensures.value c.mode-in-InSet.ensures.mode c.membership.ensures
 
-pub kind_value-returns-in_err-first-in-InSet-clause-cause : goal.kind_value-returns-in_err-first-in-InSet-clause-cause
-kind_value-returns-in_err-first-in-InSet-clause-cause t c =
+pub list_value-returns-in_err-first-in-InSet-clause-cause : goal.list_value-returns-in_err-first-in-InSet-clause-cause
+list_value-returns-in_err-first-in-InSet-clause-cause t c =
     let mode = mode_in c.args.scope in
     let env = env_in c.args.scope in
     let p = err_from_is_err_and c.from_residual-in_err-first-in-InSet.result c.from_residual-in_err-first-in-InSet.ensures.1 in
@@ -522,8 +537,8 @@ kind_value-returns-in_err-first-in-InSet-clause-cause t c =
     (λ p. ap (kind_tree p) c.in-InSet.is ∙ kind_tree-in_set p c.in-InSet.part c.in-InSet.set) c.deref-in-InSet.ensures
     (meets_in_set mode env) c.in_err-first-in-InSet.field-0.0 c.in_err-first-in-InSet.ensures.cause)
 
-pub kind_value-returns-in_err-second-in-InSet-clause-cause : goal.kind_value-returns-in_err-second-in-InSet-clause-cause
-kind_value-returns-in_err-second-in-InSet-clause-cause t c =
+pub list_value-returns-in_err-second-in-InSet-clause-cause : goal.list_value-returns-in_err-second-in-InSet-clause-cause
+list_value-returns-in_err-second-in-InSet-clause-cause t c =
     let mode = mode_in c.args.scope in
     let env = env_in c.args.scope in
     let p = err_from_is_err_and c.from_residual-in_err-second-in-InSet.result c.from_residual-in_err-second-in-InSet.ensures.1 in
@@ -533,8 +548,8 @@ kind_value-returns-in_err-second-in-InSet-clause-cause t c =
     (meets_in_set mode env) c.in_ok-first-in-InSet.ensures.counted
     c.in_err-second-in-InSet.field-0.0 c.in_err-second-in-InSet.ensures.cause)
 
-pub kind_value-returns-in_ok-second-in-Table-clause-value : goal.kind_value-returns-in_ok-second-in-Table-clause-value
-kind_value-returns-in_ok-second-in-Table-clause-value t c =
+pub list_value-returns-in_ok-second-in-Table-clause-value : goal.list_value-returns-in_ok-second-in-Table-clause-value
+list_value-returns-in_ok-second-in-Table-clause-value t c =
     let mode = mode_in c.args.scope in
     let env = env_in c.args.scope in
     two_given mode c.mode-in-Table.result env c.args.met.now c.value_of-in-Table.new.met c.value_of-in-Table-2.new.met
@@ -544,8 +559,8 @@ kind_value-returns-in_ok-second-in-Table-clause-value t c =
     c.in_ok-first-in-Table.ensures.counted c.in_ok-first-in-Table.ensures.value
     c.in_ok-second-in-Table.ensures.counted c.in_ok-second-in-Table.ensures.value c.mode-in-Table.ensures.mode c.look_up_row.ensures
 
-pub kind_value-returns-in_ok-second-in-Table-clause-cause : goal.kind_value-returns-in_ok-second-in-Table-clause-cause
-kind_value-returns-in_ok-second-in-Table-clause-cause t c =
+pub list_value-returns-in_ok-second-in-Table-clause-cause : goal.list_value-returns-in_ok-second-in-Table-clause-cause
+list_value-returns-in_ok-second-in-Table-clause-cause t c =
     let mode = mode_in c.args.scope in
     let env = env_in c.args.scope in
     two_given_cause mode c.mode-in-Table.result env c.args.met.now
@@ -554,8 +569,8 @@ kind_value-returns-in_ok-second-in-Table-clause-cause t c =
     (λ p. ap (kind_tree p) c.in-Table.is ∙ kind_tree-table p c.in-Table.row c.in-Table.rows) c.deref-in-Table.ensures c.deref-in-Table-2.ensures (meets_table mode env) (evaluate-table mode env)
     c.in_ok-first-in-Table.ensures.value c.in_ok-second-in-Table.ensures.value c.mode-in-Table.ensures.mode c.look_up_row.ensures
 
-pub kind_value-returns-in_err-first-in-Table-clause-cause : goal.kind_value-returns-in_err-first-in-Table-clause-cause
-kind_value-returns-in_err-first-in-Table-clause-cause t c =
+pub list_value-returns-in_err-first-in-Table-clause-cause : goal.list_value-returns-in_err-first-in-Table-clause-cause
+list_value-returns-in_err-first-in-Table-clause-cause t c =
     let mode = mode_in c.args.scope in
     let env = env_in c.args.scope in
     let p = err_from_is_err_and c.from_residual-in_err-first-in-Table.result c.from_residual-in_err-first-in-Table.ensures.1 in
@@ -564,8 +579,8 @@ kind_value-returns-in_err-first-in-Table-clause-cause t c =
     (λ p. ap (kind_tree p) c.in-Table.is ∙ kind_tree-table p c.in-Table.row c.in-Table.rows) c.deref-in-Table.ensures
     (meets_table mode env) c.in_err-first-in-Table.field-0.0 c.in_err-first-in-Table.ensures.cause)
 
-pub kind_value-returns-in_err-second-in-Table-clause-cause : goal.kind_value-returns-in_err-second-in-Table-clause-cause
-kind_value-returns-in_err-second-in-Table-clause-cause t c =
+pub list_value-returns-in_err-second-in-Table-clause-cause : goal.list_value-returns-in_err-second-in-Table-clause-cause
+list_value-returns-in_err-second-in-Table-clause-cause t c =
     let mode = mode_in c.args.scope in
     let env = env_in c.args.scope in
     let p = err_from_is_err_and c.from_residual-in_err-second-in-Table.result c.from_residual-in_err-second-in-Table.ensures.1 in
@@ -575,8 +590,8 @@ kind_value-returns-in_err-second-in-Table-clause-cause t c =
     (meets_table mode env) c.in_ok-first-in-Table.ensures.counted
     c.in_err-second-in-Table.field-0.0 c.in_err-second-in-Table.ensures.cause)
 
-pub kind_value-returns-in_ok-third-in-Gcc-clause-value : goal.kind_value-returns-in_ok-third-in-Gcc-clause-value
-kind_value-returns-in_ok-third-in-Gcc-clause-value t c =
+pub list_value-returns-in_ok-third-in-Gcc-clause-value : goal.list_value-returns-in_ok-third-in-Gcc-clause-value
+list_value-returns-in_ok-third-in-Gcc-clause-value t c =
     let mode = mode_in c.args.scope in
     let env = env_in c.args.scope in
     three_given mode c.mode-in-Gcc.result env c.args.met.now c.value_of-in-Gcc.new.met c.value_of-in-Gcc-2.new.met c.value_of-in-Gcc-3.new.met
@@ -588,8 +603,8 @@ kind_value-returns-in_ok-third-in-Gcc-clause-value t c =
     c.in_ok-second-in-Gcc.ensures.counted c.in_ok-second-in-Gcc.ensures.value
     c.in_ok-third-in-Gcc.ensures.counted c.in_ok-third-in-Gcc.ensures.value c.mode-in-Gcc.ensures.mode c.counting.ensures
 
-pub kind_value-returns-in_ok-third-in-Gcc-clause-cause : goal.kind_value-returns-in_ok-third-in-Gcc-clause-cause
-kind_value-returns-in_ok-third-in-Gcc-clause-cause t c =
+pub list_value-returns-in_ok-third-in-Gcc-clause-cause : goal.list_value-returns-in_ok-third-in-Gcc-clause-cause
+list_value-returns-in_ok-third-in-Gcc-clause-cause t c =
     let mode = mode_in c.args.scope in
     let env = env_in c.args.scope in
     three_given_cause mode c.mode-in-Gcc.result env c.args.met.now
@@ -599,8 +614,8 @@ kind_value-returns-in_ok-third-in-Gcc-clause-cause t c =
     (λ p. ap (kind_tree p) c.in-Gcc.is ∙ kind_tree-gcc p c.in-Gcc.part c.in-Gcc.values c.in-Gcc.counts) c.deref-in-Gcc.ensures c.deref-in-Gcc-2.ensures c.deref-in-Gcc-3.ensures) (meets_gcc mode env) (evaluate-gcc mode env)
     c.in_ok-first-in-Gcc.ensures.value c.in_ok-second-in-Gcc.ensures.value c.in_ok-third-in-Gcc.ensures.value c.mode-in-Gcc.ensures.mode c.counting.ensures
 
-pub kind_value-returns-in_err-first-in-Gcc-clause-cause : goal.kind_value-returns-in_err-first-in-Gcc-clause-cause
-kind_value-returns-in_err-first-in-Gcc-clause-cause t c =
+pub list_value-returns-in_err-first-in-Gcc-clause-cause : goal.list_value-returns-in_err-first-in-Gcc-clause-cause
+list_value-returns-in_err-first-in-Gcc-clause-cause t c =
     let mode = mode_in c.args.scope in
     let env = env_in c.args.scope in
     let p = err_from_is_err_and c.from_residual-in_err-first-in-Gcc.result c.from_residual-in_err-first-in-Gcc.ensures.1 in
@@ -610,8 +625,8 @@ kind_value-returns-in_err-first-in-Gcc-clause-cause t c =
     (λ p. ap (kind_tree p) c.in-Gcc.is ∙ kind_tree-gcc p c.in-Gcc.part c.in-Gcc.values c.in-Gcc.counts) c.deref-in-Gcc.ensures refl refl) (meets_gcc mode env)
     c.in_err-first-in-Gcc.field-0.0 c.in_err-first-in-Gcc.ensures.cause)
 
-pub kind_value-returns-in_err-second-in-Gcc-clause-cause : goal.kind_value-returns-in_err-second-in-Gcc-clause-cause
-kind_value-returns-in_err-second-in-Gcc-clause-cause t c =
+pub list_value-returns-in_err-second-in-Gcc-clause-cause : goal.list_value-returns-in_err-second-in-Gcc-clause-cause
+list_value-returns-in_err-second-in-Gcc-clause-cause t c =
     let mode = mode_in c.args.scope in
     let env = env_in c.args.scope in
     let p = err_from_is_err_and c.from_residual-in_err-second-in-Gcc.result c.from_residual-in_err-second-in-Gcc.ensures.1 in
@@ -621,8 +636,8 @@ kind_value-returns-in_err-second-in-Gcc-clause-cause t c =
     (λ p. ap (kind_tree p) c.in-Gcc.is ∙ kind_tree-gcc p c.in-Gcc.part c.in-Gcc.values c.in-Gcc.counts) c.deref-in-Gcc.ensures c.deref-in-Gcc-2.ensures refl) (meets_gcc mode env) c.in_ok-first-in-Gcc.ensures.counted
     c.in_err-second-in-Gcc.field-0.0 c.in_err-second-in-Gcc.ensures.cause)
 
-pub kind_value-returns-in_err-third-in-Gcc-clause-cause : goal.kind_value-returns-in_err-third-in-Gcc-clause-cause
-kind_value-returns-in_err-third-in-Gcc-clause-cause t c =
+pub list_value-returns-in_err-third-in-Gcc-clause-cause : goal.list_value-returns-in_err-third-in-Gcc-clause-cause
+list_value-returns-in_err-third-in-Gcc-clause-cause t c =
     let mode = mode_in c.args.scope in
     let env = env_in c.args.scope in
     let p = err_from_is_err_and c.from_residual-in_err-third-in-Gcc.result c.from_residual-in_err-third-in-Gcc.ensures.1 in
@@ -632,8 +647,8 @@ kind_value-returns-in_err-third-in-Gcc-clause-cause t c =
     (λ p. ap (kind_tree p) c.in-Gcc.is ∙ kind_tree-gcc p c.in-Gcc.part c.in-Gcc.values c.in-Gcc.counts) c.deref-in-Gcc.ensures c.deref-in-Gcc-2.ensures c.deref-in-Gcc-3.ensures) (meets_gcc mode env) c.in_ok-first-in-Gcc.ensures.counted c.in_ok-second-in-Gcc.ensures.counted
     c.in_err-third-in-Gcc.field-0.0 c.in_err-third-in-Gcc.ensures.cause)
 
-pub kind_value-returns-in_ok-third-in-AtLeast-clause-value : goal.kind_value-returns-in_ok-third-in-AtLeast-clause-value
-kind_value-returns-in_ok-third-in-AtLeast-clause-value t c =
+pub list_value-returns-in_ok-third-in-AtLeast-clause-value : goal.list_value-returns-in_ok-third-in-AtLeast-clause-value
+list_value-returns-in_ok-third-in-AtLeast-clause-value t c =
     let mode = mode_in c.args.scope in
     let env = env_in c.args.scope in
     three_given mode c.mode-in-AtLeast.result env c.args.met.now c.value_of-in-AtLeast.new.met c.value_of-in-AtLeast-2.new.met c.value_of-in-AtLeast-3.new.met
@@ -645,8 +660,8 @@ kind_value-returns-in_ok-third-in-AtLeast-clause-value t c =
     c.in_ok-second-in-AtLeast.ensures.counted c.in_ok-second-in-AtLeast.ensures.value
     c.in_ok-third-in-AtLeast.ensures.counted c.in_ok-third-in-AtLeast.ensures.value c.mode-in-AtLeast.ensures.mode c.counting-in-AtLeast.ensures
 
-pub kind_value-returns-in_ok-third-in-AtLeast-clause-cause : goal.kind_value-returns-in_ok-third-in-AtLeast-clause-cause
-kind_value-returns-in_ok-third-in-AtLeast-clause-cause t c =
+pub list_value-returns-in_ok-third-in-AtLeast-clause-cause : goal.list_value-returns-in_ok-third-in-AtLeast-clause-cause
+list_value-returns-in_ok-third-in-AtLeast-clause-cause t c =
     let mode = mode_in c.args.scope in
     let env = env_in c.args.scope in
     three_given_cause mode c.mode-in-AtLeast.result env c.args.met.now
@@ -656,8 +671,8 @@ kind_value-returns-in_ok-third-in-AtLeast-clause-cause t c =
     (λ p. ap (kind_tree p) c.in-AtLeast.is ∙ kind_tree-at_least p c.in-AtLeast.part c.in-AtLeast.counts c.in-AtLeast.values) c.deref-in-AtLeast.ensures c.deref-in-AtLeast-2.ensures c.deref-in-AtLeast-3.ensures) (meets_at_least mode env) (evaluate-at_least mode env)
     c.in_ok-first-in-AtLeast.ensures.value c.in_ok-second-in-AtLeast.ensures.value c.in_ok-third-in-AtLeast.ensures.value c.mode-in-AtLeast.ensures.mode c.counting-in-AtLeast.ensures
 
-pub kind_value-returns-in_err-first-in-AtLeast-clause-cause : goal.kind_value-returns-in_err-first-in-AtLeast-clause-cause
-kind_value-returns-in_err-first-in-AtLeast-clause-cause t c =
+pub list_value-returns-in_err-first-in-AtLeast-clause-cause : goal.list_value-returns-in_err-first-in-AtLeast-clause-cause
+list_value-returns-in_err-first-in-AtLeast-clause-cause t c =
     let mode = mode_in c.args.scope in
     let env = env_in c.args.scope in
     let p = err_from_is_err_and c.from_residual-in_err-first-in-AtLeast.result c.from_residual-in_err-first-in-AtLeast.ensures.1 in
@@ -667,8 +682,8 @@ kind_value-returns-in_err-first-in-AtLeast-clause-cause t c =
     (λ p. ap (kind_tree p) c.in-AtLeast.is ∙ kind_tree-at_least p c.in-AtLeast.part c.in-AtLeast.counts c.in-AtLeast.values) c.deref-in-AtLeast.ensures refl refl) (meets_at_least mode env)
     c.in_err-first-in-AtLeast.field-0.0 c.in_err-first-in-AtLeast.ensures.cause)
 
-pub kind_value-returns-in_err-second-in-AtLeast-clause-cause : goal.kind_value-returns-in_err-second-in-AtLeast-clause-cause
-kind_value-returns-in_err-second-in-AtLeast-clause-cause t c =
+pub list_value-returns-in_err-second-in-AtLeast-clause-cause : goal.list_value-returns-in_err-second-in-AtLeast-clause-cause
+list_value-returns-in_err-second-in-AtLeast-clause-cause t c =
     let mode = mode_in c.args.scope in
     let env = env_in c.args.scope in
     let p = err_from_is_err_and c.from_residual-in_err-second-in-AtLeast.result c.from_residual-in_err-second-in-AtLeast.ensures.1 in
@@ -678,8 +693,8 @@ kind_value-returns-in_err-second-in-AtLeast-clause-cause t c =
     (λ p. ap (kind_tree p) c.in-AtLeast.is ∙ kind_tree-at_least p c.in-AtLeast.part c.in-AtLeast.counts c.in-AtLeast.values) c.deref-in-AtLeast.ensures c.deref-in-AtLeast-2.ensures refl) (meets_at_least mode env) c.in_ok-first-in-AtLeast.ensures.counted
     c.in_err-second-in-AtLeast.field-0.0 c.in_err-second-in-AtLeast.ensures.cause)
 
-pub kind_value-returns-in_err-third-in-AtLeast-clause-cause : goal.kind_value-returns-in_err-third-in-AtLeast-clause-cause
-kind_value-returns-in_err-third-in-AtLeast-clause-cause t c =
+pub list_value-returns-in_err-third-in-AtLeast-clause-cause : goal.list_value-returns-in_err-third-in-AtLeast-clause-cause
+list_value-returns-in_err-third-in-AtLeast-clause-cause t c =
     let mode = mode_in c.args.scope in
     let env = env_in c.args.scope in
     let p = err_from_is_err_and c.from_residual-in_err-third-in-AtLeast.result c.from_residual-in_err-third-in-AtLeast.ensures.1 in
@@ -689,8 +704,8 @@ kind_value-returns-in_err-third-in-AtLeast-clause-cause t c =
     (λ p. ap (kind_tree p) c.in-AtLeast.is ∙ kind_tree-at_least p c.in-AtLeast.part c.in-AtLeast.counts c.in-AtLeast.values) c.deref-in-AtLeast.ensures c.deref-in-AtLeast-2.ensures c.deref-in-AtLeast-3.ensures) (meets_at_least mode env) c.in_ok-first-in-AtLeast.ensures.counted c.in_ok-second-in-AtLeast.ensures.counted
     c.in_err-third-in-AtLeast.field-0.0 c.in_err-third-in-AtLeast.ensures.cause)
 
-pub kind_value-returns-in_ok-third-in-AtMost-clause-value : goal.kind_value-returns-in_ok-third-in-AtMost-clause-value
-kind_value-returns-in_ok-third-in-AtMost-clause-value t c =
+pub list_value-returns-in_ok-third-in-AtMost-clause-value : goal.list_value-returns-in_ok-third-in-AtMost-clause-value
+list_value-returns-in_ok-third-in-AtMost-clause-value t c =
     let mode = mode_in c.args.scope in
     let env = env_in c.args.scope in
     three_given mode c.mode-in-AtMost.result env c.args.met.now c.value_of-in-AtMost.new.met c.value_of-in-AtMost-2.new.met c.value_of-in-AtMost-3.new.met
@@ -702,8 +717,8 @@ kind_value-returns-in_ok-third-in-AtMost-clause-value t c =
     c.in_ok-second-in-AtMost.ensures.counted c.in_ok-second-in-AtMost.ensures.value
     c.in_ok-third-in-AtMost.ensures.counted c.in_ok-third-in-AtMost.ensures.value c.mode-in-AtMost.ensures.mode c.counting-in-AtMost.ensures
 
-pub kind_value-returns-in_ok-third-in-AtMost-clause-cause : goal.kind_value-returns-in_ok-third-in-AtMost-clause-cause
-kind_value-returns-in_ok-third-in-AtMost-clause-cause t c =
+pub list_value-returns-in_ok-third-in-AtMost-clause-cause : goal.list_value-returns-in_ok-third-in-AtMost-clause-cause
+list_value-returns-in_ok-third-in-AtMost-clause-cause t c =
     let mode = mode_in c.args.scope in
     let env = env_in c.args.scope in
     three_given_cause mode c.mode-in-AtMost.result env c.args.met.now
@@ -713,8 +728,8 @@ kind_value-returns-in_ok-third-in-AtMost-clause-cause t c =
     (λ p. ap (kind_tree p) c.in-AtMost.is ∙ kind_tree-at_most p c.in-AtMost.part c.in-AtMost.counts c.in-AtMost.values) c.deref-in-AtMost.ensures c.deref-in-AtMost-2.ensures c.deref-in-AtMost-3.ensures) (meets_at_most mode env) (evaluate-at_most mode env)
     c.in_ok-first-in-AtMost.ensures.value c.in_ok-second-in-AtMost.ensures.value c.in_ok-third-in-AtMost.ensures.value c.mode-in-AtMost.ensures.mode c.counting-in-AtMost.ensures
 
-pub kind_value-returns-in_err-first-in-AtMost-clause-cause : goal.kind_value-returns-in_err-first-in-AtMost-clause-cause
-kind_value-returns-in_err-first-in-AtMost-clause-cause t c =
+pub list_value-returns-in_err-first-in-AtMost-clause-cause : goal.list_value-returns-in_err-first-in-AtMost-clause-cause
+list_value-returns-in_err-first-in-AtMost-clause-cause t c =
     let mode = mode_in c.args.scope in
     let env = env_in c.args.scope in
     let p = err_from_is_err_and c.from_residual-in_err-first-in-AtMost.result c.from_residual-in_err-first-in-AtMost.ensures.1 in
@@ -724,8 +739,8 @@ kind_value-returns-in_err-first-in-AtMost-clause-cause t c =
     (λ p. ap (kind_tree p) c.in-AtMost.is ∙ kind_tree-at_most p c.in-AtMost.part c.in-AtMost.counts c.in-AtMost.values) c.deref-in-AtMost.ensures refl refl) (meets_at_most mode env)
     c.in_err-first-in-AtMost.field-0.0 c.in_err-first-in-AtMost.ensures.cause)
 
-pub kind_value-returns-in_err-second-in-AtMost-clause-cause : goal.kind_value-returns-in_err-second-in-AtMost-clause-cause
-kind_value-returns-in_err-second-in-AtMost-clause-cause t c =
+pub list_value-returns-in_err-second-in-AtMost-clause-cause : goal.list_value-returns-in_err-second-in-AtMost-clause-cause
+list_value-returns-in_err-second-in-AtMost-clause-cause t c =
     let mode = mode_in c.args.scope in
     let env = env_in c.args.scope in
     let p = err_from_is_err_and c.from_residual-in_err-second-in-AtMost.result c.from_residual-in_err-second-in-AtMost.ensures.1 in
@@ -735,8 +750,8 @@ kind_value-returns-in_err-second-in-AtMost-clause-cause t c =
     (λ p. ap (kind_tree p) c.in-AtMost.is ∙ kind_tree-at_most p c.in-AtMost.part c.in-AtMost.counts c.in-AtMost.values) c.deref-in-AtMost.ensures c.deref-in-AtMost-2.ensures refl) (meets_at_most mode env) c.in_ok-first-in-AtMost.ensures.counted
     c.in_err-second-in-AtMost.field-0.0 c.in_err-second-in-AtMost.ensures.cause)
 
-pub kind_value-returns-in_err-third-in-AtMost-clause-cause : goal.kind_value-returns-in_err-third-in-AtMost-clause-cause
-kind_value-returns-in_err-third-in-AtMost-clause-cause t c =
+pub list_value-returns-in_err-third-in-AtMost-clause-cause : goal.list_value-returns-in_err-third-in-AtMost-clause-cause
+list_value-returns-in_err-third-in-AtMost-clause-cause t c =
     let mode = mode_in c.args.scope in
     let env = env_in c.args.scope in
     let p = err_from_is_err_and c.from_residual-in_err-third-in-AtMost.result c.from_residual-in_err-third-in-AtMost.ensures.1 in
@@ -1513,8 +1528,8 @@ index_values-returns-clause-value t c =
     ∙ indices_value (mode_in c.args.scope) (env_in c.args.scope) c.args.met.now c.loop-index.met c.args.indices.now _ (option_map (λ v. v.items) c.loop-index.values) c.loop-index.invariant
     (drop_all c.loop-index.index-index c.args.indices.now c.loop-index-test.false)
 
-pub kind_value-returns-in_ok-given-in-Read-clause-value : goal.kind_value-returns-in_ok-given-in-Read-clause-value
-kind_value-returns-in_ok-given-in-Read-clause-value t c =
+pub list_value-returns-in_ok-given-in-Read-clause-value : goal.list_value-returns-in_ok-given-in-Read-clause-value
+list_value-returns-in_ok-given-in-Read-clause-value t c =
     let mode = mode_in c.args.scope in
     let env = env_in c.args.scope in
     let m = expr_tree c.deref-in-Read.result.now in
@@ -1535,8 +1550,8 @@ kind_value-returns-in_ok-given-in-Read-clause-value t c =
     (c.deref-in-Read-2.ensures.value ∙ sym c.deref-in-Read-4.ensures.value)
     ∙ sym (c.in_ok-given-in-Read.ensures q))
 
-pub kind_value-returns-in_err-seen-in-Read-clause-cause : goal.kind_value-returns-in_err-seen-in-Read-clause-cause
-kind_value-returns-in_err-seen-in-Read-clause-cause t c =
+pub list_value-returns-in_err-seen-in-Read-clause-cause : goal.list_value-returns-in_err-seen-in-Read-clause-cause
+list_value-returns-in_err-seen-in-Read-clause-cause t c =
     let mode = mode_in c.args.scope in
     let env = env_in c.args.scope in
     let m = expr_tree c.deref-in-Read.result.now in
@@ -1548,8 +1563,8 @@ kind_value-returns-in_err-seen-in-Read-clause-cause t c =
     (λ q. meets_read mode env q m is) c.in_err-seen-in-Read.field-0.0
     (cause_first mode c.args.met.now (met mode env m) (met_indices mode env is) c.in_err-seen-in-Read.field-0.0 c.in_err-seen-in-Read.ensures.cause))
 
-pub kind_value-returns-in_err-values-in-Read-clause-cause : goal.kind_value-returns-in_err-values-in-Read-clause-cause
-kind_value-returns-in_err-values-in-Read-clause-cause t c =
+pub list_value-returns-in_err-values-in-Read-clause-cause : goal.list_value-returns-in_err-values-in-Read-clause-cause
+list_value-returns-in_err-values-in-Read-clause-cause t c =
     let mode = mode_in c.args.scope in
     let env = env_in c.args.scope in
     let m = expr_tree c.deref-in-Read.result.now in
@@ -1562,3 +1577,656 @@ kind_value-returns-in_err-values-in-Read-clause-cause t c =
     (λ q. meets_read mode env q m is) c.in_err-values-in-Read.field-0.0
     (cause_then mode c.args.met.now c.value_of-in-Read.new.met (met mode env m) (met_indices mode env is) c.in_err-values-in-Read.field-0.0
     c.in_ok-seen-in-Read.ensures.counted c.in_err-values-in-Read.ensures.cause))
+
+pub part_values-loop-part-init : goal.part_values-loop-part-init
+part_values-loop-part-init t c =
+    let mode = mode_in c.args.scope in
+    let env = env_in c.args.scope in
+    subst (λ (l : List Value). PartsSoFar mode env c.args.met.now c.args.met.now c.args.parts.now c.args.parts.now (Some (map value_tree l)))
+    (sym c.new.ensures.items) (parts_begin mode env c.args.met.now c.args.parts.now c.requires.small)
+
+pub part_values-loop-part-preserved : goal.part_values-loop-part-preserved
+part_values-loop-part-preserved t c =
+    let all : List Expr = c.args.parts.now in
+    let k : ℕ = c.loop-part.part-index in
+    let part : Expr = c.part-item.result in
+    let cut : drop k all ≡ part ∷ drop (k + 1) all =
+    drop_more all k part c.loop-part-test.true ∙ ap (λ r. r ∷ drop (k + 1) all) (sym c.part-item.is) in
+    parts_more (mode_in c.args.scope) (env_in c.args.scope) c.args.met.now c.loop-part.met c.value_of.new.met all _ (listed_in c.loop-part.values) (listed_in c.in_ok-values.values) part (drop (k + 1) all) (seen_held c.in_ok-seen.seen)
+    c.loop-part.invariant cut c.in_ok-seen.ensures.counted c.in_ok-seen.ensures.value c.in_ok-values.ensures
+
+pub part_values-returns-in_err-seen-clause-cause : goal.part_values-returns-in_err-seen-clause-cause
+part_values-returns-in_err-seen-clause-cause t c =
+    let all : List Expr = c.args.parts.now in
+    let k : ℕ = c.loop-part.part-index in
+    let part : Expr = c.part-item.result in
+    let cut : drop k all ≡ part ∷ drop (k + 1) all =
+    drop_more all k part c.loop-part-test.true ∙ ap (λ r. r ∷ drop (k + 1) all) (sym c.part-item.is) in
+    let p = err_from_is_err_and c.from_residual.result c.from_residual.ensures.1 in
+    rw (p.1, p.2)
+    (parts_cause (mode_in c.args.scope) (env_in c.args.scope) c.args.met.now c.loop-part.met all _ (listed_in c.loop-part.values) part (drop (k + 1) all)
+    c.loop-part.invariant cut c.in_err-seen.field-0.0 c.in_err-seen.ensures.cause)
+
+pub part_values-returns-clause-counted : goal.part_values-returns-clause-counted
+part_values-returns-clause-counted t c =
+    parts_counted (mode_in c.args.scope) (env_in c.args.scope) c.args.met.now c.loop-part.met c.args.parts.now _ (listed_in c.loop-part.values) c.loop-part.invariant
+    (drop_all c.loop-part.part-index c.args.parts.now c.loop-part-test.false)
+
+pub part_values-returns-clause-value : goal.part_values-returns-clause-value
+part_values-returns-clause-value t c =
+    parts_value (mode_in c.args.scope) (env_in c.args.scope) c.args.met.now c.loop-part.met c.args.parts.now _ (listed_in c.loop-part.values) c.loop-part.invariant
+    (drop_all c.loop-part.part-index c.args.parts.now c.loop-part-test.false)
+
+pub index_set-returns-in_err-set-in-Some-clause-cause : goal.index_set-returns-in_err-set-in-Some-clause-cause
+index_set-returns-in_err-set-in-Some-clause-cause t c =
+    let p = err_from_is_err_and c.from_residual.result c.from_residual.ensures.1 in
+    let mode = mode_in c.args.scope in
+    let env = env_in c.args.scope in
+    rw (p.1, p.2)
+    (subst (λ ms. IsCause (limits_of_values mode c.args.met.now ms) c.in_err-set-in-Some.field-0.0)
+    (ap (λ d. met_domain mode env (domain_tree d)) c.deref.ensures ∙ met_index-some mode env c.args.domain.now c.in-Some.stated c.in-Some.is) c.in_err-set-in-Some.ensures.cause)
+
+pub index_set-returns-in_ok-set-in-Some-clause-counted : goal.index_set-returns-in_ok-set-in-Some-clause-counted
+index_set-returns-in_ok-set-in-Some-clause-counted t c =
+    let mode = mode_in c.args.scope in
+    let env = env_in c.args.scope in
+    subst (λ ms. Counted mode c.args.met.now c.numbers_of.new.met ms)
+    (ap (λ d. met_domain mode env (domain_tree d)) c.deref.ensures ∙ met_index-some mode env c.args.domain.now c.in-Some.stated c.in-Some.is) c.in_ok-set-in-Some.ensures.counted
+
+pub index_set-returns-in_ok-set-in-Some-clause-value : goal.index_set-returns-in_ok-set-in-Some-clause-value
+index_set-returns-in_ok-set-in-Some-clause-value t c =
+    let mode = mode_in c.args.scope in
+    let env = env_in c.args.scope in
+    c.in_ok-set-in-Some.ensures.value ∙ ap (λ d. domain_values mode env (domain_tree d)) c.deref.ensures
+    ∙ index_values-some mode env c.args.domain.now c.in-Some.stated c.args.count c.in-Some.is
+
+pub index_set-returns-in_ok-set-in-None-clause-counted : goal.index_set-returns-in_ok-set-in-None-clause-counted
+index_set-returns-in_ok-set-in-None-clause-counted t c =
+    subst (λ ms. Counted (mode_in c.args.scope) c.args.met.now c.args.met.now ms)
+    (met_index-none (mode_in c.args.scope) (env_in c.args.scope) c.args.domain.now c.in-None.is) (counted_none (mode_in c.args.scope) c.args.met.now c.requires.small)
+
+pub index_set-returns-in_ok-set-in-None-clause-value : goal.index_set-returns-in_ok-set-in-None-clause-value
+index_set-returns-in_ok-set-in-None-clause-value t c =
+    ap Some c.in_ok-set-in-None.ensures ∙ index_values-none (mode_in c.args.scope) (env_in c.args.scope) c.args.domain.now c.args.count c.in-None.is
+
+pub list_value-returns-in_ok-made-in-Literal-clause-value : goal.list_value-returns-in_ok-made-in-Literal-clause-value
+list_value-returns-in_ok-made-in-Literal-clause-value t c =
+    let mode = mode_in c.args.scope in
+    let env = env_in c.args.scope in
+    let ps = c.deref-in-Literal.result.now in
+    let d = index_at c.in-Literal.domain in
+    form_value mode env (met_all mode env (expr_trees ps) ++ met_index mode env d) c.args.met.now c.index_set.new.met (seen_held c.in_ok-made-in-Literal.made) (λ q. literal q (expr_trees ps) d) c.args.kind.now
+    (λ q. ap (kind_tree q) c.in-Literal.is ∙ kind_tree-literal q c.in-Literal.parts c.in-Literal.domain
+    ∙ ap (λ l. literal q (expr_trees l) (index_of c.in-Literal.domain)) (sym c.deref-in-Literal.ensures.value) ∙ ap (literal q (expr_trees ps)) (index_is c.in-Literal.domain))
+    (λ q. meets_literal mode env q (expr_trees ps) d)
+    (counted_append mode c.args.met.now c.part_values.new.met c.index_set.new.met (met_all mode env (expr_trees ps)) (met_index mode env d)
+    c.in_ok-values-in-Literal.ensures.counted c.in_ok-indices-in-Literal.ensures.counted)
+    (λ q. literal_is mode env q ps d c.in_ok-indices-in-Literal.indices (listed_in c.in_ok-values-in-Literal.values) _
+    (c.len.ensures ∙ counted_exprs c.in-Literal.parts ∙ ap length (sym c.deref-in-Literal.ensures.value)) c.in_ok-indices-in-Literal.ensures.value c.in_ok-values-in-Literal.ensures.value
+    ∙ sym c.in_ok-made-in-Literal.ensures)
+
+pub list_value-returns-in_err-values-in-Literal-clause-cause : goal.list_value-returns-in_err-values-in-Literal-clause-cause
+list_value-returns-in_err-values-in-Literal-clause-cause t c =
+    let mode = mode_in c.args.scope in
+    let env = env_in c.args.scope in
+    let ps = c.deref-in-Literal.result.now in
+    let d = index_at c.in-Literal.domain in
+    let r = err_from_is_err_and c.from_residual-in_err-values-in-Literal.result c.from_residual-in_err-values-in-Literal.ensures.1 in
+    rw (r.1, r.2)
+    (form_cause mode env (met_all mode env (expr_trees ps) ++ met_index mode env d) c.args.met.now (λ q. literal q (expr_trees ps) d) c.args.kind.now
+    (λ q. ap (kind_tree q) c.in-Literal.is ∙ kind_tree-literal q c.in-Literal.parts c.in-Literal.domain
+    ∙ ap (λ l. literal q (expr_trees l) (index_of c.in-Literal.domain)) (sym c.deref-in-Literal.ensures.value) ∙ ap (literal q (expr_trees ps)) (index_is c.in-Literal.domain))
+    (λ q. meets_literal mode env q (expr_trees ps) d) c.in_err-values-in-Literal.field-0.0
+    (cause_first mode c.args.met.now (met_all mode env (expr_trees ps)) (met_index mode env d) c.in_err-values-in-Literal.field-0.0 c.in_err-values-in-Literal.ensures.cause))
+
+pub list_value-returns-in_err-indices-in-Literal-clause-cause : goal.list_value-returns-in_err-indices-in-Literal-clause-cause
+list_value-returns-in_err-indices-in-Literal-clause-cause t c =
+    let mode = mode_in c.args.scope in
+    let env = env_in c.args.scope in
+    let ps = c.deref-in-Literal.result.now in
+    let d = index_at c.in-Literal.domain in
+    let r = err_from_is_err_and c.from_residual-in_err-indices-in-Literal.result c.from_residual-in_err-indices-in-Literal.ensures.1 in
+    rw (r.1, r.2)
+    (form_cause mode env (met_all mode env (expr_trees ps) ++ met_index mode env d) c.args.met.now (λ q. literal q (expr_trees ps) d) c.args.kind.now
+    (λ q. ap (kind_tree q) c.in-Literal.is ∙ kind_tree-literal q c.in-Literal.parts c.in-Literal.domain
+    ∙ ap (λ l. literal q (expr_trees l) (index_of c.in-Literal.domain)) (sym c.deref-in-Literal.ensures.value) ∙ ap (literal q (expr_trees ps)) (index_is c.in-Literal.domain))
+    (λ q. meets_literal mode env q (expr_trees ps) d) c.in_err-indices-in-Literal.field-0.0
+    (cause_then mode c.args.met.now c.part_values.new.met (met_all mode env (expr_trees ps)) (met_index mode env d) c.in_err-indices-in-Literal.field-0.0
+    c.in_ok-values-in-Literal.ensures.counted c.in_err-indices-in-Literal.ensures.cause))
+
+pub numbers_of-returns-in_ok-set-in-Set-clause-counted : goal.numbers_of-returns-in_ok-set-in-Set-clause-counted
+unfolding met_domain
+numbers_of-returns-in_ok-set-in-Set-clause-counted t c =
+    let mode = mode_in c.args.scope in
+    let env = env_in c.args.scope in
+    let p = c.args.d.now.place in
+    let op = c.in-Set.op in
+    let left = domain_tree c.deref-in-Set.result.now in
+    let right = domain_tree c.deref-in-Set-2.result.now in
+    let tree : domain_tree c.args.d.now ≡ set_domain p op left right =
+    ap (domain_kind_tree p) c.in-Set.is ∙ domain_kind_tree-set p op c.in-Set.left c.in-Set.right
+    ∙ ap (λ x. set_domain p op (domain_tree x) (domain_tree c.in-Set.right.value)) (sym c.deref-in-Set.ensures) ∙ ap (λ x. set_domain p op left (domain_tree x)) (sym c.deref-in-Set-2.ensures) in
+    subst (λ e. Counted mode c.args.met.now c.numbers_of-in-Set-2.new.met (met_domain mode env e)) (sym tree)
+    (counted_append mode c.args.met.now c.numbers_of-in-Set.new.met c.numbers_of-in-Set-2.new.met (met_domain mode env left) (met_domain mode env right)
+    c.in_ok-one-in-Set.ensures.counted c.in_ok-other-in-Set.ensures.counted)
+
+pub numbers_of-returns-in_ok-set-in-Set-clause-value : goal.numbers_of-returns-in_ok-set-in-Set-clause-value
+unfolding domain_values
+numbers_of-returns-in_ok-set-in-Set-clause-value t c =
+    let mode = mode_in c.args.scope in
+    let env = env_in c.args.scope in
+    let p = c.args.d.now.place in
+    let op = c.in-Set.op in
+    let left = domain_tree c.deref-in-Set.result.now in
+    let right = domain_tree c.deref-in-Set-2.result.now in
+    let one = c.in_ok-one-in-Set.one in
+    let other = c.in_ok-other-in-Set.other in
+    let tree : domain_tree c.args.d.now ≡ set_domain p op left right =
+    ap (domain_kind_tree p) c.in-Set.is ∙ domain_kind_tree-set p op c.in-Set.left c.in-Set.right
+    ∙ ap (λ x. set_domain p op (domain_tree x) (domain_tree c.in-Set.right.value)) (sym c.deref-in-Set.ensures) ∙ ap (λ x. set_domain p op left (domain_tree x)) (sym c.deref-in-Set-2.ensures) in
+    let same : map_both (set_values op) one other ≡ map_both (set_values op) (domain_values mode env left) (domain_values mode env right) =
+    ap (λ o. map_both (set_values op) o other) c.in_ok-one-in-Set.ensures.value ∙ ap (map_both (set_values op) (domain_values mode env left)) c.in_ok-other-in-Set.ensures.value in
+    c.in_ok-set-in-Set.ensures
+    (λ ns e. domain_values-ascend mode env (c.ascends.ensures (env_of c.args.scope.env.now) c.mode-mode.ensures.ascending) (set_domain p op left right) ns (sym same ∙ e))
+    ∙ same ∙ sym (ap (domain_values mode env) tree)
+
+pub numbers_of-returns-in_err-one-in-Set-clause-cause : goal.numbers_of-returns-in_err-one-in-Set-clause-cause
+unfolding met_domain
+numbers_of-returns-in_err-one-in-Set-clause-cause t c =
+    let mode = mode_in c.args.scope in
+    let env = env_in c.args.scope in
+    let p = c.args.d.now.place in
+    let op = c.in-Set.op in
+    let left = domain_tree c.deref-in-Set.result.now in
+    let right = domain_tree c.in-Set.right.value in
+    let tree : domain_tree c.args.d.now ≡ set_domain p op left right =
+    ap (domain_kind_tree p) c.in-Set.is ∙ domain_kind_tree-set p op c.in-Set.left c.in-Set.right
+    ∙ ap (λ x. set_domain p op (domain_tree x) right) (sym c.deref-in-Set.ensures) in
+    let q = err_from_is_err_and c.from_residual-in_err-one-in-Set.result c.from_residual-in_err-one-in-Set.ensures.1 in
+    rw (q.1, q.2)
+    (subst (λ e. IsCause (limits_of_values mode c.args.met.now (met_domain mode env e)) c.in_err-one-in-Set.field-0.0) (sym tree)
+    (cause_first mode c.args.met.now (met_domain mode env left) (met_domain mode env right) c.in_err-one-in-Set.field-0.0 c.in_err-one-in-Set.ensures.cause))
+
+pub numbers_of-returns-in_err-other-in-Set-clause-cause : goal.numbers_of-returns-in_err-other-in-Set-clause-cause
+unfolding met_domain
+numbers_of-returns-in_err-other-in-Set-clause-cause t c =
+    let mode = mode_in c.args.scope in
+    let env = env_in c.args.scope in
+    let p = c.args.d.now.place in
+    let op = c.in-Set.op in
+    let left = domain_tree c.deref-in-Set.result.now in
+    let right = domain_tree c.deref-in-Set-2.result.now in
+    let tree : domain_tree c.args.d.now ≡ set_domain p op left right =
+    ap (domain_kind_tree p) c.in-Set.is ∙ domain_kind_tree-set p op c.in-Set.left c.in-Set.right
+    ∙ ap (λ x. set_domain p op (domain_tree x) (domain_tree c.in-Set.right.value)) (sym c.deref-in-Set.ensures) ∙ ap (λ x. set_domain p op left (domain_tree x)) (sym c.deref-in-Set-2.ensures) in
+    let q = err_from_is_err_and c.from_residual-in_err-other-in-Set.result c.from_residual-in_err-other-in-Set.ensures.1 in
+    rw (q.1, q.2)
+    (subst (λ e. IsCause (limits_of_values mode c.args.met.now (met_domain mode env e)) c.in_err-other-in-Set.field-0.0) (sym tree)
+    (cause_then mode c.args.met.now c.numbers_of-in-Set.new.met (met_domain mode env left) (met_domain mode env right) c.in_err-other-in-Set.field-0.0
+    c.in_ok-one-in-Set.ensures.counted c.in_err-other-in-Set.ensures.cause))
+
+pub numbers_of-returns-in_ok-_elements-in-Matrix-clause-counted : goal.numbers_of-returns-in_ok-_elements-in-Matrix-clause-counted
+unfolding met_domain
+numbers_of-returns-in_ok-_elements-in-Matrix-clause-counted t c =
+    let mode = mode_in c.args.scope in
+    let env = env_in c.args.scope in
+    let p = c.args.d.now.place in
+    let ds = domains_of c.deref-in-Matrix.result.now in
+    let inner = domain_tree c.deref-in-Matrix-2.result.now in
+    let tree : domain_tree c.args.d.now ≡ matrix_domain p ds inner =
+    ap (domain_kind_tree p) c.in-Matrix.is ∙ domain_kind_tree-matrix p c.in-Matrix.indices c.in-Matrix.elements
+    ∙ ap (λ l. matrix_domain p (domains_of l) (domain_tree c.in-Matrix.elements.value)) (sym c.deref-in-Matrix.ensures.value) ∙ ap (λ x. matrix_domain p ds (domain_tree x)) (sym c.deref-in-Matrix-2.ensures) in
+    subst (λ e. Counted mode c.args.met.now c.numbers_of-in-Matrix.new.met (met_domain mode env e)) (sym tree)
+    (counted_append mode c.args.met.now c.meet_domains.new.met c.numbers_of-in-Matrix.new.met (met_domains mode env ds) (met_domain mode env inner)
+    c.in_ok-meet_domains-in-Matrix.ensures.counted c.in_ok-_elements-in-Matrix.ensures.counted)
+
+pub numbers_of-returns-in_ok-_elements-in-Matrix-clause-value : goal.numbers_of-returns-in_ok-_elements-in-Matrix-clause-value
+unfolding domain_values
+numbers_of-returns-in_ok-_elements-in-Matrix-clause-value t c =
+    let p = c.args.d.now.place in
+    let tree = ap (domain_kind_tree p) c.in-Matrix.is ∙ domain_kind_tree-matrix p c.in-Matrix.indices c.in-Matrix.elements in
+    sym (ap (domain_values (mode_in c.args.scope) (env_in c.args.scope)) tree)
+
+pub numbers_of-returns-in_err-meet_domains-in-Matrix-clause-cause : goal.numbers_of-returns-in_err-meet_domains-in-Matrix-clause-cause
+unfolding met_domain
+numbers_of-returns-in_err-meet_domains-in-Matrix-clause-cause t c =
+    let mode = mode_in c.args.scope in
+    let env = env_in c.args.scope in
+    let p = c.args.d.now.place in
+    let ds = domains_of c.deref-in-Matrix.result.now in
+    let inner = domain_tree c.in-Matrix.elements.value in
+    let tree : domain_tree c.args.d.now ≡ matrix_domain p ds inner =
+    ap (domain_kind_tree p) c.in-Matrix.is ∙ domain_kind_tree-matrix p c.in-Matrix.indices c.in-Matrix.elements
+    ∙ ap (λ l. matrix_domain p (domains_of l) inner) (sym c.deref-in-Matrix.ensures.value) in
+    let q = err_from_is_err_and c.from_residual-in_err-meet_domains-in-Matrix.result c.from_residual-in_err-meet_domains-in-Matrix.ensures.1 in
+    rw (q.1, q.2)
+    (subst (λ e. IsCause (limits_of_values mode c.args.met.now (met_domain mode env e)) c.in_err-meet_domains-in-Matrix.field-0.0) (sym tree)
+    (cause_first mode c.args.met.now (met_domains mode env ds) (met_domain mode env inner) c.in_err-meet_domains-in-Matrix.field-0.0 c.in_err-meet_domains-in-Matrix.ensures.cause))
+
+pub numbers_of-returns-in_err-_elements-in-Matrix-clause-cause : goal.numbers_of-returns-in_err-_elements-in-Matrix-clause-cause
+unfolding met_domain
+numbers_of-returns-in_err-_elements-in-Matrix-clause-cause t c =
+    let mode = mode_in c.args.scope in
+    let env = env_in c.args.scope in
+    let p = c.args.d.now.place in
+    let ds = domains_of c.deref-in-Matrix.result.now in
+    let inner = domain_tree c.deref-in-Matrix-2.result.now in
+    let tree : domain_tree c.args.d.now ≡ matrix_domain p ds inner =
+    ap (domain_kind_tree p) c.in-Matrix.is ∙ domain_kind_tree-matrix p c.in-Matrix.indices c.in-Matrix.elements
+    ∙ ap (λ l. matrix_domain p (domains_of l) (domain_tree c.in-Matrix.elements.value)) (sym c.deref-in-Matrix.ensures.value) ∙ ap (λ x. matrix_domain p ds (domain_tree x)) (sym c.deref-in-Matrix-2.ensures) in
+    let q = err_from_is_err_and c.from_residual-in_err-_elements-in-Matrix.result c.from_residual-in_err-_elements-in-Matrix.ensures.1 in
+    rw (q.1, q.2)
+    (subst (λ e. IsCause (limits_of_values mode c.args.met.now (met_domain mode env e)) c.in_err-_elements-in-Matrix.field-0.0) (sym tree)
+    (cause_then mode c.args.met.now c.meet_domains.new.met (met_domains mode env ds) (met_domain mode env inner) c.in_err-_elements-in-Matrix.field-0.0
+    c.in_ok-meet_domains-in-Matrix.ensures.counted c.in_err-_elements-in-Matrix.ensures.cause))
+
+pub meet_domains-loop-domain-init : goal.meet_domains-loop-domain-init
+meet_domains-loop-domain-init t c = domains_begin (mode_in c.args.scope) (env_in c.args.scope) c.args.met.now c.args.domains.now c.requires.small
+
+pub meet_domains-loop-domain-preserved : goal.meet_domains-loop-domain-preserved
+meet_domains-loop-domain-preserved t c =
+    let all : List Domain = c.args.domains.now in
+    let k : ℕ = c.loop-domain.domain-index in
+    let d : Domain = c.domain-item.result in
+    let cut : drop k all ≡ d ∷ drop (k + 1) all =
+    drop_more all k d c.loop-domain-test.true ∙ ap (λ r. r ∷ drop (k + 1) all) (sym c.domain-item.is) in
+    domains_more (mode_in c.args.scope) (env_in c.args.scope) c.args.met.now c.loop-domain.met c.numbers_of.new.met all _ d (drop (k + 1) all)
+    c.loop-domain.invariant cut c.in_ok-_numbers.ensures.counted
+
+pub meet_domains-returns-in_err-_numbers-clause-cause : goal.meet_domains-returns-in_err-_numbers-clause-cause
+meet_domains-returns-in_err-_numbers-clause-cause t c =
+    let all : List Domain = c.args.domains.now in
+    let k : ℕ = c.loop-domain.domain-index in
+    let d : Domain = c.domain-item.result in
+    let cut : drop k all ≡ d ∷ drop (k + 1) all =
+    drop_more all k d c.loop-domain-test.true ∙ ap (λ r. r ∷ drop (k + 1) all) (sym c.domain-item.is) in
+    let p = err_from_is_err_and c.from_residual.result c.from_residual.ensures.1 in
+    rw (p.1, p.2)
+    (domains_cause (mode_in c.args.scope) (env_in c.args.scope) c.args.met.now c.loop-domain.met all _ d (drop (k + 1) all) c.loop-domain.invariant cut
+    c.in_err-_numbers.field-0.0 c.in_err-_numbers.ensures.cause)
+
+pub meet_domains-returns-clause-counted : goal.meet_domains-returns-clause-counted
+meet_domains-returns-clause-counted t c =
+    domains_counted (mode_in c.args.scope) (env_in c.args.scope) c.args.met.now c.loop-domain.met c.args.domains.now _ c.loop-domain.invariant
+    (drop_all c.loop-domain.domain-index c.args.domains.now c.loop-domain-test.false)
+
+pub with_part-returns-in_err-truth-clause-cause : goal.with_part-returns-in_err-truth-clause-cause
+with_part-returns-in_err-truth-clause-cause t c =
+    let l = c.args.listing in
+    let r = err_from_is_err_and c.from_residual.result c.from_residual.ensures.1 in
+    rw (r.1, r.2)
+    (conditions_cause (mode_in c.args.scope) (expr_tree l.body.now) (expr_trees l.conditions.now) (env_in c.args.scope) c.args.met.now c.in_err-truth.field-0.0 c.in_err-truth.ensures.cause)
+
+pub with_part-returns-in_err-seen-in-Some-true-clause-cause : goal.with_part-returns-in_err-seen-in-Some-true-clause-cause
+unfolding of_all
+with_part-returns-in_err-seen-in-Some-true-clause-cause t c =
+    let l = c.args.listing in
+    let r = err_from_is_err_and c.from_residual-in_err-seen-in-Some-true.result c.from_residual-in_err-seen-in-Some-true.ensures.1 in
+    rw (r.1, r.2)
+    (part_cause (mode_in c.args.scope) (expr_tree l.body.now) (expr_trees l.conditions.now) (env_in c.args.scope) c.args.met.now c.truths.new.met c.in_err-seen-in-Some-true.field-0.0
+    c.in_ok-truth.ensures.counted (ap Some (sym c.in-Some-true.field-0-test) ∙ sym c.in-Some-true.is ∙ c.in_ok-truth.ensures.value) c.in_err-seen-in-Some-true.ensures.cause)
+
+pub with_part-returns-in_ok-more-in-Some-true-clause-counted : goal.with_part-returns-in_ok-more-in-Some-true-clause-counted
+unfolding of_all
+with_part-returns-in_ok-more-in-Some-true-clause-counted t c =
+    let l = c.args.listing in
+    part_counted (mode_in c.args.scope) (expr_tree l.body.now) (expr_trees l.conditions.now) (env_in c.args.scope) c.args.met.now c.truths.new.met c.value_of.new.met
+    c.in_ok-truth.ensures.counted (ap Some (sym c.in-Some-true.field-0-test) ∙ sym c.in-Some-true.is ∙ c.in_ok-truth.ensures.value) c.in_ok-seen-in-Some-true.ensures.counted
+
+pub with_part-returns-in_ok-more-in-Some-true-clause-value : goal.with_part-returns-in_ok-more-in-Some-true-clause-value
+unfolding of_all
+with_part-returns-in_ok-more-in-Some-true-clause-value t c =
+    let l = c.args.listing in
+    part_is (mode_in c.args.scope) (expr_tree l.body.now) (expr_trees l.conditions.now) (env_in c.args.scope) (listed_in c.args.values) (listed_in c.in_ok-more-in-Some-true.more)
+    (seen_held c.in_ok-seen-in-Some-true.seen) (ap Some (sym c.in-Some-true.field-0-test) ∙ sym c.in-Some-true.is ∙ c.in_ok-truth.ensures.value) c.in_ok-seen-in-Some-true.ensures.value c.in_ok-more-in-Some-true.ensures
+
+pub with_part-returns-in-Some-false-clause-counted : goal.with_part-returns-in-Some-false-clause-counted
+unfolding of_all
+with_part-returns-in-Some-false-clause-counted t c =
+    let l = c.args.listing in
+    no_part_counted (mode_in c.args.scope) (expr_tree l.body.now) (expr_trees l.conditions.now) (env_in c.args.scope) c.args.met.now c.truths.new.met (Some false)
+    c.in_ok-truth.ensures.counted (ap Some (sym c.in-Some-false.field-0-test) ∙ sym c.in-Some-false.is ∙ c.in_ok-truth.ensures.value) (no_nodes_false (met (mode_in c.args.scope) (env_in c.args.scope) (expr_tree l.body.now)))
+
+pub with_part-returns-in-Some-false-clause-value : goal.with_part-returns-in-Some-false-clause-value
+unfolding of_all
+with_part-returns-in-Some-false-clause-value t c =
+    let l = c.args.listing in
+    no_part_is (mode_in c.args.scope) (expr_tree l.body.now) (expr_trees l.conditions.now) (env_in c.args.scope) (listed_in c.args.values) (ap Some (sym c.in-Some-false.field-0-test) ∙ sym c.in-Some-false.is ∙ c.in_ok-truth.ensures.value)
+
+pub with_part-returns-in-None-clause-counted : goal.with_part-returns-in-None-clause-counted
+unfolding of_all
+with_part-returns-in-None-clause-counted t c =
+    let l = c.args.listing in
+    no_part_counted (mode_in c.args.scope) (expr_tree l.body.now) (expr_trees l.conditions.now) (env_in c.args.scope) c.args.met.now c.truths.new.met None
+    c.in_ok-truth.ensures.counted (sym c.in-None.is ∙ c.in_ok-truth.ensures.value) (no_nodes_none (met (mode_in c.args.scope) (env_in c.args.scope) (expr_tree l.body.now)))
+
+pub with_part-returns-in-None-clause-value : goal.with_part-returns-in-None-clause-value
+unfolding of_all
+with_part-returns-in-None-clause-value t c =
+    let l = c.args.listing in
+    lost_part_is (mode_in c.args.scope) (expr_tree l.body.now) (expr_trees l.conditions.now) (env_in c.args.scope) (listed_in c.args.values) (sym c.in-None.is ∙ c.in_ok-truth.ensures.value)
+
+pub generated-over_names-requires : goal.generated-over_names-requires
+generated-over_names-requires t c =
+    let cut = c.in-Some.ensures.cases.0 in
+    let long = ap length cut in
+    let depth = first_generator c.args.listing c.args.generators.now c.in-Some.first.now c.in-Some.later.now c.in-Some.first.now.domain cut refl in
+    (omega (arith, depth, long, c.decreases, c.deref.ensures.len), c.requires.small)
+
+pub generated-returns-in_err-more-in-Some-clause-cause : goal.generated-returns-in_err-more-in-Some-clause-cause
+generated-returns-in_err-more-in-Some-clause-cause t c =
+    let r = err_from_is_err_and c.from_residual.result c.from_residual.ensures.1 in
+    let gens = generators_first c.args.generators.now c.in-Some.first.now c.in-Some.later.now (domain_tree c.in-Some.first.now.domain) c.deref.result.now c.in-Some.ensures.cases.0 refl (sym c.deref.ensures.value) in
+    rw (r.1, r.2)
+    (subst (λ g. IsCause (limits_of_values (mode_in c.args.scope) c.args.met.now (nodes_of (mode_in c.args.scope) c.args.listing g (env_in c.args.scope))) c.in_err-more-in-Some.field-0.0) (sym gens)
+    c.in_err-more-in-Some.ensures.cause)
+
+pub generated-returns-in_err-more-in-None-clause-cause : goal.generated-returns-in_err-more-in-None-clause-cause
+generated-returns-in_err-more-in-None-clause-cause t c =
+    let r = err_from_is_err_and c.from_residual-in_err-more-in-None.result c.from_residual-in_err-more-in-None.ensures.1 in
+    let l = c.args.listing in
+    let gens = generators_none c.args.generators.now (no_runs c.args.generators.now c.in-None.ensures.cases) in
+    rw (r.1, r.2)
+    (subst (λ g. IsCause (limits_of_values (mode_in c.args.scope) c.args.met.now (nodes_of (mode_in c.args.scope) l g (env_in c.args.scope))) c.in_err-more-in-None.field-0.0) (sym gens)
+    (subst (λ ms. IsCause (limits_of_values (mode_in c.args.scope) c.args.met.now ms) c.in_err-more-in-None.field-0.0)
+    (sym (nodes_part (mode_in c.args.scope) (expr_tree l.body.now) (expr_trees l.conditions.now) (env_in c.args.scope)))
+    c.in_err-more-in-None.ensures.cause))
+
+pub generated-returns-in_ok-more-in-Some-clause-counted : goal.generated-returns-in_ok-more-in-Some-clause-counted
+generated-returns-in_ok-more-in-Some-clause-counted t c =
+    let gens = generators_first c.args.generators.now c.in-Some.first.now c.in-Some.later.now (domain_tree c.in-Some.first.now.domain) c.deref.result.now c.in-Some.ensures.cases.0 refl (sym c.deref.ensures.value) in
+    subst (λ g. Counted (mode_in c.args.scope) c.args.met.now c.over_names.new.met (nodes_of (mode_in c.args.scope) c.args.listing g (env_in c.args.scope))) (sym gens)
+    c.in_ok-more-in-Some.ensures.counted
+
+pub generated-returns-in_ok-more-in-Some-clause-value : goal.generated-returns-in_ok-more-in-Some-clause-value
+generated-returns-in_ok-more-in-Some-clause-value t c =
+    let gens = generators_first c.args.generators.now c.in-Some.first.now c.in-Some.later.now (domain_tree c.in-Some.first.now.domain) c.deref.result.now c.in-Some.ensures.cases.0 refl (sym c.deref.ensures.value) in
+    c.in_ok-more-in-Some.ensures.value
+    ∙ ap (λ g. before_others (listed_in c.args.values) (parts_of (mode_in c.args.scope) c.args.listing g (env_in c.args.scope))) (sym gens)
+
+pub generated-returns-in_ok-more-in-None-clause-counted : goal.generated-returns-in_ok-more-in-None-clause-counted
+generated-returns-in_ok-more-in-None-clause-counted t c =
+    let l = c.args.listing in
+    let gens = generators_none c.args.generators.now (no_runs c.args.generators.now c.in-None.ensures.cases) in
+    subst (λ g. Counted (mode_in c.args.scope) c.args.met.now c.with_part.new.met (nodes_of (mode_in c.args.scope) l g (env_in c.args.scope))) (sym gens)
+    (subst (λ ms. Counted (mode_in c.args.scope) c.args.met.now c.with_part.new.met ms)
+    (sym (nodes_part (mode_in c.args.scope) (expr_tree l.body.now) (expr_trees l.conditions.now) (env_in c.args.scope)))
+    c.in_ok-more-in-None.ensures.counted)
+
+pub generated-returns-in_ok-more-in-None-clause-value : goal.generated-returns-in_ok-more-in-None-clause-value
+generated-returns-in_ok-more-in-None-clause-value t c =
+    let l = c.args.listing in
+    let gens = generators_none c.args.generators.now (no_runs c.args.generators.now c.in-None.ensures.cases) in
+    c.in_ok-more-in-None.ensures.value
+    ∙ ap (before_others (listed_in c.args.values)) (sym (values_part (mode_in c.args.scope) (expr_tree l.body.now) (expr_trees l.conditions.now) (env_in c.args.scope)))
+    ∙ ap (λ g. before_others (listed_in c.args.values) (parts_of (mode_in c.args.scope) l g (env_in c.args.scope))) (sym gens)
+
+pub over_names-numbers_of-requires : goal.over_names-numbers_of-requires
+over_names-numbers_of-requires t c =
+    let r = c.args.ranging in
+    let within = first_within (size-Domain r.domain.now) (generators_depth r.listing r.later.now) in
+    (omega (arith, within, c.decreases), c.in_ok-count-in-Some.ensures.small)
+
+pub over_names-returns-in_err-count-in-Some-clause-cause : goal.over_names-returns-in_err-count-in-Some-clause-cause
+over_names-returns-in_err-count-in-Some-clause-cause t c =
+    let mode = mode_in c.args.scope in
+    let env = env_in c.args.scope in
+    let g = c.args.ranging in
+    let r = err_from_is_err_and c.from_residual.result c.from_residual.ensures.1 in
+    rw (r.1, r.2, c.in_err-count-in-Some.ensures.cause)
+    (subst (λ ns. Contains (limits_of_values mode c.args.met.now (nodes_of mode g.listing (ranging_over g ns) env)) LimitName.Size) (sym c.in-Some.ensures.cases.0)
+    (subst (λ ms. Contains (limits_of_values mode c.args.met.now ms) LimitName.Size)
+    (sym (nodes_name mode (expr_tree g.listing.body.now) (expr_trees g.listing.conditions.now) c.in-Some.name.now c.in-Some.rest.now (domain_tree g.domain.now) (generators_of g.later.now) env _ refl))
+    (name_refused mode c.args.met.now _ c.in_err-count-in-Some.ensures.refused)))
+
+pub over_names-returns-in_err-numbers-in-Some-clause-cause : goal.over_names-returns-in_err-numbers-in-Some-clause-cause
+over_names-returns-in_err-numbers-in-Some-clause-cause t c =
+    let mode = mode_in c.args.scope in
+    let env = env_in c.args.scope in
+    let g = c.args.ranging in
+    let r = err_from_is_err_and c.from_residual-in_err-numbers-in-Some.result c.from_residual-in_err-numbers-in-Some.ensures.1 in
+    rw (r.1, r.2)
+    (subst (λ ns. IsCause (limits_of_values mode c.args.met.now (nodes_of mode g.listing (ranging_over g ns) env)) c.in_err-numbers-in-Some.field-0.0) (sym c.in-Some.ensures.cases.0)
+    (subst (λ ms. IsCause (limits_of_values mode c.args.met.now ms) c.in_err-numbers-in-Some.field-0.0)
+    (sym (nodes_name mode (expr_tree g.listing.body.now) (expr_trees g.listing.conditions.now) c.in-Some.name.now c.in-Some.rest.now (domain_tree g.domain.now) (generators_of g.later.now) env _ refl))
+    (domain_cause mode c.args.met.now c.count.new.met (met_domain mode env (domain_tree g.domain.now)) _ c.in_err-numbers-in-Some.field-0.0
+    c.in_ok-count-in-Some.ensures.counted c.in_ok-count-in-Some.ensures.small c.in_err-numbers-in-Some.ensures.cause)))
+
+pub over_names-over_numbers-requires : goal.over_names-over_numbers-requires
+over_names-over_numbers-requires t c =
+    let long = ap length c.in-Some.ensures.cases.0 in
+    (omega (arith, long, c.decreases), (c.in_ok-numbers-in-Some.ensures.counted.small, sym c.in_ok-numbers-in-Some.ensures.value ∙ c.in-Some-numbers.is))
+
+pub over_names-returns-in_err-more-in-Some-numbers-clause-cause : goal.over_names-returns-in_err-more-in-Some-numbers-clause-cause
+over_names-returns-in_err-more-in-Some-numbers-clause-cause t c =
+    let mode = mode_in c.args.scope in
+    let env = env_in c.args.scope in
+    let g = c.args.ranging in
+    let is = sym c.in_ok-numbers-in-Some.ensures.value ∙ c.in-Some-numbers.is in
+    let r = err_from_is_err_and c.from_residual-in_err-more-in-Some-numbers.result c.from_residual-in_err-more-in-Some-numbers.ensures.1 in
+    rw (r.1, r.2)
+    (subst (λ ns. IsCause (limits_of_values mode c.args.met.now (nodes_of mode g.listing (ranging_over g ns) env)) c.in_err-more-in-Some-numbers.field-0.0) (sym c.in-Some.ensures.cases.0)
+    (subst (λ ms. IsCause (limits_of_values mode c.args.met.now ms) c.in_err-more-in-Some-numbers.field-0.0)
+    (sym (nodes_name mode (expr_tree g.listing.body.now) (expr_trees g.listing.conditions.now) c.in-Some.name.now c.in-Some.rest.now (domain_tree g.domain.now) (generators_of g.later.now) env _ is))
+    (behind_cause mode c.args.met.now c.count.new.met c.numbers_of.new.met (met_domain mode env (domain_tree g.domain.now)) _ c.in_err-more-in-Some-numbers.field-0.0
+    c.in_ok-count-in-Some.ensures.counted c.in_ok-count-in-Some.ensures.small c.in_ok-numbers-in-Some.ensures.counted c.in_err-more-in-Some-numbers.ensures.cause)))
+
+pub over_names-generated-requires : goal.over_names-generated-requires
+over_names-generated-requires t c =
+    let r = c.args.ranging in
+    let within = second_within (size-Domain r.domain.now) (generators_depth r.listing r.later.now) in
+    (omega (arith, within, c.decreases), c.requires.small)
+
+pub over_names-returns-in_err-more-in-None-clause-cause : goal.over_names-returns-in_err-more-in-None-clause-cause
+over_names-returns-in_err-more-in-None-clause-cause t c =
+    let mode = mode_in c.args.scope in
+    let env = env_in c.args.scope in
+    let g = c.args.ranging in
+    let r = err_from_is_err_and c.from_residual-in_err-more-in-None.result c.from_residual-in_err-more-in-None.ensures.1 in
+    rw (r.1, r.2)
+    (subst (λ ns. IsCause (limits_of_values mode c.args.met.now (nodes_of mode g.listing (ranging_over g ns) env)) c.in_err-more-in-None.field-0.0) (sym (no_runs c.args.names.now c.in-None.ensures.cases))
+    (subst (λ ms. IsCause (limits_of_values mode c.args.met.now ms) c.in_err-more-in-None.field-0.0)
+    (sym (nodes_bare mode (expr_tree g.listing.body.now) (expr_trees g.listing.conditions.now) (domain_tree g.domain.now) (generators_of g.later.now) env)) c.in_err-more-in-None.ensures.cause))
+
+pub over_names-returns-in_ok-more-in-Some-numbers-clause-counted : goal.over_names-returns-in_ok-more-in-Some-numbers-clause-counted
+over_names-returns-in_ok-more-in-Some-numbers-clause-counted t c =
+    let mode = mode_in c.args.scope in
+    let env = env_in c.args.scope in
+    let g = c.args.ranging in
+    let is = sym c.in_ok-numbers-in-Some.ensures.value ∙ c.in-Some-numbers.is in
+    subst (λ ns. Counted mode c.args.met.now c.over_numbers.new.met (nodes_of mode g.listing (ranging_over g ns) env)) (sym c.in-Some.ensures.cases.0)
+    (subst (λ ms. Counted mode c.args.met.now c.over_numbers.new.met ms)
+    (sym (nodes_name mode (expr_tree g.listing.body.now) (expr_trees g.listing.conditions.now) c.in-Some.name.now c.in-Some.rest.now (domain_tree g.domain.now) (generators_of g.later.now) env _ is))
+    (name_whole mode c.args.met.now c.count.new.met c.numbers_of.new.met c.over_numbers.new.met (met_domain mode env (domain_tree g.domain.now)) _
+    c.in_ok-count-in-Some.ensures.counted c.in_ok-count-in-Some.ensures.small c.in_ok-numbers-in-Some.ensures.counted c.in_ok-more-in-Some-numbers.ensures.counted))
+
+pub over_names-returns-in_ok-more-in-Some-numbers-clause-value : goal.over_names-returns-in_ok-more-in-Some-numbers-clause-value
+over_names-returns-in_ok-more-in-Some-numbers-clause-value t c =
+    let mode = mode_in c.args.scope in
+    let env = env_in c.args.scope in
+    let g = c.args.ranging in
+    let is = sym c.in_ok-numbers-in-Some.ensures.value ∙ c.in-Some-numbers.is in
+    c.in_ok-more-in-Some-numbers.ensures.value
+    ∙ ap (before_others (listed_in c.args.values))
+    (sym (values_some mode (expr_tree g.listing.body.now) (expr_trees g.listing.conditions.now) c.in-Some.name.now c.in-Some.rest.now (domain_tree g.domain.now) (generators_of g.later.now) env _ is))
+    ∙ ap (λ ns. before_others (listed_in c.args.values) (parts_of mode g.listing (ranging_over g ns) env)) (sym c.in-Some.ensures.cases.0)
+
+pub over_names-returns-in-None-numbers-clause-counted : goal.over_names-returns-in-None-numbers-clause-counted
+over_names-returns-in-None-numbers-clause-counted t c =
+    let mode = mode_in c.args.scope in
+    let env = env_in c.args.scope in
+    let g = c.args.ranging in
+    let is = sym c.in_ok-numbers-in-Some.ensures.value ∙ c.in-None-numbers.is in
+    subst (λ ns. Counted mode c.args.met.now c.numbers_of.new.met (nodes_of mode g.listing (ranging_over g ns) env)) (sym c.in-Some.ensures.cases.0)
+    (subst (λ ms. Counted mode c.args.met.now c.numbers_of.new.met ms)
+    (sym (nodes_name mode (expr_tree g.listing.body.now) (expr_trees g.listing.conditions.now) c.in-Some.name.now c.in-Some.rest.now (domain_tree g.domain.now) (generators_of g.later.now) env None is))
+    (name_domain mode c.args.met.now c.count.new.met c.numbers_of.new.met (met_domain mode env (domain_tree g.domain.now))
+    c.in_ok-count-in-Some.ensures.counted c.in_ok-count-in-Some.ensures.small c.in_ok-numbers-in-Some.ensures.counted))
+
+pub over_names-returns-in-None-numbers-clause-value : goal.over_names-returns-in-None-numbers-clause-value
+over_names-returns-in-None-numbers-clause-value t c =
+    let mode = mode_in c.args.scope in
+    let env = env_in c.args.scope in
+    let g = c.args.ranging in
+    let is = sym c.in_ok-numbers-in-Some.ensures.value ∙ c.in-None-numbers.is in
+    lost_behind (listed_in c.args.values)
+    ∙ ap (before_others (listed_in c.args.values))
+    (sym (values_none mode (expr_tree g.listing.body.now) (expr_trees g.listing.conditions.now) c.in-Some.name.now c.in-Some.rest.now (domain_tree g.domain.now) (generators_of g.later.now) env is))
+    ∙ ap (λ ns. before_others (listed_in c.args.values) (parts_of mode g.listing (ranging_over g ns) env)) (sym c.in-Some.ensures.cases.0)
+
+pub over_names-returns-in_ok-more-in-None-clause-counted : goal.over_names-returns-in_ok-more-in-None-clause-counted
+over_names-returns-in_ok-more-in-None-clause-counted t c =
+    let mode = mode_in c.args.scope in
+    let env = env_in c.args.scope in
+    let g = c.args.ranging in
+    subst (λ ns. Counted mode c.args.met.now c.generated.new.met (nodes_of mode g.listing (ranging_over g ns) env)) (sym (no_runs c.args.names.now c.in-None.ensures.cases))
+    (subst (λ ms. Counted mode c.args.met.now c.generated.new.met ms)
+    (sym (nodes_bare mode (expr_tree g.listing.body.now) (expr_trees g.listing.conditions.now) (domain_tree g.domain.now) (generators_of g.later.now) env)) c.in_ok-more-in-None.ensures.counted)
+
+pub over_names-returns-in_ok-more-in-None-clause-value : goal.over_names-returns-in_ok-more-in-None-clause-value
+over_names-returns-in_ok-more-in-None-clause-value t c =
+    let mode = mode_in c.args.scope in
+    let env = env_in c.args.scope in
+    let g = c.args.ranging in
+    c.in_ok-more-in-None.ensures.value
+    ∙ ap (before_others (listed_in c.args.values))
+    (sym (values_bare mode (expr_tree g.listing.body.now) (expr_trees g.listing.conditions.now) (domain_tree g.domain.now) (generators_of g.later.now) env))
+    ∙ ap (λ ns. before_others (listed_in c.args.values) (parts_of mode g.listing (ranging_over g ns) env)) (sym (no_runs c.args.names.now c.in-None.ensures.cases))
+
+pub over_numbers-loop-number-init : goal.over_numbers-loop-number-init
+over_numbers-loop-number-init t c =
+    let mode = mode_in c.args.scope in
+    let env = env_in c.args.scope in (
+      c.walk_of-walk.ensures.walk,
+      listed_begins mode (parts_at mode env c.args.ranging c.args.name.now c.args.rest.now) (nodes_at mode env c.args.ranging c.args.name.now c.args.rest.now)
+          c.args.met.now c.args.set.now (numbers_left c.walk_of-walk.result) (listed_in c.args.values) c.requires.small (c.walk_of-walk.ensures.numbers ∙ c.runs.ensures.numbers),
+    )
+
+pub over_numbers-next_number-requires : goal.over_numbers-next_number-requires
+over_numbers-next_number-requires t c = c.loop-number.invariant.0
+
+pub over_numbers-over_names-requires : goal.over_numbers-over_names-requires
+over_numbers-over_names-requires t c = (omega (arith, c.decreases), c.loop-number.invariant.1.small)
+
+pub over_numbers-loop-number-smaller : goal.over_numbers-loop-number-smaller
+unfolding before_rest
+over_numbers-loop-number-smaller t c =
+    let cut : numbers_left c.loop-number.walk ≡ c.in-Some.number ∷ numbers_left c.in-Some.behind = c.next_number.ensures.numbers ∙ ap before_rest c.in-Some.is in
+    let longer = ap length cut in
+    omega (arith, longer)
+
+pub over_numbers-returns-in_err-more-clause-cause : goal.over_numbers-returns-in_err-more-clause-cause
+unfolding before_rest with_all
+over_numbers-returns-in_err-more-clause-cause t c =
+    let mode = mode_in c.args.scope in
+    let env = env_in c.args.scope in
+    let g = c.args.ranging in
+    let name = c.args.name.now in
+    let rest = c.args.rest.now in
+    let n = c.in-Some.number in
+    let cut : numbers_left c.loop-number.walk ≡ n ∷ numbers_left c.in-Some.behind = c.next_number.ensures.numbers ∙ ap before_rest c.in-Some.is in
+    let scalar : c.scalar_of-scalar.result ≡ scalar_in env (domain_tree g.domain.now) = c.scalar_of-scalar.ensures mode (λ none. absurd (let e = sym c.requires.set ∙ none in cc)) in
+    let same : to_z w64 (of_z w64 n) ≡ n = to_z-of_z w64 n (omega (arith, ints)) in
+    let r = err_from_is_err_and c.from_residual.result c.from_residual.ensures.1 in
+    rw (r.1, r.2)
+    (listed_cause mode (parts_at mode env g name rest) (nodes_at mode env g name rest)
+    c.args.met.now c.loop-number.met c.args.set.now (numbers_left c.loop-number.walk) (numbers_left c.in-Some.behind) (listed_in c.args.values) (listed_in c.loop-number.more) n
+    c.loop-number.invariant.1 cut c.in_err-more.field-0.0
+    (subst (λ s. IsCause (limits_of_values mode c.loop-number.met (nodes_of mode g.listing (ranging_over g rest) (with_number name s n env))) c.in_err-more.field-0.0) scalar
+    (subst (λ m. IsCause (limits_of_values mode c.loop-number.met (nodes_of mode g.listing (ranging_over g rest) (with_number name c.scalar_of-scalar.result m env))) c.in_err-more.field-0.0) same c.in_err-more.ensures.cause)))
+
+pub over_numbers-loop-number-preserved : goal.over_numbers-loop-number-preserved
+unfolding before_rest IsWalkBehind with_all
+over_numbers-loop-number-preserved t c =
+    let mode = mode_in c.args.scope in
+    let env = env_in c.args.scope in
+    let g = c.args.ranging in
+    let name = c.args.name.now in
+    let rest = c.args.rest.now in
+    let n = c.in-Some.number in
+    let cut : numbers_left c.loop-number.walk ≡ n ∷ numbers_left c.in-Some.behind = c.next_number.ensures.numbers ∙ ap before_rest c.in-Some.is in
+    let scalar : c.scalar_of-scalar.result ≡ scalar_in env (domain_tree g.domain.now) = c.scalar_of-scalar.ensures mode (λ none. absurd (let e = sym c.requires.set ∙ none in cc)) in
+    let same : to_z w64 (of_z w64 n) ≡ n = to_z-of_z w64 n (omega (arith, ints)) in (
+      subst IsWalkBehind c.in-Some.is c.next_number.ensures.walk,
+      listed_goes_on mode (parts_at mode env g name rest) (nodes_at mode env g name rest)
+          c.args.met.now c.loop-number.met c.over_names.new.met c.args.set.now (numbers_left c.loop-number.walk) (numbers_left c.in-Some.behind)
+          (listed_in c.args.values) (listed_in c.loop-number.more) (listed_in c.in_ok-more.more) n
+          c.loop-number.invariant.1 cut
+          (subst (λ s. Counted mode c.loop-number.met c.over_names.new.met (nodes_of mode g.listing (ranging_over g rest) (with_number name s n env))) scalar
+          (subst (λ m. Counted mode c.loop-number.met c.over_names.new.met (nodes_of mode g.listing (ranging_over g rest) (with_number name c.scalar_of-scalar.result m env))) same c.in_ok-more.ensures.counted))
+          (subst (λ s. listed_in c.in_ok-more.more ≡ before_others (listed_in c.loop-number.more) (parts_of mode g.listing (ranging_over g rest) (with_number name s n env))) scalar
+          (subst (λ m. listed_in c.in_ok-more.more ≡ before_others (listed_in c.loop-number.more) (parts_of mode g.listing (ranging_over g rest) (with_number name c.scalar_of-scalar.result m env))) same c.in_ok-more.ensures.value)),
+    )
+
+pub over_numbers-returns-clause-counted : goal.over_numbers-returns-clause-counted
+unfolding before_rest
+over_numbers-returns-clause-counted t c =
+    let mode = mode_in c.args.scope in
+    let env = env_in c.args.scope in
+    listed_counted mode (parts_at mode env c.args.ranging c.args.name.now c.args.rest.now) (nodes_at mode env c.args.ranging c.args.name.now c.args.rest.now)
+    c.args.met.now c.loop-number.met c.args.set.now (numbers_left c.loop-number.walk) (listed_in c.args.values) (listed_in c.loop-number.more) c.loop-number.invariant.1
+    (c.next_number.ensures.numbers ∙ ap before_rest c.in_default.is)
+
+pub over_numbers-returns-clause-value : goal.over_numbers-returns-clause-value
+unfolding before_rest
+over_numbers-returns-clause-value t c =
+    let mode = mode_in c.args.scope in
+    let env = env_in c.args.scope in
+    listed_value mode (parts_at mode env c.args.ranging c.args.name.now c.args.rest.now) (nodes_at mode env c.args.ranging c.args.name.now c.args.rest.now)
+    c.args.met.now c.loop-number.met c.args.set.now (numbers_left c.loop-number.walk) (listed_in c.args.values) (listed_in c.loop-number.more) c.loop-number.invariant.1
+    (c.next_number.ensures.numbers ∙ ap before_rest c.in_default.is)
+
+pub with_part-truths-requires : goal.with_part-truths-requires
+with_part-truths-requires t c =
+    let l = c.args.listing in
+    let within : most size-Expr l.conditions.now ≤ listing_depth l = second_within (size-Expr l.body.now) (most size-Expr l.conditions.now) in
+    (omega (arith, within, c.decreases), c.requires.small)
+
+pub with_part-value_of-requires : goal.with_part-value_of-requires
+with_part-value_of-requires t c =
+    let l = c.args.listing in
+    let within : size-Expr l.body.now ≤ listing_depth l = first_within (size-Expr l.body.now) (most size-Expr l.conditions.now) in
+    (omega (arith, within, c.decreases), tt)
+
+pub generated-with_part-requires : goal.generated-with_part-requires
+generated-with_part-requires t c =
+    let l = c.args.listing in
+    let within : listing_depth l ≤ generators_depth l c.args.generators.now = first_within (listing_depth l) (most size-Generator c.args.generators.now) in
+    (omega (arith, within, c.decreases), c.requires.small)
+
+pub list_value-generated-requires : goal.list_value-generated-requires
+list_value-generated-requires t c =
+    let l : Listing = record { body = c.deref-in-Comprehension.result; conditions = c.deref-in-Comprehension-2.result } in
+    let below = comprehension_depth c.args.kind.now c.in-Comprehension.body c.in-Comprehension.generators c.in-Comprehension.conditions c.in-Comprehension.domain l c.deref-in-Comprehension-3.result.now
+    c.in-Comprehension.is c.deref-in-Comprehension.ensures c.deref-in-Comprehension-2.ensures.value c.deref-in-Comprehension-3.ensures.value in
+    (omega (arith, below, c.decreases, c.deref-in-Comprehension-3.ensures.len), c.requires.small)
+
+pub list_value-returns-in_ok-made-in-Comprehension-clause-value : goal.list_value-returns-in_ok-made-in-Comprehension-clause-value
+list_value-returns-in_ok-made-in-Comprehension-clause-value t c =
+    let l : Listing = record { body = c.deref-in-Comprehension.result; conditions = c.deref-in-Comprehension-2.result } in
+    let is = comprehension_at c.args.kind.now c.in-Comprehension.body c.in-Comprehension.generators c.in-Comprehension.conditions c.in-Comprehension.domain l c.deref-in-Comprehension-3.result.now
+    c.in-Comprehension.is c.deref-in-Comprehension.ensures c.deref-in-Comprehension-2.ensures.value c.deref-in-Comprehension-3.ensures.value in
+    comprehension_value (mode_in c.args.scope) (env_in c.args.scope) c.args.kind.now l c.deref-in-Comprehension-3.result.now c.in-Comprehension.domain c.args.met.now c.generated.new.met c.index_set-in-Comprehension.new.met
+    c.in_ok-indices-in-Comprehension.indices _ (listed_in c.in_ok-values-in-Comprehension.values) c.count_of-count.result (seen_held c.in_ok-made-in-Comprehension.made) is
+    c.in_ok-values-in-Comprehension.ensures.counted c.in_ok-indices-in-Comprehension.ensures.counted (ap (λ vs. Some (map value_tree vs)) c.new.ensures.items)
+    c.in_ok-values-in-Comprehension.ensures.value c.count_of-count.ensures c.in_ok-indices-in-Comprehension.ensures.value c.in_ok-made-in-Comprehension.ensures
+
+pub list_value-returns-in_err-values-in-Comprehension-clause-cause : goal.list_value-returns-in_err-values-in-Comprehension-clause-cause
+list_value-returns-in_err-values-in-Comprehension-clause-cause t c =
+    let l : Listing = record { body = c.deref-in-Comprehension.result; conditions = c.deref-in-Comprehension-2.result } in
+    let is = comprehension_at c.args.kind.now c.in-Comprehension.body c.in-Comprehension.generators c.in-Comprehension.conditions c.in-Comprehension.domain l c.deref-in-Comprehension-3.result.now
+    c.in-Comprehension.is c.deref-in-Comprehension.ensures c.deref-in-Comprehension-2.ensures.value c.deref-in-Comprehension-3.ensures.value in
+    let r = err_from_is_err_and c.from_residual-in_err-values-in-Comprehension.result c.from_residual-in_err-values-in-Comprehension.ensures.1 in
+    rw (r.1, r.2)
+    (comprehension_first (mode_in c.args.scope) (env_in c.args.scope) c.args.kind.now l c.deref-in-Comprehension-3.result.now c.in-Comprehension.domain c.args.met.now c.in_err-values-in-Comprehension.field-0.0 is
+    c.in_err-values-in-Comprehension.ensures.cause)
+
+pub list_value-returns-in_err-indices-in-Comprehension-clause-cause : goal.list_value-returns-in_err-indices-in-Comprehension-clause-cause
+list_value-returns-in_err-indices-in-Comprehension-clause-cause t c =
+    let l : Listing = record { body = c.deref-in-Comprehension.result; conditions = c.deref-in-Comprehension-2.result } in
+    let is = comprehension_at c.args.kind.now c.in-Comprehension.body c.in-Comprehension.generators c.in-Comprehension.conditions c.in-Comprehension.domain l c.deref-in-Comprehension-3.result.now
+    c.in-Comprehension.is c.deref-in-Comprehension.ensures c.deref-in-Comprehension-2.ensures.value c.deref-in-Comprehension-3.ensures.value in
+    let r = err_from_is_err_and c.from_residual-in_err-indices-in-Comprehension.result c.from_residual-in_err-indices-in-Comprehension.ensures.1 in
+    rw (r.1, r.2)
+    (comprehension_second (mode_in c.args.scope) (env_in c.args.scope) c.args.kind.now l c.deref-in-Comprehension-3.result.now c.in-Comprehension.domain c.args.met.now c.generated.new.met
+    c.in_err-indices-in-Comprehension.field-0.0 is c.in_ok-values-in-Comprehension.ensures.counted c.in_err-indices-in-Comprehension.ensures.cause)

@@ -1,0 +1,6 @@
+use Rattle.ep_eval.specs.Scopes.{with_all}
+use Rattle.ep_eval.proofs.evaluation.type_in.Goals as goal
+
+pub returns : goal.returns
+unfolding with_all
+returns c = c.in_ok-ty.ensures

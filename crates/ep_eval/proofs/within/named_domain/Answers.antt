@@ -1,0 +1,39 @@
+use Rattle.std.proofs.Common.{ap, sym, ◌∙◌, None, Some, option_map}
+use Rattle.std.specs.Prelude.{if◌then◌else◌}
+use Rattle.ep_tree.specs.Environments.{context_of, meaning_in}
+use Rattle.ep_tree.specs.Types.{named_domain_type, type_from}
+use Rattle.ep_eval.proofs.TypedNames.{only_domain-type}
+use Rattle.ep_eval.specs.Bounds.{domain_of, only_domain}
+use Rattle.ep_eval.specs.Known.{env_of}
+use Rattle.ep_eval.specs.Scopes.{env_in}
+use Rattle.ep_eval.proofs.within.named_domain.Goals as goal
+
+pub returns-then-hides : goal.returns-then-hides
+unfolding context_of named_domain_type type_from
+returns-then-hides c =
+    let env = env_of c.args.scope.env.now in
+    let name = c.args.name.now in
+    sym (sym (only_domain-type (env_in c.args.scope name))
+    ∙ ap (λ b. type_from (named_domain_type (option_map meaning_in b)))
+    (c.hides.ensures env ∙ ap (λ b. if b then None else only_domain (env name)) c.if-hides.true))
+
+pub returns-in-Some : goal.returns-in-Some
+unfolding context_of named_domain_type type_from meaning_in
+returns-in-Some c =
+    let env = env_of c.args.scope.env.now in
+    let name = c.args.name.now in
+    ap Some c.shape_type.ensures
+    ∙ ap (λ r. type_from (named_domain_type (option_map meaning_in (option_map (λ d. domain_of d.now) r)))) (sym c.in-Some.is)
+    ∙ ap (λ b. type_from (named_domain_type (option_map meaning_in b)))
+    (c.domain.ensures ∙ ap (λ b. if b then None else only_domain (env name)) (sym c.if-hides.false) ∙ sym (c.hides.ensures env))
+    ∙ only_domain-type (env_in c.args.scope name)
+
+pub returns-in-None : goal.returns-in-None
+unfolding context_of named_domain_type type_from
+returns-in-None c =
+    let env = env_of c.args.scope.env.now in
+    let name = c.args.name.now in
+    ap (λ r. type_from (named_domain_type (option_map meaning_in (option_map (λ d. domain_of d.now) r)))) (sym c.in-None.is)
+    ∙ ap (λ b. type_from (named_domain_type (option_map meaning_in b)))
+    (c.domain.ensures ∙ ap (λ b. if b then None else only_domain (env name)) (sym c.if-hides.false) ∙ sym (c.hides.ensures env))
+    ∙ only_domain-type (env_in c.args.scope name)
