@@ -9,18 +9,13 @@ use Rattle.ep_tree.specs.declared.syntax.Domain.{Domain}
 use Rattle.ep_tree.specs.declared.syntax.Expr.{Expr}
 use Rattle.ep_parse_expr.specs.Answers.{AnswersDomain, AnswersExpr}
 use Rattle.ep_parse_expr.specs.Cursors.{Gives}
+use Rattle.ep_parse_expr.specs.Faults.{error_at}
 use Rattle.ep_parse_expr.specs.TreeReaders.{expr_from, some_domain_from}
 use Rattle.ep_parse_expr.specs.declared.cursor.Stop.{Stop}
 use Rattle.ep_parse_expr.specs.declared.cursor.Stop.TheVariants.{Memory as OutOfMemory, TooHigh as StopsHigh, Wrong}
 use Rattle.ep_parse_expr.specs.declared.errors.ParseError.{ParseError}
 use Rattle.ep_parse_expr.specs.declared.errors.ParseError.TheVariants.{Memory, Syntax, TooHigh}
 use Rattle.ep_parse_expr.proofs.Answering.{answers_domain, answers_expr}
-
--- the error of a call, where reading stopped at a token
-abbrev pub error_at : ℕ → Stop → ParseError
-error_at number Wrong = Syntax number
-error_at number StopsHigh = TooHigh number
-error_at number OutOfMemory = Memory
 
 -- the answer of a call that stands before a token
 abbrev pub answer_at : {A : Type 0} → ℕ → Result A Stop → Result (A × ℕ) ParseError

@@ -1,7 +1,7 @@
 -- What was made is what was found.
 use Rattle.std.specs.Prelude.{◌≡◌, List, Result, Ok, Err, refl}
 use Rattle.std.proofs.Common.{ap, sym, subst, ◌∙◌}
-use Rattle.ep_parse_expr.specs.Cursors.{Stops}
+use Rattle.ep_parse_expr.specs.Cursors.{Gives, Stops}
 use Rattle.ep_parse_expr.specs.Founds.{Finds, FindsDomain, Makes, MakesDomain, Shows, ShowsDomain}
 use Rattle.ep_parse_expr.specs.Readers.{Read, Reader, took, wrong, high, ◌and_then◌}
 use Rattle.ep_parse_expr.specs.declared.cursor.Stop.{Stop}
@@ -19,7 +19,7 @@ shows_own found tree s = subst (λ t. Shows found t) (sym s.is) s
 pub shows_own_domain : (found : FoundDomain) (tree : DomainTree) → ShowsDomain found tree → ShowsDomain found (domain_tree found.domain)
 shows_own_domain found tree s = subst (λ t. ShowsDomain found t) (sym s.is) s
 
-memory_stops : {A : Type 0} (e : Stop) (left : List Lexeme) (read : Read A) → e ≡ Memory → Stops e left read
+pub memory_stops : {A : Type 0} (e : Stop) (left : List Lexeme) (read : Read A) → e ≡ Memory → Stops e left read
 memory_stops Wrong left read e = absurd cc
 memory_stops TooHigh left read e = absurd cc
 memory_stops Memory left read e = tt
@@ -38,3 +38,19 @@ finds_shown found tree left read m e = (e ∙ ap (λ t. took t left) (sym m.is),
 
 pub finds_shown_domain : (found : FoundDomain) (tree : DomainTree) (left : List Lexeme) (read : Read DomainTree) → ShowsDomain found tree → read ≡ took tree left → FindsDomain (Ok found) left read
 finds_shown_domain found tree left read m e = (e ∙ ap (λ t. took t left) (sym m.is), shows_own_domain found tree m)
+
+-- what is found, without what decides what may follow it
+pub finds_gives : (result : Result Found Stop) (left : List Lexeme) (read : Read ExprTree) → Finds result left read → Gives (λ (found : Found). expr_tree found.expr) result left read
+finds_gives (Ok found) left read f = f.0
+finds_gives (Err e) left read f = f
+
+pub finds_gives_domain : (result : Result FoundDomain Stop) (left : List Lexeme) (read : Read DomainTree) → FindsDomain result left read → Gives (λ (found : FoundDomain). domain_tree found.domain) result left read
+finds_gives_domain (Ok found) left read f = f.0
+finds_gives_domain (Err e) left read f = f
+
+-- a reader that gives the same
+pub finds_at : (result : Result Found Stop) (left : List Lexeme) (read other : Read ExprTree) → other ≡ read → Finds result left read → Finds result left other
+finds_at result left read other e f = subst (λ r. Finds result left r) (sym e) f
+
+pub finds_at_domain : (result : Result FoundDomain Stop) (left : List Lexeme) (read other : Read DomainTree) → other ≡ read → FindsDomain result left read → FindsDomain result left other
+finds_at_domain result left read other e f = subst (λ r. FindsDomain result left r) (sym e) f

@@ -28,7 +28,6 @@ pub mod AgainAll
 pub mod Cursors
 pub mod Turns
 pub mod NameTurns
-pub mod OpeningWords
 pub mod Steady
 pub mod SteadyLists
 pub mod SteadyParts
@@ -57,3 +56,17 @@ pub mod NodeFacts
 pub mod OperandFacts
 pub mod Shorter
 pub mod ListTurns
+pub mod WordFacts
+pub mod ChainTurns
+pub mod ComparisonFacts
+pub mod DomainLooks
+pub mod PartFacts
+pub mod FirstTurns
+pub mod Lengths
+pub mod SetTurns
+pub mod JunctionTurns
+pub mod ListLoops
+pub mod Called
+pub mod Descending
+pub mod DomainLoops
+pub mod TermTurns

@@ -1,12 +1,11 @@
 -- Reading what a token begins, from what is next.
 use Rattle.std.specs.Prelude.{◌≡◌, ℕ, ℤ, Bool, true, false, nat_lt, List, [], ◌∷◌, Option, Some, None, codes, refl}
-use Rattle.std.proofs.Common.{ap, sym, subst, ◌∙◌, Bor, option_map}
-use Rattle.std.specs.Option.{option_copied}
+use Rattle.std.proofs.Common.{ap, sym, ◌∙◌}
 use Rattle.ep_base.specs.declared.names.Name.{Name}
 use Rattle.ep_base.specs.declared.places.Place.{Place}
 use Rattle.ep_parse_expr.specs.DomainReaders.{domain_begun_from, domain_open_from, domain_openings, domain_part_from, place_next}
 use Rattle.ep_parse_expr.specs.DomainReaders as domain_readers
-use Rattle.ep_parse_expr.specs.OperandReaders.{Lower, a_bracket, a_truth, begun_from, if_low, open_from, opened_from, openings, operand_from}
+use Rattle.ep_parse_expr.specs.OperandReaders.{Lower, a_bracket, a_truth, begun_from, bracket_from, if_low, open_from, opened_from, openings, operand_from}
 use Rattle.ep_parse_expr.specs.OperandReaders as readers
 use Rattle.ep_parse_expr.specs.Openings.{opening_of}
 use Rattle.ep_parse_expr.specs.Readers.{Read, behind, chosen, high, looked_up, took, wrong}
@@ -14,7 +13,7 @@ use Rattle.ep_parse_expr.specs.Sayings.{name_next, name_of, number_next, number_
 use Rattle.ep_parse_expr.specs.declared.words.Opening.{Opening}
 use Rattle.ep_parse_expr.specs.declared.words.Opening.TheVariants as opening
 use Rattle.ep_tree.specs.Phrases.{Lexeme, Saying, a_name, a_number, a_word}
-use Rattle.ep_tree.specs.Trees.{DomainTree, ExprTree, named, named_domain, number}
+use Rattle.ep_tree.specs.Trees.{DomainTree, ExprTree, named, named_domain, number, truth}
 
 -- ---- expressions
 
@@ -63,22 +62,20 @@ unfolding operand_from word_next
 worded_now b low [] w e = absurd cc
 worded_now b low (l ∷ ls) w e = begun_word b low l.place l.saying w ls (l ∷ ls) e
 
-pub operand_named : (b : Bool) (low : Lower) (o : Option (Bor (List ℕ))) (x : Bor (List ℕ)) (ls new : List Lexeme) (p : Place) (name : Name)
-    → option_copied o ≡ name_next ls → o ≡ Some x → name ≡ x.now → p ≡ place_next ls → new ≡ behind ls → operand_from b low ls ≡ took (named p name) new
-operand_named b low o x ls new p name e s n q k =
-    named_now b low ls x.now (sym e ∙ ap option_copied s) ∙ ap (λ r. took (named r x.now) (behind ls)) (sym q) ∙ ap (λ y. took (named p y) (behind ls)) (sym n) ∙ ap (λ y. took (named p name) y) (sym k)
+pub operand_named : (b : Bool) (low : Lower) (x : List ℕ) (ls new : List Lexeme) (p : Place) (name : Name) → name_next ls ≡ Some x → name ≡ x → p ≡ place_next ls → new ≡ behind ls
+    → operand_from b low ls ≡ took (named p name) new
+operand_named b low x ls new p name e n q k =
+    named_now b low ls x e ∙ ap (λ r. took (named r x) (behind ls)) (sym q) ∙ ap (λ y. took (named p y) (behind ls)) (sym n) ∙ ap (λ y. took (named p name) y) (sym k)
 
-pub operand_numbered : (b : Bool) (low : Lower) (o : Option ℤ) (x : ℤ) (ls new : List Lexeme) (p : Place)
-    → o ≡ number_next ls → o ≡ Some x → p ≡ place_next ls → new ≡ behind ls → operand_from b low ls ≡ took (number p x) new
-operand_numbered b low o x ls new p e s q k =
-    numbered_now b low ls x (sym e ∙ s) ∙ ap (λ r. took (number r x) (behind ls)) (sym q) ∙ ap (λ y. took (number p x) y) (sym k)
+pub operand_numbered : (b : Bool) (low : Lower) (x : ℤ) (ls new : List Lexeme) (p : Place) → number_next ls ≡ Some x → p ≡ place_next ls → new ≡ behind ls → operand_from b low ls ≡ took (number p x) new
+operand_numbered b low x ls new p e q k =
+    numbered_now b low ls x e ∙ ap (λ r. took (number r x) (behind ls)) (sym q) ∙ ap (λ y. took (number p x) y) (sym k)
 
 -- no word
-pub operand_nothing : (b : Bool) (low : Lower) (o : Option (Bor (List ℕ))) (n : Option ℤ) (w : Option (Bor (List ℕ))) (ls : List Lexeme)
-    → option_copied o ≡ name_next ls → o ≡ None → n ≡ number_next ls → n ≡ None → option_copied w ≡ word_next ls → w ≡ None → operand_from b low ls ≡ wrong ls
+pub operand_nothing : (b : Bool) (low : Lower) (ls : List Lexeme) → name_next ls ≡ None → number_next ls ≡ None → word_next ls ≡ None → operand_from b low ls ≡ wrong ls
 unfolding operand_from name_next number_next word_next begun_from
-operand_nothing b low o n w [] e f g h i j = refl
-operand_nothing b low o n w (l ∷ ls) e f g h i j = by_saying l.saying (sym e ∙ ap option_copied f) (sym g ∙ h) (sym i ∙ ap option_copied j)
+operand_nothing b low [] f h j = refl
+operand_nothing b low (l ∷ ls) f h j = by_saying l.saying f h j
   where
     by_saying : (s : Saying) → name_of s ≡ None → number_of s ≡ None → word_of s ≡ None → begun_from b low l.place s ls (l ∷ ls) ≡ wrong (l ∷ ls)
     by_saying (a_name y) a b c = absurd cc
@@ -86,35 +83,61 @@ operand_nothing b low o n w (l ∷ ls) e f g h i j = by_saying l.saying (sym e �
     by_saying (a_word v) a b c = absurd cc
 
 -- a word that begins nothing
-pub operand_unknown : {A : Type 0} (f : A → readers.Opening) (found : Option A) (b : Bool) (low : Lower) (o : Option (Bor (List ℕ))) (w : Bor (List ℕ)) (ls : List Lexeme)
-    → option_copied o ≡ word_next ls → o ≡ Some w → option_map f found ≡ looked_up openings w.now → found ≡ None → operand_from b low ls ≡ wrong ls
+pub operand_unknown : (b : Bool) (low : Lower) (w : List ℕ) (ls : List Lexeme) → word_next ls ≡ Some w → None ≡ looked_up openings w → operand_from b low ls ≡ wrong ls
 unfolding open_from
-operand_unknown f found b low o w ls e s m n =
-    worded_now b low ls w.now (sym e ∙ ap option_copied s) ∙ ap (λ k. open_from b low (place_next ls) k (behind ls) ls) (sym m ∙ ap (option_map f) n)
+operand_unknown b low w ls e m = worded_now b low ls w e ∙ ap (λ k. open_from b low (place_next ls) k (behind ls) ls) (sym m)
 
 -- a word that begins something
-pub operand_begun : {A : Type 0} (f : A → readers.Opening) (found : Option A) (x : A) (b : Bool) (low : Lower) (o : Option (Bor (List ℕ))) (w : Bor (List ℕ)) (ls : List Lexeme)
-    → option_copied o ≡ word_next ls → o ≡ Some w → option_map f found ≡ looked_up openings w.now → found ≡ Some x → operand_from b low ls ≡ open_from b low (place_next ls) (Some (f x)) (behind ls) ls
-operand_begun f found x b low o w ls e s m n =
-    worded_now b low ls w.now (sym e ∙ ap option_copied s) ∙ ap (λ k. open_from b low (place_next ls) k (behind ls) ls) (sym m ∙ ap (option_map f) n)
+pub operand_begun : (b : Bool) (low : Lower) (x : readers.Opening) (w : List ℕ) (ls : List Lexeme) → word_next ls ≡ Some w → Some x ≡ looked_up openings w
+    → operand_from b low ls ≡ open_from b low (place_next ls) (Some x) (behind ls) ls
+operand_begun b low x w ls e m = worded_now b low ls w e ∙ ap (λ k. open_from b low (place_next ls) k (behind ls) ls) (sym m)
 
 -- what is neither a truth value nor a bracket
-pub open_with_part : (b : Bool) (low : Lower) (p : Place) (o : Opening) (rest all : List Lexeme) → ((t : Bool) → o ≡ opening.Truth t → ⊥) → (o ≡ opening.Bracket → ⊥)
-    → open_from b low p (Some (opening_of o)) rest all ≡ if_low b (λ _. opened_from low p (opening_of o) rest) all
+pub open_with_part : (b : Bool) (low : Lower) (o : Opening) (all : List Lexeme) → ((t : Bool) → o ≡ opening.Truth t → ⊥) → (o ≡ opening.Bracket → ⊥)
+    → open_from b low (place_next all) (Some (opening_of o)) (behind all) all ≡ if_low b (λ ls. opened_from low (place_next ls) (opening_of o) (behind ls)) all
 unfolding open_from
-open_with_part b low p (opening.Truth t) rest all h k = absurd (h t refl)
-open_with_part b low p opening.Bracket rest all h k = absurd (k refl)
-open_with_part b low p opening.Group rest all h k = refl
-open_with_part b low p opening.Bar rest all h k = refl
-open_with_part b low p opening.Negation rest all h k = refl
-open_with_part b low p opening.Minus rest all h k = refl
-open_with_part b low p (opening.Quantifier op) rest all h k = refl
-open_with_part b low p opening.Sum rest all h k = refl
-open_with_part b low p (opening.One what) rest all h k = refl
-open_with_part b low p opening.Least rest all h k = refl
-open_with_part b low p opening.Greatest rest all h k = refl
-open_with_part b low p opening.Table rest all h k = refl
-open_with_part b low p (opening.Three what) rest all h k = refl
+open_with_part b low o all h k = by_opening b o h k
+  where
+    by_opening : (b : Bool) (o : Opening) → ((t : Bool) → o ≡ opening.Truth t → ⊥) → (o ≡ opening.Bracket → ⊥)
+        → open_from b low (place_next all) (Some (opening_of o)) (behind all) all ≡ if_low b (λ ls. opened_from low (place_next ls) (opening_of o) (behind ls)) all
+    by_opening b (opening.Truth t) h k = absurd (h t refl)
+    by_opening b opening.Bracket h k = absurd (k refl)
+    by_opening true opening.Group h k = refl
+    by_opening false opening.Group h k = refl
+    by_opening true opening.Bar h k = refl
+    by_opening false opening.Bar h k = refl
+    by_opening true opening.Negation h k = refl
+    by_opening false opening.Negation h k = refl
+    by_opening true opening.Minus h k = refl
+    by_opening false opening.Minus h k = refl
+    by_opening true (opening.Quantifier op) h k = refl
+    by_opening false (opening.Quantifier op) h k = refl
+    by_opening true opening.Sum h k = refl
+    by_opening false opening.Sum h k = refl
+    by_opening true (opening.One what) h k = refl
+    by_opening false (opening.One what) h k = refl
+    by_opening true opening.Least h k = refl
+    by_opening false opening.Least h k = refl
+    by_opening true opening.Greatest h k = refl
+    by_opening false opening.Greatest h k = refl
+    by_opening true opening.Table h k = refl
+    by_opening false opening.Table h k = refl
+    by_opening true (opening.Three what) h k = refl
+    by_opening false (opening.Three what) h k = refl
+
+-- a truth value
+pub open_truth : (b : Bool) (low : Lower) (q : Place) (o : Opening) (rest all : List Lexeme) (t : Bool) (p : Place) (new : List Lexeme) → o ≡ opening.Truth t → p ≡ q → new ≡ rest
+    → open_from b low q (Some (opening_of o)) rest all ≡ took (truth p t) new
+unfolding open_from
+open_truth b low q o rest all t p new e f g =
+    ap (λ x. open_from b low q (Some (opening_of x)) rest all) e ∙ ap (λ x. took (truth x t) rest) (sym f) ∙ ap (λ ls. took (truth p t) ls) (sym g)
+
+-- a list
+pub open_bracket : (b : Bool) (low : Lower) (q : Place) (o : Opening) (rest all : List Lexeme) (p : Place) (new : List Lexeme) → o ≡ opening.Bracket → p ≡ q → new ≡ rest
+    → open_from b low q (Some (opening_of o)) rest all ≡ bracket_from b low p new
+unfolding open_from
+open_bracket b low q o rest all p new e f g =
+    ap (λ x. open_from b low q (Some (opening_of x)) rest all) e ∙ ap (λ x. bracket_from b low x rest) (sym f) ∙ ap (λ ls. bracket_from b low p ls) (sym g)
 
 -- ---- domains
 
@@ -148,29 +171,25 @@ unfolding domain_part_from word_next
 domain_worded_now b low [] w e = absurd cc
 domain_worded_now b low (l ∷ ls) w e = domain_begun_word b low l.place l.saying w ls (l ∷ ls) e
 
-pub domain_named : (b : Bool) (low : Lower) (o : Option (Bor (List ℕ))) (x : Bor (List ℕ)) (ls new : List Lexeme) (p : Place) (name : Name)
-    → option_copied o ≡ name_next ls → o ≡ Some x → name ≡ x.now → p ≡ place_next ls → new ≡ behind ls → domain_part_from b low ls ≡ took (named_domain p name) new
-domain_named b low o x ls new p name e s n q k =
-    domain_named_now b low ls x.now (sym e ∙ ap option_copied s) ∙ ap (λ r. took (named_domain r x.now) (behind ls)) (sym q) ∙ ap (λ y. took (named_domain p y) (behind ls)) (sym n) ∙ ap (λ y. took (named_domain p name) y) (sym k)
+pub domain_named : (b : Bool) (low : Lower) (x : List ℕ) (ls new : List Lexeme) (p : Place) (name : Name) → name_next ls ≡ Some x → name ≡ x → p ≡ place_next ls → new ≡ behind ls
+    → domain_part_from b low ls ≡ took (named_domain p name) new
+domain_named b low x ls new p name e n q k =
+    domain_named_now b low ls x e ∙ ap (λ r. took (named_domain r x) (behind ls)) (sym q) ∙ ap (λ y. took (named_domain p y) (behind ls)) (sym n) ∙ ap (λ y. took (named_domain p name) y) (sym k)
 
-pub domain_nothing : (b : Bool) (low : Lower) (o w : Option (Bor (List ℕ))) (ls : List Lexeme)
-    → option_copied o ≡ name_next ls → o ≡ None → option_copied w ≡ word_next ls → w ≡ None → domain_part_from b low ls ≡ wrong ls
+pub domain_nothing : (b : Bool) (low : Lower) (ls : List Lexeme) → name_next ls ≡ None → word_next ls ≡ None → domain_part_from b low ls ≡ wrong ls
 unfolding domain_part_from name_next word_next domain_begun_from
-domain_nothing b low o w [] e f i j = refl
-domain_nothing b low o w (l ∷ ls) e f i j = by_saying l.saying (sym e ∙ ap option_copied f) (sym i ∙ ap option_copied j)
+domain_nothing b low [] f j = refl
+domain_nothing b low (l ∷ ls) f j = by_saying l.saying f j
   where
     by_saying : (s : Saying) → name_of s ≡ None → word_of s ≡ None → domain_begun_from b low l.place s ls (l ∷ ls) ≡ wrong (l ∷ ls)
     by_saying (a_name y) a c = absurd cc
     by_saying (a_number n) a c = refl
     by_saying (a_word v) a c = absurd cc
 
-pub domain_unknown : {A : Type 0} (f : A → domain_readers.DomainOpening) (found : Option A) (b : Bool) (low : Lower) (o : Option (Bor (List ℕ))) (w : Bor (List ℕ)) (ls : List Lexeme)
-    → option_copied o ≡ word_next ls → o ≡ Some w → option_map f found ≡ looked_up domain_openings w.now → found ≡ None → domain_part_from b low ls ≡ wrong ls
+pub domain_unknown : (b : Bool) (low : Lower) (w : List ℕ) (ls : List Lexeme) → word_next ls ≡ Some w → None ≡ looked_up domain_openings w → domain_part_from b low ls ≡ wrong ls
 unfolding domain_open_from
-domain_unknown f found b low o w ls e s m n =
-    domain_worded_now b low ls w.now (sym e ∙ ap option_copied s) ∙ ap (λ k. domain_open_from b low (place_next ls) k (behind ls) ls) (sym m ∙ ap (option_map f) n)
+domain_unknown b low w ls e m = domain_worded_now b low ls w e ∙ ap (λ k. domain_open_from b low (place_next ls) k (behind ls) ls) (sym m)
 
-pub domain_begun : {A : Type 0} (f : A → domain_readers.DomainOpening) (found : Option A) (x : A) (b : Bool) (low : Lower) (o : Option (Bor (List ℕ))) (w : Bor (List ℕ)) (ls : List Lexeme)
-    → option_copied o ≡ word_next ls → o ≡ Some w → option_map f found ≡ looked_up domain_openings w.now → found ≡ Some x → domain_part_from b low ls ≡ domain_open_from b low (place_next ls) (Some (f x)) (behind ls) ls
-domain_begun f found x b low o w ls e s m n =
-    domain_worded_now b low ls w.now (sym e ∙ ap option_copied s) ∙ ap (λ k. domain_open_from b low (place_next ls) k (behind ls) ls) (sym m ∙ ap (option_map f) n)
+pub domain_begun : (b : Bool) (low : Lower) (x : domain_readers.DomainOpening) (w : List ℕ) (ls : List Lexeme) → word_next ls ≡ Some w → Some x ≡ looked_up domain_openings w
+    → domain_part_from b low ls ≡ domain_open_from b low (place_next ls) (Some x) (behind ls) ls
+domain_begun b low x w ls e m = domain_worded_now b low ls w e ∙ ap (λ k. domain_open_from b low (place_next ls) k (behind ls) ls) (sym m)

@@ -6,8 +6,13 @@ pub mod OperatorReaders
 pub mod DomainReaders
 pub mod TreeReaders
 pub mod Cursors
+pub mod Faults
 pub mod Founds
+pub mod Gathered
 pub mod Lowers
 pub mod Openings
+pub mod Calls
+pub mod Junctions
+pub mod Beginnings
 pub mod Sayings
 pub mod Outcomes

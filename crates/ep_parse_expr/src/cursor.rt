@@ -1,19 +1,22 @@
 //! The tokens of a text that are still to be read.
 
-ghost use Rattle.std.specs.Prelude.{◌≡◌, true, ℕ, List};
+ghost use Rattle.std.specs.List.{list_any};
+ghost use Rattle.std.specs.Prelude.{◌≡◌, ◌∷◌, [], bytes_eq, codes, length, true, ℕ, List};
 ghost use Rattle.std.specs.Option.{option_copied};
 ghost use Rattle.ep_base.specs.Tokens.{token_text};
 ghost use Rattle.ep_tree.specs.Phrases.{lexemes_of, saying_of};
+ghost use Rattle.ep_parse_expr.specs.Beginnings.{beginners};
 ghost use Rattle.ep_parse_expr.specs.Cursors.{Gives, LieIn, LiesIn, passing};
 ghost use Rattle.ep_parse_expr.specs.DomainReaders.{matrix_follows, place_next};
-ghost use Rattle.ep_parse_expr.specs.OperandReaders.{colon_comes, expression_next};
+ghost use Rattle.ep_parse_expr.specs.OperandReaders.{colon_comes, domain_next, expression_next};
+ghost use Rattle.ep_parse_expr.specs.Openings.{domain_level_of};
 ghost use Rattle.ep_parse_expr.specs.Readers.{behind, is_word, name_from, says, word_from};
 ghost use Rattle.ep_parse_expr.specs.declared.cursor.Stop.TheVariants.{Memory as OutOfMemory};
 ghost use Rattle.ep_parse_expr.specs.Sayings.{name_next, name_of, number_next, number_of, word_next, word_of};
 
 mod next;
 
-use crate::words::find_opening;
+use crate::words::{DomainLevel, find_opening};
 use ep_base::{Memory, Place, Token, TokenKind};
 use std::alloc::AllocFailed;
 use std::marker::Model;
@@ -71,6 +74,14 @@ impl<'a> Cursor<'a> {
         ensures all { result ≡ lexemes_of text.now tokens.now }
     {
         Cursor { text, tokens }
+    }
+
+    /// How many tokens are left.
+    #[tactic(auto, unfolding(ep_tree::specs::Phrases::lexemes_of))]
+    pub fn len(&self) -> usize
+        ensures left { result ≡ length self.now }
+    {
+        self.tokens.len()
     }
 
     /// Whether this word or symbol is next.
@@ -217,6 +228,19 @@ impl<'a> Cursor<'a> {
         find_opening(word).is_some()
     }
 
+    /// Whether a domain of a level begins with the next token.
+    pub fn domain_next(&self, level: DomainLevel) -> bool
+        ensures next { result ≡ domain_next (domain_level_of level) self.now }
+    {
+        if self.name_next().is_some() {
+            return true;
+        }
+        let Some(word) = self.word_next() else {
+            return false;
+        };
+        begins(level, word)
+    }
+
     /// Whether names with commas between them are next, and then a colon.
     pub fn colon_comes(&self) -> bool
         ensures comes { result ≡ colon_comes true self.now }
@@ -290,4 +314,40 @@ fn word_in<'a>(text: &'a [u8], token: &Token) -> Option<&'a [u8]>
         }
         TokenKind::Name | TokenKind::Number(_) => None,
     }
+}
+
+/// Whether a word begins a domain of a level.
+fn begins(level: DomainLevel, word: &[u8]) -> bool
+    ensures among { result ≡ list_any (bytes_eq word.now) (beginners level) }
+{
+    match level {
+        DomainLevel::Domains => begins_any_domain(word),
+        DomainLevel::SetOperations => begins_domain(word),
+        DomainLevel::SetParts => begins_domain(word),
+    }
+}
+
+/// Whether a word begins a domain that is no matrix domain.
+fn begins_domain(word: &[u8]) -> bool
+    ensures { result ≡ list_any (bytes_eq word.now) (codes "bool" ∷ codes "int" ∷ codes "(" ∷ []) }
+{
+    matches!(word, b"bool" | b"int" | b"(")
+}
+
+/// Whether a word begins a domain.
+fn begins_any_domain(word: &[u8]) -> bool
+    ensures { result ≡ list_any (bytes_eq word.now) (codes "bool" ∷ codes "int" ∷ codes "(" ∷ codes "matrix" ∷ []) }
+{
+    if begins_domain(word) {
+        return true;
+    }
+    begins_matrix(word)
+}
+
+/// Whether a word begins a matrix domain.
+fn begins_matrix(word: &[u8]) -> bool
+    ensures { result ≡ bytes_eq word.now (codes "matrix") }
+{
+    let matrix: &[u8] = b"matrix";
+    word == matrix
 }

@@ -2,19 +2,30 @@
 #![tactic(auto)]
 
 mod below;
+mod brackets;
 mod calls;
 mod cursor;
+mod descent;
 mod domain_nodes;
+mod domains;
 mod errors;
 mod found;
 mod functions;
 mod laws;
+mod list_nodes;
 mod lists;
 mod nodes;
+mod operands;
+mod operators;
+mod parts;
+mod reads;
+#[cfg(test)]
+mod tests;
 mod words;
 
 pub use calls::{parse_domain, parse_expr};
 pub use cursor::{Cursor, Stop};
+pub use descent::{domain, expr};
 pub use errors::ParseError;
 pub use found::{Found, FoundDomain};
 pub use laws::{
