@@ -3,10 +3,10 @@
 
 ghost use Rattle.std.specs.Prelude.{◌≡◌};
 ghost use Rattle.std.specs.Process.{exit_status};
-ghost use Rattle.ep_driver.specs.Status.{code_of};
+ghost use Rattle.ep_run.specs.Status.{code_of};
 
 use ep_base::{StdFiles, StdSink, Word};
-use ep_driver::{Status, run};
+use ep_run::{Status, run};
 use std::env;
 use std::io::{self, ErrorKind};
 use std::process::ExitCode;

@@ -1,27 +1,5 @@
-mod Cursors
-mod Lists
-mod Takes
-mod EarlyCases
 mod Phrasing
-mod EarlySpelling
-mod DomainSpelling
-mod SoundTokens
-mod SoundExpressions
-mod SoundGroups
-mod Items
-mod Objectives
-mod SoundStatements
-mod PlaceLaws
-mod CompleteExpressions
-mod CompleteDomains
-mod CompleteGroups
-mod CompleteStatements
-mod UseLaws
-mod NameLaws
-mod NameSteps
 mod TokenFacts
-mod SmallLaws
-mod EarlyLaws
 pub mod OneAnswer
 pub mod GroupsAgain
 pub mod TextsAgain

@@ -71,7 +71,7 @@ pub(crate) fn expressions(alloc: Global, cursor: &mut Cursor<'_>) -> Result<Vec<
 {
     let mut expressions = Vec::new(alloc);
     loop {
-        if !cursor.begins_expression() {
+        if !cursor.expression_next() {
             return Ok(expressions);
         }
         let expression = expression(alloc, cursor)?;

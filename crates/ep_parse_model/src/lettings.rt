@@ -38,7 +38,7 @@ fn stated_domain(alloc: Global, cursor: &mut Cursor<'_>) -> Result<Option<Domain
     if !cursor.is_at(b":") {
         return Ok(None);
     }
-    cursor.skip();
+    cursor.pass();
     let domain = domain(alloc, cursor)?;
     Ok(Some(domain))
 }
@@ -67,7 +67,7 @@ fn unstated(
     if !cursor.is_at(b"domain") {
         return value(alloc, place, name, None, cursor);
     }
-    cursor.skip();
+    cursor.pass();
     let domain = domain(alloc, cursor)?;
     let kind = StatementKind::LettingDomain(name.0, name.1, domain);
     Ok(Statement { place, kind })

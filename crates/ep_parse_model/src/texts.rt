@@ -87,7 +87,7 @@ fn statement(alloc: Global, allowed: Allowed, cursor: &mut Cursor<'_>) -> Result
     if !allows(allowed, opening) {
         return Err(Stop::Wrong);
     }
-    cursor.skip();
+    cursor.pass();
     statement_behind(alloc, place, opening, cursor)
 }
 
@@ -95,7 +95,7 @@ fn statement(alloc: Global, allowed: Allowed, cursor: &mut Cursor<'_>) -> Result
 fn next_opening(cursor: &Cursor<'_>) -> Option<Opening>
     ensures next { result ≡ next_in statement_words cursor.now }
 {
-    match cursor.next_word() {
+    match cursor.word_next() {
         Some(word) => find_opening(word),
         None => None,
     }

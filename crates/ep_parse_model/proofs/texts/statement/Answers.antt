@@ -11,5 +11,5 @@ returns-then-not-allows c = record { read = may_not _ _ _ (sym c.in-Some.ensures
 pub returns : goal.returns
 returns c =
     record {
-      read = rw (may_come c.args.allowed c.args.cursor.now _ _ _ (sym c.in-Some.ensures.next) (sym c.if-not-allows.ensures.may) c.place-place.ensures.next c.skip.ensures.rest) c.statement_behind.ensures.read;
+      read = rw (may_come c.args.allowed c.args.cursor.now _ _ _ (sym c.in-Some.ensures.next) (sym c.if-not-allows.ensures.may) c.place-place.ensures.next c.pass.ensures.passed) c.statement_behind.ensures.read;
     }
