@@ -13,3 +13,7 @@ pub mod FindSteps
 pub mod ConditionSteps
 pub mod ParamSteps
 pub mod ProgressSteps
+pub mod AssigningSteps
+pub mod JudgingSteps
+pub mod ShapingSteps
+pub mod SmallValues

@@ -6,6 +6,9 @@ use Rattle.ep_tree.specs.declared.values.Mode.{Mode}
 use Rattle.ep_tree.specs.Views.{assigned}
 use Rattle.ep_instance.specs.declared.judging.Shaped.{Shaped}
 use Rattle.ep_instance.specs.declared.judging.Shaped.TheVariants.{Fits, WrongShape}
+use Rattle.ep_eval.specs.Known.{env_of}
+use Rattle.ep_instance.specs.Assigning.{AgreeElsewhere}
+use Rattle.ep_instance.specs.declared.judging.Judge.{Judge}
 use Rattle.ep_instance.specs.declared.judging.Judgement.{Judgement}
 use Rattle.ep_instance.specs.declared.judging.Judgement.TheVariants.{Solution, Violated, ObjectiveUndefined}
 
@@ -24,3 +27,9 @@ IsWithinLimits mode i =
 abbrev pub FitsIfShaped : Instance → Shaped → Type 0
 FitsIfShaped i (Fits a) = (found : defined.Found) × defined.Fits i (assigned a) found
 FitsIfShaped i (WrongShape name) = Unit {0}
+
+-- A judge of an instance: it evaluates in its mode, and each name that is no decision variable's stands for what it
+-- stands for there.
+pub record IsJudgeOf (mode : Mode) (i : Instance) (judge : Judge) : Type 0 where
+  pub in_mode : judge.env.mode ≡ mode
+  pub elsewhere : AgreeElsewhere i.finds (env_of judge.env) i.env

@@ -8,3 +8,5 @@ pub mod Reading
 pub mod Steps
 pub mod Finding
 pub mod Progressing
+pub mod Assigning
+pub mod Shaping

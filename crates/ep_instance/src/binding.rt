@@ -1,6 +1,7 @@
 //! The instance that a model and its parameters make together.
 
-ghost use Rattle.std.specs.Prelude.{◌≡◌, IfOk};
+ghost use Rattle.std.specs.Prelude.{◌≡◌, All, IfOk};
+ghost use Rattle.ep_base.specs.Reads.{IsWithinNumbers};
 ghost use Rattle.ep_tree.specs.Binding as defined;
 ghost use Rattle.ep_tree.specs.Closed.{IsClosed};
 ghost use Rattle.ep_types.specs.Texts.{typed_params_tree, typed_tree};
@@ -27,6 +28,7 @@ pub fn bind(
     ensures answer { Answers instance_of result (defined.bind mode (typed_tree typed) (typed_params_tree params)) }
     ensures mode { IfOk result (λ i. mode_of i ≡ mode) }
     ensures closed { IfOk result (λ i. IsClosed (instance_of i)) }
+    ensures numbers { IfOk result (λ i. All (λ f. All IsWithinNumbers f.values) (instance_of i).finds) }
 {
     let params = params.into_params();
     let known = bind_params(alloc, Source::Params, mode, &params.statements)?;

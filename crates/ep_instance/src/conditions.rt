@@ -51,7 +51,7 @@ fn with_next(violated: Option<u64>, holds: bool, number: u64) -> Option<u64>
 }
 
 /// The next number. More conditions than there are numbers need more memory than there is.
-fn number_after(number: u64) -> Result<u64, Memory>
+pub fn number_after(number: u64) -> Result<u64, Memory>
     ensures { IfOk result (λ n. n ≡ number + 1) }
 {
     if number == u64::MAX {

@@ -1,20 +1,24 @@
-//! Assignments that are read, and what judging one says.
+//! Assignments that are judged.
 
-ghost use Rattle.std.specs.Prelude.{◌≡◌, [], IfOk};
+ghost use Rattle.std.specs.Prelude.{◌≡◌, IfOk, None, is_some, map, option_map};
 ghost use Rattle.ep_tree.specs.Closed.{IsClosed};
-ghost use Rattle.ep_tree.specs.SolutionTexts.{read_solution};
+ghost use Rattle.ep_tree.specs.Evaluation.{evaluate as value_in, first_untrue};
+ghost use Rattle.ep_tree.specs.Solutions as solutions;
 ghost use Rattle.ep_tree.specs.Solutions.{Fits, Found, judgement};
-ghost use Rattle.ep_tree.specs.Views.{assigned};
-ghost use Rattle.ep_types.specs.Texts.{typed_params_tree};
-ghost use Rattle.ep_instance.specs.Instances.{instance_of, mode_of};
-ghost use Rattle.ep_instance.specs.Judgements.{FitsIfShaped, IsWithinLimits, judgement_of};
-ghost use Rattle.ep_instance.specs.Refusals.{ShapeAnswers};
+ghost use Rattle.ep_tree.specs.Views.{assigned, expr_tree};
+ghost use Rattle.ep_eval.specs.Known.{env_of};
+ghost use Rattle.ep_eval.specs.Outcomes.{seen_value};
+ghost use Rattle.ep_instance.specs.Assigning.{judged_by_goal, judgement_in};
+ghost use Rattle.ep_instance.specs.Instances.{goal_of, instance_of, mode_of};
+ghost use Rattle.ep_instance.specs.Judgements.{IsWithinLimits, judgement_of};
 
-use super::errors::BindError;
+use super::bounds::seen_number;
+use super::conditions::{is_true, number_after};
 use super::instances::Instance;
+use super::values::set_finds;
 use ep_base::{Memory, Name};
-use ep_tree::Assignment;
-use ep_types::TypedParams;
+use ep_eval::{Env, EvalError, Seen, evaluate};
+use ep_tree::{Assignment, Expr, Objective};
 use std::alloc::Global;
 
 /// What a solution text gives an instance.
@@ -37,21 +41,111 @@ pub enum Judgement {
     ObjectiveUndefined,
 }
 
-/// The assignment that the lettings of a solution text give an instance.
-pub fn read_assignment(
-    alloc: Global,
-    instance: &Instance,
-    params: TypedParams,
-) -> Result<Shaped, BindError>
-    requires closed { IsClosed (instance_of instance.now) }
-    ensures answer { ShapeAnswers result
-        (read_solution (mode_of instance.now) (instance_of instance.now) (typed_params_tree params)) }
-    ensures fits { IfOk result (FitsIfShaped (instance_of instance.now)) }
+/// The value of an expression. One that passes a limit is answered as want of memory.
+fn seen_in(alloc: Global, env: &Env, e: &Expr) -> Result<Seen, Memory>
+    ensures { IfOk result (λ seen.
+        seen_value seen ≡ value_in env.now.mode (env_of env.now) (expr_tree e.now)) }
 {
-    Err(BindError::Memory)
+    match evaluate(alloc, env, e) {
+        Ok(seen) => Ok(seen),
+        Err(EvalError::Limit(_)) => Err(Memory),
+        Err(EvalError::Memory) => Err(Memory),
+    }
 }
 
-/// Judges an assignment that fits: the clauses in their order, and then the objective.
+/// The least number of a clause that isn't true, counted from 1.
+fn first_violated(alloc: Global, env: &Env, clauses: &[Expr]) -> Result<Option<u64>, Memory>
+    ensures { IfOk result (λ n. n
+        ≡ first_untrue env.now.mode (env_of env.now) 1 (map expr_tree clauses.now)) }
+{
+    let mut number: u64 = 1;
+    for clause in clauses {
+        let seen = seen_in(alloc, env, clause)?;
+        if !is_true(&seen) {
+            return Ok(Some(number));
+        }
+        let next = number_after(number)?;
+        number = next;
+    }
+    Ok(None)
+}
+
+/// The judgement by the number of an objective that is stated, where each clause is true.
+#[tactic(auto, unfolding(ep_tree::specs::Solutions::judged_by))]
+fn judged_by(value: Option<i64>) -> Judgement
+    ensures { judgement_of result ≡ solutions.judged_by None (is_some value) value }
+{
+    match value {
+        Some(number) => Judgement::Solution {
+            objective: Some(number),
+        },
+        None => Judgement::ObjectiveUndefined,
+    }
+}
+
+/// The judgement by the objective, where each clause is true.
+fn judge_objective(alloc: Global, env: &Env, goal: Option<&Objective>) -> Result<Judgement, Memory>
+    ensures { IfOk result (λ j. judgement_of j
+        ≡ judged_by_goal env.now.mode (env_of env.now) (option_map (λ o. goal_of o.now) goal.entry)) }
+{
+    let Some(goal) = goal else {
+        return Ok(Judgement::Solution { objective: None });
+    };
+    let seen = seen_in(alloc, env, &goal.e)?;
+    let value = seen_number(&seen);
+    Ok(judged_by(value))
+}
+
+/// The judgement of an instance by what names stand for: the clauses in their order, and then the
+/// objective. Where the evaluator meets a limit, which an instance within the limits doesn't pass, the
+/// answer is want of memory; no clause refuses that yet.
+fn judged_in(alloc: Global, env: &Env, instance: &Instance) -> Result<Judgement, Memory>
+    ensures { IfOk result (λ j. judgement_of j
+        ≡ judgement_in env.now.mode (env_of env.now) (instance_of instance.now)) }
+{
+    let violated = first_violated(alloc, env, instance.clauses())?;
+    match violated {
+        Some(number) => Ok(Judgement::Violated(number)),
+        None => judge_objective(alloc, env, instance.objective()),
+    }
+}
+
+/// Judges assignments of one instance, one after another. What the parameters and the lettings stand
+/// for is copied once; each assignment sets the decision variables anew.
+#[derive(Drop)]
+pub struct Judge {
+    alloc: Global,
+    env: Env,
+}
+
+impl Judge {
+    ghost use Rattle.ep_instance.specs.Judgements.{IsJudgeOf};
+
+    /// A judge of an instance.
+    pub fn new(alloc: Global, instance: &Instance) -> Result<Judge, Memory>
+        ensures { IfOk result (IsJudgeOf (mode_of instance.now) (instance_of instance.now)) }
+    {
+        let env = instance.env.copy()?;
+        Ok(Judge { alloc, env })
+    }
+
+    /// Judges an assignment that fits. Where memory is refused, others can be judged still.
+    pub fn judge(&mut self, instance: &Instance, a: &Assignment) -> Result<Judgement, Memory>
+        requires closed { IsClosed (instance_of instance.now) }
+        requires small { IsWithinLimits (mode_of instance.now) (instance_of instance.now) }
+        requires fits { (found : Found) × Fits (instance_of instance.now) (assigned a.now) found }
+        requires own { IsJudgeOf (mode_of instance.now) (instance_of instance.now) self.old }
+        ensures own { IsJudgeOf (mode_of instance.now) (instance_of instance.now) self.new }
+        ensures judgement { IfOk result (λ j. (found : Found) → Fits (instance_of instance.now) (assigned a.now) found →
+            judgement_of j ≡ judgement (mode_of instance.now) (instance_of instance.now) found) }
+    {
+        set_finds(self.alloc, &mut self.env, instance.finds(), &a.entries)?;
+        judged_in(self.alloc, &self.env, instance)
+    }
+}
+
+/// Judges an assignment that fits. A `Judge` is cheaper where several assignments are judged, since
+/// this call copies what the parameters and the lettings stand for.
 pub fn is_solution(alloc: Global, instance: &Instance, a: &Assignment) -> Result<Judgement, Memory>
     requires closed { IsClosed (instance_of instance.now) }
     requires small { IsWithinLimits (mode_of instance.now) (instance_of instance.now) }
@@ -59,5 +153,6 @@ pub fn is_solution(alloc: Global, instance: &Instance, a: &Assignment) -> Result
     ensures { IfOk result (λ j. (found : Found) → Fits (instance_of instance.now) (assigned a.now) found →
         judgement_of j ≡ judgement (mode_of instance.now) (instance_of instance.now) found) }
 {
-    Err(Memory)
+    let mut judge = Judge::new(alloc, instance)?;
+    judge.judge(instance, a)
 }

@@ -19,10 +19,13 @@ mod listed;
 mod listing;
 mod opened;
 mod shapes;
+mod solutions;
 mod statements;
+mod values;
 
 pub use binding::bind;
 pub use errors::{BindError, Source};
 pub use instances::{Find, Instance};
-pub use judging::{Judgement, Shaped, is_solution, read_assignment};
+pub use judging::{Judge, Judgement, Shaped, is_solution};
 pub use laws::no_limit_is_passed;
+pub use solutions::read_assignment;

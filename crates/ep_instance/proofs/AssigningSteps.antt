@@ -1,0 +1,197 @@
+-- Values that an assignment gives decision variables: fitted, put into an environment, and fitted again.
+use Rattle.std.proofs.Common.{◌≡◌, ◌∙◌, ℕ, zero, suc, ◌+◌, ◌-◌, ◌<◌, ◌≤◌, Bool, true, false, ◌&&◌, ◌||◌, ℤ, List, [], ◌∷◌, map, length, drop, get_or, Option, Some, None, option_map, refl, sym, ap, subst, arith, if◌then◌else◌, bytes_eq, IsTrue}
+use Rattle.std.specs.Prelude.{option_and_then, Result, Ok, Err, IfOk, OnErr}
+use Rattle.std.specs.List.{All, list_all, list_any}
+use Rattle.std.proofs.lemmas.List.{drop_more}
+use Rattle.std.proofs.lemmas.List.Elements.{All-head, All-tail}
+use Rattle.std.specs.Ordering.{int_eq}
+use Rattle.ep_base.specs.Numbers.{has_number}
+use Rattle.ep_base.specs.declared.errors.Memory.{Memory}
+use Rattle.ep_base.specs.declared.names.Name.{Name}
+use Rattle.ep_tree.proofs.TypedEvaluation.{with_indices_is}
+use Rattle.ep_tree.proofs.TypedFitting.{fitted_typed}
+use Rattle.ep_tree.proofs.TypedParts.{map_is, no_some, some_is, then_is, truths_differ}
+use Rattle.ep_tree.specs.Binding.{Find}
+use Rattle.ep_tree.specs.Environments.{Env, has_value, shape_type}
+use Rattle.ep_tree.specs.Names.{put, put_all}
+use Rattle.ep_tree.specs.Solutions.{Assigned, NamedValue, find_type, fitted_find, found_values, named_in}
+use Rattle.ep_tree.specs.TypedValues.{IsOf, IsOfDims, is_number_of}
+use Rattle.ep_tree.specs.Types.{of_scalar, scalar_of}
+use Rattle.ep_tree.specs.Values.{ValueTree, ValueTrees, all_fitted, as_parts, fitted, matrix, no_values, scalar_fits, single, value_and, with_indices}
+use Rattle.ep_tree.specs.Views.{named_value, value_tree}
+use Rattle.ep_tree.specs.declared.values.Entry.{Entry}
+use Rattle.ep_tree.specs.declared.values.Scalar.{Scalar}
+use Rattle.ep_tree.specs.declared.values.Value.{Value}
+use Rattle.ep_tree.specs.declared.values.ValueType.{ValueType}
+use Rattle.ep_instance.specs.Assigning.{IsUnder, SetsFind}
+use Rattle.ep_instance.specs.Instances.{find_of}
+use Rattle.ep_instance.specs.declared.instances.Find.{Find as KeptFind}
+use Rattle.ep_instance.specs.Elements.{PassesAs, element_passes}
+use Rattle.ep_instance.specs.declared.elements.Elements.{Within}
+use Rattle.ep_instance.proofs.BindSteps.{both_some}
+
+-- ---- one value
+
+-- a value that is fitted by the numbers of a decision variable's domain
+pub find_fit : (answer : Result (Option Value) Memory) (kept values : List ℤ) (own wanted s w : Scalar) (is js : List (List ℤ)) (v : ValueTree)
+    → kept ≡ values → own ≡ s → wanted ≡ w → is ≡ js
+    → IfOk answer (λ fit. (passes : ℤ → Bool) → PassesAs (Within kept) passes → option_map value_tree fit ≡ fitted own wanted passes is v)
+    → IfOk answer (λ fit. option_map value_tree fit ≡ fitted s w (has_number values) js v)
+unfolding element_passes
+find_fit (Ok fit) kept values own wanted s w is js v k o t i h =
+    h (has_number values) (record { same = λ n low high. ap (λ xs. has_number xs n) k })
+    ∙ ap (λ x. fitted x wanted (has_number values) is v) o
+    ∙ ap (λ x. fitted s x (has_number values) is v) t
+    ∙ ap (λ x. fitted s w (has_number values) x v) i
+find_fit (Err e) kept values own wanted s w is js v k o t i h = tt
+
+and_left : (a b : Bool) → (a && b) ≡ true → a ≡ true
+and_left true b h = refl
+and_left false b h = h
+
+and_right : (a b : Bool) → (a && b) ≡ true → b ≡ true
+and_right true b h = h
+and_right false b h = truths_differ h
+
+-- a number of a list of numbers of a scalar is of the scalar
+one_of : (s : Scalar) (ns : List ℤ) → list_all (is_number_of s) ns ≡ true → (n : ℤ) → has_number ns n ≡ true → is_number_of s n ≡ true
+unfolding has_number
+one_of s [] h n e = truths_differ e
+one_of s (m ∷ ns) h n e = go (int_eq n m) refl e (one_of s ns (and_right (is_number_of s m) (list_all (is_number_of s) ns) h) n)
+  where
+    go : (b : Bool) → int_eq n m ≡ b → (b || list_any (λ y. int_eq n y) ns) ≡ true → (list_any (λ y. int_eq n y) ns ≡ true → is_number_of s n ≡ true) → is_number_of s n ≡ true
+    go true q e ih = let same : m ≡ n = grind arith in subst (λ x. is_number_of s x ≡ true) same (and_left (is_number_of s m) (list_all (is_number_of s) ns) h)
+    go false q e ih = ih e
+
+shape_is : (s : Scalar) (is : List (List ℤ)) (v : ValueTree) → IsOfDims s (length is) v → IsOf (shape_type s is) v
+unfolding shape_type of_scalar
+shape_is Scalar.Bool [] v h = h
+shape_is Scalar.Int [] v h = h
+shape_is s (i ∷ is) v h = h
+
+-- a value that is fitted into a decision variable's domain is of its type
+pub find_typed : (ty : ValueType) (own : Scalar) (values : List ℤ) (is : List (List ℤ)) (v w : ValueTree) → ty ≡ shape_type (scalar_of ty) is
+    → list_all (is_number_of (scalar_of ty)) values ≡ true → fitted own (scalar_of ty) (has_number values) is v ≡ Some w → IsOf ty w
+find_typed ty own values is v w shaped h e =
+    subst (λ t. IsOf t w) (sym shaped)
+    (shape_is (scalar_of ty) is w (fitted_typed own (scalar_of ty) (has_number values) (one_of (scalar_of ty) values h) is v w e))
+
+-- ---- what an assignment gives a name
+
+pub named_here : (g : NamedValue) (gs : Assigned) (name : Name) → bytes_eq g.name name ≡ true → named_in (g ∷ gs) name ≡ Some g
+unfolding named_in
+named_here g gs name h = ap (λ b. if b then Some g else named_in gs name) h
+
+pub named_later : (g : NamedValue) (gs : Assigned) (name : Name) → bytes_eq g.name name ≡ false → named_in (g ∷ gs) name ≡ named_in gs name
+unfolding named_in
+named_later g gs name h = ap (λ b. if b then Some g else named_in gs name) h
+
+pub named_nowhere : (name : Name) → named_in [] name ≡ None
+unfolding named_in
+named_nowhere name = refl
+
+-- ---- decision variables that are set
+
+-- what holds at an error
+pub at_error : {A E : Type 0} (P : Type 0) (answer : Result A E) → P → OnErr answer P
+at_error P (Ok x) h = tt
+at_error P (Err e) h = h
+
+pub find_given : (f : Find) (o : Option NamedValue) (g : NamedValue) (w : ValueTree) → o ≡ Some g → fitted (scalar_of g.ty) f.scalar (has_number f.values) f.indices g.value ≡ Some w
+    → option_and_then (fitted_find f) o ≡ Some w
+unfolding fitted_find
+find_given f o g w e h = ap (option_and_then (fitted_find f)) e ∙ h
+
+pub find_set : (f : Find) (a : Assigned) (ty : ValueType) (w : ValueTree) (name : Name) (before after : Env) → ty ≡ find_type f → name ≡ f.name
+    → option_and_then (fitted_find f) (named_in a f.name) ≡ Some w → after ≡ put name (has_value ty w) before → SetsFind f a before after
+find_set f a ty w name before after t n h e = record {
+  value = w;
+  fits = h;
+  known = e ∙ ap (λ x. put x (has_value ty w) before) n ∙ ap (λ x. put f.name (has_value x w) before) t;
+}
+
+pub under_none : (a : Assigned) (before after : Env) → after ≡ before → IsUnder [] a before after
+unfolding found_values put_all
+under_none a before after e = record { found = []; values = refl; known = e }
+
+pub under_more : (f : Find) (fs : List Find) (a : Assigned) (before now after : Env) → IsUnder fs a before now → SetsFind f a now after → IsUnder (f ∷ fs) a before after
+unfolding found_values put_all
+under_more f fs a before now after u s = record {
+  found = (f.name, has_value (find_type f) s.value) ∷ u.found;
+  values = both_some (λ v rest. Some ((f.name, has_value (find_type f) v) ∷ rest)) (option_and_then (fitted_find f) (named_in a f.name)) (found_values fs a) s.value u.found s.fits u.values;
+  known = s.known ∙ ap (λ env. put f.name (has_value (find_type f) s.value) env) u.known;
+}
+
+-- ---- a fitted value fits again as itself
+
+number_refits : (own wanted : Scalar) (n : ℤ) (w : ValueTree) (a b : Bool) → (if a && b then Some (single n) else None) ≡ Some w → (b ≡ true) × (single n ≡ w)
+number_refits own wanted n w true true e = (refl, some_is e)
+number_refits own wanted n w true false e = no_some e
+number_refits own wanted n w false b e = no_some e
+
+fits_own : (s : Scalar) → scalar_fits s s ≡ true
+unfolding scalar_fits
+fits_own Scalar.Bool = refl
+fits_own Scalar.Int = refl
+
+number_again : (s : Scalar) (passes : ℤ → Bool) (n : ℤ) → passes n ≡ true → fitted s s passes [] (single n) ≡ Some (single n)
+unfolding fitted
+number_again s passes n h =
+    ap (λ a. if a && passes n then Some (single n) else None) (fits_own s)
+    ∙ ap (λ b. if b then Some (single n) else None) h
+
+mutual
+  unfolding fitted as_parts
+
+  -- A fitted value fits again, and is then itself.
+  pub fits_again : (own wanted : Scalar) (passes : ℤ → Bool) (indices : List (List ℤ)) (v w : ValueTree) → fitted own wanted passes indices v ≡ Some w
+      → fitted wanted wanted passes indices w ≡ Some w
+  fits_again own wanted passes [] (single n) w e =
+      let p : _ = number_refits own wanted n w (scalar_fits own wanted) (passes n) e in
+      subst (λ x. fitted wanted wanted passes [] x ≡ Some x) p.1 (number_again wanted passes n p.0)
+  fits_again own wanted passes (ix ∷ inner) (single n) w e = no_some e
+  fits_again own wanted passes [] (matrix old parts) w e = no_some e
+  fits_again own wanted passes (ix ∷ inner) (matrix old parts) w e =
+      let p : _ = then_is (with_indices ix) (all_fitted own wanted passes inner parts) w e in
+      let q : _ = with_indices_is ix p.0 w p.2 in
+      subst (λ x. fitted wanted wanted passes (ix ∷ inner) x ≡ Some x) q.1
+      (ap (option_and_then (with_indices ix)) (parts_fit_again own wanted passes inner parts p.0 p.1) ∙ p.2 ∙ ap Some (sym q.1))
+
+  -- The same of each part.
+  pub parts_fit_again : (own wanted : Scalar) (passes : ℤ → Bool) (inner : List (List ℤ)) (vs : ValueTrees) (ws : List ValueTree) → all_fitted own wanted passes inner vs ≡ Some ws
+      → all_fitted wanted wanted passes inner (as_parts ws) ≡ Some ws
+  parts_fit_again own wanted passes inner no_values ws e = subst (λ xs. all_fitted wanted wanted passes inner (as_parts xs) ≡ Some xs) (some_is e) refl
+  parts_fit_again own wanted passes inner (value_and v vs) ws e =
+      let p : _ = then_is (λ x. option_map (λ xs. x ∷ xs) (all_fitted own wanted passes inner vs)) (fitted own wanted passes inner v) ws e in
+      let q : _ = map_is (λ xs. p.0 ∷ xs) (all_fitted own wanted passes inner vs) ws p.2 in
+      subst (λ xs. all_fitted wanted wanted passes inner (as_parts xs) ≡ Some xs) q.2
+      (ap (option_and_then (λ x. option_map (λ xs. x ∷ xs) (all_fitted wanted wanted passes inner (as_parts q.0)))) (fits_again own wanted passes inner v p.0 p.1)
+      ∙ ap (option_map (λ xs. p.0 ∷ xs)) (parts_fit_again own wanted passes inner vs q.0 q.1))
+
+-- ---- decision variables from the last to the first
+
+-- one decision variable more
+pub under_step : (finds : List KeptFind) (k : ℕ) (f : KeptFind) (es : List Entry) (a : Assigned) (before now after : Env) → f ≡ get_or finds (k - 1) f → 0 < k → k ≤ length finds
+    → map named_value es ≡ a → IsUnder (map find_of (drop k finds)) a before now → SetsFind (find_of f) (map named_value es) now after → IsUnder (map find_of (drop (k - 1) finds)) a before after
+under_step finds k f es a before now after is low high e u s =
+    let last : k - 1 < length finds = omega (arith, low, high) in
+    let next : k - 1 + 1 ≡ k = omega (arith, low) in
+    let cut : drop (k - 1) finds ≡ f ∷ drop k finds = drop_more finds (k - 1) f last ∙ ap (λ n. get_or finds (k - 1) f ∷ drop n finds) next ∙ ap (λ x. x ∷ drop k finds) (sym is) in
+    let set : SetsFind (find_of f) a now after = subst (λ x. SetsFind (find_of f) x now after) e s in
+    subst (λ xs. IsUnder (map find_of xs) a before after) (sym cut) (under_more (find_of f) (map find_of (drop k finds)) a before now after u set)
+
+-- the values of a decision variable are of its scalar
+values_from : (finds : List KeptFind) (k : ℕ) (d : KeptFind) → k < length finds → All (λ f. IsTrue (list_all (is_number_of f.scalar) f.values)) (map find_of finds)
+    → IsTrue (list_all (is_number_of (scalar_of (get_or finds k d).ty)) (get_or finds k d).values)
+values_from [] k d low h = absurd (omega (arith, low))
+values_from (f ∷ fs) zero d low h = All-head (λ f. IsTrue (list_all (is_number_of f.scalar) f.values)) (find_of f) (map find_of fs) h
+values_from (f ∷ fs) (suc k) d low h = values_from fs k d (omega (arith, low)) (All-tail (λ f. IsTrue (list_all (is_number_of f.scalar) f.values)) (find_of f) (map find_of fs) h)
+
+-- The same of one that was read.
+pub values_at : (finds : List KeptFind) (k : ℕ) (f : KeptFind) → f ≡ get_or finds k f → k < length finds → All (λ f. IsTrue (list_all (is_number_of f.scalar) f.values)) (map find_of finds)
+    → IsTrue (list_all (is_number_of (scalar_of f.ty)) f.values)
+values_at finds k f is low h = subst (λ x. IsTrue (list_all (is_number_of (scalar_of x.ty)) x.values)) (sym is) (values_from finds k f low h)
+
+-- all decision variables
+pub under_end : (finds : List KeptFind) (k : ℕ) (a : Assigned) (before after : Env) → k ≡ 0 → IsUnder (map find_of (drop k finds)) a before after → IsUnder (map find_of finds) a before after
+under_end finds k a before after e u = subst (λ n. IsUnder (map find_of (drop n finds)) a before after) e u

@@ -1,0 +1,48 @@
+use Rattle.std.proofs.Common.{◌∙◌, ◌+◌, ap, sym, refl, map, drop}
+use Rattle.std.proofs.Math.ListN.{drop_of_length-le}
+use Rattle.ep_eval.specs.Known.{env_of}
+use Rattle.ep_eval.specs.Outcomes.{seen_value}
+use Rattle.ep_tree.specs.Evaluation.{first_untrue}
+use Rattle.ep_tree.specs.Views.{expr_tree}
+use Rattle.ep_types.proofs.Walks.{next_is}
+use Rattle.ep_instance.proofs.JudgingSteps.{clause_false, clause_is, clause_true, no_clause}
+use Rattle.ep_instance.proofs.judging.first_violated.Goals as goal
+
+pub loop-clause-init : goal.loop-clause-init
+loop-clause-init c = refl
+
+pub loop-clause-preserved : goal.loop-clause-preserved
+loop-clause-preserved c =
+    let mode = c.args.env.now.mode in
+    let env = env_of c.args.env.now in
+    let n = c.loop-clause.number in
+    let k = c.loop-clause.clause-index in
+    let all = c.args.clauses.now in
+    let e = expr_tree c.clause-item.result in
+    let es = map expr_tree (drop (k + 1) all) in
+    let cut = ap (λ xs. first_untrue mode env n (map expr_tree xs)) (next_is all k c.clause-item.result c.loop-clause-test.true c.clause-item.is) in
+    let holds = sym (clause_is mode env e (seen_value c.in_ok-seen.seen) c.is_true.result c.in_ok-seen.ensures c.is_true.ensures) ∙ c.if-not-is_true.false in
+    c.loop-clause.invariant ∙ cut ∙ clause_true mode env n e es holds ∙ ap (λ m. first_untrue mode env m es) (sym c.in_ok-next.ensures)
+
+pub returns-then-not-is_true : goal.returns-then-not-is_true
+returns-then-not-is_true c =
+    let mode = c.args.env.now.mode in
+    let env = env_of c.args.env.now in
+    let n = c.loop-clause.number in
+    let k = c.loop-clause.clause-index in
+    let all = c.args.clauses.now in
+    let e = expr_tree c.clause-item.result in
+    let es = map expr_tree (drop (k + 1) all) in
+    let cut = ap (λ xs. first_untrue mode env n (map expr_tree xs)) (next_is all k c.clause-item.result c.loop-clause-test.true c.clause-item.is) in
+    let fails = sym (clause_is mode env e (seen_value c.in_ok-seen.seen) c.is_true.result c.in_ok-seen.ensures c.is_true.ensures) ∙ c.if-not-is_true.true in
+    sym (c.loop-clause.invariant ∙ cut ∙ clause_false mode env n e es fails)
+
+pub returns : goal.returns
+returns c =
+    let mode = c.args.env.now.mode in
+    let env = env_of c.args.env.now in
+    let n = c.loop-clause.number in
+    sym
+    (c.loop-clause.invariant
+    ∙ ap (λ xs. first_untrue mode env n (map expr_tree xs)) (drop_of_length-le c.args.clauses.now c.loop-clause-test.false)
+    ∙ no_clause mode env n)
