@@ -1,9 +1,11 @@
 //! Why an instance isn't measured.
 
 ghost use Rattle.std.specs.Prelude.{◌≡◌};
+ghost use Rattle.ep_size.specs.Refusing.{of_evaluation};
 ghost use Rattle.ep_size.specs.declared.errors.SizeError.TheVariants.{Memory as OutOfMemory};
 
 use ep_base::{Limit, Memory};
+use ep_eval::EvalError;
 use std::alloc::{AllocError, AllocFailed};
 use std::error::Error;
 use std::fmt;
@@ -49,5 +51,16 @@ impl<T: Drop> From<AllocFailed<T>> for SizeError {
 
     fn from(_refused: AllocFailed<T>) -> SizeError {
         SizeError::Memory
+    }
+}
+
+impl From<EvalError> for SizeError {
+    ghost from_gives = { λ refused e. e ≡ of_evaluation refused };
+
+    fn from(refused: EvalError) -> SizeError {
+        match refused {
+            EvalError::Limit(limit) => SizeError::Limit(limit),
+            EvalError::Memory => SizeError::Memory,
+        }
     }
 }

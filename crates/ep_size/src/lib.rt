@@ -1,8 +1,34 @@
 //! How great an instance is: its size, its weight, and the numbers that it reaches.
 #![tactic(auto)]
 
+mod cells;
+mod domains;
 mod errors;
+mod expressions;
+mod extending;
+mod extents;
+mod folds;
+mod forms;
+mod groups;
+mod hulls;
+mod indices;
+mod instances;
+mod intervals;
+mod lists;
+mod matrices;
 mod measuring;
+mod named;
+mod nodes;
+mod reading;
+mod reads;
+mod remaining;
+mod row_counts;
+mod scalars;
+mod slices;
+mod standing;
+mod sums;
+mod totals;
+mod widths;
 
 pub use errors::SizeError;
 pub use measuring::{Measures, measure};

@@ -6,7 +6,11 @@ ghost use Rattle.ep_tree.specs.Solutions.{instance_limits, instance_size, instan
 ghost use Rattle.ep_instance.specs.Instances.{instance_of, mode_of};
 ghost use Rattle.ep_size.specs.Causes.{IsCause};
 
+use super::cells::name_cells;
 use super::errors::SizeError;
+use super::expressions::{measure_all, measure_goal};
+use super::totals::MOST_WEIGHT;
+use ep_base::Limit;
 use ep_instance::Instance;
 use std::alloc::Global;
 
@@ -28,5 +32,15 @@ pub fn measure(alloc: Global, instance: &Instance) -> Result<Measures, SizeError
     ensures within { OnOk result (instance_limits (mode_of instance.now) (instance_of instance.now) ≡ []) }
     ensures cause { IfErr result (IsCause (instance_limits (mode_of instance.now) (instance_of instance.now))) }
 {
-    Err(SizeError::Memory)
+    let mut env = instance.env().copy()?;
+    let mut totals = name_cells(alloc, &mut env, instance.finds())?;
+    measure_all(alloc, &env, &mut totals, instance.clauses())?;
+    measure_goal(alloc, &env, &mut totals, instance.objective())?;
+    if totals.weight > MOST_WEIGHT {
+        return Err(SizeError::Limit(Limit::Weight));
+    }
+    Ok(Measures {
+        size: totals.size,
+        weight: totals.weight,
+    })
 }

@@ -1,0 +1,317 @@
+-- What an expression in which no decision variable stands anywhere meets: nodes without decision variables.
+use Rattle.std.specs.Prelude.{◌≡◌, Bool, true, false, not, ◌&&◌, ◌||◌, List, [], ◌∷◌, ◌++◌, map, ℤ, if◌then◌else◌, Some, None, bytes_eq, flat_map, Option, unwrap_or, option_map, refl}
+use Rattle.std.proofs.Common.{ap, ◌∙◌}
+use Rattle.std.specs.List.{list_all, list_any}
+use Rattle.ep_base.specs.declared.names.Name.{Name}
+use Rattle.ep_base.specs.declared.places.Place.{Place}
+use Rattle.ep_laws.specs.FixedLimits.{is_fixed}
+use Rattle.ep_tree.specs.Environments.{Env, has_value, scalar_in, with_number}
+use Rattle.ep_tree.specs.Evaluation.{domain_values, numbered, standing_for}
+use Rattle.ep_tree.specs.Measures.{Met, a_node, met, met_all, met_domain, met_domains, met_end, met_index, met_indices, met_names, met_ranges, met_terms}
+use Rattle.ep_tree.specs.Reach.{decisions_in, hiding, holds_decision, index_holds_decision, is_decision, one_holds_decision, term_holds_decision}
+use Rattle.ep_tree.specs.Trees.{DomainTree, Domains, End, ExprTree, ExprTrees, IndexDomain, Indices, Ranges, Terms, absolute, all_different, all_of, any_of, at_least, at_most, binary, bool, chain, compare, comprehension, domain_and, end_at, every_and, factorial, flatten, folded, gcc, group, group_domain, in_domain, in_set, index_and, int, lex, literal, matrix_domain, minus, named, named_domain, negation, no_domains, no_end, no_indices, no_ranges, no_terms, no_trees, number, one_and, over, quantified, ranges, read, set_domain, span_and, table, term_and, to_int, tree_and, truth, unstated}
+use Rattle.ep_tree.specs.Types.{of_scalar}
+use Rattle.ep_tree.specs.Values.{single}
+use Rattle.ep_tree.specs.declared.syntax.QuantOp.{QuantOp}
+use Rattle.ep_tree.specs.declared.values.Mode.{Mode}
+use Rattle.ep_size.specs.Free.{are_free, are_free_domains, are_free_indices, are_free_ranges, are_free_terms, is_free, is_free_domain, is_free_end, is_free_index}
+
+-- one test of names says no more than another
+abbrev pub Below : (Name → Bool) → (Name → Bool) → Type 0
+Below f g = (name : Name) → g name ≡ false → f name ≡ false
+
+and_one : (a b : Bool) → (a && b) ≡ true → a ≡ true
+and_one true b h = refl
+and_one false b h = h
+
+and_other : (a b : Bool) → (a && b) ≡ true → b ≡ true
+and_other true b h = h
+and_other false b h = absurd cc
+
+not_true : (b : Bool) → not b ≡ true → b ≡ false
+not_true true h = absurd cc
+not_true false h = refl
+
+neither : (a b : Bool) → a ≡ false → b ≡ false → (a || b) ≡ false
+neither true b p q = p
+neither false b p q = q
+
+both_hidden : (f g : Name → Bool) (names : List Name) → Below f g → Below (hiding names f) (hiding names g)
+unfolding hiding
+both_hidden f g names h name k = go (not (list_any (bytes_eq name) names)) (f name) (g name) (h name) k
+  where
+    go : (a b c : Bool) → (c ≡ false → b ≡ false) → (a && c) ≡ false → (a && b) ≡ false
+    go true b c e q = e q
+    go false b c e q = refl
+
+mutual
+  unfolding holds_decision one_holds_decision term_holds_decision index_holds_decision is_free are_free are_free_terms are_free_indices
+
+  -- none that one test tells stands where none that the other tells stands anywhere
+  pub free_holds : (f g : Name → Bool) → Below f g → (e : ExprTree) → is_free g e ≡ true → holds_decision f e ≡ false
+  free_holds f g h (number p n) q = refl
+  free_holds f g h (truth p b) q = refl
+  free_holds f g h (named p name) q = h name (not_true (g name) q)
+  free_holds f g h (group p e) q = free_holds f g h e q
+  free_holds f g h (negation p e) q = free_holds f g h e q
+  free_holds f g h (minus p e) q = free_holds f g h e q
+  free_holds f g h (absolute p e) q = free_holds f g h e q
+  free_holds f g h (to_int p e) q = free_holds f g h e q
+  free_holds f g h (factorial p e) q = free_holds f g h e q
+  free_holds f g h (flatten p e) q = free_holds f g h e q
+  free_holds f g h (folded p op e) q = free_holds f g h e q
+  free_holds f g h (all_different p e) q = free_holds f g h e q
+  free_holds f g h (binary p op a b) q = (neither (holds_decision f a) (holds_decision f b) (free_holds f g h a (and_one (is_free g a) (is_free g b) q)) (free_holds f g h b (and_other (is_free g a) (is_free g b) q)))
+  free_holds f g h (compare p op a b) q = (neither (holds_decision f a) (holds_decision f b) (free_holds f g h a (and_one (is_free g a) (is_free g b) q)) (free_holds f g h b (and_other (is_free g a) (is_free g b) q)))
+  free_holds f g h (lex p op a b) q = (neither (holds_decision f a) (holds_decision f b) (free_holds f g h a (and_one (is_free g a) (is_free g b) q)) (free_holds f g h b (and_other (is_free g a) (is_free g b) q)))
+  free_holds f g h (in_set p a b) q = (neither (holds_decision f a) (holds_decision f b) (free_holds f g h a (and_one (is_free g a) (is_free g b) q)) (free_holds f g h b (and_other (is_free g a) (is_free g b) q)))
+  free_holds f g h (table p a b) q = (neither (holds_decision f a) (holds_decision f b) (free_holds f g h a (and_one (is_free g a) (is_free g b) q)) (free_holds f g h b (and_other (is_free g a) (is_free g b) q)))
+  free_holds f g h (gcc p a b c) q =
+      neither (holds_decision f a || holds_decision f b) (holds_decision f c) ((neither (holds_decision f a) (holds_decision f b) (free_holds f g h a (and_one (is_free g a) (is_free g b) (and_one (is_free g a && is_free g b) (is_free g c) q))) (free_holds f g h b (and_other (is_free g a) (is_free g b) (and_one (is_free g a && is_free g b) (is_free g c) q)))))
+      (free_holds f g h c (and_other (is_free g a && is_free g b) (is_free g c) q))
+  free_holds f g h (at_least p a b c) q =
+      neither (holds_decision f a || holds_decision f b) (holds_decision f c) ((neither (holds_decision f a) (holds_decision f b) (free_holds f g h a (and_one (is_free g a) (is_free g b) (and_one (is_free g a && is_free g b) (is_free g c) q))) (free_holds f g h b (and_other (is_free g a) (is_free g b) (and_one (is_free g a && is_free g b) (is_free g c) q)))))
+      (free_holds f g h c (and_other (is_free g a && is_free g b) (is_free g c) q))
+  free_holds f g h (at_most p a b c) q =
+      neither (holds_decision f a || holds_decision f b) (holds_decision f c) ((neither (holds_decision f a) (holds_decision f b) (free_holds f g h a (and_one (is_free g a) (is_free g b) (and_one (is_free g a && is_free g b) (is_free g c) q))) (free_holds f g h b (and_other (is_free g a) (is_free g b) (and_one (is_free g a && is_free g b) (is_free g c) q)))))
+      (free_holds f g h c (and_other (is_free g a && is_free g b) (is_free g c) q))
+  free_holds f g h (chain p terms) q = terms_free f g h terms q
+  free_holds f g h (all_of p parts) q = all_free f g h parts q
+  free_holds f g h (any_of p parts) q = all_free f g h parts q
+  free_holds f g h (in_domain p e d) q = free_holds f g h e (and_one (is_free g e) (is_free_domain g d) q)
+  free_holds f g h (quantified p op names d e) q =
+      free_holds (hiding names f) (hiding names g) (both_hidden f g names h) e (and_other (is_free_domain g d) (is_free (hiding names g) e) q)
+  free_holds f g h (literal p parts d) q = all_free f g h parts (and_one (are_free g parts) (is_free_index g d) q)
+  free_holds f g h (comprehension p e gens conditions d) q = absurd cc
+  free_holds f g h (read p m is) q =
+      neither (holds_decision f m) (index_holds_decision f is) (free_holds f g h m (and_one (is_free g m) (are_free_indices g is) q))
+      (indices_free f g h is (and_other (is_free g m) (are_free_indices g is) q))
+
+  all_free : (f g : Name → Bool) → Below f g → (es : ExprTrees) → are_free g es ≡ true → one_holds_decision f es ≡ false
+  all_free f g h no_trees q = refl
+  all_free f g h (tree_and e es) q =
+      neither (holds_decision f e) (one_holds_decision f es) (free_holds f g h e (and_one (is_free g e) (are_free g es) q)) (all_free f g h es (and_other (is_free g e) (are_free g es) q))
+
+  terms_free : (f g : Name → Bool) → Below f g → (ts : Terms) → are_free_terms g ts ≡ true → term_holds_decision f ts ≡ false
+  terms_free f g h no_terms q = refl
+  terms_free f g h (term_and plus e ts) q =
+      neither (holds_decision f e) (term_holds_decision f ts) (free_holds f g h e (and_one (is_free g e) (are_free_terms g ts) q))
+      (terms_free f g h ts (and_other (is_free g e) (are_free_terms g ts) q))
+
+  indices_free : (f g : Name → Bool) → Below f g → (is : Indices) → are_free_indices g is ≡ true → index_holds_decision f is ≡ false
+  indices_free f g h no_indices q = refl
+  indices_free f g h (every_and is) q = indices_free f g h is q
+  indices_free f g h (index_and e is) q =
+      neither (holds_decision f e) (index_holds_decision f is) (free_holds f g h e (and_one (is_free g e) (are_free_indices g is) q))
+      (indices_free f g h is (and_other (is_free g e) (are_free_indices g is) q))
+
+-- what is met, all of it fixed
+abbrev pub AreFixed : List Met → Type 0
+AreFixed ms = list_all is_fixed ms ≡ true
+
+pub joined : (xs ys : List Met) → AreFixed xs → AreFixed ys → AreFixed (xs ++ ys)
+joined [] ys p q = q
+joined (x ∷ xs) ys p q = front (is_fixed x) (and_one (is_fixed x) (list_all is_fixed xs) p) (joined xs ys (and_other (is_fixed x) (list_all is_fixed xs) p) q)
+  where
+    front : (b : Bool) → b ≡ true → AreFixed (xs ++ ys) → (b && list_all is_fixed (xs ++ ys)) ≡ true
+    front true e h = h
+    front false e h = e
+
+node : (env : Env) (g : Name → Bool) (e : ExprTree) (ms : List Met) → Below (decisions_in env) g → is_free g e ≡ true → AreFixed ms → AreFixed (a_node env e ∷ ms)
+unfolding is_fixed
+node env g e ms h q k = ap (λ b. not b && list_all is_fixed ms) (free_holds (decisions_in env) g h e q) ∙ k
+
+quantified_node : (env : Env) (k : Name → Bool) (p : Place) (op : QuantOp) (left : List Name) (d : DomainTree) (e : ExprTree) (ms : List Met)
+    → Below (hiding left (decisions_in env)) k → is_free k e ≡ true → AreFixed ms → AreFixed (a_node env (quantified p op left d e) ∷ ms)
+unfolding is_fixed holds_decision
+quantified_node env k p op left d e ms h q r = ap (λ b. not b && list_all is_fixed ms) (free_holds (hiding left (decisions_in env)) k h e q) ∙ r
+
+-- environments in which no more names are decision variables than a test tells
+abbrev EachBelow : (Name → Bool) → List Env → Type 0
+EachBelow g [] = Unit {0}
+EachBelow g (env ∷ envs) = Below (decisions_in env) g × EachBelow g envs
+
+each_met : (g : Name → Bool) (f : Env → List Met) (envs : List Env) → ((env : Env) → Below (decisions_in env) g → AreFixed (f env)) → EachBelow g envs → AreFixed (flat_map f envs)
+each_met g f [] each h = refl
+each_met g f (env ∷ envs) each h = joined (f env) (flat_map f envs) (each env h.0) (each_met g f envs each h.1)
+
+-- the test of names without one name
+abbrev hiding_one : Name → (Name → Bool) → Name → Bool
+hiding_one name g other = if bytes_eq other name then false else g other
+
+number_bound : (env : Env) (g : Name → Bool) (name : Name) (d : DomainTree) (n : ℤ) → Below (decisions_in env) g
+    → Below (decisions_in (with_number name (scalar_in env d) n env)) (hiding_one name g)
+unfolding with_number is_decision
+number_bound env g name d n h other k = go (bytes_eq other name) k
+  where
+    go : (b : Bool) → (if b then false else g other) ≡ false
+        → is_decision (if b then Some (has_value (of_scalar (scalar_in env d)) (single n)) else env other) ≡ false
+    go true e = refl
+    go false e = h other e
+
+numbers_bound : (env : Env) (g : Name → Bool) (name : Name) (d : DomainTree) (ns : List ℤ) → Below (decisions_in env) g
+    → EachBelow (hiding_one name g) (map (λ n. with_number name (scalar_in env d) n env) ns)
+numbers_bound env g name d [] h = tt
+numbers_bound env g name d (n ∷ ns) h = (number_bound env g name d n h, numbers_bound env g name d ns h)
+
+standing_bound : (mode : Mode) (env : Env) (g : Name → Bool) (name : Name) (d : DomainTree) → Below (decisions_in env) g
+    → EachBelow (hiding_one name g) (unwrap_or (numbered mode d name env) [])
+unfolding standing_for
+standing_bound mode env g name d h = go (domain_values mode env d)
+  where
+    go : (ns : Option (List ℤ)) → EachBelow (hiding_one name g) (unwrap_or (option_map (map (λ n. with_number name (scalar_in env d) n env)) ns) [])
+    go None = tt
+    go (Some ns) = numbers_bound env g name d ns h
+
+one_below : (g : Name → Bool) (name : Name) → Below (hiding_one name g) g
+one_below g name other k = go (bytes_eq other name)
+  where
+    go : (b : Bool) → (if b then false else g other) ≡ false
+    go true = refl
+    go false = k
+
+below_then : (f g k : Name → Bool) → Below f g → Below g k → Below f k
+below_then f g k a b name e = a name (b name e)
+
+none_hidden : (g : Name → Bool) → Below g (hiding [] g)
+unfolding hiding
+none_hidden g name e = e
+
+hidden_more : (g : Name → Bool) (name : Name) (names : List Name) → Below (hiding names (hiding_one name g)) (hiding (name ∷ names) g)
+unfolding hiding
+hidden_more g name names other k = go (bytes_eq other name) (list_any (bytes_eq other) names) (g other) k
+  where
+    go : (a b c : Bool) → (not (a || b) && c) ≡ false → (not b && (if a then false else c)) ≡ false
+    go true true c e = refl
+    go true false c e = refl
+    go false true c e = refl
+    go false false c e = e
+
+names_met : (mode : Mode) (d : DomainTree) (here : List Name → Env → List Met) (inner : Env → List Met) (f k g : Name → Bool)
+    → ((names : List Name) (env : Env) → Below (decisions_in env) f → Below (hiding names (decisions_in env)) k → AreFixed (here names env))
+    → ((env : Env) → Below (decisions_in env) k → AreFixed (inner env))
+    → (names : List Name) (env : Env) → Below g f → Below (hiding names g) k → Below (decisions_in env) g
+    → AreFixed (met_names here (numbered mode d) inner names env)
+unfolding met_names
+names_met mode d here inner f k g p q [] env less rest c = q env (below_then (decisions_in env) g k c (below_then g (hiding [] g) k (none_hidden g) rest))
+names_met mode d here inner f k g p q (name ∷ names) env less rest c =
+    joined (here (name ∷ names) env) (flat_map (met_names here (numbered mode d) inner names) (unwrap_or (numbered mode d name env) []))
+    (p (name ∷ names) env (below_then (decisions_in env) g f c less)
+    (below_then (hiding (name ∷ names) (decisions_in env)) (hiding (name ∷ names) g) k (both_hidden (decisions_in env) g (name ∷ names) c) rest))
+    (each_met (hiding_one name g) (met_names here (numbered mode d) inner names) (unwrap_or (numbered mode d name env) [])
+    (λ e l. names_met mode d here inner f k (hiding_one name g) p q names e
+    (below_then (hiding_one name g) g f (one_below g name) less)
+    (below_then (hiding names (hiding_one name g)) (hiding (name ∷ names) g) k (hidden_more g name names) rest) l)
+    (standing_bound mode env g name d c))
+
+-- a test says no more than itself
+pub same_below : (g : Name → Bool) → Below g g
+same_below g name e = e
+
+mutual
+  unfolding met met_domain met_all met_terms met_indices met_ranges met_end met_domains met_index is_free is_free_domain are_free are_free_terms are_free_indices are_free_ranges is_free_end are_free_domains is_free_index
+
+  -- what is met where none stands anywhere
+  pub free_met : (mode : Mode) (env : Env) (g : Name → Bool) → Below (decisions_in env) g → (e : ExprTree) → is_free g e ≡ true → AreFixed (met mode env e)
+  free_met mode env g h (number p n) q = node env g (number p n) [] h q refl
+  free_met mode env g h (truth p b) q = node env g (truth p b) [] h q refl
+  free_met mode env g h (named p name) q = node env g (named p name) [] h q refl
+  free_met mode env g h (group p e) q = node env g (group p e) (met mode env e) h q (free_met mode env g h e q)
+  free_met mode env g h (negation p e) q = node env g (negation p e) (met mode env e) h q (free_met mode env g h e q)
+  free_met mode env g h (minus p e) q = node env g (minus p e) (met mode env e) h q (free_met mode env g h e q)
+  free_met mode env g h (absolute p e) q = node env g (absolute p e) (met mode env e) h q (free_met mode env g h e q)
+  free_met mode env g h (to_int p e) q = node env g (to_int p e) (met mode env e) h q (free_met mode env g h e q)
+  free_met mode env g h (factorial p e) q = node env g (factorial p e) (met mode env e) h q (free_met mode env g h e q)
+  free_met mode env g h (flatten p e) q = node env g (flatten p e) (met mode env e) h q (free_met mode env g h e q)
+  free_met mode env g h (folded p op e) q = node env g (folded p op e) (met mode env e) h q (free_met mode env g h e q)
+  free_met mode env g h (all_different p e) q = node env g (all_different p e) (met mode env e) h q (free_met mode env g h e q)
+  free_met mode env g h (binary p op a b) q = node env g (binary p op a b) (met mode env a ++ met mode env b) h q ((joined (met mode env a) (met mode env b) (free_met mode env g h a (and_one (is_free g a) (is_free g b) q)) (free_met mode env g h b (and_other (is_free g a) (is_free g b) q))))
+  free_met mode env g h (compare p op a b) q = node env g (compare p op a b) (met mode env a ++ met mode env b) h q ((joined (met mode env a) (met mode env b) (free_met mode env g h a (and_one (is_free g a) (is_free g b) q)) (free_met mode env g h b (and_other (is_free g a) (is_free g b) q))))
+  free_met mode env g h (lex p op a b) q = node env g (lex p op a b) (met mode env a ++ met mode env b) h q ((joined (met mode env a) (met mode env b) (free_met mode env g h a (and_one (is_free g a) (is_free g b) q)) (free_met mode env g h b (and_other (is_free g a) (is_free g b) q))))
+  free_met mode env g h (in_set p a b) q = node env g (in_set p a b) (met mode env a ++ met mode env b) h q ((joined (met mode env a) (met mode env b) (free_met mode env g h a (and_one (is_free g a) (is_free g b) q)) (free_met mode env g h b (and_other (is_free g a) (is_free g b) q))))
+  free_met mode env g h (table p a b) q = node env g (table p a b) (met mode env a ++ met mode env b) h q ((joined (met mode env a) (met mode env b) (free_met mode env g h a (and_one (is_free g a) (is_free g b) q)) (free_met mode env g h b (and_other (is_free g a) (is_free g b) q))))
+  free_met mode env g h (gcc p a b c) q =
+      node env g (gcc p a b c) ((met mode env a ++ met mode env b) ++ met mode env c) h q
+      (joined (met mode env a ++ met mode env b) (met mode env c) ((joined (met mode env a) (met mode env b) (free_met mode env g h a (and_one (is_free g a) (is_free g b) (and_one (is_free g a && is_free g b) (is_free g c) q))) (free_met mode env g h b (and_other (is_free g a) (is_free g b) (and_one (is_free g a && is_free g b) (is_free g c) q)))))
+      (free_met mode env g h c (and_other (is_free g a && is_free g b) (is_free g c) q)))
+  free_met mode env g h (at_least p a b c) q =
+      node env g (at_least p a b c) ((met mode env a ++ met mode env b) ++ met mode env c) h q
+      (joined (met mode env a ++ met mode env b) (met mode env c) ((joined (met mode env a) (met mode env b) (free_met mode env g h a (and_one (is_free g a) (is_free g b) (and_one (is_free g a && is_free g b) (is_free g c) q))) (free_met mode env g h b (and_other (is_free g a) (is_free g b) (and_one (is_free g a && is_free g b) (is_free g c) q)))))
+      (free_met mode env g h c (and_other (is_free g a && is_free g b) (is_free g c) q)))
+  free_met mode env g h (at_most p a b c) q =
+      node env g (at_most p a b c) ((met mode env a ++ met mode env b) ++ met mode env c) h q
+      (joined (met mode env a ++ met mode env b) (met mode env c) ((joined (met mode env a) (met mode env b) (free_met mode env g h a (and_one (is_free g a) (is_free g b) (and_one (is_free g a && is_free g b) (is_free g c) q))) (free_met mode env g h b (and_other (is_free g a) (is_free g b) (and_one (is_free g a && is_free g b) (is_free g c) q)))))
+      (free_met mode env g h c (and_other (is_free g a && is_free g b) (is_free g c) q)))
+  free_met mode env g h (chain p terms) q = node env g (chain p terms) (met_terms mode env terms) h q (terms_met mode env g h terms q)
+  free_met mode env g h (all_of p parts) q = node env g (all_of p parts) (met_all mode env parts) h q (all_met mode env g h parts q)
+  free_met mode env g h (any_of p parts) q = node env g (any_of p parts) (met_all mode env parts) h q (all_met mode env g h parts q)
+  free_met mode env g h (in_domain p e d) q =
+      node env g (in_domain p e d) (met mode env e ++ met_domain mode env d) h q
+      (joined (met mode env e) (met_domain mode env d) (free_met mode env g h e (and_one (is_free g e) (is_free_domain g d) q))
+      (free_domain_met mode env g h d (and_other (is_free g e) (is_free_domain g d) q)))
+  free_met mode env g h (quantified p op names d e) q =
+      names_met mode d (λ left inner. a_node inner (quantified p op left d e) ∷ met_domain mode inner d) (λ inner. met mode inner e) g (hiding names g) g
+      (λ left inner l m. quantified_node inner (hiding names g) p op left d e (met_domain mode inner d) m (and_other (is_free_domain g d) (is_free (hiding names g) e) q)
+      (free_domain_met mode inner g l d (and_one (is_free_domain g d) (is_free (hiding names g) e) q)))
+      (λ inner l. free_met mode inner (hiding names g) l e (and_other (is_free_domain g d) (is_free (hiding names g) e) q)) names env (same_below g) (same_below (hiding names g)) h
+  free_met mode env g h (literal p parts d) q =
+      node env g (literal p parts d) (met_all mode env parts ++ met_index mode env d) h q
+      (joined (met_all mode env parts) (met_index mode env d) (all_met mode env g h parts (and_one (are_free g parts) (is_free_index g d) q))
+      (index_met mode env g h d (and_other (are_free g parts) (is_free_index g d) q)))
+  free_met mode env g h (comprehension p e gens conditions d) q = absurd cc
+  free_met mode env g h (read p m is) q =
+      node env g (read p m is) (met mode env m ++ met_indices mode env is) h q
+      (joined (met mode env m) (met_indices mode env is) (free_met mode env g h m (and_one (is_free g m) (are_free_indices g is) q))
+      (indices_met mode env g h is (and_other (is_free g m) (are_free_indices g is) q)))
+
+  all_met : (mode : Mode) (env : Env) (g : Name → Bool) → Below (decisions_in env) g → (es : ExprTrees) → are_free g es ≡ true → AreFixed (met_all mode env es)
+  all_met mode env g h no_trees q = refl
+  all_met mode env g h (tree_and e es) q =
+      joined (met mode env e) (met_all mode env es) (free_met mode env g h e (and_one (is_free g e) (are_free g es) q)) (all_met mode env g h es (and_other (is_free g e) (are_free g es) q))
+
+  terms_met : (mode : Mode) (env : Env) (g : Name → Bool) → Below (decisions_in env) g → (ts : Terms) → are_free_terms g ts ≡ true → AreFixed (met_terms mode env ts)
+  terms_met mode env g h no_terms q = refl
+  terms_met mode env g h (term_and plus e ts) q =
+      joined (met mode env e) (met_terms mode env ts) (free_met mode env g h e (and_one (is_free g e) (are_free_terms g ts) q)) (terms_met mode env g h ts (and_other (is_free g e) (are_free_terms g ts) q))
+
+  indices_met : (mode : Mode) (env : Env) (g : Name → Bool) → Below (decisions_in env) g → (is : Indices) → are_free_indices g is ≡ true → AreFixed (met_indices mode env is)
+  indices_met mode env g h no_indices q = refl
+  indices_met mode env g h (every_and is) q = indices_met mode env g h is q
+  indices_met mode env g h (index_and e is) q =
+      joined (met mode env e) (met_indices mode env is) (free_met mode env g h e (and_one (is_free g e) (are_free_indices g is) q)) (indices_met mode env g h is (and_other (is_free g e) (are_free_indices g is) q))
+
+  pub free_domain_met : (mode : Mode) (env : Env) (g : Name → Bool) → Below (decisions_in env) g → (d : DomainTree) → is_free_domain g d ≡ true → AreFixed (met_domain mode env d)
+  free_domain_met mode env g h (bool p) q = refl
+  free_domain_met mode env g h (int p) q = refl
+  free_domain_met mode env g h (ranges p rs) q = ranges_met mode env g h rs q
+  free_domain_met mode env g h (named_domain p name) q = refl
+  free_domain_met mode env g h (group_domain p d) q = free_domain_met mode env g h d q
+  free_domain_met mode env g h (set_domain p op c d) q =
+      joined (met_domain mode env c) (met_domain mode env d) (free_domain_met mode env g h c (and_one (is_free_domain g c) (is_free_domain g d) q))
+      (free_domain_met mode env g h d (and_other (is_free_domain g c) (is_free_domain g d) q))
+  free_domain_met mode env g h (matrix_domain p ds d) q =
+      joined (met_domains mode env ds) (met_domain mode env d) (domains_met mode env g h ds (and_one (are_free_domains g ds) (is_free_domain g d) q))
+      (free_domain_met mode env g h d (and_other (are_free_domains g ds) (is_free_domain g d) q))
+
+  ranges_met : (mode : Mode) (env : Env) (g : Name → Bool) → Below (decisions_in env) g → (rs : Ranges) → are_free_ranges g rs ≡ true → AreFixed (met_ranges mode env rs)
+  ranges_met mode env g h no_ranges q = refl
+  ranges_met mode env g h (one_and e rs) q =
+      joined (met mode env e) (met_ranges mode env rs) (free_met mode env g h e (and_one (is_free g e) (are_free_ranges g rs) q)) (ranges_met mode env g h rs (and_other (is_free g e) (are_free_ranges g rs) q))
+  ranges_met mode env g h (span_and a b rs) q =
+      let front : (is_free_end g a && is_free_end g b) ≡ true = and_one (is_free_end g a && is_free_end g b) (are_free_ranges g rs) q in
+      joined (met_end mode env a ++ met_end mode env b) (met_ranges mode env rs)
+      (joined (met_end mode env a) (met_end mode env b) (end_met mode env g h a (and_one (is_free_end g a) (is_free_end g b) front)) (end_met mode env g h b (and_other (is_free_end g a) (is_free_end g b) front)))
+      (ranges_met mode env g h rs (and_other (is_free_end g a && is_free_end g b) (are_free_ranges g rs) q))
+
+  end_met : (mode : Mode) (env : Env) (g : Name → Bool) → Below (decisions_in env) g → (end : End) → is_free_end g end ≡ true → AreFixed (met_end mode env end)
+  end_met mode env g h no_end q = refl
+  end_met mode env g h (end_at e) q = free_met mode env g h e q
+
+  domains_met : (mode : Mode) (env : Env) (g : Name → Bool) → Below (decisions_in env) g → (ds : Domains) → are_free_domains g ds ≡ true → AreFixed (met_domains mode env ds)
+  domains_met mode env g h no_domains q = refl
+  domains_met mode env g h (domain_and d ds) q =
+      joined (met_domain mode env d) (met_domains mode env ds) (free_domain_met mode env g h d (and_one (is_free_domain g d) (are_free_domains g ds) q)) (domains_met mode env g h ds (and_other (is_free_domain g d) (are_free_domains g ds) q))
+
+  index_met : (mode : Mode) (env : Env) (g : Name → Bool) → Below (decisions_in env) g → (index : IndexDomain) → is_free_index g index ≡ true → AreFixed (met_index mode env index)
+  index_met mode env g h unstated q = refl
+  index_met mode env g h (over d) q = free_domain_met mode env g h d q

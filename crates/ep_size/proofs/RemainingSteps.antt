@@ -1,0 +1,72 @@
+-- What indices leave of values, part by part.
+use Rattle.std.proofs.Common.{◌≡◌, ℤ, List, [], ◌∷◌, ◌++◌, map, refl, sym, ap, subst, ◌∙◌, append-nil, Some, true}
+use Rattle.std.specs.Prelude.{flat_map, IfOk, Result}
+use Rattle.std.proofs.lemmas.Grind.{flat_map-append}
+use Rattle.ep_tree.specs.Reach.{MeasuredIndex, Span, decided_index, fixed_index, fixed_span, left_by, parts_left, whole_index}
+use Rattle.ep_tree.specs.Values.{Grid, listed_values, map_grid, map_grids, ValueTree, matrix, scalars_of, single}
+use Rattle.ep_tree.specs.Views.{value_tree, values_from}
+use Rattle.ep_tree.specs.declared.values.Value.{Value}
+use Rattle.ep_eval.specs.Helds.{held_value}
+use Rattle.ep_eval.specs.declared.held.Held.{Held}
+use Rattle.ep_eval.specs.declared.held.Held.TheVariants.{Number as HeldNumber}
+use Rattle.ep_size.specs.Extents.{fixed_grid, grid_of, span_of}
+use Rattle.ep_size.specs.Hulls.{Hulls}
+use Rattle.ep_size.specs.declared.errors.SizeError.{SizeError}
+use Rattle.ep_size.specs.declared.extents.Extent.{Extent}
+use Rattle.ep_size.specs.declared.extents.Extent.TheVariants.{Fixed}
+use Rattle.ep_size.specs.declared.extents.Span.{Span as OneSpan}
+use Rattle.ep_size.specs.declared.hulls.Hulled.{Hulled}
+use Rattle.ep_size.specs.Indices.{keeps_all, measured_of}
+use Rattle.ep_size.specs.declared.reading.Indexed.{Indexed}
+
+-- the scalars that indices leave of some values
+abbrev pub left_parts : List MeasuredIndex → List Value → List Span
+left_parts ms vs = flat_map scalars_of (flat_map (parts_left ms) (map (λ v. fixed_grid (value_tree v)) vs))
+
+listed_fixed : (vs : List Value) → listed_values (map_grids (λ n. fixed_span (Some n)) (values_from vs)) ≡ map (λ v. fixed_grid (value_tree v)) vs
+unfolding listed_values map_grids values_from
+listed_fixed [] = refl
+listed_fixed (v ∷ vs) = ap (λ l. fixed_grid (value_tree v) ∷ l) (listed_fixed vs)
+
+-- an index that leaves each part of a matrix
+pub matrix_kept : (i : MeasuredIndex) (ms : List MeasuredIndex) (own : List ℤ) (vs : List Value) → keeps_all i ≡ true
+    → flat_map scalars_of (parts_left (i ∷ ms) (fixed_grid (matrix own (values_from vs)))) ≡ left_parts ms vs
+unfolding parts_left left_by keeps_all map_grid
+matrix_kept (fixed_index n) ms own vs h = absurd cc
+matrix_kept whole_index ms own vs h = ap (λ l. flat_map scalars_of (flat_map (parts_left ms) l)) (listed_fixed vs)
+matrix_kept (decided_index s) ms own vs h = ap (λ l. flat_map scalars_of (flat_map (parts_left ms) l)) (listed_fixed vs)
+
+pub number_kept : (i : MeasuredIndex) (ms : List MeasuredIndex) (n : ℤ) → flat_map scalars_of (parts_left (i ∷ ms) (fixed_grid (single n))) ≡ []
+unfolding parts_left map_grid
+number_kept i ms n = refl
+
+pub left_part : (ms : List MeasuredIndex) (v : Value) (rest : List Value)
+    → left_parts ms (v ∷ rest) ≡ flat_map scalars_of (parts_left ms (fixed_grid (value_tree v))) ++ left_parts ms rest
+left_part ms v rest =
+    flat_map-append scalars_of (parts_left ms (fixed_grid (value_tree v))) (flat_map (parts_left ms) (map (λ w. fixed_grid (value_tree w)) rest))
+
+pub left_none : (ms : List MeasuredIndex) → left_parts ms [] ≡ []
+left_none ms = refl
+
+pub whole_left : (is : List Indexed) (g : Grid Span) → is ≡ [] → scalars_of g ≡ flat_map scalars_of (parts_left (map measured_of is) g)
+unfolding parts_left
+whole_left is g none =
+    sym (append-nil (scalars_of g)) ∙ ap (λ l. flat_map scalars_of (parts_left (map measured_of l) g)) (sym none)
+
+-- ---- what is held
+
+pub number_held : (t : Hulled) (ms : List MeasuredIndex) (h : Held) (n : ℤ) (s : OneSpan) → h ≡ HeldNumber n → span_of s ≡ fixed_span (Some n)
+    → Hulls t (flat_map scalars_of (parts_left ms (single (span_of s)))) → Hulls t (flat_map scalars_of (parts_left ms (fixed_grid (held_value h))))
+unfolding held_value map_grid
+number_held t ms h n s is same left =
+    subst (λ v. Hulls t (flat_map scalars_of (parts_left ms (fixed_grid (held_value v))))) (sym is)
+    (subst (λ c. Hulls t (flat_map scalars_of (parts_left ms (single c)))) same left)
+
+pub gives_held : (r : Result Hulled SizeError) (ms : List MeasuredIndex) (h : Held) (g : ValueTree) → held_value h ≡ g
+    → IfOk r (λ t. Hulls t (flat_map scalars_of (parts_left ms (fixed_grid g)))) → IfOk r (λ t. Hulls t (flat_map scalars_of (parts_left ms (fixed_grid (held_value h)))))
+gives_held r ms h g same left = subst (λ v. IfOk r (λ t. Hulls t (flat_map scalars_of (parts_left ms (fixed_grid v))))) (sym same) left
+
+pub gives_fixed : (r : Result Hulled SizeError) (ms : List MeasuredIndex) (x : Extent) (h : Held) → x ≡ Fixed h
+    → IfOk r (λ t. Hulls t (flat_map scalars_of (parts_left ms (fixed_grid (held_value h))))) → IfOk r (λ t. Hulls t (flat_map scalars_of (parts_left ms (grid_of x))))
+unfolding grid_of
+gives_fixed r ms x h is left = subst (λ y. IfOk r (λ t. Hulls t (flat_map scalars_of (parts_left ms (grid_of y))))) (sym is) left

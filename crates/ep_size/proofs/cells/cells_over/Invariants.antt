@@ -1,0 +1,10 @@
+use Rattle.std.proofs.Common.{◌≡◌, ◌*◌, ◌≤◌, drop}
+use Rattle.ep_tree.specs.Solutions.{cell_count}
+use Rattle.ep_size.specs.Totals.{MOST_TOLD, capped}
+use Rattle.ep_size.proofs.cells.cells_over.Given as goal
+
+abbrev pub invariant-loop-set : goal.invariant-loop-set
+invariant-loop-set l = record {
+  whole : capped (l.cells * cell_count (drop l.set-index l.indices)) ≡ capped (cell_count l.indices);
+  told : l.cells ≤ MOST_TOLD;
+}

@@ -1,0 +1,6 @@
+use Rattle.std.proofs.Common.{refl}
+use Rattle.ep_size.proofs.FoldSteps.{chooses_none}
+use Rattle.ep_size.proofs.folds.Chosen.new.Goals as goal
+
+pub returns : goal.returns
+returns c step = chooses_none step _ refl refl refl

@@ -1,0 +1,7 @@
+use Rattle.std.proofs.Common.{refl}
+use Rattle.ep_base.specs.Intervals.{product_interval}
+use Rattle.ep_size.proofs.FoldSteps.{multiplies_none}
+use Rattle.ep_size.proofs.folds.Multiplied.new.Goals as goal
+
+pub returns : goal.returns
+returns c = multiplies_none _ refl (c.new.ensures product_interval)

@@ -1,0 +1,20 @@
+use Rattle.std.proofs.Common.{sym, ap, ◌∙◌}
+use Rattle.std.proofs.lemmas.Result.{err_from_is_err_and}
+use Rattle.ep_base.specs.Intervals.{product_interval}
+use Rattle.ep_size.proofs.FoldSteps.{multiplies_more, multiplies_same, product_refused}
+use Rattle.ep_size.specs.Folds.{is_far_reach}
+use Rattle.ep_size.specs.Spans.{wide_of}
+use Rattle.ep_size.proofs.folds.Multiplied.with.Goals as goal
+
+pub returns-in_err-whole-clause-refused : goal.returns-in_err-whole-clause-refused
+returns-in_err-whole-clause-refused c =
+    let p = err_from_is_err_and c.from_residual.result c.from_residual.ensures.1 in
+    rw (p.1, p.2)
+    (λ spans rest h. product_refused c.args.self spans rest c.args.span c.in_err-whole.field-0.0 (wide_of c.product.result) c.product.ensures c.in_err-whole.ensures h)
+
+pub returns-clause-added : goal.returns-clause-added
+returns-clause-added c spans h =
+    let k = c.in_ok-whole.ensures in
+    multiplies_more c.args.self _ spans c.args.span h (k.0 ∙ c.product.ensures) (ap is_far_reach (sym c.product.ensures) ∙ k.1)
+    (c.with.ensures product_interval spans h.weighed
+    (λ some. k.0 ∙ c.product.ensures ∙ multiplies_same c.args.self spans _ h some))

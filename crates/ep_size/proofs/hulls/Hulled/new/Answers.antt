@@ -1,0 +1,6 @@
+use Rattle.std.proofs.Common.{refl}
+use Rattle.ep_size.proofs.HullSteps.{hulls_none}
+use Rattle.ep_size.proofs.hulls.Hulled.new.Goals as goal
+
+pub returns : goal.returns
+returns c = hulls_none _ refl refl

@@ -1,0 +1,6 @@
+use Rattle.std.proofs.Common.{◌≡◌, ◌+◌, drop, length}
+use Rattle.ep_base.specs.Runs.{numbers}
+use Rattle.ep_size.proofs.named.count_of.Given as goal
+
+abbrev pub invariant-loop-run : goal.invariant-loop-run
+invariant-loop-run l = l.count + length (numbers (drop l.run-index l.run-items)) ≡ length l.set

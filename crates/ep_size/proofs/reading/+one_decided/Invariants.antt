@@ -1,0 +1,5 @@
+use Rattle.std.proofs.Common.{length}
+use Rattle.ep_size.proofs.reading.+one_decided.Given as goal
+
+abbrev pub decreases-one_decided : goal.decreases-one_decided
+decreases-one_decided l = length l.indices.now

@@ -1,0 +1,25 @@
+use Rattle.std.proofs.Common.{Ok, map, refl, subst, sym, ◌∙◌}
+use Rattle.std.specs.Prelude.{IfSome}
+use Rattle.ep_tree.specs.Trees.{read}
+use Rattle.ep_tree.specs.Values.{filled}
+use Rattle.ep_size.proofs.ListNodes.{lists_finish}
+use Rattle.ep_size.proofs.SliceSteps.{cells_are, cells_listed, slice_node}
+use Rattle.ep_size.specs.Extents.{grid_of, span_of}
+use Rattle.ep_size.specs.Indices.{measured_of}
+use Rattle.ep_size.specs.Slices.{Leaves}
+use Rattle.ep_size.specs.declared.extents.Extent.TheVariants.{Cells}
+use Rattle.ep_size.proofs.slices.slice_node.Goals as goal
+
+pub returns-in-Some-split_first : goal.returns-in-Some-split_first
+unfolding grid_of
+returns-in-Some-split_first c mode env p m is t holds known told typed =
+    let ms = map measured_of c.args.indices.now in
+    let s = c.in-Cells.span in
+    let ds = c.in-Cells.domains in
+    let left = c.in-Some.left in
+    lists_finish mode env (read p m is) (filled (span_of s) left.now) t (Ok (Cells s left))
+    (slice_node mode env p m is ms c.args.ty (span_of s) ds.now left.now _ _ holds told typed
+    (sym c.is_matrix_type-of_matrix.ensures ∙ c.if-not-of_matrix.false)
+    (sym c.one_decided-decided.ensures ∙ c.if-decided.false) (cells_are mode env m c.args.known.now s ds ds.now c.in-Cells.is refl known)
+    (subst (λ o. IfSome o (λ l. Leaves ms ds.now l.now)) c.in-Some.is c.domains_left.ensures) c.in-Some-split_first.ensures.cases.0)
+    (cells_listed s left left.now refl, tt)

@@ -1,0 +1,8 @@
+use Rattle.std.proofs.Common.{◌*◌, ◌≤◌, arith}
+use Rattle.std.proofs.Math.Nat.{mul-le-mul}
+use Rattle.ep_size.proofs.totals.product.Goals as goal
+
+pub overflow_mul-one : goal.overflow_mul-one
+overflow_mul-one c =
+    let most : c.args.one * c.args.other ≤ 20000001 * 20000001 = mul-le-mul c.requires.first c.requires.second in
+    omega (arith, most)

@@ -1,0 +1,162 @@
+//! What is known of a name that stands for a decision variable.
+
+ghost use Rattle.std.specs.Prelude.{◌≡◌, IfOk, Some, length};
+ghost use Rattle.ep_base.specs.declared.places.Place.{Place};
+ghost use Rattle.std.specs.Int.{int_max, int_min};
+ghost use Rattle.ep_base.specs.Intervals as intervals;
+ghost use Rattle.ep_base.specs.Runs.{numbers_in};
+ghost use Rattle.ep_base.specs.declared.names.Name.{Name as EachName};
+ghost use Rattle.ep_tree.specs.Environments as names;
+ghost use Rattle.ep_tree.specs.Reach as defined;
+ghost use Rattle.ep_tree.specs.Trees.{named};
+ghost use Rattle.ep_tree.specs.declared.values.Mode.{Mode as EachMode};
+ghost use Rattle.ep_eval.specs.Bounds.{cells_of};
+ghost use Rattle.ep_eval.specs.Scopes.{env_in, mode_in};
+ghost use Rattle.ep_size.specs.Extents.{span_of};
+ghost use Rattle.ep_size.specs.Finishing.{Finishes};
+ghost use Rattle.ep_size.specs.RunEnds.{greatest_from, least_from};
+ghost use Rattle.ep_size.specs.Spans.{interval_of};
+ghost use Rattle.ep_size.specs.declared.totals.Totals.{Totals as EachTotals};
+
+use super::errors::SizeError;
+use super::extents::{Extent, Span};
+use super::intervals::{Ends, near, widened, width};
+use super::standing::is_quantified;
+use super::totals::Totals;
+use ep_base::{Name, Run, Runs};
+use ep_eval::{NamedDomain, Scope};
+use ep_tree::Scalar;
+
+/// More numbers than there is memory for.
+const MOST_COUNTED: u128 = 1_000_000_000_000_000_000_000_000_000_000;
+
+/// How many numbers a run has.
+#[tactic(auto, unfolding(ep_base::specs::Intervals::width), using(crate::proofs::Caps::run_count))]
+fn count_in(run: Run) -> u128
+    ensures { result ≡ length (numbers_in run) }
+{
+    width(Ends {
+        low: run.lo,
+        high: run.hi,
+    })
+}
+
+/// How many numbers a set has.
+fn count_of(set: &Runs) -> Result<u128, SizeError>
+    ensures { IfOk result (λ count. count ≡ length set.now) }
+{
+    let mut count = 0_u128;
+    for run in set.runs() {
+        let more = count_in(*run);
+        if count > MOST_COUNTED || more > MOST_COUNTED {
+            return Err(SizeError::Memory);
+        }
+        count += more;
+    }
+    Ok(count)
+}
+
+/// From the least number of some numbers and of a run to the greatest.
+fn with_run(ends: Ends, run: Run) -> Ends
+    ensures low { result.low ≡ int_min ends.low run.lo }
+    ensures high { result.high ≡ int_max ends.high run.hi }
+{
+    Ends {
+        low: ends.low.min(run.lo),
+        high: ends.high.max(run.hi),
+    }
+}
+
+/// From the least number of a run and of some others to the greatest.
+fn ends_from(first: Run, runs: &[Run]) -> Ends
+    ensures low { result.low ≡ least_from first.lo runs.now }
+    ensures high { result.high ≡ greatest_from first.hi runs.now }
+{
+    let mut ends = Ends {
+        low: first.lo,
+        high: first.hi,
+    };
+    for run in runs {
+        ends = with_run(ends, *run);
+    }
+    ends
+}
+
+/// From the least number of a set to the greatest.
+fn ends_of(set: &Runs) -> Ends
+    ensures { interval_of result ≡ intervals.spanned set.now }
+{
+    let runs = set.runs();
+    match runs.split_first() {
+        Some((first, _)) => ends_from(*first, runs),
+        None => Ends { low: 0, high: 0 },
+    }
+}
+
+/// The reach of a cell.
+#[tactic(auto, unfolding(ep_tree::specs::Reach::cell_reach))]
+fn cell_reach(of: Scalar, values: &Runs) -> Ends
+    ensures { interval_of result ≡ defined.cell_reach of values.now }
+{
+    match of {
+        Scalar::Bool => Ends { low: 0, high: 1 },
+        Scalar::Int => ends_of(values),
+    }
+}
+
+/// What is known of each cell of a decision variable.
+#[tactic(auto, unfolding(ep_tree::specs::Reach::cell_span))]
+fn cell_span(domain: &NamedDomain) -> Result<Span, SizeError>
+    ensures { IfOk result (λ span. span_of span ≡ defined.cell_span domain.now.of domain.now.values) }
+{
+    let spread = count_of(&domain.values)?;
+    let reach = cell_reach(domain.of, &domain.values);
+    Ok(Span {
+        reach,
+        spread,
+        decided: true,
+    })
+}
+
+/// What is known of the cells of a decision variable, by what is known of each.
+fn cells_with(domain: &NamedDomain, span: Span) -> Result<Extent<'_>, SizeError>
+    ensures { (mode : EachMode) → (env : names.Env) → (name : EachName) → (p : Place) → (t : EachTotals)
+        → env name ≡ Some (cells_of domain.now) → span_of span ≡ defined.cell_span domain.now.of domain.now.values
+        → Finishes mode env (named p name) t t result }
+{
+    match domain.indices.as_slice().split_first() {
+        Some(_) => Ok(Extent::Cells(span, &domain.indices)),
+        None => match near(widened(span.reach)) {
+            Ok(_) => Ok(Extent::Number(span)),
+            Err(refused) => Err(refused),
+        },
+    }
+}
+
+/// What is known of the cells of a decision variable.
+fn cells_node(domain: &NamedDomain) -> Result<Extent<'_>, SizeError>
+    ensures { (mode : EachMode) → (env : names.Env) → (name : EachName) → (p : Place) → (t : EachTotals)
+        → env name ≡ Some (cells_of domain.now) → Finishes mode env (named p name) t t result }
+{
+    match cell_span(domain) {
+        Ok(span) => cells_with(domain, span),
+        Err(_) => Err(SizeError::Memory),
+    }
+}
+
+/// What is known of a name that stands for a decision variable.
+pub fn named_node<'a>(
+    scope: Scope<'_, 'a>,
+    totals: &mut Totals,
+    name: &Name,
+) -> Result<Extent<'a>, SizeError>
+    ensures { (p : Place) → Finishes (mode_in scope.entry) (env_in scope.entry) (named p name.now) totals.old totals.new result }
+{
+    if is_quantified(scope.around, name) {
+        return Err(SizeError::Memory);
+    }
+    match scope.env.cells(name) {
+        Some(domain) => cells_node(domain),
+        None => Err(SizeError::Memory),
+    }
+}
