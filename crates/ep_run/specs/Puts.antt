@@ -19,7 +19,8 @@ NameFile words name = (wanted : Wanted) × Want words wanted × Contains (files_
 abbrev pub device_line : List ℕ → List ℕ
 device_line name = refusal_text (Refusal.CannotRead name)
 
--- A read of a file that the words name failed: without this file the words would be refused by its line.
+-- A read of a file that the words name failed: without this file the words would be refused by its line. Which of several
+-- files that are read it was, the counts of faults don't tell.
 abbrev pub IsFailedRead : List (List ℕ) → Option Held → List ℕ → Type 0
 IsFailedRead words told name =
     NameFile words name × IfSome told (λ held. Refuse words (without name held) (Refusal.CannotRead name))

@@ -1,7 +1,7 @@
 -- What a command over held files shows: the task with what it needs, or the refusals of the first step that refuses.
 --
--- The words come first, then each file in its turn, then what is wrong in the texts, in the instance and in the solution.
--- This order is the project's own choice.
+-- The words come first, then each file in its turn, with its tokens and its grammar before the next one is read; then the
+-- names and types of the texts, the instance, and the values of the solution. This order is the project's own choice.
 use Rattle.std.specs.Prelude.{◌≡◌, ◌⊎◌, ℕ, List, [], ◌∷◌, Option, Result, Ok, Err, Contains}
 use Rattle.ep_base.specs.Outside.{Held}
 use Rattle.ep_tree.specs.Statements.{TextTree}

@@ -18,3 +18,6 @@ mod wanted;
 
 pub use status::Status;
 pub use top::run;
+
+#[cfg(test)]
+mod tests;

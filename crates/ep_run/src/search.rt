@@ -9,7 +9,7 @@ ghost use Rattle.ep_tree.specs.Trees.{ExprTree};
 ghost use Rattle.ep_tree.specs.Views.{assigned};
 ghost use Rattle.ep_tree.specs.declared.values.Mode.{Mode};
 ghost use Rattle.ep_instance.specs.Instances.{instance_of as plain_instance, mode_of};
-ghost use Rattle.ep_instance.specs.Judgements.{judgement_of};
+ghost use Rattle.ep_instance.specs.Judgements.{IsJudgeOf, judgement_of};
 ghost use Rattle.ep_print.specs.Answers.{HasTypedValues, answer_tree};
 ghost use Rattle.ep_run.specs.Answers.{IsRight};
 ghost use Rattle.ep_run.specs.Candidates.{IsBest, IsNumbered, IsSolving, judgement_at, objective_of, solves};
@@ -17,7 +17,7 @@ ghost use Rattle.ep_run.specs.Outcomes.{assignment_count};
 
 use super::candidates::{assignment_at, set_values};
 use ep_base::{Memory, Sense};
-use ep_instance::{Instance, Judgement, is_solution};
+use ep_instance::{Instance, Judge, Judgement};
 use ep_print::Answer;
 use ep_tree::Assignment;
 use std::alloc::Global;
@@ -89,9 +89,10 @@ fn first_solution(alloc: Global, instance: &Instance, count: u64) -> Result<Opti
     requires all { count ≡ assignment_count (plain_instance instance.now) }
     ensures { IfOk result (IsSolving (plain_instance instance.now) count) }
 {
+    let mut judge = Judge::new(alloc, instance)?;
     let mut candidate = assignment_at(alloc, instance.finds(), 0)?;
     for number in 0..count {
-        let judgement = judged(alloc, instance, number, &mut candidate)?;
+        let judgement = judged(alloc, instance, &mut judge, number, &mut candidate)?;
         if solves(&judgement) {
             return Ok(Some(number));
         }
@@ -112,10 +113,11 @@ fn best_solution(
     requires all { count ≡ assignment_count (plain_instance instance.now) }
     ensures { IfOk result (IsBest (plain_instance instance.now) sense count) }
 {
+    let mut judge = Judge::new(alloc, instance)?;
     let mut candidate = assignment_at(alloc, instance.finds(), 0)?;
     let mut best = None;
     for number in 0..count {
-        let judgement = judged(alloc, instance, number, &mut candidate)?;
+        let judgement = judged(alloc, instance, &mut judge, number, &mut candidate)?;
         best = better(sense, best, objective_of(&judgement), number);
     }
     Ok(best)
@@ -125,6 +127,7 @@ fn best_solution(
 fn judged(
     alloc: Global,
     instance: &Instance,
+    judge: &mut Judge,
     number: u64,
     candidate: &mut Assignment,
 ) -> Result<Judgement, Memory>
@@ -133,13 +136,15 @@ fn judged(
     requires within { instance_limits Mode.Relational (plain_instance instance.now) ≡ [] }
     requires below { number < assignment_count (plain_instance instance.now) }
     requires numbered { IsNumbered (plain_instance instance.now).finds (assigned candidate.old) }
+    requires own { IsJudgeOf (mode_of instance.now) (plain_instance instance.now) judge.old }
     ensures judged { IfOk result (λ j.
         judgement_of j ≡ judgement_at (plain_instance instance.now) number) }
+    ensures own { IsJudgeOf (mode_of instance.now) (plain_instance instance.now) judge.new }
     ensures numbered { OnOk result
         (IsNumbered (plain_instance instance.now).finds (assigned candidate.new)) }
 {
     set_values(alloc, instance.finds(), number, &mut candidate.entries)?;
-    is_solution(alloc, instance, candidate)
+    judge.judge(instance, candidate)
 }
 
 /// Whether a judgement says that an assignment is a solution.

@@ -20,14 +20,14 @@ set_values-requires c =
           ∙ sym (ap (λ fs. assignment_at fs numbered.0) c.finds.ensures),
     )
 
-pub is_solution-requires-clause-small : goal.is_solution-requires-clause-small
-is_solution-requires-clause-small c =
+pub judge-requires-clause-small : goal.judge-requires-clause-small
+judge-requires-clause-small c =
     let i = plain_instance c.args.instance.now in
     let P : Mode → Type 0 = λ m. IsWithinLimits m i in
     subst P (sym c.requires.mode) (within-limits Mode.Relational i c.requires.within)
 
-pub is_solution-requires-clause-fits : goal.is_solution-requires-clause-fits
-is_solution-requires-clause-fits c =
+pub judge-requires-clause-fits : goal.judge-requires-clause-fits
+judge-requires-clause-fits c =
     let i = plain_instance c.args.instance.now in
     let a : Assignment = record { entries = with_items c.args.candidate.now.entries c.set_values.new.entries } in
     let same : assigned a ≡ assignment_at i.finds c.args.number =
@@ -44,8 +44,8 @@ returns-clause-judged c =
     ap (map named_value) (with_items_is c.args.candidate.now.entries c.set_values.new.entries (omega arith))
     ∙ c.in_ok-set_values.ensures
     ∙ ap (λ fs. assignment_at fs c.args.number) c.finds.ensures in
-    judged-at c.is_solution.result (mode_of c.args.instance.now) i (assigned a) (found_at i c.args.number) c.requires.mode
-    (fits-at i (assigned a) c.args.number c.requires.closed c.requires.below same) c.is_solution.ensures
+    judged-at c.judge.result (mode_of c.args.instance.now) i (assigned a) (found_at i c.args.number) c.requires.mode
+    (fits-at i (assigned a) c.args.number c.requires.closed c.requires.below same) c.judge.ensures.judgement
 
 pub returns-clause-numbered : goal.returns-clause-numbered
 returns-clause-numbered c =
@@ -55,4 +55,10 @@ returns-clause-numbered c =
     ap (map named_value) (with_items_is c.args.candidate.now.entries c.set_values.new.entries (omega arith))
     ∙ c.in_ok-set_values.ensures
     ∙ ap (λ fs. assignment_at fs c.args.number) c.finds.ensures in
-    ok-anyway (IsNumbered i.finds (assigned a)) c.is_solution.result (c.args.number, same)
+    ok-anyway (IsNumbered i.finds (assigned a)) c.judge.result (c.args.number, same)
+
+pub judge-requires-clause-own : goal.judge-requires-clause-own
+judge-requires-clause-own c = c.requires.own
+
+pub returns-clause-own : goal.returns-clause-own
+returns-clause-own c = c.judge.ensures.own
