@@ -154,7 +154,8 @@ fn operation(alloc: Global, op: SetOp, one: &Runs, other: &Runs) -> Result<Runs,
     Ok(set)
 }
 
-/// The numbers of an operation on two sets, where both are there.
+/// The numbers of an operation on two sets, where both are there. Intersection and difference take time in the product
+/// of the two numbers of runs.
 #[tactic(auto, unfolding(ep_tree::specs::Evaluation::map_both))]
 pub fn set_operation(
     alloc: Global,
