@@ -8,3 +8,4 @@ pub mod Saying
 pub mod Counting
 pub mod Growing
 pub mod GoingOn
+pub mod Noting

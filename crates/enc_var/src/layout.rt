@@ -9,6 +9,7 @@ ghost use Rattle.enc_var.specs.Layouts.{HasFreeChoice, GoesOn, IsLayoutOf, liter
 ghost use Rattle.enc_var.specs.Notes.{cell_notes};
 
 use crate::known::Known;
+use crate::notes::notes_of_cells;
 use crate::variables::Variable;
 use cnf_core::{CellNote, Formula};
 use ep_base::{Memory, Runs};
@@ -85,7 +86,7 @@ impl Layout {
     /// says that the cell has the value.
     pub fn notes(
         &self,
-        _alloc: Global,
+        alloc: Global,
         cells: &[Cell],
         cell_map: &CellMap,
     ) -> Result<Vec<CellNote>, Memory>
@@ -94,10 +95,8 @@ impl Layout {
         ensures { IfOk result (λ notes. map plain_note notes.items
             ≡ cell_notes self.now cells.now (plain_map cell_map.now).cells) }
     {
-        let _variables = &self.variables;
-        let _cells = cells;
-        let _map = cell_map;
-        Err(Memory)
+        let notes = notes_of_cells(alloc, &self.variables, cells, &cell_map.cells)?;
+        Ok(notes)
     }
 
     /// The domain of a variable.

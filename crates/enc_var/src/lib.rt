@@ -7,6 +7,7 @@ mod known;
 mod laws;
 mod layout;
 mod listing;
+mod notes;
 mod variables;
 
 pub use known::Known;

@@ -101,7 +101,14 @@ impl Variable {
         place_literal(self.first, self.values.len() as u64, place)
     }
 
-    /// The values that it may have.
+    /// The values that it may have, in ascending order.
+    pub(crate) fn values(&self) -> &[i64]
+        ensures { result.now ≡ self.now.domain }
+    {
+        &self.values
+    }
+
+    /// The set of the values that it may have.
     pub fn domain(&self) -> &Runs
         ensures { result.now ≡ self.now.domain }
     {
