@@ -1,0 +1,4 @@
+pub mod Decoded
+pub mod Adding
+pub mod Gathering
+pub mod Holding
