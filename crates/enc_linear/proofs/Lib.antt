@@ -1,0 +1,9 @@
+pub mod Turns
+pub mod Saying
+pub mod Ladders
+pub mod Spreading
+pub mod Families
+pub mod Multiples
+pub mod Parting
+pub mod Totals
+pub mod Summing

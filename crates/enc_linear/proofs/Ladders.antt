@@ -1,0 +1,298 @@
+-- Steps in order: which of them lie before another.
+use Rattle.std.proofs.Common.{◌≡◌, ◌≢◌, ◌⊎◌, inl, inr, ◌↔◌, ℕ, zero, suc, ◌+◌, ◌<◌, ◌≤◌, ℤ, pos, ◌-ℤ◌, ◌<ℤ◌, ◌≤ℤ◌, Bool, true, false, IsTrue, List, [], ◌∷◌, length, map, cond, int_le, int_lt, refl, sym, ap, subst, ◌∙◌, arith, slice_index_or}
+use Rattle.std.specs.Prelude.{Err, IfOk, MatchOption, None, Ok, Option, Result, Some, SomeIff}
+use Rattle.std.specs.List.{All, AllPairs, AllWithin, Contains}
+use Rattle.std.specs.List.Sorted.{IsPartitionedBy}
+use Rattle.std.specs.Ordering.{int_eq}
+use Rattle.std.proofs.lemmas.Bool.Decides.{Decides-int_eq}
+use Rattle.std.proofs.lemmas.Int.{ints}
+use Rattle.std.proofs.lemmas.List.Elements.{All-contains}
+use Rattle.cnf_core.proofs.Members.{All-from_contains}
+use Rattle.enc_atoms.specs.Atoms.{AreOfDomains, atom_holds, test_holds}
+use Rattle.enc_atoms.specs.declared.atoms.Atom.{Atom}
+use Rattle.enc_atoms.specs.declared.atoms.Test.{Test}
+use Rattle.enc_atoms.proofs.Decoded.{number_among}
+use Rattle.enc_linear.specs.declared.terms.Step.{Step}
+use Rattle.enc_linear.specs.declared.terms.Term.{Term}
+use Rattle.enc_linear.proofs.Saying.{negated}
+use Rattle.enc_linear.specs.Terms.{AreInOrder, IsOrdered, IsTermOf, Says, worth_at, worth_of}
+use Rattle.enc_var.proofs.Counts.{is_at_most, is_below}
+use Rattle.enc_var.specs.Decoding.{VariableLiterals}
+use Rattle.ep_flat.specs.Cons.{number_at}
+
+by_places : {P : Type 0} (i j : ℕ) → (i < j → P) → (i ≡ j → P) → (j < i → P) → P
+by_places {P} i j less same more = elim (split i j) as (λ _. P) [ inl lt ↦ less lt | inr r ↦ elim r as (λ _. P) [ inl e ↦ same e | inr gt ↦ more gt ] ]
+  where
+    step : (i j : ℕ) → (i < j) ⊎ ((i ≡ j) ⊎ (j < i)) → (suc i < suc j) ⊎ ((suc i ≡ suc j) ⊎ (suc j < suc i))
+    step i j (inl lt) = inl (omega (arith, lt))
+    step i j (inr (inl e)) = inr (inl (ap suc e))
+    step i j (inr (inr gt)) = inr (inr (omega (arith, gt)))
+
+    split : (i j : ℕ) → (i < j) ⊎ ((i ≡ j) ⊎ (j < i))
+    split zero zero = inr (inl refl)
+    split zero (suc j) = inl (omega arith)
+    split (suc i) zero = inr (inr (omega arith))
+    split (suc i) (suc j) = step i j (split i j)
+
+-- of two steps one stands before the other, or they are one
+related : {P : Type 0} (R : Step → Step → Type 0) (xs : List Step) (a b : Step) → AllPairs R xs → Contains xs a → Contains xs b → (R a b → P) → (a ≡ b → P) → (R b a → P) → P
+related R xs a b pairs here there before same behind =
+    by_places here.0 there.0
+    (λ lt. before (subst (λ (y : Step). R a y) there.2 (subst (λ (x : Step). R x (slice_index_or xs there.0 b)) here.2 (at here.0 there.0 lt there.1))))
+    (λ e. same (sym here.2 ∙ read xs here.0 a b here.1 ∙ ap (λ k. slice_index_or xs k b) e ∙ there.2))
+    (λ gt. behind (subst (λ (y : Step). R b y) here.2 (subst (λ (x : Step). R x (slice_index_or xs here.0 a)) there.2 (flip there.0 here.0 gt here.1))))
+  where
+    read : (ys : List Step) (k : ℕ) (d e : Step) → k < length ys → slice_index_or ys k d ≡ slice_index_or ys k e
+    read [] k d e low = absurd (omega (arith, low))
+    read (y ∷ ys) zero d e low = refl
+    read (y ∷ ys) (suc k) d e low = read ys k d e (omega (arith, low))
+
+    at : (i j : ℕ) → i < j → j < length xs → R (slice_index_or xs i a) (slice_index_or xs j b)
+    at i j lt low = subst (λ (y : Step). R (slice_index_or xs i a) y) (read xs j a b low) (pairs i j a lt low)
+
+    flip : (i j : ℕ) → i < j → j < length xs → R (slice_index_or xs i b) (slice_index_or xs j a)
+    flip i j lt low = subst (λ (y : Step). R (slice_index_or xs i b) y) (read xs j b a low) (pairs i j b lt low)
+
+-- where numbers and worths rise, one worth is below another exactly where its number is
+pub rises : (xs : List Step) (a b : Step) → AllPairs (AreInOrder true) xs → Contains xs a → Contains xs b → (a.value <ℤ b.value) ↔ (a.worth <ℤ b.worth)
+rises xs a b pairs here there =
+    related (AreInOrder true) xs a b pairs here there
+    (λ h. (λ low. h.1, λ low. h.0))
+    (λ e.
+    let v : a.value ≡ b.value = ap (λ (x : Step). x.value) e in
+    let w : a.worth ≡ b.worth = ap (λ (x : Step). x.worth) e in
+    (λ low. absurd (omega (arith, ints, low, v)), λ low. absurd (omega (arith, ints, low, w))))
+    (λ h. (λ low. absurd (omega (arith, ints, low, h.0)), λ low. absurd (omega (arith, ints, low, h.1))))
+
+-- where worths fall, one is below another exactly where its number is above
+pub falls : (xs : List Step) (a b : Step) → AllPairs (AreInOrder false) xs → Contains xs a → Contains xs b → (b.value <ℤ a.value) ↔ (a.worth <ℤ b.worth)
+falls xs a b pairs here there =
+    related (AreInOrder false) xs a b pairs here there
+    (λ h. (λ low. absurd (omega (arith, ints, low, h.0)), λ low. absurd (omega (arith, ints, low, h.1))))
+    (λ e.
+    let v : a.value ≡ b.value = ap (λ (x : Step). x.value) e in
+    let w : a.worth ≡ b.worth = ap (λ (x : Step). x.worth) e in
+    (λ low. absurd (omega (arith, ints, low, v)), λ low. absurd (omega (arith, ints, low, w))))
+    (λ h. (λ low. h.1, λ low. h.0))
+
+-- what a checked difference gives
+pub gives : (r : Option ℤ) (P : Type 0) (v b : ℤ) → SomeIff r P v → r ≡ Some b → b ≡ v
+gives r P v b h e = (subst (λ o. SomeIff o P v) e h).1
+
+pub tests_at_most : (v x : ℤ) → IsTrue (test_holds Test.AtMost v x) ↔ (x ≤ℤ v)
+unfolding test_holds
+tests_at_most v x = (λ h. omega (arith, ints, h), λ h. is_at_most x v h)
+
+pub tests_above : (v x : ℤ) → IsTrue (test_holds Test.Above v x) ↔ (v <ℤ x)
+unfolding test_holds
+tests_above v x = (λ h. omega (arith, ints, h), λ h. is_below v x h)
+
+pub tests_is_not : (v x : ℤ) → IsTrue (test_holds Test.IsNot v x) ↔ (x ≢ v)
+unfolding test_holds
+tests_is_not v x = negated (int_eq x v) (x ≡ v) (Decides-int_eq x v)
+
+-- "less than at this step", where worths rise
+pub less_rising : (term : Term) (step : Step) (atom : Atom) (v : ℕ) (below : ℤ) → term.rising ≡ true → IsOrdered term → Contains term.steps.items step
+    → atom ≡ record { var = v; test = Test.AtMost; value = below } → v ≡ term.var → below ≡ step.value -ℤ pos 1 → Says term atom (λ worth. worth <ℤ step.worth)
+less_rising term step atom v below rising ordered there made of_var is =
+    let pairs : AllPairs (AreInOrder true) term.steps.items = subst (λ (b : Bool). AllPairs (AreInOrder b) term.steps.items) rising ordered in
+    subst (λ (a : Atom). Says term a (λ worth. worth <ℤ step.worth)) (sym made)
+    (record {
+      var = of_var;
+      tells = All-from_contains (λ (other : Step). IsTrue (test_holds Test.AtMost below other.value) ↔ (other.worth <ℤ step.worth)) term.steps.items
+          (λ other here. let r = rises term.steps.items other step pairs here there in
+          let t = tests_at_most below other.value in (
+            λ h. let low : other.value ≤ℤ below = t.0 h in r.0 (omega (arith, ints, low, is)),
+            λ w. let low : other.value <ℤ step.value = r.1 w in t.1 (omega (arith, ints, low, is)),
+          ));
+    })
+
+-- "less than at this step", where worths fall
+pub less_falling : (term : Term) (step : Step) (atom : Atom) (v : ℕ) (at : ℤ) → term.rising ≡ false → IsOrdered term → Contains term.steps.items step
+    → atom ≡ record { var = v; test = Test.Above; value = at } → v ≡ term.var → at ≡ step.value → Says term atom (λ worth. worth <ℤ step.worth)
+less_falling term step atom v at falling ordered there made of_var is =
+    let pairs : AllPairs (AreInOrder false) term.steps.items = subst (λ (b : Bool). AllPairs (AreInOrder b) term.steps.items) falling ordered in
+    subst (λ (a : Atom). Says term a (λ worth. worth <ℤ step.worth)) (sym made)
+    (record {
+      var = of_var;
+      tells = All-from_contains (λ (other : Step). IsTrue (test_holds Test.Above at other.value) ↔ (other.worth <ℤ step.worth)) term.steps.items
+          (λ other here. let r = falls term.steps.items other step pairs here there in
+          let t = tests_above at other.value in (
+            λ h. let above : at <ℤ other.value = t.0 h in r.0 (omega (arith, ints, above, is)),
+            λ w. let above : step.value <ℤ other.value = r.1 w in t.1 (omega (arith, ints, above, is)),
+          ));
+    })
+
+read_any : (ys : List Step) (k : ℕ) (d e : Step) → k < length ys → slice_index_or ys k d ≡ slice_index_or ys k e
+read_any [] k d e low = absurd (omega (arith, low))
+read_any (y ∷ ys) zero d e low = refl
+read_any (y ∷ ys) (suc k) d e low = read_any ys k d e (omega (arith, low))
+
+-- bounds on worths, with the number in other words
+pub within_same : (xs : List Step) (m most : ℤ) (i n : ℕ) → AllWithin (λ (step : Step). step.worth ≤ℤ m) xs i n → m ≡ most → AllWithin (λ (step : Step). step.worth ≤ℤ most) xs i n
+within_same xs m most i n h e = subst (λ (b : ℤ). AllWithin (λ (step : Step). step.worth ≤ℤ b) xs i n) e h
+
+pub above_same : (xs : List Step) (m most : ℤ) (i n : ℕ) → AllWithin (λ (step : Step). m <ℤ step.worth) xs i n → m ≡ most → AllWithin (λ (step : Step). most <ℤ step.worth) xs i n
+above_same xs m most i n h e = subst (λ (b : ℤ). AllWithin (λ (step : Step). b <ℤ step.worth) xs i n) e h
+
+-- "at most so much", where worths rise
+pub up_rising : (xs : List Step) (count n : ℕ) (most v : ℤ) (w : ℕ) (first : Step) (atom : Atom) → AllPairs (AreInOrder true) xs → count ≤ length xs → n + 1 ≡ count
+    → AllWithin (λ step. step.worth ≤ℤ most) xs 0 count → AllWithin (λ step. most <ℤ step.worth) xs count (length xs) → atom ≡ record { var = w; test = Test.AtMost; value = v } → v ≡ (slice_index_or xs n first).value
+    → (atom.var ≡ w) × All (λ step. IsTrue (test_holds atom.test atom.value step.value) ↔ (step.worth ≤ℤ most)) xs
+up_rising xs count n most v w first atom pairs within next before behind made is =
+    subst (λ (a : Atom). (a.var ≡ w) × All (λ step. IsTrue (test_holds a.test a.value step.value) ↔ (step.worth ≤ℤ most)) xs) (sym made) (refl, each)
+  where
+    each : (k : ℕ) (d : Step) → k < length xs → IsTrue (test_holds Test.AtMost v (slice_index_or xs k d).value) ↔ ((slice_index_or xs k d).worth ≤ℤ most)
+    each k d low =
+        let here : Step = slice_index_or xs k d in
+        let t = tests_at_most v here.value in
+        let value : v ≡ (slice_index_or xs n d).value = is ∙ ap (λ (x : Step). x.value) (read_any xs n first d (omega arith)) in
+        by_places k n
+        (λ lt.
+        let order = (pairs k n d lt (omega arith)).0 in
+        let worth = before k d (omega arith) (omega arith) in
+        (λ h. worth, λ h. t.1 (omega (arith, ints, order, value))))
+        (λ e.
+        let worth = before k d (omega arith) (omega arith) in
+        let there : here.value ≡ (slice_index_or xs n d).value = ap (λ j. (slice_index_or xs j d).value) e in
+        (λ h. worth, λ h. t.1 (omega (arith, ints, there, value))))
+        (λ gt.
+        let order = (pairs n k d gt low).0 in
+        let worth = behind k d (omega arith) low in
+        (λ h. let below : here.value ≤ℤ v = t.0 h in absurd (omega (arith, ints, below, order, value)), λ h. absurd (omega (arith, ints, h, worth))))
+
+-- "at most so much", where worths fall
+pub up_falling : (xs : List Step) (count : ℕ) (most v : ℤ) (w : ℕ) (first : Step) (atom : Atom) → AllPairs (AreInOrder false) xs → count < length xs
+    → AllWithin (λ step. most <ℤ step.worth) xs 0 count → AllWithin (λ step. step.worth ≤ℤ most) xs count (length xs) → atom ≡ record { var = w; test = Test.Above; value = v } → v ≡ (slice_index_or xs count first).value -ℤ pos 1
+    → (atom.var ≡ w) × All (λ step. IsTrue (test_holds atom.test atom.value step.value) ↔ (step.worth ≤ℤ most)) xs
+up_falling xs count most v w first atom pairs within before behind made is =
+    subst (λ (a : Atom). (a.var ≡ w) × All (λ step. IsTrue (test_holds a.test a.value step.value) ↔ (step.worth ≤ℤ most)) xs) (sym made) (refl, each)
+  where
+    each : (k : ℕ) (d : Step) → k < length xs → IsTrue (test_holds Test.Above v (slice_index_or xs k d).value) ↔ ((slice_index_or xs k d).worth ≤ℤ most)
+    each k d low =
+        let here : Step = slice_index_or xs k d in
+        let t = tests_above v here.value in
+        let same : (slice_index_or xs count first).value ≡ (slice_index_or xs count d).value = ap (λ (x : Step). x.value) (read_any xs count first d within) in
+        by_places k count
+        (λ lt.
+        let order = (pairs k count d lt within).0 in
+        let worth = before k d (omega arith) lt in
+        (λ h. let above : v <ℤ here.value = t.0 h in absurd (omega (arith, ints, above, order, same, is)), λ h. absurd (omega (arith, ints, h, worth))))
+        (λ e.
+        let worth = behind k d (omega arith) low in
+        let there : here.value ≡ (slice_index_or xs count d).value = ap (λ j. (slice_index_or xs j d).value) e in
+        (λ h. worth, λ h. t.1 (omega (arith, ints, there, same, is))))
+        (λ gt.
+        let order = (pairs count k d gt low).0 in
+        let worth = behind k d (omega arith) low in
+        (λ h. worth, λ h. t.1 (omega (arith, ints, order, same, is))))
+
+-- the first steps pass a test of worths that rise
+pub parted_rising : (xs : List Step) (most : ℤ) → AllPairs (AreInOrder true) xs → IsPartitionedBy (λ (step : Step). int_le step.worth most) xs
+parted_rising xs most pairs i j d le low holds =
+    by_places i j
+    (λ lt. let order = (pairs i j d lt low).1 in is_at_most (slice_index_or xs i d).worth most (omega (arith, ints, order, holds)))
+    (λ e. subst (λ k. int_le (slice_index_or xs k d).worth most ≡ true) (sym e) holds)
+    (λ gt. absurd (omega arith))
+
+-- the first steps pass a test of worths that fall
+pub parted_falling : (xs : List Step) (most : ℤ) → AllPairs (AreInOrder false) xs → IsPartitionedBy (λ (step : Step). int_lt most step.worth) xs
+parted_falling xs most pairs i j d le low holds =
+    by_places i j
+    (λ lt. let order = (pairs i j d lt low).1 in is_below most (slice_index_or xs i d).worth (omega (arith, ints, order, holds)))
+    (λ e. subst (λ k. int_lt most (slice_index_or xs k d).worth ≡ true) (sym e) holds)
+    (λ gt. absurd (omega arith))
+
+-- the tests' answers as orders
+pub within_at_most : (xs : List Step) (most : ℤ) (i n : ℕ) → AllWithin (λ (step : Step). int_le step.worth most ≡ true) xs i n → AllWithin (λ (step : Step). step.worth ≤ℤ most) xs i n
+within_at_most xs most i n h k d low high = let e = h k d low high in omega (arith, ints, e)
+
+pub within_above : (xs : List Step) (most : ℤ) (i n : ℕ) → AllWithin (λ (step : Step). int_le step.worth most ≡ false) xs i n → AllWithin (λ (step : Step). most <ℤ step.worth) xs i n
+within_above xs most i n h k d low high = let e = h k d low high in omega (arith, ints, e)
+
+pub within_more : (xs : List Step) (most : ℤ) (i n : ℕ) → AllWithin (λ (step : Step). int_lt most step.worth ≡ true) xs i n → AllWithin (λ (step : Step). most <ℤ step.worth) xs i n
+within_more xs most i n h k d low high = let e = h k d low high in omega (arith, ints, e)
+
+pub within_up_to : (xs : List Step) (most : ℤ) (i n : ℕ) → AllWithin (λ (step : Step). int_lt most step.worth ≡ false) xs i n → AllWithin (λ (step : Step). step.worth ≤ℤ most) xs i n
+within_up_to xs most i n h k d low high = let e = h k d low high in omega (arith, ints, e)
+
+-- a step of the number that a variable has, with what it is worth
+pub record Stands (steps : List Step) (x : ℤ) : Type 0 where
+  pub step : Step
+  pub there : Contains steps step
+  pub value : step.value ≡ x
+  pub worth : worth_at steps x ≡ step.worth
+
+later : (xs : List Step) (y x : Step) → Contains xs x → Contains (y ∷ xs) x
+later xs y x (k, low, at) = (suc k, omega (arith, low), at)
+
+pub stands : (steps : List Step) (x : ℤ) → Contains (map (λ (step : Step). step.value) steps) x → Stands steps x
+unfolding worth_at
+stands [] x (k, low, at) = absurd (omega (arith, low))
+stands (s ∷ steps) x (k, low, at) = by (λ rest. stands steps x rest) (int_eq s.value x) refl
+  where
+    front : int_eq s.value x ≡ false → (k : ℕ) → k < suc (length (map (λ (step : Step). step.value) steps)) → slice_index_or (s.value ∷ map (λ (step : Step). step.value) steps) k x ≡ x
+        → Contains (map (λ (step : Step). step.value) steps) x
+    front e zero low at = absurd (let t = (Decides-int_eq s.value x).1 at in cc)
+    front e (suc k) low at = (k, omega (arith, low), at)
+
+    by : (Contains (map (λ (step : Step). step.value) steps) x → Stands steps x) → (b : Bool) → int_eq s.value x ≡ b → Stands (s ∷ steps) x
+    by again true e = record {
+      step = s;
+      there = (0, omega arith, refl);
+      value = (Decides-int_eq s.value x).0 e;
+      worth = ap (λ b. cond b s.worth (worth_at steps x)) e;
+    }
+    by again false e =
+        let rest = again (front e k low at) in
+        record {
+          step = rest.step;
+          there = later steps s rest.step rest.there;
+          value = rest.value;
+          worth = ap (λ b. cond b s.worth (worth_at steps x)) e ∙ rest.worth;
+        }
+
+-- the step of a term of a layout at the variable's number
+pub stands_of : (L : List VariableLiterals) (term : Term) (values : List ℤ) → IsTermOf L term → AreOfDomains L values → Stands term.steps.items (number_at values term.var)
+stands_of L term values of_layout among = stands term.steps.items (number_at values term.var) (subst (λ xs. Contains xs (number_at values term.var)) (sym of_layout.values) (number_among L values term.var among of_layout.var))
+
+-- an atom that says something of a term's worth holds exactly where that is so
+pub so_said : (L : List VariableLiterals) (term : Term) (atom : Atom) (holds : ℤ → Type 0) (values : List ℤ) → IsTermOf L term → Says term atom holds → AreOfDomains L values → IsTrue (atom_holds values atom) ↔ holds (worth_of values term)
+unfolding atom_holds worth_of
+so_said L term atom holds values of_layout says among =
+    let s = stands_of L term values of_layout among in
+    let t = All-contains (λ (step : Step). IsTrue (test_holds atom.test atom.value step.value) ↔ holds step.worth) term.steps.items s.step says.tells s.there in
+    let x : s.step.value ≡ number_at values atom.var = s.value ∙ ap (number_at values) (sym says.var) in (
+      λ h. subst holds (sym s.worth) (t.0 (subst (λ n. IsTrue (test_holds atom.test atom.value n)) (sym x) h)),
+      λ h. subst (λ n. IsTrue (test_holds atom.test atom.value n)) x (t.1 (subst holds s.worth h)),
+    )
+
+-- what the two searches find, as what an atom says of a term
+pub found_says : (term : Term) (xs : List Step) (v : ℕ) (most m : ℤ) (r : Option Atom) → xs ≡ term.steps.items → v ≡ term.var
+    → MatchOption r (All (λ (step : Step). m <ℤ step.worth) xs) (λ atom. (atom.var ≡ v) × All (λ (step : Step). IsTrue (test_holds atom.test atom.value step.value) ↔ (step.worth ≤ℤ m)) xs)
+    → m ≡ most → MatchOption r (All (λ (step : Step). most <ℤ step.worth) term.steps.items) (λ atom. Says term atom (λ worth. worth ≤ℤ most))
+found_says term xs v most m None e w h same = subst (λ (n : ℤ). All (λ (step : Step). n <ℤ step.worth) term.steps.items) same (subst (All (λ (step : Step). m <ℤ step.worth)) e h)
+found_says term xs v most m (Some atom) e w h same = record {
+  var = h.0 ∙ w;
+  tells = subst (λ (n : ℤ). All (λ (step : Step). IsTrue (test_holds atom.test atom.value step.value) ↔ (step.worth ≤ℤ n)) term.steps.items) same
+      (subst (All (λ (step : Step). IsTrue (test_holds atom.test atom.value step.value) ↔ (step.worth ≤ℤ m))) e h.1);
+}
+
+pub found_says_ok : {E : Type 0} (term : Term) (xs : List Step) (v : ℕ) (most m : ℤ) (r : Result (Option Atom) E) → xs ≡ term.steps.items → v ≡ term.var
+    → IfOk r (λ found. MatchOption found (All (λ (step : Step). m <ℤ step.worth) xs) (λ atom. (atom.var ≡ v) × All (λ (step : Step). IsTrue (test_holds atom.test atom.value step.value) ↔ (step.worth ≤ℤ m)) xs))
+    → m ≡ most → IfOk r (λ found. MatchOption found (All (λ (step : Step). most <ℤ step.worth) term.steps.items) (λ atom. Says term atom (λ worth. worth ≤ℤ most)))
+found_says_ok term xs v most m (Ok found) e w h same = found_says term xs v most m found e w h same
+found_says_ok term xs v most m (Err e') e w h same = tt
+
+-- what a search found, with its number in other words
+pub never : (term : Term) (most m : ℤ) (r : Option Atom) → r ≡ None → MatchOption r (All (λ (step : Step). m <ℤ step.worth) term.steps.items) (λ atom. Says term atom (λ worth. worth ≤ℤ m)) → m ≡ most
+    → All (λ (step : Step). most <ℤ step.worth) term.steps.items
+never term most m r e h same =
+    subst (λ (n : ℤ). All (λ (step : Step). n <ℤ step.worth) term.steps.items) same
+    (subst (λ (o : Option Atom). MatchOption o (All (λ (step : Step). m <ℤ step.worth) term.steps.items) (λ atom. Says term atom (λ worth. worth ≤ℤ m))) e h)
+
+pub says_found : (term : Term) (most m : ℤ) (r : Option Atom) (atom : Atom) → r ≡ Some atom → MatchOption r (All (λ (step : Step). m <ℤ step.worth) term.steps.items) (λ atom. Says term atom (λ worth. worth ≤ℤ m)) → m ≡ most
+    → Says term atom (λ worth. worth ≤ℤ most)
+says_found term most m r atom e h same =
+    subst (λ (n : ℤ). Says term atom (λ worth. worth ≤ℤ n)) same
+    (subst (λ (o : Option Atom). MatchOption o (All (λ (step : Step). m <ℤ step.worth) term.steps.items) (λ atom. Says term atom (λ worth. worth ≤ℤ m))) e h)

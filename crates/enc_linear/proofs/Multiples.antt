@@ -1,0 +1,138 @@
+-- Terms that are made of a variable and a coefficient, and terms with each worth turned into its opposite.
+use Rattle.std.proofs.Common.{◌≡◌, ◌≢◌, ℕ, zero, suc, ◌+◌, ◌<◌, ◌≤◌, ℤ, pos, negsuc, neg_ℤ, ◌*ℤ◌, ◌<ℤ◌, Bool, true, false, not, cond, List, [], ◌∷◌, ◌++◌, length, map, take, get_or, int_lt, refl, sym, ap, subst, ◌∙◌, arith}
+use Rattle.std.specs.List.{AllPairs, Contains}
+use Rattle.std.specs.Ordering.{int_eq}
+use Rattle.std.proofs.Math.Nat.{mul-lt-mul_of_pos_left}
+use Rattle.std.proofs.lemmas.Int.{ints}
+use Rattle.std.proofs.lemmas.List.{length-map, map-append, take_all, take_more}
+use Rattle.std.proofs.lemmas.List.Elements.{All-contains, All-map}
+use Rattle.enc_atoms.proofs.Decoded.{number_among}
+use Rattle.enc_atoms.specs.Atoms.{AreOfDomains}
+use Rattle.enc_linear.specs.declared.terms.Step.{Step}
+use Rattle.enc_linear.specs.declared.terms.Term.{Term}
+use Rattle.enc_linear.specs.Terms.{AreInOrder, IsMirror, IsTermOf, mirrored_step, step_of, worth_at, worth_of}
+use Rattle.enc_linear.proofs.Ladders.{stands}
+use Rattle.enc_var.specs.Decoding.{VariableLiterals}
+use Rattle.enc_var.specs.Layouts.{literals_at}
+use Rattle.ep_base.specs.Runs.{IsAscending}
+use Rattle.ep_flat.specs.Cons.{number_at}
+
+pub product_rises : (a v w : ℤ) → pos 0 <ℤ a → v <ℤ w → (a *ℤ v) <ℤ (a *ℤ w)
+product_rises (pos k) (pos x) (pos y) up low = let m = mul-lt-mul_of_pos_left {m = x} {n = y} {k = k} (omega (arith, ints, low)) (omega (arith, ints, up)) in omega (arith, ints, m)
+product_rises (pos k) (negsuc x) (pos y) up low = let m = mul-lt-mul_of_pos_left {m = 0} {n = suc x} {k = k} (omega arith) (omega (arith, ints, up)) in omega (arith, ints, m)
+product_rises (pos k) (pos x) (negsuc y) up low = absurd (omega (arith, ints, low))
+product_rises (pos k) (negsuc x) (negsuc y) up low = let m = mul-lt-mul_of_pos_left {m = suc y} {n = suc x} {k = k} (omega (arith, ints, low)) (omega (arith, ints, up)) in omega (arith, ints, m)
+product_rises (negsuc k) v w up low = absurd (omega (arith, ints, up))
+
+pub product_falls : (a v w : ℤ) → a <ℤ pos 0 → v <ℤ w → (a *ℤ w) <ℤ (a *ℤ v)
+product_falls (pos k) v w down low = absurd (omega (arith, ints, down))
+product_falls (negsuc k) (pos x) (pos y) down low = let m = mul-lt-mul_of_pos_left {m = x} {n = y} {k = suc k} (omega (arith, ints, low)) (omega arith) in omega (arith, ints, m)
+product_falls (negsuc k) (negsuc x) (pos y) down low = let m = mul-lt-mul_of_pos_left {m = 0} {n = suc x} {k = suc k} (omega arith) (omega arith) in omega (arith, ints, m)
+product_falls (negsuc k) (pos x) (negsuc y) down low = absurd (omega (arith, ints, low))
+product_falls (negsuc k) (negsuc x) (negsuc y) down low = let m = mul-lt-mul_of_pos_left {m = suc y} {n = suc x} {k = suc k} (omega (arith, ints, low)) (omega arith) in omega (arith, ints, m)
+
+map_at : {A B : Type 0} (f : A → B) (xs : List A) (e : A) (i : ℕ) (d : B) → i < length (map f xs) → get_or (map f xs) i d ≡ f (get_or xs i e)
+map_at f [] e i d low = absurd (omega (arith, low))
+map_at f (x ∷ xs) e zero d low = refl
+map_at f (x ∷ xs) e (suc i) d low = map_at f xs e i d (omega (arith, low))
+
+-- pairs in a relation stay in one that it implies
+pub pairs_map : {A B : Type 0} (f : A → B) (R : A → A → Type 0) (S : B → B → Type 0) (xs : List A) (e : A) → ((x y : A) → R x y → S (f x) (f y)) → AllPairs R xs → AllPairs S (map f xs)
+pairs_map {A} {B} f R S xs e imply pairs i j d lt low =
+    let there : j < length xs = omega (arith, low, length-map xs f) in
+    subst (λ (y : B). S (get_or (map f xs) i d) y) (sym (map_at f xs e j d low))
+    (subst (λ (x : B). S x (f (get_or xs j e))) (sym (map_at f xs e i d (omega (arith, lt, low)))) (imply (get_or xs i e) (get_or xs j e) (pairs i j e lt there)))
+
+no_step : Step
+no_step = record { value = pos 0; worth = pos 0 }
+
+-- the steps of a variable with a coefficient
+values_of : (a : ℤ) (xs : List ℤ) → map (λ (step : Step). step.value) (map (step_of a) xs) ≡ xs
+unfolding step_of
+values_of a [] = refl
+values_of a (x ∷ xs) = ap (λ ys. x ∷ ys) (values_of a xs)
+
+steps_order : (a x y : ℤ) (rising : Bool) → rising ≡ int_lt (pos 0) a → a ≢ pos 0 → x <ℤ y → AreInOrder rising (step_of a x) (step_of a y)
+unfolding step_of
+steps_order a x y true is other low = (low, product_rises a x y (omega (arith, ints, is)) low)
+steps_order a x y false is other low = (low, product_falls a x y (omega (arith, ints, is, other)) low)
+
+pub multiple_of : (L : List VariableLiterals) (a : ℤ) (xs : List ℤ) (term : Term) → term.var < length L → xs ≡ (literals_at L term.var).domain → IsAscending xs → a ≢ pos 0 → term.rising ≡ int_lt (pos 0) a
+    → term.steps.items ≡ map (step_of a) xs → IsTermOf L term
+multiple_of L a xs term low is up other rising steps = record {
+  var = low;
+  values = ap (map (λ (step : Step). step.value)) steps ∙ values_of a xs ∙ is;
+  ordered = subst (AllPairs (AreInOrder term.rising)) (sym steps) (pairs_map (step_of a) ◌<ℤ◌ (AreInOrder term.rising) xs (pos 0) (λ x y h. steps_order a x y term.rising rising other h) up);
+}
+
+multiple_worth : (a : ℤ) (xs : List ℤ) (x : ℤ) → Contains xs x → worth_at (map (step_of a) xs) x ≡ a *ℤ x
+unfolding step_of
+multiple_worth a xs x found =
+    let s = stands (map (step_of a) xs) x (subst (λ ys. Contains ys x) (sym (values_of a xs)) found) in
+    s.worth ∙ All-contains (λ (step : Step). step.worth ≡ a *ℤ step.value) (map (step_of a) xs) s.step (All-map (λ (step : Step). step.worth ≡ a *ℤ step.value) (step_of a) xs (λ k d low. refl)) s.there
+    ∙ ap (λ v. a *ℤ v) s.value
+
+pub multiple_is : (L : List VariableLiterals) (a : ℤ) (xs : List ℤ) (term : Term) (values : List ℤ) → term.var < length L → xs ≡ (literals_at L term.var).domain → term.steps.items ≡ map (step_of a) xs → AreOfDomains L values
+    → worth_of values term ≡ a *ℤ number_at values term.var
+unfolding worth_of
+multiple_is L a xs term values low is steps among =
+    ap (λ (ys : List Step). worth_at ys (number_at values term.var)) steps ∙ multiple_worth a xs (number_at values term.var) (subst (λ ys. Contains ys (number_at values term.var)) (sym is) (number_among L values term.var among low))
+
+-- a term and its mirror
+mirrored_values : (xs : List Step) → map (λ (step : Step). step.value) (map mirrored_step xs) ≡ map (λ (step : Step). step.value) xs
+unfolding mirrored_step
+mirrored_values [] = refl
+mirrored_values (x ∷ xs) = ap (λ ys. x.value ∷ ys) (mirrored_values xs)
+
+mirrored_order : (x y : Step) (rising : Bool) → AreInOrder rising x y → AreInOrder (not rising) (mirrored_step x) (mirrored_step y)
+unfolding mirrored_step
+mirrored_order x y true h = (h.0, omega (arith, ints, h.1))
+mirrored_order x y false h = (h.0, omega (arith, ints, h.1))
+
+pub mirror_of : (L : List VariableLiterals) (term twin : Term) → IsTermOf L term → IsMirror term twin → IsTermOf L twin
+mirror_of L term twin of_layout mirror = record {
+  var = subst (λ n. n < length L) (sym mirror.var) of_layout.var;
+  values = ap (map (λ (step : Step). step.value)) mirror.steps ∙ mirrored_values term.steps.items ∙ of_layout.values ∙ ap (λ x. (literals_at L x).domain) (sym mirror.var);
+  ordered = subst (λ (b : Bool). AllPairs (AreInOrder b) twin.steps.items) (sym mirror.rising)
+      (subst (AllPairs (AreInOrder (not term.rising))) (sym mirror.steps)
+      (pairs_map mirrored_step (AreInOrder term.rising) (AreInOrder (not term.rising)) term.steps.items no_step (λ x y h. mirrored_order x y term.rising h) of_layout.ordered));
+}
+
+mirrored_worth : (xs : List Step) (x : ℤ) → worth_at (map mirrored_step xs) x ≡ neg_ℤ (worth_at xs x)
+unfolding worth_at mirrored_step
+mirrored_worth [] x = refl
+mirrored_worth (s ∷ xs) x = by (int_eq s.value x) (mirrored_worth xs x)
+  where
+    by : (b : Bool) → worth_at (map mirrored_step xs) x ≡ neg_ℤ (worth_at xs x) → cond b (neg_ℤ s.worth) (worth_at (map mirrored_step xs) x) ≡ neg_ℤ (cond b s.worth (worth_at xs x))
+    by true h = refl
+    by false h = h
+
+pub mirror_worth : (values : List ℤ) (term twin : Term) → IsMirror term twin → worth_of values twin ≡ neg_ℤ (worth_of values term)
+unfolding worth_of
+mirror_worth values term twin mirror =
+    ap (λ (xs : List Step). worth_at xs (number_at values twin.var)) mirror.steps ∙ mirrored_worth term.steps.items (number_at values twin.var)
+    ∙ ap (λ x. neg_ℤ (worth_at term.steps.items (number_at values x))) mirror.var
+
+-- one element more of a list that is made element by element
+pub map_more : {A B : Type 0} (f : A → B) (xs : List A) (i : ℕ) (d : A) (old new : List B) (y : B) → i < length xs → old ≡ map f (take i xs) → new ≡ old ++ y ∷ [] → y ≡ f (get_or xs i d) → new ≡ map f (take (i + 1) xs)
+map_more f xs i d old new y low before pushed is =
+    pushed ∙ ap (λ ys. ys ++ y ∷ []) before ∙ ap (λ z. map f (take i xs) ++ z ∷ []) is ∙ sym (map-append f (take i xs) (get_or xs i d ∷ [])) ∙ ap (map f) (sym (take_more xs i d low))
+
+-- all elements
+pub map_all : {A B : Type 0} (f : A → B) (xs : List A) (i : ℕ) (made : List B) → length xs ≤ i → made ≡ map f (take i xs) → made ≡ map f xs
+map_all f xs i made long is = is ∙ ap (map f) (take_all i xs long)
+
+abbrev pub a_step : ℤ → ℤ → Step
+a_step v w = record { value = v; worth = w }
+
+pub made_step : (a v x y w v' w' : ℤ) → w ≡ x *ℤ y → x ≡ a → y ≡ v → v' ≡ v → w' ≡ w → a_step v' w' ≡ step_of a v
+unfolding step_of
+made_step a v x y w v' w' is first second same_value same_worth =
+    ap (λ n. a_step n w') same_value ∙ ap (a_step v) (same_worth ∙ is ∙ ap (λ n. n *ℤ y) first ∙ ap (λ n. a *ℤ n) second)
+
+pub made_opposite : (step : Step) (w v' w' : ℤ) → w ≡ neg_ℤ step.worth → v' ≡ step.value → w' ≡ w → a_step v' w' ≡ mirrored_step step
+unfolding mirrored_step
+made_opposite step w v' w' is same_value same_worth = ap (λ n. a_step n w') same_value ∙ ap (a_step step.value) (same_worth ∙ is)
+
+pub step_same : (a b v w : ℤ) (step : Step) → step ≡ step_of a v → a ≡ b → v ≡ w → step ≡ step_of b w
+step_same a b v w step is first second = is ∙ ap (λ n. step_of n v) first ∙ ap (step_of b) second

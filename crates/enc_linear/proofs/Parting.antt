@@ -1,0 +1,181 @@
+-- Sums that aren't a number, step by step of a first term.
+use Rattle.std.proofs.Common.{◌≡◌, ◌≢◌, ◌⊎◌, inl, inr, ◌↔◌, ℕ, ◌+◌, ◌<◌, ℤ, ◌+ℤ◌, ◌-ℤ◌, ◌<ℤ◌, Bool, true, false, IsTrue, List, [], ◌∷◌, ◌++◌, length, take, get_or, refl, sym, subst, ◌∙◌, arith}
+use Rattle.std.specs.List.{All, Contains}
+use Rattle.std.specs.Ordering.{int_eq}
+use Rattle.std.proofs.lemmas.Bool.Decides.{Decides-int_eq}
+use Rattle.std.proofs.lemmas.Int.{by_lt_z, ints}
+use Rattle.std.proofs.lemmas.List.Elements.{All-contains}
+use Rattle.cnf_core.proofs.Members.{All-from_contains}
+use Rattle.cnf_core.specs.Formula.{Cnf}
+use Rattle.enc_atoms.proofs.Adding.{adds_like}
+use Rattle.enc_atoms.specs.Atoms.{Adds, AreOfDomains, atom_holds, clause_holds, test_holds}
+use Rattle.enc_atoms.specs.declared.atoms.Atom.{Atom}
+use Rattle.enc_atoms.specs.declared.atoms.Test.{Test}
+use Rattle.enc_linear.specs.declared.terms.Step.{Step}
+use Rattle.enc_linear.specs.declared.terms.Term.{Term}
+use Rattle.enc_linear.specs.Guards.{Unless}
+use Rattle.enc_linear.specs.Terms.{IsOrdered, IsTermOf, Says, worth_of}
+use Rattle.enc_linear.proofs.Ladders.{falls, rises, so_said, stands_of, tests_is_not}
+use Rattle.enc_linear.proofs.Saying.{with_one_more}
+use Rattle.enc_linear.proofs.Turns.{nothing_new, one_more}
+use Rattle.enc_var.specs.Decoding.{VariableLiterals}
+use Rattle.enc_var.specs.Layouts.{IsLayoutOf}
+
+-- two numbers are one exactly where two others are, if below and above agree for both
+same_with_orders : (a b v w : ℤ) → (a <ℤ b ⊎ b <ℤ a) ↔ (v <ℤ w ⊎ w <ℤ v) → (a ≢ b) ↔ (v ≢ w)
+same_with_orders a b v w same = (
+  λ other e. by_lt_z a b
+      (λ lt. apart v w e (same.0 (inl lt)))
+      (λ ge. by_lt_z b a (λ gt. apart v w e (same.0 (inr gt))) (λ le. other (omega (arith, ints, ge, le)))),
+  λ other e. by_lt_z v w
+      (λ lt. apart a b e (same.1 (inl lt)))
+      (λ ge. by_lt_z w v (λ gt. apart a b e (same.1 (inr gt))) (λ le. other (omega (arith, ints, ge, le)))),
+)
+  where
+    apart : (x y : ℤ) → x ≡ y → (x <ℤ y) ⊎ (y <ℤ x) → ⊥
+    apart x y e (inl lt) = omega (arith, ints, lt, e)
+    apart x y e (inr gt) = omega (arith, ints, gt, e)
+
+swapped : (P Q R S : Type 0) → (P ↔ R) → (Q ↔ S) → (P ⊎ Q) ↔ (R ⊎ S)
+swapped P Q R S one two = (
+  λ h. elim h as (λ _. R ⊎ S) [ inl p ↦ inl (one.0 p) | inr q ↦ inr (two.0 q) ],
+  λ h. elim h as (λ _. P ⊎ Q) [ inl r ↦ inl (one.1 r) | inr s ↦ inr (two.1 s) ],
+)
+
+turned : (P Q R S : Type 0) → (P ↔ S) → (Q ↔ R) → (P ⊎ Q) ↔ (R ⊎ S)
+turned P Q R S one two = (
+  λ h. elim h as (λ _. R ⊎ S) [ inl p ↦ inr (one.0 p) | inr q ↦ inl (two.0 q) ],
+  λ h. elim h as (λ _. P ⊎ Q) [ inl r ↦ inr (two.1 r) | inr s ↦ inl (one.1 s) ],
+)
+
+-- one step's number is another exactly where its worth is another
+pub apart_there : (term : Term) (a b : Step) → IsOrdered term → Contains term.steps.items a → Contains term.steps.items b → (a.value ≢ b.value) ↔ (a.worth ≢ b.worth)
+apart_there term a b ordered here there = by term.rising refl
+  where
+    by : (r : Bool) → term.rising ≡ r → (a.value ≢ b.value) ↔ (a.worth ≢ b.worth)
+    by true e =
+        let pairs = subst (λ (r : Bool). IsOrdered (record term { rising = r })) e ordered in
+        same_with_orders a.value b.value a.worth b.worth
+        (swapped (a.value <ℤ b.value) (b.value <ℤ a.value) (a.worth <ℤ b.worth) (b.worth <ℤ a.worth) (rises term.steps.items a b pairs here there) (rises term.steps.items b a pairs there here))
+    by false e =
+        let pairs = subst (λ (r : Bool). IsOrdered (record term { rising = r })) e ordered in
+        same_with_orders a.value b.value a.worth b.worth
+        (turned (a.value <ℤ b.value) (b.value <ℤ a.value) (a.worth <ℤ b.worth) (b.worth <ℤ a.worth) (falls term.steps.items b a pairs there here) (falls term.steps.items a b pairs here there))
+
+-- "it isn't worth what it is at this step"
+pub other_said : (term : Term) (step : Step) (atom : Atom) (v : ℕ) (at : ℤ) → IsOrdered term → Contains term.steps.items step → atom ≡ record { var = v; test = Test.IsNot; value = at } → v ≡ term.var → at ≡ step.value
+    → Says term atom (λ worth. worth ≢ step.worth)
+other_said term step atom v at ordered there made of_var is =
+    subst (λ (a : Atom). Says term a (λ worth. worth ≢ step.worth)) (sym made)
+    (record {
+      var = of_var;
+      tells = All-from_contains (λ (other : Step). IsTrue (test_holds Test.IsNot at other.value) ↔ (other.worth ≢ step.worth)) term.steps.items
+          (λ other here. let t = tests_is_not at other.value in
+          let r = apart_there term other step ordered here there in
+          (λ h. r.0 (λ e. t.0 h (e ∙ sym is)), λ w. t.1 (λ e. r.1 w (e ∙ is))));
+    })
+
+-- what a turn over a step of a single term says
+abbrev pub Apart : List Atom → Term → ℤ → List ℤ → Step → Type 0
+Apart guards term number values step = IsTrue (clause_holds values guards) ⊎ ((step.worth ≢ number) ⊎ (worth_of values term ≢ step.worth))
+
+-- a turn over a step that is worth something else
+pub apart_passed : (L : List VariableLiterals) (f f1 : Cnf) (guards : List Atom) (term : Term) (number : ℤ) (step d : Step) (i : ℕ) → IsLayoutOf L f → i < length term.steps.items → step ≡ get_or term.steps.items i d
+    → Adds L f L f1 (λ values. All (Apart guards term number values) (take i term.steps.items)) → step.worth ≢ number
+    → Adds L f L f1 (λ values. All (Apart guards term number values) (take (i + 1) term.steps.items))
+apart_passed L f f1 guards term number step d i is_layout low at before other =
+    one_more L f f1 f1 (Apart guards term number) term.steps.items i d is_layout low before
+    (nothing_new L f1 (λ values. Apart guards term number values (get_or term.steps.items i d)) before.goes_on.is_layout before.goes_on.from_new
+    (λ values among. subst (Apart guards term number values) at (inr (inl other))))
+
+-- a turn over a step that is worth the number
+pub apart_turn : (L : List VariableLiterals) (f f1 f2 : Cnf) (guards : List Atom) (atom : Atom) (term : Term) (number : ℤ) (step d : Step) (i : ℕ) → IsLayoutOf L f → IsTermOf L term → i < length term.steps.items
+    → step ≡ get_or term.steps.items i d → Says term atom (λ worth. worth ≢ step.worth)
+    → Adds L f L f1 (λ values. All (Apart guards term number values) (take i term.steps.items)) → Adds L f1 L f2 (Unless guards (λ values. IsTrue (atom_holds values atom))) → step.worth ≡ number
+    → Adds L f L f2 (λ values. All (Apart guards term number values) (take (i + 1) term.steps.items))
+apart_turn L f f1 f2 guards atom term number step d i is_layout of_layout low at says before added is =
+    one_more L f f1 f2 (Apart guards term number) term.steps.items i d is_layout low before
+    (adds_like L f1 L f2 (Unless guards (λ values. IsTrue (atom_holds values atom))) (λ values. Apart guards term number values (get_or term.steps.items i d)) before.goes_on.is_layout added
+    (λ values among. subst (λ (s : Step). Unless guards (λ values. IsTrue (atom_holds values atom)) values ↔ Apart guards term number values s) at (same values among)))
+  where
+    same : (values : List ℤ) → AreOfDomains L values → Unless guards (λ values. IsTrue (atom_holds values atom)) values ↔ Apart guards term number values step
+    same values among =
+        let said = so_said L term atom (λ worth. worth ≢ step.worth) values of_layout says among in (
+          λ h. elim h as (λ _. Apart guards term number values step) [ inl g ↦ inl g | inr a ↦ inr (inr (said.0 a)) ],
+          λ h. elim h as (λ _. Unless guards (λ values. IsTrue (atom_holds values atom)) values) [
+            | inl g ↦ inl g
+            | inr r ↦ elim r as (λ _. Unless guards (λ values. IsTrue (atom_holds values atom)) values) [ inl other ↦ absurd (other is) | inr w ↦ inr (said.1 w) ]
+          ],
+        )
+
+-- all turns
+pub apart_all : (L : List VariableLiterals) (guards : List Atom) (term : Term) (m number : ℤ) (values : List ℤ) → IsTermOf L term → AreOfDomains L values → m ≡ number
+    → All (Apart guards term m values) term.steps.items ↔ Unless guards (λ values. worth_of values term ≢ number) values
+unfolding worth_of
+apart_all L guards term m number values of_layout among is =
+    let s = stands_of L term values of_layout among in (
+      λ h. elim (All-contains (Apart guards term m values) term.steps.items s.step h s.there) as (λ _. Unless guards (λ values. worth_of values term ≢ number) values) [
+        | inl g ↦ inl g
+        | inr r ↦ elim r as (λ _. Unless guards (λ values. worth_of values term ≢ number) values) [ inl other ↦ inr (λ e. other (sym s.worth ∙ e ∙ sym is)) | inr w ↦ absurd (w s.worth) ]
+      ],
+      λ h. All-from_contains (Apart guards term m values) term.steps.items (λ step there. each step h),
+    )
+  where
+    by : (step : Step) (b : Bool) → int_eq step.worth m ≡ b → worth_of values term ≢ number → Apart guards term m values step
+    by step true e other = inr (inr (λ w. other (w ∙ (Decides-int_eq step.worth m).0 e ∙ is)))
+    by step false e other = inr (inl (λ w. let t = (Decides-int_eq step.worth m).1 w in cc))
+
+    each : (step : Step) → Unless guards (λ values. worth_of values term ≢ number) values → Apart guards term m values step
+    each step (inl g) = inl g
+    each step (inr other) = by step (int_eq step.worth m) refl other
+
+-- what a turn over a step of the first term says, where the others are worth `rest`
+abbrev pub Parted : List Atom → Term → (List ℤ → ℤ) → ℤ → List ℤ → Step → Type 0
+Parted guards first rest number values step = (IsTrue (clause_holds values guards) ⊎ (worth_of values first ≢ step.worth)) ⊎ (rest values ≢ (number -ℤ step.worth))
+
+-- a turn
+pub parted_turn : (L : List VariableLiterals) (f f1 f2 : Cnf) (guards atoms : List Atom) (other : Atom) (first : Term) (rest : List ℤ → ℤ) (number left : ℤ) (step d : Step) (i : ℕ) → IsLayoutOf L f → IsTermOf L first
+    → i < length first.steps.items → step ≡ get_or first.steps.items i d → Says first other (λ worth. worth ≢ step.worth) → atoms ≡ guards ++ other ∷ []
+    → Adds L f L f1 (λ values. All (Parted guards first rest number values) (take i first.steps.items)) → Adds L f1 L f2 (Unless atoms (λ values. rest values ≢ left)) → left ≡ number -ℤ step.worth
+    → Adds L f L f2 (λ values. All (Parted guards first rest number values) (take (i + 1) first.steps.items))
+parted_turn L f f1 f2 guards atoms other first rest number left step d i is_layout of_layout low at says is before added left_is =
+    one_more L f f1 f2 (Parted guards first rest number) first.steps.items i d is_layout low before
+    (adds_like L f1 L f2 (Unless atoms (λ values. rest values ≢ left)) (λ values. Parted guards first rest number values (get_or first.steps.items i d)) before.goes_on.is_layout added
+    (λ values among. subst (λ (s : Step). Unless atoms (λ values. rest values ≢ left) values ↔ Parted guards first rest number values s) at (same values among)))
+  where
+    same : (values : List ℤ) → AreOfDomains L values → Unless atoms (λ values. rest values ≢ left) values ↔ Parted guards first rest number values step
+    same values among =
+        let said = so_said L first other (λ worth. worth ≢ step.worth) values of_layout says among in
+        let cases = with_one_more values guards other in
+        subst (λ (ys : List Atom). Unless ys (λ values. rest values ≢ left) values ↔ Parted guards first rest number values step) (sym is) (
+          λ h. elim h as (λ _. Parted guards first rest number values step) [
+            | inl c ↦ elim (cases.0 c) as (λ _. Parted guards first rest number values step) [ inl g ↦ inl (inl g) | inr a ↦ inl (inr (said.0 a)) ]
+            | inr r ↦ inr (λ e. r (e ∙ sym left_is))
+          ],
+          λ h. elim h as (λ _. Unless (guards ++ other ∷ []) (λ values. rest values ≢ left) values) [
+            | inl e ↦ inl (cases.1 (elim e as (λ _. IsTrue (clause_holds values guards) ⊎ IsTrue (atom_holds values other)) [ inl g ↦ inl g | inr w ↦ inr (said.1 w) ]))
+            | inr r ↦ inr (λ e. r (e ∙ left_is))
+          ],
+        )
+
+-- all turns
+pub parted_all : (L : List VariableLiterals) (guards : List Atom) (first : Term) (rest : List ℤ → ℤ) (m number : ℤ) (values : List ℤ) → IsTermOf L first → AreOfDomains L values → m ≡ number
+    → All (Parted guards first rest m values) first.steps.items ↔ Unless guards (λ values. (worth_of values first +ℤ rest values) ≢ number) values
+unfolding worth_of
+parted_all L guards first rest m number values of_layout among is =
+    let s = stands_of L first values of_layout among in
+    let worth = s.worth in (
+      λ h. elim (All-contains (Parted guards first rest m values) first.steps.items s.step h s.there) as (λ _. Unless guards (λ values. (worth_of values first +ℤ rest values) ≢ number) values) [
+        | inl e ↦ elim e as (λ _. Unless guards (λ values. (worth_of values first +ℤ rest values) ≢ number) values) [ inl g ↦ inl g | inr w ↦ absurd (w s.worth) ]
+        | inr r ↦ inr (λ e. r (omega (arith, ints, e, worth, is)))
+      ],
+      λ h. All-from_contains (Parted guards first rest m values) first.steps.items (λ step there. each step h),
+    )
+  where
+    by : (step : Step) (b : Bool) → int_eq (worth_of values first) step.worth ≡ b → (worth_of values first +ℤ rest values) ≢ number → Parted guards first rest m values step
+    by step true e other = let w = (Decides-int_eq (worth_of values first) step.worth).0 e in inr (λ r. other (omega (arith, ints, r, w, is)))
+    by step false e other = inl (inr (λ w. let t = (Decides-int_eq (worth_of values first) step.worth).1 w in cc))
+
+    each : (step : Step) → Unless guards (λ values. (worth_of values first +ℤ rest values) ≢ number) values → Parted guards first rest m values step
+    each step (inl g) = inl (inl g)
+    each step (inr other) = by step (int_eq (worth_of values first) step.worth) refl other

@@ -1,0 +1,9 @@
+use Rattle.std.proofs.Common.{take}
+use Rattle.std.specs.List.{All}
+use Rattle.enc_atoms.specs.Atoms.{Adds}
+use Rattle.enc_linear.specs.Terms.{worth_of}
+use Rattle.enc_linear.proofs.Parting.{Parted}
+use Rattle.enc_linear.proofs.apart.add_two_apart.Given as goal
+
+abbrev pub invariant-loop-step : goal.invariant-loop-step
+invariant-loop-step l = Adds l.layout l.initial.f l.layout l.f (λ values. All (Parted l.guards l.first (λ vs. worth_of vs l.second) l.number values) (take l.step-index l.first.steps.items))

@@ -1,0 +1,13 @@
+use Rattle.std.proofs.Common.{map, arith}
+use Rattle.std.proofs.lemmas.Int.{ints}
+use Rattle.ep_base.specs.Reads.{weighted_sum}
+use Rattle.ep_flat.specs.Cons.{number_at}
+use Rattle.enc_linear.specs.Terms.{total}
+use Rattle.enc_linear.proofs.Totals.{linear_from}
+use Rattle.enc_linear.proofs.folding.add_linear.Goals as goal
+
+pub returns : goal.returns
+returns c =
+    linear_from c.add_folded.result c.args.layout.now c.args.f.now c.add_folded.new.layout c.add_folded.new.f c.args.truth c.args.op (λ values. total values c.in_ok-terms.terms.items)
+    (λ values. weighted_sum (map (λ part. (part.0, number_at values part.1)) c.args.parts.now)) _ c.args.number c.requires.is_layout c.add_folded.ensures (omega (arith, ints))
+    (λ values among. c.in_ok-terms.ensures.sum values among)

@@ -1,0 +1,10 @@
+use Rattle.std.proofs.Common.{ℤ, take, ◌+ℤ◌}
+use Rattle.std.specs.List.{All, Any}
+use Rattle.ep_base.specs.Runs.{IsIn}
+use Rattle.enc_linear.proofs.folding.push_sums.Given as goal
+
+abbrev pub invariant-loop-other : goal.invariant-loop-other
+invariant-loop-other l = record {
+  kept : (number : ℤ) → Any (IsIn number) l.initial.runs.items → Any (IsIn number) l.runs.items;
+  sums : All (λ other. Any (IsIn (l.step.worth +ℤ other.worth)) l.runs.items) (take l.other-index l.second.steps.items);
+}

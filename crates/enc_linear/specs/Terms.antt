@@ -1,0 +1,71 @@
+-- Terms: variables whose numbers are worth something.
+use Rattle.std.specs.Prelude.{◌≡◌, ◌↔◌, ◌<◌, ℤ, pos, ◌+ℤ◌, ◌<ℤ◌, neg_ℤ, ◌*ℤ◌, Bool, true, false, not, IsTrue, List, [], ◌∷◌, length, map, if◌then◌else◌}
+use Rattle.std.specs.List.{All, AllPairs, Contains}
+use Rattle.std.specs.Ordering.{int_eq}
+use Rattle.ep_base.specs.Numbers.{sum_of}
+use Rattle.ep_flat.specs.Cons.{number_at}
+use Rattle.enc_atoms.specs.Atoms.{test_holds}
+use Rattle.enc_atoms.specs.declared.atoms.Atom.{Atom}
+use Rattle.enc_linear.specs.declared.terms.Step.{Step}
+use Rattle.enc_linear.specs.declared.terms.Term.{Term}
+use Rattle.enc_var.specs.Decoding.{VariableLiterals}
+use Rattle.enc_var.specs.Layouts.{literals_at}
+
+-- what a number is worth: the worth of its first step, and 0 where it has none
+unfoldable pub worth_at : List Step → ℤ → ℤ
+worth_at [] x = pos 0
+worth_at (step ∷ steps) x = if int_eq step.value x then step.worth else worth_at steps x
+
+-- what a term is worth where the variables have these numbers
+unfoldable pub worth_of : List ℤ → Term → ℤ
+worth_of values term = worth_at term.steps.items (number_at values term.var)
+
+-- what some terms are worth together
+unfoldable pub total : List ℤ → List Term → ℤ
+total values terms = sum_of (map (worth_of values) terms)
+
+-- the first is below the second, or above it where worths fall
+abbrev pub IsBefore : Bool → ℤ → ℤ → Type 0
+IsBefore true a b = a <ℤ b
+IsBefore false a b = b <ℤ a
+
+-- the second step has a greater number, and a greater worth, or a smaller one where worths fall
+abbrev pub AreInOrder : Bool → Step → Step → Type 0
+AreInOrder rising one next = (one.value <ℤ next.value) × IsBefore rising one.worth next.worth
+
+-- the steps of a term stand in order
+abbrev pub IsOrdered : Term → Type 0
+IsOrdered term = AllPairs (AreInOrder term.rising) term.steps.items
+
+-- A term is of a layout: it has a step for each number of a variable, in order.
+pub record IsTermOf (layout : List VariableLiterals) (term : Term) : Type 0 where
+  pub var : term.var < length layout
+  pub values : map (λ step. step.value) term.steps.items ≡ (literals_at layout term.var).domain
+  pub ordered : IsOrdered term
+
+-- an atom is of the term's variable, and says this of the term's worth
+pub record Says (term : Term) (atom : Atom) (holds : ℤ → Type 0) : Type 0 where
+  pub var : atom.var ≡ term.var
+  pub tells : All (λ step. IsTrue (test_holds atom.test atom.value step.value) ↔ holds step.worth) term.steps.items
+
+-- a number with what it is worth under a coefficient
+unfoldable pub step_of : ℤ → ℤ → Step
+step_of a v = record { value = v; worth = a *ℤ v }
+
+-- a step whose worth is the opposite
+unfoldable pub mirrored_step : Step → Step
+mirrored_step step = record { value = step.value; worth = neg_ℤ step.worth }
+
+-- A term's mirror: the same variable, with each worth turned into its opposite.
+pub record IsMirror (term twin : Term) : Type 0 where
+  pub var : twin.var ≡ term.var
+  pub rising : twin.rising ≡ not term.rising
+  pub steps : twin.steps.items ≡ map mirrored_step term.steps.items
+
+-- a list has each sum of what two terms may be worth
+abbrev pub HasSums : List ℤ → Term → Term → Type 0
+HasSums domain first second = All (λ one. All (λ other. Contains domain (one.worth +ℤ other.worth)) second.steps.items) first.steps.items
+
+-- one term is worth as much as two others
+abbrev pub IsSumOf : Term → Term → Term → List ℤ → Type 0
+IsSumOf first second sum values = worth_of values sum ≡ worth_of values first +ℤ worth_of values second

@@ -1,0 +1,134 @@
+//! Sums of at most three terms that aren't a number, as clauses.
+
+ghost use Rattle.std.specs.Prelude.{◌≢◌, ◌+ℤ◌, ◌<◌, pos, length, IsTrue, OnOk};
+ghost use Rattle.std.specs.List.{All, Contains};
+ghost use Rattle.enc_atoms.specs.Atoms.{Adds};
+ghost use Rattle.enc_linear.specs.Guards.{Unless};
+ghost use Rattle.enc_linear.specs.Terms.{IsOrdered, IsTermOf, Says, worth_of};
+ghost use Rattle.enc_var.specs.Layouts.{IsLayoutOf};
+
+use crate::guards::{add_guarded, with_atom};
+use crate::terms::{Step, Term};
+use cnf_core::Formula;
+use enc_atoms::{Atom, add_clause};
+use enc_var::Layout;
+use ep_base::Memory;
+use std::alloc::Global;
+
+/// "It isn't worth what it is at this step."
+fn other_than(term: &Term, step: Step) -> Atom
+    requires ordered { IsOrdered term.now }
+    requires step { Contains term.now.steps.items step }
+    ensures { Says term.now result (λ worth. worth ≢ step.worth) }
+{
+    Atom::is_not(term.var, step.value)
+}
+
+/// Adds that 0 isn't the number, unless a guard holds.
+pub(crate) fn add_none_apart(
+    alloc: Global,
+    layout: &Layout,
+    f: &mut Formula,
+    guards: &[Atom],
+    number: i128,
+) -> Result<(), Memory>
+    requires from_new { IsTrue f.old.from_new }
+    requires is_layout { IsLayoutOf layout.now f.old }
+    requires guards { All (λ atom. atom.var < length layout.now) guards.now }
+    ensures { OnOk result (Adds layout.now f.old layout.now f.new
+        (Unless guards.now (λ values. pos 0 ≢ number))) }
+{
+    if number < 0 {
+        return Ok(());
+    }
+    if 0 < number {
+        return Ok(());
+    }
+    add_clause(alloc, layout, f, guards)
+}
+
+/// Adds that a term isn't the number, unless a guard holds.
+pub(crate) fn add_one_apart(
+    alloc: Global,
+    layout: &Layout,
+    f: &mut Formula,
+    guards: &[Atom],
+    term: &Term,
+    number: i128,
+) -> Result<(), Memory>
+    requires from_new { IsTrue f.old.from_new }
+    requires is_layout { IsLayoutOf layout.now f.old }
+    requires guards { All (λ atom. atom.var < length layout.now) guards.now }
+    requires term { IsTermOf layout.now term.now }
+    ensures { OnOk result (Adds layout.now f.old layout.now f.new
+        (Unless guards.now (λ values. worth_of values term.now ≢ number))) }
+{
+    for step in &term.steps {
+        if step.worth < number {
+            continue;
+        }
+        if number < step.worth {
+            continue;
+        }
+        let other = other_than(term, *step);
+        add_guarded(alloc, layout, f, guards, other)?;
+    }
+    Ok(())
+}
+
+/// Adds that the sum of two terms isn't the number, unless a guard holds: a clause for each step of the first.
+pub(crate) fn add_two_apart(
+    alloc: Global,
+    layout: &Layout,
+    f: &mut Formula,
+    guards: &[Atom],
+    first: &Term,
+    second: &Term,
+    number: i128,
+) -> Result<(), Memory>
+    requires from_new { IsTrue f.old.from_new }
+    requires is_layout { IsLayoutOf layout.now f.old }
+    requires guards { All (λ atom. atom.var < length layout.now) guards.now }
+    requires first { IsTermOf layout.now first.now }
+    requires second { IsTermOf layout.now second.now }
+    ensures { OnOk result (Adds layout.now f.old layout.now f.new
+        (Unless guards.now (λ values. (worth_of values first.now +ℤ worth_of values second.now) ≢ number))) }
+{
+    for step in &first.steps {
+        let other = other_than(first, *step);
+        let atoms = with_atom(alloc, guards, other)?;
+        let left = number.checked_sub(step.worth).ok_or(Memory)?;
+        add_one_apart(alloc, layout, f, &atoms, second, left)?;
+    }
+    Ok(())
+}
+
+/// Adds that the sum of three terms isn't the number, unless a guard holds: a clause for each step of the first and of
+/// the second.
+pub(crate) fn add_three_apart(
+    alloc: Global,
+    layout: &Layout,
+    f: &mut Formula,
+    guards: &[Atom],
+    first: &Term,
+    second: &Term,
+    third: &Term,
+    number: i128,
+) -> Result<(), Memory>
+    requires from_new { IsTrue f.old.from_new }
+    requires is_layout { IsLayoutOf layout.now f.old }
+    requires guards { All (λ atom. atom.var < length layout.now) guards.now }
+    requires first { IsTermOf layout.now first.now }
+    requires second { IsTermOf layout.now second.now }
+    requires third { IsTermOf layout.now third.now }
+    ensures { OnOk result (Adds layout.now f.old layout.now f.new
+        (Unless guards.now (λ values. (worth_of values first.now +ℤ (worth_of values second.now +ℤ worth_of values third.now)) ≢ number))) }
+{
+    for step in &first.steps {
+        let other = other_than(first, *step);
+        let atoms = with_atom(alloc, guards, other)?;
+        let left = number.checked_sub(step.worth).ok_or(Memory)?;
+        add_two_apart(alloc, layout, f, &atoms, second, third, left)?;
+    }
+    Ok(())
+}

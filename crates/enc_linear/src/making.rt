@@ -1,0 +1,70 @@
+//! How terms are made.
+
+ghost use Rattle.std.specs.Prelude.{◌≡◌, ◌≢◌, ◌<◌, ◌*ℤ◌, pos, ℤ, List, length, IfOk};
+ghost use Rattle.enc_atoms.specs.Atoms.{AreOfDomains};
+ghost use Rattle.enc_linear.specs.Terms.{IsMirror, IsTermOf, mirrored_step, step_of, worth_of};
+ghost use Rattle.ep_flat.specs.Cons.{number_at};
+
+use crate::listing::listed;
+use crate::terms::{Step, Term};
+use enc_var::Layout;
+use ep_base::Memory;
+use std::alloc::Global;
+
+/// A number with what it is worth under a coefficient.
+fn multiplied(coefficient: i64, value: i64) -> Result<Step, Memory>
+    ensures { IfOk result (λ step. step ≡ step_of coefficient value) }
+{
+    let left = i128::from(coefficient);
+    let right = i128::from(value);
+    let worth = left.checked_mul(right).ok_or(Memory)?;
+    Ok(Step { value, worth })
+}
+
+/// A step whose worth is the opposite.
+fn opposite(step: Step) -> Result<Step, Memory>
+    ensures { IfOk result (λ twin. twin ≡ mirrored_step step) }
+{
+    let worth = 0i128.checked_sub(step.worth).ok_or(Memory)?;
+    Ok(Step {
+        value: step.value,
+        worth,
+    })
+}
+
+/// A variable with a coefficient.
+pub(crate) fn multiple(
+    alloc: Global,
+    layout: &Layout,
+    var: u64,
+    coefficient: i64,
+) -> Result<Term, Memory>
+    requires var { var < length layout.now }
+    requires coefficient { coefficient ≢ pos 0 }
+    ensures of_layout { IfOk result (λ term. IsTermOf layout.now term) }
+    ensures worth { IfOk result (λ term. (values : List ℤ) → AreOfDomains layout.now values
+        → worth_of values term ≡ coefficient *ℤ number_at values var) }
+{
+    let values = listed(alloc, layout.domain(var))?;
+    let mut steps = Vec::new(alloc);
+    for value in &values {
+        let step = multiplied(coefficient, *value)?;
+        steps.push(step)?;
+    }
+    let rising = 0 < coefficient;
+    Ok(Term { var, rising, steps })
+}
+
+/// The same variable, with each worth turned into its opposite.
+pub(crate) fn mirrored(alloc: Global, term: &Term) -> Result<Term, Memory>
+    ensures { IfOk result (λ twin. IsMirror term.now twin) }
+{
+    let mut steps = Vec::new(alloc);
+    for step in &term.steps {
+        let twin = opposite(*step)?;
+        steps.push(twin)?;
+    }
+    let var = term.var;
+    let rising = !term.rising;
+    Ok(Term { var, rising, steps })
+}

@@ -1,0 +1,103 @@
+//! Terms of sums: variables whose numbers are worth something.
+
+ghost use Rattle.std.specs.Prelude.{◌≡◌, ◌↔◌, ◌≤◌, ◌<◌, ◌<ℤ◌, ◌≤ℤ◌, true, false, length, IfOk, IsTrue, MatchOption, MatchResult};
+ghost use Rattle.std.specs.List.{All, AllPairs, AllWithin, Contains};
+ghost use Rattle.enc_atoms.specs.Atoms.{test_holds};
+ghost use Rattle.enc_linear.specs.Terms.{AreInOrder, IsOrdered, Says};
+
+use enc_atoms::Atom;
+use ep_base::Memory;
+
+/// A number of a variable, and what the term is worth there.
+#[derive(Clone, Copy, Debug, PartialEq, Eq)]
+pub struct Step {
+    /// The variable's number.
+    pub value: i64,
+    /// What the term is worth.
+    pub worth: i128,
+}
+
+/// A variable whose numbers are worth something: the greater, the more, or the greater, the less.
+#[derive(Debug, Drop)]
+pub struct Term {
+    /// The variable.
+    pub var: u64,
+    /// Whether greater numbers are worth more.
+    pub rising: bool,
+    /// The numbers in ascending order.
+    pub steps: Vec<Step>,
+}
+
+/// "It is worth less than at this step."
+pub(crate) fn less_than(term: &Term, step: Step) -> Result<Atom, Memory>
+    requires ordered { IsOrdered term.now }
+    requires step { Contains term.now.steps.items step }
+    ensures { IfOk result (λ atom. Says term.now atom (λ worth. worth <ℤ step.worth)) }
+{
+    if term.rising {
+        let below = step.value.checked_sub(1).ok_or(Memory)?;
+        return Ok(Atom::at_most(term.var, below));
+    }
+    Ok(Atom::above(term.var, step.value))
+}
+
+/// How many of some steps that are worth more and more are worth at most so much, by binary search.
+fn count_up_to(steps: &[Step], most: i128) -> usize
+    requires { AllPairs (AreInOrder true) steps.now }
+    ensures bound { result ≤ length steps.now }
+    ensures before { AllWithin (λ step. step.worth ≤ℤ most) steps.now 0 result }
+    ensures behind { AllWithin (λ step. most <ℤ step.worth) steps.now result (length steps.now) }
+{
+    steps.partition_point(|step| step.worth <= most)
+}
+
+/// How many of some steps that are worth less and less are worth more than this, by binary search.
+fn count_above(steps: &[Step], most: i128) -> usize
+    requires { AllPairs (AreInOrder false) steps.now }
+    ensures bound { result ≤ length steps.now }
+    ensures before { AllWithin (λ step. most <ℤ step.worth) steps.now 0 result }
+    ensures behind { AllWithin (λ step. step.worth ≤ℤ most) steps.now result (length steps.now) }
+{
+    steps.partition_point(|step| step.worth > most)
+}
+
+/// "It is worth at most so much", for steps that are worth more and more; none where it never is.
+fn rising_up_to(var: u64, steps: &[Step], most: i128) -> Option<Atom>
+    requires { AllPairs (AreInOrder true) steps.now }
+    ensures { MatchOption result (All (λ step. most <ℤ step.worth) steps.now) (λ atom. (atom.var ≡ var)
+        × All (λ step. IsTrue (test_holds atom.test atom.value step.value) ↔ (step.worth ≤ℤ most)) steps.now) }
+{
+    let count = count_up_to(steps, most);
+    if count == 0 {
+        return None;
+    }
+    let last = steps[count - 1];
+    Some(Atom::at_most(var, last.value))
+}
+
+/// "It is worth at most so much", for steps that are worth less and less; none where it never is.
+fn falling_up_to(var: u64, steps: &[Step], most: i128) -> Result<Option<Atom>, Memory>
+    requires { AllPairs (AreInOrder false) steps.now }
+    ensures { IfOk result (λ found. MatchOption found (All (λ step. most <ℤ step.worth) steps.now) (λ atom. (atom.var ≡ var)
+        × All (λ step. IsTrue (test_holds atom.test atom.value step.value) ↔ (step.worth ≤ℤ most)) steps.now)) }
+{
+    let count = count_above(steps, most);
+    if count == steps.len() {
+        return Ok(None);
+    }
+    let first = steps[count];
+    let below = first.value.checked_sub(1).ok_or(Memory)?;
+    Ok(Some(Atom::above(var, below)))
+}
+
+/// "It is worth at most so much"; none where it never is.
+pub(crate) fn up_to(term: &Term, most: i128) -> Result<Option<Atom>, Memory>
+    requires { IsOrdered term.now }
+    ensures { IfOk result (λ found. MatchOption found (All (λ step. most <ℤ step.worth) term.now.steps.items)
+        (λ atom. Says term.now atom (λ worth. worth ≤ℤ most))) }
+{
+    if term.rising {
+        return Ok(rising_up_to(term.var, &term.steps, most));
+    }
+    falling_up_to(term.var, &term.steps, most)
+}
