@@ -1,0 +1,10 @@
+mod Counting
+mod Quotients
+mod Powers
+mod Found
+mod Cases
+mod Entries
+mod Orders
+mod Levels
+mod Constraining
+mod Whether

@@ -1,0 +1,7 @@
+pub mod Finding
+pub mod Functions
+pub mod Saying
+pub mod Elements
+pub mod Operations
+pub mod Entries
+pub mod Extremes

@@ -2,6 +2,18 @@
 //! least and greatest parts, and elements.
 #![tactic(auto)]
 
+mod constraints;
+mod elements;
 mod encode;
+mod extremes;
+mod functions;
+mod listing;
+mod numbers;
+mod operations;
+mod sides;
+mod targets;
+mod telling;
+#[cfg(test)]
+mod tests;
 
 pub use encode::encode_con;

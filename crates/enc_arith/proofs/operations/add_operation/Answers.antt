@@ -1,0 +1,26 @@
+use Rattle.std.proofs.Common.{[], ℤ, pos, List, Bool, ◌∙◌, get_or, w64, to_z, of_z, rules}
+use Rattle.std.specs.Ordering.{int_eq}
+use Rattle.std.proofs.lemmas.Int.{to_z-of_z}
+use Rattle.ep_flat.specs.Cons.{number_at}
+use Rattle.enc_arith.specs.Operations.{result_of}
+use Rattle.enc_arith.proofs.Cases.{cases_begin, cases_end, cases_more}
+use Rattle.enc_arith.proofs.operations.add_operation.Goals as goal
+
+pub loop-number-init : goal.loop-number-init
+loop-number-init c =
+    let P : List ℤ → ℤ → Bool = λ vs n. int_eq (number_at vs c.args.target.result) (result_of c.args.operation n (number_at vs c.args.y)) in
+    cases_begin c.args.layout.now c.args.f.now [] c.args.x c.args.target.truth P c.as_slice-number-items.result.now c.requires.ready
+
+pub loop-number-preserved : goal.loop-number-preserved
+loop-number-preserved c =
+    let P : List ℤ → ℤ → Bool = λ vs n. int_eq (number_at vs c.args.target.result) (result_of c.args.operation n (number_at vs c.args.y)) in
+    let ns : List ℤ = c.as_slice-number-items.result.now in
+    let n : ℤ = get_or ns c.loop-number.number-index (pos 0) in
+    cases_more c.args.layout.now c.args.f.now c.loop-number.f c.add_given.new.f [] c.args.x c.args.target.truth P ns c.loop-number.number-index (pos 0) (to_z w64 (of_z w64 n)) c.requires.ready
+    c.loop-number-test.true (to_z-of_z w64 n (search rules)) c.loop-number.invariant c.in_ok-add_given.ensures
+
+pub returns : goal.returns
+returns c =
+    let P : List ℤ → ℤ → Bool = λ vs n. int_eq (number_at vs c.args.target.result) (result_of c.args.operation n (number_at vs c.args.y)) in
+    cases_end c.args.layout.now c.args.f.now c.loop-number.f [] c.args.x c.args.target.truth P c.as_slice-number-items.result.now c.loop-number.number-index c.requires.ready c.requires.first
+    (c.as_slice-number-items.ensures.value ∙ c.in_ok-numbers.ensures ∙ c.domain.ensures) c.loop-number-test.false c.loop-number.invariant

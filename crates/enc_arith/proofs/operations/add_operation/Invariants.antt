@@ -1,0 +1,12 @@
+use Rattle.std.proofs.Common.{[], take}
+use Rattle.std.specs.Ordering.{int_eq}
+use Rattle.ep_flat.specs.Cons.{number_at}
+use Rattle.enc_atoms.specs.Atoms.{Adds}
+use Rattle.enc_arith.specs.Operations.{result_of}
+use Rattle.enc_arith.proofs.Cases.{CasesOf}
+use Rattle.enc_arith.proofs.operations.add_operation.Given as goal
+
+abbrev pub invariant-loop-number : goal.invariant-loop-number
+invariant-loop-number l =
+    Adds l.layout l.fn.f l.layout l.f
+    (λ values. CasesOf [] l.x l.target.truth (λ vs n. int_eq (number_at vs l.target.result) (result_of l.operation n (number_at vs l.y))) (take l.number-index l.number-items) values)
