@@ -1,6 +1,7 @@
 //! Different variables and counts of values, as clauses.
 #![tactic(auto)]
 
+mod different;
 mod encode;
 
 pub use encode::encode_con;

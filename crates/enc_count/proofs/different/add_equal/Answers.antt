@@ -1,0 +1,29 @@
+use Rattle.std.proofs.Common.{◌≡◌, ◌∙◌, ℤ, pos, List, [], ◌∷◌, ap, subst, get_or, w64, to_z, of_z, rules}
+use Rattle.std.proofs.lemmas.Int.{to_z-of_z}
+use Rattle.enc_atoms.proofs.Adding.{adds_none, adds_one_more}
+use Rattle.enc_atoms.specs.Atoms.{Adds}
+use Rattle.enc_steps.proofs.Naming.{fails_as}
+use Rattle.enc_steps.specs.Steps.{Implied, Unless}
+use Rattle.enc_count.proofs.Differing.{equal_all}
+use Rattle.enc_count.proofs.different.add_equal.Goals as goal
+
+pub loop-number-init : goal.loop-number-init
+loop-number-init c =
+    adds_none c.args.layout.now c.args.f.now (λ values (v : ℤ). Unless (c.is_not.result ∷ []) (Implied c.args.one v c.args.other v) values) c.deref-number-items.result.now c.requires.ready.is_layout c.requires.ready.from_new
+
+pub loop-number-preserved : goal.loop-number-preserved
+loop-number-preserved c =
+    let L = c.args.layout.now in
+    let ns : List ℤ = c.deref-number-items.result.now in
+    let k = c.loop-number.number-index in
+    let n : ℤ = get_or ns k (pos 0) in
+    let whole : to_z w64 (of_z w64 n) ≡ n = to_z-of_z w64 n (search rules) in
+    adds_one_more L c.args.f.now c.loop-number.f L c.add_implied.new.f (λ values (v : ℤ). Unless (c.is_not.result ∷ []) (Implied c.args.one v c.args.other v) values) ns k (pos 0) c.requires.ready.is_layout c.loop-number-test.true c.loop-number.invariant
+    (subst (λ (w : ℤ). Adds L c.loop-number.f L c.add_implied.new.f (Unless (c.is_not.result ∷ []) (Implied c.args.one w c.args.other w))) whole c.in_ok-add_implied.ensures)
+
+pub returns : goal.returns
+returns c =
+    equal_all c.args.layout.now c.args.f.now c.loop-number.f (c.is_not.result ∷ []) c.args.truth c.args.one c.args.other c.deref-number-items.result.now c.loop-number.number-index c.requires.ready.is_layout c.requires.one
+    (c.deref-number-items.ensures.value ∙ c.in_ok-numbers.ensures ∙ c.domain.ensures) c.loop-number-test.false
+    (fails_as c.args.truth (pos 1) (c.is_not.result ∷ []) (ap (λ a. a ∷ []) c.is_not.ensures))
+    c.loop-number.invariant
