@@ -2,5 +2,6 @@
 #![tactic(auto)]
 
 mod encode;
+mod tables;
 
 pub use encode::encode_con;
