@@ -1,6 +1,11 @@
 //! Flat problems as formulas.
 #![tactic(auto)]
 
+mod families;
+mod truths;
 mod whole;
 
 pub use whole::encode;
+
+#[cfg(test)]
+mod tests;
