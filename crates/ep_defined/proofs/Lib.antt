@@ -1,0 +1,14 @@
+pub mod Grown
+pub mod SameParts
+pub mod Parts
+pub mod Standing
+pub mod KeyTests
+pub mod KindSteps
+pub mod Reaches
+pub mod Listing
+pub mod Translating
+pub mod Growth
+pub mod AllImages
+pub mod Removing
+pub mod Removed
+pub mod Ending

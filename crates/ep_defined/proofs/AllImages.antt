@@ -1,0 +1,13 @@
+-- The loop over all terms of a ground.
+use Rattle.std.proofs.Common.{ℕ, List, subst}
+use Rattle.std.specs.List.{All}
+use Rattle.std.proofs.lemmas.List.{get_or_default}
+use Rattle.ep_defined.specs.Images.{StandsIn, nowhere}
+use Rattle.ep_defined.specs.Translations.{Translates}
+use Rattle.ep_defined.specs.declared.images.Image.{Image}
+use Rattle.ep_ground.specs.Nodes.{GroundNode}
+use Rattle.ep_ground.specs.declared.cells.Cell.{Cell}
+
+-- what stands for the terms so far stands in the new nodes
+pub images_stand : (cells : List Cell) (olds news : List GroundNode) (nought : ℕ) (images : List Image) → Translates cells olds news nought images → All (StandsIn news) images
+images_stand cells olds news nought images h = λ k d below. subst (StandsIn news) (get_or_default images k nowhere d below) (h.each k below).there
