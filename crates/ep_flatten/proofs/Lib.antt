@@ -1,0 +1,10 @@
+pub mod Reaches
+pub mod Unrolled
+pub mod Sayings
+pub mod Frames
+pub mod Growing
+pub mod MarkedTerms
+pub mod Adding
+pub mod Standing
+pub mod RunEnds
+pub mod Ends

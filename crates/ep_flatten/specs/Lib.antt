@@ -1,1 +1,5 @@
 pub mod Flattening
+pub mod Saying
+pub mod Building
+pub mod Marking
+pub mod RunEnds

@@ -1,25 +1,112 @@
 //! Flattening.
 
-ghost use Rattle.std.specs.Prelude.{IfOk};
-ghost use Rattle.ep_flat.specs.FlatViews.{plain_flat, plain_map};
+ghost use Rattle.std.specs.Prelude.{◌≡◌, ◌++◌, ◌<◌, List, Bool, length, map, option_map, IfOk, OnOk};
+ghost use Rattle.std.specs.List.{All};
+ghost use Rattle.ep_flat.specs.FlatViews.{plain_con, plain_flat, plain_map};
+ghost use Rattle.ep_flatten.specs.Building.{AreMarks, IsBuilt, plain_built, truth_con};
 ghost use Rattle.ep_flatten.specs.Flattening.{StandsFor};
+ghost use Rattle.ep_flatten.specs.Saying.{place_of};
 ghost use Rattle.ep_ground.specs.Bounds.{IsBounded};
 ghost use Rattle.ep_ground.specs.Grounds.{HasNoPartialNode, IsWellFormed};
 ghost use Rattle.ep_ground.specs.GroundViews.{plain_ground};
 
-use ep_base::Memory;
-use ep_flat::{CellMap, Flat};
-use ep_ground::Ground;
+use crate::building::{Building, add_term};
+use crate::lists::place_at;
+use crate::marks::marks_of;
+use ep_base::{Memory, Sense};
+use ep_flat::{CellMap, Con, ConKind, Flat};
+use ep_ground::{Ground, Term};
 use std::alloc::Global;
 
 /// A flat problem that stands for the ground, and the variables of its cells and its objective.
-pub fn flatten(_alloc: Global, g: &Ground) -> Result<(Flat, CellMap), Memory>
+/// One variable and one constraint for each node that the clauses and the objective lead to.
+pub fn flatten(alloc: Global, g: &Ground) -> Result<(Flat, CellMap), Memory>
     requires no_partial { HasNoPartialNode (plain_ground g.now) }
     requires well_formed { IsWellFormed (plain_ground g.now) }
     requires bounded { IsBounded (plain_ground g.now) }
     ensures { IfOk result (λ made.
         StandsFor (plain_ground g.now) (plain_flat made.0) (plain_map made.1)) }
 {
-    let _ground = g;
-    Err(Memory)
+    let marks = marks_of(alloc, g)?;
+    let mut made = built(alloc, g, &marks)?;
+    add_clauses(alloc, &mut made.cons, &made.places, &g.clauses)?;
+    let objective = placed_goal(&made.places, &g.objective);
+    let Building {
+        vars,
+        cons,
+        cells,
+        ..
+    } = made;
+    Ok((Flat { vars, cons }, CellMap { cells, objective }))
+}
+
+/// Variables and constraints for the marked terms.
+fn built(alloc: Global, g: &Ground, marks: &[bool]) -> Result<Building, Memory>
+    requires long { length marks.now ≡ length (plain_ground g.now).nodes }
+    requires well_formed { IsWellFormed (plain_ground g.now) }
+    requires bounded { IsBounded (plain_ground g.now) }
+    requires marks { AreMarks (plain_ground g.now) marks.now }
+    ensures { IfOk result (λ made.
+        IsBuilt (plain_ground g.now) marks.now (length (plain_ground g.now).nodes) (plain_built made)) }
+{
+    let mut made = begun(alloc, g)?;
+    for term in 0..g.arena.len() {
+        add_term(alloc, g, marks, &mut made, Term::new(term as u32))?;
+    }
+    Ok(made)
+}
+
+/// The cells' variables, with their domains.
+fn begun(alloc: Global, g: &Ground) -> Result<Building, Memory>
+    requires { IsBounded (plain_ground g.now) }
+    ensures { IfOk result (λ made.
+        (marks : List Bool) → IsBuilt (plain_ground g.now) marks 0 (plain_built made)) }
+{
+    let mut vars = Vec::new(alloc);
+    let mut cells = Vec::new(alloc);
+    for cell in &g.cells {
+        cells.push(vars.len() as u64)?;
+        vars.push(cell.values.copy(alloc)?)?;
+    }
+    Ok(Building {
+        vars,
+        cons: Vec::new(alloc),
+        places: Vec::new(alloc),
+        spans: Vec::new(alloc),
+        cells,
+    })
+}
+
+/// Adds for each term the clause that it is true.
+fn add_clauses(
+    alloc: Global,
+    cons: &mut Vec<Con>,
+    places: &[u64],
+    clauses: &[Term],
+) -> Result<(), Memory>
+    ensures { OnOk result (map plain_con cons.new.items
+        ≡ map plain_con cons.old.items ++ map (truth_con places.now) clauses.now) }
+{
+    for term in clauses {
+        cons.push(truth_of(alloc, places, *term)?)?;
+    }
+    Ok(())
+}
+
+/// The clause that a term is true.
+fn truth_of(alloc: Global, places: &[u64], term: Term) -> Result<Con, Memory>
+    ensures { IfOk result (λ con. plain_con con ≡ truth_con places.now term) }
+{
+    let mut literals = Vec::new(alloc);
+    literals.push((true, place_at(places, term)))?;
+    let kind = ConKind::Clause(literals);
+    Ok(Con { truth: None, kind })
+}
+
+/// The variable of the objective's term, where there is one.
+fn placed_goal(places: &[u64], objective: &Option<(Sense, Term)>) -> Option<(Sense, u64)>
+    ensures { result ≡ option_map (λ goal. (goal.0, place_of places.now goal.1)) objective.now }
+{
+    let (sense, goal) = (*objective)?;
+    Some((sense, place_at(places, goal)))
 }

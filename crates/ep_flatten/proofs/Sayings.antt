@@ -1,0 +1,337 @@
+-- For each kind of node, the constraint that holds exactly where a variable has the node's value.
+use Rattle.std.specs.Prelude.{◌≡◌, ℕ, ◌<◌, Bool, true, false, not, ◌&&◌, ◌||◌, List, [], ◌∷◌, ◌++◌, length, map, ℤ, pos, negsuc, ◌+ℤ◌, ◌*ℤ◌, neg_ℤ, Option, Some, None, option_map, option_and_then, unwrap_or, refl}
+use Rattle.std.proofs.Common.{ap, arith, subst, sym, ◌∙◌}
+use Rattle.std.proofs.lemmas.Int.{ints}
+use Rattle.std.proofs.lemmas.List.{map-append}
+use Rattle.std.specs.List.{All, list_all, list_any}
+use Rattle.std.specs.Ordering.{int_eq}
+use Rattle.std.proofs.lemmas.List.Elements.{All-append, All-nil, All-cons, All-map}
+use Rattle.ep_base.specs.Intervals.{greatest_or_zero, least_or_zero}
+use Rattle.ep_base.specs.Numbers.{absolute_of, all_one, any_one, are_different, compare_holds, counts_hold, greatest_of, has_number, is_one, is_row_of, least_of, lex_holds, nth_power, of_bool, sum_of}
+use Rattle.ep_base.specs.Reads as reads
+use Rattle.ep_base.specs.Reads.{IsWithinNumbers, all_there, safe_picked, same_bool, weighted_sum}
+use Rattle.ep_base.specs.declared.operators.CompareOp.{CompareOp}
+use Rattle.ep_base.specs.declared.operators.CompareOp.TheVariants as comparisons
+use Rattle.ep_base.specs.declared.operators.LexOp.{LexOp}
+use Rattle.ep_flat.specs.Cons as flat
+use Rattle.ep_flat.specs.Cons.{FlatCon, FlatKind, con_holds, con_variables, is_as_said, is_value, kind_coefficients, kind_holds, kind_variables, number_at, numbers_at}
+use Rattle.ep_ground.specs.Nodes.{GroundNode, sum, product, power, absolute, least, greatest, safe_quotient, safe_remainder, safe_pick, compare, lex, member, negation, all_of, any_of, same_truth, all_different, counts, at_least, at_most, table, coefficients_of, parts_of}
+use Rattle.ep_ground.specs.Terms.{node_value, on_both, truth, values_of, weighed}
+use Rattle.ep_flatten.specs.Saying.{Says, place_of, value_under}
+
+-- a constraint with the result's variable, or with its truth value
+abbrev pub plain : FlatKind → FlatCon
+plain kind = record { truth = None; kind = kind }
+
+abbrev pub told : ℕ → FlatKind → FlatCon
+told r kind = record { truth = Some r; kind = kind }
+
+-- the values of some terms under numbers of variables
+pub values_there : (values : List ℤ) (places ts : List ℕ) → values_of (value_under values places) ts ≡ Some (numbers_at values (map (place_of places) ts))
+unfolding values_of all_there value_under numbers_at
+values_there values places [] = refl
+values_there values places (t ∷ ts) = ap (option_map (λ ns. number_at values (place_of places t) ∷ ns)) (values_there values places ts)
+
+-- the variables of a result and of some terms are those of so many
+all_named : (places : List ℕ) (bound r : ℕ) (ts : List ℕ) → r < bound → All (λ t. place_of places t < bound) ts → All (λ x. x < bound) (r ∷ map (place_of places) ts)
+all_named places bound r ts h k = All-cons (λ x. x < bound) r (map (place_of places) ts) h (All-map (λ x. x < bound) (place_of places) ts k)
+
+-- a constraint without coefficients that names the result and the parts
+made : (places : List ℕ) (node : GroundNode) (r : ℕ) (con : FlatCon) (value : List ℤ → ℤ)
+    → ((cells values : List ℤ) → node_value cells (value_under values places) node ≡ Some (value values))
+    → ((values : List ℤ) → con_holds values con ≡ int_eq (number_at values r) (value values))
+    → con_variables con ≡ r ∷ map (place_of places) (parts_of node) → kind_coefficients con.kind ≡ [] → Says places node r con
+made places node r con value gives says names none = record {
+  value = value;
+  gives = gives;
+  says = says;
+  names = λ bound h k. subst (λ xs. All (λ x. x < bound) xs) (sym names) (all_named places bound r (parts_of node) h k);
+  coefficients = λ _. subst (λ ns. All IsWithinNumbers ns) (sym none) (All-nil IsWithinNumbers);
+}
+
+-- a constraint that has a truth value
+said : (places : List ℕ) (node : GroundNode) (r : ℕ) (kind : FlatKind)
+    → ((cells values : List ℤ) → node_value cells (value_under values places) node ≡ Some (of_bool (kind_holds values kind)))
+    → kind_variables kind ≡ map (place_of places) (parts_of node) → kind_coefficients kind ≡ [] → Says places node r (told r kind)
+unfolding con_holds is_as_said con_variables
+said places node r kind gives names none =
+    made places node r (told r kind) (λ values. of_bool (kind_holds values kind)) gives (λ values. refl) (ap (λ xs. r ∷ xs) names) none
+
+truth_or : (o : Option Bool) → truth o ≡ Some (of_bool (unwrap_or o false))
+unfolding truth of_bool
+truth_or None = refl
+truth_or (Some b) = refl
+
+-- ---- functions
+
+pub says_product : (places : List ℕ) (a b r : ℕ) → Says places (product a b) r (plain (flat.product r (place_of places a) (place_of places b)))
+unfolding node_value on_both value_under con_holds is_as_said kind_holds con_variables kind_variables kind_coefficients parts_of
+says_product places a b r =
+    made places (product a b) r (plain (flat.product r (place_of places a) (place_of places b))) (λ values. number_at values (place_of places a) *ℤ number_at values (place_of places b))
+    (λ cells values. refl) (λ values. refl) refl refl
+
+pub says_quotient : (places : List ℕ) (a b r : ℕ) → Says places (safe_quotient a b) r (plain (flat.quotient r (place_of places a) (place_of places b)))
+unfolding node_value on_both value_under con_holds is_as_said kind_holds con_variables kind_variables kind_coefficients parts_of
+says_quotient places a b r =
+    made places (safe_quotient a b) r (plain (flat.quotient r (place_of places a) (place_of places b))) (λ values. reads.safe_quotient (number_at values (place_of places a)) (number_at values (place_of places b)))
+    (λ cells values. refl) (λ values. refl) refl refl
+
+pub says_remainder : (places : List ℕ) (a b r : ℕ) → Says places (safe_remainder a b) r (plain (flat.remainder r (place_of places a) (place_of places b)))
+unfolding node_value on_both value_under con_holds is_as_said kind_holds con_variables kind_variables kind_coefficients parts_of
+says_remainder places a b r =
+    made places (safe_remainder a b) r (plain (flat.remainder r (place_of places a) (place_of places b))) (λ values. reads.safe_remainder (number_at values (place_of places a)) (number_at values (place_of places b)))
+    (λ cells values. refl) (λ values. refl) refl refl
+
+pub says_power : (places : List ℕ) (a n r : ℕ) → Says places (power a n) r (plain (flat.power r (place_of places a) n))
+unfolding node_value value_under con_holds is_as_said kind_holds con_variables kind_variables kind_coefficients parts_of
+says_power places a n r =
+    made places (power a n) r (plain (flat.power r (place_of places a) n)) (λ values. nth_power (number_at values (place_of places a)) n)
+    (λ cells values. refl) (λ values. refl) refl refl
+
+pub says_absolute : (places : List ℕ) (a r : ℕ) → Says places (absolute a) r (plain (flat.absolute r (place_of places a)))
+unfolding node_value value_under con_holds is_as_said kind_holds con_variables kind_variables kind_coefficients parts_of
+says_absolute places a r =
+    made places (absolute a) r (plain (flat.absolute r (place_of places a))) (λ values. absolute_of (number_at values (place_of places a)))
+    (λ cells values. refl) (λ values. refl) refl refl
+
+least_there : (xs : List ℤ) → 0 < length xs → least_of xs ≡ Some (least_or_zero xs)
+unfolding least_of least_or_zero
+least_there [] h = absurd (omega (arith, h))
+least_there (x ∷ xs) h = refl
+
+greatest_there : (xs : List ℤ) → 0 < length xs → greatest_of xs ≡ Some (greatest_or_zero xs)
+unfolding greatest_of greatest_or_zero
+greatest_there [] h = absurd (omega (arith, h))
+greatest_there (x ∷ xs) h = refl
+
+some_numbers : (values : List ℤ) (places ts : List ℕ) → 0 < length ts → 0 < length (numbers_at values (map (place_of places) ts))
+unfolding numbers_at
+some_numbers values places [] h = absurd (omega (arith, h))
+some_numbers values places (t ∷ ts) h = omega arith
+
+pub says_least : (places ts : List ℕ) (r : ℕ) → 0 < length ts → Says places (least ts) r (plain (flat.least r (map (place_of places) ts)))
+unfolding node_value con_holds is_as_said is_value kind_holds con_variables kind_variables kind_coefficients parts_of
+says_least places ts r h =
+    made places (least ts) r (plain (flat.least r (map (place_of places) ts))) (λ values. least_or_zero (numbers_at values (map (place_of places) ts)))
+    (λ cells values. ap (option_and_then least_of) (values_there values places ts) ∙ least_there (numbers_at values (map (place_of places) ts)) (some_numbers values places ts h))
+    (λ values. ap (λ o. is_value o (number_at values r)) (least_there (numbers_at values (map (place_of places) ts)) (some_numbers values places ts h)))
+    refl refl
+
+pub says_greatest : (places ts : List ℕ) (r : ℕ) → 0 < length ts → Says places (greatest ts) r (plain (flat.greatest r (map (place_of places) ts)))
+unfolding node_value con_holds is_as_said is_value kind_holds con_variables kind_variables kind_coefficients parts_of
+says_greatest places ts r h =
+    made places (greatest ts) r (plain (flat.greatest r (map (place_of places) ts))) (λ values. greatest_or_zero (numbers_at values (map (place_of places) ts)))
+    (λ cells values. ap (option_and_then greatest_of) (values_there values places ts) ∙ greatest_there (numbers_at values (map (place_of places) ts)) (some_numbers values places ts h))
+    (λ values. ap (λ o. is_value o (number_at values r)) (greatest_there (numbers_at values (map (place_of places) ts)) (some_numbers values places ts h)))
+    refl refl
+
+pub says_pick : (places ts : List ℕ) (keys : List (List ℤ)) (indices : List ℕ) (r : ℕ) → Says places (safe_pick ts keys indices) r (plain (flat.element r (map (place_of places) ts) keys (map (place_of places) indices)))
+unfolding node_value on_both con_holds is_as_said kind_holds con_variables kind_variables kind_coefficients parts_of
+says_pick places ts keys indices r =
+    made places (safe_pick ts keys indices) r (plain (flat.element r (map (place_of places) ts) keys (map (place_of places) indices)))
+    (λ values. safe_picked (numbers_at values (map (place_of places) ts)) keys (numbers_at values (map (place_of places) indices)))
+    (λ cells values.
+    ap (λ o. on_both {C = ℤ} (λ xs is. Some (safe_picked xs keys is)) o (values_of (value_under values places) indices)) (values_there values places ts)
+    ∙ ap (λ o. on_both {C = ℤ} (λ xs is. Some (safe_picked xs keys is)) (Some (numbers_at values (map (place_of places) ts))) o) (values_there values places indices))
+    (λ values. refl)
+    (ap (λ xs. r ∷ xs) (sym (map-append (place_of places) ts indices))) refl
+
+-- ---- truth values
+
+moved : (op : CompareOp) (x y : ℤ) → compare_holds op ((pos 1 *ℤ x) +ℤ ((negsuc 0 *ℤ y) +ℤ pos 0)) (pos 0) ≡ compare_holds op x y
+unfolding compare_holds
+moved comparisons.Equal x y = grind (arith, ints)
+moved comparisons.NotEqual x y = grind (arith, ints)
+moved comparisons.Less x y = grind (arith, ints)
+moved comparisons.AtMost x y = grind (arith, ints)
+moved comparisons.Greater x y = grind (arith, ints)
+moved comparisons.AtLeast x y = grind (arith, ints)
+
+one_within : IsWithinNumbers (pos 1)
+one_within = (omega (arith, ints), omega (arith, ints))
+
+minus_one_within : IsWithinNumbers (negsuc 0)
+minus_one_within = (omega (arith, ints), omega (arith, ints))
+
+pub says_compare : (places : List ℕ) (op : CompareOp) (a b r : ℕ)
+    → Says places (compare op a b) r (told r (flat.linear ((pos 1, place_of places a) ∷ (negsuc 0, place_of places b) ∷ []) op (pos 0)))
+unfolding node_value on_both value_under con_holds is_as_said kind_holds con_variables kind_variables kind_coefficients parts_of weighted_sum sum_of
+says_compare places op a b r = record {
+  value = λ values. of_bool (compare_holds op (number_at values (place_of places a)) (number_at values (place_of places b)));
+  gives = λ cells values. truth_or (Some (compare_holds op (number_at values (place_of places a)) (number_at values (place_of places b))));
+  says = λ values. ap (λ b. int_eq (number_at values r) (of_bool b)) (moved op (number_at values (place_of places a)) (number_at values (place_of places b)));
+  names = λ bound h k. all_named places bound r (a ∷ b ∷ []) h k;
+  coefficients = λ _. All-cons IsWithinNumbers (pos 1) (negsuc 0 ∷ []) one_within (All-cons IsWithinNumbers (negsuc 0) [] minus_one_within (All-nil IsWithinNumbers));
+}
+
+pub says_lex : (places : List ℕ) (op : LexOp) (ts us : List ℕ) (r : ℕ) → Says places (lex op ts us) r (told r (flat.lex op (map (place_of places) ts) (map (place_of places) us)))
+unfolding node_value on_both kind_holds kind_variables kind_coefficients parts_of
+says_lex places op ts us r =
+    said places (lex op ts us) r (flat.lex op (map (place_of places) ts) (map (place_of places) us))
+    (λ cells values.
+    ap (λ o. truth (on_both (λ xs ys. Some (lex_holds op xs ys)) o (values_of (value_under values places) us))) (values_there values places ts)
+    ∙ ap (λ o. truth (on_both (λ xs ys. Some (lex_holds op xs ys)) (Some (numbers_at values (map (place_of places) ts))) o)) (values_there values places us)
+    ∙ truth_or (Some (lex_holds op (numbers_at values (map (place_of places) ts)) (numbers_at values (map (place_of places) us)))))
+    (sym (map-append (place_of places) ts us)) refl
+
+pub says_member : (places : List ℕ) (a : ℕ) (ns : List ℤ) (r : ℕ) → Says places (member a ns) r (told r (flat.member (place_of places a) ns))
+unfolding node_value value_under kind_holds kind_variables kind_coefficients parts_of
+says_member places a ns r =
+    said places (member a ns) r (flat.member (place_of places a) ns)
+    (λ cells values. truth_or (Some (has_number ns (number_at values (place_of places a))))) refl refl
+
+same_false : (b : Bool) → not b ≡ (same_bool b false || false)
+unfolding same_bool
+same_false true = refl
+same_false false = refl
+
+same_true : (b : Bool) → b ≡ same_bool b true
+unfolding same_bool
+same_true true = refl
+same_true false = refl
+
+pub says_negation : (places : List ℕ) (a r : ℕ) → Says places (negation a) r (told r (flat.clause ((false, place_of places a) ∷ [])))
+unfolding node_value value_under kind_holds kind_variables kind_coefficients parts_of
+says_negation places a r =
+    said places (negation a) r (flat.clause ((false, place_of places a) ∷ []))
+    (λ cells values. truth_or (Some (not (is_one (number_at values (place_of places a))))) ∙ ap (λ b. Some (of_bool b)) (same_false (is_one (number_at values (place_of places a)))))
+    refl refl
+
+all_ones : (values : List ℤ) (xs : List ℕ) → all_one (numbers_at values xs) ≡ list_all (λ x. is_one (number_at values x)) xs
+unfolding all_one numbers_at
+all_ones values [] = refl
+all_ones values (x ∷ xs) = ap (λ b. is_one (number_at values x) && b) (all_ones values xs)
+
+pub says_all : (places ts : List ℕ) (r : ℕ) → Says places (all_of ts) r (told r (flat.all_of (map (place_of places) ts)))
+unfolding node_value kind_holds kind_variables kind_coefficients parts_of
+says_all places ts r =
+    said places (all_of ts) r (flat.all_of (map (place_of places) ts))
+    (λ cells values. ap (λ o. truth (option_map all_one o)) (values_there values places ts) ∙ truth_or (Some (all_one (numbers_at values (map (place_of places) ts))))
+    ∙ ap (λ b. Some (of_bool b)) (all_ones values (map (place_of places) ts)))
+    refl refl
+
+-- the literals that say that variables are true
+abbrev pub literals : List ℕ → List (Bool × ℕ)
+literals xs = map (λ x. (true, x)) xs
+
+any_ones : (values : List ℤ) (xs : List ℕ) → any_one (numbers_at values xs) ≡ list_any (λ p. same_bool (is_one (number_at values p.1)) p.0) (literals xs)
+unfolding any_one numbers_at
+any_ones values [] = refl
+any_ones values (x ∷ xs) =
+    ap (λ b. b || any_one (numbers_at values xs)) (same_true (is_one (number_at values x)))
+    ∙ ap (λ b. same_bool (is_one (number_at values x)) true || b) (any_ones values xs)
+
+literal_variables : (xs : List ℕ) → map (λ p. p.1) (literals xs) ≡ xs
+literal_variables [] = refl
+literal_variables (x ∷ xs) = ap (λ ys. x ∷ ys) (literal_variables xs)
+
+pub says_any : (places ts : List ℕ) (r : ℕ) → Says places (any_of ts) r (told r (flat.clause (literals (map (place_of places) ts))))
+unfolding node_value kind_holds kind_variables kind_coefficients parts_of
+says_any places ts r =
+    said places (any_of ts) r (flat.clause (literals (map (place_of places) ts)))
+    (λ cells values. ap (λ o. truth (option_map any_one o)) (values_there values places ts) ∙ truth_or (Some (any_one (numbers_at values (map (place_of places) ts))))
+    ∙ ap (λ b. Some (of_bool b)) (any_ones values (map (place_of places) ts)))
+    (literal_variables (map (place_of places) ts)) refl
+
+pub says_same : (places : List ℕ) (a b r : ℕ) → Says places (same_truth a b) r (told r (flat.same_truth (place_of places a) (place_of places b)))
+unfolding node_value on_both value_under kind_holds kind_variables kind_coefficients parts_of
+says_same places a b r =
+    said places (same_truth a b) r (flat.same_truth (place_of places a) (place_of places b))
+    (λ cells values. truth_or (Some (same_bool (is_one (number_at values (place_of places a))) (is_one (number_at values (place_of places b)))))) refl refl
+
+pub says_different : (places ts : List ℕ) (r : ℕ) → Says places (all_different ts) r (told r (flat.all_different (map (place_of places) ts)))
+unfolding node_value kind_holds kind_variables kind_coefficients parts_of
+says_different places ts r =
+    said places (all_different ts) r (flat.all_different (map (place_of places) ts))
+    (λ cells values. ap (λ o. truth (option_map are_different o)) (values_there values places ts) ∙ truth_or (Some (are_different (numbers_at values (map (place_of places) ts)))))
+    refl refl
+
+pub says_counts : (places ts : List ℕ) (ns : List ℤ) (us : List ℕ) (r : ℕ) → Says places (counts ts ns us) r (told r (flat.counts (map (place_of places) ts) ns (map (place_of places) us)))
+unfolding node_value on_both kind_holds kind_variables kind_coefficients parts_of
+says_counts places ts ns us r =
+    said places (counts ts ns us) r (flat.counts (map (place_of places) ts) ns (map (place_of places) us))
+    (λ cells values.
+    ap (λ o. truth (on_both (λ xs cs. counts_hold CompareOp.Equal xs ns cs) o (values_of (value_under values places) us))) (values_there values places ts)
+    ∙ ap (λ o. truth (on_both (λ xs cs. counts_hold CompareOp.Equal xs ns cs) (Some (numbers_at values (map (place_of places) ts))) o)) (values_there values places us)
+    ∙ truth_or (counts_hold CompareOp.Equal (numbers_at values (map (place_of places) ts)) ns (numbers_at values (map (place_of places) us))))
+    (sym (map-append (place_of places) ts us)) refl
+
+pub says_at_least : (places ts : List ℕ) (cs ns : List ℤ) (r : ℕ) → Says places (at_least ts cs ns) r (told r (flat.at_least (map (place_of places) ts) cs ns))
+unfolding node_value kind_holds kind_variables kind_coefficients parts_of
+says_at_least places ts cs ns r =
+    said places (at_least ts cs ns) r (flat.at_least (map (place_of places) ts) cs ns)
+    (λ cells values. ap (λ o. truth (option_and_then (λ xs. counts_hold CompareOp.AtLeast xs ns cs) o)) (values_there values places ts)
+    ∙ truth_or (counts_hold CompareOp.AtLeast (numbers_at values (map (place_of places) ts)) ns cs))
+    refl refl
+
+pub says_at_most : (places ts : List ℕ) (cs ns : List ℤ) (r : ℕ) → Says places (at_most ts cs ns) r (told r (flat.at_most (map (place_of places) ts) cs ns))
+unfolding node_value kind_holds kind_variables kind_coefficients parts_of
+says_at_most places ts cs ns r =
+    said places (at_most ts cs ns) r (flat.at_most (map (place_of places) ts) cs ns)
+    (λ cells values. ap (λ o. truth (option_and_then (λ xs. counts_hold CompareOp.AtMost xs ns cs) o)) (values_there values places ts)
+    ∙ truth_or (counts_hold CompareOp.AtMost (numbers_at values (map (place_of places) ts)) ns cs))
+    refl refl
+
+pub says_table : (places ts : List ℕ) (rows : List (List ℤ)) (r : ℕ) → Says places (table ts rows) r (told r (flat.table (map (place_of places) ts) rows))
+unfolding node_value kind_holds kind_variables kind_coefficients parts_of
+says_table places ts rows r =
+    said places (table ts rows) r (flat.table (map (place_of places) ts) rows)
+    (λ cells values. ap (λ o. truth (option_and_then (is_row_of rows) o)) (values_there values places ts) ∙ truth_or (is_row_of rows (numbers_at values (map (place_of places) ts))))
+    refl refl
+
+-- ---- sums
+
+-- a sum's parts with the variables of its terms
+abbrev pub placed_parts : List ℕ → List (ℤ × ℕ) → List (ℤ × ℕ)
+placed_parts places parts = map (λ p. (p.0, place_of places p.1)) parts
+
+abbrev numbered : List ℤ → List (ℤ × ℕ) → List (ℤ × ℤ)
+numbered values parts = map (λ p. (p.0, number_at values p.1)) parts
+
+weighed_there : (values : List ℤ) (places : List ℕ) (parts : List (ℤ × ℕ)) → weighed (value_under values places) parts ≡ Some (numbered values (placed_parts places parts))
+unfolding weighed on_both value_under
+weighed_there values places [] = refl
+weighed_there values places (q ∷ parts) =
+    ap (λ o. on_both {A = ℤ} {B = List (ℤ × ℤ)} (λ x rest. Some ((q.0, x) ∷ rest)) (Some (number_at values (place_of places q.1))) o) (weighed_there values places parts)
+
+with_zero : (x : ℤ) → (x +ℤ pos 0) ≡ (pos 0 +ℤ x)
+with_zero x = omega (arith, ints)
+
+added : (a b c : ℤ) → (a +ℤ (b +ℤ c)) ≡ ((a +ℤ b) +ℤ c)
+added a b c = omega (arith, ints)
+
+last_added : (values : List ℤ) (parts : List (ℤ × ℕ)) (k : ℤ) (r : ℕ)
+    → weighted_sum (numbered values (parts ++ (k, r) ∷ [])) ≡ (weighted_sum (numbered values parts) +ℤ (k *ℤ number_at values r))
+unfolding weighted_sum sum_of
+last_added values [] k r = with_zero (k *ℤ number_at values r)
+last_added values (p ∷ parts) k r =
+    ap (λ x. (p.0 *ℤ number_at values p.1) +ℤ x) (last_added values parts k r) ∙ added (p.0 *ℤ number_at values p.1) (weighted_sum (numbered values parts)) (k *ℤ number_at values r)
+
+balanced : (s r c d : ℤ) → d ≡ neg_ℤ c → int_eq (s +ℤ (negsuc 0 *ℤ r)) d ≡ int_eq r (c +ℤ s)
+balanced s r c d e = grind (arith, ints)
+
+sum_variables : (places : List ℕ) (parts : List (ℤ × ℕ)) (k : ℤ) (r : ℕ) → map (λ p. p.1) (placed_parts places parts ++ (k, r) ∷ []) ≡ map (place_of places) (map (λ p. p.1) parts) ++ r ∷ []
+sum_variables places [] k r = refl
+sum_variables places (p ∷ parts) k r = ap (λ xs. place_of places p.1 ∷ xs) (sum_variables places parts k r)
+
+sum_coefficients : (places : List ℕ) (parts : List (ℤ × ℕ)) (k : ℤ) (r : ℕ) → map (λ p. p.0) (placed_parts places parts ++ (k, r) ∷ []) ≡ map (λ p. p.0) parts ++ k ∷ []
+sum_coefficients places [] k r = refl
+sum_coefficients places (p ∷ parts) k r = ap (λ xs. p.0 ∷ xs) (sum_coefficients places parts k r)
+
+pub says_sum : (places : List ℕ) (c : ℤ) (parts : List (ℤ × ℕ)) (r : ℕ) (d : ℤ) → d ≡ neg_ℤ c
+    → Says places (sum c parts) r (plain (flat.linear (placed_parts places parts ++ (negsuc 0, r) ∷ []) CompareOp.Equal d))
+unfolding node_value con_holds is_as_said kind_holds compare_holds con_variables kind_variables kind_coefficients parts_of coefficients_of
+says_sum places c parts r d e = record {
+  value = λ values. c +ℤ weighted_sum (numbered values (placed_parts places parts));
+  gives = λ cells values. ap (option_map (λ ps. c +ℤ weighted_sum ps)) (weighed_there values places parts);
+  says = λ values.
+      ap (λ s. int_eq s d) (last_added values (placed_parts places parts) (negsuc 0) r)
+      ∙ balanced (weighted_sum (numbered values (placed_parts places parts))) (number_at values r) c d e;
+  names = λ bound h k.
+      subst (λ xs. All (λ x. x < bound) xs) (sym (sum_variables places parts (negsuc 0) r))
+      (All-append (λ x. x < bound) (map (place_of places) (map (λ p. p.1) parts)) (r ∷ [])
+      (All-map (λ x. x < bound) (place_of places) (map (λ p. p.1) parts) k) (All-cons (λ x. x < bound) r [] h (All-nil (λ x. x < bound))));
+  coefficients = λ h.
+      subst (λ ns. All IsWithinNumbers ns) (sym (sum_coefficients places parts (negsuc 0) r))
+      (All-append IsWithinNumbers (map (λ p. p.0) parts) (negsuc 0 ∷ []) h (All-cons IsWithinNumbers (negsuc 0) [] minus_one_within (All-nil IsWithinNumbers)));
+}

@@ -1,0 +1,14 @@
+use Rattle.std.proofs.Common.{ap, ◌∙◌}
+use Rattle.ep_base.specs.Intervals.{absolute_interval}
+use Rattle.ep_ground.specs.Bounds.{node_reach}
+use Rattle.ep_ground.specs.Nodes as nodes
+use Rattle.ep_flatten.specs.Building.{interval_of, intervals_of, wide_interval}
+use Rattle.ep_flatten.proofs.Ends.{covered}
+use Rattle.ep_flatten.proofs.spans.absolute_span.Goals as goal
+
+pub returns : goal.returns
+unfolding node_reach
+returns c = record {
+  covers = λ cells. covered (nodes.absolute c.args.part) cells (intervals_of c.args.spans.now) (wide_interval c.absolute.result) (interval_of c.clamped.result) c.clamped.ensures.small c.clamped.ensures.holds
+      (c.absolute.ensures ∙ ap absolute_interval c.span_of_term.ensures);
+}

@@ -1,0 +1,134 @@
+-- A flat problem that stands for a ground's terms so far: what is built, and what is known of it.
+use Rattle.std.specs.Prelude.{◌≡◌, ℕ, ◌+◌, ◌<◌, ℤ, pos, Bool, true, false, List, [], ◌∷◌, length, map, Some, None, slice_get, slice_index_or}
+use Rattle.std.specs.List.{All, Contains}
+use Rattle.ep_base.specs.Intervals.{Interval, LiesIn, from_to, only}
+use Rattle.ep_base.specs.Reads.{IsWithinNumbers}
+use Rattle.ep_flat.specs.Cons.{FlatCon, clause, number_at, numbers_at}
+use Rattle.ep_flat.specs.Flats.{FlatState, IsSoundFlat, Meets}
+use Rattle.ep_flat.specs.FlatViews.{plain_con}
+use Rattle.ep_flatten.specs.Saying.{place_of}
+use Rattle.ep_flatten.specs.declared.building.Building.{Building}
+use Rattle.ep_flatten.specs.declared.intervals.WideSpan.{WideSpan}
+use Rattle.ep_flatten.specs.declared.intervals.Span.{Span}
+use Rattle.ep_ground.specs.Bounds.{IsBounded, IsWithinReach, node_reach}
+use Rattle.ep_ground.specs.Grounds.{AreCellValues, GroundState, IsReached, StandsOver, named_terms}
+use Rattle.ep_ground.specs.Nodes.{GroundNode, compare, lex, member, negation, all_of, any_of, same_truth, all_different, counts, at_least, at_most, table, parts_of}
+use Rattle.ep_ground.specs.Terms.{term_value}
+use Rattle.ep_ground.specs.declared.cells.Cell.{Cell}
+
+-- a term is marked
+abbrev pub IsMarked : List Bool → ℕ → Type 0
+IsMarked marks t = slice_index_or marks t false ≡ true
+
+-- The terms that a ground names are marked, with each term the parts of its node, and no other term is.
+pub record AreMarks (g : GroundState) (marks : List Bool) : Type 0 where
+  pub named : All (IsMarked marks) (named_terms g)
+  pub closed : (t : ℕ) (node : GroundNode) → slice_get g.nodes t ≡ Some node → IsMarked marks t → All (IsMarked marks) (parts_of node)
+  pub reached : (t : ℕ) → IsMarked marks t → IsReached g t
+
+-- the interval of a term, and [0, 0] of one that has none
+abbrev pub span_at : List Interval → ℕ → Interval
+span_at spans t = slice_index_or spans t (only (pos 0))
+
+-- an interval has each small number of the node's reach over these intervals of its parts, and no great number
+pub record Covers (cells : List Cell) (spans : List Interval) (node : GroundNode) (i : Interval) : Type 0 where
+  pub small : IsWithinReach i
+  pub holds : (n : ℤ) → LiesIn n (node_reach cells (span_at spans) node) → IsWithinNumbers n → LiesIn n i
+
+-- an interval covers the node's reach, whatever numbers the cells may have
+pub record CoversAlways (spans : List Interval) (node : GroundNode) (i : Interval) : Type 0 where
+  pub covers : (cells : List Cell) → Covers cells spans node i
+
+-- an interval has each small number of another one
+abbrev pub HasSmall : Interval → Interval → Type 0
+HasSmall reach i = (n : ℤ) → LiesIn n reach → IsWithinNumbers n → LiesIn n i
+
+-- domains and constraints of the variables so far, the variable and the interval of each term so far, and the cells' variables
+pub record Built : Type 0 where
+  pub vars : List (List ℤ)
+  pub cons : List FlatCon
+  pub places : List ℕ
+  pub spans : List Interval
+  pub cells : List ℕ
+
+-- the flat problem so far
+abbrev pub flat_of : Built → FlatState
+flat_of b = record { vars = b.vars; cons = b.cons }
+
+-- numbers of the variables that meet a flat problem and give its cells these values
+pub record Extends (flat : FlatState) (cells : List ℕ) (xs : List ℤ) : Type 0 where
+  pub values : List ℤ
+  pub meets : Meets flat values
+  pub gives : numbers_at values cells ≡ xs
+
+-- What is built stands for the marked ones of the first terms: values of the cells extend to numbers that meet the flat
+-- problem, and whatever meets it gives each such term's variable the term's value.
+pub record IsBuilt (g : GroundState) (marks : List Bool) (count : ℕ) (b : Built) : Type 0 where
+  pub places : length b.places ≡ count
+  pub spans : length b.spans ≡ count
+  pub sound : IsSoundFlat (flat_of b)
+  pub cells : All (λ x. x < length b.vars) b.cells
+  pub domains : map (λ x. slice_index_or b.vars x []) b.cells ≡ map (λ one. one.values) g.cells
+  pub within : (t : ℕ) → t < count → IsMarked marks t → place_of b.places t < length b.vars
+  pub extends : (xs : List ℤ) → AreCellValues g.cells xs → Extends (flat_of b) b.cells xs
+  pub tells : (values : List ℤ) → Meets (flat_of b) values → (t : ℕ) → t < count → IsMarked marks t → term_value g.nodes (numbers_at values b.cells) t ≡ Some (number_at values (place_of b.places t))
+  pub ends : (xs : List ℤ) → AreCellValues g.cells xs → (t : ℕ) → t < count → IsMarked marks t → (n : ℤ) → term_value g.nodes xs t ≡ Some n → LiesIn n (span_at b.spans t)
+
+-- what is known of a marked term's node
+pub record IsTermOf (g : GroundState) (marks : List Bool) (t : ℕ) (node : GroundNode) : Type 0 where
+  pub got : slice_get g.nodes t ≡ Some node
+  pub before : All (λ part. part < t) (parts_of node)
+  pub marked : All (IsMarked marks) (parts_of node)
+  pub reached : IsReached g t
+  pub stands : StandsOver (length g.cells) node
+
+-- where the first was built for the terms before one, the second is built for that one too
+abbrev pub Advances : Built → GroundNode → Built → Type 0
+Advances old node new =
+    (g : GroundState) (marks : List Bool) (t : ℕ) → IsBuilt g marks t old → IsTermOf g marks t node → IsBounded g → IsBuilt g marks (t + 1) new
+
+-- a domain has the numbers of an interval, and no other
+abbrev pub HasAll : List ℤ → Interval → Type 0
+HasAll domain span = (n : ℤ) → (Contains domain n → LiesIn n span) × (LiesIn n span → Contains domain n)
+
+-- the constraint that a term is true, by its variable
+abbrev pub truth_con : List ℕ → ℕ → FlatCon
+truth_con places t = record { truth = None; kind = clause ((true, place_of places t) ∷ []) }
+
+-- the interval between two ends of the code
+abbrev pub interval_of : Span → Interval
+interval_of span = from_to span.low span.high
+
+-- the same of ends that may be far from 0
+abbrev pub wide_interval : WideSpan → Interval
+wide_interval wide = from_to wide.low wide.high
+
+-- the intervals that the code keeps
+abbrev pub intervals_of : List Span → List Interval
+intervals_of spans = map interval_of spans
+
+-- what the code has built, without where its lists lie in memory
+abbrev pub plain_built : Building → Built
+plain_built made = record {
+  vars = made.vars.items;
+  cons = map plain_con made.cons.items;
+  places = made.places.items;
+  spans = map interval_of made.spans.items;
+  cells = made.cells.items;
+}
+
+-- whether a node is a truth value
+unfoldable pub is_truth_node : GroundNode → Bool
+is_truth_node (compare op a b) = true
+is_truth_node (lex op ts us) = true
+is_truth_node (member a ns) = true
+is_truth_node (negation a) = true
+is_truth_node (all_of ts) = true
+is_truth_node (any_of ts) = true
+is_truth_node (same_truth a b) = true
+is_truth_node (all_different ts) = true
+is_truth_node (counts ts ns us) = true
+is_truth_node (at_least ts cs ns) = true
+is_truth_node (at_most ts cs ns) = true
+is_truth_node (table ts rows) = true
+is_truth_node _ = false

@@ -1,0 +1,147 @@
+//! A flat problem as it grows, term by term.
+
+ghost use Rattle.std.specs.Prelude.{◌≡◌, ◌+◌, ◌++◌, ◌∷◌, [], ◌<◌, ℕ, List, Bool, length, map, slice_index_or, IfOk, OnOk};
+ghost use Rattle.ep_base.specs.Intervals.{only, spanned};
+ghost use Rattle.ep_flatten.specs.Building.{Advances, AreMarks, HasAll, HasSmall, IsBuilt, interval_of, plain_built};
+ghost use Rattle.ep_flatten.specs.Saying.{HasParts};
+ghost use Rattle.ep_ground.specs.Bounds.{IsBounded, IsWithinReach};
+ghost use Rattle.ep_ground.specs.GroundViews.{plain_ground};
+ghost use Rattle.ep_ground.specs.Grounds.{IsWellFormed};
+ghost use Rattle.ep_ground.specs.NodeViews.{plain_node};
+ghost use Rattle.ep_ground.specs.Nodes.{constant, cell};
+
+use crate::constraints::constraint;
+use crate::intervals::{Span, clamped, span_of_set, widened};
+use crate::spans::span_of;
+use ep_base::{Memory, Run, Runs};
+use ep_flat::Con;
+use ep_ground::{Ground, Node, Term};
+use std::alloc::Global;
+
+/// Variables and constraints so far, with the variable and the interval of each term so far.
+#[derive(Drop)]
+pub struct Building {
+    /// The domain of each variable.
+    pub vars: Vec<Runs>,
+    /// The constraints.
+    pub cons: Vec<Con>,
+    /// The variable of each term.
+    pub places: Vec<u64>,
+    /// The interval of each term.
+    pub spans: Vec<Span>,
+    /// The variable of each cell.
+    pub cells: Vec<u64>,
+}
+
+/// Adds a term: its variable, and the constraint that gives the variable the term's value.
+pub fn add_term(
+    alloc: Global,
+    g: &Ground,
+    marks: &[bool],
+    made: &mut Building,
+    term: Term,
+) -> Result<(), Memory>
+    requires term { term < length (plain_ground g.now).nodes }
+    requires long { length marks.now ≡ length (plain_ground g.now).nodes }
+    requires well_formed { IsWellFormed (plain_ground g.now) }
+    requires bounded { IsBounded (plain_ground g.now) }
+    requires marks { AreMarks (plain_ground g.now) marks.now }
+    requires built { IsBuilt (plain_ground g.now) marks.now term (plain_built made.old) }
+    ensures { OnOk result
+        (IsBuilt (plain_ground g.now) marks.now (term + 1) (plain_built made.new)) }
+{
+    if !marks[term.number() as usize] {
+        return note(made, 0, Span { low: 0, high: 0 });
+    }
+    add_node(alloc, made, g.arena.node(term))
+}
+
+/// Adds a node's variable and its constraint.
+fn add_node(alloc: Global, made: &mut Building, node: &Node) -> Result<(), Memory>
+    requires { HasParts (plain_node node.now) }
+    ensures { OnOk result (Advances (plain_built made.old) (plain_node node.now) (plain_built made.new)) }
+{
+    match node {
+        Node::Const(number) => add_number(alloc, made, *number),
+        Node::Cell(place) => add_cell(made, *place),
+        _ => add_operation(alloc, made, node),
+    }
+}
+
+/// Adds a variable whose one value is the number.
+fn add_number(alloc: Global, made: &mut Building, number: i64) -> Result<(), Memory>
+    ensures { OnOk result (Advances (plain_built made.old) (constant number) (plain_built made.new)) }
+{
+    let variable = made.vars.len() as u64;
+    let span = Span {
+        low: number,
+        high: number,
+    };
+    made.vars.push(domain_of(alloc, span)?)?;
+    note(made, variable, span)
+}
+
+/// Lets a cell's variable stand for a term.
+fn add_cell(made: &mut Building, place: u64) -> Result<(), Memory>
+    ensures { OnOk result (Advances (plain_built made.old) (cell place) (plain_built made.new)) }
+{
+    let place = place as usize;
+    if place >= made.cells.len() {
+        return Err(Memory);
+    }
+    let variable = made.cells[place];
+    let span = cell_span(made, variable);
+    note(made, variable, span)
+}
+
+/// The interval of a variable's domain, as far as the stages compute, and that of 0 alone for a
+/// variable that isn't there.
+fn cell_span(made: &Building, variable: u64) -> Span
+    ensures small { IsWithinReach (interval_of result) }
+    ensures holds { HasSmall (spanned (slice_index_or made.now.vars.items variable [])) (interval_of result) }
+{
+    let place = variable as usize;
+    if place < made.vars.len() {
+        clamped(widened(span_of_set(&made.vars[place])))
+    } else {
+        Span { low: 0, high: 0 }
+    }
+}
+
+/// Adds a variable for an operation, and its constraint.
+fn add_operation(alloc: Global, made: &mut Building, node: &Node) -> Result<(), Memory>
+    requires { HasParts (plain_node node.now) }
+    ensures { OnOk result (Advances (plain_built made.old) (plain_node node.now) (plain_built made.new)) }
+{
+    let variable = made.vars.len() as u64;
+    let span = span_of(&made.spans, node);
+    let con = constraint(alloc, &made.places, node, variable)?;
+    made.vars.push(domain_of(alloc, span)?)?;
+    made.cons.push(con)?;
+    note(made, variable, span)
+}
+
+/// Notes the variable and the interval of the next term.
+fn note(made: &mut Building, variable: u64, span: Span) -> Result<(), Memory>
+    ensures places { OnOk result (made.new.places.items ≡ made.old.places.items ++ variable ∷ []) }
+    ensures spans { OnOk result (made.new.spans.items ≡ made.old.spans.items ++ span ∷ []) }
+    ensures vars { OnOk result (made.new.vars.items ≡ made.old.vars.items) }
+    ensures cons { OnOk result (made.new.cons.items ≡ made.old.cons.items) }
+    ensures cells { OnOk result (made.new.cells.items ≡ made.old.cells.items) }
+{
+    made.places.push(variable)?;
+    made.spans.push(span)?;
+    Ok(())
+}
+
+/// The numbers between two ends.
+fn domain_of(alloc: Global, span: Span) -> Result<Runs, Memory>
+    ensures { IfOk result (λ domain. HasAll domain (interval_of span)) }
+{
+    let mut parts = Vec::new(alloc);
+    parts.push(Run {
+        lo: span.low,
+        hi: span.high,
+    })?;
+    Runs::new(alloc, parts)
+}

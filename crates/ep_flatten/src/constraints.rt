@@ -1,0 +1,366 @@
+//! The constraint for each kind of node: it holds exactly where a variable has the node's value.
+
+ghost use Rattle.std.specs.Prelude.{◌≡◌, ◌<◌, length, neg_ℤ, IfOk};
+ghost use Rattle.ep_base.specs.declared.operators.CompareOp.{CompareOp};
+ghost use Rattle.ep_flat.specs.FlatViews.{plain_con};
+ghost use Rattle.ep_flatten.specs.Saying.{HasParts, Says};
+ghost use Rattle.ep_ground.specs.NodeViews.{plain_node};
+ghost use Rattle.ep_ground.specs.Nodes as nodes;
+
+use crate::lists::{copied_keys, literals_of, place_at, placed_parts, places_of};
+use ep_base::{CompareOp, Key, LexOp, Memory, Runs};
+use ep_flat::{Con, ConKind};
+use ep_ground::{Node, Term};
+use std::alloc::Global;
+
+/// The constraint that makes the variable's number the node's value. The terms' variables are
+/// `places`. A number, a cell and a node without a value for some values of its parts have none.
+#[tactic(auto, unfolding(crate::specs::Saying::HasParts))]
+pub fn constraint(alloc: Global, places: &[u64], node: &Node, variable: u64) -> Result<Con, Memory>
+    requires { HasParts (plain_node node.now) }
+    ensures { IfOk result (λ con. Says places.now (plain_node node.now) variable (plain_con con)) }
+{
+    match node {
+        Node::Add(number, parts) => sum(alloc, places, *number, parts, variable),
+        Node::Mul(one, other) => Ok(product(places, *one, *other, variable)),
+        Node::SafeDiv(one, other) => Ok(quotient(places, *one, *other, variable)),
+        Node::SafeMod(one, other) => Ok(remainder(places, *one, *other, variable)),
+        Node::Pow(part, exponent) => Ok(power(places, *part, *exponent, variable)),
+        Node::Abs(part) => Ok(absolute(places, *part, variable)),
+        Node::Min(parts) => least(alloc, places, parts, variable),
+        Node::Max(parts) => greatest(alloc, places, parts, variable),
+        Node::SafePick(parts, keys, indices) => {
+            pick(alloc, places, parts, keys, indices, variable)
+        }
+        Node::Compare(op, one, other) => compare(alloc, places, *op, *one, *other, variable),
+        Node::Lex(op, parts, others) => lex(alloc, places, *op, parts, others, variable),
+        Node::Member(part, numbers) => member(alloc, places, *part, numbers, variable),
+        Node::Not(part) => negation(alloc, places, *part, variable),
+        Node::And(parts) => all_of(alloc, places, parts, variable),
+        Node::Or(parts) => any_of(alloc, places, parts, variable),
+        Node::Iff(one, other) => Ok(same_truth(places, *one, *other, variable)),
+        Node::AllDiff(parts) => all_different(alloc, places, parts, variable),
+        Node::Gcc(parts, numbers, counts) => {
+            count(alloc, places, parts, numbers, counts, variable)
+        }
+        Node::AtLeast(parts, counts, numbers) => {
+            at_least(alloc, places, parts, counts, numbers, variable)
+        }
+        Node::AtMost(parts, counts, numbers) => {
+            at_most(alloc, places, parts, counts, numbers, variable)
+        }
+        Node::Table(parts, rows) => table(alloc, places, parts, rows, variable),
+        _ => Err(Memory),
+    }
+}
+
+/// A number and a sum of terms: the sum less the variable is the number negated.
+fn sum(
+    alloc: Global,
+    places: &[u64],
+    number: i64,
+    parts: &[(i64, Term)],
+    variable: u64,
+) -> Result<Con, Memory>
+    ensures { IfOk result (λ con. Says places.now (nodes.sum number parts.now) variable (plain_con con)) }
+{
+    let negated = negated(number)?;
+    let mut placed = placed_parts(alloc, places, parts)?;
+    placed.push((-1, variable))?;
+    let kind = ConKind::Linear(placed, CompareOp::Equal, negated);
+    Ok(Con { truth: None, kind })
+}
+
+/// The number negated, where that is a number of the code.
+fn negated(number: i64) -> Result<i64, Memory>
+    ensures { IfOk result (λ other. other ≡ neg_ℤ number) }
+{
+    if number == i64::MIN {
+        return Err(Memory);
+    }
+    Ok(-number)
+}
+
+/// A product.
+fn product(places: &[u64], one: Term, other: Term, variable: u64) -> Con
+    ensures { Says places.now (nodes.product one other) variable (plain_con result) }
+{
+    let kind = ConKind::Product(variable, place_at(places, one), place_at(places, other));
+    Con { truth: None, kind }
+}
+
+/// A quotient.
+fn quotient(places: &[u64], one: Term, other: Term, variable: u64) -> Con
+    ensures { Says places.now (nodes.safe_quotient one other) variable (plain_con result) }
+{
+    let kind = ConKind::Quotient(variable, place_at(places, one), place_at(places, other));
+    Con { truth: None, kind }
+}
+
+/// A remainder.
+fn remainder(places: &[u64], one: Term, other: Term, variable: u64) -> Con
+    ensures { Says places.now (nodes.safe_remainder one other) variable (plain_con result) }
+{
+    let kind = ConKind::Remainder(variable, place_at(places, one), place_at(places, other));
+    Con { truth: None, kind }
+}
+
+/// A power.
+fn power(places: &[u64], part: Term, exponent: u64, variable: u64) -> Con
+    ensures { Says places.now (nodes.power part exponent) variable (plain_con result) }
+{
+    let kind = ConKind::Power(variable, place_at(places, part), exponent);
+    Con { truth: None, kind }
+}
+
+/// An absolute value.
+fn absolute(places: &[u64], part: Term, variable: u64) -> Con
+    ensures { Says places.now (nodes.absolute part) variable (plain_con result) }
+{
+    let kind = ConKind::Absolute(variable, place_at(places, part));
+    Con { truth: None, kind }
+}
+
+/// The least of some terms.
+fn least(alloc: Global, places: &[u64], parts: &[Term], variable: u64) -> Result<Con, Memory>
+    requires { 0 < length parts.now }
+    ensures { IfOk result (λ con. Says places.now (nodes.least parts.now) variable (plain_con con)) }
+{
+    let placed = places_of(alloc, places, parts)?;
+    let kind = ConKind::Least(variable, placed);
+    Ok(Con { truth: None, kind })
+}
+
+/// The greatest of some terms.
+fn greatest(alloc: Global, places: &[u64], parts: &[Term], variable: u64) -> Result<Con, Memory>
+    requires { 0 < length parts.now }
+    ensures { IfOk result (λ con. Says places.now (nodes.greatest parts.now) variable (plain_con con)) }
+{
+    let placed = places_of(alloc, places, parts)?;
+    let kind = ConKind::Greatest(variable, placed);
+    Ok(Con { truth: None, kind })
+}
+
+/// The term at the place of a key.
+fn pick(
+    alloc: Global,
+    places: &[u64],
+    parts: &[Term],
+    keys: &[Key],
+    indices: &[Term],
+    variable: u64,
+) -> Result<Con, Memory>
+    ensures { IfOk result (λ con. Says places.now (nodes.safe_pick parts.now keys.now indices.now) variable (plain_con con)) }
+{
+    let placed = places_of(alloc, places, parts)?;
+    let keys = copied_keys(alloc, keys)?;
+    let at = places_of(alloc, places, indices)?;
+    let kind = ConKind::Element(variable, placed, keys, at);
+    Ok(Con { truth: None, kind })
+}
+
+/// Whether two terms compare so: their difference compares so with 0.
+fn compare(
+    alloc: Global,
+    places: &[u64],
+    op: CompareOp,
+    one: Term,
+    other: Term,
+    variable: u64,
+) -> Result<Con, Memory>
+    ensures { IfOk result (λ con. Says places.now (nodes.compare op one other) variable (plain_con con)) }
+{
+    let mut placed = Vec::new(alloc);
+    placed.push((1, place_at(places, one)))?;
+    placed.push((-1, place_at(places, other)))?;
+    let kind = ConKind::Linear(placed, op, 0);
+    Ok(Con {
+        truth: Some(variable),
+        kind,
+    })
+}
+
+/// Whether two lists of terms compare so.
+fn lex(
+    alloc: Global,
+    places: &[u64],
+    op: LexOp,
+    parts: &[Term],
+    others: &[Term],
+    variable: u64,
+) -> Result<Con, Memory>
+    ensures { IfOk result (λ con. Says places.now (nodes.lex op parts.now others.now) variable (plain_con con)) }
+{
+    let placed = places_of(alloc, places, parts)?;
+    let behind = places_of(alloc, places, others)?;
+    let kind = ConKind::Lex(op, placed, behind);
+    Ok(Con {
+        truth: Some(variable),
+        kind,
+    })
+}
+
+/// Whether a term is one of these numbers.
+fn member(
+    alloc: Global,
+    places: &[u64],
+    part: Term,
+    numbers: &Runs,
+    variable: u64,
+) -> Result<Con, Memory>
+    ensures { IfOk result (λ con. Says places.now (nodes.member part numbers.now) variable (plain_con con)) }
+{
+    let set = numbers.copy(alloc)?;
+    let kind = ConKind::Member(place_at(places, part), set);
+    Ok(Con {
+        truth: Some(variable),
+        kind,
+    })
+}
+
+/// Whether a term isn't true.
+fn negation(alloc: Global, places: &[u64], part: Term, variable: u64) -> Result<Con, Memory>
+    ensures { IfOk result (λ con. Says places.now (nodes.negation part) variable (plain_con con)) }
+{
+    let mut literals = Vec::new(alloc);
+    literals.push((false, place_at(places, part)))?;
+    let kind = ConKind::Clause(literals);
+    Ok(Con {
+        truth: Some(variable),
+        kind,
+    })
+}
+
+/// Whether all terms are true.
+fn all_of(alloc: Global, places: &[u64], parts: &[Term], variable: u64) -> Result<Con, Memory>
+    ensures { IfOk result (λ con. Says places.now (nodes.all_of parts.now) variable (plain_con con)) }
+{
+    let placed = places_of(alloc, places, parts)?;
+    let kind = ConKind::All(placed);
+    Ok(Con {
+        truth: Some(variable),
+        kind,
+    })
+}
+
+/// Whether one of some terms is true.
+fn any_of(alloc: Global, places: &[u64], parts: &[Term], variable: u64) -> Result<Con, Memory>
+    ensures { IfOk result (λ con. Says places.now (nodes.any_of parts.now) variable (plain_con con)) }
+{
+    let literals = literals_of(alloc, places, parts)?;
+    let kind = ConKind::Clause(literals);
+    Ok(Con {
+        truth: Some(variable),
+        kind,
+    })
+}
+
+/// Whether both terms are true or neither is.
+fn same_truth(places: &[u64], one: Term, other: Term, variable: u64) -> Con
+    ensures { Says places.now (nodes.same_truth one other) variable (plain_con result) }
+{
+    let kind = ConKind::Same(place_at(places, one), place_at(places, other));
+    Con {
+        truth: Some(variable),
+        kind,
+    }
+}
+
+/// Whether no two terms are equal.
+fn all_different(
+    alloc: Global,
+    places: &[u64],
+    parts: &[Term],
+    variable: u64,
+) -> Result<Con, Memory>
+    ensures { IfOk result (λ con. Says places.now (nodes.all_different parts.now) variable (plain_con con)) }
+{
+    let placed = places_of(alloc, places, parts)?;
+    let kind = ConKind::AllDiff(placed);
+    Ok(Con {
+        truth: Some(variable),
+        kind,
+    })
+}
+
+/// Whether numbers stand among terms as often as their counts say.
+fn count(
+    alloc: Global,
+    places: &[u64],
+    parts: &[Term],
+    numbers: &[i64],
+    counts: &[Term],
+    variable: u64,
+) -> Result<Con, Memory>
+    ensures { IfOk result (λ con. Says places.now (nodes.counts parts.now numbers.now counts.now) variable (plain_con con)) }
+{
+    let placed = places_of(alloc, places, parts)?;
+    let numbers = Vec::from_slice(alloc, numbers)?;
+    let often = places_of(alloc, places, counts)?;
+    let kind = ConKind::Gcc(placed, numbers, often);
+    Ok(Con {
+        truth: Some(variable),
+        kind,
+    })
+}
+
+/// Whether numbers stand among terms at least as often as their counts say.
+fn at_least(
+    alloc: Global,
+    places: &[u64],
+    parts: &[Term],
+    counts: &[i64],
+    numbers: &[i64],
+    variable: u64,
+) -> Result<Con, Memory>
+    ensures { IfOk result (λ con. Says places.now (nodes.at_least parts.now counts.now numbers.now) variable (plain_con con)) }
+{
+    let placed = places_of(alloc, places, parts)?;
+    let counts = Vec::from_slice(alloc, counts)?;
+    let numbers = Vec::from_slice(alloc, numbers)?;
+    let kind = ConKind::AtLeast(placed, counts, numbers);
+    Ok(Con {
+        truth: Some(variable),
+        kind,
+    })
+}
+
+/// Whether numbers stand among terms at most as often as their counts say.
+fn at_most(
+    alloc: Global,
+    places: &[u64],
+    parts: &[Term],
+    counts: &[i64],
+    numbers: &[i64],
+    variable: u64,
+) -> Result<Con, Memory>
+    ensures { IfOk result (λ con. Says places.now (nodes.at_most parts.now counts.now numbers.now) variable (plain_con con)) }
+{
+    let placed = places_of(alloc, places, parts)?;
+    let counts = Vec::from_slice(alloc, counts)?;
+    let numbers = Vec::from_slice(alloc, numbers)?;
+    let kind = ConKind::AtMost(placed, counts, numbers);
+    Ok(Con {
+        truth: Some(variable),
+        kind,
+    })
+}
+
+/// Whether terms are one of some rows.
+fn table(
+    alloc: Global,
+    places: &[u64],
+    parts: &[Term],
+    rows: &[Key],
+    variable: u64,
+) -> Result<Con, Memory>
+    ensures { IfOk result (λ con. Says places.now (nodes.table parts.now rows.now) variable (plain_con con)) }
+{
+    let placed = places_of(alloc, places, parts)?;
+    let rows = copied_keys(alloc, rows)?;
+    let kind = ConKind::Table(placed, rows);
+    Ok(Con {
+        truth: Some(variable),
+        kind,
+    })
+}

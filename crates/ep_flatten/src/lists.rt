@@ -1,0 +1,74 @@
+//! Lists of variables for lists of terms, and copies of lists.
+
+ghost use Rattle.std.specs.Prelude.{◌≡◌, ◌++◌, ◌∷◌, [], map, negsuc, IfOk, true};
+ghost use Rattle.ep_flatten.specs.Saying.{place_of};
+
+use ep_base::{Key, Memory};
+use ep_ground::Term;
+use std::alloc::Global;
+
+/// The variable of a term, and 0 of one that has none.
+pub fn place_at(places: &[u64], term: Term) -> u64
+    ensures { result ≡ place_of places.now term }
+{
+    let place = term.number() as usize;
+    if place < places.len() {
+        places[place]
+    } else {
+        0
+    }
+}
+
+/// The variables of terms.
+pub fn places_of(alloc: Global, places: &[u64], terms: &[Term]) -> Result<Vec<u64>, Memory>
+    ensures { IfOk result (λ made. made.items ≡ map (place_of places.now) terms.now) }
+{
+    let mut made = Vec::new(alloc);
+    for term in terms {
+        made.push(place_at(places, *term))?;
+    }
+    Ok(made)
+}
+
+/// The literals that say that terms are true.
+pub fn literals_of(
+    alloc: Global,
+    places: &[u64],
+    terms: &[Term],
+) -> Result<Vec<(bool, u64)>, Memory>
+    ensures { IfOk result (λ made.
+        made.items ≡ map (λ x. (true, x)) (map (place_of places.now) terms.now)) }
+{
+    let mut made = Vec::new(alloc);
+    for term in terms {
+        made.push((true, place_at(places, *term)))?;
+    }
+    Ok(made)
+}
+
+/// The parts of a sum, with the variables of their terms.
+pub fn placed_parts(
+    alloc: Global,
+    places: &[u64],
+    parts: &[(i64, Term)],
+) -> Result<Vec<(i64, u64)>, Memory>
+    ensures { IfOk result (λ made.
+        made.items ≡ map (λ p. (p.0, place_of places.now p.1)) parts.now) }
+{
+    let mut made = Vec::new(alloc);
+    for part in parts {
+        made.push((part.0, place_at(places, part.1)))?;
+    }
+    Ok(made)
+}
+
+/// The same keys once more.
+pub fn copied_keys(alloc: Global, keys: &[Key]) -> Result<Vec<Key>, Memory>
+    ensures { IfOk result (λ made. made.items ≡ keys.now) }
+{
+    let mut made = Vec::new(alloc);
+    for key in keys {
+        made.push(key.copy(alloc)?)?;
+    }
+    Ok(made)
+}
