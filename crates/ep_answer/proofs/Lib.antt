@@ -1,1 +1,3 @@
 pub mod Posing
+pub mod Searching
+pub mod Deciding

@@ -1,21 +1,25 @@
 //! The search for solutions.
 
-ghost use Rattle.std.specs.Prelude.{◌≡◌, ◌≢◌, false, None, IfOk, length, map, take};
+ghost use Rattle.std.specs.Prelude.{◌≡◌, ◌≢◌, false, None, IfOk, length, map, option_map, take};
 ghost use Rattle.ep_answer.specs.Answered.{AnswersCells, Improves, ListsCells};
 ghost use Rattle.ep_answer.specs.AnswerViews.{plain_answer, plain_end, plain_problem};
 ghost use Rattle.ep_answer.specs.Problems.{CanSearch};
+ghost use Rattle.ep_answer.specs.Searches.{best_answer};
 ghost use Rattle.cnf_core.specs.Events.{clauses_of, givens};
 ghost use Rattle.sat_search.specs.Logs.{IsSound};
 
 use crate::answers::{CellAnswer, CellListing};
+use crate::decoding::numbers_of;
+use crate::improving::improve;
 use crate::problem::Problem;
 use cnf_core::Log;
 use ep_base::Memory;
+use sat_search::Outcome;
 use std::alloc::Global;
 
 /// One solution, of a problem without an objective. Adds no given.
 pub fn find_cells(
-    _alloc: Global,
+    alloc: Global,
     p: &mut Problem,
     budget: u64,
     log: &mut Log,
@@ -32,16 +36,23 @@ pub fn find_cells(
     ensures problem { plain_problem p.new ≡ record (plain_problem p.old) { solver = p.new.solver } }
     ensures clauses { p.new.solver.broken ≡ false → p.new.solver.clauses ≡ clauses_of log.new.events }
 {
-    let _problem = p;
-    let _budget = budget;
-    let _log = log;
-    Err(Memory)
+    let Ok(outcome) = p.solver.solve(budget, log) else {
+        return Err(Memory);
+    };
+    match outcome {
+        Outcome::Sat => {
+            let cells = numbers_of(alloc, &p.layout, &p.solver, p.map.cells.as_slice())?;
+            Ok(CellAnswer::Solution(cells))
+        }
+        Outcome::Unsat => Ok(CellAnswer::NoSolution),
+        Outcome::Spent => Ok(CellAnswer::Unknown(None)),
+    }
 }
 
 /// The best solution, of a problem with an objective. After each solution one given is added, which
 /// says that the objective is better.
 pub fn optimise_cells(
-    _alloc: Global,
+    alloc: Global,
     p: &mut Problem,
     budget: u64,
     log: &mut Log,
@@ -59,10 +70,30 @@ pub fn optimise_cells(
     ensures problem { plain_problem p.new ≡ record (plain_problem p.old) { solver = p.new.solver } }
     ensures clauses { p.new.solver.broken ≡ false → p.new.solver.clauses ≡ clauses_of log.new.events }
 {
-    let _problem = p;
-    let _budget = budget;
-    let _log = log;
-    Err(Memory)
+    let Some((sense, var)) = p.map.objective else {
+        unreachable!()
+    };
+    let mut best: Option<(i64, Vec<i64>)> = None;
+    'solutions: loop {
+        let Ok(outcome) = p.solver.solve(budget, log) else {
+            return Err(Memory);
+        };
+        match outcome {
+            Outcome::Sat => best = Some(improve(alloc, p, sense, var, log)?),
+            Outcome::Unsat => return Ok(best_of_all(best)),
+            Outcome::Spent => return Ok(CellAnswer::Unknown(best)),
+        }
+    }
+}
+
+/// The answer where nothing is better than the best so far.
+fn best_of_all(best: Option<(i64, Vec<i64>)>) -> CellAnswer
+    ensures { plain_answer result ≡ best_answer (option_map (λ one. (one.0, one.1.items)) best) }
+{
+    match best {
+        Some((number, cells)) => CellAnswer::Optimum(number, cells),
+        None => CellAnswer::NoSolution,
+    }
 }
 
 /// Up to `most` solutions. After each one a given is added, over literals of the cells alone, which

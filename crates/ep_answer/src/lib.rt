@@ -2,7 +2,9 @@
 #![tactic(auto)]
 
 mod answers;
+mod decoding;
 mod finding;
+mod improving;
 mod laws;
 mod problem;
 

@@ -1,0 +1,86 @@
+-- What a search keeps between its calls: how the log went on, what the best so far leaves, and the values that a solver keeps.
+use Rattle.std.specs.Prelude.{◌≡◌, ◌↔◌, ◌≤◌, ◌<◌, ◌-◌, ◌++◌, ◌∷◌, false, ℕ, ℤ, Bool, IfSome, IsSome, IsTrue, List, [], filter, length, suc, Option, None, Some, option_map, slice_get, unwrap_or}
+use Rattle.std.specs.List.{All, AllPairs, AllZip, Contains}
+use Rattle.cnf_core.specs.Clauses.{Satisfies, SatisfiesClause}
+use Rattle.cnf_core.specs.Events.{LogEvent, LogState, clauses_of, given, givens, nonempty_steps}
+use Rattle.cnf_core.specs.Literal.{Literal}
+use Rattle.ep_base.specs.Runs.{IsIn}
+use Rattle.ep_base.specs.declared.operators.Sense.{Sense}
+use Rattle.ep_base.specs.declared.run_lists.Run.{Run}
+use Rattle.enc_var.specs.Decoding.{Means, VariableLiterals, decoded}
+use Rattle.enc_var.specs.Layouts.{decoded_cells, decoded_values, literals_at}
+use Rattle.ep_flat.specs.Cons.{number_at}
+use Rattle.ep_flat.specs.Flats.{objective_number}
+use Rattle.ep_answer.specs.Answered.{FoundCells, IsBetterThan, IsReachedGoal, IsStillWanted, SaysBetter, is_better, no_solution, optimum}
+use Rattle.ep_answer.specs.Problems.{IsAllowed, ProblemState, base_clauses}
+use Rattle.sat_search.specs.Logs.{IsSound}
+use Rattle.sat_search.specs.View.{SolverView, value_in}
+
+-- the values that a solver keeps
+abbrev pub values_of : SolverView → ℕ → Bool
+values_of solver = value_in (unwrap_or solver.kept [])
+
+-- the answer where nothing is better than the best so far
+abbrev pub best_answer : Option (ℤ × List ℤ) → FoundCells
+best_answer None = no_solution
+best_answer (Some best) = optimum best.0 best.1
+
+-- how many numbers of a domain are better than the best so far, and one more than there are where there is none
+unfoldable pub numbers_left : Sense → List ℤ → Option ℤ → ℕ
+numbers_left sense domain None = suc (length domain)
+numbers_left sense domain (Some best) = length (filter (λ v. is_better sense v best) domain)
+
+-- each of these numbers is in the run
+abbrev pub AreWithin : List ℤ → Run → Type 0
+AreWithin domain run = (v : ℤ) → Contains domain v → IsIn v run
+
+-- an assignment under which a variable's literals mean what they say, and the variable has this number
+pub record Reaches (s : ℕ → Bool) (e : VariableLiterals) (number : ℤ) : Type 0 where
+  pub means : Means s e
+  pub is : decoded s e ≡ number
+
+-- where a variable's literals mean what they say, a clause holds exactly where the variable's number is better than this one
+abbrev pub ClauseSaysBetter : VariableLiterals → Sense → ℤ → List Literal → Type 0
+ClauseSaysBetter e sense best clause =
+    (s : ℕ → Bool) → Means s e → SatisfiesClause s clause ↔ IsTrue (is_better sense (decoded s e) best)
+
+-- The log is the old one with some events at its end: sound, within the budget, and with the same notes and base.
+pub record Continues (budget : ℕ) (old now : LogState) : Type 0 where
+  pub sound : IsSound now.events
+  pub within : nonempty_steps now.events ≤ budget
+  pub more : List LogEvent
+  pub events : now.events ≡ old.events ++ more
+  pub notes : now.notes ≡ old.notes
+  pub base : now.base ≡ old.base
+
+-- The best solution is being looked for: some numbers of the objective were reached, each better than those before and the last the
+-- best one's, the givens added say that the objective is better than each, and what is left is exactly what is still wanted.
+pub record IsPursued (p : ProblemState) (budget : ℕ) (old now : LogState) (best : Option (ℤ × List ℤ)) : Type 0 where
+  pub goes : Continues budget old now
+  pub bests : List ℤ
+  pub reached : All (IsReachedGoal p old) bests
+  pub better : AllPairs (λ earlier later. IsBetterThan p earlier (Some later)) bests
+  pub last : slice_get bests (length bests - 1) ≡ option_map (λ one. one.0) best
+  pub said : AllZip (SaysBetter p old) bests (givens goes.more)
+  pub incumbent : IfSome best (λ one. IsAllowed p old one.1 (Some one.0))
+  pub left : (s : ℕ → Bool) → Satisfies s (givens now.events)
+      ↔ (Satisfies s (base_clauses old) × IsStillWanted p best (objective_number p.variables (decoded_values p.layout s)))
+
+-- One solution was found and a given added: an assignment gives the cells and the objective these numbers, and the given says that the
+-- objective is better.
+pub record IsImproved (p : ProblemState) (sense : Sense) (variable : ℕ) (s : ℕ → Bool) (old new : LogState) (number : ℤ) (cells : List ℤ) : Type 0 where
+  pub number_is : number ≡ number_at (decoded_values p.layout s) variable
+  pub cells_are : cells ≡ decoded_cells p.layout p.variables s
+  pub clause : List Literal
+  pub says : ClauseSaysBetter (literals_at p.layout variable) sense number clause
+  pub new_is : new ≡ record old { events = old.events ++ given clause ∷ [] }
+
+-- what is asked of a problem and of its log where a solution was found
+pub record HasFound (p : ProblemState) (variable : ℕ) (log : LogState) : Type 0 where
+  pub is_whole : p.solver.broken ≡ false
+  pub kept : IsSome p.solver.kept
+  pub sound : IsSound log.events
+  pub clauses : p.solver.clauses ≡ clauses_of log.events
+  pub cells : All (λ x. x < length p.layout) p.variables.cells
+  pub there : variable < length p.layout
+  pub meaning : All (Means (values_of p.solver)) p.layout
