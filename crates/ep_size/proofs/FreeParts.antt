@@ -1,20 +1,20 @@
 -- What an expression in which no decision variable stands anywhere meets: nodes without decision variables.
-use Rattle.std.specs.Prelude.{◌≡◌, Bool, true, false, not, ◌&&◌, ◌||◌, List, [], ◌∷◌, ◌++◌, map, ℤ, if◌then◌else◌, Some, None, bytes_eq, flat_map, Option, unwrap_or, option_map, refl}
+use Rattle.std.specs.Prelude.{◌≡◌, Bool, true, false, not, ◌&&◌, ◌||◌, List, [], ◌∷◌, ◌++◌, map, ℤ, if◌then◌else◌, cond, Some, None, bytes_eq, filter, flat_map, Option, unwrap_or, option_map, refl}
 use Rattle.std.proofs.Common.{ap, ◌∙◌}
 use Rattle.std.specs.List.{list_all, list_any}
 use Rattle.ep_base.specs.declared.names.Name.{Name}
 use Rattle.ep_base.specs.declared.places.Place.{Place}
 use Rattle.ep_laws.specs.FixedLimits.{is_fixed}
 use Rattle.ep_tree.specs.Environments.{Env, has_value, scalar_in, with_number}
-use Rattle.ep_tree.specs.Evaluation.{domain_values, numbered, standing_for}
-use Rattle.ep_tree.specs.Measures.{Met, a_node, met, met_all, met_domain, met_domains, met_end, met_index, met_indices, met_names, met_ranges, met_terms}
-use Rattle.ep_tree.specs.Reach.{decisions_in, hiding, holds_decision, index_holds_decision, is_decision, one_holds_decision, term_holds_decision}
-use Rattle.ep_tree.specs.Trees.{DomainTree, Domains, End, ExprTree, ExprTrees, IndexDomain, Indices, Ranges, Terms, absolute, all_different, all_of, any_of, at_least, at_most, binary, bool, chain, compare, comprehension, domain_and, end_at, every_and, factorial, flatten, folded, gcc, group, group_domain, in_domain, in_set, index_and, int, lex, literal, matrix_domain, minus, named, named_domain, negation, no_domains, no_end, no_indices, no_ranges, no_terms, no_trees, number, one_and, over, quantified, ranges, read, set_domain, span_and, table, term_and, to_int, tree_and, truth, unstated}
+use Rattle.ep_tree.specs.Evaluation.{all_joined, chosen, domain_values, holding, numbered, over_names, reached, standing_for}
+use Rattle.ep_tree.specs.Measures.{Met, a_generator, a_node, met, met_all, met_domain, met_domains, met_end, met_generators, met_index, met_indices, met_names, met_ranges, met_terms}
+use Rattle.ep_tree.specs.Reach.{decisions_in, generator_names, hiding, holds_decision, index_holds_decision, is_decision, one_holds_decision, term_holds_decision}
+use Rattle.ep_tree.specs.Trees.{DomainTree, Domains, End, ExprTree, ExprTrees, Generators, IndexDomain, Indices, Ranges, Terms, absolute, all_different, all_of, any_of, at_least, at_most, binary, bool, chain, compare, comprehension, domain_and, end_at, every_and, factorial, flatten, folded, gcc, generator_and, group, group_domain, in_domain, in_set, index_and, int, lex, literal, matrix_domain, minus, named, named_domain, negation, no_domains, no_end, no_generators, no_indices, no_ranges, no_terms, no_trees, number, one_and, over, quantified, ranges, read, set_domain, span_and, table, term_and, to_int, tree_and, truth, unstated}
 use Rattle.ep_tree.specs.Types.{of_scalar}
 use Rattle.ep_tree.specs.Values.{single}
 use Rattle.ep_tree.specs.declared.syntax.QuantOp.{QuantOp}
 use Rattle.ep_tree.specs.declared.values.Mode.{Mode}
-use Rattle.ep_size.specs.Free.{are_free, are_free_domains, are_free_indices, are_free_ranges, are_free_terms, is_free, is_free_domain, is_free_end, is_free_index}
+use Rattle.ep_size.specs.Free.{are_free, are_free_domains, are_free_generators, are_free_indices, are_free_ranges, are_free_terms, is_free, is_free_domain, is_free_end, is_free_index}
 
 -- one test of names says no more than another
 abbrev pub Below : (Name → Bool) → (Name → Bool) → Type 0
@@ -82,7 +82,11 @@ mutual
   free_holds f g h (quantified p op names d e) q =
       free_holds (hiding names f) (hiding names g) (both_hidden f g names h) e (and_other (is_free_domain g d) (is_free (hiding names g) e) q)
   free_holds f g h (literal p parts d) q = all_free f g h parts (and_one (are_free g parts) (is_free_index g d) q)
-  free_holds f g h (comprehension p e gens conditions d) q = absurd cc
+  free_holds f g h (comprehension p e gens conditions d) q =
+      let n : List Name = generator_names gens in
+      free_holds (hiding n f) (hiding n g) (both_hidden f g n h) e
+      (and_one (is_free (hiding n g) e) (is_free_index g d)
+      (and_other (are_free_generators g gens && are_free (hiding n g) conditions) (is_free (hiding n g) e && is_free_index g d) q))
   free_holds f g h (read p m is) q =
       neither (holds_decision f m) (index_holds_decision f is) (free_holds f g h m (and_one (is_free g m) (are_free_indices g is) q))
       (indices_free f g h is (and_other (is_free g m) (are_free_indices g is) q))
@@ -208,8 +212,67 @@ names_met mode d here inner f k g p q (name ∷ names) env less rest c =
 pub same_below : (g : Name → Bool) → Below g g
 same_below g name e = e
 
+-- what one test allows, a weaker one does
+each_below : (f g : Name → Bool) (envs : List Env) → Below f g → EachBelow f envs → EachBelow g envs
+each_below f g [] h k = tt
+each_below f g (env ∷ envs) h k = (below_then (decisions_in env) f g k.0 h, each_below f g envs h k.1)
+
+envs_append : (g : Name → Bool) (is js : List Env) → EachBelow g is → EachBelow g js → EachBelow g (is ++ js)
+envs_append g [] js h k = k
+envs_append g (i ∷ is) js h k = (h.0, envs_append g is js h.1 k)
+
+envs_filter : (g : Name → Bool) (p : Env → Bool) (is : List Env) → EachBelow g is → EachBelow g (filter p is)
+envs_filter g p [] h = tt
+envs_filter g p (i ∷ is) h = go (p i) (envs_filter g p is h.1)
+  where
+    go : (b : Bool) → EachBelow g (filter p is) → EachBelow g (cond b (i ∷ filter p is) (filter p is))
+    go true k = (h.0, k)
+    go false k = k
+
+joined_envs : (f g : Name → Bool) (next : Env → List Env) (envs : List Env) → ((env : Env) → Below (decisions_in env) f → EachBelow g (next env))
+    → EachBelow f envs → EachBelow g (flat_map (λ xs. xs) (map next envs))
+joined_envs f g next [] each h = tt
+joined_envs f g next (env ∷ envs) each h =
+    envs_append g (next env) (flat_map (λ xs. xs) (map next envs)) (each env h.0) (joined_envs f g next envs each h.1)
+
+-- the environments that some names reach, and others behind them
+names_reach : (mode : Mode) (d : DomainTree) (next : Env → List Env) (others : List Name)
+    → ((env : Env) (g : Name → Bool) → Below (decisions_in env) g → EachBelow (hiding others g) (next env))
+    → (names : List Name) (env : Env) (g : Name → Bool) → Below (decisions_in env) g
+    → EachBelow (hiding (names ++ others) g) (over_names (numbered mode d) all_joined next names env)
+unfolding over_names all_joined
+names_reach mode d next others each [] env g c = each env g c
+names_reach mode d next others each (name ∷ names) env g c = go (numbered mode d name env) (standing_bound mode env g name d c)
+    (λ e l. each_below (hiding (names ++ others) (hiding_one name g)) (hiding (name ∷ names ++ others) g) (step e)
+    (hidden_more g name (names ++ others)) (names_reach mode d next others each names e (hiding_one name g) l))
+  where
+    step : Env → List Env
+    step = over_names (numbered mode d) all_joined next names
+
+    go : (o : Option (List Env)) → EachBelow (hiding_one name g) (unwrap_or o [])
+        → ((e : Env) → Below (decisions_in e) (hiding_one name g) → EachBelow (hiding (name ∷ names ++ others) g) (step e))
+        → EachBelow (hiding (name ∷ names ++ others) g) (all_joined (option_map (map step) o))
+    go None h ih = tt
+    go (Some envs) h ih = joined_envs (hiding_one name g) (hiding (name ∷ names ++ others) g) step envs ih h
+
+reached_below : (mode : Mode) (gens : Generators) (env : Env) (g : Name → Bool) → Below (decisions_in env) g
+    → EachBelow (hiding (generator_names gens) g) (reached mode env gens)
+unfolding reached generator_names
+reached_below mode no_generators env g c = (below_then (decisions_in env) g (hiding [] g) c (none_hidden g), tt)
+reached_below mode (generator_and names d gens) env g c =
+    names_reach mode d (λ inner. reached mode inner gens) (generator_names gens) (λ inner k l. reached_below mode gens inner k l) names env g c
+
+-- hiding names says no more
+hidden_below : (g : Name → Bool) (names : List Name) → Below (hiding names g) g
+unfolding hiding
+hidden_below g names name e = go (not (list_any (bytes_eq name) names)) (g name) e
+  where
+    go : (a b : Bool) → b ≡ false → (a && b) ≡ false
+    go true b h = h
+    go false b h = refl
+
 mutual
-  unfolding met met_domain met_all met_terms met_indices met_ranges met_end met_domains met_index is_free is_free_domain are_free are_free_terms are_free_indices are_free_ranges is_free_end are_free_domains is_free_index
+  unfolding met met_domain met_all met_terms met_indices met_ranges met_end met_domains met_index met_generators is_fixed holding are_free_generators is_free is_free_domain are_free are_free_terms are_free_indices are_free_ranges is_free_end are_free_domains is_free_index
 
   -- what is met where none stands anywhere
   pub free_met : (mode : Mode) (env : Env) (g : Name → Bool) → Below (decisions_in env) g → (e : ExprTree) → is_free g e ≡ true → AreFixed (met mode env e)
@@ -258,7 +321,25 @@ mutual
       node env g (literal p parts d) (met_all mode env parts ++ met_index mode env d) h q
       (joined (met_all mode env parts) (met_index mode env d) (all_met mode env g h parts (and_one (are_free g parts) (is_free_index g d) q))
       (index_met mode env g h d (and_other (are_free g parts) (is_free_index g d) q)))
-  free_met mode env g h (comprehension p e gens conditions d) q = absurd cc
+  free_met mode env g h (comprehension p e gens conditions d) q =
+      let k : Name → Bool = hiding (generator_names gens) g in
+      let gs : List Met = met_generators mode env gens in
+      let cs : List Met = flat_map (λ inner. met_all mode inner conditions) (reached mode env gens) in
+      let es : List Met = flat_map (λ inner. met mode inner e) (chosen mode env gens conditions) in
+      let front : (are_free_generators g gens && are_free k conditions) ≡ true =
+      and_one (are_free_generators g gens && are_free k conditions) (is_free k e && is_free_index g d) q in
+      let last : (is_free k e && is_free_index g d) ≡ true =
+      and_other (are_free_generators g gens && are_free k conditions) (is_free k e && is_free_index g d) q in
+      node env g (comprehension p e gens conditions d) (((gs ++ cs) ++ es) ++ met_index mode env d) h q
+      (joined ((gs ++ cs) ++ es) (met_index mode env d)
+      (joined (gs ++ cs) es
+      (joined gs cs (generators_met mode env g h gens (and_one (are_free_generators g gens) (are_free k conditions) front))
+      (each_met k (λ inner. met_all mode inner conditions) (reached mode env gens)
+      (λ inner l. all_met mode inner k l conditions (and_other (are_free_generators g gens) (are_free k conditions) front)) (reached_below mode gens env g h)))
+      (each_met k (λ inner. met mode inner e) (chosen mode env gens conditions)
+      (λ inner l. free_met mode inner k l e (and_one (is_free k e) (is_free_index g d) last))
+      (envs_filter k _ (reached mode env gens) (reached_below mode gens env g h))))
+      (index_met mode env g h d (and_other (is_free k e) (is_free_index g d) last)))
   free_met mode env g h (read p m is) q =
       node env g (read p m is) (met mode env m ++ met_indices mode env is) h q
       (joined (met mode env m) (met_indices mode env is) (free_met mode env g h m (and_one (is_free g m) (are_free_indices g is) q))
@@ -315,3 +396,11 @@ mutual
   index_met : (mode : Mode) (env : Env) (g : Name → Bool) → Below (decisions_in env) g → (index : IndexDomain) → is_free_index g index ≡ true → AreFixed (met_index mode env index)
   index_met mode env g h unstated q = refl
   index_met mode env g h (over d) q = free_domain_met mode env g h d q
+
+  generators_met : (mode : Mode) (env : Env) (g : Name → Bool) → Below (decisions_in env) g → (gens : Generators) → are_free_generators g gens ≡ true → AreFixed (met_generators mode env gens)
+  generators_met mode env g h no_generators q = refl
+  generators_met mode env g h (generator_and names d gens) q =
+      names_met mode d (λ left inner. a_generator ∷ met_domain mode inner d) (λ inner. met_generators mode inner gens) g g g
+      (λ left inner l m. free_domain_met mode inner g l d (and_one (is_free_domain g d) (are_free_generators g gens) q))
+      (λ inner l. generators_met mode inner g l gens (and_other (is_free_domain g d) (are_free_generators g gens) q))
+      names env (same_below g) (hidden_below g names) h

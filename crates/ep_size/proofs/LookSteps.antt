@@ -14,7 +14,7 @@ use Rattle.ep_tree.specs.declared.syntax.Generator.{Generator}
 use Rattle.ep_tree.specs.declared.values.Scalar.{Scalar}
 use Rattle.ep_eval.specs.Bounds.{only_cells}
 use Rattle.ep_eval.specs.Ranges.{alone}
-use Rattle.ep_size.specs.Free.{are_free, are_free_domains, are_free_indices, are_free_ranges, are_free_terms, is_free_domain}
+use Rattle.ep_size.specs.Free.{are_free, are_free_domains, are_free_generators, are_free_indices, are_free_ranges, are_free_terms, is_free_domain}
 use Rattle.ep_size.specs.Standings.{both, standing_of, standing_of_all, standing_of_indices, standing_of_terms}
 use Rattle.ep_size.specs.declared.standing.Standing.{Standing}
 
@@ -171,3 +171,15 @@ domains_more f xs k x d own h same is =
 pub domains_all : (f : Name → Bool) (xs : List Domain) (k : ℕ) (b : Bool) → length xs ≤ k → (b && are_free_domains f (domains_of (drop k xs))) ≡ b
 unfolding domains_of are_free_domains
 domains_all f xs k b h = ap (λ c. b && c) (at_drop_all (λ ys. are_free_domains f (domains_of ys)) xs k h) ∙ and_all b
+
+pub generators_more : (f : Name → Bool) (xs : List Generator) (k : ℕ) (x d : Generator) (own : Bool) → k < length xs → x ≡ get_or xs k d → own ≡ is_free_domain f (domain_tree x.domain)
+    → are_free_generators f (generators_of (drop k xs)) ≡ (own && are_free_generators f (generators_of (drop (k + 1) xs)))
+unfolding generators_of are_free_generators
+generators_more f xs k x d own h same is =
+    at_drop_more (λ ys. are_free_generators f (generators_of ys)) xs k d h
+    ∙ ap (λ y. is_free_domain f (domain_tree y.domain) && are_free_generators f (generators_of (drop (k + 1) xs))) (sym same)
+    ∙ ap (λ b. b && are_free_generators f (generators_of (drop (k + 1) xs))) (sym is)
+
+pub generators_all : (f : Name → Bool) (xs : List Generator) (k : ℕ) (b : Bool) → length xs ≤ k → (b && are_free_generators f (generators_of (drop k xs))) ≡ b
+unfolding generators_of are_free_generators
+generators_all f xs k b h = ap (λ c. b && c) (at_drop_all (λ ys. are_free_generators f (generators_of ys)) xs k h) ∙ and_all b

@@ -1,12 +1,14 @@
 -- What indices leave of values, part by part.
-use Rattle.std.proofs.Common.{◌≡◌, ℤ, List, [], ◌∷◌, ◌++◌, map, refl, sym, ap, subst, ◌∙◌, append-nil, Some, true}
-use Rattle.std.specs.Prelude.{flat_map, IfOk, Result}
+use Rattle.std.proofs.Common.{◌≡◌, ℤ, Bool, List, [], ◌∷◌, ◌++◌, map, refl, sym, ap, subst, ◌∙◌, append-nil, Option, Some, None, true, false}
+use Rattle.std.specs.Ordering.{int_eq}
+use Rattle.std.specs.Prelude.{flat_map, if◌then◌else◌, option_map, option_to_list, IfOk, Result}
 use Rattle.std.proofs.lemmas.Grind.{flat_map-append}
 use Rattle.ep_tree.specs.Reach.{MeasuredIndex, Span, decided_index, fixed_index, fixed_span, left_by, parts_left, whole_index}
-use Rattle.ep_tree.specs.Values.{Grid, listed_values, map_grid, map_grids, ValueTree, matrix, scalars_of, single}
+use Rattle.ep_tree.specs.Values.{Grid, Grids, listed_values, map_grid, map_grids, no_values, part_at, ValueTree, matrix, scalars_of, single, value_and}
 use Rattle.ep_tree.specs.Views.{value_tree, values_from}
 use Rattle.ep_tree.specs.declared.values.Value.{Value}
 use Rattle.ep_eval.specs.Helds.{held_value}
+use Rattle.ep_eval.specs.Reading.{part_under}
 use Rattle.ep_eval.specs.declared.held.Held.{Held}
 use Rattle.ep_eval.specs.declared.held.Held.TheVariants.{Number as HeldNumber}
 use Rattle.ep_size.specs.Extents.{fixed_grid, grid_of, span_of}
@@ -35,6 +37,36 @@ unfolding parts_left left_by keeps_all map_grid
 matrix_kept (fixed_index n) ms own vs h = absurd cc
 matrix_kept whole_index ms own vs h = ap (λ l. flat_map scalars_of (flat_map (parts_left ms) l)) (listed_fixed vs)
 matrix_kept (decided_index s) ms own vs h = ap (λ l. flat_map scalars_of (flat_map (parts_left ms) l)) (listed_fixed vs)
+
+-- ---- a part with an index
+
+-- finding a part commutes with a function of each scalar
+part_mapped : {A B : Type 0} (f : A → B) (own : List ℤ) (vs : Grids A) (i : ℤ)
+    → part_at own (map_grids f vs) i ≡ option_map (map_grid f) (part_at own vs i)
+unfolding part_at map_grids
+part_mapped f [] vs i = refl
+part_mapped f (j ∷ js) no_values i = refl
+part_mapped f (j ∷ js) (value_and v vs) i = by (int_eq i j) (part_mapped f js vs i)
+  where
+    by : (b : Bool) → part_at js (map_grids f vs) i ≡ option_map (map_grid f) (part_at js vs i)
+        → (if b then Some (map_grid f v) else part_at js (map_grids f vs) i) ≡ option_map (map_grid f) (if b then Some v else part_at js vs i)
+    by true h = refl
+    by false h = h
+
+pub left_stated : (n : ℤ) (is : List MeasuredIndex) (g : ValueTree)
+    → parts_left (fixed_index (Some n) ∷ is) (fixed_grid g) ≡ flat_map (parts_left is) (option_to_list (option_map fixed_grid (part_under g n)))
+unfolding parts_left left_by map_grid part_under
+left_stated n is (single x) = refl
+left_stated n is (matrix own vs) = ap (λ o. flat_map (parts_left is) (option_to_list o)) (part_mapped (λ m. fixed_span (Some m)) own vs n)
+
+pub mapped_twice : {A B C : Type 0} (f : B → C) (g : A → B) (o : Option A) → option_map f (option_map g o) ≡ option_map (λ x. f (g x)) o
+mapped_twice f g None = refl
+mapped_twice f g (Some x) = refl
+
+pub left_undefined : (is : List MeasuredIndex) (g : ValueTree) → parts_left (fixed_index None ∷ is) (fixed_grid g) ≡ []
+unfolding parts_left left_by map_grid
+left_undefined is (single x) = refl
+left_undefined is (matrix own vs) = refl
 
 pub number_kept : (i : MeasuredIndex) (ms : List MeasuredIndex) (n : ℤ) → flat_map scalars_of (parts_left (i ∷ ms) (fixed_grid (single n))) ≡ []
 unfolding parts_left map_grid

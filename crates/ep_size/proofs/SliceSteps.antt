@@ -13,7 +13,7 @@ use Rattle.ep_tree.specs.Measures.{decided_weight, index_width, number_reach, re
 use Rattle.ep_tree.specs.Reach.{Extent as ExtentTree, MeasuredIndex, Span, decisions_in, extent, fixed_index, holds_decision, is_decided_index, measured, measured_list, no_extent, plain_index, read_extent, reads_cell, slice_extent, span_of, whole_index}
 use Rattle.ep_tree.specs.Trees.{ExprTree, Indices, read}
 use Rattle.ep_tree.specs.Types.{is_integer, is_matrix}
-use Rattle.ep_tree.specs.Values.{Grid, all_defined, any_index, as_parts, at_index, filled, listed_values, matrix, part_at, read_value}
+use Rattle.ep_tree.specs.Values.{Grid, all_defined, any_index, as_parts, at_index, filled, listed_values, matrix, read_value}
 use Rattle.ep_tree.specs.declared.values.Mode.{Mode}
 use Rattle.ep_tree.specs.declared.values.ValueType.{ValueType}
 use Rattle.ep_size.proofs.FormSteps.{measured_decided, own_weight}

@@ -1,11 +1,11 @@
 -- Expressions in which no decision variable stands anywhere, neither in a domain nor in a condition.
-use Rattle.std.specs.Prelude.{Bool, true, false, not, ◌&&◌}
+use Rattle.std.specs.Prelude.{Bool, true, not, ◌&&◌}
 use Rattle.ep_base.specs.declared.names.Name.{Name}
-use Rattle.ep_tree.specs.Reach.{hiding}
-use Rattle.ep_tree.specs.Trees.{DomainTree, Domains, End, ExprTree, ExprTrees, IndexDomain, Indices, Ranges, Terms, absolute, all_different, all_of, any_of, at_least, at_most, binary, bool, chain, compare, comprehension, domain_and, end_at, every_and, factorial, flatten, folded, gcc, group, group_domain, in_domain, in_set, index_and, int, lex, literal, matrix_domain, minus, named, named_domain, negation, no_domains, no_end, no_indices, no_ranges, no_terms, no_trees, number, one_and, over, quantified, ranges, read, set_domain, span_and, table, term_and, to_int, tree_and, truth, unstated}
+use Rattle.ep_tree.specs.Reach.{generator_names, hiding}
+use Rattle.ep_tree.specs.Trees.{DomainTree, Domains, End, ExprTree, ExprTrees, Generators, IndexDomain, Indices, Ranges, Terms, absolute, all_different, all_of, any_of, at_least, at_most, binary, bool, chain, compare, comprehension, domain_and, end_at, every_and, factorial, flatten, folded, gcc, generator_and, group, group_domain, in_domain, in_set, index_and, int, lex, literal, matrix_domain, minus, named, named_domain, negation, no_domains, no_end, no_generators, no_indices, no_ranges, no_terms, no_trees, number, one_and, over, quantified, ranges, read, set_domain, span_and, table, term_and, to_int, tree_and, truth, unstated}
 
 unfoldable mutual
-  -- whether none of the names that a test tells stands in an expression; of comprehensions it isn't told
+  -- whether none of the names that a test tells stands in an expression
   pub is_free : (Name → Bool) → ExprTree → Bool
   is_free decided (number _ _) = true
   is_free decided (truth _ _) = true
@@ -27,7 +27,9 @@ unfoldable mutual
   is_free decided (any_of _ parts) = are_free decided parts
   is_free decided (quantified _ _ names d e) = is_free_domain decided d && is_free (hiding names decided) e
   is_free decided (literal _ parts d) = are_free decided parts && is_free_index decided d
-  is_free decided (comprehension _ e gens conditions d) = false
+  is_free decided (comprehension _ e gens conditions d) =
+      are_free_generators decided gens && are_free (hiding (generator_names gens) decided) conditions
+      && (is_free (hiding (generator_names gens) decided) e && is_free_index decided d)
   is_free decided (read _ m indices) = is_free decided m && are_free_indices decided indices
   is_free decided (folded _ _ m) = is_free decided m
   is_free decided (all_different _ m) = is_free decided m
@@ -82,3 +84,8 @@ unfoldable mutual
   pub is_free_index : (Name → Bool) → IndexDomain → Bool
   is_free_index decided unstated = true
   is_free_index decided (over d) = is_free_domain decided d
+
+  -- nor in the domains of some generators
+  pub are_free_generators : (Name → Bool) → Generators → Bool
+  are_free_generators decided no_generators = true
+  are_free_generators decided (generator_and _ d gens) = is_free_domain decided d && are_free_generators decided gens

@@ -32,3 +32,4 @@ mod widths;
 
 pub use errors::SizeError;
 pub use measuring::{Measures, measure};
+pub use standing::{Hidden, Standing, is_free_domain, standing_in};

@@ -21,7 +21,7 @@ use ep_tree::{Domain, DomainKind, Expr, Generator, Kind, Range};
 pub struct Standing {
     /// Whether one stands in the expression; domains and conditions aside.
     pub decided: bool,
-    /// Whether none stands anywhere in it; of comprehensions that isn't told.
+    /// Whether none stands anywhere in it.
     pub free: bool,
 }
 
@@ -219,9 +219,15 @@ pub fn standing_in(scope: Scope<'_, '_>, hidden: &Hidden, e: &Expr) -> Standing
             let own = of_all(scope, hidden, parts);
             with_free(own, is_free_index(scope, hidden, domain))
         }
-        Kind::Comprehension(part, generators, _, _) => {
+        Kind::Comprehension(part, generators, conditions, domain) => {
             let inner = Hidden::Generators(&*hidden, generators);
-            untold(standing_in(scope, &inner, part))
+            let domains = are_free_generators(scope, hidden, generators);
+            let tests = of_all(scope, &inner, conditions);
+            let front = are_both(domains, tests.free);
+            let body = standing_in(scope, &inner, part);
+            let index = is_free_index(scope, hidden, domain);
+            let listed = with_free(body, index);
+            behind(front, listed)
         }
     }
 }
@@ -253,17 +259,6 @@ fn are_both(one: bool, other: bool) -> bool
     ensures { result ≡ (one && other) }
 {
     one && other
-}
-
-/// The same where it isn't told whether one stands anywhere else.
-fn untold(own: Standing) -> Standing
-    ensures decided { result.decided ≡ own.decided }
-    ensures free { result.free ≡ false }
-{
-    Standing {
-        decided: own.decided,
-        free: false,
-    }
 }
 
 /// Where they stand in some expressions.
@@ -372,6 +367,18 @@ fn are_free_domains(scope: Scope<'_, '_>, hidden: &Hidden, domains: &[Domain]) -
     let mut all = true;
     for domain in domains {
         all = are_both(all, is_free_domain(scope, hidden, domain));
+    }
+    all
+}
+
+/// Whether none stands in the domains of some generators.
+#[cycle(looking)]
+fn are_free_generators(scope: Scope<'_, '_>, hidden: &Hidden, generators: &[Generator]) -> bool
+    ensures { result ≡ free.are_free_generators (without (decisions_in (env_in scope.entry)) hidden.now) (views.generators_of generators.now) }
+{
+    let mut all = true;
+    for generator in generators {
+        all = are_both(all, is_free_domain(scope, hidden, &generator.domain));
     }
     all
 }

@@ -1,5 +1,5 @@
 use Rattle.std.proofs.Common.{◌≡◌, ◌&&◌, ap, sym, ◌∙◌, ◌+◌, refl, drop}
-use Rattle.ep_tree.proofs.ViewLemmas.{kind_tree-all_of, kind_tree-any_of, kind_tree-chain, kind_tree-comprehension, kind_tree-in_domain, kind_tree-literal, kind_tree-named, kind_tree-number, kind_tree-quantified, kind_tree-read, kind_tree-truth, kind_tree-absolute, kind_tree-all_different, kind_tree-at_least, kind_tree-at_most, kind_tree-binary, kind_tree-compare, kind_tree-factorial, kind_tree-flatten, kind_tree-folded, kind_tree-gcc, kind_tree-group, kind_tree-in_set, kind_tree-lex, kind_tree-minus, kind_tree-negation, kind_tree-table, kind_tree-to_int, domain_kind_tree-bool, domain_kind_tree-group, domain_kind_tree-int, domain_kind_tree-matrix, domain_kind_tree-named, domain_kind_tree-ranges, domain_kind_tree-set, with_range-one, with_range-span}
+use Rattle.ep_tree.proofs.ViewLemmas.{kind_tree-all_of, kind_tree-any_of, kind_tree-chain, kind_tree-comprehension, kind_tree-in_domain, kind_tree-literal, kind_tree-named, kind_tree-number, kind_tree-quantified, kind_tree-read, kind_tree-truth, kind_tree-absolute, kind_tree-all_different, kind_tree-at_least, kind_tree-at_most, kind_tree-binary, kind_tree-compare, kind_tree-factorial, kind_tree-flatten, kind_tree-folded, kind_tree-gcc, kind_tree-group, kind_tree-in_set, kind_tree-lex, kind_tree-minus, kind_tree-negation, kind_tree-table, kind_tree-to_int, domain_kind_tree-bool, domain_kind_tree-group, domain_kind_tree-int, domain_kind_tree-matrix, domain_kind_tree-named, domain_kind_tree-ranges, domain_kind_tree-set, index_of, with_range-one, with_range-span}
 use Rattle.ep_tree.specs.Reach.{decisions_in, generator_names, hiding, holds_decision}
 use Rattle.ep_tree.specs.Views.{domain_kind_tree, domain_tree, domains_of, end_of, expr_tree, expr_trees, generators_of, indices_of, kind_tree, ranges_of, terms_of}
 use Rattle.ep_eval.proofs.DomainTypes.{index_is}
@@ -7,9 +7,9 @@ use Rattle.ep_eval.specs.Literals.{index_at}
 use Rattle.ep_eval.specs.Ranges.{alone}
 use Rattle.ep_tree.specs.Trees.{no_ranges}
 use Rattle.ep_eval.specs.Scopes.{env_in}
-use Rattle.ep_size.specs.Free.{are_free, are_free_domains, are_free_ranges, is_free, is_free_domain, is_free_end, is_free_index}
+use Rattle.ep_size.specs.Free.{are_free, are_free_domains, are_free_generators, are_free_ranges, is_free, is_free_domain, is_free_end, is_free_index}
 use Rattle.ep_size.specs.Standings.{both, standing_of, standing_of_all, standing_of_indices, standing_of_terms, without}
-use Rattle.ep_size.proofs.LookSteps.{and_all, and_more, domains_all, domains_more, goes_on, indices_all, indices_more, indices_whole, same_standing, parts_all, parts_more, ranges_all, ranges_more, terms_all, terms_more}
+use Rattle.ep_size.proofs.LookSteps.{and_all, and_more, domains_all, domains_more, generators_all, generators_more, goes_on, indices_all, indices_more, indices_whole, same_standing, parts_all, parts_more, ranges_all, ranges_more, terms_all, terms_more}
 use Rattle.ep_size.proofs.standing.+looking.Goals as goal
 
 pub standing_in-returns-in-Group : goal.standing_in-returns-in-Group
@@ -299,13 +299,29 @@ pub standing_in-returns-in-Comprehension : goal.standing_in-returns-in-Comprehen
 unfolding holds_decision is_free without
 standing_in-returns-in-Comprehension t c =
     let d = without (decisions_in (env_in c.args.scope)) c.args.hidden.now in
-    same_standing c.untold.result _ _
-    (c.untold.ensures.decided ∙ ap (λ s. s.decided) c.standing_in-in-Comprehension.ensures
-    ∙ ap (λ gs. holds_decision (hiding (generator_names (generators_of gs)) d) (expr_tree c.deref-in-Comprehension-2.result.now)) c.deref-in-Comprehension.ensures.value
-    ∙ ap (λ x. holds_decision (hiding (generator_names (generators_of c.in-Comprehension.generators.items)) d) (expr_tree x)) c.deref-in-Comprehension-2.ensures)
-    c.untold.ensures.free
+    let gs = c.in-Comprehension.generators.items in
+    let hid = hiding (generator_names (generators_of gs)) d in
+    let tests : c.of_all-tests.result ≡ standing_of_all hid (expr_trees c.in-Comprehension.conditions.items) =
+    c.of_all-tests.ensures
+    ∙ ap (λ l. standing_of_all (hiding (generator_names (generators_of l)) d) (expr_trees c.deref-in-Comprehension-3.result.now)) c.deref-in-Comprehension.ensures.value
+    ∙ ap (λ l. standing_of_all hid (expr_trees l)) c.deref-in-Comprehension-3.ensures.value in
+    let body : c.standing_in-body.result ≡ standing_of hid (expr_tree c.in-Comprehension.part.value) =
+    c.standing_in-body.ensures
+    ∙ ap (λ l. standing_of (hiding (generator_names (generators_of l)) d) (expr_tree c.deref-in-Comprehension-4.result.now)) c.deref-in-Comprehension.ensures.value
+    ∙ ap (λ x. standing_of hid (expr_tree x)) c.deref-in-Comprehension-4.ensures in
+    let front : c.are_both-front.result ≡ (are_free_generators d (generators_of gs) && are_free hid (expr_trees c.in-Comprehension.conditions.items)) =
+    c.are_both-front.ensures
+    ∙ ap (λ b. b && c.of_all-tests.result.free) (c.are_free_generators-domains.ensures ∙ ap (λ l. are_free_generators d (generators_of l)) c.deref-in-Comprehension-2.ensures.value)
+    ∙ ap (λ s. are_free_generators d (generators_of gs) && s.free) tests in
+    let listed : c.with_free-listed.result.free ≡ (is_free hid (expr_tree c.in-Comprehension.part.value) && is_free_index d (index_of c.in-Comprehension.domain)) =
+    c.with_free-listed.ensures.free ∙ ap (λ s. s.free && c.is_free_index-index.result) body
+    ∙ ap (λ b. is_free hid (expr_tree c.in-Comprehension.part.value) && b) (c.is_free_index-index.ensures ∙ sym (ap (is_free_index d) (index_is c.in-Comprehension.domain))) in
+    same_standing c.behind-in-Comprehension.result _ _
+    (c.behind-in-Comprehension.ensures.decided ∙ c.with_free-listed.ensures.decided ∙ ap (λ s. s.decided) body)
+    (c.behind-in-Comprehension.ensures.free ∙ ap (λ b. b && c.with_free-listed.result.free) front
+    ∙ ap (λ b. are_free_generators d (generators_of gs) && are_free hid (expr_trees c.in-Comprehension.conditions.items) && b) listed)
     ∙ sym (ap (standing_of d) (ap (kind_tree c.args.e.now.place) c.in-Comprehension.is
-    ∙ kind_tree-comprehension c.args.e.now.place c.in-Comprehension.part c.in-Comprehension.generators c.in-Comprehension.field-2 c.in-Comprehension.field-3))
+    ∙ kind_tree-comprehension c.args.e.now.place c.in-Comprehension.part c.in-Comprehension.generators c.in-Comprehension.conditions c.in-Comprehension.domain))
 
 pub is_free_domain-returns-in-Bool : goal.is_free_domain-returns-in-Bool
 unfolding is_free_domain
@@ -428,3 +444,19 @@ unfolding is_free_index index_at
 is_free_index-returns-in-None t c =
     let d = without (decisions_in (env_in c.args.scope)) c.args.hidden.now in
     sym (ap (λ o. is_free_index d (index_at o)) c.in-None.is)
+
+pub are_free_generators-loop-generator-init : goal.are_free_generators-loop-generator-init
+are_free_generators-loop-generator-init t c =
+    refl
+
+pub are_free_generators-loop-generator-preserved : goal.are_free_generators-loop-generator-preserved
+are_free_generators-loop-generator-preserved t c =
+    let d = without (decisions_in (env_in c.args.scope)) c.args.hidden.now in
+    and_more c.loop-generator.all c.is_free_domain.result _ _ _ c.are_both-all.result c.are_both-all.ensures
+    (generators_more d c.args.generators.now c.loop-generator.generator-index c.generator-item.result _ c.is_free_domain.result c.loop-generator-test.true c.generator-item.is c.is_free_domain.ensures)
+    c.loop-generator.invariant
+
+pub are_free_generators-returns : goal.are_free_generators-returns
+are_free_generators-returns t c =
+    let d = without (decisions_in (env_in c.args.scope)) c.args.hidden.now in
+    sym (generators_all d c.args.generators.now c.loop-generator.generator-index c.loop-generator.all c.loop-generator-test.false) ∙ c.loop-generator.invariant

@@ -1,8 +1,8 @@
 use Rattle.std.proofs.Common.{◌≡◌, ◌&&◌, drop}
 use Rattle.ep_tree.specs.Reach.{decisions_in}
-use Rattle.ep_tree.specs.Views.{domains_of, expr_trees, indices_of, ranges_of, terms_of}
+use Rattle.ep_tree.specs.Views.{domains_of, expr_trees, generators_of, indices_of, ranges_of, terms_of}
 use Rattle.ep_eval.specs.Scopes.{env_in}
-use Rattle.ep_size.specs.Free.{are_free_domains, are_free_ranges}
+use Rattle.ep_size.specs.Free.{are_free_domains, are_free_generators, are_free_ranges}
 use Rattle.ep_size.specs.Standings.{both, standing_of_all, standing_of_indices, standing_of_terms, without}
 use Rattle.ep_size.proofs.standing.+looking.Given as goal
 
@@ -30,3 +30,8 @@ abbrev pub invariant-are_free_domains-loop-domain : goal.invariant-are_free_doma
 invariant-are_free_domains-loop-domain l =
     let f = without (decisions_in (env_in l.scope)) l.hidden in
     (l.all && are_free_domains f (domains_of (drop l.domain-index l.domains))) ≡ are_free_domains f (domains_of l.domains)
+
+abbrev pub invariant-are_free_generators-loop-generator : goal.invariant-are_free_generators-loop-generator
+invariant-are_free_generators-loop-generator l =
+    let f = without (decisions_in (env_in l.scope)) l.hidden in
+    (l.all && are_free_generators f (generators_of (drop l.generator-index l.generators))) ≡ are_free_generators f (generators_of l.generators)
