@@ -17,6 +17,10 @@ unfoldable pub is_truth : Scalar → Bool
 is_truth Scalar.Bool = true
 is_truth Scalar.Int = false
 
+-- the cell of a decision variable at some indices
+abbrev pub cell_of : Find → List ℤ → Cell
+cell_of f indices = record { name = f.name; indices = indices; truth = is_truth f.scalar; values = f.values }
+
 -- the cells of a decision variable: one for each list of its indices, and one alone without index domains
 unfoldable pub find_cells : Find → List Cell
 find_cells f =

@@ -1,2 +1,13 @@
+pub mod Blocks
 pub mod Cells
+pub mod Clauses
+pub mod Firsts
+pub mod Grounds
+pub mod Growing
+pub mod Lists
+pub mod Meanings
+pub mod Numbers
+pub mod Readings
+pub mod Scalars
+pub mod Signed
 pub mod Unrolling

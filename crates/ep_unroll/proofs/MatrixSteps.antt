@@ -1,0 +1,264 @@
+-- The scalars of matrices as terms.
+use Rattle.std.proofs.Common.{◌≡◌, ℕ, zero, suc, ◌+◌, ◌-◌, ◌*◌, ◌<◌, ◌≤◌, ℤ, pos, List, [], ◌∷◌, ◌++◌, length, Some, None, refl, sym, ap, subst, ◌∙◌, arith, slice_get, append_assoc}
+use Rattle.std.specs.Prelude.{Bool, Option, ◌*ℤ◌, map, option_and_then, option_map}
+use Rattle.std.specs.List.{All}
+use Rattle.std.proofs.lemmas.Int.{ints}
+use Rattle.std.proofs.lemmas.List.{append-nil}
+use Rattle.ep_base.specs.Numbers.{all_one, any_one, are_different, greatest_of, least_of, of_bool, sum_of}
+use Rattle.ep_base.specs.Reads.{all_there}
+use Rattle.ep_base.specs.declared.places.Place.{Place}
+use Rattle.ep_ground.specs.Nodes as node
+use Rattle.ep_ground.specs.Nodes.{GroundNode}
+use Rattle.ep_ground.specs.Terms as ground
+use Rattle.ep_ground.specs.Terms.{node_value, term_value, truth}
+use Rattle.ep_tree.proofs.EvaluationEquations.{evaluate-all_different, evaluate-folded}
+use Rattle.ep_tree.specs.Environments.{Env}
+use Rattle.ep_tree.specs.Evaluation.{evaluate, folded_value, number_value, scalars_in, truth_in, undefined_truth}
+use Rattle.ep_tree.specs.Solutions.{cell_count}
+use Rattle.ep_tree.specs.Trees.{ExprTree, all_different, folded}
+use Rattle.ep_tree.specs.Values.{ValueTree, all_defined, as_parts, matrix, scalars_of, scalars_of_all, single}
+use Rattle.ep_tree.specs.declared.syntax.FoldOp.{FoldOp}
+use Rattle.ep_tree.specs.declared.values.Mode.{Mode}
+use Rattle.ep_unroll.proofs.FormValues.{grown_value, grows_on, there_defined}
+use Rattle.ep_unroll.proofs.MeaningSteps.{Listing, listing_begins, listing_ends, listing_more}
+use Rattle.ep_unroll.proofs.SumValues.{sum_value}
+use Rattle.ep_unroll.specs.Growing.{Grows, Puts}
+use Rattle.ep_unroll.specs.Meanings.{IsTermOf, Means, worth}
+use Rattle.ep_unroll.specs.Readings.{Numbering, Reading, cells_value, each_from}
+use Rattle.ep_unroll.specs.Scalars.{AreCells, AreScalarsOf, cells_from}
+use Rattle.ep_unroll.specs.declared.unrolled.Unrolled.{Unrolled}
+
+pub some_same : {A : Type 0} {x y : A} → Some x ≡ Some y → x ≡ y
+some_same e = cc
+
+-- ---- cells one after another
+
+from_cut : (numbers : List ℤ) (k a b : ℕ) → cells_from numbers k (a + b) ≡ cells_from numbers k a ++ cells_from numbers (k + a) b
+unfolding cells_from
+from_cut numbers k zero b = ap (λ n. cells_from numbers k n) (none_before b) ∙ ap (λ j. cells_from numbers j b) (none_behind k)
+  where
+    none_before : (n : ℕ) → 0 + n ≡ n
+    none_before n = omega arith
+
+    none_behind : (n : ℕ) → n ≡ n + 0
+    none_behind n = omega arith
+from_cut numbers k (suc a) b =
+    ap (λ n. cells_from numbers k n) (one_more a b)
+    ∙ ap (λ xs. slice_get numbers k ∷ xs) (from_cut numbers (suc k) a b ∙ ap (λ j. cells_from numbers (suc k) a ++ cells_from numbers j b) (moved k a))
+  where
+    one_more : (m n : ℕ) → suc m + n ≡ suc (m + n)
+    one_more m n = omega arith
+
+    moved : (m n : ℕ) → suc m + n ≡ m + suc n
+    moved m n = omega arith
+
+-- lists joined, where both are there
+joined : Option (List ℤ) → Option (List ℤ) → Option (List ℤ)
+joined a b = option_and_then (λ xs. option_map (λ ys. xs ++ ys) b) a
+
+there_cut : (xs ys : List (Option ℤ)) → all_there (xs ++ ys) ≡ joined (all_there xs) (all_there ys)
+unfolding all_there joined
+there_cut [] ys = go (all_there ys)
+  where
+    go : (o : Option (List ℤ)) → o ≡ option_map (λ zs. [] ++ zs) o
+    go None = refl
+    go (Some zs) = refl
+there_cut (None ∷ xs) ys = refl
+there_cut (Some x ∷ xs) ys = ap (option_map (λ zs. x ∷ zs)) (there_cut xs ys) ∙ go (all_there xs) (all_there ys)
+  where
+    go : (a b : Option (List ℤ)) → option_map (λ zs. x ∷ zs) (option_and_then (λ us. option_map (λ vs. us ++ vs) b) a) ≡ option_and_then (λ us. option_map (λ vs. us ++ vs) b) (option_map (λ zs. x ∷ zs) a)
+    go None b = refl
+    go (Some us) None = refl
+    go (Some us) (Some vs) = refl
+
+-- the scalars of values that are all there
+scalars_each : List (Option ValueTree) → Option (List ℤ)
+scalars_each vs = option_map (λ ws. scalars_of_all (as_parts ws)) (all_defined vs)
+
+each_cut : (v : Option ValueTree) (vs : List (Option ValueTree)) → scalars_each (v ∷ vs) ≡ joined (option_map scalars_of v) (scalars_each vs)
+unfolding scalars_each joined all_defined scalars_of_all as_parts
+each_cut None vs = refl
+each_cut (Some v) vs = go (all_defined vs)
+  where
+    go : (o : Option (List ValueTree)) → option_map (λ ws. scalars_of_all (as_parts ws)) (option_map (λ ys. v ∷ ys) o) ≡ option_map (λ ys. scalars_of v ++ ys) (option_map (λ ws. scalars_of_all (as_parts ws)) o)
+    go None = refl
+    go (Some ws) = refl
+
+one_cell : (numbers : List ℤ) (k : ℕ) → all_there (cells_from numbers k 1) ≡ option_map scalars_of (option_map single (slice_get numbers k))
+unfolding cells_from all_there scalars_of
+one_cell numbers k = go (slice_get numbers k)
+  where
+    go : (o : Option ℤ) → option_and_then (λ x. option_map (λ xs. x ∷ xs) (Some [])) o ≡ option_map scalars_of (option_map single o)
+    go None = refl
+    go (Some x) = refl
+
+whole : (own : List ℤ) (o : Option (List ValueTree)) → option_map (λ ws. scalars_of_all (as_parts ws)) o ≡ option_map scalars_of (option_map (λ ws. matrix own (as_parts ws)) o)
+unfolding scalars_of
+whole own None = refl
+whole own (Some ws) = refl
+
+no_cells : (numbers : List ℤ) (k c : ℕ) → all_there (cells_from numbers k (0 * c)) ≡ scalars_each []
+unfolding cells_from all_there scalars_each all_defined scalars_of_all as_parts
+no_cells numbers k c = ap (λ n. all_there (cells_from numbers k n)) (none c)
+  where
+    none : (n : ℕ) → 0 * n ≡ 0
+    none n = omega arith
+
+one_part : (n c : ℕ) → suc n * c ≡ c + n * c
+one_part n c = grind arith
+
+each_scalars : (numbers : List ℤ) (inner : List (List ℤ)) → ((j : ℕ) → all_there (cells_from numbers j (cell_count inner)) ≡ option_map scalars_of (cells_value numbers inner j))
+    → (own : List ℤ) (k : ℕ) → all_there (cells_from numbers k (length own * cell_count inner)) ≡ scalars_each (each_from (cells_value numbers inner) (cell_count inner) k own)
+unfolding each_from
+each_scalars numbers inner below [] k = no_cells numbers k (cell_count inner)
+each_scalars numbers inner below (i ∷ own) k =
+    ap (λ n. all_there (cells_from numbers k n)) (one_part (length own) (cell_count inner))
+    ∙ ap all_there (from_cut numbers k (cell_count inner) (length own * cell_count inner))
+    ∙ there_cut (cells_from numbers k (cell_count inner)) (cells_from numbers (k + cell_count inner) (length own * cell_count inner))
+    ∙ ap (λ a. joined a (all_there (cells_from numbers (k + cell_count inner) (length own * cell_count inner)))) (below k)
+    ∙ ap (λ b. joined (option_map scalars_of (cells_value numbers inner k)) b) (each_scalars numbers inner below own (k + cell_count inner))
+    ∙ sym (each_cut (cells_value numbers inner k) (each_from (cells_value numbers inner) (cell_count inner) (k + cell_count inner) own))
+
+pub cells_scalars : (numbers : List ℤ) (domains : List (List ℤ)) (k : ℕ) → all_there (cells_from numbers k (cell_count domains)) ≡ option_map scalars_of (cells_value numbers domains k)
+unfolding cells_value cell_count scalars_each
+cells_scalars numbers [] k = one_cell numbers k
+cells_scalars numbers (own ∷ inner) k =
+    each_scalars numbers inner (λ j. cells_scalars numbers inner j) own k ∙ whole own (all_defined (each_from (cells_value numbers inner) (cell_count inner) k own))
+
+-- ---- their terms
+
+abbrev pub CellsSoFar : List GroundNode → List GroundNode → ℕ → ℕ → ℕ → List ℕ → Type 0
+CellsSoFar old new first count passed ts =
+    Listing {R = List ℤ} {X = ℕ} (λ numbers. numbers) (λ t. t) (λ t o. o) old new (λ numbers. cells_from numbers first count) (λ numbers. cells_from numbers (first + passed) (count - passed)) ts
+
+pub cells_begin : (old : List GroundNode) (first count : ℕ) (ts : List ℕ) → ts ≡ [] → CellsSoFar old old first count 0 ts
+cells_begin old first count ts none =
+    listing_begins {R = List ℤ} {X = ℕ} (λ numbers. numbers) (λ t. t) (λ t o. o) old old _ _ ts refl none
+    (λ numbers. ap (λ k. cells_from numbers k (count - 0)) (none_behind first) ∙ ap (cells_from numbers first) (none_off count))
+  where
+    none_behind : (n : ℕ) → n + 0 ≡ n
+    none_behind n = omega arith
+
+    none_off : (n : ℕ) → n - 0 ≡ n
+    none_off n = omega arith
+
+pub cells_next : (old mid new : List GroundNode) (first count passed k t : ℕ) (ts us : List ℕ) → passed < count → k ≡ first + passed → CellsSoFar old mid first count passed ts
+    → Puts mid new (node.cell k) t → us ≡ ts ++ t ∷ [] → CellsSoFar old new first count (passed + 1) us
+unfolding cells_from node_value
+cells_next old mid new first count passed k t ts us less is so put pushed =
+    listing_more {R = List ℤ} {X = ℕ} (λ numbers. numbers) (λ u. u) (λ u o. o) old mid new _ _ (λ numbers. cells_from numbers (first + (passed + 1)) (count - (passed + 1))) (λ numbers. slice_get numbers (first + passed)) ts us t so
+    (λ numbers. ap (cells_from numbers (first + passed)) (one_off count passed less) ∙ ap (λ j. slice_get numbers (first + passed) ∷ cells_from numbers j (count - (passed + 1))) (one_on first passed))
+    put.grows put.known (λ numbers. put.value numbers ∙ ap (slice_get numbers) is) pushed
+  where
+    one_off : (m n : ℕ) → n < m → m - n ≡ suc (m - (n + 1))
+    one_off m n h = omega (arith, h)
+
+    one_on : (m n : ℕ) → suc (m + n) ≡ m + (n + 1)
+    one_on m n = omega arith
+
+pub cells_done : (old new : List GroundNode) (first count passed : ℕ) (ts : List ℕ) → count ≤ passed → CellsSoFar old new first count passed ts → AreCells old new first count ts
+unfolding cells_from
+cells_done old new first count passed ts h so = record {
+  grows = so.grows;
+  known = so.known;
+  values = listing_ends {R = List ℤ} {X = ℕ} (λ numbers. numbers) (λ t. t) (λ t o. o) old new _ _ ts so (λ numbers. ap (cells_from numbers (first + passed)) (none_over count passed h));
+}
+  where
+    none_over : (m n : ℕ) → m ≤ n → m - n ≡ 0
+    none_over m n h = omega (arith, h)
+
+pub scalars_are : (n : Numbering) (cells : Env) (nodes mid new : List GroundNode) (e : ExprTree) (x : Unrolled) (domains : List (List ℤ)) (first count : ℕ) (ts : List ℕ)
+    → Means n cells nodes mid e x → ((numbers : List ℤ) → worth mid numbers x ≡ cells_value numbers domains first) → count ≡ cell_count domains → AreCells mid new first count ts
+    → AreScalarsOf n cells nodes new e ts
+scalars_are n cells nodes mid new e x domains first count ts h is same own = record {
+  grows = grows_on nodes mid new h.grows own.grows;
+  known = own.known;
+  scalars = λ r.
+      ap all_there (own.values r.numbers ∙ ap (cells_from r.numbers first) same) ∙ cells_scalars r.numbers domains first
+      ∙ ap scalars_in (sym (is r.numbers) ∙ h.value r);
+}
+
+-- ---- forms of a list of scalars
+
+values_kept : (mid new : List GroundNode) (numbers : List ℤ) (ts : List ℕ) → Grows mid new → All (λ t. t < length mid) ts → map (term_value new numbers) ts ≡ map (term_value mid numbers) ts
+values_kept mid new numbers [] g known = refl
+values_kept mid new numbers (t ∷ ts) g known =
+    ap (λ x. x ∷ map (term_value new numbers) ts) (grown_value mid new numbers t g (known 0 t (omega arith)))
+    ∙ ap (λ xs. term_value mid numbers t ∷ xs) (values_kept mid new numbers ts g (λ k d less. known (suc k) d (omega (arith, less))))
+
+list_form : (n : Numbering) (cells : Env) (nodes mid new : List GroundNode) (e tree : ExprTree) (ts : List ℕ) (t : ℕ) (own : GroundNode) (f : Option (List ℤ) → Option ValueTree) (g : Option (List ℤ) → Option ℤ)
+    → ((values : Env) → evaluate Mode.Relational values tree ≡ f (scalars_in (evaluate Mode.Relational values e)))
+    → ((numbers : List ℤ) (value : ℕ → Option ℤ) → node_value numbers value own ≡ g (all_there (map value ts)))
+    → ((o : Option (List ℤ)) → f o ≡ option_map single (g o))
+    → AreScalarsOf n cells nodes mid e ts → Puts mid new own t → IsTermOf n cells nodes new tree t
+list_form n cells nodes mid new e tree ts t own f g one other same h put = record {
+  grows = grows_on nodes mid new h.grows put.grows;
+  known = put.known;
+  value = λ r.
+      one r.values ∙ same (scalars_in (evaluate Mode.Relational r.values e))
+      ∙ ap (λ o. option_map single (g o)) (sym (ap all_there (values_kept mid new r.numbers ts put.grows h.known) ∙ h.scalars r))
+      ∙ ap (option_map single) (sym (put.value r.numbers ∙ other r.numbers (term_value new r.numbers)));
+}
+
+same_truths : {A : Type 0} (k : A → Bool) (o : Option A) → truth_in Mode.Relational (option_map k o) ≡ option_map single (truth (option_map k o))
+unfolding undefined_truth truth_in truth
+same_truths k None = refl
+same_truths k (Some x) = refl
+
+pub different_term : (n : Numbering) (cells : Env) (nodes mid new : List GroundNode) (p : Place) (e : ExprTree) (ts : List ℕ) (t : ℕ)
+    → AreScalarsOf n cells nodes mid e ts → Puts mid new (node.all_different ts) t → IsTermOf n cells nodes new (all_different p e) t
+unfolding node_value ground.values_of
+different_term n cells nodes mid new p e ts t =
+    list_form n cells nodes mid new e (all_different p e) ts t (node.all_different ts) (λ o. truth_in Mode.Relational (option_map are_different o)) (λ o. truth (option_map are_different o))
+    (λ values. evaluate-all_different Mode.Relational values p e) (λ numbers value. refl) (same_truths are_different)
+
+pub every_term : (n : Numbering) (cells : Env) (nodes mid new : List GroundNode) (p : Place) (e : ExprTree) (ts : List ℕ) (t : ℕ)
+    → AreScalarsOf n cells nodes mid e ts → Puts mid new (node.all_of ts) t → IsTermOf n cells nodes new (folded p FoldOp.And e) t
+unfolding node_value ground.values_of folded_value
+every_term n cells nodes mid new p e ts t =
+    list_form n cells nodes mid new e (folded p FoldOp.And e) ts t (node.all_of ts) (λ o. truth_in Mode.Relational (option_map all_one o)) (λ o. truth (option_map all_one o))
+    (λ values. evaluate-folded Mode.Relational values p FoldOp.And e) (λ numbers value. refl) (same_truths all_one)
+
+pub some_term : (n : Numbering) (cells : Env) (nodes mid new : List GroundNode) (p : Place) (e : ExprTree) (ts : List ℕ) (t : ℕ)
+    → AreScalarsOf n cells nodes mid e ts → Puts mid new (node.any_of ts) t → IsTermOf n cells nodes new (folded p FoldOp.Or e) t
+unfolding node_value ground.values_of folded_value
+some_term n cells nodes mid new p e ts t =
+    list_form n cells nodes mid new e (folded p FoldOp.Or e) ts t (node.any_of ts) (λ o. truth_in Mode.Relational (option_map any_one o)) (λ o. truth (option_map any_one o))
+    (λ values. evaluate-folded Mode.Relational values p FoldOp.Or e) (λ numbers value. refl) (same_truths any_one)
+
+pub least_term : (n : Numbering) (cells : Env) (nodes mid new : List GroundNode) (p : Place) (e : ExprTree) (ts : List ℕ) (t : ℕ)
+    → AreScalarsOf n cells nodes mid e ts → Puts mid new (node.least ts) t → IsTermOf n cells nodes new (folded p FoldOp.Min e) t
+unfolding node_value ground.values_of folded_value
+least_term n cells nodes mid new p e ts t =
+    list_form n cells nodes mid new e (folded p FoldOp.Min e) ts t (node.least ts) (λ o. number_value (option_and_then least_of o)) (option_and_then least_of)
+    (λ values. evaluate-folded Mode.Relational values p FoldOp.Min e) (λ numbers value. refl) (λ o. refl)
+
+pub greatest_term : (n : Numbering) (cells : Env) (nodes mid new : List GroundNode) (p : Place) (e : ExprTree) (ts : List ℕ) (t : ℕ)
+    → AreScalarsOf n cells nodes mid e ts → Puts mid new (node.greatest ts) t → IsTermOf n cells nodes new (folded p FoldOp.Max e) t
+unfolding node_value ground.values_of folded_value
+greatest_term n cells nodes mid new p e ts t =
+    list_form n cells nodes mid new e (folded p FoldOp.Max e) ts t (node.greatest ts) (λ o. number_value (option_and_then greatest_of o)) (option_and_then greatest_of)
+    (λ values. evaluate-folded Mode.Relational values p FoldOp.Max e) (λ numbers value. refl) (λ o. refl)
+
+ones_same : (value : ℕ → Option ℤ) (ts : List ℕ)
+    → map (λ part. option_map (λ x. part.0 *ℤ x) (value part.1)) (map {B = ℤ × ℕ} (λ t. (pos 1, t)) ts) ≡ map value ts
+ones_same value [] = refl
+ones_same value (t ∷ ts) =
+    ap (λ o. o ∷ map (λ part. option_map (λ x. part.0 *ℤ x) (value part.1)) (map {B = ℤ × ℕ} (λ u. (pos 1, u)) ts)) (once (value t))
+    ∙ ap (λ os. value t ∷ os) (ones_same value ts)
+  where
+    one_times : (x : ℤ) → pos 1 *ℤ x ≡ x
+    one_times x = omega (arith, ints)
+
+    once : (o : Option ℤ) → option_map (λ x. pos 1 *ℤ x) o ≡ o
+    once None = refl
+    once (Some x) = ap Some (one_times x)
+
+pub total_term : (n : Numbering) (cells : Env) (nodes mid new : List GroundNode) (p : Place) (e : ExprTree) (ts : List ℕ) (t : ℕ)
+    → AreScalarsOf n cells nodes mid e ts → Puts mid new (node.sum (pos 0) (map {B = ℤ × ℕ} (λ u. (pos 1, u)) ts)) t → IsTermOf n cells nodes new (folded p FoldOp.Sum e) t
+unfolding folded_value
+total_term n cells nodes mid new p e ts t =
+    list_form n cells nodes mid new e (folded p FoldOp.Sum e) ts t (node.sum (pos 0) (map {B = ℤ × ℕ} (λ u. (pos 1, u)) ts)) (λ o. number_value (option_map sum_of o)) (option_map sum_of)
+    (λ values. evaluate-folded Mode.Relational values p FoldOp.Sum e)
+    (λ numbers value. sum_value numbers value (map {B = ℤ × ℕ} (λ u. (pos 1, u)) ts) ∙ ap (λ os. option_map sum_of (all_defined os)) (ones_same value ts) ∙ ap (option_map sum_of) (sym (there_defined (map value ts))))
+    (λ o. refl)

@@ -1,0 +1,179 @@
+-- The terms of chains of sums and of quantifiers.
+use Rattle.std.proofs.Common.{◌≡◌, ℕ, suc, ◌+◌, ◌<◌, Bool, true, false, ℤ, pos, negsuc, List, [], ◌∷◌, ◌++◌, length, Some, None, refl, sym, ap, subst, ◌∙◌, arith}
+use Rattle.std.specs.Prelude.{Option, map, ◌*ℤ◌, ◌+ℤ◌, neg_ℤ, option_map, option_and_then}
+use Rattle.std.specs.List.{All}
+use Rattle.std.proofs.lemmas.Int.{ints}
+use Rattle.ep_base.specs.Numbers.{all_one, any_one, of_bool, sum_of}
+use Rattle.ep_base.specs.Reads.{all_there, weighted_sum}
+use Rattle.ep_base.specs.declared.names.Name.{Name}
+use Rattle.ep_base.specs.declared.places.Place.{Place}
+use Rattle.ep_ground.specs.Nodes as node
+use Rattle.ep_ground.specs.Nodes.{GroundNode}
+use Rattle.ep_ground.specs.Terms as ground
+use Rattle.ep_ground.specs.Terms.{node_value, term_value, weighed, truth as ground_truth}
+use Rattle.ep_tree.proofs.EvaluationEquations.{evaluate-chain}
+use Rattle.ep_tree.specs.Environments.{Env, scalar_in, with_number}
+use Rattle.ep_tree.specs.Evaluation.{all_numbers, all_true, any_true, domain_values, evaluate, number_in, number_value, quantified_value, term_values, truth_in, undefined_truth}
+use Rattle.ep_tree.specs.Trees.{ExprTree, Terms, chain}
+use Rattle.ep_tree.specs.Values.{ValueTree, all_defined, single}
+use Rattle.ep_tree.specs.Views.{domain_tree, expr_tree}
+use Rattle.ep_tree.specs.declared.syntax.QuantOp.{QuantOp}
+use Rattle.ep_tree.specs.declared.values.Mode.{Mode}
+use Rattle.ep_eval.proofs.Instances.{quantified_none, quantified_some}
+use Rattle.ep_eval.specs.Instances.{instance_value, quantified_tree}
+use Rattle.ep_eval.specs.declared.gathering.Quantifier.{Quantifier}
+use Rattle.ep_unroll.proofs.FormValues.{grows_long, grows_on, grown_value, there_defined}
+use Rattle.ep_unroll.specs.Growing.{Grows, Puts}
+use Rattle.ep_unroll.specs.Meanings.{AreInstancesOf, IsTermOf}
+use Rattle.ep_unroll.specs.Readings.{Numbering, Reading}
+use Rattle.ep_unroll.specs.Signed.{AreSigned}
+
+-- a sum is the sum of its parts, each multiplied by its coefficient
+weighed_sum : (value : ℕ → Option ℤ) (ps : List (ℤ × ℕ))
+    → option_map weighted_sum (weighed value ps) ≡ option_map sum_of (all_there (map (λ part. option_map (λ x. part.0 *ℤ x) (value part.1)) ps))
+unfolding weighed weighted_sum all_there sum_of ground.on_both
+weighed_sum value [] = refl
+weighed_sum value (part ∷ ps) = go (value part.1) (weighed value ps) (all_there (map (λ q. option_map (λ x. q.0 *ℤ x) (value q.1)) ps)) (weighed_sum value ps)
+  where
+    inner : (x : ℤ) (rest : Option (List (ℤ × ℤ))) (others : Option (List ℤ)) → option_map weighted_sum rest ≡ option_map sum_of others
+        → option_map weighted_sum (option_and_then (λ r. Some ((part.0, x) ∷ r)) rest) ≡ option_map sum_of (option_map (λ ns. (part.0 *ℤ x) ∷ ns) others)
+    inner x None None h = refl
+    inner x None (Some ns) h = absurd cc
+    inner x (Some ps') None h = absurd cc
+    inner x (Some ps') (Some ns) h = ap (option_map (λ s. (part.0 *ℤ x) +ℤ s)) h
+
+    go : (o : Option ℤ) (rest : Option (List (ℤ × ℤ))) (others : Option (List ℤ)) → option_map weighted_sum rest ≡ option_map sum_of others
+        → option_map weighted_sum (ground.on_both (λ x r. Some ((part.0, x) ∷ r)) o rest)
+        ≡ option_map sum_of (option_and_then (λ n. option_map (λ ns. n ∷ ns) others) (option_map (λ x. part.0 *ℤ x) o))
+    go None rest others h = refl
+    go (Some x) rest others h = inner x rest others h
+
+from_zero : (o : Option (List (ℤ × ℤ))) → option_map (λ ps. pos 0 +ℤ weighted_sum ps) o ≡ option_map weighted_sum o
+from_zero None = refl
+from_zero (Some ps) = ap Some (zero_and (weighted_sum ps))
+  where
+    zero_and : (s : ℤ) → pos 0 +ℤ s ≡ s
+    zero_and s = omega (arith, ints)
+
+-- what a sum's node is worth
+pub sum_value : (numbers : List ℤ) (value : ℕ → Option ℤ) (ps : List (ℤ × ℕ))
+    → node_value numbers value (node.sum (pos 0) ps) ≡ option_map sum_of (all_defined (map (λ part. option_map (λ x. part.0 *ℤ x) (value part.1)) ps))
+unfolding node_value
+sum_value numbers value ps =
+    from_zero (weighed value ps) ∙ weighed_sum value ps
+    ∙ ap (option_map sum_of) (there_defined (map (λ part. option_map (λ x. part.0 *ℤ x) (value part.1)) ps))
+
+parts_grown : (mid new : List GroundNode) (numbers : List ℤ) (ps : List (ℤ × ℕ)) → Grows mid new → All (λ part. part.1 < length mid) ps
+    → map (λ part. option_map (λ x. part.0 *ℤ x) (term_value new numbers part.1)) ps ≡ map (λ part. option_map (λ x. part.0 *ℤ x) (term_value mid numbers part.1)) ps
+parts_grown mid new numbers [] g known = refl
+parts_grown mid new numbers (part ∷ ps) g known =
+    ap (λ o. option_map (λ x. part.0 *ℤ x) o ∷ map (λ q. option_map (λ x. q.0 *ℤ x) (term_value new numbers q.1)) ps)
+    (grown_value mid new numbers part.1 g (known 0 part (omega arith)))
+    ∙ ap (λ ys. option_map (λ x. part.0 *ℤ x) (term_value mid numbers part.1) ∷ ys)
+    (parts_grown mid new numbers ps g (λ k d less. known (suc k) d (omega (arith, less))))
+
+pub chain_is : (n : Numbering) (cells : Env) (nodes mid new : List GroundNode) (p : Place) (terms : Terms) (ps : List (ℤ × ℕ)) (t : ℕ)
+    → AreSigned n cells nodes mid terms ps → Puts mid new (node.sum (pos 0) ps) t → IsTermOf n cells nodes new (chain p terms) t
+chain_is n cells nodes mid new p terms ps t h put = record {
+  grows = grows_on nodes mid new h.grows put.grows;
+  known = put.known;
+  value = λ r.
+      evaluate-chain Mode.Relational r.values p terms
+      ∙ ap (λ os. number_value (option_map sum_of (all_defined os))) (sym (parts_grown mid new r.numbers ps put.grows h.known ∙ h.numbers r))
+      ∙ ap (option_map single) (sym (put.value r.numbers ∙ sum_value r.numbers (term_value new r.numbers) ps));
+}
+
+-- ---- quantifiers
+
+-- the numbers of the instances, with more nodes
+instances_grown : (mid new : List GroundNode) (numbers : List ℤ) (ts : List ℕ) → Grows mid new → All (λ t. t < length mid) ts
+    → map (term_value new numbers) ts ≡ map (term_value mid numbers) ts
+instances_grown mid new numbers [] g known = refl
+instances_grown mid new numbers (t ∷ ts) g known =
+    ap (λ x. x ∷ map (term_value new numbers) ts) (grown_value mid new numbers t g (known 0 t (omega arith)))
+    ∙ ap (λ xs. term_value mid numbers t ∷ xs) (instances_grown mid new numbers ts g (λ k d less. known (suc k) d (omega (arith, less))))
+
+maps_twice : {A B C : Type 0} (f : B → C) (g : A → B) (xs : List A) → map f (map g xs) ≡ map (λ x. f (g x)) xs
+maps_twice f g [] = refl
+maps_twice f g (x ∷ xs) = ap (λ ys. f (g x) ∷ ys) (maps_twice f g xs)
+
+-- what the instances of a quantifier make of its node
+quantified_is : (n : Numbering) (cells : Env) (nodes mid new : List GroundNode) (p : Place) (q : Quantifier) (op : QuantOp) (name : Name) (rest : List Name) (ns : List ℤ) (ts : List ℕ) (t : ℕ) (own : GroundNode)
+    (whole : List (Option ℤ) → Option ℤ)
+    → q.op ≡ op → ((vs : List (Option ValueTree)) → quantified_value Mode.Relational op (Some vs) ≡ option_map single (whole (map number_in vs)))
+    → ((numbers : List ℤ) (value : ℕ → Option ℤ) → node_value numbers value own ≡ whole (map value ts))
+    → ((r : Reading n cells) → domain_values Mode.Relational r.values (domain_tree q.domain.now) ≡ Some ns)
+    → AreInstancesOf n cells nodes mid p q name rest ns ts → Puts mid new own t → IsTermOf n cells nodes new (quantified_tree p q (name ∷ rest)) t
+quantified_is n cells nodes mid new p q op name rest ns ts t own whole is one other domain h put = record {
+  grows = grows_on nodes mid new h.grows put.grows;
+  known = put.known;
+  value = λ r.
+      quantified_some Mode.Relational r.values p q.op name rest (domain_tree q.domain.now) (expr_tree q.body.now) ns (domain r)
+      ∙ ap (λ o. quantified_value Mode.Relational o (Some (map (instance_value Mode.Relational r.values p q name rest) ns))) is
+      ∙ one (map (instance_value Mode.Relational r.values p q name rest) ns)
+      ∙ ap (λ os. option_map single (whole os))
+      (maps_twice number_in (instance_value Mode.Relational r.values p q name rest) ns
+      ∙ sym (instances_grown mid new r.numbers ts put.grows h.known ∙ h.numbers r))
+      ∙ ap (option_map single) (sym (put.value r.numbers ∙ other r.numbers (term_value new r.numbers)));
+}
+
+truths_same : (k : List ℤ → Bool) (o : Option (List ℤ)) → truth_in Mode.Relational (option_map k o) ≡ option_map single (ground_truth (option_map k o))
+unfolding undefined_truth truth_in ground_truth
+truths_same k None = refl
+truths_same k (Some xs) = refl
+
+pub for_all_is : (n : Numbering) (cells : Env) (nodes mid new : List GroundNode) (p : Place) (q : Quantifier) (name : Name) (rest : List Name) (ns : List ℤ) (ts : List ℕ) (t : ℕ)
+    → q.op ≡ QuantOp.ForAll → ((r : Reading n cells) → domain_values Mode.Relational r.values (domain_tree q.domain.now) ≡ Some ns)
+    → AreInstancesOf n cells nodes mid p q name rest ns ts → Puts mid new (node.all_of ts) t → IsTermOf n cells nodes new (quantified_tree p q (name ∷ rest)) t
+unfolding node_value ground.values_of quantified_value all_true
+for_all_is n cells nodes mid new p q name rest ns ts t is =
+    quantified_is n cells nodes mid new p q QuantOp.ForAll name rest ns ts t (node.all_of ts) (λ os. ground_truth (option_map all_one (all_there os))) is
+    (λ vs. truths_same all_one (all_numbers vs) ∙ ap (λ o. option_map single (ground_truth (option_map all_one o))) (sym (there_defined (map number_in vs))))
+    (λ numbers value. refl)
+
+pub exists_is : (n : Numbering) (cells : Env) (nodes mid new : List GroundNode) (p : Place) (q : Quantifier) (name : Name) (rest : List Name) (ns : List ℤ) (ts : List ℕ) (t : ℕ)
+    → q.op ≡ QuantOp.Exists → ((r : Reading n cells) → domain_values Mode.Relational r.values (domain_tree q.domain.now) ≡ Some ns)
+    → AreInstancesOf n cells nodes mid p q name rest ns ts → Puts mid new (node.any_of ts) t → IsTermOf n cells nodes new (quantified_tree p q (name ∷ rest)) t
+unfolding node_value ground.values_of quantified_value any_true
+exists_is n cells nodes mid new p q name rest ns ts t is =
+    quantified_is n cells nodes mid new p q QuantOp.Exists name rest ns ts t (node.any_of ts) (λ os. ground_truth (option_map any_one (all_there os))) is
+    (λ vs. truths_same any_one (all_numbers vs) ∙ ap (λ o. option_map single (ground_truth (option_map any_one o))) (sym (there_defined (map number_in vs))))
+    (λ numbers value. refl)
+
+ones_same : (value : ℕ → Option ℤ) (ts : List ℕ)
+    → map (λ part. option_map (λ x. part.0 *ℤ x) (value part.1)) (map {B = ℤ × ℕ} (λ t. (pos 1, t)) ts) ≡ map value ts
+ones_same value [] = refl
+ones_same value (t ∷ ts) =
+    ap (λ o. o ∷ map (λ part. option_map (λ x. part.0 *ℤ x) (value part.1)) (map {B = ℤ × ℕ} (λ u. (pos 1, u)) ts)) (once (value t))
+    ∙ ap (λ os. value t ∷ os) (ones_same value ts)
+  where
+    one_times : (x : ℤ) → pos 1 *ℤ x ≡ x
+    one_times x = omega (arith, ints)
+
+    once : (o : Option ℤ) → option_map (λ x. pos 1 *ℤ x) o ≡ o
+    once None = refl
+    once (Some x) = ap Some (one_times x)
+
+pub total_is : (n : Numbering) (cells : Env) (nodes mid new : List GroundNode) (p : Place) (q : Quantifier) (name : Name) (rest : List Name) (ns : List ℤ) (ts : List ℕ) (t : ℕ)
+    → q.op ≡ QuantOp.Sum → ((r : Reading n cells) → domain_values Mode.Relational r.values (domain_tree q.domain.now) ≡ Some ns)
+    → AreInstancesOf n cells nodes mid p q name rest ns ts → Puts mid new (node.sum (pos 0) (map {B = ℤ × ℕ} (λ u. (pos 1, u)) ts)) t
+    → IsTermOf n cells nodes new (quantified_tree p q (name ∷ rest)) t
+unfolding quantified_value
+total_is n cells nodes mid new p q name rest ns ts t is =
+    quantified_is n cells nodes mid new p q QuantOp.Sum name rest ns ts t (node.sum (pos 0) (map {B = ℤ × ℕ} (λ u. (pos 1, u)) ts)) (λ os. option_map sum_of (all_defined os)) is
+    (λ vs. refl)
+    (λ numbers value. sum_value numbers value (map {B = ℤ × ℕ} (λ u. (pos 1, u)) ts) ∙ ap (λ os. option_map sum_of (all_defined os)) (ones_same value ts))
+
+-- a quantifier over a domain that is undefined
+pub nothing_is : (n : Numbering) (cells : Env) (old new : List GroundNode) (p : Place) (q : Quantifier) (op : QuantOp) (name : Name) (rest : List Name) (t : ℕ) (own : GroundNode) (o : Option ℤ)
+    → q.op ≡ op → quantified_value Mode.Relational op None ≡ option_map single o → ((numbers : List ℤ) (value : ℕ → Option ℤ) → node_value numbers value own ≡ o)
+    → ((r : Reading n cells) → domain_values Mode.Relational r.values (domain_tree q.domain.now) ≡ None)
+    → Puts old new own t → IsTermOf n cells old new (quantified_tree p q (name ∷ rest)) t
+nothing_is n cells old new p q op name rest t own o is one other domain put = record {
+  grows = put.grows;
+  known = put.known;
+  value = λ r.
+      quantified_none Mode.Relational r.values p q.op name rest (domain_tree q.domain.now) (expr_tree q.body.now) (domain r)
+      ∙ ap (λ k. quantified_value Mode.Relational k None) is ∙ one
+      ∙ ap (option_map single) (sym (put.value r.numbers ∙ other r.numbers (term_value new r.numbers)));
+}

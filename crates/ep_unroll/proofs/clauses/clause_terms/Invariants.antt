@@ -1,0 +1,10 @@
+use Rattle.std.proofs.Common.{take}
+use Rattle.std.specs.Prelude.{map}
+use Rattle.ep_eval.specs.Known.{env_of}
+use Rattle.ep_tree.specs.Views.{expr_tree}
+use Rattle.ep_unroll.specs.Clauses.{AreClauses}
+use Rattle.ep_unroll.specs.Firsts.{numbering_of}
+use Rattle.ep_unroll.proofs.clauses.clause_terms.Given as goal
+
+abbrev pub invariant-loop-clause : goal.invariant-loop-clause
+invariant-loop-clause l = AreClauses (numbering_of l.table) (env_of l.env) l.fn.arena l.arena (map expr_tree (take l.clause-index l.clauses)) l.terms.items

@@ -1,0 +1,7 @@
+use Rattle.std.proofs.Common.{ap, sym, ◌∙◌}
+use Rattle.ep_size.specs.Standings.{without}
+use Rattle.ep_unroll.proofs.fixed.is_fixed.Goals as goal
+
+pub returns : goal.returns
+unfolding without
+returns c h = ap (λ s. s.free) (sym c.standing_in-standing.ensures) ∙ h

@@ -1,0 +1,6 @@
+use Rattle.std.proofs.Common.{◌≡◌, ◌∷◌, take}
+use Rattle.std.specs.Prelude.{flat_map, map}
+use Rattle.ep_unroll.proofs.listing.crossed.Given as goal
+
+abbrev pub invariant-loop-number : goal.invariant-loop-number
+invariant-loop-number l = l.keys.items ≡ flat_map (λ i. map (λ rest. i ∷ rest) l.others) (take l.number-index l.numbers)

@@ -1,0 +1,5 @@
+use Rattle.std.proofs.Common.{length}
+use Rattle.ep_unroll.proofs.reads.+are_every.Given as goal
+
+abbrev pub decreases-are_every : goal.decreases-are_every
+decreases-are_every l = length l.indices.now

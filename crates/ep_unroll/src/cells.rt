@@ -1,0 +1,163 @@
+//! The cells of an instance, how they are numbered, and the environment in which the names of decision variables stand for
+//! them.
+
+ghost use Rattle.std.specs.Prelude.{◌≡◌, ◌++◌, IfOk, OnOk, flat_map, map};
+ghost use Rattle.ep_tree.specs.Closed.{clause_env};
+ghost use Rattle.ep_tree.specs.Environments.{has_cells};
+ghost use Rattle.ep_tree.specs.Names.{put, put_all};
+ghost use Rattle.ep_tree.specs.Solutions.{cell_count, cells_bound};
+ghost use Rattle.ep_tree.specs.Types as types;
+ghost use Rattle.ep_eval.specs.Known.{env_of};
+ghost use Rattle.ep_instance.specs.Instances.{find_of, instance_of, mode_of};
+ghost use Rattle.ep_unroll.specs.Cells as defined;
+ghost use Rattle.ep_unroll.specs.Cells.{cell_of, find_cells};
+ghost use Rattle.ep_unroll.specs.Firsts.{numbering, numbering_of};
+
+use super::firsts::{CellTable, FirstCell};
+use super::listing::{index_lists, listed};
+use ep_base::{Key, Memory, Name, Runs};
+use ep_eval::Env;
+use ep_ground::Cell;
+use ep_instance::{Find, Instance};
+use ep_tree::{Scalar, ValueType};
+use std::alloc::Global;
+
+/// The cell of a decision variable at some indices.
+fn cell_at(alloc: Global, find: &Find, indices: &Key) -> Result<Cell, Memory>
+    ensures { IfOk result (λ cell. cell ≡ cell_of (find_of find.now) indices.now) }
+{
+    let name = Name::new(alloc, find.name.text())?;
+    let indices = indices.copy(alloc)?;
+    let truth = is_truth(scalar_of(find.ty));
+    let values = find.values.copy(alloc)?;
+    Ok(Cell {
+        name,
+        indices,
+        truth,
+        values,
+    })
+}
+
+/// Adds the cells of a decision variable.
+fn push_cells(alloc: Global, cells: &mut Vec<Cell>, find: &Find) -> Result<(), Memory>
+    ensures { OnOk result (cells.new.items ≡ cells.old.items ++ find_cells (find_of find.now)) }
+{
+    let keys = index_lists(alloc, &find.indices)?;
+    for indices in &keys {
+        cells.push(cell_at(alloc, find, indices)?)?;
+    }
+    Ok(())
+}
+
+/// The cells of some decision variables, in order.
+pub fn cells_of(alloc: Global, finds: &[Find]) -> Result<Vec<Cell>, Memory>
+    ensures { IfOk result (λ cells. cells.items ≡ flat_map find_cells (map find_of finds.now)) }
+{
+    let mut cells = Vec::new(alloc);
+    for find in finds {
+        push_cells(alloc, &mut cells, find)?;
+    }
+    Ok(cells)
+}
+
+/// How many cells index domains make.
+fn cells_over(alloc: Global, domains: &[Runs]) -> Result<u64, Memory>
+    ensures { IfOk result (λ count. count ≡ cell_count domains.now) }
+{
+    let mut count: u64 = 1;
+    for domain in domains {
+        let indices = listed(alloc, domain)?.len() as u64;
+        let Some(product) = count.checked_mul(indices) else {
+            return Err(Memory);
+        };
+        count = product;
+    }
+    Ok(count)
+}
+
+/// Where the cells of each decision variable begin.
+pub fn table_of(alloc: Global, finds: &[Find]) -> Result<CellTable, Memory>
+    ensures { IfOk result (λ t. numbering_of t ≡ numbering (map find_of finds.now)) }
+{
+    let mut firsts = Vec::new(alloc);
+    let mut count: u64 = 0;
+    for find in finds {
+        let cells = cells_over(alloc, &find.indices)?;
+        let name = Name::new(alloc, find.name.text())?;
+        firsts.push(FirstCell { name, cell: count })?;
+        let Some(sum) = count.checked_add(cells) else {
+            return Err(Memory);
+        };
+        count = sum;
+    }
+    Ok(CellTable { firsts, count })
+}
+
+/// Whether numbers of a scalar stand for truth values.
+#[tactic(auto, unfolding(crate::specs::Cells::is_truth))]
+fn is_truth(scalar: Scalar) -> bool
+    ensures { result ≡ defined.is_truth scalar }
+{
+    match scalar {
+        Scalar::Bool => true,
+        Scalar::Int => false,
+    }
+}
+
+/// The scalar of a type.
+#[tactic(auto, unfolding(ep_tree::specs::Types::scalar_of))]
+fn scalar_of(ty: ValueType) -> Scalar
+    ensures { result ≡ types.scalar_of ty }
+{
+    match ty {
+        ValueType::Bool | ValueType::Empty => Scalar::Bool,
+        ValueType::Int => Scalar::Int,
+        ValueType::Matrix { of, .. } => of,
+    }
+}
+
+/// The same sets of numbers once more.
+fn copy_sets(alloc: Global, sets: &[Runs]) -> Result<Vec<Runs>, Memory>
+    ensures { IfOk result (λ copies. copies.items ≡ sets.now) }
+{
+    let mut copies = Vec::with_capacity(alloc, sets.len())?;
+    for set in sets {
+        copies.push(set.copy(alloc)?)?;
+    }
+    Ok(copies)
+}
+
+/// The name of a decision variable stands for its cells.
+fn name_find(alloc: Global, env: &mut Env, find: &Find) -> Result<(), Memory>
+    ensures mode { env.new.mode ≡ env.old.mode }
+    ensures known { OnOk result (env_of env.new
+        ≡ put find.now.name (has_cells (types.scalar_of find.now.ty) find.now.indices.items find.now.values) (env_of env.old)) }
+{
+    let name = Name::new(alloc, find.name.text())?;
+    let indices = copy_sets(alloc, &find.indices)?;
+    let values = find.values.copy(alloc)?;
+    env.name_cells(name, indices, values, scalar_of(find.ty))
+}
+
+/// The names of decision variables stand for their cells.
+fn name_finds(alloc: Global, env: &mut Env, finds: &[Find]) -> Result<(), Memory>
+    ensures mode { env.new.mode ≡ env.old.mode }
+    ensures known { OnOk result (env_of env.new ≡ put_all (cells_bound (map find_of finds.now)) (env_of env.old)) }
+{
+    let count = finds.len();
+    for passed in 0..count {
+        let find = &finds[count - 1 - passed];
+        name_find(alloc, env, find)?;
+    }
+    Ok(())
+}
+
+/// The environment of an instance in which the names of decision variables stand for their cells.
+pub fn env_with_cells(alloc: Global, instance: &Instance) -> Result<Env, Memory>
+    ensures mode { IfOk result (λ env. env.mode ≡ mode_of instance.now) }
+    ensures known { IfOk result (λ env. env_of env ≡ clause_env (instance_of instance.now)) }
+{
+    let mut env = instance.env().copy()?;
+    name_finds(alloc, &mut env, instance.finds())?;
+    Ok(env)
+}

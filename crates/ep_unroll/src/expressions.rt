@@ -1,0 +1,463 @@
+//! Expressions as terms over cells.
+
+ghost use Rattle.std.specs.Prelude.{◌≡◌, ◌∷◌, true, List, Some, IfOk};
+ghost use Rattle.ep_base.specs.declared.places.Place.{Place};
+ghost use Rattle.ep_ground.specs.Nodes.{GroundNode};
+ghost use Rattle.ep_tree.specs.Evaluation.{domain_values};
+ghost use Rattle.ep_tree.specs.Reach.{decisions_in};
+ghost use Rattle.ep_tree.specs.Views.{domain_tree, expr_tree, expr_trees, kind_tree, terms_of};
+ghost use Rattle.ep_tree.specs.declared.values.Mode.{Mode as EachMode};
+ghost use Rattle.ep_eval.specs.Instances.{quantified_tree};
+ghost use Rattle.ep_eval.specs.Scopes.{env_in};
+ghost use Rattle.ep_size.specs.Free as free;
+ghost use Rattle.ep_unroll.specs.Firsts.{numbering_of};
+ghost use Rattle.ep_unroll.specs.Meanings.{AreInstancesOf, AreNumbersOf, IsNumberOf, IsTermOf, Means};
+ghost use Rattle.ep_unroll.specs.Readings.{Numbering};
+ghost use Rattle.ep_unroll.specs.Signed.{AreSigned};
+
+use super::firsts::CellTable;
+use super::fixed::{fixed_numbers, fixed_value, is_fixed};
+use super::forms::{finish_all, finish_one, finish_two};
+use super::matrices::matrix_term;
+use super::members::member_term;
+use super::named::named_cells;
+use super::numbers::{number_term, taken_term};
+use super::quantifiers::{finish_quantifier, without_domain};
+use super::reads::read_of;
+use super::sums::{chain_term, sign_of};
+use super::unrolled::Unrolled;
+use ep_base::{Memory, Name, Runs};
+use ep_eval::{Around, Quantifier, Scope, next_number, scalar_of, walk_of};
+use ep_ground::{Arena, Term};
+use ep_tree::{Expr, Kind};
+
+/// What an expression without decision variables is unrolled to.
+fn fixed<'a>(scope: Scope<'_, 'a>, e: &Expr) -> Result<Unrolled<'a>, Memory>
+    requires { free.is_free (decisions_in (env_in scope)) (expr_tree e.now) ≡ true }
+    ensures { (n : Numbering) → (nodes : List GroundNode)
+        → IfOk result (Means n (env_in scope.entry) nodes nodes (expr_tree e.now)) }
+{
+    let seen = fixed_value(scope, e)?;
+    Ok(Unrolled::Fixed(seen))
+}
+
+/// What an expression is unrolled to.
+#[cycle(unrolling)]
+pub fn unrolled<'a>(
+    scope: Scope<'_, 'a>,
+    table: &CellTable,
+    arena: &mut Arena,
+    e: &Expr,
+) -> Result<Unrolled<'a>, Memory>
+    ensures { IfOk result (Means (numbering_of table.now) (env_in scope.entry) arena.old arena.new (expr_tree e.now)) }
+{
+    if is_fixed(scope, e) {
+        return fixed(scope, e);
+    }
+    if let Kind::Quant(op, names, domain, body) = &e.kind {
+        let quantifier = Quantifier {
+            op: *op,
+            domain,
+            body,
+        };
+        return quantified(scope, table, arena, quantifier, names);
+    }
+    if is_read(&e.kind) {
+        return read_unrolled(scope, table, arena, e);
+    }
+    kind_unrolled(scope, table, arena, &e.kind)
+}
+
+/// The term of an expression's number.
+#[cycle(unrolling)]
+pub fn term_of(
+    scope: Scope<'_, '_>,
+    table: &CellTable,
+    arena: &mut Arena,
+    e: &Expr,
+) -> Result<Term, Memory>
+    ensures { IfOk result (IsNumberOf (numbering_of table.now) (env_in scope.entry) arena.old arena.new (expr_tree e.now)) }
+{
+    let known = unrolled(scope, table, arena, e)?;
+    number_term(arena, &known)
+}
+
+/// Whether an expression of this kind is a read.
+fn is_read(kind: &Kind) -> bool {
+    match kind {
+        Kind::Read(_, _) => true,
+        _ => false,
+    }
+}
+
+/// What an expression of this kind is unrolled to.
+#[cycle(unrolling)]
+fn kind_unrolled<'a>(
+    scope: Scope<'_, 'a>,
+    table: &CellTable,
+    arena: &mut Arena,
+    kind: &Kind,
+) -> Result<Unrolled<'a>, Memory>
+    ensures { (p : Place) → IfOk result (Means (numbering_of table.now) (env_in scope.entry) arena.old arena.new (kind_tree p kind.now)) }
+{
+    match kind {
+        Kind::Named(name) => named_cells(scope, table, name),
+        Kind::Group(part) => unrolled(scope, table, arena, part),
+        Kind::ToInt(part) => unrolled(scope, table, arena, part),
+        Kind::Flatten(_) | Kind::Literal(_, _) | Kind::Comprehension(_, _, _, _) => {
+            matrix_unrolled(scope, table, arena, kind)
+        }
+        _ => number_unrolled(scope, table, arena, kind),
+    }
+}
+
+/// The same of a kind that is a number.
+#[cycle(unrolling)]
+fn number_unrolled<'a>(
+    scope: Scope<'_, 'a>,
+    table: &CellTable,
+    arena: &mut Arena,
+    kind: &Kind,
+) -> Result<Unrolled<'a>, Memory>
+    ensures { (p : Place) → IfOk result (Means (numbering_of table.now) (env_in scope.entry) arena.old arena.new (kind_tree p kind.now)) }
+{
+    let term = kind_term(scope, table, arena, kind)?;
+    Ok(Unrolled::Number(term))
+}
+
+/// The term of a kind that is a number.
+#[cycle(unrolling)]
+fn kind_term(
+    scope: Scope<'_, '_>,
+    table: &CellTable,
+    arena: &mut Arena,
+    kind: &Kind,
+) -> Result<Term, Memory>
+    ensures { (p : Place) → IfOk result (IsTermOf (numbering_of table.now) (env_in scope.entry) arena.old arena.new (kind_tree p kind.now)) }
+{
+    match kind {
+        Kind::Not(_) | Kind::Neg(_) | Kind::Abs(_) => with_one(scope, table, arena, kind),
+        Kind::Binary(_, _, _) | Kind::Compare(_, _, _) => with_two(scope, table, arena, kind),
+        Kind::And(_) | Kind::Or(_) => with_parts(scope, table, arena, kind),
+        Kind::Add(_) => with_terms(scope, table, arena, kind),
+        Kind::InDomain(_, _) => with_domain(scope, table, arena, kind),
+        Kind::Fold(_, _) | Kind::AllDiff(_) => with_matrix(scope, table, arena, kind),
+        Kind::Lex(_, _, _) | Kind::InSet(_, _) | Kind::Table(_, _) => with_matrices(
+            scope, table, arena, kind,
+        ),
+        Kind::Gcc(_, _, _) | Kind::AtLeast(_, _, _) | Kind::AtMost(_, _, _) => with_counts(
+            scope, table, arena, kind,
+        ),
+        // No other kind comes here.
+        _ => Err(Memory),
+    }
+}
+
+/// The same of a kind with one part.
+#[cycle(unrolling)]
+fn with_one(
+    scope: Scope<'_, '_>,
+    table: &CellTable,
+    arena: &mut Arena,
+    kind: &Kind,
+) -> Result<Term, Memory>
+    ensures { (p : Place) → IfOk result (IsTermOf (numbering_of table.now) (env_in scope.entry) arena.old arena.new (kind_tree p kind.now)) }
+{
+    match kind {
+        Kind::Not(part) => {
+            let term = term_of(scope, table, arena, part)?;
+            finish_one(scope.alloc, arena, kind, term)
+        }
+        Kind::Neg(part) => {
+            let term = term_of(scope, table, arena, part)?;
+            finish_one(scope.alloc, arena, kind, term)
+        }
+        Kind::Abs(part) => {
+            let term = term_of(scope, table, arena, part)?;
+            finish_one(scope.alloc, arena, kind, term)
+        }
+        // No other kind comes here.
+        _ => Err(Memory),
+    }
+}
+
+/// The same of a kind with two parts.
+#[cycle(unrolling)]
+fn with_two(
+    scope: Scope<'_, '_>,
+    table: &CellTable,
+    arena: &mut Arena,
+    kind: &Kind,
+) -> Result<Term, Memory>
+    ensures { (p : Place) → IfOk result (IsTermOf (numbering_of table.now) (env_in scope.entry) arena.old arena.new (kind_tree p kind.now)) }
+{
+    match kind {
+        Kind::Binary(_, left, right) => {
+            let one = term_of(scope, table, arena, left)?;
+            let other = term_of(scope, table, arena, right)?;
+            finish_two(scope.alloc, arena, table.count, kind, one, other)
+        }
+        Kind::Compare(_, left, right) => {
+            let one = term_of(scope, table, arena, left)?;
+            let other = term_of(scope, table, arena, right)?;
+            finish_two(scope.alloc, arena, table.count, kind, one, other)
+        }
+        // No other kind comes here.
+        _ => Err(Memory),
+    }
+}
+
+/// The same of a connective.
+#[cycle(unrolling)]
+fn with_parts(
+    scope: Scope<'_, '_>,
+    table: &CellTable,
+    arena: &mut Arena,
+    kind: &Kind,
+) -> Result<Term, Memory>
+    ensures { (p : Place) → IfOk result (IsTermOf (numbering_of table.now) (env_in scope.entry) arena.old arena.new (kind_tree p kind.now)) }
+{
+    match kind {
+        Kind::And(parts) => {
+            let terms = terms_of_all(scope, table, arena, parts)?;
+            finish_all(arena, kind, terms)
+        }
+        Kind::Or(parts) => {
+            let terms = terms_of_all(scope, table, arena, parts)?;
+            finish_all(arena, kind, terms)
+        }
+        // No other kind comes here.
+        _ => Err(Memory),
+    }
+}
+
+/// The terms of some expressions.
+#[cycle(unrolling)]
+fn terms_of_all(
+    scope: Scope<'_, '_>,
+    table: &CellTable,
+    arena: &mut Arena,
+    parts: &[Expr],
+) -> Result<Vec<Term>, Memory>
+    ensures { IfOk result (λ ts. AreNumbersOf (numbering_of table.now) (env_in scope.entry) arena.old arena.new (expr_trees parts.now) ts.items) }
+{
+    let mut terms = Vec::new(scope.alloc);
+    for part in parts {
+        let term = term_of(scope, table, arena, part)?;
+        terms.push(term)?;
+    }
+    Ok(terms)
+}
+
+/// The same of a chain of sums.
+#[cycle(unrolling)]
+fn with_terms(
+    scope: Scope<'_, '_>,
+    table: &CellTable,
+    arena: &mut Arena,
+    kind: &Kind,
+) -> Result<Term, Memory>
+    ensures { (p : Place) → IfOk result (IsTermOf (numbering_of table.now) (env_in scope.entry) arena.old arena.new (kind_tree p kind.now)) }
+{
+    match kind {
+        Kind::Add(terms) => {
+            let parts = signed_terms(scope, table, arena, terms)?;
+            chain_term(arena, parts)
+        }
+        // No other kind comes here.
+        _ => Err(Memory),
+    }
+}
+
+/// The terms of a chain, each with its sign as a coefficient.
+#[cycle(unrolling)]
+fn signed_terms(
+    scope: Scope<'_, '_>,
+    table: &CellTable,
+    arena: &mut Arena,
+    terms: &[(bool, Expr)],
+) -> Result<Vec<(i64, Term)>, Memory>
+    ensures { IfOk result (λ ps. AreSigned (numbering_of table.now) (env_in scope.entry) arena.old arena.new (terms_of terms.now) ps.items) }
+{
+    let mut parts = Vec::new(scope.alloc);
+    for term in terms {
+        let part = term_of(scope, table, arena, &term.1)?;
+        parts.push((sign_of(term.0), part))?;
+    }
+    Ok(parts)
+}
+
+/// Membership in a domain.
+#[cycle(unrolling)]
+fn with_domain(
+    scope: Scope<'_, '_>,
+    table: &CellTable,
+    arena: &mut Arena,
+    kind: &Kind,
+) -> Result<Term, Memory>
+    ensures { (p : Place) → IfOk result (IsTermOf (numbering_of table.now) (env_in scope.entry) arena.old arena.new (kind_tree p kind.now)) }
+{
+    match kind {
+        Kind::InDomain(part, domain) => {
+            let term = term_of(scope, table, arena, part)?;
+            let numbers = fixed_numbers(scope, domain)?;
+            member_term(arena, term, numbers)
+        }
+        // No other kind comes here.
+        _ => Err(Memory),
+    }
+}
+
+/// A quantifier over these names; without any name it is its body.
+#[cycle(unrolling)]
+fn quantified<'a>(
+    scope: Scope<'_, 'a>,
+    table: &CellTable,
+    arena: &mut Arena,
+    quantifier: Quantifier<'_>,
+    names: &[Name],
+) -> Result<Unrolled<'a>, Memory>
+    ensures { (p : Place) → IfOk result (Means (numbering_of table.now) (env_in scope.entry) arena.old arena.new
+        (quantified_tree p quantifier.entry names.now)) }
+{
+    match names.split_first() {
+        Some((name, rest)) => {
+            let term = over_domain(scope, table, arena, quantifier, name, rest)?;
+            Ok(Unrolled::Number(term))
+        }
+        None => unrolled(scope, table, arena, quantifier.body),
+    }
+}
+
+/// The term of a quantifier over a name and others.
+#[cycle(unrolling)]
+fn over_domain(
+    scope: Scope<'_, '_>,
+    table: &CellTable,
+    arena: &mut Arena,
+    quantifier: Quantifier<'_>,
+    name: &Name,
+    rest: &[Name],
+) -> Result<Term, Memory>
+    ensures { (p : Place) → IfOk result (IsTermOf (numbering_of table.now) (env_in scope.entry) arena.old arena.new
+        (quantified_tree p quantifier.entry (name.now ∷ rest.now))) }
+{
+    let numbers = fixed_numbers(scope, quantifier.domain)?;
+    match numbers {
+        Some(set) => {
+            let terms = instances(scope, table, arena, quantifier, name, rest, &set)?;
+            finish_quantifier(scope.alloc, arena, quantifier.op, terms)
+        }
+        None => without_domain(arena, quantifier.op),
+    }
+}
+
+/// The terms of the instances of a quantifier, one for each number of its domain.
+#[cycle(unrolling)]
+fn instances(
+    scope: Scope<'_, '_>,
+    table: &CellTable,
+    arena: &mut Arena,
+    quantifier: Quantifier<'_>,
+    name: &Name,
+    rest: &[Name],
+    set: &Runs,
+) -> Result<Vec<Term>, Memory>
+    requires { domain_values EachMode.Relational (env_in scope) (domain_tree quantifier.domain.now) ≡ Some set.now }
+    ensures { (p : Place) → IfOk result (λ ts. AreInstancesOf (numbering_of table.now) (env_in scope.entry) arena.old arena.new
+        p quantifier.entry name.now rest.now set.now ts.items) }
+{
+    let scalar = scalar_of(scope, quantifier.domain);
+    let mut terms = Vec::new(scope.alloc);
+    let mut walk = walk_of(set.runs());
+    while let Some((number, behind)) = next_number(walk) {
+        let around = Around::Number(scope.around, name, scalar, number);
+        let inner = Scope {
+            alloc: scope.alloc,
+            env: scope.env,
+            around: &around,
+        };
+        let instance = quantified(inner, table, arena, quantifier, rest)?;
+        let term = taken_term(arena, instance)?;
+        terms.push(term)?;
+        walk = behind;
+    }
+    Ok(terms)
+}
+
+/// A read of a matrix.
+fn read_unrolled<'a>(
+    scope: Scope<'_, 'a>,
+    table: &CellTable,
+    arena: &mut Arena,
+    e: &Expr,
+) -> Result<Unrolled<'a>, Memory>
+    ensures { IfOk result (Means (numbering_of table.now) (env_in scope.entry) arena.old arena.new (expr_tree e.now)) }
+{
+    let _size = arena.len();
+    match &e.kind {
+        Kind::Read(matrix, indices) => read_of(scope, table, e, matrix, indices),
+        // No other kind comes here.
+        _ => Err(Memory),
+    }
+}
+
+/// What a kind that is a matrix is unrolled to.
+fn matrix_unrolled<'a>(
+    scope: Scope<'_, 'a>,
+    table: &CellTable,
+    arena: &mut Arena,
+    kind: &Kind,
+) -> Result<Unrolled<'a>, Memory>
+    ensures { (p : Place) → IfOk result (Means (numbering_of table.now) (env_in scope.entry) arena.old arena.new (kind_tree p kind.now)) }
+{
+    let _alloc = scope.alloc;
+    let _count = table.count;
+    let _read = is_read(kind);
+    let _size = arena.len();
+    Err(Memory)
+}
+
+/// The same of a kind with a matrix as its part.
+fn with_matrix(
+    scope: Scope<'_, '_>,
+    table: &CellTable,
+    arena: &mut Arena,
+    kind: &Kind,
+) -> Result<Term, Memory>
+    ensures { (p : Place) → IfOk result (IsTermOf (numbering_of table.now) (env_in scope.entry) arena.old arena.new (kind_tree p kind.now)) }
+{
+    matrix_term(scope, table, arena, kind)
+}
+
+/// The same of a kind with two parts, of which one is a matrix.
+fn with_matrices(
+    scope: Scope<'_, '_>,
+    table: &CellTable,
+    arena: &mut Arena,
+    kind: &Kind,
+) -> Result<Term, Memory>
+    ensures { (p : Place) → IfOk result (IsTermOf (numbering_of table.now) (env_in scope.entry) arena.old arena.new (kind_tree p kind.now)) }
+{
+    let _alloc = scope.alloc;
+    let _count = table.count;
+    let _read = is_read(kind);
+    let _size = arena.len();
+    Err(Memory)
+}
+
+/// The same of a kind that counts values of a matrix.
+fn with_counts(
+    scope: Scope<'_, '_>,
+    table: &CellTable,
+    arena: &mut Arena,
+    kind: &Kind,
+) -> Result<Term, Memory>
+    ensures { (p : Place) → IfOk result (IsTermOf (numbering_of table.now) (env_in scope.entry) arena.old arena.new (kind_tree p kind.now)) }
+{
+    let _alloc = scope.alloc;
+    let _count = table.count;
+    let _read = is_read(kind);
+    let _size = arena.len();
+    Err(Memory)
+}

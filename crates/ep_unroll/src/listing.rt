@@ -1,0 +1,94 @@
+//! Sets of numbers as lists, and the lists of indices over index domains.
+
+ghost use Rattle.std.specs.Prelude.{◌≡◌, ◌≤ℤ◌, ◌++◌, ◌∷◌, [], IfOk, OnOk, flat_map, map};
+ghost use Rattle.ep_base.specs.Runs.{numbers_in};
+ghost use Rattle.ep_unroll.specs.Cells as defined;
+
+use ep_base::{Key, Memory, Run, Runs};
+use std::alloc::{AllocError, Global};
+
+/// Adds the numbers of a run.
+fn push_run(numbers: &mut Vec<i64>, run: Run) -> Result<(), AllocError>
+    requires { run.lo ≤ℤ run.hi }
+    ensures { OnOk result (numbers.new.items ≡ numbers.old.items ++ numbers_in run) }
+{
+    let mut number = run.lo;
+    while number < run.hi {
+        numbers.push(number)?;
+        number += 1;
+    }
+    numbers.push(run.hi)?;
+    Ok(())
+}
+
+/// The numbers in ascending order.
+pub fn listed(alloc: Global, numbers: &Runs) -> Result<Vec<i64>, Memory>
+    ensures { IfOk result (λ list. list.items ≡ numbers.now) }
+{
+    let mut list = Vec::new(alloc);
+    for run in numbers.runs() {
+        push_run(&mut list, *run)?;
+    }
+    Ok(list)
+}
+
+/// A number, and others behind it.
+fn in_front(alloc: Global, number: i64, others: &[i64]) -> Result<Vec<i64>, Memory>
+    ensures { IfOk result (λ all. all.items ≡ number ∷ others.now) }
+{
+    let mut all = Vec::new(alloc);
+    all.push(number)?;
+    for other in others {
+        all.push(*other)?;
+    }
+    Ok(all)
+}
+
+/// Adds each of these keys with a number in front.
+fn push_all_behind(
+    alloc: Global,
+    keys: &mut Vec<Key>,
+    number: i64,
+    others: &[Key],
+) -> Result<(), Memory>
+    ensures { OnOk result (keys.new.items ≡ keys.old.items ++ map (λ rest. number ∷ rest) others.now) }
+{
+    for other in others {
+        keys.push(Key::new(in_front(alloc, number, other.numbers())?))?;
+    }
+    Ok(())
+}
+
+/// Each of these numbers in front of each of these keys.
+fn crossed(alloc: Global, numbers: &[i64], others: &[Key]) -> Result<Vec<Key>, Memory>
+    ensures { IfOk result (λ keys.
+        keys.items ≡ flat_map (λ i. map (λ rest. i ∷ rest) others.now) numbers.now) }
+{
+    let mut keys = Vec::new(alloc);
+    for number in numbers {
+        push_all_behind(alloc, &mut keys, *number, others)?;
+    }
+    Ok(keys)
+}
+
+/// The key without a number, alone.
+fn no_index(alloc: Global) -> Result<Vec<Key>, Memory>
+    ensures { IfOk result (λ keys. keys.items ≡ defined.index_lists []) }
+{
+    let mut keys = Vec::new(alloc);
+    keys.push(Key::new(Vec::new(alloc)))?;
+    Ok(keys)
+}
+
+/// The lists of indices over index domains, the last index running fastest.
+pub fn index_lists(alloc: Global, domains: &[Runs]) -> Result<Vec<Key>, Memory>
+    ensures { IfOk result (λ keys. keys.items ≡ defined.index_lists domains.now) }
+{
+    let mut keys = no_index(alloc)?;
+    let count = domains.len();
+    for passed in 0..count {
+        let numbers = listed(alloc, &domains[count - 1 - passed])?;
+        keys = crossed(alloc, &numbers, &keys)?;
+    }
+    Ok(keys)
+}

@@ -1,0 +1,208 @@
+//! Reads of decision variables at indices in which no decision variable stands.
+
+ghost use Rattle.std.specs.Prelude.{◌≡◌, ◌∷◌, ℕ, ℤ, true, false, List, Option, Some, IfOk, map, option_map};
+ghost use Rattle.ep_base.specs.declared.places.Place.{Place};
+ghost use Rattle.ep_ground.specs.Nodes.{GroundNode};
+ghost use Rattle.ep_tree.specs.Evaluation.{index_list, read_result};
+ghost use Rattle.ep_tree.specs.Trees.{named, read};
+ghost use Rattle.ep_tree.specs.Values.{ValueTree, any_index, read_value};
+ghost use Rattle.ep_tree.specs.Views.{expr_tree, indices_of};
+ghost use Rattle.ep_tree.specs.declared.values.Mode.{Mode as EachMode};
+ghost use Rattle.ep_tree.specs.declared.values.ValueType.{ValueType as EachType};
+ghost use Rattle.ep_eval.specs.Helds.{seen_held};
+ghost use Rattle.ep_eval.specs.Scopes.{env_in};
+ghost use Rattle.ep_unroll.specs.Blocks.{IsWorth, index_in, indices_in, one_index};
+ghost use Rattle.ep_unroll.specs.Firsts.{numbering_of};
+ghost use Rattle.ep_unroll.specs.Meanings.{AreTerms, Means, worth};
+ghost use Rattle.ep_unroll.specs.Readings.{Numbering, Reading, cells_value};
+
+use super::blocks::{Block, block_at};
+use super::firsts::CellTable;
+use super::fixed::{fixed_value, is_fixed};
+use super::named::block_named;
+use super::unrolled::Unrolled;
+use ep_base::{Memory, Name};
+use ep_eval::{Held, Scope, number_of, type_within};
+use ep_tree::{Expr, Kind, ValueType};
+
+/// The number of an index, in which no decision variable may stand, or `..`; nothing where it has no number.
+fn fixed_index(scope: Scope<'_, '_>, index: &Option<Expr>) -> Result<Option<Option<i64>>, Memory>
+    ensures { IfOk result (λ found. (n : Numbering) → (r : Reading n (env_in scope.entry))
+        → one_index r.values index.now ≡ option_map index_in found) }
+{
+    match index {
+        Some(stated) => {
+            if !is_fixed(scope, stated) {
+                return Err(Memory);
+            }
+            let seen = fixed_value(scope, stated)?;
+            match number_of(&seen) {
+                Some(number) => Ok(Some(Some(number))),
+                None => Ok(None),
+            }
+        }
+        None => Ok(Some(None)),
+    }
+}
+
+/// The numbers of indices; nothing where one has none.
+fn fixed_indices(
+    scope: Scope<'_, '_>,
+    indices: &[Option<Expr>],
+) -> Result<Option<Vec<Option<i64>>>, Memory>
+    ensures { IfOk result (λ found. (n : Numbering) → (r : Reading n (env_in scope.entry))
+        → index_list EachMode.Relational r.values (indices_of indices.now) ≡ option_map (λ v. indices_in v.items) found) }
+{
+    let mut numbers = Vec::new(scope.alloc);
+    for index in indices {
+        let one = fixed_index(scope, index)?;
+        match one {
+            Some(number) => numbers.push(number)?,
+            None => return Ok(None),
+        }
+    }
+    Ok(Some(numbers))
+}
+
+/// What indices leave of a block of cells. Where `..` stands, all parts are left.
+#[cycle(reading)]
+fn block_left<'a>(block: Block<'a>, indices: &[Option<i64>]) -> Result<Unrolled<'a>, Memory>
+    ensures worth { IfOk result (λ x. (nodes : List GroundNode) → (numbers : List ℤ) → (v : ValueTree)
+        → cells_value numbers block.entry.domains.now block.entry.first ≡ Some v
+        → IsWorth nodes numbers x (read_value (indices_in indices.now) v)) }
+    ensures terms { IfOk result (λ x. (count : ℕ) → AreTerms count x) }
+{
+    match indices.split_first() {
+        Some((index, rest)) => match index {
+            Some(stated) => part_left(block, *stated, rest),
+            None => parts_left(block, rest),
+        },
+        None => Ok(Unrolled::Cells(block.first, block.domains)),
+    }
+}
+
+/// What indices leave of the part with an index.
+#[cycle(reading)]
+fn part_left<'a>(block: Block<'a>, index: i64, rest: &[Option<i64>]) -> Result<Unrolled<'a>, Memory>
+    ensures worth { IfOk result (λ x. (nodes : List GroundNode) → (numbers : List ℤ) → (v : ValueTree)
+        → cells_value numbers block.entry.domains.now block.entry.first ≡ Some v
+        → IsWorth nodes numbers x (read_value (index_in (Some index) ∷ indices_in rest.now) v)) }
+    ensures terms { IfOk result (λ x. (count : ℕ) → AreTerms count x) }
+{
+    let part = block_at(block, index)?;
+    match part {
+        Some(inner) => block_left(inner, rest),
+        None => Ok(Unrolled::Fixed(None)),
+    }
+}
+
+/// Whether each of some indices is `..`.
+fn are_every(indices: &[Option<i64>]) -> bool
+    ensures { result ≡ true → indices_in indices.now ≡ map (λ i. any_index) indices.now }
+{
+    match indices.split_first() {
+        Some((index, rest)) => match index {
+            Some(_) => false,
+            None => are_every(rest),
+        },
+        None => true,
+    }
+}
+
+/// What indices leave of each part, where each of them is `..`: all. Where one isn't, it ends as want of memory.
+fn parts_left<'a>(block: Block<'a>, rest: &[Option<i64>]) -> Result<Unrolled<'a>, Memory>
+    ensures worth { IfOk result (λ x. (nodes : List GroundNode) → (numbers : List ℤ) → (v : ValueTree)
+        → cells_value numbers block.entry.domains.now block.entry.first ≡ Some v
+        → IsWorth nodes numbers x (read_value (any_index ∷ indices_in rest.now) v)) }
+    ensures terms { IfOk result (λ x. (count : ℕ) → AreTerms count x) }
+{
+    let count = rest.len();
+    let dims = block.domains.len();
+    if count >= dims {
+        return Err(Memory);
+    }
+    if !are_every(rest) {
+        return Err(Memory);
+    }
+    Ok(Unrolled::Cells(block.first, block.domains))
+}
+
+/// Whether a type is that of truth values.
+fn is_truth(ty: ValueType) -> bool
+    ensures truth { result ≡ true → ty ≡ EachType.Bool }
+    ensures other { result ≡ false → (o : Option ValueTree) → read_result EachMode.Relational ty o ≡ o }
+{
+    match ty {
+        ValueType::Bool => true,
+        ValueType::Int => false,
+        ValueType::Matrix { .. } => false,
+        ValueType::Empty => false,
+    }
+}
+
+/// A truth value that was read, false where there is none.
+fn or_false<'a>(seen: Option<Held<'a>>) -> Option<Held<'a>>
+    ensures { seen_held result ≡ read_result EachMode.Relational EachType.Bool (seen_held seen.entry) }
+{
+    match seen {
+        Some(held) => Some(held),
+        None => Some(Held::Number(0)),
+    }
+}
+
+/// What was read, which is false where there is no truth value.
+fn finish_read<'a>(ty: ValueType, known: Unrolled<'a>) -> Result<Unrolled<'a>, Memory>
+    ensures worth { (nodes : List GroundNode) → (numbers : List ℤ) → (o : Option ValueTree) → IsWorth nodes numbers known.entry o
+        → IfOk result (λ x. worth nodes numbers x ≡ read_result EachMode.Relational ty o) }
+    ensures terms { (count : ℕ) → AreTerms count known.entry → IfOk result (AreTerms count) }
+{
+    if !is_truth(ty) {
+        return Ok(known);
+    }
+    match known {
+        Unrolled::Cells(first, domains) => Ok(Unrolled::Cells(first, domains)),
+        Unrolled::Fixed(seen) => Ok(Unrolled::Fixed(or_false(seen))),
+        // A truth value is no matrix.
+        Unrolled::Number(_) | Unrolled::Matrix(_, _) => Err(Memory),
+    }
+}
+
+/// A read of a decision variable.
+pub fn read_named<'a>(
+    scope: Scope<'_, 'a>,
+    table: &CellTable,
+    e: &Expr,
+    name: &Name,
+    indices: &[Option<Expr>],
+) -> Result<Unrolled<'a>, Memory>
+    ensures { (nodes : List GroundNode) → (p q : Place) → expr_tree e.now ≡ read p (named q name.now) (indices_of indices.now)
+        → IfOk result (Means (numbering_of table.now) (env_in scope.entry) nodes nodes (expr_tree e.now)) }
+{
+    let block = block_named(scope, table, name)?;
+    let ty = type_within(scope, e)?;
+    let numbers = fixed_indices(scope, indices)?;
+    match numbers {
+        Some(numbers) => {
+            let left = block_left(block, &numbers)?;
+            finish_read(ty, left)
+        }
+        None => finish_read(ty, Unrolled::Fixed(None)),
+    }
+}
+
+/// A read of a matrix with these indices. Where that is no decision variable's name, it ends as want of memory.
+pub fn read_of<'a>(
+    scope: Scope<'_, 'a>,
+    table: &CellTable,
+    e: &Expr,
+    matrix: &Expr,
+    indices: &[Option<Expr>],
+) -> Result<Unrolled<'a>, Memory>
+    ensures { (nodes : List GroundNode) → (p : Place) → expr_tree e.now ≡ read p (expr_tree matrix.now) (indices_of indices.now)
+        → IfOk result (Means (numbering_of table.now) (env_in scope.entry) nodes nodes (expr_tree e.now)) }
+{
+    match &matrix.kind {
+        Kind::Named(name) => read_named(scope, table, e, name, indices),
+        _ => Err(Memory),
+    }
+}
