@@ -1,0 +1,8 @@
+use Rattle.ep_solve.proofs.Cells.{fits-gives, numbers-read}
+use Rattle.ep_solve.proofs.laws.cells_stand_for_values.Goals as goal
+
+pub returns-clause-gives : goal.returns-clause-gives
+returns-clause-gives c = fits-gives
+
+pub returns-clause-reads : goal.returns-clause-reads
+returns-clause-reads c = numbers-read

@@ -1,0 +1,34 @@
+use Rattle.std.proofs.Common.{◌≡◌, ◌∙◌, true, List, map, length, sym, ap, subst}
+use Rattle.std.specs.Prelude.{All}
+use Rattle.std.proofs.lemmas.List.{length-map}
+use Rattle.cnf_core.specs.Events.{LogEvent, LogState, given, givens, is_given, plain_event}
+use Rattle.cnf_core.specs.Literal.{Literal}
+use Rattle.enc_var.specs.Notes.{cell_notes}
+use Rattle.ep_ground.specs.declared.cells.Cell.{Cell}
+use Rattle.sat_search.specs.View.{SolverView}
+use Rattle.ep_solve.proofs.GivenLogs.{all-base, are-given, givens-are}
+use Rattle.ep_solve.proofs.posing.posed.Goals as goal
+
+pub mark-requires : goal.mark-requires
+mark-requires c =
+    all-base c.clauses.result.now c.give_all.new.log.events (length c.events.result.now)
+    (ap (λ (l : LogState). l.events) c.in_ok-give_all.ensures)
+    (sym (length-map c.events.result.now plain_event) ∙ ap length c.events.ensures.value)
+
+pub returns : goal.returns
+returns c = λ g made cells.
+    let clauses : List (List Literal) = c.clauses.result.now in
+    let P : List LogEvent → Type 0 = λ es. All (λ e. is_given e ≡ true) es in
+    let kept : c.mark.new.self.events ≡ c.give_all.new.log.events = ap (λ (l : LogState). l.events) c.mark.ensures in
+    let are : c.mark.new.self.events ≡ map given clauses = kept ∙ ap (λ (l : LogState). l.events) c.in_ok-give_all.ensures in
+    let counted : length c.events.result.now ≡ length c.give_all.new.log.events = sym (length-map c.events.result.now plain_event) ∙ ap length c.events.ensures.value in
+    record {
+      formula = made;
+      cells = cells;
+      are_givens = subst P (sym are) (are-given clauses);
+      givens_are = ap givens are ∙ givens-are clauses ∙ c.clauses.ensures.value;
+      is_base = ap (λ (l : LogState). l.base) c.mark.ensures ∙ counted ∙ ap length (sym kept);
+      notes = ap (λ (l : LogState). l.notes) c.mark.ensures ∙ c.in_ok-notes.ensures ∙ ap (λ (cells : List Cell). cell_notes c.args.encoded.layout cells c.args.encoded.map.cells.items) c.deref.ensures.value;
+      is_whole = ap (λ (s : SolverView). s.broken) c.in_ok-solver.ensures.made;
+      clauses = ap (λ (s : SolverView). s.clauses) c.in_ok-solver.ensures.made;
+    }

@@ -1,0 +1,11 @@
+//! Answers of instances by clauses and the solver.
+#![tactic(auto)]
+
+mod laws;
+mod listing;
+mod posing;
+mod reading_back;
+mod solving;
+
+pub use laws::cells_stand_for_values;
+pub use solving::solve;

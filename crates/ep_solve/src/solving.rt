@@ -1,0 +1,108 @@
+//! The answer of an instance.
+
+ghost use Rattle.std.specs.Prelude.{◌≡◌, ◌≤◌, [], length, map, take, IfOk};
+ghost use Rattle.std.specs.List.{All};
+ghost use Rattle.ep_answer.specs.Answered.{AnswersCells};
+ghost use Rattle.ep_answer.specs.AnswerViews.{plain_answer, plain_problem};
+ghost use Rattle.ep_answer.specs.Problems.{CanSearch};
+ghost use Rattle.ep_base.specs.Reads.{IsWithinNumbers};
+ghost use Rattle.ep_instance.specs.Instances.{find_of, instance_of, mode_of};
+ghost use Rattle.ep_print.specs.Answers.{HasTypedValues, answer_tree};
+ghost use Rattle.ep_solve.specs.Reading.{answer_from};
+ghost use Rattle.cnf_core.specs.Events.{nonempty_steps};
+ghost use Rattle.sat_search.specs.Logs.{IsSound};
+ghost use Rattle.ep_solve.specs.Right.{IsRight, IsSpent, IsUnknown, empty_log};
+ghost use Rattle.ep_tree.specs.Closed.{IsClosed};
+ghost use Rattle.ep_tree.specs.Solutions.{instance_limits};
+
+use crate::posing::posed;
+use crate::reading_back::assignment_from;
+use cnf_core::Log;
+use ep_answer::{CellAnswer, Problem, find_cells, optimise_cells};
+use ep_base::Memory;
+use ep_formula::formula_of;
+use ep_instance::{Find, Instance};
+use ep_print::Answer;
+use ep_unroll::unroll;
+use std::alloc::Global;
+
+/// The answer of an instance: a solution, an optimum where an objective is stated, that there is
+/// none, or that so many conflicts were spent. The formula and the solver's steps stand in the log then.
+///
+/// In the strict mode, and of forms that aren't unrolled yet, it ends for want of memory.
+pub fn solve(
+    alloc: Global,
+    instance: &Instance,
+    budget: u64,
+    log: &mut Log,
+) -> Result<Answer, Memory>
+    requires closed { IsClosed (instance_of instance.now) }
+    requires within { instance_limits (mode_of instance.now) (instance_of instance.now) ≡ [] }
+    requires values { All (λ f. All IsWithinNumbers f.values) (instance_of instance.now).finds }
+    requires empty { log.old ≡ empty_log }
+    ensures right { IfOk result (λ answer.
+        IsRight (mode_of instance.now) (instance_of instance.now) budget (answer_tree answer)) }
+    ensures typed { IfOk result (λ answer. HasTypedValues (answer_tree answer)) }
+    ensures sound { IfOk result (λ answer. IsSound log.new.events) }
+    ensures within { IfOk result (λ answer. nonempty_steps log.new.events ≤ budget) }
+    ensures spent { IfOk result (λ answer. IsUnknown (answer_tree answer) → IsSpent budget log.new.events) }
+{
+    let ground = unroll(alloc, instance)?;
+    let encoded = formula_of(alloc, ground)?;
+    let mut problem = posed(alloc, encoded, log)?;
+    let found = search(alloc, &mut problem, budget, log)?;
+    read_back(alloc, instance.finds(), budget, found)
+}
+
+/// Numbers of the cells that answer a problem.
+fn search(
+    alloc: Global,
+    problem: &mut Problem,
+    budget: u64,
+    log: &mut Log,
+) -> Result<CellAnswer, Memory>
+    requires { CanSearch (plain_problem problem.old) log.old }
+    ensures answers { IfOk result (λ found.
+        AnswersCells (plain_problem problem.old) budget log.new (plain_answer found)) }
+    ensures front { take (length log.old.events) log.new.events ≡ log.old.events }
+    ensures base { log.new.base ≡ log.old.base }
+{
+    match problem.map.objective {
+        None => find_cells(alloc, problem, budget, log),
+        Some(_) => optimise_cells(alloc, problem, budget, log),
+    }
+}
+
+/// An answer over numbers of the cells as one over values of the decision variables.
+#[tactic(auto, unfolding(crate::specs::Reading::answer_from, ep_print::specs::Answers::answer_tree, ep_print::specs::Answers::unknown_tree))]
+fn read_back(
+    alloc: Global,
+    finds: &[Find],
+    budget: u64,
+    found: CellAnswer,
+) -> Result<Answer, Memory>
+    ensures { IfOk result (λ answer.
+        answer_tree answer ≡ answer_from (map find_of finds.now) budget (plain_answer found)) }
+{
+    match found {
+        CellAnswer::Solution(cells) => {
+            Ok(Answer::Solution(assignment_from(alloc, finds, &cells)?))
+        }
+        CellAnswer::Optimum(number, cells) => Ok(Answer::Optimum(
+            number,
+            assignment_from(alloc, finds, &cells)?,
+        )),
+        CellAnswer::NoSolution => Ok(Answer::NoSolution),
+        CellAnswer::Unknown(None) => Ok(Answer::Unknown {
+            conflicts: budget,
+            incumbent: None,
+        }),
+        CellAnswer::Unknown(Some((number, cells))) => {
+            let incumbent = assignment_from(alloc, finds, &cells)?;
+            Ok(Answer::Unknown {
+                conflicts: budget,
+                incumbent: Some((number, incumbent)),
+            })
+        }
+    }
+}
