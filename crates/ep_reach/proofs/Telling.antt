@@ -1,0 +1,295 @@
+-- Where reaches are told: sums and powers that stay near don't leave the words that they are computed in.
+use Rattle.std.proofs.Common.{◌≡◌, ℕ, zero, suc, ◌+◌, ◌-◌, ◌*◌, ◌%◌, ◌<◌, ◌≤◌, ℤ, pos, negsuc, ◌+ℤ◌, ◌*ℤ◌, ◌≤ℤ◌, List, [], ◌∷◌, ◌++◌, length, get_or, take, false, Some, refl, sym, ap, subst, ◌∙◌, arith, add-one, SFits, w64}
+use Rattle.std.specs.Prelude.{if◌then◌else◌, fold, int_lt, map, neg_ℤ, slice_get, slice_index_or, unsigned_abs}
+use Rattle.std.specs.Int.{int_max, int_min}
+use Rattle.std.specs.List.{All}
+use Rattle.std.proofs.lemmas.Int.{ints, unsigned_abs-mul}
+use Rattle.std.proofs.lemmas.List.{length-append}
+use Rattle.std.proofs.lemmas.List.Elements.{All-cons, All-head, All-nil, All-tail}
+use Rattle.std.proofs.lemmas.Nat.{mul-le}
+use Rattle.ep_base.specs.Intervals.{Interval, greatest_or_zero, has_zero, least_or_zero, nth_power_interval, only, product_interval, spanned}
+use Rattle.ep_base.specs.Numbers.{greatest_of, least_of, nth_power}
+use Rattle.ep_base.specs.Reads.{IsWithinNumbers}
+use Rattle.ep_ground.specs.Bounds.{IsWithinReach, node_reach, reach_at, scaled, term_reach}
+use Rattle.ep_ground.specs.Grounds.{GroundState}
+use Rattle.ep_ground.specs.Nodes.{GroundNode, coefficients_of, power, sum}
+use Rattle.ep_ground.specs.declared.cells.Cell.{Cell}
+use Rattle.ep_reach.specs.Reaching.{HasFewParts, HasNearParts, IsNearThroughout, IsToldAt, IsWide}
+use Rattle.ep_reach.proofs.Nodes.{all_at, got_at}
+use Rattle.ep_reach.proofs.Reaching.{Bounded, near_all, near_at}
+
+-- ---- ends of near numbers
+
+min_in : (l h a : ℤ) (xs : List ℤ) → (l ≤ℤ a) × (a ≤ℤ h) → All (λ x. (l ≤ℤ x) × (x ≤ℤ h)) xs → (l ≤ℤ fold int_min a xs) × (fold int_min a xs ≤ℤ h)
+min_in l h a [] k all = k
+min_in l h a (x ∷ xs) k all =
+    let m = All-head (λ y. (l ≤ℤ y) × (y ≤ℤ h)) x xs all in
+    min_in l h (int_min a x) xs (low k.0 m.0, high k.1 m.1) (All-tail (λ y. (l ≤ℤ y) × (y ≤ℤ h)) x xs all)
+  where
+    low : l ≤ℤ a → l ≤ℤ x → l ≤ℤ int_min a x
+    low p q = grind (arith, ints, p, q)
+
+    high : a ≤ℤ h → x ≤ℤ h → int_min a x ≤ℤ h
+    high p q = grind (arith, ints, p, q)
+
+max_in : (l h a : ℤ) (xs : List ℤ) → (l ≤ℤ a) × (a ≤ℤ h) → All (λ x. (l ≤ℤ x) × (x ≤ℤ h)) xs → (l ≤ℤ fold int_max a xs) × (fold int_max a xs ≤ℤ h)
+max_in l h a [] k all = k
+max_in l h a (x ∷ xs) k all =
+    let m = All-head (λ y. (l ≤ℤ y) × (y ≤ℤ h)) x xs all in
+    max_in l h (int_max a x) xs (low k.0 m.0, high k.1 m.1) (All-tail (λ y. (l ≤ℤ y) × (y ≤ℤ h)) x xs all)
+  where
+    low : l ≤ℤ a → l ≤ℤ x → l ≤ℤ int_max a x
+    low p q = grind (arith, ints, p, q)
+
+    high : a ≤ℤ h → x ≤ℤ h → int_max a x ≤ℤ h
+    high p q = grind (arith, ints, p, q)
+
+pub near_span : (values : List ℤ) (i : Interval) → i ≡ spanned values → All IsWithinNumbers values → IsWithinReach i
+unfolding spanned least_or_zero greatest_or_zero least_of greatest_of
+near_span [] i e h = subst IsWithinReach (sym e) (record { low = (omega (arith, ints), omega (arith, ints)); high = (omega (arith, ints), omega (arith, ints)) })
+near_span (x ∷ xs) i e h =
+    let first = All-head IsWithinNumbers x xs h in
+    let rest = All-tail IsWithinNumbers x xs h in
+    subst IsWithinReach (sym e)
+    (record {
+      low = min_in (neg_ℤ (pos 1099511627776)) (pos 1099511627776) x xs first rest;
+      high = max_in (neg_ℤ (pos 1099511627776)) (pos 1099511627776) x xs first rest;
+    })
+
+-- ---- absolute values
+
+pub abs_in : (n : ℤ) (m : ℕ) → unsigned_abs n ≤ m → (neg_ℤ (pos m) ≤ℤ n) × (n ≤ℤ pos m)
+abs_in (pos k) m h = (grind (arith, ints, h), grind (arith, ints, h))
+abs_in (negsuc k) m h = (grind (arith, ints, h), grind (arith, ints, h))
+
+pub in_abs : (n : ℤ) (m : ℕ) → neg_ℤ (pos m) ≤ℤ n → n ≤ℤ pos m → unsigned_abs n ≤ m
+in_abs (pos k) m h j = grind (arith, ints, h, j)
+in_abs (negsuc k) m h j = grind (arith, ints, h, j)
+
+pub word_in : (n : ℤ) → SFits w64 n → (neg_ℤ (pos 9223372036854775808) ≤ℤ n) × (n ≤ℤ pos 9223372036854775808)
+word_in n h = (omega (arith, ints), omega (arith, ints))
+
+-- ---- powers
+
+abs_power : (x : ℤ) (n : ℕ) → unsigned_abs (nth_power x (suc n)) ≡ unsigned_abs (nth_power x n) * unsigned_abs x
+unfolding nth_power
+abs_power x n = unsigned_abs-mul (nth_power x n) x
+
+least_one : (a b : ℕ) → 1 ≤ b → a ≤ a * b
+least_one a b h = grind arith
+
+abs_grows : (x : ℤ) (n more : ℕ) → 1 ≤ unsigned_abs x → unsigned_abs (nth_power x n) ≤ unsigned_abs (nth_power x (n + more))
+abs_grows x n zero h = subst (λ m. unsigned_abs (nth_power x n) ≤ unsigned_abs (nth_power x m)) (same n) (omega arith)
+  where
+    same : (k : ℕ) → k ≡ k + 0
+    same k = omega arith
+abs_grows x n (suc more) h =
+    subst (λ m. unsigned_abs (nth_power x n) ≤ unsigned_abs (nth_power x m)) (next n more)
+    (let a = abs_grows x n more h in let b = abs_power x (n + more) in let d = least_one (unsigned_abs (nth_power x (n + more))) (unsigned_abs x) h in omega (arith, a, b, d))
+  where
+    next : (k j : ℕ) → suc (k + j) ≡ k + suc j
+    next k j = omega arith
+
+times_none : (m : ℤ) → pos 0 ≡ m *ℤ pos 0
+times_none m = omega (arith, ints)
+
+grown_back : (x : ℤ) (n whole : ℕ) → 1 ≤ unsigned_abs x → n < whole → IsWithinNumbers (nth_power x whole) → IsWithinNumbers (nth_power x (n + 1))
+grown_back x n whole h k w =
+    abs_in (nth_power x (n + 1)) 1099511627776
+    (let a = in_abs (nth_power x whole) 1099511627776 w.0 w.1 in
+    let b = abs_grows x (n + 1) (whole - (n + 1)) h in
+    let e : unsigned_abs (nth_power x ((n + 1) + (whole - (n + 1)))) ≡ unsigned_abs (nth_power x whole) = ap (λ m. unsigned_abs (nth_power x m)) (omega (arith, k)) in omega (arith, a, b, e))
+
+-- each lesser power is near where one is
+pub power_within : (x : ℤ) (n whole : ℕ) → n < whole → IsWithinNumbers (nth_power x whole) → IsWithinNumbers (nth_power x (n + 1))
+unfolding nth_power
+power_within (pos zero) n whole k w =
+    subst IsWithinNumbers (times_none (nth_power (pos zero) n) ∙ ap (nth_power (pos zero)) (sym (add-one n))) (omega (arith, ints), omega (arith, ints))
+power_within (pos (suc x)) n whole k w = grown_back (pos (suc x)) n whole (omega (arith, ints)) k w
+power_within (negsuc x) n whole k w = grown_back (negsuc x) n whole (omega (arith, ints)) k w
+
+-- powers of a number near 0 repeat
+powers_repeat : (x : ℤ) (n : ℕ) → int_lt (pos 1) x ≡ false → int_lt x (negsuc 0) ≡ false → nth_power x (suc (suc (suc n))) ≡ nth_power x (suc n)
+unfolding nth_power
+powers_repeat (pos zero) n h k = omega (arith, ints)
+powers_repeat (pos (suc zero)) n h k = omega (arith, ints)
+powers_repeat (pos (suc (suc m))) n h k = absurd (let e : int_lt (pos 1) (pos (suc (suc m))) ≡ false = h in grind (arith, ints))
+powers_repeat (negsuc zero) n h k = omega (arith, ints)
+powers_repeat (negsuc (suc m)) n h k = absurd (let e : int_lt (negsuc (suc m)) (negsuc 0) ≡ false = k in grind (arith, ints))
+
+pub power_small : (x : ℤ) (n : ℕ) → int_lt (pos 1) x ≡ false → int_lt x (negsuc 0) ≡ false → 2 < n → nth_power x (2 - n % 2) ≡ nth_power x n
+power_small x zero h k m = absurd (omega (arith, m))
+power_small x (suc zero) h k m = absurd (omega (arith, m))
+power_small x (suc (suc zero)) h k m = absurd (omega (arith, m))
+power_small x (suc (suc (suc zero))) h k m = sym (powers_repeat x zero h k)
+power_small x (suc (suc (suc (suc zero)))) h k m = sym (powers_repeat x (suc zero) h k)
+power_small x (suc (suc (suc (suc (suc n))))) h k m =
+    ap (nth_power x) (omega arith) ∙ power_small x (suc (suc (suc n))) h k (omega arith) ∙ sym (powers_repeat x (suc (suc n)) h k)
+
+-- the powers of both ends are near where their interval is
+pub ends_near : (i : Interval) (n : ℕ) → 1 ≤ n → IsWithinReach (nth_power_interval i n) → IsWithinNumbers (nth_power i.low n) × IsWithinNumbers (nth_power i.high n)
+unfolding nth_power_interval
+ends_near i zero h w = absurd (omega (arith, h))
+ends_near i (suc n) h w =
+    let zeros : List ℤ = if has_zero i then pos 0 ∷ [] else [] in
+    let rest : List ℤ = nth_power i.high (suc n) ∷ zeros in
+    let xs : List ℤ = nth_power i.low (suc n) ∷ rest in
+    let all = near_all xs (spanned xs) refl w in
+    (All-head IsWithinNumbers (nth_power i.low (suc n)) rest all, All-head IsWithinNumbers (nth_power i.high (suc n)) zeros (All-tail IsWithinNumbers (nth_power i.low (suc n)) rest all))
+
+-- ---- sums
+
+-- how far a sum of so many parts may be from 0
+abbrev pub most : ℕ → ℕ
+most k = 9223372036854775808 + k * 1208925819614629174706176
+
+abbrev pub IsSmall : ℤ → Type 0
+IsSmall n = (neg_ℤ (pos 1208925819614629174706176) ≤ℤ n) × (n ≤ℤ pos 1208925819614629174706176)
+
+pub record SumWithin (k : ℕ) (low high : ℤ) : Type 0 where
+  pub low_least : neg_ℤ (pos (most k)) ≤ℤ low
+  pub low_most : low ≤ℤ pos (most k)
+  pub high_least : neg_ℤ (pos (most k)) ≤ℤ high
+  pub high_most : high ≤ℤ pos (most k)
+
+pub sum_begun : (n low high : ℤ) → SFits w64 n → low ≡ n → high ≡ n → SumWithin 0 low high
+sum_begun n low high f e d =
+    let b = word_in n f in
+    record {
+      low_least = subst (λ x. neg_ℤ (pos 9223372036854775808) ≤ℤ x) (sym e) b.0;
+      low_most = subst (λ x. x ≤ℤ pos 9223372036854775808) (sym e) b.1;
+      high_least = subst (λ x. neg_ℤ (pos 9223372036854775808) ≤ℤ x) (sym d) b.0;
+      high_most = subst (λ x. x ≤ℤ pos 9223372036854775808) (sym d) b.1;
+    }
+
+least_more : (m : ℕ) (a b : ℤ) → neg_ℤ (pos m) ≤ℤ a → neg_ℤ (pos 1208925819614629174706176) ≤ℤ b → neg_ℤ (pos (m + 1208925819614629174706176)) ≤ℤ (a +ℤ b)
+least_more m a b h k = omega (arith, ints, h, k)
+
+most_more : (m : ℕ) (a b : ℤ) → a ≤ℤ pos m → b ≤ℤ pos 1208925819614629174706176 → (a +ℤ b) ≤ℤ pos (m + 1208925819614629174706176)
+most_more m a b h k = omega (arith, ints, h, k)
+
+one_more : (k : ℕ) → most k + 1208925819614629174706176 ≡ most (k + 1)
+one_more k = omega arith
+
+pub sum_within_more : (k : ℕ) (low high a b : ℤ) → SumWithin k low high → IsSmall a → IsSmall b → SumWithin (k + 1) (low +ℤ a) (high +ℤ b)
+sum_within_more k low high a b w h j = record {
+  low_least = subst (λ m. neg_ℤ (pos m) ≤ℤ (low +ℤ a)) (one_more k) (least_more (most k) low a w.low_least h.0);
+  low_most = subst (λ m. (low +ℤ a) ≤ℤ pos m) (one_more k) (most_more (most k) low a w.low_most h.1);
+  high_least = subst (λ m. neg_ℤ (pos m) ≤ℤ (high +ℤ b)) (one_more k) (least_more (most k) high b w.high_least j.0);
+  high_most = subst (λ m. (high +ℤ b) ≤ℤ pos m) (one_more k) (most_more (most k) high b w.high_most j.1);
+}
+
+few_most : (k : ℕ) → k ≤ 4294967296 → most k ≤ 85070591730234615865843651857942052864
+few_most k h = omega (arith, h)
+
+wide_low : (m : ℕ) (n : ℤ) → m ≤ 85070591730234615865843651857942052864 → neg_ℤ (pos m) ≤ℤ n → neg_ℤ (pos 85070591730234615865843651857942052864) ≤ℤ n
+wide_low m n h k = omega (arith, ints, h, k)
+
+wide_high : (m : ℕ) (n : ℤ) → m ≤ 85070591730234615865843651857942052864 → n ≤ℤ pos m → n ≤ℤ pos 85070591730234615865843651857942052864
+wide_high m n h k = omega (arith, ints, h, k)
+
+pub sum_wide : (k : ℕ) (low high : ℤ) → k ≤ 4294967296 → SumWithin k low high → IsWide low × IsWide high
+sum_wide k low high h w =
+    let m = few_most k h in
+    ((wide_low (most k) low m w.low_least, wide_high (most k) low m w.low_most), (wide_low (most k) high m w.high_least, wide_high (most k) high m w.high_most))
+
+product_small : (a b : ℤ) → IsWithinNumbers a → IsWithinNumbers b → IsSmall (a *ℤ b)
+product_small a b h k =
+    let x = in_abs a 1099511627776 h.0 h.1 in
+    let y = in_abs b 1099511627776 k.0 k.1 in
+    abs_in (a *ℤ b) 1208925819614629174706176 (let e = unsigned_abs-mul a b in let m = mul-le (unsigned_abs a) (unsigned_abs b) 1099511627776 1099511627776 x y in omega (arith, e, m))
+
+pub scaled_small : (a : ℤ) (i j : Interval) → j ≡ scaled a i → IsWithinNumbers a → IsWithinReach i → IsSmall j.low × IsSmall j.high
+unfolding scaled product_interval spanned least_or_zero greatest_or_zero least_of greatest_of
+scaled_small a i j e h w =
+    let low = product_small a i.low h w.low in
+    let high = product_small a i.high h w.high in
+    let rest : List ℤ = (a *ℤ i.high) ∷ (a *ℤ i.low) ∷ (a *ℤ i.high) ∷ [] in
+    let all : All IsSmall rest = All-cons IsSmall (a *ℤ i.high) ((a *ℤ i.low) ∷ (a *ℤ i.high) ∷ []) high (All-cons IsSmall (a *ℤ i.low) ((a *ℤ i.high) ∷ []) low (All-cons IsSmall (a *ℤ i.high) [] high (All-nil IsSmall))) in
+    subst (λ k. IsSmall k.low × IsSmall k.high) (sym e)
+    (min_in (neg_ℤ (pos 1208925819614629174706176)) (pos 1208925819614629174706176) (a *ℤ i.low) rest low all, max_in (neg_ℤ (pos 1208925819614629174706176)) (pos 1208925819614629174706176) (a *ℤ i.low) rest low all)
+
+pub mapped_at : {A B : Type 0} (P : B → Type 0) (f : A → B) (xs : List A) (k : ℕ) (x d : A) → k < length xs → x ≡ get_or xs k d → All P (map f xs) → P (f x)
+mapped_at P f [] k x d h same all = absurd (omega (arith, h))
+mapped_at P f (y ∷ ys) zero x d h same all = subst (λ z. P (f z)) (sym same) (All-head P (f y) (map f ys) all)
+mapped_at P f (y ∷ ys) (suc k) x d h same all = mapped_at P f ys k x d (omega (arith, h)) same (All-tail P (f y) (map f ys) all)
+
+pub reach_near : (reaches : List Interval) (t : ℕ) → All IsWithinReach reaches → IsWithinReach (reach_at reaches t)
+unfolding reach_at
+reach_near reaches t h = near_at reaches t h
+
+-- ---- the reach of a term is that of its node
+
+push_left : (xs : List Interval) (x d : Interval) (p : ℕ) → p < length xs → slice_index_or (xs ++ x ∷ []) p d ≡ slice_index_or xs p d
+push_left [] x d p h = absurd (omega (arith, h))
+push_left (y ∷ ys) x d zero h = refl
+push_left (y ∷ ys) x d (suc p) h = push_left ys x d p (omega (arith, h))
+
+push_last : (xs : List Interval) (x d : Interval) → slice_index_or (xs ++ x ∷ []) (length xs) d ≡ x
+push_last [] x d = refl
+push_last (y ∷ ys) x d = push_last ys x d
+
+long_push : (xs : List Interval) (x : Interval) → length (xs ++ x ∷ []) ≡ length xs + 1
+long_push xs x = length-append xs (x ∷ [])
+
+stays : (cells : List Cell) (nodes : List GroundNode) (reaches : List Interval) (p : ℕ) (d : Interval) → p < length reaches
+    → slice_index_or (fold (λ before node. before ++ node_reach cells (reach_at before) node ∷ []) reaches nodes) p d ≡ slice_index_or reaches p d
+stays cells [] reaches p d h = refl
+stays cells (n ∷ nodes) reaches p d h =
+    let i = node_reach cells (reach_at reaches) n in
+    stays cells nodes (reaches ++ i ∷ []) p d (omega (arith, h, long_push reaches i)) ∙ push_left reaches i d p h
+
+made : (cells : List Cell) (nodes : List GroundNode) (reaches : List Interval) (t : ℕ) (node : GroundNode) (d : Interval) → slice_get nodes t ≡ Some node
+    → slice_index_or (fold (λ before n. before ++ node_reach cells (reach_at before) n ∷ []) reaches nodes) (length reaches + t) d
+    ≡ node_reach cells (reach_at (fold (λ before n. before ++ node_reach cells (reach_at before) n ∷ []) reaches (take t nodes))) node
+made cells [] reaches t node d e = absurd cc
+made cells (n ∷ nodes) reaches zero node d e =
+    let i = node_reach cells (reach_at reaches) n in
+    let whole = fold (λ before m. before ++ node_reach cells (reach_at before) m ∷ []) (reaches ++ i ∷ []) nodes in
+    ap (λ k. slice_index_or whole k d) (none (length reaches)) ∙ stays cells nodes (reaches ++ i ∷ []) (length reaches) d (omega (arith, long_push reaches i))
+    ∙ push_last reaches i d ∙ ap (node_reach cells (reach_at reaches)) (some_same n node e)
+  where
+    none : (k : ℕ) → k + 0 ≡ k
+    none k = omega arith
+
+    some_same : (a b : GroundNode) → Some a ≡ Some b → a ≡ b
+    some_same a b f = cc
+made cells (n ∷ nodes) reaches (suc t) node d e =
+    let i = node_reach cells (reach_at reaches) n in
+    let whole = fold (λ before m. before ++ node_reach cells (reach_at before) m ∷ []) (reaches ++ i ∷ []) nodes in
+    ap (λ k. slice_index_or whole k d) (omega (arith, long_push reaches i)) ∙ made cells nodes (reaches ++ i ∷ []) t node d e
+
+pub told_at : (g : GroundState) (t : ℕ) (reaches : List Interval) (node : GroundNode) → slice_get g.nodes t ≡ Some node → Bounded g.nodes g.cells t reaches → IsNearThroughout g → IsToldAt g.cells reaches node
+unfolding term_reach reach_at
+told_at g t reaches node e was h =
+    let step : List Interval → GroundNode → List Interval = λ before n. before ++ node_reach g.cells (reach_at before) n ∷ [] in
+    let whole : slice_index_or (fold step [] g.nodes) t (only (pos 0)) ≡ node_reach g.cells (reach_at reaches) node =
+    ap (λ k. slice_index_or (fold step [] g.nodes) k (only (pos 0))) (none t) ∙ made g.cells g.nodes [] t node (only (pos 0)) e
+    ∙ ap (λ rs. node_reach g.cells (reach_at rs) node) (sym was.same) in
+    record {
+      before = was.near;
+      reach = subst IsWithinReach whole (h.reaches t (got_at g.nodes t node node e).0);
+      coefficients = all_at (λ n. All IsWithinNumbers (coefficients_of n)) g.nodes t node e h.coefficients;
+      few = all_at HasFewParts g.nodes t node e h.parts;
+    }
+  where
+    none : (k : ℕ) → k ≡ 0 + k
+    none k = omega arith
+
+-- ---- what a node's reach asks of its parts
+
+pub told_sum : (cells : List Cell) (reaches : List Interval) (c : ℤ) (parts : List (ℤ × ℕ)) → IsToldAt cells reaches (sum c parts) → HasNearParts reaches parts
+unfolding coefficients_of
+told_sum cells reaches c parts h = record {
+  before = h.before;
+  coefficients = h.coefficients;
+  few = omega (arith, h.few, long parts);
+}
+  where
+    long : (ps : List (ℤ × ℕ)) → length (map (λ p. p.0) ps) ≡ length ps
+    long [] = refl
+    long (p ∷ ps) = ap suc (long ps)
+
+pub told_power : (cells : List Cell) (reaches : List Interval) (t n : ℕ) → IsToldAt cells reaches (power t n) → IsWithinReach (nth_power_interval (reach_at reaches t) n)
+unfolding node_reach
+told_power cells reaches t n h = h.reach

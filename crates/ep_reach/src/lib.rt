@@ -1,0 +1,10 @@
+//! How far the terms of a ground reach, and whether a ground may be handed on to the stages that compute with it.
+#![tactic(auto)]
+
+mod checks;
+mod intervals;
+mod reaches;
+#[cfg(test)]
+mod tests;
+
+pub use checks::{is_bounded, is_well_formed};

@@ -1,0 +1,38 @@
+//! Grounds just within bounds and just outside.
+
+use crate::{is_bounded, is_well_formed};
+use ep_ground::{Arena, Ground, Node, Term};
+use std::alloc::Global;
+use std::test::Fail;
+
+/// The ground of a power of 3, with one clause.
+#[tactic(auto, unfolding(ep_ground::specs::Nodes::parts_of))]
+fn power_of_three(alloc: Global, exponent: u64, clause: u32) -> Result<Ground, Fail> {
+    let mut arena = Arena::new(alloc);
+    let three = arena.intern(Node::Const(3))?;
+    arena.intern(Node::Pow(three, exponent))?;
+    Ok(Ground {
+        arena,
+        cells: Vec::new(alloc),
+        clauses: Vec::from_slice(alloc, &[Term::new(clause)])?,
+        objective: None,
+    })
+}
+
+#[test]
+fn a_power_is_bounded_as_far_as_the_stages_compute(rt: HostRuntime) -> Result<(), Fail> {
+    let near = power_of_three(rt.alloc(), 25, 1)?;
+    let far = power_of_three(rt.alloc(), 26, 1)?;
+    assert_eq!(rt; is_bounded(rt.alloc(), &near)?, true);
+    assert_eq!(rt; is_bounded(rt.alloc(), &far)?, false);
+    Ok(())
+}
+
+#[test]
+fn a_clause_has_to_be_a_term(rt: HostRuntime) -> Result<(), Fail> {
+    let right = power_of_three(rt.alloc(), 2, 1)?;
+    let wrong = power_of_three(rt.alloc(), 2, 2)?;
+    assert_eq!(rt; is_well_formed(&right), true);
+    assert_eq!(rt; is_well_formed(&wrong), false);
+    Ok(())
+}
