@@ -102,6 +102,10 @@ pub clause_none : (values : List ℤ) → clause_holds values [] ≡ false
 unfolding clause_holds
 clause_none values = refl
 
+-- a clause of one atom "it is"
+pub is_clause : (values : List ℤ) (x : ℕ) (v : ℤ) → IsTrue (clause_holds values (is x v ∷ [])) ↔ (number_at values x ≡ v)
+is_clause values x v = (λ h. (is_says values x v).0 (sym (clause_one values (is x v)) ∙ h), λ h. clause_one values (is x v) ∙ (is_says values x v).1 h)
+
 -- a clause of "it isn't" and something fails where the guard does not hold
 pub guard_fails : (values : List ℤ) (x : ℕ) (v : ℤ) → (clause_holds values (is_not x v ∷ []) ≡ false) ↔ (number_at values x ≡ v)
 guard_fails values x v = (

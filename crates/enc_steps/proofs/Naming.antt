@@ -1,16 +1,16 @@
 -- Constraints: which variables they name, and what keeps one.
-use Rattle.std.proofs.Common.{◌≡◌, ℕ, ◌<◌, ℤ, Bool, false, IsTrue, List, [], ◌∷◌, ◌++◌, length, Option, Some, None, sym, ap, subst, ◌∙◌, arith}
+use Rattle.std.proofs.Common.{◌≡◌, refl, pos, ℕ, ◌<◌, ℤ, Bool, false, IsTrue, List, [], ◌∷◌, ◌++◌, length, Option, Some, None, sym, ap, subst, ◌∙◌, arith}
 use Rattle.std.proofs.lemmas.List.Elements.{All-contains, All-head, All-map, All-weaker, Contains-append_right}
 use Rattle.cnf_core.proofs.Keeping.{keeps_like}
 use Rattle.cnf_core.proofs.Members.{All-from_contains}
 use Rattle.cnf_core.specs.Formula.{Cnf, Keeps}
-use Rattle.ep_base.specs.Numbers.{has_number}
+use Rattle.ep_base.specs.Numbers.{has_number, of_bool}
 use Rattle.ep_flat.specs.Cons.{FlatCon, FlatKind, con_holds, con_variables, is_as_said, kind_holds, kind_variables, numbers_at}
 use Rattle.ep_flat.specs.Flats.{NamesBelow}
 use Rattle.enc_atoms.proofs.Adding.{adds_like}
 use Rattle.enc_atoms.specs.Atoms.{Adds, clause_holds}
 use Rattle.enc_atoms.specs.declared.atoms.Atom.{Atom}
-use Rattle.enc_steps.proofs.Meanings.{are_all_says, clause_none, guard_fails}
+use Rattle.enc_steps.proofs.Meanings.{are_all_says, clause_none, guard_fails, is_clause, not_false, same, same_test}
 use Rattle.enc_steps.proofs.NewTruths.{length-numbers_from, length_later, numbers_from_at}
 use Rattle.enc_steps.specs.Steps.{AreAtomsOf, AreOf, HasTruth, HasTruths, Unless, are_all, is, is_not, numbers_from}
 use Rattle.enc_var.specs.Decoding.{VariableLiterals}
@@ -83,3 +83,22 @@ later_vars L f L1 g count vars new low = All-weaker (λ x. x < length L) (λ x. 
 
 pub later_guard : (L : List VariableLiterals) (f : Cnf) (L1 : List VariableLiterals) (g : Cnf) (count : ℕ) (guard : List Atom) → HasTruths L f L1 g count → AreAtomsOf L guard → AreAtomsOf L1 guard
 later_guard L f L1 g count guard new low = All-weaker (λ (a : Atom). a.var < length L) (λ (a : Atom). a.var < length L1) (λ a below. omega (arith, below, length_later L f L1 g count new)) guard low
+
+-- a clause which says that a constraint never holds
+pub never_none : (L : List VariableLiterals) (f g : Cnf) (truth : Option ℕ) (atoms : List Atom) → IsLayoutOf L f → truth ≡ None → atoms ≡ [] → Adds L f L g (λ values. IsTrue (clause_holds values atoms)) → Adds L f L g (λ values. IsTrue (is_as_said values truth false))
+unfolding is_as_said
+never_none L f g truth atoms is_layout none empty adds =
+    adds_like L f L g (λ values. IsTrue (clause_holds values atoms)) (λ values. IsTrue (is_as_said values truth false)) is_layout adds
+    (λ values among. (
+      λ h. not_false (clause_holds values atoms) h (ap (clause_holds values) empty ∙ clause_none values),
+      λ h. not_false false (ap (λ o. is_as_said values o false) (sym none) ∙ h) refl,
+    ))
+
+pub never_some : (L : List VariableLiterals) (f g : Cnf) (truth : Option ℕ) (t : ℕ) (atoms : List Atom) → IsLayoutOf L f → truth ≡ Some t → atoms ≡ is t (pos 0) ∷ [] → Adds L f L g (λ values. IsTrue (clause_holds values atoms)) → Adds L f L g (λ values. IsTrue (is_as_said values truth false))
+unfolding is_as_said of_bool
+never_some L f g truth t atoms is_layout some are adds =
+    adds_like L f L g (λ values. IsTrue (clause_holds values atoms)) (λ values. IsTrue (is_as_said values truth false)) is_layout adds
+    (λ values among. (
+      λ h. ap (λ o. is_as_said values o false) some ∙ same_test (number_at values t) (pos 0) ((is_clause values t (pos 0)).0 (ap (clause_holds values) (sym are) ∙ h)),
+      λ h. ap (clause_holds values) are ∙ (is_clause values t (pos 0)).1 (same (number_at values t) (pos 0) (ap (λ o. is_as_said values o false) (sym some) ∙ h)),
+    ))

@@ -1,2 +1,4 @@
 pub mod Chains
+pub mod Links
 pub mod RowLemmas
+pub mod Supports

@@ -1,24 +1,21 @@
 -- Rows: number by number, and among others.
-use Rattle.std.proofs.Common.{◌≡◌, ◌↔◌, inl, inr, ℕ, zero, suc, ◌+◌, ◌<◌, ◌≤◌, ◌==◌, ℤ, pos, Bool, true, false, not, ◌&&◌, ◌||◌, IsTrue, List, [], ◌∷◌, ◌++◌, length, map, drop, Option, Some, None, unwrap_or, refl, sym, ap, subst, ◌∙◌, arith, get_or, if◌then◌else◌}
-use Rattle.std.specs.List.{All, list_all, list_any}
+use Rattle.std.proofs.Common.{◌≡◌, inl, inr, ℕ, zero, suc, ◌+◌, ◌<◌, ◌≤◌, ◌==◌, ℤ, pos, Bool, true, false, not, ◌&&◌, ◌||◌, IsTrue, List, [], ◌∷◌, ◌++◌, length, map, drop, Option, Some, None, unwrap_or, refl, sym, ap, subst, ◌∙◌, arith, get_or, if◌then◌else◌}
+use Rattle.std.specs.List.{list_all, list_any}
 use Rattle.std.specs.Ordering.{int_eq}
 use Rattle.std.proofs.lemmas.Bool.{eqb-true}
 use Rattle.std.proofs.lemmas.List.{append-nil, append_assoc, drop_all, drop_more, get_or_default, length-map}
-use Rattle.std.proofs.lemmas.List.Elements.{All-cons, All-head, All-nil, All-tail, All-weaker}
+use Rattle.std.proofs.lemmas.List.Elements.{All-cons, All-head, All-nil, All-tail}
 use Rattle.std.proofs.lemmas.List.Folds.{list_all_at, list_any_at, list_any_none}
 use Rattle.cnf_core.specs.Formula.{Cnf}
-use Rattle.ep_base.specs.Numbers.{has_number, is_row_of, of_bool, same_numbers}
+use Rattle.ep_base.specs.Numbers.{is_row_of, same_numbers}
 use Rattle.ep_flat.specs.Cons.{is_as_said, number_at, numbers_at}
 use Rattle.enc_atoms.proofs.Adding.{adds_both, adds_like}
-use Rattle.enc_atoms.proofs.Decoded.{length_among}
 use Rattle.enc_atoms.specs.Atoms.{Adds, atom_holds, clause_holds, test_holds}
 use Rattle.enc_atoms.specs.declared.atoms.Atom.{Atom}
-use Rattle.enc_steps.proofs.Choosing.{choosing, numbers_kept}
 use Rattle.enc_steps.proofs.Guards.{unless_like}
-use Rattle.enc_steps.proofs.Meanings.{are_all_says, clause_none, clause_one, decided, either, is_says, not_false, other_test, same, same_test}
+use Rattle.enc_steps.proofs.Meanings.{decided, either, not_false, other_test, same, same_test}
 use Rattle.enc_steps.proofs.Naming.{fails_as}
-use Rattle.enc_steps.proofs.NewTruths.{adds_truths, numbers_from_at}
-use Rattle.enc_steps.specs.Steps.{AreAtomsOf, AreOf, HasTruths, IsTruth, SomeTruths, Unless, are_all, is, is_not, numbers_from}
+use Rattle.enc_steps.specs.Steps.{AreAtomsOf, AreOf, IsTruth, Unless, is, is_not}
 use Rattle.enc_var.specs.Decoding.{VariableLiterals}
 use Rattle.enc_var.specs.Layouts.{IsLayoutOf}
 use Rattle.enc_table.specs.Rows.{AllFit, IsRow, IsRowWhere, others_of}
@@ -29,10 +26,6 @@ fits_at rows count k d low fit = elim (either (length (get_or rows k d) == count
   | inl on ↦ eqb-true (length (get_or rows k d)) count on
   | inr off ↦ not_false (list_all (λ row. length row == count) rows) fit (list_all_at (λ row. length row == count) rows k d low off)
 ]
-
--- a clause of one atom "it is"
-pub is_clause : (values : List ℤ) (x : ℕ) (v : ℤ) → IsTrue (clause_holds values (is x v ∷ [])) ↔ (number_at values x ≡ v)
-is_clause values x v = (λ h. (is_says values x v).0 (sym (clause_one values (is x v)) ∙ h), λ h. clause_one values (is x v) ∙ (is_says values x v).1 h)
 
 and_both : (a b : Bool) → a ≡ true → b ≡ true → (a && b) ≡ true
 and_both true b e h = h
@@ -56,7 +49,7 @@ is_row values (x ∷ vars) (v ∷ row) long each =
     and_both (int_eq v (number_at values x)) (same_numbers row (map (number_at values) vars)) (same_test v (number_at values x) (sym (each 0 (omega arith))))
     (is_row values vars row (omega (arith, long)) (λ k low. each (suc k) (omega (arith, low))))
 
-row_is : (values : List ℤ) (vars : List ℕ) (row : List ℤ) → same_numbers row (numbers_at values vars) ≡ true → (k : ℕ) → k < length row → number_at values (get_or vars k 0) ≡ get_or row k (pos 0)
+pub row_is : (values : List ℤ) (vars : List ℕ) (row : List ℤ) → same_numbers row (numbers_at values vars) ≡ true → (k : ℕ) → k < length row → number_at values (get_or vars k 0) ≡ get_or row k (pos 0)
 unfolding same_numbers numbers_at
 row_is values vars [] same_row k low = absurd (omega (arith, low))
 row_is values [] (v ∷ row) same_row k low = not_false false same_row refl
@@ -141,51 +134,6 @@ none_whole L f g guard vars rows k is_layout whole adds =
       ],
     ))
 
--- one of the rows is chosen
-pub some_whole : (L : List VariableLiterals) (f : Cnf) (L1 : List VariableLiterals) (f1 f2 f3 : Cnf) (guard atoms : List Atom) (vars truths : List ℕ) (rows : List (List ℤ)) (count : ℕ) → IsLayoutOf L f → AreOf L vars → AreAtomsOf L guard → HasTruths L f L1 f1 count → count ≡ length rows → truths ≡ numbers_from (length L) count → atoms ≡ are_all truths (pos 1)
-    → Adds L1 f1 L1 f2 (λ values. (k : ℕ) → k < length rows → IsRowWhere (get_or truths k 0) vars (get_or rows k []) values) → Adds L1 f2 L1 f3 (Unless guard (λ values. IsTrue (clause_holds values atoms)))
-    → Adds L f L1 f3 (Unless guard (λ values. list_any (λ row. same_numbers row (numbers_at values vars)) rows ≡ true))
-some_whole L f L1 f1 f2 f3 guard atoms vars truths rows count is_layout low guard_low new many truths_are_from atoms_are one two =
-    adds_like L f L1 f3 (λ values. SomeTruths count (λ bits. Q (values ++ bits))) (Unless guard (λ values. list_any (λ row. same_numbers row (numbers_at values vars)) rows ≡ true)) is_layout
-    (adds_truths L f L1 f1 L1 f3 count Q is_layout new
-    (adds_both L1 f1 f2 L1 f3 (λ values. (k : ℕ) → k < length rows → IsRowWhere (get_or truths k 0) vars (get_or rows k []) values) (Unless guard (λ values. IsTrue (clause_holds values atoms))) new.goes_on.is_layout one two))
-    (λ values among.
-    let long : length values ≡ length L = length_among L values among in
-    let guard_below : All (λ (a : Atom). a.var < length values) guard = All-weaker (λ (a : Atom). a.var < length L) (λ (a : Atom). a.var < length values) (λ a below. omega (arith, below, long)) guard guard_low in
-    let vars_below : All (λ (x : ℕ). x < length values) vars = All-weaker (λ (x : ℕ). x < length L) (λ (x : ℕ). x < length values) (λ x below. omega (arith, below, long)) vars low in
-    let chosen = choosing values (length L) guard rows [] (λ row. same_numbers row (numbers_at values vars)) (λ bits. Unit {0}) long guard_below (λ h. tt) in (
-      λ h off. chosen.0 (record {
-        truths = h.truths;
-        many = h.many ∙ many;
-        each = h.each;
-        holds_there = (
-          λ k below one_is. ap (same_numbers (get_or rows k [])) (sym (numbers_kept values h.truths vars vars_below)) ∙ h.holds_there.0 k below (ap (number_at (values ++ h.truths)) (at_truth k below) ∙ one_is),
-          λ off_there. sym (clause_is (values ++ h.truths)) ∙ h.holds_there.1 off_there,
-          tt,
-        );
-      }) off,
-      λ h.
-          let some = chosen.1 h in
-          record {
-            truths = some.truths;
-            many = some.many ∙ sym many;
-            each = some.each;
-            holds_there = (
-              λ k below one_is. ap (same_numbers (get_or rows k [])) (numbers_kept values some.truths vars vars_below) ∙ some.holds_there.0 k below (sym (ap (number_at (values ++ some.truths)) (at_truth k below)) ∙ one_is),
-              λ off_there. clause_is (values ++ some.truths) ∙ some.holds_there.1 off_there,
-            );
-          },
-    ))
-  where
-    Q : List ℤ → Type 0
-    Q values = ((k : ℕ) → k < length rows → IsRowWhere (get_or truths k 0) vars (get_or rows k []) values) × Unless guard (λ vs. IsTrue (clause_holds vs atoms)) values
-
-    at_truth : (k : ℕ) → k < length rows → get_or truths k 0 ≡ length L + k
-    at_truth k below = ap (λ ts. get_or ts k 0) truths_are_from ∙ numbers_from_at (length L) count k 0 (omega (arith, below, many))
-
-    clause_is : (vs : List ℤ) → clause_holds vs atoms ≡ has_number (numbers_at vs (numbers_from (length L) (length rows))) (pos 1)
-    clause_is vs = ap (clause_holds vs) (atoms_are ∙ ap (λ ts. are_all ts (pos 1)) (truths_are_from ∙ ap (numbers_from (length L)) many)) ∙ are_all_says vs (numbers_from (length L) (length rows)) (pos 1)
-
 length_numbers : (values : List ℤ) (xs : List ℕ) → length (numbers_at values xs) ≡ length xs
 unfolding numbers_at
 length_numbers values xs = length-map xs (number_at values)
@@ -208,25 +156,6 @@ pub said_like : (L : List VariableLiterals) (f : Cnf) (L1 : List VariableLiteral
 said_like L f L1 g truth K J is_layout same_word adds =
     adds_like L f L1 g (λ values. IsTrue (is_as_said values truth (K values))) (λ values. IsTrue (is_as_said values truth (J values))) is_layout adds
     (λ values among. (λ h. ap (is_as_said values truth) (same_word values) ∙ h, λ h. ap (is_as_said values truth) (sym (same_word values)) ∙ h))
-
--- a clause which says that a constraint never holds
-pub never_none : (L : List VariableLiterals) (f g : Cnf) (truth : Option ℕ) (atoms : List Atom) → IsLayoutOf L f → truth ≡ None → atoms ≡ [] → Adds L f L g (λ values. IsTrue (clause_holds values atoms)) → Adds L f L g (λ values. IsTrue (is_as_said values truth false))
-unfolding is_as_said
-never_none L f g truth atoms is_layout none empty adds =
-    adds_like L f L g (λ values. IsTrue (clause_holds values atoms)) (λ values. IsTrue (is_as_said values truth false)) is_layout adds
-    (λ values among. (
-      λ h. not_false (clause_holds values atoms) h (ap (clause_holds values) empty ∙ clause_none values),
-      λ h. not_false false (ap (λ o. is_as_said values o false) (sym none) ∙ h) refl,
-    ))
-
-pub never_some : (L : List VariableLiterals) (f g : Cnf) (truth : Option ℕ) (t : ℕ) (atoms : List Atom) → IsLayoutOf L f → truth ≡ Some t → atoms ≡ is t (pos 0) ∷ [] → Adds L f L g (λ values. IsTrue (clause_holds values atoms)) → Adds L f L g (λ values. IsTrue (is_as_said values truth false))
-unfolding is_as_said of_bool
-never_some L f g truth t atoms is_layout some are adds =
-    adds_like L f L g (λ values. IsTrue (clause_holds values atoms)) (λ values. IsTrue (is_as_said values truth false)) is_layout adds
-    (λ values among. (
-      λ h. ap (λ o. is_as_said values o false) some ∙ same_test (number_at values t) (pos 0) ((is_clause values t (pos 0)).0 (ap (clause_holds values) (sym are) ∙ h)),
-      λ h. ap (clause_holds values) are ∙ (is_clause values t (pos 0)).1 (same (number_at values t) (pos 0) (ap (λ o. is_as_said values o false) (sym some) ∙ h)),
-    ))
 
 -- a row where a variable is 1
 pub row_where : (L : List VariableLiterals) (f g : Cnf) (guard : List Atom) (t : ℕ) (vars : List ℕ) (row other_row : List ℤ) → IsLayoutOf L f → guard ≡ is_not t (pos 1) ∷ [] → row ≡ other_row → Adds L f L g (Unless guard (IsRow vars row)) → Adds L f L g (IsRowWhere t vars other_row)

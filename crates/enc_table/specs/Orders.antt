@@ -1,7 +1,9 @@
 -- Lexicographic orders, number by number.
-use Rattle.std.specs.Prelude.{◌≡◌, ◌⊎◌, ℕ, ◌<◌, ℤ, pos, ◌≤ℤ◌, Bool, true, false, not, List}
+use Rattle.std.specs.Prelude.{◌≡◌, ◌⊎◌, ℕ, ◌+◌, ◌<◌, ℤ, pos, ◌≤ℤ◌, Bool, true, false, not, List, length, slice_index_or}
 use Rattle.ep_base.specs.Numbers.{lex_less}
 use Rattle.ep_flat.specs.Cons.{number_at}
+use Rattle.enc_atoms.specs.declared.atoms.Atom.{Atom}
+use Rattle.enc_steps.specs.Steps.{Unless}
 
 -- whether the first list comes before the second, and where that is enough whether they are the same
 unfoldable pub is_before : Bool → List ℤ → List ℤ → Bool
@@ -24,3 +26,11 @@ IsStep t x y next values =
 -- where a variable is a number and another is at most it, a further one is 1
 abbrev pub IsNext : ℕ → ℕ → ℕ → ℤ → List ℤ → Type 0
 IsNext x y next number values = number_at values x ≡ number → number_at values y ≤ℤ number → number_at values next ≡ pos 1
+
+-- Variables are the links of a chain along the first so many variables of two lists: where the guard doesn't hold the first
+-- link is 1, each goes on to the next one as a step, and the last one isn't 1 where the lists' ends are out of order.
+abbrev pub IsChain : List Atom → Bool → List ℕ → List ℕ → List ℕ → ℕ → List ℤ → Type 0
+IsChain guard strict xs ys links count values =
+    (Unless guard (λ vs. number_at vs (slice_index_or links 0 0) ≡ pos 1) values
+    × ((k : ℕ) → k < count → IsStep (slice_index_or links k 0) (slice_index_or xs k 0) (slice_index_or ys k 0) (slice_index_or links (k + 1) 0) values))
+    × EndsWell strict (length xs) (length ys) (slice_index_or links count 0) values

@@ -6,6 +6,7 @@ ghost use Rattle.enc_var.specs.Layouts.{CanTake, GoesOn, HoldsUnder};
 ghost use Rattle.ep_flat.specs.Cons.{family_of, of_rows};
 ghost use Rattle.ep_flat.specs.FlatViews.{plain_con};
 
+use crate::orders::encode_lex;
 use crate::tables::encode_table;
 use cnf_core::Formula;
 use enc_var::Layout;
@@ -29,6 +30,7 @@ pub fn encode_con(
 {
     match &con.kind {
         ConKind::Table(vars, rows) => encode_table(alloc, layout, f, con.truth, vars, rows),
+        ConKind::Lex(op, xs, ys) => encode_lex(alloc, layout, f, con.truth, *op, xs, ys),
         _ => Err(Memory),
     }
 }

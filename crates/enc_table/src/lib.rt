@@ -2,6 +2,7 @@
 #![tactic(auto)]
 
 mod encode;
+mod orders;
 mod tables;
 
 pub use encode::encode_con;

@@ -1,10 +1,11 @@
-use Rattle.std.proofs.Common.{◌≡◌, ℕ, ◌∙◌, ℤ, List, false, unwrap_or, subst, sym, ap}
+use Rattle.std.proofs.Common.{◌≡◌, ℕ, ◌∙◌, ◌++◌, ℤ, List, false, unwrap_or, subst, sym, ap}
 use Rattle.std.proofs.lemmas.Result.{on_ok_weaker}
-use Rattle.ep_base.specs.Numbers.{is_row_of}
+use Rattle.ep_base.specs.Numbers.{is_row_of, lex_holds}
 use Rattle.ep_flat.specs.Cons.{kind_holds, kind_variables, numbers_at}
 use Rattle.ep_flat.specs.FlatViews.{plain_con, plain_kind}
 use Rattle.enc_steps.proofs.Naming.{keeps_con, kind_named, truth_named}
 use Rattle.enc_steps.specs.Steps.{AreOf}
+use Rattle.enc_table.proofs.Links.{both_of}
 use Rattle.enc_table.proofs.encode.encode_con.Goals as goal
 
 pub encode_table-requires-clause-truth : goal.encode_table-requires-clause-truth
@@ -27,4 +28,38 @@ returns-in-Table c =
       keeps = on_ok_weaker c.encode_table.result
           (keeps_con c.args.layout.now c.args.f.now c.encode_table.new.layout c.encode_table.new.f (plain_con c.args.con.now) (λ values. unwrap_or (is_row_of rows (numbers_at values vars)) false) says)
           c.encode_table.ensures;
+    }
+
+pub encode_lex-requires-clause-truth : goal.encode_lex-requires-clause-truth
+encode_lex-requires-clause-truth c = truth_named c.args.layout.now c.args.con.now.truth (plain_kind c.args.con.now.kind) c.requires.can_take.names
+
+pub encode_lex-requires-clause-xs : goal.encode_lex-requires-clause-xs
+unfolding kind_variables
+encode_lex-requires-clause-xs c =
+    let all : AreOf c.args.layout.now (c.in-Lex.xs.items ++ c.in-Lex.ys.items) =
+    subst (λ (xs : List ℕ). AreOf c.args.layout.now xs) (ap kind_variables (ap plain_kind c.in-Lex.is)) (kind_named c.args.layout.now c.args.con.now.truth (plain_kind c.args.con.now.kind) c.requires.can_take.names) in
+    subst (λ (xs : List ℕ). AreOf c.args.layout.now xs) (sym c.deref-in-Lex.ensures.value) (both_of c.args.layout.now c.in-Lex.xs.items c.in-Lex.ys.items all).0
+
+pub encode_lex-requires-clause-ys : goal.encode_lex-requires-clause-ys
+unfolding kind_variables
+encode_lex-requires-clause-ys c =
+    let all : AreOf c.args.layout.now (c.in-Lex.xs.items ++ c.in-Lex.ys.items) =
+    subst (λ (xs : List ℕ). AreOf c.args.layout.now xs) (ap kind_variables (ap plain_kind c.in-Lex.is)) (kind_named c.args.layout.now c.args.con.now.truth (plain_kind c.args.con.now.kind) c.requires.can_take.names) in
+    subst (λ (xs : List ℕ). AreOf c.args.layout.now xs) (sym c.deref-in-Lex-2.ensures.value) (both_of c.args.layout.now c.in-Lex.xs.items c.in-Lex.ys.items all).1
+
+pub returns-in-Lex : goal.returns-in-Lex
+unfolding kind_holds
+returns-in-Lex c =
+    let op = c.in-Lex.op in
+    let xs : List ℕ = c.deref-in-Lex.result.now in
+    let ys : List ℕ = c.deref-in-Lex-2.result.now in
+    let says : (values : List ℤ) → kind_holds values (plain_kind c.args.con.now.kind) ≡ lex_holds op (numbers_at values xs) (numbers_at values ys) =
+    λ values. ap (kind_holds values) (ap plain_kind c.in-Lex.is)
+    ∙ ap (λ zs. lex_holds op (numbers_at values zs) (numbers_at values c.in-Lex.ys.items)) (sym c.deref-in-Lex.ensures.value)
+    ∙ ap (λ zs. lex_holds op (numbers_at values xs) (numbers_at values zs)) (sym c.deref-in-Lex-2.ensures.value) in
+    record {
+      goes_on = on_ok_weaker c.encode_lex.result (λ adds. adds.goes_on) c.encode_lex.ensures;
+      keeps = on_ok_weaker c.encode_lex.result
+          (keeps_con c.args.layout.now c.args.f.now c.encode_lex.new.layout c.encode_lex.new.f (plain_con c.args.con.now) (λ values. lex_holds op (numbers_at values xs) (numbers_at values ys)) says)
+          c.encode_lex.ensures;
     }

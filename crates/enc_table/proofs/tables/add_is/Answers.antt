@@ -4,7 +4,7 @@ use Rattle.std.proofs.lemmas.Result.{on_ok_weaker}
 use Rattle.ep_flat.specs.Cons.{number_at}
 use Rattle.enc_steps.proofs.Guards.{unless_says}
 use Rattle.enc_steps.specs.Steps.{is}
-use Rattle.enc_table.proofs.RowLemmas.{is_clause}
+use Rattle.enc_steps.proofs.Meanings.{is_clause}
 use Rattle.enc_table.proofs.tables.add_is.Goals as goal
 
 pub returns : goal.returns

@@ -1,8 +1,7 @@
 use Rattle.std.proofs.Common.{false, refl}
 use Rattle.std.proofs.lemmas.Result.{on_ok_weaker}
-use Rattle.enc_steps.proofs.Naming.{adds_some}
-use Rattle.enc_table.proofs.RowLemmas.{never_none}
-use Rattle.enc_table.proofs.tables.add_never.Goals as goal
+use Rattle.enc_steps.proofs.Naming.{adds_some, never_none}
+use Rattle.enc_steps.proofs.never.add_never.Goals as goal
 
 pub returns-in-None : goal.returns-in-None
 returns-in-None c =

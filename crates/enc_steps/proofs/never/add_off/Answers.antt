@@ -1,7 +1,7 @@
 use Rattle.std.proofs.Common.{[], ◌∷◌, Some, refl, ap}
 use Rattle.std.proofs.lemmas.Result.{on_ok_weaker}
-use Rattle.enc_table.proofs.RowLemmas.{never_some}
-use Rattle.enc_table.proofs.tables.add_off.Goals as goal
+use Rattle.enc_steps.proofs.Naming.{never_some}
+use Rattle.enc_steps.proofs.never.add_off.Goals as goal
 
 pub returns : goal.returns
 returns c =

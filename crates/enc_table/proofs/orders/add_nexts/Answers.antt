@@ -1,0 +1,27 @@
+use Rattle.std.proofs.Common.{◌≡◌, ◌∙◌, ℤ, pos, List, subst, get_or, w64, to_z, of_z, rules}
+use Rattle.std.proofs.lemmas.Int.{to_z-of_z}
+use Rattle.enc_atoms.proofs.Adding.{adds_none, adds_one_more}
+use Rattle.enc_atoms.specs.Atoms.{Adds}
+use Rattle.enc_steps.specs.Steps.{Unless}
+use Rattle.enc_table.proofs.Links.{nexts_all}
+use Rattle.enc_table.specs.Orders.{IsNext}
+use Rattle.enc_table.proofs.orders.add_nexts.Goals as goal
+
+pub loop-number-init : goal.loop-number-init
+loop-number-init c =
+    adds_none c.args.layout.now c.args.f.now (λ values (v : ℤ). Unless c.args.guard.now (IsNext c.args.x c.args.y c.args.next v) values) c.deref-number-items.result.now c.requires.ready.is_layout c.requires.ready.from_new
+
+pub loop-number-preserved : goal.loop-number-preserved
+loop-number-preserved c =
+    let L = c.args.layout.now in
+    let ns : List ℤ = c.deref-number-items.result.now in
+    let k = c.loop-number.number-index in
+    let n : ℤ = get_or ns k (pos 0) in
+    let whole : to_z w64 (of_z w64 n) ≡ n = to_z-of_z w64 n (search rules) in
+    adds_one_more L c.args.f.now c.loop-number.f L c.add_next.new.f (λ values (v : ℤ). Unless c.args.guard.now (IsNext c.args.x c.args.y c.args.next v) values) ns k (pos 0) c.requires.ready.is_layout c.loop-number-test.true c.loop-number.invariant
+    (subst (λ (w : ℤ). Adds L c.loop-number.f L c.add_next.new.f (Unless c.args.guard.now (IsNext c.args.x c.args.y c.args.next w))) whole c.in_ok-add_next.ensures)
+
+pub returns : goal.returns
+returns c =
+    nexts_all c.args.layout.now c.args.f.now c.loop-number.f c.args.guard.now c.args.x c.args.y c.args.next c.deref-number-items.result.now c.loop-number.number-index c.requires.ready.is_layout c.requires.x
+    (c.deref-number-items.ensures.value ∙ c.in_ok-numbers.ensures ∙ c.domain.ensures) c.loop-number-test.false c.loop-number.invariant
