@@ -6,10 +6,11 @@ ghost use Rattle.enc_var.specs.Layouts.{CanTake, GoesOn, HoldsUnder};
 ghost use Rattle.ep_flat.specs.Cons.{family_of, of_counts};
 ghost use Rattle.ep_flat.specs.FlatViews.{plain_con};
 
+use crate::counts::{encode_bounds, encode_counts};
 use crate::different::encode_different;
 use cnf_core::Formula;
 use enc_var::Layout;
-use ep_base::Memory;
+use ep_base::{CompareOp, Memory};
 use ep_flat::{Con, ConKind};
 use std::alloc::Global;
 
@@ -29,6 +30,29 @@ pub fn encode_con(
 {
     match &con.kind {
         ConKind::AllDiff(vars) => encode_different(alloc, layout, f, con.truth, vars),
+        ConKind::Gcc(vars, numbers, counts) => {
+            encode_counts(alloc, layout, f, con.truth, vars, numbers, counts)
+        }
+        ConKind::AtLeast(vars, counts, numbers) => encode_bounds(
+            alloc,
+            layout,
+            f,
+            con.truth,
+            CompareOp::AtLeast,
+            vars,
+            numbers,
+            counts,
+        ),
+        ConKind::AtMost(vars, counts, numbers) => encode_bounds(
+            alloc,
+            layout,
+            f,
+            con.truth,
+            CompareOp::AtMost,
+            vars,
+            numbers,
+            counts,
+        ),
         _ => Err(Memory),
     }
 }

@@ -1,6 +1,7 @@
 //! Different variables and counts of values, as clauses.
 #![tactic(auto)]
 
+mod counts;
 mod different;
 mod encode;
 
