@@ -60,8 +60,8 @@ has_parts n (greatest ts) h = h
 has_parts n node h = tt
 
 -- what is known of a marked term's node
-pub term_of : (g : GroundState) (marks : List Bool) (t : ℕ) (node : GroundNode) → AreMarks g marks → IsWellFormed g → IsMarked marks t → slice_get g.nodes t ≡ Some node → All (λ part. part < t) (parts_of node) → IsTermOf g marks t node
-term_of g marks t node are h m got before = record {
+pub term_of : (g : GroundState) (asserted marks : List Bool) (t : ℕ) (node : GroundNode) → AreMarks g asserted marks → IsWellFormed g → IsMarked marks t → slice_get g.nodes t ≡ Some node → All (λ part. part < t) (parts_of node) → IsTermOf g marks t node
+term_of g asserted marks t node are h m got before = record {
   got = got;
   before = before;
   marked = are.closed t node got m;

@@ -1,6 +1,7 @@
 pub mod Reaches
 pub mod Unrolled
 pub mod Sayings
+pub mod Truths
 pub mod Frames
 pub mod Growing
 pub mod MarkedTerms

@@ -1,14 +1,18 @@
--- Marking the parts of marked terms, from the last term to the first.
+-- Marking terms that have to be true and terms that need variables, from the last term to the first.
 use Rattle.std.specs.Prelude.{◌≡◌, ℕ, zero, suc, ◌+◌, ◌≤◌, ◌<◌, ◌⊎◌, Bool, true, false, List, [], ◌∷◌, ◌++◌, length, map, Some, option_map, option_to_list, replicate, slice_get, slice_index_or, slice_set, nat_lt, refl}
-use Rattle.std.proofs.Common.{ap, arith, get_or, inl, inr, subst, sym, take, ◌∙◌, ℤ}
+use Rattle.std.proofs.Common.{ap, arith, get_or, inl, inr, subst, sym, take, ◌∙◌, ℤ, pos}
 use Rattle.std.specs.List.{All, Contains}
 use Rattle.std.proofs.lemmas.Bool.{false≢true}
 use Rattle.std.proofs.lemmas.List.{get_or-set_same, get_or_default, length-set, length-replicate, map_more, take_more}
-use Rattle.std.proofs.lemmas.List.Elements.{All-cons, All-contains, All-head, All-nil, All-tail, All-weaker, Contains-append_right}
+use Rattle.std.proofs.lemmas.List.Elements.{All-cons, All-contains, All-head, All-nil, All-tail, All-weaker, Contains-append_left, Contains-append_right}
 use Rattle.ep_ground.specs.Grounds.{GroundState, IsReached, IsWellFormed, LeadsTo, itself, by_part, named_terms}
 use Rattle.ep_ground.specs.Nodes.{GroundNode, parts_of}
-use Rattle.ep_flatten.specs.Building.{AreMarks, IsMarked}
+use Rattle.ep_flatten.specs.Building.{AreMarks, IsForced, IsMarked, goal_terms}
 use Rattle.ep_flatten.specs.Marking.{AreMarksFrom, marked}
+use Rattle.ep_flatten.specs.Tops.{asserts_of, needs_of}
+use Rattle.ep_flatten.proofs.Truths.{asserts_in, forced_part, needs_before, needs_in}
+use Rattle.ep_flatten.proofs.Unrolled.{all_left, all_right}
+use Rattle.ep_ground.specs.Terms.{term_value}
 use Rattle.ep_tree.proofs.TypedParts.{no_some, some_is}
 
 kept_by_one : (ms : List Bool) (t u : ℕ) → IsMarked ms t → IsMarked (slice_set ms u true) t
@@ -82,19 +86,32 @@ past_end zero (n ∷ nodes) node e = omega arith
 past_end (suc t) (n ∷ nodes) node e = let rest = past_end t nodes node e in omega (arith, rest)
 
 -- the terms that the ground names, marked alone
-pub marks_named : (g : GroundState) (ms : List Bool) → IsWellFormed g → ms ≡ marked (replicate (length g.nodes) false) (named_terms g) → AreMarksFrom g (length g.nodes) ms
-marks_named g ms h e =
+marks_named : (g : GroundState) (truths ms : List Bool) → IsWellFormed g → truths ≡ marked (replicate (length g.nodes) false) g.clauses → ms ≡ marked (replicate (length g.nodes) false) (goal_terms g)
+    → AreMarksFrom g (length g.nodes) (length g.nodes) truths ms
+unfolding named_terms goal_terms
+marks_named g truths ms h d e =
     let none = replicate (length g.nodes) false in
-    subst (AreMarksFrom g (length g.nodes)) (sym e)
+    let goals = option_to_list (option_map (λ goal. goal.1) g.objective) in
+    let long : length none ≡ length g.nodes = length-replicate (length g.nodes) false in
+    let inside : All (λ t. t < length none) (g.clauses ++ goals) = subst (λ n. All (λ t. t < n) (g.clauses ++ goals)) (sym long) h.terms in
+    let asserted_there : (t : ℕ) → IsMarked (marked none g.clauses) t → Contains g.clauses t =
+    λ t m. elim (marks_only none g.clauses t m) as (λ _. Contains g.clauses t) [ inl k ↦ absurd (false≢true (sym (none_marked (length g.nodes) t) ∙ k)) | inr k ↦ k ] in
+    let marked_there : (t : ℕ) → IsMarked (marked none goals) t → Contains goals t =
+    λ t m. elim (marks_only none goals t m) as (λ _. Contains goals t) [ inl k ↦ absurd (false≢true (sym (none_marked (length g.nodes) t) ∙ k)) | inr k ↦ k ] in
+    subst (λ xs. AreMarksFrom g (length g.nodes) (length g.nodes) xs ms) (sym d)
+    (subst (λ xs. AreMarksFrom g (length g.nodes) (length g.nodes) (marked none g.clauses) xs) (sym e)
     (record {
-      long = marks_long none (named_terms g) ∙ length-replicate (length g.nodes) false;
-      named = marks_have none (named_terms g) (subst (λ n. All (λ t. t < n) (named_terms g)) (sym (length-replicate (length g.nodes) false)) h.terms);
+      asserted_long = marks_long none g.clauses ∙ long;
+      long = marks_long none goals ∙ long;
+      clauses = marks_have none g.clauses (all_left (λ t. t < length none) g.clauses goals inside);
+      goal = marks_have none goals (all_right (λ t. t < length none) g.clauses goals inside);
+      wholes = λ t node l got m. let below = past_end t g.nodes node got in absurd (omega (arith, l, below));
+      tops = λ t node l got m. let below = past_end t g.nodes node got in absurd (omega (arith, l, below));
       closed = λ t node l got m. let below = past_end t g.nodes node got in absurd (omega (arith, l, below));
-      reached = λ t m. elim (marks_only none (named_terms g) t m) as (λ _. IsReached g t) [
-        | inl k ↦ absurd (false≢true (sym (none_marked (length g.nodes) t) ∙ k))
-        | inr k ↦ record { from = t; named = k; leads = itself t }
-      ];
-    })
+      forced = λ t m xs true_ones. All-contains (λ u. term_value g.nodes xs u ≡ Some (pos 1)) g.clauses t true_ones (asserted_there t m);
+      above = λ t m. record { from = t; named = Contains-append_left g.clauses goals t (asserted_there t m); leads = itself t };
+      reached = λ t m. record { from = t; named = Contains-append_right g.clauses goals t (marked_there t m); leads = itself t };
+    }))
 
 above_or_here : {P : Type 0} (t u : ℕ) → t ≤ u → (t + 1 ≤ u → P) → (t ≡ u → P) → P
 above_or_here {P} t u l f k = by (nat_lt t u) refl
@@ -103,43 +120,131 @@ above_or_here {P} t u l f k = by (nat_lt t u) refl
     by true e = f (grind (arith, e))
     by false e = k (grind (arith, e, l))
 
--- a term that isn't marked
-pub marks_skip : (g : GroundState) (t : ℕ) (ms : List Bool) → AreMarksFrom g (t + 1) ms → slice_index_or ms t false ≡ false → AreMarksFrom g t ms
-marks_skip g t ms h none = record {
+-- two nodes of one term are one
+same_node : (g : GroundState) (t u : ℕ) (node other : GroundNode) → t ≡ u → slice_get g.nodes t ≡ Some node → slice_get g.nodes u ≡ Some other → node ≡ other
+same_node g t u node other e got found = some_is (sym got ∙ ap (slice_get g.nodes) e ∙ found)
+
+-- the ground leads to a part of what it leads to
+reached_part : (g : GroundState) (t u : ℕ) (node : GroundNode) → IsReached g t → slice_get g.nodes t ≡ Some node → Contains (parts_of node) u → IsReached g u
+reached_part g t u node r got part = record { from = r.from; named = r.named; leads = leads_on g.nodes r.from t u r.leads (by_part t u u node got part (itself u)) }
+
+-- what holds of each element
+all_from : (P : ℕ → Type 0) (ts : List ℕ) → ((t : ℕ) → Contains ts t → P t) → All P ts
+all_from P [] f = All-nil P
+all_from P (t ∷ ts) f = All-cons P t ts (f t (0, omega arith, refl)) (all_from P ts (λ u found. f u (Contains-append_right (t ∷ []) ts u found)))
+
+-- a term that needn't be true
+pub tops_skip : (g : GroundState) (t : ℕ) (truths ms : List Bool) → AreMarksFrom g (t + 1) (t + 1) truths ms → slice_index_or truths t false ≡ false → AreMarksFrom g t (t + 1) truths ms
+tops_skip g t truths ms h none = record {
+  asserted_long = h.asserted_long;
   long = h.long;
-  named = h.named;
+  clauses = h.clauses;
+  goal = h.goal;
+  wholes = λ u node l got m. above_or_here t u l (λ k. h.wholes u node k got m) (λ k. absurd (false≢true (sym none ∙ subst (IsMarked truths) (sym k) m)));
+  tops = λ u node l got m. above_or_here t u l (λ k. h.tops u node k got m) (λ k. absurd (false≢true (sym none ∙ subst (IsMarked truths) (sym k) m)));
+  closed = h.closed;
+  forced = h.forced;
+  above = h.above;
+  reached = h.reached;
+}
+
+-- what a term that has to be true needs
+pub tops_step : (g : GroundState) (t : ℕ) (node : GroundNode) (truths ms : List Bool) → AreMarksFrom g (t + 1) (t + 1) truths ms → IsMarked truths t → slice_get g.nodes t ≡ Some node → All (λ p. p < t) (parts_of node)
+    → AreMarksFrom g t (t + 1) (marked truths (asserts_of node)) (marked ms (needs_of t node (parts_of node)))
+tops_step g t node truths ms h m got before =
+    let needs = needs_of t node (parts_of node) in
+    let below : t < length g.nodes = past_end t g.nodes node got in
+    let part_before : (u : ℕ) → Contains (asserts_of node) u → u < t = λ u found. All-contains (λ p. p < t) (parts_of node) u before (asserts_in node u found) in
+    let need_before : (u : ℕ) → Contains needs u → u < t + 1 = λ u found. All-contains (λ p. p < t + 1) needs u (needs_before t node (parts_of node) before) found in
+    let asserted_inside : All (λ p. p < length truths) (asserts_of node) = all_from (λ p. p < length truths) (asserts_of node) (λ u found. let l = part_before u found in omega (arith, l, below, h.asserted_long)) in
+    let inside : All (λ p. p < length ms) needs = all_from (λ p. p < length ms) needs (λ u found. let l = need_before u found in omega (arith, l, below, h.long)) in
+    let keeps : (ts : List ℕ) → All (IsMarked truths) ts → All (IsMarked (marked truths (asserts_of node))) ts = λ ts. All-weaker (IsMarked truths) (IsMarked (marked truths (asserts_of node))) (marks_kept truths (asserts_of node)) ts in
+    let stays : (ts : List ℕ) → All (IsMarked ms) ts → All (IsMarked (marked ms needs)) ts = λ ts. All-weaker (IsMarked ms) (IsMarked (marked ms needs)) (marks_kept ms needs) ts in
+    let above : IsReached g t = h.above t m in
+    record {
+      asserted_long = marks_long truths (asserts_of node) ∙ h.asserted_long;
+      long = marks_long ms needs ∙ h.long;
+      clauses = keeps g.clauses h.clauses;
+      goal = stays (goal_terms g) h.goal;
+      wholes = λ u other l found n. above_or_here t u l
+          (λ k. elim (marks_only truths (asserts_of node) u n) as (λ _. All (IsMarked (marked truths (asserts_of node))) (asserts_of other)) [
+            | inl was ↦ keeps (asserts_of other) (h.wholes u other k found was)
+            | inr part ↦ let less = part_before u part in absurd (omega (arith, less, k))
+          ])
+          (λ k. subst (λ o. All (IsMarked (marked truths (asserts_of node))) (asserts_of o)) (same_node g t u node other k got found) (marks_have truths (asserts_of node) asserted_inside));
+      tops = λ u other l found n. above_or_here t u l
+          (λ k. elim (marks_only truths (asserts_of node) u n) as (λ _. All (IsMarked (marked ms needs)) (needs_of u other (parts_of other))) [
+            | inl was ↦ stays (needs_of u other (parts_of other)) (h.tops u other k found was)
+            | inr part ↦ let less = part_before u part in absurd (omega (arith, less, k))
+          ])
+          (λ k. subst (λ v. All (IsMarked (marked ms needs)) (needs_of v other (parts_of other))) k
+          (subst (λ o. All (IsMarked (marked ms needs)) (needs_of t o (parts_of o))) (same_node g t u node other k got found) (marks_have ms needs inside)));
+      closed = λ u other l found n. elim (marks_only ms needs u n) as (λ _. All (IsMarked (marked ms needs)) (parts_of other)) [
+        | inl was ↦ stays (parts_of other) (h.closed u other l found was)
+        | inr part ↦ let less = need_before u part in absurd (omega (arith, less, l))
+      ];
+      forced = λ u n. elim (marks_only truths (asserts_of node) u n) as (λ _. IsForced g u) [
+        | inl was ↦ h.forced u was
+        | inr part ↦ forced_part g t u node (h.forced t m) got before part
+      ];
+      above = λ u n. elim (marks_only truths (asserts_of node) u n) as (λ _. IsReached g u) [ inl was ↦ h.above u was | inr part ↦ reached_part g t u node above got (asserts_in node u part) ];
+      reached = λ u n. elim (marks_only ms needs u n) as (λ _. IsReached g u) [
+        | inl was ↦ h.reached u was
+        | inr part ↦ elim (needs_in t node (parts_of node) u part) as (λ _. IsReached g u) [ inl same ↦ subst (IsReached g) same above | inr found ↦ reached_part g t u node above got found ]
+      ];
+    }
+
+-- a term that isn't marked
+pub marks_skip : (g : GroundState) (t : ℕ) (truths ms : List Bool) → AreMarksFrom g t (t + 1) truths ms → slice_index_or ms t false ≡ false → AreMarksFrom g t t truths ms
+marks_skip g t truths ms h none = record {
+  asserted_long = h.asserted_long;
+  long = h.long;
+  clauses = h.clauses;
+  goal = h.goal;
+  wholes = h.wholes;
+  tops = h.tops;
   closed = λ u node l got m. above_or_here t u l (λ k. h.closed u node k got m) (λ k. absurd (false≢true (sym none ∙ subst (IsMarked ms) (sym k) m)));
+  forced = h.forced;
+  above = h.above;
   reached = h.reached;
 }
 
 -- the parts of a marked term
-pub marks_step : (g : GroundState) (t : ℕ) (node : GroundNode) (ms : List Bool) → AreMarksFrom g (t + 1) ms → IsMarked ms t → slice_get g.nodes t ≡ Some node → All (λ p. p < t) (parts_of node)
-    → AreMarksFrom g t (marked ms (parts_of node))
-marks_step g t node ms h m got before =
+pub marks_step : (g : GroundState) (t : ℕ) (node : GroundNode) (truths ms : List Bool) → AreMarksFrom g t (t + 1) truths ms → IsMarked ms t → slice_get g.nodes t ≡ Some node → All (λ p. p < t) (parts_of node)
+    → AreMarksFrom g t t truths (marked ms (parts_of node))
+marks_step g t node truths ms h m got before =
     let below : t < length g.nodes = past_end t g.nodes node got in
     let inside : All (λ p. p < length ms) (parts_of node) = All-weaker (λ p. p < t) (λ p. p < length ms) (λ p l. omega (arith, l, below, h.long)) (parts_of node) before in
     let keeps : (ts : List ℕ) → All (IsMarked ms) ts → All (IsMarked (marked ms (parts_of node))) ts =
     λ ts. All-weaker (IsMarked ms) (IsMarked (marked ms (parts_of node))) (marks_kept ms (parts_of node)) ts in
     record {
+      asserted_long = h.asserted_long;
       long = marks_long ms (parts_of node) ∙ h.long;
-      named = keeps (named_terms g) h.named;
+      clauses = h.clauses;
+      goal = keeps (goal_terms g) h.goal;
+      wholes = h.wholes;
+      tops = λ u other l found n. keeps (needs_of u other (parts_of other)) (h.tops u other l found n);
       closed = λ u other l found n. above_or_here t u l
           (λ k. elim (marks_only ms (parts_of node) u n) as (λ _. All (IsMarked (marked ms (parts_of node))) (parts_of other)) [
             | inl was ↦ keeps (parts_of other) (h.closed u other k found was)
             | inr part ↦ let less : u < t = All-contains (λ p. p < t) (parts_of node) u before part in absurd (omega (arith, less, k))
           ])
-          (λ k. let same : node ≡ other = some_is (sym got ∙ ap (slice_get g.nodes) k ∙ found) in
-          subst (λ o. All (IsMarked (marked ms (parts_of node))) (parts_of o)) same (marks_have ms (parts_of node) inside));
-      reached = λ u n. elim (marks_only ms (parts_of node) u n) as (λ _. IsReached g u) [
-        | inl was ↦ h.reached u was
-        | inr part ↦
-            let r = h.reached t m in
-            record { from = r.from; named = r.named; leads = leads_on g.nodes r.from t u r.leads (by_part t u u node got part (itself u)) }
-      ];
+          (λ k. subst (λ o. All (IsMarked (marked ms (parts_of node))) (parts_of o)) (same_node g t u node other k got found) (marks_have ms (parts_of node) inside));
+      forced = h.forced;
+      above = h.above;
+      reached = λ u n. elim (marks_only ms (parts_of node) u n) as (λ _. IsReached g u) [ inl was ↦ h.reached u was | inr part ↦ reached_part g t u node (h.reached t m) got part ];
     }
 
-pub marks_done : (g : GroundState) (ms : List Bool) → AreMarksFrom g 0 ms → AreMarks g ms
-marks_done g ms h = record { named = h.named; closed = λ t node got m. h.closed t node (omega arith) got m; reached = h.reached }
+pub marks_done : (g : GroundState) (truths ms : List Bool) → AreMarksFrom g 0 0 truths ms → AreMarks g truths ms
+marks_done g truths ms h = record {
+  clauses = h.clauses;
+  goal = h.goal;
+  wholes = λ t node got m. h.wholes t node (omega arith) got m;
+  tops = λ t node got m. h.tops t node (omega arith) got m;
+  closed = λ t node got m. h.closed t node (omega arith) got m;
+  forced = h.forced;
+  reached = h.reached;
+}
 
 pub marked_step : (start before after : List Bool) (ts : List ℕ) (i r : ℕ) → i < length ts → r ≡ get_or ts i r → before ≡ marked start (take i ts) → after ≡ slice_set before r true → after ≡ marked start (take (i + 1) ts)
 marked_step start before after ts i r l is was now =
@@ -151,13 +256,13 @@ weighed_step start before after ps i p l is was now =
     now ∙ ap (λ ms. slice_set ms p.1 true) was ∙ sym (marked_more start (map (λ q. q.1) (take i ps)) p.1)
     ∙ ap (λ (q : ℤ × ℕ). marked start (map (λ q. q.1) (take i ps) ++ q.1 ∷ [])) is ∙ ap (marked start) (sym (map_more {X = ℤ × ℕ} {Y = ℕ} (λ q. q.1) ps i p l))
 
-pub named_marked : (g : GroundState) (n : ℕ) (start mid ms : List Bool) (cl : List ℕ) → start ≡ replicate n false → n ≡ length g.nodes → cl ≡ g.clauses → mid ≡ marked start cl
-    → ms ≡ marked mid (option_to_list (option_map (λ goal. goal.1) g.objective)) → IsWellFormed g → AreMarksFrom g (length g.nodes) ms
-unfolding named_terms
-named_marked g n start mid ms cl a b d e f h =
-    marks_named g ms h
-    (f ∙ ap (λ m. marked m (option_to_list (option_map (λ goal. goal.1) g.objective))) (e ∙ ap (marked start) d ∙ ap (λ m. marked m g.clauses) (a ∙ ap (λ k. replicate k false) b))
-    ∙ sym (marked_both (replicate (length g.nodes) false) g.clauses (option_to_list (option_map (λ goal. goal.1) g.objective))))
+pub named_marked : (g : GroundState) (m n : ℕ) (start first truths ms : List Bool) (cl : List ℕ) → start ≡ replicate m false → m ≡ length g.nodes → first ≡ replicate n false → n ≡ length g.nodes → cl ≡ g.clauses
+    → truths ≡ marked start cl → ms ≡ marked first (option_to_list (option_map (λ goal. goal.1) g.objective)) → IsWellFormed g → AreMarksFrom g (length g.nodes) (length g.nodes) truths ms
+unfolding goal_terms
+named_marked g m n start first truths ms cl a b c d e f k h =
+    marks_named g truths ms h
+    (f ∙ ap (marked start) e ∙ ap (λ xs. marked xs g.clauses) (a ∙ ap (λ j. replicate j false) b))
+    (k ∙ ap (λ xs. marked xs (option_to_list (option_map (λ goal. goal.1) g.objective))) (c ∙ ap (λ j. replicate j false) d))
 
-pub is_marked : (ms : List Bool) (t : ℕ) (b : Bool) → t < length ms → b ≡ get_or ms t b → b ≡ true → IsMarked ms t
-is_marked ms t b l is e = get_or_default ms t false b l ∙ sym is ∙ e
+pub marked_there : {b : Bool} (items slice : List Bool) (t : ℕ) → slice ≡ items → slice_index_or slice t false ≡ b → slice_index_or items t false ≡ b
+marked_there {b} items slice t is e = subst (λ ms. slice_index_or ms t false ≡ b) is e

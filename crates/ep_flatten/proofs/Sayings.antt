@@ -18,6 +18,7 @@ use Rattle.ep_flat.specs.Cons.{FlatCon, FlatKind, con_holds, con_variables, is_a
 use Rattle.ep_ground.specs.Nodes.{GroundNode, sum, product, power, absolute, least, greatest, safe_quotient, safe_remainder, safe_pick, compare, lex, member, negation, all_of, any_of, same_truth, all_different, counts, at_least, at_most, table, coefficients_of, parts_of}
 use Rattle.ep_ground.specs.Terms.{node_value, on_both, truth, values_of, weighed}
 use Rattle.ep_flatten.specs.Saying.{Says, place_of, value_under}
+use Rattle.ep_flatten.specs.Tops.{Tells}
 
 -- a constraint with the result's variable, or with its truth value
 abbrev pub plain : FlatKind → FlatCon
@@ -49,13 +50,26 @@ made places node r con value gives says names none = record {
   coefficients = λ _. subst (λ ns. All IsWithinNumbers ns) (sym none) (All-nil IsWithinNumbers);
 }
 
--- a constraint that has a truth value
-said : (places : List ℕ) (node : GroundNode) (r : ℕ) (kind : FlatKind)
+-- a kind of constraint without coefficients that names the parts
+said : (places : List ℕ) (node : GroundNode) (kind : FlatKind)
     → ((cells values : List ℤ) → node_value cells (value_under values places) node ≡ Some (of_bool (kind_holds values kind)))
-    → kind_variables kind ≡ map (place_of places) (parts_of node) → kind_coefficients kind ≡ [] → Says places node r (told r kind)
+    → kind_variables kind ≡ map (place_of places) (parts_of node) → kind_coefficients kind ≡ [] → Tells places node kind
+said places node kind gives names none = record {
+  gives = gives;
+  names = λ bound h. subst (λ xs. All (λ x. x < bound) xs) (sym names) (All-map (λ x. x < bound) (place_of places) (parts_of node) h);
+  coefficients = subst (λ ns. All IsWithinNumbers ns) (sym none) (All-nil IsWithinNumbers);
+}
+
+-- a variable that is 1 exactly where such a constraint holds has the node's value
+pub says_truth : (places : List ℕ) (node : GroundNode) (r : ℕ) (kind : FlatKind) → Tells places node kind → Says places node r (told r kind)
 unfolding con_holds is_as_said con_variables
-said places node r kind gives names none =
-    made places node r (told r kind) (λ values. of_bool (kind_holds values kind)) gives (λ values. refl) (ap (λ xs. r ∷ xs) names) none
+says_truth places node r kind h = record {
+  value = λ values. of_bool (kind_holds values kind);
+  gives = h.gives;
+  says = λ values. refl;
+  names = λ bound below parts. All-cons (λ x. x < bound) r (kind_variables kind) below (h.names bound parts);
+  coefficients = λ _. h.coefficients;
+}
 
 truth_or : (o : Option Bool) → truth o ≡ Some (of_bool (unwrap_or o false))
 unfolding truth of_bool
@@ -153,31 +167,31 @@ one_within = (omega (arith, ints), omega (arith, ints))
 minus_one_within : IsWithinNumbers (negsuc 0)
 minus_one_within = (omega (arith, ints), omega (arith, ints))
 
-pub says_compare : (places : List ℕ) (op : CompareOp) (a b r : ℕ)
-    → Says places (compare op a b) r (told r (flat.linear ((pos 1, place_of places a) ∷ (negsuc 0, place_of places b) ∷ []) op (pos 0)))
-unfolding node_value on_both value_under con_holds is_as_said kind_holds con_variables kind_variables kind_coefficients parts_of weighted_sum sum_of
-says_compare places op a b r = record {
-  value = λ values. of_bool (compare_holds op (number_at values (place_of places a)) (number_at values (place_of places b)));
-  gives = λ cells values. truth_or (Some (compare_holds op (number_at values (place_of places a)) (number_at values (place_of places b))));
-  says = λ values. ap (λ b. int_eq (number_at values r) (of_bool b)) (moved op (number_at values (place_of places a)) (number_at values (place_of places b)));
-  names = λ bound h k. all_named places bound r (a ∷ b ∷ []) h k;
-  coefficients = λ _. All-cons IsWithinNumbers (pos 1) (negsuc 0 ∷ []) one_within (All-cons IsWithinNumbers (negsuc 0) [] minus_one_within (All-nil IsWithinNumbers));
+pub says_compare : (places : List ℕ) (op : CompareOp) (a b : ℕ)
+    → Tells places (compare op a b) (flat.linear ((pos 1, place_of places a) ∷ (negsuc 0, place_of places b) ∷ []) op (pos 0))
+unfolding node_value on_both value_under kind_holds kind_variables kind_coefficients parts_of weighted_sum sum_of
+says_compare places op a b = record {
+  gives = λ cells values.
+      truth_or (Some (compare_holds op (number_at values (place_of places a)) (number_at values (place_of places b))))
+      ∙ ap (λ b. Some (of_bool b)) (sym (moved op (number_at values (place_of places a)) (number_at values (place_of places b))));
+  names = λ bound h. All-map (λ x. x < bound) (place_of places) (a ∷ b ∷ []) h;
+  coefficients = All-cons IsWithinNumbers (pos 1) (negsuc 0 ∷ []) one_within (All-cons IsWithinNumbers (negsuc 0) [] minus_one_within (All-nil IsWithinNumbers));
 }
 
-pub says_lex : (places : List ℕ) (op : LexOp) (ts us : List ℕ) (r : ℕ) → Says places (lex op ts us) r (told r (flat.lex op (map (place_of places) ts) (map (place_of places) us)))
+pub says_lex : (places : List ℕ) (op : LexOp) (ts us : List ℕ) → Tells places (lex op ts us) (flat.lex op (map (place_of places) ts) (map (place_of places) us))
 unfolding node_value on_both kind_holds kind_variables kind_coefficients parts_of
-says_lex places op ts us r =
-    said places (lex op ts us) r (flat.lex op (map (place_of places) ts) (map (place_of places) us))
+says_lex places op ts us =
+    said places (lex op ts us) (flat.lex op (map (place_of places) ts) (map (place_of places) us))
     (λ cells values.
     ap (λ o. truth (on_both (λ xs ys. Some (lex_holds op xs ys)) o (values_of (value_under values places) us))) (values_there values places ts)
     ∙ ap (λ o. truth (on_both (λ xs ys. Some (lex_holds op xs ys)) (Some (numbers_at values (map (place_of places) ts))) o)) (values_there values places us)
     ∙ truth_or (Some (lex_holds op (numbers_at values (map (place_of places) ts)) (numbers_at values (map (place_of places) us)))))
     (sym (map-append (place_of places) ts us)) refl
 
-pub says_member : (places : List ℕ) (a : ℕ) (ns : List ℤ) (r : ℕ) → Says places (member a ns) r (told r (flat.member (place_of places a) ns))
+pub says_member : (places : List ℕ) (a : ℕ) (ns : List ℤ) → Tells places (member a ns) (flat.member (place_of places a) ns)
 unfolding node_value value_under kind_holds kind_variables kind_coefficients parts_of
-says_member places a ns r =
-    said places (member a ns) r (flat.member (place_of places a) ns)
+says_member places a ns =
+    said places (member a ns) (flat.member (place_of places a) ns)
     (λ cells values. truth_or (Some (has_number ns (number_at values (place_of places a))))) refl refl
 
 same_false : (b : Bool) → not b ≡ (same_bool b false || false)
@@ -190,10 +204,10 @@ unfolding same_bool
 same_true true = refl
 same_true false = refl
 
-pub says_negation : (places : List ℕ) (a r : ℕ) → Says places (negation a) r (told r (flat.clause ((false, place_of places a) ∷ [])))
+pub says_negation : (places : List ℕ) (a : ℕ) → Tells places (negation a) (flat.clause ((false, place_of places a) ∷ []))
 unfolding node_value value_under kind_holds kind_variables kind_coefficients parts_of
-says_negation places a r =
-    said places (negation a) r (flat.clause ((false, place_of places a) ∷ []))
+says_negation places a =
+    said places (negation a) (flat.clause ((false, place_of places a) ∷ []))
     (λ cells values. truth_or (Some (not (is_one (number_at values (place_of places a))))) ∙ ap (λ b. Some (of_bool b)) (same_false (is_one (number_at values (place_of places a)))))
     refl refl
 
@@ -202,10 +216,10 @@ unfolding all_one numbers_at
 all_ones values [] = refl
 all_ones values (x ∷ xs) = ap (λ b. is_one (number_at values x) && b) (all_ones values xs)
 
-pub says_all : (places ts : List ℕ) (r : ℕ) → Says places (all_of ts) r (told r (flat.all_of (map (place_of places) ts)))
+pub says_all : (places ts : List ℕ) → Tells places (all_of ts) (flat.all_of (map (place_of places) ts))
 unfolding node_value kind_holds kind_variables kind_coefficients parts_of
-says_all places ts r =
-    said places (all_of ts) r (flat.all_of (map (place_of places) ts))
+says_all places ts =
+    said places (all_of ts) (flat.all_of (map (place_of places) ts))
     (λ cells values. ap (λ o. truth (option_map all_one o)) (values_there values places ts) ∙ truth_or (Some (all_one (numbers_at values (map (place_of places) ts))))
     ∙ ap (λ b. Some (of_bool b)) (all_ones values (map (place_of places) ts)))
     refl refl
@@ -225,57 +239,57 @@ literal_variables : (xs : List ℕ) → map (λ p. p.1) (literals xs) ≡ xs
 literal_variables [] = refl
 literal_variables (x ∷ xs) = ap (λ ys. x ∷ ys) (literal_variables xs)
 
-pub says_any : (places ts : List ℕ) (r : ℕ) → Says places (any_of ts) r (told r (flat.clause (literals (map (place_of places) ts))))
+pub says_any : (places ts : List ℕ) → Tells places (any_of ts) (flat.clause (literals (map (place_of places) ts)))
 unfolding node_value kind_holds kind_variables kind_coefficients parts_of
-says_any places ts r =
-    said places (any_of ts) r (flat.clause (literals (map (place_of places) ts)))
+says_any places ts =
+    said places (any_of ts) (flat.clause (literals (map (place_of places) ts)))
     (λ cells values. ap (λ o. truth (option_map any_one o)) (values_there values places ts) ∙ truth_or (Some (any_one (numbers_at values (map (place_of places) ts))))
     ∙ ap (λ b. Some (of_bool b)) (any_ones values (map (place_of places) ts)))
     (literal_variables (map (place_of places) ts)) refl
 
-pub says_same : (places : List ℕ) (a b r : ℕ) → Says places (same_truth a b) r (told r (flat.same_truth (place_of places a) (place_of places b)))
+pub says_same : (places : List ℕ) (a b : ℕ) → Tells places (same_truth a b) (flat.same_truth (place_of places a) (place_of places b))
 unfolding node_value on_both value_under kind_holds kind_variables kind_coefficients parts_of
-says_same places a b r =
-    said places (same_truth a b) r (flat.same_truth (place_of places a) (place_of places b))
+says_same places a b =
+    said places (same_truth a b) (flat.same_truth (place_of places a) (place_of places b))
     (λ cells values. truth_or (Some (same_bool (is_one (number_at values (place_of places a))) (is_one (number_at values (place_of places b)))))) refl refl
 
-pub says_different : (places ts : List ℕ) (r : ℕ) → Says places (all_different ts) r (told r (flat.all_different (map (place_of places) ts)))
+pub says_different : (places ts : List ℕ) → Tells places (all_different ts) (flat.all_different (map (place_of places) ts))
 unfolding node_value kind_holds kind_variables kind_coefficients parts_of
-says_different places ts r =
-    said places (all_different ts) r (flat.all_different (map (place_of places) ts))
+says_different places ts =
+    said places (all_different ts) (flat.all_different (map (place_of places) ts))
     (λ cells values. ap (λ o. truth (option_map are_different o)) (values_there values places ts) ∙ truth_or (Some (are_different (numbers_at values (map (place_of places) ts)))))
     refl refl
 
-pub says_counts : (places ts : List ℕ) (ns : List ℤ) (us : List ℕ) (r : ℕ) → Says places (counts ts ns us) r (told r (flat.counts (map (place_of places) ts) ns (map (place_of places) us)))
+pub says_counts : (places ts : List ℕ) (ns : List ℤ) (us : List ℕ) → Tells places (counts ts ns us) (flat.counts (map (place_of places) ts) ns (map (place_of places) us))
 unfolding node_value on_both kind_holds kind_variables kind_coefficients parts_of
-says_counts places ts ns us r =
-    said places (counts ts ns us) r (flat.counts (map (place_of places) ts) ns (map (place_of places) us))
+says_counts places ts ns us =
+    said places (counts ts ns us) (flat.counts (map (place_of places) ts) ns (map (place_of places) us))
     (λ cells values.
     ap (λ o. truth (on_both (λ xs cs. counts_hold CompareOp.Equal xs ns cs) o (values_of (value_under values places) us))) (values_there values places ts)
     ∙ ap (λ o. truth (on_both (λ xs cs. counts_hold CompareOp.Equal xs ns cs) (Some (numbers_at values (map (place_of places) ts))) o)) (values_there values places us)
     ∙ truth_or (counts_hold CompareOp.Equal (numbers_at values (map (place_of places) ts)) ns (numbers_at values (map (place_of places) us))))
     (sym (map-append (place_of places) ts us)) refl
 
-pub says_at_least : (places ts : List ℕ) (cs ns : List ℤ) (r : ℕ) → Says places (at_least ts cs ns) r (told r (flat.at_least (map (place_of places) ts) cs ns))
+pub says_at_least : (places ts : List ℕ) (cs ns : List ℤ) → Tells places (at_least ts cs ns) (flat.at_least (map (place_of places) ts) cs ns)
 unfolding node_value kind_holds kind_variables kind_coefficients parts_of
-says_at_least places ts cs ns r =
-    said places (at_least ts cs ns) r (flat.at_least (map (place_of places) ts) cs ns)
+says_at_least places ts cs ns =
+    said places (at_least ts cs ns) (flat.at_least (map (place_of places) ts) cs ns)
     (λ cells values. ap (λ o. truth (option_and_then (λ xs. counts_hold CompareOp.AtLeast xs ns cs) o)) (values_there values places ts)
     ∙ truth_or (counts_hold CompareOp.AtLeast (numbers_at values (map (place_of places) ts)) ns cs))
     refl refl
 
-pub says_at_most : (places ts : List ℕ) (cs ns : List ℤ) (r : ℕ) → Says places (at_most ts cs ns) r (told r (flat.at_most (map (place_of places) ts) cs ns))
+pub says_at_most : (places ts : List ℕ) (cs ns : List ℤ) → Tells places (at_most ts cs ns) (flat.at_most (map (place_of places) ts) cs ns)
 unfolding node_value kind_holds kind_variables kind_coefficients parts_of
-says_at_most places ts cs ns r =
-    said places (at_most ts cs ns) r (flat.at_most (map (place_of places) ts) cs ns)
+says_at_most places ts cs ns =
+    said places (at_most ts cs ns) (flat.at_most (map (place_of places) ts) cs ns)
     (λ cells values. ap (λ o. truth (option_and_then (λ xs. counts_hold CompareOp.AtMost xs ns cs) o)) (values_there values places ts)
     ∙ truth_or (counts_hold CompareOp.AtMost (numbers_at values (map (place_of places) ts)) ns cs))
     refl refl
 
-pub says_table : (places ts : List ℕ) (rows : List (List ℤ)) (r : ℕ) → Says places (table ts rows) r (told r (flat.table (map (place_of places) ts) rows))
+pub says_table : (places ts : List ℕ) (rows : List (List ℤ)) → Tells places (table ts rows) (flat.table (map (place_of places) ts) rows)
 unfolding node_value kind_holds kind_variables kind_coefficients parts_of
-says_table places ts rows r =
-    said places (table ts rows) r (flat.table (map (place_of places) ts) rows)
+says_table places ts rows =
+    said places (table ts rows) (flat.table (map (place_of places) ts) rows)
     (λ cells values. ap (λ o. truth (option_and_then (is_row_of rows) o)) (values_there values places ts) ∙ truth_or (is_row_of rows (numbers_at values (map (place_of places) ts))))
     refl refl
 

@@ -10,7 +10,7 @@ use Rattle.ep_base.specs.Reads.{IsWithinNumbers, same_bool}
 use Rattle.ep_base.specs.declared.operators.Sense.{Sense}
 use Rattle.ep_flat.specs.Cons.{FlatCon, con_holds, con_variables, is_as_said, kind_coefficients, kind_holds, kind_variables, number_at, numbers_at}
 use Rattle.ep_flat.specs.Flats.{FlatState, HasSmallCoefficients, MapState, Meets, NamesBelow, objective_number}
-use Rattle.ep_flatten.specs.Building.{AreMarks, Built, IsBuilt, IsMarked, flat_of, truth_con}
+use Rattle.ep_flatten.specs.Building.{AreMarks, Built, HasTops, IsBuilt, IsMarked, flat_of, goal_terms}
 use Rattle.ep_flatten.specs.Flattening.{IsMetBy, StandsFor}
 use Rattle.ep_flatten.specs.Saying.{place_of}
 use Rattle.ep_flatten.proofs.Growing.{cells_of}
@@ -21,28 +21,6 @@ use Rattle.ep_ground.specs.Terms.{term_value}
 use Rattle.ep_ground.specs.declared.cells.Cell.{Cell}
 use Rattle.ep_tree.proofs.TypedParts.{some_is}
 
-same_true : (b : Bool) → (same_bool b true || false) ≡ b
-unfolding same_bool
-same_true true = refl
-same_true false = refl
-
--- the clause of a term holds where its variable is 1
-truth_holds : (values : List ℤ) (places : List ℕ) (t : ℕ) → con_holds values (truth_con places t) ≡ is_one (number_at values (place_of places t))
-unfolding con_holds is_as_said kind_holds
-truth_holds values places t = same_true (is_one (number_at values (place_of places t)))
-
-one_is : (n : ℤ) → is_one n ≡ true → n ≡ pos 1
-unfolding is_one
-one_is n e = (Decides-int_eq n (pos 1)).0 e
-
-is_one_of : (n : ℤ) → n ≡ pos 1 → is_one n ≡ true
-unfolding is_one
-is_one_of n e = (Decides-int_eq n (pos 1)).1 e
-
-all_of_map : {A B : Type 0} (P : B → Type 0) (f : A → B) (xs : List A) → All P (map f xs) → All (λ x. P (f x)) xs
-all_of_map P f [] h = All-nil (λ x. P (f x))
-all_of_map P f (x ∷ xs) h = All-cons (λ x. P (f x)) x xs (All-head P (f x) (map f xs) h) (all_of_map P f xs (All-tail P (f x) (map f xs) h))
-
 both_all : {P Q R : ℕ → Type 0} (xs : List ℕ) → ((x : ℕ) → P x → Q x → R x) → All P xs → All Q xs → All R xs
 both_all xs f h k = λ i d l. f (slice_index_or xs i d) (h i d l) (k i d l)
 
@@ -51,18 +29,16 @@ record IsNamed (g : GroundState) (b : Built) (t : ℕ) : Type 0 where
   within : place_of b.places t < length b.vars
   tells : (values : List ℤ) → Meets (flat_of b) values → term_value g.nodes (numbers_at values b.cells) t ≡ Some (number_at values (place_of b.places t))
 
-named : (g : GroundState) (marks : List Bool) (b : Built) → IsBuilt g marks (length g.nodes) b → AreMarks g marks → IsWellFormed g → All (IsNamed g b) (named_terms g)
-named g marks b h are formed =
-    both_all {P = IsMarked marks} {Q = λ t. t < length g.nodes} {R = IsNamed g b} (named_terms g)
-    (λ t m l. record { within = h.within t l m; tells = λ values meets. h.tells values meets t l m }) are.named formed.terms
+named : (g : GroundState) (asserted marks : List Bool) (b : Built) → IsBuilt g marks (length g.nodes) b → AreMarks g asserted marks → IsWellFormed g → All (IsNamed g b) (goal_terms g)
+unfolding named_terms goal_terms
+named g asserted marks b h are formed =
+    let goals = option_to_list (option_map (λ goal. goal.1) g.objective) in
+    both_all {P = IsMarked marks} {Q = λ t. t < length g.nodes} {R = IsNamed g b} goals
+    (λ t m l. record { within = h.within t l m; tells = λ values meets. h.tells values meets t l m }) are.goal (all_right (λ t. t < length g.nodes) g.clauses goals formed.terms)
 
-named_clauses : (g : GroundState) (b : Built) → All (IsNamed g b) (named_terms g) → All (IsNamed g b) g.clauses
-unfolding named_terms
-named_clauses g b h = all_left (IsNamed g b) g.clauses (option_to_list (option_map (λ goal. goal.1) g.objective)) h
-
-named_goal : (g : GroundState) (b : Built) → All (IsNamed g b) (named_terms g) → MatchOption g.objective (Unit {0}) (λ goal. IsNamed g b goal.1)
-unfolding named_terms
-named_goal g b h = by g.objective (all_right (IsNamed g b) g.clauses (option_to_list (option_map (λ goal. goal.1) g.objective)) h)
+named_goal : (g : GroundState) (b : Built) → All (IsNamed g b) (goal_terms g) → MatchOption g.objective (Unit {0}) (λ goal. IsNamed g b goal.1)
+unfolding goal_terms
+named_goal g b h = by g.objective h
   where
     by : (o : Option (Sense × ℕ)) → All (IsNamed g b) (option_to_list (option_map (λ goal. goal.1) o)) → MatchOption o (Unit {0}) (λ goal. IsNamed g b goal.1)
     by None k = tt
@@ -89,85 +65,71 @@ goal_there : (g : GroundState) (b : Built) (values : List ℤ) (o : Option (Sens
 goal_there g b values None meets h = tt
 goal_there g b values (Some goal) meets h = subst IsSome (sym (h.tells values meets)) refl
 
--- the flat problem with the clauses
-abbrev whole_flat : GroundState → Built → FlatState
-whole_flat g b = record { vars = b.vars; cons = b.cons ++ map (truth_con b.places) g.clauses }
+-- the flat problem with the constraints of the terms that have to be true
+abbrev whole_flat : Built → List FlatCon → FlatState
+whole_flat b tops = record { vars = b.vars; cons = b.cons ++ tops }
 
 abbrev map_of : GroundState → Built → MapState
 map_of g b = record { cells = b.cells; objective = goal_of b.places g.objective }
 
-truth_names : (g : GroundState) (b : Built) (t : ℕ) → IsNamed g b t → NamesBelow (length b.vars) (truth_con b.places t)
-unfolding con_variables kind_variables
-truth_names g b t h = All-cons (λ x. x < length b.vars) (place_of b.places t) [] h.within (All-nil (λ x. x < length b.vars))
+meets_part : (b : Built) (tops : List FlatCon) (values : List ℤ) → Meets (whole_flat b tops) values → Meets (flat_of b) values
+meets_part b tops values h = record { domains = h.domains; cons = all_left (λ con. IsTrue (con_holds values con)) b.cons tops h.cons }
 
-truth_small : (places : List ℕ) (t : ℕ) → HasSmallCoefficients (truth_con places t)
-unfolding kind_coefficients
-truth_small places t = All-nil IsWithinNumbers
-
-all_any : {A : Type 0} (P : A → Type 0) (xs : List A) → ((x : A) → P x) → All P xs
-all_any P xs f = λ i d l. f (slice_index_or xs i d)
-
-meets_part : (g : GroundState) (b : Built) (values : List ℤ) → Meets (whole_flat g b) values → Meets (flat_of b) values
-meets_part g b values h = record { domains = h.domains; cons = all_left (λ con. IsTrue (con_holds values con)) b.cons (map (truth_con b.places) g.clauses) h.cons }
-
-values_extend : (g : GroundState) (marks : List Bool) (b : Built) → IsBuilt g marks (length g.nodes) b → All (IsNamed g b) (named_terms g) → (cells : List ℤ) → IsGroundSolution g cells → IsMetBy (whole_flat g b) (map_of g b) cells
-values_extend g marks b h known cells s =
+values_extend : (g : GroundState) (asserted marks : List Bool) (b : Built) (tops : List FlatCon) → IsBuilt g marks (length g.nodes) b → AreMarks g asserted marks → HasTops g asserted b (length g.nodes) tops
+    → (cells : List ℤ) → IsGroundSolution g cells → IsMetBy (whole_flat b tops) (map_of g b) cells
+values_extend g asserted marks b tops h are top cells s =
     let old = h.extends cells s.cells in
-    let holds : (t : ℕ) → IsNamed g b t → term_value g.nodes cells t ≡ Some (pos 1) → IsTrue (con_holds old.values (truth_con b.places t)) =
-    λ t k e. truth_holds old.values b.places t ∙ is_one_of (number_at old.values (place_of b.places t))
-    (some_is (sym (k.tells old.values old.meets) ∙ ap (λ xs. term_value g.nodes xs t) old.gives ∙ e)) in
     record {
       values = old.values;
       meets = record {
         domains = old.meets.domains;
-        cons = All-append (λ con. IsTrue (con_holds old.values con)) b.cons (map (truth_con b.places) g.clauses) old.meets.cons
-            (All-map (λ con. IsTrue (con_holds old.values con)) (truth_con b.places) g.clauses
-            (both_all {P = IsNamed g b} {Q = λ t. term_value g.nodes cells t ≡ Some (pos 1)} {R = λ t. IsTrue (con_holds old.values (truth_con b.places t))} g.clauses holds (named_clauses g b known) s.clauses));
+        cons = All-append (λ con. IsTrue (con_holds old.values con)) b.cons tops old.meets.cons
+            (top.back old.values old.meets (λ t m. ap (λ xs. term_value g.nodes xs t) old.gives ∙ are.forced t m cells s.clauses));
       };
       gives = old.gives;
     }
 
-values_restrict : (g : GroundState) (marks : List Bool) (b : Built) → IsBuilt g marks (length g.nodes) b → All (IsNamed g b) (named_terms g) → (values : List ℤ) → Meets (whole_flat g b) values → IsGroundSolution g (numbers_at values b.cells)
-unfolding HasObjective
-values_restrict g marks b h known values meets =
-    let part = meets_part g b values meets in
+values_restrict : (g : GroundState) (asserted marks : List Bool) (b : Built) (tops : List FlatCon) → IsBuilt g marks (length g.nodes) b → AreMarks g asserted marks → IsWellFormed g → HasTops g asserted b (length g.nodes) tops
+    → All (IsNamed g b) (goal_terms g) → (values : List ℤ) → Meets (whole_flat b tops) values → IsGroundSolution g (numbers_at values b.cells)
+unfolding HasObjective named_terms
+values_restrict g asserted marks b tops h are formed top known values meets =
+    let part = meets_part b tops values meets in
+    let goals = option_to_list (option_map (λ goal. goal.1) g.objective) in
     record {
       cells = cells_of g.cells b.cells b.vars values meets.domains h.cells h.domains;
-      clauses = both_all {P = IsNamed g b} {Q = λ t. IsTrue (con_holds values (truth_con b.places t))} {R = λ t. term_value g.nodes (numbers_at values b.cells) t ≡ Some (pos 1)} g.clauses
-          (λ t k e. k.tells values part ∙ ap (λ n. Some n) (one_is (number_at values (place_of b.places t)) (sym (truth_holds values b.places t) ∙ e)))
-          (named_clauses g b known)
-          (all_of_map (λ con. IsTrue (con_holds values con)) (truth_con b.places) g.clauses (all_right (λ con. IsTrue (con_holds values con)) b.cons (map (truth_con b.places) g.clauses) meets.cons));
+      clauses = both_all {P = IsMarked asserted} {Q = λ t. t < length g.nodes} {R = λ t. term_value g.nodes (numbers_at values b.cells) t ≡ Some (pos 1)} g.clauses
+          (λ t m l. top.forth values part (all_right (λ con. IsTrue (con_holds values con)) b.cons tops meets.cons) t l m)
+          are.clauses (all_left (λ t. t < length g.nodes) g.clauses goals formed.terms);
       objective = goal_there g b values g.objective part (named_goal g b known);
     }
 
-stands_whole : (g : GroundState) (marks : List Bool) (b : Built) → IsBuilt g marks (length g.nodes) b → AreMarks g marks → IsWellFormed g → StandsFor g (whole_flat g b) (map_of g b)
+stands_whole : (g : GroundState) (asserted marks : List Bool) (b : Built) (tops : List FlatCon) → IsBuilt g marks (length g.nodes) b → AreMarks g asserted marks → IsWellFormed g → HasTops g asserted b (length g.nodes) tops
+    → StandsFor g (whole_flat b tops) (map_of g b)
 unfolding objective_number ground_objective
-stands_whole g marks b h are formed =
-    let known = named g marks b h are formed in
+stands_whole g asserted marks b tops h are formed top =
+    let known = named g asserted marks b h are formed in
     record {
       is_sound = record {
-        names = All-append (NamesBelow (length b.vars)) b.cons (map (truth_con b.places) g.clauses) h.sound.names
-            (All-map (NamesBelow (length b.vars)) (truth_con b.places) g.clauses (All-weaker (IsNamed g b) (λ t. NamesBelow (length b.vars) (truth_con b.places t)) (truth_names g b) g.clauses (named_clauses g b known)));
+        names = All-append (NamesBelow (length b.vars)) b.cons tops h.sound.names top.names;
         numbers = h.sound.numbers;
-        coefficients = All-append HasSmallCoefficients b.cons (map (truth_con b.places) g.clauses) h.sound.coefficients
-            (All-map HasSmallCoefficients (truth_con b.places) g.clauses (all_any (λ t. HasSmallCoefficients (truth_con b.places t)) g.clauses (truth_small b.places)));
+        coefficients = All-append HasSmallCoefficients b.cons tops h.sound.coefficients top.small;
       };
       is_map = record {
         maps = record { cells = h.cells; domains = h.domains; objective = goal_within g b g.objective (named_goal g b known) };
         senses = goal_sense b.places g.objective;
       };
-      extends = values_extend g marks b h known;
-      restricts = values_restrict g marks b h known;
-      objective = λ values meets. goal_number g b values g.objective (meets_part g b values meets) (named_goal g b known);
+      extends = values_extend g asserted marks b tops h are top;
+      restricts = values_restrict g asserted marks b tops h are formed top known;
+      objective = λ values meets. goal_number g b values g.objective (meets_part b tops values meets) (named_goal g b known);
     }
 
 -- the same, where the constraints and the map are known to be these
-pub stands : (g : GroundState) (marks : List Bool) (b : Built) (cons : List FlatCon) (goal : Option (Sense × ℕ)) → IsBuilt g marks (length g.nodes) b → AreMarks g marks → IsWellFormed g
-    → cons ≡ b.cons ++ map (truth_con b.places) g.clauses → goal ≡ option_map (λ goal. (goal.0, place_of b.places goal.1)) g.objective
+pub stands : (g : GroundState) (asserted marks : List Bool) (b : Built) (tops cons : List FlatCon) (goal : Option (Sense × ℕ)) → IsBuilt g marks (length g.nodes) b → AreMarks g asserted marks → IsWellFormed g
+    → HasTops g asserted b (length g.nodes) tops → cons ≡ b.cons ++ tops → goal ≡ option_map (λ goal. (goal.0, place_of b.places goal.1)) g.objective
     → StandsFor g (record { vars = b.vars; cons = cons }) (record { cells = b.cells; objective = goal })
-stands g marks b cons goal h are formed e f =
+stands g asserted marks b tops cons goal h are formed top e f =
     subst (λ cs. StandsFor g (record { vars = b.vars; cons = cs }) (record { cells = b.cells; objective = goal })) (sym e)
-    (subst (λ o. StandsFor g (whole_flat g b) (record { cells = b.cells; objective = o })) (sym f) (stands_whole g marks b h are formed))
+    (subst (λ o. StandsFor g (whole_flat b tops) (record { cells = b.cells; objective = o })) (sym f) (stands_whole g asserted marks b tops h are formed top))
 
 -- ---- the beginning
 
@@ -254,7 +216,3 @@ cells_more cells vars new k one domain l is was same e =
 
 pub cells_count : (cells : List Cell) (vars : List (List ℤ)) (k : ℕ) → k ≤ length cells → vars ≡ map (λ c. c.values) (take k cells) → length vars ≡ k
 cells_count cells vars k l e = ap length e ∙ length-map (take k cells) (λ c. c.values) ∙ length-take-le k cells l
-
-pub clauses_more : (f : ℕ → FlatCon) (start before after : List FlatCon) (ts : List ℕ) (i r : ℕ) (con : FlatCon) → i < length ts → r ≡ get_or ts i r → before ≡ start ++ map f (take i ts) → con ≡ f r → after ≡ before ++ con ∷ [] → after ≡ start ++ map f (take (i + 1) ts)
-clauses_more f start before after ts i r con l is was same e =
-    e ∙ ap (λ b. b ++ con ∷ []) was ∙ ap (λ x. (start ++ map f (take i ts)) ++ x ∷ []) (same ∙ ap f is) ∙ append_assoc start (map f (take i ts)) (f (get_or ts i r) ∷ []) ∙ ap (λ cs. start ++ cs) (sym (map_more f ts i r l))

@@ -1,17 +1,18 @@
 -- A flat problem that stands for a ground's terms so far: what is built, and what is known of it.
-use Rattle.std.specs.Prelude.{◌≡◌, ℕ, ◌+◌, ◌<◌, ℤ, pos, Bool, true, false, List, [], ◌∷◌, length, map, Some, None, slice_get, slice_index_or}
+use Rattle.std.specs.Prelude.{◌≡◌, ℕ, ◌+◌, ◌<◌, ℤ, pos, Bool, true, false, IsTrue, List, [], ◌∷◌, length, map, Some, None, option_map, option_to_list, slice_get, slice_index_or}
 use Rattle.std.specs.List.{All, Contains}
 use Rattle.ep_base.specs.Intervals.{Interval, LiesIn, from_to, only}
 use Rattle.ep_base.specs.Reads.{IsWithinNumbers}
-use Rattle.ep_flat.specs.Cons.{FlatCon, clause, number_at, numbers_at}
-use Rattle.ep_flat.specs.Flats.{FlatState, IsSoundFlat, Meets}
+use Rattle.ep_flat.specs.Cons.{FlatCon, clause, con_holds, number_at, numbers_at}
+use Rattle.ep_flat.specs.Flats.{FlatState, HasSmallCoefficients, IsSoundFlat, Meets, NamesBelow}
 use Rattle.ep_flat.specs.FlatViews.{plain_con}
 use Rattle.ep_flatten.specs.Saying.{place_of}
+use Rattle.ep_flatten.specs.Tops.{asserts_of, needs_of}
 use Rattle.ep_flatten.specs.declared.building.Building.{Building}
 use Rattle.ep_flatten.specs.declared.intervals.WideSpan.{WideSpan}
 use Rattle.ep_flatten.specs.declared.intervals.Span.{Span}
 use Rattle.ep_ground.specs.Bounds.{IsBounded, IsWithinReach, node_reach}
-use Rattle.ep_ground.specs.Grounds.{AreCellValues, GroundState, IsReached, StandsOver, named_terms}
+use Rattle.ep_ground.specs.Grounds.{AreCellValues, GroundState, IsReached, StandsOver}
 use Rattle.ep_ground.specs.Nodes.{GroundNode, compare, lex, member, negation, all_of, any_of, same_truth, all_different, counts, at_least, at_most, table, parts_of}
 use Rattle.ep_ground.specs.Terms.{term_value}
 use Rattle.ep_ground.specs.declared.cells.Cell.{Cell}
@@ -20,10 +21,24 @@ use Rattle.ep_ground.specs.declared.cells.Cell.{Cell}
 abbrev pub IsMarked : List Bool → ℕ → Type 0
 IsMarked marks t = slice_index_or marks t false ≡ true
 
--- The terms that a ground names are marked, with each term the parts of its node, and no other term is.
-pub record AreMarks (g : GroundState) (marks : List Bool) : Type 0 where
-  pub named : All (IsMarked marks) (named_terms g)
+-- wherever the clauses of a ground are true, this term is
+abbrev pub IsForced : GroundState → ℕ → Type 0
+IsForced g t = (xs : List ℤ) → All (λ u. term_value g.nodes xs u ≡ Some (pos 1)) g.clauses → term_value g.nodes xs t ≡ Some (pos 1)
+
+-- the terms that a ground's objective names
+unfoldable pub goal_terms : GroundState → List ℕ
+goal_terms g = option_to_list (option_map (λ goal. goal.1) g.objective)
+
+-- The clauses are asserted, with each asserted term those that are true with it, and each asserted term is true where
+-- the clauses are. The objective's term is marked, with each asserted term those that need variables for it, with each
+-- marked term the parts of its node. The ground leads to all of them.
+pub record AreMarks (g : GroundState) (asserted marks : List Bool) : Type 0 where
+  pub clauses : All (IsMarked asserted) g.clauses
+  pub goal : All (IsMarked marks) (goal_terms g)
+  pub wholes : (t : ℕ) (node : GroundNode) → slice_get g.nodes t ≡ Some node → IsMarked asserted t → All (IsMarked asserted) (asserts_of node)
+  pub tops : (t : ℕ) (node : GroundNode) → slice_get g.nodes t ≡ Some node → IsMarked asserted t → All (IsMarked marks) (needs_of t node (parts_of node))
   pub closed : (t : ℕ) (node : GroundNode) → slice_get g.nodes t ≡ Some node → IsMarked marks t → All (IsMarked marks) (parts_of node)
+  pub forced : (t : ℕ) → IsMarked asserted t → IsForced g t
   pub reached : (t : ℕ) → IsMarked marks t → IsReached g t
 
 -- the interval of a term, and [0, 0] of one that has none
@@ -73,6 +88,14 @@ pub record IsBuilt (g : GroundState) (marks : List Bool) (count : ℕ) (b : Buil
   pub extends : (xs : List ℤ) → AreCellValues g.cells xs → Extends (flat_of b) b.cells xs
   pub tells : (values : List ℤ) → Meets (flat_of b) values → (t : ℕ) → t < count → IsMarked marks t → term_value g.nodes (numbers_at values b.cells) t ≡ Some (number_at values (place_of b.places t))
   pub ends : (xs : List ℤ) → AreCellValues g.cells xs → (t : ℕ) → t < count → IsMarked marks t → (n : ℤ) → term_value g.nodes xs t ≡ Some n → LiesIn n (span_at b.spans t)
+
+-- Constraints that hold exactly where each asserted one of the first terms is true: they say so of the numbers that meet
+-- what is built.
+pub record HasTops (g : GroundState) (asserted : List Bool) (b : Built) (count : ℕ) (tops : List FlatCon) : Type 0 where
+  pub names : All (NamesBelow (length b.vars)) tops
+  pub small : All HasSmallCoefficients tops
+  pub forth : (values : List ℤ) → Meets (flat_of b) values → All (λ con. IsTrue (con_holds values con)) tops → (t : ℕ) → t < count → IsMarked asserted t → term_value g.nodes (numbers_at values b.cells) t ≡ Some (pos 1)
+  pub back : (values : List ℤ) → Meets (flat_of b) values → ((t : ℕ) → IsMarked asserted t → term_value g.nodes (numbers_at values b.cells) t ≡ Some (pos 1)) → All (λ con. IsTrue (con_holds values con)) tops
 
 -- what is known of a marked term's node
 pub record IsTermOf (g : GroundState) (marks : List Bool) (t : ℕ) (node : GroundNode) : Type 0 where

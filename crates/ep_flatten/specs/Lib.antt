@@ -1,5 +1,6 @@
 pub mod Flattening
 pub mod Saying
+pub mod Tops
 pub mod Building
 pub mod Marking
 pub mod RunEnds

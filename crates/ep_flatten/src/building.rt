@@ -12,6 +12,7 @@ ghost use Rattle.ep_ground.specs.Nodes.{constant, cell};
 
 use crate::constraints::constraint;
 use crate::intervals::{Span, clamped, span_of_set, widened};
+use crate::marks::{Marks, is_marked};
 use crate::spans::span_of;
 use ep_base::{Memory, Run, Runs};
 use ep_flat::Con;
@@ -37,20 +38,19 @@ pub struct Building {
 pub fn add_term(
     alloc: Global,
     g: &Ground,
-    marks: &[bool],
+    marks: &Marks,
     made: &mut Building,
     term: Term,
 ) -> Result<(), Memory>
     requires term { term < length (plain_ground g.now).nodes }
-    requires long { length marks.now ≡ length (plain_ground g.now).nodes }
     requires well_formed { IsWellFormed (plain_ground g.now) }
     requires bounded { IsBounded (plain_ground g.now) }
-    requires marks { AreMarks (plain_ground g.now) marks.now }
-    requires built { IsBuilt (plain_ground g.now) marks.now term (plain_built made.old) }
+    requires marks { AreMarks (plain_ground g.now) marks.now.asserted.items marks.now.marked.items }
+    requires built { IsBuilt (plain_ground g.now) marks.now.marked.items term (plain_built made.old) }
     ensures { OnOk result
-        (IsBuilt (plain_ground g.now) marks.now (term + 1) (plain_built made.new)) }
+        (IsBuilt (plain_ground g.now) marks.now.marked.items (term + 1) (plain_built made.new)) }
 {
-    if !marks[term.number() as usize] {
+    if !is_marked(&marks.marked, term) {
         return note(made, 0, Span { low: 0, high: 0 });
     }
     add_node(alloc, made, g.arena.node(term))

@@ -2,8 +2,9 @@
 
 ghost use Rattle.std.specs.Prelude.{◌≡◌, ◌<◌, length, neg_ℤ, IfOk};
 ghost use Rattle.ep_base.specs.declared.operators.CompareOp.{CompareOp};
-ghost use Rattle.ep_flat.specs.FlatViews.{plain_con};
+ghost use Rattle.ep_flat.specs.FlatViews.{plain_con, plain_kind};
 ghost use Rattle.ep_flatten.specs.Saying.{HasParts, Says};
+ghost use Rattle.ep_flatten.specs.Tops.{Tells};
 ghost use Rattle.ep_ground.specs.NodeViews.{plain_node};
 ghost use Rattle.ep_ground.specs.Nodes as nodes;
 
@@ -32,24 +33,34 @@ pub fn constraint(alloc: Global, places: &[u64], node: &Node, variable: u64) -> 
         Node::SafePick(parts, keys, indices) => {
             pick(alloc, places, parts, keys, indices, variable)
         }
-        Node::Compare(op, one, other) => compare(alloc, places, *op, *one, *other, variable),
-        Node::Lex(op, parts, others) => lex(alloc, places, *op, parts, others, variable),
-        Node::Member(part, numbers) => member(alloc, places, *part, numbers, variable),
-        Node::Not(part) => negation(alloc, places, *part, variable),
-        Node::And(parts) => all_of(alloc, places, parts, variable),
-        Node::Or(parts) => any_of(alloc, places, parts, variable),
-        Node::Iff(one, other) => Ok(same_truth(places, *one, *other, variable)),
-        Node::AllDiff(parts) => all_different(alloc, places, parts, variable),
-        Node::Gcc(parts, numbers, counts) => {
-            count(alloc, places, parts, numbers, counts, variable)
+        _ => {
+            let kind = truth_kind(alloc, places, node)?;
+            Ok(Con {
+                truth: Some(variable),
+                kind,
+            })
         }
-        Node::AtLeast(parts, counts, numbers) => {
-            at_least(alloc, places, parts, counts, numbers, variable)
-        }
-        Node::AtMost(parts, counts, numbers) => {
-            at_most(alloc, places, parts, counts, numbers, variable)
-        }
-        Node::Table(parts, rows) => table(alloc, places, parts, rows, variable),
+    }
+}
+
+/// The kind of constraint that holds exactly where a truth value is 1. The terms' variables are
+/// `places`. Other nodes have none.
+pub fn truth_kind(alloc: Global, places: &[u64], node: &Node) -> Result<ConKind, Memory>
+    ensures { IfOk result (λ kind. Tells places.now (plain_node node.now) (plain_kind kind)) }
+{
+    match node {
+        Node::Compare(op, one, other) => compare(alloc, places, *op, *one, *other),
+        Node::Lex(op, parts, others) => lex(alloc, places, *op, parts, others),
+        Node::Member(part, numbers) => member(alloc, places, *part, numbers),
+        Node::Not(part) => negation(alloc, places, *part),
+        Node::And(parts) => all_of(alloc, places, parts),
+        Node::Or(parts) => any_of(alloc, places, parts),
+        Node::Iff(one, other) => Ok(same_truth(places, *one, *other)),
+        Node::AllDiff(parts) => all_different(alloc, places, parts),
+        Node::Gcc(parts, numbers, counts) => { count(alloc, places, parts, numbers, counts) }
+        Node::AtLeast(parts, counts, numbers) => { at_least(alloc, places, parts, counts, numbers) }
+        Node::AtMost(parts, counts, numbers) => { at_most(alloc, places, parts, counts, numbers) }
+        Node::Table(parts, rows) => table(alloc, places, parts, rows),
         _ => Err(Memory),
     }
 }
@@ -166,18 +177,13 @@ fn compare(
     op: CompareOp,
     one: Term,
     other: Term,
-    variable: u64,
-) -> Result<Con, Memory>
-    ensures { IfOk result (λ con. Says places.now (nodes.compare op one other) variable (plain_con con)) }
+) -> Result<ConKind, Memory>
+    ensures { IfOk result (λ kind. Tells places.now (nodes.compare op one other) (plain_kind kind)) }
 {
     let mut placed = Vec::new(alloc);
     placed.push((1, place_at(places, one)))?;
     placed.push((-1, place_at(places, other)))?;
-    let kind = ConKind::Linear(placed, op, 0);
-    Ok(Con {
-        truth: Some(variable),
-        kind,
-    })
+    Ok(ConKind::Linear(placed, op, 0))
 }
 
 /// Whether two lists of terms compare so.
@@ -187,100 +193,60 @@ fn lex(
     op: LexOp,
     parts: &[Term],
     others: &[Term],
-    variable: u64,
-) -> Result<Con, Memory>
-    ensures { IfOk result (λ con. Says places.now (nodes.lex op parts.now others.now) variable (plain_con con)) }
+) -> Result<ConKind, Memory>
+    ensures { IfOk result (λ kind. Tells places.now (nodes.lex op parts.now others.now) (plain_kind kind)) }
 {
     let placed = places_of(alloc, places, parts)?;
     let behind = places_of(alloc, places, others)?;
-    let kind = ConKind::Lex(op, placed, behind);
-    Ok(Con {
-        truth: Some(variable),
-        kind,
-    })
+    Ok(ConKind::Lex(op, placed, behind))
 }
 
 /// Whether a term is one of these numbers.
-fn member(
-    alloc: Global,
-    places: &[u64],
-    part: Term,
-    numbers: &Runs,
-    variable: u64,
-) -> Result<Con, Memory>
-    ensures { IfOk result (λ con. Says places.now (nodes.member part numbers.now) variable (plain_con con)) }
+fn member(alloc: Global, places: &[u64], part: Term, numbers: &Runs) -> Result<ConKind, Memory>
+    ensures { IfOk result (λ kind. Tells places.now (nodes.member part numbers.now) (plain_kind kind)) }
 {
     let set = numbers.copy(alloc)?;
-    let kind = ConKind::Member(place_at(places, part), set);
-    Ok(Con {
-        truth: Some(variable),
-        kind,
-    })
+    Ok(ConKind::Member(place_at(places, part), set))
 }
 
 /// Whether a term isn't true.
-fn negation(alloc: Global, places: &[u64], part: Term, variable: u64) -> Result<Con, Memory>
-    ensures { IfOk result (λ con. Says places.now (nodes.negation part) variable (plain_con con)) }
+fn negation(alloc: Global, places: &[u64], part: Term) -> Result<ConKind, Memory>
+    ensures { IfOk result (λ kind. Tells places.now (nodes.negation part) (plain_kind kind)) }
 {
     let mut literals = Vec::new(alloc);
     literals.push((false, place_at(places, part)))?;
-    let kind = ConKind::Clause(literals);
-    Ok(Con {
-        truth: Some(variable),
-        kind,
-    })
+    Ok(ConKind::Clause(literals))
 }
 
 /// Whether all terms are true.
-fn all_of(alloc: Global, places: &[u64], parts: &[Term], variable: u64) -> Result<Con, Memory>
-    ensures { IfOk result (λ con. Says places.now (nodes.all_of parts.now) variable (plain_con con)) }
+fn all_of(alloc: Global, places: &[u64], parts: &[Term]) -> Result<ConKind, Memory>
+    ensures { IfOk result (λ kind. Tells places.now (nodes.all_of parts.now) (plain_kind kind)) }
 {
     let placed = places_of(alloc, places, parts)?;
-    let kind = ConKind::All(placed);
-    Ok(Con {
-        truth: Some(variable),
-        kind,
-    })
+    Ok(ConKind::All(placed))
 }
 
 /// Whether one of some terms is true.
-fn any_of(alloc: Global, places: &[u64], parts: &[Term], variable: u64) -> Result<Con, Memory>
-    ensures { IfOk result (λ con. Says places.now (nodes.any_of parts.now) variable (plain_con con)) }
+fn any_of(alloc: Global, places: &[u64], parts: &[Term]) -> Result<ConKind, Memory>
+    ensures { IfOk result (λ kind. Tells places.now (nodes.any_of parts.now) (plain_kind kind)) }
 {
     let literals = literals_of(alloc, places, parts)?;
-    let kind = ConKind::Clause(literals);
-    Ok(Con {
-        truth: Some(variable),
-        kind,
-    })
+    Ok(ConKind::Clause(literals))
 }
 
 /// Whether both terms are true or neither is.
-fn same_truth(places: &[u64], one: Term, other: Term, variable: u64) -> Con
-    ensures { Says places.now (nodes.same_truth one other) variable (plain_con result) }
+fn same_truth(places: &[u64], one: Term, other: Term) -> ConKind
+    ensures { Tells places.now (nodes.same_truth one other) (plain_kind result) }
 {
-    let kind = ConKind::Same(place_at(places, one), place_at(places, other));
-    Con {
-        truth: Some(variable),
-        kind,
-    }
+    ConKind::Same(place_at(places, one), place_at(places, other))
 }
 
 /// Whether no two terms are equal.
-fn all_different(
-    alloc: Global,
-    places: &[u64],
-    parts: &[Term],
-    variable: u64,
-) -> Result<Con, Memory>
-    ensures { IfOk result (λ con. Says places.now (nodes.all_different parts.now) variable (plain_con con)) }
+fn all_different(alloc: Global, places: &[u64], parts: &[Term]) -> Result<ConKind, Memory>
+    ensures { IfOk result (λ kind. Tells places.now (nodes.all_different parts.now) (plain_kind kind)) }
 {
     let placed = places_of(alloc, places, parts)?;
-    let kind = ConKind::AllDiff(placed);
-    Ok(Con {
-        truth: Some(variable),
-        kind,
-    })
+    Ok(ConKind::AllDiff(placed))
 }
 
 /// Whether numbers stand among terms as often as their counts say.
@@ -290,18 +256,13 @@ fn count(
     parts: &[Term],
     numbers: &[i64],
     counts: &[Term],
-    variable: u64,
-) -> Result<Con, Memory>
-    ensures { IfOk result (λ con. Says places.now (nodes.counts parts.now numbers.now counts.now) variable (plain_con con)) }
+) -> Result<ConKind, Memory>
+    ensures { IfOk result (λ kind. Tells places.now (nodes.counts parts.now numbers.now counts.now) (plain_kind kind)) }
 {
     let placed = places_of(alloc, places, parts)?;
     let numbers = Vec::from_slice(alloc, numbers)?;
     let often = places_of(alloc, places, counts)?;
-    let kind = ConKind::Gcc(placed, numbers, often);
-    Ok(Con {
-        truth: Some(variable),
-        kind,
-    })
+    Ok(ConKind::Gcc(placed, numbers, often))
 }
 
 /// Whether numbers stand among terms at least as often as their counts say.
@@ -311,18 +272,13 @@ fn at_least(
     parts: &[Term],
     counts: &[i64],
     numbers: &[i64],
-    variable: u64,
-) -> Result<Con, Memory>
-    ensures { IfOk result (λ con. Says places.now (nodes.at_least parts.now counts.now numbers.now) variable (plain_con con)) }
+) -> Result<ConKind, Memory>
+    ensures { IfOk result (λ kind. Tells places.now (nodes.at_least parts.now counts.now numbers.now) (plain_kind kind)) }
 {
     let placed = places_of(alloc, places, parts)?;
     let counts = Vec::from_slice(alloc, counts)?;
     let numbers = Vec::from_slice(alloc, numbers)?;
-    let kind = ConKind::AtLeast(placed, counts, numbers);
-    Ok(Con {
-        truth: Some(variable),
-        kind,
-    })
+    Ok(ConKind::AtLeast(placed, counts, numbers))
 }
 
 /// Whether numbers stand among terms at most as often as their counts say.
@@ -332,35 +288,20 @@ fn at_most(
     parts: &[Term],
     counts: &[i64],
     numbers: &[i64],
-    variable: u64,
-) -> Result<Con, Memory>
-    ensures { IfOk result (λ con. Says places.now (nodes.at_most parts.now counts.now numbers.now) variable (plain_con con)) }
+) -> Result<ConKind, Memory>
+    ensures { IfOk result (λ kind. Tells places.now (nodes.at_most parts.now counts.now numbers.now) (plain_kind kind)) }
 {
     let placed = places_of(alloc, places, parts)?;
     let counts = Vec::from_slice(alloc, counts)?;
     let numbers = Vec::from_slice(alloc, numbers)?;
-    let kind = ConKind::AtMost(placed, counts, numbers);
-    Ok(Con {
-        truth: Some(variable),
-        kind,
-    })
+    Ok(ConKind::AtMost(placed, counts, numbers))
 }
 
 /// Whether terms are one of some rows.
-fn table(
-    alloc: Global,
-    places: &[u64],
-    parts: &[Term],
-    rows: &[Key],
-    variable: u64,
-) -> Result<Con, Memory>
-    ensures { IfOk result (λ con. Says places.now (nodes.table parts.now rows.now) variable (plain_con con)) }
+fn table(alloc: Global, places: &[u64], parts: &[Term], rows: &[Key]) -> Result<ConKind, Memory>
+    ensures { IfOk result (λ kind. Tells places.now (nodes.table parts.now rows.now) (plain_kind kind)) }
 {
     let placed = places_of(alloc, places, parts)?;
     let rows = copied_keys(alloc, rows)?;
-    let kind = ConKind::Table(placed, rows);
-    Ok(Con {
-        truth: Some(variable),
-        kind,
-    })
+    Ok(ConKind::Table(placed, rows))
 }

@@ -3,23 +3,25 @@
 ghost use Rattle.std.specs.Prelude.{◌≡◌, ◌++◌, ◌<◌, List, Bool, length, map, option_map, IfOk, OnOk};
 ghost use Rattle.std.specs.List.{All};
 ghost use Rattle.ep_flat.specs.FlatViews.{plain_con, plain_flat, plain_map};
-ghost use Rattle.ep_flatten.specs.Building.{AreMarks, IsBuilt, plain_built, truth_con};
+ghost use Rattle.ep_flatten.specs.Building.{AreMarks, IsBuilt, plain_built};
 ghost use Rattle.ep_flatten.specs.Flattening.{StandsFor};
 ghost use Rattle.ep_flatten.specs.Saying.{place_of};
 ghost use Rattle.ep_ground.specs.Bounds.{IsBounded};
 ghost use Rattle.ep_ground.specs.Grounds.{HasNoPartialNode, IsWellFormed};
 ghost use Rattle.ep_ground.specs.GroundViews.{plain_ground};
 
+use crate::asserting::tops_of;
 use crate::building::{Building, add_term};
 use crate::lists::place_at;
-use crate::marks::marks_of;
+use crate::marks::{Marks, marks_of};
 use ep_base::{Memory, Sense};
-use ep_flat::{CellMap, Con, ConKind, Flat};
+use ep_flat::{CellMap, Flat};
 use ep_ground::{Ground, Term};
 use std::alloc::Global;
 
 /// A flat problem that stands for the ground, and the variables of its cells and its objective.
-/// One variable and one constraint for each node that the clauses and the objective lead to.
+/// A term that has to be true is a constraint on its parts. One variable and one constraint for each
+/// other node to which these and the objective lead.
 pub fn flatten(alloc: Global, g: &Ground) -> Result<(Flat, CellMap), Memory>
     requires no_partial { HasNoPartialNode (plain_ground g.now) }
     requires well_formed { IsWellFormed (plain_ground g.now) }
@@ -29,7 +31,8 @@ pub fn flatten(alloc: Global, g: &Ground) -> Result<(Flat, CellMap), Memory>
 {
     let marks = marks_of(alloc, g)?;
     let mut made = built(alloc, g, &marks)?;
-    add_clauses(alloc, &mut made.cons, &made.places, &g.clauses)?;
+    let mut tops = tops_of(alloc, g, &marks, &made)?;
+    made.cons.append(&mut tops)?;
     let objective = placed_goal(&made.places, &g.objective);
     let Building {
         vars,
@@ -41,13 +44,12 @@ pub fn flatten(alloc: Global, g: &Ground) -> Result<(Flat, CellMap), Memory>
 }
 
 /// Variables and constraints for the marked terms.
-fn built(alloc: Global, g: &Ground, marks: &[bool]) -> Result<Building, Memory>
-    requires long { length marks.now ≡ length (plain_ground g.now).nodes }
+fn built(alloc: Global, g: &Ground, marks: &Marks) -> Result<Building, Memory>
     requires well_formed { IsWellFormed (plain_ground g.now) }
     requires bounded { IsBounded (plain_ground g.now) }
-    requires marks { AreMarks (plain_ground g.now) marks.now }
+    requires marks { AreMarks (plain_ground g.now) marks.now.asserted.items marks.now.marked.items }
     ensures { IfOk result (λ made.
-        IsBuilt (plain_ground g.now) marks.now (length (plain_ground g.now).nodes) (plain_built made)) }
+        IsBuilt (plain_ground g.now) marks.now.marked.items (length (plain_ground g.now).nodes) (plain_built made)) }
 {
     let mut made = begun(alloc, g)?;
     for term in 0..g.arena.len() {
@@ -75,32 +77,6 @@ fn begun(alloc: Global, g: &Ground) -> Result<Building, Memory>
         spans: Vec::new(alloc),
         cells,
     })
-}
-
-/// Adds for each term the clause that it is true.
-fn add_clauses(
-    alloc: Global,
-    cons: &mut Vec<Con>,
-    places: &[u64],
-    clauses: &[Term],
-) -> Result<(), Memory>
-    ensures { OnOk result (map plain_con cons.new.items
-        ≡ map plain_con cons.old.items ++ map (truth_con places.now) clauses.now) }
-{
-    for term in clauses {
-        cons.push(truth_of(alloc, places, *term)?)?;
-    }
-    Ok(())
-}
-
-/// The clause that a term is true.
-fn truth_of(alloc: Global, places: &[u64], term: Term) -> Result<Con, Memory>
-    ensures { IfOk result (λ con. plain_con con ≡ truth_con places.now term) }
-{
-    let mut literals = Vec::new(alloc);
-    literals.push((true, place_at(places, term)))?;
-    let kind = ConKind::Clause(literals);
-    Ok(Con { truth: None, kind })
 }
 
 /// The variable of the objective's term, where there is one.

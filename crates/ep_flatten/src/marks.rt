@@ -1,55 +1,110 @@
-//! Which terms the clauses and the objective of a ground lead to.
+//! Which terms of a ground have to be true, and which need variables.
 
-ghost use Rattle.std.specs.Prelude.{◌≡◌, ◌+◌, ◌<◌, ◌++◌, ◌∷◌, length, map, true, slice_set, option_map, option_to_list, IfOk};
+ghost use Rattle.std.specs.Prelude.{◌≡◌, ◌+◌, ◌<◌, ◌++◌, ◌∷◌, length, map, false, true, slice_index_or, slice_set, option_map, option_to_list, IfOk};
 ghost use Rattle.std.specs.List.{All};
 ghost use Rattle.ep_flatten.specs.Building.{AreMarks};
 ghost use Rattle.ep_flatten.specs.Marking.{AreMarksFrom, marked};
-ghost use Rattle.ep_ground.specs.Grounds.{IsWellFormed, named_terms};
+ghost use Rattle.ep_flatten.specs.Tops.{asserts_of, needs_of};
+ghost use Rattle.ep_ground.specs.Grounds.{IsWellFormed};
 ghost use Rattle.ep_ground.specs.GroundViews.{plain_ground};
 ghost use Rattle.ep_ground.specs.NodeViews.{plain_node};
 ghost use Rattle.ep_ground.specs.Nodes.{parts_of};
 
+use crate::kinds::is_test;
 use ep_base::{Memory, Sense};
 use ep_ground::{Ground, Node, Term};
 use std::alloc::Global;
 
-/// Marks the terms that the clauses and the objective lead to. One pass from the last term to the
-/// first, since the parts of a node stand before it.
-pub fn marks_of(alloc: Global, g: &Ground) -> Result<Vec<bool>, Memory>
+/// For each term whether it has to be true, and whether it needs a variable.
+#[derive(Drop)]
+pub struct Marks {
+    /// Which terms have to be true.
+    pub asserted: Vec<bool>,
+    /// Which terms need variables.
+    pub marked: Vec<bool>,
+}
+
+/// Marks the terms that have to be true for the clauses, and those that need variables for these
+/// and for the objective. One pass from the last term to the first, since the parts of a node stand
+/// before it.
+pub fn marks_of(alloc: Global, g: &Ground) -> Result<Marks, Memory>
     requires { IsWellFormed (plain_ground g.now) }
-    ensures marks { IfOk result (λ marks. AreMarks (plain_ground g.now) marks.items) }
-    ensures long { IfOk result (λ marks. length marks.items ≡ length (plain_ground g.now).nodes) }
+    ensures { IfOk result (λ marks. AreMarks (plain_ground g.now) marks.asserted.items marks.marked.items) }
 {
     let mut marks = named_marks(alloc, g)?;
     let mut term = g.arena.len();
     while term > 0 {
         term -= 1;
+        assert_node(&mut marks, g, Term::new(term as u32));
         mark_node(&mut marks, g, Term::new(term as u32));
     }
     Ok(marks)
 }
 
-/// Marks the parts of a term's node, where the term is marked.
-fn mark_node(marks: &mut Vec<bool>, g: &Ground, term: Term)
+/// Marks what a term needs where it has to be true.
+fn assert_node(marks: &mut Marks, g: &Ground, term: Term)
     requires term { term < length (plain_ground g.now).nodes }
-    requires marks { AreMarksFrom (plain_ground g.now) (term + 1) marks.old.items }
-    ensures { AreMarksFrom (plain_ground g.now) term marks.new.items }
+    requires marks { AreMarksFrom (plain_ground g.now) (term + 1) (term + 1) marks.old.asserted.items marks.old.marked.items }
+    ensures { AreMarksFrom (plain_ground g.now) term (term + 1) marks.new.asserted.items marks.new.marked.items }
 {
-    if marks[term.number() as usize] {
-        mark_parts(marks, g.arena.node(term));
+    if is_marked(&marks.asserted, term) {
+        mark_tops(marks, term, g.arena.node(term));
     }
 }
 
-/// Marks the terms that the ground names.
-fn named_marks(alloc: Global, g: &Ground) -> Result<Vec<bool>, Memory>
+/// Marks the parts of a term's node, where the term is marked.
+fn mark_node(marks: &mut Marks, g: &Ground, term: Term)
+    requires term { term < length (plain_ground g.now).nodes }
+    requires marks { AreMarksFrom (plain_ground g.now) term (term + 1) marks.old.asserted.items marks.old.marked.items }
+    ensures { AreMarksFrom (plain_ground g.now) term term marks.new.asserted.items marks.new.marked.items }
+{
+    if is_marked(&marks.marked, term) {
+        mark_parts(&mut marks.marked, g.arena.node(term));
+    }
+}
+
+/// Whether a term is marked.
+pub fn is_marked(marks: &[bool], term: Term) -> bool
+    ensures { result ≡ slice_index_or marks.now term false }
+{
+    let place = term.number() as usize;
+    if place < marks.len() {
+        marks[place]
+    } else {
+        false
+    }
+}
+
+/// Marks the terms that the ground names: its clauses have to be true, and the objective's term
+/// needs a variable.
+fn named_marks(alloc: Global, g: &Ground) -> Result<Marks, Memory>
     requires { IsWellFormed (plain_ground g.now) }
     ensures { IfOk result (λ marks.
-        AreMarksFrom (plain_ground g.now) (length (plain_ground g.now).nodes) marks.items) }
+        AreMarksFrom (plain_ground g.now) (length (plain_ground g.now).nodes) (length (plain_ground g.now).nodes) marks.asserted.items marks.marked.items) }
 {
-    let mut marks = vec![in alloc; false; g.arena.len() as usize]?;
-    mark_all(&mut marks, &g.clauses);
-    mark_goal(&mut marks, &g.objective);
-    Ok(marks)
+    let mut asserted = vec![in alloc; false; g.arena.len() as usize]?;
+    let mut marked = vec![in alloc; false; g.arena.len() as usize]?;
+    mark_all(&mut asserted, &g.clauses);
+    mark_goal(&mut marked, &g.objective);
+    Ok(Marks { asserted, marked })
+}
+
+/// Marks what a term with this node needs where it has to be true: for a conjunction its parts have
+/// to be true, for another truth value its parts need variables, and for a number it does.
+#[tactic(auto, unfolding(crate::specs::Marking::marked, crate::specs::Tops::asserts_of, crate::specs::Tops::needs_of, crate::specs::Tops::is_all, crate::specs::Tops::is_test))]
+fn mark_tops(marks: &mut Marks, term: Term, node: &Node)
+    ensures asserted { marks.new.asserted.items ≡ marked marks.old.asserted.items (asserts_of (plain_node node.now)) }
+    ensures marked { marks.new.marked.items ≡ marked marks.old.marked.items (needs_of term (plain_node node.now) (parts_of (plain_node node.now))) }
+{
+    if is_test(node) {
+        mark_parts(&mut marks.marked, node);
+        return;
+    }
+    if let Node::And(parts) = node {
+        mark_all(&mut marks.asserted, parts);
+        return;
+    }
+    mark(&mut marks.marked, term);
 }
 
 /// Marks the objective's term, where there is one.

@@ -1,4 +1,4 @@
-use Rattle.std.proofs.Common.{subst, ap, ◌≡◌, ◌+◌, ℕ, false, [], ◌∷◌, ◌++◌, pos, length, get_or}
+use Rattle.std.proofs.Common.{sym, ap, ◌≡◌, ◌+◌, ◌∙◌, ℕ, [], ◌∷◌, ◌++◌, pos, length}
 use Rattle.std.specs.Prelude.{map}
 use Rattle.ep_base.specs.Intervals.{only}
 use Rattle.ep_flat.specs.FlatViews.{plain_con}
@@ -6,32 +6,33 @@ use Rattle.ep_ground.specs.NodeViews.{plain_node}
 use Rattle.ep_ground.specs.GroundViews.{plain_ground}
 use Rattle.ep_flatten.specs.Building.{IsMarked, interval_of, plain_built}
 use Rattle.ep_flatten.proofs.Growing.{skipped}
+use Rattle.ep_flatten.proofs.MarkedTerms.{marked_there}
 use Rattle.ep_flatten.proofs.Adding.{as_built, has_parts, on_ok_five, on_ok_then, spans_pushed, term_of}
 use Rattle.ep_flatten.proofs.building.add_term.Goals as goal
 
 pub add_node-requires : goal.add_node-requires
 add_node-requires c =
     let g = plain_ground c.args.g.now in
-    let here : IsMarked c.args.marks.now c.args.term = subst (λ (k : ℕ). IsMarked c.args.marks.now k) c.number.ensures c.if-not-marks-number.false in
+    let here : IsMarked c.args.marks.now.marked.items c.args.term = marked_there c.args.marks.now.marked.items c.deref.result.now c.args.term c.deref.ensures.value (sym c.is_marked.ensures ∙ c.if-not-is_marked.false) in
     has_parts (length g.cells) (plain_node c.node.result.now)
-    (term_of g c.args.marks.now c.args.term (plain_node c.node.result.now) c.requires.marks c.requires.well_formed here c.node.ensures.node c.node.ensures.parts).stands
+    (term_of g c.args.marks.now.asserted.items c.args.marks.now.marked.items c.args.term (plain_node c.node.result.now) c.requires.marks c.requires.well_formed here c.node.ensures.node c.node.ensures.parts).stands
 
 pub returns : goal.returns
 returns c =
     let g = plain_ground c.args.g.now in
-    let here : IsMarked c.args.marks.now c.args.term = subst (λ (k : ℕ). IsMarked c.args.marks.now k) c.number.ensures c.if-not-marks-number.false in
-    on_ok_then c.add_node.result c.add_node.ensures (λ advances. advances g c.args.marks.now c.args.term c.requires.built
-    (term_of g c.args.marks.now c.args.term (plain_node c.node.result.now) c.requires.marks c.requires.well_formed here c.node.ensures.node c.node.ensures.parts) c.requires.bounded)
+    let here : IsMarked c.args.marks.now.marked.items c.args.term = marked_there c.args.marks.now.marked.items c.deref.result.now c.args.term c.deref.ensures.value (sym c.is_marked.ensures ∙ c.if-not-is_marked.false) in
+    on_ok_then c.add_node.result c.add_node.ensures (λ advances. advances g c.args.marks.now.marked.items c.args.term c.requires.built
+    (term_of g c.args.marks.now.asserted.items c.args.marks.now.marked.items c.args.term (plain_node c.node.result.now) c.requires.marks c.requires.well_formed here c.node.ensures.node c.node.ensures.parts) c.requires.bounded)
 
-pub returns-then-not-marks-number : goal.returns-then-not-marks-number
-returns-then-not-marks-number c =
+pub returns-then-not-is_marked : goal.returns-then-not-is_marked
+returns-then-not-is_marked c =
     let g = plain_ground c.args.g.now in
     let old = c.args.made.now in
     let new = c.note.new.made in
-    let none = subst (λ (k : ℕ). get_or c.args.marks.now k false ≡ false) c.number.ensures c.if-not-marks-number.true in
+    let none = marked_there c.args.marks.now.marked.items c.deref.result.now c.args.term c.deref.ensures.value (sym c.is_marked.ensures ∙ c.if-not-is_marked.true) in
     on_ok_five c.note.result c.note.ensures.places c.note.ensures.spans c.note.ensures.vars c.note.ensures.cons c.note.ensures.cells
     (λ p s v k l.
-    as_built g c.args.marks.now (c.args.term + 1) new.vars.items old.vars.items (map plain_con new.cons.items) (map plain_con old.cons.items)
+    as_built g c.args.marks.now.marked.items (c.args.term + 1) new.vars.items old.vars.items (map plain_con new.cons.items) (map plain_con old.cons.items)
     new.places.items (old.places.items ++ 0 ∷ []) (map interval_of new.spans.items) (map interval_of old.spans.items ++ only (pos 0) ∷ []) new.cells.items old.cells.items
     v (ap (map plain_con) k) p (spans_pushed old.spans.items new.spans.items (record { low = pos 0; high = pos 0 }) s) l
-    (skipped g c.args.marks.now c.args.term (plain_built old) 0 (only (pos 0)) c.requires.built none))
+    (skipped g c.args.marks.now.marked.items c.args.term (plain_built old) 0 (only (pos 0)) c.requires.built none))

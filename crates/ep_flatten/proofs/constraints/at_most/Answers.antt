@@ -2,14 +2,15 @@ use Rattle.std.proofs.Common.{sym, subst, ℕ, ℤ, List}
 use Rattle.std.specs.Prelude.{map}
 use Rattle.ep_flat.specs.Cons as flat
 use Rattle.ep_ground.specs.Nodes as nodes
-use Rattle.ep_flatten.specs.Saying.{Says, place_of}
+use Rattle.ep_flatten.specs.Saying.{place_of}
+use Rattle.ep_flatten.specs.Tops.{Tells}
 use Rattle.ep_flatten.proofs.Sayings as sayings
-use Rattle.ep_flatten.proofs.Sayings.{literals, placed_parts, plain, told}
+use Rattle.ep_flatten.proofs.Sayings.{literals, placed_parts}
 use Rattle.ep_flatten.proofs.constraints.at_most.Goals as goal
 
 pub returns : goal.returns
 returns c =
-    subst (λ (x : List ℕ). Says c.args.places.now (nodes.at_most c.args.parts.now c.args.counts.now c.args.numbers.now) c.args.variable (told c.args.variable (flat.at_most x c.in_ok-counts.counts.items c.in_ok-numbers.numbers.items))) (sym (c.in_ok-placed.ensures))
-    (subst (λ (x : List ℤ). Says c.args.places.now (nodes.at_most c.args.parts.now c.args.counts.now c.args.numbers.now) c.args.variable (told c.args.variable (flat.at_most (map (place_of c.args.places.now) c.args.parts.now) x c.in_ok-numbers.numbers.items))) (sym (c.in_ok-counts.ensures.items))
-    (subst (λ (x : List ℤ). Says c.args.places.now (nodes.at_most c.args.parts.now c.args.counts.now c.args.numbers.now) c.args.variable (told c.args.variable (flat.at_most (map (place_of c.args.places.now) c.args.parts.now) c.args.counts.now x))) (sym (c.in_ok-numbers.ensures.items))
-    (sayings.says_at_most c.args.places.now c.args.parts.now c.args.counts.now c.args.numbers.now c.args.variable)))
+    subst (λ (x : List ℕ). Tells c.args.places.now (nodes.at_most c.args.parts.now c.args.counts.now c.args.numbers.now) (flat.at_most x c.in_ok-counts.counts.items c.in_ok-numbers.numbers.items)) (sym (c.in_ok-placed.ensures))
+    (subst (λ (x : List ℤ). Tells c.args.places.now (nodes.at_most c.args.parts.now c.args.counts.now c.args.numbers.now) (flat.at_most (map (place_of c.args.places.now) c.args.parts.now) x c.in_ok-numbers.numbers.items)) (sym (c.in_ok-counts.ensures.items))
+    (subst (λ (x : List ℤ). Tells c.args.places.now (nodes.at_most c.args.parts.now c.args.counts.now c.args.numbers.now) (flat.at_most (map (place_of c.args.places.now) c.args.parts.now) c.args.counts.now x)) (sym (c.in_ok-numbers.ensures.items))
+    (sayings.says_at_most c.args.places.now c.args.parts.now c.args.counts.now c.args.numbers.now)))

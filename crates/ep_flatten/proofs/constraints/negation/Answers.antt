@@ -1,14 +1,15 @@
 use Rattle.std.proofs.Common.{rules, sym, subst, ap, ◌∙◌, ◌≡◌, ℕ, Bool, false, List, [], ◌∷◌}
 use Rattle.ep_flat.specs.Cons as flat
 use Rattle.ep_ground.specs.Nodes as nodes
-use Rattle.ep_flatten.specs.Saying.{Says, place_of}
+use Rattle.ep_flatten.specs.Saying.{place_of}
+use Rattle.ep_flatten.specs.Tops.{Tells}
 use Rattle.ep_flatten.proofs.Sayings as sayings
-use Rattle.ep_flatten.proofs.Sayings.{literals, placed_parts, plain, told}
+use Rattle.ep_flatten.proofs.Sayings.{literals, placed_parts}
 use Rattle.ep_flatten.proofs.constraints.negation.Goals as goal
 
 pub returns : goal.returns
 returns c =
     let one : c.push.new.self.items ≡ (false, c.place_at.result) ∷ [] = search rules in
     let pushed : c.push.new.self.items ≡ (false, place_of c.args.places.now c.args.part) ∷ [] = one ∙ ap (λ (p : ℕ). (false, p) ∷ []) c.place_at.ensures in
-    subst (λ (x : List (Bool × ℕ)). Says c.args.places.now (nodes.negation c.args.part) c.args.variable (told c.args.variable (flat.clause x))) (sym (pushed))
-    (sayings.says_negation c.args.places.now c.args.part c.args.variable)
+    subst (λ (x : List (Bool × ℕ)). Tells c.args.places.now (nodes.negation c.args.part) (flat.clause x)) (sym (pushed))
+    (sayings.says_negation c.args.places.now c.args.part)

@@ -1,9 +1,10 @@
-use Rattle.std.proofs.Common.{subst, ap, ◌∙◌, ◌≡◌, ℕ, Bool, List, ◌++◌, length}
+use Rattle.std.proofs.Common.{ap, sym, ◌∙◌, ◌≡◌, ℕ, List, ◌++◌}
 use Rattle.std.specs.Prelude.{map, option_map}
+use Rattle.std.proofs.lemmas.List.{map-append}
 use Rattle.ep_flat.specs.FlatViews.{plain_con}
 use Rattle.ep_ground.specs.GroundViews.{plain_ground}
 use Rattle.ep_base.specs.declared.operators.Sense.{Sense}
-use Rattle.ep_flatten.specs.Building.{IsBuilt, plain_built, truth_con}
+use Rattle.ep_flatten.specs.Building.{plain_built}
 use Rattle.ep_flatten.specs.Saying.{place_of}
 use Rattle.ep_flatten.proofs.Standing.{stands}
 use Rattle.ep_flatten.proofs.flattening.flatten.Goals as goal
@@ -12,14 +13,12 @@ pub returns : goal.returns
 returns c =
     let g = plain_ground c.args.g.now in
     let made = c.in_ok-made.made in
-    let marks = c.in_ok-marks.marks.items in
-    let known : IsBuilt g marks (length g.nodes) (plain_built made) =
-    subst (λ (ms : List Bool). IsBuilt g ms (length g.nodes) (plain_built made)) c.deref.ensures.value c.in_ok-made.ensures in
-    let cons : map plain_con c.add_clauses.new.cons.items ≡ map plain_con made.cons.items ++ map (truth_con made.places.items) g.clauses =
-    c.in_ok-add_clauses.ensures
-    ∙ ap (λ (ps : List ℕ). map plain_con made.cons.items ++ map (truth_con ps) c.deref-3.result.now) c.deref-2.ensures.value
-    ∙ ap (λ (ts : List ℕ). map plain_con made.cons.items ++ map (truth_con made.places.items) ts) c.deref-3.ensures.value in
+    let marks = c.in_ok-marks.marks in
+    let tops = c.in_ok-tops.tops in
+    let cons : map plain_con c.append.new.self.items ≡ map plain_con made.cons.items ++ map plain_con tops.items =
+    ap (map plain_con) c.in_ok-append.ensures.items ∙ map-append plain_con made.cons.items tops.items in
     let goal_is : c.placed_goal-objective.result ≡ option_map (λ goal. (goal.0, place_of made.places.items goal.1)) g.objective =
     c.placed_goal-objective.ensures
-    ∙ ap (λ (ps : List ℕ). option_map {U = Sense × ℕ} (λ (goal : Sense × ℕ). (goal.0, place_of ps goal.1)) g.objective) c.deref-4.ensures.value in
-    stands g marks (plain_built made) (map plain_con c.add_clauses.new.cons.items) c.placed_goal-objective.result known c.in_ok-marks.ensures.marks c.requires.well_formed cons goal_is
+    ∙ ap (λ (ps : List ℕ). option_map {U = Sense × ℕ} (λ (goal : Sense × ℕ). (goal.0, place_of ps goal.1)) g.objective) c.deref.ensures.value in
+    stands g marks.asserted.items marks.marked.items (plain_built made) (map plain_con tops.items) (map plain_con c.append.new.self.items) c.placed_goal-objective.result
+    c.in_ok-made.ensures c.in_ok-marks.ensures c.requires.well_formed c.in_ok-tops.ensures cons goal_is

@@ -4,7 +4,7 @@ use Rattle.ep_flatten.specs.Marking.{AreMarksFrom}
 use Rattle.ep_flatten.proofs.marks.marks_of.Given as goal
 
 abbrev pub invariant-loop-term : goal.invariant-loop-term
-invariant-loop-term l = (l.term ≤ length (plain_ground l.g).nodes) × AreMarksFrom (plain_ground l.g) l.term l.marks.items
+invariant-loop-term l = (l.term ≤ length (plain_ground l.g).nodes) × AreMarksFrom (plain_ground l.g) l.term l.term l.marks.asserted.items l.marks.marked.items
 
 abbrev pub decreases-loop-term : goal.decreases-loop-term
 decreases-loop-term l = l.term

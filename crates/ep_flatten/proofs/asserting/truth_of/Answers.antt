@@ -1,7 +1,7 @@
 use Rattle.std.proofs.Common.{rules, ap, ◌∙◌, ◌≡◌, ℕ, Bool, true, List, [], ◌∷◌}
 use Rattle.ep_flat.specs.Cons as flat
 use Rattle.ep_flatten.proofs.Sayings.{plain}
-use Rattle.ep_flatten.proofs.flattening.truth_of.Goals as goal
+use Rattle.ep_flatten.proofs.asserting.truth_of.Goals as goal
 
 pub returns : goal.returns
 returns c =
