@@ -4,7 +4,6 @@ use Rattle.std.specs.Prelude.{Contains, map, not, ◌&&◌, if◌then◌else◌,
 use Rattle.std.specs.List.{list_all}
 use Rattle.std.proofs.lemmas.List.{get_or-map, length-map}
 use Rattle.std.proofs.lemmas.List.Sums.{sum_by-cons}
-use Rattle.ep_base.specs.declared.places.Place.{Place}
 use Rattle.ep_base.specs.declared.operators.Limit.{Limit as LimitName}
 use Rattle.ep_eval.specs.Outcomes as evaluated
 use Rattle.ep_eval.specs.declared.errors.EvalError.{EvalError}
@@ -16,6 +15,7 @@ use Rattle.ep_tree.specs.Measures.{Met, a_generator, a_node, decided_weight, wei
 use Rattle.ep_tree.specs.Reach.{decisions_in, holds_decision}
 use Rattle.ep_tree.specs.Solutions.{limits_passed}
 use Rattle.ep_tree.specs.declared.values.Mode.{Mode}
+use Rattle.ep_tree.specs.declared.values.ValueType.{ValueType}
 use Rattle.ep_size.proofs.Measurings.{is_far}
 use Rattle.ep_eval.proofs.Countings.{nothing_passed}
 use Rattle.ep_eval.specs.Counting.{Counted}
@@ -100,11 +100,15 @@ pub yes_ok : (r : Result Extent SizeError) (P : Type 0) → P → OnOk r P
 yes_ok (Ok x) P h = h
 yes_ok (Err e) P h = tt
 
-pub known_ok : (mode : Mode) (env : Env) (tree : Place → ExprTree) (p : Place) (r : Result Extent SizeError) (v : Option ValueTree)
-    → IfOk r (λ x. (m : Mode) (n : Env) (q : Place) → holds_decision (decisions_in n) (tree q) ≡ false → evaluate m n (tree q) ≡ v → Known m n (tree q) x)
-    → holds_decision (decisions_in env) (tree p) ≡ false → evaluate mode env (tree p) ≡ v → IfOk r (Known mode env (tree p))
-known_ok mode env tree p (Ok x) v h k q = h mode env p k q
-known_ok mode env tree p (Err error) v h k q = tt
+pub known_ok : (mode : Mode) (env : Env) (e : ExprTree) (r : Result Extent SizeError) (v : Option ValueTree)
+    → IfOk r (λ x. (m : Mode) → holds_decision (decisions_in env) e ≡ false → evaluate m env e ≡ v → Known m env e x)
+    → holds_decision (decisions_in env) e ≡ false → evaluate mode env e ≡ v → IfOk r (Known mode env e)
+known_ok mode env e (Ok x) v h k q = h mode k q
+known_ok mode env e (Err error) v h k q = tt
+
+-- the type that is told
+pub typed_ok : {E : Type 0} (r : Result ValueType E) (t u : ValueType) → r ≡ Ok t → IfOk r (λ x. x ≡ u) → t ≡ u
+typed_ok r t u is h = subst (λ q. IfOk q (λ x. x ≡ u)) is h
 
 pub memory_refuses : (r : Result Extent SizeError) (passed : List Refusal) → IfErr r (λ e. e ≡ OutOfMemory) → IfErr r (IsCause passed)
 memory_refuses (Ok x) passed h = tt

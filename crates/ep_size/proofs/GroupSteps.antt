@@ -18,7 +18,7 @@ use Rattle.ep_size.proofs.FormSteps.{measured_decided, own_weight}
 use Rattle.ep_size.proofs.Measurings.{near_nothing}
 use Rattle.ep_size.specs.Extents.{Known, TellsValue, grid_of, span_of}
 use Rattle.ep_size.specs.Finishing.{Finished, IsLightNode, IsNumberNode}
-use Rattle.ep_size.specs.declared.extents.Extent.{Extent, Cells, Fixed, Matrix, Matrix', Nothing, Number}
+use Rattle.ep_size.specs.declared.extents.Extent.{Extent, Cells, Fixed, Matrix, Matrix', NoParts, Nothing, Number}
 use Rattle.ep_size.specs.declared.extents.Span.{Span}
 use Rattle.ep_size.specs.declared.totals.Totals.{Totals}
 
@@ -86,6 +86,7 @@ tells_group mode env p e (Cells s is) holds h = holds
 tells_group mode env p e (Fixed held) holds h = both_ways _ _ holds (holds_decision-group (decisions_in env) p e ∙ h.0)
 tells_group mode env p e (Matrix' is _ parts) holds h = holds
 tells_group mode env p e Nothing holds h = both_ways _ _ holds (holds_decision-group (decisions_in env) p e ∙ h.0)
+tells_group mode env p e NoParts holds h = both_ways _ _ holds (holds_decision-group (decisions_in env) p e ∙ h.0)
 
 -- anything else in brackets
 pub same_group : (mode : Mode) (env : Env) (p : Place) (e : ExprTree) (t : ValueType) (x : Extent) → holds_decision (decisions_in env) (group p e) ≡ true

@@ -57,7 +57,7 @@ indices_unstated n = by (length (counting (pos 1) n) == n)
     by true = refl
     by false = refl
 
-literal_grid : (ix : ℕ → Option (List ℤ)) (set : Option (List ℤ)) (ys : List Extent) → ((n : ℕ) → measured_indices set n ≡ measured_indices (ix n) n)
+pub literal_grid : (ix : ℕ → Option (List ℤ)) (set : Option (List ℤ)) (ys : List Extent) → ((n : ℕ) → measured_indices set n ≡ measured_indices (ix n) n)
     → matrix_extent ix (map grid_of ys) ≡ matrix (measured_indices set (length ys)) (as_parts (map grid_of ys))
 unfolding matrix_extent
 literal_grid ix set ys h =

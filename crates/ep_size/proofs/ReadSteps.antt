@@ -19,9 +19,9 @@ use Rattle.ep_size.specs.Extents.{Known, TellsValue, grid_of, span_of}
 use Rattle.std.specs.declared.alloc.Global.{Global}
 use Rattle.std.specs.declared.vec.Vec.{Vec}
 use Rattle.ep_size.specs.declared.extents.Extent.{Extent, Matrix}
-use Rattle.ep_size.specs.declared.extents.Extent.TheVariants.{Number, Cells, Fixed, Nothing}
+use Rattle.ep_size.specs.declared.extents.Extent.TheVariants.{Number, Cells, Fixed, Nothing, NoParts}
 use Rattle.ep_tree.specs.Solutions.{cell_count}
-use Rattle.ep_tree.specs.Values.{Grid, as_parts, filled, listed_values, part_at, scalars_of, single}
+use Rattle.ep_tree.specs.Values.{Grid, as_parts, filled, listed_values, part_at, scalars_of, scalars_of_all, single}
 use Rattle.ep_eval.proofs.ListLaws.{has_is}
 use Rattle.ep_size.proofs.Caps.{product_kept}
 use Rattle.ep_size.proofs.ScalarParts.{cells_repeated}
@@ -189,6 +189,11 @@ unfolding TellsValue number_in
 index_nothing mode env e x is known =
     let tells = (subst (Known mode env e) is known).value in stated_index_is mode env e None tells.0 (ap number_in (sym tells.1))
 
+pub index_no_parts : (mode : Mode) (env : Env) (e : ExprTree) (x : Extent) → x ≡ NoParts → Known mode env e x → IsIndex mode env e (Stated None)
+unfolding TellsValue number_in
+index_no_parts mode env e x is known =
+    let tells = (subst (Known mode env e) is known).value in stated_index_is mode env e None tells.0 (ap number_in (sym tells.1))
+
 -- ---- names of decision variables
 
 pub name_cells : (env : Env) (e : ExprTree) (b : Bool) → is_name e ≡ true → b ≡ holds_decision (decisions_in env) e → b ≡ is_decision_name env e
@@ -274,6 +279,10 @@ pub nothing_known : (mode : Mode) (env : Env) (e : ExprTree) (x : Extent) → x 
 unfolding TellsValue
 nothing_known mode env e x is known = sym (subst (Known mode env e) is known).value.0
 
+pub no_parts_known : (mode : Mode) (env : Env) (e : ExprTree) (x : Extent) → x ≡ NoParts → Known mode env e x → false ≡ holds_decision (decisions_in env) e
+unfolding TellsValue
+no_parts_known mode env e x is known = sym (subst (Known mode env e) is known).value.0
+
 -- ---- what is left
 
 -- a number without indices
@@ -303,3 +312,15 @@ unfolding grid_of
 nothing_left_of t is x s same none h =
     subst (λ y. Hulls t (flat_map scalars_of (parts_left is (grid_of y)))) (sym same)
     (subst (λ c. Hulls t (flat_map scalars_of (parts_left is (single c)))) none h)
+
+none_left : (is : List MeasuredIndex) → flat_map scalars_of (parts_left is defined.no_extent) ≡ []
+unfolding parts_left left_by scalars_of scalars_of_all listed_values part_at
+none_left [] = refl
+none_left (fixed_index None ∷ is) = refl
+none_left (fixed_index (Some n) ∷ is) = refl
+none_left (whole_index ∷ is) = refl
+none_left (decided_index s ∷ is) = refl
+
+pub no_parts_left_of : (t : Hulled) (is : List MeasuredIndex) (x : Extent) → x ≡ NoParts → Hulls t [] → Hulls t (flat_map scalars_of (parts_left is (grid_of x)))
+unfolding grid_of
+no_parts_left_of t is x same h = subst (λ y. Hulls t (flat_map scalars_of (parts_left is (grid_of y)))) (sym same) (subst (Hulls t) (sym (none_left is)) h)

@@ -67,7 +67,7 @@ unfolding slice_extent
 slice_is is s ds ls h =
     ap (λ o. unwrap_or (option_and_then (λ js. read_value js (filled s ds)) o) no_extent) h.told ∙ ap (λ o. unwrap_or o no_extent) (h.reads s)
 
-matrix_read : (t : ValueType) (b : Bool) (ms : List MeasuredIndex) (x : ExtentTree) → is_matrix t ≡ true → read_extent t b ms x ≡ slice_extent ms x
+pub matrix_read : (t : ValueType) (b : Bool) (ms : List MeasuredIndex) (x : ExtentTree) → is_matrix t ≡ true → read_extent t b ms x ≡ slice_extent ms x
 unfolding read_extent is_matrix is_integer
 matrix_read ValueType.Bool b ms x h = absurd cc
 matrix_read ValueType.Int b ms x h = absurd cc
@@ -75,7 +75,7 @@ matrix_read (ValueType.Matrix dims s) b ms x h = refl
 matrix_read ValueType.Empty b ms x h = refl
 
 -- without a decided index a read weighs nothing
-no_weight : (ms : List MeasuredIndex) (w : Span) (left : List Span) → list_any is_decided_index ms ≡ false → read_weight ms w left ≡ 0
+pub no_weight : (ms : List MeasuredIndex) (w : Span) (left : List Span) → list_any is_decided_index ms ≡ false → read_weight ms w left ≡ 0
 unfolding read_weight
 no_weight ms w left h = ap (λ b. if b then length left * (width w.reach + sum_by index_width ms) else 0) h
 

@@ -3,13 +3,13 @@ use Rattle.std.specs.Prelude.{◌≡◌, true, false, Some, None, List, [], ◌�
 use Rattle.ep_tree.specs.Reach as defined
 use Rattle.ep_tree.specs.Environments.{Env}
 use Rattle.ep_tree.specs.Evaluation.{evaluate}
-use Rattle.ep_tree.specs.Reach.{Extent as ExtentTree, decisions_in, extent, fixed_span, holds_decision}
+use Rattle.ep_tree.specs.Reach.{Extent as ExtentTree, decisions_in, extent, fixed_span, holds_decision, no_extent}
 use Rattle.ep_tree.specs.Trees.{ExprTree}
 use Rattle.ep_tree.specs.Values.{Grids, ValueTree, filled, map_grid, matrix, no_values, single, value_and}
 use Rattle.ep_tree.specs.declared.values.Mode.{Mode}
 use Rattle.ep_eval.specs.Helds.{held_value}
 use Rattle.ep_size.specs.Spans.{interval_of}
-use Rattle.ep_size.specs.declared.extents.Extent.{Extent, Number, Cells, Fixed, Nothing, Matrix', Row_of-Extent, end_of-Extent, more_of-Extent}
+use Rattle.ep_size.specs.declared.extents.Extent.{Extent, Number, Cells, Fixed, Nothing, NoParts, Matrix', Row_of-Extent, end_of-Extent, more_of-Extent}
 use Rattle.ep_size.specs.declared.extents.Span.{Span}
 
 -- what is known of a number
@@ -28,6 +28,7 @@ unfoldable mutual
   grid_of (Cells s indices) = filled (span_of s) indices.now
   grid_of (Fixed h) = fixed_grid (held_value h)
   grid_of Nothing = single (fixed_span None)
+  grid_of NoParts = no_extent
   grid_of (Matrix' indices _ parts) = matrix indices.items (row_grids parts)
 
   -- a row of parts
@@ -44,6 +45,7 @@ grids_from (x ∷ xs) = value_and (grid_of x) (grids_from xs)
 unfoldable pub TellsValue : Mode → Env → ExprTree → Extent → Type 0
 TellsValue mode env e (Fixed h) = (holds_decision (decisions_in env) e ≡ false) × (evaluate mode env e ≡ Some (held_value h))
 TellsValue mode env e Nothing = (holds_decision (decisions_in env) e ≡ false) × (evaluate mode env e ≡ None)
+TellsValue mode env e NoParts = (holds_decision (decisions_in env) e ≡ false) × (evaluate mode env e ≡ None)
 TellsValue mode env e _ = holds_decision (decisions_in env) e ≡ true
 
 -- what is known of an expression

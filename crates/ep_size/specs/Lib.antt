@@ -4,11 +4,12 @@ pub mod Extents
 pub mod Finishing
 pub mod Folds
 pub mod Free
+pub mod Generated
 pub mod Hulls
 pub mod Indices
 pub mod Lists
-pub mod NumberForms
 pub mod Parts
+pub mod Powers
 pub mod Quantified
 pub mod Refusing
 pub mod RunEnds

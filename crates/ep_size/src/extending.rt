@@ -1,16 +1,18 @@
 //! What is known of an expression's value, with the nodes that it meets counted and weighed.
 
-ghost use Rattle.std.specs.Prelude.{◌≡◌, ◌+◌, ◌≤◌, ◌<◌, ◌∷◌, Some, true, false, flat_map, length, map, IfOk, IfErr, OnOk};
+ghost use Rattle.std.specs.Prelude.{◌≡◌, ◌+◌, ◌≤◌, ◌<◌, ◌∷◌, ◌++◌, Some, None, true, false, flat_map, length, map, IfOk, IfErr, OnOk};
 ghost use Rattle.ep_base.specs.declared.places.Place.{Place};
 ghost use Rattle.ep_tree.specs.Environments as names;
-ghost use Rattle.ep_tree.specs.Evaluation.{domain_values, evaluate};
+ghost use Rattle.ep_tree.specs.Evaluation.{domain_values, evaluate, type_in};
 ghost use Rattle.ep_tree.specs.Limits as limits;
 ghost use Rattle.ep_tree.specs.Measures as measures;
 ghost use Rattle.ep_tree.specs.Reach as defined;
 ghost use Rattle.ep_tree.specs.Reach.{decisions_in, extents_of, hiding, holds_decision, measured_list};
 ghost use Rattle.ep_tree.specs.Solutions.{limits_passed};
-ghost use Rattle.ep_tree.specs.Views.{domain_tree, end_of, expr_tree, expr_trees, indices_of, kind_tree, terms_of};
+ghost use Rattle.ep_tree.specs.Trees.{ExprTree};
+ghost use Rattle.ep_tree.specs.Views.{domain_tree, end_of, expr_tree, expr_trees, generators_of, indices_of, kind_tree, terms_of};
 ghost use Rattle.ep_tree.specs.declared.values.Mode.{Mode as EachMode};
+ghost use Rattle.ep_eval.specs.Generating.{nodes_at, nodes_of, part_nodes, ranging_over};
 ghost use Rattle.ep_eval.specs.Helds.{seen_held};
 ghost use Rattle.ep_eval.specs.Instances.{instance_nodes, quantified_tree};
 ghost use Rattle.ep_eval.specs.Scopes.{env_in, mode_in};
@@ -18,8 +20,8 @@ ghost use Rattle.ep_size.specs.Causes.{IsCause};
 ghost use Rattle.ep_size.specs.Extending.{Extended, IsRefused};
 ghost use Rattle.ep_size.specs.Extents.{Known, grid_of};
 ghost use Rattle.ep_size.specs.Free.{is_free};
+ghost use Rattle.ep_size.specs.Generated.{known_at, known_of, listing_of, part_extents, ranging_of};
 ghost use Rattle.ep_size.specs.Indices.{index_of, measured_of};
-ghost use Rattle.ep_size.specs.NumberForms.{is_number_form};
 ghost use Rattle.ep_size.specs.Quantified.{HasInstances, instance_at};
 ghost use Rattle.ep_size.specs.Sums.{Sums};
 ghost use Rattle.ep_size.specs.Totals.{Measured, capped};
@@ -30,6 +32,7 @@ use super::domains::{fixed_numbers, meet_domain};
 use super::errors::SizeError;
 use super::extents::{Extent, number_span};
 use super::forms::{finish_one, finish_two};
+use super::generating::{Listing, Ranging, all_true, with_extent};
 use super::groups::group_node;
 use super::indices::index_numbers;
 use super::instances::{
@@ -52,7 +55,7 @@ use ep_eval::{
     Around, Held, Quantifier, Scope, next_number, scalar_of, type_within, value_of, walk_of,
 };
 use ep_laws::limits_are_of_values;
-use ep_tree::{Expr, Kind};
+use ep_tree::{Expr, Generator, Kind, ValueType};
 
 /// Counts a node.
 fn count(totals: &mut Totals) -> Result<(), SizeError>
@@ -69,59 +72,37 @@ fn count(totals: &mut Totals) -> Result<(), SizeError>
     Ok(())
 }
 
-/// Whether an expression of this kind is a number or a truth value, told from its form.
-#[tactic(auto, unfolding(crate::specs::NumberForms::is_number_form, ep_tree::specs::Views::kind_tree))]
-fn is_number_kind(kind: &Kind) -> bool
-    ensures { (p : Place) → result ≡ is_number_form (kind_tree p kind.now) }
+/// What is known of an expression of this type that has no value.
+#[tactic(auto, unfolding(ep_tree::specs::Types::is_integer))]
+fn without_value<'a>(ty: ValueType) -> Extent<'a>
+    ensures { (mode : EachMode) → (env : names.Env) → (e : ExprTree) → ty ≡ type_in env e
+        → holds_decision (decisions_in env) e ≡ false → evaluate mode env e ≡ None → Known mode env e result }
 {
-    match kind {
-        Kind::Number(_) => true,
-        Kind::Truth(_) => true,
-        Kind::Not(_) => true,
-        Kind::Neg(_) => true,
-        Kind::Abs(_) => true,
-        Kind::ToInt(_) => true,
-        Kind::Factorial(_) => true,
-        Kind::Add(_) => true,
-        Kind::Binary(_, _, _) => true,
-        Kind::Compare(_, _, _) => true,
-        Kind::Lex(_, _, _) => true,
-        Kind::InDomain(_, _) => true,
-        Kind::InSet(_, _) => true,
-        Kind::And(_) => true,
-        Kind::Or(_) => true,
-        Kind::Fold(_, _) => true,
-        Kind::AllDiff(_) => true,
-        Kind::Gcc(_, _, _) => true,
-        Kind::AtLeast(_, _, _) => true,
-        Kind::AtMost(_, _, _) => true,
-        Kind::Table(_, _) => true,
-        Kind::Named(_) => false,
-        Kind::Group(_) => false,
-        Kind::Flatten(_) => false,
-        Kind::Quant(_, _, _, _) => false,
-        Kind::Literal(_, _) => false,
-        Kind::Comprehension(_, _, _, _) => false,
-        Kind::Read(_, _) => false,
+    match ty {
+        ValueType::Bool => Extent::Nothing,
+        ValueType::Int => Extent::Nothing,
+        ValueType::Matrix { .. } => Extent::NoParts,
+        ValueType::Empty => Extent::NoParts,
     }
 }
 
-/// What is known of a value that was seen, of an expression of this kind. What has no value and may be a matrix isn't
-/// told yet.
-fn known_value<'a>(seen: Option<Held<'a>>, kind: &Kind) -> Result<Extent<'a>, SizeError>
-    ensures known { IfOk result (λ x. (mode : EachMode) → (env : names.Env) → (p : Place)
-        → holds_decision (decisions_in env) (kind_tree p kind.now) ≡ false
-        → evaluate mode env (kind_tree p kind.now) ≡ seen_held seen.entry → Known mode env (kind_tree p kind.now) x) }
+/// What is known of a value that was seen, or of its want by the type of the expression.
+fn known_value<'a>(
+    scope: Scope<'_, 'a>,
+    seen: Option<Held<'a>>,
+    e: &Expr,
+) -> Result<Extent<'a>, SizeError>
+    ensures known { IfOk result (λ x. (mode : EachMode) → holds_decision (decisions_in (env_in scope.entry)) (expr_tree e.now) ≡ false
+        → evaluate mode (env_in scope.entry) (expr_tree e.now) ≡ seen_held seen.entry
+        → Known mode (env_in scope.entry) (expr_tree e.now) x) }
     ensures memory { IfErr result (λ e. e ≡ error.Memory) }
 {
     match seen {
         Some(held) => Ok(Extent::Fixed(held)),
-        None => {
-            if is_number_kind(kind) {
-                return Ok(Extent::Nothing);
-            }
-            Err(SizeError::Memory)
-        }
+        None => match type_within(scope, e) {
+            Ok(ty) => Ok(without_value(ty)),
+            Err(_) => Err(SizeError::Memory),
+        },
     }
 }
 
@@ -136,7 +117,7 @@ fn fixed<'a>(scope: Scope<'_, 'a>, totals: &mut Totals, e: &Expr) -> Result<Exte
 {
     limits_are_of_values();
     let seen = value_of(scope, &mut totals.size, e)?;
-    known_value(seen, &e.kind)
+    known_value(scope, seen, e)
 }
 
 /// What is known of an expression.
@@ -300,6 +281,7 @@ fn kind_extent<'a>(
             scope, totals, kind,
         ),
         Kind::Literal(_, _) => with_list(scope, totals, kind),
+        Kind::Comprehension(_, _, _, _) => with_generators(scope, totals, kind),
         Kind::InDomain(_, _) => member_extent(scope, totals, kind),
         _ => Err(SizeError::Memory),
     }
@@ -736,6 +718,167 @@ fn with_list<'a>(
         // No other kind comes here.
         _ => Err(SizeError::Memory),
     }
+}
+
+/// The same of a comprehension.
+#[cycle(extending)]
+fn with_generators<'a>(
+    scope: Scope<'_, 'a>,
+    totals: &mut Totals,
+    kind: &Kind,
+) -> Result<Extent<'a>, SizeError>
+    ensures extended { OnOk result ((p : Place) → holds_decision (decisions_in (env_in scope.entry)) (kind_tree p kind.now) ≡ true
+        → Extended (mode_in scope.entry) (env_in scope.entry)
+        (kind_tree p kind.now) totals.old totals.new) }
+    ensures known { IfOk result (λ x. (p : Place) → holds_decision (decisions_in (env_in scope.entry)) (kind_tree p kind.now) ≡ true
+        → Known (mode_in scope.entry) (env_in scope.entry) (kind_tree p kind.now) x) }
+    ensures cause { IfErr result (λ e. (p : Place) → holds_decision (decisions_in (env_in scope.entry)) (kind_tree p kind.now) ≡ true
+        → IsRefused (mode_in scope.entry) (env_in scope.entry)
+        (kind_tree p kind.now) totals.old.size e) }
+{
+    match kind {
+        Kind::Comprehension(body, generators, conditions, domain) => {
+            let listing = Listing { body, conditions };
+            let none = Vec::new(scope.alloc);
+            let known = generated(scope, totals, listing, generators, none)?;
+            let indices = index_numbers(scope, totals, domain)?;
+            matrix_of(scope.alloc, &indices, known)
+        }
+        // No other kind comes here.
+        _ => Err(SizeError::Memory),
+    }
+}
+
+/// What is known of some parts, and of those that generators lead to behind them.
+#[cycle(extending)]
+fn generated<'a>(
+    scope: Scope<'_, 'a>,
+    totals: &mut Totals,
+    listing: Listing<'_>,
+    generators: &[Generator],
+    front: Vec<Extent<'a>>,
+) -> Result<Vec<Extent<'a>>, SizeError>
+    ensures measured { OnOk result (Measured (mode_in scope.entry) totals.old totals.new
+        (nodes_of (mode_in scope.entry) (listing_of listing.entry) (generators_of generators.now) (env_in scope.entry))) }
+    ensures known { IfOk result (λ more. map grid_of more.items ≡ map grid_of front.entry.items
+        ++ known_of (mode_in scope.entry) listing.entry (generators_of generators.now) (env_in scope.entry)) }
+    ensures cause { IfErr result (IsCause (limits_passed (mode_in scope.entry) totals.old.size
+        (nodes_of (mode_in scope.entry) (listing_of listing.entry) (generators_of generators.now) (env_in scope.entry)))) }
+{
+    match generators.split_first() {
+        Some((first, later)) => {
+            let ranging = Ranging {
+                listing,
+                domain: &first.domain,
+                later,
+            };
+            let more = over_names(scope, totals, ranging, &first.names, front)?;
+            Ok(more)
+        }
+        None => {
+            let more = with_part(scope, totals, listing, front)?;
+            Ok(more)
+        }
+    }
+}
+
+/// The same of names over a domain, and the generators behind them.
+#[cycle(extending)]
+fn over_names<'a>(
+    scope: Scope<'_, 'a>,
+    totals: &mut Totals,
+    ranging: Ranging<'_>,
+    names: &[Name],
+    front: Vec<Extent<'a>>,
+) -> Result<Vec<Extent<'a>>, SizeError>
+    ensures measured { OnOk result (Measured (mode_in scope.entry) totals.old totals.new
+        (nodes_of (mode_in scope.entry) (listing_of ranging.entry.listing) (ranging_over (ranging_of ranging.entry) names.now)
+        (env_in scope.entry))) }
+    ensures known { IfOk result (λ more. map grid_of more.items ≡ map grid_of front.entry.items
+        ++ known_of (mode_in scope.entry) ranging.entry.listing (ranging_over (ranging_of ranging.entry) names.now) (env_in scope.entry)) }
+    ensures cause { IfErr result (IsCause (limits_passed (mode_in scope.entry) totals.old.size
+        (nodes_of (mode_in scope.entry) (listing_of ranging.entry.listing) (ranging_over (ranging_of ranging.entry) names.now)
+        (env_in scope.entry)))) }
+{
+    match names.split_first() {
+        Some((name, rest)) => {
+            count(totals)?;
+            let numbers = fixed_numbers(scope, totals, ranging.domain)?;
+            match numbers {
+                Some(set) => {
+                    let more = over_numbers(scope, totals, ranging, name, rest, &set, front)?;
+                    Ok(more)
+                }
+                None => Ok(front),
+            }
+        }
+        None => {
+            let more = generated(scope, totals, ranging.listing, ranging.later, front)?;
+            Ok(more)
+        }
+    }
+}
+
+/// The same where the first name stands for each number of a set in turn.
+#[cycle(extending)]
+fn over_numbers<'a>(
+    scope: Scope<'_, 'a>,
+    totals: &mut Totals,
+    ranging: Ranging<'_>,
+    name: &Name,
+    rest: &[Name],
+    set: &Runs,
+    front: Vec<Extent<'a>>,
+) -> Result<Vec<Extent<'a>>, SizeError>
+    requires { domain_values (mode_in scope) (env_in scope) (domain_tree ranging.domain.now) ≡ Some set.now }
+    ensures measured { OnOk result (Measured (mode_in scope.entry) totals.old totals.new
+        (flat_map (nodes_at (mode_in scope.entry) (env_in scope.entry) (ranging_of ranging.entry) name.now rest.now) set.now)) }
+    ensures known { IfOk result (λ more. map grid_of more.items ≡ map grid_of front.entry.items
+        ++ flat_map (known_at (mode_in scope.entry) (env_in scope.entry) ranging.entry name.now rest.now) set.now) }
+    ensures cause { IfErr result (IsCause (limits_passed (mode_in scope.entry) totals.old.size
+        (flat_map (nodes_at (mode_in scope.entry) (env_in scope.entry) (ranging_of ranging.entry) name.now rest.now) set.now))) }
+{
+    let scalar = scalar_of(scope, ranging.domain);
+    let mut more = front;
+    let mut walk = walk_of(set.runs());
+    while let Some((number, behind)) = next_number(walk) {
+        let around = Around::Number(scope.around, name, scalar, number);
+        let inner = Scope {
+            alloc: scope.alloc,
+            env: scope.env,
+            around: &around,
+        };
+        more = over_names(inner, totals, ranging, rest, more)?;
+        walk = behind;
+    }
+    Ok(more)
+}
+
+/// What is known of some parts, and of the part behind them where the conditions hold.
+#[cycle(extending)]
+fn with_part<'a>(
+    scope: Scope<'_, 'a>,
+    totals: &mut Totals,
+    listing: Listing<'_>,
+    front: Vec<Extent<'a>>,
+) -> Result<Vec<Extent<'a>>, SizeError>
+    ensures measured { OnOk result (Measured (mode_in scope.entry) totals.old totals.new
+        (part_nodes (mode_in scope.entry) (expr_tree listing.entry.body.now) (expr_trees listing.entry.conditions.now)
+        (env_in scope.entry))) }
+    ensures known { IfOk result (λ more. map grid_of more.items ≡ map grid_of front.entry.items
+        ++ part_extents (mode_in scope.entry) (expr_tree listing.entry.body.now) (expr_trees listing.entry.conditions.now)
+        (env_in scope.entry)) }
+    ensures cause { IfErr result (IsCause (limits_passed (mode_in scope.entry) totals.old.size
+        (part_nodes (mode_in scope.entry) (expr_tree listing.entry.body.now) (expr_trees listing.entry.conditions.now)
+        (env_in scope.entry)))) }
+{
+    let holds = all_true(scope, totals, listing.conditions)?;
+    if holds {
+        let one = extent_of(scope, totals, listing.body)?;
+        let more = with_extent(front, one)?;
+        return Ok(more);
+    }
+    Ok(front)
 }
 
 /// What is known of some expressions, one after another.

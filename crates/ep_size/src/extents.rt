@@ -33,6 +33,8 @@ pub enum Extent<'a> {
     Fixed(Held<'a>),
     /// Of a number without decision variables that has no value.
     Nothing,
+    /// Of a matrix without decision variables that has no value: of no part.
+    NoParts,
     /// Of the parts of a matrix, with their indices.
     Matrix(Vec<i64>, Vec<Extent<'a>>),
 }
@@ -126,6 +128,7 @@ pub fn number_span(extent: &Extent) -> Span
         Extent::Cells(span, indices) => cells_span(*span, indices),
         Extent::Fixed(held) => held_span(held),
         Extent::Nothing => undefined_number(),
+        Extent::NoParts => undefined_number(),
         Extent::Matrix(_, _) => undefined_number(),
     }
 }

@@ -1,16 +1,17 @@
 //! What nodes of each form add to what their parts give.
 
-ghost use Rattle.std.specs.Prelude.{◌≡◌, ◌∷◌, ◌*◌, [], ℤ, true, Option, Some};
+ghost use Rattle.std.specs.Prelude.{◌≡◌, ◌∷◌, ◌*◌, [], ℤ, Bool, true, Option, Some};
 ghost use Rattle.ep_base.specs.declared.places.Place.{Place};
 ghost use Rattle.ep_tree.specs.Environments as names;
 ghost use Rattle.ep_tree.specs.Measures as measures;
 ghost use Rattle.ep_tree.specs.Reach as defined;
-ghost use Rattle.ep_tree.specs.Reach.{decisions_in, holds_decision};
+ghost use Rattle.ep_tree.specs.Reach.{decisions_in, holds_decision, measured_index};
 ghost use Rattle.ep_tree.specs.Trees.{ExprTree};
 ghost use Rattle.ep_tree.specs.Views.{kind_tree};
 ghost use Rattle.ep_tree.specs.declared.values.Mode.{Mode as EachMode};
 ghost use Rattle.ep_size.specs.Extents.{Known, span_of};
 ghost use Rattle.ep_size.specs.Finishing.{Finishes, Gives};
+ghost use Rattle.ep_size.specs.Indices.{measured_of};
 ghost use Rattle.ep_size.specs.Parts.{part_of, two_parts};
 ghost use Rattle.ep_size.specs.Totals.{capped};
 
@@ -20,6 +21,8 @@ use super::intervals::{
     absolute, greatest, least, quotient, remainder, told_count, widened, width,
 };
 use super::nodes::{negated_span, number_node, product_span, truth_node, wide};
+use super::powers::power;
+use super::reading::{Indexed, index_with};
 use super::totals::{Totals, product, told};
 use ep_tree::{BinaryOp, Kind};
 
@@ -80,10 +83,11 @@ fn binary_weight(op: BinaryOp, one: Span, other: Span) -> u64
     }
 }
 
-/// What is known of two parts with an operator between them, other than a power.
+/// What is known of two parts with an operator between them, the second of which is this exponent.
 #[tactic(auto, unfolding(ep_tree::specs::Reach::binary_span))]
-fn binary_span(op: BinaryOp, one: Span, other: Span) -> Result<Span, SizeError>
-    ensures { (n : Option ℤ) → Gives result (defined.binary_span op (span_of one) (span_of other) n) }
+fn binary_span(op: BinaryOp, one: Span, other: Span, exponent: Indexed) -> Result<Span, SizeError>
+    ensures { (n : Option ℤ) → (decided : Bool) → (s : defined.Span) → measured_of exponent ≡ measured_index decided s n
+        → Gives result (defined.binary_span op (span_of one) (span_of other) n) }
 {
     match op {
         BinaryOp::Mul => product_span(one, other),
@@ -93,7 +97,7 @@ fn binary_span(op: BinaryOp, one: Span, other: Span) -> Result<Span, SizeError>
         BinaryOp::Max => wide(widened(greatest(one.reach, other.reach))),
         BinaryOp::Implies => Ok(truth_span()),
         BinaryOp::Iff => Ok(truth_span()),
-        BinaryOp::Pow => Err(SizeError::Memory),
+        BinaryOp::Pow => power(one, exponent),
     }
 }
 
@@ -111,12 +115,13 @@ pub fn finish_two<'a>(
 {
     let first = number_span(one);
     let second = number_span(other);
+    let exponent = index_with(other);
     match kind {
         Kind::Compare(_, _, _) => Ok(truth_node(totals, widths_of_two(first, second))),
         Kind::Binary(op, _, _) => number_node(
             totals,
             binary_weight(*op, first, second),
-            binary_span(*op, first, second),
+            binary_span(*op, first, second, exponent),
         ),
         _ => Err(SizeError::Memory),
     }

@@ -33,6 +33,7 @@ fn light_node<'a>(totals: &mut Totals, known: Extent<'a>) -> Result<Extent<'a>, 
         },
         Extent::Fixed(held) => Ok(Extent::Fixed(held)),
         Extent::Nothing => Ok(Extent::Nothing),
+        Extent::NoParts => Ok(Extent::NoParts),
         Extent::Matrix(indices, parts) => Ok(Extent::Matrix(indices, parts)),
     }
 }

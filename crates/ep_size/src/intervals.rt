@@ -82,7 +82,7 @@ pub fn near(ends: WideEnds) -> Result<Ends, SizeError>
 }
 
 /// Whether a number is too far from 0.
-fn is_far(number: i128) -> bool
+pub fn is_far(number: i128) -> bool
     ensures { result ≡ is_too_far number }
 {
     number > MOST_REACH || number < -MOST_REACH
@@ -119,7 +119,7 @@ fn least_absolute(x: Ends) -> i128
 
 /// Whether 0 lies between the ends.
 #[tactic(auto, unfolding(ep_base::specs::Intervals::has_zero))]
-fn has_zero(x: Ends) -> bool
+pub fn has_zero(x: Ends) -> bool
     ensures { result ≡ defined.has_zero (interval_of x) }
 {
     x.low <= 0 && 0 <= x.high

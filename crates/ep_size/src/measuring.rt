@@ -26,7 +26,7 @@ pub struct Measures {
 /// Measures an instance. Where one of the limits is passed, one that is passed is named, the limit
 /// of weight only where no other is.
 ///
-/// A few forms aren't measured yet, and end as want of memory; the project's README names them. Each
+/// One form isn't measured yet, and ends as want of memory; the project's README names it. Each
 /// instance of an expression costs its text times its height, since each level asks anew whether a
 /// decision variable stands below it; a form over a matrix lists what is known of its scalars.
 pub fn measure(alloc: Global, instance: &Instance) -> Result<Measures, SizeError>

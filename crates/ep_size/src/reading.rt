@@ -71,6 +71,7 @@ pub fn index_with(known: &Extent) -> Indexed
         Extent::Matrix(_, _) => Indexed::Decided(span),
         Extent::Fixed(held) => Indexed::Stated(held_number(held)),
         Extent::Nothing => Indexed::Stated(None),
+        Extent::NoParts => Indexed::Stated(None),
     }
 }
 
@@ -203,6 +204,7 @@ fn is_decided_extent(known: &Extent) -> bool
         Extent::Matrix(_, _) => true,
         Extent::Fixed(_) => false,
         Extent::Nothing => false,
+        Extent::NoParts => false,
     }
 }
 

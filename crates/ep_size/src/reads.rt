@@ -21,6 +21,7 @@ use super::errors::SizeError;
 use super::extents::{Extent, Span, fixed_number, undefined_number};
 use super::hulls::{Hulled, read_weight};
 use super::nodes::number_node;
+use super::picked::known_left;
 use super::reading::{Indexed, cells_left, index_widths, one_decided};
 use super::remaining::value_left;
 use super::slices::slice_node;
@@ -68,8 +69,9 @@ fn left_of(alloc: Global, known: &Extent, indices: &[Indexed]) -> Result<Hulled,
         Extent::Number(span) => Ok(number_left(*span, indices)),
         Extent::Cells(span, domains) => Ok(some_cells(*span, domains, indices)),
         Extent::Nothing => Ok(number_left(undefined_number(), indices)),
+        Extent::NoParts => Ok(Hulled::new()),
         Extent::Fixed(held) => held_left(alloc, held, indices),
-        Extent::Matrix(_, _) => Err(SizeError::Memory),
+        Extent::Matrix(_, _) => known_left(alloc, known, indices),
     }
 }
 
@@ -142,6 +144,6 @@ pub fn read_node<'a>(
             Ok(left) => scalar_node(totals, scalar, of_name, left, indices),
             Err(_) => Err(SizeError::Memory),
         },
-        None => slice_node(known, ty, indices),
+        None => slice_node(alloc, known, ty, indices),
     }
 }

@@ -22,7 +22,7 @@ use std::alloc::Global;
 
 /// Whether an index leaves each part.
 #[tactic(auto, unfolding(crate::specs::Indices::keeps_all, crate::specs::Indices::measured_of))]
-fn keeps_all(index: Indexed) -> bool
+pub fn keeps_all(index: Indexed) -> bool
     ensures { result ≡ keeps_all (measured_of index) }
 {
     match index {
@@ -34,7 +34,7 @@ fn keeps_all(index: Indexed) -> bool
 
 /// Whether two numbers are one.
 #[tactic(auto, unfolding(ep_base::specs::Numbers::compare_holds))]
-fn is_same(one: i64, other: i64) -> bool
+pub fn is_same(one: i64, other: i64) -> bool
     ensures { result ≡ compare_holds EachCompare.Equal one other }
 {
     one == other
@@ -115,7 +115,7 @@ fn add_left(value: &Value, indices: &[Indexed], spans: &mut Vec<Span>) -> Result
 }
 
 /// Some numbers one after another.
-fn hull_over(spans: &[Span]) -> Hulled
+pub fn hull_over(spans: &[Span]) -> Hulled
     ensures { Hulls result (map span_of spans.now) }
 {
     let mut hull = Hulled::new();

@@ -54,6 +54,7 @@ pub fn row_count(extent: &Extent) -> u64
         Extent::Cells(span, indices) => cell_rows(*span, indices),
         Extent::Fixed(held) => held_rows(held),
         Extent::Nothing => 0,
+        Extent::NoParts => 0,
         Extent::Matrix(_, parts) => told(parts.len() as u64),
     }
 }

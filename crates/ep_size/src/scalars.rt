@@ -66,7 +66,7 @@ fn add_cells(span: Span, indices: &[Runs], spans: &mut Vec<Span>) -> Result<(), 
 }
 
 /// The same of what is known of a number or of a matrix.
-fn add_scalars(extent: &Extent, spans: &mut Vec<Span>) -> Result<(), SizeError>
+pub fn add_scalars(extent: &Extent, spans: &mut Vec<Span>) -> Result<(), SizeError>
     ensures added { OnOk result (map span_of spans.new.items ≡ map span_of spans.old.items ++ scalars_of (grid_of extent.now)) }
     ensures memory { IfErr result (λ e. e ≡ error.Memory) }
 {
@@ -81,6 +81,7 @@ fn add_scalars(extent: &Extent, spans: &mut Vec<Span>) -> Result<(), SizeError>
             spans.push(undefined_number())?;
             Ok(())
         }
+        Extent::NoParts => Ok(()),
         Extent::Matrix(_, parts) => {
             for part in parts {
                 add_scalars(part, spans)?;

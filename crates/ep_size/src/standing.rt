@@ -255,7 +255,7 @@ fn behind(free: bool, own: Standing) -> Standing
 }
 
 /// Whether two parts are free, by what each is.
-fn are_both(one: bool, other: bool) -> bool
+pub fn are_both(one: bool, other: bool) -> bool
     ensures { result ≡ (one && other) }
 {
     one && other

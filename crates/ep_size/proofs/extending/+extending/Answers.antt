@@ -46,6 +46,21 @@ use Rattle.ep_eval.proofs.LiteralForms.{index_is}
 use Rattle.ep_eval.specs.Literals.{index_at}
 use Rattle.ep_size.proofs.IndexParts.{extents_all, extents_more, literal_node}
 use Rattle.ep_size.proofs.ListNodes.{lists_finish}
+use Rattle.std.specs.Prelude.{Contains}
+use Rattle.ep_base.specs.declared.operators.Limit.{Limit as LimitName}
+use Rattle.ep_tree.specs.Binding.{over_limit}
+use Rattle.ep_tree.specs.Trees.{comprehension}
+use Rattle.ep_tree.specs.Views.{generators_of}
+use Rattle.ep_tree.specs.declared.syntax.Generator.{size-Generator}
+use Rattle.ep_eval.proofs.Depths.{first_within}
+use Rattle.ep_eval.proofs.GeneratingDepths.{comprehension_depth, first_generator, generators_depth, listing_depth}
+use Rattle.ep_eval.proofs.GeneratingSteps.{comprehension_at, generators_first, generators_none, nodes_bare, nodes_name, nodes_part}
+use Rattle.ep_eval.specs.Generating.{listed_nodes, nodes_at, nodes_of, ranging_over}
+use denote.Param.Weighed.{most}
+use Rattle.ep_size.proofs.GeneratedSteps.{behind_cause, comprehension_node, conditions_cause, domain_cause, extents_bare, extents_name, extents_part, in_order, listed_begins, listed_cause, listed_goes_on, listed_known, listed_measured, meets_in_order, name_refused, name_whole, no_part_is, no_part_measured, nothing_behind, ordered_nodes, part_cause, part_is, part_measured}
+use Rattle.ep_size.proofs.Regrouping.{cause_same, measured_same}
+use Rattle.ep_size.specs.Generated.{known_at, known_of, listed_extents, listing_of, ranging_of}
+use Rattle.ep_size.specs.declared.generating.Listing.{Listing}
 use Rattle.ep_size.proofs.extending.+extending.Goals as goal
 
 pub with_one-returns-in_ok-known-in-Not-clause-extended : goal.with_one-returns-in_ok-known-in-Not-clause-extended
@@ -2236,3 +2251,482 @@ member_extent-returns-in_err-meet_domain-in-InDomain-clause-cause t c =
     rw (p.1, p.2)
     (λ place held. part_refused mode env (λ q. kind_tree q c.args.kind.now) below c.args.totals.now.size c.in_err-meet_domain-in-InDomain.field-0.0 meets
     (cause_then mode c.args.totals.now c.extent_of.new.totals (met mode env e) (met_domain mode env d) c.in_err-meet_domain-in-InDomain.field-0.0 c.in_ok-known-in-InDomain.ensures.measured refused) place)
+
+pub generated-over_names-requires : goal.generated-over_names-requires
+generated-over_names-requires t c =
+    let cut = c.in-Some.ensures.cases.0 in
+    let long = ap length cut in
+    let depth = first_generator (listing_of c.args.listing) c.args.generators.now c.in-Some.first.now c.in-Some.later.now c.in-Some.first.now.domain cut refl in
+    (omega (arith, depth, long, c.decreases, c.deref.ensures.len), tt)
+
+pub generated-with_part-requires : goal.generated-with_part-requires
+generated-with_part-requires t c =
+    let l = listing_of c.args.listing in
+    let within : listing_depth l ≤ generators_depth l c.args.generators.now = first_within (listing_depth l) (most size-Generator c.args.generators.now) in
+    (omega (arith, within, c.decreases), tt)
+
+pub generated-returns-in_err-more-in-Some-clause-cause : goal.generated-returns-in_err-more-in-Some-clause-cause
+generated-returns-in_err-more-in-Some-clause-cause t c =
+    let mode = mode_in c.args.scope in
+    let env = env_in c.args.scope in
+    let gens = generators_first c.args.generators.now c.in-Some.first.now c.in-Some.later.now (domain_tree c.in-Some.first.now.domain) c.deref.result.now c.in-Some.ensures.cases.0 refl (sym c.deref.ensures.value) in
+    let r = err_from_is_err_and c.from_residual.result c.from_residual.ensures.1 in
+    rw (r.1, r.2)
+    (subst (λ g. IsCause (limits_passed mode c.args.totals.now.size (nodes_of mode (listing_of c.args.listing) g env)) c.in_err-more-in-Some.field-0.0) (sym gens)
+    c.in_err-more-in-Some.ensures.cause)
+
+pub generated-returns-in_err-more-in-None-clause-cause : goal.generated-returns-in_err-more-in-None-clause-cause
+generated-returns-in_err-more-in-None-clause-cause t c =
+    let mode = mode_in c.args.scope in
+    let env = env_in c.args.scope in
+    let gens = generators_none c.args.generators.now (no_runs c.args.generators.now c.in-None.ensures.cases) in
+    let l = c.args.listing in
+    let r = err_from_is_err_and c.from_residual-in_err-more-in-None.result c.from_residual-in_err-more-in-None.ensures.1 in
+    rw (r.1, r.2)
+    (subst (λ g. IsCause (limits_passed mode c.args.totals.now.size (nodes_of mode (listing_of l) g env)) c.in_err-more-in-None.field-0.0) (sym gens)
+    (subst (λ ms. IsCause (limits_passed mode c.args.totals.now.size ms) c.in_err-more-in-None.field-0.0)
+    (sym (nodes_part mode (expr_tree l.body.now) (expr_trees l.conditions.now) env))
+    c.in_err-more-in-None.ensures.cause))
+
+pub generated-returns-in_ok-more-in-Some-clause-measured : goal.generated-returns-in_ok-more-in-Some-clause-measured
+generated-returns-in_ok-more-in-Some-clause-measured t c =
+    let mode = mode_in c.args.scope in
+    let env = env_in c.args.scope in
+    let gens = generators_first c.args.generators.now c.in-Some.first.now c.in-Some.later.now (domain_tree c.in-Some.first.now.domain) c.deref.result.now c.in-Some.ensures.cases.0 refl (sym c.deref.ensures.value) in
+    subst (λ g. Measured mode c.args.totals.now c.over_names.new.totals (nodes_of mode (listing_of c.args.listing) g env)) (sym gens)
+    c.in_ok-more-in-Some.ensures.measured
+
+pub generated-returns-in_ok-more-in-Some-clause-known : goal.generated-returns-in_ok-more-in-Some-clause-known
+generated-returns-in_ok-more-in-Some-clause-known t c =
+    let mode = mode_in c.args.scope in
+    let env = env_in c.args.scope in
+    let gens = generators_first c.args.generators.now c.in-Some.first.now c.in-Some.later.now (domain_tree c.in-Some.first.now.domain) c.deref.result.now c.in-Some.ensures.cases.0 refl (sym c.deref.ensures.value) in
+    c.in_ok-more-in-Some.ensures.known ∙ ap (λ g. map grid_of c.args.front.items ++ known_of mode c.args.listing g env) (sym gens)
+
+pub generated-returns-in_ok-more-in-None-clause-measured : goal.generated-returns-in_ok-more-in-None-clause-measured
+generated-returns-in_ok-more-in-None-clause-measured t c =
+    let mode = mode_in c.args.scope in
+    let env = env_in c.args.scope in
+    let gens = generators_none c.args.generators.now (no_runs c.args.generators.now c.in-None.ensures.cases) in
+    let l = c.args.listing in
+    subst (λ g. Measured mode c.args.totals.now c.with_part.new.totals (nodes_of mode (listing_of l) g env)) (sym gens)
+    (subst (λ ms. Measured mode c.args.totals.now c.with_part.new.totals ms)
+    (sym (nodes_part mode (expr_tree l.body.now) (expr_trees l.conditions.now) env))
+    c.in_ok-more-in-None.ensures.measured)
+
+pub generated-returns-in_ok-more-in-None-clause-known : goal.generated-returns-in_ok-more-in-None-clause-known
+generated-returns-in_ok-more-in-None-clause-known t c =
+    let mode = mode_in c.args.scope in
+    let env = env_in c.args.scope in
+    let gens = generators_none c.args.generators.now (no_runs c.args.generators.now c.in-None.ensures.cases) in
+    let l = c.args.listing in
+    c.in_ok-more-in-None.ensures.known
+    ∙ ap (λ xs. map grid_of c.args.front.items ++ xs) (sym (extents_part mode (expr_tree l.body.now) (expr_trees l.conditions.now) env))
+    ∙ ap (λ g. map grid_of c.args.front.items ++ known_of mode l g env) (sym gens)
+
+pub over_names-returns-in_err-count-in-Some-clause-cause : goal.over_names-returns-in_err-count-in-Some-clause-cause
+over_names-returns-in_err-count-in-Some-clause-cause t c =
+    let mode = mode_in c.args.scope in
+    let env = env_in c.args.scope in
+    let g = c.args.ranging in
+    let r = err_from_is_err_and c.from_residual.result c.from_residual.ensures.1 in
+    rw (r.1, r.2, c.in_err-count-in-Some.ensures.cause)
+    (subst (λ ns. Contains (limits_passed mode c.args.totals.now.size (nodes_of mode (listing_of g.listing) (ranging_over (ranging_of g) ns) env)) (over_limit LimitName.Size)) (sym c.in-Some.ensures.cases.0)
+    (subst (λ ms. Contains (limits_passed mode c.args.totals.now.size ms) (over_limit LimitName.Size)) (sym (nodes_name mode (expr_tree g.listing.body.now) (expr_trees g.listing.conditions.now) c.in-Some.name.now c.in-Some.rest.now (domain_tree g.domain.now) (generators_of g.later.now) env _ refl))
+    (name_refused mode c.args.totals.now.size _ c.in_err-count-in-Some.ensures.refused)))
+
+pub over_names-returns-in_err-numbers-in-Some-clause-cause : goal.over_names-returns-in_err-numbers-in-Some-clause-cause
+over_names-returns-in_err-numbers-in-Some-clause-cause t c =
+    let mode = mode_in c.args.scope in
+    let env = env_in c.args.scope in
+    let g = c.args.ranging in
+    let r = err_from_is_err_and c.from_residual-in_err-numbers-in-Some.result c.from_residual-in_err-numbers-in-Some.ensures.1 in
+    rw (r.1, r.2)
+    (subst (λ ns. IsCause (limits_passed mode c.args.totals.now.size (nodes_of mode (listing_of g.listing) (ranging_over (ranging_of g) ns) env)) c.in_err-numbers-in-Some.field-0.0) (sym c.in-Some.ensures.cases.0)
+    (subst (λ ms. IsCause (limits_passed mode c.args.totals.now.size ms) c.in_err-numbers-in-Some.field-0.0) (sym (nodes_name mode (expr_tree g.listing.body.now) (expr_trees g.listing.conditions.now) c.in-Some.name.now c.in-Some.rest.now (domain_tree g.domain.now) (generators_of g.later.now) env _ refl))
+    (domain_cause mode c.args.totals.now c.count.new.totals (met_domain mode env (domain_tree g.domain.now)) _ c.in_err-numbers-in-Some.field-0.0
+    c.in_ok-count-in-Some.ensures.counted c.count.ensures.weight c.in_ok-count-in-Some.ensures.small c.in_err-numbers-in-Some.ensures.cause)))
+
+pub over_names-over_numbers-requires : goal.over_names-over_numbers-requires
+over_names-over_numbers-requires t c =
+    let long = ap length c.in-Some.ensures.cases.0 in
+    (omega (arith, long, c.decreases), sym c.in_ok-numbers-in-Some.ensures.value ∙ c.in-Some-numbers.is)
+
+pub over_names-returns-in_err-more-in-Some-numbers-clause-cause : goal.over_names-returns-in_err-more-in-Some-numbers-clause-cause
+over_names-returns-in_err-more-in-Some-numbers-clause-cause t c =
+    let mode = mode_in c.args.scope in
+    let env = env_in c.args.scope in
+    let g = c.args.ranging in
+    let is = sym c.in_ok-numbers-in-Some.ensures.value ∙ c.in-Some-numbers.is in
+    let r = err_from_is_err_and c.from_residual-in_err-more-in-Some-numbers.result c.from_residual-in_err-more-in-Some-numbers.ensures.1 in
+    rw (r.1, r.2)
+    (subst (λ ns. IsCause (limits_passed mode c.args.totals.now.size (nodes_of mode (listing_of g.listing) (ranging_over (ranging_of g) ns) env)) c.in_err-more-in-Some-numbers.field-0.0) (sym c.in-Some.ensures.cases.0)
+    (subst (λ ms. IsCause (limits_passed mode c.args.totals.now.size ms) c.in_err-more-in-Some-numbers.field-0.0) (sym (nodes_name mode (expr_tree g.listing.body.now) (expr_trees g.listing.conditions.now) c.in-Some.name.now c.in-Some.rest.now (domain_tree g.domain.now) (generators_of g.later.now) env _ is))
+    (behind_cause mode c.args.totals.now c.count.new.totals c.fixed_numbers.new.totals (met_domain mode env (domain_tree g.domain.now)) _ c.in_err-more-in-Some-numbers.field-0.0
+    c.in_ok-count-in-Some.ensures.counted c.count.ensures.weight c.in_ok-count-in-Some.ensures.small c.in_ok-numbers-in-Some.ensures.measured c.in_err-more-in-Some-numbers.ensures.cause)))
+
+pub over_names-generated-requires : goal.over_names-generated-requires
+over_names-generated-requires t c =
+    let r = ranging_of c.args.ranging in
+    let within = second_within (size-Domain r.domain.now) (generators_depth r.listing r.later.now) in
+    (omega (arith, within, c.decreases), tt)
+
+pub over_names-returns-in_err-more-in-None-clause-cause : goal.over_names-returns-in_err-more-in-None-clause-cause
+over_names-returns-in_err-more-in-None-clause-cause t c =
+    let mode = mode_in c.args.scope in
+    let env = env_in c.args.scope in
+    let g = c.args.ranging in
+    let r = err_from_is_err_and c.from_residual-in_err-more-in-None.result c.from_residual-in_err-more-in-None.ensures.1 in
+    rw (r.1, r.2)
+    (subst (λ ns. IsCause (limits_passed mode c.args.totals.now.size (nodes_of mode (listing_of g.listing) (ranging_over (ranging_of g) ns) env)) c.in_err-more-in-None.field-0.0) (sym (no_runs c.args.names.now c.in-None.ensures.cases))
+    (subst (λ ms. IsCause (limits_passed mode c.args.totals.now.size ms) c.in_err-more-in-None.field-0.0) (sym (nodes_bare mode (expr_tree g.listing.body.now) (expr_trees g.listing.conditions.now) (domain_tree g.domain.now) (generators_of g.later.now) env)) c.in_err-more-in-None.ensures.cause))
+
+pub over_names-returns-in_ok-more-in-Some-numbers-clause-measured : goal.over_names-returns-in_ok-more-in-Some-numbers-clause-measured
+over_names-returns-in_ok-more-in-Some-numbers-clause-measured t c =
+    let mode = mode_in c.args.scope in
+    let env = env_in c.args.scope in
+    let g = c.args.ranging in
+    let is = sym c.in_ok-numbers-in-Some.ensures.value ∙ c.in-Some-numbers.is in
+    subst (λ ns. Measured mode c.args.totals.now c.over_numbers.new.totals (nodes_of mode (listing_of g.listing) (ranging_over (ranging_of g) ns) env)) (sym c.in-Some.ensures.cases.0)
+    (subst (λ ms. Measured mode c.args.totals.now c.over_numbers.new.totals ms) (sym (nodes_name mode (expr_tree g.listing.body.now) (expr_trees g.listing.conditions.now) c.in-Some.name.now c.in-Some.rest.now (domain_tree g.domain.now) (generators_of g.later.now) env _ is))
+    (name_whole mode c.args.totals.now c.count.new.totals c.fixed_numbers.new.totals c.over_numbers.new.totals (met_domain mode env (domain_tree g.domain.now)) _
+    c.in_ok-count-in-Some.ensures.counted c.count.ensures.weight c.in_ok-count-in-Some.ensures.small c.in_ok-numbers-in-Some.ensures.measured c.in_ok-more-in-Some-numbers.ensures.measured))
+
+pub over_names-returns-in_ok-more-in-Some-numbers-clause-known : goal.over_names-returns-in_ok-more-in-Some-numbers-clause-known
+over_names-returns-in_ok-more-in-Some-numbers-clause-known t c =
+    let mode = mode_in c.args.scope in
+    let env = env_in c.args.scope in
+    let g = c.args.ranging in
+    let is = sym c.in_ok-numbers-in-Some.ensures.value ∙ c.in-Some-numbers.is in
+    c.in_ok-more-in-Some-numbers.ensures.known
+    ∙ ap (λ xs. map grid_of c.args.front.items ++ xs) (sym (extents_name mode (expr_tree g.listing.body.now) (expr_trees g.listing.conditions.now) c.in-Some.name.now c.in-Some.rest.now (domain_tree g.domain.now) (generators_of g.later.now) env _ is))
+    ∙ ap (λ ns. map grid_of c.args.front.items ++ known_of mode g.listing (ranging_over (ranging_of g) ns) env) (sym c.in-Some.ensures.cases.0)
+
+pub over_names-returns-in-None-numbers-clause-measured : goal.over_names-returns-in-None-numbers-clause-measured
+over_names-returns-in-None-numbers-clause-measured t c =
+    let mode = mode_in c.args.scope in
+    let env = env_in c.args.scope in
+    let g = c.args.ranging in
+    let is = sym c.in_ok-numbers-in-Some.ensures.value ∙ c.in-None-numbers.is in
+    subst (λ ns. Measured mode c.args.totals.now c.fixed_numbers.new.totals (nodes_of mode (listing_of g.listing) (ranging_over (ranging_of g) ns) env)) (sym c.in-Some.ensures.cases.0)
+    (subst (λ ms. Measured mode c.args.totals.now c.fixed_numbers.new.totals ms) (sym (nodes_name mode (expr_tree g.listing.body.now) (expr_trees g.listing.conditions.now) c.in-Some.name.now c.in-Some.rest.now (domain_tree g.domain.now) (generators_of g.later.now) env _ is))
+    (name_whole mode c.args.totals.now c.count.new.totals c.fixed_numbers.new.totals c.fixed_numbers.new.totals (met_domain mode env (domain_tree g.domain.now)) []
+    c.in_ok-count-in-Some.ensures.counted c.count.ensures.weight c.in_ok-count-in-Some.ensures.small c.in_ok-numbers-in-Some.ensures.measured (measured_none mode c.fixed_numbers.new.totals)))
+
+pub over_names-returns-in-None-numbers-clause-known : goal.over_names-returns-in-None-numbers-clause-known
+over_names-returns-in-None-numbers-clause-known t c =
+    let mode = mode_in c.args.scope in
+    let env = env_in c.args.scope in
+    let g = c.args.ranging in
+    let is = sym c.in_ok-numbers-in-Some.ensures.value ∙ c.in-None-numbers.is in
+    nothing_behind (map grid_of c.args.front.items) (known_of mode g.listing (ranging_over (ranging_of g) c.args.names.now) env)
+    (ap (λ ns. known_of mode g.listing (ranging_over (ranging_of g) ns) env) c.in-Some.ensures.cases.0 ∙ (extents_name mode (expr_tree g.listing.body.now) (expr_trees g.listing.conditions.now) c.in-Some.name.now c.in-Some.rest.now (domain_tree g.domain.now) (generators_of g.later.now) env _ is))
+
+pub over_names-returns-in_ok-more-in-None-clause-measured : goal.over_names-returns-in_ok-more-in-None-clause-measured
+over_names-returns-in_ok-more-in-None-clause-measured t c =
+    let mode = mode_in c.args.scope in
+    let env = env_in c.args.scope in
+    let g = c.args.ranging in
+    subst (λ ns. Measured mode c.args.totals.now c.generated.new.totals (nodes_of mode (listing_of g.listing) (ranging_over (ranging_of g) ns) env)) (sym (no_runs c.args.names.now c.in-None.ensures.cases))
+    (subst (λ ms. Measured mode c.args.totals.now c.generated.new.totals ms) (sym (nodes_bare mode (expr_tree g.listing.body.now) (expr_trees g.listing.conditions.now) (domain_tree g.domain.now) (generators_of g.later.now) env)) c.in_ok-more-in-None.ensures.measured)
+
+pub over_names-returns-in_ok-more-in-None-clause-known : goal.over_names-returns-in_ok-more-in-None-clause-known
+over_names-returns-in_ok-more-in-None-clause-known t c =
+    let mode = mode_in c.args.scope in
+    let env = env_in c.args.scope in
+    let g = c.args.ranging in
+    c.in_ok-more-in-None.ensures.known
+    ∙ ap (λ xs. map grid_of c.args.front.items ++ xs) (sym (extents_bare mode (expr_tree g.listing.body.now) (expr_trees g.listing.conditions.now) (domain_tree g.domain.now) (generators_of g.later.now) env))
+    ∙ ap (λ ns. map grid_of c.args.front.items ++ known_of mode g.listing (ranging_over (ranging_of g) ns) env) (sym (no_runs c.args.names.now c.in-None.ensures.cases))
+
+pub over_numbers-loop-number-init : goal.over_numbers-loop-number-init
+over_numbers-loop-number-init t c =
+    let mode = mode_in c.args.scope in
+    let env = env_in c.args.scope in
+    let g = c.args.ranging in
+    let name = c.args.name.now in
+    let rest = c.args.rest.now in (
+      c.walk_of-walk.ensures.walk,
+      listed_begins mode (known_at mode env g name rest) (nodes_at mode env (ranging_of g) name rest) c.args.totals.now c.args.set.now (numbers_left c.walk_of-walk.result)
+          (map grid_of c.args.front.items) (c.walk_of-walk.ensures.numbers ∙ c.runs.ensures.numbers),
+    )
+
+pub over_numbers-next_number-requires : goal.over_numbers-next_number-requires
+over_numbers-next_number-requires t c =
+    c.loop-number.invariant.0
+
+pub over_numbers-over_names-requires : goal.over_numbers-over_names-requires
+over_numbers-over_names-requires t c =
+    (omega (arith, c.decreases), tt)
+
+pub over_numbers-loop-number-smaller : goal.over_numbers-loop-number-smaller
+unfolding before_rest
+over_numbers-loop-number-smaller t c =
+    let cut : numbers_left c.loop-number.walk ≡ c.in-Some.number ∷ numbers_left c.in-Some.behind = c.next_number.ensures.numbers ∙ ap before_rest c.in-Some.is in
+    let longer = ap length cut in
+    omega (arith, longer)
+
+pub over_numbers-returns-in_err-more-clause-cause : goal.over_numbers-returns-in_err-more-clause-cause
+unfolding before_rest with_all
+over_numbers-returns-in_err-more-clause-cause t c =
+    let mode = mode_in c.args.scope in
+    let env = env_in c.args.scope in
+    let g = c.args.ranging in
+    let name = c.args.name.now in
+    let rest = c.args.rest.now in
+    let n = c.in-Some.number in
+    let cut : numbers_left c.loop-number.walk ≡ n ∷ numbers_left c.in-Some.behind = c.next_number.ensures.numbers ∙ ap before_rest c.in-Some.is in
+    let scalar : c.scalar_of-scalar.result ≡ scalar_in env (domain_tree g.domain.now) = c.scalar_of-scalar.ensures mode (λ none. absurd (let e = sym c.requires ∙ none in cc)) in
+    let same : to_z w64 (of_z w64 n) ≡ n = to_z-of_z w64 n (omega (arith, ints)) in
+    let r = err_from_is_err_and c.from_residual.result c.from_residual.ensures.1 in
+    rw (r.1, r.2)
+    (listed_cause mode (known_at mode env g name rest) (nodes_at mode env (ranging_of g) name rest)
+    c.args.totals.now c.loop-number.totals
+    c.args.set.now (numbers_left c.loop-number.walk) (numbers_left c.in-Some.behind) (map grid_of c.args.front.items) (map grid_of c.loop-number.more.items) n
+    c.loop-number.invariant.1 cut c.in_err-more.field-0.0
+    (subst (λ s. IsCause (limits_passed mode c.loop-number.totals.size (nodes_of mode (listing_of g.listing) (ranging_over (ranging_of g) rest) (with_number name s n env))) c.in_err-more.field-0.0) scalar
+    (subst (λ m. IsCause (limits_passed mode c.loop-number.totals.size (nodes_of mode (listing_of g.listing) (ranging_over (ranging_of g) rest) (with_number name c.scalar_of-scalar.result m env))) c.in_err-more.field-0.0) same c.in_err-more.ensures.cause)))
+
+pub over_numbers-loop-number-preserved : goal.over_numbers-loop-number-preserved
+unfolding before_rest IsWalkBehind with_all
+over_numbers-loop-number-preserved t c =
+    let mode = mode_in c.args.scope in
+    let env = env_in c.args.scope in
+    let g = c.args.ranging in
+    let name = c.args.name.now in
+    let rest = c.args.rest.now in
+    let n = c.in-Some.number in
+    let cut : numbers_left c.loop-number.walk ≡ n ∷ numbers_left c.in-Some.behind = c.next_number.ensures.numbers ∙ ap before_rest c.in-Some.is in
+    let scalar : c.scalar_of-scalar.result ≡ scalar_in env (domain_tree g.domain.now) = c.scalar_of-scalar.ensures mode (λ none. absurd (let e = sym c.requires ∙ none in cc)) in
+    let same : to_z w64 (of_z w64 n) ≡ n = to_z-of_z w64 n (omega (arith, ints)) in (
+      subst IsWalkBehind c.in-Some.is c.next_number.ensures.walk,
+      listed_goes_on mode (known_at mode env g name rest) (nodes_at mode env (ranging_of g) name rest)
+          c.args.totals.now c.loop-number.totals c.over_names.new.totals c.args.set.now (numbers_left c.loop-number.walk) (numbers_left c.in-Some.behind)
+          (map grid_of c.args.front.items) (map grid_of c.loop-number.more.items) (map grid_of c.in_ok-more.more.items) n
+          c.loop-number.invariant.1 cut
+          (subst (λ s. Measured mode c.loop-number.totals c.over_names.new.totals (nodes_of mode (listing_of g.listing) (ranging_over (ranging_of g) rest) (with_number name s n env))) scalar
+          (subst (λ m. Measured mode c.loop-number.totals c.over_names.new.totals (nodes_of mode (listing_of g.listing) (ranging_over (ranging_of g) rest) (with_number name c.scalar_of-scalar.result m env))) same c.in_ok-more.ensures.measured))
+          (subst (λ s. map grid_of c.in_ok-more.more.items ≡ map grid_of c.loop-number.more.items ++ known_of mode g.listing (ranging_over (ranging_of g) rest) (with_number name s n env)) scalar
+          (subst (λ m. map grid_of c.in_ok-more.more.items ≡ map grid_of c.loop-number.more.items ++ known_of mode g.listing (ranging_over (ranging_of g) rest) (with_number name c.scalar_of-scalar.result m env)) same c.in_ok-more.ensures.known)),
+    )
+
+pub over_numbers-returns-clause-measured : goal.over_numbers-returns-clause-measured
+unfolding before_rest
+over_numbers-returns-clause-measured t c =
+    let mode = mode_in c.args.scope in
+    let env = env_in c.args.scope in
+    let g = c.args.ranging in
+    let name = c.args.name.now in
+    let rest = c.args.rest.now in
+    listed_measured mode (known_at mode env g name rest) (nodes_at mode env (ranging_of g) name rest)
+    c.args.totals.now c.loop-number.totals c.args.set.now (numbers_left c.loop-number.walk) (map grid_of c.args.front.items) (map grid_of c.loop-number.more.items) c.loop-number.invariant.1
+    (c.next_number.ensures.numbers ∙ ap before_rest c.in_default.is)
+
+pub over_numbers-returns-clause-known : goal.over_numbers-returns-clause-known
+unfolding before_rest
+over_numbers-returns-clause-known t c =
+    let mode = mode_in c.args.scope in
+    let env = env_in c.args.scope in
+    let g = c.args.ranging in
+    let name = c.args.name.now in
+    let rest = c.args.rest.now in
+    listed_known mode (known_at mode env g name rest) (nodes_at mode env (ranging_of g) name rest)
+    c.args.totals.now c.loop-number.totals c.args.set.now (numbers_left c.loop-number.walk) (map grid_of c.args.front.items) (map grid_of c.loop-number.more.items) c.loop-number.invariant.1
+    (c.next_number.ensures.numbers ∙ ap before_rest c.in_default.is)
+
+pub with_part-extent_of-requires : goal.with_part-extent_of-requires
+with_part-extent_of-requires t c =
+    let l = listing_of c.args.listing in
+    let within : size-Expr l.body.now ≤ listing_depth l = first_within (size-Expr l.body.now) (most size-Expr l.conditions.now) in
+    (omega (arith, within, c.decreases), tt)
+
+pub with_part-returns-in_err-holds-clause-cause : goal.with_part-returns-in_err-holds-clause-cause
+with_part-returns-in_err-holds-clause-cause t c =
+    let mode = mode_in c.args.scope in
+    let env = env_in c.args.scope in
+    let l = c.args.listing in
+    let e = expr_tree l.body.now in
+    let cs = expr_trees l.conditions.now in
+    let r = err_from_is_err_and c.from_residual.result c.from_residual.ensures.1 in
+    rw (r.1, r.2) (conditions_cause mode e cs env c.args.totals.now.size c.in_err-holds.field-0.0 c.in_err-holds.ensures.cause)
+
+pub with_part-returns-in_err-one-clause-cause : goal.with_part-returns-in_err-one-clause-cause
+with_part-returns-in_err-one-clause-cause t c =
+    let mode = mode_in c.args.scope in
+    let env = env_in c.args.scope in
+    let l = c.args.listing in
+    let e = expr_tree l.body.now in
+    let cs = expr_trees l.conditions.now in
+    let r = err_from_is_err_and c.from_residual-in_err-one.result c.from_residual-in_err-one.ensures.1 in
+    rw (r.1, r.2)
+    (part_cause mode e cs env c.args.totals.now c.all_true.new.totals c.in_err-one.field-0.0 c.in_ok-holds.holds c.in_ok-holds.ensures.value c.if-holds.true
+    c.in_ok-holds.ensures.measured c.in_err-one.ensures.cause)
+
+pub with_part-returns-in_err-more-clause-cause : goal.with_part-returns-in_err-more-clause-cause
+with_part-returns-in_err-more-clause-cause t c =
+    let r = err_from_is_err_and c.from_residual-in_err-more.result c.from_residual-in_err-more.ensures.1 in
+    rw (r.1, r.2, c.in_err-more.ensures.memory) tt
+
+pub with_part-returns-then-holds-clause-measured : goal.with_part-returns-then-holds-clause-measured
+with_part-returns-then-holds-clause-measured t c =
+    let mode = mode_in c.args.scope in
+    let env = env_in c.args.scope in
+    let l = c.args.listing in
+    let e = expr_tree l.body.now in
+    let cs = expr_trees l.conditions.now in
+    part_measured mode e cs env c.args.totals.now c.all_true.new.totals c.extent_of.new.totals c.in_ok-holds.holds c.in_ok-holds.ensures.value c.if-holds.true
+    c.in_ok-holds.ensures.measured c.in_ok-one.ensures.measured
+
+pub with_part-returns-then-holds-clause-known : goal.with_part-returns-then-holds-clause-known
+with_part-returns-then-holds-clause-known t c =
+    let mode = mode_in c.args.scope in
+    let env = env_in c.args.scope in
+    let l = c.args.listing in
+    let e = expr_tree l.body.now in
+    let cs = expr_trees l.conditions.now in
+    part_is mode e cs env c.args.front.items c.in_ok-more.more.items c.in_ok-one.one c.in_ok-holds.holds c.in_ok-holds.ensures.value c.if-holds.true
+    c.in_ok-one.ensures.known.extent c.in_ok-more.ensures.more
+
+pub with_part-returns-clause-measured : goal.with_part-returns-clause-measured
+with_part-returns-clause-measured t c =
+    let mode = mode_in c.args.scope in
+    let env = env_in c.args.scope in
+    let l = c.args.listing in
+    let e = expr_tree l.body.now in
+    let cs = expr_trees l.conditions.now in
+    no_part_measured mode e cs env c.args.totals.now c.all_true.new.totals c.in_ok-holds.holds c.in_ok-holds.ensures.value c.if-holds.false c.in_ok-holds.ensures.measured
+
+pub with_part-returns-clause-known : goal.with_part-returns-clause-known
+with_part-returns-clause-known t c =
+    let mode = mode_in c.args.scope in
+    let env = env_in c.args.scope in
+    let l = c.args.listing in
+    let e = expr_tree l.body.now in
+    let cs = expr_trees l.conditions.now in
+    no_part_is mode e cs env c.args.front.items c.in_ok-holds.holds c.in_ok-holds.ensures.value c.if-holds.false
+
+pub with_generators-generated-requires : goal.with_generators-generated-requires
+with_generators-generated-requires t c =
+    let l : Listing = record { body = c.deref.result; conditions = c.deref-in-Comprehension.result } in
+    let gens = c.deref-in-Comprehension-2.result.now in
+    let tree = comprehension_at c.args.kind.now c.in-Comprehension.body c.in-Comprehension.generators c.in-Comprehension.conditions c.in-Comprehension.domain (listing_of l) gens
+    c.in-Comprehension.is c.deref.ensures c.deref-in-Comprehension.ensures.value c.deref-in-Comprehension-2.ensures.value in
+    let below = comprehension_depth c.args.kind.now c.in-Comprehension.body c.in-Comprehension.generators c.in-Comprehension.conditions c.in-Comprehension.domain (listing_of l) gens
+    c.in-Comprehension.is c.deref.ensures c.deref-in-Comprehension.ensures.value c.deref-in-Comprehension-2.ensures.value in
+    (omega (arith, below, c.decreases, c.deref-in-Comprehension-2.ensures.len), tt)
+
+pub with_generators-returns-in_ok-indices-in-Comprehension-clause-extended : goal.with_generators-returns-in_ok-indices-in-Comprehension-clause-extended
+with_generators-returns-in_ok-indices-in-Comprehension-clause-extended t c =
+    let mode = mode_in c.args.scope in
+    let env = env_in c.args.scope in
+    let l : Listing = record { body = c.deref.result; conditions = c.deref-in-Comprehension.result } in
+    let gens = c.deref-in-Comprehension-2.result.now in
+    let tree = comprehension_at c.args.kind.now c.in-Comprehension.body c.in-Comprehension.generators c.in-Comprehension.conditions c.in-Comprehension.domain (listing_of l) gens
+    c.in-Comprehension.is c.deref.ensures c.deref-in-Comprehension.ensures.value c.deref-in-Comprehension-2.ensures.value in
+    let e = expr_tree l.body.now in
+    let cs = expr_trees l.conditions.now in
+    let gs = generators_of gens in
+    let d = index_at c.in-Comprehension.domain in
+    let below : List Met = ordered_nodes mode env e gs cs d in
+    let meets : (p : Place) → met mode env (kind_tree p c.args.kind.now) ≡ a_node env (kind_tree p c.args.kind.now) ∷ below =
+    λ p. meets_same mode env (kind_tree p c.args.kind.now) (comprehension p e gs cs d) below (tree.tree p) (meets_in_order mode env p e gs cs d) in
+    let front : map grid_of c.in_ok-known-in-Comprehension.known.items ≡ listed_extents mode e cs gs env =
+    c.in_ok-known-in-Comprehension.ensures.known ∙ ap (λ xs. map grid_of xs ++ listed_extents mode e cs gs env) c.new-none.ensures.items in
+    let done : (p : Place) → holds_decision (decisions_in env) (kind_tree p c.args.kind.now) ≡ true → Finishes mode env (kind_tree p c.args.kind.now) c.index_numbers.new.totals c.index_numbers.new.totals c.matrix_of.result =
+    λ p held. lists_finish mode env (kind_tree p c.args.kind.now) _ c.index_numbers.new.totals c.matrix_of.result
+    (comprehension_node mode env p (kind_tree p c.args.kind.now) e gs cs d c.in_ok-indices-in-Comprehension.indices c.in_ok-known-in-Comprehension.known.items (tree.tree p) held
+    front c.in_ok-indices-in-Comprehension.ensures.value) c.matrix_of.ensures in
+    then_extended mode env (λ p. kind_tree p c.args.kind.now) below c.args.totals.now c.index_numbers.new.totals c.index_numbers.new.totals c.matrix_of.result
+    meets (measured_same mode c.args.totals.now c.index_numbers.new.totals _ below (in_order mode env e gs cs d)
+    (measured_append mode c.args.totals.now c.generated.new.totals c.index_numbers.new.totals (listed_nodes mode e cs gs env) (met_index mode env d)
+    c.in_ok-known-in-Comprehension.ensures.measured c.in_ok-indices-in-Comprehension.ensures.measured)) done
+
+pub with_generators-returns-in_ok-indices-in-Comprehension-clause-known : goal.with_generators-returns-in_ok-indices-in-Comprehension-clause-known
+with_generators-returns-in_ok-indices-in-Comprehension-clause-known t c =
+    let mode = mode_in c.args.scope in
+    let env = env_in c.args.scope in
+    let l : Listing = record { body = c.deref.result; conditions = c.deref-in-Comprehension.result } in
+    let gens = c.deref-in-Comprehension-2.result.now in
+    let tree = comprehension_at c.args.kind.now c.in-Comprehension.body c.in-Comprehension.generators c.in-Comprehension.conditions c.in-Comprehension.domain (listing_of l) gens
+    c.in-Comprehension.is c.deref.ensures c.deref-in-Comprehension.ensures.value c.deref-in-Comprehension-2.ensures.value in
+    let e = expr_tree l.body.now in
+    let cs = expr_trees l.conditions.now in
+    let gs = generators_of gens in
+    let d = index_at c.in-Comprehension.domain in
+    let below : List Met = ordered_nodes mode env e gs cs d in
+    let meets : (p : Place) → met mode env (kind_tree p c.args.kind.now) ≡ a_node env (kind_tree p c.args.kind.now) ∷ below =
+    λ p. meets_same mode env (kind_tree p c.args.kind.now) (comprehension p e gs cs d) below (tree.tree p) (meets_in_order mode env p e gs cs d) in
+    let front : map grid_of c.in_ok-known-in-Comprehension.known.items ≡ listed_extents mode e cs gs env =
+    c.in_ok-known-in-Comprehension.ensures.known ∙ ap (λ xs. map grid_of xs ++ listed_extents mode e cs gs env) c.new-none.ensures.items in
+    let done : (p : Place) → holds_decision (decisions_in env) (kind_tree p c.args.kind.now) ≡ true → Finishes mode env (kind_tree p c.args.kind.now) c.index_numbers.new.totals c.index_numbers.new.totals c.matrix_of.result =
+    λ p held. lists_finish mode env (kind_tree p c.args.kind.now) _ c.index_numbers.new.totals c.matrix_of.result
+    (comprehension_node mode env p (kind_tree p c.args.kind.now) e gs cs d c.in_ok-indices-in-Comprehension.indices c.in_ok-known-in-Comprehension.known.items (tree.tree p) held
+    front c.in_ok-indices-in-Comprehension.ensures.value) c.matrix_of.ensures in
+    then_known mode env (λ p. kind_tree p c.args.kind.now) c.index_numbers.new.totals c.index_numbers.new.totals c.matrix_of.result done
+
+pub with_generators-returns-in_ok-indices-in-Comprehension-clause-cause : goal.with_generators-returns-in_ok-indices-in-Comprehension-clause-cause
+with_generators-returns-in_ok-indices-in-Comprehension-clause-cause t c =
+    let mode = mode_in c.args.scope in
+    let env = env_in c.args.scope in
+    let l : Listing = record { body = c.deref.result; conditions = c.deref-in-Comprehension.result } in
+    let gens = c.deref-in-Comprehension-2.result.now in
+    let tree = comprehension_at c.args.kind.now c.in-Comprehension.body c.in-Comprehension.generators c.in-Comprehension.conditions c.in-Comprehension.domain (listing_of l) gens
+    c.in-Comprehension.is c.deref.ensures c.deref-in-Comprehension.ensures.value c.deref-in-Comprehension-2.ensures.value in
+    let e = expr_tree l.body.now in
+    let cs = expr_trees l.conditions.now in
+    let gs = generators_of gens in
+    let d = index_at c.in-Comprehension.domain in
+    let below : List Met = ordered_nodes mode env e gs cs d in
+    let meets : (p : Place) → met mode env (kind_tree p c.args.kind.now) ≡ a_node env (kind_tree p c.args.kind.now) ∷ below =
+    λ p. meets_same mode env (kind_tree p c.args.kind.now) (comprehension p e gs cs d) below (tree.tree p) (meets_in_order mode env p e gs cs d) in
+    let front : map grid_of c.in_ok-known-in-Comprehension.known.items ≡ listed_extents mode e cs gs env =
+    c.in_ok-known-in-Comprehension.ensures.known ∙ ap (λ xs. map grid_of xs ++ listed_extents mode e cs gs env) c.new-none.ensures.items in
+    let done : (p : Place) → holds_decision (decisions_in env) (kind_tree p c.args.kind.now) ≡ true → Finishes mode env (kind_tree p c.args.kind.now) c.index_numbers.new.totals c.index_numbers.new.totals c.matrix_of.result =
+    λ p held. lists_finish mode env (kind_tree p c.args.kind.now) _ c.index_numbers.new.totals c.matrix_of.result
+    (comprehension_node mode env p (kind_tree p c.args.kind.now) e gs cs d c.in_ok-indices-in-Comprehension.indices c.in_ok-known-in-Comprehension.known.items (tree.tree p) held
+    front c.in_ok-indices-in-Comprehension.ensures.value) c.matrix_of.ensures in
+    then_refused mode env (λ p. kind_tree p c.args.kind.now) below c.args.totals.now.size c.index_numbers.new.totals c.index_numbers.new.totals c.matrix_of.result meets done
+
+pub with_generators-returns-in_err-known-in-Comprehension-clause-cause : goal.with_generators-returns-in_err-known-in-Comprehension-clause-cause
+with_generators-returns-in_err-known-in-Comprehension-clause-cause t c =
+    let mode = mode_in c.args.scope in
+    let env = env_in c.args.scope in
+    let l : Listing = record { body = c.deref.result; conditions = c.deref-in-Comprehension.result } in
+    let gens = c.deref-in-Comprehension-2.result.now in
+    let tree = comprehension_at c.args.kind.now c.in-Comprehension.body c.in-Comprehension.generators c.in-Comprehension.conditions c.in-Comprehension.domain (listing_of l) gens
+    c.in-Comprehension.is c.deref.ensures c.deref-in-Comprehension.ensures.value c.deref-in-Comprehension-2.ensures.value in
+    let e = expr_tree l.body.now in
+    let cs = expr_trees l.conditions.now in
+    let gs = generators_of gens in
+    let d = index_at c.in-Comprehension.domain in
+    let below : List Met = ordered_nodes mode env e gs cs d in
+    let meets : (p : Place) → met mode env (kind_tree p c.args.kind.now) ≡ a_node env (kind_tree p c.args.kind.now) ∷ below =
+    λ p. meets_same mode env (kind_tree p c.args.kind.now) (comprehension p e gs cs d) below (tree.tree p) (meets_in_order mode env p e gs cs d) in
+    let q = err_from_is_err_and c.from_residual.result c.from_residual.ensures.1 in
+    rw (q.1, q.2)
+    (λ place held. part_refused mode env (λ p. kind_tree p c.args.kind.now) below c.args.totals.now.size c.in_err-known-in-Comprehension.field-0.0 meets
+    (cause_same mode c.args.totals.now.size _ below c.in_err-known-in-Comprehension.field-0.0 (in_order mode env e gs cs d)
+    (cause_first mode c.args.totals.now.size (listed_nodes mode e cs gs env) (met_index mode env d) c.in_err-known-in-Comprehension.field-0.0
+    c.in_err-known-in-Comprehension.ensures.cause)) place)
+
+pub with_generators-returns-in_err-indices-in-Comprehension-clause-cause : goal.with_generators-returns-in_err-indices-in-Comprehension-clause-cause
+with_generators-returns-in_err-indices-in-Comprehension-clause-cause t c =
+    let mode = mode_in c.args.scope in
+    let env = env_in c.args.scope in
+    let l : Listing = record { body = c.deref.result; conditions = c.deref-in-Comprehension.result } in
+    let gens = c.deref-in-Comprehension-2.result.now in
+    let tree = comprehension_at c.args.kind.now c.in-Comprehension.body c.in-Comprehension.generators c.in-Comprehension.conditions c.in-Comprehension.domain (listing_of l) gens
+    c.in-Comprehension.is c.deref.ensures c.deref-in-Comprehension.ensures.value c.deref-in-Comprehension-2.ensures.value in
+    let e = expr_tree l.body.now in
+    let cs = expr_trees l.conditions.now in
+    let gs = generators_of gens in
+    let d = index_at c.in-Comprehension.domain in
+    let below : List Met = ordered_nodes mode env e gs cs d in
+    let meets : (p : Place) → met mode env (kind_tree p c.args.kind.now) ≡ a_node env (kind_tree p c.args.kind.now) ∷ below =
+    λ p. meets_same mode env (kind_tree p c.args.kind.now) (comprehension p e gs cs d) below (tree.tree p) (meets_in_order mode env p e gs cs d) in
+    let q = err_from_is_err_and c.from_residual-in_err-indices-in-Comprehension.result c.from_residual-in_err-indices-in-Comprehension.ensures.1 in
+    rw (q.1, q.2)
+    (λ place held. part_refused mode env (λ p. kind_tree p c.args.kind.now) below c.args.totals.now.size c.in_err-indices-in-Comprehension.field-0.0 meets
+    (cause_same mode c.args.totals.now.size _ below c.in_err-indices-in-Comprehension.field-0.0 (in_order mode env e gs cs d)
+    (cause_then mode c.args.totals.now c.generated.new.totals (listed_nodes mode e cs gs env) (met_index mode env d) c.in_err-indices-in-Comprehension.field-0.0
+    c.in_ok-known-in-Comprehension.ensures.measured c.in_err-indices-in-Comprehension.ensures.cause)) place)

@@ -13,6 +13,10 @@ use Rattle.ep_size.proofs.ReadForms.{IndicesSoFar}
 use Rattle.std.specs.Prelude.{map}
 use Rattle.ep_size.proofs.IndexParts.{extents_in}
 use Rattle.ep_size.specs.Extents.{grid_of}
+use Rattle.ep_eval.proofs.GeneratingDepths.{generators_depth, listing_depth, ranging_depth}
+use Rattle.ep_eval.specs.Generating.{nodes_at}
+use Rattle.ep_size.proofs.GeneratedSteps.{ListedSoFar}
+use Rattle.ep_size.specs.Generated.{known_at, listing_of, ranging_of}
 use Rattle.ep_size.proofs.extending.+extending.Given as goal
 
 abbrev pub invariant-all_extents-loop-part : goal.invariant-all_extents-loop-part
@@ -108,3 +112,30 @@ decreases-part_extents l = goal.size-part_extents l * 13611294676837538538534984
 
 abbrev pub decreases-member_extent : goal.decreases-member_extent
 decreases-member_extent l = goal.size-member_extent l * 1361129467683753853853498429727072845824 + 8999999999999999998
+
+abbrev pub decreases-with_generators : goal.decreases-with_generators
+decreases-with_generators l = goal.size-with_generators l * 1361129467683753853853498429727072845824 + 8999999999999999998
+
+abbrev pub decreases-with_part : goal.decreases-with_part
+decreases-with_part l = listing_depth (listing_of l.listing) * 1361129467683753853853498429727072845824 + 9000000000000000002
+
+abbrev pub decreases-generated : goal.decreases-generated
+decreases-generated l =
+    generators_depth (listing_of l.listing) l.generators.now * 1361129467683753853853498429727072845824 + (length l.generators.now * 36893488147419103232 + 9000000000000000003)
+
+abbrev pub decreases-over_names : goal.decreases-over_names
+decreases-over_names l =
+    ranging_depth (ranging_of l.ranging) * 1361129467683753853853498429727072845824 + (length l.ranging.later.now * 36893488147419103232 + (3 * length l.names.now + 9000000000000000004))
+
+abbrev pub decreases-over_numbers : goal.decreases-over_numbers
+decreases-over_numbers l =
+    ranging_depth (ranging_of l.ranging) * 1361129467683753853853498429727072845824 + (length l.ranging.later.now * 36893488147419103232 + (3 * length l.rest.now + 9000000000000000005))
+
+abbrev pub decreases-over_numbers-loop-number : goal.decreases-over_numbers-loop-number
+decreases-over_numbers-loop-number l = length (numbers_left l.walk)
+
+abbrev pub invariant-over_numbers-loop-number : goal.invariant-over_numbers-loop-number
+invariant-over_numbers-loop-number l =
+    (IsWalk l.walk)
+    × ListedSoFar (mode_in l.scope) (known_at (mode_in l.scope) (env_in l.scope) l.ranging l.name l.rest) (nodes_at (mode_in l.scope) (env_in l.scope) (ranging_of l.ranging) l.name l.rest)
+    l.fn.totals l.totals l.set (numbers_left l.walk) (map grid_of l.fn.front.items) (map grid_of l.more.items)

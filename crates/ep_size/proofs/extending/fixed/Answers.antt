@@ -2,7 +2,7 @@ use Rattle.std.proofs.Common.{refl}
 use Rattle.std.proofs.lemmas.Result.{err_from_is_err_and}
 use Rattle.ep_tree.specs.Measures.{met}
 use Rattle.ep_tree.specs.Reach.{decisions_in}
-use Rattle.ep_tree.specs.Views.{expr_tree, kind_tree}
+use Rattle.ep_tree.specs.Views.{expr_tree}
 use Rattle.ep_eval.specs.Scopes.{env_in, mode_in}
 use Rattle.ep_size.proofs.FixedParts.{fixed_cause, fixed_measured, known_ok, memory_refuses, yes_ok}
 use Rattle.ep_size.proofs.FreeParts.{free_holds, free_met, same_below}
@@ -21,7 +21,7 @@ returns-clause-known c =
     let mode = mode_in c.args.scope in
     let env = env_in c.args.scope in
     let e = expr_tree c.args.e.now in
-    known_ok mode env (λ p. kind_tree p c.args.e.now.kind) c.args.e.now.place c.known_value.result _ c.known_value.ensures.known (free_holds (decisions_in env) (decisions_in env) (same_below (decisions_in env)) e c.requires) c.in_ok-seen.ensures.value
+    known_ok mode env e c.known_value.result _ c.known_value.ensures.known (free_holds (decisions_in env) (decisions_in env) (same_below (decisions_in env)) e c.requires) c.in_ok-seen.ensures.value
 
 pub returns-clause-cause : goal.returns-clause-cause
 returns-clause-cause c = memory_refuses c.known_value.result _ c.known_value.ensures.memory

@@ -2,7 +2,7 @@ use Rattle.std.proofs.Common.{refl, ap, subst, ◌∙◌, ◌∷◌, []}
 use Rattle.ep_tree.proofs.ViewLemmas.{kind_tree-binary, kind_tree-compare}
 use Rattle.ep_tree.specs.Evaluation.{evaluate, number_in}
 use Rattle.ep_tree.specs.Measures.{binary_weight, widths}
-use Rattle.ep_tree.specs.Reach.{binary_span, span_of}
+use Rattle.ep_tree.specs.Reach.{binary_span, decisions_in, extent, holds_decision, span_of}
 use Rattle.ep_tree.specs.Trees.{binary, compare}
 use Rattle.ep_tree.specs.Views.{kind_tree}
 use Rattle.ep_size.proofs.FormSteps.{binary_number, compare_number, two_are}
@@ -37,7 +37,8 @@ returns-in-Binary c mode env p e f are holds known told =
     (c.binary_weight.ensures ∙ ap (λ s. capped (binary_weight op s (own.span_of c.number_span-second.result))) c.number_span-first.ensures
     ∙ ap (λ s. capped (binary_weight op (span_of x) s)) c.number_span-second.ensures)
     (subst (λ s. Gives c.binary_span.result (binary_span op (span_of x) s n)) c.number_span-second.ensures
-    (subst (λ s. Gives c.binary_span.result (binary_span op s (own.span_of c.number_span-second.result) n)) c.number_span-first.ensures (c.binary_span.ensures n)))
+    (subst (λ s. Gives c.binary_span.result (binary_span op s (own.span_of c.number_span-second.result) n)) c.number_span-first.ensures (c.binary_span.ensures n (holds_decision (decisions_in env) f) (span_of (extent mode env f))
+    (c.index_with-exponent.ensures mode env f told))))
     (binary_number mode env p op (kind_tree p c.args.kind.now) e f x y
     (two_are (λ q. binary q op) c.args.kind.now c.in-Binary.field-1.value c.in-Binary.field-2.value p e f
     (ap (kind_tree p) c.in-Binary.is ∙ kind_tree-binary p op c.in-Binary.field-1 c.in-Binary.field-2) (λ g h. refl) are)

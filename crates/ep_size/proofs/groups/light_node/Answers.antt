@@ -35,3 +35,7 @@ returns-in-Nothing c mode env e h = both_ways _ _ h.holds (subst (Known mode env
 
 pub returns-in-Matrix : goal.returns-in-Matrix
 returns-in-Matrix c mode env e h = light_matrix mode env e _ c.in-Matrix.indices c.in-Matrix.parts (subst (IsLightNode mode env e) c.in-Matrix.is h)
+
+pub returns-in-NoParts : goal.returns-in-NoParts
+unfolding TellsValue
+returns-in-NoParts c mode env e h = both_ways _ _ h.holds (subst (Known mode env e) c.in-NoParts.is h.known).value.0

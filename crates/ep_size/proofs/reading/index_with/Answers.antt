@@ -1,4 +1,4 @@
-use Rattle.ep_size.proofs.ReadSteps.{index_cells, index_fixed, index_matrix, index_nothing, index_number}
+use Rattle.ep_size.proofs.ReadSteps.{index_cells, index_fixed, index_matrix, index_no_parts, index_nothing, index_number}
 use Rattle.ep_size.proofs.reading.index_with.Goals as goal
 
 pub returns-in-Number : goal.returns-in-Number
@@ -17,3 +17,6 @@ returns-in-Nothing c mode env e known = index_nothing mode env e c.args.known.no
 pub returns-in-Matrix : goal.returns-in-Matrix
 returns-in-Matrix c mode env e known =
     index_matrix mode env e c.args.known.now c.number_span-span.result c.in-Matrix.field-0 c.in-Matrix.field-1 c.in-Matrix.is known c.number_span-span.ensures
+
+pub returns-in-NoParts : goal.returns-in-NoParts
+returns-in-NoParts c mode env e known = index_no_parts mode env e c.args.known.now c.in-NoParts.is known

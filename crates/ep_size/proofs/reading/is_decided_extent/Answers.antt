@@ -1,4 +1,4 @@
-use Rattle.ep_size.proofs.ReadSteps.{cells_known, fixed_known, matrix_known, nothing_known, number_known}
+use Rattle.ep_size.proofs.ReadSteps.{cells_known, fixed_known, matrix_known, no_parts_known, nothing_known, number_known}
 use Rattle.ep_size.proofs.reading.is_decided_extent.Goals as goal
 
 pub returns-in-Number : goal.returns-in-Number
@@ -15,3 +15,6 @@ returns-in-Nothing c mode env e known = nothing_known mode env e c.args.known.no
 
 pub returns-in-Matrix : goal.returns-in-Matrix
 returns-in-Matrix c mode env e known = matrix_known mode env e c.args.known.now c.in-Matrix.field-0 c.in-Matrix.field-1 c.in-Matrix.is known
+
+pub returns-in-NoParts : goal.returns-in-NoParts
+returns-in-NoParts c mode env e known = no_parts_known mode env e c.args.known.now c.in-NoParts.is known

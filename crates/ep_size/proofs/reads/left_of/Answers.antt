@@ -1,6 +1,6 @@
 use Rattle.std.proofs.Common.{refl, map}
 use Rattle.ep_size.proofs.RemainingSteps.{gives_fixed}
-use Rattle.ep_size.proofs.ReadSteps.{cells_left_of, nothing_left_of, number_left_of}
+use Rattle.ep_size.proofs.ReadSteps.{cells_left_of, no_parts_left_of, nothing_left_of, number_left_of}
 use Rattle.ep_size.specs.Extents.{grid_of}
 use Rattle.ep_size.specs.Indices.{measured_of}
 use Rattle.ep_size.proofs.reads.left_of.Goals as goal
@@ -23,3 +23,7 @@ returns-in-Nothing-clause-left c =
 pub returns-in-Fixed-clause-left : goal.returns-in-Fixed-clause-left
 returns-in-Fixed-clause-left c =
     gives_fixed c.held_left.result (map measured_of c.args.indices.now) c.args.known.now c.in-Fixed.held c.in-Fixed.is c.held_left.ensures.left
+
+pub returns-in-NoParts-clause-left : goal.returns-in-NoParts-clause-left
+returns-in-NoParts-clause-left c =
+    no_parts_left_of c.new.result (map measured_of c.args.indices.now) c.args.known.now c.in-NoParts.is c.new.ensures

@@ -1,6 +1,6 @@
 use Rattle.std.proofs.Common.{ap, sym, ◌∙◌, length}
 use Rattle.ep_tree.specs.Reach.{fixed_span}
-use Rattle.ep_tree.specs.Values.{rows_of}
+use Rattle.ep_tree.specs.Values.{listed_values, rows_of}
 use Rattle.std.specs.Prelude.{None}
 use Rattle.ep_size.proofs.ExtentViews.{grid_of-matrix}
 use Rattle.ep_size.proofs.MatrixSteps.{known_none, parts_len, parts_rows}
@@ -28,3 +28,7 @@ pub returns-in-Matrix : goal.returns-in-Matrix
 returns-in-Matrix c =
     parts_rows (grid_of c.args.extent.now) c.in-Matrix.field-0.items c.in-Matrix.parts.items c.told.result
     (ap grid_of c.in-Matrix.is ∙ grid_of-matrix c.in-Matrix.field-0 c.in-Matrix.parts) (c.told.ensures ∙ ap capped (c.len.ensures ∙ parts_len c.in-Matrix.parts))
+
+pub returns-in-NoParts : goal.returns-in-NoParts
+unfolding grid_of rows_of listed_values
+returns-in-NoParts c = ap (λ x. capped (length (rows_of (grid_of x)))) (sym c.in-NoParts.is)

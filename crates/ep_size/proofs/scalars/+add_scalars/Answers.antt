@@ -63,3 +63,9 @@ returns-after-loop-part-clause-added t c =
     ∙ c.loop-part.invariant ∙ ap (λ l. old ++ scalars_of_all (grids_from l)) c.deref-part-items.ensures.value
     ∙ ap (λ l. old ++ l) (sym (scalars_matrix indices.items parts.items)) ∙ ap (λ v. old ++ scalars_of v) (sym (grid_of-matrix indices parts))
     ∙ ap (λ x. old ++ scalars_of (grid_of x)) (sym c.in-Matrix.is)
+
+pub returns-in-NoParts-clause-added : goal.returns-in-NoParts-clause-added
+unfolding grid_of scalars_of scalars_of_all
+returns-in-NoParts-clause-added t c =
+    let old = c.args.spans.now.items in
+    sym (append-nil (map span_of old)) ∙ ap (λ x. map span_of old ++ scalars_of (grid_of x)) (sym c.in-NoParts.is)

@@ -1,0 +1,63 @@
+-- What indices leave of parts that are known one by one.
+use Rattle.std.proofs.Common.{◌≡◌, ℤ, Bool, List, [], ◌∷◌, ◌++◌, map, refl, ap, ◌∙◌, Some, None, true}
+use Rattle.std.specs.Prelude.{flat_map, if◌then◌else◌, option_to_list}
+use Rattle.std.proofs.lemmas.Grind.{flat_map-append}
+use Rattle.ep_base.specs.Numbers.{compare_holds}
+use Rattle.ep_base.specs.declared.operators.CompareOp.{CompareOp}
+use Rattle.ep_tree.specs.Reach.{MeasuredIndex, Span, decided_index, fixed_index, left_by, parts_left, whole_index}
+use Rattle.ep_tree.specs.Values.{listed_values, matrix, part_at, scalars_of}
+use Rattle.ep_size.specs.Extents.{grid_of, grids_from}
+use Rattle.ep_size.specs.Indices.{keeps_all}
+use Rattle.ep_size.specs.declared.extents.Extent.{Extent}
+
+-- the scalars that indices leave of some parts
+abbrev pub left_known : List MeasuredIndex → List Extent → List Span
+left_known ms xs = flat_map scalars_of (flat_map (parts_left ms) (map grid_of xs))
+
+listed_known : (xs : List Extent) → listed_values (grids_from xs) ≡ map grid_of xs
+unfolding listed_values grids_from
+listed_known [] = refl
+listed_known (x ∷ xs) = ap (λ l. grid_of x ∷ l) (listed_known xs)
+
+-- an index that leaves each part
+pub known_kept : (i : MeasuredIndex) (ms : List MeasuredIndex) (own : List ℤ) (xs : List Extent) → keeps_all i ≡ true
+    → flat_map scalars_of (parts_left (i ∷ ms) (matrix own (grids_from xs))) ≡ left_known ms xs
+unfolding parts_left left_by keeps_all
+known_kept (fixed_index n) ms own xs h = absurd cc
+known_kept whole_index ms own xs h = ap (λ l. flat_map scalars_of (flat_map (parts_left ms) l)) (listed_known xs)
+known_kept (decided_index s) ms own xs h = ap (λ l. flat_map scalars_of (flat_map (parts_left ms) l)) (listed_known xs)
+
+pub known_part : (ms : List MeasuredIndex) (x : Extent) (rest : List Extent)
+    → left_known ms (x ∷ rest) ≡ flat_map scalars_of (parts_left ms (grid_of x)) ++ left_known ms rest
+known_part ms x rest = flat_map-append scalars_of (parts_left ms (grid_of x)) (flat_map (parts_left ms) (map grid_of rest))
+
+pub known_none : (ms : List MeasuredIndex) → left_known ms [] ≡ []
+known_none ms = refl
+
+-- ---- a part with an index
+
+pub known_next : (own js : List ℤ) (xs rest : List Extent) (j i : ℤ) (x : Extent) (b : Bool) → own ≡ j ∷ js → xs ≡ x ∷ rest → compare_holds CompareOp.Equal i j ≡ b
+    → part_at own (grids_from xs) i ≡ (if b then Some (grid_of x) else part_at js (grids_from rest) i)
+unfolding part_at grids_from compare_holds
+known_next own js xs rest j i x b cut more same =
+    ap (λ o. part_at o (grids_from xs) i) cut ∙ ap (λ ys. part_at (j ∷ js) (grids_from ys) i) more
+    ∙ ap (λ c. if c then Some (grid_of x) else part_at js (grids_from rest) i) same
+
+-- there are fewer parts than indices
+pub known_short : (own js : List ℤ) (xs : List Extent) (j i : ℤ) → own ≡ j ∷ js → xs ≡ [] → part_at own (grids_from xs) i ≡ None
+unfolding part_at grids_from
+known_short own js xs j i cut none = ap (λ o. part_at o (grids_from xs) i) cut ∙ ap (λ ys. part_at (j ∷ js) (grids_from ys) i) none
+
+-- there is no index
+pub known_unlisted : (own : List ℤ) (xs : List Extent) (i : ℤ) → own ≡ [] → part_at own (grids_from xs) i ≡ None
+unfolding part_at
+known_unlisted own xs i none = ap (λ o. part_at o (grids_from xs) i) none
+
+pub known_stated : (n : ℤ) (is : List MeasuredIndex) (own : List ℤ) (xs : List Extent)
+    → parts_left (fixed_index (Some n) ∷ is) (matrix own (grids_from xs)) ≡ flat_map (parts_left is) (option_to_list (part_at own (grids_from xs) n))
+unfolding parts_left left_by
+known_stated n is own xs = refl
+
+pub known_undefined : (is : List MeasuredIndex) (own : List ℤ) (xs : List Extent) → parts_left (fixed_index None ∷ is) (matrix own (grids_from xs)) ≡ []
+unfolding parts_left left_by
+known_undefined is own xs = refl

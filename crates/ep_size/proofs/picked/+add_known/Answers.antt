@@ -1,0 +1,51 @@
+use Rattle.std.proofs.Common.{◌≡◌, ◌+◌, ◌∷◌, ◌++◌, ℕ, List, drop, sym, ap, subst, ◌∙◌, append-nil, append_assoc}
+use Rattle.std.specs.Prelude.{flat_map, map, OnOk}
+use Rattle.std.proofs.lemmas.List.{drop_all, drop_more}
+use Rattle.ep_eval.proofs.WalkSteps.{no_runs}
+use Rattle.ep_tree.specs.Reach as defined
+use Rattle.ep_tree.specs.Reach.{parts_left}
+use Rattle.ep_tree.specs.Values.{scalars_of}
+use Rattle.ep_size.proofs.ExtentViews.{grid_of-matrix}
+use Rattle.ep_size.proofs.KnownParts.{known_kept, known_none, known_part, left_known}
+use Rattle.ep_size.proofs.RemainingSteps.{whole_left}
+use Rattle.ep_size.specs.Extents.{grid_of, span_of}
+use Rattle.ep_size.specs.Indices.{measured_of}
+use Rattle.ep_size.specs.declared.extents.Extent.{Extent}
+use Rattle.ep_size.proofs.picked.+add_known.Goals as goal
+
+pub loop-part-preserved : goal.loop-part-preserved
+loop-part-preserved t c =
+    let ms = map measured_of c.in-Some.rest.now in
+    let all : List Extent = c.deref-part-items.result.now in
+    let k : ℕ = c.loop-part.part-index in
+    let part : Extent = c.part-item.result in
+    let old : List defined.Span = map span_of c.loop-part.spans.items in
+    let rest : List defined.Span = left_known ms (drop (k + 1) all) in
+    let cut : drop k all ≡ part ∷ drop (k + 1) all =
+    drop_more all k part c.loop-part-test.true ∙ ap (λ r. r ∷ drop (k + 1) all) (sym c.part-item.is) in
+    ap (λ l. l ++ rest) c.in_ok-add_known-in-Matrix.ensures.added ∙ append_assoc old (flat_map scalars_of (parts_left ms (grid_of part))) rest
+    ∙ ap (λ l. old ++ l) (sym (known_part ms part (drop (k + 1) all))) ∙ ap (λ l. old ++ left_known ms l) (sym cut)
+    ∙ c.loop-part.invariant
+
+pub returns-after-loop-part-clause-added : goal.returns-after-loop-part-clause-added
+returns-after-loop-part-clause-added t c =
+    let ms = map measured_of c.in-Some.rest.now in
+    let i = measured_of c.in-Some.index.now in
+    let all : List Extent = c.deref-part-items.result.now in
+    let k : ℕ = c.loop-part.part-index in
+    let old : List defined.Span = map span_of c.args.spans.now.items in
+    let new : List defined.Span = map span_of c.loop-part.spans.items in
+    let own = c.in-Matrix.field-0 in
+    let parts = c.in-Matrix.parts in
+    sym (ap (λ l. new ++ l) (ap (left_known ms) (drop_all k all c.loop-part-test.false) ∙ known_none ms) ∙ append-nil new)
+    ∙ c.loop-part.invariant ∙ ap (λ l. old ++ left_known ms l) c.deref-part-items.ensures.value
+    ∙ ap (λ l. old ++ l) (sym (known_kept i ms own.items parts.items (sym c.keeps_all.ensures ∙ c.if-not-keeps_all.false)))
+    ∙ ap (λ g. old ++ flat_map scalars_of (parts_left (i ∷ ms) g)) (sym (grid_of-matrix own parts))
+    ∙ ap (λ x. old ++ flat_map scalars_of (parts_left (i ∷ ms) (grid_of x))) (sym c.in-Matrix.is)
+    ∙ ap (λ l. old ++ flat_map scalars_of (parts_left (map measured_of l) (grid_of c.args.known.now))) (sym c.in-Some.ensures.cases.0)
+
+pub returns-in-None-clause-added : goal.returns-in-None-clause-added
+returns-in-None-clause-added t c =
+    let old : List defined.Span = map span_of c.args.spans.now.items in
+    subst (λ l. OnOk c.add_scalars.result (map span_of c.add_scalars.new.spans.items ≡ old ++ l))
+    (whole_left c.args.indices.now (grid_of c.args.known.now) (no_runs c.args.indices.now c.in-None.ensures.cases)) c.add_scalars.ensures.added

@@ -1,0 +1,8 @@
+use Rattle.std.proofs.Common.{◌≡◌, drop}
+use Rattle.ep_tree.specs.Values.{part_at}
+use Rattle.ep_size.specs.Extents.{grids_from}
+use Rattle.ep_size.proofs.picked.part_with.Given as goal
+
+abbrev pub invariant-loop-place : goal.invariant-loop-place
+invariant-loop-place l =
+    part_at l.own (grids_from l.parts) l.index ≡ part_at (drop l.place l.own) (grids_from (drop l.place l.parts)) l.index

@@ -1,0 +1,110 @@
+//! The scalars that the indices of a read leave of a matrix whose parts are known one by one.
+
+ghost use Rattle.std.specs.Prelude.{◌≡◌, ◌∷◌, ◌++◌, List, IfErr, IfOk, OnOk, false, flat_map, map, option_map, option_to_list};
+ghost use Rattle.ep_tree.specs.Reach.{MeasuredIndex, parts_left};
+ghost use Rattle.ep_tree.specs.Values.{matrix, part_at, scalars_of};
+ghost use Rattle.ep_size.specs.Extents.{grid_of, grids_from, span_of};
+ghost use Rattle.ep_size.specs.Hulls.{Hulls};
+ghost use Rattle.ep_size.specs.Indices.{keeps_all, measured_of};
+ghost use Rattle.ep_size.specs.declared.errors.SizeError.TheVariants as error;
+
+use super::errors::SizeError;
+use super::extents::{Extent, Span};
+use super::hulls::Hulled;
+use super::reading::Indexed;
+use super::remaining::{hull_over, is_same, keeps_all};
+use super::scalars::add_scalars;
+use std::alloc::Global;
+
+/// The part with an index, if there is one. Linear in the parts.
+fn part_with<'v, 'a>(own: &[i64], parts: &'v [Extent<'a>], index: i64) -> Option<&'v Extent<'a>>
+    ensures { option_map (λ part. grid_of part.now) result ≡ part_at own.now (grids_from parts.now) index }
+{
+    let count = parts.len();
+    for (place, own_index) in own.iter().enumerate() {
+        if place >= count {
+            return None;
+        }
+        if is_same(index, *own_index) {
+            return Some(&parts[place]);
+        }
+    }
+    None
+}
+
+/// The part that a stated index leaves, if there is one.
+#[tactic(auto, unfolding(crate::specs::Indices::keeps_all, crate::specs::Indices::measured_of))]
+fn part_stated<'v, 'a>(
+    own: &[i64],
+    parts: &'v [Extent<'a>],
+    index: Indexed,
+) -> Option<&'v Extent<'a>>
+    ensures { (is : List MeasuredIndex) → keeps_all (measured_of index) ≡ false
+        → parts_left (measured_of index ∷ is) (matrix own.now (grids_from parts.now))
+        ≡ flat_map (parts_left is) (option_to_list (option_map (λ part. grid_of part.now) result)) }
+{
+    match index {
+        Indexed::Stated(number) => match number {
+            Some(stated) => part_with(own, parts, stated),
+            None => None,
+        },
+        Indexed::Every => None,
+        Indexed::Decided(_) => None,
+    }
+}
+
+/// The part of a matrix that a stated index leaves, if there is one. Only of a matrix whose parts are known one by one is
+/// that told.
+fn part_left<'v, 'a>(
+    known: &'v Extent<'a>,
+    index: Indexed,
+) -> Result<Option<&'v Extent<'a>>, SizeError>
+    ensures left { IfOk result (λ found. (is : List MeasuredIndex) → keeps_all (measured_of index) ≡ false
+        → parts_left (measured_of index ∷ is) (grid_of known.now)
+        ≡ flat_map (parts_left is) (option_to_list (option_map (λ part. grid_of part.now) found))) }
+    ensures memory { IfErr result (λ e. e ≡ error.Memory) }
+{
+    match known {
+        Extent::Matrix(own, parts) => Ok(part_stated(own, parts, index)),
+        _ => Err(SizeError::Memory),
+    }
+}
+
+/// Puts the scalars that indices leave of what is known behind others.
+fn add_known(known: &Extent, indices: &[Indexed], spans: &mut Vec<Span>) -> Result<(), SizeError>
+    ensures added { OnOk result (map span_of spans.new.items
+        ≡ map span_of spans.old.items ++ flat_map scalars_of (parts_left (map measured_of indices.now) (grid_of known.now))) }
+    ensures memory { IfErr result (λ e. e ≡ error.Memory) }
+{
+    match indices.split_first() {
+        Some((index, rest)) => {
+            if !keeps_all(*index) {
+                let found = part_left(known, *index)?;
+                return match found {
+                    Some(part) => add_known(part, rest, spans),
+                    None => Ok(()),
+                };
+            }
+            match known {
+                Extent::Matrix(_, parts) => {
+                    for part in parts {
+                        add_known(part, rest, spans)?;
+                    }
+                    Ok(())
+                }
+                _ => Err(SizeError::Memory),
+            }
+        }
+        None => add_scalars(known, spans),
+    }
+}
+
+/// What indices leave of what is known.
+pub fn known_left(alloc: Global, known: &Extent, indices: &[Indexed]) -> Result<Hulled, SizeError>
+    ensures left { IfOk result (λ left. Hulls left (flat_map scalars_of (parts_left (map measured_of indices.now) (grid_of known.now)))) }
+    ensures memory { IfErr result (λ e. e ≡ error.Memory) }
+{
+    let mut spans = Vec::new(alloc);
+    add_known(known, indices, &mut spans)?;
+    Ok(hull_over(&spans))
+}
