@@ -131,7 +131,7 @@ signed_all n env old new xs k ps h so = record {
 
 -- ---- the instances of a quantifier one after another
 
-names_within : (n : Numbering) (numbers : List ℤ) (cells values : Env) (name : Name) (s : Scalar) (k : ℤ)
+pub names_within : (n : Numbering) (numbers : List ℤ) (cells values : Env) (name : Name) (s : Scalar) (k : ℤ)
     → ((x : Name) → ReadsName (n.first x) numbers (cells x) (values x)) → (x : Name) → ReadsName (n.first x) numbers (with_number name s k cells x) (with_number name s k values x)
 unfolding with_number ReadsName
 names_within n numbers cells values name s k h x = go (bytes_eq x name)
@@ -141,7 +141,7 @@ names_within n numbers cells values name s k h x = go (bytes_eq x name)
     go false = h x
 
 -- a reading in which a name stands for a number
-pub within : (n : Numbering) (cells : Env) (name : Name) (s : Scalar) (k : ℤ) → Reading n cells → Reading n (with_number name s k cells)
+unfoldable pub within : (n : Numbering) (cells : Env) (name : Name) (s : Scalar) (k : ℤ) → Reading n cells → Reading n (with_number name s k cells)
 within n cells name s k r = record {
   numbers = r.numbers;
   values = with_number name s k r.values;

@@ -1,10 +1,9 @@
 -- The scalars of matrices as terms.
-use Rattle.std.proofs.Common.{◌≡◌, ℕ, zero, suc, ◌+◌, ◌-◌, ◌*◌, ◌<◌, ◌≤◌, ℤ, pos, List, [], ◌∷◌, ◌++◌, length, Some, None, refl, sym, ap, subst, ◌∙◌, arith, slice_get, append_assoc}
+use Rattle.std.proofs.Common.{◌≡◌, ℕ, zero, suc, ◌+◌, ◌-◌, ◌*◌, ◌<◌, ◌≤◌, ℤ, pos, List, [], ◌∷◌, ◌++◌, length, Some, None, refl, sym, ap, ◌∙◌, arith, slice_get}
 use Rattle.std.specs.Prelude.{Bool, Option, ◌*ℤ◌, map, option_and_then, option_map}
 use Rattle.std.specs.List.{All}
 use Rattle.std.proofs.lemmas.Int.{ints}
-use Rattle.std.proofs.lemmas.List.{append-nil}
-use Rattle.ep_base.specs.Numbers.{all_one, any_one, are_different, greatest_of, least_of, of_bool, sum_of}
+use Rattle.ep_base.specs.Numbers.{all_one, any_one, are_different, greatest_of, least_of, sum_of}
 use Rattle.ep_base.specs.Reads.{all_there}
 use Rattle.ep_base.specs.declared.places.Place.{Place}
 use Rattle.ep_ground.specs.Nodes as node
@@ -20,13 +19,11 @@ use Rattle.ep_tree.specs.Values.{ValueTree, all_defined, as_parts, matrix, scala
 use Rattle.ep_tree.specs.declared.syntax.FoldOp.{FoldOp}
 use Rattle.ep_tree.specs.declared.values.Mode.{Mode}
 use Rattle.ep_unroll.proofs.FormValues.{grown_value, grows_on, there_defined}
-use Rattle.ep_unroll.proofs.MeaningSteps.{Listing, listing_begins, listing_ends, listing_more}
 use Rattle.ep_unroll.proofs.SumValues.{sum_value}
 use Rattle.ep_unroll.specs.Growing.{Grows, Puts}
-use Rattle.ep_unroll.specs.Meanings.{IsTermOf, Means, worth}
-use Rattle.ep_unroll.specs.Readings.{Numbering, Reading, cells_value, each_from}
-use Rattle.ep_unroll.specs.Scalars.{AreCells, AreScalarsOf, cells_from}
-use Rattle.ep_unroll.specs.declared.unrolled.Unrolled.{Unrolled}
+use Rattle.ep_unroll.specs.Meanings.{IsTermOf}
+use Rattle.ep_unroll.specs.Readings.{Numbering, cells_value, each_from}
+use Rattle.ep_unroll.specs.Scalars.{AreScalarsOf, cells_from}
 
 pub some_same : {A : Type 0} {x y : A} → Some x ≡ Some y → x ≡ y
 some_same e = cc
@@ -53,10 +50,10 @@ from_cut numbers k (suc a) b =
     moved m n = omega arith
 
 -- lists joined, where both are there
-joined : Option (List ℤ) → Option (List ℤ) → Option (List ℤ)
+unfoldable pub joined : Option (List ℤ) → Option (List ℤ) → Option (List ℤ)
 joined a b = option_and_then (λ xs. option_map (λ ys. xs ++ ys) b) a
 
-there_cut : (xs ys : List (Option ℤ)) → all_there (xs ++ ys) ≡ joined (all_there xs) (all_there ys)
+pub there_cut : (xs ys : List (Option ℤ)) → all_there (xs ++ ys) ≡ joined (all_there xs) (all_there ys)
 unfolding all_there joined
 there_cut [] ys = go (all_there ys)
   where
@@ -72,10 +69,10 @@ there_cut (Some x ∷ xs) ys = ap (option_map (λ zs. x ∷ zs)) (there_cut xs y
     go (Some us) (Some vs) = refl
 
 -- the scalars of values that are all there
-scalars_each : List (Option ValueTree) → Option (List ℤ)
+unfoldable pub scalars_each : List (Option ValueTree) → Option (List ℤ)
 scalars_each vs = option_map (λ ws. scalars_of_all (as_parts ws)) (all_defined vs)
 
-each_cut : (v : Option ValueTree) (vs : List (Option ValueTree)) → scalars_each (v ∷ vs) ≡ joined (option_map scalars_of v) (scalars_each vs)
+pub each_cut : (v : Option ValueTree) (vs : List (Option ValueTree)) → scalars_each (v ∷ vs) ≡ joined (option_map scalars_of v) (scalars_each vs)
 unfolding scalars_each joined all_defined scalars_of_all as_parts
 each_cut None vs = refl
 each_cut (Some v) vs = go (all_defined vs)
@@ -84,7 +81,7 @@ each_cut (Some v) vs = go (all_defined vs)
     go None = refl
     go (Some ws) = refl
 
-one_cell : (numbers : List ℤ) (k : ℕ) → all_there (cells_from numbers k 1) ≡ option_map scalars_of (option_map single (slice_get numbers k))
+pub one_cell : (numbers : List ℤ) (k : ℕ) → all_there (cells_from numbers k 1) ≡ option_map scalars_of (option_map single (slice_get numbers k))
 unfolding cells_from all_there scalars_of
 one_cell numbers k = go (slice_get numbers k)
   where
@@ -92,10 +89,10 @@ one_cell numbers k = go (slice_get numbers k)
     go None = refl
     go (Some x) = refl
 
-whole : (own : List ℤ) (o : Option (List ValueTree)) → option_map (λ ws. scalars_of_all (as_parts ws)) o ≡ option_map scalars_of (option_map (λ ws. matrix own (as_parts ws)) o)
+pub whole_scalars : (own : List ℤ) (o : Option (List ValueTree)) → option_map (λ ws. scalars_of_all (as_parts ws)) o ≡ option_map scalars_of (option_map (λ ws. matrix own (as_parts ws)) o)
 unfolding scalars_of
-whole own None = refl
-whole own (Some ws) = refl
+whole_scalars own None = refl
+whole_scalars own (Some ws) = refl
 
 no_cells : (numbers : List ℤ) (k c : ℕ) → all_there (cells_from numbers k (0 * c)) ≡ scalars_each []
 unfolding cells_from all_there scalars_each all_defined scalars_of_all as_parts
@@ -123,64 +120,11 @@ pub cells_scalars : (numbers : List ℤ) (domains : List (List ℤ)) (k : ℕ) �
 unfolding cells_value cell_count scalars_each
 cells_scalars numbers [] k = one_cell numbers k
 cells_scalars numbers (own ∷ inner) k =
-    each_scalars numbers inner (λ j. cells_scalars numbers inner j) own k ∙ whole own (all_defined (each_from (cells_value numbers inner) (cell_count inner) k own))
-
--- ---- their terms
-
-abbrev pub CellsSoFar : List GroundNode → List GroundNode → ℕ → ℕ → ℕ → List ℕ → Type 0
-CellsSoFar old new first count passed ts =
-    Listing {R = List ℤ} {X = ℕ} (λ numbers. numbers) (λ t. t) (λ t o. o) old new (λ numbers. cells_from numbers first count) (λ numbers. cells_from numbers (first + passed) (count - passed)) ts
-
-pub cells_begin : (old : List GroundNode) (first count : ℕ) (ts : List ℕ) → ts ≡ [] → CellsSoFar old old first count 0 ts
-cells_begin old first count ts none =
-    listing_begins {R = List ℤ} {X = ℕ} (λ numbers. numbers) (λ t. t) (λ t o. o) old old _ _ ts refl none
-    (λ numbers. ap (λ k. cells_from numbers k (count - 0)) (none_behind first) ∙ ap (cells_from numbers first) (none_off count))
-  where
-    none_behind : (n : ℕ) → n + 0 ≡ n
-    none_behind n = omega arith
-
-    none_off : (n : ℕ) → n - 0 ≡ n
-    none_off n = omega arith
-
-pub cells_next : (old mid new : List GroundNode) (first count passed k t : ℕ) (ts us : List ℕ) → passed < count → k ≡ first + passed → CellsSoFar old mid first count passed ts
-    → Puts mid new (node.cell k) t → us ≡ ts ++ t ∷ [] → CellsSoFar old new first count (passed + 1) us
-unfolding cells_from node_value
-cells_next old mid new first count passed k t ts us less is so put pushed =
-    listing_more {R = List ℤ} {X = ℕ} (λ numbers. numbers) (λ u. u) (λ u o. o) old mid new _ _ (λ numbers. cells_from numbers (first + (passed + 1)) (count - (passed + 1))) (λ numbers. slice_get numbers (first + passed)) ts us t so
-    (λ numbers. ap (cells_from numbers (first + passed)) (one_off count passed less) ∙ ap (λ j. slice_get numbers (first + passed) ∷ cells_from numbers j (count - (passed + 1))) (one_on first passed))
-    put.grows put.known (λ numbers. put.value numbers ∙ ap (slice_get numbers) is) pushed
-  where
-    one_off : (m n : ℕ) → n < m → m - n ≡ suc (m - (n + 1))
-    one_off m n h = omega (arith, h)
-
-    one_on : (m n : ℕ) → suc (m + n) ≡ m + (n + 1)
-    one_on m n = omega arith
-
-pub cells_done : (old new : List GroundNode) (first count passed : ℕ) (ts : List ℕ) → count ≤ passed → CellsSoFar old new first count passed ts → AreCells old new first count ts
-unfolding cells_from
-cells_done old new first count passed ts h so = record {
-  grows = so.grows;
-  known = so.known;
-  values = listing_ends {R = List ℤ} {X = ℕ} (λ numbers. numbers) (λ t. t) (λ t o. o) old new _ _ ts so (λ numbers. ap (cells_from numbers (first + passed)) (none_over count passed h));
-}
-  where
-    none_over : (m n : ℕ) → m ≤ n → m - n ≡ 0
-    none_over m n h = omega (arith, h)
-
-pub scalars_are : (n : Numbering) (cells : Env) (nodes mid new : List GroundNode) (e : ExprTree) (x : Unrolled) (domains : List (List ℤ)) (first count : ℕ) (ts : List ℕ)
-    → Means n cells nodes mid e x → ((numbers : List ℤ) → worth mid numbers x ≡ cells_value numbers domains first) → count ≡ cell_count domains → AreCells mid new first count ts
-    → AreScalarsOf n cells nodes new e ts
-scalars_are n cells nodes mid new e x domains first count ts h is same own = record {
-  grows = grows_on nodes mid new h.grows own.grows;
-  known = own.known;
-  scalars = λ r.
-      ap all_there (own.values r.numbers ∙ ap (cells_from r.numbers first) same) ∙ cells_scalars r.numbers domains first
-      ∙ ap scalars_in (sym (is r.numbers) ∙ h.value r);
-}
+    each_scalars numbers inner (λ j. cells_scalars numbers inner j) own k ∙ whole_scalars own (all_defined (each_from (cells_value numbers inner) (cell_count inner) k own))
 
 -- ---- forms of a list of scalars
 
-values_kept : (mid new : List GroundNode) (numbers : List ℤ) (ts : List ℕ) → Grows mid new → All (λ t. t < length mid) ts → map (term_value new numbers) ts ≡ map (term_value mid numbers) ts
+pub values_kept : (mid new : List GroundNode) (numbers : List ℤ) (ts : List ℕ) → Grows mid new → All (λ t. t < length mid) ts → map (term_value new numbers) ts ≡ map (term_value mid numbers) ts
 values_kept mid new numbers [] g known = refl
 values_kept mid new numbers (t ∷ ts) g known =
     ap (λ x. x ∷ map (term_value new numbers) ts) (grown_value mid new numbers t g (known 0 t (omega arith)))

@@ -183,7 +183,7 @@ pub every_index : (env : Env) (index : Option Expr) → index ≡ None → one_i
 unfolding one_index index_in
 every_index env index none = ap (one_index env) none
 
-index_cut : (env : Env) (x : Option Expr) (xs : List (Option Expr))
+pub index_cut : (env : Env) (x : Option Expr) (xs : List (Option Expr))
     → index_list Mode.Relational env (indices_of (x ∷ xs)) ≡ map_both (λ i is. i ∷ is) (one_index env x) (index_list Mode.Relational env (indices_of xs))
 unfolding indices_of index_list one_index map_both
 index_cut env None xs = refl

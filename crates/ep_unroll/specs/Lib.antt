@@ -7,6 +7,8 @@ pub mod Growing
 pub mod Lists
 pub mod Meanings
 pub mod Numbers
+pub mod Picks
+pub mod PartLists
 pub mod Readings
 pub mod Scalars
 pub mod Signed

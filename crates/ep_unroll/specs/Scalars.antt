@@ -16,12 +16,6 @@ unfoldable pub cells_from : List ℤ → ℕ → ℕ → List (Option ℤ)
 cells_from numbers k zero = []
 cells_from numbers k (suc n) = slice_get numbers k ∷ cells_from numbers (suc k) n
 
--- Terms are those of so many cells from one on.
-pub record AreCells (old new : List GroundNode) (first count : ℕ) (ts : List ℕ) : Type 0 where
-  pub grows : Grows old new
-  pub known : All (λ t. t < length new) ts
-  pub values : (numbers : List ℤ) → map (term_value new numbers) ts ≡ cells_from numbers first count
-
 -- Terms have the scalars of an expression's value, row by row, where it has one.
 pub record AreScalarsOf (n : Numbering) (cells : Env) (old new : List GroundNode) (e : ExprTree) (ts : List ℕ) : Type 0 where
   pub grows : Grows old new

@@ -45,7 +45,7 @@ pub fn cells_over(domains: &[Runs]) -> Result<u64, Memory>
 }
 
 /// Whether an index is this one.
-fn is_index(index: i64, own: i64) -> bool
+pub fn is_index(index: i64, own: i64) -> bool
     ensures { result ≡ int_eq index own }
 {
     index == own

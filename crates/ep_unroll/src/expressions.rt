@@ -1,35 +1,49 @@
 //! Expressions as terms over cells.
 
-ghost use Rattle.std.specs.Prelude.{◌≡◌, ◌∷◌, true, List, Some, IfOk};
+ghost use Rattle.std.specs.Prelude.{◌≡◌, ◌∷◌, true, List, Some, IfOk, map, option_map};
 ghost use Rattle.ep_base.specs.declared.places.Place.{Place};
 ghost use Rattle.ep_ground.specs.Nodes.{GroundNode};
 ghost use Rattle.ep_tree.specs.Evaluation.{domain_values};
 ghost use Rattle.ep_tree.specs.Reach.{decisions_in};
-ghost use Rattle.ep_tree.specs.Views.{domain_tree, expr_tree, expr_trees, kind_tree, terms_of};
+ghost use Rattle.ep_tree.specs.Views.{domain_tree, expr_tree, expr_trees, generators_of, kind_tree, terms_of};
 ghost use Rattle.ep_tree.specs.declared.values.Mode.{Mode as EachMode};
+ghost use Rattle.ep_eval.specs.Generating.{lists_joined, part_value};
 ghost use Rattle.ep_eval.specs.Instances.{quantified_tree};
 ghost use Rattle.ep_eval.specs.Scopes.{env_in};
 ghost use Rattle.ep_size.specs.Free as free;
 ghost use Rattle.ep_unroll.specs.Firsts.{numbering_of};
 ghost use Rattle.ep_unroll.specs.Meanings.{AreInstancesOf, AreNumbersOf, IsNumberOf, IsTermOf, Means};
+ghost use Rattle.ep_unroll.specs.Picks.{SlotMeans, SlotsMean};
+ghost use Rattle.ep_unroll.specs.PartLists.{ArePartsOf, Lists, parts_at, parts_in, parts_of, ranging_over};
 ghost use Rattle.ep_unroll.specs.Readings.{Numbering};
+ghost use Rattle.ep_unroll.specs.Scalars.{AreScalarsOf};
 ghost use Rattle.ep_unroll.specs.Signed.{AreSigned};
 
+use super::choices::read_with;
+use super::comprehensions::{
+    Listing, Ranging, comprehension_matrix, conditions_hold, with_one_more,
+};
 use super::firsts::CellTable;
 use super::fixed::{fixed_numbers, fixed_value, is_fixed};
+use super::fixed_lists::{fixed_rows, fixed_scalars};
+use super::flattening::flattened;
 use super::forms::{finish_all, finish_one, finish_two};
-use super::matrices::matrix_term;
+use super::list_forms::{at_least_term, at_most_term, counts_term, lex_term, table_term};
+use super::literals::made_matrix;
+use super::matrices::finish_matrix;
 use super::members::member_term;
 use super::named::named_cells;
 use super::numbers::{number_term, taken_term};
 use super::quantifiers::{finish_quantifier, without_domain};
 use super::reads::read_of;
+use super::scalars::taken_scalars;
+use super::slots::{Slot, are_decided, fixed_slot};
 use super::sums::{chain_term, sign_of};
 use super::unrolled::Unrolled;
 use ep_base::{Memory, Name, Runs};
 use ep_eval::{Around, Quantifier, Scope, next_number, scalar_of, walk_of};
 use ep_ground::{Arena, Term};
-use ep_tree::{Expr, Kind};
+use ep_tree::{Expr, Generator, Kind};
 
 /// What an expression without decision variables is unrolled to.
 fn fixed<'a>(scope: Scope<'_, 'a>, e: &Expr) -> Result<Unrolled<'a>, Memory>
@@ -385,7 +399,51 @@ fn instances(
     Ok(terms)
 }
 
+/// What an index of a read is; nothing where it has no number.
+#[cycle(unrolling)]
+fn slot_of(
+    scope: Scope<'_, '_>,
+    table: &CellTable,
+    arena: &mut Arena,
+    index: &Option<Expr>,
+) -> Result<Option<Slot>, Memory>
+    ensures { IfOk result (SlotMeans (numbering_of table.now) (env_in scope.entry) arena.old arena.new index.now) }
+{
+    match index {
+        Some(stated) => {
+            if is_fixed(scope, stated) {
+                return fixed_slot(scope, stated);
+            }
+            let term = term_of(scope, table, arena, stated)?;
+            Ok(Some(Slot::Open(term)))
+        }
+        None => Ok(Some(Slot::Every)),
+    }
+}
+
+/// What the indices of a read are; nothing where one has no number.
+#[cycle(unrolling)]
+fn slots_of(
+    scope: Scope<'_, '_>,
+    table: &CellTable,
+    arena: &mut Arena,
+    indices: &[Option<Expr>],
+) -> Result<Option<Vec<Slot>>, Memory>
+    ensures { IfOk result (λ found. SlotsMean (numbering_of table.now) (env_in scope.entry) arena.old arena.new indices.now (option_map (λ v. v.items) found)) }
+{
+    let mut slots = Vec::new(scope.alloc);
+    for index in indices {
+        let one = slot_of(scope, table, arena, index)?;
+        match one {
+            Some(slot) => slots.push(slot)?,
+            None => return Ok(None),
+        }
+    }
+    Ok(Some(slots))
+}
+
 /// A read of a matrix.
+#[cycle(unrolling)]
 fn read_unrolled<'a>(
     scope: Scope<'_, 'a>,
     table: &CellTable,
@@ -394,15 +452,21 @@ fn read_unrolled<'a>(
 ) -> Result<Unrolled<'a>, Memory>
     ensures { IfOk result (Means (numbering_of table.now) (env_in scope.entry) arena.old arena.new (expr_tree e.now)) }
 {
-    let _size = arena.len();
     match &e.kind {
-        Kind::Read(matrix, indices) => read_of(scope, table, e, matrix, indices),
+        Kind::Read(matrix, indices) => {
+            if are_decided(scope, indices) {
+                return read_of(scope, table, e, matrix, indices);
+            }
+            let slots = slots_of(scope, table, arena, indices)?;
+            read_with(scope, table, arena, e, matrix, slots)
+        }
         // No other kind comes here.
         _ => Err(Memory),
     }
 }
 
 /// What a kind that is a matrix is unrolled to.
+#[cycle(unrolling)]
 fn matrix_unrolled<'a>(
     scope: Scope<'_, 'a>,
     table: &CellTable,
@@ -411,14 +475,177 @@ fn matrix_unrolled<'a>(
 ) -> Result<Unrolled<'a>, Memory>
     ensures { (p : Place) → IfOk result (Means (numbering_of table.now) (env_in scope.entry) arena.old arena.new (kind_tree p kind.now)) }
 {
-    let _alloc = scope.alloc;
-    let _count = table.count;
-    let _read = is_read(kind);
-    let _size = arena.len();
-    Err(Memory)
+    match kind {
+        Kind::Literal(parts, domain) => {
+            let own = parts_of_all(scope, table, arena, parts)?;
+            made_matrix(scope, domain, own)
+        }
+        Kind::Comprehension(body, generators, conditions, domain) => {
+            let listing = Listing { body, conditions };
+            let none = Some(Vec::new(scope.alloc));
+            let parts = generated(scope, table, arena, listing, generators, none)?;
+            comprehension_matrix(scope, domain, parts)
+        }
+        Kind::Flatten(part) => {
+            let terms = scalars_of(scope, table, arena, part)?;
+            flattened(scope.alloc, terms)
+        }
+        // No other kind comes here.
+        _ => Err(Memory),
+    }
+}
+
+/// What some expressions are unrolled to.
+#[cycle(unrolling)]
+fn parts_of_all<'a>(
+    scope: Scope<'_, 'a>,
+    table: &CellTable,
+    arena: &mut Arena,
+    parts: &[Expr],
+) -> Result<Vec<Unrolled<'a>>, Memory>
+    ensures { IfOk result (λ xs. ArePartsOf (numbering_of table.now) (env_in scope.entry) arena.old arena.new (expr_trees parts.now) xs.items) }
+{
+    let mut known = Vec::new(scope.alloc);
+    for part in parts {
+        let own = unrolled(scope, table, arena, part)?;
+        known.push(own)?;
+    }
+    Ok(known)
+}
+
+/// Some parts and those that generators lead to behind them, where there are any.
+#[cycle(unrolling)]
+fn generated<'a>(
+    scope: Scope<'_, 'a>,
+    table: &CellTable,
+    arena: &mut Arena,
+    listing: Listing<'_>,
+    generators: &[Generator],
+    parts: Option<Vec<Unrolled<'a>>>,
+) -> Result<Option<Vec<Unrolled<'a>>>, Memory>
+    ensures { IfOk result (λ more. Lists (numbering_of table.now) (env_in scope.entry) arena.old arena.new (parts_in parts.entry) (parts_in more)
+        (parts_of listing.entry (generators_of generators.now))) }
+{
+    match generators.split_first() {
+        Some((first, later)) => {
+            let ranging = Ranging {
+                listing,
+                domain: &first.domain,
+                later,
+            };
+            let more = over_names(scope, table, arena, ranging, &first.names, parts)?;
+            Ok(more)
+        }
+        None => {
+            let more = with_part(scope, table, arena, listing, parts)?;
+            Ok(more)
+        }
+    }
+}
+
+/// Some parts and those that names over a domain and the generators behind them lead to.
+#[cycle(unrolling)]
+fn over_names<'a>(
+    scope: Scope<'_, 'a>,
+    table: &CellTable,
+    arena: &mut Arena,
+    ranging: Ranging<'_>,
+    names: &[Name],
+    parts: Option<Vec<Unrolled<'a>>>,
+) -> Result<Option<Vec<Unrolled<'a>>>, Memory>
+    ensures { IfOk result (λ more. Lists (numbering_of table.now) (env_in scope.entry) arena.old arena.new (parts_in parts.entry) (parts_in more)
+        (parts_of ranging.entry.listing (ranging_over ranging.entry names.now))) }
+{
+    match names.split_first() {
+        Some((name, rest)) => {
+            let numbers = fixed_numbers(scope, ranging.domain)?;
+            match numbers {
+                Some(set) => {
+                    let more = over_numbers(scope, table, arena, ranging, name, rest, &set, parts)?;
+                    Ok(more)
+                }
+                None => Ok(None),
+            }
+        }
+        None => {
+            let more = generated(scope, table, arena, ranging.listing, ranging.later, parts)?;
+            Ok(more)
+        }
+    }
+}
+
+/// The same where the first name stands for each number of a set in turn.
+#[cycle(unrolling)]
+fn over_numbers<'a>(
+    scope: Scope<'_, 'a>,
+    table: &CellTable,
+    arena: &mut Arena,
+    ranging: Ranging<'_>,
+    name: &Name,
+    rest: &[Name],
+    set: &Runs,
+    parts: Option<Vec<Unrolled<'a>>>,
+) -> Result<Option<Vec<Unrolled<'a>>>, Memory>
+    requires { domain_values EachMode.Relational (env_in scope) (domain_tree ranging.domain.now) ≡ Some set.now }
+    ensures { IfOk result (λ more. Lists (numbering_of table.now) (env_in scope.entry) arena.old arena.new (parts_in parts.entry) (parts_in more)
+        (λ env. lists_joined (map (parts_at env ranging.entry name.now rest.now) set.now))) }
+{
+    let scalar = scalar_of(scope, ranging.domain);
+    let mut more = parts;
+    let mut walk = walk_of(set.runs());
+    while let Some((number, behind)) = next_number(walk) {
+        let around = Around::Number(scope.around, name, scalar, number);
+        let inner = Scope {
+            alloc: scope.alloc,
+            env: scope.env,
+            around: &around,
+        };
+        more = over_names(inner, table, arena, ranging, rest, more)?;
+        walk = behind;
+    }
+    Ok(more)
+}
+
+/// Some parts and the one behind them, where the conditions hold.
+#[cycle(unrolling)]
+fn with_part<'a>(
+    scope: Scope<'_, 'a>,
+    table: &CellTable,
+    arena: &mut Arena,
+    listing: Listing<'_>,
+    parts: Option<Vec<Unrolled<'a>>>,
+) -> Result<Option<Vec<Unrolled<'a>>>, Memory>
+    ensures { IfOk result (λ more. Lists (numbering_of table.now) (env_in scope.entry) arena.old arena.new (parts_in parts.entry) (parts_in more)
+        (part_value EachMode.Relational (expr_tree listing.entry.body.now) (expr_trees listing.entry.conditions.now))) }
+{
+    let truth = conditions_hold(scope, listing.conditions)?;
+    match truth {
+        Some(true) => {
+            let part = unrolled(scope, table, arena, listing.body)?;
+            let more = with_one_more(parts, part)?;
+            Ok(more)
+        }
+        Some(false) => Ok(parts),
+        None => Ok(None),
+    }
+}
+
+/// The terms of the scalars of an expression's value.
+#[cycle(unrolling)]
+fn scalars_of(
+    scope: Scope<'_, '_>,
+    table: &CellTable,
+    arena: &mut Arena,
+    e: &Expr,
+) -> Result<Vec<Term>, Memory>
+    ensures { IfOk result (λ ts. AreScalarsOf (numbering_of table.now) (env_in scope.entry) arena.old arena.new (expr_tree e.now) ts.items) }
+{
+    let known = unrolled(scope, table, arena, e)?;
+    taken_scalars(scope.alloc, arena, known)
 }
 
 /// The same of a kind with a matrix as its part.
+#[cycle(unrolling)]
 fn with_matrix(
     scope: Scope<'_, '_>,
     table: &CellTable,
@@ -427,10 +654,22 @@ fn with_matrix(
 ) -> Result<Term, Memory>
     ensures { (p : Place) → IfOk result (IsTermOf (numbering_of table.now) (env_in scope.entry) arena.old arena.new (kind_tree p kind.now)) }
 {
-    matrix_term(scope, table, arena, kind)
+    match kind {
+        Kind::AllDiff(part) => {
+            let terms = scalars_of(scope, table, arena, part)?;
+            finish_matrix(scope.alloc, arena, kind, terms)
+        }
+        Kind::Fold(_, part) => {
+            let terms = scalars_of(scope, table, arena, part)?;
+            finish_matrix(scope.alloc, arena, kind, terms)
+        }
+        // No other kind comes here.
+        _ => Err(Memory),
+    }
 }
 
-/// The same of a kind with two parts, of which one is a matrix.
+/// The same of a kind with two parts, of which one is a matrix. `in toSet(..)` ends as want of memory.
+#[cycle(unrolling)]
 fn with_matrices(
     scope: Scope<'_, '_>,
     table: &CellTable,
@@ -439,14 +678,24 @@ fn with_matrices(
 ) -> Result<Term, Memory>
     ensures { (p : Place) → IfOk result (IsTermOf (numbering_of table.now) (env_in scope.entry) arena.old arena.new (kind_tree p kind.now)) }
 {
-    let _alloc = scope.alloc;
-    let _count = table.count;
-    let _read = is_read(kind);
-    let _size = arena.len();
-    Err(Memory)
+    match kind {
+        Kind::Lex(op, left, right) => {
+            let terms = scalars_of(scope, table, arena, left)?;
+            let others = scalars_of(scope, table, arena, right)?;
+            lex_term(arena, *op, terms, others)
+        }
+        Kind::Table(row, rows) => {
+            let terms = scalars_of(scope, table, arena, row)?;
+            let own = fixed_rows(scope, rows)?;
+            table_term(arena, terms, own)
+        }
+        // No other kind comes here.
+        _ => Err(Memory),
+    }
 }
 
 /// The same of a kind that counts values of a matrix.
+#[cycle(unrolling)]
 fn with_counts(
     scope: Scope<'_, '_>,
     table: &CellTable,
@@ -455,9 +704,26 @@ fn with_counts(
 ) -> Result<Term, Memory>
     ensures { (p : Place) → IfOk result (IsTermOf (numbering_of table.now) (env_in scope.entry) arena.old arena.new (kind_tree p kind.now)) }
 {
-    let _alloc = scope.alloc;
-    let _count = table.count;
-    let _read = is_read(kind);
-    let _size = arena.len();
-    Err(Memory)
+    match kind {
+        Kind::Gcc(part, values, counts) => {
+            let terms = scalars_of(scope, table, arena, part)?;
+            let own = fixed_scalars(scope, values)?;
+            let others = scalars_of(scope, table, arena, counts)?;
+            counts_term(arena, terms, own, others)
+        }
+        Kind::AtLeast(part, counts, values) => {
+            let terms = scalars_of(scope, table, arena, part)?;
+            let bounds = fixed_scalars(scope, counts)?;
+            let own = fixed_scalars(scope, values)?;
+            at_least_term(arena, terms, bounds, own)
+        }
+        Kind::AtMost(part, counts, values) => {
+            let terms = scalars_of(scope, table, arena, part)?;
+            let bounds = fixed_scalars(scope, counts)?;
+            let own = fixed_scalars(scope, values)?;
+            at_most_term(arena, terms, bounds, own)
+        }
+        // No other kind comes here.
+        _ => Err(Memory),
+    }
 }

@@ -45,7 +45,7 @@ fn in_front(alloc: Global, number: i64, others: &[i64]) -> Result<Vec<i64>, Memo
 }
 
 /// Adds each of these keys with a number in front.
-fn push_all_behind(
+pub fn push_all_behind(
     alloc: Global,
     keys: &mut Vec<Key>,
     number: i64,

@@ -16,14 +16,15 @@ ghost use Rattle.ep_unroll.specs.Firsts.{numbering_of};
 ghost use Rattle.ep_unroll.specs.Meanings.{AreTerms, Means, worth};
 ghost use Rattle.ep_unroll.specs.Readings.{Numbering, Reading, cells_value};
 
-use super::blocks::{Block, block_at};
+use super::blocks::{Block, block_at, cells_over};
 use super::firsts::CellTable;
 use super::fixed::{fixed_value, is_fixed};
 use super::named::block_named;
 use super::unrolled::Unrolled;
-use ep_base::{Memory, Name};
-use ep_eval::{Held, Scope, number_of, type_within};
+use ep_base::{Memory, Name, Runs};
+use ep_eval::{Held, Scope, next_number, number_of, type_within, walk_of};
 use ep_tree::{Expr, Kind, ValueType};
+use std::alloc::Global;
 
 /// The number of an index, in which no decision variable may stand, or `..`; nothing where it has no number.
 fn fixed_index(scope: Scope<'_, '_>, index: &Option<Expr>) -> Result<Option<Option<i64>>, Memory>
@@ -66,7 +67,11 @@ fn fixed_indices(
 
 /// What indices leave of a block of cells. Where `..` stands, all parts are left.
 #[cycle(reading)]
-fn block_left<'a>(block: Block<'a>, indices: &[Option<i64>]) -> Result<Unrolled<'a>, Memory>
+fn block_left<'a>(
+    alloc: Global,
+    block: Block<'a>,
+    indices: &[Option<i64>],
+) -> Result<Unrolled<'a>, Memory>
     ensures worth { IfOk result (λ x. (nodes : List GroundNode) → (numbers : List ℤ) → (v : ValueTree)
         → cells_value numbers block.entry.domains.now block.entry.first ≡ Some v
         → IsWorth nodes numbers x (read_value (indices_in indices.now) v)) }
@@ -74,8 +79,8 @@ fn block_left<'a>(block: Block<'a>, indices: &[Option<i64>]) -> Result<Unrolled<
 {
     match indices.split_first() {
         Some((index, rest)) => match index {
-            Some(stated) => part_left(block, *stated, rest),
-            None => parts_left(block, rest),
+            Some(stated) => part_left(alloc, block, *stated, rest),
+            None => parts_left(alloc, block, rest),
         },
         None => Ok(Unrolled::Cells(block.first, block.domains)),
     }
@@ -83,7 +88,12 @@ fn block_left<'a>(block: Block<'a>, indices: &[Option<i64>]) -> Result<Unrolled<
 
 /// What indices leave of the part with an index.
 #[cycle(reading)]
-fn part_left<'a>(block: Block<'a>, index: i64, rest: &[Option<i64>]) -> Result<Unrolled<'a>, Memory>
+fn part_left<'a>(
+    alloc: Global,
+    block: Block<'a>,
+    index: i64,
+    rest: &[Option<i64>],
+) -> Result<Unrolled<'a>, Memory>
     ensures worth { IfOk result (λ x. (nodes : List GroundNode) → (numbers : List ℤ) → (v : ValueTree)
         → cells_value numbers block.entry.domains.now block.entry.first ≡ Some v
         → IsWorth nodes numbers x (read_value (index_in (Some index) ∷ indices_in rest.now) v)) }
@@ -91,7 +101,7 @@ fn part_left<'a>(block: Block<'a>, index: i64, rest: &[Option<i64>]) -> Result<U
 {
     let part = block_at(block, index)?;
     match part {
-        Some(inner) => block_left(inner, rest),
+        Some(inner) => block_left(alloc, inner, rest),
         None => Ok(Unrolled::Fixed(None)),
     }
 }
@@ -109,26 +119,78 @@ fn are_every(indices: &[Option<i64>]) -> bool
     }
 }
 
-/// What indices leave of each part, where each of them is `..`: all. Where one isn't, it ends as want of memory.
-fn parts_left<'a>(block: Block<'a>, rest: &[Option<i64>]) -> Result<Unrolled<'a>, Memory>
+/// Whether indices are `..` alone, and leave a block as it is.
+fn leaves_all(block: Block<'_>, rest: &[Option<i64>]) -> bool
+    ensures { result ≡ true → (numbers : List ℤ) → (v : ValueTree) → cells_value numbers block.entry.domains.now block.entry.first ≡ Some v
+        → read_value (any_index ∷ indices_in rest.now) v ≡ Some v }
+{
+    let count = rest.len();
+    let dims = block.domains.len();
+    if count >= dims {
+        return false;
+    }
+    are_every(rest)
+}
+
+/// What indices leave of each part behind `..`.
+#[cycle(reading)]
+fn parts_left<'a>(
+    alloc: Global,
+    block: Block<'a>,
+    rest: &[Option<i64>],
+) -> Result<Unrolled<'a>, Memory>
     ensures worth { IfOk result (λ x. (nodes : List GroundNode) → (numbers : List ℤ) → (v : ValueTree)
         → cells_value numbers block.entry.domains.now block.entry.first ≡ Some v
         → IsWorth nodes numbers x (read_value (any_index ∷ indices_in rest.now) v)) }
     ensures terms { IfOk result (λ x. (count : ℕ) → AreTerms count x) }
 {
-    let count = rest.len();
-    let dims = block.domains.len();
-    if count >= dims {
-        return Err(Memory);
+    if leaves_all(block, rest) {
+        return Ok(Unrolled::Cells(block.first, block.domains));
     }
-    if !are_every(rest) {
-        return Err(Memory);
+    match block.domains.split_first() {
+        Some((own, inner)) => each_left(alloc, block.first, own, inner, rest),
+        None => Ok(Unrolled::Fixed(None)),
     }
-    Ok(Unrolled::Cells(block.first, block.domains))
+}
+
+/// What indices leave of each part of cells: one for each number of the first index domain, with this number as its index.
+#[cycle(reading)]
+fn each_left<'a>(
+    alloc: Global,
+    first: u64,
+    own: &Runs,
+    inner: &'a [Runs],
+    rest: &[Option<i64>],
+) -> Result<Unrolled<'a>, Memory>
+    ensures worth { IfOk result (λ x. (nodes : List GroundNode) → (numbers : List ℤ) → (v : ValueTree)
+        → cells_value numbers (own.now ∷ inner.now) first ≡ Some v
+        → IsWorth nodes numbers x (read_value (any_index ∷ indices_in rest.now) v)) }
+    ensures terms { IfOk result (λ x. (count : ℕ) → AreTerms count x) }
+{
+    let each = cells_over(inner)?;
+    let mut indices = Vec::new(alloc);
+    let mut parts = Vec::new(alloc);
+    let mut cell = first;
+    let mut walk = walk_of(own.runs());
+    while let Some((number, behind)) = next_number(walk) {
+        let block = Block {
+            first: cell,
+            domains: inner,
+        };
+        let part = block_left(alloc, block, rest)?;
+        indices.push(number)?;
+        parts.push(part)?;
+        let Some(more) = cell.checked_add(each) else {
+            return Err(Memory);
+        };
+        cell = more;
+        walk = behind;
+    }
+    Ok(Unrolled::Matrix(indices, parts))
 }
 
 /// Whether a type is that of truth values.
-fn is_truth(ty: ValueType) -> bool
+pub fn is_truth(ty: ValueType) -> bool
     ensures truth { result ≡ true → ty ≡ EachType.Bool }
     ensures other { result ≡ false → (o : Option ValueTree) → read_result EachMode.Relational ty o ≡ o }
 {
@@ -151,7 +213,7 @@ fn or_false<'a>(seen: Option<Held<'a>>) -> Option<Held<'a>>
 }
 
 /// What was read, which is false where there is no truth value.
-fn finish_read<'a>(ty: ValueType, known: Unrolled<'a>) -> Result<Unrolled<'a>, Memory>
+pub fn finish_read<'a>(ty: ValueType, known: Unrolled<'a>) -> Result<Unrolled<'a>, Memory>
     ensures worth { (nodes : List GroundNode) → (numbers : List ℤ) → (o : Option ValueTree) → IsWorth nodes numbers known.entry o
         → IfOk result (λ x. worth nodes numbers x ≡ read_result EachMode.Relational ty o) }
     ensures terms { (count : ℕ) → AreTerms count known.entry → IfOk result (AreTerms count) }
@@ -183,7 +245,7 @@ pub fn read_named<'a>(
     let numbers = fixed_indices(scope, indices)?;
     match numbers {
         Some(numbers) => {
-            let left = block_left(block, &numbers)?;
+            let left = block_left(scope.alloc, block, &numbers)?;
             finish_read(ty, left)
         }
         None => finish_read(ty, Unrolled::Fixed(None)),

@@ -15,11 +15,11 @@ ghost use Rattle.ep_unroll.specs.Grounds.{IsGroundOf};
 ghost use Rattle.ep_unroll.specs.Unrolling.{SaysClauses, SaysObjective};
 
 use super::cells::{cells_of, env_with_cells, table_of};
-use super::checks::{is_bounded, is_well_formed};
 use super::clauses::{clause_terms, goal_term};
 use ep_base::Memory;
 use ep_ground::{Arena, Ground};
 use ep_instance::Instance;
+use ep_reach::{is_bounded, is_well_formed};
 use ep_size::measure;
 use ep_tree::Mode;
 use std::alloc::Global;

@@ -1,5 +1,5 @@
 use Rattle.std.proofs.Common.{Ok, [], ap, arith, length, of_z, refl, rules, subst, sym, to_z, true, w64, ◌+◌, ◌++◌, ◌<◌, ◌≤◌, ◌∙◌, ◌∷◌, ◌≡◌, List, Some, None}
-use Rattle.std.specs.Prelude.{IfOk}
+use Rattle.std.specs.Prelude.{IfOk, option_map}
 use Rattle.std.proofs.lemmas.Int.{ints, to_z-of_z}
 use Rattle.ep_base.specs.declared.places.Place.{Place}
 use Rattle.ep_eval.proofs.Depths.{quantifier_depth, second_within}
@@ -10,20 +10,42 @@ use Rattle.ep_eval.specs.Ranks.{depth_of}
 use Rattle.ep_eval.specs.Scopes.{env_in, mode_in, with_all}
 use Rattle.ep_eval.specs.Walking.{IsWalkBehind, before_rest, numbers_left}
 use Rattle.ep_size.specs.Parts.{part_of, two_parts}
-use Rattle.ep_tree.proofs.ViewLemmas.{kind_tree-absolute, kind_tree-all_of, kind_tree-any_of, kind_tree-binary, kind_tree-chain, kind_tree-compare, kind_tree-group, kind_tree-in_domain, kind_tree-minus, kind_tree-named, kind_tree-negation, kind_tree-to_int}
+use Rattle.ep_tree.proofs.ViewLemmas.{kind_tree-absolute, kind_tree-all_of, kind_tree-any_of, kind_tree-binary, kind_tree-chain, kind_tree-compare, kind_tree-group, kind_tree-in_domain, kind_tree-minus, kind_tree-named, kind_tree-negation, kind_tree-to_int, kind_tree-read}
 use Rattle.ep_tree.specs.Environments.{scalar_in, with_number}
-use Rattle.ep_tree.specs.Trees.{absolute, all_of, any_of, binary, chain, compare, group, in_domain, minus, named, negation, quantified, to_int}
-use Rattle.ep_tree.specs.Views.{domain_tree, expr_tree, expr_trees, kind_tree, terms_of}
+use Rattle.ep_tree.specs.Trees.{absolute, all_of, any_of, binary, chain, compare, group, in_domain, minus, named, negation, quantified, to_int, read}
+use Rattle.ep_tree.specs.Views.{domain_tree, expr_tree, expr_trees, kind_tree, terms_of, indices_of}
 use Rattle.ep_tree.specs.declared.syntax.Domain.{size-Domain}
 use Rattle.ep_tree.specs.declared.syntax.Expr.{size-Expr}
 use Rattle.ep_tree.specs.declared.values.Mode.{Mode}
 use Rattle.ep_unroll.proofs.CycleSteps.{bare_means, group_means, instances_all, instances_begin, instances_more, number_from, signed_all, signed_begin, signed_more, terms_all, terms_begin, terms_more, to_int_means}
-use Rattle.ep_unroll.proofs.FormValues.{grows_long, if_ok, number_grown}
+use Rattle.ep_unroll.proofs.FormValues.{grows_long, if_ok, number_grown, grows_on}
 use Rattle.ep_unroll.proofs.MeaningSteps.{term_means}
 use Rattle.ep_unroll.specs.Firsts.{numbering_of}
 use Rattle.ep_unroll.specs.Lists.{all_parts}
 use Rattle.ep_unroll.specs.Meanings.{AreInstancesOf, IsNumberOf, IsTermOf, Means}
 use Rattle.ep_unroll.specs.declared.unrolled.Unrolled.{Number}
+use Rattle.ep_unroll.proofs.SlotSteps.{every_slot, open_slot, slots_all, slots_begin, slots_more, slots_none, slots_known}
+use Rattle.ep_unroll.specs.Picks.{SlotMeans, SlotsMean}
+use Rattle.std.specs.Prelude.{map}
+use denote.Param.Weighed.{most}
+use Rattle.ep_eval.proofs.Depths.{first_within}
+use Rattle.ep_eval.proofs.GeneratingDepths.{comprehension_depth, first_generator, generators_depth, listing_depth}
+use Rattle.ep_eval.proofs.GeneratingSteps.{comprehension_at, generators_first, generators_none, values_bare, values_none, values_part, values_some}
+use Rattle.ep_eval.proofs.LiteralForms.{index_is}
+use Rattle.ep_eval.specs.Generating.{lists_joined, part_value, part_where}
+use Rattle.ep_eval.specs.Literals.{index_at}
+use Rattle.ep_tree.proofs.ViewLemmas.{index_of, kind_tree-all_different, kind_tree-at_least, kind_tree-at_most, kind_tree-flatten, kind_tree-folded, kind_tree-gcc, kind_tree-lex, kind_tree-literal, kind_tree-table}
+use Rattle.ep_tree.specs.Evaluation.{evaluate}
+use Rattle.ep_tree.specs.Trees.{all_different, at_least, at_most, flatten, folded, gcc, lex, literal, no_generators, table}
+use Rattle.ep_tree.specs.Views.{generators_of}
+use Rattle.ep_tree.specs.declared.syntax.Generator.{size-Generator}
+use Rattle.ep_unroll.proofs.ListingDepths.{evaluated}
+use Rattle.ep_unroll.proofs.PartListSteps.{if_both, known_all, known_begin, known_more, lists_all, lists_begin, lists_lost, lists_more, lists_none, lists_same, lists_where, literal_means}
+use Rattle.ep_unroll.proofs.ScalarSteps.{scalars_from, scalars_grown}
+use Rattle.ep_unroll.specs.PartLists.{Lists, parts_at, parts_in, parts_of, ranging_over}
+use Rattle.ep_unroll.specs.Scalars.{matrix_part}
+use Rattle.ep_unroll.specs.declared.comprehensions.Listing.{Listing}
+use Rattle.ep_unroll.specs.declared.unrolled.Unrolled.{Unrolled}
 use Rattle.ep_unroll.proofs.expressions.+unrolling.Goals as goal
 
 pub unrolled-fixed-requires : goal.unrolled-fixed-requires
@@ -344,3 +366,414 @@ instances-returns t c p =
     let rest = c.args.rest.now in
     instances_all n env c.args.arena.now c.loop-number.arena p q name rest c.args.set.now (numbers_left c.loop-number.walk) c.loop-number.terms.items
     (c.next_number.ensures.numbers ∙ ap before_rest c.in_default.is) (c.loop-number.invariant.1 p)
+
+pub slot_of-fixed_slot-requires : goal.slot_of-fixed_slot-requires
+slot_of-fixed_slot-requires t c = c.is_fixed.ensures c.if-is_fixed.true
+
+pub slot_of-returns-then-is_fixed : goal.slot_of-returns-then-is_fixed
+slot_of-returns-then-is_fixed t c =
+    let n = numbering_of c.args.table.now in
+    let env = env_in c.args.scope in
+    if_ok c.fixed_slot.result _ _ (λ s h. subst (λ index. SlotMeans n env c.args.arena.now c.args.arena.now index s) (sym c.in-Some.is) h) (c.fixed_slot.ensures n c.args.arena.now)
+
+pub slot_of-returns-in_ok-term-in-Some : goal.slot_of-returns-in_ok-term-in-Some
+unfolding SlotMeans
+slot_of-returns-in_ok-term-in-Some t c =
+    open_slot (numbering_of c.args.table.now) (env_in c.args.scope) c.args.arena.now c.term_of.new.arena c.in-Some.stated c.args.index.now c.in_ok-term-in-Some.term c.in-Some.is c.in_ok-term-in-Some.ensures
+
+pub slot_of-returns-in-None : goal.slot_of-returns-in-None
+unfolding SlotMeans
+slot_of-returns-in-None t c = every_slot (numbering_of c.args.table.now) (env_in c.args.scope) c.args.arena.now c.args.index.now c.in-None.is
+
+pub slots_of-loop-index-init : goal.slots_of-loop-index-init
+slots_of-loop-index-init t c = slots_begin (numbering_of c.args.table.now) (env_in c.args.scope) c.args.arena.now c.args.indices.now c.new-slots.result.items c.new-slots.ensures.items
+
+pub slots_of-loop-index-preserved : goal.slots_of-loop-index-preserved
+unfolding SlotMeans
+slots_of-loop-index-preserved t c =
+    let n = numbering_of c.args.table.now in
+    let env = env_in c.args.scope in
+    slots_more n env c.args.arena.now c.loop-index.arena c.slot_of.new.arena c.args.indices.now c.loop-index.index-index c.index-item.result _ c.in-Some.slot c.loop-index.slots.items c.push.new.self.items
+    c.loop-index-test.true c.index-item.is c.loop-index.invariant
+    (subst (SlotMeans n env c.loop-index.arena c.slot_of.new.arena c.index-item.result) c.in-Some.is c.in_ok-one.ensures) c.in_ok-push-in-Some.ensures.items
+
+pub slots_of-returns-in-None : goal.slots_of-returns-in-None
+unfolding SlotMeans SlotsMean
+slots_of-returns-in-None t c =
+    let n = numbering_of c.args.table.now in
+    let env = env_in c.args.scope in
+    let none = subst (SlotMeans n env c.loop-index.arena c.slot_of.new.arena c.index-item.result) c.in-None.is c.in_ok-one.ensures in (
+      grows_on c.args.arena.now c.loop-index.arena c.slot_of.new.arena c.loop-index.invariant.grows none.0,
+      λ r. slots_none n env c.args.arena.now c.loop-index.arena c.args.indices.now c.loop-index.index-index c.index-item.result _ c.loop-index.slots.items c.loop-index-test.true c.index-item.is
+          c.loop-index.invariant r (none.1 r),
+    )
+
+pub slots_of-returns : goal.slots_of-returns
+unfolding SlotsMean
+slots_of-returns t c =
+    slots_all (numbering_of c.args.table.now) (env_in c.args.scope) c.args.arena.now c.loop-index.arena c.args.indices.now c.loop-index.index-index c.loop-index.slots.items c.loop-index-test.false c.loop-index.invariant
+
+pub read_unrolled-returns-then-are_decided : goal.read_unrolled-returns-then-are_decided
+read_unrolled-returns-then-are_decided t c =
+    let p = c.args.e.now.place in
+    let m = expr_tree c.deref-then-are_decided.result.now in
+    let tree : expr_tree c.args.e.now ≡ read p m (indices_of c.deref-then-are_decided-2.result.now) =
+    ap (kind_tree p) c.in-Read.is ∙ kind_tree-read p c.in-Read.matrix c.in-Read.indices ∙ ap (λ x. read p (expr_tree x) (indices_of c.in-Read.indices.items)) (sym c.deref-then-are_decided.ensures)
+    ∙ ap (λ l. read p m (indices_of l)) (sym c.deref-then-are_decided-2.ensures.value) in
+    c.read_of.ensures c.args.arena.now p tree
+
+pub read_unrolled-read_with-requires : goal.read_unrolled-read_with-requires
+read_unrolled-read_with-requires t c =
+    slots_known (numbering_of c.args.table.now) (env_in c.args.scope) c.args.arena.now c.slots_of.new.arena c.deref-in-Read.result.now (option_map (λ v. v.items) c.in_ok-slots-in-Read.slots) c.in_ok-slots-in-Read.ensures
+
+pub read_unrolled-returns-in_ok-slots-in-Read : goal.read_unrolled-returns-in_ok-slots-in-Read
+read_unrolled-returns-in_ok-slots-in-Read t c =
+    let p = c.args.e.now.place in
+    let m = expr_tree c.deref-in-Read-2.result.now in
+    let tree : expr_tree c.args.e.now ≡ read p m (indices_of c.deref-in-Read.result.now) =
+    ap (kind_tree p) c.in-Read.is ∙ kind_tree-read p c.in-Read.matrix c.in-Read.indices ∙ ap (λ x. read p (expr_tree x) (indices_of c.in-Read.indices.items)) (sym c.deref-in-Read-2.ensures)
+    ∙ ap (λ l. read p m (indices_of l)) (sym c.deref-in-Read.ensures.value) in
+    c.read_with.ensures c.args.arena.now p c.deref-in-Read.result.now tree c.in_ok-slots-in-Read.ensures
+
+pub scalars_of-taken_scalars-requires : goal.scalars_of-taken_scalars-requires
+scalars_of-taken_scalars-requires t c = c.in_ok-known.ensures.known
+
+pub scalars_of-returns : goal.scalars_of-returns
+scalars_of-returns t c = c.taken_scalars.ensures (numbering_of c.args.table.now) (env_in c.args.scope) c.args.arena.now (expr_tree c.args.e.now) c.in_ok-known.ensures
+
+pub with_matrix-finish_matrix-requires : goal.with_matrix-finish_matrix-requires
+with_matrix-finish_matrix-requires t c = c.in_ok-terms-in-AllDiff.ensures.known
+
+pub with_matrix-returns-in_ok-terms-in-AllDiff : goal.with_matrix-returns-in_ok-terms-in-AllDiff
+unfolding matrix_part
+with_matrix-returns-in_ok-terms-in-AllDiff t c p =
+    let n = numbering_of c.args.table.now in
+    let env = env_in c.args.scope in
+    let e = expr_tree c.deref.result.now in
+    let is : kind_tree p c.args.kind.now ≡ all_different p e = ap (kind_tree p) c.in-AllDiff.is ∙ kind_tree-all_different p c.in-AllDiff.part ∙ ap (λ x. all_different p (expr_tree x)) (sym c.deref.ensures) in
+    c.finish_matrix.ensures n env c.args.arena.now p e (ap matrix_part is) c.in_ok-terms-in-AllDiff.ensures
+
+pub with_matrix-finish_matrix-requires-in-Fold : goal.with_matrix-finish_matrix-requires-in-Fold
+with_matrix-finish_matrix-requires-in-Fold t c = c.in_ok-terms-in-Fold.ensures.known
+
+pub with_matrix-returns-in_ok-terms-in-Fold : goal.with_matrix-returns-in_ok-terms-in-Fold
+unfolding matrix_part
+with_matrix-returns-in_ok-terms-in-Fold t c p =
+    let n = numbering_of c.args.table.now in
+    let env = env_in c.args.scope in
+    let e = expr_tree c.deref-in-Fold.result.now in
+    let is : kind_tree p c.args.kind.now ≡ folded p c.in-Fold.field-0 e = ap (kind_tree p) c.in-Fold.is ∙ kind_tree-folded p c.in-Fold.field-0 c.in-Fold.part ∙ ap (λ x. folded p c.in-Fold.field-0 (expr_tree x)) (sym c.deref-in-Fold.ensures) in
+    c.finish_matrix-in-Fold.ensures n env c.args.arena.now p e (ap matrix_part is) c.in_ok-terms-in-Fold.ensures
+
+pub matrix_unrolled-returns-in_ok-own-in-Literal : goal.matrix_unrolled-returns-in_ok-own-in-Literal
+matrix_unrolled-returns-in_ok-own-in-Literal t c p =
+    let n = numbering_of c.args.table.now in
+    let env = env_in c.args.scope in
+    let old = c.args.arena.now in
+    let new = c.parts_of_all.new.arena in
+    let es = expr_trees c.deref.result.now in
+    let d = index_at c.in-Literal.domain in
+    let is : kind_tree p c.args.kind.now ≡ literal p es d = ap (kind_tree p) c.in-Literal.is ∙ kind_tree-literal p c.in-Literal.parts c.in-Literal.domain
+    ∙ ap (λ l. literal p (expr_trees l) (index_of c.in-Literal.domain)) (sym c.deref.ensures.value) ∙ ap (literal p es) (index_is c.in-Literal.domain) in
+    if_both c.made_matrix.result _ _ _
+    (λ x value terms. subst (λ y. Means n env old new y x) (sym is)
+    (literal_means n env old new p es d c.in_ok-own-in-Literal.own.items x c.in_ok-own-in-Literal.ensures (λ r. value n r new) (terms (length new) c.in_ok-own-in-Literal.ensures.known)))
+    c.made_matrix.ensures.value c.made_matrix.ensures.terms
+
+pub matrix_unrolled-generated-requires : goal.matrix_unrolled-generated-requires
+matrix_unrolled-generated-requires t c =
+    let l : Listing = record { body = c.deref-in-Comprehension.result; conditions = c.deref-in-Comprehension-2.result } in
+    let below = comprehension_depth c.args.kind.now c.in-Comprehension.body c.in-Comprehension.generators c.in-Comprehension.conditions c.in-Comprehension.domain (evaluated l) c.deref-in-Comprehension-3.result.now
+    c.in-Comprehension.is c.deref-in-Comprehension.ensures c.deref-in-Comprehension-2.ensures.value c.deref-in-Comprehension-3.ensures.value in
+    (omega (arith, below, c.decreases, c.deref-in-Comprehension-3.ensures.len), tt)
+
+pub matrix_unrolled-returns-in_ok-parts-in-Comprehension : goal.matrix_unrolled-returns-in_ok-parts-in-Comprehension
+matrix_unrolled-returns-in_ok-parts-in-Comprehension t c p =
+    let n = numbering_of c.args.table.now in
+    let env = env_in c.args.scope in
+    let old = c.args.arena.now in
+    let new = c.generated.new.arena in
+    let l : Listing = record { body = c.deref-in-Comprehension.result; conditions = c.deref-in-Comprehension-2.result } in
+    let gens = c.deref-in-Comprehension-3.result.now in
+    let is = comprehension_at c.args.kind.now c.in-Comprehension.body c.in-Comprehension.generators c.in-Comprehension.conditions c.in-Comprehension.domain (evaluated l) gens
+    c.in-Comprehension.is c.deref-in-Comprehension.ensures c.deref-in-Comprehension-2.ensures.value c.deref-in-Comprehension-3.ensures.value in
+    if_ok c.comprehension_matrix.result _ _ (λ x h. subst (λ y. Means n env old new y x) (sym (is.tree p)) h)
+    (c.comprehension_matrix.ensures n old new p (expr_tree l.body.now) (generators_of gens) (expr_trees l.conditions.now)
+    (subst (λ (xs : List Unrolled). Lists n env old new (Some xs) (parts_in c.in_ok-parts-in-Comprehension.parts) (parts_of l (generators_of gens))) c.new.ensures.items c.in_ok-parts-in-Comprehension.ensures))
+
+pub parts_of_all-loop-part-init : goal.parts_of_all-loop-part-init
+parts_of_all-loop-part-init t c =
+    known_begin (numbering_of c.args.table.now) (env_in c.args.scope) c.args.arena.now c.args.parts.now c.new-known.result.items c.new-known.ensures.items
+
+pub parts_of_all-loop-part-preserved : goal.parts_of_all-loop-part-preserved
+parts_of_all-loop-part-preserved t c =
+    known_more (numbering_of c.args.table.now) (env_in c.args.scope) c.args.arena.now c.loop-part.arena c.unrolled.new.arena c.args.parts.now c.loop-part.part-index c.part-item.result _ c.in_ok-own.own
+    c.loop-part.known.items c.push.new.self.items c.loop-part-test.true c.part-item.is c.loop-part.invariant c.in_ok-own.ensures c.in_ok-push.ensures.items
+
+pub parts_of_all-returns : goal.parts_of_all-returns
+parts_of_all-returns t c =
+    known_all (numbering_of c.args.table.now) (env_in c.args.scope) c.args.arena.now c.loop-part.arena c.args.parts.now c.loop-part.part-index c.loop-part.known.items (omega (arith, c.loop-part-test.false)) c.loop-part.invariant
+
+pub generated-over_names-requires : goal.generated-over_names-requires
+generated-over_names-requires t c =
+    let cut = c.in-Some.ensures.cases.0 in
+    let long = ap length cut in
+    let depth = first_generator (evaluated c.args.listing) c.args.generators.now c.in-Some.first.now c.in-Some.later.now c.in-Some.first.now.domain cut refl in
+    (omega (arith, depth, long, c.decreases, c.deref.ensures.len), tt)
+
+pub generated-returns-in_ok-more-in-Some : goal.generated-returns-in_ok-more-in-Some
+generated-returns-in_ok-more-in-Some t c =
+    let gens = generators_first c.args.generators.now c.in-Some.first.now c.in-Some.later.now (domain_tree c.in-Some.first.now.domain) c.deref.result.now c.in-Some.ensures.cases.0 refl (sym c.deref.ensures.value) in
+    subst (λ g. Lists (numbering_of c.args.table.now) (env_in c.args.scope) c.args.arena.now c.over_names.new.arena (parts_in c.args.parts) (parts_in c.in_ok-more-in-Some.more) (parts_of c.args.listing g)) (sym gens)
+    c.in_ok-more-in-Some.ensures
+
+pub generated-with_part-requires : goal.generated-with_part-requires
+generated-with_part-requires t c =
+    let l = evaluated c.args.listing in
+    let within : listing_depth l ≤ generators_depth l c.args.generators.now = first_within (listing_depth l) (most size-Generator c.args.generators.now) in
+    (omega (arith, within, c.decreases), tt)
+
+pub generated-returns-in_ok-more-in-None : goal.generated-returns-in_ok-more-in-None
+generated-returns-in_ok-more-in-None t c =
+    let n = numbering_of c.args.table.now in
+    let env = env_in c.args.scope in
+    let l = c.args.listing in
+    let gens = generators_none c.args.generators.now (no_runs c.args.generators.now c.in-None.ensures.cases) in
+    subst (λ g. Lists n env c.args.arena.now c.with_part.new.arena (parts_in c.args.parts) (parts_in c.in_ok-more-in-None.more) (parts_of l g)) (sym gens)
+    (lists_same n env c.args.arena.now c.with_part.new.arena (parts_in c.args.parts) (parts_in c.in_ok-more-in-None.more) (part_value Mode.Relational (expr_tree l.body.now) (expr_trees l.conditions.now)) (parts_of l no_generators)
+    (λ r. sym (values_part Mode.Relational (expr_tree l.body.now) (expr_trees l.conditions.now) r.values)) c.in_ok-more-in-None.ensures)
+
+pub over_names-over_numbers-requires : goal.over_names-over_numbers-requires
+over_names-over_numbers-requires t c =
+    let long = ap length c.in-Some.ensures.cases.0 in
+    (omega (arith, long, c.decreases), c.in_ok-numbers-in-Some.ensures.own ∙ c.in-Some-numbers.is)
+
+pub over_names-generated-requires : goal.over_names-generated-requires
+over_names-generated-requires t c =
+    let r = c.args.ranging in
+    let within = second_within (size-Domain r.domain.now) (generators_depth (evaluated r.listing) r.later.now) in
+    (omega (arith, within, c.decreases), tt)
+
+pub over_names-returns-in-Some-numbers : goal.over_names-returns-in-Some-numbers
+over_names-returns-in-Some-numbers t c =
+    let n = numbering_of c.args.table.now in
+    let env = env_in c.args.scope in
+    let g = c.args.ranging in
+    let name = c.in-Some.name.now in
+    let rest = c.in-Some.rest.now in
+    let set = c.in-Some-numbers.set in
+    subst (λ ns. Lists n env c.args.arena.now c.over_numbers.new.arena (parts_in c.args.parts) (parts_in c.in_ok-more-in-Some-numbers.more) (parts_of g.listing (ranging_over g ns))) (sym c.in-Some.ensures.cases.0)
+    (lists_same n env c.args.arena.now c.over_numbers.new.arena (parts_in c.args.parts) (parts_in c.in_ok-more-in-Some-numbers.more)
+    (λ values. lists_joined (map (parts_at values g name rest) set)) (parts_of g.listing (ranging_over g (name ∷ rest)))
+    (λ r. sym (values_some Mode.Relational (expr_tree g.listing.body.now) (expr_trees g.listing.conditions.now) name rest (domain_tree g.domain.now) (generators_of g.later.now) r.values set
+    (c.in_ok-numbers-in-Some.ensures.kept n r ∙ c.in-Some-numbers.is)))
+    c.in_ok-more-in-Some-numbers.ensures)
+
+pub over_names-returns-in-Some : goal.over_names-returns-in-Some
+over_names-returns-in-Some t c =
+    let n = numbering_of c.args.table.now in
+    let env = env_in c.args.scope in
+    let g = c.args.ranging in
+    let name = c.in-Some.name.now in
+    let rest = c.in-Some.rest.now in
+    subst (λ ns. Lists n env c.args.arena.now c.args.arena.now (parts_in c.args.parts) None (parts_of g.listing (ranging_over g ns))) (sym c.in-Some.ensures.cases.0)
+    (lists_lost n env c.args.arena.now (parts_in c.args.parts) None (parts_of g.listing (ranging_over g (name ∷ rest))) refl
+    (λ r. values_none Mode.Relational (expr_tree g.listing.body.now) (expr_trees g.listing.conditions.now) name rest (domain_tree g.domain.now) (generators_of g.later.now) r.values
+    (c.in_ok-numbers-in-Some.ensures.kept n r ∙ c.in-None-numbers.is)))
+
+pub over_names-returns : goal.over_names-returns
+over_names-returns t c =
+    let n = numbering_of c.args.table.now in
+    let env = env_in c.args.scope in
+    let g = c.args.ranging in
+    subst (λ ns. Lists n env c.args.arena.now c.generated.new.arena (parts_in c.args.parts) (parts_in c.in_ok-more-in-None.more) (parts_of g.listing (ranging_over g ns))) (sym (no_runs c.args.names.now c.in-None.ensures.cases))
+    (lists_same n env c.args.arena.now c.generated.new.arena (parts_in c.args.parts) (parts_in c.in_ok-more-in-None.more) (parts_of g.listing (generators_of g.later.now)) (parts_of g.listing (ranging_over g []))
+    (λ r. sym (values_bare Mode.Relational (expr_tree g.listing.body.now) (expr_trees g.listing.conditions.now) (domain_tree g.domain.now) (generators_of g.later.now) r.values))
+    c.in_ok-more-in-None.ensures)
+
+pub over_numbers-loop-number-init : goal.over_numbers-loop-number-init
+over_numbers-loop-number-init t c =
+    let g = c.args.ranging in
+    let name = c.args.name.now in
+    let rest = c.args.rest.now in (
+      c.walk_of-walk.ensures.walk,
+      lists_begin (numbering_of c.args.table.now) (env_in c.args.scope) c.args.arena.now (parts_in c.args.parts) (λ env. parts_at env g name rest) c.args.set.now (numbers_left c.walk_of-walk.result)
+          (c.walk_of-walk.ensures.numbers ∙ c.runs.ensures.numbers),
+    )
+
+pub over_numbers-over_names-requires : goal.over_numbers-over_names-requires
+over_numbers-over_names-requires t c = (omega (arith, c.decreases), tt)
+
+pub over_numbers-loop-number-smaller : goal.over_numbers-loop-number-smaller
+unfolding before_rest
+over_numbers-loop-number-smaller t c =
+    let cut : numbers_left c.loop-number.walk ≡ c.in-Some.number ∷ numbers_left c.in-Some.behind = c.next_number.ensures.numbers ∙ ap before_rest c.in-Some.is in
+    let longer = ap length cut in
+    omega (arith, longer)
+
+pub over_numbers-loop-number-preserved : goal.over_numbers-loop-number-preserved
+unfolding before_rest IsWalkBehind with_all
+over_numbers-loop-number-preserved t c =
+    let n = numbering_of c.args.table.now in
+    let env = env_in c.args.scope in
+    let g = c.args.ranging in
+    let name = c.args.name.now in
+    let rest = c.args.rest.now in
+    let k = c.in-Some.number in
+    let d = domain_tree g.domain.now in
+    let cut : numbers_left c.loop-number.walk ≡ k ∷ numbers_left c.in-Some.behind = c.next_number.ensures.numbers ∙ ap before_rest c.in-Some.is in
+    let scalar : c.scalar_of-scalar.result ≡ scalar_in env d = c.scalar_of-scalar.ensures Mode.Relational (λ none. absurd (let x = sym c.requires ∙ none in cc)) in
+    let same : to_z w64 (of_z w64 k) ≡ k = to_z-of_z w64 k (omega (arith, ints)) in (
+      subst IsWalkBehind c.in-Some.is c.next_number.ensures.walk,
+      lists_more n env c.args.arena.now c.loop-number.arena c.over_names.new.arena (parts_in c.args.parts) (parts_in c.loop-number.more) (parts_in c.in_ok-more.more) (λ values. parts_at values g name rest)
+          c.args.set.now (numbers_left c.loop-number.walk) (numbers_left c.in-Some.behind) name c.scalar_of-scalar.result d k (parts_of g.listing (ranging_over g rest)) c.loop-number.invariant.1 cut scalar
+          (subst (λ m. Lists n (with_number name c.scalar_of-scalar.result m env) c.loop-number.arena c.over_names.new.arena (parts_in c.loop-number.more) (parts_in c.in_ok-more.more) (parts_of g.listing (ranging_over g rest))) same
+          c.in_ok-more.ensures)
+          (λ values. refl),
+    )
+
+pub over_numbers-returns : goal.over_numbers-returns
+unfolding before_rest
+over_numbers-returns t c =
+    let g = c.args.ranging in
+    let name = c.args.name.now in
+    let rest = c.args.rest.now in
+    lists_all (numbering_of c.args.table.now) (env_in c.args.scope) c.args.arena.now c.loop-number.arena (parts_in c.args.parts) (parts_in c.loop-number.more) (λ values. parts_at values g name rest)
+    c.args.set.now (numbers_left c.loop-number.walk) c.loop-number.invariant.1 (c.next_number.ensures.numbers ∙ ap before_rest c.in_default.is)
+
+pub with_part-unrolled-requires : goal.with_part-unrolled-requires
+with_part-unrolled-requires t c =
+    let l = evaluated c.args.listing in
+    let within : size-Expr l.body.now ≤ listing_depth l = first_within (size-Expr l.body.now) (most size-Expr l.conditions.now) in
+    (omega (arith, within, c.decreases), tt)
+
+pub with_part-returns-in-Some-true : goal.with_part-returns-in-Some-true
+with_part-returns-in-Some-true t c =
+    let n = numbering_of c.args.table.now in
+    let env = env_in c.args.scope in
+    let l = c.args.listing in
+    lists_where n env c.args.arena.now c.unrolled.new.arena (parts_in c.args.parts) (parts_in c.in_ok-more-in-Some-true.more) (expr_tree l.body.now) (expr_trees l.conditions.now) c.in_ok-part-in-Some-true.part
+    c.in_ok-part-in-Some-true.ensures c.in_ok-more-in-Some-true.ensures (λ r. c.in_ok-truth.ensures n r ∙ c.in-Some-true.is ∙ ap Some c.in-Some-true.field-0-test)
+
+pub with_part-returns-in-Some-false : goal.with_part-returns-in-Some-false
+unfolding part_value part_where
+with_part-returns-in-Some-false t c =
+    let n = numbering_of c.args.table.now in
+    let env = env_in c.args.scope in
+    let l = c.args.listing in
+    lists_none n env c.args.arena.now (parts_in c.args.parts) (parts_in c.args.parts) (part_value Mode.Relational (expr_tree l.body.now) (expr_trees l.conditions.now)) refl
+    (λ r. ap (λ o. part_where o (evaluate Mode.Relational r.values (expr_tree l.body.now))) (c.in_ok-truth.ensures n r ∙ c.in-Some-false.is ∙ ap Some c.in-Some-false.field-0-test))
+
+pub with_part-returns : goal.with_part-returns
+unfolding part_value part_where
+with_part-returns t c =
+    let n = numbering_of c.args.table.now in
+    let env = env_in c.args.scope in
+    let l = c.args.listing in
+    lists_lost n env c.args.arena.now (parts_in c.args.parts) None (part_value Mode.Relational (expr_tree l.body.now) (expr_trees l.conditions.now)) refl
+    (λ r. ap (λ o. part_where o (evaluate Mode.Relational r.values (expr_tree l.body.now))) (c.in_ok-truth.ensures n r ∙ c.in-None.is))
+
+pub matrix_unrolled-returns-in_ok-terms-in-Flatten : goal.matrix_unrolled-returns-in_ok-terms-in-Flatten
+matrix_unrolled-returns-in_ok-terms-in-Flatten t c p =
+    let n = numbering_of c.args.table.now in
+    let env = env_in c.args.scope in
+    let old = c.args.arena.now in
+    let new = c.scalars_of.new.arena in
+    let e = expr_tree c.deref-in-Flatten.result.now in
+    let is : kind_tree p c.args.kind.now ≡ flatten p e = ap (kind_tree p) c.in-Flatten.is ∙ kind_tree-flatten p c.in-Flatten.part ∙ ap (λ x. flatten p (expr_tree x)) (sym c.deref-in-Flatten.ensures) in
+    if_ok c.flattened.result _ _ (λ x h. subst (λ y. Means n env old new y x) (sym is) h) (c.flattened.ensures n env old new p e c.in_ok-terms-in-Flatten.ensures)
+
+pub with_matrices-lex_term-requires : goal.with_matrices-lex_term-requires
+with_matrices-lex_term-requires t c = record {
+  one = λ k d less. grows_long c.scalars_of.new.arena c.scalars_of-in-Lex.new.arena _ c.in_ok-others-in-Lex.ensures.grows (c.in_ok-terms-in-Lex.ensures.known k d less);
+  other = c.in_ok-others-in-Lex.ensures.known;
+}
+
+pub with_matrices-returns-in_ok-others-in-Lex : goal.with_matrices-returns-in_ok-others-in-Lex
+with_matrices-returns-in_ok-others-in-Lex t c p =
+    let n = numbering_of c.args.table.now in
+    let env = env_in c.args.scope in
+    let old = c.args.arena.now in
+    let mid = c.scalars_of.new.arena in
+    let new = c.scalars_of-in-Lex.new.arena in
+    let e = expr_tree c.deref.result.now in
+    let f = expr_tree c.deref-in-Lex.result.now in
+    let op = c.in-Lex.op in
+    let is : kind_tree p c.args.kind.now ≡ lex p op e f = ap (kind_tree p) c.in-Lex.is ∙ kind_tree-lex p op c.in-Lex.left c.in-Lex.right
+    ∙ ap (λ x. lex p op (expr_tree x) (expr_tree c.in-Lex.right.value)) (sym c.deref.ensures) ∙ ap (λ x. lex p op e (expr_tree x)) (sym c.deref-in-Lex.ensures) in
+    if_ok c.lex_term.result _ _ (λ x h. subst (λ y. IsTermOf n env old c.lex_term.new.arena y x) (sym is) h)
+    (c.lex_term.ensures n env old p e f (scalars_grown n env old mid new e c.in_ok-terms-in-Lex.terms.items c.in_ok-others-in-Lex.ensures.grows c.in_ok-terms-in-Lex.ensures)
+    (scalars_from n env old mid new f c.in_ok-others-in-Lex.others.items c.in_ok-terms-in-Lex.ensures.grows c.in_ok-others-in-Lex.ensures))
+
+pub with_matrices-table_term-requires : goal.with_matrices-table_term-requires
+with_matrices-table_term-requires t c = c.in_ok-terms-in-Table.ensures.known
+
+pub with_matrices-returns-in_ok-own-in-Table : goal.with_matrices-returns-in_ok-own-in-Table
+with_matrices-returns-in_ok-own-in-Table t c p =
+    let n = numbering_of c.args.table.now in
+    let env = env_in c.args.scope in
+    let old = c.args.arena.now in
+    let e = expr_tree c.deref-in-Table.result.now in
+    let f = expr_tree c.deref-in-Table-2.result.now in
+    let is : kind_tree p c.args.kind.now ≡ table p e f = ap (kind_tree p) c.in-Table.is ∙ kind_tree-table p c.in-Table.row c.in-Table.rows
+    ∙ ap (λ x. table p (expr_tree x) (expr_tree c.in-Table.rows.value)) (sym c.deref-in-Table.ensures) ∙ ap (λ x. table p e (expr_tree x)) (sym c.deref-in-Table-2.ensures) in
+    if_ok c.table_term.result _ _ (λ x h. subst (λ y. IsTermOf n env old c.table_term.new.arena y x) (sym is) h)
+    (c.table_term.ensures n env old p e f c.in_ok-terms-in-Table.ensures (c.in_ok-own-in-Table.ensures n))
+
+pub with_counts-counts_term-requires : goal.with_counts-counts_term-requires
+with_counts-counts_term-requires t c = record {
+  one = λ k d less. grows_long c.scalars_of.new.arena c.scalars_of-in-Gcc.new.arena _ c.in_ok-others-in-Gcc.ensures.grows (c.in_ok-terms-in-Gcc.ensures.known k d less);
+  other = c.in_ok-others-in-Gcc.ensures.known;
+}
+
+pub with_counts-returns-in_ok-others-in-Gcc : goal.with_counts-returns-in_ok-others-in-Gcc
+with_counts-returns-in_ok-others-in-Gcc t c p =
+    let n = numbering_of c.args.table.now in
+    let env = env_in c.args.scope in
+    let old = c.args.arena.now in
+    let mid = c.scalars_of.new.arena in
+    let new = c.scalars_of-in-Gcc.new.arena in
+    let e = expr_tree c.deref.result.now in
+    let f = expr_tree c.deref-in-Gcc.result.now in
+    let g = expr_tree c.deref-in-Gcc-2.result.now in
+    let is : kind_tree p c.args.kind.now ≡ gcc p e f g = ap (kind_tree p) c.in-Gcc.is ∙ kind_tree-gcc p c.in-Gcc.part c.in-Gcc.values c.in-Gcc.counts
+    ∙ ap (λ x. gcc p (expr_tree x) (expr_tree c.in-Gcc.values.value) (expr_tree c.in-Gcc.counts.value)) (sym c.deref.ensures)
+    ∙ ap (λ x. gcc p e (expr_tree x) (expr_tree c.in-Gcc.counts.value)) (sym c.deref-in-Gcc.ensures) ∙ ap (λ x. gcc p e f (expr_tree x)) (sym c.deref-in-Gcc-2.ensures) in
+    if_ok c.counts_term.result _ _ (λ x h. subst (λ y. IsTermOf n env old c.counts_term.new.arena y x) (sym is) h)
+    (c.counts_term.ensures n env old p e f g (scalars_grown n env old mid new e c.in_ok-terms-in-Gcc.terms.items c.in_ok-others-in-Gcc.ensures.grows c.in_ok-terms-in-Gcc.ensures)
+    (c.in_ok-own-in-Gcc.ensures n)
+    (scalars_from n env old mid new g c.in_ok-others-in-Gcc.others.items c.in_ok-terms-in-Gcc.ensures.grows c.in_ok-others-in-Gcc.ensures))
+
+pub with_counts-at_least_term-requires : goal.with_counts-at_least_term-requires
+with_counts-at_least_term-requires t c = c.in_ok-terms-in-AtLeast.ensures.known
+
+pub with_counts-returns-in_ok-own-in-AtLeast : goal.with_counts-returns-in_ok-own-in-AtLeast
+with_counts-returns-in_ok-own-in-AtLeast t c p =
+    let n = numbering_of c.args.table.now in
+    let env = env_in c.args.scope in
+    let old = c.args.arena.now in
+    let e = expr_tree c.deref-in-AtLeast.result.now in
+    let f = expr_tree c.deref-in-AtLeast-2.result.now in
+    let g = expr_tree c.deref-in-AtLeast-3.result.now in
+    let is : kind_tree p c.args.kind.now ≡ at_least p e f g = ap (kind_tree p) c.in-AtLeast.is ∙ kind_tree-at_least p c.in-AtLeast.part c.in-AtLeast.counts c.in-AtLeast.values
+    ∙ ap (λ x. at_least p (expr_tree x) (expr_tree c.in-AtLeast.counts.value) (expr_tree c.in-AtLeast.values.value)) (sym c.deref-in-AtLeast.ensures)
+    ∙ ap (λ x. at_least p e (expr_tree x) (expr_tree c.in-AtLeast.values.value)) (sym c.deref-in-AtLeast-2.ensures) ∙ ap (λ x. at_least p e f (expr_tree x)) (sym c.deref-in-AtLeast-3.ensures) in
+    if_ok c.at_least_term.result _ _ (λ x h. subst (λ y. IsTermOf n env old c.at_least_term.new.arena y x) (sym is) h)
+    (c.at_least_term.ensures n env old p e f g c.in_ok-terms-in-AtLeast.ensures (c.in_ok-bounds-in-AtLeast.ensures n) (c.in_ok-own-in-AtLeast.ensures n))
+
+pub with_counts-at_most_term-requires : goal.with_counts-at_most_term-requires
+with_counts-at_most_term-requires t c = c.in_ok-terms-in-AtMost.ensures.known
+
+pub with_counts-returns-in_ok-own-in-AtMost : goal.with_counts-returns-in_ok-own-in-AtMost
+with_counts-returns-in_ok-own-in-AtMost t c p =
+    let n = numbering_of c.args.table.now in
+    let env = env_in c.args.scope in
+    let old = c.args.arena.now in
+    let e = expr_tree c.deref-in-AtMost.result.now in
+    let f = expr_tree c.deref-in-AtMost-2.result.now in
+    let g = expr_tree c.deref-in-AtMost-3.result.now in
+    let is : kind_tree p c.args.kind.now ≡ at_most p e f g = ap (kind_tree p) c.in-AtMost.is ∙ kind_tree-at_most p c.in-AtMost.part c.in-AtMost.counts c.in-AtMost.values
+    ∙ ap (λ x. at_most p (expr_tree x) (expr_tree c.in-AtMost.counts.value) (expr_tree c.in-AtMost.values.value)) (sym c.deref-in-AtMost.ensures)
+    ∙ ap (λ x. at_most p e (expr_tree x) (expr_tree c.in-AtMost.values.value)) (sym c.deref-in-AtMost-2.ensures) ∙ ap (λ x. at_most p e f (expr_tree x)) (sym c.deref-in-AtMost-3.ensures) in
+    if_ok c.at_most_term.result _ _ (λ x h. subst (λ y. IsTermOf n env old c.at_most_term.new.arena y x) (sym is) h)
+    (c.at_most_term.ensures n env old p e f g c.in_ok-terms-in-AtMost.ensures (c.in_ok-bounds-in-AtMost.ensures n) (c.in_ok-own-in-AtMost.ensures n))

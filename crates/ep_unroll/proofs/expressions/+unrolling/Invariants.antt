@@ -4,7 +4,11 @@ use Rattle.ep_eval.specs.Ranks.{depth_of}
 use Rattle.ep_eval.specs.Scopes.{env_in}
 use Rattle.ep_eval.specs.Walking.{IsWalk, numbers_left}
 use Rattle.ep_unroll.proofs.CycleSteps.{InstancesSoFar, SignedSoFar, TermsSoFar}
+use Rattle.ep_unroll.proofs.SlotSteps.{SlotsSoFar}
+use Rattle.ep_unroll.proofs.ListingDepths.{depth_of_generators, depth_of_listing, depth_of_ranging}
+use Rattle.ep_unroll.proofs.PartListSteps.{KnownSoFar, ListsSoFar}
 use Rattle.ep_unroll.specs.Firsts.{numbering_of}
+use Rattle.ep_unroll.specs.PartLists.{parts_at, parts_in}
 use Rattle.ep_unroll.proofs.expressions.+unrolling.Given as goal
 
 abbrev pub decreases-unrolled : goal.decreases-unrolled
@@ -65,3 +69,59 @@ invariant-terms_of_all-loop-part l = TermsSoFar (numbering_of l.table) (env_in l
 
 abbrev pub invariant-signed_terms-loop-term : goal.invariant-signed_terms-loop-term
 invariant-signed_terms-loop-term l = SignedSoFar (numbering_of l.table) (env_in l.scope) l.fn.arena l.arena l.terms l.term-index l.parts.items
+
+abbrev pub decreases-read_unrolled : goal.decreases-read_unrolled
+decreases-read_unrolled l = goal.size-read_unrolled l * 1361129467683753853853498429727072845824 + 9000000000000000000
+
+abbrev pub decreases-slots_of : goal.decreases-slots_of
+decreases-slots_of l = goal.size-slots_of l * 1361129467683753853853498429727072845824 + 9000000000000000004
+
+abbrev pub decreases-slot_of : goal.decreases-slot_of
+decreases-slot_of l = goal.size-slot_of l * 1361129467683753853853498429727072845824 + 9000000000000000003
+
+abbrev pub invariant-slots_of-loop-index : goal.invariant-slots_of-loop-index
+invariant-slots_of-loop-index l = SlotsSoFar (numbering_of l.table) (env_in l.scope) l.fn.arena l.arena l.indices l.index-index l.slots.items
+
+abbrev pub decreases-with_matrix : goal.decreases-with_matrix
+decreases-with_matrix l = goal.size-with_matrix l * 1361129467683753853853498429727072845824 + 8999999999999999996
+
+abbrev pub decreases-matrix_unrolled : goal.decreases-matrix_unrolled
+decreases-matrix_unrolled l = goal.size-matrix_unrolled l * 1361129467683753853853498429727072845824 + 8999999999999999998
+
+abbrev pub decreases-parts_of_all : goal.decreases-parts_of_all
+decreases-parts_of_all l = goal.size-parts_of_all l * 1361129467683753853853498429727072845824 + 9000000000000000003
+
+abbrev pub decreases-with_part : goal.decreases-with_part
+decreases-with_part l = depth_of_listing l.listing * 1361129467683753853853498429727072845824 + 9000000000000000002
+
+abbrev pub decreases-generated : goal.decreases-generated
+decreases-generated l =
+    depth_of_generators l.listing l.generators.now * 1361129467683753853853498429727072845824 + (length l.generators.now * 36893488147419103232 + 9000000000000000003)
+
+abbrev pub decreases-over_names : goal.decreases-over_names
+decreases-over_names l =
+    depth_of_ranging l.ranging * 1361129467683753853853498429727072845824 + (length l.ranging.later.now * 36893488147419103232 + (3 * length l.names.now + 9000000000000000004))
+
+abbrev pub decreases-over_numbers : goal.decreases-over_numbers
+decreases-over_numbers l =
+    depth_of_ranging l.ranging * 1361129467683753853853498429727072845824 + (length l.ranging.later.now * 36893488147419103232 + (3 * length l.rest.now + 9000000000000000005))
+
+abbrev pub decreases-over_numbers-loop-number : goal.decreases-over_numbers-loop-number
+decreases-over_numbers-loop-number l = length (numbers_left l.walk)
+
+abbrev pub invariant-over_numbers-loop-number : goal.invariant-over_numbers-loop-number
+invariant-over_numbers-loop-number l =
+    (IsWalk l.walk)
+    × ListsSoFar (numbering_of l.table) (env_in l.scope) l.fn.arena l.arena (parts_in l.fn.parts) (parts_in l.more) (λ env. parts_at env l.ranging l.name l.rest) l.set (numbers_left l.walk)
+
+abbrev pub invariant-parts_of_all-loop-part : goal.invariant-parts_of_all-loop-part
+invariant-parts_of_all-loop-part l = KnownSoFar (numbering_of l.table) (env_in l.scope) l.fn.arena l.arena l.parts l.part-index l.known.items
+
+abbrev pub decreases-scalars_of : goal.decreases-scalars_of
+decreases-scalars_of l = goal.size-scalars_of l * 1361129467683753853853498429727072845824 + 9000000000000000002
+
+abbrev pub decreases-with_matrices : goal.decreases-with_matrices
+decreases-with_matrices l = goal.size-with_matrices l * 1361129467683753853853498429727072845824 + 8999999999999999996
+
+abbrev pub decreases-with_counts : goal.decreases-with_counts
+decreases-with_counts l = goal.size-with_counts l * 1361129467683753853853498429727072845824 + 8999999999999999996

@@ -3,6 +3,7 @@ use Rattle.ep_ground.specs.Nodes.{parts_of}
 use Rattle.ep_tree.specs.Trees.{folded}
 use Rattle.ep_unroll.proofs.FormValues.{if_ok}
 use Rattle.ep_unroll.proofs.MatrixSteps.{every_term, greatest_term, least_term, some_term, total_term}
+use Rattle.ep_unroll.proofs.ProductSteps.{product_is}
 use Rattle.ep_unroll.specs.Meanings.{IsTermOf}
 use Rattle.ep_unroll.proofs.matrices.finish_fold.Goals as goal
 
@@ -49,3 +50,11 @@ pub returns-in-Sum : goal.returns-in-Sum
 returns-in-Sum c n cells nodes p e h =
     if_ok c.sum_term.result _ _
     (λ t put. subst (λ op. IsTermOf n cells nodes c.sum_term.new.arena (folded p op e) t) (sym c.in-Sum.is) (total_term n cells nodes c.args.arena.now c.sum_term.new.arena p e c.args.terms.items t h put)) c.sum_term.ensures
+
+pub product_of_all-requires : goal.product_of_all-requires
+product_of_all-requires c = c.requires
+
+pub returns-in-Product : goal.returns-in-Product
+returns-in-Product c n cells nodes p e h =
+    if_ok c.product_of_all.result _ _
+    (λ t own. subst (λ op. IsTermOf n cells nodes c.product_of_all.new.arena (folded p op e) t) (sym c.in-Product.is) (product_is n cells nodes c.args.arena.now c.product_of_all.new.arena p e c.args.terms.items t h own)) c.product_of_all.ensures

@@ -13,10 +13,10 @@ returns-clause-objective c =
     says_objective (mode_of c.args.instance.now) (instance_of c.args.instance.now) (plain_ground c.in_ok-ground.ground) c.requires.mode c.requires.closed c.in_ok-ground.ensures.terms
 
 pub returns-clause-well_formed : goal.returns-clause-well_formed
-returns-clause-well_formed c = c.is_well_formed-well_formed.ensures c.if-not-well_formed.false
+returns-clause-well_formed c = c.is_well_formed-well_formed.ensures.sound c.if-not-well_formed.false
 
 pub returns-clause-bounded : goal.returns-clause-bounded
-returns-clause-bounded c = c.in_ok-bounded.ensures c.if-not-bounded.false
+returns-clause-bounded c = c.in_ok-bounded.ensures.sound c.if-not-bounded.false
 
 pub returns-clause-nodes : goal.returns-clause-nodes
 returns-clause-nodes c = c.in_ok-small.ensures c.if-not-small.false

@@ -1,0 +1,441 @@
+-- Places for the indices of a read, one after another, and reads that choose.
+use Rattle.std.proofs.Common.{◌≡◌, ℕ, zero, suc, ◌+◌, ◌<◌, ◌≤◌, ℤ, pos, Bool, true, false, List, [], ◌∷◌, ◌++◌, length, drop, get_or, Some, None, refl, sym, ap, subst, ◌∙◌, arith, rules, append_assoc}
+use Rattle.std.specs.Prelude.{IfOk, IsSome, Option, Result, Ok, Err, map, option_and_then, option_map, if◌then◌else◌, unwrap_or}
+use Rattle.std.specs.List.{All}
+use Rattle.std.proofs.lemmas.List.{append-nil, at_drop_all, at_drop_more, map-append}
+use Rattle.std.proofs.lemmas.List.Elements.{All-append, All-push}
+use Rattle.ep_base.specs.Numbers.{same_numbers}
+use Rattle.ep_base.specs.Reads.{all_there, first_or_zero, picked, safe_picked}
+use Rattle.ep_base.specs.declared.places.Place.{Place}
+use Rattle.ep_ground.specs.Nodes as node
+use Rattle.ep_ground.specs.Nodes.{GroundNode}
+use Rattle.ep_ground.specs.Terms as ground
+use Rattle.ep_ground.specs.Terms.{node_value, term_value}
+use Rattle.ep_tree.proofs.EvaluationEquations.{evaluate-read}
+use Rattle.ep_tree.specs.Environments.{Env}
+use Rattle.ep_tree.specs.Evaluation.{evaluate, index_list, map_both, number_in, on_both, read_result, type_in}
+use Rattle.ep_tree.specs.Trees.{ExprTree, read}
+use Rattle.ep_tree.specs.Values.{Index, ValueTree, all_defined, any_index, at_index, read_value, single}
+use Rattle.ep_tree.specs.Views.{expr_tree, indices_of}
+use Rattle.ep_tree.specs.declared.syntax.Expr.{Expr}
+use Rattle.ep_tree.specs.declared.values.Mode.{Mode}
+use Rattle.ep_tree.specs.declared.values.ValueType.{ValueType}
+use Rattle.ep_unroll.proofs.FormValues.{grown_value, grows_long, grows_on}
+use Rattle.ep_unroll.proofs.FreeValues.{type_kept}
+use Rattle.ep_unroll.proofs.MeaningSteps.{grows_none}
+use Rattle.ep_unroll.proofs.PartSteps.{index_cut}
+use Rattle.ep_unroll.proofs.PickSteps.{picked_found}
+use Rattle.ep_unroll.specs.Blocks.{one_index}
+use Rattle.ep_unroll.specs.Growing.{Grows, Puts}
+use Rattle.ep_unroll.specs.Meanings.{AreTerms, IsNumberOf, Means, worth}
+use Rattle.ep_unroll.specs.Picks.{AreEntries, AreEntriesOf, AreKnown, AreRead, AreSlotsOf, IsChosenTruth, IsSlot, IsSlotOf, SlotMeans, SlotsMean, filled_in, look_up, open_terms, slot_index}
+use Rattle.ep_unroll.specs.Readings.{Numbering, Reading}
+use Rattle.ep_unroll.specs.declared.slots.Slot.{Slot}
+use Rattle.ep_unroll.specs.declared.slots.Slot.TheVariants.{Every, At, Open}
+use Rattle.ep_unroll.specs.declared.unrolled.Unrolled.{Unrolled, Number}
+
+-- ---- indices as a list of places
+
+pub indices_listed : (env : Env) (xs : List (Option Expr)) → index_list Mode.Relational env (indices_of xs) ≡ all_defined (map (one_index env) xs)
+unfolding indices_of index_list all_defined map_both
+indices_listed env [] = refl
+indices_listed env (x ∷ xs) =
+    index_cut env x xs ∙ ap (map_both (λ i is. i ∷ is) (one_index env x)) (indices_listed env xs) ∙ by (one_index env x) (all_defined (map (one_index env) xs)) refl
+  where
+    by : (o : Option Index) (os : Option (List Index)) → os ≡ all_defined (map (one_index env) xs) → map_both (λ i is. i ∷ is) o os ≡ all_defined (o ∷ map (one_index env) xs)
+    by None os h = refl
+    by (Some i) os h = ap (option_map (λ is. i ∷ is)) h
+
+slot_kept : (mid new : List GroundNode) (numbers : List ℤ) (s : Slot) → Grows mid new → IsSlot (length mid) s → slot_index new numbers s ≡ slot_index mid numbers s
+unfolding slot_index IsSlot
+slot_kept mid new numbers Every g h = refl
+slot_kept mid new numbers (At i) g h = refl
+slot_kept mid new numbers (Open t) g h = ap (option_map at_index) (grown_value mid new numbers t g h)
+
+slot_grown : (mid new : List GroundNode) (s : Slot) → Grows mid new → IsSlot (length mid) s → IsSlot (length new) s
+unfolding IsSlot
+slot_grown mid new Every g h = tt
+slot_grown mid new (At i) g h = tt
+slot_grown mid new (Open t) g h = grows_long mid new t g h
+
+pub slots_kept : (mid new : List GroundNode) (numbers : List ℤ) (ss : List Slot) → Grows mid new → All (IsSlot (length mid)) ss → map (slot_index new numbers) ss ≡ map (slot_index mid numbers) ss
+slots_kept mid new numbers [] g known = refl
+slots_kept mid new numbers (s ∷ ss) g known =
+    ap (λ o. o ∷ map (slot_index new numbers) ss) (slot_kept mid new numbers s g (known 0 s (omega arith)))
+    ∙ ap (λ os. slot_index mid numbers s ∷ os) (slots_kept mid new numbers ss g (λ k d less. known (suc k) d (omega (arith, less))))
+
+-- places so far, of some indices of which those behind a place are left
+pub record SlotsSoFar (n : Numbering) (env : Env) (old new : List GroundNode) (all : List (Option Expr)) (k : ℕ) (ss : List Slot) : Type 0 where
+  pub grows : Grows old new
+  pub known : All (IsSlot (length new)) ss
+  pub values : (r : Reading n env) → map (slot_index new r.numbers) ss ++ map (one_index r.values) (drop k all) ≡ map (one_index r.values) all
+
+pub slots_begin : (n : Numbering) (env : Env) (old : List GroundNode) (all : List (Option Expr)) (ss : List Slot) → ss ≡ [] → SlotsSoFar n env old old all 0 ss
+slots_begin n env old all ss none = record {
+  grows = grows_none old old refl;
+  known = subst (All (IsSlot (length old))) (sym none) (λ k d less. absurd (no_less k less));
+  values = λ r. ap (λ ts. map (slot_index old r.numbers) ts ++ map (one_index r.values) all) none;
+}
+  where
+    no_less : (k : ℕ) → k < 0 → ⊥
+    no_less k less = omega (arith, less)
+
+pub slots_more : (n : Numbering) (env : Env) (old mid new : List GroundNode) (all : List (Option Expr)) (k : ℕ) (x d : Option Expr) (s : Slot) (ss more : List Slot) → k < length all → x ≡ get_or all k d
+    → SlotsSoFar n env old mid all k ss → IsSlotOf n env mid new x s → more ≡ ss ++ s ∷ [] → SlotsSoFar n env old new all (k + 1) more
+slots_more n env old mid new all k x d s ss more h same so one pushed = record {
+  grows = grows_on old mid new so.grows one.grows;
+  known = subst (All (IsSlot (length new))) (sym pushed)
+      (All-push (IsSlot (length new)) ss s (λ j e less. slot_grown mid new _ one.grows (so.known j e less)) one.known);
+  values = λ r.
+      let f : (Option Expr → Option Index) = one_index r.values in
+      let g : (Slot → Option Index) = slot_index new r.numbers in
+      let rest : List (Option Index) = map f (drop (k + 1) all) in
+      ap (λ ts. map g ts ++ rest) pushed
+      ∙ ap (λ os. os ++ rest) (map-append g ss (s ∷ []) ∙ ap (λ os. os ++ g s ∷ []) (slots_kept mid new r.numbers ss one.grows so.known))
+      ∙ append_assoc (map (slot_index mid r.numbers) ss) (g s ∷ []) rest
+      ∙ ap (λ o. map (slot_index mid r.numbers) ss ++ o ∷ rest) (one.value r ∙ ap f same)
+      ∙ ap (λ os. map (slot_index mid r.numbers) ss ++ os) (sym (at_drop_more (map f) all k d h))
+      ∙ so.values r;
+}
+
+pub slots_all : (n : Numbering) (env : Env) (old new : List GroundNode) (all : List (Option Expr)) (k : ℕ) (ss : List Slot) → length all ≤ k → SlotsSoFar n env old new all k ss → AreSlotsOf n env old new all ss
+slots_all n env old new all k ss h so = record {
+  grows = so.grows;
+  known = so.known;
+  values = λ r.
+      sym (append-nil (map (slot_index new r.numbers) ss))
+      ∙ ap (λ os. map (slot_index new r.numbers) ss ++ os) (sym (at_drop_all (map (one_index r.values)) all k h))
+      ∙ so.values r;
+}
+
+none_within : {A : Type 0} (xs ys : List (Option A)) → all_defined (xs ++ None ∷ ys) ≡ None
+unfolding all_defined
+none_within [] ys = refl
+none_within (None ∷ xs) ys = refl
+none_within (Some x ∷ xs) ys = ap (option_map (λ zs. x ∷ zs)) (none_within xs ys)
+
+pub slots_none : (n : Numbering) (env : Env) (old new : List GroundNode) (all : List (Option Expr)) (k : ℕ) (x d : Option Expr) (ss : List Slot) → k < length all → x ≡ get_or all k d
+    → SlotsSoFar n env old new all k ss → (r : Reading n env) → one_index r.values x ≡ None → all_defined (map (one_index r.values) all) ≡ None
+slots_none n env old new all k x d ss h same so r none =
+    let f : (Option Expr → Option Index) = one_index r.values in
+    ap all_defined (sym (so.values r)
+    ∙ ap (λ os. map (slot_index new r.numbers) ss ++ os) (at_drop_more (map f) all k d h)
+    ∙ ap (λ o. map (slot_index new r.numbers) ss ++ o ∷ map f (drop (k + 1) all)) (ap f (sym same) ∙ none))
+    ∙ none_within (map (slot_index new r.numbers) ss) (map f (drop (k + 1) all))
+
+-- a place for each kind of index
+pub open_slot : (n : Numbering) (env : Env) (old new : List GroundNode) (e : Expr) (index : Option Expr) (t : ℕ) → index ≡ Some e → IsNumberOf n env old new (expr_tree e) t → IsSlotOf n env old new index (Open t)
+unfolding IsSlot slot_index one_index
+open_slot n env old new e index t is h = record {
+  grows = h.grows;
+  known = h.known;
+  value = λ r. ap (option_map at_index) (h.number r) ∙ ap (one_index r.values) (sym is);
+}
+
+pub every_slot : (n : Numbering) (env : Env) (old : List GroundNode) (index : Option Expr) → index ≡ None → IsSlotOf n env old old index Every
+unfolding IsSlot slot_index one_index
+every_slot n env old index is = record { grows = grows_none old old refl; known = tt; value = λ r. ap (one_index r.values) (sym is) }
+
+pub at_slot : (n : Numbering) (env : Env) (old : List GroundNode) (e : Expr) (i : ℤ) → ((r : Reading n env) → number_in (evaluate Mode.Relational r.values (expr_tree e)) ≡ Some i) → IsSlotOf n env old old (Some e) (At i)
+unfolding IsSlot slot_index one_index
+at_slot n env old e i h = record { grows = grows_none old old refl; known = tt; value = λ r. ap (option_map at_index) (sym (h r)) }
+
+pub no_slot : (n : Numbering) (env : Env) (old : List GroundNode) (e : Expr) → ((r : Reading n env) → number_in (evaluate Mode.Relational r.values (expr_tree e)) ≡ None) → SlotMeans n env old old (Some e) None
+unfolding SlotMeans one_index
+no_slot n env old e h = (grows_none old old refl, λ r. ap (option_map at_index) (h r))
+
+pub slots_known : (n : Numbering) (env : Env) (old new : List GroundNode) (indices : List (Option Expr)) (found : Option (List Slot)) → SlotsMean n env old new indices found → AreKnown (length new) found
+unfolding SlotsMean AreKnown
+slots_known n env old new indices None h = tt
+slots_known n env old new indices (Some ss) h = h.known
+
+-- ---- the numbers of places
+
+slots_filled : (nodes : List GroundNode) (numbers : List ℤ) (ss : List Slot)
+    → all_defined (map (slot_index nodes numbers) ss) ≡ option_map (filled_in ss) (all_there (map (term_value nodes numbers) (open_terms ss)))
+unfolding all_defined slot_index filled_in open_terms all_there
+slots_filled nodes numbers [] = refl
+slots_filled nodes numbers (Every ∷ ss) =
+    ap (option_map (λ is. any_index ∷ is)) (slots_filled nodes numbers ss) ∙ by (all_there (map (term_value nodes numbers) (open_terms ss)))
+  where
+    by : (o : Option (List ℤ)) → option_map (λ is. any_index ∷ is) (option_map (filled_in ss) o) ≡ option_map (λ js. any_index ∷ filled_in ss js) o
+    by None = refl
+    by (Some js) = refl
+slots_filled nodes numbers (At i ∷ ss) =
+    ap (option_map (λ is. at_index i ∷ is)) (slots_filled nodes numbers ss) ∙ by (all_there (map (term_value nodes numbers) (open_terms ss)))
+  where
+    by : (o : Option (List ℤ)) → option_map (λ is. at_index i ∷ is) (option_map (filled_in ss) o) ≡ option_map (λ js. at_index i ∷ filled_in ss js) o
+    by None = refl
+    by (Some js) = refl
+slots_filled nodes numbers (Open t ∷ ss) = by (term_value nodes numbers t) (all_there (map (term_value nodes numbers) (open_terms ss))) (slots_filled nodes numbers ss)
+  where
+    by : (o : Option ℤ) (js : Option (List ℤ)) → all_defined (map (slot_index nodes numbers) ss) ≡ option_map (filled_in ss) js
+        → all_defined (option_map at_index o ∷ map (slot_index nodes numbers) ss) ≡ option_map (filled_in (Open t ∷ ss)) (option_and_then (λ j. option_map (λ ks. j ∷ ks) js) o)
+    by None js h = refl
+    by (Some j) None h = ap (option_map (λ is. at_index j ∷ is)) h
+    by (Some j) (Some js) h = ap (option_map (λ is. at_index j ∷ is)) h
+
+there_length : (os : List (Option ℤ)) (js : List ℤ) → all_there os ≡ Some js → length js ≡ length os
+unfolding all_there
+there_length [] js e = ap length (some_is (sym e))
+  where
+    some_is : {A : Type 0} {x y : A} → Some x ≡ Some y → x ≡ y
+    some_is h = cc
+there_length (None ∷ os) js e = absurd cc
+there_length (Some x ∷ os) js e = by (all_there os) refl e (λ ks same. there_length os ks same)
+  where
+    some_is : {A : Type 0} {x y : A} → Some x ≡ Some y → x ≡ y
+    some_is h = cc
+
+    by : (o : Option (List ℤ)) → all_there os ≡ o → option_map (λ ns. x ∷ ns) o ≡ Some js → ((ks : List ℤ) → all_there os ≡ Some ks → length ks ≡ length os) → length js ≡ suc (length os)
+    by None same h below = absurd cc
+    by (Some ks) same h below = ap length (some_is (sym h)) ∙ ap suc (below ks same)
+
+length_mapped : {A B : Type 0} (f : A → B) (xs : List A) → length (map f xs) ≡ length xs
+length_mapped f [] = refl
+length_mapped f (x ∷ xs) = ap suc (length_mapped f xs)
+
+all_some : (xs : List ℤ) → all_there (map Some xs) ≡ Some xs
+unfolding all_there
+all_some [] = refl
+all_some (x ∷ xs) = ap (option_map (λ ns. x ∷ ns)) (all_some xs)
+
+-- ---- the terms of places
+
+pub opens_known : (count : ℕ) (ss : List Slot) → All (IsSlot count) ss → All (λ t. t < count) (open_terms ss)
+unfolding IsSlot open_terms
+opens_known count [] known = λ k d less. absurd (no_less k less)
+  where
+    no_less : (k : ℕ) → k < 0 → ⊥
+    no_less k less = omega (arith, less)
+opens_known count (Every ∷ ss) known = opens_known count ss (λ k d less. known (suc k) d (omega (arith, less)))
+opens_known count (At i ∷ ss) known = opens_known count ss (λ k d less. known (suc k) d (omega (arith, less)))
+opens_known count (Open t ∷ ss) known =
+    All-append (λ u. u < count) (t ∷ []) (open_terms ss) (λ k d less. one k d less) (opens_known count ss (λ k d less. known (suc k) d (omega (arith, less))))
+  where
+    one : (k d : ℕ) → k < 1 → get_or (t ∷ []) k d < count
+    one zero d less = known 0 (Open t) (omega arith)
+    one (suc k) d less = absurd (omega (arith, less))
+
+terms_kept : (mid new : List GroundNode) (numbers : List ℤ) (ts : List ℕ) → Grows mid new → All (λ t. t < length mid) ts → map (term_value new numbers) ts ≡ map (term_value mid numbers) ts
+terms_kept mid new numbers [] g known = refl
+terms_kept mid new numbers (t ∷ ts) g known =
+    ap (λ x. x ∷ map (term_value new numbers) ts) (grown_value mid new numbers t g (known 0 t (omega arith)))
+    ∙ ap (λ xs. term_value mid numbers t ∷ xs) (terms_kept mid new numbers ts g (λ k d less. known (suc k) d (omega (arith, less))))
+
+-- ---- what is read
+
+-- entries by the value of an expression
+pub entries_of : (n : Numbering) (env : Env) (old new : List GroundNode) (m : ExprTree) (ss : List Slot) (value : List ℤ → Option ValueTree) (keys : List (List ℤ)) (ts : List ℕ)
+    → ((r : Reading n env) → (v : ValueTree) × (value r.numbers ≡ Some v) × (evaluate Mode.Relational r.values m ≡ Some v)) → AreEntries old new ss value keys ts
+    → AreEntriesOf n env old new m ss keys ts
+entries_of n env old new m ss value keys ts same h = record {
+  grows = h.grows;
+  known = h.known;
+  values = λ r.
+      let p = same r in
+      let q = h.values r.numbers p.0 p.1 in
+      let read = q.2 in
+      (q.0, q.1, read.long, λ js few. ap (option_and_then (read_value (filled_in ss js))) p.2 ∙ read.read js few);
+}
+
+pub entries_without : (n : Numbering) (env : Env) (old : List GroundNode) (m : ExprTree) (ss : List Slot) (keys : List (List ℤ)) (ts : List ℕ)
+    → ((r : Reading n env) → evaluate Mode.Relational r.values m ≡ None) → keys ≡ [] → ts ≡ [] → AreEntriesOf n env old old m ss keys ts
+unfolding look_up
+entries_without n env old m ss keys ts none nothing nowhere = record {
+  grows = grows_none old old refl;
+  known = subst (All (λ t. t < length old)) (sym nowhere) (λ k d less. absurd (no_less k less));
+  values = λ r. (
+    [],
+    ap (map (term_value old r.numbers)) nowhere,
+    ap length nothing,
+    λ js few. ap (option_and_then (read_value (filled_in ss js))) (none r) ∙ ap (λ ks. option_map single (look_up ks [] js)) (sym nothing),
+  );
+}
+  where
+    no_less : (k : ℕ) → k < 0 → ⊥
+    no_less k less = omega (arith, less)
+
+-- what a read gives, by the numbers of its terms
+read_is : (n : Numbering) (env : Env) (r : Reading n env) (nodes mid new : List GroundNode) (p : Place) (m e : ExprTree) (indices : List (Option Expr)) (ss : List Slot) (keys : List (List ℤ)) (xs : List ℤ) (ty : ValueType)
+    → AreSlotsOf n env nodes mid indices ss → Grows mid new → e ≡ read p m (indices_of indices) → ty ≡ type_in env e
+    → ((js : List ℤ) → length js ≡ length (open_terms ss) → option_and_then (read_value (filled_in ss js)) (evaluate Mode.Relational r.values m) ≡ option_map single (look_up keys xs js))
+    → evaluate Mode.Relational r.values e
+    ≡ read_result Mode.Relational ty (option_and_then (λ js. option_map single (look_up keys xs js)) (all_there (map (term_value new r.numbers) (open_terms ss))))
+unfolding on_both
+read_is n env r nodes mid new p m e indices ss keys xs ty slots grows tree typed found =
+    let value : Option ValueTree = evaluate Mode.Relational r.values m in
+    let opens : Option (List ℤ) = all_there (map (term_value new r.numbers) (open_terms ss)) in
+    ap (evaluate Mode.Relational r.values) tree ∙ evaluate-read Mode.Relational r.values p m (indices_of indices)
+    ∙ ap (λ t. read_result Mode.Relational t (on_both (index_list Mode.Relational r.values (indices_of indices)) value read_value))
+    (ap (type_in r.values) (sym tree) ∙ sym (typed ∙ type_kept env r.values e r.reads.agree))
+    ∙ ap (λ o. read_result Mode.Relational ty (on_both o value read_value))
+    (indices_listed r.values indices ∙ ap all_defined (sym (slots.values r) ∙ sym (slots_kept mid new r.numbers ss grows slots.known)) ∙ slots_filled new r.numbers ss)
+    ∙ ap (read_result Mode.Relational ty) (by opens refl)
+  where
+    by : (o : Option (List ℤ)) → all_there (map (term_value new r.numbers) (open_terms ss)) ≡ o
+        → on_both (option_map (filled_in ss) o) (evaluate Mode.Relational r.values m) read_value ≡ option_and_then (λ js. option_map single (look_up keys xs js)) o
+    by None e' = refl
+    by (Some js) e' = found js (there_length (map (term_value new r.numbers) (open_terms ss)) js e' ∙ length_mapped (term_value new r.numbers) (open_terms ss))
+
+pick_value : (numbers : List ℤ) (f : ℕ → Option ℤ) (ts : List ℕ) (keys : List (List ℤ)) (us : List ℕ) (xs : List ℤ) → map f ts ≡ map Some xs
+    → node_value numbers f (node.pick ts keys us) ≡ option_and_then (λ js. look_up keys xs js) (all_there (map f us))
+unfolding node_value ground.values_of ground.on_both
+pick_value numbers f ts keys us xs is =
+    ap (option_and_then (λ ys. option_and_then (λ js. picked ys keys js) (all_there (map f us)))) (ap all_there is ∙ all_some xs)
+    ∙ by (all_there (map f us))
+  where
+    by : (o : Option (List ℤ)) → option_and_then (λ js. picked xs keys js) o ≡ option_and_then (λ js. look_up keys xs js) o
+    by None = refl
+    by (Some js) = picked_found xs keys js
+
+-- a read that chooses a number
+pub pick_means : (n : Numbering) (env : Env) (nodes mid have new : List GroundNode) (p : Place) (m e : ExprTree) (indices : List (Option Expr)) (ss : List Slot) (keys : List (List ℤ)) (ts : List ℕ) (us : List ℕ) (ty : ValueType) (t : ℕ)
+    → AreSlotsOf n env nodes mid indices ss → AreEntriesOf n env mid have m ss keys ts → us ≡ open_terms ss → Puts have new (node.pick ts keys us) t
+    → e ≡ read p m (indices_of indices) → ty ≡ type_in env e → ((o : Option ValueTree) → read_result Mode.Relational ty o ≡ o)
+    → Means n env nodes new e (Number t)
+unfolding worth AreTerms
+pick_means n env nodes mid have new p m e indices ss keys ts us ty t slots entries opened put tree typed plain = record {
+  grows = grows_on nodes mid new slots.grows (grows_on mid have new entries.grows put.grows);
+  known = put.known;
+  value = λ r.
+      let q = entries.values r in
+      let f : (ℕ → Option ℤ) = term_value new r.numbers in
+      let opens : Option (List ℤ) = all_there (map f (open_terms ss)) in
+      ap (option_map single)
+      (put.value r.numbers ∙ pick_value r.numbers f ts keys us q.0 (terms_kept have new r.numbers ts put.grows entries.known ∙ q.1)
+      ∙ ap (λ vs. option_and_then (λ js. look_up keys q.0 js) (all_there (map f vs))) opened)
+      ∙ moved keys q.0 opens
+      ∙ sym (plain (option_and_then (λ js. option_map single (look_up keys q.0 js)) opens))
+      ∙ sym (read_is n env r nodes mid new p m e indices ss keys q.0 ty slots (grows_on mid have new entries.grows put.grows) tree typed q.3);
+}
+  where
+    moved : (ks : List (List ℤ)) (xs : List ℤ) (o : Option (List ℤ)) → option_map single (option_and_then (λ js. look_up ks xs js) o) ≡ option_and_then (λ js. option_map single (look_up ks xs js)) o
+    moved ks xs None = refl
+    moved ks xs (Some js) = refl
+
+-- a read with an index that has no number
+without_means : (n : Numbering) (env : Env) (nodes mid : List GroundNode) (p : Place) (m e : ExprTree) (indices : List (Option Expr)) (ty : ValueType) (x : Unrolled)
+    → e ≡ read p m (indices_of indices) → ty ≡ type_in env e → Grows nodes mid → ((r : Reading n env) → all_defined (map (one_index r.values) indices) ≡ None)
+    → ((numbers : List ℤ) → worth mid numbers x ≡ read_result Mode.Relational ty None) → AreTerms (length mid) x → Means n env nodes mid e x
+unfolding on_both
+without_means n env nodes mid p m e indices ty x tree typed grows none is known = record {
+  grows = grows;
+  known = known;
+  value = λ r.
+      is r.numbers
+      ∙ ap (λ t. read_result Mode.Relational t None) (typed ∙ type_kept env r.values e r.reads.agree ∙ ap (type_in r.values) tree)
+      ∙ ap (λ o. read_result Mode.Relational (type_in r.values (read p m (indices_of indices))) (on_both o (evaluate Mode.Relational r.values m) read_value))
+      (sym (indices_listed r.values indices ∙ none r))
+      ∙ sym (ap (evaluate Mode.Relational r.values) tree ∙ evaluate-read Mode.Relational r.values p m (indices_of indices));
+}
+
+pub without_done : {E : Type 0} (n : Numbering) (env : Env) (nodes mid : List GroundNode) (p : Place) (m e : ExprTree) (indices : List (Option Expr)) (ty : ValueType) (result : Result Unrolled E)
+    → e ≡ read p m (indices_of indices) → ty ≡ type_in env e → Grows nodes mid → ((r : Reading n env) → all_defined (map (one_index r.values) indices) ≡ None)
+    → ((numbers : List ℤ) → IfOk result (λ x. worth mid numbers x ≡ read_result Mode.Relational ty None)) → IfOk result (AreTerms (length mid)) → IfOk result (Means n env nodes mid e)
+without_done n env nodes mid p m e indices ty (Ok x) tree typed grows none is known = without_means n env nodes mid p m e indices ty x tree typed grows none is known
+without_done n env nodes mid p m e indices ty (Err f) tree typed grows none is known = tt
+
+-- ---- truth values
+
+all_total : (f : ℕ → Option ℤ) (us : List ℕ) → All (λ t. IsSome (f t)) us → (js : List ℤ) × (all_there (map f us) ≡ Some js)
+unfolding all_there
+all_total f [] h = ([], refl)
+all_total f (u ∷ us) h =
+    let p = some_there (f u) (h 0 u (omega arith)) in
+    let q = all_total f us (λ k d less. h (suc k) d (omega (arith, less))) in
+    (p.0 ∷ q.0, ap (option_and_then (λ n. option_map (λ ns. n ∷ ns) (all_there (map f us)))) p.1 ∙ ap (option_map (λ ns. p.0 ∷ ns)) q.1)
+  where
+    some_there : (o : Option ℤ) → IsSome o → (x : ℤ) × (o ≡ Some x)
+    some_there None h = absurd (search rules)
+    some_there (Some x) h = (x, refl)
+
+found_behind : (keys : List (List ℤ)) (xs ks : List ℤ) → 0 < length ks → look_up ([] ∷ keys) (pos 0 ∷ xs) ks ≡ look_up keys xs ks
+unfolding look_up same_numbers
+found_behind keys xs [] h = absurd (omega (arith, h))
+found_behind keys xs (k ∷ ks) h = refl
+
+read_or_zero : (o : Option ℤ) → read_result Mode.Relational ValueType.Bool (option_map single o) ≡ Some (single (unwrap_or o (pos 0)))
+unfolding read_result
+read_or_zero None = refl
+read_or_zero (Some x) = refl
+
+chosen_value : (numbers : List ℤ) (f : ℕ → Option ℤ) (none : ℕ) (ts us : List ℕ) (keys : List (List ℤ)) (xs js : List ℤ) → f none ≡ Some (pos 0) → map f ts ≡ map Some xs → all_there (map f us) ≡ Some js
+    → 0 < length js → node_value numbers f (node.safe_pick (none ∷ ts) ([] ∷ keys) us) ≡ Some (unwrap_or (look_up keys xs js) (pos 0))
+unfolding node_value ground.values_of ground.on_both safe_picked first_or_zero
+chosen_value numbers f none ts us keys xs js starts is there some =
+    ap (λ o. option_and_then (λ ys. option_and_then (λ ks. Some (safe_picked ys ([] ∷ keys) ks)) (all_there (map f us))) (all_there (o ∷ map f ts))) starts
+    ∙ ap (λ os. option_and_then (λ ys. option_and_then (λ ks. Some (safe_picked ys ([] ∷ keys) ks)) (all_there (map f us))) (all_there (Some (pos 0) ∷ os))) is
+    ∙ ap (option_and_then (λ ys. option_and_then (λ ks. Some (safe_picked ys ([] ∷ keys) ks)) (all_there (map f us)))) (all_some (pos 0 ∷ xs))
+    ∙ ap (option_and_then (λ ks. Some (safe_picked (pos 0 ∷ xs) ([] ∷ keys) ks))) there
+    ∙ ap (λ o. Some (unwrap_or o (pos 0))) (picked_found (pos 0 ∷ xs) ([] ∷ keys) js ∙ found_behind keys xs js some)
+
+pub truth_chosen : (old mid new : List GroundNode) (count : ℕ) (keys all : List (List ℤ)) (ts us all_ts : List ℕ) (none t : ℕ)
+    → ((numbers : List ℤ) → count ≤ length numbers → All (λ u. IsSome (term_value old numbers u)) us) → All (λ u. u < length old) ts → All (λ u. u < length old) us → 0 < length us
+    → Puts old mid (node.constant (pos 0)) none → all ≡ [] ∷ keys → all_ts ≡ none ∷ ts → Puts mid new (node.safe_pick all_ts all us) t
+    → IsChosenTruth old new count keys ts us t
+unfolding node_value
+truth_chosen old mid new count keys all ts us all_ts none t total terms indices some starts is pushed put = record {
+  grows = grows_on old mid new starts.grows put.grows;
+  known = put.known;
+  value = λ numbers xs few found.
+      let g = grows_on old mid new starts.grows put.grows in
+      let f : (ℕ → Option ℤ) = term_value new numbers in
+      let p = all_total (term_value old numbers) us (total numbers few) in
+      let there : all_there (map f us) ≡ Some p.0 = ap all_there (terms_kept old new numbers us g indices) ∙ p.1 in
+      let long : length p.0 ≡ length us = there_length (map f us) p.0 there ∙ length_mapped f us in (
+        p.0,
+        there,
+        put.value numbers ∙ ap (λ ks. node_value numbers f (node.safe_pick all_ts ks us)) is ∙ ap (λ l. node_value numbers f (node.safe_pick l ([] ∷ keys) us)) pushed
+            ∙ chosen_value numbers f none ts us keys xs p.0 (grown_value mid new numbers none put.grows starts.known ∙ starts.value numbers)
+            (terms_kept old new numbers ts g terms ∙ found) there (omega (arith, some, long)),
+      );
+}
+
+-- a read that chooses a truth value
+pub truth_means : (n : Numbering) (env : Env) (nodes mid have new : List GroundNode) (p : Place) (m e : ExprTree) (indices : List (Option Expr)) (ss : List Slot) (keys : List (List ℤ)) (ts us : List ℕ) (count t : ℕ)
+    → n.count ≡ count → AreSlotsOf n env nodes mid indices ss → AreEntriesOf n env mid have m ss keys ts → us ≡ open_terms ss → IsChosenTruth have new count keys ts us t
+    → e ≡ read p m (indices_of indices) → type_in env e ≡ ValueType.Bool → Means n env nodes new e (Number t)
+unfolding worth AreTerms
+truth_means n env nodes mid have new p m e indices ss keys ts us count t counted slots entries opened chosen tree typed = record {
+  grows = grows_on nodes mid new slots.grows (grows_on mid have new entries.grows chosen.grows);
+  known = chosen.known;
+  value = λ r.
+      let q = entries.values r in
+      let w = chosen.value r.numbers q.0 (subst (λ k. k ≤ length r.numbers) counted r.reads.long) q.1 in
+      ap (option_map single) w.2
+      ∙ sym (read_is n env r nodes mid new p m e indices ss keys q.0 ValueType.Bool slots (grows_on mid have new entries.grows chosen.grows) tree (sym typed) q.3
+      ∙ ap (λ vs. read_result Mode.Relational ValueType.Bool (option_and_then (λ js. option_map single (look_up keys q.0 js)) (all_there (map (term_value new r.numbers) vs)))) (sym opened)
+      ∙ ap (λ o. read_result Mode.Relational ValueType.Bool (option_and_then (λ js. option_map single (look_up keys q.0 js)) o)) w.1
+      ∙ read_or_zero (look_up keys q.0 w.0));
+}
+
+-- ---- the terms of places, one after another
+
+pub opens_begin : (ss : List Slot) (ts : List ℕ) → ts ≡ [] → ts ++ open_terms ss ≡ open_terms ss
+opens_begin ss ts none = ap (λ us. us ++ open_terms ss) none
+
+pub opens_more : (ss : List Slot) (k : ℕ) (s d : Slot) (t : ℕ) (ts more : List ℕ) → k < length ss → s ≡ get_or ss k d → s ≡ Open t → ts ++ open_terms (drop k ss) ≡ open_terms ss → more ≡ ts ++ t ∷ []
+    → more ++ open_terms (drop (k + 1) ss) ≡ open_terms ss
+unfolding open_terms
+opens_more ss k s d t ts more h same is so pushed =
+    ap (λ us. us ++ open_terms (drop (k + 1) ss)) pushed ∙ append_assoc ts (t ∷ []) (open_terms (drop (k + 1) ss))
+    ∙ ap (λ us. ts ++ us) (sym (at_drop_more open_terms ss k d h ∙ ap (λ u. open_terms (u ∷ drop (k + 1) ss)) (sym same ∙ is))) ∙ so
+
+pub opens_same : (ss : List Slot) (k : ℕ) (s d u : Slot) (ts more : List ℕ) → k < length ss → s ≡ get_or ss k d → s ≡ u → ((rest : List Slot) → open_terms (u ∷ rest) ≡ open_terms rest)
+    → ts ++ open_terms (drop k ss) ≡ open_terms ss → more ≡ ts → more ++ open_terms (drop (k + 1) ss) ≡ open_terms ss
+opens_same ss k s d u ts more h same is none so kept =
+    ap (λ us. us ++ open_terms (drop (k + 1) ss)) kept
+    ∙ ap (λ us. ts ++ us) (sym (at_drop_more open_terms ss k d h ∙ ap (λ x. open_terms (x ∷ drop (k + 1) ss)) (sym same ∙ is) ∙ none (drop (k + 1) ss))) ∙ so
+
+pub none_at : (i : ℤ) (rest : List Slot) → open_terms (At i ∷ rest) ≡ open_terms rest
+unfolding open_terms
+none_at i rest = refl
+
+pub none_every : (rest : List Slot) → open_terms (Every ∷ rest) ≡ open_terms rest
+unfolding open_terms
+none_every rest = refl
+
+pub opens_all : (ss : List Slot) (k : ℕ) (ts : List ℕ) → length ss ≤ k → ts ++ open_terms (drop k ss) ≡ open_terms ss → ts ≡ open_terms ss
+unfolding open_terms
+opens_all ss k ts h so = sym (append-nil ts) ∙ ap (λ us. ts ++ us) (sym (at_drop_all open_terms ss k h)) ∙ so

@@ -1,0 +1,22 @@
+use Rattle.std.proofs.Common.{ap, sym, ◌∙◌, arith, w64}
+use Rattle.std.proofs.lemmas.Int.{ints, to_z-of_z}
+use Rattle.ep_tree.proofs.ViewLemmas.{value_tree-matrix, value_tree-number}
+use Rattle.ep_tree.specs.Values.{part_at}
+use Rattle.ep_tree.specs.Views.{value_tree, values_from}
+use Rattle.ep_eval.specs.Reading.{part_under}
+use Rattle.ep_unroll.proofs.chosen_values.part_in.Goals as goal
+
+pub returns-in-Number : goal.returns-in-Number
+unfolding part_under
+returns-in-Number c = sym (ap (λ v. part_under v c.args.index) (ap value_tree c.in-Number.is ∙ value_tree-number c.in-Number.field-0))
+
+pub returns-in-Matrix : goal.returns-in-Matrix
+unfolding part_under
+returns-in-Matrix c =
+    let own = c.in-Matrix.own in
+    let parts = c.in-Matrix.parts in
+    c.part_of.ensures
+    ∙ ap (part_at c.deref.result.now (values_from c.deref-in-Matrix.result.now)) (to_z-of_z w64 c.args.index (omega (arith, ints)))
+    ∙ ap (λ l. part_at l (values_from c.deref-in-Matrix.result.now) c.args.index) c.deref.ensures.value
+    ∙ ap (λ l. part_at own.items (values_from l) c.args.index) c.deref-in-Matrix.ensures.value
+    ∙ sym (ap (λ v. part_under v c.args.index) (ap value_tree c.in-Matrix.is ∙ value_tree-matrix own parts))

@@ -1,0 +1,5 @@
+use Rattle.std.proofs.Common.{length}
+use Rattle.ep_unroll.proofs.comprehensions.+conditions_hold.Given as goal
+
+abbrev pub decreases-conditions_hold : goal.decreases-conditions_hold
+decreases-conditions_hold l = length l.conditions.now

@@ -1,0 +1,18 @@
+use Rattle.std.proofs.Common.{Some, ap, arith, sym, ◌∙◌}
+use Rattle.std.proofs.lemmas.Int.{ints}
+use Rattle.std.specs.Prelude.{option_map}
+use Rattle.ep_base.specs.Numbers.{is_one}
+use Rattle.ep_eval.proofs.Reaches.{is_one_word}
+use Rattle.ep_tree.specs.Evaluation.{truth_of}
+use Rattle.ep_unroll.proofs.comprehensions.condition_holds.Goals as goal
+
+pub fixed_value-requires : goal.fixed_value-requires
+fixed_value-requires c = c.is_fixed.ensures c.if-not-is_fixed.false
+
+pub returns-in-Some : goal.returns-in-Some
+returns-in-Some c n r =
+    ap truth_of (c.in_ok-seen.ensures n r)
+    ∙ sym (ap Some (is_one_word c.in-Some.number (omega (arith, ints))) ∙ ap (option_map is_one) (sym c.in-Some.is ∙ c.number_of.ensures))
+
+pub returns : goal.returns
+returns c n r = ap truth_of (c.in_ok-seen.ensures n r) ∙ ap (option_map is_one) (sym c.number_of.ensures ∙ c.in-None.is)

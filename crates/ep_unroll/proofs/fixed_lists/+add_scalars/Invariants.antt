@@ -1,0 +1,7 @@
+use Rattle.std.proofs.Common.{◌≡◌, ◌++◌, drop}
+use Rattle.ep_tree.specs.Values.{scalars_of_all}
+use Rattle.ep_tree.specs.Views.{values_from}
+use Rattle.ep_unroll.proofs.fixed_lists.+add_scalars.Given as goal
+
+abbrev pub invariant-loop-part : goal.invariant-loop-part
+invariant-loop-part l = l.scalars.items ++ scalars_of_all (values_from (drop l.part-index l.part-items)) ≡ l.fn.scalars.items ++ scalars_of_all (values_from l.part-items)

@@ -1,0 +1,9 @@
+use Rattle.std.proofs.Common.{ap, sym, ◌∙◌}
+use Rattle.ep_tree.specs.Evaluation.{rows_in}
+use Rattle.ep_unroll.proofs.fixed_lists.fixed_rows.Goals as goal
+
+pub fixed_value-requires : goal.fixed_value-requires
+fixed_value-requires c = c.is_fixed.ensures c.if-not-is_fixed.false
+
+pub returns : goal.returns
+returns c n r = ap rows_in (c.in_ok-seen.ensures n r) ∙ sym c.in_ok-rows.ensures

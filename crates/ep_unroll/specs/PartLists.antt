@@ -1,0 +1,79 @@
+-- Lists of parts that were unrolled, and terms that are put behind others.
+use Rattle.std.specs.Prelude.{◌≡◌, ℕ, ◌<◌, List, [], ◌∷◌, ◌++◌, map, ℤ, Option, Some, None, length, option_and_then, option_map}
+use Rattle.std.specs.List.{All}
+use Rattle.std.specs.declared.alloc.Global.{Global}
+use Rattle.std.specs.declared.vec.Vec.{Vec}
+use Rattle.ep_base.specs.Reads.{all_there}
+use Rattle.ep_base.specs.declared.names.Name.{Name}
+use Rattle.ep_ground.specs.Nodes.{GroundNode}
+use Rattle.ep_ground.specs.Terms.{term_value}
+use Rattle.ep_tree.specs.Environments.{Env, scalar_in, with_number}
+use Rattle.ep_tree.specs.Evaluation.{map_both, values_of}
+use Rattle.ep_tree.specs.Trees.{ExprTrees, Generators, generator_and}
+use Rattle.ep_tree.specs.Values.{ValueTree, all_defined}
+use Rattle.ep_tree.specs.Views.{domain_tree, expr_tree, expr_trees, generators_of}
+use Rattle.ep_tree.specs.declared.values.Mode.{Mode}
+use Rattle.ep_eval.specs.Generating.{listed_values}
+use Rattle.ep_unroll.specs.Growing.{Grows}
+use Rattle.ep_unroll.specs.Meanings.{AreTerms, worth}
+use Rattle.ep_unroll.specs.Readings.{Numbering, Reading}
+use Rattle.ep_unroll.specs.declared.comprehensions.Listing.{Listing}
+use Rattle.ep_unroll.specs.declared.comprehensions.Ranging.{Ranging}
+use Rattle.ep_unroll.specs.declared.unrolled.Unrolled.{Unrolled}
+
+-- each term of some parts has a node
+unfoldable pub HaveTerms : ℕ → List Unrolled → Type 0
+HaveTerms count [] = Unit {0}
+HaveTerms count (x ∷ xs) = AreTerms count x × HaveTerms count xs
+
+-- the values of some parts
+abbrev pub worths : List GroundNode → List ℤ → List Unrolled → List (Option ValueTree)
+worths nodes numbers xs = map (worth nodes numbers) xs
+
+-- Terms are put behind others. They have scalars, whatever numbers the cells have, and where there are none one of them
+-- has no value.
+pub record AddsScalars (old new : List GroundNode) (before after : List ℕ) (scalars : List ℤ → Option (List ℤ)) : Type 0 where
+  pub grows : Grows old new
+  pub more : List ℕ
+  pub whole : after ≡ before ++ more
+  pub known : All (λ t. t < length new) more
+  pub values : (numbers : List ℤ) → all_there (map (term_value new numbers) more) ≡ scalars numbers
+
+-- Parts have the values of expressions, one for each, whatever values decision variables have.
+pub record ArePartsOf (n : Numbering) (cells : Env) (old new : List GroundNode) (es : ExprTrees) (xs : List Unrolled) : Type 0 where
+  pub grows : Grows old new
+  pub known : HaveTerms (length new) xs
+  pub values : (r : Reading n cells) → worths new r.numbers xs ≡ values_of Mode.Relational r.values es
+
+-- the parts that there are
+abbrev pub parts_in : Option (Vec Unrolled Global) → Option (List Unrolled)
+parts_in parts = option_map (λ v. v.items) parts
+
+-- each term of parts has a node, where there are parts
+unfoldable pub MayHaveTerms : ℕ → Option (List Unrolled) → Type 0
+MayHaveTerms count None = Unit {0}
+MayHaveTerms count (Some xs) = HaveTerms count xs
+
+-- the values of parts, where there are parts and each has a value
+unfoldable pub listed_worths : List GroundNode → List ℤ → Option (List Unrolled) → Option (List ValueTree)
+listed_worths nodes numbers parts = option_and_then (λ xs. all_defined (worths nodes numbers xs)) parts
+
+-- Parts with others behind them: these have values, whatever values decision variables have, and where they have none
+-- there are no parts, or one of them has no value.
+pub record Lists (n : Numbering) (cells : Env) (old new : List GroundNode) (before after : Option (List Unrolled)) (own : Env → Option (List ValueTree)) : Type 0 where
+  pub grows : Grows old new
+  pub known : MayHaveTerms (length old) before → MayHaveTerms (length new) after
+  pub values : MayHaveTerms (length old) before → (r : Reading n cells)
+      → listed_worths new r.numbers after ≡ map_both ◌++◌ (listed_worths old r.numbers before) (own r.values)
+
+-- the parts that generators lead to
+abbrev pub parts_of : Listing → Generators → Env → Option (List ValueTree)
+parts_of l gens env = listed_values Mode.Relational (expr_tree l.body.now) (expr_trees l.conditions.now) gens env
+
+-- some names over a domain, with the generators behind them
+abbrev pub ranging_over : Ranging → List Name → Generators
+ranging_over r names = generator_and names (domain_tree r.domain.now) (generators_of r.later.now)
+
+-- the parts that there are where a name stands for a number
+abbrev pub parts_at : Env → Ranging → Name → List Name → ℤ → Option (List ValueTree)
+parts_at env r name rest n = parts_of r.listing (ranging_over r rest) (with_number name (scalar_in env (domain_tree r.domain.now)) n env)

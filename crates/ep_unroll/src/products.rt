@@ -1,0 +1,33 @@
+//! Products of terms.
+
+ghost use Rattle.std.specs.Prelude.{◌<◌, IfOk, length, map, option_map};
+ghost use Rattle.std.specs.List.{All};
+ghost use Rattle.ep_base.specs.Numbers.{product_of};
+ghost use Rattle.ep_base.specs.Reads.{all_there};
+ghost use Rattle.ep_ground.specs.Terms.{term_value};
+ghost use Rattle.ep_unroll.specs.Numbers.{HasNumber};
+
+use super::growing::put;
+use ep_base::Memory;
+use ep_ground::{Arena, Node, Term};
+
+/// The product of terms, multiplied from the last to the first.
+pub fn product_term(arena: &mut Arena, terms: &[Term]) -> Result<Term, Memory>
+    requires { All (λ t. t < length arena.old) terms.now }
+    ensures { IfOk result (HasNumber arena.old arena.new (λ numbers. option_map product_of (all_there (map (term_value arena.old numbers) terms.now)))) }
+{
+    let mut term = put(arena, Node::Const(1))?;
+    let count = terms.len();
+    for passed in 0..count {
+        term = put(arena, Node::Mul(terms[count - 1 - passed], term))?;
+    }
+    Ok(term)
+}
+
+/// The same of terms that aren't used any more.
+pub fn product_of_all(arena: &mut Arena, terms: Vec<Term>) -> Result<Term, Memory>
+    requires { All (λ t. t < length arena.old) terms.items }
+    ensures { IfOk result (HasNumber arena.old arena.new (λ numbers. option_map product_of (all_there (map (term_value arena.old numbers) terms.items)))) }
+{
+    product_term(arena, &terms)
+}
