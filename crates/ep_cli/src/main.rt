@@ -5,6 +5,7 @@ ghost use Rattle.std.specs.Prelude.{◌≡◌};
 ghost use Rattle.std.specs.Process.{exit_status};
 ghost use Rattle.ep_run.specs.Status.{code_of};
 
+use cnf_core::Log;
 use ep_base::{StdFiles, StdSink, Word};
 use ep_run::{Status, run};
 use std::env;
@@ -17,7 +18,8 @@ fn main(rt: HostRuntime) -> ExitCode {
         Ok(words) => {
             let mut files = StdFiles::new(&rt);
             let mut out = StdSink::new(&rt);
-            run(&rt, rt.alloc(), &words, &mut files, &mut out)
+            let mut log = Log::new(rt.alloc());
+            run(&rt, rt.alloc(), &words, &mut files, &mut out, &mut log)
         }
         Err(status) => status,
     };

@@ -5,7 +5,7 @@ use Prim.Native.String.{String}
 use Rattle.ep_base.specs.declared.operators.Limit.{Limit}
 use Rattle.ep_base.specs.declared.places.Place.{Place}
 use Rattle.ep_print.specs.declared.refusals.Refusal.{Refusal}
-use Rattle.ep_print.specs.declared.refusals.Refusal.TheVariants.{BadByte, BadCnf, BadLog, CannotRead, CannotWrite, IllTyped, LongNumber, Memory, Missing, OpenDomain, Outside, Over, Redeclared, Syntax, TooHigh, TooLong, TooManyToTry, Undefined, UnknownName, Usage, WhereFalse, WrongCategory}
+use Rattle.ep_print.specs.declared.refusals.Refusal.TheVariants.{BadByte, BadCnf, BadLog, CannotRead, CannotWrite, IllTyped, LongNumber, Memory, Missing, OpenDomain, Outside, Over, Redeclared, Syntax, TooHigh, TooLong, Undefined, UnknownName, Usage, WhereFalse, WrongCategory}
 use Rattle.ep_print.specs.declared.refusals.TextFile.{TextFile}
 
 -- the word for a text
@@ -50,7 +50,6 @@ refusal_words (TooLong file) = codes "limit L1 " ++ codes (file_word file)
 refusal_words (LongNumber file place) = at_place "limit L2" file place
 refusal_words (TooHigh file place) = at_place "limit L3" file place
 refusal_words (Over limit) = codes "limit " ++ codes (limit_word limit)
-refusal_words TooManyToTry = codes "limit early"
 refusal_words (CannotRead file) = codes "device read " ++ file
 refusal_words (CannotWrite file) = codes "device write " ++ file
 refusal_words Memory = codes "memory"

@@ -46,7 +46,6 @@ fn push_refusal(line: &mut Vec<u8>, refusal: &Refusal) -> Result<(), AllocError>
         Refusal::LongNumber(file, place) => push_at(line, "limit L2", *file, place),
         Refusal::TooHigh(file, place) => push_at(line, "limit L3", *file, place),
         Refusal::Over(limit) => push_both(line, "limit ", limit_word(*limit)),
-        Refusal::TooManyToTry => line.extend_from_slice(b"limit early"),
         Refusal::CannotRead(name) => push_both(line, "device read ", name.text()),
         Refusal::CannotWrite(name) => push_both(line, "device write ", name.text()),
         Refusal::Memory => line.extend_from_slice(b"memory"),

@@ -51,8 +51,6 @@ pub enum Refusal {
     TooHigh(TextFile, Place),
     /// The instance passes a limit.
     Over(Limit),
-    /// There are too many assignments to try them.
-    TooManyToTry,
     /// A file can't be read.
     CannotRead(Word),
     /// A file can't be written.

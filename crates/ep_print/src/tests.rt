@@ -34,14 +34,13 @@ fn refusal(alloc: Global, number: usize) -> Result<Refusal, Memory> {
         17 => Refusal::Over(Limit::Size),
         18 => Refusal::Over(Limit::Reach),
         19 => Refusal::Over(Limit::Weight),
-        20 => Refusal::TooManyToTry,
-        21 => Refusal::CannotRead(Word::new(alloc, "none.eprime")?),
-        22 => Refusal::CannotWrite(Word::new(alloc, "k.cnf")?),
+        20 => Refusal::CannotRead(Word::new(alloc, "none.eprime")?),
+        21 => Refusal::CannotWrite(Word::new(alloc, "k.cnf")?),
         _ => Refusal::Memory,
     })
 }
 
-const LINES: [&str; 24] = [
+const LINES: [&str; 23] = [
     "fault usage\n",
     "fault F1 model 3:14\n",
     "fault F2 params 3:14\n",
@@ -62,7 +61,6 @@ const LINES: [&str; 24] = [
     "limit L4\n",
     "limit L5\n",
     "limit L6\n",
-    "limit early\n",
     "device read none.eprime\n",
     "device write k.cnf\n",
     "memory\n",

@@ -1,19 +1,14 @@
 -- Counts that are cut off above the most assignments that are tried.
-use Rattle.std.proofs.Common.{◌≡◌, ◌⊎◌, ℕ, zero, suc, ℤ, ◌+◌, ◌*◌, ◌^◌, ◌<◌, ◌≤◌, Bool, true, false, nat_lt, if◌then◌else◌, Contains, List, [], ◌∷◌, ◌++◌, length, map, get_or, take, inl, inr, refl, sym, ap, ◌∙◌, arith}
+use Rattle.std.proofs.Common.{◌≡◌, ◌⊎◌, ℕ, zero, suc, ℤ, ◌+◌, ◌*◌, ◌^◌, ◌<◌, ◌≤◌, List, [], ◌∷◌, ◌++◌, length, map, get_or, take, inl, inr, refl, sym, ap, ◌∙◌, arith}
 use Rattle.std.specs.Prelude.{min}
 use Rattle.std.proofs.Math.Nat.{le-mul_of_pos_right, mul_assoc, mul_comm, mul-one, one-mul, pow-le-pow_left, pow-le-pow_right, pow-suc, pow-zero, zero-mul}
-use Rattle.std.proofs.lemmas.Bool.{cases_lt, false≢true}
-use Rattle.std.proofs.lemmas.Bool.Decides.{Decides-ltb}
+use Rattle.std.proofs.lemmas.Bool.{cases_lt}
 use Rattle.std.proofs.lemmas.List.{length-map, take_all, take_more}
 use Rattle.ep_instance.specs.Instances.{find_of}
 use Rattle.ep_instance.specs.declared.instances.Find.{Find}
-use Rattle.ep_print.specs.declared.refusals.Refusal.{Refusal}
-use Rattle.ep_tree.specs.Binding.{Instance}
 use Rattle.ep_tree.specs.Solutions.{cell_count}
-use Rattle.ep_run.specs.Counts.{capped}
-use Rattle.ep_run.specs.Outcomes.{assignment_count, count_refusals, product_of, value_count}
+use Rattle.ep_run.specs.Counts.{capped, product_of, value_count}
 use Rattle.ep_run.proofs.Numbering.{pow-one, pow-times}
-use Rattle.ep_run.proofs.Refusing.{contains-first}
 
 min-zero : (x : ℕ) → min x zero ≡ zero
 min-zero x = omega arith
@@ -170,27 +165,10 @@ pub whole-count : (count n : ℕ) → count ≡ capped n → count ≤ 1000000 �
 unfolding capped
 whole-count count n e h = omega (arith, e, h)
 
-few : (n : ℕ) (b : Bool) → nat_lt 1000000 n ≡ b → n ≤ 1000000 → (if b then Refusal.TooManyToTry ∷ [] else []) ≡ []
-few n true e h = absurd (omega (arith, (Decides-ltb 1000000 n).0 e, h))
-few n false e h = refl
-
-pub few-enough : (i : Instance) (count : ℕ) → count ≡ capped (assignment_count i) → count ≤ 1000000 → count_refusals i ≡ []
-unfolding count_refusals
-few-enough i count e h =
-    let same : count ≡ assignment_count i = whole-count count (assignment_count i) e h in
-    few (assignment_count i) (nat_lt 1000000 (assignment_count i)) refl (omega (arith, same, h))
-
-many : (n : ℕ) (b : Bool) → nat_lt 1000000 n ≡ b → 1000000 < n → Contains (if b then Refusal.TooManyToTry ∷ [] else []) Refusal.TooManyToTry
-many n true e h = contains-first Refusal.TooManyToTry []
-many n false e h = let yes : nat_lt 1000000 n ≡ true = (Decides-ltb 1000000 n).1 h in absurd (false≢true (sym e ∙ yes))
-
-more-than : (count n : ℕ) → count ≡ capped n → 1000000 < count → 1000000 < n
+-- a count that is cut off, where there are more than are tried
+pub more-than : (count n : ℕ) → count ≡ capped n → 1000000 < count → 1000000 < n
 unfolding capped
 more-than count n e h = omega (arith, e, h)
-
-pub too-many : (i : Instance) (count : ℕ) → count ≡ capped (assignment_count i) → 1000000 < count → Contains (count_refusals i) Refusal.TooManyToTry
-unfolding count_refusals
-too-many i count e h = many (assignment_count i) (nat_lt 1000000 (assignment_count i)) refl (more-than count (assignment_count i) e h)
 
 -- ---- the first counts
 

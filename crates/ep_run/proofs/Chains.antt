@@ -2,6 +2,7 @@
 use Rattle.std.proofs.Common.{◌≡◌, ℕ, ◌⊎◌, Bool, true, false, List, [], ◌∷◌, ◌++◌, Option, Some, None, option_to_list, Ok, Err, Result, Contains, IfSome, IsSomeAnd, bytes_eq, if◌then◌else◌, inl, inr, refl, sym, ap, subst}
 use Rattle.std.proofs.lemmas.List.Elements.{Contains-append_right}
 use Rattle.std.proofs.lemmas.Slice.Eq.{bytes_eq-Decides}
+use Rattle.cnf_core.specs.Events.{LogState}
 use Rattle.ep_base.specs.Outside.{Held}
 use Rattle.ep_print.specs.declared.refusals.Refusal.{Refusal}
 use Rattle.ep_print.specs.declared.refusals.TextFile.{TextFile}
@@ -65,22 +66,22 @@ faulty-next : (reads : Reads) (next : TextTree → Held → Outcome Task → Typ
 faulty-next reads next t None r was h = (h.0, tt)
 faulty-next reads next t (Some held) r was h = (h.0, (h.1.0, inl (t, was, h.1.1), h.1.2))
 
-told-next : (names more : List (List ℕ)) (reads : Reads) (next : TextTree → Held → Outcome Task → Type 0) → Stable reads → (t : TextTree) (told : Option Held) (rose rose-now : Type 0) (result : Result Reply Stop) → (rose-now → rose) → IfSome told (λ held. reads held (Ok t)) → TellsTask more (next t) told rose-now result → TellsTask (names ++ more) (λ held. ThenShows (reads held) (λ m. next m held)) told rose result
-told-next names more reads next stable t None rose rose-now (Ok reply) rises was h = tt
-told-next names more reads next stable t (Some held) rose rose-now (Ok reply) rises was h =
+told-next : (names more : List (List ℕ)) (reads : Reads) (next : TextTree → Held → Outcome Task → Type 0) → Stable reads → (t : TextTree) (told : Option Held) (rose rose-now : Type 0) (log : LogState) (result : Result Reply Stop) → (rose-now → rose) → IfSome told (λ held. reads held (Ok t)) → TellsTask more (next t) told rose-now log result → TellsTask (names ++ more) (λ held. ThenShows (reads held) (λ m. next m held)) told rose log result
+told-next names more reads next stable t None rose rose-now log (Ok reply) rises was h = tt
+told-next names more reads next stable t (Some held) rose rose-now log (Ok reply) rises was h =
     (h.0, inl (t, was, h.1), h.2)
-told-next names more reads next stable t told rose rose-now (Err Stop.Memory) rises was h = tt
-told-next names more reads next stable t told rose rose-now (Err (Stop.Refused r)) rises was h =
+told-next names more reads next stable t told rose rose-now log (Err Stop.Memory) rises was h = tt
+told-next names more reads next stable t told rose rose-now log (Err (Stop.Refused r)) rises was h =
     elim h [
       | inl failed ↦ inl (failed-next names more reads next stable t told rose rose-now r rises was failed)
       | inr faulty ↦ inr (faulty-next reads next t told r was faulty)
     ]
 
 -- after what was read, what follows tells the whole
-pub after : (names more : List (List ℕ)) (reads : Reads) (next : TextTree → Held → Outcome Task → Type 0) → Stable reads → (t : TextTree) (told told-now : Option Held) (rose rose-now : Type 0) (result : Result Reply Stop) → told-now ≡ told → (rose-now → rose) → IfSome told (λ held. reads held (Ok t)) → TellsTask more (next t) told-now rose-now result → TellsTask (names ++ more) (λ held. ThenShows (reads held) (λ m. next m held)) told rose result
-after names more reads next stable t told told-now rose rose-now result same rises was h =
-    let P : Option Held → Type 0 = λ x. TellsTask more (next t) x rose-now result in
-    told-next names more reads next stable t told rose rose-now result rises was (subst P same h)
+pub after : (names more : List (List ℕ)) (reads : Reads) (next : TextTree → Held → Outcome Task → Type 0) → Stable reads → (t : TextTree) (told told-now : Option Held) (rose rose-now : Type 0) (log : LogState) (result : Result Reply Stop) → told-now ≡ told → (rose-now → rose) → IfSome told (λ held. reads held (Ok t)) → TellsTask more (next t) told-now rose-now log result → TellsTask (names ++ more) (λ held. ThenShows (reads held) (λ m. next m held)) told rose log result
+after names more reads next stable t told told-now rose rose-now log result same rises was h =
+    let P : Option Held → Type 0 = λ x. TellsTask more (next t) x rose-now log result in
+    told-next names more reads next stable t told rose rose-now log result rises was (subst P same h)
 
 -- ---- a file that gives no tree
 
@@ -96,8 +97,8 @@ faulty-told : (file : TextFile) (name : List ℕ) (next : TextTree → Held → 
 faulty-told file name next None r h = tt
 faulty-told file name next (Some held) r h = (r ∷ [], inr (r, h, refl), contains-first r [])
 
-unread-file : (file : TextFile) (name : List ℕ) (more : List (List ℕ)) (next : TextTree → Held → Outcome Task → Type 0) (told : Option Held) (rose : Type 0) (r : Refusal) → IsUnread told file name rose r → TellsTask (name ∷ more) (λ held. ThenShows (IsReadAs held file name) (λ m. next m held)) told rose (Err (Stop.Refused r))
-unread-file file name more next told rose r h =
+unread-file : (file : TextFile) (name : List ℕ) (more : List (List ℕ)) (next : TextTree → Held → Outcome Task → Type 0) (told : Option Held) (rose : Type 0) (log : LogState) (r : Refusal) → IsUnread told file name rose r → TellsTask (name ∷ more) (λ held. ThenShows (IsReadAs held file name) (λ m. next m held)) told rose log (Err (Stop.Refused r))
+unread-file file name more next told rose log r h =
     elim h [
       | inl there ↦ inl (
         name,
@@ -109,28 +110,28 @@ unread-file file name more next told rose r h =
       | inr faulty ↦ inr (faulty.0, faulty-told file name next told r faulty.1)
     ]
 
-pub unread : {V : Type 0} (view : V → TextTree) (file : TextFile) (name : List ℕ) (more : List (List ℕ)) (next : TextTree → Held → Outcome Task → Type 0) (told : Option Held) (rose : Type 0) (stop : Stop) → TellsRead view told file name rose (Err stop) → TellsTask (name ∷ more) (λ held. ThenShows (IsReadAs held file name) (λ m. next m held)) told rose (Err stop)
-unread view file name more next told rose Stop.Memory h = tt
-unread view file name more next told rose (Stop.Refused r) h = unread-file file name more next told rose r h
+pub unread : {V : Type 0} (view : V → TextTree) (file : TextFile) (name : List ℕ) (more : List (List ℕ)) (next : TextTree → Held → Outcome Task → Type 0) (told : Option Held) (rose : Type 0) (log : LogState) (stop : Stop) → TellsRead view told file name rose (Err stop) → TellsTask (name ∷ more) (λ held. ThenShows (IsReadAs held file name) (λ m. next m held)) told rose log (Err stop)
+unread view file name more next told rose log Stop.Memory h = tt
+unread view file name more next told rose log (Stop.Refused r) h = unread-file file name more next told rose log r h
 
-unread-named : (params : Option (List ℕ)) (name : List ℕ) (more : List (List ℕ)) (next : TextTree → Held → Outcome Task → Type 0) (told : Option Held) (rose : Type 0) (r : Refusal) → params ≡ Some name → IsUnread told TextFile.Params name rose r → TellsTask (option_to_list params ++ more) (λ held. ThenShows (AreParams held params) (λ m. next m held)) told rose (Err (Stop.Refused r))
-unread-named None name more next told rose r e h = absurd cc
-unread-named (Some other) name more next told rose r e h =
+unread-named : (params : Option (List ℕ)) (name : List ℕ) (more : List (List ℕ)) (next : TextTree → Held → Outcome Task → Type 0) (told : Option Held) (rose : Type 0) (log : LogState) (r : Refusal) → params ≡ Some name → IsUnread told TextFile.Params name rose r → TellsTask (option_to_list params ++ more) (λ held. ThenShows (AreParams held params) (λ m. next m held)) told rose log (Err (Stop.Refused r))
+unread-named None name more next told rose log r e h = absurd cc
+unread-named (Some other) name more next told rose log r e h =
     let P : List ℕ → Type 0 = λ x. IsUnread told TextFile.Params x rose r in
     let same : name ≡ other = cc in
-    unread-file TextFile.Params other more next told rose r (subst P same h)
+    unread-file TextFile.Params other more next told rose log r (subst P same h)
 
-pub unread-params : (params : Option (List ℕ)) (more : List (List ℕ)) (next : TextTree → Held → Outcome Task → Type 0) (told : Option Held) (rose : Type 0) (stop : Stop) → TellsParams told params rose (Err stop) → TellsTask (option_to_list params ++ more) (λ held. ThenShows (AreParams held params) (λ m. next m held)) told rose (Err stop)
-unread-params params more next told rose Stop.Memory h = tt
-unread-params params more next told rose (Stop.Refused r) h =
-    unread-named params h.0 more next told rose r h.1 h.2
+pub unread-params : (params : Option (List ℕ)) (more : List (List ℕ)) (next : TextTree → Held → Outcome Task → Type 0) (told : Option Held) (rose : Type 0) (log : LogState) (stop : Stop) → TellsParams told params rose (Err stop) → TellsTask (option_to_list params ++ more) (λ held. ThenShows (AreParams held params) (λ m. next m held)) told rose log (Err stop)
+unread-params params more next told rose log Stop.Memory h = tt
+unread-params params more next told rose log (Stop.Refused r) h =
+    unread-named params h.0 more next told rose log r h.1 h.2
 
 -- ---- over trees alone
 
 -- what a reply over trees tells, it tells over held files
-pub over-trees : (o : Outcome Task) (told : Option Held) (rose : Type 0) (result : Result Reply Stop) → TellsReply o result → TellsTask [] (λ held outcome. outcome ≡ o) told rose result
-over-trees o None rose (Ok reply) h = tt
-over-trees o (Some held) rose (Ok reply) h = (h.0, sym h.1, h.2)
-over-trees o told rose (Err Stop.Memory) h = tt
-over-trees o None rose (Err (Stop.Refused r)) h = inr (h.0, tt)
-over-trees o (Some held) rose (Err (Stop.Refused r)) h = inr (h.0, (h.1.0, sym h.1.1, h.1.2))
+pub over-trees : (o : Outcome Task) (told : Option Held) (rose : Type 0) (log : LogState) (result : Result Reply Stop) → TellsReply o log result → TellsTask [] (λ held outcome. outcome ≡ o) told rose log result
+over-trees o None rose log (Ok reply) h = tt
+over-trees o (Some held) rose log (Ok reply) h = (h.0, sym h.1, h.2)
+over-trees o told rose log (Err Stop.Memory) h = tt
+over-trees o None rose log (Err (Stop.Refused r)) h = inr (h.0, tt)
+over-trees o (Some held) rose log (Err (Stop.Refused r)) h = inr (h.0, (h.1.0, sym h.1.1, h.1.2))

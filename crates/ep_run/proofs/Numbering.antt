@@ -21,9 +21,9 @@ use Rattle.ep_tree.specs.Values.{ValueTree, ValueTrees, all_fitted, as_parts, fi
 use Rattle.ep_tree.specs.declared.values.Scalar.{Scalar}
 use Rattle.ep_tree.specs.declared.values.ValueType.{ValueType}
 use Rattle.ep_print.specs.Answers.{AreTyped}
-use Rattle.ep_run.specs.Answers.{found_of}
+use Rattle.ep_solve.specs.Reading.{found_of}
 use Rattle.ep_run.specs.Candidates.{assignment_at, parts_from, value_at}
-use Rattle.ep_run.specs.Outcomes.{product_of, value_count}
+use Rattle.ep_run.specs.Counts.{product_of, value_count}
 
 -- ---- numbers in lists
 

@@ -1,6 +1,9 @@
 -- What a run promises, by the cases of what is said.
 use Rattle.std.proofs.Common.{◌≡◌, ◌≢◌, ℕ, ◌⊎◌, List, [], ◌∷◌, length, take, Option, Some, None, IfSome, IsSomeAnd, inl, inr, refl, sym, ap, subst, ◌∙◌, arith}
 use Rattle.std.proofs.lemmas.List.{take_all}
+use Rattle.cnf_core.specs.Events.{LogState}
+use Rattle.sat_search.specs.Logs.{IsSound}
+use Rattle.ep_solve.specs.Right.{IsSpent, empty_log}
 use Rattle.ep_base.specs.Outside.{Held, TookPart, with_more}
 use Rattle.ep_print.specs.Refusals.{refusal_text}
 use Rattle.ep_print.specs.declared.refusals.Refusal.{Refusal}
@@ -9,7 +12,7 @@ use Rattle.ep_run.specs.Commands.{AreNoCommand, Want}
 use Rattle.ep_run.specs.Outcomes.{Task}
 use Rattle.ep_run.specs.Puts.{IsFailedRead, IsShownText, MayBePut, TookFirst, device_line}
 use Rattle.ep_run.specs.Shown.{Ask, Refuse, Refuses}
-use Rattle.ep_run.specs.Status.{status_of}
+use Rattle.ep_run.specs.Status.{HasReply, status_of}
 use Rattle.ep_run.specs.Steps.{IsEnd, IsOfText}
 use Rattle.ep_run.specs.declared.status.Status.{Status}
 use Rattle.ep_run.specs.declared.wanted.Wanted.{Wanted}
@@ -26,14 +29,14 @@ kind Status.Text = 2
 kind Status.Limit = 2
 kind Status.Device = 3
 kind Status.Memory = 4
-kind Status.Unknown = 5
+kind Status.Unknown = 0
 
-kind-ended : (s : Status) → (s ≡ Status.Answered) ⊎ (s ≡ Status.Refuted) → kind s ≡ 0
-kind-ended s h = elim h [ inl e ↦ ap kind e | inr e ↦ ap kind e ]
+kind-ended : (s : Status) → HasReply s → kind s ≡ 0
+kind-ended s h = elim h [ inl e ↦ ap kind e | inr rest ↦ elim rest [ inl e ↦ ap kind e | inr e ↦ ap kind e ] ]
 
-kind-end : (wanted : Wanted) (s : Status) → IsEnd wanted s → kind s ≡ 0
-kind-end (Wanted.Solve _ _) s h = ap kind h
-kind-end (Wanted.Verify _ _ _) s h = kind-ended s h
+kind-end : (wanted : Wanted) (s : Status) (log : LogState) → IsEnd wanted s log → kind s ≡ 0
+kind-end (Wanted.Solve _ _ _) s log h = elim h.1 [ inl e ↦ ap kind e | inr e ↦ ap kind e.0 ]
+kind-end (Wanted.Verify _ _ _) s log h = elim h.1 [ inl e ↦ ap kind e | inr e ↦ ap kind e ]
 
 kind-text : (r : Refusal) (s : Status) → s ≡ status_of r → IsOfText r → kind s ≡ 2
 kind-text r s e h = elim h [ inl f ↦ ap kind (e ∙ f) | inr f ↦ ap kind (e ∙ f) ]
@@ -52,15 +55,15 @@ refused-not s n h k one two =
       | inr rest ↦ elim rest [ inl e ↦ absurd (two (sym k ∙ ap kind e)) | inr e ↦ absurd (two (sym k ∙ ap kind e)) ]
     ]
 
-pub ended-status : (wanted : Wanted) (s : Status) → IsEnd wanted s → (s ≡ Status.Answered) ⊎ (s ≡ Status.Refuted)
-ended-status (Wanted.Solve _ _) s h = inl h
-ended-status (Wanted.Verify _ _ _) s h = h
+pub ended-status : (wanted : Wanted) (s : Status) (log : LogState) → IsEnd wanted s log → HasReply s
+ended-status (Wanted.Solve _ _ _) s log h = elim h.1 [ inl e ↦ inl e | inr e ↦ inr (inl e.0) ]
+ended-status (Wanted.Verify _ _ _) s log h = elim h.1 [ inl e ↦ inl e | inr e ↦ inr (inr e) ]
 
 -- ---- the clauses
 
-with-taken : (words : List (List ℕ)) (told : Option Held) (status : Status) (text : List ℕ) (Took : List ℕ → Type 0) → Took text → IfSome told (λ held. (task : Task) × Ask words held task × Answers task status text) → IfSome told (λ held. (task : Task) × (t : List ℕ) × Ask words held task × Answers task status t × Took t)
-with-taken words None status text Took took h = tt
-with-taken words (Some held) status text Took took h = (h.0, text, h.1, h.2, took)
+with-taken : (words : List (List ℕ)) (told : Option Held) (status : Status) (text : List ℕ) (log : LogState) (Took : List ℕ → Type 0) → Took text → IfSome told (λ held. (task : Task) × Ask words held task × Answers task status text log) → IfSome told (λ held. (task : Task) × (t : List ℕ) × Ask words held task × Answers task status t log × Took t)
+with-taken words None status text log Took took h = tt
+with-taken words (Some held) status text log Took took h = (h.0, text, h.1, h.2, took)
 
 line-taken : (words : List (List ℕ)) (told : Option Held) (r : Refusal) (status : Status) (text : List ℕ) (Took : List ℕ → Type 0) → status ≡ status_of r → text ≡ refusal_text r → Took text → IfSome told (λ held. Refuse words held r) → IfSome told (λ held. (line : List ℕ) × Refuses words held status line × Took line)
 line-taken words None r status text Took s t took h = tt
@@ -70,34 +73,38 @@ pub usage-told : (words : List (List ℕ)) (told : Option Held) → AreNoCommand
 usage-told words None none = tt
 usage-told words (Some held) none = (Refusal.Usage ∷ [], inl (none, refl), contains-first Refusal.Usage [])
 
-pub when-answered : (words : List (List ℕ)) (told : Option Held) (rose : Type 0) (status : Status) (text : List ℕ) (Took : List ℕ → Type 0) → Case words told rose status text → Took text → (status ≡ Status.Answered) ⊎ (status ≡ Status.Refuted) → IfSome told (λ held. (task : Task) × (t : List ℕ) × Ask words held task × Answers task status t × Took t)
-when-answered words told rose status text Took (no_command s t none) took h = apart status 0 1 (kind-ended status h) (ap kind s) (λ e. cc)
-when-answered words told rose status text Took (answer wanted want ends shown) took h = with-taken words told status text Took took shown
-when-answered words told rose status text Took (faulty wanted want r s t of_text shown) took h = apart status 0 2 (kind-ended status h) (kind-text r status s of_text) (λ e. cc)
-when-answered words told rose status text Took (unread name s t failed why) took h = apart status 0 3 (kind-ended status h) (ap kind s) (λ e. cc)
+pub when-answered : (words : List (List ℕ)) (told : Option Held) (rose : Type 0) (status : Status) (text : List ℕ) (log : LogState) (Took : List ℕ → Type 0) → Case words told rose status text log → Took text → HasReply status → IfSome told (λ held. (task : Task) × (t : List ℕ) × Ask words held task × Answers task status t log × Took t)
+when-answered words told rose status text log Took (no_command s t nothing none) took h = apart status 0 1 (kind-ended status h) (ap kind s) (λ e. cc)
+when-answered words told rose status text log Took (answer wanted want ends shown) took h = with-taken words told status text log Took took shown
+when-answered words told rose status text log Took (faulty wanted want r s t nothing of_text shown) took h = apart status 0 2 (kind-ended status h) (kind-text r status s of_text) (λ e. cc)
+when-answered words told rose status text log Took (unread name s t nothing failed why) took h = apart status 0 3 (kind-ended status h) (ap kind s) (λ e. cc)
 
-wants-verify : (words : List (List ℕ)) (wanted : Wanted) (status : Status) → Want words wanted → IsEnd wanted status → status ≡ Status.Refuted → (model : List ℕ) × (params : Option (List ℕ)) × (solution : List ℕ) × Want words (Wanted.Verify model params solution)
-wants-verify words (Wanted.Solve model params) status want ends e = let f = sym ends ∙ e in absurd cc
-wants-verify words (Wanted.Verify model params solution) status want ends e = (model, params, solution, want)
+-- that a solution is verified, and nothing is logged
+abbrev pub Verifies : List (List ℕ) → Type 0
+Verifies words = (model : List ℕ) × (params : Option (List ℕ)) × (solution : List ℕ) × Want words (Wanted.Verify model params solution)
 
-pub when-refuted : (words : List (List ℕ)) (told : Option Held) (rose : Type 0) (status : Status) (text : List ℕ) → Case words told rose status text → status ≡ Status.Refuted → (model : List ℕ) × (params : Option (List ℕ)) × (solution : List ℕ) × Want words (Wanted.Verify model params solution)
-when-refuted words told rose status text (no_command s t none) h = apart status 0 1 (ap kind h) (ap kind s) (λ e. cc)
-when-refuted words told rose status text (answer wanted want ends shown) h = wants-verify words wanted status want ends h
-when-refuted words told rose status text (faulty wanted want r s t of_text shown) h = apart status 0 2 (ap kind h) (kind-text r status s of_text) (λ e. cc)
-when-refuted words told rose status text (unread name s t failed why) h = apart status 0 3 (ap kind h) (ap kind s) (λ e. cc)
+wants-verify : (words : List (List ℕ)) (wanted : Wanted) (status : Status) (log : LogState) → Want words wanted → IsEnd wanted status log → status ≡ Status.Refuted → Verifies words × (log ≡ empty_log)
+wants-verify words (Wanted.Solve model params conflicts) status log want ends e = elim ends.1 [ inl f ↦ let g = sym f ∙ e in absurd cc | inr f ↦ let g = sym f.0 ∙ e in absurd cc ]
+wants-verify words (Wanted.Verify model params solution) status log want ends e = ((model, params, solution, want), ends.0)
 
-pub when-refused : (words : List (List ℕ)) (told : Option Held) (rose : Type 0) (status : Status) (text : List ℕ) (Took : List ℕ → Type 0) → Case words told rose status text → Took text → IsRefused status → IfSome told (λ held. (line : List ℕ) × Refuses words held status line × Took line)
+pub when-refuted : (words : List (List ℕ)) (told : Option Held) (rose : Type 0) (status : Status) (text : List ℕ) (log : LogState) → Case words told rose status text log → status ≡ Status.Refuted → Verifies words × (log ≡ empty_log)
+when-refuted words told rose status text log (no_command s t nothing none) h = apart status 0 1 (ap kind h) (ap kind s) (λ e. cc)
+when-refuted words told rose status text log (answer wanted want ends shown) h = wants-verify words wanted status log want ends h
+when-refuted words told rose status text log (faulty wanted want r s t nothing of_text shown) h = apart status 0 2 (ap kind h) (kind-text r status s of_text) (λ e. cc)
+when-refuted words told rose status text log (unread name s t nothing failed why) h = apart status 0 3 (ap kind h) (ap kind s) (λ e. cc)
+
+pub when-refused : (words : List (List ℕ)) (told : Option Held) (rose : Type 0) (status : Status) (text : List ℕ) (log : LogState) (Took : List ℕ → Type 0) → Case words told rose status text log → Took text → IsRefused status → IfSome told (λ held. (line : List ℕ) × Refuses words held status line × Took line)
 unfolding status_of
-when-refused words told rose status text Took (no_command s t none) took h = line-taken words told Refusal.Usage status text Took s t took (usage-told words told none)
-when-refused words told rose status text Took (answer wanted want ends shown) took h = refused-not status 0 h (kind-end wanted status ends) (λ e. cc) (λ e. cc)
-when-refused words told rose status text Took (faulty wanted want r s t of_text shown) took h = line-taken words told r status text Took s t took shown
-when-refused words told rose status text Took (unread name s t failed why) took h = refused-not status 3 h (ap kind s) (λ e. cc) (λ e. cc)
+when-refused words told rose status text log Took (no_command s t nothing none) took h = line-taken words told Refusal.Usage status text Took s t took (usage-told words told none)
+when-refused words told rose status text log Took (answer wanted want ends shown) took h = refused-not status 0 h (kind-end wanted status log ends) (λ e. cc) (λ e. cc)
+when-refused words told rose status text log Took (faulty wanted want r s t nothing of_text shown) took h = line-taken words told r status text Took s t took shown
+when-refused words told rose status text log Took (unread name s t nothing failed why) took h = refused-not status 3 h (ap kind s) (λ e. cc) (λ e. cc)
 
-pub when-usage : (words : List (List ℕ)) (told : Option Held) (rose : Type 0) (status : Status) (text : List ℕ) → Case words told rose status text → status ≡ Status.Usage → AreNoCommand words × (text ≡ refusal_text Refusal.Usage)
-when-usage words told rose status text (no_command s t none) h = (none, t)
-when-usage words told rose status text (answer wanted want ends shown) h = apart status 1 0 (ap kind h) (kind-end wanted status ends) (λ e. cc)
-when-usage words told rose status text (faulty wanted want r s t of_text shown) h = apart status 1 2 (ap kind h) (kind-text r status s of_text) (λ e. cc)
-when-usage words told rose status text (unread name s t failed why) h = apart status 1 3 (ap kind h) (ap kind s) (λ e. cc)
+pub when-usage : (words : List (List ℕ)) (told : Option Held) (rose : Type 0) (status : Status) (text : List ℕ) (log : LogState) → Case words told rose status text log → status ≡ Status.Usage → AreNoCommand words × (text ≡ refusal_text Refusal.Usage)
+when-usage words told rose status text log (no_command s t nothing none) h = (none, t)
+when-usage words told rose status text log (answer wanted want ends shown) h = apart status 1 0 (ap kind h) (kind-end wanted status log ends) (λ e. cc)
+when-usage words told rose status text log (faulty wanted want r s t nothing of_text shown) h = apart status 1 2 (ap kind h) (kind-text r status s of_text) (λ e. cc)
+when-usage words told rose status text log (unread name s t nothing failed why) h = apart status 1 3 (ap kind h) (ap kind s) (λ e. cc)
 
 missing-line : (words : List (List ℕ)) (told : Option Held) (name : List ℕ) → IsSomeAnd told (λ held. Refuse words held (Refusal.CannotRead name)) → IsSomeAnd told (λ held. (line : List ℕ) × Refuses words held Status.Device line)
 unfolding status_of
@@ -105,11 +112,11 @@ missing-line words None name h = absurd h
 missing-line words (Some held) name h = (device_line name, (Refusal.CannotRead name, h, refl, refl))
 
 -- why a run ended for a device, when its text was put out
-pub why-device : (words : List (List ℕ)) (told : Option Held) (rose other : Type 0) (status : Status) (text : List ℕ) → Case words told rose status text → status ≡ Status.Device → rose ⊎ other ⊎ IsSomeAnd told (λ held. (line : List ℕ) × Refuses words held Status.Device line)
-why-device words told rose other status text (no_command s t none) h = apart status 3 1 (ap kind h) (ap kind s) (λ e. cc)
-why-device words told rose other status text (answer wanted want ends shown) h = apart status 3 0 (ap kind h) (kind-end wanted status ends) (λ e. cc)
-why-device words told rose other status text (faulty wanted want r s t of_text shown) h = apart status 3 2 (ap kind h) (kind-text r status s of_text) (λ e. cc)
-why-device words told rose other status text (unread name s t failed why) h =
+pub why-device : (words : List (List ℕ)) (told : Option Held) (rose other : Type 0) (status : Status) (text : List ℕ) (log : LogState) → Case words told rose status text log → status ≡ Status.Device → rose ⊎ other ⊎ IsSomeAnd told (λ held. (line : List ℕ) × Refuses words held Status.Device line)
+why-device words told rose other status text log (no_command s t nothing none) h = apart status 3 1 (ap kind h) (ap kind s) (λ e. cc)
+why-device words told rose other status text log (answer wanted want ends shown) h = apart status 3 0 (ap kind h) (kind-end wanted status log ends) (λ e. cc)
+why-device words told rose other status text log (faulty wanted want r s t nothing of_text shown) h = apart status 3 2 (ap kind h) (kind-text r status s of_text) (λ e. cc)
+why-device words told rose other status text log (unread name s t nothing failed why) h =
     elim why [ inl up ↦ inl up | inr missing ↦ inr (inr (missing-line words told name missing)) ]
 
 missing-taken : (words : List (List ℕ)) (told : Option Held) (name text : List ℕ) (Took : List ℕ → Type 0) → text ≡ device_line name → Took text → IsSomeAnd told (λ held. Refuse words held (Refusal.CannotRead name)) → IfSome told (λ held. (line : List ℕ) × Refuses words held Status.Device line × Took line)
@@ -117,63 +124,102 @@ unfolding status_of
 missing-taken words None name text Took t took h = tt
 missing-taken words (Some held) name text Took t took h = (text, (Refusal.CannotRead name, h, refl, t), took)
 
-pub when-not-held : (words : List (List ℕ)) (told : Option Held) (rose : Type 0) (status : Status) (text : List ℕ) (Took : List ℕ → Type 0) → Case words told rose status text → Took text → status ≡ Status.Device → ¬ rose → IfSome told (λ held. (line : List ℕ) × Refuses words held Status.Device line × Took line)
-when-not-held words told rose status text Took (no_command s t none) took h calm = apart status 3 1 (ap kind h) (ap kind s) (λ e. cc)
-when-not-held words told rose status text Took (answer wanted want ends shown) took h calm = apart status 3 0 (ap kind h) (kind-end wanted status ends) (λ e. cc)
-when-not-held words told rose status text Took (faulty wanted want r s t of_text shown) took h calm = apart status 3 2 (ap kind h) (kind-text r status s of_text) (λ e. cc)
-when-not-held words told rose status text Took (unread name s t failed why) took h calm =
+pub when-not-held : (words : List (List ℕ)) (told : Option Held) (rose : Type 0) (status : Status) (text : List ℕ) (log : LogState) (Took : List ℕ → Type 0) → Case words told rose status text log → Took text → status ≡ Status.Device → ¬ rose → IfSome told (λ held. (line : List ℕ) × Refuses words held Status.Device line × Took line)
+when-not-held words told rose status text log Took (no_command s t nothing none) took h calm = apart status 3 1 (ap kind h) (ap kind s) (λ e. cc)
+when-not-held words told rose status text log Took (answer wanted want ends shown) took h calm = apart status 3 0 (ap kind h) (kind-end wanted status log ends) (λ e. cc)
+when-not-held words told rose status text log Took (faulty wanted want r s t nothing of_text shown) took h calm = apart status 3 2 (ap kind h) (kind-text r status s of_text) (λ e. cc)
+when-not-held words told rose status text log Took (unread name s t nothing failed why) took h calm =
     elim why [ inl up ↦ absurd (calm up) | inr missing ↦ missing-taken words told name text Took t took missing ]
 
-pub when-failed : (words : List (List ℕ)) (told : Option Held) (rose : Type 0) (status : Status) (text : List ℕ) (Took : List ℕ → Type 0) → Case words told rose status text → Took text → status ≡ Status.Device → (name : List ℕ) × IsFailedRead words told name × Took (device_line name)
-when-failed words told rose status text Took (no_command s t none) took h = apart status 3 1 (ap kind h) (ap kind s) (λ e. cc)
-when-failed words told rose status text Took (answer wanted want ends shown) took h = apart status 3 0 (ap kind h) (kind-end wanted status ends) (λ e. cc)
-when-failed words told rose status text Took (faulty wanted want r s t of_text shown) took h = apart status 3 2 (ap kind h) (kind-text r status s of_text) (λ e. cc)
-when-failed words told rose status text Took (unread name s t failed why) took h = (name, failed, subst Took t took)
+pub when-failed : (words : List (List ℕ)) (told : Option Held) (rose : Type 0) (status : Status) (text : List ℕ) (log : LogState) (Took : List ℕ → Type 0) → Case words told rose status text log → Took text → status ≡ Status.Device → (name : List ℕ) × IsFailedRead words told name × Took (device_line name)
+when-failed words told rose status text log Took (no_command s t nothing none) took h = apart status 3 1 (ap kind h) (ap kind s) (λ e. cc)
+when-failed words told rose status text log Took (answer wanted want ends shown) took h = apart status 3 0 (ap kind h) (kind-end wanted status log ends) (λ e. cc)
+when-failed words told rose status text log Took (faulty wanted want r s t nothing of_text shown) took h = apart status 3 2 (ap kind h) (kind-text r status s of_text) (λ e. cc)
+when-failed words told rose status text log Took (unread name s t nothing failed why) took h = (name, failed, subst Took t took)
 
-answer-text : (words : List (List ℕ)) (told : Option Held) (status : Status) (text : List ℕ) → IfSome told (λ held. (task : Task) × Ask words held task × Answers task status text) → IfSome told (λ held. IsShownText words held text)
-answer-text words None status text h = tt
-answer-text words (Some held) status text h = inr (h.0, status, h.1, h.2)
+answer-text : (words : List (List ℕ)) (told : Option Held) (status : Status) (text : List ℕ) (log : LogState) → IfSome told (λ held. (task : Task) × Ask words held task × Answers task status text log) → IfSome told (λ held. IsShownText words held log text)
+answer-text words None status text log h = tt
+answer-text words (Some held) status text log h = inr (h.0, status, h.1, h.2)
 
-refusal-shown : (words : List (List ℕ)) (told : Option Held) (r : Refusal) (text : List ℕ) → text ≡ refusal_text r → IfSome told (λ held. Refuse words held r) → IfSome told (λ held. IsShownText words held text)
-refusal-shown words None r text t h = tt
-refusal-shown words (Some held) r text t h = inl (status_of r, (r, h, refl, t))
+refusal-shown : (words : List (List ℕ)) (told : Option Held) (log : LogState) (r : Refusal) (text : List ℕ) → text ≡ refusal_text r → IfSome told (λ held. Refuse words held r) → IfSome told (λ held. IsShownText words held log text)
+refusal-shown words None log r text t h = tt
+refusal-shown words (Some held) log r text t h = inl (status_of r, (r, h, refl, t))
 
 missing-told : (words : List (List ℕ)) (told : Option Held) (name : List ℕ) → IsSomeAnd told (λ held. Refuse words held (Refusal.CannotRead name)) → IfSome told (λ held. Refuse words held (Refusal.CannotRead name))
 missing-told words None name h = tt
 missing-told words (Some held) name h = h
 
 -- whatever is said may be put out
-pub may-be-put : (words : List (List ℕ)) (told : Option Held) (rose : Type 0) (status : Status) (text : List ℕ) → Case words told rose status text → MayBePut words told rose text
-may-be-put words told rose status text (no_command s t none) = inl (refusal-shown words told Refusal.Usage text t (usage-told words told none))
-may-be-put words told rose status text (answer wanted want ends shown) = inl (answer-text words told status text shown)
-may-be-put words told rose status text (faulty wanted want r s t of_text shown) = inl (refusal-shown words told r text t shown)
-may-be-put words told rose status text (unread name s t failed why) =
+pub may-be-put : (words : List (List ℕ)) (told : Option Held) (rose : Type 0) (status : Status) (text : List ℕ) (log : LogState) → Case words told rose status text log → MayBePut words told rose log text
+may-be-put words told rose status text log (no_command s t nothing none) = inl (refusal-shown words told log Refusal.Usage text t (usage-told words told none))
+may-be-put words told rose status text log (answer wanted want ends shown) = inl (answer-text words told status text log shown)
+may-be-put words told rose status text log (faulty wanted want r s t nothing of_text shown) = inl (refusal-shown words told log r text t shown)
+may-be-put words told rose status text log (unread name s t nothing failed why) =
     elim why [
       | inl up ↦ inr (up, name, failed, t)
-      | inr missing ↦ inl (refusal-shown words told (Refusal.CannotRead name) text t (missing-told words told name missing))
+      | inr missing ↦ inl (refusal-shown words told log (Refusal.CannotRead name) text t (missing-told words told name missing))
     ]
 
-pub never-unknown : (words : List (List ℕ)) (told : Option Held) (rose : Type 0) (status : Status) (text : List ℕ) → Case words told rose status text → status ≢ Status.Unknown
-never-unknown words told rose status text (no_command s t none) h = apart status 5 1 (ap kind h) (ap kind s) (λ e. cc)
-never-unknown words told rose status text (answer wanted want ends shown) h = apart status 5 0 (ap kind h) (kind-end wanted status ends) (λ e. cc)
-never-unknown words told rose status text (faulty wanted want r s t of_text shown) h = apart status 5 2 (ap kind h) (kind-text r status s of_text) (λ e. cc)
-never-unknown words told rose status text (unread name s t failed why) h = apart status 5 3 (ap kind h) (ap kind s) (λ e. cc)
+-- that a model is solved, and so many steps are logged
+abbrev pub Spends : List (List ℕ) → LogState → Type 0
+Spends words log = (model : List ℕ) × (params : Option (List ℕ)) × (conflicts : ℕ) × Want words (Wanted.Solve model params conflicts) × IsSpent conflicts log.events
 
-pub never-memory : (words : List (List ℕ)) (told : Option Held) (rose : Type 0) (status : Status) (text : List ℕ) → Case words told rose status text → status ≢ Status.Memory
-never-memory words told rose status text (no_command s t none) h = apart status 4 1 (ap kind h) (ap kind s) (λ e. cc)
-never-memory words told rose status text (answer wanted want ends shown) h = apart status 4 0 (ap kind h) (kind-end wanted status ends) (λ e. cc)
-never-memory words told rose status text (faulty wanted want r s t of_text shown) h = apart status 4 2 (ap kind h) (kind-text r status s of_text) (λ e. cc)
-never-memory words told rose status text (unread name s t failed why) h = apart status 4 3 (ap kind h) (ap kind s) (λ e. cc)
+wants-solve : (words : List (List ℕ)) (wanted : Wanted) (status : Status) (log : LogState) → Want words wanted → IsEnd wanted status log → status ≡ Status.Unknown → Spends words log
+wants-solve words (Wanted.Solve model params conflicts) status log want ends e = elim ends.1 [ inl f ↦ let g = sym f ∙ e in absurd cc | inr f ↦ (model, params, conflicts, want, f.1) ]
+wants-solve words (Wanted.Verify model params solution) status log want ends e = elim ends.1 [ inl f ↦ let g = sym f ∙ e in absurd cc | inr f ↦ let g = sym f ∙ e in absurd cc ]
+
+-- the budget is spent where a model is solved
+pub when-unknown : (words : List (List ℕ)) (told : Option Held) (rose : Type 0) (status : Status) (text : List ℕ) (log : LogState) → Case words told rose status text log → status ≡ Status.Unknown → Spends words log
+when-unknown words told rose status text log (no_command s t nothing none) h = apart status 0 1 (ap kind h) (ap kind s) (λ e. cc)
+when-unknown words told rose status text log (answer wanted want ends shown) h = wants-solve words wanted status log want ends h
+when-unknown words told rose status text log (faulty wanted want r s t nothing of_text shown) h = apart status 0 2 (ap kind h) (kind-text r status s of_text) (λ e. cc)
+when-unknown words told rose status text log (unread name s t nothing failed why) h = apart status 0 3 (ap kind h) (ap kind s) (λ e. cc)
+
+-- ---- the log
+
+-- the empty log has no step that could be wrong
+nothing-sound : (log : LogState) → log ≡ empty_log → IsSound log.events
+nothing-sound log e =
+    let P : LogState → Type 0 = λ l. IsSound l.events in
+    subst P (sym e) (record { valid = tt; new = tt; effective = tt })
+
+end-sound : (wanted : Wanted) (status : Status) (log : LogState) → IsEnd wanted status log → IsSound log.events
+end-sound (Wanted.Solve _ _ _) status log h = h.0
+end-sound (Wanted.Verify _ _ _) status log h = nothing-sound log h.0
+
+-- whatever is said, each step of the log is sound
+pub when-sound : (words : List (List ℕ)) (told : Option Held) (rose : Type 0) (status : Status) (text : List ℕ) (log : LogState) → Case words told rose status text log → IsSound log.events
+when-sound words told rose status text log (no_command s t nothing none) = nothing-sound log nothing
+when-sound words told rose status text log (answer wanted want ends shown) = end-sound wanted status log ends
+when-sound words told rose status text log (faulty wanted want r s t nothing of_text shown) = nothing-sound log nothing
+when-sound words told rose status text log (unread name s t nothing failed why) = nothing-sound log nothing
+
+-- nothing is logged with a refusal
+pub when-unlogged : (words : List (List ℕ)) (told : Option Held) (rose : Type 0) (status : Status) (text : List ℕ) (log : LogState) → Case words told rose status text log → (status ≡ Status.Refuted) ⊎ IsRefused status → log ≡ empty_log
+when-unlogged words told rose status text log (no_command s t nothing none) h = nothing
+when-unlogged words told rose status text log (answer wanted want ends shown) h =
+    elim h [
+      | inl e ↦ (wants-verify words wanted status log want ends e).1
+      | inr refused ↦ refused-not status 0 refused (kind-end wanted status log ends) (λ e. cc) (λ e. cc)
+    ]
+when-unlogged words told rose status text log (faulty wanted want r s t nothing of_text shown) h = nothing
+when-unlogged words told rose status text log (unread name s t nothing failed why) h = nothing
+
+pub never-memory : (words : List (List ℕ)) (told : Option Held) (rose : Type 0) (status : Status) (text : List ℕ) (log : LogState) → Case words told rose status text log → status ≢ Status.Memory
+never-memory words told rose status text log (no_command s t nothing none) h = apart status 4 1 (ap kind h) (ap kind s) (λ e. cc)
+never-memory words told rose status text log (answer wanted want ends shown) h = apart status 4 0 (ap kind h) (kind-end wanted status log ends) (λ e. cc)
+never-memory words told rose status text log (faulty wanted want r s t nothing of_text shown) h = apart status 4 2 (ap kind h) (kind-text r status s of_text) (λ e. cc)
+never-memory words told rose status text log (unread name s t nothing failed why) h = apart status 4 3 (ap kind h) (ap kind s) (λ e. cc)
 
 no-file : (words : List (List ℕ)) (told : Option Held) (name : List ℕ) → AreNoCommand words → IsFailedRead words told name → ⊥
 no-file words told name none failed = none failed.0.0 failed.0.1
 
 -- words that are no command are said to be none
-pub usage-said : (words : List (List ℕ)) (told : Option Held) (rose : Type 0) (status : Status) (text : List ℕ) → Case words told rose status text → AreNoCommand words → (status ≡ Status.Usage) ⊎ (status ≡ Status.Memory)
-usage-said words told rose status text (no_command s t none) h = inl s
-usage-said words told rose status text (answer wanted want ends shown) h = absurd (h wanted want)
-usage-said words told rose status text (faulty wanted want r s t of_text shown) h = absurd (h wanted want)
-usage-said words told rose status text (unread name s t failed why) h = absurd (no-file words told name h failed)
+pub usage-said : (words : List (List ℕ)) (told : Option Held) (rose : Type 0) (status : Status) (text : List ℕ) (log : LogState) → Case words told rose status text log → AreNoCommand words → (status ≡ Status.Usage) ⊎ (status ≡ Status.Memory)
+usage-said words told rose status text log (no_command s t nothing none) h = inl s
+usage-said words told rose status text log (answer wanted want ends shown) h = absurd (h wanted want)
+usage-said words told rose status text log (faulty wanted want r s t nothing of_text shown) h = absurd (h wanted want)
+usage-said words told rose status text log (unread name s t nothing failed why) h = absurd (no-file words told name h failed)
 
 -- ---- the line that says that memory is wanting
 

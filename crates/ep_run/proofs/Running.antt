@@ -3,6 +3,7 @@ use Rattle.std.proofs.Common.{◌≡◌, ℕ, ◌⊎◌, List, [], ◌∷◌, �
 use Rattle.std.specs.declared.alloc.Global.{Global}
 use Rattle.std.specs.declared.vec.Vec.{Vec}
 use Rattle.std.proofs.lemmas.List.{append-nil}
+use Rattle.cnf_core.specs.Events.{LogState}
 use Rattle.ep_base.specs.Outside.{Held, Rose}
 use Rattle.ep_base.specs.declared.errors.Memory.{Memory}
 use Rattle.ep_instance.specs.Judgements.{FitsIfShaped}
@@ -21,26 +22,28 @@ use Rattle.ep_tree.specs.Statements.{TextTree}
 use Rattle.ep_tree.specs.Views.{params_tree}
 use Rattle.ep_tree.specs.declared.statements.Params.{Params}
 use Rattle.ep_tree.specs.declared.values.Mode.{Mode}
-use Rattle.ep_run.specs.Answers.{Answers, IsRight, wrong_shape_text}
-use Rattle.ep_run.specs.Outcomes.{Outcome, Task, as_outcome, bind_refusal, bind_refusals, bound_outcome, count_refusals, fault_refusals, instance_of, judge_outcome, solve_outcome, to_judge, to_solve, verify_outcome}
+use Rattle.ep_solve.specs.Right.{IsRight, empty_log}
+use Rattle.ep_run.specs.Answers.{Answers, IsFound, answer_status, wrong_shape_text}
+use Rattle.ep_run.specs.Outcomes.{Outcome, Task, and_then, as_outcome, bind_refusal, bind_refusals, bound_outcome, fault_refusals, instance_of, judge_outcome, solve_outcome, to_judge, to_solve, unless_refused, verify_outcome}
 use Rattle.ep_run.specs.Status.{status_of}
-use Rattle.ep_run.specs.Steps.{IsAmong, IsJudged, IsNotThere, IsUnreadStop, Passes, Says, Tells, TellsBytes, TellsParams, TellsReply, TellsRun, TellsShape, TellsTask, shape_outcome}
+use Rattle.ep_run.specs.Steps.{EndsAs, EndsBy, IsAmong, IsJudged, IsNotThere, IsUnreadStop, Passes, Says, Tells, TellsBytes, TellsParams, TellsReply, TellsRun, TellsShape, TellsTask, shape_outcome}
 use Rattle.ep_run.specs.Stops.{bind_stop}
 use Rattle.ep_run.specs.declared.replies.Reply.{Reply}
 use Rattle.ep_run.specs.declared.status.Status.{Status}
 use Rattle.ep_run.specs.declared.stops.Stop.{Stop}
+use Rattle.ep_run.specs.declared.wanted.Wanted.{Wanted}
 use Rattle.ep_run.proofs.Binding.{bind-stopped}
 use Rattle.ep_run.proofs.Saying.{said-refusal}
-use Rattle.ep_run.proofs.Tasks.{AreAllFaultless, AreFaultless, bound-refused, is-judge, is-solve, is-verify, limits-refused, shape-refused, solve-count, solve-instance, solve-model, solve-params, task-ends, verify-instance, verify-model, verify-params, verify-solution}
+use Rattle.ep_run.proofs.Tasks.{AreAllFaultless, AreFaultless, bound-refused, is-judge, is-solve, is-verify, limits-refused, shape-refused, solve-instance, solve-model, solve-params, judge-ends, verify-instance, verify-model, verify-params, verify-solution}
 
 -- ---- words
 
-pub refused-said : (words : List (List ℕ)) (told : Option Held) (rose : Type 0) (r : Refusal) (result : Result Reply Memory)
+pub refused-said : (words : List (List ℕ)) (told : Option Held) (rose : Type 0) (log : LogState) (r : Refusal) (result : Result Reply Memory)
     → IfOk result (λ reply. reply.status ≡ status_of r) → IfOk result (λ reply. reply.text.items ≡ refusal_text r)
-    → TellsRun words told rose (Err (Stop.Refused r))
-    → IfOk result (λ reply. Says words told rose reply.status reply.text.items)
-refused-said words told rose r (Ok reply) s t h = said-refusal words told rose r reply.status reply.text.items s t h
-refused-said words told rose r (Err e) s t h = tt
+    → TellsRun words told rose log (Err (Stop.Refused r))
+    → IfOk result (λ reply. Says words told rose reply.status reply.text.items log)
+refused-said words told rose log r (Ok reply) s t h = said-refusal words told rose log r reply.status reply.text.items s t h
+refused-said words told rose log r (Err e) s t h = tt
 
 -- ---- faults that rose
 
@@ -73,54 +76,49 @@ limits-stopped view m p i Stop.Memory e h = tt
 
 -- ---- solving
 
-pub solve-model-stopped : (V : Type 0) (m p : TextTree) (stop : Stop) → Passes {V = V} (fault_refusals TextFile.Model (text_faults m)) (Err stop) → TellsReply (solve_outcome m p) (Err stop)
-solve-model-stopped V m p (Stop.Refused r) h = (h.0, solve-model m p r h.1)
-solve-model-stopped V m p Stop.Memory h = tt
+pub solve-model-stopped : (V : Type 0) (log : LogState) (n : ℕ) (m p : TextTree) (stop : Stop) → Passes {V = V} (fault_refusals TextFile.Model (text_faults m)) (Err stop) → TellsReply (solve_outcome n m p) log (Err stop)
+solve-model-stopped V log n m p (Stop.Refused r) h = (h.0, solve-model n m p r h.1)
+solve-model-stopped V log n m p Stop.Memory h = tt
 
-pub solve-params-stopped : (V : Type 0) (m p : TextTree) (stop : Stop) → fault_refusals TextFile.Model (text_faults m) ≡ []
-    → Passes {V = V} (fault_refusals TextFile.Params (params_faults p)) (Err stop) → TellsReply (solve_outcome m p) (Err stop)
-solve-params-stopped V m p (Stop.Refused r) e h = (h.0, solve-params m p r e h.1)
-solve-params-stopped V m p Stop.Memory e h = tt
+pub solve-params-stopped : (V : Type 0) (log : LogState) (n : ℕ) (m p : TextTree) (stop : Stop) → fault_refusals TextFile.Model (text_faults m) ≡ []
+    → Passes {V = V} (fault_refusals TextFile.Params (params_faults p)) (Err stop) → TellsReply (solve_outcome n m p) log (Err stop)
+solve-params-stopped V log n m p (Stop.Refused r) e h = (h.0, solve-params n m p r e h.1)
+solve-params-stopped V log n m p Stop.Memory e h = tt
 
-pub solve-instance-stopped : {V : Type 0} (view : V → Instance) (m p m' p' : TextTree) (stop : Stop) → m' ≡ m → p' ≡ p → AreFaultless m p
-    → Tells view (instance_of m' p') (Err stop) → TellsReply (solve_outcome m p) (Err stop)
-solve-instance-stopped view m p m' p' (Stop.Refused r) e f none h =
+pub solve-instance-stopped : {V : Type 0} (view : V → Instance) (log : LogState) (n : ℕ) (m p m' p' : TextTree) (stop : Stop) → m' ≡ m → p' ≡ p → AreFaultless m p
+    → Tells view (instance_of m' p') (Err stop) → TellsReply (solve_outcome n m p) log (Err stop)
+solve-instance-stopped view log n m p m' p' (Stop.Refused r) e f none h =
     let P : TextTree → Type 0 = λ x. IsAmong (instance_of x p') r in
     let Q : TextTree → Type 0 = λ x. IsAmong (instance_of m x) r in
-    (h.0, solve-instance m p r none (subst Q f (subst P e h.1)))
-solve-instance-stopped view m p m' p' Stop.Memory e f none h = tt
+    (h.0, solve-instance n m p r none (subst Q f (subst P e h.1)))
+solve-instance-stopped view log n m p m' p' Stop.Memory e f none h = tt
 
 pub same-instance : (m p m' p' : TextTree) (i : Instance) → m' ≡ m → p' ≡ p → instance_of m' p' ≡ Ok i → instance_of m p ≡ Ok i
 same-instance m p m' p' i e f h = sym (ap (λ x. instance_of x p') e ∙ ap (instance_of m) f) ∙ h
 
-pub solve-count-stopped : (V : Type 0) (m p : TextTree) (i : Instance) (stop : Stop) → AreFaultless m p → instance_of m p ≡ Ok i
-    → Passes {V = V} (count_refusals i) (Err stop) → TellsReply (solve_outcome m p) (Err stop)
-solve-count-stopped V m p i (Stop.Refused r) none e h = (h.0, solve-count m p i r none e h.1)
-solve-count-stopped V m p i Stop.Memory none e h = tt
-
-pub solve-answered : (m p : TextTree) (i : Instance) (reply : Reply) (answer : AnswerTree) → AreFaultless m p → instance_of m p ≡ Ok i → count_refusals i ≡ []
-    → reply.status ≡ Status.Answered → IsRight i answer → reply.text.items ≡ answer_text answer → TellsReply (solve_outcome m p) (Ok reply)
+pub solve-answered : (n : ℕ) (m p : TextTree) (i : Instance) (reply : Reply) (log : LogState) (answer : AnswerTree) → AreFaultless m p → instance_of m p ≡ Ok i
+    → reply.status ≡ answer_status answer → IsRight Mode.Relational i n answer → IsFound i n log answer → reply.text.items ≡ answer_text answer → TellsReply (solve_outcome n m p) log (Ok reply)
 unfolding Answers
-solve-answered m p i reply answer none e few ended right text = (to_solve i, is-solve m p i none e few, (ended, answer, right, text))
+solve-answered n m p i reply log answer none e ended right found text = (to_solve i n, is-solve n m p i none e, (answer, right, found, ended, text))
 
 -- ---- verifying
 
-pub verify-model-stopped : (V : Type 0) (m p s : TextTree) (stop : Stop) → Passes {V = V} (fault_refusals TextFile.Model (text_faults m)) (Err stop) → TellsReply (verify_outcome m p s) (Err stop)
+pub verify-model-stopped : (V : Type 0) (m p s : TextTree) (stop : Stop) → Passes {V = V} (fault_refusals TextFile.Model (text_faults m)) (Err stop) → TellsReply (verify_outcome m p s) empty_log (Err stop)
 verify-model-stopped V m p s (Stop.Refused r) h = (h.0, verify-model m p s r h.1)
 verify-model-stopped V m p s Stop.Memory h = tt
 
 pub verify-params-stopped : (V : Type 0) (m p s : TextTree) (stop : Stop) → fault_refusals TextFile.Model (text_faults m) ≡ []
-    → Passes {V = V} (fault_refusals TextFile.Params (params_faults p)) (Err stop) → TellsReply (verify_outcome m p s) (Err stop)
+    → Passes {V = V} (fault_refusals TextFile.Params (params_faults p)) (Err stop) → TellsReply (verify_outcome m p s) empty_log (Err stop)
 verify-params-stopped V m p s (Stop.Refused r) e h = (h.0, verify-params m p s r e h.1)
 verify-params-stopped V m p s Stop.Memory e h = tt
 
 pub verify-solution-stopped : (V : Type 0) (m p s : TextTree) (stop : Stop) → AreFaultless m p
-    → Passes {V = V} (fault_refusals TextFile.Solution (params_faults s)) (Err stop) → TellsReply (verify_outcome m p s) (Err stop)
+    → Passes {V = V} (fault_refusals TextFile.Solution (params_faults s)) (Err stop) → TellsReply (verify_outcome m p s) empty_log (Err stop)
 verify-solution-stopped V m p s (Stop.Refused r) none h = (h.0, verify-solution m p s r none h.1)
 verify-solution-stopped V m p s Stop.Memory none h = tt
 
 pub verify-instance-stopped : {V : Type 0} (view : V → Instance) (m p s m' p' : TextTree) (stop : Stop) → m' ≡ m → p' ≡ p → AreAllFaultless m p s
-    → Tells view (instance_of m' p') (Err stop) → TellsReply (verify_outcome m p s) (Err stop)
+    → Tells view (instance_of m' p') (Err stop) → TellsReply (verify_outcome m p s) empty_log (Err stop)
 verify-instance-stopped view m p s m' p' (Stop.Refused r) e f none h =
     let P : TextTree → Type 0 = λ x. IsAmong (instance_of x p') r in
     let Q : TextTree → Type 0 = λ x. IsAmong (instance_of m x) r in
@@ -128,29 +126,29 @@ verify-instance-stopped view m p s m' p' (Stop.Refused r) e f none h =
 verify-instance-stopped view m p s m' p' Stop.Memory e f none h = tt
 
 pub verify-judged : (m p s s' : TextTree) (i : Instance) (result : Result Reply Stop) → AreAllFaultless m p s → instance_of m p ≡ Ok i → s' ≡ s
-    → TellsReply (judge_outcome i s') result → TellsReply (verify_outcome m p s) result
+    → TellsReply (judge_outcome i s') empty_log result → TellsReply (verify_outcome m p s) empty_log result
 verify-judged m p s s' i result none e f h =
-    let P : Outcome Task → Type 0 = λ o. TellsReply o result in
+    let P : Outcome Task → Type 0 = λ o. TellsReply o empty_log result in
     subst P (ap (judge_outcome i) f ∙ sym (is-verify m p s i none e)) h
 
 -- ---- judging
 
-pub shape-stopped : (i : Instance) (s : TextTree) (stop : Stop) → TellsShape i s (Err stop) → TellsReply (judge_outcome i s) (Err stop)
+pub shape-stopped : (i : Instance) (s : TextTree) (stop : Stop) → TellsShape i s (Err stop) → TellsReply (judge_outcome i s) empty_log (Err stop)
 shape-stopped i s (Stop.Refused r) h = (h.0, shape-refused i s r h.1)
 shape-stopped i s Stop.Memory h = tt
 
 pub fit-judged : (i : Instance) (s : TextTree) (a : Assigned) (found : Found) (reply : Reply) → shape_outcome i s ≡ Ok (fits a) → Fits i a found
-    → IsJudged i found reply.status reply.text.items → TellsReply (judge_outcome i s) (Ok reply)
+    → IsJudged i found reply.status reply.text.items → TellsReply (judge_outcome i s) empty_log (Ok reply)
 unfolding Answers
 fit-judged i s a found reply e fit h = (to_judge i (fits a), is-judge i s (fits a) e, (found, fit, h.0, h.1))
 
 -- ---- files
 
 -- the last file of a run
-pub last-read : (names : List (List ℕ)) (shows : Held → Outcome Task → Type 0) (told : Option Held) (rose : Type 0) (result : Result Reply Stop)
-    → TellsTask (names ++ []) shows told rose result → TellsTask names shows told rose result
-last-read names shows told rose result h =
-    let P : List (List ℕ) → Type 0 = λ x. TellsTask x shows told rose result in subst P (append-nil names) h
+pub last-read : (names : List (List ℕ)) (shows : Held → Outcome Task → Type 0) (told : Option Held) (rose : Type 0) (log : LogState) (result : Result Reply Stop)
+    → TellsTask (names ++ []) shows told rose log result → TellsTask names shows told rose log result
+last-read names shows told rose log result h =
+    let P : List (List ℕ) → Type 0 = λ x. TellsTask x shows told rose log result in subst P (append-nil names) h
 
 -- ---- shapes
 
@@ -172,7 +170,7 @@ shape-bound mode i s error e h =
 
 -- a text that says which name keeps a solution text from giving an assignment
 pub shape-said : (i : Instance) (s : TextTree) (names : List (List ℕ)) (name : List ℕ) (status : Status) (text : List ℕ) → shape_outcome i s ≡ Ok (wrong_shape names) → Contains names name
-    → status ≡ Status.Refuted → text ≡ wrong_shape_text name → (task : Task) × (judge_outcome i s ≡ Ok task) × Answers task status text
+    → status ≡ Status.Refuted → text ≡ wrong_shape_text name → (task : Task) × (judge_outcome i s ≡ Ok task) × Answers task status text empty_log
 unfolding Answers
 shape-said i s names name status text e among ended said = (to_judge i (wrong_shape names), is-judge i s (wrong_shape names) e, (name, among, ended, said))
 
@@ -180,7 +178,48 @@ pub unread-bytes : (told : Option Held) (name : List ℕ) (rose : Type 0) (stop 
 unread-bytes told name rose (Stop.Refused r) h there = (h, there)
 unread-bytes told name rose Stop.Memory h there = tt
 
--- how a reply ends
-pub reply-ends : (o : Outcome Task) (result : Result Reply Stop) → TellsReply o result → IfOk result (λ reply. (reply.status ≡ Status.Answered) ⊎ (reply.status ≡ Status.Refuted))
-reply-ends o (Ok reply) h = task-ends h.0 reply.status reply.text.items h.2
-reply-ends o (Err stop) h = tt
+unless-ok : {A : Type 0} (rs : List Refusal) (o : Outcome A) (x : A) → unless_refused rs o ≡ Ok x → o ≡ Ok x
+unfolding unless_refused
+unless-ok [] o x h = h
+unless-ok (r ∷ rs) o x h = absurd cc
+
+then-ok : {A B : Type 0} (o : Outcome A) (next : A → Outcome B) (x : B) → and_then o next ≡ Ok x → (y : A) × (next y ≡ Ok x)
+unfolding and_then
+then-ok (Ok y) next x h = (y, h)
+then-ok (Err rs) next x h = absurd cc
+
+same-ok : {A : Type 0} (x y : A) → ◌≡◌ {A = Outcome A} (Ok x) (Ok y) → x ≡ y
+same-ok x y h = cc
+
+-- what verifying a text comes to is a solution text to judge
+verify-judges : (m p s : TextTree) (task : Task) → verify_outcome m p s ≡ Ok task → (i : Instance) × (shaped : Shaped) × (to_judge i shaped ≡ task)
+unfolding verify_outcome
+verify-judges m p s task h =
+    let a = unless-ok (fault_refusals TextFile.Model (text_faults m)) _ task h in
+    let b = unless-ok (fault_refusals TextFile.Params (params_faults p)) _ task a in
+    let c = unless-ok (fault_refusals TextFile.Solution (params_faults s)) _ task b in
+    let d = then-ok (instance_of m p) _ task c in
+    let e = then-ok (as_outcome (read_solution Mode.Relational d.0 s)) _ task d.1 in
+    (d.0, e.0, same-ok (to_judge d.0 e.0) task e.1)
+
+-- how a reply ends that judges
+pub reply-ends : (m p s : TextTree) (result : Result Reply Stop) → TellsReply (verify_outcome m p s) empty_log result → IfOk result (λ reply. (reply.status ≡ Status.Answered) ⊎ (reply.status ≡ Status.Refuted))
+reply-ends m p s (Ok reply) h =
+    let q = verify-judges m p s h.0 h.1 in
+    let P : Task → Type 0 = λ t. Answers t reply.status reply.text.items empty_log in
+    judge-ends q.0 q.1 reply.status reply.text.items empty_log (subst P (sym q.2) h.2)
+reply-ends m p s (Err stop) h = tt
+
+-- ---- ends
+
+-- nothing was logged where a step before the search stops
+pub stopped-ends : (End : Status → Type 0) (log : LogState) (stop : Stop) → log ≡ empty_log → EndsBy End log (Err stop)
+stopped-ends End log (Stop.Refused r) h = h
+stopped-ends End log Stop.Memory h = tt
+
+-- a verification ends so, whatever refuses it, with nothing logged
+pub verify-ends : (model : List ℕ) (params : Option (List ℕ)) (solution : List ℕ) (log : LogState) (result : Result Reply Stop) → log ≡ empty_log
+    → IfOk result (λ reply. (reply.status ≡ Status.Answered) ⊎ (reply.status ≡ Status.Refuted)) → EndsAs (Wanted.Verify model params solution) log result
+verify-ends model params solution log (Ok reply) nothing h = (nothing, h)
+verify-ends model params solution log (Err (Stop.Refused r)) nothing h = nothing
+verify-ends model params solution log (Err Stop.Memory) nothing h = tt

@@ -12,9 +12,9 @@ use Rattle.ep_tree.specs.Solutions.{Assigned, Fits, Found, IsBetter, IsSolution,
 use Rattle.ep_tree.specs.Trees.{ExprTree}
 use Rattle.ep_tree.specs.declared.values.Mode.{Mode}
 use Rattle.ep_print.specs.Answers.{AreTyped, no_solution, optimum, solution as found_solution}
-use Rattle.ep_run.specs.Answers.{IsRight}
+use Rattle.ep_solve.specs.Right.{IsRight}
 use Rattle.ep_run.specs.Candidates.{IsBest, NoneSolves, assignment_at, found_at, judgement_at, objective_of, solves}
-use Rattle.ep_run.specs.Outcomes.{assignment_count}
+use Rattle.ep_run.specs.Counts.{assignment_count}
 use Rattle.ep_run.proofs.Numbering.{are-typed, has-number, is-found, same-names}
 
 -- ---- what a judgement says
@@ -94,17 +94,17 @@ judged-found i found q = (q.0, q.1, ap (judgement Mode.Relational i) q.2)
 
 -- ---- without an objective
 
-pub right-solution : (i : Instance) (a : Assigned) (n : ℕ) → IsClosed i → i.goal ≡ None → n < assignment_count i
-    → solves (judgement_at i n) ≡ true → a ≡ assignment_at i.finds n → IsRight i (found_solution a)
+pub right-solution : (budget : ℕ) (i : Instance) (a : Assigned) (n : ℕ) → IsClosed i → i.goal ≡ None → n < assignment_count i
+    → solves (judgement_at i n) ≡ true → a ≡ assignment_at i.finds n → IsRight Mode.Relational i budget (found_solution a)
 unfolding IsRight judgement
-right-solution i a n closed free below h e =
-    let P : Assigned → Type 0 = λ x. IsRight i (found_solution x) in
+right-solution budget i a n closed free below h e =
+    let P : Assigned → Type 0 = λ x. IsRight Mode.Relational i budget (found_solution x) in
     let q = is-solved (violated Mode.Relational i (found_at i n)) (has_goal_value Mode.Relational i (found_at i n)) (goal_value Mode.Relational i (found_at i n)) h in
     subst P (sym e) (free, (candidate-fits i closed n below).values, candidate-solution i n closed below q.0 q.1)
 
-pub right-none : (i : Instance) (count : ℕ) → count ≡ assignment_count i → NoneSolves i count → IsRight i no_solution
+pub right-none : (budget : ℕ) (i : Instance) (count : ℕ) → count ≡ assignment_count i → NoneSolves i count → IsRight Mode.Relational i budget no_solution
 unfolding IsRight judgement
-right-none i count e none = λ a s.
+right-none budget i count e none = λ a s.
     let q = judged-found i s.found (solution-number i a s.found s.fits.values) in
     let yes : solves (judgement_at i q.0) ≡ true =
     ap solves q.2 ∙ solution-solves (violated Mode.Relational i s.found) (has_goal_value Mode.Relational i s.found) (goal_value Mode.Relational i s.found) s.holds s.measured in
@@ -139,9 +139,9 @@ has-measure i a stated e s =
           ∙ value.1,
     )
 
-pub right-none-best : (i : Instance) (sense : Sense) (e : ExprTree) (count : ℕ) → count ≡ assignment_count i → i.goal ≡ Some (sense, e) → IsBest i sense count None → IsRight i no_solution
+pub right-none-best : (budget : ℕ) (i : Instance) (sense : Sense) (e : ExprTree) (count : ℕ) → count ≡ assignment_count i → i.goal ≡ Some (sense, e) → IsBest i sense count None → IsRight Mode.Relational i budget no_solution
 unfolding IsRight
-right-none-best i sense e count counted stated none = λ a s.
+right-none-best budget i sense e count counted stated none = λ a s.
     let q = has-measure i a (sense, e) stated s in
     none q.0 (omega (arith, q.1, counted)) q.2 q.4
 
@@ -172,11 +172,11 @@ none-better i sense e count n value closed counted below stated here best b s be
     sym (ap (λ t. better_number t better.x better.y) sense-same ∙ ap (λ t. better_number sense t better.y) x-same ∙ ap (λ t. better_number sense q.2 t) y-same) ∙ yes in
     cc (yes-here, no)
 
-pub right-optimum : (i : Instance) (a : Assigned) (sense : Sense) (e : ExprTree) (count n : ℕ) (value : ℤ) → IsClosed i → count ≡ assignment_count i
-    → i.goal ≡ Some (sense, e) → IsBest i sense count (Some (value, n)) → a ≡ assignment_at i.finds n → IsRight i (optimum value a)
+pub right-optimum : (budget : ℕ) (i : Instance) (a : Assigned) (sense : Sense) (e : ExprTree) (count n : ℕ) (value : ℤ) → IsClosed i → count ≡ assignment_count i
+    → i.goal ≡ Some (sense, e) → IsBest i sense count (Some (value, n)) → a ≡ assignment_at i.finds n → IsRight Mode.Relational i budget (optimum value a)
 unfolding IsRight judgement
-right-optimum i a sense e count n value closed counted stated top same =
-    let P : Assigned → Type 0 = λ x. IsRight i (optimum value x) in
+right-optimum budget i a sense e count n value closed counted stated top same =
+    let P : Assigned → Type 0 = λ x. IsRight Mode.Relational i budget (optimum value x) in
     let below : n < assignment_count i = omega (arith, top.0, counted) in
     let q = has-objective (violated Mode.Relational i (found_at i n)) (has_goal_value Mode.Relational i (found_at i n)) (goal_value Mode.Relational i (found_at i n)) value top.1 in
     subst P (sym same) (
@@ -240,7 +240,7 @@ best-replaced i sense number held value best here better = (
 
 -- ---- what is judged
 
-ok-weaker : {A E : Type 0} (P Q : A → Type 0) (r : Result A E) → ((x : A) → P x → Q x) → IfOk r P → IfOk r Q
+pub ok-weaker : {A E : Type 0} (P Q : A → Type 0) (r : Result A E) → ((x : A) → P x → Q x) → IfOk r P → IfOk r Q
 ok-weaker P Q (Ok x) f h = f x h
 ok-weaker P Q (Err e) f h = tt
 

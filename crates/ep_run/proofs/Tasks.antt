@@ -1,5 +1,7 @@
 -- What the steps over trees come to, one after another.
-use Rattle.std.proofs.Common.{◌≡◌, ℕ, ◌⊎◌, List, [], Ok, Contains, inl, inr, ◌∙◌}
+use Rattle.std.proofs.Common.{◌≡◌, ℕ, ◌⊎◌, List, [], Ok, Contains, inl, inr, sym, subst, ◌∙◌}
+use Rattle.cnf_core.specs.Events.{LogState}
+use Rattle.sat_search.specs.Logs.{IsSound}
 use Rattle.ep_print.specs.declared.refusals.Refusal.{Refusal}
 use Rattle.ep_print.specs.declared.refusals.TextFile.{TextFile}
 use Rattle.ep_tree.specs.Binding.{Instance}
@@ -8,9 +10,12 @@ use Rattle.ep_tree.specs.SolutionTexts.{Shaped, fits, wrong_shape}
 use Rattle.ep_tree.specs.Solutions.{Judgement, a_solution, goal_undefined, instance_limits, judgement, violates}
 use Rattle.ep_tree.specs.Statements.{TextTree}
 use Rattle.ep_tree.specs.declared.values.Mode.{Mode}
-use Rattle.ep_run.specs.Answers.{Answers, judgement_status}
-use Rattle.ep_run.specs.Outcomes.{Task, and_then, bind_refusals, bound_outcome, count_refusals, fault_refusals, instance_of, judge_outcome, solve_outcome, to_judge, to_solve, verify_outcome}
-use Rattle.ep_run.specs.Steps.{IsAmong, shape_outcome}
+use Rattle.ep_print.specs.Answers.{AnswerTree, no_solution, optimum, solution, unknown, unknown_with}
+use Rattle.ep_solve.specs.Logged.{ShowsAnswer}
+use Rattle.ep_solve.specs.Right.{IsSpent}
+use Rattle.ep_run.specs.Answers.{Answers, IsFound, answer_status, judgement_status}
+use Rattle.ep_run.specs.Outcomes.{and_then, bind_refusals, bound_outcome, fault_refusals, instance_of, judge_outcome, solve_outcome, to_judge, to_solve, verify_outcome}
+use Rattle.ep_run.specs.Steps.{IsAmong, IsSearched, shape_outcome}
 use Rattle.ep_run.specs.declared.status.Status.{Status}
 use Rattle.ep_run.proofs.Refusing.{among-first, among-later, among-next, among-then, none-refused, then-next}
 
@@ -37,37 +42,29 @@ is-instance m p i e none =
 
 -- ---- solving
 
-pub solve-model : (m p : TextTree) (r : Refusal) → Contains (fault_refusals TextFile.Model (text_faults m)) r → IsAmong (solve_outcome m p) r
+pub solve-model : (n : ℕ) (m p : TextTree) (r : Refusal) → Contains (fault_refusals TextFile.Model (text_faults m)) r → IsAmong (solve_outcome n m p) r
 unfolding solve_outcome
-solve-model m p r h = among-first (fault_refusals TextFile.Model (text_faults m)) r _ h
+solve-model n m p r h = among-first (fault_refusals TextFile.Model (text_faults m)) r _ h
 
-pub solve-params : (m p : TextTree) (r : Refusal) → fault_refusals TextFile.Model (text_faults m) ≡ [] → Contains (fault_refusals TextFile.Params (params_faults p)) r → IsAmong (solve_outcome m p) r
+pub solve-params : (n : ℕ) (m p : TextTree) (r : Refusal) → fault_refusals TextFile.Model (text_faults m) ≡ [] → Contains (fault_refusals TextFile.Params (params_faults p)) r → IsAmong (solve_outcome n m p) r
 unfolding solve_outcome
-solve-params m p r e h =
+solve-params n m p r e h =
     among-later (fault_refusals TextFile.Model (text_faults m)) r _ e
     (among-first (fault_refusals TextFile.Params (params_faults p)) r _ h)
 
-pub solve-instance : (m p : TextTree) (r : Refusal) → AreFaultless m p → IsAmong (instance_of m p) r → IsAmong (solve_outcome m p) r
+pub solve-instance : (n : ℕ) (m p : TextTree) (r : Refusal) → AreFaultless m p → IsAmong (instance_of m p) r → IsAmong (solve_outcome n m p) r
 unfolding solve_outcome
-solve-instance m p r none h =
+solve-instance n m p r none h =
     among-later (fault_refusals TextFile.Model (text_faults m)) r _ none.model
     (among-later (fault_refusals TextFile.Params (params_faults p)) r _ none.params
     (among-then (instance_of m p) r _ h))
 
-pub solve-count : (m p : TextTree) (i : Instance) (r : Refusal) → AreFaultless m p → instance_of m p ≡ Ok i → Contains (count_refusals i) r → IsAmong (solve_outcome m p) r
+pub is-solve : (n : ℕ) (m p : TextTree) (i : Instance) → AreFaultless m p → instance_of m p ≡ Ok i → solve_outcome n m p ≡ Ok (to_solve i n)
 unfolding solve_outcome
-solve-count m p i r none e h =
-    among-later (fault_refusals TextFile.Model (text_faults m)) r _ none.model
-    (among-later (fault_refusals TextFile.Params (params_faults p)) r _ none.params
-    (among-next (instance_of m p) i r _ e (among-first (count_refusals i) r (Ok (to_solve i)) h)))
-
-pub is-solve : (m p : TextTree) (i : Instance) → AreFaultless m p → instance_of m p ≡ Ok i → count_refusals i ≡ [] → solve_outcome m p ≡ Ok (to_solve i)
-unfolding solve_outcome
-is-solve m p i none e few =
+is-solve n m p i none e =
     none-refused (fault_refusals TextFile.Model (text_faults m)) _ none.model
     ∙ none-refused (fault_refusals TextFile.Params (params_faults p)) _ none.params
     ∙ then-next (instance_of m p) i _ e
-    ∙ none-refused (count_refusals i) (Ok (to_solve i)) few
 
 -- ---- verifying
 
@@ -127,8 +124,27 @@ judged-ends (a_solution goal) status e = inl e
 judged-ends (violates n) status e = inr e
 judged-ends goal_undefined status e = inr e
 
-pub task-ends : (task : Task) (status : Status) (text : List ℕ) → Answers task status text → (status ≡ Status.Answered) ⊎ (status ≡ Status.Refuted)
+pub judge-ends : (i : Instance) (shaped : Shaped) (status : Status) (text : List ℕ) (log : LogState) → Answers (to_judge i shaped) status text log → (status ≡ Status.Answered) ⊎ (status ≡ Status.Refuted)
 unfolding Answers
-task-ends (to_solve i) status text h = inl h.0
-task-ends (to_judge i (fits a)) status text h = judged-ends (judgement Mode.Relational i h.0) status h.2
-task-ends (to_judge i (wrong_shape names)) status text h = inr h.2
+judge-ends i (fits a) status text log h = judged-ends (judgement Mode.Relational i h.0) status h.2
+judge-ends i (wrong_shape names) status text log h = inr h.2
+
+-- ---- how a search ends
+
+shown-spent : (i : Instance) (conflicts : ℕ) (log : LogState) (a : AnswerTree) (status : Status) → status ≡ answer_status a → ShowsAnswer Mode.Relational i conflicts log a
+    → (status ≡ Status.Answered) ⊎ ((status ≡ Status.Unknown) × IsSpent conflicts log.events)
+unfolding answer_status ShowsAnswer
+shown-spent i conflicts log (solution _) status e h = inl e
+shown-spent i conflicts log (optimum _ _) status e h = inl e
+shown-spent i conflicts log no_solution status e h = inl e
+shown-spent i conflicts log (unknown _) status e h = inr (e, h.0)
+shown-spent i conflicts log (unknown_with _ _ _) status e h = inr (e, h.0)
+
+-- the log of an answer that was found is sound, and shows where the budget was spent
+pub found-ends : (i : Instance) (conflicts : ℕ) (log : LogState) (a : AnswerTree) (status : Status) → status ≡ answer_status a → IsFound i conflicts log a → IsSearched conflicts status log
+found-ends i conflicts log a status e h =
+    let P : LogState → Type 0 = λ l. IsSound l.events in
+    elim h [
+      | inl tried ↦ (subst P (sym tried.unlogged) (record { valid = tt; new = tt; effective = tt }), inl (e ∙ tried.answered))
+      | inr logged ↦ (logged.sound, shown-spent i conflicts log a status e logged.shows)
+    ]

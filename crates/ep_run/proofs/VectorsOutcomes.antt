@@ -25,7 +25,7 @@ m = codes "m"
 abbrev s : List ℕ
 s = codes "s"
 
-solve-runs : wanted_of (Job.Solve m None 7 None None None) ≡ Some (Wanted.Solve m None)
+solve-runs : wanted_of (Job.Solve m None 7 None None None) ≡ Some (Wanted.Solve m None 7)
 unfolding wanted_of
 solve-runs = refl
 
@@ -51,11 +51,11 @@ faulty-model = constraints (at 1 1) (unknown 11 ∷ []) ∷ []
 abbrev faulty-params : TextTree
 faulty-params = letting (at 1 1) (codes "n") (at 1 9) None (unknown 14) ∷ []
 
-model-first : solve_outcome faulty-model faulty-params ≡ Err (Refusal.UnknownName TextFile.Model (at 1 11) (codes "y") ∷ [])
+model-first : solve_outcome 7 faulty-model faulty-params ≡ Err (Refusal.UnknownName TextFile.Model (at 1 11) (codes "y") ∷ [])
 unfolding clause_faults fault_refusal faults faults_after from_one judge name_faults named_type solve_outcome statement_faults text_faults type_fault unless_refused
 model-first = refl
 
-params-next : solve_outcome [] faulty-params ≡ Err (Refusal.UnknownName TextFile.Params (at 1 14) (codes "y") ∷ [])
+params-next : solve_outcome 7 [] faulty-params ≡ Err (Refusal.UnknownName TextFile.Params (at 1 14) (codes "y") ∷ [])
 unfolding declaration_faults fault_refusal faults faults_after is_letting name_faults params_faults solve_outcome stated_faults statement_faults text_faults unless unless_refused
 params-next = refl
 
@@ -106,10 +106,6 @@ usage-code = refl
 fault-code : code_of (status_of (Refusal.WhereFalse 1)) ≡ 3
 unfolding status_of
 fault-code = refl
-
-early-code : code_of (status_of Refusal.TooManyToTry) ≡ 4
-unfolding status_of
-early-code = refl
 
 device-code : code_of (status_of (Refusal.CannotRead m)) ≡ 5
 unfolding status_of

@@ -5,7 +5,7 @@ use Rattle.ep_tree.specs.Binding.{Find, Instance}
 use Rattle.ep_tree.specs.Solutions.{Assigned, Found, Judgement, a_solution, better_number, find_type, judgement}
 use Rattle.ep_tree.specs.Values.{ValueTree, as_parts, matrix, single}
 use Rattle.ep_tree.specs.declared.values.Mode.{Mode}
-use Rattle.ep_run.specs.Answers.{found_of}
+use Rattle.ep_solve.specs.Reading.{found_of}
 
 -- so many values, each made from what the one before left of a number, and what is left then
 unfoldable pub parts_from : (ℕ → ValueTree × ℕ) → ℕ → ℕ → List ValueTree × ℕ

@@ -5,9 +5,9 @@ use Rattle.ep_words.specs.declared.job.Job.{Job}
 use Rattle.ep_run.specs.declared.wanted.Wanted.{Wanted}
 
 -- What a job wants of a run: to solve a model, or to verify a solution. Files to write, lists of solutions, proofs to
--- check and inputs to generate don't run yet. Trying assignments makes no conflict, so any number of them is enough.
+-- check and inputs to generate don't run yet.
 unfoldable pub wanted_of : Job → Option Wanted
-wanted_of (Job.Solve model params conflicts None None None) = Some (Wanted.Solve model params)
+wanted_of (Job.Solve model params conflicts None None None) = Some (Wanted.Solve model params conflicts)
 wanted_of (Job.Verify model solution params) = Some (Wanted.Verify model params solution)
 wanted_of _ = None
 
@@ -21,5 +21,5 @@ AreNoCommand words = (wanted : Wanted) → ¬ Want words wanted
 
 -- the files that have to be read, in this order
 abbrev pub files_of : Wanted → List (List ℕ)
-files_of (Wanted.Solve model params) = model ∷ option_to_list params
+files_of (Wanted.Solve model params conflicts) = model ∷ option_to_list params
 files_of (Wanted.Verify model params solution) = (model ∷ option_to_list params) ++ solution ∷ []

@@ -3,9 +3,9 @@ pub mod Commands
 pub mod Readings
 pub mod Outcomes
 pub mod Shown
+pub mod Counts
 pub mod Answers
 pub mod Puts
 pub mod Stops
 pub mod Steps
 pub mod Candidates
-pub mod Counts

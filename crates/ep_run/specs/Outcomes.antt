@@ -1,9 +1,9 @@
 -- What steps over trees come to: the task with what it needs, or the refusals of the first step that refuses.
-use Rattle.std.specs.Prelude.{ℕ, ◌*◌, ◌^◌, List, [], ◌∷◌, map, length, nat_lt, if◌then◌else◌, Result, Ok, Err}
-use Rattle.ep_tree.specs.Binding.{Find, Instance, Refusal as BindRefusal, TextName, bind, missing_parameter, model_text, outside_domain, over_limit, parameter_text, solution_text, undefined_at, where_false}
+use Rattle.std.specs.Prelude.{ℕ, List, [], ◌∷◌, map, Result, Ok, Err}
+use Rattle.ep_tree.specs.Binding.{Instance, Refusal as BindRefusal, TextName, bind, missing_parameter, model_text, outside_domain, over_limit, parameter_text, solution_text, undefined_at, where_false}
 use Rattle.ep_tree.specs.Faults.{Fault, ill_typed, open_domain, params_faults, redeclared, text_faults, unknown_name, wrong_category}
 use Rattle.ep_tree.specs.SolutionTexts.{Shaped, read_solution}
-use Rattle.ep_tree.specs.Solutions.{cell_count, instance_limits}
+use Rattle.ep_tree.specs.Solutions.{instance_limits}
 use Rattle.ep_tree.specs.Statements.{TextTree}
 use Rattle.ep_tree.specs.declared.values.Mode.{Mode}
 use Rattle.ep_print.specs.declared.refusals.Refusal.{Refusal}
@@ -69,39 +69,18 @@ instance_of model params =
     and_then (bound_outcome model params) (λ i.
     unless_refused (bind_refusals (instance_limits Mode.Relational i)) (Ok i))
 
--- how many values a decision variable has: one of its numbers in each of its cells
-unfoldable pub value_count : Find → ℕ
-value_count f = length f.values ^ cell_count f.indices
-
--- the product of some numbers
-unfoldable pub product_of : List ℕ → ℕ
-product_of [] = 1
-product_of (n ∷ ns) = n * product_of ns
-
--- how many assignments give each decision variable one of its values
-unfoldable pub assignment_count : Instance → ℕ
-assignment_count i = product_of (map value_count i.finds)
-
--- no more assignments than these are tried
-abbrev pub MOST_ASSIGNMENTS : ℕ
-MOST_ASSIGNMENTS = 1000000
-
--- an instance with too many assignments to try them is refused
-unfoldable pub count_refusals : Instance → List Refusal
-count_refusals i = if nat_lt MOST_ASSIGNMENTS (assignment_count i) then Refusal.TooManyToTry ∷ [] else []
-
--- a task with what it needs: an instance to solve, or an instance with what a solution text gives it
+-- a task with what it needs: an instance to solve within so many conflicts, or an instance with what a solution text gives it
 pub data Task : Type 0 where
-  to_solve : Instance → Task
+  to_solve : Instance → ℕ → Task
   to_judge : Instance → Shaped → Task
 
--- What solving a model under parameters comes to. The faults of the model come first, then those of the parameters.
-unfoldable pub solve_outcome : TextTree → TextTree → Outcome Task
-solve_outcome model params =
+-- What solving a model under parameters within so many conflicts comes to. The faults of the model come first, then those of
+-- the parameters.
+unfoldable pub solve_outcome : ℕ → TextTree → TextTree → Outcome Task
+solve_outcome conflicts model params =
     unless_refused (fault_refusals TextFile.Model (text_faults model))
     (unless_refused (fault_refusals TextFile.Params (params_faults params))
-    (and_then (instance_of model params) (λ i.
-    unless_refused (count_refusals i) (Ok (to_solve i)))))
+    (and_then (instance_of model params) (λ i. Ok (to_solve i conflicts))))
 
 -- what judging a solution text by an instance comes to
 unfoldable pub judge_outcome : Instance → TextTree → Outcome Task

@@ -1,5 +1,6 @@
 -- What a run may put out, and how much of it.
 use Rattle.std.specs.Prelude.{◌≡◌, ◌≤◌, ◌⊎◌, ℕ, List, codes, length, take, Option, Contains, IfSome}
+use Rattle.cnf_core.specs.Events.{LogState}
 use Rattle.ep_base.specs.Outside.{Held, TookPart, with_more}
 use Rattle.ep_print.specs.Refusals.{refusal_text}
 use Rattle.ep_print.specs.declared.refusals.Refusal.{Refusal}
@@ -25,17 +26,17 @@ abbrev pub IsFailedRead : List (List ℕ) → Option Held → List ℕ → Type 
 IsFailedRead words told name =
     NameFile words name × IfSome told (λ held. Refuse words (without name held) (Refusal.CannotRead name))
 
--- a text of an answer or a refusal that the words and the held files show
-abbrev pub IsShownText : List (List ℕ) → Held → List ℕ → Type 0
-IsShownText words held text =
+-- a text of an answer, with its log, or of a refusal that the words and the held files show
+abbrev pub IsShownText : List (List ℕ) → Held → LogState → List ℕ → Type 0
+IsShownText words held log text =
     ((status : Status) × Refuses words held status text)
-    ⊎ ((task : Task) × (status : Status) × Ask words held task × Answers task status text)
+    ⊎ ((task : Task) × (status : Status) × Ask words held task × Answers task status text log)
 
 -- A text that a run may put out, where `rose` says that the files counted a fault: one that the words and the held files
 -- show, or the line of a file whose read failed. Where the files don't tell what they hold, nothing is said of it.
-abbrev pub MayBePut : List (List ℕ) → Option Held → Type 0 → List ℕ → Type 0
-MayBePut words told rose text =
-    IfSome told (λ held. IsShownText words held text)
+abbrev pub MayBePut : List (List ℕ) → Option Held → Type 0 → LogState → List ℕ → Type 0
+MayBePut words told rose log text =
+    IfSome told (λ held. IsShownText words held log text)
     ⊎ (rose × (name : List ℕ) × IsFailedRead words told name × (text ≡ device_line name))
 
 -- of these bytes a first part was taken, or the whole, and nothing else
@@ -45,7 +46,7 @@ TookFirst bytes before after =
 
 -- memory was wanting: of the line that says so a first part was taken, or of one text that may be put out a part that
 -- isn't the whole
-abbrev pub TookOnWant : List (List ℕ) → Option Held → Type 0 → Option (List ℕ) → Option (List ℕ) → Type 0
-TookOnWant words told rose before after =
+abbrev pub TookOnWant : List (List ℕ) → Option Held → Type 0 → LogState → Option (List ℕ) → Option (List ℕ) → Type 0
+TookOnWant words told rose log before after =
     TookFirst (codes "memory\n") before after
-    ⊎ ((text : List ℕ) × MayBePut words told rose text × TookPart text before after)
+    ⊎ ((text : List ℕ) × MayBePut words told rose log text × TookPart text before after)

@@ -21,10 +21,10 @@ ThenShows reads next outcome =
     ((tree : TextTree) × reads (Ok tree) × next tree outcome)
     ⊎ ((refusal : Refusal) × reads (Err refusal) × (outcome ≡ Err (refusal ∷ [])))
 
--- a model that was read is solved: its parameters are read
-abbrev pub comes_to_solve : Option (List ℕ) → TextTree → Held → Outcome Task → Type 0
-comes_to_solve params model held =
-    ThenShows (AreParams held params) (λ p outcome. outcome ≡ solve_outcome model p)
+-- a model that was read is solved within so many conflicts: its parameters are read
+abbrev pub comes_to_solve : ℕ → Option (List ℕ) → TextTree → Held → Outcome Task → Type 0
+comes_to_solve conflicts params model held =
+    ThenShows (AreParams held params) (λ p outcome. outcome ≡ solve_outcome conflicts model p)
 
 -- a model and its parameters were read, and a solution is judged: its text is read
 abbrev pub comes_to_judge : List ℕ → TextTree → TextTree → Held → Outcome Task → Type 0
@@ -38,8 +38,8 @@ comes_to_verify params solution model held =
 
 -- what is wanted comes to this over held files: the model is read first
 abbrev pub ComesTo : Wanted → Held → Outcome Task → Type 0
-ComesTo (Wanted.Solve model params) held =
-    ThenShows (IsReadAs held TextFile.Model model) (λ m. comes_to_solve params m held)
+ComesTo (Wanted.Solve model params conflicts) held =
+    ThenShows (IsReadAs held TextFile.Model model) (λ m. comes_to_solve conflicts params m held)
 ComesTo (Wanted.Verify model params solution) held =
     ThenShows (IsReadAs held TextFile.Model model) (λ m. comes_to_verify params solution m held)
 

@@ -1,5 +1,5 @@
 -- How a run ends.
-use Rattle.std.specs.Prelude.{ℕ}
+use Rattle.std.specs.Prelude.{◌≡◌, ◌⊎◌, ℕ}
 use Rattle.ep_print.specs.declared.refusals.Refusal.{Refusal}
 use Rattle.ep_run.specs.declared.status.Status.{Status}
 
@@ -13,6 +13,10 @@ code_of Status.Limit = 4
 code_of Status.Device = 5
 code_of Status.Memory = 6
 code_of Status.Refuted = 7
+
+-- a run ends with a reply: an answer, the end of its budget, or the judgement of what is no solution
+abbrev pub HasReply : Status → Type 0
+HasReply s = (s ≡ Status.Answered) ⊎ ((s ≡ Status.Unknown) ⊎ (s ≡ Status.Refuted))
 
 -- how a run ends that is refused
 unfoldable pub status_of : Refusal → Status
@@ -34,7 +38,6 @@ status_of (Refusal.TooLong _) = Status.Limit
 status_of (Refusal.LongNumber _ _) = Status.Limit
 status_of (Refusal.TooHigh _ _) = Status.Limit
 status_of (Refusal.Over _) = Status.Limit
-status_of Refusal.TooManyToTry = Status.Limit
 status_of (Refusal.CannotRead _) = Status.Device
 status_of (Refusal.CannotWrite _) = Status.Device
 status_of Refusal.Memory = Status.Memory

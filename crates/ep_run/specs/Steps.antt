@@ -1,5 +1,6 @@
 -- What the steps of a run tell.
 use Rattle.std.specs.Prelude.{◌≡◌, ◌⊎◌, ◌+◌, ℕ, List, [], ◌∷◌, Option, Some, None, Ok, Err, Result, Contains, IfSome, IsSomeAnd}
+use Rattle.cnf_core.specs.Events.{LogState}
 use Rattle.ep_base.specs.Outside.{Held, ReadGives}
 use Rattle.ep_tree.specs.Statements.{TextTree}
 use Rattle.ep_tree.specs.Texts.{MOST_BYTES}
@@ -13,6 +14,8 @@ use Rattle.ep_tree.specs.SolutionTexts.{Shaped as PlainShaped, fits, read_soluti
 use Rattle.ep_tree.specs.Solutions.{Fits, Found, judgement}
 use Rattle.ep_tree.specs.declared.values.Mode.{Mode}
 use Rattle.ep_instance.specs.declared.judging.Shaped.{Shaped}
+use Rattle.ep_solve.specs.Right.{IsSpent, empty_log}
+use Rattle.sat_search.specs.Logs.{IsSound}
 use Rattle.ep_run.specs.Answers.{Answers, judgement_status, judgement_text}
 use Rattle.ep_run.specs.Commands.{AreNoCommand, Want, files_of}
 use Rattle.ep_run.specs.Outcomes.{Outcome, Task, as_outcome}
@@ -51,11 +54,11 @@ Passes refusals (Err (Stop.Refused refusal)) = IsOfText refusal × Contains refu
 Passes refusals (Err Stop.Memory) = Unit {0}
 
 -- a reply answers the task that comes out, or one of the refusals
-abbrev pub TellsReply : Outcome Task → Result Reply Stop → Type 0
-TellsReply outcome (Ok reply) =
-    (task : Task) × (outcome ≡ Ok task) × Answers task reply.status reply.text.items
-TellsReply outcome (Err (Stop.Refused refusal)) = IsOfText refusal × IsAmong outcome refusal
-TellsReply outcome (Err Stop.Memory) = Unit {0}
+abbrev pub TellsReply : Outcome Task → LogState → Result Reply Stop → Type 0
+TellsReply outcome log (Ok reply) =
+    (task : Task) × (outcome ≡ Ok task) × Answers task reply.status reply.text.items log
+TellsReply outcome log (Err (Stop.Refused refusal)) = IsOfText refusal × IsAmong outcome refusal
+TellsReply outcome log (Err Stop.Memory) = Unit {0}
 
 -- a status and a text are those of the judgement of an assignment
 abbrev pub IsJudged : Instance → Found → Status → List ℕ → Type 0
@@ -141,47 +144,60 @@ IsFaulty shows told refusal =
     × IfSome told (λ held. (refusals : List Refusal) × shows held (Err refusals) × Contains refusals refusal)
 
 -- a task comes out, and the reply answers it
-abbrev pub IsAnswer : Shows → Option Held → Status → List ℕ → Type 0
-IsAnswer shows told status text =
-    IfSome told (λ held. (task : Task) × shows held (Ok task) × Answers task status text)
+abbrev pub IsAnswer : Shows → Option Held → Status → List ℕ → LogState → Type 0
+IsAnswer shows told status text log =
+    IfSome told (λ held. (task : Task) × shows held (Ok task) × Answers task status text log)
 
 -- what a run tells that has some files to read
-abbrev pub TellsTask : List (List ℕ) → Shows → Option Held → Type 0 → Result Reply Stop → Type 0
-TellsTask names shows told rose (Ok reply) = IsAnswer shows told reply.status reply.text.items
-TellsTask names shows told rose (Err (Stop.Refused refusal)) =
+abbrev pub TellsTask : List (List ℕ) → Shows → Option Held → Type 0 → LogState → Result Reply Stop → Type 0
+TellsTask names shows told rose log (Ok reply) = IsAnswer shows told reply.status reply.text.items log
+TellsTask names shows told rose log (Err (Stop.Refused refusal)) =
     IsFailed names shows told rose refusal ⊎ IsFaulty shows told refusal
-TellsTask names shows told rose (Err Stop.Memory) = Unit {0}
+TellsTask names shows told rose log (Err Stop.Memory) = Unit {0}
 
--- how a run may end that has its answer
-abbrev pub IsEnd : Wanted → Status → Type 0
-IsEnd (Wanted.Solve _ _) status = status ≡ Status.Answered
-IsEnd (Wanted.Verify _ _ _) status = (status ≡ Status.Answered) ⊎ (status ≡ Status.Refuted)
+-- How a search within so many conflicts may end: with its answer, or with as many steps in the log. The steps of the log are
+-- valid, and those with a literal new and effective.
+abbrev pub IsSearched : ℕ → Status → LogState → Type 0
+IsSearched conflicts status log =
+    IsSound log.events × ((status ≡ Status.Answered) ⊎ ((status ≡ Status.Unknown) × IsSpent conflicts log.events))
 
--- how a run ends, where it has its answer
-abbrev pub EndsAs : Wanted → Result Reply Stop → Type 0
-EndsAs wanted (Ok reply) = IsEnd wanted reply.status
-EndsAs wanted (Err stop) = Unit {0}
+-- how a run may end that has its answer, and with which log
+abbrev pub IsEnd : Wanted → Status → LogState → Type 0
+IsEnd (Wanted.Solve _ _ conflicts) status log = IsSearched conflicts status log
+IsEnd (Wanted.Verify _ _ _) status log =
+    (log ≡ empty_log) × ((status ≡ Status.Answered) ⊎ (status ≡ Status.Refuted))
 
--- a status and a text that are said to what is wanted
-abbrev pub SaysTo : Wanted → Option Held → Type 0 → Status → List ℕ → Type 0
-SaysTo wanted told rose status text =
-    (IsEnd wanted status × IsAnswer (ComesTo wanted) told status text)
-    ⊎ ((refusal : Refusal) × (status ≡ status_of refusal) × (text ≡ refusal_text refusal)
+-- an answer ends so; nothing is logged where there is a refusal
+abbrev pub EndsBy : (Status → Type 0) → LogState → Result Reply Stop → Type 0
+EndsBy End log (Ok reply) = End reply.status
+EndsBy End log (Err (Stop.Refused refusal)) = log ≡ empty_log
+EndsBy End log (Err Stop.Memory) = Unit {0}
+
+-- how a run ends
+abbrev pub EndsAs : Wanted → LogState → Result Reply Stop → Type 0
+EndsAs wanted log result = EndsBy (λ status. IsEnd wanted status log) log result
+
+-- a status, a text and a log with which what is wanted is answered
+abbrev pub SaysTo : Wanted → Option Held → Type 0 → Status → List ℕ → LogState → Type 0
+SaysTo wanted told rose status text log =
+    (IsEnd wanted status log × IsAnswer (ComesTo wanted) told status text log)
+    ⊎ ((refusal : Refusal) × (status ≡ status_of refusal) × (text ≡ refusal_text refusal) × (log ≡ empty_log)
     × (IsFailed (files_of wanted) (ComesTo wanted) told rose refusal ⊎ IsFaulty (ComesTo wanted) told refusal))
 
--- a status and a text that are said to the words
-abbrev pub Says : List (List ℕ) → Option Held → Type 0 → Status → List ℕ → Type 0
-Says words told rose status text =
-    ((status ≡ Status.Usage) × (text ≡ refusal_text Refusal.Usage) × AreNoCommand words)
-    ⊎ ((wanted : Wanted) × Want words wanted × SaysTo wanted told rose status text)
+-- a status, a text and a log with which the words are answered
+abbrev pub Says : List (List ℕ) → Option Held → Type 0 → Status → List ℕ → LogState → Type 0
+Says words told rose status text log =
+    ((status ≡ Status.Usage) × (text ≡ refusal_text Refusal.Usage) × (log ≡ empty_log) × AreNoCommand words)
+    ⊎ ((wanted : Wanted) × Want words wanted × SaysTo wanted told rose status text log)
 
 -- what a run tells of the words
-abbrev pub TellsRun : List (List ℕ) → Option Held → Type 0 → Result Reply Stop → Type 0
-TellsRun words told rose (Ok reply) =
-    (wanted : Wanted) × Want words wanted × IsEnd wanted reply.status
-    × IsAnswer (ComesTo wanted) told reply.status reply.text.items
-TellsRun words told rose (Err (Stop.Refused refusal)) =
-    ((refusal ≡ Refusal.Usage) × AreNoCommand words)
+abbrev pub TellsRun : List (List ℕ) → Option Held → Type 0 → LogState → Result Reply Stop → Type 0
+TellsRun words told rose log (Ok reply) =
+    (wanted : Wanted) × Want words wanted × IsEnd wanted reply.status log
+    × IsAnswer (ComesTo wanted) told reply.status reply.text.items log
+TellsRun words told rose log (Err (Stop.Refused refusal)) =
+    (log ≡ empty_log)
+    × (((refusal ≡ Refusal.Usage) × AreNoCommand words)
     ⊎ ((wanted : Wanted) × Want words wanted
-    × (IsFailed (files_of wanted) (ComesTo wanted) told rose refusal ⊎ IsFaulty (ComesTo wanted) told refusal))
-TellsRun words told rose (Err Stop.Memory) = Unit {0}
+    × (IsFailed (files_of wanted) (ComesTo wanted) told rose refusal ⊎ IsFaulty (ComesTo wanted) told refusal)))
+TellsRun words told rose log (Err Stop.Memory) = Unit {0}

@@ -1,6 +1,8 @@
 //! What is wrong in the texts of a run and in its instance.
 
 ghost use Rattle.std.specs.Prelude.{◌≡◌, [], IfOk};
+ghost use Rattle.std.specs.List.{All};
+ghost use Rattle.ep_base.specs.Reads.{IsWithinNumbers};
 ghost use Rattle.ep_tree.specs.Closed.{IsClosed};
 ghost use Rattle.ep_tree.specs.Faults.{params_faults, text_faults};
 ghost use Rattle.ep_tree.specs.Solutions.{instance_limits};
@@ -50,6 +52,7 @@ pub fn instance_of(alloc: Global, model: Typed, params: TypedParams) -> Result<I
         (instance_of (typed_tree model) (typed_params_tree params)) result }
     ensures mode { IfOk result (λ i. mode_of i ≡ ModeValue.Relational) }
     ensures closed { IfOk result (λ i. IsClosed (plain_instance i)) }
+    ensures numbers { IfOk result (λ i. All (λ f. All IsWithinNumbers f.values) (plain_instance i).finds) }
     ensures within { IfOk result (λ i.
         instance_limits ModeValue.Relational (plain_instance i) ≡ []) }
 {
@@ -64,6 +67,7 @@ fn bound(alloc: Global, model: Typed, params: TypedParams) -> Result<Instance, S
         (bound_outcome (typed_tree model) (typed_params_tree params)) result }
     ensures mode { IfOk result (λ i. mode_of i ≡ ModeValue.Relational) }
     ensures closed { IfOk result (λ i. IsClosed (plain_instance i)) }
+    ensures numbers { IfOk result (λ i. All (λ f. All IsWithinNumbers f.values) (plain_instance i).finds) }
 {
     match bind(alloc, model, params, Mode::Relational) {
         Ok(instance) => Ok(instance),

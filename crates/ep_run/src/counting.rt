@@ -1,31 +1,27 @@
 //! How many assignments there are, and whether these are few enough to try them.
 
-ghost use Rattle.std.specs.Prelude.{◌≡◌, ◌≤◌, ◌*◌, ◌^◌, map, length, IfOk};
+ghost use Rattle.std.specs.Prelude.{◌≡◌, ◌≤◌, ◌<◌, ◌*◌, ◌^◌, map, length, MatchOption};
 ghost use Rattle.ep_instance.specs.Instances.{find_of, instance_of as plain_instance};
 ghost use Rattle.ep_tree.specs.Solutions.{cell_count};
-ghost use Rattle.ep_run.specs.Counts.{capped};
-ghost use Rattle.ep_run.specs.Outcomes.{assignment_count, count_refusals, product_of, value_count};
-ghost use Rattle.ep_run.specs.Steps.{Passes};
+ghost use Rattle.ep_run.specs.Counts.{MOST_ASSIGNMENTS, assignment_count, capped, product_of, value_count};
 
 use super::numbers::number_count;
-use super::stops::Stop;
 use ep_base::Runs;
 use ep_instance::{Find, Instance};
-use ep_print::Refusal;
 
 /// No more assignments than these are tried.
 const MOST_ASSIGNMENTS: u64 = 1_000_000;
 
 /// The count of an instance's assignments, if they are few enough to try them.
-pub fn check_count(instance: &Instance) -> Result<u64, Stop>
-    ensures passes { Passes (count_refusals (plain_instance instance.now)) result }
-    ensures count { IfOk result (λ count. count ≡ assignment_count (plain_instance instance.now)) }
+pub fn few_assignments(instance: &Instance) -> Option<u64>
+    ensures { MatchOption result (MOST_ASSIGNMENTS < assignment_count (plain_instance instance.now)) (λ count.
+        (count ≡ assignment_count (plain_instance instance.now)) × (count ≤ MOST_ASSIGNMENTS)) }
 {
     let count = assignment_count(instance.finds());
     if count > MOST_ASSIGNMENTS {
-        return Err(Stop::Refused(Refusal::TooManyToTry));
+        return None;
     }
-    Ok(count)
+    Some(count)
 }
 
 /// How many assignments give each decision variable one of its values, cut off.

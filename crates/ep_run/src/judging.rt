@@ -1,15 +1,15 @@
 //! Says whether a solution text is a solution.
 
-ghost use Rattle.std.specs.Prelude.{◌≡◌, [], ◌++◌, codes, IfOk, OnOk};
+ghost use Rattle.std.specs.Prelude.{◌≡◌, [], ◌++◌, codes, IfOk};
 ghost use Rattle.std.specs.Fmt.{decimal, signed_decimal};
 ghost use Rattle.ep_tree.specs.Closed.{IsClosed};
-ghost use Rattle.ep_tree.specs.SolutionTexts.{read_solution};
 ghost use Rattle.ep_tree.specs.Solutions.{Fits, Found, instance_limits};
 ghost use Rattle.ep_tree.specs.Views.{assigned};
 ghost use Rattle.ep_tree.specs.declared.values.Mode.{Mode};
 ghost use Rattle.ep_types.specs.Texts.{typed_params_tree};
 ghost use Rattle.ep_instance.specs.Instances.{instance_of as plain_instance, mode_of};
 ghost use Rattle.ep_instance.specs.Judgements.{judgement_of};
+ghost use Rattle.ep_solve.specs.Right.{empty_log};
 ghost use Rattle.ep_run.specs.Answers.{judgement_status, judgement_text, wrong_shape_text};
 ghost use Rattle.ep_run.specs.Outcomes.{judge_outcome};
 ghost use Rattle.ep_run.specs.Steps.{IsJudged, TellsReply, TellsShape};
@@ -35,7 +35,7 @@ pub fn judged_reply(
     requires closed { IsClosed (plain_instance instance.now) }
     requires within { instance_limits Mode.Relational (plain_instance instance.now) ≡ [] }
     ensures { TellsReply
-        (judge_outcome (plain_instance instance.now) (typed_params_tree solution)) result }
+        (judge_outcome (plain_instance instance.now) (typed_params_tree solution)) empty_log result }
 {
     match shaped(alloc, instance, solution)? {
         Shaped::Fits(assignment) => Ok(judged(alloc, instance, &assignment)?),

@@ -1,6 +1,7 @@
 //! The top call: from the words and the bytes of files to the answer's text.
 #![tactic(auto)]
 
+mod answering;
 mod candidates;
 mod checking;
 mod counting;

@@ -3,6 +3,7 @@
 ghost use Rattle.std.specs.Prelude.{◌≡◌, ◌≤◌, IfOk};
 ghost use Rattle.ep_base.specs.Outside.{Rose};
 ghost use Rattle.ep_print.specs.Refusals.{refusal_text};
+ghost use Rattle.ep_solve.specs.Right.{empty_log};
 ghost use Rattle.ep_run.specs.Status.{status_of};
 ghost use Rattle.ep_run.specs.Steps.{Says, TellsRun};
 
@@ -10,6 +11,7 @@ use super::runs::do_wanted;
 use super::status::Status;
 use super::stops::{Stop, status_of};
 use super::wanted::read_wanted;
+use cnf_core::Log;
 use ep_base::{Files, Memory, Word};
 use ep_print::{Refusal, refusal_line};
 use std::alloc::Global;
@@ -22,13 +24,19 @@ pub struct Reply {
 }
 
 /// What the words ask to be said.
-pub fn reply_to<F: Files>(alloc: Global, words: &[Word], files: &mut F) -> Result<Reply, Memory>
+pub fn reply_to<F: Files>(
+    alloc: Global,
+    words: &[Word],
+    files: &mut F,
+    log: &mut Log,
+) -> Result<Reply, Memory>
+    requires empty { log.old ≡ empty_log }
     ensures says { IfOk result (λ reply. Says words.now (F.held files.old)
-        (Rose (F.faults files.old) (F.faults files.new)) reply.status reply.text.items) }
+        (Rose (F.faults files.old) (F.faults files.new)) reply.status reply.text.items log.new) }
     ensures held { F.held files.new ≡ F.held files.old }
     ensures faults { F.faults files.old ≤ F.faults files.new }
 {
-    match run_words(alloc, words, files) {
+    match run_words(alloc, words, files, log) {
         Ok(reply) => Ok(reply),
         Err(Stop::Refused(refusal)) => refused(alloc, &refusal),
         Err(Stop::Memory) => Err(Memory),
@@ -36,14 +44,20 @@ pub fn reply_to<F: Files>(alloc: Global, words: &[Word], files: &mut F) -> Resul
 }
 
 /// Does what the words want.
-fn run_words<F: Files>(alloc: Global, words: &[Word], files: &mut F) -> Result<Reply, Stop>
+fn run_words<F: Files>(
+    alloc: Global,
+    words: &[Word],
+    files: &mut F,
+    log: &mut Log,
+) -> Result<Reply, Stop>
+    requires empty { log.old ≡ empty_log }
     ensures tells { TellsRun words.now (F.held files.old)
-        (Rose (F.faults files.old) (F.faults files.new)) result }
+        (Rose (F.faults files.old) (F.faults files.new)) log.new result }
     ensures held { F.held files.new ≡ F.held files.old }
     ensures faults { F.faults files.old ≤ F.faults files.new }
 {
     let wanted = read_wanted(alloc, words)?;
-    do_wanted(alloc, files, &wanted)
+    do_wanted(alloc, files, &wanted, log)
 }
 
 /// The status and the line of a refusal.

@@ -1,7 +1,6 @@
 //! Tries the assignments of an instance, one after another.
 
 ghost use Rattle.std.specs.Prelude.{◌≡◌, ◌+◌, ◌<◌, [], Some, None, ℕ, IfOk, OnOk};
-ghost use Rattle.ep_base.specs.declared.operators.Sense.{Sense as SenseValue};
 ghost use Rattle.ep_tree.specs.Binding.{Instance as InstanceValue};
 ghost use Rattle.ep_tree.specs.Closed.{IsClosed};
 ghost use Rattle.ep_tree.specs.Solutions.{better_number, instance_limits};
@@ -11,9 +10,11 @@ ghost use Rattle.ep_tree.specs.declared.values.Mode.{Mode};
 ghost use Rattle.ep_instance.specs.Instances.{instance_of as plain_instance, mode_of};
 ghost use Rattle.ep_instance.specs.Judgements.{IsJudgeOf, judgement_of};
 ghost use Rattle.ep_print.specs.Answers.{HasTypedValues, answer_tree};
-ghost use Rattle.ep_run.specs.Answers.{IsRight};
+ghost use Rattle.ep_solve.specs.Right.{IsRight};
+ghost use Rattle.ep_run.specs.Answers.{answer_status};
 ghost use Rattle.ep_run.specs.Candidates.{IsBest, IsNumbered, IsSolving, judgement_at, objective_of, solves};
-ghost use Rattle.ep_run.specs.Outcomes.{assignment_count};
+ghost use Rattle.ep_run.specs.Counts.{assignment_count};
+ghost use Rattle.ep_run.specs.declared.status.Status.{Status};
 
 use super::candidates::{assignment_at, set_values};
 use ep_base::{Memory, Sense};
@@ -24,12 +25,14 @@ use std::alloc::Global;
 
 /// The answer of an instance: a solution, an optimum where an objective is stated, or that there is
 /// none. Tries so many assignments as there are.
-pub fn answer_of(alloc: Global, instance: &Instance, count: u64) -> Result<Answer, Memory>
+pub fn tried_answer(alloc: Global, instance: &Instance, count: u64) -> Result<Answer, Memory>
     requires mode { mode_of instance.now ≡ Mode.Relational }
     requires closed { IsClosed (plain_instance instance.now) }
     requires within { instance_limits Mode.Relational (plain_instance instance.now) ≡ [] }
     requires all { count ≡ assignment_count (plain_instance instance.now) }
-    ensures right { IfOk result (λ answer. IsRight (plain_instance instance.now) (answer_tree answer)) }
+    ensures right { IfOk result (λ answer. (conflicts : ℕ)
+        → IsRight Mode.Relational (plain_instance instance.now) conflicts (answer_tree answer)) }
+    ensures answered { IfOk result (λ answer. answer_status (answer_tree answer) ≡ Status.Answered) }
     ensures typed { IfOk result (λ answer. HasTypedValues (answer_tree answer)) }
 {
     match instance.objective() {
@@ -45,7 +48,9 @@ fn any_answer(alloc: Global, instance: &Instance, count: u64) -> Result<Answer, 
     requires within { instance_limits Mode.Relational (plain_instance instance.now) ≡ [] }
     requires all { count ≡ assignment_count (plain_instance instance.now) }
     requires goal { (plain_instance instance.now).goal ≡ None }
-    ensures right { IfOk result (λ answer. IsRight (plain_instance instance.now) (answer_tree answer)) }
+    ensures right { IfOk result (λ answer. (conflicts : ℕ)
+        → IsRight Mode.Relational (plain_instance instance.now) conflicts (answer_tree answer)) }
+    ensures answered { IfOk result (λ answer. answer_status (answer_tree answer) ≡ Status.Answered) }
     ensures typed { IfOk result (λ answer. HasTypedValues (answer_tree answer)) }
 {
     match first_solution(alloc, instance, count)? {
@@ -69,7 +74,9 @@ fn best_answer(
     requires within { instance_limits Mode.Relational (plain_instance instance.now) ≡ [] }
     requires all { count ≡ assignment_count (plain_instance instance.now) }
     requires goal { (e : ExprTree) × ((plain_instance instance.now).goal ≡ Some (sense, e)) }
-    ensures right { IfOk result (λ answer. IsRight (plain_instance instance.now) (answer_tree answer)) }
+    ensures right { IfOk result (λ answer. (conflicts : ℕ)
+        → IsRight Mode.Relational (plain_instance instance.now) conflicts (answer_tree answer)) }
+    ensures answered { IfOk result (λ answer. answer_status (answer_tree answer) ≡ Status.Answered) }
     ensures typed { IfOk result (λ answer. HasTypedValues (answer_tree answer)) }
 {
     match best_solution(alloc, instance, sense, count)? {

@@ -65,8 +65,7 @@ pub fn status_of(refusal: &Refusal) -> Status
         Refusal::TooLong(_)
         | Refusal::LongNumber(_, _)
         | Refusal::TooHigh(_, _)
-        | Refusal::Over(_)
-        | Refusal::TooManyToTry => Status::Limit,
+        | Refusal::Over(_) => Status::Limit,
         Refusal::CannotRead(_) | Refusal::CannotWrite(_) => Status::Device,
         Refusal::Memory => Status::Memory,
     }

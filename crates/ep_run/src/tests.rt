@@ -2,6 +2,7 @@
 //! fail. With ample memory none of them ends for want of it.
 
 use crate::{Status, run};
+use cnf_core::Log;
 use ep_base::{MemFiles, MemSink, Word};
 use std::alloc::{AllocError, Global};
 use std::process::Abort;
@@ -44,7 +45,8 @@ fn run_on<R: Threads + AllocGlobal>(
     files.hold("m", texts.model)?;
     files.hold("p", texts.params.as_bytes())?;
     files.hold("s", texts.solution.as_bytes())?;
-    Ok(run(rt, alloc, &list, &mut files, out))
+    let mut log = Log::new(alloc);
+    Ok(run(rt, alloc, &list, &mut files, out, &mut log))
 }
 
 /// The first line of each model and each answer, and more.
@@ -185,11 +187,71 @@ fn models_have_their_answers(rt: HostRuntime) -> Result<(), Fail> {
             "",
             "$ no solution\n",
         ),
+        (
+            "find x : matrix indexed by [int(1..2)] of int(0..3)\n\
+             such that sum([x[i] * i | i : int(1..3), i < 3]) = 9, allDiff([x[i] - i | i : int(1..2)])",
+            "",
+            "$ solution\nletting x be [3, 3; int(1..2)]\n",
+        ),
+        (
+            "find x, y : int(0..3)\nsuch that [x, y, 3][x] = 2, x ** 2 = 4",
+            "",
+            "$ solution\nletting x be 2\nletting y be 2\n",
+        ),
+        (
+            "letting m be [7]\nfind x : int(1..2)\nsuch that forAll i : int(1..2) . x = i \\/ x + m[i] > 0",
+            "",
+            "$ solution\nletting x be 2\n",
+        ),
+        (
+            "find m : matrix indexed by [int(1..2), int(1..1), int(1..2)] of bool\nsuch that and(flatten(m[.., 1, ..]))",
+            "",
+            "$ solution\nletting m be [[[true, true; int(1..2)]; int(1)], [[true, true; int(1..2)]; int(1)]; int(1..2)]\n",
+        ),
     ] {
         let answer = with_first_line(rt.alloc(), want)?;
         check_model(&rt, model, params, Status::Answered, answer.as_str())?;
     }
     Ok(())
+}
+
+/// Five pigeons of which each sits in one of four holes, and no two in one.
+const PIGEONS: &str = "find sits : matrix indexed by [int(1..5), int(1..4)] of bool
+such that forAll i : int(1..5) . exists j : int(1..4) . sits[i, j],
+forAll j : int(1..4) . forAll i, k : int(1..5) . i < k -> !(sits[i, j] /\\ sits[k, j])
+";
+
+#[test]
+fn greater_models_are_solved_by_clauses(rt: HostRuntime) -> Result<(), Fail> {
+    for (model, want) in [
+        (
+            "find x : matrix indexed by [int(1..7)] of int(1..8)\nsuch that (sum i : int(1..7) . x[i]) = 56",
+            "$ solution\nletting x be [8, 8, 8, 8, 8, 8, 8; int(1..7)]\n",
+        ),
+        (
+            "find x : matrix indexed by [int(1..7)] of int(1..8)\nminimising sum i : int(1..7) . x[i]",
+            "$ optimum 7\nletting x be [1, 1, 1, 1, 1, 1, 1; int(1..7)]\n",
+        ),
+        (PIGEONS, "$ no solution\n"),
+    ] {
+        let answer = with_first_line(rt.alloc(), want)?;
+        check_model(&rt, model, "", Status::Answered, answer.as_str())?;
+    }
+    Ok(())
+}
+
+#[test]
+fn a_spent_budget_is_said(rt: HostRuntime) -> Result<(), Fail> {
+    let alloc = rt.alloc();
+    let model = with_first_line(alloc, PIGEONS)?;
+    let texts = Texts {
+        model: model.as_bytes(),
+        params: "",
+        solution: "",
+    };
+    let want = with_first_line(alloc, "$ unknown 1 conflicts\n")?;
+    let words = ["--in-eprime", "m", "--conflicts", "1"];
+    check_run(&rt, &words, &texts, Status::Unknown, want.as_str())
 }
 
 #[test]
@@ -322,12 +384,17 @@ fn faults_and_limits_have_their_lines(rt: HostRuntime) -> Result<(), Fail> {
             Status::Limit,
             "limit L6\n",
         ),
-        (MONEY, "", Status::Limit, "limit early\n"),
         (
-            "find x : int(1..1000)\nfind y : int(1..1001)",
+            "find x : int(0..16385)\nsuch that x ** 3 = 8",
             "",
             Status::Limit,
-            "limit early\n",
+            "limit L5\n",
+        ),
+        (
+            "find x : matrix indexed by [int(1..2)] of int(0..9999)\nsuch that product([x[i] | i : int(1..2)]) = 6",
+            "",
+            Status::Limit,
+            "limit L6\n",
         ),
     ] {
         check_model(&rt, model, params, status, want)?;

@@ -1,41 +1,52 @@
 //! The top call.
 
 ghost use Rattle.std.specs.Prelude.{◌≡◌, ◌≢◌, ◌⊎◌, ◌≤◌, ℕ, List, Err, Contains, IfSome, IsSomeAnd, Option, codes};
-ghost use Rattle.ep_base.specs.Outside.{Held, Rose, TookPart, with_more};
+ghost use Rattle.ep_base.specs.Outside.{Rose, TookPart, with_more};
 ghost use Rattle.ep_print.specs.Refusals.{refusal_text};
 ghost use Rattle.ep_print.specs.declared.refusals.Refusal.{Refusal};
+ghost use Rattle.ep_solve.specs.Right.{IsSpent, empty_log};
+ghost use Rattle.sat_search.specs.Logs.{IsSound};
 ghost use Rattle.ep_run.specs.Answers.{Answers};
 ghost use Rattle.ep_run.specs.Commands.{AreNoCommand, Want};
 ghost use Rattle.ep_run.specs.Outcomes.{Task};
 ghost use Rattle.ep_run.specs.Puts.{IsFailedRead, MayBePut, TookFirst, TookOnWant, device_line};
-ghost use Rattle.ep_run.specs.Shown.{Ask, Refuse, Refuses, Show};
-ghost use Rattle.ep_run.specs.Status.{status_of};
+ghost use Rattle.ep_run.specs.Shown.{Ask, Refuses, Show};
+ghost use Rattle.ep_run.specs.Status.{HasReply, status_of};
 ghost use Rattle.ep_run.specs.declared.status.Status.{Status as StatusValue};
 ghost use Rattle.ep_run.specs.declared.wanted.Wanted.{Wanted};
 
 use super::replies::reply_to;
 use super::status::Status;
+use cnf_core::Log;
 use ep_base::{Files, PutError, Sink, Word, put_all};
 use ep_parse_model::texts_have_one_answer;
 use ep_words::one_job_for_words;
 use std::alloc::Global;
 use std::thread::Threads;
 
-/// Does what the words ask for, and says how it ended.
+/// Does what the words ask for, and says how it ended. What the solver was given and the steps that it
+/// made stand in the log then; where few assignments were tried it stays empty.
 pub fn run<R: Threads, F: Files, K: Sink>(
     rt: &R,
     alloc: Global,
     words: &[Word],
     files: &mut F,
     out: &mut K,
+    log: &mut Log,
 ) -> Status
+    requires empty { log.old ≡ empty_log }
     // An answer is right for the task that the words and the held files show: an optimum or a
-    // solution, or that there is none; a judgement of a solution text. Its text was put out, and
-    // nothing else.
-    ensures answered { (result ≡ StatusValue.Answered) ⊎ (result ≡ StatusValue.Refuted) →
+    // solution, that there is none, or that the conflicts were spent, with the best solution so far;
+    // a judgement of a solution text. Its text was put out, and nothing else. The log shows the answer of
+    // a search.
+    ensures answered { HasReply result →
         IfSome (F.held files.old) (λ held. (task : Task) × (text : List ℕ)
-        × Ask words.now held task × Answers task result text
+        × Ask words.now held task × Answers task result text log.new
         × (K.taken out.new ≡ with_more text (K.taken out.old))) }
+    ensures unknown { result ≡ StatusValue.Unknown →
+        (model : List ℕ) × (params : Option (List ℕ)) × (conflicts : ℕ)
+        × Want words.now (Wanted.Solve model params conflicts)
+        × IsSpent conflicts log.new.events }
     ensures refuted { result ≡ StatusValue.Refuted →
         (model : List ℕ) × (params : Option (List ℕ)) × (solution : List ℕ)
         × Want words.now (Wanted.Verify model params solution) }
@@ -69,16 +80,13 @@ pub fn run<R: Threads, F: Files, K: Sink>(
         × (K.taken out.new ≡ with_more (device_line name) (K.taken out.old)))
         ⊎ (Rose (K.faults out.old) (K.faults out.new) × (text : List ℕ)
         × MayBePut words.now (F.held files.old)
-        (Rose (F.faults files.old) (F.faults files.new)) text
+        (Rose (F.faults files.old) (F.faults files.new)) log.new text
         × TookPart text (K.taken out.old) (K.taken out.new)) }
 
     // Where memory was wanting, the sink took no more than its line, or a part of one text that may
     // be put out.
     ensures wanting { result ≡ StatusValue.Memory → TookOnWant words.now (F.held files.old)
-        (Rose (F.faults files.old) (F.faults files.new)) (K.taken out.old) (K.taken out.new) }
-
-    // Nothing else comes.
-    ensures never_unknown { result ≢ StatusValue.Unknown }
+        (Rose (F.faults files.old) (F.faults files.new)) log.new (K.taken out.old) (K.taken out.new) }
 
     // Where no device failed, a refusal that stands comes, and else the answer, want of memory
     // aside.
@@ -90,10 +98,17 @@ pub fn run<R: Threads, F: Files, K: Sink>(
     ensures answers { ¬ Rose (F.faults files.old) (F.faults files.new) →
         ¬ Rose (K.faults out.old) (K.faults out.new) →
         IfSome (F.held files.old) (λ held. (task : Task) → Ask words.now held task →
-        (result ≡ StatusValue.Memory)
-        ⊎ ((result ≡ StatusValue.Answered) ⊎ (result ≡ StatusValue.Refuted))) }
+        (result ≡ StatusValue.Memory) ⊎ HasReply result) }
     ensures usage_refused { AreNoCommand words.now → ¬ Rose (K.faults out.old) (K.faults out.new) →
         (result ≡ StatusValue.Usage) ⊎ (result ≡ StatusValue.Memory) }
+
+    // Each step of the log is valid, and each with a literal new and effective, want of memory aside; and
+    // nothing is logged with a refusal or a judgement.
+    ensures sound { result ≢ StatusValue.Memory → IsSound log.new.events }
+    ensures unlogged { (result ≡ StatusValue.Refuted) ⊎ ((result ≡ StatusValue.Usage)
+        ⊎ ((result ≡ StatusValue.Text) ⊎ (result ≡ StatusValue.Limit))) → log.new ≡ empty_log }
+    ensures refused_unlogged { result ≢ StatusValue.Memory → IfSome (F.held files.old) (λ held.
+        (refusals : List Refusal) → Show words.now held (Err refusals) → log.new ≡ empty_log) }
 
     // The files stay as they were, and no count of faults falls.
     ensures held { F.held files.new ≡ F.held files.old }
@@ -103,7 +118,7 @@ pub fn run<R: Threads, F: Files, K: Sink>(
     let _ = rt;
     one_job_for_words();
     texts_have_one_answer();
-    let Ok(reply) = reply_to(alloc, words, files) else {
+    let Ok(reply) = reply_to(alloc, words, files, log) else {
         put_memory(out);
         return Status::Memory;
     };

@@ -1,7 +1,6 @@
 //! What the words of a command want of a run.
 
 ghost use Rattle.std.specs.Prelude.{◌≡◌};
-ghost use Rattle.ep_print.specs.declared.refusals.Refusal.{Refusal as RefusalValue};
 ghost use Rattle.ep_run.specs.Commands.{wanted_of};
 ghost use Rattle.ep_run.specs.Steps.{TellsWanted};
 
@@ -14,10 +13,11 @@ use std::alloc::Global;
 /// What a run is wanted to do, and with which files.
 #[derive(Debug, Drop)]
 pub enum Wanted {
-    /// To solve a model.
+    /// To solve a model within so many conflicts.
     Solve {
         model: Word,
         params: Option<Word>,
+        conflicts: u64,
     },
     /// To say whether a solution text is a solution of a model.
     Verify {
@@ -51,13 +51,14 @@ fn wanted_of(job: Job) -> Option<Wanted>
         Job::Solve {
             in_eprime,
             in_param,
-            conflicts: _,
+            conflicts,
             out_solution: None,
             out_cnf: None,
             out_log: None,
         } => Some(Wanted::Solve {
             model: in_eprime,
             params: in_param,
+            conflicts,
         }),
         Job::Verify {
             in_eprime,

@@ -26,12 +26,12 @@ abbrev pub Allows : ProblemState → LogState → GroundState → Type 0
 Allows p log g = (cells : List ℤ) (goal : Option ℤ) → IsAllowed p log cells goal ↔ (IsGroundSolution g cells × (goal ≡ ground_objective g cells))
 
 -- numbers of cells that are allowed are a solution, whose objective has this number
-record Solves (mode : Mode) (i : Instance) (cells : List ℤ) (goal : Option ℤ) : Type 0 where
-  reads : ReadsAs i cells
-  solves : IsSolution mode i (assignment_from i.finds cells)
-  valued : goal_value mode i (found_of (assignment_from i.finds cells)) ≡ goal
+pub record Solves (mode : Mode) (i : Instance) (cells : List ℤ) (goal : Option ℤ) : Type 0 where
+  pub reads : ReadsAs i cells
+  pub solves : IsSolution mode i (assignment_from i.finds cells)
+  pub valued : goal_value mode i (found_of (assignment_from i.finds cells)) ≡ goal
 
-allowed-solves : (mode : Mode) (i : Instance) (g : GroundState) (p : ProblemState) (log : LogState) → IsClosed i → SpeaksFor mode i g → Allows p log g
+pub allowed-solves : (mode : Mode) (i : Instance) (g : GroundState) (p : ProblemState) (log : LogState) → IsClosed i → SpeaksFor mode i g → Allows p log g
     → (cells : List ℤ) (goal : Option ℤ) → IsAllowed p log cells goal → Solves mode i cells goal
 allowed-solves mode i g p log closed speaks allows cells goal h =
     let kept = (allows cells goal).0 h in
@@ -47,7 +47,7 @@ allowed-solves mode i g p log closed speaks allows cells goal h =
     }
 
 -- a solution is allowed, with the number of its objective
-solution-allowed : (mode : Mode) (i : Instance) (g : GroundState) (p : ProblemState) (log : LogState) → SpeaksFor mode i g → Allows p log g
+pub solution-allowed : (mode : Mode) (i : Instance) (g : GroundState) (p : ProblemState) (log : LogState) → SpeaksFor mode i g → Allows p log g
     → (a : Assigned) (s : IsSolution mode i a) → IsAllowed p log (found_numbers s.found) (goal_value mode i s.found)
 solution-allowed mode i g p log speaks allows a s =
     (allows (found_numbers s.found) (goal_value mode i s.found)).1 (
@@ -57,16 +57,16 @@ solution-allowed mode i g p log speaks allows a s =
 
 -- ---- better numbers
 
-same-better : (sense : Sense) (x y : ℤ) → is_better sense x y ≡ better_number sense x y
+pub same-better : (sense : Sense) (x y : ℤ) → is_better sense x y ≡ better_number sense x y
 unfolding is_better better_number
 same-better Sense.Minimising x y = refl
 same-better Sense.Maximising x y = refl
 
-same-some : {A : Type 0} (x y : A) → Some x ≡ Some y → x ≡ y
+pub same-some : {A : Type 0} (x y : A) → Some x ≡ Some y → x ≡ y
 same-some x y h = cc
 
 -- the sense of an objective that is stated, where a problem's variables have the same sense
-stated-variable : {A B : Type 0} (objective : Option (Sense × A)) (goal : Option (Sense × B)) (sense : Sense) (e : B)
+pub stated-variable : {A B : Type 0} (objective : Option (Sense × A)) (goal : Option (Sense × B)) (sense : Sense) (e : B)
     → option_map (λ g. g.0) objective ≡ option_map (λ g. g.0) goal → goal ≡ Some (sense, e) → (x : A) × (objective ≡ Some (sense, x))
 stated-variable None None sense e same h = absurd cc
 stated-variable None (Some s) sense e same h = absurd cc

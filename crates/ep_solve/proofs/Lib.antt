@@ -6,3 +6,5 @@ pub mod GivenLogs
 pub mod RunNumbers
 pub mod Scalars
 pub mod Solved
+pub mod Telling
+pub mod Leaving

@@ -1,5 +1,5 @@
 -- What a search in the problem of an instance's ground finds is right.
-use Rattle.std.proofs.Common.{◌≡◌, ◌↔◌, ℕ, ◌+◌, ◌*◌, ◌≤◌, Bool, true, false, nat_lt, ℤ, List, [], ◌∷◌, ◌++◌, length, take, Option, Some, None, refl, sym, ap, subst, ◌∙◌, arith, if◌then◌else◌, int_lt}
+use Rattle.std.proofs.Common.{◌≡◌, ◌↔◌, ℕ, ◌+◌, ◌*◌, ◌≤◌, Bool, true, false, nat_lt, ℤ, List, [], ◌∷◌, ◌++◌, length, take, Option, refl, sym, ap, subst, ◌∙◌, arith, if◌then◌else◌, int_lt}
 use Rattle.std.specs.Prelude.{sum_by}
 use Rattle.std.proofs.lemmas.List.{take_all}
 use Rattle.std.proofs.lemmas.Bool.Decides.{nat_tests}
@@ -8,12 +8,11 @@ use Rattle.cnf_core.specs.Formula.{Cnf}
 use Rattle.cnf_core.specs.Literal.{Literal}
 use Rattle.enc_var.specs.Layouts.{GivesCells}
 use Rattle.ep_answer.specs.Answered.{FoundCells, IsRightAnswer}
-use Rattle.ep_answer.specs.Answered as cells
 use Rattle.ep_answer.specs.Posed.{PosesGround}
 use Rattle.ep_answer.specs.Problems.{ProblemState, base_clauses}
 use Rattle.ep_answer.proofs.Posing.{posed_allows}
 use Rattle.ep_ground.specs.Grounds.{GroundState, IsGroundSolution, ground_objective}
-use Rattle.ep_tree.specs.Binding.{Find, Instance, Refusal, over_limit}
+use Rattle.ep_tree.specs.Binding.{Instance, Refusal, over_limit}
 use Rattle.ep_tree.specs.Closed.{IsClosed}
 use Rattle.ep_tree.specs.Limits.{MOST_REACH, MOST_SIZE, MOST_WEIGHT}
 use Rattle.ep_tree.specs.Measures.{Met, farthest_reach, size_of}
@@ -22,7 +21,7 @@ use Rattle.ep_tree.specs.declared.values.Mode.{Mode}
 use Rattle.ep_base.specs.declared.operators.Limit.{Limit}
 use Rattle.ep_print.specs.Answers.{AnswerTree, HasTypedValues}
 use Rattle.ep_solve.specs.Reading.{answer_from}
-use Rattle.ep_solve.specs.Right.{IsRight, IsSpent, IsUnknown}
+use Rattle.ep_solve.specs.Right.{IsRight}
 use Rattle.ep_solve.proofs.Answering.{Allows, HasSense, answered-right, answered-typed}
 use Rattle.ep_solve.proofs.Judged.{SpeaksFor}
 
@@ -61,13 +60,13 @@ take-own : {A : Type 0} (xs : List A) → take (length xs) xs ≡ xs
 take-own xs = take_all (length xs) xs (omega arith)
 
 -- a log that goes on from one has the same base
-same-base : (old new : LogState) → old.base ≡ length old.events → take (length old.events) new.events ≡ old.events → new.base ≡ old.base → base_clauses new ≡ base_clauses old
+pub same-base : (old new : LogState) → old.base ≡ length old.events → take (length old.events) new.events ≡ old.events → new.base ≡ old.base → base_clauses new ≡ base_clauses old
 same-base old new whole front base =
     ap (λ n. givens (take n new.events)) (base ∙ whole)
     ∙ ap givens front
     ∙ sym (ap (λ n. givens (take n old.events)) whole ∙ ap givens (take-own old.events))
 
-allows-after : (g : GroundState) (f : Cnf) (p : ProblemState) (old new : LogState) → PosesGround g f p old → take (length old.events) new.events ≡ old.events → new.base ≡ old.base → Allows p new g
+pub allows-after : (g : GroundState) (f : Cnf) (p : ProblemState) (old new : LogState) → PosesGround g f p old → take (length old.events) new.events ≡ old.events → new.base ≡ old.base → Allows p new g
 allows-after g f p old new poses front base =
     let P : List (List Literal) → Type 0 = λ clauses. (cells : List ℤ) (goal : Option ℤ) → GivesCells p.layout p.variables clauses cells goal ↔ (IsGroundSolution g cells × (goal ≡ ground_objective g cells)) in
     subst P (sym (same-base old new poses.is_base front base)) (posed_allows g f p old poses)
@@ -99,16 +98,3 @@ pub found-typed : (mode : Mode) (i : Instance) (budget : ℕ) (found : FoundCell
 found-typed mode i budget found answer closed h same =
     subst HasTypedValues (sym same)
     (answered-typed mode i h.g h.p h.new closed h.speaks (allows-after h.g h.f h.p h.old h.new h.poses h.front h.base) budget found h.right)
-
-unknown-spent : (fs : List Find) (budget : ℕ) (p : ProblemState) (log : LogState) (found : FoundCells) → IsRightAnswer p budget log found → IsUnknown (answer_from fs budget found) → IsSpent budget log.events
-unfolding IsRightAnswer IsUnknown answer_from
-unknown-spent fs budget p log (cells.solution ns) h said = absurd said
-unknown-spent fs budget p log (cells.optimum n ns) h said = absurd said
-unknown-spent fs budget p log cells.no_solution h said = absurd said
-unknown-spent fs budget p log (cells.unknown None) h said = (h.steps, h.none_is_empty)
-unknown-spent fs budget p log (cells.unknown (Some best)) h said = (h.steps, h.none_is_empty)
-
--- where nothing is known but what is at hand, the budget is spent
-pub found-spent : (fs : List Find) (budget : ℕ) (p : ProblemState) (log : LogState) (found : FoundCells) (answer : AnswerTree) → answer ≡ answer_from fs budget found
-    → IsRightAnswer p budget log found → IsUnknown answer → IsSpent budget log.events
-found-spent fs budget p log found answer same h said = unknown-spent fs budget p log found h (subst IsUnknown same said)

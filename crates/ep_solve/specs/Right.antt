@@ -27,12 +27,6 @@ IsRight mode i budget (unknown conflicts) = conflicts ≡ budget
 IsRight mode i budget (unknown_with conflicts value a) =
     (conflicts ≡ budget) × IsWritten i a × IsSolution mode i a × HasGoal mode i a value
 
--- an answer says that nothing is known but what is at hand
-unfoldable pub IsUnknown : AnswerTree → Type 0
-IsUnknown (unknown _) = Unit {0}
-IsUnknown (unknown_with _ _ _) = Unit {0}
-IsUnknown _ = ⊥
-
 -- so many steps of a log have a literal, and no event is empty
 abbrev pub IsSpent : ℕ → List LogEvent → Type 0
 IsSpent budget events = (nonempty_steps events ≡ budget) × NoneIsEmpty events

@@ -1,6 +1,6 @@
 //! The answer of an instance.
 
-ghost use Rattle.std.specs.Prelude.{◌≡◌, ◌≤◌, [], length, map, take, IfOk};
+ghost use Rattle.std.specs.Prelude.{◌≡◌, [], length, map, take, IfOk};
 ghost use Rattle.std.specs.List.{All};
 ghost use Rattle.ep_answer.specs.Answered.{AnswersCells};
 ghost use Rattle.ep_answer.specs.AnswerViews.{plain_answer, plain_problem};
@@ -9,9 +9,8 @@ ghost use Rattle.ep_base.specs.Reads.{IsWithinNumbers};
 ghost use Rattle.ep_instance.specs.Instances.{find_of, instance_of, mode_of};
 ghost use Rattle.ep_print.specs.Answers.{HasTypedValues, answer_tree};
 ghost use Rattle.ep_solve.specs.Reading.{answer_from};
-ghost use Rattle.cnf_core.specs.Events.{nonempty_steps};
-ghost use Rattle.sat_search.specs.Logs.{IsSound};
-ghost use Rattle.ep_solve.specs.Right.{IsRight, IsSpent, IsUnknown, empty_log};
+ghost use Rattle.ep_solve.specs.Logged.{IsLogged};
+ghost use Rattle.ep_solve.specs.Right.{IsRight, empty_log};
 ghost use Rattle.ep_tree.specs.Closed.{IsClosed};
 ghost use Rattle.ep_tree.specs.Solutions.{instance_limits};
 
@@ -43,9 +42,8 @@ pub fn solve(
     ensures right { IfOk result (λ answer.
         IsRight (mode_of instance.now) (instance_of instance.now) budget (answer_tree answer)) }
     ensures typed { IfOk result (λ answer. HasTypedValues (answer_tree answer)) }
-    ensures sound { IfOk result (λ answer. IsSound log.new.events) }
-    ensures within { IfOk result (λ answer. nonempty_steps log.new.events ≤ budget) }
-    ensures spent { IfOk result (λ answer. IsUnknown (answer_tree answer) → IsSpent budget log.new.events) }
+    ensures logged { IfOk result (λ answer.
+        IsLogged (mode_of instance.now) (instance_of instance.now) budget log.new (answer_tree answer)) }
 {
     let ground = unroll(alloc, instance)?;
     let encoded = formula_of(alloc, ground)?;
@@ -66,6 +64,7 @@ fn search(
         AnswersCells (plain_problem problem.old) budget log.new (plain_answer found)) }
     ensures front { take (length log.old.events) log.new.events ≡ log.old.events }
     ensures base { log.new.base ≡ log.old.base }
+    ensures notes { log.new.notes ≡ log.old.notes }
 {
     match problem.map.objective {
         None => find_cells(alloc, problem, budget, log),

@@ -1,8 +1,7 @@
 use Rattle.std.proofs.Common.{◌∙◌, ◌^◌, ℤ, List, length, map, take, ap}
 use Rattle.ep_instance.specs.Instances.{find_of}
 use Rattle.ep_tree.specs.Solutions.{cell_count}
-use Rattle.ep_run.specs.Counts.{capped}
-use Rattle.ep_run.specs.Outcomes.{product_of, value_count}
+use Rattle.ep_run.specs.Counts.{capped, product_of, value_count}
 use Rattle.ep_run.proofs.Capping.{all-counted, cut-off, factor-more, no-product}
 use Rattle.ep_run.proofs.counting.assignment_count.Goals as goal
 

@@ -10,7 +10,7 @@ pub returns-in-Err-Refused-clause-says : goal.returns-in-Err-Refused-clause-says
 returns-in-Err-Refused-clause-says g c =
     let told = g.F.Files.held c.args.files.now in
     let rose = Rose (g.F.Files.faults c.args.files.now) (g.F.Files.faults c.run_words.new.files) in
-    let R : Result Reply Stop → Type 0 = λ r. TellsRun c.args.words.now told rose r in
-    let S : Stop → Type 0 = λ s. TellsRun c.args.words.now told rose (Err s) in
-    refused-said c.args.words.now told rose c.in-Err-Refused.refusal c.refused.result c.refused.ensures.status c.refused.ensures.line
+    let R : Result Reply Stop → Type 0 = λ r. TellsRun c.args.words.now told rose c.run_words.new.log r in
+    let S : Stop → Type 0 = λ s. TellsRun c.args.words.now told rose c.run_words.new.log (Err s) in
+    refused-said c.args.words.now told rose c.run_words.new.log c.in-Err-Refused.refusal c.refused.result c.refused.ensures.status c.refused.ensures.line
     (subst S c.in-Err-Refused.field-0-is (subst R c.in-Err-Refused.is c.run_words.ensures.tells))

@@ -6,4 +6,4 @@ pub returns-clause-tells : goal.returns-clause-tells
 returns-clause-tells g c =
     let told = g.F.Files.held c.args.files.now in
     let rose = Rose (g.F.Files.faults c.args.files.now) (g.F.Files.faults c.do_wanted.new.files) in
-    told-run c.args.words.now c.in_ok-wanted.wanted told rose c.do_wanted.result c.in_ok-wanted.ensures c.do_wanted.ensures.ends c.do_wanted.ensures.tells
+    told-run c.args.words.now c.in_ok-wanted.wanted told rose c.do_wanted.new.log c.do_wanted.result c.in_ok-wanted.ensures c.do_wanted.ensures.ends c.do_wanted.ensures.tells

@@ -1,15 +1,17 @@
 use Rattle.std.proofs.lemmas.Result.{err_from_is_err_and}
 use Rattle.std.proofs.Common.{[], ◌∷◌, ◌++◌, Err, option_to_list, sym, subst}
+use Rattle.cnf_core.specs.Events.{LogState}
 use Rattle.ep_base.specs.Outside.{Rose}
 use Rattle.ep_print.specs.declared.refusals.TextFile.{TextFile}
 use Rattle.ep_tree.specs.Views.{model_tree}
 use Rattle.ep_run.specs.Commands.{files_of}
 use Rattle.ep_run.specs.Readings.{IsReadAs}
 use Rattle.ep_run.specs.Shown.{ComesTo, comes_to_solve, comes_to_verify}
-use Rattle.ep_run.specs.Steps.{TellsTask}
+use Rattle.ep_solve.specs.Right.{empty_log}
+use Rattle.ep_run.specs.Steps.{EndsAs, IsEnd, TellsTask}
 use Rattle.ep_run.specs.declared.wanted.Wanted.{Wanted}
 use Rattle.ep_run.proofs.Chains.{after, stable-file, unread}
-use Rattle.ep_run.proofs.Running.{rose-from}
+use Rattle.ep_run.proofs.Running.{rose-from, stopped-ends, verify-ends}
 use Rattle.ep_run.proofs.runs.do_wanted.Goals as goal
 
 pub returns-in_err-model-in-Solve-clause-tells : goal.returns-in_err-model-in-Solve-clause-tells
@@ -18,10 +20,10 @@ returns-in_err-model-in-Solve-clause-tells g c =
     let told = g.F.Files.held c.args.files.now in
     let rose = Rose (g.F.Files.faults c.args.files.now) (g.F.Files.faults c.read_model.new.files) in
     let stop = c.in_err-model-in-Solve.field-0.0 in
-    let W : Wanted → Type 0 = λ w. TellsTask (files_of w) (ComesTo w) told rose (Err stop) in
+    let W : Wanted → Type 0 = λ w. TellsTask (files_of w) (ComesTo w) told rose c.args.log.now (Err stop) in
     rw (p.1, p.2)
     (subst W (sym c.in-Solve.is)
-    (unread model_tree TextFile.Model c.in-Solve.model (option_to_list c.in-Solve.params) (λ m. comes_to_solve c.in-Solve.params m) told rose stop c.in_err-model-in-Solve.ensures.tells))
+    (unread model_tree TextFile.Model c.in-Solve.model (option_to_list c.in-Solve.params) (λ m. comes_to_solve c.in-Solve.conflicts c.in-Solve.params m) told rose c.args.log.now stop c.in_err-model-in-Solve.ensures.tells))
 
 pub returns-in_err-model-in-Verify-clause-tells : goal.returns-in_err-model-in-Verify-clause-tells
 returns-in_err-model-in-Verify-clause-tells g c =
@@ -29,21 +31,21 @@ returns-in_err-model-in-Verify-clause-tells g c =
     let told = g.F.Files.held c.args.files.now in
     let rose = Rose (g.F.Files.faults c.args.files.now) (g.F.Files.faults c.read_model-in-Verify.new.files) in
     let stop = c.in_err-model-in-Verify.field-0.0 in
-    let W : Wanted → Type 0 = λ w. TellsTask (files_of w) (ComesTo w) told rose (Err stop) in
+    let W : Wanted → Type 0 = λ w. TellsTask (files_of w) (ComesTo w) told rose c.args.log.now (Err stop) in
     rw (p.1, p.2)
     (subst W (sym c.in-Verify.is)
-    (unread model_tree TextFile.Model c.in-Verify.model (option_to_list c.in-Verify.params ++ c.in-Verify.solution ∷ []) (λ m. comes_to_verify c.in-Verify.params c.in-Verify.solution m) told rose stop c.in_err-model-in-Verify.ensures.tells))
+    (unread model_tree TextFile.Model c.in-Verify.model (option_to_list c.in-Verify.params ++ c.in-Verify.solution ∷ []) (λ m. comes_to_verify c.in-Verify.params c.in-Verify.solution m) told rose c.args.log.now stop c.in_err-model-in-Verify.ensures.tells))
 
 pub returns-in_ok-model-in-Solve-clause-tells : goal.returns-in_ok-model-in-Solve-clause-tells
 returns-in_ok-model-in-Solve-clause-tells g c =
     let told = g.F.Files.held c.args.files.now in
     let rose = Rose (g.F.Files.faults c.args.files.now) (g.F.Files.faults c.solve_model.new.files) in
     let now = g.F.Files.faults c.read_model.new.files in
-    let W : Wanted → Type 0 = λ w. TellsTask (files_of w) (ComesTo w) told rose c.solve_model.result in
+    let W : Wanted → Type 0 = λ w. TellsTask (files_of w) (ComesTo w) told rose c.solve_model.new.log c.solve_model.result in
     subst W (sym c.in-Solve.is)
-    (after (c.in-Solve.model ∷ []) (option_to_list c.in-Solve.params) (λ held. IsReadAs held TextFile.Model c.in-Solve.model) (λ m. comes_to_solve c.in-Solve.params m)
+    (after (c.in-Solve.model ∷ []) (option_to_list c.in-Solve.params) (λ held. IsReadAs held TextFile.Model c.in-Solve.model) (λ m. comes_to_solve c.in-Solve.conflicts c.in-Solve.params m)
     (stable-file TextFile.Model c.in-Solve.model) (model_tree c.in_ok-model-in-Solve.model) told (g.F.Files.held c.read_model.new.files) rose
-    (Rose now (g.F.Files.faults c.solve_model.new.files)) c.solve_model.result c.in_ok-model-in-Solve.ensures.held
+    (Rose now (g.F.Files.faults c.solve_model.new.files)) c.solve_model.new.log c.solve_model.result c.in_ok-model-in-Solve.ensures.held
     (rose-from (g.F.Files.faults c.args.files.now) now (g.F.Files.faults c.solve_model.new.files) c.in_ok-model-in-Solve.ensures.quiet)
     c.in_ok-model-in-Solve.ensures.tells c.solve_model.ensures.tells)
 
@@ -52,10 +54,33 @@ returns-in_ok-model-in-Verify-clause-tells g c =
     let told = g.F.Files.held c.args.files.now in
     let rose = Rose (g.F.Files.faults c.args.files.now) (g.F.Files.faults c.verify_model.new.files) in
     let now = g.F.Files.faults c.read_model-in-Verify.new.files in
-    let W : Wanted → Type 0 = λ w. TellsTask (files_of w) (ComesTo w) told rose c.verify_model.result in
+    let W : Wanted → Type 0 = λ w. TellsTask (files_of w) (ComesTo w) told rose c.args.log.now c.verify_model.result in
+    let L : LogState → Type 0 = λ log. TellsTask (c.in-Verify.model ∷ option_to_list c.in-Verify.params ++ c.in-Verify.solution ∷ []) (ComesTo (Wanted.Verify c.in-Verify.model c.in-Verify.params c.in-Verify.solution)) told rose log c.verify_model.result in
     subst W (sym c.in-Verify.is)
+    (subst L (sym c.requires.empty)
     (after (c.in-Verify.model ∷ []) (option_to_list c.in-Verify.params ++ c.in-Verify.solution ∷ []) (λ held. IsReadAs held TextFile.Model c.in-Verify.model) (λ m. comes_to_verify c.in-Verify.params c.in-Verify.solution m)
     (stable-file TextFile.Model c.in-Verify.model) (model_tree c.in_ok-model-in-Verify.model) told (g.F.Files.held c.read_model-in-Verify.new.files) rose
-    (Rose now (g.F.Files.faults c.verify_model.new.files)) c.verify_model.result c.in_ok-model-in-Verify.ensures.held
+    (Rose now (g.F.Files.faults c.verify_model.new.files)) empty_log c.verify_model.result c.in_ok-model-in-Verify.ensures.held
     (rose-from (g.F.Files.faults c.args.files.now) now (g.F.Files.faults c.verify_model.new.files) c.in_ok-model-in-Verify.ensures.quiet)
-    c.in_ok-model-in-Verify.ensures.tells c.verify_model.ensures.tells)
+    c.in_ok-model-in-Verify.ensures.tells c.verify_model.ensures.tells))
+
+pub returns-in_err-model-in-Solve-clause-ends : goal.returns-in_err-model-in-Solve-clause-ends
+returns-in_err-model-in-Solve-clause-ends g c =
+    let p = err_from_is_err_and c.from_residual.result c.from_residual.ensures.1 in
+    rw (p.1, p.2) (stopped-ends (λ status. IsEnd c.args.wanted.now status c.args.log.now) c.args.log.now c.in_err-model-in-Solve.field-0.0 c.requires.empty)
+
+pub returns-in_err-model-in-Verify-clause-ends : goal.returns-in_err-model-in-Verify-clause-ends
+returns-in_err-model-in-Verify-clause-ends g c =
+    let p = err_from_is_err_and c.from_residual-in_err-model-in-Verify.result c.from_residual-in_err-model-in-Verify.ensures.1 in
+    rw (p.1, p.2) (stopped-ends (λ status. IsEnd c.args.wanted.now status c.args.log.now) c.args.log.now c.in_err-model-in-Verify.field-0.0 c.requires.empty)
+
+pub returns-in_ok-model-in-Solve-clause-ends : goal.returns-in_ok-model-in-Solve-clause-ends
+returns-in_ok-model-in-Solve-clause-ends g c =
+    let W : Wanted → Type 0 = λ w. EndsAs w c.solve_model.new.log c.solve_model.result in
+    subst W (sym c.in-Solve.is) c.solve_model.ensures.ends
+
+pub returns-in_ok-model-in-Verify-clause-ends : goal.returns-in_ok-model-in-Verify-clause-ends
+returns-in_ok-model-in-Verify-clause-ends g c =
+    let W : Wanted → Type 0 = λ w. EndsAs w c.args.log.now c.verify_model.result in
+    subst W (sym c.in-Verify.is)
+    (verify-ends c.in-Verify.model c.in-Verify.params c.in-Verify.solution c.args.log.now c.verify_model.result c.requires.empty c.verify_model.ensures.status)

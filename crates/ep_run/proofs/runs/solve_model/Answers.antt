@@ -5,7 +5,8 @@ use Rattle.ep_tree.specs.Views.{model_tree}
 use Rattle.ep_run.specs.Outcomes.{solve_outcome}
 use Rattle.ep_run.specs.Shown.{comes_to_solve}
 use Rattle.ep_run.proofs.Chains.{unread-params}
-use Rattle.ep_run.proofs.Running.{last-read}
+use Rattle.ep_run.specs.Steps.{IsSearched}
+use Rattle.ep_run.proofs.Running.{last-read, stopped-ends}
 use Rattle.ep_run.proofs.runs.solve_model.Goals as goal
 
 pub returns-in_err-params-clause-tells : goal.returns-in_err-params-clause-tells
@@ -15,5 +16,10 @@ returns-in_err-params-clause-tells g c =
     let rose = Rose (g.F.Files.faults c.args.files.now) (g.F.Files.faults c.read_named_params.new.files) in
     let m = model_tree c.args.model in
     rw (p.1, p.2)
-    (last-read (option_to_list c.args.params.now) (comes_to_solve c.args.params.now m) told rose (Err c.in_err-params.field-0.0)
-    (unread-params c.args.params.now [] (λ q held outcome. outcome ≡ solve_outcome m q) told rose c.in_err-params.field-0.0 c.in_err-params.ensures.tells))
+    (last-read (option_to_list c.args.params.now) (comes_to_solve c.args.conflicts c.args.params.now m) told rose c.args.log.now (Err c.in_err-params.field-0.0)
+    (unread-params c.args.params.now [] (λ q held outcome. outcome ≡ solve_outcome c.args.conflicts m q) told rose c.args.log.now c.in_err-params.field-0.0 c.in_err-params.ensures.tells))
+
+pub returns-in_err-params-clause-ends : goal.returns-in_err-params-clause-ends
+returns-in_err-params-clause-ends g c =
+    let p = err_from_is_err_and c.from_residual.result c.from_residual.ensures.1 in
+    rw (p.1, p.2) (stopped-ends (λ status. IsSearched c.args.conflicts status c.args.log.now) c.args.log.now c.in_err-params.field-0.0 c.requires.empty)

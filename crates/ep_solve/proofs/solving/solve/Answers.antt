@@ -1,4 +1,4 @@
-use Rattle.std.proofs.Common.{◌≡◌, ◌≤◌, ◌∙◌, Result, Ok, Err, IfOk, length, map, ap}
+use Rattle.std.proofs.Common.{◌≡◌, ◌∙◌, Result, Ok, Err, IfOk, length, map, ap}
 use Rattle.ep_answer.specs.AnswerViews.{plain_answer, plain_problem}
 use Rattle.ep_answer.proofs.Posing.{posed_can_search}
 use Rattle.ep_ground.specs.GroundViews.{plain_ground}
@@ -6,12 +6,12 @@ use Rattle.ep_ground.specs.Grounds.{GroundState}
 use Rattle.ep_instance.specs.Instances.{find_of, instance_of, mode_of}
 use Rattle.ep_print.specs.Answers.{HasTypedValues, answer_tree}
 use Rattle.ep_solve.specs.Reading.{answer_from}
-use Rattle.cnf_core.specs.Events.{nonempty_steps}
-use Rattle.sat_search.specs.Logs.{IsSound}
-use Rattle.ep_solve.specs.Right.{IsRight, IsSpent, IsUnknown}
+use Rattle.ep_solve.specs.Logged.{IsLogged}
+use Rattle.ep_solve.specs.Right.{IsRight}
 use Rattle.ep_tree.specs.Binding.{Instance}
 use Rattle.ep_tree.specs.declared.values.Mode.{Mode}
-use Rattle.ep_solve.proofs.Solved.{FoundFor, few-nodes, found-right, found-spent, found-typed}
+use Rattle.ep_solve.proofs.Leaving.{found-logged}
+use Rattle.ep_solve.proofs.Solved.{FoundFor, few-nodes, found-right, found-typed}
 use Rattle.ep_solve.proofs.solving.solve.Goals as goal
 
 -- what holds of a value where another fact does
@@ -75,21 +75,25 @@ returns-clause-typed c =
     found-typed mode i c.args.budget (plain_answer c.in_ok-found.found) (answer_tree answer) c.requires.closed found
     (same ∙ ap (λ fs. answer_from fs c.args.budget (plain_answer c.in_ok-found.found)) c.finds.ensures))
 
-pub returns-clause-sound : goal.returns-clause-sound
-returns-clause-sound c =
+pub returns-clause-logged : goal.returns-clause-logged
+returns-clause-logged c =
+    let mode : Mode = mode_of c.args.instance.now in
+    let i : Instance = instance_of c.args.instance.now in
+    let g : GroundState = plain_ground c.in_ok-ground.ground in
+    let found : FoundFor mode i c.args.budget (plain_answer c.in_ok-found.found) = record {
+      g = g;
+      f = c.in_ok-encoded.encoded.formula;
+      p = plain_problem c.in_ok-problem.problem;
+      old = c.posed.new.log;
+      new = c.search.new.log;
+      speaks = record { cells = c.in_ok-ground.ensures.cells; clauses = c.in_ok-ground.ensures.clauses; objective = c.in_ok-ground.ensures.objective };
+      poses = c.in_ok-problem.ensures g c.in_ok-encoded.ensures.made c.in_ok-encoded.ensures.cells;
+      front = c.in_ok-found.ensures.front;
+      base = c.in_ok-found.ensures.base;
+      right = c.in_ok-found.ensures.answers.right;
+    } in
     where-ok c.read_back.result
     (λ answer. answer_tree answer ≡ answer_from (map find_of c.finds.result.now) c.args.budget (plain_answer c.in_ok-found.found))
-    (λ answer. IsSound c.search.new.log.events) c.read_back.ensures (λ answer same. c.in_ok-found.ensures.answers.sound)
-
-pub returns-clause-within : goal.returns-clause-within
-returns-clause-within c =
-    where-ok c.read_back.result
-    (λ answer. answer_tree answer ≡ answer_from (map find_of c.finds.result.now) c.args.budget (plain_answer c.in_ok-found.found))
-    (λ answer. nonempty_steps c.search.new.log.events ≤ c.args.budget) c.read_back.ensures (λ answer same. c.in_ok-found.ensures.answers.within)
-
-pub returns-clause-spent : goal.returns-clause-spent
-returns-clause-spent c =
-    where-ok c.read_back.result
-    (λ answer. answer_tree answer ≡ answer_from (map find_of c.finds.result.now) c.args.budget (plain_answer c.in_ok-found.found))
-    (λ answer. IsUnknown (answer_tree answer) → IsSpent c.args.budget c.search.new.log.events) c.read_back.ensures (λ answer same.
-    found-spent (map find_of c.finds.result.now) c.args.budget (plain_problem c.in_ok-problem.problem) c.search.new.log (plain_answer c.in_ok-found.found) (answer_tree answer) same c.in_ok-found.ensures.answers.right)
+    (λ answer. IsLogged mode i c.args.budget c.search.new.log (answer_tree answer)) c.read_back.ensures (λ answer same.
+    found-logged mode i c.args.budget (plain_answer c.in_ok-found.found) (answer_tree answer) c.requires.closed found c.in_ok-found.ensures.notes c.in_ok-found.ensures.answers
+    (same ∙ ap (λ fs. answer_from fs c.args.budget (plain_answer c.in_ok-found.found)) c.finds.ensures))

@@ -1,0 +1,190 @@
+-- What a search in the problem of an instance's ground leaves in its log.
+use Rattle.std.proofs.Common.{◌≡◌, ◌↔◌, ℕ, ℤ, Bool, true, List, [], ◌∷◌, ◌++◌, drop, length, take, map, Option, Some, None, refl, sym, ap, subst, ◌∙◌, arith}
+use Rattle.std.specs.Prelude.{All}
+use Rattle.std.proofs.Math.Seq.{take-append_seam, take-length}
+use Rattle.std.proofs.lemmas.List.{length-take, take-append-drop}
+use Rattle.std.proofs.lemmas.List.Elements.{All-take}
+use Rattle.cnf_core.specs.Clauses.{Satisfies, SatisfiesClause}
+use Rattle.cnf_core.specs.Events.{HasBase, LogEvent, LogState, given, givens, is_given, step}
+use Rattle.cnf_core.specs.Formula.{Cnf}
+use Rattle.cnf_core.specs.Literal.{Literal}
+use Rattle.enc_var.specs.Decoding.{Means}
+use Rattle.enc_var.specs.Layouts.{GivesCells, decoded_cells, decoded_values}
+use Rattle.enc_var.specs.Notes.{cell_notes}
+use Rattle.ep_answer.specs.Answered.{AnswersCells, FoundCells, IsBetterThan, IsBudgetSpent, IsRightAnswer, IsStillWanted as IsCellWanted}
+use Rattle.ep_answer.specs.Answered as cells
+use Rattle.ep_answer.specs.Posed.{PosesGround}
+use Rattle.ep_answer.specs.Problems.{IsAllowed, ProblemState, base_clauses}
+use Rattle.ep_flat.specs.Flats.{MapsCells, objective_number}
+use Rattle.ep_ground.specs.Grounds.{GroundState}
+use Rattle.ep_ground.specs.declared.cells.Cell.{Cell}
+use Rattle.ep_tree.specs.Binding.{Instance}
+use Rattle.ep_tree.specs.Closed.{IsClosed}
+use Rattle.ep_tree.specs.Solutions.{Assigned, goal_value}
+use Rattle.ep_tree.specs.declared.values.Mode.{Mode}
+use Rattle.ep_print.specs.Answers.{AnswerTree}
+use Rattle.ep_unroll.specs.Cells.{found_numbers, instance_cells}
+use Rattle.ep_solve.specs.Logged.{AreWanted, IsBetterGoal, IsLogged, IsStillWanted, ShowsAnswer, Stands, TellNumbers, TellSolutions}
+use Rattle.ep_solve.specs.Reading.{answer_from, assignment_from, found_of}
+use Rattle.ep_solve.proofs.Answering.{Allows, HasSense, Solves, allowed-solves, same-better, same-some, solution-allowed, stated-variable}
+use Rattle.ep_solve.proofs.Judged.{SpeaksFor}
+use Rattle.ep_solve.proofs.Solved.{FoundFor, allows-after, same-base}
+use Rattle.ep_solve.proofs.Telling.{notes-tell}
+
+-- ---- givens of the first events
+
+givens-append : (before added : List LogEvent) → givens (before ++ added) ≡ givens before ++ givens added
+givens-append [] added = refl
+givens-append (given clause ∷ before) added = ap (λ cs. clause ∷ cs) (givens-append before added)
+givens-append (step clause hints ∷ before) added = givens-append before added
+
+-- what satisfies all givens satisfies those of the first events
+narrower : (s : ℕ → Bool) (n : ℕ) (events : List LogEvent) → Satisfies s (givens events) → Satisfies s (givens (take n events))
+narrower s n events met =
+    let xs : List (List Literal) = givens (take n events) in
+    let ys : List (List Literal) = givens (drop n events) in
+    let same : givens events ≡ xs ++ ys = sym (ap givens (take-append-drop n events)) ∙ givens-append (take n events) (drop n events) in
+    subst (Satisfies s) (take-append_seam xs ys) (All-take (SatisfiesClause s) (length xs) (xs ++ ys) (subst (Satisfies s) same met))
+
+-- ---- solutions that clauses tell
+
+-- what the search keeps of a problem: its log allows what the ground keeps, its notes are those of the instance's cells, and
+-- under what satisfies its own clauses the literals mean what they say
+record Keeps (mode : Mode) (i : Instance) (g : GroundState) (p : ProblemState) (log : LogState) : Type 0 where
+  closed : IsClosed i
+  speaks : SpeaksFor mode i g
+  allows : Allows p log g
+  notes : log.notes ≡ cell_notes p.layout (instance_cells i) p.variables.cells
+  maps : MapsCells (map (λ one. one.values) (instance_cells i)) (map (λ e. e.domain) p.layout) p.variables
+  meaning : (s : ℕ → Bool) → Satisfies s (base_clauses log) → All (Means s) p.layout
+
+-- under an assignment the notes tell the numbers that it gives the cells
+told : (mode : Mode) (i : Instance) (g : GroundState) (p : ProblemState) (log : LogState) → Keeps mode i g p log → (s : ℕ → Bool) → Satisfies s (base_clauses log)
+    → TellNumbers s log.notes (instance_cells i) (decoded_cells p.layout p.variables s)
+told mode i g p log k s met =
+    subst (λ notes. TellNumbers s notes (instance_cells i) (decoded_cells p.layout p.variables s)) (sym k.notes)
+    (notes-tell s p.layout (instance_cells i) p.variables k.maps (k.meaning s met))
+
+-- numbers that solve are wanted where their objective is
+are-wanted : (mode : Mode) (i : Instance) (numbers : List ℤ) (goal : Option ℤ) (W : Option ℤ → Type 0) → Solves mode i numbers goal → W goal → AreWanted mode i W numbers
+are-wanted mode i numbers goal W s want =
+    let a : Assigned = assignment_from i.finds numbers in
+    let same : s.solves.found ≡ found_of a = same-some s.solves.found (found_of a) (sym s.solves.fits.values ∙ s.reads.fits.values) in
+    record {
+      solves = s.solves;
+      numbers_are = ap found_numbers same ∙ s.reads.numbers_are;
+      is_wanted = subst W (sym (ap (goal_value mode i) same ∙ s.valued)) want;
+    }
+
+-- Clauses that hold under assignments of the problem's own clauses alone, and give the cells exactly the numbers that are allowed
+-- with an objective that is wanted, tell exactly the wanted solutions.
+tell-solutions : (mode : Mode) (i : Instance) (g : GroundState) (p : ProblemState) (log : LogState) → Keeps mode i g p log
+    → (clauses : List (List Literal)) → ((s : ℕ → Bool) → Satisfies s clauses → Satisfies s (base_clauses log))
+    → (W : Option ℤ → Type 0) → ((numbers : List ℤ) (goal : Option ℤ) → GivesCells p.layout p.variables clauses numbers goal ↔ (IsAllowed p log numbers goal × W goal))
+    → TellSolutions mode i log.notes clauses W
+tell-solutions mode i g p log k clauses own W left = record {
+  sound = λ s met.
+      let numbers : List ℤ = decoded_cells p.layout p.variables s in
+      let goal : Option ℤ = objective_number p.variables (decoded_values p.layout s) in
+      let kept = (left numbers goal).0 (record { are_given = record { assignment = s; satisfies = met; gives = refl }; drives = refl }) in (
+        numbers,
+        told mode i g p log k s (own s met),
+        are-wanted mode i numbers goal W (allowed-solves mode i g p log k.closed k.speaks k.allows numbers goal kept.0) kept.1,
+      );
+  complete = λ a solves want.
+      let numbers : List ℤ = found_numbers solves.found in
+      let goal : Option ℤ = goal_value mode i solves.found in
+      let gives = (left numbers goal).1 (solution-allowed mode i g p log k.speaks k.allows a solves, want) in
+      let s : ℕ → Bool = gives.are_given.assignment in
+      record {
+        assignment = s;
+        satisfies = gives.are_given.satisfies;
+        tell = subst (λ ns. TellNumbers s log.notes (instance_cells i) ns) gives.are_given.gives (told mode i g p log k s (own s gives.are_given.satisfies));
+      };
+}
+
+-- ---- what is better than the solution at hand
+
+better-wanted : (i : Instance) (p : ProblemState) (best : ℤ) (goal : Option ℤ) → HasSense p i → IsBetterThan p best goal ↔ IsBetterGoal i best goal
+better-wanted i p best goal senses = (
+  λ h.
+      let named = stated-variable i.goal p.variables.objective h.sense h.variable (sym senses) h.stated in
+      record { sense = h.sense; e = named.0; number = h.number; stated = named.1; has_number = h.drives; better = sym (same-better h.sense h.number best) ∙ h.better },
+  λ h.
+      let named = stated-variable p.variables.objective i.goal h.sense h.e senses h.stated in
+      record { sense = h.sense; variable = named.0; number = h.number; stated = named.1; drives = h.has_number; better = same-better h.sense h.number best ∙ h.better },
+)
+
+-- the objective's number in the solution at hand
+abbrev best-of : Option (ℤ × List ℤ) → Option ℤ
+best-of None = None
+best-of (Some one) = Some one.0
+
+still-wanted : (i : Instance) (p : ProblemState) (best : Option (ℤ × List ℤ)) (goal : Option ℤ) → HasSense p i → IsCellWanted p best goal ↔ IsStillWanted i (best-of best) goal
+unfolding IsCellWanted IsStillWanted
+still-wanted i p None goal senses = (λ h. tt, λ h. tt)
+still-wanted i p (Some best) goal senses = better-wanted i p best.0 goal senses
+
+-- ---- the log of a search
+
+-- the givens of a log's base, and events that went on from it
+log-base : (old new : LogState) → old.base ≡ length old.events → All (λ e. is_given e ≡ true) old.events → take (length old.events) new.events ≡ old.events → new.base ≡ old.base → HasBase new.events new.base
+log-base old new whole all front base =
+    let n : new.base ≡ length old.events = base ∙ whole in
+    let P : List LogEvent → Type 0 = λ es. All (λ e. is_given e ≡ true) es in
+    record {
+      there = omega (arith, n, ap length front, length-take (length old.events) new.events);
+      givens = subst P (sym (ap (λ k. take k new.events) n ∙ front)) all;
+    }
+
+-- the problem's own clauses are the formula's
+own-clauses : (g : GroundState) (f : Cnf) (p : ProblemState) (old : LogState) → PosesGround g f p old → base_clauses old ≡ f.clauses
+own-clauses g f p old poses = ap (λ n. givens (take n old.events)) poses.is_base ∙ ap givens (take-length old.events) ∙ poses.givens_are
+
+kept : (mode : Mode) (i : Instance) (budget : ℕ) (found : FoundCells) → IsClosed i → (h : FoundFor mode i budget found) → h.new.notes ≡ h.old.notes → Keeps mode i h.g h.p h.new
+kept mode i budget found closed h notes =
+    let cells_are : h.p.cells ≡ instance_cells i = h.poses.cells ∙ h.speaks.cells in
+    record {
+      closed = closed;
+      speaks = h.speaks;
+      allows = allows-after h.g h.f h.p h.old h.new h.poses h.front h.base;
+      notes = notes ∙ h.poses.notes ∙ ap (λ (cs : List Cell). cell_notes h.p.layout cs h.p.variables.cells) cells_are;
+      maps = subst (λ cs. MapsCells (map (λ one. one.values) cs) (map (λ e. e.domain) h.p.layout) h.p.variables) h.speaks.cells h.poses.formula.is_map.maps;
+      meaning = λ s met. h.poses.formula.is_layout.meaning s (subst (Satisfies s) (same-base h.old h.new h.poses.is_base h.front h.base ∙ own-clauses h.g h.f h.p h.old h.poses) met);
+    }
+
+stands : (mode : Mode) (i : Instance) (budget : ℕ) (found : FoundCells) → (h : FoundFor mode i budget found) → Keeps mode i h.g h.p h.new → Stands mode i h.new
+stands mode i budget found h k = record {
+  base = log-base h.old h.new h.poses.is_base h.poses.are_givens h.front h.base;
+  told = tell-solutions mode i h.g h.p h.new k (base_clauses h.new) (λ s met. met) (λ goal. Unit {0}) (λ numbers goal. (λ gives. (gives, tt), λ both. both.0));
+}
+
+leaves : (mode : Mode) (i : Instance) (g : GroundState) (p : ProblemState) (budget : ℕ) (log : LogState) (best : Option (ℤ × List ℤ)) → Keeps mode i g p log → HasSense p i
+    → IsBudgetSpent p budget log best → TellSolutions mode i log.notes (givens log.events) (IsStillWanted i (best-of best))
+leaves mode i g p budget log best k senses spent =
+    tell-solutions mode i g p log k (givens log.events) (λ s met. narrower s log.base log.events met) (IsStillWanted i (best-of best)) (λ numbers goal. (
+      λ gives. let h = (spent.left numbers goal).0 gives in (h.0, (still-wanted i p best goal senses).0 h.1),
+      λ both. (spent.left numbers goal).1 (both.0, (still-wanted i p best goal senses).1 both.1),
+    ))
+
+shows : (mode : Mode) (i : Instance) (g : GroundState) (p : ProblemState) (budget : ℕ) (log : LogState) (found : FoundCells) → Keeps mode i g p log → HasSense p i
+    → IsRightAnswer p budget log found → ShowsAnswer mode i budget log (answer_from i.finds budget found)
+unfolding IsRightAnswer ShowsAnswer answer_from
+shows mode i g p budget log (cells.solution ns) k senses h = tt
+shows mode i g p budget log (cells.optimum n ns) k senses h = h.ends
+shows mode i g p budget log cells.no_solution k senses h = h.ends
+shows mode i g p budget log (cells.unknown None) k senses h = ((h.steps, h.none_is_empty), leaves mode i g p budget log None k senses h)
+shows mode i g p budget log (cells.unknown (Some best)) k senses h = ((h.steps, h.none_is_empty), leaves mode i g p budget log (Some best) k senses h)
+
+-- what was found in the problem of an instance is logged
+pub found-logged : (mode : Mode) (i : Instance) (budget : ℕ) (found : FoundCells) (answer : AnswerTree) → IsClosed i → (h : FoundFor mode i budget found) → h.new.notes ≡ h.old.notes
+    → AnswersCells h.p budget h.new found → answer ≡ answer_from i.finds budget found → IsLogged mode i budget h.new answer
+found-logged mode i budget found answer closed h notes answers same =
+    let k : Keeps mode i h.g h.p h.new = kept mode i budget found closed h notes in
+    let senses : HasSense h.p i = h.poses.formula.is_map.senses ∙ h.speaks.objective.senses in
+    record {
+      stands = stands mode i budget found h k;
+      sound = answers.sound;
+      within = answers.within;
+      shows = subst (ShowsAnswer mode i budget h.new) (sym same) (shows mode i h.g h.p budget h.new found k senses h.right);
+    }

@@ -1,0 +1,100 @@
+-- What a log shows of an instance, beside its answer: that its givens stand for the instance, and which solutions are left.
+use Rattle.std.specs.Prelude.{◌≡◌, ◌↔◌, ◌≤◌, ℕ, ℤ, Bool, IsTrue, List, [], ◌∷◌, drop, length, map, take, Option, Some, None}
+use Rattle.std.specs.List.{All, Contains}
+use Rattle.cnf_core.specs.Clauses.{IsTrueUnder, Satisfies}
+use Rattle.cnf_core.specs.Events.{HasBase, LogState, Note, givens, nonempty_steps}
+use Rattle.cnf_core.specs.Literal.{Literal}
+use Rattle.enc_var.specs.Notes.{cell_text}
+use Rattle.ep_base.specs.declared.operators.Sense.{Sense}
+use Rattle.ep_ground.specs.declared.cells.Cell.{Cell}
+use Rattle.ep_print.specs.Answers.{AnswerTree, no_solution, optimum, solution, unknown, unknown_with}
+use Rattle.ep_tree.specs.Binding.{Instance}
+use Rattle.ep_tree.specs.Solutions.{Assigned, IsSolution, better_number, goal_value}
+use Rattle.ep_tree.specs.Trees.{ExprTree}
+use Rattle.ep_tree.specs.declared.values.Mode.{Mode}
+use Rattle.ep_unroll.specs.Cells.{found_numbers, instance_cells}
+use Rattle.sat_search.specs.Logs.{EndsWithEmptyStep, IsSound}
+use Rattle.ep_solve.specs.Reading.{assignment_from}
+use Rattle.ep_solve.specs.Right.{IsSpent}
+
+-- ---- what notes tell
+
+-- These notes are a cell's, one for each of its values in their order, and under an assignment the literal of a note is true
+-- exactly where the note has this number.
+pub record TellNumber (s : ℕ → Bool) (notes : List Note) (one : Cell) (number : ℤ) : Type 0 where
+  pub among : Contains one.values number
+  pub cells : All (λ n. n.cell ≡ cell_text one) notes
+  pub values : map (λ n. n.value) notes ≡ one.values
+  pub literals : All (λ n. IsTrueUnder s n.lit ↔ (n.value ≡ number)) notes
+
+-- these notes are those of some cells, one cell after another, and under an assignment they tell these numbers
+unfoldable pub TellNumbers : (ℕ → Bool) → List Note → List Cell → List ℤ → Type 0
+TellNumbers s notes [] [] = notes ≡ []
+TellNumbers s notes [] (x ∷ xs) = ⊥
+TellNumbers s notes (one ∷ cells) [] = ⊥
+TellNumbers s notes (one ∷ cells) (x ∷ xs) =
+    TellNumber s (take (length one.values) notes) one x × TellNumbers s (drop (length one.values) notes) cells xs
+
+-- an assignment that satisfies clauses, under which notes tell these numbers of an instance's cells
+pub record AreTold (i : Instance) (notes : List Note) (clauses : List (List Literal)) (numbers : List ℤ) : Type 0 where
+  pub assignment : ℕ → Bool
+  pub satisfies : Satisfies assignment clauses
+  pub tell : TellNumbers assignment notes (instance_cells i) numbers
+
+-- numbers of the cells are a solution, and its objective is wanted
+pub record AreWanted (mode : Mode) (i : Instance) (wanted : Option ℤ → Type 0) (numbers : List ℤ) : Type 0 where
+  pub solves : IsSolution mode i (assignment_from i.finds numbers)
+  pub numbers_are : found_numbers solves.found ≡ numbers
+  pub is_wanted : wanted (goal_value mode i solves.found)
+
+-- By these notes each assignment that satisfies clauses tells a solution whose objective is wanted, and each such solution is
+-- told by one.
+pub record TellSolutions (mode : Mode) (i : Instance) (notes : List Note) (clauses : List (List Literal)) (wanted : Option ℤ → Type 0) : Type 0 where
+  pub sound : (s : ℕ → Bool) → Satisfies s clauses
+      → (numbers : List ℤ) × TellNumbers s notes (instance_cells i) numbers × AreWanted mode i wanted numbers
+  pub complete : (a : Assigned) (solves : IsSolution mode i a) → wanted (goal_value mode i solves.found)
+      → AreTold i notes clauses (found_numbers solves.found)
+
+-- ---- what a log shows
+
+-- an objective is stated, and its number is better than this one
+pub record IsBetterGoal (i : Instance) (best : ℤ) (goal : Option ℤ) : Type 0 where
+  pub sense : Sense
+  pub e : ExprTree
+  pub number : ℤ
+  pub stated : i.goal ≡ Some (sense, e)
+  pub has_number : goal ≡ Some number
+  pub better : IsTrue (better_number sense number best)
+
+-- what is better than the solution at hand, and anything where there is none
+unfoldable pub IsStillWanted : Instance → Option ℤ → Option ℤ → Type 0
+IsStillWanted i None goal = Unit {0}
+IsStillWanted i (Some best) goal = IsBetterGoal i best goal
+
+-- The log's first events are the instance's own: they are givens, and by the log's notes what satisfies them are exactly the
+-- solutions of the instance.
+pub record Stands (mode : Mode) (i : Instance) (log : LogState) : Type 0 where
+  pub base : HasBase log.events log.base
+  pub told : TellSolutions mode i log.notes (givens (take log.base log.events)) (λ _. Unit {0})
+
+-- what satisfies all givens of the log are exactly the solutions that are better than the one at hand
+abbrev pub Leaves : Mode → Instance → LogState → Option ℤ → Type 0
+Leaves mode i log best = TellSolutions mode i log.notes (givens log.events) (IsStillWanted i best)
+
+-- What the log shows of an answer: nothing more is left of an optimum or where there is no solution, since it ends with the
+-- empty step; and where the budget is spent, its steps are as many, and what is left are exactly the solutions that are better
+-- than the one at hand.
+unfoldable pub ShowsAnswer : Mode → Instance → ℕ → LogState → AnswerTree → Type 0
+ShowsAnswer mode i budget log (solution a) = Unit {0}
+ShowsAnswer mode i budget log (optimum value a) = EndsWithEmptyStep log.events
+ShowsAnswer mode i budget log no_solution = EndsWithEmptyStep log.events
+ShowsAnswer mode i budget log (unknown conflicts) = IsSpent budget log.events × Leaves mode i log None
+ShowsAnswer mode i budget log (unknown_with conflicts value a) = IsSpent budget log.events × Leaves mode i log (Some value)
+
+-- An answer is logged: the log stands for the instance, its steps are valid, those with a literal are new and effective and no
+-- more than the budget, and it shows the answer.
+pub record IsLogged (mode : Mode) (i : Instance) (budget : ℕ) (log : LogState) (answer : AnswerTree) : Type 0 where
+  pub stands : Stands mode i log
+  pub sound : IsSound log.events
+  pub within : nonempty_steps log.events ≤ budget
+  pub shows : ShowsAnswer mode i budget log answer
