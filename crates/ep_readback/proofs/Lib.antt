@@ -1,0 +1,10 @@
+pub mod Glue
+pub mod Scanned
+pub mod Said
+pub mod Respelled
+pub mod Literals
+pub mod Clearing
+pub mod Pieces
+pub mod Spelled
+pub mod TextsAgain
+pub mod Printed
