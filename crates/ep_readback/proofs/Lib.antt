@@ -8,3 +8,6 @@ pub mod Pieces
 pub mod Spelled
 pub mod TextsAgain
 pub mod Printed
+pub mod ValuesSpelled
+pub mod ValuesLexed
+pub mod Answered

@@ -7,12 +7,13 @@ use Rattle.ep_tree.specs.Phrases.{Choice, From, Is, Lexeme, Names, Phrase, Says,
 use Rattle.ep_tree.specs.Placeless.{placeless, placeless_domain, placeless_terms, placeless_trees}
 use Rattle.ep_tree.specs.Spelling.{At, Call1, Call2, Call3, Closed, ClosedBefore, DomainAt, DomainLevel, Infix, Level, OfNumbers, SpellsDomainNode, SpellsNode, Whole, domain_rank, ends_open, has_terms, has_trees, implications, own_domain_level, own_level, rank, set_operations, takes_own_group}
 use Rattle.std.specs.Prelude.{nat_le}
+use Rattle.std.proofs.lemmas.List.{append-nil}
 use Rattle.ep_tree.specs.Trees.{DomainTree, ExprTree, ExprTrees, Terms, place_of, place_of_domain}
 use Rattle.ep_print.specs.Joining.{with_between}
 use Rattle.ep_print.specs.Words.{Words, binary_words, call_words, domain_words, expr_words, name_words, parted, word}
 use Rattle.ep_readback.proofs.Clearing.{domain_level_cleared, ends_cleared, has_terms_cleared, has_trees_cleared, level_cleared, own_group_cleared}
 use Rattle.ep_readback.proofs.Literals.{close_round, comma, open_round}
-use Rattle.ep_readback.proofs.Respelled.{Again, IsLiteral, Respelled, Twin, again_as, again_name, again_nothing, again_then, again_when, again_word, again_words}
+use Rattle.ep_readback.proofs.Respelled.{Again, IsLiteral, Respelled, Twin, again_as, again_name, again_nothing, again_then, again_when, again_word, again_words, respelled_as}
 use Rattle.ep_readback.proofs.Said.{AreSaid}
 use Rattle.ep_readback.proofs.Scanned.{sayings, word_sayings}
 
@@ -37,14 +38,23 @@ pub record DomainNode (d : DomainTree) : Type 0 where
 abbrev pub BuiltDomain : (d : DomainTree) → DomainNode d → Phrase
 BuiltDomain d n ts = (p : Place) → SpellsDomainNode (n.build p) ts
 
--- a form is spelled again, whatever its parts are
+-- a form is spelled, whatever its parts are
+pub respelled_node : {X : Type 0} {Q : X → Phrase} {ws : Words} (e : ExprTree) → Respelled Q ws → (f : X → Place → ExprTree) → ((x : X) (p : Place) → placeless (f x p) ≡ placeless e) → ((x : X) (p : Place) → place_of (f x p) ≡ p)
+    → ((x : X) (p : Place) (ts : List Lexeme) → Q x ts → SpellsNode (f x p) ts) → Respelled (Built e) ws
+respelled_node e r f same placed goes = respelled_as r (λ x. record { build = f x; same = same x; placed = placed x }) (λ x ts q p. goes x p ts q)
+
 pub node : {P : Phrase} {X : Type 0} {Q : X → Phrase} {ws : Words} (e : ExprTree) → Again P Q ws → (f : X → Place → ExprTree) → ((x : X) (p : Place) → placeless (f x p) ≡ placeless e) → ((x : X) (p : Place) → place_of (f x p) ≡ p)
     → ((x : X) (p : Place) (ts : List Lexeme) → Q x ts → SpellsNode (f x p) ts) → Again P (Built e) ws
-node e a f same placed goes = again_as a (λ x. record { build = f x; same = same x; placed = placed x }) (λ x ts q p. goes x p ts q)
+node e a f same placed goes = record { again = λ tokens said h. respelled_node e (a.again tokens said h) f same placed goes }
+
+-- the same of a domain
+pub respelled_domain_node : {X : Type 0} {Q : X → Phrase} {ws : Words} (d : DomainTree) → Respelled Q ws → (f : X → Place → DomainTree) → ((x : X) (p : Place) → placeless_domain (f x p) ≡ placeless_domain d) → ((x : X) (p : Place) → place_of_domain (f x p) ≡ p)
+    → ((x : X) (p : Place) (ts : List Lexeme) → Q x ts → SpellsDomainNode (f x p) ts) → Respelled (BuiltDomain d) ws
+respelled_domain_node d r f same placed goes = respelled_as r (λ x. record { build = f x; same = same x; placed = placed x }) (λ x ts q p. goes x p ts q)
 
 pub domain_node : {P : Phrase} {X : Type 0} {Q : X → Phrase} {ws : Words} (d : DomainTree) → Again P Q ws → (f : X → Place → DomainTree) → ((x : X) (p : Place) → placeless_domain (f x p) ≡ placeless_domain d) → ((x : X) (p : Place) → place_of_domain (f x p) ≡ p)
     → ((x : X) (p : Place) (ts : List Lexeme) → Q x ts → SpellsDomainNode (f x p) ts) → Again P (BuiltDomain d) ws
-domain_node d a f same placed goes = again_as a (λ x. record { build = f x; same = same x; placed = placed x }) (λ x ts q p. goes x p ts q)
+domain_node d a f same placed goes = record { again = λ tokens said h. respelled_domain_node d (a.again tokens said h) f same placed goes }
 
 -- ---- levels
 
@@ -63,44 +73,46 @@ first_token P [] ts some e goes = absurd cc
 first_token P (w ∷ ws) [] some e goes = absurd cc
 first_token P (w ∷ ws) (t ∷ us) some e goes = goes t us refl
 
-starts : (p q : Place) (t : Lexeme) (us ts : List Lexeme) → ts ≡ t ∷ us → p ≡ t.place → StartsAt p ts
-starts p q t us ts e at = subst (StartsAt p) (sym e) (sym at)
+starts : (p : Place) (t : Lexeme) (us ts : List Lexeme) → ts ≡ t ∷ us → p ≡ t.place → StartsAt p ts
+starts p t us ts e at = subst (StartsAt p) (sym e) (sym at)
 
--- an expression is spelled again where a level is asked for
+-- an expression is spelled where a level is asked for
+pub respelled_at : (asked : Level) (e : ExprTree) → has_words (expr_words e) ≡ true → nat_le (rank asked) (rank (own_level e)) ≡ true → Respelled (Built e) (expr_words e)
+    → Respelled (λ (x : Twin placeless e). At asked x.tree (SpellsNode x.tree)) (expr_words e)
+respelled_at asked e first tight r = record {
+  written = r.written;
+  said = λ ts is.
+      let n = r.said ts is in
+      first_token (λ us. (x : Twin placeless e) × At asked x.tree (SpellsNode x.tree) us) (expr_words e) ts first is (made n.0 ts n.1);
+}
+  where
+    made : (n : Node e) (ts : List Lexeme) → Built e n ts → (t : Lexeme) (us : List Lexeme) → ts ≡ t ∷ us → (x : Twin placeless e) × At asked x.tree (SpellsNode x.tree) ts
+    made n ts b t us is =
+        let x : Twin placeless e = record { tree = n.build t.place; same = n.same t.place } in
+        (x, (ap (λ l. nat_le (rank asked) (rank l)) (kept placeless own_level level_cleared e x) ∙ tight, (starts _ t us ts is (n.placed t.place), b t.place)))
+
 pub at_level : (asked : Level) (e : ExprTree) → ((tokens : List Lexeme) → SpellsNode e tokens → has_words (expr_words e) ≡ true) → Again (SpellsNode e) (Built e) (expr_words e)
     → Again (At asked e (SpellsNode e)) (λ (x : Twin placeless e). At asked x.tree (SpellsNode x.tree)) (expr_words e)
-at_level asked e some a = record { again = λ tokens said h. go (some tokens h.1.1) h.0 (a.again tokens said h.1.1) }
+at_level asked e some a = record { again = λ tokens said h. respelled_at asked e (some tokens h.1.1) h.0 (a.again tokens said h.1.1) }
+
+-- the same of a domain
+pub respelled_domain_at : (asked : DomainLevel) (d : DomainTree) → has_words (domain_words d) ≡ true → nat_le (domain_rank asked) (domain_rank (own_domain_level d)) ≡ true → Respelled (BuiltDomain d) (domain_words d)
+    → Respelled (λ (x : Twin placeless_domain d). DomainAt asked x.tree (SpellsDomainNode x.tree)) (domain_words d)
+respelled_domain_at asked d first tight r = record {
+  written = r.written;
+  said = λ ts is.
+      let n = r.said ts is in
+      first_token (λ us. (x : Twin placeless_domain d) × DomainAt asked x.tree (SpellsDomainNode x.tree) us) (domain_words d) ts first is (made n.0 ts n.1);
+}
   where
-    made : nat_le (rank asked) (rank (own_level e)) ≡ true → (n : Node e) (ts : List Lexeme) → Built e n ts → (t : Lexeme) (us : List Lexeme) → ts ≡ t ∷ us → (x : Twin placeless e) × At asked x.tree (SpellsNode x.tree) ts
-    made tight n ts b t us is =
-        let x : Twin placeless e = record { tree = n.build t.place; same = n.same t.place } in
-        (x, (ap (λ l. nat_le (rank asked) (rank l)) (kept placeless own_level level_cleared e x) ∙ tight, (starts _ t.place t us ts is (n.placed t.place), b t.place)))
+    made : (n : DomainNode d) (ts : List Lexeme) → BuiltDomain d n ts → (t : Lexeme) (us : List Lexeme) → ts ≡ t ∷ us → (x : Twin placeless_domain d) × DomainAt asked x.tree (SpellsDomainNode x.tree) ts
+    made n ts b t us is =
+        let x : Twin placeless_domain d = record { tree = n.build t.place; same = n.same t.place } in
+        (x, (ap (λ l. nat_le (domain_rank asked) (domain_rank l)) (kept placeless_domain own_domain_level domain_level_cleared d x) ∙ tight, (starts _ t us ts is (n.placed t.place), b t.place)))
 
-    go : has_words (expr_words e) ≡ true → nat_le (rank asked) (rank (own_level e)) ≡ true → Respelled (Built e) (expr_words e) → Respelled (λ (x : Twin placeless e). At asked x.tree (SpellsNode x.tree)) (expr_words e)
-    go first tight r = record {
-      written = r.written;
-      said = λ ts is.
-          let n = r.said ts is in
-          first_token (λ us. (x : Twin placeless e) × At asked x.tree (SpellsNode x.tree) us) (expr_words e) ts first is (made tight n.0 ts n.1);
-    }
-
--- a domain is spelled again where a level is asked for
 pub domain_at_level : (asked : DomainLevel) (d : DomainTree) → ((tokens : List Lexeme) → SpellsDomainNode d tokens → has_words (domain_words d) ≡ true) → Again (SpellsDomainNode d) (BuiltDomain d) (domain_words d)
     → Again (DomainAt asked d (SpellsDomainNode d)) (λ (x : Twin placeless_domain d). DomainAt asked x.tree (SpellsDomainNode x.tree)) (domain_words d)
-domain_at_level asked d some a = record { again = λ tokens said h. go (some tokens h.1.1) h.0 (a.again tokens said h.1.1) }
-  where
-    made : nat_le (domain_rank asked) (domain_rank (own_domain_level d)) ≡ true → (n : DomainNode d) (ts : List Lexeme) → BuiltDomain d n ts → (t : Lexeme) (us : List Lexeme) → ts ≡ t ∷ us → (x : Twin placeless_domain d) × DomainAt asked x.tree (SpellsDomainNode x.tree) ts
-    made tight n ts b t us is =
-        let x : Twin placeless_domain d = record { tree = n.build t.place; same = n.same t.place } in
-        (x, (ap (λ l. nat_le (domain_rank asked) (domain_rank l)) (kept placeless_domain own_domain_level domain_level_cleared d x) ∙ tight, (starts _ t.place t us ts is (n.placed t.place), b t.place)))
-
-    go : has_words (domain_words d) ≡ true → nat_le (domain_rank asked) (domain_rank (own_domain_level d)) ≡ true → Respelled (BuiltDomain d) (domain_words d) → Respelled (λ (x : Twin placeless_domain d). DomainAt asked x.tree (SpellsDomainNode x.tree)) (domain_words d)
-    go first tight r = record {
-      written = r.written;
-      said = λ ts is.
-          let n = r.said ts is in
-          first_token (λ us. (x : Twin placeless_domain d) × DomainAt asked x.tree (SpellsDomainNode x.tree) us) (domain_words d) ts first is (made tight n.0 ts n.1);
-    }
+domain_at_level asked d some a = record { again = λ tokens said h. respelled_domain_at asked d (some tokens h.1.1) h.0 (a.again tokens said h.1.1) }
 
 -- ---- operands that an operator follows
 
@@ -156,21 +168,17 @@ binary_again false t is a b c d = infix_again t is c d
 
 -- ---- lists of words
 
--- words with others before each
-abbrev pub behind : Words → List Words → Words
+-- lists with another before each
+abbrev pub behind : {A : Type 0} → List A → List (List A) → List A
 behind between [] = []
 behind between (x ∷ xs) = between ++ (x ++ behind between xs)
 
-pub joined_behind : (between x : Words) (xs : List Words) → x ++ behind between xs ≡ with_between between (x ∷ xs)
+pub joined_behind : {A : Type 0} (between x : List A) (xs : List (List A)) → x ++ behind between xs ≡ with_between between (x ∷ xs)
 unfolding with_between
-joined_behind between x [] = simp append-none
-  where
-    append-none : (ws : Words) → ws ++ [] ≡ ws
-    append-none [] = refl
-    append-none (w ∷ ws) = ap (λ vs. w ∷ vs) (append-none ws)
+joined_behind between x [] = append-nil x
 joined_behind between x (y ∷ xs) = ap (λ t. x ++ (between ++ t)) (joined_behind between y xs)
 
-pub behind-append : (between : Words) (xs ys : List Words) → behind between xs ++ behind between ys ≡ behind between (xs ++ ys)
+pub behind-append : {A : Type 0} (between : List A) (xs ys : List (List A)) → behind between xs ++ behind between ys ≡ behind between (xs ++ ys)
 behind-append between [] ys = refl
 behind-append between (x ∷ xs) ys =
     append_assoc between (x ++ behind between xs) (behind between ys) ∙ ap (λ t. between ++ t) (append_assoc x (behind between xs) (behind between ys))

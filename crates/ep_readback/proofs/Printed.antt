@@ -22,7 +22,7 @@ use Rattle.ep_readback.proofs.Scanned.{Lexed, begins_no_gap, is_short, lexed_end
 use Rattle.ep_readback.proofs.TextsAgain.{language_words, model_again}
 
 -- a word before a space
-spaced_word : (word rest : List ℕ) (words : Words) → is_written word ≡ true → Lexed rest words → Lexed (word ++ (32 ∷ rest)) (word ∷ words)
+pub spaced_word : (word rest : List ℕ) (words : Words) → is_written word ≡ true → Lexed rest words → Lexed (word ++ (32 ∷ rest)) (word ∷ words)
 unfolding is_token is_symbol
 spaced_word word rest words written later =
     let parts = and_parts (is_token word (32 ∷ [])) _ written in

@@ -83,10 +83,10 @@ tokens_said text (token ∷ tokens) found =
 abbrev pub is_written : List ℕ → Bool
 is_written word = is_token word (32 ∷ []) && (is_short word && begins_no_gap word)
 
-one_of_four : (n d w s : Bool) → n ≡ true → (n || d || w || s) ≡ true
+pub one_of_four : (n d w s : Bool) → n ≡ true → (n || d || w || s) ≡ true
 one_of_four n d w s e = rw e refl
 
-two_of_four : (n d w s : Bool) → d ≡ true → (n || d || w || s) ≡ true
+pub two_of_four : (n d w s : Bool) → d ≡ true → (n || d || w || s) ≡ true
 two_of_four true d w s e = refl
 two_of_four false d w s e = rw e refl
 

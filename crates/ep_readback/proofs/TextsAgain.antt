@@ -26,14 +26,15 @@ use Rattle.ep_readback.proofs.Scanned.{sayings, word_sayings}
 -- ---- the first token of a statement
 
 -- what begins with a word of its own stands at the place of its first token
-again_from : {P : Phrase} {X : Type 0} {Q : X → Phrase} {w : List ℕ} {ws : Words} (q : Place) → Again P Q (w ∷ ws) → Again (From q P) (λ (x : Place × X). From x.0 (Q x.1)) (w ∷ ws)
-again_from {X = X} {Q = Q} {w = w} {ws = ws} q a = record {
-  again = λ tokens said h. let r = a.again tokens said h.1 in record { written = r.written; said = λ ts e. placed ts e (r.said ts e) };
-}
+pub respelled_from : {X : Type 0} {Q : X → Phrase} {w : List ℕ} {ws : Words} → Respelled Q (w ∷ ws) → Respelled (λ (x : Place × X). From x.0 (Q x.1)) (w ∷ ws)
+respelled_from {X = X} {Q = Q} {w = w} {ws = ws} r = record { written = r.written; said = λ ts e. placed ts e (r.said ts e) }
   where
     placed : (ts : List Lexeme) → sayings ts ≡ word_sayings (w ∷ ws) → (x : X) × Q x ts → (y : Place × X) × From y.0 (Q y.1) ts
     placed [] e x = absurd cc
     placed (t ∷ ts) e x = ((t.place, x.0), (refl, x.1))
+
+again_from : {P : Phrase} {X : Type 0} {Q : X → Phrase} {w : List ℕ} {ws : Words} (q : Place) → Again P Q (w ∷ ws) → Again (From q P) (λ (x : Place × X). From x.0 (Q x.1)) (w ∷ ws)
+again_from q a = record { again = λ tokens said h. respelled_from (a.again tokens said h.1) }
 
 -- ---- lists
 
