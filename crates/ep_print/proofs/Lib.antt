@@ -4,3 +4,5 @@ pub mod Turns
 pub mod RunLaws
 pub mod Appends
 pub mod Matrices
+pub mod Arms
+pub mod Sentences

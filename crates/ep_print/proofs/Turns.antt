@@ -1,8 +1,9 @@
 -- Turns of loops that put out one item after another.
-use Rattle.std.proofs.Common.{◌≡◌, ℕ, suc, ◌+◌, ◌<◌, ◌≤◌, Bool, true, List, [], ◌∷◌, ◌++◌, length, drop, get_or, refl, sym, ap, ◌∙◌, append_assoc, add-one}
+use Rattle.std.proofs.Common.{◌≡◌, ℕ, suc, ◌+◌, ◌<◌, ◌≤◌, Bool, true, List, [], ◌∷◌, ◌++◌, length, drop, get_or, refl, sym, ap, ◌∙◌, append_assoc, add-one, map}
 use Rattle.std.proofs.Math.Seq.{drop-cons}
 use Rattle.std.proofs.Math.ListN.{drop_of_length-le}
-use Rattle.std.proofs.lemmas.List.{append-nil}
+use Rattle.std.proofs.lemmas.List.{append-nil, drop_all, drop_more}
+use Rattle.std.specs.Borrow.{Bor}
 use Rattle.ep_print.specs.Putting.{between_if, continued, spaced}
 use Rattle.ep_print.specs.Words.{Words}
 use Rattle.ep_print.proofs.Appends.{three}
@@ -74,3 +75,16 @@ text_more b started x xs all t0 t1 t2 goal is first second so_far =
 pub text_end : (b : List ℕ) (started : Bool) (all : List (List ℕ)) (t goal : List ℕ) → all ≡ [] → t ++ continued b started all ≡ goal → t ≡ goal
 unfolding continued
 text_end b started all t goal is so_far = sym (ap (λ ts. t ++ continued b started ts) is ∙ append-nil t) ∙ so_far
+
+-- ---- words without anything between them
+
+pub words_turn : (ws : List (Bor (List ℕ))) (i : ℕ) (d : Bor (List ℕ)) (t0 t1 goal : List ℕ) → i < length ws → t1 ≡ t0 ++ spaced ((get_or ws i d).now ∷ [])
+    → t0 ++ spaced (map (λ w. w.now) (drop i ws)) ≡ goal → t1 ++ spaced (map (λ w. w.now) (drop (i + 1) ws)) ≡ goal
+words_turn ws i d t0 t1 goal lt first so_far =
+    let rest = map (λ w. w.now) (drop (i + 1) ws) in
+    puts_both t0 t1 (t1 ++ spaced rest) ((get_or ws i d).now ∷ []) rest first refl
+    ∙ ap (λ xs. t0 ++ spaced (map (λ w. w.now) xs)) (sym (drop_more ws i d lt)) ∙ so_far
+
+pub words_end : (ws : List (Bor (List ℕ))) (i : ℕ) (t goal : List ℕ) → length ws ≤ i → t ++ spaced (map (λ w. w.now) (drop i ws)) ≡ goal → t ≡ goal
+words_end ws i t goal le so_far =
+    sym (ap (λ xs. t ++ spaced (map (λ w. w.now) xs)) (drop_all i ws le) ∙ ap (λ s. t ++ s) spaced-nil ∙ append-nil t) ∙ so_far

@@ -2,10 +2,14 @@
 #![tactic(auto)]
 
 mod answers;
+mod expressions;
 mod indices;
 mod lines;
 mod numbers;
+mod operators;
 mod refusals;
+mod spaced;
+mod statements;
 #[cfg(test)]
 mod tests;
 mod texts;

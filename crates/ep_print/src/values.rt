@@ -14,7 +14,7 @@ use ep_base::Memory;
 use ep_tree::{Scalar, Value, ValueType};
 use std::alloc::{AllocError, Global};
 
-/// The text of a value of a type.
+/// The text of a value of a type. One pass, linear in the text.
 pub fn print_value(alloc: Global, ty: &ValueType, value: &Value) -> Result<Vec<u8>, Memory>
     requires typed { IsOf ty.now (value_tree value.now) }
     ensures text { IfOk result (λ text. text.items ≡ value_text ty.now (value_tree value.now)) }

@@ -1,0 +1,13 @@
+pub mod Glue
+pub mod Scanned
+pub mod Said
+pub mod Respelled
+pub mod Literals
+pub mod Clearing
+pub mod Pieces
+pub mod Spelled
+pub mod TextsAgain
+pub mod Printed
+pub mod ValuesSpelled
+pub mod ValuesLexed
+pub mod Answered
