@@ -4,6 +4,7 @@
 mod answers;
 mod indices;
 mod lines;
+mod listings;
 mod numbers;
 mod refusals;
 #[cfg(test)]
@@ -13,6 +14,7 @@ mod values;
 
 pub use answers::{Answer, print_answer};
 pub use lines::refusal_line;
+pub use listings::{Listing, ListingEnd, print_listing};
 pub use refusals::{Refusal, TextFile};
 pub use texts::print_model;
 pub use values::print_value;
