@@ -1,3 +1,5 @@
 pub mod Posing
-pub mod Searching
 pub mod Deciding
+pub mod Searching
+pub mod OtherNumbers
+pub mod Listing

@@ -1,11 +1,11 @@
 -- How a search goes on: the log with more events, what the best so far leaves, and the three ends.
-use Rattle.std.proofs.Common.{◌≡◌, ◌↔◌, ℕ, ◌+◌, ◌-◌, ◌<◌, ◌≤◌, suc, zero, ℤ, Bool, true, false, List, [], ◌∷◌, ◌++◌, length, Option, None, Some, refl, sym, ap, subst, ◌∙◌, arith, append_assoc}
+use Rattle.std.proofs.Common.{◌≡◌, ◌↔◌, ℕ, ◌-◌, ◌<◌, ◌≤◌, suc, ℤ, Bool, true, false, List, [], ◌∷◌, ◌++◌, length, Option, None, Some, refl, sym, ap, subst, ◌∙◌, arith, append_assoc}
 use Rattle.std.proofs.lemmas.Int.{ints}
-use Rattle.std.specs.Prelude.{Err, IfSome, IsErr, IsSome, IsSomeAnd, IsTrue, MatchOption, Ok, Result, filter, unwrap_or, drop, int_lt, map, option_map, slice_get, slice_index_or, take}
+use Rattle.std.specs.Prelude.{IfSome, IsErr, IsSome, IsSomeAnd, IsTrue, MatchOption, Ok, Result, filter, unwrap_or, drop, map, option_map, slice_get, take}
 use Rattle.std.specs.List.{All, AllPairs, AllZip, Contains}
 use Rattle.std.proofs.lemmas.Bool.{false≢true}
 use Rattle.std.proofs.lemmas.List.{append-nil}
-use Rattle.std.proofs.lemmas.List.Elements.{All-append, All-cons, All-contains, All-get_or, All-head, All-nil, All-push, All-tail, All-weaker, Contains-append_left, Contains-append_right, Contains-push}
+use Rattle.std.proofs.lemmas.List.Elements.{All-cons, All-contains, All-get_or, All-head, All-nil, All-push, All-tail, All-weaker, Contains-append_left, Contains-append_right}
 use Rattle.std.proofs.lemmas.List.Sums.{length-filter}
 use Rattle.std.proofs.lemmas.List.Kept.{AllPairs-cons}
 use Rattle.cnf_core.specs.Clauses.{Satisfies, SatisfiesClause}
@@ -14,12 +14,12 @@ use Rattle.cnf_core.specs.Literal.{Literal}
 use Rattle.cnf_core.proofs.Members.{All-from_contains}
 use Rattle.ep_base.specs.declared.operators.Sense.{Sense}
 use Rattle.enc_var.specs.Decoding.{Means, VariableLiterals, decoded}
-use Rattle.enc_var.specs.Layouts.{AreGiven, GivesCells, decoded_cells, decoded_values, literals_at}
+use Rattle.enc_var.specs.Layouts.{GivesCells, decoded_cells, decoded_values, literals_at}
 use Rattle.ep_flat.specs.Cons.{number_at}
-use Rattle.ep_flat.specs.Flats.{MapState, objective_number}
+use Rattle.ep_flat.specs.Flats.{objective_number}
 use Rattle.ep_answer.proofs.Deciding.{lt_true, number_is, numbers_fall}
-use Rattle.ep_answer.specs.Answered.{AnswersCells, FoundCells, Improves, IsBetterThan, IsBudgetSpent, IsReachedGoal, IsRightAnswer, IsStillWanted, SaysBetter, added_givens, best_number, is_better, no_solution, optimum, solution, unknown}
-use Rattle.ep_answer.specs.Problems.{CanSearch, IsAllowed, IsLeft, ProblemState, base_clauses}
+use Rattle.ep_answer.specs.Answered.{AnswersCells, FoundCells, Improves, IsBetterThan, IsReachedGoal, IsRightAnswer, IsStillWanted, SaysBetter, added_givens, best_number, is_better, no_solution, optimum, solution, unknown}
+use Rattle.ep_answer.specs.Problems.{CanSearch, IsAllowed, ProblemState, base_clauses}
 use Rattle.ep_answer.specs.Searches.{ClauseSaysBetter, Continues, HasFound, IsImproved, IsPursued, best_answer, numbers_left, values_of}
 use Rattle.sat_search.proofs.Continued.{sound_givens}
 use Rattle.sat_search.specs.View.{SolverView, value_in}
@@ -35,7 +35,7 @@ drop_front : {X : Type 0} (xs ys : List X) → drop (length xs) (xs ++ ys) ≡ y
 drop_front [] ys = refl
 drop_front (x ∷ xs) ys = drop_front xs ys
 
-givens_append : (before added : List LogEvent) → givens (before ++ added) ≡ givens before ++ givens added
+pub givens_append : (before added : List LogEvent) → givens (before ++ added) ≡ givens before ++ givens added
 givens_append [] added = refl
 givens_append (given clause ∷ before) added = ap (λ cs. clause ∷ cs) (givens_append before added)
 givens_append (step clause hints ∷ before) added = givens_append before added
@@ -46,11 +46,11 @@ no_givens (given clause ∷ added) all = absurd (false≢true (sym (All-head (λ
 no_givens (step clause hints ∷ added) all = no_givens added (All-tail (λ e. is_given e ≡ false) (step clause hints) added all)
 
 -- steps add no given
-givens_stay : (before added : List LogEvent) → All (λ e. is_given e ≡ false) added → givens (before ++ added) ≡ givens before
+pub givens_stay : (before added : List LogEvent) → All (λ e. is_given e ≡ false) added → givens (before ++ added) ≡ givens before
 givens_stay before added steps = givens_append before added ∙ ap (λ cs. givens before ++ cs) (no_givens added steps) ∙ append-nil (givens before)
 
 -- no event is added
-pub begun : (budget : ℕ) (log : LogState) → IsSound log.events → nonempty_steps log.events ≤ budget → Continues budget log log
+unfoldable pub begun : (budget : ℕ) (log : LogState) → IsSound log.events → nonempty_steps log.events ≤ budget → Continues budget log log
 begun budget log sound within = record {
   sound = sound;
   within = within;
@@ -61,7 +61,7 @@ begun budget log sound within = record {
 }
 
 -- steps are added
-pub goes_by_steps : (budget : ℕ) (old now next : LogState) → Continues budget old now → AddsSteps now next → IsSound next.events → nonempty_steps next.events ≤ budget → Continues budget old next
+unfoldable pub goes_by_steps : (budget : ℕ) (old now next : LogState) → Continues budget old now → AddsSteps now next → IsSound next.events → nonempty_steps next.events ≤ budget → Continues budget old next
 goes_by_steps budget old now next goes adds sound within = record {
   sound = sound;
   within = within;
@@ -72,7 +72,7 @@ goes_by_steps budget old now next goes adds sound within = record {
 }
 
 -- a given is added
-pub goes_by_given : (budget : ℕ) (old now next : LogState) (clause : List Literal) → Continues budget old now → next ≡ record now { events = now.events ++ given clause ∷ [] } → IsSound next.events → nonempty_steps next.events ≤ budget → Continues budget old next
+unfoldable pub goes_by_given : (budget : ℕ) (old now next : LogState) (clause : List Literal) → Continues budget old now → next ≡ record now { events = now.events ++ given clause ∷ [] } → IsSound next.events → nonempty_steps next.events ≤ budget → Continues budget old next
 goes_by_given budget old now next clause goes is sound within = record {
   sound = sound;
   within = within;
@@ -85,7 +85,7 @@ goes_by_given budget old now next clause goes is sound within = record {
 pub front_stays : (budget : ℕ) (old now : LogState) → Continues budget old now → take (length old.events) now.events ≡ old.events
 front_stays budget old now goes = ap (λ es. take (length old.events) es) goes.events ∙ take_front old.events goes.more
 
-added_are : (budget : ℕ) (old now : LogState) (goes : Continues budget old now) → added_givens old now ≡ givens goes.more
+pub added_are : (budget : ℕ) (old now : LogState) (goes : Continues budget old now) → added_givens old now ≡ givens goes.more
 added_are budget old now goes = ap (λ es. givens (drop (length old.events) es)) goes.events ∙ ap givens (drop_front old.events goes.more)
 
 -- the problem's own clauses are the old log's givens
@@ -102,15 +102,15 @@ base_stays budget old now is goes =
     ap (λ n. givens (take n now.events)) (goes.base ∙ is) ∙ ap givens (front_stays budget old now goes) ∙ sym (base_is old is)
 
 -- what is said of the old log's own clauses is said of the new one's
-long_domains : (layout : List VariableLiterals) → length (map (λ e. e.domain) layout) ≡ length layout
+pub long_domains : (layout : List VariableLiterals) → length (map (λ e. e.domain) layout) ≡ length layout
 long_domains [] = refl
 long_domains (e ∷ layout) = ap suc (long_domains layout)
 
 module _ (p : ProblemState) (old now : LogState) (same : base_clauses now ≡ base_clauses old) where
-  allowed_now : (cells : List ℤ) (goal : Option ℤ) → IsAllowed p old cells goal → IsAllowed p now cells goal
+  pub allowed_now : (cells : List ℤ) (goal : Option ℤ) → IsAllowed p old cells goal → IsAllowed p now cells goal
   allowed_now cells goal h = subst (λ cs. GivesCells p.layout p.variables cs cells goal) (sym same) h
 
-  allowed_then : (cells : List ℤ) (goal : Option ℤ) → IsAllowed p now cells goal → IsAllowed p old cells goal
+  pub allowed_then : (cells : List ℤ) (goal : Option ℤ) → IsAllowed p now cells goal → IsAllowed p old cells goal
   allowed_then cells goal h = subst (λ cs. GivesCells p.layout p.variables cs cells goal) same h
 
   reached_now : (n : ℤ) → IsReachedGoal p old n → IsReachedGoal p now n
@@ -207,7 +207,7 @@ better_on p best number goal first second = record {
     through Sense.Minimising x y z a b = lt_true x z (omega (arith, ints, a, b))
     through Sense.Maximising x y z a b = lt_true z x (omega (arith, ints, a, b))
 
-zip_push : {A B : Type 0} (R : A → B → Type 0) (xs : List A) (ys : List B) (x : A) (y : B) → AllZip R xs ys → R x y → AllZip R (xs ++ x ∷ []) (ys ++ y ∷ [])
+pub zip_push : {A B : Type 0} (R : A → B → Type 0) (xs : List A) (ys : List B) (x : A) (y : B) → AllZip R xs ys → R x y → AllZip R (xs ++ x ∷ []) (ys ++ y ∷ [])
 zip_push R [] [] x y h r = (r, tt)
 zip_push R [] (b ∷ ys) x y h r = absurd h
 zip_push R (a ∷ xs) [] x y h r = absurd h
@@ -228,7 +228,7 @@ last_pushed xs x = ap (λ n. slice_get (xs ++ x ∷ []) n) (one_less xs x) ∙ t
     there [] y = refl
     there (z ∷ ys) y = there ys y
 
-pairs_push : {X : Type 0} (R : X → X → Type 0) (xs : List X) (x : X) → AllPairs R xs → All (λ y. R y x) xs → AllPairs R (xs ++ x ∷ [])
+pub pairs_push : {X : Type 0} (R : X → X → Type 0) (xs : List X) (x : X) → AllPairs R xs → All (λ y. R y x) xs → AllPairs R (xs ++ x ∷ [])
 pairs_push R [] x pairs all = λ i j d low high. absurd (omega (arith, low, high))
 pairs_push R (y ∷ xs) x pairs all =
     AllPairs-cons R y (xs ++ x ∷ []) (All-push (R y) xs x (λ k d low. pairs 0 (suc k) d (omega arith) (omega (arith, low))) (All-head (λ z. R z x) y xs all))
@@ -243,10 +243,10 @@ all_beaten p old s goal base is (n ∷ ns) (c ∷ cs) said met =
     All-cons (λ m. IsBetterThan p m goal) n ns (subst (IsBetterThan p n) is ((said.0.says s base).0 (All-head (SatisfiesClause s) c cs met)))
     (all_beaten p old s goal base is ns cs said.1 (All-tail (SatisfiesClause s) c cs met))
 
-first_part : (s : ℕ → Bool) (xs ys : List (List Literal)) → Satisfies s (xs ++ ys) → Satisfies s xs
+pub first_part : (s : ℕ → Bool) (xs ys : List (List Literal)) → Satisfies s (xs ++ ys) → Satisfies s xs
 first_part s xs ys h = All-from_contains (SatisfiesClause s) xs (λ c found. All-contains (SatisfiesClause s) (xs ++ ys) c h (Contains-append_left xs ys c found))
 
-second_part : (s : ℕ → Bool) (xs ys : List (List Literal)) → Satisfies s (xs ++ ys) → Satisfies s ys
+pub second_part : (s : ℕ → Bool) (xs ys : List (List Literal)) → Satisfies s (xs ++ ys) → Satisfies s ys
 second_part s xs ys h = All-from_contains (SatisfiesClause s) ys (λ c found. All-contains (SatisfiesClause s) (xs ++ ys) c h (Contains-append_right xs ys c found))
 
 -- the clause says of the problem that the objective is better

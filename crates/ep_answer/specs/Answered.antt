@@ -112,12 +112,16 @@ pub data ListingEnd : Type 0 where
   stopped : ListingEnd
   spent : ListingEnd
 
--- when such an end of a listing of so many is right
-unfoldable pub IsRightEnd : ℕ → ℕ → LogState → ℕ → ListingEnd → Type 0
-IsRightEnd budget most log count complete = (count < most) × EndsWithEmptyStep log.events
-IsRightEnd budget most log count stopped = count ≡ most
-IsRightEnd budget most log count spent =
-    (count < most) × (nonempty_steps log.events ≡ budget) × NoneIsEmpty log.events
+-- When such an end of a listing is right. With all: they are fewer than were wanted, whatever numbers are allowed were found, and
+-- the log ends with the empty step.
+unfoldable pub IsRightEnd : ProblemState → ℕ → ℕ → LogState → List (List ℤ) → ListingEnd → Type 0
+IsRightEnd p budget most log found complete =
+    (length found < most)
+    × ((cells : List ℤ) (goal : Option ℤ) → IsAllowed p log cells goal → Contains found cells)
+    × EndsWithEmptyStep log.events
+IsRightEnd p budget most log found stopped = length found ≡ most
+IsRightEnd p budget most log found spent =
+    (length found < most) × (nonempty_steps log.events ≡ budget) × NoneIsEmpty log.events
 
 -- a literal is the negation of that of a note
 pub record IsNegatedNote (log : LogState) (l : Literal) : Type 0 where
@@ -142,4 +146,4 @@ pub record ListsCells (p : ProblemState) (budget most : ℕ) (old new : LogState
   pub blocked : AllZip (BlocksCells p new) found (added_givens old new)
   pub left : (cells : List ℤ) (goal : Option ℤ)
       → IsLeft p new cells goal ↔ (IsAllowed p new cells goal × (Contains found cells → ⊥))
-  pub right_end : IsRightEnd budget most new (length found) end
+  pub right_end : IsRightEnd p budget most new found end

@@ -1,17 +1,17 @@
 -- What a search keeps between its calls: how the log went on, what the best so far leaves, and the values that a solver keeps.
-use Rattle.std.specs.Prelude.{◌≡◌, ◌↔◌, ◌≤◌, ◌<◌, ◌-◌, ◌++◌, ◌∷◌, false, ℕ, ℤ, Bool, IfSome, IsSome, IsTrue, List, [], filter, length, suc, Option, None, Some, option_map, slice_get, unwrap_or}
+use Rattle.std.specs.Prelude.{◌≡◌, ◌≢◌, ◌↔◌, ◌≤◌, ◌<◌, ◌-◌, ◌++◌, ◌∷◌, false, ℕ, ℤ, Bool, IfSome, IsSome, IsTrue, List, [], filter, length, suc, Option, None, Some, option_map, slice_get, slice_index_or, take, unwrap_or}
 use Rattle.std.specs.List.{All, AllPairs, AllZip, Contains}
 use Rattle.cnf_core.specs.Clauses.{Satisfies, SatisfiesClause}
 use Rattle.cnf_core.specs.Events.{LogEvent, LogState, clauses_of, given, givens, nonempty_steps}
-use Rattle.cnf_core.specs.Literal.{Literal}
+use Rattle.cnf_core.specs.Literal.{Literal, negation}
 use Rattle.ep_base.specs.Runs.{IsIn}
 use Rattle.ep_base.specs.declared.operators.Sense.{Sense}
 use Rattle.ep_base.specs.declared.run_lists.Run.{Run}
-use Rattle.enc_var.specs.Decoding.{Means, VariableLiterals, decoded}
+use Rattle.enc_var.specs.Decoding.{Means, VariableLiterals, decoded, note_of}
 use Rattle.enc_var.specs.Layouts.{decoded_cells, decoded_values, literals_at}
-use Rattle.ep_flat.specs.Cons.{number_at}
+use Rattle.ep_flat.specs.Cons.{number_at, numbers_at}
 use Rattle.ep_flat.specs.Flats.{objective_number}
-use Rattle.ep_answer.specs.Answered.{FoundCells, IsBetterThan, IsReachedGoal, IsStillWanted, SaysBetter, is_better, no_solution, optimum}
+use Rattle.ep_answer.specs.Answered.{BlocksCells, FoundCells, IsBetterThan, IsReachedGoal, IsStillWanted, SaysBetter, is_better, no_solution, optimum}
 use Rattle.ep_answer.specs.Problems.{IsAllowed, ProblemState, base_clauses}
 use Rattle.sat_search.specs.Logs.{IsSound}
 use Rattle.sat_search.specs.View.{SolverView, value_in}
@@ -84,3 +84,50 @@ pub record HasFound (p : ProblemState) (variable : ℕ) (log : LogState) : Type 
   pub cells : All (λ x. x < length p.layout) p.variables.cells
   pub there : variable < length p.layout
   pub meaning : All (Means (values_of p.solver)) p.layout
+
+-- the literal says that one of the variables isn't its number
+pub record IsNotNumber (layout : List VariableLiterals) (vars : List ℕ) (cells : List ℤ) (l : Literal) : Type 0 where
+  pub place : ℕ
+  pub there : place < length vars
+  pub is : (x : ℕ) (v : ℤ) → l ≡ negation (note_of (literals_at layout (slice_index_or vars place x)) (slice_index_or cells place v))
+
+-- Where the literals mean what they say, the clause holds exactly where the variables have other numbers than these, and each of its
+-- literals says that one of the variables isn't its number.
+pub record OtherNumbers (layout : List VariableLiterals) (vars : List ℕ) (cells : List ℤ) (clause : List Literal) : Type 0 where
+  pub says : (s : ℕ → Bool) → All (Means s) layout → SatisfiesClause s clause ↔ (numbers_at (decoded_values layout s) vars ≢ cells)
+  pub literals : All (IsNotNumber layout vars cells) clause
+
+-- The same of the first so many variables.
+pub record BlocksFirst (layout : List VariableLiterals) (vars : List ℕ) (cells : List ℤ) (count : ℕ) (literals_so_far : List Literal) : Type 0 where
+  pub says : (s : ℕ → Bool) → All (Means s) layout → SatisfiesClause s literals_so_far ↔ (numbers_at (decoded_values layout s) (take count vars) ≢ take count cells)
+  pub literals : All (IsNotNumber layout vars cells) literals_so_far
+
+-- each number is one that its variable can have
+abbrev pub AreNumbers : List VariableLiterals → List ℕ → List ℤ → Type 0
+AreNumbers layout vars cells = AllZip (λ x v. Contains (literals_at layout x).domain v) vars cells
+
+-- One more solution was found and a given added: an assignment gives the cells these numbers, and the given blocks them.
+pub record IsBlocked (p : ProblemState) (s : ℕ → Bool) (old new : LogState) (cells : List ℤ) : Type 0 where
+  pub cells_are : cells ≡ decoded_cells p.layout p.variables s
+  pub clause : List Literal
+  pub blocks : OtherNumbers p.layout p.variables.cells cells clause
+  pub new_is : new ≡ record old { events = old.events ++ given clause ∷ [] }
+
+-- what is asked of a problem and of its log where a solution was found that is to be blocked
+pub record HasCells (p : ProblemState) (log : LogState) : Type 0 where
+  pub is_whole : p.solver.broken ≡ false
+  pub kept : IsSome p.solver.kept
+  pub sound : IsSound log.events
+  pub clauses : p.solver.clauses ≡ clauses_of log.events
+  pub cells : All (λ x. x < length p.layout) p.variables.cells
+  pub meaning : All (Means (values_of p.solver)) p.layout
+
+-- Solutions are being listed: each is allowed, no two are equal, the givens added block them one by one, and what is left is exactly
+-- what wasn't found.
+pub record IsListed (p : ProblemState) (budget : ℕ) (old now : LogState) (found : List (List ℤ)) : Type 0 where
+  pub goes : Continues budget old now
+  pub allowed : All (λ cells. (goal : Option ℤ) × IsAllowed p old cells goal) found
+  pub different : AllPairs ◌≢◌ found
+  pub blocked : AllZip (BlocksCells p old) found (givens goes.more)
+  pub left : (s : ℕ → Bool) → Satisfies s (givens now.events)
+      ↔ (Satisfies s (base_clauses old) × (Contains found (decoded_cells p.layout p.variables s) → ⊥))

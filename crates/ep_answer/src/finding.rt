@@ -8,7 +8,8 @@ ghost use Rattle.ep_answer.specs.Searches.{best_answer};
 ghost use Rattle.cnf_core.specs.Events.{clauses_of, givens};
 ghost use Rattle.sat_search.specs.Logs.{IsSound};
 
-use crate::answers::{CellAnswer, CellListing};
+use crate::answers::{CellAnswer, CellListing, End};
+use crate::blocking::block;
 use crate::decoding::numbers_of;
 use crate::improving::improve;
 use crate::problem::Problem;
@@ -99,7 +100,7 @@ fn best_of_all(best: Option<(i64, Vec<i64>)>) -> CellAnswer
 /// Up to `most` solutions. After each one a given is added, over literals of the cells alone, which
 /// blocks it.
 pub fn enumerate_cells(
-    _alloc: Global,
+    alloc: Global,
     p: &mut Problem,
     most: u64,
     budget: u64,
@@ -115,9 +116,29 @@ pub fn enumerate_cells(
     ensures problem { plain_problem p.new ≡ record (plain_problem p.old) { solver = p.new.solver } }
     ensures clauses { p.new.solver.broken ≡ false → p.new.solver.clauses ≡ clauses_of log.new.events }
 {
-    let _problem = p;
-    let _most = most;
-    let _budget = budget;
-    let _log = log;
-    Err(Memory)
+    let mut found: Vec<Vec<i64>> = Vec::new(alloc);
+    'solutions: while (found.len() as u64) < most {
+        let Ok(outcome) = p.solver.solve(budget, log) else {
+            return Err(Memory);
+        };
+        match outcome {
+            Outcome::Sat => found.push(block(alloc, p, log)?)?,
+            Outcome::Unsat => {
+                return Ok(CellListing {
+                    found,
+                    end: End::Complete,
+                });
+            }
+            Outcome::Spent => {
+                return Ok(CellListing {
+                    found,
+                    end: End::Spent,
+                });
+            }
+        }
+    }
+    Ok(CellListing {
+        found,
+        end: End::Stopped,
+    })
 }

@@ -2,6 +2,7 @@
 #![tactic(auto)]
 
 mod answers;
+mod blocking;
 mod decoding;
 mod finding;
 mod improving;

@@ -1,6 +1,7 @@
 mod Vectors
 pub mod Puts
 pub mod Turns
+pub mod Numbering
 pub mod RunLaws
 pub mod Appends
 pub mod Matrices

@@ -18,6 +18,7 @@ use Rattle.ep_tree.specs.declared.values.Scalar.{Scalar}
 use Rattle.ep_tree.specs.declared.values.ValueType.{ValueType}
 use Rattle.ep_print.specs.Answers.{answer_text, letting_text, no_solution, optimum, solution, unknown, unknown_with}
 use Rattle.ep_print.specs.Joining.{with_between}
+use Rattle.ep_print.specs.Listings.{complete, end_text, listing_text, solution_text, solution_texts, spent, stopped}
 use Rattle.ep_print.specs.Models.{model_text, statement_text}
 use Rattle.ep_print.specs.Refusals.{file_word, limit_word, place_text, refusal_text, refusal_words}
 use Rattle.ep_print.specs.Values.{indices_text, run_text, runs_of, scalar_text, scalar_value_text, stretch_from, value_text}
@@ -27,7 +28,7 @@ use Rattle.ep_print.specs.declared.refusals.TextFile.{TextFile}
 
 -- a vector that says `unfolding the_texts` computes with all of these
 unfoldable the_texts : ℕ
-unfolding digits answer_text letting_text with_between model_text statement_text file_word limit_word place_text refusal_words indices_text run_text runs_of scalar_text scalar_value_text stretch_from value_text binary_words expr_words group_words sense_word stated_words statement_words scalar_of binary_word compare_word fold_word is_called quantifier_word set_word sign_word truth_word
+unfolding digits answer_text letting_text listing_text solution_texts solution_text end_text with_between model_text statement_text file_word limit_word place_text refusal_words indices_text run_text runs_of scalar_text scalar_value_text stretch_from value_text binary_words expr_words group_words sense_word stated_words statement_words scalar_of binary_word compare_word fold_word is_called quantifier_word set_word sign_word truth_word
 the_texts = 0
 
 abbrev p : Place
@@ -88,6 +89,33 @@ answer-5 : answer_text (unknown_with 10 (pos 7) x_is_two)
     ≡ codes "language ESSENCE' 1.0\n$ unknown 10 conflicts\n$ incumbent 7\nletting x be 2\n"
 unfolding the_texts
 answer-5 = refl
+
+-- ---- lists of solutions
+
+abbrev y_is : ℕ → List NamedValue
+y_is n = record { name = codes "y"; ty = ValueType.Int; value = single (pos n) } ∷ []
+
+listing-1 : listing_text (record { found = y_is 2 ∷ x_is_two ∷ []; ending = complete })
+    ≡ codes "language ESSENCE' 1.0\n$ solution 1\nletting y be 2\n$ solution 2\nletting x be 2\n$ complete\n"
+unfolding the_texts
+listing-1 = refl
+
+listing-2 : listing_text (record { found = []; ending = complete }) ≡ codes "language ESSENCE' 1.0\n$ no solution\n"
+unfolding the_texts
+listing-2 = refl
+
+listing-3 : listing_text (record { found = y_is 3 ∷ []; ending = stopped }) ≡ codes "language ESSENCE' 1.0\n$ solution 1\nletting y be 3\n"
+unfolding the_texts
+listing-3 = refl
+
+listing-4 : listing_text (record { found = []; ending = spent 12 }) ≡ codes "language ESSENCE' 1.0\n$ unknown 12 conflicts\n"
+unfolding the_texts
+listing-4 = refl
+
+-- a solution without a decision variable
+listing-5 : listing_text (record { found = [] ∷ []; ending = spent 7 }) ≡ codes "language ESSENCE' 1.0\n$ solution 1\n$ unknown 7 conflicts\n"
+unfolding the_texts
+listing-5 = refl
 
 -- ---- statements
 

@@ -62,7 +62,11 @@ fn push_answer(text: &mut Vec<u8>, answer: &Answer) -> Result<(), AllocError>
 }
 
 /// Words and values.
-fn push_found(text: &mut Vec<u8>, words: &[u8], found: &Assignment) -> Result<(), AllocError>
+pub(crate) fn push_found(
+    text: &mut Vec<u8>,
+    words: &[u8],
+    found: &Assignment,
+) -> Result<(), AllocError>
     ensures { OnOk result (text.new.items
         ≡ text.old.items ++ (words.now ++ letting_texts (assigned found.now))) }
 {
@@ -105,7 +109,7 @@ fn push_incumbent(
 
 /// That the budget was spent.
 #[tactic(auto, unfolding(crate::specs::Answers::unknown_text))]
-fn push_unknown(text: &mut Vec<u8>, conflicts: u64) -> Result<(), AllocError>
+pub(crate) fn push_unknown(text: &mut Vec<u8>, conflicts: u64) -> Result<(), AllocError>
     ensures { OnOk result (text.new.items ≡ text.old.items ++ unknown_text conflicts) }
 {
     text.extend_from_slice(b"$ unknown ")?;

@@ -5,6 +5,7 @@ mod answers;
 mod expressions;
 mod indices;
 mod lines;
+mod listings;
 mod numbers;
 mod operators;
 mod refusals;
@@ -17,6 +18,7 @@ mod values;
 
 pub use answers::{Answer, print_answer};
 pub use lines::refusal_line;
+pub use listings::{Listing, ListingEnd, print_listing};
 pub use refusals::{Refusal, TextFile};
 pub use texts::print_model;
 pub use values::print_value;

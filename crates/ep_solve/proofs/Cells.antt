@@ -25,7 +25,7 @@ use Rattle.ep_print.specs.Answers.{AreTyped}
 use Rattle.std.proofs.lemmas.List.Elements.{All-cons, All-head, All-nil, All-tail}
 use Rattle.ep_unroll.specs.Cells.{bound_numbers, find_cells, found_numbers, index_lists, instance_cells, is_truth}
 use Rattle.ep_solve.specs.Reading.{GivesNumbers, ReadsAs, assignment_from, found_of, value_from}
-use Rattle.ep_solve.proofs.Scalars.{Passing, all-weaker, fitted-passes, value-fits, value-made, value-typed}
+use Rattle.ep_solve.proofs.Scalars.{Passing, all-weaker, fitted-passes, value-fits, value-made, value-read, value-typed}
 
 -- ---- how many cells there are
 
@@ -296,3 +296,38 @@ numbers-read i numbers closed h =
       numbers_are = q.numbers_are;
       typed = q.typed;
     }
+
+-- ---- what fits is what is read from the numbers of its cells
+
+read-first : (f : Find) (fs : List Find) (v : ValueTree) (numbers : List ℤ) → value_from f.indices numbers ≡ (v, (value_from f.indices numbers).1)
+    → found_of (assignment_from (f ∷ fs) numbers) ≡ (f.name, has_value (find_type f) v) ∷ found_of (assignment_from fs (value_from f.indices numbers).1)
+unfolding assignment_from
+read-first f fs v numbers e =
+    ap (λ (w : ValueTree). (f.name, has_value (find_type f) w) ∷ found_of (assignment_from fs (value_from f.indices numbers).1)) (ap (λ (p : ValueTree × List ℤ). p.0) e)
+
+read-none : (numbers : List ℤ) → found_of (assignment_from [] numbers) ≡ []
+unfolding assignment_from
+read-none numbers = refl
+
+finds-found : (fs : List Find) (a : Assigned) (found : Found) → found_values fs a ≡ Some found → found_of (assignment_from fs (found_numbers found)) ≡ found
+unfolding found_values
+finds-found [] a [] e = read-none (found_numbers [])
+finds-found [] a (x ∷ found) e = absurd cc
+finds-found (f ∷ fs) a found e =
+    let cut = both-found f.name (find_type f) (option_and_then (fitted_find f) (named_in a f.name)) (found_values fs a) found e in
+    let v : ValueTree = cut.0 in
+    let rest : Found = cut.1 in
+    let value = given-value f (named_in a f.name) v cut.2 in
+    let numbers : List ℤ = scalars_of v ++ found_numbers rest in
+    let read : value_from f.indices numbers ≡ (v, found_numbers rest) = value-read value.1 f.scalar (has_number f.values) f.indices value.0 v (found_numbers rest) value.2 in
+    let left : (value_from f.indices numbers).1 ≡ found_numbers rest = ap (λ (p : ValueTree × List ℤ). p.1) read in
+    let whole : value_from f.indices numbers ≡ (v, (value_from f.indices numbers).1) = read ∙ ap (λ (ns : List ℤ). (v, ns)) (sym left) in
+    let P : Found → Type 0 = λ x. found_of (assignment_from (f ∷ fs) (found_numbers x)) ≡ x in
+    subst P cut.4
+    (ap (λ ns. found_of (assignment_from (f ∷ fs) ns)) (found-first f.name (find_type f) v rest)
+    ∙ read-first f fs v numbers whole
+    ∙ ap (λ ns. (f.name, has_value (find_type f) v) ∷ found_of (assignment_from fs ns)) left
+    ∙ ap (λ (others : Found). (f.name, has_value (find_type f) v) ∷ others) (finds-found fs a rest cut.3))
+
+pub found-read : (i : Instance) (a : Assigned) (found : Found) → Fits i a found → found_of (assignment_from i.finds (found_numbers found)) ≡ found
+found-read i a found h = finds-found i.finds a found h.values

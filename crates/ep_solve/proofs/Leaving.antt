@@ -20,7 +20,7 @@ use Rattle.ep_ground.specs.Grounds.{GroundState}
 use Rattle.ep_ground.specs.declared.cells.Cell.{Cell}
 use Rattle.ep_tree.specs.Binding.{Instance}
 use Rattle.ep_tree.specs.Closed.{IsClosed}
-use Rattle.ep_tree.specs.Solutions.{Assigned, goal_value}
+use Rattle.ep_tree.specs.Solutions.{Assigned, Found, IsSolution, goal_value}
 use Rattle.ep_tree.specs.declared.values.Mode.{Mode}
 use Rattle.ep_print.specs.Answers.{AnswerTree}
 use Rattle.ep_unroll.specs.Cells.{found_numbers, instance_cells}
@@ -28,7 +28,7 @@ use Rattle.ep_solve.specs.Logged.{AreWanted, IsBetterGoal, IsLogged, IsStillWant
 use Rattle.ep_solve.specs.Reading.{answer_from, assignment_from, found_of}
 use Rattle.ep_solve.proofs.Answering.{Allows, HasSense, Solves, allowed-solves, same-better, same-some, solution-allowed, stated-variable}
 use Rattle.ep_solve.proofs.Judged.{SpeaksFor}
-use Rattle.ep_solve.proofs.Solved.{FoundFor, allows-after, same-base}
+use Rattle.ep_solve.proofs.Solved.{FoundFor, SearchedFor, allows-after, same-base, searched}
 use Rattle.ep_solve.proofs.Telling.{notes-tell}
 
 -- ---- givens of the first events
@@ -39,7 +39,7 @@ givens-append (given clause ∷ before) added = ap (λ cs. clause ∷ cs) (given
 givens-append (step clause hints ∷ before) added = givens-append before added
 
 -- what satisfies all givens satisfies those of the first events
-narrower : (s : ℕ → Bool) (n : ℕ) (events : List LogEvent) → Satisfies s (givens events) → Satisfies s (givens (take n events))
+pub narrower : (s : ℕ → Bool) (n : ℕ) (events : List LogEvent) → Satisfies s (givens events) → Satisfies s (givens (take n events))
 narrower s n events met =
     let xs : List (List Literal) = givens (take n events) in
     let ys : List (List Literal) = givens (drop n events) in
@@ -50,13 +50,13 @@ narrower s n events met =
 
 -- what the search keeps of a problem: its log allows what the ground keeps, its notes are those of the instance's cells, and
 -- under what satisfies its own clauses the literals mean what they say
-record Keeps (mode : Mode) (i : Instance) (g : GroundState) (p : ProblemState) (log : LogState) : Type 0 where
-  closed : IsClosed i
-  speaks : SpeaksFor mode i g
-  allows : Allows p log g
-  notes : log.notes ≡ cell_notes p.layout (instance_cells i) p.variables.cells
-  maps : MapsCells (map (λ one. one.values) (instance_cells i)) (map (λ e. e.domain) p.layout) p.variables
-  meaning : (s : ℕ → Bool) → Satisfies s (base_clauses log) → All (Means s) p.layout
+pub record Keeps (mode : Mode) (i : Instance) (g : GroundState) (p : ProblemState) (log : LogState) : Type 0 where
+  pub closed : IsClosed i
+  pub speaks : SpeaksFor mode i g
+  pub allows : Allows p log g
+  pub notes : log.notes ≡ cell_notes p.layout (instance_cells i) p.variables.cells
+  pub maps : MapsCells (map (λ one. one.values) (instance_cells i)) (map (λ e. e.domain) p.layout) p.variables
+  pub meaning : (s : ℕ → Bool) → Satisfies s (base_clauses log) → All (Means s) p.layout
 
 -- under an assignment the notes tell the numbers that it gives the cells
 told : (mode : Mode) (i : Instance) (g : GroundState) (p : ProblemState) (log : LogState) → Keeps mode i g p log → (s : ℕ → Bool) → Satisfies s (base_clauses log)
@@ -65,36 +65,42 @@ told mode i g p log k s met =
     subst (λ notes. TellNumbers s notes (instance_cells i) (decoded_cells p.layout p.variables s)) (sym k.notes)
     (notes-tell s p.layout (instance_cells i) p.variables k.maps (k.meaning s met))
 
--- numbers that solve are wanted where their objective is
-are-wanted : (mode : Mode) (i : Instance) (numbers : List ℤ) (goal : Option ℤ) (W : Option ℤ → Type 0) → Solves mode i numbers goal → W goal → AreWanted mode i W numbers
-are-wanted mode i numbers goal W s want =
+-- what is wanted of numbers of the cells and of an objective's number is what is wanted of a solution
+abbrev pub Agree : Mode → Instance → (List ℤ → Option ℤ → Type 0) → (Found → Type 0) → Type 0
+Agree mode i W V = (a : Assigned) (s : IsSolution mode i a) → W (found_numbers s.found) (goal_value mode i s.found) ↔ V s.found
+
+-- numbers that solve are wanted where their solution is
+are-wanted : (mode : Mode) (i : Instance) (numbers : List ℤ) (goal : Option ℤ) (W : List ℤ → Option ℤ → Type 0) (V : Found → Type 0) → Agree mode i W V → Solves mode i numbers goal → W numbers goal → AreWanted mode i V numbers
+are-wanted mode i numbers goal W V agree s want =
     let a : Assigned = assignment_from i.finds numbers in
     let same : s.solves.found ≡ found_of a = same-some s.solves.found (found_of a) (sym s.solves.fits.values ∙ s.reads.fits.values) in
+    let are : found_numbers s.solves.found ≡ numbers = ap found_numbers same ∙ s.reads.numbers_are in
     record {
       solves = s.solves;
-      numbers_are = ap found_numbers same ∙ s.reads.numbers_are;
-      is_wanted = subst W (sym (ap (goal_value mode i) same ∙ s.valued)) want;
+      numbers_are = are;
+      is_wanted = (agree a s.solves).0 (subst (λ ns. W ns (goal_value mode i s.solves.found)) (sym are) (subst (W numbers) (sym (ap (goal_value mode i) same ∙ s.valued)) want));
     }
 
 -- Clauses that hold under assignments of the problem's own clauses alone, and give the cells exactly the numbers that are allowed
--- with an objective that is wanted, tell exactly the wanted solutions.
-tell-solutions : (mode : Mode) (i : Instance) (g : GroundState) (p : ProblemState) (log : LogState) → Keeps mode i g p log
+-- and wanted, tell exactly the wanted solutions.
+pub tell-solutions : (mode : Mode) (i : Instance) (g : GroundState) (p : ProblemState) (log : LogState) → Keeps mode i g p log
     → (clauses : List (List Literal)) → ((s : ℕ → Bool) → Satisfies s clauses → Satisfies s (base_clauses log))
-    → (W : Option ℤ → Type 0) → ((numbers : List ℤ) (goal : Option ℤ) → GivesCells p.layout p.variables clauses numbers goal ↔ (IsAllowed p log numbers goal × W goal))
-    → TellSolutions mode i log.notes clauses W
-tell-solutions mode i g p log k clauses own W left = record {
+    → (W : List ℤ → Option ℤ → Type 0) (V : Found → Type 0) → Agree mode i W V
+    → ((numbers : List ℤ) (goal : Option ℤ) → GivesCells p.layout p.variables clauses numbers goal ↔ (IsAllowed p log numbers goal × W numbers goal))
+    → TellSolutions mode i log.notes clauses V
+tell-solutions mode i g p log k clauses own W V agree left = record {
   sound = λ s met.
       let numbers : List ℤ = decoded_cells p.layout p.variables s in
       let goal : Option ℤ = objective_number p.variables (decoded_values p.layout s) in
       let kept = (left numbers goal).0 (record { are_given = record { assignment = s; satisfies = met; gives = refl }; drives = refl }) in (
         numbers,
         told mode i g p log k s (own s met),
-        are-wanted mode i numbers goal W (allowed-solves mode i g p log k.closed k.speaks k.allows numbers goal kept.0) kept.1,
+        are-wanted mode i numbers goal W V agree (allowed-solves mode i g p log k.closed k.speaks k.allows numbers goal kept.0) kept.1,
       );
   complete = λ a solves want.
       let numbers : List ℤ = found_numbers solves.found in
       let goal : Option ℤ = goal_value mode i solves.found in
-      let gives = (left numbers goal).1 (solution-allowed mode i g p log k.speaks k.allows a solves, want) in
+      let gives = (left numbers goal).1 (solution-allowed mode i g p log k.speaks k.allows a solves, (agree a solves).1 want) in
       let s : ℕ → Bool = gives.are_given.assignment in
       record {
         assignment = s;
@@ -141,8 +147,8 @@ log-base old new whole all front base =
 own-clauses : (g : GroundState) (f : Cnf) (p : ProblemState) (old : LogState) → PosesGround g f p old → base_clauses old ≡ f.clauses
 own-clauses g f p old poses = ap (λ n. givens (take n old.events)) poses.is_base ∙ ap givens (take-length old.events) ∙ poses.givens_are
 
-kept : (mode : Mode) (i : Instance) (budget : ℕ) (found : FoundCells) → IsClosed i → (h : FoundFor mode i budget found) → h.new.notes ≡ h.old.notes → Keeps mode i h.g h.p h.new
-kept mode i budget found closed h notes =
+pub kept : (mode : Mode) (i : Instance) → IsClosed i → (h : SearchedFor mode i) → h.new.notes ≡ h.old.notes → Keeps mode i h.g h.p h.new
+kept mode i closed h notes =
     let cells_are : h.p.cells ≡ instance_cells i = h.poses.cells ∙ h.speaks.cells in
     record {
       closed = closed;
@@ -153,16 +159,17 @@ kept mode i budget found closed h notes =
       meaning = λ s met. h.poses.formula.is_layout.meaning s (subst (Satisfies s) (same-base h.old h.new h.poses.is_base h.front h.base ∙ own-clauses h.g h.f h.p h.old h.poses) met);
     }
 
-stands : (mode : Mode) (i : Instance) (budget : ℕ) (found : FoundCells) → (h : FoundFor mode i budget found) → Keeps mode i h.g h.p h.new → Stands mode i h.new
-stands mode i budget found h k = record {
+pub stands : (mode : Mode) (i : Instance) (h : SearchedFor mode i) → Keeps mode i h.g h.p h.new → Stands mode i h.new
+stands mode i h k = record {
   base = log-base h.old h.new h.poses.is_base h.poses.are_givens h.front h.base;
-  told = tell-solutions mode i h.g h.p h.new k (base_clauses h.new) (λ s met. met) (λ goal. Unit {0}) (λ numbers goal. (λ gives. (gives, tt), λ both. both.0));
+  told = tell-solutions mode i h.g h.p h.new k (base_clauses h.new) (λ s met. met) (λ numbers goal. Unit {0}) (λ found. Unit {0}) (λ a s. (λ x. tt, λ x. tt)) (λ numbers goal. (λ gives. (gives, tt), λ both. both.0));
 }
 
 leaves : (mode : Mode) (i : Instance) (g : GroundState) (p : ProblemState) (budget : ℕ) (log : LogState) (best : Option (ℤ × List ℤ)) → Keeps mode i g p log → HasSense p i
-    → IsBudgetSpent p budget log best → TellSolutions mode i log.notes (givens log.events) (IsStillWanted i (best-of best))
+    → IsBudgetSpent p budget log best → TellSolutions mode i log.notes (givens log.events) (λ found. IsStillWanted i (best-of best) (goal_value mode i found))
 leaves mode i g p budget log best k senses spent =
-    tell-solutions mode i g p log k (givens log.events) (λ s met. narrower s log.base log.events met) (IsStillWanted i (best-of best)) (λ numbers goal. (
+    tell-solutions mode i g p log k (givens log.events) (λ s met. narrower s log.base log.events met)
+    (λ numbers goal. IsStillWanted i (best-of best) goal) (λ found. IsStillWanted i (best-of best) (goal_value mode i found)) (λ a s. (λ x. x, λ x. x)) (λ numbers goal. (
       λ gives. let h = (spent.left numbers goal).0 gives in (h.0, (still-wanted i p best goal senses).0 h.1),
       λ both. (spent.left numbers goal).1 (both.0, (still-wanted i p best goal senses).1 both.1),
     ))
@@ -180,10 +187,11 @@ shows mode i g p budget log (cells.unknown (Some best)) k senses h = ((h.steps, 
 pub found-logged : (mode : Mode) (i : Instance) (budget : ℕ) (found : FoundCells) (answer : AnswerTree) → IsClosed i → (h : FoundFor mode i budget found) → h.new.notes ≡ h.old.notes
     → AnswersCells h.p budget h.new found → answer ≡ answer_from i.finds budget found → IsLogged mode i budget h.new answer
 found-logged mode i budget found answer closed h notes answers same =
-    let k : Keeps mode i h.g h.p h.new = kept mode i budget found closed h notes in
+    let t : SearchedFor mode i = searched mode i budget found h in
+    let k : Keeps mode i h.g h.p h.new = kept mode i closed t notes in
     let senses : HasSense h.p i = h.poses.formula.is_map.senses ∙ h.speaks.objective.senses in
     record {
-      stands = stands mode i budget found h k;
+      stands = stands mode i t k;
       sound = answers.sound;
       within = answers.within;
       shows = subst (ShowsAnswer mode i budget h.new) (sym same) (shows mode i h.g h.p budget h.new found k senses h.right);

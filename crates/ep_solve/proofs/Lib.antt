@@ -8,3 +8,4 @@ pub mod Scalars
 pub mod Solved
 pub mod Telling
 pub mod Leaving
+pub mod ListingRight

@@ -184,6 +184,42 @@ fitted-passes own wanted test (indices ∷ inner) (matrix old parts) v e =
     let N : ℕ → Type 0 = λ n. Passing test (n * cell_count inner) (scalars_of_all (as_parts q.0)) in
     subst P q.3 (subst N q.2 (parts-pass own wanted test inner (fitted-passes own wanted test inner) parts q.0 q.1))
 
+-- ---- what fits is what is made of its scalars
+
+parts-read : (own wanted : Scalar) (test : ℤ → Bool) (inner : List (List ℤ)) (make : List ℤ → ValueTree × List ℤ)
+    → ((w v : ValueTree) (rest : List ℤ) → fitted own wanted test inner w ≡ Some v → make (scalars_of v ++ rest) ≡ (v, rest))
+    → (parts : ValueTrees) (vs : List ValueTree) (rest : List ℤ) → all_fitted own wanted test inner parts ≡ Some vs
+    → parts_from make (length vs) (scalars_of_all (as_parts vs) ++ rest) ≡ (vs, rest)
+unfolding fitted as_parts scalars_of parts_from
+parts-read own wanted test inner make h no_values [] rest e = refl
+parts-read own wanted test inner make h no_values (v ∷ vs) rest e = absurd cc
+parts-read own wanted test inner make h (value_and w ws) vs rest e =
+    let cut = both-fitted (fitted own wanted test inner w) (all_fitted own wanted test inner ws) vs e in
+    let y : ValueTree = cut.0 in
+    let ys : List ValueTree = cut.1 in
+    let later : List ℤ = scalars_of_all (as_parts ys) ++ rest in
+    let P : List ValueTree → Type 0 = λ zs. parts_from make (length zs) (scalars_of_all (as_parts zs) ++ rest) ≡ (zs, rest) in
+    subst P cut.4
+    (ap (parts_from make (suc (length ys))) (append_assoc (scalars_of y) (scalars_of_all (as_parts ys)) rest)
+    ∙ ap (λ (p : ValueTree × List ℤ). (p.0 ∷ (parts_from make (length ys) p.1).0, (parts_from make (length ys) p.1).1)) (h w y later cut.2)
+    ∙ ap (λ (q : List ValueTree × List ℤ). (y ∷ q.0, q.1)) (parts-read own wanted test inner make h ws ys rest cut.3))
+
+pub value-read : (own wanted : Scalar) (test : ℤ → Bool) (indices : List (List ℤ)) (w v : ValueTree) (rest : List ℤ)
+    → fitted own wanted test indices w ≡ Some v → value_from indices (scalars_of v ++ rest) ≡ (v, rest)
+unfolding fitted value_from scalars_of first_or_zero
+value-read own wanted test [] (single x) v rest e =
+    let q = passed (scalar_fits own wanted) (test x) x v e in
+    subst (λ u. value_from [] (scalars_of u ++ rest) ≡ (u, rest)) q.1 refl
+value-read own wanted test [] (matrix old parts) v rest e = absurd cc
+value-read own wanted test (indices ∷ inner) (single x) v rest e = absurd cc
+value-read own wanted test (indices ∷ inner) (matrix old parts) v rest e =
+    let q = indexed indices (all_fitted own wanted test inner parts) v e in
+    let vs : List ValueTree = q.0 in
+    let numbers : List ℤ = scalars_of_all (as_parts vs) ++ rest in
+    subst (λ u. value_from (indices ∷ inner) (scalars_of u ++ rest) ≡ (u, rest)) q.3
+    (ap (λ n. (matrix indices (as_parts (parts_from (value_from inner) n numbers).0), (parts_from (value_from inner) n numbers).1)) (sym q.2)
+    ∙ ap (λ (p : List ValueTree × List ℤ). (matrix indices (as_parts p.0), p.1)) (parts-read own wanted test inner (value_from inner) (value-read own wanted test inner) parts vs rest q.1))
+
 -- ---- what is made of numbers of a scalar is of its type
 
 pub all-weaker : (test more : ℤ → Bool) (xs : List ℤ) → ((x : ℤ) → test x ≡ true → more x ≡ true) → list_all test xs ≡ true → list_all more xs ≡ true

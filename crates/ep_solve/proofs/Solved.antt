@@ -73,6 +73,18 @@ allows-after g f p old new poses front base =
 
 -- ---- answers
 
+-- a search went on in the problem of an instance
+pub record SearchedFor (mode : Mode) (i : Instance) : Type 0 where
+  pub g : GroundState
+  pub f : Cnf
+  pub p : ProblemState
+  pub old : LogState
+  pub new : LogState
+  pub speaks : SpeaksFor mode i g
+  pub poses : PosesGround g f p old
+  pub front : take (length old.events) new.events ≡ old.events
+  pub base : new.base ≡ old.base
+
 -- what was found in the problem of an instance
 pub record FoundFor (mode : Mode) (i : Instance) (budget : ℕ) (found : FoundCells) : Type 0 where
   pub g : GroundState
@@ -85,6 +97,10 @@ pub record FoundFor (mode : Mode) (i : Instance) (budget : ℕ) (found : FoundCe
   pub front : take (length old.events) new.events ≡ old.events
   pub base : new.base ≡ old.base
   pub right : IsRightAnswer p budget new found
+
+-- the search in which it was found
+abbrev pub searched : (mode : Mode) (i : Instance) (budget : ℕ) (found : FoundCells) → FoundFor mode i budget found → SearchedFor mode i
+searched mode i budget found h = record { g = h.g; f = h.f; p = h.p; old = h.old; new = h.new; speaks = h.speaks; poses = h.poses; front = h.front; base = h.base }
 
 pub found-right : (mode : Mode) (i : Instance) (budget : ℕ) (found : FoundCells) (answer : AnswerTree) → IsClosed i → FoundFor mode i budget found
     → answer ≡ answer_from i.finds budget found → IsRight mode i budget answer

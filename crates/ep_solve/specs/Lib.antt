@@ -1,3 +1,4 @@
 pub mod Reading
 pub mod Right
 pub mod Logged
+pub mod Listed

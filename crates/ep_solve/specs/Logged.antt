@@ -9,7 +9,7 @@ use Rattle.ep_base.specs.declared.operators.Sense.{Sense}
 use Rattle.ep_ground.specs.declared.cells.Cell.{Cell}
 use Rattle.ep_print.specs.Answers.{AnswerTree, no_solution, optimum, solution, unknown, unknown_with}
 use Rattle.ep_tree.specs.Binding.{Instance}
-use Rattle.ep_tree.specs.Solutions.{Assigned, IsSolution, better_number, goal_value}
+use Rattle.ep_tree.specs.Solutions.{Assigned, Found, IsSolution, better_number, goal_value}
 use Rattle.ep_tree.specs.Trees.{ExprTree}
 use Rattle.ep_tree.specs.declared.values.Mode.{Mode}
 use Rattle.ep_unroll.specs.Cells.{found_numbers, instance_cells}
@@ -41,18 +41,17 @@ pub record AreTold (i : Instance) (notes : List Note) (clauses : List (List Lite
   pub satisfies : Satisfies assignment clauses
   pub tell : TellNumbers assignment notes (instance_cells i) numbers
 
--- numbers of the cells are a solution, and its objective is wanted
-pub record AreWanted (mode : Mode) (i : Instance) (wanted : Option ℤ → Type 0) (numbers : List ℤ) : Type 0 where
+-- numbers of the cells are a solution, and what it gives the decision variables is wanted
+pub record AreWanted (mode : Mode) (i : Instance) (wanted : Found → Type 0) (numbers : List ℤ) : Type 0 where
   pub solves : IsSolution mode i (assignment_from i.finds numbers)
   pub numbers_are : found_numbers solves.found ≡ numbers
-  pub is_wanted : wanted (goal_value mode i solves.found)
+  pub is_wanted : wanted solves.found
 
--- By these notes each assignment that satisfies clauses tells a solution whose objective is wanted, and each such solution is
--- told by one.
-pub record TellSolutions (mode : Mode) (i : Instance) (notes : List Note) (clauses : List (List Literal)) (wanted : Option ℤ → Type 0) : Type 0 where
+-- By these notes each assignment that satisfies clauses tells a solution that is wanted, and each such solution is told by one.
+pub record TellSolutions (mode : Mode) (i : Instance) (notes : List Note) (clauses : List (List Literal)) (wanted : Found → Type 0) : Type 0 where
   pub sound : (s : ℕ → Bool) → Satisfies s clauses
       → (numbers : List ℤ) × TellNumbers s notes (instance_cells i) numbers × AreWanted mode i wanted numbers
-  pub complete : (a : Assigned) (solves : IsSolution mode i a) → wanted (goal_value mode i solves.found)
+  pub complete : (a : Assigned) (solves : IsSolution mode i a) → wanted solves.found
       → AreTold i notes clauses (found_numbers solves.found)
 
 -- ---- what a log shows
@@ -79,7 +78,8 @@ pub record Stands (mode : Mode) (i : Instance) (log : LogState) : Type 0 where
 
 -- what satisfies all givens of the log are exactly the solutions that are better than the one at hand
 abbrev pub Leaves : Mode → Instance → LogState → Option ℤ → Type 0
-Leaves mode i log best = TellSolutions mode i log.notes (givens log.events) (IsStillWanted i best)
+Leaves mode i log best =
+    TellSolutions mode i log.notes (givens log.events) (λ found. IsStillWanted i best (goal_value mode i found))
 
 -- What the log shows of an answer: nothing more is left of an optimum or where there is no solution, since it ends with the
 -- empty step; and where the budget is spent, its steps are as many, and what is left are exactly the solutions that are better

@@ -1,9 +1,10 @@
 -- The values that numbers of the cells give the decision variables.
 use Rattle.std.specs.Prelude.{◌≡◌, ℕ, zero, suc, ℤ, List, [], ◌∷◌, map, length, drop, Some, None}
 use Rattle.ep_base.specs.Reads.{first_or_zero}
-use Rattle.ep_answer.specs.Answered.{FoundCells}
+use Rattle.ep_answer.specs.Answered.{FoundCells, ListingEnd}
 use Rattle.ep_answer.specs.Answered as found
 use Rattle.ep_print.specs.Answers.{AnswerTree, AreTyped, no_solution, optimum, solution, unknown, unknown_with}
+use Rattle.ep_print.specs.Listings.{EndTree, ListingTree, complete, spent, stopped}
 use Rattle.ep_ground.specs.Grounds.{AreCellValues}
 use Rattle.ep_tree.specs.Binding.{Find, Instance}
 use Rattle.ep_tree.specs.Environments.{has_value}
@@ -40,6 +41,16 @@ answer_from fs budget (found.optimum number cells) = optimum number (assignment_
 answer_from fs budget found.no_solution = no_solution
 answer_from fs budget (found.unknown None) = unknown budget
 answer_from fs budget (found.unknown (Some best)) = unknown_with budget best.0 (assignment_from fs best.1)
+
+-- an end of a list over numbers of cells as one over values, where so many conflicts might be spent
+unfoldable pub end_from : ℕ → ListingEnd → EndTree
+end_from budget found.complete = complete
+end_from budget found.stopped = stopped
+end_from budget found.spent = spent budget
+
+-- a list over numbers of cells as one over values
+unfoldable pub listing_from : List Find → ℕ → List (List ℤ) → ListingEnd → ListingTree
+listing_from fs budget cells end = record { found = map (assignment_from fs) cells; ending = end_from budget end }
 
 -- values of names, as an environment has them
 abbrev pub found_of : Assigned → Found

@@ -1,11 +1,13 @@
 //! Answers of instances by clauses and the solver.
 #![tactic(auto)]
 
+mod enumerating;
 mod laws;
 mod listing;
 mod posing;
 mod reading_back;
 mod solving;
 
+pub use enumerating::enumerate;
 pub use laws::cells_stand_for_values;
 pub use solving::solve;

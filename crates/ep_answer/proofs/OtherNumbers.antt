@@ -1,0 +1,249 @@
+-- The clause which says that variables have other numbers.
+use Rattle.std.proofs.Common.{◌≡◌, ◌≢◌, ◌↔◌, ◌⊎◌, inl, inr, ℕ, ◌+◌, ◌<◌, ◌≤◌, suc, zero, ℤ, pos, Bool, true, false, List, [], ◌∷◌, ◌++◌, length, refl, sym, ap, subst, ◌∙◌, arith}
+use Rattle.std.specs.Prelude.{IfOk, Ok, Err, Result, drop, if◌then◌else◌, nat_le, slice_index_or, take}
+use Rattle.std.specs.List.{All, Contains}
+use Rattle.std.proofs.lemmas.Bool.{false≢true}
+use Rattle.std.proofs.lemmas.Bool.Decides.{Decides-int_eq}
+use Rattle.std.proofs.lemmas.List.{append-nil, get_or_default, take_more}
+use Rattle.std.proofs.lemmas.List.Elements.{All-append, All-contains, All-cons, All-get_or, All-nil, Contains-append_cases, Contains-append_left, Contains-append_right}
+use Rattle.std.specs.Ordering.{int_eq}
+use Rattle.cnf_core.specs.Clauses.{SatisfiesClause}
+use Rattle.cnf_core.specs.Literal.{HaveSameLiterals, Literal, negation}
+use Rattle.cnf_core.proofs.Keeping.{same_satisfied}
+use Rattle.cnf_core.proofs.Members.{All-from_contains, Contains-here, none_in_nil, passes_none}
+use Rattle.ep_base.specs.Numbers.{has_number}
+use Rattle.ep_base.specs.declared.errors.Memory.{Memory}
+use Rattle.ep_flat.specs.Cons.{number_at, numbers_at}
+use Rattle.enc_var.specs.Decoding.{Means, VariableLiterals, decoded, eq_of, known_holds, note_of}
+use Rattle.enc_var.specs.Layouts.{decoded_values, literals_at}
+use Rattle.enc_var.specs.declared.known.Known.{Known}
+use Rattle.enc_var.specs.declared.known.Known.TheVariants as known
+use Rattle.ep_answer.specs.Searches.{AreNumbers, BlocksFirst, IsNotNumber, OtherNumbers}
+use Rattle.ep_answer.proofs.Deciding.{contrary_is, holds_true, clause_is, number_is, numbers_more, numbers_none}
+
+-- the two parts of a list that grew at its end
+ends_same : {X : Type 0} (xs ys : List X) (x y : X) → xs ++ x ∷ [] ≡ ys ++ y ∷ [] → length xs ≡ length ys → (xs ≡ ys) × (x ≡ y)
+ends_same [] [] x y e long = (refl, ap (λ zs. slice_index_or zs 0 x) e)
+ends_same [] (b ∷ ys) x y e long = absurd (omega (arith, long))
+ends_same (a ∷ xs) [] x y e long = absurd (omega (arith, long))
+ends_same (a ∷ xs) (b ∷ ys) x y e long =
+    let rest = ends_same xs ys x y (ap (drop 1) e) (omega (arith, long)) in
+    (ap (λ zs. a ∷ zs) rest.0 ∙ ap (λ c. c ∷ ys) (ap (λ zs. slice_index_or zs 0 a) e), rest.1)
+
+long_take : {X : Type 0} (k : ℕ) (xs : List X) → k ≤ length xs → length (take k xs) ≡ k
+long_take zero xs low = refl
+long_take (suc k) [] low = absurd (omega (arith, low))
+long_take (suc k) (x ∷ xs) low = ap suc (long_take k xs (omega (arith, low)))
+
+pub long_numbers : (values : List ℤ) (xs : List ℕ) → length (numbers_at values xs) ≡ length xs
+unfolding numbers_at
+long_numbers values [] = refl
+long_numbers values (x ∷ xs) = ap suc (long_numbers values xs)
+
+-- a clause of two parts
+either_part : (s : ℕ → Bool) (xs ys : List Literal) → SatisfiesClause s (xs ++ ys) → SatisfiesClause s xs ⊎ SatisfiesClause s ys
+either_part s xs ys h = elim (Contains-append_cases xs ys h.literal h.in_clause) as (λ _. SatisfiesClause s xs ⊎ SatisfiesClause s ys) [
+  | inl w ↦ inl (record { literal = h.literal; in_clause = w; is_true = h.is_true })
+  | inr w ↦ inr (record { literal = h.literal; in_clause = w; is_true = h.is_true })
+]
+
+-- where literals say that a variable isn't its number
+pub record SaysNot (e : VariableLiterals) (v : ℤ) (adds : List Literal) : Type 0 where
+  pub says : (s : ℕ → Bool) → Means s e → SatisfiesClause s adds ↔ (decoded s e ≢ v)
+
+isnt_equal : (a b : ℤ) → int_eq a b ≡ false ↔ (a ≢ b)
+isnt_equal a b = (
+  λ f is. false≢true (sym f ∙ (Decides-int_eq a b).1 is),
+  λ differs. by (int_eq a b) refl differs,
+)
+  where
+    by : (t : Bool) → int_eq a b ≡ t → (a ≢ b) → int_eq a b ≡ false
+    by false e differs = e
+    by true e differs = absurd (differs ((Decides-int_eq a b).0 e))
+
+-- a literal of "it is the number" is turned
+pub says_not_literal : (e : VariableLiterals) (v : ℤ) (l m : Literal) → known.Is l ≡ eq_of e v → m ≡ negation l → SaysNot e v (m ∷ [])
+says_not_literal e v l m is turned = record {
+  says = λ s means.
+      let one = clause_is s (m ∷ []) (m ∷ []) m (record { from_first = itself m; from_second = itself m }) refl in
+      let two = contrary_is s l m turned in
+      let same : known_holds s (known.Is l) ≡ int_eq (decoded s e) v = ap (known_holds s) is ∙ means.equal v in
+      let three = isnt_equal (decoded s e) v in (
+        λ h. three.0 (sym same ∙ two.0 (one.0 h)),
+        λ d. one.1 (two.1 (same ∙ three.1 d)),
+      );
+}
+  where
+    itself : (n : Literal) → All (Contains (n ∷ [])) (n ∷ [])
+    itself n = All-cons (Contains (n ∷ [])) n [] (Contains-here n []) (All-nil (Contains (n ∷ [])))
+
+-- a variable that can only be the number wants no literal
+pub says_not_none : (e : VariableLiterals) (v : ℤ) → known.True ≡ eq_of e v → SaysNot e v []
+says_not_none e v is = record {
+  says = λ s means. (
+    λ h. absurd (none_in_nil h.literal h.in_clause),
+    λ differs. absurd (differs ((Decides-int_eq (decoded s e) v).0 (sym (means.equal v) ∙ ap (known_holds s) (sym is) ∙ holds_true s))),
+  );
+}
+
+is_false : Known → Bool
+is_false known.True = false
+is_false known.False = true
+is_false (known.Is l) = false
+
+has_it : (xs : List ℤ) (v : ℤ) → Contains xs v → has_number xs v ≡ true
+unfolding has_number
+has_it xs v found = by (has_number xs v) refl
+  where
+    by : (t : Bool) → has_number xs v ≡ t → has_number xs v ≡ true
+    by true e = e
+    by false e = absurd (false≢true (sym (passes_none (λ y. int_eq v y) xs v e found) ∙ (Decides-int_eq v v).1 refl))
+
+chosen_known : Bool → Bool → Literal → Known
+chosen_known has one l = if has then (if one then known.True else known.Is l) else known.False
+
+eq_is : (e : VariableLiterals) (v : ℤ) → eq_of e v ≡ chosen_known (has_number e.domain v) (nat_le (length e.domain) 1) (note_of e v)
+unfolding eq_of chosen_known
+eq_is e v = refl
+
+-- that a variable is one of its numbers isn't known to be false
+pub never_false : (e : VariableLiterals) (v : ℤ) → Contains e.domain v → known.False ≡ eq_of e v → ⊥
+unfolding is_false chosen_known
+never_false e v found is =
+    by (nat_le (length e.domain) 1) (is ∙ eq_is e v ∙ ap (λ has. chosen_known has (nat_le (length e.domain) 1) (note_of e v)) (has_it e.domain v found))
+  where
+    by : (b : Bool) → known.False ≡ chosen_known true b (note_of e v) → ⊥
+    by true h = false≢true (sym (ap is_false h))
+    by false h = false≢true (sym (ap is_false h))
+
+literal_or : Literal → Known → Literal
+literal_or d known.True = d
+literal_or d known.False = d
+literal_or d (known.Is l) = l
+
+is_literal : Known → Bool
+is_literal known.True = false
+is_literal known.False = false
+is_literal (known.Is l) = true
+
+-- the literal is that of the note
+pub note_is : (e : VariableLiterals) (v : ℤ) (l : Literal) → known.Is l ≡ eq_of e v → l ≡ note_of e v
+unfolding chosen_known literal_or is_literal
+note_is e v l is = by (has_number e.domain v) (nat_le (length e.domain) 1) (is ∙ eq_is e v)
+  where
+    by : (a b : Bool) → known.Is l ≡ chosen_known a b (note_of e v) → l ≡ note_of e v
+    by true true h = absurd (false≢true (sym (ap is_literal h)))
+    by true false h = ap (literal_or l) h
+    by false b h = absurd (false≢true (sym (ap is_literal h)))
+
+-- no variable so far
+pub blocks_none : (layout : List VariableLiterals) (vars : List ℕ) (cells : List ℤ) (lits : List Literal) → lits ≡ [] → BlocksFirst layout vars cells 0 lits
+blocks_none layout vars cells lits is = record {
+  says = λ s means. (
+    λ h. absurd (none_in_nil h.literal (subst (λ ls. Contains ls h.literal) is h.in_clause)),
+    λ differs. absurd (differs (sym (numbers_none (decoded_values layout s)))),
+  );
+  literals = subst (All (IsNotNumber layout vars cells)) (sym is) (All-nil (IsNotNumber layout vars cells));
+}
+
+-- one variable more
+pub blocks_more : (layout : List VariableLiterals) (vars : List ℕ) (cells : List ℤ) (k : ℕ) (lits adds : List Literal) → All (λ x. x < length layout) vars → length cells ≡ length vars → k < length vars
+    → SaysNot (literals_at layout (slice_index_or vars k 0)) (slice_index_or cells k (pos 0)) adds → All (IsNotNumber layout vars cells) adds → BlocksFirst layout vars cells k lits → BlocksFirst layout vars cells (k + 1) (lits ++ adds)
+blocks_more layout vars cells k lits adds there long low one literals h = record {
+  says = λ s means.
+      let x = slice_index_or vars k 0 in
+      let e = literals_at layout x in
+      let v = slice_index_or cells k (pos 0) in
+      let at : x < length layout = All-get_or (λ y. y < length layout) vars k 0 low there in
+      let meant : Means s e = All-get_or (Means s) layout x (record { domain = []; first = 0 }) at means in
+      let values = decoded_values layout s in
+      let front = numbers_at values (take k vars) in
+      let number = number_at values x in
+      let whole : front ++ number ∷ [] ≡ numbers_at values (take (k + 1) vars) = numbers_more values vars k 0 front number low refl refl in
+      let cells_whole : take (k + 1) cells ≡ take k cells ++ v ∷ [] = take_more cells k (pos 0) (omega (arith, low, long)) in
+      let same : number ≡ decoded s e = number_is layout s x at in
+      let longs : length front ≡ length (take k cells) = long_numbers values (take k vars) ∙ long_take k vars (omega (arith, low)) ∙ sym (long_take k cells (omega (arith, low, long))) in
+      let parts : numbers_at values (take (k + 1) vars) ≡ take (k + 1) cells → (front ≡ take k cells) × (number ≡ v) = λ is. ends_same front (take k cells) number v (whole ∙ is ∙ cells_whole) longs in
+      let from_front : front ≡ take k cells → decoded s e ≡ v → numbers_at values (take (k + 1) vars) ≡ take (k + 1) cells =
+      λ fs ns. sym whole ∙ ap (λ ns2. ns2 ++ number ∷ []) fs ∙ ap (λ n. take k cells ++ n ∷ []) (same ∙ ns) ∙ sym cells_whole in (
+        λ sat is. elim (either_part s lits adds sat) as (λ _. ⊥) [
+          | inl w ↦ (h.says s means).0 w (parts is).0
+          | inr w ↦ (one.says s meant).0 w (sym same ∙ (parts is).1)
+        ],
+        λ differs. decide s (lits) (adds) (int_eq (decoded s e) v) (decoded s e) v refl
+            (λ d. (one.says s meant).1 d) (λ ns. (h.says s means).1 (λ fs. differs (from_front fs ns))),
+      );
+  literals = All-append (IsNotNumber layout vars cells) lits adds h.literals literals;
+}
+  where
+    decide : (s : ℕ → Bool) (xs ys : List Literal) (t : Bool) (a b : ℤ) → int_eq a b ≡ t → ((a ≢ b) → SatisfiesClause s ys) → ((a ≡ b) → SatisfiesClause s xs) → SatisfiesClause s (xs ++ ys)
+    decide s xs ys true a b e other same =
+        let w = same ((Decides-int_eq a b).0 e) in record { literal = w.literal; in_clause = Contains-append_left xs ys w.literal w.in_clause; is_true = w.is_true }
+    decide s xs ys false a b e other same =
+        let w = other ((isnt_equal a b).0 e) in record { literal = w.literal; in_clause = Contains-append_right xs ys w.literal w.in_clause; is_true = w.is_true }
+
+-- all variables
+pub blocks_all : (layout : List VariableLiterals) (vars : List ℕ) (cells : List ℤ) (lits : List Literal) (r : Result (List Literal) Memory) → length cells ≡ length vars → BlocksFirst layout vars cells (length vars) lits
+    → IfOk r (λ clause. HaveSameLiterals clause lits) → IfOk r (OtherNumbers layout vars cells)
+blocks_all layout vars cells lits (Err e) long h same = tt
+blocks_all layout vars cells lits (Ok clause) long h same = record {
+  says = λ s means.
+      let both = same_satisfied s clause lits same in
+      let all = h.says s means in
+      let vars_whole : take (length vars) vars ≡ vars = whole vars in
+      let cells_whole : take (length vars) cells ≡ cells = ap (λ n. take n cells) (sym long) ∙ whole cells in (
+        λ c is. all.0 (both.0 c) (ap (numbers_at (decoded_values layout s)) vars_whole ∙ is ∙ sym cells_whole),
+        λ differs. both.1 (all.1 (λ is. differs (ap (numbers_at (decoded_values layout s)) (sym vars_whole) ∙ is ∙ cells_whole))),
+      );
+  literals = All-from_contains (IsNotNumber layout vars cells) clause (λ l found. All-contains (IsNotNumber layout vars cells) lits l h.literals (All-contains (Contains lits) clause l same.from_first found));
+}
+  where
+    whole : {X : Type 0} (xs : List X) → take (length xs) xs ≡ xs
+    whole [] = refl
+    whole (x ∷ xs) = ap (λ ys. x ∷ ys) (whole xs)
+
+-- the literal of a place
+pub not_number : (layout : List VariableLiterals) (vars : List ℕ) (cells : List ℤ) (k : ℕ) (l m : Literal) → length cells ≡ length vars → k < length vars → known.Is l ≡ eq_of (literals_at layout (slice_index_or vars k 0)) (slice_index_or cells k (pos 0)) → m ≡ negation l
+    → All (IsNotNumber layout vars cells) (m ∷ [])
+not_number layout vars cells k l m long low is turned = All-cons (IsNotNumber layout vars cells) m [] (record {
+  place = k;
+  there = low;
+  is = λ x v.
+      turned ∙ ap negation (note_is (literals_at layout (slice_index_or vars k 0)) (slice_index_or cells k (pos 0)) l is)
+      ∙ ap (λ y. negation (note_of (literals_at layout y) (slice_index_or cells k (pos 0)))) (get_or_default vars k 0 x low)
+      ∙ ap (λ w. negation (note_of (literals_at layout (slice_index_or vars k x)) w)) (get_or_default cells k (pos 0) v (omega (arith, low, long)));
+}) (All-nil (IsNotNumber layout vars cells))
+
+-- a number that is found is one that its variable can have
+pub number_had : (layout : List VariableLiterals) (vars : List ℕ) (cells : List ℤ) (k : ℕ) (x : ℕ) (v : ℤ) → AreNumbers layout vars cells → k < length vars → Contains (literals_at layout (slice_index_or vars k x)).domain (slice_index_or cells k v)
+number_had layout [] cells k x v numbers low = absurd (omega (arith, low))
+number_had layout (y ∷ vars) [] k x v numbers low = absurd numbers
+number_had layout (y ∷ vars) (n ∷ cells) zero x v numbers low = numbers.0
+number_had layout (y ∷ vars) (n ∷ cells) (suc k) x v numbers low = number_had layout vars cells k x v numbers.1 (omega (arith, low))
+
+-- one variable more, whose literal is turned
+pub blocks_literal : (layout : List VariableLiterals) (vars : List ℕ) (cells : List ℤ) (k : ℕ) (lits now : List Literal) (l m : Literal) (v : ℤ) → All (λ x. x < length layout) vars → length cells ≡ length vars → k < length vars
+    → v ≡ slice_index_or cells k (pos 0) → known.Is l ≡ eq_of (literals_at layout (slice_index_or vars k 0)) v → m ≡ negation l → now ≡ lits ++ m ∷ []
+    → BlocksFirst layout vars cells k lits → BlocksFirst layout vars cells (k + 1) now
+blocks_literal layout vars cells k lits now l m v there long low number is turned grown h =
+    let e = literals_at layout (slice_index_or vars k 0) in
+    let is_now : known.Is l ≡ eq_of e (slice_index_or cells k (pos 0)) = is ∙ ap (eq_of e) number in
+    subst (BlocksFirst layout vars cells (k + 1)) (sym grown)
+    (blocks_more layout vars cells k lits (m ∷ []) there long low (says_not_literal e (slice_index_or cells k (pos 0)) l m is_now turned) (not_number layout vars cells k l m long low is_now turned) h)
+
+-- one variable more, which can only be its number
+pub blocks_only : (layout : List VariableLiterals) (vars : List ℕ) (cells : List ℤ) (k : ℕ) (lits now : List Literal) (one : Known) (v : ℤ) → All (λ x. x < length layout) vars → AreNumbers layout vars cells → length cells ≡ length vars → k < length vars
+    → v ≡ slice_index_or cells k (pos 0) → one ≡ eq_of (literals_at layout (slice_index_or vars k 0)) v → ((l : Literal) → one ≡ known.Is l → ⊥) → now ≡ lits
+    → BlocksFirst layout vars cells k lits → BlocksFirst layout vars cells (k + 1) now
+blocks_only layout vars cells k lits now one v there numbers long low number is other same h =
+    let e = literals_at layout (slice_index_or vars k 0) in
+    let w : ℤ = slice_index_or cells k (pos 0) in
+    let is_now : one ≡ eq_of e w = is ∙ ap (eq_of e) number in
+    let sure : known.True ≡ eq_of e w = by one is_now other in
+    subst (BlocksFirst layout vars cells (k + 1)) (append-nil lits ∙ sym same)
+    (blocks_more layout vars cells k lits [] there long low (says_not_none e w sure) (All-nil (IsNotNumber layout vars cells)) h)
+  where
+    by : (one : Known) → one ≡ eq_of (literals_at layout (slice_index_or vars k 0)) (slice_index_or cells k (pos 0)) → ((l : Literal) → one ≡ known.Is l → ⊥) → known.True ≡ eq_of (literals_at layout (slice_index_or vars k 0)) (slice_index_or cells k (pos 0))
+    by known.True e none = e
+    by known.False e none = absurd (never_false (literals_at layout (slice_index_or vars k 0)) (slice_index_or cells k (pos 0)) (number_had layout vars cells k 0 (pos 0) numbers low) e)
+    by (known.Is l) e none = absurd (none l refl)
