@@ -2,10 +2,10 @@
 //!
 //! The mark `@` is no part of the text. A text without a mark is well formed.
 
-use ep_base::Place;
+use crate::marks::{Marked, without_mark};
 use ep_parse_model::{parse_model, parse_params};
 use ep_types::{StaticError, check_model, check_params};
-use std::alloc::{AllocError, Global};
+use std::alloc::Global;
 use std::test::Fail;
 
 /// What stands in front of a row of a model: domains of numbers, of Booleans and of matrices of Booleans;
@@ -21,53 +21,6 @@ find p : matrix indexed by [D] of bool, r : matrix indexed by [D, D] of bool
 
 /// What stands in front of a row of parameters.
 const LANGUAGE: &[u8] = b"language ESSENCE' 1.0\n";
-
-/// A text, with the place of its mark, and how many bytes stand in front of it.
-#[derive(Drop)]
-struct Marked {
-    text: Vec<u8>,
-    place: Place,
-    before: usize,
-}
-
-/// The place behind a byte.
-fn behind(place: Place, byte: u8) -> Place {
-    if byte == b'\n' {
-        return Place {
-            line: place.line.saturating_add(1),
-            column: 1,
-        };
-    }
-    Place {
-        line: place.line,
-        column: place.column.saturating_add(1),
-    }
-}
-
-/// A row without its mark behind some lines, of which there are so many.
-fn without_mark(alloc: Global, front: &[u8], lines: u64, row: &[u8]) -> Result<Marked, AllocError> {
-    let mut text = Vec::from_slice(alloc, front)?;
-    let mut now = Place {
-        line: lines.saturating_add(1),
-        column: 1,
-    };
-    let mut place = Place { line: 0, column: 0 };
-    let mut before = 0;
-    for byte in row {
-        if *byte == b'@' {
-            place = now;
-            before = text.len();
-        } else {
-            now = behind(now, *byte);
-            text.push(*byte)?;
-        }
-    }
-    Ok(Marked {
-        text,
-        place,
-        before,
-    })
-}
 
 /// Whether a name stands at the mark.
 fn names_mark(marked: &Marked, name: &str) -> bool {

@@ -1,0 +1,56 @@
+//! Texts with a mark where a fault stands. The mark `@` is no part of the text.
+
+use ep_base::Place;
+use std::alloc::{AllocError, Global};
+
+/// A text, with the place of its mark, and how many bytes stand in front of it.
+#[derive(Drop)]
+pub(crate) struct Marked {
+    pub(crate) text: Vec<u8>,
+    pub(crate) place: Place,
+    pub(crate) before: usize,
+}
+
+/// The place behind a byte.
+fn behind(place: Place, byte: u8) -> Place {
+    if byte == b'\n' {
+        return Place {
+            line: place.line.saturating_add(1),
+            column: 1,
+        };
+    }
+    Place {
+        line: place.line,
+        column: place.column.saturating_add(1),
+    }
+}
+
+/// A row without its mark behind some lines, of which there are so many.
+pub(crate) fn without_mark(
+    alloc: Global,
+    front: &[u8],
+    lines: u64,
+    row: &[u8],
+) -> Result<Marked, AllocError> {
+    let mut text = Vec::from_slice(alloc, front)?;
+    let mut now = Place {
+        line: lines.saturating_add(1),
+        column: 1,
+    };
+    let mut place = Place { line: 0, column: 0 };
+    let mut before = 0;
+    for byte in row {
+        if *byte == b'@' {
+            place = now;
+            before = text.len();
+        } else {
+            now = behind(now, *byte);
+            text.push(*byte)?;
+        }
+    }
+    Ok(Marked {
+        text,
+        place,
+        before,
+    })
+}
