@@ -4,5 +4,6 @@ pub mod Turns
 pub mod RunLaws
 pub mod Appends
 pub mod Matrices
+pub mod Rows
 pub mod Arms
 pub mod Sentences

@@ -11,6 +11,8 @@ mod refusals;
 mod spaced;
 mod statements;
 #[cfg(test)]
+mod table;
+#[cfg(test)]
 mod tests;
 mod texts;
 mod values;
