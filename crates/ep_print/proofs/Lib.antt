@@ -5,5 +5,6 @@ pub mod Numbering
 pub mod RunLaws
 pub mod Appends
 pub mod Matrices
+pub mod Rows
 pub mod Arms
 pub mod Sentences

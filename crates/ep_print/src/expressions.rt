@@ -14,6 +14,9 @@ use ep_base::Name;
 use ep_tree::{Domain, DomainKind, Expr, Generator, Kind, Range};
 use std::alloc::AllocError;
 
+/// What stands between two indices of a read: all of them share one pair of brackets.
+const BETWEEN_INDICES: &str = ",";
+
 /// An expression.
 #[cycle(putting)]
 #[tactic(auto, unfolding(crate::specs::Words::expr_words, crate::specs::Words::binary_words, crate::specs::Joining::with_between, ep_tree::specs::Views::kind_tree))]
@@ -182,7 +185,7 @@ fn push_indices(text: &mut Vec<u8>, indices: &[Option<Expr>]) -> Result<(), Allo
 {
     let mut started = false;
     for index in indices {
-        push_between(text, started, ",")?;
+        push_between(text, started, BETWEEN_INDICES)?;
         match index {
             Some(e) => push_expr(text, e)?,
             None => push_word(text, "..")?,

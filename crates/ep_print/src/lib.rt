@@ -12,6 +12,8 @@ mod refusals;
 mod spaced;
 mod statements;
 #[cfg(test)]
+mod table;
+#[cfg(test)]
 mod tests;
 mod texts;
 mod values;
