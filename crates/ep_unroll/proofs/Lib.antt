@@ -21,6 +21,7 @@ pub mod NumberSteps
 pub mod PartListSteps
 pub mod PartSteps
 pub mod PickSteps
+pub mod PowerSteps
 pub mod SlotSteps
 pub mod ProductSteps
 pub mod ScalarSteps

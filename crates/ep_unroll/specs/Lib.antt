@@ -9,6 +9,7 @@ pub mod Meanings
 pub mod Numbers
 pub mod Picks
 pub mod PartLists
+pub mod Powers
 pub mod Readings
 pub mod Scalars
 pub mod Signed

@@ -17,6 +17,7 @@ ghost use Rattle.ep_size.specs.Parts.{part_of, two_parts};
 ghost use Rattle.ep_unroll.specs.Readings.{Numbering};
 
 use super::growing::put;
+use super::powers::power_term;
 use ep_base::{CompareOp, Memory};
 use ep_ground::{Arena, Node, Term};
 use ep_tree::{BinaryOp, Kind};
@@ -136,7 +137,7 @@ fn finish_binary(
         BinaryOp::Mul => put(arena, Node::Mul(one, other)),
         BinaryOp::Div => put(arena, Node::Div(one, other)),
         BinaryOp::Mod => put(arena, Node::Mod(one, other)),
-        BinaryOp::Pow => Err(Memory),
+        BinaryOp::Pow => power_term(arena, one, other),
         BinaryOp::Min => {
             let parts = pair(alloc, one, other)?;
             put(arena, Node::Min(parts))

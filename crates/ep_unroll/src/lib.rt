@@ -22,6 +22,7 @@ mod members;
 mod named;
 mod numbers;
 mod picks;
+mod powers;
 mod products;
 mod quantifiers;
 mod reads;
