@@ -82,6 +82,9 @@ fn is_total_node(node: &Node, count: u64) -> bool
         Node::Iff(_, _) => true,
         Node::AllDiff(_) => true,
         Node::Lex(_, _, _) => true,
+        Node::Gcc(_, _, _) => true,
+        Node::AtLeast(_, _, _) => true,
+        Node::AtMost(_, _, _) => true,
         Node::Table(_, _) => true,
         _ => false,
     }
