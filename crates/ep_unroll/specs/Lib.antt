@@ -6,9 +6,11 @@ pub mod Grounds
 pub mod Growing
 pub mod Lists
 pub mod Meanings
+pub mod Needs
 pub mod Numbers
 pub mod Picks
 pub mod PartLists
+pub mod PartReads
 pub mod Powers
 pub mod Readings
 pub mod Scalars

@@ -104,6 +104,14 @@ fn is_read(kind: &Kind) -> bool {
     }
 }
 
+/// Whether an expression is a name.
+fn is_named(e: &Expr) -> bool {
+    match &e.kind {
+        Kind::Named(_) => true,
+        _ => false,
+    }
+}
+
 /// What an expression of this kind is unrolled to.
 #[cycle(unrolling)]
 fn kind_unrolled<'a>(
@@ -454,15 +462,21 @@ fn read_unrolled<'a>(
 {
     match &e.kind {
         Kind::Read(matrix, indices) => {
-            if are_decided(scope, indices) {
+            if reads_cells(scope, matrix, indices) {
                 return read_of(scope, table, e, matrix, indices);
             }
+            let known = unrolled(scope, table, arena, matrix)?;
             let slots = slots_of(scope, table, arena, indices)?;
-            read_with(scope, table, arena, e, matrix, slots)
+            read_with(scope, table, arena, e, known, slots)
         }
         // No other kind comes here.
         _ => Err(Memory),
     }
+}
+
+/// Whether a name is read at indices in which no decision variable stands. Linear in their text.
+fn reads_cells(scope: Scope<'_, '_>, matrix: &Expr, indices: &[Option<Expr>]) -> bool {
+    is_named(matrix) && are_decided(scope, indices)
 }
 
 /// What a kind that is a matrix is unrolled to.
