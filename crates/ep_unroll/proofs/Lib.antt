@@ -25,6 +25,7 @@ pub mod PartReadSteps
 pub mod PartSteps
 pub mod PickSteps
 pub mod PowerSteps
+pub mod SetSteps
 pub mod SlotSteps
 pub mod ProductSteps
 pub mod ReadValues

@@ -14,5 +14,6 @@ pub mod PartReads
 pub mod Powers
 pub mod Readings
 pub mod Scalars
+pub mod Sets
 pub mod Signed
 pub mod Unrolling

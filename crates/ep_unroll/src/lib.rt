@@ -29,6 +29,7 @@ mod products;
 mod quantifiers;
 mod reads;
 mod scalars;
+mod sets;
 mod slots;
 mod sums;
 mod unrolled;

@@ -35,9 +35,9 @@ use Rattle.ep_eval.proofs.GeneratingSteps.{comprehension_at, generators_first, g
 use Rattle.ep_eval.proofs.LiteralForms.{index_is}
 use Rattle.ep_eval.specs.Generating.{lists_joined, part_value, part_where}
 use Rattle.ep_eval.specs.Literals.{index_at}
-use Rattle.ep_tree.proofs.ViewLemmas.{index_of, kind_tree-all_different, kind_tree-at_least, kind_tree-at_most, kind_tree-flatten, kind_tree-folded, kind_tree-gcc, kind_tree-lex, kind_tree-literal, kind_tree-table}
+use Rattle.ep_tree.proofs.ViewLemmas.{index_of, kind_tree-all_different, kind_tree-at_least, kind_tree-at_most, kind_tree-flatten, kind_tree-folded, kind_tree-gcc, kind_tree-in_set, kind_tree-lex, kind_tree-literal, kind_tree-table}
 use Rattle.ep_tree.specs.Evaluation.{evaluate}
-use Rattle.ep_tree.specs.Trees.{all_different, at_least, at_most, flatten, folded, gcc, lex, literal, no_generators, table}
+use Rattle.ep_tree.specs.Trees.{all_different, at_least, at_most, flatten, folded, gcc, in_set, lex, literal, no_generators, table}
 use Rattle.ep_tree.specs.Views.{generators_of}
 use Rattle.ep_tree.specs.declared.syntax.Generator.{size-Generator}
 use Rattle.ep_unroll.proofs.ListingDepths.{evaluated}
@@ -46,7 +46,8 @@ use Rattle.ep_unroll.proofs.ScalarSteps.{scalars_from, scalars_grown}
 use Rattle.ep_unroll.specs.PartLists.{Lists, parts_at, parts_in, parts_of, ranging_over}
 use Rattle.ep_unroll.proofs.GrownParts.{terms_kept}
 use Rattle.ep_unroll.proofs.ReadValues.{means_grown}
-use Rattle.ep_unroll.specs.Scalars.{matrix_part}
+use Rattle.ep_unroll.specs.Scalars.{AreScalarsOf, matrix_part}
+use Rattle.std.specs.List.{All}
 use Rattle.ep_unroll.specs.declared.comprehensions.Listing.{Listing}
 use Rattle.ep_unroll.specs.declared.unrolled.Unrolled.{Unrolled}
 use Rattle.ep_unroll.proofs.expressions.+unrolling.Goals as goal
@@ -457,6 +458,46 @@ read_unrolled-returns-in_ok-slots-in-Read t c =
     c.read_with.ensures old p m indices tree
     (means_grown n env old mid new m c.in_ok-known-in-Read.known (slots_grow n env mid new indices found c.in_ok-slots-in-Read.ensures) c.in_ok-known-in-Read.ensures)
     (slots_from n env old mid new indices found c.in_ok-known-in-Read.ensures.grows c.in_ok-slots-in-Read.ensures)
+
+pub with_set-listed_member-requires : goal.with_set-listed_member-requires
+with_set-listed_member-requires t c = c.in_ok-term-in-InSet.ensures.known
+
+pub with_set-chosen_member-requires : goal.with_set-chosen_member-requires
+with_set-chosen_member-requires t c =
+    let mid = c.term_of.new.arena in
+    let new = c.scalars_of.new.arena in
+    record {
+      part = grows_long mid new c.in_ok-term-in-InSet.term c.in_ok-terms-in-InSet.ensures.grows c.in_ok-term-in-InSet.ensures.known;
+      terms = subst (All (λ t. t < length new)) (sym c.deref-in-InSet-3.ensures.value) c.in_ok-terms-in-InSet.ensures.known;
+    }
+
+pub with_set-returns-then-is_fixed : goal.with_set-returns-then-is_fixed
+with_set-returns-then-is_fixed t c p =
+    let n = numbering_of c.args.table.now in
+    let env = env_in c.args.scope in
+    let e = expr_tree c.deref.result.now in
+    let f = expr_tree c.deref-then-is_fixed.result.now in
+    let is : kind_tree p c.args.kind.now ≡ in_set p e f = ap (kind_tree p) c.in-InSet.is ∙ kind_tree-in_set p c.in-InSet.part c.in-InSet.matrix
+    ∙ ap (λ x. in_set p (expr_tree x) (expr_tree c.in-InSet.matrix.value)) (sym c.deref.ensures) ∙ ap (λ x. in_set p e (expr_tree x)) (sym c.deref-then-is_fixed.ensures) in
+    if_ok c.listed_member.result _ _ (λ x h. subst (λ y. IsTermOf n env c.args.arena.now c.listed_member.new.arena y x) (sym is) h)
+    (c.listed_member.ensures n env c.args.arena.now p e f (c.in_ok-own-in-InSet.ensures n) c.in_ok-term-in-InSet.ensures)
+
+pub with_set-returns-in_ok-terms-in-InSet : goal.with_set-returns-in_ok-terms-in-InSet
+with_set-returns-in_ok-terms-in-InSet t c p =
+    let n = numbering_of c.args.table.now in
+    let env = env_in c.args.scope in
+    let old = c.args.arena.now in
+    let mid = c.term_of.new.arena in
+    let new = c.scalars_of.new.arena in
+    let e = expr_tree c.deref.result.now in
+    let f = expr_tree c.deref-in-InSet-2.result.now in
+    let is : kind_tree p c.args.kind.now ≡ in_set p e f = ap (kind_tree p) c.in-InSet.is ∙ kind_tree-in_set p c.in-InSet.part c.in-InSet.matrix
+    ∙ ap (λ x. in_set p (expr_tree x) (expr_tree c.in-InSet.matrix.value)) (sym c.deref.ensures) ∙ ap (λ x. in_set p e (expr_tree x)) (sym c.deref-in-InSet-2.ensures) in
+    if_ok c.chosen_member.result _ _ (λ x h. subst (λ y. IsTermOf n env old c.chosen_member.new.arena y x) (sym is) h)
+    (c.chosen_member.ensures n env old p e f refl
+    (number_grown n env old mid new e c.in_ok-term-in-InSet.term c.in_ok-terms-in-InSet.ensures.grows c.in_ok-term-in-InSet.ensures)
+    (subst (AreScalarsOf n env old new f) (sym c.deref-in-InSet-3.ensures.value)
+    (scalars_from n env old mid new f c.in_ok-terms-in-InSet.terms.items c.in_ok-term-in-InSet.ensures.grows c.in_ok-terms-in-InSet.ensures)))
 
 pub scalars_of-taken_scalars-requires : goal.scalars_of-taken_scalars-requires
 scalars_of-taken_scalars-requires t c = c.in_ok-known.ensures.known

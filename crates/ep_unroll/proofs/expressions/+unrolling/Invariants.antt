@@ -129,3 +129,6 @@ decreases-with_matrices l = goal.size-with_matrices l * 136112946768375385385349
 
 abbrev pub decreases-with_counts : goal.decreases-with_counts
 decreases-with_counts l = goal.size-with_counts l * 1361129467683753853853498429727072845824 + 8999999999999999996
+
+abbrev pub decreases-with_set : goal.decreases-with_set
+decreases-with_set l = goal.size-with_set l * 1361129467683753853853498429727072845824 + 8999999999999999996
