@@ -12,6 +12,7 @@ use Rattle.ep_tree.proofs.EvaluationEquations.{evaluate-group, evaluate-to_int}
 use Rattle.ep_tree.specs.Environments.{Bound, Env, has_cells, has_value, scalar_in, with_number}
 use Rattle.ep_tree.specs.Evaluation.{evaluate, number_in, signed, term_values, values_of}
 use Rattle.ep_tree.specs.Trees.{DomainTree, ExprTree, ExprTrees, Terms, group, to_int}
+use Rattle.ep_tree.specs.TypedValues.{is_number_of}
 use Rattle.ep_tree.specs.Types.{of_scalar}
 use Rattle.ep_tree.specs.Values.{single}
 use Rattle.ep_tree.specs.Views.{domain_tree, expr_tree, expr_trees, terms_of}
@@ -24,6 +25,7 @@ use Rattle.ep_eval.specs.declared.gathering.Quantifier.{Quantifier}
 use Rattle.ep_unroll.proofs.FormValues.{grows_on}
 use Rattle.ep_unroll.proofs.FreeValues.{agreed_put, scalar_kept}
 use Rattle.ep_unroll.proofs.MeaningSteps.{Listing, listing_begins, listing_ends, listing_more}
+use Rattle.ep_unroll.proofs.TypedReadings.{number_typed}
 use Rattle.ep_unroll.specs.Growing.{Grows}
 use Rattle.ep_unroll.specs.Meanings.{AreInstancesOf, AreNumbersOf, IsNumberOf, Means}
 use Rattle.ep_unroll.specs.Readings.{Numbering, Reading, Reads, ReadsName}
@@ -141,12 +143,13 @@ names_within n numbers cells values name s k h x = go (bytes_eq x name)
     go false = h x
 
 -- a reading in which a name stands for a number
-unfoldable pub within : (n : Numbering) (cells : Env) (name : Name) (s : Scalar) (k : ℤ) → Reading n cells → Reading n (with_number name s k cells)
-within n cells name s k r = record {
+unfoldable pub within : (n : Numbering) (cells : Env) (name : Name) (s : Scalar) (k : ℤ) → is_number_of s k ≡ true → Reading n cells → Reading n (with_number name s k cells)
+within n cells name s k is r = record {
   numbers = r.numbers;
   values = with_number name s k r.values;
   reads = record {
     agree = agreed_put cells r.values name s k r.reads.agree;
+    typed = number_typed r.values name s k r.reads.typed is;
     names = names_within n r.numbers cells r.values name s k r.reads.names;
     long = r.reads.long;
   };
@@ -166,14 +169,14 @@ instances_begin n env old p q name rest ns left ts same none =
 
 pub instances_more : (n : Numbering) (env : Env) (old mid new : List GroundNode) (p : Place) (q : Quantifier) (name : Name) (rest : List Name) (ns left behind : List ℤ) (s : Scalar) (k : ℤ) (t : ℕ) (ts us : List ℕ)
     → InstancesSoFar n env old mid p q name rest ns left ts → left ≡ k ∷ behind → s ≡ scalar_in env (domain_tree q.domain.now)
-    → IsNumberOf n (with_number name s k env) mid new (quantified_tree p q rest) t → us ≡ ts ++ t ∷ []
+    → (Reading n env → is_number_of s k ≡ true) → IsNumberOf n (with_number name s k env) mid new (quantified_tree p q rest) t → us ≡ ts ++ t ∷ []
     → InstancesSoFar n env old new p q name rest ns behind us
 unfolding within with_number
-instances_more n env old mid new p q name rest ns left behind s k t ts us so cut scalar one pushed =
+instances_more n env old mid new p q name rest ns left behind s k t ts us so cut scalar is one pushed =
     listing_more {R = Reading n env} {X = ℕ} (λ r. r.numbers) (λ t. t) (λ t o. o) old mid new _ _ (λ r. map (λ j. number_in (instance_value Mode.Relational r.values p q name rest j)) behind)
     (λ r. number_in (instance_value Mode.Relational r.values p q name rest k)) ts us t so
     (λ r. ap (map (λ j. number_in (instance_value Mode.Relational r.values p q name rest j))) cut) one.grows one.known
-    (λ r. one.number (within n env name s k r)
+    (λ r. one.number (within n env name s k (is r) r)
     ∙ ap (λ x. number_in (evaluate Mode.Relational (with_number name x k r.values) (quantified_tree p q rest)))
     (scalar ∙ scalar_kept env r.values (domain_tree q.domain.now) r.reads.agree))
     pushed

@@ -1,21 +1,24 @@
 -- Values that fit make a reading of the cells.
 use Rattle.std.proofs.Common.{◌≡◌, ℕ, zero, suc, ◌+◌, ◌*◌, ◌<◌, ◌≤◌, Bool, true, false, ℤ, List, [], ◌∷◌, ◌++◌, length, Some, None, refl, sym, ap, subst, ◌∙◌, arith, slice_get, append_assoc}
-use Rattle.std.specs.Prelude.{Option, bytes_eq, flat_map, if◌then◌else◌, ◌&&◌, ◌==◌, map, option_and_then, option_map, sum_by}
+use Rattle.std.specs.Prelude.{IsTrue, Option, bytes_eq, flat_map, if◌then◌else◌, ◌&&◌, ◌==◌, map, option_and_then, option_map, sum_by}
+use Rattle.std.specs.List.{All, list_all}
 use Rattle.std.proofs.lemmas.List.{append-nil, length-append}
 use Rattle.std.proofs.lemmas.List.Sums.{sum_by-cons}
 use Rattle.ep_base.specs.Numbers.{has_number}
 use Rattle.ep_base.specs.declared.names.Name.{Name}
 use Rattle.ep_tree.specs.Agreement.{Agree, AgreeOn}
 use Rattle.ep_tree.specs.Binding.{Find, Instance}
-use Rattle.ep_tree.specs.Closed.{clause_env}
+use Rattle.ep_tree.specs.Closed.{IsClosed, clause_env}
 use Rattle.ep_tree.specs.Environments.{Bound, Env, has_cells, has_domain, has_value, shape_type}
 use Rattle.ep_tree.specs.Evaluation.{on_both}
 use Rattle.ep_tree.specs.Names.{put, put_all}
 use Rattle.ep_tree.specs.Reach.{decisions_in, is_decision}
 use Rattle.ep_tree.specs.Solutions.{Assigned, Fits, Found, cell_count, cells_bound, find_type, fitted_find, found_values, named_in, under}
+use Rattle.ep_tree.specs.TypedValues.{IsTypedBound, IsTypedEnv, is_number_of}
 use Rattle.ep_tree.specs.Types.{scalar_of}
 use Rattle.ep_tree.specs.Values.{ValueTree, ValueTrees, all_defined, all_fitted, as_parts, fitted, matrix, no_values, scalar_fits, scalars_of, scalars_of_all, single, value_and, with_indices}
 use Rattle.ep_tree.specs.declared.values.Scalar.{Scalar}
+use Rattle.ep_unroll.proofs.TypedReadings.{fit_bound, one_typed}
 use Rattle.ep_unroll.specs.Cells.{bound_numbers, found_numbers}
 use Rattle.ep_unroll.specs.Firsts.{first_of, numbering}
 use Rattle.ep_unroll.specs.Readings.{Reading, Reads, ReadsName, cells_value, each_from}
@@ -260,6 +263,17 @@ agrees_names (f ∷ fs) a found env e none name =
     (one_agrees (bytes_eq name f.name) f t.value (put_all (cells_bound fs) env name) (put_all t.rest env name)
     (fits_again t.own f.scalar (has_number f.values) f.indices t.given t.value t.fits) (agrees_names fs a t.rest env t.others none name))
 
+-- and its value is of its type
+pub typed_names : (fs : List Find) (a : Assigned) (found : Found) (env : Env) → found_values fs a ≡ Some found → All (λ f. IsTrue (list_all (is_number_of f.scalar) f.values)) fs → IsTypedEnv env
+    → (name : Name) → IsTypedBound (put_all found env name)
+unfolding found_values put_all
+typed_names [] a found env e values h name = subst (λ fd. IsTypedBound (put_all fd env name)) (some_is e) (h name)
+typed_names (f ∷ fs) a found env e values h name =
+    let t = taken_from f fs a found e in
+    subst (λ fd. IsTypedBound (put_all fd env name)) t.whole
+    (one_typed (bytes_eq name f.name) (Some (has_value (find_type f) t.value)) (put_all t.rest env name) (fit_bound f.scalar f.values t.own f.indices t.given t.value (values 0 f (omega arith)) t.fits)
+    (typed_names fs a t.rest env t.others (λ k d less. values (suc k) d (omega (arith, less))) h name))
+
 pub many_numbers : (fs : List Find) (a : Assigned) (found : Found) → found_values fs a ≡ Some found → sum_by (λ f. cell_count f.indices) fs ≡ length (found_numbers found)
 unfolding found_values found_numbers bound_numbers
 many_numbers [] a found e = ap (λ fd. length (found_numbers fd)) (some_is e)
@@ -272,13 +286,14 @@ many_numbers (f ∷ fs) a found e =
     ∙ ap (λ fd. length (found_numbers fd)) t.whole
 
 -- Values of the decision variables that fit are a reading of the cells.
-unfoldable pub found_reading : (i : Instance) (a : Assigned) (found : Found) → ((name : Name) → decisions_in i.env name ≡ false) → Fits i a found → Reading (numbering i.finds) (clause_env i)
-found_reading i a found none fits = record {
+unfoldable pub found_reading : (i : Instance) (a : Assigned) (found : Found) → IsClosed i → Fits i a found → Reading (numbering i.finds) (clause_env i)
+found_reading i a found closed fits = record {
   numbers = found_numbers found;
   values = under i found;
   reads = record {
-    agree = agrees_names i.finds a found i.env fits.values none;
-    names = reads_names i.finds a found i.env fits.values none (found_numbers found) [] [] 0 (sym (append-nil (found_numbers found))) refl;
+    agree = agrees_names i.finds a found i.env fits.values closed.decided;
+    typed = typed_names i.finds a found i.env fits.values closed.values closed.of_types;
+    names = reads_names i.finds a found i.env fits.values closed.decided (found_numbers found) [] [] 0 (sym (append-nil (found_numbers found))) refl;
     long = (let same = many_numbers i.finds a found fits.values in omega (arith, same));
   };
 }

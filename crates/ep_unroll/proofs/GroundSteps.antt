@@ -78,13 +78,13 @@ pub says_clauses : (mode : Mode) (i : Instance) (g : GroundState) → mode ≡ M
 unfolding found_reading
 says_clauses mode i g is closed h a found fits =
     subst (λ m. AllZip (λ t e. term_value g.nodes (found_numbers found) t ≡ Some (of_bool (is_true_in m (under i found) e))) g.clauses i.clauses) (sym is)
-    (h.clauses (found_reading i a found closed.decided fits))
+    (h.clauses (found_reading i a found closed fits))
 
 pub says_objective : (mode : Mode) (i : Instance) (g : GroundState) → mode ≡ Mode.Relational → IsClosed i → IsGroundOf i g → SaysObjective mode i g
 unfolding goal_value found_reading
 says_objective mode i g is closed h = record {
   senses = h.senses;
   numbers = λ a found fits.
-      h.objective (found_reading i a found closed.decided fits)
+      h.objective (found_reading i a found closed fits)
       ∙ ap (λ m. option_and_then (λ goal. number_in (evaluate m (under i found) goal.1)) i.goal) (sym is);
 }

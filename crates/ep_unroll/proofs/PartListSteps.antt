@@ -15,6 +15,7 @@ use Rattle.ep_tree.proofs.EvaluationEquations.{evaluate-literal}
 use Rattle.ep_tree.specs.Environments.{Env, scalar_in, with_number}
 use Rattle.ep_tree.specs.Evaluation.{all_true, evaluate, index_values, map_both, matrix_value, number_in, on_both, truth_of, values_of}
 use Rattle.ep_tree.specs.Trees.{DomainTree, ExprTree, ExprTrees, Generators, IndexDomain, comprehension, generator_and, literal}
+use Rattle.ep_tree.specs.TypedValues.{is_number_of}
 use Rattle.ep_tree.specs.Values.{ValueTree, all_defined, as_parts, matrix, with_indices}
 use Rattle.ep_tree.specs.Views.{expr_tree, expr_trees}
 use Rattle.ep_tree.specs.declared.syntax.Expr.{Expr}
@@ -244,17 +245,17 @@ lists_begin n cells old first at numbers left same = record {
 
 pub lists_more : (n : Numbering) (cells : Env) (old mid new : List GroundNode) (first now after : Option (List Unrolled)) (at : Env → ℤ → Option (List ValueTree)) (numbers left behind : List ℤ)
     (name : Name) (s : Scalar) (d : DomainTree) (k : ℤ) (own : Env → Option (List ValueTree))
-    → ListsSoFar n cells old mid first now at numbers left → left ≡ k ∷ behind → s ≡ scalar_in cells d
+    → ListsSoFar n cells old mid first now at numbers left → left ≡ k ∷ behind → s ≡ scalar_in cells d → (Reading n cells → is_number_of s k ≡ true)
     → Lists n (with_number name s k cells) mid new now after own
     → ((env : Env) → at env k ≡ own (with_number name (scalar_in env d) k env))
     → ListsSoFar n cells old new first after at numbers behind
 unfolding lists_joined within
-lists_more n cells old mid new first now after at numbers left behind name s d k own so cut scalar one is = record {
+lists_more n cells old mid new first now after at numbers left behind name s d k own so cut scalar typed one is = record {
   grows = grows_on old mid new so.grows one.grows;
   known = λ known. one.known (so.known known);
   values = λ known r.
       let rest : Option (List ValueTree) = lists_joined (map (at r.values) behind) in
-      let inner : Reading n (with_number name s k cells) = within n cells name s k r in
+      let inner : Reading n (with_number name s k cells) = within n cells name s k (typed r) r in
       ap (λ o. map_both ◌++◌ o rest) (one.values (so.known known) inner)
       ∙ ap (λ x. map_both ◌++◌ (map_both ◌++◌ (listed_worths mid r.numbers now) (own (with_number name x k r.values))) rest) (scalar ∙ scalar_kept cells r.values d r.reads.agree)
       ∙ ap (λ o. map_both ◌++◌ (map_both ◌++◌ (listed_worths mid r.numbers now) o) rest) (sym (is r.values))

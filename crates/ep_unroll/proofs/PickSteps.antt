@@ -173,6 +173,25 @@ entries_one old new value keys ts own t put is one alone = record {
     by zero d less = put.known
     by (suc k) d less = absurd (omega (arith, less))
 
+-- a term that was there
+pub entries_term : (nodes : List GroundNode) (value : List ℤ → Option ValueTree) (ss : List Slot) (keys : List (List ℤ)) (ts : List ℕ) (t : ℕ)
+    → t < length nodes → ((numbers : List ℤ) → value numbers ≡ option_map single (term_value nodes numbers t)) → ss ≡ [] → keys ≡ [] ∷ [] → ts ≡ t ∷ [] → AreEntries nodes nodes ss value keys ts
+entries_term nodes value ss keys ts t h is none one alone =
+    subst (λ l. AreEntries nodes nodes l value keys ts) (sym none) (record {
+      grows = grows_none nodes nodes refl;
+      known = subst (All (λ u. u < length nodes)) (sym alone) (λ k d less. by k d less);
+      values = λ numbers v e.
+          let p = map_is single (term_value nodes numbers t) v (sym (is numbers) ∙ e) in (
+            p.0 ∷ [],
+            ap (map (term_value nodes numbers)) alone ∙ ap (λ o. o ∷ []) p.1,
+            subst (λ ks. AreRead [] v ks (p.0 ∷ [])) (sym one) (one_read p.0 v p.2),
+          );
+    })
+  where
+    by : (k : ℕ) (d : ℕ) → k < 1 → get_or (t ∷ []) k d < length nodes
+    by zero d less = h
+    by (suc k) d less = absurd (omega (arith, less))
+
 -- the value of a cell
 pub cell_is : (domains : List (List ℤ)) (first : ℕ) → domains ≡ [] → (numbers : List ℤ) (f : ℕ → Option ℤ) → cells_value numbers domains first ≡ option_map single (node_value numbers f (node.cell first))
 unfolding cells_value node_value

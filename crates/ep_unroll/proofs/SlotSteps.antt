@@ -1,16 +1,15 @@
 -- Places for the indices of a read, one after another, and reads that choose.
-use Rattle.std.proofs.Common.{◌≡◌, ℕ, zero, suc, ◌+◌, ◌<◌, ◌≤◌, ℤ, pos, Bool, true, false, List, [], ◌∷◌, ◌++◌, length, drop, get_or, Some, None, refl, sym, ap, subst, ◌∙◌, arith, rules, append_assoc}
-use Rattle.std.specs.Prelude.{IfOk, IsSome, Option, Result, Ok, Err, map, option_and_then, option_map, if◌then◌else◌, unwrap_or}
+use Rattle.std.proofs.Common.{◌≡◌, ℕ, zero, suc, ◌+◌, ◌<◌, ◌≤◌, ℤ, List, [], ◌∷◌, ◌++◌, length, drop, get_or, Some, None, refl, sym, ap, subst, ◌∙◌, arith, append_assoc}
+use Rattle.std.specs.Prelude.{IfOk, Option, Result, Ok, Err, map, option_and_then, option_map, if◌then◌else◌}
 use Rattle.std.specs.List.{All}
 use Rattle.std.proofs.lemmas.List.{append-nil, at_drop_all, at_drop_more, map-append}
 use Rattle.std.proofs.lemmas.List.Elements.{All-append, All-push}
-use Rattle.ep_base.specs.Numbers.{same_numbers}
-use Rattle.ep_base.specs.Reads.{all_there, first_or_zero, picked, safe_picked}
+use Rattle.ep_base.specs.Reads.{all_there}
 use Rattle.ep_base.specs.declared.places.Place.{Place}
 use Rattle.ep_ground.specs.Nodes as node
 use Rattle.ep_ground.specs.Nodes.{GroundNode}
 use Rattle.ep_ground.specs.Terms as ground
-use Rattle.ep_ground.specs.Terms.{node_value, term_value}
+use Rattle.ep_ground.specs.Terms.{term_value}
 use Rattle.ep_tree.proofs.EvaluationEquations.{evaluate-read}
 use Rattle.ep_tree.specs.Environments.{Env}
 use Rattle.ep_tree.specs.Evaluation.{evaluate, index_list, map_both, number_in, on_both, read_result, type_in}
@@ -24,15 +23,14 @@ use Rattle.ep_unroll.proofs.FormValues.{grown_value, grows_long, grows_on}
 use Rattle.ep_unroll.proofs.FreeValues.{type_kept}
 use Rattle.ep_unroll.proofs.MeaningSteps.{grows_none}
 use Rattle.ep_unroll.proofs.PartSteps.{index_cut}
-use Rattle.ep_unroll.proofs.PickSteps.{picked_found}
 use Rattle.ep_unroll.specs.Blocks.{one_index}
-use Rattle.ep_unroll.specs.Growing.{Grows, Puts}
+use Rattle.ep_unroll.specs.Growing.{Grows}
 use Rattle.ep_unroll.specs.Meanings.{AreTerms, IsNumberOf, Means, worth}
-use Rattle.ep_unroll.specs.Picks.{AreEntries, AreEntriesOf, AreKnown, AreRead, AreSlotsOf, IsChosenTruth, IsSlot, IsSlotOf, SlotMeans, SlotsMean, filled_in, look_up, open_terms, slot_index}
+use Rattle.ep_unroll.specs.Picks.{AreKnown, AreSlotsOf, IsSlot, IsSlotOf, SlotMeans, SlotsMean, filled_in, open_terms, slot_index}
 use Rattle.ep_unroll.specs.Readings.{Numbering, Reading}
 use Rattle.ep_unroll.specs.declared.slots.Slot.{Slot}
 use Rattle.ep_unroll.specs.declared.slots.Slot.TheVariants.{Every, At, Open}
-use Rattle.ep_unroll.specs.declared.unrolled.Unrolled.{Unrolled, Number}
+use Rattle.ep_unroll.specs.declared.unrolled.Unrolled.{Unrolled}
 
 -- ---- indices as a list of places
 
@@ -149,6 +147,17 @@ unfolding SlotsMean AreKnown
 slots_known n env old new indices None h = tt
 slots_known n env old new indices (Some ss) h = h.known
 
+pub slots_grow : (n : Numbering) (env : Env) (old new : List GroundNode) (indices : List (Option Expr)) (found : Option (List Slot)) → SlotsMean n env old new indices found → Grows old new
+unfolding SlotsMean
+slots_grow n env old new indices None h = h.0
+slots_grow n env old new indices (Some ss) h = h.grows
+
+-- places behind fewer nodes
+pub slots_from : (n : Numbering) (env : Env) (old mid new : List GroundNode) (indices : List (Option Expr)) (found : Option (List Slot)) → Grows old mid → SlotsMean n env mid new indices found → SlotsMean n env old new indices found
+unfolding SlotsMean
+slots_from n env old mid new indices None g h = (grows_on old mid new g h.0, h.1)
+slots_from n env old mid new indices (Some ss) g h = record { grows = grows_on old mid new g h.grows; known = h.known; values = h.values }
+
 -- ---- the numbers of places
 
 slots_filled : (nodes : List GroundNode) (numbers : List ℤ) (ss : List Slot)
@@ -195,7 +204,7 @@ length_mapped : {A B : Type 0} (f : A → B) (xs : List A) → length (map f xs)
 length_mapped f [] = refl
 length_mapped f (x ∷ xs) = ap suc (length_mapped f xs)
 
-all_some : (xs : List ℤ) → all_there (map Some xs) ≡ Some xs
+pub all_some : (xs : List ℤ) → all_there (map Some xs) ≡ Some xs
 unfolding all_there
 all_some [] = refl
 all_some (x ∷ xs) = ap (option_map (λ ns. x ∷ ns)) (all_some xs)
@@ -217,53 +226,16 @@ opens_known count (Open t ∷ ss) known =
     one zero d less = known 0 (Open t) (omega arith)
     one (suc k) d less = absurd (omega (arith, less))
 
-terms_kept : (mid new : List GroundNode) (numbers : List ℤ) (ts : List ℕ) → Grows mid new → All (λ t. t < length mid) ts → map (term_value new numbers) ts ≡ map (term_value mid numbers) ts
-terms_kept mid new numbers [] g known = refl
-terms_kept mid new numbers (t ∷ ts) g known =
-    ap (λ x. x ∷ map (term_value new numbers) ts) (grown_value mid new numbers t g (known 0 t (omega arith)))
-    ∙ ap (λ xs. term_value mid numbers t ∷ xs) (terms_kept mid new numbers ts g (λ k d less. known (suc k) d (omega (arith, less))))
-
 -- ---- what is read
 
--- entries by the value of an expression
-pub entries_of : (n : Numbering) (env : Env) (old new : List GroundNode) (m : ExprTree) (ss : List Slot) (value : List ℤ → Option ValueTree) (keys : List (List ℤ)) (ts : List ℕ)
-    → ((r : Reading n env) → (v : ValueTree) × (value r.numbers ≡ Some v) × (evaluate Mode.Relational r.values m ≡ Some v)) → AreEntries old new ss value keys ts
-    → AreEntriesOf n env old new m ss keys ts
-entries_of n env old new m ss value keys ts same h = record {
-  grows = h.grows;
-  known = h.known;
-  values = λ r.
-      let p = same r in
-      let q = h.values r.numbers p.0 p.1 in
-      let read = q.2 in
-      (q.0, q.1, read.long, λ js few. ap (option_and_then (read_value (filled_in ss js))) p.2 ∙ read.read js few);
-}
-
-pub entries_without : (n : Numbering) (env : Env) (old : List GroundNode) (m : ExprTree) (ss : List Slot) (keys : List (List ℤ)) (ts : List ℕ)
-    → ((r : Reading n env) → evaluate Mode.Relational r.values m ≡ None) → keys ≡ [] → ts ≡ [] → AreEntriesOf n env old old m ss keys ts
-unfolding look_up
-entries_without n env old m ss keys ts none nothing nowhere = record {
-  grows = grows_none old old refl;
-  known = subst (All (λ t. t < length old)) (sym nowhere) (λ k d less. absurd (no_less k less));
-  values = λ r. (
-    [],
-    ap (map (term_value old r.numbers)) nowhere,
-    ap length nothing,
-    λ js few. ap (option_and_then (read_value (filled_in ss js))) (none r) ∙ ap (λ ks. option_map single (look_up ks [] js)) (sym nothing),
-  );
-}
-  where
-    no_less : (k : ℕ) → k < 0 → ⊥
-    no_less k less = omega (arith, less)
-
 -- what a read gives, by the numbers of its terms
-read_is : (n : Numbering) (env : Env) (r : Reading n env) (nodes mid new : List GroundNode) (p : Place) (m e : ExprTree) (indices : List (Option Expr)) (ss : List Slot) (keys : List (List ℤ)) (xs : List ℤ) (ty : ValueType)
+pub read_is : (n : Numbering) (env : Env) (r : Reading n env) (nodes mid new : List GroundNode) (p : Place) (m e : ExprTree) (indices : List (Option Expr)) (ss : List Slot) (look : List ℤ → Option ℤ) (ty : ValueType)
     → AreSlotsOf n env nodes mid indices ss → Grows mid new → e ≡ read p m (indices_of indices) → ty ≡ type_in env e
-    → ((js : List ℤ) → length js ≡ length (open_terms ss) → option_and_then (read_value (filled_in ss js)) (evaluate Mode.Relational r.values m) ≡ option_map single (look_up keys xs js))
+    → ((js : List ℤ) → length js ≡ length (open_terms ss) → option_and_then (read_value (filled_in ss js)) (evaluate Mode.Relational r.values m) ≡ option_map single (look js))
     → evaluate Mode.Relational r.values e
-    ≡ read_result Mode.Relational ty (option_and_then (λ js. option_map single (look_up keys xs js)) (all_there (map (term_value new r.numbers) (open_terms ss))))
+    ≡ read_result Mode.Relational ty (option_and_then (λ js. option_map single (look js)) (all_there (map (term_value new r.numbers) (open_terms ss))))
 unfolding on_both
-read_is n env r nodes mid new p m e indices ss keys xs ty slots grows tree typed found =
+read_is n env r nodes mid new p m e indices ss look ty slots grows tree typed found =
     let value : Option ValueTree = evaluate Mode.Relational r.values m in
     let opens : Option (List ℤ) = all_there (map (term_value new r.numbers) (open_terms ss)) in
     ap (evaluate Mode.Relational r.values) tree ∙ evaluate-read Mode.Relational r.values p m (indices_of indices)
@@ -274,45 +246,9 @@ read_is n env r nodes mid new p m e indices ss keys xs ty slots grows tree typed
     ∙ ap (read_result Mode.Relational ty) (by opens refl)
   where
     by : (o : Option (List ℤ)) → all_there (map (term_value new r.numbers) (open_terms ss)) ≡ o
-        → on_both (option_map (filled_in ss) o) (evaluate Mode.Relational r.values m) read_value ≡ option_and_then (λ js. option_map single (look_up keys xs js)) o
+        → on_both (option_map (filled_in ss) o) (evaluate Mode.Relational r.values m) read_value ≡ option_and_then (λ js. option_map single (look js)) o
     by None e' = refl
     by (Some js) e' = found js (there_length (map (term_value new r.numbers) (open_terms ss)) js e' ∙ length_mapped (term_value new r.numbers) (open_terms ss))
-
-pick_value : (numbers : List ℤ) (f : ℕ → Option ℤ) (ts : List ℕ) (keys : List (List ℤ)) (us : List ℕ) (xs : List ℤ) → map f ts ≡ map Some xs
-    → node_value numbers f (node.pick ts keys us) ≡ option_and_then (λ js. look_up keys xs js) (all_there (map f us))
-unfolding node_value ground.values_of ground.on_both
-pick_value numbers f ts keys us xs is =
-    ap (option_and_then (λ ys. option_and_then (λ js. picked ys keys js) (all_there (map f us)))) (ap all_there is ∙ all_some xs)
-    ∙ by (all_there (map f us))
-  where
-    by : (o : Option (List ℤ)) → option_and_then (λ js. picked xs keys js) o ≡ option_and_then (λ js. look_up keys xs js) o
-    by None = refl
-    by (Some js) = picked_found xs keys js
-
--- a read that chooses a number
-pub pick_means : (n : Numbering) (env : Env) (nodes mid have new : List GroundNode) (p : Place) (m e : ExprTree) (indices : List (Option Expr)) (ss : List Slot) (keys : List (List ℤ)) (ts : List ℕ) (us : List ℕ) (ty : ValueType) (t : ℕ)
-    → AreSlotsOf n env nodes mid indices ss → AreEntriesOf n env mid have m ss keys ts → us ≡ open_terms ss → Puts have new (node.pick ts keys us) t
-    → e ≡ read p m (indices_of indices) → ty ≡ type_in env e → ((o : Option ValueTree) → read_result Mode.Relational ty o ≡ o)
-    → Means n env nodes new e (Number t)
-unfolding worth AreTerms
-pick_means n env nodes mid have new p m e indices ss keys ts us ty t slots entries opened put tree typed plain = record {
-  grows = grows_on nodes mid new slots.grows (grows_on mid have new entries.grows put.grows);
-  known = put.known;
-  value = λ r.
-      let q = entries.values r in
-      let f : (ℕ → Option ℤ) = term_value new r.numbers in
-      let opens : Option (List ℤ) = all_there (map f (open_terms ss)) in
-      ap (option_map single)
-      (put.value r.numbers ∙ pick_value r.numbers f ts keys us q.0 (terms_kept have new r.numbers ts put.grows entries.known ∙ q.1)
-      ∙ ap (λ vs. option_and_then (λ js. look_up keys q.0 js) (all_there (map f vs))) opened)
-      ∙ moved keys q.0 opens
-      ∙ sym (plain (option_and_then (λ js. option_map single (look_up keys q.0 js)) opens))
-      ∙ sym (read_is n env r nodes mid new p m e indices ss keys q.0 ty slots (grows_on mid have new entries.grows put.grows) tree typed q.3);
-}
-  where
-    moved : (ks : List (List ℤ)) (xs : List ℤ) (o : Option (List ℤ)) → option_map single (option_and_then (λ js. look_up ks xs js) o) ≡ option_and_then (λ js. option_map single (look_up ks xs js)) o
-    moved ks xs None = refl
-    moved ks xs (Some js) = refl
 
 -- a read with an index that has no number
 without_means : (n : Numbering) (env : Env) (nodes mid : List GroundNode) (p : Place) (m e : ExprTree) (indices : List (Option Expr)) (ty : ValueType) (x : Unrolled)
@@ -335,80 +271,6 @@ pub without_done : {E : Type 0} (n : Numbering) (env : Env) (nodes mid : List Gr
     → ((numbers : List ℤ) → IfOk result (λ x. worth mid numbers x ≡ read_result Mode.Relational ty None)) → IfOk result (AreTerms (length mid)) → IfOk result (Means n env nodes mid e)
 without_done n env nodes mid p m e indices ty (Ok x) tree typed grows none is known = without_means n env nodes mid p m e indices ty x tree typed grows none is known
 without_done n env nodes mid p m e indices ty (Err f) tree typed grows none is known = tt
-
--- ---- truth values
-
-all_total : (f : ℕ → Option ℤ) (us : List ℕ) → All (λ t. IsSome (f t)) us → (js : List ℤ) × (all_there (map f us) ≡ Some js)
-unfolding all_there
-all_total f [] h = ([], refl)
-all_total f (u ∷ us) h =
-    let p = some_there (f u) (h 0 u (omega arith)) in
-    let q = all_total f us (λ k d less. h (suc k) d (omega (arith, less))) in
-    (p.0 ∷ q.0, ap (option_and_then (λ n. option_map (λ ns. n ∷ ns) (all_there (map f us)))) p.1 ∙ ap (option_map (λ ns. p.0 ∷ ns)) q.1)
-  where
-    some_there : (o : Option ℤ) → IsSome o → (x : ℤ) × (o ≡ Some x)
-    some_there None h = absurd (search rules)
-    some_there (Some x) h = (x, refl)
-
-found_behind : (keys : List (List ℤ)) (xs ks : List ℤ) → 0 < length ks → look_up ([] ∷ keys) (pos 0 ∷ xs) ks ≡ look_up keys xs ks
-unfolding look_up same_numbers
-found_behind keys xs [] h = absurd (omega (arith, h))
-found_behind keys xs (k ∷ ks) h = refl
-
-read_or_zero : (o : Option ℤ) → read_result Mode.Relational ValueType.Bool (option_map single o) ≡ Some (single (unwrap_or o (pos 0)))
-unfolding read_result
-read_or_zero None = refl
-read_or_zero (Some x) = refl
-
-chosen_value : (numbers : List ℤ) (f : ℕ → Option ℤ) (none : ℕ) (ts us : List ℕ) (keys : List (List ℤ)) (xs js : List ℤ) → f none ≡ Some (pos 0) → map f ts ≡ map Some xs → all_there (map f us) ≡ Some js
-    → 0 < length js → node_value numbers f (node.safe_pick (none ∷ ts) ([] ∷ keys) us) ≡ Some (unwrap_or (look_up keys xs js) (pos 0))
-unfolding node_value ground.values_of ground.on_both safe_picked first_or_zero
-chosen_value numbers f none ts us keys xs js starts is there some =
-    ap (λ o. option_and_then (λ ys. option_and_then (λ ks. Some (safe_picked ys ([] ∷ keys) ks)) (all_there (map f us))) (all_there (o ∷ map f ts))) starts
-    ∙ ap (λ os. option_and_then (λ ys. option_and_then (λ ks. Some (safe_picked ys ([] ∷ keys) ks)) (all_there (map f us))) (all_there (Some (pos 0) ∷ os))) is
-    ∙ ap (option_and_then (λ ys. option_and_then (λ ks. Some (safe_picked ys ([] ∷ keys) ks)) (all_there (map f us)))) (all_some (pos 0 ∷ xs))
-    ∙ ap (option_and_then (λ ks. Some (safe_picked (pos 0 ∷ xs) ([] ∷ keys) ks))) there
-    ∙ ap (λ o. Some (unwrap_or o (pos 0))) (picked_found (pos 0 ∷ xs) ([] ∷ keys) js ∙ found_behind keys xs js some)
-
-pub truth_chosen : (old mid new : List GroundNode) (count : ℕ) (keys all : List (List ℤ)) (ts us all_ts : List ℕ) (none t : ℕ)
-    → ((numbers : List ℤ) → count ≤ length numbers → All (λ u. IsSome (term_value old numbers u)) us) → All (λ u. u < length old) ts → All (λ u. u < length old) us → 0 < length us
-    → Puts old mid (node.constant (pos 0)) none → all ≡ [] ∷ keys → all_ts ≡ none ∷ ts → Puts mid new (node.safe_pick all_ts all us) t
-    → IsChosenTruth old new count keys ts us t
-unfolding node_value
-truth_chosen old mid new count keys all ts us all_ts none t total terms indices some starts is pushed put = record {
-  grows = grows_on old mid new starts.grows put.grows;
-  known = put.known;
-  value = λ numbers xs few found.
-      let g = grows_on old mid new starts.grows put.grows in
-      let f : (ℕ → Option ℤ) = term_value new numbers in
-      let p = all_total (term_value old numbers) us (total numbers few) in
-      let there : all_there (map f us) ≡ Some p.0 = ap all_there (terms_kept old new numbers us g indices) ∙ p.1 in
-      let long : length p.0 ≡ length us = there_length (map f us) p.0 there ∙ length_mapped f us in (
-        p.0,
-        there,
-        put.value numbers ∙ ap (λ ks. node_value numbers f (node.safe_pick all_ts ks us)) is ∙ ap (λ l. node_value numbers f (node.safe_pick l ([] ∷ keys) us)) pushed
-            ∙ chosen_value numbers f none ts us keys xs p.0 (grown_value mid new numbers none put.grows starts.known ∙ starts.value numbers)
-            (terms_kept old new numbers ts g terms ∙ found) there (omega (arith, some, long)),
-      );
-}
-
--- a read that chooses a truth value
-pub truth_means : (n : Numbering) (env : Env) (nodes mid have new : List GroundNode) (p : Place) (m e : ExprTree) (indices : List (Option Expr)) (ss : List Slot) (keys : List (List ℤ)) (ts us : List ℕ) (count t : ℕ)
-    → n.count ≡ count → AreSlotsOf n env nodes mid indices ss → AreEntriesOf n env mid have m ss keys ts → us ≡ open_terms ss → IsChosenTruth have new count keys ts us t
-    → e ≡ read p m (indices_of indices) → type_in env e ≡ ValueType.Bool → Means n env nodes new e (Number t)
-unfolding worth AreTerms
-truth_means n env nodes mid have new p m e indices ss keys ts us count t counted slots entries opened chosen tree typed = record {
-  grows = grows_on nodes mid new slots.grows (grows_on mid have new entries.grows chosen.grows);
-  known = chosen.known;
-  value = λ r.
-      let q = entries.values r in
-      let w = chosen.value r.numbers q.0 (subst (λ k. k ≤ length r.numbers) counted r.reads.long) q.1 in
-      ap (option_map single) w.2
-      ∙ sym (read_is n env r nodes mid new p m e indices ss keys q.0 ValueType.Bool slots (grows_on mid have new entries.grows chosen.grows) tree (sym typed) q.3
-      ∙ ap (λ vs. read_result Mode.Relational ValueType.Bool (option_and_then (λ js. option_map single (look_up keys q.0 js)) (all_there (map (term_value new r.numbers) vs)))) (sym opened)
-      ∙ ap (λ o. read_result Mode.Relational ValueType.Bool (option_and_then (λ js. option_map single (look_up keys q.0 js)) o)) w.1
-      ∙ read_or_zero (look_up keys q.0 w.0));
-}
 
 -- ---- the terms of places, one after another
 

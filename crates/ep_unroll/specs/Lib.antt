@@ -6,10 +6,14 @@ pub mod Grounds
 pub mod Growing
 pub mod Lists
 pub mod Meanings
+pub mod Needs
 pub mod Numbers
 pub mod Picks
 pub mod PartLists
+pub mod PartReads
+pub mod Powers
 pub mod Readings
 pub mod Scalars
+pub mod Sets
 pub mod Signed
 pub mod Unrolling

@@ -1,16 +1,12 @@
 -- Indices of reads in which decision variables may stand, and the scalars among which such a read chooses.
-use Rattle.std.specs.Prelude.{◌≡◌, ℕ, ◌<◌, ◌≤◌, List, [], ◌∷◌, map, ℤ, pos, unwrap_or, Some, None, Option, option_and_then, option_map, length, if◌then◌else◌}
+use Rattle.std.specs.Prelude.{◌≡◌, ℕ, ◌<◌, List, [], ◌∷◌, map, ℤ, Some, None, Option, option_map, length, if◌then◌else◌}
 use Rattle.std.specs.List.{All}
 use Rattle.ep_base.specs.Numbers.{same_numbers}
-use Rattle.ep_base.specs.Reads.{all_there}
 use Rattle.ep_ground.specs.Nodes.{GroundNode}
 use Rattle.ep_ground.specs.Terms.{term_value}
 use Rattle.ep_tree.specs.Environments.{Env}
-use Rattle.ep_tree.specs.Evaluation.{evaluate}
-use Rattle.ep_tree.specs.Trees.{ExprTree}
 use Rattle.ep_tree.specs.Values.{Index, ValueTree, all_defined, any_index, at_index, read_value, single}
 use Rattle.ep_tree.specs.declared.syntax.Expr.{Expr}
-use Rattle.ep_tree.specs.declared.values.Mode.{Mode}
 use Rattle.ep_unroll.specs.Blocks.{one_index}
 use Rattle.ep_unroll.specs.Growing.{Grows}
 use Rattle.ep_unroll.specs.Readings.{Numbering, Reading}
@@ -84,25 +80,7 @@ pub record AreEntries (old new : List GroundNode) (ss : List Slot) (value : List
   pub values : (numbers : List ℤ) (v : ValueTree) → value numbers ≡ Some v
       → (xs : List ℤ) × (map (term_value new numbers) ts ≡ map Some xs) × AreRead ss v keys xs
 
--- Terms under keys have the numbers that a read gives of an expression's value, whatever values decision variables have.
-pub record AreEntriesOf (n : Numbering) (cells : Env) (old new : List GroundNode) (m : ExprTree) (ss : List Slot) (keys : List (List ℤ)) (ts : List ℕ) : Type 0 where
-  pub grows : Grows old new
-  pub known : All (λ t. t < length new) ts
-  pub values : (r : Reading n cells)
-      → (xs : List ℤ) × (map (term_value new r.numbers) ts ≡ map Some xs) × (length keys ≡ length xs)
-      × ((js : List ℤ) → length js ≡ length (open_terms ss)
-      → option_and_then (read_value (filled_in ss js)) (evaluate Mode.Relational r.values m) ≡ option_map single (look_up keys xs js))
-
 -- the terms of places have nodes, where there are places
 unfoldable pub AreKnown : ℕ → Option (List Slot) → Type 0
 AreKnown count None = Unit {0}
 AreKnown count (Some ss) = All (IsSlot count) ss
-
--- A term has the number that is found under the numbers of other terms, and is 0 where none is found. Those terms have
--- numbers.
-pub record IsChosenTruth (old new : List GroundNode) (count : ℕ) (keys : List (List ℤ)) (ts us : List ℕ) (t : ℕ) : Type 0 where
-  pub grows : Grows old new
-  pub known : t < length new
-  pub value : (numbers : List ℤ) (xs : List ℤ) → count ≤ length numbers → map (term_value old numbers) ts ≡ map Some xs
-      → (js : List ℤ) × (all_there (map (term_value new numbers) us) ≡ Some js)
-      × (term_value new numbers t ≡ Some (unwrap_or (look_up keys xs js) (pos 0)))

@@ -4,6 +4,7 @@ use Rattle.ep_base.specs.declared.names.Name.{Name}
 use Rattle.ep_tree.specs.Agreement.{Agree}
 use Rattle.ep_tree.specs.Environments.{Bound, Env, has_cells, has_value, shape_type}
 use Rattle.ep_tree.specs.Solutions.{cell_count}
+use Rattle.ep_tree.specs.TypedValues.{IsTypedEnv}
 use Rattle.ep_tree.specs.Values.{ValueTree, all_defined, as_parts, matrix, single}
 
 -- what a function gives of numbers that lie so far apart, one for each index
@@ -31,9 +32,10 @@ pub record Numbering : Type 0 where
   pub count : ℕ
 
 -- Two environments agree but for decision variables, and those stand for the values of their cells in the second one.
--- Each cell has a number.
+-- Each name stands for something of its type there, and each cell has a number.
 pub record Reads (n : Numbering) (numbers : List ℤ) (cells values : Env) : Type 0 where
   pub agree : Agree cells values
+  pub typed : IsTypedEnv values
   pub names : (name : Name) → ReadsName (n.first name) numbers (cells name) (values name)
   pub long : n.count ≤ length numbers
 

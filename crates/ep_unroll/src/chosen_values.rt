@@ -63,7 +63,7 @@ fn is_behind(last: Option<i64>, number: i64) -> bool
 }
 
 /// Whether numbers ascend.
-fn ascend(numbers: &[i64]) -> bool
+pub fn ascend(numbers: &[i64]) -> bool
     ensures { result ≡ true → IsAscending numbers.now }
 {
     let mut last: Option<i64> = None;

@@ -37,6 +37,7 @@ use super::numbers::{number_term, taken_term};
 use super::quantifiers::{finish_quantifier, without_domain};
 use super::reads::read_of;
 use super::scalars::taken_scalars;
+use super::sets::{chosen_member, listed_member};
 use super::slots::{Slot, are_decided, fixed_slot};
 use super::sums::{chain_term, sign_of};
 use super::unrolled::Unrolled;
@@ -104,6 +105,14 @@ fn is_read(kind: &Kind) -> bool {
     }
 }
 
+/// Whether an expression is a name.
+fn is_named(e: &Expr) -> bool {
+    match &e.kind {
+        Kind::Named(_) => true,
+        _ => false,
+    }
+}
+
 /// What an expression of this kind is unrolled to.
 #[cycle(unrolling)]
 fn kind_unrolled<'a>(
@@ -155,10 +164,9 @@ fn kind_term(
         Kind::And(_) | Kind::Or(_) => with_parts(scope, table, arena, kind),
         Kind::Add(_) => with_terms(scope, table, arena, kind),
         Kind::InDomain(_, _) => with_domain(scope, table, arena, kind),
+        Kind::InSet(_, _) => with_set(scope, table, arena, kind),
         Kind::Fold(_, _) | Kind::AllDiff(_) => with_matrix(scope, table, arena, kind),
-        Kind::Lex(_, _, _) | Kind::InSet(_, _) | Kind::Table(_, _) => with_matrices(
-            scope, table, arena, kind,
-        ),
+        Kind::Lex(_, _, _) | Kind::Table(_, _) => with_matrices(scope, table, arena, kind),
         Kind::Gcc(_, _, _) | Kind::AtLeast(_, _, _) | Kind::AtMost(_, _, _) => with_counts(
             scope, table, arena, kind,
         ),
@@ -454,15 +462,21 @@ fn read_unrolled<'a>(
 {
     match &e.kind {
         Kind::Read(matrix, indices) => {
-            if are_decided(scope, indices) {
+            if reads_cells(scope, matrix, indices) {
                 return read_of(scope, table, e, matrix, indices);
             }
+            let known = unrolled(scope, table, arena, matrix)?;
             let slots = slots_of(scope, table, arena, indices)?;
-            read_with(scope, table, arena, e, matrix, slots)
+            read_with(scope, table, arena, e, known, slots)
         }
         // No other kind comes here.
         _ => Err(Memory),
     }
+}
+
+/// Whether a name is read at indices in which no decision variable stands. Linear in their text.
+fn reads_cells(scope: Scope<'_, '_>, matrix: &Expr, indices: &[Option<Expr>]) -> bool {
+    is_named(matrix) && are_decided(scope, indices)
 }
 
 /// What a kind that is a matrix is unrolled to.
@@ -668,7 +682,32 @@ fn with_matrix(
     }
 }
 
-/// The same of a kind with two parts, of which one is a matrix. `in toSet(..)` ends as want of memory.
+/// Membership in the set of a matrix's scalars.
+#[cycle(unrolling)]
+fn with_set(
+    scope: Scope<'_, '_>,
+    table: &CellTable,
+    arena: &mut Arena,
+    kind: &Kind,
+) -> Result<Term, Memory>
+    ensures { (p : Place) → IfOk result (IsTermOf (numbering_of table.now) (env_in scope.entry) arena.old arena.new (kind_tree p kind.now)) }
+{
+    match kind {
+        Kind::InSet(part, matrix) => {
+            let term = term_of(scope, table, arena, part)?;
+            if is_fixed(scope, matrix) {
+                let own = fixed_scalars(scope, matrix)?;
+                return listed_member(scope.alloc, arena, term, own);
+            }
+            let terms = scalars_of(scope, table, arena, matrix)?;
+            chosen_member(scope.alloc, arena, table.count, term, &terms)
+        }
+        // No other kind comes here.
+        _ => Err(Memory),
+    }
+}
+
+/// The same of a kind with two parts, of which one is a matrix.
 #[cycle(unrolling)]
 fn with_matrices(
     scope: Scope<'_, '_>,

@@ -17,6 +17,7 @@ ghost use Rattle.ep_size.specs.Parts.{part_of, two_parts};
 ghost use Rattle.ep_unroll.specs.Readings.{Numbering};
 
 use super::growing::put;
+use super::powers::power_term;
 use ep_base::{CompareOp, Memory};
 use ep_ground::{Arena, Node, Term};
 use ep_tree::{BinaryOp, Kind};
@@ -81,6 +82,9 @@ fn is_total_node(node: &Node, count: u64) -> bool
         Node::Iff(_, _) => true,
         Node::AllDiff(_) => true,
         Node::Lex(_, _, _) => true,
+        Node::Gcc(_, _, _) => true,
+        Node::AtLeast(_, _, _) => true,
+        Node::AtMost(_, _, _) => true,
         Node::Table(_, _) => true,
         _ => false,
     }
@@ -136,7 +140,7 @@ fn finish_binary(
         BinaryOp::Mul => put(arena, Node::Mul(one, other)),
         BinaryOp::Div => put(arena, Node::Div(one, other)),
         BinaryOp::Mod => put(arena, Node::Mod(one, other)),
-        BinaryOp::Pow => Err(Memory),
+        BinaryOp::Pow => power_term(arena, one, other),
         BinaryOp::Min => {
             let parts = pair(alloc, one, other)?;
             put(arena, Node::Min(parts))

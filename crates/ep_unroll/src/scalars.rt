@@ -101,7 +101,7 @@ fn push_scalars(
 }
 
 /// The terms of the scalars of what was unrolled.
-fn scalar_terms(alloc: Global, arena: &mut Arena, known: &Unrolled) -> Result<Vec<Term>, Memory>
+pub fn scalar_terms(alloc: Global, arena: &mut Arena, known: &Unrolled) -> Result<Vec<Term>, Memory>
     requires { AreTerms (length arena.old) known.now }
     ensures { IfOk result (λ ts. AddsScalars arena.old arena.new [] ts.items (λ numbers. scalars_in (worth arena.old numbers known.now))) }
 {

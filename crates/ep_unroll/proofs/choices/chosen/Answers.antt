@@ -1,26 +1,69 @@
-use Rattle.std.proofs.Common.{length, subst, sym, ◌<◌, ◌∙◌}
+use Rattle.std.proofs.Common.{length, refl, subst, sym, ◌<◌, ◌∙◌}
 use Rattle.std.specs.List.{All}
 use Rattle.ep_eval.specs.Scopes.{env_in}
 use Rattle.ep_tree.specs.Views.{expr_tree}
-use Rattle.ep_unroll.proofs.FormValues.{grows_long}
-use Rattle.ep_unroll.proofs.SlotSteps.{opens_known, pick_means}
+use Rattle.ep_unroll.proofs.FormValues.{grows_long, grows_on}
+use Rattle.ep_unroll.proofs.GrownParts.{terms_kept}
+use Rattle.ep_unroll.proofs.ReadValues.{Choice, chosen_means, truth_means}
+use Rattle.ep_unroll.proofs.SlotSteps.{opens_known}
 use Rattle.ep_unroll.specs.Firsts.{numbering_of}
 use Rattle.ep_unroll.proofs.choices.chosen.Goals as goal
 
-pub chosen_truth-requires : goal.chosen_truth-requires
-chosen_truth-requires c = record { known = c.requires; truth = sym c.in_ok-ty.ensures ∙ c.is_truth.ensures.truth c.if-is_truth.true }
+pub needed_terms-requires : goal.needed_terms-requires
+needed_terms-requires c = c.requires.known
 
-pub pick_term-requires : goal.pick_term-requires
-pick_term-requires c =
+pub chosen_truth-requires : goal.chosen_truth-requires
+chosen_truth-requires c =
     let mid = c.args.arena.now in
-    let have = c.entries_of.new.arena in record {
-      terms = c.in_ok-entries.ensures.known;
+    let need = c.needed_terms.new.arena in
+    let have = c.known_entries.new.arena in
+    let entries = c.in_ok-entries.ensures (terms_kept mid need c.args.known.now c.in_ok-others.ensures.grows c.requires.known) in
+    record {
+      terms = entries.known;
       indices = subst (All (λ t. t < length have)) (sym c.in_ok-indices.ensures)
-          (λ k d less. grows_long mid have _ c.in_ok-entries.ensures.grows (opens_known (length mid) c.args.slots.now c.requires k d less));
+          (λ k d less. grows_long mid have _ (grows_on mid need have c.in_ok-others.ensures.grows entries.grows) (opens_known (length mid) c.args.slots.now c.requires.slots k d less));
+      others = λ k d less. grows_long need have _ entries.grows (c.in_ok-others.ensures.known k d less);
     }
 
+pub chosen_number-requires : goal.chosen_number-requires
+chosen_number-requires c =
+    let mid = c.args.arena.now in
+    let need = c.needed_terms.new.arena in
+    let have = c.known_entries.new.arena in
+    let entries = c.in_ok-entries.ensures (terms_kept mid need c.args.known.now c.in_ok-others.ensures.grows c.requires.known) in
+    record {
+      terms = entries.known;
+      indices = subst (All (λ t. t < length have)) (sym c.in_ok-indices.ensures)
+          (λ k d less. grows_long mid have _ (grows_on mid need have c.in_ok-others.ensures.grows entries.grows) (opens_known (length mid) c.args.slots.now c.requires.slots k d less));
+      others = λ k d less. grows_long need have _ entries.grows (c.in_ok-others.ensures.known k d less);
+    }
+
+pub returns-then-is_truth : goal.returns-then-is_truth
+returns-then-is_truth c nodes p m indices tree known slots =
+    let n = numbering_of c.args.table.now in
+    let env = env_in c.args.scope in
+    let mid = c.args.arena.now in
+    let need = c.needed_terms.new.arena in
+    let have = c.known_entries.new.arena in
+    let es = c.in_ok-entries.entries in
+    let entries = c.in_ok-entries.ensures (terms_kept mid need c.args.known.now c.in_ok-others.ensures.grows c.requires.known) in
+    let choice : Choice n env nodes mid need have m c.args.known.now c.args.slots.now c.args.table.now.count es.keys.items es.terms.items c.in_ok-others.others.items =
+    record { counted = refl; meant = known; needed = c.in_ok-others.ensures; entries = entries } in
+    truth_means n env nodes mid need have c.chosen_truth.new.arena p m (expr_tree c.args.e.now) indices c.args.known.now c.args.slots.now c.args.table.now.count es.keys.items es.terms.items
+    c.in_ok-indices.indices.items c.in_ok-others.others.items c.in_ok-term.term choice slots c.in_ok-indices.ensures c.in_ok-term.ensures tree
+    (sym (c.is_truth.ensures.truth c.if-is_truth.true) ∙ c.in_ok-ty.ensures)
+
 pub returns : goal.returns
-returns c nodes p indices tree slots =
-    pick_means (numbering_of c.args.table.now) (env_in c.args.scope) nodes c.args.arena.now c.entries_of.new.arena c.pick_term.new.arena p (expr_tree c.args.matrix.now) (expr_tree c.args.e.now) indices c.args.slots.now
-    c.in_ok-entries.entries.keys.items c.in_ok-entries.entries.terms.items c.in_ok-indices.indices.items c.in_ok-ty.ty c.in_ok-term.term slots c.in_ok-entries.ensures c.in_ok-indices.ensures
-    c.in_ok-term.ensures tree c.in_ok-ty.ensures (c.is_truth.ensures.other c.if-is_truth.false)
+returns c nodes p m indices tree known slots =
+    let n = numbering_of c.args.table.now in
+    let env = env_in c.args.scope in
+    let mid = c.args.arena.now in
+    let need = c.needed_terms.new.arena in
+    let have = c.known_entries.new.arena in
+    let es = c.in_ok-entries.entries in
+    let entries = c.in_ok-entries.ensures (terms_kept mid need c.args.known.now c.in_ok-others.ensures.grows c.requires.known) in
+    let choice : Choice n env nodes mid need have m c.args.known.now c.args.slots.now c.args.table.now.count es.keys.items es.terms.items c.in_ok-others.others.items =
+    record { counted = refl; meant = known; needed = c.in_ok-others.ensures; entries = entries } in
+    chosen_means n env nodes mid need have c.chosen_number.new.arena p m (expr_tree c.args.e.now) indices c.args.known.now c.args.slots.now c.args.table.now.count es.keys.items es.terms.items
+    c.in_ok-indices.indices.items c.in_ok-others.others.items c.in_ok-ty.ty c.in_ok-term-2.term choice slots c.in_ok-indices.ensures c.in_ok-term-2.ensures tree c.in_ok-ty.ensures
+    (c.is_truth.ensures.other c.if-is_truth.false)

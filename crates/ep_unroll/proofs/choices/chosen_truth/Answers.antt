@@ -1,23 +1,23 @@
-use Rattle.std.proofs.Common.{length, refl, subst, sym, ◌<◌}
-use Rattle.std.specs.List.{All}
-use Rattle.ep_eval.specs.Scopes.{env_in}
-use Rattle.ep_tree.specs.Views.{expr_tree}
-use Rattle.ep_unroll.proofs.FormValues.{grows_long}
-use Rattle.ep_unroll.proofs.SlotSteps.{opens_known, truth_means}
-use Rattle.ep_unroll.specs.Firsts.{numbering_of}
+use Rattle.std.proofs.Common.{subst, sym}
+use Rattle.ep_unroll.proofs.FormValues.{if_ok}
+use Rattle.ep_unroll.proofs.PartReadSteps.{chosen_true}
+use Rattle.ep_unroll.specs.PartReads.{CanBeSafe, IsTruth}
 use Rattle.ep_unroll.proofs.choices.chosen_truth.Goals as goal
 
-pub truth_term-requires : goal.truth_term-requires
-truth_term-requires c =
-    let mid = c.args.arena.now in
-    let have = c.entries_of.new.arena in record {
-      terms = c.in_ok-entries.ensures.known;
-      indices = subst (All (λ t. t < length have)) (sym c.in_ok-indices.ensures)
-          (λ k d less. grows_long mid have _ c.in_ok-entries.ensures.grows (opens_known (length mid) c.args.slots.now c.requires.known k d less));
-    }
+pub returns-then-can_be_safe : goal.returns-then-can_be_safe
+returns-then-can_be_safe c =
+    let old = c.args.arena.now in
+    let keys = c.args.entries.keys.items in
+    let ts = c.args.entries.terms.items in
+    let us = c.args.indices.items in
+    let safe : CanBeSafe old c.args.count ts us c.args.others.items =
+    subst (λ l. CanBeSafe old c.args.count ts l c.args.others.items) c.deref.ensures.value
+    (subst (CanBeSafe old c.args.count ts c.deref.result.now) c.deref-2.ensures.value (c.can_be_safe.ensures c.if-can_be_safe.true)) in
+    if_ok c.safe_truth.result _ _ (λ t h. subst (λ l. IsTruth old c.safe_truth.new.arena c.args.count keys ts us l t) (sym safe.none) h)
+    (c.safe_truth.ensures c.args.count (subst (CanBeSafe old c.args.count ts us) safe.none safe))
 
 pub returns : goal.returns
-returns c nodes p indices tree slots =
-    truth_means (numbering_of c.args.table.now) (env_in c.args.scope) nodes c.args.arena.now c.entries_of.new.arena c.truth_term.new.arena p (expr_tree c.args.matrix.now) (expr_tree c.args.e.now) indices c.args.slots.now
-    c.in_ok-entries.entries.keys.items c.in_ok-entries.entries.terms.items c.in_ok-indices.indices.items c.args.table.now.count c.in_ok-term.term refl slots c.in_ok-entries.ensures c.in_ok-indices.ensures
-    c.in_ok-term.ensures tree c.requires.truth
+returns c =
+    if_ok c.truth_of.result _ _
+    (λ t put. chosen_true c.args.arena.now c.chosen_number.new.arena c.truth_of.new.arena c.args.count c.args.entries.keys.items c.args.entries.terms.items c.args.indices.items c.args.others.items c.in_ok-term.term t
+    c.in_ok-term.ensures put) c.truth_of.ensures

@@ -1,28 +1,30 @@
-use Rattle.std.proofs.Common.{ap, length, subst, sym, ◌∙◌}
+use Rattle.std.proofs.Common.{length, subst, sym}
 use Rattle.std.specs.Prelude.{option_map}
 use Rattle.std.specs.List.{All}
 use Rattle.ep_eval.specs.Scopes.{env_in}
-use Rattle.ep_tree.specs.Views.{expr_tree}
 use Rattle.ep_unroll.specs.Firsts.{numbering_of}
 use Rattle.ep_unroll.specs.Picks.{AreKnown, AreSlotsOf, IsSlot, SlotsMean}
 use Rattle.ep_unroll.proofs.choices.read_with.Goals as goal
 
 pub chosen-requires : goal.chosen-requires
 unfolding AreKnown
-chosen-requires c =
-    subst (All (IsSlot (length c.args.arena.now))) (sym c.deref.ensures.value) (subst (λ found. AreKnown (length c.args.arena.now) (option_map (λ v. v.items) found)) c.in-Some.is c.requires)
+chosen-requires c = record {
+  known = c.requires.known;
+  slots = subst (All (IsSlot (length c.args.arena.now))) (sym c.deref.ensures.value)
+      (subst (λ found. AreKnown (length c.args.arena.now) (option_map (λ v. v.items) found)) c.in-Some.is c.requires.slots);
+}
 
 pub returns-in-Some : goal.returns-in-Some
 unfolding SlotsMean
-returns-in-Some c nodes p indices tree slots =
+returns-in-Some c nodes p m indices tree known slots =
     let n = numbering_of c.args.table.now in
     let env = env_in c.args.scope in
-    c.chosen.ensures nodes p indices tree
+    c.chosen.ensures nodes p m indices tree known
     (subst (AreSlotsOf n env nodes c.args.arena.now indices) (sym c.deref.ensures.value) (subst (λ found. SlotsMean n env nodes c.args.arena.now indices (option_map (λ v. v.items) found)) c.in-Some.is slots))
 
-pub returns-in-None : goal.returns-in-None
+pub returns : goal.returns
 unfolding SlotsMean
-returns-in-None c nodes p indices tree slots =
+returns c nodes p m indices tree known slots =
     let n = numbering_of c.args.table.now in
     let none = subst (λ found. SlotsMean n (env_in c.args.scope) nodes c.args.arena.now indices (option_map (λ v. v.items) found)) c.in-None.is slots in
-    c.read_without.ensures n nodes c.args.arena.now p (expr_tree c.args.matrix.now) indices tree none.0 none.1
+    c.read_without.ensures n nodes c.args.arena.now p m indices tree none.0 none.1

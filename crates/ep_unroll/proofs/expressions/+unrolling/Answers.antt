@@ -19,12 +19,13 @@ use Rattle.ep_tree.specs.declared.syntax.Expr.{size-Expr}
 use Rattle.ep_tree.specs.declared.values.Mode.{Mode}
 use Rattle.ep_unroll.proofs.CycleSteps.{bare_means, group_means, instances_all, instances_begin, instances_more, number_from, signed_all, signed_begin, signed_more, terms_all, terms_begin, terms_more, to_int_means}
 use Rattle.ep_unroll.proofs.FormValues.{grows_long, if_ok, number_grown, grows_on}
+use Rattle.ep_unroll.proofs.TypedReadings.{domain_numbers, number_next, numbers_behind}
 use Rattle.ep_unroll.proofs.MeaningSteps.{term_means}
 use Rattle.ep_unroll.specs.Firsts.{numbering_of}
 use Rattle.ep_unroll.specs.Lists.{all_parts}
 use Rattle.ep_unroll.specs.Meanings.{AreInstancesOf, IsNumberOf, IsTermOf, Means}
 use Rattle.ep_unroll.specs.declared.unrolled.Unrolled.{Number}
-use Rattle.ep_unroll.proofs.SlotSteps.{every_slot, open_slot, slots_all, slots_begin, slots_more, slots_none, slots_known}
+use Rattle.ep_unroll.proofs.SlotSteps.{every_slot, open_slot, slots_all, slots_begin, slots_from, slots_grow, slots_more, slots_none, slots_known}
 use Rattle.ep_unroll.specs.Picks.{SlotMeans, SlotsMean}
 use Rattle.std.specs.Prelude.{map}
 use denote.Param.Weighed.{most}
@@ -34,16 +35,19 @@ use Rattle.ep_eval.proofs.GeneratingSteps.{comprehension_at, generators_first, g
 use Rattle.ep_eval.proofs.LiteralForms.{index_is}
 use Rattle.ep_eval.specs.Generating.{lists_joined, part_value, part_where}
 use Rattle.ep_eval.specs.Literals.{index_at}
-use Rattle.ep_tree.proofs.ViewLemmas.{index_of, kind_tree-all_different, kind_tree-at_least, kind_tree-at_most, kind_tree-flatten, kind_tree-folded, kind_tree-gcc, kind_tree-lex, kind_tree-literal, kind_tree-table}
+use Rattle.ep_tree.proofs.ViewLemmas.{index_of, kind_tree-all_different, kind_tree-at_least, kind_tree-at_most, kind_tree-flatten, kind_tree-folded, kind_tree-gcc, kind_tree-in_set, kind_tree-lex, kind_tree-literal, kind_tree-table}
 use Rattle.ep_tree.specs.Evaluation.{evaluate}
-use Rattle.ep_tree.specs.Trees.{all_different, at_least, at_most, flatten, folded, gcc, lex, literal, no_generators, table}
+use Rattle.ep_tree.specs.Trees.{all_different, at_least, at_most, flatten, folded, gcc, in_set, lex, literal, no_generators, table}
 use Rattle.ep_tree.specs.Views.{generators_of}
 use Rattle.ep_tree.specs.declared.syntax.Generator.{size-Generator}
 use Rattle.ep_unroll.proofs.ListingDepths.{evaluated}
 use Rattle.ep_unroll.proofs.PartListSteps.{if_both, known_all, known_begin, known_more, lists_all, lists_begin, lists_lost, lists_more, lists_none, lists_same, lists_where, literal_means}
 use Rattle.ep_unroll.proofs.ScalarSteps.{scalars_from, scalars_grown}
 use Rattle.ep_unroll.specs.PartLists.{Lists, parts_at, parts_in, parts_of, ranging_over}
-use Rattle.ep_unroll.specs.Scalars.{matrix_part}
+use Rattle.ep_unroll.proofs.GrownParts.{terms_kept}
+use Rattle.ep_unroll.proofs.ReadValues.{means_grown}
+use Rattle.ep_unroll.specs.Scalars.{AreScalarsOf, matrix_part}
+use Rattle.std.specs.List.{All}
 use Rattle.ep_unroll.specs.declared.comprehensions.Listing.{Listing}
 use Rattle.ep_unroll.specs.declared.unrolled.Unrolled.{Unrolled}
 use Rattle.ep_unroll.proofs.expressions.+unrolling.Goals as goal
@@ -324,6 +328,7 @@ instances-loop-number-init t c =
     let rest = c.args.rest.now in (
       c.walk_of-walk.ensures.walk,
       λ p. instances_begin n env c.args.arena.now p q name rest c.args.set.now (numbers_left c.walk_of-walk.result) c.new-terms.result.items (c.walk_of-walk.ensures.numbers ∙ c.runs.ensures.numbers) c.new-terms.ensures.items,
+      domain_numbers n env (domain_tree q.domain.now) c.args.set.now (numbers_left c.walk_of-walk.result) c.requires (c.walk_of-walk.ensures.numbers ∙ c.runs.ensures.numbers),
     )
 
 pub instances-loop-number-smaller : goal.instances-loop-number-smaller
@@ -351,9 +356,11 @@ instances-loop-number-preserved t c =
       subst IsWalkBehind c.in-Some.is c.next_number.ensures.walk,
       λ p. instances_more n env c.args.arena.now c.loop-number.arena c.taken_term.new.arena p q name rest c.args.set.now (numbers_left c.loop-number.walk) (numbers_left c.in-Some.behind)
           c.scalar_of-scalar.result k c.in_ok-term.term c.loop-number.terms.items c.push.new.self.items (c.loop-number.invariant.1 p) cut scalar
+          (number_next n env (domain_tree q.domain.now) (numbers_left c.loop-number.walk) (numbers_left c.in-Some.behind) k c.scalar_of-scalar.result c.loop-number.invariant.2 cut scalar)
           (subst (λ m. IsNumberOf n (with_number name c.scalar_of-scalar.result m env) c.loop-number.arena c.taken_term.new.arena (quantified_tree p q rest) c.in_ok-term.term) same
           (c.in_ok-term.ensures n (with_number name c.scalar_of-scalar.result (to_z w64 (of_z w64 k)) env) c.loop-number.arena (quantified_tree p q rest) (c.in_ok-instance.ensures p)))
           c.in_ok-push.ensures.items,
+      numbers_behind n env (domain_tree q.domain.now) (numbers_left c.loop-number.walk) (numbers_left c.in-Some.behind) k c.loop-number.invariant.2 cut,
     )
 
 pub instances-returns : goal.instances-returns
@@ -413,27 +420,84 @@ unfolding SlotsMean
 slots_of-returns t c =
     slots_all (numbering_of c.args.table.now) (env_in c.args.scope) c.args.arena.now c.loop-index.arena c.args.indices.now c.loop-index.index-index c.loop-index.slots.items c.loop-index-test.false c.loop-index.invariant
 
-pub read_unrolled-returns-then-are_decided : goal.read_unrolled-returns-then-are_decided
-read_unrolled-returns-then-are_decided t c =
+pub read_unrolled-returns-then-reads_cells : goal.read_unrolled-returns-then-reads_cells
+read_unrolled-returns-then-reads_cells t c =
     let p = c.args.e.now.place in
-    let m = expr_tree c.deref-then-are_decided.result.now in
-    let tree : expr_tree c.args.e.now ≡ read p m (indices_of c.deref-then-are_decided-2.result.now) =
-    ap (kind_tree p) c.in-Read.is ∙ kind_tree-read p c.in-Read.matrix c.in-Read.indices ∙ ap (λ x. read p (expr_tree x) (indices_of c.in-Read.indices.items)) (sym c.deref-then-are_decided.ensures)
-    ∙ ap (λ l. read p m (indices_of l)) (sym c.deref-then-are_decided-2.ensures.value) in
+    let m = expr_tree c.deref-then-reads_cells.result.now in
+    let tree : expr_tree c.args.e.now ≡ read p m (indices_of c.deref-then-reads_cells-2.result.now) =
+    ap (kind_tree p) c.in-Read.is ∙ kind_tree-read p c.in-Read.matrix c.in-Read.indices ∙ ap (λ x. read p (expr_tree x) (indices_of c.in-Read.indices.items)) (sym c.deref-then-reads_cells.ensures)
+    ∙ ap (λ l. read p m (indices_of l)) (sym c.deref-then-reads_cells-2.ensures.value) in
     c.read_of.ensures c.args.arena.now p tree
 
 pub read_unrolled-read_with-requires : goal.read_unrolled-read_with-requires
 read_unrolled-read_with-requires t c =
-    slots_known (numbering_of c.args.table.now) (env_in c.args.scope) c.args.arena.now c.slots_of.new.arena c.deref-in-Read.result.now (option_map (λ v. v.items) c.in_ok-slots-in-Read.slots) c.in_ok-slots-in-Read.ensures
+    let n = numbering_of c.args.table.now in
+    let env = env_in c.args.scope in
+    let mid = c.unrolled.new.arena in
+    let new = c.slots_of.new.arena in
+    let found = option_map (λ v. v.items) c.in_ok-slots-in-Read.slots in
+    record {
+      known = terms_kept mid new c.in_ok-known-in-Read.known (slots_grow n env mid new c.deref-in-Read-3.result.now found c.in_ok-slots-in-Read.ensures) c.in_ok-known-in-Read.ensures.known;
+      slots = slots_known n env mid new c.deref-in-Read-3.result.now found c.in_ok-slots-in-Read.ensures;
+    }
 
 pub read_unrolled-returns-in_ok-slots-in-Read : goal.read_unrolled-returns-in_ok-slots-in-Read
 read_unrolled-returns-in_ok-slots-in-Read t c =
+    let n = numbering_of c.args.table.now in
+    let env = env_in c.args.scope in
+    let old = c.args.arena.now in
+    let mid = c.unrolled.new.arena in
+    let new = c.slots_of.new.arena in
+    let found = option_map (λ v. v.items) c.in_ok-slots-in-Read.slots in
     let p = c.args.e.now.place in
     let m = expr_tree c.deref-in-Read-2.result.now in
-    let tree : expr_tree c.args.e.now ≡ read p m (indices_of c.deref-in-Read.result.now) =
+    let indices = c.deref-in-Read-3.result.now in
+    let tree : expr_tree c.args.e.now ≡ read p m (indices_of indices) =
     ap (kind_tree p) c.in-Read.is ∙ kind_tree-read p c.in-Read.matrix c.in-Read.indices ∙ ap (λ x. read p (expr_tree x) (indices_of c.in-Read.indices.items)) (sym c.deref-in-Read-2.ensures)
-    ∙ ap (λ l. read p m (indices_of l)) (sym c.deref-in-Read.ensures.value) in
-    c.read_with.ensures c.args.arena.now p c.deref-in-Read.result.now tree c.in_ok-slots-in-Read.ensures
+    ∙ ap (λ l. read p m (indices_of l)) (sym c.deref-in-Read-3.ensures.value) in
+    c.read_with.ensures old p m indices tree
+    (means_grown n env old mid new m c.in_ok-known-in-Read.known (slots_grow n env mid new indices found c.in_ok-slots-in-Read.ensures) c.in_ok-known-in-Read.ensures)
+    (slots_from n env old mid new indices found c.in_ok-known-in-Read.ensures.grows c.in_ok-slots-in-Read.ensures)
+
+pub with_set-listed_member-requires : goal.with_set-listed_member-requires
+with_set-listed_member-requires t c = c.in_ok-term-in-InSet.ensures.known
+
+pub with_set-chosen_member-requires : goal.with_set-chosen_member-requires
+with_set-chosen_member-requires t c =
+    let mid = c.term_of.new.arena in
+    let new = c.scalars_of.new.arena in
+    record {
+      part = grows_long mid new c.in_ok-term-in-InSet.term c.in_ok-terms-in-InSet.ensures.grows c.in_ok-term-in-InSet.ensures.known;
+      terms = subst (All (λ t. t < length new)) (sym c.deref-in-InSet-3.ensures.value) c.in_ok-terms-in-InSet.ensures.known;
+    }
+
+pub with_set-returns-then-is_fixed : goal.with_set-returns-then-is_fixed
+with_set-returns-then-is_fixed t c p =
+    let n = numbering_of c.args.table.now in
+    let env = env_in c.args.scope in
+    let e = expr_tree c.deref.result.now in
+    let f = expr_tree c.deref-then-is_fixed.result.now in
+    let is : kind_tree p c.args.kind.now ≡ in_set p e f = ap (kind_tree p) c.in-InSet.is ∙ kind_tree-in_set p c.in-InSet.part c.in-InSet.matrix
+    ∙ ap (λ x. in_set p (expr_tree x) (expr_tree c.in-InSet.matrix.value)) (sym c.deref.ensures) ∙ ap (λ x. in_set p e (expr_tree x)) (sym c.deref-then-is_fixed.ensures) in
+    if_ok c.listed_member.result _ _ (λ x h. subst (λ y. IsTermOf n env c.args.arena.now c.listed_member.new.arena y x) (sym is) h)
+    (c.listed_member.ensures n env c.args.arena.now p e f (c.in_ok-own-in-InSet.ensures n) c.in_ok-term-in-InSet.ensures)
+
+pub with_set-returns-in_ok-terms-in-InSet : goal.with_set-returns-in_ok-terms-in-InSet
+with_set-returns-in_ok-terms-in-InSet t c p =
+    let n = numbering_of c.args.table.now in
+    let env = env_in c.args.scope in
+    let old = c.args.arena.now in
+    let mid = c.term_of.new.arena in
+    let new = c.scalars_of.new.arena in
+    let e = expr_tree c.deref.result.now in
+    let f = expr_tree c.deref-in-InSet-2.result.now in
+    let is : kind_tree p c.args.kind.now ≡ in_set p e f = ap (kind_tree p) c.in-InSet.is ∙ kind_tree-in_set p c.in-InSet.part c.in-InSet.matrix
+    ∙ ap (λ x. in_set p (expr_tree x) (expr_tree c.in-InSet.matrix.value)) (sym c.deref.ensures) ∙ ap (λ x. in_set p e (expr_tree x)) (sym c.deref-in-InSet-2.ensures) in
+    if_ok c.chosen_member.result _ _ (λ x h. subst (λ y. IsTermOf n env old c.chosen_member.new.arena y x) (sym is) h)
+    (c.chosen_member.ensures n env old p e f refl
+    (number_grown n env old mid new e c.in_ok-term-in-InSet.term c.in_ok-terms-in-InSet.ensures.grows c.in_ok-term-in-InSet.ensures)
+    (subst (AreScalarsOf n env old new f) (sym c.deref-in-InSet-3.ensures.value)
+    (scalars_from n env old mid new f c.in_ok-terms-in-InSet.terms.items c.in_ok-term-in-InSet.ensures.grows c.in_ok-terms-in-InSet.ensures)))
 
 pub scalars_of-taken_scalars-requires : goal.scalars_of-taken_scalars-requires
 scalars_of-taken_scalars-requires t c = c.in_ok-known.ensures.known
@@ -599,6 +663,8 @@ over_numbers-loop-number-init t c =
       c.walk_of-walk.ensures.walk,
       lists_begin (numbering_of c.args.table.now) (env_in c.args.scope) c.args.arena.now (parts_in c.args.parts) (λ env. parts_at env g name rest) c.args.set.now (numbers_left c.walk_of-walk.result)
           (c.walk_of-walk.ensures.numbers ∙ c.runs.ensures.numbers),
+      domain_numbers (numbering_of c.args.table.now) (env_in c.args.scope) (domain_tree g.domain.now) c.args.set.now (numbers_left c.walk_of-walk.result) c.requires
+          (c.walk_of-walk.ensures.numbers ∙ c.runs.ensures.numbers),
     )
 
 pub over_numbers-over_names-requires : goal.over_numbers-over_names-requires
@@ -627,9 +693,11 @@ over_numbers-loop-number-preserved t c =
       subst IsWalkBehind c.in-Some.is c.next_number.ensures.walk,
       lists_more n env c.args.arena.now c.loop-number.arena c.over_names.new.arena (parts_in c.args.parts) (parts_in c.loop-number.more) (parts_in c.in_ok-more.more) (λ values. parts_at values g name rest)
           c.args.set.now (numbers_left c.loop-number.walk) (numbers_left c.in-Some.behind) name c.scalar_of-scalar.result d k (parts_of g.listing (ranging_over g rest)) c.loop-number.invariant.1 cut scalar
+          (number_next n env d (numbers_left c.loop-number.walk) (numbers_left c.in-Some.behind) k c.scalar_of-scalar.result c.loop-number.invariant.2 cut scalar)
           (subst (λ m. Lists n (with_number name c.scalar_of-scalar.result m env) c.loop-number.arena c.over_names.new.arena (parts_in c.loop-number.more) (parts_in c.in_ok-more.more) (parts_of g.listing (ranging_over g rest))) same
           c.in_ok-more.ensures)
           (λ values. refl),
+      numbers_behind n env d (numbers_left c.loop-number.walk) (numbers_left c.in-Some.behind) k c.loop-number.invariant.2 cut,
     )
 
 pub over_numbers-returns : goal.over_numbers-returns

@@ -3,10 +3,12 @@ use Rattle.ep_base.specs.declared.places.Place.{Place}
 use Rattle.ep_eval.specs.Ranks.{depth_of}
 use Rattle.ep_eval.specs.Scopes.{env_in}
 use Rattle.ep_eval.specs.Walking.{IsWalk, numbers_left}
+use Rattle.ep_tree.specs.Views.{domain_tree}
 use Rattle.ep_unroll.proofs.CycleSteps.{InstancesSoFar, SignedSoFar, TermsSoFar}
 use Rattle.ep_unroll.proofs.SlotSteps.{SlotsSoFar}
 use Rattle.ep_unroll.proofs.ListingDepths.{depth_of_generators, depth_of_listing, depth_of_ranging}
 use Rattle.ep_unroll.proofs.PartListSteps.{KnownSoFar, ListsSoFar}
+use Rattle.ep_unroll.proofs.TypedReadings.{AreOfScalar}
 use Rattle.ep_unroll.specs.Firsts.{numbering_of}
 use Rattle.ep_unroll.specs.PartLists.{parts_at, parts_in}
 use Rattle.ep_unroll.proofs.expressions.+unrolling.Given as goal
@@ -63,6 +65,7 @@ abbrev pub invariant-instances-loop-number : goal.invariant-instances-loop-numbe
 invariant-instances-loop-number l =
     (IsWalk l.walk)
     × ((p : Place) → InstancesSoFar (numbering_of l.table) (env_in l.scope) l.fn.arena l.arena p l.quantifier l.name l.rest l.set (numbers_left l.walk) l.terms.items)
+    × AreOfScalar (numbering_of l.table) (env_in l.scope) (domain_tree l.quantifier.domain.now) (numbers_left l.walk)
 
 abbrev pub invariant-terms_of_all-loop-part : goal.invariant-terms_of_all-loop-part
 invariant-terms_of_all-loop-part l = TermsSoFar (numbering_of l.table) (env_in l.scope) l.fn.arena l.arena l.parts l.part-index l.terms.items
@@ -113,6 +116,7 @@ abbrev pub invariant-over_numbers-loop-number : goal.invariant-over_numbers-loop
 invariant-over_numbers-loop-number l =
     (IsWalk l.walk)
     × ListsSoFar (numbering_of l.table) (env_in l.scope) l.fn.arena l.arena (parts_in l.fn.parts) (parts_in l.more) (λ env. parts_at env l.ranging l.name l.rest) l.set (numbers_left l.walk)
+    × AreOfScalar (numbering_of l.table) (env_in l.scope) (domain_tree l.ranging.domain.now) (numbers_left l.walk)
 
 abbrev pub invariant-parts_of_all-loop-part : goal.invariant-parts_of_all-loop-part
 invariant-parts_of_all-loop-part l = KnownSoFar (numbering_of l.table) (env_in l.scope) l.fn.arena l.arena l.parts l.part-index l.known.items
@@ -125,3 +129,6 @@ decreases-with_matrices l = goal.size-with_matrices l * 136112946768375385385349
 
 abbrev pub decreases-with_counts : goal.decreases-with_counts
 decreases-with_counts l = goal.size-with_counts l * 1361129467683753853853498429727072845824 + 8999999999999999996
+
+abbrev pub decreases-with_set : goal.decreases-with_set
+decreases-with_set l = goal.size-with_set l * 1361129467683753853853498429727072845824 + 8999999999999999996

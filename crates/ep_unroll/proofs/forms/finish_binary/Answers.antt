@@ -78,3 +78,8 @@ pub returns-in-Implies : goal.returns-in-Implies
 returns-in-Implies c n cells nodes p e f count h k =
     if_ok c.implication.result _ _ (λ t done. subst (λ op. IsTermOf n cells nodes c.implication.new.arena (binary p op e f) t) (sym c.in-Implies.is) done)
     (c.implication.ensures n cells nodes p e f count h k)
+
+pub returns-in-Pow : goal.returns-in-Pow
+returns-in-Pow c n cells nodes p e f count h k =
+    if_ok c.power_term.result _ _ (λ t done. subst (λ op. IsTermOf n cells nodes c.power_term.new.arena (binary p op e f) t) (sym c.in-Pow.is) done)
+    (c.power_term.ensures n cells nodes p e f h k)

@@ -49,3 +49,15 @@ returns-in-Lex c h numbers value few = subst (λ x. IsSome (node_value numbers v
 pub returns-in-Table : goal.returns-in-Table
 unfolding node_value
 returns-in-Table c h numbers value few = subst (λ x. IsSome (node_value numbers value (plain_node x))) (sym c.in-Table.is) (truth_total _)
+
+pub returns-in-Gcc : goal.returns-in-Gcc
+unfolding node_value
+returns-in-Gcc c h numbers value few = subst (λ x. IsSome (node_value numbers value (plain_node x))) (sym c.in-Gcc.is) (truth_total _)
+
+pub returns-in-AtLeast : goal.returns-in-AtLeast
+unfolding node_value
+returns-in-AtLeast c h numbers value few = subst (λ x. IsSome (node_value numbers value (plain_node x))) (sym c.in-AtLeast.is) (truth_total _)
+
+pub returns-in-AtMost : goal.returns-in-AtMost
+unfolding node_value
+returns-in-AtMost c h numbers value few = subst (λ x. IsSome (node_value numbers value (plain_node x))) (sym c.in-AtMost.is) (truth_total _)

@@ -1,0 +1,149 @@
+-- What has to have a value so that a matrix has one.
+use Rattle.std.proofs.Common.{◌≡◌, ℕ, zero, suc, ◌+◌, ◌<◌, ◌≤◌, ℤ, pos, true, List, [], ◌∷◌, ◌++◌, length, drop, get_or, Some, None, refl, sym, ap, subst, ◌∙◌, arith, rules, append_assoc, slice_get}
+use Rattle.std.specs.Prelude.{IsSome, Option, is_some, map, option_and_then, option_map}
+use Rattle.std.specs.List.{All}
+use Rattle.std.proofs.lemmas.List.{append-nil, at_drop_all, at_drop_more, map-append}
+use Rattle.std.proofs.lemmas.List.Elements.{All-push}
+use Rattle.std.proofs.lemmas.Option.{slice_get-get_or}
+use Rattle.ep_base.specs.Reads.{all_there}
+use Rattle.ep_eval.specs.Helds.{seen_held}
+use Rattle.ep_eval.specs.declared.held.Held.{Held}
+use Rattle.ep_ground.specs.Nodes as node
+use Rattle.ep_ground.specs.Nodes.{GroundNode}
+use Rattle.ep_ground.specs.Terms.{node_value, term_value}
+use Rattle.ep_tree.specs.Evaluation.{scalars_in}
+use Rattle.ep_tree.specs.Solutions.{cell_count}
+use Rattle.ep_tree.specs.Values.{ValueTree, scalars_of}
+use Rattle.ep_unroll.proofs.FormSteps.{none_known}
+use Rattle.ep_unroll.proofs.MatrixSteps.{cells_scalars}
+use Rattle.ep_unroll.proofs.MeaningSteps.{grows_none}
+use Rattle.ep_unroll.specs.Growing.{Puts}
+use Rattle.ep_unroll.specs.Needs.{AreNeeded, ArePartial}
+use Rattle.ep_unroll.specs.PartLists.{AddsScalars}
+use Rattle.ep_unroll.specs.Readings.{cells_value}
+use Rattle.ep_unroll.specs.Scalars.{cells_from}
+
+some_mapped : {A B : Type 0} (f : A → B) (o : Option A) → is_some (option_map f o) ≡ is_some o
+some_mapped f None = refl
+some_mapped f (Some x) = refl
+
+pub some_there : {A : Type 0} (o : Option A) → IsSome o → (x : A) × (o ≡ Some x)
+some_there None h = absurd (search rules)
+some_there (Some x) h = (x, refl)
+
+-- a number that is there may be left out
+without_one : (us vs : List (Option ℤ)) (x : ℤ) → is_some (all_there (us ++ Some x ∷ vs)) ≡ is_some (all_there (us ++ vs))
+unfolding all_there
+without_one [] vs x = some_mapped (λ ns. x ∷ ns) (all_there vs)
+without_one (None ∷ us) vs x = refl
+without_one (Some y ∷ us) vs x =
+    some_mapped (λ ns. y ∷ ns) (all_there (us ++ Some x ∷ vs)) ∙ without_one us vs x ∙ sym (some_mapped (λ ns. y ∷ ns) (all_there (us ++ vs)))
+
+-- ---- the terms that may lack a value
+
+-- those of some terms so far, of which those behind a place are left
+pub record PartialSoFar (nodes : List GroundNode) (count : ℕ) (ts : List ℕ) (k : ℕ) (us : List ℕ) : Type 0 where
+  pub known : All (λ t. t < length nodes) us
+  pub values : (numbers : List ℤ) → count ≤ length numbers
+      → is_some (all_there (map (term_value nodes numbers) us ++ map (term_value nodes numbers) (drop k ts))) ≡ is_some (all_there (map (term_value nodes numbers) ts))
+
+pub partial_begin : (nodes : List GroundNode) (count : ℕ) (ts us : List ℕ) → us ≡ [] → PartialSoFar nodes count ts 0 us
+partial_begin nodes count ts us none = record {
+  known = subst (All (λ t. t < length nodes)) (sym none) (none_known (length nodes));
+  values = λ numbers few. ap (λ l. is_some (all_there (map (term_value nodes numbers) l ++ map (term_value nodes numbers) ts))) none;
+}
+
+pub partial_more : (nodes : List GroundNode) (count : ℕ) (ts : List ℕ) (k t d : ℕ) (us vs : List ℕ) → All (λ x. x < length nodes) ts → k < length ts → t ≡ get_or ts k d
+    → PartialSoFar nodes count ts k us → vs ≡ us ++ t ∷ [] → PartialSoFar nodes count ts (k + 1) vs
+partial_more nodes count ts k t d us vs all less same so pushed = record {
+  known = subst (All (λ x. x < length nodes)) (sym pushed) (All-push (λ x. x < length nodes) us t so.known (subst (λ x. x < length nodes) (sym same) (all k d less)));
+  values = λ numbers few.
+      let f : ℕ → Option ℤ = term_value nodes numbers in
+      let rest : List (Option ℤ) = map f (drop (k + 1) ts) in
+      ap (λ l. is_some (all_there (map f l ++ rest))) pushed
+      ∙ ap (λ l. is_some (all_there (l ++ rest))) (map-append f us (t ∷ []))
+      ∙ ap (λ l. is_some (all_there l)) (append_assoc (map f us) (f t ∷ []) rest ∙ ap (λ x. map f us ++ f x ∷ rest) same ∙ ap (λ l. map f us ++ l) (sym (at_drop_more (map f) ts k d less)))
+      ∙ so.values numbers few;
+}
+
+pub partial_same : (nodes : List GroundNode) (count : ℕ) (ts : List ℕ) (k t d : ℕ) (us : List ℕ) → k < length ts → t ≡ get_or ts k d
+    → ((numbers : List ℤ) → count ≤ length numbers → IsSome (term_value nodes numbers t)) → PartialSoFar nodes count ts k us → PartialSoFar nodes count ts (k + 1) us
+partial_same nodes count ts k t d us less same total so = record {
+  known = so.known;
+  values = λ numbers few.
+      let f : ℕ → Option ℤ = term_value nodes numbers in
+      let rest : List (Option ℤ) = map f (drop (k + 1) ts) in
+      let x = some_there (f t) (total numbers few) in
+      sym (ap (λ l. is_some (all_there (map f us ++ l))) (at_drop_more (map f) ts k d less ∙ ap (λ y. f y ∷ rest) (sym same) ∙ ap (λ o. o ∷ rest) x.1)
+      ∙ without_one (map f us) rest x.0)
+      ∙ so.values numbers few;
+}
+
+pub partial_all : (nodes : List GroundNode) (count : ℕ) (ts : List ℕ) (k : ℕ) (us : List ℕ) → length ts ≤ k → PartialSoFar nodes count ts k us → ArePartial nodes count ts us
+partial_all nodes count ts k us h so = record {
+  known = so.known;
+  values = λ numbers few.
+      let f : ℕ → Option ℤ = term_value nodes numbers in
+      sym (ap (λ l. is_some (all_there (map f us ++ l))) (at_drop_all (map f) ts k h) ∙ ap (λ l. is_some (all_there l)) (append-nil (map f us)))
+      ∙ so.values numbers few;
+}
+
+-- ---- cells
+
+from_some : (numbers : List ℤ) (k n : ℕ) → k + n ≤ length numbers → is_some (all_there (cells_from numbers k n)) ≡ true
+unfolding cells_from all_there
+from_some numbers k zero h = refl
+from_some numbers k (suc n) h =
+    ap (λ o. is_some (option_and_then (λ x. option_map (λ xs. x ∷ xs) (all_there (cells_from numbers (suc k) n))) o)) (slice_get-get_or numbers k (pos 0) (omega (arith, h)))
+    ∙ some_mapped (λ xs. get_or numbers k (pos 0) ∷ xs) (all_there (cells_from numbers (suc k) n)) ∙ from_some numbers (suc k) n (omega (arith, h))
+
+pub cells_needed : (nodes : List GroundNode) (count first : ℕ) (domains : List (List ℤ)) (us : List ℕ) → first + cell_count domains ≤ count → us ≡ []
+    → AreNeeded nodes nodes count (λ numbers. cells_value numbers domains first) us
+unfolding all_there
+cells_needed nodes count first domains us h none = record {
+  grows = grows_none nodes nodes refl;
+  known = subst (All (λ t. t < length nodes)) (sym none) (none_known (length nodes));
+  values = λ numbers few.
+      ap (λ l. is_some (all_there (map (term_value nodes numbers) l))) none
+      ∙ sym (sym (ap is_some (cells_scalars numbers domains first) ∙ some_mapped scalars_of (cells_value numbers domains first)) ∙ from_some numbers first (cell_count domains) (omega (arith, h, few)));
+}
+
+-- ---- what was evaluated
+
+pub seen_needed : (nodes : List GroundNode) (count : ℕ) (seen : Option Held) (held : Held) (us : List ℕ) → seen ≡ Some held → us ≡ [] → AreNeeded nodes nodes count (λ numbers. seen_held seen) us
+unfolding all_there
+seen_needed nodes count seen held us is none = record {
+  grows = grows_none nodes nodes refl;
+  known = subst (All (λ t. t < length nodes)) (sym none) (none_known (length nodes));
+  values = λ numbers few. ap (λ l. is_some (all_there (map (term_value nodes numbers) l))) none ∙ ap (λ o. is_some (seen_held o)) (sym is);
+}
+
+pub none_needed : (old new : List GroundNode) (count : ℕ) (seen : Option Held) (us before : List ℕ) (t : ℕ) → seen ≡ None → before ≡ [] → us ≡ before ++ t ∷ [] → Puts old new node.undefined t
+    → AreNeeded old new count (λ numbers. seen_held seen) us
+unfolding all_there node_value
+none_needed old new count seen us before t is empty pushed put = record {
+  grows = put.grows;
+  known = subst (All (λ x. x < length new)) (sym alone) only;
+  values = λ numbers few.
+      ap (λ l. is_some (all_there (map (term_value new numbers) l))) alone ∙ ap (λ o. is_some (all_there (o ∷ []))) (put.value numbers)
+      ∙ ap (λ o. is_some (seen_held o)) (sym is);
+}
+  where
+    alone : us ≡ t ∷ []
+    alone = pushed ∙ ap (λ l. l ++ t ∷ []) empty
+
+    only : All (λ x. x < length new) (t ∷ [])
+    only zero d less = put.known
+    only (suc k) d less = absurd (omega (arith, less))
+
+-- ---- the scalars of a matrix
+
+pub scalars_needed : (old new : List GroundNode) (count : ℕ) (ts us : List ℕ) (value : List ℤ → Option ValueTree) → AddsScalars old new [] ts (λ numbers. scalars_in (value numbers))
+    → ArePartial new count ts us → AreNeeded old new count value us
+scalars_needed old new count ts us value adds partial = record {
+  grows = adds.grows;
+  known = partial.known;
+  values = λ numbers few.
+      partial.values numbers few ∙ ap (λ l. is_some (all_there (map (term_value new numbers) l))) adds.whole
+      ∙ ap is_some (adds.values numbers) ∙ some_mapped scalars_of (value numbers);
+}

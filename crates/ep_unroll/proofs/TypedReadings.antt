@@ -1,0 +1,151 @@
+-- The names of a reading stand for values of their types.
+use Rattle.std.proofs.Common.{◌≡◌, Bool, true, false, ◌&&◌, ◌||◌, ℤ, pos, List, [], ◌∷◌, Some, None, refl, sym, ap, subst, ◌∙◌}
+use Rattle.std.specs.Prelude.{Option, if◌then◌else◌, length, option_map, unwrap_or}
+use Rattle.std.specs.List.{list_all}
+use Rattle.std.specs.Ordering.{int_eq}
+use Rattle.std.proofs.lemmas.Bool.Decides.{Decides-int_eq}
+use Rattle.ep_base.specs.Numbers.{has_number, is_one, of_bool}
+use Rattle.ep_base.specs.declared.names.Name.{Name}
+use Rattle.ep_tree.proofs.TypedEvaluation.{domain_typed, put_typed, value_typed}
+use Rattle.ep_tree.proofs.TypedFitting.{fitted_typed}
+use Rattle.ep_tree.specs.Agreement.{Agree, AgreeOn}
+use Rattle.ep_tree.specs.Environments.{Bound, Env, context_of, has_cells, has_domain, has_value, scalar_in, shape_type, with_number}
+use Rattle.ep_tree.specs.Evaluation.{domain_values, evaluate, type_in}
+use Rattle.ep_tree.specs.Trees.{DomainTree, ExprTree}
+use Rattle.ep_tree.specs.TypedValues.{IsOf, IsOfDims, IsTypedBound, IsTypedEnv, is_number_of}
+use Rattle.ep_tree.specs.Types.{Judged, judge, judge_domain, mistyped, of_scalar, scalar_of, type_from, typed, untyped}
+use Rattle.ep_tree.specs.Values.{ValueTree, fitted, single}
+use Rattle.ep_tree.specs.declared.values.Mode.{Mode}
+use Rattle.ep_tree.specs.declared.values.Scalar.{Scalar}
+use Rattle.ep_tree.specs.declared.values.ValueType.{ValueType}
+use Rattle.ep_unroll.specs.Readings.{Numbering, Reading}
+
+no_some : {A B : Type 0} {x : A} → None ≡ Some x → B
+no_some e = absurd cc
+
+some_is : {A : Type 0} {x y : A} → Some x ≡ Some y → x ≡ y
+some_is e = cc
+
+and_left : (a b : Bool) → (a && b) ≡ true → a ≡ true
+and_left true b h = refl
+and_left false b h = absurd cc
+
+and_right : (a b : Bool) → (a && b) ≡ true → b ≡ true
+and_right true b h = h
+and_right false b h = absurd cc
+
+-- ---- decision variables
+
+-- a number that stands in a list passes what all of it passes
+one_passes : (p : ℤ → Bool) (n : ℤ) (ns : List ℤ) → list_all p ns ≡ true → has_number ns n ≡ true → p n ≡ true
+unfolding has_number
+one_passes p n [] h k = absurd cc
+one_passes p n (m ∷ ns) h k = by (int_eq n m) refl k (λ l. one_passes p n ns (and_right (p m) (list_all p ns) h) l)
+  where
+    by : (b : Bool) → int_eq n m ≡ b → (b || has_number ns n) ≡ true → (has_number ns n ≡ true → p n ≡ true) → p n ≡ true
+    by true is l below = ap p ((Decides-int_eq n m).0 is) ∙ and_left (p m) (list_all p ns) h
+    by false is l below = below l
+
+shaped : (s : Scalar) (indices : List (List ℤ)) (v : ValueTree) → IsOfDims s (length indices) v → IsOf (shape_type s indices) v
+unfolding shape_type of_scalar
+shaped Scalar.Bool [] v h = h
+shaped Scalar.Int [] v h = h
+shaped s (i ∷ is) v h = h
+
+-- what a value fits is of its type
+pub fit_bound : (s : Scalar) (values : List ℤ) (own : Scalar) (indices : List (List ℤ)) (v w : ValueTree) → list_all (is_number_of s) values ≡ true
+    → fitted own s (has_number values) indices v ≡ Some w → IsTypedBound (Some (has_value (shape_type s indices) w))
+unfolding IsTypedBound
+fit_bound s values own indices v w all e =
+    shaped s indices w (fitted_typed own s (has_number values) (λ n h. one_passes (is_number_of s) n values all h) indices v w e)
+
+pub one_typed : (b : Bool) (x y : Option Bound) → IsTypedBound x → IsTypedBound y → IsTypedBound (if b then x else y)
+one_typed true x y h k = h
+one_typed false x y h k = k
+
+-- where the values of decision variables are of their types, the names are that have cells
+bound_back : (one other : Option Bound) → AgreeOn one other → IsTypedBound other → IsTypedBound one
+unfolding IsTypedBound
+bound_back None other h k = tt
+bound_back (Some (has_value t v)) other h k = subst IsTypedBound (sym h) k
+bound_back (Some (has_cells s is vs)) other h k = tt
+bound_back (Some (has_domain s is vs)) other h k = subst IsTypedBound (sym h) k
+
+cells_typed : (cells values : Env) → Agree cells values → IsTypedEnv values → IsTypedEnv cells
+cells_typed cells values h k name = bound_back (cells name) (values name) (h name) (k name)
+
+-- ---- the numbers of domains
+
+all_int : (ns : List ℤ) → list_all (is_number_of Scalar.Int) ns ≡ true
+unfolding is_number_of
+all_int [] = refl
+all_int (n ∷ ns) = all_int ns
+
+scalar_judged : (env : Env) (d : DomainTree) (t : ValueType) → judge_domain (context_of env) d ≡ typed t → scalar_in env d ≡ scalar_of t
+unfolding scalar_in type_from
+scalar_judged env d t h = ap (λ j. unwrap_or (option_map scalar_of (type_from j)) Scalar.Int) h
+
+scalar_untyped : (env : Env) (d : DomainTree) (j : Judged) → judge_domain (context_of env) d ≡ j → type_from j ≡ None → scalar_in env d ≡ Scalar.Int
+unfolding scalar_in
+scalar_untyped env d j h none = ap (λ k. unwrap_or (option_map scalar_of (type_from k)) Scalar.Int) h ∙ ap (λ o. unwrap_or (option_map scalar_of o) Scalar.Int) none
+
+-- the numbers of a domain are of its scalar, in each reading
+unfoldable pub AreOfScalar : Numbering → Env → DomainTree → List ℤ → Type 0
+AreOfScalar n env d ns = Reading n env → list_all (is_number_of (scalar_in env d)) ns ≡ true
+
+pub domain_numbers : (n : Numbering) (env : Env) (d : DomainTree) (ns left : List ℤ) → domain_values Mode.Relational env d ≡ Some ns → left ≡ ns → AreOfScalar n env d left
+unfolding AreOfScalar type_from
+domain_numbers n env d ns left is same r = subst (λ l. list_all (is_number_of (scalar_in env d)) l ≡ true) (sym same) (by (judge_domain (context_of env) d) refl)
+  where
+    by : (j : Judged) → judge_domain (context_of env) d ≡ j → list_all (is_number_of (scalar_in env d)) ns ≡ true
+    by (typed t) h =
+        subst (λ s. list_all (is_number_of s) ns ≡ true) (sym (scalar_judged env d t h))
+        (domain_typed Mode.Relational env (cells_typed env r.values r.reads.agree r.reads.typed) d t h ns is)
+    by mistyped h = subst (λ s. list_all (is_number_of s) ns ≡ true) (sym (scalar_untyped env d mistyped h refl)) (all_int ns)
+    by untyped h = subst (λ s. list_all (is_number_of s) ns ≡ true) (sym (scalar_untyped env d untyped h refl)) (all_int ns)
+
+pub number_next : (n : Numbering) (env : Env) (d : DomainTree) (left behind : List ℤ) (k : ℤ) (s : Scalar) → AreOfScalar n env d left → left ≡ k ∷ behind → s ≡ scalar_in env d
+    → Reading n env → is_number_of s k ≡ true
+unfolding AreOfScalar
+number_next n env d left behind k s h cut scalar r =
+    ap (λ t. is_number_of t k) scalar
+    ∙ and_left (is_number_of (scalar_in env d) k) (list_all (is_number_of (scalar_in env d)) behind) (subst (λ l. list_all (is_number_of (scalar_in env d)) l ≡ true) cut (h r))
+
+pub numbers_behind : (n : Numbering) (env : Env) (d : DomainTree) (left behind : List ℤ) (k : ℤ) → AreOfScalar n env d left → left ≡ k ∷ behind → AreOfScalar n env d behind
+unfolding AreOfScalar
+numbers_behind n env d left behind k h cut r =
+    and_right (is_number_of (scalar_in env d) k) (list_all (is_number_of (scalar_in env d)) behind) (subst (λ l. list_all (is_number_of (scalar_in env d)) l ≡ true) cut (h r))
+
+number_bound : (s : Scalar) (k : ℤ) → is_number_of s k ≡ true → IsTypedBound (Some (has_value (of_scalar s) (single k)))
+unfolding IsTypedBound of_scalar
+number_bound Scalar.Bool k h = h
+number_bound Scalar.Int k h = h
+
+pub number_typed : (env : Env) (name : Name) (s : Scalar) (k : ℤ) → IsTypedEnv env → is_number_of s k ≡ true → IsTypedEnv (with_number name s k env)
+unfolding with_number
+number_typed env name s k h is = put_typed env name (has_value (of_scalar s) (single k)) h (number_bound s k is)
+
+-- ---- truth values
+
+bool_judged : (j : Judged) → unwrap_or (type_from j) ValueType.Int ≡ ValueType.Bool → j ≡ typed ValueType.Bool
+unfolding type_from
+bool_judged (typed t) h = ap typed h
+bool_judged mistyped h = absurd cc
+bool_judged untyped h = absurd cc
+
+bit_is : (x : ℤ) → is_number_of Scalar.Bool x ≡ true → of_bool (is_one x) ≡ x
+unfolding is_number_of is_one of_bool
+bit_is x h = by (int_eq x (pos 0)) refl (int_eq x (pos 1)) refl h
+  where
+    told : (b : Bool) → int_eq x (pos 1) ≡ b → of_bool (int_eq x (pos 1)) ≡ of_bool b
+    told b is = ap of_bool is
+
+    by : (a : Bool) → int_eq x (pos 0) ≡ a → (b : Bool) → int_eq x (pos 1) ≡ b → (a || b) ≡ true → of_bool (int_eq x (pos 1)) ≡ x
+    by a none true one g = told true one ∙ sym ((Decides-int_eq x (pos 1)).0 one)
+    by true none false one g = told false one ∙ sym ((Decides-int_eq x (pos 0)).0 none)
+    by false none false one g = absurd cc
+
+-- a truth value that is there is 0 or 1
+pub truth_is : (n : Numbering) (env : Env) (r : Reading n env) (e : ExprTree) (x : ℤ) → type_in r.values e ≡ ValueType.Bool → evaluate Mode.Relational r.values e ≡ Some (single x) → of_bool (is_one x) ≡ x
+unfolding type_in
+truth_is n env r e x ty is = bit_is x (value_typed Mode.Relational r.values r.reads.typed e ValueType.Bool (bool_judged (judge (context_of r.values) e) ty) (single x) is)

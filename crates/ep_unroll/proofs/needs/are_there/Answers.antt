@@ -1,0 +1,5 @@
+use Rattle.std.proofs.Common.{arith}
+use Rattle.ep_unroll.proofs.needs.are_there.Goals as goal
+
+pub returns : goal.returns
+returns c h = grind (arith, h, c.in-Some.ensures.1, c.in_ok-over.ensures)

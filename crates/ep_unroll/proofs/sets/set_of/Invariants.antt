@@ -1,0 +1,7 @@
+use Rattle.std.proofs.Common.{◌≡◌, take}
+use Rattle.std.specs.Prelude.{map}
+use Rattle.ep_unroll.proofs.SetSteps.{one_run}
+use Rattle.ep_unroll.proofs.sets.set_of.Given as goal
+
+abbrev pub invariant-loop-number : goal.invariant-loop-number
+invariant-loop-number l = l.parts.items ≡ map one_run (take l.number-index l.numbers)

@@ -1,0 +1,97 @@
+//! Membership in the sets of matrices' scalars.
+
+ghost use Rattle.std.specs.Prelude.{◌≡◌, ◌<◌, ℤ, List, IfOk, length, option_map};
+ghost use Rattle.std.specs.List.{All};
+ghost use Rattle.ep_base.specs.Numbers.{has_number};
+ghost use Rattle.ep_base.specs.declared.places.Place.{Place};
+ghost use Rattle.ep_ground.specs.Nodes.{GroundNode};
+ghost use Rattle.ep_tree.specs.Environments as names;
+ghost use Rattle.ep_tree.specs.Evaluation.{evaluate, scalars_in};
+ghost use Rattle.ep_tree.specs.Trees.{ExprTree, in_set};
+ghost use Rattle.ep_tree.specs.declared.values.Mode.{Mode as EachMode};
+ghost use Rattle.ep_unroll.specs.Meanings.{IsNumberOf, IsTermOf};
+ghost use Rattle.ep_unroll.specs.Readings.{Numbering, Reading};
+ghost use Rattle.ep_unroll.specs.Scalars.{AreScalarsOf};
+ghost use Rattle.ep_unroll.specs.Sets.{AreEqualities};
+
+use super::choices::whole_term;
+use super::growing::put;
+use super::needs::partial_terms;
+use ep_base::{CompareOp, Memory, Run, Runs};
+use ep_ground::{Arena, Node, Term};
+use std::alloc::Global;
+
+/// The set of some numbers.
+fn set_of(alloc: Global, numbers: &[i64]) -> Result<Runs, Memory>
+    ensures { IfOk result (λ set. (x : ℤ) → has_number set x ≡ has_number numbers.now x) }
+{
+    let mut parts = Vec::new(alloc);
+    for number in numbers {
+        parts.push(Run {
+            lo: *number,
+            hi: *number,
+        })?;
+    }
+    Runs::new(alloc, parts)
+}
+
+/// Whether a part is one of some numbers; false where there are none at all.
+pub fn listed_member(
+    alloc: Global,
+    arena: &mut Arena,
+    part: Term,
+    numbers: Option<Vec<i64>>,
+) -> Result<Term, Memory>
+    requires { part < length arena.old }
+    ensures { (n : Numbering) → (cells : names.Env) → (nodes : List GroundNode) → (p : Place) → (e : ExprTree) → (f : ExprTree)
+        → ((r : Reading n cells) → scalars_in (evaluate EachMode.Relational r.values f) ≡ option_map (λ v. v.items) numbers)
+        → IsNumberOf n cells nodes arena.old e part
+        → IfOk result (IsTermOf n cells nodes arena.new (in_set p e f)) }
+{
+    match numbers {
+        Some(own) => {
+            let set = set_of(alloc, &own)?;
+            put(arena, Node::Member(part, set))
+        }
+        None => put(arena, Node::Const(0)),
+    }
+}
+
+/// Whether a part is equal to each of some terms.
+fn equalities(
+    alloc: Global,
+    arena: &mut Arena,
+    part: Term,
+    terms: &[Term],
+) -> Result<Vec<Term>, Memory>
+    requires part { part < length arena.old }
+    requires terms { All (λ t. t < length arena.old) terms.now }
+    ensures { IfOk result (λ us. AreEqualities arena.old arena.new part terms.now us.items) }
+{
+    let mut tests = Vec::new(alloc);
+    for term in terms {
+        let test = put(arena, Node::Compare(CompareOp::Equal, part, *term))?;
+        tests.push(test)?;
+    }
+    Ok(tests)
+}
+
+/// Whether a part is one of the scalars that these terms have; false where one lacks a value.
+pub fn chosen_member(
+    alloc: Global,
+    arena: &mut Arena,
+    count: u64,
+    part: Term,
+    terms: &[Term],
+) -> Result<Term, Memory>
+    requires part { part < length arena.old }
+    requires terms { All (λ t. t < length arena.old) terms.now }
+    ensures { (n : Numbering) → (cells : names.Env) → (nodes : List GroundNode) → (p : Place) → (e : ExprTree) → (f : ExprTree)
+        → n.count ≡ count → IsNumberOf n cells nodes arena.old e part → AreScalarsOf n cells nodes arena.old f terms.now
+        → IfOk result (IsTermOf n cells nodes arena.new (in_set p e f)) }
+{
+    let partial = partial_terms(alloc, arena, count, terms)?;
+    let whole = whole_term(arena, part, partial)?;
+    let tests = equalities(alloc, arena, whole, terms)?;
+    put(arena, Node::Or(tests))
+}
