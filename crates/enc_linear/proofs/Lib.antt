@@ -6,4 +6,6 @@ pub mod Families
 pub mod Multiples
 pub mod Parting
 pub mod Totals
+pub mod Clipping
 pub mod Summing
+pub mod Folds

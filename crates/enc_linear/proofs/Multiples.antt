@@ -1,7 +1,8 @@
 -- Terms that are made of a variable and a coefficient, and terms with each worth turned into its opposite.
-use Rattle.std.proofs.Common.{◌≡◌, ◌≢◌, ℕ, zero, suc, ◌+◌, ◌<◌, ◌≤◌, ℤ, pos, negsuc, neg_ℤ, ◌*ℤ◌, ◌<ℤ◌, Bool, true, false, not, cond, List, [], ◌∷◌, ◌++◌, length, map, take, get_or, int_lt, refl, sym, ap, subst, ◌∙◌, arith}
+use Rattle.std.proofs.Common.{◌≡◌, ◌≢◌, ◌⊎◌, inl, inr, ◌↔◌, ℕ, zero, suc, ◌+◌, ◌<◌, ◌≤◌, ℤ, pos, negsuc, neg_ℤ, ◌+ℤ◌, ◌*ℤ◌, ◌<ℤ◌, ◌≤ℤ◌, Bool, true, false, not, cond, List, [], ◌∷◌, ◌++◌, length, map, take, get_or, int_lt, int_le, if◌then◌else◌, slice_index_or, refl, sym, ap, subst, ◌∙◌, arith}
 use Rattle.std.specs.List.{AllPairs, Contains}
 use Rattle.std.specs.Ordering.{int_eq}
+use Rattle.std.proofs.lemmas.Bool.Decides.{Decides-int_eq}
 use Rattle.std.proofs.Math.Nat.{mul-lt-mul_of_pos_left}
 use Rattle.std.proofs.lemmas.Int.{ints}
 use Rattle.std.proofs.lemmas.List.{length-map, map-append, take_all, take_more}
@@ -10,7 +11,8 @@ use Rattle.enc_atoms.proofs.Decoded.{number_among}
 use Rattle.enc_atoms.specs.Atoms.{AreOfDomains}
 use Rattle.enc_linear.specs.declared.terms.Step.{Step}
 use Rattle.enc_linear.specs.declared.terms.Term.{Term}
-use Rattle.enc_linear.specs.Terms.{AreInOrder, IsMirror, IsTermOf, mirrored_step, step_of, worth_at, worth_of}
+use Rattle.enc_linear.specs.Bounds.{IsRaised, raised, raised_step}
+use Rattle.enc_linear.specs.Terms.{AreInOrder, HoldsSteps, IsMirror, IsTermOf, mirrored_step, step_of, worth_at, worth_of}
 use Rattle.enc_linear.proofs.Ladders.{stands}
 use Rattle.enc_var.specs.Decoding.{VariableLiterals}
 use Rattle.enc_var.specs.Layouts.{literals_at}
@@ -58,11 +60,12 @@ steps_order a x y true is other low = (low, product_rises a x y (omega (arith, i
 steps_order a x y false is other low = (low, product_falls a x y (omega (arith, ints, is, other)) low)
 
 pub multiple_of : (L : List VariableLiterals) (a : ℤ) (xs : List ℤ) (term : Term) → term.var < length L → xs ≡ (literals_at L term.var).domain → IsAscending xs → a ≢ pos 0 → term.rising ≡ int_lt (pos 0) a
-    → term.steps.items ≡ map (step_of a) xs → IsTermOf L term
-multiple_of L a xs term low is up other rising steps = record {
+    → term.steps.items ≡ map (step_of a) xs → HoldsSteps term.bounds term.steps.items → IsTermOf L term
+multiple_of L a xs term low is up other rising steps bounds = record {
   var = low;
   values = ap (map (λ (step : Step). step.value)) steps ∙ values_of a xs ∙ is;
   ordered = subst (AllPairs (AreInOrder term.rising)) (sym steps) (pairs_map (step_of a) ◌<ℤ◌ (AreInOrder term.rising) xs (pos 0) (λ x y h. steps_order a x y term.rising rising other h) up);
+  bounds = bounds;
 }
 
 multiple_worth : (a : ℤ) (xs : List ℤ) (x : ℤ) → Contains xs x → worth_at (map (step_of a) xs) x ≡ a *ℤ x
@@ -96,6 +99,7 @@ mirror_of L term twin of_layout mirror = record {
   ordered = subst (λ (b : Bool). AllPairs (AreInOrder b) twin.steps.items) (sym mirror.rising)
       (subst (AllPairs (AreInOrder (not term.rising))) (sym mirror.steps)
       (pairs_map mirrored_step (AreInOrder term.rising) (AreInOrder (not term.rising)) term.steps.items no_step (λ x y h. mirrored_order x y term.rising h) of_layout.ordered));
+  bounds = mirror.bounds;
 }
 
 mirrored_worth : (xs : List Step) (x : ℤ) → worth_at (map mirrored_step xs) x ≡ neg_ℤ (worth_at xs x)
@@ -136,3 +140,83 @@ made_opposite step w v' w' is same_value same_worth = ap (λ n. a_step n w') sam
 
 pub step_same : (a b v w : ℤ) (step : Step) → step ≡ step_of a v → a ≡ b → v ≡ w → step ≡ step_of b w
 step_same a b v w step is first second = is ∙ ap (λ n. step_of n v) first ∙ ap (step_of b) second
+
+-- a term and what it is worth raised
+raised_values : (from by : ℤ) (xs : List Step) → map (λ (step : Step). step.value) (map (raised_step from by) xs) ≡ map (λ (step : Step). step.value) xs
+unfolding raised_step
+raised_values from by [] = refl
+raised_values from by (x ∷ xs) = ap (λ ys. x.value ∷ ys) (raised_values from by xs)
+
+-- what is worth more is so when raised
+pub raised_rises : (from by v w : ℤ) → pos 0 ≤ℤ by → v <ℤ w → raised from by v <ℤ raised from by w
+unfolding raised
+raised_rises from by v w natural low = at (int_le from v) (int_le from w) refl refl
+  where
+    at : (p q : Bool) → int_le from v ≡ p → int_le from w ≡ q → (if p then v +ℤ by else v) <ℤ (if q then w +ℤ by else w)
+    at true true e h = omega (arith, ints, low)
+    at true false e h = absurd (omega (arith, ints, e, h, low))
+    at false true e h = omega (arith, ints, low, natural)
+    at false false e h = low
+
+raised_order : (from by : ℤ) (x y : Step) (rising : Bool) → pos 0 ≤ℤ by → AreInOrder rising x y → AreInOrder rising (raised_step from by x) (raised_step from by y)
+unfolding raised_step
+raised_order from by x y true natural h = (h.0, raised_rises from by x.worth y.worth natural h.1)
+raised_order from by x y false natural h = (h.0, raised_rises from by y.worth x.worth natural h.1)
+
+pub raised_of : (L : List VariableLiterals) (from by : ℤ) (term high : Term) → pos 0 ≤ℤ by → IsTermOf L term → IsRaised from by term high → IsTermOf L high
+raised_of L from by term high natural of_layout is = record {
+  var = subst (λ n. n < length L) (sym is.var) of_layout.var;
+  values = ap (map (λ (step : Step). step.value)) is.steps ∙ raised_values from by term.steps.items ∙ of_layout.values ∙ ap (λ x. (literals_at L x).domain) (sym is.var);
+  ordered = subst (λ (b : Bool). AllPairs (AreInOrder b) high.steps.items) (sym is.rising)
+      (subst (AllPairs (AreInOrder term.rising)) (sym is.steps)
+      (pairs_map (raised_step from by) (AreInOrder term.rising) (AreInOrder term.rising) term.steps.items no_step (λ x y h. raised_order from by x y term.rising natural h) of_layout.ordered));
+  bounds = is.bounds;
+}
+
+raised_worth_at : (from by : ℤ) (xs : List Step) (x : ℤ) → Contains (map (λ (step : Step). step.value) xs) x → worth_at (map (raised_step from by) xs) x ≡ raised from by (worth_at xs x)
+unfolding worth_at raised_step
+raised_worth_at from by [] x (k, low, at) = absurd (omega (arith, low))
+raised_worth_at from by (s ∷ xs) x (k, low, at) = cases (λ rest. raised_worth_at from by xs x rest) (int_eq s.value x) refl
+  where
+    front : int_eq s.value x ≡ false → (k : ℕ) → k < suc (length (map (λ (step : Step). step.value) xs)) → slice_index_or (s.value ∷ map (λ (step : Step). step.value) xs) k x ≡ x
+        → Contains (map (λ (step : Step). step.value) xs) x
+    front e zero low at = absurd (let t = (Decides-int_eq s.value x).1 at in cc)
+    front e (suc k) low at = (k, omega (arith, low), at)
+
+    cases : (Contains (map (λ (step : Step). step.value) xs) x → worth_at (map (raised_step from by) xs) x ≡ raised from by (worth_at xs x)) → (b : Bool) → int_eq s.value x ≡ b
+        → cond b (raised from by s.worth) (worth_at (map (raised_step from by) xs) x) ≡ raised from by (cond b s.worth (worth_at xs x))
+    cases again true e = refl
+    cases again false e = again (front e k low at)
+
+pub raised_worth : (L : List VariableLiterals) (from by : ℤ) (values : List ℤ) (term high : Term) → IsTermOf L term → AreOfDomains L values → IsRaised from by term high → worth_of values high ≡ raised from by (worth_of values term)
+unfolding worth_of
+raised_worth L from by values term high of_layout among is =
+    ap (λ (xs : List Step). worth_at xs (number_at values high.var)) is.steps
+    ∙ ap (λ x. worth_at (map (raised_step from by) term.steps.items) (number_at values x)) is.var
+    ∙ raised_worth_at from by term.steps.items (number_at values term.var)
+    (subst (λ xs. Contains xs (number_at values term.var)) (sym of_layout.values) (number_among L values term.var among of_layout.var))
+
+-- a number is at most a raised one exactly where that is raised, or at least as great, if it is no more than what is raised is at least
+pub at_most_raised : (from by n most w : ℤ) → n ≤ℤ most → most ≤ℤ (from +ℤ by) → pos 0 ≤ℤ by → (n ≤ℤ raised from by w) ↔ ((from ≤ℤ w) ⊎ (n ≤ℤ w))
+unfolding raised
+at_most_raised from by n most w within far natural = at (int_le from w) refl
+  where
+    at : (b : Bool) → int_le from w ≡ b → (n ≤ℤ (if b then w +ℤ by else w)) ↔ ((from ≤ℤ w) ⊎ (n ≤ℤ w))
+    at true e = (λ h. inl (omega (arith, ints, e)), λ h. omega (arith, ints, e, within, far))
+    at false e = (λ h. inr h, λ h. elim h as (λ _. n ≤ℤ w) [ inl g ↦ absurd (omega (arith, ints, e, g)) | inr g ↦ g ])
+
+pub made_raised : (from by : ℤ) (step : Step) (w v' w' : ℤ) → from ≤ℤ step.worth → w ≡ step.worth +ℤ by → v' ≡ step.value → w' ≡ w → a_step v' w' ≡ raised_step from by step
+unfolding raised_step raised
+made_raised from by step w v' w' up is same_value same_worth = at (int_le from step.worth) refl
+  where
+    at : (b : Bool) → int_le from step.worth ≡ b → a_step v' w' ≡ a_step step.value (if b then step.worth +ℤ by else step.worth)
+    at true e = ap (λ n. a_step n w') same_value ∙ ap (a_step step.value) (same_worth ∙ is)
+    at false e = absurd (omega (arith, ints, e, up))
+
+pub not_raised : (from by : ℤ) (step : Step) → step.worth <ℤ from → step ≡ raised_step from by step
+unfolding raised_step raised
+not_raised from by step low = at (int_le from step.worth) refl
+  where
+    at : (b : Bool) → int_le from step.worth ≡ b → step ≡ a_step step.value (if b then step.worth +ℤ by else step.worth)
+    at true e = absurd (omega (arith, ints, e, low))
+    at false e = refl

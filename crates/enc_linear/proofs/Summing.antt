@@ -1,34 +1,34 @@
--- Two terms of a sum replaced by a new variable that is their sum.
-use Rattle.std.proofs.Common.{◌≡◌, ◌⊎◌, inl, inr, ◌↔◌, ℕ, ◌+◌, ◌<◌, ℤ, pos, ◌+ℤ◌, ◌*ℤ◌, ◌≤ℤ◌, Bool, IsTrue, List, [], ◌∷◌, ◌++◌, length, take, get_or, refl, sym, ap, subst, ◌∙◌, arith}
+-- Two terms of a sum give way to a new variable that stands for what they come to.
+use Rattle.std.proofs.Common.{◌≡◌, inl, inr, ◌↔◌, ℕ, ◌+◌, ◌<◌, ℤ, pos, neg_ℤ, ◌+ℤ◌, ◌-ℤ◌, ◌*ℤ◌, ◌≤ℤ◌, Bool, true, not, ◌||◌, IsTrue, List, [], ◌∷◌, ◌++◌, length, take, get_or, refl, sym, ap, subst, ◌∙◌, arith}
 use Rattle.std.specs.List.{All, Any, Contains}
-use Rattle.std.specs.Prelude.{Err, IfOk, MatchOption, None, Ok, OnOk, Option, Result, Some}
-use Rattle.cnf_core.specs.Formula.{Cnf}
-use Rattle.enc_atoms.proofs.Adding.{adds_both, adds_like, adds_variable}
-use Rattle.enc_atoms.specs.Atoms.{Adds}
-use Rattle.enc_var.specs.Layouts.{GoesOn, HasFreeChoice, IsLayoutOf}
-use Rattle.enc_linear.specs.Terms.{IsMirror}
-use Rattle.enc_linear.proofs.Multiples.{mirror_worth}
-use Rattle.enc_linear.proofs.Turns.{then_both}
+use Rattle.std.specs.Prelude.{Err, IfOk, MatchOption, None, Ok, OnOk, Option, Result, Some, is_some}
 use Rattle.std.proofs.lemmas.Int.{ints}
 use Rattle.std.proofs.lemmas.List.{get_or_append_left, length-append}
-use Rattle.std.proofs.lemmas.List.Elements.{All-cons, All-contains, All-head, All-more, All-nil, All-push, All-tail, All-weaker}
+use Rattle.std.proofs.lemmas.List.Elements.{All-cons, All-contains, All-head, All-more, All-nil, All-tail, All-weaker}
 use Rattle.std.proofs.lemmas.List.Quantifiers.{Any-push}
-use Rattle.ep_base.specs.declared.operators.CompareOp.{CompareOp}
-use Rattle.ep_base.specs.declared.run_lists.Run.{Run}
+use Rattle.cnf_core.specs.Formula.{Cnf}
 use Rattle.ep_base.specs.Numbers.{compare_holds, sum_of}
 use Rattle.ep_base.specs.Runs.{IsIn}
+use Rattle.ep_base.specs.declared.run_lists.Run.{Run}
 use Rattle.ep_flat.specs.Cons.{is_as_said, number_at}
+use Rattle.enc_atoms.proofs.Adding.{adds_both, adds_like, adds_variable}
 use Rattle.enc_atoms.proofs.Decoded.{among_push, length_among, number_before, number_last}
-use Rattle.enc_atoms.specs.Atoms.{AreOfDomains, HasNumber, clause_holds}
+use Rattle.enc_atoms.specs.Atoms.{Adds, AreOfDomains, HasNumber}
+use Rattle.enc_linear.proofs.Clipping.{NoGreater, NoLess, IsClipOver, clip_over, clipped_near, said_beyond, same_beyond, worth_within}
+use Rattle.enc_linear.proofs.Ladders.{stands_of}
+use Rattle.enc_linear.proofs.Multiples.{at_most_raised, mirror_worth, raised_worth}
+use Rattle.enc_linear.proofs.Saying.{no_guard}
+use Rattle.enc_linear.proofs.Turns.{nothing_new, relabelled, then_both}
+use Rattle.enc_linear.specs.Bounds.{Compares, HasBounds, HasSums, IsRaised, Reaches, StandsForSum, StaysWithin, clipped, is_lower, is_upper, needs_no_greater, needs_no_less}
+use Rattle.enc_linear.specs.Folding.{GiveWay}
+use Rattle.enc_linear.specs.Guards.{Unless}
+use Rattle.enc_linear.specs.Terms.{IsMirror, IsTermOf, total, worth_at, worth_of}
+use Rattle.enc_linear.specs.declared.bounds.Bounds.{Bounds}
+use Rattle.enc_linear.specs.declared.comparison.Comparison.{Comparison}
 use Rattle.enc_linear.specs.declared.terms.Step.{Step}
 use Rattle.enc_linear.specs.declared.terms.Term.{Term}
-use Rattle.enc_linear.specs.Guards.{Unless}
-use Rattle.enc_linear.specs.Terms.{HasSums, IsSumOf, IsTermOf, total, worth_at, worth_of}
-use Rattle.enc_linear.proofs.Ladders.{stands_of}
-use Rattle.enc_linear.proofs.Saying.{no_guard}
-use Rattle.enc_linear.proofs.Totals.{total_push}
 use Rattle.enc_var.specs.Decoding.{VariableLiterals}
-use Rattle.enc_var.specs.Layouts.{literals_at}
+use Rattle.enc_var.specs.Layouts.{GoesOn, HasFreeChoice, IsLayoutOf, literals_at}
 
 -- what a term and a sum are worth doesn't depend on a later variable
 pub worth_before : (L : List VariableLiterals) (t : Term) (values : List ℤ) (v : ℤ) → IsTermOf L t → AreOfDomains L values → worth_of (values ++ v ∷ []) t ≡ worth_of values t
@@ -57,76 +57,152 @@ term_before L e t of_layout = record {
   var = omega (arith, of_layout.var, length-append L (e ∷ []));
   values = of_layout.values ∙ ap (λ (x : VariableLiterals). x.domain) (sym (literals_before L e t.var of_layout.var));
   ordered = of_layout.ordered;
+  bounds = of_layout.bounds;
 }
 
 pub terms_before : (L : List VariableLiterals) (e : VariableLiterals) (terms : List Term) → All (IsTermOf L) terms → All (IsTermOf (L ++ e ∷ [])) terms
 terms_before L e terms h = All-weaker (IsTermOf L) (IsTermOf (L ++ e ∷ [])) (λ t one. term_before L e t one) terms h
 
--- the sum of what two terms are worth is among the sums of their steps
-pub has_sum : (L : List VariableLiterals) (domain : List ℤ) (first second : Term) (values : List ℤ) → IsTermOf L first → IsTermOf L second → AreOfDomains L values → HasSums domain first second
-    → Contains domain (worth_of values first +ℤ worth_of values second)
+-- the sum of what two terms are worth, within a clip, is among the sums of their steps
+pub has_sum : (low high : ℤ) (L : List VariableLiterals) (domain : List ℤ) (first second : Term) (values : List ℤ) → IsTermOf L first → IsTermOf L second → AreOfDomains L values → HasSums low high domain first second
+    → Contains domain (clipped low high (worth_of values first +ℤ worth_of values second))
 unfolding worth_of
-has_sum L domain first second values of_first of_second among has =
+has_sum low high L domain first second values of_first of_second among has =
     let a = stands_of L first values of_first among in
     let b = stands_of L second values of_second among in
-    let row = All-contains (λ (x : Step). All (λ (y : Step). Contains domain (x.worth +ℤ y.worth)) second.steps.items) first.steps.items a.step has a.there in
-    let cell = All-contains (λ (y : Step). Contains domain (a.step.worth +ℤ y.worth)) second.steps.items b.step row b.there in
-    subst (Contains domain) (ap (λ n. n +ℤ b.step.worth) (sym a.worth) ∙ ap (λ n. worth_at first.steps.items (number_at values first.var) +ℤ n) (sym b.worth)) cell
+    let row = All-contains (λ (x : Step). All (λ (y : Step). Contains domain (clipped low high (x.worth +ℤ y.worth))) second.steps.items) first.steps.items a.step has a.there in
+    let cell = All-contains (λ (y : Step). Contains domain (clipped low high (a.step.worth +ℤ y.worth))) second.steps.items b.step row b.there in
+    subst (λ n. Contains domain (clipped low high n)) (ap (λ n. n +ℤ b.step.worth) (sym a.worth) ∙ ap (λ n. worth_at first.steps.items (number_at values first.var) +ℤ n) (sym b.worth)) cell
 
--- a constraint on a sum of terms
-abbrev pub Said : Option ℕ → List Term → CompareOp → ℤ → List ℤ → Type 0
-Said truth terms op number values = IsTrue (is_as_said values truth (compare_holds op (total values terms) number))
+-- what terms come to, with one or two in front
+pub total_one : (values : List ℤ) (term : Term) (terms : List Term) → total values (term ∷ terms) ≡ total values terms +ℤ worth_of values term
+unfolding total sum_of
+total_one values term terms = omega (arith, ints)
 
-pub folded : (L : List VariableLiterals) (e : VariableLiterals) (rest terms : List Term) (first second sum : Term) (truth : Option ℕ) (op : CompareOp) (number : ℤ) (values : List ℤ)
-    → All (IsTermOf L) rest → IsTermOf L first → IsTermOf L second → terms ≡ (rest ++ second ∷ []) ++ first ∷ [] → MatchOption truth (length L ≡ length L) (λ t. t < length L)
-    → ((vs : List ℤ) → AreOfDomains (L ++ e ∷ []) vs → worth_of vs sum ≡ pos 1 *ℤ number_at vs (length L)) → HasSums e.domain first second → AreOfDomains L values
-    → HasNumber e.domain (λ v. IsSumOf first second sum (values ++ v ∷ []) × Said truth (rest ++ sum ∷ []) op number (values ++ v ∷ [])) ↔ Said truth terms op number values
-folded L e rest terms first second sum truth op number values of_rest of_first of_second are low worth has among = (forth, back)
+pub total_two : (values : List ℤ) (first second : Term) (terms : List Term) → total values (first ∷ second ∷ terms) ≡ total values terms +ℤ (worth_of values first +ℤ worth_of values second)
+unfolding total sum_of
+total_two values first second terms = omega (arith, ints)
+
+-- there is a number for the new variable with which the later sum compares as it should exactly where the earlier one does
+pub joined_same : (L : List VariableLiterals) (e : VariableLiterals) (others : List Term) (first second sum : Term) (c : Comparison) (low high : ℤ) (values : List ℤ)
+    → All (IsTermOf L) others → IsTermOf L first → IsTermOf L second → MatchOption c.truth (length L ≡ length L) (λ t. t < length L)
+    → ((vs : List ℤ) → AreOfDomains (L ++ e ∷ []) vs → worth_of vs sum ≡ pos 1 *ℤ number_at vs (length L)) → HasSums low high e.domain first second
+    → IsClipOver low high c.number (total values others) → AreOfDomains L values
+    → HasNumber e.domain (λ v. StandsForSum c low high first second sum (values ++ v ∷ []) × Compares c (sum ∷ others) (values ++ v ∷ [])) ↔ Compares c (first ∷ second ∷ others) values
+unfolding needs_no_less needs_no_greater
+joined_same L e others first second sum c low high values of_others of_first of_second low_truth worth has clip among = (forth, back)
   where
     long : length values ≡ length L
     long = length_among L values among
 
-    whole : total values terms ≡ total values rest +ℤ (worth_of values first +ℤ worth_of values second)
-    whole =
-        let a = ap (total values) are in
-        let b = total_push values (rest ++ second ∷ []) first in
-        let d = total_push values rest second in
-        omega (arith, ints, a, b, d)
+    both : ℤ
+    both = worth_of values first +ℤ worth_of values second
 
-    new_whole : (v : ℤ) → IsSumOf first second sum (values ++ v ∷ []) → total (values ++ v ∷ []) (rest ++ sum ∷ []) ≡ total values terms
-    new_whole v tie =
-        let a = total_push (values ++ v ∷ []) rest sum in
-        let b = total_before L rest values v of_rest among in
-        let d = worth_before L first values v of_first among in
-        let g = worth_before L second values v of_second among in
-        omega (arith, ints, a, b, d, g, tie, whole)
+    rest : ℤ
+    rest = total values others
 
-    same : (v : ℤ) → IsSumOf first second sum (values ++ v ∷ []) → is_as_said (values ++ v ∷ []) truth (compare_holds op (total (values ++ v ∷ []) (rest ++ sum ∷ [])) number) ≡ is_as_said values truth (compare_holds op (total values terms) number)
-    same v tie =
-        ap (λ n. is_as_said (values ++ v ∷ []) truth (compare_holds op n number)) (new_whole v tie)
-        ∙ said_before values v (length L) truth (compare_holds op (total values terms) number) long low
+    there : (v : ℤ) → ℤ
+    there v = worth_of (values ++ v ∷ []) sum
 
-    forth : HasNumber e.domain (λ v. IsSumOf first second sum (values ++ v ∷ []) × IsTrue (is_as_said (values ++ v ∷ []) truth (compare_holds op (total (values ++ v ∷ []) (rest ++ sum ∷ [])) number)))
-        → IsTrue (is_as_said values truth (compare_holds op (total values terms) number))
-    forth h = sym (same h.number h.holds_there.0) ∙ h.holds_there.1
+    parts : (v : ℤ) → worth_of (values ++ v ∷ []) first +ℤ worth_of (values ++ v ∷ []) second ≡ both
+    parts v =
+        let a = worth_before L first values v of_first among in
+        let b = worth_before L second values v of_second among in
+        omega (arith, ints, a, b)
+
+    later : (v : ℤ) → total (values ++ v ∷ []) (sum ∷ others) ≡ rest +ℤ there v
+    later v = let a = total_one (values ++ v ∷ []) sum others in let b = total_before L others values v of_others among in omega (arith, ints, a, b)
+
+    less : (v : ℤ) → StandsForSum c low high first second sum (values ++ v ∷ []) → (is_some c.truth || not (is_upper c.op)) ≡ true → NoLess high both (there v)
+    less v tie need =
+        let e = parts v in
+        elim (tie.no_less need) as (λ _. NoLess high both (there v)) [ inl far ↦ inl far | inr near ↦ inr (omega (arith, ints, near, e)) ]
+
+    greater : (v : ℤ) → StandsForSum c low high first second sum (values ++ v ∷ []) → (is_some c.truth || not (is_lower c.op)) ≡ true → NoGreater low both (there v)
+    greater v tie need =
+        let e = parts v in
+        elim (tie.no_greater need) as (λ _. NoGreater low both (there v)) [ inl far ↦ inl far | inr near ↦ inr (omega (arith, ints, near, e)) ]
+
+    -- what is said with the later numbers is said with the earlier ones
+    same_truth : (v : ℤ) (h : Bool) → is_as_said (values ++ v ∷ []) c.truth h ≡ is_as_said values c.truth h
+    same_truth v h = said_before values v (length L) c.truth h long low_truth
+
+    whole : compare_holds c.op (total values (first ∷ second ∷ others)) c.number ≡ compare_holds c.op (rest +ℤ both) c.number
+    whole = ap (λ n. compare_holds c.op n c.number) (total_two values first second others)
+
+    forth : HasNumber e.domain (λ v. StandsForSum c low high first second sum (values ++ v ∷ []) × Compares c (sum ∷ others) (values ++ v ∷ [])) → Compares c (first ∷ second ∷ others) values
+    forth h =
+        let v : ℤ = h.number in
+        let said : IsTrue (is_as_said values c.truth (compare_holds c.op (rest +ℤ there v) c.number)) =
+        sym (ap (λ n. is_as_said values c.truth (compare_holds c.op n c.number)) (later v))
+        ∙ sym (same_truth v (compare_holds c.op (total (values ++ v ∷ []) (sum ∷ others)) c.number)) ∙ h.holds_there.1 in
+        ap (is_as_said values c.truth) whole
+        ∙ said_beyond values c.truth c.op low high c.number rest both (there v) clip (less v h.holds_there.0) (greater v h.holds_there.0) said
 
     v : ℤ
-    v = worth_of values first +ℤ worth_of values second
+    v = clipped low high both
 
-    there : Contains e.domain v
-    there = has_sum L e.domain first second values of_first of_second among has
+    found : Contains e.domain v
+    found = has_sum low high L e.domain first second values of_first of_second among has
 
-    tie : IsSumOf first second sum (values ++ v ∷ [])
-    tie =
-        let a = worth (values ++ v ∷ []) (among_push L e values v among there) in
+    is : there v ≡ v
+    is =
+        let a = worth (values ++ v ∷ []) (among_push L e values v among found) in
         let b = number_last values v (length L) (sym long) in
-        let d = worth_before L first values v of_first among in
-        let g = worth_before L second values v of_second among in
-        omega (arith, ints, a, b, d, g)
+        omega (arith, ints, a, b)
 
-    back : IsTrue (is_as_said values truth (compare_holds op (total values terms) number))
-        → HasNumber e.domain (λ v. IsSumOf first second sum (values ++ v ∷ []) × IsTrue (is_as_said (values ++ v ∷ []) truth (compare_holds op (total (values ++ v ∷ []) (rest ++ sum ∷ [])) number)))
-    back h = record { number = v; among = there; holds_there = (tie, same v tie ∙ h) }
+    near : NoLess high both (there v) × NoGreater low both (there v)
+    near = subst (λ n. NoLess high both n × NoGreater low both n) (sym is) (clipped_near low high both)
+
+    tie : StandsForSum c low high first second sum (values ++ v ∷ [])
+    tie =
+        let e = parts v in
+        record {
+          no_less = λ need. elim near.0 as (λ _. Reaches high first second sum (values ++ v ∷ [])) [ inl far ↦ inl far | inr on ↦ inr (omega (arith, ints, on, e)) ];
+          no_greater = λ need. elim near.1 as (λ _. StaysWithin low first second sum (values ++ v ∷ [])) [ inl far ↦ inl far | inr on ↦ inr (omega (arith, ints, on, e)) ];
+        }
+
+    back : Compares c (first ∷ second ∷ others) values → HasNumber e.domain (λ v. StandsForSum c low high first second sum (values ++ v ∷ []) × Compares c (sum ∷ others) (values ++ v ∷ []))
+    back h = record {
+      number = v;
+      among = found;
+      holds_there = (
+        tie,
+        same_truth v (compare_holds c.op (total (values ++ v ∷ []) (sum ∷ others)) c.number)
+            ∙ ap (λ n. is_as_said values c.truth (compare_holds c.op n c.number)) (later v)
+            ∙ ap (is_as_said values c.truth) (same_beyond c.op low high c.number rest both (there v) clip near.0 near.1)
+            ∙ sym (ap (is_as_said values c.truth) whole) ∙ h,
+      );
+    }
+
+-- a term of a layout is one of the layout with a variable more
+pub term_then : (L L1 : List VariableLiterals) (e : VariableLiterals) (t : Term) → L1 ≡ L ++ e ∷ [] → IsTermOf L t → IsTermOf L1 t
+term_then L L1 e t is h = subst (λ (M : List VariableLiterals). IsTermOf M t) (sym is) (term_before L e t h)
+
+-- the whole step
+pub joined_terms : (L : List VariableLiterals) (f : Cnf) (L1 : List VariableLiterals) (f1 f2 : Cnf) (e : VariableLiterals) (others : List Term) (first second sum : Term) (c : Comparison) (rest : Bounds) (low high a number : ℤ) (x : ℕ)
+    → IsLayoutOf L f → IsTermOf L first → IsTermOf L second → MatchOption c.truth (length L ≡ length L) (λ t. t < length L)
+    → low ≡ (number -ℤ rest.greatest) -ℤ pos 1 → high ≡ (number -ℤ rest.least) +ℤ pos 1 → number ≡ c.number
+    → L1 ≡ L ++ e ∷ [] → GoesOn L f L1 f1 → HasFreeChoice f e f1
+    → IsTermOf L1 sum → ((values : List ℤ) → AreOfDomains L1 values → worth_of values sum ≡ a *ℤ number_at values x) → x ≡ length L → a ≡ pos 1 → HasSums low high e.domain first second
+    → Adds L1 f1 L1 f2 (StandsForSum c low high first second sum) → All (IsTermOf L) others → HasBounds rest others → GiveWay c L f (first ∷ second ∷ others) L1 f2 (sum ∷ others)
+joined_terms L f L1 f1 f2 e others first second sum c rest low high a number x is_layout of_first of_second low_truth is_low is_high same pushed goes free of_sum worth at unit has tie of_others bounds = record {
+  from_new = tie.goes_on.from_new;
+  is_layout = tie.goes_on.is_layout;
+  earlier = goes.earlier;
+  of_layout = All-cons (IsTermOf L1) sum others of_sum (subst (λ (M : List VariableLiterals). All (IsTermOf M) others) (sym pushed) (terms_before L e others of_others));
+  leads = λ last h added.
+      adds_like L f last h (λ values. HasNumber e.domain (λ v. Q (values ++ v ∷ []))) (Compares c (first ∷ second ∷ others)) is_layout
+      (adds_variable L f L1 f1 e last h Q is_layout pushed goes free (adds_both L1 f1 f2 last h (StandsForSum c low high first second sum) (Compares c (sum ∷ others)) goes.is_layout tie added))
+      (λ values among. joined_same L e others first second sum c low high values of_others of_first of_second low_truth worth' has
+      (clip_over L others rest c.number low high values of_others bounds among (subst (λ n. low ≡ (n -ℤ rest.greatest) -ℤ pos 1) same is_low) (subst (λ n. high ≡ (n -ℤ rest.least) +ℤ pos 1) same is_high)) among);
+}
+  where
+    Q : List ℤ → Type 0
+    Q values = StandsForSum c low high first second sum values × Compares c (sum ∷ others) values
+
+    worth' : (vs : List ℤ) → AreOfDomains (L ++ e ∷ []) vs → worth_of vs sum ≡ pos 1 *ℤ number_at vs (length L)
+    worth' vs among = worth vs (subst (λ (M : List VariableLiterals). AreOfDomains M vs) (sym pushed) among) ∙ ap (λ n. n *ℤ number_at vs x) unit ∙ ap (λ y. pos 1 *ℤ number_at vs y) at
 
 -- an element stays where one is added
 pub any_before : (number : ℤ) (old new : List Run) (r : Run) → new ≡ old ++ r ∷ [] → Any (IsIn number) old → Any (IsIn number) new
@@ -138,115 +214,98 @@ any_last number old new lo hi is low high =
     subst (Any (IsIn number)) (sym is) (Any-push (IsIn number) old (record { lo = lo; hi = hi }) (omega (arith, ints, low), omega (arith, ints, high)))
 
 -- sums of a step with the first steps of another term, and one more
-pub sums_step : (a : ℤ) (xs : List Step) (i : ℕ) (d : Step) (old new : List Run) → i < length xs → ((number : ℤ) → Any (IsIn number) old → Any (IsIn number) new)
-    → All (λ (other : Step). Any (IsIn (a +ℤ other.worth)) old) (take i xs) → Any (IsIn (a +ℤ (get_or xs i d).worth)) new → All (λ (other : Step). Any (IsIn (a +ℤ other.worth)) new) (take (i + 1) xs)
-sums_step a xs i d old new low kept before here =
-    All-more (λ (other : Step). Any (IsIn (a +ℤ other.worth)) new) xs i d low
-    (All-weaker (λ (other : Step). Any (IsIn (a +ℤ other.worth)) old) (λ (other : Step). Any (IsIn (a +ℤ other.worth)) new) (λ other h. kept (a +ℤ other.worth) h) (take i xs) before) here
+pub sums_step : (g : ℤ → ℤ → ℤ) (a : ℤ) (xs : List Step) (i : ℕ) (d : Step) (old new : List Run) → i < length xs → ((number : ℤ) → Any (IsIn number) old → Any (IsIn number) new)
+    → All (λ (other : Step). Any (IsIn (g a other.worth)) old) (take i xs) → Any (IsIn (g a (get_or xs i d).worth)) new → All (λ (other : Step). Any (IsIn (g a other.worth)) new) (take (i + 1) xs)
+sums_step g a xs i d old new low kept before here =
+    All-more (λ (other : Step). Any (IsIn (g a other.worth)) new) xs i d low
+    (All-weaker (λ (other : Step). Any (IsIn (g a other.worth)) old) (λ (other : Step). Any (IsIn (g a other.worth)) new) (λ other h. kept (g a other.worth) h) (take i xs) before) here
 
 -- rows of sums, and one row more
-abbrev pub Rows : List Step → List Run → List Step → Type 0
-Rows ys runs xs = All (λ (one : Step). All (λ (other : Step). Any (IsIn (one.worth +ℤ other.worth)) runs) ys) xs
+abbrev pub Rows : (ℤ → ℤ → ℤ) → List Step → List Run → List Step → Type 0
+Rows g ys runs xs = All (λ (one : Step). All (λ (other : Step). Any (IsIn (g one.worth other.worth)) runs) ys) xs
 
-pub rows_step : (ys xs : List Step) (i : ℕ) (d : Step) (old new : List Run) → i < length xs → ((number : ℤ) → Any (IsIn number) old → Any (IsIn number) new)
-    → Rows ys old (take i xs) → All (λ (other : Step). Any (IsIn ((get_or xs i d).worth +ℤ other.worth)) new) ys → Rows ys new (take (i + 1) xs)
-rows_step ys xs i d old new low kept before here =
-    All-more (λ (one : Step). All (λ (other : Step). Any (IsIn (one.worth +ℤ other.worth)) new) ys) xs i d low
-    (All-weaker (λ (one : Step). All (λ (other : Step). Any (IsIn (one.worth +ℤ other.worth)) old) ys) (λ (one : Step). All (λ (other : Step). Any (IsIn (one.worth +ℤ other.worth)) new) ys)
-    (λ one h. All-weaker (λ (other : Step). Any (IsIn (one.worth +ℤ other.worth)) old) (λ (other : Step). Any (IsIn (one.worth +ℤ other.worth)) new) (λ other k. kept (one.worth +ℤ other.worth) k) ys h) (take i xs) before) here
+pub rows_step : (g : ℤ → ℤ → ℤ) (ys xs : List Step) (i : ℕ) (d : Step) (old new : List Run) → i < length xs → ((number : ℤ) → Any (IsIn number) old → Any (IsIn number) new)
+    → Rows g ys old (take i xs) → All (λ (other : Step). Any (IsIn (g (get_or xs i d).worth other.worth)) new) ys → Rows g ys new (take (i + 1) xs)
+rows_step g ys xs i d old new low kept before here =
+    All-more (λ (one : Step). All (λ (other : Step). Any (IsIn (g one.worth other.worth)) new) ys) xs i d low
+    (All-weaker (λ (one : Step). All (λ (other : Step). Any (IsIn (g one.worth other.worth)) old) ys) (λ (one : Step). All (λ (other : Step). Any (IsIn (g one.worth other.worth)) new) ys)
+    (λ one h. All-weaker (λ (other : Step). Any (IsIn (g one.worth other.worth)) old) (λ (other : Step). Any (IsIn (g one.worth other.worth)) new) (λ other k. kept (g one.worth other.worth) k) ys h) (take i xs) before) here
 
 -- a set of all those numbers
-pub rows_all : (ys xs : List Step) (runs : List Run) (set : List ℤ) → ((number : ℤ) → Contains set number ↔ Any (IsIn number) runs) → Rows ys runs xs → All (λ (one : Step). All (λ (other : Step). Contains set (one.worth +ℤ other.worth)) ys) xs
-rows_all ys xs runs set same rows =
-    All-weaker (λ (one : Step). All (λ (other : Step). Any (IsIn (one.worth +ℤ other.worth)) runs) ys) (λ (one : Step). All (λ (other : Step). Contains set (one.worth +ℤ other.worth)) ys)
-    (λ one h. All-weaker (λ (other : Step). Any (IsIn (one.worth +ℤ other.worth)) runs) (λ (other : Step). Contains set (one.worth +ℤ other.worth)) (λ other k. (same (one.worth +ℤ other.worth)).1 k) ys h) xs rows
+pub rows_all : (g : ℤ → ℤ → ℤ) (ys xs : List Step) (runs : List Run) (set : List ℤ) → ((number : ℤ) → Contains set number ↔ Any (IsIn number) runs) → Rows g ys runs xs → All (λ (one : Step). All (λ (other : Step). Contains set (g one.worth other.worth)) ys) xs
+rows_all g ys xs runs set same rows =
+    All-weaker (λ (one : Step). All (λ (other : Step). Any (IsIn (g one.worth other.worth)) runs) ys) (λ (one : Step). All (λ (other : Step). Contains set (g one.worth other.worth)) ys)
+    (λ one h. All-weaker (λ (other : Step). Any (IsIn (g one.worth other.worth)) runs) (λ (other : Step). Contains set (g one.worth other.worth)) (λ other k. (same (g one.worth other.worth)).1 k) ys h) xs rows
 
-pub sums_none : (a : ℤ) (xs : List Step) (runs : List Run) → All (λ (other : Step). Any (IsIn (a +ℤ other.worth)) runs) (take 0 xs)
-sums_none a xs runs = All-nil (λ (other : Step). Any (IsIn (a +ℤ other.worth)) runs)
+pub sums_none : (g : ℤ → ℤ → ℤ) (a : ℤ) (xs : List Step) (runs : List Run) → All (λ (other : Step). Any (IsIn (g a other.worth)) runs) (take 0 xs)
+sums_none g a xs runs = All-nil (λ (other : Step). Any (IsIn (g a other.worth)) runs)
 
-pub rows_none : (ys xs : List Step) (runs : List Run) → Rows ys runs (take 0 xs)
-rows_none ys xs runs = All-nil (λ (one : Step). All (λ (other : Step). Any (IsIn (one.worth +ℤ other.worth)) runs) ys)
+pub rows_none : (g : ℤ → ℤ → ℤ) (ys xs : List Step) (runs : List Run) → Rows g ys runs (take 0 xs)
+rows_none g ys xs runs = All-nil (λ (one : Step). All (λ (other : Step). Any (IsIn (g one.worth other.worth)) runs) ys)
 
-pub rows_turn : (ys xs : List Step) (i : ℕ) (d : Step) (old new : List Run) (a : ℤ) → i < length xs → ((number : ℤ) → Any (IsIn number) old → Any (IsIn number) new)
-    → Rows ys old (take i xs) → All (λ (other : Step). Any (IsIn (a +ℤ other.worth)) new) ys → a ≡ (get_or xs i d).worth → Rows ys new (take (i + 1) xs)
-rows_turn ys xs i d old new a low kept before here same =
-    rows_step ys xs i d old new low kept before (subst (λ (w : ℤ). All (λ (other : Step). Any (IsIn (w +ℤ other.worth)) new) ys) same here)
+pub rows_turn : (g : ℤ → ℤ → ℤ) (ys xs : List Step) (i : ℕ) (d : Step) (old new : List Run) (a : ℤ) → i < length xs → ((number : ℤ) → Any (IsIn number) old → Any (IsIn number) new)
+    → Rows g ys old (take i xs) → All (λ (other : Step). Any (IsIn (g a other.worth)) new) ys → a ≡ (get_or xs i d).worth → Rows g ys new (take (i + 1) xs)
+rows_turn g ys xs i d old new a low kept before here same =
+    rows_step g ys xs i d old new low kept before (subst (λ (w : ℤ). All (λ (other : Step). Any (IsIn (g w other.worth)) new) ys) same here)
 
-pub rows_said : {E : Type 0} (r : Result (List ℤ) E) (ys xs : List Step) (runs : List Run) → IfOk r (λ set. (number : ℤ) → Contains set number ↔ Any (IsIn number) runs) → Rows ys runs xs
-    → IfOk r (λ set. All (λ (one : Step). All (λ (other : Step). Contains set (one.worth +ℤ other.worth)) ys) xs)
-rows_said (Ok set) ys xs runs same rows = rows_all ys xs runs set same rows
-rows_said (Err e) ys xs runs same rows = tt
+pub rows_said : {E : Type 0} (g : ℤ → ℤ → ℤ) (r : Result (List ℤ) E) (ys xs : List Step) (runs : List Run) → IfOk r (λ set. (number : ℤ) → Contains set number ↔ Any (IsIn number) runs) → Rows g ys runs xs
+    → IfOk r (λ set. All (λ (one : Step). All (λ (other : Step). Contains set (g one.worth other.worth)) ys) xs)
+rows_said g (Ok set) ys xs runs same rows = rows_all g ys xs runs set same rows
+rows_said g (Err e) ys xs runs same rows = tt
 
--- two sums of three, each at most 0, as one equation
-pub tied : {T E : Type 0} (r : Result T E) (L : List VariableLiterals) (f f1 g : Cnf) (first second sum first' second' sum' : Term) → IsLayoutOf L f → IsMirror first first' → IsMirror second second' → IsMirror sum sum'
-    → Adds L f L f1 (Unless [] (λ values. (worth_of values first +ℤ (worth_of values second +ℤ worth_of values sum')) ≤ℤ pos 0))
-    → OnOk r (Adds L f1 L g (Unless [] (λ values. (worth_of values first' +ℤ (worth_of values second' +ℤ worth_of values sum)) ≤ℤ pos 0)))
-    → OnOk r (Adds L f L g (IsSumOf first second sum))
-tied r L f f1 g first second sum first' second' sum' is_layout one two three before added =
-    then_both r L f f1 g (Unless [] (λ values. (worth_of values first +ℤ (worth_of values second +ℤ worth_of values sum')) ≤ℤ pos 0))
-    (Unless [] (λ values. (worth_of values first' +ℤ (worth_of values second' +ℤ worth_of values sum)) ≤ℤ pos 0)) (IsSumOf first second sum) is_layout before (λ values among. same values) added
-  where
-    sure : (values : List ℤ) (P : Type 0) → IsTrue (clause_holds values []) ⊎ P → P
-    sure values P (inl g) = absurd (no_guard values g)
-    sure values P (inr p) = p
+-- ---- what ties the new term to the two
 
-    same : (values : List ℤ)
-        → (Unless [] (λ values. (worth_of values first +ℤ (worth_of values second +ℤ worth_of values sum')) ≤ℤ pos 0) values
-        × Unless [] (λ values. (worth_of values first' +ℤ (worth_of values second' +ℤ worth_of values sum)) ≤ℤ pos 0) values) ↔ IsSumOf first second sum values
-    same values =
-        let a = mirror_worth values first first' one in
-        let b = mirror_worth values second second' two in
-        let d = mirror_worth values sum sum' three in (
-          λ h.
-              let low = sure values ((worth_of values first +ℤ (worth_of values second +ℤ worth_of values sum')) ≤ℤ pos 0) h.0 in
-              let high = sure values ((worth_of values first' +ℤ (worth_of values second' +ℤ worth_of values sum)) ≤ℤ pos 0) h.1 in
-              omega (arith, ints, low, high, a, b, d),
-          λ e. (inr (omega (arith, ints, e, a, b, d)), inr (omega (arith, ints, e, a, b, d))),
-        )
+-- without a guard
+pub unguarded : (P : List ℤ → Type 0) (values : List ℤ) → Unless [] P values ↔ P values
+unguarded P values = (λ h. elim h as (λ _. P values) [ inl g ↦ absurd (no_guard values g) | inr p ↦ p ], λ p. inr p)
 
--- the last element of a list, and those before it
-pub but_last : (P : Term → Type 0) (xs : List Term) (x : Term) → All P (xs ++ x ∷ []) → All P xs × P x
-but_last P [] x h = (All-nil P, All-head P x [] h)
-but_last P (y ∷ xs) x h =
-    let rest = but_last P xs x (All-tail P y (xs ++ x ∷ []) h) in
-    (All-cons P y xs (All-head P y (xs ++ x ∷ []) h) rest.0, rest.1)
+-- three terms come to at most a number that is 0, in whatever order they stand
+pub in_any_order : (one other : List ℤ → ℤ) (m : ℤ) (values : List ℤ) → m ≡ pos 0 → one values ≡ other values → Unless [] (λ vs. one vs ≤ℤ m) values ↔ (other values ≤ℤ pos 0)
+in_any_order one other m values is same =
+    let plain = unguarded (λ vs. one vs ≤ℤ m) values in
+    (λ h. let low = plain.0 h in omega (arith, ints, low, is, same), λ h. plain.1 (omega (arith, ints, h, is, same)))
 
-pub terms_front : (L : List VariableLiterals) (terms rest : List Term) (last : Term) → terms ≡ rest ++ last ∷ [] → All (IsTermOf L) terms → All (IsTermOf L) rest × IsTermOf L last
-terms_front L terms rest last is h = but_last (IsTermOf L) rest last (subst (All (IsTermOf L)) is h)
+pub reordered : {T E : Type 0} (r : Result T E) (L : List VariableLiterals) (f g : Cnf) (one other : List ℤ → ℤ) (m : ℤ) → IsLayoutOf L f → OnOk r (Adds L f L g (Unless [] (λ vs. one vs ≤ℤ m))) → m ≡ pos 0 → ((values : List ℤ) → one values ≡ other values)
+    → OnOk r (Adds L f L g (λ vs. other vs ≤ℤ pos 0))
+reordered r L f g one other m is_layout added is same =
+    relabelled r L f L g (Unless [] (λ vs. one vs ≤ℤ m)) (λ vs. other vs ≤ℤ pos 0) is_layout (λ values among. in_any_order one other m values is (same values)) added
 
--- a term of a layout is one of the layout with a variable more
-pub term_then : (L L1 : List VariableLiterals) (e : VariableLiterals) (t : Term) → L1 ≡ L ++ e ∷ [] → IsTermOf L t → IsTermOf L1 t
-term_then L L1 e t is h = subst (λ (M : List VariableLiterals). IsTermOf M t) (sym is) (term_before L e t h)
+-- two terms and the opposite of a raised one come to at most 0 exactly where that one is worth as much, or at least the number from which it is raised
+pub reaches_so : (L : List VariableLiterals) (values : List ℤ) (first second sum high opposite : Term) (from by end : ℤ) → IsTermOf L first → IsTermOf L second → IsTermOf L sum → AreOfDomains L values
+    → IsRaised from by sum high → IsMirror high opposite → pos 0 ≤ℤ by → (first.bounds.greatest +ℤ second.bounds.greatest) ≤ℤ (from +ℤ by) → from ≡ end
+    → ((worth_of values first +ℤ (worth_of values second +ℤ worth_of values opposite)) ≤ℤ pos 0) ↔ Reaches end first second sum values
+reaches_so L values first second sum high opposite from by end of_first of_second of_sum among raises mirror natural far is =
+    let a = worth_within L first values of_first among in
+    let b = worth_within L second values of_second among in
+    let d = mirror_worth values high opposite mirror in
+    let g = raised_worth L from by values sum high of_sum among raises in
+    let same = at_most_raised from by (worth_of values first +ℤ worth_of values second) (first.bounds.greatest +ℤ second.bounds.greatest) (worth_of values sum) (omega (arith, ints, a.1, b.1)) far natural in
+    subst (λ n. ((worth_of values first +ℤ (worth_of values second +ℤ worth_of values opposite)) ≤ℤ pos 0) ↔ Reaches n first second sum values) is
+    (λ h. same.0 (omega (arith, ints, h, d, g)), λ h. let low = same.1 h in omega (arith, ints, low, d, g))
 
-pub terms_then : (L L1 : List VariableLiterals) (e : VariableLiterals) (rest terms : List Term) (sum : Term) → L1 ≡ L ++ e ∷ [] → All (IsTermOf L) rest → IsTermOf L1 sum → terms ≡ rest ++ sum ∷ [] → All (IsTermOf L1) terms
-terms_then L L1 e rest terms sum is h one made =
-    subst (All (IsTermOf L1)) (sym made) (All-push (IsTermOf L1) rest sum (subst (λ (M : List VariableLiterals). All (IsTermOf M) rest) (sym is) (terms_before L e rest h)) one)
+-- mirrors reach the opposite of a lower end exactly where the terms stay within it
+pub stays_so : (values : List ℤ) (first second sum one other both : Term) (low high : ℤ) → IsMirror first one → IsMirror second other → IsMirror sum both → high ≡ neg_ℤ low
+    → Reaches high one other both values ↔ StaysWithin low first second sum values
+stays_so values first second sum one other both low high a b d is =
+    let p = mirror_worth values first one a in
+    let q = mirror_worth values second other b in
+    let r = mirror_worth values sum both d in (
+      λ h. elim h as (λ _. StaysWithin low first second sum values) [ inl far ↦ inl (omega (arith, ints, far, r, is)) | inr near ↦ inr (omega (arith, ints, near, p, q, r)) ],
+      λ h. elim h as (λ _. Reaches high one other both values) [ inl far ↦ inl (omega (arith, ints, far, r, is)) | inr near ↦ inr (omega (arith, ints, near, p, q, r)) ],
+    )
 
-pub new_length : (L L1 : List VariableLiterals) (e : VariableLiterals) → L1 ≡ L ++ e ∷ [] → length L1 ≡ length L + 1
-new_length L L1 e is = ap length is ∙ length-append L (e ∷ [])
+-- what isn't needed
+pub not_needed : (L : List VariableLiterals) (f : Cnf) (need : Bool) (P : List ℤ → Type 0) → IsLayoutOf L f → IsTrue f.from_new → (need ≡ true → ⊥) → Adds L f L f (λ values. need ≡ true → P values)
+not_needed L f need P is_layout from_new never = nothing_new L f (λ values. need ≡ true → P values) is_layout from_new (λ values among h. absurd (never h))
 
-pub truth_then : (n m : ℕ) (truth : Option ℕ) → m ≡ n + 1 → MatchOption truth (n ≡ n) (λ t. t < n) → MatchOption truth (m ≡ m) (λ t. t < m)
-truth_then n m None is h = refl
-truth_then n m (Some t) is h = omega (arith, is, h)
+-- what is needed
+pub needed : {T E : Type 0} (r : Result T E) (L : List VariableLiterals) (f : Cnf) (L1 : List VariableLiterals) (g : Cnf) (need : Bool) (P : List ℤ → Type 0) → IsLayoutOf L f → need ≡ true → OnOk r (Adds L f L1 g P) → OnOk r (Adds L f L1 g (λ values. need ≡ true → P values))
+needed r L f L1 g need P is_layout on added = relabelled r L f L1 g P (λ values. need ≡ true → P values) is_layout (λ values among. (λ p h. p, λ p. p on)) added
 
--- the whole step
-pub fold_said : {T E : Type 0} (r : Result T E) (L : List VariableLiterals) (f : Cnf) (L1 : List VariableLiterals) (f1 f2 : Cnf) (L2 : List VariableLiterals) (g : Cnf) (e : VariableLiterals) (middle rest terms terms' : List Term) (first second sum : Term)
-    (truth : Option ℕ) (op : CompareOp) (x : ℕ) (a m number : ℤ)
-    → IsLayoutOf L f → All (IsTermOf L) terms → terms ≡ middle ++ first ∷ [] → middle ≡ rest ++ second ∷ [] → MatchOption truth (length L ≡ length L) (λ t. t < length L)
-    → L1 ≡ L ++ e ∷ [] → GoesOn L f L1 f1 → HasFreeChoice f e f1
-    → ((values : List ℤ) → AreOfDomains L1 values → worth_of values sum ≡ a *ℤ number_at values x) → x ≡ length L → a ≡ pos 1 → HasSums e.domain first second
-    → Adds L1 f1 L1 f2 (IsSumOf first second sum) → terms' ≡ rest ++ sum ∷ [] → OnOk r (Adds L1 f2 L2 g (λ values. IsTrue (is_as_said values truth (compare_holds op (total values terms') m)))) → m ≡ number
-    → OnOk r (Adds L f L2 g (λ values. IsTrue (is_as_said values truth (compare_holds op (total values terms) number))))
-fold_said (Err b) L f L1 f1 f2 L2 g e middle rest terms terms' first second sum truth op x a m number is_layout of_terms one two low pushed goes free worth at unit has tie made added same = tt
-fold_said (Ok b) L f L1 f1 f2 L2 g e middle rest terms terms' first second sum truth op x a m number is_layout of_terms one two low pushed goes free worth at unit has tie made added same =
-    let Q : List ℤ → Type 0 = λ values. IsSumOf first second sum values × Said truth (rest ++ sum ∷ []) op number values in
-    let next : Adds L1 f2 L2 g (Said truth (rest ++ sum ∷ []) op number) =
-    subst (λ (k : ℤ). Adds L1 f2 L2 g (Said truth (rest ++ sum ∷ []) op k)) same (subst (λ (ts : List Term). Adds L1 f2 L2 g (Said truth ts op m)) made added) in
-    let front = terms_front L terms middle first one of_terms in
-    let back = terms_front L middle rest second two front.0 in
-    let are : terms ≡ (rest ++ second ∷ []) ++ first ∷ [] = one ∙ ap (λ ts. ts ++ first ∷ []) two in
-    let worth' : (vs : List ℤ) → AreOfDomains (L ++ e ∷ []) vs → worth_of vs sum ≡ pos 1 *ℤ number_at vs (length L) =
-    λ vs among. worth vs (subst (λ (M : List VariableLiterals). AreOfDomains M vs) (sym pushed) among) ∙ ap (λ n. n *ℤ number_at vs x) unit ∙ ap (λ y. pos 1 *ℤ number_at vs y) at in
-    adds_like L f L2 g (λ values. HasNumber e.domain (λ v. Q (values ++ v ∷ []))) (Said truth terms op number) is_layout
-    (adds_variable L f L1 f1 e L2 g Q is_layout pushed goes free (adds_both L1 f1 f2 L2 g (IsSumOf first second sum) (Said truth (rest ++ sum ∷ []) op number) goes.is_layout tie next))
-    (λ values among. folded L e rest terms first second sum truth op number values back.0 front.1 back.1 are low worth' has among)
+-- both sides of what stands for a sum
+pub stands_for : {T E : Type 0} (r : Result T E) (L : List VariableLiterals) (f f1 g : Cnf) (c : Comparison) (low high : ℤ) (first second sum : Term) → IsLayoutOf L f
+    → Adds L f L f1 (λ values. needs_no_less c ≡ true → Reaches high first second sum values) → OnOk r (Adds L f1 L g (λ values. needs_no_greater c ≡ true → StaysWithin low first second sum values))
+    → OnOk r (Adds L f L g (StandsForSum c low high first second sum))
+stands_for r L f f1 g c low high first second sum is_layout less greater =
+    then_both r L f f1 g (λ values. needs_no_less c ≡ true → Reaches high first second sum values) (λ values. needs_no_greater c ≡ true → StaysWithin low first second sum values) (StandsForSum c low high first second sum)
+    is_layout less (λ values among. (λ h. record { no_less = h.0; no_greater = h.1 }, λ h. (h.no_less, h.no_greater))) greater

@@ -1,2 +1,4 @@
+pub mod Bounds
+pub mod Folding
 pub mod Guards
 pub mod Terms

@@ -1,11 +1,12 @@
 -- Terms: variables whose numbers are worth something.
-use Rattle.std.specs.Prelude.{◌≡◌, ◌↔◌, ◌<◌, ℤ, pos, ◌+ℤ◌, ◌<ℤ◌, neg_ℤ, ◌*ℤ◌, Bool, true, false, not, IsTrue, List, [], ◌∷◌, length, map, if◌then◌else◌}
-use Rattle.std.specs.List.{All, AllPairs, Contains}
+use Rattle.std.specs.Prelude.{◌≡◌, ◌↔◌, ◌<◌, ℤ, pos, ◌<ℤ◌, ◌≤ℤ◌, neg_ℤ, ◌*ℤ◌, Bool, true, false, not, IsTrue, List, [], ◌∷◌, length, map, if◌then◌else◌}
+use Rattle.std.specs.List.{All, AllPairs}
 use Rattle.std.specs.Ordering.{int_eq}
 use Rattle.ep_base.specs.Numbers.{sum_of}
 use Rattle.ep_flat.specs.Cons.{number_at}
 use Rattle.enc_atoms.specs.Atoms.{test_holds}
 use Rattle.enc_atoms.specs.declared.atoms.Atom.{Atom}
+use Rattle.enc_linear.specs.declared.bounds.Bounds.{Bounds}
 use Rattle.enc_linear.specs.declared.terms.Step.{Step}
 use Rattle.enc_linear.specs.declared.terms.Term.{Term}
 use Rattle.enc_var.specs.Decoding.{VariableLiterals}
@@ -37,11 +38,20 @@ AreInOrder rising one next = (one.value <ℤ next.value) × IsBefore rising one.
 abbrev pub IsOrdered : Term → Type 0
 IsOrdered term = AllPairs (AreInOrder term.rising) term.steps.items
 
--- A term is of a layout: it has a step for each number of a variable, in order.
+-- a number lies within bounds
+abbrev pub LiesWithin : Bounds → ℤ → Type 0
+LiesWithin bounds n = (bounds.least ≤ℤ n) × (n ≤ℤ bounds.greatest)
+
+-- what each step is worth lies within bounds
+abbrev pub HoldsSteps : Bounds → List Step → Type 0
+HoldsSteps bounds steps = All (λ step. LiesWithin bounds step.worth) steps
+
+-- A term is of a layout: it has a step for each number of a variable, in order and within its bounds.
 pub record IsTermOf (layout : List VariableLiterals) (term : Term) : Type 0 where
   pub var : term.var < length layout
   pub values : map (λ step. step.value) term.steps.items ≡ (literals_at layout term.var).domain
   pub ordered : IsOrdered term
+  pub bounds : HoldsSteps term.bounds term.steps.items
 
 -- an atom is of the term's variable, and says this of the term's worth
 pub record Says (term : Term) (atom : Atom) (holds : ℤ → Type 0) : Type 0 where
@@ -61,11 +71,4 @@ pub record IsMirror (term twin : Term) : Type 0 where
   pub var : twin.var ≡ term.var
   pub rising : twin.rising ≡ not term.rising
   pub steps : twin.steps.items ≡ map mirrored_step term.steps.items
-
--- a list has each sum of what two terms may be worth
-abbrev pub HasSums : List ℤ → Term → Term → Type 0
-HasSums domain first second = All (λ one. All (λ other. Contains domain (one.worth +ℤ other.worth)) second.steps.items) first.steps.items
-
--- one term is worth as much as two others
-abbrev pub IsSumOf : Term → Term → Term → List ℤ → Type 0
-IsSumOf first second sum values = worth_of values sum ≡ worth_of values first +ℤ worth_of values second
+  pub bounds : HoldsSteps twin.bounds twin.steps.items

@@ -1,114 +1,320 @@
-//! Long sums: two terms after another are replaced by a new variable that is their sum.
+//! Long sums: two terms after another give way to one, until three are left.
 
-ghost use Rattle.std.specs.Prelude.{◌≡◌, ◌<◌, ◌+ℤ◌, ℤ, length, map, IfOk, IsTrue, MatchOption, OnOk};
-ghost use Rattle.std.specs.List.{All, Any};
+ghost use Rattle.std.specs.Prelude.{◌≡◌, ◌<◌, ◌≤◌, ◌+◌, ◌∷◌, length, map, IfOk, IsTrue, MatchOption, OnOk};
+ghost use Rattle.std.specs.List.{All};
+ghost use Rattle.std.specs.List.Sorted.{IsPermutation};
 ghost use Rattle.enc_atoms.specs.Atoms.{Adds};
-ghost use Rattle.enc_linear.specs.Terms.{HasSums, IsSumOf, IsTermOf, total};
+ghost use Rattle.enc_linear.specs.Bounds.{HasBounds};
+ghost use Rattle.enc_linear.specs.Folding.{GiveWay};
+ghost use Rattle.enc_linear.specs.Terms.{IsTermOf};
 ghost use Rattle.enc_var.specs.Layouts.{IsLayoutOf};
 ghost use Rattle.ep_base.specs.Numbers.{compare_holds};
-ghost use Rattle.ep_base.specs.Runs.{IsIn};
 ghost use Rattle.ep_base.specs.Reads.{weighted_sum};
 ghost use Rattle.ep_flat.specs.Cons.{is_as_said, number_at};
 
+use crate::bounds::{Bounds, added, bounds_of_sum, without};
+use crate::comparison::Comparison;
+use crate::joining::joined;
 use crate::linear::{add_said, terms_of};
-use crate::making::{mirrored, multiple};
-use crate::sums::add_three;
-use crate::terms::{Step, Term};
+use crate::terms::Term;
 use cnf_core::Formula;
 use enc_var::Layout;
-use ep_base::{CompareOp, Memory, Run, Runs};
+use ep_base::{CompareOp, Memory};
 use std::alloc::Global;
+use std::collections::VecDeque;
 
-/// What two steps are worth together.
-fn sum_of_steps(one: Step, other: Step) -> Result<i64, Memory>
-    ensures { IfOk result (λ sum. sum ≡ one.worth +ℤ other.worth) }
+/// So many steps may two terms have between them to be joined before wider ones are, whatever they are worth.
+const MOST_PAIRS: usize = 4;
+
+/// The terms that are left of a sum.
+#[derive(Drop)]
+struct Sum {
+    /// The terms.
+    terms: VecDeque<Term>,
+    /// Between which numbers lies what they come to.
+    bounds: Bounds,
+}
+
+/// Between how many numbers lies what a term is worth.
+fn span(term: &Term) -> i128 {
+    term.bounds.greatest.saturating_sub(term.bounds.least)
+}
+
+/// The terms in order, that of the least span first.
+fn in_order(terms: VecDeque<Term>) -> Result<VecDeque<Term>, Memory>
+    ensures { IfOk result (λ sorted. IsPermutation terms.items sorted.items) }
 {
-    let sum = one.worth.checked_add(other.worth).ok_or(Memory)?;
-    match i64::try_from(sum) {
-        Ok(number) => Ok(number),
-        Err(_) => Err(Memory),
+    let mut list = terms.into_vec();
+    list.sort_by_key(span)?;
+    Ok(VecDeque::from_vec(list))
+}
+
+/// The term that two give way to, which were taken out of the terms of a sum. The bounds are those of all the terms,
+/// before and after.
+fn join(
+    alloc: Global,
+    layout: &mut Layout,
+    f: &mut Formula,
+    sum: &mut Sum,
+    first: &Term,
+    second: &Term,
+    c: Comparison,
+) -> Result<Term, Memory>
+    requires from_new { IsTrue f.old.from_new }
+    requires is_layout { IsLayoutOf layout.old f.old }
+    requires truth { MatchOption c.truth (length layout.old ≡ length layout.old) (λ t. t < length layout.old) }
+    requires first { IsTermOf layout.old first.now }
+    requires second { IsTermOf layout.old second.now }
+    requires terms { All (IsTermOf layout.old) sum.old.terms.items }
+    requires bounds { HasBounds sum.old.bounds (first.now ∷ second.now ∷ sum.old.terms.items) }
+    ensures terms { OnOk result (sum.new.terms.items ≡ sum.old.terms.items) }
+    ensures bounds { IfOk result (λ whole. HasBounds sum.new.bounds (whole ∷ sum.old.terms.items)) }
+    ensures gives_way { IfOk result (λ whole. GiveWay c layout.old f.old (first.now ∷ second.now ∷ sum.old.terms.items)
+        layout.new f.new (whole ∷ sum.old.terms.items)) }
+{
+    let others = without(sum.bounds, first.bounds)?;
+    let rest = without(others, second.bounds)?;
+    let whole = joined(alloc, layout, f, first, second, rest, c)?;
+    sum.bounds = added(rest, whole.bounds)?;
+    Ok(whole)
+}
+
+/// Lets the first two terms give way to one.
+fn join_front(
+    alloc: Global,
+    layout: &mut Layout,
+    f: &mut Formula,
+    sum: &mut Sum,
+    c: Comparison,
+) -> Result<(), Memory>
+    requires from_new { IsTrue f.old.from_new }
+    requires is_layout { IsLayoutOf layout.old f.old }
+    requires truth { MatchOption c.truth (length layout.old ≡ length layout.old) (λ t. t < length layout.old) }
+    requires terms { All (IsTermOf layout.old) sum.old.terms.items }
+    requires bounds { HasBounds sum.old.bounds sum.old.terms.items }
+    ensures length { OnOk result (length sum.new.terms.items + 1 ≡ length sum.old.terms.items) }
+    ensures bounds { OnOk result (HasBounds sum.new.bounds sum.new.terms.items) }
+    ensures gives_way { OnOk result
+        (GiveWay c layout.old f.old sum.old.terms.items layout.new f.new sum.new.terms.items) }
+{
+    let Some(first) = sum.terms.pop_front() else {
+        return Err(Memory);
+    };
+    let Some(second) = sum.terms.pop_front() else {
+        return Err(Memory);
+    };
+    let whole = join(alloc, layout, f, sum, &first, &second, c)?;
+    sum.terms.push_front(whole)?;
+    Ok(())
+}
+
+/// Lets the last two terms give way to one.
+fn join_back(
+    alloc: Global,
+    layout: &mut Layout,
+    f: &mut Formula,
+    sum: &mut Sum,
+    c: Comparison,
+) -> Result<(), Memory>
+    requires from_new { IsTrue f.old.from_new }
+    requires is_layout { IsLayoutOf layout.old f.old }
+    requires truth { MatchOption c.truth (length layout.old ≡ length layout.old) (λ t. t < length layout.old) }
+    requires terms { All (IsTermOf layout.old) sum.old.terms.items }
+    requires bounds { HasBounds sum.old.bounds sum.old.terms.items }
+    ensures length { OnOk result (length sum.new.terms.items + 1 ≡ length sum.old.terms.items) }
+    ensures bounds { OnOk result (HasBounds sum.new.bounds sum.new.terms.items) }
+    ensures gives_way { OnOk result
+        (GiveWay c layout.old f.old sum.old.terms.items layout.new f.new sum.new.terms.items) }
+{
+    let Some(first) = sum.terms.pop_back() else {
+        return Err(Memory);
+    };
+    let Some(second) = sum.terms.pop_back() else {
+        return Err(Memory);
+    };
+    let whole = join(alloc, layout, f, sum, &first, &second, c)?;
+    sum.terms.push_back(whole)?;
+    Ok(())
+}
+
+/// How many pairs of steps two neighbours have; many where there are no two.
+fn pairs(terms: &VecDeque<Term>, place: usize, next: usize) -> usize {
+    match (terms.get(place), terms.get(next)) {
+        (Some(one), Some(other)) => one.steps.len().saturating_mul(other.steps.len()),
+        _ => usize::MAX,
     }
 }
 
-/// Adds the sums of a step with each step of a term.
-fn push_sums(runs: &mut Vec<Run>, step: Step, second: &Term) -> Result<(), Memory>
-    ensures kept { OnOk result ((number : ℤ) → Any (IsIn number) runs.old.items → Any (IsIn number) runs.new.items) }
-    ensures sums { OnOk result
-        (All (λ other. Any (IsIn (step.worth +ℤ other.worth)) runs.new.items) second.now.steps.items) }
+/// Whether the first two terms are as wide as each other, or have few steps.
+fn are_alike(terms: &VecDeque<Term>) -> bool {
+    match (terms.get(0), terms.get(1)) {
+        (Some(one), Some(other)) => {
+            let same = span(one) == span(other) && one.steps.len() == other.steps.len();
+            same || pairs(terms, 0, 1) <= MOST_PAIRS
+        }
+        _ => false,
+    }
+}
+
+/// Lets the first two terms give way to one, where they are alike and more than three terms are left.
+fn join_alike(
+    alloc: Global,
+    layout: &mut Layout,
+    f: &mut Formula,
+    sum: &mut Sum,
+    c: Comparison,
+) -> Result<(), Memory>
+    requires from_new { IsTrue f.old.from_new }
+    requires is_layout { IsLayoutOf layout.old f.old }
+    requires truth { MatchOption c.truth (length layout.old ≡ length layout.old) (λ t. t < length layout.old) }
+    requires terms { All (IsTermOf layout.old) sum.old.terms.items }
+    requires bounds { HasBounds sum.old.bounds sum.old.terms.items }
+    ensures length { OnOk result (length sum.new.terms.items ≤ length sum.old.terms.items) }
+    ensures bounds { OnOk result (HasBounds sum.new.bounds sum.new.terms.items) }
+    ensures gives_way { OnOk result
+        (GiveWay c layout.old f.old sum.old.terms.items layout.new f.new sum.new.terms.items) }
 {
-    for other in &second.steps {
-        let sum = sum_of_steps(step, *other)?;
-        runs.push(Run { lo: sum, hi: sum })?;
+    if sum.terms.len() <= 3 {
+        return Ok(());
+    }
+    if !are_alike(&sum.terms) {
+        return Ok(());
+    }
+    join_front(alloc, layout, f, sum, c)
+}
+
+/// Puts the first term behind the others.
+fn turn(terms: &mut VecDeque<Term>)
+    ensures { IsPermutation terms.old.items terms.new.items }
+{
+    if terms.len() == 0 {
+        return;
+    }
+    terms.rotate_left(1);
+}
+
+/// Goes round the terms once, and joins neighbours that are alike.
+fn group_round(
+    alloc: Global,
+    layout: &mut Layout,
+    f: &mut Formula,
+    sum: &mut Sum,
+    c: Comparison,
+) -> Result<(), Memory>
+    requires from_new { IsTrue f.old.from_new }
+    requires is_layout { IsLayoutOf layout.old f.old }
+    requires truth { MatchOption c.truth (length layout.old ≡ length layout.old) (λ t. t < length layout.old) }
+    requires terms { All (IsTermOf layout.old) sum.old.terms.items }
+    requires bounds { HasBounds sum.old.bounds sum.old.terms.items }
+    ensures length { OnOk result (length sum.new.terms.items ≤ length sum.old.terms.items) }
+    ensures bounds { OnOk result (HasBounds sum.new.bounds sum.new.terms.items) }
+    ensures gives_way { OnOk result
+        (GiveWay c layout.old f.old sum.old.terms.items layout.new f.new sum.new.terms.items) }
+{
+    for _turn in 0..sum.terms.len() {
+        join_alike(alloc, layout, f, sum, c)?;
+        turn(&mut sum.terms);
     }
     Ok(())
 }
 
-/// The numbers that two terms may come to. Costs a sort of all sums.
-fn sums_of(alloc: Global, first: &Term, second: &Term) -> Result<Runs, Memory>
-    ensures { IfOk result (λ set. HasSums set first.now second.now) }
-{
-    let mut runs = Vec::new(alloc);
-    for step in &first.steps {
-        push_sums(&mut runs, *step, second)?;
-    }
-    Runs::new(alloc, runs)
-}
-
-/// Adds that a term is worth as much as two others.
-fn add_tie(
-    alloc: Global,
-    layout: &Layout,
-    f: &mut Formula,
-    first: &Term,
-    second: &Term,
-    sum: &Term,
-) -> Result<(), Memory>
-    requires from_new { IsTrue f.old.from_new }
-    requires is_layout { IsLayoutOf layout.now f.old }
-    requires first { IsTermOf layout.now first.now }
-    requires second { IsTermOf layout.now second.now }
-    requires sum { IsTermOf layout.now sum.now }
-    ensures { OnOk result (Adds layout.now f.old layout.now f.new (IsSumOf first.now second.now sum.now)) }
-{
-    let sum_mirror = mirrored(alloc, sum)?;
-    add_three(alloc, layout, f, &[], first, second, &sum_mirror, 0)?;
-    let first_mirror = mirrored(alloc, first)?;
-    let second_mirror = mirrored(alloc, second)?;
-    add_three(alloc, layout, f, &[], &first_mirror, &second_mirror, sum, 0)
-}
-
-/// Adds that a sum compares so with a number, or that the variable of its truth says whether it does.
-pub(crate) fn add_folded(
+/// Joins terms that are alike, two and two, so that equal ones are counted by a balanced tree.
+fn group(
     alloc: Global,
     layout: &mut Layout,
     f: &mut Formula,
-    truth: Option<u64>,
-    mut terms: Vec<Term>,
-    op: CompareOp,
-    number: i64,
+    sum: &mut Sum,
+    c: Comparison,
 ) -> Result<(), Memory>
     requires from_new { IsTrue f.old.from_new }
     requires is_layout { IsLayoutOf layout.old f.old }
-    requires truth { MatchOption truth (length layout.old ≡ length layout.old) (λ t. t < length layout.old) }
-    requires terms { All (IsTermOf layout.old) terms.items }
-    ensures { OnOk result (Adds layout.old f.old layout.new f.new
-        (λ values. IsTrue (is_as_said values truth (compare_holds op (total values terms.items) number)))) }
+    requires truth { MatchOption c.truth (length layout.old ≡ length layout.old) (λ t. t < length layout.old) }
+    requires terms { All (IsTermOf layout.old) sum.old.terms.items }
+    requires bounds { HasBounds sum.old.bounds sum.old.terms.items }
+    ensures bounds { OnOk result (HasBounds sum.new.bounds sum.new.terms.items) }
+    ensures gives_way { OnOk result
+        (GiveWay c layout.old f.old sum.old.terms.items layout.new f.new sum.new.terms.items) }
 {
-    if terms.len() <= 3 {
-        return add_said(alloc, layout, f, truth, &terms, op, number);
+    let mut before = usize::MAX;
+    'rounds: while sum.terms.len() < before {
+        before = sum.terms.len();
+        group_round(alloc, layout, f, sum, c)?;
     }
-    let Some(first) = terms.pop() else {
-        return Err(Memory);
-    };
-    let Some(second) = terms.pop() else {
-        return Err(Memory);
-    };
-    let domain = sums_of(alloc, &first, &second)?;
-    let var = layout.new_var(alloc, f, &domain)?;
-    let sum = multiple(alloc, layout, var, 1)?;
-    add_tie(alloc, layout, f, &first, &second, &sum)?;
-    terms.push(sum)?;
-    add_folded(alloc, layout, f, truth, terms, op, number)
+    Ok(())
+}
+
+/// Lets the two terms at that end give way to one which have fewer pairs of steps.
+fn join_end(
+    alloc: Global,
+    layout: &mut Layout,
+    f: &mut Formula,
+    sum: &mut Sum,
+    c: Comparison,
+) -> Result<(), Memory>
+    requires from_new { IsTrue f.old.from_new }
+    requires is_layout { IsLayoutOf layout.old f.old }
+    requires truth { MatchOption c.truth (length layout.old ≡ length layout.old) (λ t. t < length layout.old) }
+    requires terms { All (IsTermOf layout.old) sum.old.terms.items }
+    requires bounds { HasBounds sum.old.bounds sum.old.terms.items }
+    ensures length { OnOk result (length sum.new.terms.items + 1 ≡ length sum.old.terms.items) }
+    ensures bounds { OnOk result (HasBounds sum.new.bounds sum.new.terms.items) }
+    ensures gives_way { OnOk result
+        (GiveWay c layout.old f.old sum.old.terms.items layout.new f.new sum.new.terms.items) }
+{
+    let last = sum.terms.len().saturating_sub(1);
+    if pairs(&sum.terms, 0, 1) <= pairs(&sum.terms, last, last.saturating_sub(1)) {
+        return join_front(alloc, layout, f, sum, c);
+    }
+    join_back(alloc, layout, f, sum, c)
+}
+
+/// Joins terms at either end until three terms are left.
+fn fold(
+    alloc: Global,
+    layout: &mut Layout,
+    f: &mut Formula,
+    sum: &mut Sum,
+    c: Comparison,
+) -> Result<(), Memory>
+    requires from_new { IsTrue f.old.from_new }
+    requires is_layout { IsLayoutOf layout.old f.old }
+    requires truth { MatchOption c.truth (length layout.old ≡ length layout.old) (λ t. t < length layout.old) }
+    requires terms { All (IsTermOf layout.old) sum.old.terms.items }
+    requires bounds { HasBounds sum.old.bounds sum.old.terms.items }
+    ensures { OnOk result
+        (GiveWay c layout.old f.old sum.old.terms.items layout.new f.new sum.new.terms.items) }
+{
+    'ends: while 3 < sum.terms.len() {
+        join_end(alloc, layout, f, sum, c)?;
+    }
+    Ok(())
+}
+
+/// Few terms that others give way to.
+fn folded(
+    alloc: Global,
+    layout: &mut Layout,
+    f: &mut Formula,
+    terms: Vec<Term>,
+    c: Comparison,
+) -> Result<Vec<Term>, Memory>
+    requires from_new { IsTrue f.old.from_new }
+    requires is_layout { IsLayoutOf layout.old f.old }
+    requires truth { MatchOption c.truth (length layout.old ≡ length layout.old) (λ t. t < length layout.old) }
+    requires terms { All (IsTermOf layout.old) terms.items }
+    ensures { IfOk result (λ few. GiveWay c layout.old f.old terms.items layout.new f.new few.items) }
+{
+    let bounds = bounds_of_sum(&terms)?;
+    let terms = in_order(VecDeque::from_vec(terms))?;
+    let mut sum = Sum { terms, bounds };
+    group(alloc, layout, f, &mut sum, c)?;
+    let Sum { terms, bounds } = sum;
+    let terms = in_order(terms)?;
+    let mut sum = Sum { terms, bounds };
+    fold(alloc, layout, f, &mut sum, c)?;
+    let mut few = sum.terms.into_vec();
+    few.sort_by_key(|term| term.steps.len())?;
+    Ok(few)
 }
 
 /// Adds that a sum compares so with a number, or that the variable of its truth says whether it does.
@@ -129,5 +335,7 @@ pub(crate) fn add_linear(
         (compare_holds op (weighted_sum (map (λ part. (part.0, number_at values part.1)) parts.now)) number)))) }
 {
     let terms = terms_of(alloc, layout, parts)?;
-    add_folded(alloc, layout, f, truth, terms, op, number)
+    let c = Comparison { truth, op, number };
+    let few = folded(alloc, layout, f, terms, c)?;
+    add_said(alloc, layout, f, c.truth, &few, c.op, c.number)
 }

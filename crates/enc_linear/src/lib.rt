@@ -2,10 +2,13 @@
 #![tactic(auto)]
 
 mod apart;
+mod bounds;
 mod comparing;
+mod comparison;
 mod encode;
 mod folding;
 mod guards;
+mod joining;
 mod linear;
 mod listing;
 mod making;

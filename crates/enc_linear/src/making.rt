@@ -2,9 +2,11 @@
 
 ghost use Rattle.std.specs.Prelude.{◌≡◌, ◌≢◌, ◌<◌, ◌*ℤ◌, pos, ℤ, List, length, IfOk};
 ghost use Rattle.enc_atoms.specs.Atoms.{AreOfDomains};
+ghost use Rattle.enc_linear.specs.Bounds.{IsRaised, raised_step};
 ghost use Rattle.enc_linear.specs.Terms.{IsMirror, IsTermOf, mirrored_step, step_of, worth_of};
 ghost use Rattle.ep_flat.specs.Cons.{number_at};
 
+use crate::bounds::bounds_of;
 use crate::listing::listed;
 use crate::terms::{Step, Term};
 use enc_var::Layout;
@@ -52,7 +54,13 @@ pub(crate) fn multiple(
         steps.push(step)?;
     }
     let rising = 0 < coefficient;
-    Ok(Term { var, rising, steps })
+    let bounds = bounds_of(&steps);
+    Ok(Term {
+        var,
+        rising,
+        steps,
+        bounds,
+    })
 }
 
 /// The same variable, with each worth turned into its opposite.
@@ -66,5 +74,54 @@ pub(crate) fn mirrored(alloc: Global, term: &Term) -> Result<Term, Memory>
     }
     let var = term.var;
     let rising = !term.rising;
-    Ok(Term { var, rising, steps })
+    let bounds = bounds_of(&steps);
+    Ok(Term {
+        var,
+        rising,
+        steps,
+        bounds,
+    })
+}
+
+/// By how much what a term is worth is raised, and from which number on.
+#[derive(Clone, Copy, Debug)]
+pub struct Raise {
+    /// What is less stays.
+    pub from: i128,
+    /// What is added.
+    pub by: i128,
+}
+
+/// A step that is worth so much more, if it is worth enough.
+fn raised_step(raise: Raise, step: Step) -> Result<Step, Memory>
+    ensures { IfOk result (λ high. high ≡ raised_step raise.from raise.by step) }
+{
+    if step.worth < raise.from {
+        return Ok(step);
+    }
+    let worth = step.worth.checked_add(raise.by).ok_or(Memory)?;
+    Ok(Step {
+        value: step.value,
+        worth,
+    })
+}
+
+/// The same variable, with what it is worth raised from a number on.
+pub(crate) fn raised(alloc: Global, term: &Term, raise: Raise) -> Result<Term, Memory>
+    ensures { IfOk result (λ high. IsRaised raise.from raise.by term.now high) }
+{
+    let mut steps = Vec::new(alloc);
+    for step in &term.steps {
+        let high = raised_step(raise, *step)?;
+        steps.push(high)?;
+    }
+    let var = term.var;
+    let rising = term.rising;
+    let bounds = bounds_of(&steps);
+    Ok(Term {
+        var,
+        rising,
+        steps,
+        bounds,
+    })
 }

@@ -5,6 +5,7 @@ ghost use Rattle.std.specs.List.{All, AllPairs, AllWithin, Contains};
 ghost use Rattle.enc_atoms.specs.Atoms.{test_holds};
 ghost use Rattle.enc_linear.specs.Terms.{AreInOrder, IsOrdered, Says};
 
+use crate::bounds::Bounds;
 use enc_atoms::Atom;
 use ep_base::Memory;
 
@@ -26,6 +27,8 @@ pub struct Term {
     pub rising: bool,
     /// The numbers in ascending order.
     pub steps: Vec<Step>,
+    /// Between which numbers lies what it is worth.
+    pub bounds: Bounds,
 }
 
 /// "It is worth less than at this step."

@@ -1,6 +1,6 @@
-use Rattle.std.proofs.Common.{◌∙◌, refl, pos, map, ap}
+use Rattle.std.proofs.Common.{◌∙◌, refl, pos, map, ap, subst}
 use Rattle.enc_linear.specs.declared.terms.Step.{Step}
-use Rattle.enc_linear.specs.Terms.{mirrored_step}
+use Rattle.enc_linear.specs.Terms.{HoldsSteps, mirrored_step}
 use Rattle.enc_linear.proofs.Multiples.{map_all, map_more}
 use Rattle.enc_linear.proofs.making.mirrored.Goals as goal
 
@@ -19,4 +19,5 @@ returns c = record {
   var = refl;
   rising = refl;
   steps = map_all mirrored_step c.deref-step-items.result.now c.loop-step.step-index c.loop-step.steps.items c.loop-step-test.false c.loop-step.invariant ∙ ap (map mirrored_step) c.deref-step-items.ensures.value;
+  bounds = subst (HoldsSteps c.bounds_of-bounds.result) c.deref.ensures.value c.bounds_of-bounds.ensures;
 }

@@ -1,7 +1,7 @@
 use Rattle.std.proofs.Common.{◌≡◌, ℤ, ◌∙◌, pos, get_or, map, rules, ap, subst, sym, to_z, of_z, w64, arith, int_lt}
 use Rattle.std.proofs.lemmas.Int.{ints, to_z-of_z}
 use Rattle.ep_base.specs.Runs.{IsAscending}
-use Rattle.enc_linear.specs.Terms.{step_of}
+use Rattle.enc_linear.specs.Terms.{HoldsSteps, step_of}
 use Rattle.enc_linear.proofs.Multiples.{map_all, map_more, multiple_is, multiple_of, step_same}
 use Rattle.enc_linear.proofs.making.multiple.Goals as goal
 
@@ -25,6 +25,7 @@ returns-clause-of_layout c =
     let items : xs ≡ c.domain.result.now = c.deref-value-items.ensures.value ∙ c.in_ok-values.ensures.items in
     multiple_of c.args.layout.now a xs _ c.requires.var (items ∙ c.domain.ensures) (subst IsAscending (sym items) c.in_ok-values.ensures.ascending) c.requires.coefficient (ap (λ n. int_lt (pos 0) n) e)
     (map_all (step_of _) xs c.loop-value.value-index c.loop-value.steps.items c.loop-value-test.false c.loop-value.invariant ∙ ap (λ n. map (step_of n) xs) e)
+    (subst (HoldsSteps c.bounds_of-bounds.result) c.deref.ensures.value c.bounds_of-bounds.ensures)
 
 pub returns-clause-worth : goal.returns-clause-worth
 returns-clause-worth c values among =
