@@ -11,3 +11,4 @@ pub mod Printed
 pub mod ValuesSpelled
 pub mod ValuesLexed
 pub mod Answered
+pub mod Worth

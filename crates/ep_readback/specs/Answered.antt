@@ -1,16 +1,21 @@
 -- Printed answers, read as parameter texts: each value has a letting.
-use Rattle.std.specs.Prelude.{◌≡◌, ℕ, suc, ◌^◌, Bool, true, false, ◌&&◌, List, [], ◌∷◌, map, ℤ, pos, negsuc, IsTrue, nat_lt, if◌then◌else◌, Option, None}
+use Rattle.std.specs.Prelude.{◌≡◌, ℕ, suc, ◌^◌, Bool, true, false, ◌&&◌, List, [], ◌∷◌, map, ℤ, pos, negsuc, IsTrue, length, nat_lt, if◌then◌else◌, Option, Some, None}
 use Rattle.std.specs.List.{All, list_all}
 use Rattle.std.specs.Ordering.{int_eq}
+use Rattle.ep_base.specs.Runs.{IsAscending}
 use Rattle.ep_base.specs.TokenTexts.{is_name, is_word}
+use Rattle.ep_tree.specs.Environments.{Env}
+use Rattle.ep_tree.specs.Evaluation.{evaluate}
 use Rattle.ep_tree.specs.Placeless.{SameButPlaces, somewhere}
 use Rattle.ep_tree.specs.Solutions.{Assigned, NamedValue}
 use Rattle.ep_tree.specs.StatementSpelling.{SpellsParams}
 use Rattle.ep_tree.specs.Statements.{StatementTree, TextTree, letting}
 use Rattle.ep_tree.specs.Texts.{SpellsText}
 use Rattle.ep_tree.specs.Trees.{DomainTree, ExprTree, ExprTrees, Ranges, end_at, literal, minus, no_ranges, no_trees, number, one_and, over, ranges, span_and, tree_and, truth}
+use Rattle.ep_tree.specs.TypedValues.{is_number_of}
 use Rattle.ep_tree.specs.Types.{scalar_of}
-use Rattle.ep_tree.specs.Values.{ValueTree, ValueTrees, matrix, no_values, single, value_and}
+use Rattle.ep_tree.specs.Values.{ValueTree, ValueTrees, listed_values, matrix, no_values, single, value_and}
+use Rattle.ep_tree.specs.declared.values.Mode.{Mode}
 use Rattle.ep_tree.specs.declared.values.Scalar.{Scalar}
 use Rattle.ep_print.specs.Answers.{AnswerTree, answer_text, no_solution, optimum, solution, unknown, unknown_with}
 use Rattle.ep_print.specs.Values.{Stretch, runs_of}
@@ -100,3 +105,20 @@ abbrev pub AnswerSpellsItsLettings : Type 0
 AnswerSpellsItsLettings =
     (answer : AnswerTree) → All CanBeWritten (values_in answer)
     → SpellsLettings (map letting_of (values_in answer)) (answer_text answer)
+
+abbrev mutual
+  -- a value as an assignment has it: numbers of a scalar, and as many indices as parts in each matrix, which ascend
+  pub IsInOrder : Scalar → ValueTree → Type 0
+  IsInOrder s (single n) = IsTrue (is_number_of s n)
+  IsInOrder s (matrix indices parts) =
+      (length indices ≡ length (listed_values parts)) × IsAscending indices × AreInOrder s parts
+
+  -- the same of each part of a matrix
+  pub AreInOrder : Scalar → ValueTrees → Type 0
+  AreInOrder s no_values = Unit {0}
+  AreInOrder s (value_and v vs) = IsInOrder s v × AreInOrder s vs
+
+-- the expression that stands for a value has that value, in either mode, whatever names stand for
+abbrev pub ValueIsReadAgain : Type 0
+ValueIsReadAgain =
+    (mode : Mode) (env : Env) (s : Scalar) (v : ValueTree) → IsInOrder s v → evaluate mode env (value_expr s v) ≡ Some v
