@@ -1,5 +1,5 @@
 -- What is put out for each kind of expression and domain, from what is put out for its parts.
-use Rattle.std.proofs.Common.{◌≡◌, ℕ, Bool, true, false, List, [], ◌∷◌, ◌++◌, codes, map, refl, sym, ap, ap₂, ◌∙◌, subst, append_assoc, Result, Ok, Err, OnOk, Option, Some, None, not, ◌==◌, length, drop, get_or, ◌+◌, ◌<◌, ◌≤◌, arith}
+use Rattle.std.proofs.Common.{◌≡◌, ℕ, Bool, true, false, List, [], ◌∷◌, ◌++◌, codes, refl, sym, ap, ◌∙◌, subst, append_assoc, Result, Ok, Err, OnOk, Option, Some, None, not, ◌==◌, length, drop, get_or, ◌+◌, ◌<◌, ◌≤◌, arith}
 use Rattle.std.proofs.lemmas.Bool.{ne_eqb}
 use Rattle.std.proofs.lemmas.List.{append-nil, drop_all}
 use Rattle.std.specs.declared.boxed.Box.{Box}

@@ -1,12 +1,12 @@
 -- Rows of Booleans are of their type.
-use Rattle.std.proofs.Common.{◌≡◌, List, [], ◌∷◌, ◌++◌, ℤ, pos, map, subst, sym, ap, ap₂, ◌∙◌}
+use Rattle.std.proofs.Common.{◌≡◌, List, ℤ, subst, sym, ap₂, ◌∙◌}
 use Rattle.std.specs.declared.alloc.Global.{Global}
 use Rattle.std.specs.declared.vec.Vec.{Vec}
 use Rattle.ep_tree.specs.TypedValues.{IsOf}
 use Rattle.ep_tree.specs.Values.{matrix}
 use Rattle.ep_tree.specs.Views.{value_tree, values_from}
 use Rattle.ep_tree.specs.declared.values.Scalar.{Scalar}
-use Rattle.ep_tree.specs.declared.values.Value.{Value, Matrix, Number}
+use Rattle.ep_tree.specs.declared.values.Value.{Value, Matrix}
 use Rattle.ep_tree.specs.declared.values.ValueType.{ValueType}
 use Rattle.ep_tree.proofs.ViewLemmas.{value_tree-matrix}
 

@@ -1,16 +1,15 @@
 //! Puts expressions and domains out, word by word.
 
-ghost use Rattle.std.specs.Prelude.{◌≡◌, ◌++◌, ◌∷◌, [], codes, map, OnOk, true, false};
+ghost use Rattle.std.specs.Prelude.{◌≡◌, ◌++◌, ◌∷◌, [], codes, map, OnOk, false};
 ghost use Rattle.ep_tree.specs.Views.{expr_tree, domain_tree, expr_trees, terms_of, indices_of, generators_of, domains_of, ranges_of, end_of};
 ghost use Rattle.ep_print.specs.Putting.{spaced, continued, chain_from, held_range_words, index_tree};
-ghost use Rattle.ep_print.specs.Words.{expr_words, domain_words, all_words, index_words, range_words, end_words, all_domain_words, generator_words, index_domain_words, name_words, word};
+ghost use Rattle.ep_print.specs.Words.{expr_words, domain_words, all_words, index_words, range_words, end_words, all_domain_words, generator_words, index_domain_words};
 
 use crate::operators::{
     binary_word, compare_word, fold_word, is_called, lex_word, quantifier_word, set_word,
     sign_word, truth_word,
 };
 use crate::spaced::{push_between, push_names, push_number, push_word, push_words};
-use ep_base::Name;
 use ep_tree::{Domain, DomainKind, Expr, Generator, Kind, Range};
 use std::alloc::AllocError;
 

@@ -2,7 +2,7 @@
 
 ghost use Rattle.std.specs.Prelude.{◌≡◌, ◌++◌, ◌∷◌, [], ◌-◌, codes, map, length, take, OnOk};
 ghost use Rattle.std.specs.Fmt.{signed_decimal};
-ghost use Rattle.ep_print.specs.Putting.{spaced, between_if, continued};
+ghost use Rattle.ep_print.specs.Putting.{between_if, spaced};
 ghost use Rattle.ep_print.specs.Words.{name_words, placed_words};
 
 use ep_base::{Name, Place};

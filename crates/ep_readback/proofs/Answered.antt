@@ -1,7 +1,6 @@
 -- The text of an answer is a parameter text with its lettings.
-use Rattle.std.proofs.Common.{◌≡◌, ℕ, zero, suc, ◌+◌, ◌/◌, ◌%◌, ◌<◌, Bool, true, false, cond, not, ◌&&◌, List, [], ◌∷◌, ◌++◌, codes, length, map, ℤ, pos, negsuc, Option, None, refl, sym, ap, ap₂, subst, ◌∙◌, append_assoc, arith, inl}
-use Rattle.std.specs.Prelude.{nat_lt, ◌==◌}
-use Rattle.std.specs.Char.{is_ascii_digit}
+use Rattle.std.proofs.Common.{◌≡◌, ℕ, zero, suc, ◌/◌, ◌%◌, Bool, true, false, cond, ◌&&◌, List, [], ◌∷◌, ◌++◌, codes, map, ℤ, pos, negsuc, None, refl, sym, ap, ap₂, subst, ◌∙◌, append_assoc, arith, inl}
+use Rattle.std.specs.Prelude.{◌==◌}
 use Rattle.std.specs.Fmt.{decimal, digit_glyph, digits, digits_onto, signed_decimal}
 use Rattle.std.specs.List.{All, flat_map, list_all}
 use Rattle.std.specs.Ordering.{int_eq}
@@ -9,35 +8,31 @@ use Rattle.std.proofs.lemmas.Bool.{and_from, and_parts}
 use Rattle.std.proofs.lemmas.Bool.Decides.{nat_tests}
 use Rattle.std.proofs.lemmas.List.{append-nil}
 use Rattle.std.proofs.lemmas.List.Folds.{list_all-append}
-use Rattle.ep_base.specs.TokenTexts.{is_name, is_number, is_symbol, is_token, is_word}
-use Rattle.ep_base.specs.declared.places.Place.{Place}
-use Rattle.ep_tree.specs.Phrases.{From, Is, Lexeme, PlacedNames, Says, Silence, a_name, lexemes_of, ◌followed_by◌, ◌or_else◌}
-use Rattle.ep_tree.specs.Placeless.{SameButPlaces, placeless, placeless_name, placeless_statement, somewhere}
+use Rattle.ep_tree.specs.Phrases.{PlacedNames, a_name, lexemes_of}
+use Rattle.ep_tree.specs.Placeless.{placeless_statement, somewhere}
 use Rattle.ep_tree.specs.Solutions.{Assigned, NamedValue}
-use Rattle.ep_tree.specs.Spelling.{Spells, implications, truth_word}
-use Rattle.ep_tree.specs.StatementSpelling.{LanguageLine, SaysBe, SpellsParams, SpellsStated, SpellsStatement, SpellsStatements, is_letting}
-use Rattle.ep_tree.specs.Statements.{StatementTree, TextTree, letting}
-use Rattle.ep_tree.specs.Trees.{ExprTree, ExprTrees}
+use Rattle.ep_tree.specs.Spelling.{truth_word}
+use Rattle.ep_tree.specs.StatementSpelling.{SaysBe, SpellsParams, SpellsStated, SpellsStatement, SpellsStatements, is_letting}
+use Rattle.ep_tree.specs.Statements.{TextTree, letting}
 use Rattle.ep_tree.specs.Types.{scalar_of}
 use Rattle.ep_tree.specs.Values.{ValueTree, ValueTrees, matrix, no_values, single, value_and}
 use Rattle.ep_tree.specs.declared.values.Scalar.{Scalar}
 use Rattle.ep_print.specs.Answers.{AnswerTree, answer_text, language_line, letting_text, letting_texts, no_solution, optimum, solution, unknown, unknown_text, unknown_with}
 use Rattle.ep_print.specs.Joining.{with_between}
 use Rattle.ep_print.specs.Values.{indices_text, scalar_text, scalar_value_text, scalar_value_texts, value_text}
-use Rattle.ep_print.specs.Words.{Words, all_words, domain_words, expr_words, parted, stated_words, statement_words, word}
+use Rattle.ep_print.specs.Words.{Words, all_words, domain_words, expr_words, stated_words, statement_words, word}
 use Rattle.ep_readback.specs.Answered.{CanBeWritten, SpellsLettings, are_short_values, has_few_digits, indices_domain, is_short_value, letting_of, scalar_expr, value_expr, value_exprs, values_in}
 use Rattle.ep_readback.proofs.Clearing.{letting_cleared}
-use Rattle.ep_readback.proofs.Glue.{ends_before}
 use Rattle.ep_readback.proofs.Literals as literals
 use Rattle.ep_readback.proofs.Literals.{the_tokens}
 use Rattle.ep_readback.proofs.Pieces.{behind, joined_behind, kept}
 use Rattle.ep_readback.proofs.Printed.{language_lexed, spaced_word}
-use Rattle.ep_readback.proofs.Respelled.{Respelled, Twin, respelled_as, respelled_is, respelled_none, respelled_then, respelled_word, respelled_words}
-use Rattle.ep_readback.proofs.Said.{is_written, name_says, name_written}
-use Rattle.ep_readback.proofs.Scanned.{Lexed, is_one_line, lexed_comment, lexed_end, lexed_line_end, lexed_space, lexed_word, sayings, whole_text, word_sayings}
+use Rattle.ep_readback.proofs.Respelled.{Respelled, Twin, respelled_as, respelled_is, respelled_none, respelled_then, respelled_word}
+use Rattle.ep_readback.proofs.Said.{name_says, name_written}
+use Rattle.ep_readback.proofs.Scanned.{Lexed, is_one_line, lexed_comment, lexed_end, lexed_line_end, lexed_space, lexed_word, whole_text}
 use Rattle.ep_readback.proofs.TextsAgain.{language_respelled, language_words, respelled_from}
-use Rattle.ep_readback.proofs.ValuesLexed.{Breaks, EndsNumber, alone, comma_lexed, indices_lexed, square_lexed, whole_lexed}
-use Rattle.ep_readback.proofs.ValuesSpelled.{SpellsWhole, value_spelled}
+use Rattle.ep_readback.proofs.ValuesLexed.{Breaks, alone, comma_lexed, indices_lexed, square_lexed, whole_lexed}
+use Rattle.ep_readback.proofs.ValuesSpelled.{value_spelled}
 
 -- ---- values
 

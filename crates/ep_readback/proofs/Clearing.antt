@@ -1,9 +1,9 @@
 -- What a tree keeps when it is cleared of its places.
-use Rattle.std.proofs.Common.{◌≡◌, ℕ, ◌+◌, max, Bool, true, false, not, ◌&&◌, cond, List, [], ◌∷◌, map, Option, Some, None, refl, sym, ap, ap₂, ◌∙◌}
+use Rattle.std.proofs.Common.{◌≡◌, ℕ, ◌+◌, max, cond, List, [], ◌∷◌, map, Option, Some, None, refl, ap, ap₂, ◌∙◌}
 use Rattle.std.specs.Option.{option_map}
 use Rattle.ep_tree.specs.Heights.{domain_height, end_height, height, highest, highest_domain, highest_generator, highest_index, highest_range, highest_term, index_height}
 use Rattle.ep_tree.specs.Placeless.{placeless, placeless_domain, placeless_domains, placeless_end, placeless_generators, placeless_group, placeless_index, placeless_indices, placeless_ranges, placeless_statement, placeless_terms, placeless_trees}
-use Rattle.ep_tree.specs.Spelling.{DomainLevel, Level, ends_open, has_every, has_terms, has_trees, own_domain_level, own_level, takes_own_group, terms_end_open, trees_end_open}
+use Rattle.ep_tree.specs.Spelling.{ends_open, has_every, has_terms, has_trees, own_domain_level, own_level, takes_own_group, terms_end_open, trees_end_open}
 use Rattle.ep_tree.specs.StatementSpelling.{is_letting, is_objective}
 use Rattle.ep_tree.specs.Statements.{Group, StatementTree, TextTree, branching, constraints, decided, domain_letting, given, heuristic, highest_group, highest_of, letting, objective, requirements, stated_height, statement_height, text_height}
 use Rattle.ep_tree.specs.Trees.{DomainTree, Domains, End, ExprTree, ExprTrees, Generators, IndexDomain, Indices, Ranges, Terms, absolute, all_different, all_of, any_of, at_least, at_most, binary, bool, chain, compare, comprehension, domain_and, end_at, every_and, factorial, flatten, folded, gcc, generator_and, group, group_domain, in_domain, in_set, index_and, int, lex, literal, matrix_domain, minus, named, named_domain, negation, no_domains, no_end, no_generators, no_indices, no_ranges, no_terms, no_trees, number, one_and, over, quantified, ranges, read, set_domain, span_and, table, term_and, to_int, tree_and, truth, unstated}

@@ -1,5 +1,5 @@
 -- Which bytes may stand side by side in a token, and so where a token ends.
-use Rattle.std.proofs.Common.{◌≡◌, ℕ, zero, suc, ◌+◌, ◌<◌, ◌≤◌, Bool, true, false, not, ◌&&◌, ◌||◌, List, [], ◌∷◌, ◌++◌, length, take, drop, refl, sym, ap, ◌∙◌, ⊎_elim, inr, arith, length-append}
+use Rattle.std.proofs.Common.{◌≡◌, ℕ, zero, suc, ◌<◌, ◌≤◌, Bool, true, false, not, ◌&&◌, ◌||◌, List, [], ◌∷◌, ◌++◌, length, take, drop, refl, sym, ap, ◌∙◌, ⊎_elim, inr, arith, length-append}
 use Rattle.std.specs.Prelude.{◌==◌, ℕ, length}
 use Rattle.std.specs.List.{list_all, list_any}
 use Rattle.std.specs.Char.{is_ascii_digit}
@@ -7,7 +7,7 @@ use Rattle.std.proofs.lemmas.Bool.{and_from, and_parts, false_from_ne_true, fals
 use Rattle.std.proofs.lemmas.Bool.Decides.{nat_tests}
 use Rattle.std.proofs.Math.Seq.{take-append_seam}
 use Rattle.ep_base.specs.TokenTexts.{begins_name, continues_name, is_name, is_number, is_one_of, is_symbol, is_token, is_word, list_comparisons, name_follows, symbols}
-use Rattle.ep_base.specs.Tokens.{greatest, token_len}
+use Rattle.ep_base.specs.Tokens.{token_len}
 use Rattle.ep_lexer.proofs.Fronts.{greatest_is, is_one_of-passes, is_word-is, words}
 
 -- the pairs of bytes that stand side by side in a symbol, the first and the second

@@ -1,20 +1,19 @@
 -- Pieces of spelling that several forms share: levels, calls, lists of words.
-use Rattle.std.proofs.Common.{◌≡◌, Bool, true, false, not, ◌&&◌, List, [], ◌∷◌, ◌++◌, codes, refl, sym, ap, ap₂, subst, ◌∙◌, append_assoc}
+use Rattle.std.proofs.Common.{◌≡◌, Bool, true, false, not, ◌&&◌, List, [], ◌∷◌, ◌++◌, codes, refl, sym, ap, subst, ◌∙◌, append_assoc}
 use Prim.Native.String.{String}
 use Rattle.ep_base.specs.declared.names.Name.{Name}
 use Rattle.ep_base.specs.declared.places.Place.{Place}
-use Rattle.ep_tree.specs.Phrases.{Choice, From, Is, Lexeme, Names, Phrase, Says, StartsAt, When, a_name, ◌followed_by◌}
-use Rattle.ep_tree.specs.Placeless.{placeless, placeless_domain, placeless_terms, placeless_trees}
-use Rattle.ep_tree.specs.Spelling.{At, Call1, Call2, Call3, Closed, ClosedBefore, DomainAt, DomainLevel, Infix, Level, OfNumbers, SpellsDomainNode, SpellsNode, Whole, domain_rank, ends_open, has_terms, has_trees, implications, own_domain_level, own_level, rank, set_operations, takes_own_group}
+use Rattle.ep_tree.specs.Phrases.{Choice, Lexeme, Names, Phrase, StartsAt}
+use Rattle.ep_tree.specs.Placeless.{placeless, placeless_domain}
+use Rattle.ep_tree.specs.Spelling.{At, Call1, Call2, Call3, Closed, ClosedBefore, DomainAt, DomainLevel, Infix, Level, SpellsDomainNode, SpellsNode, domain_rank, ends_open, own_domain_level, own_level, rank}
 use Rattle.std.specs.Prelude.{nat_le}
 use Rattle.std.proofs.lemmas.List.{append-nil}
-use Rattle.ep_tree.specs.Trees.{DomainTree, ExprTree, ExprTrees, Terms, place_of, place_of_domain}
+use Rattle.ep_tree.specs.Trees.{DomainTree, ExprTree, place_of, place_of_domain}
 use Rattle.ep_print.specs.Joining.{with_between}
 use Rattle.ep_print.specs.Words.{Words, binary_words, call_words, domain_words, expr_words, name_words, parted, word}
-use Rattle.ep_readback.proofs.Clearing.{domain_level_cleared, ends_cleared, has_terms_cleared, has_trees_cleared, level_cleared, own_group_cleared}
+use Rattle.ep_readback.proofs.Clearing.{domain_level_cleared, ends_cleared, level_cleared}
 use Rattle.ep_readback.proofs.Literals.{close_round, comma, open_round}
 use Rattle.ep_readback.proofs.Respelled.{Again, IsLiteral, Respelled, Twin, again_as, again_name, again_nothing, again_then, again_when, again_word, again_words, respelled_as}
-use Rattle.ep_readback.proofs.Said.{AreSaid}
 use Rattle.ep_readback.proofs.Scanned.{sayings, word_sayings}
 
 -- ---- a tree whose first token may stand anywhere

@@ -1,18 +1,13 @@
 -- Words that spell a phrase again: whatever tokens say them, something like what was spelled is spelled.
-use Rattle.std.proofs.Common.{◌≡◌, Bool, true, false, not, ◌&&◌, List, [], ◌∷◌, ◌++◌, map, ℤ, pos, codes, refl, sym, ap, ap₂, subst, ◌∙◌, inl, append_assoc}
-use Rattle.std.specs.Bool.{IsTrue}
+use Rattle.std.proofs.Common.{◌≡◌, Bool, true, List, [], ◌∷◌, ◌++◌, ℤ, pos, codes, refl, sym, ap, ap₂, subst, ◌∙◌}
 use Rattle.std.specs.Fmt.{signed_decimal}
 use Rattle.std.specs.List.{list_all}
 use Rattle.std.proofs.lemmas.Bool.{and_from}
-use Rattle.std.proofs.lemmas.List.{append-nil}
 use Rattle.std.proofs.lemmas.List.Folds.{list_all-append}
 use Prim.Native.String.{String}
 use Rattle.ep_base.specs.declared.names.Name.{Name}
-use Rattle.ep_base.specs.declared.places.Place.{Place}
-use Rattle.ep_tree.specs.Phrases.{From, Is, Lexeme, Names, Nothing, Phrase, Says, Saying, Silence, StartsAt, When, a_name, a_number, a_word, ◌followed_by◌, ◌or_else◌}
-use Rattle.ep_tree.specs.Spelling.{Call1, Call2, Call3}
-use Rattle.ep_print.specs.Joining.{with_between}
-use Rattle.ep_print.specs.Words.{Words, call_words, name_words, parted, word}
+use Rattle.ep_tree.specs.Phrases.{Is, Lexeme, Nothing, Phrase, Says, Saying, Silence, When, a_name, a_number, a_word, ◌followed_by◌}
+use Rattle.ep_print.specs.Words.{Words, word}
 use Rattle.ep_readback.proofs.Said.{AreSaid, CanSay, is_written, name_says, name_written, numbered, said_parts}
 use Rattle.ep_readback.proofs.Scanned.{sayings, word_saying, word_sayings}
 

@@ -1,16 +1,16 @@
 -- What the tokens of a text may say, and how a word says it.
-use Rattle.std.proofs.Common.{◌≡◌, ℕ, zero, suc, ◌+◌, ◌^◌, ◌<◌, ◌≤◌, Bool, true, false, not, ◌&&◌, ◌||◌, List, [], ◌∷◌, ◌++◌, length, map, get_or, ℤ, pos, Result, Ok, refl, sym, ap, subst, ◌∙◌, ⊎_elim, arith}
-use Rattle.std.specs.Prelude.{codes, nat_lt}
+use Rattle.std.proofs.Common.{◌≡◌, ℕ, suc, ◌^◌, ◌<◌, ◌≤◌, Bool, true, false, not, ◌&&◌, ◌||◌, List, [], ◌∷◌, ◌++◌, length, get_or, pos, Ok, refl, sym, ap, arith}
+use Rattle.std.specs.Prelude.{nat_lt}
 use Rattle.std.specs.Char.{digit_value, is_ascii_digit}
 use Rattle.std.specs.Fmt.{decimal}
 use Rattle.std.specs.List.{list_all}
 use Rattle.std.specs.Str.Parse.{AllDigits, IsNumeral, digits_value}
 use Rattle.std.proofs.Math.Nat.{pow-le-pow_right}
-use Rattle.std.proofs.lemmas.Bool.{and_from, and_left, and_parts, false_from_ne_true, false≢true, ltb-false}
+use Rattle.std.proofs.lemmas.Bool.{and_from, and_left, and_parts, false≢true, ltb-false}
 use Rattle.std.proofs.lemmas.Bool.Decides.{nat_tests}
 use Rattle.std.proofs.lemmas.Fmt.{decimal_is_IsNumeral, length-decimal-le}
 use Rattle.std.proofs.lemmas.Int.Digits.{digits_value-lt}
-use Rattle.ep_base.specs.TokenTexts.{begins_name, continues_name, is_name, is_number, is_symbol, is_token, is_word, kind_of}
+use Rattle.ep_base.specs.TokenTexts.{begins_name, is_name, is_number, is_symbol, is_token, is_word, kind_of}
 use Rattle.ep_base.specs.Tokens.{separates, token_text, tokens_of}
 use Rattle.ep_base.specs.declared.tokens.Token.{Token}
 use Rattle.ep_base.specs.declared.tokens.TokenKind.{TokenKind}

@@ -1,15 +1,14 @@
 -- Texts whose tokens are known: words, blanks and comments, one after another.
-use Rattle.std.proofs.Common.{◌≡◌, ℕ, zero, suc, ◌+◌, ◌-◌, ◌<◌, ◌≤◌, Bool, true, false, cond, not, ◌&&◌, ◌||◌, List, [], ◌∷◌, ◌++◌, length, map, take, drop, Option, Some, None, Result, Ok, Err, refl, sym, ap, subst, ◌∙◌, arith, append_assoc, length-append}
+use Rattle.std.proofs.Common.{◌≡◌, ℕ, zero, suc, ◌+◌, ◌-◌, ◌<◌, ◌≤◌, Bool, true, false, cond, not, ◌&&◌, List, [], ◌∷◌, ◌++◌, length, map, take, drop, Some, None, Ok, Err, refl, sym, ap, subst, ◌∙◌, arith, append_assoc, length-append}
 use Rattle.std.specs.Prelude.{◌==◌, nat_le, nat_lt, slice_range}
 use Rattle.std.specs.List.{list_all}
-use Rattle.std.proofs.lemmas.Bool.{and_parts, cond-false, eqb-false, false_from_ne_true, false≢true, leb-true, eqb-true}
+use Rattle.std.proofs.lemmas.Bool.{and_parts, cond-false, false_from_ne_true, false≢true, leb-true, eqb-true}
 use Rattle.std.proofs.Math.Seq.{take-append_seam}
-use Rattle.std.proofs.lemmas.List.{append-nil}
 use Rattle.ep_base.specs.TokenTexts.{is_number, is_token, kind_of}
-use Rattle.ep_base.specs.Tokens.{TokenFault, BadByte, LongNumber, begins_comment, followed_by, gap_len, in_comment_after, is_blank, is_line_end, place_at, separates, token_at, token_len, token_text, tokens_from, tokens_of, with_first}
+use Rattle.ep_base.specs.Tokens.{TokenFault, BadByte, LongNumber, followed_by, gap_len, in_comment_after, is_line_end, place_at, separates, token_at, token_len, tokens_from, tokens_of, with_first}
 use Rattle.ep_base.specs.declared.tokens.Token.{Token}
 use Rattle.ep_base.proofs.TokenLaws.{enough_tokens}
-use Rattle.ep_tree.specs.Phrases.{Lexeme, Saying, lexeme_of, lexemes_of, saying_of}
+use Rattle.ep_tree.specs.Phrases.{Lexeme, Saying, lexemes_of, saying_of}
 use Rattle.ep_print.specs.Words.{Words}
 use Rattle.ep_readback.proofs.Glue.{ends_before, word_len}
 

@@ -1,19 +1,18 @@
 -- Expressions and domains are spelled again by their words.
-use Rattle.std.proofs.Common.{◌≡◌, Bool, true, false, not, ◌&&◌, List, [], ◌∷◌, ◌++◌, codes, refl, sym, ap, ap₂, subst, ◌∙◌, inl, append_assoc}
-use Rattle.std.proofs.lemmas.List.{append-nil}
+use Rattle.std.proofs.Common.{◌≡◌, Bool, true, ◌&&◌, List, [], ◌∷◌, ◌++◌, codes, refl, sym, ap, ap₂, subst, ◌∙◌, inl, append_assoc}
 use Prim.Native.String.{String}
-use Rattle.ep_tree.specs.Phrases.{Lexeme, Names, Phrase, Says, Silence, When, ◌followed_by◌, ◌or_else◌}
+use Rattle.ep_tree.specs.Phrases.{Lexeme, Says, ◌followed_by◌}
 use Rattle.ep_tree.specs.Placeless.{placeless, placeless_domain, placeless_domains, placeless_end, placeless_generators, placeless_index, placeless_indices, placeless_ranges, placeless_terms, placeless_trees, somewhere}
-use Rattle.ep_tree.specs.Spelling.{At, BetweenDomains, BetweenIndices, Call1, ClosedBefore, Infix, Level, MatrixHead, MatrixTail, OfNumbers, Spells, SpellsChain, SpellsDomain, SpellsDomainNode, SpellsEnd, SpellsGenerators, SpellsIndexDomain, SpellsIndexDomains, SpellsIndices, SpellsLastIndices, SpellsList, SpellsMore, SpellsMoreGenerators, SpellsMoreIndexDomains, SpellsMoreIndices, SpellsMoreParts, SpellsMoreRanges, SpellsNode, SpellsParts, SpellsRanges, SpellsTerms, Whole, binary_level, binary_word, compare_word, comparisons, conjunctions, domains, fold_word, has_terms, has_trees, implications, is_called, lex_word, products, quantifier_word, reads, set_operations, set_parts, set_word, sign_word, sums, takes_own_group, tighter, truth_word, unaries}
+use Rattle.ep_tree.specs.Spelling.{BetweenDomains, BetweenIndices, ClosedBefore, Level, MatrixHead, MatrixTail, Spells, SpellsChain, SpellsDomain, SpellsDomainNode, SpellsEnd, SpellsIndexDomain, SpellsIndexDomains, SpellsIndices, SpellsLastIndices, SpellsList, SpellsMore, SpellsMoreGenerators, SpellsMoreIndexDomains, SpellsMoreIndices, SpellsMoreParts, SpellsMoreRanges, SpellsNode, SpellsParts, SpellsRanges, SpellsTerms, binary_level, binary_word, compare_word, comparisons, conjunctions, domains, fold_word, has_terms, has_trees, implications, is_called, lex_word, products, quantifier_word, reads, set_operations, set_parts, set_word, sign_word, sums, takes_own_group, tighter, truth_word, unaries}
 use Rattle.ep_tree.specs.Trees.{DomainTree, Domains, End, ExprTree, ExprTrees, Generators, IndexDomain, Indices, Ranges, Terms, absolute, all_different, all_of, any_of, at_least, at_most, binary, bool, chain, compare, comprehension, domain_and, end_at, every_and, factorial, flatten, folded, gcc, generator_and, group, group_domain, in_domain, in_set, index_and, int, lex, literal, matrix_domain, minus, named, named_domain, negation, no_domains, no_end, no_generators, no_indices, no_ranges, no_terms, no_trees, number, one_and, over, place_of, place_of_domain, quantified, ranges, read, set_domain, span_and, table, term_and, to_int, tree_and, truth, unstated}
 use Rattle.ep_tree.specs.declared.syntax.BinaryOp.{BinaryOp}
 use Rattle.ep_print.specs.Joining.{with_between}
-use Rattle.ep_print.specs.Words.{Words, all_domain_words, all_words, binary_words, call_words, chain_words, domain_words, end_words, expr_words, generator_words, index_domain_words, index_words, name_words, parted, range_words, term_words, word}
+use Rattle.ep_print.specs.Words.{Words, all_domain_words, all_words, binary_words, chain_words, domain_words, end_words, expr_words, generator_words, index_domain_words, index_words, name_words, parted, range_words, term_words, word}
 use Rattle.ep_readback.proofs.Clearing.{has_terms_cleared, has_trees_cleared, own_group_cleared}
 use Rattle.ep_readback.proofs.Literals as literals
 use Rattle.ep_readback.proofs.Literals.{binary_literal, compare_literal, fold_literal, lex_literal, quantifier_literal, set_literal, sign_literal, truth_literal}
-use Rattle.ep_readback.proofs.Pieces.{Built, BuiltDomain, Node, again_names, at_level, behind, behind-append, binary_again, call1, call2, call3, closed, closed_before, domain_at_level, domain_node, has_words, infix_again, joined_behind, kept, node}
-use Rattle.ep_readback.proofs.Respelled.{Again, IsLiteral, Twin, again_as, again_name, again_none, again_nothing, again_number, again_then, again_when, again_word, again_words, always, respelled_as, respelled_none, respelled_word}
+use Rattle.ep_readback.proofs.Pieces.{Built, BuiltDomain, again_names, at_level, behind, behind-append, binary_again, call1, call2, call3, closed, closed_before, domain_at_level, domain_node, has_words, infix_again, joined_behind, kept, node}
+use Rattle.ep_readback.proofs.Respelled.{Again, IsLiteral, Twin, again_as, again_name, again_none, again_nothing, again_number, again_then, again_when, again_word, again_words, always, respelled_as, respelled_word}
 
 -- ---- something is written of each
 

@@ -1,5 +1,5 @@
 -- Statements and whole models are spelled again by their words.
-use Rattle.std.proofs.Common.{◌≡◌, ℕ, ◌+◌, ◌≤◌, cond, Bool, true, false, not, ◌&&◌, List, [], ◌∷◌, ◌++◌, length, map, codes, refl, sym, ap, ap₂, subst, ◌∙◌, inl, pos, append_assoc, Option, Some, None}
+use Rattle.std.proofs.Common.{◌≡◌, ℕ, ◌+◌, cond, List, [], ◌∷◌, ◌++◌, map, codes, refl, ap, ap₂, ◌∙◌, inl, pos, Option, Some, None}
 use Rattle.std.specs.List.{flat_map, fold}
 use Rattle.std.specs.Option.{option_map}
 use Rattle.std.specs.Prelude.{count_by, nat_le}
@@ -7,18 +7,18 @@ use Rattle.std.proofs.lemmas.List.{append-nil}
 use Rattle.ep_base.specs.declared.names.Name.{Name}
 use Rattle.ep_base.specs.declared.operators.Sense.{Sense}
 use Rattle.ep_base.specs.declared.places.Place.{Place}
-use Rattle.ep_tree.specs.Phrases.{From, Is, Lexeme, Phrase, PlacedNames, Says, Silence, StartsAt, When, a_name, a_number, ◌followed_by◌, ◌or_else◌}
+use Rattle.ep_tree.specs.Phrases.{From, Is, Lexeme, Phrase, PlacedNames, Says, Silence, a_name, a_number, ◌followed_by◌, ◌or_else◌}
 use Rattle.ep_tree.specs.Placeless.{placeless, placeless_domain, placeless_group, placeless_name, placeless_statement, somewhere}
-use Rattle.ep_tree.specs.Spelling.{Spells, SpellsDomain, domains, implications}
+use Rattle.ep_tree.specs.Spelling.{Spells, implications}
 use Rattle.ep_tree.specs.StatementSpelling.{LanguageLine, SaysBe, SpellsExpressions, SpellsGroup, SpellsGroups, SpellsModel, SpellsNames, SpellsSense, SpellsStated, SpellsStatement, SpellsStatements, is_objective}
 use Rattle.ep_tree.specs.Statements.{Group, StatementTree, TextTree, branching, constraints, decided, domain_letting, given, heuristic, letting, objective, requirements}
 use Rattle.ep_tree.specs.Trees.{DomainTree, ExprTree}
 use Rattle.ep_print.specs.Joining.{with_between}
-use Rattle.ep_print.specs.Words.{Words, domain_words, expr_words, group_words, name_words, parted, placed_words, sense_word, stated_words, statement_words, word}
+use Rattle.ep_print.specs.Words.{Words, expr_words, group_words, parted, placed_words, sense_word, stated_words, statement_words, word}
 use Rattle.ep_readback.proofs.Clearing.{objective_cleared}
 use Rattle.ep_readback.proofs.Literals as literals
 use Rattle.ep_readback.proofs.Literals.{one_digit, sense_literal, zero_digit}
-use Rattle.ep_readback.proofs.Pieces.{domain_at_level, kept}
+use Rattle.ep_readback.proofs.Pieces.{kept}
 use Rattle.ep_readback.proofs.Respelled.{Again, Respelled, Twin, again_as, again_name, again_none, again_nothing, again_then, again_when, again_word, again_words, always, respelled_as, respelled_is, respelled_none, respelled_then, respelled_word}
 use Rattle.ep_readback.proofs.Spelled.{domain_whole, expr_whole}
 use Rattle.ep_readback.proofs.Scanned.{sayings, word_sayings}

@@ -1,21 +1,18 @@
 -- The tokens of a value's text are the words of its expression.
-use Rattle.std.proofs.Common.{◌≡◌, ℕ, suc, ◌+◌, ◌^◌, ◌<◌, Bool, true, false, cond, not, ◌&&◌, ◌||◌, List, [], ◌∷◌, ◌++◌, codes, map, ℤ, pos, negsuc, refl, sym, ap, ap₂, subst, ◌∙◌, append_assoc, arith}
+use Rattle.std.proofs.Common.{◌≡◌, ℕ, suc, ◌^◌, ◌<◌, Bool, true, false, cond, not, ◌&&◌, ◌||◌, List, [], ◌∷◌, ◌++◌, codes, map, ℤ, pos, negsuc, refl, sym, ap, subst, ◌∙◌, append_assoc, arith}
 use Rattle.std.specs.Prelude.{◌==◌}
 use Rattle.std.specs.Char.{is_ascii_digit}
 use Rattle.std.specs.Fmt.{decimal, digits, signed_decimal}
 use Rattle.std.specs.List.{list_all, list_any}
 use Rattle.std.specs.Ordering.{int_eq}
-use Rattle.std.proofs.lemmas.Bool.{and_from, and_parts, eqb-true, false_from_ne_true, false≢true, ltb-true}
+use Rattle.std.proofs.lemmas.Bool.{and_parts, eqb-true, false_from_ne_true, false≢true, ltb-true}
 use Rattle.std.proofs.lemmas.Bool.Decides.{nat_tests}
 use Rattle.ep_base.specs.TokenTexts.{continues_name, is_name, is_number, is_symbol, is_token, is_word}
-use Rattle.ep_tree.specs.Spelling.{truth_word}
-use Rattle.ep_tree.specs.Trees.{DomainTree, ExprTree, Ranges, end_at, literal, minus, no_ranges, no_trees, number, one_and, over, ranges, span_and, tree_and, truth}
-use Rattle.ep_tree.specs.Values.{ValueTree, ValueTrees, matrix, no_values, single, value_and}
-use Rattle.ep_tree.specs.declared.values.Scalar.{Scalar}
+use Rattle.ep_tree.specs.Trees.{ExprTree, Ranges, end_at, one_and, span_and}
 use Rattle.ep_print.specs.Joining.{with_between}
-use Rattle.ep_print.specs.Values.{Stretch, indices_text, run_text, runs_of, scalar_text, scalar_value_text, scalar_value_texts}
-use Rattle.ep_print.specs.Words.{Words, all_words, domain_words, expr_words, index_domain_words, parted, range_words, word}
-use Rattle.ep_readback.specs.Answered.{are_short_values, has_few_digits, indices_domain, is_short_value, number_expr, run_and, run_ranges, scalar_expr, value_expr, value_exprs}
+use Rattle.ep_print.specs.Values.{Stretch, indices_text, run_text, runs_of}
+use Rattle.ep_print.specs.Words.{Words, domain_words, expr_words, parted, range_words, word}
+use Rattle.ep_readback.specs.Answered.{has_few_digits, indices_domain, number_expr, run_and, run_ranges}
 use Rattle.ep_readback.proofs.Glue.{ends_before, joins, last_byte, symbol_pairs}
 use Rattle.ep_readback.proofs.Literals.{the_tokens}
 use Rattle.ep_readback.proofs.Pieces.{behind, joined_behind}

@@ -1,19 +1,18 @@
 -- The words of a value's expression spell it.
-use Rattle.std.proofs.Common.{◌≡◌, ℕ, suc, ◌+◌, ◌^◌, ◌<◌, Bool, true, false, cond, ◌&&◌, List, [], ◌∷◌, ◌++◌, codes, map, ℤ, pos, negsuc, ◌+ℤ◌, refl, sym, ap, ap₂, subst, ◌∙◌, append_assoc}
-use Rattle.std.specs.Prelude.{nat_lt}
+use Rattle.std.proofs.Common.{◌≡◌, suc, ◌^◌, Bool, true, false, cond, ◌&&◌, List, [], ◌∷◌, ◌++◌, codes, ℤ, pos, negsuc, ◌+ℤ◌, refl, sym, ap, ap₂, ◌∙◌, append_assoc}
 use Rattle.std.specs.Fmt.{decimal}
 use Rattle.std.specs.List.{list_all}
 use Rattle.std.specs.Ordering.{int_eq}
 use Rattle.std.proofs.lemmas.Bool.{and_from, and_parts, ltb-true}
-use Rattle.ep_tree.specs.Phrases.{Lexeme, Says, Silence, a_number, ◌followed_by◌}
-use Rattle.ep_tree.specs.Placeless.{placeless, placeless_domain, placeless_end, placeless_index, placeless_ranges, placeless_trees, somewhere}
-use Rattle.ep_tree.specs.Spelling.{Spells, SpellsDomain, SpellsIndexDomain, SpellsList, SpellsMore, SpellsMoreRanges, SpellsNode, SpellsRanges, domain_rank, implications, own_domain_level, own_level, rank, set_operations, truth_word, unaries}
-use Rattle.ep_tree.specs.Trees.{DomainTree, ExprTree, ExprTrees, IndexDomain, Ranges, end_at, literal, minus, no_ranges, no_trees, number, one_and, over, place_of, place_of_domain, ranges, span_and, tree_and, truth}
+use Rattle.ep_tree.specs.Phrases.{a_number}
+use Rattle.ep_tree.specs.Placeless.{placeless, placeless_domain, placeless_ranges, placeless_trees, somewhere}
+use Rattle.ep_tree.specs.Spelling.{Spells, SpellsDomain, SpellsList, SpellsMore, SpellsMoreRanges, SpellsNode, SpellsRanges, domain_rank, implications, own_domain_level, own_level, rank, set_operations, truth_word, unaries}
+use Rattle.ep_tree.specs.Trees.{DomainTree, ExprTree, ExprTrees, Ranges, end_at, literal, minus, no_ranges, no_trees, number, one_and, over, place_of, place_of_domain, ranges, span_and, tree_and, truth}
 use Rattle.ep_tree.specs.Values.{ValueTree, ValueTrees, matrix, no_values, single, value_and}
 use Rattle.ep_tree.specs.declared.values.Scalar.{Scalar}
 use Rattle.ep_print.specs.Joining.{with_between}
 use Rattle.ep_print.specs.Values.{Stretch, runs_of, stretch_from}
-use Rattle.ep_print.specs.Words.{all_words, domain_words, expr_words, index_domain_words, parted, range_words, word}
+use Rattle.ep_print.specs.Words.{all_words, domain_words, expr_words, parted, range_words, word}
 use Rattle.ep_readback.specs.Answered.{are_short_values, has_few_digits, indices_domain, is_short_value, number_expr, run_and, run_ranges, scalar_expr, value_expr, value_exprs}
 use Rattle.ep_readback.proofs.Literals as literals
 use Rattle.ep_readback.proofs.Literals.{truth_literal}

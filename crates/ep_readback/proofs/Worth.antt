@@ -1,8 +1,8 @@
 -- The expression that stands for a value has that value.
-use Rattle.std.proofs.Common.{◌≡◌, ℕ, zero, suc, ◌+◌, ◌<◌, ◌≤◌, ◌==◌, Bool, true, false, cond, ◌||◌, List, [], ◌∷◌, length, ℤ, pos, negsuc, neg_ℤ, ◌+ℤ◌, ◌-ℤ◌, ◌<ℤ◌, ◌≤ℤ◌, Option, Some, None, refl, sym, ap, ap₂, subst, ◌∙◌, arith, add-one}
-use Rattle.std.specs.Prelude.{int_lt, map, option_map, option_and_then, IsTrue}
+use Rattle.std.proofs.Common.{◌≡◌, suc, ◌==◌, Bool, true, false, cond, ◌||◌, List, [], ◌∷◌, length, ℤ, pos, negsuc, ◌+ℤ◌, ◌-ℤ◌, ◌<ℤ◌, ◌≤ℤ◌, Some, refl, sym, ap, ap₂, ◌∙◌, arith, add-one}
+use Rattle.std.specs.Prelude.{int_lt, option_map, IsTrue}
 use Rattle.std.specs.Ordering.{int_eq}
-use Rattle.std.proofs.lemmas.Bool.{eq-eqb, cases_Bool, cond-true, cond-false}
+use Rattle.std.proofs.lemmas.Bool.{eq-eqb, cond-true}
 use Rattle.std.proofs.lemmas.Bool.Decides.{Decides-int_eq}
 use Rattle.std.proofs.lemmas.Int.{ints}
 use Rattle.ep_base.specs.Numbers.{of_bool}
@@ -10,7 +10,7 @@ use Rattle.ep_base.specs.Runs.{IsAscending, counting, or_zero}
 use Rattle.ep_base.proofs.Ascending.{ascending_tail}
 use Rattle.ep_tree.specs.Domains.{between, count_between, put_in, united}
 use Rattle.ep_tree.specs.Environments.{Env}
-use Rattle.ep_tree.specs.Evaluation.{domain_values, end_value, evaluate, index_values, map_both, matrix_value, number_in, on_both, range_values, values_of}
+use Rattle.ep_tree.specs.Evaluation.{domain_values, evaluate, index_values, map_both, matrix_value, number_in, on_both, range_values, values_of}
 use Rattle.ep_tree.specs.TypedValues.{is_number_of}
 use Rattle.ep_tree.specs.Trees.{DomainTree, ExprTree, ExprTrees, Ranges, end_at, no_trees, one_and, over, span_and, tree_and}
 use Rattle.ep_tree.specs.Values.{ValueTree, ValueTrees, all_defined, as_parts, listed_values, matrix, no_values, single, value_and, with_indices}

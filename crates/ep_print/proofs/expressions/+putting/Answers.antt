@@ -1,7 +1,6 @@
 use Rattle.std.proofs.Common.{ℕ, [], ◌∷◌, ◌==◌, codes, length, ap, not, sym, ◌∙◌}
 use Rattle.std.specs.declared.alloc.Global.{Global}
 use Rattle.std.specs.declared.vec.Vec.{Vec}
-use Rattle.ep_tree.specs.Spelling.{is_called}
 use Rattle.ep_print.proofs.Arms.{all_of_pieces, any_of_pieces, at_least_pieces, at_most_pieces, called_pieces, chain_end, chain_pieces, chain_turn, compare_pieces, comprehension_pieces, domains_listed, gcc_pieces, generators_listed, in_domain_pieces, in_set_pieces, index_turn, indices_listed, infix_pieces, last1, last2, last3, last4, lex_pieces, literal_pieces, matrix_pieces, no_index, parts_listed, puts_three, quantified_pieces, ranges_listed, ranges_pieces, read_pieces, set_pieces, some_index, span_pieces, table_pieces}
 use Rattle.ep_print.proofs.Puts.{puts_both}
 use Rattle.ep_print.proofs.Turns.{turn, turns_end}
