@@ -11,14 +11,14 @@ use Rattle.ep_words.specs.Commands.{IsCommand}
 use Rattle.ep_words.specs.declared.job.Job.{Job}
 use Rattle.ep_run.specs.Answers.{Answers}
 use Rattle.ep_run.specs.Commands.{Want, wanted_of}
-use Rattle.ep_run.specs.Outcomes.{Outcome, Task, solve_outcome, verify_outcome}
+use Rattle.ep_run.specs.Outcomes.{Outcome, Task, search_outcome, verify_outcome}
 use Rattle.ep_run.specs.Readings.{AreParams, IsHeldReadAs, IsReadAs, spells_in, tree_or_refusal}
-use Rattle.ep_run.specs.Shown.{Ask, ComesTo, Refuse, Show, ThenShows, comes_to_judge, comes_to_solve, comes_to_verify}
+use Rattle.ep_run.specs.Shown.{Ask, ComesTo, Refuse, Show, ThenShows, comes_to_judge, comes_to_search, comes_to_verify}
 use Rattle.ep_run.specs.Status.{HasReply, status_of}
 use Rattle.ep_run.specs.declared.status.Status.{Status}
 use Rattle.ep_run.specs.declared.wanted.Wanted.{Wanted}
 use Rattle.ep_run.proofs.Promises.{ended-status, usage-told}
-use Rattle.ep_run.proofs.Saying.{Case, answer, faulty, no_command, unread}
+use Rattle.ep_run.proofs.Saying.{Case, answer, faulty, no_command, unread, unwritten}
 
 -- a text is read as one thing alone
 abbrev pub OneAnswer : (TextFile) → Type 0
@@ -64,9 +64,9 @@ pub record TextsAreOnce : Type 0 where
   pub solution : OneAnswer TextFile.Solution
 
 comes-once : TextsAreOnce → (wanted : Wanted) (held : Held) (a b : Outcome Task) → ComesTo wanted held a → ComesTo wanted held b → a ≡ b
-comes-once texts (Wanted.Solve model params conflicts) held a b g h =
-    then-once (IsReadAs held TextFile.Model model) (λ m. comes_to_solve conflicts params m held) (file-once TextFile.Model texts.model model held)
-    (λ m. then-once (AreParams held params) (λ p outcome. outcome ≡ solve_outcome conflicts m p) (params-once texts.params params held) (λ p x y e f. e ∙ sym f))
+comes-once texts (Wanted.Search model params request output) held a b g h =
+    then-once (IsReadAs held TextFile.Model model) (λ m. comes_to_search request params m held) (file-once TextFile.Model texts.model model held)
+    (λ m. then-once (AreParams held params) (λ p outcome. outcome ≡ search_outcome request m p) (params-once texts.params params held) (λ p x y e f. e ∙ sym f))
     a b g h
 comes-once texts (Wanted.Verify model params solution) held a b g h =
     then-once (IsReadAs held TextFile.Model model) (λ m. comes_to_verify params solution m held) (file-once TextFile.Model texts.model model held)
@@ -107,13 +107,14 @@ asked-not-refused words once held task r ask refuse =
 abbrev pub Ended : Status → Type 0
 Ended s = (s ≡ Status.Memory) ⊎ HasReply s
 
-pub answers-said : (words : List (List ℕ)) (told : Option Held) (rose : Type 0) (status : Status) (text : List ℕ) (log : LogState) → ShownOnce words → Case words told rose status text log → ¬ rose → IfSome told (λ held. (task : Task) → Ask words held task → Ended status)
-answers-said words None rose status text log once case calm = tt
-answers-said words (Some held) rose status text log once (no_command s t nothing none) calm = λ task ask. absurd (asked-not-refused words once held task Refusal.Usage ask (usage-told words (Some held) none))
-answers-said words (Some held) rose status text log once (answer wanted want ends shown) calm = λ task ask. inr (ended-status wanted status log ends)
-answers-said words (Some held) rose status text log once (faulty wanted want r s t nothing of_text shown) calm = λ task ask. absurd (asked-not-refused words once held task r ask shown)
-answers-said words (Some held) rose status text log once (unread name s t nothing failed why) calm = λ task ask.
+pub answers-said : (words : List (List ℕ)) (told after : Option Held) (rose : Type 0) (status : Status) (text : List ℕ) (log : LogState) → ShownOnce words → Case words told after rose status text log → ¬ rose → IfSome told (λ held. (task : Task) → Ask words held task → Ended status)
+answers-said words None after rose status text log once case calm = tt
+answers-said words (Some held) after rose status text log once (no_command s t nothing kept none) calm = λ task ask. absurd (asked-not-refused words once held task Refusal.Usage ask (usage-told words (Some held) none))
+answers-said words (Some held) after rose status text log once (answer wanted want ends shown put) calm = λ task ask. inr (ended-status wanted status log ends)
+answers-said words (Some held) after rose status text log once (faulty wanted want r s t nothing kept of_text shown) calm = λ task ask. absurd (asked-not-refused words once held task r ask shown)
+answers-said words (Some held) after rose status text log once (unread name s t nothing kept failed why) calm = λ task ask.
     elim why [ inl up ↦ absurd (calm up) | inr missing ↦ absurd (asked-not-refused words once held task (Refusal.CannotRead name) ask missing) ]
+answers-said words (Some held) after rose status text log once (unwritten name s t sound failed) calm = λ task ask. absurd (calm failed.0)
 
 abbrev pub Refused : Status → List Refusal → Type 0
 Refused s refusals = (s ≡ Status.Memory) ⊎ ((r : Refusal) × Contains refusals r × (s ≡ status_of r))
@@ -128,19 +129,21 @@ answered-not : (words : List (List ℕ)) → ShownOnce words → (held : Held) (
 answered-not words once held status text log refusals shown show =
     let e = once held (Ok shown.0) (Err refusals) shown.1 show in absurd cc
 
-pub refuses-said : (words : List (List ℕ)) (told : Option Held) (rose : Type 0) (status : Status) (text : List ℕ) (log : LogState) → ShownOnce words → Case words told rose status text log → ¬ rose → IfSome told (λ held. (refusals : List Refusal) → Show words held (Err refusals) → Refused status refusals)
+pub refuses-said : (words : List (List ℕ)) (told after : Option Held) (rose : Type 0) (status : Status) (text : List ℕ) (log : LogState) → ShownOnce words → Case words told after rose status text log → ¬ rose → IfSome told (λ held. (refusals : List Refusal) → Show words held (Err refusals) → Refused status refusals)
 unfolding status_of
-refuses-said words None rose status text log once case calm = tt
-refuses-said words (Some held) rose status text log once (no_command s t nothing none) calm = λ refusals show. refused-so words once held status refusals Refusal.Usage s (usage-told words (Some held) none) show
-refuses-said words (Some held) rose status text log once (answer wanted want ends shown) calm = λ refusals show. absurd (answered-not words once held status text log refusals shown show)
-refuses-said words (Some held) rose status text log once (faulty wanted want r s t nothing of_text shown) calm = λ refusals show. refused-so words once held status refusals r s shown show
-refuses-said words (Some held) rose status text log once (unread name s t nothing failed why) calm = λ refusals show.
+refuses-said words None after rose status text log once case calm = tt
+refuses-said words (Some held) after rose status text log once (no_command s t nothing kept none) calm = λ refusals show. refused-so words once held status refusals Refusal.Usage s (usage-told words (Some held) none) show
+refuses-said words (Some held) after rose status text log once (answer wanted want ends shown put) calm = λ refusals show. absurd (answered-not words once held status text log refusals shown show)
+refuses-said words (Some held) after rose status text log once (faulty wanted want r s t nothing kept of_text shown) calm = λ refusals show. refused-so words once held status refusals r s shown show
+refuses-said words (Some held) after rose status text log once (unread name s t nothing kept failed why) calm = λ refusals show.
     elim why [ inl up ↦ absurd (calm up) | inr missing ↦ refused-so words once held status refusals (Refusal.CannotRead name) s missing show ]
+refuses-said words (Some held) after rose status text log once (unwritten name s t sound failed) calm = λ refusals show. absurd (calm failed.0)
 
 -- nothing is logged where a refusal stands
-pub unlogged-said : (words : List (List ℕ)) (told : Option Held) (rose : Type 0) (status : Status) (text : List ℕ) (log : LogState) → ShownOnce words → Case words told rose status text log → IfSome told (λ held. (refusals : List Refusal) → Show words held (Err refusals) → log ≡ empty_log)
-unlogged-said words None rose status text log once case = tt
-unlogged-said words (Some held) rose status text log once (no_command s t nothing none) = λ refusals show. nothing
-unlogged-said words (Some held) rose status text log once (answer wanted want ends shown) = λ refusals show. absurd (answered-not words once held status text log refusals shown show)
-unlogged-said words (Some held) rose status text log once (faulty wanted want r s t nothing of_text shown) = λ refusals show. nothing
-unlogged-said words (Some held) rose status text log once (unread name s t nothing failed why) = λ refusals show. nothing
+pub unlogged-said : (words : List (List ℕ)) (told after : Option Held) (rose : Type 0) (status : Status) (text : List ℕ) (log : LogState) → ShownOnce words → Case words told after rose status text log → IfSome told (λ held. (refusals : List Refusal) → Show words held (Err refusals) → log ≡ empty_log)
+unlogged-said words None after rose status text log once case = tt
+unlogged-said words (Some held) after rose status text log once (no_command s t nothing kept none) = λ refusals show. nothing
+unlogged-said words (Some held) after rose status text log once (answer wanted want ends shown put) = λ refusals show. absurd (answered-not words once held status text log refusals shown show)
+unlogged-said words (Some held) after rose status text log once (faulty wanted want r s t nothing kept of_text shown) = λ refusals show. nothing
+unlogged-said words (Some held) after rose status text log once (unread name s t nothing kept failed why) = λ refusals show. nothing
+unlogged-said words (Some held) after rose status text log once (unwritten name s t sound failed) = λ refusals show. let e = once held (Ok failed.2.0) (Err refusals) failed.2.1 show in absurd cc

@@ -1,23 +1,26 @@
 -- What a run promises, by the cases of what is said.
-use Rattle.std.proofs.Common.{◌≡◌, ◌≢◌, ℕ, ◌⊎◌, List, [], ◌∷◌, length, take, Option, Some, None, IfSome, IsSomeAnd, inl, inr, refl, sym, ap, subst, ◌∙◌, arith}
+use Rattle.std.proofs.Common.{◌≡◌, ◌≢◌, ℕ, ◌⊎◌, List, [], ◌∷◌, length, take, Option, Some, None, Bool, true, false, bytes_eq, if◌then◌else◌, IfSome, IsSomeAnd, inl, inr, refl, sym, ap, subst, ◌∙◌, arith}
 use Rattle.std.proofs.lemmas.List.{take_all}
+use Rattle.std.proofs.lemmas.Slice.Eq.{bytes_eq-Decides}
 use Rattle.cnf_core.specs.Events.{LogState}
 use Rattle.sat_search.specs.Logs.{IsSound}
 use Rattle.ep_solve.specs.Right.{IsSpent, empty_log}
-use Rattle.ep_base.specs.Outside.{Held, TookPart, with_more}
+use Rattle.ep_base.specs.Outside.{Held, SameElsewhere, TookPart, with_bytes, with_more}
 use Rattle.ep_print.specs.Refusals.{refusal_text}
 use Rattle.ep_print.specs.declared.refusals.Refusal.{Refusal}
 use Rattle.ep_run.specs.Answers.{Answers}
-use Rattle.ep_run.specs.Commands.{AreNoCommand, Want}
+use Rattle.ep_run.specs.Commands.{AreNoCommand, Want, conflicts_of, output_of}
 use Rattle.ep_run.specs.Outcomes.{Task}
-use Rattle.ep_run.specs.Puts.{IsFailedRead, IsShownText, MayBePut, TookFirst, device_line}
+use Rattle.ep_run.specs.Outputs.{HasOutput, IsOutput, SameButOutput, with_output}
+use Rattle.ep_run.specs.Puts.{HoldOnWant, IsDeviceLine, IsFailedRead, IsShownText, MayBePut, TookFirst, read_line}
 use Rattle.ep_run.specs.Shown.{Ask, Refuse, Refuses}
 use Rattle.ep_run.specs.Status.{HasReply, status_of}
 use Rattle.ep_run.specs.Steps.{IsEnd, IsOfText}
 use Rattle.ep_run.specs.declared.status.Status.{Status}
+use Rattle.ep_run.specs.declared.wanted.Request.{Request}
 use Rattle.ep_run.specs.declared.wanted.Wanted.{Wanted}
 use Rattle.ep_run.proofs.Refusing.{contains-first}
-use Rattle.ep_run.proofs.Saying.{Case, answer, faulty, no_command, unread}
+use Rattle.ep_run.proofs.Saying.{Case, answer, end-sound, faulty, no_command, nothing-sound, unread, unwritten}
 
 -- ---- kinds of ends, so that different ones are told apart
 
@@ -35,7 +38,7 @@ kind-ended : (s : Status) → HasReply s → kind s ≡ 0
 kind-ended s h = elim h [ inl e ↦ ap kind e | inr rest ↦ elim rest [ inl e ↦ ap kind e | inr e ↦ ap kind e ] ]
 
 kind-end : (wanted : Wanted) (s : Status) (log : LogState) → IsEnd wanted s log → kind s ≡ 0
-kind-end (Wanted.Solve _ _ _) s log h = elim h.1 [ inl e ↦ ap kind e | inr e ↦ ap kind e.0 ]
+kind-end (Wanted.Search _ _ _ _) s log h = elim h.1 [ inl e ↦ ap kind e | inr e ↦ ap kind e.0 ]
 kind-end (Wanted.Verify _ _ _) s log h = elim h.1 [ inl e ↦ ap kind e | inr e ↦ ap kind e ]
 
 kind-text : (r : Refusal) (s : Status) → s ≡ status_of r → IsOfText r → kind s ≡ 2
@@ -56,14 +59,14 @@ refused-not s n h k one two =
     ]
 
 pub ended-status : (wanted : Wanted) (s : Status) (log : LogState) → IsEnd wanted s log → HasReply s
-ended-status (Wanted.Solve _ _ _) s log h = elim h.1 [ inl e ↦ inl e | inr e ↦ inr (inl e.0) ]
+ended-status (Wanted.Search _ _ _ _) s log h = elim h.1 [ inl e ↦ inl e | inr e ↦ inr (inl e.0) ]
 ended-status (Wanted.Verify _ _ _) s log h = elim h.1 [ inl e ↦ inl e | inr e ↦ inr (inr e) ]
 
 -- ---- the clauses
 
-with-taken : (words : List (List ℕ)) (told : Option Held) (status : Status) (text : List ℕ) (log : LogState) (Took : List ℕ → Type 0) → Took text → IfSome told (λ held. (task : Task) × Ask words held task × Answers task status text log) → IfSome told (λ held. (task : Task) × (t : List ℕ) × Ask words held task × Answers task status t log × Took t)
-with-taken words None status text log Took took h = tt
-with-taken words (Some held) status text log Took took h = (h.0, text, h.1, h.2, took)
+with-taken : (words : List (List ℕ)) (told : Option Held) (status : Status) (text : List ℕ) (log : LogState) (Took Put : List ℕ → Type 0) → Took text → Put text → IfSome told (λ held. (task : Task) × Ask words held task × Answers task status text log) → IfSome told (λ held. (task : Task) × (t : List ℕ) × Ask words held task × Answers task status t log × Took t × Put t)
+with-taken words None status text log Took Put took put h = tt
+with-taken words (Some held) status text log Took Put took put h = (h.0, text, h.1, h.2, took, put)
 
 line-taken : (words : List (List ℕ)) (told : Option Held) (r : Refusal) (status : Status) (text : List ℕ) (Took : List ℕ → Type 0) → status ≡ status_of r → text ≡ refusal_text r → Took text → IfSome told (λ held. Refuse words held r) → IfSome told (λ held. (line : List ℕ) × Refuses words held status line × Took line)
 line-taken words None r status text Took s t took h = tt
@@ -73,153 +76,221 @@ pub usage-told : (words : List (List ℕ)) (told : Option Held) → AreNoCommand
 usage-told words None none = tt
 usage-told words (Some held) none = (Refusal.Usage ∷ [], inl (none, refl), contains-first Refusal.Usage [])
 
-pub when-answered : (words : List (List ℕ)) (told : Option Held) (rose : Type 0) (status : Status) (text : List ℕ) (log : LogState) (Took : List ℕ → Type 0) → Case words told rose status text log → Took text → HasReply status → IfSome told (λ held. (task : Task) × (t : List ℕ) × Ask words held task × Answers task status t log × Took t)
-when-answered words told rose status text log Took (no_command s t nothing none) took h = apart status 0 1 (kind-ended status h) (ap kind s) (λ e. cc)
-when-answered words told rose status text log Took (answer wanted want ends shown) took h = with-taken words told status text log Took took shown
-when-answered words told rose status text log Took (faulty wanted want r s t nothing of_text shown) took h = apart status 0 2 (kind-ended status h) (kind-text r status s of_text) (λ e. cc)
-when-answered words told rose status text log Took (unread name s t nothing failed why) took h = apart status 0 3 (kind-ended status h) (ap kind s) (λ e. cc)
+pub when-answered : (words : List (List ℕ)) (told after : Option Held) (rose : Type 0) (status : Status) (text : List ℕ) (log : LogState) (Took : List ℕ → Type 0) → Case words told after rose status text log → Took text → HasReply status
+    → IfSome told (λ held. (task : Task) × (t : List ℕ) × Ask words held task × Answers task status t log × Took t × HasOutput words t told after)
+when-answered words told after rose status text log Took (no_command s t nothing kept none) took h = apart status 0 1 (kind-ended status h) (ap kind s) (λ e. cc)
+when-answered words told after rose status text log Took (answer wanted want ends shown put) took h = with-taken words told status text log Took (λ t. HasOutput words t told after) took (wanted, want, put) shown
+when-answered words told after rose status text log Took (faulty wanted want r s t nothing kept of_text shown) took h = apart status 0 2 (kind-ended status h) (kind-text r status s of_text) (λ e. cc)
+when-answered words told after rose status text log Took (unread name s t nothing kept failed why) took h = apart status 0 3 (kind-ended status h) (ap kind s) (λ e. cc)
+when-answered words told after rose status text log Took (unwritten name s t sound failed) took h = apart status 0 3 (kind-ended status h) (ap kind s) (λ e. cc)
 
 -- that a solution is verified, and nothing is logged
 abbrev pub Verifies : List (List ℕ) → Type 0
 Verifies words = (model : List ℕ) × (params : Option (List ℕ)) × (solution : List ℕ) × Want words (Wanted.Verify model params solution)
 
-wants-verify : (words : List (List ℕ)) (wanted : Wanted) (status : Status) (log : LogState) → Want words wanted → IsEnd wanted status log → status ≡ Status.Refuted → Verifies words × (log ≡ empty_log)
-wants-verify words (Wanted.Solve model params conflicts) status log want ends e = elim ends.1 [ inl f ↦ let g = sym f ∙ e in absurd cc | inr f ↦ let g = sym f.0 ∙ e in absurd cc ]
-wants-verify words (Wanted.Verify model params solution) status log want ends e = ((model, params, solution, want), ends.0)
+wants-verify : (words : List (List ℕ)) (wanted : Wanted) (status : Status) (log : LogState) → Want words wanted → IsEnd wanted status log → status ≡ Status.Refuted → Verifies words × (log ≡ empty_log) × (output_of wanted ≡ None)
+unfolding output_of
+wants-verify words (Wanted.Search model params request output) status log want ends e = elim ends.1 [ inl f ↦ let g = sym f ∙ e in absurd cc | inr f ↦ let g = sym f.0 ∙ e in absurd cc ]
+wants-verify words (Wanted.Verify model params solution) status log want ends e = ((model, params, solution, want), ends.0, refl)
 
-pub when-refuted : (words : List (List ℕ)) (told : Option Held) (rose : Type 0) (status : Status) (text : List ℕ) (log : LogState) → Case words told rose status text log → status ≡ Status.Refuted → Verifies words × (log ≡ empty_log)
-when-refuted words told rose status text log (no_command s t nothing none) h = apart status 0 1 (ap kind h) (ap kind s) (λ e. cc)
-when-refuted words told rose status text log (answer wanted want ends shown) h = wants-verify words wanted status log want ends h
-when-refuted words told rose status text log (faulty wanted want r s t nothing of_text shown) h = apart status 0 2 (ap kind h) (kind-text r status s of_text) (λ e. cc)
-when-refuted words told rose status text log (unread name s t nothing failed why) h = apart status 0 3 (ap kind h) (ap kind s) (λ e. cc)
+pub when-refuted : (words : List (List ℕ)) (told after : Option Held) (rose : Type 0) (status : Status) (text : List ℕ) (log : LogState) → Case words told after rose status text log → status ≡ Status.Refuted → Verifies words
+when-refuted words told after rose status text log (no_command s t nothing kept none) h = apart status 0 1 (ap kind h) (ap kind s) (λ e. cc)
+when-refuted words told after rose status text log (answer wanted want ends shown put) h = (wants-verify words wanted status log want ends h).0
+when-refuted words told after rose status text log (faulty wanted want r s t nothing kept of_text shown) h = apart status 0 2 (ap kind h) (kind-text r status s of_text) (λ e. cc)
+when-refuted words told after rose status text log (unread name s t nothing kept failed why) h = apart status 0 3 (ap kind h) (ap kind s) (λ e. cc)
+when-refuted words told after rose status text log (unwritten name s t sound failed) h = apart status 0 3 (ap kind h) (ap kind s) (λ e. cc)
 
-pub when-refused : (words : List (List ℕ)) (told : Option Held) (rose : Type 0) (status : Status) (text : List ℕ) (log : LogState) (Took : List ℕ → Type 0) → Case words told rose status text log → Took text → IsRefused status → IfSome told (λ held. (line : List ℕ) × Refuses words held status line × Took line)
+pub when-refused : (words : List (List ℕ)) (told after : Option Held) (rose : Type 0) (status : Status) (text : List ℕ) (log : LogState) (Took : List ℕ → Type 0) → Case words told after rose status text log → Took text → IsRefused status → IfSome told (λ held. (line : List ℕ) × Refuses words held status line × Took line)
 unfolding status_of
-when-refused words told rose status text log Took (no_command s t nothing none) took h = line-taken words told Refusal.Usage status text Took s t took (usage-told words told none)
-when-refused words told rose status text log Took (answer wanted want ends shown) took h = refused-not status 0 h (kind-end wanted status log ends) (λ e. cc) (λ e. cc)
-when-refused words told rose status text log Took (faulty wanted want r s t nothing of_text shown) took h = line-taken words told r status text Took s t took shown
-when-refused words told rose status text log Took (unread name s t nothing failed why) took h = refused-not status 3 h (ap kind s) (λ e. cc) (λ e. cc)
+when-refused words told after rose status text log Took (no_command s t nothing kept none) took h = line-taken words told Refusal.Usage status text Took s t took (usage-told words told none)
+when-refused words told after rose status text log Took (answer wanted want ends shown put) took h = refused-not status 0 h (kind-end wanted status log ends) (λ e. cc) (λ e. cc)
+when-refused words told after rose status text log Took (faulty wanted want r s t nothing kept of_text shown) took h = line-taken words told r status text Took s t took shown
+when-refused words told after rose status text log Took (unread name s t nothing kept failed why) took h = refused-not status 3 h (ap kind s) (λ e. cc) (λ e. cc)
+when-refused words told after rose status text log Took (unwritten name s t sound failed) took h = refused-not status 3 h (ap kind s) (λ e. cc) (λ e. cc)
 
-pub when-usage : (words : List (List ℕ)) (told : Option Held) (rose : Type 0) (status : Status) (text : List ℕ) (log : LogState) → Case words told rose status text log → status ≡ Status.Usage → AreNoCommand words × (text ≡ refusal_text Refusal.Usage)
-when-usage words told rose status text log (no_command s t nothing none) h = (none, t)
-when-usage words told rose status text log (answer wanted want ends shown) h = apart status 1 0 (ap kind h) (kind-end wanted status log ends) (λ e. cc)
-when-usage words told rose status text log (faulty wanted want r s t nothing of_text shown) h = apart status 1 2 (ap kind h) (kind-text r status s of_text) (λ e. cc)
-when-usage words told rose status text log (unread name s t nothing failed why) h = apart status 1 3 (ap kind h) (ap kind s) (λ e. cc)
+pub when-usage : (words : List (List ℕ)) (told after : Option Held) (rose : Type 0) (status : Status) (text : List ℕ) (log : LogState) → Case words told after rose status text log → status ≡ Status.Usage → AreNoCommand words × (text ≡ refusal_text Refusal.Usage)
+when-usage words told after rose status text log (no_command s t nothing kept none) h = (none, t)
+when-usage words told after rose status text log (answer wanted want ends shown put) h = apart status 1 0 (ap kind h) (kind-end wanted status log ends) (λ e. cc)
+when-usage words told after rose status text log (faulty wanted want r s t nothing kept of_text shown) h = apart status 1 2 (ap kind h) (kind-text r status s of_text) (λ e. cc)
+when-usage words told after rose status text log (unread name s t nothing kept failed why) h = apart status 1 3 (ap kind h) (ap kind s) (λ e. cc)
+when-usage words told after rose status text log (unwritten name s t sound failed) h = apart status 1 3 (ap kind h) (ap kind s) (λ e. cc)
 
 missing-line : (words : List (List ℕ)) (told : Option Held) (name : List ℕ) → IsSomeAnd told (λ held. Refuse words held (Refusal.CannotRead name)) → IsSomeAnd told (λ held. (line : List ℕ) × Refuses words held Status.Device line)
 unfolding status_of
 missing-line words None name h = absurd h
-missing-line words (Some held) name h = (device_line name, (Refusal.CannotRead name, h, refl, refl))
+missing-line words (Some held) name h = (read_line name, (Refusal.CannotRead name, h, refl, refl))
 
 -- why a run ended for a device, when its text was put out
-pub why-device : (words : List (List ℕ)) (told : Option Held) (rose other : Type 0) (status : Status) (text : List ℕ) (log : LogState) → Case words told rose status text log → status ≡ Status.Device → rose ⊎ other ⊎ IsSomeAnd told (λ held. (line : List ℕ) × Refuses words held Status.Device line)
-why-device words told rose other status text log (no_command s t nothing none) h = apart status 3 1 (ap kind h) (ap kind s) (λ e. cc)
-why-device words told rose other status text log (answer wanted want ends shown) h = apart status 3 0 (ap kind h) (kind-end wanted status log ends) (λ e. cc)
-why-device words told rose other status text log (faulty wanted want r s t nothing of_text shown) h = apart status 3 2 (ap kind h) (kind-text r status s of_text) (λ e. cc)
-why-device words told rose other status text log (unread name s t nothing failed why) h =
+pub why-device : (words : List (List ℕ)) (told after : Option Held) (rose other : Type 0) (status : Status) (text : List ℕ) (log : LogState) → Case words told after rose status text log → status ≡ Status.Device → rose ⊎ other ⊎ IsSomeAnd told (λ held. (line : List ℕ) × Refuses words held Status.Device line)
+why-device words told after rose other status text log (no_command s t nothing kept none) h = apart status 3 1 (ap kind h) (ap kind s) (λ e. cc)
+why-device words told after rose other status text log (answer wanted want ends shown put) h = apart status 3 0 (ap kind h) (kind-end wanted status log ends) (λ e. cc)
+why-device words told after rose other status text log (faulty wanted want r s t nothing kept of_text shown) h = apart status 3 2 (ap kind h) (kind-text r status s of_text) (λ e. cc)
+why-device words told after rose other status text log (unread name s t nothing kept failed why) h =
     elim why [ inl up ↦ inl up | inr missing ↦ inr (inr (missing-line words told name missing)) ]
+why-device words told after rose other status text log (unwritten name s t sound failed) h = inl failed.0
 
-missing-taken : (words : List (List ℕ)) (told : Option Held) (name text : List ℕ) (Took : List ℕ → Type 0) → text ≡ device_line name → Took text → IsSomeAnd told (λ held. Refuse words held (Refusal.CannotRead name)) → IfSome told (λ held. (line : List ℕ) × Refuses words held Status.Device line × Took line)
+missing-taken : (words : List (List ℕ)) (told : Option Held) (name text : List ℕ) (Took : List ℕ → Type 0) → text ≡ read_line name → Took text → IsSomeAnd told (λ held. Refuse words held (Refusal.CannotRead name)) → IfSome told (λ held. (line : List ℕ) × Refuses words held Status.Device line × Took line)
 unfolding status_of
 missing-taken words None name text Took t took h = tt
 missing-taken words (Some held) name text Took t took h = (text, (Refusal.CannotRead name, h, refl, t), took)
 
-pub when-not-held : (words : List (List ℕ)) (told : Option Held) (rose : Type 0) (status : Status) (text : List ℕ) (log : LogState) (Took : List ℕ → Type 0) → Case words told rose status text log → Took text → status ≡ Status.Device → ¬ rose → IfSome told (λ held. (line : List ℕ) × Refuses words held Status.Device line × Took line)
-when-not-held words told rose status text log Took (no_command s t nothing none) took h calm = apart status 3 1 (ap kind h) (ap kind s) (λ e. cc)
-when-not-held words told rose status text log Took (answer wanted want ends shown) took h calm = apart status 3 0 (ap kind h) (kind-end wanted status log ends) (λ e. cc)
-when-not-held words told rose status text log Took (faulty wanted want r s t nothing of_text shown) took h calm = apart status 3 2 (ap kind h) (kind-text r status s of_text) (λ e. cc)
-when-not-held words told rose status text log Took (unread name s t nothing failed why) took h calm =
+pub when-not-held : (words : List (List ℕ)) (told after : Option Held) (rose : Type 0) (status : Status) (text : List ℕ) (log : LogState) (Took : List ℕ → Type 0) → Case words told after rose status text log → Took text → status ≡ Status.Device → ¬ rose → IfSome told (λ held. (line : List ℕ) × Refuses words held Status.Device line × Took line)
+when-not-held words told after rose status text log Took (no_command s t nothing kept none) took h calm = apart status 3 1 (ap kind h) (ap kind s) (λ e. cc)
+when-not-held words told after rose status text log Took (answer wanted want ends shown put) took h calm = apart status 3 0 (ap kind h) (kind-end wanted status log ends) (λ e. cc)
+when-not-held words told after rose status text log Took (faulty wanted want r s t nothing kept of_text shown) took h calm = apart status 3 2 (ap kind h) (kind-text r status s of_text) (λ e. cc)
+when-not-held words told after rose status text log Took (unread name s t nothing kept failed why) took h calm =
     elim why [ inl up ↦ absurd (calm up) | inr missing ↦ missing-taken words told name text Took t took missing ]
+when-not-held words told after rose status text log Took (unwritten name s t sound failed) took h calm = absurd (calm failed.0)
 
-pub when-failed : (words : List (List ℕ)) (told : Option Held) (rose : Type 0) (status : Status) (text : List ℕ) (log : LogState) (Took : List ℕ → Type 0) → Case words told rose status text log → Took text → status ≡ Status.Device → (name : List ℕ) × IsFailedRead words told name × Took (device_line name)
-when-failed words told rose status text log Took (no_command s t nothing none) took h = apart status 3 1 (ap kind h) (ap kind s) (λ e. cc)
-when-failed words told rose status text log Took (answer wanted want ends shown) took h = apart status 3 0 (ap kind h) (kind-end wanted status log ends) (λ e. cc)
-when-failed words told rose status text log Took (faulty wanted want r s t nothing of_text shown) took h = apart status 3 2 (ap kind h) (kind-text r status s of_text) (λ e. cc)
-when-failed words told rose status text log Took (unread name s t nothing failed why) took h = (name, failed, subst Took t took)
+-- the line of a device, when its text was put out
+pub when-failed : (words : List (List ℕ)) (told after : Option Held) (rose : Type 0) (status : Status) (text : List ℕ) (log : LogState) (Took : List ℕ → Type 0) → Case words told after rose status text log → Took text → status ≡ Status.Device → (line : List ℕ) × IsDeviceLine words told after rose line × Took line
+when-failed words told after rose status text log Took (no_command s t nothing kept none) took h = apart status 3 1 (ap kind h) (ap kind s) (λ e. cc)
+when-failed words told after rose status text log Took (answer wanted want ends shown put) took h = apart status 3 0 (ap kind h) (kind-end wanted status log ends) (λ e. cc)
+when-failed words told after rose status text log Took (faulty wanted want r s t nothing kept of_text shown) took h = apart status 3 2 (ap kind h) (kind-text r status s of_text) (λ e. cc)
+when-failed words told after rose status text log Took (unread name s t nothing kept failed why) took h = (text, inl (name, failed, t, kept), took)
+when-failed words told after rose status text log Took (unwritten name s t sound failed) took h = (text, inr (name, failed, t), took)
 
-answer-text : (words : List (List ℕ)) (told : Option Held) (status : Status) (text : List ℕ) (log : LogState) → IfSome told (λ held. (task : Task) × Ask words held task × Answers task status text log) → IfSome told (λ held. IsShownText words held log text)
-answer-text words None status text log h = tt
-answer-text words (Some held) status text log h = inr (h.0, status, h.1, h.2)
+answer-text : (words : List (List ℕ)) (told after : Option Held) (status : Status) (text : List ℕ) (log : LogState) → HasOutput words text told after → IfSome told (λ held. (task : Task) × Ask words held task × Answers task status text log) → IfSome told (λ held. IsShownText words held after log text)
+answer-text words None after status text log put h = tt
+answer-text words (Some held) after status text log put h = inr (h.0, status, h.1, h.2, put)
 
-refusal-shown : (words : List (List ℕ)) (told : Option Held) (log : LogState) (r : Refusal) (text : List ℕ) → text ≡ refusal_text r → IfSome told (λ held. Refuse words held r) → IfSome told (λ held. IsShownText words held log text)
-refusal-shown words None log r text t h = tt
-refusal-shown words (Some held) log r text t h = inl (status_of r, (r, h, refl, t))
+refusal-shown : (words : List (List ℕ)) (told after : Option Held) (log : LogState) (r : Refusal) (text : List ℕ) → text ≡ refusal_text r → after ≡ told → IfSome told (λ held. Refuse words held r) → IfSome told (λ held. IsShownText words held after log text)
+refusal-shown words None after log r text t kept h = tt
+refusal-shown words (Some held) after log r text t kept h = inl (status_of r, (r, h, refl, t), kept)
 
 missing-told : (words : List (List ℕ)) (told : Option Held) (name : List ℕ) → IsSomeAnd told (λ held. Refuse words held (Refusal.CannotRead name)) → IfSome told (λ held. Refuse words held (Refusal.CannotRead name))
 missing-told words None name h = tt
 missing-told words (Some held) name h = h
 
 -- whatever is said may be put out
-pub may-be-put : (words : List (List ℕ)) (told : Option Held) (rose : Type 0) (status : Status) (text : List ℕ) (log : LogState) → Case words told rose status text log → MayBePut words told rose log text
-may-be-put words told rose status text log (no_command s t nothing none) = inl (refusal-shown words told log Refusal.Usage text t (usage-told words told none))
-may-be-put words told rose status text log (answer wanted want ends shown) = inl (answer-text words told status text log shown)
-may-be-put words told rose status text log (faulty wanted want r s t nothing of_text shown) = inl (refusal-shown words told log r text t shown)
-may-be-put words told rose status text log (unread name s t nothing failed why) =
+pub may-be-put : (words : List (List ℕ)) (told after : Option Held) (rose : Type 0) (status : Status) (text : List ℕ) (log : LogState) → Case words told after rose status text log → MayBePut words told after rose log text
+may-be-put words told after rose status text log (no_command s t nothing kept none) = inl (refusal-shown words told after log Refusal.Usage text t kept (usage-told words told none))
+may-be-put words told after rose status text log (answer wanted want ends shown put) = inl (answer-text words told after status text log (wanted, want, put) shown)
+may-be-put words told after rose status text log (faulty wanted want r s t nothing kept of_text shown) = inl (refusal-shown words told after log r text t kept shown)
+may-be-put words told after rose status text log (unread name s t nothing kept failed why) =
     elim why [
-      | inl up ↦ inr (up, name, failed, t)
-      | inr missing ↦ inl (refusal-shown words told log (Refusal.CannotRead name) text t (missing-told words told name missing))
+      | inl up ↦ inr (up, inl (name, failed, t, kept))
+      | inr missing ↦ inl (refusal-shown words told after log (Refusal.CannotRead name) text t kept (missing-told words told name missing))
     ]
+may-be-put words told after rose status text log (unwritten name s t sound failed) = inr (failed.0, inr (name, failed, t))
 
--- that a model is solved, and so many steps are logged
+-- that a search goes on in a model, and so many steps are logged
 abbrev pub Spends : List (List ℕ) → LogState → Type 0
-Spends words log = (model : List ℕ) × (params : Option (List ℕ)) × (conflicts : ℕ) × Want words (Wanted.Solve model params conflicts) × IsSpent conflicts log.events
+Spends words log =
+    (model : List ℕ) × (params : Option (List ℕ)) × (request : Request) × (output : Option (List ℕ)) × Want words (Wanted.Search model params request output) × IsSpent (conflicts_of request) log.events
 
-wants-solve : (words : List (List ℕ)) (wanted : Wanted) (status : Status) (log : LogState) → Want words wanted → IsEnd wanted status log → status ≡ Status.Unknown → Spends words log
-wants-solve words (Wanted.Solve model params conflicts) status log want ends e = elim ends.1 [ inl f ↦ let g = sym f ∙ e in absurd cc | inr f ↦ (model, params, conflicts, want, f.1) ]
-wants-solve words (Wanted.Verify model params solution) status log want ends e = elim ends.1 [ inl f ↦ let g = sym f ∙ e in absurd cc | inr f ↦ let g = sym f ∙ e in absurd cc ]
+wants-search : (words : List (List ℕ)) (wanted : Wanted) (status : Status) (log : LogState) → Want words wanted → IsEnd wanted status log → status ≡ Status.Unknown → Spends words log
+wants-search words (Wanted.Search model params request output) status log want ends e = elim ends.1 [ inl f ↦ let g = sym f ∙ e in absurd cc | inr f ↦ (model, params, request, output, want, f.1) ]
+wants-search words (Wanted.Verify model params solution) status log want ends e = elim ends.1 [ inl f ↦ let g = sym f ∙ e in absurd cc | inr f ↦ let g = sym f ∙ e in absurd cc ]
 
--- the budget is spent where a model is solved
-pub when-unknown : (words : List (List ℕ)) (told : Option Held) (rose : Type 0) (status : Status) (text : List ℕ) (log : LogState) → Case words told rose status text log → status ≡ Status.Unknown → Spends words log
-when-unknown words told rose status text log (no_command s t nothing none) h = apart status 0 1 (ap kind h) (ap kind s) (λ e. cc)
-when-unknown words told rose status text log (answer wanted want ends shown) h = wants-solve words wanted status log want ends h
-when-unknown words told rose status text log (faulty wanted want r s t nothing of_text shown) h = apart status 0 2 (ap kind h) (kind-text r status s of_text) (λ e. cc)
-when-unknown words told rose status text log (unread name s t nothing failed why) h = apart status 0 3 (ap kind h) (ap kind s) (λ e. cc)
+-- the budget is spent where a search goes on
+pub when-unknown : (words : List (List ℕ)) (told after : Option Held) (rose : Type 0) (status : Status) (text : List ℕ) (log : LogState) → Case words told after rose status text log → status ≡ Status.Unknown → Spends words log
+when-unknown words told after rose status text log (no_command s t nothing kept none) h = apart status 0 1 (ap kind h) (ap kind s) (λ e. cc)
+when-unknown words told after rose status text log (answer wanted want ends shown put) h = wants-search words wanted status log want ends h
+when-unknown words told after rose status text log (faulty wanted want r s t nothing kept of_text shown) h = apart status 0 2 (ap kind h) (kind-text r status s of_text) (λ e. cc)
+when-unknown words told after rose status text log (unread name s t nothing kept failed why) h = apart status 0 3 (ap kind h) (ap kind s) (λ e. cc)
+when-unknown words told after rose status text log (unwritten name s t sound failed) h = apart status 0 3 (ap kind h) (ap kind s) (λ e. cc)
 
 -- ---- the log
 
--- the empty log has no step that could be wrong
-nothing-sound : (log : LogState) → log ≡ empty_log → IsSound log.events
-nothing-sound log e =
-    let P : LogState → Type 0 = λ l. IsSound l.events in
-    subst P (sym e) (record { valid = tt; new = tt; effective = tt })
-
-end-sound : (wanted : Wanted) (status : Status) (log : LogState) → IsEnd wanted status log → IsSound log.events
-end-sound (Wanted.Solve _ _ _) status log h = h.0
-end-sound (Wanted.Verify _ _ _) status log h = nothing-sound log h.0
-
 -- whatever is said, each step of the log is sound
-pub when-sound : (words : List (List ℕ)) (told : Option Held) (rose : Type 0) (status : Status) (text : List ℕ) (log : LogState) → Case words told rose status text log → IsSound log.events
-when-sound words told rose status text log (no_command s t nothing none) = nothing-sound log nothing
-when-sound words told rose status text log (answer wanted want ends shown) = end-sound wanted status log ends
-when-sound words told rose status text log (faulty wanted want r s t nothing of_text shown) = nothing-sound log nothing
-when-sound words told rose status text log (unread name s t nothing failed why) = nothing-sound log nothing
+pub when-sound : (words : List (List ℕ)) (told after : Option Held) (rose : Type 0) (status : Status) (text : List ℕ) (log : LogState) → Case words told after rose status text log → IsSound log.events
+when-sound words told after rose status text log (no_command s t nothing kept none) = nothing-sound log nothing
+when-sound words told after rose status text log (answer wanted want ends shown put) = end-sound wanted status log ends
+when-sound words told after rose status text log (faulty wanted want r s t nothing kept of_text shown) = nothing-sound log nothing
+when-sound words told after rose status text log (unread name s t nothing kept failed why) = nothing-sound log nothing
+when-sound words told after rose status text log (unwritten name s t sound failed) = sound
+
+device-not : {B : Type 0} (status : Status) → status ≡ Status.Device → (status ≡ Status.Refuted) ⊎ IsRefused status → B
+device-not status s h =
+    elim h [
+      | inl e ↦ apart status 0 3 (ap kind e) (ap kind s) (λ e. cc)
+      | inr refused ↦ refused-not status 3 refused (ap kind s) (λ e. cc) (λ e. cc)
+    ]
 
 -- nothing is logged with a refusal
-pub when-unlogged : (words : List (List ℕ)) (told : Option Held) (rose : Type 0) (status : Status) (text : List ℕ) (log : LogState) → Case words told rose status text log → (status ≡ Status.Refuted) ⊎ IsRefused status → log ≡ empty_log
-when-unlogged words told rose status text log (no_command s t nothing none) h = nothing
-when-unlogged words told rose status text log (answer wanted want ends shown) h =
+pub when-unlogged : (words : List (List ℕ)) (told after : Option Held) (rose : Type 0) (status : Status) (text : List ℕ) (log : LogState) → Case words told after rose status text log → (status ≡ Status.Refuted) ⊎ IsRefused status → log ≡ empty_log
+when-unlogged words told after rose status text log (no_command s t nothing kept none) h = nothing
+when-unlogged words told after rose status text log (answer wanted want ends shown put) h =
     elim h [
       | inl e ↦ (wants-verify words wanted status log want ends e).1
       | inr refused ↦ refused-not status 0 refused (kind-end wanted status log ends) (λ e. cc) (λ e. cc)
     ]
-when-unlogged words told rose status text log (faulty wanted want r s t nothing of_text shown) h = nothing
-when-unlogged words told rose status text log (unread name s t nothing failed why) h = nothing
+when-unlogged words told after rose status text log (faulty wanted want r s t nothing kept of_text shown) h = nothing
+when-unlogged words told after rose status text log (unread name s t nothing kept failed why) h = nothing
+when-unlogged words told after rose status text log (unwritten name s t sound failed) h = device-not status s h
 
-pub never-memory : (words : List (List ℕ)) (told : Option Held) (rose : Type 0) (status : Status) (text : List ℕ) (log : LogState) → Case words told rose status text log → status ≢ Status.Memory
-never-memory words told rose status text log (no_command s t nothing none) h = apart status 4 1 (ap kind h) (ap kind s) (λ e. cc)
-never-memory words told rose status text log (answer wanted want ends shown) h = apart status 4 0 (ap kind h) (kind-end wanted status log ends) (λ e. cc)
-never-memory words told rose status text log (faulty wanted want r s t nothing of_text shown) h = apart status 4 2 (ap kind h) (kind-text r status s of_text) (λ e. cc)
-never-memory words told rose status text log (unread name s t nothing failed why) h = apart status 4 3 (ap kind h) (ap kind s) (λ e. cc)
+pub never-memory : (words : List (List ℕ)) (told after : Option Held) (rose : Type 0) (status : Status) (text : List ℕ) (log : LogState) → Case words told after rose status text log → status ≢ Status.Memory
+never-memory words told after rose status text log (no_command s t nothing kept none) h = apart status 4 1 (ap kind h) (ap kind s) (λ e. cc)
+never-memory words told after rose status text log (answer wanted want ends shown put) h = apart status 4 0 (ap kind h) (kind-end wanted status log ends) (λ e. cc)
+never-memory words told after rose status text log (faulty wanted want r s t nothing kept of_text shown) h = apart status 4 2 (ap kind h) (kind-text r status s of_text) (λ e. cc)
+never-memory words told after rose status text log (unread name s t nothing kept failed why) h = apart status 4 3 (ap kind h) (ap kind s) (λ e. cc)
+never-memory words told after rose status text log (unwritten name s t sound failed) h = apart status 4 3 (ap kind h) (ap kind s) (λ e. cc)
 
 no-file : (words : List (List ℕ)) (told : Option Held) (name : List ℕ) → AreNoCommand words → IsFailedRead words told name → ⊥
 no-file words told name none failed = none failed.0.0 failed.0.1
 
 -- words that are no command are said to be none
-pub usage-said : (words : List (List ℕ)) (told : Option Held) (rose : Type 0) (status : Status) (text : List ℕ) (log : LogState) → Case words told rose status text log → AreNoCommand words → (status ≡ Status.Usage) ⊎ (status ≡ Status.Memory)
-usage-said words told rose status text log (no_command s t nothing none) h = inl s
-usage-said words told rose status text log (answer wanted want ends shown) h = absurd (h wanted want)
-usage-said words told rose status text log (faulty wanted want r s t nothing of_text shown) h = absurd (h wanted want)
-usage-said words told rose status text log (unread name s t nothing failed why) h = absurd (no-file words told name h failed)
+pub usage-said : (words : List (List ℕ)) (told after : Option Held) (rose : Type 0) (status : Status) (text : List ℕ) (log : LogState) → Case words told after rose status text log → AreNoCommand words → (status ≡ Status.Usage) ⊎ (status ≡ Status.Memory)
+usage-said words told after rose status text log (no_command s t nothing kept none) h = inl s
+usage-said words told after rose status text log (answer wanted want ends shown put) h = absurd (h wanted want)
+usage-said words told after rose status text log (faulty wanted want r s t nothing kept of_text shown) h = absurd (h wanted want)
+usage-said words told after rose status text log (unread name s t nothing kept failed why) h = absurd (no-file words told name h failed)
+usage-said words told after rose status text log (unwritten name s t sound failed) h = absurd (h failed.1.0 failed.1.1)
+
+-- ---- the files
+
+-- no file is changed with a refusal or a judgement
+pub when-kept : (words : List (List ℕ)) (told after : Option Held) (rose : Type 0) (status : Status) (text : List ℕ) (log : LogState) → Case words told after rose status text log → (status ≡ Status.Refuted) ⊎ IsRefused status → after ≡ told
+when-kept words told after rose status text log (no_command s t nothing kept none) h = kept
+when-kept words told after rose status text log (answer wanted want ends shown put) h =
+    elim h [
+      | inl e ↦ put ∙ ap (λ (o : Option (List ℕ)). with_output o text told) (wants-verify words wanted status log want ends e).2
+      | inr refused ↦ refused-not status 0 refused (kind-end wanted status log ends) (λ e. cc) (λ e. cc)
+    ]
+when-kept words told after rose status text log (faulty wanted want r s t nothing kept of_text shown) h = kept
+when-kept words told after rose status text log (unread name s t nothing kept failed why) h = kept
+when-kept words told after rose status text log (unwritten name s t sound failed) h = device-not status s h
+
+kept-others : (words : List (List ℕ)) (told after : Option Held) → after ≡ told → SameButOutput words told after
+kept-others words told after kept = subst (SameButOutput words told) (sym kept) (itself told)
+  where
+    itself : (t : Option Held) → SameButOutput words t t
+    itself None = refl
+    itself (Some held) = λ name other. refl
+
+-- a file of another name holds what it held
+other-held : (words : List (List ℕ)) (name text asked : List ℕ) (held : Held) → IsOutput words name → ¬ IsOutput words asked → with_bytes name text held asked ≡ held asked
+other-held words name text asked held is other = by (bytes_eq asked name) refl
+  where
+    by : (b : Bool) → bytes_eq asked name ≡ b → (if bytes_eq asked name then Some text else held asked) ≡ held asked
+    by true e =
+        let same : asked ≡ name = (bytes_eq-Decides asked name).0 e in
+        absurd (other (subst (IsOutput words) (sym same) is))
+    by false e = ap (λ (b : Bool). if b then Some text else held asked) e
+
+written-others : (words : List (List ℕ)) (wanted : Wanted) (output : Option (List ℕ)) (text : List ℕ) (told after : Option Held) → Want words wanted → output_of wanted ≡ output → after ≡ with_output output text told → SameButOutput words told after
+written-others words wanted None text told after want is put = kept-others words told after put
+written-others words wanted (Some name) text None after want is put = put
+written-others words wanted (Some name) text (Some held) after want is put =
+    subst (SameButOutput words (Some held)) (sym put) (λ asked other. other-held words name text asked held (wanted, want, is) other)
+
+failed-others : (words : List (List ℕ)) (told after : Option Held) (name : List ℕ) → IsOutput words name → SameElsewhere name told after → SameButOutput words told after
+failed-others words None after name is h = h
+failed-others words (Some before) None name is h = h
+failed-others words (Some before) (Some held) name is h = λ asked other. h asked (λ same. other (subst (IsOutput words) (sym same) is))
+
+-- every file but the answer's holds what it held
+pub when-others : (words : List (List ℕ)) (told after : Option Held) (rose : Type 0) (status : Status) (text : List ℕ) (log : LogState) → Case words told after rose status text log → SameButOutput words told after
+when-others words told after rose status text log (no_command s t nothing kept none) = kept-others words told after kept
+when-others words told after rose status text log (answer wanted want ends shown put) = written-others words wanted (output_of wanted) text told after want refl put
+when-others words told after rose status text log (faulty wanted want r s t nothing kept of_text shown) = kept-others words told after kept
+when-others words told after rose status text log (unread name s t nothing kept failed why) = kept-others words told after kept
+when-others words told after rose status text log (unwritten name s t sound failed) = failed-others words told after name failed.1 failed.3
+
+pub want-others : (words : List (List ℕ)) (told after : Option Held) (rose : Type 0) → HoldOnWant words told after rose → SameButOutput words told after
+want-others words told after rose h =
+    elim h [ inl kept ↦ kept-others words told after kept | inr failed ↦ failed-others words told after failed.0 failed.1.1 failed.1.3 ]
 
 -- ---- the line that says that memory is wanting
 

@@ -1,5 +1,5 @@
 -- From what the steps of a run tell to what the run tells.
-use Rattle.std.proofs.Common.{◌≡◌, ℕ, ◌⊎◌, List, [], ◌∷◌, ◌++◌, map, Option, Some, None, Ok, Err, Result, IfOk, Contains, refl, sym, ap, subst, ◌∙◌}
+use Rattle.std.proofs.Common.{◌≡◌, ℕ, ◌⊎◌, List, [], ◌∷◌, ◌++◌, map, Option, Some, None, Ok, Err, Result, IfOk, OnErr, Contains, ◌≤◌, inl, inr, refl, sym, ap, subst, ◌∙◌, arith}
 use Rattle.std.specs.declared.alloc.Global.{Global}
 use Rattle.std.specs.declared.vec.Vec.{Vec}
 use Rattle.std.proofs.lemmas.List.{append-nil}
@@ -10,7 +10,6 @@ use Rattle.ep_instance.specs.Judgements.{FitsIfShaped}
 use Rattle.ep_instance.specs.Refusals.{Refuses, ShapeAnswers}
 use Rattle.ep_instance.specs.declared.errors.BindError.{BindError}
 use Rattle.ep_instance.specs.declared.judging.Shaped.{Shaped as CodeShaped}
-use Rattle.ep_print.specs.Answers.{AnswerTree, answer_text}
 use Rattle.ep_print.specs.Refusals.{refusal_text}
 use Rattle.ep_print.specs.declared.refusals.Refusal.{Refusal}
 use Rattle.ep_print.specs.declared.refusals.TextFile.{TextFile}
@@ -22,30 +21,41 @@ use Rattle.ep_tree.specs.Statements.{TextTree}
 use Rattle.ep_tree.specs.Views.{params_tree}
 use Rattle.ep_tree.specs.declared.statements.Params.{Params}
 use Rattle.ep_tree.specs.declared.values.Mode.{Mode}
-use Rattle.ep_solve.specs.Right.{IsRight, empty_log}
-use Rattle.ep_run.specs.Answers.{Answers, IsFound, answer_status, wrong_shape_text}
-use Rattle.ep_run.specs.Outcomes.{Outcome, Task, and_then, as_outcome, bind_refusal, bind_refusals, bound_outcome, fault_refusals, instance_of, judge_outcome, solve_outcome, to_judge, to_solve, unless_refused, verify_outcome}
+use Rattle.ep_solve.specs.Right.{empty_log}
+use Rattle.ep_run.specs.Answers.{Answers, wrong_shape_text}
+use Rattle.ep_run.specs.Outcomes.{Outcome, Task, and_then, as_outcome, bind_refusal, bind_refusals, bound_outcome, fault_refusals, instance_of, judge_outcome, search_outcome, task_of, to_judge, unless_refused, verify_outcome}
 use Rattle.ep_run.specs.Status.{status_of}
 use Rattle.ep_run.specs.Steps.{EndsAs, EndsBy, IsAmong, IsJudged, IsNotThere, IsUnreadStop, Passes, Says, Tells, TellsBytes, TellsParams, TellsReply, TellsRun, TellsShape, TellsTask, shape_outcome}
 use Rattle.ep_run.specs.Stops.{bind_stop}
 use Rattle.ep_run.specs.declared.replies.Reply.{Reply}
 use Rattle.ep_run.specs.declared.status.Status.{Status}
 use Rattle.ep_run.specs.declared.stops.Stop.{Stop}
+use Rattle.ep_run.specs.declared.wanted.Request.{Request}
 use Rattle.ep_run.specs.declared.wanted.Wanted.{Wanted}
 use Rattle.ep_run.proofs.Binding.{bind-stopped}
-use Rattle.ep_run.proofs.Saying.{said-refusal}
-use Rattle.ep_run.proofs.Tasks.{AreAllFaultless, AreFaultless, bound-refused, is-judge, is-solve, is-verify, limits-refused, shape-refused, solve-instance, solve-model, solve-params, judge-ends, verify-instance, verify-model, verify-params, verify-solution}
+use Rattle.ep_run.specs.Puts.{HoldOnWant}
+use Rattle.ep_run.proofs.Saying.{holds-refused, said-refusal}
+use Rattle.ep_run.proofs.Tasks.{AreAllFaultless, AreFaultless, bound-refused, is-judge, is-search, is-verify, limits-refused, shape-refused, search-instance, search-model, search-params, judge-ends, verify-instance, verify-model, verify-params, verify-solution}
 
 -- ---- words
 
-pub refused-said : (words : List (List ℕ)) (told : Option Held) (rose : Type 0) (log : LogState) (r : Refusal) (result : Result Reply Memory)
+pub refused-said : (words : List (List ℕ)) (told after : Option Held) (rose : Type 0) (log : LogState) (r : Refusal) (result : Result Reply Memory)
     → IfOk result (λ reply. reply.status ≡ status_of r) → IfOk result (λ reply. reply.text.items ≡ refusal_text r)
-    → TellsRun words told rose log (Err (Stop.Refused r))
-    → IfOk result (λ reply. Says words told rose reply.status reply.text.items log)
-refused-said words told rose log r (Ok reply) s t h = said-refusal words told rose log r reply.status reply.text.items s t h
-refused-said words told rose log r (Err e) s t h = tt
+    → TellsRun words told after rose log (Err (Stop.Refused r))
+    → IfOk result (λ reply. Says words told after rose reply.status reply.text.items log)
+refused-said words told after rose log r (Ok reply) s t h = said-refusal words told after rose log r reply.status reply.text.items s t h
+refused-said words told after rose log r (Err e) s t h = tt
+
+pub refused-holds : (words : List (List ℕ)) (told after : Option Held) (rose : Type 0) (log : LogState) (r : Refusal) (result : Result Reply Memory)
+    → TellsRun words told after rose log (Err (Stop.Refused r)) → OnErr result (HoldOnWant words told after rose)
+refused-holds words told after rose log r (Ok reply) h = tt
+refused-holds words told after rose log r (Err e) h = holds-refused words told after rose log r h
 
 -- ---- faults that rose
+
+-- what rose later in a run rose in it
+pub rose-later : (old now new : ℕ) → old ≤ now → Rose now new → Rose old new
+rose-later old now new low h = elim h [ inl up ↦ inl (omega (arith, low, up)) | inr end ↦ inr end ]
 
 pub rose-from : (old now new : ℕ) → now ≡ old → Rose now new → Rose old new
 rose-from old now new e h = let P : ℕ → Type 0 = λ x. Rose x new in subst P e h
@@ -74,32 +84,31 @@ pub limits-stopped : {V : Type 0} (view : V → Instance) (m p : TextTree) (i : 
 limits-stopped view m p i (Stop.Refused r) e h = (h.0, limits-refused m p i r e h.1)
 limits-stopped view m p i Stop.Memory e h = tt
 
--- ---- solving
+-- ---- searching
 
-pub solve-model-stopped : (V : Type 0) (log : LogState) (n : ℕ) (m p : TextTree) (stop : Stop) → Passes {V = V} (fault_refusals TextFile.Model (text_faults m)) (Err stop) → TellsReply (solve_outcome n m p) log (Err stop)
-solve-model-stopped V log n m p (Stop.Refused r) h = (h.0, solve-model n m p r h.1)
-solve-model-stopped V log n m p Stop.Memory h = tt
+pub search-model-stopped : (V : Type 0) (log : LogState) (q : Request) (m p : TextTree) (stop : Stop) → Passes {V = V} (fault_refusals TextFile.Model (text_faults m)) (Err stop) → TellsReply (search_outcome q m p) log (Err stop)
+search-model-stopped V log q m p (Stop.Refused r) h = (h.0, search-model q m p r h.1)
+search-model-stopped V log q m p Stop.Memory h = tt
 
-pub solve-params-stopped : (V : Type 0) (log : LogState) (n : ℕ) (m p : TextTree) (stop : Stop) → fault_refusals TextFile.Model (text_faults m) ≡ []
-    → Passes {V = V} (fault_refusals TextFile.Params (params_faults p)) (Err stop) → TellsReply (solve_outcome n m p) log (Err stop)
-solve-params-stopped V log n m p (Stop.Refused r) e h = (h.0, solve-params n m p r e h.1)
-solve-params-stopped V log n m p Stop.Memory e h = tt
+pub search-params-stopped : (V : Type 0) (log : LogState) (q : Request) (m p : TextTree) (stop : Stop) → fault_refusals TextFile.Model (text_faults m) ≡ []
+    → Passes {V = V} (fault_refusals TextFile.Params (params_faults p)) (Err stop) → TellsReply (search_outcome q m p) log (Err stop)
+search-params-stopped V log q m p (Stop.Refused r) e h = (h.0, search-params q m p r e h.1)
+search-params-stopped V log q m p Stop.Memory e h = tt
 
-pub solve-instance-stopped : {V : Type 0} (view : V → Instance) (log : LogState) (n : ℕ) (m p m' p' : TextTree) (stop : Stop) → m' ≡ m → p' ≡ p → AreFaultless m p
-    → Tells view (instance_of m' p') (Err stop) → TellsReply (solve_outcome n m p) log (Err stop)
-solve-instance-stopped view log n m p m' p' (Stop.Refused r) e f none h =
+pub search-instance-stopped : {V : Type 0} (view : V → Instance) (log : LogState) (q : Request) (m p m' p' : TextTree) (stop : Stop) → m' ≡ m → p' ≡ p → AreFaultless m p
+    → Tells view (instance_of m' p') (Err stop) → TellsReply (search_outcome q m p) log (Err stop)
+search-instance-stopped view log q m p m' p' (Stop.Refused r) e f none h =
     let P : TextTree → Type 0 = λ x. IsAmong (instance_of x p') r in
     let Q : TextTree → Type 0 = λ x. IsAmong (instance_of m x) r in
-    (h.0, solve-instance n m p r none (subst Q f (subst P e h.1)))
-solve-instance-stopped view log n m p m' p' Stop.Memory e f none h = tt
+    (h.0, search-instance q m p r none (subst Q f (subst P e h.1)))
+search-instance-stopped view log q m p m' p' Stop.Memory e f none h = tt
 
 pub same-instance : (m p m' p' : TextTree) (i : Instance) → m' ≡ m → p' ≡ p → instance_of m' p' ≡ Ok i → instance_of m p ≡ Ok i
 same-instance m p m' p' i e f h = sym (ap (λ x. instance_of x p') e ∙ ap (instance_of m) f) ∙ h
 
-pub solve-answered : (n : ℕ) (m p : TextTree) (i : Instance) (reply : Reply) (log : LogState) (answer : AnswerTree) → AreFaultless m p → instance_of m p ≡ Ok i
-    → reply.status ≡ answer_status answer → IsRight Mode.Relational i n answer → IsFound i n log answer → reply.text.items ≡ answer_text answer → TellsReply (solve_outcome n m p) log (Ok reply)
-unfolding Answers
-solve-answered n m p i reply log answer none e ended right found text = (to_solve i n, is-solve n m p i none e, (answer, right, found, ended, text))
+pub search-answered : (q : Request) (m p : TextTree) (i : Instance) (reply : Reply) (log : LogState) → AreFaultless m p → instance_of m p ≡ Ok i
+    → Answers (task_of q i) reply.status reply.text.items log → TellsReply (search_outcome q m p) log (Ok reply)
+search-answered q m p i reply log none e answers = (task_of q i, is-search q m p i none e, answers)
 
 -- ---- verifying
 

@@ -1,17 +1,19 @@
 -- From what is said to the words to what a run promises.
-use Rattle.std.proofs.Common.{◌≡◌, ℕ, ◌⊎◌, List, [], ◌∷◌, Option, Some, None, Ok, Err, Result, IfSome, IsSomeAnd, inl, inr, refl, sym, ap, subst, ◌∙◌}
+use Rattle.std.proofs.Common.{◌≡◌, ℕ, ◌⊎◌, List, [], ◌∷◌, Option, Some, None, Ok, Err, IfSome, IsSomeAnd, inl, inr, refl, sym, ap, subst, ◌∙◌}
 use Rattle.cnf_core.specs.Events.{LogState}
-use Rattle.ep_base.specs.Outside.{Held}
+use Rattle.ep_base.specs.Outside.{Held, SameElsewhere}
 use Rattle.ep_print.specs.Refusals.{refusal_text}
 use Rattle.ep_print.specs.declared.refusals.Refusal.{Refusal}
+use Rattle.sat_search.specs.Logs.{IsSound}
 use Rattle.ep_solve.specs.Right.{empty_log}
 use Rattle.ep_run.specs.Answers.{Answers}
-use Rattle.ep_run.specs.Commands.{AreNoCommand, Want, files_of}
+use Rattle.ep_run.specs.Commands.{AreNoCommand, Want, files_of, output_of}
 use Rattle.ep_run.specs.Outcomes.{Task}
-use Rattle.ep_run.specs.Puts.{IsFailedRead, device_line}
+use Rattle.ep_run.specs.Outputs.{with_output}
+use Rattle.ep_run.specs.Puts.{HoldOnWant, IsFailedRead, IsFailedWrite, read_line, write_line}
 use Rattle.ep_run.specs.Shown.{Ask, ComesTo, Refuse}
 use Rattle.ep_run.specs.Status.{status_of}
-use Rattle.ep_run.specs.Steps.{EndsAs, IsAnswer, IsEnd, IsFailed, IsFaulty, IsOfText, Says, TellsRun, TellsTask}
+use Rattle.ep_run.specs.Steps.{EndsAs, IsAnswer, IsEnd, IsFailed, IsFaulty, IsOfText, IsShown, IsUnwritten, Says, TellsRun, TellsTask, TellsWanted, TellsWritten}
 use Rattle.ep_run.specs.declared.replies.Reply.{Reply}
 use Rattle.ep_run.specs.declared.status.Status.{Status}
 use Rattle.ep_run.specs.declared.stops.Stop.{Stop}
@@ -20,20 +22,68 @@ use Rattle.ep_run.proofs.Refusing.{contains-first}
 
 -- ---- from what is wanted to the words
 
-pub told-run : (words : List (List ℕ)) (wanted : Wanted) (told : Option Held) (rose : Type 0) (log : LogState) (result : Result Reply Stop) → Want words wanted → EndsAs wanted log result → TellsTask (files_of wanted) (ComesTo wanted) told rose log result → TellsRun words told rose log result
-told-run words wanted told rose log (Ok reply) want ends h = (wanted, want, ends, h)
-told-run words wanted told rose log (Err Stop.Memory) want ends h = tt
-told-run words wanted told rose log (Err (Stop.Refused r)) want ends h = (ends, inr (wanted, want, h))
+-- the words are no command, or memory is wanting
+pub unread-words : (words : List (List ℕ)) (told : Option Held) (rose : Type 0) (log : LogState) (stop : Stop) → log ≡ empty_log → TellsWanted words (Err stop) → TellsRun words told told rose log (Err stop)
+unread-words words told rose log (Stop.Refused r) nothing h = inl (h.0, nothing, refl, h.1)
+unread-words words told rose log Stop.Memory nothing h = refl
 
-pub said-answer : (words : List (List ℕ)) (told : Option Held) (rose : Type 0) (log : LogState) (reply : Reply) → TellsRun words told rose log (Ok reply) → Says words told rose reply.status reply.text.items log
-said-answer words told rose log reply h = inr (h.0, h.1, inl (h.2, h.3))
+-- what is wanted is refused, or memory is wanting
+pub refused-run : (words : List (List ℕ)) (wanted : Wanted) (told after : Option Held) (rose : Type 0) (log : LogState) (stop : Stop) → Want words wanted → after ≡ told → EndsAs wanted log (Err stop)
+    → TellsTask (files_of wanted) (ComesTo wanted) told rose log (Err stop) → TellsRun words told after rose log (Err stop)
+refused-run words wanted told after rose log (Stop.Refused r) want kept ends h = inr (wanted, want, inl (ends, kept, h))
+refused-run words wanted told after rose log Stop.Memory want kept ends h = kept
 
-pub said-refusal : (words : List (List ℕ)) (told : Option Held) (rose : Type 0) (log : LogState) (r : Refusal) (status : Status) (text : List ℕ) → status ≡ status_of r → text ≡ refusal_text r → TellsRun words told rose log (Err (Stop.Refused r)) → Says words told rose status text log
+-- nothing is said of the log's steps where it is empty
+pub nothing-sound : (log : LogState) → log ≡ empty_log → IsSound log.events
+nothing-sound log e =
+    let P : LogState → Type 0 = λ l. IsSound l.events in
+    subst P (sym e) (record { valid = tt; new = tt; effective = tt })
+
+pub end-sound : (wanted : Wanted) (status : Status) (log : LogState) → IsEnd wanted status log → IsSound log.events
+end-sound (Wanted.Search _ _ _ _) status log h = h.0
+end-sound (Wanted.Verify _ _ _) status log h = nothing-sound log h.0
+
+asked-of : (wanted : Wanted) (told : Option Held) (status : Status) (text : List ℕ) (log : LogState) → IsAnswer (ComesTo wanted) told status text log → IfSome told (λ held. (task : Task) × ComesTo wanted held (Ok task))
+asked-of wanted None status text log h = tt
+asked-of wanted (Some held) status text log h = (h.0, h.1)
+
+-- the answer is there, and its file can't be written
+pub unwritten-run : (V : Type 0) (words : List (List ℕ)) (wanted : Wanted) (output : Option (List ℕ)) (told between after : Option Held) (rose rose-now quiet : Type 0) (status : Status) (text : List ℕ) (log : LogState) (stop : Stop) → Want words wanted
+    → output ≡ output_of wanted → between ≡ told → (rose-now → rose) → IsEnd wanted status log → IsAnswer (ComesTo wanted) told status text log
+    → TellsWritten {V = V} output text between after rose-now quiet (Err stop) → TellsRun words told after rose log (Err stop)
+unwritten-run V words wanted output told between after rose rose-now quiet status text log (Stop.Refused r) want named kept rises ends shown h =
+    inr (
+      wanted,
+      want,
+      inr (
+        rises h.0,
+        h.1,
+        sym named ∙ h.2,
+        h.3,
+        subst (λ (t : Option Held). SameElsewhere h.1 t after) kept h.4,
+        end-sound wanted status log ends,
+        asked-of wanted told status text log shown,
+      ),
+    )
+unwritten-run V words wanted output told between after rose rose-now quiet status text log Stop.Memory want named kept rises ends shown h = h.1 ∙ kept
+
+-- the answer is there, and its file is written
+pub answered-run : (V : Type 0) (words : List (List ℕ)) (wanted : Wanted) (output : Option (List ℕ)) (told between after : Option Held) (rose rose-now quiet : Type 0) (log : LogState) (reply : Reply) (x : V) → Want words wanted
+    → output ≡ output_of wanted → between ≡ told → IsEnd wanted reply.status log → IsAnswer (ComesTo wanted) told reply.status reply.text.items log
+    → TellsWritten {V = V} output reply.text.items between after rose-now quiet (Ok x) → TellsRun words told after rose log (Ok reply)
+answered-run V words wanted output told between after rose rose-now quiet log reply x want named kept ends shown h =
+    let text : List ℕ = reply.text.items in
+    (wanted, want, (ends, shown, h.1 ∙ ap (λ (o : Option (List ℕ)). with_output o text between) named ∙ ap (with_output (output_of wanted) text) kept))
+
+pub said-answer : (words : List (List ℕ)) (told after : Option Held) (rose : Type 0) (log : LogState) (reply : Reply) → TellsRun words told after rose log (Ok reply) → Says words told after rose reply.status reply.text.items log
+said-answer words told after rose log reply h = inr (h.0, h.1, inl h.2)
+
+pub said-refusal : (words : List (List ℕ)) (told after : Option Held) (rose : Type 0) (log : LogState) (r : Refusal) (status : Status) (text : List ℕ) → status ≡ status_of r → text ≡ refusal_text r → TellsRun words told after rose log (Err (Stop.Refused r)) → Says words told after rose status text log
 unfolding status_of
-said-refusal words told rose log r status text s t h =
-    elim h.1 [
-      | inl none ↦ inl (s ∙ ap status_of none.0, t ∙ ap refusal_text none.0, h.0, none.1)
-      | inr some ↦ inr (some.0, some.1, inr (r, s, t, h.0, some.2))
+said-refusal words told after rose log r status text s t h =
+    elim h [
+      | inl none ↦ inl (s ∙ ap status_of none.0, t ∙ ap refusal_text none.0, none.1, none.2, none.3)
+      | inr some ↦ inr (some.0, some.1, inr (r, s, t, some.2))
     ]
 
 -- ---- what a text of a run is
@@ -62,37 +112,72 @@ not-held-shown words wanted (Some held) rose r want h =
       | inr shown ↦ inr (subst P (sym h.2) (Refusal.CannotRead h.0 ∷ [], inr (wanted, want, shown), contains-first (Refusal.CannotRead h.0) []))
     ]
 
+-- a task comes out
+asked-shown : (words : List (List ℕ)) (wanted : Wanted) (told : Option Held) → Want words wanted → IfSome told (λ held. (task : Task) × ComesTo wanted held (Ok task)) → IfSome told (λ held. (task : Task) × Ask words held task)
+asked-shown words wanted None want h = tt
+asked-shown words wanted (Some held) want h = (h.0, inr (wanted, want, h.1))
+
+-- a write that failed
+failed-write : (words : List (List ℕ)) (wanted : Wanted) (told after : Option Held) (rose : Type 0) (log : LogState) (r : Refusal) → Want words wanted → (h : IsUnwritten wanted told after rose log r) → IsFailedWrite words told after rose h.1
+failed-write words wanted told after rose log r want h = (h.0, (wanted, want, h.2), asked-shown words wanted told want h.6, h.4)
+
+-- what the files hold where memory is wanting for the line of a refusal
+pub holds-refused : (words : List (List ℕ)) (told after : Option Held) (rose : Type 0) (log : LogState) (r : Refusal) → TellsRun words told after rose log (Err (Stop.Refused r)) → HoldOnWant words told after rose
+holds-refused words told after rose log r h =
+    elim h [
+      | inl none ↦ inl none.2
+      | inr some ↦ elim some.2 [
+        | inl shown ↦ inl shown.1
+        | inr unwritten ↦ inr (unwritten.1, failed-write words some.0 told after rose log r some.1 unwritten)
+      ]
+    ]
+
 no-command-shown : (words : List (List ℕ)) (held : Held) → AreNoCommand words → Refuse words held Refusal.Usage
 no-command-shown words held none = (Refusal.Usage ∷ [], inl (none, refl), contains-first Refusal.Usage [])
 
 -- ---- cases of what is said
 
--- What is said: that the words are no command; an answer; a fault or a limit; or that a file can't be read. Nothing is logged
--- but with an answer.
-pub data Case (words : List (List ℕ)) (told : Option Held) (rose : Type 0) (status : Status) (text : List ℕ) (log : LogState) : Type 0 where
-  no_command : status ≡ Status.Usage → text ≡ refusal_text Refusal.Usage → log ≡ empty_log → AreNoCommand words → Case words told rose status text log
-  answer : (wanted : Wanted) → Want words wanted → IsEnd wanted status log → IfSome told (λ held. (task : Task) × Ask words held task × Answers task status text log) → Case words told rose status text log
-  faulty : (wanted : Wanted) → Want words wanted → (r : Refusal) → status ≡ status_of r → text ≡ refusal_text r → log ≡ empty_log → IsOfText r → IfSome told (λ held. Refuse words held r) → Case words told rose status text log
-  unread : (name : List ℕ) → status ≡ Status.Device → text ≡ device_line name → log ≡ empty_log → IsFailedRead words told name → rose ⊎ IsSomeAnd told (λ held. Refuse words held (Refusal.CannotRead name)) → Case words told rose status text log
+-- What is said: that the words are no command; an answer; a fault or a limit; that a file can't be read; or that the answer's file
+-- can't be written. Nothing is logged but with an answer, and no file is changed but the answer's.
+pub data Case (words : List (List ℕ)) (told after : Option Held) (rose : Type 0) (status : Status) (text : List ℕ) (log : LogState) : Type 0 where
+  no_command : status ≡ Status.Usage → text ≡ refusal_text Refusal.Usage → log ≡ empty_log → after ≡ told → AreNoCommand words → Case words told after rose status text log
+  answer : (wanted : Wanted) → Want words wanted → IsEnd wanted status log → IfSome told (λ held. (task : Task) × Ask words held task × Answers task status text log) → after ≡ with_output (output_of wanted) text told → Case words told after rose status text log
+  faulty : (wanted : Wanted) → Want words wanted → (r : Refusal) → status ≡ status_of r → text ≡ refusal_text r → log ≡ empty_log → after ≡ told → IsOfText r → IfSome told (λ held. Refuse words held r) → Case words told after rose status text log
+  unread : (name : List ℕ) → status ≡ Status.Device → text ≡ read_line name → log ≡ empty_log → after ≡ told → IsFailedRead words told name → rose ⊎ IsSomeAnd told (λ held. Refuse words held (Refusal.CannotRead name)) → Case words told after rose status text log
+  unwritten : (name : List ℕ) → status ≡ Status.Device → text ≡ write_line name → IsSound log.events → IsFailedWrite words told after rose name → Case words told after rose status text log
 
-pub case-of : (words : List (List ℕ)) (told : Option Held) (rose : Type 0) (status : Status) (text : List ℕ) (log : LogState) → Says words told rose status text log → Case words told rose status text log
+shown-case : (words : List (List ℕ)) (wanted : Wanted) (told after : Option Held) (rose : Type 0) (r : Refusal) (status : Status) (text : List ℕ) (log : LogState) → Want words wanted → status ≡ status_of r → text ≡ refusal_text r
+    → IsShown wanted told after rose log r → Case words told after rose status text log
 unfolding status_of
-case-of words told rose status text log h =
+shown-case words wanted told after rose r status text log want s t h =
+    elim h.2 [
+      | inl failed ↦
+          let P : Refusal → Type 0 = λ x. rose ⊎ IsSomeAnd told (λ held. Refuse words held x) in
+          unread failed.0
+          (s ∙ ap status_of failed.2)
+          (t ∙ ap refusal_text failed.2)
+          h.0
+          h.1
+          (failed-read words wanted told rose r want failed)
+          (subst P failed.2 (not-held-shown words wanted told rose r want failed))
+      | inr fault ↦ faulty wanted want r s t h.0 h.1 fault.0 (faulty-shown words wanted told r want fault)
+    ]
+
+unwritten-case : (words : List (List ℕ)) (wanted : Wanted) (told after : Option Held) (rose : Type 0) (r : Refusal) (status : Status) (text : List ℕ) (log : LogState) → Want words wanted → status ≡ status_of r → text ≡ refusal_text r
+    → IsUnwritten wanted told after rose log r → Case words told after rose status text log
+unfolding status_of
+unwritten-case words wanted told after rose r status text log want s t h =
+    unwritten h.1 (s ∙ ap status_of h.3) (t ∙ ap refusal_text h.3) h.5 (failed-write words wanted told after rose log r want h)
+
+pub case-of : (words : List (List ℕ)) (told after : Option Held) (rose : Type 0) (status : Status) (text : List ℕ) (log : LogState) → Says words told after rose status text log → Case words told after rose status text log
+case-of words told after rose status text log h =
     elim h [
-      | inl none ↦ no_command none.0 none.1 none.2 none.3
+      | inl none ↦ no_command none.0 none.1 none.2 none.3 none.4
       | inr some ↦ elim some.2 [
-        | inl said ↦ answer some.0 some.1 said.0 (answer-shown words some.0 told status text log some.1 said.1)
-        | inr refused ↦ elim refused.4 [
-          | inl failed ↦
-              let P : Refusal → Type 0 = λ x. rose ⊎ IsSomeAnd told (λ held. Refuse words held x) in
-              unread failed.0
-              (refused.1 ∙ ap status_of failed.2)
-              (refused.2 ∙ ap refusal_text failed.2)
-              refused.3
-              (failed-read words some.0 told rose refused.0 some.1 failed)
-              (subst P failed.2 (not-held-shown words some.0 told rose refused.0 some.1 failed))
-          | inr fault ↦
-              faulty some.0 some.1 refused.0 refused.1 refused.2 refused.3 fault.0 (faulty-shown words some.0 told refused.0 some.1 fault)
+        | inl said ↦ answer some.0 some.1 said.0 (answer-shown words some.0 told status text log some.1 said.1) said.2
+        | inr refused ↦ elim refused.3 [
+          | inl shown ↦ shown-case words some.0 told after rose refused.0 status text log some.1 refused.1 refused.2 shown
+          | inr failed ↦ unwritten-case words some.0 told after rose refused.0 status text log some.1 refused.1 refused.2 failed
         ]
       ]
     ]

@@ -7,16 +7,19 @@ use Rattle.ep_print.specs.declared.refusals.TextFile.{TextFile}
 use Rattle.ep_tree.specs.Binding.{Instance}
 use Rattle.ep_tree.specs.Faults.{params_faults, text_faults}
 use Rattle.ep_tree.specs.SolutionTexts.{Shaped, fits, wrong_shape}
-use Rattle.ep_tree.specs.Solutions.{Judgement, a_solution, goal_undefined, instance_limits, judgement, violates}
+use Rattle.ep_tree.specs.Solutions.{Assigned, Judgement, a_solution, goal_undefined, instance_limits, judgement, violates}
 use Rattle.ep_tree.specs.Statements.{TextTree}
 use Rattle.ep_tree.specs.declared.values.Mode.{Mode}
-use Rattle.ep_print.specs.Answers.{AnswerTree, no_solution, optimum, solution, unknown, unknown_with}
+use Rattle.ep_print.specs.Answers.{AnswerTree, answer_text, no_solution, optimum, solution, unknown, unknown_with}
+use Rattle.ep_print.specs.Listings.{EndTree, ListingTree, complete, listing_text, spent, stopped}
+use Rattle.ep_solve.specs.Listed.{EndsRightly, Lists}
 use Rattle.ep_solve.specs.Logged.{ShowsAnswer}
-use Rattle.ep_solve.specs.Right.{IsSpent}
-use Rattle.ep_run.specs.Answers.{Answers, IsFound, answer_status, judgement_status}
-use Rattle.ep_run.specs.Outcomes.{and_then, bind_refusals, bound_outcome, fault_refusals, instance_of, judge_outcome, solve_outcome, to_judge, to_solve, verify_outcome}
+use Rattle.ep_solve.specs.Right.{IsRight, IsSpent}
+use Rattle.ep_run.specs.Answers.{Answers, IsFound, answer_status, judgement_status, listing_status}
+use Rattle.ep_run.specs.Outcomes.{and_then, bind_refusals, bound_outcome, fault_refusals, instance_of, judge_outcome, search_outcome, task_of, to_judge, to_list, to_solve, verify_outcome}
 use Rattle.ep_run.specs.Steps.{IsAmong, IsSearched, shape_outcome}
 use Rattle.ep_run.specs.declared.status.Status.{Status}
+use Rattle.ep_run.specs.declared.wanted.Request.{Request}
 use Rattle.ep_run.proofs.Refusing.{among-first, among-later, among-next, among-then, none-refused, then-next}
 
 -- no fault stands in a model and its parameters
@@ -40,28 +43,28 @@ unfolding instance_of
 is-instance m p i e none =
     then-next (bound_outcome m p) i _ e ∙ none-refused (bind_refusals (instance_limits Mode.Relational i)) (Ok i) none
 
--- ---- solving
+-- ---- searching
 
-pub solve-model : (n : ℕ) (m p : TextTree) (r : Refusal) → Contains (fault_refusals TextFile.Model (text_faults m)) r → IsAmong (solve_outcome n m p) r
-unfolding solve_outcome
-solve-model n m p r h = among-first (fault_refusals TextFile.Model (text_faults m)) r _ h
+pub search-model : (q : Request) (m p : TextTree) (r : Refusal) → Contains (fault_refusals TextFile.Model (text_faults m)) r → IsAmong (search_outcome q m p) r
+unfolding search_outcome
+search-model q m p r h = among-first (fault_refusals TextFile.Model (text_faults m)) r _ h
 
-pub solve-params : (n : ℕ) (m p : TextTree) (r : Refusal) → fault_refusals TextFile.Model (text_faults m) ≡ [] → Contains (fault_refusals TextFile.Params (params_faults p)) r → IsAmong (solve_outcome n m p) r
-unfolding solve_outcome
-solve-params n m p r e h =
+pub search-params : (q : Request) (m p : TextTree) (r : Refusal) → fault_refusals TextFile.Model (text_faults m) ≡ [] → Contains (fault_refusals TextFile.Params (params_faults p)) r → IsAmong (search_outcome q m p) r
+unfolding search_outcome
+search-params q m p r e h =
     among-later (fault_refusals TextFile.Model (text_faults m)) r _ e
     (among-first (fault_refusals TextFile.Params (params_faults p)) r _ h)
 
-pub solve-instance : (n : ℕ) (m p : TextTree) (r : Refusal) → AreFaultless m p → IsAmong (instance_of m p) r → IsAmong (solve_outcome n m p) r
-unfolding solve_outcome
-solve-instance n m p r none h =
+pub search-instance : (q : Request) (m p : TextTree) (r : Refusal) → AreFaultless m p → IsAmong (instance_of m p) r → IsAmong (search_outcome q m p) r
+unfolding search_outcome
+search-instance q m p r none h =
     among-later (fault_refusals TextFile.Model (text_faults m)) r _ none.model
     (among-later (fault_refusals TextFile.Params (params_faults p)) r _ none.params
     (among-then (instance_of m p) r _ h))
 
-pub is-solve : (n : ℕ) (m p : TextTree) (i : Instance) → AreFaultless m p → instance_of m p ≡ Ok i → solve_outcome n m p ≡ Ok (to_solve i n)
-unfolding solve_outcome
-is-solve n m p i none e =
+pub is-search : (q : Request) (m p : TextTree) (i : Instance) → AreFaultless m p → instance_of m p ≡ Ok i → search_outcome q m p ≡ Ok (task_of q i)
+unfolding search_outcome
+is-search q m p i none e =
     none-refused (fault_refusals TextFile.Model (text_faults m)) _ none.model
     ∙ none-refused (fault_refusals TextFile.Params (params_faults p)) _ none.params
     ∙ then-next (instance_of m p) i _ e
@@ -148,3 +151,26 @@ found-ends i conflicts log a status e h =
       | inl tried ↦ (subst P (sym tried.unlogged) (record { valid = tt; new = tt; effective = tt }), inl (e ∙ tried.answered))
       | inr logged ↦ (logged.sound, shown-spent i conflicts log a status e logged.shows)
     ]
+
+list-spent : (i : Instance) (conflicts most : ℕ) (log : LogState) (listed : List Assigned) (end : EndTree) (status : Status) → status ≡ listing_status end → EndsRightly Mode.Relational i conflicts most log listed end
+    → (status ≡ Status.Answered) ⊎ ((status ≡ Status.Unknown) × IsSpent conflicts log.events)
+unfolding listing_status EndsRightly
+list-spent i conflicts most log listed complete status e h = inl e
+list-spent i conflicts most log listed stopped status e h = inl e
+list-spent i conflicts most log listed (spent n) status e h = inr (e, h.2)
+
+-- the log of a list is sound, and shows where the budget was spent
+pub list-ends : (i : Instance) (conflicts most : ℕ) (log : LogState) (listing : ListingTree) (status : Status) → status ≡ listing_status listing.ending → Lists Mode.Relational i conflicts most log listing → IsSearched conflicts status log
+list-ends i conflicts most log listing status e h = (h.sound, list-spent i conflicts most log listing.found listing.ending status e h.ends)
+
+-- ---- what answers a search
+
+pub solved : (i : Instance) (conflicts : ℕ) (status : Status) (text : List ℕ) (log : LogState) (answer : AnswerTree) → IsRight Mode.Relational i conflicts answer → IsFound i conflicts log answer
+    → status ≡ answer_status answer → text ≡ answer_text answer → Answers (to_solve i conflicts) status text log
+unfolding Answers
+solved i conflicts status text log answer right found ended said = (answer, right, found, ended, said)
+
+pub listed : (i : Instance) (most conflicts : ℕ) (status : Status) (text : List ℕ) (log : LogState) (listing : ListingTree) → Lists Mode.Relational i conflicts most log listing
+    → status ≡ listing_status listing.ending → text ≡ listing_text listing → Answers (to_list i most conflicts) status text log
+unfolding Answers
+listed i most conflicts status text log listing lists ended said = (listing, lists, ended, said)

@@ -4,6 +4,7 @@ use Rattle.std.specs.Fmt.{digits}
 use Rattle.ep_base.specs.declared.places.Place.{Place}
 use Rattle.ep_print.specs.declared.refusals.Refusal.{Refusal}
 use Rattle.ep_print.specs.declared.refusals.TextFile.{TextFile}
+use Rattle.ep_print.specs.Listings.{complete, spent, stopped}
 use Rattle.ep_tree.specs.Solutions.{a_solution, goal_undefined, violates}
 use Rattle.ep_tree.specs.Statements.{TextTree, constraints, letting}
 use Rattle.ep_tree.specs.Trees.{ExprTree, named}
@@ -11,10 +12,11 @@ use Rattle.ep_tree.specs.Faults.{clause_faults, declaration_faults, faults, faul
 use Rattle.ep_tree.specs.StatementSpelling.{is_letting}
 use Rattle.ep_tree.specs.Types.{from_one, judge, named_type}
 use Rattle.ep_words.specs.declared.job.Job.{Job}
-use Rattle.ep_run.specs.Answers.{judgement_status, judgement_text}
+use Rattle.ep_run.specs.Answers.{judgement_status, judgement_text, listing_status}
 use Rattle.ep_run.specs.Commands.{wanted_of}
-use Rattle.ep_run.specs.Outcomes.{fault_refusal, solve_outcome, unless_refused, verify_outcome}
+use Rattle.ep_run.specs.Outcomes.{fault_refusal, search_outcome, unless_refused, verify_outcome}
 use Rattle.ep_run.specs.Status.{code_of, status_of}
+use Rattle.ep_run.specs.declared.wanted.Request.{Request}
 use Rattle.ep_run.specs.declared.wanted.Wanted.{Wanted}
 
 -- ---- what is wanted
@@ -25,13 +27,21 @@ m = codes "m"
 abbrev s : List ℕ
 s = codes "s"
 
-solve-runs : wanted_of (Job.Solve m None 7 None None None) ≡ Some (Wanted.Solve m None 7)
+solve-runs : wanted_of (Job.Solve m None 7 None None None) ≡ Some (Wanted.Search m None (Request.One 7) None)
 unfolding wanted_of
 solve-runs = refl
 
-files-are-not-written : wanted_of (Job.Solve m None 7 (Some s) None None) ≡ None
+answers-are-written : wanted_of (Job.Solve m None 7 (Some s) None None) ≡ Some (Wanted.Search m None (Request.One 7) (Some s))
 unfolding wanted_of
-files-are-not-written = refl
+answers-are-written = refl
+
+enumerate-runs : wanted_of (Job.Enumerate m (Some s) 10 7 None None None) ≡ Some (Wanted.Search m (Some s) (Request.Many 10 7) None)
+unfolding wanted_of
+enumerate-runs = refl
+
+formulas-are-not-written : wanted_of (Job.Solve m None 7 None (Some s) None) ≡ None
+unfolding wanted_of
+formulas-are-not-written = refl
 
 verify-runs : wanted_of (Job.Verify m s (Some m)) ≡ Some (Wanted.Verify m (Some m) s)
 unfolding wanted_of
@@ -51,12 +61,12 @@ faulty-model = constraints (at 1 1) (unknown 11 ∷ []) ∷ []
 abbrev faulty-params : TextTree
 faulty-params = letting (at 1 1) (codes "n") (at 1 9) None (unknown 14) ∷ []
 
-model-first : solve_outcome 7 faulty-model faulty-params ≡ Err (Refusal.UnknownName TextFile.Model (at 1 11) (codes "y") ∷ [])
-unfolding clause_faults fault_refusal faults faults_after from_one judge name_faults named_type solve_outcome statement_faults text_faults type_fault unless_refused
+model-first : search_outcome (Request.One 7) faulty-model faulty-params ≡ Err (Refusal.UnknownName TextFile.Model (at 1 11) (codes "y") ∷ [])
+unfolding clause_faults fault_refusal faults faults_after from_one judge name_faults named_type search_outcome statement_faults text_faults type_fault unless_refused
 model-first = refl
 
-params-next : solve_outcome 7 [] faulty-params ≡ Err (Refusal.UnknownName TextFile.Params (at 1 14) (codes "y") ∷ [])
-unfolding declaration_faults fault_refusal faults faults_after is_letting name_faults params_faults solve_outcome stated_faults statement_faults text_faults unless unless_refused
+params-next : search_outcome (Request.One 7) [] faulty-params ≡ Err (Refusal.UnknownName TextFile.Params (at 1 14) (codes "y") ∷ [])
+unfolding declaration_faults fault_refusal faults faults_after is_letting name_faults params_faults search_outcome stated_faults statement_faults text_faults unless unless_refused
 params-next = refl
 
 solution-last : verify_outcome [] [] faulty-params ≡ Err (Refusal.UnknownName TextFile.Solution (at 1 14) (codes "y") ∷ [])
@@ -97,6 +107,20 @@ undefined-ends : code_of (judgement_status goal_undefined) ≡ 7
 unfolding judgement_status
 undefined-ends = refl
 
+-- ---- lists
+
+complete-ends : code_of (listing_status complete) ≡ 0
+unfolding listing_status
+complete-ends = refl
+
+stopped-ends : code_of (listing_status stopped) ≡ 0
+unfolding listing_status
+stopped-ends = refl
+
+spent-ends : code_of (listing_status (spent 12)) ≡ 1
+unfolding listing_status
+spent-ends = refl
+
 -- ---- codes
 
 usage-code : code_of (status_of Refusal.Usage) ≡ 2
@@ -110,3 +134,7 @@ fault-code = refl
 device-code : code_of (status_of (Refusal.CannotRead m)) ≡ 5
 unfolding status_of
 device-code = refl
+
+write-code : code_of (status_of (Refusal.CannotWrite m)) ≡ 5
+unfolding status_of
+write-code = refl

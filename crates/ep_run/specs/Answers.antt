@@ -6,11 +6,13 @@ use Rattle.ep_tree.specs.SolutionTexts.{fits, wrong_shape}
 use Rattle.ep_tree.specs.Solutions.{Fits, Found, Judgement, a_solution, goal_undefined, judgement, violates}
 use Rattle.ep_tree.specs.declared.values.Mode.{Mode}
 use Rattle.ep_print.specs.Answers.{AnswerTree, answer_text, unknown, unknown_with}
+use Rattle.ep_print.specs.Listings.{EndTree, ListingTree, complete, listing_text, spent, stopped}
 use Rattle.cnf_core.specs.Events.{LogState}
+use Rattle.ep_solve.specs.Listed.{Lists}
 use Rattle.ep_solve.specs.Logged.{IsLogged}
 use Rattle.ep_solve.specs.Right.{IsRight, empty_log}
 use Rattle.ep_run.specs.Counts.{MOST_ASSIGNMENTS, assignment_count}
-use Rattle.ep_run.specs.Outcomes.{Task, to_judge, to_solve}
+use Rattle.ep_run.specs.Outcomes.{Task, to_judge, to_list, to_solve}
 use Rattle.ep_run.specs.declared.status.Status.{Status}
 
 -- how a run ends that has an answer: with the end of its budget where nothing is known
@@ -18,6 +20,12 @@ unfoldable pub answer_status : AnswerTree → Status
 answer_status (unknown _) = Status.Unknown
 answer_status (unknown_with _ _ _) = Status.Unknown
 answer_status _ = Status.Answered
+
+-- how a run ends that has a list: with the end of its budget where the list ends with it
+unfoldable pub listing_status : EndTree → Status
+listing_status complete = Status.Answered
+listing_status stopped = Status.Answered
+listing_status (spent _) = Status.Unknown
 
 -- how a run ends that judges an assignment: answered where it is a solution
 unfoldable pub judgement_status : Judgement → Status
@@ -51,6 +59,9 @@ unfoldable pub Answers : Task → Status → List ℕ → LogState → Type 0
 Answers (to_solve i conflicts) status text log =
     (answer : AnswerTree) × IsRight Mode.Relational i conflicts answer × IsFound i conflicts log answer
     × (status ≡ answer_status answer) × (text ≡ answer_text answer)
+Answers (to_list i most conflicts) status text log =
+    (listing : ListingTree) × Lists Mode.Relational i conflicts most log listing
+    × (status ≡ listing_status listing.ending) × (text ≡ listing_text listing)
 Answers (to_judge i (fits a)) status text log =
     (found : Found) × Fits i a found
     × (status ≡ judgement_status (judgement Mode.Relational i found))

@@ -2,12 +2,16 @@
 use Rattle.std.specs.Prelude.{◌≡◌, ℕ, List, [], ◌∷◌, ◌++◌, Option, Some, None, option_to_list}
 use Rattle.ep_words.specs.Commands.{IsCommand}
 use Rattle.ep_words.specs.declared.job.Job.{Job}
+use Rattle.ep_run.specs.declared.wanted.Request.{Request}
 use Rattle.ep_run.specs.declared.wanted.Wanted.{Wanted}
 
--- What a job wants of a run: to solve a model, or to verify a solution. Files to write, lists of solutions, proofs to
--- check and inputs to generate don't run yet.
+-- What a job wants of a run: to search for one solution of a model or for many, and to write the answer into a file where one is
+-- named; or to verify a solution. Formulas and logs to write, proofs to check and inputs to generate don't run yet.
 unfoldable pub wanted_of : Job → Option Wanted
-wanted_of (Job.Solve model params conflicts None None None) = Some (Wanted.Solve model params conflicts)
+wanted_of (Job.Solve model params conflicts output None None) =
+    Some (Wanted.Search model params (Request.One conflicts) output)
+wanted_of (Job.Enumerate model params solutions conflicts output None None) =
+    Some (Wanted.Search model params (Request.Many solutions conflicts) output)
 wanted_of (Job.Verify model solution params) = Some (Wanted.Verify model params solution)
 wanted_of _ = None
 
@@ -21,5 +25,15 @@ AreNoCommand words = (wanted : Wanted) → ¬ Want words wanted
 
 -- the files that have to be read, in this order
 abbrev pub files_of : Wanted → List (List ℕ)
-files_of (Wanted.Solve model params conflicts) = model ∷ option_to_list params
+files_of (Wanted.Search model params request output) = model ∷ option_to_list params
 files_of (Wanted.Verify model params solution) = (model ∷ option_to_list params) ++ solution ∷ []
+
+-- how many conflicts a search may take
+unfoldable pub conflicts_of : Request → ℕ
+conflicts_of (Request.One conflicts) = conflicts
+conflicts_of (Request.Many most conflicts) = conflicts
+
+-- the file into which the answer is to be written, if one is named
+unfoldable pub output_of : Wanted → Option (List ℕ)
+output_of (Wanted.Search model params request output) = output
+output_of (Wanted.Verify model params solution) = None

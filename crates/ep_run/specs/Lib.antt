@@ -1,5 +1,6 @@
 pub mod Status
 pub mod Commands
+pub mod Outputs
 pub mod Readings
 pub mod Outcomes
 pub mod Shown

@@ -8,6 +8,7 @@ use Rattle.ep_tree.specs.Statements.{TextTree}
 use Rattle.ep_tree.specs.declared.values.Mode.{Mode}
 use Rattle.ep_print.specs.declared.refusals.Refusal.{Refusal}
 use Rattle.ep_print.specs.declared.refusals.TextFile.{TextFile}
+use Rattle.ep_run.specs.declared.wanted.Request.{Request}
 
 -- what steps come to: what they give, or the refusals of which one is answered
 abbrev pub Outcome : Type 0 → Type 0
@@ -69,18 +70,24 @@ instance_of model params =
     and_then (bound_outcome model params) (λ i.
     unless_refused (bind_refusals (instance_limits Mode.Relational i)) (Ok i))
 
--- a task with what it needs: an instance to solve within so many conflicts, or an instance with what a solution text gives it
+-- a task with what it needs: an instance to solve within so many conflicts; one of which at most so many solutions are to be listed
+-- within so many conflicts; or one with what a solution text gives it
 pub data Task : Type 0 where
   to_solve : Instance → ℕ → Task
+  to_list : Instance → ℕ → ℕ → Task
   to_judge : Instance → Shaped → Task
 
--- What solving a model under parameters within so many conflicts comes to. The faults of the model come first, then those of
--- the parameters.
-unfoldable pub solve_outcome : ℕ → TextTree → TextTree → Outcome Task
-solve_outcome conflicts model params =
+-- the task of a search in an instance
+unfoldable pub task_of : Request → Instance → Task
+task_of (Request.One conflicts) i = to_solve i conflicts
+task_of (Request.Many most conflicts) i = to_list i most conflicts
+
+-- What a search in a model under parameters comes to. The faults of the model come first, then those of the parameters.
+unfoldable pub search_outcome : Request → TextTree → TextTree → Outcome Task
+search_outcome request model params =
     unless_refused (fault_refusals TextFile.Model (text_faults model))
     (unless_refused (fault_refusals TextFile.Params (params_faults params))
-    (and_then (instance_of model params) (λ i. Ok (to_solve i conflicts))))
+    (and_then (instance_of model params) (λ i. Ok (task_of request i))))
 
 -- what judging a solution text by an instance comes to
 unfoldable pub judge_outcome : Instance → TextTree → Outcome Task

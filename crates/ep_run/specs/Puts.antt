@@ -1,12 +1,13 @@
 -- What a run may put out, and how much of it.
-use Rattle.std.specs.Prelude.{◌≡◌, ◌≤◌, ◌⊎◌, ℕ, List, codes, length, take, Option, Contains, IfSome}
+use Rattle.std.specs.Prelude.{◌≡◌, ◌≤◌, ◌⊎◌, ℕ, List, codes, length, take, Option, Some, Contains, IfSome}
 use Rattle.cnf_core.specs.Events.{LogState}
-use Rattle.ep_base.specs.Outside.{Held, TookPart, with_more}
+use Rattle.ep_base.specs.Outside.{Held, SameElsewhere, TookPart, with_more}
 use Rattle.ep_print.specs.Refusals.{refusal_text}
 use Rattle.ep_print.specs.declared.refusals.Refusal.{Refusal}
 use Rattle.ep_run.specs.Answers.{Answers}
 use Rattle.ep_run.specs.Commands.{Want, files_of}
 use Rattle.ep_run.specs.Outcomes.{Task}
+use Rattle.ep_run.specs.Outputs.{HasOutput, IsOutput}
 use Rattle.ep_run.specs.Readings.{without}
 use Rattle.ep_run.specs.Shown.{Ask, Refuse, Refuses}
 use Rattle.ep_run.specs.declared.status.Status.{Status}
@@ -17,8 +18,12 @@ abbrev pub NameFile : List (List ℕ) → List ℕ → Type 0
 NameFile words name = (wanted : Wanted) × Want words wanted × Contains (files_of wanted) name
 
 -- the line that says that a file can't be read
-abbrev pub device_line : List ℕ → List ℕ
-device_line name = refusal_text (Refusal.CannotRead name)
+abbrev pub read_line : List ℕ → List ℕ
+read_line name = refusal_text (Refusal.CannotRead name)
+
+-- the line that says that a file can't be written
+abbrev pub write_line : List ℕ → List ℕ
+write_line name = refusal_text (Refusal.CannotWrite name)
 
 -- A read of a file that the words name failed: without this file the words would be refused by its line. Which of several
 -- files that are read it was, the counts of faults don't tell.
@@ -26,27 +31,46 @@ abbrev pub IsFailedRead : List (List ℕ) → Option Held → List ℕ → Type 
 IsFailedRead words told name =
     NameFile words name × IfSome told (λ held. Refuse words (without name held) (Refusal.CannotRead name))
 
--- a text of an answer, with its log, or of a refusal that the words and the held files show
-abbrev pub IsShownText : List (List ℕ) → Held → LogState → List ℕ → Type 0
-IsShownText words held log text =
-    ((status : Status) × Refuses words held status text)
-    ⊎ ((task : Task) × (status : Status) × Ask words held task × Answers task status text log)
+-- The write of the answer failed, and the files counted a fault: the words name this file for it, and show a task. The file may
+-- hold anything then, and every other one holds what it held.
+abbrev pub IsFailedWrite : List (List ℕ) → Option Held → Option Held → Type 0 → List ℕ → Type 0
+IsFailedWrite words told after rose name =
+    rose × IsOutput words name × IfSome told (λ held. (task : Task) × Ask words held task) × SameElsewhere name told after
 
--- A text that a run may put out, where `rose` says that the files counted a fault: one that the words and the held files
--- show, or the line of a file whose read failed. Where the files don't tell what they hold, nothing is said of it.
-abbrev pub MayBePut : List (List ℕ) → Option Held → Type 0 → LogState → List ℕ → Type 0
-MayBePut words told rose log text =
-    IfSome told (λ held. IsShownText words held log text)
-    ⊎ (rose × (name : List ℕ) × IsFailedRead words told name × (text ≡ device_line name))
+-- the line of a file that can't be read, where the files hold what they held, or of the answer's file, which can't be written
+abbrev pub IsDeviceLine : List (List ℕ) → Option Held → Option Held → Type 0 → List ℕ → Type 0
+IsDeviceLine words told after rose text =
+    ((name : List ℕ) × IsFailedRead words told name × (text ≡ read_line name) × (after ≡ told))
+    ⊎ ((name : List ℕ) × IsFailedWrite words told after rose name × (text ≡ write_line name))
+
+-- A text of a refusal that the words and the held files show, where the files hold what they held; or of an answer, with its log,
+-- where it stands in the file that is named for it.
+abbrev pub IsShownText : List (List ℕ) → Held → Option Held → LogState → List ℕ → Type 0
+IsShownText words held after log text =
+    ((status : Status) × Refuses words held status text × (after ≡ Some held))
+    ⊎ ((task : Task) × (status : Status) × Ask words held task × Answers task status text log
+    × HasOutput words text (Some held) after)
+
+-- A text that a run may put out, with what the files hold then, where `rose` says that they counted a fault: one that the words
+-- and the held files show, or the line of a file whose read or write failed. Where the files don't tell what they hold, nothing is
+-- said of it.
+abbrev pub MayBePut : List (List ℕ) → Option Held → Option Held → Type 0 → LogState → List ℕ → Type 0
+MayBePut words told after rose log text =
+    IfSome told (λ held. IsShownText words held after log text) ⊎ (rose × IsDeviceLine words told after rose text)
 
 -- of these bytes a first part was taken, or the whole, and nothing else
 abbrev pub TookFirst : List ℕ → Option (List ℕ) → Option (List ℕ) → Type 0
 TookFirst bytes before after =
     (count : ℕ) × (count ≤ length bytes) × (after ≡ with_more (take count bytes) before)
 
+-- what the files hold where memory was wanting before anything was put out: what they held, but where the write of the answer failed
+abbrev pub HoldOnWant : List (List ℕ) → Option Held → Option Held → Type 0 → Type 0
+HoldOnWant words told after rose =
+    (after ≡ told) ⊎ ((name : List ℕ) × IsFailedWrite words told after rose name)
+
 -- memory was wanting: of the line that says so a first part was taken, or of one text that may be put out a part that
 -- isn't the whole
-abbrev pub TookOnWant : List (List ℕ) → Option Held → Type 0 → LogState → Option (List ℕ) → Option (List ℕ) → Type 0
-TookOnWant words told rose log before after =
-    TookFirst (codes "memory\n") before after
-    ⊎ ((text : List ℕ) × MayBePut words told rose log text × TookPart text before after)
+abbrev pub TookOnWant : List (List ℕ) → Option Held → Option Held → Type 0 → LogState → Option (List ℕ) → Option (List ℕ) → Type 0
+TookOnWant words told after rose log before taken =
+    (HoldOnWant words told after rose × TookFirst (codes "memory\n") before taken)
+    ⊎ ((text : List ℕ) × MayBePut words told after rose log text × TookPart text before taken)

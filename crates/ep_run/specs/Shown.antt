@@ -9,10 +9,11 @@ use Rattle.ep_print.specs.Refusals.{refusal_text}
 use Rattle.ep_print.specs.declared.refusals.Refusal.{Refusal}
 use Rattle.ep_print.specs.declared.refusals.TextFile.{TextFile}
 use Rattle.ep_run.specs.Commands.{AreNoCommand, Want}
-use Rattle.ep_run.specs.Outcomes.{Outcome, Task, solve_outcome, verify_outcome}
+use Rattle.ep_run.specs.Outcomes.{Outcome, Task, search_outcome, verify_outcome}
 use Rattle.ep_run.specs.Readings.{AreParams, IsReadAs}
 use Rattle.ep_run.specs.Status.{status_of}
 use Rattle.ep_run.specs.declared.status.Status.{Status}
+use Rattle.ep_run.specs.declared.wanted.Request.{Request}
 use Rattle.ep_run.specs.declared.wanted.Wanted.{Wanted}
 
 -- a file is read, and what follows comes out; or it is refused, and that comes out
@@ -21,10 +22,10 @@ ThenShows reads next outcome =
     ((tree : TextTree) × reads (Ok tree) × next tree outcome)
     ⊎ ((refusal : Refusal) × reads (Err refusal) × (outcome ≡ Err (refusal ∷ [])))
 
--- a model that was read is solved within so many conflicts: its parameters are read
-abbrev pub comes_to_solve : ℕ → Option (List ℕ) → TextTree → Held → Outcome Task → Type 0
-comes_to_solve conflicts params model held =
-    ThenShows (AreParams held params) (λ p outcome. outcome ≡ solve_outcome conflicts model p)
+-- a search goes on in a model that was read: its parameters are read
+abbrev pub comes_to_search : Request → Option (List ℕ) → TextTree → Held → Outcome Task → Type 0
+comes_to_search request params model held =
+    ThenShows (AreParams held params) (λ p outcome. outcome ≡ search_outcome request model p)
 
 -- a model and its parameters were read, and a solution is judged: its text is read
 abbrev pub comes_to_judge : List ℕ → TextTree → TextTree → Held → Outcome Task → Type 0
@@ -38,8 +39,8 @@ comes_to_verify params solution model held =
 
 -- what is wanted comes to this over held files: the model is read first
 abbrev pub ComesTo : Wanted → Held → Outcome Task → Type 0
-ComesTo (Wanted.Solve model params conflicts) held =
-    ThenShows (IsReadAs held TextFile.Model model) (λ m. comes_to_solve conflicts params m held)
+ComesTo (Wanted.Search model params request output) held =
+    ThenShows (IsReadAs held TextFile.Model model) (λ m. comes_to_search request params m held)
 ComesTo (Wanted.Verify model params solution) held =
     ThenShows (IsReadAs held TextFile.Model model) (λ m. comes_to_verify params solution m held)
 

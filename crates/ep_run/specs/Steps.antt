@@ -1,7 +1,7 @@
 -- What the steps of a run tell.
 use Rattle.std.specs.Prelude.{◌≡◌, ◌⊎◌, ◌+◌, ℕ, List, [], ◌∷◌, Option, Some, None, Ok, Err, Result, Contains, IfSome, IsSomeAnd}
 use Rattle.cnf_core.specs.Events.{LogState}
-use Rattle.ep_base.specs.Outside.{Held, ReadGives}
+use Rattle.ep_base.specs.Outside.{Held, ReadGives, SameElsewhere}
 use Rattle.ep_tree.specs.Statements.{TextTree}
 use Rattle.ep_tree.specs.Texts.{MOST_BYTES}
 use Rattle.ep_tree.specs.Views.{assigned, params_tree}
@@ -17,8 +17,9 @@ use Rattle.ep_instance.specs.declared.judging.Shaped.{Shaped}
 use Rattle.ep_solve.specs.Right.{IsSpent, empty_log}
 use Rattle.sat_search.specs.Logs.{IsSound}
 use Rattle.ep_run.specs.Answers.{Answers, judgement_status, judgement_text}
-use Rattle.ep_run.specs.Commands.{AreNoCommand, Want, files_of}
+use Rattle.ep_run.specs.Commands.{AreNoCommand, Want, conflicts_of, files_of, output_of}
 use Rattle.ep_run.specs.Outcomes.{Outcome, Task, as_outcome}
+use Rattle.ep_run.specs.Outputs.{with_output}
 use Rattle.ep_run.specs.Readings.{AreParams, IsReadAs, IsTextReadAs, without}
 use Rattle.ep_run.specs.Shown.{ComesTo}
 use Rattle.ep_run.specs.Status.{status_of}
@@ -163,7 +164,7 @@ IsSearched conflicts status log =
 
 -- how a run may end that has its answer, and with which log
 abbrev pub IsEnd : Wanted → Status → LogState → Type 0
-IsEnd (Wanted.Solve _ _ conflicts) status log = IsSearched conflicts status log
+IsEnd (Wanted.Search _ _ request _) status log = IsSearched (conflicts_of request) status log
 IsEnd (Wanted.Verify _ _ _) status log =
     (log ≡ empty_log) × ((status ≡ Status.Answered) ⊎ (status ≡ Status.Refuted))
 
@@ -177,27 +178,55 @@ EndsBy End log (Err Stop.Memory) = Unit {0}
 abbrev pub EndsAs : Wanted → LogState → Result Reply Stop → Type 0
 EndsAs wanted log result = EndsBy (λ status. IsEnd wanted status log) log result
 
+-- what writing a text into the file that is named for it tells, where `rose` says that a fault was counted and `quiet` that none was
+abbrev pub TellsWritten : {V : Type 0} → Option (List ℕ) → List ℕ → Option Held → Option Held → Type 0 → Type 0 → Result V Stop → Type 0
+TellsWritten output text told after rose quiet (Ok x) = quiet × (after ≡ with_output output text told)
+TellsWritten output text told after rose quiet (Err (Stop.Refused refusal)) =
+    rose × (name : List ℕ) × (output ≡ Some name) × (refusal ≡ Refusal.CannotWrite name) × SameElsewhere name told after
+TellsWritten output text told after rose quiet (Err Stop.Memory) = quiet × (after ≡ told)
+
+-- a refusal that is shown: nothing is logged, and the files hold what they held
+abbrev pub IsShown : Wanted → Option Held → Option Held → Type 0 → LogState → Refusal → Type 0
+IsShown wanted told after rose log refusal =
+    (log ≡ empty_log) × (after ≡ told)
+    × (IsFailed (files_of wanted) (ComesTo wanted) told rose refusal ⊎ IsFaulty (ComesTo wanted) told refusal)
+
+-- the answer's file can't be written
+abbrev pub IsUnwritten : Wanted → Option Held → Option Held → Type 0 → LogState → Refusal → Type 0
+IsUnwritten wanted told after rose log refusal =
+    rose × (name : List ℕ) × (output_of wanted ≡ Some name) × (refusal ≡ Refusal.CannotWrite name)
+    × SameElsewhere name told after × IsSound log.events
+    × IfSome told (λ held. (task : Task) × ComesTo wanted held (Ok task))
+
+-- a refusal of what is wanted
+abbrev pub IsRefused : Wanted → Option Held → Option Held → Type 0 → LogState → Refusal → Type 0
+IsRefused wanted told after rose log refusal =
+    IsShown wanted told after rose log refusal ⊎ IsUnwritten wanted told after rose log refusal
+
+-- what is wanted is answered, and the answer's file is written
+abbrev pub IsAnswered : Wanted → Option Held → Option Held → Status → List ℕ → LogState → Type 0
+IsAnswered wanted told after status text log =
+    IsEnd wanted status log × IsAnswer (ComesTo wanted) told status text log
+    × (after ≡ with_output (output_of wanted) text told)
+
 -- a status, a text and a log with which what is wanted is answered
-abbrev pub SaysTo : Wanted → Option Held → Type 0 → Status → List ℕ → LogState → Type 0
-SaysTo wanted told rose status text log =
-    (IsEnd wanted status log × IsAnswer (ComesTo wanted) told status text log)
-    ⊎ ((refusal : Refusal) × (status ≡ status_of refusal) × (text ≡ refusal_text refusal) × (log ≡ empty_log)
-    × (IsFailed (files_of wanted) (ComesTo wanted) told rose refusal ⊎ IsFaulty (ComesTo wanted) told refusal))
+abbrev pub SaysTo : Wanted → Option Held → Option Held → Type 0 → Status → List ℕ → LogState → Type 0
+SaysTo wanted told after rose status text log =
+    IsAnswered wanted told after status text log
+    ⊎ ((refusal : Refusal) × (status ≡ status_of refusal) × (text ≡ refusal_text refusal)
+    × IsRefused wanted told after rose log refusal)
 
 -- a status, a text and a log with which the words are answered
-abbrev pub Says : List (List ℕ) → Option Held → Type 0 → Status → List ℕ → LogState → Type 0
-Says words told rose status text log =
-    ((status ≡ Status.Usage) × (text ≡ refusal_text Refusal.Usage) × (log ≡ empty_log) × AreNoCommand words)
-    ⊎ ((wanted : Wanted) × Want words wanted × SaysTo wanted told rose status text log)
+abbrev pub Says : List (List ℕ) → Option Held → Option Held → Type 0 → Status → List ℕ → LogState → Type 0
+Says words told after rose status text log =
+    ((status ≡ Status.Usage) × (text ≡ refusal_text Refusal.Usage) × (log ≡ empty_log) × (after ≡ told) × AreNoCommand words)
+    ⊎ ((wanted : Wanted) × Want words wanted × SaysTo wanted told after rose status text log)
 
 -- what a run tells of the words
-abbrev pub TellsRun : List (List ℕ) → Option Held → Type 0 → LogState → Result Reply Stop → Type 0
-TellsRun words told rose log (Ok reply) =
-    (wanted : Wanted) × Want words wanted × IsEnd wanted reply.status log
-    × IsAnswer (ComesTo wanted) told reply.status reply.text.items log
-TellsRun words told rose log (Err (Stop.Refused refusal)) =
-    (log ≡ empty_log)
-    × (((refusal ≡ Refusal.Usage) × AreNoCommand words)
-    ⊎ ((wanted : Wanted) × Want words wanted
-    × (IsFailed (files_of wanted) (ComesTo wanted) told rose refusal ⊎ IsFaulty (ComesTo wanted) told refusal)))
-TellsRun words told rose log (Err Stop.Memory) = Unit {0}
+abbrev pub TellsRun : List (List ℕ) → Option Held → Option Held → Type 0 → LogState → Result Reply Stop → Type 0
+TellsRun words told after rose log (Ok reply) =
+    (wanted : Wanted) × Want words wanted × IsAnswered wanted told after reply.status reply.text.items log
+TellsRun words told after rose log (Err (Stop.Refused refusal)) =
+    ((refusal ≡ Refusal.Usage) × (log ≡ empty_log) × (after ≡ told) × AreNoCommand words)
+    ⊎ ((wanted : Wanted) × Want words wanted × IsRefused wanted told after rose log refusal)
+TellsRun words told after rose log (Err Stop.Memory) = after ≡ told

@@ -1,5 +1,5 @@
-//! The answer of an instance: by trying its assignments where they are few, and else by clauses and the
-//! solver.
+//! What is said of a search in an instance. One solution is looked for by trying the assignments where they are
+//! few, and else by clauses and the solver, as many solutions are.
 
 ghost use Rattle.std.specs.Prelude.{◌≡◌, [], IfOk};
 ghost use Rattle.std.specs.List.{All};
@@ -9,21 +9,130 @@ ghost use Rattle.ep_tree.specs.Solutions.{instance_limits};
 ghost use Rattle.ep_tree.specs.declared.values.Mode.{Mode};
 ghost use Rattle.ep_instance.specs.Instances.{instance_of as plain_instance, mode_of};
 ghost use Rattle.ep_print.specs.Answers.{HasTypedValues, answer_tree};
+ghost use Rattle.ep_print.specs.Listings.{end_tree};
 ghost use Rattle.ep_solve.specs.Right.{IsRight, empty_log};
-ghost use Rattle.ep_run.specs.Answers.{IsFound};
+ghost use Rattle.ep_run.specs.Answers.{Answers, IsFound, answer_status, listing_status};
+ghost use Rattle.ep_run.specs.Commands.{conflicts_of};
+ghost use Rattle.ep_run.specs.Outcomes.{task_of, to_list, to_solve};
+ghost use Rattle.ep_run.specs.Steps.{IsSearched};
 
 use super::counting::few_assignments;
+use super::replies::Reply;
 use super::search::tried_answer;
+use super::status::Status;
+use super::wanted::Request;
 use cnf_core::Log;
 use ep_base::Memory;
 use ep_instance::Instance;
-use ep_print::Answer;
-use ep_solve::solve;
+use ep_print::{Answer, ListingEnd, print_answer, print_listing};
+use ep_solve::{enumerate, solve};
 use std::alloc::Global;
+
+/// What is said of a search in an instance, and with which status.
+#[tactic(auto, unfolding(crate::specs::Outcomes::task_of, crate::specs::Commands::conflicts_of))]
+pub fn searched_reply(
+    alloc: Global,
+    instance: &Instance,
+    request: Request,
+    log: &mut Log,
+) -> Result<Reply, Memory>
+    requires mode { mode_of instance.now ≡ Mode.Relational }
+    requires closed { IsClosed (plain_instance instance.now) }
+    requires numbers { All (λ f. All IsWithinNumbers f.values) (plain_instance instance.now).finds }
+    requires within { instance_limits Mode.Relational (plain_instance instance.now) ≡ [] }
+    requires empty { log.old ≡ empty_log }
+    ensures answers { IfOk result (λ reply.
+        Answers (task_of request (plain_instance instance.now)) reply.status reply.text.items log.new) }
+    ensures ends { IfOk result (λ reply. IsSearched (conflicts_of request) reply.status log.new) }
+{
+    match request {
+        Request::One { conflicts } => solved_reply(alloc, instance, conflicts, log),
+        Request::Many { most, conflicts } => listed_reply(alloc, instance, most, conflicts, log),
+    }
+}
+
+/// What is said of the answer of an instance within so many conflicts.
+fn solved_reply(
+    alloc: Global,
+    instance: &Instance,
+    conflicts: u64,
+    log: &mut Log,
+) -> Result<Reply, Memory>
+    requires mode { mode_of instance.now ≡ Mode.Relational }
+    requires closed { IsClosed (plain_instance instance.now) }
+    requires numbers { All (λ f. All IsWithinNumbers f.values) (plain_instance instance.now).finds }
+    requires within { instance_limits Mode.Relational (plain_instance instance.now) ≡ [] }
+    requires empty { log.old ≡ empty_log }
+    ensures answers { IfOk result (λ reply.
+        Answers (to_solve (plain_instance instance.now) conflicts) reply.status reply.text.items log.new) }
+    ensures ends { IfOk result (λ reply. IsSearched conflicts reply.status log.new) }
+{
+    let answer = answer_of(alloc, instance, conflicts, log)?;
+    let text = print_answer(alloc, &answer)?;
+    Ok(Reply {
+        status: answer_status(&answer),
+        text,
+    })
+}
+
+/// What is said of at most so many solutions of an instance, within so many conflicts.
+fn listed_reply(
+    alloc: Global,
+    instance: &Instance,
+    most: u64,
+    conflicts: u64,
+    log: &mut Log,
+) -> Result<Reply, Memory>
+    requires mode { mode_of instance.now ≡ Mode.Relational }
+    requires closed { IsClosed (plain_instance instance.now) }
+    requires numbers { All (λ f. All IsWithinNumbers f.values) (plain_instance instance.now).finds }
+    requires within { instance_limits Mode.Relational (plain_instance instance.now) ≡ [] }
+    requires empty { log.old ≡ empty_log }
+    ensures answers { IfOk result (λ reply.
+        Answers (to_list (plain_instance instance.now) most conflicts) reply.status reply.text.items log.new) }
+    ensures ends { IfOk result (λ reply. IsSearched conflicts reply.status log.new) }
+{
+    let listing = enumerate(alloc, instance, most, conflicts, log)?;
+    let text = print_listing(alloc, &listing)?;
+    Ok(Reply {
+        status: listing_status(listing.end),
+        text,
+    })
+}
+
+/// How a run ends that has an answer.
+#[tactic(auto, unfolding(crate::specs::Answers::answer_status, ep_print::specs::Answers::answer_tree, ep_print::specs::Answers::unknown_tree))]
+fn answer_status(answer: &Answer) -> Status
+    ensures { result ≡ answer_status (answer_tree answer.now) }
+{
+    match answer {
+        Answer::Solution(_) | Answer::Optimum(_, _) | Answer::NoSolution => Status::Answered,
+        Answer::Unknown {
+            incumbent: None,
+            ..
+        } => Status::Unknown,
+        Answer::Unknown {
+            incumbent: Some(_),
+            ..
+        } => Status::Unknown,
+    }
+}
+
+/// How a run ends that has a list.
+#[tactic(auto, unfolding(crate::specs::Answers::listing_status, ep_print::specs::Listings::end_tree))]
+fn listing_status(end: ListingEnd) -> Status
+    ensures { result ≡ listing_status (end_tree end) }
+{
+    match end {
+        ListingEnd::Complete => Status::Answered,
+        ListingEnd::Stopped => Status::Answered,
+        ListingEnd::Spent { .. } => Status::Unknown,
+    }
+}
 
 /// The answer of an instance within so many conflicts. Where there are few assignments they are tried,
 /// and the log stays empty.
-pub fn answer_of(
+fn answer_of(
     alloc: Global,
     instance: &Instance,
     conflicts: u64,

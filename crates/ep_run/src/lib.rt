@@ -16,6 +16,7 @@ mod status;
 mod stops;
 mod top;
 mod wanted;
+mod writing;
 
 pub use status::Status;
 pub use top::run;

@@ -1,16 +1,18 @@
 //! What is to be said to the words, and with which status.
 
-ghost use Rattle.std.specs.Prelude.{◌≡◌, ◌≤◌, IfOk};
+ghost use Rattle.std.specs.Prelude.{◌≡◌, ◌≤◌, IfOk, OnErr};
 ghost use Rattle.ep_base.specs.Outside.{Rose};
 ghost use Rattle.ep_print.specs.Refusals.{refusal_text};
 ghost use Rattle.ep_solve.specs.Right.{empty_log};
+ghost use Rattle.ep_run.specs.Puts.{HoldOnWant};
 ghost use Rattle.ep_run.specs.Status.{status_of};
 ghost use Rattle.ep_run.specs.Steps.{Says, TellsRun};
 
 use super::runs::do_wanted;
 use super::status::Status;
 use super::stops::{Stop, status_of};
-use super::wanted::read_wanted;
+use super::wanted::{output_of, read_wanted};
+use super::writing::write_output;
 use cnf_core::Log;
 use ep_base::{Files, Memory, Word};
 use ep_print::{Refusal, refusal_line};
@@ -31,9 +33,10 @@ pub fn reply_to<F: Files>(
     log: &mut Log,
 ) -> Result<Reply, Memory>
     requires empty { log.old ≡ empty_log }
-    ensures says { IfOk result (λ reply. Says words.now (F.held files.old)
+    ensures says { IfOk result (λ reply. Says words.now (F.held files.old) (F.held files.new)
         (Rose (F.faults files.old) (F.faults files.new)) reply.status reply.text.items log.new) }
-    ensures held { F.held files.new ≡ F.held files.old }
+    ensures wants { OnErr result (HoldOnWant words.now (F.held files.old) (F.held files.new)
+        (Rose (F.faults files.old) (F.faults files.new))) }
     ensures faults { F.faults files.old ≤ F.faults files.new }
 {
     match run_words(alloc, words, files, log) {
@@ -43,7 +46,7 @@ pub fn reply_to<F: Files>(
     }
 }
 
-/// Does what the words want.
+/// Does what the words want, and writes the answer into the file that is named for it, if one is.
 fn run_words<F: Files>(
     alloc: Global,
     words: &[Word],
@@ -51,13 +54,14 @@ fn run_words<F: Files>(
     log: &mut Log,
 ) -> Result<Reply, Stop>
     requires empty { log.old ≡ empty_log }
-    ensures tells { TellsRun words.now (F.held files.old)
+    ensures tells { TellsRun words.now (F.held files.old) (F.held files.new)
         (Rose (F.faults files.old) (F.faults files.new)) log.new result }
-    ensures held { F.held files.new ≡ F.held files.old }
     ensures faults { F.faults files.old ≤ F.faults files.new }
 {
     let wanted = read_wanted(alloc, words)?;
-    do_wanted(alloc, files, &wanted, log)
+    let reply = do_wanted(alloc, files, &wanted, log)?;
+    write_output(files, output_of(wanted), &reply.text)?;
+    Ok(reply)
 }
 
 /// The status and the line of a refusal.

@@ -3,26 +3,23 @@
 ghost use Rattle.std.specs.Prelude.{◌≡◌, ◌≤◌, ◌⊎◌, ◌++◌, ◌∷◌, [], option_to_list, IfOk};
 ghost use Rattle.ep_base.specs.Outside.{Rose};
 ghost use Rattle.ep_tree.specs.Views.{model_tree, params_tree};
-ghost use Rattle.ep_print.specs.Answers.{answer_tree};
-ghost use Rattle.ep_run.specs.Answers.{answer_status};
-ghost use Rattle.ep_run.specs.Commands.{files_of};
-ghost use Rattle.ep_run.specs.Outcomes.{solve_outcome, verify_outcome};
-ghost use Rattle.ep_run.specs.Shown.{ComesTo, comes_to_solve, comes_to_verify, comes_to_judge};
+ghost use Rattle.ep_run.specs.Commands.{conflicts_of, files_of};
+ghost use Rattle.ep_run.specs.Outcomes.{search_outcome, verify_outcome};
+ghost use Rattle.ep_run.specs.Shown.{ComesTo, comes_to_search, comes_to_verify, comes_to_judge};
 ghost use Rattle.ep_solve.specs.Right.{empty_log};
 ghost use Rattle.ep_run.specs.Steps.{EndsAs, EndsBy, IsSearched, TellsReply, TellsTask};
 ghost use Rattle.ep_run.specs.declared.status.Status.{Status as StatusValue};
 
-use super::answering::answer_of;
+use super::answering::searched_reply;
 use super::checking::{checked_model, checked_params, instance_of};
 use super::judging::judged_reply;
 use super::reading::{read_model, read_named_params, read_params};
 use super::replies::Reply;
-use super::status::Status;
 use super::stops::Stop;
-use super::wanted::Wanted;
+use super::wanted::{Request, Wanted};
 use cnf_core::Log;
 use ep_base::{Files, Word};
-use ep_print::{Answer, TextFile, print_answer};
+use ep_print::TextFile;
 use ep_tree::{Model, Params};
 use std::alloc::Global;
 
@@ -41,13 +38,14 @@ pub fn do_wanted<F: Files>(
     ensures faults { F.faults files.old ≤ F.faults files.new }
 {
     match wanted {
-        Wanted::Solve {
+        Wanted::Search {
             model,
             params,
-            conflicts,
+            request,
+            ..
         } => {
             let model = read_model(alloc, files, model)?;
-            solve_model(alloc, files, model, params, *conflicts, log)
+            search_model(alloc, files, model, params, *request, log)
         }
         Wanted::Verify {
             model,
@@ -60,24 +58,24 @@ pub fn do_wanted<F: Files>(
     }
 }
 
-/// Solves a model within so many conflicts, once its parameters are read.
-fn solve_model<F: Files>(
+/// Searches in a model, once its parameters are read.
+fn search_model<F: Files>(
     alloc: Global,
     files: &mut F,
     model: Model,
     params: &Option<Word>,
-    conflicts: u64,
+    request: Request,
     log: &mut Log,
 ) -> Result<Reply, Stop>
     requires empty { log.old ≡ empty_log }
-    ensures tells { TellsTask (option_to_list params.now) (comes_to_solve conflicts params.now (model_tree model))
+    ensures tells { TellsTask (option_to_list params.now) (comes_to_search request params.now (model_tree model))
         (F.held files.old) (Rose (F.faults files.old) (F.faults files.new)) log.new result }
-    ensures ends { EndsBy (λ status. IsSearched conflicts status log.new) log.new result }
+    ensures ends { EndsBy (λ status. IsSearched (conflicts_of request) status log.new) log.new result }
     ensures held { F.held files.new ≡ F.held files.old }
     ensures faults { F.faults files.old ≤ F.faults files.new }
 {
     let params = read_named_params(alloc, files, params)?;
-    solve_texts(alloc, model, params, conflicts, log)
+    search_texts(alloc, model, params, request, log)
 }
 
 /// Verifies a solution text of a model, once its parameters are read.
@@ -120,44 +118,23 @@ fn verify_solution<F: Files>(
     verify_texts(alloc, model, params, solution)
 }
 
-/// Solves a model under its parameters within so many conflicts.
-fn solve_texts(
+/// Searches in a model under its parameters.
+fn search_texts(
     alloc: Global,
     model: Model,
     params: Params,
-    conflicts: u64,
+    request: Request,
     log: &mut Log,
 ) -> Result<Reply, Stop>
     requires empty { log.old ≡ empty_log }
-    ensures tells { TellsReply (solve_outcome conflicts (model_tree model) (params_tree params)) log.new result }
-    ensures ends { EndsBy (λ status. IsSearched conflicts status log.new) log.new result }
+    ensures tells { TellsReply (search_outcome request (model_tree model) (params_tree params)) log.new result }
+    ensures ends { EndsBy (λ status. IsSearched (conflicts_of request) status log.new) log.new result }
 {
     let model = checked_model(alloc, model)?;
     let params = checked_params(alloc, TextFile::Params, params)?;
     let instance = instance_of(alloc, model, params)?;
-    let answer = answer_of(alloc, &instance, conflicts, log)?;
-    Ok(Reply {
-        status: answer_status(&answer),
-        text: print_answer(alloc, &answer)?,
-    })
-}
-
-/// How a run ends that has an answer.
-#[tactic(auto, unfolding(crate::specs::Answers::answer_status, ep_print::specs::Answers::answer_tree, ep_print::specs::Answers::unknown_tree))]
-fn answer_status(answer: &Answer) -> Status
-    ensures { result ≡ answer_status (answer_tree answer.now) }
-{
-    match answer {
-        Answer::Solution(_) | Answer::Optimum(_, _) | Answer::NoSolution => Status::Answered,
-        Answer::Unknown {
-            incumbent: None,
-            ..
-        } => Status::Unknown,
-        Answer::Unknown {
-            incumbent: Some(_),
-            ..
-        } => Status::Unknown,
-    }
+    let reply = searched_reply(alloc, &instance, request, log)?;
+    Ok(reply)
 }
 
 /// Verifies a solution text of a model under its parameters.

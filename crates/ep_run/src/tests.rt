@@ -36,17 +36,33 @@ fn run_on<R: Threads + AllocGlobal>(
     file_fails: &[u64],
     out: &mut MemSink,
 ) -> Result<Status, Fail> {
+    let mut files = files_of(rt.alloc(), texts, file_fails)?;
+    run_over(rt, words, &mut files, out)
+}
+
+/// Files that hold the texts. Their calls with these numbers fail.
+fn files_of(alloc: Global, texts: &Texts, file_fails: &[u64]) -> Result<MemFiles, Fail> {
+    let mut files = MemFiles::new(alloc, Vec::from_slice(alloc, file_fails)?);
+    files.hold("m", texts.model)?;
+    files.hold("p", texts.params.as_bytes())?;
+    files.hold("s", texts.solution.as_bytes())?;
+    Ok(files)
+}
+
+/// Runs the words over files.
+fn run_over<R: Threads + AllocGlobal>(
+    rt: &R,
+    words: &[&str],
+    files: &mut MemFiles,
+    out: &mut MemSink,
+) -> Result<Status, Fail> {
     let alloc = rt.alloc();
     let mut list = Vec::new(alloc);
     for word in words {
         list.push(Word::new(alloc, word)?)?;
     }
-    let mut files = MemFiles::new(alloc, Vec::from_slice(alloc, file_fails)?);
-    files.hold("m", texts.model)?;
-    files.hold("p", texts.params.as_bytes())?;
-    files.hold("s", texts.solution.as_bytes())?;
     let mut log = Log::new(alloc);
-    Ok(run(rt, alloc, &list, &mut files, out, &mut log))
+    Ok(run(rt, alloc, &list, files, out, &mut log))
 }
 
 /// The first line of each model and each answer, and more.
@@ -491,7 +507,16 @@ fn words_and_files_come_first(rt: HostRuntime) -> Result<(), Fail> {
         &["--in-eprime", "m", "--conflicts", "0"],
         &["--in-eprime", "m", "--solutions", "2"],
         &["--in-eprime", "m", "--in-eprime", "m"],
-        &["--in-eprime", "m", "--out-solution", "x"],
+        &["--in-eprime", "m", "--out-cnf", "x"],
+        &["--task", "enumerate", "--in-eprime", "m"],
+        &[
+            "--task",
+            "enumerate",
+            "--in-eprime",
+            "m",
+            "--solutions",
+            "0",
+        ],
         &["--task", "generate", "--number", "0"],
         &["--task", "verify", "--in-eprime", "m"],
         &["--help"],
@@ -628,6 +653,108 @@ fn devices_may_fail(rt: HostRuntime) -> Result<(), Fail> {
         let ended = run_on(&rt, &SOLVE, &texts, &[file_fail], &mut out)?;
         assert_eq!(rt; ended, status);
         assert_eq!(rt; out.taken(), want.as_bytes());
+    }
+    Ok(())
+}
+
+#[test]
+fn solutions_are_listed(rt: HostRuntime) -> Result<(), Fail> {
+    let alloc = rt.alloc();
+    for (model, solutions, want) in [
+        (
+            "find x : int(1..3)\nsuch that x > 2",
+            "all",
+            "$ solution 1\nletting x be 3\n$ complete\n",
+        ),
+        (
+            "find x : int(1..3)\nsuch that x > 2",
+            "1",
+            "$ solution 1\nletting x be 3\n",
+        ),
+        (
+            "find x : int(1..3)\nsuch that x > 3",
+            "all",
+            "$ no solution\n",
+        ),
+        ("", "2", "$ solution 1\n$ complete\n"),
+        (PIGEONS, "10", "$ no solution\n"),
+        (
+            "find x : int(0..0)\nminimising 6 / x",
+            "all",
+            "$ no solution\n",
+        ),
+    ] {
+        let model = with_first_line(alloc, model)?;
+        let texts = Texts {
+            model: model.as_bytes(),
+            params: "",
+            solution: "",
+        };
+        let words = [
+            "--task",
+            "enumerate",
+            "--in-eprime",
+            "m",
+            "--solutions",
+            solutions,
+        ];
+        let want = with_first_line(alloc, want)?;
+        check_run(&rt, &words, &texts, Status::Answered, want.as_str())?;
+    }
+    Ok(())
+}
+
+/// So many lines of a list of the three numbers of `x` from 1 to 3, whatever their order.
+#[test]
+fn each_solution_is_listed_once(rt: HostRuntime) -> Result<(), Fail> {
+    let alloc = rt.alloc();
+    let model = with_first_line(alloc, "find x : int(1..3)\nmaximising x\n")?;
+    let texts = Texts {
+        model: model.as_bytes(),
+        params: "",
+        solution: "",
+    };
+    for (solutions, lines) in [("1", 3), ("3", 7), ("4", 8), ("all", 8)] {
+        let words = [
+            "--task=enumerate",
+            "--in-eprime=m",
+            "--solutions",
+            solutions,
+        ];
+        let mut out = MemSink::new(alloc, 1000, Vec::new(alloc));
+        let ended = run_on(&rt, &words, &texts, &[], &mut out)?;
+        assert_eq!(rt; ended, Status::Answered);
+        let count = out.taken().iter().filter(|byte| **byte == b'\n').count();
+        assert_eq!(rt; count, lines);
+    }
+    Ok(())
+}
+
+#[test]
+fn answers_are_written(rt: HostRuntime) -> Result<(), Fail> {
+    let alloc = rt.alloc();
+    let model = with_first_line(alloc, "find x : int(1..3)\nsuch that x > 2\n")?;
+    let texts = Texts {
+        model: model.as_bytes(),
+        params: "",
+        solution: "old",
+    };
+    let answer = "language ESSENCE' 1.0\n$ solution\nletting x be 3\n";
+    let failed = "device write s\n";
+    for (params, file_fail, put_fail, status, held, want) in [
+        ("p", 0, 0, Status::Answered, answer, answer),
+        ("p", 3, 0, Status::Device, "old", failed),
+        ("p", 3, 8, Status::Device, "old", "device "),
+        ("p", 0, 2, Status::Device, answer, "l"),
+        ("none", 0, 0, Status::Device, "old", "device read none\n"),
+    ] {
+        let words = ["--in-eprime", "m", "--in-param", params, "--out-solution=s"];
+        let mut files = files_of(alloc, &texts, &[file_fail])?;
+        let mut out = MemSink::new(alloc, 1, Vec::from_slice(alloc, &[put_fail])?);
+        let ended = run_over(&rt, &words, &mut files, &mut out)?;
+        assert_eq!(rt; ended, status);
+        assert_eq!(rt; out.taken(), want.as_bytes());
+        assert_eq!(rt; files.get("s").unwrap_or(b""), held.as_bytes());
     }
     Ok(())
 }

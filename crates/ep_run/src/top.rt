@@ -7,12 +7,14 @@ ghost use Rattle.ep_print.specs.declared.refusals.Refusal.{Refusal};
 ghost use Rattle.ep_solve.specs.Right.{IsSpent, empty_log};
 ghost use Rattle.sat_search.specs.Logs.{IsSound};
 ghost use Rattle.ep_run.specs.Answers.{Answers};
-ghost use Rattle.ep_run.specs.Commands.{AreNoCommand, Want};
+ghost use Rattle.ep_run.specs.Commands.{AreNoCommand, Want, conflicts_of};
 ghost use Rattle.ep_run.specs.Outcomes.{Task};
-ghost use Rattle.ep_run.specs.Puts.{IsFailedRead, MayBePut, TookFirst, TookOnWant, device_line};
+ghost use Rattle.ep_run.specs.Outputs.{HasOutput, SameButOutput};
+ghost use Rattle.ep_run.specs.Puts.{IsDeviceLine, MayBePut, TookFirst, TookOnWant};
 ghost use Rattle.ep_run.specs.Shown.{Ask, Refuses, Show};
 ghost use Rattle.ep_run.specs.Status.{HasReply, status_of};
 ghost use Rattle.ep_run.specs.declared.status.Status.{Status as StatusValue};
+ghost use Rattle.ep_run.specs.declared.wanted.Request.{Request};
 ghost use Rattle.ep_run.specs.declared.wanted.Wanted.{Wanted};
 
 use super::replies::reply_to;
@@ -25,7 +27,8 @@ use std::alloc::Global;
 use std::thread::Threads;
 
 /// Does what the words ask for, and says how it ended. What the solver was given and the steps that it
-/// made stand in the log then; where few assignments were tried it stays empty.
+/// made stand in the log then; where few assignments were tried for one solution it stays empty. The answer
+/// is written into the file that the words name for it before it is put out.
 pub fn run<R: Threads, F: Files, K: Sink>(
     rt: &R,
     alloc: Global,
@@ -37,16 +40,18 @@ pub fn run<R: Threads, F: Files, K: Sink>(
     requires empty { log.old ≡ empty_log }
     // An answer is right for the task that the words and the held files show: an optimum or a
     // solution, that there is none, or that the conflicts were spent, with the best solution so far;
-    // a judgement of a solution text. Its text was put out, and nothing else. The log shows the answer of
-    // a search.
+    // a list of solutions, and whether these are all; a judgement of a solution text. Its text was put
+    // out, and nothing else, and it stands in the file that the words name for it, if they name one. The log
+    // shows the answer of a search.
     ensures answered { HasReply result →
         IfSome (F.held files.old) (λ held. (task : Task) × (text : List ℕ)
         × Ask words.now held task × Answers task result text log.new
-        × (K.taken out.new ≡ with_more text (K.taken out.old))) }
+        × (K.taken out.new ≡ with_more text (K.taken out.old))
+        × HasOutput words.now text (F.held files.old) (F.held files.new)) }
     ensures unknown { result ≡ StatusValue.Unknown →
-        (model : List ℕ) × (params : Option (List ℕ)) × (conflicts : ℕ)
-        × Want words.now (Wanted.Solve model params conflicts)
-        × IsSpent conflicts log.new.events }
+        (model : List ℕ) × (params : Option (List ℕ)) × (request : Request) × (output : Option (List ℕ))
+        × Want words.now (Wanted.Search model params request output)
+        × IsSpent (conflicts_of request) log.new.events }
     ensures refuted { result ≡ StatusValue.Refuted →
         (model : List ℕ) × (params : Option (List ℕ)) × (solution : List ℕ)
         × Want words.now (Wanted.Verify model params solution) }
@@ -73,19 +78,21 @@ pub fn run<R: Threads, F: Files, K: Sink>(
         × Refuses words.now held StatusValue.Device line
         × (K.taken out.new ≡ with_more line (K.taken out.old))) }
 
-    // Then the line of a file that can't be read was put out, and nothing else; or the sink failed,
-    // and took of one text that may be put out a part that isn't the whole.
+    // Then the line of a file that can't be read or written was put out, and nothing else; or the sink
+    // failed, and took of one text that may be put out a part that isn't the whole.
     ensures failed { result ≡ StatusValue.Device →
-        ((name : List ℕ) × IsFailedRead words.now (F.held files.old) name
-        × (K.taken out.new ≡ with_more (device_line name) (K.taken out.old)))
+        ((text : List ℕ) × IsDeviceLine words.now (F.held files.old) (F.held files.new)
+        (Rose (F.faults files.old) (F.faults files.new)) text
+        × (K.taken out.new ≡ with_more text (K.taken out.old)))
         ⊎ (Rose (K.faults out.old) (K.faults out.new) × (text : List ℕ)
-        × MayBePut words.now (F.held files.old)
+        × MayBePut words.now (F.held files.old) (F.held files.new)
         (Rose (F.faults files.old) (F.faults files.new)) log.new text
         × TookPart text (K.taken out.old) (K.taken out.new)) }
 
     // Where memory was wanting, the sink took no more than its line, or a part of one text that may
     // be put out.
-    ensures wanting { result ≡ StatusValue.Memory → TookOnWant words.now (F.held files.old)
+    ensures wanting { result ≡ StatusValue.Memory →
+        TookOnWant words.now (F.held files.old) (F.held files.new)
         (Rose (F.faults files.old) (F.faults files.new)) log.new (K.taken out.old) (K.taken out.new) }
 
     // Where no device failed, a refusal that stands comes, and else the answer, want of memory
@@ -110,8 +117,12 @@ pub fn run<R: Threads, F: Files, K: Sink>(
     ensures refused_unlogged { result ≢ StatusValue.Memory → IfSome (F.held files.old) (λ held.
         (refusals : List Refusal) → Show words.now held (Err refusals) → log.new ≡ empty_log) }
 
-    // The files stay as they were, and no count of faults falls.
-    ensures held { F.held files.new ≡ F.held files.old }
+    // Every file but the one that the words name for the answer stays as it was, and each does with a refusal
+    // or a judgement. No count of faults falls.
+    ensures others { SameButOutput words.now (F.held files.old) (F.held files.new) }
+    ensures unwritten { (result ≡ StatusValue.Refuted) ⊎ ((result ≡ StatusValue.Usage)
+        ⊎ ((result ≡ StatusValue.Text) ⊎ (result ≡ StatusValue.Limit)))
+        → F.held files.new ≡ F.held files.old }
     ensures files_faults { F.faults files.old ≤ F.faults files.new }
     ensures out_faults { K.faults out.old ≤ K.faults out.new }
 {

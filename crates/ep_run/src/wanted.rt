@@ -1,7 +1,7 @@
 //! What the words of a command want of a run.
 
 ghost use Rattle.std.specs.Prelude.{◌≡◌};
-ghost use Rattle.ep_run.specs.Commands.{wanted_of};
+ghost use Rattle.ep_run.specs.Commands.{output_of, wanted_of};
 ghost use Rattle.ep_run.specs.Steps.{TellsWanted};
 
 use super::stops::Stop;
@@ -13,11 +13,12 @@ use std::alloc::Global;
 /// What a run is wanted to do, and with which files.
 #[derive(Debug, Drop)]
 pub enum Wanted {
-    /// To solve a model within so many conflicts.
-    Solve {
+    /// To search for solutions of a model, and to write the answer into a file where one is named.
+    Search {
         model: Word,
         params: Option<Word>,
-        conflicts: u64,
+        request: Request,
+        output: Option<Word>,
     },
     /// To say whether a solution text is a solution of a model.
     Verify {
@@ -25,6 +26,15 @@ pub enum Wanted {
         params: Option<Word>,
         solution: Word,
     },
+}
+
+/// What is searched for, and within how many conflicts.
+#[derive(Clone, Copy, Debug)]
+pub enum Request {
+    /// A solution, and the best one where an objective is stated.
+    One { conflicts: u64 },
+    /// At most so many solutions.
+    Many { most: u64, conflicts: u64 },
 }
 
 /// What the words want of a run.
@@ -52,13 +62,31 @@ fn wanted_of(job: Job) -> Option<Wanted>
             in_eprime,
             in_param,
             conflicts,
-            out_solution: None,
+            out_solution,
             out_cnf: None,
             out_log: None,
-        } => Some(Wanted::Solve {
+        } => Some(Wanted::Search {
             model: in_eprime,
             params: in_param,
+            request: Request::One { conflicts },
+            output: out_solution,
+        }),
+        Job::Enumerate {
+            in_eprime,
+            in_param,
+            solutions,
             conflicts,
+            out_solution,
+            out_cnf: None,
+            out_log: None,
+        } => Some(Wanted::Search {
+            model: in_eprime,
+            params: in_param,
+            request: Request::Many {
+                most: solutions,
+                conflicts,
+            },
+            output: out_solution,
         }),
         Job::Verify {
             in_eprime,
@@ -70,5 +98,16 @@ fn wanted_of(job: Job) -> Option<Wanted>
             solution: in_solution,
         }),
         _ => None,
+    }
+}
+
+/// The file into which the answer is to be written, if one is named.
+#[tactic(auto, unfolding(crate::specs::Commands::output_of))]
+pub fn output_of(wanted: Wanted) -> Option<Word>
+    ensures { result ≡ output_of wanted }
+{
+    match wanted {
+        Wanted::Search { output, .. } => output,
+        Wanted::Verify { .. } => None,
     }
 }

@@ -1,6 +1,6 @@
 use Rattle.std.proofs.Common.{◌≡◌, ◌≤◌, [], ℕ, IfOk, inl, inr, subst, sym}
 use Rattle.cnf_core.specs.Events.{LogState}
-use Rattle.ep_instance.specs.Instances.{instance_of as plain_instance, mode_of}
+use Rattle.ep_instance.specs.Instances.{instance_of as plain_instance}
 use Rattle.ep_print.specs.Answers.{answer_tree}
 use Rattle.ep_solve.specs.Logged.{IsLogged}
 use Rattle.ep_solve.specs.Right.{IsRight}

@@ -6,7 +6,7 @@ use Rattle.ep_print.specs.declared.refusals.TextFile.{TextFile}
 use Rattle.ep_tree.specs.Views.{model_tree}
 use Rattle.ep_run.specs.Commands.{files_of}
 use Rattle.ep_run.specs.Readings.{IsReadAs}
-use Rattle.ep_run.specs.Shown.{ComesTo, comes_to_solve, comes_to_verify}
+use Rattle.ep_run.specs.Shown.{ComesTo, comes_to_search, comes_to_verify}
 use Rattle.ep_solve.specs.Right.{empty_log}
 use Rattle.ep_run.specs.Steps.{EndsAs, IsEnd, TellsTask}
 use Rattle.ep_run.specs.declared.wanted.Wanted.{Wanted}
@@ -14,16 +14,16 @@ use Rattle.ep_run.proofs.Chains.{after, stable-file, unread}
 use Rattle.ep_run.proofs.Running.{rose-from, stopped-ends, verify-ends}
 use Rattle.ep_run.proofs.runs.do_wanted.Goals as goal
 
-pub returns-in_err-model-in-Solve-clause-tells : goal.returns-in_err-model-in-Solve-clause-tells
-returns-in_err-model-in-Solve-clause-tells g c =
+pub returns-in_err-model-in-Search-clause-tells : goal.returns-in_err-model-in-Search-clause-tells
+returns-in_err-model-in-Search-clause-tells g c =
     let p = err_from_is_err_and c.from_residual.result c.from_residual.ensures.1 in
     let told = g.F.Files.held c.args.files.now in
     let rose = Rose (g.F.Files.faults c.args.files.now) (g.F.Files.faults c.read_model.new.files) in
-    let stop = c.in_err-model-in-Solve.field-0.0 in
+    let stop = c.in_err-model-in-Search.field-0.0 in
     let W : Wanted → Type 0 = λ w. TellsTask (files_of w) (ComesTo w) told rose c.args.log.now (Err stop) in
     rw (p.1, p.2)
-    (subst W (sym c.in-Solve.is)
-    (unread model_tree TextFile.Model c.in-Solve.model (option_to_list c.in-Solve.params) (λ m. comes_to_solve c.in-Solve.conflicts c.in-Solve.params m) told rose c.args.log.now stop c.in_err-model-in-Solve.ensures.tells))
+    (subst W (sym c.in-Search.is)
+    (unread model_tree TextFile.Model c.in-Search.model (option_to_list c.in-Search.params) (λ m. comes_to_search c.in-Search.request c.in-Search.params m) told rose c.args.log.now stop c.in_err-model-in-Search.ensures.tells))
 
 pub returns-in_err-model-in-Verify-clause-tells : goal.returns-in_err-model-in-Verify-clause-tells
 returns-in_err-model-in-Verify-clause-tells g c =
@@ -36,18 +36,18 @@ returns-in_err-model-in-Verify-clause-tells g c =
     (subst W (sym c.in-Verify.is)
     (unread model_tree TextFile.Model c.in-Verify.model (option_to_list c.in-Verify.params ++ c.in-Verify.solution ∷ []) (λ m. comes_to_verify c.in-Verify.params c.in-Verify.solution m) told rose c.args.log.now stop c.in_err-model-in-Verify.ensures.tells))
 
-pub returns-in_ok-model-in-Solve-clause-tells : goal.returns-in_ok-model-in-Solve-clause-tells
-returns-in_ok-model-in-Solve-clause-tells g c =
+pub returns-in_ok-model-in-Search-clause-tells : goal.returns-in_ok-model-in-Search-clause-tells
+returns-in_ok-model-in-Search-clause-tells g c =
     let told = g.F.Files.held c.args.files.now in
-    let rose = Rose (g.F.Files.faults c.args.files.now) (g.F.Files.faults c.solve_model.new.files) in
+    let rose = Rose (g.F.Files.faults c.args.files.now) (g.F.Files.faults c.search_model.new.files) in
     let now = g.F.Files.faults c.read_model.new.files in
-    let W : Wanted → Type 0 = λ w. TellsTask (files_of w) (ComesTo w) told rose c.solve_model.new.log c.solve_model.result in
-    subst W (sym c.in-Solve.is)
-    (after (c.in-Solve.model ∷ []) (option_to_list c.in-Solve.params) (λ held. IsReadAs held TextFile.Model c.in-Solve.model) (λ m. comes_to_solve c.in-Solve.conflicts c.in-Solve.params m)
-    (stable-file TextFile.Model c.in-Solve.model) (model_tree c.in_ok-model-in-Solve.model) told (g.F.Files.held c.read_model.new.files) rose
-    (Rose now (g.F.Files.faults c.solve_model.new.files)) c.solve_model.new.log c.solve_model.result c.in_ok-model-in-Solve.ensures.held
-    (rose-from (g.F.Files.faults c.args.files.now) now (g.F.Files.faults c.solve_model.new.files) c.in_ok-model-in-Solve.ensures.quiet)
-    c.in_ok-model-in-Solve.ensures.tells c.solve_model.ensures.tells)
+    let W : Wanted → Type 0 = λ w. TellsTask (files_of w) (ComesTo w) told rose c.search_model.new.log c.search_model.result in
+    subst W (sym c.in-Search.is)
+    (after (c.in-Search.model ∷ []) (option_to_list c.in-Search.params) (λ held. IsReadAs held TextFile.Model c.in-Search.model) (λ m. comes_to_search c.in-Search.request c.in-Search.params m)
+    (stable-file TextFile.Model c.in-Search.model) (model_tree c.in_ok-model-in-Search.model) told (g.F.Files.held c.read_model.new.files) rose
+    (Rose now (g.F.Files.faults c.search_model.new.files)) c.search_model.new.log c.search_model.result c.in_ok-model-in-Search.ensures.held
+    (rose-from (g.F.Files.faults c.args.files.now) now (g.F.Files.faults c.search_model.new.files) c.in_ok-model-in-Search.ensures.quiet)
+    c.in_ok-model-in-Search.ensures.tells c.search_model.ensures.tells)
 
 pub returns-in_ok-model-in-Verify-clause-tells : goal.returns-in_ok-model-in-Verify-clause-tells
 returns-in_ok-model-in-Verify-clause-tells g c =
@@ -64,20 +64,20 @@ returns-in_ok-model-in-Verify-clause-tells g c =
     (rose-from (g.F.Files.faults c.args.files.now) now (g.F.Files.faults c.verify_model.new.files) c.in_ok-model-in-Verify.ensures.quiet)
     c.in_ok-model-in-Verify.ensures.tells c.verify_model.ensures.tells))
 
-pub returns-in_err-model-in-Solve-clause-ends : goal.returns-in_err-model-in-Solve-clause-ends
-returns-in_err-model-in-Solve-clause-ends g c =
+pub returns-in_err-model-in-Search-clause-ends : goal.returns-in_err-model-in-Search-clause-ends
+returns-in_err-model-in-Search-clause-ends g c =
     let p = err_from_is_err_and c.from_residual.result c.from_residual.ensures.1 in
-    rw (p.1, p.2) (stopped-ends (λ status. IsEnd c.args.wanted.now status c.args.log.now) c.args.log.now c.in_err-model-in-Solve.field-0.0 c.requires.empty)
+    rw (p.1, p.2) (stopped-ends (λ status. IsEnd c.args.wanted.now status c.args.log.now) c.args.log.now c.in_err-model-in-Search.field-0.0 c.requires.empty)
 
 pub returns-in_err-model-in-Verify-clause-ends : goal.returns-in_err-model-in-Verify-clause-ends
 returns-in_err-model-in-Verify-clause-ends g c =
     let p = err_from_is_err_and c.from_residual-in_err-model-in-Verify.result c.from_residual-in_err-model-in-Verify.ensures.1 in
     rw (p.1, p.2) (stopped-ends (λ status. IsEnd c.args.wanted.now status c.args.log.now) c.args.log.now c.in_err-model-in-Verify.field-0.0 c.requires.empty)
 
-pub returns-in_ok-model-in-Solve-clause-ends : goal.returns-in_ok-model-in-Solve-clause-ends
-returns-in_ok-model-in-Solve-clause-ends g c =
-    let W : Wanted → Type 0 = λ w. EndsAs w c.solve_model.new.log c.solve_model.result in
-    subst W (sym c.in-Solve.is) c.solve_model.ensures.ends
+pub returns-in_ok-model-in-Search-clause-ends : goal.returns-in_ok-model-in-Search-clause-ends
+returns-in_ok-model-in-Search-clause-ends g c =
+    let W : Wanted → Type 0 = λ w. EndsAs w c.search_model.new.log c.search_model.result in
+    subst W (sym c.in-Search.is) c.search_model.ensures.ends
 
 pub returns-in_ok-model-in-Verify-clause-ends : goal.returns-in_ok-model-in-Verify-clause-ends
 returns-in_ok-model-in-Verify-clause-ends g c =

@@ -1,7 +1,8 @@
 use Rattle.std.proofs.Common.{◌≡◌, ◌∙◌, ℕ, List, Err, inl, inr, ap, subst}
 use Rattle.ep_base.specs.Outside.{Rose, TookPart, with_more}
+use Rattle.ep_run.specs.Puts.{TookOnWant}
 use Rattle.ep_run.proofs.Once.{ShownOnce, TextsAreOnce, answers-said, refuses-said, shown-once, unlogged-said}
-use Rattle.ep_run.proofs.Promises.{may-be-put, never-memory, usage-said, when-answered, when-failed, when-not-held, when-refused, when-refuted, when-sound, when-unknown, when-unlogged, when-usage, why-device}
+use Rattle.ep_run.proofs.Promises.{may-be-put, never-memory, usage-said, want-others, when-answered, when-failed, when-kept, when-not-held, when-others, when-refused, when-refuted, when-sound, when-unknown, when-unlogged, when-usage, why-device}
 use Rattle.ep_run.proofs.Saying.{case-of}
 use Rattle.ep_run.proofs.top.run.Goals as goal
 
@@ -9,181 +10,196 @@ pub returns-in-Ok-put_all-clause-answered : goal.returns-in-Ok-put_all-clause-an
 returns-in-Ok-put_all-clause-answered g c =
     let words = c.args.words.now in
     let told = g.F.Files.held c.args.files.now in
+    let after = g.F.Files.held c.reply_to.new.files in
     let rose = Rose (g.F.Files.faults c.args.files.now) (g.F.Files.faults c.reply_to.new.files) in
     let status = c.in-Ok.reply.status in
     let text = c.in-Ok.reply.text.items in
     let log = c.reply_to.new.log in
-    let case = case-of words told rose status text log c.in-Ok.ensures.says in
+    let case = case-of words told after rose status text log c.in-Ok.ensures.says in
     let Took : List ℕ → Type 0 = λ x. g.K.Sink.taken c.put_all.new.sink ≡ with_more x (g.K.Sink.taken c.args.out.now) in
     let took = subst Took c.deref.ensures.value c.in-Ok-put_all.ensures.all in
-    λ h. when-answered words told rose status text log Took case took h
+    λ h. when-answered words told after rose status text log Took case took h
 
 pub returns-in-Ok-put_all-clause-refuted : goal.returns-in-Ok-put_all-clause-refuted
 returns-in-Ok-put_all-clause-refuted g c =
     let words = c.args.words.now in
     let told = g.F.Files.held c.args.files.now in
+    let after = g.F.Files.held c.reply_to.new.files in
     let rose = Rose (g.F.Files.faults c.args.files.now) (g.F.Files.faults c.reply_to.new.files) in
     let status = c.in-Ok.reply.status in
     let text = c.in-Ok.reply.text.items in
     let log = c.reply_to.new.log in
-    let case = case-of words told rose status text log c.in-Ok.ensures.says in
-    λ h. (when-refuted words told rose status text log case h).0
+    let case = case-of words told after rose status text log c.in-Ok.ensures.says in
+    λ h. when-refuted words told after rose status text log case h
 
 pub returns-in-Ok-put_all-clause-refused : goal.returns-in-Ok-put_all-clause-refused
 returns-in-Ok-put_all-clause-refused g c =
     let words = c.args.words.now in
     let told = g.F.Files.held c.args.files.now in
+    let after = g.F.Files.held c.reply_to.new.files in
     let rose = Rose (g.F.Files.faults c.args.files.now) (g.F.Files.faults c.reply_to.new.files) in
     let status = c.in-Ok.reply.status in
     let text = c.in-Ok.reply.text.items in
     let log = c.reply_to.new.log in
-    let case = case-of words told rose status text log c.in-Ok.ensures.says in
+    let case = case-of words told after rose status text log c.in-Ok.ensures.says in
     let Took : List ℕ → Type 0 = λ x. g.K.Sink.taken c.put_all.new.sink ≡ with_more x (g.K.Sink.taken c.args.out.now) in
     let took = subst Took c.deref.ensures.value c.in-Ok-put_all.ensures.all in
-    λ h. when-refused words told rose status text log Took case took h
+    λ h. when-refused words told after rose status text log Took case took h
 
 pub returns-in-Ok-put_all-clause-usage : goal.returns-in-Ok-put_all-clause-usage
 returns-in-Ok-put_all-clause-usage g c =
     let words = c.args.words.now in
     let told = g.F.Files.held c.args.files.now in
+    let after = g.F.Files.held c.reply_to.new.files in
     let rose = Rose (g.F.Files.faults c.args.files.now) (g.F.Files.faults c.reply_to.new.files) in
     let status = c.in-Ok.reply.status in
     let text = c.in-Ok.reply.text.items in
     let log = c.reply_to.new.log in
-    let case = case-of words told rose status text log c.in-Ok.ensures.says in
-    λ h. (when-usage words told rose status text log case h).0
+    let case = case-of words told after rose status text log c.in-Ok.ensures.says in
+    λ h. (when-usage words told after rose status text log case h).0
 
 pub returns-in-Ok-put_all-clause-usage_line : goal.returns-in-Ok-put_all-clause-usage_line
 returns-in-Ok-put_all-clause-usage_line g c =
     let words = c.args.words.now in
     let told = g.F.Files.held c.args.files.now in
+    let after = g.F.Files.held c.reply_to.new.files in
     let rose = Rose (g.F.Files.faults c.args.files.now) (g.F.Files.faults c.reply_to.new.files) in
     let status = c.in-Ok.reply.status in
     let text = c.in-Ok.reply.text.items in
     let log = c.reply_to.new.log in
-    let case = case-of words told rose status text log c.in-Ok.ensures.says in
+    let case = case-of words told after rose status text log c.in-Ok.ensures.says in
     let Took : List ℕ → Type 0 = λ x. g.K.Sink.taken c.put_all.new.sink ≡ with_more x (g.K.Sink.taken c.args.out.now) in
     let took = subst Took c.deref.ensures.value c.in-Ok-put_all.ensures.all in
-    λ h. subst Took (when-usage words told rose status text log case h).1 took
+    λ h. subst Took (when-usage words told after rose status text log case h).1 took
 
 pub returns-in-Ok-put_all-clause-device : goal.returns-in-Ok-put_all-clause-device
 returns-in-Ok-put_all-clause-device g c =
     let words = c.args.words.now in
     let told = g.F.Files.held c.args.files.now in
+    let after = g.F.Files.held c.reply_to.new.files in
     let rose = Rose (g.F.Files.faults c.args.files.now) (g.F.Files.faults c.reply_to.new.files) in
     let status = c.in-Ok.reply.status in
     let text = c.in-Ok.reply.text.items in
     let log = c.reply_to.new.log in
-    let case = case-of words told rose status text log c.in-Ok.ensures.says in
-    λ h. why-device words told rose _ status text log case h
+    let case = case-of words told after rose status text log c.in-Ok.ensures.says in
+    λ h. why-device words told after rose _ status text log case h
 
 pub returns-in-Ok-put_all-clause-not_held : goal.returns-in-Ok-put_all-clause-not_held
 returns-in-Ok-put_all-clause-not_held g c =
     let words = c.args.words.now in
     let told = g.F.Files.held c.args.files.now in
+    let after = g.F.Files.held c.reply_to.new.files in
     let rose = Rose (g.F.Files.faults c.args.files.now) (g.F.Files.faults c.reply_to.new.files) in
     let status = c.in-Ok.reply.status in
     let text = c.in-Ok.reply.text.items in
     let log = c.reply_to.new.log in
-    let case = case-of words told rose status text log c.in-Ok.ensures.says in
+    let case = case-of words told after rose status text log c.in-Ok.ensures.says in
     let Took : List ℕ → Type 0 = λ x. g.K.Sink.taken c.put_all.new.sink ≡ with_more x (g.K.Sink.taken c.args.out.now) in
     let took = subst Took c.deref.ensures.value c.in-Ok-put_all.ensures.all in
-    λ h calm _. when-not-held words told rose status text log Took case took h calm
+    λ h calm _. when-not-held words told after rose status text log Took case took h calm
 
 pub returns-in-Ok-put_all-clause-failed : goal.returns-in-Ok-put_all-clause-failed
 returns-in-Ok-put_all-clause-failed g c =
     let words = c.args.words.now in
     let told = g.F.Files.held c.args.files.now in
+    let after = g.F.Files.held c.reply_to.new.files in
     let rose = Rose (g.F.Files.faults c.args.files.now) (g.F.Files.faults c.reply_to.new.files) in
     let status = c.in-Ok.reply.status in
     let text = c.in-Ok.reply.text.items in
     let log = c.reply_to.new.log in
-    let case = case-of words told rose status text log c.in-Ok.ensures.says in
+    let case = case-of words told after rose status text log c.in-Ok.ensures.says in
     let Took : List ℕ → Type 0 = λ x. g.K.Sink.taken c.put_all.new.sink ≡ with_more x (g.K.Sink.taken c.args.out.now) in
     let took = subst Took c.deref.ensures.value c.in-Ok-put_all.ensures.all in
-    λ h. inl (when-failed words told rose status text log Took case took h)
+    λ h. inl (when-failed words told after rose status text log Took case took h)
 
 pub returns-in-Ok-put_all-clause-unknown : goal.returns-in-Ok-put_all-clause-unknown
 returns-in-Ok-put_all-clause-unknown g c =
     let words = c.args.words.now in
     let told = g.F.Files.held c.args.files.now in
+    let after = g.F.Files.held c.reply_to.new.files in
     let rose = Rose (g.F.Files.faults c.args.files.now) (g.F.Files.faults c.reply_to.new.files) in
     let status = c.in-Ok.reply.status in
     let text = c.in-Ok.reply.text.items in
     let log = c.reply_to.new.log in
-    let case = case-of words told rose status text log c.in-Ok.ensures.says in
-    λ h. when-unknown words told rose status text log case h
+    let case = case-of words told after rose status text log c.in-Ok.ensures.says in
+    λ h. when-unknown words told after rose status text log case h
 
 pub returns-in-Ok-put_all-clause-usage_refused : goal.returns-in-Ok-put_all-clause-usage_refused
 returns-in-Ok-put_all-clause-usage_refused g c =
     let words = c.args.words.now in
     let told = g.F.Files.held c.args.files.now in
+    let after = g.F.Files.held c.reply_to.new.files in
     let rose = Rose (g.F.Files.faults c.args.files.now) (g.F.Files.faults c.reply_to.new.files) in
     let status = c.in-Ok.reply.status in
     let text = c.in-Ok.reply.text.items in
     let log = c.reply_to.new.log in
-    let case = case-of words told rose status text log c.in-Ok.ensures.says in
-    λ none _. usage-said words told rose status text log case none
+    let case = case-of words told after rose status text log c.in-Ok.ensures.says in
+    λ none _. usage-said words told after rose status text log case none
 
 pub returns-in-Ok-put_all-clause-wanting : goal.returns-in-Ok-put_all-clause-wanting
 returns-in-Ok-put_all-clause-wanting g c =
     let words = c.args.words.now in
     let told = g.F.Files.held c.args.files.now in
+    let after = g.F.Files.held c.reply_to.new.files in
     let rose = Rose (g.F.Files.faults c.args.files.now) (g.F.Files.faults c.reply_to.new.files) in
     let status = c.in-Ok.reply.status in
     let text = c.in-Ok.reply.text.items in
     let log = c.reply_to.new.log in
-    let case = case-of words told rose status text log c.in-Ok.ensures.says in
-    λ h. absurd (never-memory words told rose status text log case h)
+    let case = case-of words told after rose status text log c.in-Ok.ensures.says in
+    let Want : Type 0 = TookOnWant words told after rose log (g.K.Sink.taken c.args.out.now) (g.K.Sink.taken c.put_all.new.sink) in
+    λ h. absurd {A = Want} (never-memory words told after rose status text log case h)
 
 pub returns-in-Ok-put_all-clause-refuses : goal.returns-in-Ok-put_all-clause-refuses
 returns-in-Ok-put_all-clause-refuses g c =
     let words = c.args.words.now in
     let told = g.F.Files.held c.args.files.now in
+    let after = g.F.Files.held c.reply_to.new.files in
     let rose = Rose (g.F.Files.faults c.args.files.now) (g.F.Files.faults c.reply_to.new.files) in
     let status = c.in-Ok.reply.status in
     let text = c.in-Ok.reply.text.items in
     let log = c.reply_to.new.log in
-    let case = case-of words told rose status text log c.in-Ok.ensures.says in
+    let case = case-of words told after rose status text log c.in-Ok.ensures.says in
     let texts : TextsAreOnce = record {
       model = c.texts_have_one_answer.ensures.models;
       params = c.texts_have_one_answer.ensures.params;
       solution = c.texts_have_one_answer.ensures.params;
     } in
     let once : ShownOnce words = shown-once c.one_job_for_words.ensures texts words in
-    λ calm _. refuses-said words told rose status text log once case calm
+    λ calm _. refuses-said words told after rose status text log once case calm
 
 pub returns-in-Ok-put_all-clause-answers : goal.returns-in-Ok-put_all-clause-answers
 returns-in-Ok-put_all-clause-answers g c =
     let words = c.args.words.now in
     let told = g.F.Files.held c.args.files.now in
+    let after = g.F.Files.held c.reply_to.new.files in
     let rose = Rose (g.F.Files.faults c.args.files.now) (g.F.Files.faults c.reply_to.new.files) in
     let status = c.in-Ok.reply.status in
     let text = c.in-Ok.reply.text.items in
     let log = c.reply_to.new.log in
-    let case = case-of words told rose status text log c.in-Ok.ensures.says in
+    let case = case-of words told after rose status text log c.in-Ok.ensures.says in
     let texts : TextsAreOnce = record {
       model = c.texts_have_one_answer.ensures.models;
       params = c.texts_have_one_answer.ensures.params;
       solution = c.texts_have_one_answer.ensures.params;
     } in
     let once : ShownOnce words = shown-once c.one_job_for_words.ensures texts words in
-    λ calm _. answers-said words told rose status text log once case calm
+    λ calm _. answers-said words told after rose status text log once case calm
 
 pub returns-in-Err-Failed-clause-failed : goal.returns-in-Err-Failed-clause-failed
 returns-in-Err-Failed-clause-failed g c =
     let words = c.args.words.now in
     let told = g.F.Files.held c.args.files.now in
+    let after = g.F.Files.held c.reply_to.new.files in
     let rose = Rose (g.F.Files.faults c.args.files.now) (g.F.Files.faults c.reply_to.new.files) in
     let status = c.in-Ok.reply.status in
     let text = c.in-Ok.reply.text.items in
     let log = c.reply_to.new.log in
-    let case = case-of words told rose status text log c.in-Ok.ensures.says in
+    let case = case-of words told after rose status text log c.in-Ok.ensures.says in
     let Part : List ℕ → Type 0 = λ x. TookPart x (g.K.Sink.taken c.args.out.now) (g.K.Sink.taken c.put_all.new.sink) in
     λ h. inr (
       c.put_all.ensures.failed (c.in-Err-Failed.is ∙ ap Err c.in-Err-Failed.field-0-is),
       text,
-      may-be-put words told rose status text log case,
+      may-be-put words told after rose status text log case,
       subst Part c.deref.ensures.value c.in-Err-Failed.ensures.part,
     )
 
@@ -191,77 +207,139 @@ pub returns-clause-wanting : goal.returns-clause-wanting
 returns-clause-wanting g c =
     let words = c.args.words.now in
     let told = g.F.Files.held c.args.files.now in
+    let after = g.F.Files.held c.reply_to.new.files in
     let rose = Rose (g.F.Files.faults c.args.files.now) (g.F.Files.faults c.reply_to.new.files) in
     let status = c.in-Ok.reply.status in
     let text = c.in-Ok.reply.text.items in
     let log = c.reply_to.new.log in
-    let case = case-of words told rose status text log c.in-Ok.ensures.says in
+    let case = case-of words told after rose status text log c.in-Ok.ensures.says in
     let Part : List ℕ → Type 0 = λ x. TookPart x (g.K.Sink.taken c.args.out.now) (g.K.Sink.taken c.put_all.new.sink) in
-    λ h. inr (text, may-be-put words told rose status text log case, subst Part c.deref.ensures.value c.in-Err-Memory.ensures.part)
+    λ h. inr (text, may-be-put words told after rose status text log case, subst Part c.deref.ensures.value c.in-Err-Memory.ensures.part)
 
 pub returns-in-Ok-put_all-clause-sound : goal.returns-in-Ok-put_all-clause-sound
 returns-in-Ok-put_all-clause-sound g c =
     let words = c.args.words.now in
     let told = g.F.Files.held c.args.files.now in
+    let after = g.F.Files.held c.reply_to.new.files in
     let rose = Rose (g.F.Files.faults c.args.files.now) (g.F.Files.faults c.reply_to.new.files) in
     let status = c.in-Ok.reply.status in
     let text = c.in-Ok.reply.text.items in
     let log = c.reply_to.new.log in
-    let case = case-of words told rose status text log c.in-Ok.ensures.says in
-    λ h. when-sound words told rose status text log case
+    let case = case-of words told after rose status text log c.in-Ok.ensures.says in
+    λ h. when-sound words told after rose status text log case
 
 pub returns-in-Ok-put_all-clause-refused_unlogged : goal.returns-in-Ok-put_all-clause-refused_unlogged
 returns-in-Ok-put_all-clause-refused_unlogged g c =
     let words = c.args.words.now in
     let told = g.F.Files.held c.args.files.now in
+    let after = g.F.Files.held c.reply_to.new.files in
     let rose = Rose (g.F.Files.faults c.args.files.now) (g.F.Files.faults c.reply_to.new.files) in
     let status = c.in-Ok.reply.status in
     let text = c.in-Ok.reply.text.items in
     let log = c.reply_to.new.log in
-    let case = case-of words told rose status text log c.in-Ok.ensures.says in
+    let case = case-of words told after rose status text log c.in-Ok.ensures.says in
     let texts : TextsAreOnce = record {
       model = c.texts_have_one_answer.ensures.models;
       params = c.texts_have_one_answer.ensures.params;
       solution = c.texts_have_one_answer.ensures.params;
     } in
     let once : ShownOnce words = shown-once c.one_job_for_words.ensures texts words in
-    λ h. unlogged-said words told rose status text log once case
+    λ h. unlogged-said words told after rose status text log once case
 
 pub returns-in-Err-Failed-clause-sound : goal.returns-in-Err-Failed-clause-sound
 returns-in-Err-Failed-clause-sound g c =
     let words = c.args.words.now in
     let told = g.F.Files.held c.args.files.now in
+    let after = g.F.Files.held c.reply_to.new.files in
     let rose = Rose (g.F.Files.faults c.args.files.now) (g.F.Files.faults c.reply_to.new.files) in
     let status = c.in-Ok.reply.status in
     let text = c.in-Ok.reply.text.items in
     let log = c.reply_to.new.log in
-    let case = case-of words told rose status text log c.in-Ok.ensures.says in
-    λ h. when-sound words told rose status text log case
+    let case = case-of words told after rose status text log c.in-Ok.ensures.says in
+    λ h. when-sound words told after rose status text log case
 
 pub returns-in-Err-Failed-clause-refused_unlogged : goal.returns-in-Err-Failed-clause-refused_unlogged
 returns-in-Err-Failed-clause-refused_unlogged g c =
     let words = c.args.words.now in
     let told = g.F.Files.held c.args.files.now in
+    let after = g.F.Files.held c.reply_to.new.files in
     let rose = Rose (g.F.Files.faults c.args.files.now) (g.F.Files.faults c.reply_to.new.files) in
     let status = c.in-Ok.reply.status in
     let text = c.in-Ok.reply.text.items in
     let log = c.reply_to.new.log in
-    let case = case-of words told rose status text log c.in-Ok.ensures.says in
+    let case = case-of words told after rose status text log c.in-Ok.ensures.says in
     let texts : TextsAreOnce = record {
       model = c.texts_have_one_answer.ensures.models;
       params = c.texts_have_one_answer.ensures.params;
       solution = c.texts_have_one_answer.ensures.params;
     } in
     let once : ShownOnce words = shown-once c.one_job_for_words.ensures texts words in
-    λ h. unlogged-said words told rose status text log once case
+    λ h. unlogged-said words told after rose status text log once case
 
 pub returns-in-Ok-put_all-clause-unlogged : goal.returns-in-Ok-put_all-clause-unlogged
 returns-in-Ok-put_all-clause-unlogged g c =
     let words = c.args.words.now in
     let told = g.F.Files.held c.args.files.now in
+    let after = g.F.Files.held c.reply_to.new.files in
     let rose = Rose (g.F.Files.faults c.args.files.now) (g.F.Files.faults c.reply_to.new.files) in
     let status = c.in-Ok.reply.status in
     let text = c.in-Ok.reply.text.items in
     let log = c.reply_to.new.log in
-    let case = case-of words told rose status text log c.in-Ok.ensures.says in
-    λ h. when-unlogged words told rose status text log case h
+    let case = case-of words told after rose status text log c.in-Ok.ensures.says in
+    λ h. when-unlogged words told after rose status text log case h
+
+pub returns-in_default-clause-others : goal.returns-in_default-clause-others
+returns-in_default-clause-others g c =
+    let words = c.args.words.now in
+    let told = g.F.Files.held c.args.files.now in
+    let after = g.F.Files.held c.reply_to.new.files in
+    let rose = Rose (g.F.Files.faults c.args.files.now) (g.F.Files.faults c.reply_to.new.files) in
+    want-others words told after rose c.in_default.ensures.wants
+
+pub returns-in-Ok-put_all-clause-others : goal.returns-in-Ok-put_all-clause-others
+returns-in-Ok-put_all-clause-others g c =
+    let words = c.args.words.now in
+    let told = g.F.Files.held c.args.files.now in
+    let after = g.F.Files.held c.reply_to.new.files in
+    let rose = Rose (g.F.Files.faults c.args.files.now) (g.F.Files.faults c.reply_to.new.files) in
+    let status = c.in-Ok.reply.status in
+    let text = c.in-Ok.reply.text.items in
+    let log = c.reply_to.new.log in
+    let case = case-of words told after rose status text log c.in-Ok.ensures.says in
+    when-others words told after rose status text log case
+
+pub returns-in-Err-Failed-clause-others : goal.returns-in-Err-Failed-clause-others
+returns-in-Err-Failed-clause-others g c =
+    let words = c.args.words.now in
+    let told = g.F.Files.held c.args.files.now in
+    let after = g.F.Files.held c.reply_to.new.files in
+    let rose = Rose (g.F.Files.faults c.args.files.now) (g.F.Files.faults c.reply_to.new.files) in
+    let status = c.in-Ok.reply.status in
+    let text = c.in-Ok.reply.text.items in
+    let log = c.reply_to.new.log in
+    let case = case-of words told after rose status text log c.in-Ok.ensures.says in
+    when-others words told after rose status text log case
+
+pub returns-clause-others : goal.returns-clause-others
+returns-clause-others g c =
+    let words = c.args.words.now in
+    let told = g.F.Files.held c.args.files.now in
+    let after = g.F.Files.held c.reply_to.new.files in
+    let rose = Rose (g.F.Files.faults c.args.files.now) (g.F.Files.faults c.reply_to.new.files) in
+    let status = c.in-Ok.reply.status in
+    let text = c.in-Ok.reply.text.items in
+    let log = c.reply_to.new.log in
+    let case = case-of words told after rose status text log c.in-Ok.ensures.says in
+    when-others words told after rose status text log case
+
+pub returns-in-Ok-put_all-clause-unwritten : goal.returns-in-Ok-put_all-clause-unwritten
+returns-in-Ok-put_all-clause-unwritten g c =
+    let words = c.args.words.now in
+    let told = g.F.Files.held c.args.files.now in
+    let after = g.F.Files.held c.reply_to.new.files in
+    let rose = Rose (g.F.Files.faults c.args.files.now) (g.F.Files.faults c.reply_to.new.files) in
+    let status = c.in-Ok.reply.status in
+    let text = c.in-Ok.reply.text.items in
+    let log = c.reply_to.new.log in
+    let case = case-of words told after rose status text log c.in-Ok.ensures.says in
+    λ h. when-kept words told after rose status text log case h

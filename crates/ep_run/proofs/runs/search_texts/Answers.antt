@@ -1,29 +1,28 @@
 use Rattle.std.proofs.lemmas.Result.{err_from_is_err_and}
 use Rattle.ep_instance.specs.Instances.{instance_of as plain_instance}
-use Rattle.ep_print.specs.Answers.{answer_tree}
 use Rattle.ep_tree.specs.Views.{model_tree, params_tree}
 use Rattle.ep_types.specs.Texts.{typed_params_tree, typed_tree}
 use Rattle.ep_types.specs.declared.typed.Typed.{Typed}
 use Rattle.ep_types.specs.declared.typed.TypedParams.{TypedParams}
+use Rattle.ep_run.specs.Commands.{conflicts_of}
 use Rattle.ep_run.specs.Steps.{IsSearched}
-use Rattle.ep_run.specs.declared.replies.Reply.{Reply}
-use Rattle.ep_run.proofs.Running.{same-instance, solve-answered, solve-instance-stopped, solve-model-stopped, solve-params-stopped, stopped-ends}
-use Rattle.ep_run.proofs.Tasks.{AreFaultless, found-ends}
-use Rattle.ep_run.proofs.runs.solve_texts.Goals as goal
+use Rattle.ep_run.proofs.Running.{same-instance, search-answered, search-instance-stopped, search-model-stopped, search-params-stopped, stopped-ends}
+use Rattle.ep_run.proofs.Tasks.{AreFaultless}
+use Rattle.ep_run.proofs.runs.search_texts.Goals as goal
 
 pub returns-in_err-model-clause-tells : goal.returns-in_err-model-clause-tells
 returns-in_err-model-clause-tells c =
     let p = err_from_is_err_and c.from_residual.result c.from_residual.ensures.1 in
     let m = model_tree c.args.model in
     let q = params_tree c.args.params in
-    rw (p.1, p.2) (solve-model-stopped Typed c.args.log.now c.args.conflicts m q c.in_err-model.field-0.0 c.in_err-model.ensures.passes)
+    rw (p.1, p.2) (search-model-stopped Typed c.args.log.now c.args.request m q c.in_err-model.field-0.0 c.in_err-model.ensures.passes)
 
 pub returns-in_err-params-clause-tells : goal.returns-in_err-params-clause-tells
 returns-in_err-params-clause-tells c =
     let p = err_from_is_err_and c.from_residual-in_err-params.result c.from_residual-in_err-params.ensures.1 in
     let m = model_tree c.args.model in
     let q = params_tree c.args.params in
-    rw (p.1, p.2) (solve-params-stopped TypedParams c.args.log.now c.args.conflicts m q c.in_err-params.field-0.0 c.in_ok-model.ensures.passes c.in_err-params.ensures.passes)
+    rw (p.1, p.2) (search-params-stopped TypedParams c.args.log.now c.args.request m q c.in_err-params.field-0.0 c.in_ok-model.ensures.passes c.in_err-params.ensures.passes)
 
 pub returns-in_err-instance-clause-tells : goal.returns-in_err-instance-clause-tells
 returns-in_err-instance-clause-tells c =
@@ -32,7 +31,7 @@ returns-in_err-instance-clause-tells c =
     let q = params_tree c.args.params in
     let none : AreFaultless m q = record { model = c.in_ok-model.ensures.passes; params = c.in_ok-params.ensures.passes } in
     rw (p.1, p.2)
-    (solve-instance-stopped plain_instance c.args.log.now c.args.conflicts m q (typed_tree c.in_ok-model.model) (typed_params_tree c.in_ok-params.params) c.in_err-instance.field-0.0
+    (search-instance-stopped plain_instance c.args.log.now c.args.request m q (typed_tree c.in_ok-model.model) (typed_params_tree c.in_ok-params.params) c.in_err-instance.field-0.0
     c.in_ok-model.ensures.same c.in_ok-params.ensures.same none c.in_err-instance.ensures.tells)
 
 pub returns-clause-tells : goal.returns-clause-tells
@@ -42,25 +41,19 @@ returns-clause-tells c =
     let none : AreFaultless m q = record { model = c.in_ok-model.ensures.passes; params = c.in_ok-params.ensures.passes } in
     let i = plain_instance c.in_ok-instance.instance in
     let bound = same-instance m q (typed_tree c.in_ok-model.model) (typed_params_tree c.in_ok-params.params) i c.in_ok-model.ensures.same c.in_ok-params.ensures.same c.in_ok-instance.ensures.tells in
-    let reply : Reply = record { status = c.answer_status.result; text = c.in_ok-print_answer.field-0 } in
-    solve-answered c.args.conflicts m q i reply c.answer_of.new.log (answer_tree c.in_ok-answer.answer) none bound c.answer_status.ensures
-    c.in_ok-answer.ensures.right c.in_ok-answer.ensures.found c.in_ok-print_answer.ensures.text
+    search-answered c.args.request m q i c.in_ok-reply.reply c.searched_reply.new.log none bound c.in_ok-reply.ensures.answers
 
 pub returns-in_err-model-clause-ends : goal.returns-in_err-model-clause-ends
 returns-in_err-model-clause-ends c =
     let p = err_from_is_err_and c.from_residual.result c.from_residual.ensures.1 in
-    rw (p.1, p.2) (stopped-ends (λ status. IsSearched c.args.conflicts status c.args.log.now) c.args.log.now c.in_err-model.field-0.0 c.requires.empty)
+    rw (p.1, p.2) (stopped-ends (λ status. IsSearched (conflicts_of c.args.request) status c.args.log.now) c.args.log.now c.in_err-model.field-0.0 c.requires.empty)
 
 pub returns-in_err-params-clause-ends : goal.returns-in_err-params-clause-ends
 returns-in_err-params-clause-ends c =
     let p = err_from_is_err_and c.from_residual-in_err-params.result c.from_residual-in_err-params.ensures.1 in
-    rw (p.1, p.2) (stopped-ends (λ status. IsSearched c.args.conflicts status c.args.log.now) c.args.log.now c.in_err-params.field-0.0 c.requires.empty)
+    rw (p.1, p.2) (stopped-ends (λ status. IsSearched (conflicts_of c.args.request) status c.args.log.now) c.args.log.now c.in_err-params.field-0.0 c.requires.empty)
 
 pub returns-in_err-instance-clause-ends : goal.returns-in_err-instance-clause-ends
 returns-in_err-instance-clause-ends c =
     let p = err_from_is_err_and c.from_residual-in_err-instance.result c.from_residual-in_err-instance.ensures.1 in
-    rw (p.1, p.2) (stopped-ends (λ status. IsSearched c.args.conflicts status c.args.log.now) c.args.log.now c.in_err-instance.field-0.0 c.requires.empty)
-
-pub returns-clause-ends : goal.returns-clause-ends
-returns-clause-ends c =
-    found-ends (plain_instance c.in_ok-instance.instance) c.args.conflicts c.answer_of.new.log (answer_tree c.in_ok-answer.answer) c.answer_status.result c.answer_status.ensures c.in_ok-answer.ensures.found
+    rw (p.1, p.2) (stopped-ends (λ status. IsSearched (conflicts_of c.args.request) status c.args.log.now) c.args.log.now c.in_err-instance.field-0.0 c.requires.empty)

@@ -1,0 +1,13 @@
+use Rattle.ep_instance.specs.Instances.{instance_of as plain_instance}
+use Rattle.ep_print.specs.Answers.{answer_tree}
+use Rattle.ep_run.proofs.Tasks.{found-ends, solved}
+use Rattle.ep_run.proofs.answering.solved_reply.Goals as goal
+
+pub returns-clause-answers : goal.returns-clause-answers
+returns-clause-answers c =
+    solved (plain_instance c.args.instance.now) c.args.conflicts c.answer_status.result c.in_ok-text.text.items c.answer_of.new.log (answer_tree c.in_ok-answer.answer)
+    c.in_ok-answer.ensures.right c.in_ok-answer.ensures.found c.answer_status.ensures c.in_ok-text.ensures.text
+
+pub returns-clause-ends : goal.returns-clause-ends
+returns-clause-ends c =
+    found-ends (plain_instance c.args.instance.now) c.args.conflicts c.answer_of.new.log (answer_tree c.in_ok-answer.answer) c.answer_status.result c.answer_status.ensures c.in_ok-answer.ensures.found
