@@ -12,6 +12,7 @@ use Rattle.ep_words.specs.declared.job.Job.{Job}
 use Rattle.ep_run.specs.Answers.{Answers}
 use Rattle.ep_run.specs.Commands.{Want, wanted_of}
 use Rattle.ep_run.specs.Outcomes.{Outcome, Task, search_outcome, verify_outcome}
+use Rattle.ep_run.specs.Puts.{HoldOnWant}
 use Rattle.ep_run.specs.Readings.{AreParams, IsHeldReadAs, IsReadAs, spells_in, tree_or_refusal}
 use Rattle.ep_run.specs.Shown.{Ask, ComesTo, Refuse, Show, ThenShows, comes_to_judge, comes_to_search, comes_to_verify}
 use Rattle.ep_run.specs.Status.{HasReply, status_of}
@@ -147,3 +148,20 @@ unlogged-said words (Some held) after rose status text log once (answer wanted w
 unlogged-said words (Some held) after rose status text log once (faulty wanted want r s t nothing kept of_text shown) = λ refusals show. nothing
 unlogged-said words (Some held) after rose status text log once (unread name s t nothing kept failed why) = λ refusals show. nothing
 unlogged-said words (Some held) after rose status text log once (unwritten name s t sound failed) = λ refusals show. let e = once held (Ok failed.2.0) (Err refusals) failed.2.1 show in absurd cc
+
+-- no file is changed where a refusal stands
+pub unwritten-said : (words : List (List ℕ)) (told after : Option Held) (rose : Type 0) (status : Status) (text : List ℕ) (log : LogState) → ShownOnce words → Case words told after rose status text log → IfSome told (λ held. (refusals : List Refusal) → Show words held (Err refusals) → after ≡ told)
+unwritten-said words None after rose status text log once case = tt
+unwritten-said words (Some held) after rose status text log once (no_command s t nothing kept none) = λ refusals show. kept
+unwritten-said words (Some held) after rose status text log once (answer wanted want ends shown put) = λ refusals show. absurd (answered-not words once held status text log refusals shown show)
+unwritten-said words (Some held) after rose status text log once (faulty wanted want r s t nothing kept of_text shown) = λ refusals show. kept
+unwritten-said words (Some held) after rose status text log once (unread name s t nothing kept failed why) = λ refusals show. kept
+unwritten-said words (Some held) after rose status text log once (unwritten name s t sound failed) = λ refusals show. let e = once held (Ok failed.2.0) (Err refusals) failed.2.1 show in absurd cc
+
+pub unwritten-on-want : (words : List (List ℕ)) (told after : Option Held) (rose : Type 0) → ShownOnce words → HoldOnWant words told after rose → IfSome told (λ held. (refusals : List Refusal) → Show words held (Err refusals) → after ≡ told)
+unwritten-on-want words None after rose once h = tt
+unwritten-on-want words (Some held) after rose once h = λ refusals show.
+    elim h [
+      | inl kept ↦ kept
+      | inr failed ↦ let e = once held (Ok failed.1.2.0) (Err refusals) failed.1.2.1 show in absurd cc
+    ]

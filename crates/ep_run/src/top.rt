@@ -117,9 +117,11 @@ pub fn run<R: Threads, F: Files, K: Sink>(
     ensures refused_unlogged { result ≢ StatusValue.Memory → IfSome (F.held files.old) (λ held.
         (refusals : List Refusal) → Show words.now held (Err refusals) → log.new ≡ empty_log) }
 
-    // Every file but the one that the words name for the answer stays as it was, and each does with a refusal
-    // or a judgement. No count of faults falls.
+    // Every file but the one that the words name for the answer stays as it was, and that one too where a
+    // refusal stands, and with a refusal or a judgement. No count of faults falls.
     ensures others { SameButOutput words.now (F.held files.old) (F.held files.new) }
+    ensures refused_unwritten { IfSome (F.held files.old) (λ held. (refusals : List Refusal) →
+        Show words.now held (Err refusals) → F.held files.new ≡ F.held files.old) }
     ensures unwritten { (result ≡ StatusValue.Refuted) ⊎ ((result ≡ StatusValue.Usage)
         ⊎ ((result ≡ StatusValue.Text) ⊎ (result ≡ StatusValue.Limit)))
         → F.held files.new ≡ F.held files.old }

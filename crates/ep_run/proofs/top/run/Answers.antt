@@ -1,7 +1,7 @@
 use Rattle.std.proofs.Common.{◌≡◌, ◌∙◌, ℕ, List, Err, inl, inr, ap, subst}
 use Rattle.ep_base.specs.Outside.{Rose, TookPart, with_more}
 use Rattle.ep_run.specs.Puts.{TookOnWant}
-use Rattle.ep_run.proofs.Once.{ShownOnce, TextsAreOnce, answers-said, refuses-said, shown-once, unlogged-said}
+use Rattle.ep_run.proofs.Once.{ShownOnce, TextsAreOnce, answers-said, refuses-said, shown-once, unlogged-said, unwritten-on-want, unwritten-said}
 use Rattle.ep_run.proofs.Promises.{may-be-put, never-memory, usage-said, want-others, when-answered, when-failed, when-kept, when-not-held, when-others, when-refused, when-refuted, when-sound, when-unknown, when-unlogged, when-usage, why-device}
 use Rattle.ep_run.proofs.Saying.{case-of}
 use Rattle.ep_run.proofs.top.run.Goals as goal
@@ -343,3 +343,71 @@ returns-in-Ok-put_all-clause-unwritten g c =
     let log = c.reply_to.new.log in
     let case = case-of words told after rose status text log c.in-Ok.ensures.says in
     λ h. when-kept words told after rose status text log case h
+
+pub returns-in_default-clause-refused_unwritten : goal.returns-in_default-clause-refused_unwritten
+returns-in_default-clause-refused_unwritten g c =
+    let words = c.args.words.now in
+    let told = g.F.Files.held c.args.files.now in
+    let after = g.F.Files.held c.reply_to.new.files in
+    let rose = Rose (g.F.Files.faults c.args.files.now) (g.F.Files.faults c.reply_to.new.files) in
+    let texts : TextsAreOnce = record {
+      model = c.texts_have_one_answer.ensures.models;
+      params = c.texts_have_one_answer.ensures.params;
+      solution = c.texts_have_one_answer.ensures.params;
+    } in
+    let once : ShownOnce words = shown-once c.one_job_for_words.ensures texts words in
+    unwritten-on-want words told after rose once c.in_default.ensures.wants
+
+pub returns-in-Ok-put_all-clause-refused_unwritten : goal.returns-in-Ok-put_all-clause-refused_unwritten
+returns-in-Ok-put_all-clause-refused_unwritten g c =
+    let words = c.args.words.now in
+    let told = g.F.Files.held c.args.files.now in
+    let after = g.F.Files.held c.reply_to.new.files in
+    let rose = Rose (g.F.Files.faults c.args.files.now) (g.F.Files.faults c.reply_to.new.files) in
+    let status = c.in-Ok.reply.status in
+    let text = c.in-Ok.reply.text.items in
+    let log = c.reply_to.new.log in
+    let case = case-of words told after rose status text log c.in-Ok.ensures.says in
+    let texts : TextsAreOnce = record {
+      model = c.texts_have_one_answer.ensures.models;
+      params = c.texts_have_one_answer.ensures.params;
+      solution = c.texts_have_one_answer.ensures.params;
+    } in
+    let once : ShownOnce words = shown-once c.one_job_for_words.ensures texts words in
+    unwritten-said words told after rose status text log once case
+
+pub returns-in-Err-Failed-clause-refused_unwritten : goal.returns-in-Err-Failed-clause-refused_unwritten
+returns-in-Err-Failed-clause-refused_unwritten g c =
+    let words = c.args.words.now in
+    let told = g.F.Files.held c.args.files.now in
+    let after = g.F.Files.held c.reply_to.new.files in
+    let rose = Rose (g.F.Files.faults c.args.files.now) (g.F.Files.faults c.reply_to.new.files) in
+    let status = c.in-Ok.reply.status in
+    let text = c.in-Ok.reply.text.items in
+    let log = c.reply_to.new.log in
+    let case = case-of words told after rose status text log c.in-Ok.ensures.says in
+    let texts : TextsAreOnce = record {
+      model = c.texts_have_one_answer.ensures.models;
+      params = c.texts_have_one_answer.ensures.params;
+      solution = c.texts_have_one_answer.ensures.params;
+    } in
+    let once : ShownOnce words = shown-once c.one_job_for_words.ensures texts words in
+    unwritten-said words told after rose status text log once case
+
+pub returns-clause-refused_unwritten : goal.returns-clause-refused_unwritten
+returns-clause-refused_unwritten g c =
+    let words = c.args.words.now in
+    let told = g.F.Files.held c.args.files.now in
+    let after = g.F.Files.held c.reply_to.new.files in
+    let rose = Rose (g.F.Files.faults c.args.files.now) (g.F.Files.faults c.reply_to.new.files) in
+    let status = c.in-Ok.reply.status in
+    let text = c.in-Ok.reply.text.items in
+    let log = c.reply_to.new.log in
+    let case = case-of words told after rose status text log c.in-Ok.ensures.says in
+    let texts : TextsAreOnce = record {
+      model = c.texts_have_one_answer.ensures.models;
+      params = c.texts_have_one_answer.ensures.params;
+      solution = c.texts_have_one_answer.ensures.params;
+    } in
+    let once : ShownOnce words = shown-once c.one_job_for_words.ensures texts words in
+    unwritten-said words told after rose status text log once case
