@@ -13,8 +13,6 @@ mod spaced;
 mod statements;
 #[cfg(test)]
 mod table;
-#[cfg(test)]
-mod tests;
 mod texts;
 mod values;
 

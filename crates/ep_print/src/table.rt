@@ -1,6 +1,7 @@
 //! Printed texts, each beside its bytes.
 
 mod answers;
+mod listings;
 mod models;
 mod refusals;
 mod values;
@@ -9,8 +10,8 @@ use ep_base::Memory;
 use std::alloc::Global;
 use std::test::Fail;
 
-/// What is printed in the end: refusals, values, answers and models.
-const TEXTS: [&str; 38] = [
+/// What is printed in the end: refusals, values, answers, lists of solutions and models.
+const TEXTS: [&str; 43] = [
     "fault usage\n",
     "fault F1 model 3:14\n",
     "fault F2 params 3:14\n",
@@ -36,7 +37,7 @@ const TEXTS: [&str; 38] = [
     "memory\n",
     "-7",
     "true",
-    "[false, true; int(1..2)]",
+    "[false, false; int(1..2)]",
     "[; int(1..0)]",
     "[[4, -5, 6; int(-1..0, 5)], [; int(1..0)]; int(1, 3)]",
     "[[true; int(0)], [false; int(0)]; int(-3..-2)]",
@@ -47,6 +48,11 @@ const TEXTS: [&str; 38] = [
     "language ESSENCE' 1.0\n$ optimum 9\nletting take be [true, true, false; int(1..3)]\n",
     "language ESSENCE' 1.0\n$ unknown 10 conflicts\n",
     "language ESSENCE' 1.0\n$ unknown 10 conflicts\n$ incumbent 7\nletting m be [; int(1..0)]\n",
+    "language ESSENCE' 1.0\n$ solution\nletting m be [false, false; int(1..2)]\nletting i be 3\n",
+    "language ESSENCE' 1.0\n$ solution 1\nletting x be 1\n$ solution 2\nletting x be -2\n$ complete\n",
+    "language ESSENCE' 1.0\n$ solution 1\nletting x be 1\n$ solution 2\nletting x be -2\n",
+    "language ESSENCE' 1.0\n$ solution 1\nletting x be 1\n$ solution 2\nletting x be -2\n$ unknown 10 conflicts\n",
+    "language ESSENCE' 1.0\n$ no solution\n",
     "language ESSENCE' 1.0\nfind x : int ( 1 .. 3 )\nsuch that x > 2\n",
     "language ESSENCE' 1.0\nminimising x [ 1 , .. ]\nmaximising x [ 1 , .. ]\n",
 ];
@@ -56,8 +62,9 @@ fn text(alloc: Global, number: usize) -> Result<Vec<u8>, Memory> {
     match number {
         0..=22 => refusals::line(alloc, number),
         23..=30 => values::text(alloc, number - 23),
-        31..=35 => answers::text(alloc, number - 31),
-        _ => models::text(alloc, number.saturating_sub(36)),
+        31..=36 => answers::text(alloc, number - 31),
+        37..=40 => listings::text(alloc, number - 37),
+        _ => models::text(alloc, number.saturating_sub(41)),
     }
 }
 

@@ -7,7 +7,7 @@ ghost use Rattle.ep_tree.specs.declared.values.Scalar.{Scalar};
 ghost use Rattle.ep_tree.specs.declared.values.ValueType.{ValueType};
 ghost use Rattle.ep_print.specs.Answers.{AreTyped};
 
-use crate::table::values::{empty, taken};
+use crate::table::values::{empty, falses, taken};
 use crate::{Answer, print_answer};
 use ep_base::{Memory, Name};
 use ep_tree::{Assignment, Entry, Scalar, Value, ValueType};
@@ -30,7 +30,7 @@ pub(crate) fn text(alloc: Global, number: usize) -> Result<Vec<u8>, Memory> {
             };
             print_answer(alloc, &spent)
         }
-        _ => {
+        4 => {
             let incumbent = Some((7, gives(alloc, "m", empty(alloc)?)?));
             let spent = Answer::Unknown {
                 conflicts: 10,
@@ -38,6 +38,7 @@ pub(crate) fn text(alloc: Global, number: usize) -> Result<Vec<u8>, Memory> {
             };
             print_answer(alloc, &spent)
         }
+        _ => print_answer(alloc, &Answer::Solution(row_and_number(alloc)?)),
     }
 }
 
@@ -53,5 +54,29 @@ fn gives(alloc: Global, name: &str, value: Value) -> Result<Assignment, Memory>
     let name = Name::new(alloc, name)?;
     let mut entries = Vec::new(alloc);
     entries.push(Entry { name, ty, value })?;
+    Ok(Assignment { entries })
+}
+
+/// A row of Booleans and a number, each with its name.
+fn row_and_number(alloc: Global) -> Result<Assignment, Memory>
+    ensures { IfOk result (λ found. AreTyped (assigned found)) }
+{
+    let ty = ValueType::Matrix {
+        dims: 1,
+        of: Scalar::Bool,
+    };
+    let row = Entry {
+        name: Name::new(alloc, "m")?,
+        ty,
+        value: falses(alloc)?,
+    };
+    let number = Entry {
+        name: Name::new(alloc, "i")?,
+        ty: ValueType::Int,
+        value: Value::Number(3),
+    };
+    let mut entries = Vec::new(alloc);
+    entries.push(row)?;
+    entries.push(number)?;
     Ok(Assignment { entries })
 }

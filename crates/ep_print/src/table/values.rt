@@ -17,7 +17,7 @@ pub(crate) fn text(alloc: Global, number: usize) -> Result<Vec<u8>, Memory> {
     match number {
         0 => print_value(alloc, &ValueType::Int, &Value::Number(-7)),
         1 => print_value(alloc, &ValueType::Bool, &Value::Number(1)),
-        2 => print_value(alloc, &matrix(1, Scalar::Bool), &truths(alloc)?),
+        2 => print_value(alloc, &matrix(1, Scalar::Bool), &falses(alloc)?),
         3 => print_value(alloc, &matrix(1, Scalar::Bool), &empty(alloc)?),
         4 => put(alloc, Scalar::Int, &nested(alloc)?),
         5 => put(alloc, Scalar::Bool, &columns(alloc)?),
@@ -63,13 +63,13 @@ pub(crate) fn counting(alloc: Global, most: i64) -> Result<Vec<u8>, Memory> {
     put(alloc, Scalar::Int, &row(alloc, &numbers, &numbers)?)
 }
 
-/// A false and a true.
-fn truths(alloc: Global) -> Result<Value, Memory>
+/// Two falses.
+pub(crate) fn falses(alloc: Global) -> Result<Value, Memory>
     ensures { IfOk result (λ value. IsOf (ValueType.Matrix 1 Scalar.Bool) (value_tree value)) }
 {
     let mut parts = Vec::new(alloc);
     parts.push(Value::Number(0))?;
-    parts.push(Value::Number(1))?;
+    parts.push(Value::Number(0))?;
     Ok(Value::Matrix(Vec::from_slice(alloc, &[1, 2])?, parts))
 }
 
