@@ -1,0 +1,6 @@
+pub mod Nodes
+pub mod Reaches
+pub mod Grounds
+pub mod Bounds
+pub mod Constraints
+pub mod Decodings

@@ -1,0 +1,27 @@
+-- How far nodes of each kind reach.
+use Rattle.std.proofs.Common.{◌≡◌, pos, negsuc, false, List, [], ◌∷◌, refl}
+use Rattle.std.specs.Prelude.{map}
+use Rattle.ep_base.specs.Intervals as intervals
+use Rattle.ep_base.specs.Intervals.{Interval, from_to, only}
+use Rattle.ep_base.specs.Numbers as numbers
+use Rattle.ep_base.specs.declared.operators.LexOp.{LexOp}
+use Rattle.ep_ground.specs.Bounds.{node_reach, reach_at, scaled, term_reach}
+use Rattle.ep_ground.specs.Nodes.{GroundNode, constant, cell, absolute, greatest, pick, safe_quotient, safe_remainder, power, lex, member, negation, all_of, any_of, all_different, counts, table}
+use Rattle.ep_ground.specs.declared.cells.Cell.{Cell}
+
+-- a cell from -2 to 3
+abbrev small : Cell
+small = record { name = 120 ∷ []; indices = []; truth = false; values = negsuc 1 ∷ pos 0 ∷ pos 3 ∷ [] }
+
+-- 7, the cell, its absolute value, the greater of both, a read of both and one of none, quotients, remainders, a power with
+-- the exponent 0, and Booleans
+abbrev some_nodes : List GroundNode
+some_nodes =
+    constant (pos 7) ∷ cell 0 ∷ absolute 1 ∷ greatest (0 ∷ 1 ∷ []) ∷ pick (0 ∷ 1 ∷ []) [] (1 ∷ []) ∷ pick [] [] (1 ∷ []) ∷ safe_quotient 1 0 ∷ safe_remainder 1 0 ∷ safe_remainder 0 1 ∷ power 1 0 ∷ power 1 3
+    ∷ lex LexOp.Less (0 ∷ []) (1 ∷ []) ∷ member 1 [] ∷ negation 1 ∷ all_of [] ∷ any_of (1 ∷ []) ∷ all_different (0 ∷ []) ∷ counts [] [] [] ∷ table [] [] ∷ []
+
+reaches : map (term_reach some_nodes (small ∷ [])) (0 ∷ 1 ∷ 2 ∷ 3 ∷ 4 ∷ 5 ∷ 6 ∷ 7 ∷ 8 ∷ 9 ∷ 10 ∷ 11 ∷ 12 ∷ 13 ∷ 14 ∷ 15 ∷ 16 ∷ 17 ∷ 18 ∷ [])
+    ≡ only (pos 7) ∷ from_to (negsuc 1) (pos 3) ∷ from_to (pos 0) (pos 3) ∷ only (pos 7) ∷ from_to (negsuc 1) (pos 7) ∷ only (pos 0) ∷ from_to (negsuc 2) (pos 3) ∷ from_to (pos 0) (pos 6) ∷ from_to (negsuc 1) (pos 2) ∷ only (pos 1) ∷ from_to (negsuc 7) (pos 27)
+    ∷ from_to (pos 0) (pos 1) ∷ from_to (pos 0) (pos 1) ∷ from_to (pos 0) (pos 1) ∷ from_to (pos 0) (pos 1) ∷ from_to (pos 0) (pos 1) ∷ from_to (pos 0) (pos 1) ∷ from_to (pos 0) (pos 1) ∷ from_to (pos 0) (pos 1) ∷ []
+unfolding term_reach reach_at node_reach scaled intervals.spanned intervals.least_or_zero intervals.greatest_or_zero intervals.product_interval intervals.sum_interval intervals.quotient_interval intervals.remainder_interval intervals.nth_power_interval intervals.has_zero intervals.hull intervals.least_interval intervals.greatest_interval intervals.absolute_interval intervals.farthest_end numbers.least_of numbers.greatest_of numbers.sum_of numbers.nth_power numbers.absolute_of
+reaches = refl
