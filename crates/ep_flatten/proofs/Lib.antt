@@ -9,3 +9,5 @@ pub mod Adding
 pub mod Standing
 pub mod RunEnds
 pub mod Ends
+pub mod SumLaws
+pub mod FormLaws

@@ -17,8 +17,9 @@ use Rattle.ep_flat.specs.Cons as flat
 use Rattle.ep_flat.specs.Cons.{FlatCon, FlatKind, con_holds, con_variables, is_as_said, is_value, kind_coefficients, kind_holds, kind_variables, number_at, numbers_at}
 use Rattle.ep_ground.specs.Nodes.{GroundNode, sum, product, power, absolute, least, greatest, safe_quotient, safe_remainder, safe_pick, compare, lex, member, negation, all_of, any_of, same_truth, all_different, counts, at_least, at_most, table, coefficients_of, parts_of}
 use Rattle.ep_ground.specs.Terms.{node_value, on_both, truth, values_of, weighed}
-use Rattle.ep_flatten.specs.Saying.{Says, place_of, value_under}
-use Rattle.ep_flatten.specs.Tops.{Tells}
+use Rattle.ep_flatten.specs.Forms.{TermForm, own, summed, compared, form_coefficients, form_parts, form_value}
+use Rattle.ep_flatten.specs.Saying.{Says, SaysForm, place_of, value_under}
+use Rattle.ep_flatten.specs.Tops.{Tells, TellsForm}
 
 -- a constraint with the result's variable, or with its truth value
 abbrev pub plain : FlatKind → FlatCon
@@ -348,4 +349,43 @@ says_sum places c parts r d e = record {
   coefficients = λ h.
       subst (λ ns. All IsWithinNumbers ns) (sym (sum_coefficients places parts (negsuc 0) r))
       (All-append IsWithinNumbers (map (λ p. p.0) parts) (negsuc 0 ∷ []) h (All-cons IsWithinNumbers (negsuc 0) [] minus_one_within (All-nil IsWithinNumbers)));
+}
+
+-- ---- forms
+
+pub says_own : (places : List ℕ) (node : GroundNode) (r : ℕ) (con : FlatCon) → Says places node r con → SaysForm places node own r con
+unfolding form_value form_parts form_coefficients
+says_own places node r con h = record { value = h.value; gives = h.gives; says = h.says; names = h.names; coefficients = h.coefficients }
+
+pub says_summed : (places : List ℕ) (node : GroundNode) (c : ℤ) (parts : List (ℤ × ℕ)) (r : ℕ) (con : FlatCon) → Says places (sum c parts) r con → SaysForm places node (summed c parts) r con
+unfolding form_value form_parts form_coefficients parts_of coefficients_of
+says_summed places node c parts r con h = record { value = h.value; gives = h.gives; says = h.says; names = h.names; coefficients = h.coefficients }
+
+-- a variable that is 1 exactly where such a constraint holds has the form's value
+pub says_form : (places : List ℕ) (node : GroundNode) (form : TermForm) (r : ℕ) (kind : FlatKind) → TellsForm places node form kind → SaysForm places node form r (told r kind)
+unfolding con_holds is_as_said con_variables
+says_form places node form r kind h = record {
+  value = λ values. of_bool (kind_holds values kind);
+  gives = h.gives;
+  says = λ values. refl;
+  names = λ bound below parts. All-cons (λ x. x < bound) r (kind_variables kind) below (h.names bound parts);
+  coefficients = h.coefficients;
+}
+
+placed_variables : (places : List ℕ) (parts : List (ℤ × ℕ)) → map (λ p. p.1) (placed_parts places parts) ≡ map (place_of places) (map (λ p. p.1) parts)
+placed_variables places [] = refl
+placed_variables places (p ∷ parts) = ap (λ xs. place_of places p.1 ∷ xs) (placed_variables places parts)
+
+placed_coefficients : (places : List ℕ) (parts : List (ℤ × ℕ)) → map (λ p. p.0) (placed_parts places parts) ≡ map (λ p. p.0) parts
+placed_coefficients places [] = refl
+placed_coefficients places (p ∷ parts) = ap (λ xs. p.0 ∷ xs) (placed_coefficients places parts)
+
+pub tells_compared : (places : List ℕ) (node : GroundNode) (op : CompareOp) (parts : List (ℤ × ℕ)) (c : ℤ) → TellsForm places node (compared op parts c) (flat.linear (placed_parts places parts) op c)
+unfolding form_value form_parts form_coefficients kind_holds kind_variables kind_coefficients
+tells_compared places node op parts c = record {
+  gives = λ cells values.
+      ap (λ o. truth (option_map (λ ps. compare_holds op (weighted_sum ps) c) o)) (weighed_there values places parts)
+      ∙ truth_or (Some (compare_holds op (weighted_sum (numbered values (placed_parts places parts))) c));
+  names = λ bound h. subst (λ xs. All (λ x. x < bound) xs) (sym (placed_variables places parts)) (All-map (λ x. x < bound) (place_of places) (map (λ p. p.1) parts) h);
+  coefficients = λ h. subst (λ ns. All IsWithinNumbers ns) (sym (placed_coefficients places parts)) h;
 }

@@ -5,6 +5,7 @@ use Rattle.std.specs.Ordering.{int_eq}
 use Rattle.ep_base.specs.Reads.{IsWithinNumbers}
 use Rattle.ep_flat.specs.Cons.{FlatCon, con_holds, number_at}
 use Rattle.ep_flat.specs.Flats.{HasSmallCoefficients, NamesBelow}
+use Rattle.ep_flatten.specs.Forms.{TermForm, form_coefficients, form_parts, form_value}
 use Rattle.ep_ground.specs.Nodes.{GroundNode, least, greatest, coefficients_of, parts_of}
 use Rattle.ep_ground.specs.Terms.{node_value}
 
@@ -30,3 +31,11 @@ pub record Says (places : List ℕ) (node : GroundNode) (r : ℕ) (con : FlatCon
   pub says : (values : List ℤ) → con_holds values con ≡ int_eq (number_at values r) (value values)
   pub names : (bound : ℕ) → r < bound → All (λ t. place_of places t < bound) (parts_of node) → NamesBelow bound con
   pub coefficients : All IsWithinNumbers (coefficients_of node) → HasSmallCoefficients con
+
+-- The same of the value of a term with this node and this form.
+pub record SaysForm (places : List ℕ) (node : GroundNode) (form : TermForm) (r : ℕ) (con : FlatCon) : Type 0 where
+  pub value : List ℤ → ℤ
+  pub gives : (cells values : List ℤ) → form_value cells (value_under values places) node form ≡ Some (value values)
+  pub says : (values : List ℤ) → con_holds values con ≡ int_eq (number_at values r) (value values)
+  pub names : (bound : ℕ) → r < bound → All (λ t. place_of places t < bound) (form_parts node form) → NamesBelow bound con
+  pub coefficients : All IsWithinNumbers (form_coefficients node form) → HasSmallCoefficients con

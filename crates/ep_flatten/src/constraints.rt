@@ -3,21 +3,63 @@
 ghost use Rattle.std.specs.Prelude.{◌≡◌, ◌<◌, length, neg_ℤ, IfOk};
 ghost use Rattle.ep_base.specs.declared.operators.CompareOp.{CompareOp};
 ghost use Rattle.ep_flat.specs.FlatViews.{plain_con, plain_kind};
-ghost use Rattle.ep_flatten.specs.Saying.{HasParts, Says};
-ghost use Rattle.ep_flatten.specs.Tops.{Tells};
+ghost use Rattle.ep_flatten.specs.Forms.{compared};
+ghost use Rattle.ep_flatten.specs.FormViews.{plain_form};
+ghost use Rattle.ep_flatten.specs.Saying.{HasParts, Says, SaysForm};
+ghost use Rattle.ep_flatten.specs.Tops.{Tells, TellsForm};
 ghost use Rattle.ep_ground.specs.NodeViews.{plain_node};
 ghost use Rattle.ep_ground.specs.Nodes as nodes;
 
+use crate::forms::Form;
 use crate::lists::{copied_keys, literals_of, place_at, placed_parts, places_of};
 use ep_base::{CompareOp, Key, LexOp, Memory, Runs};
 use ep_flat::{Con, ConKind};
 use ep_ground::{Node, Term};
 use std::alloc::Global;
 
+/// The constraint that makes the variable's number the value of a term with this node and this form.
+/// The terms' variables are `places`.
+pub fn form_constraint(
+    alloc: Global,
+    places: &[u64],
+    node: &Node,
+    form: &Form,
+    variable: u64,
+) -> Result<Con, Memory>
+    requires { HasParts (plain_node node.now) }
+    ensures { IfOk result (λ con. SaysForm places.now (plain_node node.now) (plain_form form.now) variable (plain_con con)) }
+{
+    match form {
+        Form::Own => constraint(alloc, places, node, variable),
+        Form::Sum(number, parts) => sum(alloc, places, *number, parts, variable),
+        Form::Compare(op, parts, number) => {
+            let kind = comparison(alloc, places, *op, parts, *number)?;
+            Ok(Con {
+                truth: Some(variable),
+                kind,
+            })
+        }
+    }
+}
+
+/// Whether a sum of terms compares so with a number.
+pub fn comparison(
+    alloc: Global,
+    places: &[u64],
+    op: CompareOp,
+    parts: &[(i64, Term)],
+    number: i64,
+) -> Result<ConKind, Memory>
+    ensures { IfOk result (λ kind. (node : nodes.GroundNode) → TellsForm places.now node (compared op parts.now number) (plain_kind kind)) }
+{
+    let placed = placed_parts(alloc, places, parts)?;
+    Ok(ConKind::Linear(placed, op, number))
+}
+
 /// The constraint that makes the variable's number the node's value. The terms' variables are
 /// `places`. A number, a cell and a node without a value for some values of its parts have none.
 #[tactic(auto, unfolding(crate::specs::Saying::HasParts))]
-pub fn constraint(alloc: Global, places: &[u64], node: &Node, variable: u64) -> Result<Con, Memory>
+fn constraint(alloc: Global, places: &[u64], node: &Node, variable: u64) -> Result<Con, Memory>
     requires { HasParts (plain_node node.now) }
     ensures { IfOk result (λ con. Says places.now (plain_node node.now) variable (plain_con con)) }
 {
