@@ -1,11 +1,11 @@
 -- What the code adds for a term.
-use Rattle.std.specs.Prelude.{◌≡◌, ℕ, zero, suc, ◌+◌, ◌<◌, Bool, true, List, [], ◌∷◌, ◌++◌, length, map, ℤ, Some, slice_get, slice_index_or, refl}
+use Rattle.std.specs.Prelude.{false, ◌≡◌, ℕ, zero, suc, ◌+◌, ◌<◌, Bool, true, List, [], ◌∷◌, ◌++◌, length, map, ℤ, Some, slice_get, slice_index_or, refl}
 use Rattle.std.proofs.Common.{ap, arith, subst, sym, ◌∙◌}
 use Rattle.std.proofs.lemmas.Bool.{false≢true}
 use Rattle.std.proofs.lemmas.Int.{ints}
 use Rattle.std.specs.Prelude.{IfOk, OnOk, Ok, Err, Result}
 use Rattle.std.proofs.lemmas.List.{map_push}
-use Rattle.std.specs.List.{Any, Contains}
+use Rattle.std.specs.List.{All, Any, Contains}
 use Rattle.std.proofs.lemmas.Option.{slice_get_within, get_or_from_slice_get}
 use Rattle.ep_base.specs.Intervals.{Interval, LiesIn, from_to, spanned, truth_interval}
 use Rattle.ep_base.specs.Runs.{IsIn}
@@ -15,14 +15,15 @@ use Rattle.ep_flat.specs.Cons.{FlatCon}
 use Rattle.ep_flat.specs.FlatViews.{plain_con}
 use Rattle.ep_flat.specs.declared.flats.Con.{Con}
 use Rattle.ep_flatten.specs.Building.{AreMarks, Built, Covers, CoversForm, form_reach, HasAll, HasSmall, IsBuilt, IsMarked, IsTermOf, interval_of, is_truth_node, span_at}
-use Rattle.ep_flatten.specs.Forms.{HaveForms, TermForm, form_at, own, summed, compared}
+use Rattle.ep_base.specs.Reads.{IsWithinNumbers}
+use Rattle.ep_flatten.specs.Forms.{form_coefficients, HaveForms, TermForm, form_at, own, summed, compared}
 use Rattle.ep_flatten.specs.Saying.{HasParts}
 use Rattle.ep_flatten.proofs.FormLaws.{form_there}
 use Rattle.ep_flatten.specs.declared.intervals.Span.{Span}
 use Rattle.ep_flatten.proofs.Growing.{with_cell, without}
 use Rattle.ep_ground.specs.Bounds.{IsBounded, IsWithinReach, node_reach}
-use Rattle.ep_ground.specs.Grounds.{GroundState, IsWellFormed, StandsOver}
-use Rattle.ep_ground.specs.Nodes.{GroundNode, constant, undefined, cell, sum, product, quotient, remainder, power, absolute, least, greatest, pick, whole, safe_quotient, safe_remainder, safe_pick}
+use Rattle.ep_ground.specs.Grounds.{HasNoPartialNode, GroundState, IsWellFormed, StandsOver}
+use Rattle.ep_ground.specs.Nodes.{GroundNode, is_partial, coefficients_of, constant, undefined, cell, sum, product, quotient, remainder, power, absolute, least, greatest, pick, whole, safe_quotient, safe_remainder, safe_pick}
 use Rattle.ep_ground.specs.declared.cells.Cell.{Cell}
 
 truth_within : IsWithinReach truth_interval
@@ -138,3 +139,20 @@ covers_summed node c parts cells spans i h = record { small = h.small; holds = h
 pub covers_compared : (node : GroundNode) (op : CompareOp) (parts : List (ℤ × ℕ)) (c : ℤ) (cells : List Cell) (spans : List Interval) → CoversForm cells spans node (compared op parts c) truth_interval
 unfolding form_reach
 covers_compared node op parts c cells spans = record { small = truth_within; holds = λ n l _. l }
+
+-- what is known of a marked term's node, for its constraint
+length_map : {A B : Type 0} (xs : List A) (f : A → B) → length (map f xs) ≡ length xs
+length_map [] f = refl
+length_map (x ∷ xs) f = ap suc (length_map xs f)
+
+pub stands_built : (g : GroundState) (marks : List Bool) (t : ℕ) (b : Built) (node : GroundNode) → IsBuilt g marks t b → StandsOver (length g.cells) node → StandsOver (length b.cells) node
+stands_built g marks t b node h s =
+    let many : length b.cells ≡ length g.cells = sym (length_map b.cells (λ x. slice_index_or b.vars x [])) ∙ ap length h.domains ∙ length_map g.cells (λ one. one.values) in
+    subst (λ n. StandsOver n node) (sym many) s
+
+pub total_there : (g : GroundState) (t : ℕ) (node : GroundNode) → HasNoPartialNode g → slice_get g.nodes t ≡ Some node → is_partial node ≡ false
+total_there g t node h got = subst (λ n. is_partial n ≡ false) (get_or_from_slice_get g.nodes t node node got) (h t node (slice_get_within g.nodes t node got))
+
+pub small_there : (g : GroundState) (marks : List Bool) (t : ℕ) (node : GroundNode) (form : TermForm) → IsTermOf g marks t node form → IsBounded g → All IsWithinNumbers (form_coefficients node form)
+small_there g marks t node form at bounded =
+    at.is.coefficients (subst (λ n. All IsWithinNumbers (coefficients_of n)) (get_or_from_slice_get g.nodes t node undefined at.got) (bounded.coefficients t at.reached))

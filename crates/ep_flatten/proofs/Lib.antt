@@ -11,3 +11,4 @@ pub mod RunEnds
 pub mod Ends
 pub mod SumLaws
 pub mod FormLaws
+pub mod NodeKinds

@@ -9,7 +9,7 @@ use Rattle.ep_base.specs.Numbers.{all_one, is_one, of_bool}
 use Rattle.ep_base.specs.Reads.{IsWithinNumbers, all_there, same_bool}
 use Rattle.ep_flat.specs.Cons.{FlatCon, FlatKind, con_holds, con_variables, is_as_said, kind_coefficients, kind_holds, kind_variables, number_at, numbers_at}
 use Rattle.ep_flat.specs.Flats.{HasSmallCoefficients, Meets, NamesBelow}
-use Rattle.ep_flatten.specs.Building.{AreMarks, Built, HasTops, IsBuilt, IsForced, IsMarked, flat_of, truth_con}
+use Rattle.ep_flatten.specs.Building.{is_truth_node, AreMarks, Built, HasTops, IsBuilt, IsForced, IsMarked, flat_of, truth_con}
 use Rattle.ep_flatten.specs.Saying.{place_of, value_under}
 use Rattle.ep_flatten.specs.Forms.{HaveForms, IsFormOf, TermForm, own, summed, compared, form_at, form_coefficients, form_parts, form_value}
 use Rattle.ep_flatten.specs.Tops.{Asserts, HasFormValue, HaveVariables, Tells, TellsForm, asserts_of, is_all, is_test, needs_by, needs_of}
@@ -21,7 +21,7 @@ use Rattle.ep_ground.specs.Bounds.{IsBounded}
 use Rattle.ep_flatten.proofs.Sayings.{plain}
 use Rattle.ep_flatten.proofs.Unrolled.{all_left, all_right, unrolled}
 use Rattle.ep_ground.specs.Grounds.{GroundState}
-use Rattle.ep_ground.specs.Nodes.{GroundNode, all_of, coefficients_of, parts_of, undefined}
+use Rattle.ep_ground.specs.Nodes.{GroundNode, compare, lex, member, negation, all_of, any_of, same_truth, all_different, counts, at_least, at_most, table, coefficients_of, parts_of, undefined}
 use Rattle.ep_ground.specs.Terms.{node_value, term_value, truth, values_of}
 use Rattle.ep_tree.proofs.TypedParts.{some_is}
 
@@ -160,6 +160,21 @@ needs_before t node form h =
     ])
 
 -- ---- constraints
+
+pub test_truth : (node : GroundNode) → is_test node ≡ true → is_truth_node node ≡ true
+unfolding is_test is_truth_node
+test_truth (compare op a b) e = refl
+test_truth (lex op ts us) e = refl
+test_truth (member a ns) e = refl
+test_truth (negation a) e = refl
+test_truth (any_of ts) e = refl
+test_truth (same_truth a b) e = refl
+test_truth (all_different ts) e = refl
+test_truth (counts ts ns us) e = refl
+test_truth (at_least ts cs ns) e = refl
+test_truth (at_most ts cs ns) e = refl
+test_truth (table ts rows) e = refl
+test_truth node e = absurd (false≢true e)
 
 pub asserts_truth : (places : List ℕ) (t : ℕ) (node : GroundNode) (kind : FlatKind) → Tells places node kind → is_all node ≡ false → is_test node ≡ true → Asserts places t node own (plain kind)
 unfolding con_holds is_as_said con_variables of_bool form_value form_parts

@@ -1,16 +1,18 @@
 //! A flat problem as it grows, term by term.
 
-ghost use Rattle.std.specs.Prelude.{◌≡◌, ◌+◌, ◌++◌, ◌∷◌, [], ◌<◌, ℕ, List, Bool, length, map, slice_index_or, IfOk, OnOk};
+ghost use Rattle.std.specs.Prelude.{◌≡◌, ◌+◌, ◌++◌, ◌∷◌, [], ◌<◌, ℕ, List, Bool, length, map, slice_index_or, IfOk, OnOk, true, false};
+ghost use Rattle.std.specs.List.{All};
+ghost use Rattle.ep_base.specs.Reads.{IsWithinNumbers};
 ghost use Rattle.ep_base.specs.Intervals.{only, spanned};
 ghost use Rattle.ep_flatten.specs.Building.{Advances, AreMarks, HasAll, HasSmall, IsBuilt, interval_of, plain_built};
-ghost use Rattle.ep_flatten.specs.Forms.{HaveForms, TermForm};
+ghost use Rattle.ep_flatten.specs.Forms.{HaveForms, TermForm, form_coefficients};
 ghost use Rattle.ep_flatten.specs.FormViews.{plain_form, plain_forms};
-ghost use Rattle.ep_flatten.specs.Saying.{HasParts};
+ghost use Rattle.ep_flatten.specs.Saying.{HasParts, is_operation};
 ghost use Rattle.ep_ground.specs.Bounds.{IsBounded, IsWithinReach};
 ghost use Rattle.ep_ground.specs.GroundViews.{plain_ground};
-ghost use Rattle.ep_ground.specs.Grounds.{IsWellFormed};
+ghost use Rattle.ep_ground.specs.Grounds.{HasNoPartialNode, IsWellFormed, StandsOver};
 ghost use Rattle.ep_ground.specs.NodeViews.{plain_node};
-ghost use Rattle.ep_ground.specs.Nodes.{constant, cell};
+ghost use Rattle.ep_ground.specs.Nodes.{constant, cell, is_partial};
 
 use crate::constraints::form_constraint;
 use crate::forms::{Form, form_at};
@@ -47,6 +49,7 @@ pub fn add_term(
     term: Term,
 ) -> Result<(), Memory>
     requires term { term < length (plain_ground g.now).nodes }
+    requires no_partial { HasNoPartialNode (plain_ground g.now) }
     requires well_formed { IsWellFormed (plain_ground g.now) }
     requires bounded { IsBounded (plain_ground g.now) }
     requires forms { HaveForms (plain_ground g.now).nodes (length (plain_ground g.now).nodes) (plain_forms forms.now) }
@@ -63,7 +66,9 @@ pub fn add_term(
 
 /// Adds a node's variable and its constraint.
 fn add_node(alloc: Global, made: &mut Building, node: &Node, form: &Form) -> Result<(), Memory>
-    requires { HasParts (plain_node node.now) }
+    requires stands { StandsOver (length (plain_built made.old).cells) (plain_node node.now) }
+    requires total { is_partial (plain_node node.now) ≡ false }
+    requires small { All IsWithinNumbers (form_coefficients (plain_node node.now) (plain_form form.now)) }
     ensures { OnOk result (Advances (plain_built made.old) (plain_node node.now) (plain_form form.now) (plain_built made.new)) }
 {
     match node {
@@ -88,13 +93,10 @@ fn add_number(alloc: Global, made: &mut Building, number: i64) -> Result<(), Mem
 
 /// Lets a cell's variable stand for a term.
 fn add_cell(made: &mut Building, place: u64) -> Result<(), Memory>
+    requires { place < length (plain_built made.old).cells }
     ensures { OnOk result ((form : TermForm) → Advances (plain_built made.old) (cell place) form (plain_built made.new)) }
 {
-    let place = place as usize;
-    if place >= made.cells.len() {
-        return Err(Memory);
-    }
-    let variable = made.cells[place];
+    let variable = made.cells[place as usize];
     let span = cell_span(made, variable);
     note(made, variable, span)
 }
@@ -115,7 +117,9 @@ fn cell_span(made: &Building, variable: u64) -> Span
 
 /// Adds a variable for an operation, and its constraint.
 fn add_operation(alloc: Global, made: &mut Building, node: &Node, form: &Form) -> Result<(), Memory>
-    requires { HasParts (plain_node node.now) }
+    requires parts { HasParts (plain_node node.now) }
+    requires operation { is_operation (plain_node node.now) ≡ true }
+    requires small { All IsWithinNumbers (form_coefficients (plain_node node.now) (plain_form form.now)) }
     ensures { OnOk result (Advances (plain_built made.old) (plain_node node.now) (plain_form form.now) (plain_built made.new)) }
 {
     let variable = made.vars.len() as u64;

@@ -49,6 +49,7 @@ pub fn flatten(alloc: Global, g: &Ground) -> Result<(Flat, CellMap), Memory>
 
 /// Variables and constraints for the marked terms.
 fn built(alloc: Global, g: &Ground, forms: &[Form], marks: &Marks) -> Result<Building, Memory>
+    requires no_partial { HasNoPartialNode (plain_ground g.now) }
     requires well_formed { IsWellFormed (plain_ground g.now) }
     requires bounded { IsBounded (plain_ground g.now) }
     requires forms { HaveForms (plain_ground g.now).nodes (length (plain_ground g.now).nodes) (plain_forms forms.now) }

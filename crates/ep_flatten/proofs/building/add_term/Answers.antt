@@ -4,18 +4,27 @@ use Rattle.ep_base.specs.Intervals.{only}
 use Rattle.ep_flat.specs.FlatViews.{plain_con}
 use Rattle.ep_ground.specs.NodeViews.{plain_node}
 use Rattle.ep_ground.specs.GroundViews.{plain_ground}
-use Rattle.ep_flatten.specs.FormViews.{plain_forms}
+use Rattle.ep_flatten.specs.FormViews.{plain_form, plain_forms}
 use Rattle.ep_flatten.specs.Building.{IsMarked, IsTermOf, interval_of, plain_built}
 use Rattle.ep_flatten.proofs.Growing.{skipped}
 use Rattle.ep_flatten.proofs.FormLaws.{form_inside}
 use Rattle.ep_flatten.proofs.MarkedTerms.{marked_there}
-use Rattle.ep_flatten.proofs.Adding.{as_built, has_parts, on_ok_five, on_ok_then, spans_pushed, stands_over, term_of}
+use Rattle.ep_flatten.proofs.Adding.{small_there, stands_built, total_there, as_built, has_parts, on_ok_five, on_ok_then, spans_pushed, stands_over, term_of}
 use Rattle.ep_flatten.proofs.building.add_term.Goals as goal
 
 pub add_node-requires : goal.add_node-requires
 add_node-requires c =
     let g = plain_ground c.args.g.now in
-    has_parts (length g.cells) (plain_node c.node.result.now) (stands_over g c.args.term (plain_node c.node.result.now) c.requires.well_formed c.node.ensures.node)
+    let marks = c.args.marks.now.marked.items in
+    let node = plain_node c.node.result.now in
+    let here : IsMarked marks c.args.term = marked_there marks c.deref.result.now c.args.term c.deref.ensures.value (sym c.is_marked.ensures ∙ c.if-not-is_marked.false) in
+    let known : IsTermOf g marks c.args.term node (plain_form c.form_at.result.now) =
+    subst (IsTermOf g marks c.args.term node) (sym c.form_at.ensures) (term_of g (plain_forms c.args.forms.now) c.args.marks.now.asserted.items marks c.args.term node c.requires.marks c.requires.forms c.requires.well_formed here c.node.ensures.node) in
+    record {
+      stands = stands_built g marks c.args.term (plain_built c.args.made.now) node c.requires.built known.stands;
+      total = total_there g c.args.term node c.requires.no_partial c.node.ensures.node;
+      small = small_there g marks c.args.term node (plain_form c.form_at.result.now) known c.requires.bounded;
+    }
 
 pub returns : goal.returns
 returns c =

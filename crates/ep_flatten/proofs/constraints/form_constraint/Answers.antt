@@ -1,15 +1,17 @@
 use Rattle.std.proofs.Common.{rules, sym, subst, ℕ, ℤ, List, w64, to_z, of_z}
-use Rattle.std.specs.Prelude.{IfOk}
+use Rattle.std.specs.Prelude.{IfOk, map}
+use Rattle.std.specs.List.{All}
+use Rattle.ep_base.specs.Reads.{IsWithinNumbers}
 use Rattle.std.proofs.lemmas.Int.{to_z-of_z}
 use Rattle.ep_flat.specs.FlatViews.{plain_con, plain_kind}
 use Rattle.ep_ground.specs.NodeViews.{plain_node}
 use Rattle.ep_ground.specs.Nodes as nodes
-use Rattle.ep_flatten.specs.Forms.{compared}
+use Rattle.ep_flatten.specs.Forms.{compared, form_coefficients}
 use Rattle.ep_flatten.specs.FormViews.{plain_form}
 use Rattle.ep_flatten.specs.Saying.{Says, SaysForm}
 use Rattle.ep_flatten.specs.declared.forms.Form.{Form}
 use Rattle.ep_flatten.proofs.Adding.{if_ok_then}
-use Rattle.ep_flatten.proofs.Sayings.{says_form, says_own, says_summed, told}
+use Rattle.ep_flatten.proofs.Sayings.{small_parts, says_form, says_own, says_summed, told}
 use Rattle.ep_flatten.specs.Tops.{TellsForm}
 use Rattle.ep_flatten.proofs.constraints.form_constraint.Goals as goal
 
@@ -43,3 +45,18 @@ returns-in_ok-kind-in-Compare c =
     (subst (λ (ps : List (ℤ × ℕ)). TellsForm c.args.places.now node (compared op ps (to_z w64 (of_z w64 n))) kind) c.deref-in-Compare.ensures.value told_is) in
     subst (λ (form : Form). SaysForm c.args.places.now node (plain_form form) c.args.variable (told c.args.variable kind)) (sym c.in-Compare.is)
     (says_form c.args.places.now node (compared op parts n) c.args.variable kind tells)
+
+pub constraint-requires : goal.constraint-requires
+unfolding form_coefficients
+constraint-requires c = record {
+  parts = c.requires.parts;
+  operation = c.requires.operation;
+  small = subst (λ (form : Form). All IsWithinNumbers (form_coefficients (plain_node c.args.node.now) (plain_form form))) c.in-Own.is c.requires.small;
+}
+
+pub sum-requires : goal.sum-requires
+unfolding form_coefficients
+sum-requires c =
+    small_parts c.deref.result.now
+    (subst (λ (ps : List (ℤ × ℕ)). All IsWithinNumbers (map (λ p. p.0) ps)) (sym c.deref.ensures.value)
+    (subst (λ (form : Form). All IsWithinNumbers (form_coefficients (plain_node c.args.node.now) (plain_form form))) c.in-Sum.is c.requires.small))
