@@ -1,5 +1,5 @@
 -- What the code adds for a term.
-use Rattle.std.specs.Prelude.{◌≡◌, ℕ, zero, suc, ◌+◌, ◌<◌, Bool, true, List, [], ◌∷◌, ◌++◌, length, map, ℤ, pos, negsuc, Some, slice_get, slice_index_or, refl}
+use Rattle.std.specs.Prelude.{false, ◌≡◌, ℕ, zero, suc, ◌+◌, ◌<◌, Bool, true, List, [], ◌∷◌, ◌++◌, length, map, ℤ, Some, slice_get, slice_index_or, refl}
 use Rattle.std.proofs.Common.{ap, arith, subst, sym, ◌∙◌}
 use Rattle.std.proofs.lemmas.Bool.{false≢true}
 use Rattle.std.proofs.lemmas.Int.{ints}
@@ -10,16 +10,20 @@ use Rattle.std.proofs.lemmas.Option.{slice_get_within, get_or_from_slice_get}
 use Rattle.ep_base.specs.Intervals.{Interval, LiesIn, from_to, spanned, truth_interval}
 use Rattle.ep_base.specs.Runs.{IsIn}
 use Rattle.ep_base.specs.declared.run_lists.Run.{Run}
+use Rattle.ep_base.specs.declared.operators.CompareOp.{CompareOp}
 use Rattle.ep_flat.specs.Cons.{FlatCon}
 use Rattle.ep_flat.specs.FlatViews.{plain_con}
 use Rattle.ep_flat.specs.declared.flats.Con.{Con}
-use Rattle.ep_flatten.specs.Building.{AreMarks, Built, Covers, HasAll, HasSmall, IsBuilt, IsMarked, IsTermOf, interval_of, is_truth_node, span_at}
+use Rattle.ep_flatten.specs.Building.{AreMarks, Built, Covers, CoversForm, form_reach, HasAll, HasSmall, IsBuilt, IsMarked, IsTermOf, interval_of, is_truth_node, span_at}
+use Rattle.ep_base.specs.Reads.{IsWithinNumbers}
+use Rattle.ep_flatten.specs.Forms.{form_coefficients, HaveForms, TermForm, form_at, own, summed, compared}
 use Rattle.ep_flatten.specs.Saying.{HasParts}
+use Rattle.ep_flatten.proofs.FormLaws.{form_there}
 use Rattle.ep_flatten.specs.declared.intervals.Span.{Span}
 use Rattle.ep_flatten.proofs.Growing.{with_cell, without}
 use Rattle.ep_ground.specs.Bounds.{IsBounded, IsWithinReach, node_reach}
-use Rattle.ep_ground.specs.Grounds.{GroundState, IsWellFormed, StandsOver}
-use Rattle.ep_ground.specs.Nodes.{GroundNode, constant, undefined, cell, sum, product, quotient, remainder, power, absolute, least, greatest, pick, whole, safe_quotient, safe_remainder, safe_pick, parts_of}
+use Rattle.ep_ground.specs.Grounds.{HasNoPartialNode, GroundState, IsWellFormed, StandsOver}
+use Rattle.ep_ground.specs.Nodes.{GroundNode, is_partial, coefficients_of, constant, undefined, cell, sum, product, quotient, remainder, power, absolute, least, greatest, pick, whole, safe_quotient, safe_remainder, safe_pick}
 use Rattle.ep_ground.specs.declared.cells.Cell.{Cell}
 
 truth_within : IsWithinReach truth_interval
@@ -59,14 +63,17 @@ has_parts n (least ts) h = h
 has_parts n (greatest ts) h = h
 has_parts n node h = tt
 
--- what is known of a marked term's node
-pub term_of : (g : GroundState) (asserted marks : List Bool) (t : ℕ) (node : GroundNode) → AreMarks g asserted marks → IsWellFormed g → IsMarked marks t → slice_get g.nodes t ≡ Some node → All (λ part. part < t) (parts_of node) → IsTermOf g marks t node
-term_of g asserted marks t node are h m got before = record {
+pub stands_over : (g : GroundState) (t : ℕ) (node : GroundNode) → IsWellFormed g → slice_get g.nodes t ≡ Some node → StandsOver (length g.cells) node
+stands_over g t node h got = subst (StandsOver (length g.cells)) (get_or_from_slice_get g.nodes t node node got) (h.nodes t node (slice_get_within g.nodes t node got))
+
+-- what is known of a marked term, of its node and of its form
+pub term_of : (g : GroundState) (forms : List TermForm) (asserted marks : List Bool) (t : ℕ) (node : GroundNode) → AreMarks g forms asserted marks → HaveForms g.nodes (length g.nodes) forms → IsWellFormed g → IsMarked marks t → slice_get g.nodes t ≡ Some node → IsTermOf g marks t node (form_at forms t)
+term_of g forms asserted marks t node are have h m got = record {
   got = got;
-  before = before;
+  is = form_there g.nodes forms t node have got (slice_get_within g.nodes t node got);
   marked = are.closed t node got m;
   reached = are.reached t m;
-  stands = subst (StandsOver (length g.cells)) (get_or_from_slice_get g.nodes t node node got) (h.nodes t node (slice_get_within g.nodes t node got));
+  stands = stands_over g t node h got;
 }
 
 truth_reach : (node : GroundNode) (cells : List Cell) (spans : List Interval) → is_truth_node node ≡ true → node_reach cells (span_at spans) node ≡ truth_interval
@@ -110,12 +117,42 @@ at_map f (x ∷ xs) zero d e h = refl
 at_map f (x ∷ xs) (suc k) d e h = at_map f xs k d e (omega (arith, h))
 
 -- a cell's variable for a term, with the interval of its domain
-pub cell_advances : (old : Built) (k variable : ℕ) (span : Interval) (g : GroundState) (marks : List Bool) (t : ℕ) → variable ≡ slice_index_or old.cells k 0 → k < length old.cells
-    → IsWithinReach span → HasSmall (spanned (slice_index_or old.vars variable [])) span → IsBuilt g marks t old → IsTermOf g marks t (cell k) → IsBounded g
+pub cell_advances : (old : Built) (k variable : ℕ) (form : TermForm) (span : Interval) (g : GroundState) (marks : List Bool) (t : ℕ) → variable ≡ slice_index_or old.cells k 0 → k < length old.cells
+    → IsWithinReach span → HasSmall (spanned (slice_index_or old.vars variable [])) span → IsBuilt g marks t old → IsTermOf g marks t (cell k) form → IsBounded g
     → IsBuilt g marks (t + 1) (without old variable span)
 unfolding StandsOver node_reach
-cell_advances old k variable span g marks t e below small holds built at bounded =
+cell_advances old k variable form span g marks t e below small holds built at bounded =
     let domain : slice_index_or old.vars variable [] ≡ slice_index_or (map (λ one. one.values) g.cells) k [] =
     ap (λ x. slice_index_or old.vars x []) e ∙ sym (at_map (λ x. slice_index_or old.vars x []) old.cells k 0 [] below) ∙ ap (λ ds. slice_index_or ds k []) built.domains in
     let covers : Covers g.cells old.spans (cell k) span = record { small = small; holds = subst (λ d. HasSmall (spanned d) span) domain holds } in
-    subst (λ v. IsBuilt g marks (t + 1) (without old v span)) (sym e) (with_cell g marks t old k span built at bounded covers at.stands)
+    subst (λ v. IsBuilt g marks (t + 1) (without old v span)) (sym e) (with_cell g marks t old k form span built at bounded covers at.stands)
+
+-- an interval of a term by its form
+pub covers_own : (node : GroundNode) (cells : List Cell) (spans : List Interval) (i : Interval) → Covers cells spans node i → CoversForm cells spans node own i
+unfolding form_reach
+covers_own node cells spans i h = record { small = h.small; holds = h.holds }
+
+pub covers_summed : (node : GroundNode) (c : ℤ) (parts : List (ℤ × ℕ)) (cells : List Cell) (spans : List Interval) (i : Interval) → Covers cells spans (sum c parts) i → CoversForm cells spans node (summed c parts) i
+unfolding form_reach
+covers_summed node c parts cells spans i h = record { small = h.small; holds = h.holds }
+
+pub covers_compared : (node : GroundNode) (op : CompareOp) (parts : List (ℤ × ℕ)) (c : ℤ) (cells : List Cell) (spans : List Interval) → CoversForm cells spans node (compared op parts c) truth_interval
+unfolding form_reach
+covers_compared node op parts c cells spans = record { small = truth_within; holds = λ n l _. l }
+
+-- what is known of a marked term's node, for its constraint
+length_map : {A B : Type 0} (xs : List A) (f : A → B) → length (map f xs) ≡ length xs
+length_map [] f = refl
+length_map (x ∷ xs) f = ap suc (length_map xs f)
+
+pub stands_built : (g : GroundState) (marks : List Bool) (t : ℕ) (b : Built) (node : GroundNode) → IsBuilt g marks t b → StandsOver (length g.cells) node → StandsOver (length b.cells) node
+stands_built g marks t b node h s =
+    let many : length b.cells ≡ length g.cells = sym (length_map b.cells (λ x. slice_index_or b.vars x [])) ∙ ap length h.domains ∙ length_map g.cells (λ one. one.values) in
+    subst (λ n. StandsOver n node) (sym many) s
+
+pub total_there : (g : GroundState) (t : ℕ) (node : GroundNode) → HasNoPartialNode g → slice_get g.nodes t ≡ Some node → is_partial node ≡ false
+total_there g t node h got = subst (λ n. is_partial n ≡ false) (get_or_from_slice_get g.nodes t node node got) (h t node (slice_get_within g.nodes t node got))
+
+pub small_there : (g : GroundState) (marks : List Bool) (t : ℕ) (node : GroundNode) (form : TermForm) → IsTermOf g marks t node form → IsBounded g → All IsWithinNumbers (form_coefficients node form)
+small_there g marks t node form at bounded =
+    at.is.coefficients (subst (λ n. All IsWithinNumbers (coefficients_of n)) (get_or_from_slice_get g.nodes t node undefined at.got) (bounded.coefficients t at.reached))

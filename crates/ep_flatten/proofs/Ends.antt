@@ -1,15 +1,14 @@
 -- Ends of intervals, and how intervals cover the reaches of nodes.
-use Rattle.std.specs.Prelude.{◌≡◌, ℕ, zero, suc, ◌+◌, ◌<◌, ◌≤◌, List, [], ◌∷◌, ◌++◌, length, map, drop, ℤ, pos, negsuc, ◌+ℤ◌, ◌*ℤ◌, ◌≤ℤ◌, if◌then◌else◌, neg_ℤ, nat_abs, fold, get_or, slice_index_or, refl}
+use Rattle.std.specs.Prelude.{◌≡◌, ℕ, zero, suc, ◌+◌, ◌<◌, ◌≤◌, List, [], ◌∷◌, length, map, drop, ℤ, pos, negsuc, ◌+ℤ◌, ◌*ℤ◌, ◌≤ℤ◌, if◌then◌else◌, neg_ℤ, nat_abs, fold, get_or, slice_index_or, refl}
 use Rattle.std.specs.Int.{int_max, int_min}
 use Rattle.std.proofs.Common.{ap, arith, subst, sym, ◌∙◌}
 use Rattle.std.proofs.lemmas.Int.{ints}
 use Rattle.std.proofs.lemmas.List.{at_drop_all, at_drop_more}
-use Rattle.ep_base.specs.Intervals.{Interval, LiesIn, from_to, greatest_or_zero, has_zero, highs, least_or_zero, lows, nth_power_interval, only, spanned, sum_interval}
+use Rattle.ep_base.specs.Intervals.{Interval, from_to, greatest_or_zero, has_zero, highs, least_or_zero, lows, nth_power_interval, only, spanned, sum_interval}
 use Rattle.ep_base.specs.Numbers.{absolute_of, greatest_of, least_of, nth_power, sum_of}
-use Rattle.ep_base.specs.Reads.{IsWithinNumbers}
 use Rattle.ep_flatten.specs.Building.{Covers, HasSmall, span_at}
-use Rattle.ep_ground.specs.Bounds.{IsWithinReach, node_reach, scaled}
-use Rattle.ep_ground.specs.Nodes.{GroundNode, sum}
+use Rattle.ep_ground.specs.Bounds.{IsWithinReach, node_reach}
+use Rattle.ep_ground.specs.Nodes.{GroundNode}
 use Rattle.ep_ground.specs.declared.cells.Cell.{Cell}
 
 pub absolute_is : (n : ℤ) → pos (nat_abs n) ≡ absolute_of n

@@ -18,11 +18,13 @@ use Rattle.ep_ground.specs.Terms.{node_value, term_value}
 use Rattle.ep_ground.specs.Bounds.{IsBounded, IsWithinReach, node_reach, reach_at, term_reach}
 use Rattle.ep_ground.specs.Grounds.{AreCellValues, GroundState, IsReached}
 use Rattle.ep_ground.specs.declared.cells.Cell.{Cell}
-use Rattle.ep_flatten.specs.Saying.{Says, place_of, value_under}
-use Rattle.ep_flatten.specs.Building.{Built, Covers, Extends, HasAll, IsBuilt, IsMarked, IsTermOf, flat_of, span_at}
+use Rattle.ep_flatten.specs.Forms.{AreNumbersOf, TermForm, form_parts, form_value}
+use Rattle.ep_flatten.specs.Saying.{SaysForm, place_of, value_under}
+use Rattle.ep_flatten.proofs.FormLaws.{form_lies, form_same}
+use Rattle.ep_flatten.specs.Building.{Built, Covers, CoversForm, Extends, HasAll, IsBuilt, IsMarked, IsTermOf, flat_of, span_at}
 use Rattle.ep_flatten.proofs.Frames.{at_end, cons_back, cons_stay, domains_more, domains_split, earlier, names_more, numbers_agree}
 use Rattle.ep_flatten.proofs.Reaches.{Lie, node_lies, term_lies}
-use Rattle.ep_flatten.proofs.Unrolled.{all_left, all_right, node_same, unrolled}
+use Rattle.ep_flatten.proofs.Unrolled.{all_left, all_right, unrolled}
 use Rattle.ep_tree.proofs.TypedParts.{no_some, some_is}
 
 -- ---- lists
@@ -183,26 +185,32 @@ within_reach i n h l =
     let low = h.low.0 in let high = h.high.1 in
     (up _ i.low n low l.0, up n i.high _ l.1 high)
 
--- the value of a term lies in what covers its node's reach
-term_ends : (g : GroundState) (marks : List Bool) (t : ℕ) (b : Built) (node : GroundNode) (span : Interval) → IsBuilt g marks t b → IsTermOf g marks t node → IsBounded g → Covers g.cells b.spans node span
+-- the parts of a marked term's form have the numbers of their variables
+told_parts : (g : GroundState) (marks : List Bool) (t : ℕ) (b : Built) (node : GroundNode) (form : TermForm) → IsBuilt g marks t b → IsTermOf g marks t node form
+    → (front : List ℤ) → Meets (flat_of b) front → AreNumbersOf (term_value g.nodes (numbers_at front b.cells)) (λ p. number_at front (place_of b.places p)) (form_parts node form)
+told_parts g marks t b node form h at front meets =
+    both_parts {P = λ p. p < t} {Q = IsMarked marks} {R = λ p. term_value g.nodes (numbers_at front b.cells) p ≡ Some (number_at front (place_of b.places p))} (form_parts node form) (h.tells front meets) at.is.before at.marked
+
+-- the value of a term lies in what covers its form's reach
+term_ends : (g : GroundState) (marks : List Bool) (t : ℕ) (b : Built) (node : GroundNode) (form : TermForm) (span : Interval) → IsBuilt g marks t b → IsTermOf g marks t node form → IsBounded g → CoversForm g.cells b.spans node form span
     → (xs : List ℤ) → AreCellValues g.cells xs → (n : ℤ) → term_value g.nodes xs t ≡ Some n → LiesIn n span
-term_ends g marks t b node span h at bounded covers xs are n e =
+term_ends g marks t b node form span h at bounded covers xs are n e =
     let value = term_value g.nodes xs in
-    let of_node : node_value xs value node ≡ Some n = sym (unrolled xs g.nodes t node at.got at.before) ∙ e in
-    let same : node_value xs (masked marks t value) node ≡ node_value xs value node =
-    node_same xs (masked marks t value) value node (both_parts {P = λ p. p < t} {Q = IsMarked marks} {R = λ p. masked marks t value p ≡ value p} (parts_of node) (masked_there marks t value) at.before at.marked) in
+    let old = h.extends xs are in
+    let numbers : ℕ → ℤ = λ p. number_at old.values (place_of b.places p) in
+    let have : AreNumbersOf value numbers (form_parts node form) = subst (λ ys. AreNumbersOf (term_value g.nodes ys) numbers (form_parts node form)) old.gives (told_parts g marks t b node form h at old.values old.meets) in
+    let of_form : form_value xs (λ p. Some (numbers p)) node form ≡ Some n = sym (at.is.value xs numbers have) ∙ e in
+    let same : form_value xs (masked marks t value) node form ≡ form_value xs value node form =
+    form_same xs (masked marks t value) value node form (both_parts {P = λ p. p < t} {Q = IsMarked marks} {R = λ p. masked marks t value p ≡ value p} (form_parts node form) (masked_there marks t value) at.is.before at.marked) in
     covers.holds n
-    (node_lies g.cells xs (masked marks t value) (span_at b.spans) are (masked_lies g marks t b h xs are) node n (same ∙ of_node))
+    (form_lies g.cells xs (masked marks t value) (span_at b.spans) are (masked_lies g marks t b h xs are) node form n (same ∙ form_same xs value (λ p. Some (numbers p)) node form have ∙ of_form))
     (within_reach (term_reach g.nodes g.cells t) n (bounded.reaches t at.reached) (term_lies g.nodes g.cells xs are t n e))
 
--- the value of a term is that of its node, where the parts have the values of their variables
-term_told : (g : GroundState) (marks : List Bool) (t : ℕ) (b : Built) (node : GroundNode) → IsBuilt g marks t b → IsTermOf g marks t node
-    → (front : List ℤ) → Meets (flat_of b) front → term_value g.nodes (numbers_at front b.cells) t ≡ node_value (numbers_at front b.cells) (value_under front b.places) node
+-- the value of a term is that of its form, where the parts have the values of their variables
+term_told : (g : GroundState) (marks : List Bool) (t : ℕ) (b : Built) (node : GroundNode) (form : TermForm) → IsBuilt g marks t b → IsTermOf g marks t node form
+    → (front : List ℤ) → Meets (flat_of b) front → term_value g.nodes (numbers_at front b.cells) t ≡ form_value (numbers_at front b.cells) (value_under front b.places) node form
 unfolding value_under
-term_told g marks t b node h at front meets =
-    unrolled (numbers_at front b.cells) g.nodes t node at.got at.before
-    ∙ node_same (numbers_at front b.cells) (term_value g.nodes (numbers_at front b.cells)) (value_under front b.places) node
-    (both_parts {P = λ p. p < t} {Q = IsMarked marks} {R = λ p. term_value g.nodes (numbers_at front b.cells) p ≡ value_under front b.places p} (parts_of node) (h.tells front meets) at.before at.marked)
+term_told g marks t b node form h at front meets = at.is.value (numbers_at front b.cells) (λ p. number_at front (place_of b.places p)) (told_parts g marks t b node form h at front meets)
 
 length_map : {A B : Type 0} (xs : List A) (f : A → B) → length (map f xs) ≡ length xs
 length_map [] f = refl
@@ -215,16 +223,20 @@ cell_there values (x ∷ cells) zero h = refl
 cell_there values (x ∷ cells) (suc k) h = cell_there values cells k (omega (arith, h))
 
 -- a cell has its variable
-pub with_cell : (g : GroundState) (marks : List Bool) (t : ℕ) (b : Built) (k : ℕ) (span : Interval) → IsBuilt g marks t b → IsTermOf g marks t (cell k) → IsBounded g → Covers g.cells b.spans (cell k) span → k < length g.cells
+pub with_cell : (g : GroundState) (marks : List Bool) (t : ℕ) (b : Built) (k : ℕ) (form : TermForm) (span : Interval) → IsBuilt g marks t b → IsTermOf g marks t (cell k) form → IsBounded g → Covers g.cells b.spans (cell k) span → k < length g.cells
     → IsBuilt g marks (t + 1) (without b (slice_index_or b.cells k 0) span)
-unfolding node_value
-with_cell g marks t b k span h at bounded covers l =
+unfolding node_value parts_of
+with_cell g marks t b k form span h at bounded covers l =
+    let none : All (λ p. p < t) (parts_of (cell k)) = All-nil (λ p. p < t) in
     let many : length b.cells ≡ length g.cells = sym (length_map b.cells (λ x. slice_index_or b.vars x [])) ∙ ap length h.domains ∙ length_map g.cells (λ one. one.values) in
     let here : k < length b.cells = subst (λ n. k < n) (sym many) l in
     reusing g marks t b (slice_index_or b.cells k 0) span h (λ _. record {
       within = h.cells k 0 here;
-      tells = λ values meets. term_told g marks t b (cell k) h at values meets ∙ cell_there values b.cells k here;
-      ends = term_ends g marks t b (cell k) span h at bounded covers;
+      tells = λ values meets. unrolled (numbers_at values b.cells) g.nodes t (cell k) at.got none ∙ cell_there values b.cells k here;
+      ends = λ xs are n e.
+          covers.holds n
+          (node_lies g.cells xs (masked marks t (term_value g.nodes xs)) (span_at b.spans) are (masked_lies g marks t b h xs are) (cell k) n (sym (unrolled xs g.nodes t (cell k) at.got none) ∙ e))
+          (within_reach (term_reach g.nodes g.cells t) n (bounded.reaches t at.reached) (term_lies g.nodes g.cells xs are t n e));
     })
 
 -- ---- a term with a variable of its own
@@ -328,30 +340,30 @@ alone : (P : FlatCon → Type 0) (con : FlatCon) → P con → All P (con ∷ []
 alone P con h = All-cons P con [] h (All-nil P)
 
 -- an operation has a variable of its own, and its constraint
-pub with_operation : (g : GroundState) (marks : List Bool) (t : ℕ) (b : Built) (node : GroundNode) (con : FlatCon) (d : List ℤ) (span : Interval)
-    → IsBuilt g marks t b → IsTermOf g marks t node → IsBounded g → Covers g.cells b.spans node span → Says b.places node (length b.vars) con → HasAll d span
+pub with_operation : (g : GroundState) (marks : List Bool) (t : ℕ) (b : Built) (node : GroundNode) (form : TermForm) (con : FlatCon) (d : List ℤ) (span : Interval)
+    → IsBuilt g marks t b → IsTermOf g marks t node form → IsBounded g → CoversForm g.cells b.spans node form span → SaysForm b.places node form (length b.vars) con → HasAll d span
     → IsBuilt g marks (t + 1) (later b (d ∷ []) (b.cons ++ con ∷ []) (length b.vars) span)
 unfolding value_under
-with_operation g marks t b node con d span h at bounded covers says has =
+with_operation g marks t b node form con d span h at bounded covers says has =
     let r = length b.vars in
-    let placed : All (λ p. place_of b.places p < r) (parts_of node) =
-    both_parts {P = λ p. p < t} {Q = IsMarked marks} {R = λ p. place_of b.places p < r} (parts_of node) h.within at.before at.marked in
+    let placed : All (λ p. place_of b.places p < r) (form_parts node form) =
+    both_parts {P = λ p. p < t} {Q = IsMarked marks} {R = λ p. place_of b.places p < r} (form_parts node form) h.within at.is.before at.marked in
     let same_value : (front : List ℤ) (n : ℤ) → length front ≡ r → says.value (front ++ n ∷ []) ≡ says.value front =
     λ front n long. some_is (
     sym (says.gives [] (front ++ n ∷ []))
-    ∙ node_same [] (value_under (front ++ n ∷ []) b.places) (value_under front b.places) node
+    ∙ form_same [] (value_under (front ++ n ∷ []) b.places) (value_under front b.places) node form
     (All-weaker (λ p. place_of b.places p < r) (λ p. value_under (front ++ n ∷ []) b.places p ≡ value_under front b.places p)
-    (λ p l. ap (λ m. Some m) (earlier front n (place_of b.places p) (subst (λ m. place_of b.places p < m) (sym long) l))) (parts_of node) placed)
+    (λ p l. ap (λ m. Some m) (earlier front n (place_of b.places p) (subst (λ m. place_of b.places p < m) (sym long) l))) (form_parts node form) placed)
     ∙ says.gives [] front) in
     let told : (front : List ℤ) → Meets (flat_of b) front → term_value g.nodes (numbers_at front b.cells) t ≡ Some (says.value front) =
-    λ front meets. term_told g marks t b node h at front meets ∙ says.gives (numbers_at front b.cells) front in
-    let ends = term_ends g marks t b node span h at bounded covers in
+    λ front meets. term_told g marks t b node form h at front meets ∙ says.gives (numbers_at front b.cells) front in
+    let ends = term_ends g marks t b node form span h at bounded covers in
     let holds_is : (front : List ℤ) (n : ℤ) → length front ≡ r → con_holds (front ++ n ∷ []) con ≡ int_eq n (says.value front) =
     λ front n long. says.says (front ++ n ∷ []) ∙ ap (λ m. int_eq m (says.value (front ++ n ∷ []))) (at_end front n r long) ∙ ap (int_eq n) (same_value front n long) in
     grown g marks t b d (con ∷ []) span says.value h
     (sound_further b d (con ∷ []) h.sound (small_domain d span covers.small has)
-    (alone (NamesBelow (r + 1)) con (says.names (r + 1) (omega arith) (All-weaker (λ p. place_of b.places p < r) (λ p. place_of b.places p < r + 1) (λ p l. omega (arith, l)) (parts_of node) placed)))
-    (alone HasSmallCoefficients con (says.coefficients (subst (λ n. All IsWithinNumbers (coefficients_of n)) (get_or_from_slice_get g.nodes t node undefined at.got) (bounded.coefficients t at.reached)))))
+    (alone (NamesBelow (r + 1)) con (says.names (r + 1) (omega arith) (All-weaker (λ p. place_of b.places p < r) (λ p. place_of b.places p < r + 1) (λ p l. omega (arith, l)) (form_parts node form) placed)))
+    (alone HasSmallCoefficients con (says.coefficients (at.is.coefficients (subst (λ n. All IsWithinNumbers (coefficients_of n)) (get_or_from_slice_get g.nodes t node undefined at.got) (bounded.coefficients t at.reached))))))
     (record {
       forth = λ front meets.
           let long = zip_length b.vars front meets.domains in (
@@ -411,11 +423,12 @@ no_more : (xs : List FlatCon) → xs ++ [] ≡ xs
 no_more xs = append_none xs
 
 -- a number has a variable with one value
-pub with_number : (g : GroundState) (marks : List Bool) (t : ℕ) (b : Built) (c : ℤ) (d : List ℤ)
-    → IsBuilt g marks t b → IsTermOf g marks t (constant c) → IsBounded g → HasAll d (only c)
+pub with_number : (g : GroundState) (marks : List Bool) (t : ℕ) (b : Built) (c : ℤ) (form : TermForm) (d : List ℤ)
+    → IsBuilt g marks t b → IsTermOf g marks t (constant c) form → IsBounded g → HasAll d (only c)
     → IsBuilt g marks (t + 1) (later b (d ∷ []) b.cons (length b.vars) (only c))
-unfolding node_value
-with_number g marks t b c d h at bounded has =
+unfolding node_value parts_of
+with_number g marks t b c form d h at bounded has =
+    let none : All (λ p. p < t) (parts_of (constant c)) = All-nil (λ p. p < t) in
     let small = number_small g t c at.got at.reached bounded in
     let here : LiesIn c (only c) = (omega (arith, ints), omega (arith, ints)) in
     subst (λ cons. IsBuilt g marks (t + 1) (later b (d ∷ []) cons (length b.vars) (only c))) (no_more b.cons)
@@ -425,5 +438,5 @@ with_number g marks t b c d h at bounded has =
       forth = λ front meets. ((has c).1 here, All-nil (λ con. IsTrue (con_holds (front ++ c ∷ []) con)));
       back = λ front n meets in_domain _. let l = (has n).0 in_domain in same_ends n c l.0 l.1;
     })
-    (λ front meets. term_told g marks t b (constant c) h at front meets)
-    (λ xs are n e. subst (λ m. LiesIn m (only c)) (some_is (sym (unrolled xs g.nodes t (constant c) at.got at.before) ∙ e)) here))
+    (λ front meets. unrolled (numbers_at front b.cells) g.nodes t (constant c) at.got none)
+    (λ xs are n e. subst (λ m. LiesIn m (only c)) (some_is (sym (unrolled xs g.nodes t (constant c) at.got none) ∙ e)) here))

@@ -9,3 +9,6 @@ pub mod Adding
 pub mod Standing
 pub mod RunEnds
 pub mod Ends
+pub mod SumLaws
+pub mod FormLaws
+pub mod NodeKinds

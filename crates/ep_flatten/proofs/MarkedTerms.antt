@@ -3,12 +3,14 @@ use Rattle.std.specs.Prelude.{◌≡◌, ℕ, zero, suc, ◌+◌, ◌≤◌, ◌
 use Rattle.std.proofs.Common.{ap, arith, get_or, inl, inr, subst, sym, take, ◌∙◌, ℤ, pos}
 use Rattle.std.specs.List.{All, Contains}
 use Rattle.std.proofs.lemmas.Bool.{false≢true}
-use Rattle.std.proofs.lemmas.List.{get_or-set_same, get_or_default, length-set, length-replicate, map_more, take_more}
+use Rattle.std.proofs.lemmas.List.{get_or-set_same, length-set, length-replicate, map_more, take_more}
 use Rattle.std.proofs.lemmas.List.Elements.{All-cons, All-contains, All-head, All-nil, All-tail, All-weaker, Contains-append_left, Contains-append_right}
 use Rattle.ep_ground.specs.Grounds.{GroundState, IsReached, IsWellFormed, LeadsTo, itself, by_part, named_terms}
 use Rattle.ep_ground.specs.Nodes.{GroundNode, parts_of}
 use Rattle.ep_flatten.specs.Building.{AreMarks, IsForced, IsMarked, goal_terms}
+use Rattle.ep_flatten.specs.Forms.{HaveForms, IsFormOf, TermForm, form_at, form_parts}
 use Rattle.ep_flatten.specs.Marking.{AreMarksFrom, marked}
+use Rattle.ep_flatten.proofs.FormLaws.{form_there}
 use Rattle.ep_flatten.specs.Tops.{asserts_of, needs_of}
 use Rattle.ep_flatten.proofs.Truths.{asserts_in, forced_part, needs_before, needs_in}
 use Rattle.ep_flatten.proofs.Unrolled.{all_left, all_right}
@@ -86,10 +88,10 @@ past_end zero (n ∷ nodes) node e = omega arith
 past_end (suc t) (n ∷ nodes) node e = let rest = past_end t nodes node e in omega (arith, rest)
 
 -- the terms that the ground names, marked alone
-marks_named : (g : GroundState) (truths ms : List Bool) → IsWellFormed g → truths ≡ marked (replicate (length g.nodes) false) g.clauses → ms ≡ marked (replicate (length g.nodes) false) (goal_terms g)
-    → AreMarksFrom g (length g.nodes) (length g.nodes) truths ms
+marks_named : (g : GroundState) (forms : List TermForm) (truths ms : List Bool) → IsWellFormed g → truths ≡ marked (replicate (length g.nodes) false) g.clauses → ms ≡ marked (replicate (length g.nodes) false) (goal_terms g)
+    → AreMarksFrom g forms (length g.nodes) (length g.nodes) truths ms
 unfolding named_terms goal_terms
-marks_named g truths ms h d e =
+marks_named g forms truths ms h d e =
     let none = replicate (length g.nodes) false in
     let goals = option_to_list (option_map (λ goal. goal.1) g.objective) in
     let long : length none ≡ length g.nodes = length-replicate (length g.nodes) false in
@@ -98,8 +100,8 @@ marks_named g truths ms h d e =
     λ t m. elim (marks_only none g.clauses t m) as (λ _. Contains g.clauses t) [ inl k ↦ absurd (false≢true (sym (none_marked (length g.nodes) t) ∙ k)) | inr k ↦ k ] in
     let marked_there : (t : ℕ) → IsMarked (marked none goals) t → Contains goals t =
     λ t m. elim (marks_only none goals t m) as (λ _. Contains goals t) [ inl k ↦ absurd (false≢true (sym (none_marked (length g.nodes) t) ∙ k)) | inr k ↦ k ] in
-    subst (λ xs. AreMarksFrom g (length g.nodes) (length g.nodes) xs ms) (sym d)
-    (subst (λ xs. AreMarksFrom g (length g.nodes) (length g.nodes) (marked none g.clauses) xs) (sym e)
+    subst (λ xs. AreMarksFrom g forms (length g.nodes) (length g.nodes) xs ms) (sym d)
+    (subst (λ xs. AreMarksFrom g forms (length g.nodes) (length g.nodes) (marked none g.clauses) xs) (sym e)
     (record {
       asserted_long = marks_long none g.clauses ∙ long;
       long = marks_long none goals ∙ long;
@@ -128,14 +130,18 @@ same_node g t u node other e got found = some_is (sym got ∙ ap (slice_get g.no
 reached_part : (g : GroundState) (t u : ℕ) (node : GroundNode) → IsReached g t → slice_get g.nodes t ≡ Some node → Contains (parts_of node) u → IsReached g u
 reached_part g t u node r got part = record { from = r.from; named = r.named; leads = leads_on g.nodes r.from t u r.leads (by_part t u u node got part (itself u)) }
 
+-- the ground leads to what such a term leads to
+reached_on : (g : GroundState) (t u : ℕ) → IsReached g t → LeadsTo g.nodes t u → IsReached g u
+reached_on g t u r leads = record { from = r.from; named = r.named; leads = leads_on g.nodes r.from t u r.leads leads }
+
 -- what holds of each element
 all_from : (P : ℕ → Type 0) (ts : List ℕ) → ((t : ℕ) → Contains ts t → P t) → All P ts
 all_from P [] f = All-nil P
 all_from P (t ∷ ts) f = All-cons P t ts (f t (0, omega arith, refl)) (all_from P ts (λ u found. f u (Contains-append_right (t ∷ []) ts u found)))
 
 -- a term that needn't be true
-pub tops_skip : (g : GroundState) (t : ℕ) (truths ms : List Bool) → AreMarksFrom g (t + 1) (t + 1) truths ms → slice_index_or truths t false ≡ false → AreMarksFrom g t (t + 1) truths ms
-tops_skip g t truths ms h none = record {
+pub tops_skip : (g : GroundState) (forms : List TermForm) (t : ℕ) (truths ms : List Bool) → AreMarksFrom g forms (t + 1) (t + 1) truths ms → slice_index_or truths t false ≡ false → AreMarksFrom g forms t (t + 1) truths ms
+tops_skip g forms t truths ms h none = record {
   asserted_long = h.asserted_long;
   long = h.long;
   clauses = h.clauses;
@@ -149,13 +155,15 @@ tops_skip g t truths ms h none = record {
 }
 
 -- what a term that has to be true needs
-pub tops_step : (g : GroundState) (t : ℕ) (node : GroundNode) (truths ms : List Bool) → AreMarksFrom g (t + 1) (t + 1) truths ms → IsMarked truths t → slice_get g.nodes t ≡ Some node → All (λ p. p < t) (parts_of node)
-    → AreMarksFrom g t (t + 1) (marked truths (asserts_of node)) (marked ms (needs_of t node (parts_of node)))
-tops_step g t node truths ms h m got before =
-    let needs = needs_of t node (parts_of node) in
+pub tops_step : (g : GroundState) (forms : List TermForm) (t : ℕ) (node : GroundNode) (truths ms : List Bool) → AreMarksFrom g forms (t + 1) (t + 1) truths ms → HaveForms g.nodes (length g.nodes) forms → IsMarked truths t → slice_get g.nodes t ≡ Some node → All (λ p. p < t) (parts_of node)
+    → AreMarksFrom g forms t (t + 1) (marked truths (asserts_of node)) (marked ms (needs_of t node (form_at forms t)))
+tops_step g forms t node truths ms h have m got before =
+    let form = form_at forms t in
+    let needs = needs_of t node form in
     let below : t < length g.nodes = past_end t g.nodes node got in
+    let is : IsFormOf g.nodes t node form = form_there g.nodes forms t node have got below in
     let part_before : (u : ℕ) → Contains (asserts_of node) u → u < t = λ u found. All-contains (λ p. p < t) (parts_of node) u before (asserts_in node u found) in
-    let need_before : (u : ℕ) → Contains needs u → u < t + 1 = λ u found. All-contains (λ p. p < t + 1) needs u (needs_before t node (parts_of node) before) found in
+    let need_before : (u : ℕ) → Contains needs u → u < t + 1 = λ u found. All-contains (λ p. p < t + 1) needs u (needs_before t node form is.before) found in
     let asserted_inside : All (λ p. p < length truths) (asserts_of node) = all_from (λ p. p < length truths) (asserts_of node) (λ u found. let l = part_before u found in omega (arith, l, below, h.asserted_long)) in
     let inside : All (λ p. p < length ms) needs = all_from (λ p. p < length ms) needs (λ u found. let l = need_before u found in omega (arith, l, below, h.long)) in
     let keeps : (ts : List ℕ) → All (IsMarked truths) ts → All (IsMarked (marked truths (asserts_of node))) ts = λ ts. All-weaker (IsMarked truths) (IsMarked (marked truths (asserts_of node))) (marks_kept truths (asserts_of node)) ts in
@@ -173,14 +181,14 @@ tops_step g t node truths ms h m got before =
           ])
           (λ k. subst (λ o. All (IsMarked (marked truths (asserts_of node))) (asserts_of o)) (same_node g t u node other k got found) (marks_have truths (asserts_of node) asserted_inside));
       tops = λ u other l found n. above_or_here t u l
-          (λ k. elim (marks_only truths (asserts_of node) u n) as (λ _. All (IsMarked (marked ms needs)) (needs_of u other (parts_of other))) [
-            | inl was ↦ stays (needs_of u other (parts_of other)) (h.tops u other k found was)
+          (λ k. elim (marks_only truths (asserts_of node) u n) as (λ _. All (IsMarked (marked ms needs)) (needs_of u other (form_at forms u))) [
+            | inl was ↦ stays (needs_of u other (form_at forms u)) (h.tops u other k found was)
             | inr part ↦ let less = part_before u part in absurd (omega (arith, less, k))
           ])
-          (λ k. subst (λ v. All (IsMarked (marked ms needs)) (needs_of v other (parts_of other))) k
-          (subst (λ o. All (IsMarked (marked ms needs)) (needs_of t o (parts_of o))) (same_node g t u node other k got found) (marks_have ms needs inside)));
-      closed = λ u other l found n. elim (marks_only ms needs u n) as (λ _. All (IsMarked (marked ms needs)) (parts_of other)) [
-        | inl was ↦ stays (parts_of other) (h.closed u other l found was)
+          (λ k. subst (λ v. All (IsMarked (marked ms needs)) (needs_of v other (form_at forms v))) k
+          (subst (λ o. All (IsMarked (marked ms needs)) (needs_of t o form)) (same_node g t u node other k got found) (marks_have ms needs inside)));
+      closed = λ u other l found n. elim (marks_only ms needs u n) as (λ _. All (IsMarked (marked ms needs)) (form_parts other (form_at forms u))) [
+        | inl was ↦ stays (form_parts other (form_at forms u)) (h.closed u other l found was)
         | inr part ↦ let less = need_before u part in absurd (omega (arith, less, l))
       ];
       forced = λ u n. elim (marks_only truths (asserts_of node) u n) as (λ _. IsForced g u) [
@@ -190,13 +198,13 @@ tops_step g t node truths ms h m got before =
       above = λ u n. elim (marks_only truths (asserts_of node) u n) as (λ _. IsReached g u) [ inl was ↦ h.above u was | inr part ↦ reached_part g t u node above got (asserts_in node u part) ];
       reached = λ u n. elim (marks_only ms needs u n) as (λ _. IsReached g u) [
         | inl was ↦ h.reached u was
-        | inr part ↦ elim (needs_in t node (parts_of node) u part) as (λ _. IsReached g u) [ inl same ↦ subst (IsReached g) same above | inr found ↦ reached_part g t u node above got found ]
+        | inr part ↦ elim (needs_in t node form u part) as (λ _. IsReached g u) [ inl same ↦ subst (IsReached g) same above | inr found ↦ reached_on g t u above (All-contains (LeadsTo g.nodes t) (form_parts node form) u is.leads found) ]
       ];
     }
 
 -- a term that isn't marked
-pub marks_skip : (g : GroundState) (t : ℕ) (truths ms : List Bool) → AreMarksFrom g t (t + 1) truths ms → slice_index_or ms t false ≡ false → AreMarksFrom g t t truths ms
-marks_skip g t truths ms h none = record {
+pub marks_skip : (g : GroundState) (forms : List TermForm) (t : ℕ) (truths ms : List Bool) → AreMarksFrom g forms t (t + 1) truths ms → slice_index_or ms t false ≡ false → AreMarksFrom g forms t t truths ms
+marks_skip g forms t truths ms h none = record {
   asserted_long = h.asserted_long;
   long = h.long;
   clauses = h.clauses;
@@ -210,39 +218,43 @@ marks_skip g t truths ms h none = record {
 }
 
 -- the parts of a marked term
-pub marks_step : (g : GroundState) (t : ℕ) (node : GroundNode) (truths ms : List Bool) → AreMarksFrom g t (t + 1) truths ms → IsMarked ms t → slice_get g.nodes t ≡ Some node → All (λ p. p < t) (parts_of node)
-    → AreMarksFrom g t t truths (marked ms (parts_of node))
-marks_step g t node truths ms h m got before =
+pub marks_step : (g : GroundState) (forms : List TermForm) (t : ℕ) (node : GroundNode) (truths ms : List Bool) → AreMarksFrom g forms t (t + 1) truths ms → HaveForms g.nodes (length g.nodes) forms → IsMarked ms t → slice_get g.nodes t ≡ Some node
+    → AreMarksFrom g forms t t truths (marked ms (form_parts node (form_at forms t)))
+marks_step g forms t node truths ms h have m got =
+    let form = form_at forms t in
     let below : t < length g.nodes = past_end t g.nodes node got in
-    let inside : All (λ p. p < length ms) (parts_of node) = All-weaker (λ p. p < t) (λ p. p < length ms) (λ p l. omega (arith, l, below, h.long)) (parts_of node) before in
-    let keeps : (ts : List ℕ) → All (IsMarked ms) ts → All (IsMarked (marked ms (parts_of node))) ts =
-    λ ts. All-weaker (IsMarked ms) (IsMarked (marked ms (parts_of node))) (marks_kept ms (parts_of node)) ts in
+    let is : IsFormOf g.nodes t node form = form_there g.nodes forms t node have got below in
+    let inside : All (λ p. p < length ms) (form_parts node form) = All-weaker (λ p. p < t) (λ p. p < length ms) (λ p l. omega (arith, l, below, h.long)) (form_parts node form) is.before in
+    let keeps : (ts : List ℕ) → All (IsMarked ms) ts → All (IsMarked (marked ms (form_parts node form))) ts =
+    λ ts. All-weaker (IsMarked ms) (IsMarked (marked ms (form_parts node form))) (marks_kept ms (form_parts node form)) ts in
     record {
       asserted_long = h.asserted_long;
-      long = marks_long ms (parts_of node) ∙ h.long;
+      long = marks_long ms (form_parts node form) ∙ h.long;
       clauses = h.clauses;
       goal = keeps (goal_terms g) h.goal;
       wholes = h.wholes;
-      tops = λ u other l found n. keeps (needs_of u other (parts_of other)) (h.tops u other l found n);
+      tops = λ u other l found n. keeps (needs_of u other (form_at forms u)) (h.tops u other l found n);
       closed = λ u other l found n. above_or_here t u l
-          (λ k. elim (marks_only ms (parts_of node) u n) as (λ _. All (IsMarked (marked ms (parts_of node))) (parts_of other)) [
-            | inl was ↦ keeps (parts_of other) (h.closed u other k found was)
-            | inr part ↦ let less : u < t = All-contains (λ p. p < t) (parts_of node) u before part in absurd (omega (arith, less, k))
+          (λ k. elim (marks_only ms (form_parts node form) u n) as (λ _. All (IsMarked (marked ms (form_parts node form))) (form_parts other (form_at forms u))) [
+            | inl was ↦ keeps (form_parts other (form_at forms u)) (h.closed u other k found was)
+            | inr part ↦ let less : u < t = All-contains (λ p. p < t) (form_parts node form) u is.before part in absurd (omega (arith, less, k))
           ])
-          (λ k. subst (λ o. All (IsMarked (marked ms (parts_of node))) (parts_of o)) (same_node g t u node other k got found) (marks_have ms (parts_of node) inside));
+          (λ k. subst (λ v. All (IsMarked (marked ms (form_parts node form))) (form_parts other (form_at forms v))) k
+          (subst (λ o. All (IsMarked (marked ms (form_parts node form))) (form_parts o form)) (same_node g t u node other k got found) (marks_have ms (form_parts node form) inside)));
       forced = h.forced;
       above = h.above;
-      reached = λ u n. elim (marks_only ms (parts_of node) u n) as (λ _. IsReached g u) [ inl was ↦ h.reached u was | inr part ↦ reached_part g t u node (h.reached t m) got part ];
+      reached = λ u n. elim (marks_only ms (form_parts node form) u n) as (λ _. IsReached g u) [ inl was ↦ h.reached u was | inr part ↦ reached_on g t u (h.reached t m) (All-contains (LeadsTo g.nodes t) (form_parts node form) u is.leads part) ];
     }
 
-pub marks_done : (g : GroundState) (truths ms : List Bool) → AreMarksFrom g 0 0 truths ms → AreMarks g truths ms
-marks_done g truths ms h = record {
+pub marks_done : (g : GroundState) (forms : List TermForm) (truths ms : List Bool) → AreMarksFrom g forms 0 0 truths ms → AreMarks g forms truths ms
+marks_done g forms truths ms h = record {
   clauses = h.clauses;
   goal = h.goal;
   wholes = λ t node got m. h.wholes t node (omega arith) got m;
   tops = λ t node got m. h.tops t node (omega arith) got m;
   closed = λ t node got m. h.closed t node (omega arith) got m;
   forced = h.forced;
+  above = h.above;
   reached = h.reached;
 }
 
@@ -256,11 +268,11 @@ weighed_step start before after ps i p l is was now =
     now ∙ ap (λ ms. slice_set ms p.1 true) was ∙ sym (marked_more start (map (λ q. q.1) (take i ps)) p.1)
     ∙ ap (λ (q : ℤ × ℕ). marked start (map (λ q. q.1) (take i ps) ++ q.1 ∷ [])) is ∙ ap (marked start) (sym (map_more {X = ℤ × ℕ} {Y = ℕ} (λ q. q.1) ps i p l))
 
-pub named_marked : (g : GroundState) (m n : ℕ) (start first truths ms : List Bool) (cl : List ℕ) → start ≡ replicate m false → m ≡ length g.nodes → first ≡ replicate n false → n ≡ length g.nodes → cl ≡ g.clauses
-    → truths ≡ marked start cl → ms ≡ marked first (option_to_list (option_map (λ goal. goal.1) g.objective)) → IsWellFormed g → AreMarksFrom g (length g.nodes) (length g.nodes) truths ms
+pub named_marked : (g : GroundState) (forms : List TermForm) (m n : ℕ) (start first truths ms : List Bool) (cl : List ℕ) → start ≡ replicate m false → m ≡ length g.nodes → first ≡ replicate n false → n ≡ length g.nodes → cl ≡ g.clauses
+    → truths ≡ marked start cl → ms ≡ marked first (option_to_list (option_map (λ goal. goal.1) g.objective)) → IsWellFormed g → AreMarksFrom g forms (length g.nodes) (length g.nodes) truths ms
 unfolding goal_terms
-named_marked g m n start first truths ms cl a b c d e f k h =
-    marks_named g truths ms h
+named_marked g forms m n start first truths ms cl a b c d e f k h =
+    marks_named g forms truths ms h
     (f ∙ ap (marked start) e ∙ ap (λ xs. marked xs g.clauses) (a ∙ ap (λ j. replicate j false) b))
     (k ∙ ap (λ xs. marked xs (option_to_list (option_map (λ goal. goal.1) g.objective))) (c ∙ ap (λ j. replicate j false) d))
 

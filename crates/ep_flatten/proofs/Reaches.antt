@@ -135,7 +135,7 @@ then_given : {A : Type 0} (f : A → Option ℤ) (x : Option A) (n : ℤ) → op
 then_given f None n e = no_some e
 then_given f (Some a) n e = (a, refl, e)
 
-truth_lies : (o : Option Bool) (n : ℤ) → truth o ≡ Some n → LiesIn n truth_interval
+pub truth_lies : (o : Option Bool) (n : ℤ) → truth o ≡ Some n → LiesIn n truth_interval
 unfolding truth of_bool
 truth_lies None n e = subst (λ m. LiesIn m truth_interval) (some_is e) (omega (arith, ints), omega (arith, ints))
 truth_lies (Some true) n e = subst (λ m. LiesIn m truth_interval) (some_is e) (omega (arith, ints), omega (arith, ints))

@@ -5,7 +5,7 @@ use Rattle.std.proofs.lemmas.Int.{ints}
 use Rattle.std.proofs.lemmas.List.{map-append}
 use Rattle.std.specs.List.{All, list_all, list_any}
 use Rattle.std.specs.Ordering.{int_eq}
-use Rattle.std.proofs.lemmas.List.Elements.{All-append, All-nil, All-cons, All-map}
+use Rattle.std.proofs.lemmas.List.Elements.{All-head, All-tail, All-append, All-nil, All-cons, All-map}
 use Rattle.ep_base.specs.Intervals.{greatest_or_zero, least_or_zero}
 use Rattle.ep_base.specs.Numbers.{absolute_of, all_one, any_one, are_different, compare_holds, counts_hold, greatest_of, has_number, is_one, is_row_of, least_of, lex_holds, nth_power, of_bool, sum_of}
 use Rattle.ep_base.specs.Reads as reads
@@ -17,8 +17,10 @@ use Rattle.ep_flat.specs.Cons as flat
 use Rattle.ep_flat.specs.Cons.{FlatCon, FlatKind, con_holds, con_variables, is_as_said, is_value, kind_coefficients, kind_holds, kind_variables, number_at, numbers_at}
 use Rattle.ep_ground.specs.Nodes.{GroundNode, sum, product, power, absolute, least, greatest, safe_quotient, safe_remainder, safe_pick, compare, lex, member, negation, all_of, any_of, same_truth, all_different, counts, at_least, at_most, table, coefficients_of, parts_of}
 use Rattle.ep_ground.specs.Terms.{node_value, on_both, truth, values_of, weighed}
-use Rattle.ep_flatten.specs.Saying.{Says, place_of, value_under}
-use Rattle.ep_flatten.specs.Tops.{Tells}
+use Rattle.ep_flatten.proofs.SumLaws.{other_negated}
+use Rattle.ep_flatten.specs.Forms.{TermForm, own, summed, compared, form_coefficients, form_parts, form_value}
+use Rattle.ep_flatten.specs.Saying.{Says, SaysForm, place_of, value_under}
+use Rattle.ep_flatten.specs.Tops.{Tells, TellsForm}
 
 -- a constraint with the result's variable, or with its truth value
 abbrev pub plain : FlatKind → FlatCon
@@ -321,31 +323,93 @@ last_added values [] k r = with_zero (k *ℤ number_at values r)
 last_added values (p ∷ parts) k r =
     ap (λ x. (p.0 *ℤ number_at values p.1) +ℤ x) (last_added values parts k r) ∙ added (p.0 *ℤ number_at values p.1) (weighted_sum (numbered values parts)) (k *ℤ number_at values r)
 
-balanced : (s r c d : ℤ) → d ≡ neg_ℤ c → int_eq (s +ℤ (negsuc 0 *ℤ r)) d ≡ int_eq r (c +ℤ s)
-balanced s r c d e = grind (arith, ints)
+-- the same with the coefficients negated
+abbrev pub negated_parts : List ℕ → List (ℤ × ℕ) → List (ℤ × ℕ)
+negated_parts places parts = map (λ p. (neg_ℤ p.0, place_of places p.1)) parts
 
-sum_variables : (places : List ℕ) (parts : List (ℤ × ℕ)) (k : ℤ) (r : ℕ) → map (λ p. p.1) (placed_parts places parts ++ (k, r) ∷ []) ≡ map (place_of places) (map (λ p. p.1) parts) ++ r ∷ []
+negated_sum : (x y : ℤ) → (neg_ℤ x +ℤ neg_ℤ y) ≡ neg_ℤ (x +ℤ y)
+negated_sum x y = omega (arith, ints)
+
+negated_total : (values : List ℤ) (places : List ℕ) (parts : List (ℤ × ℕ)) → weighted_sum (numbered values (negated_parts places parts)) ≡ neg_ℤ (weighted_sum (numbered values (placed_parts places parts)))
+unfolding weighted_sum sum_of
+negated_total values places [] = refl
+negated_total values places (p ∷ parts) =
+    ap (λ x. x +ℤ weighted_sum (numbered values (negated_parts places parts))) (other_negated p.0 (number_at values (place_of places p.1)))
+    ∙ ap (λ x. neg_ℤ (p.0 *ℤ number_at values (place_of places p.1)) +ℤ x) (negated_total values places parts)
+    ∙ negated_sum (p.0 *ℤ number_at values (place_of places p.1)) (weighted_sum (numbered values (placed_parts places parts)))
+
+balanced : (s r c n : ℤ) → n ≡ neg_ℤ s → int_eq (n +ℤ (pos 1 *ℤ r)) c ≡ int_eq r (c +ℤ s)
+balanced s r c n e = grind (arith, ints)
+
+sum_variables : (places : List ℕ) (parts : List (ℤ × ℕ)) (k : ℤ) (r : ℕ) → map (λ p. p.1) (negated_parts places parts ++ (k, r) ∷ []) ≡ map (place_of places) (map (λ p. p.1) parts) ++ r ∷ []
 sum_variables places [] k r = refl
 sum_variables places (p ∷ parts) k r = ap (λ xs. place_of places p.1 ∷ xs) (sum_variables places parts k r)
 
-sum_coefficients : (places : List ℕ) (parts : List (ℤ × ℕ)) (k : ℤ) (r : ℕ) → map (λ p. p.0) (placed_parts places parts ++ (k, r) ∷ []) ≡ map (λ p. p.0) parts ++ k ∷ []
-sum_coefficients places [] k r = refl
-sum_coefficients places (p ∷ parts) k r = ap (λ xs. p.0 ∷ xs) (sum_coefficients places parts k r)
+within_negated : (n : ℤ) → IsWithinNumbers n → IsWithinNumbers (neg_ℤ n)
+within_negated n h = let low = h.0 in let high = h.1 in (omega (arith, ints, high), omega (arith, ints, low))
 
-pub says_sum : (places : List ℕ) (c : ℤ) (parts : List (ℤ × ℕ)) (r : ℕ) (d : ℤ) → d ≡ neg_ℤ c
-    → Says places (sum c parts) r (plain (flat.linear (placed_parts places parts ++ (negsuc 0, r) ∷ []) CompareOp.Equal d))
+sum_small : (places : List ℕ) (parts : List (ℤ × ℕ)) (r : ℕ) → All IsWithinNumbers (map (λ p. p.0) parts) → All IsWithinNumbers (map (λ p. p.0) (negated_parts places parts ++ (pos 1, r) ∷ []))
+sum_small places [] r h = All-cons IsWithinNumbers (pos 1) [] one_within (All-nil IsWithinNumbers)
+sum_small places (p ∷ parts) r h =
+    All-cons IsWithinNumbers (neg_ℤ p.0) (map (λ p. p.0) (negated_parts places parts ++ (pos 1, r) ∷ [])) (within_negated p.0 (All-head IsWithinNumbers p.0 (map (λ p. p.0) parts) h))
+    (sum_small places parts r (All-tail IsWithinNumbers p.0 (map (λ p. p.0) parts) h))
+
+-- small coefficients, part by part
+pub small_parts : (parts : List (ℤ × ℕ)) → All IsWithinNumbers (map (λ p. p.0) parts) → All (λ p. IsWithinNumbers p.0) parts
+small_parts [] h = All-nil (λ p. IsWithinNumbers p.0)
+small_parts (p ∷ parts) h =
+    All-cons (λ p. IsWithinNumbers p.0) p parts (All-head IsWithinNumbers p.0 (map (λ p. p.0) parts) h) (small_parts parts (All-tail IsWithinNumbers p.0 (map (λ p. p.0) parts) h))
+
+pub says_sum : (places : List ℕ) (c : ℤ) (parts : List (ℤ × ℕ)) (r : ℕ) → Says places (sum c parts) r (plain (flat.linear (negated_parts places parts ++ (pos 1, r) ∷ []) CompareOp.Equal c))
 unfolding node_value con_holds is_as_said kind_holds compare_holds con_variables kind_variables kind_coefficients parts_of coefficients_of
-says_sum places c parts r d e = record {
+says_sum places c parts r = record {
   value = λ values. c +ℤ weighted_sum (numbered values (placed_parts places parts));
   gives = λ cells values. ap (option_map (λ ps. c +ℤ weighted_sum ps)) (weighed_there values places parts);
   says = λ values.
-      ap (λ s. int_eq s d) (last_added values (placed_parts places parts) (negsuc 0) r)
-      ∙ balanced (weighted_sum (numbered values (placed_parts places parts))) (number_at values r) c d e;
+      ap (λ s. int_eq s c) (last_added values (negated_parts places parts) (pos 1) r)
+      ∙ balanced (weighted_sum (numbered values (placed_parts places parts))) (number_at values r) c (weighted_sum (numbered values (negated_parts places parts))) (negated_total values places parts);
   names = λ bound h k.
-      subst (λ xs. All (λ x. x < bound) xs) (sym (sum_variables places parts (negsuc 0) r))
+      subst (λ xs. All (λ x. x < bound) xs) (sym (sum_variables places parts (pos 1) r))
       (All-append (λ x. x < bound) (map (place_of places) (map (λ p. p.1) parts)) (r ∷ [])
       (All-map (λ x. x < bound) (place_of places) (map (λ p. p.1) parts) k) (All-cons (λ x. x < bound) r [] h (All-nil (λ x. x < bound))));
-  coefficients = λ h.
-      subst (λ ns. All IsWithinNumbers ns) (sym (sum_coefficients places parts (negsuc 0) r))
-      (All-append IsWithinNumbers (map (λ p. p.0) parts) (negsuc 0 ∷ []) h (All-cons IsWithinNumbers (negsuc 0) [] minus_one_within (All-nil IsWithinNumbers)));
+  coefficients = λ h. sum_small places parts r h;
+}
+
+-- ---- forms
+
+pub says_own : (places : List ℕ) (node : GroundNode) (r : ℕ) (con : FlatCon) → Says places node r con → SaysForm places node own r con
+unfolding form_value form_parts form_coefficients
+says_own places node r con h = record { value = h.value; gives = h.gives; says = h.says; names = h.names; coefficients = h.coefficients }
+
+pub says_summed : (places : List ℕ) (node : GroundNode) (c : ℤ) (parts : List (ℤ × ℕ)) (r : ℕ) (con : FlatCon) → Says places (sum c parts) r con → SaysForm places node (summed c parts) r con
+unfolding form_value form_parts form_coefficients parts_of coefficients_of
+says_summed places node c parts r con h = record { value = h.value; gives = h.gives; says = h.says; names = h.names; coefficients = h.coefficients }
+
+-- a variable that is 1 exactly where such a constraint holds has the form's value
+pub says_form : (places : List ℕ) (node : GroundNode) (form : TermForm) (r : ℕ) (kind : FlatKind) → TellsForm places node form kind → SaysForm places node form r (told r kind)
+unfolding con_holds is_as_said con_variables
+says_form places node form r kind h = record {
+  value = λ values. of_bool (kind_holds values kind);
+  gives = h.gives;
+  says = λ values. refl;
+  names = λ bound below parts. All-cons (λ x. x < bound) r (kind_variables kind) below (h.names bound parts);
+  coefficients = h.coefficients;
+}
+
+placed_variables : (places : List ℕ) (parts : List (ℤ × ℕ)) → map (λ p. p.1) (placed_parts places parts) ≡ map (place_of places) (map (λ p. p.1) parts)
+placed_variables places [] = refl
+placed_variables places (p ∷ parts) = ap (λ xs. place_of places p.1 ∷ xs) (placed_variables places parts)
+
+placed_coefficients : (places : List ℕ) (parts : List (ℤ × ℕ)) → map (λ p. p.0) (placed_parts places parts) ≡ map (λ p. p.0) parts
+placed_coefficients places [] = refl
+placed_coefficients places (p ∷ parts) = ap (λ xs. p.0 ∷ xs) (placed_coefficients places parts)
+
+pub tells_compared : (places : List ℕ) (node : GroundNode) (op : CompareOp) (parts : List (ℤ × ℕ)) (c : ℤ) → TellsForm places node (compared op parts c) (flat.linear (placed_parts places parts) op c)
+unfolding form_value form_parts form_coefficients kind_holds kind_variables kind_coefficients
+tells_compared places node op parts c = record {
+  gives = λ cells values.
+      ap (λ o. truth (option_map (λ ps. compare_holds op (weighted_sum ps) c) o)) (weighed_there values places parts)
+      ∙ truth_or (Some (compare_holds op (weighted_sum (numbered values (placed_parts places parts))) c));
+  names = λ bound h. subst (λ xs. All (λ x. x < bound) xs) (sym (placed_variables places parts)) (All-map (λ x. x < bound) (place_of places) (map (λ p. p.1) parts) h);
+  coefficients = λ h. subst (λ ns. All IsWithinNumbers ns) (sym (placed_coefficients places parts)) h;
 }

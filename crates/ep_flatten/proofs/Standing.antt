@@ -1,17 +1,16 @@
 -- What is built for all terms, with the clauses, stands for the ground.
-use Rattle.std.specs.Prelude.{◌≡◌, ℕ, suc, ◌+◌, ◌≤◌, ◌<◌, Bool, true, false, ◌||◌, List, [], ◌∷◌, ◌++◌, length, map, ℤ, pos, Option, Some, None, MatchOption, IsSome, IsTrue, option_map, option_and_then, option_to_list, slice_index_or, nat_lt, refl}
+use Rattle.std.specs.Prelude.{◌≡◌, ℕ, suc, ◌+◌, ◌≤◌, ◌<◌, Bool, true, false, List, [], ◌∷◌, ◌++◌, length, map, ℤ, pos, Option, Some, None, MatchOption, IsSome, IsTrue, option_map, option_and_then, option_to_list, slice_index_or, nat_lt, refl}
 use Rattle.std.proofs.Common.{ap, arith, get_or, subst, sym, take, ◌∙◌}
 use Rattle.std.specs.List.{All, AllZip, Contains}
-use Rattle.std.proofs.lemmas.Bool.Decides.{Decides-int_eq}
-use Rattle.std.proofs.lemmas.List.{append_assoc, get_or-map, get_or_append_left, get_or_at, get_or_default, length-map, length-take-le, length_push, map_more, same_lists}
-use Rattle.std.proofs.lemmas.List.Elements.{All-append, All-cons, All-from_get_or, All-head, All-map, All-nil, All-tail, All-weaker}
-use Rattle.ep_base.specs.Numbers.{is_one}
-use Rattle.ep_base.specs.Reads.{IsWithinNumbers, same_bool}
+use Rattle.std.proofs.lemmas.List.{get_or-map, get_or_append_left, get_or_at, get_or_default, length-map, length-take-le, length_push, map_more, same_lists}
+use Rattle.std.proofs.lemmas.List.Elements.{All-append, All-from_get_or, All-head, All-map, All-nil}
+use Rattle.ep_base.specs.Reads.{IsWithinNumbers}
 use Rattle.ep_base.specs.declared.operators.Sense.{Sense}
-use Rattle.ep_flat.specs.Cons.{FlatCon, con_holds, con_variables, is_as_said, kind_coefficients, kind_holds, kind_variables, number_at, numbers_at}
+use Rattle.ep_flat.specs.Cons.{FlatCon, con_holds, number_at, numbers_at}
 use Rattle.ep_flat.specs.Flats.{FlatState, HasSmallCoefficients, MapState, Meets, NamesBelow, objective_number}
 use Rattle.ep_flatten.specs.Building.{AreMarks, Built, HasTops, IsBuilt, IsMarked, flat_of, goal_terms}
 use Rattle.ep_flatten.specs.Flattening.{IsMetBy, StandsFor}
+use Rattle.ep_flatten.specs.Forms.{TermForm}
 use Rattle.ep_flatten.specs.Saying.{place_of}
 use Rattle.ep_flatten.proofs.Growing.{cells_of}
 use Rattle.ep_flatten.proofs.Unrolled.{all_left, all_right}
@@ -19,7 +18,6 @@ use Rattle.ep_ground.specs.Bounds.{IsBounded}
 use Rattle.ep_ground.specs.Grounds.{AreCellValues, GroundState, HasObjective, IsGroundSolution, IsWellFormed, ground_objective, named_terms}
 use Rattle.ep_ground.specs.Terms.{term_value}
 use Rattle.ep_ground.specs.declared.cells.Cell.{Cell}
-use Rattle.ep_tree.proofs.TypedParts.{some_is}
 
 both_all : {P Q R : ℕ → Type 0} (xs : List ℕ) → ((x : ℕ) → P x → Q x → R x) → All P xs → All Q xs → All R xs
 both_all xs f h k = λ i d l. f (slice_index_or xs i d) (h i d l) (k i d l)
@@ -29,9 +27,9 @@ record IsNamed (g : GroundState) (b : Built) (t : ℕ) : Type 0 where
   within : place_of b.places t < length b.vars
   tells : (values : List ℤ) → Meets (flat_of b) values → term_value g.nodes (numbers_at values b.cells) t ≡ Some (number_at values (place_of b.places t))
 
-named : (g : GroundState) (asserted marks : List Bool) (b : Built) → IsBuilt g marks (length g.nodes) b → AreMarks g asserted marks → IsWellFormed g → All (IsNamed g b) (goal_terms g)
+named : (g : GroundState) (forms : List TermForm) (asserted marks : List Bool) (b : Built) → IsBuilt g marks (length g.nodes) b → AreMarks g forms asserted marks → IsWellFormed g → All (IsNamed g b) (goal_terms g)
 unfolding named_terms goal_terms
-named g asserted marks b h are formed =
+named g forms asserted marks b h are formed =
     let goals = option_to_list (option_map (λ goal. goal.1) g.objective) in
     both_all {P = IsMarked marks} {Q = λ t. t < length g.nodes} {R = IsNamed g b} goals
     (λ t m l. record { within = h.within t l m; tells = λ values meets. h.tells values meets t l m }) are.goal (all_right (λ t. t < length g.nodes) g.clauses goals formed.terms)
@@ -75,9 +73,9 @@ map_of g b = record { cells = b.cells; objective = goal_of b.places g.objective 
 meets_part : (b : Built) (tops : List FlatCon) (values : List ℤ) → Meets (whole_flat b tops) values → Meets (flat_of b) values
 meets_part b tops values h = record { domains = h.domains; cons = all_left (λ con. IsTrue (con_holds values con)) b.cons tops h.cons }
 
-values_extend : (g : GroundState) (asserted marks : List Bool) (b : Built) (tops : List FlatCon) → IsBuilt g marks (length g.nodes) b → AreMarks g asserted marks → HasTops g asserted b (length g.nodes) tops
+values_extend : (g : GroundState) (forms : List TermForm) (asserted marks : List Bool) (b : Built) (tops : List FlatCon) → IsBuilt g marks (length g.nodes) b → AreMarks g forms asserted marks → HasTops g asserted b (length g.nodes) tops
     → (cells : List ℤ) → IsGroundSolution g cells → IsMetBy (whole_flat b tops) (map_of g b) cells
-values_extend g asserted marks b tops h are top cells s =
+values_extend g forms asserted marks b tops h are top cells s =
     let old = h.extends cells s.cells in
     record {
       values = old.values;
@@ -89,10 +87,10 @@ values_extend g asserted marks b tops h are top cells s =
       gives = old.gives;
     }
 
-values_restrict : (g : GroundState) (asserted marks : List Bool) (b : Built) (tops : List FlatCon) → IsBuilt g marks (length g.nodes) b → AreMarks g asserted marks → IsWellFormed g → HasTops g asserted b (length g.nodes) tops
+values_restrict : (g : GroundState) (forms : List TermForm) (asserted marks : List Bool) (b : Built) (tops : List FlatCon) → IsBuilt g marks (length g.nodes) b → AreMarks g forms asserted marks → IsWellFormed g → HasTops g asserted b (length g.nodes) tops
     → All (IsNamed g b) (goal_terms g) → (values : List ℤ) → Meets (whole_flat b tops) values → IsGroundSolution g (numbers_at values b.cells)
 unfolding HasObjective named_terms
-values_restrict g asserted marks b tops h are formed top known values meets =
+values_restrict g forms asserted marks b tops h are formed top known values meets =
     let part = meets_part b tops values meets in
     let goals = option_to_list (option_map (λ goal. goal.1) g.objective) in
     record {
@@ -103,11 +101,11 @@ values_restrict g asserted marks b tops h are formed top known values meets =
       objective = goal_there g b values g.objective part (named_goal g b known);
     }
 
-stands_whole : (g : GroundState) (asserted marks : List Bool) (b : Built) (tops : List FlatCon) → IsBuilt g marks (length g.nodes) b → AreMarks g asserted marks → IsWellFormed g → HasTops g asserted b (length g.nodes) tops
+stands_whole : (g : GroundState) (forms : List TermForm) (asserted marks : List Bool) (b : Built) (tops : List FlatCon) → IsBuilt g marks (length g.nodes) b → AreMarks g forms asserted marks → IsWellFormed g → HasTops g asserted b (length g.nodes) tops
     → StandsFor g (whole_flat b tops) (map_of g b)
 unfolding objective_number ground_objective
-stands_whole g asserted marks b tops h are formed top =
-    let known = named g asserted marks b h are formed in
+stands_whole g forms asserted marks b tops h are formed top =
+    let known = named g forms asserted marks b h are formed in
     record {
       is_sound = record {
         names = All-append (NamesBelow (length b.vars)) b.cons tops h.sound.names top.names;
@@ -118,18 +116,18 @@ stands_whole g asserted marks b tops h are formed top =
         maps = record { cells = h.cells; domains = h.domains; objective = goal_within g b g.objective (named_goal g b known) };
         senses = goal_sense b.places g.objective;
       };
-      extends = values_extend g asserted marks b tops h are top;
-      restricts = values_restrict g asserted marks b tops h are formed top known;
+      extends = values_extend g forms asserted marks b tops h are top;
+      restricts = values_restrict g forms asserted marks b tops h are formed top known;
       objective = λ values meets. goal_number g b values g.objective (meets_part b tops values meets) (named_goal g b known);
     }
 
 -- the same, where the constraints and the map are known to be these
-pub stands : (g : GroundState) (asserted marks : List Bool) (b : Built) (tops cons : List FlatCon) (goal : Option (Sense × ℕ)) → IsBuilt g marks (length g.nodes) b → AreMarks g asserted marks → IsWellFormed g
+pub stands : (g : GroundState) (forms : List TermForm) (asserted marks : List Bool) (b : Built) (tops cons : List FlatCon) (goal : Option (Sense × ℕ)) → IsBuilt g marks (length g.nodes) b → AreMarks g forms asserted marks → IsWellFormed g
     → HasTops g asserted b (length g.nodes) tops → cons ≡ b.cons ++ tops → goal ≡ option_map (λ goal. (goal.0, place_of b.places goal.1)) g.objective
     → StandsFor g (record { vars = b.vars; cons = cons }) (record { cells = b.cells; objective = goal })
-stands g asserted marks b tops cons goal h are formed top e f =
+stands g forms asserted marks b tops cons goal h are formed top e f =
     subst (λ cs. StandsFor g (record { vars = b.vars; cons = cs }) (record { cells = b.cells; objective = goal })) (sym e)
-    (subst (λ o. StandsFor g (whole_flat b tops) (record { cells = b.cells; objective = o })) (sym f) (stands_whole g asserted marks b tops h are formed top))
+    (subst (λ o. StandsFor g (whole_flat b tops) (record { cells = b.cells; objective = o })) (sym f) (stands_whole g forms asserted marks b tops h are formed top))
 
 -- ---- the beginning
 

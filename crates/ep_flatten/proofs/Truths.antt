@@ -4,18 +4,24 @@ use Rattle.std.proofs.Common.{ap, arith, inl, inr, subst, sym, ◌∙◌}
 use Rattle.std.specs.List.{All, Contains, list_all}
 use Rattle.std.proofs.lemmas.Bool.{false≢true}
 use Rattle.std.proofs.lemmas.Bool.Decides.{Decides-int_eq}
-use Rattle.std.proofs.lemmas.List.Elements.{All-append, All-cons, All-contains, All-head, All-nil, All-tail, All-weaker}
+use Rattle.std.proofs.lemmas.List.Elements.{All-append, All-cons, All-contains, All-head, All-nil, All-tail}
 use Rattle.ep_base.specs.Numbers.{all_one, is_one, of_bool}
 use Rattle.ep_base.specs.Reads.{IsWithinNumbers, all_there, same_bool}
 use Rattle.ep_flat.specs.Cons.{FlatCon, FlatKind, con_holds, con_variables, is_as_said, kind_coefficients, kind_holds, kind_variables, number_at, numbers_at}
 use Rattle.ep_flat.specs.Flats.{HasSmallCoefficients, Meets, NamesBelow}
-use Rattle.ep_flatten.specs.Building.{AreMarks, Built, HasTops, IsBuilt, IsForced, IsMarked, flat_of, truth_con}
+use Rattle.ep_flatten.specs.Building.{is_truth_node, AreMarks, Built, HasTops, IsBuilt, IsForced, IsMarked, flat_of, truth_con}
 use Rattle.ep_flatten.specs.Saying.{place_of, value_under}
-use Rattle.ep_flatten.specs.Tops.{Asserts, Tells, asserts_of, is_all, is_test, needs_of}
+use Rattle.ep_flatten.specs.Forms.{HaveForms, IsFormOf, TermForm, own, summed, compared, form_at, form_coefficients, form_parts, form_value}
+use Rattle.ep_flatten.specs.Tops.{Asserts, HasFormValue, HaveVariables, Tells, TellsForm, asserts_of, is_all, is_test, needs_by, needs_of}
+use Rattle.ep_flatten.proofs.FormLaws.{form_there}
+use Rattle.ep_flatten.proofs.SumLaws.{all_from}
+use Rattle.ep_base.specs.declared.operators.CompareOp.{CompareOp}
+use Rattle.std.proofs.lemmas.Option.{get_or_from_slice_get}
+use Rattle.ep_ground.specs.Bounds.{IsBounded}
 use Rattle.ep_flatten.proofs.Sayings.{plain}
-use Rattle.ep_flatten.proofs.Unrolled.{all_left, all_right, node_same, unrolled}
+use Rattle.ep_flatten.proofs.Unrolled.{all_left, all_right, unrolled}
 use Rattle.ep_ground.specs.Grounds.{GroundState}
-use Rattle.ep_ground.specs.Nodes.{GroundNode, all_of, parts_of}
+use Rattle.ep_ground.specs.Nodes.{GroundNode, compare, lex, member, negation, all_of, any_of, same_truth, all_different, counts, at_least, at_most, table, coefficients_of, parts_of, undefined}
 use Rattle.ep_ground.specs.Terms.{node_value, term_value, truth, values_of}
 use Rattle.ep_tree.proofs.TypedParts.{some_is}
 
@@ -107,45 +113,89 @@ asserts_in node u h = no_element u h
 
 -- ---- what needs a variable
 
-needs_test : (t : ℕ) (node : GroundNode) (parts : List ℕ) → is_test node ≡ true → needs_of t node parts ≡ parts
-unfolding needs_of
-needs_test t node parts e = ap (λ b. if b then parts else if is_all node then [] else t ∷ []) e
+needs_test : (t : ℕ) (node : GroundNode) → is_all node ≡ false → is_test node ≡ true → needs_of t node own ≡ parts_of node
+unfolding needs_of needs_by
+needs_test t node e f = ap (λ b. if b then [] else needs_by t node own) e ∙ ap (λ b. if b then parts_of node else t ∷ []) f
 
-needs_itself : (t : ℕ) (node : GroundNode) (parts : List ℕ) → is_test node ≡ false → is_all node ≡ false → needs_of t node parts ≡ t ∷ []
-unfolding needs_of
-needs_itself t node parts e f = ap (λ b. if b then parts else if is_all node then [] else t ∷ []) e ∙ ap (λ b. if b then [] else t ∷ []) f
+needs_compared : (t : ℕ) (node : GroundNode) (op : CompareOp) (parts : List (ℤ × ℕ)) (c : ℤ) → is_all node ≡ false → needs_of t node (compared op parts c) ≡ form_parts node (compared op parts c)
+unfolding needs_of needs_by form_parts
+needs_compared t node op parts c e = ap (λ b. if b then [] else needs_by t node (compared op parts c)) e
+
+pub needs_itself : (t : ℕ) (node : GroundNode) → is_all node ≡ false → is_test node ≡ false → needs_of t node own ≡ t ∷ []
+unfolding needs_of needs_by
+needs_itself t node e f = ap (λ b. if b then [] else needs_by t node own) e ∙ ap (λ b. if b then parts_of node else t ∷ []) f
+
+pub needs_summed : (t : ℕ) (node : GroundNode) (c : ℤ) (parts : List (ℤ × ℕ)) → is_all node ≡ false → needs_of t node (summed c parts) ≡ t ∷ []
+unfolding needs_of needs_by
+needs_summed t node c parts e = ap (λ b. if b then [] else needs_by t node (summed c parts)) e
 
 one_there : (t u : ℕ) → Contains (t ∷ []) u → t ≡ u
 one_there t u (zero, l, e) = e
 one_there t u (suc k, l, e) = absurd (omega (arith, l))
 
--- it is the term itself or one of the parts
-pub needs_in : (t : ℕ) (node : GroundNode) (parts : List ℕ) (u : ℕ) → Contains (needs_of t node parts) u → (t ≡ u) ⊎ Contains parts u
-unfolding needs_of
-needs_in t node parts u h = by (is_test node) (is_all node) h
+-- it is the term itself or one of the parts of its form
+pub needs_in : (t : ℕ) (node : GroundNode) (form : TermForm) (u : ℕ) → Contains (needs_of t node form) u → (t ≡ u) ⊎ Contains (form_parts node form) u
+unfolding needs_of needs_by form_parts
+needs_in t node form u h = by (is_all node) h
   where
-    by : (p q : Bool) → Contains (if p then parts else if q then [] else t ∷ []) u → (t ≡ u) ⊎ Contains parts u
-    by true q k = inr k
-    by false true k = no_element u k
-    by false false k = inl (one_there t u k)
+    own_in : (q : Bool) → Contains (if q then parts_of node else t ∷ []) u → (t ≡ u) ⊎ Contains (parts_of node) u
+    own_in true k = inr k
+    own_in false k = inl (one_there t u k)
 
-pub needs_before : (t : ℕ) (node : GroundNode) (parts : List ℕ) → All (λ p. p < t) parts → All (λ p. p < t + 1) (needs_of t node parts)
-unfolding needs_of
-needs_before t node parts h = by (is_test node) (is_all node)
-  where
-    by : (p q : Bool) → All (λ p. p < t + 1) (if p then parts else if q then [] else t ∷ [])
-    by true q = All-weaker (λ p. p < t) (λ p. p < t + 1) (λ p l. omega (arith, l)) parts h
-    by false true = All-nil (λ p. p < t + 1)
-    by false false = All-cons (λ p. p < t + 1) t [] (omega arith) (All-nil (λ p. p < t + 1))
+    form_in : (f : TermForm) → Contains (needs_by t node f) u → (t ≡ u) ⊎ Contains (form_parts node f) u
+    form_in own k = own_in (is_test node) k
+    form_in (summed c parts) k = inl (one_there t u k)
+    form_in (compared op parts c) k = inr k
+
+    by : (p : Bool) → Contains (if p then [] else needs_by t node form) u → (t ≡ u) ⊎ Contains (form_parts node form) u
+    by true k = no_element u k
+    by false k = form_in form k
+
+pub needs_before : (t : ℕ) (node : GroundNode) (form : TermForm) → All (λ p. p < t) (form_parts node form) → All (λ p. p < t + 1) (needs_of t node form)
+needs_before t node form h =
+    all_from (λ p. p < t + 1) (needs_of t node form)
+    (λ u found. elim (needs_in t node form u found) as (λ _. u < t + 1) [
+      | inl same ↦ subst (λ v. v < t + 1) same (omega arith)
+      | inr part ↦ let less : u < t = All-contains (λ p. p < t) (form_parts node form) u h part in omega (arith, less)
+    ])
 
 -- ---- constraints
 
-pub asserts_truth : (places : List ℕ) (t : ℕ) (node : GroundNode) (kind : FlatKind) → Tells places node kind → is_test node ≡ true → Asserts places t node (plain kind)
+pub test_truth : (node : GroundNode) → is_test node ≡ true → is_truth_node node ≡ true
+unfolding is_test is_truth_node
+test_truth (compare op a b) e = refl
+test_truth (lex op ts us) e = refl
+test_truth (member a ns) e = refl
+test_truth (negation a) e = refl
+test_truth (any_of ts) e = refl
+test_truth (same_truth a b) e = refl
+test_truth (all_different ts) e = refl
+test_truth (counts ts ns us) e = refl
+test_truth (at_least ts cs ns) e = refl
+test_truth (at_most ts cs ns) e = refl
+test_truth (table ts rows) e = refl
+test_truth node e = absurd (false≢true e)
+
+pub asserts_truth : (places : List ℕ) (t : ℕ) (node : GroundNode) (kind : FlatKind) → Tells places node kind → is_all node ≡ false → is_test node ≡ true → Asserts places t node own (plain kind)
+unfolding con_holds is_as_said con_variables of_bool form_value form_parts
+asserts_truth places t node kind h other is =
+    let needs = needs_test t node other is in
+    let valued : (cells values : List ℤ) (value : ℕ → Option ℤ) → HaveVariables values places value (needs_of t node own) → HasFormValue cells values places value t node own → value t ≡ Some (of_bool (kind_holds values kind)) =
+    λ cells values value same e. e (subst (HaveVariables values places value) needs same) ∙ h.gives cells values in
+    record {
+      forth = λ cells values value same e holds. valued cells values value same e ∙ ap (λ b. Some (of_bool b)) holds;
+      back = λ cells values value same e one. of_true (kind_holds values kind) (some_is (sym (valued cells values value same e) ∙ one));
+      names = λ bound k. h.names bound (subst (λ ps. All (λ p. place_of places p < bound) ps) needs k);
+      small = λ _. h.coefficients;
+    }
+
+pub asserts_compared : (places : List ℕ) (t : ℕ) (node : GroundNode) (op : CompareOp) (parts : List (ℤ × ℕ)) (c : ℤ) (kind : FlatKind) → TellsForm places node (compared op parts c) kind → is_all node ≡ false → Asserts places t node (compared op parts c) (plain kind)
 unfolding con_holds is_as_said con_variables of_bool
-asserts_truth places t node kind h is =
-    let needs = needs_test t node (parts_of node) is in
-    let valued : (cells values : List ℤ) (value : ℕ → Option ℤ) → All (λ p. value p ≡ value_under values places p) (needs_of t node (parts_of node)) → value t ≡ node_value cells value node → value t ≡ Some (of_bool (kind_holds values kind)) =
-    λ cells values value same e. e ∙ node_same cells value (value_under values places) node (subst (λ ps. All (λ p. value p ≡ value_under values places p) ps) needs same) ∙ h.gives cells values in
+asserts_compared places t node op parts c kind h other =
+    let form = compared op parts c in
+    let needs = needs_compared t node op parts c other in
+    let valued : (cells values : List ℤ) (value : ℕ → Option ℤ) → HaveVariables values places value (needs_of t node form) → HasFormValue cells values places value t node form → value t ≡ Some (of_bool (kind_holds values kind)) =
+    λ cells values value same e. e (subst (HaveVariables values places value) needs same) ∙ h.gives cells values in
     record {
       forth = λ cells values value same e holds. valued cells values value same e ∙ ap (λ b. Some (of_bool b)) holds;
       back = λ cells values value same e one. of_true (kind_holds values kind) (some_is (sym (valued cells values value same e) ∙ one));
@@ -153,17 +203,16 @@ asserts_truth places t node kind h is =
       small = h.coefficients;
     }
 
-pub asserts_place : (places : List ℕ) (t : ℕ) (node : GroundNode) → is_test node ≡ false → is_all node ≡ false → Asserts places t node (truth_con places t)
+pub asserts_place : (places : List ℕ) (t : ℕ) (node : GroundNode) (form : TermForm) → needs_of t node form ≡ t ∷ [] → Asserts places t node form (truth_con places t)
 unfolding value_under con_variables kind_variables kind_coefficients
-asserts_place places t node e f =
-    let needs = needs_itself t node (parts_of node) e f in
-    let valued : (values : List ℤ) (value : ℕ → Option ℤ) → All (λ p. value p ≡ value_under values places p) (needs_of t node (parts_of node)) → value t ≡ Some (number_at values (place_of places t)) =
-    λ values value same. All-head (λ p. value p ≡ value_under values places p) t [] (subst (λ ps. All (λ p. value p ≡ value_under values places p) ps) needs same) in
+asserts_place places t node form needs =
+    let valued : (values : List ℤ) (value : ℕ → Option ℤ) → HaveVariables values places value (needs_of t node form) → value t ≡ Some (number_at values (place_of places t)) =
+    λ values value same. All-head (λ p. value p ≡ value_under values places p) t [] (subst (HaveVariables values places value) needs same) in
     record {
       forth = λ cells values value same _ holds. valued values value same ∙ ap (λ n. Some n) (one_is (number_at values (place_of places t)) (sym (truth_holds values places t) ∙ holds));
       back = λ cells values value same _ one. truth_holds values places t ∙ is_one_of (number_at values (place_of places t)) (some_is (sym (valued values value same) ∙ one));
       names = λ bound k. All-cons (λ x. x < bound) (place_of places t) [] (All-head (λ p. place_of places p < bound) t [] (subst (λ ps. All (λ p. place_of places p < bound) ps) needs k)) (All-nil (λ x. x < bound));
-      small = All-nil IsWithinNumbers;
+      small = λ _. All-nil IsWithinNumbers;
     }
 
 -- where a node has to be true, so have those terms
@@ -203,10 +252,10 @@ tops_skip g asserted b t cons h none = record {
 }
 
 -- a conjunction is true by its parts
-pub tops_whole : (g : GroundState) (asserted marks : List Bool) (b : Built) (t : ℕ) (node : GroundNode) (cons : List FlatCon) → HasTops g asserted b t cons → AreMarks g asserted marks → IsMarked asserted t
+pub tops_whole : (g : GroundState) (forms : List TermForm) (asserted marks : List Bool) (b : Built) (t : ℕ) (node : GroundNode) (cons : List FlatCon) → HasTops g asserted b t cons → AreMarks g forms asserted marks → IsMarked asserted t
     → slice_get g.nodes t ≡ Some node → All (λ p. p < t) (parts_of node) → is_all node ≡ true → HasTops g asserted b (t + 1) cons
 unfolding asserts_of parts_of
-tops_whole g asserted marks b t node cons h are m got before is = record {
+tops_whole g forms asserted marks b t node cons h are m got before is = record {
   names = h.names;
   small = h.small;
   forth = λ values meets holds. one_more (λ u. IsMarked asserted u → term_value g.nodes (numbers_at values b.cells) u ≡ Some (pos 1)) t (h.forth values meets holds)
@@ -224,28 +273,33 @@ tops_whole g asserted marks b t node cons h are m got before is = record {
     part_before other k d l all = absurd (omega (arith, l))
 
 -- another term has its constraint
-pub tops_more : (g : GroundState) (asserted marks : List Bool) (b : Built) (t : ℕ) (node : GroundNode) (cons : List FlatCon) (con : FlatCon) → HasTops g asserted b t cons → AreMarks g asserted marks → IsMarked asserted t
-    → IsBuilt g marks (length g.nodes) b → slice_get g.nodes t ≡ Some node → All (λ p. p < t) (parts_of node) → t < length g.nodes → Asserts b.places t node con → HasTops g asserted b (t + 1) (cons ++ con ∷ [])
+pub tops_more : (g : GroundState) (forms : List TermForm) (asserted marks : List Bool) (b : Built) (t : ℕ) (node : GroundNode) (cons : List FlatCon) (con : FlatCon) → HasTops g asserted b t cons → AreMarks g forms asserted marks → HaveForms g.nodes (length g.nodes) forms → IsBounded g → IsMarked asserted t
+    → IsBuilt g marks (length g.nodes) b → slice_get g.nodes t ≡ Some node → t < length g.nodes → Asserts b.places t node (form_at forms t) con → HasTops g asserted b (t + 1) (cons ++ con ∷ [])
 unfolding value_under
-tops_more g asserted marks b t node cons con h are m built got before below says =
-    let needs = needs_of t node (parts_of node) in
+tops_more g forms asserted marks b t node cons con h are have bounded m built got below says =
+    let form = form_at forms t in
+    let is : IsFormOf g.nodes t node form = form_there g.nodes forms t node have got below in
+    let needs = needs_of t node form in
     let marked : All (IsMarked marks) needs = are.tops t node got m in
-    let inside : All (λ p. p < t + 1) needs = needs_before t node (parts_of node) before in
-    let same : (values : List ℤ) → Meets (flat_of b) values → All (λ p. term_value g.nodes (numbers_at values b.cells) p ≡ value_under values b.places p) needs =
+    let inside : All (λ p. p < t + 1) needs = needs_before t node form is.before in
+    let same : (values : List ℤ) → Meets (flat_of b) values → HaveVariables values b.places (term_value g.nodes (numbers_at values b.cells)) needs =
     λ values meets k d l.
     let less = inside k d l in
     told values meets (slice_index_or needs k d) (omega (arith, less, below)) (marked k d l) in
+    let valued : (values : List ℤ) → HasFormValue (numbers_at values b.cells) values b.places (term_value g.nodes (numbers_at values b.cells)) t node form =
+    λ values theirs. is.value (numbers_at values b.cells) (λ p. number_at values (place_of b.places p)) theirs in
+    let small : All IsWithinNumbers (form_coefficients node form) = is.coefficients (subst (λ n. All IsWithinNumbers (coefficients_of n)) (get_or_from_slice_get g.nodes t node undefined got) (bounded.coefficients t (are.above t m))) in
     record {
       names = All-append (NamesBelow (length b.vars)) cons (con ∷ []) h.names
           (All-cons (NamesBelow (length b.vars)) con [] (says.names (length b.vars) (λ k d l. let less = inside k d l in built.within (slice_index_or needs k d) (omega (arith, less, below)) (marked k d l))) (All-nil (NamesBelow (length b.vars))));
-      small = All-append HasSmallCoefficients cons (con ∷ []) h.small (All-cons HasSmallCoefficients con [] says.small (All-nil HasSmallCoefficients));
+      small = All-append HasSmallCoefficients cons (con ∷ []) h.small (All-cons HasSmallCoefficients con [] (says.small small) (All-nil HasSmallCoefficients));
       forth = λ values meets holds. one_more (λ u. IsMarked asserted u → term_value g.nodes (numbers_at values b.cells) u ≡ Some (pos 1)) t
           (h.forth values meets (all_left (λ c. IsTrue (con_holds values c)) cons (con ∷ []) holds))
-          (λ _. says.forth (numbers_at values b.cells) values (term_value g.nodes (numbers_at values b.cells)) (same values meets) (unrolled (numbers_at values b.cells) g.nodes t node got before)
+          (λ _. says.forth (numbers_at values b.cells) values (term_value g.nodes (numbers_at values b.cells)) (same values meets) (valued values)
           (All-head (λ c. IsTrue (con_holds values c)) con [] (all_right (λ c. IsTrue (con_holds values c)) cons (con ∷ []) holds)));
       back = λ values meets true_ones. All-append (λ c. IsTrue (con_holds values c)) cons (con ∷ []) (h.back values meets true_ones)
           (All-cons (λ c. IsTrue (con_holds values c)) con []
-          (says.back (numbers_at values b.cells) values (term_value g.nodes (numbers_at values b.cells)) (same values meets) (unrolled (numbers_at values b.cells) g.nodes t node got before) (true_ones t m))
+          (says.back (numbers_at values b.cells) values (term_value g.nodes (numbers_at values b.cells)) (same values meets) (valued values) (true_ones t m))
           (All-nil (λ c. IsTrue (con_holds values c))));
     }
   where

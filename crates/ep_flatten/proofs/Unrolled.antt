@@ -31,7 +31,7 @@ values_same : (f g : ℕ → Option ℤ) (ts : List ℕ) → All (λ t. f t ≡ 
 unfolding values_of
 values_same f g ts h = ap all_there (map_same f g ts h)
 
-weighed_same : (f g : ℕ → Option ℤ) (parts : List (ℤ × ℕ)) → All (λ t. f t ≡ g t) (map (λ p. p.1) parts) → weighed f parts ≡ weighed g parts
+pub weighed_same : (f g : ℕ → Option ℤ) (parts : List (ℤ × ℕ)) → All (λ t. f t ≡ g t) (map (λ p. p.1) parts) → weighed f parts ≡ weighed g parts
 unfolding weighed
 weighed_same f g [] h = refl
 weighed_same f g (q ∷ parts) h =

@@ -1,11 +1,12 @@
 -- A flat problem that stands for a ground's terms so far: what is built, and what is known of it.
 use Rattle.std.specs.Prelude.{◌≡◌, ℕ, ◌+◌, ◌<◌, ℤ, pos, Bool, true, false, IsTrue, List, [], ◌∷◌, length, map, Some, None, option_map, option_to_list, slice_get, slice_index_or}
 use Rattle.std.specs.List.{All, Contains}
-use Rattle.ep_base.specs.Intervals.{Interval, LiesIn, from_to, only}
+use Rattle.ep_base.specs.Intervals.{Interval, LiesIn, from_to, only, truth_interval}
 use Rattle.ep_base.specs.Reads.{IsWithinNumbers}
 use Rattle.ep_flat.specs.Cons.{FlatCon, clause, con_holds, number_at, numbers_at}
 use Rattle.ep_flat.specs.Flats.{FlatState, HasSmallCoefficients, IsSoundFlat, Meets, NamesBelow}
 use Rattle.ep_flat.specs.FlatViews.{plain_con}
+use Rattle.ep_flatten.specs.Forms.{IsFormOf, TermForm, own, summed, compared, form_at, form_parts}
 use Rattle.ep_flatten.specs.Saying.{place_of}
 use Rattle.ep_flatten.specs.Tops.{asserts_of, needs_of}
 use Rattle.ep_flatten.specs.declared.building.Building.{Building}
@@ -13,7 +14,7 @@ use Rattle.ep_flatten.specs.declared.intervals.WideSpan.{WideSpan}
 use Rattle.ep_flatten.specs.declared.intervals.Span.{Span}
 use Rattle.ep_ground.specs.Bounds.{IsBounded, IsWithinReach, node_reach}
 use Rattle.ep_ground.specs.Grounds.{AreCellValues, GroundState, IsReached, StandsOver}
-use Rattle.ep_ground.specs.Nodes.{GroundNode, compare, lex, member, negation, all_of, any_of, same_truth, all_different, counts, at_least, at_most, table, parts_of}
+use Rattle.ep_ground.specs.Nodes.{GroundNode, sum, compare, lex, member, negation, all_of, any_of, same_truth, all_different, counts, at_least, at_most, table}
 use Rattle.ep_ground.specs.Terms.{term_value}
 use Rattle.ep_ground.specs.declared.cells.Cell.{Cell}
 
@@ -31,14 +32,15 @@ goal_terms g = option_to_list (option_map (λ goal. goal.1) g.objective)
 
 -- The clauses are asserted, with each asserted term those that are true with it, and each asserted term is true where
 -- the clauses are. The objective's term is marked, with each asserted term those that need variables for it, with each
--- marked term the parts of its node. The ground leads to all of them.
-pub record AreMarks (g : GroundState) (asserted marks : List Bool) : Type 0 where
+-- marked term the parts of its form. The ground leads to all of them.
+pub record AreMarks (g : GroundState) (forms : List TermForm) (asserted marks : List Bool) : Type 0 where
   pub clauses : All (IsMarked asserted) g.clauses
   pub goal : All (IsMarked marks) (goal_terms g)
   pub wholes : (t : ℕ) (node : GroundNode) → slice_get g.nodes t ≡ Some node → IsMarked asserted t → All (IsMarked asserted) (asserts_of node)
-  pub tops : (t : ℕ) (node : GroundNode) → slice_get g.nodes t ≡ Some node → IsMarked asserted t → All (IsMarked marks) (needs_of t node (parts_of node))
-  pub closed : (t : ℕ) (node : GroundNode) → slice_get g.nodes t ≡ Some node → IsMarked marks t → All (IsMarked marks) (parts_of node)
+  pub tops : (t : ℕ) (node : GroundNode) → slice_get g.nodes t ≡ Some node → IsMarked asserted t → All (IsMarked marks) (needs_of t node (form_at forms t))
+  pub closed : (t : ℕ) (node : GroundNode) → slice_get g.nodes t ≡ Some node → IsMarked marks t → All (IsMarked marks) (form_parts node (form_at forms t))
   pub forced : (t : ℕ) → IsMarked asserted t → IsForced g t
+  pub above : (t : ℕ) → IsMarked asserted t → IsReached g t
   pub reached : (t : ℕ) → IsMarked marks t → IsReached g t
 
 -- the interval of a term, and [0, 0] of one that has none
@@ -50,9 +52,24 @@ pub record Covers (cells : List Cell) (spans : List Interval) (node : GroundNode
   pub small : IsWithinReach i
   pub holds : (n : ℤ) → LiesIn n (node_reach cells (span_at spans) node) → IsWithinNumbers n → LiesIn n i
 
+-- the interval of the values of a term with this node and this form, where each other term has such an interval
+unfoldable pub form_reach : List Cell → (ℕ → Interval) → GroundNode → TermForm → Interval
+form_reach cells reach node own = node_reach cells reach node
+form_reach cells reach node (summed c parts) = node_reach cells reach (sum c parts)
+form_reach cells reach node (compared op parts c) = truth_interval
+
+-- the same of this interval
+pub record CoversForm (cells : List Cell) (spans : List Interval) (node : GroundNode) (form : TermForm) (i : Interval) : Type 0 where
+  pub small : IsWithinReach i
+  pub holds : (n : ℤ) → LiesIn n (form_reach cells (span_at spans) node form) → IsWithinNumbers n → LiesIn n i
+
 -- an interval covers the node's reach, whatever numbers the cells may have
 pub record CoversAlways (spans : List Interval) (node : GroundNode) (i : Interval) : Type 0 where
   pub covers : (cells : List Cell) → Covers cells spans node i
+
+-- the same of a term with this node and this form
+pub record CoversFormAlways (spans : List Interval) (node : GroundNode) (form : TermForm) (i : Interval) : Type 0 where
+  pub covers : (cells : List Cell) → CoversForm cells spans node form i
 
 -- an interval has each small number of another one
 abbrev pub HasSmall : Interval → Interval → Type 0
@@ -97,18 +114,18 @@ pub record HasTops (g : GroundState) (asserted : List Bool) (b : Built) (count :
   pub forth : (values : List ℤ) → Meets (flat_of b) values → All (λ con. IsTrue (con_holds values con)) tops → (t : ℕ) → t < count → IsMarked asserted t → term_value g.nodes (numbers_at values b.cells) t ≡ Some (pos 1)
   pub back : (values : List ℤ) → Meets (flat_of b) values → ((t : ℕ) → IsMarked asserted t → term_value g.nodes (numbers_at values b.cells) t ≡ Some (pos 1)) → All (λ con. IsTrue (con_holds values con)) tops
 
--- what is known of a marked term's node
-pub record IsTermOf (g : GroundState) (marks : List Bool) (t : ℕ) (node : GroundNode) : Type 0 where
+-- what is known of a marked term, of its node and of its form
+pub record IsTermOf (g : GroundState) (marks : List Bool) (t : ℕ) (node : GroundNode) (form : TermForm) : Type 0 where
   pub got : slice_get g.nodes t ≡ Some node
-  pub before : All (λ part. part < t) (parts_of node)
-  pub marked : All (IsMarked marks) (parts_of node)
+  pub is : IsFormOf g.nodes t node form
+  pub marked : All (IsMarked marks) (form_parts node form)
   pub reached : IsReached g t
   pub stands : StandsOver (length g.cells) node
 
--- where the first was built for the terms before one, the second is built for that one too
-abbrev pub Advances : Built → GroundNode → Built → Type 0
-Advances old node new =
-    (g : GroundState) (marks : List Bool) (t : ℕ) → IsBuilt g marks t old → IsTermOf g marks t node → IsBounded g → IsBuilt g marks (t + 1) new
+-- where the first was built for the terms before one with this node and this form, the second is built for that one too
+abbrev pub Advances : Built → GroundNode → TermForm → Built → Type 0
+Advances old node form new =
+    (g : GroundState) (marks : List Bool) (t : ℕ) → IsBuilt g marks t old → IsTermOf g marks t node form → IsBounded g → IsBuilt g marks (t + 1) new
 
 -- a domain has the numbers of an interval, and no other
 abbrev pub HasAll : List ℤ → Interval → Type 0

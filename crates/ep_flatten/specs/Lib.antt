@@ -4,3 +4,6 @@ pub mod Tops
 pub mod Building
 pub mod Marking
 pub mod RunEnds
+pub mod Forms
+pub mod Sums
+pub mod FormViews

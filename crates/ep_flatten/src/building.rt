@@ -1,19 +1,24 @@
 //! A flat problem as it grows, term by term.
 
-ghost use Rattle.std.specs.Prelude.{◌≡◌, ◌+◌, ◌++◌, ◌∷◌, [], ◌<◌, ℕ, List, Bool, length, map, slice_index_or, IfOk, OnOk};
+ghost use Rattle.std.specs.Prelude.{◌≡◌, ◌+◌, ◌++◌, ◌∷◌, [], ◌<◌, ℕ, List, Bool, length, map, slice_index_or, IfOk, OnOk, true, false};
+ghost use Rattle.std.specs.List.{All};
+ghost use Rattle.ep_base.specs.Reads.{IsWithinNumbers};
 ghost use Rattle.ep_base.specs.Intervals.{only, spanned};
 ghost use Rattle.ep_flatten.specs.Building.{Advances, AreMarks, HasAll, HasSmall, IsBuilt, interval_of, plain_built};
-ghost use Rattle.ep_flatten.specs.Saying.{HasParts};
+ghost use Rattle.ep_flatten.specs.Forms.{HaveForms, TermForm, form_coefficients};
+ghost use Rattle.ep_flatten.specs.FormViews.{plain_form, plain_forms};
+ghost use Rattle.ep_flatten.specs.Saying.{HasParts, is_operation};
 ghost use Rattle.ep_ground.specs.Bounds.{IsBounded, IsWithinReach};
 ghost use Rattle.ep_ground.specs.GroundViews.{plain_ground};
-ghost use Rattle.ep_ground.specs.Grounds.{IsWellFormed};
+ghost use Rattle.ep_ground.specs.Grounds.{HasNoPartialNode, IsWellFormed, StandsOver};
 ghost use Rattle.ep_ground.specs.NodeViews.{plain_node};
-ghost use Rattle.ep_ground.specs.Nodes.{constant, cell};
+ghost use Rattle.ep_ground.specs.Nodes.{constant, cell, is_partial};
 
-use crate::constraints::constraint;
+use crate::constraints::form_constraint;
+use crate::forms::{Form, form_at};
 use crate::intervals::{Span, clamped, span_of_set, widened};
 use crate::marks::{Marks, is_marked};
-use crate::spans::span_of;
+use crate::spans::form_span;
 use ep_base::{Memory, Run, Runs};
 use ep_flat::Con;
 use ep_ground::{Ground, Node, Term};
@@ -38,14 +43,17 @@ pub struct Building {
 pub fn add_term(
     alloc: Global,
     g: &Ground,
+    forms: &[Form],
     marks: &Marks,
     made: &mut Building,
     term: Term,
 ) -> Result<(), Memory>
     requires term { term < length (plain_ground g.now).nodes }
+    requires no_partial { HasNoPartialNode (plain_ground g.now) }
     requires well_formed { IsWellFormed (plain_ground g.now) }
     requires bounded { IsBounded (plain_ground g.now) }
-    requires marks { AreMarks (plain_ground g.now) marks.now.asserted.items marks.now.marked.items }
+    requires forms { HaveForms (plain_ground g.now).nodes (length (plain_ground g.now).nodes) (plain_forms forms.now) }
+    requires marks { AreMarks (plain_ground g.now) (plain_forms forms.now) marks.now.asserted.items marks.now.marked.items }
     requires built { IsBuilt (plain_ground g.now) marks.now.marked.items term (plain_built made.old) }
     ensures { OnOk result
         (IsBuilt (plain_ground g.now) marks.now.marked.items (term + 1) (plain_built made.new)) }
@@ -53,24 +61,26 @@ pub fn add_term(
     if !is_marked(&marks.marked, term) {
         return note(made, 0, Span { low: 0, high: 0 });
     }
-    add_node(alloc, made, g.arena.node(term))
+    add_node(alloc, made, g.arena.node(term), form_at(forms, term))
 }
 
 /// Adds a node's variable and its constraint.
-fn add_node(alloc: Global, made: &mut Building, node: &Node) -> Result<(), Memory>
-    requires { HasParts (plain_node node.now) }
-    ensures { OnOk result (Advances (plain_built made.old) (plain_node node.now) (plain_built made.new)) }
+fn add_node(alloc: Global, made: &mut Building, node: &Node, form: &Form) -> Result<(), Memory>
+    requires stands { StandsOver (length (plain_built made.old).cells) (plain_node node.now) }
+    requires total { is_partial (plain_node node.now) ≡ false }
+    requires small { All IsWithinNumbers (form_coefficients (plain_node node.now) (plain_form form.now)) }
+    ensures { OnOk result (Advances (plain_built made.old) (plain_node node.now) (plain_form form.now) (plain_built made.new)) }
 {
     match node {
         Node::Const(number) => add_number(alloc, made, *number),
         Node::Cell(place) => add_cell(made, *place),
-        _ => add_operation(alloc, made, node),
+        _ => add_operation(alloc, made, node, form),
     }
 }
 
 /// Adds a variable whose one value is the number.
 fn add_number(alloc: Global, made: &mut Building, number: i64) -> Result<(), Memory>
-    ensures { OnOk result (Advances (plain_built made.old) (constant number) (plain_built made.new)) }
+    ensures { OnOk result ((form : TermForm) → Advances (plain_built made.old) (constant number) form (plain_built made.new)) }
 {
     let variable = made.vars.len() as u64;
     let span = Span {
@@ -83,13 +93,10 @@ fn add_number(alloc: Global, made: &mut Building, number: i64) -> Result<(), Mem
 
 /// Lets a cell's variable stand for a term.
 fn add_cell(made: &mut Building, place: u64) -> Result<(), Memory>
-    ensures { OnOk result (Advances (plain_built made.old) (cell place) (plain_built made.new)) }
+    requires { place < length (plain_built made.old).cells }
+    ensures { OnOk result ((form : TermForm) → Advances (plain_built made.old) (cell place) form (plain_built made.new)) }
 {
-    let place = place as usize;
-    if place >= made.cells.len() {
-        return Err(Memory);
-    }
-    let variable = made.cells[place];
+    let variable = made.cells[place as usize];
     let span = cell_span(made, variable);
     note(made, variable, span)
 }
@@ -109,13 +116,15 @@ fn cell_span(made: &Building, variable: u64) -> Span
 }
 
 /// Adds a variable for an operation, and its constraint.
-fn add_operation(alloc: Global, made: &mut Building, node: &Node) -> Result<(), Memory>
-    requires { HasParts (plain_node node.now) }
-    ensures { OnOk result (Advances (plain_built made.old) (plain_node node.now) (plain_built made.new)) }
+fn add_operation(alloc: Global, made: &mut Building, node: &Node, form: &Form) -> Result<(), Memory>
+    requires parts { HasParts (plain_node node.now) }
+    requires operation { is_operation (plain_node node.now) ≡ true }
+    requires small { All IsWithinNumbers (form_coefficients (plain_node node.now) (plain_form form.now)) }
+    ensures { OnOk result (Advances (plain_built made.old) (plain_node node.now) (plain_form form.now) (plain_built made.new)) }
 {
     let variable = made.vars.len() as u64;
-    let span = span_of(&made.spans, node);
-    let con = constraint(alloc, &made.places, node, variable)?;
+    let span = form_span(&made.spans, node, form);
+    let con = form_constraint(alloc, &made.places, node, form, variable)?;
     made.vars.push(domain_of(alloc, span)?)?;
     made.cons.push(con)?;
     note(made, variable, span)

@@ -1,24 +1,74 @@
 //! The constraint for each kind of node: it holds exactly where a variable has the node's value.
 
-ghost use Rattle.std.specs.Prelude.{◌≡◌, ◌<◌, length, neg_ℤ, IfOk};
+ghost use Rattle.std.specs.Prelude.{◌≡◌, ◌<◌, length, IfOk, true};
+ghost use Rattle.std.specs.List.{All};
+ghost use Rattle.ep_base.specs.Reads.{IsWithinNumbers};
+ghost use Rattle.ep_flatten.specs.Building.{is_truth_node};
 ghost use Rattle.ep_base.specs.declared.operators.CompareOp.{CompareOp};
 ghost use Rattle.ep_flat.specs.FlatViews.{plain_con, plain_kind};
-ghost use Rattle.ep_flatten.specs.Saying.{HasParts, Says};
-ghost use Rattle.ep_flatten.specs.Tops.{Tells};
+ghost use Rattle.ep_flatten.specs.Forms.{compared, form_coefficients};
+ghost use Rattle.ep_flatten.specs.FormViews.{plain_form};
+ghost use Rattle.ep_flatten.specs.Saying.{HasParts, Says, SaysForm, is_operation};
+ghost use Rattle.ep_flatten.specs.Tops.{Tells, TellsForm};
 ghost use Rattle.ep_ground.specs.NodeViews.{plain_node};
 ghost use Rattle.ep_ground.specs.Nodes as nodes;
+ghost use Rattle.ep_ground.specs.Nodes.{coefficients_of};
 
-use crate::lists::{copied_keys, literals_of, place_at, placed_parts, places_of};
+use crate::forms::Form;
+use crate::lists::{copied_keys, literals_of, negated_parts, place_at, placed_parts, places_of};
 use ep_base::{CompareOp, Key, LexOp, Memory, Runs};
 use ep_flat::{Con, ConKind};
 use ep_ground::{Node, Term};
 use std::alloc::Global;
 
+/// The constraint that makes the variable's number the value of a term with this node and this form.
+/// The terms' variables are `places`.
+pub fn form_constraint(
+    alloc: Global,
+    places: &[u64],
+    node: &Node,
+    form: &Form,
+    variable: u64,
+) -> Result<Con, Memory>
+    requires parts { HasParts (plain_node node.now) }
+    requires operation { is_operation (plain_node node.now) ≡ true }
+    requires small { All IsWithinNumbers (form_coefficients (plain_node node.now) (plain_form form.now)) }
+    ensures { IfOk result (λ con. SaysForm places.now (plain_node node.now) (plain_form form.now) variable (plain_con con)) }
+{
+    match form {
+        Form::Own => constraint(alloc, places, node, variable),
+        Form::Sum(number, parts) => sum(alloc, places, *number, parts, variable),
+        Form::Compare(op, parts, number) => {
+            let kind = comparison(alloc, places, *op, parts, *number)?;
+            Ok(Con {
+                truth: Some(variable),
+                kind,
+            })
+        }
+    }
+}
+
+/// Whether a sum of terms compares so with a number.
+pub fn comparison(
+    alloc: Global,
+    places: &[u64],
+    op: CompareOp,
+    parts: &[(i64, Term)],
+    number: i64,
+) -> Result<ConKind, Memory>
+    ensures { IfOk result (λ kind. (node : nodes.GroundNode) → TellsForm places.now node (compared op parts.now number) (plain_kind kind)) }
+{
+    let placed = placed_parts(alloc, places, parts)?;
+    Ok(ConKind::Linear(placed, op, number))
+}
+
 /// The constraint that makes the variable's number the node's value. The terms' variables are
-/// `places`. A number, a cell and a node without a value for some values of its parts have none.
+/// `places`.
 #[tactic(auto, unfolding(crate::specs::Saying::HasParts))]
-pub fn constraint(alloc: Global, places: &[u64], node: &Node, variable: u64) -> Result<Con, Memory>
-    requires { HasParts (plain_node node.now) }
+fn constraint(alloc: Global, places: &[u64], node: &Node, variable: u64) -> Result<Con, Memory>
+    requires parts { HasParts (plain_node node.now) }
+    requires operation { is_operation (plain_node node.now) ≡ true }
+    requires small { All IsWithinNumbers (coefficients_of (plain_node node.now)) }
     ensures { IfOk result (λ con. Says places.now (plain_node node.now) variable (plain_con con)) }
 {
     match node {
@@ -44,8 +94,9 @@ pub fn constraint(alloc: Global, places: &[u64], node: &Node, variable: u64) -> 
 }
 
 /// The kind of constraint that holds exactly where a truth value is 1. The terms' variables are
-/// `places`. Other nodes have none.
+/// `places`.
 pub fn truth_kind(alloc: Global, places: &[u64], node: &Node) -> Result<ConKind, Memory>
+    requires { is_truth_node (plain_node node.now) ≡ true }
     ensures { IfOk result (λ kind. Tells places.now (plain_node node.now) (plain_kind kind)) }
 {
     match node {
@@ -61,11 +112,11 @@ pub fn truth_kind(alloc: Global, places: &[u64], node: &Node) -> Result<ConKind,
         Node::AtLeast(parts, counts, numbers) => { at_least(alloc, places, parts, counts, numbers) }
         Node::AtMost(parts, counts, numbers) => { at_most(alloc, places, parts, counts, numbers) }
         Node::Table(parts, rows) => table(alloc, places, parts, rows),
-        _ => Err(Memory),
+        _ => unreachable!(),
     }
 }
 
-/// A number and a sum of terms: the sum less the variable is the number negated.
+/// A number and a sum of terms: the variable less the sum is the number.
 fn sum(
     alloc: Global,
     places: &[u64],
@@ -73,23 +124,13 @@ fn sum(
     parts: &[(i64, Term)],
     variable: u64,
 ) -> Result<Con, Memory>
+    requires { All (λ part. IsWithinNumbers part.0) parts.now }
     ensures { IfOk result (λ con. Says places.now (nodes.sum number parts.now) variable (plain_con con)) }
 {
-    let negated = negated(number)?;
-    let mut placed = placed_parts(alloc, places, parts)?;
-    placed.push((-1, variable))?;
-    let kind = ConKind::Linear(placed, CompareOp::Equal, negated);
+    let mut placed = negated_parts(alloc, places, parts)?;
+    placed.push((1, variable))?;
+    let kind = ConKind::Linear(placed, CompareOp::Equal, number);
     Ok(Con { truth: None, kind })
-}
-
-/// The number negated, where that is a number of the code.
-fn negated(number: i64) -> Result<i64, Memory>
-    ensures { IfOk result (λ other. other ≡ neg_ℤ number) }
-{
-    if number == i64::MIN {
-        return Err(Memory);
-    }
-    Ok(-number)
 }
 
 /// A product.

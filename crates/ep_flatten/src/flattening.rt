@@ -5,6 +5,8 @@ ghost use Rattle.std.specs.List.{All};
 ghost use Rattle.ep_flat.specs.FlatViews.{plain_con, plain_flat, plain_map};
 ghost use Rattle.ep_flatten.specs.Building.{AreMarks, IsBuilt, plain_built};
 ghost use Rattle.ep_flatten.specs.Flattening.{StandsFor};
+ghost use Rattle.ep_flatten.specs.Forms.{HaveForms};
+ghost use Rattle.ep_flatten.specs.FormViews.{plain_forms};
 ghost use Rattle.ep_flatten.specs.Saying.{place_of};
 ghost use Rattle.ep_ground.specs.Bounds.{IsBounded};
 ghost use Rattle.ep_ground.specs.Grounds.{HasNoPartialNode, IsWellFormed};
@@ -12,6 +14,7 @@ ghost use Rattle.ep_ground.specs.GroundViews.{plain_ground};
 
 use crate::asserting::tops_of;
 use crate::building::{Building, add_term};
+use crate::forms::{Form, forms_of};
 use crate::lists::place_at;
 use crate::marks::{Marks, marks_of};
 use ep_base::{Memory, Sense};
@@ -20,8 +23,8 @@ use ep_ground::{Ground, Term};
 use std::alloc::Global;
 
 /// A flat problem that stands for the ground, and the variables of its cells and its objective.
-/// A term that has to be true is a constraint on its parts. One variable and one constraint for each
-/// other node to which these and the objective lead.
+/// A term that has to be true is a constraint on its parts, and a comparison of sums one on the parts
+/// of both. One variable and one constraint for each other node to which these and the objective lead.
 pub fn flatten(alloc: Global, g: &Ground) -> Result<(Flat, CellMap), Memory>
     requires no_partial { HasNoPartialNode (plain_ground g.now) }
     requires well_formed { IsWellFormed (plain_ground g.now) }
@@ -29,9 +32,10 @@ pub fn flatten(alloc: Global, g: &Ground) -> Result<(Flat, CellMap), Memory>
     ensures { IfOk result (λ made.
         StandsFor (plain_ground g.now) (plain_flat made.0) (plain_map made.1)) }
 {
-    let marks = marks_of(alloc, g)?;
-    let mut made = built(alloc, g, &marks)?;
-    let mut tops = tops_of(alloc, g, &marks, &made)?;
+    let forms = forms_of(alloc, g)?;
+    let marks = marks_of(alloc, g, &forms)?;
+    let mut made = built(alloc, g, &forms, &marks)?;
+    let mut tops = tops_of(alloc, g, &forms, &marks, &made)?;
     made.cons.append(&mut tops)?;
     let objective = placed_goal(&made.places, &g.objective);
     let Building {
@@ -44,16 +48,18 @@ pub fn flatten(alloc: Global, g: &Ground) -> Result<(Flat, CellMap), Memory>
 }
 
 /// Variables and constraints for the marked terms.
-fn built(alloc: Global, g: &Ground, marks: &Marks) -> Result<Building, Memory>
+fn built(alloc: Global, g: &Ground, forms: &[Form], marks: &Marks) -> Result<Building, Memory>
+    requires no_partial { HasNoPartialNode (plain_ground g.now) }
     requires well_formed { IsWellFormed (plain_ground g.now) }
     requires bounded { IsBounded (plain_ground g.now) }
-    requires marks { AreMarks (plain_ground g.now) marks.now.asserted.items marks.now.marked.items }
+    requires forms { HaveForms (plain_ground g.now).nodes (length (plain_ground g.now).nodes) (plain_forms forms.now) }
+    requires marks { AreMarks (plain_ground g.now) (plain_forms forms.now) marks.now.asserted.items marks.now.marked.items }
     ensures { IfOk result (λ made.
         IsBuilt (plain_ground g.now) marks.now.marked.items (length (plain_ground g.now).nodes) (plain_built made)) }
 {
     let mut made = begun(alloc, g)?;
     for term in 0..g.arena.len() {
-        add_term(alloc, g, marks, &mut made, Term::new(term as u32))?;
+        add_term(alloc, g, forms, marks, &mut made, Term::new(term as u32))?;
     }
     Ok(made)
 }

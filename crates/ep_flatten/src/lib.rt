@@ -5,10 +5,13 @@ mod asserting;
 mod building;
 mod constraints;
 mod flattening;
+mod forms;
 mod intervals;
 mod kinds;
 mod lists;
 mod marks;
 mod spans;
+mod sums;
+mod uses;
 
 pub use flattening::flatten;

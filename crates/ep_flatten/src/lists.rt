@@ -1,6 +1,8 @@
 //! Lists of variables for lists of terms, and copies of lists.
 
-ghost use Rattle.std.specs.Prelude.{◌≡◌, ◌++◌, ◌∷◌, [], map, negsuc, IfOk, true};
+ghost use Rattle.std.specs.Prelude.{neg_ℤ, ◌≡◌, ◌++◌, ◌∷◌, [], map, negsuc, IfOk, true};
+ghost use Rattle.std.specs.List.{All};
+ghost use Rattle.ep_base.specs.Reads.{IsWithinNumbers};
 ghost use Rattle.ep_flatten.specs.Saying.{place_of};
 
 use ep_base::{Key, Memory};
@@ -58,6 +60,23 @@ pub fn placed_parts(
     let mut made = Vec::new(alloc);
     for part in parts {
         made.push((part.0, place_at(places, part.1)))?;
+    }
+    Ok(made)
+}
+
+/// The parts of a sum with their coefficients negated, with the variables of their terms.
+pub fn negated_parts(
+    alloc: Global,
+    places: &[u64],
+    parts: &[(i64, Term)],
+) -> Result<Vec<(i64, u64)>, Memory>
+    requires { All (λ part. IsWithinNumbers part.0) parts.now }
+    ensures { IfOk result (λ made.
+        made.items ≡ map (λ p. (neg_ℤ p.0, place_of places.now p.1)) parts.now) }
+{
+    let mut made = Vec::new(alloc);
+    for part in parts {
+        made.push((-part.0, place_at(places, part.1)))?;
     }
     Ok(made)
 }

@@ -4,11 +4,13 @@ ghost use Rattle.std.specs.Prelude.{◌≡◌, ◌∷◌, fold, map};
 ghost use Rattle.std.specs.Int.{int_max, int_min};
 ghost use Rattle.ep_base.specs.Intervals as defined;
 ghost use Rattle.ep_base.specs.Intervals.{greatest_or_zero, highs, least_or_zero, lows, only, sum_interval};
-ghost use Rattle.ep_flatten.specs.Building.{CoversAlways, HasSmall, interval_of, intervals_of, is_truth_node, span_at, wide_interval};
+ghost use Rattle.ep_flatten.specs.Building.{CoversAlways, CoversFormAlways, HasSmall, interval_of, intervals_of, is_truth_node, span_at, wide_interval};
+ghost use Rattle.ep_flatten.specs.FormViews.{plain_form};
 ghost use Rattle.ep_ground.specs.Bounds as bounds;
 ghost use Rattle.ep_ground.specs.NodeViews.{plain_node};
 ghost use Rattle.ep_ground.specs.Nodes as nodes;
 
+use crate::forms::Form;
 use crate::intervals::{
     Span, WideSpan, absolute, added, clamped, power, product, quotient, remainder, scaled, widened,
     widest,
@@ -16,9 +18,21 @@ use crate::intervals::{
 use ep_base::Key;
 use ep_ground::{Node, Term};
 
+/// An interval in which the value of a term lies that has this node and this form, where those of the
+/// form's parts lie in theirs, and where it is no farther from 0 than the stages compute.
+pub fn form_span(spans: &[Span], node: &Node, form: &Form) -> Span
+    ensures { CoversFormAlways (intervals_of spans.now) (plain_node node.now) (plain_form form.now) (interval_of result) }
+{
+    match form {
+        Form::Own => span_of(spans, node),
+        Form::Sum(number, parts) => sum_span(spans, *number, parts),
+        Form::Compare(_, _, _) => Span { low: 0, high: 1 },
+    }
+}
+
 /// An interval in which the value of a node lies, where those of its parts lie in theirs, and where
 /// it is no farther from 0 than the stages compute.
-pub fn span_of(spans: &[Span], node: &Node) -> Span
+fn span_of(spans: &[Span], node: &Node) -> Span
     ensures { CoversAlways (intervals_of spans.now) (plain_node node.now) (interval_of result) }
 {
     if is_truth(node) {

@@ -18,7 +18,7 @@ returns c =
     let variable : c.len-variable.result ≡ length old.vars.items = search rules in
     let has : HasAll domain (only n) = subst (λ (m : ℤ). HasAll domain (only m)) same c.in_ok-domain_of.ensures in
     on_ok_five c.note.result c.note.ensures.places c.note.ensures.spans c.note.ensures.vars c.note.ensures.cons c.note.ensures.cells
-    (λ p s v k l. λ g marks t built at bounded.
+    (λ p s v k l. λ form g marks t built at bounded.
     as_built g marks (t + 1) new.vars.items (old.vars.items ++ domain ∷ []) (map plain_con new.cons.items) (map plain_con old.cons.items)
     new.places.items (old.places.items ++ length old.vars.items ∷ []) (map interval_of new.spans.items) (map interval_of old.spans.items ++ only n ∷ []) new.cells.items old.cells.items
     (v ∙ c.in_ok-push.ensures.items)
@@ -26,4 +26,4 @@ returns c =
     (p ∙ ap (λ (m : ℕ). old.places.items ++ m ∷ []) variable)
     (spans_pushed old.spans.items new.spans.items (record { low = to_z w64 (of_z w64 n); high = to_z w64 (of_z w64 n) }) s ∙ ap (λ (m : ℤ). map interval_of old.spans.items ++ only m ∷ []) same)
     l
-    (with_number g marks t (plain_built old) n domain built at bounded has))
+    (with_number g marks t (plain_built old) n form domain built at bounded has))

@@ -2,9 +2,10 @@ use Rattle.std.proofs.Common.{rules, subst, ap, ◌∙◌, ◌≡◌, ◌+◌, �
 use Rattle.std.specs.Prelude.{map}
 use Rattle.ep_flat.specs.FlatViews.{plain_con}
 use Rattle.ep_ground.specs.NodeViews.{plain_node}
-use Rattle.ep_flatten.specs.Building.{Covers, interval_of, plain_built}
+use Rattle.ep_flatten.specs.FormViews.{plain_form}
+use Rattle.ep_flatten.specs.Building.{CoversForm, interval_of, plain_built}
 use Rattle.ep_flatten.specs.declared.intervals.Span.{Span}
-use Rattle.ep_flatten.specs.Saying.{Says}
+use Rattle.ep_flatten.specs.Saying.{SaysForm}
 use Rattle.ep_flatten.proofs.Growing.{with_operation}
 use Rattle.ep_flatten.proofs.Adding.{as_built, cons_pushed, on_ok_five, spans_pushed}
 use Rattle.ep_flatten.proofs.building.add_operation.Goals as goal
@@ -14,12 +15,13 @@ returns c =
     let old = c.args.made.now in
     let new = c.note.new.made in
     let node = plain_node c.args.node.now in
-    let span = c.span_of-span.result in
+    let form = plain_form c.args.form.now in
+    let span = c.form_span-span.result in
     let domain = c.in_ok-domain_of.field-0 in
     let con = c.in_ok-con.con in
     let variable : c.len-variable.result ≡ length old.vars.items = search rules in
-    let there : Says old.places.items node c.len-variable.result (plain_con con) = subst (λ (ps : List ℕ). Says ps node c.len-variable.result (plain_con con)) c.deref-2.ensures.value c.in_ok-con.ensures in
-    let says : Says old.places.items node (length old.vars.items) (plain_con con) = subst (λ (r : ℕ). Says old.places.items node r (plain_con con)) variable there in
+    let there : SaysForm old.places.items node form c.len-variable.result (plain_con con) = subst (λ (ps : List ℕ). SaysForm ps node form c.len-variable.result (plain_con con)) c.deref-2.ensures.value c.in_ok-con.ensures in
+    let says : SaysForm old.places.items node form (length old.vars.items) (plain_con con) = subst (λ (r : ℕ). SaysForm old.places.items node form r (plain_con con)) variable there in
     on_ok_five c.note.result c.note.ensures.places c.note.ensures.spans c.note.ensures.vars c.note.ensures.cons c.note.ensures.cells
     (λ p s v k l. λ g marks t built at bounded.
     as_built g marks (t + 1) new.vars.items (old.vars.items ++ domain ∷ []) (map plain_con new.cons.items) (map plain_con old.cons.items ++ plain_con con ∷ [])
@@ -29,5 +31,5 @@ returns c =
     (p ∙ ap (λ (m : ℕ). old.places.items ++ m ∷ []) variable)
     (spans_pushed old.spans.items new.spans.items span s)
     l
-    (with_operation g marks t (plain_built old) node (plain_con con) domain (interval_of span) built at bounded
-    (subst (λ (ss : List Span). Covers g.cells (map interval_of ss) node (interval_of span)) c.deref.ensures.value (c.span_of-span.ensures.covers g.cells)) says c.in_ok-domain_of.ensures))
+    (with_operation g marks t (plain_built old) node form (plain_con con) domain (interval_of span) built at bounded
+    (subst (λ (ss : List Span). CoversForm g.cells (map interval_of ss) node form (interval_of span)) c.deref.ensures.value (c.form_span-span.ensures.covers g.cells)) says c.in_ok-domain_of.ensures))

@@ -2,7 +2,6 @@ use Rattle.std.proofs.Common.{sym, subst, ℕ, List}
 use Rattle.ep_flat.specs.Cons as flat
 use Rattle.ep_ground.specs.Nodes as nodes
 use Rattle.ep_flatten.specs.Tops.{Tells}
-use Rattle.ep_flatten.specs.Saying.{place_of}
 use Rattle.ep_flatten.proofs.Sayings as sayings
 use Rattle.ep_flatten.proofs.Sayings.{literals, placed_parts}
 use Rattle.ep_flatten.proofs.constraints.all_of.Goals as goal

@@ -1,4 +1,4 @@
-use Rattle.std.proofs.Common.{rules, ◌∙◌, w64, to_z, of_z}
+use Rattle.std.proofs.Common.{rules, ◌∙◌, w64}
 use Rattle.std.proofs.lemmas.Int.{to_z-of_z}
 use Rattle.ep_base.specs.Intervals.{from_to, least_interval}
 use Rattle.ep_ground.specs.Bounds.{node_reach}

@@ -1,4 +1,4 @@
-use Rattle.std.proofs.Common.{ap, ◌∙◌}
+use Rattle.std.proofs.Common.{◌∙◌}
 use Rattle.ep_base.specs.Intervals.{product_interval}
 use Rattle.ep_ground.specs.Bounds.{node_reach}
 use Rattle.ep_ground.specs.Nodes as nodes

@@ -1,4 +1,4 @@
-use Rattle.std.proofs.Common.{rules, sym, ap, ◌∙◌, ◌≡◌, w64, to_z, of_z}
+use Rattle.std.proofs.Common.{rules, sym, ap, ◌∙◌, ◌≡◌, w64}
 use Rattle.std.specs.Prelude.{◌+ℤ◌}
 use Rattle.std.proofs.lemmas.Int.{to_z-of_z}
 use Rattle.ep_base.specs.Intervals.{Interval}
