@@ -4,4 +4,14 @@ pub mod Words
 pub mod SettingLaws
 pub mod Walks
 pub mod Edges
+pub mod OptionRules
+pub mod OptionWords
+pub mod OptionWalk
+pub mod OptionRows
+pub mod OptionTakes
+pub mod OptionReads
+pub mod OptionLaws
+pub mod OptionCommand
+pub mod OptionLists
+pub mod OptionSettings
 mod VectorsCommands

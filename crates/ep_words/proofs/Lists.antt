@@ -1,5 +1,5 @@
 -- Tests over lists.
-use Rattle.std.proofs.Common.{◌≡◌, ℕ, ◌<◌, Bool, true, ◌||◌, List, [], ◌∷◌, inl, inr, map, length, ap, refl, arith, subst}
+use Rattle.std.proofs.Common.{◌≡◌, ℕ, ◌<◌, Bool, true, ◌||◌, ◌&&◌, List, [], ◌∷◌, inl, inr, map, length, ap, refl, arith, subst}
 use Rattle.std.specs.List.{list_any, list_all}
 use Rattle.std.specs.Char.{is_ascii_digit}
 use Rattle.std.proofs.lemmas.Bool.{and_from, and_parts, or_cases, false≢true}
@@ -11,6 +11,10 @@ use Rattle.std.specs.Str.{all_ascii_digits}
 pub any_of_read : {X Y : Type 0} (p : X → Bool) (read : Y → X) → (ys : List Y) → list_any p (map read ys) ≡ list_any (λ y. p (read y)) ys
 any_of_read p read [] = refl
 any_of_read p read (y ∷ ys) = ap (λ b. p (read y) || b) (any_of_read p read ys)
+
+pub all_of_read : {X Y : Type 0} (p : X → Bool) (read : Y → X) → (ys : List Y) → list_all p (map read ys) ≡ list_all (λ y. p (read y)) ys
+all_of_read p read [] = refl
+all_of_read p read (y ∷ ys) = ap (λ b. p (read y) && b) (all_of_read p read ys)
 
 -- what is true of each text of a table is true of one of them
 pub one_of_passes : (test : List ℕ → Bool) (texts : List (List ℕ)) (name : List ℕ) → is_one_of texts name ≡ true → list_all test texts ≡ true → test name ≡ true

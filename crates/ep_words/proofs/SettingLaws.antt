@@ -1,7 +1,6 @@
 -- Settings, one after another.
-use Rattle.std.proofs.Common.{◌≡◌, ◌≢◌, inl, inr, List, [], ◌∷◌, ◌++◌, Some, None, refl, sym, ◌∙◌, ap, ap₂, subst, false, append_assoc}
+use Rattle.std.proofs.Common.{◌≡◌, ◌≢◌, inl, inr, List, [], ◌∷◌, ◌++◌, Some, None, refl, sym, ◌∙◌, ap, ap₂, subst, false}
 use Rattle.std.specs.Str.{bytes_eq}
-use Rattle.std.proofs.lemmas.List.{append-nil}
 use Rattle.std.proofs.lemmas.Bool.{cases_Bool, false_from_ne_true, both_ways}
 use Rattle.std.proofs.lemmas.Slice.Eq.{bytes_eq-Decides}
 use Rattle.ep_words.specs.Settings.{AreSetOnce, BeginsBySetting, MakeSettings, Setting, Text, value_of}
@@ -59,7 +58,7 @@ none_push q (x ∷ xs) name value none apart =
       | inr e ↦ rw e (none_push q xs name value (rw e at none) apart)
     ]
 
-bytes_apart : (a b : Text) → bytes_eq a b ≡ false → bytes_eq b a ≡ false
+pub bytes_apart : (a b : Text) → bytes_eq a b ≡ false → bytes_eq b a ≡ false
 bytes_apart a b e = false_from_ne_true _ (λ t. both_ways _ e ((bytes_eq-Decides a b).1 (sym ((bytes_eq-Decides b a).0 t))))
 
 -- one more option
@@ -93,52 +92,14 @@ once_refuted (x ∷ xs) name value more some once =
       | inr e ↦ once_refuted xs name value more (rw e at some) once.1
     ]
 
--- ---- settings so far
+-- ---- all settings
 
--- the words make these settings first, and then those of the rest
-pub record GoesOn (words : List Text) (so_far : List Setting) (rest : List Text) : Type 0 where
-  pub makes : (more : List Setting) → MakeSettings rest more → MakeSettings words (so_far ++ more)
-  pub only : (all : List Setting) → MakeSettings words all → (more : List Setting) × (all ≡ so_far ++ more) × MakeSettings rest more
-  pub once : AreSetOnce so_far
-
-pub goes_on_start : (words : List Text) → GoesOn words [] words
-goes_on_start words = record { makes = λ more h. h; only = λ all h. (all, refl, h); once = tt }
-
--- the setting by which the rest begins is the next of all of them
+-- the setting by which the words begin is the first of all of them
 next_is : (name value : Text) (rest others : List Text) (more : List Setting) → BeginsBySetting rest name value others → MakeSettings rest more → (later : List Setting) × (more ≡ (name, value) ∷ later) × MakeSettings others later
 next_is name value rest others [] begins made = absurd (some_words name value others (subst (λ (ws : List Text). BeginsBySetting ws name value others) made begins))
 next_is name value rest others (s ∷ later) begins made =
     let same = same_begin rest name value others s.0 s.1 made.0 begins made.1 in
     (later, ap (λ p. p ∷ later) (ap₂ (λ a b. (a, b)) (sym same.names) (sym same.values)), subst (λ (ws : List Text). MakeSettings ws later) (sym same.rests) made.2)
-
-pub then_next : (words : List Text) (so_far : List Setting) (rest : List Text) (name value : Text) (others : List Text) → GoesOn words so_far rest → BeginsBySetting rest name value others → (all : List Setting) → MakeSettings words all → (more : List Setting) × (all ≡ so_far ++ (name, value) ∷ more) × MakeSettings others more
-then_next words so_far rest name value others goes begins all made =
-    let split = goes.only all made in
-    let next = next_is name value rest others split.0 begins split.2 in
-    (next.0, split.1 ∙ ap (λ m. so_far ++ m) next.1, next.2)
-
-pub goes_on_more : (words : List Text) (so_far : List Setting) (rest : List Text) (name value : Text) (others : List Text) → GoesOn words so_far rest → BeginsBySetting rest name value others → value_of name so_far ≡ None → GoesOn words (so_far ++ (name, value) ∷ []) others
-goes_on_more words so_far rest name value others goes begins none = record {
-  makes = λ more h. subst (λ (all : List Setting). MakeSettings words all) (sym (append_assoc so_far ((name, value) ∷ []) more)) (goes.makes ((name, value) ∷ more) (others, begins, h));
-  only = λ all h.
-      let next = then_next words so_far rest name value others goes begins all h in
-      (next.0, next.1 ∙ sym (append_assoc so_far ((name, value) ∷ []) next.0), next.2);
-  once = once_push so_far name value goes.once none;
-}
-
--- no words are left
-pub goes_on_end : (words : List Text) (so_far : List Setting) → GoesOn words so_far [] → MakeSettings words so_far × AreSetOnce so_far
-goes_on_end words so_far goes = (subst (λ (all : List Setting). MakeSettings words all) (append-nil so_far) (goes.makes [] refl), goes.once)
-
--- words are left that begin by no setting
-pub no_way_on : (words : List Text) (so_far : List Setting) (rest : List Text) → GoesOn words so_far rest → rest ≢ [] → ((name value : Text) (others : List Text) → ¬ BeginsBySetting rest name value others) → (all : List Setting) → MakeSettings words all → ⊥
-no_way_on words so_far rest goes some none all made = let split = goes.only all made in left split.0 split.2
-  where
-    left : (more : List Setting) → MakeSettings rest more → ⊥
-    left [] end = some end
-    left (s ∷ later) end = none s.0 s.1 end.0 end.1
-
--- ---- all settings
 
 -- words make one list of settings at most
 pub one_way : (words : List Text) (these those : List Setting) → MakeSettings words these → MakeSettings words those → these ≡ those

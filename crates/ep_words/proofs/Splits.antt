@@ -1,16 +1,15 @@
 -- Texts that are cut at their first `=`.
-use Rattle.std.proofs.Common.{◌≡◌, ◌≢◌, ℕ, suc, ◌<◌, ◌==◌, Bool, true, not, List, [], ◌∷◌, ◌++◌, length, get_or, refl, arith}
+use Rattle.std.proofs.Common.{◌≡◌, ◌≢◌, ℕ, ◌==◌, Bool, true, not, List, [], ◌∷◌, ◌++◌, refl}
 use Rattle.std.specs.List.{list_all}
 use Rattle.std.proofs.lemmas.Bool.{and_parts, not-true, eqb-false}
 use Rattle.ep_base.specs.TokenTexts.{is_one_of}
 use Rattle.ep_words.specs.Settings.{options}
-use Rattle.ep_words.specs.Parts.{HasNoEquals}
 use Rattle.ep_words.proofs.Lists.{one_of_passes}
 
--- no byte is a `=`, place by place
-pub no_equals_from : (text : List ℕ) → ((i : ℕ) → i < length text → get_or text i 0 ≢ 61) → HasNoEquals text
-no_equals_from [] each = tt
-no_equals_from (byte ∷ bytes) each = (each 0 (omega arith), no_equals_from bytes (λ i within. each (suc i) (omega arith)))
+-- no byte of the text is a `=`
+abbrev pub HasNoEquals : List ℕ → Type 0
+HasNoEquals [] = Unit {0}
+HasNoEquals (byte ∷ bytes) = (byte ≢ 61) × HasNoEquals bytes
 
 -- two such texts before a `=` are the same, and so is what stands behind it
 pub same_split : (name other : List ℕ) (value later : List ℕ) → HasNoEquals name → HasNoEquals other → name ++ 61 ∷ value ≡ other ++ 61 ∷ later → (name ≡ other) × (value ≡ later)

@@ -1,5 +1,5 @@
-pub mod Parts
 pub mod Views
 pub mod Settings
+pub mod Options
 pub mod Jobs
 pub mod Commands

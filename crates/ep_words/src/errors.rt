@@ -1,8 +1,11 @@
 //! Why words were not read as a job.
 
-ghost use Rattle.std.specs.Prelude.{◌≡◌};
-ghost use Rattle.ep_words.specs.declared.errors.WordsError.TheVariants.{Memory as OutOfMemory};
+ghost use Rattle.std.specs.Prelude.{◌≡◌, ◌≢◌};
+ghost use Rattle.clap.specs.Values.{kind_of};
+ghost use Rattle.clap.specs.declared.error.kind.ErrorKind.TheVariants as kind;
+ghost use Rattle.ep_words.specs.declared.errors.WordsError.TheVariants.{Usage, Memory as OutOfMemory};
 
+use clap::error::ErrorKind;
 use ep_base::Memory;
 use std::alloc::{AllocError, AllocFailed};
 use std::error::Error;
@@ -49,5 +52,16 @@ impl<T: Drop> From<AllocFailed<T>> for WordsError {
 
     fn from(_refused: AllocFailed<T>) -> WordsError {
         WordsError::Memory
+    }
+}
+
+impl From<clap::Error> for WordsError {
+    ghost from_gives = { λ error e. e ≡ Usage → kind_of error ≢ kind.OutOfMemory };
+
+    fn from(error: clap::Error) -> WordsError {
+        match error.kind() {
+            ErrorKind::OutOfMemory => WordsError::Memory,
+            _ => WordsError::Usage,
+        }
     }
 }

@@ -4,6 +4,7 @@
 mod errors;
 mod job;
 mod jobs;
+mod options;
 mod read;
 mod settings;
 mod task;

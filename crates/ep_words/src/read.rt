@@ -1,6 +1,6 @@
 //! Reads words as a job.
 
-ghost use Rattle.std.specs.Prelude.{◌≡◌, List, IfOk, IfErr};
+ghost use Rattle.std.specs.Prelude.{◌≡◌, List, map, IfOk, IfErr};
 ghost use Rattle.ep_words.specs.Settings.{Text};
 ghost use Rattle.ep_words.specs.Commands.{IsCommand};
 ghost use Rattle.ep_words.specs.declared.job.Job.{Job as JobValue};
@@ -10,7 +10,7 @@ use crate::job::Job;
 use crate::jobs::job_of;
 use crate::settings::settings_of;
 use ep_base::Word;
-use std::alloc::Global;
+use std::alloc::{AllocError, Global};
 
 /// The job that words ask for: they are the words after the program's name.
 pub fn read_words(alloc: Global, words: &[Word]) -> Result<Job, WordsError>
@@ -18,8 +18,20 @@ pub fn read_words(alloc: Global, words: &[Word]) -> Result<Job, WordsError>
     ensures usage { IfErr result (λ error. error ≡ WordsError.Usage
         → (job : JobValue) → ¬ IsCommand words.now job) }
 {
-    let settings = settings_of(alloc, words)?;
+    let texts = texts_of(alloc, words)?;
+    let settings = settings_of(alloc, &texts)?;
     job_of(alloc, &settings)
+}
+
+/// The texts of words.
+fn texts_of<'a>(alloc: Global, words: &'a [Word]) -> Result<Vec<&'a str>, AllocError>
+    ensures { IfOk result (λ texts. map (λ text. text.now) texts.items ≡ words.now) }
+{
+    let mut texts = Vec::new(alloc);
+    for word in words {
+        texts.push(word.text())?;
+    }
+    Ok(texts)
 }
 
 /// Words are a command for one job at most.

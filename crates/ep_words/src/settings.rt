@@ -1,35 +1,16 @@
 //! The settings that words make.
 
-ghost use Rattle.std.specs.Prelude.{◌≡◌, ◌≢◌, ◌<◌, ◌==◌, ◌++◌, ℕ, List, [], ◌∷◌, codes, map, length, IsTrue, not, ◌↔◌, MatchOption, IfSome, IfNone, IfOk, IfErr, bytes_eq};
-ghost use Rattle.std.specs.List.{list_any};
-ghost use Rattle.ep_base.specs.TokenTexts.{is_one_of};
-ghost use Rattle.ep_words.specs.Settings.{Text, Setting as PlainSetting, options, option_word, BeginsBySetting, BeginsWithDash, MakeSettings, AreSetOnce};
-ghost use Rattle.ep_words.specs.Views.{plain_settings};
-ghost use Rattle.ep_words.specs.Parts.{IsNamedBy, IsNoName};
+ghost use Rattle.std.specs.Prelude.{◌≡◌, ◌==◌, ◌||◌, ℕ, List, map, not, IfOk, IfErr, MatchResult};
+ghost use Rattle.std.specs.List.{list_all};
+ghost use Rattle.clap.specs.Words.{found_of};
+ghost use Rattle.ep_words.specs.Settings.{Setting as PlainSetting, MakeSettings, AreSetOnce};
+ghost use Rattle.ep_words.specs.Options.{is_fit};
+ghost use Rattle.ep_words.specs.Views.{found_settings, plain_settings};
 
 use crate::errors::WordsError;
-use crate::values::{is_among, value_in};
-use ep_base::Word;
-use std::alloc::Global;
-
-/// The names of the options.
-const OPTIONS: [&str; 15] = [
-    "task",
-    "in-eprime",
-    "in-param",
-    "in-solution",
-    "in-cnf",
-    "in-log",
-    "solutions",
-    "conflicts",
-    "workers",
-    "number",
-    "out-eprime",
-    "out-param",
-    "out-cnf",
-    "out-log",
-    "out-solution",
-];
+use crate::options::matches_of;
+use clap::ArgMatches;
+use std::alloc::{AllocFailed, Global};
 
 /// An option's name with the value that it is given.
 #[derive(Clone, Copy)]
@@ -38,98 +19,55 @@ pub(crate) struct Setting<'a> {
     pub value: &'a str,
 }
 
-/// The settings that the words make. Linear in the words: there are no more settings than options.
+/// The settings that the words make.
 pub(crate) fn settings_of<'a>(
     alloc: Global,
-    words: &'a [Word],
+    words: &'a [&'a str],
 ) -> Result<Vec<Setting<'a>>, WordsError>
-    ensures made { IfOk result (λ made. MakeSettings words.now (plain_settings made.items)
+    ensures made { IfOk result (λ made.
+        MakeSettings (map (λ word. word.now) words.now) (plain_settings made.items)
         × AreSetOnce (plain_settings made.items)) }
-    ensures usage { IfErr result (λ error. error ≡ WordsError.Usage
-        → (all : List PlainSetting) → MakeSettings words.now all → ¬ AreSetOnce all) }
+    ensures usage { IfErr result (λ error. error ≡ WordsError.Usage → (all : List PlainSetting)
+        → MakeSettings (map (λ word. word.now) words.now) all → ¬ AreSetOnce all) }
+{
+    if !all_fit(words) {
+        return Err(WordsError::Usage);
+    }
+    let matches = matches_of(alloc, words)?;
+    Ok(settings_in(alloc, &matches)?)
+}
+
+/// The settings that `clap` found.
+fn settings_in<'a>(
+    alloc: Global,
+    matches: &ArgMatches<'a>,
+) -> Result<Vec<Setting<'a>>, AllocFailed<Setting<'a>>>
+    ensures { IfOk result (λ made. plain_settings made.items ≡ found_settings (found_of matches.now)) }
 {
     let mut settings = Vec::new(alloc);
-    let mut rest = words;
-    while !rest.is_empty() {
-        let Some((setting, others)) = first_setting(rest) else {
-            return Err(WordsError::Usage);
-        };
-        if value_in(&settings, setting.name).is_some() {
-            return Err(WordsError::Usage);
+    for name in matches.ids() {
+        if let Some(value) = matches.get_str(name) {
+            settings.push(Setting { name, value })?;
         }
-        settings.push(setting)?;
-        rest = others;
     }
     Ok(settings)
 }
 
-/// The setting by which the words begin, and the words behind it.
-fn first_setting<'a>(words: &'a [Word]) -> Option<(Setting<'a>, &'a [Word])>
-    ensures begins { IfSome result (λ first.
-        BeginsBySetting words.now first.0.name.now first.0.value.now first.1.now) }
-    ensures no_setting { IfNone result ((name value : Text) (others : List Text)
-        → ¬ BeginsBySetting words.now name value others) }
+/// Whether each word begins with `--` and goes on, or doesn't begin with `-`: `clap` takes `-` as
+/// a value, and lets `--` stand.
+fn all_fit(words: &[&str]) -> bool
+    ensures { result ≡ list_all (λ word. is_fit word.now) words.now }
 {
-    let [first, others @ ..] = words else {
-        return None;
-    };
-    let (name, value) = named_by(first.text())?;
-    if !is_option(name) {
-        return None;
-    }
-    match value {
-        Some(value) => with_value(name, value, others),
-        None => {
-            let [second, others @ ..] = others else {
-                return None;
-            };
-            let value = second.text();
-            if begins_with_dash(value) {
-                return None;
-            }
-            with_value(name, value, others)
-        }
-    }
+    words.iter().all(|word| is_fit(word))
 }
 
-/// A setting with the words behind it, unless its value is empty.
-fn with_value<'a>(
-    name: &'a str,
-    value: &'a str,
-    others: &'a [Word],
-) -> Option<(Setting<'a>, &'a [Word])>
-    ensures { MatchOption result (value.now ≡ [])
-        (λ first. (value.now ≢ []) × (first.0.name.now ≡ name.now) × (first.0.value.now ≡ value.now)
-        × (first.1.now ≡ others.now)) }
+/// Whether a word begins with `--` and goes on, or doesn't begin with `-`.
+fn is_fit(word: &str) -> bool
+    ensures { result ≡ is_fit word.now }
 {
-    if value.is_empty() {
-        return None;
-    }
-    Some((Setting { name, value }, others))
-}
-
-/// The name in a word that begins with `--`, and the value behind the first `=`, if there is one.
-fn named_by(word: &str) -> Option<(&str, Option<&str>)>
-    ensures { MatchOption result (IsNoName word.now) (λ parts. IsNamedBy word.now parts.0.now parts.1) }
-{
-    let named = word.strip_prefix("--")?;
-    match named.split_once('=') {
-        Some((name, value)) => Some((name, Some(value))),
-        None => Some((named, None)),
-    }
-}
-
-fn is_option(name: &str) -> bool
-    ensures { result ≡ is_one_of options name.now }
-{
-    is_among(&OPTIONS, name)
-}
-
-fn begins_with_dash(text: &str) -> bool
-    ensures { IsTrue result ↔ BeginsWithDash text.now }
-{
-    match text.as_bytes() {
-        [] => false,
-        [first, ..] => *first == b'-',
+    match word.as_bytes() {
+        [] => true,
+        [first] | [first, _] => *first != b'-',
+        [first, second, ..] => *first != b'-' || *second == b'-',
     }
 }
