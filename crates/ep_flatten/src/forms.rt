@@ -46,7 +46,7 @@ pub fn forms_of(alloc: Global, g: &Ground) -> Result<Vec<Form>, Memory>
 }
 
 /// The form of the next term, which has this node.
-fn form_of(alloc: Global, uses: &[u8], forms: &[Form], node: &Node) -> Result<Form, Memory>
+pub fn form_of(alloc: Global, uses: &[u8], forms: &[Form], node: &Node) -> Result<Form, Memory>
     ensures { IfOk result (λ form. IsNextForm (plain_forms forms.now) (plain_node node.now) (plain_form form)) }
 {
     match node {

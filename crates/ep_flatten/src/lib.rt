@@ -12,6 +12,8 @@ mod lists;
 mod marks;
 mod spans;
 mod sums;
+#[cfg(test)]
+mod tests;
 mod uses;
 
 pub use flattening::flatten;
