@@ -2,7 +2,6 @@ pub mod Lists
 pub mod Splits
 pub mod Words
 pub mod SettingLaws
-pub mod Walks
 pub mod Edges
 pub mod OptionRules
 pub mod OptionWords

@@ -26,7 +26,7 @@ pub one_option_more : (names : List (Bor Text)) (i : ℕ) (d : Bor Text) (before
 one_option_more names i d before after within is added =
     let taken : names_of (take (i + 1) names) ≡ names_of (take i names) ++ (get_or names i d).now ∷ [] = ap names_of (take_more names i d within) ∙ map-append _ (take i names) _ in
     let rules : map option_rule (names_of (take (i + 1) names)) ≡ map option_rule (names_of (take i names)) ++ option_rule (get_or names i d).now ∷ [] =
-        ap (map option_rule) taken ∙ map-append option_rule (names_of (take i names)) _ in
+    ap (map option_rule) taken ∙ map-append option_rule (names_of (take i names)) _ in
     added ∙ ap (λ (app : App). with_rule app (option_rule (get_or names i d).now)) is
     ∙ ap (λ rs. record (command_with []) { top = record (command_with []).top { rules = rs } }) (sym rules)
 

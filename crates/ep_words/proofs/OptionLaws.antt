@@ -49,13 +49,15 @@ pub passing_make : (words : List Text) → list_all is_fit words ≡ true → fa
 passing_make words fit passes =
     let faults = sym (fault_is words) ∙ passes in
     let behind = rest_none _ _ (rest_none _ _ faults) in
-    let makes = passed_words_make words (record { fit = fit; walk = first_none _ _ faults; end = first_none _ _ behind }) in
-    (makes.more, record {
-      made = makes.made;
-      once = makes.once;
-      rows =
-          ap (λ (app : App). rows_after app.top.rules (names_of app) words) (built_is options)
-          ∙ ap (λ (w : Walk). finished (set_rules options) w.held) makes.ends
-          ∙ defaults_kept options (settled_rows (set_rules options) makes.pending makes.rows)
-          ∙ makes.settles;
-    })
+    let makes = passed_words_make words (record { fit = fit; walk = first_none _ _ faults; end = first_none _ _ behind }) in (
+      makes.more,
+      record {
+        made = makes.made;
+        once = makes.once;
+        rows =
+            ap (λ (app : App). rows_after app.top.rules (names_of app) words) (built_is options)
+            ∙ ap (λ (w : Walk). finished (set_rules options) w.held) makes.ends
+            ∙ defaults_kept options (settled_rows (set_rules options) makes.pending makes.rows)
+            ∙ makes.settles;
+      },
+    )

@@ -126,16 +126,18 @@ setting_before settings name value words others start next begins ends makes = r
 
 idle_end : Idle []
 idle_end settings rows pending promise passes =
-    let same = promise passes.end in
-    (passes.end, record {
-      more = [];
-      made = refl;
-      once = subst AreSetOnce (sym (append-nil settings)) same.1;
-      rows = rows;
-      pending = pending;
-      ends = refl;
-      settles = same.0 ∙ ap rows_for (sym (append-nil settings));
-    })
+    let same = promise passes.end in (
+      passes.end,
+      record {
+        more = [];
+        made = refl;
+        once = subst AreSetOnce (sym (append-nil settings)) same.1;
+        rows = rows;
+        pending = pending;
+        ends = refl;
+        settles = same.0 ∙ ap rows_for (sym (append-nil settings));
+      },
+    )
 
 waits_end : Waits []
 waits_end settings name known once passes =
@@ -234,9 +236,9 @@ waits_value value words idle_on plain settings name known once passes =
     let walks = value_walks options value plain rows name known in
     let more = one_more value words (stands rows (Some (name, [])) (option name)) _ walks passes in
     let set : settle_fault (set_rules options) false (held rows (Some (name, value ∷ []))) ≡ [] → Set settings name value rows =
-        λ settled. set_now settings name value rows once refl (sym (settle_turns options name (value ∷ []) rows known) ∙ settled) in
+    λ settled. set_now settings name value rows once refl (sym (settle_turns options name (value ∷ []) rows known) ∙ settled) in
     let later = idle_on (settings ++ (name, value) ∷ []) rows (Some (name, value ∷ []))
-        (λ settled. (settle_walks options name (value ∷ []) rows known ∙ (set settled).rows, (set settled).once)) more.passes in
+    (λ settled. (settle_walks options name (value ∷ []) rows known ∙ (set settled).rows, (set settled).once)) more.passes in
     record {
       value = value;
       others = words;

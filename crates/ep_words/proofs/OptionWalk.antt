@@ -126,9 +126,9 @@ module _ (names : List Text) (first : ℕ) (rest name : Text) where
       → turn_fault (built_shape names) [] (stands rows pending waiting) word ≡ UnknownArgument ∷ []
   unknown_turns given parts unknown rows pending waiting only =
       let fails : word_fault (built_shape names) [] false waiting word (held rows pending) ≡ UnknownArgument ∷ [] =
-          fault_long names waiting (held rows pending) first rest only
-          ∙ ap (λ (p : Text × Option Text). long_fault rules false (arg_by_long rules p.0) p.1 (held rows pending)) parts
-          ∙ ap (λ rule. long_fault rules false rule given (held rows pending)) (long_unknown names name unknown) in
+      fault_long names waiting (held rows pending) first rest only
+      ∙ ap (λ (p : Text × Option Text). long_fault rules false (arg_by_long rules p.0) p.1 (held rows pending)) parts
+      ∙ ap (λ rule. long_fault rules false rule given (held rows pending)) (long_unknown names name unknown) in
       turned names rows pending waiting word _ _ fails refl
 
 -- ---- a word that doesn't begin with `-`

@@ -2,22 +2,22 @@
 
 ghost use Rattle.std.specs.Prelude.{◌≡◌, MatchResult};
 ghost use Rattle.ep_words.specs.Jobs.{job_of, job_of_task, job_within, solve_options, solve_job, enumerate_options, enumerate_job, verify_options, verify_job, check_options, check_job, generate_options, generate_job, task_of};
-ghost use Rattle.ep_words.specs.Views.{plain_settings};
+ghost use Rattle.ep_words.specs.Views.{settings_of};
 
 use crate::errors::WordsError;
 use crate::job::Job;
-use crate::settings::Setting;
 use crate::task::{self, Task};
 use crate::values::{
     conflicts, needed_word, number, set_only, solutions, value_in, word_in, workers,
 };
+use clap::ArgMatches;
 use std::alloc::Global;
 
 /// The job that settings ask for.
-pub(crate) fn job_of(alloc: Global, settings: &[Setting]) -> Result<Job, WordsError>
+pub(crate) fn job_of(alloc: Global, settings: &ArgMatches) -> Result<Job, WordsError>
     ensures { MatchResult result
-        (λ job. job_of (plain_settings settings.now) ≡ Some job)
-        (λ error. error ≡ WordsError.Usage → job_of (plain_settings settings.now) ≡ None) }
+        (λ job. job_of (settings_of settings.now) ≡ Some job)
+        (λ error. error ≡ WordsError.Usage → job_of (settings_of settings.now) ≡ None) }
 {
     match task_in(settings) {
         Some(task) => job_of_task(alloc, task, settings),
@@ -26,8 +26,8 @@ pub(crate) fn job_of(alloc: Global, settings: &[Setting]) -> Result<Job, WordsEr
 }
 
 /// The task that settings name, or to solve where they name none.
-fn task_in(settings: &[Setting]) -> Option<Task>
-    ensures { result ≡ task_of (plain_settings settings.now) }
+fn task_in(settings: &ArgMatches) -> Option<Task>
+    ensures { result ≡ task_of (settings_of settings.now) }
 {
     match value_in(settings, "task") {
         Some(name) => task::named(name),
@@ -36,10 +36,10 @@ fn task_in(settings: &[Setting]) -> Option<Task>
 }
 
 /// The job of a task.
-fn job_of_task(alloc: Global, task: Task, settings: &[Setting]) -> Result<Job, WordsError>
+fn job_of_task(alloc: Global, task: Task, settings: &ArgMatches) -> Result<Job, WordsError>
     ensures { MatchResult result
-        (λ job. job_of_task task (plain_settings settings.now) ≡ Some job)
-        (λ error. error ≡ WordsError.Usage → job_of_task task (plain_settings settings.now) ≡ None) }
+        (λ job. job_of_task task (settings_of settings.now) ≡ Some job)
+        (λ error. error ≡ WordsError.Usage → job_of_task task (settings_of settings.now) ≡ None) }
 {
     match task {
         Task::Solve => solve(alloc, settings),
@@ -50,11 +50,11 @@ fn job_of_task(alloc: Global, task: Task, settings: &[Setting]) -> Result<Job, W
     }
 }
 
-fn solve(alloc: Global, settings: &[Setting]) -> Result<Job, WordsError>
+fn solve(alloc: Global, settings: &ArgMatches) -> Result<Job, WordsError>
     ensures { MatchResult result
-        (λ job. job_within solve_options solve_job (plain_settings settings.now) ≡ Some job)
+        (λ job. job_within solve_options solve_job (settings_of settings.now) ≡ Some job)
         (λ error. error ≡ WordsError.Usage
-        → job_within solve_options solve_job (plain_settings settings.now) ≡ None) }
+        → job_within solve_options solve_job (settings_of settings.now) ≡ None) }
 {
     let allowed = [
         "task",
@@ -80,11 +80,11 @@ fn solve(alloc: Global, settings: &[Setting]) -> Result<Job, WordsError>
     })
 }
 
-fn enumerate(alloc: Global, settings: &[Setting]) -> Result<Job, WordsError>
+fn enumerate(alloc: Global, settings: &ArgMatches) -> Result<Job, WordsError>
     ensures { MatchResult result
-        (λ job. job_within enumerate_options enumerate_job (plain_settings settings.now) ≡ Some job)
+        (λ job. job_within enumerate_options enumerate_job (settings_of settings.now) ≡ Some job)
         (λ error. error ≡ WordsError.Usage
-        → job_within enumerate_options enumerate_job (plain_settings settings.now) ≡ None) }
+        → job_within enumerate_options enumerate_job (settings_of settings.now) ≡ None) }
 {
     let allowed = [
         "task",
@@ -114,11 +114,11 @@ fn enumerate(alloc: Global, settings: &[Setting]) -> Result<Job, WordsError>
     })
 }
 
-fn verify(alloc: Global, settings: &[Setting]) -> Result<Job, WordsError>
+fn verify(alloc: Global, settings: &ArgMatches) -> Result<Job, WordsError>
     ensures { MatchResult result
-        (λ job. job_within verify_options verify_job (plain_settings settings.now) ≡ Some job)
+        (λ job. job_within verify_options verify_job (settings_of settings.now) ≡ Some job)
         (λ error. error ≡ WordsError.Usage
-        → job_within verify_options verify_job (plain_settings settings.now) ≡ None) }
+        → job_within verify_options verify_job (settings_of settings.now) ≡ None) }
 {
     if !set_only(settings, &["task", "in-eprime", "in-solution", "in-param"]) {
         return Err(WordsError::Usage);
@@ -130,11 +130,11 @@ fn verify(alloc: Global, settings: &[Setting]) -> Result<Job, WordsError>
     })
 }
 
-fn check(alloc: Global, settings: &[Setting]) -> Result<Job, WordsError>
+fn check(alloc: Global, settings: &ArgMatches) -> Result<Job, WordsError>
     ensures { MatchResult result
-        (λ job. job_within check_options check_job (plain_settings settings.now) ≡ Some job)
+        (λ job. job_within check_options check_job (settings_of settings.now) ≡ Some job)
         (λ error. error ≡ WordsError.Usage
-        → job_within check_options check_job (plain_settings settings.now) ≡ None) }
+        → job_within check_options check_job (settings_of settings.now) ≡ None) }
 {
     if !set_only(settings, &["task", "in-cnf", "in-log", "workers"]) {
         return Err(WordsError::Usage);
@@ -146,11 +146,11 @@ fn check(alloc: Global, settings: &[Setting]) -> Result<Job, WordsError>
     })
 }
 
-fn generate(alloc: Global, settings: &[Setting]) -> Result<Job, WordsError>
+fn generate(alloc: Global, settings: &ArgMatches) -> Result<Job, WordsError>
     ensures { MatchResult result
-        (λ job. job_within generate_options generate_job (plain_settings settings.now) ≡ Some job)
+        (λ job. job_within generate_options generate_job (settings_of settings.now) ≡ Some job)
         (λ error. error ≡ WordsError.Usage
-        → job_within generate_options generate_job (plain_settings settings.now) ≡ None) }
+        → job_within generate_options generate_job (settings_of settings.now) ≡ None) }
 {
     if !set_only(
         settings,

@@ -1,56 +1,31 @@
 //! The settings that words make.
 
-ghost use Rattle.std.specs.Prelude.{◌≡◌, ◌==◌, ◌||◌, ℕ, List, map, not, IfOk, IfErr, MatchResult};
+ghost use Rattle.std.specs.Prelude.{◌≡◌, ◌==◌, ◌||◌, ℕ, List, map, not, IfOk, IfErr};
 ghost use Rattle.std.specs.List.{list_all};
-ghost use Rattle.clap.specs.Words.{found_of};
-ghost use Rattle.ep_words.specs.Settings.{Setting as PlainSetting, MakeSettings, AreSetOnce};
+ghost use Rattle.ep_words.specs.Settings.{Setting, MakeSettings, AreSetOnce};
 ghost use Rattle.ep_words.specs.Options.{is_fit};
-ghost use Rattle.ep_words.specs.Views.{found_settings, plain_settings};
+ghost use Rattle.ep_words.specs.Views.{settings_of};
 
 use crate::errors::WordsError;
 use crate::options::matches_of;
 use clap::ArgMatches;
-use std::alloc::{AllocFailed, Global};
-
-/// An option's name with the value that it is given.
-#[derive(Clone, Copy)]
-pub(crate) struct Setting<'a> {
-    pub name: &'a str,
-    pub value: &'a str,
-}
+use std::alloc::Global;
 
 /// The settings that the words make.
 pub(crate) fn settings_of<'a>(
     alloc: Global,
     words: &'a [&'a str],
-) -> Result<Vec<Setting<'a>>, WordsError>
+) -> Result<ArgMatches<'a>, WordsError>
     ensures made { IfOk result (λ made.
-        MakeSettings (map (λ word. word.now) words.now) (plain_settings made.items)
-        × AreSetOnce (plain_settings made.items)) }
-    ensures usage { IfErr result (λ error. error ≡ WordsError.Usage → (all : List PlainSetting)
+        MakeSettings (map (λ word. word.now) words.now) (settings_of made)
+        × AreSetOnce (settings_of made)) }
+    ensures usage { IfErr result (λ error. error ≡ WordsError.Usage → (all : List Setting)
         → MakeSettings (map (λ word. word.now) words.now) all → ¬ AreSetOnce all) }
 {
     if !all_fit(words) {
         return Err(WordsError::Usage);
     }
-    let matches = matches_of(alloc, words)?;
-    Ok(settings_in(alloc, &matches)?)
-}
-
-/// The settings that `clap` found.
-fn settings_in<'a>(
-    alloc: Global,
-    matches: &ArgMatches<'a>,
-) -> Result<Vec<Setting<'a>>, AllocFailed<Setting<'a>>>
-    ensures { IfOk result (λ made. plain_settings made.items ≡ found_settings (found_of matches.now)) }
-{
-    let mut settings = Vec::new(alloc);
-    for name in matches.ids() {
-        if let Some(value) = matches.get_str(name) {
-            settings.push(Setting { name, value })?;
-        }
-    }
-    Ok(settings)
+    matches_of(alloc, words)
 }
 
 /// Whether each word begins with `--` and goes on, or doesn't begin with `-`: `clap` takes `-` as

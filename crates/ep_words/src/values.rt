@@ -3,7 +3,7 @@
 ghost use Rattle.std.specs.Prelude.{◌≡◌, ◌≤◌, ℕ, List, length, true, map, option_map, IfOk, MatchResult};
 ghost use Rattle.ep_words.specs.Settings.{value_of};
 ghost use Rattle.ep_words.specs.Jobs.{number_within, solution_count, sets_only, conflicts_of, workers_of};
-ghost use Rattle.ep_words.specs.Views.{plain_settings};
+ghost use Rattle.ep_words.specs.Views.{settings_of};
 ghost use Rattle.std.specs.List.{list_all, list_any};
 ghost use Rattle.std.specs.Str.{bytes_eq};
 ghost use Rattle.std.specs.Char.{is_ascii_digit};
@@ -11,7 +11,7 @@ ghost use Rattle.ep_base.specs.TokenTexts.{is_number};
 ghost use Rattle.std.specs.Str.Parse.{digits_value};
 
 use crate::errors::WordsError;
-use crate::settings::Setting;
+use clap::ArgMatches;
 use ep_base::{Memory, Word};
 use std::alloc::Global;
 
@@ -19,11 +19,11 @@ use std::alloc::Global;
 const MOST_SOLUTIONS: u64 = 1_000_000;
 
 /// Whether no option is set but some.
-pub(crate) fn set_only(settings: &[Setting], names: &[&str]) -> bool
-    ensures { result ≡ sets_only (map (λ name. name.now) names.now) (plain_settings settings.now) }
+pub(crate) fn set_only(settings: &ArgMatches, names: &[&str]) -> bool
+    ensures { result ≡ sets_only (map (λ name. name.now) names.now) (settings_of settings.now) }
 {
-    for setting in settings {
-        if !is_among(names, setting.name) {
+    for name in settings.ids() {
+        if settings.get_str(name).is_some() && !is_among(names, name) {
             return false;
         }
     }
@@ -31,24 +31,19 @@ pub(crate) fn set_only(settings: &[Setting], names: &[&str]) -> bool
 }
 
 /// The value that an option is given, if it is set.
-pub(crate) fn value_in<'a>(settings: &[Setting<'a>], name: &str) -> Option<&'a str>
-    ensures { option_map (λ value. value.now) result ≡ value_of name.now (plain_settings settings.now) }
+pub(crate) fn value_in<'a>(settings: &ArgMatches<'a>, name: &str) -> Option<&'a str>
+    ensures { option_map (λ value. value.now) result ≡ value_of name.now (settings_of settings.now) }
 {
-    for setting in settings {
-        if setting.name == name {
-            return Some(setting.value);
-        }
-    }
-    None
+    settings.get_str(name)
 }
 
 /// A copy of the value that an option is given, if it is set.
 pub(crate) fn word_in(
     alloc: Global,
-    settings: &[Setting],
+    settings: &ArgMatches,
     name: &str,
 ) -> Result<Option<Word>, Memory>
-    ensures { IfOk result (λ word. word ≡ value_of name.now (plain_settings settings.now)) }
+    ensures { IfOk result (λ word. word ≡ value_of name.now (settings_of settings.now)) }
 {
     match value_in(settings, name) {
         Some(value) => Ok(Some(Word::new(alloc, value)?)),
@@ -59,12 +54,12 @@ pub(crate) fn word_in(
 /// A copy of the value of an option that has to be set.
 pub(crate) fn needed_word(
     alloc: Global,
-    settings: &[Setting],
+    settings: &ArgMatches,
     name: &str,
 ) -> Result<Word, WordsError>
     ensures { MatchResult result
-        (λ word. value_of name.now (plain_settings settings.now) ≡ Some word)
-        (λ error. error ≡ WordsError.Usage → value_of name.now (plain_settings settings.now) ≡ None) }
+        (λ word. value_of name.now (settings_of settings.now) ≡ Some word)
+        (λ error. error ≡ WordsError.Usage → value_of name.now (settings_of settings.now) ≡ None) }
 {
     match value_in(settings, name) {
         Some(value) => Ok(Word::new(alloc, value)?),
@@ -73,8 +68,8 @@ pub(crate) fn needed_word(
 }
 
 /// How many conflicts the search may take.
-pub(crate) fn conflicts(settings: &[Setting]) -> Option<u64>
-    ensures { result ≡ conflicts_of (plain_settings settings.now) }
+pub(crate) fn conflicts(settings: &ArgMatches) -> Option<u64>
+    ensures { result ≡ conflicts_of (settings_of settings.now) }
 {
     match value_in(settings, "conflicts") {
         Some(text) => number(text, 1, 1_000_000_000),
@@ -83,8 +78,8 @@ pub(crate) fn conflicts(settings: &[Setting]) -> Option<u64>
 }
 
 /// How many workers there are to be.
-pub(crate) fn workers(settings: &[Setting]) -> Option<u64>
-    ensures { result ≡ workers_of (plain_settings settings.now) }
+pub(crate) fn workers(settings: &ArgMatches) -> Option<u64>
+    ensures { result ≡ workers_of (settings_of settings.now) }
 {
     match value_in(settings, "workers") {
         Some(text) => number(text, 1, 64),
