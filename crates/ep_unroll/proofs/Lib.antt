@@ -13,6 +13,7 @@ pub mod FreeValues
 pub mod GroundSteps
 pub mod GrownParts
 pub mod IndexLists
+pub mod LeftSteps
 pub mod ListFormValues
 pub mod ListingDepths
 pub mod MatrixSteps

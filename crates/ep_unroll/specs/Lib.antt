@@ -4,6 +4,7 @@ pub mod Clauses
 pub mod Firsts
 pub mod Grounds
 pub mod Growing
+pub mod Lefts
 pub mod Lists
 pub mod Meanings
 pub mod Needs

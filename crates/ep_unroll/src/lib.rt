@@ -15,6 +15,7 @@ mod fixed_lists;
 mod flattening;
 mod forms;
 mod growing;
+mod lefts;
 mod list_forms;
 mod listing;
 mod literals;
@@ -32,6 +33,7 @@ mod scalars;
 mod sets;
 mod slots;
 mod sums;
+mod totals;
 mod unrolled;
 mod unrolling;
 

@@ -10,9 +10,9 @@ ghost use Rattle.ep_unroll.specs.Needs.{AreNeeded, ArePartial};
 ghost use Rattle.ep_unroll.specs.Readings.{cells_value};
 
 use super::blocks::cells_over;
-use super::forms::is_total;
 use super::growing::put;
 use super::scalars::scalar_terms;
+use super::totals::is_total;
 use super::unrolled::Unrolled;
 use ep_base::{Memory, Runs};
 use ep_eval::Held;

@@ -1,9 +1,9 @@
-use Rattle.std.proofs.Common.{ap, sym, subst, ◌∙◌, refl, Some, None, length, ◌<◌, ◌≤◌, ◌≡◌, true, slice_get, arith, pos}
-use Rattle.std.specs.Prelude.{IsSome, ℤ}
+use Rattle.std.proofs.Common.{sym, subst, ◌<◌, arith, pos}
+use Rattle.std.specs.Prelude.{IsSome}
 use Rattle.ep_ground.specs.NodeViews.{plain_node}
 use Rattle.ep_ground.specs.Terms.{node_value}
 use Rattle.ep_unroll.proofs.TotalSteps.{cell_total, constant_total, truth_total}
-use Rattle.ep_unroll.proofs.forms.is_total_node.Goals as goal
+use Rattle.ep_unroll.proofs.totals.is_total_node.Goals as goal
 
 pub returns-in-Const : goal.returns-in-Const
 unfolding node_value
