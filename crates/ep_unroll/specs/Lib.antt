@@ -2,6 +2,7 @@ pub mod Blocks
 pub mod Cells
 pub mod Clauses
 pub mod Firsts
+pub mod Flats
 pub mod Grounds
 pub mod Growing
 pub mod Lefts
@@ -9,12 +10,13 @@ pub mod Lists
 pub mod Meanings
 pub mod Needs
 pub mod Numbers
-pub mod Picks
 pub mod PartLists
 pub mod PartReads
+pub mod Picks
 pub mod Powers
 pub mod Readings
 pub mod Scalars
 pub mod Sets
 pub mod Signed
+pub mod Summing
 pub mod Unrolling

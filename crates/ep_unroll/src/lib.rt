@@ -32,6 +32,7 @@ mod reads;
 mod scalars;
 mod sets;
 mod slots;
+mod summing;
 mod sums;
 mod totals;
 mod unrolled;
