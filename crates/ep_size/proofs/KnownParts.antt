@@ -14,7 +14,7 @@ use Rattle.ep_size.specs.declared.extents.Extent.{Extent}
 abbrev pub left_known : List MeasuredIndex → List Extent → List Span
 left_known ms xs = flat_map scalars_of (flat_map (parts_left ms) (map grid_of xs))
 
-listed_known : (xs : List Extent) → listed_values (grids_from xs) ≡ map grid_of xs
+pub listed_known : (xs : List Extent) → listed_values (grids_from xs) ≡ map grid_of xs
 unfolding listed_values grids_from
 listed_known [] = refl
 listed_known (x ∷ xs) = ap (λ l. grid_of x ∷ l) (listed_known xs)

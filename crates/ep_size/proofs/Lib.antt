@@ -19,6 +19,7 @@ pub mod MatrixSteps
 pub mod Measurings
 pub mod NamedSteps
 pub mod NodeSteps
+pub mod PartedSteps
 pub mod PowerParts
 pub mod QuantifiedSteps
 pub mod ReadForms

@@ -178,13 +178,13 @@ defined_step : {A : Type 0} (x : A) (xs : List (Option A)) (ys : List A) (o : Op
 defined_step x xs ys o y next None e t = absurd cc
 defined_step x xs ys o y next (Some zs) e t = ap (option_map (λ l. x ∷ l)) (next zs e) ∙ ap (λ l. Some (l ++ y ∷ [])) (ap (λ p. unwrap_or p ys) t)
 
-defined_more : {A : Type 0} (xs : List (Option A)) (ys : List A) (o : Option A) (y : A) → all_defined xs ≡ Some ys → o ≡ Some y → all_defined (xs ++ o ∷ []) ≡ Some (ys ++ y ∷ [])
+pub defined_more : {A : Type 0} (xs : List (Option A)) (ys : List A) (o : Option A) (y : A) → all_defined xs ≡ Some ys → o ≡ Some y → all_defined (xs ++ o ∷ []) ≡ Some (ys ++ y ∷ [])
 unfolding all_defined
 defined_more [] ys o y h k = ap (λ x. all_defined (x ∷ [])) k ∙ ap (λ l. Some (l ++ y ∷ [])) (ap (λ x. unwrap_or x ys) h)
 defined_more (None ∷ xs) ys o y h k = absurd cc
 defined_more (Some x ∷ xs) ys o y h k = defined_step x xs ys o y (λ zs e. defined_more xs zs o y e k) (all_defined xs) refl h
 
-defined_none : {A : Type 0} (xs : List (Option A)) (o : Option A) (rest : List (Option A)) → o ≡ None → all_defined (xs ++ o ∷ rest) ≡ None
+pub defined_none : {A : Type 0} (xs : List (Option A)) (o : Option A) (rest : List (Option A)) → o ≡ None → all_defined (xs ++ o ∷ rest) ≡ None
 unfolding all_defined
 defined_none [] o rest h = ap (λ x. all_defined (x ∷ rest)) h
 defined_none (None ∷ xs) o rest h = refl
@@ -209,7 +209,7 @@ append_again : {A : Type 0} (xs : List A) (x : A) (ys : List A) → xs ++ x ∷ 
 append_again [] x ys = refl
 append_again (y ∷ xs) x ys = ap (λ zs. y ∷ zs) (append_again xs x ys)
 
-part_grid : (x : Extent) (o : Option ExtentTree) → PartOf x o → o ≡ Some (grid_of x)
+pub part_grid : (x : Extent) (o : Option ExtentTree) → PartOf x o → o ≡ Some (grid_of x)
 part_grid x o h = h.is ∙ ap Some (sym h.listed.grid)
 
 pub each_more : (rest : List Indexed) (inner : List (List ℤ)) (d : List ℤ) (s : OneSpan) (done next left behind : List ℤ) (parts more : List Extent) (n : ℤ) (x : Extent) (o : Option Extent)

@@ -1,8 +1,9 @@
 -- What a read leaves of cells that are alike.
-use Rattle.std.specs.Prelude.{◌≡◌, Bool, true, false, List, ℤ, Option, Some, None, map}
+use Rattle.std.specs.Prelude.{◌≡◌, Bool, true, false, List, ℤ, Option, Some, None, map, option_map}
 use Rattle.ep_base.specs.Numbers.{has_number}
 use Rattle.ep_tree.specs.Reach.{Extent as ExtentTree, MeasuredIndex, Span, decided_index, fixed_index, plain_index, whole_index}
 use Rattle.ep_tree.specs.Values.{Index, all_defined, filled, read_value}
+use Rattle.ep_size.specs.Extents.{grid_of}
 use Rattle.ep_size.specs.Lists.{IsListed}
 use Rattle.ep_size.specs.declared.extents.Extent.{Extent}
 
@@ -36,3 +37,7 @@ pub record PartOf (x : Extent) (read : Option ExtentTree) : Type 0 where
 unfoldable pub IsPart : Option Extent → Option ExtentTree → Type 0
 IsPart None read = read ≡ None
 IsPart (Some x) read = PartOf x read
+
+-- what is read of something known, by indices without a decision variable that all have values
+abbrev pub ReadsGrid : List MeasuredIndex → ExtentTree → Option Extent → Type 0
+ReadsGrid ms x part = (js : List Index) → all_defined (map plain_index ms) ≡ Some js → read_value js x ≡ option_map grid_of part

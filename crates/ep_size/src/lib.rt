@@ -20,6 +20,7 @@ mod matrices;
 mod measuring;
 mod named;
 mod nodes;
+mod parted;
 mod picked;
 mod powers;
 mod reading;

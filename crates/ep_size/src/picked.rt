@@ -2,8 +2,9 @@
 
 ghost use Rattle.std.specs.Prelude.{◌≡◌, ◌∷◌, ◌++◌, List, IfErr, IfOk, OnOk, false, flat_map, map, option_map, option_to_list};
 ghost use Rattle.ep_tree.specs.Reach.{MeasuredIndex, parts_left};
-ghost use Rattle.ep_tree.specs.Values.{matrix, part_at, scalars_of};
-ghost use Rattle.ep_size.specs.Extents.{grid_of, grids_from, span_of};
+ghost use Rattle.ep_tree.specs.Values.{filled, matrix, part_at, scalars_of};
+ghost use Rattle.ep_eval.specs.Helds.{held_value};
+ghost use Rattle.ep_size.specs.Extents.{fixed_grid, grid_of, grids_from, span_of};
 ghost use Rattle.ep_size.specs.Hulls.{Hulls};
 ghost use Rattle.ep_size.specs.Indices.{keeps_all, measured_of};
 ghost use Rattle.ep_size.specs.declared.errors.SizeError.TheVariants as error;
@@ -11,13 +12,16 @@ ghost use Rattle.ep_size.specs.declared.errors.SizeError.TheVariants as error;
 use super::errors::SizeError;
 use super::extents::{Extent, Span};
 use super::hulls::Hulled;
-use super::reading::Indexed;
-use super::remaining::{hull_over, is_same, keeps_all};
+use super::reading::{Indexed, cells_left};
+use super::remaining::{add_left, hull_over, is_same, keeps_all};
 use super::scalars::add_scalars;
+use super::totals::MOST_TOLD;
+use ep_base::Runs;
+use ep_eval::Held;
 use std::alloc::Global;
 
 /// The part with an index, if there is one. Linear in the parts.
-fn part_with<'v, 'a>(own: &[i64], parts: &'v [Extent<'a>], index: i64) -> Option<&'v Extent<'a>>
+pub fn part_with<'v, 'a>(own: &[i64], parts: &'v [Extent<'a>], index: i64) -> Option<&'v Extent<'a>>
     ensures { option_map (λ part. grid_of part.now) result ≡ part_at own.now (grids_from parts.now) index }
 {
     let count = parts.len();
@@ -70,6 +74,63 @@ fn part_left<'v, 'a>(
     }
 }
 
+/// Puts the cells that indices leave of those of a decision variable behind others. An instance has fewer of them than
+/// there may be told.
+fn add_cells_left(
+    span: Span,
+    domains: &[Runs],
+    indices: &[Indexed],
+    spans: &mut Vec<Span>,
+) -> Result<(), SizeError>
+    ensures added { OnOk result (map span_of spans.new.items
+        ≡ map span_of spans.old.items ++ flat_map scalars_of (parts_left (map measured_of indices.now) (filled (span_of span) domains.now))) }
+    ensures memory { IfErr result (λ e. e ≡ error.Memory) }
+{
+    let count = cells_left(indices, domains);
+    if count >= MOST_TOLD {
+        return Err(SizeError::Memory);
+    }
+    for _cell in 0..count {
+        spans.push(span)?;
+    }
+    Ok(())
+}
+
+/// The same of a value that is held. Of a number it isn't told: it has no part.
+fn add_held_left(held: &Held, indices: &[Indexed], spans: &mut Vec<Span>) -> Result<(), SizeError>
+    ensures added { OnOk result (map span_of spans.new.items
+        ≡ map span_of spans.old.items ++ flat_map scalars_of (parts_left (map measured_of indices.now) (fixed_grid (held_value held.now)))) }
+    ensures memory { IfErr result (λ e. e ≡ error.Memory) }
+{
+    match held {
+        Held::Number(_) => Err(SizeError::Memory),
+        Held::Lent(value) => add_left(value, indices, spans),
+        Held::Made(value) => add_left(value, indices, spans),
+    }
+}
+
+/// The same of what is known of a part that isn't known by its own parts.
+fn add_whole(known: &Extent, indices: &[Indexed], spans: &mut Vec<Span>) -> Result<(), SizeError>
+    ensures added { OnOk result (map span_of spans.new.items
+        ≡ map span_of spans.old.items ++ flat_map scalars_of (parts_left (map measured_of indices.now) (grid_of known.now))) }
+    ensures memory { IfErr result (λ e. e ≡ error.Memory) }
+{
+    match known {
+        Extent::Cells(span, domains) => add_cells_left(*span, domains, indices, spans),
+        Extent::Fixed(held) => add_held_left(held, indices, spans),
+        // A number has no part, and others don't come here.
+        _ => Err(SizeError::Memory),
+    }
+}
+
+/// Whether something is known by its parts.
+fn is_parted(known: &Extent) -> bool {
+    match known {
+        Extent::Matrix(_, _) => true,
+        _ => false,
+    }
+}
+
 /// Puts the scalars that indices leave of what is known behind others.
 fn add_known(known: &Extent, indices: &[Indexed], spans: &mut Vec<Span>) -> Result<(), SizeError>
     ensures added { OnOk result (map span_of spans.new.items
@@ -78,6 +139,9 @@ fn add_known(known: &Extent, indices: &[Indexed], spans: &mut Vec<Span>) -> Resu
 {
     match indices.split_first() {
         Some((index, rest)) => {
+            if !is_parted(known) {
+                return add_whole(known, indices, spans);
+            }
             if !keeps_all(*index) {
                 let found = part_left(known, *index)?;
                 return match found {

@@ -87,7 +87,7 @@ fn part_left(value: &Value, index: Indexed) -> Option<&Value>
 }
 
 /// Puts the scalars that indices leave of a value behind others.
-fn add_left(value: &Value, indices: &[Indexed], spans: &mut Vec<Span>) -> Result<(), SizeError>
+pub fn add_left(value: &Value, indices: &[Indexed], spans: &mut Vec<Span>) -> Result<(), SizeError>
     ensures added { OnOk result (map span_of spans.new.items
         ≡ map span_of spans.old.items ++ flat_map scalars_of (parts_left (map measured_of indices.now) (fixed_grid (value_tree value.now)))) }
     ensures memory { IfErr result (λ e. e ≡ error.Memory) }

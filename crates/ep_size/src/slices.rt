@@ -21,6 +21,7 @@ ghost use Rattle.ep_size.specs.declared.totals.Totals.{Totals as EachTotals};
 
 use super::errors::SizeError;
 use super::extents::{Extent, Span};
+use super::parted::parts_apart;
 use super::reading::{Indexed, one_decided};
 use super::remaining::keeps_all;
 use ep_base::Runs;
@@ -132,7 +133,7 @@ fn is_told(index: Indexed) -> bool
 }
 
 /// Whether each of some indices has a value, and none a decision variable.
-fn are_told(indices: &[Indexed]) -> bool
+pub fn are_told(indices: &[Indexed]) -> bool
     ensures { result ≡ list_all is_told (map measured_of indices.now) }
 {
     match indices.split_first() {
@@ -164,7 +165,7 @@ fn names_one(index: Indexed, domain: &Runs) -> bool
 /// What indices leave of cells over index domains that don't stand one after another, if that has a value: its parts one by
 /// one. Linear in the parts.
 #[cycle(parting)]
-fn cells_part<'a>(
+pub fn cells_part<'a>(
     alloc: Global,
     span: Span,
     domains: &'a [Runs],
@@ -223,7 +224,7 @@ fn cells_each<'a>(
 }
 
 /// A matrix without parts.
-fn no_parts<'a>(alloc: Global) -> Extent<'a>
+pub fn no_parts<'a>(alloc: Global) -> Extent<'a>
     ensures { IsListed result no_extent }
 {
     Extent::Matrix(Vec::new(alloc), Vec::new(alloc))
@@ -263,7 +264,7 @@ fn cells_apart<'a>(
     }
 }
 
-/// A read of a matrix of which this is known, by indices that leave a matrix. It is told only of cells.
+/// A read of a matrix of which this is known, by indices that leave a matrix.
 pub fn slice_node<'a>(
     alloc: Global,
     known: &Extent<'a>,
@@ -290,6 +291,7 @@ pub fn slice_node<'a>(
             },
             None => cells_apart(alloc, *span, domains, indices),
         },
+        Extent::Matrix(_, _) => parts_apart(alloc, known, indices),
         _ => Err(SizeError::Memory),
     }
 }

@@ -44,7 +44,7 @@ with_unlisted own xs i none = ap (λ l. part_with l xs i) none
 -- ---- values of parts
 
 -- values of which the first one and the others are there
-defined_first : (o : Option ValueTree) (os : List (Option ValueTree)) (vs : List ValueTree) → all_defined (o ∷ os) ≡ Some vs
+pub defined_first : (o : Option ValueTree) (os : List (Option ValueTree)) (vs : List ValueTree) → all_defined (o ∷ os) ≡ Some vs
     → (u : ValueTree) × (ws : List ValueTree) × (o ≡ Some u) × (all_defined os ≡ Some ws) × (u ∷ ws ≡ vs)
 unfolding all_defined
 defined_first None os vs e = no_some e
@@ -53,7 +53,7 @@ defined_first (Some u) os vs e =
     (u, p.0, refl, p.1, p.2)
 
 -- the part with an index has its value
-part_leads : (nodes : List GroundNode) (numbers : List ℤ) (own : List ℤ) (xs : List Unrolled) (i : ℤ) (x : Unrolled) (vs : List ValueTree)
+pub part_leads : (nodes : List GroundNode) (numbers : List ℤ) (own : List ℤ) (xs : List Unrolled) (i : ℤ) (x : Unrolled) (vs : List ValueTree)
     → all_defined (worths nodes numbers xs) ≡ Some vs → part_with own xs i ≡ Some x → (w : ValueTree) × (worth nodes numbers x ≡ Some w) × (part_at own (as_parts vs) i ≡ Some w)
 unfolding part_with part_at as_parts
 part_leads nodes numbers [] xs i x vs e h = no_some h
@@ -70,7 +70,7 @@ part_leads nodes numbers (j ∷ js) (y ∷ ys) i x vs e h =
     by true u ws is below g = (u, ap (worth nodes numbers) (sym (some_is g)) ∙ is, refl)
     by false u ws is below g = below g
 
-part_misses : (nodes : List GroundNode) (numbers : List ℤ) (own : List ℤ) (xs : List Unrolled) (i : ℤ) (vs : List ValueTree)
+pub part_misses : (nodes : List GroundNode) (numbers : List ℤ) (own : List ℤ) (xs : List Unrolled) (i : ℤ) (vs : List ValueTree)
     → all_defined (worths nodes numbers xs) ≡ Some vs → part_with own xs i ≡ None → part_at own (as_parts vs) i ≡ None
 unfolding part_with part_at as_parts all_defined
 part_misses nodes numbers [] xs i vs e h = refl

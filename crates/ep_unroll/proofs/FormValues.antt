@@ -43,6 +43,10 @@ pub if_ok : {A E : Type 0} (r : Result A E) (P Q : A → Type 0) → ((x : A) �
 if_ok (Ok x) P Q f h = f x h
 if_ok (Err e) P Q f h = h
 
+pub if_both : {A E : Type 0} (r : Result A E) (P Q R : A → Type 0) → ((x : A) → P x → Q x → R x) → IfOk r P → IfOk r Q → IfOk r R
+if_both (Err e) P Q R h p q = p
+if_both (Ok x) P Q R h p q = h x p q
+
 -- the term of a part, with more nodes
 pub number_grown : (n : Numbering) (cells : Env) (nodes mid new : List GroundNode) (e : ExprTree) (t : ℕ)
     → Grows mid new → IsNumberOf n cells nodes mid e t → IsNumberOf n cells nodes new e t

@@ -1,5 +1,5 @@
 -- Parts that were unrolled keep their values while nodes are added.
-use Rattle.std.proofs.Common.{◌≡◌, ℕ, ◌<◌, ℤ, List, [], ◌∷◌, ◌++◌, length, Some, None, refl, sym, ap, subst, ◌∙◌, arith}
+use Rattle.std.proofs.Common.{◌≡◌, ℕ, zero, suc, ◌<◌, ℤ, List, [], ◌∷◌, ◌++◌, length, get_or, Some, None, refl, sym, ap, subst, ◌∙◌, arith}
 use Rattle.std.specs.Prelude.{Option, map, option_map}
 use Rattle.std.specs.declared.alloc.Global.{Global}
 use Rattle.std.specs.declared.vec.Vec.{Vec}
@@ -65,6 +65,12 @@ have_both count (x ∷ xs) ys h k = (h.0, have_both count xs ys h.1 k)
 pub have_one : (count : ℕ) (x : Unrolled) → AreTerms count x → HaveTerms count (x ∷ [])
 unfolding HaveTerms
 have_one count x h = (h, tt)
+
+pub have_at : (count : ℕ) (xs : List Unrolled) (k : ℕ) (d : Unrolled) → HaveTerms count xs → k < length xs → AreTerms count (get_or xs k d)
+unfolding HaveTerms
+have_at count [] k d h less = absurd (omega (arith, less))
+have_at count (x ∷ xs) zero d h less = h.0
+have_at count (x ∷ xs) (suc k) d h less = have_at count xs k d h.1 (omega (arith, less))
 
 -- ---- the parts of a matrix as a list
 

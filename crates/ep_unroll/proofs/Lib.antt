@@ -6,6 +6,7 @@ pub mod Counting
 pub mod CycleSteps
 pub mod EntrySteps
 pub mod FirstSteps
+pub mod FlatSteps
 pub mod FormSteps
 pub mod FormValues
 pub mod FoundReadings
@@ -13,6 +14,7 @@ pub mod FreeValues
 pub mod GroundSteps
 pub mod GrownParts
 pub mod IndexLists
+pub mod LeftSteps
 pub mod ListFormValues
 pub mod ListingDepths
 pub mod MatrixSteps
@@ -25,14 +27,14 @@ pub mod PartReadSteps
 pub mod PartSteps
 pub mod PickSteps
 pub mod PowerSteps
-pub mod SetSteps
-pub mod SlotSteps
 pub mod ProductSteps
 pub mod ReadValues
 pub mod ScalarSteps
+pub mod SetSteps
+pub mod SlotSteps
 pub mod SumValues
+pub mod SummingSteps
 pub mod TableSteps
-pub mod TermLists
 pub mod TotalSteps
 pub mod TypedReadings
 pub mod ValueSteps

@@ -1,9 +1,8 @@
 -- The scalars of matrices as terms.
 use Rattle.std.proofs.Common.{◌≡◌, ℕ, zero, suc, ◌+◌, ◌-◌, ◌*◌, ◌<◌, ◌≤◌, ℤ, pos, List, [], ◌∷◌, ◌++◌, length, Some, None, refl, sym, ap, ◌∙◌, arith, slice_get}
-use Rattle.std.specs.Prelude.{Bool, Option, ◌*ℤ◌, map, option_and_then, option_map}
+use Rattle.std.specs.Prelude.{Bool, Option, map, option_and_then, option_map}
 use Rattle.std.specs.List.{All}
-use Rattle.std.proofs.lemmas.Int.{ints}
-use Rattle.ep_base.specs.Numbers.{all_one, any_one, are_different, greatest_of, least_of, sum_of}
+use Rattle.ep_base.specs.Numbers.{all_one, any_one, are_different, greatest_of, least_of}
 use Rattle.ep_base.specs.Reads.{all_there}
 use Rattle.ep_base.specs.declared.places.Place.{Place}
 use Rattle.ep_ground.specs.Nodes as node
@@ -18,10 +17,10 @@ use Rattle.ep_tree.specs.Trees.{ExprTree, all_different, folded}
 use Rattle.ep_tree.specs.Values.{ValueTree, all_defined, as_parts, matrix, scalars_of, scalars_of_all, single}
 use Rattle.ep_tree.specs.declared.syntax.FoldOp.{FoldOp}
 use Rattle.ep_tree.specs.declared.values.Mode.{Mode}
-use Rattle.ep_unroll.proofs.FormValues.{grown_value, grows_on, there_defined}
-use Rattle.ep_unroll.proofs.SumValues.{sum_value}
+use Rattle.ep_unroll.proofs.FormValues.{grown_value, grows_on}
 use Rattle.ep_unroll.specs.Growing.{Grows, Puts}
 use Rattle.ep_unroll.specs.Meanings.{IsTermOf}
+use Rattle.ep_unroll.specs.Numbers.{HasNumber}
 use Rattle.ep_unroll.specs.Readings.{Numbering, cells_value, each_from}
 use Rattle.ep_unroll.specs.Scalars.{AreScalarsOf, cells_from}
 
@@ -170,39 +169,62 @@ some_term n cells nodes mid new p e ts t =
     list_form n cells nodes mid new e (folded p FoldOp.Or e) ts t (node.any_of ts) (λ o. truth_in Mode.Relational (option_map any_one o)) (λ o. truth (option_map any_one o))
     (λ values. evaluate-folded Mode.Relational values p FoldOp.Or e) (λ numbers value. refl) (same_truths any_one)
 
-pub least_term : (n : Numbering) (cells : Env) (nodes mid new : List GroundNode) (p : Place) (e : ExprTree) (ts : List ℕ) (t : ℕ)
-    → AreScalarsOf n cells nodes mid e ts → Puts mid new (node.least ts) t → IsTermOf n cells nodes new (folded p FoldOp.Min e) t
-unfolding node_value ground.values_of folded_value
-least_term n cells nodes mid new p e ts t =
-    list_form n cells nodes mid new e (folded p FoldOp.Min e) ts t (node.least ts) (λ o. number_value (option_and_then least_of o)) (option_and_then least_of)
-    (λ values. evaluate-folded Mode.Relational values p FoldOp.Min e) (λ numbers value. refl) (λ o. refl)
+-- ---- numbers of a list of scalars
 
-pub greatest_term : (n : Numbering) (cells : Env) (nodes mid new : List GroundNode) (p : Place) (e : ExprTree) (ts : List ℕ) (t : ℕ)
-    → AreScalarsOf n cells nodes mid e ts → Puts mid new (node.greatest ts) t → IsTermOf n cells nodes new (folded p FoldOp.Max e) t
-unfolding node_value ground.values_of folded_value
-greatest_term n cells nodes mid new p e ts t =
-    list_form n cells nodes mid new e (folded p FoldOp.Max e) ts t (node.greatest ts) (λ o. number_value (option_and_then greatest_of o)) (option_and_then greatest_of)
-    (λ values. evaluate-folded Mode.Relational values p FoldOp.Max e) (λ numbers value. refl) (λ o. refl)
+-- what a function gives of the numbers of some terms
+abbrev pub folded_of : (List ℤ → Option ℤ) → List GroundNode → List ℕ → List ℤ → Option ℤ
+folded_of f nodes ts numbers = option_and_then f (all_there (map (term_value nodes numbers) ts))
 
-ones_same : (value : ℕ → Option ℤ) (ts : List ℕ)
-    → map (λ part. option_map (λ x. part.0 *ℤ x) (value part.1)) (map {B = ℤ × ℕ} (λ t. (pos 1, t)) ts) ≡ map value ts
-ones_same value [] = refl
-ones_same value (t ∷ ts) =
-    ap (λ o. o ∷ map (λ part. option_map (λ x. part.0 *ℤ x) (value part.1)) (map {B = ℤ × ℕ} (λ u. (pos 1, u)) ts)) (once (value t))
-    ∙ ap (λ os. value t ∷ os) (ones_same value ts)
-  where
-    one_times : (x : ℤ) → pos 1 *ℤ x ≡ x
-    one_times x = omega (arith, ints)
+extreme_is : (n : Numbering) (cells : Env) (nodes mid new : List GroundNode) (p : Place) (op : FoldOp) (e : ExprTree) (ts : List ℕ) (t : ℕ) (f : List ℤ → Option ℤ)
+    → ((values : Env) → evaluate Mode.Relational values (folded p op e) ≡ number_value (option_and_then f (scalars_in (evaluate Mode.Relational values e))))
+    → AreScalarsOf n cells nodes mid e ts → HasNumber mid new (folded_of f mid ts) t → IsTermOf n cells nodes new (folded p op e) t
+extreme_is n cells nodes mid new p op e ts t f is h own = record {
+  grows = grows_on nodes mid new h.grows own.grows;
+  known = own.known;
+  value = λ r. is r.values ∙ ap (λ o. option_map single (option_and_then f o)) (sym (h.scalars r)) ∙ ap (option_map single) (sym (own.value r.numbers));
+}
 
-    once : (o : Option ℤ) → option_map (λ x. pos 1 *ℤ x) o ≡ o
-    once None = refl
-    once (Some x) = ap Some (one_times x)
-
-pub total_term : (n : Numbering) (cells : Env) (nodes mid new : List GroundNode) (p : Place) (e : ExprTree) (ts : List ℕ) (t : ℕ)
-    → AreScalarsOf n cells nodes mid e ts → Puts mid new (node.sum (pos 0) (map {B = ℤ × ℕ} (λ u. (pos 1, u)) ts)) t → IsTermOf n cells nodes new (folded p FoldOp.Sum e) t
+pub least_is : (n : Numbering) (cells : Env) (nodes mid new : List GroundNode) (p : Place) (e : ExprTree) (ts : List ℕ) (t : ℕ) → AreScalarsOf n cells nodes mid e ts
+    → HasNumber mid new (folded_of least_of mid ts) t → IsTermOf n cells nodes new (folded p FoldOp.Min e) t
 unfolding folded_value
-total_term n cells nodes mid new p e ts t =
-    list_form n cells nodes mid new e (folded p FoldOp.Sum e) ts t (node.sum (pos 0) (map {B = ℤ × ℕ} (λ u. (pos 1, u)) ts)) (λ o. number_value (option_map sum_of o)) (option_map sum_of)
-    (λ values. evaluate-folded Mode.Relational values p FoldOp.Sum e)
-    (λ numbers value. sum_value numbers value (map {B = ℤ × ℕ} (λ u. (pos 1, u)) ts) ∙ ap (λ os. option_map sum_of (all_defined os)) (ones_same value ts) ∙ ap (option_map sum_of) (sym (there_defined (map value ts))))
-    (λ o. refl)
+least_is n cells nodes mid new p e ts t =
+    extreme_is n cells nodes mid new p FoldOp.Min e ts t least_of (λ values. evaluate-folded Mode.Relational values p FoldOp.Min e)
+
+pub greatest_is : (n : Numbering) (cells : Env) (nodes mid new : List GroundNode) (p : Place) (e : ExprTree) (ts : List ℕ) (t : ℕ) → AreScalarsOf n cells nodes mid e ts
+    → HasNumber mid new (folded_of greatest_of mid ts) t → IsTermOf n cells nodes new (folded p FoldOp.Max e) t
+unfolding folded_value
+greatest_is n cells nodes mid new p e ts t =
+    extreme_is n cells nodes mid new p FoldOp.Max e ts t greatest_of (λ values. evaluate-folded Mode.Relational values p FoldOp.Max e)
+
+pub least_put : (old new : List GroundNode) (ts : List ℕ) (t : ℕ) → All (λ u. u < length old) ts → Puts old new (node.least ts) t → HasNumber old new (folded_of least_of old ts) t
+unfolding node_value ground.values_of
+least_put old new ts t known put = record {
+  grows = put.grows;
+  known = put.known;
+  value = λ numbers. put.value numbers ∙ ap (λ os. option_and_then least_of (all_there os)) (values_kept old new numbers ts put.grows known);
+}
+
+pub greatest_put : (old new : List GroundNode) (ts : List ℕ) (t : ℕ) → All (λ u. u < length old) ts → Puts old new (node.greatest ts) t → HasNumber old new (folded_of greatest_of old ts) t
+unfolding node_value ground.values_of
+greatest_put old new ts t known put = record {
+  grows = put.grows;
+  known = put.known;
+  value = λ numbers. put.value numbers ∙ ap (λ os. option_and_then greatest_of (all_there os)) (values_kept old new numbers ts put.grows known);
+}
+
+-- of no term there is no number
+pub none_least : (old new : List GroundNode) (ts : List ℕ) (t : ℕ) → ts ≡ [] → Puts old new node.undefined t → HasNumber old new (folded_of least_of old ts) t
+unfolding node_value all_there least_of
+none_least old new ts t none put = record {
+  grows = put.grows;
+  known = put.known;
+  value = λ numbers. put.value numbers ∙ sym (ap (λ us. folded_of least_of old us numbers) none);
+}
+
+pub none_greatest : (old new : List GroundNode) (ts : List ℕ) (t : ℕ) → ts ≡ [] → Puts old new node.undefined t → HasNumber old new (folded_of greatest_of old ts) t
+unfolding node_value all_there greatest_of
+none_greatest old new ts t none put = record {
+  grows = put.grows;
+  known = put.known;
+  value = λ numbers. put.value numbers ∙ sym (ap (λ us. folded_of greatest_of old us numbers) none);
+}

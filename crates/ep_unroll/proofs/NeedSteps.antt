@@ -11,17 +11,24 @@ use Rattle.ep_eval.specs.declared.held.Held.{Held}
 use Rattle.ep_ground.specs.Nodes as node
 use Rattle.ep_ground.specs.Nodes.{GroundNode}
 use Rattle.ep_ground.specs.Terms.{node_value, term_value}
-use Rattle.ep_tree.specs.Evaluation.{scalars_in}
+use Rattle.ep_tree.specs.Evaluation.{number_in, scalars_in}
 use Rattle.ep_tree.specs.Solutions.{cell_count}
 use Rattle.ep_tree.specs.Values.{ValueTree, scalars_of}
 use Rattle.ep_unroll.proofs.FormSteps.{none_known}
-use Rattle.ep_unroll.proofs.MatrixSteps.{cells_scalars}
+use Rattle.ep_unroll.proofs.FlatSteps.{flat_numbers, number_at}
+use Rattle.ep_unroll.proofs.FormValues.{grows_long, grows_on}
+use Rattle.ep_unroll.proofs.GrownParts.{have_at, terms_kept, worth_kept}
+use Rattle.ep_unroll.proofs.MatrixSteps.{cells_scalars, values_kept}
 use Rattle.ep_unroll.proofs.MeaningSteps.{grows_none}
-use Rattle.ep_unroll.specs.Growing.{Puts}
-use Rattle.ep_unroll.specs.Needs.{AreNeeded, ArePartial}
-use Rattle.ep_unroll.specs.PartLists.{AddsScalars}
+use Rattle.ep_unroll.specs.Flats.{AddsParts}
+use Rattle.ep_unroll.specs.Growing.{Grows, Puts}
+use Rattle.ep_unroll.specs.Meanings.{AreTerms, worth}
+use Rattle.ep_unroll.specs.Needs.{AreNeeded, ArePartial, ArePartialScalars}
+use Rattle.ep_unroll.specs.Numbers.{HasNumber}
+use Rattle.ep_unroll.specs.PartLists.{HaveTerms}
 use Rattle.ep_unroll.specs.Readings.{cells_value}
 use Rattle.ep_unroll.specs.Scalars.{cells_from}
+use Rattle.ep_unroll.specs.declared.unrolled.Unrolled.{Unrolled}
 
 some_mapped : {A B : Type 0} (f : A → B) (o : Option A) → is_some (option_map f o) ≡ is_some o
 some_mapped f None = refl
@@ -138,12 +145,92 @@ none_needed old new count seen us before t is empty pushed put = record {
 
 -- ---- the scalars of a matrix
 
-pub scalars_needed : (old new : List GroundNode) (count : ℕ) (ts us : List ℕ) (value : List ℤ → Option ValueTree) → AddsScalars old new [] ts (λ numbers. scalars_in (value numbers))
-    → ArePartial new count ts us → AreNeeded old new count value us
-scalars_needed old new count ts us value adds partial = record {
-  grows = adds.grows;
+-- those of some scalars so far, of which those behind a place are left
+pub record ScalarsNeeded (old mid : List GroundNode) (count : ℕ) (all : List Unrolled) (k : ℕ) (us : List ℕ) : Type 0 where
+  pub grows : Grows old mid
+  pub known : All (λ t. t < length mid) us
+  pub values : (numbers : List ℤ) → count ≤ length numbers
+      → is_some (all_there (map (term_value mid numbers) us ++ map (number_at old numbers) (drop k all))) ≡ is_some (all_there (map (number_at old numbers) all))
+
+pub needed_begin : (old : List GroundNode) (count : ℕ) (all : List Unrolled) (us : List ℕ) → us ≡ [] → ScalarsNeeded old old count all 0 us
+needed_begin old count all us none = record {
+  grows = grows_none old old refl;
+  known = subst (All (λ t. t < length old)) (sym none) (none_known (length old));
+  values = λ numbers few. ap (λ l. is_some (all_there (map (term_value old numbers) l ++ map (number_at old numbers) all))) none;
+}
+
+some_of : (o : Option ℤ) → is_some o ≡ true → (x : ℤ) × (o ≡ Some x)
+some_of None h = absurd cc
+some_of (Some x) h = (x, refl)
+
+-- a scalar that has a value is passed
+pub needed_same : (old mid new : List GroundNode) (count : ℕ) (all : List Unrolled) (k : ℕ) (x d : Unrolled) (us : List ℕ) → k < length all → x ≡ get_or all k d → Grows mid new
+    → ((numbers : List ℤ) → count ≤ length numbers → is_some (number_at old numbers x) ≡ true) → ScalarsNeeded old mid count all k us → ScalarsNeeded old new count all (k + 1) us
+needed_same old mid new count all k x d us less is g total so = record {
+  grows = grows_on old mid new so.grows g;
+  known = λ i e low. grows_long mid new _ g (so.known i e low);
+  values = λ numbers few.
+      let f : Unrolled → Option ℤ = number_at old numbers in
+      let rest : List (Option ℤ) = map f (drop (k + 1) all) in
+      let one = some_of (f x) (total numbers few) in
+      ap (λ l. is_some (all_there (l ++ rest))) (values_kept mid new numbers us g so.known)
+      ∙ sym (ap (λ l. is_some (all_there (map (term_value mid numbers) us ++ l))) (at_drop_more (map f) all k d less ∙ ap (λ y. f y ∷ rest) (sym is) ∙ ap (λ o. o ∷ rest) one.1)
+      ∙ without_one (map (term_value mid numbers) us) rest one.0)
+      ∙ so.values numbers few;
+}
+
+-- another one is put
+pub needed_more : (old mid new : List GroundNode) (count : ℕ) (all : List Unrolled) (k : ℕ) (x d : Unrolled) (t : ℕ) (us vs : List ℕ) → k < length all → x ≡ get_or all k d
+    → HasNumber mid new (λ numbers. number_at old numbers x) t → vs ≡ us ++ t ∷ [] → ScalarsNeeded old mid count all k us → ScalarsNeeded old new count all (k + 1) vs
+needed_more old mid new count all k x d t us vs less is own pushed so = record {
+  grows = grows_on old mid new so.grows own.grows;
+  known = subst (All (λ i. i < length new)) (sym pushed) (All-push (λ i. i < length new) us t (λ i e low. grows_long mid new _ own.grows (so.known i e low)) own.known);
+  values = λ numbers few.
+      let f : Unrolled → Option ℤ = number_at old numbers in
+      let rest : List (Option ℤ) = map f (drop (k + 1) all) in
+      let g : ℕ → Option ℤ = term_value new numbers in
+      ap (λ l. is_some (all_there (map g l ++ rest))) pushed
+      ∙ ap (λ l. is_some (all_there (l ++ rest))) (map-append g us (t ∷ []))
+      ∙ ap (λ l. is_some (all_there l))
+      (append_assoc (map g us) (g t ∷ []) rest
+      ∙ ap (λ l. l ++ g t ∷ rest) (values_kept mid new numbers us own.grows so.known)
+      ∙ ap (λ o. map (term_value mid numbers) us ++ o ∷ rest) (own.value numbers ∙ ap f is)
+      ∙ ap (λ l. map (term_value mid numbers) us ++ l) (sym (at_drop_more (map f) all k d less)))
+      ∙ so.values numbers few;
+}
+
+pub needed_all : (old mid : List GroundNode) (count : ℕ) (all : List Unrolled) (k : ℕ) (us : List ℕ) → length all ≤ k → ScalarsNeeded old mid count all k us → ArePartialScalars old mid count all us
+needed_all old mid count all k us h so = record {
+  grows = so.grows;
+  known = so.known;
+  values = λ numbers few.
+      let front : List (Option ℤ) = map (term_value mid numbers) us in
+      sym (ap (λ l. is_some (all_there (front ++ l))) (at_drop_all (map (number_at old numbers)) all k h) ∙ ap (λ l. is_some (all_there l)) (append-nil front))
+      ∙ so.values numbers few;
+}
+
+-- what a scalar's term says among more nodes
+pub number_among : (old mid new : List GroundNode) (x : Unrolled) (t : ℕ) → Grows old mid → AreTerms (length old) x → (AreTerms (length mid) x → HasNumber mid new (λ numbers. number_at mid numbers x) t)
+    → HasNumber mid new (λ numbers. number_at old numbers x) t
+number_among old mid new x t g known h =
+    let own = h (terms_kept old mid x g known) in
+    record { grows = own.grows; known = own.known; value = λ numbers. own.value numbers ∙ ap number_in (worth_kept old mid numbers x g known) }
+
+pub part_terms : (old : List GroundNode) (xs : List Unrolled) (k : ℕ) (x d : Unrolled) → HaveTerms (length old) xs → k < length xs → x ≡ get_or xs k d → AreTerms (length old) x
+part_terms old xs k x d have less is = subst (AreTerms (length old)) (sym is) (have_at (length old) xs k d have less)
+
+-- a scalar whose term has a value has one
+pub total_number : (old mid new : List GroundNode) (x : Unrolled) (t : ℕ) → HasNumber mid new (λ numbers. number_at old numbers x) t → (numbers : List ℤ) → IsSome (term_value new numbers t)
+    → is_some (number_at old numbers x) ≡ true
+total_number old mid new x t own numbers h = let p = some_there (term_value new numbers t) h in ap is_some (sym (own.value numbers) ∙ p.1)
+
+pub scalars_needed : (old new : List GroundNode) (count : ℕ) (x : Unrolled) (xs : List Unrolled) (us : List ℕ) → AddsParts [] xs (x ∷ []) (λ ns numbers. scalars_in (worth ns numbers x))
+    → ArePartialScalars old new count xs us → AreNeeded old new count (λ numbers. worth old numbers x) us
+scalars_needed old new count x xs us flat partial = record {
+  grows = partial.grows;
   known = partial.known;
   values = λ numbers few.
-      partial.values numbers few ∙ ap (λ l. is_some (all_there (map (term_value new numbers) l))) adds.whole
-      ∙ ap is_some (adds.values numbers) ∙ some_mapped scalars_of (value numbers);
+      partial.values numbers few
+      ∙ ap (λ l. is_some (all_there l)) (flat_numbers old numbers xs x _ flat)
+      ∙ ap is_some (flat.values old numbers) ∙ some_mapped scalars_of (worth old numbers x);
 }

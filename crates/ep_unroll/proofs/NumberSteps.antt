@@ -19,7 +19,7 @@ use Rattle.ep_unroll.specs.Growing.{Puts}
 use Rattle.ep_unroll.specs.Meanings.{AreTerms, IsNumberOf, Means, worth}
 use Rattle.ep_unroll.specs.Numbers.{HasNumber}
 use Rattle.ep_unroll.specs.Readings.{Numbering, Reading, ReadsName, cells_value}
-use Rattle.ep_unroll.specs.declared.unrolled.Unrolled.{Unrolled}
+use Rattle.ep_unroll.specs.declared.unrolled.Unrolled.{Unrolled, Number}
 
 pub constant_number : (old new : List GroundNode) (x : ℤ) (o : Option ℤ) (t : ℕ) → o ≡ Some x → Puts old new (constant x) t → HasNumber old new (λ numbers. o) t
 unfolding node_value
@@ -29,7 +29,7 @@ pub undefined_number : (old new : List GroundNode) (number : List ℤ → Option
 unfolding node_value
 undefined_number old new number t none put = record { grows = put.grows; known = put.known; value = λ numbers. put.value numbers ∙ sym (none numbers) }
 
-cell_is : (o : Option ℤ) → o ≡ number_in (option_map single o)
+pub cell_is : (o : Option ℤ) → o ≡ number_in (option_map single o)
 unfolding number_in
 cell_is None = refl
 cell_is (Some x) = refl
@@ -42,6 +42,19 @@ cell_number old new k indices t none put = record {
   known = put.known;
   value = λ numbers.
       put.value numbers ∙ cell_is (slice_get numbers k) ∙ ap (λ is. number_in (cells_value numbers is k)) (sym none);
+}
+
+-- a number that is the same
+pub has_same : (old new : List GroundNode) (number other : List ℤ → Option ℤ) (t : ℕ) → ((numbers : List ℤ) → number numbers ≡ other numbers) → HasNumber old new number t → HasNumber old new other t
+has_same old new number other t same h = record { grows = h.grows; known = h.known; value = λ numbers. h.value numbers ∙ same numbers }
+
+-- a term that was there
+pub number_kept : (nodes : List GroundNode) (t : ℕ) → AreTerms (length nodes) (Number t) → HasNumber nodes nodes (λ numbers. number_in (worth nodes numbers (Number t))) t
+unfolding worth AreTerms
+number_kept nodes t known = record {
+  grows = record { more = []; whole = sym (append-nil nodes) };
+  known = known;
+  value = λ numbers. cell_is (term_value nodes numbers t);
 }
 
 pub of_matrix : {A : Type 0} (f : A → ValueTree) (o : Option A) → ((x : A) → number_in (Some (f x)) ≡ None) → number_in (option_map f o) ≡ None

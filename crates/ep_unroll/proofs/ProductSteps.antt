@@ -1,8 +1,9 @@
--- Products of terms, from the last to the first.
-use Rattle.std.proofs.Common.{◌≡◌, ℕ, zero, suc, ◌+◌, ◌-◌, ◌<◌, ◌≤◌, ℤ, pos, List, [], ◌∷◌, length, drop, get_or, Some, None, refl, sym, ap, subst, ◌∙◌, arith}
-use Rattle.std.specs.Prelude.{Option, ◌*ℤ◌, map, option_and_then, option_map}
+-- Products of terms, from the first to the last.
+use Rattle.std.proofs.Common.{◌≡◌, ℕ, suc, ◌+◌, ◌<◌, ◌≤◌, ℤ, pos, List, [], ◌∷◌, ◌++◌, length, get_or, take, Some, None, refl, sym, ap, subst, ◌∙◌, arith}
+use Rattle.std.specs.Prelude.{Option, ◌*ℤ◌, map, option_map}
 use Rattle.std.specs.List.{All}
-use Rattle.std.proofs.lemmas.List.{drop_all, drop_more}
+use Rattle.std.proofs.lemmas.Int.{ints}
+use Rattle.std.proofs.lemmas.List.{map-append, take_all, take_more}
 use Rattle.ep_base.specs.Numbers.{product_of}
 use Rattle.ep_base.specs.Reads.{all_there}
 use Rattle.ep_base.specs.declared.places.Place.{Place}
@@ -17,7 +18,11 @@ use Rattle.ep_tree.specs.Trees.{ExprTree, folded}
 use Rattle.ep_tree.specs.Values.{single}
 use Rattle.ep_tree.specs.declared.syntax.FoldOp.{FoldOp}
 use Rattle.ep_tree.specs.declared.values.Mode.{Mode}
+use Rattle.ep_eval.proofs.Products.{times_again}
+use Rattle.ep_unroll.proofs.FormSteps.{two_known}
 use Rattle.ep_unroll.proofs.FormValues.{grown_value, grows_long, grows_on}
+use Rattle.ep_unroll.proofs.MatrixSteps.{joined, there_cut}
+use Rattle.ep_unroll.proofs.MeaningSteps.{grows_none}
 use Rattle.ep_unroll.specs.Growing.{Grows, Puts}
 use Rattle.ep_unroll.specs.Meanings.{IsTermOf}
 use Rattle.ep_unroll.specs.Numbers.{HasNumber}
@@ -28,49 +33,73 @@ use Rattle.ep_unroll.specs.Scalars.{AreScalarsOf}
 abbrev pub multiplied : List GroundNode → List ℕ → List ℤ → Option ℤ
 multiplied nodes ts numbers = option_map product_of (all_there (map (term_value nodes numbers) ts))
 
--- a term is the product of those behind a place
-abbrev pub ProductFrom : List GroundNode → List GroundNode → List ℕ → ℕ → ℕ → Type 0
-ProductFrom old new all k t = HasNumber old new (multiplied old (drop k all)) t
+-- a term is the product of one and of those before a place among others
+abbrev pub ProductTo : List GroundNode → List GroundNode → ℕ → List ℕ → ℕ → ℕ → Type 0
+ProductTo old new first others k t = HasNumber old new (multiplied old (first ∷ take k others)) t
 
-pub product_begins : (old new : List GroundNode) (all : List ℕ) (k t : ℕ) → length all ≤ k → Puts old new (node.constant (pos 1)) t → ProductFrom old new all k t
-unfolding node_value product_of all_there
-product_begins old new all k t least put = record {
-  grows = put.grows;
-  known = put.known;
-  value = λ numbers. put.value numbers ∙ ap (λ ts. multiplied old ts numbers) (sym (drop_all k all least));
+times_one : (x : ℤ) → (x *ℤ pos 1) ≡ x
+times_one x = omega (arith, ints)
+
+one_times : (x : ℤ) → (x *ℤ pos 1) ≡ (pos 1 *ℤ x)
+one_times x = omega (arith, ints)
+
+pub product_begins : (nodes : List GroundNode) (first : ℕ) (others : List ℕ) → first < length nodes → ProductTo nodes nodes first others 0 first
+unfolding product_of all_there
+product_begins nodes first others known = record {
+  grows = grows_none nodes nodes refl;
+  known = known;
+  value = λ numbers. alone (term_value nodes numbers first);
 }
-
-step : (a : Option ℤ) (os : List (Option ℤ)) → ground.on_both (λ x y. Some (x *ℤ y)) a (option_map product_of (all_there os)) ≡ option_map product_of (all_there (a ∷ os))
-unfolding ground.on_both product_of all_there
-step None os = refl
-step (Some x) os = by (all_there os)
   where
-    by : (o : Option (List ℤ)) → option_and_then (λ y. Some (x *ℤ y)) (option_map product_of o) ≡ option_map product_of (option_map (λ ns. x ∷ ns) o)
-    by None = refl
-    by (Some xs) = refl
+    alone : (o : Option ℤ) → o ≡ option_map product_of (all_there (o ∷ []))
+    alone None = refl
+    alone (Some x) = ap Some (sym (times_one x))
 
-pub product_more : (old mid new : List GroundNode) (all : List ℕ) (k j a d t u : ℕ) → k < length all → j ≡ k + 1 → a ≡ get_or all k d → a < length old → ProductFrom old mid all j t
-    → Puts mid new (node.product a t) u → ProductFrom old new all k u
+product_behind : (xs : List ℤ) (y : ℤ) → product_of (xs ++ y ∷ []) ≡ (product_of xs *ℤ y)
+unfolding product_of
+product_behind [] y = one_times y
+product_behind (x ∷ xs) y = ap (λ m. x *ℤ m) (product_behind xs y) ∙ sym (times_again x (product_of xs) y)
+
+step_of : (a : Option (List ℤ)) (o : Option ℤ) → ground.on_both (λ x y. Some (x *ℤ y)) (option_map product_of a) o ≡ option_map product_of (joined a (all_there (o ∷ [])))
+unfolding ground.on_both all_there joined
+step_of None o = refl
+step_of (Some xs) None = refl
+step_of (Some xs) (Some y) = ap Some (sym (product_behind xs y))
+
+step : (os : List (Option ℤ)) (o : Option ℤ) → ground.on_both (λ x y. Some (x *ℤ y)) (option_map product_of (all_there os)) o ≡ option_map product_of (all_there (os ++ o ∷ []))
+step os o = step_of (all_there os) o ∙ ap (option_map product_of) (sym (there_cut os (o ∷ [])))
+
+pub product_more : (old mid new : List GroundNode) (first : ℕ) (others : List ℕ) (k a d t u : ℕ) → k < length others → a ≡ get_or others k d → a < length old → ProductTo old mid first others k t
+    → Puts mid new (node.product t a) u → ProductTo old new first others (k + 1) u
 unfolding node_value
-product_more old mid new all k j a d t u less next same known so put = record {
+product_more old mid new first others k a d t u less same known so put = record {
   grows = grows_on old mid new so.grows put.grows;
   known = put.known;
   value = λ numbers.
-      let rest : List ℕ = drop (k + 1) all in
+      let so_far : List ℕ = first ∷ take k others in
       put.value numbers
-      ∙ ap (λ o. ground.on_both (λ x y. Some (x *ℤ y)) o (term_value new numbers t)) (grown_value old new numbers a (grows_on old mid new so.grows put.grows) known)
-      ∙ ap (ground.on_both (λ x y. Some (x *ℤ y)) (term_value old numbers a)) (grown_value mid new numbers t put.grows so.known ∙ so.value numbers ∙ ap (λ i. multiplied old (drop i all) numbers) next)
-      ∙ step (term_value old numbers a) (map (term_value old numbers) rest)
-      ∙ ap (λ ts. multiplied old ts numbers) (ap (λ b. b ∷ rest) same ∙ sym (drop_more all k d less));
+      ∙ ap (λ o. ground.on_both (λ x y. Some (x *ℤ y)) o (term_value new numbers a)) (grown_value mid new numbers t put.grows so.known ∙ so.value numbers)
+      ∙ ap (ground.on_both (λ x y. Some (x *ℤ y)) (multiplied old so_far numbers)) (grown_value old new numbers a (grows_on old mid new so.grows put.grows) known)
+      ∙ step (map (term_value old numbers) so_far) (term_value old numbers a)
+      ∙ ap (λ os. option_map product_of (all_there os)) (sym (map-append (term_value old numbers) so_far (a ∷ [])))
+      ∙ ap (λ ts. multiplied old (first ∷ ts) numbers) (ap (λ b. take k others ++ b ∷ []) same ∙ sym (take_more others k d less));
 }
 
-pub product_parts : (old mid : List GroundNode) (all : List ℕ) (a t j : ℕ) → a < length old → ProductFrom old mid all j t → All (λ part. part < length mid) (a ∷ t ∷ [])
-product_parts old mid all a t j known so k d less = by k less
-  where
-    by : (i : ℕ) → i < 2 → get_or (a ∷ t ∷ []) i d < length mid
-    by zero h = grows_long old mid a so.grows known
-    by (suc zero) h = so.known
-    by (suc (suc i)) h = absurd (omega (arith, h))
+pub product_all : (old new : List GroundNode) (first : ℕ) (others : List ℕ) (k t : ℕ) → length others ≤ k → ProductTo old new first others k t → HasNumber old new (multiplied old (first ∷ others)) t
+product_all old new first others k t least so = subst (λ ts. HasNumber old new (multiplied old (first ∷ ts)) t) (take_all k others least) so
+
+pub product_parts : (old mid : List GroundNode) (first : ℕ) (others : List ℕ) (k a t : ℕ) → a < length old → ProductTo old mid first others k t → All (λ part. part < length mid) (t ∷ a ∷ [])
+product_parts old mid first others k a t known so = two_known t a (length mid) so.known (grows_long old mid a so.grows known)
+
+pub product_none : (old new : List GroundNode) (t : ℕ) → Puts old new (node.constant (pos 1)) t → HasNumber old new (multiplied old []) t
+unfolding node_value product_of all_there
+product_none old new t put = record { grows = put.grows; known = put.known; value = λ numbers. put.value numbers }
+
+pub first_known : (n : ℕ) (ts : List ℕ) (t : ℕ) (us : List ℕ) → ts ≡ t ∷ us → All (λ u. u < n) ts → t < n
+first_known n ts t us cut h = subst (All (λ u. u < n)) cut h 0 t (omega arith)
+
+pub others_known : (n : ℕ) (ts : List ℕ) (t : ℕ) (us : List ℕ) → ts ≡ t ∷ us → All (λ u. u < n) ts → All (λ u. u < n) us
+others_known n ts t us cut h k d less = subst (All (λ u. u < n)) cut h (suc k) d (omega (arith, less))
 
 pub product_is : (n : Numbering) (cells : Env) (nodes mid new : List GroundNode) (p : Place) (e : ExprTree) (ts : List ℕ) (t : ℕ) → AreScalarsOf n cells nodes mid e ts
     → HasNumber mid new (multiplied mid ts) t → IsTermOf n cells nodes new (folded p FoldOp.Product e) t

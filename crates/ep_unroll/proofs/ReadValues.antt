@@ -1,5 +1,5 @@
 -- The value of a read, by the numbers among which it chooses.
-use Rattle.std.proofs.Common.{◌≡◌, ℕ, ◌≤◌, ℤ, Bool, true, false, List, length, Some, None, refl, sym, ap, subst, ◌∙◌}
+use Rattle.std.proofs.Common.{◌≡◌, ℕ, ◌≤◌, ℤ, Bool, true, false, List, [], ◌∷◌, length, map, Some, None, refl, sym, ap, subst, ◌∙◌}
 use Rattle.std.specs.Prelude.{Option, is_some, option_and_then, option_map}
 use Rattle.ep_base.specs.Numbers.{is_one, of_bool}
 use Rattle.ep_base.specs.Reads.{all_there}
@@ -7,9 +7,10 @@ use Rattle.ep_base.specs.declared.places.Place.{Place}
 use Rattle.ep_ground.specs.Nodes.{GroundNode}
 use Rattle.ep_ground.specs.Terms.{truth}
 use Rattle.ep_tree.specs.Environments.{Env}
-use Rattle.ep_tree.specs.Evaluation.{evaluate, read_result, type_in}
+use Rattle.ep_tree.proofs.EvaluationEquations.{evaluate-read}
+use Rattle.ep_tree.specs.Evaluation.{evaluate, index_list, on_both, read_result, type_in}
 use Rattle.ep_tree.specs.Trees.{ExprTree, read}
-use Rattle.ep_tree.specs.Values.{ValueTree, read_value, single}
+use Rattle.ep_tree.specs.Values.{Index, ValueTree, all_defined, read_value, single}
 use Rattle.ep_tree.specs.Views.{indices_of}
 use Rattle.ep_tree.specs.declared.syntax.Expr.{Expr}
 use Rattle.ep_tree.specs.declared.values.Mode.{Mode}
@@ -18,13 +19,15 @@ use Rattle.ep_unroll.proofs.FormValues.{grows_on}
 use Rattle.ep_unroll.proofs.FreeValues.{type_kept}
 use Rattle.ep_unroll.proofs.GrownParts.{terms_kept, worth_kept}
 use Rattle.ep_unroll.proofs.MatrixSteps.{values_kept}
-use Rattle.ep_unroll.proofs.SlotSteps.{all_some, read_is}
+use Rattle.ep_unroll.proofs.SlotSteps.{all_some, indices_listed, read_is}
 use Rattle.ep_unroll.proofs.TypedReadings.{truth_is}
+use Rattle.ep_unroll.specs.Blocks.{one_index}
 use Rattle.ep_unroll.specs.Growing.{Grows}
+use Rattle.ep_unroll.specs.Lefts.{IsLeft, LeftMeans}
 use Rattle.ep_unroll.specs.Meanings.{AreTerms, Means, worth}
 use Rattle.ep_unroll.specs.Needs.{AreNeeded}
 use Rattle.ep_unroll.specs.PartReads.{IsChosen, IsTruth, chosen_among, found_among, numbers_at, only_where}
-use Rattle.ep_unroll.specs.Picks.{AreEntries, AreSlotsOf, filled_in, look_up, open_terms}
+use Rattle.ep_unroll.specs.Picks.{AreEntries, AreSlotsOf, filled_in, look_up, open_terms, slot_index}
 use Rattle.ep_unroll.specs.Readings.{Numbering, Reading}
 use Rattle.ep_unroll.specs.declared.slots.Slot.{Slot}
 use Rattle.ep_unroll.specs.declared.unrolled.Unrolled.{Unrolled, Number}
@@ -144,4 +147,47 @@ means_grown n env old mid new e x g h = record {
   grows = grows_on old mid new h.grows g;
   known = terms_kept mid new x g h.known;
   value = λ r. worth_kept mid new r.numbers x g h.known ∙ h.value r;
+}
+
+-- ---- a read that leaves a matrix
+
+all_defined_are : {A : Type 0} (xs : List A) → all_defined (map Some xs) ≡ Some xs
+unfolding all_defined
+all_defined_are [] = refl
+all_defined_are (x ∷ xs) = ap (option_map (λ ys. x ∷ ys)) (all_defined_are xs)
+
+-- what is left of what has a value, whatever numbers the cells have
+pub left_means : (n : Numbering) (env : Env) (nodes mid new : List GroundNode) (m : ExprTree) (indices : List (Option Expr)) (known x : Unrolled) (ss : List Slot) (is : List Index) (count : ℕ) (others : List ℕ)
+    → n.count ≡ count → Means n env nodes mid m known → AreSlotsOf n env nodes mid indices ss → AreNeeded mid new count (λ numbers. worth mid numbers known) others → others ≡ []
+    → ((ns : List GroundNode) (numbers : List ℤ) → map (slot_index ns numbers) ss ≡ map Some is) → IsLeft (λ ns numbers. worth ns numbers known) is x → ((k : ℕ) → AreTerms k known → AreTerms k x)
+    → LeftMeans n env nodes new m indices x
+unfolding all_there
+left_means n env nodes mid new m indices known x ss is count others counted meant slots needed none decided left has = record {
+  grows = grows_on nodes mid new meant.grows needed.grows;
+  known = has (length new) (terms_kept mid new known needed.grows meant.known);
+  value = λ r.
+      let enough : count ≤ length r.numbers = subst (λ k. k ≤ length r.numbers) counted r.reads.long in
+      let v = some_true (worth mid r.numbers known) (sym (needed.values r.numbers enough) ∙ ap (λ l. is_some (numbers_at new r.numbers l)) none) in
+      left new r.numbers v.0 (worth_kept mid new r.numbers known needed.grows meant.known ∙ v.1)
+      ∙ sym
+      (ap (option_and_then (λ js. option_and_then (read_value js) (evaluate Mode.Relational r.values m))) (ap all_defined (sym (slots.values r) ∙ decided mid r.numbers) ∙ all_defined_are is)
+      ∙ ap (option_and_then (read_value is)) (sym (meant.value r) ∙ v.1));
+}
+
+pub left_read : (n : Numbering) (env : Env) (nodes new : List GroundNode) (p : Place) (m e : ExprTree) (indices : List (Option Expr)) (ty : ValueType) (x : Unrolled) → LeftMeans n env nodes new m indices x
+    → e ≡ read p m (indices_of indices) → ty ≡ type_in env e → ((o : Option ValueTree) → read_result Mode.Relational ty o ≡ o) → Means n env nodes new e x
+unfolding on_both
+left_read n env nodes new p m e indices ty x left tree typed plain = record {
+  grows = left.grows;
+  known = left.known;
+  value = λ r.
+      let value : Option ValueTree = evaluate Mode.Relational r.values m in
+      let read : Option ValueTree = option_and_then (λ js. option_and_then (read_value js) value) (all_defined (map (one_index r.values) indices)) in
+      left.value r
+      ∙ sym
+      (ap (evaluate Mode.Relational r.values) tree ∙ evaluate-read Mode.Relational r.values p m (indices_of indices)
+      ∙ ap (λ t. read_result Mode.Relational t (on_both (index_list Mode.Relational r.values (indices_of indices)) value read_value))
+      (ap (type_in r.values) (sym tree) ∙ sym (typed ∙ type_kept env r.values e r.reads.agree))
+      ∙ ap (λ o. read_result Mode.Relational ty (on_both o value read_value)) (indices_listed r.values indices)
+      ∙ plain read);
 }

@@ -85,17 +85,17 @@ pub record ScalarsSoFar (old mid : List GroundNode) (before now : List ℕ) (all
   pub known : All (λ t. t < length mid) more
   pub values : (numbers : List ℤ) → joined (all_there (map (term_value mid numbers) more)) (left numbers) ≡ all numbers
 
-joined_none : (o : Option (List ℤ)) → joined (Some []) o ≡ o
+pub joined_none : (o : Option (List ℤ)) → joined (Some []) o ≡ o
 unfolding joined
 joined_none None = refl
 joined_none (Some xs) = refl
 
-joined_all : (o : Option (List ℤ)) → joined o (Some []) ≡ o
+pub joined_all : (o : Option (List ℤ)) → joined o (Some []) ≡ o
 unfolding joined
 joined_all None = refl
 joined_all (Some xs) = ap Some (append-nil xs)
 
-joined_regrouped : (a b c : Option (List ℤ)) → joined (joined a b) c ≡ joined a (joined b c)
+pub joined_regrouped : (a b c : Option (List ℤ)) → joined (joined a b) c ≡ joined a (joined b c)
 unfolding joined
 joined_regrouped None b c = refl
 joined_regrouped (Some x) None c = refl

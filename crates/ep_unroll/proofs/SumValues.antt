@@ -29,7 +29,7 @@ use Rattle.ep_unroll.specs.Readings.{Numbering, Reading}
 use Rattle.ep_unroll.specs.Signed.{AreSigned}
 
 -- a sum is the sum of its parts, each multiplied by its coefficient
-weighed_sum : (value : ℕ → Option ℤ) (ps : List (ℤ × ℕ))
+pub weighed_sum : (value : ℕ → Option ℤ) (ps : List (ℤ × ℕ))
     → option_map weighted_sum (weighed value ps) ≡ option_map sum_of (all_there (map (λ part. option_map (λ x. part.0 *ℤ x) (value part.1)) ps))
 unfolding weighed weighted_sum all_there sum_of ground.on_both
 weighed_sum value [] = refl
@@ -140,7 +140,7 @@ exists_is n cells nodes mid new p q name rest ns ts t is =
     (λ vs. truths_same any_one (all_numbers vs) ∙ ap (λ o. option_map single (ground_truth (option_map any_one o))) (sym (there_defined (map number_in vs))))
     (λ numbers value. refl)
 
-ones_same : (value : ℕ → Option ℤ) (ts : List ℕ)
+pub ones_same : (value : ℕ → Option ℤ) (ts : List ℕ)
     → map (λ part. option_map (λ x. part.0 *ℤ x) (value part.1)) (map {B = ℤ × ℕ} (λ t. (pos 1, t)) ts) ≡ map value ts
 ones_same value [] = refl
 ones_same value (t ∷ ts) =

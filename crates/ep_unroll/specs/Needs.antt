@@ -4,8 +4,11 @@ use Rattle.std.specs.List.{All}
 use Rattle.ep_base.specs.Reads.{all_there}
 use Rattle.ep_ground.specs.Nodes.{GroundNode}
 use Rattle.ep_ground.specs.Terms.{term_value}
+use Rattle.ep_tree.specs.Evaluation.{number_in}
 use Rattle.ep_tree.specs.Values.{ValueTree}
 use Rattle.ep_unroll.specs.Growing.{Grows}
+use Rattle.ep_unroll.specs.Meanings.{worth}
+use Rattle.ep_unroll.specs.declared.unrolled.Unrolled.{Unrolled}
 
 -- Terms have numbers exactly where a value is there, wherever so many cells have numbers.
 pub record AreNeeded (old new : List GroundNode) (count : ℕ) (value : List ℤ → Option ValueTree) (us : List ℕ) : Type 0 where
@@ -18,3 +21,10 @@ pub record ArePartial (nodes : List GroundNode) (count : ℕ) (ts us : List ℕ)
   pub known : All (λ t. t < length nodes) us
   pub values : (numbers : List ℤ) → count ≤ length numbers
       → is_some (all_there (map (term_value nodes numbers) us)) ≡ is_some (all_there (map (term_value nodes numbers) ts))
+
+-- Terms have numbers exactly where all of these scalars have, wherever so many cells have numbers.
+pub record ArePartialScalars (old new : List GroundNode) (count : ℕ) (xs : List Unrolled) (us : List ℕ) : Type 0 where
+  pub grows : Grows old new
+  pub known : All (λ t. t < length new) us
+  pub values : (numbers : List ℤ) → count ≤ length numbers
+      → is_some (all_there (map (term_value new numbers) us)) ≡ is_some (all_there (map (λ x. number_in (worth old numbers x)) xs))

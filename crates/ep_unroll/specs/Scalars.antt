@@ -6,7 +6,7 @@ use Rattle.ep_ground.specs.Nodes.{GroundNode}
 use Rattle.ep_ground.specs.Terms.{term_value}
 use Rattle.ep_tree.specs.Environments.{Env}
 use Rattle.ep_tree.specs.Evaluation.{evaluate, scalars_in}
-use Rattle.ep_tree.specs.Trees.{ExprTree, all_different, folded}
+use Rattle.ep_tree.specs.Trees.{ExprTree}
 use Rattle.ep_tree.specs.declared.values.Mode.{Mode}
 use Rattle.ep_unroll.specs.Growing.{Grows}
 use Rattle.ep_unroll.specs.Readings.{Numbering, Reading}
@@ -21,9 +21,3 @@ pub record AreScalarsOf (n : Numbering) (cells : Env) (old new : List GroundNode
   pub grows : Grows old new
   pub known : All (λ t. t < length new) ts
   pub scalars : (r : Reading n cells) → all_there (map (term_value new r.numbers) ts) ≡ scalars_in (evaluate Mode.Relational r.values e)
-
--- the matrix of which a form has the scalars
-unfoldable pub matrix_part : ExprTree → Option ExprTree
-matrix_part (all_different _ m) = Some m
-matrix_part (folded _ _ m) = Some m
-matrix_part _ = None

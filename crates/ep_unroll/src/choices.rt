@@ -20,12 +20,13 @@ ghost use Rattle.ep_unroll.specs.Readings.{Numbering, Reading};
 
 use super::entries::known_entries;
 use super::firsts::CellTable;
-use super::forms::is_total;
 use super::growing::put;
+use super::lefts::left_matrix;
 use super::needs::needed_terms;
 use super::picks::{Entries, one_entry, push_terms};
-use super::reads::{finish_read, is_truth};
+use super::reads::{finish_read, is_matrix, is_truth};
 use super::slots::{Slot, open_terms};
+use super::totals::is_total;
 use super::unrolled::Unrolled;
 use ep_base::{Key, Memory};
 use ep_eval::{Scope, type_within};
@@ -222,13 +223,13 @@ fn chosen_truth(
     truth_of(alloc, arena, term)
 }
 
-/// A read, of what was unrolled, with these indices. Where it leaves a matrix it ends as want of memory.
+/// A read, of what was unrolled, with these indices.
 fn chosen<'a>(
     scope: Scope<'_, 'a>,
     table: &CellTable,
     arena: &mut Arena,
     e: &Expr,
-    known: &Unrolled<'_>,
+    known: &Unrolled<'a>,
     slots: &[Slot],
 ) -> Result<Unrolled<'a>, Memory>
     requires known { AreTerms (length arena.old) known.now }
@@ -239,6 +240,9 @@ fn chosen<'a>(
         → IfOk result (Means (numbering_of table.now) (env_in scope.entry) nodes arena.new (expr_tree e.now)) }
 {
     let ty = type_within(scope, e)?;
+    if is_matrix(ty) {
+        return left_matrix(scope.alloc, arena, table.count, known, slots);
+    }
     let others = needed_terms(scope.alloc, arena, table.count, known)?;
     let entries = known_entries(scope.alloc, arena, known, slots)?;
     let indices = open_terms(scope.alloc, slots)?;
@@ -267,7 +271,7 @@ pub fn read_with<'a>(
     table: &CellTable,
     arena: &mut Arena,
     e: &Expr,
-    known: Unrolled<'_>,
+    known: Unrolled<'a>,
     slots: Option<Vec<Slot>>,
 ) -> Result<Unrolled<'a>, Memory>
     requires known { AreTerms (length arena.old) known }

@@ -78,7 +78,11 @@ fn seen_entries(
 }
 
 /// The part with an index, if there is one. Linear in the parts.
-fn part_with<'p, 'a>(own: &[i64], parts: &'p [Unrolled<'a>], index: i64) -> Option<&'p Unrolled<'a>>
+pub fn part_with<'p, 'a>(
+    own: &[i64],
+    parts: &'p [Unrolled<'a>],
+    index: i64,
+) -> Option<&'p Unrolled<'a>>
     ensures { option_map (λ part. part.now) result ≡ defined.part_with own.now parts.now index }
 {
     let count = parts.len();

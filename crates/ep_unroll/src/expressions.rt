@@ -30,7 +30,7 @@ use super::flattening::flattened;
 use super::forms::{finish_all, finish_one, finish_two};
 use super::list_forms::{at_least_term, at_most_term, counts_term, lex_term, table_term};
 use super::literals::made_matrix;
-use super::matrices::finish_matrix;
+use super::matrices::{different_term, folded_term};
 use super::members::member_term;
 use super::named::named_cells;
 use super::numbers::{number_term, taken_term};
@@ -501,8 +501,8 @@ fn matrix_unrolled<'a>(
             comprehension_matrix(scope, domain, parts)
         }
         Kind::Flatten(part) => {
-            let terms = scalars_of(scope, table, arena, part)?;
-            flattened(scope.alloc, terms)
+            let known = unrolled(scope, table, arena, part)?;
+            flattened(scope.alloc, known)
         }
         // No other kind comes here.
         _ => Err(Memory),
@@ -671,11 +671,11 @@ fn with_matrix(
     match kind {
         Kind::AllDiff(part) => {
             let terms = scalars_of(scope, table, arena, part)?;
-            finish_matrix(scope.alloc, arena, kind, terms)
+            different_term(arena, terms)
         }
-        Kind::Fold(_, part) => {
-            let terms = scalars_of(scope, table, arena, part)?;
-            finish_matrix(scope.alloc, arena, kind, terms)
+        Kind::Fold(op, part) => {
+            let known = unrolled(scope, table, arena, part)?;
+            folded_term(scope.alloc, arena, *op, known)
         }
         // No other kind comes here.
         _ => Err(Memory),

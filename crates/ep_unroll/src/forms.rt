@@ -1,11 +1,9 @@
 //! The nodes of forms whose parts are numbers.
 
-ghost use Rattle.std.specs.Prelude.{◌≡◌, ◌<◌, ◌≤◌, true, ℕ, IsSome, List, Option, [], ◌∷◌, ℤ, pos, negsuc, IfOk, Some, length};
+ghost use Rattle.std.specs.Prelude.{◌≡◌, ◌<◌, List, [], ◌∷◌, pos, negsuc, IfOk, Some, length};
 ghost use Rattle.std.specs.List.{All};
 ghost use Rattle.ep_base.specs.declared.places.Place.{Place};
 ghost use Rattle.ep_ground.specs.Nodes.{GroundNode, sum};
-ghost use Rattle.ep_ground.specs.NodeViews.{plain_node};
-ghost use Rattle.ep_ground.specs.Terms.{node_value, term_value};
 ghost use Rattle.ep_tree.specs.Environments as names;
 ghost use Rattle.ep_tree.specs.Trees.{ExprTree, ExprTrees, binary};
 ghost use Rattle.ep_tree.specs.Views.{kind_tree};
@@ -18,6 +16,7 @@ ghost use Rattle.ep_unroll.specs.Readings.{Numbering};
 
 use super::growing::put;
 use super::powers::power_term;
+use super::totals::is_total;
 use ep_base::{CompareOp, Memory};
 use ep_ground::{Arena, Node, Term};
 use ep_tree::{BinaryOp, Kind};
@@ -65,38 +64,6 @@ pub fn finish_one(alloc: Global, arena: &mut Arena, kind: &Kind, part: Term) -> 
         // No other kind comes here.
         _ => Err(Memory),
     }
-}
-
-/// Whether a node has a value whatever numbers the cells and its parts have.
-fn is_total_node(node: &Node, count: u64) -> bool
-    ensures { result ≡ true → (numbers : List ℤ) → (value : ℕ → Option ℤ) → count ≤ length numbers → IsSome (node_value numbers value (plain_node node.now)) }
-{
-    match node {
-        Node::Const(_) => true,
-        Node::Cell(cell) => *cell < count,
-        Node::Compare(_, _, _) => true,
-        Node::Member(_, _) => true,
-        Node::Not(_) => true,
-        Node::And(_) => true,
-        Node::Or(_) => true,
-        Node::Iff(_, _) => true,
-        Node::AllDiff(_) => true,
-        Node::Lex(_, _, _) => true,
-        Node::Gcc(_, _, _) => true,
-        Node::AtLeast(_, _, _) => true,
-        Node::AtMost(_, _, _) => true,
-        Node::Table(_, _) => true,
-        _ => false,
-    }
-}
-
-/// Whether a term has a value whatever numbers the cells have.
-pub fn is_total(arena: &Arena, count: u64, term: Term) -> bool
-    requires { term < length arena.now }
-    ensures { result ≡ true → (numbers : List ℤ) → count ≤ length numbers → IsSome (term_value arena.now numbers term) }
-{
-    let _size = arena.len();
-    is_total_node(arena.node(term), count)
 }
 
 /// `one -> other` of two numbers that have values.

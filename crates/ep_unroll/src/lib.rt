@@ -15,6 +15,7 @@ mod fixed_lists;
 mod flattening;
 mod forms;
 mod growing;
+mod lefts;
 mod list_forms;
 mod listing;
 mod literals;
@@ -31,7 +32,9 @@ mod reads;
 mod scalars;
 mod sets;
 mod slots;
+mod summing;
 mod sums;
+mod totals;
 mod unrolled;
 mod unrolling;
 

@@ -1,61 +1,107 @@
 //! Forms of the scalars of a matrix.
 
-ghost use Rattle.std.specs.Prelude.{◌≡◌, ◌<◌, List, IfOk, Some, length};
+ghost use Rattle.std.specs.Prelude.{◌≡◌, ◌<◌, ℤ, List, IfOk, length, map, option_and_then};
 ghost use Rattle.std.specs.List.{All};
+ghost use Rattle.ep_base.specs.Numbers.{greatest_of, least_of};
+ghost use Rattle.ep_base.specs.Reads.{all_there};
 ghost use Rattle.ep_base.specs.declared.places.Place.{Place};
 ghost use Rattle.ep_ground.specs.Nodes.{GroundNode};
+ghost use Rattle.ep_ground.specs.Terms.{term_value};
 ghost use Rattle.ep_tree.specs.Environments as names;
-ghost use Rattle.ep_tree.specs.Trees.{ExprTree, folded};
-ghost use Rattle.ep_tree.specs.Views.{kind_tree};
-ghost use Rattle.ep_unroll.specs.Meanings.{IsTermOf};
+ghost use Rattle.ep_tree.specs.Trees.{ExprTree, all_different, folded};
+ghost use Rattle.ep_unroll.specs.Meanings.{AreTerms, IsTermOf, Means};
+ghost use Rattle.ep_unroll.specs.Numbers.{HasNumber};
 ghost use Rattle.ep_unroll.specs.Readings.{Numbering};
-ghost use Rattle.ep_unroll.specs.Scalars.{AreScalarsOf, matrix_part};
+ghost use Rattle.ep_unroll.specs.Scalars.{AreScalarsOf};
 
+use super::choices::is_none;
 use super::growing::put;
 use super::products::product_of_all;
-use super::quantifiers::sum_term;
+use super::scalars::scalar_terms;
+use super::summing::sum_of_all;
+use super::unrolled::Unrolled;
 use ep_base::Memory;
 use ep_ground::{Arena, Node, Term};
-use ep_tree::{FoldOp, Kind};
+use ep_tree::FoldOp;
 use std::alloc::Global;
 
-/// A matrix of these terms folded into one.
-fn finish_fold(
+/// The least of terms; of none there is no number.
+fn least_of_all(arena: &mut Arena, terms: Vec<Term>) -> Result<Term, Memory>
+    requires { All (λ t. t < length arena.old) terms.items }
+    ensures { IfOk result (HasNumber arena.old arena.new (λ numbers. option_and_then least_of (all_there (map (term_value arena.old numbers) terms.items)))) }
+{
+    if is_none(&terms) {
+        return put(arena, Node::Undefined);
+    }
+    put(arena, Node::Min(terms))
+}
+
+/// The greatest of terms; of none there is no number.
+fn greatest_of_all(arena: &mut Arena, terms: Vec<Term>) -> Result<Term, Memory>
+    requires { All (λ t. t < length arena.old) terms.items }
+    ensures { IfOk result (HasNumber arena.old arena.new (λ numbers. option_and_then greatest_of (all_there (map (term_value arena.old numbers) terms.items)))) }
+{
+    if is_none(&terms) {
+        return put(arena, Node::Undefined);
+    }
+    put(arena, Node::Max(terms))
+}
+
+/// The scalars of what was unrolled folded into one number.
+fn fold_of(
     alloc: Global,
     arena: &mut Arena,
     op: FoldOp,
-    terms: Vec<Term>,
+    known: &Unrolled<'_>,
 ) -> Result<Term, Memory>
-    requires { All (λ t. t < length arena.old) terms.items }
+    requires { AreTerms (length arena.old) known.now }
     ensures { (n : Numbering) → (cells : names.Env) → (nodes : List GroundNode) → (p : Place) → (e : ExprTree)
-        → AreScalarsOf n cells nodes arena.old e terms.items → IfOk result (IsTermOf n cells nodes arena.new (folded p op e)) }
+        → Means n cells nodes arena.old e known.now → IfOk result (IsTermOf n cells nodes arena.new (folded p op e)) }
 {
     match op {
-        FoldOp::Sum => sum_term(alloc, arena, terms),
-        FoldOp::Product => product_of_all(arena, terms),
-        FoldOp::And => put(arena, Node::And(terms)),
-        FoldOp::Or => put(arena, Node::Or(terms)),
-        FoldOp::Min => put(arena, Node::Min(terms)),
-        FoldOp::Max => put(arena, Node::Max(terms)),
+        FoldOp::Sum => sum_of_all(alloc, arena, known),
+        FoldOp::Product => {
+            let terms = scalar_terms(alloc, arena, known)?;
+            product_of_all(arena, terms)
+        }
+        FoldOp::And => {
+            let terms = scalar_terms(alloc, arena, known)?;
+            put(arena, Node::And(terms))
+        }
+        FoldOp::Or => {
+            let terms = scalar_terms(alloc, arena, known)?;
+            put(arena, Node::Or(terms))
+        }
+        FoldOp::Min => {
+            let terms = scalar_terms(alloc, arena, known)?;
+            least_of_all(arena, terms)
+        }
+        FoldOp::Max => {
+            let terms = scalar_terms(alloc, arena, known)?;
+            greatest_of_all(arena, terms)
+        }
     }
 }
 
-/// A form of a matrix whose scalars have these terms.
-pub fn finish_matrix(
+/// The same of what isn't used any more.
+pub fn folded_term(
     alloc: Global,
     arena: &mut Arena,
-    kind: &Kind,
-    terms: Vec<Term>,
+    op: FoldOp,
+    known: Unrolled<'_>,
 ) -> Result<Term, Memory>
+    requires { AreTerms (length arena.old) known }
+    ensures { (n : Numbering) → (cells : names.Env) → (nodes : List GroundNode) → (p : Place) → (e : ExprTree)
+        → Means n cells nodes arena.old e known.entry → IfOk result (IsTermOf n cells nodes arena.new (folded p op e)) }
+{
+    fold_of(alloc, arena, op, &known)
+}
+
+/// Whether the scalars of a matrix that these terms have are all different.
+pub fn different_term(arena: &mut Arena, terms: Vec<Term>) -> Result<Term, Memory>
     requires { All (λ t. t < length arena.old) terms.items }
     ensures { (n : Numbering) → (cells : names.Env) → (nodes : List GroundNode) → (p : Place) → (e : ExprTree)
-        → matrix_part (kind_tree p kind.now) ≡ Some e → AreScalarsOf n cells nodes arena.old e terms.items
-        → IfOk result (IsTermOf n cells nodes arena.new (kind_tree p kind.now)) }
+        → AreScalarsOf n cells nodes arena.old e terms.items → IfOk result (IsTermOf n cells nodes arena.new (all_different p e)) }
 {
-    match kind {
-        Kind::AllDiff(_) => put(arena, Node::AllDiff(terms)),
-        Kind::Fold(op, _) => finish_fold(alloc, arena, *op, terms),
-        // No other kind comes here.
-        _ => Err(Memory),
-    }
+    put(arena, Node::AllDiff(terms))
 }

@@ -1,21 +1,24 @@
 //! What has to have a value so that a matrix has one.
 
-ghost use Rattle.std.specs.Prelude.{◌≡◌, ◌+◌, ◌<◌, ◌≤◌, true, List, IfOk, length};
+ghost use Rattle.std.specs.Prelude.{◌≡◌, ◌+◌, ◌<◌, ◌≤◌, true, ℤ, List, IfOk, is_some, length};
 ghost use Rattle.std.specs.List.{All};
 ghost use Rattle.ep_eval.specs.Helds.{seen_held};
 ghost use Rattle.ep_ground.specs.Nodes.{GroundNode};
+ghost use Rattle.ep_tree.specs.Evaluation.{number_in};
 ghost use Rattle.ep_tree.specs.Solutions.{cell_count};
 ghost use Rattle.ep_unroll.specs.Meanings.{AreTerms, worth};
-ghost use Rattle.ep_unroll.specs.Needs.{AreNeeded, ArePartial};
+ghost use Rattle.ep_unroll.specs.Needs.{AreNeeded, ArePartial, ArePartialScalars};
+ghost use Rattle.ep_unroll.specs.PartLists.{HaveTerms};
 ghost use Rattle.ep_unroll.specs.Readings.{cells_value};
 
 use super::blocks::cells_over;
-use super::forms::is_total;
+use super::flattening::flat_scalars;
 use super::growing::put;
-use super::scalars::scalar_terms;
+use super::numbers::scalar_term;
+use super::totals::is_total;
 use super::unrolled::Unrolled;
 use ep_base::{Memory, Runs};
-use ep_eval::Held;
+use ep_eval::{Held, number_of};
 use ep_ground::{Arena, Node, Term};
 use std::alloc::Global;
 
@@ -81,6 +84,40 @@ fn seen_needs(
     }
 }
 
+/// Whether a scalar is a number without decision variables.
+fn is_number(part: &Unrolled<'_>) -> bool
+    ensures { result ≡ true → (nodes : List GroundNode) → (numbers : List ℤ) → is_some (number_in (worth nodes numbers part.now)) ≡ true }
+{
+    match part {
+        Unrolled::Fixed(seen) => number_of(seen).is_some(),
+        _ => false,
+    }
+}
+
+/// Those of some scalars that may lack a value, as terms. A number costs no node.
+fn partial_scalars(
+    alloc: Global,
+    arena: &mut Arena,
+    count: u64,
+    parts: &[Unrolled<'_>],
+) -> Result<Vec<Term>, Memory>
+    requires { HaveTerms (length arena.old) parts.now }
+    ensures { IfOk result (λ us. ArePartialScalars arena.old arena.new count parts.now us.items) }
+{
+    let mut partial = Vec::new(alloc);
+    for part in parts {
+        if is_number(part) {
+            continue;
+        }
+        let term = scalar_term(arena, part)?;
+        if is_total(arena, count, term) {
+            continue;
+        }
+        partial.push(term)?;
+    }
+    Ok(partial)
+}
+
 /// What a matrix needs that was unrolled: its scalars that may lack a value.
 fn scalars_need(
     alloc: Global,
@@ -91,8 +128,8 @@ fn scalars_need(
     requires { AreTerms (length arena.old) known.now }
     ensures { IfOk result (λ us. AreNeeded arena.old arena.new count (λ numbers. worth arena.old numbers known.now) us.items) }
 {
-    let all = scalar_terms(alloc, arena, known)?;
-    partial_terms(alloc, arena, count, &all)
+    let all = flat_scalars(alloc, known)?;
+    partial_scalars(alloc, arena, count, &all)
 }
 
 /// The terms that have values exactly where what was unrolled has one.

@@ -1,11 +1,11 @@
 //! The term of a number.
 
-ghost use Rattle.std.specs.Prelude.{List, IfOk};
+ghost use Rattle.std.specs.Prelude.{List, IfOk, length};
 ghost use Rattle.ep_ground.specs.Nodes.{GroundNode};
 ghost use Rattle.ep_tree.specs.Environments as names;
 ghost use Rattle.ep_tree.specs.Evaluation.{number_in};
 ghost use Rattle.ep_tree.specs.Trees.{ExprTree};
-ghost use Rattle.ep_unroll.specs.Meanings.{IsNumberOf, Means};
+ghost use Rattle.ep_unroll.specs.Meanings.{AreTerms, IsNumberOf, Means, worth};
 ghost use Rattle.ep_unroll.specs.Numbers.{HasNumber};
 ghost use Rattle.ep_unroll.specs.Readings.{Numbering, cells_value};
 
@@ -36,9 +36,9 @@ fn cell_term(arena: &mut Arena, first: u64, indices: &[Runs]) -> Result<Term, Me
 }
 
 /// The term of the number that was unrolled; of a matrix, what has no value.
-pub fn number_term(arena: &mut Arena, known: &Unrolled) -> Result<Term, Memory>
-    ensures { (n : Numbering) → (cells : names.Env) → (nodes : List GroundNode) → (e : ExprTree)
-        → Means n cells nodes arena.old e known.now → IfOk result (IsNumberOf n cells nodes arena.new e) }
+pub fn scalar_term(arena: &mut Arena, known: &Unrolled) -> Result<Term, Memory>
+    ensures { IfOk result (λ t. AreTerms (length arena.old) known.now
+        → HasNumber arena.old arena.new (λ numbers. number_in (worth arena.old numbers known.now)) t) }
 {
     match known {
         Unrolled::Number(term) => Ok(*term),
@@ -46,6 +46,14 @@ pub fn number_term(arena: &mut Arena, known: &Unrolled) -> Result<Term, Memory>
         Unrolled::Fixed(seen) => number_or_undefined(arena, number_of(seen)),
         Unrolled::Matrix(_, _) => number_or_undefined(arena, None),
     }
+}
+
+/// The same of what an expression was unrolled to.
+pub fn number_term(arena: &mut Arena, known: &Unrolled) -> Result<Term, Memory>
+    ensures { (n : Numbering) → (cells : names.Env) → (nodes : List GroundNode) → (e : ExprTree)
+        → Means n cells nodes arena.old e known.now → IfOk result (IsNumberOf n cells nodes arena.new e) }
+{
+    scalar_term(arena, known)
 }
 
 /// The same of what isn't used any more.

@@ -67,7 +67,7 @@ fn fixed_indices(
 
 /// What indices leave of a block of cells. Where `..` stands, all parts are left.
 #[cycle(reading)]
-fn block_left<'a>(
+pub fn block_left<'a>(
     alloc: Global,
     block: Block<'a>,
     indices: &[Option<i64>],
@@ -199,6 +199,18 @@ pub fn is_truth(ty: ValueType) -> bool
         ValueType::Int => false,
         ValueType::Matrix { .. } => false,
         ValueType::Empty => false,
+    }
+}
+
+/// Whether a type is that of matrices.
+pub fn is_matrix(ty: ValueType) -> bool
+    ensures { result ≡ true → (o : Option ValueTree) → read_result EachMode.Relational ty o ≡ o }
+{
+    match ty {
+        ValueType::Bool => false,
+        ValueType::Int => false,
+        ValueType::Matrix { .. } => true,
+        ValueType::Empty => true,
     }
 }
 

@@ -37,3 +37,11 @@ returns-in-None c mode env p m is t holds known told typed =
     (sym c.is_matrix_type-of_matrix.ensures ∙ c.if-not-of_matrix.false) plain
     (cells_are mode env m c.args.known.now s ds ds.now c.in-Cells.is refl known)
     (if_ok c.cells_apart.result _ _ c.cells_apart.ensures.listed (λ x h. h plain)) c.cells_apart.ensures.none c.cells_apart.ensures.memory
+
+pub returns-in-Matrix : goal.returns-in-Matrix
+returns-in-Matrix c mode env p m is t holds known told typed =
+    let ms = map measured_of c.args.indices.now in
+    let plain = sym c.one_decided-decided.ensures ∙ c.if-decided.false in
+    apart_finishes mode env p m is ms c.args.ty (grid_of c.args.known.now) t c.parts_apart.result holds told typed
+    (sym c.is_matrix_type-of_matrix.ensures ∙ c.if-not-of_matrix.false) plain known.extent
+    (if_ok c.parts_apart.result _ _ c.parts_apart.ensures.listed (λ x h. h plain)) c.parts_apart.ensures.none c.parts_apart.ensures.memory

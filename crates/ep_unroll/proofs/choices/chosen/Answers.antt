@@ -2,15 +2,27 @@ use Rattle.std.proofs.Common.{length, refl, subst, sym, ◌<◌, ◌∙◌}
 use Rattle.std.specs.List.{All}
 use Rattle.ep_eval.specs.Scopes.{env_in}
 use Rattle.ep_tree.specs.Views.{expr_tree}
-use Rattle.ep_unroll.proofs.FormValues.{grows_long, grows_on}
+use Rattle.ep_unroll.proofs.FormValues.{grows_long, grows_on, if_ok}
 use Rattle.ep_unroll.proofs.GrownParts.{terms_kept}
-use Rattle.ep_unroll.proofs.ReadValues.{Choice, chosen_means, truth_means}
+use Rattle.ep_unroll.proofs.ReadValues.{Choice, chosen_means, left_read, truth_means}
 use Rattle.ep_unroll.proofs.SlotSteps.{opens_known}
 use Rattle.ep_unroll.specs.Firsts.{numbering_of}
 use Rattle.ep_unroll.proofs.choices.chosen.Goals as goal
 
 pub needed_terms-requires : goal.needed_terms-requires
 needed_terms-requires c = c.requires.known
+
+pub left_matrix-requires : goal.left_matrix-requires
+left_matrix-requires c = c.requires.known
+
+pub returns-then-is_matrix : goal.returns-then-is_matrix
+returns-then-is_matrix c nodes p m indices tree known slots =
+    let n = numbering_of c.args.table.now in
+    let env = env_in c.args.scope in
+    let new = c.left_matrix.new.arena in
+    let e = expr_tree c.args.e.now in
+    if_ok c.left_matrix.result _ _ (λ x h. left_read n env nodes new p m e indices c.in_ok-ty.ty x h tree c.in_ok-ty.ensures (c.is_matrix.ensures c.if-is_matrix.true))
+    (c.left_matrix.ensures n env nodes m indices refl known slots)
 
 pub chosen_truth-requires : goal.chosen_truth-requires
 chosen_truth-requires c =

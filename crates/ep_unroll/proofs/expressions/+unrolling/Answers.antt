@@ -46,7 +46,7 @@ use Rattle.ep_unroll.proofs.ScalarSteps.{scalars_from, scalars_grown}
 use Rattle.ep_unroll.specs.PartLists.{Lists, parts_at, parts_in, parts_of, ranging_over}
 use Rattle.ep_unroll.proofs.GrownParts.{terms_kept}
 use Rattle.ep_unroll.proofs.ReadValues.{means_grown}
-use Rattle.ep_unroll.specs.Scalars.{AreScalarsOf, matrix_part}
+use Rattle.ep_unroll.specs.Scalars.{AreScalarsOf}
 use Rattle.std.specs.List.{All}
 use Rattle.ep_unroll.specs.declared.comprehensions.Listing.{Listing}
 use Rattle.ep_unroll.specs.declared.unrolled.Unrolled.{Unrolled}
@@ -505,29 +505,31 @@ scalars_of-taken_scalars-requires t c = c.in_ok-known.ensures.known
 pub scalars_of-returns : goal.scalars_of-returns
 scalars_of-returns t c = c.taken_scalars.ensures (numbering_of c.args.table.now) (env_in c.args.scope) c.args.arena.now (expr_tree c.args.e.now) c.in_ok-known.ensures
 
-pub with_matrix-finish_matrix-requires : goal.with_matrix-finish_matrix-requires
-with_matrix-finish_matrix-requires t c = c.in_ok-terms-in-AllDiff.ensures.known
+pub with_matrix-different_term-requires : goal.with_matrix-different_term-requires
+with_matrix-different_term-requires t c = c.in_ok-terms-in-AllDiff.ensures.known
 
 pub with_matrix-returns-in_ok-terms-in-AllDiff : goal.with_matrix-returns-in_ok-terms-in-AllDiff
-unfolding matrix_part
 with_matrix-returns-in_ok-terms-in-AllDiff t c p =
     let n = numbering_of c.args.table.now in
     let env = env_in c.args.scope in
+    let old = c.args.arena.now in
+    let new = c.different_term.new.arena in
     let e = expr_tree c.deref.result.now in
     let is : kind_tree p c.args.kind.now ≡ all_different p e = ap (kind_tree p) c.in-AllDiff.is ∙ kind_tree-all_different p c.in-AllDiff.part ∙ ap (λ x. all_different p (expr_tree x)) (sym c.deref.ensures) in
-    c.finish_matrix.ensures n env c.args.arena.now p e (ap matrix_part is) c.in_ok-terms-in-AllDiff.ensures
+    if_ok c.different_term.result _ _ (λ u own. subst (λ tree. IsTermOf n env old new tree u) (sym is) own) (c.different_term.ensures n env old p e c.in_ok-terms-in-AllDiff.ensures)
 
-pub with_matrix-finish_matrix-requires-in-Fold : goal.with_matrix-finish_matrix-requires-in-Fold
-with_matrix-finish_matrix-requires-in-Fold t c = c.in_ok-terms-in-Fold.ensures.known
+pub with_matrix-folded_term-requires : goal.with_matrix-folded_term-requires
+with_matrix-folded_term-requires t c = c.in_ok-known-in-Fold.ensures.known
 
-pub with_matrix-returns-in_ok-terms-in-Fold : goal.with_matrix-returns-in_ok-terms-in-Fold
-unfolding matrix_part
-with_matrix-returns-in_ok-terms-in-Fold t c p =
+pub with_matrix-returns-in_ok-known-in-Fold : goal.with_matrix-returns-in_ok-known-in-Fold
+with_matrix-returns-in_ok-known-in-Fold t c p =
     let n = numbering_of c.args.table.now in
     let env = env_in c.args.scope in
+    let old = c.args.arena.now in
+    let new = c.folded_term.new.arena in
     let e = expr_tree c.deref-in-Fold.result.now in
-    let is : kind_tree p c.args.kind.now ≡ folded p c.in-Fold.field-0 e = ap (kind_tree p) c.in-Fold.is ∙ kind_tree-folded p c.in-Fold.field-0 c.in-Fold.part ∙ ap (λ x. folded p c.in-Fold.field-0 (expr_tree x)) (sym c.deref-in-Fold.ensures) in
-    c.finish_matrix-in-Fold.ensures n env c.args.arena.now p e (ap matrix_part is) c.in_ok-terms-in-Fold.ensures
+    let is : kind_tree p c.args.kind.now ≡ folded p c.in-Fold.op e = ap (kind_tree p) c.in-Fold.is ∙ kind_tree-folded p c.in-Fold.op c.in-Fold.part ∙ ap (λ x. folded p c.in-Fold.op (expr_tree x)) (sym c.deref-in-Fold.ensures) in
+    if_ok c.folded_term.result _ _ (λ u own. subst (λ tree. IsTermOf n env old new tree u) (sym is) own) (c.folded_term.ensures n env old p e c.in_ok-known-in-Fold.ensures)
 
 pub matrix_unrolled-returns-in_ok-own-in-Literal : goal.matrix_unrolled-returns-in_ok-own-in-Literal
 matrix_unrolled-returns-in_ok-own-in-Literal t c p =
@@ -741,15 +743,15 @@ with_part-returns t c =
     lists_lost n env c.args.arena.now (parts_in c.args.parts) None (part_value Mode.Relational (expr_tree l.body.now) (expr_trees l.conditions.now)) refl
     (λ r. ap (λ o. part_where o (evaluate Mode.Relational r.values (expr_tree l.body.now))) (c.in_ok-truth.ensures n r ∙ c.in-None.is))
 
-pub matrix_unrolled-returns-in_ok-terms-in-Flatten : goal.matrix_unrolled-returns-in_ok-terms-in-Flatten
-matrix_unrolled-returns-in_ok-terms-in-Flatten t c p =
+pub matrix_unrolled-returns-in_ok-known-in-Flatten : goal.matrix_unrolled-returns-in_ok-known-in-Flatten
+matrix_unrolled-returns-in_ok-known-in-Flatten t c p =
     let n = numbering_of c.args.table.now in
     let env = env_in c.args.scope in
     let old = c.args.arena.now in
-    let new = c.scalars_of.new.arena in
+    let new = c.unrolled.new.arena in
     let e = expr_tree c.deref-in-Flatten.result.now in
     let is : kind_tree p c.args.kind.now ≡ flatten p e = ap (kind_tree p) c.in-Flatten.is ∙ kind_tree-flatten p c.in-Flatten.part ∙ ap (λ x. flatten p (expr_tree x)) (sym c.deref-in-Flatten.ensures) in
-    if_ok c.flattened.result _ _ (λ x h. subst (λ y. Means n env old new y x) (sym is) h) (c.flattened.ensures n env old new p e c.in_ok-terms-in-Flatten.ensures)
+    if_ok c.flattened.result _ _ (λ x h. subst (λ y. Means n env old new y x) (sym is) h) (c.flattened.ensures n env old new p e c.in_ok-known-in-Flatten.ensures)
 
 pub with_matrices-lex_term-requires : goal.with_matrices-lex_term-requires
 with_matrices-lex_term-requires t c = record {

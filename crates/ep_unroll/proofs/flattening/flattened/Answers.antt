@@ -1,11 +1,9 @@
-use Rattle.std.proofs.Common.{◌<◌, length, sym, subst}
-use Rattle.std.specs.List.{All}
+use Rattle.std.proofs.Common.{length}
+use Rattle.ep_unroll.proofs.FlatSteps.{flatten_is}
 use Rattle.ep_unroll.proofs.PartListSteps.{if_both}
-use Rattle.ep_unroll.proofs.TermLists.{flatten_means}
-use Rattle.ep_unroll.specs.Scalars.{AreScalarsOf}
 use Rattle.ep_unroll.proofs.flattening.flattened.Goals as goal
 
 pub returns : goal.returns
 returns c n cells nodes new p e h =
-    let own : AreScalarsOf n cells nodes new e c.deref.result.now = subst (AreScalarsOf n cells nodes new e) (sym c.deref.ensures.value) h in
-    if_both c.list_of.result _ _ _ (λ x value terms. flatten_means n cells nodes new p e c.deref.result.now x own (value new) (terms (length new) own.known)) c.list_of.ensures.value c.list_of.ensures.terms
+    if_both c.list_of.result _ _ _
+    (λ y value terms. flatten_is n cells nodes new p e c.args.known y c.in_ok-parts.parts.items h c.in_ok-parts.ensures (value new) (terms (length new))) c.list_of.ensures.value c.list_of.ensures.terms

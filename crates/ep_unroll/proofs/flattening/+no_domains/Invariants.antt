@@ -1,0 +1,5 @@
+use Rattle.std.proofs.Common.{length}
+use Rattle.ep_unroll.proofs.flattening.+no_domains.Given as goal
+
+abbrev pub decreases-no_domains : goal.decreases-no_domains
+decreases-no_domains l = length l.domains.now

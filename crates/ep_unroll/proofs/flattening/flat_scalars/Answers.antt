@@ -1,0 +1,10 @@
+use Rattle.std.proofs.Common.{subst, ◌∷◌, []}
+use Rattle.ep_tree.specs.Evaluation.{scalars_in}
+use Rattle.ep_unroll.specs.Flats.{AddsParts}
+use Rattle.ep_unroll.specs.Meanings.{worth}
+use Rattle.ep_unroll.proofs.flattening.flat_scalars.Goals as goal
+
+pub returns : goal.returns
+returns c =
+    subst (λ before. AddsParts before c.push_scalars.new.parts.items (c.args.known.now ∷ []) (λ nodes numbers. scalars_in (worth nodes numbers c.args.known.now))) c.new-parts.ensures.items
+    c.in_ok-push_scalars.ensures

@@ -1,0 +1,6 @@
+use Rattle.std.proofs.Common.{drop}
+use Rattle.ep_unroll.proofs.LeftSteps.{OpenedSoFar}
+use Rattle.ep_unroll.proofs.lefts.+opened_value.Given as goal
+
+abbrev pub invariant-loop-part : goal.invariant-loop-part
+invariant-loop-part l = OpenedSoFar l.part-items (drop l.part-index l.part-items) l.inner.items

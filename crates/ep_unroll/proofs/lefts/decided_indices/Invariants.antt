@@ -1,0 +1,8 @@
+use Rattle.std.proofs.Common.{◌≡◌, ℤ, List, Some, map, take}
+use Rattle.ep_ground.specs.Nodes.{GroundNode}
+use Rattle.ep_unroll.specs.Blocks.{indices_in}
+use Rattle.ep_unroll.specs.Picks.{slot_index}
+use Rattle.ep_unroll.proofs.lefts.decided_indices.Given as goal
+
+abbrev pub invariant-loop-slot : goal.invariant-loop-slot
+invariant-loop-slot l = (nodes : List GroundNode) → (numbers : List ℤ) → map (slot_index nodes numbers) (take l.slot-index l.slots) ≡ map Some (indices_in l.indices.items)

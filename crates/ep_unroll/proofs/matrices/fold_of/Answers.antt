@@ -1,0 +1,82 @@
+use Rattle.std.proofs.Common.{subst, sym}
+use Rattle.ep_ground.specs.Nodes.{parts_of}
+use Rattle.ep_tree.specs.Evaluation.{scalars_in}
+use Rattle.ep_tree.specs.Trees.{folded}
+use Rattle.ep_unroll.proofs.FormValues.{if_ok}
+use Rattle.ep_unroll.proofs.MatrixSteps.{every_term, greatest_is, least_is, some_term}
+use Rattle.ep_unroll.proofs.ProductSteps.{product_is}
+use Rattle.ep_unroll.proofs.ScalarSteps.{adds_known, scalars_are}
+use Rattle.ep_unroll.specs.Meanings.{IsTermOf, worth}
+use Rattle.ep_unroll.proofs.matrices.fold_of.Goals as goal
+
+pub sum_of_all-requires : goal.sum_of_all-requires
+sum_of_all-requires c = c.requires
+
+pub scalar_terms-requires : goal.scalar_terms-requires
+scalar_terms-requires c = c.requires
+
+pub returns-in-Sum : goal.returns-in-Sum
+returns-in-Sum c n cells nodes p e h =
+    if_ok c.sum_of_all.result _ _ (λ t own. subst (λ op. IsTermOf n cells nodes c.sum_of_all.new.arena (folded p op e) t) (sym c.in-Sum.is) own) (c.sum_of_all.ensures n cells nodes p e h)
+
+pub product_of_all-requires : goal.product_of_all-requires
+product_of_all-requires c = adds_known c.args.arena.now c.scalar_terms.new.arena c.in_ok-terms-in-Product.terms.items (λ numbers. scalars_in (worth c.args.arena.now numbers c.args.known.now)) c.in_ok-terms-in-Product.ensures
+
+pub returns-in_ok-terms-in-Product : goal.returns-in_ok-terms-in-Product
+returns-in_ok-terms-in-Product c n cells nodes p e h =
+    let mid = c.scalar_terms.new.arena in
+    let new = c.product_of_all.new.arena in
+    let ts = c.in_ok-terms-in-Product.terms.items in
+    if_ok c.product_of_all.result _ _
+    (λ t own. subst (λ op. IsTermOf n cells nodes new (folded p op e) t) (sym c.in-Product.is)
+    (product_is n cells nodes mid new p e ts t (scalars_are n cells nodes c.args.arena.now mid e c.args.known.now ts h c.in_ok-terms-in-Product.ensures) own)) c.product_of_all.ensures
+
+pub put-requires : goal.put-requires
+unfolding parts_of
+put-requires c = adds_known c.args.arena.now c.scalar_terms-in-And.new.arena c.in_ok-terms-in-And.terms.items (λ numbers. scalars_in (worth c.args.arena.now numbers c.args.known.now)) c.in_ok-terms-in-And.ensures
+
+pub returns-in_ok-terms-in-And : goal.returns-in_ok-terms-in-And
+returns-in_ok-terms-in-And c n cells nodes p e h =
+    let mid = c.scalar_terms-in-And.new.arena in
+    let new = c.put.new.arena in
+    let ts = c.in_ok-terms-in-And.terms.items in
+    if_ok c.put.result _ _
+    (λ t own. subst (λ op. IsTermOf n cells nodes new (folded p op e) t) (sym c.in-And.is)
+    (every_term n cells nodes mid new p e ts t (scalars_are n cells nodes c.args.arena.now mid e c.args.known.now ts h c.in_ok-terms-in-And.ensures) own)) c.put.ensures
+
+pub put-requires-in-Or : goal.put-requires-in-Or
+unfolding parts_of
+put-requires-in-Or c = adds_known c.args.arena.now c.scalar_terms-in-Or.new.arena c.in_ok-terms-in-Or.terms.items (λ numbers. scalars_in (worth c.args.arena.now numbers c.args.known.now)) c.in_ok-terms-in-Or.ensures
+
+pub returns-in_ok-terms-in-Or : goal.returns-in_ok-terms-in-Or
+returns-in_ok-terms-in-Or c n cells nodes p e h =
+    let mid = c.scalar_terms-in-Or.new.arena in
+    let new = c.put-in-Or.new.arena in
+    let ts = c.in_ok-terms-in-Or.terms.items in
+    if_ok c.put-in-Or.result _ _
+    (λ t own. subst (λ op. IsTermOf n cells nodes new (folded p op e) t) (sym c.in-Or.is)
+    (some_term n cells nodes mid new p e ts t (scalars_are n cells nodes c.args.arena.now mid e c.args.known.now ts h c.in_ok-terms-in-Or.ensures) own)) c.put-in-Or.ensures
+
+pub least_of_all-requires : goal.least_of_all-requires
+least_of_all-requires c = adds_known c.args.arena.now c.scalar_terms-in-Min.new.arena c.in_ok-terms-in-Min.terms.items (λ numbers. scalars_in (worth c.args.arena.now numbers c.args.known.now)) c.in_ok-terms-in-Min.ensures
+
+pub returns-in_ok-terms-in-Min : goal.returns-in_ok-terms-in-Min
+returns-in_ok-terms-in-Min c n cells nodes p e h =
+    let mid = c.scalar_terms-in-Min.new.arena in
+    let new = c.least_of_all.new.arena in
+    let ts = c.in_ok-terms-in-Min.terms.items in
+    if_ok c.least_of_all.result _ _
+    (λ t own. subst (λ op. IsTermOf n cells nodes new (folded p op e) t) (sym c.in-Min.is)
+    (least_is n cells nodes mid new p e ts t (scalars_are n cells nodes c.args.arena.now mid e c.args.known.now ts h c.in_ok-terms-in-Min.ensures) own)) c.least_of_all.ensures
+
+pub greatest_of_all-requires : goal.greatest_of_all-requires
+greatest_of_all-requires c = adds_known c.args.arena.now c.scalar_terms-in-Max.new.arena c.in_ok-terms-in-Max.terms.items (λ numbers. scalars_in (worth c.args.arena.now numbers c.args.known.now)) c.in_ok-terms-in-Max.ensures
+
+pub returns-in_ok-terms-in-Max : goal.returns-in_ok-terms-in-Max
+returns-in_ok-terms-in-Max c n cells nodes p e h =
+    let mid = c.scalar_terms-in-Max.new.arena in
+    let new = c.greatest_of_all.new.arena in
+    let ts = c.in_ok-terms-in-Max.terms.items in
+    if_ok c.greatest_of_all.result _ _
+    (λ t own. subst (λ op. IsTermOf n cells nodes new (folded p op e) t) (sym c.in-Max.is)
+    (greatest_is n cells nodes mid new p e ts t (scalars_are n cells nodes c.args.arena.now mid e c.args.known.now ts h c.in_ok-terms-in-Max.ensures) own)) c.greatest_of_all.ensures
