@@ -4,6 +4,7 @@ use Rattle.std.proofs.lemmas.List.Elements.{Contains-append_right}
 use Rattle.std.proofs.lemmas.Slice.Eq.{bytes_eq-Decides}
 use Rattle.cnf_core.specs.Events.{LogState}
 use Rattle.ep_base.specs.Outside.{Held}
+use Rattle.ep_solve.specs.Right.{empty_log}
 use Rattle.ep_print.specs.declared.refusals.Refusal.{Refusal}
 use Rattle.ep_print.specs.declared.refusals.TextFile.{TextFile}
 use Rattle.ep_tree.specs.Statements.{TextTree}
@@ -66,11 +67,18 @@ faulty-next : (reads : Reads) (next : TextTree → Held → Outcome Task → Typ
 faulty-next reads next t None r was h = (h.0, tt)
 faulty-next reads next t (Some held) r was h = (h.0, (h.1.0, inl (t, was, h.1.1), h.1.2))
 
+-- a task comes out of what follows, and so of the whole
+asked-next : (reads : Reads) (next : TextTree → Held → Outcome Task → Type 0) (t : TextTree) (told : Option Held) → IfSome told (λ held. reads held (Ok t)) → IfSome told (λ held. (task : Task) × next t held (Ok task))
+    → IfSome told (λ held. (task : Task) × ThenShows (reads held) (λ m. next m held) (Ok task))
+asked-next reads next t None was h = tt
+asked-next reads next t (Some held) was h = (h.0, inl (t, was, h.1))
+
 told-next : (names more : List (List ℕ)) (reads : Reads) (next : TextTree → Held → Outcome Task → Type 0) → Stable reads → (t : TextTree) (told : Option Held) (rose rose-now : Type 0) (log : LogState) (result : Result Reply Stop) → (rose-now → rose) → IfSome told (λ held. reads held (Ok t)) → TellsTask more (next t) told rose-now log result → TellsTask (names ++ more) (λ held. ThenShows (reads held) (λ m. next m held)) told rose log result
 told-next names more reads next stable t None rose rose-now log (Ok reply) rises was h = tt
 told-next names more reads next stable t (Some held) rose rose-now log (Ok reply) rises was h =
     (h.0, inl (t, was, h.1), h.2)
-told-next names more reads next stable t told rose rose-now log (Err Stop.Memory) rises was h = tt
+told-next names more reads next stable t told rose rose-now log (Err Stop.Memory) rises was h =
+    elim h [ inl nothing ↦ inl nothing | inr asked ↦ inr (asked-next reads next t told was asked) ]
 told-next names more reads next stable t told rose rose-now log (Err (Stop.Refused r)) rises was h =
     elim h [
       | inl failed ↦ inl (failed-next names more reads next stable t told rose rose-now r rises was failed)
@@ -110,9 +118,9 @@ unread-file file name more next told rose log r h =
       | inr faulty ↦ inr (faulty.0, faulty-told file name next told r faulty.1)
     ]
 
-pub unread : {V : Type 0} (view : V → TextTree) (file : TextFile) (name : List ℕ) (more : List (List ℕ)) (next : TextTree → Held → Outcome Task → Type 0) (told : Option Held) (rose : Type 0) (log : LogState) (stop : Stop) → TellsRead view told file name rose (Err stop) → TellsTask (name ∷ more) (λ held. ThenShows (IsReadAs held file name) (λ m. next m held)) told rose log (Err stop)
-unread view file name more next told rose log Stop.Memory h = tt
-unread view file name more next told rose log (Stop.Refused r) h = unread-file file name more next told rose log r h
+pub unread : {V : Type 0} (view : V → TextTree) (file : TextFile) (name : List ℕ) (more : List (List ℕ)) (next : TextTree → Held → Outcome Task → Type 0) (told : Option Held) (rose : Type 0) (log : LogState) (stop : Stop) → log ≡ empty_log → TellsRead view told file name rose (Err stop) → TellsTask (name ∷ more) (λ held. ThenShows (IsReadAs held file name) (λ m. next m held)) told rose log (Err stop)
+unread view file name more next told rose log Stop.Memory nothing h = inl nothing
+unread view file name more next told rose log (Stop.Refused r) nothing h = unread-file file name more next told rose log r h
 
 unread-named : (params : Option (List ℕ)) (name : List ℕ) (more : List (List ℕ)) (next : TextTree → Held → Outcome Task → Type 0) (told : Option Held) (rose : Type 0) (log : LogState) (r : Refusal) → params ≡ Some name → IsUnread told TextFile.Params name rose r → TellsTask (option_to_list params ++ more) (λ held. ThenShows (AreParams held params) (λ m. next m held)) told rose log (Err (Stop.Refused r))
 unread-named None name more next told rose log r e h = absurd cc
@@ -121,17 +129,21 @@ unread-named (Some other) name more next told rose log r e h =
     let same : name ≡ other = cc in
     unread-file TextFile.Params other more next told rose log r (subst P same h)
 
-pub unread-params : (params : Option (List ℕ)) (more : List (List ℕ)) (next : TextTree → Held → Outcome Task → Type 0) (told : Option Held) (rose : Type 0) (log : LogState) (stop : Stop) → TellsParams told params rose (Err stop) → TellsTask (option_to_list params ++ more) (λ held. ThenShows (AreParams held params) (λ m. next m held)) told rose log (Err stop)
-unread-params params more next told rose log Stop.Memory h = tt
-unread-params params more next told rose log (Stop.Refused r) h =
+pub unread-params : (params : Option (List ℕ)) (more : List (List ℕ)) (next : TextTree → Held → Outcome Task → Type 0) (told : Option Held) (rose : Type 0) (log : LogState) (stop : Stop) → log ≡ empty_log → TellsParams told params rose (Err stop) → TellsTask (option_to_list params ++ more) (λ held. ThenShows (AreParams held params) (λ m. next m held)) told rose log (Err stop)
+unread-params params more next told rose log Stop.Memory nothing h = inl nothing
+unread-params params more next told rose log (Stop.Refused r) nothing h =
     unread-named params h.0 more next told rose log r h.1 h.2
 
 -- ---- over trees alone
+
+asked-over : (o : Outcome Task) (told : Option Held) → (task : Task) × (o ≡ Ok task) → IfSome told (λ held. (task : Task) × (Ok task ≡ o))
+asked-over o None h = tt
+asked-over o (Some held) h = (h.0, sym h.1)
 
 -- what a reply over trees tells, it tells over held files
 pub over-trees : (o : Outcome Task) (told : Option Held) (rose : Type 0) (log : LogState) (result : Result Reply Stop) → TellsReply o log result → TellsTask [] (λ held outcome. outcome ≡ o) told rose log result
 over-trees o None rose log (Ok reply) h = tt
 over-trees o (Some held) rose log (Ok reply) h = (h.0, sym h.1, h.2)
-over-trees o told rose log (Err Stop.Memory) h = tt
+over-trees o told rose log (Err Stop.Memory) h = elim h [ inl nothing ↦ inl nothing | inr asked ↦ inr (asked-over o told asked) ]
 over-trees o None rose log (Err (Stop.Refused r)) h = inr (h.0, tt)
 over-trees o (Some held) rose log (Err (Stop.Refused r)) h = inr (h.0, (h.1.0, sym h.1.1, h.1.2))

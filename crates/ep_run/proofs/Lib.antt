@@ -10,9 +10,4 @@ mod Tasks
 mod Saying
 mod Promises
 mod Once
-mod RunNumbers
-mod Numbering
-mod Searching
-mod Capping
-mod MakingSteps
 mod Running

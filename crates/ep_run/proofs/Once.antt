@@ -16,6 +16,7 @@ use Rattle.ep_run.specs.Puts.{HoldOnWant}
 use Rattle.ep_run.specs.Readings.{AreParams, IsHeldReadAs, IsReadAs, spells_in, tree_or_refusal}
 use Rattle.ep_run.specs.Shown.{Ask, ComesTo, Refuse, Show, ThenShows, comes_to_judge, comes_to_search, comes_to_verify}
 use Rattle.ep_run.specs.Status.{HasReply, status_of}
+use Rattle.ep_run.specs.Steps.{OrUnlogged}
 use Rattle.ep_run.specs.declared.status.Status.{Status}
 use Rattle.ep_run.specs.declared.wanted.Wanted.{Wanted}
 use Rattle.ep_run.proofs.Promises.{ended-status, usage-told}
@@ -165,3 +166,8 @@ unwritten-on-want words (Some held) after rose once h = λ refusals show.
       | inl kept ↦ kept
       | inr failed ↦ let e = once held (Ok failed.1.2.0) (Err refusals) failed.1.2.1 show in absurd cc
     ]
+
+pub unlogged-on-want : (words : List (List ℕ)) (told : Option Held) (log : LogState) → ShownOnce words → OrUnlogged log (IfSome told (λ held. (task : Task) × Ask words held task)) → IfSome told (λ held. (refusals : List Refusal) → Show words held (Err refusals) → log ≡ empty_log)
+unlogged-on-want words None log once h = tt
+unlogged-on-want words (Some held) log once h = λ refusals show.
+    elim h [ inl nothing ↦ nothing | inr asked ↦ let e = once held (Ok asked.0) (Err refusals) asked.1 show in absurd cc ]

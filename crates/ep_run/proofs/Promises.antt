@@ -3,7 +3,6 @@ use Rattle.std.proofs.Common.{◌≡◌, ◌≢◌, ℕ, ◌⊎◌, List, [], �
 use Rattle.std.proofs.lemmas.List.{take_all}
 use Rattle.std.proofs.lemmas.Slice.Eq.{bytes_eq-Decides}
 use Rattle.cnf_core.specs.Events.{LogState}
-use Rattle.sat_search.specs.Logs.{IsSound}
 use Rattle.ep_solve.specs.Right.{IsSpent, empty_log}
 use Rattle.ep_base.specs.Outside.{Held, SameElsewhere, TookPart, with_bytes, with_more}
 use Rattle.ep_print.specs.Refusals.{refusal_text}
@@ -20,7 +19,7 @@ use Rattle.ep_run.specs.declared.status.Status.{Status}
 use Rattle.ep_run.specs.declared.wanted.Request.{Request}
 use Rattle.ep_run.specs.declared.wanted.Wanted.{Wanted}
 use Rattle.ep_run.proofs.Refusing.{contains-first}
-use Rattle.ep_run.proofs.Saying.{Case, answer, end-sound, faulty, no_command, nothing-sound, unread, unwritten}
+use Rattle.ep_run.proofs.Saying.{Case, answer, faulty, no_command, unread, unwritten}
 
 -- ---- kinds of ends, so that different ones are told apart
 
@@ -192,14 +191,6 @@ when-unknown words told after rose status text log (unread name s t nothing kept
 when-unknown words told after rose status text log (unwritten name s t sound failed) h = apart status 0 3 (ap kind h) (ap kind s) (λ e. cc)
 
 -- ---- the log
-
--- whatever is said, each step of the log is sound
-pub when-sound : (words : List (List ℕ)) (told after : Option Held) (rose : Type 0) (status : Status) (text : List ℕ) (log : LogState) → Case words told after rose status text log → IsSound log.events
-when-sound words told after rose status text log (no_command s t nothing kept none) = nothing-sound log nothing
-when-sound words told after rose status text log (answer wanted want ends shown put) = end-sound wanted status log ends
-when-sound words told after rose status text log (faulty wanted want r s t nothing kept of_text shown) = nothing-sound log nothing
-when-sound words told after rose status text log (unread name s t nothing kept failed why) = nothing-sound log nothing
-when-sound words told after rose status text log (unwritten name s t sound failed) = sound
 
 device-not : {B : Type 0} (status : Status) → status ≡ Status.Device → (status ≡ Status.Refuted) ⊎ IsRefused status → B
 device-not status s h =

@@ -1,5 +1,5 @@
 -- From what the steps of a run tell to what the run tells.
-use Rattle.std.proofs.Common.{◌≡◌, ℕ, ◌⊎◌, List, [], ◌∷◌, ◌++◌, map, Option, Some, None, Ok, Err, Result, IfOk, OnErr, Contains, ◌≤◌, inl, inr, refl, sym, ap, subst, ◌∙◌, arith}
+use Rattle.std.proofs.Common.{◌≡◌, ℕ, ◌⊎◌, List, [], ◌∷◌, ◌++◌, map, Option, Some, None, Ok, Err, Result, IfOk, IfSome, OnErr, Contains, ◌≤◌, inl, inr, refl, sym, ap, subst, ◌∙◌, arith}
 use Rattle.std.specs.declared.alloc.Global.{Global}
 use Rattle.std.specs.declared.vec.Vec.{Vec}
 use Rattle.std.proofs.lemmas.List.{append-nil}
@@ -24,8 +24,9 @@ use Rattle.ep_tree.specs.declared.values.Mode.{Mode}
 use Rattle.ep_solve.specs.Right.{empty_log}
 use Rattle.ep_run.specs.Answers.{Answers, wrong_shape_text}
 use Rattle.ep_run.specs.Outcomes.{Outcome, Task, and_then, as_outcome, bind_refusal, bind_refusals, bound_outcome, fault_refusals, instance_of, judge_outcome, search_outcome, task_of, to_judge, unless_refused, verify_outcome}
+use Rattle.ep_run.specs.Shown.{Ask}
 use Rattle.ep_run.specs.Status.{status_of}
-use Rattle.ep_run.specs.Steps.{EndsAs, EndsBy, IsAmong, IsJudged, IsNotThere, IsUnreadStop, Passes, Says, Tells, TellsBytes, TellsParams, TellsReply, TellsRun, TellsShape, TellsTask, shape_outcome}
+use Rattle.ep_run.specs.Steps.{EndsAs, EndsBy, IsAmong, IsJudged, IsNotThere, IsUnreadStop, OrUnlogged, Passes, Says, Tells, TellsBytes, TellsParams, TellsReply, TellsRun, TellsShape, TellsTask, shape_outcome}
 use Rattle.ep_run.specs.Stops.{bind_stop}
 use Rattle.ep_run.specs.declared.replies.Reply.{Reply}
 use Rattle.ep_run.specs.declared.status.Status.{Status}
@@ -34,7 +35,7 @@ use Rattle.ep_run.specs.declared.wanted.Request.{Request}
 use Rattle.ep_run.specs.declared.wanted.Wanted.{Wanted}
 use Rattle.ep_run.proofs.Binding.{bind-stopped}
 use Rattle.ep_run.specs.Puts.{HoldOnWant}
-use Rattle.ep_run.proofs.Saying.{holds-refused, said-refusal}
+use Rattle.ep_run.proofs.Saying.{holds-refused, nothing-sound, refused-asked, said-refusal, wanting-asked}
 use Rattle.ep_run.proofs.Tasks.{AreAllFaultless, AreFaultless, bound-refused, is-judge, is-search, is-verify, limits-refused, shape-refused, search-instance, search-model, search-params, judge-ends, verify-instance, verify-model, verify-params, verify-solution}
 
 -- ---- words
@@ -50,6 +51,18 @@ pub refused-holds : (words : List (List ℕ)) (told after : Option Held) (rose :
     → TellsRun words told after rose log (Err (Stop.Refused r)) → OnErr result (HoldOnWant words told after rose)
 refused-holds words told after rose log r (Ok reply) h = tt
 refused-holds words told after rose log r (Err e) h = holds-refused words told after rose log r h
+
+-- where memory is wanting, something is logged for a task alone
+pub run-asked : (words : List (List ℕ)) (told after : Option Held) (rose : Type 0) (log : LogState) (result : Result Reply Stop) → TellsRun words told after rose log result
+    → OnErr result (OrUnlogged log (IfSome told (λ held. (task : Task) × Ask words held task)))
+run-asked words told after rose log (Ok reply) h = tt
+run-asked words told after rose log (Err (Stop.Refused r)) h = refused-asked words told after rose log r h
+run-asked words told after rose log (Err Stop.Memory) h = wanting-asked words told after rose log h
+
+pub refused-asks : (words : List (List ℕ)) (told after : Option Held) (rose : Type 0) (log : LogState) (r : Refusal) (result : Result Reply Memory)
+    → TellsRun words told after rose log (Err (Stop.Refused r)) → OnErr result (OrUnlogged log (IfSome told (λ held. (task : Task) × Ask words held task)))
+refused-asks words told after rose log r (Ok reply) h = tt
+refused-asks words told after rose log r (Err e) h = refused-asked words told after rose log r h
 
 -- ---- faults that rose
 
@@ -86,22 +99,22 @@ limits-stopped view m p i Stop.Memory e h = tt
 
 -- ---- searching
 
-pub search-model-stopped : (V : Type 0) (log : LogState) (q : Request) (m p : TextTree) (stop : Stop) → Passes {V = V} (fault_refusals TextFile.Model (text_faults m)) (Err stop) → TellsReply (search_outcome q m p) log (Err stop)
-search-model-stopped V log q m p (Stop.Refused r) h = (h.0, search-model q m p r h.1)
-search-model-stopped V log q m p Stop.Memory h = tt
+pub search-model-stopped : (V : Type 0) (log : LogState) (q : Request) (m p : TextTree) (stop : Stop) → log ≡ empty_log → Passes {V = V} (fault_refusals TextFile.Model (text_faults m)) (Err stop) → TellsReply (search_outcome q m p) log (Err stop)
+search-model-stopped V log q m p (Stop.Refused r) nothing h = (h.0, search-model q m p r h.1)
+search-model-stopped V log q m p Stop.Memory nothing h = inl nothing
 
-pub search-params-stopped : (V : Type 0) (log : LogState) (q : Request) (m p : TextTree) (stop : Stop) → fault_refusals TextFile.Model (text_faults m) ≡ []
+pub search-params-stopped : (V : Type 0) (log : LogState) (q : Request) (m p : TextTree) (stop : Stop) → log ≡ empty_log → fault_refusals TextFile.Model (text_faults m) ≡ []
     → Passes {V = V} (fault_refusals TextFile.Params (params_faults p)) (Err stop) → TellsReply (search_outcome q m p) log (Err stop)
-search-params-stopped V log q m p (Stop.Refused r) e h = (h.0, search-params q m p r e h.1)
-search-params-stopped V log q m p Stop.Memory e h = tt
+search-params-stopped V log q m p (Stop.Refused r) nothing e h = (h.0, search-params q m p r e h.1)
+search-params-stopped V log q m p Stop.Memory nothing e h = inl nothing
 
-pub search-instance-stopped : {V : Type 0} (view : V → Instance) (log : LogState) (q : Request) (m p m' p' : TextTree) (stop : Stop) → m' ≡ m → p' ≡ p → AreFaultless m p
+pub search-instance-stopped : {V : Type 0} (view : V → Instance) (log : LogState) (q : Request) (m p m' p' : TextTree) (stop : Stop) → log ≡ empty_log → m' ≡ m → p' ≡ p → AreFaultless m p
     → Tells view (instance_of m' p') (Err stop) → TellsReply (search_outcome q m p) log (Err stop)
-search-instance-stopped view log q m p m' p' (Stop.Refused r) e f none h =
+search-instance-stopped view log q m p m' p' (Stop.Refused r) nothing e f none h =
     let P : TextTree → Type 0 = λ x. IsAmong (instance_of x p') r in
     let Q : TextTree → Type 0 = λ x. IsAmong (instance_of m x) r in
     (h.0, search-instance q m p r none (subst Q f (subst P e h.1)))
-search-instance-stopped view log q m p m' p' Stop.Memory e f none h = tt
+search-instance-stopped view log q m p m' p' Stop.Memory nothing e f none h = inl nothing
 
 pub same-instance : (m p m' p' : TextTree) (i : Instance) → m' ≡ m → p' ≡ p → instance_of m' p' ≡ Ok i → instance_of m p ≡ Ok i
 same-instance m p m' p' i e f h = sym (ap (λ x. instance_of x p') e ∙ ap (instance_of m) f) ∙ h
@@ -110,21 +123,25 @@ pub search-answered : (q : Request) (m p : TextTree) (i : Instance) (reply : Rep
     → Answers (task_of q i) reply.status reply.text.items log → TellsReply (search_outcome q m p) log (Ok reply)
 search-answered q m p i reply log none e answers = (task_of q i, is-search q m p i none e, answers)
 
+-- memory is wanting in a search, for a task that comes out
+pub search-wanting : (q : Request) (m p : TextTree) (i : Instance) (log : LogState) → AreFaultless m p → instance_of m p ≡ Ok i → TellsReply (search_outcome q m p) log (Err Stop.Memory)
+search-wanting q m p i log none e = inr (task_of q i, is-search q m p i none e)
+
 -- ---- verifying
 
 pub verify-model-stopped : (V : Type 0) (m p s : TextTree) (stop : Stop) → Passes {V = V} (fault_refusals TextFile.Model (text_faults m)) (Err stop) → TellsReply (verify_outcome m p s) empty_log (Err stop)
 verify-model-stopped V m p s (Stop.Refused r) h = (h.0, verify-model m p s r h.1)
-verify-model-stopped V m p s Stop.Memory h = tt
+verify-model-stopped V m p s Stop.Memory h = inl refl
 
 pub verify-params-stopped : (V : Type 0) (m p s : TextTree) (stop : Stop) → fault_refusals TextFile.Model (text_faults m) ≡ []
     → Passes {V = V} (fault_refusals TextFile.Params (params_faults p)) (Err stop) → TellsReply (verify_outcome m p s) empty_log (Err stop)
 verify-params-stopped V m p s (Stop.Refused r) e h = (h.0, verify-params m p s r e h.1)
-verify-params-stopped V m p s Stop.Memory e h = tt
+verify-params-stopped V m p s Stop.Memory e h = inl refl
 
 pub verify-solution-stopped : (V : Type 0) (m p s : TextTree) (stop : Stop) → AreFaultless m p
     → Passes {V = V} (fault_refusals TextFile.Solution (params_faults s)) (Err stop) → TellsReply (verify_outcome m p s) empty_log (Err stop)
 verify-solution-stopped V m p s (Stop.Refused r) none h = (h.0, verify-solution m p s r none h.1)
-verify-solution-stopped V m p s Stop.Memory none h = tt
+verify-solution-stopped V m p s Stop.Memory none h = inl refl
 
 pub verify-instance-stopped : {V : Type 0} (view : V → Instance) (m p s m' p' : TextTree) (stop : Stop) → m' ≡ m → p' ≡ p → AreAllFaultless m p s
     → Tells view (instance_of m' p') (Err stop) → TellsReply (verify_outcome m p s) empty_log (Err stop)
@@ -132,7 +149,7 @@ verify-instance-stopped view m p s m' p' (Stop.Refused r) e f none h =
     let P : TextTree → Type 0 = λ x. IsAmong (instance_of x p') r in
     let Q : TextTree → Type 0 = λ x. IsAmong (instance_of m x) r in
     (h.0, verify-instance m p s r none (subst Q f (subst P e h.1)))
-verify-instance-stopped view m p s m' p' Stop.Memory e f none h = tt
+verify-instance-stopped view m p s m' p' Stop.Memory e f none h = inl refl
 
 pub verify-judged : (m p s s' : TextTree) (i : Instance) (result : Result Reply Stop) → AreAllFaultless m p s → instance_of m p ≡ Ok i → s' ≡ s
     → TellsReply (judge_outcome i s') empty_log result → TellsReply (verify_outcome m p s) empty_log result
@@ -144,7 +161,7 @@ verify-judged m p s s' i result none e f h =
 
 pub shape-stopped : (i : Instance) (s : TextTree) (stop : Stop) → TellsShape i s (Err stop) → TellsReply (judge_outcome i s) empty_log (Err stop)
 shape-stopped i s (Stop.Refused r) h = (h.0, shape-refused i s r h.1)
-shape-stopped i s Stop.Memory h = tt
+shape-stopped i s Stop.Memory h = inl refl
 
 pub fit-judged : (i : Instance) (s : TextTree) (a : Assigned) (found : Found) (reply : Reply) → shape_outcome i s ≡ Ok (fits a) → Fits i a found
     → IsJudged i found reply.status reply.text.items → TellsReply (judge_outcome i s) empty_log (Ok reply)
@@ -224,11 +241,11 @@ reply-ends m p s (Err stop) h = tt
 -- nothing was logged where a step before the search stops
 pub stopped-ends : (End : Status → Type 0) (log : LogState) (stop : Stop) → log ≡ empty_log → EndsBy End log (Err stop)
 stopped-ends End log (Stop.Refused r) h = h
-stopped-ends End log Stop.Memory h = tt
+stopped-ends End log Stop.Memory h = nothing-sound log h
 
 -- a verification ends so, whatever refuses it, with nothing logged
 pub verify-ends : (model : List ℕ) (params : Option (List ℕ)) (solution : List ℕ) (log : LogState) (result : Result Reply Stop) → log ≡ empty_log
     → IfOk result (λ reply. (reply.status ≡ Status.Answered) ⊎ (reply.status ≡ Status.Refuted)) → EndsAs (Wanted.Verify model params solution) log result
 verify-ends model params solution log (Ok reply) nothing h = (nothing, h)
 verify-ends model params solution log (Err (Stop.Refused r)) nothing h = nothing
-verify-ends model params solution log (Err Stop.Memory) nothing h = tt
+verify-ends model params solution log (Err Stop.Memory) nothing h = nothing-sound log nothing

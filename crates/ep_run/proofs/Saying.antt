@@ -1,5 +1,5 @@
 -- From what is said to the words to what a run promises.
-use Rattle.std.proofs.Common.{◌≡◌, ℕ, ◌⊎◌, List, [], ◌∷◌, Option, Some, None, Ok, Err, IfSome, IsSomeAnd, inl, inr, refl, sym, ap, subst, ◌∙◌}
+use Rattle.std.proofs.Common.{◌≡◌, ℕ, ◌⊎◌, List, [], ◌∷◌, Option, Some, None, Ok, Err, Result, IfSome, IsSomeAnd, inl, inr, refl, sym, ap, subst, ◌∙◌}
 use Rattle.cnf_core.specs.Events.{LogState}
 use Rattle.ep_base.specs.Outside.{Held, SameElsewhere}
 use Rattle.ep_print.specs.Refusals.{refusal_text}
@@ -13,25 +13,14 @@ use Rattle.ep_run.specs.Outputs.{with_output}
 use Rattle.ep_run.specs.Puts.{HoldOnWant, IsFailedRead, IsFailedWrite, read_line, write_line}
 use Rattle.ep_run.specs.Shown.{Ask, ComesTo, Refuse}
 use Rattle.ep_run.specs.Status.{status_of}
-use Rattle.ep_run.specs.Steps.{EndsAs, IsAnswer, IsEnd, IsFailed, IsFaulty, IsOfText, IsShown, IsUnwritten, Says, TellsRun, TellsTask, TellsWanted, TellsWritten}
+use Rattle.ep_run.specs.Steps.{EndsAs, IsAnswer, IsEnd, IsFailed, IsFaulty, IsOfText, IsRefused, IsShown, IsUnwritten, OrUnlogged, Says, TellsRun, TellsTask, TellsWanted, TellsWritten}
 use Rattle.ep_run.specs.declared.replies.Reply.{Reply}
 use Rattle.ep_run.specs.declared.status.Status.{Status}
 use Rattle.ep_run.specs.declared.stops.Stop.{Stop}
 use Rattle.ep_run.specs.declared.wanted.Wanted.{Wanted}
 use Rattle.ep_run.proofs.Refusing.{contains-first}
 
--- ---- from what is wanted to the words
-
--- the words are no command, or memory is wanting
-pub unread-words : (words : List (List ℕ)) (told : Option Held) (rose : Type 0) (log : LogState) (stop : Stop) → log ≡ empty_log → TellsWanted words (Err stop) → TellsRun words told told rose log (Err stop)
-unread-words words told rose log (Stop.Refused r) nothing h = inl (h.0, nothing, refl, h.1)
-unread-words words told rose log Stop.Memory nothing h = refl
-
--- what is wanted is refused, or memory is wanting
-pub refused-run : (words : List (List ℕ)) (wanted : Wanted) (told after : Option Held) (rose : Type 0) (log : LogState) (stop : Stop) → Want words wanted → after ≡ told → EndsAs wanted log (Err stop)
-    → TellsTask (files_of wanted) (ComesTo wanted) told rose log (Err stop) → TellsRun words told after rose log (Err stop)
-refused-run words wanted told after rose log (Stop.Refused r) want kept ends h = inr (wanted, want, inl (ends, kept, h))
-refused-run words wanted told after rose log Stop.Memory want kept ends h = kept
+-- ---- the log
 
 -- nothing is said of the log's steps where it is empty
 pub nothing-sound : (log : LogState) → log ≡ empty_log → IsSound log.events
@@ -42,6 +31,20 @@ nothing-sound log e =
 pub end-sound : (wanted : Wanted) (status : Status) (log : LogState) → IsEnd wanted status log → IsSound log.events
 end-sound (Wanted.Search _ _ _ _) status log h = h.0
 end-sound (Wanted.Verify _ _ _) status log h = nothing-sound log h.0
+
+-- ---- from what is wanted to the words
+
+-- the words are no command, or memory is wanting
+pub unread-words : (words : List (List ℕ)) (told : Option Held) (rose : Type 0) (log : LogState) (stop : Stop) → log ≡ empty_log → TellsWanted words (Err stop) → TellsRun words told told rose log (Err stop)
+unread-words words told rose log (Stop.Refused r) nothing h = inl (h.0, nothing, refl, h.1)
+unread-words words told rose log Stop.Memory nothing h = (nothing-sound log nothing, refl, inl nothing)
+
+-- what is wanted is refused, or memory is wanting
+pub refused-run : (words : List (List ℕ)) (wanted : Wanted) (told after : Option Held) (rose : Type 0) (log : LogState) (stop : Stop) → Want words wanted → after ≡ told → EndsAs wanted log (Err stop)
+    → TellsTask (files_of wanted) (ComesTo wanted) told rose log (Err stop) → TellsRun words told after rose log (Err stop)
+refused-run words wanted told after rose log (Stop.Refused r) want kept ends h = inr (wanted, want, inl (ends, kept, h))
+refused-run words wanted told after rose log Stop.Memory want kept ends h =
+    (ends, kept, elim h [ inl nothing ↦ inl nothing | inr asked ↦ inr (wanted, want, asked) ])
 
 asked-of : (wanted : Wanted) (told : Option Held) (status : Status) (text : List ℕ) (log : LogState) → IsAnswer (ComesTo wanted) told status text log → IfSome told (λ held. (task : Task) × ComesTo wanted held (Ok task))
 asked-of wanted None status text log h = tt
@@ -65,7 +68,11 @@ unwritten-run V words wanted output told between after rose rose-now quiet statu
         asked-of wanted told status text log shown,
       ),
     )
-unwritten-run V words wanted output told between after rose rose-now quiet status text log Stop.Memory want named kept rises ends shown h = h.1 ∙ kept
+unwritten-run V words wanted output told between after rose rose-now quiet status text log Stop.Memory want named kept rises ends shown h = (
+  end-sound wanted status log ends,
+  h.1 ∙ kept,
+  inr (wanted, want, asked-of wanted told status text log shown),
+)
 
 -- the answer is there, and its file is written
 pub answered-run : (V : Type 0) (words : List (List ℕ)) (wanted : Wanted) (output : Option (List ℕ)) (told between after : Option Held) (rose rose-now quiet : Type 0) (log : LogState) (reply : Reply) (x : V) → Want words wanted
@@ -74,6 +81,15 @@ pub answered-run : (V : Type 0) (words : List (List ℕ)) (wanted : Wanted) (out
 answered-run V words wanted output told between after rose rose-now quiet log reply x want named kept ends shown h =
     let text : List ℕ = reply.text.items in
     (wanted, want, (ends, shown, h.1 ∙ ap (λ (o : Option (List ℕ)). with_output o text between) named ∙ ap (with_output (output_of wanted) text) kept))
+
+refused-sound : (wanted : Wanted) (told after : Option Held) (rose : Type 0) (log : LogState) (r : Refusal) → IsRefused wanted told after rose log r → IsSound log.events
+refused-sound wanted told after rose log r h = elim h [ inl shown ↦ nothing-sound log shown.0 | inr unwritten ↦ unwritten.5 ]
+
+-- whatever a run tells, each step of its log is sound
+pub run-sound : (words : List (List ℕ)) (told after : Option Held) (rose : Type 0) (log : LogState) (result : Result Reply Stop) → TellsRun words told after rose log result → IsSound log.events
+run-sound words told after rose log (Ok reply) h = end-sound h.0 reply.status log h.2.0
+run-sound words told after rose log (Err (Stop.Refused r)) h = elim h [ inl none ↦ nothing-sound log none.1 | inr some ↦ refused-sound some.0 told after rose log r some.2 ]
+run-sound words told after rose log (Err Stop.Memory) h = h.0
 
 pub said-answer : (words : List (List ℕ)) (told after : Option Held) (rose : Type 0) (log : LogState) (reply : Reply) → TellsRun words told after rose log (Ok reply) → Says words told after rose reply.status reply.text.items log
 said-answer words told after rose log reply h = inr (h.0, h.1, inl h.2)
@@ -130,6 +146,19 @@ holds-refused words told after rose log r h =
         | inl shown ↦ inl shown.1
         | inr unwritten ↦ inr (unwritten.1, failed-write words some.0 told after rose log r some.1 unwritten)
       ]
+    ]
+
+-- where memory is wanting, something is logged for a task alone
+pub wanting-asked : (words : List (List ℕ)) (told after : Option Held) (rose : Type 0) (log : LogState) → TellsRun words told after rose log (Err Stop.Memory) → OrUnlogged log (IfSome told (λ held. (task : Task) × Ask words held task))
+wanting-asked words told after rose log h =
+    elim h.2 [ inl nothing ↦ inl nothing | inr asked ↦ inr (asked-shown words asked.0 told asked.1 asked.2) ]
+
+-- where it is wanting for the line of a refusal too
+pub refused-asked : (words : List (List ℕ)) (told after : Option Held) (rose : Type 0) (log : LogState) (r : Refusal) → TellsRun words told after rose log (Err (Stop.Refused r)) → OrUnlogged log (IfSome told (λ held. (task : Task) × Ask words held task))
+refused-asked words told after rose log r h =
+    elim h [
+      | inl none ↦ inl none.1
+      | inr some ↦ elim some.2 [ inl shown ↦ inl shown.0 | inr unwritten ↦ inr (asked-shown words some.0 told some.1 unwritten.6) ]
     ]
 
 no-command-shown : (words : List (List ℕ)) (held : Held) → AreNoCommand words → Refuse words held Refusal.Usage

@@ -1,7 +1,6 @@
 -- What the steps over trees come to, one after another.
 use Rattle.std.proofs.Common.{◌≡◌, ℕ, ◌⊎◌, List, [], Ok, Contains, inl, inr, sym, subst, ◌∙◌}
 use Rattle.cnf_core.specs.Events.{LogState}
-use Rattle.sat_search.specs.Logs.{IsSound}
 use Rattle.ep_print.specs.declared.refusals.Refusal.{Refusal}
 use Rattle.ep_print.specs.declared.refusals.TextFile.{TextFile}
 use Rattle.ep_tree.specs.Binding.{Instance}
@@ -13,9 +12,9 @@ use Rattle.ep_tree.specs.declared.values.Mode.{Mode}
 use Rattle.ep_print.specs.Answers.{AnswerTree, answer_text, no_solution, optimum, solution, unknown, unknown_with}
 use Rattle.ep_print.specs.Listings.{EndTree, ListingTree, complete, listing_text, spent, stopped}
 use Rattle.ep_solve.specs.Listed.{EndsRightly, Lists}
-use Rattle.ep_solve.specs.Logged.{ShowsAnswer}
+use Rattle.ep_solve.specs.Logged.{IsLogged, ShowsAnswer}
 use Rattle.ep_solve.specs.Right.{IsRight, IsSpent}
-use Rattle.ep_run.specs.Answers.{Answers, IsFound, answer_status, judgement_status, listing_status}
+use Rattle.ep_run.specs.Answers.{Answers, answer_status, judgement_status, listing_status}
 use Rattle.ep_run.specs.Outcomes.{and_then, bind_refusals, bound_outcome, fault_refusals, instance_of, judge_outcome, search_outcome, task_of, to_judge, to_list, to_solve, verify_outcome}
 use Rattle.ep_run.specs.Steps.{IsAmong, IsSearched, shape_outcome}
 use Rattle.ep_run.specs.declared.status.Status.{Status}
@@ -143,14 +142,9 @@ shown-spent i conflicts log no_solution status e h = inl e
 shown-spent i conflicts log (unknown _) status e h = inr (e, h.0)
 shown-spent i conflicts log (unknown_with _ _ _) status e h = inr (e, h.0)
 
--- the log of an answer that was found is sound, and shows where the budget was spent
-pub found-ends : (i : Instance) (conflicts : ℕ) (log : LogState) (a : AnswerTree) (status : Status) → status ≡ answer_status a → IsFound i conflicts log a → IsSearched conflicts status log
-found-ends i conflicts log a status e h =
-    let P : LogState → Type 0 = λ l. IsSound l.events in
-    elim h [
-      | inl tried ↦ (subst P (sym tried.unlogged) (record { valid = tt; new = tt; effective = tt }), inl (e ∙ tried.answered))
-      | inr logged ↦ (logged.sound, shown-spent i conflicts log a status e logged.shows)
-    ]
+-- the log of an answer is sound, and shows where the budget was spent
+pub answer-ends : (i : Instance) (conflicts : ℕ) (log : LogState) (a : AnswerTree) (status : Status) → status ≡ answer_status a → IsLogged Mode.Relational i conflicts log a → IsSearched conflicts status log
+answer-ends i conflicts log a status e h = (h.sound, shown-spent i conflicts log a status e h.shows)
 
 list-spent : (i : Instance) (conflicts most : ℕ) (log : LogState) (listed : List Assigned) (end : EndTree) (status : Status) → status ≡ listing_status end → EndsRightly Mode.Relational i conflicts most log listed end
     → (status ≡ Status.Answered) ⊎ ((status ≡ Status.Unknown) × IsSpent conflicts log.events)
@@ -165,10 +159,10 @@ list-ends i conflicts most log listing status e h = (h.sound, list-spent i confl
 
 -- ---- what answers a search
 
-pub solved : (i : Instance) (conflicts : ℕ) (status : Status) (text : List ℕ) (log : LogState) (answer : AnswerTree) → IsRight Mode.Relational i conflicts answer → IsFound i conflicts log answer
+pub solved : (i : Instance) (conflicts : ℕ) (status : Status) (text : List ℕ) (log : LogState) (answer : AnswerTree) → IsRight Mode.Relational i conflicts answer → IsLogged Mode.Relational i conflicts log answer
     → status ≡ answer_status answer → text ≡ answer_text answer → Answers (to_solve i conflicts) status text log
 unfolding Answers
-solved i conflicts status text log answer right found ended said = (answer, right, found, ended, said)
+solved i conflicts status text log answer right logged ended said = (answer, right, logged, ended, said)
 
 pub listed : (i : Instance) (most conflicts : ℕ) (status : Status) (text : List ℕ) (log : LogState) (listing : ListingTree) → Lists Mode.Relational i conflicts most log listing
     → status ≡ listing_status listing.ending → text ≡ listing_text listing → Answers (to_list i most conflicts) status text log

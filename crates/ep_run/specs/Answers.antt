@@ -1,5 +1,5 @@
 -- Which answers are right for a task, their texts, and what the log shows of them.
-use Rattle.std.specs.Prelude.{◌≡◌, ◌⊎◌, ◌≤◌, ℕ, List, ◌++◌, codes, Some, None, Contains}
+use Rattle.std.specs.Prelude.{◌≡◌, ℕ, List, ◌++◌, codes, Some, None, Contains}
 use Rattle.std.specs.Fmt.{decimal, signed_decimal}
 use Rattle.ep_tree.specs.Binding.{Instance}
 use Rattle.ep_tree.specs.SolutionTexts.{fits, wrong_shape}
@@ -10,8 +10,7 @@ use Rattle.ep_print.specs.Listings.{EndTree, ListingTree, complete, listing_text
 use Rattle.cnf_core.specs.Events.{LogState}
 use Rattle.ep_solve.specs.Listed.{Lists}
 use Rattle.ep_solve.specs.Logged.{IsLogged}
-use Rattle.ep_solve.specs.Right.{IsRight, empty_log}
-use Rattle.ep_run.specs.Counts.{MOST_ASSIGNMENTS, assignment_count}
+use Rattle.ep_solve.specs.Right.{IsRight}
 use Rattle.ep_run.specs.Outcomes.{Task, to_judge, to_list, to_solve}
 use Rattle.ep_run.specs.declared.status.Status.{Status}
 
@@ -44,20 +43,10 @@ judgement_text goal_undefined = codes "$ objective undefined\n"
 abbrev pub wrong_shape_text : List ℕ → List ℕ
 wrong_shape_text name = codes "$ wrong shape " ++ (name ++ codes "\n")
 
--- Where there are few assignments they were tried, the log is empty, and the answer isn't the end of a budget.
-pub record IsTried (i : Instance) (log : LogState) (answer : AnswerTree) : Type 0 where
-  pub few : assignment_count i ≤ MOST_ASSIGNMENTS
-  pub unlogged : log ≡ empty_log
-  pub answered : answer_status answer ≡ Status.Answered
-
--- how an answer was found: by trying the assignments, or in the log
-abbrev pub IsFound : Instance → ℕ → LogState → AnswerTree → Type 0
-IsFound i conflicts log answer = IsTried i log answer ⊎ IsLogged Mode.Relational i conflicts log answer
-
 -- a status, a text and a log answer a task
 unfoldable pub Answers : Task → Status → List ℕ → LogState → Type 0
 Answers (to_solve i conflicts) status text log =
-    (answer : AnswerTree) × IsRight Mode.Relational i conflicts answer × IsFound i conflicts log answer
+    (answer : AnswerTree) × IsRight Mode.Relational i conflicts answer × IsLogged Mode.Relational i conflicts log answer
     × (status ≡ answer_status answer) × (text ≡ answer_text answer)
 Answers (to_list i most conflicts) status text log =
     (listing : ListingTree) × Lists Mode.Relational i conflicts most log listing

@@ -4,9 +4,7 @@ pub mod Outputs
 pub mod Readings
 pub mod Outcomes
 pub mod Shown
-pub mod Counts
 pub mod Answers
 pub mod Puts
 pub mod Stops
 pub mod Steps
-pub mod Candidates

@@ -54,12 +54,16 @@ Passes refusals (Ok x) = refusals ≡ []
 Passes refusals (Err (Stop.Refused refusal)) = IsOfText refusal × Contains refusals refusal
 Passes refusals (Err Stop.Memory) = Unit {0}
 
--- a reply answers the task that comes out, or one of the refusals
+-- nothing is logged, or this holds
+abbrev pub OrUnlogged : LogState → Type 0 → Type 0
+OrUnlogged log P = (log ≡ empty_log) ⊎ P
+
+-- a reply answers the task that comes out, or one of the refusals; where memory is wanting, something is logged for a task alone
 abbrev pub TellsReply : Outcome Task → LogState → Result Reply Stop → Type 0
 TellsReply outcome log (Ok reply) =
     (task : Task) × (outcome ≡ Ok task) × Answers task reply.status reply.text.items log
 TellsReply outcome log (Err (Stop.Refused refusal)) = IsOfText refusal × IsAmong outcome refusal
-TellsReply outcome log (Err Stop.Memory) = Unit {0}
+TellsReply outcome log (Err Stop.Memory) = OrUnlogged log ((task : Task) × (outcome ≡ Ok task))
 
 -- a status and a text are those of the judgement of an assignment
 abbrev pub IsJudged : Instance → Found → Status → List ℕ → Type 0
@@ -154,7 +158,7 @@ abbrev pub TellsTask : List (List ℕ) → Shows → Option Held → Type 0 → 
 TellsTask names shows told rose log (Ok reply) = IsAnswer shows told reply.status reply.text.items log
 TellsTask names shows told rose log (Err (Stop.Refused refusal)) =
     IsFailed names shows told rose refusal ⊎ IsFaulty shows told refusal
-TellsTask names shows told rose log (Err Stop.Memory) = Unit {0}
+TellsTask names shows told rose log (Err Stop.Memory) = OrUnlogged log (IfSome told (λ held. (task : Task) × shows held (Ok task)))
 
 -- How a search within so many conflicts may end: with its answer, or with as many steps in the log. The steps of the log are
 -- valid, and those with a literal new and effective.
@@ -168,11 +172,11 @@ IsEnd (Wanted.Search _ _ request _) status log = IsSearched (conflicts_of reques
 IsEnd (Wanted.Verify _ _ _) status log =
     (log ≡ empty_log) × ((status ≡ Status.Answered) ⊎ (status ≡ Status.Refuted))
 
--- an answer ends so; nothing is logged where there is a refusal
+-- an answer ends so; nothing is logged where there is a refusal, and soundly where memory is wanting
 abbrev pub EndsBy : (Status → Type 0) → LogState → Result Reply Stop → Type 0
 EndsBy End log (Ok reply) = End reply.status
 EndsBy End log (Err (Stop.Refused refusal)) = log ≡ empty_log
-EndsBy End log (Err Stop.Memory) = Unit {0}
+EndsBy End log (Err Stop.Memory) = IsSound log.events
 
 -- how a run ends
 abbrev pub EndsAs : Wanted → LogState → Result Reply Stop → Type 0
@@ -229,4 +233,6 @@ TellsRun words told after rose log (Ok reply) =
 TellsRun words told after rose log (Err (Stop.Refused refusal)) =
     ((refusal ≡ Refusal.Usage) × (log ≡ empty_log) × (after ≡ told) × AreNoCommand words)
     ⊎ ((wanted : Wanted) × Want words wanted × IsRefused wanted told after rose log refusal)
-TellsRun words told after rose log (Err Stop.Memory) = after ≡ told
+TellsRun words told after rose log (Err Stop.Memory) =
+    IsSound log.events × (after ≡ told)
+    × OrUnlogged log ((wanted : Wanted) × Want words wanted × IfSome told (λ held. (task : Task) × ComesTo wanted held (Ok task)))

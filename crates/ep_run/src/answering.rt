@@ -1,5 +1,4 @@
-//! What is said of a search in an instance. One solution is looked for by trying the assignments where they are
-//! few, and else by clauses and the solver, as many solutions are.
+//! What is said of a search in an instance, which goes by clauses and the solver.
 
 ghost use Rattle.std.specs.Prelude.{◌≡◌, [], IfOk};
 ghost use Rattle.std.specs.List.{All};
@@ -8,17 +7,16 @@ ghost use Rattle.ep_tree.specs.Closed.{IsClosed};
 ghost use Rattle.ep_tree.specs.Solutions.{instance_limits};
 ghost use Rattle.ep_tree.specs.declared.values.Mode.{Mode};
 ghost use Rattle.ep_instance.specs.Instances.{instance_of as plain_instance, mode_of};
-ghost use Rattle.ep_print.specs.Answers.{HasTypedValues, answer_tree};
+ghost use Rattle.ep_print.specs.Answers.{answer_tree};
 ghost use Rattle.ep_print.specs.Listings.{end_tree};
-ghost use Rattle.ep_solve.specs.Right.{IsRight, empty_log};
-ghost use Rattle.ep_run.specs.Answers.{Answers, IsFound, answer_status, listing_status};
+ghost use Rattle.ep_solve.specs.Right.{empty_log};
+ghost use Rattle.sat_search.specs.Logs.{IsSound};
+ghost use Rattle.ep_run.specs.Answers.{Answers, answer_status, listing_status};
 ghost use Rattle.ep_run.specs.Commands.{conflicts_of};
 ghost use Rattle.ep_run.specs.Outcomes.{task_of, to_list, to_solve};
 ghost use Rattle.ep_run.specs.Steps.{IsSearched};
 
-use super::counting::few_assignments;
 use super::replies::Reply;
-use super::search::tried_answer;
 use super::status::Status;
 use super::wanted::Request;
 use cnf_core::Log;
@@ -44,6 +42,7 @@ pub fn searched_reply(
     ensures answers { IfOk result (λ reply.
         Answers (task_of request (plain_instance instance.now)) reply.status reply.text.items log.new) }
     ensures ends { IfOk result (λ reply. IsSearched (conflicts_of request) reply.status log.new) }
+    ensures sound { IsSound log.new.events }
 {
     match request {
         Request::One { conflicts } => solved_reply(alloc, instance, conflicts, log),
@@ -66,8 +65,9 @@ fn solved_reply(
     ensures answers { IfOk result (λ reply.
         Answers (to_solve (plain_instance instance.now) conflicts) reply.status reply.text.items log.new) }
     ensures ends { IfOk result (λ reply. IsSearched conflicts reply.status log.new) }
+    ensures sound { IsSound log.new.events }
 {
-    let answer = answer_of(alloc, instance, conflicts, log)?;
+    let answer = solve(alloc, instance, conflicts, log)?;
     let text = print_answer(alloc, &answer)?;
     Ok(Reply {
         status: answer_status(&answer),
@@ -91,6 +91,7 @@ fn listed_reply(
     ensures answers { IfOk result (λ reply.
         Answers (to_list (plain_instance instance.now) most conflicts) reply.status reply.text.items log.new) }
     ensures ends { IfOk result (λ reply. IsSearched conflicts reply.status log.new) }
+    ensures sound { IsSound log.new.events }
 {
     let listing = enumerate(alloc, instance, most, conflicts, log)?;
     let text = print_listing(alloc, &listing)?;
@@ -127,30 +128,5 @@ fn listing_status(end: ListingEnd) -> Status
         ListingEnd::Complete => Status::Answered,
         ListingEnd::Stopped => Status::Answered,
         ListingEnd::Spent { .. } => Status::Unknown,
-    }
-}
-
-/// The answer of an instance within so many conflicts. Where there are few assignments they are tried,
-/// and the log stays empty.
-fn answer_of(
-    alloc: Global,
-    instance: &Instance,
-    conflicts: u64,
-    log: &mut Log,
-) -> Result<Answer, Memory>
-    requires mode { mode_of instance.now ≡ Mode.Relational }
-    requires closed { IsClosed (plain_instance instance.now) }
-    requires numbers { All (λ f. All IsWithinNumbers f.values) (plain_instance instance.now).finds }
-    requires within { instance_limits Mode.Relational (plain_instance instance.now) ≡ [] }
-    requires empty { log.old ≡ empty_log }
-    ensures right { IfOk result (λ answer.
-        IsRight Mode.Relational (plain_instance instance.now) conflicts (answer_tree answer)) }
-    ensures typed { IfOk result (λ answer. HasTypedValues (answer_tree answer)) }
-    ensures found { IfOk result (λ answer.
-        IsFound (plain_instance instance.now) conflicts log.new (answer_tree answer)) }
-{
-    match few_assignments(instance) {
-        Some(count) => tried_answer(alloc, instance, count),
-        None => solve(alloc, instance, conflicts, log),
     }
 }

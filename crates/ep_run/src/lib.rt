@@ -2,16 +2,12 @@
 #![tactic(auto)]
 
 mod answering;
-mod candidates;
 mod checking;
-mod counting;
 mod errors;
 mod judging;
-mod numbers;
 mod reading;
 mod replies;
 mod runs;
-mod search;
 mod status;
 mod stops;
 mod top;

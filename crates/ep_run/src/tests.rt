@@ -1,5 +1,8 @@
 //! Runs over devices in memory: the answers, each refusal with its line, judgements, and devices that
 //! fail. With ample memory none of them ends for want of it.
+//!
+//! A table has a row a line: a model below its first line, what goes with it, and what is put out, below the
+//! first line of an answer, with `#` between them. An `@` ends a line of the texts.
 
 use crate::{Status, run};
 use cnf_core::Log;
@@ -13,25 +16,22 @@ use std::thread::Threads;
 #[derive(Clone, Copy)]
 struct Texts<'a> {
     model: &'a [u8],
-    params: &'a str,
-    solution: &'a str,
+    params: &'a [u8],
+    solution: &'a [u8],
 }
 
-const SOLVE: [&str; 4] = ["--in-eprime", "m", "--in-param", "p"];
+const SOLVE: &str = "--in-eprime m --in-param p";
 
-const VERIFY: [&str; 6] = [
-    "--task",
-    "verify",
-    "--in-eprime=m",
-    "--in-param=p",
-    "--in-solution",
-    "s",
-];
+const SEARCH: &str = "--in-eprime m --conflicts 1";
+
+const VERIFY: &str = "--task verify --in-eprime=m --in-solution s";
+
+const LIST: &str = "--task enumerate --in-eprime=m --solutions";
 
 /// Runs the words over the texts. The calls of the files with these numbers fail.
 fn run_on<R: Threads + AllocGlobal>(
     rt: &R,
-    words: &[&str],
+    words: &str,
     texts: &Texts,
     file_fails: &[u64],
     out: &mut MemSink,
@@ -44,662 +44,236 @@ fn run_on<R: Threads + AllocGlobal>(
 fn files_of(alloc: Global, texts: &Texts, file_fails: &[u64]) -> Result<MemFiles, Fail> {
     let mut files = MemFiles::new(alloc, Vec::from_slice(alloc, file_fails)?);
     files.hold("m", texts.model)?;
-    files.hold("p", texts.params.as_bytes())?;
-    files.hold("s", texts.solution.as_bytes())?;
+    files.hold("p", texts.params)?;
+    files.hold("s", texts.solution)?;
     Ok(files)
 }
 
-/// Runs the words over files.
+/// Runs the words, with a space between any two, over files.
 fn run_over<R: Threads + AllocGlobal>(
     rt: &R,
-    words: &[&str],
+    words: &str,
     files: &mut MemFiles,
     out: &mut MemSink,
 ) -> Result<Status, Fail> {
     let alloc = rt.alloc();
     let mut list = Vec::new(alloc);
-    for word in words {
-        list.push(Word::new(alloc, word)?)?;
+    for word in words.split(' ') {
+        if !word.is_empty() {
+            list.push(Word::new(alloc, word)?)?;
+        }
     }
     let mut log = Log::new(alloc);
     Ok(run(rt, alloc, &list, files, out, &mut log))
 }
 
-/// The first line of each model and each answer, and more.
-fn with_first_line(alloc: Global, more: &str) -> Result<String, AllocError> {
-    let mut text = String::from_str(alloc, "language ESSENCE' 1.0\n")?;
-    text.push_str(more)?;
-    Ok(text)
-}
-
 /// The words over these texts end so, and exactly this is put out.
 fn check_run<R: Abort + Threads + AllocGlobal>(
     rt: &R,
-    words: &[&str],
+    words: &str,
     texts: &Texts,
     status: Status,
     want: &str,
 ) -> Result<(), Fail> {
-    let alloc = rt.alloc();
-    let mut out = MemSink::new(alloc, 1000, Vec::new(alloc));
+    let mut out = MemSink::new(rt.alloc(), 1000, Vec::new(rt.alloc()));
     let ended = run_on(rt, words, texts, &[], &mut out)?;
     assert_eq!(rt; out.taken(), want.as_bytes(), "{want}");
     assert_eq!(rt; ended, status, "{want}");
     Ok(())
 }
 
-/// A model, without its first line, under a parameter text.
-fn check_model<R: Abort + Threads + AllocGlobal>(
-    rt: &R,
-    model: &str,
-    params: &str,
-    status: Status,
-    want: &str,
-) -> Result<(), Fail> {
-    let text = with_first_line(rt.alloc(), model)?;
-    let texts = Texts {
-        model: text.as_bytes(),
-        params,
-        solution: "",
-    };
-    check_run(rt, &SOLVE, &texts, status, want)
+/// A text of a row, behind another.
+fn text_of(alloc: Global, before: &str, text: &str) -> Result<String, AllocError> {
+    let mut whole = String::from_str(alloc, before)?;
+    for letter in text.chars() {
+        whole.push(if letter == '@' { '\n' } else { letter })?;
+    }
+    Ok(whole)
 }
 
-const KNAPSACK: &str = "given n, cap : int(1..)
-given w, v : matrix indexed by [int(1..n)] of int(0..)
-find take : matrix indexed by [int(1..n)] of bool
-maximising sum i : int(1..n) . take[i] * v[i]
-such that (sum i : int(1..n) . take[i] * w[i]) <= cap
-";
+const FIRST_LINE: &str = "language ESSENCE' 1.0\n";
 
-const MONEY: &str = "find S, E, N, D, M, O, R, Y : int(0..9)
-such that 1000*S + 100*E + 10*N + D + 1000*M + 100*O + 10*R + E = 10000*M + 1000*O + 100*N + 10*E + Y,
-S != 0, M != 0, allDiff([S, E, N, D, M, O, R, Y])
-";
+/// How a run ends that puts this out.
+fn status_of(want: &str) -> Status {
+    for (beginning, status) in [
+        ("fault", Status::Text),
+        ("limit", Status::Limit),
+        ("device", Status::Device),
+        ("$ unknown", Status::Unknown),
+        ("$ violated", Status::Refuted),
+        ("$ objective", Status::Refuted),
+        ("$ wrong", Status::Refuted),
+    ] {
+        if want.starts_with(beginning) {
+            return status;
+        }
+    }
+    Status::Answered
+}
 
-const GROUPS: &str = "given a : int(1..9), b, c : int(1..a)
-where a = 3, b = c
-";
+/// The words over a row's model, with its second part as parameters and as solution, below this line.
+fn check_row<R: Abort + Threads + AllocGlobal>(
+    rt: &R,
+    words: &str,
+    first_line: &str,
+    row: &str,
+) -> Result<(), Fail> {
+    let alloc = rt.alloc();
+    let (model, rest) = row.split_once('#').unwrap_or((row, ""));
+    let (input, want) = rest.split_once('#').unwrap_or((rest, ""));
+    let model = text_of(alloc, FIRST_LINE, model)?;
+    let input = text_of(alloc, "", input)?;
+    let put = text_of(alloc, first_line, want)?;
+    let texts = Texts {
+        model: model.as_bytes(),
+        params: input.as_bytes(),
+        solution: input.as_bytes(),
+    };
+    check_run(rt, words, &texts, status_of(want), put.as_str())
+}
 
-const EVEN: &str = "given n : int(1..9)
-where n % 2 = 0
-find x : int(1..n)
-";
+const ANSWERS: &str = "\
+##$ solution@
+such that true, 1 < 2##$ solution@
+such that 1 > 2##$ no solution@
+minimising 7##$ optimum 7@
+maximising 1 / 0##$ no solution@
+find x : int(1..0)##$ no solution@
+find x : int(1..0) such that false##$ no solution@
+find m : matrix indexed by [int(1..0)] of bool##$ solution@letting m be [; int(1..0)]@
+find m : matrix indexed by [int(1..0)] of int(1..0) maximising sum(m)##$ optimum 0@letting m be [; int(1..0)]@
+find m : matrix indexed by [int(1..0)] of int(1..1000000000) find x : int(1..0)##$ no solution@
+find x : int(1..3) find m : matrix indexed by [int(1..0)] of bool find b : bool minimising x * 2 such that !b##$ optimum 2@letting x be 1@letting m be [; int(1..0)]@letting b be false@
+find x : int(1..3) such that x > 2##$ solution@letting x be 3@
+find x : int(1..3) minimising 5 such that x > 2##$ optimum 5@letting x be 3@
+find x : int(0..3) minimising 6 / x##$ optimum 2@letting x be 3@
+find x : int(0..0) minimising 6 / x##$ no solution@
+find x : int(0..3) maximising 6 / x##$ optimum 6@letting x be 1@
+find x : int(0..0) such that !(10/x > 2)##$ solution@letting x be 0@
+find m : matrix indexed by [int(1..2)] of bool find i : int(3..3) such that !m[1], !m[2], toInt(m[i]) = 0##$ solution@letting m be [false, false; int(1..2)]@letting i be 3@
+find y, z, w : int(-10..10) such that y = (-3) % 5, z = 3 % (-5), w = (-7) / 2##$ solution@letting y be 2@letting z be -2@letting w be -4@
+given n, cap : int(1..) given w, v : matrix indexed by [int(1..n)] of int(0..) find take : matrix indexed by [int(1..n)] of bool maximising sum i : int(1..n) . take[i] * v[i] such that (sum i : int(1..n) . take[i] * w[i]) <= cap#letting n be 3 letting cap be 7 letting w be [3, 4, 5] letting v be [4, 5, 6]#$ optimum 9@letting take be [true, true, false; int(1..3)]@
+find x, y, z : int(1..2) find c : int(0..3) such that gcc([x,y,z], [1,2], [c,c])##$ no solution@
+find x : int(1..2) such that table([x], [[2], [2]])##$ solution@letting x be 2@
+letting D be domain int(1..3) find x : D such that forAll i : D . x >= i##$ solution@letting x be 3@
+given a : int(1..9), b, c : int(1..a) where a = 3, b = c#letting a be 3 letting b be 2 letting c be 2#$ solution@
+letting a be 2**40##$ solution@
+given n : int(1..9) where n % 2 = 0 find x : int(n..n)#letting k be 3 letting n be k+1#$ solution@letting x be 4@
+find x : matrix indexed by [int(1..2)] of int(0..3) such that sum([x[i] * i | i : int(1..3), i < 3]) = 9, allDiff([x[i] - i | i : int(1..2)])##$ solution@letting x be [3, 3; int(1..2)]@
+find x, y : int(0..3) such that [x, y, 3][x] = 2, x ** 2 = 4##$ solution@letting x be 2@letting y be 2@
+letting m be [7] find x : int(1..2) such that forAll i : int(1..2) . x = i \\/ x + m[i] > 0##$ solution@letting x be 2@
+find m : matrix indexed by [int(1..2), int(1..1), int(1..2)] of bool such that and(flatten(m[.., 1, ..]))##$ solution@letting m be [[[true, true; int(1..2)]; int(1)], [[true, true; int(1..2)]; int(1)]; int(1..2)]@
+find x : matrix indexed by [int(1..7)] of int(1..8) such that (sum i : int(1..7) . x[i]) = 56##$ solution@letting x be [8, 8, 8, 8, 8, 8, 8; int(1..7)]@
+such that true $ \u{e9}##$ solution@";
 
 #[test]
 fn models_have_their_answers(rt: HostRuntime) -> Result<(), Fail> {
-    for (model, params, want) in [
-        (
-            "find x : int(1..3)\nsuch that x > 2",
-            "",
-            "$ solution\nletting x be 3\n",
-        ),
-        ("", "", "$ solution\n"),
-        ("find x : int(1..0)", "", "$ no solution\n"),
-        (
-            "find x : int(0..0)\nsuch that !(10/x > 2)",
-            "",
-            "$ solution\nletting x be 0\n",
-        ),
-        (
-            "find m : matrix indexed by [int(1..2)] of bool\nfind i : int(3..3)\n\
-             such that !m[1], !m[2], toInt(m[i]) = 0",
-            "",
-            "$ solution\nletting m be [false, false; int(1..2)]\nletting i be 3\n",
-        ),
-        (
-            "find y, z, w : int(-10..10)\nsuch that y = (-3) % 5, z = 3 % (-5), w = (-7) / 2",
-            "",
-            "$ solution\nletting y be 2\nletting z be -2\nletting w be -4\n",
-        ),
-        (
-            KNAPSACK,
-            "letting n be 3 letting cap be 7 letting w be [3, 4, 5] letting v be [4, 5, 6]",
-            "$ optimum 9\nletting take be [true, true, false; int(1..3)]\n",
-        ),
-        (
-            "find x, y, z : int(1..2)\nfind c : int(0..3)\nsuch that gcc([x,y,z], [1,2], [c,c])",
-            "",
-            "$ no solution\n",
-        ),
-        (
-            "find x : int(1..2)\nsuch that table([x], [[2], [2]])",
-            "",
-            "$ solution\nletting x be 2\n",
-        ),
-        (
-            "find m : matrix indexed by [int(1..0)] of bool",
-            "",
-            "$ solution\nletting m be [; int(1..0)]\n",
-        ),
-        (
-            "letting D be domain int(1..3)\nfind x : D\nsuch that forAll i : D . x >= i",
-            "",
-            "$ solution\nletting x be 3\n",
-        ),
-        (
-            "find x : int(0..3)\nminimising 6 / x",
-            "",
-            "$ optimum 2\nletting x be 3\n",
-        ),
-        (
-            "find x : int(0..0)\nminimising 6 / x",
-            "",
-            "$ no solution\n",
-        ),
-        (
-            GROUPS,
-            "letting a be 3 letting b be 2 letting c be 2",
-            "$ solution\n",
-        ),
-        ("letting a be 2**40", "", "$ solution\n"),
-        (
-            EVEN,
-            "letting k be 3 letting n be k+1",
-            "$ solution\nletting x be 1\n",
-        ),
-        (
-            "find m : matrix indexed by [int(1..0)] of int(1..1000000000)\nfind x : int(1..0)",
-            "",
-            "$ no solution\n",
-        ),
-        (
-            "find x : matrix indexed by [int(1..2)] of int(0..3)\n\
-             such that sum([x[i] * i | i : int(1..3), i < 3]) = 9, allDiff([x[i] - i | i : int(1..2)])",
-            "",
-            "$ solution\nletting x be [3, 3; int(1..2)]\n",
-        ),
-        (
-            "find x, y : int(0..3)\nsuch that [x, y, 3][x] = 2, x ** 2 = 4",
-            "",
-            "$ solution\nletting x be 2\nletting y be 2\n",
-        ),
-        (
-            "letting m be [7]\nfind x : int(1..2)\nsuch that forAll i : int(1..2) . x = i \\/ x + m[i] > 0",
-            "",
-            "$ solution\nletting x be 2\n",
-        ),
-        (
-            "find m : matrix indexed by [int(1..2), int(1..1), int(1..2)] of bool\nsuch that and(flatten(m[.., 1, ..]))",
-            "",
-            "$ solution\nletting m be [[[true, true; int(1..2)]; int(1)], [[true, true; int(1..2)]; int(1)]; int(1..2)]\n",
-        ),
-    ] {
-        let answer = with_first_line(rt.alloc(), want)?;
-        check_model(&rt, model, params, Status::Answered, answer.as_str())?;
+    for row in ANSWERS.lines() {
+        check_row(&rt, SOLVE, FIRST_LINE, row)?;
     }
     Ok(())
 }
 
 /// Five pigeons of which each sits in one of four holes, and no two in one.
-const PIGEONS: &str = "find sits : matrix indexed by [int(1..5), int(1..4)] of bool
-such that forAll i : int(1..5) . exists j : int(1..4) . sits[i, j],
-forAll j : int(1..4) . forAll i, k : int(1..5) . i < k -> !(sits[i, j] /\\ sits[k, j])
-";
+const PIGEONS: &str = "find sits : matrix indexed by [int(1..5), int(1..4)] of bool \
+such that forAll i : int(1..5) . exists j : int(1..4) . sits[i, j], \
+forAll j : int(1..4) . forAll i, k : int(1..5) . i < k -> !(sits[i, j] /\\ sits[k, j])##";
 
 #[test]
-fn greater_models_are_solved_by_clauses(rt: HostRuntime) -> Result<(), Fail> {
-    for (model, want) in [
+fn a_budget_is_spent_or_serves(rt: HostRuntime) -> Result<(), Fail> {
+    for (words, want) in [
+        (SOLVE, "$ no solution@"),
+        (SEARCH, "$ unknown 1 conflicts@"),
         (
-            "find x : matrix indexed by [int(1..7)] of int(1..8)\nsuch that (sum i : int(1..7) . x[i]) = 56",
-            "$ solution\nletting x be [8, 8, 8, 8, 8, 8, 8; int(1..7)]\n",
+            "--task enumerate --in-eprime m --solutions 10",
+            "$ no solution@",
         ),
         (
-            "find x : matrix indexed by [int(1..7)] of int(1..8)\nminimising sum i : int(1..7) . x[i]",
-            "$ optimum 7\nletting x be [1, 1, 1, 1, 1, 1, 1; int(1..7)]\n",
+            "--task enumerate --in-eprime m --solutions 10 --conflicts 1",
+            "$ unknown 1 conflicts@",
         ),
-        (PIGEONS, "$ no solution\n"),
     ] {
-        let answer = with_first_line(rt.alloc(), want)?;
-        check_model(&rt, model, "", Status::Answered, answer.as_str())?;
+        let row = text_of(rt.alloc(), PIGEONS, want)?;
+        check_row(&rt, words, FIRST_LINE, row.as_str())?;
     }
     Ok(())
 }
 
-#[test]
-fn a_spent_budget_is_said(rt: HostRuntime) -> Result<(), Fail> {
-    let alloc = rt.alloc();
-    let model = with_first_line(alloc, PIGEONS)?;
-    let texts = Texts {
-        model: model.as_bytes(),
-        params: "",
-        solution: "",
-    };
-    let want = with_first_line(alloc, "$ unknown 1 conflicts\n")?;
-    let words = ["--in-eprime", "m", "--conflicts", "1"];
-    check_run(&rt, &words, &texts, Status::Unknown, want.as_str())
-}
+const REFUSED: &str = "\
+given n : int(1..9) where n % 2 = 0#letting n be 3#fault F11 1@
+given n : int(1..9) where n % 2 = 0#letting n be 10#fault F9 n@
+given n : int(1..9) where n % 2 = 0##fault F8 n@
+given n : int(1..9) where n % 2 = 0#letting n be 4 letting#fault F2 params 1:23@
+given n : int(1..9) where n % 2 = 0#letting n be true#fault F11 1@
+given n : int(1..9) where n % 2 = 0#letting n be 1 + true + [1]#fault F5 params 1:14@
+given n : int(1..9) where n % 2 = 0#letting n be 1/0#fault F10 params 1:1@
+given a : int(1..9), b, c : int(1..a)#letting a be 3 letting b be 2 letting c be 4#fault F9 c@
+given a : int(1..9), b, c : int(1..a)#letting a be 3 letting b be 5 letting c be 4#fault F9 b@
+given a : int(1..9), b, c : int(1..a)#letting a be 3 letting b be 5#fault F8 c@
+given a, b, c : int(1..9) where a = 3, b = c#letting a be 4 letting b be 1 letting c be 2#fault F11 1@
+given a, b, c : int(1..9) where a = 3, b = c#letting a be 3 letting b be 1 letting c be 2#fault F11 2@
+given a : int(1..9), b : int(1..1/0)#letting a be 1#fault F10 model 2:1@
+find x : int(1..3)@such that x +##fault F2 model 3:14@
+letting n be 1234567890123456789##limit L2 model 2:14@
+such that y = 1##fault F3 model 2:11 y@
+find x : bool@find x : bool##fault F4 model 3:6 x@
+find x : matrix indexed by [int(1..2)] of int(0..9)@such that sum i : int(1..2) . x[i] = 5##fault F5 model 3:11@
+find x : int(1..3)@find y : int(1..x)##fault F6 model 3:17@
+find x : int##fault F7 model 2:10@
+letting n be 1/0##fault F10 model 2:1@
+letting m be [5, 6; int(1..3)]##fault F10 model 2:1@
+letting a be 2**41##limit L5@
+find m : matrix indexed by [int(1..5000001)] of bool##limit L4@
+find x : int(0..16384) such that x * x * x = 8##limit L5@
+find x, y : int(0..9999) such that x*y = 6##limit L6@
+find x : int(0..16385) such that x ** 3 = 8##limit L5@
+find x : matrix indexed by [int(1..2)] of int(0..9999) such that product([x[i] | i : int(1..2)]) = 6##limit L6@
+\u{e9}##fault F1 model 2:1@";
 
 #[test]
 fn faults_and_limits_have_their_lines(rt: HostRuntime) -> Result<(), Fail> {
-    for (model, params, status, want) in [
-        (EVEN, "letting n be 3", Status::Text, "fault F11 1\n"),
-        (EVEN, "letting n be 10", Status::Text, "fault F9 n\n"),
-        (EVEN, "", Status::Text, "fault F8 n\n"),
-        (
-            EVEN,
-            "letting n be 4 letting",
-            Status::Text,
-            "fault F2 params 1:23\n",
-        ),
-        (EVEN, "letting n be true", Status::Text, "fault F11 1\n"),
-        (
-            EVEN,
-            "letting n be 1 + true + [1]",
-            Status::Text,
-            "fault F5 params 1:14\n",
-        ),
-        (
-            EVEN,
-            "letting n be 1/0",
-            Status::Text,
-            "fault F10 params 1:1\n",
-        ),
-        (
-            GROUPS,
-            "letting a be 3 letting b be 2 letting c be 4",
-            Status::Text,
-            "fault F9 c\n",
-        ),
-        (
-            GROUPS,
-            "letting a be 3 letting b be 5 letting c be 4",
-            Status::Text,
-            "fault F9 b\n",
-        ),
-        (
-            GROUPS,
-            "letting a be 3 letting b be 5",
-            Status::Text,
-            "fault F8 c\n",
-        ),
-        (
-            GROUPS,
-            "letting a be 4 letting b be 1 letting c be 2",
-            Status::Text,
-            "fault F11 1\n",
-        ),
-        (
-            GROUPS,
-            "letting a be 3 letting b be 1 letting c be 2",
-            Status::Text,
-            "fault F11 2\n",
-        ),
-        (
-            "given a : int(1..9), b : int(1..1/0)",
-            "letting a be 1",
-            Status::Text,
-            "fault F10 model 2:1\n",
-        ),
-        (
-            "find x : int(1..3)\nsuch that x +",
-            "",
-            Status::Text,
-            "fault F2 model 3:14\n",
-        ),
-        (
-            "letting n be 1234567890123456789",
-            "",
-            Status::Limit,
-            "limit L2 model 2:14\n",
-        ),
-        (
-            "such that y = 1",
-            "",
-            Status::Text,
-            "fault F3 model 2:11 y\n",
-        ),
-        (
-            "find x : bool\nfind x : bool",
-            "",
-            Status::Text,
-            "fault F4 model 3:6 x\n",
-        ),
-        (
-            "find x : matrix indexed by [int(1..2)] of int(0..9)\n\
-             such that sum i : int(1..2) . x[i] = 5",
-            "",
-            Status::Text,
-            "fault F5 model 3:11\n",
-        ),
-        (
-            "find x : int(1..3)\nfind y : int(1..x)",
-            "",
-            Status::Text,
-            "fault F6 model 3:17\n",
-        ),
-        ("find x : int", "", Status::Text, "fault F7 model 2:10\n"),
-        (
-            "letting n be 1/0",
-            "",
-            Status::Text,
-            "fault F10 model 2:1\n",
-        ),
-        (
-            "letting m be [5, 6; int(1..3)]",
-            "",
-            Status::Text,
-            "fault F10 model 2:1\n",
-        ),
-        ("letting a be 2**41", "", Status::Limit, "limit L5\n"),
-        (
-            "find m : matrix indexed by [int(1..5000001)] of bool",
-            "",
-            Status::Limit,
-            "limit L4\n",
-        ),
-        (
-            "find x : int(0..16384)\nsuch that x * x * x = 8",
-            "",
-            Status::Limit,
-            "limit L5\n",
-        ),
-        (
-            "find x, y : int(0..9999)\nsuch that x*y = 6",
-            "",
-            Status::Limit,
-            "limit L6\n",
-        ),
-        (
-            "find x : int(0..16385)\nsuch that x ** 3 = 8",
-            "",
-            Status::Limit,
-            "limit L5\n",
-        ),
-        (
-            "find x : matrix indexed by [int(1..2)] of int(0..9999)\nsuch that product([x[i] | i : int(1..2)]) = 6",
-            "",
-            Status::Limit,
-            "limit L6\n",
-        ),
-    ] {
-        check_model(&rt, model, params, status, want)?;
+    for row in REFUSED.lines() {
+        check_row(&rt, SOLVE, "", row)?;
     }
     Ok(())
 }
+
+const JUDGED: &str = "\
+find x, y : int(1..9) such that x < y, x + y = 5#letting y be 4 letting x be 1#$ solution@
+find x, y : int(1..9) such that x < y, x + y = 5#letting x be 1 letting y be 3#$ violated 2@
+find x, y : int(1..9) such that x < y, x + y = 5#letting x be 1#$ wrong shape y@
+find x, y : int(1..9) such that x < y, x + y = 5#letting x be 1 letting y be 4 letting z be 2#$ wrong shape z@
+find x : int(0..3) minimising 6 / x#letting x be 0#$ objective undefined@
+find x : int(0..3) minimising 6 / x#letting x be 2#$ solution objective 3@
+find x : int(0..3)#letting x be 1/0#fault F10 solution 1:1@
+find x : int(0..3)#letting x : int(2..3) = 1#fault F9 x@
+find x : int(0..3)@such that y#letting z be y#fault F3 model 3:11 y@";
 
 #[test]
 fn solution_texts_are_judged(rt: HostRuntime) -> Result<(), Fail> {
-    let found = "letting S be 9 letting E be 5 letting N be 6 letting D be 7 letting M be 1 \
-                 letting O be 0 letting R be 8 ";
-    for (model, solution, last, status, want) in [
-        (
-            MONEY,
-            found,
-            "letting Y be 2",
-            Status::Answered,
-            "$ solution\n",
-        ),
-        (
-            MONEY,
-            found,
-            "letting Y be 3",
-            Status::Refuted,
-            "$ violated 1\n",
-        ),
-        (MONEY, found, "", Status::Refuted, "$ wrong shape Y\n"),
-        (
-            MONEY,
-            found,
-            "letting Y be 2 letting Z be 2",
-            Status::Refuted,
-            "$ wrong shape Z\n",
-        ),
-        (
-            "find x : int(0..3)\nminimising 6 / x",
-            "",
-            "letting x be 0",
-            Status::Refuted,
-            "$ objective undefined\n",
-        ),
-        (
-            "find x : int(0..3)\nminimising 6 / x",
-            "",
-            "letting x be 2",
-            Status::Answered,
-            "$ solution objective 3\n",
-        ),
-        (
-            "find x : int(0..3)",
-            "",
-            "letting x be 1/0",
-            Status::Text,
-            "fault F10 solution 1:1\n",
-        ),
-        (
-            "find x : int(0..3)",
-            "",
-            "letting x : int(2..3) = 1",
-            Status::Text,
-            "fault F9 x\n",
-        ),
-        (
-            "find x : int(0..3)\nsuch that y",
-            "letting z be y ",
-            "",
-            Status::Text,
-            "fault F3 model 3:11 y\n",
-        ),
-    ] {
-        let alloc = rt.alloc();
-        let model = with_first_line(alloc, model)?;
-        let mut text = String::from_str(alloc, solution)?;
-        text.push_str(last)?;
-        let texts = Texts {
-            model: model.as_bytes(),
-            params: "",
-            solution: text.as_str(),
-        };
-        check_run(&rt, &VERIFY, &texts, status, want)?;
+    for row in JUDGED.lines() {
+        check_row(&rt, VERIFY, "", row)?;
     }
     Ok(())
 }
 
-#[test]
-fn words_and_files_come_first(rt: HostRuntime) -> Result<(), Fail> {
-    let texts = Texts {
-        model: b"such that",
-        params: "such that",
-        solution: "such that",
-    };
-    for words in [
-        &["--in-param", "p"][..],
-        &["--in-eprime", "m", "--conflicts", "0"],
-        &["--in-eprime", "m", "--solutions", "2"],
-        &["--in-eprime", "m", "--in-eprime", "m"],
-        &["--in-eprime", "m", "--out-cnf", "x"],
-        &["--task", "enumerate", "--in-eprime", "m"],
-        &[
-            "--task",
-            "enumerate",
-            "--in-eprime",
-            "m",
-            "--solutions",
-            "0",
-        ],
-        &["--task", "generate", "--number", "0"],
-        &["--task", "verify", "--in-eprime", "m"],
-        &["--help"],
-        &[],
-    ] {
-        check_run(&rt, words, &texts, Status::Usage, "fault usage\n")?;
-    }
-    for (words, status, want) in [
-        (
-            &["--in-eprime", "none"][..],
-            Status::Device,
-            "device read none\n",
-        ),
-        (
-            &["--in-eprime", "m", "--in-param", "none"],
-            Status::Text,
-            "fault F2 model 1:1\n",
-        ),
-    ] {
-        check_run(&rt, words, &texts, status, want)?;
-    }
-    Ok(())
-}
-
-#[test]
-fn texts_come_in_their_order(rt: HostRuntime) -> Result<(), Fail> {
-    let model = with_first_line(rt.alloc(), "such that y")?;
-    let texts = Texts {
-        model: model.as_bytes(),
-        params: "letting",
-        solution: "letting",
-    };
-    for (words, status, want) in [
-        (
-            &["--in-eprime", "m", "--in-param", "none"][..],
-            Status::Device,
-            "device read none\n",
-        ),
-        (
-            &["--in-eprime", "m", "--in-param", "p"],
-            Status::Text,
-            "fault F2 params 1:8\n",
-        ),
-        (
-            &["--task=verify", "--in-eprime", "m", "--in-solution", "none"],
-            Status::Device,
-            "device read none\n",
-        ),
-        (
-            &["--task=verify", "--in-eprime", "m", "--in-solution", "s"],
-            Status::Text,
-            "fault F2 solution 1:8\n",
-        ),
-        (
-            &["--in-eprime", "m"],
-            Status::Text,
-            "fault F3 model 2:11 y\n",
-        ),
-    ] {
-        check_run(&rt, words, &texts, status, want)?;
-    }
-    Ok(())
-}
-
-#[test]
-fn bytes_are_faults(rt: HostRuntime) -> Result<(), Fail> {
-    let alloc = rt.alloc();
-    for (more, status, want) in [
-        (&b"\xff\n"[..], Status::Text, "fault F1 model 2:1\n"),
-        (
-            b"such that true $ \xff",
-            Status::Answered,
-            "language ESSENCE' 1.0\n$ solution\n",
-        ),
-    ] {
-        let mut model = Vec::from_slice(alloc, b"language ESSENCE' 1.0\n")?;
-        model.extend_from_slice(more)?;
-        let texts = Texts {
-            model: &model,
-            params: "",
-            solution: "",
-        };
-        check_run(&rt, &SOLVE, &texts, status, want)?;
-    }
-    Ok(())
-}
-
-/// `such that`, so many times a word, and what follows it.
-fn repeated(alloc: Global, count: usize, word: &str, last: &str) -> Result<String, AllocError> {
-    let mut text = with_first_line(alloc, "such that ")?;
-    for _ in 0..count {
-        text.push_str(word)?;
-    }
-    text.push_str(last)?;
-    Ok(text)
-}
-
-#[test]
-fn trees_may_be_so_high(rt: HostRuntime) -> Result<(), Fail> {
-    for (count, status, want) in [
-        (255, Status::Answered, "language ESSENCE' 1.0\n$ solution\n"),
-        (256, Status::Limit, "limit L3 model 2:266\n"),
-    ] {
-        let text = repeated(rt.alloc(), count, "!", " false")?;
-        let texts = Texts {
-            model: text.as_bytes(),
-            params: "",
-            solution: "",
-        };
-        check_run(&rt, &SOLVE, &texts, status, want)?;
-    }
-    Ok(())
-}
-
-#[test]
-fn devices_may_fail(rt: HostRuntime) -> Result<(), Fail> {
-    let alloc = rt.alloc();
-    let model = with_first_line(alloc, "find x : int(1..3)\nsuch that x > 2\n")?;
-    let texts = Texts {
-        model: model.as_bytes(),
-        params: "",
-        solution: "",
-    };
-    let answer = "language ESSENCE' 1.0\n$ solution\nletting x be 3\n";
-    for (file_fail, put_fail, status, want) in [
-        (1, 0, Status::Device, "device read m\n"),
-        (2, 0, Status::Device, "device read p\n"),
-        (3, 0, Status::Answered, answer),
-        (0, 1, Status::Device, ""),
-        (0, 2, Status::Device, "l"),
-        (0, 10, Status::Device, "language "),
-    ] {
-        let mut out = MemSink::new(alloc, 1, Vec::from_slice(alloc, &[put_fail])?);
-        let ended = run_on(&rt, &SOLVE, &texts, &[file_fail], &mut out)?;
-        assert_eq!(rt; ended, status);
-        assert_eq!(rt; out.taken(), want.as_bytes());
-    }
-    Ok(())
-}
+const LISTED: &str = "\
+find x : int(1..3) such that x > 2#all#$ solution 1@letting x be 3@$ complete@
+find x : int(1..3) such that x > 2#1#$ solution 1@letting x be 3@
+find x : int(1..3) such that x > 3#all#$ no solution@
+#2#$ solution 1@$ complete@
+find x : int(0..0) minimising 6 / x#all#$ no solution@
+find m : matrix indexed by [int(1..0)] of bool#all#$ solution 1@letting m be [; int(1..0)]@$ complete@";
 
 #[test]
 fn solutions_are_listed(rt: HostRuntime) -> Result<(), Fail> {
-    let alloc = rt.alloc();
-    for (model, solutions, want) in [
-        (
-            "find x : int(1..3)\nsuch that x > 2",
-            "all",
-            "$ solution 1\nletting x be 3\n$ complete\n",
-        ),
-        (
-            "find x : int(1..3)\nsuch that x > 2",
-            "1",
-            "$ solution 1\nletting x be 3\n",
-        ),
-        (
-            "find x : int(1..3)\nsuch that x > 3",
-            "all",
-            "$ no solution\n",
-        ),
-        ("", "2", "$ solution 1\n$ complete\n"),
-        (PIGEONS, "10", "$ no solution\n"),
-        (
-            "find x : int(0..0)\nminimising 6 / x",
-            "all",
-            "$ no solution\n",
-        ),
-    ] {
-        let model = with_first_line(alloc, model)?;
-        let texts = Texts {
-            model: model.as_bytes(),
-            params: "",
-            solution: "",
-        };
-        let words = [
-            "--task",
-            "enumerate",
-            "--in-eprime",
-            "m",
-            "--solutions",
-            solutions,
-        ];
-        let want = with_first_line(alloc, want)?;
-        check_run(&rt, &words, &texts, Status::Answered, want.as_str())?;
+    for row in LISTED.lines() {
+        let (_, rest) = row.split_once('#').unwrap_or((row, ""));
+        let (solutions, _) = rest.split_once('#').unwrap_or((rest, ""));
+        let mut words = String::from_str(rt.alloc(), LIST)?;
+        words.push(' ')?;
+        words.push_str(solutions)?;
+        check_row(&rt, words.as_str(), FIRST_LINE, row)?;
     }
     Ok(())
 }
@@ -708,21 +282,16 @@ fn solutions_are_listed(rt: HostRuntime) -> Result<(), Fail> {
 #[test]
 fn each_solution_is_listed_once(rt: HostRuntime) -> Result<(), Fail> {
     let alloc = rt.alloc();
-    let model = with_first_line(alloc, "find x : int(1..3)\nmaximising x\n")?;
+    let model = text_of(alloc, FIRST_LINE, "find x : int(1..3)@maximising x")?;
     let texts = Texts {
         model: model.as_bytes(),
-        params: "",
-        solution: "",
+        params: b"",
+        solution: b"",
     };
-    for (solutions, lines) in [("1", 3), ("3", 7), ("4", 8), ("all", 8)] {
-        let words = [
-            "--task=enumerate",
-            "--in-eprime=m",
-            "--solutions",
-            solutions,
-        ];
+    for (solutions, lines) in [(" 1", 3), (" 3", 7), (" 4", 8), (" all", 8)] {
+        let words = text_of(alloc, LIST, solutions)?;
         let mut out = MemSink::new(alloc, 1000, Vec::new(alloc));
-        let ended = run_on(&rt, &words, &texts, &[], &mut out)?;
+        let ended = run_on(&rt, words.as_str(), &texts, &[], &mut out)?;
         assert_eq!(rt; ended, Status::Answered);
         let count = out.taken().iter().filter(|byte| **byte == b'\n').count();
         assert_eq!(rt; count, lines);
@@ -730,28 +299,125 @@ fn each_solution_is_listed_once(rt: HostRuntime) -> Result<(), Fail> {
     Ok(())
 }
 
+/// Words that are no command.
+const NO_COMMANDS: &str = "\
+--in-param p
+--in-eprime m --conflicts 0
+--in-eprime m --solutions 2
+--in-eprime m --in-eprime m
+--in-eprime m --out-cnf x
+--task enumerate --in-eprime m
+--task enumerate --in-eprime m --solutions 0
+--task generate --number 0
+--task verify --in-eprime m
+--help
+ ";
+
+#[test]
+fn words_come_first(rt: HostRuntime) -> Result<(), Fail> {
+    let texts = Texts {
+        model: b"such that",
+        params: b"such that",
+        solution: b"such that",
+    };
+    for words in NO_COMMANDS.lines() {
+        check_run(&rt, words, &texts, Status::Usage, "fault usage\n")?;
+    }
+    Ok(())
+}
+
+/// Words over texts that all have faults, and the line of the first that is met.
+const ORDERED: &str = "\
+--in-eprime none#device read none@
+--in-eprime m --in-param none#device read none@
+--in-eprime m --in-param p#fault F2 params 1:8@
+--task=verify --in-eprime m --in-solution none#device read none@
+--task=verify --in-eprime m --in-solution s#fault F2 solution 1:8@
+--in-eprime s --in-param none#fault F2 model 1:1@
+--in-eprime m#fault F3 model 2:11 y@";
+
+#[test]
+fn files_come_in_their_order(rt: HostRuntime) -> Result<(), Fail> {
+    let alloc = rt.alloc();
+    let model = text_of(alloc, FIRST_LINE, "such that y")?;
+    let texts = Texts {
+        model: model.as_bytes(),
+        params: b"letting",
+        solution: b"letting",
+    };
+    for row in ORDERED.lines() {
+        let (words, want) = row.split_once('#').unwrap_or((row, ""));
+        let put = text_of(alloc, "", want)?;
+        check_run(&rt, words, &texts, status_of(want), put.as_str())?;
+    }
+    Ok(())
+}
+
+#[test]
+fn trees_may_be_so_high(rt: HostRuntime) -> Result<(), Fail> {
+    let alloc = rt.alloc();
+    for (count, want) in [(255, "#$ solution@"), (256, "#limit L3 model 2:266@")] {
+        let mut row = String::from_str(alloc, "such that ")?;
+        for _ in 0..count {
+            row.push('!')?;
+        }
+        row.push_str(" false#")?;
+        row.push_str(want)?;
+        let first_line = if count == 255 { FIRST_LINE } else { "" };
+        check_row(&rt, SOLVE, first_line, row.as_str())?;
+    }
+    Ok(())
+}
+
+const THREE: &str = "find x : int(1..3)@such that x > 2@";
+
+const THREE_ANSWERED: &str = "language ESSENCE' 1.0\n$ solution\nletting x be 3\n";
+
+#[test]
+fn devices_may_fail(rt: HostRuntime) -> Result<(), Fail> {
+    let alloc = rt.alloc();
+    let model = text_of(alloc, FIRST_LINE, THREE)?;
+    let texts = Texts {
+        model: model.as_bytes(),
+        params: b"",
+        solution: b"",
+    };
+    for (file_fail, put_fail, status, want) in [
+        (1, 0, Status::Device, "device read m\n"),
+        (2, 0, Status::Device, "device read p\n"),
+        (3, 0, Status::Answered, THREE_ANSWERED),
+        (0, 1, Status::Device, ""),
+        (0, 2, Status::Device, "l"),
+        (0, 10, Status::Device, "language "),
+    ] {
+        let mut out = MemSink::new(alloc, 1, Vec::from_slice(alloc, &[put_fail])?);
+        let ended = run_on(&rt, SOLVE, &texts, &[file_fail], &mut out)?;
+        assert_eq!(rt; ended, status);
+        assert_eq!(rt; out.taken(), want.as_bytes());
+    }
+    Ok(())
+}
+
 #[test]
 fn answers_are_written(rt: HostRuntime) -> Result<(), Fail> {
     let alloc = rt.alloc();
-    let model = with_first_line(alloc, "find x : int(1..3)\nsuch that x > 2\n")?;
+    let model = text_of(alloc, FIRST_LINE, THREE)?;
     let texts = Texts {
         model: model.as_bytes(),
-        params: "",
-        solution: "old",
+        params: b"",
+        solution: b"old",
     };
-    let answer = "language ESSENCE' 1.0\n$ solution\nletting x be 3\n";
-    let failed = "device write s\n";
     for (params, file_fail, put_fail, status, held, want) in [
-        ("p", 0, 0, Status::Answered, answer, answer),
-        ("p", 3, 0, Status::Device, "old", failed),
+        ("p", 0, 0, Status::Answered, THREE_ANSWERED, THREE_ANSWERED),
+        ("p", 3, 0, Status::Device, "old", "device write s\n"),
         ("p", 3, 8, Status::Device, "old", "device "),
-        ("p", 0, 2, Status::Device, answer, "l"),
+        ("p", 0, 2, Status::Device, THREE_ANSWERED, "l"),
         ("none", 0, 0, Status::Device, "old", "device read none\n"),
     ] {
-        let words = ["--in-eprime", "m", "--in-param", params, "--out-solution=s"];
+        let words = text_of(alloc, "--in-eprime m --out-solution=s --in-param ", params)?;
         let mut files = files_of(alloc, &texts, &[file_fail])?;
         let mut out = MemSink::new(alloc, 1, Vec::from_slice(alloc, &[put_fail])?);
-        let ended = run_over(&rt, &words, &mut files, &mut out)?;
+        let ended = run_over(&rt, words.as_str(), &mut files, &mut out)?;
         assert_eq!(rt; ended, status);
         assert_eq!(rt; out.taken(), want.as_bytes());
         assert_eq!(rt; files.get("s").unwrap_or(b""), held.as_bytes());

@@ -1,6 +1,6 @@
 //! The top call.
 
-ghost use Rattle.std.specs.Prelude.{◌≡◌, ◌≢◌, ◌⊎◌, ◌≤◌, ℕ, List, Err, Contains, IfSome, IsSomeAnd, Option, codes};
+ghost use Rattle.std.specs.Prelude.{◌≡◌, ◌⊎◌, ◌≤◌, ℕ, List, Err, Contains, IfSome, IsSomeAnd, Option, codes};
 ghost use Rattle.ep_base.specs.Outside.{Rose, TookPart, with_more};
 ghost use Rattle.ep_print.specs.Refusals.{refusal_text};
 ghost use Rattle.ep_print.specs.declared.refusals.Refusal.{Refusal};
@@ -27,8 +27,8 @@ use std::alloc::Global;
 use std::thread::Threads;
 
 /// Does what the words ask for, and says how it ended. What the solver was given and the steps that it
-/// made stand in the log then; where few assignments were tried for one solution it stays empty. The answer
-/// is written into the file that the words name for it before it is put out.
+/// made stand in the log then. The answer is written into the file that the words name for it before it is
+/// put out.
 pub fn run<R: Threads, F: Files, K: Sink>(
     rt: &R,
     alloc: Global,
@@ -109,12 +109,12 @@ pub fn run<R: Threads, F: Files, K: Sink>(
     ensures usage_refused { AreNoCommand words.now → ¬ Rose (K.faults out.old) (K.faults out.new) →
         (result ≡ StatusValue.Usage) ⊎ (result ≡ StatusValue.Memory) }
 
-    // Each step of the log is valid, and each with a literal new and effective, want of memory aside; and
-    // nothing is logged with a refusal or a judgement.
-    ensures sound { result ≢ StatusValue.Memory → IsSound log.new.events }
+    // Each step of the log is valid, and each with a literal new and effective, however the run ends; and
+    // nothing is logged with a refusal or a judgement, nor where a refusal stands.
+    ensures sound { IsSound log.new.events }
     ensures unlogged { (result ≡ StatusValue.Refuted) ⊎ ((result ≡ StatusValue.Usage)
         ⊎ ((result ≡ StatusValue.Text) ⊎ (result ≡ StatusValue.Limit))) → log.new ≡ empty_log }
-    ensures refused_unlogged { result ≢ StatusValue.Memory → IfSome (F.held files.old) (λ held.
+    ensures refused_unlogged { IfSome (F.held files.old) (λ held.
         (refusals : List Refusal) → Show words.now held (Err refusals) → log.new ≡ empty_log) }
 
     // Every file but the one that the words name for the answer stays as it was, and that one too where a

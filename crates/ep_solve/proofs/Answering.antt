@@ -1,59 +1,25 @@
 -- Answers over numbers of cells are right answers of the instance.
-use Rattle.std.proofs.Common.{◌≡◌, ◌↔◌, ℕ, ℤ, List, Option, Some, None, refl, sym, ap, subst, ◌∙◌, IsTrue, option_map}
+use Rattle.std.proofs.Common.{◌≡◌, ℕ, ℤ, List, Option, Some, None, refl, sym, ap, subst, ◌∙◌, IsTrue, option_map}
 use Rattle.cnf_core.specs.Events.{LogState}
 use Rattle.ep_base.specs.declared.operators.Sense.{Sense}
 use Rattle.ep_answer.specs.Answered.{FoundCells, IsBetterThan, IsRightAnswer, is_better}
 use Rattle.ep_answer.specs.Answered as found
 use Rattle.ep_answer.specs.Problems.{IsAllowed, ProblemState}
-use Rattle.ep_ground.specs.Grounds.{GroundState, IsGroundSolution, ground_objective}
-use Rattle.ep_ground.specs.declared.cells.Cell.{Cell}
-use Rattle.std.specs.List.{AllZip, Contains}
 use Rattle.ep_tree.specs.Binding.{Instance}
-use Rattle.ep_tree.specs.Closed.{IsClosed}
 use Rattle.ep_tree.specs.Solutions.{Assigned, IsBetter, IsSolution, better_number, goal_value}
 use Rattle.ep_tree.specs.declared.values.Mode.{Mode}
 use Rattle.ep_print.specs.Answers.{HasTypedValues, optimum, solution, unknown_with}
 use Rattle.ep_unroll.specs.Cells.{found_numbers}
-use Rattle.ep_solve.specs.Reading.{ReadsAs, answer_from, assignment_from, found_of}
+use Rattle.ep_solve.specs.Formulas.{Solves}
+use Rattle.ep_solve.specs.Reading.{answer_from, assignment_from, found_of}
 use Rattle.ep_solve.specs.Right.{IsRight}
-use Rattle.ep_solve.proofs.Cells.{numbers-read}
-use Rattle.ep_solve.proofs.Judged.{SpeaksFor, ground-solves, solution-grounded}
 
 -- ---- what a problem allows are the solutions of the instance
 
--- a problem's log allows exactly the numbers of cells that a ground keeps, with its objective
-abbrev pub Allows : ProblemState → LogState → GroundState → Type 0
-Allows p log g = (cells : List ℤ) (goal : Option ℤ) → IsAllowed p log cells goal ↔ (IsGroundSolution g cells × (goal ≡ ground_objective g cells))
-
--- numbers of cells that are allowed are a solution, whose objective has this number
-pub record Solves (mode : Mode) (i : Instance) (cells : List ℤ) (goal : Option ℤ) : Type 0 where
-  pub reads : ReadsAs i cells
-  pub solves : IsSolution mode i (assignment_from i.finds cells)
-  pub valued : goal_value mode i (found_of (assignment_from i.finds cells)) ≡ goal
-
-pub allowed-solves : (mode : Mode) (i : Instance) (g : GroundState) (p : ProblemState) (log : LogState) → IsClosed i → SpeaksFor mode i g → Allows p log g
-    → (cells : List ℤ) (goal : Option ℤ) → IsAllowed p log cells goal → Solves mode i cells goal
-allowed-solves mode i g p log closed speaks allows cells goal h =
-    let kept = (allows cells goal).0 h in
-    let P : List Cell → Type 0 = λ xs. AllZip (λ one value. Contains one.values value) xs cells in
-    let reads : ReadsAs i cells = numbers-read i cells closed (subst P speaks.cells kept.0.cells) in
-    let a : Assigned = assignment_from i.finds cells in
-    let Q : List ℤ → Type 0 = IsGroundSolution g in
-    let judged = ground-solves mode i g speaks a (found_of a) reads.fits (subst Q (sym reads.numbers_are) kept.0) in
-    record {
-      reads = reads;
-      solves = record { found = found_of a; fits = reads.fits; holds = judged.0; measured = judged.1 };
-      valued = sym (speaks.objective.numbers a (found_of a) reads.fits) ∙ ap (ground_objective g) reads.numbers_are ∙ sym kept.1;
-    }
-
--- a solution is allowed, with the number of its objective
-pub solution-allowed : (mode : Mode) (i : Instance) (g : GroundState) (p : ProblemState) (log : LogState) → SpeaksFor mode i g → Allows p log g
-    → (a : Assigned) (s : IsSolution mode i a) → IsAllowed p log (found_numbers s.found) (goal_value mode i s.found)
-solution-allowed mode i g p log speaks allows a s =
-    (allows (found_numbers s.found) (goal_value mode i s.found)).1 (
-      solution-grounded mode i g speaks a s.found s.fits s.holds s.measured,
-      sym (speaks.objective.numbers a s.found s.fits),
-    )
+-- a problem's log allows exactly the numbers of the cells in the solutions of an instance, each with the objective's number
+pub record Allows (mode : Mode) (i : Instance) (p : ProblemState) (log : LogState) : Type 0 where
+  pub solves : (cells : List ℤ) (goal : Option ℤ) → IsAllowed p log cells goal → Solves mode i cells goal
+  pub allowed : (a : Assigned) (s : IsSolution mode i a) → IsAllowed p log (found_numbers s.found) (goal_value mode i s.found)
 
 -- ---- better numbers
 
@@ -96,11 +62,11 @@ unknown-right : (mode : Mode) (i : Instance) (budget : ℕ) (number : ℤ) (cell
 unfolding IsRight
 unknown-right mode i budget number cells s = (refl, s.reads.fits.values, s.solves, s.valued)
 
-optimum-best : (mode : Mode) (i : Instance) (g : GroundState) (p : ProblemState) (log : LogState) → SpeaksFor mode i g → Allows p log g → HasSense p i
+optimum-best : (mode : Mode) (i : Instance) (p : ProblemState) (log : LogState) → Allows mode i p log → HasSense p i
     → (number : ℤ) (cells : List ℤ) → Solves mode i cells (Some number)
     → ((others : List ℤ) (goal : Option ℤ) → IsAllowed p log others goal → IsBetterThan p number goal → ⊥)
     → (b : Assigned) → IsSolution mode i b → IsBetter mode i b (assignment_from i.finds cells) → ⊥
-optimum-best mode i g p log speaks allows senses number cells s best b other better =
+optimum-best mode i p log allows senses number cells s best b other better =
     let a : Assigned = assignment_from i.finds cells in
     let same_own : better.other ≡ found_of a = same-some better.other (found_of a) (sym better.other_fits.values ∙ s.reads.fits.values) in
     let same_other : better.one ≡ other.found = same-some better.one other.found (sym better.one_fits.values ∙ other.fits.values) in
@@ -108,7 +74,7 @@ optimum-best mode i g p log speaks allows senses number cells s best b other bet
     let x : goal_value mode i other.found ≡ Some better.x = ap (goal_value mode i) (sym same_other) ∙ better.one_value in
     let named = stated-variable p.variables.objective i.goal better.sense better.e senses better.stated in
     let P : ℤ → Type 0 = λ n. IsTrue (better_number better.sense better.x n) in
-    best (found_numbers other.found) (goal_value mode i other.found) (solution-allowed mode i g p log speaks allows b other) (record {
+    best (found_numbers other.found) (goal_value mode i other.found) (allows.allowed b other) (record {
       sense = better.sense;
       variable = named.0;
       number = better.x;
@@ -117,34 +83,34 @@ optimum-best mode i g p log speaks allows senses number cells s best b other bet
       better = same-better better.sense better.x number ∙ subst P y better.is_better;
     })
 
-optimum-right : (mode : Mode) (i : Instance) (g : GroundState) (p : ProblemState) (log : LogState) → SpeaksFor mode i g → Allows p log g → HasSense p i
+optimum-right : (mode : Mode) (i : Instance) (p : ProblemState) (log : LogState) → Allows mode i p log → HasSense p i
     → (budget : ℕ) (number : ℤ) (cells : List ℤ) → Solves mode i cells (Some number)
     → ((others : List ℤ) (goal : Option ℤ) → IsAllowed p log others goal → IsBetterThan p number goal → ⊥)
     → IsRight mode i budget (optimum number (assignment_from i.finds cells))
 unfolding IsRight
-optimum-right mode i g p log speaks allows senses budget number cells s best = (
+optimum-right mode i p log allows senses budget number cells s best = (
   s.reads.fits.values,
-  record { solution = s.solves; best = optimum-best mode i g p log speaks allows senses number cells s best },
+  record { solution = s.solves; best = optimum-best mode i p log allows senses number cells s best },
   s.valued,
 )
 
-pub answered-right : (mode : Mode) (i : Instance) (g : GroundState) (p : ProblemState) (log : LogState) → IsClosed i → SpeaksFor mode i g → Allows p log g → HasSense p i
+pub answered-right : (mode : Mode) (i : Instance) (p : ProblemState) (log : LogState) → Allows mode i p log → HasSense p i
     → (budget : ℕ) (answer : FoundCells) → IsRightAnswer p budget log answer → IsRight mode i budget (answer_from i.finds budget answer)
 unfolding IsRightAnswer IsRight answer_from
-answered-right mode i g p log closed speaks allows senses budget (found.solution cells) h =
-    found-right mode i budget cells None (stated-none p.variables.objective i.goal senses h.unstated) (allowed-solves mode i g p log closed speaks allows cells None h.allowed)
-answered-right mode i g p log closed speaks allows senses budget (found.optimum number cells) h =
-    optimum-right mode i g p log speaks allows senses budget number cells (allowed-solves mode i g p log closed speaks allows cells (Some number) h.allowed) h.best
-answered-right mode i g p log closed speaks allows senses budget found.no_solution h = λ a s. h.none (found_numbers s.found) (goal_value mode i s.found) (solution-allowed mode i g p log speaks allows a s)
-answered-right mode i g p log closed speaks allows senses budget (found.unknown None) h = refl
-answered-right mode i g p log closed speaks allows senses budget (found.unknown (Some best)) h =
-    unknown-right mode i budget best.0 best.1 (allowed-solves mode i g p log closed speaks allows best.1 (Some best.0) h.incumbent)
+answered-right mode i p log allows senses budget (found.solution cells) h =
+    found-right mode i budget cells None (stated-none p.variables.objective i.goal senses h.unstated) (allows.solves cells None h.allowed)
+answered-right mode i p log allows senses budget (found.optimum number cells) h =
+    optimum-right mode i p log allows senses budget number cells (allows.solves cells (Some number) h.allowed) h.best
+answered-right mode i p log allows senses budget found.no_solution h = λ a s. h.none (found_numbers s.found) (goal_value mode i s.found) (allows.allowed a s)
+answered-right mode i p log allows senses budget (found.unknown None) h = refl
+answered-right mode i p log allows senses budget (found.unknown (Some best)) h =
+    unknown-right mode i budget best.0 best.1 (allows.solves best.1 (Some best.0) h.incumbent)
 
-pub answered-typed : (mode : Mode) (i : Instance) (g : GroundState) (p : ProblemState) (log : LogState) → IsClosed i → SpeaksFor mode i g → Allows p log g
+pub answered-typed : (mode : Mode) (i : Instance) (p : ProblemState) (log : LogState) → Allows mode i p log
     → (budget : ℕ) (answer : FoundCells) → IsRightAnswer p budget log answer → HasTypedValues (answer_from i.finds budget answer)
 unfolding IsRightAnswer answer_from
-answered-typed mode i g p log closed speaks allows budget (found.solution cells) h = (allowed-solves mode i g p log closed speaks allows cells None h.allowed).reads.typed
-answered-typed mode i g p log closed speaks allows budget (found.optimum number cells) h = (allowed-solves mode i g p log closed speaks allows cells (Some number) h.allowed).reads.typed
-answered-typed mode i g p log closed speaks allows budget found.no_solution h = tt
-answered-typed mode i g p log closed speaks allows budget (found.unknown None) h = tt
-answered-typed mode i g p log closed speaks allows budget (found.unknown (Some best)) h = (allowed-solves mode i g p log closed speaks allows best.1 (Some best.0) h.incumbent).reads.typed
+answered-typed mode i p log allows budget (found.solution cells) h = (allows.solves cells None h.allowed).reads.typed
+answered-typed mode i p log allows budget (found.optimum number cells) h = (allows.solves cells (Some number) h.allowed).reads.typed
+answered-typed mode i p log allows budget found.no_solution h = tt
+answered-typed mode i p log allows budget (found.unknown None) h = tt
+answered-typed mode i p log allows budget (found.unknown (Some best)) h = (allows.solves best.1 (Some best.0) h.incumbent).reads.typed

@@ -1,35 +1,31 @@
 -- What a search in the problem of an instance's ground leaves in its log.
 use Rattle.std.proofs.Common.{◌≡◌, ◌↔◌, ℕ, ℤ, Bool, true, List, [], ◌∷◌, ◌++◌, drop, length, take, map, Option, Some, None, refl, sym, ap, subst, ◌∙◌, arith}
 use Rattle.std.specs.Prelude.{All}
-use Rattle.std.proofs.Math.Seq.{take-append_seam, take-length}
+use Rattle.std.proofs.Math.Seq.{take-append_seam}
 use Rattle.std.proofs.lemmas.List.{length-take, take-append-drop}
 use Rattle.std.proofs.lemmas.List.Elements.{All-take}
 use Rattle.cnf_core.specs.Clauses.{Satisfies, SatisfiesClause}
 use Rattle.cnf_core.specs.Events.{HasBase, LogEvent, LogState, given, givens, is_given, step}
-use Rattle.cnf_core.specs.Formula.{Cnf}
 use Rattle.cnf_core.specs.Literal.{Literal}
 use Rattle.enc_var.specs.Decoding.{Means}
 use Rattle.enc_var.specs.Layouts.{GivesCells, decoded_cells, decoded_values}
 use Rattle.enc_var.specs.Notes.{cell_notes}
 use Rattle.ep_answer.specs.Answered.{AnswersCells, FoundCells, IsBetterThan, IsBudgetSpent, IsRightAnswer, IsStillWanted as IsCellWanted}
 use Rattle.ep_answer.specs.Answered as cells
-use Rattle.ep_answer.specs.Posed.{PosesGround}
 use Rattle.ep_answer.specs.Problems.{IsAllowed, ProblemState, base_clauses}
 use Rattle.ep_flat.specs.Flats.{MapsCells, objective_number}
-use Rattle.ep_ground.specs.Grounds.{GroundState}
 use Rattle.ep_ground.specs.declared.cells.Cell.{Cell}
 use Rattle.ep_tree.specs.Binding.{Instance}
-use Rattle.ep_tree.specs.Closed.{IsClosed}
 use Rattle.ep_tree.specs.Solutions.{Assigned, Found, IsSolution, goal_value}
 use Rattle.ep_tree.specs.declared.values.Mode.{Mode}
 use Rattle.ep_print.specs.Answers.{AnswerTree}
 use Rattle.ep_unroll.specs.Cells.{found_numbers, instance_cells}
-use Rattle.ep_solve.specs.Logged.{AreWanted, IsBetterGoal, IsLogged, IsStillWanted, ShowsAnswer, Stands, TellNumbers, TellSolutions}
+use Rattle.ep_solve.specs.Logged.{AreWanted, IsBetterGoal, IsLogged, IsStillWanted, ShowsAnswer, Stands, TellNumbers, TellSolutions, noted_value}
+use Rattle.ep_solve.specs.Formulas.{Solves}
 use Rattle.ep_solve.specs.Reading.{answer_from, assignment_from, found_of}
-use Rattle.ep_solve.proofs.Answering.{Allows, HasSense, Solves, allowed-solves, same-better, same-some, solution-allowed, stated-variable}
-use Rattle.ep_solve.proofs.Judged.{SpeaksFor}
-use Rattle.ep_solve.proofs.Solved.{FoundFor, SearchedFor, allows-after, same-base, searched}
-use Rattle.ep_solve.proofs.Telling.{notes-tell}
+use Rattle.ep_solve.proofs.Answering.{Allows, HasSense, same-better, same-some, stated-variable}
+use Rattle.ep_solve.proofs.Solved.{SearchedFor, allows-after, own-clauses, same-base}
+use Rattle.ep_solve.proofs.Telling.{as-many, notes-named, notes-tell}
 
 -- ---- givens of the first events
 
@@ -48,20 +44,18 @@ narrower s n events met =
 
 -- ---- solutions that clauses tell
 
--- what the search keeps of a problem: its log allows what the ground keeps, its notes are those of the instance's cells, and
--- under what satisfies its own clauses the literals mean what they say
-pub record Keeps (mode : Mode) (i : Instance) (g : GroundState) (p : ProblemState) (log : LogState) : Type 0 where
-  pub closed : IsClosed i
-  pub speaks : SpeaksFor mode i g
-  pub allows : Allows p log g
+-- What the search keeps of a problem: its log allows exactly the solutions of the instance, its notes are those of the instance's
+-- cells, and under what satisfies its own clauses the literals mean what they say.
+pub record Keeps (mode : Mode) (i : Instance) (p : ProblemState) (log : LogState) : Type 0 where
+  pub allows : Allows mode i p log
   pub notes : log.notes ≡ cell_notes p.layout (instance_cells i) p.variables.cells
   pub maps : MapsCells (map (λ one. one.values) (instance_cells i)) (map (λ e. e.domain) p.layout) p.variables
   pub meaning : (s : ℕ → Bool) → Satisfies s (base_clauses log) → All (Means s) p.layout
 
 -- under an assignment the notes tell the numbers that it gives the cells
-told : (mode : Mode) (i : Instance) (g : GroundState) (p : ProblemState) (log : LogState) → Keeps mode i g p log → (s : ℕ → Bool) → Satisfies s (base_clauses log)
+told : (mode : Mode) (i : Instance) (p : ProblemState) (log : LogState) → Keeps mode i p log → (s : ℕ → Bool) → Satisfies s (base_clauses log)
     → TellNumbers s log.notes (instance_cells i) (decoded_cells p.layout p.variables s)
-told mode i g p log k s met =
+told mode i p log k s met =
     subst (λ notes. TellNumbers s notes (instance_cells i) (decoded_cells p.layout p.variables s)) (sym k.notes)
     (notes-tell s p.layout (instance_cells i) p.variables k.maps (k.meaning s met))
 
@@ -83,29 +77,29 @@ are-wanted mode i numbers goal W V agree s want =
 
 -- Clauses that hold under assignments of the problem's own clauses alone, and give the cells exactly the numbers that are allowed
 -- and wanted, tell exactly the wanted solutions.
-pub tell-solutions : (mode : Mode) (i : Instance) (g : GroundState) (p : ProblemState) (log : LogState) → Keeps mode i g p log
+pub tell-solutions : (mode : Mode) (i : Instance) (p : ProblemState) (log : LogState) → Keeps mode i p log
     → (clauses : List (List Literal)) → ((s : ℕ → Bool) → Satisfies s clauses → Satisfies s (base_clauses log))
     → (W : List ℤ → Option ℤ → Type 0) (V : Found → Type 0) → Agree mode i W V
     → ((numbers : List ℤ) (goal : Option ℤ) → GivesCells p.layout p.variables clauses numbers goal ↔ (IsAllowed p log numbers goal × W numbers goal))
     → TellSolutions mode i log.notes clauses V
-tell-solutions mode i g p log k clauses own W V agree left = record {
+tell-solutions mode i p log k clauses own W V agree left = record {
   sound = λ s met.
       let numbers : List ℤ = decoded_cells p.layout p.variables s in
       let goal : Option ℤ = objective_number p.variables (decoded_values p.layout s) in
       let kept = (left numbers goal).0 (record { are_given = record { assignment = s; satisfies = met; gives = refl }; drives = refl }) in (
         numbers,
-        told mode i g p log k s (own s met),
-        are-wanted mode i numbers goal W V agree (allowed-solves mode i g p log k.closed k.speaks k.allows numbers goal kept.0) kept.1,
+        told mode i p log k s (own s met),
+        are-wanted mode i numbers goal W V agree (k.allows.solves numbers goal kept.0) kept.1,
       );
   complete = λ a solves want.
       let numbers : List ℤ = found_numbers solves.found in
       let goal : Option ℤ = goal_value mode i solves.found in
-      let gives = (left numbers goal).1 (solution-allowed mode i g p log k.speaks k.allows a solves, (agree a solves).1 want) in
+      let gives = (left numbers goal).1 (k.allows.allowed a solves, (agree a solves).1 want) in
       let s : ℕ → Bool = gives.are_given.assignment in
       record {
         assignment = s;
         satisfies = gives.are_given.satisfies;
-        tell = subst (λ ns. TellNumbers s log.notes (instance_cells i) ns) gives.are_given.gives (told mode i g p log k s (own s gives.are_given.satisfies));
+        tell = subst (λ ns. TellNumbers s log.notes (instance_cells i) ns) gives.are_given.gives (told mode i p log k s (own s gives.are_given.satisfies));
       };
 }
 
@@ -143,56 +137,49 @@ log-base old new whole all front base =
       givens = subst P (sym (ap (λ k. take k new.events) n ∙ front)) all;
     }
 
--- the problem's own clauses are the formula's
-own-clauses : (g : GroundState) (f : Cnf) (p : ProblemState) (old : LogState) → PosesGround g f p old → base_clauses old ≡ f.clauses
-own-clauses g f p old poses = ap (λ n. givens (take n old.events)) poses.is_base ∙ ap givens (take-length old.events) ∙ poses.givens_are
-
-pub kept : (mode : Mode) (i : Instance) → IsClosed i → (h : SearchedFor mode i) → h.new.notes ≡ h.old.notes → Keeps mode i h.g h.p h.new
-kept mode i closed h notes =
-    let cells_are : h.p.cells ≡ instance_cells i = h.poses.cells ∙ h.speaks.cells in
-    record {
-      closed = closed;
-      speaks = h.speaks;
-      allows = allows-after h.g h.f h.p h.old h.new h.poses h.front h.base;
-      notes = notes ∙ h.poses.notes ∙ ap (λ (cs : List Cell). cell_notes h.p.layout cs h.p.variables.cells) cells_are;
-      maps = subst (λ cs. MapsCells (map (λ one. one.values) cs) (map (λ e. e.domain) h.p.layout) h.p.variables) h.speaks.cells h.poses.formula.is_map.maps;
-      meaning = λ s met. h.poses.formula.is_layout.meaning s (subst (Satisfies s) (same-base h.old h.new h.poses.is_base h.front h.base ∙ own-clauses h.g h.f h.p h.old h.poses) met);
-    }
-
-pub stands : (mode : Mode) (i : Instance) (h : SearchedFor mode i) → Keeps mode i h.g h.p h.new → Stands mode i h.new
-stands mode i h k = record {
-  base = log-base h.old h.new h.poses.is_base h.poses.are_givens h.front h.base;
-  told = tell-solutions mode i h.g h.p h.new k (base_clauses h.new) (λ s met. met) (λ numbers goal. Unit {0}) (λ found. Unit {0}) (λ a s. (λ x. tt, λ x. tt)) (λ numbers goal. (λ gives. (gives, tt), λ both. both.0));
+pub kept : (mode : Mode) (i : Instance) → (h : SearchedFor mode i) → h.new.notes ≡ h.old.notes → Keeps mode i h.p h.new
+kept mode i h notes = record {
+  allows = allows-after mode i h.p h.old h.new h.poses h.front h.base;
+  notes = notes ∙ h.poses.notes ∙ ap (λ (cs : List Cell). cell_notes h.p.layout cs h.p.variables.cells) h.poses.cells;
+  maps = h.poses.stands.maps;
+  meaning = λ s met.
+      h.poses.stands.is_layout.meaning s
+      (subst (Satisfies s) (same-base h.old h.new h.poses.is_base h.front h.base ∙ own-clauses mode i h.p h.old h.poses) met);
 }
 
-leaves : (mode : Mode) (i : Instance) (g : GroundState) (p : ProblemState) (budget : ℕ) (log : LogState) (best : Option (ℤ × List ℤ)) → Keeps mode i g p log → HasSense p i
+pub stands : (mode : Mode) (i : Instance) (h : SearchedFor mode i) → Keeps mode i h.p h.new → Stands mode i h.new
+stands mode i h k = record {
+  base = log-base h.old h.new h.poses.is_base h.poses.are_givens h.front h.base;
+  notes = ap (map noted_value) k.notes ∙ notes-named h.p.layout (instance_cells i) h.p.variables.cells (as-many (instance_cells i) (map (λ e. e.domain) h.p.layout) h.p.variables k.maps);
+  told = tell-solutions mode i h.p h.new k (base_clauses h.new) (λ s met. met) (λ numbers goal. Unit {0}) (λ found. Unit {0}) (λ a s. (λ x. tt, λ x. tt)) (λ numbers goal. (λ gives. (gives, tt), λ both. both.0));
+}
+
+leaves : (mode : Mode) (i : Instance) (p : ProblemState) (budget : ℕ) (log : LogState) (best : Option (ℤ × List ℤ)) → Keeps mode i p log → HasSense p i
     → IsBudgetSpent p budget log best → TellSolutions mode i log.notes (givens log.events) (λ found. IsStillWanted i (best-of best) (goal_value mode i found))
-leaves mode i g p budget log best k senses spent =
-    tell-solutions mode i g p log k (givens log.events) (λ s met. narrower s log.base log.events met)
+leaves mode i p budget log best k senses spent =
+    tell-solutions mode i p log k (givens log.events) (λ s met. narrower s log.base log.events met)
     (λ numbers goal. IsStillWanted i (best-of best) goal) (λ found. IsStillWanted i (best-of best) (goal_value mode i found)) (λ a s. (λ x. x, λ x. x)) (λ numbers goal. (
       λ gives. let h = (spent.left numbers goal).0 gives in (h.0, (still-wanted i p best goal senses).0 h.1),
       λ both. (spent.left numbers goal).1 (both.0, (still-wanted i p best goal senses).1 both.1),
     ))
 
-shows : (mode : Mode) (i : Instance) (g : GroundState) (p : ProblemState) (budget : ℕ) (log : LogState) (found : FoundCells) → Keeps mode i g p log → HasSense p i
+shows : (mode : Mode) (i : Instance) (p : ProblemState) (budget : ℕ) (log : LogState) (found : FoundCells) → Keeps mode i p log → HasSense p i
     → IsRightAnswer p budget log found → ShowsAnswer mode i budget log (answer_from i.finds budget found)
 unfolding IsRightAnswer ShowsAnswer answer_from
-shows mode i g p budget log (cells.solution ns) k senses h = tt
-shows mode i g p budget log (cells.optimum n ns) k senses h = h.ends
-shows mode i g p budget log cells.no_solution k senses h = h.ends
-shows mode i g p budget log (cells.unknown None) k senses h = ((h.steps, h.none_is_empty), leaves mode i g p budget log None k senses h)
-shows mode i g p budget log (cells.unknown (Some best)) k senses h = ((h.steps, h.none_is_empty), leaves mode i g p budget log (Some best) k senses h)
+shows mode i p budget log (cells.solution ns) k senses h = tt
+shows mode i p budget log (cells.optimum n ns) k senses h = h.ends
+shows mode i p budget log cells.no_solution k senses h = h.ends
+shows mode i p budget log (cells.unknown None) k senses h = ((h.steps, h.none_is_empty), leaves mode i p budget log None k senses h)
+shows mode i p budget log (cells.unknown (Some best)) k senses h = ((h.steps, h.none_is_empty), leaves mode i p budget log (Some best) k senses h)
 
 -- what was found in the problem of an instance is logged
-pub found-logged : (mode : Mode) (i : Instance) (budget : ℕ) (found : FoundCells) (answer : AnswerTree) → IsClosed i → (h : FoundFor mode i budget found) → h.new.notes ≡ h.old.notes
+pub found-logged : (mode : Mode) (i : Instance) (budget : ℕ) (found : FoundCells) (answer : AnswerTree) → (h : SearchedFor mode i) → h.new.notes ≡ h.old.notes
     → AnswersCells h.p budget h.new found → answer ≡ answer_from i.finds budget found → IsLogged mode i budget h.new answer
-found-logged mode i budget found answer closed h notes answers same =
-    let t : SearchedFor mode i = searched mode i budget found h in
-    let k : Keeps mode i h.g h.p h.new = kept mode i closed t notes in
-    let senses : HasSense h.p i = h.poses.formula.is_map.senses ∙ h.speaks.objective.senses in
+found-logged mode i budget found answer h notes answers same =
+    let k : Keeps mode i h.p h.new = kept mode i h notes in
     record {
-      stands = stands mode i t k;
+      stands = stands mode i h k;
       sound = answers.sound;
       within = answers.within;
-      shows = subst (ShowsAnswer mode i budget h.new) (sym same) (shows mode i h.g h.p budget h.new found k senses h.right);
+      shows = subst (ShowsAnswer mode i budget h.new) (sym same) (shows mode i h.p budget h.new found k h.poses.stands.senses answers.right);
     }

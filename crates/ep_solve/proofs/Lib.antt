@@ -5,6 +5,7 @@ pub mod MakingSteps
 pub mod GivenLogs
 pub mod RunNumbers
 pub mod Scalars
+pub mod Standing
 pub mod Solved
 pub mod Telling
 pub mod Leaving

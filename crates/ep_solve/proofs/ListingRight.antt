@@ -10,14 +10,13 @@ use Rattle.ep_answer.specs.Answered as cells
 use Rattle.ep_answer.specs.Problems.{IsAllowed}
 use Rattle.ep_print.specs.Listings.{ListingTree}
 use Rattle.ep_tree.specs.Binding.{Instance}
-use Rattle.ep_tree.specs.Closed.{IsClosed}
 use Rattle.ep_tree.specs.Solutions.{Assigned, Found, IsSolution, goal_value}
 use Rattle.ep_tree.specs.declared.values.Mode.{Mode}
 use Rattle.ep_unroll.specs.Cells.{found_numbers}
+use Rattle.ep_solve.specs.Formulas.{Solves}
 use Rattle.ep_solve.specs.Listed.{EndsRightly, IsListed, IsUnlisted, Lists}
 use Rattle.ep_solve.specs.Reading.{assignment_from, end_from, found_of, listing_from}
 use Rattle.ep_solve.specs.Right.{IsWritten}
-use Rattle.ep_solve.proofs.Answering.{Solves, allowed-solves, solution-allowed}
 use Rattle.ep_solve.proofs.Cells.{found-read}
 use Rattle.ep_solve.proofs.Leaving.{Agree, Keeps, kept, narrower, stands, tell-solutions}
 use Rattle.ep_solve.proofs.Solved.{SearchedFor}
@@ -81,19 +80,19 @@ listed-as mode i found all a s = (
 
 -- ---- the list
 
-solve-all : (mode : Mode) (i : Instance) (budget most : ℕ) (h : SearchedFor mode i) → Keeps mode i h.g h.p h.new → (found : List (List ℤ)) (end : ListingEnd)
+solve-all : (mode : Mode) (i : Instance) (budget most : ℕ) (h : SearchedFor mode i) → Keeps mode i h.p h.new → (found : List (List ℤ)) (end : ListingEnd)
     → ListsCells h.p budget most h.old h.new found end → AllSolve mode i found
 solve-all mode i budget most h k found end lists =
     All-weaker (λ numbers. (goal : Option ℤ) × IsAllowed h.p h.new numbers goal) (λ numbers. (goal : Option ℤ) × Solves mode i numbers goal)
-    (λ numbers one. (one.0, allowed-solves mode i h.g h.p h.new k.closed k.speaks k.allows numbers one.0 one.1)) found lists.allowed
+    (λ numbers one. (one.0, k.allows.solves numbers one.0 one.1)) found lists.allowed
 
 -- how the list ends
-ends-rightly : (mode : Mode) (i : Instance) (budget most : ℕ) (h : SearchedFor mode i) → Keeps mode i h.g h.p h.new → (found : List (List ℤ)) (end : ListingEnd) → AllSolve mode i found
+ends-rightly : (mode : Mode) (i : Instance) (budget most : ℕ) (h : SearchedFor mode i) → Keeps mode i h.p h.new → (found : List (List ℤ)) (end : ListingEnd) → AllSolve mode i found
     → IsRightEnd h.p budget most h.new found end → EndsRightly mode i budget most h.new (map (read-as i) found) (end_from budget end)
 unfolding IsRightEnd EndsRightly end_from
 ends-rightly mode i budget most h k found cells.complete all right = (
   subst (λ n. n < most) (sym (length-map found (read-as i))) right.0,
-  λ a s. (listed-as mode i found all a s).0 (right.1 (found_numbers s.found) (goal_value mode i s.found) (solution-allowed mode i h.g h.p h.new k.speaks k.allows a s)),
+  λ a s. (listed-as mode i found all a s).0 (right.1 (found_numbers s.found) (goal_value mode i s.found) (k.allows.allowed a s)),
   right.2,
 )
 ends-rightly mode i budget most h k found cells.stopped all right = length-map found (read-as i) ∙ right
@@ -104,11 +103,11 @@ ends-rightly mode i budget most h k found cells.spent all right = (
 )
 
 -- what was listed in the problem of an instance is a right list
-pub lists-right : (mode : Mode) (i : Instance) (budget most : ℕ) (found : List (List ℤ)) (end : ListingEnd) (listing : ListingTree) → IsClosed i → (h : SearchedFor mode i) → h.new.notes ≡ h.old.notes
+pub lists-right : (mode : Mode) (i : Instance) (budget most : ℕ) (found : List (List ℤ)) (end : ListingEnd) (listing : ListingTree) → (h : SearchedFor mode i) → h.new.notes ≡ h.old.notes
     → ListsCells h.p budget most h.old h.new found end → listing ≡ listing_from i.finds budget found end → Lists mode i budget most h.new listing
 unfolding listing_from
-lists-right mode i budget most found end listing closed h notes lists same =
-    let k : Keeps mode i h.g h.p h.new = kept mode i closed h notes in
+lists-right mode i budget most found end listing h notes lists same =
+    let k : Keeps mode i h.p h.new = kept mode i h notes in
     let all : AllSolve mode i found = solve-all mode i budget most h k found end lists in
     subst (Lists mode i budget most h.new) (sym same) (record {
       stands = stands mode i h k;
@@ -120,7 +119,7 @@ lists-right mode i budget most found end listing closed h notes lists same =
       different = subst (AllPairs ◌≢◌) (sym (mapped-twice found_of (read-as i) found))
           (stay-different (given-by i) found_numbers found
           (All-weaker (λ numbers. (goal : Option ℤ) × Solves mode i numbers goal) (λ numbers. found_numbers (given-by i numbers) ≡ numbers) (λ numbers one. one.1.reads.numbers_are) found all) lists.different);
-      left = tell-solutions mode i h.g h.p h.new k (givens h.new.events) (λ s met. narrower s h.new.base h.new.events met)
+      left = tell-solutions mode i h.p h.new k (givens h.new.events) (λ s met. narrower s h.new.base h.new.events met)
           (λ numbers goal. Contains found numbers → ⊥) (IsUnlisted (map (read-as i) found)) (unlisted all) lists.left;
       ends = ends-rightly mode i budget most h k found end all lists.right_end;
     })

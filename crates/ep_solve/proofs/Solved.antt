@@ -1,29 +1,31 @@
 -- What a search in the problem of an instance's ground finds is right.
-use Rattle.std.proofs.Common.{◌≡◌, ◌↔◌, ℕ, ◌+◌, ◌*◌, ◌≤◌, Bool, true, false, nat_lt, ℤ, List, [], ◌∷◌, ◌++◌, length, take, Option, refl, sym, ap, subst, ◌∙◌, arith, if◌then◌else◌, int_lt}
-use Rattle.std.specs.Prelude.{sum_by}
-use Rattle.std.proofs.lemmas.List.{take_all}
+use Rattle.std.proofs.Common.{◌≡◌, ℕ, ◌+◌, ◌*◌, ◌≤◌, Bool, true, false, nat_lt, ℤ, List, [], ◌∷◌, ◌++◌, length, map, take, refl, sym, ap, subst, ◌∙◌, arith, if◌then◌else◌, int_lt}
+use Rattle.std.specs.Prelude.{All, sum_by}
+use Rattle.std.proofs.lemmas.Bool.{false≢true}
 use Rattle.std.proofs.lemmas.Bool.Decides.{nat_tests}
-use Rattle.cnf_core.specs.Events.{LogState, givens}
+use Rattle.std.proofs.lemmas.List.{take_all}
+use Rattle.std.proofs.lemmas.List.Elements.{All-head, All-tail}
+use Rattle.cnf_core.specs.Clauses.{Satisfies}
+use Rattle.cnf_core.specs.Events.{LogEvent, LogState, clauses_of, given, givens, is_given, step}
 use Rattle.cnf_core.specs.Formula.{Cnf}
-use Rattle.cnf_core.specs.Literal.{Literal}
-use Rattle.enc_var.specs.Layouts.{GivesCells}
+use Rattle.cnf_core.specs.Steps.{IsConsistent}
+use Rattle.enc_var.specs.Layouts.{decoded_cells}
 use Rattle.ep_answer.specs.Answered.{FoundCells, IsRightAnswer}
-use Rattle.ep_answer.specs.Posed.{PosesGround}
-use Rattle.ep_answer.specs.Problems.{ProblemState, base_clauses}
-use Rattle.ep_answer.proofs.Posing.{posed_allows}
-use Rattle.ep_ground.specs.Grounds.{GroundState, IsGroundSolution, ground_objective}
+use Rattle.ep_answer.specs.Problems.{CanSearch, ProblemState, base_clauses}
+use Rattle.ep_flat.specs.Flats.{MapsCells}
 use Rattle.ep_tree.specs.Binding.{Instance, Refusal, over_limit}
-use Rattle.ep_tree.specs.Closed.{IsClosed}
 use Rattle.ep_tree.specs.Limits.{MOST_REACH, MOST_SIZE, MOST_WEIGHT}
 use Rattle.ep_tree.specs.Measures.{Met, farthest_reach, size_of}
-use Rattle.ep_tree.specs.Solutions.{cell_count, instance_limits, instance_size, instance_weight, limits_passed, met_instance, or_weight}
+use Rattle.ep_tree.specs.Solutions.{cell_count, goal_value, instance_limits, instance_size, instance_weight, limits_passed, met_instance, or_weight}
 use Rattle.ep_tree.specs.declared.values.Mode.{Mode}
 use Rattle.ep_base.specs.declared.operators.Limit.{Limit}
 use Rattle.ep_print.specs.Answers.{AnswerTree, HasTypedValues}
-use Rattle.ep_solve.specs.Reading.{answer_from}
+use Rattle.ep_unroll.specs.Cells.{found_numbers}
+use Rattle.ep_solve.specs.Formulas.{IsFormulaFor, Poses, Solves}
+use Rattle.ep_solve.specs.Reading.{answer_from, assignment_from, found_of}
 use Rattle.ep_solve.specs.Right.{IsRight}
-use Rattle.ep_solve.proofs.Answering.{Allows, HasSense, answered-right, answered-typed}
-use Rattle.ep_solve.proofs.Judged.{SpeaksFor}
+use Rattle.ep_solve.proofs.Answering.{Allows, answered-right, answered-typed}
+use Rattle.ep_solve.proofs.Cells.{found-read}
 
 -- ---- limits
 
@@ -66,51 +68,73 @@ same-base old new whole front base =
     ∙ ap givens front
     ∙ sym (ap (λ n. givens (take n old.events)) whole ∙ ap givens (take-own old.events))
 
-pub allows-after : (g : GroundState) (f : Cnf) (p : ProblemState) (old new : LogState) → PosesGround g f p old → take (length old.events) new.events ≡ old.events → new.base ≡ old.base → Allows p new g
-allows-after g f p old new poses front base =
-    let P : List (List Literal) → Type 0 = λ clauses. (cells : List ℤ) (goal : Option ℤ) → GivesCells p.layout p.variables clauses cells goal ↔ (IsGroundSolution g cells × (goal ≡ ground_objective g cells)) in
-    subst P (sym (same-base old new poses.is_base front base)) (posed_allows g f p old poses)
+-- the clauses of givens are the givens
+all-given : (events : List LogEvent) → All (λ e. is_given e ≡ true) events → clauses_of events ≡ givens events
+all-given [] h = refl
+all-given (given clause ∷ events) h = ap (λ cs. clause ∷ cs) (all-given events (All-tail (λ e. is_given e ≡ true) (given clause) events h))
+all-given (step clause hints ∷ events) h = absurd (false≢true (All-head (λ e. is_given e ≡ true) (step clause hints) events h))
+
+-- a search may begin in a problem that poses an instance
+pub posed-can-search : (mode : Mode) (i : Instance) (p : ProblemState) (log : LogState) → Poses mode i p log → CanSearch p log
+posed-can-search mode i p log h = record {
+  is_whole = h.is_whole;
+  are_givens = h.are_givens;
+  is_base = h.is_base;
+  notes = h.notes;
+  consistent = subst (All IsConsistent) (sym (all-given log.events h.are_givens ∙ h.givens_are)) h.stands.consistent;
+  clauses = h.clauses;
+  maps = subst (λ cs. MapsCells (map (λ one. one.values) cs) (map (λ e. e.domain) p.layout) p.variables) (sym h.cells) h.stands.maps;
+  meaning = λ s met. h.stands.is_layout.meaning s (subst (Satisfies s) h.givens_are met);
+}
+
+-- the problem's own clauses are the formula's
+pub own-clauses : (mode : Mode) (i : Instance) (p : ProblemState) (old : LogState) → (h : Poses mode i p old) → base_clauses old ≡ h.formula.clauses
+own-clauses mode i p old h = ap (λ n. givens (take n old.events)) h.is_base ∙ ap givens (take-own old.events) ∙ h.givens_are
+
+-- clauses that are a formula's allow exactly the solutions of the instance for which it stands
+clauses-allow : (mode : Mode) (i : Instance) (p : ProblemState) (log : LogState) (f : Cnf) → IsFormulaFor mode i p.layout p.variables f → base_clauses log ≡ f.clauses → Allows mode i p log
+clauses-allow mode i p log f stands own = record {
+  solves = λ cells goal h.
+      let s : ℕ → Bool = h.are_given.assignment in
+      let found = stands.sound s (subst (Satisfies s) own h.are_given.satisfies) in
+      subst (λ ns. Solves mode i ns goal) h.are_given.gives (subst (Solves mode i (decoded_cells p.layout p.variables s)) h.drives found);
+  allowed = λ a solves.
+      let numbers : List ℤ = found_numbers solves.found in
+      let given = stands.complete a solves in
+      let s : ℕ → Bool = given.assignment in
+      let found = stands.sound s given.satisfies in
+      let same : found_of (assignment_from i.finds (decoded_cells p.layout p.variables s)) ≡ solves.found =
+      ap (λ ns. found_of (assignment_from i.finds ns)) given.gives ∙ found-read i a solves.found solves.fits in
+      record {
+        are_given = record { assignment = s; satisfies = subst (Satisfies s) (sym own) given.satisfies; gives = given.gives };
+        drives = sym found.valued ∙ ap (goal_value mode i) same;
+      };
+}
+
+pub allows-after : (mode : Mode) (i : Instance) (p : ProblemState) (old new : LogState) → Poses mode i p old → take (length old.events) new.events ≡ old.events → new.base ≡ old.base → Allows mode i p new
+allows-after mode i p old new h front base =
+    clauses-allow mode i p new h.formula h.stands (same-base old new h.is_base front base ∙ own-clauses mode i p old h)
 
 -- ---- answers
 
 -- a search went on in the problem of an instance
 pub record SearchedFor (mode : Mode) (i : Instance) : Type 0 where
-  pub g : GroundState
-  pub f : Cnf
   pub p : ProblemState
   pub old : LogState
   pub new : LogState
-  pub speaks : SpeaksFor mode i g
-  pub poses : PosesGround g f p old
+  pub poses : Poses mode i p old
   pub front : take (length old.events) new.events ≡ old.events
   pub base : new.base ≡ old.base
 
--- what was found in the problem of an instance
-pub record FoundFor (mode : Mode) (i : Instance) (budget : ℕ) (found : FoundCells) : Type 0 where
-  pub g : GroundState
-  pub f : Cnf
-  pub p : ProblemState
-  pub old : LogState
-  pub new : LogState
-  pub speaks : SpeaksFor mode i g
-  pub poses : PosesGround g f p old
-  pub front : take (length old.events) new.events ≡ old.events
-  pub base : new.base ≡ old.base
-  pub right : IsRightAnswer p budget new found
-
--- the search in which it was found
-abbrev pub searched : (mode : Mode) (i : Instance) (budget : ℕ) (found : FoundCells) → FoundFor mode i budget found → SearchedFor mode i
-searched mode i budget found h = record { g = h.g; f = h.f; p = h.p; old = h.old; new = h.new; speaks = h.speaks; poses = h.poses; front = h.front; base = h.base }
-
-pub found-right : (mode : Mode) (i : Instance) (budget : ℕ) (found : FoundCells) (answer : AnswerTree) → IsClosed i → FoundFor mode i budget found
+-- what was found in a search is right and of its types
+pub found-right : (mode : Mode) (i : Instance) (budget : ℕ) (found : FoundCells) (answer : AnswerTree) → (h : SearchedFor mode i) → IsRightAnswer h.p budget h.new found
     → answer ≡ answer_from i.finds budget found → IsRight mode i budget answer
-found-right mode i budget found answer closed h same =
-    let senses : HasSense h.p i = h.poses.formula.is_map.senses ∙ h.speaks.objective.senses in
+found-right mode i budget found answer h right same =
     subst (IsRight mode i budget) (sym same)
-    (answered-right mode i h.g h.p h.new closed h.speaks (allows-after h.g h.f h.p h.old h.new h.poses h.front h.base) senses budget found h.right)
+    (answered-right mode i h.p h.new (allows-after mode i h.p h.old h.new h.poses h.front h.base) h.poses.stands.senses budget found right)
 
-pub found-typed : (mode : Mode) (i : Instance) (budget : ℕ) (found : FoundCells) (answer : AnswerTree) → IsClosed i → FoundFor mode i budget found
+pub found-typed : (mode : Mode) (i : Instance) (budget : ℕ) (found : FoundCells) (answer : AnswerTree) → (h : SearchedFor mode i) → IsRightAnswer h.p budget h.new found
     → answer ≡ answer_from i.finds budget found → HasTypedValues answer
-found-typed mode i budget found answer closed h same =
+found-typed mode i budget found answer h right same =
     subst HasTypedValues (sym same)
-    (answered-typed mode i h.g h.p h.new closed h.speaks (allows-after h.g h.f h.p h.old h.new h.poses h.front h.base) budget found h.right)
+    (answered-typed mode i h.p h.new (allows-after mode i h.p h.old h.new h.poses h.front h.base) budget found right)

@@ -18,7 +18,7 @@ use Rattle.ep_ground.specs.declared.cells.Cell.{Cell}
 use Rattle.enc_var.specs.Decoding.{Means, VariableLiterals, decoded, literal_holds, note_of}
 use Rattle.enc_var.specs.Layouts.{decoded_cells, decoded_values, literals_at}
 use Rattle.enc_var.specs.Notes.{cell_notes, cell_text, notes_of_cell}
-use Rattle.ep_solve.specs.Logged.{TellNumber, TellNumbers}
+use Rattle.ep_solve.specs.Logged.{TellNumber, TellNumbers, named_values, noted_value}
 
 -- ---- one cell
 
@@ -70,6 +70,34 @@ unfolding notes_of_cell
 long-notes layout one x =
     let note : ℤ → Note = λ v. record { cell = cell_text one; value = v; lit = note_of (literals_at layout x) v } in
     length-map one.values note
+
+-- ---- what notes name
+
+map-append : {A B : Type 0} (f : A → B) (xs ys : List A) → map f (xs ++ ys) ≡ map f xs ++ map f ys
+map-append f [] ys = refl
+map-append f (x ∷ xs) ys = ap (λ zs. f x ∷ zs) (map-append f xs ys)
+
+cell-named : (e : VariableLiterals) (cell : List ℕ) (values : List ℤ) → map noted_value (map (λ v. record { cell = cell; value = v; lit = note_of e v }) values) ≡ map {B = List ℕ × ℤ} (λ v. (cell, v)) values
+cell-named e cell [] = refl
+cell-named e cell (v ∷ values) = let first : List ℕ × ℤ = (cell, v) in ap (λ vs. first ∷ vs) (cell-named e cell values)
+
+-- the notes of cells name each cell with each of its values
+pub notes-named : (layout : List VariableLiterals) (cells : List Cell) (xs : List ℕ) → length xs ≡ length cells → map noted_value (cell_notes layout cells xs) ≡ named_values cells
+unfolding cell_notes named_values notes_of_cell
+notes-named layout [] [] same = refl
+notes-named layout [] (x ∷ xs) same = refl
+notes-named layout (one ∷ cells) [] same = absurd (omega (arith, same))
+notes-named layout (one ∷ cells) (x ∷ xs) same =
+    let note : ℤ → Note = λ v. record { cell = cell_text one; value = v; lit = note_of (literals_at layout x) v } in
+    let own : List (List ℕ × ℤ) = map (λ v. (cell_text one, v)) one.values in
+    map-append noted_value (map note one.values) (cell_notes layout cells xs)
+    ∙ ap (λ named. named ++ map noted_value (cell_notes layout cells xs)) (cell-named (literals_at layout x) (cell_text one) one.values)
+    ∙ ap (λ named. own ++ named) (notes-named layout cells xs (omega (arith, same)))
+
+-- a map names as many variables as there are cells
+pub as-many : (cells : List Cell) (domains : List (List ℤ)) (m : MapState) → MapsCells (map (λ one. one.values) cells) domains m → length m.cells ≡ length cells
+as-many cells domains m maps =
+    sym (length-map m.cells (λ x. slice_index_or domains x [])) ∙ ap length maps.domains ∙ length-map cells (λ one. one.values)
 
 -- ---- cell by cell
 

@@ -1,4 +1,5 @@
 pub mod Reading
 pub mod Right
+pub mod Formulas
 pub mod Logged
 pub mod Listed

@@ -1,5 +1,5 @@
 -- What a log shows of an instance, beside its answer: that its givens stand for the instance, and which solutions are left.
-use Rattle.std.specs.Prelude.{◌≡◌, ◌↔◌, ◌≤◌, ℕ, ℤ, Bool, IsTrue, List, [], ◌∷◌, drop, length, map, take, Option, Some, None}
+use Rattle.std.specs.Prelude.{◌≡◌, ◌↔◌, ◌≤◌, ℕ, ℤ, Bool, IsTrue, List, [], ◌∷◌, ◌++◌, drop, length, map, take, Option, Some, None}
 use Rattle.std.specs.List.{All, Contains}
 use Rattle.cnf_core.specs.Clauses.{IsTrueUnder, Satisfies}
 use Rattle.cnf_core.specs.Events.{HasBase, LogState, Note, givens, nonempty_steps}
@@ -70,10 +70,20 @@ unfoldable pub IsStillWanted : Instance → Option ℤ → Option ℤ → Type 0
 IsStillWanted i None goal = Unit {0}
 IsStillWanted i (Some best) goal = IsBetterGoal i best goal
 
--- The log's first events are the instance's own: they are givens, and by the log's notes what satisfies them are exactly the
--- solutions of the instance.
+-- what a note names: a cell, and one of its values
+abbrev pub noted_value : Note → List ℕ × ℤ
+noted_value n = (n.cell, n.value)
+
+-- what the notes of cells name, cell by cell: each of a cell's values in its order, with the cell's name
+unfoldable pub named_values : List Cell → List (List ℕ × ℤ)
+named_values [] = []
+named_values (one ∷ cells) = map (λ v. (cell_text one, v)) one.values ++ named_values cells
+
+-- The log's first events are the instance's own: they are givens, its notes name each cell of the instance with each of its values,
+-- and by the notes what satisfies the givens are exactly the solutions of the instance.
 pub record Stands (mode : Mode) (i : Instance) (log : LogState) : Type 0 where
   pub base : HasBase log.events log.base
+  pub notes : map noted_value log.notes ≡ named_values (instance_cells i)
   pub told : TellSolutions mode i log.notes (givens (take log.base log.events)) (λ _. Unit {0})
 
 -- what satisfies all givens of the log are exactly the solutions that are better than the one at hand

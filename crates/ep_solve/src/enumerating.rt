@@ -11,23 +11,22 @@ ghost use Rattle.ep_solve.specs.Reading.{end_from, listing_from};
 ghost use Rattle.ep_solve.specs.Right.{empty_log};
 ghost use Rattle.ep_tree.specs.Closed.{IsClosed};
 ghost use Rattle.ep_tree.specs.Solutions.{instance_limits};
+ghost use Rattle.sat_search.specs.Logs.{IsSound};
 
+use crate::formulas::formula_for;
 use crate::posing::posed;
 use crate::reading_back::assignment_from;
 use cnf_core::Log;
 use ep_answer::{CellListing, End, enumerate_cells};
 use ep_base::Memory;
-use ep_formula::formula_of;
 use ep_instance::{Find, Instance};
 use ep_print::{Listing, ListingEnd};
-use ep_unroll::unroll;
 use std::alloc::Global;
 
 /// At most so many solutions of an instance, none twice, and whether these are all, within so many
 /// conflicts over all of them. An objective only has to have a value. The formula, a given for each solution
-/// which blocks it, and the solver's steps stand in the log then.
-///
-/// In the strict mode, and of forms that aren't unrolled yet, it ends for want of memory.
+/// which blocks it, and the solver's steps stand in the log then, and each step is sound, however it ends. In
+/// the strict mode it ends for want of memory.
 pub fn enumerate(
     alloc: Global,
     instance: &Instance,
@@ -41,9 +40,9 @@ pub fn enumerate(
     requires empty { log.old ≡ empty_log }
     ensures lists { IfOk result (λ listing.
         Lists (mode_of instance.now) (instance_of instance.now) budget most log.new (listing_tree listing)) }
+    ensures sound { IsSound log.new.events }
 {
-    let ground = unroll(alloc, instance)?;
-    let encoded = formula_of(alloc, ground)?;
+    let encoded = formula_for(alloc, instance)?;
     let mut problem = posed(alloc, encoded, log)?;
     let found = enumerate_cells(alloc, &mut problem, most, budget, log)?;
     listing_from(alloc, instance.finds(), budget, found)

@@ -2,6 +2,7 @@
 #![tactic(auto)]
 
 mod enumerating;
+mod formulas;
 mod laws;
 mod listing;
 mod posing;
@@ -9,5 +10,6 @@ mod reading_back;
 mod solving;
 
 pub use enumerating::enumerate;
+pub use formulas::formula_for;
 pub use laws::cells_stand_for_values;
 pub use solving::solve;

@@ -1,14 +1,16 @@
 //! A formula and its cells as a problem for the solver.
 
-ghost use Rattle.std.specs.Prelude.{◌≡◌, [], map, IfOk, OnOk};
-ghost use Rattle.cnf_core.specs.Events.{given};
+ghost use Rattle.std.specs.Prelude.{◌≡◌, [], true, map, All, IfOk, OnOk};
+ghost use Rattle.cnf_core.specs.Events.{given, is_given};
 ghost use Rattle.ep_answer.specs.AnswerViews.{plain_problem};
-ghost use Rattle.ep_answer.specs.Posed.{PosesGround};
 ghost use Rattle.ep_flat.specs.Flats.{MapsCells};
 ghost use Rattle.ep_flat.specs.FlatViews.{plain_map};
-ghost use Rattle.ep_formula.specs.EncodedViews.{IsEncodedFrom};
-ghost use Rattle.ep_ground.specs.Grounds.{GroundState};
+ghost use Rattle.ep_solve.specs.Formulas.{IsFormulaFor, Poses};
 ghost use Rattle.ep_solve.specs.Right.{empty_log};
+ghost use Rattle.ep_tree.specs.Binding.{Instance as InstanceValue};
+ghost use Rattle.ep_tree.specs.declared.values.Mode.{Mode};
+ghost use Rattle.ep_unroll.specs.Cells.{instance_cells};
+ghost use Rattle.sat_search.specs.Logs.{IsSound};
 
 use cnf_core::{Clause, Log};
 use ep_answer::Problem;
@@ -27,7 +29,8 @@ fn copied(clause: &Clause) -> Result<Clause, Memory>
 /// Appends these clauses to an empty log as givens.
 fn give_all(log: &mut Log, clauses: &[Clause]) -> Result<(), Memory>
     requires { log.old ≡ empty_log }
-    ensures { OnOk result (log.new ≡ record { events = map given clauses.now; notes = []; base = 0 }) }
+    ensures all { OnOk result (log.new ≡ record { events = map given clauses.now; notes = []; base = 0 }) }
+    ensures givens { All (λ e. is_given e ≡ true) log.new.events }
 {
     for clause in clauses {
         log.given(copied(clause)?)?;
@@ -36,13 +39,15 @@ fn give_all(log: &mut Log, clauses: &[Clause]) -> Result<(), Memory>
 }
 
 /// A problem in which the formula's clauses stand in the solver. They come into the log as its givens,
-/// with the notes of the cells.
+/// with the notes of the cells. It poses whatever instance the formula stands for.
 pub fn posed(alloc: Global, encoded: Encoded, log: &mut Log) -> Result<Problem, Memory>
     requires empty { log.old ≡ empty_log }
     requires maps { MapsCells (map (λ one. one.values) encoded.cells.items)
         (map (λ e. e.domain) encoded.layout) (plain_map encoded.map) }
-    ensures { IfOk result (λ problem. (g : GroundState) → IsEncodedFrom g encoded → encoded.cells.items ≡ g.cells
-        → PosesGround g encoded.formula (plain_problem problem) log.new) }
+    ensures poses { IfOk result (λ problem. (mode : Mode) (i : InstanceValue)
+        → IsFormulaFor mode i encoded.layout (plain_map encoded.map) encoded.formula
+        → encoded.cells.items ≡ instance_cells i → Poses mode i (plain_problem problem) log.new) }
+    ensures sound { IsSound log.new.events }
 {
     give_all(log, encoded.formula.clauses())?;
     let notes = encoded.layout.notes(alloc, &encoded.cells, &encoded.map)?;

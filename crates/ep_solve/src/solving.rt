@@ -13,22 +13,21 @@ ghost use Rattle.ep_solve.specs.Logged.{IsLogged};
 ghost use Rattle.ep_solve.specs.Right.{IsRight, empty_log};
 ghost use Rattle.ep_tree.specs.Closed.{IsClosed};
 ghost use Rattle.ep_tree.specs.Solutions.{instance_limits};
+ghost use Rattle.sat_search.specs.Logs.{IsSound};
 
+use crate::formulas::formula_for;
 use crate::posing::posed;
 use crate::reading_back::assignment_from;
 use cnf_core::Log;
 use ep_answer::{CellAnswer, Problem, find_cells, optimise_cells};
 use ep_base::Memory;
-use ep_formula::formula_of;
 use ep_instance::{Find, Instance};
 use ep_print::Answer;
-use ep_unroll::unroll;
 use std::alloc::Global;
 
 /// The answer of an instance: a solution, an optimum where an objective is stated, that there is
-/// none, or that so many conflicts were spent. The formula and the solver's steps stand in the log then.
-///
-/// In the strict mode, and of forms that aren't unrolled yet, it ends for want of memory.
+/// none, or that so many conflicts were spent. The formula and the solver's steps stand in the log then, and
+/// each step is sound, however it ends. In the strict mode it ends for want of memory.
 pub fn solve(
     alloc: Global,
     instance: &Instance,
@@ -44,9 +43,9 @@ pub fn solve(
     ensures typed { IfOk result (λ answer. HasTypedValues (answer_tree answer)) }
     ensures logged { IfOk result (λ answer.
         IsLogged (mode_of instance.now) (instance_of instance.now) budget log.new (answer_tree answer)) }
+    ensures sound { IsSound log.new.events }
 {
-    let ground = unroll(alloc, instance)?;
-    let encoded = formula_of(alloc, ground)?;
+    let encoded = formula_for(alloc, instance)?;
     let mut problem = posed(alloc, encoded, log)?;
     let found = search(alloc, &mut problem, budget, log)?;
     read_back(alloc, instance.finds(), budget, found)
@@ -62,6 +61,7 @@ fn search(
     requires { CanSearch (plain_problem problem.old) log.old }
     ensures answers { IfOk result (λ found.
         AnswersCells (plain_problem problem.old) budget log.new (plain_answer found)) }
+    ensures sound { IsSound log.old.events → IsSound log.new.events }
     ensures front { take (length log.old.events) log.new.events ≡ log.old.events }
     ensures base { log.new.base ≡ log.old.base }
     ensures notes { log.new.notes ≡ log.old.notes }

@@ -1,4 +1,4 @@
-use Rattle.std.proofs.Common.{◌∙◌, Ok, refl, ap, subst}
+use Rattle.std.proofs.Common.{◌∙◌, Ok, inl, refl, ap, subst}
 use Rattle.std.proofs.lemmas.Result.{err_from_is_err_and}
 use Rattle.ep_instance.specs.Instances.{instance_of as plain_instance}
 use Rattle.ep_instance.specs.declared.judging.Shaped.{Shaped}
@@ -31,3 +31,13 @@ returns-in_ok-wrong_shape_text-in-WrongShape c =
     let h : TellsShape i s (Ok (Shaped.WrongShape c.in-WrongShape.name)) = subst P c.in-WrongShape.is c.in_ok-assignment.ensures in
     shape-said i s h.0 c.in-WrongShape.name Status.Refuted c.in_ok-wrong_shape_text-in-WrongShape.field-0.items h.1 h.2 refl
     (c.in_ok-wrong_shape_text-in-WrongShape.ensures ∙ ap wrong_shape_text c.text.ensures.text)
+
+pub returns-in_err-judged-in-Fits : goal.returns-in_err-judged-in-Fits
+returns-in_err-judged-in-Fits c =
+    let p = err_from_is_err_and c.from_residual-in_err-judged-in-Fits.result c.from_residual-in_err-judged-in-Fits.ensures.1 in
+    rw (p.1, p.2) (inl refl)
+
+pub returns-in_err-wrong_shape_text-in-WrongShape : goal.returns-in_err-wrong_shape_text-in-WrongShape
+returns-in_err-wrong_shape_text-in-WrongShape c =
+    let p = err_from_is_err_and c.from_residual-in_err-wrong_shape_text-in-WrongShape.result c.from_residual-in_err-wrong_shape_text-in-WrongShape.ensures.1 in
+    rw (p.1, p.2) (inl refl)

@@ -1,9 +1,12 @@
-use Rattle.std.proofs.Common.{Err, Result, subst}
+use Rattle.std.proofs.Common.{Err, IfSome, OnErr, Result, subst}
 use Rattle.ep_base.specs.Outside.{Rose}
-use Rattle.ep_run.specs.Steps.{TellsRun}
+use Rattle.ep_run.specs.Outcomes.{Task}
+use Rattle.ep_run.specs.Shown.{Ask}
+use Rattle.ep_run.specs.Steps.{OrUnlogged, TellsRun}
 use Rattle.ep_run.specs.declared.replies.Reply.{Reply}
 use Rattle.ep_run.specs.declared.stops.Stop.{Stop}
-use Rattle.ep_run.proofs.Running.{refused-holds, refused-said}
+use Rattle.ep_run.proofs.Running.{refused-asks, refused-holds, refused-said, run-asked}
+use Rattle.ep_run.proofs.Saying.{run-sound}
 use Rattle.ep_run.proofs.replies.reply_to.Goals as goal
 
 pub returns-in-Err-Refused-clause-says : goal.returns-in-Err-Refused-clause-says
@@ -25,3 +28,43 @@ returns-in-Err-Refused-clause-wants g c =
     let S : Stop → Type 0 = λ s. TellsRun c.args.words.now told after rose c.run_words.new.log (Err s) in
     refused-holds c.args.words.now told after rose c.run_words.new.log c.in-Err-Refused.refusal c.refused.result
     (subst S c.in-Err-Refused.field-0-is (subst R c.in-Err-Refused.is c.run_words.ensures.tells))
+
+pub returns-in-Err-Refused-clause-asked : goal.returns-in-Err-Refused-clause-asked
+returns-in-Err-Refused-clause-asked g c =
+    let told = g.F.Files.held c.args.files.now in
+    let after = g.F.Files.held c.run_words.new.files in
+    let rose = Rose (g.F.Files.faults c.args.files.now) (g.F.Files.faults c.run_words.new.files) in
+    let R : Result Reply Stop → Type 0 = λ r. TellsRun c.args.words.now told after rose c.run_words.new.log r in
+    let S : Stop → Type 0 = λ s. TellsRun c.args.words.now told after rose c.run_words.new.log (Err s) in
+    refused-asks c.args.words.now told after rose c.run_words.new.log c.in-Err-Refused.refusal c.refused.result
+    (subst S c.in-Err-Refused.field-0-is (subst R c.in-Err-Refused.is c.run_words.ensures.tells))
+
+pub returns-in-Err-Memory-clause-asked : goal.returns-in-Err-Memory-clause-asked
+returns-in-Err-Memory-clause-asked g c =
+    let told = g.F.Files.held c.args.files.now in
+    let after = g.F.Files.held c.run_words.new.files in
+    let rose = Rose (g.F.Files.faults c.args.files.now) (g.F.Files.faults c.run_words.new.files) in
+    let log = c.run_words.new.log in
+    let A : Result Reply Stop → Type 0 = λ r. OnErr r (OrUnlogged log (IfSome told (λ held. (task : Task) × Ask c.args.words.now held task))) in
+    subst A c.in-Err-Memory.is (run-asked c.args.words.now told after rose log c.run_words.result c.run_words.ensures.tells)
+
+pub returns-in-Ok-clause-sound : goal.returns-in-Ok-clause-sound
+returns-in-Ok-clause-sound g c =
+    let told = g.F.Files.held c.args.files.now in
+    let after = g.F.Files.held c.run_words.new.files in
+    let rose = Rose (g.F.Files.faults c.args.files.now) (g.F.Files.faults c.run_words.new.files) in
+    run-sound c.args.words.now told after rose c.run_words.new.log c.run_words.result c.run_words.ensures.tells
+
+pub returns-in-Err-Refused-clause-sound : goal.returns-in-Err-Refused-clause-sound
+returns-in-Err-Refused-clause-sound g c =
+    let told = g.F.Files.held c.args.files.now in
+    let after = g.F.Files.held c.run_words.new.files in
+    let rose = Rose (g.F.Files.faults c.args.files.now) (g.F.Files.faults c.run_words.new.files) in
+    run-sound c.args.words.now told after rose c.run_words.new.log c.run_words.result c.run_words.ensures.tells
+
+pub returns-in-Err-Memory-clause-sound : goal.returns-in-Err-Memory-clause-sound
+returns-in-Err-Memory-clause-sound g c =
+    let told = g.F.Files.held c.args.files.now in
+    let after = g.F.Files.held c.run_words.new.files in
+    let rose = Rose (g.F.Files.faults c.args.files.now) (g.F.Files.faults c.run_words.new.files) in
+    run-sound c.args.words.now told after rose c.run_words.new.log c.run_words.result c.run_words.ensures.tells

@@ -23,7 +23,7 @@ returns-in_err-model-in-Search-clause-tells g c =
     let W : Wanted → Type 0 = λ w. TellsTask (files_of w) (ComesTo w) told rose c.args.log.now (Err stop) in
     rw (p.1, p.2)
     (subst W (sym c.in-Search.is)
-    (unread model_tree TextFile.Model c.in-Search.model (option_to_list c.in-Search.params) (λ m. comes_to_search c.in-Search.request c.in-Search.params m) told rose c.args.log.now stop c.in_err-model-in-Search.ensures.tells))
+    (unread model_tree TextFile.Model c.in-Search.model (option_to_list c.in-Search.params) (λ m. comes_to_search c.in-Search.request c.in-Search.params m) told rose c.args.log.now stop c.requires.empty c.in_err-model-in-Search.ensures.tells))
 
 pub returns-in_err-model-in-Verify-clause-tells : goal.returns-in_err-model-in-Verify-clause-tells
 returns-in_err-model-in-Verify-clause-tells g c =
@@ -34,7 +34,7 @@ returns-in_err-model-in-Verify-clause-tells g c =
     let W : Wanted → Type 0 = λ w. TellsTask (files_of w) (ComesTo w) told rose c.args.log.now (Err stop) in
     rw (p.1, p.2)
     (subst W (sym c.in-Verify.is)
-    (unread model_tree TextFile.Model c.in-Verify.model (option_to_list c.in-Verify.params ++ c.in-Verify.solution ∷ []) (λ m. comes_to_verify c.in-Verify.params c.in-Verify.solution m) told rose c.args.log.now stop c.in_err-model-in-Verify.ensures.tells))
+    (unread model_tree TextFile.Model c.in-Verify.model (option_to_list c.in-Verify.params ++ c.in-Verify.solution ∷ []) (λ m. comes_to_verify c.in-Verify.params c.in-Verify.solution m) told rose c.args.log.now stop c.requires.empty c.in_err-model-in-Verify.ensures.tells))
 
 pub returns-in_ok-model-in-Search-clause-tells : goal.returns-in_ok-model-in-Search-clause-tells
 returns-in_ok-model-in-Search-clause-tells g c =

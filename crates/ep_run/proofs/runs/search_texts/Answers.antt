@@ -6,7 +6,7 @@ use Rattle.ep_types.specs.declared.typed.Typed.{Typed}
 use Rattle.ep_types.specs.declared.typed.TypedParams.{TypedParams}
 use Rattle.ep_run.specs.Commands.{conflicts_of}
 use Rattle.ep_run.specs.Steps.{IsSearched}
-use Rattle.ep_run.proofs.Running.{same-instance, search-answered, search-instance-stopped, search-model-stopped, search-params-stopped, stopped-ends}
+use Rattle.ep_run.proofs.Running.{same-instance, search-answered, search-instance-stopped, search-model-stopped, search-params-stopped, search-wanting, stopped-ends}
 use Rattle.ep_run.proofs.Tasks.{AreFaultless}
 use Rattle.ep_run.proofs.runs.search_texts.Goals as goal
 
@@ -15,14 +15,14 @@ returns-in_err-model-clause-tells c =
     let p = err_from_is_err_and c.from_residual.result c.from_residual.ensures.1 in
     let m = model_tree c.args.model in
     let q = params_tree c.args.params in
-    rw (p.1, p.2) (search-model-stopped Typed c.args.log.now c.args.request m q c.in_err-model.field-0.0 c.in_err-model.ensures.passes)
+    rw (p.1, p.2) (search-model-stopped Typed c.args.log.now c.args.request m q c.in_err-model.field-0.0 c.requires.empty c.in_err-model.ensures.passes)
 
 pub returns-in_err-params-clause-tells : goal.returns-in_err-params-clause-tells
 returns-in_err-params-clause-tells c =
     let p = err_from_is_err_and c.from_residual-in_err-params.result c.from_residual-in_err-params.ensures.1 in
     let m = model_tree c.args.model in
     let q = params_tree c.args.params in
-    rw (p.1, p.2) (search-params-stopped TypedParams c.args.log.now c.args.request m q c.in_err-params.field-0.0 c.in_ok-model.ensures.passes c.in_err-params.ensures.passes)
+    rw (p.1, p.2) (search-params-stopped TypedParams c.args.log.now c.args.request m q c.in_err-params.field-0.0 c.requires.empty c.in_ok-model.ensures.passes c.in_err-params.ensures.passes)
 
 pub returns-in_err-instance-clause-tells : goal.returns-in_err-instance-clause-tells
 returns-in_err-instance-clause-tells c =
@@ -31,7 +31,7 @@ returns-in_err-instance-clause-tells c =
     let q = params_tree c.args.params in
     let none : AreFaultless m q = record { model = c.in_ok-model.ensures.passes; params = c.in_ok-params.ensures.passes } in
     rw (p.1, p.2)
-    (search-instance-stopped plain_instance c.args.log.now c.args.request m q (typed_tree c.in_ok-model.model) (typed_params_tree c.in_ok-params.params) c.in_err-instance.field-0.0
+    (search-instance-stopped plain_instance c.args.log.now c.args.request m q (typed_tree c.in_ok-model.model) (typed_params_tree c.in_ok-params.params) c.in_err-instance.field-0.0 c.requires.empty
     c.in_ok-model.ensures.same c.in_ok-params.ensures.same none c.in_err-instance.ensures.tells)
 
 pub returns-clause-tells : goal.returns-clause-tells
@@ -57,3 +57,18 @@ pub returns-in_err-instance-clause-ends : goal.returns-in_err-instance-clause-en
 returns-in_err-instance-clause-ends c =
     let p = err_from_is_err_and c.from_residual-in_err-instance.result c.from_residual-in_err-instance.ensures.1 in
     rw (p.1, p.2) (stopped-ends (λ status. IsSearched (conflicts_of c.args.request) status c.args.log.now) c.args.log.now c.in_err-instance.field-0.0 c.requires.empty)
+
+pub returns-in_err-reply-clause-ends : goal.returns-in_err-reply-clause-ends
+returns-in_err-reply-clause-ends c =
+    let p = err_from_is_err_and c.from_residual-in_err-reply.result c.from_residual-in_err-reply.ensures.1 in
+    rw (p.1, p.2) c.in_err-reply.ensures.sound
+
+pub returns-in_err-reply-clause-tells : goal.returns-in_err-reply-clause-tells
+returns-in_err-reply-clause-tells c =
+    let p = err_from_is_err_and c.from_residual-in_err-reply.result c.from_residual-in_err-reply.ensures.1 in
+    let m = model_tree c.args.model in
+    let q = params_tree c.args.params in
+    let none : AreFaultless m q = record { model = c.in_ok-model.ensures.passes; params = c.in_ok-params.ensures.passes } in
+    let i = plain_instance c.in_ok-instance.instance in
+    let bound = same-instance m q (typed_tree c.in_ok-model.model) (typed_params_tree c.in_ok-params.params) i c.in_ok-model.ensures.same c.in_ok-params.ensures.same c.in_ok-instance.ensures.tells in
+    rw (p.1, p.2) (search-wanting c.args.request m q i c.searched_reply.new.log none bound)

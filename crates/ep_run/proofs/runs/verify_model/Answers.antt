@@ -1,5 +1,5 @@
 use Rattle.std.proofs.lemmas.Result.{err_from_is_err_and}
-use Rattle.std.proofs.Common.{[], ◌∷◌, option_to_list}
+use Rattle.std.proofs.Common.{[], ◌∷◌, option_to_list, refl}
 use Rattle.ep_base.specs.Outside.{Rose}
 use Rattle.ep_tree.specs.Views.{model_tree, params_tree}
 use Rattle.ep_solve.specs.Right.{empty_log}
@@ -15,7 +15,7 @@ returns-in_err-params-clause-tells g c =
     let told = g.F.Files.held c.args.files.now in
     let rose = Rose (g.F.Files.faults c.args.files.now) (g.F.Files.faults c.read_named_params.new.files) in
     rw (p.1, p.2)
-    (unread-params c.args.params.now (c.args.solution.now ∷ []) (λ q. comes_to_judge c.args.solution.now (model_tree c.args.model) q) told rose empty_log c.in_err-params.field-0.0 c.in_err-params.ensures.tells)
+    (unread-params c.args.params.now (c.args.solution.now ∷ []) (λ q. comes_to_judge c.args.solution.now (model_tree c.args.model) q) told rose empty_log c.in_err-params.field-0.0 refl c.in_err-params.ensures.tells)
 
 pub returns-clause-tells : goal.returns-clause-tells
 returns-clause-tells g c =

@@ -1,5 +1,5 @@
 use Rattle.std.proofs.lemmas.Result.{err_from_is_err_and}
-use Rattle.std.proofs.Common.{◌≡◌, []}
+use Rattle.std.proofs.Common.{◌≡◌, [], refl}
 use Rattle.ep_base.specs.Outside.{Rose}
 use Rattle.ep_print.specs.declared.refusals.TextFile.{TextFile}
 use Rattle.ep_tree.specs.Views.{model_tree, params_tree}
@@ -17,7 +17,7 @@ returns-in_err-solution-clause-tells g c =
     let m = model_tree c.args.model in
     let q = params_tree c.args.params in
     rw (p.1, p.2)
-    (unread params_tree TextFile.Solution c.args.solution.now [] (λ s held outcome. outcome ≡ verify_outcome m q s) told rose empty_log c.in_err-solution.field-0.0 c.in_err-solution.ensures.tells)
+    (unread params_tree TextFile.Solution c.args.solution.now [] (λ s held outcome. outcome ≡ verify_outcome m q s) told rose empty_log c.in_err-solution.field-0.0 refl c.in_err-solution.ensures.tells)
 
 pub returns-clause-status : goal.returns-clause-status
 returns-clause-status g c =

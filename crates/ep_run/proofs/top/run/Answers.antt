@@ -1,8 +1,8 @@
 use Rattle.std.proofs.Common.{◌≡◌, ◌∙◌, ℕ, List, Err, inl, inr, ap, subst}
 use Rattle.ep_base.specs.Outside.{Rose, TookPart, with_more}
 use Rattle.ep_run.specs.Puts.{TookOnWant}
-use Rattle.ep_run.proofs.Once.{ShownOnce, TextsAreOnce, answers-said, refuses-said, shown-once, unlogged-said, unwritten-on-want, unwritten-said}
-use Rattle.ep_run.proofs.Promises.{may-be-put, never-memory, usage-said, want-others, when-answered, when-failed, when-kept, when-not-held, when-others, when-refused, when-refuted, when-sound, when-unknown, when-unlogged, when-usage, why-device}
+use Rattle.ep_run.proofs.Once.{ShownOnce, TextsAreOnce, answers-said, refuses-said, shown-once, unlogged-on-want, unlogged-said, unwritten-on-want, unwritten-said}
+use Rattle.ep_run.proofs.Promises.{may-be-put, never-memory, usage-said, want-others, when-answered, when-failed, when-kept, when-not-held, when-others, when-refused, when-refuted, when-unknown, when-unlogged, when-usage, why-device}
 use Rattle.ep_run.proofs.Saying.{case-of}
 use Rattle.ep_run.proofs.top.run.Goals as goal
 
@@ -216,18 +216,6 @@ returns-clause-wanting g c =
     let Part : List ℕ → Type 0 = λ x. TookPart x (g.K.Sink.taken c.args.out.now) (g.K.Sink.taken c.put_all.new.sink) in
     λ h. inr (text, may-be-put words told after rose status text log case, subst Part c.deref.ensures.value c.in-Err-Memory.ensures.part)
 
-pub returns-in-Ok-put_all-clause-sound : goal.returns-in-Ok-put_all-clause-sound
-returns-in-Ok-put_all-clause-sound g c =
-    let words = c.args.words.now in
-    let told = g.F.Files.held c.args.files.now in
-    let after = g.F.Files.held c.reply_to.new.files in
-    let rose = Rose (g.F.Files.faults c.args.files.now) (g.F.Files.faults c.reply_to.new.files) in
-    let status = c.in-Ok.reply.status in
-    let text = c.in-Ok.reply.text.items in
-    let log = c.reply_to.new.log in
-    let case = case-of words told after rose status text log c.in-Ok.ensures.says in
-    λ h. when-sound words told after rose status text log case
-
 pub returns-in-Ok-put_all-clause-refused_unlogged : goal.returns-in-Ok-put_all-clause-refused_unlogged
 returns-in-Ok-put_all-clause-refused_unlogged g c =
     let words = c.args.words.now in
@@ -244,19 +232,7 @@ returns-in-Ok-put_all-clause-refused_unlogged g c =
       solution = c.texts_have_one_answer.ensures.params;
     } in
     let once : ShownOnce words = shown-once c.one_job_for_words.ensures texts words in
-    λ h. unlogged-said words told after rose status text log once case
-
-pub returns-in-Err-Failed-clause-sound : goal.returns-in-Err-Failed-clause-sound
-returns-in-Err-Failed-clause-sound g c =
-    let words = c.args.words.now in
-    let told = g.F.Files.held c.args.files.now in
-    let after = g.F.Files.held c.reply_to.new.files in
-    let rose = Rose (g.F.Files.faults c.args.files.now) (g.F.Files.faults c.reply_to.new.files) in
-    let status = c.in-Ok.reply.status in
-    let text = c.in-Ok.reply.text.items in
-    let log = c.reply_to.new.log in
-    let case = case-of words told after rose status text log c.in-Ok.ensures.says in
-    λ h. when-sound words told after rose status text log case
+    unlogged-said words told after rose status text log once case
 
 pub returns-in-Err-Failed-clause-refused_unlogged : goal.returns-in-Err-Failed-clause-refused_unlogged
 returns-in-Err-Failed-clause-refused_unlogged g c =
@@ -274,7 +250,7 @@ returns-in-Err-Failed-clause-refused_unlogged g c =
       solution = c.texts_have_one_answer.ensures.params;
     } in
     let once : ShownOnce words = shown-once c.one_job_for_words.ensures texts words in
-    λ h. unlogged-said words told after rose status text log once case
+    unlogged-said words told after rose status text log once case
 
 pub returns-in-Ok-put_all-clause-unlogged : goal.returns-in-Ok-put_all-clause-unlogged
 returns-in-Ok-put_all-clause-unlogged g c =
@@ -411,3 +387,33 @@ returns-clause-refused_unwritten g c =
     } in
     let once : ShownOnce words = shown-once c.one_job_for_words.ensures texts words in
     unwritten-said words told after rose status text log once case
+
+pub returns-in_default-clause-refused_unlogged : goal.returns-in_default-clause-refused_unlogged
+returns-in_default-clause-refused_unlogged g c =
+    let words = c.args.words.now in
+    let told = g.F.Files.held c.args.files.now in
+    let texts : TextsAreOnce = record {
+      model = c.texts_have_one_answer.ensures.models;
+      params = c.texts_have_one_answer.ensures.params;
+      solution = c.texts_have_one_answer.ensures.params;
+    } in
+    let once : ShownOnce words = shown-once c.one_job_for_words.ensures texts words in
+    unlogged-on-want words told c.reply_to.new.log once c.in_default.ensures.asked
+
+pub returns-clause-refused_unlogged : goal.returns-clause-refused_unlogged
+returns-clause-refused_unlogged g c =
+    let words = c.args.words.now in
+    let told = g.F.Files.held c.args.files.now in
+    let after = g.F.Files.held c.reply_to.new.files in
+    let rose = Rose (g.F.Files.faults c.args.files.now) (g.F.Files.faults c.reply_to.new.files) in
+    let status = c.in-Ok.reply.status in
+    let text = c.in-Ok.reply.text.items in
+    let log = c.reply_to.new.log in
+    let case = case-of words told after rose status text log c.in-Ok.ensures.says in
+    let texts : TextsAreOnce = record {
+      model = c.texts_have_one_answer.ensures.models;
+      params = c.texts_have_one_answer.ensures.params;
+      solution = c.texts_have_one_answer.ensures.params;
+    } in
+    let once : ShownOnce words = shown-once c.one_job_for_words.ensures texts words in
+    unlogged-said words told after rose status text log once case
