@@ -1,5 +1,5 @@
 -- Which kinds of node are left where others are excluded.
-use Rattle.std.specs.Prelude.{◌≡◌, ℕ, ℤ, Bool, true, false, List, refl}
+use Rattle.std.specs.Prelude.{◌≡◌, ℕ, ℤ, true, false, List, refl}
 use Rattle.std.proofs.Common.{Vec, sym}
 use Rattle.std.specs.Global.{Global}
 use Rattle.std.proofs.lemmas.Bool.{false≢true}

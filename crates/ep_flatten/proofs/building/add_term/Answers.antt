@@ -1,4 +1,4 @@
-use Rattle.std.proofs.Common.{sym, ap, subst, ◌+◌, ◌∙◌, [], ◌∷◌, ◌++◌, pos, length}
+use Rattle.std.proofs.Common.{sym, ap, subst, ◌+◌, ◌∙◌, [], ◌∷◌, ◌++◌, pos}
 use Rattle.std.specs.Prelude.{map}
 use Rattle.ep_base.specs.Intervals.{only}
 use Rattle.ep_flat.specs.FlatViews.{plain_con}
@@ -9,7 +9,7 @@ use Rattle.ep_flatten.specs.Building.{IsMarked, IsTermOf, interval_of, plain_bui
 use Rattle.ep_flatten.proofs.Growing.{skipped}
 use Rattle.ep_flatten.proofs.FormLaws.{form_inside}
 use Rattle.ep_flatten.proofs.MarkedTerms.{marked_there}
-use Rattle.ep_flatten.proofs.Adding.{small_there, stands_built, total_there, as_built, has_parts, on_ok_five, on_ok_then, spans_pushed, stands_over, term_of}
+use Rattle.ep_flatten.proofs.Adding.{small_there, stands_built, total_there, as_built, on_ok_five, on_ok_then, spans_pushed, term_of}
 use Rattle.ep_flatten.proofs.building.add_term.Goals as goal
 
 pub add_node-requires : goal.add_node-requires
