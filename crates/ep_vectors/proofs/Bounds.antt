@@ -33,10 +33,11 @@ coefficient (suc (suc t)) = All-from_recursion IsWithinNumbers [] tt
 
 -- the cell, from -2 to 3, and twice its number, from -4 to 6
 is_bounded : IsBounded (times (pos 2))
-is_bounded = record
-    { cells = All-from_recursion (λ (one : Cell). All IsWithinNumbers one.values) (small ∷ []) (All-from_recursion IsWithinNumbers small.values ((omega arith, omega arith), ((omega arith, omega arith), ((omega arith, omega arith), tt))), tt)
-    ; reaches = λ t _. reach t
-    ; coefficients = λ t _. coefficient t }
+is_bounded = record {
+  cells = All-from_recursion (λ (one : Cell). All IsWithinNumbers one.values) (small ∷ []) (All-from_recursion IsWithinNumbers small.values ((omega arith, omega arith), ((omega arith, omega arith), ((omega arith, omega arith), tt))), tt);
+  reaches = λ t _. reach t;
+  coefficients = λ t _. coefficient t;
+}
 
 -- a coefficient of more than the greatest number is out of bounds, though the ground's cells are small
 is_too_great : IsBounded (times (pos 1099511627777)) → ⊥

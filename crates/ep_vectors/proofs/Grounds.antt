@@ -20,9 +20,12 @@ small = record { name = 120 ∷ []; indices = []; truth = false; values = negsuc
 
 -- the cell x; 3; x < 3; x + x + 3; 3 / x: the clause x < 3, and 3 / x is to be small
 abbrev divided : GroundState
-divided = record
-    { nodes = cell 0 ∷ constant (pos 3) ∷ compare CompareOp.Less 0 1 ∷ sum (pos 0) ((pos 1, 0) ∷ (pos 1, 0) ∷ (pos 1, 1) ∷ []) ∷ quotient 1 0 ∷ []
-    ; cells = small ∷ []; clauses = 2 ∷ []; objective = Some (Sense.Minimising, 4) }
+divided = record {
+  nodes = cell 0 ∷ constant (pos 3) ∷ compare CompareOp.Less 0 1 ∷ sum (pos 0) ((pos 1, 0) ∷ (pos 1, 0) ∷ (pos 1, 1) ∷ []) ∷ quotient 1 0 ∷ [];
+  cells = small ∷ [];
+  clauses = 2 ∷ [];
+  objective = Some (Sense.Minimising, 4);
+}
 
 -- 3 over -2, 0, 3 and a number that the cell doesn't have; without a cell there is no number
 objectives : map (ground_objective divided) ((negsuc 1 ∷ []) ∷ (pos 0 ∷ []) ∷ (pos 3 ∷ []) ∷ (pos 1 ∷ []) ∷ [] ∷ [])
@@ -33,10 +36,11 @@ objectives = refl
 -- -2 is one of the cell's numbers, is less than 3, and 3 / -2 has a number
 is_kept : IsGroundSolution divided (negsuc 1 ∷ [])
 unfolding HasObjective term_value values_from value_at node_value on_both values_of truth numbers.quotient numbers.floor_over numbers.of_bool numbers.compare_holds
-is_kept = record
-    { cells = (Contains-here (negsuc 1) (pos 0 ∷ pos 3 ∷ []), tt)
-    ; clauses = All-cons (λ t. term_value divided.nodes (negsuc 1 ∷ []) t ≡ Some (pos 1)) 2 [] refl (All-nil _)
-    ; objective = refl }
+is_kept = record {
+  cells = (Contains-here (negsuc 1) (pos 0 ∷ pos 3 ∷ []), tt);
+  clauses = All-cons (λ t. term_value divided.nodes (negsuc 1 ∷ []) t ≡ Some (pos 1)) 2 [] refl (All-nil _);
+  objective = refl;
+}
 
 -- 0 isn't kept, since 3 / 0 has no number
 is_undefined : IsGroundSolution divided (pos 0 ∷ []) → ⊥
@@ -50,6 +54,7 @@ added = refl
 
 is_well_formed : IsWellFormed divided
 unfolding named_terms StandsOver
-is_well_formed = record
-    { terms = All-cons (λ t. t < 5) 2 (4 ∷ []) (omega arith) (All-cons (λ t. t < 5) 4 [] (omega arith) (All-nil _))
-    ; nodes = All-from_recursion (StandsOver 1) divided.nodes (omega arith, (tt, (tt, (tt, (tt, tt))))) }
+is_well_formed = record {
+  terms = All-cons (λ t. t < 5) 2 (4 ∷ []) (omega arith) (All-cons (λ t. t < 5) 4 [] (omega arith) (All-nil _));
+  nodes = All-from_recursion (StandsOver 1) divided.nodes (omega arith, (tt, (tt, (tt, (tt, tt)))));
+}

@@ -15,8 +15,8 @@ two_are : (es fs gs : List Entry) (a b : Entry) → es ≡ [] → fs ≡ es ++ a
     → IsTyped (named_value a) → IsTyped (named_value b) → All IsTyped (map named_value gs)
 two_are es fs gs a b none one two first second =
     subst (λ (xs : List Entry). All IsTyped (map named_value xs))
-        (sym (two ∙ ap (λ (xs : List Entry). xs ++ b ∷ []) (one ∙ ap (λ (xs : List Entry). xs ++ a ∷ []) none)))
-        (All-cons IsTyped (named_value a) (named_value b ∷ []) first (All-cons IsTyped (named_value b) [] second (All-nil IsTyped)))
+    (sym (two ∙ ap (λ (xs : List Entry). xs ++ b ∷ []) (one ∙ ap (λ (xs : List Entry). xs ++ a ∷ []) none)))
+    (All-cons IsTyped (named_value a) (named_value b ∷ []) first (All-cons IsTyped (named_value b) [] second (All-nil IsTyped)))
 
 pub returns : goal.returns
 unfolding value_tree is_number_of IsTyped
