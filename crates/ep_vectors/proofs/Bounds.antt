@@ -1,14 +1,14 @@
 -- Grounds that lie within the numbers that the stages compute with, and one that doesn't.
-use Rattle.std.proofs.Common.{◌≡◌, ℕ, ℤ, pos, negsuc, suc, zero, arith, false, List, [], ◌∷◌, None, refl, ◌<◌, ◌≤ℤ◌}
+use Rattle.std.proofs.Common.{ℕ, ℤ, pos, negsuc, suc, zero, arith, false, [], ◌∷◌, None}
 use Rattle.std.specs.List.{All}
-use Rattle.std.proofs.lemmas.List.Elements.{All-from_recursion, All-head, recursion_from_All}
+use Rattle.std.proofs.lemmas.List.Elements.{All-from_recursion, All-head}
 use Rattle.cnf_core.proofs.Members.{Contains-here}
 use Rattle.ep_base.specs.Intervals as intervals
 use Rattle.ep_base.specs.Numbers as numbers
 use Rattle.ep_base.specs.Reads.{IsWithinNumbers}
 use Rattle.ep_ground.specs.Bounds.{IsBounded, IsWithinReach, node_reach, reach_at, scaled, term_reach}
-use Rattle.ep_ground.specs.Grounds.{GroundState, IsReached, LeadsTo, itself, named_terms}
-use Rattle.ep_ground.specs.Nodes.{GroundNode, cell, sum, coefficients_of, undefined}
+use Rattle.ep_ground.specs.Grounds.{GroundState, itself, named_terms}
+use Rattle.ep_ground.specs.Nodes.{cell, sum, coefficients_of, undefined}
 use Rattle.ep_ground.specs.declared.cells.Cell.{Cell}
 use Rattle.std.specs.Prelude.{slice_index_or}
 

@@ -75,3 +75,10 @@ said : said_true holding ++ (said_true failing ++ (said_false holding ++ (said_f
     ≡ map (λ _. true) holding ++ (map (λ _. false) failing ++ (map (λ _. false) holding ++ (map (λ _. true) failing ++ (map (λ _. false) holding ++ map (λ _. false) failing))))
 unfolding con_holds is_as_said is_value kind_holds number_at numbers_at numbers.quotient numbers.remainder numbers.floor_over numbers.nth_power numbers.absolute_of numbers.least_of numbers.greatest_of numbers.has_number numbers.is_one numbers.of_bool numbers.same_numbers numbers.compare_holds numbers.lex_holds numbers.lex_less numbers.are_different numbers.counts_hold numbers.times_in numbers.is_row_of numbers.sum_of reads.picked reads.safe_picked reads.first_or_zero reads.safe_quotient reads.safe_remainder reads.weighted_sum reads.same_bool
 said = refl
+
+-- an element with indices of another length than its keys is its first part, or 0 without one; counts of no number hold
+edges :
+    hold (element 0 (0 ∷ 1 ∷ []) ((pos 1 ∷ []) ∷ []) (3 ∷ 3 ∷ []) ∷ element 1 (0 ∷ 1 ∷ []) ((pos 1 ∷ []) ∷ []) (3 ∷ 3 ∷ []) ∷ element 2 [] ((pos 1 ∷ []) ∷ []) (3 ∷ []) ∷ element 3 [] [] [] ∷ counts (0 ∷ []) [] [] ∷ at_least (0 ∷ []) [] [] ∷ at_most (0 ∷ []) [] [] ∷ [])
+    ≡ true ∷ false ∷ true ∷ false ∷ true ∷ true ∷ true ∷ []
+unfolding con_holds is_as_said is_value kind_holds number_at numbers_at numbers.same_numbers numbers.counts_hold numbers.times_in numbers.compare_holds reads.picked reads.safe_picked reads.first_or_zero
+edges = refl

@@ -1,17 +1,15 @@
 -- A small ground: which values of its cells it keeps, that it is well formed, and how many additions it asks for.
-use Rattle.std.proofs.Common.{◌≡◌, ℕ, ℤ, pos, negsuc, arith, false, List, [], ◌∷◌, Option, Some, None, refl, ◌<◌}
+use Rattle.std.proofs.Common.{ap, ◌≡◌, ℤ, pos, negsuc, arith, false, [], ◌∷◌, Option, Some, None, refl, ◌<◌}
 use Rattle.std.specs.Prelude.{map}
-use Rattle.std.specs.List.{All}
 use Rattle.std.proofs.lemmas.Bool.{false≢true}
 use Rattle.std.proofs.lemmas.List.Elements.{All-cons, All-from_recursion, All-nil}
-use Rattle.cnf_core.proofs.Members.{Contains-here, Contains-there}
+use Rattle.cnf_core.proofs.Members.{Contains-here}
 use Rattle.ep_base.specs.Numbers as numbers
-use Rattle.ep_base.specs.Reads as reads
 use Rattle.ep_base.specs.declared.operators.CompareOp.{CompareOp}
 use Rattle.ep_base.specs.declared.operators.Sense.{Sense}
 use Rattle.ep_ground.specs.Grounds.{GroundState, HasObjective, IsGroundSolution, IsWellFormed, StandsOver, additions, additions_in, ground_objective, named_terms}
-use Rattle.ep_ground.specs.Nodes.{GroundNode, cell, constant, sum, quotient, least, compare}
-use Rattle.ep_ground.specs.Terms.{node_value, on_both, term_value, truth, value_at, values_from, values_of, weighed}
+use Rattle.ep_ground.specs.Nodes.{cell, constant, sum, quotient, least, greatest, compare}
+use Rattle.ep_ground.specs.Terms.{node_value, on_both, term_value, truth, value_at, values_from, values_of}
 use Rattle.ep_ground.specs.declared.cells.Cell.{Cell}
 
 -- a cell from -2 to 3
@@ -58,3 +56,40 @@ is_well_formed = record {
   terms = All-cons (λ t. t < 5) 2 (4 ∷ []) (omega arith) (All-cons (λ t. t < 5) 4 [] (omega arith) (All-nil _));
   nodes = All-from_recursion (StandsOver 1) divided.nodes (omega arith, (tt, (tt, (tt, (tt, tt)))));
 }
+
+-- a false clause, a number that the cell doesn't have, and too few numbers keep nothing
+is_false : IsGroundSolution divided (pos 3 ∷ []) → ⊥
+unfolding HasObjective term_value values_from value_at node_value on_both values_of truth numbers.of_bool numbers.compare_holds
+is_false s = one≢none (ap (λ o. number_or o) (s.clauses 0 0 (omega arith)))
+  where
+    number_or : Option ℤ → ℤ
+    number_or None = pos 0
+    number_or (Some n) = n
+
+    one≢none : pos 0 ≡ pos 1 → ⊥
+    one≢none e = absurd cc
+
+too_few : IsGroundSolution divided [] → ⊥
+too_few s = s.cells
+
+-- the additions of a sum of no part, and of one part
+fewer_additions : additions (record divided { nodes = sum (pos 1) [] ∷ sum (pos 1) ((pos 2, 0) ∷ []) ∷ [] }) (0 ∷ 1 ∷ 1 ∷ []) ≡ 0
+unfolding additions additions_in
+fewer_additions = refl
+
+-- a cell that isn't there, a least and a greatest part of none, and a clause that isn't there
+no_such_cell : IsWellFormed (record divided { cells = [] }) → ⊥
+unfolding StandsOver
+no_such_cell w = omega (arith, w.nodes 0 (cell 0) (omega arith))
+
+least_of_none : IsWellFormed (record divided { nodes = least [] ∷ []; clauses = []; objective = None }) → ⊥
+unfolding StandsOver
+least_of_none w = omega (arith, w.nodes 0 (cell 0) (omega arith))
+
+greatest_of_none : IsWellFormed (record divided { nodes = greatest [] ∷ []; clauses = []; objective = None }) → ⊥
+unfolding StandsOver
+greatest_of_none w = omega (arith, w.nodes 0 (cell 0) (omega arith))
+
+no_such_clause : IsWellFormed (record divided { clauses = 5 ∷ []; objective = None }) → ⊥
+unfolding named_terms
+no_such_clause w = omega (arith, w.terms 0 0 (omega arith))

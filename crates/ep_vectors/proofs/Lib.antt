@@ -1,4 +1,5 @@
 pub mod Nodes
+pub mod Parts
 pub mod Reaches
 pub mod Grounds
 pub mod Bounds

@@ -5,7 +5,7 @@ use Rattle.ep_base.specs.Numbers as numbers
 use Rattle.ep_base.specs.Reads as reads
 use Rattle.ep_base.specs.declared.operators.CompareOp.{CompareOp}
 use Rattle.ep_base.specs.declared.operators.LexOp.{LexOp}
-use Rattle.ep_ground.specs.Nodes.{GroundNode, constant, undefined, cell, sum, pick, safe_pick, compare, lex, member, counts}
+use Rattle.ep_ground.specs.Nodes.{GroundNode, constant, undefined, cell, pick, safe_pick, compare, lex, all_different, at_least, at_most, power, table, member, counts}
 use Rattle.ep_ground.specs.Terms.{node_value, on_both, term_value, truth, value_at, values_from, values_of, weighed}
 
 -- the terms 0 to 5: 7, -2, 0, nothing, the first cell, which is 5, and 1
@@ -68,3 +68,25 @@ counted_twice :
     ≡ yes ∷ no ∷ yes ∷ []
 unfolding term_value values_from value_at node_value on_both values_of weighed truth numbers.of_bool numbers.counts_hold numbers.times_in numbers.compare_holds reads.all_there
 counted_twice = refl
+
+-- 0 to the power 0 is 1, and what has no value to the power 0 has none
+powers :
+    behind_six (power 2 0 ∷ power 2 1 ∷ power 1 2 ∷ power 3 0 ∷ [])
+    ≡ yes ∷ no ∷ Some (pos 4) ∷ None ∷ []
+unfolding term_value values_from value_at node_value on_both values_of weighed truth numbers.nth_power
+powers = refl
+
+-- counts of no number hold; where a counted term has no value none does; a number twice is asked for twice
+counts_at_their_edges :
+    behind_six (counts (0 ∷ []) [] [] ∷ at_least (0 ∷ []) [] [] ∷ at_most (0 ∷ []) [] [] ∷ counts (3 ∷ []) [] [] ∷ at_least (3 ∷ []) (pos 0 ∷ []) (pos 1 ∷ []) ∷ at_most (3 ∷ []) (pos 1 ∷ []) (pos 1 ∷ [])
+    ∷ at_least (5 ∷ 0 ∷ []) (pos 1 ∷ pos 2 ∷ []) (pos 1 ∷ pos 1 ∷ []) ∷ at_most (5 ∷ 0 ∷ []) (pos 1 ∷ pos 0 ∷ []) (pos 1 ∷ pos 1 ∷ []) ∷ at_most (5 ∷ 0 ∷ []) (pos 1 ∷ pos 2 ∷ []) (pos 1 ∷ pos 1 ∷ []) ∷ [])
+    ≡ yes ∷ yes ∷ yes ∷ no ∷ no ∷ no ∷ no ∷ no ∷ yes ∷ []
+unfolding term_value values_from value_at node_value on_both values_of weighed truth numbers.of_bool numbers.counts_hold numbers.times_in numbers.compare_holds reads.all_there
+counts_at_their_edges = refl
+
+-- no row holds where there is none; the row of no number is that of no term
+tables :
+    behind_six (table [] [] ∷ table [] ([] ∷ []) ∷ table (0 ∷ []) ([] ∷ []) ∷ table (0 ∷ 1 ∷ []) ((pos 7 ∷ negsuc 1 ∷ []) ∷ []) ∷ all_different [] ∷ all_different (3 ∷ []) ∷ [])
+    ≡ no ∷ yes ∷ no ∷ yes ∷ yes ∷ no ∷ []
+unfolding term_value values_from value_at node_value on_both values_of weighed truth numbers.of_bool numbers.is_row_of numbers.same_numbers numbers.are_different numbers.has_number reads.all_there
+tables = refl

@@ -6,7 +6,7 @@ use Rattle.ep_base.specs.Intervals.{Interval, from_to, only}
 use Rattle.ep_base.specs.Numbers as numbers
 use Rattle.ep_base.specs.declared.operators.LexOp.{LexOp}
 use Rattle.ep_ground.specs.Bounds.{node_reach, reach_at, scaled, term_reach}
-use Rattle.ep_ground.specs.Nodes.{GroundNode, constant, cell, absolute, greatest, pick, safe_quotient, safe_remainder, power, lex, member, negation, all_of, any_of, all_different, counts, table}
+use Rattle.ep_ground.specs.Nodes.{GroundNode, constant, cell, absolute, greatest, pick, safe_quotient, safe_remainder, power, lex, member, negation, sum, all_of, any_of, all_different, counts, table}
 use Rattle.ep_ground.specs.declared.cells.Cell.{Cell}
 
 -- a cell from -2 to 3
@@ -25,3 +25,19 @@ reaches : map (term_reach some_nodes (small ∷ [])) (0 ∷ 1 ∷ 2 ∷ 3 ∷ 4 
     ∷ from_to (pos 0) (pos 1) ∷ from_to (pos 0) (pos 1) ∷ from_to (pos 0) (pos 1) ∷ from_to (pos 0) (pos 1) ∷ from_to (pos 0) (pos 1) ∷ from_to (pos 0) (pos 1) ∷ from_to (pos 0) (pos 1) ∷ from_to (pos 0) (pos 1) ∷ []
 unfolding term_reach reach_at node_reach scaled intervals.spanned intervals.least_or_zero intervals.greatest_or_zero intervals.product_interval intervals.sum_interval intervals.quotient_interval intervals.remainder_interval intervals.nth_power_interval intervals.has_zero intervals.hull intervals.least_interval intervals.greatest_interval intervals.absolute_interval intervals.farthest_end numbers.least_of numbers.greatest_of numbers.sum_of numbers.nth_power numbers.absolute_of
 reaches = refl
+
+-- a cell from 2 to 3, and one from -3 to 0
+abbrev high_and_low : List Cell
+high_and_low =
+    record { name = 120 ∷ []; indices = []; truth = false; values = pos 2 ∷ pos 3 ∷ [] }
+    ∷ record { name = 121 ∷ []; indices = []; truth = false; values = negsuc 2 ∷ pos 0 ∷ [] } ∷ []
+
+-- both cells, 5 less twice the first, a sum of no part, absolute values of what is never 0 and of what may be, and remainders by what is
+-- never negative and by what is never positive
+abbrev more_nodes : List GroundNode
+more_nodes = cell 0 ∷ cell 1 ∷ sum (pos 5) ((negsuc 1, 0) ∷ []) ∷ sum (pos 5) [] ∷ absolute 0 ∷ absolute 1 ∷ safe_remainder 1 0 ∷ safe_remainder 0 1 ∷ []
+
+more_reaches : map (term_reach more_nodes high_and_low) (0 ∷ 1 ∷ 2 ∷ 3 ∷ 4 ∷ 5 ∷ 6 ∷ 7 ∷ [])
+    ≡ from_to (pos 2) (pos 3) ∷ from_to (negsuc 2) (pos 0) ∷ from_to (negsuc 0) (pos 1) ∷ only (pos 5) ∷ from_to (pos 2) (pos 3) ∷ from_to (pos 0) (pos 3) ∷ from_to (pos 0) (pos 2) ∷ from_to (negsuc 1) (pos 0) ∷ []
+unfolding term_reach reach_at node_reach scaled intervals.spanned intervals.least_or_zero intervals.greatest_or_zero intervals.product_interval intervals.sum_interval intervals.remainder_interval intervals.absolute_interval intervals.has_zero intervals.farthest_end numbers.least_of numbers.greatest_of numbers.sum_of numbers.absolute_of
+more_reaches = refl
