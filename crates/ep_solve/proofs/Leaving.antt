@@ -1,5 +1,5 @@
 -- What a search in the problem of an instance's ground leaves in its log.
-use Rattle.std.proofs.Common.{◌≡◌, ◌↔◌, ℕ, ℤ, Bool, true, List, [], ◌∷◌, ◌++◌, drop, length, take, map, Option, Some, None, refl, sym, ap, subst, ◌∙◌, arith}
+use Rattle.std.proofs.Common.{◌≡◌, ◌≢◌, ◌↔◌, ℕ, ℤ, Bool, true, List, [], ◌∷◌, ◌++◌, drop, length, take, map, Option, Some, None, refl, sym, ap, subst, ◌∙◌, arith}
 use Rattle.std.specs.Prelude.{All}
 use Rattle.std.proofs.Math.Seq.{take-append_seam}
 use Rattle.std.proofs.lemmas.List.{length-take, take-append-drop}
@@ -24,7 +24,7 @@ use Rattle.ep_solve.specs.Logged.{AreWanted, IsBetterGoal, IsLogged, IsStillWant
 use Rattle.ep_solve.specs.Formulas.{Solves}
 use Rattle.ep_solve.specs.Reading.{answer_from, assignment_from, found_of}
 use Rattle.ep_solve.proofs.Answering.{Allows, HasSense, same-better, same-some, stated-variable}
-use Rattle.ep_solve.proofs.Solved.{SearchedFor, allows-after, own-clauses, same-base}
+use Rattle.ep_solve.proofs.Solved.{SearchedFor, allows-after, own-base, own-clauses, same-base}
 use Rattle.ep_solve.proofs.Telling.{as-many, notes-named, notes-tell}
 
 -- ---- givens of the first events
@@ -163,23 +163,39 @@ leaves mode i p budget log best k senses spent =
       λ both. (spent.left numbers goal).1 (both.0, (still-wanted i p best goal senses).1 both.1),
     ))
 
-shows : (mode : Mode) (i : Instance) (p : ProblemState) (budget : ℕ) (log : LogState) (found : FoundCells) → Keeps mode i p log → HasSense p i
-    → IsRightAnswer p budget log found → ShowsAnswer mode i budget log (answer_from i.finds budget found)
+-- a single solution added no given to a log
+abbrev AddsNone : FoundCells → LogState → LogState → Type 0
+AddsNone found old new = (numbers : List ℤ) → found ≡ cells.solution numbers → givens new.events ≡ givens old.events
+
+-- all that stands for the instance is left, where no given was added
+all-left : (mode : Mode) (i : Instance) (h : SearchedFor mode i) → Keeps mode i h.p h.new → givens h.new.events ≡ givens h.old.events → TellSolutions mode i h.new.notes (givens h.new.events) (λ found. IsStillWanted i None (goal_value mode i found))
+unfolding IsStillWanted
+all-left mode i h k same =
+    subst (λ (cs : List (List Literal)). TellSolutions mode i h.new.notes cs (λ found. Unit {0}))
+    (same-base h.old h.new h.poses.is_base h.front h.base ∙ own-base h.old h.poses.is_base ∙ sym same) (stands mode i h k).told
+
+shows : (mode : Mode) (i : Instance) (budget : ℕ) (found : FoundCells) → (h : SearchedFor mode i) → Keeps mode i h.p h.new → AddsNone found h.old h.new
+    → IsRightAnswer h.p budget h.new found → ShowsAnswer mode i budget h.new (answer_from i.finds budget found)
 unfolding IsRightAnswer ShowsAnswer answer_from
-shows mode i p budget log (cells.solution ns) k senses h = tt
-shows mode i p budget log (cells.optimum n ns) k senses h = h.ends
-shows mode i p budget log cells.no_solution k senses h = h.ends
-shows mode i p budget log (cells.unknown None) k senses h = ((h.steps, h.none_is_empty), leaves mode i p budget log None k senses h)
-shows mode i p budget log (cells.unknown (Some best)) k senses h = ((h.steps, h.none_is_empty), leaves mode i p budget log (Some best) k senses h)
+shows mode i budget (cells.solution ns) h k none right = all-left mode i h k (none ns refl)
+shows mode i budget (cells.optimum n ns) h k none right = right.ends
+shows mode i budget cells.no_solution h k none right = right.ends
+shows mode i budget (cells.unknown None) h k none right = ((right.steps, right.none_is_empty), leaves mode i h.p budget h.new None k h.poses.stands.senses right)
+shows mode i budget (cells.unknown (Some best)) h k none right = ((right.steps, right.none_is_empty), leaves mode i h.p budget h.new (Some best) k h.poses.stands.senses right)
 
 -- what was found in the problem of an instance is logged
 pub found-logged : (mode : Mode) (i : Instance) (budget : ℕ) (found : FoundCells) (answer : AnswerTree) → (h : SearchedFor mode i) → h.new.notes ≡ h.old.notes
-    → AnswersCells h.p budget h.new found → answer ≡ answer_from i.finds budget found → IsLogged mode i budget h.new answer
-found-logged mode i budget found answer h notes answers same =
+    → AddsNone found h.old h.new → AnswersCells h.p budget h.new found → answer ≡ answer_from i.finds budget found → IsLogged mode i budget h.new answer
+found-logged mode i budget found answer h notes none answers same =
     let k : Keeps mode i h.p h.new = kept mode i h notes in
     record {
       stands = stands mode i h k;
       sound = answers.sound;
       within = answers.within;
-      shows = subst (ShowsAnswer mode i budget h.new) (sym same) (shows mode i h.p budget h.new found k h.poses.stands.senses answers.right);
+      shows = subst (ShowsAnswer mode i budget h.new) (sym same) (shows mode i budget found h k none answers.right);
     }
+
+-- a problem with an objective has no solution for an answer, but an optimum
+pub none_added : (p : ProblemState) (budget : ℕ) (old new : LogState) (found : FoundCells) → p.variables.objective ≢ None → AnswersCells p budget new found → AddsNone found old new
+unfolding IsRightAnswer
+none_added p budget old new found stated answers numbers e = absurd (stated (subst (λ (f : FoundCells). IsRightAnswer p budget new f) e answers.right).unstated)

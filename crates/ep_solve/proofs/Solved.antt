@@ -88,8 +88,11 @@ posed-can-search mode i p log h = record {
 }
 
 -- the problem's own clauses are the formula's
+pub own-base : (old : LogState) → old.base ≡ length old.events → base_clauses old ≡ givens old.events
+own-base old whole = ap (λ n. givens (take n old.events)) whole ∙ ap givens (take-own old.events)
+
 pub own-clauses : (mode : Mode) (i : Instance) (p : ProblemState) (old : LogState) → (h : Poses mode i p old) → base_clauses old ≡ h.formula.clauses
-own-clauses mode i p old h = ap (λ n. givens (take n old.events)) h.is_base ∙ ap givens (take-own old.events) ∙ h.givens_are
+own-clauses mode i p old h = own-base old h.is_base ∙ h.givens_are
 
 -- clauses that are a formula's allow exactly the solutions of the instance for which it stands
 clauses-allow : (mode : Mode) (i : Instance) (p : ProblemState) (log : LogState) (f : Cnf) → IsFormulaFor mode i p.layout p.variables f → base_clauses log ≡ f.clauses → Allows mode i p log

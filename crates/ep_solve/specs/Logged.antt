@@ -91,11 +91,11 @@ abbrev pub Leaves : Mode → Instance → LogState → Option ℤ → Type 0
 Leaves mode i log best =
     TellSolutions mode i log.notes (givens log.events) (λ found. IsStillWanted i best (goal_value mode i found))
 
--- What the log shows of an answer: nothing more is left of an optimum or where there is no solution, since it ends with the
--- empty step; and where the budget is spent, its steps are as many, and what is left are exactly the solutions that are better
--- than the one at hand.
+-- What the log shows of an answer: all solutions are left of a single one, since nothing was added to what stands for the instance;
+-- nothing more is left of an optimum or where there is no solution, since it ends with the empty step; and where the budget is spent,
+-- its steps are as many, and what is left are exactly the solutions that are better than the one at hand.
 unfoldable pub ShowsAnswer : Mode → Instance → ℕ → LogState → AnswerTree → Type 0
-ShowsAnswer mode i budget log (solution a) = Unit {0}
+ShowsAnswer mode i budget log (solution a) = Leaves mode i log None
 ShowsAnswer mode i budget log (optimum value a) = EndsWithEmptyStep log.events
 ShowsAnswer mode i budget log no_solution = EndsWithEmptyStep log.events
 ShowsAnswer mode i budget log (unknown conflicts) = IsSpent budget log.events × Leaves mode i log None
