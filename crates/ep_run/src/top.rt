@@ -78,11 +78,12 @@ pub fn run<R: Threads, F: Files, K: Sink>(
         × Refuses words.now held StatusValue.Device line
         × (K.taken out.new ≡ with_more line (K.taken out.old))) }
 
-    // Then the line of a file that can't be read or written was put out, and nothing else; or the sink
-    // failed, and took of one text that may be put out a part that isn't the whole.
+    // Then the line of a file that can't be read or written was put out, and nothing else, and nothing is
+    // logged where it can't be read; or the sink failed, and took of one text that may be put out a part
+    // that isn't the whole.
     ensures failed { result ≡ StatusValue.Device →
         ((text : List ℕ) × IsDeviceLine words.now (F.held files.old) (F.held files.new)
-        (Rose (F.faults files.old) (F.faults files.new)) text
+        (Rose (F.faults files.old) (F.faults files.new)) log.new text
         × (K.taken out.new ≡ with_more text (K.taken out.old)))
         ⊎ (Rose (K.faults out.old) (K.faults out.new) × (text : List ℕ)
         × MayBePut words.now (F.held files.old) (F.held files.new)
