@@ -16,11 +16,11 @@ use Rattle.ep_run.specs.Puts.{HoldOnWant}
 use Rattle.ep_run.specs.Readings.{AreParams, IsHeldReadAs, IsReadAs, spells_in, tree_or_refusal}
 use Rattle.ep_run.specs.Shown.{Ask, ComesTo, Refuse, Show, ThenShows, comes_to_judge, comes_to_search, comes_to_verify}
 use Rattle.ep_run.specs.Status.{HasReply, status_of}
-use Rattle.ep_run.specs.Steps.{OrUnlogged}
+use Rattle.ep_run.specs.Steps.{IsLogOf, LogsTask}
 use Rattle.ep_run.specs.declared.status.Status.{Status}
 use Rattle.ep_run.specs.declared.wanted.Wanted.{Wanted}
 use Rattle.ep_run.proofs.Promises.{ended-status, usage-told}
-use Rattle.ep_run.proofs.Saying.{Case, answer, faulty, no_command, unread, unwritten}
+use Rattle.ep_run.proofs.Saying.{Case, answer, end-logs, faulty, no_command, output-logs, unread, unwritten}
 
 -- a text is read as one thing alone
 abbrev pub OneAnswer : (TextFile) → Type 0
@@ -77,7 +77,11 @@ comes-once texts (Wanted.Verify model params solution) held a b g h =
     (λ s x y e f. e ∙ sym f)))
     a b g h
 
-want-once : OneJob → (words : List (List ℕ)) (a b : Wanted) → Want words a → Want words b → a ≡ b
+-- words want one thing alone
+abbrev pub WantOne : List (List ℕ) → Type 0
+WantOne words = (a b : Wanted) → Want words a → Want words b → a ≡ b
+
+pub want-once : OneJob → (words : List (List ℕ)) (a b : Wanted) → Want words a → Want words b → a ≡ b
 want-once one words a b g h =
     let e = sym g.2 ∙ ap wanted_of (one words g.0 h.0 g.1 h.1) ∙ h.2 in cc
 
@@ -167,7 +171,26 @@ unwritten-on-want words (Some held) after rose once h = λ refusals show.
       | inr failed ↦ let e = once held (Ok failed.1.2.0) (Err refusals) failed.1.2.1 show in absurd cc
     ]
 
-pub unlogged-on-want : (words : List (List ℕ)) (told : Option Held) (log : LogState) → ShownOnce words → OrUnlogged log (IfSome told (λ held. (task : Task) × Ask words held task)) → IfSome told (λ held. (refusals : List Refusal) → Show words held (Err refusals) → log ≡ empty_log)
+pub unlogged-on-want : (words : List (List ℕ)) (told : Option Held) (log : LogState) → ShownOnce words → LogsTask words told log → IfSome told (λ held. (refusals : List Refusal) → Show words held (Err refusals) → log ≡ empty_log)
 unlogged-on-want words None log once h = tt
 unlogged-on-want words (Some held) log once h = λ refusals show.
-    elim h [ inl nothing ↦ nothing | inr asked ↦ let e = once held (Ok asked.0) (Err refusals) asked.1 show in absurd cc ]
+    elim h [ inl nothing ↦ nothing | inr asked ↦ let e = once held (Ok asked.3.0) (Err refusals) asked.3.1 show in absurd cc ]
+
+-- ---- what a verification logs
+
+logs-nothing : (words : List (List ℕ)) (wanted : Wanted) (log : LogState) (model : List ℕ) (params : Option (List ℕ)) (solution : List ℕ) → WantOne words → Want words wanted → IsLogOf wanted log → Want words (Wanted.Verify model params solution) → log ≡ empty_log
+logs-nothing words (Wanted.Search m p request output) log model params solution one want logs judged =
+    let e = one (Wanted.Search m p request output) (Wanted.Verify model params solution) want judged in absurd cc
+logs-nothing words (Wanted.Verify m p s) log model params solution one want logs judged = logs
+
+-- nothing is logged where a solution is to be verified
+pub judged-said : (words : List (List ℕ)) (told after : Option Held) (rose : Type 0) (status : Status) (text : List ℕ) (log : LogState) → WantOne words → Case words told after rose status text log → (model : List ℕ) (params : Option (List ℕ)) (solution : List ℕ) → Want words (Wanted.Verify model params solution) → log ≡ empty_log
+judged-said words told after rose status text log one (no_command s t nothing kept none) = λ model params solution judged. nothing
+judged-said words told after rose status text log one (answer wanted want ends shown put) = λ model params solution judged. logs-nothing words wanted log model params solution one want (end-logs wanted status log ends) judged
+judged-said words told after rose status text log one (faulty wanted want r s t nothing kept of_text shown) = λ model params solution judged. nothing
+judged-said words told after rose status text log one (unread name s t nothing kept failed why) = λ model params solution judged. nothing
+judged-said words told after rose status text log one (unwritten name s t sound failed) = λ model params solution judged. logs-nothing words failed.1.0 log model params solution one failed.1.1 (output-logs failed.1.0 name log failed.1.2) judged
+
+pub judged-on-want : (words : List (List ℕ)) (told : Option Held) (log : LogState) → WantOne words → LogsTask words told log → (model : List ℕ) (params : Option (List ℕ)) (solution : List ℕ) → Want words (Wanted.Verify model params solution) → log ≡ empty_log
+judged-on-want words told log one h = λ model params solution judged.
+    elim h [ inl nothing ↦ nothing | inr asked ↦ logs-nothing words asked.0 log model params solution one asked.1 asked.2 judged ]

@@ -1,5 +1,5 @@
 -- From what the steps of a run tell to what the run tells.
-use Rattle.std.proofs.Common.{◌≡◌, ℕ, ◌⊎◌, List, [], ◌∷◌, ◌++◌, map, Option, Some, None, Ok, Err, Result, IfOk, IfSome, OnErr, Contains, ◌≤◌, inl, inr, refl, sym, ap, subst, ◌∙◌, arith}
+use Rattle.std.proofs.Common.{◌≡◌, ℕ, ◌⊎◌, List, [], ◌∷◌, ◌++◌, map, Option, Some, None, Ok, Err, Result, IfOk, OnErr, Contains, ◌≤◌, inl, inr, refl, sym, ap, subst, ◌∙◌, arith}
 use Rattle.std.specs.declared.alloc.Global.{Global}
 use Rattle.std.specs.declared.vec.Vec.{Vec}
 use Rattle.std.proofs.lemmas.List.{append-nil}
@@ -24,9 +24,8 @@ use Rattle.ep_tree.specs.declared.values.Mode.{Mode}
 use Rattle.ep_solve.specs.Right.{empty_log}
 use Rattle.ep_run.specs.Answers.{Answers, wrong_shape_text}
 use Rattle.ep_run.specs.Outcomes.{Outcome, Task, and_then, as_outcome, bind_refusal, bind_refusals, bound_outcome, fault_refusals, instance_of, judge_outcome, search_outcome, task_of, to_judge, unless_refused, verify_outcome}
-use Rattle.ep_run.specs.Shown.{Ask}
 use Rattle.ep_run.specs.Status.{status_of}
-use Rattle.ep_run.specs.Steps.{EndsAs, EndsBy, IsAmong, IsJudged, IsNotThere, IsUnreadStop, OrUnlogged, Passes, Says, Tells, TellsBytes, TellsParams, TellsReply, TellsRun, TellsShape, TellsTask, shape_outcome}
+use Rattle.ep_run.specs.Steps.{EndsAs, EndsBy, IsAmong, IsEnd, IsJudged, IsNotThere, IsUnreadStop, LogsTask, Passes, Says, Tells, TellsBytes, TellsParams, TellsReply, TellsRun, TellsShape, TellsTask, shape_outcome}
 use Rattle.ep_run.specs.Stops.{bind_stop}
 use Rattle.ep_run.specs.declared.replies.Reply.{Reply}
 use Rattle.ep_run.specs.declared.status.Status.{Status}
@@ -35,7 +34,7 @@ use Rattle.ep_run.specs.declared.wanted.Request.{Request}
 use Rattle.ep_run.specs.declared.wanted.Wanted.{Wanted}
 use Rattle.ep_run.proofs.Binding.{bind-stopped}
 use Rattle.ep_run.specs.Puts.{HoldOnWant}
-use Rattle.ep_run.proofs.Saying.{holds-refused, nothing-sound, refused-asked, said-refusal, wanting-asked}
+use Rattle.ep_run.proofs.Saying.{holds-refused, nothing-logs, nothing-sound, refused-asked, said-refusal, wanting-asked}
 use Rattle.ep_run.proofs.Tasks.{AreAllFaultless, AreFaultless, bound-refused, is-judge, is-search, is-verify, limits-refused, shape-refused, search-instance, search-model, search-params, judge-ends, verify-instance, verify-model, verify-params, verify-solution}
 
 -- ---- words
@@ -54,13 +53,13 @@ refused-holds words told after rose log r (Err e) h = holds-refused words told a
 
 -- where memory is wanting, something is logged for a task alone
 pub run-asked : (words : List (List ℕ)) (told after : Option Held) (rose : Type 0) (log : LogState) (result : Result Reply Stop) → TellsRun words told after rose log result
-    → OnErr result (OrUnlogged log (IfSome told (λ held. (task : Task) × Ask words held task)))
+    → OnErr result (LogsTask words told log)
 run-asked words told after rose log (Ok reply) h = tt
 run-asked words told after rose log (Err (Stop.Refused r)) h = refused-asked words told after rose log r h
 run-asked words told after rose log (Err Stop.Memory) h = wanting-asked words told after rose log h
 
 pub refused-asks : (words : List (List ℕ)) (told after : Option Held) (rose : Type 0) (log : LogState) (r : Refusal) (result : Result Reply Memory)
-    → TellsRun words told after rose log (Err (Stop.Refused r)) → OnErr result (OrUnlogged log (IfSome told (λ held. (task : Task) × Ask words held task)))
+    → TellsRun words told after rose log (Err (Stop.Refused r)) → OnErr result (LogsTask words told log)
 refused-asks words told after rose log r (Ok reply) h = tt
 refused-asks words told after rose log r (Err e) h = refused-asked words told after rose log r h
 
@@ -243,9 +242,12 @@ pub stopped-ends : (End : Status → Type 0) (log : LogState) (stop : Stop) → 
 stopped-ends End log (Stop.Refused r) h = h
 stopped-ends End log Stop.Memory h = nothing-sound log h
 
+pub stopped-as : (wanted : Wanted) (log : LogState) (stop : Stop) → log ≡ empty_log → EndsAs wanted log (Err stop)
+stopped-as wanted log stop h = (nothing-logs wanted log h, stopped-ends (λ status. IsEnd wanted status log) log stop h)
+
 -- a verification ends so, whatever refuses it, with nothing logged
 pub verify-ends : (model : List ℕ) (params : Option (List ℕ)) (solution : List ℕ) (log : LogState) (result : Result Reply Stop) → log ≡ empty_log
     → IfOk result (λ reply. (reply.status ≡ Status.Answered) ⊎ (reply.status ≡ Status.Refuted)) → EndsAs (Wanted.Verify model params solution) log result
-verify-ends model params solution log (Ok reply) nothing h = (nothing, h)
-verify-ends model params solution log (Err (Stop.Refused r)) nothing h = nothing
-verify-ends model params solution log (Err Stop.Memory) nothing h = nothing-sound log nothing
+verify-ends model params solution log (Ok reply) nothing h = (nothing, (nothing, h))
+verify-ends model params solution log (Err (Stop.Refused r)) nothing h = (nothing, nothing)
+verify-ends model params solution log (Err Stop.Memory) nothing h = (nothing, nothing-sound log nothing)

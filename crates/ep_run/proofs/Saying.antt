@@ -13,7 +13,7 @@ use Rattle.ep_run.specs.Outputs.{with_output}
 use Rattle.ep_run.specs.Puts.{HoldOnWant, IsFailedRead, IsFailedWrite, read_line, write_line}
 use Rattle.ep_run.specs.Shown.{Ask, ComesTo, Refuse}
 use Rattle.ep_run.specs.Status.{status_of}
-use Rattle.ep_run.specs.Steps.{EndsAs, IsAnswer, IsEnd, IsFailed, IsFaulty, IsOfText, IsRefused, IsShown, IsUnwritten, OrUnlogged, Says, TellsRun, TellsTask, TellsWanted, TellsWritten}
+use Rattle.ep_run.specs.Steps.{EndsAs, IsAnswer, IsEnd, IsFailed, IsFaulty, IsLogOf, IsOfText, IsRefused, IsShown, IsUnwritten, LogsTask, Says, TellsRun, TellsTask, TellsWanted, TellsWritten}
 use Rattle.ep_run.specs.declared.replies.Reply.{Reply}
 use Rattle.ep_run.specs.declared.status.Status.{Status}
 use Rattle.ep_run.specs.declared.stops.Stop.{Stop}
@@ -32,6 +32,20 @@ pub end-sound : (wanted : Wanted) (status : Status) (log : LogState) → IsEnd w
 end-sound (Wanted.Search _ _ _ _) status log h = h.0
 end-sound (Wanted.Verify _ _ _) status log h = nothing-sound log h.0
 
+pub end-logs : (wanted : Wanted) (status : Status) (log : LogState) → IsEnd wanted status log → IsLogOf wanted log
+end-logs (Wanted.Search _ _ _ _) status log h = tt
+end-logs (Wanted.Verify _ _ _) status log h = h.0
+
+pub nothing-logs : (wanted : Wanted) (log : LogState) → log ≡ empty_log → IsLogOf wanted log
+nothing-logs (Wanted.Search _ _ _ _) log e = tt
+nothing-logs (Wanted.Verify _ _ _) log e = e
+
+-- where a file is named for the answer, no solution is verified
+pub output-logs : (wanted : Wanted) (name : List ℕ) (log : LogState) → output_of wanted ≡ Some name → IsLogOf wanted log
+unfolding output_of
+output-logs (Wanted.Search _ _ _ _) name log e = tt
+output-logs (Wanted.Verify model params solution) name log e = absurd cc
+
 -- ---- from what is wanted to the words
 
 -- the words are no command, or memory is wanting
@@ -42,9 +56,9 @@ unread-words words told rose log Stop.Memory nothing h = (nothing-sound log noth
 -- what is wanted is refused, or memory is wanting
 pub refused-run : (words : List (List ℕ)) (wanted : Wanted) (told after : Option Held) (rose : Type 0) (log : LogState) (stop : Stop) → Want words wanted → after ≡ told → EndsAs wanted log (Err stop)
     → TellsTask (files_of wanted) (ComesTo wanted) told rose log (Err stop) → TellsRun words told after rose log (Err stop)
-refused-run words wanted told after rose log (Stop.Refused r) want kept ends h = inr (wanted, want, inl (ends, kept, h))
+refused-run words wanted told after rose log (Stop.Refused r) want kept ends h = inr (wanted, want, inl (ends.1, kept, h))
 refused-run words wanted told after rose log Stop.Memory want kept ends h =
-    (ends, kept, elim h [ inl nothing ↦ inl nothing | inr asked ↦ inr (wanted, want, asked) ])
+    (ends.1, kept, elim h [ inl nothing ↦ inl nothing | inr asked ↦ inr (wanted, want, ends.0, asked) ])
 
 asked-of : (wanted : Wanted) (told : Option Held) (status : Status) (text : List ℕ) (log : LogState) → IsAnswer (ComesTo wanted) told status text log → IfSome told (λ held. (task : Task) × ComesTo wanted held (Ok task))
 asked-of wanted None status text log h = tt
@@ -71,7 +85,7 @@ unwritten-run V words wanted output told between after rose rose-now quiet statu
 unwritten-run V words wanted output told between after rose rose-now quiet status text log Stop.Memory want named kept rises ends shown h = (
   end-sound wanted status log ends,
   h.1 ∙ kept,
-  inr (wanted, want, asked-of wanted told status text log shown),
+  inr (wanted, want, end-logs wanted status log ends, asked-of wanted told status text log shown),
 )
 
 -- the answer is there, and its file is written
@@ -149,16 +163,19 @@ holds-refused words told after rose log r h =
     ]
 
 -- where memory is wanting, something is logged for a task alone
-pub wanting-asked : (words : List (List ℕ)) (told after : Option Held) (rose : Type 0) (log : LogState) → TellsRun words told after rose log (Err Stop.Memory) → OrUnlogged log (IfSome told (λ held. (task : Task) × Ask words held task))
+pub wanting-asked : (words : List (List ℕ)) (told after : Option Held) (rose : Type 0) (log : LogState) → TellsRun words told after rose log (Err Stop.Memory) → LogsTask words told log
 wanting-asked words told after rose log h =
-    elim h.2 [ inl nothing ↦ inl nothing | inr asked ↦ inr (asked-shown words asked.0 told asked.1 asked.2) ]
+    elim h.2 [ inl nothing ↦ inl nothing | inr asked ↦ inr (asked.0, asked.1, asked.2, asked-shown words asked.0 told asked.1 asked.3) ]
 
 -- where it is wanting for the line of a refusal too
-pub refused-asked : (words : List (List ℕ)) (told after : Option Held) (rose : Type 0) (log : LogState) (r : Refusal) → TellsRun words told after rose log (Err (Stop.Refused r)) → OrUnlogged log (IfSome told (λ held. (task : Task) × Ask words held task))
+pub refused-asked : (words : List (List ℕ)) (told after : Option Held) (rose : Type 0) (log : LogState) (r : Refusal) → TellsRun words told after rose log (Err (Stop.Refused r)) → LogsTask words told log
 refused-asked words told after rose log r h =
     elim h [
       | inl none ↦ inl none.1
-      | inr some ↦ elim some.2 [ inl shown ↦ inl shown.0 | inr unwritten ↦ inr (asked-shown words some.0 told some.1 unwritten.6) ]
+      | inr some ↦ elim some.2 [
+        | inl shown ↦ inl shown.0
+        | inr unwritten ↦ inr (some.0, some.1, output-logs some.0 unwritten.1 log unwritten.2, asked-shown words some.0 told some.1 unwritten.6)
+      ]
     ]
 
 no-command-shown : (words : List (List ℕ)) (held : Held) → AreNoCommand words → Refuse words held Refusal.Usage

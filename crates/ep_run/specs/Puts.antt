@@ -4,6 +4,7 @@ use Rattle.cnf_core.specs.Events.{LogState}
 use Rattle.ep_base.specs.Outside.{Held, SameElsewhere, TookPart, with_more}
 use Rattle.ep_print.specs.Refusals.{refusal_text}
 use Rattle.ep_print.specs.declared.refusals.Refusal.{Refusal}
+use Rattle.ep_solve.specs.Right.{empty_log}
 use Rattle.ep_run.specs.Answers.{Answers}
 use Rattle.ep_run.specs.Commands.{Want, files_of}
 use Rattle.ep_run.specs.Outcomes.{Task}
@@ -37,10 +38,11 @@ abbrev pub IsFailedWrite : List (List ℕ) → Option Held → Option Held → T
 IsFailedWrite words told after rose name =
     rose × IsOutput words name × IfSome told (λ held. (task : Task) × Ask words held task) × SameElsewhere name told after
 
--- the line of a file that can't be read, where the files hold what they held, or of the answer's file, which can't be written
-abbrev pub IsDeviceLine : List (List ℕ) → Option Held → Option Held → Type 0 → List ℕ → Type 0
-IsDeviceLine words told after rose text =
-    ((name : List ℕ) × IsFailedRead words told name × (text ≡ read_line name) × (after ≡ told))
+-- the line of a file that can't be read, where nothing is logged and the files hold what they held, or of the answer's file, which
+-- can't be written
+abbrev pub IsDeviceLine : List (List ℕ) → Option Held → Option Held → Type 0 → LogState → List ℕ → Type 0
+IsDeviceLine words told after rose log text =
+    ((name : List ℕ) × IsFailedRead words told name × (text ≡ read_line name) × (log ≡ empty_log) × (after ≡ told))
     ⊎ ((name : List ℕ) × IsFailedWrite words told after rose name × (text ≡ write_line name))
 
 -- A text of a refusal that the words and the held files show, where the files hold what they held; or of an answer, with its log,
@@ -56,7 +58,7 @@ IsShownText words held after log text =
 -- said of it.
 abbrev pub MayBePut : List (List ℕ) → Option Held → Option Held → Type 0 → LogState → List ℕ → Type 0
 MayBePut words told after rose log text =
-    IfSome told (λ held. IsShownText words held after log text) ⊎ (rose × IsDeviceLine words told after rose text)
+    IfSome told (λ held. IsShownText words held after log text) ⊎ (rose × IsDeviceLine words told after rose log text)
 
 -- of these bytes a first part was taken, or the whole, and nothing else
 abbrev pub TookFirst : List ℕ → Option (List ℕ) → Option (List ℕ) → Type 0

@@ -21,7 +21,7 @@ use Rattle.ep_run.specs.Commands.{AreNoCommand, Want, conflicts_of, files_of, ou
 use Rattle.ep_run.specs.Outcomes.{Outcome, Task, as_outcome}
 use Rattle.ep_run.specs.Outputs.{with_output}
 use Rattle.ep_run.specs.Readings.{AreParams, IsReadAs, IsTextReadAs, without}
-use Rattle.ep_run.specs.Shown.{ComesTo}
+use Rattle.ep_run.specs.Shown.{Ask, ComesTo}
 use Rattle.ep_run.specs.Status.{status_of}
 use Rattle.ep_run.specs.declared.replies.Reply.{Reply}
 use Rattle.ep_run.specs.declared.status.Status.{Status}
@@ -172,15 +172,20 @@ IsEnd (Wanted.Search _ _ request _) status log = IsSearched (conflicts_of reques
 IsEnd (Wanted.Verify _ _ _) status log =
     (log ≡ empty_log) × ((status ≡ Status.Answered) ⊎ (status ≡ Status.Refuted))
 
+-- to verify a solution is to log nothing
+abbrev pub IsLogOf : Wanted → LogState → Type 0
+IsLogOf (Wanted.Search _ _ _ _) log = Unit {0}
+IsLogOf (Wanted.Verify _ _ _) log = log ≡ empty_log
+
 -- an answer ends so; nothing is logged where there is a refusal, and soundly where memory is wanting
 abbrev pub EndsBy : (Status → Type 0) → LogState → Result Reply Stop → Type 0
 EndsBy End log (Ok reply) = End reply.status
 EndsBy End log (Err (Stop.Refused refusal)) = log ≡ empty_log
 EndsBy End log (Err Stop.Memory) = IsSound log.events
 
--- how a run ends
+-- how a run ends, and with which log
 abbrev pub EndsAs : Wanted → LogState → Result Reply Stop → Type 0
-EndsAs wanted log result = EndsBy (λ status. IsEnd wanted status log) log result
+EndsAs wanted log result = IsLogOf wanted log × EndsBy (λ status. IsEnd wanted status log) log result
 
 -- what writing a text into the file that is named for it tells, where `rose` says that a fault was counted and `quiet` that none was
 abbrev pub TellsWritten : {V : Type 0} → Option (List ℕ) → List ℕ → Option Held → Option Held → Type 0 → Type 0 → Result V Stop → Type 0
@@ -235,4 +240,11 @@ TellsRun words told after rose log (Err (Stop.Refused refusal)) =
     ⊎ ((wanted : Wanted) × Want words wanted × IsRefused wanted told after rose log refusal)
 TellsRun words told after rose log (Err Stop.Memory) =
     IsSound log.events × (after ≡ told)
-    × OrUnlogged log ((wanted : Wanted) × Want words wanted × IfSome told (λ held. (task : Task) × ComesTo wanted held (Ok task)))
+    × OrUnlogged log ((wanted : Wanted) × Want words wanted × IsLogOf wanted log
+    × IfSome told (λ held. (task : Task) × ComesTo wanted held (Ok task)))
+
+-- nothing is logged, or the words show a task, and want what may have this log
+abbrev pub LogsTask : List (List ℕ) → Option Held → LogState → Type 0
+LogsTask words told log =
+    OrUnlogged log ((wanted : Wanted) × Want words wanted × IsLogOf wanted log
+    × IfSome told (λ held. (task : Task) × Ask words held task))

@@ -1,15 +1,13 @@
 //! What is to be said to the words, and with which status.
 
-ghost use Rattle.std.specs.Prelude.{◌≡◌, ◌≤◌, IfOk, IfSome, OnErr};
+ghost use Rattle.std.specs.Prelude.{◌≡◌, ◌≤◌, IfOk, OnErr};
 ghost use Rattle.ep_base.specs.Outside.{Rose};
 ghost use Rattle.ep_print.specs.Refusals.{refusal_text};
 ghost use Rattle.ep_solve.specs.Right.{empty_log};
 ghost use Rattle.sat_search.specs.Logs.{IsSound};
-ghost use Rattle.ep_run.specs.Outcomes.{Task};
 ghost use Rattle.ep_run.specs.Puts.{HoldOnWant};
-ghost use Rattle.ep_run.specs.Shown.{Ask};
 ghost use Rattle.ep_run.specs.Status.{status_of};
-ghost use Rattle.ep_run.specs.Steps.{OrUnlogged, Says, TellsRun};
+ghost use Rattle.ep_run.specs.Steps.{LogsTask, Says, TellsRun};
 
 use super::runs::do_wanted;
 use super::status::Status;
@@ -40,8 +38,7 @@ pub fn reply_to<F: Files>(
         (Rose (F.faults files.old) (F.faults files.new)) reply.status reply.text.items log.new) }
     ensures wants { OnErr result (HoldOnWant words.now (F.held files.old) (F.held files.new)
         (Rose (F.faults files.old) (F.faults files.new))) }
-    ensures asked { OnErr result (OrUnlogged log.new
-        (IfSome (F.held files.old) (λ held. (task : Task) × Ask words.now held task))) }
+    ensures asked { OnErr result (LogsTask words.now (F.held files.old) log.new) }
     ensures sound { IsSound log.new.events }
     ensures faults { F.faults files.old ≤ F.faults files.new }
 {

@@ -164,6 +164,17 @@ find x, y : int(0..3) such that [x, y, 3][x] = 2, x ** 2 = 4##$ solution@letting
 letting m be [7] find x : int(1..2) such that forAll i : int(1..2) . x = i \\/ x + m[i] > 0##$ solution@letting x be 2@
 find m : matrix indexed by [int(1..2), int(1..1), int(1..2)] of bool such that and(flatten(m[.., 1, ..]))##$ solution@letting m be [[[true, true; int(1..2)]; int(1)], [[true, true; int(1..2)]; int(1)]; int(1..2)]@
 find x : matrix indexed by [int(1..7)] of int(1..8) such that (sum i : int(1..7) . x[i]) = 56##$ solution@letting x be [8, 8, 8, 8, 8, 8, 8; int(1..7)]@
+find S, E, N, D, M, O, R, Y : int(0..9)@such that 1000*S + 100*E + 10*N + D + 1000*M + 100*O + 10*R + E = 10000*M + 1000*O + 100*N + 10*E + Y,@S != 0, M != 0, allDiff([S, E, N, D, M, O, R, Y])##$ solution@letting S be 9@letting E be 5@letting N be 6@letting D be 7@letting M be 1@letting O be 0@letting R be 8@letting Y be 2@
+given n, cap : int(1..)@given w, v : matrix indexed by [int(1..n)] of int(0..)@find take : matrix indexed by [int(1..n)] of bool@maximising sum([take[i] * v[i] | i : int(1..n)])@such that sum([take[i] * w[i] | i : int(1..n)]) <= cap#letting n be 3 letting cap be 7 letting w be [3, 4, 5] letting v be [4, 5, 6]#$ optimum 9@letting take be [true, true, false; int(1..3)]@
+find a, b, c, d : int(1..3)@such that allDiff([a, b, c, d])##$ no solution@
+find x : int(1..2)@such that table([x], [ [1] | i : int(1..0) ])##$ no solution@
+such that allDiff([ i | i : int(1..0) ])##$ solution@
+find b : bool@maximising b@such that !b##$ optimum 0@letting b be false@
+find x, y : int(-3..3)@such that |x| = 3, x * y = 6, min([x, y]) = -3##$ solution@letting x be -3@letting y be -2@
+find x, y : int(0..9)@such that x ** 2 = 49, x % y = 3, max([x, y]) = 7##$ solution@letting x be 7@letting y be 4@
+find m : matrix indexed by [int(1..2)] of int(0..2)@such that [1, 2] <=lex m, m <=lex [1, 2]##$ solution@letting m be [1, 2; int(1..2)]@
+find m : matrix indexed by [int(1..3)] of int(0..2)@such that atleast(m, [2], [1]), atmost(m, [2, 0], [1, 2]), m[1] > m[2]##$ solution@letting m be [1, 0, 1; int(1..3)]@
+find m : matrix indexed by [int(1..3)] of int(0..5)@find x : int(0..9)@find b : bool@such that x in int(2, 5..6), b <-> x > 4, m[x] = 5, m[1] + m[3] = 0##$ solution@letting m be [0, 5, 0; int(1..3)]@letting x be 2@letting b be false@
 such that true $ \u{e9}##$ solution@";
 
 #[test]
@@ -228,6 +239,9 @@ find x : int(0..16384) such that x * x * x = 8##limit L5@
 find x, y : int(0..9999) such that x*y = 6##limit L6@
 find x : int(0..16385) such that x ** 3 = 8##limit L5@
 find x : matrix indexed by [int(1..2)] of int(0..9999) such that product([x[i] | i : int(1..2)]) = 6##limit L6@
+given n : int(1..9)@where n % 2 = 0@find x : int(1..n)#letting n be 3#fault F11 1@
+given n : int(1..9)@where n % 2 = 0@find x : int(1..n)#letting n be 10#fault F9 n@
+find x : int(0..16384)@such that x**3 = 8##limit L5@
 \u{e9}##fault F1 model 2:1@";
 
 #[test]
@@ -247,6 +261,9 @@ find x : int(0..3) minimising 6 / x#letting x be 0#$ objective undefined@
 find x : int(0..3) minimising 6 / x#letting x be 2#$ solution objective 3@
 find x : int(0..3)#letting x be 1/0#fault F10 solution 1:1@
 find x : int(0..3)#letting x : int(2..3) = 1#fault F9 x@
+find S, E, N, D, M, O, R, Y : int(0..9)@such that 1000*S + 100*E + 10*N + D + 1000*M + 100*O + 10*R + E = 10000*M + 1000*O + 100*N + 10*E + Y,@S != 0, M != 0, allDiff([S, E, N, D, M, O, R, Y])#letting S be 9 letting E be 5 letting N be 6 letting D be 7 letting M be 1 letting O be 0 letting R be 8 letting Y be 2#$ solution@
+find S, E, N, D, M, O, R, Y : int(0..9)@such that 1000*S + 100*E + 10*N + D + 1000*M + 100*O + 10*R + E = 10000*M + 1000*O + 100*N + 10*E + Y,@S != 0, M != 0, allDiff([S, E, N, D, M, O, R, Y])#letting S be 9 letting E be 5 letting N be 6 letting D be 7 letting M be 1 letting O be 0 letting R be 8 letting Y be 3#$ violated 1@
+find S, E, N, D, M, O, R, Y : int(0..9)@such that 1000*S + 100*E + 10*N + D + 1000*M + 100*O + 10*R + E = 10000*M + 1000*O + 100*N + 10*E + Y,@S != 0, M != 0, allDiff([S, E, N, D, M, O, R, Y])#letting S be 9 letting E be 5 letting N be 6 letting D be 7 letting M be 1 letting O be 0 letting R be 8#$ wrong shape Y@
 find x : int(0..3)@such that y#letting z be y#fault F3 model 3:11 y@";
 
 #[test]
@@ -278,7 +295,7 @@ fn solutions_are_listed(rt: HostRuntime) -> Result<(), Fail> {
     Ok(())
 }
 
-/// So many lines of a list of the three numbers of `x` from 1 to 3, whatever their order.
+/// So many lines of a list of the three numbers of `x` from 1 to 3, whatever their order, and none of them twice.
 #[test]
 fn each_solution_is_listed_once(rt: HostRuntime) -> Result<(), Fail> {
     let alloc = rt.alloc();
@@ -295,6 +312,11 @@ fn each_solution_is_listed_once(rt: HostRuntime) -> Result<(), Fail> {
         assert_eq!(rt; ended, Status::Answered);
         let count = out.taken().iter().filter(|byte| **byte == b'\n').count();
         assert_eq!(rt; count, lines);
+        let text = str::from_utf8(out.taken()).unwrap_or("");
+        for block in ["letting x be 1", "letting x be 2", "letting x be 3"] {
+            let count = text.lines().filter(|line| *line == block).count();
+            assert!(rt; count <= 1, "{block}");
+        }
     }
     Ok(())
 }

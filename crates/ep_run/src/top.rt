@@ -78,11 +78,12 @@ pub fn run<R: Threads, F: Files, K: Sink>(
         × Refuses words.now held StatusValue.Device line
         × (K.taken out.new ≡ with_more line (K.taken out.old))) }
 
-    // Then the line of a file that can't be read or written was put out, and nothing else; or the sink
-    // failed, and took of one text that may be put out a part that isn't the whole.
+    // Then the line of a file that can't be read or written was put out, and nothing else, and nothing is
+    // logged where it can't be read; or the sink failed, and took of one text that may be put out a part
+    // that isn't the whole.
     ensures failed { result ≡ StatusValue.Device →
         ((text : List ℕ) × IsDeviceLine words.now (F.held files.old) (F.held files.new)
-        (Rose (F.faults files.old) (F.faults files.new)) text
+        (Rose (F.faults files.old) (F.faults files.new)) log.new text
         × (K.taken out.new ≡ with_more text (K.taken out.old)))
         ⊎ (Rose (K.faults out.old) (K.faults out.new) × (text : List ℕ)
         × MayBePut words.now (F.held files.old) (F.held files.new)
@@ -110,12 +111,15 @@ pub fn run<R: Threads, F: Files, K: Sink>(
         (result ≡ StatusValue.Usage) ⊎ (result ≡ StatusValue.Memory) }
 
     // Each step of the log is valid, and each with a literal new and effective, however the run ends; and
-    // nothing is logged with a refusal or a judgement, nor where a refusal stands.
+    // nothing is logged with a refusal or a judgement, nor where a refusal stands, nor where the words ask to
+    // verify a solution, however that ends.
     ensures sound { IsSound log.new.events }
     ensures unlogged { (result ≡ StatusValue.Refuted) ⊎ ((result ≡ StatusValue.Usage)
         ⊎ ((result ≡ StatusValue.Text) ⊎ (result ≡ StatusValue.Limit))) → log.new ≡ empty_log }
     ensures refused_unlogged { IfSome (F.held files.old) (λ held.
         (refusals : List Refusal) → Show words.now held (Err refusals) → log.new ≡ empty_log) }
+    ensures judged_unlogged { (model : List ℕ) → (params : Option (List ℕ)) → (solution : List ℕ) →
+        Want words.now (Wanted.Verify model params solution) → log.new ≡ empty_log }
 
     // Every file but the one that the words name for the answer stays as it was, and that one too where a
     // refusal stands, and with a refusal or a judgement. No count of faults falls.

@@ -1,8 +1,6 @@
-use Rattle.std.proofs.Common.{Err, IfSome, OnErr, Result, subst}
+use Rattle.std.proofs.Common.{Err, OnErr, Result, subst}
 use Rattle.ep_base.specs.Outside.{Rose}
-use Rattle.ep_run.specs.Outcomes.{Task}
-use Rattle.ep_run.specs.Shown.{Ask}
-use Rattle.ep_run.specs.Steps.{OrUnlogged, TellsRun}
+use Rattle.ep_run.specs.Steps.{LogsTask, TellsRun}
 use Rattle.ep_run.specs.declared.replies.Reply.{Reply}
 use Rattle.ep_run.specs.declared.stops.Stop.{Stop}
 use Rattle.ep_run.proofs.Running.{refused-asks, refused-holds, refused-said, run-asked}
@@ -45,7 +43,7 @@ returns-in-Err-Memory-clause-asked g c =
     let after = g.F.Files.held c.run_words.new.files in
     let rose = Rose (g.F.Files.faults c.args.files.now) (g.F.Files.faults c.run_words.new.files) in
     let log = c.run_words.new.log in
-    let A : Result Reply Stop → Type 0 = λ r. OnErr r (OrUnlogged log (IfSome told (λ held. (task : Task) × Ask c.args.words.now held task))) in
+    let A : Result Reply Stop → Type 0 = λ r. OnErr r (LogsTask c.args.words.now told log) in
     subst A c.in-Err-Memory.is (run-asked c.args.words.now told after rose log c.run_words.result c.run_words.ensures.tells)
 
 pub returns-in-Ok-clause-sound : goal.returns-in-Ok-clause-sound

@@ -36,7 +36,7 @@ returns-in_err-write_output-clause-tells g c =
     let T : List ℕ → Type 0 = λ text. TellsWritten {V = Unit {0}} c.output_of.result text between after (Rose next last) (last ≡ next) (Err stop) in
     rw (p.1, p.2)
     (unwritten-run (Unit {0}) c.args.words.now c.in_ok-wanted.wanted c.output_of.result told between after (Rose first last) (Rose next last) (last ≡ next) reply.status reply.text.items c.do_wanted.new.log stop
-    c.in_ok-wanted.ensures c.output_of.ensures c.in_ok-reply.ensures.held (rose-later first next last c.in_ok-reply.ensures.faults) c.in_ok-reply.ensures.ends c.in_ok-reply.ensures.tells
+    c.in_ok-wanted.ensures c.output_of.ensures c.in_ok-reply.ensures.held (rose-later first next last c.in_ok-reply.ensures.faults) c.in_ok-reply.ensures.ends.1 c.in_ok-reply.ensures.tells
     (subst T c.deref.ensures.value c.in_err-write_output.ensures.tells))
 
 pub returns-clause-tells : goal.returns-clause-tells
@@ -50,5 +50,5 @@ returns-clause-tells g c =
     let reply = c.in_ok-reply.reply in
     let T : List ℕ → Type 0 = λ text. TellsWritten {V = Unit {0}} c.output_of.result text between after (Rose next last) (last ≡ next) (Ok c.in_ok-write_output.field-0) in
     answered-run (Unit {0}) c.args.words.now c.in_ok-wanted.wanted c.output_of.result told between after (Rose first last) (Rose next last) (last ≡ next) c.do_wanted.new.log reply c.in_ok-write_output.field-0
-    c.in_ok-wanted.ensures c.output_of.ensures c.in_ok-reply.ensures.held c.in_ok-reply.ensures.ends c.in_ok-reply.ensures.tells
+    c.in_ok-wanted.ensures c.output_of.ensures c.in_ok-reply.ensures.held c.in_ok-reply.ensures.ends.1 c.in_ok-reply.ensures.tells
     (subst T c.deref.ensures.value c.in_ok-write_output.ensures.tells)

@@ -8,10 +8,10 @@ use Rattle.ep_run.specs.Commands.{files_of}
 use Rattle.ep_run.specs.Readings.{IsReadAs}
 use Rattle.ep_run.specs.Shown.{ComesTo, comes_to_search, comes_to_verify}
 use Rattle.ep_solve.specs.Right.{empty_log}
-use Rattle.ep_run.specs.Steps.{EndsAs, IsEnd, TellsTask}
+use Rattle.ep_run.specs.Steps.{EndsAs, TellsTask}
 use Rattle.ep_run.specs.declared.wanted.Wanted.{Wanted}
 use Rattle.ep_run.proofs.Chains.{after, stable-file, unread}
-use Rattle.ep_run.proofs.Running.{rose-from, stopped-ends, verify-ends}
+use Rattle.ep_run.proofs.Running.{rose-from, stopped-as, verify-ends}
 use Rattle.ep_run.proofs.runs.do_wanted.Goals as goal
 
 pub returns-in_err-model-in-Search-clause-tells : goal.returns-in_err-model-in-Search-clause-tells
@@ -67,17 +67,17 @@ returns-in_ok-model-in-Verify-clause-tells g c =
 pub returns-in_err-model-in-Search-clause-ends : goal.returns-in_err-model-in-Search-clause-ends
 returns-in_err-model-in-Search-clause-ends g c =
     let p = err_from_is_err_and c.from_residual.result c.from_residual.ensures.1 in
-    rw (p.1, p.2) (stopped-ends (λ status. IsEnd c.args.wanted.now status c.args.log.now) c.args.log.now c.in_err-model-in-Search.field-0.0 c.requires.empty)
+    rw (p.1, p.2) (stopped-as c.args.wanted.now c.args.log.now c.in_err-model-in-Search.field-0.0 c.requires.empty)
 
 pub returns-in_err-model-in-Verify-clause-ends : goal.returns-in_err-model-in-Verify-clause-ends
 returns-in_err-model-in-Verify-clause-ends g c =
     let p = err_from_is_err_and c.from_residual-in_err-model-in-Verify.result c.from_residual-in_err-model-in-Verify.ensures.1 in
-    rw (p.1, p.2) (stopped-ends (λ status. IsEnd c.args.wanted.now status c.args.log.now) c.args.log.now c.in_err-model-in-Verify.field-0.0 c.requires.empty)
+    rw (p.1, p.2) (stopped-as c.args.wanted.now c.args.log.now c.in_err-model-in-Verify.field-0.0 c.requires.empty)
 
 pub returns-in_ok-model-in-Search-clause-ends : goal.returns-in_ok-model-in-Search-clause-ends
 returns-in_ok-model-in-Search-clause-ends g c =
     let W : Wanted → Type 0 = λ w. EndsAs w c.search_model.new.log c.search_model.result in
-    subst W (sym c.in-Search.is) c.search_model.ensures.ends
+    subst W (sym c.in-Search.is) (tt, c.search_model.ensures.ends)
 
 pub returns-in_ok-model-in-Verify-clause-ends : goal.returns-in_ok-model-in-Verify-clause-ends
 returns-in_ok-model-in-Verify-clause-ends g c =

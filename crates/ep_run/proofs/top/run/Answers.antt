@@ -1,7 +1,7 @@
 use Rattle.std.proofs.Common.{◌≡◌, ◌∙◌, ℕ, List, Err, inl, inr, ap, subst}
 use Rattle.ep_base.specs.Outside.{Rose, TookPart, with_more}
 use Rattle.ep_run.specs.Puts.{TookOnWant}
-use Rattle.ep_run.proofs.Once.{ShownOnce, TextsAreOnce, answers-said, refuses-said, shown-once, unlogged-on-want, unlogged-said, unwritten-on-want, unwritten-said}
+use Rattle.ep_run.proofs.Once.{ShownOnce, TextsAreOnce, answers-said, judged-on-want, judged-said, refuses-said, shown-once, unlogged-on-want, unlogged-said, unwritten-on-want, unwritten-said, want-once}
 use Rattle.ep_run.proofs.Promises.{may-be-put, never-memory, usage-said, want-others, when-answered, when-failed, when-kept, when-not-held, when-others, when-refused, when-refuted, when-unknown, when-unlogged, when-usage, why-device}
 use Rattle.ep_run.proofs.Saying.{case-of}
 use Rattle.ep_run.proofs.top.run.Goals as goal
@@ -417,3 +417,45 @@ returns-clause-refused_unlogged g c =
     } in
     let once : ShownOnce words = shown-once c.one_job_for_words.ensures texts words in
     unlogged-said words told after rose status text log once case
+
+pub returns-in_default-clause-judged_unlogged : goal.returns-in_default-clause-judged_unlogged
+returns-in_default-clause-judged_unlogged g c =
+    let words = c.args.words.now in
+    let told = g.F.Files.held c.args.files.now in
+    judged-on-want words told c.reply_to.new.log (want-once c.one_job_for_words.ensures words) c.in_default.ensures.asked
+
+pub returns-in-Ok-put_all-clause-judged_unlogged : goal.returns-in-Ok-put_all-clause-judged_unlogged
+returns-in-Ok-put_all-clause-judged_unlogged g c =
+    let words = c.args.words.now in
+    let told = g.F.Files.held c.args.files.now in
+    let after = g.F.Files.held c.reply_to.new.files in
+    let rose = Rose (g.F.Files.faults c.args.files.now) (g.F.Files.faults c.reply_to.new.files) in
+    let status = c.in-Ok.reply.status in
+    let text = c.in-Ok.reply.text.items in
+    let log = c.reply_to.new.log in
+    let case = case-of words told after rose status text log c.in-Ok.ensures.says in
+    judged-said words told after rose status text log (want-once c.one_job_for_words.ensures words) case
+
+pub returns-in-Err-Failed-clause-judged_unlogged : goal.returns-in-Err-Failed-clause-judged_unlogged
+returns-in-Err-Failed-clause-judged_unlogged g c =
+    let words = c.args.words.now in
+    let told = g.F.Files.held c.args.files.now in
+    let after = g.F.Files.held c.reply_to.new.files in
+    let rose = Rose (g.F.Files.faults c.args.files.now) (g.F.Files.faults c.reply_to.new.files) in
+    let status = c.in-Ok.reply.status in
+    let text = c.in-Ok.reply.text.items in
+    let log = c.reply_to.new.log in
+    let case = case-of words told after rose status text log c.in-Ok.ensures.says in
+    judged-said words told after rose status text log (want-once c.one_job_for_words.ensures words) case
+
+pub returns-clause-judged_unlogged : goal.returns-clause-judged_unlogged
+returns-clause-judged_unlogged g c =
+    let words = c.args.words.now in
+    let told = g.F.Files.held c.args.files.now in
+    let after = g.F.Files.held c.reply_to.new.files in
+    let rose = Rose (g.F.Files.faults c.args.files.now) (g.F.Files.faults c.reply_to.new.files) in
+    let status = c.in-Ok.reply.status in
+    let text = c.in-Ok.reply.text.items in
+    let log = c.reply_to.new.log in
+    let case = case-of words told after rose status text log c.in-Ok.ensures.says in
+    judged-said words told after rose status text log (want-once c.one_job_for_words.ensures words) case
