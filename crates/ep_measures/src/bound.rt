@@ -85,7 +85,10 @@ given n : int(1..2)#letting n be toInt(1/0 = 1)##F9 n#F10 params 1:1";
 
 #[test]
 fn models_are_bound(rt: HostRuntime) -> Result<(), Fail> {
-    assert_eq!(rt; first_wrong(rt.alloc(), BOUND)?, None);
+    let alloc = rt.alloc();
+    let wrong = "where !(1/0 = 1)###solution";
+    assert_eq!(rt; first_wrong(alloc, BOUND)?, None);
+    assert_eq!(rt; first_wrong(alloc, wrong)?, Some(wrong));
     Ok(())
 }
 

@@ -79,15 +79,17 @@ find x, y : int(0..9999) such that x * y = 6 find m : matrix indexed by [int(1..
 
 #[test]
 fn instances_are_measured(rt: HostRuntime) -> Result<(), Fail> {
-    assert_eq!(rt; first_wrong(rt.alloc(), INSTANCES)?, None);
+    let alloc = rt.alloc();
+    let wrong = "such that true##2 0";
+    assert_eq!(rt; first_wrong(alloc, INSTANCES)?, None);
+    assert_eq!(rt; first_wrong(alloc, wrong)?, Some(wrong));
     Ok(())
 }
 
 /// Instances with as many nodes as there may be, and with more.
 const MANY_NODES: &str = "\
 such that forAll i : int(1..4999997) . true##5000000 0
-such that forAll i : int(1..4999998) . true##L4
-such that forAll i, j, k : int(1..2000) . true##L4";
+such that forAll i : int(1..4999998) . true##L4";
 
 #[test]
 fn nodes_are_counted_up_to_their_limit(rt: HostRuntime) -> Result<(), Fail> {

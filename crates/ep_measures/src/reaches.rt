@@ -93,7 +93,10 @@ exists i, j : int(1..2) . b#weight 9";
 
 #[test]
 fn expressions_have_their_measures(rt: HostRuntime) -> Result<(), Fail> {
-    assert_eq!(rt; first_misweighed(rt.alloc(), MEASURES)?, None);
+    let alloc = rt.alloc();
+    let wrong = "s = s#weight 9";
+    assert_eq!(rt; first_misweighed(alloc, MEASURES)?, None);
+    assert_eq!(rt; first_misweighed(alloc, wrong)?, Some(wrong));
     Ok(())
 }
 
@@ -181,6 +184,10 @@ w[1]#0#1#2
 
 #[test]
 fn expressions_have_their_reaches(rt: HostRuntime) -> Result<(), Fail> {
-    assert_eq!(rt; first_misreached(rt.alloc(), REACHES)?, None);
+    let alloc = rt.alloc();
+    assert_eq!(rt; first_misreached(alloc, REACHES)?, None);
+    for wrong in ["x#0#8#10", "x#1#9#10", "x#0#9#9"] {
+        assert_eq!(rt; first_misreached(alloc, wrong)?, Some(wrong));
+    }
     Ok(())
 }

@@ -1,7 +1,10 @@
 //! Texts of rows, and what is said of them.
 
+ghost use Rattle.std.specs.Prelude.{◌≡◌, []};
 ghost use Rattle.ep_tree.specs.Closed.{IsClosed};
-ghost use Rattle.ep_instance.specs.Instances.{instance_of};
+ghost use Rattle.ep_tree.specs.Solutions.{Fits, Found, instance_limits};
+ghost use Rattle.ep_tree.specs.Views.{assigned};
+ghost use Rattle.ep_instance.specs.Instances.{instance_of, mode_of};
 
 use ep_base::Limit;
 use ep_instance::{
@@ -10,7 +13,7 @@ use ep_instance::{
 };
 use ep_parse_model::{parse_model, parse_params};
 use ep_size::{SizeError, measure};
-use ep_tree::Mode;
+use ep_tree::{Assignment, Mode};
 use ep_types::{Typed, TypedParams, check_model, check_params};
 use std::alloc::{AllocError, Global};
 use std::test::Fail;
@@ -94,24 +97,29 @@ fn judgement_text(alloc: Global, judgement: Judgement) -> Result<String, Fail> {
     }
 }
 
-/// How a solution text is judged.
-fn judged(alloc: Global, instance: &Instance, solution: TypedParams) -> Result<String, Fail>
+/// How an assignment that fits is judged.
+fn judged(alloc: Global, instance: &Instance, assignment: &Assignment) -> Result<String, Fail>
     requires closed { IsClosed (instance_of instance.now) }
+    requires within { instance_limits (mode_of instance.now) (instance_of instance.now) ≡ [] }
+    requires fits { (found : Found) × Fits (instance_of instance.now) (assigned assignment.now) found }
 {
     no_limit_is_passed();
-    match measure(alloc, instance) {
-        Ok(_) => match read_assignment(alloc, instance, solution) {
-            Ok(Shaped::Fits(assignment)) => {
-                let judgement = is_solution(alloc, instance, &assignment)?;
-                judgement_text(alloc, judgement)
-            }
-            Ok(Shaped::WrongShape(name)) => {
-                let name = name.text();
-                Ok(format!(in alloc; "wrong shape {name}")?)
-            }
-            Err(refused) => refusal(alloc, &refused),
-        },
-        Err(refused) => Ok(size_refusal(alloc, refused)?),
+    let judgement = is_solution(alloc, instance, assignment)?;
+    judgement_text(alloc, judgement)
+}
+
+/// How a solution text is judged.
+fn judged_text(alloc: Global, instance: &Instance, solution: TypedParams) -> Result<String, Fail>
+    requires closed { IsClosed (instance_of instance.now) }
+    requires within { instance_limits (mode_of instance.now) (instance_of instance.now) ≡ [] }
+{
+    match read_assignment(alloc, instance, solution) {
+        Ok(Shaped::Fits(assignment)) => judged(alloc, instance, &assignment),
+        Ok(Shaped::WrongShape(name)) => {
+            let name = name.text();
+            Ok(format!(in alloc; "wrong shape {name}")?)
+        }
+        Err(refused) => refusal(alloc, &refused),
     }
 }
 
@@ -127,7 +135,10 @@ pub(crate) fn said(
     let params = params_of(alloc, params)?;
     let solution = params_of(alloc, solution)?;
     match bind(alloc, model, params, mode) {
-        Ok(instance) => judged(alloc, &instance, solution),
+        Ok(instance) => match measure(alloc, &instance) {
+            Ok(_) => judged_text(alloc, &instance, solution),
+            Err(refused) => Ok(size_refusal(alloc, refused)?),
+        },
         Err(refused) => refusal(alloc, &refused),
     }
 }

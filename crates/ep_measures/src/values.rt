@@ -127,6 +127,9 @@ m[1/0]#none
 
 #[test]
 fn expressions_have_their_values(rt: HostRuntime) -> Result<(), Fail> {
-    assert_eq!(rt; first_wrong(rt.alloc(), VALUES)?, None);
+    let alloc = rt.alloc();
+    let wrong = "m[1]#20";
+    assert_eq!(rt; first_wrong(alloc, VALUES)?, None);
+    assert_eq!(rt; first_wrong(alloc, wrong)?, Some(wrong));
     Ok(())
 }
