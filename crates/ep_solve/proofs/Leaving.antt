@@ -208,9 +208,11 @@ keeps_same (cells.unknown (Some best)) old new same = tt
 -- a list whose last element isn't there is empty
 empty-without-last : (ns : List ℤ) → slice_get ns (length ns - 1) ≡ None → ns ≡ []
 empty-without-last [] h = refl
-empty-without-last (n ∷ ns) h = absurd (there n ns h)
+empty-without-last (n ∷ ns) h =
+    let before : length (n ∷ ns) - 1 ≡ length ns = omega arith in
+    absurd (there n ns (subst (λ (k : ℕ). slice_get (n ∷ ns) k ≡ None) before h))
   where
-    there : (m : ℤ) (ms : List ℤ) → slice_get (m ∷ ms) (length (m ∷ ms) - 1) ≡ None → ⊥
+    there : (m : ℤ) (ms : List ℤ) → slice_get (m ∷ ms) (length ms) ≡ None → ⊥
     there m [] e = absurd cc
     there m (k ∷ ms) e = there k ms e
 
