@@ -344,15 +344,14 @@ fn each_solution_is_listed_once(rt: HostRuntime) -> Result<(), Fail> {
                 .split('$')
                 .filter(|block| block.starts_with(" solution "));
             assert_eq!(rt; blocks.count(), found, "{text}");
-            let mut there = 0;
             for solution in solutions {
                 let solution = text_of(alloc, "", solution)?;
                 let blocks = text
                     .split('$')
                     .filter(|block| block.ends_with(solution.as_str()));
-                there += blocks.count().min(1);
+                let times = blocks.count();
+                assert!(rt; times == 1 || times == 0 && found < 3, "{text}");
             }
-            assert_eq!(rt; there, found, "{text}");
         }
     }
     Ok(())
