@@ -133,7 +133,7 @@ domains_same layout (x ∷ vars) low =
 -- the clause blocks the cells
 blocks : (p : ProblemState) (old : LogState) (cells : List ℤ) (clause : List Literal) → CanSearch p old → AreNumbers p.layout p.variables.cells cells → OtherNumbers p.layout p.variables.cells cells clause → BlocksCells p old cells clause
 blocks p old cells clause can numbers other = record {
-  says = λ s met. other.says s (can.meaning s (subst (Satisfies s) (base_is old can.is_base) met));
+  says = other.says;
   literals = All-weaker (IsNotNumber p.layout p.variables.cells cells) (IsNegatedNote old) negated clause other.literals;
 }
   where
@@ -158,6 +158,7 @@ listed_more p budget old now next found s cells can h met new sound within =
     let clause = new.clause in
     let numbers = are_numbers p.layout s p.variables.cells cells (cells_there p old can) (means_listed p budget old now found s can h met) new.cells_are in
     let says = blocks p old cells clause can numbers new.blocks in
+    let meaning : (t : ℕ → Bool) → Satisfies t (base_clauses old) → All (Means t) p.layout = λ t base. can.meaning t (subst (Satisfies t) (base_is old can.is_base) base) in
     let next_givens : givens next.events ≡ givens now.events ++ clause ∷ [] = ap (λ l. givens l.events) new.new_is ∙ givens_append now.events (given clause ∷ []) in
     record {
       goes = goes_by_given budget old now next clause h.goes new.new_is sound within;
@@ -172,13 +173,13 @@ listed_more p budget old now next found s cells can h met new sound within =
               before.0,
               λ there. elim (Contains-append_cases found (cells ∷ []) (decoded_cells p.layout p.variables t) there) as (λ _. ⊥) [
                 | inl w ↦ before.1 w
-                | inr w ↦ (says.says t before.0).0 (All-head (SatisfiesClause t) clause [] (second_part t (givens now.events) (clause ∷ []) parts)) (only cells (decoded_cells p.layout p.variables t) w)
+                | inr w ↦ (says.says t (meaning t before.0)).0 (All-head (SatisfiesClause t) clause [] (second_part t (givens now.events) (clause ∷ []) parts)) (only cells (decoded_cells p.layout p.variables t) w)
               ],
             ),
         λ pair. subst (Satisfies t) (sym next_givens)
             (All-push (SatisfiesClause t) (givens now.events) clause
             ((h.left t).1 (pair.0, λ there. pair.1 (Contains-append_left found (cells ∷ []) (decoded_cells p.layout p.variables t) there)))
-            ((says.says t pair.0).1 (λ is. pair.1 (subst (Contains (found ++ cells ∷ [])) (sym is) (Contains-push found cells))))),
+            ((says.says t (meaning t pair.0)).1 (λ is. pair.1 (subst (Contains (found ++ cells ∷ [])) (sym is) (Contains-push found cells))))),
       );
     }
   where
@@ -195,7 +196,7 @@ lists p budget most old now found end can h right =
       within = h.goes.within;
       allowed = All-weaker (λ cells. (goal : Option ℤ) × IsAllowed p old cells goal) (λ cells. (goal : Option ℤ) × IsAllowed p now cells goal) (λ cells one. (one.0, allowed_now p old now same cells one.0 one.1)) found h.allowed;
       different = h.different;
-      blocked = subst (AllZip (BlocksCells p now) found) (sym (added_are budget old now h.goes)) (all_block found (givens h.goes.more) same h.goes.notes h.blocked);
+      blocked = subst (AllZip (BlocksCells p now) found) (sym (added_are budget old now h.goes)) (all_block found (givens h.goes.more) h.goes.notes h.blocked);
       left = λ cells goal. (
         λ x.
             let s = x.are_given.assignment in
@@ -217,16 +218,16 @@ lists p budget most old now found end can h right =
       right_end = right;
     }
   where
-    all_block : (fs : List (List ℤ)) (cs : List (List Literal)) → base_clauses now ≡ base_clauses old → now.notes ≡ old.notes → AllZip (BlocksCells p old) fs cs → AllZip (BlocksCells p now) fs cs
-    all_block [] [] same notes h2 = tt
-    all_block [] (c ∷ cs) same notes h2 = h2
-    all_block (f ∷ fs) [] same notes h2 = h2
-    all_block (f ∷ fs) (c ∷ cs) same notes h2 = (
+    all_block : (fs : List (List ℤ)) (cs : List (List Literal)) → now.notes ≡ old.notes → AllZip (BlocksCells p old) fs cs → AllZip (BlocksCells p now) fs cs
+    all_block [] [] notes h2 = tt
+    all_block [] (c ∷ cs) notes h2 = h2
+    all_block (f ∷ fs) [] notes h2 = h2
+    all_block (f ∷ fs) (c ∷ cs) notes h2 = (
       record {
-        says = λ s met. h2.0.says s (subst (Satisfies s) same met);
+        says = h2.0.says;
         literals = All-weaker (IsNegatedNote old) (IsNegatedNote now) (λ l one. record { note = one.note; noted = subst (λ ns. Contains ns one.note) (sym notes) one.noted; negated = one.negated }) c h2.0.literals;
       },
-      all_block fs cs same notes h2.1,
+      all_block fs cs notes h2.1,
     )
 
 -- ---- the three ends

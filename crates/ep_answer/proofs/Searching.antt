@@ -116,15 +116,6 @@ module _ (p : ProblemState) (old now : LogState) (same : base_clauses now ≡ ba
   reached_now : (n : ℤ) → IsReachedGoal p old n → IsReachedGoal p now n
   reached_now n h = record { cells = h.cells; allowed = allowed_now h.cells (Some n) h.allowed }
 
-  says_now : (n : ℤ) (clause : List Literal) → SaysBetter p old n clause → SaysBetter p now n clause
-  says_now n clause h = record { says = λ s met. h.says s (subst (Satisfies s) same met) }
-
-  all_say_now : (bests : List ℤ) (clauses : List (List Literal)) → AllZip (SaysBetter p old) bests clauses → AllZip (SaysBetter p now) bests clauses
-  all_say_now [] [] h = tt
-  all_say_now [] (c ∷ cs) h = h
-  all_say_now (n ∷ ns) [] h = h
-  all_say_now (n ∷ ns) (c ∷ cs) h = (says_now n c h.0, all_say_now ns cs h.1)
-
 -- The best so far is none.
 pub pursued_from : (p : ProblemState) (budget : ℕ) (old : LogState) → CanSearch p old → IsSound old.events → nonempty_steps old.events ≤ budget → IsPursued p budget old old None
 unfolding IsStillWanted begun
@@ -150,7 +141,7 @@ pursued_on p budget old now next best h adds sound within =
       reached = h.reached;
       better = h.better;
       last = h.last;
-      said = subst (AllZip (SaysBetter p old) h.bests) (sym (givens_stay h.goes.more adds.added adds.are_steps)) h.said;
+      said = subst (AllZip (SaysBetter p) h.bests) (sym (givens_stay h.goes.more adds.added adds.are_steps)) h.said;
       incumbent = h.incumbent;
       left = λ s. (λ met. (h.left s).0 (subst (Satisfies s) same met), λ both. subst (Satisfies s) (sym same) ((h.left s).1 both));
     }
@@ -235,13 +226,13 @@ pairs_push R (y ∷ xs) x pairs all =
     (pairs_push R xs x (λ i j d low high. pairs (suc i) (suc j) d (omega (arith, low)) (omega (arith, high))) (All-tail (λ z. R z x) y xs all))
 
 -- Under an assignment that satisfies the problem's clauses and those added, the objective is better than each number before.
-all_beaten : (p : ProblemState) (old : LogState) (s : ℕ → Bool) (goal : Option ℤ) → Satisfies s (base_clauses old) → objective_number p.variables (decoded_values p.layout s) ≡ goal
-    → (bests : List ℤ) (clauses : List (List Literal)) → AllZip (SaysBetter p old) bests clauses → Satisfies s clauses → All (λ n. IsBetterThan p n goal) bests
-all_beaten p old s goal base is [] clauses said met = All-nil (λ n. IsBetterThan p n goal)
-all_beaten p old s goal base is (n ∷ ns) [] said met = absurd said
-all_beaten p old s goal base is (n ∷ ns) (c ∷ cs) said met =
-    All-cons (λ m. IsBetterThan p m goal) n ns (subst (IsBetterThan p n) is ((said.0.says s base).0 (All-head (SatisfiesClause s) c cs met)))
-    (all_beaten p old s goal base is ns cs said.1 (All-tail (SatisfiesClause s) c cs met))
+all_beaten : (p : ProblemState) (s : ℕ → Bool) (goal : Option ℤ) → All (Means s) p.layout → objective_number p.variables (decoded_values p.layout s) ≡ goal
+    → (bests : List ℤ) (clauses : List (List Literal)) → AllZip (SaysBetter p) bests clauses → Satisfies s clauses → All (λ n. IsBetterThan p n goal) bests
+all_beaten p s goal means is [] clauses said met = All-nil (λ n. IsBetterThan p n goal)
+all_beaten p s goal means is (n ∷ ns) [] said met = absurd said
+all_beaten p s goal means is (n ∷ ns) (c ∷ cs) said met =
+    All-cons (λ m. IsBetterThan p m goal) n ns (subst (IsBetterThan p n) is ((said.0.says s means).0 (All-head (SatisfiesClause s) c cs met)))
+    (all_beaten p s goal means is ns cs said.1 (All-tail (SatisfiesClause s) c cs met))
 
 pub first_part : (s : ℕ → Bool) (xs ys : List (List Literal)) → Satisfies s (xs ++ ys) → Satisfies s xs
 first_part s xs ys h = All-from_contains (SatisfiesClause s) xs (λ c found. All-contains (SatisfiesClause s) (xs ++ ys) c h (Contains-append_left xs ys c found))
@@ -250,12 +241,12 @@ pub second_part : (s : ℕ → Bool) (xs ys : List (List Literal)) → Satisfies
 second_part s xs ys h = All-from_contains (SatisfiesClause s) ys (λ c found. All-contains (SatisfiesClause s) (xs ++ ys) c h (Contains-append_right xs ys c found))
 
 -- the clause says of the problem that the objective is better
-says_better : (p : ProblemState) (old : LogState) (sense : Sense) (variable : ℕ) (number : ℤ) (clause : List Literal) → CanSearch p old → p.variables.objective ≡ Some (sense, variable) → variable < length p.layout
-    → ClauseSaysBetter (literals_at p.layout variable) sense number clause → SaysBetter p old number clause
-says_better p old sense variable number clause can stated low says = record {
-  says = λ s met.
+says_better : (p : ProblemState) (sense : Sense) (variable : ℕ) (number : ℤ) (clause : List Literal) → p.variables.objective ≡ Some (sense, variable) → variable < length p.layout
+    → ClauseSaysBetter (literals_at p.layout variable) sense number clause → SaysBetter p number clause
+says_better p sense variable number clause stated low says = record {
+  says = λ s all.
       let e = literals_at p.layout variable in
-      let means : Means s e = All-get_or (Means s) p.layout variable (record { domain = []; first = 0 }) low (can.meaning s (subst (Satisfies s) (base_is old can.is_base) met)) in
+      let means : Means s e = All-get_or (Means s) p.layout variable (record { domain = []; first = 0 }) low all in
       let one = says s means in
       let other = better_than p sense variable number (decoded_values p.layout s) stated in
       let same : number_at (decoded_values p.layout s) variable ≡ decoded s e = number_is p.layout s variable low in (
@@ -280,7 +271,8 @@ pursued_more p budget old now next best sense variable s number cells can stated
     let clause = found.clause in
     let goal_is : objective_number p.variables (decoded_values p.layout s) ≡ Some number = objective_is p sense variable (decoded_values p.layout s) stated ∙ ap Some (sym found.number_is) in
     let allowed : IsAllowed p old cells (Some number) = record { are_given = record { assignment = s; satisfies = both.0; gives = sym found.cells_are }; drives = goal_is } in
-    let says : SaysBetter p old number clause = says_better p old sense variable number clause can stated low found.says in
+    let says : SaysBetter p number clause = says_better p sense variable number clause stated low found.says in
+    let meaning : (t : ℕ → Bool) → Satisfies t (base_clauses old) → All (Means t) p.layout = λ t base. can.meaning t (subst (Satisfies t) (base_is old can.is_base) base) in
     let wanted : IsStillWanted p best (Some number) = subst (IsStillWanted p best) goal_is both.1 in
     let all_givens : givens now.events ≡ givens old.events ++ givens h.goes.more = ap givens h.goes.events ∙ givens_append old.events h.goes.more in
     let next_givens : givens next.events ≡ givens now.events ++ clause ∷ [] = ap (λ l. givens l.events) found.new_is ∙ givens_append now.events (given clause ∷ []) in
@@ -289,18 +281,18 @@ pursued_more p budget old now next best sense variable s number cells can stated
       bests = h.bests ++ number ∷ [];
       reached = All-push (IsReachedGoal p old) h.bests number h.reached (record { cells = cells; allowed = allowed });
       better = pairs_push (λ earlier later. IsBetterThan p earlier (Some later)) h.bests number h.better
-          (all_beaten p old s (Some number) both.0 goal_is h.bests (givens h.goes.more) h.said (second_part s (givens old.events) (givens h.goes.more) (subst (Satisfies s) all_givens met)));
+          (all_beaten p s (Some number) (meaning s both.0) goal_is h.bests (givens h.goes.more) h.said (second_part s (givens old.events) (givens h.goes.more) (subst (Satisfies s) all_givens met)));
       last = last_pushed h.bests number;
-      said = subst (AllZip (SaysBetter p old) (h.bests ++ number ∷ [])) (sym (givens_append h.goes.more (given clause ∷ []))) (zip_push (SaysBetter p old) h.bests (givens h.goes.more) number clause h.said says);
+      said = subst (AllZip (SaysBetter p) (h.bests ++ number ∷ [])) (sym (givens_append h.goes.more (given clause ∷ []))) (zip_push (SaysBetter p) h.bests (givens h.goes.more) number clause h.said says);
       incumbent = allowed;
       left = λ t. (
         λ all.
             let parts : Satisfies t (givens now.events ++ clause ∷ []) = subst (Satisfies t) next_givens all in
             let base = ((h.left t).0 (first_part t (givens now.events) (clause ∷ []) parts)).0 in
-            (base, (says.says t base).0 (All-head (SatisfiesClause t) clause [] (second_part t (givens now.events) (clause ∷ []) parts))),
+            (base, (says.says t (meaning t base)).0 (All-head (SatisfiesClause t) clause [] (second_part t (givens now.events) (clause ∷ []) parts))),
         λ pair. subst (Satisfies t) (sym next_givens)
             (All-push (SatisfiesClause t) (givens now.events) clause
-            ((h.left t).1 (pair.0, still_on p best number (objective_number p.variables (decoded_values p.layout t)) wanted pair.1)) ((says.says t pair.0).1 pair.1)),
+            ((h.left t).1 (pair.0, still_on p best number (objective_number p.variables (decoded_values p.layout t)) wanted pair.1)) ((says.says t (meaning t pair.0)).1 pair.1)),
       );
     }
 
@@ -378,7 +370,7 @@ improves p budget old now best found is h number =
       reached = All-weaker (IsReachedGoal p old) (IsReachedGoal p now) (reached_now p old now same) h.bests h.reached;
       better = h.better;
       last = h.last ∙ number;
-      said = subst (AllZip (SaysBetter p now) h.bests) (sym (added_are budget old now h.goes)) (all_say_now p old now same h.bests (givens h.goes.more) h.said);
+      said = subst (AllZip (SaysBetter p) h.bests) (sym (added_are budget old now h.goes)) h.said;
     }
 
 pub improves_end : (p : ProblemState) (budget : ℕ) (old now : LogState) (best : Option (ℤ × List ℤ)) → old.base ≡ length old.events → IsPursued p budget old now best → Improves p old now (best_answer best)

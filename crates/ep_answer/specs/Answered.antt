@@ -2,13 +2,14 @@
 -- spent; and what a list of answers says.
 use Rattle.std.specs.Prelude.{◌≡◌, ◌≢◌, ◌↔◌, ◌<◌, ◌≤◌, ◌-◌, ℕ, ℤ, Bool, int_lt, IsTrue, IfSome, List, drop, length, Option, Some, None, option_map, slice_get}
 use Rattle.std.specs.List.{All, AllPairs, AllZip, Contains}
-use Rattle.cnf_core.specs.Clauses.{Satisfies, SatisfiesClause}
+use Rattle.cnf_core.specs.Clauses.{SatisfiesClause}
 use Rattle.cnf_core.specs.Events.{LogState, Note, givens, nonempty_steps}
 use Rattle.cnf_core.specs.Literal.{Literal, negation}
 use Rattle.ep_base.specs.declared.operators.Sense.{Sense}
+use Rattle.enc_var.specs.Decoding.{Means}
 use Rattle.enc_var.specs.Layouts.{decoded_cells, decoded_values}
 use Rattle.ep_flat.specs.Flats.{objective_number}
-use Rattle.ep_answer.specs.Problems.{IsAllowed, IsLeft, ProblemState, base_clauses}
+use Rattle.ep_answer.specs.Problems.{IsAllowed, IsLeft, ProblemState}
 use Rattle.sat_search.specs.Logs.{EndsWithEmptyStep, IsSound, NoneIsEmpty}
 
 -- One solution, the best one with its objective, none, or the budget is spent, with the best so far where there is one.
@@ -80,9 +81,9 @@ pub record AnswersCells (p : ProblemState) (budget : ℕ) (log : LogState) (foun
 abbrev pub added_givens : LogState → LogState → List (List Literal)
 added_givens old new = givens (drop (length old.events) new.events)
 
--- under each assignment that satisfies the problem's clauses, this clause holds exactly where the objective is better
-pub record SaysBetter (p : ProblemState) (log : LogState) (best : ℤ) (clause : List Literal) : Type 0 where
-  pub says : (s : ℕ → Bool) → Satisfies s (base_clauses log)
+-- wherever the variables' literals mean what they say, this clause holds exactly where the objective is better
+pub record SaysBetter (p : ProblemState) (best : ℤ) (clause : List Literal) : Type 0 where
+  pub says : (s : ℕ → Bool) → All (Means s) p.layout
       → SatisfiesClause s clause ↔ IsBetterThan p best (objective_number p.variables (decoded_values p.layout s))
 
 -- this number of the objective comes with numbers of the cells that are allowed
@@ -104,7 +105,7 @@ pub record Improves (p : ProblemState) (old new : LogState) (found : FoundCells)
   pub reached : All (IsReachedGoal p new) bests
   pub better : AllPairs (λ earlier later. IsBetterThan p earlier (Some later)) bests
   pub last : slice_get bests (length bests - 1) ≡ best_number found
-  pub said : AllZip (SaysBetter p new) bests (added_givens old new)
+  pub said : AllZip (SaysBetter p) bests (added_givens old new)
 
 -- how a listing ends: with all, with as many as were wanted, or with the budget
 pub data ListingEnd : Type 0 where
@@ -129,10 +130,10 @@ pub record IsNegatedNote (log : LogState) (l : Literal) : Type 0 where
   pub noted : Contains log.notes note
   pub negated : l ≡ negation note.lit
 
--- Under each assignment that satisfies the problem's clauses, this clause holds exactly where the cells have other numbers than
--- these; and each of its literals is the negation of a note's.
+-- Wherever the variables' literals mean what they say, this clause holds exactly where the cells have other numbers than these;
+-- and each of its literals is the negation of a note's.
 pub record BlocksCells (p : ProblemState) (log : LogState) (cells : List ℤ) (clause : List Literal) : Type 0 where
-  pub says : (s : ℕ → Bool) → Satisfies s (base_clauses log)
+  pub says : (s : ℕ → Bool) → All (Means s) p.layout
       → SatisfiesClause s clause ↔ (decoded_cells p.layout p.variables s ≢ cells)
   pub literals : All (IsNegatedNote log) clause
 

@@ -61,7 +61,7 @@ pub record IsPursued (p : ProblemState) (budget : ℕ) (old now : LogState) (bes
   pub reached : All (IsReachedGoal p old) bests
   pub better : AllPairs (λ earlier later. IsBetterThan p earlier (Some later)) bests
   pub last : slice_get bests (length bests - 1) ≡ option_map (λ one. one.0) best
-  pub said : AllZip (SaysBetter p old) bests (givens goes.more)
+  pub said : AllZip (SaysBetter p) bests (givens goes.more)
   pub incumbent : IfSome best (λ one. IsAllowed p old one.1 (Some one.0))
   pub left : (s : ℕ → Bool) → Satisfies s (givens now.events)
       ↔ (Satisfies s (base_clauses old) × IsStillWanted p best (objective_number p.variables (decoded_values p.layout s)))

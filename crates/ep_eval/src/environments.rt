@@ -1,6 +1,6 @@
 //! Environments: what each name stands for.
 
-ghost use Rattle.std.specs.Prelude.{◌≡◌, Some, IfOk, OnOk, OnErr, IsTrue, option_map};
+ghost use Rattle.std.specs.Prelude.{◌≡◌, Some, IfOk, IfSome, OnOk, OnErr, IsTrue, option_map};
 ghost use Rattle.std.specs.List.{list_all};
 ghost use Rattle.ep_tree.specs.Environments.{HasAscendingDomain, has_cells, has_domain, meaning_in, shape_type};
 ghost use Rattle.ep_tree.specs.Names.{nothing_known, put};
@@ -8,7 +8,7 @@ ghost use Rattle.ep_tree.specs.Types.{named_type, type_from};
 ghost use Rattle.ep_tree.specs.TypedValues.{IsOf, IsTypedBound, IsTypedEnv, is_number_of};
 ghost use Rattle.ep_tree.specs.Views.{value_tree};
 ghost use Rattle.ep_eval.specs.Bounds.{bound_of, cells_of, domain_of, entry_bound, only_cells, only_domain, only_value};
-ghost use Rattle.ep_eval.specs.Known.{HasAscendingDomains, env_of};
+ghost use Rattle.ep_eval.specs.Known.{HasAscendingDomains, IsNamed, env_of};
 
 use super::copies::{copy_domain, copy_entry};
 use ep_base::{Memory, Name, Runs};
@@ -39,9 +39,10 @@ enum Meaning {
 }
 
 /// The same meaning once more.
-#[tactic(auto, unfolding(crate::specs::Bounds::bound_of))]
+#[tactic(auto, unfolding(crate::specs::Bounds::bound_of, crate::specs::Known::IsNamed))]
 fn copy_meaning(alloc: Global, meaning: &Meaning) -> Result<Meaning, Memory>
-    ensures { IfOk result (λ copy. bound_of copy ≡ bound_of meaning.now) }
+    ensures bound { IfOk result (λ copy. bound_of copy ≡ bound_of meaning.now) }
+    ensures named { IfOk result (λ copy. (name : Name) → IsNamed name (Some meaning.now) → IsNamed name (Some copy)) }
 {
     match meaning {
         Meaning::Value(entry) => {
@@ -135,6 +136,7 @@ impl Env {
     fn put(&mut self, name: Name, meaning: Meaning) -> Result<(), Memory>
         requires typed { IsTypedBound (Some (bound_of meaning)) }
         requires ascending { HasAscendingDomain (Some (bound_of meaning)) }
+        requires named { IsNamed name (Some meaning) }
         ensures mode { self.new.mode ≡ self.old.mode }
         ensures known { OnOk result (env_of self.new ≡ put name (bound_of meaning) (env_of self.old)) }
         ensures unchanged { OnErr result (self.new ≡ self.old) }
@@ -204,6 +206,7 @@ impl Env {
     fn put_copy(&mut self, name: &Name, meaning: &Meaning) -> Result<(), Memory>
         requires typed { IsTypedBound (Some (bound_of meaning.now)) }
         requires ascending { HasAscendingDomain (Some (bound_of meaning.now)) }
+        requires named { IsNamed name.now (Some meaning.now) }
         ensures mode { self.new.mode ≡ self.old.mode }
         ensures known { OnOk result (env_of self.new ≡ put name.now (bound_of meaning.now) (env_of self.old)) }
     {
@@ -228,7 +231,8 @@ impl Env {
 
     /// What a name stands for, where it stands for anything.
     fn meaning(&self, name: &Name) -> Option<&Meaning>
-        ensures { option_map (λ m. bound_of m.now) result ≡ env_of self.now name.now }
+        ensures bound { option_map (λ m. bound_of m.now) result ≡ env_of self.now name.now }
+        ensures named { IsNamed name.now (option_map (λ m. m.now) result) }
     {
         self.known.get(name)
     }
@@ -244,10 +248,11 @@ impl Env {
         }
     }
 
-    /// The value that a name stands for, where it stands for one.
-    #[tactic(auto, unfolding(crate::specs::Bounds::bound_of, crate::specs::Bounds::only_value))]
+    /// The value that a name stands for, where it stands for one, with that name and its type.
+    #[tactic(auto, unfolding(crate::specs::Bounds::bound_of, crate::specs::Bounds::only_value, crate::specs::Known::IsNamed))]
     pub fn entry(&self, name: &Name) -> Option<&Entry>
-        ensures { option_map (λ e. entry_bound e.now) result ≡ only_value (env_of self.now name.now) }
+        ensures bound { option_map (λ e. entry_bound e.now) result ≡ only_value (env_of self.now name.now) }
+        ensures named { IfSome result (λ e. e.now.name ≡ name.now) }
     {
         match self.meaning(name) {
             Some(Meaning::Value(entry)) => Some(entry),

@@ -70,3 +70,4 @@ pub mod Called
 pub mod Descending
 pub mod DomainLoops
 pub mod TermTurns
+pub mod LoneNumbers

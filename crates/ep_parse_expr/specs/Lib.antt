@@ -16,3 +16,4 @@ pub mod Junctions
 pub mod Beginnings
 pub mod Sayings
 pub mod Outcomes
+pub mod LoneNumbers

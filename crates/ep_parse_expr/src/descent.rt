@@ -9,6 +9,7 @@ ghost use Rattle.ep_parse_expr.specs.TreeReaders.{expr_from, some_domain_from};
 use crate::below::Below;
 use crate::cursor::{Cursor, Stop};
 use crate::found::{Found, FoundDomain};
+use crate::lone_numbers::lone_number;
 use crate::words::{DomainLevel, Level};
 use std::alloc::Global;
 
@@ -20,6 +21,9 @@ pub fn expr(alloc: Global, cursor: &mut Cursor<'_>, level: Level, most: u64) -> 
 {
     if most == 0 {
         return Err(refused(cursor.expression_next()));
+    }
+    if let Some(found) = lone_number(cursor) {
+        return Ok(found);
     }
     let less = most - 1;
     let below = Below {

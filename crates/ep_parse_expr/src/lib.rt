@@ -14,6 +14,7 @@ mod functions;
 mod laws;
 mod list_nodes;
 mod lists;
+mod lone_numbers;
 mod nodes;
 mod operands;
 mod operators;

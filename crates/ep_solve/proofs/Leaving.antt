@@ -1,8 +1,9 @@
 -- What a search in the problem of an instance's ground leaves in its log.
-use Rattle.std.proofs.Common.{◌≡◌, ◌≢◌, ◌↔◌, ℕ, ℤ, Bool, true, List, [], ◌∷◌, ◌++◌, drop, length, take, map, Option, Some, None, refl, sym, ap, subst, ◌∙◌, arith}
-use Rattle.std.specs.Prelude.{All}
+use Rattle.std.proofs.Common.{◌≡◌, ◌↔◌, ◌-◌, ℕ, ℤ, Bool, true, List, [], ◌∷◌, ◌++◌, drop, length, take, map, Option, Some, None, refl, sym, ap, subst, ◌∙◌, arith}
+use Rattle.std.specs.Prelude.{All, slice_get}
+use Rattle.std.specs.List.{AllZip}
 use Rattle.std.proofs.Math.Seq.{take-append_seam}
-use Rattle.std.proofs.lemmas.List.{length-take, take-append-drop}
+use Rattle.std.proofs.lemmas.List.{append-nil, append_cancel_left, length-take, take-append-drop}
 use Rattle.std.proofs.lemmas.List.Elements.{All-take}
 use Rattle.cnf_core.specs.Clauses.{Satisfies, SatisfiesClause}
 use Rattle.cnf_core.specs.Events.{HasBase, LogEvent, LogState, given, givens, is_given, step}
@@ -10,7 +11,7 @@ use Rattle.cnf_core.specs.Literal.{Literal}
 use Rattle.enc_var.specs.Decoding.{Means}
 use Rattle.enc_var.specs.Layouts.{GivesCells, decoded_cells, decoded_values}
 use Rattle.enc_var.specs.Notes.{cell_notes}
-use Rattle.ep_answer.specs.Answered.{AnswersCells, FoundCells, IsBetterThan, IsBudgetSpent, IsRightAnswer, IsStillWanted as IsCellWanted}
+use Rattle.ep_answer.specs.Answered.{AnswersCells, FoundCells, Improves, IsBetterThan, IsBudgetSpent, IsRightAnswer, IsStillWanted as IsCellWanted, SaysBetter, best_number}
 use Rattle.ep_answer.specs.Answered as cells
 use Rattle.ep_answer.specs.Problems.{IsAllowed, ProblemState, base_clauses}
 use Rattle.ep_flat.specs.Flats.{MapsCells, objective_number}
@@ -20,11 +21,12 @@ use Rattle.ep_tree.specs.Solutions.{Assigned, Found, IsSolution, goal_value}
 use Rattle.ep_tree.specs.declared.values.Mode.{Mode}
 use Rattle.ep_print.specs.Answers.{AnswerTree}
 use Rattle.ep_unroll.specs.Cells.{found_numbers, instance_cells}
-use Rattle.ep_solve.specs.Logged.{AreWanted, IsBetterGoal, IsLogged, IsStillWanted, ShowsAnswer, Stands, TellNumbers, TellSolutions, noted_value}
+use Rattle.ep_solve.specs.Logged.{AreWanted, IsBetterGoal, IsLogged, IsStillWanted, ShowsAnswer, Stands, TellNumbers, TellSolutions, added_clauses, noted_value}
 use Rattle.ep_solve.specs.Formulas.{Solves}
+use Rattle.ep_solve.specs.Searched.{KeepsGivens}
 use Rattle.ep_solve.specs.Reading.{answer_from, assignment_from, found_of}
 use Rattle.ep_solve.proofs.Answering.{Allows, HasSense, same-better, same-some, stated-variable}
-use Rattle.ep_solve.proofs.Solved.{SearchedFor, allows-after, own-base, own-clauses, same-base}
+use Rattle.ep_solve.proofs.Solved.{SearchedFor, allows-after, own-clauses, same-base}
 use Rattle.ep_solve.proofs.Telling.{as-many, notes-named, notes-tell}
 
 -- ---- givens of the first events
@@ -163,29 +165,28 @@ leaves mode i p budget log best k senses spent =
       λ both. (spent.left numbers goal).1 (both.0, (still-wanted i p best goal senses).1 both.1),
     ))
 
--- a single solution added no given to a log
-abbrev AddsNone : FoundCells → LogState → LogState → Type 0
-AddsNone found old new = (numbers : List ℤ) → found ≡ cells.solution numbers → givens new.events ≡ givens old.events
+-- where no given was added to the log of a search, none stands behind its base
+none-added : (old new : LogState) → old.base ≡ length old.events → take (length old.events) new.events ≡ old.events → new.base ≡ old.base → givens new.events ≡ givens old.events → added_clauses new ≡ []
+none-added old new whole front base same =
+    let n : new.base ≡ length old.events = base ∙ whole in
+    let added : List (List Literal) = givens (drop (length old.events) new.events) in
+    let all : givens new.events ≡ givens old.events ++ added =
+    sym (ap givens (take-append-drop (length old.events) new.events)) ∙ givens-append (take (length old.events) new.events) (drop (length old.events) new.events)
+    ∙ ap (λ es. givens es ++ added) front in
+    ap (λ k. givens (drop k new.events)) n ∙ append_cancel_left (givens old.events) added [] (sym all ∙ same ∙ sym (append-nil (givens old.events)))
 
--- all that stands for the instance is left, where no given was added
-all-left : (mode : Mode) (i : Instance) (h : SearchedFor mode i) → Keeps mode i h.p h.new → givens h.new.events ≡ givens h.old.events → TellSolutions mode i h.new.notes (givens h.new.events) (λ found. IsStillWanted i None (goal_value mode i found))
-unfolding IsStillWanted
-all-left mode i h k same =
-    subst (λ (cs : List (List Literal)). TellSolutions mode i h.new.notes cs (λ found. Unit {0}))
-    (same-base h.old h.new h.poses.is_base h.front h.base ∙ own-base h.old h.poses.is_base ∙ sym same) (stands mode i h k).told
-
-shows : (mode : Mode) (i : Instance) (budget : ℕ) (found : FoundCells) → (h : SearchedFor mode i) → Keeps mode i h.p h.new → AddsNone found h.old h.new
+shows : (mode : Mode) (i : Instance) (budget : ℕ) (found : FoundCells) → (h : SearchedFor mode i) → Keeps mode i h.p h.new → KeepsGivens found h.old h.new
     → IsRightAnswer h.p budget h.new found → ShowsAnswer mode i budget h.new (answer_from i.finds budget found)
-unfolding IsRightAnswer ShowsAnswer answer_from
-shows mode i budget (cells.solution ns) h k none right = all-left mode i h k (none ns refl)
+unfolding IsRightAnswer ShowsAnswer answer_from KeepsGivens
+shows mode i budget (cells.solution ns) h k none right = none-added h.old h.new h.poses.is_base h.front h.base none
 shows mode i budget (cells.optimum n ns) h k none right = right.ends
-shows mode i budget cells.no_solution h k none right = right.ends
-shows mode i budget (cells.unknown None) h k none right = ((right.steps, right.none_is_empty), leaves mode i h.p budget h.new None k h.poses.stands.senses right)
+shows mode i budget cells.no_solution h k none right = (right.ends, none-added h.old h.new h.poses.is_base h.front h.base none)
+shows mode i budget (cells.unknown None) h k none right = ((right.steps, right.none_is_empty), none-added h.old h.new h.poses.is_base h.front h.base none)
 shows mode i budget (cells.unknown (Some best)) h k none right = ((right.steps, right.none_is_empty), leaves mode i h.p budget h.new (Some best) k h.poses.stands.senses right)
 
 -- what was found in the problem of an instance is logged
 pub found-logged : (mode : Mode) (i : Instance) (budget : ℕ) (found : FoundCells) (answer : AnswerTree) → (h : SearchedFor mode i) → h.new.notes ≡ h.old.notes
-    → AddsNone found h.old h.new → AnswersCells h.p budget h.new found → answer ≡ answer_from i.finds budget found → IsLogged mode i budget h.new answer
+    → KeepsGivens found h.old h.new → AnswersCells h.p budget h.new found → answer ≡ answer_from i.finds budget found → IsLogged mode i budget h.new answer
 found-logged mode i budget found answer h notes none answers same =
     let k : Keeps mode i h.p h.new = kept mode i h notes in
     record {
@@ -195,7 +196,41 @@ found-logged mode i budget found answer h notes none answers same =
       shows = subst (ShowsAnswer mode i budget h.new) (sym same) (shows mode i budget found h k none answers.right);
     }
 
--- a problem with an objective has no solution for an answer, but an optimum
-pub none_added : (p : ProblemState) (budget : ℕ) (old new : LogState) (found : FoundCells) → p.variables.objective ≢ None → AnswersCells p budget new found → AddsNone found old new
-unfolding IsRightAnswer
-none_added p budget old new found stated answers numbers e = absurd (stated (subst (λ (f : FoundCells). IsRightAnswer p budget new f) e answers.right).unstated)
+-- a search that adds no given keeps them, whatever it finds
+pub keeps_same : (found : FoundCells) (old new : LogState) → givens new.events ≡ givens old.events → KeepsGivens found old new
+unfolding KeepsGivens
+keeps_same (cells.solution ns) old new same = same
+keeps_same (cells.optimum n ns) old new same = tt
+keeps_same cells.no_solution old new same = same
+keeps_same (cells.unknown None) old new same = same
+keeps_same (cells.unknown (Some best)) old new same = tt
+
+-- a list whose last element isn't there is empty
+empty-without-last : (ns : List ℤ) → slice_get ns (length ns - 1) ≡ None → ns ≡ []
+empty-without-last [] h = refl
+empty-without-last (n ∷ ns) h = absurd (there n ns h)
+  where
+    there : (m : ℤ) (ms : List ℤ) → slice_get (m ∷ ms) (length (m ∷ ms) - 1) ≡ None → ⊥
+    there m [] e = absurd cc
+    there m (k ∷ ms) e = there k ms e
+
+-- a search for the best solution that reached none added no given
+without-best : (p : ProblemState) (old new : LogState) (found : FoundCells) → Improves p old new found → take (length old.events) new.events ≡ old.events → best_number found ≡ None → givens new.events ≡ givens old.events
+without-best p old new found h front none =
+    let added : List (List Literal) = givens (drop (length old.events) new.events) in
+    let no_bests : h.bests ≡ [] = empty-without-last h.bests (h.last ∙ none) in
+    let no_clauses : added ≡ [] = alone added (subst (λ ns. AllZip (SaysBetter p) ns added) no_bests h.said) in
+    sym (ap givens (take-append-drop (length old.events) new.events)) ∙ givens-append (take (length old.events) new.events) (drop (length old.events) new.events)
+    ∙ ap (λ es. givens es ++ added) front ∙ ap (λ cs. givens old.events ++ cs) no_clauses ∙ append-nil (givens old.events)
+  where
+    alone : (cs : List (List Literal)) → AllZip (SaysBetter p) [] cs → cs ≡ []
+    alone [] all = refl
+    alone (c ∷ cs) all = absurd all
+
+pub keeps_improved : (p : ProblemState) (found : FoundCells) (old new : LogState) → Improves p old new found → take (length old.events) new.events ≡ old.events → KeepsGivens found old new
+unfolding KeepsGivens best_number
+keeps_improved p (cells.solution ns) old new h front = without-best p old new (cells.solution ns) h front refl
+keeps_improved p (cells.optimum n ns) old new h front = tt
+keeps_improved p cells.no_solution old new h front = without-best p old new cells.no_solution h front refl
+keeps_improved p (cells.unknown None) old new h front = without-best p old new (cells.unknown None) h front refl
+keeps_improved p (cells.unknown (Some best)) old new h front = tt

@@ -1,11 +1,11 @@
 -- What is listed in the problem of an instance is a right list of its solutions, and the log shows it.
-use Rattle.std.proofs.Common.{◌≡◌, ◌≢◌, ◌↔◌, ℕ, ◌<◌, suc, zero, ℤ, List, [], ◌∷◌, map, Option, refl, sym, ap, subst, ◌∙◌, arith}
-use Rattle.std.specs.List.{All, AllPairs, Contains}
+use Rattle.std.proofs.Common.{◌≡◌, ◌≢◌, ◌↔◌, ℕ, ◌<◌, suc, zero, ℤ, List, [], ◌∷◌, drop, length, map, Option, refl, sym, ap, subst, ◌∙◌, arith}
+use Rattle.std.specs.List.{All, AllPairs, AllZip, Contains}
 use Rattle.std.proofs.lemmas.List.{length-map}
 use Rattle.std.proofs.lemmas.List.Elements.{All-contains, All-map, All-tail, All-weaker}
 use Rattle.std.proofs.lemmas.List.Kept.{AllPairs-cons}
 use Rattle.cnf_core.specs.Events.{givens}
-use Rattle.ep_answer.specs.Answered.{IsRightEnd, ListingEnd, ListsCells}
+use Rattle.ep_answer.specs.Answered.{BlocksCells, IsRightEnd, ListingEnd, ListsCells, added_givens}
 use Rattle.ep_answer.specs.Answered as cells
 use Rattle.ep_answer.specs.Problems.{IsAllowed}
 use Rattle.ep_print.specs.Listings.{ListingTree}
@@ -52,6 +52,12 @@ stay-different g back (x ∷ xs) again pairs =
 mapped-twice : {A B C : Type 0} (g : B → C) (f : A → B) (xs : List A) → map g (map f xs) ≡ map (λ x. g (f x)) xs
 mapped-twice g f [] = refl
 mapped-twice g f (x ∷ xs) = ap (λ ys. g (f x) ∷ ys) (mapped-twice g f xs)
+
+as-long : {A B : Type 0} (R : A → B → Type 0) (xs : List A) (ys : List B) → AllZip R xs ys → length xs ≡ length ys
+as-long R [] [] all = refl
+as-long R [] (y ∷ ys) all = absurd all
+as-long R (x ∷ xs) [] all = absurd all
+as-long R (x ∷ xs) (y ∷ ys) all = ap suc (as-long R xs ys all.1)
 
 -- ---- numbers of the cells that were found
 
@@ -119,6 +125,8 @@ lists-right mode i budget most found end listing h notes lists same =
       different = subst (AllPairs ◌≢◌) (sym (mapped-twice found_of (read-as i) found))
           (stay-different (given-by i) found_numbers found
           (All-weaker (λ numbers. (goal : Option ℤ) × Solves mode i numbers goal) (λ numbers. found_numbers (given-by i numbers) ≡ numbers) (λ numbers one. one.1.reads.numbers_are) found all) lists.different);
+      added = ap (λ n. length (givens (drop n h.new.events))) (h.base ∙ h.poses.is_base)
+          ∙ sym (as-long (BlocksCells h.p h.new) found (added_givens h.old h.new) lists.blocked) ∙ sym (length-map found (read-as i));
       left = tell-solutions mode i h.p h.new k (givens h.new.events) (λ s met. narrower s h.new.base h.new.events met)
           (λ numbers goal. Contains found numbers → ⊥) (IsUnlisted (map (read-as i) found)) (unlisted all) lists.left;
       ends = ends-rightly mode i budget most h k found end all lists.right_end;

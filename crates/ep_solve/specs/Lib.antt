@@ -3,3 +3,4 @@ pub mod Right
 pub mod Formulas
 pub mod Logged
 pub mod Listed
+pub mod Searched

@@ -7,7 +7,7 @@ use Rattle.ep_tree.specs.Binding.{Instance}
 use Rattle.ep_tree.specs.Solutions.{Assigned, Found, IsSolution}
 use Rattle.ep_tree.specs.declared.values.Mode.{Mode}
 use Rattle.sat_search.specs.Logs.{EndsWithEmptyStep, IsSound}
-use Rattle.ep_solve.specs.Logged.{Stands, TellSolutions}
+use Rattle.ep_solve.specs.Logged.{Stands, TellSolutions, added_clauses}
 use Rattle.ep_solve.specs.Reading.{found_of}
 use Rattle.ep_solve.specs.Right.{IsSpent, IsWritten}
 
@@ -33,13 +33,14 @@ EndsRightly mode i budget most log listed (spent conflicts) =
 
 -- A list of solutions is right, and the log shows it: the log stands for the instance, its steps are valid, those with a literal
 -- are new and effective and no more than the budget; each assignment is a solution, written as the instance states it, and no
--- two give the decision variables the same values; what satisfies all givens of the log are exactly the solutions that weren't
--- listed; and the list ends rightly.
+-- two give the decision variables the same values; one given was added for each of them, and what satisfies all givens of the log are
+-- exactly the solutions that weren't listed; and the list ends rightly.
 pub record Lists (mode : Mode) (i : Instance) (budget most : ℕ) (log : LogState) (listing : ListingTree) : Type 0 where
   pub stands : Stands mode i log
   pub sound : IsSound log.events
   pub within : nonempty_steps log.events ≤ budget
   pub solutions : All (λ a. IsWritten i a × IsSolution mode i a) listing.found
   pub different : AllPairs ◌≢◌ (map found_of listing.found)
+  pub added : length (added_clauses log) ≡ length listing.found
   pub left : TellSolutions mode i log.notes (givens log.events) (IsUnlisted listing.found)
   pub ends : EndsRightly mode i budget most log listing.found listing.ending

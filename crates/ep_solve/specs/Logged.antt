@@ -91,14 +91,19 @@ abbrev pub Leaves : Mode → Instance → LogState → Option ℤ → Type 0
 Leaves mode i log best =
     TellSolutions mode i log.notes (givens log.events) (λ found. IsStillWanted i best (goal_value mode i found))
 
--- What the log shows of an answer: all solutions are left of a single one, since nothing was added to what stands for the instance;
--- nothing more is left of an optimum or where there is no solution, since it ends with the empty step; and where the budget is spent,
--- its steps are as many, and what is left are exactly the solutions that are better than the one at hand.
+-- the givens behind those that stand for the instance
+abbrev pub added_clauses : LogState → List (List Literal)
+added_clauses log = givens (drop log.base log.events)
+
+-- What the log shows of an answer: nothing was added to what stands for the instance where no better solution was looked for behind
+-- one, be it that a single one is the answer, that there is none or that none was found; it ends with the empty step where there is
+-- no solution or no better one; and where the budget is spent, its steps are as many, and what is left are exactly the solutions that
+-- are better than the one at hand.
 unfoldable pub ShowsAnswer : Mode → Instance → ℕ → LogState → AnswerTree → Type 0
-ShowsAnswer mode i budget log (solution a) = Leaves mode i log None
+ShowsAnswer mode i budget log (solution a) = added_clauses log ≡ []
 ShowsAnswer mode i budget log (optimum value a) = EndsWithEmptyStep log.events
-ShowsAnswer mode i budget log no_solution = EndsWithEmptyStep log.events
-ShowsAnswer mode i budget log (unknown conflicts) = IsSpent budget log.events × Leaves mode i log None
+ShowsAnswer mode i budget log no_solution = EndsWithEmptyStep log.events × (added_clauses log ≡ [])
+ShowsAnswer mode i budget log (unknown conflicts) = IsSpent budget log.events × (added_clauses log ≡ [])
 ShowsAnswer mode i budget log (unknown_with conflicts value a) = IsSpent budget log.events × Leaves mode i log (Some value)
 
 -- An answer is logged: the log stands for the instance, its steps are valid, those with a literal are new and effective and no

@@ -1,9 +1,8 @@
 //! The answer of an instance.
 
-ghost use Rattle.std.specs.Prelude.{◌≡◌, ℤ, List, [], length, map, take, IfOk};
+ghost use Rattle.std.specs.Prelude.{◌≡◌, [], length, map, take, IfOk};
 ghost use Rattle.std.specs.List.{All};
-ghost use Rattle.cnf_core.specs.Events.{givens};
-ghost use Rattle.ep_answer.specs.Answered.{AnswersCells, solution as a_solution};
+ghost use Rattle.ep_answer.specs.Answered.{AnswersCells};
 ghost use Rattle.ep_answer.specs.AnswerViews.{plain_answer, plain_problem};
 ghost use Rattle.ep_answer.specs.Problems.{CanSearch};
 ghost use Rattle.ep_base.specs.Reads.{IsWithinNumbers};
@@ -12,6 +11,7 @@ ghost use Rattle.ep_print.specs.Answers.{HasTypedValues, answer_tree};
 ghost use Rattle.ep_solve.specs.Reading.{answer_from};
 ghost use Rattle.ep_solve.specs.Logged.{IsLogged};
 ghost use Rattle.ep_solve.specs.Right.{IsRight, empty_log};
+ghost use Rattle.ep_solve.specs.Searched.{KeepsGivens};
 ghost use Rattle.ep_tree.specs.Closed.{IsClosed};
 ghost use Rattle.ep_tree.specs.Solutions.{instance_limits};
 ghost use Rattle.sat_search.specs.Logs.{IsSound};
@@ -53,7 +53,7 @@ pub fn solve(
 }
 
 /// Numbers of the cells that answer a problem.
-#[tactic(auto, using(crate::proofs::Leaving::none_added))]
+#[tactic(auto, using(crate::proofs::Leaving::keeps_same, crate::proofs::Leaving::keeps_improved))]
 fn search(
     alloc: Global,
     problem: &mut Problem,
@@ -63,8 +63,7 @@ fn search(
     requires { CanSearch (plain_problem problem.old) log.old }
     ensures answers { IfOk result (λ found.
         AnswersCells (plain_problem problem.old) budget log.new (plain_answer found)) }
-    ensures unadded { IfOk result (λ found. (numbers : List ℤ) → plain_answer found ≡ a_solution numbers
-        → givens log.new.events ≡ givens log.old.events) }
+    ensures unadded { IfOk result (λ found. KeepsGivens (plain_answer found) log.old log.new) }
     ensures sound { IsSound log.old.events → IsSound log.new.events }
     ensures front { take (length log.old.events) log.new.events ≡ log.old.events }
     ensures base { log.new.base ≡ log.old.base }

@@ -11,10 +11,10 @@ pub returns-in-Some : goal.returns-in-Some
 unfolding held_value value_bound
 returns-in-Some c =
     let b = env_of c.args.env.now c.args.name.now in
-    ap (λ r. value_bound (option_map (λ e. entry_bound e.now) r)) (sym c.in-Some.is) ∙ ap value_bound c.entry.ensures ∙ only_value-value b
+    ap (λ r. value_bound (option_map (λ e. entry_bound e.now) r)) (sym c.in-Some.is) ∙ ap value_bound c.entry.ensures.bound ∙ only_value-value b
 
 pub returns-in-None : goal.returns-in-None
 unfolding value_bound
 returns-in-None c =
     let b = env_of c.args.env.now c.args.name.now in
-    ap (λ r. value_bound (option_map (λ e. entry_bound e.now) r)) (sym c.in-None.is) ∙ ap value_bound c.entry.ensures ∙ only_value-value b
+    ap (λ r. value_bound (option_map (λ e. entry_bound e.now) r)) (sym c.in-None.is) ∙ ap value_bound c.entry.ensures.bound ∙ only_value-value b

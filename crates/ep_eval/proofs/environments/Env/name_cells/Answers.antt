@@ -1,6 +1,7 @@
 use Rattle.ep_tree.specs.Environments.{HasAscendingDomain}
 use Rattle.ep_tree.specs.TypedValues.{IsTypedBound}
 use Rattle.ep_eval.specs.Bounds.{bound_of}
+use Rattle.ep_eval.specs.Known.{IsNamed}
 use Rattle.ep_eval.proofs.environments.Env.name_cells.Goals as goal
 
 pub put-requires-clause-typed : goal.put-requires-clause-typed
@@ -10,6 +11,10 @@ put-requires-clause-typed c = tt
 pub put-requires-clause-ascending : goal.put-requires-clause-ascending
 unfolding HasAscendingDomain bound_of
 put-requires-clause-ascending c = tt
+
+pub put-requires-clause-named : goal.put-requires-clause-named
+unfolding IsNamed
+put-requires-clause-named c = tt
 
 pub returns-clause-known : goal.returns-clause-known
 unfolding bound_of

@@ -4,6 +4,7 @@ use Rattle.ep_base.specs.Runs.{IsAscending}
 use Rattle.ep_tree.specs.Environments.{HasAscendingDomain}
 use Rattle.ep_tree.specs.TypedValues.{IsTypedBound}
 use Rattle.ep_eval.specs.Bounds.{bound_of}
+use Rattle.ep_eval.specs.Known.{IsNamed}
 use Rattle.ep_eval.proofs.environments.Env.name_domain.Goals as goal
 
 pub put-requires-clause-typed : goal.put-requires-clause-typed
@@ -14,6 +15,10 @@ pub put-requires-clause-ascending : goal.put-requires-clause-ascending
 unfolding HasAscendingDomain bound_of
 put-requires-clause-ascending c =
     subst (λ ns. IsAscending ns) c.runs.ensures.numbers (numbers_ascend c.runs.result.now c.runs.ensures.apart)
+
+pub put-requires-clause-named : goal.put-requires-clause-named
+unfolding IsNamed
+put-requires-clause-named c = tt
 
 pub returns-clause-known : goal.returns-clause-known
 unfolding bound_of

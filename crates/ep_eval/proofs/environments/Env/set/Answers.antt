@@ -1,9 +1,9 @@
-use Rattle.std.proofs.Common.{◌≡◌, subst, ◌∙◌, OnOk}
+use Rattle.std.proofs.Common.{◌≡◌, sym, subst, ◌∙◌, OnOk}
 use Rattle.ep_tree.specs.Environments.{HasAscendingDomain}
 use Rattle.ep_tree.specs.Names.{put}
 use Rattle.ep_tree.specs.TypedValues.{IsTypedBound}
 use Rattle.ep_eval.specs.Bounds.{bound_of, entry_bound}
-use Rattle.ep_eval.specs.Known.{env_of}
+use Rattle.ep_eval.specs.Known.{IsNamed, env_of}
 use Rattle.ep_eval.proofs.environments.Env.set.Goals as goal
 
 pub put-requires-clause-typed : goal.put-requires-clause-typed
@@ -13,6 +13,10 @@ put-requires-clause-typed c = c.requires.typed
 pub put-requires-clause-ascending : goal.put-requires-clause-ascending
 unfolding HasAscendingDomain bound_of
 put-requires-clause-ascending c = tt
+
+pub put-requires-clause-named : goal.put-requires-clause-named
+unfolding IsNamed
+put-requires-clause-named c = sym (c.in_ok-name.ensures.copied ∙ c.text.ensures.text)
 
 pub returns-clause-known : goal.returns-clause-known
 unfolding bound_of
