@@ -472,8 +472,8 @@ fn answers_are_written(rt: HostRuntime) -> Result<(), Fail> {
         params: b"",
         solution: b"old",
     };
-    let held = Some(THREE_ANSWERED);
-    let old = Some("old");
+    let held = Some(THREE_ANSWERED.as_bytes());
+    let old = Some("old".as_bytes());
     for (params, name, file_fail, put_fail, status, held, want) in [
         (" p", "s", 0, 0, Status::Answered, held, THREE_ANSWERED),
         (" p", "t", 0, 0, Status::Answered, held, THREE_ANSWERED),
@@ -500,7 +500,7 @@ fn answers_are_written(rt: HostRuntime) -> Result<(), Fail> {
         let ended = run_over(&rt, words.as_str(), &mut files, &mut out)?;
         assert_eq!(rt; ended, status);
         assert_eq!(rt; out.taken(), want.as_bytes());
-        assert_eq!(rt; files.get(name), held.map(|text| text.as_bytes()));
+        assert_eq!(rt; files.get(name), held);
     }
     Ok(())
 }
