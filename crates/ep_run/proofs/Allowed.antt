@@ -1,14 +1,12 @@
 -- How many conflicts words allow.
-use Rattle.std.proofs.Common.{◌≡◌, ℕ, ◌≤◌, Bool, true, false, ◌&&◌, if◌then◌else◌, nat_le, zero, suc, length, codes, List, Option, Some, None, option_map, option_and_then, inl, inr, refl, sym, ◌∙◌, subst, arith}
+use Rattle.std.proofs.Common.{◌≡◌, ℕ, ◌≤◌, Bool, true, false, ◌&&◌, if◌then◌else◌, nat_le, zero, suc, length, codes, List, Option, Some, None, option_map, option_and_then, unwrap_or, bytes_eq, inl, inr, refl, subst, arith}
 use Rattle.std.proofs.lemmas.Bool.{cases_Bool}
-use Rattle.std.proofs.lemmas.Bool.Decides.{nat_tests}
 use Rattle.std.specs.Str.Parse.{digits_value}
 use Rattle.ep_base.specs.TokenTexts.{is_number}
-use Rattle.ep_words.specs.Jobs.{check_job, check_options, conflicts_of as set_conflicts, enumerate_job, enumerate_options, generate_job, generate_options, job_of, job_of_task, number_or, number_within, sets_only, solution_count, solve_job, solve_options, task_of, verify_job, verify_options, workers_of}
+use Rattle.ep_words.specs.Jobs.{check_job, check_options, conflicts_of as set_conflicts, enumerate_job, enumerate_options, generate_job, generate_options, job_of, number_or, number_within, sets_only, solution_count, solve_job, solve_options, verify_job, verify_options, workers_of}
 use Rattle.ep_words.specs.Settings.{Setting, Text, value_of}
 use Rattle.ep_run.specs.Commands.{Want, conflicts_of, wanted_of}
 use Rattle.ep_words.specs.declared.job.Job.{Job}
-use Rattle.ep_words.specs.declared.task.Task.{Task}
 use Rattle.ep_run.specs.declared.wanted.Request.{Request}
 use Rattle.ep_run.specs.declared.wanted.Wanted.{Wanted}
 
@@ -84,15 +82,25 @@ generate-budget s job e =
     (λ k. all-mapped HasBudget (make k) (set_conflicts s) (λ n f. tt))
     (option_and_then (number_within 0 1000000000) (value_of (codes "number") s)) job e
 
-task-budget : (task : Task) (s : List Setting) (job : Job) → job_of_task task s ≡ Some job → HasBudget job
-task-budget Task.Solve s job e = if-chosen HasBudget (sets_only solve_options s) (solve_job s) job (λ k f. solve-budget s k f) e
-task-budget Task.Enumerate s job e = if-chosen HasBudget (sets_only enumerate_options s) (enumerate_job s) job (λ k f. enumerate-budget s k f) e
-task-budget Task.Verify s job e = if-chosen HasBudget (sets_only verify_options s) (verify_job s) job (λ k f. verify-budget s k f) e
-task-budget Task.Check s job e = if-chosen HasBudget (sets_only check_options s) (check_job s) job (λ k f. check-budget s k f) e
-task-budget Task.Generate s job e = if-chosen HasBudget (sets_only generate_options s) (generate_job s) job (λ k f. generate-budget s k f) e
-
 job-budget : (s : List Setting) (job : Job) → job_of s ≡ Some job → HasBudget job
-job-budget s job e = all-and-then HasBudget (λ task. job_of_task task s) (λ task. task-budget task s) (task_of s) job e
+job-budget s job e =
+    let name = unwrap_or (value_of (codes "task") s) (codes "solve") in
+    elim (cases_Bool (bytes_eq name (codes "solve"))) [
+      | inl solve ↦ if-chosen HasBudget (sets_only solve_options s) (solve_job s) job (λ k f. solve-budget s k f) (rw solve at e)
+      | inr a ↦ let e1 = rw a at e in elim (cases_Bool (bytes_eq name (codes "enumerate"))) [
+        | inl enumerate ↦ if-chosen HasBudget (sets_only enumerate_options s) (enumerate_job s) job (λ k f. enumerate-budget s k f) (rw enumerate at e1)
+        | inr b ↦ let e2 = rw b at e1 in elim (cases_Bool (bytes_eq name (codes "verify"))) [
+          | inl verify ↦ if-chosen HasBudget (sets_only verify_options s) (verify_job s) job (λ k f. verify-budget s k f) (rw verify at e2)
+          | inr c ↦ let e3 = rw c at e2 in elim (cases_Bool (bytes_eq name (codes "check"))) [
+            | inl check ↦ if-chosen HasBudget (sets_only check_options s) (check_job s) job (λ k f. check-budget s k f) (rw check at e3)
+            | inr d ↦ let e4 = rw d at e3 in elim (cases_Bool (bytes_eq name (codes "generate"))) [
+              | inl generate ↦ if-chosen HasBudget (sets_only generate_options s) (generate_job s) job (λ k f. generate-budget s k f) (rw generate at e4)
+              | inr f ↦ let none = rw f at e4 in absurd cc
+            ]
+          ]
+        ]
+      ]
+    ]
 
 -- ---- what is wanted
 
