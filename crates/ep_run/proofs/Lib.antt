@@ -10,4 +10,6 @@ mod Tasks
 mod Saying
 mod Promises
 mod Once
+mod Allowed
+mod Budgets
 mod Running

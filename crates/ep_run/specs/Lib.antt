@@ -5,6 +5,7 @@ pub mod Readings
 pub mod Outcomes
 pub mod Shown
 pub mod Answers
+pub mod Budgets
 pub mod Puts
 pub mod Stops
 pub mod Steps

@@ -175,6 +175,9 @@ find x, y : int(0..9)@such that x ** 2 = 49, x % y = 3, max([x, y]) = 7##$ solut
 find m : matrix indexed by [int(1..2)] of int(0..2)@such that [1, 2] <=lex m, m <=lex [1, 2]##$ solution@letting m be [1, 2; int(1..2)]@
 find m : matrix indexed by [int(1..3)] of int(0..2)@such that atleast(m, [2], [1]), atmost(m, [2, 0], [1, 2]), m[1] > m[2]##$ solution@letting m be [1, 0, 1; int(1..3)]@
 find m : matrix indexed by [int(1..3)] of int(0..5)@find x : int(0..9)@find b : bool@such that x in int(2, 5..6), b <-> x > 4, m[x] = 5, m[1] + m[3] = 0##$ solution@letting m be [0, 5, 0; int(1..3)]@letting x be 2@letting b be false@
+find x : matrix indexed by [int(1..60)] of bool@such that sum([x[i] * 10000 | i : int(1..60)]) = 600000##$ solution@letting x be [true, true, true, true, true, true, true, true, true, true, true, true, true, true, true, true, true, true, true, true, true, true, true, true, true, true, true, true, true, true, true, true, true, true, true, true, true, true, true, true, true, true, true, true, true, true, true, true, true, true, true, true, true, true, true, true, true, true, true, true; int(1..60)]@
+find x : matrix indexed by [int(1..60)] of bool@such that sum([x[i] * 10000 | i : int(1..60)]) = 600001##$ no solution@
+such that forAll i : int(1..4999997) . true##$ solution@
 such that true $ \u{e9}##$ solution@";
 
 #[test]
@@ -185,10 +188,10 @@ fn models_have_their_answers(rt: HostRuntime) -> Result<(), Fail> {
     Ok(())
 }
 
-/// Five pigeons of which each sits in one of four holes, and no two in one.
-const PIGEONS: &str = "find sits : matrix indexed by [int(1..5), int(1..4)] of bool \
-such that forAll i : int(1..5) . exists j : int(1..4) . sits[i, j], \
-forAll j : int(1..4) . forAll i, k : int(1..5) . i < k -> !(sits[i, j] /\\ sits[k, j])##";
+/// Four pigeons of which each sits in one of three holes, and no two in one.
+const PIGEONS: &str = "\
+find p : matrix indexed by [int(1..4), int(1..3)] of bool@such that forAll i : int(1..4) . exists j : int(1..3) . p[i,j],@\
+forAll j : int(1..3) . forAll a,b : int(1..4) . (a < b) -> !(p[a,j] /\\ p[b,j])##";
 
 #[test]
 fn a_budget_is_spent_or_serves(rt: HostRuntime) -> Result<(), Fail> {
@@ -235,6 +238,8 @@ letting n be 1/0##fault F10 model 2:1@
 letting m be [5, 6; int(1..3)]##fault F10 model 2:1@
 letting a be 2**41##limit L5@
 find m : matrix indexed by [int(1..5000001)] of bool##limit L4@
+such that forAll i : int(1..4999998) . true##limit L4@
+such that forAll i,j,k : int(1..2000) . true##limit L4@
 find x : int(0..16384) such that x * x * x = 8##limit L5@
 find x, y : int(0..9999) such that x*y = 6##limit L6@
 find x : int(0..16385) such that x ** 3 = 8##limit L5@
@@ -295,27 +300,58 @@ fn solutions_are_listed(rt: HostRuntime) -> Result<(), Fail> {
     Ok(())
 }
 
-/// So many lines of a list of the three numbers of `x` from 1 to 3, whatever their order, and none of them twice.
+/// A model with three solutions, and what a list says of each of them.
+const THREE_LISTED: [(&str, [&str; 3]); 2] = [
+    (
+        "find x : int(1..3)@maximising x",
+        ["@letting x be 1@", "@letting x be 2@", "@letting x be 3@"],
+    ),
+    (
+        "find x, y : int(1..2)@such that x <= y",
+        [
+            "@letting x be 1@letting y be 1@",
+            "@letting x be 1@letting y be 2@",
+            "@letting x be 2@letting y be 2@",
+        ],
+    ),
+];
+
+/// So many of the three solutions are listed, whatever their order, and none of them twice.
 #[test]
 fn each_solution_is_listed_once(rt: HostRuntime) -> Result<(), Fail> {
     let alloc = rt.alloc();
-    let model = text_of(alloc, FIRST_LINE, "find x : int(1..3)@maximising x")?;
-    let texts = Texts {
-        model: model.as_bytes(),
-        params: b"",
-        solution: b"",
-    };
-    for (solutions, lines) in [(" 1", 3), (" 3", 7), (" 4", 8), (" all", 8)] {
-        let words = text_of(alloc, LIST, solutions)?;
-        let mut out = MemSink::new(alloc, 1000, Vec::new(alloc));
-        let ended = run_on(&rt, words.as_str(), &texts, &[], &mut out)?;
-        assert_eq!(rt; ended, Status::Answered);
-        let count = out.taken().iter().filter(|byte| **byte == b'\n').count();
-        assert_eq!(rt; count, lines);
-        let text = str::from_utf8(out.taken()).unwrap_or("");
-        for block in ["letting x be 1", "letting x be 2", "letting x be 3"] {
-            let count = text.lines().filter(|line| *line == block).count();
-            assert!(rt; count <= 1, "{block}");
+    for (model, solutions) in THREE_LISTED {
+        let model = text_of(alloc, FIRST_LINE, model)?;
+        let texts = Texts {
+            model: model.as_bytes(),
+            params: b"",
+            solution: b"",
+        };
+        for (wanted, found, is_complete) in [
+            (" 1", 1, false),
+            (" 2", 2, false),
+            (" 3", 3, false),
+            (" 4", 3, true),
+            (" all", 3, true),
+        ] {
+            let words = text_of(alloc, LIST, wanted)?;
+            let mut out = MemSink::new(alloc, 1000, Vec::new(alloc));
+            let ended = run_on(&rt, words.as_str(), &texts, &[], &mut out)?;
+            assert_eq!(rt; ended, Status::Answered);
+            let text = str::from_utf8(out.taken()).unwrap_or("");
+            assert_eq!(rt; text.ends_with("\n$ complete\n"), is_complete, "{text}");
+            let blocks = text
+                .split('$')
+                .filter(|block| block.starts_with(" solution "));
+            assert_eq!(rt; blocks.count(), found, "{text}");
+            for solution in solutions {
+                let solution = text_of(alloc, "", solution)?;
+                let blocks = text
+                    .split('$')
+                    .filter(|block| block.ends_with(solution.as_str()));
+                let times = blocks.count();
+                assert!(rt; times == 1 || times == 0 && found < 3, "{text}");
+            }
         }
     }
     Ok(())
@@ -379,14 +415,20 @@ fn files_come_in_their_order(rt: HostRuntime) -> Result<(), Fail> {
 fn trees_may_be_so_high(rt: HostRuntime) -> Result<(), Fail> {
     let alloc = rt.alloc();
     for (count, want) in [(255, "#$ solution@"), (256, "#limit L3 model 2:266@")] {
-        let mut row = String::from_str(alloc, "such that ")?;
-        for _ in 0..count {
-            row.push('!')?;
+        for (before, middle, behind) in [('!', " false", ""), ('(', "true", ")")] {
+            let mut row = String::from_str(alloc, "such that ")?;
+            for _ in 0..count {
+                row.push(before)?;
+            }
+            row.push_str(middle)?;
+            for _ in 0..count {
+                row.push_str(behind)?;
+            }
+            row.push('#')?;
+            row.push_str(want)?;
+            let first_line = if count == 255 { FIRST_LINE } else { "" };
+            check_row(&rt, SOLVE, first_line, row.as_str())?;
         }
-        row.push_str(" false#")?;
-        row.push_str(want)?;
-        let first_line = if count == 255 { FIRST_LINE } else { "" };
-        check_row(&rt, SOLVE, first_line, row.as_str())?;
     }
     Ok(())
 }
@@ -404,16 +446,17 @@ fn devices_may_fail(rt: HostRuntime) -> Result<(), Fail> {
         params: b"",
         solution: b"",
     };
-    for (file_fail, put_fail, status, want) in [
-        (1, 0, Status::Device, "device read m\n"),
-        (2, 0, Status::Device, "device read p\n"),
-        (3, 0, Status::Answered, THREE_ANSWERED),
-        (0, 1, Status::Device, ""),
-        (0, 2, Status::Device, "l"),
-        (0, 10, Status::Device, "language "),
+    for (words, file_fail, put_fail, status, want) in [
+        (SOLVE, 1, 0, Status::Device, "device read m\n"),
+        (SOLVE, 2, 0, Status::Device, "device read p\n"),
+        (SOLVE, 3, 0, Status::Answered, THREE_ANSWERED),
+        ("--in-eprime m", 2, 0, Status::Answered, THREE_ANSWERED),
+        (SOLVE, 0, 1, Status::Device, ""),
+        (SOLVE, 0, 2, Status::Device, "l"),
+        (SOLVE, 0, 10, Status::Device, "language "),
     ] {
         let mut out = MemSink::new(alloc, 1, Vec::from_slice(alloc, &[put_fail])?);
-        let ended = run_on(&rt, SOLVE, &texts, &[file_fail], &mut out)?;
+        let ended = run_on(&rt, words, &texts, &[file_fail], &mut out)?;
         assert_eq!(rt; ended, status);
         assert_eq!(rt; out.taken(), want.as_bytes());
     }
@@ -429,20 +472,208 @@ fn answers_are_written(rt: HostRuntime) -> Result<(), Fail> {
         params: b"",
         solution: b"old",
     };
-    for (params, file_fail, put_fail, status, held, want) in [
-        ("p", 0, 0, Status::Answered, THREE_ANSWERED, THREE_ANSWERED),
-        ("p", 3, 0, Status::Device, "old", "device write s\n"),
-        ("p", 3, 8, Status::Device, "old", "device "),
-        ("p", 0, 2, Status::Device, THREE_ANSWERED, "l"),
-        ("none", 0, 0, Status::Device, "old", "device read none\n"),
+    let held = Some(THREE_ANSWERED.as_bytes());
+    let old = Some("old".as_bytes());
+    for (params, name, file_fail, put_fail, status, held, want) in [
+        (" p", "s", 0, 0, Status::Answered, held, THREE_ANSWERED),
+        (" p", "t", 0, 0, Status::Answered, held, THREE_ANSWERED),
+        (" p", "t", 1, 0, Status::Device, None, "device read m\n"),
+        (" p", "t", 3, 0, Status::Device, None, "device write t\n"),
+        (" p", "s", 3, 0, Status::Device, old, "device write s\n"),
+        (" p", "s", 3, 8, Status::Device, old, "device "),
+        (" p", "s", 0, 2, Status::Device, held, "l"),
+        (
+            " none",
+            "s",
+            0,
+            0,
+            Status::Device,
+            old,
+            "device read none\n",
+        ),
     ] {
-        let words = text_of(alloc, "--in-eprime m --out-solution=s --in-param ", params)?;
+        let mut words = text_of(alloc, "--in-eprime m --in-param", params)?;
+        words.push_str(" --out-solution=")?;
+        words.push_str(name)?;
         let mut files = files_of(alloc, &texts, &[file_fail])?;
         let mut out = MemSink::new(alloc, 1, Vec::from_slice(alloc, &[put_fail])?);
         let ended = run_over(&rt, words.as_str(), &mut files, &mut out)?;
         assert_eq!(rt; ended, status);
         assert_eq!(rt; out.taken(), want.as_bytes());
-        assert_eq!(rt; files.get("s").unwrap_or(b""), held.as_bytes());
+        assert_eq!(rt; files.get(name), held);
+    }
+    Ok(())
+}
+
+/// How many first parts of a model, each a byte longer than the one before it, end in the same line; none of them has a fault
+/// where there is no line.
+const CUT: [(u64, &str); 31] = [
+    (8, "fault F2 model 1:1"),
+    (1, "fault F2 model 1:9"),
+    (8, "fault F2 model 1:10"),
+    (1, "fault F2 model 1:18"),
+    (1, "fault F2 model 1:19"),
+    (1, "fault F2 model 1:20"),
+    (1, "fault F2 model 1:21"),
+    (2, ""),
+    (3, "fault F2 model 2:1"),
+    (1, "fault F2 model 2:5"),
+    (1, "fault F2 model 2:6"),
+    (1, "fault F2 model 2:7"),
+    (1, "fault F2 model 2:8"),
+    (1, "fault F2 model 2:9"),
+    (1, "fault F2 model 2:10"),
+    (1, "fault F3 model 2:10 i"),
+    (1, "fault F2 model 2:10"),
+    (1, "fault F7 model 2:10"),
+    (1, "fault F2 model 2:14"),
+    (2, "fault F2 model 2:15"),
+    (1, "fault F2 model 2:17"),
+    (1, "fault F2 model 2:18"),
+    (2, ""),
+    (3, "fault F2 model 3:1"),
+    (1, "fault F2 model 3:5"),
+    (4, "fault F2 model 3:6"),
+    (2, ""),
+    (2, "fault F5 model 3:11"),
+    (1, "fault F2 model 3:14"),
+    (1, "fault F2 model 3:15"),
+    (1, ""),
+];
+
+#[test]
+fn a_model_may_be_cut(rt: HostRuntime) -> Result<(), Fail> {
+    let alloc = rt.alloc();
+    let whole = text_of(alloc, FIRST_LINE, "find x : int(1..3)@such that x > 2")?;
+    let mut left = whole.as_bytes().iter();
+    let mut model = Vec::new(alloc);
+    for (count, line) in CUT {
+        for _ in 0..count {
+            let texts = Texts {
+                model: &model,
+                params: b"",
+                solution: b"",
+            };
+            let mut out = MemSink::new(alloc, 1000, Vec::new(alloc));
+            let ended = run_on(&rt, SOLVE, &texts, &[], &mut out)?;
+            let text = str::from_utf8(out.taken()).unwrap_or("");
+            let has_line = if line.is_empty() {
+                text.starts_with("language ESSENCE' 1.0\n$ solution\n")
+            } else {
+                text.strip_suffix("\n") == Some(line)
+            };
+            assert!(rt; has_line, "{line}: {text}");
+            let status = if line.is_empty() {
+                Status::Answered
+            } else {
+                Status::Text
+            };
+            assert_eq!(rt; ended, status, "{text}");
+            if let Some(byte) = left.next() {
+                model.push(*byte)?;
+            }
+        }
+    }
+    assert_eq!(rt; left.next(), None);
+    Ok(())
+}
+
+const THREE_BYTES: &[u8] = b"language ESSENCE' 1.0\nfind x : int(1..3)\nsuch that x > 2";
+
+/// Models, the length up to which blanks follow, and what is put out. In a comment any byte may stand.
+const BYTES: [(&[u8], usize, Status, &str); 4] = [
+    (
+        b"language ESSENCE' 1.0\n\xff",
+        0,
+        Status::Text,
+        "fault F1 model 2:1\n",
+    ),
+    (
+        b"language ESSENCE' 1.0\nsuch that true $\xff",
+        0,
+        Status::Answered,
+        "language ESSENCE' 1.0\n$ solution\n",
+    ),
+    (THREE_BYTES, 16_777_216, Status::Answered, THREE_ANSWERED),
+    (THREE_BYTES, 16_777_217, Status::Limit, "limit L1 model\n"),
+];
+
+#[test]
+fn texts_may_be_so_long_and_have_any_bytes(rt: HostRuntime) -> Result<(), Fail> {
+    let alloc = rt.alloc();
+    for (text, length, status, want) in BYTES {
+        let mut model = Vec::from_slice(alloc, text)?;
+        for _ in text.len()..length {
+            model.push(b' ')?;
+        }
+        let texts = Texts {
+            model: &model,
+            params: b"",
+            solution: b"",
+        };
+        check_run(&rt, SOLVE, &texts, status, want)?;
+    }
+    Ok(())
+}
+
+/// Each number stands once in each row and each column, and some of them are given.
+const SQUARE: &str = "\
+given n : int(1..100)@given hint : matrix indexed by [int(1..n), int(1..n)] of int(0..n)@\
+find q : matrix indexed by [int(1..n), int(1..n)] of int(1..n)@such that@\
+forAll i : int(1..n) . allDiff(q[i,..]),@forAll j : int(1..n) . allDiff(q[..,j]),@\
+forAll i,j : int(1..n) . (hint[i,j] != 0) -> (q[i,j] = hint[i,j])";
+
+const HINTS: &str = "\
+letting n be 16 letting hint be [\
+[3, 4, 0, 0, 7, 0, 0, 0, 0, 0, 13, 0, 0, 0, 1, 2], \
+[0, 0, 0, 7, 8, 0, 0, 0, 0, 0, 0, 0, 0, 1, 0, 0], \
+[5, 0, 0, 8, 0, 10, 0, 0, 0, 0, 15, 16, 0, 2, 0, 0], \
+[0, 0, 0, 0, 10, 11, 0, 0, 0, 0, 0, 0, 0, 3, 0, 5], \
+[0, 0, 9, 0, 0, 0, 0, 0, 0, 16, 1, 0, 0, 0, 0, 6], \
+[8, 0, 0, 0, 0, 0, 0, 0, 0, 0, 0, 0, 4, 5, 6, 0], \
+[0, 0, 0, 12, 0, 0, 0, 0, 1, 0, 0, 4, 5, 0, 7, 8], \
+[0, 11, 12, 13, 0, 0, 16, 0, 0, 0, 0, 0, 0, 7, 0, 0], \
+[0, 0, 0, 0, 0, 0, 0, 0, 3, 0, 0, 0, 0, 0, 0, 0], \
+[12, 0, 0, 0, 0, 1, 2, 0, 4, 5, 6, 7, 8, 9, 0, 0], \
+[13, 0, 0, 0, 1, 0, 3, 4, 0, 0, 0, 0, 0, 0, 0, 0], \
+[0, 15, 16, 1, 2, 3, 0, 0, 6, 0, 0, 0, 0, 0, 0, 0], \
+[0, 0, 0, 0, 3, 0, 0, 0, 7, 8, 0, 10, 0, 0, 13, 0], \
+[16, 1, 0, 3, 0, 5, 0, 7, 8, 0, 0, 0, 12, 13, 0, 15], \
+[0, 2, 3, 0, 0, 0, 7, 0, 0, 0, 0, 12, 0, 14, 0, 0], \
+[0, 0, 0, 0, 6, 0, 0, 0, 10, 11, 12, 13, 0, 0, 0, 0]]";
+
+#[test]
+fn an_answer_is_a_solution_text(rt: HostRuntime) -> Result<(), Fail> {
+    let alloc = rt.alloc();
+    for (model, params, judgement) in [
+        (SQUARE, HINTS, "$ solution\n"),
+        (
+            "given a : int find x : int(0..a) maximising x * (a - x)",
+            "letting a be 8",
+            "$ solution objective 16\n",
+        ),
+        (
+            "find m : matrix indexed by [int(1..2), int(4..3)] of bool find b : bool such that !b",
+            "",
+            "$ solution\n",
+        ),
+    ] {
+        let model = text_of(alloc, FIRST_LINE, model)?;
+        let texts = Texts {
+            model: model.as_bytes(),
+            params: params.as_bytes(),
+            solution: b"",
+        };
+        let mut out = MemSink::new(alloc, 1000, Vec::new(alloc));
+        let ended = run_on(&rt, SOLVE, &texts, &[], &mut out)?;
+        assert_eq!(rt; ended, Status::Answered);
+        let texts = Texts {
+            model: model.as_bytes(),
+            params: params.as_bytes(),
+            solution: out.taken(),
+        };
+        let words = "--task verify --in-eprime m --in-param p --in-solution s";
+        check_run(&rt, words, &texts, Status::Answered, judgement)?;
     }
     Ok(())
 }

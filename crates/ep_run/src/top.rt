@@ -7,6 +7,7 @@ ghost use Rattle.ep_print.specs.declared.refusals.Refusal.{Refusal};
 ghost use Rattle.ep_solve.specs.Right.{IsSpent, empty_log};
 ghost use Rattle.sat_search.specs.Logs.{IsSound};
 ghost use Rattle.ep_run.specs.Answers.{Answers};
+ghost use Rattle.ep_run.specs.Budgets.{IsBelowPower, MeetsConflict, before_steps};
 ghost use Rattle.ep_run.specs.Commands.{AreNoCommand, Want, conflicts_of};
 ghost use Rattle.ep_run.specs.Outcomes.{Task};
 ghost use Rattle.ep_run.specs.Outputs.{HasOutput, SameButOutput};
@@ -19,7 +20,7 @@ ghost use Rattle.ep_run.specs.declared.wanted.Wanted.{Wanted};
 
 use super::replies::reply_to;
 use super::status::Status;
-use cnf_core::Log;
+use cnf_core::{Log, new_steps_are_few, no_step_is_effective_after_a_conflict};
 use ep_base::{Files, PutError, Sink, Word, put_all};
 use ep_parse_model::texts_have_one_answer;
 use ep_words::one_job_for_words;
@@ -52,6 +53,13 @@ pub fn run<R: Threads, F: Files, K: Sink>(
         (model : List ℕ) × (params : Option (List ℕ)) × (request : Request) × (output : Option (List ℕ))
         × Want words.now (Wanted.Search model params request output)
         × IsSpent (conflicts_of request) log.new.events }
+    // Then the conflicts were fewer than 3 to the number of variables of what was given, and unit propagation on what was given
+    // before the first step meets no conflict.
+    ensures few { result ≡ StatusValue.Unknown →
+        (model : List ℕ) (params : Option (List ℕ)) (request : Request) (output : Option (List ℕ))
+        → Want words.now (Wanted.Search model params request output)
+        → IsBelowPower (conflicts_of request) log.new.events }
+    ensures unforced { result ≡ StatusValue.Unknown → ¬ MeetsConflict (before_steps log.new.events) }
     ensures refuted { result ≡ StatusValue.Refuted →
         (model : List ℕ) × (params : Option (List ℕ)) × (solution : List ℕ)
         × Want words.now (Wanted.Verify model params solution) }
@@ -135,6 +143,8 @@ pub fn run<R: Threads, F: Files, K: Sink>(
     let _ = rt;
     one_job_for_words();
     texts_have_one_answer();
+    new_steps_are_few();
+    no_step_is_effective_after_a_conflict();
     let Ok(reply) = reply_to(alloc, words, files, log) else {
         put_memory(out);
         return Status::Memory;

@@ -1,6 +1,7 @@
 use Rattle.std.proofs.Common.{◌≡◌, ◌∙◌, ℕ, List, Err, inl, inr, ap, subst}
 use Rattle.ep_base.specs.Outside.{Rose, TookPart, with_more}
 use Rattle.ep_run.specs.Puts.{TookOnWant}
+use Rattle.ep_run.proofs.Budgets.{below-said, unforced-said}
 use Rattle.ep_run.proofs.Once.{ShownOnce, TextsAreOnce, answers-said, judged-on-want, judged-said, refuses-said, shown-once, unlogged-on-want, unlogged-said, unwritten-on-want, unwritten-said, want-once}
 use Rattle.ep_run.proofs.Promises.{may-be-put, never-memory, usage-said, want-others, when-answered, when-failed, when-kept, when-not-held, when-others, when-refused, when-refuted, when-unknown, when-unlogged, when-usage, why-device}
 use Rattle.ep_run.proofs.Saying.{case-of}
@@ -123,6 +124,32 @@ returns-in-Ok-put_all-clause-unknown g c =
     let log = c.reply_to.new.log in
     let case = case-of words told after rose status text log c.in-Ok.ensures.says in
     λ h. when-unknown words told after rose status text log case h
+
+pub returns-in-Ok-put_all-clause-few : goal.returns-in-Ok-put_all-clause-few
+returns-in-Ok-put_all-clause-few g c =
+    let words = c.args.words.now in
+    let told = g.F.Files.held c.args.files.now in
+    let after = g.F.Files.held c.reply_to.new.files in
+    let rose = Rose (g.F.Files.faults c.args.files.now) (g.F.Files.faults c.reply_to.new.files) in
+    let status = c.in-Ok.reply.status in
+    let text = c.in-Ok.reply.text.items in
+    let log = c.reply_to.new.log in
+    let case = case-of words told after rose status text log c.in-Ok.ensures.says in
+    λ h. below-said c.new_steps_are_few.ensures words log (want-once c.one_job_for_words.ensures words) c.reply_to.ensures.sound.new
+    (when-unknown words told after rose status text log case h)
+
+pub returns-in-Ok-put_all-clause-unforced : goal.returns-in-Ok-put_all-clause-unforced
+returns-in-Ok-put_all-clause-unforced g c =
+    let words = c.args.words.now in
+    let told = g.F.Files.held c.args.files.now in
+    let after = g.F.Files.held c.reply_to.new.files in
+    let rose = Rose (g.F.Files.faults c.args.files.now) (g.F.Files.faults c.reply_to.new.files) in
+    let status = c.in-Ok.reply.status in
+    let text = c.in-Ok.reply.text.items in
+    let log = c.reply_to.new.log in
+    let case = case-of words told after rose status text log c.in-Ok.ensures.says in
+    λ h. unforced-said c.no_step_is_effective_after_a_conflict.ensures words log c.reply_to.ensures.sound.effective
+    (when-unknown words told after rose status text log case h)
 
 pub returns-in-Ok-put_all-clause-usage_refused : goal.returns-in-Ok-put_all-clause-usage_refused
 returns-in-Ok-put_all-clause-usage_refused g c =
