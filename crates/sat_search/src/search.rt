@@ -9,7 +9,7 @@ ghost use Rattle.sat_search.specs.Logs.{IsSound, IsContinued, HasEnded, IsAnswer
 
 use crate::adding::copied;
 use crate::learning::{Analysis, Explanation, explain};
-use crate::levels::{go_back, second_level};
+use crate::levels::{go_back, keep_all, keep_below_conflict, second_level};
 use crate::order::Order;
 use crate::outcome::Outcome;
 use crate::restarts::Restarts;
@@ -175,6 +175,7 @@ fn learn(
     ensures more { IfOk result (λ ended. IsNone ended → nonempty_steps log.old.events < nonempty_steps log.new.events) }
     ensures ended { IfOk result (λ ended. IfSome ended (HasEnded budget log.new.events)) }
 {
+    keep_below_conflict(state, &mut tools.order);
     let Explanation { lits, hints } = explain(
         alloc,
         state,
@@ -215,7 +216,10 @@ pub fn search(
     tools.order.grow(vars)?;
     'conflicts: loop {
         match decide_all(state, &mut tools.order, vars) {
-            None => return Ok(Outcome::Sat),
+            None => {
+                keep_all(state, &mut tools.order);
+                return Ok(Outcome::Sat);
+            }
             Some(number) => {
                 if let Some(outcome) = learn(alloc, state, tools, vars, number, budget, log)? {
                     return Ok(outcome);
