@@ -154,6 +154,15 @@ fn append(
     Ok(())
 }
 
+// Tells the state by which clauses a conflict was explained.
+fn touch(state: &mut State, hints: &[u64])
+    ensures { state.new ≡ state.old }
+{
+    for number in hints {
+        state.touch(*number);
+    }
+}
+
 // Explains a falsified clause, and learns what follows. Answers how the search ends, if it does.
 fn learn(
     alloc: Global,
@@ -184,6 +193,7 @@ fn learn(
         vars,
         number,
     )?;
+    touch(state, hints.as_slice());
     if lits.is_empty() {
         append(state, tools, vars, Clause::new(alloc, lits)?, hints, log)?;
         Ok(Some(Outcome::Unsat))
