@@ -8,7 +8,7 @@ ghost use Rattle.sat_search.specs.Analysis.{IsKnown, is_marked, MarksClause, IsT
 
 use crate::levels::level_in;
 use crate::marks::Marks;
-use crate::minimal::{Seen, removal};
+use crate::minimal::{Seen, reason_of, removal};
 use crate::order::Order;
 use cnf_core::{Clause, Lit};
 use ep_base::Memory;
@@ -263,6 +263,21 @@ pub struct Explanation {
     pub hints: Vec<u64>,
 }
 
+// Brings the variables forward that the reasons of a learnt clause's literals name and the conflict didn't meet.
+fn name_reasons(state: &State, order: &mut Order, analysis: &mut Analysis, lits: &[Lit]) {
+    for lit in lits {
+        if let Some(number) = reason_of(state, lit.var()) {
+            for other in state.clause(number).lits() {
+                let var = other.var();
+                if !analysis.marks.is_marked(var) && level_in(state, var) > 0 {
+                    analysis.marks.mark(var);
+                    order.raise(var);
+                }
+            }
+        }
+    }
+}
+
 /// Explains a falsified clause by the decisions, and brings the variables that it met down to the cut forward in the order.
 pub fn explain(
     alloc: Global,
@@ -280,8 +295,10 @@ pub fn explain(
     begin(analysis, vars)?;
     resolve(state, number, analysis, &mut hints)?;
     let cut = resolve_level(state, vars, analysis, &mut hints)?;
-    order.name(analysis.met.as_slice())?;
+    order.name(analysis.met.as_slice());
     let lits = keep(alloc, state, vars, cut, analysis, &mut hints)?;
+    name_reasons(state, order, analysis, lits.as_slice());
+    order.advance_step();
     hints.reverse();
     Ok(Explanation { lits, hints })
 }

@@ -55,3 +55,23 @@ pub fn go_back(state: &mut State, order: &mut Order, level: u64)
     release_above(state, order, level);
     state.backtrack(level.min(state.level()));
 }
+
+/// Gives the order the literals of the levels below the last one, which were true together without a conflict.
+pub fn keep_below_conflict(state: &State, order: &mut Order) {
+    let trail = state.trail();
+    let level = state.level();
+    let mut count = trail.len();
+    for lit in trail.iter().rev() {
+        if level_in(state, lit.var()) < level {
+            break;
+        }
+        count = count.saturating_sub(1);
+    }
+    order.keep_longest(trail, count);
+}
+
+/// Gives the order all literals, which are true together without a conflict.
+pub fn keep_all(state: &State, order: &mut Order) {
+    let trail = state.trail();
+    order.keep_longest(trail, trail.len());
+}

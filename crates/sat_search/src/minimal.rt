@@ -42,7 +42,7 @@ impl Seen {
 }
 
 // The number of the clause that gave a variable its value.
-fn reason_of(state: &State, var: u64) -> Option<u64>
+pub fn reason_of(state: &State, var: u64) -> Option<u64>
     ensures { IfSome result (λ number. number < length state.now.clauses) }
 {
     let _trail = state.trail();

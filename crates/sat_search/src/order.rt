@@ -1,5 +1,6 @@
-//! Which variable is decided next, and with which value: those that conflicts met most, of late above all, each with the value that
-//! it had last (the order of MiniSat, in whole numbers). The choice is free, so nothing is promised of it.
+//! Which variable is decided next, and with which value: those that conflicts met most, of late above all (the order of MiniSat, in
+//! whole numbers), each with the value that it had in the longest trail without a conflict, or else had last. The choice is free, so
+//! nothing is promised of it.
 
 use cnf_core::Lit;
 use ep_base::Memory;
@@ -22,6 +23,9 @@ const LEVELS: u32 = 64;
 pub struct Order {
     scores: Vec<u64>,
     phases: Vec<bool>,
+    // The signs in the longest trail without a conflict, and its length.
+    best: Vec<Option<bool>>,
+    longest: usize,
     // One more than the place of each variable in the heap, or 0.
     places: Vec<usize>,
     heap: Vec<u64>,
@@ -34,21 +38,25 @@ impl Order {
         Order {
             scores: Vec::new(alloc),
             phases: Vec::new(alloc),
+            best: Vec::new(alloc),
+            longest: 0,
             places: Vec::new(alloc),
             heap: Vec::new(alloc),
             step: FIRST_STEP,
         }
     }
 
-    /// Brings all variables up to this number in.
+    /// Brings all variables up to this number in, for a search that begins.
     pub fn grow(&mut self, vars: u64) -> Result<(), Memory> {
         let wanted = vars.checked_add(1).ok_or(Memory)? as usize;
         if self.scores.len() < wanted {
             self.scores.resize(wanted, 0)?;
             self.phases.resize(wanted, true)?;
+            self.best.resize(wanted, None)?;
             self.places.resize(wanted, 0)?;
             self.heap.reserve(wanted.saturating_sub(self.heap.len()))?;
         }
+        self.longest = 0;
         for var in 1..wanted {
             if self.heap.len() < wanted {
                 self.insert(var as u64)?;
@@ -75,9 +83,12 @@ impl Order {
         }
     }
 
-    /// The value that a variable had last.
+    /// The value that a variable had in the longest trail without a conflict, or else last.
     pub fn phase(&self, var: u64) -> bool {
-        self.phases.get(var as usize).copied().unwrap_or(true)
+        match self.best.get(var as usize).copied().unwrap_or(None) {
+            Some(positive) => positive,
+            None => self.phases.get(var as usize).copied().unwrap_or(true),
+        }
     }
 
     fn score(&self, var: u64) -> u64 {
@@ -146,19 +157,37 @@ impl Order {
         Ok(())
     }
 
+    /// Keeps the signs of so many literals, the first of these, which were true together without a conflict, if there are more of
+    /// them than before in this search.
+    pub fn keep_longest(&mut self, lits: &[Lit], count: usize) {
+        if count <= self.longest {
+            return;
+        }
+        self.longest = count;
+        for lit in lits.iter().take(count) {
+            if let Some(sign) = self.best.get_mut(lit.var() as usize) {
+                *sign = Some(lit.positive());
+            }
+        }
+    }
+
     /// Raises the scores of the variables that a conflict met.
-    pub fn name(&mut self, vars: &[u64]) -> Result<(), Memory> {
+    pub fn name(&mut self, vars: &[u64]) {
         for var in vars {
             self.raise(*var);
         }
+    }
+
+    /// Lets the next conflict weigh more.
+    pub fn advance_step(&mut self) {
         self.step = self.step.saturating_add(self.step / 19);
         if self.step > MOST_STEP {
             self.shrink();
         }
-        Ok(())
     }
 
-    fn raise(&mut self, var: u64) {
+    /// Raises the score of a variable.
+    pub fn raise(&mut self, var: u64) {
         let step = self.step;
         if let Some(score) = self.scores.get_mut(var as usize) {
             *score = score.saturating_add(step);

@@ -9,7 +9,7 @@ ghost use Rattle.sat_search.specs.Logs.{IsSound, IsContinued, HasEnded, IsAnswer
 
 use crate::adding::copied;
 use crate::learning::{Analysis, Explanation, explain};
-use crate::levels::{go_back, second_level};
+use crate::levels::{go_back, keep_all, keep_below_conflict, second_level};
 use crate::order::Order;
 use crate::outcome::Outcome;
 use crate::restarts::Restarts;
@@ -154,6 +154,15 @@ fn append(
     Ok(())
 }
 
+// Tells the state by which clauses a conflict was explained.
+fn touch(state: &mut State, hints: &[u64])
+    ensures { state.new ≡ state.old }
+{
+    for number in hints {
+        state.touch(*number);
+    }
+}
+
 // Explains a falsified clause, and learns what follows. Answers how the search ends, if it does.
 fn learn(
     alloc: Global,
@@ -175,6 +184,7 @@ fn learn(
     ensures more { IfOk result (λ ended. IsNone ended → nonempty_steps log.old.events < nonempty_steps log.new.events) }
     ensures ended { IfOk result (λ ended. IfSome ended (HasEnded budget log.new.events)) }
 {
+    keep_below_conflict(state, &mut tools.order);
     let Explanation { lits, hints } = explain(
         alloc,
         state,
@@ -183,6 +193,7 @@ fn learn(
         vars,
         number,
     )?;
+    touch(state, hints.as_slice());
     if lits.is_empty() {
         append(state, tools, vars, Clause::new(alloc, lits)?, hints, log)?;
         Ok(Some(Outcome::Unsat))
@@ -215,7 +226,10 @@ pub fn search(
     tools.order.grow(vars)?;
     'conflicts: loop {
         match decide_all(state, &mut tools.order, vars) {
-            None => return Ok(Outcome::Sat),
+            None => {
+                keep_all(state, &mut tools.order);
+                return Ok(Outcome::Sat);
+            }
             Some(number) => {
                 if let Some(outcome) = learn(alloc, state, tools, vars, number, budget, log)? {
                     return Ok(outcome);

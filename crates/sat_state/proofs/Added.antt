@@ -1,5 +1,5 @@
 -- A clause that is added, with the two literals that it watches.
-use Rattle.std.proofs.Common.{◌≡◌, ◌≢◌, ℕ, suc, ◌+◌, ◌*◌, ◌/◌, ◌<◌, ◌≤◌, true, List, [], ◌∷◌, ◌++◌, length, take, get_or, set, All, Contains, sym, ap, ◌∙◌, subst, inl, inr, ◌⊎◌, ⊎_elim, arith}
+use Rattle.std.proofs.Common.{◌≡◌, ◌≢◌, ℕ, suc, ◌+◌, ◌*◌, ◌/◌, ◌<◌, ◌≤◌, Bool, true, false, List, [], ◌∷◌, ◌++◌, length, take, get_or, set, All, Contains, sym, ap, ◌∙◌, subst, inl, inr, ◌⊎◌, ⊎_elim, arith}
 use Rattle.std.proofs.lemmas.Bool.{cases_eq, cases_lt, true≢false}
 use Rattle.std.proofs.lemmas.List.{get_or_append_left, get_or_push, get_or-append-add, get_or-set_same, get_or-set_other, length-set, length-append, length_push, get_or-take}
 use Rattle.std.proofs.lemmas.List.Elements.{All-push, All-contains}
@@ -9,7 +9,8 @@ use Rattle.sat_state.specs.Trail.{Entry, literals, level_of, IsOpenBelow}
 use Rattle.sat_state.specs.Stored.{clause_at}
 use Rattle.sat_state.specs.Watching.{no_lit, lit_at}
 use Rattle.sat_state.specs.Guards.{is_false, IsFresh, ArePartners, IsPair, AreWatched}
-use Rattle.sat_state.specs.Joined.{AreJoined, IsNotLow, HasHigh}
+use Rattle.sat_state.specs.Tiered.{far_at}
+use Rattle.sat_state.specs.Joined.{AreJoined, IsNotLow, HasHigh, place_of, heads_of}
 use Rattle.sat_state.specs.declared.parts.Parts.{Parts}
 use Rattle.sat_state.proofs.Literals.{Contains-from_among, among_from_Contains}
 use Rattle.sat_state.proofs.Linked.{literal_again}
@@ -84,24 +85,24 @@ fresh_by trail head clause a b low high others = λ k d h is.
     (level, others falsified)
 
 -- what two literals are that a clause is to watch
-pub record ArePicked (trail : List Entry) (head : ℕ) (clause : List Literal) (a b : Literal) : Type 0 where
+pub record ArePicked (trail : List Entry) (clause : List Literal) (a b : Literal) : Type 0 where
   pub first : IsPair clause a b
   pub second : IsPair clause b a
-  pub first_fresh : IsFresh trail head clause a b
-  pub second_fresh : IsFresh trail head clause b a
+  pub first_fresh : (head : ℕ) → IsFresh trail head clause a b
+  pub second_fresh : (head : ℕ) → IsFresh trail head clause b a
 
-pub picked : (trail : List Entry) (head : ℕ) (clause : List Literal) (a b : Literal) → All (λ e. e.level ≤ level_of trail) trail → Contains clause a → Contains clause b → code_of b ≢ code_of a
+pub picked : (trail : List Entry) (clause : List Literal) (a b : Literal) → All (λ e. e.level ≤ level_of trail) trail → Contains clause a → Contains clause b → code_of b ≢ code_of a
     → All (λ l. code_of l ≢ 0) clause
     → (is_false (literals trail) a ≡ true → IsNotLow trail a) → (is_false (literals trail) a ≡ true → All (λ l. code_of l ≢ 0 → is_false (literals trail) l ≡ true) clause)
     → (is_false (literals trail) b ≡ true → IsNotLow trail b) → (is_false (literals trail) b ≡ true → All (λ l. code_of l ≢ code_of a → is_false (literals trail) l ≡ true) clause)
-    → ArePicked trail head clause a b
-picked trail head clause a b low in_a in_b ne codes high_a others_a high_b others_b = record {
+    → ArePicked trail clause a b
+picked trail clause a b low in_a in_b ne codes high_a others_a high_b others_b = record {
   first = record { in_clause = in_a; two = λ same. ne (ap code_of (sym same)) };
   second = record { in_clause = in_b; two = λ same. ne (ap code_of same) };
-  first_fresh = fresh_by trail head clause a b low high_a
+  first_fresh = λ head. fresh_by trail head clause a b low high_a
       (λ falsified l in_l nb. Contains-from_among (literals trail) (negation l)
       (All-contains (λ (x : Literal). code_of x ≢ 0 → is_false (literals trail) x ≡ true) clause l (others_a falsified) in_l (All-contains (λ (x : Literal). code_of x ≢ 0) clause l codes in_l)));
-  second_fresh = fresh_by trail head clause b a low high_b
+  second_fresh = λ head. fresh_by trail head clause b a low high_b
       (λ falsified l in_l na. Contains-from_among (literals trail) (negation l)
       (All-contains (λ (x : Literal). code_of x ≢ code_of a → is_false (literals trail) x ≡ true) clause l (others_b falsified) in_l (codes_apart l a na)));
 }
@@ -109,14 +110,14 @@ picked trail head clause a b low in_a in_b ne codes high_a others_a high_b other
 -- ---- one more clause is watched
 
 -- what the two entries of a new clause are, whose number is n
-pub record IsNew (trail : List Entry) (head n : ℕ) (clause now : List Literal) : Type 0 where
+pub record IsNew (trail : List Entry) (heads : ℕ → ℕ) (n : ℕ) (clause now : List Literal) : Type 0 where
   pub long : (e : ℕ) → e / 2 ≡ n → 1 ≤ (lit_at now e).var → 2 ≤ length clause
   pub pairs : (e f : ℕ) → ArePartners e f → e / 2 ≡ n → 2 ≤ length clause → IsPair clause (lit_at now e) (lit_at now f)
-  pub fresh : (e f : ℕ) → ArePartners e f → e / 2 ≡ n → 2 ≤ length clause → IsFresh trail head clause (lit_at now e) (lit_at now f)
+  pub fresh : (e f : ℕ) → ArePartners e f → e / 2 ≡ n → 2 ≤ length clause → IsFresh trail (heads e) clause (lit_at now e) (lit_at now f)
   pub bottom : length clause < 2 → level_of trail ≡ 0
 
-module _ (clauses : List (List Literal)) (lits : List Literal) (trail : List Entry) (checked head : ℕ) (w : AreWatched clauses lits trail checked head) (within : checked ≤ length clauses) (clause now : List Literal)
-    (size : length now ≡ length lits + 2) (same : (x : ℕ) → x < length lits → lit_at now x ≡ lit_at lits x) (new : IsNew trail head (length clauses) clause now) where
+module _ (clauses : List (List Literal)) (lits : List Literal) (trail : List Entry) (checked : ℕ) (heads : ℕ → ℕ) (w : AreWatched clauses lits trail checked heads) (within : checked ≤ length clauses) (clause now : List Literal) (then : ℕ → ℕ)
+    (size : length now ≡ length lits + 2) (same : (x : ℕ) → x < length lits → lit_at now x ≡ lit_at lits x) (stays : (x : ℕ) → x < length lits → then x ≡ heads x) (new : IsNew trail then (length clauses) clause now) where
   abbrev n : ℕ
   n = length clauses
 
@@ -135,7 +136,7 @@ module _ (clauses : List (List Literal)) (lits : List Literal) (trail : List Ent
   is_new : (e : ℕ) → e < length now → e / 2 ≢ n → e / 2 < n
   is_new e lt ne = omega (arith, lt, size, w.entries, ne)
 
-  pub watched_added : AreWatched more now trail checked head
+  pub watched_added : AreWatched more now trail checked then
   watched_added = record {
     entries = omega (arith, size, w.entries, length_push clauses clause);
     long = λ e lt some. ⊎_elim
@@ -156,14 +157,14 @@ module _ (clauses : List (List Literal)) (lits : List Literal) (trail : List Ent
     guarded = λ e f p lt lg.
         let old : e / 2 < n = omega (arith, lt, within) in
         let old_f : f / 2 < n = omega (arith, old, p.clause) in
-        rw (same e (old_place e old), same f (old_place f old_f)) (w.guarded e f p lt (subst (λ (c : List Literal). 2 ≤ length c) (old_clause (e / 2) old) lg));
+        rw (stays e (old_place e old), same e (old_place e old), same f (old_place f old_f)) (w.guarded e f p lt (subst (λ (c : List Literal). 2 ≤ length c) (old_clause (e / 2) old) lg));
     fresh = λ e f p lt le lg. ⊎_elim
         (λ (is : e / 2 ≡ n).
-        subst (λ (c : List Literal). IsFresh trail head c (lit_at now e) (lit_at now f)) (sym (new_clause (e / 2) is)) (new.fresh e f p is (subst (λ (c : List Literal). 2 ≤ length c) (new_clause (e / 2) is) lg)))
+        subst (λ (c : List Literal). IsFresh trail (then e) c (lit_at now e) (lit_at now f)) (sym (new_clause (e / 2) is)) (new.fresh e f p is (subst (λ (c : List Literal). 2 ≤ length c) (new_clause (e / 2) is) lg)))
         (λ (ne : e / 2 ≢ n).
         let old = is_new e lt ne in
         let old_f : f / 2 < n = omega (arith, old, p.clause) in
-        rw (old_clause (e / 2) old, same e (old_place e old), same f (old_place f old_f))
+        rw (stays e (old_place e old), old_clause (e / 2) old, same e (old_place e old), same f (old_place f old_f))
         (w.fresh e f p (old_place e old) le (subst (λ (c : List Literal). 2 ≤ length c) (old_clause (e / 2) old) lg)))
         (cases_eq (e / 2) n);
     short = λ c lt small.
@@ -196,17 +197,17 @@ last_two lits e n size is = ⊎_elim
     (cases_eq e (length lits + 0))
 
 -- a clause of one literal or none watches nothing
-pub new_short : (trail : List Entry) (head n : ℕ) (clause lits : List Literal) → length lits ≡ 2 * n → length clause < 2 → level_of trail ≡ 0 → IsNew trail head n clause (lits ++ no_lit ∷ no_lit ∷ [])
-new_short trail head n clause lits size small bottom = record {
+pub new_short : (trail : List Entry) (heads : ℕ → ℕ) (n : ℕ) (clause lits : List Literal) → length lits ≡ 2 * n → length clause < 2 → level_of trail ≡ 0 → IsNew trail heads n clause (lits ++ no_lit ∷ no_lit ∷ [])
+new_short trail heads n clause lits size small bottom = record {
   long = λ e is some. absurd (omega (arith, some, ap (λ (l : Literal). l.var) (last_two lits e n size is)));
   pairs = λ e f p is lg. absurd (omega (arith, small, lg));
   fresh = λ e f p is lg. absurd (omega (arith, small, lg));
   bottom = λ h. bottom;
 }
 
-pub new_long : (trail : List Entry) (head n : ℕ) (clause lits : List Literal) (a b : Literal) → length lits ≡ 2 * n → 2 ≤ length clause → ArePicked trail head clause a b
-    → IsNew trail head n clause (set (set (lits ++ no_lit ∷ no_lit ∷ []) (2 * n) a) (2 * n + 1) b)
-new_long trail head n clause lits a b size lg pick =
+pub new_long : (trail : List Entry) (heads : ℕ → ℕ) (n : ℕ) (clause lits : List Literal) (a b : Literal) → length lits ≡ 2 * n → 2 ≤ length clause → ArePicked trail clause a b
+    → IsNew trail heads n clause (set (set (lits ++ no_lit ∷ no_lit ∷ []) (2 * n) a) (2 * n + 1) b)
+new_long trail heads n clause lits a b size lg pick =
     let start = lits ++ no_lit ∷ no_lit ∷ [] in
     let len : length start ≡ 2 * n + 2 = omega (arith, length-append lits (no_lit ∷ no_lit ∷ []), size) in
     let now = set (set start (2 * n) a) (2 * n + 1) b in
@@ -222,8 +223,8 @@ new_long trail head n clause lits a b size lg pick =
           ];
       fresh = λ e f p is h.
           elim (two_entries n e f p is) [
-            | inl both ↦ rw (both.0, both.1, at_a, at_b) pick.first_fresh
-            | inr both ↦ rw (both.0, both.1, at_a, at_b) pick.second_fresh
+            | inl both ↦ rw (both.0, both.1, at_a, at_b) (pick.first_fresh (heads (2 * n)))
+            | inr both ↦ rw (both.0, both.1, at_a, at_b) (pick.second_fresh (heads (2 * n + 1)))
           ];
       bottom = λ small. absurd (omega (arith, small, lg));
     }
@@ -237,17 +238,29 @@ same_before_two lits n a b size x lt =
     ∙ get_or-set_other (lits ++ no_lit ∷ no_lit ∷ []) (2 * n) x a no_lit (λ same. absurd (omega (arith, same, lt, size)))
     ∙ same_before lits x lt
 
+pub tier_before : (fars : List Bool) (x : ℕ) → x < length fars → far_at (fars ++ false ∷ false ∷ []) x ≡ far_at fars x
+tier_before fars x lt = get_or_append_left fars (false ∷ false ∷ []) false x lt
+
+pub tier_before_two : (fars : List Bool) (n : ℕ) (a b : Bool) → length fars ≡ 2 * n → (x : ℕ) → x < length fars → far_at (set (set (fars ++ false ∷ false ∷ []) (2 * n) a) (2 * n + 1) b) x ≡ far_at fars x
+tier_before_two fars n a b size x lt =
+    get_or-set_other (set (fars ++ false ∷ false ∷ []) (2 * n) a) (2 * n + 1) x b false (λ same. absurd (omega (arith, same, lt, size)))
+    ∙ get_or-set_other (fars ++ false ∷ false ∷ []) (2 * n) x a false (λ same. absurd (omega (arith, same, lt, size)))
+    ∙ tier_before fars x lt
+
 -- a clause is appended
 pub joined_added : (old new : Parts) (clause : List Literal) → AreJoined old → (level_of old.assigned.trail ≡ 0) ⊎ IsOpenBelow old.assigned.trail clause → VariablesUpTo old.assigned.vars clause → IsClause clause
-    → length new.watches.lits ≡ length old.watches.lits + 2 → ((x : ℕ) → x < length old.watches.lits → lit_at new.watches.lits x ≡ lit_at old.watches.lits x) → IsNew old.assigned.trail old.queue.head (length old.clauses.lists) clause new.watches.lits
+    → length new.watches.lits ≡ length old.watches.lits + 2 → ((x : ℕ) → x < length old.watches.lits → lit_at new.watches.lits x ≡ lit_at old.watches.lits x)
+    → length new.watches.fars ≡ length old.watches.fars + 2 → ((x : ℕ) → x < length old.watches.fars → far_at new.watches.fars x ≡ far_at old.watches.fars x) → IsNew old.assigned.trail (heads_of old.queue new.watches.fars) (length old.clauses.lists) clause new.watches.lits
     → new.clauses.lists ≡ old.clauses.lists ++ clause ∷ [] → new.watches.lists ≡ old.watches.lists → new.assigned ≡ old.assigned → new.queue ≡ old.queue → AreJoined new
-joined_added old new clause j may known is_clause size same fresh clauses lists assigned queue = record {
+joined_added old new clause j may known is_clause size same more stays fresh clauses lists assigned queue = record {
   grounded = rw (clauses, assigned) (grounded_more old.clauses.lists clause old.assigned.trail j.grounded may);
   watched = rw (clauses, assigned, queue)
-      (watched_added old.clauses.lists old.watches.lits old.assigned.trail old.queue.checked old.queue.head j.watched j.checked_in clause new.watches.lits size same fresh);
+      (watched_added old.clauses.lists old.watches.lits old.assigned.trail old.queue.checked (heads_of old.queue old.watches.fars) j.watched j.checked_in clause new.watches.lits (heads_of old.queue new.watches.fars) size same
+      (λ x lt. ap (place_of old.queue) (stays x (omega (arith, lt, j.fars)))) fresh);
   checked_in = rw (clauses, queue) (omega (arith, j.checked_in, length_push old.clauses.lists clause));
   head_in = rw (assigned, queue) j.head_in;
   present = rw (assigned, queue) j.present;
+  fars = omega (arith, size, more, j.fars);
   lists = rw (lists, assigned) j.lists;
   in_range = rw (clauses, assigned) (All-push (VariablesUpTo old.assigned.vars) old.clauses.lists clause j.in_range known);
   clauses = rw clauses (All-push IsClause old.clauses.lists clause j.clauses is_clause);

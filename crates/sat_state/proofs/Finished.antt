@@ -1,12 +1,14 @@
 -- Where the clauses force nothing more, propagation finds nothing.
 use Rattle.std.proofs.Common.{◌≡◌, ℕ, ◌+◌, ◌<◌, ◌≤◌, true, false, Option, Some, None, IsSome, IsNone, List, [], ◌∷◌, length, take, drop, get_or, All, Contains, refl, sym, ap, ◌∙◌, subst, ⊎_elim, arith}
+use Rattle.std.specs.Prelude.{nat_eq, ◌&&◌}
 use Rattle.std.specs.Option.{IfSome}
-use Rattle.std.proofs.lemmas.Bool.{cases_lt}
+use Rattle.std.proofs.lemmas.Bool.{cases_lt, eq-eqb}
 use Rattle.std.proofs.lemmas.List.{take_all, get_or-drop, length-drop}
 use Rattle.cnf_core.specs.Literal.{Literal, negation}
 use Rattle.cnf_core.specs.Steps.{IsAtEnd, IsLastOf}
 use Rattle.sat_state.specs.Trail.{Entry, literals, level_of, value_of, HasReason, Gives, StandsOn, IsGrounded, NamesFalsified}
-use Rattle.sat_state.specs.Joined.{some_entry}
+use Rattle.sat_state.specs.Joined.{some_entry, IsAllSeen}
+use Rattle.sat_state.specs.declared.parts.Parts.{Parts}
 use Rattle.sat_state.proofs.Literals.{not_true, not_false}
 use Rattle.sat_state.proofs.Ends.{all_forced, none_falsified, none_unit, not_among}
 
@@ -41,3 +43,8 @@ no_more clauses old new grounded front level ends = ⊎_elim
 pub no_conflict : (found : Option ℕ) (clauses : List (List Literal)) (trail : List Entry) → IsAtEnd (literals trail) clauses → IfSome found (NamesFalsified clauses trail) → IsNone found
 no_conflict None clauses trail ends named = refl
 no_conflict (Some n) clauses trail ends named = absurd (none_falsified (literals trail) clauses ends n [] named.there named.falsified)
+
+-- where all was looked at, the state is seen to be at its end
+pub seen_at_end : (p : Parts) → IsAllSeen p → (nat_eq p.queue.checked (length p.clauses.lists) && nat_eq p.queue.head (length p.assigned.trail) && nat_eq p.queue.far (length p.assigned.trail)) ≡ true
+seen_at_end p seen =
+    rw (eq-eqb p.queue.checked (length p.clauses.lists) seen.checked, eq-eqb p.queue.head (length p.assigned.trail) (seen.head false), eq-eqb p.queue.far (length p.assigned.trail) (seen.head true)) refl

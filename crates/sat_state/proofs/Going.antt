@@ -1,6 +1,6 @@
 -- The parts of a state, as propagation goes on.
 use Rattle.std.proofs.Common.{◌≡◌, ◌≢◌, ℕ, ◌+◌, ◌-◌, ◌*◌, ◌/◌, ◌<◌, ◌≤◌, Bool, true, false, is_none, Option, Some, None, List, [], ◌∷◌, ◌++◌, length, take, drop, get_or, set, filter, nat_le, All, Contains, refl, sym, ap, ◌∙◌, subst, inl, inr, ◌⊎◌, ⊎_elim, arith}
-use Rattle.std.proofs.lemmas.Bool.{cases_eq}
+use Rattle.std.proofs.lemmas.Bool.{cases_eq, true≢false, false≢true}
 use Rattle.std.proofs.lemmas.List.{take_all, take_at, take-append-le, drop-append-le, drop_all, drop_more, length_push, length-append, length-set, get_or-set_same, get_or-set_other, get_or-drop, length-drop}
 use Rattle.std.proofs.lemmas.List.Elements.{All-nil, All-push, All-same, All-contains, All-weaker}
 use Rattle.cnf_core.specs.Literal.{Literal, negation, is_among, code_of, IsClause, VariablesUpTo}
@@ -9,17 +9,19 @@ use Rattle.cnf_core.proofs.Members.{Contains-here, Contains-cases, none_in_nil}
 use Rattle.sat_state.specs.Trail.{Entry, literals, level_of, next_level, value_of, Gives, IsFalsified, IsGrounded}
 use Rattle.sat_state.specs.Stored.{Stored, clause_at}
 use Rattle.sat_state.specs.Assigned.{Assigned}
-use Rattle.sat_state.specs.Watching.{no_lit, lit_at, IsNext}
+use Rattle.sat_state.specs.Watching.{no_lit, lit_at}
+use Rattle.sat_state.specs.Tiered.{far_at, IsNext}
 use Rattle.sat_state.specs.View.{IsGuarded}
-use Rattle.sat_state.specs.Guards.{is_false, IsTrueBy, IsPair, ArePartners}
-use Rattle.sat_state.specs.Joined.{AreJoined, GoesOn, IsAllSeen, IsWalking, some_entry}
+use Rattle.sat_state.specs.Guards.{is_false, IsTrueBy, IsPair, ArePartners, AreWatched}
+use Rattle.sat_state.specs.Joined.{AreJoined, GoesOn, IsAllSeen, IsInWalk, IsWalking, some_entry, place_of, heads_of}
+use Rattle.sat_state.specs.declared.parts.Queue.{Queue}
 use Rattle.sat_state.specs.declared.parts.Parts.{Parts}
 use Rattle.sat_state.proofs.Literals.{Contains-from_among}
 use Rattle.sat_state.proofs.Levels.{level_push, levels_within}
 use Rattle.sat_state.proofs.Settling.{front_again}
 use Rattle.sat_state.proofs.Ends.{consistent, apart_from_grounded, not_among, none_falsified}
 use Rattle.sat_state.proofs.Grounds.{grounded_push, next_stands, literals_push}
-use Rattle.sat_state.proofs.Guarded.{turned, literals_grow, watched_push, watched_checked, watched_head, watched_moved, at_end, watched_back}
+use Rattle.sat_state.proofs.Guarded.{turned, literals_grow, watched_push, watched_checked, watched_walked, watched_moved, at_end, watched_back}
 
 -- a literal that is neither true nor false is of a variable without a value
 pub free_literal : (trues : List Literal) (l : Literal) → is_among trues l ≡ false → is_among trues (negation l) ≡ false → value_of trues l.var ≡ None
@@ -46,16 +48,16 @@ module _ (p : Parts) (j : AreJoined p) where
   joined_low = levels_within p.clauses.lists p.assigned.trail j.grounded
 
   -- the next entry of the trail is of its level
-  pub next_level_is : p.queue.head < length p.assigned.trail → (get_or p.assigned.trail p.queue.head some_entry).level ≡ level_of p.assigned.trail
-  next_level_is more =
-      let h = p.queue.head in
+  pub next_level_is : (far : Bool) → place_of p.queue far < length p.assigned.trail → (get_or p.assigned.trail (place_of p.queue far) some_entry).level ≡ level_of p.assigned.trail
+  next_level_is far more =
+      let h = place_of p.queue far in
       let trail = p.assigned.trail in
       let there : 0 < length (drop h trail) = omega (arith, length-drop h trail, more) in
       let is : get_or (drop h trail) 0 some_entry ≡ get_or trail h some_entry = get_or-drop h trail 0 some_entry ∙ ap (λ (n : ℕ). get_or trail n some_entry) (let e : h + 0 ≡ h = omega arith in e) in
-      sym (ap (λ (e : Entry). e.level) is) ∙ j.present 0 some_entry there
+      sym (ap (λ (e : Entry). e.level) is) ∙ j.present far 0 some_entry there
 
   pub joined_end : IsAllSeen p → IsAtEnd (literals p.assigned.trail) p.clauses.lists
-  joined_end seen = at_end p.clauses.lists p.watches.lits p.assigned.trail p.queue.checked p.queue.head j.watched joined_consistent joined_low seen.checked seen.head
+  joined_end seen = at_end p.clauses.lists p.watches.lits p.assigned.trail p.queue.checked (heads_of p.queue p.watches.fars) j.watched joined_consistent joined_low seen.checked (λ e. seen.head (far_at p.watches.fars e))
 
   pub var_known : (number : ℕ) (l : Literal) → number < length p.clauses.lists → Contains (clause_at p.clauses.lists number) l → l.var ≤ p.assigned.vars
   var_known number l there in_clause = All-contains (λ (x : Literal). x.var ≤ p.assigned.vars) (clause_at p.clauses.lists number) l (j.in_range number [] there) in_clause
@@ -72,21 +74,22 @@ module _ (p : Parts) (j : AreJoined p) where
       code_small v false = omega arith
 
 -- the same clauses, watched literals, trail and queue
-pub joined_same : (old new : Parts) → AreJoined old → new.clauses.lists ≡ old.clauses.lists → new.watches.lits ≡ old.watches.lits → new.watches.lists ≡ old.watches.lists → new.assigned ≡ old.assigned → new.queue ≡ old.queue → AreJoined new
-joined_same old new j clauses lits lists assigned queue = record {
+pub joined_same : (old new : Parts) → AreJoined old → new.clauses.lists ≡ old.clauses.lists → new.watches.lits ≡ old.watches.lits → new.watches.fars ≡ old.watches.fars → new.watches.lists ≡ old.watches.lists → new.assigned ≡ old.assigned → new.queue ≡ old.queue → AreJoined new
+joined_same old new j clauses lits fars lists assigned queue = record {
   grounded = rw (clauses, assigned) j.grounded;
-  watched = rw (clauses, lits, assigned, queue) j.watched;
+  watched = rw (clauses, lits, fars, assigned, queue) j.watched;
   checked_in = rw (clauses, queue) j.checked_in;
   head_in = rw (assigned, queue) j.head_in;
   present = rw (assigned, queue) j.present;
+  fars = rw (lits, fars) j.fars;
   lists = rw (lists, assigned) j.lists;
   in_range = rw (clauses, assigned) j.in_range;
   clauses = rw clauses j.clauses;
 }
 
-pub goes_same : (old new : Parts) → AreJoined old → new.clauses.lists ≡ old.clauses.lists → new.watches.lits ≡ old.watches.lits → new.watches.lists ≡ old.watches.lists → new.assigned ≡ old.assigned → new.queue ≡ old.queue → GoesOn old new
-goes_same old new j clauses lits lists assigned queue = record {
-  joined = joined_same old new j clauses lits lists assigned queue;
+pub goes_same : (old new : Parts) → AreJoined old → new.clauses.lists ≡ old.clauses.lists → new.watches.lits ≡ old.watches.lits → new.watches.fars ≡ old.watches.fars → new.watches.lists ≡ old.watches.lists → new.assigned ≡ old.assigned → new.queue ≡ old.queue → GoesOn old new
+goes_same old new j clauses lits fars lists assigned queue = record {
+  joined = joined_same old new j clauses lits fars lists assigned queue;
   clauses = clauses;
   vars = ap (λ (a : Assigned). a.vars) assigned;
   front = ap (λ (a : Assigned). take (length old.assigned.trail) a.trail) assigned ∙ take_all (length old.assigned.trail) old.assigned.trail (omega arith);
@@ -94,7 +97,7 @@ goes_same old new j clauses lits lists assigned queue = record {
 }
 
 pub goes_here : (p : Parts) → AreJoined p → GoesOn p p
-goes_here p j = goes_same p p j refl refl refl refl refl
+goes_here p j = goes_same p p j refl refl refl refl refl refl
 
 pub goes_again : (first second third : Parts) → GoesOn first second → GoesOn second third → GoesOn first third
 goes_again first second third one two = record {
@@ -116,13 +119,15 @@ goes_forced old new l number j there gives free clauses watches queue vars more 
     record {
       joined = record {
         grounded = rw (clauses, more) (grounded_push old.clauses.lists trail x j.grounded (next_stands old.clauses.lists trail l (Some number) free (there, gives)));
-        watched = rw (clauses, watches, queue, more) (watched_push old.clauses.lists old.watches.lits trail old.queue.checked old.queue.head j.watched x j.head_in (λ c lt le. level));
+        watched = rw (clauses, watches, queue, more) (watched_push old.clauses.lists old.watches.lits trail old.queue.checked (heads_of old.queue old.watches.fars) j.watched x (λ e. j.head_in (far_at old.watches.fars e)) (λ c lt le. level));
         checked_in = rw (clauses, queue) j.checked_in;
-        head_in = rw (queue, more) (omega (arith, j.head_in, length_push trail x));
-        present = rw (queue, more)
-            (subst (All (λ (e : Entry). e.level ≡ level_of (trail ++ x ∷ []))) (sym (drop-append-le old.queue.head trail (x ∷ []) j.head_in))
-            (subst (λ (n : ℕ). All (λ (e : Entry). e.level ≡ n) (drop old.queue.head trail ++ x ∷ [])) (sym level)
-            (All-push (λ (e : Entry). e.level ≡ level_of trail) (drop old.queue.head trail) x j.present (omega arith))));
+        head_in = rw (queue, more) (λ far. omega (arith, j.head_in far, length_push trail x));
+        present = rw (queue, more) (λ far.
+            let h = place_of old.queue far in
+            subst (All (λ (e : Entry). e.level ≡ level_of (trail ++ x ∷ []))) (sym (drop-append-le h trail (x ∷ []) (j.head_in far)))
+            (subst (λ (n : ℕ). All (λ (e : Entry). e.level ≡ n) (drop h trail ++ x ∷ [])) (sym level)
+            (All-push (λ (e : Entry). e.level ≡ level_of trail) (drop h trail) x (j.present far) (omega arith))));
+        fars = rw watches j.fars;
         lists = rw (watches, vars) j.lists;
         in_range = rw (clauses, vars) j.in_range;
         clauses = rw clauses j.clauses;
@@ -136,16 +141,17 @@ goes_forced old new l number j there gives free clauses watches queue vars more 
 -- a clause was looked at
 pub goes_checked : (old : Parts) → AreJoined old → old.queue.checked < length old.clauses.lists
     → HasTrueLiteral (literals old.assigned.trail) (clause_at old.clauses.lists old.queue.checked) ⊎ HasTwoNotFalse (literals old.assigned.trail) (clause_at old.clauses.lists old.queue.checked)
-    → (new : Parts) → new ≡ record old { queue = record { checked = old.queue.checked + 1; head = old.queue.head } } → GoesOn old new
+    → (new : Parts) → new ≡ record old { queue = record { checked = old.queue.checked + 1; head = old.queue.head; far = old.queue.far } } → GoesOn old new
 goes_checked old j there settled new is =
-    let watched = watched_checked old.clauses.lists old.watches.lits old.assigned.trail old.queue.checked old.queue.head j.watched (joined_consistent old j) (joined_low old j) there settled in
+    let watched = watched_checked old.clauses.lists old.watches.lits old.assigned.trail old.queue.checked (heads_of old.queue old.watches.fars) j.watched (joined_consistent old j) (joined_low old j) there settled in
     subst (GoesOn old) (sym is) (record {
       joined = record {
         grounded = j.grounded;
         watched = watched;
         checked_in = omega (arith, there);
-        head_in = j.head_in;
-        present = j.present;
+        head_in = λ far. j.head_in far;
+        present = λ far. j.present far;
+        fars = j.fars;
         lists = j.lists;
         in_range = j.in_range;
         clauses = j.clauses;
@@ -156,36 +162,91 @@ goes_checked old j there settled new is =
       level = refl;
     })
 
--- the clauses of a literal were looked at
-pub goes_walked : (old : Parts) → AreJoined old → IsWalking old → old.watches.waiting ≡ [] → (new : Parts) → new ≡ record old { queue = record { checked = old.queue.checked; head = old.queue.head + 1 } } → GoesOn old new
-goes_walked old j w none new is =
-    let each : (e f : ℕ) → ArePartners e f → e < length old.watches.lits → lit_at old.watches.lits e ≡ old.watches.walked → Contains (literals old.assigned.trail) (lit_at old.watches.lits f)
-    = λ e f p lt same. ⊎_elim
+same_tier : (a b : Bool) → (a ≡ b) ⊎ (a ≢ b)
+same_tier true true = inl refl
+same_tier false false = inl refl
+same_tier true false = inr true≢false
+same_tier false true = inr false≢true
+
+-- the queue after the near or the far list of the next literal was walked
+pub record IsStep (far : Bool) (old new : Queue) : Type 0 where
+  pub checked : new.checked ≡ old.checked
+  pub walked : place_of new far ≡ place_of old far + 1
+  pub other : (tier : Bool) → tier ≢ far → place_of new tier ≡ place_of old tier
+
+pub near_step : (old : Queue) → IsStep false old (record { checked = old.checked; head = old.head + 1; far = old.far })
+near_step old = record { checked = refl; walked = refl; other = other }
+  where
+    other : (tier : Bool) → tier ≢ false → place_of (record { checked = old.checked; head = old.head + 1; far = old.far }) tier ≡ place_of old tier
+    other true ne = refl
+    other false ne = absurd (ne refl)
+
+pub far_step : (old : Queue) → IsStep true old (record { checked = old.checked; head = old.head; far = old.far + 1 })
+far_step old = record { checked = refl; walked = refl; other = other }
+  where
+    other : (tier : Bool) → tier ≢ true → place_of (record { checked = old.checked; head = old.head; far = old.far + 1 }) tier ≡ place_of old tier
+    other false ne = refl
+    other true ne = absurd (ne refl)
+
+-- a tier is the one of a step, or stays
+stepped : (far : Bool) (old new : Queue) → IsStep far old new → (tier : Bool) → (place_of new tier ≡ place_of old tier) ⊎ ((place_of new tier ≡ place_of old tier + 1) × (tier ≡ far))
+stepped far old new step tier = ⊎_elim
+    (λ (same : tier ≡ far). inr (ap (place_of new) same ∙ step.walked ∙ ap (λ (t : Bool). place_of old t + 1) (sym same), same))
+    (λ (ne : tier ≢ far). inl (step.other tier ne))
+    (same_tier tier far)
+
+later_present : (trail : List Entry) (n h : ℕ) → h < length trail → All (λ e. e.level ≡ n) (drop h trail) → All (λ e. e.level ≡ n) (drop (h + 1) trail)
+later_present trail n h more present = λ k d lt.
+    let there : k + 1 < length (drop h trail) = omega (arith, lt, length-drop (h + 1) trail, length-drop h trail, more) in
+    let same : get_or (drop (h + 1) trail) k d ≡ get_or (drop h trail) (k + 1) d
+    = get_or-drop (h + 1) trail k d ∙ ap (λ (m : ℕ). get_or trail m d) (let e : (h + 1) + k ≡ h + (k + 1) = omega arith in e) ∙ sym (get_or-drop h trail (k + 1) d) in
+    ap (λ (e : Entry). e.level) same ∙ present (k + 1) d there
+
+-- the clauses of a literal's near or far list were looked at
+pub goes_walked : (old : Parts) → AreJoined old → IsWalking old → old.watches.waiting ≡ [] → (queue : Queue) → IsStep old.watches.walks_far old.queue queue → (new : Parts) → new ≡ record old { queue = queue } → GoesOn old new
+goes_walked old j w none queue step new is =
+    let trail = old.assigned.trail in
+    let tier = λ (e : ℕ). far_at old.watches.fars e in
+    let each : (e : ℕ) → tier e ≡ old.watches.walks_far → e < length old.watches.lits → lit_at old.watches.lits e ≡ old.watches.walked → (f : ℕ) → ArePartners e f → Contains (literals trail) (lit_at old.watches.lits f)
+    = λ e far lt same f p. ⊎_elim
     (λ (waits : Contains old.watches.waiting e). absurd (none_in_nil e (subst (λ (ws : List ℕ). Contains ws e) none waits)))
-    (λ (done : Contains (literals old.assigned.trail) (lit_at old.watches.lits f)). done)
-    (w.partners e f p lt same) in
-    let watched = watched_head old.clauses.lists old.watches.lits old.assigned.trail old.queue.checked old.queue.head j.watched (joined_consistent old j) (joined_low old j) w.checked w.more old.watches.walked w.walked
-    (next_level_is old j w.more) each in
+    (λ (done : Contains (literals trail) (lit_at old.watches.lits f)). done)
+    (w.partners e f p (record { there = lt; literal = same; tier = far })) in
+    let watched = watched_walked old.clauses.lists old.watches.lits trail old.queue.checked (heads_of old.queue old.watches.fars) j.watched (joined_consistent old j) (joined_low old j) w.checked
+    (place_of old.queue old.watches.walks_far) w.more old.watches.walked w.walked (next_level_is old j old.watches.walks_far w.more) (heads_of queue old.watches.fars)
+    (λ e. ⊎_elim
+    (λ (same : place_of queue (tier e) ≡ place_of old.queue (tier e)). inl same)
+    (λ (at : (place_of queue (tier e) ≡ place_of old.queue (tier e) + 1) × (tier e ≡ old.watches.walks_far)). inr (at.0, ap (place_of old.queue) at.1, each e at.1))
+    (stepped old.watches.walks_far old.queue queue step (tier e))) in
     subst (GoesOn old) (sym is) (record {
       joined = record {
         grounded = j.grounded;
-        watched = watched;
-        checked_in = j.checked_in;
-        head_in = omega (arith, w.more);
-        present = λ k d h.
-            let there : k + 1 < length (drop old.queue.head old.assigned.trail) = omega (arith, h, length-drop (old.queue.head + 1) old.assigned.trail, length-drop old.queue.head old.assigned.trail, w.more) in
-            let same : get_or (drop (old.queue.head + 1) old.assigned.trail) k d ≡ get_or (drop old.queue.head old.assigned.trail) (k + 1) d
-            = get_or-drop (old.queue.head + 1) old.assigned.trail k d ∙ ap (λ (n : ℕ). get_or old.assigned.trail n d) (let e : (old.queue.head + 1) + k ≡ old.queue.head + (k + 1) = omega arith in e) ∙ sym (get_or-drop old.queue.head old.assigned.trail (k + 1) d) in
-            ap (λ (e : Entry). e.level) same ∙ j.present (k + 1) d there;
+        watched = subst (λ (n : ℕ). AreWatched old.clauses.lists old.watches.lits trail n (heads_of queue old.watches.fars)) (sym step.checked) watched;
+        checked_in = omega (arith, step.checked, j.checked_in);
+        head_in = λ far. ⊎_elim
+            (λ (same : place_of queue far ≡ place_of old.queue far). omega (arith, same, j.head_in far))
+            (λ (at : (place_of queue far ≡ place_of old.queue far + 1) × (far ≡ old.watches.walks_far)). omega (arith, at.0, ap (place_of old.queue) at.1, w.more))
+            (stepped old.watches.walks_far old.queue queue step far);
+        present = λ far. ⊎_elim
+            (λ (same : place_of queue far ≡ place_of old.queue far). subst (λ (n : ℕ). All (λ (e : Entry). e.level ≡ level_of trail) (drop n trail)) (sym same) (j.present far))
+            (λ (at : (place_of queue far ≡ place_of old.queue far + 1) × (far ≡ old.watches.walks_far)).
+            subst (λ (n : ℕ). All (λ (e : Entry). e.level ≡ level_of trail) (drop n trail)) (sym at.0)
+            (later_present trail (level_of trail) (place_of old.queue far) (omega (arith, ap (place_of old.queue) at.1, w.more)) (j.present far)))
+            (stepped old.watches.walks_far old.queue queue step far);
+        fars = j.fars;
         lists = j.lists;
         in_range = j.in_range;
         clauses = j.clauses;
       };
       clauses = refl;
       vars = refl;
-      front = take_all (length old.assigned.trail) old.assigned.trail (omega arith);
+      front = take_all (length trail) trail (omega arith);
       level = refl;
     })
+
+pub both_tiers : (queue : Queue) (n : ℕ) → queue.head ≡ n → queue.far ≡ n → (far : Bool) → place_of queue far ≡ n
+both_tiers queue n near far true = far
+both_tiers queue n near far false = near
 
 -- ---- one entry of a walk
 
@@ -214,21 +275,24 @@ module _ (old : Parts) (j : AreJoined old) (w : IsWalking old) (e : ℕ) (next :
   pub walked_false : Contains (literals old.assigned.trail) (negation old.watches.walked)
   walked_false =
       subst (λ (l : Literal). Contains (literals old.assigned.trail) l) w.walked
-      (Rattle.sat_state.proofs.Guarded.literal_of_entry old.assigned.trail (get_or old.assigned.trail old.queue.head some_entry)
-      (Rattle.sat_state.proofs.Guarded.entry_at_place old.assigned.trail old.queue.head some_entry w.more))
+      (Rattle.sat_state.proofs.Guarded.literal_of_entry old.assigned.trail (get_or old.assigned.trail (place_of old.queue old.watches.walks_far) some_entry)
+      (Rattle.sat_state.proofs.Guarded.entry_at_place old.assigned.trail (place_of old.queue old.watches.walks_far) some_entry w.more))
 
   -- the entry is kept where the other literal is true
   pub walking_kept : (f : ℕ) → ArePartners e f → (new : Parts) → Contains (literals new.assigned.trail) (lit_at old.watches.lits f) → ((l : Literal) → Contains (literals old.assigned.trail) l → Contains (literals new.assigned.trail) l)
-      → get_or new.assigned.trail new.queue.head some_entry ≡ get_or old.assigned.trail old.queue.head some_entry → length old.assigned.trail ≤ length new.assigned.trail
-      → new.clauses.lists ≡ old.clauses.lists → new.queue ≡ old.queue → new.watches.lits ≡ old.watches.lits → new.watches.walked ≡ old.watches.walked → new.watches.waiting ≡ drop 1 old.watches.waiting → IsWalking new
-  walking_kept f p new is_true grows at longer clauses queue lits walked waiting = record {
+      → get_or new.assigned.trail (place_of old.queue old.watches.walks_far) some_entry ≡ get_or old.assigned.trail (place_of old.queue old.watches.walks_far) some_entry → length old.assigned.trail ≤ length new.assigned.trail
+      → new.clauses.lists ≡ old.clauses.lists → new.queue ≡ old.queue → new.watches.lits ≡ old.watches.lits → new.watches.fars ≡ old.watches.fars → new.watches.walked ≡ old.watches.walked → new.watches.walks_far ≡ old.watches.walks_far → new.watches.waiting ≡ drop 1 old.watches.waiting → IsWalking new
+  walking_kept f p new is_true grows at longer clauses queue lits fars walked walks_far waiting = record {
     checked = rw (clauses, queue) w.checked;
-    more = rw queue (omega (arith, w.more, longer));
+    more = rw (queue, walks_far) (omega (arith, w.more, longer));
     some = rw walked w.some;
-    walked = ap (λ (x : Entry). x.literal) at ∙ w.walked ∙ ap negation (sym walked);
-    partners = λ x y q lt same.
-        let old_in : x < length old.watches.lits = omega (arith, lt, ap length lits) in
-        let old_same : lit_at old.watches.lits x ≡ old.watches.walked = ap (λ (ls : List Literal). lit_at ls x) (sym lits) ∙ same ∙ walked in
+    walked = rw (queue, walks_far) (ap (λ (x : Entry). x.literal) at ∙ w.walked ∙ ap negation (sym walked));
+    partners = λ x y q in_walk.
+        let old_in : IsInWalk old x = record {
+          there = omega (arith, in_walk.there, ap length lits);
+          literal = ap (λ (ls : List Literal). lit_at ls x) (sym lits) ∙ in_walk.literal ∙ walked;
+          tier = ap (λ (fs : List Bool). far_at fs x) (sym fars) ∙ in_walk.tier ∙ walks_far;
+        } in
         ⊎_elim
         (λ (here : x ≡ e).
         let q_e : ArePartners e y = subst (λ (z : ℕ). ArePartners z y) here q in
@@ -239,15 +303,15 @@ module _ (old : Parts) (j : AreJoined old) (w : IsWalking old) (e : ℕ) (next :
         (λ (waits : Contains old.watches.waiting x). inl (subst (λ (ws : List ℕ). Contains ws x) (sym waiting) (rest_of old.watches.waiting e x next.first waits ne)))
         (λ (done : Contains (literals old.assigned.trail) (lit_at old.watches.lits y)).
         inr (subst (λ (ls : List Literal). Contains (literals new.assigned.trail) (lit_at ls y)) (sym lits) (grows (lit_at old.watches.lits y) done)))
-        (w.partners x y q old_in old_same))
+        (w.partners x y q old_in))
         (cases_eq x e);
   }
 
   -- the entry moves to another literal of its clause, which isn't false
   module _ (l : Literal) (lg : 2 ≤ length (clause_at old.clauses.lists (e / 2))) (in_clause : Contains (clause_at old.clauses.lists (e / 2)) l) (not_false : is_false (literals old.assigned.trail) l ≡ false)
       (f : ℕ) (p : ArePartners e f) (not_other : l ≢ lit_at old.watches.lits f) (new : Parts) (assigned : new.assigned ≡ old.assigned) (clauses : new.clauses.lists ≡ old.clauses.lists) (queue : new.queue ≡ old.queue)
-      (lists : new.watches.lists ≡ old.watches.lists) (walked : new.watches.walked ≡ old.watches.walked) (waiting : new.watches.waiting ≡ drop 1 old.watches.waiting)
-      (lits : new.watches.lits ≡ set (set old.watches.lits e no_lit) e l) where
+      (lists : new.watches.lists ≡ old.watches.lists) (walked : new.watches.walked ≡ old.watches.walked) (walks_far : new.watches.walks_far ≡ old.watches.walks_far) (waiting : new.watches.waiting ≡ drop 1 old.watches.waiting)
+      (lits : new.watches.lits ≡ set (set old.watches.lits e no_lit) e l) (far : Bool) (fars : new.watches.fars ≡ set (set old.watches.fars e false) e far) where
     size : length new.watches.lits ≡ length old.watches.lits
     size = ap length lits ∙ length-set (set old.watches.lits e no_lit) e l ∙ length-set old.watches.lits e no_lit
 
@@ -257,17 +321,22 @@ module _ (old : Parts) (j : AreJoined old) (w : IsWalking old) (e : ℕ) (next :
     others : (x : ℕ) → x ≢ e → lit_at new.watches.lits x ≡ lit_at old.watches.lits x
     others x ne = ap (λ (ls : List Literal). lit_at ls x) lits ∙ get_or-set_other (set old.watches.lits e no_lit) e x l no_lit ne ∙ get_or-set_other old.watches.lits e x no_lit no_lit ne
 
+    tiers : (x : ℕ) → x ≢ e → far_at new.watches.fars x ≡ far_at old.watches.fars x
+    tiers x ne = ap (λ (fs : List Bool). far_at fs x) fars ∙ get_or-set_other (set old.watches.fars e false) e x far false ne ∙ get_or-set_other old.watches.fars e x false false ne
+
     pub goes_moved : GoesOn old new
     goes_moved = record {
       joined = record {
         grounded = rw (clauses, assigned) j.grounded;
         watched = rw (clauses, assigned, queue)
-            (watched_moved old.clauses.lists old.watches.lits old.assigned.trail old.queue.checked old.queue.head j.watched (joined_consistent old j) (joined_low old j) w.checked new.watches.lits e old.watches.walked l size next.there at others next.walked
+            (watched_moved old.clauses.lists old.watches.lits old.assigned.trail old.queue.checked (heads_of old.queue old.watches.fars) j.watched (joined_consistent old j) (joined_low old j) w.checked new.watches.lits
+            (heads_of old.queue new.watches.fars) e old.watches.walked l size next.there at others (λ x ne. ap (place_of old.queue) (tiers x ne)) next.walked
             walked_false lg in_clause (λ g q. subst (λ (z : ℕ). l ≢ lit_at old.watches.lits z) (sym (same_partner f e g (turned e f p) (turned e g q))) not_other)
             (not_among (literals old.assigned.trail) (negation l) not_false));
         checked_in = rw (clauses, queue) j.checked_in;
         head_in = rw (assigned, queue) j.head_in;
         present = rw (assigned, queue) j.present;
+        fars = omega (arith, ap length fars, length-set (set old.watches.fars e false) e far, length-set old.watches.fars e false, size, j.fars);
         lists = rw (lists, assigned) j.lists;
         in_range = rw (clauses, assigned) j.in_range;
         clauses = rw clauses j.clauses;
@@ -284,23 +353,24 @@ module _ (old : Parts) (j : AreJoined old) (w : IsWalking old) (e : ℕ) (next :
     pub walking_moved : IsWalking new
     walking_moved = record {
       checked = rw (clauses, queue) w.checked;
-      more = rw (assigned, queue) w.more;
+      more = rw (assigned, queue, walks_far) w.more;
       some = rw walked w.some;
-      walked = rw (assigned, queue, walked) w.walked;
-      partners = λ x y q lt same. ⊎_elim
-          (λ (here : x ≡ e). absurd (not_walked (sym at ∙ ap (lit_at new.watches.lits) (sym here) ∙ same ∙ walked)))
+      walked = rw (assigned, queue, walked, walks_far) w.walked;
+      partners = λ x y q in_walk. ⊎_elim
+          (λ (here : x ≡ e). absurd (not_walked (sym at ∙ ap (lit_at new.watches.lits) (sym here) ∙ in_walk.literal ∙ walked)))
           (λ (ne : x ≢ e).
-          let old_same : lit_at old.watches.lits x ≡ old.watches.walked = sym (others x ne) ∙ same ∙ walked in
+          let old_in : IsInWalk old x
+          = record { there = omega (arith, in_walk.there, size); literal = sym (others x ne) ∙ in_walk.literal ∙ walked; tier = sym (tiers x ne) ∙ in_walk.tier ∙ walks_far } in
           ⊎_elim
           (λ (waits : Contains old.watches.waiting x). inl (subst (λ (ws : List ℕ). Contains ws x) (sym waiting) (rest_of old.watches.waiting e x next.first waits ne)))
           (λ (done : Contains (literals old.assigned.trail) (lit_at old.watches.lits y)). ⊎_elim
           (λ (there : y ≡ e).
           let q_e : ArePartners e x = turned x e (subst (λ (z : ℕ). ArePartners x z) there q) in
           let place : e / 2 ≡ e / 2 = refl in
-          absurd ((j.watched.pairs e x q_e next.there lg).two (next.walked ∙ sym old_same)))
+          absurd ((j.watched.pairs e x q_e next.there lg).two (next.walked ∙ sym old_in.literal)))
           (λ (nf : y ≢ e). inr (subst (λ (z : Literal). Contains (literals new.assigned.trail) z) (sym (others y nf)) (rw assigned done)))
           (cases_eq y e))
-          (w.partners x y q (omega (arith, lt, size)) old_same))
+          (w.partners x y q old_in))
           (cases_eq x e);
     }
 
@@ -317,13 +387,15 @@ joined_decided old new l j seen ends free clauses watches queue vars more =
     record {
       grounded = rw (clauses, more) (grounded_push old.clauses.lists trail x j.grounded (next_stands old.clauses.lists trail l None free ends));
       watched = rw (clauses, watches, queue, more)
-          (watched_push old.clauses.lists old.watches.lits trail old.queue.checked old.queue.head j.watched x j.head_in (λ c lt le. absurd (omega (arith, lt, le, seen.checked))));
+          (watched_push old.clauses.lists old.watches.lits trail old.queue.checked (heads_of old.queue old.watches.fars) j.watched x (λ e. j.head_in (far_at old.watches.fars e)) (λ c lt le. absurd (omega (arith, lt, le, seen.checked))));
       checked_in = rw (clauses, queue) j.checked_in;
-      head_in = rw (queue, more) (omega (arith, j.head_in, length_push trail x));
-      present = rw (queue, more)
-          (subst (All (λ (e : Entry). e.level ≡ level_of (trail ++ x ∷ []))) (sym (drop-append-le old.queue.head trail (x ∷ []) j.head_in))
-          (All-push (λ (e : Entry). e.level ≡ level_of (trail ++ x ∷ [])) (drop old.queue.head trail) x
-          (none_behind trail old.queue.head (λ (e : Entry). e.level ≡ level_of (trail ++ x ∷ [])) seen.head) (omega (arith, level_push trail x))));
+      head_in = rw (queue, more) (λ far. omega (arith, j.head_in far, length_push trail x));
+      present = rw (queue, more) (λ far.
+          let h = place_of old.queue far in
+          subst (All (λ (e : Entry). e.level ≡ level_of (trail ++ x ∷ []))) (sym (drop-append-le h trail (x ∷ []) (j.head_in far)))
+          (All-push (λ (e : Entry). e.level ≡ level_of (trail ++ x ∷ [])) (drop h trail) x
+          (none_behind trail h (λ (e : Entry). e.level ≡ level_of (trail ++ x ∷ [])) (seen.head far)) (omega (arith, level_push trail x))));
+      fars = rw watches j.fars;
       lists = rw (watches, vars) j.lists;
       in_range = rw (clauses, vars) j.in_range;
       clauses = rw clauses j.clauses;
@@ -331,19 +403,23 @@ joined_decided old new l j seen ends free clauses watches queue vars more =
 
 -- literals are taken back
 pub joined_back : (old new : Parts) (level : ℕ) → AreJoined old → level < level_of old.assigned.trail → IsGrounded old.clauses.lists new.assigned.trail
-    → new.clauses ≡ old.clauses → new.watches ≡ old.watches → new.queue.checked ≡ old.queue.checked → new.queue.head ≡ length new.assigned.trail → new.assigned.vars ≡ old.assigned.vars
+    → new.clauses ≡ old.clauses → new.watches ≡ old.watches → new.queue.checked ≡ old.queue.checked → new.queue.head ≡ length new.assigned.trail → new.queue.far ≡ length new.assigned.trail → new.assigned.vars ≡ old.assigned.vars
     → new.assigned.trail ≡ filter (λ e. nat_le e.level level) old.assigned.trail → take (length new.assigned.trail) old.assigned.trail ≡ new.assigned.trail → AreJoined new
-joined_back old new level j lower grounded clauses watches checked head vars kept front = record {
-  grounded = rw clauses grounded;
-  watched = rw (clauses, watches, checked, head)
-      (watched_back old.clauses.lists old.watches.lits old.assigned.trail old.queue.checked old.queue.head j.watched j.present level new.assigned.trail lower kept front);
-  checked_in = rw (clauses, checked) j.checked_in;
-  head_in = omega (arith, head);
-  present = none_behind new.assigned.trail new.queue.head (λ (e : Entry). e.level ≡ level_of new.assigned.trail) head;
-  lists = rw (watches, vars) j.lists;
-  in_range = rw (clauses, vars) j.in_range;
-  clauses = rw clauses j.clauses;
-}
+joined_back old new level j lower grounded clauses watches checked near far vars kept front =
+    let head : (tier : Bool) → place_of new.queue tier ≡ length new.assigned.trail = both_tiers new.queue (length new.assigned.trail) near far in
+    record {
+      grounded = rw clauses grounded;
+      watched = rw (clauses, watches, checked)
+          (watched_back old.clauses.lists old.watches.lits old.assigned.trail old.queue.checked (heads_of old.queue old.watches.fars) j.watched (λ e. j.present (far_at old.watches.fars e)) level new.assigned.trail lower kept front
+          (heads_of new.queue old.watches.fars) (λ e. head (far_at old.watches.fars e)));
+      checked_in = rw (clauses, checked) j.checked_in;
+      head_in = λ far. omega (arith, head far);
+      present = λ far. none_behind new.assigned.trail (place_of new.queue far) (λ (e : Entry). e.level ≡ level_of new.assigned.trail) (head far);
+      fars = rw watches j.fars;
+      lists = rw (watches, vars) j.lists;
+      in_range = rw (clauses, vars) j.in_range;
+      clauses = rw clauses j.clauses;
+    }
 
 -- ---- what the literals of a clause are
 
@@ -449,12 +525,12 @@ module _ (p : Parts) (j : AreJoined p) (n : ℕ) (there : n < length p.clauses.l
   first_guard seen =
       let a = lit_at p.watches.lits (2 * n) in
       let b = lit_at p.watches.lits (2 * n + 1) in
-      subst (All (λ (e : Entry). e.literal ≡ negation a → IsTrueBy p.assigned.trail b e.level)) (take_all p.queue.head p.assigned.trail (omega (arith, seen.head)))
+      subst (All (λ (e : Entry). e.literal ≡ negation a → IsTrueBy p.assigned.trail b e.level)) (take_all (heads_of p.queue p.watches.fars (2 * n)) p.assigned.trail (omega (arith, seen.head (far_at p.watches.fars (2 * n)))))
       (j.watched.guarded (2 * n) (2 * n + 1) sides (omega (arith, first_place, seen.checked, there)) first_long)
 
   pub second_guard : IsAllSeen p → IsGuarded p.assigned.trail (lit_at p.watches.lits (2 * n + 1)) (lit_at p.watches.lits (2 * n))
   second_guard seen =
       let a = lit_at p.watches.lits (2 * n + 1) in
       let b = lit_at p.watches.lits (2 * n) in
-      subst (All (λ (e : Entry). e.literal ≡ negation a → IsTrueBy p.assigned.trail b e.level)) (take_all p.queue.head p.assigned.trail (omega (arith, seen.head)))
+      subst (All (λ (e : Entry). e.literal ≡ negation a → IsTrueBy p.assigned.trail b e.level)) (take_all (heads_of p.queue p.watches.fars (2 * n + 1)) p.assigned.trail (omega (arith, seen.head (far_at p.watches.fars (2 * n + 1)))))
       (j.watched.guarded (2 * n + 1) (2 * n) (turned (2 * n) (2 * n + 1) sides) (omega (arith, second_place, seen.checked, there)) second_long)

@@ -2,7 +2,7 @@
 use Rattle.std.proofs.Common.{◌≡◌, ◌≢◌, ℕ, ◌+◌, ◌-◌, ◌*◌, ◌/◌, ◌<◌, ◌≤◌, true, false, List, [], ◌∷◌, ◌++◌, length, take, drop, get_or, filter, nat_le, All, Contains, refl, sym, ap, ◌∙◌, subst, inl, inr, ◌⊎◌, ⊎_elim, arith}
 use Rattle.std.proofs.lemmas.Bool.{cases_eq, cases_lt, cases_Bool, le-leb}
 use Rattle.std.proofs.lemmas.Bool.Decides.{nat_tests}
-use Rattle.std.proofs.lemmas.List.{get_or_default, get_or-map, length-map, take-append-le, take_all, get_or-take, get_or-drop, length-drop, length-take-le, length-append, get_or_append_left, get_or_push}
+use Rattle.std.proofs.lemmas.List.{get_or_default, get_or-map, length-map, take-append-le, take_all, get_or-take, get_or-drop, length-drop, length-take, length-take-le, length-append, get_or_append_left, get_or_push}
 use Rattle.std.proofs.lemmas.List.Elements.{All-nil, All-cons, All-more, All-contains, All-weaker, Contains-append_left}
 use Rattle.cnf_core.specs.Literal.{Literal, negation}
 use Rattle.cnf_core.specs.Steps.{IsAtEnd, IsConsistent, HasTrueLiteral, HasTwoNotFalse}
@@ -65,7 +65,7 @@ pair_at clause a c b d p q h = record { in_clause = subst (λ (x : Literal). Con
 pub turned : (e f : ℕ) → ArePartners e f → ArePartners f e
 turned e f p = record { clause = sym p.clause; apart = λ same. p.apart (sym same) }
 
-module _ (clauses : List (List Literal)) (lits : List Literal) (trail : List Entry) (checked head : ℕ) (w : AreWatched clauses lits trail checked head) where
+module _ (clauses : List (List Literal)) (lits : List Literal) (trail : List Entry) (checked : ℕ) (heads : ℕ → ℕ) (w : AreWatched clauses lits trail checked heads) where
   entry_in : (e : ℕ) → e / 2 < length clauses → e < length lits
   entry_in e h = omega (arith, h, w.entries)
 
@@ -74,10 +74,10 @@ module _ (clauses : List (List Literal)) (lits : List Literal) (trail : List Ent
 
   -- ---- one more literal is true
 
-  pub watched_push : (x : Entry) → head ≤ length trail → ((c : ℕ) → c < length clauses → checked ≤ c → level_of (trail ++ x ∷ []) ≡ level_of trail) → AreWatched clauses lits (trail ++ x ∷ []) checked head
+  pub watched_push : (x : Entry) → ((e : ℕ) → heads e ≤ length trail) → ((c : ℕ) → c < length clauses → checked ≤ c → level_of (trail ++ x ∷ []) ≡ level_of trail) → AreWatched clauses lits (trail ++ x ∷ []) checked heads
   watched_push x within same =
       let more = trail ++ x ∷ [] in
-      let taken : take head more ≡ take head trail = take-append-le head trail (x ∷ []) within in
+      let taken : (e : ℕ) → take (heads e) more ≡ take (heads e) trail = λ e. take-append-le (heads e) trail (x ∷ []) (within e) in
       let grows : (l : Literal) (n : ℕ) → IsTrueBy trail l n → IsTrueBy more l n
       = λ l n t. record { entry = t.entry; there = Contains-append_left trail (x ∷ []) t.entry t.there; names = t.names; low = t.low } in
       record {
@@ -87,18 +87,18 @@ module _ (clauses : List (List Literal)) (lits : List Literal) (trail : List Ent
         guarded = λ e f p lt lg.
             let a = lit_at lits e in
             let b = lit_at lits f in
-            subst (All (λ (z : Entry). z.literal ≡ negation a → IsTrueBy more b z.level)) (sym taken)
+            subst (All (λ (z : Entry). z.literal ≡ negation a → IsTrueBy more b z.level)) (sym (taken e))
             (All-weaker (λ (z : Entry). z.literal ≡ negation a → IsTrueBy trail b z.level) (λ (z : Entry). z.literal ≡ negation a → IsTrueBy more b z.level)
-            (λ z h is. grows b z.level (h is)) (take head trail) (w.guarded e f p lt lg));
+            (λ z h is. grows b z.level (h is)) (take (heads e) trail) (w.guarded e f p lt lg));
         fresh = λ e f p lt le lg.
             let a = lit_at lits e in
             let b = lit_at lits f in
             let clause = clause_at clauses (e / 2) in
-            subst (All (λ (z : Entry). z.literal ≡ negation a → (z.level ≡ level_of more) × AreOthersFalse (literals more) clause b)) (sym taken)
+            subst (All (λ (z : Entry). z.literal ≡ negation a → (z.level ≡ level_of more) × AreOthersFalse (literals more) clause b)) (sym (taken e))
             (All-weaker (λ (z : Entry). z.literal ≡ negation a → (z.level ≡ level_of trail) × AreOthersFalse (literals trail) clause b)
             (λ (z : Entry). z.literal ≡ negation a → (z.level ≡ level_of more) × AreOthersFalse (literals more) clause b)
             (λ z h is. let old = h is in (old.0 ∙ sym (same (e / 2) (clause_in e lt) le), λ l in_it ne. literals_grow trail x (negation l) (old.1 l in_it ne)))
-            (take head trail) (w.fresh e f p lt le lg));
+            (take (heads e) trail) (w.fresh e f p lt le lg));
         short = λ c lt small.
             let old = w.short c lt small in
             (old.0, All-weaker (λ (l : Literal). IsTrueBy trail l 0) (λ (l : Literal). IsTrueBy more l 0) (λ l t. grows l 0 t) (clause_at clauses c) old.1);
@@ -144,7 +144,7 @@ module _ (clauses : List (List Literal)) (lits : List Literal) (trail : List Ent
         ]
     short_true (l ∷ m ∷ clause) small settled bottom = absurd (omega arith)
 
-    pub watched_checked : checked < length clauses → HasTrueLiteral (literals trail) (clause_at clauses checked) ⊎ HasTwoNotFalse (literals trail) (clause_at clauses checked) → AreWatched clauses lits trail (checked + 1) head
+    pub watched_checked : checked < length clauses → HasTrueLiteral (literals trail) (clause_at clauses checked) ⊎ HasTwoNotFalse (literals trail) (clause_at clauses checked) → AreWatched clauses lits trail (checked + 1) heads
     watched_checked there settled = record {
       entries = w.entries;
       long = w.long;
@@ -156,7 +156,7 @@ module _ (clauses : List (List Literal)) (lits : List Literal) (trail : List Ent
           let clause = clause_at clauses (e / 2) in
           let here = subst (λ (c : ℕ). HasTrueLiteral (literals trail) (clause_at clauses c) ⊎ HasTwoNotFalse (literals trail) (clause_at clauses c)) (sym same) settled in
           All-weaker (λ (z : Entry). z.literal ≡ negation a → (z.level ≡ level_of trail) × AreOthersFalse (literals trail) clause b) (λ (z : Entry). z.literal ≡ negation a → IsTrueBy trail b z.level)
-          (λ z h is. settled_true clause b z.level here (h is)) (take head trail)
+          (λ z h is. settled_true clause b z.level here (h is)) (take (heads e) trail)
           (w.fresh e f p (entry_in e (omega (arith, same, there))) (omega (arith, same)) lg))
           (λ (ne : e / 2 ≢ checked). w.guarded e f p (omega (arith, lt, ne)) lg)
           (cases_eq (e / 2) checked);
@@ -173,19 +173,31 @@ module _ (clauses : List (List Literal)) (lits : List Literal) (trail : List Ent
 
     -- ---- the clauses of a literal were looked at
 
-    pub watched_head : checked ≡ length clauses → head < length trail → (walked : Literal) → (get_or trail head some_entry).literal ≡ negation walked → (get_or trail head some_entry).level ≡ level_of trail
-        → ((e f : ℕ) → ArePartners e f → e < length lits → lit_at lits e ≡ walked → Contains (literals trail) (lit_at lits f)) → AreWatched clauses lits trail checked (head + 1)
-    watched_head all more walked is level each = record {
+    -- how far the lists of an entry are walked, after the list of the entry at a place was
+    abbrev pub IsWalked : (place : ℕ) (walked : Literal) (e now : ℕ) → Type 0
+    IsWalked place walked e now =
+        (now ≡ heads e) ⊎ ((now ≡ heads e + 1) × (heads e ≡ place) × (e < length lits → lit_at lits e ≡ walked → (f : ℕ) → ArePartners e f → Contains (literals trail) (lit_at lits f)))
+
+    pub watched_walked : checked ≡ length clauses → (place : ℕ) → place < length trail → (walked : Literal) → (get_or trail place some_entry).literal ≡ negation walked → (get_or trail place some_entry).level ≡ level_of trail
+        → (now : ℕ → ℕ) → ((e : ℕ) → IsWalked place walked e (now e)) → AreWatched clauses lits trail checked now
+    watched_walked all place more walked is level now steps = record {
       entries = w.entries;
       long = w.long;
       pairs = w.pairs;
       guarded = λ e f p lt lg.
           let a = lit_at lits e in
           let b = lit_at lits f in
-          All-more (λ (z : Entry). z.literal ≡ negation a → IsTrueBy trail b z.level) trail head some_entry more (w.guarded e f p lt lg)
+          ⊎_elim
+          (λ (same : now e ≡ heads e). subst (λ (n : ℕ). Guards trail n a b) (sym same) (w.guarded e f p lt lg))
+          (λ (step : (now e ≡ heads e + 1) × (heads e ≡ place) × (e < length lits → lit_at lits e ≡ walked → (g : ℕ) → ArePartners e g → Contains (literals trail) (lit_at lits g))).
+          let old : Guards trail place a b = subst (λ (n : ℕ). Guards trail n a b) step.1 (w.guarded e f p lt lg) in
+          let next : now e ≡ place + 1 = step.0 ∙ ap (λ (n : ℕ). n + 1) step.1 in
+          subst (λ (n : ℕ). Guards trail n a b) (sym next)
+          (All-more (λ (z : Entry). z.literal ≡ negation a → IsTrueBy trail b z.level) trail place some_entry more old
           (λ at.
           let same : a ≡ walked = sym (negation-negation a) ∙ ap negation (sym at ∙ is) ∙ negation-negation walked in
-          true_by trail b (get_or trail head some_entry).level (each e f p (entry_in e (omega (arith, lt, all))) same) (subst (λ (m : ℕ). All (λ (z : Entry). z.level ≤ m) trail) (sym level) low));
+          true_by trail b (get_or trail place some_entry).level (step.2 (entry_in e (omega (arith, lt, all))) same f p) (subst (λ (m : ℕ). All (λ (z : Entry). z.level ≤ m) trail) (sym level) low))))
+          (steps e);
       fresh = λ e f p lt le lg. absurd (omega (arith, clause_in e lt, le, all));
       short = w.short;
       unchecked = w.unchecked;
@@ -193,10 +205,10 @@ module _ (clauses : List (List Literal)) (lits : List Literal) (trail : List Ent
 
     -- ---- an entry moves to a literal that isn't false
 
-    pub watched_moved : checked ≡ length clauses → (now : List Literal) (e : ℕ) (walked l : Literal) → length now ≡ length lits → e < length lits → lit_at now e ≡ l → ((x : ℕ) → x ≢ e → lit_at now x ≡ lit_at lits x)
+    pub watched_moved : checked ≡ length clauses → (now : List Literal) (then : ℕ → ℕ) (e : ℕ) (walked l : Literal) → length now ≡ length lits → e < length lits → lit_at now e ≡ l → ((x : ℕ) → x ≢ e → lit_at now x ≡ lit_at lits x) → ((x : ℕ) → x ≢ e → then x ≡ heads x)
         → lit_at lits e ≡ walked → Contains (literals trail) (negation walked) → 2 ≤ length (clause_at clauses (e / 2)) → Contains (clause_at clauses (e / 2)) l
-        → ((f : ℕ) → ArePartners e f → l ≢ lit_at lits f) → (Contains (literals trail) (negation l) → ⊥) → AreWatched clauses now trail checked head
-    watched_moved all now e walked l size there at others was falsified lg in_clause not_other not_false = record {
+        → ((f : ℕ) → ArePartners e f → l ≢ lit_at lits f) → (Contains (literals trail) (negation l) → ⊥) → AreWatched clauses now trail checked then
+    watched_moved all now then e walked l size there at others stays was falsified lg in_clause not_other not_false = record {
       entries = size ∙ w.entries;
       long = λ x lt some. ⊎_elim
           (λ (same : x ≡ e). subst (λ (y : ℕ). 2 ≤ length (clause_at clauses (y / 2))) (sym same) lg)
@@ -219,15 +231,17 @@ module _ (clauses : List (List Literal)) (lits : List Literal) (trail : List Ent
           (cases_eq x e);
       guarded = λ x y p lt long. ⊎_elim
           (λ (same : x ≡ e).
-          guards_at trail head (lit_at now x) l (lit_at now y) (lit_at now y) (ap (lit_at now) same ∙ at) refl
-          (λ k d h is. absurd (not_false (subst (λ (z : Literal). Contains (literals trail) z) is (head_literal head trail k d h)))))
+          guards_at trail (then x) (lit_at now x) l (lit_at now y) (lit_at now y) (ap (lit_at now) same ∙ at) refl
+          (λ k d h is. absurd (not_false (subst (λ (z : Literal). Contains (literals trail) z) is (head_literal (then x) trail k d h)))))
           (λ (ne : x ≢ e). ⊎_elim
           (λ (same : y ≡ e).
           let q : ArePartners x e = subst (λ (z : ℕ). ArePartners x z) same p in
-          let old : Guards trail head (lit_at lits x) walked = subst (λ (z : Literal). Guards trail head (lit_at lits x) z) was (w.guarded x e q lt long) in
-          guards_at trail head (lit_at now x) (lit_at lits x) (lit_at now y) l (others x ne) (ap (lit_at now) same ∙ at)
-          (λ k d h is. absurd (consistent walked (is_true_by trail walked (get_or (take head trail) k d).level (old k d h is)) falsified)))
-          (λ (nf : y ≢ e). guards_at trail head (lit_at now x) (lit_at lits x) (lit_at now y) (lit_at lits y) (others x ne) (others y nf) (w.guarded x y p lt long))
+          let old : Guards trail (heads x) (lit_at lits x) walked = subst (λ (z : Literal). Guards trail (heads x) (lit_at lits x) z) was (w.guarded x e q lt long) in
+          subst (λ (n : ℕ). Guards trail n (lit_at now x) (lit_at now y)) (sym (stays x ne))
+          (guards_at trail (heads x) (lit_at now x) (lit_at lits x) (lit_at now y) l (others x ne) (ap (lit_at now) same ∙ at)
+          (λ k d h is. absurd (consistent walked (is_true_by trail walked (get_or (take (heads x) trail) k d).level (old k d h is)) falsified))))
+          (λ (nf : y ≢ e). subst (λ (n : ℕ). Guards trail n (lit_at now x) (lit_at now y)) (sym (stays x ne))
+          (guards_at trail (heads x) (lit_at now x) (lit_at lits x) (lit_at now y) (lit_at lits y) (others x ne) (others y nf) (w.guarded x y p lt long)))
           (cases_eq y e))
           (cases_eq x e);
       fresh = λ x y p lt le long. absurd (omega (arith, clause_in x (omega (arith, lt, size)), le, all));
@@ -241,14 +255,14 @@ module _ (clauses : List (List Literal)) (lits : List Literal) (trail : List Ent
     first_in [] some = absurd (omega (arith, some))
     first_in (l ∷ clause) some = Contains-here l clause
 
-    guard_holds : (a b : Literal) → head ≡ length trail → Guards trail head a b → Contains (literals trail) (negation a) → Contains (literals trail) b
-    guard_holds a b seen guards falsified =
+    guard_holds : (head : ℕ) (a b : Literal) → head ≡ length trail → Guards trail head a b → Contains (literals trail) (negation a) → Contains (literals trail) b
+    guard_holds head a b seen guards falsified =
         let found = entry_of_literal trail (negation a) falsified in
         let whole : take head trail ≡ trail = take_all head trail (omega (arith, seen)) in
         let all = subst (All (λ (z : Entry). z.literal ≡ negation a → IsTrueBy trail b z.level)) whole guards in
         is_true_by trail b found.0.level (All-contains (λ (z : Entry). z.literal ≡ negation a → IsTrueBy trail b z.level) trail found.0 all found.1 found.2)
 
-    settled_at : checked ≡ length clauses → head ≡ length trail → (c : ℕ) → c < length clauses → HasTrueLiteral (literals trail) (clause_at clauses c) ⊎ HasTwoNotFalse (literals trail) (clause_at clauses c)
+    settled_at : checked ≡ length clauses → ((e : ℕ) → heads e ≡ length trail) → (c : ℕ) → c < length clauses → HasTrueLiteral (literals trail) (clause_at clauses c) ⊎ HasTwoNotFalse (literals trail) (clause_at clauses c)
     settled_at all seen c there = ⊎_elim
         (λ (small : length (clause_at clauses c) < 2).
         let one = w.short c (omega (arith, there, all)) small in
@@ -268,10 +282,10 @@ module _ (clauses : List (List Literal)) (lits : List Literal) (trail : List Ent
         let pair_b : IsPair (clause_at clauses c) b a = subst (λ (n : ℕ). IsPair (clause_at clauses n) b a) second (w.pairs f e (turned e f p) (entry_in f (omega (arith, second, there))) lg_f) in
         ⊎_elim
         (λ (fa : is_false (literals trail) a ≡ true).
-        inl (b, pair_b.in_clause, guard_holds a b seen (w.guarded e f p (omega (arith, first, there, all)) lg_e) (Contains-from_among (literals trail) (negation a) fa)))
+        inl (b, pair_b.in_clause, guard_holds (heads e) a b (seen e) (w.guarded e f p (omega (arith, first, there, all)) lg_e) (Contains-from_among (literals trail) (negation a) fa)))
         (λ (oa : is_false (literals trail) a ≡ false). ⊎_elim
         (λ (fb : is_false (literals trail) b ≡ true).
-        inl (a, pair_a.in_clause, guard_holds b a seen (w.guarded f e (turned e f p) (omega (arith, second, there, all)) lg_f) (Contains-from_among (literals trail) (negation b) fb)))
+        inl (a, pair_a.in_clause, guard_holds (heads f) b a (seen f) (w.guarded f e (turned e f p) (omega (arith, second, there, all)) lg_f) (Contains-from_among (literals trail) (negation b) fb)))
         (λ (ob : is_false (literals trail) b ≡ false).
         inr (record {
           one = a;
@@ -286,7 +300,7 @@ module _ (clauses : List (List Literal)) (lits : List Literal) (trail : List Ent
         (cases_Bool (is_false (literals trail) a)))
         (cases_lt (length (clause_at clauses c)) 2)
 
-    pub at_end : checked ≡ length clauses → head ≡ length trail → IsAtEnd (literals trail) clauses
+    pub at_end : checked ≡ length clauses → ((e : ℕ) → heads e ≡ length trail) → IsAtEnd (literals trail) clauses
     at_end all seen = record {
       consistent = consistent;
       settled = λ k d h.
@@ -295,37 +309,39 @@ module _ (clauses : List (List Literal)) (lits : List Literal) (trail : List Ent
 
   -- ---- literals are taken back
 
-  pub watched_back : All (λ e. e.level ≡ level_of trail) (drop head trail) → (level : ℕ) (new : List Entry) → level < level_of trail → new ≡ filter (λ e. nat_le e.level level) trail → take (length new) trail ≡ new
-      → AreWatched clauses lits new checked (length new)
-  watched_back present level new lower kept front =
+  pub watched_back : ((e : ℕ) → All (λ z. z.level ≡ level_of trail) (drop (heads e) trail)) → (level : ℕ) (new : List Entry) → level < level_of trail → new ≡ filter (λ e. nat_le e.level level) trail → take (length new) trail ≡ new
+      → (now : ℕ → ℕ) → ((e : ℕ) → now e ≡ length new) → AreWatched clauses lits new checked now
+  watched_back present level new lower kept front now reset =
       let p = λ (e : Entry). nat_le e.level level in
       let low : (e : Entry) → Contains new e → e.level ≤ level
       = λ e h. leb_true e.level level (Contains-from_filter p trail e (subst (λ (es : List Entry). Contains es e) kept h)).1 in
       let stays : (e : Entry) → Contains trail e → e.level ≤ level → Contains new e
       = λ e h le. subst (λ (es : List Entry). Contains es e) (sym kept) (Contains-filter p trail e h (le-leb e.level level le)) in
-      let whole : take (length new) new ≡ new = take_all (length new) new (omega arith) in
+      let whole : (e : ℕ) → take (now e) new ≡ new = λ e. take_all (now e) new (omega (arith, reset e)) in
       let same : (k : ℕ) (d : Entry) → k < length new → (k < length trail) × (get_or new k d ≡ get_or trail k d)
       = λ k d h.
       let len : length (take (length new) trail) ≡ length new = ap length front in
       let at = taken_within (length new) trail k d (omega (arith, len, h)) in
       (at.1, ap (λ (es : List Entry). get_or es k d) (sym front) ∙ at.2) in
-      let in_head : (k : ℕ) (d : Entry) → k < length new → k < head
-      = λ k d h. ⊎_elim
-      (λ (lt : k < head). lt)
-      (λ (ge : head ≤ k).
+      let in_head : (e k : ℕ) (d : Entry) → k < length new → k < heads e
+      = λ e k d h. ⊎_elim
+      (λ (lt : k < heads e). lt)
+      (λ (ge : heads e ≤ k).
+      let head = heads e in
       let at = same k d h in
       let j = k - head in
       let there : j < length (drop head trail) = omega (arith, length-drop head trail, at.0, ge) in
-      let up : (get_or (drop head trail) j d).level ≡ level_of trail = present j d there in
+      let up : (get_or (drop head trail) j d).level ≡ level_of trail = present e j d there in
       let is : get_or (drop head trail) j d ≡ get_or trail k d = get_or-drop head trail j d ∙ ap (λ (n : ℕ). get_or trail n d) (let whole_k : head + j ≡ k = omega (arith, ge) in whole_k) in
       let under : (get_or new k d).level ≤ level = low (get_or new k d) (entry_at_place new k d h) in
       absurd (omega (arith, up, ap (λ (e : Entry). e.level) is, ap (λ (e : Entry). e.level) at.1, under, lower)))
-      (cases_lt k head) in
-      let taken : (k : ℕ) (d : Entry) → k < length new → (k < length (take head trail)) × (get_or (take head trail) k d ≡ get_or new k d)
-      = λ k d h.
+      (cases_lt k (heads e)) in
+      let taken : (e k : ℕ) (d : Entry) → k < length new → (k < length (take (heads e) trail)) × (get_or (take (heads e) trail) k d ≡ get_or new k d)
+      = λ e k d h.
+      let head = heads e in
       let at = same k d h in
-      let less = in_head k d h in
-      (grind (arith, Rattle.std.proofs.lemmas.List.length-take), get_or-take head trail k d less ∙ sym at.1) in
+      let less : k < head = in_head e k d h in
+      (omega (arith, less, at.0, length-take head trail), get_or-take head trail k d less ∙ sym at.1) in
       let keeps : (l : Literal) (n : ℕ) → n ≤ level → IsTrueBy trail l n → IsTrueBy new l n
       = λ l n le t. record { entry = t.entry; there = stays t.entry t.there (omega (arith, t.low, le)); names = t.names; low = t.low } in
       record {
@@ -335,18 +351,18 @@ module _ (clauses : List (List Literal)) (lits : List Literal) (trail : List Ent
         guarded = λ e f q lt lg.
             let a = lit_at lits e in
             let b = lit_at lits f in
-            subst (All (λ (z : Entry). z.literal ≡ negation a → IsTrueBy new b z.level)) (sym whole)
+            subst (All (λ (z : Entry). z.literal ≡ negation a → IsTrueBy new b z.level)) (sym (whole e))
             (λ k d h is.
-            let at = taken k d h in
+            let at = taken e k d h in
             let old = subst (λ (z : Entry). z.literal ≡ negation a → IsTrueBy trail b z.level) at.1 (w.guarded e f q lt lg k d at.0) in
             keeps b (get_or new k d).level (low (get_or new k d) (entry_at_place new k d h)) (old is));
         fresh = λ e f q lt le lg.
             let a = lit_at lits e in
             let b = lit_at lits f in
             let clause = clause_at clauses (e / 2) in
-            subst (All (λ (z : Entry). z.literal ≡ negation a → (z.level ≡ level_of new) × AreOthersFalse (literals new) clause b)) (sym whole)
+            subst (All (λ (z : Entry). z.literal ≡ negation a → (z.level ≡ level_of new) × AreOthersFalse (literals new) clause b)) (sym (whole e))
             (λ k d h is.
-            let at = taken k d h in
+            let at = taken e k d h in
             let old = subst (λ (z : Entry). z.literal ≡ negation a → (z.level ≡ level_of trail) × AreOthersFalse (literals trail) clause b) at.1 (w.fresh e f q lt le lg k d at.0) in
             absurd (omega (arith, (old is).0, low (get_or new k d) (entry_at_place new k d h), lower)));
         short = λ c lt small.

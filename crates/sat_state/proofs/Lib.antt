@@ -7,6 +7,7 @@ pub mod Ends
 pub mod Grounds
 pub mod Chains
 pub mod Linked
+pub mod Named
 pub mod Watched
 pub mod Walked
 pub mod Truths

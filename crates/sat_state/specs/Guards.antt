@@ -40,12 +40,13 @@ pub record IsPair (clause : List Literal) (l other : Literal) : Type 0 where
   pub two : l ≢ other
 
 -- Each clause of two or more literals watches two of them; a literal of a clause that was looked at is guarded by the other, and
--- one of another clause is fresh. A shorter clause that was looked at is true without decisions.
-pub record AreWatched (clauses : List (List Literal)) (lits : List Literal) (trail : List Entry) (checked head : ℕ) : Type 0 where
+-- one of another clause is fresh, as far as the lists of its entry were walked. A shorter clause that was looked at is true without
+-- decisions.
+pub record AreWatched (clauses : List (List Literal)) (lits : List Literal) (trail : List Entry) (checked : ℕ) (heads : ℕ → ℕ) : Type 0 where
   pub entries : length lits ≡ 2 * length clauses
   pub long : (e : ℕ) → e < length lits → 1 ≤ (lit_at lits e).var → 2 ≤ length (clause_at clauses (e / 2))
   pub pairs : (e f : ℕ) → ArePartners e f → e < length lits → 2 ≤ length (clause_at clauses (e / 2)) → IsPair (clause_at clauses (e / 2)) (lit_at lits e) (lit_at lits f)
-  pub guarded : (e f : ℕ) → ArePartners e f → e / 2 < checked → 2 ≤ length (clause_at clauses (e / 2)) → Guards trail head (lit_at lits e) (lit_at lits f)
-  pub fresh : (e f : ℕ) → ArePartners e f → e < length lits → checked ≤ e / 2 → 2 ≤ length (clause_at clauses (e / 2)) → IsFresh trail head (clause_at clauses (e / 2)) (lit_at lits e) (lit_at lits f)
+  pub guarded : (e f : ℕ) → ArePartners e f → e / 2 < checked → 2 ≤ length (clause_at clauses (e / 2)) → Guards trail (heads e) (lit_at lits e) (lit_at lits f)
+  pub fresh : (e f : ℕ) → ArePartners e f → e < length lits → checked ≤ e / 2 → 2 ≤ length (clause_at clauses (e / 2)) → IsFresh trail (heads e) (clause_at clauses (e / 2)) (lit_at lits e) (lit_at lits f)
   pub short : (c : ℕ) → c < checked → length (clause_at clauses c) < 2 → (0 < length (clause_at clauses c)) × All (λ l. IsTrueBy trail l 0) (clause_at clauses c)
   pub unchecked : (c : ℕ) → c < length clauses → checked ≤ c → length (clause_at clauses c) < 2 → level_of trail ≡ 0

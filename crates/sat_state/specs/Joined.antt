@@ -1,19 +1,30 @@
 -- The clauses with their watched literals, and the trail, together.
-use Rattle.std.specs.Prelude.{◌≡◌, ◌≢◌, ℕ, ◌+◌, ◌*◌, ◌<◌, ◌≤◌, List, length, take, drop, slice_index_or, None, All, Contains, ◌⊎◌}
+use Rattle.std.specs.Prelude.{Bool, if◌then◌else◌, ◌≡◌, ◌≢◌, ℕ, ◌+◌, ◌*◌, ◌<◌, ◌≤◌, List, length, take, drop, slice_index_or, None, All, Contains, ◌⊎◌}
 use Rattle.cnf_core.specs.Literal.{Literal, negation, code_of, IsClause, VariablesUpTo}
 use Rattle.sat_state.specs.Trail.{Entry, literals, level_of, IsGrounded}
 use Rattle.sat_state.specs.Watching.{no_lit, lit_at}
+use Rattle.sat_state.specs.Tiered.{far_at}
 use Rattle.sat_state.specs.Guards.{AreWatched, ArePartners}
+use Rattle.sat_state.specs.declared.parts.Queue.{Queue}
 use Rattle.sat_state.specs.declared.parts.Parts.{Parts}
+
+-- the place of the trail from which on the near or the far lists are left
+abbrev pub place_of : Queue → Bool → ℕ
+place_of queue far = if far then queue.far else queue.head
+
+-- how far the lists of an entry were walked
+abbrev pub heads_of : Queue → List Bool → ℕ → ℕ
+heads_of queue fars e = place_of queue (far_at fars e)
 
 -- Each entry stands on those before it, what is left of the trail to look at is of its level, and the clauses are watched. The
 -- variables are known.
 pub record AreJoined (p : Parts) : Type 0 where
   pub grounded : IsGrounded p.clauses.lists p.assigned.trail
-  pub watched : AreWatched p.clauses.lists p.watches.lits p.assigned.trail p.queue.checked p.queue.head
+  pub watched : AreWatched p.clauses.lists p.watches.lits p.assigned.trail p.queue.checked (heads_of p.queue p.watches.fars)
   pub checked_in : p.queue.checked ≤ length p.clauses.lists
-  pub head_in : p.queue.head ≤ length p.assigned.trail
-  pub present : All (λ e. e.level ≡ level_of p.assigned.trail) (drop p.queue.head p.assigned.trail)
+  pub head_in : (far : Bool) → place_of p.queue far ≤ length p.assigned.trail
+  pub present : (far : Bool) → All (λ e. e.level ≡ level_of p.assigned.trail) (drop (place_of p.queue far) p.assigned.trail)
+  pub fars : length p.watches.fars ≡ length p.watches.lits
   pub lists : 2 * p.assigned.vars + 2 ≤ p.watches.lists
   pub in_range : All (VariablesUpTo p.assigned.vars) p.clauses.lists
   pub clauses : All IsClause p.clauses.lists
@@ -29,18 +40,24 @@ pub record GoesOn (old new : Parts) : Type 0 where
 -- nothing is left to look at
 pub record IsAllSeen (p : Parts) : Type 0 where
   pub checked : p.queue.checked ≡ length p.clauses.lists
-  pub head : p.queue.head ≡ length p.assigned.trail
+  pub head : (far : Bool) → place_of p.queue far ≡ length p.assigned.trail
 
 abbrev pub some_entry : Entry
 some_entry = record { literal = no_lit; level = 0; reason = None }
 
+-- the entry stands in the list that is walked
+pub record IsInWalk (p : Parts) (e : ℕ) : Type 0 where
+  pub there : e < length p.watches.lits
+  pub literal : lit_at p.watches.lits e ≡ p.watches.walked
+  pub tier : far_at p.watches.fars e ≡ p.watches.walks_far
+
 -- the list of the literal is walked that the next entry of the trail makes false: each clause that was looked at has its other literal true
 pub record IsWalking (p : Parts) : Type 0 where
   pub checked : p.queue.checked ≡ length p.clauses.lists
-  pub more : p.queue.head < length p.assigned.trail
+  pub more : place_of p.queue p.watches.walks_far < length p.assigned.trail
   pub some : 1 ≤ p.watches.walked.var
-  pub walked : (slice_index_or p.assigned.trail p.queue.head some_entry).literal ≡ negation p.watches.walked
-  pub partners : (e f : ℕ) → ArePartners e f → e < length p.watches.lits → lit_at p.watches.lits e ≡ p.watches.walked
+  pub walked : (slice_index_or p.assigned.trail (place_of p.queue p.watches.walks_far) some_entry).literal ≡ negation p.watches.walked
+  pub partners : (e f : ℕ) → ArePartners e f → IsInWalk p e
       → Contains p.watches.waiting e ⊎ Contains (literals p.assigned.trail) (lit_at p.watches.lits f)
 
 -- the literal isn't false by an entry of a level below the trail's

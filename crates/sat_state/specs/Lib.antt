@@ -4,6 +4,8 @@ pub mod Assigned
 pub mod AssignmentInside
 pub mod Chains
 pub mod Watching
+pub mod Tiered
+pub mod TieredInside
 pub mod WatchesInside
 pub mod ValuesInside
 pub mod Stored

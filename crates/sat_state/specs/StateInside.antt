@@ -9,7 +9,8 @@ seen_state a = record {
   clauses = a.parts.clauses.lists;
   vars = a.parts.assigned.vars;
   trail = a.parts.assigned.trail;
-  seen = nat_eq a.parts.queue.checked (length a.parts.clauses.lists) && nat_eq a.parts.queue.head (length a.parts.assigned.trail);
+  seen = nat_eq a.parts.queue.checked (length a.parts.clauses.lists) && nat_eq a.parts.queue.head (length a.parts.assigned.trail)
+      && nat_eq a.parts.queue.far (length a.parts.assigned.trail);
 }
 
 -- the parts of a state go together

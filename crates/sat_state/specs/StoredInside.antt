@@ -6,7 +6,7 @@ use Rattle.sat_state.specs.Stored.{Stored}
 abbrev pub seen_clauses : Inside → Stored
 seen_clauses a = record {
   lists = a.clauses.items;
-  room = min (vec_capacity a.clauses - length a.clauses.items) (vec_capacity a.places - length a.places.items);
+  room = min (vec_capacity a.clauses - length a.clauses.items) (min (vec_capacity a.places - length a.places.items) (vec_capacity a.stamps - length a.stamps.items));
 }
 
 -- each clause has a place where the search in it begins

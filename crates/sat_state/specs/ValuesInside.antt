@@ -1,5 +1,5 @@
 -- How the values of the variables are kept beside the table of true literals.
-use Rattle.std.specs.Prelude.{◌≡◌, ℕ, ◌+◌, ◌*◌, ◌<◌, ◌≤◌, Bool, false, List, length, slice_index_or}
+use Rattle.std.specs.Prelude.{◌≡◌, ◌+◌, ◌*◌, ◌<◌, ◌≤◌, Bool, false, List, length, slice_index_or}
 use Rattle.cnf_core.specs.Literal.{Literal, is_among, code_of}
 use Rattle.sat_state.specs.Trail.{literals}
 use Rattle.sat_state.specs.Assigned.{Assigned}

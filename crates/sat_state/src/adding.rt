@@ -87,8 +87,8 @@ impl Parts {
         let other = self.choose(lits, code(one));
         let entry = 2 * self.clauses.len();
         self.watches.push();
-        self.watches.link(entry, one);
-        self.watches.link(entry + 1, other);
+        self.watches.link(entry, one, false);
+        self.watches.link(entry + 1, other, false);
         self.clauses.push(clause);
     }
 
@@ -99,6 +99,7 @@ impl Parts {
         ensures clauses { self.new.clauses ≡ self.old.clauses }
         ensures room { self.new.watches.room ≡ self.old.watches.room }
         ensures lits { self.new.watches.lits ≡ self.old.watches.lits }
+        ensures fars { self.new.watches.fars ≡ self.old.watches.fars }
         ensures trail { self.new.assigned.trail ≡ self.old.assigned.trail }
         ensures queue { self.new.queue ≡ self.old.queue }
         ensures vars { OnOk result (self.new.assigned.vars ≡ max self.old.assigned.vars vars) }

@@ -15,11 +15,23 @@ use ep_base::Memory;
 use std::alloc::Global;
 use std::marker::Model;
 
-/// Clauses by number, and for each the place where the search for a literal that isn't false begins.
+/// The stamp of a clause that came before the first conflict.
+const GIVEN: u32 = u32::MAX;
+
+/// A clause of more literals is near only where it was used of late.
+const FEW: usize = 6;
+
+/// So many conflicts ago is of late.
+const LATE: u32 = 300;
+
+/// Clauses by number, and for each the place where the search for a literal that isn't false begins, and a stamp: the conflict at
+/// which the clause was used last.
 #[derive(Debug, Drop)]
 pub struct Clauses {
     clauses: Vec<Clause>,
     places: Vec<u32>,
+    stamps: Vec<u32>,
+    conflicts: u32,
 }
 
 impl Model for Clauses {
@@ -96,6 +108,8 @@ impl Clauses {
         Clauses {
             clauses: Vec::new(alloc),
             places: Vec::new(alloc),
+            stamps: Vec::new(alloc),
+            conflicts: 0,
         }
     }
 
@@ -106,6 +120,7 @@ impl Clauses {
     {
         self.clauses.reserve(1)?;
         self.places.reserve(1)?;
+        self.stamps.reserve(1)?;
         Ok(())
     }
 
@@ -116,6 +131,9 @@ impl Clauses {
     {
         self.clauses.push_reserved(clause);
         self.places.push_reserved(0);
+        let is_given = self.conflicts == 0;
+        self.stamps
+            .push_reserved(if is_given { GIVEN } else { self.conflicts });
     }
 
     /// How many clauses there are.
@@ -131,6 +149,33 @@ impl Clauses {
         ensures { result.now ≡ clause_at self.now.lists number }
     {
         &self.clauses[number]
+    }
+
+    /// Counts a conflict.
+    pub fn count_conflict(&mut self)
+        ensures { self.new ≡ self.old }
+    {
+        self.conflicts = self.conflicts.saturating_add(1).min(GIVEN - 1);
+    }
+
+    /// Keeps that a clause was used now.
+    pub fn touch(&mut self, number: usize)
+        ensures { self.new ≡ self.old }
+    {
+        let now = self.conflicts;
+        if let Some(stamp) = self.stamps.get_mut(number) {
+            if *stamp != GIVEN {
+                *stamp = now;
+            }
+        }
+    }
+
+    /// Whether a clause is long and wasn't used of late.
+    pub fn is_far(&self, number: usize) -> bool
+        requires { number < length self.now.lists }
+    {
+        let stamp = self.stamps.get(number).copied().unwrap_or(GIVEN);
+        stamp < self.conflicts.saturating_sub(LATE) && self.clauses[number].lits().len() > FEW
     }
 
     /// A literal of a clause that isn't this one and isn't false.

@@ -6,6 +6,7 @@ mod assignment;
 mod clauses;
 mod parts;
 mod state;
+mod tiers;
 mod values;
 mod watches;
 

@@ -5,30 +5,41 @@ ghost use Rattle.cnf_core.specs.Literal.{VariablesUpTo};
 ghost use Rattle.cnf_core.specs.Steps.{IsAtEnd, HasTrueLiteral, HasTwoNotFalse};
 ghost use Rattle.sat_state.specs.Trail.{literals, value_of, next_level, level_of, HasReason, IsFalsified, NamesFalsified, Gives, IsOpenBelow};
 ghost use Rattle.sat_state.specs.Stored.{clause_at};
-ghost use Rattle.sat_state.specs.Watching.{IsNext};
+ghost use Rattle.sat_state.specs.Tiered.{IsNext};
 ghost use Rattle.sat_state.specs.View.{AreTwoOf, IsGuarded};
 ghost use Rattle.sat_state.specs.Guards.{ArePartners};
-ghost use Rattle.sat_state.specs.Joined.{AreJoined, GoesOn, IsAllSeen, IsWalking};
+ghost use Rattle.sat_state.specs.Joined.{AreJoined, GoesOn, IsAllSeen, IsWalking, place_of};
 
 use crate::clauses::{Clauses, first_open};
+use crate::tiers::Tiers;
 use crate::values::Values;
-use crate::watches::Watches;
 use cnf_core::Lit;
 use ep_base::Memory;
 use std::alloc::Global;
 
-/// What propagation still has to look at: the clauses from `checked` on, and the literals of the trail from `head` on.
+/// What propagation still has to look at: the clauses from `checked` on, and of the literals of the trail the near lists from `head`
+/// on and the far lists from `far` on.
 #[derive(Clone, Copy, Debug)]
 pub struct Queue {
     pub checked: usize,
     pub head: usize,
+    pub far: usize,
+}
+
+impl Queue {
+    // The place of the trail from which on the near or the far lists are left.
+    fn place(self, far: bool) -> usize
+        ensures { result ≡ place_of self far }
+    {
+        if far { self.far } else { self.head }
+    }
 }
 
 /// The clauses with the literals that they watch, the trail, and what is left to look at.
 #[derive(Debug, Drop)]
 pub struct Parts {
     pub clauses: Clauses,
-    pub watches: Watches,
+    pub watches: Tiers,
     pub assigned: Values,
     pub queue: Queue,
 }
@@ -48,7 +59,7 @@ impl Parts {
         ensures vars { IfOk result (λ parts. parts.assigned.vars ≡ 0) }
         ensures trail { IfOk result (λ parts. parts.assigned.trail ≡ []) }
     {
-        let mut watches = Watches::new(alloc);
+        let mut watches = Tiers::new(alloc);
         watches.grow(2)?;
         Ok(Parts {
             clauses: Clauses::new(alloc),
@@ -57,6 +68,7 @@ impl Parts {
             queue: Queue {
                 checked: 0,
                 head: 0,
+                far: 0,
             },
         })
     }
@@ -65,7 +77,8 @@ impl Parts {
     pub fn is_seen(&self) -> bool
         ensures { IsTrue result → IsAllSeen self.now }
     {
-        self.queue.checked == self.clauses.len() && self.queue.head == self.assigned.trail().len()
+        let end = self.assigned.trail().len();
+        self.queue.checked == self.clauses.len() && self.queue.head == end && self.queue.far == end
     }
 
     // Makes a literal true that a clause gives.
@@ -141,6 +154,7 @@ impl Parts {
         ensures walking { IsTrue result → IsWalking self.new }
         ensures shorter { IsTrue result → length self.new.watches.waiting + 1 ≡ length self.old.watches.waiting }
         ensures queue { self.new.queue ≡ self.old.queue }
+        ensures tier { self.new.watches.walks_far ≡ self.old.watches.walks_far }
         ensures falsified { result ≡ false → NamesFalsified self.new.clauses.lists self.new.assigned.trail (entry / 2) }
     {
         let other = self.watches.lit(partner(entry));
@@ -151,7 +165,8 @@ impl Parts {
         let number = entry / 2;
         if let Some(lit) = self.clauses.other_open(&self.assigned, number, other) {
             self.watches.take();
-            self.watches.link(entry, lit);
+            let far = self.clauses.is_far(number);
+            self.watches.link(entry, lit, far);
             return true;
         }
         if self.assigned.is_true(other.negated()) {
@@ -162,29 +177,34 @@ impl Parts {
         true
     }
 
-    // Looks at the clauses that watch the literal that the next entry of the trail makes false, up to a falsified one, whose number
-    // it answers.
-    fn walk(&mut self) -> Option<usize>
+    // Looks at the clauses of the near or the far list of the literal that the next entry of the trail makes false, up to a falsified
+    // one, whose number it answers.
+    fn walk(&mut self, far: bool) -> Option<usize>
         requires joined { AreJoined self.old }
         requires checked { self.old.queue.checked ≡ length self.old.clauses.lists }
-        requires more { self.old.queue.head < length self.old.assigned.trail }
+        requires more { place_of self.old.queue far < length self.old.assigned.trail }
         ensures goes { GoesOn self.old self.new }
         ensures checked { self.new.queue.checked ≡ self.old.queue.checked }
         ensures falsified { IfSome result (NamesFalsified self.new.clauses.lists self.new.assigned.trail) }
-        ensures done { IsNone result → self.new.queue.head ≡ self.old.queue.head + 1 }
+        ensures done { IsNone result → self.new.queue.head + self.new.queue.far ≡ self.old.queue.head + self.old.queue.far + 1 }
     {
-        let lit = self.assigned.trail()[self.queue.head].negated();
-        self.watches.start(lit);
+        let lit = self.assigned.trail()[self.queue.place(far)].negated();
+        self.watches.start(lit, far);
         'walk: while let Some(entry) = self.watches.current() {
             if !self.visit(entry) {
                 return Some(entry / 2);
             }
         }
-        self.queue.head += 1;
+        if far {
+            self.queue.far += 1;
+        } else {
+            self.queue.head += 1;
+        }
         None
     }
 
-    // Looks at the literals of the trail that weren't looked at yet, up to a falsified clause, whose number it answers.
+    // Looks at the literals of the trail that weren't looked at yet, up to a falsified clause, whose number it answers: at the near
+    // lists of all of them before a far one.
     fn follow(&mut self) -> Option<usize>
         requires joined { AreJoined self.old }
         requires checked { self.old.queue.checked ≡ length self.old.clauses.lists }
@@ -192,13 +212,30 @@ impl Parts {
         ensures falsified { IfSome result (NamesFalsified self.new.clauses.lists self.new.assigned.trail) }
         ensures done { IsNone result → IsAllSeen self.new }
     {
-        'follow: while self.queue.head < self.assigned.trail().len() {
-            let falsified = self.walk();
+        'follow: while self.queue.head < self.assigned.trail().len()
+            || self.queue.far < self.assigned.trail().len()
+        {
+            let far = self.queue.head >= self.assigned.trail().len();
+            let falsified = self.walk(far);
             if falsified.is_some() {
                 return falsified;
             }
         }
         None
+    }
+
+    // Looks at what is left: at new clauses, and then at the literals of the trail.
+    fn look(&mut self) -> Option<usize>
+        requires joined { AreJoined self.old }
+        ensures goes { GoesOn self.old self.new }
+        ensures falsified { IfSome result (NamesFalsified self.new.clauses.lists self.new.assigned.trail) }
+        ensures done { IsNone result → IsAllSeen self.new }
+    {
+        let falsified = self.check_new();
+        if falsified.is_some() {
+            return falsified;
+        }
+        self.follow()
     }
 
     /// Looks at all that has to be looked at, up to a falsified clause, whose number it answers.
@@ -209,11 +246,11 @@ impl Parts {
         ensures done { IsNone result → IsAllSeen self.new }
         ensures at_end { IsNone result → IsAtEnd (literals self.new.assigned.trail) self.new.clauses.lists }
     {
-        let falsified = self.check_new();
+        let falsified = self.look();
         if falsified.is_some() {
-            return falsified;
+            self.clauses.count_conflict();
         }
-        self.follow()
+        falsified
     }
 
     /// Looks at all that has to be looked at, where the clauses force nothing more.
@@ -280,5 +317,6 @@ impl Parts {
             self.assigned.pop();
         }
         self.queue.head = self.assigned.trail().len();
+        self.queue.far = self.queue.head;
     }
 }

@@ -145,6 +145,14 @@ impl State {
         }
     }
 
+    /// Tells propagation that a clause was used to explain a conflict: for some time it looks at it early. Nothing that is seen
+    /// changes.
+    pub fn touch(&mut self, number: u64)
+        ensures { self.new ≡ self.old }
+    {
+        self.parts.clauses.touch(number as usize);
+    }
+
     /// The value of a variable, or none where it has none or isn't known.
     pub fn value(&self, var: u64) -> Option<bool>
         ensures value { result ≡ value_of (literals self.now.trail) var }

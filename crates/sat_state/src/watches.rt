@@ -76,12 +76,14 @@ impl Watches {
         ensures lits { self.new.lits ≡ self.old.lits }
         ensures lists { OnOk result (self.new.lists ≡ max self.old.lists lists) }
         ensures kept { self.old.lists ≤ self.new.lists }
+        ensures few { self.new.lists < 2 ^ 32 }
         ensures room { self.new.room ≡ self.old.room }
     {
+        let kept = self.heads.len();
         if lists >= u32::MAX as usize {
             return Err(Memory);
         }
-        if self.heads.len() < lists {
+        if kept < lists {
             self.left = 0;
             self.heads.resize(lists, Head { first: 0, count: 0 })?;
         }

@@ -1,4 +1,4 @@
-use Rattle.std.proofs.Common.{◌≡◌, ◌-◌, length}
+use Rattle.std.proofs.Common.{◌≡◌, ◌+◌, ◌-◌, ◌*◌, length}
 use Rattle.sat_state.specs.Joined.{GoesOn}
 use Rattle.sat_state.proofs.parts.Parts.follow.Given as goal
 
@@ -9,4 +9,4 @@ invariant-follow l = record {
 }
 
 abbrev pub decreases-follow : goal.decreases-follow
-decreases-follow l = l.self.assigned.vars - l.self.queue.head
+decreases-follow l = 2 * l.self.assigned.vars - (l.self.queue.head + l.self.queue.far)

@@ -54,7 +54,7 @@ returns-clause-joined c =
     let trail = l.self.assigned.trail in
     let kept = sym (l.invariant.kept ∙ kept_all old.clauses.lists trail c.args.level l.invariant.grounded (omega (arith, c.above-test.false, c.level.ensures))) in
     joined_back old _ c.args.level c.requires.joined c.requires.above l.invariant.grounded l.invariant.clauses l.invariant.watches (ap (λ (q : Queue). q.checked) l.invariant.queue)
-    (ap length c.trail.ensures.value ∙ length-map trail (λ (e : Entry). e.literal)) l.invariant.vars kept l.invariant.front
+    (ap length c.trail.ensures.value ∙ length-map trail (λ (e : Entry). e.literal)) (ap length c.trail.ensures.value ∙ length-map trail (λ (e : Entry). e.literal)) l.invariant.vars kept l.invariant.front
 
 pub returns-clause-trail : goal.returns-clause-trail
 returns-clause-trail c =

@@ -1,7 +1,5 @@
-use Rattle.std.proofs.Common.{◌≡◌, ◌≤◌, ◌<◌, List, length, ap, ◌∙◌, sym, subst, arith}
-use Rattle.cnf_core.specs.Literal.{Literal}
+use Rattle.std.proofs.Common.{◌≤◌, length, ap, ◌∙◌, arith}
 use Rattle.sat_state.specs.Stored.{clause_at}
-use Rattle.sat_state.specs.View.{AreTwoOf, IsGuarded}
 use Rattle.sat_state.proofs.Going.{pair_there, first_pair, second_pair, first_var, second_var, first_guard, second_guard}
 use Rattle.sat_state.proofs.parts.Parts.watched.Goals as goal
 

@@ -4,6 +4,7 @@ use Rattle.sat_state.specs.Trail.{literals}
 use Rattle.sat_state.specs.declared.state.Propagated.TheVariants.{Done}
 use Rattle.sat_state.specs.View.{StateView}
 use Rattle.sat_state.proofs.Ends.{all_forced, none_falsified, none_unit}
+use Rattle.sat_state.proofs.Finished.{seen_at_end}
 use Rattle.sat_state.proofs.state.State.propagate.Goals as goal
 use Rattle.sat_state.proofs.state.State.propagate.Goals.{in-Some, in-None, Joined-propagate}
 
@@ -19,6 +20,12 @@ at_end : (c : Joined-propagate) → c.match-propagate.result ≡ Done → IsAtEn
 at_end c done = elim c.match-propagate.branch [
   | in-Some w ↦ let never : ⊥ = cc (done, w.result-is) in absurd never
   | in-None w ↦ c.propagate.ensures.at_end (ap is_some w.in-None.is)
+]
+
+pub returns-clause-seen : goal.returns-clause-seen
+returns-clause-seen c = λ done. elim c.match-propagate.branch [
+  | in-Some w ↦ let never : ⊥ = cc (done, w.result-is) in absurd never
+  | in-None w ↦ seen_at_end c.propagate.new.self (c.propagate.ensures.done (ap is_some w.in-None.is))
 ]
 
 pub returns-clause-none_falsified : goal.returns-clause-none_falsified

@@ -1,7 +1,5 @@
-use Rattle.std.proofs.Common.{◌≡◌, ◌+◌, ◌*◌, ◌<◌, ◌≤◌, ◌∷◌, [], ◌++◌, List, false, length, set, sym, ap, ◌∙◌, subst, arith}
+use Rattle.std.proofs.Common.{◌∷◌, [], ◌++◌, false, length, subst, arith}
 use Rattle.std.proofs.lemmas.List.{length-set}
-use Rattle.cnf_core.specs.Literal.{Literal, code_of}
-use Rattle.sat_state.specs.Assigned.{Assigned}
 use Rattle.sat_state.specs.Trail.{literals}
 use Rattle.sat_state.specs.ValuesInside.{AreTruths}
 use Rattle.sat_state.proofs.Literals.{not_true}

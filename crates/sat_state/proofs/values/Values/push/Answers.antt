@@ -1,6 +1,5 @@
-use Rattle.std.proofs.Common.{◌≡◌, ◌+◌, ◌*◌, ◌<◌, ◌≤◌, ◌∷◌, [], ◌++◌, List, true, length, set, sym, ap, ◌∙◌, subst, arith}
+use Rattle.std.proofs.Common.{◌≡◌, true, length, ap, arith}
 use Rattle.std.proofs.lemmas.List.{length-set}
-use Rattle.cnf_core.specs.Literal.{Literal, code_of}
 use Rattle.sat_state.specs.Assigned.{Assigned}
 use Rattle.sat_state.specs.Trail.{Entry, literals, next_level}
 use Rattle.sat_state.proofs.Grounds.{literals_push}
