@@ -1,0 +1,12 @@
+pub mod Comparisons
+pub mod ConstantBits
+pub mod Following
+pub mod GateRows
+pub mod GateSteps
+pub mod Halves
+pub mod LinearKinds
+pub mod Queues
+pub mod SideSums
+pub mod Sums
+pub mod Telling
+pub mod Widening

@@ -6,16 +6,17 @@ ghost use Rattle.enc_var.specs.Layouts.{CanTake, GoesOn, HoldsUnder};
 ghost use Rattle.ep_flat.specs.Cons.{is_linear};
 ghost use Rattle.ep_flat.specs.FlatViews.{plain_con};
 
+use crate::linear::add_linear;
 use cnf_core::Formula;
 use enc_var::Layout;
 use ep_base::Memory;
-use ep_flat::Con;
+use ep_flat::{Con, ConKind};
 use std::alloc::Global;
 
 /// Adds clauses that keep exactly the assignments under which the constraint holds. After want of
 /// memory nothing is promised of layout and formula.
 pub fn encode_con(
-    _alloc: Global,
+    alloc: Global,
     con: &Con,
     layout: &mut Layout,
     f: &mut Formula,
@@ -26,8 +27,10 @@ pub fn encode_con(
     ensures keeps { OnOk result
         (Keeps f.old f.new (HoldsUnder layout.old (plain_con con.now))) }
 {
-    let _con = con;
-    let _layout = layout;
-    let _formula = f;
-    Err(Memory)
+    match &con.kind {
+        ConKind::Linear(parts, op, number) => {
+            add_linear(alloc, layout, f, con.truth, parts, *op, *number)
+        }
+        _ => Err(Memory),
+    }
 }
