@@ -24,7 +24,7 @@ use Rattle.ep_tree.specs.declared.syntax.QuantOp.{QuantOp}
 use Rattle.ep_tree.specs.declared.syntax.SetOp.{SetOp}
 use Rattle.ep_tree.specs.declared.values.Mode.{Mode}
 use Rattle.ep_readback.specs.GivenBack.{is_near}
-use Rattle.ep_readback.proofs.Standing.{AreNear}
+use Rattle.ep_readback.proofs.Standing.{AreNear, near_number}
 
 -- ---- parts of what is met
 
@@ -70,14 +70,6 @@ near_of : (n : ℤ) → is_too_far n ≡ false → is_near n ≡ true
 unfolding is_near
 near_of n h = ap not h
 
-pub far_of : (n : ℤ) → is_near n ≡ true → is_too_far n ≡ false
-unfolding is_near
-far_of n h = go (is_too_far n) h
-  where
-    go : (b : Bool) → not b ≡ true → b ≡ false
-    go true e = absurd cc
-    go false e = refl
-
 -- ---- lists of numbers
 
 -- a number between two that are no farther than a limit is no farther
@@ -92,7 +84,7 @@ between_two m (negsuc a) (negsuc b) y h k low high = grind (arith, ints)
 
 one_between_near : (x n y : ℤ) → is_near x ≡ true → is_near y ≡ true → x ≤ℤ n → n ≤ℤ y → is_near n ≡ true
 unfolding is_too_far
-one_between_near x n y h k low high = near_of n (between_two MOST_REACH x n y (far_of x h) (far_of y k) low high)
+one_between_near x n y h k low high = near_of n (between_two MOST_REACH x n y (near_number x h) (near_number y k) low high)
 
 counting_near : (k : ℕ) (first x y : ℤ) → is_near x ≡ true → is_near y ≡ true → x ≤ℤ first → (first +ℤ pos k) ≤ℤ (y +ℤ pos 1) → list_all is_near (counting first k) ≡ true
 unfolding counting

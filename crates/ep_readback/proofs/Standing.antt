@@ -53,7 +53,7 @@ not_true : (b : Bool) → not b ≡ true → b ≡ false
 not_true true h = absurd (false≢true h)
 not_true false h = refl
 
-near_number : (n : ℤ) → is_near n ≡ true → is_too_far n ≡ false
+pub near_number : (n : ℤ) → is_near n ≡ true → is_too_far n ≡ false
 unfolding is_near
 near_number n h = not_true (is_too_far n) h
 

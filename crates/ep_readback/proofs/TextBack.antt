@@ -23,8 +23,8 @@ use Rattle.ep_readback.specs.GivenBack.{CanBeRead, HasName, IsWritten, TextGives
 use Rattle.ep_readback.proofs.Answered.{answer_spelled}
 use Rattle.ep_readback.proofs.BoundNames.{bound_named}
 use Rattle.ep_readback.proofs.NearDomains.{bound_near}
-use Rattle.ep_readback.proofs.NearNumbers.{far_of}
 use Rattle.ep_readback.proofs.Restored.{names_of}
+use Rattle.ep_readback.proofs.Standing.{near_number}
 use Rattle.ep_readback.proofs.Written.{assignment_given_back, found_names, names_written, written_readable}
 
 -- ---- what is near is short
@@ -34,8 +34,8 @@ few_digits n h = let most : pos n ≤ℤ MOST_REACH = grind (arith, ints) in gri
 
 near_short : (n : ℤ) → is_near n ≡ true → has_few_digits n ≡ true
 unfolding has_few_digits is_too_far absolute_of
-near_short (pos n) h = few_digits n (far_of (pos n) h)
-near_short (negsuc n) h = few_digits (suc n) (far_of (negsuc n) h)
+near_short (pos n) h = few_digits n (near_number (pos n) h)
+near_short (negsuc n) h = few_digits (suc n) (near_number (negsuc n) h)
 
 numbers_short : (ns : List ℤ) → list_all is_near ns ≡ true → list_all has_few_digits ns ≡ true
 numbers_short [] h = refl
