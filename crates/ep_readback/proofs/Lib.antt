@@ -12,3 +12,13 @@ pub mod ValuesSpelled
 pub mod ValuesLexed
 pub mod Answered
 pub mod Worth
+pub mod Placed
+pub mod Standing
+pub mod Shapes
+pub mod Lettings
+pub mod Restored
+pub mod Written
+pub mod NearNumbers
+pub mod NearDomains
+pub mod BoundNames
+pub mod TextBack

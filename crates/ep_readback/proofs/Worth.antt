@@ -21,12 +21,12 @@ use Rattle.ep_readback.specs.Answered.{AreInOrder, IsInOrder, indices_domain, nu
 
 -- ---- numbers
 
-number_read : (mode : Mode) (env : Env) (z : ℤ) → evaluate mode env (number_expr z) ≡ Some (single z)
+pub number_read : (mode : Mode) (env : Env) (z : ℤ) → evaluate mode env (number_expr z) ≡ Some (single z)
 unfolding evaluate number_expr number_in
 number_read mode env (pos n) = refl
 number_read mode env (negsuc n) = refl
 
-truth_is : (n : ℤ) → (int_eq n (pos 0) || int_eq n (pos 1)) ≡ true → of_bool (int_eq n (pos 1)) ≡ n
+pub truth_is : (n : ℤ) → (int_eq n (pos 0) || int_eq n (pos 1)) ≡ true → of_bool (int_eq n (pos 1)) ≡ n
 unfolding of_bool
 truth_is n e = go (int_eq n (pos 0)) (int_eq n (pos 1)) refl refl e
   where
@@ -43,11 +43,11 @@ scalar_read mode env Scalar.Int n is = number_read mode env n
 -- ---- index domains
 
 -- the numbers in runs, one run after another
-abbrev gathered : List Stretch → List ℤ
+abbrev pub gathered : List Stretch → List ℤ
 gathered [] = []
 gathered (s ∷ ss) = united (between s.first s.last) (gathered ss)
 
-one_between : (n : ℤ) → between n n ≡ n ∷ []
+pub one_between : (n : ℤ) → between n n ≡ n ∷ []
 unfolding between count_between counting
 one_between n = ap (λ k. counting n (or_zero k)) (one n)
   where
@@ -71,14 +71,14 @@ put_first x (y ∷ ys) up =
     cond-true (int_lt x y) _ _ test
 
 -- each run has a number
-abbrev AreFull : List Stretch → Type 0
+abbrev pub AreFull : List Stretch → Type 0
 AreFull [] = Unit {0}
 AreFull (s ∷ ss) = (s.first ≤ℤ s.last) × AreFull ss
 
 -- the runs of ascending numbers have these numbers
-record AreRunsOf (ns : List ℤ) (ss : List Stretch) : Type 0 where
-  numbers : gathered ss ≡ ns
-  full : AreFull ss
+pub record AreRunsOf (ns : List ℤ) (ss : List Stretch) : Type 0 where
+  pub numbers : gathered ss ≡ ns
+  pub full : AreFull ss
 
 stretched : (b : Bool) (n : ℤ) (ns : List ℤ) (s : Stretch) (ss : List Stretch) → int_eq (n +ℤ pos 1) s.first ≡ b → IsAscending (n ∷ ns) → AreRunsOf ns (s ∷ ss)
     → AreRunsOf (n ∷ ns) (cond b (record { first = n; last = s.last } ∷ ss) (record { first = n; last = n } ∷ s ∷ ss))
@@ -104,7 +104,7 @@ begun n ns [] up runs =
     record { numbers = ap (λ xs. united xs []) (one_between n) ∙ ap (λ ms. n ∷ ms) runs.numbers; full = (omega (arith, ints), tt) }
 begun n ns (s ∷ ss) up runs = stretched (int_eq (n +ℤ pos 1) s.first) n ns s ss refl up runs
 
-runs_read : (ns : List ℤ) → IsAscending ns → AreRunsOf ns (runs_of ns)
+pub runs_read : (ns : List ℤ) → IsAscending ns → AreRunsOf ns (runs_of ns)
 unfolding runs_of
 runs_read [] up = record { numbers = refl; full = tt }
 runs_read (n ∷ ns) up = begun n ns (runs_of ns) up (runs_read ns (ascending_tail n ns up))
@@ -132,20 +132,20 @@ indices_read mode env (n ∷ ns) up = ranges_read mode env (runs_of (n ∷ ns)) 
 
 -- ---- values
 
-listed_again : (vs : ValueTrees) → as_parts (listed_values vs) ≡ vs
+pub listed_again : (vs : ValueTrees) → as_parts (listed_values vs) ≡ vs
 unfolding as_parts listed_values
 listed_again no_values = refl
 listed_again (value_and v vs) = ap (value_and v) (listed_again vs)
 
 -- a list of so many parts with its index domain
-matrix_read : (mode : Mode) (env : Env) (indices : List ℤ) (es : ExprTrees) (d : DomainTree) (vs : ValueTrees) → domain_values mode env d ≡ Some indices → all_defined (values_of mode env es) ≡ Some (listed_values vs) → length indices ≡ length (listed_values vs)
+pub matrix_read : (mode : Mode) (env : Env) (indices : List ℤ) (es : ExprTrees) (d : DomainTree) (vs : ValueTrees) → domain_values mode env d ≡ Some indices → all_defined (values_of mode env es) ≡ Some (listed_values vs) → length indices ≡ length (listed_values vs)
     → matrix_value (index_values mode env (over d)) (values_of mode env es) ≡ Some (matrix indices vs)
 unfolding evaluate matrix_value on_both with_indices
 matrix_read mode env indices es d vs domain parts long =
     ap₂ (λ a b. on_both a b with_indices) domain parts
     ∙ cond-true (length indices == length (listed_values vs)) _ _ (eq-eqb _ _ long) ∙ ap (λ ws. Some (matrix indices ws)) (listed_again vs)
 
-no_index : (indices : List ℤ) → length indices ≡ 0 → indices ≡ []
+pub no_index : (indices : List ℤ) → length indices ≡ 0 → indices ≡ []
 no_index [] e = refl
 no_index (n ∷ ns) e = absurd (omega (arith, e))
 

@@ -3,6 +3,7 @@
 #![tactic(auto)]
 
 ghost use Rattle.ep_readback.specs.Answered.{AnswerSpellsItsLettings, ValueIsReadAgain};
+ghost use Rattle.ep_readback.specs.GivenBack.{AnswerGivesItselfBack, AnswerGivesValuesBack, AnswerTextIsReadAgain, BoundDomainsAreNear, BoundNamesAreNames};
 ghost use Rattle.ep_readback.specs.Printed.{PrintedModelIsReadAgain, PrintedModelSpellsAgain};
 
 /// A model that some text spells is spelled by its printed text too, places aside, as a tree of the same height. So within
@@ -22,4 +23,26 @@ pub fn answers_are_parameter_texts()
 /// stand for: where a matrix has as many indices as parts, they ascend, and its numbers are of its scalar.
 pub fn printed_values_are_read_again()
     ensures { ValueIsReadAgain }
+{}
+
+/// The lettings of an answer are a solution text without a fault, which gives an instance the values back that were
+/// printed, each fitted into its domain: where they fit it and are in order. Where they are written as the instance states
+/// them, as those of its answers are, it gives this same assignment back. The only limit that this reading may meet is
+/// that of size, and it meets it exactly where the letting of one of the values is too large.
+pub fn lettings_are_given_back()
+    ensures values { AnswerGivesValuesBack }
+    ensures assignment { AnswerGivesItselfBack }
+{}
+
+/// What a text that spells a model is bound to has decision variables that a text can name, and whose domains hold no
+/// number past the limit of reach.
+pub fn bound_variables_can_be_written()
+    ensures domains { BoundDomainsAreNear }
+    ensures names { BoundNamesAreNames }
+{}
+
+/// The text of an answer, read as a solution text, gives the instance the same assignment back, unless a limit is met: that
+/// of a text's length or height, or that of size by one of its lettings.
+pub fn answers_are_read_again()
+    ensures { AnswerTextIsReadAgain }
 {}
