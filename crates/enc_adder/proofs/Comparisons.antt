@@ -1,6 +1,5 @@
 -- Comparisons of numbers in binary, from place to place.
-use Rattle.std.proofs.Common.{inl, inr, ◌≡◌, ◌↔◌, ◌⊎◌, ℕ, ◌+◌, ◌<◌, ◌≤◌, ℤ, pos, ◌+ℤ◌, ◌-ℤ◌, ◌*ℤ◌, ◌<ℤ◌, ◌≤ℤ◌, int_le, int_lt, Bool, true, false, not, List, [], ◌∷◌, ◌++◌, length, take, drop, refl, sym, ap, subst, ◌∙◌, arith, get_or}
-use Rattle.std.specs.List.{All}
+use Rattle.std.proofs.Common.{inl, inr, ◌≡◌, ◌↔◌, ℕ, ◌+◌, ◌≤◌, ℤ, pos, ◌+ℤ◌, ◌*ℤ◌, ◌<ℤ◌, int_le, int_lt, Bool, true, false, not, List, length, take, drop, refl, sym, ap, subst, ◌∙◌, arith, get_or}
 use Rattle.std.specs.Ordering.{int_eq}
 use Rattle.std.proofs.lemmas.Bool.Decides.{Decides-int_eq}
 use Rattle.std.proofs.lemmas.Int.{ints}
@@ -16,8 +15,8 @@ use Rattle.enc_steps.specs.Steps.{IsReady, IsTruth}
 use Rattle.enc_var.specs.Decoding.{VariableLiterals}
 use Rattle.ep_flat.specs.Cons.{number_at}
 use Rattle.enc_adder.proofs.Sums.{below, bit_at_is, none_spelled, spelled_drop, spelled_front}
-use Rattle.enc_adder.proofs.Widening.{bit_is, bit_later, bits_later, constant_is, constant_later, no_longer, one_bit, widens_like, widens_nothing, widens_then, zero_bit}
-use Rattle.enc_adder.specs.Bits.{AreBits, HasBit, IsAbove, IsAlike, IsBit, IsConstant, Widens, spelled}
+use Rattle.enc_adder.proofs.Widening.{bit_is, bits_later, constant_is, constant_later, no_longer, one_bit, widens_like, widens_nothing, widens_then, zero_bit}
+use Rattle.enc_adder.specs.Bits.{AreBits, HasBit, IsAbove, IsAlike, IsBit, IsConstant, spelled}
 use Rattle.enc_adder.specs.Comparing.{Tells}
 
 -- One number is greater than the other exactly where what is left of it, with the bit before, is greater than what is left of the other.

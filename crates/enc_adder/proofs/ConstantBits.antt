@@ -1,6 +1,6 @@
 -- Constant bits, and the constant numbers that they spell.
-use Rattle.std.proofs.Common.{◌≡◌, ◌↔◌, ℕ, ◌+◌, ◌<◌, ◌*◌, ◌%◌, ◌/◌, zero, suc, ℤ, pos, ◌+ℤ◌, ◌*ℤ◌, ◌≤ℤ◌, List, [], ◌∷◌, ◌++◌, length, refl, sym, ap, subst, ◌∙◌, arith, get_or}
-use Rattle.std.specs.List.{All, Any, Contains}
+use Rattle.std.proofs.Common.{◌≡◌, ◌↔◌, ℕ, ◌+◌, ◌<◌, ◌*◌, ◌%◌, ◌/◌, zero, suc, ℤ, pos, List, [], ◌∷◌, ◌++◌, length, refl, sym, ap, subst, ◌∙◌, arith, get_or}
+use Rattle.std.specs.List.{Any, Contains}
 use Rattle.std.specs.Prelude.{Err, IfOk, Ok, OnOk, Result}
 use Rattle.std.proofs.lemmas.Int.{ints}
 use Rattle.std.proofs.lemmas.List.{get_or_push}
@@ -9,13 +9,11 @@ use Rattle.cnf_core.specs.Formula.{Cnf}
 use Rattle.ep_base.specs.Runs.{IsIn}
 use Rattle.ep_base.specs.declared.run_lists.Run.{Run}
 use Rattle.enc_atoms.specs.Atoms.{AreOfDomains}
-use Rattle.enc_steps.specs.Steps.{IsReady}
 use Rattle.enc_var.specs.Decoding.{VariableLiterals}
 use Rattle.enc_var.specs.Layouts.{GoesOn, HasFreeChoice, literals_at}
-use Rattle.ep_flat.specs.Cons.{number_at}
 use Rattle.enc_adder.proofs.Sums.{before_none, before_nothing, before_push, spelled_before}
 use Rattle.enc_adder.proofs.Widening.{constant_is, constant_later, one_bit, widens_then, widens_variable, zero_bit}
-use Rattle.enc_adder.specs.Bits.{AreBits, AreNewConstants, HasConstants, IsBit, IsConstant, IsNewConstant, Widens, spelled}
+use Rattle.enc_adder.specs.Bits.{AreBits, AreNewConstants, HasConstants, IsBit, IsConstant, IsNewConstant, spelled}
 use Rattle.enc_adder.specs.declared.bits.Constants.{Constants}
 
 -- the numbers of a run of one number

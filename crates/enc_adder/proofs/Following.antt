@@ -1,8 +1,8 @@
 -- What rows say, and loops over them.
-use Rattle.std.proofs.Common.{◌≡◌, ◌↔◌, ℕ, ◌+◌, ◌<◌, ℤ, pos, Bool, true, false, ◌||◌, List, [], ◌∷◌, refl, sym, ap, ◌∙◌}
+use Rattle.std.proofs.Common.{◌≡◌, ◌↔◌, ℕ, ℤ, Bool, true, false, ◌||◌, List, [], ◌∷◌, refl, sym, ap, ◌∙◌}
 use Rattle.cnf_core.specs.Formula.{Cnf}
 use Rattle.enc_atoms.proofs.Adding.{adds_like}
-use Rattle.enc_atoms.specs.Atoms.{Adds, AreOfDomains, atom_holds, clause_holds}
+use Rattle.enc_atoms.specs.Atoms.{Adds, atom_holds, clause_holds}
 use Rattle.enc_atoms.specs.declared.atoms.Atom.{Atom}
 use Rattle.enc_steps.proofs.Meanings.{is_not_fails}
 use Rattle.enc_steps.specs.Steps.{Implied, Unless, is_not}

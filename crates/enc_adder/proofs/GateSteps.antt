@@ -1,20 +1,20 @@
 -- New bits that few others determine, by the clauses of their rows.
-use Rattle.std.proofs.Common.{◌≡◌, ℕ, ◌+◌, ◌<◌, ℤ, pos, ◌+ℤ◌, ◌*ℤ◌, List, [], ◌∷◌, ◌++◌, length, refl, sym, ap, subst, ◌∙◌, arith}
+use Rattle.std.proofs.Common.{◌≡◌, ℕ, ◌+◌, ℤ, pos, ◌+ℤ◌, List, [], ◌∷◌, length, ap, ◌∙◌, arith}
 use Rattle.std.specs.List.{All}
 use Rattle.std.proofs.lemmas.Int.{ints}
 use Rattle.std.proofs.lemmas.List.Elements.{All-cons, All-nil}
 use Rattle.cnf_core.specs.Formula.{Cnf}
 use Rattle.enc_atoms.proofs.Adding.{adds_like}
 use Rattle.enc_atoms.proofs.Decoded.{length_among}
-use Rattle.enc_atoms.specs.Atoms.{Adds, AreOfDomains}
+use Rattle.enc_atoms.specs.Atoms.{Adds}
 use Rattle.enc_steps.specs.Steps.{HasTruths, IsReady}
 use Rattle.enc_var.specs.Decoding.{VariableLiterals}
 use Rattle.enc_var.specs.Layouts.{IsLayoutOf}
 use Rattle.ep_flat.specs.Cons.{number_at}
 use Rattle.enc_adder.proofs.GateRows.{above_exists, above_follows, above_rows, above_rows_follow, alike_exists, alike_follows, alike_rows, alike_rows_follow, sum_exists, sum_follows, sum_rows, sum_rows_follow}
-use Rattle.enc_adder.proofs.Widening.{bit_is, bit_later, constant_is, new_bit_is, widens_nothing, widens_truths, zero_bit}
+use Rattle.enc_adder.proofs.Widening.{bit_is, constant_is, new_bit_is, widens_nothing, widens_truths, zero_bit}
 use Rattle.enc_adder.specs.Adding.{HasSum}
-use Rattle.enc_adder.specs.Bits.{Follows, HasBit, IsAbove, IsAlike, IsBit, IsConstant, IsRowOf, IsSum, Row}
+use Rattle.enc_adder.specs.Bits.{Follows, HasBit, IsAbove, IsAlike, IsBit, IsConstant, IsRowOf, IsSum}
 
 pub sum_rows_named : (L : List VariableLiterals) (a b c low high : ℕ) → IsBit L a → IsBit L b → IsBit L c → IsBit L low → IsBit L high → All (IsRowOf L) (sum_rows a b c low high)
 sum_rows_named L a b c low high ba bb bc bl bh =

@@ -1,6 +1,6 @@
 -- The bits of what a variable's numbers are worth, from the lowest on.
-use Rattle.std.proofs.Common.{inl, inr, ◌≡◌, ℕ, zero, suc, ◌+◌, ◌<◌, ◌≤◌, ◌%◌, ◌/◌, ℤ, pos, negsuc, ◌+ℤ◌, ◌-ℤ◌, ◌*ℤ◌, List, [], ◌∷◌, ◌++◌, length, take, map, refl, sym, ap, subst, ◌∙◌, arith, get_or}
-use Rattle.std.specs.List.{All, Contains}
+use Rattle.std.proofs.Common.{inl, inr, ◌≡◌, ℕ, zero, suc, ◌+◌, ◌<◌, ◌%◌, ◌/◌, ℤ, pos, ◌+ℤ◌, ◌-ℤ◌, ◌*ℤ◌, List, [], ◌∷◌, ◌++◌, length, take, map, refl, sym, ap, subst, ◌∙◌, arith, get_or}
+use Rattle.std.specs.List.{All}
 use Rattle.std.proofs.lemmas.Int.{ints}
 use Rattle.std.proofs.lemmas.List.{map-append, take_more}
 use Rattle.std.proofs.lemmas.List.Elements.{All-contains, All-cons, All-map, All-nil, All-push}
@@ -16,7 +16,7 @@ use Rattle.enc_var.specs.Decoding.{VariableLiterals}
 use Rattle.enc_var.specs.Layouts.{IsLayoutOf, literals_at}
 use Rattle.ep_flat.specs.Cons.{number_at}
 use Rattle.enc_adder.proofs.Sums.{before_front, before_none, before_nothing, before_push, below, spelled_before}
-use Rattle.enc_adder.proofs.Widening.{bit_later, bits_later, constant_is, literals_later, new_bit_is, no_longer, widens_like, widens_nothing, widens_then, widens_truths, zero_bit}
+use Rattle.enc_adder.proofs.Widening.{bits_later, constant_is, literals_later, new_bit_is, no_longer, widens_like, widens_nothing, widens_then, widens_truths, zero_bit}
 use Rattle.enc_adder.specs.Bits.{AreBits, HasBit, IsBit, IsConstant, Spells, Widens, spelled}
 use Rattle.enc_adder.specs.Parts.{AreStepsOf, HaveWorths, half_step, low_bit}
 use Rattle.enc_adder.specs.declared.parts.Step.{Step}

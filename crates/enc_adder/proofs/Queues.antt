@@ -1,18 +1,17 @@
 -- A queue of numbers that are added two by two.
-use Rattle.std.proofs.Common.{◌≡◌, ℕ, suc, ◌<◌, ◌≤◌, ℤ, pos, negsuc, ◌+ℤ◌, ◌-ℤ◌, List, [], ◌∷◌, ◌++◌, length, take, drop, map, refl, sym, ap, subst, ◌∙◌, arith}
-use Rattle.std.specs.List.{All, sum_by}
+use Rattle.std.proofs.Common.{◌≡◌, ℕ, suc, ℤ, pos, negsuc, ◌+ℤ◌, ◌-ℤ◌, List, [], ◌∷◌, ◌++◌, length, drop, refl, sym, ap, subst, ◌∙◌, arith}
+use Rattle.std.specs.List.{sum_by}
 use Rattle.std.specs.List.Sorted.{IsPermutation}
 use Rattle.std.proofs.lemmas.Int.{ints}
 use Rattle.std.proofs.lemmas.List.Elements.{All-head, All-push, All-tail}
 use Rattle.std.proofs.lemmas.List.Sorted.{All-permutation, sum_by-IsPermutation}
 use Rattle.std.proofs.lemmas.List.Sums.{sum_by-cons}
 use Rattle.cnf_core.specs.Formula.{Cnf}
-use Rattle.enc_atoms.specs.Atoms.{AreOfDomains}
 use Rattle.enc_steps.specs.Steps.{IsReady}
 use Rattle.enc_var.specs.Decoding.{VariableLiterals}
 use Rattle.enc_adder.proofs.Sums.{none_spelled, none_total, numbers_below, total_cons, total_front, total_push}
 use Rattle.enc_adder.proofs.Widening.{no_longer, numbers_later, widens_like, widens_nothing, widens_then}
-use Rattle.enc_adder.specs.Bits.{AreBits, AreNumbers, IsBit, Spells, Widens, spelled, total}
+use Rattle.enc_adder.specs.Bits.{AreBits, AreNumbers, Spells, Widens, spelled, total}
 use Rattle.enc_adder.specs.declared.bits.Binary.{Binary}
 
 above_zero : ℤ → ℕ

@@ -1,11 +1,11 @@
 -- The two sides of a comparison, and what their difference comes to.
-use Rattle.std.proofs.Common.{◌≡◌, ◌⊎◌, ℕ, zero, suc, ◌+◌, ◌*◌, ◌<◌, ◌≤◌, ℤ, pos, negsuc, neg_ℤ, ◌+ℤ◌, ◌-ℤ◌, ◌*ℤ◌, int_le, int_lt, Bool, true, false, not, List, [], ◌∷◌, ◌++◌, length, take, map, refl, sym, ap, subst, ◌∙◌, arith, get_or}
+use Rattle.std.proofs.Common.{◌≡◌, ℕ, zero, suc, ◌+◌, ◌*◌, ◌<◌, ◌≤◌, ℤ, pos, negsuc, neg_ℤ, ◌+ℤ◌, ◌-ℤ◌, ◌*ℤ◌, int_le, int_lt, Bool, true, false, not, List, [], ◌∷◌, ◌++◌, length, take, refl, sym, ap, subst, ◌∙◌, arith, get_or}
 use Rattle.std.specs.List.{All}
 use Rattle.std.specs.Ordering.{int_eq}
 use Rattle.std.proofs.lemmas.Bool.Decides.{Decides-int_eq}
 use Rattle.std.proofs.lemmas.Int.{ints}
 use Rattle.std.proofs.lemmas.List.{take_all, take_more}
-use Rattle.std.proofs.lemmas.List.Elements.{All-get_or, All-head, All-push, All-tail, All-take, All-weaker}
+use Rattle.std.proofs.lemmas.List.Elements.{All-head, All-push, All-tail, All-take, All-weaker}
 use Rattle.cnf_core.specs.Formula.{Cnf}
 use Rattle.ep_base.specs.Numbers.{compare_holds, sum_of}
 use Rattle.ep_base.specs.Reads.{weighted_sum}
@@ -17,7 +17,7 @@ use Rattle.enc_var.specs.Decoding.{VariableLiterals}
 use Rattle.ep_flat.specs.Cons.{number_at}
 use Rattle.enc_adder.proofs.Sums.{none_total, numbers_below, total_front, total_push}
 use Rattle.enc_adder.proofs.Widening.{no_longer, numbers_later, widens_like, widens_nothing, widens_then}
-use Rattle.enc_adder.specs.Bits.{AreBits, AreNumbers, Spells, Widens, spelled, total}
+use Rattle.enc_adder.specs.Bits.{AreBits, AreNumbers, Spells, spelled, total}
 use Rattle.enc_adder.specs.Parts.{HasSides, Levels, difference, sum_of_parts}
 use Rattle.enc_adder.specs.declared.bits.Binary.{Binary}
 use Rattle.enc_adder.specs.declared.sides.Sides.{Sides}

@@ -1,10 +1,9 @@
 -- Numbers in binary: what bits spell, and sums of them from place to place.
-use Rattle.std.proofs.Common.{inl, inr, ◌≡◌, ◌↔◌, ℕ, zero, suc, ◌+◌, ◌<◌, ◌≤◌, ℤ, pos, ◌+ℤ◌, ◌-ℤ◌, ◌*ℤ◌, List, [], ◌∷◌, ◌++◌, length, take, drop, map, refl, sym, ap, subst, ◌∙◌, arith, get_or}
+use Rattle.std.proofs.Common.{◌≡◌, ℕ, zero, suc, ◌+◌, ◌<◌, ◌≤◌, ℤ, pos, ◌+ℤ◌, ◌*ℤ◌, List, [], ◌∷◌, ◌++◌, length, take, drop, refl, sym, ap, subst, ◌∙◌, arith, get_or}
 use Rattle.std.specs.List.{All}
-use Rattle.std.specs.List.Sorted.{IsPermutation}
 use Rattle.std.proofs.lemmas.Int.{ints}
-use Rattle.std.proofs.lemmas.List.{drop_all, map-append}
-use Rattle.std.proofs.lemmas.List.Elements.{All-append, All-cons, All-drop, All-head, All-nil, All-push, All-tail, All-weaker}
+use Rattle.std.proofs.lemmas.List.{drop_all}
+use Rattle.std.proofs.lemmas.List.Elements.{All-drop, All-head, All-nil, All-push, All-tail, All-weaker}
 use Rattle.cnf_core.specs.Formula.{Cnf}
 use Rattle.ep_base.specs.Numbers.{sum_of}
 use Rattle.enc_atoms.proofs.Decoded.{number_front}
@@ -12,7 +11,7 @@ use Rattle.enc_atoms.specs.Atoms.{AreOfDomains}
 use Rattle.enc_steps.specs.Steps.{IsReady}
 use Rattle.enc_var.specs.Decoding.{VariableLiterals}
 use Rattle.ep_flat.specs.Cons.{number_at}
-use Rattle.enc_adder.proofs.Widening.{bit_later, bits_later, constant_is, constant_later, no_longer, numbers_later, widens_like, widens_nothing, widens_then, zero_bit}
+use Rattle.enc_adder.proofs.Widening.{bit_later, bits_later, constant_is, constant_later, no_longer, widens_like, widens_nothing, widens_then, zero_bit}
 use Rattle.enc_adder.specs.Adding.{HasSum}
 use Rattle.enc_adder.specs.Bits.{AreBits, AreNumbers, IsBit, IsConstant, IsSum, Spells, Widens, spelled, total}
 use Rattle.enc_adder.specs.declared.bits.Binary.{Binary}

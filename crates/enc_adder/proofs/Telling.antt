@@ -1,5 +1,5 @@
 -- A sum that compares with a number, by the bits of its two sides.
-use Rattle.std.proofs.Common.{inl, inr, ◌≡◌, ◌↔◌, ℕ, ◌<◌, ◌≤◌, ℤ, pos, ◌+ℤ◌, ◌-ℤ◌, Bool, true, false, IsTrue, List, [], ◌∷◌, length, take, refl, sym, ap, subst, ◌∙◌, arith}
+use Rattle.std.proofs.Common.{inl, inr, ◌≡◌, ◌↔◌, ℕ, ◌<◌, ◌≤◌, ℤ, pos, ◌-ℤ◌, Bool, true, false, IsTrue, List, [], ◌∷◌, length, take, refl, sym, ap, subst, ◌∙◌, arith}
 use Rattle.std.specs.List.{All}
 use Rattle.std.specs.Ordering.{int_eq}
 use Rattle.std.specs.Prelude.{Option, Some, None}
@@ -9,18 +9,18 @@ use Rattle.ep_base.specs.Numbers.{compare_holds, of_bool}
 use Rattle.ep_base.specs.declared.operators.CompareOp.{CompareOp}
 use Rattle.enc_atoms.proofs.Decoded.{number_front}
 use Rattle.enc_atoms.proofs.Adding.{adds_like}
-use Rattle.enc_atoms.specs.Atoms.{Adds, AreOfDomains, clause_holds}
+use Rattle.enc_atoms.specs.Atoms.{Adds, clause_holds}
 use Rattle.enc_atoms.specs.declared.atoms.Atom.{Atom}
 use Rattle.enc_steps.proofs.Guards.{adds_decided, unless_like}
 use Rattle.enc_steps.proofs.Meanings.{either, guard_fails, is_clause, not_false, other, other_test, same, same_test}
 use Rattle.enc_steps.proofs.Naming.{adds_some}
-use Rattle.enc_steps.specs.Steps.{HasTruth, IsReady, IsTruth, Unless, is, is_not}
+use Rattle.enc_steps.specs.Steps.{HasTruth, IsTruth, Unless, is, is_not}
 use Rattle.enc_var.specs.Decoding.{VariableLiterals}
 use Rattle.enc_var.specs.Layouts.{IsLayoutOf}
 use Rattle.ep_flat.specs.Cons.{is_as_said, number_at}
 use Rattle.enc_adder.proofs.SideSums.{compare_moved, parts_below, parts_front}
 use Rattle.enc_adder.proofs.Sums.{below, numbers_below, spelled_front, total_front}
-use Rattle.enc_adder.proofs.Widening.{no_longer, widens_end, widens_like, widens_then}
+use Rattle.enc_adder.proofs.Widening.{no_longer, widens_end, widens_then}
 use Rattle.enc_adder.specs.Bits.{AreBits, AreNumbers, Spells, Widens, spelled, total}
 use Rattle.enc_adder.specs.Comparing.{Tells}
 use Rattle.enc_adder.specs.Parts.{HasSides, Levels, difference, sum_of_parts}

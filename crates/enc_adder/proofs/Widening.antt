@@ -1,13 +1,13 @@
 -- Laws of steps that take no assignment away.
-use Rattle.std.proofs.Common.{inl, inr, ◌≡◌, ◌↔◌, ℕ, zero, suc, ◌+◌, ◌<◌, ◌≤◌, ℤ, pos, Bool, IsTrue, List, [], ◌∷◌, ◌++◌, length, take, refl, sym, ap, subst, ◌∙◌, arith, get_or}
-use Rattle.std.specs.List.{All, Contains}
+use Rattle.std.proofs.Common.{inl, inr, ◌≡◌, ◌↔◌, ℕ, zero, suc, ◌+◌, ◌<◌, ◌≤◌, ℤ, pos, Bool, List, [], ◌∷◌, ◌++◌, length, take, refl, sym, ap, subst, ◌∙◌, arith, get_or}
+use Rattle.std.specs.List.{Contains}
 use Rattle.std.proofs.lemmas.List.{get_or-append-add, get_or-take}
 use Rattle.std.proofs.lemmas.List.Elements.{All-weaker}
 use Rattle.cnf_core.proofs.Keeping.{agree_below, agree_on}
 use Rattle.cnf_core.specs.Clauses.{AgreeUpTo, Satisfies}
 use Rattle.cnf_core.specs.Formula.{Cnf, Extends}
 use Rattle.enc_atoms.proofs.Adding.{goes_further, goes_nowhere, satisfied_before}
-use Rattle.enc_atoms.proofs.Decoded.{length_among, number_among, values_along, values_among, values_front}
+use Rattle.enc_atoms.proofs.Decoded.{number_among, values_along, values_among, values_front}
 use Rattle.enc_atoms.specs.Atoms.{Adds, AreOfDomains}
 use Rattle.enc_steps.proofs.NewTruths.{adds_truths, length-numbers_from, length_later, numbers_from_at}
 use Rattle.enc_steps.specs.Steps.{HasTruths, IsReady, IsTruth, SomeTruths, numbers_from}

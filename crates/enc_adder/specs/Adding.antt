@@ -1,5 +1,5 @@
 -- What a full adder gives.
-use Rattle.std.specs.Prelude.{ℕ, ℤ, List}
+use Rattle.std.specs.Prelude.{ℕ, List}
 use Rattle.cnf_core.specs.Formula.{Cnf}
 use Rattle.enc_adder.specs.Bits.{IsBit, IsSum, Widens}
 use Rattle.enc_var.specs.Decoding.{VariableLiterals}

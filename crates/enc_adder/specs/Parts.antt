@@ -1,5 +1,5 @@
 -- Parts of a sum: what the numbers of a variable are worth.
-use Rattle.std.specs.Prelude.{◌≡◌, ℕ, ℤ, pos, ◌%◌, ◌/◌, ◌+ℤ◌, ◌-ℤ◌, ◌*ℤ◌, List, map}
+use Rattle.std.specs.Prelude.{◌≡◌, ℕ, ℤ, pos, ◌%◌, ◌/◌, ◌+ℤ◌, ◌-ℤ◌, List, map}
 use Rattle.std.specs.List.{All}
 use Rattle.cnf_core.specs.Formula.{Cnf}
 use Rattle.ep_base.specs.Reads.{weighted_sum}

@@ -1,3 +1,4 @@
 pub mod Telling
 pub mod Fronts
 pub mod Encoding
+pub mod LinearParts

@@ -4,6 +4,7 @@
 mod families;
 mod truths;
 mod whole;
+mod wide;
 
 pub use whole::encode;
 

@@ -1,4 +1,4 @@
-use Rattle.std.proofs.Common.{arith, subst, sym}
+use Rattle.std.proofs.Common.{subst, sym}
 use Rattle.enc_adder.proofs.Queues.{first_is, none_left, nothing_left, one_left, queue_begun, rest_is, two_added}
 use Rattle.enc_adder.proofs.Widening.{constant_later, ready_later}
 use Rattle.enc_adder.specs.Bits.{AreBits}

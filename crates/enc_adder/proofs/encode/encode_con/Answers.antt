@@ -1,9 +1,7 @@
-use Rattle.std.proofs.Common.{◌≡◌, ◌∙◌, ℕ, ℤ, IsTrue, List, length, map, ap, subst, sym, ◌<◌, arith}
-use Rattle.std.specs.List.{All}
+use Rattle.std.proofs.Common.{ap, arith}
 use Rattle.std.proofs.lemmas.Int.{ints}
 use Rattle.std.proofs.lemmas.Result.{on_ok_weaker}
 use Rattle.ep_base.specs.Numbers.{compare_holds}
-use Rattle.ep_flat.specs.Cons.{kind_holds, kind_variables}
 use Rattle.ep_flat.specs.FlatViews.{plain_con, plain_kind}
 use Rattle.enc_steps.proofs.Naming.{keeps_con, kind_named, truth_named}
 use Rattle.enc_adder.proofs.LinearKinds.{linear_named, linear_says}

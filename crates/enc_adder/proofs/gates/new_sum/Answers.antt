@@ -1,4 +1,4 @@
-use Rattle.std.proofs.Common.{◌≡◌, ◌∙◌, length, arith, rules, vec_len}
+use Rattle.std.proofs.Common.{◌≡◌, length, arith, rules, vec_len}
 use Rattle.enc_adder.proofs.GateSteps.{made_sum}
 use Rattle.enc_adder.proofs.Widening.{bit_later, made_at, made_many, new_bit_is}
 use Rattle.enc_adder.proofs.gates.new_sum.Goals as goal

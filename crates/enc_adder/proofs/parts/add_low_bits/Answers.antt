@@ -1,4 +1,4 @@
-use Rattle.std.proofs.Common.{arith, ◌≡◌, ◌∙◌, ℤ, List, pos, refl, get_or, w64, to_z, of_z, rules}
+use Rattle.std.proofs.Common.{arith, ◌≡◌, ◌∙◌, ℤ, List, pos, get_or, w64, rules}
 use Rattle.std.proofs.lemmas.Int.{ints, to_z-of_z}
 use Rattle.ep_flat.specs.Cons.{number_at}
 use Rattle.enc_atoms.proofs.Adding.{adds_all, adds_none, adds_one_more}

@@ -1,4 +1,4 @@
-use Rattle.std.proofs.Common.{arith, refl}
+use Rattle.std.proofs.Common.{arith}
 use Rattle.enc_steps.proofs.NewTruths.{length_later}
 use Rattle.enc_adder.proofs.Halves.{even_bit, made_bit, own_bit}
 use Rattle.enc_adder.proofs.parts.low_bit_of.Goals as goal

@@ -1,4 +1,4 @@
-use Rattle.std.proofs.Common.{◌∙◌, arith, refl, subst, sym, ap, map}
+use Rattle.std.proofs.Common.{◌∙◌, arith, subst, sym, ap, map}
 use Rattle.std.proofs.lemmas.Int.{ints}
 use Rattle.enc_adder.specs.Parts.{AreStepsOf, HaveWorths, half_step}
 use Rattle.enc_adder.proofs.Halves.{all_bits_as, begun, one_bit_more}

@@ -1,4 +1,4 @@
-use Rattle.std.proofs.Common.{◌≡◌, ◌∙◌, ◌*ℤ◌, ℤ, refl, ap, arith, rules, to_z, of_z, w64}
+use Rattle.std.proofs.Common.{◌*ℤ◌, ℤ, refl, ap, arith, rules, to_z, of_z, w64}
 use Rattle.std.specs.Int.{w128}
 use Rattle.std.proofs.lemmas.Int.{ints, to_z-of_z}
 use Rattle.enc_adder.proofs.SideSums.{on_left, on_right, rest_as}

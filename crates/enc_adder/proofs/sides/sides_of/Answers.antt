@@ -1,7 +1,7 @@
 use Rattle.std.proofs.Common.{◌≡◌, ℕ, ℤ, pos, refl, get_or, w64, to_z, of_z, rules}
 use Rattle.std.proofs.lemmas.Int.{to_z-of_z}
-use Rattle.enc_adder.proofs.SideSums.{all_parts, no_side, one_part_more, parts_below}
-use Rattle.enc_adder.proofs.Widening.{constant_later, no_longer, ready_later}
+use Rattle.enc_adder.proofs.SideSums.{all_parts, no_side, one_part_more}
+use Rattle.enc_adder.proofs.Widening.{constant_later, ready_later}
 use Rattle.enc_adder.proofs.sides.sides_of.Goals as goal
 
 pub loop-part-init : goal.loop-part-init

@@ -1,9 +1,10 @@
-use Rattle.std.proofs.Common.{◌≡◌, ◌∙◌, ◌<◌, ◌++◌, ap, length, map, option_to_list, subst, sym, IsTrue}
+use Rattle.std.proofs.Common.{◌≡◌, ◌∙◌, ◌<◌, ◌++◌, ap, arith, length, map, option_to_list, subst, sym, IsTrue}
 use Rattle.std.specs.List.{All}
+use Rattle.std.proofs.lemmas.Int.{ints}
 use Rattle.std.proofs.lemmas.Result.{on_ok_weaker}
 use Rattle.enc_all.proofs.families.encode_con.Goals as goal
 use Rattle.enc_atoms.specs.Atoms.{Adds}
-use Rattle.ep_flat.specs.Cons.{all_of, clause, con_holds, con_variables, family_of, is_as_said, kind_holds, kind_variables, same_truth}
+use Rattle.ep_flat.specs.Cons.{all_of, clause, con_holds, con_variables, family_of, is_as_said, kind_holds, kind_variables, linear, same_truth}
 use Rattle.ep_flat.specs.FlatViews.{plain_kind}
 
 pub encode_clause-requires-clause-names : goal.encode_clause-requires-clause-names
@@ -44,13 +45,13 @@ returns-in-Same c =
     (λ h. subst (λ k. Adds c.args.layout.now c.args.f.now c.args.layout.now c.encode_same.new.f (λ values. IsTrue (is_as_said values c.args.con.now.truth (kind_holds values k))))
     (sym (ap plain_kind c.in-Same.is)) h) c.encode_same.ensures
 
+pub encode_linear-requires-clause-linear : goal.encode_linear-requires-clause-linear
+encode_linear-requires-clause-linear c =
+    ap plain_kind c.in-Linear.is ∙ ap (λ ps. linear ps c.in-Linear.op c.in-Linear.number) (sym c.deref-in-Linear.ensures.value) ∙ ap (linear c.deref-in-Linear.result.now c.in-Linear.op) (omega (arith, ints))
+
 pub encode_con-requires-clause-family : goal.encode_con-requires-clause-family
 unfolding family_of
-encode_con-requires-clause-family c = ap (λ k. family_of (plain_kind k)) c.in-Linear.is
-
-pub encode_con-requires-in-Member-clause-family : goal.encode_con-requires-in-Member-clause-family
-unfolding family_of
-encode_con-requires-in-Member-clause-family c = ap (λ k. family_of (plain_kind k)) c.in-Member.is
+encode_con-requires-clause-family c = ap (λ k. family_of (plain_kind k)) c.in-Member.is
 
 pub encode_con-requires-in-Product-clause-family : goal.encode_con-requires-in-Product-clause-family
 unfolding family_of
