@@ -1,7 +1,6 @@
 -- What a search in the problem of an instance's ground leaves in its log.
-use Rattle.std.proofs.Common.{◌≡◌, ◌↔◌, ◌-◌, ℕ, ℤ, Bool, true, List, [], ◌∷◌, ◌++◌, drop, length, take, map, Option, Some, None, refl, sym, ap, subst, ◌∙◌, arith}
-use Rattle.std.specs.Prelude.{All, slice_get}
-use Rattle.std.specs.List.{AllZip}
+use Rattle.std.proofs.Common.{◌≡◌, ◌↔◌, ℕ, ℤ, Bool, true, List, [], ◌∷◌, ◌++◌, drop, length, take, map, Option, Some, None, refl, sym, ap, subst, ◌∙◌, arith}
+use Rattle.std.specs.Prelude.{All}
 use Rattle.std.proofs.Math.Seq.{take-append_seam}
 use Rattle.std.proofs.lemmas.List.{append-nil, append_cancel_left, length-take, take-append-drop}
 use Rattle.std.proofs.lemmas.List.Elements.{All-take}
@@ -11,27 +10,24 @@ use Rattle.cnf_core.specs.Literal.{Literal}
 use Rattle.enc_var.specs.Decoding.{Means}
 use Rattle.enc_var.specs.Layouts.{GivesCells, decoded_cells, decoded_values}
 use Rattle.enc_var.specs.Notes.{cell_notes}
-use Rattle.ep_answer.specs.Answered.{AnswersCells, FoundCells, Improves, IsBetterThan, IsBudgetSpent, IsRightAnswer, IsStillWanted as IsCellWanted, SaysBetter, best_number}
-use Rattle.ep_answer.specs.Answered as cells
+use Rattle.ep_answer.specs.Answered.{IsBetterThan, IsBudgetSpent, IsStillWanted as IsCellWanted}
 use Rattle.ep_answer.specs.Problems.{IsAllowed, ProblemState, base_clauses}
 use Rattle.ep_flat.specs.Flats.{MapsCells, objective_number}
 use Rattle.ep_ground.specs.declared.cells.Cell.{Cell}
 use Rattle.ep_tree.specs.Binding.{Instance}
 use Rattle.ep_tree.specs.Solutions.{Assigned, Found, IsSolution, goal_value}
 use Rattle.ep_tree.specs.declared.values.Mode.{Mode}
-use Rattle.ep_print.specs.Answers.{AnswerTree}
 use Rattle.ep_unroll.specs.Cells.{found_numbers, instance_cells}
-use Rattle.ep_solve.specs.Logged.{AreWanted, IsBetterGoal, IsLogged, IsStillWanted, ShowsAnswer, Stands, TellNumbers, TellSolutions, added_clauses, noted_value}
+use Rattle.ep_solve.specs.Logged.{AreWanted, IsBetterGoal, IsStillWanted, Stands, TellNumbers, TellSolutions, added_clauses, noted_value}
 use Rattle.ep_solve.specs.Formulas.{Solves}
-use Rattle.ep_solve.specs.Searched.{KeepsGivens}
-use Rattle.ep_solve.specs.Reading.{answer_from, assignment_from, found_of}
+use Rattle.ep_solve.specs.Reading.{assignment_from, found_of}
 use Rattle.ep_solve.proofs.Answering.{Allows, HasSense, same-better, same-some, stated-variable}
 use Rattle.ep_solve.proofs.Solved.{SearchedFor, allows-after, own-clauses, same-base}
 use Rattle.ep_solve.proofs.Telling.{as-many, notes-named, notes-tell}
 
 -- ---- givens of the first events
 
-givens-append : (before added : List LogEvent) → givens (before ++ added) ≡ givens before ++ givens added
+pub givens-append : (before added : List LogEvent) → givens (before ++ added) ≡ givens before ++ givens added
 givens-append [] added = refl
 givens-append (given clause ∷ before) added = ap (λ cs. clause ∷ cs) (givens-append before added)
 givens-append (step clause hints ∷ before) added = givens-append before added
@@ -55,7 +51,7 @@ pub record Keeps (mode : Mode) (i : Instance) (p : ProblemState) (log : LogState
   pub meaning : (s : ℕ → Bool) → Satisfies s (base_clauses log) → All (Means s) p.layout
 
 -- under an assignment the notes tell the numbers that it gives the cells
-told : (mode : Mode) (i : Instance) (p : ProblemState) (log : LogState) → Keeps mode i p log → (s : ℕ → Bool) → Satisfies s (base_clauses log)
+pub told : (mode : Mode) (i : Instance) (p : ProblemState) (log : LogState) → Keeps mode i p log → (s : ℕ → Bool) → Satisfies s (base_clauses log)
     → TellNumbers s log.notes (instance_cells i) (decoded_cells p.layout p.variables s)
 told mode i p log k s met =
     subst (λ notes. TellNumbers s notes (instance_cells i) (decoded_cells p.layout p.variables s)) (sym k.notes)
@@ -107,7 +103,7 @@ tell-solutions mode i p log k clauses own W V agree left = record {
 
 -- ---- what is better than the solution at hand
 
-better-wanted : (i : Instance) (p : ProblemState) (best : ℤ) (goal : Option ℤ) → HasSense p i → IsBetterThan p best goal ↔ IsBetterGoal i best goal
+pub better-wanted : (i : Instance) (p : ProblemState) (best : ℤ) (goal : Option ℤ) → HasSense p i → IsBetterThan p best goal ↔ IsBetterGoal i best goal
 better-wanted i p best goal senses = (
   λ h.
       let named = stated-variable i.goal p.variables.objective h.sense h.variable (sym senses) h.stated in
@@ -118,7 +114,7 @@ better-wanted i p best goal senses = (
 )
 
 -- the objective's number in the solution at hand
-abbrev best-of : Option (ℤ × List ℤ) → Option ℤ
+abbrev pub best-of : Option (ℤ × List ℤ) → Option ℤ
 best-of None = None
 best-of (Some one) = Some one.0
 
@@ -156,7 +152,7 @@ stands mode i h k = record {
   told = tell-solutions mode i h.p h.new k (base_clauses h.new) (λ s met. met) (λ numbers goal. Unit {0}) (λ found. Unit {0}) (λ a s. (λ x. tt, λ x. tt)) (λ numbers goal. (λ gives. (gives, tt), λ both. both.0));
 }
 
-leaves : (mode : Mode) (i : Instance) (p : ProblemState) (budget : ℕ) (log : LogState) (best : Option (ℤ × List ℤ)) → Keeps mode i p log → HasSense p i
+pub leaves : (mode : Mode) (i : Instance) (p : ProblemState) (budget : ℕ) (log : LogState) (best : Option (ℤ × List ℤ)) → Keeps mode i p log → HasSense p i
     → IsBudgetSpent p budget log best → TellSolutions mode i log.notes (givens log.events) (λ found. IsStillWanted i (best-of best) (goal_value mode i found))
 leaves mode i p budget log best k senses spent =
     tell-solutions mode i p log k (givens log.events) (λ s met. narrower s log.base log.events met)
@@ -166,7 +162,7 @@ leaves mode i p budget log best k senses spent =
     ))
 
 -- where no given was added to the log of a search, none stands behind its base
-none-added : (old new : LogState) → old.base ≡ length old.events → take (length old.events) new.events ≡ old.events → new.base ≡ old.base → givens new.events ≡ givens old.events → added_clauses new ≡ []
+pub none-added : (old new : LogState) → old.base ≡ length old.events → take (length old.events) new.events ≡ old.events → new.base ≡ old.base → givens new.events ≡ givens old.events → added_clauses new ≡ []
 none-added old new whole front base same =
     let n : new.base ≡ length old.events = base ∙ whole in
     let added : List (List Literal) = givens (drop (length old.events) new.events) in
@@ -174,65 +170,3 @@ none-added old new whole front base same =
     sym (ap givens (take-append-drop (length old.events) new.events)) ∙ givens-append (take (length old.events) new.events) (drop (length old.events) new.events)
     ∙ ap (λ es. givens es ++ added) front in
     ap (λ k. givens (drop k new.events)) n ∙ append_cancel_left (givens old.events) added [] (sym all ∙ same ∙ sym (append-nil (givens old.events)))
-
-shows : (mode : Mode) (i : Instance) (budget : ℕ) (found : FoundCells) → (h : SearchedFor mode i) → Keeps mode i h.p h.new → KeepsGivens found h.old h.new
-    → IsRightAnswer h.p budget h.new found → ShowsAnswer mode i budget h.new (answer_from i.finds budget found)
-unfolding IsRightAnswer ShowsAnswer answer_from KeepsGivens
-shows mode i budget (cells.solution ns) h k none right = none-added h.old h.new h.poses.is_base h.front h.base none
-shows mode i budget (cells.optimum n ns) h k none right = right.ends
-shows mode i budget cells.no_solution h k none right = (right.ends, none-added h.old h.new h.poses.is_base h.front h.base none)
-shows mode i budget (cells.unknown None) h k none right = ((right.steps, right.none_is_empty), none-added h.old h.new h.poses.is_base h.front h.base none)
-shows mode i budget (cells.unknown (Some best)) h k none right = ((right.steps, right.none_is_empty), leaves mode i h.p budget h.new (Some best) k h.poses.stands.senses right)
-
--- what was found in the problem of an instance is logged
-pub found-logged : (mode : Mode) (i : Instance) (budget : ℕ) (found : FoundCells) (answer : AnswerTree) → (h : SearchedFor mode i) → h.new.notes ≡ h.old.notes
-    → KeepsGivens found h.old h.new → AnswersCells h.p budget h.new found → answer ≡ answer_from i.finds budget found → IsLogged mode i budget h.new answer
-found-logged mode i budget found answer h notes none answers same =
-    let k : Keeps mode i h.p h.new = kept mode i h notes in
-    record {
-      stands = stands mode i h k;
-      sound = answers.sound;
-      within = answers.within;
-      shows = subst (ShowsAnswer mode i budget h.new) (sym same) (shows mode i budget found h k none answers.right);
-    }
-
--- a search that adds no given keeps them, whatever it finds
-pub keeps_same : (found : FoundCells) (old new : LogState) → givens new.events ≡ givens old.events → KeepsGivens found old new
-unfolding KeepsGivens
-keeps_same (cells.solution ns) old new same = same
-keeps_same (cells.optimum n ns) old new same = tt
-keeps_same cells.no_solution old new same = same
-keeps_same (cells.unknown None) old new same = same
-keeps_same (cells.unknown (Some best)) old new same = tt
-
--- a list whose last element isn't there is empty
-empty-without-last : (ns : List ℤ) → slice_get ns (length ns - 1) ≡ None → ns ≡ []
-empty-without-last [] h = refl
-empty-without-last (n ∷ ns) h =
-    let before : length (n ∷ ns) - 1 ≡ length ns = omega arith in
-    absurd (there n ns (subst (λ (k : ℕ). slice_get (n ∷ ns) k ≡ None) before h))
-  where
-    there : (m : ℤ) (ms : List ℤ) → slice_get (m ∷ ms) (length ms) ≡ None → ⊥
-    there m [] e = absurd cc
-    there m (k ∷ ms) e = there k ms e
-
--- a search for the best solution that reached none added no given
-without-best : (p : ProblemState) (old new : LogState) (found : FoundCells) → Improves p old new found → take (length old.events) new.events ≡ old.events → best_number found ≡ None → givens new.events ≡ givens old.events
-without-best p old new found h front none =
-    let added : List (List Literal) = givens (drop (length old.events) new.events) in
-    let no_bests : h.bests ≡ [] = empty-without-last h.bests (h.last ∙ none) in
-    let no_clauses : added ≡ [] = alone added (subst (λ ns. AllZip (SaysBetter p) ns added) no_bests h.said) in
-    sym (ap givens (take-append-drop (length old.events) new.events)) ∙ givens-append (take (length old.events) new.events) (drop (length old.events) new.events)
-    ∙ ap (λ es. givens es ++ added) front ∙ ap (λ cs. givens old.events ++ cs) no_clauses ∙ append-nil (givens old.events)
-  where
-    alone : (cs : List (List Literal)) → AllZip (SaysBetter p) [] cs → cs ≡ []
-    alone [] all = refl
-    alone (c ∷ cs) all = absurd all
-
-pub keeps_improved : (p : ProblemState) (found : FoundCells) (old new : LogState) → Improves p old new found → take (length old.events) new.events ≡ old.events → KeepsGivens found old new
-unfolding KeepsGivens best_number
-keeps_improved p (cells.solution ns) old new h front = without-best p old new (cells.solution ns) h front refl
-keeps_improved p (cells.optimum n ns) old new h front = tt
-keeps_improved p cells.no_solution old new h front = without-best p old new cells.no_solution h front refl
-keeps_improved p (cells.unknown None) old new h front = without-best p old new (cells.unknown None) h front refl
-keeps_improved p (cells.unknown (Some best)) old new h front = tt

@@ -9,4 +9,6 @@ pub mod Standing
 pub mod Solved
 pub mod Telling
 pub mod Leaving
+pub mod Stepwise
+pub mod Showing
 pub mod ListingRight

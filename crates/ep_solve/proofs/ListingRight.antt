@@ -1,11 +1,12 @@
 -- What is listed in the problem of an instance is a right list of its solutions, and the log shows it.
-use Rattle.std.proofs.Common.{◌≡◌, ◌≢◌, ◌↔◌, ℕ, ◌<◌, suc, zero, ℤ, List, [], ◌∷◌, drop, length, map, Option, refl, sym, ap, subst, ◌∙◌, arith}
+use Rattle.std.proofs.Common.{◌≡◌, ◌≢◌, ◌↔◌, ℕ, ◌<◌, suc, zero, ℤ, List, [], ◌∷◌, length, map, take, Option, refl, sym, ap, subst, ◌∙◌, arith}
 use Rattle.std.specs.List.{All, AllPairs, AllZip, Contains}
-use Rattle.std.proofs.lemmas.List.{length-map}
-use Rattle.std.proofs.lemmas.List.Elements.{All-contains, All-map, All-tail, All-weaker}
+use Rattle.std.proofs.lemmas.List.{length-map, take-map}
+use Rattle.std.proofs.lemmas.List.Elements.{All-contains, All-map, All-tail, All-take, All-weaker}
 use Rattle.std.proofs.lemmas.List.Kept.{AllPairs-cons}
 use Rattle.cnf_core.specs.Events.{givens}
-use Rattle.ep_answer.specs.Answered.{BlocksCells, IsRightEnd, ListingEnd, ListsCells, added_givens}
+use Rattle.cnf_core.specs.Literal.{Literal}
+use Rattle.ep_answer.specs.Answered.{BlocksCells, IsNegatedNote, IsRightEnd, ListingEnd, ListsCells, added_givens}
 use Rattle.ep_answer.specs.Answered as cells
 use Rattle.ep_answer.specs.Problems.{IsAllowed}
 use Rattle.ep_print.specs.Listings.{ListingTree}
@@ -15,11 +16,13 @@ use Rattle.ep_tree.specs.declared.values.Mode.{Mode}
 use Rattle.ep_unroll.specs.Cells.{found_numbers}
 use Rattle.ep_solve.specs.Formulas.{Solves}
 use Rattle.ep_solve.specs.Listed.{EndsRightly, IsListed, IsUnlisted, Lists}
+use Rattle.ep_solve.specs.Logged.{SaysOfSolutions, TellSolutions, added_clauses, first_givens}
 use Rattle.ep_solve.specs.Reading.{assignment_from, end_from, found_of, listing_from}
 use Rattle.ep_solve.specs.Right.{IsWritten}
 use Rattle.ep_solve.proofs.Cells.{found-read}
 use Rattle.ep_solve.proofs.Leaving.{Agree, Keeps, kept, narrower, stands, tell-solutions}
 use Rattle.ep_solve.proofs.Solved.{SearchedFor}
+use Rattle.ep_solve.proofs.Stepwise.{Says, added-behind, as-long, not-among, says-of-solutions, tell-first, zip-mapped, zip-second, zip-weaker, zip-with}
 
 -- ---- lists of what a function gives of different elements
 
@@ -52,12 +55,6 @@ stay-different g back (x ∷ xs) again pairs =
 mapped-twice : {A B C : Type 0} (g : B → C) (f : A → B) (xs : List A) → map g (map f xs) ≡ map (λ x. g (f x)) xs
 mapped-twice g f [] = refl
 mapped-twice g f (x ∷ xs) = ap (λ ys. g (f x) ∷ ys) (mapped-twice g f xs)
-
-as-long : {A B : Type 0} (R : A → B → Type 0) (xs : List A) (ys : List B) → AllZip R xs ys → length xs ≡ length ys
-as-long R [] [] all = refl
-as-long R [] (y ∷ ys) all = absurd all
-as-long R (x ∷ xs) [] all = absurd all
-as-long R (x ∷ xs) (y ∷ ys) all = ap suc (as-long R xs ys all.1)
 
 -- ---- numbers of the cells that were found
 
@@ -92,6 +89,48 @@ solve-all mode i budget most h k found end lists =
     All-weaker (λ numbers. (goal : Option ℤ) × IsAllowed h.p h.new numbers goal) (λ numbers. (goal : Option ℤ) × Solves mode i numbers goal)
     (λ numbers one. (one.0, k.allows.solves numbers one.0 one.1)) found lists.allowed
 
+-- what is wanted of numbers that weren't found is what is wanted of a solution that isn't listed
+unlisted : (mode : Mode) (i : Instance) (found : List (List ℤ)) → AllSolve mode i found → Agree mode i (λ numbers goal. Contains found numbers → ⊥) (IsUnlisted (map (read-as i) found))
+unlisted mode i found all a s =
+    let both = listed-as mode i found all a s in
+    (λ none there. none (both.1 there), λ none there. none (both.0 there))
+
+-- each given that was added says of the cells' numbers that they aren't those of a solution
+abbrev Differs : List ℤ → List ℤ → Option ℤ → Type 0
+Differs ones numbers goal = numbers ≢ ones
+
+-- each given that was added says that a solution gives other values
+blocked-each : (mode : Mode) (i : Instance) (h : SearchedFor mode i) → Keeps mode i h.p h.new → (found : List (List ℤ)) → AllSolve mode i found → AllZip (BlocksCells h.p h.new) found (added_givens h.old h.new)
+    → AllZip (λ a. SaysOfSolutions i h.new (λ other. other ≢ found_of a)) (map (read-as i) found) (added_clauses h.new)
+blocked-each mode i h k found all blocks =
+    zip-mapped (λ a. SaysOfSolutions i h.new (λ other. other ≢ found_of a)) (read-as i) found (added_clauses h.new)
+    (zip-with (λ numbers. (goal : Option ℤ) × Solves mode i numbers goal) (BlocksCells h.p h.new) (λ ones. SaysOfSolutions i h.new (λ other. other ≢ given-by i ones)) more found (added_clauses h.new) all
+    (subst (AllZip (BlocksCells h.p h.new) found) (added-behind mode i h) blocks))
+  where
+    more : (ones : List ℤ) (clause : List Literal) → ((goal : Option ℤ) × Solves mode i ones goal) → BlocksCells h.p h.new ones clause → SaysOfSolutions i h.new (λ other. other ≢ given-by i ones) clause
+    more ones clause solves one =
+        says-of-solutions mode i h.p h.new k Differs ones (λ other. other ≢ given-by i ones) clause (λ numbers goal found. (
+          λ differ same. differ (sym found.reads.numbers_are ∙ ap found_numbers same ∙ solves.1.reads.numbers_are),
+          λ differ same. differ (ap (given-by i) same),
+        )) one.says
+
+-- the first so many givens that were added block the first so many that were listed
+blocked-first : (mode : Mode) (i : Instance) (h : SearchedFor mode i) → Keeps mode i h.p h.new → (found : List (List ℤ)) → AllSolve mode i found → AllZip (BlocksCells h.p h.new) found (added_givens h.old h.new)
+    → (count : ℕ) → TellSolutions mode i h.new.notes (first_givens h.new count) (IsUnlisted (take count (map (read-as i) found)))
+blocked-first mode i h k found all blocks count =
+    subst (λ listed. TellSolutions mode i h.new.notes (first_givens h.new count) (IsUnlisted listed)) (sym (take-map (read-as i) count found))
+    (tell-first mode i h.p h.new k found Differs say count (IsUnlisted (map (read-as i) (take count found))) agree)
+  where
+    say : AllZip (Says h.p Differs) found (added_clauses h.new)
+    say = subst (AllZip (Says h.p Differs) found) (added-behind mode i h)
+        (zip-weaker (BlocksCells h.p h.new) (Says h.p Differs) (λ ones clause one. one.says) found (added_givens h.old h.new) blocks)
+
+    agree : Agree mode i (λ numbers goal. All (λ ones. Differs ones numbers goal) (take count found)) (IsUnlisted (map (read-as i) (take count found)))
+    agree a s =
+        let among = not-among (take count found) (found_numbers s.found) in
+        let both = unlisted mode i (take count found) (All-take (λ numbers. (goal : Option ℤ) × Solves mode i numbers goal) count found all) a s in
+        (λ differ. both.0 (among.0 differ), λ none. among.1 (both.1 none))
+
 -- how the list ends
 ends-rightly : (mode : Mode) (i : Instance) (budget most : ℕ) (h : SearchedFor mode i) → Keeps mode i h.p h.new → (found : List (List ℤ)) (end : ListingEnd) → AllSolve mode i found
     → IsRightEnd h.p budget most h.new found end → EndsRightly mode i budget most h.new (map (read-as i) found) (end_from budget end)
@@ -125,14 +164,13 @@ lists-right mode i budget most found end listing h notes lists same =
       different = subst (AllPairs ◌≢◌) (sym (mapped-twice found_of (read-as i) found))
           (stay-different (given-by i) found_numbers found
           (All-weaker (λ numbers. (goal : Option ℤ) × Solves mode i numbers goal) (λ numbers. found_numbers (given-by i numbers) ≡ numbers) (λ numbers one. one.1.reads.numbers_are) found all) lists.different);
-      added = ap (λ n. length (givens (drop n h.new.events))) (h.base ∙ h.poses.is_base)
-          ∙ sym (as-long (BlocksCells h.p h.new) found (added_givens h.old h.new) lists.blocked) ∙ sym (length-map found (read-as i));
+      added = ap length (sym (added-behind mode i h)) ∙ sym (as-long (BlocksCells h.p h.new) found (added_givens h.old h.new) lists.blocked)
+          ∙ sym (length-map found (read-as i));
+      literals = subst (All (All (IsNegatedNote h.new))) (added-behind mode i h)
+          (zip-second (BlocksCells h.p h.new) (All (IsNegatedNote h.new)) (λ ones clause one. one.literals) found (added_givens h.old h.new) lists.blocked);
+      blocked = blocked-each mode i h k found all lists.blocked;
+      narrows = blocked-first mode i h k found all lists.blocked;
       left = tell-solutions mode i h.p h.new k (givens h.new.events) (λ s met. narrower s h.new.base h.new.events met)
-          (λ numbers goal. Contains found numbers → ⊥) (IsUnlisted (map (read-as i) found)) (unlisted all) lists.left;
+          (λ numbers goal. Contains found numbers → ⊥) (IsUnlisted (map (read-as i) found)) (unlisted mode i found all) lists.left;
       ends = ends-rightly mode i budget most h k found end all lists.right_end;
     })
-  where
-    unlisted : AllSolve mode i found → Agree mode i (λ numbers goal. Contains found numbers → ⊥) (IsUnlisted (map (read-as i) found))
-    unlisted all a s =
-        let both = listed-as mode i found all a s in
-        (λ none there. none (both.1 there), λ none there. none (both.0 there))

@@ -1,13 +1,14 @@
 -- Which lists of solutions are right for an instance, and what the log shows of them.
-use Rattle.std.specs.Prelude.{◌≡◌, ◌≢◌, ◌<◌, ◌≤◌, ℕ, List, length, map}
-use Rattle.std.specs.List.{All, AllPairs, Contains}
+use Rattle.std.specs.Prelude.{◌≡◌, ◌≢◌, ◌<◌, ◌≤◌, ℕ, List, length, map, take}
+use Rattle.std.specs.List.{All, AllPairs, AllZip, Contains}
 use Rattle.cnf_core.specs.Events.{LogState, givens, nonempty_steps}
+use Rattle.ep_answer.specs.Answered.{IsNegatedNote}
 use Rattle.ep_print.specs.Listings.{EndTree, ListingTree, complete, spent, stopped}
 use Rattle.ep_tree.specs.Binding.{Instance}
 use Rattle.ep_tree.specs.Solutions.{Assigned, Found, IsSolution}
 use Rattle.ep_tree.specs.declared.values.Mode.{Mode}
 use Rattle.sat_search.specs.Logs.{EndsWithEmptyStep, IsSound}
-use Rattle.ep_solve.specs.Logged.{Stands, TellSolutions, added_clauses}
+use Rattle.ep_solve.specs.Logged.{SaysOfSolutions, Stands, TellSolutions, added_clauses, first_givens}
 use Rattle.ep_solve.specs.Reading.{found_of}
 use Rattle.ep_solve.specs.Right.{IsSpent, IsWritten}
 
@@ -33,8 +34,9 @@ EndsRightly mode i budget most log listed (spent conflicts) =
 
 -- A list of solutions is right, and the log shows it: the log stands for the instance, its steps are valid, those with a literal
 -- are new and effective and no more than the budget; each assignment is a solution, written as the instance states it, and no
--- two give the decision variables the same values; one given was added for each of them, and what satisfies all givens of the log are
--- exactly the solutions that weren't listed; and the list ends rightly.
+-- two give the decision variables the same values; one given was added for each of them, over negations of the notes' literals: it
+-- says that a solution gives other values than that one, and what satisfies the givens up to it are exactly the solutions that aren't
+-- among those listed up to there; so what satisfies all givens of the log are those that weren't listed; and the list ends rightly.
 pub record Lists (mode : Mode) (i : Instance) (budget most : ℕ) (log : LogState) (listing : ListingTree) : Type 0 where
   pub stands : Stands mode i log
   pub sound : IsSound log.events
@@ -42,5 +44,9 @@ pub record Lists (mode : Mode) (i : Instance) (budget most : ℕ) (log : LogStat
   pub solutions : All (λ a. IsWritten i a × IsSolution mode i a) listing.found
   pub different : AllPairs ◌≢◌ (map found_of listing.found)
   pub added : length (added_clauses log) ≡ length listing.found
+  pub literals : All (All (IsNegatedNote log)) (added_clauses log)
+  pub blocked : AllZip (λ a. SaysOfSolutions i log (λ found. found ≢ found_of a)) listing.found (added_clauses log)
+  pub narrows : (count : ℕ)
+      → TellSolutions mode i log.notes (first_givens log count) (IsUnlisted (take count listing.found))
   pub left : TellSolutions mode i log.notes (givens log.events) (IsUnlisted listing.found)
   pub ends : EndsRightly mode i budget most log listing.found listing.ending

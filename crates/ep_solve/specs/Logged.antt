@@ -1,7 +1,7 @@
 -- What a log shows of an instance, beside its answer: that its givens stand for the instance, and which solutions are left.
-use Rattle.std.specs.Prelude.{◌≡◌, ◌↔◌, ◌≤◌, ℕ, ℤ, Bool, IsTrue, List, [], ◌∷◌, ◌++◌, drop, length, map, take, Option, Some, None}
-use Rattle.std.specs.List.{All, Contains}
-use Rattle.cnf_core.specs.Clauses.{IsTrueUnder, Satisfies}
+use Rattle.std.specs.Prelude.{◌≡◌, ◌↔◌, ◌≤◌, ◌+◌, ◌-◌, ℕ, ℤ, Bool, IsTrue, List, [], ◌∷◌, ◌++◌, drop, length, map, slice_get, take, Option, Some, None}
+use Rattle.std.specs.List.{All, AllPairs, AllZip, Contains}
+use Rattle.cnf_core.specs.Clauses.{IsTrueUnder, Satisfies, SatisfiesClause}
 use Rattle.cnf_core.specs.Events.{HasBase, LogState, Note, givens, nonempty_steps}
 use Rattle.cnf_core.specs.Literal.{Literal}
 use Rattle.enc_var.specs.Notes.{cell_text}
@@ -14,8 +14,8 @@ use Rattle.ep_tree.specs.Trees.{ExprTree}
 use Rattle.ep_tree.specs.declared.values.Mode.{Mode}
 use Rattle.ep_unroll.specs.Cells.{found_numbers, instance_cells}
 use Rattle.sat_search.specs.Logs.{EndsWithEmptyStep, IsSound}
-use Rattle.ep_solve.specs.Reading.{assignment_from}
-use Rattle.ep_solve.specs.Right.{IsSpent}
+use Rattle.ep_solve.specs.Reading.{assignment_from, found_of}
+use Rattle.ep_solve.specs.Right.{HasGoal, IsSpent}
 
 -- ---- what notes tell
 
@@ -95,16 +95,48 @@ Leaves mode i log best =
 abbrev pub added_clauses : LogState → List (List Literal)
 added_clauses log = givens (drop log.base log.events)
 
+-- the givens that stand for the instance, and the first so many behind them
+abbrev pub first_givens : LogState → ℕ → List (List Literal)
+first_givens log count = givens (take log.base log.events) ++ take count (added_clauses log)
+
+-- this number of the objective is that of a solution
+abbrev pub IsReached : Mode → Instance → ℤ → Type 0
+IsReached mode i number = (a : Assigned) × IsSolution mode i a × HasGoal mode i a number
+
+-- Under each assignment that satisfies the givens which stand for the instance, a clause holds exactly where the solution that the
+-- notes tell is wanted.
+pub record SaysOfSolutions (i : Instance) (log : LogState) (wanted : Found → Type 0) (clause : List Literal) : Type 0 where
+  pub says : (s : ℕ → Bool) → Satisfies s (givens (take log.base log.events))
+      → (numbers : List ℤ) × TellNumbers s log.notes (instance_cells i) numbers
+      × (SatisfiesClause s clause ↔ wanted (found_of (assignment_from i.finds numbers)))
+
+-- what is better than this number of the objective
+abbrev pub IsBetterSolution : Mode → Instance → ℤ → Found → Type 0
+IsBetterSolution mode i number found = IsBetterGoal i number (goal_value mode i found)
+
+-- How a search came to a number of the objective: solutions reached some numbers one after another, each better than those before
+-- and the last one this. One given was added for each of them and no other: it says that a solution is better than the number, and
+-- what satisfies the givens up to it are exactly the solutions that are better.
+pub record IsDrivenTo (mode : Mode) (i : Instance) (log : LogState) (value : ℤ) : Type 0 where
+  pub numbers : List ℤ
+  pub reached : All (IsReached mode i) numbers
+  pub better : AllPairs (λ earlier later. IsBetterGoal i earlier (Some later)) numbers
+  pub last : slice_get numbers (length numbers - 1) ≡ Some value
+  pub said : AllZip (λ number. SaysOfSolutions i log (IsBetterSolution mode i number)) numbers (added_clauses log)
+  pub narrows : (k : ℕ) (number : ℤ) → slice_get numbers k ≡ Some number
+      → TellSolutions mode i log.notes (first_givens log (k + 1)) (IsBetterSolution mode i number)
+
 -- What the log shows of an answer: nothing was added to what stands for the instance where no better solution was looked for behind
--- one, be it that a single one is the answer, that there is none or that none was found; it ends with the empty step where there is
--- no solution or no better one; and where the budget is spent, its steps are as many, and what is left are exactly the solutions that
--- are better than the one at hand.
+-- one, be it that a single one is the answer, that there is none or that none was found, and else the givens that were added lead to
+-- the number of the one at hand; it ends with the empty step where there is no solution or no better one; and where the budget is
+-- spent, its steps are as many, and what is left are exactly the solutions that are better than the one at hand.
 unfoldable pub ShowsAnswer : Mode → Instance → ℕ → LogState → AnswerTree → Type 0
 ShowsAnswer mode i budget log (solution a) = added_clauses log ≡ []
-ShowsAnswer mode i budget log (optimum value a) = EndsWithEmptyStep log.events
+ShowsAnswer mode i budget log (optimum value a) = EndsWithEmptyStep log.events × IsDrivenTo mode i log value
 ShowsAnswer mode i budget log no_solution = EndsWithEmptyStep log.events × (added_clauses log ≡ [])
 ShowsAnswer mode i budget log (unknown conflicts) = IsSpent budget log.events × (added_clauses log ≡ [])
-ShowsAnswer mode i budget log (unknown_with conflicts value a) = IsSpent budget log.events × Leaves mode i log (Some value)
+ShowsAnswer mode i budget log (unknown_with conflicts value a) =
+    IsSpent budget log.events × IsDrivenTo mode i log value × Leaves mode i log (Some value)
 
 -- An answer is logged: the log stands for the instance, its steps are valid, those with a literal are new and effective and no
 -- more than the budget, and it shows the answer.

@@ -11,7 +11,7 @@ ghost use Rattle.ep_print.specs.Answers.{HasTypedValues, answer_tree};
 ghost use Rattle.ep_solve.specs.Reading.{answer_from};
 ghost use Rattle.ep_solve.specs.Logged.{IsLogged};
 ghost use Rattle.ep_solve.specs.Right.{IsRight, empty_log};
-ghost use Rattle.ep_solve.specs.Searched.{KeepsGivens};
+ghost use Rattle.ep_solve.specs.Searched.{AddsBounds};
 ghost use Rattle.ep_tree.specs.Closed.{IsClosed};
 ghost use Rattle.ep_tree.specs.Solutions.{instance_limits};
 ghost use Rattle.sat_search.specs.Logs.{IsSound};
@@ -27,8 +27,9 @@ use ep_print::Answer;
 use std::alloc::Global;
 
 /// The answer of an instance: a solution, an optimum where an objective is stated, that there is
-/// none, or that so many conflicts were spent. The formula and the solver's steps stand in the log then, and
-/// each step is sound, however it ends. In the strict mode it ends for want of memory.
+/// none, or that so many conflicts were spent. The formula, a given for each number of the objective that was
+/// reached, which asks for a better one, and the solver's steps stand in the log then, and each step is sound,
+/// however it ends. In the strict mode it ends for want of memory.
 pub fn solve(
     alloc: Global,
     instance: &Instance,
@@ -53,7 +54,7 @@ pub fn solve(
 }
 
 /// Numbers of the cells that answer a problem.
-#[tactic(auto, using(crate::proofs::Leaving::keeps_same, crate::proofs::Leaving::keeps_improved))]
+#[tactic(auto, using(crate::proofs::Showing::adds_none, crate::proofs::Showing::adds_improved))]
 fn search(
     alloc: Global,
     problem: &mut Problem,
@@ -63,7 +64,8 @@ fn search(
     requires { CanSearch (plain_problem problem.old) log.old }
     ensures answers { IfOk result (λ found.
         AnswersCells (plain_problem problem.old) budget log.new (plain_answer found)) }
-    ensures unadded { IfOk result (λ found. KeepsGivens (plain_answer found) log.old log.new) }
+    ensures adds { IfOk result (λ found.
+        AddsBounds (plain_problem problem.old) (plain_answer found) log.old log.new) }
     ensures sound { IsSound log.old.events → IsSound log.new.events }
     ensures front { take (length log.old.events) log.new.events ≡ log.old.events }
     ensures base { log.new.base ≡ log.old.base }

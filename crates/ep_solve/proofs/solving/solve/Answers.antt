@@ -12,7 +12,7 @@ use Rattle.ep_solve.specs.Right.{IsRight}
 use Rattle.ep_tree.specs.Binding.{Instance}
 use Rattle.ep_tree.specs.declared.values.Mode.{Mode}
 use Rattle.sat_search.specs.Logs.{IsSound}
-use Rattle.ep_solve.proofs.Leaving.{found-logged}
+use Rattle.ep_solve.proofs.Showing.{found-logged}
 use Rattle.ep_solve.proofs.Solved.{SearchedFor, found-right, found-typed, posed-can-search}
 use Rattle.ep_solve.proofs.solving.solve.Goals as goal
 
@@ -84,7 +84,7 @@ returns-clause-logged c =
     where-ok c.read_back.result
     (λ answer. answer_tree answer ≡ answer_from (map find_of c.finds.result.now) c.args.budget (plain_answer c.in_ok-found.found))
     (λ answer. IsLogged mode i c.args.budget c.search.new.log (answer_tree answer)) c.read_back.ensures (λ answer same.
-    found-logged mode i c.args.budget (plain_answer c.in_ok-found.found) (answer_tree answer) searched c.in_ok-found.ensures.notes c.in_ok-found.ensures.unadded c.in_ok-found.ensures.answers
+    found-logged mode i c.args.budget (plain_answer c.in_ok-found.found) (answer_tree answer) searched c.in_ok-found.ensures.notes c.in_ok-found.ensures.adds c.in_ok-found.ensures.answers
     (same ∙ ap (λ fs. answer_from fs c.args.budget (plain_answer c.in_ok-found.found)) c.finds.ensures))
 
 pub returns-in_err-encoded-clause-sound : goal.returns-in_err-encoded-clause-sound
