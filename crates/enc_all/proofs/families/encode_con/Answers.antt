@@ -1,10 +1,10 @@
-use Rattle.std.proofs.Common.{◌≡◌, ◌∙◌, ◌<◌, ◌++◌, ap, arith, length, map, option_to_list, subst, sym, IsTrue}
+use Rattle.std.proofs.Common.{◌∙◌, ◌<◌, ◌++◌, ap, arith, length, map, option_to_list, subst, sym, IsTrue}
 use Rattle.std.specs.List.{All}
 use Rattle.std.proofs.lemmas.Int.{ints}
 use Rattle.std.proofs.lemmas.Result.{on_ok_weaker}
 use Rattle.enc_all.proofs.families.encode_con.Goals as goal
 use Rattle.enc_atoms.specs.Atoms.{Adds}
-use Rattle.ep_flat.specs.Cons.{all_of, clause, con_holds, con_variables, family_of, is_as_said, kind_holds, kind_variables, linear, same_truth}
+use Rattle.ep_flat.specs.Cons.{all_of, clause, con_holds, con_variables, family_of, is_as_said, kind_holds, kind_variables, linear}
 use Rattle.ep_flat.specs.FlatViews.{plain_kind}
 
 pub encode_clause-requires-clause-names : goal.encode_clause-requires-clause-names

@@ -1,5 +1,4 @@
-use Rattle.std.proofs.Common.{◌≡◌, ◌<◌, ap, length, option_to_list}
-use Rattle.std.specs.List.{All}
+use Rattle.std.proofs.Common.{ap, length}
 use Rattle.ep_flat.specs.Cons.{family_of, is_linear}
 use Rattle.ep_flat.specs.FlatViews.{plain_kind}
 use Rattle.enc_all.proofs.LinearParts.{linear_named}
