@@ -153,16 +153,26 @@ fn ways_of(truth: Option<u64>, op: CompareOp) -> i128 {
     }
 }
 
-/// How many clauses partial sums may cost, at most, so that they are taken for these parts. Adders propagate less, and pay
-/// only where partial sums cost many times what the numbers of the parts and of the sum do. The factor was measured.
-fn most_for(parts: &[Part]) -> i128 {
-    let whole = rest_of(parts);
-    let width = whole.greatest.saturating_sub(whole.least).saturating_add(1);
-    let mut cost = width;
-    for part in parts {
-        cost = cost.saturating_add(part.worths.len() as i128);
+/// How much of a sum there is to be written down, in numbers that the sum and its parts have. A last part that spans as much
+/// as all others together is what their sum is called, and doesn't count.
+fn extent(parts: &[Part]) -> i128 {
+    let mut span_of_all: i128 = 0;
+    let mut extent: i128 = 1;
+    for (place, part) in parts.iter().enumerate() {
+        let one = span(part);
+        if place + 1 < parts.len() || one < span_of_all {
+            extent = extent.saturating_add(part.worths.len() as i128);
+            span_of_all = span_of_all.saturating_add(one);
+        }
     }
-    let bits = cost.saturating_mul(8);
+    extent.saturating_add(span_of_all)
+}
+
+/// How many clauses partial sums may cost, at most, so that they are taken for these parts, that of the least span first. Adders
+/// propagate less, and pay only where partial sums cost many times what the numbers of the parts and of the sum do. The
+/// factor was measured.
+fn most_for(parts: &[Part]) -> i128 {
+    let bits = extent(parts).saturating_mul(8);
     let fixed = (parts.len() as i128).saturating_mul(1024);
     bits.saturating_add(fixed).saturating_mul(8) / 3
 }
