@@ -89,7 +89,7 @@ driven-to mode i h k found value best improves = record {
     reached : (number : ℤ) → IsReachedGoal h.p h.new number → IsReached mode i number
     reached number one =
         let solved = k.allows.solves one.cells (Some number) one.allowed in
-        (assignment_from i.finds one.cells, solved.solves, solved.valued)
+        (assignment_from i.finds one.cells, solved.reads.fits.values, solved.solves, solved.valued)
 
     say : AllZip (Says h.p (Better h.p)) improves.bests (added_clauses h.new)
     say = subst (AllZip (Says h.p (Better h.p)) improves.bests) (added-behind mode i h)

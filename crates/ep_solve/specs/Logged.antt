@@ -15,7 +15,7 @@ use Rattle.ep_tree.specs.declared.values.Mode.{Mode}
 use Rattle.ep_unroll.specs.Cells.{found_numbers, instance_cells}
 use Rattle.sat_search.specs.Logs.{EndsWithEmptyStep, IsSound}
 use Rattle.ep_solve.specs.Reading.{assignment_from, found_of}
-use Rattle.ep_solve.specs.Right.{HasGoal, IsSpent}
+use Rattle.ep_solve.specs.Right.{HasGoal, IsSpent, IsWritten}
 
 -- ---- what notes tell
 
@@ -99,9 +99,9 @@ added_clauses log = givens (drop log.base log.events)
 abbrev pub first_givens : LogState → ℕ → List (List Literal)
 first_givens log count = givens (take log.base log.events) ++ take count (added_clauses log)
 
--- this number of the objective is that of a solution
+-- this number of the objective is that of a solution, written as the instance states it
 abbrev pub IsReached : Mode → Instance → ℤ → Type 0
-IsReached mode i number = (a : Assigned) × IsSolution mode i a × HasGoal mode i a number
+IsReached mode i number = (a : Assigned) × IsWritten i a × IsSolution mode i a × HasGoal mode i a number
 
 -- Under each assignment that satisfies the givens which stand for the instance, a clause holds exactly where the solution that the
 -- notes tell is wanted.
