@@ -40,7 +40,7 @@ clause_is n cells nodes mid new e a t h put = record {
   value = λ r.
       put.value r.numbers
       ∙ ap (λ o. ground_truth (option_map all_one (all_there (o ∷ [])))) ((number_grown n cells nodes mid new e a put.grows h).number r)
-      ∙ one_truth (number_in (evaluate Mode.Relational r.values e));
+      ∙ one_truth (number_in (evaluate n.mode r.values e));
 }
 
 zip_push : {A B : Type 0} (R : A → B → Type 0) (xs : List A) (ys : List B) (x : A) (y : B) → AllZip R xs ys → R x y → AllZip R (xs ++ x ∷ []) (ys ++ y ∷ [])
@@ -61,7 +61,7 @@ pub clauses_begin : (n : Numbering) (env : Env) (old : List GroundNode) (xs : Li
 clauses_begin n env old xs ts none = record {
   grows = grows_none old old refl;
   known = subst (λ ys. All (λ t. t < length old) ys) (sym none) (λ k d less. absurd (no_less k less));
-  values = λ r. subst (λ ys. AllZip (λ t e. term_value old r.numbers t ≡ Some (of_bool (is_true_in Mode.Relational r.values e))) ys []) (sym none) tt;
+  values = λ r. subst (λ ys. AllZip (λ t e. term_value old r.numbers t ≡ Some (of_bool (is_true_in n.mode r.values e))) ys []) (sym none) tt;
 }
   where
     no_less : (k : ℕ) → k < 0 → ⊥
@@ -76,10 +76,10 @@ clauses_more n env old mid new xs k x d t ts us h same so one pushed =
       grows = grows_on old mid new so.grows one.grows;
       known = subst (λ ys. All (λ u. u < length new) ys) (sym pushed) (All-push (λ u. u < length new) ts t (λ j e less. grows_long mid new _ one.grows (so.known j e less)) one.known);
       values = λ r.
-          subst (λ es. AllZip (λ u e. term_value new r.numbers u ≡ Some (of_bool (is_true_in Mode.Relational r.values e))) us es) (sym longer)
-          (subst (λ ys. AllZip (λ u e. term_value new r.numbers u ≡ Some (of_bool (is_true_in Mode.Relational r.values e))) ys (map expr_tree (take k xs) ++ expr_tree x ∷ [])) (sym pushed)
-          (zip_push (λ u e. term_value new r.numbers u ≡ Some (of_bool (is_true_in Mode.Relational r.values e))) ts (map expr_tree (take k xs)) t (expr_tree x)
-          (zip_kept mid new r.numbers (λ e. Some (of_bool (is_true_in Mode.Relational r.values e))) ts (map expr_tree (take k xs)) one.grows so.known (so.values r)) (one.value r)));
+          subst (λ es. AllZip (λ u e. term_value new r.numbers u ≡ Some (of_bool (is_true_in n.mode r.values e))) us es) (sym longer)
+          (subst (λ ys. AllZip (λ u e. term_value new r.numbers u ≡ Some (of_bool (is_true_in n.mode r.values e))) ys (map expr_tree (take k xs) ++ expr_tree x ∷ [])) (sym pushed)
+          (zip_push (λ u e. term_value new r.numbers u ≡ Some (of_bool (is_true_in n.mode r.values e))) ts (map expr_tree (take k xs)) t (expr_tree x)
+          (zip_kept mid new r.numbers (λ e. Some (of_bool (is_true_in n.mode r.values e))) ts (map expr_tree (take k xs)) one.grows so.known (so.values r)) (one.value r)));
     }
 
 pub clauses_all : (n : Numbering) (env : Env) (old new : List GroundNode) (xs : List Expr) (k : ℕ) (ts : List ℕ) → length xs ≤ k → AreClauses n env old new (map expr_tree (take k xs)) ts → AreClauses n env old new (map expr_tree xs) ts

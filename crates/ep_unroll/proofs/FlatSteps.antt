@@ -249,5 +249,5 @@ flatten_is n cells nodes new p e x y xs h flat is known = record {
       is r.numbers ∙ ap (λ vs. option_map (λ ws. matrix (counting (pos 1) (length xs)) (as_parts ws)) (all_defined vs)) same
       ∙ listed os (length xs) long
       ∙ ap (option_map list_value) (flat.values new r.numbers ∙ ap scalars_in (h.value r))
-      ∙ sym (evaluate-flatten Mode.Relational r.values p e);
+      ∙ sym (evaluate-flatten n.mode r.values p e);
 }

@@ -18,6 +18,7 @@ use Rattle.ep_tree.specs.TypedValues.{IsTypedBound, IsTypedEnv, is_number_of}
 use Rattle.ep_tree.specs.Types.{scalar_of}
 use Rattle.ep_tree.specs.Values.{ValueTree, ValueTrees, all_defined, all_fitted, as_parts, fitted, matrix, no_values, scalar_fits, scalars_of, scalars_of_all, single, value_and, with_indices}
 use Rattle.ep_tree.specs.declared.values.Scalar.{Scalar}
+use Rattle.ep_tree.specs.declared.values.Mode.{Mode}
 use Rattle.ep_unroll.proofs.TypedReadings.{fit_bound, one_typed}
 use Rattle.ep_unroll.specs.Cells.{bound_numbers, found_numbers}
 use Rattle.ep_unroll.specs.Firsts.{first_of, numbering}
@@ -286,8 +287,8 @@ many_numbers (f ∷ fs) a found e =
     ∙ ap (λ fd. length (found_numbers fd)) t.whole
 
 -- Values of the decision variables that fit are a reading of the cells.
-unfoldable pub found_reading : (i : Instance) (a : Assigned) (found : Found) → IsClosed i → Fits i a found → Reading (numbering i.finds) (clause_env i)
-found_reading i a found closed fits = record {
+unfoldable pub found_reading : (mode : Mode) (i : Instance) (a : Assigned) (found : Found) → IsClosed i → Fits i a found → Reading (numbering mode i.finds) (clause_env i)
+found_reading mode i a found closed fits = record {
   numbers = found_numbers found;
   values = under i found;
   reads = record {

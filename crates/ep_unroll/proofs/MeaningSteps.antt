@@ -25,17 +25,13 @@ grows_none a b same = record { more = []; whole = same ∙ sym (append-nil a) }
 
 -- ---- parts without decision variables
 
-pub fixed_is : (n : Numbering) (env : Env) (r : Reading n env) (mode : Mode) (e : ExprTree) (v : Option ValueTree) → mode ≡ Mode.Relational
-    → is_free (decisions_in env) e ≡ true → evaluate mode env e ≡ v → evaluate Mode.Relational r.values e ≡ v
-fixed_is n env r mode e v is free given =
-    sym (free_value Mode.Relational (decisions_in env) env r.values (agreed_like env r.values r.reads.agree) e free)
-    ∙ ap (λ m. evaluate m env e) (sym is) ∙ given
+pub fixed_is : (n : Numbering) (env : Env) (r : Reading n env) (mode : Mode) (e : ExprTree) (v : Option ValueTree)
+    → is_free (decisions_in env) e ≡ true → evaluate mode env e ≡ v → evaluate mode r.values e ≡ v
+fixed_is n env r mode e v free given = sym (free_value mode (decisions_in env) env r.values (agreed_like env r.values r.reads.agree) e free) ∙ given
 
-pub numbers_are : (n : Numbering) (env : Env) (r : Reading n env) (mode : Mode) (d : DomainTree) (ns : Option (List ℤ)) → mode ≡ Mode.Relational
-    → is_free_domain (decisions_in env) d ≡ true → domain_values mode env d ≡ ns → domain_values Mode.Relational r.values d ≡ ns
-numbers_are n env r mode d ns is free given =
-    sym (free_numbers Mode.Relational (decisions_in env) env r.values (agreed_like env r.values r.reads.agree) d free)
-    ∙ ap (λ m. domain_values m env d) (sym is) ∙ given
+pub numbers_are : (n : Numbering) (env : Env) (r : Reading n env) (mode : Mode) (d : DomainTree) (ns : Option (List ℤ))
+    → is_free_domain (decisions_in env) d ≡ true → domain_values mode env d ≡ ns → domain_values mode r.values d ≡ ns
+numbers_are n env r mode d ns free given = sym (free_numbers mode (decisions_in env) env r.values (agreed_like env r.values r.reads.agree) d free) ∙ given
 
 -- ---- a term as what was unrolled
 

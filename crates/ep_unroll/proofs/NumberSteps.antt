@@ -99,7 +99,7 @@ cells_means n env nodes p name first s indices values x begins stands is known =
   value = λ r.
       is r.numbers
       ∙ cells_read (n.first name) r.numbers (env name) (r.values name) first s indices values begins stands (r.reads.names name)
-      ∙ sym (evaluate-named Mode.Relational r.values p name);
+      ∙ sym (evaluate-named n.mode r.values p name);
 }
 
 -- what has cells is what its cells say

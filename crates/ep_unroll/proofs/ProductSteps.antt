@@ -107,5 +107,5 @@ unfolding folded_value
 product_is n cells nodes mid new p e ts t h own = record {
   grows = grows_on nodes mid new h.grows own.grows;
   known = own.known;
-  value = λ r. evaluate-folded Mode.Relational r.values p FoldOp.Product e ∙ ap (λ o. option_map single (option_map product_of o)) (sym (h.scalars r)) ∙ ap (option_map single) (sym (own.value r.numbers));
+  value = λ r. evaluate-folded n.mode r.values p FoldOp.Product e ∙ ap (λ o. option_map single (option_map product_of o)) (sym (h.scalars r)) ∙ ap (option_map single) (sym (own.value r.numbers));
 }

@@ -232,7 +232,7 @@ sum_is n cells nodes mid new p e x xs t h flat own = record {
   value = λ r.
       let os : List (Option ℤ) = flat.own mid r.numbers in
       let same : map (number_at mid r.numbers) xs ≡ os = flat_numbers mid r.numbers xs x _ flat in
-      evaluate-folded Mode.Relational r.values p FoldOp.Sum e
+      evaluate-folded n.mode r.values p FoldOp.Sum e
       ∙ ap (λ o. option_map single (option_map sum_of o)) (sym (flat.values mid r.numbers ∙ ap scalars_in (h.value r)))
       ∙ ap (λ l. option_map single (option_map sum_of (all_there l))) (sym same)
       ∙ ap (option_map single) (sym (own.value r.numbers));

@@ -40,9 +40,9 @@ abbrev pub indices_in : List (Option ℤ) → List Index
 indices_in indices = map index_in indices
 
 -- an index of a read, where it is `..` or has a number
-unfoldable pub one_index : Env → Option Expr → Option Index
-one_index env None = Some any_index
-one_index env (Some e) = option_map at_index (number_in (evaluate Mode.Relational env (expr_tree e)))
+unfoldable pub one_index : Mode → Env → Option Expr → Option Index
+one_index mode env None = Some any_index
+one_index mode env (Some e) = option_map at_index (number_in (evaluate mode env (expr_tree e)))
 
 -- What was unrolled has a value, or none; cells have one.
 unfoldable pub IsWorth : List GroundNode → List ℤ → Unrolled → Option ValueTree → Type 0

@@ -23,4 +23,4 @@ pub record LeftMeans (n : Numbering) (cells : Env) (old new : List GroundNode) (
   pub known : AreTerms (length new) x
   pub value : (r : Reading n cells)
       → worth new r.numbers x
-      ≡ option_and_then (λ is. option_and_then (read_value is) (evaluate Mode.Relational r.values m)) (all_defined (map (one_index r.values) indices))
+      ≡ option_and_then (λ is. option_and_then (read_value is) (evaluate n.mode r.values m)) (all_defined (map (one_index n.mode r.values) indices))

@@ -20,4 +20,4 @@ cells_from numbers k (suc n) = slice_get numbers k ∷ cells_from numbers (suc k
 pub record AreScalarsOf (n : Numbering) (cells : Env) (old new : List GroundNode) (e : ExprTree) (ts : List ℕ) : Type 0 where
   pub grows : Grows old new
   pub known : All (λ t. t < length new) ts
-  pub scalars : (r : Reading n cells) → all_there (map (term_value new r.numbers) ts) ≡ scalars_in (evaluate Mode.Relational r.values e)
+  pub scalars : (r : Reading n cells) → all_there (map (term_value new r.numbers) ts) ≡ scalars_in (evaluate n.mode r.values e)

@@ -21,4 +21,4 @@ pub record AreSigned (n : Numbering) (cells : Env) (old new : List GroundNode) (
   pub known : All (λ part. part.1 < length new) ps
   pub numbers : (r : Reading n cells)
       → map (λ part. option_map (λ x. part.0 *ℤ x) (term_value new r.numbers part.1)) ps
-      ≡ term_values Mode.Relational r.values terms
+      ≡ term_values n.mode r.values terms
