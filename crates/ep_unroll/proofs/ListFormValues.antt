@@ -33,7 +33,7 @@ use Rattle.ep_unroll.specs.Truths.{IsJudged, needed_in}
 two_lists : (n : Numbering) (cells : Env) (nodes mid new : List GroundNode) (e e' tree : ExprTree) (ts us qs : List ℕ) (t : ℕ) (own : GroundNode) (k : List ℤ → List ℤ → Option Bool)
     → ((r : Reading n cells) → evaluate n.mode r.values tree ≡ truth_in n.mode (ground.on_both k (scalars_in (evaluate n.mode r.values e)) (scalars_in (evaluate n.mode r.values e'))))
     → ((numbers : List ℤ) (value : ℕ → Option ℤ) → node_value numbers value own ≡ truth (ground.on_both k (all_there (map value ts)) (all_there (map value us))))
-    → ((as bs : List ℤ) → length bs ≡ length us → is_some (k as bs) ≡ true)
+    → ((ws bs : List ℤ) → length bs ≡ length us → is_some (k ws bs) ≡ true)
     → AreScalarsOf n cells nodes mid e ts → AreScalarsOf n cells nodes mid e' us → ArePartial mid n.count (needed_in n.mode (ts ++ us)) qs → IsJudged mid new own qs t
     → IsTermOf n cells nodes new tree t
 unfolding ground.on_both
@@ -45,7 +45,7 @@ two_lists n cells nodes mid new e e' tree ts us qs t own k one other there h h' 
     ∙ ap (λ o. truth (ground.on_both k (scalars_in (evaluate n.mode r.values e)) o)) (ap all_there (values_kept mid j.between r.numbers us j.puts.grows h'.known) ∙ h'.scalars r)))
     (λ r. ap (λ os. is_some (all_there os)) (map-append (term_value mid r.numbers) ts us)
     ∙ lists_there k (map (term_value mid r.numbers) ts) (map (term_value mid r.numbers) us)
-    (λ as bs is is'. there as bs (there_length (map (term_value mid r.numbers) us) bs is' ∙ length_mapped (term_value mid r.numbers) us))
+    (λ ws bs is is'. there ws bs (there_length (map (term_value mid r.numbers) us) bs is' ∙ length_mapped (term_value mid r.numbers) us))
     ∙ ap (λ o. is_some (ground.on_both k o (all_there (map (term_value mid r.numbers) us)))) (h.scalars r)
     ∙ ap (λ o. is_some (ground.on_both k (scalars_in (evaluate n.mode r.values e)) o)) (h'.scalars r))
 
@@ -57,7 +57,7 @@ lex_is n cells nodes mid new p op e f ts us qs t =
     two_lists n cells nodes mid new e f (lex p op e f) ts us qs t (node.lex op ts us) (λ xs ys. Some (lex_holds op xs ys))
     (λ r. evaluate-lex n.mode r.values p op e f
     ∙ ap (truth_in n.mode) (both_same (lex_holds op) (scalars_in (evaluate n.mode r.values e)) (scalars_in (evaluate n.mode r.values f))))
-    (λ numbers value. refl) (λ as bs long. refl)
+    (λ numbers value. refl) (λ ws bs long. refl)
 
 -- ---- rows
 
@@ -136,7 +136,7 @@ counts_are n cells nodes mid new p e f g ts us qs ns t h fixed many h' =
     (λ r. evaluate-gcc n.mode r.values p e f g
     ∙ ap (λ o. truth_in n.mode (on_three (scalars_in (evaluate n.mode r.values e)) o (scalars_in (evaluate n.mode r.values g)) (counts_hold CompareOp.Equal))) (fixed r)
     ∙ ap (truth_in n.mode) (middle CompareOp.Equal ns (scalars_in (evaluate n.mode r.values e)) (scalars_in (evaluate n.mode r.values g))))
-    (λ numbers value. refl) (λ as bs long. counts_told CompareOp.Equal as ns bs (many ∙ sym long)) h h'
+    (λ numbers value. refl) (λ ws bs long. counts_told CompareOp.Equal ws ns bs (many ∙ sym long)) h h'
 
 others_differ : (op : CompareOp) (ns : List ℤ) (k : ℕ) → (length ns ≡ k → ⊥) → (a c : Option (List ℤ)) → ((cs : List ℤ) → c ≡ Some cs → length cs ≡ k)
     → on_three a (Some ns) c (counts_hold op) ≡ None

@@ -1,7 +1,9 @@
 -- Truth values in both modes: by what a node says, and by the parts that have to have values.
-use Rattle.std.proofs.Common.{◌≡◌, ℕ, suc, ◌<◌, Bool, true, false, ◌&&◌, ℤ, pos, List, [], ◌∷◌, ◌++◌, length, Some, None, refl, sym, ap, subst, ◌∙◌, arith}
+use Rattle.std.proofs.Common.{◌≡◌, ℕ, suc, ◌+◌, ◌<◌, ◌≤◌, Bool, true, false, ◌&&◌, ℤ, pos, List, [], ◌∷◌, ◌++◌, length, drop, get_or, Some, None, refl, sym, ap, subst, ◌∙◌, arith}
 use Rattle.std.specs.Prelude.{Option, is_some, map, option_and_then, option_map, if◌then◌else◌, ◌==◌}
 use Rattle.std.specs.List.{All, list_all, list_any}
+use Rattle.std.proofs.lemmas.Bool.Decides.{Decides-eqb}
+use Rattle.std.proofs.lemmas.List.{at_drop_all, at_drop_more}
 use Rattle.ep_base.specs.Numbers.{compare_holds, counts_hold, is_row_of, of_bool, same_numbers, times_in}
 use Rattle.ep_base.specs.Reads.{all_there}
 use Rattle.ep_base.specs.declared.operators.CompareOp.{CompareOp}
@@ -88,8 +90,8 @@ pub list_there : {A B : Type 0} (k : A → B) (o : Option A) → is_some o ≡ i
 list_there k None = refl
 list_there k (Some x) = refl
 
-pub lists_there : {B : Type 0} (k : List ℤ → List ℤ → Option B) (xs ys : List (Option ℤ)) → ((as bs : List ℤ) → all_there xs ≡ Some as → all_there ys ≡ Some bs → is_some (k as bs) ≡ true)
-    → is_some (all_there (xs ++ ys)) ≡ is_some (option_and_then (λ as. option_and_then (k as) (all_there ys)) (all_there xs))
+pub lists_there : {B : Type 0} (k : List ℤ → List ℤ → Option B) (xs ys : List (Option ℤ)) → ((ws bs : List ℤ) → all_there xs ≡ Some ws → all_there ys ≡ Some bs → is_some (k ws bs) ≡ true)
+    → is_some (all_there (xs ++ ys)) ≡ is_some (option_and_then (λ ws. option_and_then (k ws) (all_there ys)) (all_there xs))
 unfolding all_there
 lists_there k [] ys h = by (all_there ys) refl
   where
@@ -98,15 +100,15 @@ lists_there k [] ys h = by (all_there ys) refl
     by (Some bs) e = sym (h [] bs refl e)
 lists_there k (None ∷ xs) ys h = refl
 lists_there k (Some x ∷ xs) ys h =
-    grown (all_there (xs ++ ys)) ∙ lists_there (λ as bs. k (x ∷ as) bs) xs ys (λ as bs e e'. h (x ∷ as) bs (ap (option_map (λ ns. x ∷ ns)) e) e') ∙ moved (all_there xs) (all_there ys)
+    grown (all_there (xs ++ ys)) ∙ lists_there (λ ws bs. k (x ∷ ws) bs) xs ys (λ ws bs e e'. h (x ∷ ws) bs (ap (option_map (λ ns. x ∷ ns)) e) e') ∙ moved (all_there xs) (all_there ys)
   where
     grown : (o : Option (List ℤ)) → is_some (option_map (λ ns. x ∷ ns) o) ≡ is_some o
     grown None = refl
-    grown (Some as) = refl
+    grown (Some ws) = refl
 
-    moved : (o o' : Option (List ℤ)) → is_some (option_and_then (λ as. option_and_then (k (x ∷ as)) o') o) ≡ is_some (option_and_then (λ as. option_and_then (k as) o') (option_map (λ ns. x ∷ ns) o))
+    moved : (o o' : Option (List ℤ)) → is_some (option_and_then (λ ws. option_and_then (k (x ∷ ws)) o') o) ≡ is_some (option_and_then (λ ws. option_and_then (k ws) o') (option_map (λ ns. x ∷ ns) o))
     moved None o' = refl
-    moved (Some as) o' = refl
+    moved (Some ws) o' = refl
 
 -- ---- a truth value without its parts
 
@@ -183,3 +185,29 @@ pub row_untold : (rows : List (List ℤ)) (xs : List ℤ) (k : ℕ) → length x
 unfolding is_row_of
 row_untold rows xs k same all =
     ap (λ (b : Bool). if b then Some (list_any (λ row. same_numbers row xs) rows) else None) (ap (λ j. list_all (λ row. length row == j) rows) same ∙ all)
+
+pub unequal : (a b : ℕ) → (a ≡ b → ⊥) → (a == b) ≡ false
+unequal a b h = by (a == b) refl
+  where
+    by : (c : Bool) → (a == b) ≡ c → (a == b) ≡ false
+    by true e = absurd (h ((Decides-eqb a b).0 e))
+    by false e = e
+
+-- rows that are passed are as long as is asked
+pub rows_next : (rows : List (List ℤ)) (n k : ℕ) (row d : List ℤ) → k < length rows → row ≡ get_or rows k d → (length row == n) ≡ true
+    → list_all (λ r. length r == n) rows ≡ list_all (λ r. length r == n) (drop k rows)
+    → list_all (λ r. length r == n) rows ≡ list_all (λ r. length r == n) (drop (k + 1) rows)
+rows_next rows n k row d less same long so =
+    so ∙ at_drop_more (list_all (λ r. length r == n)) rows k d less
+    ∙ ap (λ b. b && list_all (λ r. length r == n) (drop (k + 1) rows)) (ap (λ r. length r == n) (sym same) ∙ long)
+
+pub rows_short : (rows : List (List ℤ)) (n k : ℕ) (row d : List ℤ) → k < length rows → row ≡ get_or rows k d → (length row == n) ≡ false
+    → list_all (λ r. length r == n) rows ≡ list_all (λ r. length r == n) (drop k rows)
+    → false ≡ list_all (λ r. length r == n) rows
+rows_short rows n k row d less same short so =
+    sym (so ∙ at_drop_more (list_all (λ r. length r == n)) rows k d less
+    ∙ ap (λ b. b && list_all (λ r. length r == n) (drop (k + 1) rows)) (ap (λ r. length r == n) (sym same) ∙ short))
+
+pub rows_all : (rows : List (List ℤ)) (n k : ℕ) → length rows ≤ k → list_all (λ r. length r == n) rows ≡ list_all (λ r. length r == n) (drop k rows)
+    → true ≡ list_all (λ r. length r == n) rows
+rows_all rows n k less so = sym (so ∙ at_drop_all (list_all (λ r. length r == n)) rows k less)

@@ -42,7 +42,8 @@ fn are_long(rows: &[Key], count: usize) -> bool
     ensures { result ≡ list_all (λ row. length row == count) rows.now }
 {
     for row in rows {
-        if row.numbers().len() != count {
+        let own = row.numbers().len();
+        if own != count {
             return false;
         }
     }

@@ -29,8 +29,8 @@ returns-in_ok-needed-in-Some c n cells nodes p e f g mode count h values h' =
     if_ok c.judged.result _ _
     (λ t j. counts_are n cells nodes old c.judged.new.arena p e f g ts cs us c.in-Some.own.items t h (λ r. values r ∙ ap (option_map (λ v. v.items)) c.in-Some.is)
     (grind (arith, c.if-many-told.false, c.len-many.ensures, c.len-told.ensures)) h'
-    (asked_of n old c.args.count (mode_in c.args.scope) (c.deref.result.now ++ c.deref-2.result.now) (ts ++ cs) us
-    (ap (λ l. l ++ c.deref-2.result.now) c.deref.ensures.value ∙ ap (λ l. ts ++ l) c.deref-2.ensures.value) mode count c.in_ok-needed-in-Some.ensures) j) c.judged.ensures
+    (asked_of n old c.args.count (mode_in c.args.scope) (c.deref.result.now ++ c.deref-in-Some.result.now) (ts ++ cs) us
+    (ap (λ l. l ++ c.deref-in-Some.result.now) c.deref.ensures.value ∙ ap (λ l. ts ++ l) c.deref-in-Some.ensures.value) mode count c.in_ok-needed-in-Some.ensures) j) c.judged.ensures
 
 pub returns-in-None : goal.returns-in-None
 returns-in-None c n cells nodes p e f g mode count h values h' =
