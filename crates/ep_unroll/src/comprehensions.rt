@@ -100,7 +100,7 @@ pub fn comprehension_matrix<'a>(
     parts: Option<Vec<Unrolled<'a>>>,
 ) -> Result<Unrolled<'a>, Memory>
     ensures { (n : Numbering) → (old nodes : List GroundNode) → (p : Place) → (e : ExprTree) → (gens : Generators) → (conditions : ExprTrees)
-        → n.mode ≡ mode_in scope.entry → Lists n (env_in scope.entry) old nodes (Some []) (parts_in parts.entry) (λ env. listed_values (mode_in scope.entry) e conditions gens env)
+        → n.mode ≡ mode_in scope.entry → Lists n (env_in scope.entry) old nodes (Some []) (parts_in parts.entry) (λ env. listed_values n.mode e conditions gens env)
         → IfOk result (Means n (env_in scope.entry) old nodes (comprehension p e gens conditions (index_at domain.now))) }
 {
     match parts {
