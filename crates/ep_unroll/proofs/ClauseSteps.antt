@@ -1,5 +1,5 @@
 -- Clauses and the objective, one after another.
-use Rattle.std.proofs.Common.{◌≡◌, ℕ, suc, ◌+◌, ◌<◌, ◌≤◌, Bool, true, false, ℤ, pos, List, [], ◌∷◌, ◌++◌, length, take, get_or, Some, None, refl, sym, ap, subst, ◌∙◌, arith}
+use Rattle.std.proofs.Common.{◌≡◌, ℕ, suc, ◌+◌, ◌<◌, ◌≤◌, Bool, true, false, ℤ, List, [], ◌∷◌, ◌++◌, length, take, get_or, Some, None, refl, sym, ap, subst, ◌∙◌, arith}
 use Rattle.std.specs.Prelude.{Option, ◌&&◌, map, option_map, unwrap_or}
 use Rattle.std.specs.List.{All, AllZip}
 use Rattle.std.proofs.lemmas.List.{map-append, take_all, take_more}
@@ -11,17 +11,16 @@ use Rattle.ep_ground.specs.Nodes.{GroundNode}
 use Rattle.ep_ground.specs.Terms as ground
 use Rattle.ep_ground.specs.Terms.{node_value, term_value, truth as ground_truth}
 use Rattle.ep_tree.specs.Environments.{Env}
-use Rattle.ep_tree.specs.Evaluation.{evaluate, is_true_in, number_in, truth_of}
+use Rattle.ep_tree.specs.Evaluation.{evaluate, is_true_in, number_in}
 use Rattle.ep_tree.specs.Trees.{ExprTree}
 use Rattle.ep_tree.specs.Views.{expr_tree}
 use Rattle.ep_tree.specs.declared.syntax.Expr.{Expr}
-use Rattle.ep_tree.specs.declared.values.Mode.{Mode}
 use Rattle.ep_unroll.proofs.FormValues.{grows_long, grows_on, grown_value, number_grown}
 use Rattle.ep_unroll.proofs.MeaningSteps.{grows_none}
 use Rattle.ep_unroll.specs.Clauses.{AreClauses, IsClause}
 use Rattle.ep_unroll.specs.Growing.{Grows, Puts}
 use Rattle.ep_unroll.specs.Meanings.{IsNumberOf}
-use Rattle.ep_unroll.specs.Readings.{Numbering, Reading}
+use Rattle.ep_unroll.specs.Readings.{Numbering}
 
 and_true : (b : Bool) → (b && true) ≡ b
 and_true true = refl

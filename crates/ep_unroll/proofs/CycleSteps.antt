@@ -1,7 +1,6 @@
 -- Steps of unrolling: brackets, parts one after another, and the instances of a quantifier.
-use Rattle.std.proofs.Common.{◌≡◌, ℕ, ◌+◌, ◌<◌, ◌≤◌, Bool, true, false, ℤ, List, [], ◌∷◌, ◌++◌, length, drop, get_or, Some, None, refl, sym, ap, subst, ◌∙◌, arith}
+use Rattle.std.proofs.Common.{◌≡◌, ℕ, ◌+◌, ◌<◌, ◌≤◌, Bool, true, false, ℤ, List, [], ◌∷◌, ◌++◌, length, drop, get_or, Some, None, refl, sym, ap, ◌∙◌, arith}
 use Rattle.std.specs.Prelude.{Option, map, bytes_eq, if◌then◌else◌, ◌*ℤ◌, option_map, pos, negsuc, neg_ℤ}
-use Rattle.std.specs.List.{All}
 use Rattle.std.proofs.lemmas.Int.{ints}
 use Rattle.std.proofs.lemmas.List.{at_drop_all, at_drop_more}
 use Rattle.ep_base.specs.declared.names.Name.{Name}
@@ -9,15 +8,14 @@ use Rattle.ep_base.specs.declared.places.Place.{Place}
 use Rattle.ep_ground.specs.Nodes.{GroundNode}
 use Rattle.ep_ground.specs.Terms.{term_value}
 use Rattle.ep_tree.proofs.EvaluationEquations.{evaluate-group, evaluate-to_int}
-use Rattle.ep_tree.specs.Environments.{Bound, Env, has_cells, has_value, scalar_in, with_number}
+use Rattle.ep_tree.specs.Environments.{Env, has_value, scalar_in, with_number}
 use Rattle.ep_tree.specs.Evaluation.{evaluate, number_in, signed, term_values, values_of}
-use Rattle.ep_tree.specs.Trees.{DomainTree, ExprTree, ExprTrees, Terms, group, to_int}
+use Rattle.ep_tree.specs.Trees.{ExprTree, group, to_int}
 use Rattle.ep_tree.specs.TypedValues.{is_number_of}
 use Rattle.ep_tree.specs.Types.{of_scalar}
 use Rattle.ep_tree.specs.Values.{single}
 use Rattle.ep_tree.specs.Views.{domain_tree, expr_tree, expr_trees, terms_of}
 use Rattle.ep_tree.specs.declared.syntax.Expr.{Expr}
-use Rattle.ep_tree.specs.declared.values.Mode.{Mode}
 use Rattle.ep_tree.specs.declared.values.Scalar.{Scalar}
 use Rattle.ep_eval.proofs.Instances.{quantified_bare}
 use Rattle.ep_eval.specs.Instances.{instance_value, quantified_tree}
@@ -28,7 +26,7 @@ use Rattle.ep_unroll.proofs.MeaningSteps.{Listing, listing_begins, listing_ends,
 use Rattle.ep_unroll.proofs.TypedReadings.{number_typed}
 use Rattle.ep_unroll.specs.Growing.{Grows}
 use Rattle.ep_unroll.specs.Meanings.{AreInstancesOf, AreNumbersOf, IsNumberOf, Means}
-use Rattle.ep_unroll.specs.Readings.{Numbering, Reading, Reads, ReadsName}
+use Rattle.ep_unroll.specs.Readings.{Numbering, Reading, ReadsName}
 use Rattle.ep_unroll.specs.Signed.{AreSigned, sign_number}
 use Rattle.ep_unroll.specs.declared.unrolled.Unrolled.{Unrolled}
 

@@ -1,7 +1,6 @@
 -- The terms of forms whose parts are numbers.
 use Rattle.std.proofs.Common.{◌≡◌, ℕ, suc, ◌+◌, ◌<◌, ◌≤◌, Bool, true, false, ℤ, pos, negsuc, List, [], ◌∷◌, ◌++◌, length, Some, None, refl, sym, ap, subst, ◌∙◌, arith, Ok, Err, append_assoc}
 use Rattle.std.specs.Prelude.{Option, Result, IfOk, IsSome, is_some, map, not, ◌||◌, ◌*ℤ◌, ◌+ℤ◌, neg_ℤ, option_map, option_and_then}
-use Rattle.std.specs.Int.{int_max, int_min}
 use Rattle.std.specs.List.{All}
 use Rattle.std.proofs.lemmas.Int.{ints}
 use Rattle.std.proofs.lemmas.List.{length-append}
@@ -16,7 +15,7 @@ use Rattle.ep_ground.specs.Terms as ground
 use Rattle.ep_ground.specs.Terms.{node_value, term_value, weighed, truth as ground_truth}
 use Rattle.ep_tree.proofs.EvaluationEquations.{evaluate-absolute, evaluate-all_of, evaluate-any_of, evaluate-binary, evaluate-compare, evaluate-in_domain, evaluate-minus, evaluate-negation}
 use Rattle.ep_tree.specs.Environments.{Env}
-use Rattle.ep_tree.specs.Evaluation.{all_numbers, all_true, any_true, binary_number, binary_value, domain_values, joins_truths, undefined_truth, evaluate, map_both, number_in, number_value, on_both, truth_in, truth_of, values_of}
+use Rattle.ep_tree.specs.Evaluation.{all_numbers, all_true, any_true, binary_number, binary_value, domain_values, joins_truths, undefined_truth, evaluate, map_both, number_in, number_value, on_both, truth_in, values_of}
 use Rattle.ep_tree.specs.Trees.{DomainTree, ExprTree, ExprTrees, absolute, all_of, any_of, binary, compare, in_domain, minus, negation}
 use Rattle.ep_tree.specs.Values.{ValueTree, all_defined, single}
 use Rattle.ep_tree.specs.declared.syntax.BinaryOp.{BinaryOp}

@@ -1,9 +1,8 @@
 -- A ground made of its clauses and its objective, and what it says of an instance.
-use Rattle.std.proofs.Common.{◌≡◌, ℕ, ◌<◌, ℤ, List, [], ◌∷◌, length, Some, None, refl, sym, ap, subst, ◌∙◌}
-use Rattle.std.specs.Prelude.{Option, option_and_then, option_map, false}
+use Rattle.std.proofs.Common.{◌≡◌, ℕ, List, Some, None, refl, ap, subst, ◌∙◌}
+use Rattle.std.specs.Prelude.{Option, option_and_then, option_map}
 use Rattle.std.specs.List.{AllZip}
 use Rattle.ep_base.specs.Numbers.{of_bool}
-use Rattle.ep_base.specs.declared.names.Name.{Name}
 use Rattle.ep_base.specs.declared.operators.Sense.{Sense}
 use Rattle.ep_ground.specs.Grounds.{GroundState, ground_objective}
 use Rattle.ep_ground.specs.Nodes.{GroundNode}
@@ -13,17 +12,15 @@ use Rattle.ep_tree.specs.Binding.{Instance}
 use Rattle.ep_tree.specs.Closed.{IsClosed, clause_env}
 use Rattle.ep_tree.specs.Environments.{Env}
 use Rattle.ep_tree.specs.Evaluation.{evaluate, is_true_in, number_in}
-use Rattle.ep_tree.specs.Solutions.{Assigned, Fits, Found, goal_value, under}
+use Rattle.ep_tree.specs.Solutions.{goal_value}
 use Rattle.ep_tree.specs.Trees.{ExprTree}
 use Rattle.ep_tree.specs.declared.values.Mode.{Mode}
 use Rattle.ep_unroll.proofs.ClauseSteps.{zip_kept}
 use Rattle.ep_unroll.proofs.FoundReadings.{found_reading}
-use Rattle.ep_unroll.specs.Cells.{found_numbers}
 use Rattle.ep_unroll.specs.Clauses.{AreClauses, IsGoal}
 use Rattle.ep_unroll.specs.Firsts.{numbering}
 use Rattle.ep_unroll.specs.Grounds.{IsGroundOf}
 use Rattle.ep_unroll.specs.Growing.{Grows}
-use Rattle.ep_unroll.specs.Meanings.{IsNumberOf}
 use Rattle.ep_unroll.specs.Readings.{Numbering, Reading}
 use Rattle.ep_unroll.specs.Unrolling.{SaysClauses, SaysObjective}
 

@@ -1,9 +1,9 @@
 -- Forms whose parts are lists, by what their nodes are worth.
-use Rattle.std.proofs.Common.{◌≡◌, ℕ, ◌<◌, Bool, true, false, ℤ, pos, List, ◌++◌, length, Some, None, refl, sym, ap, ◌∙◌}
-use Rattle.std.specs.Prelude.{Option, is_some, map, option_and_then, option_map, ◌==◌}
-use Rattle.std.specs.List.{All, list_all}
+use Rattle.std.proofs.Common.{◌≡◌, ℕ, Bool, true, false, ℤ, List, ◌++◌, length, Some, None, refl, sym, ap, ◌∙◌}
+use Rattle.std.specs.Prelude.{Option, is_some, map, option_and_then, ◌==◌}
+use Rattle.std.specs.List.{list_all}
 use Rattle.std.proofs.lemmas.List.{map-append}
-use Rattle.ep_base.specs.Numbers.{counts_hold, is_row_of, lex_holds, of_bool}
+use Rattle.ep_base.specs.Numbers.{counts_hold, is_row_of, lex_holds}
 use Rattle.ep_base.specs.Reads.{all_there}
 use Rattle.ep_base.specs.declared.operators.CompareOp.{CompareOp}
 use Rattle.ep_base.specs.declared.operators.LexOp.{LexOp}
@@ -16,7 +16,6 @@ use Rattle.ep_tree.proofs.EvaluationEquations.{evaluate-at_least, evaluate-at_mo
 use Rattle.ep_tree.specs.Environments.{Env}
 use Rattle.ep_tree.specs.Evaluation.{evaluate, number_in, on_both, on_three, rows_in, scalars_in, truth_in, undefined_truth}
 use Rattle.ep_tree.specs.Trees.{ExprTree, at_least, at_most, gcc, lex, table}
-use Rattle.ep_tree.specs.Values.{ValueTree, single}
 use Rattle.ep_tree.specs.declared.values.Mode.{Mode}
 use Rattle.ep_unroll.proofs.FormValues.{both_same, truth_told, untold_is}
 use Rattle.ep_unroll.proofs.MatrixSteps.{one_list, values_kept}

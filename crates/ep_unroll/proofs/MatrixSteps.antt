@@ -1,5 +1,5 @@
 -- The scalars of matrices as terms.
-use Rattle.std.proofs.Common.{◌≡◌, ℕ, zero, suc, ◌+◌, ◌-◌, ◌*◌, ◌<◌, ◌≤◌, ℤ, pos, List, [], ◌∷◌, ◌++◌, length, Some, None, refl, sym, ap, ◌∙◌, arith, slice_get}
+use Rattle.std.proofs.Common.{◌≡◌, ℕ, zero, suc, ◌+◌, ◌*◌, ◌<◌, ℤ, List, [], ◌∷◌, ◌++◌, length, Some, None, refl, sym, ap, ◌∙◌, arith, slice_get}
 use Rattle.std.specs.Prelude.{Bool, Option, is_some, map, option_and_then, option_map}
 use Rattle.std.specs.List.{All}
 use Rattle.ep_base.specs.Numbers.{all_one, any_one, are_different, greatest_of, least_of}
@@ -11,12 +11,11 @@ use Rattle.ep_ground.specs.Terms as ground
 use Rattle.ep_ground.specs.Terms.{node_value, term_value, truth}
 use Rattle.ep_tree.proofs.EvaluationEquations.{evaluate-all_different, evaluate-folded}
 use Rattle.ep_tree.specs.Environments.{Env}
-use Rattle.ep_tree.specs.Evaluation.{evaluate, folded_value, number_value, scalars_in, truth_in, undefined_truth}
+use Rattle.ep_tree.specs.Evaluation.{evaluate, folded_value, number_value, scalars_in, truth_in}
 use Rattle.ep_tree.specs.Solutions.{cell_count}
 use Rattle.ep_tree.specs.Trees.{ExprTree, all_different, folded}
 use Rattle.ep_tree.specs.Values.{ValueTree, all_defined, as_parts, matrix, scalars_of, scalars_of_all, single}
 use Rattle.ep_tree.specs.declared.syntax.FoldOp.{FoldOp}
-use Rattle.ep_tree.specs.declared.values.Mode.{Mode}
 use Rattle.ep_unroll.proofs.FormValues.{grown_value, grows_on, truth_told}
 use Rattle.ep_unroll.proofs.TruthSteps.{length_mapped, list_there, there_length, told_both}
 use Rattle.ep_unroll.specs.Growing.{Grows, Puts}

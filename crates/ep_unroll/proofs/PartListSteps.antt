@@ -1,6 +1,6 @@
 -- Lists of parts: those of a literal, and those of a comprehension, one after another.
-use Rattle.std.proofs.Common.{◌≡◌, ℕ, suc, ◌+◌, ◌<◌, ◌≤◌, Bool, true, false, ℤ, List, [], ◌∷◌, ◌++◌, length, drop, get_or, Some, None, Ok, Err, refl, sym, ap, subst, ◌∙◌, arith, rules, vec_len, append_assoc}
-use Rattle.std.specs.Prelude.{◌&&◌, ◌==◌, IfOk, Option, Result, if◌then◌else◌, map, option_and_then, option_map}
+use Rattle.std.proofs.Common.{◌≡◌, ℕ, suc, ◌+◌, ◌<◌, ◌≤◌, true, ℤ, List, [], ◌∷◌, ◌++◌, length, drop, get_or, Some, None, Ok, Err, refl, sym, ap, subst, ◌∙◌, rules, vec_len, append_assoc}
+use Rattle.std.specs.Prelude.{◌&&◌, ◌==◌, IfOk, Option, Result, if◌then◌else◌, map, option_map}
 use Rattle.std.specs.declared.alloc.Global.{Global}
 use Rattle.std.specs.declared.vec.Vec.{Vec}
 use Rattle.std.proofs.lemmas.List.{append-nil, at_drop_all, at_drop_more, length-map, map-append}
@@ -14,7 +14,7 @@ use Rattle.ep_ground.specs.Nodes.{GroundNode}
 use Rattle.ep_tree.proofs.EvaluationEquations.{evaluate-literal}
 use Rattle.ep_tree.specs.Environments.{Env, scalar_in, with_number}
 use Rattle.ep_tree.specs.Evaluation.{all_true, evaluate, index_values, map_both, matrix_value, number_in, on_both, truth_of, values_of}
-use Rattle.ep_tree.specs.Trees.{DomainTree, ExprTree, ExprTrees, Generators, IndexDomain, comprehension, generator_and, literal}
+use Rattle.ep_tree.specs.Trees.{DomainTree, ExprTree, ExprTrees, Generators, IndexDomain, comprehension, literal}
 use Rattle.ep_tree.specs.TypedValues.{is_number_of}
 use Rattle.ep_tree.specs.Values.{ValueTree, all_defined, as_parts, matrix, with_indices}
 use Rattle.ep_tree.specs.Views.{expr_tree, expr_trees}
@@ -24,7 +24,7 @@ use Rattle.ep_tree.specs.declared.values.Scalar.{Scalar}
 use Rattle.ep_unroll.proofs.CycleSteps.{within}
 use Rattle.ep_unroll.proofs.FormValues.{grows_on}
 use Rattle.ep_unroll.proofs.FreeValues.{scalar_kept}
-use Rattle.ep_unroll.proofs.GrownParts.{have_both, have_kept, have_one, listed_kept, may_kept, worths_kept}
+use Rattle.ep_unroll.proofs.GrownParts.{have_both, have_kept, have_one, worths_kept}
 use Rattle.ep_unroll.proofs.MeaningSteps.{grows_none}
 use Rattle.ep_unroll.specs.Growing.{Grows}
 use Rattle.ep_unroll.specs.Meanings.{AreTerms, Means, worth}

@@ -1,5 +1,5 @@
 -- Parts of blocks of cells.
-use Rattle.std.proofs.Common.{◌≡◌, ℕ, zero, suc, ◌+◌, ◌*◌, ◌<◌, ◌≤◌, Bool, true, false, ℤ, List, [], ◌∷◌, ◌++◌, length, drop, get_or, Some, None, refl, sym, ap, subst, ◌∙◌, arith, append_assoc, slice_get, Ok, Err}
+use Rattle.std.proofs.Common.{◌≡◌, ℕ, suc, ◌+◌, ◌*◌, ◌<◌, ◌≤◌, Bool, true, false, ℤ, List, [], ◌∷◌, ◌++◌, length, drop, get_or, Some, None, refl, sym, ap, subst, ◌∙◌, arith, append_assoc, slice_get, Ok, Err}
 use Rattle.std.specs.Prelude.{Option, Result, IfOk, map, option_and_then, option_map, if◌then◌else◌}
 use Rattle.std.specs.Ordering.{int_eq}
 use Rattle.std.proofs.lemmas.List.{append-nil, at_drop_all, at_drop_more, map-append}
@@ -11,20 +11,18 @@ use Rattle.ep_tree.specs.Environments.{Bound, Env, has_cells, value_bound}
 use Rattle.ep_tree.specs.Evaluation.{evaluate, index_list, map_both, number_in, on_both, read_result, type_in}
 use Rattle.ep_tree.specs.Solutions.{cell_count}
 use Rattle.ep_tree.specs.Trees.{ExprTree, Indices, named, read}
-use Rattle.ep_tree.specs.Values.{Index, ValueTree, ValueTrees, all_defined, any_index, as_parts, at_index, listed_values, matrix, part_at, read_value, single}
+use Rattle.ep_tree.specs.Values.{Index, ValueTree, all_defined, any_index, as_parts, at_index, listed_values, matrix, part_at, read_value, single}
 use Rattle.ep_tree.specs.Views.{expr_tree, indices_of}
 use Rattle.ep_tree.specs.declared.syntax.Expr.{Expr}
 use Rattle.ep_tree.specs.declared.values.Mode.{Mode}
 use Rattle.ep_tree.specs.declared.values.Scalar.{Scalar}
 use Rattle.ep_tree.specs.declared.values.ValueType.{ValueType}
 use Rattle.ep_eval.proofs.ReadResults.{read_found}
-use Rattle.ep_eval.specs.Helds.{seen_held}
 use Rattle.ep_unroll.proofs.FreeValues.{type_kept}
 use Rattle.ep_unroll.specs.Blocks.{IsWorth, StandFor, block_under, cell_of, index_in, indices_in, one_index}
-use Rattle.ep_unroll.specs.Growing.{Grows}
 use Rattle.ep_unroll.specs.Meanings.{AreTerms, Means, worth}
 use Rattle.ep_unroll.specs.Readings.{Numbering, Reading, ReadsName, cells_value, each_from}
-use Rattle.ep_unroll.specs.declared.unrolled.Unrolled.{Unrolled, Number, Cells, Fixed, Matrix', Row_of-Unrolled, end_of-Unrolled, more_of-Unrolled}
+use Rattle.ep_unroll.specs.declared.unrolled.Unrolled.{Unrolled, Number, Cells, Fixed, Matrix'}
 
 -- ---- what is there
 

@@ -17,13 +17,12 @@ use Rattle.ep_tree.specs.Evaluation.{folded_value}
 use Rattle.ep_tree.specs.Trees.{ExprTree, folded}
 use Rattle.ep_tree.specs.Values.{single}
 use Rattle.ep_tree.specs.declared.syntax.FoldOp.{FoldOp}
-use Rattle.ep_tree.specs.declared.values.Mode.{Mode}
 use Rattle.ep_eval.proofs.Products.{times_again}
 use Rattle.ep_unroll.proofs.FormSteps.{two_known}
 use Rattle.ep_unroll.proofs.FormValues.{grown_value, grows_long, grows_on}
 use Rattle.ep_unroll.proofs.MatrixSteps.{joined, there_cut}
 use Rattle.ep_unroll.proofs.MeaningSteps.{grows_none}
-use Rattle.ep_unroll.specs.Growing.{Grows, Puts}
+use Rattle.ep_unroll.specs.Growing.{Puts}
 use Rattle.ep_unroll.specs.Meanings.{IsTermOf}
 use Rattle.ep_unroll.specs.Numbers.{HasNumber}
 use Rattle.ep_unroll.specs.Readings.{Numbering}

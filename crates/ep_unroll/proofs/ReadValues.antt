@@ -1,5 +1,5 @@
 -- The value of a read, by the numbers among which it chooses.
-use Rattle.std.proofs.Common.{◌≡◌, ℕ, ◌≤◌, ℤ, Bool, true, false, List, [], ◌∷◌, length, map, Some, None, refl, sym, ap, subst, ◌∙◌}
+use Rattle.std.proofs.Common.{◌≡◌, ℕ, ◌≤◌, ℤ, true, false, List, [], ◌∷◌, length, map, Some, None, refl, sym, ap, subst, ◌∙◌}
 use Rattle.std.specs.Prelude.{Option, is_some, option_and_then, option_map}
 use Rattle.ep_base.specs.Numbers.{is_one, of_bool}
 use Rattle.ep_base.specs.Reads.{all_there}

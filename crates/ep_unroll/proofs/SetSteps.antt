@@ -24,7 +24,6 @@ use Rattle.ep_tree.proofs.EvaluationEquations.{evaluate-in_set}
 use Rattle.ep_tree.specs.Environments.{Env}
 use Rattle.ep_tree.specs.Evaluation.{evaluate, map_both, number_in, scalars_in, truth_in, undefined_truth}
 use Rattle.ep_tree.specs.Trees.{ExprTree, in_set}
-use Rattle.ep_tree.specs.Values.{single}
 use Rattle.ep_tree.specs.declared.values.Mode.{Mode}
 use Rattle.ep_unroll.proofs.FormValues.{grown_value, grows_on, one_truth, truth_told, untold_is}
 use Rattle.ep_unroll.proofs.MatrixSteps.{values_kept}

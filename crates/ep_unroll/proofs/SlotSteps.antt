@@ -1,14 +1,12 @@
 -- Places for the indices of a read, one after another, and reads that choose.
 use Rattle.std.proofs.Common.{◌≡◌, ℕ, zero, suc, ◌+◌, ◌<◌, ◌≤◌, ℤ, List, [], ◌∷◌, ◌++◌, length, drop, get_or, Some, None, refl, sym, ap, subst, ◌∙◌, arith, append_assoc}
-use Rattle.std.specs.Prelude.{IfOk, Option, Result, Ok, Err, map, option_and_then, option_map, if◌then◌else◌}
+use Rattle.std.specs.Prelude.{IfOk, Option, Result, Ok, Err, map, option_and_then, option_map}
 use Rattle.std.specs.List.{All}
 use Rattle.std.proofs.lemmas.List.{append-nil, at_drop_all, at_drop_more, map-append}
 use Rattle.std.proofs.lemmas.List.Elements.{All-append, All-push}
 use Rattle.ep_base.specs.Reads.{all_there}
 use Rattle.ep_base.specs.declared.places.Place.{Place}
-use Rattle.ep_ground.specs.Nodes as node
 use Rattle.ep_ground.specs.Nodes.{GroundNode}
-use Rattle.ep_ground.specs.Terms as ground
 use Rattle.ep_ground.specs.Terms.{term_value}
 use Rattle.ep_tree.proofs.EvaluationEquations.{evaluate-read}
 use Rattle.ep_tree.specs.Environments.{Env}

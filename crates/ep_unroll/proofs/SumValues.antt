@@ -1,9 +1,9 @@
 -- The terms of chains of sums and of quantifiers.
-use Rattle.std.proofs.Common.{◌≡◌, ℕ, suc, ◌+◌, ◌<◌, Bool, true, false, ℤ, pos, negsuc, List, [], ◌∷◌, ◌++◌, length, Some, None, refl, sym, ap, subst, ◌∙◌, arith}
-use Rattle.std.specs.Prelude.{Option, is_some, map, ◌*ℤ◌, ◌+ℤ◌, neg_ℤ, option_map, option_and_then}
+use Rattle.std.proofs.Common.{◌≡◌, ℕ, suc, ◌<◌, Bool, ℤ, pos, List, [], ◌∷◌, length, Some, None, refl, sym, ap, ◌∙◌, arith}
+use Rattle.std.specs.Prelude.{Option, is_some, map, ◌*ℤ◌, ◌+ℤ◌, option_map, option_and_then}
 use Rattle.std.specs.List.{All}
 use Rattle.std.proofs.lemmas.Int.{ints}
-use Rattle.ep_base.specs.Numbers.{all_one, any_one, of_bool, sum_of}
+use Rattle.ep_base.specs.Numbers.{all_one, any_one, sum_of}
 use Rattle.ep_base.specs.Reads.{all_there, weighted_sum}
 use Rattle.ep_base.specs.declared.names.Name.{Name}
 use Rattle.ep_base.specs.declared.places.Place.{Place}
@@ -12,9 +12,9 @@ use Rattle.ep_ground.specs.Nodes.{GroundNode}
 use Rattle.ep_ground.specs.Terms as ground
 use Rattle.ep_ground.specs.Terms.{node_value, term_value, weighed, truth as ground_truth}
 use Rattle.ep_tree.proofs.EvaluationEquations.{evaluate-chain}
-use Rattle.ep_tree.specs.Environments.{Env, scalar_in, with_number}
-use Rattle.ep_tree.specs.Evaluation.{all_numbers, all_true, any_true, domain_values, evaluate, number_in, number_value, quantified_value, term_values, truth_in, undefined_truth}
-use Rattle.ep_tree.specs.Trees.{ExprTree, Terms, chain}
+use Rattle.ep_tree.specs.Environments.{Env}
+use Rattle.ep_tree.specs.Evaluation.{all_numbers, all_true, any_true, domain_values, number_in, number_value, quantified_value, truth_in, undefined_truth}
+use Rattle.ep_tree.specs.Trees.{Terms, chain}
 use Rattle.ep_tree.specs.Values.{ValueTree, all_defined, single}
 use Rattle.ep_tree.specs.Views.{domain_tree, expr_tree}
 use Rattle.ep_tree.specs.declared.syntax.QuantOp.{QuantOp}
@@ -22,7 +22,7 @@ use Rattle.ep_tree.specs.declared.values.Mode.{Mode}
 use Rattle.ep_eval.proofs.Instances.{quantified_none, quantified_some}
 use Rattle.ep_eval.specs.Instances.{instance_value, quantified_tree}
 use Rattle.ep_eval.specs.declared.gathering.Quantifier.{Quantifier}
-use Rattle.ep_unroll.proofs.FormValues.{grows_long, grows_on, grown_value, there_defined, truth_told, untold_is}
+use Rattle.ep_unroll.proofs.FormValues.{grows_on, grown_value, there_defined, truth_told, untold_is}
 use Rattle.ep_unroll.proofs.MeaningSteps.{grows_none}
 use Rattle.ep_unroll.proofs.TruthSteps.{list_there, told_both}
 use Rattle.ep_unroll.specs.Growing.{Grows, Puts}

@@ -15,7 +15,6 @@ use Rattle.ep_tree.specs.Trees.{DomainTree, ExprTree}
 use Rattle.ep_tree.specs.TypedValues.{IsOf, IsOfDims, IsTypedBound, IsTypedEnv, is_number_of}
 use Rattle.ep_tree.specs.Types.{Judged, judge, judge_domain, mistyped, of_scalar, scalar_of, type_from, typed, untyped}
 use Rattle.ep_tree.specs.Values.{ValueTree, fitted, single}
-use Rattle.ep_tree.specs.declared.values.Mode.{Mode}
 use Rattle.ep_tree.specs.declared.values.Scalar.{Scalar}
 use Rattle.ep_tree.specs.declared.values.ValueType.{ValueType}
 use Rattle.ep_unroll.specs.Readings.{Numbering, Reading}

@@ -13,7 +13,7 @@ use Rattle.ep_tree.specs.declared.syntax.Expr.{Expr}
 use Rattle.ep_tree.specs.declared.values.Mode.{Mode}
 use Rattle.ep_unroll.specs.Meanings.{worth}
 use Rattle.ep_unroll.specs.Readings.{Numbering, Reading, cells_value}
-use Rattle.ep_unroll.specs.declared.unrolled.Unrolled.{Unrolled, Number, Cells, Fixed, Matrix', Row_of-Unrolled, end_of-Unrolled, more_of-Unrolled}
+use Rattle.ep_unroll.specs.declared.unrolled.Unrolled.{Unrolled, Number, Cells, Fixed, Matrix'}
 
 -- the first cell of the part with an index, where parts of one size stand one after another
 unfoldable pub cell_of : ℕ → ℕ → List ℤ → ℤ → Option ℕ

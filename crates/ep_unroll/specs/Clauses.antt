@@ -8,7 +8,6 @@ use Rattle.ep_ground.specs.Terms.{term_value}
 use Rattle.ep_tree.specs.Environments.{Env}
 use Rattle.ep_tree.specs.Evaluation.{is_true_in}
 use Rattle.ep_tree.specs.Trees.{ExprTree}
-use Rattle.ep_tree.specs.declared.values.Mode.{Mode}
 use Rattle.ep_unroll.specs.Growing.{Grows}
 use Rattle.ep_unroll.specs.Meanings.{IsNumberOf}
 use Rattle.ep_unroll.specs.Readings.{Numbering, Reading}

@@ -1,16 +1,15 @@
 -- What terms, and matrices of terms, say of expressions. Each record tells as well that the old nodes stay, with others
 -- behind them.
-use Rattle.std.specs.Prelude.{◌≡◌, ℕ, ◌<◌, List, [], ◌∷◌, map, ℤ, Some, None, Option, option_map, length}
+use Rattle.std.specs.Prelude.{◌≡◌, ℕ, ◌<◌, List, [], ◌∷◌, map, ℤ, Option, option_map, length}
 use Rattle.std.specs.List.{All}
 use Rattle.ep_base.specs.declared.names.Name.{Name}
 use Rattle.ep_base.specs.declared.places.Place.{Place}
 use Rattle.ep_ground.specs.Nodes.{GroundNode}
 use Rattle.ep_ground.specs.Terms.{term_value}
 use Rattle.ep_tree.specs.Environments.{Env}
-use Rattle.ep_tree.specs.Evaluation.{evaluate, number_in, values_of, term_values}
-use Rattle.ep_tree.specs.Trees.{ExprTree, ExprTrees, Terms}
+use Rattle.ep_tree.specs.Evaluation.{evaluate, number_in, values_of}
+use Rattle.ep_tree.specs.Trees.{ExprTree, ExprTrees}
 use Rattle.ep_tree.specs.Values.{ValueTree, all_defined, as_parts, matrix, single}
-use Rattle.ep_tree.specs.declared.values.Mode.{Mode}
 use Rattle.ep_eval.specs.Helds.{seen_held}
 use Rattle.ep_eval.specs.Instances.{instance_value}
 use Rattle.ep_eval.specs.declared.gathering.Quantifier.{Quantifier}

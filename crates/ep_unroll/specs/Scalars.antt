@@ -1,5 +1,5 @@
 -- The scalars of matrices, as terms.
-use Rattle.std.specs.Prelude.{◌≡◌, ℕ, zero, suc, ◌<◌, List, [], ◌∷◌, map, ℤ, Some, None, Option, length, slice_get}
+use Rattle.std.specs.Prelude.{◌≡◌, ℕ, zero, suc, ◌<◌, List, [], ◌∷◌, map, ℤ, Option, length, slice_get}
 use Rattle.std.specs.List.{All}
 use Rattle.ep_base.specs.Reads.{all_there}
 use Rattle.ep_ground.specs.Nodes.{GroundNode}
@@ -7,7 +7,6 @@ use Rattle.ep_ground.specs.Terms.{term_value}
 use Rattle.ep_tree.specs.Environments.{Env}
 use Rattle.ep_tree.specs.Evaluation.{evaluate, scalars_in}
 use Rattle.ep_tree.specs.Trees.{ExprTree}
-use Rattle.ep_tree.specs.declared.values.Mode.{Mode}
 use Rattle.ep_unroll.specs.Growing.{Grows}
 use Rattle.ep_unroll.specs.Readings.{Numbering, Reading}
 

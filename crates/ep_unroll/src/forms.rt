@@ -83,13 +83,7 @@ fn are_both_total(arena: &Arena, count: u64, one: Term, other: Term) -> bool
 }
 
 /// Whether `->` can be a disjunction of two parts: they have values, or what lacks a part has none in this mode.
-fn can_imply(
-    scope: Scope<'_, '_>,
-    arena: &Arena,
-    count: u64,
-    one: Term,
-    other: Term,
-) -> bool
+fn can_imply(scope: Scope<'_, '_>, arena: &Arena, count: u64, one: Term, other: Term) -> bool
     requires one { one < length arena.now }
     requires other { other < length arena.now }
     ensures { result ≡ true → mode_in scope.entry ≡ EachMode.Relational → (numbers : List ℤ) → count ≤ length numbers

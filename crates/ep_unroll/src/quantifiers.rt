@@ -63,11 +63,7 @@ pub fn finish_quantifier(
 }
 
 /// The term of a quantifier over a domain that is undefined.
-pub fn without_domain(
-    scope: Scope<'_, '_>,
-    arena: &mut Arena,
-    op: QuantOp,
-) -> Result<Term, Memory>
+pub fn without_domain(scope: Scope<'_, '_>, arena: &mut Arena, op: QuantOp) -> Result<Term, Memory>
     ensures { (n : Numbering) → (cells : names.Env) → (p : Place) → (q : EachQuantifier)
         → (name : EachName) → (rest : List EachName) → q.op ≡ op
         → n.mode ≡ mode_in scope.entry

@@ -1,4 +1,4 @@
-use Rattle.std.proofs.Common.{Some, ap, length, refl, sym, ◌∙◌}
+use Rattle.std.proofs.Common.{ap, length, refl, sym, ◌∙◌}
 use Rattle.ep_eval.specs.Literals.{index_at}
 use Rattle.ep_eval.specs.Scopes.{env_in}
 use Rattle.ep_tree.specs.Evaluation.{index_values, on_both}

@@ -1,18 +1,17 @@
-use Rattle.std.proofs.Common.{Ok, [], ap, arith, length, of_z, refl, rules, subst, sym, to_z, true, w64, ◌+◌, ◌++◌, ◌<◌, ◌≤◌, ◌∙◌, ◌∷◌, ◌≡◌, List, Some, None}
-use Rattle.std.specs.Prelude.{IfOk, option_map}
+use Rattle.std.proofs.Common.{[], ap, arith, length, of_z, refl, subst, sym, to_z, w64, ◌++◌, ◌<◌, ◌≤◌, ◌∙◌, ◌∷◌, ◌≡◌, List, Some, None}
+use Rattle.std.specs.Prelude.{option_map}
 use Rattle.std.proofs.lemmas.Int.{ints, to_z-of_z}
-use Rattle.ep_base.specs.declared.places.Place.{Place}
 use Rattle.ep_eval.proofs.Depths.{quantifier_depth, second_within}
 use Rattle.ep_eval.proofs.Instances.{a_place, quantifier_tree}
 use Rattle.ep_eval.proofs.WalkSteps.{no_runs}
-use Rattle.ep_eval.specs.Instances.{instance_value, quantified_tree}
+use Rattle.ep_eval.specs.Instances.{quantified_tree}
 use Rattle.ep_eval.specs.Ranks.{depth_of}
 use Rattle.ep_eval.specs.Scopes.{env_in, mode_in, with_all}
 use Rattle.ep_eval.specs.Walking.{IsWalkBehind, before_rest, numbers_left}
 use Rattle.ep_size.specs.Parts.{part_of, two_parts}
 use Rattle.ep_tree.proofs.ViewLemmas.{kind_tree-absolute, kind_tree-all_of, kind_tree-any_of, kind_tree-binary, kind_tree-chain, kind_tree-compare, kind_tree-group, kind_tree-in_domain, kind_tree-minus, kind_tree-named, kind_tree-negation, kind_tree-to_int, kind_tree-read}
 use Rattle.ep_tree.specs.Environments.{scalar_in, with_number}
-use Rattle.ep_tree.specs.Trees.{absolute, all_of, any_of, binary, chain, compare, group, in_domain, minus, named, negation, quantified, to_int, read}
+use Rattle.ep_tree.specs.Trees.{absolute, all_of, any_of, binary, chain, compare, group, in_domain, minus, negation, quantified, to_int, read}
 use Rattle.ep_tree.specs.Views.{domain_tree, expr_tree, expr_trees, kind_tree, terms_of, indices_of}
 use Rattle.ep_tree.specs.declared.syntax.Domain.{size-Domain}
 use Rattle.ep_tree.specs.declared.syntax.Expr.{size-Expr}
@@ -22,7 +21,7 @@ use Rattle.ep_unroll.proofs.TypedReadings.{domain_numbers, number_next, numbers_
 use Rattle.ep_unroll.proofs.MeaningSteps.{term_means}
 use Rattle.ep_unroll.specs.Firsts.{numbering_of}
 use Rattle.ep_unroll.specs.Lists.{all_parts}
-use Rattle.ep_unroll.specs.Meanings.{AreInstancesOf, IsNumberOf, IsTermOf, Means}
+use Rattle.ep_unroll.specs.Meanings.{IsNumberOf, IsTermOf, Means}
 use Rattle.ep_unroll.specs.declared.unrolled.Unrolled.{Number}
 use Rattle.ep_unroll.proofs.SlotSteps.{every_slot, open_slot, slots_all, slots_begin, slots_from, slots_grow, slots_more, slots_none, slots_known}
 use Rattle.ep_unroll.specs.Picks.{SlotMeans, SlotsMean}

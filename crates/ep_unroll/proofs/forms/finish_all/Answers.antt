@@ -1,4 +1,4 @@
-use Rattle.std.proofs.Common.{ap, sym, subst, ◌∙◌, Some, refl}
+use Rattle.std.proofs.Common.{ap, ◌∙◌, refl}
 use Rattle.ep_eval.specs.Scopes.{mode_in}
 use Rattle.ep_ground.specs.Nodes.{parts_of}
 use Rattle.ep_tree.proofs.ViewLemmas.{kind_tree-all_of, kind_tree-any_of}

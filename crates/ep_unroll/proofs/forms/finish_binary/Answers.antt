@@ -1,4 +1,4 @@
-use Rattle.std.proofs.Common.{ap, sym, subst, ◌∙◌, Some, ◌∷◌, [], length, ◌<◌, pos, negsuc, refl}
+use Rattle.std.proofs.Common.{sym, subst, ◌∷◌, [], length, ◌<◌}
 use Rattle.std.specs.List.{All}
 use Rattle.ep_eval.specs.Scopes.{mode_in}
 use Rattle.ep_ground.specs.Nodes.{greatest, least, parts_of}

@@ -1,4 +1,4 @@
-use Rattle.std.proofs.Common.{ap, sym, subst, ◌∙◌, Some, ◌∷◌, [], length, ◌<◌, pos, negsuc, refl}
+use Rattle.std.proofs.Common.{ap, ◌∙◌, ◌∷◌, [], refl}
 use Rattle.ep_eval.specs.Scopes.{mode_in}
 use Rattle.ep_size.specs.Parts.{two_parts}
 use Rattle.ep_tree.proofs.ViewLemmas.{kind_tree-binary, kind_tree-compare}

@@ -1,4 +1,4 @@
-use Rattle.std.proofs.Common.{◌≡◌, ap, arith, length, ◌∙◌}
+use Rattle.std.proofs.Common.{ap, arith, ◌∙◌}
 use Rattle.std.specs.Prelude.{option_map}
 use Rattle.ep_eval.specs.Scopes.{mode_in}
 use Rattle.ep_ground.specs.Nodes.{parts_of}

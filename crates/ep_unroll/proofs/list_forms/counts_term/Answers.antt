@@ -1,4 +1,4 @@
-use Rattle.std.proofs.Common.{◌≡◌, ap, arith, length, ◌∙◌, ◌++◌, ◌<◌}
+use Rattle.std.proofs.Common.{ap, arith, length, ◌∙◌, ◌++◌, ◌<◌}
 use Rattle.std.specs.Prelude.{option_map}
 use Rattle.std.proofs.lemmas.List.Elements.{All-append}
 use Rattle.ep_eval.specs.Scopes.{mode_in}

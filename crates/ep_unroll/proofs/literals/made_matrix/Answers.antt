@@ -1,4 +1,4 @@
-use Rattle.std.proofs.Common.{Some, None, ap, length, sym, ◌∙◌}
+use Rattle.std.proofs.Common.{ap, sym, ◌∙◌}
 use Rattle.ep_tree.specs.Evaluation.{index_values, on_both}
 use Rattle.ep_tree.specs.Values.{all_defined, with_indices}
 use Rattle.ep_eval.specs.Scopes.{mode_in}

@@ -1,4 +1,4 @@
-use Rattle.std.proofs.Common.{◌≡◌, ap, ◌∙◌, sym, Some, arith, of_z, to_z, w64}
+use Rattle.std.proofs.Common.{ap, ◌∙◌, sym, Some, arith, w64}
 use Rattle.std.proofs.lemmas.Int.{ints, to_z-of_z}
 use Rattle.ep_eval.specs.Scopes.{mode_in}
 use Rattle.ep_tree.specs.Evaluation.{number_in}

@@ -1,4 +1,4 @@
-use Rattle.std.proofs.Common.{◌≡◌, ap, ◌∙◌}
+use Rattle.std.proofs.Common.{ap, ◌∙◌}
 use Rattle.std.specs.Prelude.{option_map}
 use Rattle.ep_eval.specs.Scopes.{mode_in}
 use Rattle.ep_unroll.proofs.PartSteps.{indices_all, indices_begin, indices_more, indices_none}

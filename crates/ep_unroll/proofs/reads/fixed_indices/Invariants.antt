@@ -1,4 +1,3 @@
-use Rattle.std.proofs.Common.{◌≡◌}
 use Rattle.ep_eval.specs.Scopes.{env_in, mode_in}
 use Rattle.ep_unroll.proofs.PartSteps.{IndicesSoFar}
 use Rattle.ep_unroll.specs.Readings.{Numbering, Reading}

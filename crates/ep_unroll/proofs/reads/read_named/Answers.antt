@@ -1,4 +1,4 @@
-use Rattle.std.proofs.Common.{◌≡◌, None, Some, ap, length, refl, sym, ◌∙◌}
+use Rattle.std.proofs.Common.{None, Some, ap, length, refl, sym, ◌∙◌}
 use Rattle.std.specs.Prelude.{option_map}
 use Rattle.ep_eval.specs.Scopes.{env_in, mode_in}
 use Rattle.ep_tree.specs.Values.{read_value}

@@ -1,4 +1,4 @@
-use Rattle.std.proofs.Common.{◌≡◌, Some, ap, arith, of_z, subst, sym, to_z, w64, ◌∙◌}
+use Rattle.std.proofs.Common.{Some, ap, arith, of_z, sym, to_z, w64, ◌∙◌}
 use Rattle.std.proofs.lemmas.Int.{ints, to_z-of_z}
 use Rattle.ep_eval.specs.Scopes.{env_in}
 use Rattle.ep_tree.specs.Evaluation.{evaluate, number_in}

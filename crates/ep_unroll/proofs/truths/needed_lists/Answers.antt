@@ -1,4 +1,4 @@
-use Rattle.std.proofs.Common.{sym, subst, ◌∙◌, ◌∷◌, ◌++◌, [], ap, length, ◌<◌}
+use Rattle.std.proofs.Common.{sym, subst, ◌∙◌, ◌++◌, length, ◌<◌}
 use Rattle.std.specs.List.{All}
 use Rattle.ep_eval.specs.Scopes.{mode_in}
 use Rattle.std.proofs.lemmas.List.Elements.{All-append}

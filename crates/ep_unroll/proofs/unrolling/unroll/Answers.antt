@@ -1,4 +1,3 @@
-use Rattle.std.proofs.Common.{ap, sym, ◌∙◌}
 use Rattle.ep_ground.specs.GroundViews.{plain_ground}
 use Rattle.ep_instance.specs.Instances.{instance_of, mode_of}
 use Rattle.ep_unroll.proofs.GroundSteps.{says_clauses, says_objective}
