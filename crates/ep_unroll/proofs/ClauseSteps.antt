@@ -1,5 +1,5 @@
 -- Clauses and the objective, one after another.
-use Rattle.std.proofs.Common.{◌≡◌, ℕ, suc, ◌+◌, ◌<◌, ◌≤◌, Bool, true, false, ℤ, pos, List, [], ◌∷◌, ◌++◌, length, take, get_or, Some, None, refl, sym, ap, subst, ◌∙◌, arith}
+use Rattle.std.proofs.Common.{◌≡◌, ℕ, suc, ◌+◌, ◌<◌, ◌≤◌, Bool, true, false, ℤ, List, [], ◌∷◌, ◌++◌, length, take, get_or, Some, None, refl, sym, ap, subst, ◌∙◌, arith}
 use Rattle.std.specs.Prelude.{Option, ◌&&◌, map, option_map, unwrap_or}
 use Rattle.std.specs.List.{All, AllZip}
 use Rattle.std.proofs.lemmas.List.{map-append, take_all, take_more}
@@ -11,17 +11,16 @@ use Rattle.ep_ground.specs.Nodes.{GroundNode}
 use Rattle.ep_ground.specs.Terms as ground
 use Rattle.ep_ground.specs.Terms.{node_value, term_value, truth as ground_truth}
 use Rattle.ep_tree.specs.Environments.{Env}
-use Rattle.ep_tree.specs.Evaluation.{evaluate, is_true_in, number_in, truth_of}
+use Rattle.ep_tree.specs.Evaluation.{evaluate, is_true_in, number_in}
 use Rattle.ep_tree.specs.Trees.{ExprTree}
 use Rattle.ep_tree.specs.Views.{expr_tree}
 use Rattle.ep_tree.specs.declared.syntax.Expr.{Expr}
-use Rattle.ep_tree.specs.declared.values.Mode.{Mode}
 use Rattle.ep_unroll.proofs.FormValues.{grows_long, grows_on, grown_value, number_grown}
 use Rattle.ep_unroll.proofs.MeaningSteps.{grows_none}
 use Rattle.ep_unroll.specs.Clauses.{AreClauses, IsClause}
 use Rattle.ep_unroll.specs.Growing.{Grows, Puts}
 use Rattle.ep_unroll.specs.Meanings.{IsNumberOf}
-use Rattle.ep_unroll.specs.Readings.{Numbering, Reading}
+use Rattle.ep_unroll.specs.Readings.{Numbering}
 
 and_true : (b : Bool) → (b && true) ≡ b
 and_true true = refl
@@ -40,7 +39,7 @@ clause_is n cells nodes mid new e a t h put = record {
   value = λ r.
       put.value r.numbers
       ∙ ap (λ o. ground_truth (option_map all_one (all_there (o ∷ [])))) ((number_grown n cells nodes mid new e a put.grows h).number r)
-      ∙ one_truth (number_in (evaluate Mode.Relational r.values e));
+      ∙ one_truth (number_in (evaluate n.mode r.values e));
 }
 
 zip_push : {A B : Type 0} (R : A → B → Type 0) (xs : List A) (ys : List B) (x : A) (y : B) → AllZip R xs ys → R x y → AllZip R (xs ++ x ∷ []) (ys ++ y ∷ [])
@@ -61,7 +60,7 @@ pub clauses_begin : (n : Numbering) (env : Env) (old : List GroundNode) (xs : Li
 clauses_begin n env old xs ts none = record {
   grows = grows_none old old refl;
   known = subst (λ ys. All (λ t. t < length old) ys) (sym none) (λ k d less. absurd (no_less k less));
-  values = λ r. subst (λ ys. AllZip (λ t e. term_value old r.numbers t ≡ Some (of_bool (is_true_in Mode.Relational r.values e))) ys []) (sym none) tt;
+  values = λ r. subst (λ ys. AllZip (λ t e. term_value old r.numbers t ≡ Some (of_bool (is_true_in n.mode r.values e))) ys []) (sym none) tt;
 }
   where
     no_less : (k : ℕ) → k < 0 → ⊥
@@ -76,10 +75,10 @@ clauses_more n env old mid new xs k x d t ts us h same so one pushed =
       grows = grows_on old mid new so.grows one.grows;
       known = subst (λ ys. All (λ u. u < length new) ys) (sym pushed) (All-push (λ u. u < length new) ts t (λ j e less. grows_long mid new _ one.grows (so.known j e less)) one.known);
       values = λ r.
-          subst (λ es. AllZip (λ u e. term_value new r.numbers u ≡ Some (of_bool (is_true_in Mode.Relational r.values e))) us es) (sym longer)
-          (subst (λ ys. AllZip (λ u e. term_value new r.numbers u ≡ Some (of_bool (is_true_in Mode.Relational r.values e))) ys (map expr_tree (take k xs) ++ expr_tree x ∷ [])) (sym pushed)
-          (zip_push (λ u e. term_value new r.numbers u ≡ Some (of_bool (is_true_in Mode.Relational r.values e))) ts (map expr_tree (take k xs)) t (expr_tree x)
-          (zip_kept mid new r.numbers (λ e. Some (of_bool (is_true_in Mode.Relational r.values e))) ts (map expr_tree (take k xs)) one.grows so.known (so.values r)) (one.value r)));
+          subst (λ es. AllZip (λ u e. term_value new r.numbers u ≡ Some (of_bool (is_true_in n.mode r.values e))) us es) (sym longer)
+          (subst (λ ys. AllZip (λ u e. term_value new r.numbers u ≡ Some (of_bool (is_true_in n.mode r.values e))) ys (map expr_tree (take k xs) ++ expr_tree x ∷ [])) (sym pushed)
+          (zip_push (λ u e. term_value new r.numbers u ≡ Some (of_bool (is_true_in n.mode r.values e))) ts (map expr_tree (take k xs)) t (expr_tree x)
+          (zip_kept mid new r.numbers (λ e. Some (of_bool (is_true_in n.mode r.values e))) ts (map expr_tree (take k xs)) one.grows so.known (so.values r)) (one.value r)));
     }
 
 pub clauses_all : (n : Numbering) (env : Env) (old new : List GroundNode) (xs : List Expr) (k : ℕ) (ts : List ℕ) → length xs ≤ k → AreClauses n env old new (map expr_tree (take k xs)) ts → AreClauses n env old new (map expr_tree xs) ts

@@ -1,5 +1,5 @@
 -- Parts of cells one after another, and what indices leave of each.
-use Rattle.std.proofs.Common.{◌≡◌, ℕ, suc, ◌+◌, ◌<◌, ℤ, List, [], ◌∷◌, ◌++◌, length, Some, None, refl, sym, ap, subst, ◌∙◌, arith, append_assoc, slice_get}
+use Rattle.std.proofs.Common.{◌≡◌, ℕ, suc, ◌+◌, ◌<◌, ℤ, List, [], ◌∷◌, ◌++◌, Some, None, refl, sym, ap, subst, ◌∙◌, arith, append_assoc, slice_get}
 use Rattle.std.specs.Prelude.{Option, map, option_map}
 use Rattle.std.specs.List.{All}
 use Rattle.std.proofs.lemmas.List.{append-nil, map-append}
@@ -8,7 +8,7 @@ use Rattle.std.specs.declared.alloc.Global.{Global}
 use Rattle.std.specs.declared.vec.Vec.{Vec}
 use Rattle.ep_ground.specs.Nodes.{GroundNode}
 use Rattle.ep_tree.specs.Solutions.{cell_count}
-use Rattle.ep_tree.specs.Values.{Index, ValueTree, ValueTrees, all_defined, any_index, as_parts, listed_values, matrix, no_values, read_value, single, value_and}
+use Rattle.ep_tree.specs.Values.{Index, ValueTree, all_defined, any_index, as_parts, listed_values, matrix, read_value, single}
 use Rattle.ep_unroll.proofs.PartSteps.{is_worth}
 use Rattle.ep_unroll.specs.Blocks.{IsWorth}
 use Rattle.ep_unroll.specs.Meanings.{AreTerms, RowHasTerms, row_worths, worth}

@@ -1,7 +1,6 @@
 -- Steps of unrolling: brackets, parts one after another, and the instances of a quantifier.
-use Rattle.std.proofs.Common.{◌≡◌, ℕ, ◌+◌, ◌<◌, ◌≤◌, Bool, true, false, ℤ, List, [], ◌∷◌, ◌++◌, length, drop, get_or, Some, None, refl, sym, ap, subst, ◌∙◌, arith}
+use Rattle.std.proofs.Common.{◌≡◌, ℕ, ◌+◌, ◌<◌, ◌≤◌, Bool, true, false, ℤ, List, [], ◌∷◌, ◌++◌, length, drop, get_or, Some, None, refl, sym, ap, ◌∙◌, arith}
 use Rattle.std.specs.Prelude.{Option, map, bytes_eq, if◌then◌else◌, ◌*ℤ◌, option_map, pos, negsuc, neg_ℤ}
-use Rattle.std.specs.List.{All}
 use Rattle.std.proofs.lemmas.Int.{ints}
 use Rattle.std.proofs.lemmas.List.{at_drop_all, at_drop_more}
 use Rattle.ep_base.specs.declared.names.Name.{Name}
@@ -9,15 +8,14 @@ use Rattle.ep_base.specs.declared.places.Place.{Place}
 use Rattle.ep_ground.specs.Nodes.{GroundNode}
 use Rattle.ep_ground.specs.Terms.{term_value}
 use Rattle.ep_tree.proofs.EvaluationEquations.{evaluate-group, evaluate-to_int}
-use Rattle.ep_tree.specs.Environments.{Bound, Env, has_cells, has_value, scalar_in, with_number}
+use Rattle.ep_tree.specs.Environments.{Env, has_value, scalar_in, with_number}
 use Rattle.ep_tree.specs.Evaluation.{evaluate, number_in, signed, term_values, values_of}
-use Rattle.ep_tree.specs.Trees.{DomainTree, ExprTree, ExprTrees, Terms, group, to_int}
+use Rattle.ep_tree.specs.Trees.{ExprTree, group, to_int}
 use Rattle.ep_tree.specs.TypedValues.{is_number_of}
 use Rattle.ep_tree.specs.Types.{of_scalar}
 use Rattle.ep_tree.specs.Values.{single}
 use Rattle.ep_tree.specs.Views.{domain_tree, expr_tree, expr_trees, terms_of}
 use Rattle.ep_tree.specs.declared.syntax.Expr.{Expr}
-use Rattle.ep_tree.specs.declared.values.Mode.{Mode}
 use Rattle.ep_tree.specs.declared.values.Scalar.{Scalar}
 use Rattle.ep_eval.proofs.Instances.{quantified_bare}
 use Rattle.ep_eval.specs.Instances.{instance_value, quantified_tree}
@@ -28,17 +26,17 @@ use Rattle.ep_unroll.proofs.MeaningSteps.{Listing, listing_begins, listing_ends,
 use Rattle.ep_unroll.proofs.TypedReadings.{number_typed}
 use Rattle.ep_unroll.specs.Growing.{Grows}
 use Rattle.ep_unroll.specs.Meanings.{AreInstancesOf, AreNumbersOf, IsNumberOf, Means}
-use Rattle.ep_unroll.specs.Readings.{Numbering, Reading, Reads, ReadsName}
+use Rattle.ep_unroll.specs.Readings.{Numbering, Reading, ReadsName}
 use Rattle.ep_unroll.specs.Signed.{AreSigned, sign_number}
 use Rattle.ep_unroll.specs.declared.unrolled.Unrolled.{Unrolled}
 
 -- brackets change nothing
 pub group_means : (n : Numbering) (cells : Env) (old new : List GroundNode) (p : Place) (e : ExprTree) (x : Unrolled) → Means n cells old new e x → Means n cells old new (group p e) x
-group_means n cells old new p e x h = record { grows = h.grows; known = h.known; value = λ r. h.value r ∙ sym (evaluate-group Mode.Relational r.values p e) }
+group_means n cells old new p e x h = record { grows = h.grows; known = h.known; value = λ r. h.value r ∙ sym (evaluate-group n.mode r.values p e) }
 
 -- nor does `toInt`
 pub to_int_means : (n : Numbering) (cells : Env) (old new : List GroundNode) (p : Place) (e : ExprTree) (x : Unrolled) → Means n cells old new e x → Means n cells old new (to_int p e) x
-to_int_means n cells old new p e x h = record { grows = h.grows; known = h.known; value = λ r. h.value r ∙ sym (evaluate-to_int Mode.Relational r.values p e) }
+to_int_means n cells old new p e x h = record { grows = h.grows; known = h.known; value = λ r. h.value r ∙ sym (evaluate-to_int n.mode r.values p e) }
 
 -- a quantifier without names is its body
 pub bare_means : (n : Numbering) (cells : Env) (old new : List GroundNode) (p : Place) (q : Quantifier) (x : Unrolled)
@@ -46,7 +44,7 @@ pub bare_means : (n : Numbering) (cells : Env) (old new : List GroundNode) (p : 
 bare_means n cells old new p q x h = record {
   grows = h.grows;
   known = h.known;
-  value = λ r. h.value r ∙ sym (quantified_bare Mode.Relational r.values p q.op (domain_tree q.domain.now) (expr_tree q.body.now));
+  value = λ r. h.value r ∙ sym (quantified_bare n.mode r.values p q.op (domain_tree q.domain.now) (expr_tree q.body.now));
 }
 
 -- the same term behind fewer nodes
@@ -55,14 +53,11 @@ number_from n cells nodes old new e t g h = record { grows = grows_on nodes old 
 
 -- ---- expressions one after another
 
-abbrev numbers_in : Env → List Expr → List (Option ℤ)
-numbers_in values xs = map number_in (values_of Mode.Relational values (expr_trees xs))
-
 -- terms so far, of some expressions of which those behind a place are left
 abbrev pub TermsSoFar : Numbering → Env → List GroundNode → List GroundNode → List Expr → ℕ → List ℕ → Type 0
 TermsSoFar n env old new xs k ts =
     Listing {R = Reading n env} {X = ℕ} (λ r. r.numbers) (λ t. t) (λ t o. o) old new
-    (λ r. map number_in (values_of Mode.Relational r.values (expr_trees xs))) (λ r. map number_in (values_of Mode.Relational r.values (expr_trees (drop k xs)))) ts
+    (λ r. map number_in (values_of n.mode r.values (expr_trees xs))) (λ r. map number_in (values_of n.mode r.values (expr_trees (drop k xs)))) ts
 
 pub terms_begin : (n : Numbering) (env : Env) (old : List GroundNode) (xs : List Expr) (ts : List ℕ) → ts ≡ [] → TermsSoFar n env old old xs 0 ts
 terms_begin n env old xs ts none = listing_begins {R = Reading n env} {X = ℕ} (λ r. r.numbers) (λ t. t) (λ t o. o) old old _ _ ts refl none (λ r. refl)
@@ -71,10 +66,10 @@ pub terms_more : (n : Numbering) (env : Env) (old mid new : List GroundNode) (xs
     → TermsSoFar n env old mid xs k ts → IsNumberOf n env mid new (expr_tree x) t → us ≡ ts ++ t ∷ [] → TermsSoFar n env old new xs (k + 1) us
 unfolding expr_trees values_of
 terms_more n env old mid new xs k x d t ts us h same so one pushed =
-    listing_more {R = Reading n env} {X = ℕ} (λ r. r.numbers) (λ t. t) (λ t o. o) old mid new _ _ (λ r. map number_in (values_of Mode.Relational r.values (expr_trees (drop (k + 1) xs))))
-    (λ r. number_in (evaluate Mode.Relational r.values (expr_tree x))) ts us t so
-    (λ r. at_drop_more (λ ys. map number_in (values_of Mode.Relational r.values (expr_trees ys))) xs k d h
-    ∙ ap (λ y. number_in (evaluate Mode.Relational r.values (expr_tree y)) ∷ map number_in (values_of Mode.Relational r.values (expr_trees (drop (k + 1) xs)))) (sym same))
+    listing_more {R = Reading n env} {X = ℕ} (λ r. r.numbers) (λ t. t) (λ t o. o) old mid new _ _ (λ r. map number_in (values_of n.mode r.values (expr_trees (drop (k + 1) xs))))
+    (λ r. number_in (evaluate n.mode r.values (expr_tree x))) ts us t so
+    (λ r. at_drop_more (λ ys. map number_in (values_of n.mode r.values (expr_trees ys))) xs k d h
+    ∙ ap (λ y. number_in (evaluate n.mode r.values (expr_tree y)) ∷ map number_in (values_of n.mode r.values (expr_trees (drop (k + 1) xs)))) (sym same))
     one.grows one.known one.number pushed
 
 pub terms_all : (n : Numbering) (env : Env) (old new : List GroundNode) (xs : List Expr) (k : ℕ) (ts : List ℕ) → length xs ≤ k → TermsSoFar n env old new xs k ts
@@ -84,7 +79,7 @@ terms_all n env old new xs k ts h so = record {
   grows = so.grows;
   known = so.known;
   numbers = listing_ends {R = Reading n env} {X = ℕ} (λ r. r.numbers) (λ t. t) (λ t o. o) old new _ _ ts so
-      (λ r. at_drop_all (λ ys. map number_in (values_of Mode.Relational r.values (expr_trees ys))) xs k h);
+      (λ r. at_drop_all (λ ys. map number_in (values_of n.mode r.values (expr_trees ys))) xs k h);
 }
 
 -- ---- the terms of a chain one after another
@@ -92,7 +87,7 @@ terms_all n env old new xs k ts h so = record {
 abbrev pub SignedSoFar : Numbering → Env → List GroundNode → List GroundNode → List (Bool × Expr) → ℕ → List (ℤ × ℕ) → Type 0
 SignedSoFar n env old new xs k ps =
     Listing {R = Reading n env} {X = ℤ × ℕ} (λ r. r.numbers) (λ part. part.1) (λ part o. option_map (λ x. part.0 *ℤ x) o) old new
-    (λ r. term_values Mode.Relational r.values (terms_of xs)) (λ r. term_values Mode.Relational r.values (terms_of (drop k xs))) ps
+    (λ r. term_values n.mode r.values (terms_of xs)) (λ r. term_values n.mode r.values (terms_of (drop k xs))) ps
 
 pub signed_begin : (n : Numbering) (env : Env) (old : List GroundNode) (xs : List (Bool × Expr)) (ps : List (ℤ × ℕ)) → ps ≡ [] → SignedSoFar n env old old xs 0 ps
 signed_begin n env old xs ps none =
@@ -114,10 +109,10 @@ pub signed_more : (n : Numbering) (env : Env) (old mid new : List GroundNode) (x
     → SignedSoFar n env old mid xs k ps → IsNumberOf n env mid new (expr_tree x.1) t → s ≡ sign_number x.0 → qs ≡ ps ++ (s, t) ∷ [] → SignedSoFar n env old new xs (k + 1) qs
 unfolding terms_of term_values
 signed_more n env old mid new xs k x d s t ps qs h same so one sign pushed =
-    listing_more {R = Reading n env} {X = ℤ × ℕ} (λ r. r.numbers) (λ part. part.1) (λ part o. option_map (λ y. part.0 *ℤ y) o) old mid new _ _ (λ r. term_values Mode.Relational r.values (terms_of (drop (k + 1) xs)))
-    (λ r. option_map (signed x.0) (number_in (evaluate Mode.Relational r.values (expr_tree x.1)))) ps qs (s, t) so
-    (λ r. at_drop_more (λ ys. term_values Mode.Relational r.values (terms_of ys)) xs k d h
-    ∙ ap (λ y. option_map (signed y.0) (number_in (evaluate Mode.Relational r.values (expr_tree y.1))) ∷ term_values Mode.Relational r.values (terms_of (drop (k + 1) xs))) (sym same))
+    listing_more {R = Reading n env} {X = ℤ × ℕ} (λ r. r.numbers) (λ part. part.1) (λ part o. option_map (λ y. part.0 *ℤ y) o) old mid new _ _ (λ r. term_values n.mode r.values (terms_of (drop (k + 1) xs)))
+    (λ r. option_map (signed x.0) (number_in (evaluate n.mode r.values (expr_tree x.1)))) ps qs (s, t) so
+    (λ r. at_drop_more (λ ys. term_values n.mode r.values (terms_of ys)) xs k d h
+    ∙ ap (λ y. option_map (signed y.0) (number_in (evaluate n.mode r.values (expr_tree y.1))) ∷ term_values n.mode r.values (terms_of (drop (k + 1) xs))) (sym same))
     one.grows one.known
     (λ r. ap (λ c. option_map (λ y. c *ℤ y) (term_value new r.numbers t)) sign ∙ sign_times x.0 (term_value new r.numbers t) ∙ ap (option_map (signed x.0)) (one.number r)) pushed
 
@@ -128,7 +123,7 @@ signed_all n env old new xs k ps h so = record {
   grows = so.grows;
   known = so.known;
   numbers = listing_ends {R = Reading n env} {X = ℤ × ℕ} (λ r. r.numbers) (λ part. part.1) (λ part o. option_map (λ x. part.0 *ℤ x) o) old new _ _ ps so
-      (λ r. at_drop_all (λ ys. term_values Mode.Relational r.values (terms_of ys)) xs k h);
+      (λ r. at_drop_all (λ ys. term_values n.mode r.values (terms_of ys)) xs k h);
 }
 
 -- ---- the instances of a quantifier one after another
@@ -158,14 +153,14 @@ within n cells name s k is r = record {
 abbrev pub InstancesSoFar : Numbering → Env → List GroundNode → List GroundNode → Place → Quantifier → Name → List Name → List ℤ → List ℤ → List ℕ → Type 0
 InstancesSoFar n env old new p q name rest ns left ts =
     Listing {R = Reading n env} {X = ℕ} (λ r. r.numbers) (λ t. t) (λ t o. o) old new
-    (λ r. map (λ k. number_in (instance_value Mode.Relational r.values p q name rest k)) ns)
-    (λ r. map (λ k. number_in (instance_value Mode.Relational r.values p q name rest k)) left) ts
+    (λ r. map (λ k. number_in (instance_value n.mode r.values p q name rest k)) ns)
+    (λ r. map (λ k. number_in (instance_value n.mode r.values p q name rest k)) left) ts
 
 pub instances_begin : (n : Numbering) (env : Env) (old : List GroundNode) (p : Place) (q : Quantifier) (name : Name) (rest : List Name) (ns left : List ℤ) (ts : List ℕ) → left ≡ ns → ts ≡ []
     → InstancesSoFar n env old old p q name rest ns left ts
 instances_begin n env old p q name rest ns left ts same none =
     listing_begins {R = Reading n env} {X = ℕ} (λ r. r.numbers) (λ t. t) (λ t o. o) old old _ _ ts refl none
-    (λ r. ap (map (λ k. number_in (instance_value Mode.Relational r.values p q name rest k))) same)
+    (λ r. ap (map (λ k. number_in (instance_value n.mode r.values p q name rest k))) same)
 
 pub instances_more : (n : Numbering) (env : Env) (old mid new : List GroundNode) (p : Place) (q : Quantifier) (name : Name) (rest : List Name) (ns left behind : List ℤ) (s : Scalar) (k : ℤ) (t : ℕ) (ts us : List ℕ)
     → InstancesSoFar n env old mid p q name rest ns left ts → left ≡ k ∷ behind → s ≡ scalar_in env (domain_tree q.domain.now)
@@ -173,11 +168,11 @@ pub instances_more : (n : Numbering) (env : Env) (old mid new : List GroundNode)
     → InstancesSoFar n env old new p q name rest ns behind us
 unfolding within with_number
 instances_more n env old mid new p q name rest ns left behind s k t ts us so cut scalar is one pushed =
-    listing_more {R = Reading n env} {X = ℕ} (λ r. r.numbers) (λ t. t) (λ t o. o) old mid new _ _ (λ r. map (λ j. number_in (instance_value Mode.Relational r.values p q name rest j)) behind)
-    (λ r. number_in (instance_value Mode.Relational r.values p q name rest k)) ts us t so
-    (λ r. ap (map (λ j. number_in (instance_value Mode.Relational r.values p q name rest j))) cut) one.grows one.known
+    listing_more {R = Reading n env} {X = ℕ} (λ r. r.numbers) (λ t. t) (λ t o. o) old mid new _ _ (λ r. map (λ j. number_in (instance_value n.mode r.values p q name rest j)) behind)
+    (λ r. number_in (instance_value n.mode r.values p q name rest k)) ts us t so
+    (λ r. ap (map (λ j. number_in (instance_value n.mode r.values p q name rest j))) cut) one.grows one.known
     (λ r. one.number (within n env name s k (is r) r)
-    ∙ ap (λ x. number_in (evaluate Mode.Relational (with_number name x k r.values) (quantified_tree p q rest)))
+    ∙ ap (λ x. number_in (evaluate n.mode (with_number name x k r.values) (quantified_tree p q rest)))
     (scalar ∙ scalar_kept env r.values (domain_tree q.domain.now) r.reads.agree))
     pushed
 
@@ -187,5 +182,5 @@ instances_all n env old new p q name rest ns left ts none so = record {
   grows = so.grows;
   known = so.known;
   numbers = listing_ends {R = Reading n env} {X = ℕ} (λ r. r.numbers) (λ t. t) (λ t o. o) old new _ _ ts so
-      (λ r. ap (map (λ k. number_in (instance_value Mode.Relational r.values p q name rest k))) none);
+      (λ r. ap (map (λ k. number_in (instance_value n.mode r.values p q name rest k))) none);
 }

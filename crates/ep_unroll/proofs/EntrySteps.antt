@@ -1,5 +1,5 @@
 -- The scalars among which a read of what was unrolled chooses, one part after another.
-use Rattle.std.proofs.Common.{◌≡◌, ℕ, ◌+◌, ℤ, Bool, true, false, List, [], ◌∷◌, ◌++◌, length, Some, None, refl, sym, ap, subst, ◌∙◌}
+use Rattle.std.proofs.Common.{◌≡◌, ℕ, ℤ, Bool, true, false, List, [], ◌∷◌, ◌++◌, length, Some, None, refl, sym, ap, subst, ◌∙◌}
 use Rattle.std.specs.Prelude.{Option, map, option_and_then, option_map, if◌then◌else◌}
 use Rattle.std.specs.Ordering.{int_eq}
 use Rattle.ep_base.specs.Runs.{IsAscending}

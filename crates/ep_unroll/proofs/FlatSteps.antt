@@ -1,5 +1,5 @@
 -- Scalars, each unrolled by itself, put behind others one after another.
-use Rattle.std.proofs.Common.{◌≡◌, ℕ, suc, ◌+◌, ◌-◌, ◌<◌, ◌≤◌, ℤ, pos, List, [], ◌∷◌, ◌++◌, length, drop, Some, None, refl, sym, ap, subst, ◌∙◌, arith, slice_get, append_assoc}
+use Rattle.std.proofs.Common.{◌≡◌, ℕ, ◌+◌, ℤ, pos, List, [], ◌∷◌, ◌++◌, length, Some, None, refl, sym, ap, subst, ◌∙◌, slice_get, append_assoc}
 use Rattle.std.specs.Prelude.{Option, map, option_map}
 use Rattle.std.specs.declared.alloc.Global.{Global}
 use Rattle.std.specs.declared.vec.Vec.{Vec}
@@ -7,7 +7,7 @@ use Rattle.std.proofs.lemmas.List.{append-nil, length-map, map-append}
 use Rattle.ep_base.specs.Reads.{all_there}
 use Rattle.ep_base.specs.Runs.{counting}
 use Rattle.ep_base.specs.declared.places.Place.{Place}
-use Rattle.ep_eval.specs.Helds.{held_value, seen_held}
+use Rattle.ep_eval.specs.Helds.{held_value}
 use Rattle.ep_eval.specs.declared.held.Held.TheVariants as held
 use Rattle.ep_ground.specs.Nodes.{GroundNode}
 use Rattle.ep_ground.specs.Terms.{term_value}
@@ -15,10 +15,9 @@ use Rattle.ep_tree.proofs.EvaluationEquations.{evaluate-flatten}
 use Rattle.ep_tree.specs.Environments.{Env}
 use Rattle.ep_tree.specs.Evaluation.{number_in, scalars_in}
 use Rattle.ep_tree.specs.Trees.{ExprTree, flatten}
-use Rattle.ep_tree.specs.Values.{ValueTree, all_defined, as_parts, list_value, matrix, scalars_of, scalars_of_all, single}
-use Rattle.ep_tree.specs.declared.values.Mode.{Mode}
+use Rattle.ep_tree.specs.Values.{all_defined, as_parts, list_value, matrix, scalars_of, scalars_of_all, single}
 use Rattle.ep_unroll.proofs.FormValues.{there_defined}
-use Rattle.ep_unroll.proofs.GrownParts.{have_both, have_one, matrix_terms, matrix_worth, terms_matrix}
+use Rattle.ep_unroll.proofs.GrownParts.{have_both, have_one, matrix_terms, matrix_worth}
 use Rattle.ep_unroll.proofs.MatrixSteps.{each_cut, joined, scalars_each, there_cut, whole_scalars}
 use Rattle.ep_unroll.proofs.PartListSteps.{defined_long}
 use Rattle.ep_unroll.proofs.ScalarSteps.{joined_all, joined_none, joined_regrouped}
@@ -26,7 +25,7 @@ use Rattle.ep_unroll.specs.Flats.{AddsParts}
 use Rattle.ep_unroll.specs.Meanings.{AreTerms, Means, worth}
 use Rattle.ep_unroll.specs.PartLists.{HaveTerms, worths}
 use Rattle.ep_unroll.specs.Readings.{Numbering, cells_value}
-use Rattle.ep_unroll.specs.declared.unrolled.Unrolled.{Unrolled, Cells, Fixed, Matrix, Number}
+use Rattle.ep_unroll.specs.declared.unrolled.Unrolled.{Unrolled, Fixed, Matrix, Number}
 
 -- scalars by nodes and by the numbers of the cells
 abbrev pub Scalars : Type 0
@@ -249,5 +248,5 @@ flatten_is n cells nodes new p e x y xs h flat is known = record {
       is r.numbers ∙ ap (λ vs. option_map (λ ws. matrix (counting (pos 1) (length xs)) (as_parts ws)) (all_defined vs)) same
       ∙ listed os (length xs) long
       ∙ ap (option_map list_value) (flat.values new r.numbers ∙ ap scalars_in (h.value r))
-      ∙ sym (evaluate-flatten Mode.Relational r.values p e);
+      ∙ sym (evaluate-flatten n.mode r.values p e);
 }

@@ -1,14 +1,12 @@
 -- Forms finished by a node that is taken in.
-use Rattle.std.proofs.Common.{◌≡◌, ℕ, zero, suc, ◌+◌, ◌<◌, List, [], ◌∷◌, length, Some, None, refl, sym, ap, subst, ◌∙◌, arith}
-use Rattle.std.specs.Prelude.{Option, Result, IfOk, unwrap_or}
+use Rattle.std.proofs.Common.{◌≡◌, ℕ, zero, suc, ◌<◌, List, [], ◌∷◌, Some, sym, ap, subst, ◌∙◌, arith}
+use Rattle.std.specs.Prelude.{Result, IfOk, unwrap_or}
 use Rattle.std.specs.List.{All}
-use Rattle.ep_base.specs.declared.places.Place.{Place}
 use Rattle.ep_ground.specs.Nodes.{GroundNode}
 use Rattle.ep_size.specs.Parts.{part_of, two_parts}
 use Rattle.ep_tree.specs.Environments.{Env}
 use Rattle.ep_tree.specs.Trees.{ExprTree, ExprTrees}
 use Rattle.ep_unroll.proofs.FormValues.{if_ok}
-use Rattle.ep_unroll.specs.Growing.{Puts}
 use Rattle.ep_unroll.specs.Lists.{all_parts}
 use Rattle.ep_unroll.specs.Meanings.{AreNumbersOf, IsNumberOf, IsTermOf}
 use Rattle.ep_unroll.specs.Readings.{Numbering}
@@ -38,12 +36,12 @@ some_is : {A : Type 0} (x y : A) → Some x ≡ Some y → x ≡ y
 some_is x y h = ap (λ o. unwrap_or o x) h
 
 -- a node of one part
-pub one_given : {E : Type 0} (n : Numbering) (cells : Env) (nodes mid new : List GroundNode) (tree e e' : ExprTree) (make : ExprTree → ExprTree) (a : ℕ) (put : GroundNode) (r : Result ℕ E)
+pub one_given : {E : Type 0} (n : Numbering) (cells : Env) (nodes mid new : List GroundNode) (tree e e' : ExprTree) (make : ExprTree → ExprTree) (a : ℕ) (P : ℕ → Type 0) (r : Result ℕ E)
     → tree ≡ make e' → part_of (make e') ≡ Some e' → part_of tree ≡ Some e
-    → ((f : ExprTree) (t : ℕ) → IsNumberOf n cells nodes mid f a → Puts mid new put t → IsTermOf n cells nodes new (make f) t)
-    → IsNumberOf n cells nodes mid e a → IfOk r (Puts mid new put) → IfOk r (IsTermOf n cells nodes new tree)
-one_given n cells nodes mid new tree e e' make a put r is part part' term h =
-    if_ok r (Puts mid new put) (IsTermOf n cells nodes new tree)
+    → ((f : ExprTree) (t : ℕ) → IsNumberOf n cells nodes mid f a → P t → IsTermOf n cells nodes new (make f) t)
+    → IsNumberOf n cells nodes mid e a → IfOk r P → IfOk r (IsTermOf n cells nodes new tree)
+one_given n cells nodes mid new tree e e' make a P r is part part' term h =
+    if_ok r P (IsTermOf n cells nodes new tree)
     (λ t done. subst (λ x. IsTermOf n cells nodes new x t) (ap make (some_is e e' (sym part' ∙ ap part_of is ∙ part)) ∙ sym is) (term e t h done))
 
 -- a node of two parts
@@ -56,10 +54,10 @@ two_given n cells nodes mid new tree e f e' f' make r is parts parts' =
     (λ t. subst (λ x. IsTermOf n cells nodes new x t) (ap (λ (x : ExprTree × ExprTree). make x.0 x.1) same ∙ sym is))
 
 -- a connective
-pub all_given : {E : Type 0} (n : Numbering) (cells : Env) (nodes mid new : List GroundNode) (tree : ExprTree) (es es' : ExprTrees) (make : ExprTrees → ExprTree) (ts : List ℕ) (put : GroundNode) (r : Result ℕ E)
+pub all_given : {E : Type 0} (n : Numbering) (cells : Env) (nodes mid new : List GroundNode) (tree : ExprTree) (es es' : ExprTrees) (make : ExprTrees → ExprTree) (ts : List ℕ) (P : ℕ → Type 0) (r : Result ℕ E)
     → tree ≡ make es' → all_parts (make es') ≡ Some es' → all_parts tree ≡ Some es
-    → ((fs : ExprTrees) (t : ℕ) → AreNumbersOf n cells nodes mid fs ts → Puts mid new put t → IsTermOf n cells nodes new (make fs) t)
-    → AreNumbersOf n cells nodes mid es ts → IfOk r (Puts mid new put) → IfOk r (IsTermOf n cells nodes new tree)
-all_given n cells nodes mid new tree es es' make ts put r is part part' term h =
-    if_ok r (Puts mid new put) (IsTermOf n cells nodes new tree)
+    → ((fs : ExprTrees) (t : ℕ) → AreNumbersOf n cells nodes mid fs ts → P t → IsTermOf n cells nodes new (make fs) t)
+    → AreNumbersOf n cells nodes mid es ts → IfOk r P → IfOk r (IsTermOf n cells nodes new tree)
+all_given n cells nodes mid new tree es es' make ts P r is part part' term h =
+    if_ok r P (IsTermOf n cells nodes new tree)
     (λ t done. subst (λ x. IsTermOf n cells nodes new x t) (ap make (some_is es es' (sym part' ∙ ap all_parts is ∙ part)) ∙ sym is) (term es t h done))

@@ -1,27 +1,28 @@
 -- Values that fit make a reading of the cells.
-use Rattle.std.proofs.Common.{◌≡◌, ℕ, zero, suc, ◌+◌, ◌*◌, ◌<◌, ◌≤◌, Bool, true, false, ℤ, List, [], ◌∷◌, ◌++◌, length, Some, None, refl, sym, ap, subst, ◌∙◌, arith, slice_get, append_assoc}
-use Rattle.std.specs.Prelude.{IsTrue, Option, bytes_eq, flat_map, if◌then◌else◌, ◌&&◌, ◌==◌, map, option_and_then, option_map, sum_by}
+use Rattle.std.proofs.Common.{◌≡◌, ℕ, suc, ◌+◌, ◌*◌, Bool, true, false, ℤ, List, [], ◌∷◌, ◌++◌, length, Some, None, refl, sym, ap, subst, ◌∙◌, arith, slice_get, append_assoc}
+use Rattle.std.specs.Prelude.{IsTrue, Option, bytes_eq, if◌then◌else◌, ◌&&◌, ◌==◌, option_and_then, option_map, sum_by}
 use Rattle.std.specs.List.{All, list_all}
 use Rattle.std.proofs.lemmas.List.{append-nil, length-append}
 use Rattle.std.proofs.lemmas.List.Sums.{sum_by-cons}
 use Rattle.ep_base.specs.Numbers.{has_number}
 use Rattle.ep_base.specs.declared.names.Name.{Name}
-use Rattle.ep_tree.specs.Agreement.{Agree, AgreeOn}
+use Rattle.ep_tree.specs.Agreement.{AgreeOn}
 use Rattle.ep_tree.specs.Binding.{Find, Instance}
 use Rattle.ep_tree.specs.Closed.{IsClosed, clause_env}
 use Rattle.ep_tree.specs.Environments.{Bound, Env, has_cells, has_domain, has_value, shape_type}
 use Rattle.ep_tree.specs.Evaluation.{on_both}
-use Rattle.ep_tree.specs.Names.{put, put_all}
+use Rattle.ep_tree.specs.Names.{put_all}
 use Rattle.ep_tree.specs.Reach.{decisions_in, is_decision}
 use Rattle.ep_tree.specs.Solutions.{Assigned, Fits, Found, cell_count, cells_bound, find_type, fitted_find, found_values, named_in, under}
 use Rattle.ep_tree.specs.TypedValues.{IsTypedBound, IsTypedEnv, is_number_of}
 use Rattle.ep_tree.specs.Types.{scalar_of}
 use Rattle.ep_tree.specs.Values.{ValueTree, ValueTrees, all_defined, all_fitted, as_parts, fitted, matrix, no_values, scalar_fits, scalars_of, scalars_of_all, single, value_and, with_indices}
 use Rattle.ep_tree.specs.declared.values.Scalar.{Scalar}
+use Rattle.ep_tree.specs.declared.values.Mode.{Mode}
 use Rattle.ep_unroll.proofs.TypedReadings.{fit_bound, one_typed}
 use Rattle.ep_unroll.specs.Cells.{bound_numbers, found_numbers}
 use Rattle.ep_unroll.specs.Firsts.{first_of, numbering}
-use Rattle.ep_unroll.specs.Readings.{Reading, Reads, ReadsName, cells_value, each_from}
+use Rattle.ep_unroll.specs.Readings.{Reading, ReadsName, cells_value, each_from}
 
 -- ---- what is there
 
@@ -286,8 +287,8 @@ many_numbers (f ∷ fs) a found e =
     ∙ ap (λ fd. length (found_numbers fd)) t.whole
 
 -- Values of the decision variables that fit are a reading of the cells.
-unfoldable pub found_reading : (i : Instance) (a : Assigned) (found : Found) → IsClosed i → Fits i a found → Reading (numbering i.finds) (clause_env i)
-found_reading i a found closed fits = record {
+unfoldable pub found_reading : (mode : Mode) (i : Instance) (a : Assigned) (found : Found) → IsClosed i → Fits i a found → Reading (numbering mode i.finds) (clause_env i)
+found_reading mode i a found closed fits = record {
   numbers = found_numbers found;
   values = under i found;
   reads = record {

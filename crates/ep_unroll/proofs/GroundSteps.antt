@@ -1,9 +1,8 @@
 -- A ground made of its clauses and its objective, and what it says of an instance.
-use Rattle.std.proofs.Common.{◌≡◌, ℕ, ◌<◌, ℤ, List, [], ◌∷◌, length, Some, None, refl, sym, ap, subst, ◌∙◌}
-use Rattle.std.specs.Prelude.{Option, option_and_then, option_map, false}
+use Rattle.std.proofs.Common.{◌≡◌, ℕ, List, Some, None, refl, ap, subst, ◌∙◌}
+use Rattle.std.specs.Prelude.{Option, option_and_then, option_map}
 use Rattle.std.specs.List.{AllZip}
 use Rattle.ep_base.specs.Numbers.{of_bool}
-use Rattle.ep_base.specs.declared.names.Name.{Name}
 use Rattle.ep_base.specs.declared.operators.Sense.{Sense}
 use Rattle.ep_ground.specs.Grounds.{GroundState, ground_objective}
 use Rattle.ep_ground.specs.Nodes.{GroundNode}
@@ -13,17 +12,15 @@ use Rattle.ep_tree.specs.Binding.{Instance}
 use Rattle.ep_tree.specs.Closed.{IsClosed, clause_env}
 use Rattle.ep_tree.specs.Environments.{Env}
 use Rattle.ep_tree.specs.Evaluation.{evaluate, is_true_in, number_in}
-use Rattle.ep_tree.specs.Solutions.{Assigned, Fits, Found, goal_value, under}
+use Rattle.ep_tree.specs.Solutions.{goal_value}
 use Rattle.ep_tree.specs.Trees.{ExprTree}
 use Rattle.ep_tree.specs.declared.values.Mode.{Mode}
 use Rattle.ep_unroll.proofs.ClauseSteps.{zip_kept}
 use Rattle.ep_unroll.proofs.FoundReadings.{found_reading}
-use Rattle.ep_unroll.specs.Cells.{found_numbers}
 use Rattle.ep_unroll.specs.Clauses.{AreClauses, IsGoal}
 use Rattle.ep_unroll.specs.Firsts.{numbering}
 use Rattle.ep_unroll.specs.Grounds.{IsGroundOf}
 use Rattle.ep_unroll.specs.Growing.{Grows}
-use Rattle.ep_unroll.specs.Meanings.{IsNumberOf}
 use Rattle.ep_unroll.specs.Readings.{Numbering, Reading}
 use Rattle.ep_unroll.specs.Unrolling.{SaysClauses, SaysObjective}
 
@@ -43,7 +40,7 @@ goal_senses n env old new (Some goal) None h = absurd h
 goal_senses n env old new (Some goal) (Some t) h = ap Some h.0
 
 goal_numbers : (n : Numbering) (env : Env) (old new : List GroundNode) (goal : Option (Sense × ExprTree)) (t : Option (Sense × ℕ)) → IsGoal n env old new goal t
-    → (r : Reading n env) → option_and_then (λ x. term_value new r.numbers x.1) t ≡ option_and_then (λ x. number_in (evaluate Mode.Relational r.values x.1)) goal
+    → (r : Reading n env) → option_and_then (λ x. term_value new r.numbers x.1) t ≡ option_and_then (λ x. number_in (evaluate n.mode r.values x.1)) goal
 unfolding IsGoal
 goal_numbers n env old new None None h r = refl
 goal_numbers n env old new None (Some t) h r = absurd h
@@ -52,39 +49,32 @@ goal_numbers n env old new (Some goal) (Some t) h r = h.1.number r
 
 abbrev GroundOver : Numbering → Env → List ExprTree → Option (Sense × ExprTree) → GroundState → Type 0
 GroundOver n env es goal g =
-    ((r : Reading n env) → AllZip (λ t e. term_value g.nodes r.numbers t ≡ Some (of_bool (is_true_in Mode.Relational r.values e))) g.clauses es)
-    × ((r : Reading n env) → ground_objective g r.numbers ≡ option_and_then (λ x. number_in (evaluate Mode.Relational r.values x.1)) goal)
+    ((r : Reading n env) → AllZip (λ t e. term_value g.nodes r.numbers t ≡ Some (of_bool (is_true_in n.mode r.values e))) g.clauses es)
+    × ((r : Reading n env) → ground_objective g r.numbers ≡ option_and_then (λ x. number_in (evaluate n.mode r.values x.1)) goal)
 
-pub ground_is : (i : Instance) (n : Numbering) (env : Env) (old mid new : List GroundNode) (es : List ExprTree) (goal : Option (Sense × ExprTree)) (cells : List Cell) (ts : List ℕ) (t : Option (Sense × ℕ))
-    → n ≡ numbering i.finds → env ≡ clause_env i → es ≡ i.clauses → goal ≡ i.goal
+pub ground_is : (mode : Mode) (i : Instance) (n : Numbering) (env : Env) (old mid new : List GroundNode) (es : List ExprTree) (goal : Option (Sense × ExprTree)) (cells : List Cell) (ts : List ℕ) (t : Option (Sense × ℕ))
+    → n ≡ numbering mode i.finds → env ≡ clause_env i → es ≡ i.clauses → goal ≡ i.goal
     → AreClauses n env old mid es ts → IsGoal n env mid new goal t
-    → IsGroundOf i (record { nodes = new; cells = cells; clauses = ts; objective = t })
+    → IsGroundOf mode i (record { nodes = new; cells = cells; clauses = ts; objective = t })
 unfolding ground_objective
-ground_is i n env old mid new es goal cells ts t same_n same_env same_es same_goal clauses one =
+ground_is mode i n env old mid new es goal cells ts t same_n same_env same_es same_goal clauses one =
     let g : GroundState = record { nodes = new; cells = cells; clauses = ts; objective = t } in
     let own : GroundOver n env es goal g = (
-      λ r. zip_kept mid new r.numbers (λ e. Some (of_bool (is_true_in Mode.Relational r.values e))) ts es (goal_grows n env mid new goal t one) clauses.known (clauses.values r),
+      λ r. zip_kept mid new r.numbers (λ e. Some (of_bool (is_true_in n.mode r.values e))) ts es (goal_grows n env mid new goal t one) clauses.known (clauses.values r),
       goal_numbers n env mid new goal t one,
     ) in
-    let there : GroundOver (numbering i.finds) (clause_env i) i.clauses i.goal g =
-    subst (λ x. GroundOver (numbering i.finds) (clause_env i) i.clauses x g) same_goal
-    (subst (λ x. GroundOver (numbering i.finds) (clause_env i) x goal g) same_es
-    (subst (λ x. GroundOver (numbering i.finds) x es goal g) same_env
+    let there : GroundOver (numbering mode i.finds) (clause_env i) i.clauses i.goal g =
+    subst (λ x. GroundOver (numbering mode i.finds) (clause_env i) i.clauses x g) same_goal
+    (subst (λ x. GroundOver (numbering mode i.finds) (clause_env i) x goal g) same_es
+    (subst (λ x. GroundOver (numbering mode i.finds) x es goal g) same_env
     (subst (λ x. GroundOver x env es goal g) same_n own))) in
     record { clauses = there.0; senses = goal_senses n env mid new goal t one ∙ ap (option_map (λ x. x.0)) same_goal; objective = there.1 }
 
 -- what a ground says of all values that fit
-pub says_clauses : (mode : Mode) (i : Instance) (g : GroundState) → mode ≡ Mode.Relational → IsClosed i → IsGroundOf i g → SaysClauses mode i g
+pub says_clauses : (mode : Mode) (i : Instance) (g : GroundState) → IsClosed i → IsGroundOf mode i g → SaysClauses mode i g
 unfolding found_reading
-says_clauses mode i g is closed h a found fits =
-    subst (λ m. AllZip (λ t e. term_value g.nodes (found_numbers found) t ≡ Some (of_bool (is_true_in m (under i found) e))) g.clauses i.clauses) (sym is)
-    (h.clauses (found_reading i a found closed fits))
+says_clauses mode i g closed h a found fits = h.clauses (found_reading mode i a found closed fits)
 
-pub says_objective : (mode : Mode) (i : Instance) (g : GroundState) → mode ≡ Mode.Relational → IsClosed i → IsGroundOf i g → SaysObjective mode i g
+pub says_objective : (mode : Mode) (i : Instance) (g : GroundState) → IsClosed i → IsGroundOf mode i g → SaysObjective mode i g
 unfolding goal_value found_reading
-says_objective mode i g is closed h = record {
-  senses = h.senses;
-  numbers = λ a found fits.
-      h.objective (found_reading i a found closed fits)
-      ∙ ap (λ m. option_and_then (λ goal. number_in (evaluate m (under i found) goal.1)) i.goal) (sym is);
-}
+says_objective mode i g closed h = record { senses = h.senses; numbers = λ a found fits. h.objective (found_reading mode i a found closed fits) }

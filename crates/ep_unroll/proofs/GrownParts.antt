@@ -1,11 +1,10 @@
 -- Parts that were unrolled keep their values while nodes are added.
 use Rattle.std.proofs.Common.{◌≡◌, ℕ, zero, suc, ◌<◌, ℤ, List, [], ◌∷◌, ◌++◌, length, get_or, Some, None, refl, sym, ap, subst, ◌∙◌, arith}
-use Rattle.std.specs.Prelude.{Option, map, option_map}
+use Rattle.std.specs.Prelude.{Option, option_map}
 use Rattle.std.specs.declared.alloc.Global.{Global}
 use Rattle.std.specs.declared.vec.Vec.{Vec}
-use Rattle.std.proofs.lemmas.List.{length-append}
 use Rattle.ep_ground.specs.Nodes.{GroundNode}
-use Rattle.ep_tree.specs.Values.{ValueTree, all_defined, as_parts, matrix, single}
+use Rattle.ep_tree.specs.Values.{all_defined, as_parts, matrix, single}
 use Rattle.ep_unroll.proofs.FormValues.{grown_value, grows_long}
 use Rattle.ep_unroll.specs.Growing.{Grows}
 use Rattle.ep_unroll.specs.Meanings.{AreTerms, RowHasTerms, row_worths, worth}

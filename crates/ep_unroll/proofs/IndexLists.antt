@@ -1,7 +1,7 @@
 -- Lists of indices, and the cells of decision variables, one after another.
-use Rattle.std.proofs.Common.{◌≡◌, ℕ, ◌+◌, ◌<◌, ◌≤◌, ℤ, pos, List, [], ◌∷◌, ◌++◌, length, drop, get_or, take, refl, sym, ap, ◌∙◌, append_assoc}
+use Rattle.std.proofs.Common.{◌≡◌, ℕ, ◌+◌, ◌<◌, ◌≤◌, ℤ, List, [], ◌∷◌, ◌++◌, length, drop, get_or, take, refl, sym, ap, ◌∙◌, append_assoc}
 use Rattle.std.specs.Prelude.{flat_map, map}
-use Rattle.std.proofs.lemmas.List.{append-nil, at_drop_all, at_drop_more, drop_all, map_more, take_all, take_more}
+use Rattle.std.proofs.lemmas.List.{append-nil, at_drop_more, map_more, take_all, take_more}
 use Rattle.std.proofs.lemmas.List.Concat.{flat_map-append}
 use Rattle.ep_unroll.specs.Cells.{index_lists}
 

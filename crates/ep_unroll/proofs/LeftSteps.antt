@@ -9,7 +9,6 @@ use Rattle.ep_ground.specs.Nodes.{GroundNode}
 use Rattle.ep_tree.specs.Values.{Index, ValueTree, all_defined, any_index, as_parts, at_index, matrix, read_value}
 use Rattle.ep_tree.specs.Views.{value_tree, values_from}
 use Rattle.ep_tree.specs.declared.values.Value.{Value}
-use Rattle.ep_unroll.proofs.ColumnSteps as column
 use Rattle.ep_unroll.proofs.ColumnSteps.{listed_parts}
 use Rattle.ep_unroll.proofs.EntrySteps.{defined_first, opened_parts, part_leads, part_misses}
 use Rattle.ep_unroll.proofs.GrownParts.{have_both, have_one, matrix_worth, terms_matrix}

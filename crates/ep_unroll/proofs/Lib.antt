@@ -36,6 +36,7 @@ pub mod SumValues
 pub mod SummingSteps
 pub mod TableSteps
 pub mod TotalSteps
+pub mod TruthSteps
 pub mod TypedReadings
 pub mod ValueSteps
 pub mod Vectors

@@ -1,6 +1,6 @@
 -- The scalars of matrices as terms.
-use Rattle.std.proofs.Common.{◌≡◌, ℕ, zero, suc, ◌+◌, ◌-◌, ◌*◌, ◌<◌, ◌≤◌, ℤ, pos, List, [], ◌∷◌, ◌++◌, length, Some, None, refl, sym, ap, ◌∙◌, arith, slice_get}
-use Rattle.std.specs.Prelude.{Bool, Option, map, option_and_then, option_map}
+use Rattle.std.proofs.Common.{◌≡◌, ℕ, zero, suc, ◌+◌, ◌*◌, ◌<◌, ℤ, List, [], ◌∷◌, ◌++◌, length, Some, None, refl, sym, ap, ◌∙◌, arith, slice_get}
+use Rattle.std.specs.Prelude.{Bool, Option, is_some, map, option_and_then, option_map}
 use Rattle.std.specs.List.{All}
 use Rattle.ep_base.specs.Numbers.{all_one, any_one, are_different, greatest_of, least_of}
 use Rattle.ep_base.specs.Reads.{all_there}
@@ -11,18 +11,20 @@ use Rattle.ep_ground.specs.Terms as ground
 use Rattle.ep_ground.specs.Terms.{node_value, term_value, truth}
 use Rattle.ep_tree.proofs.EvaluationEquations.{evaluate-all_different, evaluate-folded}
 use Rattle.ep_tree.specs.Environments.{Env}
-use Rattle.ep_tree.specs.Evaluation.{evaluate, folded_value, number_value, scalars_in, truth_in, undefined_truth}
+use Rattle.ep_tree.specs.Evaluation.{evaluate, folded_value, number_value, scalars_in, truth_in}
 use Rattle.ep_tree.specs.Solutions.{cell_count}
 use Rattle.ep_tree.specs.Trees.{ExprTree, all_different, folded}
 use Rattle.ep_tree.specs.Values.{ValueTree, all_defined, as_parts, matrix, scalars_of, scalars_of_all, single}
 use Rattle.ep_tree.specs.declared.syntax.FoldOp.{FoldOp}
-use Rattle.ep_tree.specs.declared.values.Mode.{Mode}
-use Rattle.ep_unroll.proofs.FormValues.{grown_value, grows_on}
+use Rattle.ep_unroll.proofs.FormValues.{grown_value, grows_on, truth_told}
+use Rattle.ep_unroll.proofs.TruthSteps.{length_mapped, list_there, there_length, told_both}
 use Rattle.ep_unroll.specs.Growing.{Grows, Puts}
 use Rattle.ep_unroll.specs.Meanings.{IsTermOf}
+use Rattle.ep_unroll.specs.Needs.{ArePartial}
 use Rattle.ep_unroll.specs.Numbers.{HasNumber}
-use Rattle.ep_unroll.specs.Readings.{Numbering, cells_value, each_from}
+use Rattle.ep_unroll.specs.Readings.{Numbering, Reading, cells_value, each_from}
 use Rattle.ep_unroll.specs.Scalars.{AreScalarsOf, cells_from}
+use Rattle.ep_unroll.specs.Truths.{IsJudged, needed_in}
 
 pub some_same : {A : Type 0} {x y : A} → Some x ≡ Some y → x ≡ y
 some_same e = cc
@@ -129,45 +131,37 @@ values_kept mid new numbers (t ∷ ts) g known =
     ap (λ x. x ∷ map (term_value new numbers) ts) (grown_value mid new numbers t g (known 0 t (omega arith)))
     ∙ ap (λ xs. term_value mid numbers t ∷ xs) (values_kept mid new numbers ts g (λ k d less. known (suc k) d (omega (arith, less))))
 
-list_form : (n : Numbering) (cells : Env) (nodes mid new : List GroundNode) (e tree : ExprTree) (ts : List ℕ) (t : ℕ) (own : GroundNode) (f : Option (List ℤ) → Option ValueTree) (g : Option (List ℤ) → Option ℤ)
-    → ((values : Env) → evaluate Mode.Relational values tree ≡ f (scalars_in (evaluate Mode.Relational values e)))
-    → ((numbers : List ℤ) (value : ℕ → Option ℤ) → node_value numbers value own ≡ g (all_there (map value ts)))
-    → ((o : Option (List ℤ)) → f o ≡ option_map single (g o))
-    → AreScalarsOf n cells nodes mid e ts → Puts mid new own t → IsTermOf n cells nodes new tree t
-list_form n cells nodes mid new e tree ts t own f g one other same h put = record {
-  grows = grows_on nodes mid new h.grows put.grows;
-  known = put.known;
-  value = λ r.
-      one r.values ∙ same (scalars_in (evaluate Mode.Relational r.values e))
-      ∙ ap (λ o. option_map single (g o)) (sym (ap all_there (values_kept mid new r.numbers ts put.grows h.known) ∙ h.scalars r))
-      ∙ ap (option_map single) (sym (put.value r.numbers ∙ other r.numbers (term_value new r.numbers)));
-}
+-- a truth value by the scalars of one list
+pub one_list : (n : Numbering) (cells : Env) (nodes mid new : List GroundNode) (e tree : ExprTree) (ts us : List ℕ) (t : ℕ) (own : GroundNode) (f : Option (List ℤ) → Option Bool)
+    → ((r : Reading n cells) → evaluate n.mode r.values tree ≡ truth_in n.mode (f (scalars_in (evaluate n.mode r.values e))))
+    → ((numbers : List ℤ) (value : ℕ → Option ℤ) → node_value numbers value own ≡ truth (f (all_there (map value ts))))
+    → ((o : Option (List ℤ)) → ((xs : List ℤ) → o ≡ Some xs → length xs ≡ length ts) → is_some o ≡ is_some (f o))
+    → AreScalarsOf n cells nodes mid e ts → ArePartial mid n.count (needed_in n.mode ts) us → IsJudged mid new own us t → IsTermOf n cells nodes new tree t
+one_list n cells nodes mid new e tree ts us t own f one other there h needed j =
+    truth_told n cells nodes mid new tree ts us t own (λ r. f (scalars_in (evaluate n.mode r.values e))) h.grows needed j one
+    (λ r. told_both n.mode (f (scalars_in (evaluate n.mode r.values e))) (term_value j.between r.numbers j.own)
+    (j.puts.value r.numbers ∙ other r.numbers (term_value j.between r.numbers)
+    ∙ ap (λ o. truth (f o)) (ap all_there (values_kept mid j.between r.numbers ts j.puts.grows h.known) ∙ h.scalars r)))
+    (λ r. there (all_there (map (term_value mid r.numbers) ts)) (λ xs is. there_length (map (term_value mid r.numbers) ts) xs is ∙ length_mapped (term_value mid r.numbers) ts)
+    ∙ ap (λ o. is_some (f o)) (h.scalars r))
 
-same_truths : {A : Type 0} (k : A → Bool) (o : Option A) → truth_in Mode.Relational (option_map k o) ≡ option_map single (truth (option_map k o))
-unfolding undefined_truth truth_in truth
-same_truths k None = refl
-same_truths k (Some x) = refl
-
-pub different_term : (n : Numbering) (cells : Env) (nodes mid new : List GroundNode) (p : Place) (e : ExprTree) (ts : List ℕ) (t : ℕ)
-    → AreScalarsOf n cells nodes mid e ts → Puts mid new (node.all_different ts) t → IsTermOf n cells nodes new (all_different p e) t
+pub different_term : (n : Numbering) (cells : Env) (nodes mid new : List GroundNode) (p : Place) (e : ExprTree) (ts us : List ℕ) (t : ℕ)
+    → AreScalarsOf n cells nodes mid e ts → ArePartial mid n.count (needed_in n.mode ts) us → IsJudged mid new (node.all_different ts) us t → IsTermOf n cells nodes new (all_different p e) t
 unfolding node_value ground.values_of
-different_term n cells nodes mid new p e ts t =
-    list_form n cells nodes mid new e (all_different p e) ts t (node.all_different ts) (λ o. truth_in Mode.Relational (option_map are_different o)) (λ o. truth (option_map are_different o))
-    (λ values. evaluate-all_different Mode.Relational values p e) (λ numbers value. refl) (same_truths are_different)
+different_term n cells nodes mid new p e ts us t =
+    one_list n cells nodes mid new e (all_different p e) ts us t (node.all_different ts) (option_map are_different) (λ r. evaluate-all_different n.mode r.values p e) (λ numbers value. refl) (λ o long. list_there are_different o)
 
-pub every_term : (n : Numbering) (cells : Env) (nodes mid new : List GroundNode) (p : Place) (e : ExprTree) (ts : List ℕ) (t : ℕ)
-    → AreScalarsOf n cells nodes mid e ts → Puts mid new (node.all_of ts) t → IsTermOf n cells nodes new (folded p FoldOp.And e) t
+pub every_term : (n : Numbering) (cells : Env) (nodes mid new : List GroundNode) (p : Place) (e : ExprTree) (ts us : List ℕ) (t : ℕ)
+    → AreScalarsOf n cells nodes mid e ts → ArePartial mid n.count (needed_in n.mode ts) us → IsJudged mid new (node.all_of ts) us t → IsTermOf n cells nodes new (folded p FoldOp.And e) t
 unfolding node_value ground.values_of folded_value
-every_term n cells nodes mid new p e ts t =
-    list_form n cells nodes mid new e (folded p FoldOp.And e) ts t (node.all_of ts) (λ o. truth_in Mode.Relational (option_map all_one o)) (λ o. truth (option_map all_one o))
-    (λ values. evaluate-folded Mode.Relational values p FoldOp.And e) (λ numbers value. refl) (same_truths all_one)
+every_term n cells nodes mid new p e ts us t =
+    one_list n cells nodes mid new e (folded p FoldOp.And e) ts us t (node.all_of ts) (option_map all_one) (λ r. evaluate-folded n.mode r.values p FoldOp.And e) (λ numbers value. refl) (λ o long. list_there all_one o)
 
-pub some_term : (n : Numbering) (cells : Env) (nodes mid new : List GroundNode) (p : Place) (e : ExprTree) (ts : List ℕ) (t : ℕ)
-    → AreScalarsOf n cells nodes mid e ts → Puts mid new (node.any_of ts) t → IsTermOf n cells nodes new (folded p FoldOp.Or e) t
+pub some_term : (n : Numbering) (cells : Env) (nodes mid new : List GroundNode) (p : Place) (e : ExprTree) (ts us : List ℕ) (t : ℕ)
+    → AreScalarsOf n cells nodes mid e ts → ArePartial mid n.count (needed_in n.mode ts) us → IsJudged mid new (node.any_of ts) us t → IsTermOf n cells nodes new (folded p FoldOp.Or e) t
 unfolding node_value ground.values_of folded_value
-some_term n cells nodes mid new p e ts t =
-    list_form n cells nodes mid new e (folded p FoldOp.Or e) ts t (node.any_of ts) (λ o. truth_in Mode.Relational (option_map any_one o)) (λ o. truth (option_map any_one o))
-    (λ values. evaluate-folded Mode.Relational values p FoldOp.Or e) (λ numbers value. refl) (same_truths any_one)
+some_term n cells nodes mid new p e ts us t =
+    one_list n cells nodes mid new e (folded p FoldOp.Or e) ts us t (node.any_of ts) (option_map any_one) (λ r. evaluate-folded n.mode r.values p FoldOp.Or e) (λ numbers value. refl) (λ o long. list_there any_one o)
 
 -- ---- numbers of a list of scalars
 
@@ -176,7 +170,7 @@ abbrev pub folded_of : (List ℤ → Option ℤ) → List GroundNode → List �
 folded_of f nodes ts numbers = option_and_then f (all_there (map (term_value nodes numbers) ts))
 
 extreme_is : (n : Numbering) (cells : Env) (nodes mid new : List GroundNode) (p : Place) (op : FoldOp) (e : ExprTree) (ts : List ℕ) (t : ℕ) (f : List ℤ → Option ℤ)
-    → ((values : Env) → evaluate Mode.Relational values (folded p op e) ≡ number_value (option_and_then f (scalars_in (evaluate Mode.Relational values e))))
+    → ((values : Env) → evaluate n.mode values (folded p op e) ≡ number_value (option_and_then f (scalars_in (evaluate n.mode values e))))
     → AreScalarsOf n cells nodes mid e ts → HasNumber mid new (folded_of f mid ts) t → IsTermOf n cells nodes new (folded p op e) t
 extreme_is n cells nodes mid new p op e ts t f is h own = record {
   grows = grows_on nodes mid new h.grows own.grows;
@@ -188,13 +182,13 @@ pub least_is : (n : Numbering) (cells : Env) (nodes mid new : List GroundNode) (
     → HasNumber mid new (folded_of least_of mid ts) t → IsTermOf n cells nodes new (folded p FoldOp.Min e) t
 unfolding folded_value
 least_is n cells nodes mid new p e ts t =
-    extreme_is n cells nodes mid new p FoldOp.Min e ts t least_of (λ values. evaluate-folded Mode.Relational values p FoldOp.Min e)
+    extreme_is n cells nodes mid new p FoldOp.Min e ts t least_of (λ values. evaluate-folded n.mode values p FoldOp.Min e)
 
 pub greatest_is : (n : Numbering) (cells : Env) (nodes mid new : List GroundNode) (p : Place) (e : ExprTree) (ts : List ℕ) (t : ℕ) → AreScalarsOf n cells nodes mid e ts
     → HasNumber mid new (folded_of greatest_of mid ts) t → IsTermOf n cells nodes new (folded p FoldOp.Max e) t
 unfolding folded_value
 greatest_is n cells nodes mid new p e ts t =
-    extreme_is n cells nodes mid new p FoldOp.Max e ts t greatest_of (λ values. evaluate-folded Mode.Relational values p FoldOp.Max e)
+    extreme_is n cells nodes mid new p FoldOp.Max e ts t greatest_of (λ values. evaluate-folded n.mode values p FoldOp.Max e)
 
 pub least_put : (old new : List GroundNode) (ts : List ℕ) (t : ℕ) → All (λ u. u < length old) ts → Puts old new (node.least ts) t → HasNumber old new (folded_of least_of old ts) t
 unfolding node_value ground.values_of

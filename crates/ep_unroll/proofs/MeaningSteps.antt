@@ -1,5 +1,5 @@
 -- Terms and what they mean, one step after another.
-use Rattle.std.proofs.Common.{◌≡◌, ℕ, suc, ◌+◌, ◌<◌, true, ℤ, List, [], ◌∷◌, ◌++◌, length, Some, None, refl, sym, ap, subst, ◌∙◌, arith, append_assoc}
+use Rattle.std.proofs.Common.{◌≡◌, ℕ, suc, ◌<◌, true, ℤ, List, [], ◌∷◌, ◌++◌, length, Some, None, refl, sym, ap, subst, ◌∙◌, arith, append_assoc}
 use Rattle.std.specs.Prelude.{Option, map, option_map}
 use Rattle.std.specs.List.{All}
 use Rattle.std.proofs.lemmas.List.{append-nil, map-append}
@@ -10,7 +10,7 @@ use Rattle.ep_tree.specs.Environments.{Env}
 use Rattle.ep_tree.specs.Evaluation.{domain_values, evaluate, number_in}
 use Rattle.ep_tree.specs.Reach.{decisions_in}
 use Rattle.ep_tree.specs.Trees.{DomainTree, ExprTree}
-use Rattle.ep_tree.specs.Values.{ValueTree, matrix, single}
+use Rattle.ep_tree.specs.Values.{ValueTree, single}
 use Rattle.ep_tree.specs.declared.values.Mode.{Mode}
 use Rattle.ep_size.specs.Free.{is_free, is_free_domain}
 use Rattle.ep_unroll.proofs.FormValues.{grows_long, grows_on, grown_value}
@@ -18,24 +18,20 @@ use Rattle.ep_unroll.proofs.FreeValues.{agreed_like, free_numbers, free_value}
 use Rattle.ep_unroll.specs.Growing.{Grows}
 use Rattle.ep_unroll.specs.Meanings.{AreTerms, IsNumberOf, IsTermOf, Means, worth}
 use Rattle.ep_unroll.specs.Readings.{Numbering, Reading}
-use Rattle.ep_unroll.specs.declared.unrolled.Unrolled.{Unrolled, Number}
+use Rattle.ep_unroll.specs.declared.unrolled.Unrolled.{Number}
 
 pub grows_none : (a b : List GroundNode) → b ≡ a → Grows a b
 grows_none a b same = record { more = []; whole = same ∙ sym (append-nil a) }
 
 -- ---- parts without decision variables
 
-pub fixed_is : (n : Numbering) (env : Env) (r : Reading n env) (mode : Mode) (e : ExprTree) (v : Option ValueTree) → mode ≡ Mode.Relational
-    → is_free (decisions_in env) e ≡ true → evaluate mode env e ≡ v → evaluate Mode.Relational r.values e ≡ v
-fixed_is n env r mode e v is free given =
-    sym (free_value Mode.Relational (decisions_in env) env r.values (agreed_like env r.values r.reads.agree) e free)
-    ∙ ap (λ m. evaluate m env e) (sym is) ∙ given
+pub fixed_is : (n : Numbering) (env : Env) (r : Reading n env) (mode : Mode) (e : ExprTree) (v : Option ValueTree)
+    → is_free (decisions_in env) e ≡ true → evaluate mode env e ≡ v → evaluate mode r.values e ≡ v
+fixed_is n env r mode e v free given = sym (free_value mode (decisions_in env) env r.values (agreed_like env r.values r.reads.agree) e free) ∙ given
 
-pub numbers_are : (n : Numbering) (env : Env) (r : Reading n env) (mode : Mode) (d : DomainTree) (ns : Option (List ℤ)) → mode ≡ Mode.Relational
-    → is_free_domain (decisions_in env) d ≡ true → domain_values mode env d ≡ ns → domain_values Mode.Relational r.values d ≡ ns
-numbers_are n env r mode d ns is free given =
-    sym (free_numbers Mode.Relational (decisions_in env) env r.values (agreed_like env r.values r.reads.agree) d free)
-    ∙ ap (λ m. domain_values m env d) (sym is) ∙ given
+pub numbers_are : (n : Numbering) (env : Env) (r : Reading n env) (mode : Mode) (d : DomainTree) (ns : Option (List ℤ))
+    → is_free_domain (decisions_in env) d ≡ true → domain_values mode env d ≡ ns → domain_values mode r.values d ≡ ns
+numbers_are n env r mode d ns free given = sym (free_numbers mode (decisions_in env) env r.values (agreed_like env r.values r.reads.agree) d free) ∙ given
 
 -- ---- a term as what was unrolled
 

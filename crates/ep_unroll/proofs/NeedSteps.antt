@@ -1,5 +1,5 @@
 -- What has to have a value so that a matrix has one.
-use Rattle.std.proofs.Common.{◌≡◌, ℕ, zero, suc, ◌+◌, ◌<◌, ◌≤◌, ℤ, pos, true, List, [], ◌∷◌, ◌++◌, length, drop, get_or, Some, None, refl, sym, ap, subst, ◌∙◌, arith, rules, append_assoc, slice_get}
+use Rattle.std.proofs.Common.{◌≡◌, ℕ, zero, suc, ◌+◌, ◌<◌, ◌≤◌, ℤ, pos, true, List, [], ◌∷◌, ◌++◌, length, drop, get_or, Some, None, refl, sym, ap, subst, ◌∙◌, arith, rules, append_assoc}
 use Rattle.std.specs.Prelude.{IsSome, Option, is_some, map, option_and_then, option_map}
 use Rattle.std.specs.List.{All}
 use Rattle.std.proofs.lemmas.List.{append-nil, at_drop_all, at_drop_more, map-append}
@@ -13,7 +13,7 @@ use Rattle.ep_ground.specs.Nodes.{GroundNode}
 use Rattle.ep_ground.specs.Terms.{node_value, term_value}
 use Rattle.ep_tree.specs.Evaluation.{number_in, scalars_in}
 use Rattle.ep_tree.specs.Solutions.{cell_count}
-use Rattle.ep_tree.specs.Values.{ValueTree, scalars_of}
+use Rattle.ep_tree.specs.Values.{scalars_of}
 use Rattle.ep_unroll.proofs.FormSteps.{none_known}
 use Rattle.ep_unroll.proofs.FlatSteps.{flat_numbers, number_at}
 use Rattle.ep_unroll.proofs.FormValues.{grows_long, grows_on}

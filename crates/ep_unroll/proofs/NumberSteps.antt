@@ -1,6 +1,6 @@
 -- The terms of what was unrolled, as numbers.
-use Rattle.std.proofs.Common.{◌≡◌, ℕ, ◌<◌, ℤ, List, [], ◌∷◌, Some, None, refl, sym, ap, subst, ◌∙◌, slice_get}
-use Rattle.std.specs.Prelude.{Option, Result, IfOk, ◌++◌, length, option_map, unwrap_or}
+use Rattle.std.proofs.Common.{◌≡◌, ℕ, ℤ, List, [], ◌∷◌, Some, None, refl, sym, ap, subst, ◌∙◌, slice_get}
+use Rattle.std.specs.Prelude.{Option, length, option_map, unwrap_or}
 use Rattle.std.proofs.lemmas.List.{append-nil}
 use Rattle.ep_base.specs.declared.names.Name.{Name}
 use Rattle.ep_base.specs.declared.places.Place.{Place}
@@ -8,17 +8,16 @@ use Rattle.ep_ground.specs.Nodes.{GroundNode, cell, constant, undefined}
 use Rattle.ep_ground.specs.Terms.{node_value, term_value}
 use Rattle.ep_tree.proofs.EvaluationEquations.{evaluate-named}
 use Rattle.ep_tree.specs.Environments.{Bound, Env, has_cells, has_domain, has_value, value_bound}
-use Rattle.ep_tree.specs.Evaluation.{evaluate, number_in}
+use Rattle.ep_tree.specs.Evaluation.{number_in}
 use Rattle.ep_tree.specs.Trees.{ExprTree, named}
 use Rattle.ep_tree.specs.Values.{ValueTree, as_parts, matrix, single}
-use Rattle.ep_tree.specs.declared.values.Mode.{Mode}
 use Rattle.ep_tree.specs.declared.values.Scalar.{Scalar}
 use Rattle.ep_eval.specs.Bounds.{only_cells}
-use Rattle.ep_unroll.proofs.FormValues.{grows_on, if_ok}
+use Rattle.ep_unroll.proofs.FormValues.{grows_on}
 use Rattle.ep_unroll.specs.Growing.{Puts}
 use Rattle.ep_unroll.specs.Meanings.{AreTerms, IsNumberOf, Means, worth}
 use Rattle.ep_unroll.specs.Numbers.{HasNumber}
-use Rattle.ep_unroll.specs.Readings.{Numbering, Reading, ReadsName, cells_value}
+use Rattle.ep_unroll.specs.Readings.{Numbering, ReadsName, cells_value}
 use Rattle.ep_unroll.specs.declared.unrolled.Unrolled.{Unrolled, Number}
 
 pub constant_number : (old new : List GroundNode) (x : ℤ) (o : Option ℤ) (t : ℕ) → o ≡ Some x → Puts old new (constant x) t → HasNumber old new (λ numbers. o) t
@@ -99,7 +98,7 @@ cells_means n env nodes p name first s indices values x begins stands is known =
   value = λ r.
       is r.numbers
       ∙ cells_read (n.first name) r.numbers (env name) (r.values name) first s indices values begins stands (r.reads.names name)
-      ∙ sym (evaluate-named Mode.Relational r.values p name);
+      ∙ sym (evaluate-named n.mode r.values p name);
 }
 
 -- what has cells is what its cells say

@@ -1,6 +1,6 @@
 -- Lists of parts: those of a literal, and those of a comprehension, one after another.
-use Rattle.std.proofs.Common.{◌≡◌, ℕ, suc, ◌+◌, ◌<◌, ◌≤◌, Bool, true, false, ℤ, List, [], ◌∷◌, ◌++◌, length, drop, get_or, Some, None, Ok, Err, refl, sym, ap, subst, ◌∙◌, arith, rules, vec_len, append_assoc}
-use Rattle.std.specs.Prelude.{◌&&◌, ◌==◌, IfOk, Option, Result, if◌then◌else◌, map, option_and_then, option_map}
+use Rattle.std.proofs.Common.{◌≡◌, ℕ, suc, ◌+◌, ◌<◌, ◌≤◌, true, ℤ, List, [], ◌∷◌, ◌++◌, length, drop, get_or, Some, None, Ok, Err, refl, sym, ap, subst, ◌∙◌, rules, vec_len, append_assoc}
+use Rattle.std.specs.Prelude.{◌&&◌, ◌==◌, IfOk, Option, Result, if◌then◌else◌, map, option_map}
 use Rattle.std.specs.declared.alloc.Global.{Global}
 use Rattle.std.specs.declared.vec.Vec.{Vec}
 use Rattle.std.proofs.lemmas.List.{append-nil, at_drop_all, at_drop_more, length-map, map-append}
@@ -14,7 +14,7 @@ use Rattle.ep_ground.specs.Nodes.{GroundNode}
 use Rattle.ep_tree.proofs.EvaluationEquations.{evaluate-literal}
 use Rattle.ep_tree.specs.Environments.{Env, scalar_in, with_number}
 use Rattle.ep_tree.specs.Evaluation.{all_true, evaluate, index_values, map_both, matrix_value, number_in, on_both, truth_of, values_of}
-use Rattle.ep_tree.specs.Trees.{DomainTree, ExprTree, ExprTrees, Generators, IndexDomain, comprehension, generator_and, literal}
+use Rattle.ep_tree.specs.Trees.{DomainTree, ExprTree, ExprTrees, Generators, IndexDomain, comprehension, literal}
 use Rattle.ep_tree.specs.TypedValues.{is_number_of}
 use Rattle.ep_tree.specs.Values.{ValueTree, all_defined, as_parts, matrix, with_indices}
 use Rattle.ep_tree.specs.Views.{expr_tree, expr_trees}
@@ -24,7 +24,7 @@ use Rattle.ep_tree.specs.declared.values.Scalar.{Scalar}
 use Rattle.ep_unroll.proofs.CycleSteps.{within}
 use Rattle.ep_unroll.proofs.FormValues.{grows_on}
 use Rattle.ep_unroll.proofs.FreeValues.{scalar_kept}
-use Rattle.ep_unroll.proofs.GrownParts.{have_both, have_kept, have_one, listed_kept, may_kept, worths_kept}
+use Rattle.ep_unroll.proofs.GrownParts.{have_both, have_kept, have_one, worths_kept}
 use Rattle.ep_unroll.proofs.MeaningSteps.{grows_none}
 use Rattle.ep_unroll.specs.Growing.{Grows}
 use Rattle.ep_unroll.specs.Meanings.{AreTerms, Means, worth}
@@ -39,23 +39,23 @@ pub record KnownSoFar (n : Numbering) (cells : Env) (old mid : List GroundNode) 
   pub grows : Grows old mid
   pub known : HaveTerms (length mid) xs
   pub values : (r : Reading n cells)
-      → worths mid r.numbers xs ++ values_of Mode.Relational r.values (expr_trees (drop k all)) ≡ values_of Mode.Relational r.values (expr_trees all)
+      → worths mid r.numbers xs ++ values_of n.mode r.values (expr_trees (drop k all)) ≡ values_of n.mode r.values (expr_trees all)
 
 pub known_begin : (n : Numbering) (cells : Env) (old : List GroundNode) (all : List Expr) (xs : List Unrolled) → xs ≡ [] → KnownSoFar n cells old old all 0 xs
 unfolding HaveTerms
 known_begin n cells old all xs none = record {
   grows = grows_none old old refl;
   known = subst (HaveTerms (length old)) (sym none) tt;
-  values = λ r. ap (λ ys. worths old r.numbers ys ++ values_of Mode.Relational r.values (expr_trees all)) none;
+  values = λ r. ap (λ ys. worths old r.numbers ys ++ values_of n.mode r.values (expr_trees all)) none;
 }
 
-values_cut : (env : Env) (x : Expr) (rest : List Expr) → values_of Mode.Relational env (expr_trees (x ∷ rest)) ≡ evaluate Mode.Relational env (expr_tree x) ∷ values_of Mode.Relational env (expr_trees rest)
+values_cut : (mode : Mode) (env : Env) (x : Expr) (rest : List Expr) → values_of mode env (expr_trees (x ∷ rest)) ≡ evaluate mode env (expr_tree x) ∷ values_of mode env (expr_trees rest)
 unfolding values_of expr_trees
-values_cut env x rest = refl
+values_cut mode env x rest = refl
 
-values_end : (env : Env) → values_of Mode.Relational env (expr_trees []) ≡ []
+values_end : (mode : Mode) (env : Env) → values_of mode env (expr_trees []) ≡ []
 unfolding values_of expr_trees
-values_end env = refl
+values_end mode env = refl
 
 pub known_more : (n : Numbering) (cells : Env) (old mid new : List GroundNode) (all : List Expr) (k : ℕ) (x d : Expr) (own : Unrolled) (xs ys : List Unrolled) → k < length all → x ≡ get_or all k d
     → KnownSoFar n cells old mid all k xs → Means n cells mid new (expr_tree x) own → ys ≡ xs ++ own ∷ [] → KnownSoFar n cells old new all (k + 1) ys
@@ -63,13 +63,13 @@ known_more n cells old mid new all k x d own xs ys less same so one pushed = rec
   grows = grows_on old mid new so.grows one.grows;
   known = subst (HaveTerms (length new)) (sym pushed) (have_both (length new) xs (own ∷ []) (have_kept mid new xs one.grows so.known) (have_one (length new) own one.known));
   values = λ r.
-      let rest : List (Option ValueTree) = values_of Mode.Relational r.values (expr_trees (drop (k + 1) all)) in
+      let rest : List (Option ValueTree) = values_of n.mode r.values (expr_trees (drop (k + 1) all)) in
       let before : List (Option ValueTree) = worths mid r.numbers xs in
       ap (λ zs. worths new r.numbers zs ++ rest) pushed
       ∙ ap (λ zs. zs ++ rest) (map-append (worth new r.numbers) xs (own ∷ []) ∙ ap (λ zs. zs ++ worth new r.numbers own ∷ []) (worths_kept mid new r.numbers xs one.grows so.known))
       ∙ append_assoc before (worth new r.numbers own ∷ []) rest
-      ∙ ap (λ v. before ++ v ∷ rest) (one.value r ∙ ap (λ y. evaluate Mode.Relational r.values (expr_tree y)) same)
-      ∙ ap (λ zs. before ++ zs) (sym (at_drop_more (λ zs. values_of Mode.Relational r.values (expr_trees zs)) all k d less ∙ values_cut r.values (get_or all k d) (drop (k + 1) all)))
+      ∙ ap (λ v. before ++ v ∷ rest) (one.value r ∙ ap (λ y. evaluate n.mode r.values (expr_tree y)) same)
+      ∙ ap (λ zs. before ++ zs) (sym (at_drop_more (λ zs. values_of n.mode r.values (expr_trees zs)) all k d less ∙ values_cut n.mode r.values (get_or all k d) (drop (k + 1) all)))
       ∙ so.values r;
 }
 
@@ -80,7 +80,7 @@ known_all n cells old mid all k xs less so = record {
   known = so.known;
   values = λ r.
       sym (append-nil (worths mid r.numbers xs))
-      ∙ ap (λ zs. worths mid r.numbers xs ++ zs) (sym (at_drop_all (λ zs. values_of Mode.Relational r.values (expr_trees zs)) all k less ∙ values_end r.values))
+      ∙ ap (λ zs. worths mid r.numbers xs ++ zs) (sym (at_drop_all (λ zs. values_of n.mode r.values (expr_trees zs)) all k less ∙ values_end n.mode r.values))
       ∙ so.values r;
 }
 
@@ -138,7 +138,7 @@ parts_counted v = search rules
 -- a list of expressions
 pub literal_means : (n : Numbering) (env : Env) (old new : List GroundNode) (p : Place) (es : ExprTrees) (d : IndexDomain) (xs : List Unrolled) (x : Unrolled)
     → ArePartsOf n env old new es xs
-    → ((r : Reading n env) → worth new r.numbers x ≡ on_both (index_values Mode.Relational r.values d (length xs)) (all_defined (worths new r.numbers xs)) with_indices)
+    → ((r : Reading n env) → worth new r.numbers x ≡ on_both (index_values n.mode r.values d (length xs)) (all_defined (worths new r.numbers xs)) with_indices)
     → AreTerms (length new) x → Means n env old new (literal p es d) x
 unfolding matrix_value
 literal_means n env old new p es d xs x h is known = record {
@@ -146,9 +146,9 @@ literal_means n env old new p es d xs x h is known = record {
   known = known;
   value = λ r.
       is r
-      ∙ ap (λ k. on_both (index_values Mode.Relational r.values d k) (all_defined (worths new r.numbers xs)) with_indices) (sym (length-map xs (worth new r.numbers)))
-      ∙ ap (λ vs. on_both (index_values Mode.Relational r.values d (length vs)) (all_defined vs) with_indices) (h.values r)
-      ∙ sym (evaluate-literal Mode.Relational r.values p es d);
+      ∙ ap (λ k. on_both (index_values n.mode r.values d k) (all_defined (worths new r.numbers xs)) with_indices) (sym (length-map xs (worth new r.numbers)))
+      ∙ ap (λ vs. on_both (index_values n.mode r.values d (length vs)) (all_defined vs) with_indices) (h.values r)
+      ∙ sym (evaluate-literal n.mode r.values p es d);
 }
 
 -- ---- the parts of a comprehension
@@ -198,7 +198,7 @@ defined_cut (Some w ∷ vs) v = ap (option_map (λ ys. w ∷ ys)) (defined_cut v
 -- one part more
 pub lists_one : (n : Numbering) (cells : Env) (old new : List GroundNode) (before after : Option (List Unrolled)) (e : ExprTree) (x : Unrolled) (values : Env → Option (List ValueTree))
     → Means n cells old new e x → after ≡ option_map (λ all. all ++ x ∷ []) before
-    → ((r : Reading n cells) → values r.values ≡ option_map (λ v. v ∷ []) (evaluate Mode.Relational r.values e)) → Lists n cells old new before after values
+    → ((r : Reading n cells) → values r.values ≡ option_map (λ v. v ∷ []) (evaluate n.mode r.values e)) → Lists n cells old new before after values
 unfolding MayHaveTerms listed_worths map_both
 lists_one n cells old new before after e x values h pushed own = record {
   grows = h.grows;
@@ -211,7 +211,7 @@ lists_one n cells old new before after e x values h pushed own = record {
     more (Some xs) known = have_both (length new) xs (x ∷ []) (have_kept old new xs h.grows known) (have_one (length new) x h.known)
 
     whole : (r : Reading n cells) (o : Option (List Unrolled)) → MayHaveTerms (length old) o
-        → listed_worths new r.numbers (option_map (λ all. all ++ x ∷ []) o) ≡ map_both ◌++◌ (listed_worths old r.numbers o) (option_map (λ v. v ∷ []) (evaluate Mode.Relational r.values e))
+        → listed_worths new r.numbers (option_map (λ all. all ++ x ∷ []) o) ≡ map_both ◌++◌ (listed_worths old r.numbers o) (option_map (λ v. v ∷ []) (evaluate n.mode r.values e))
     whole r None known = refl
     whole r (Some xs) known =
         ap all_defined (map-append (worth new r.numbers) xs (x ∷ []) ∙ ap (λ vs. vs ++ worth new r.numbers x ∷ []) (worths_kept old new r.numbers xs h.grows known))
@@ -221,10 +221,10 @@ lists_one n cells old new before after e x values h pushed own = record {
 -- the part where conditions hold
 pub lists_where : (n : Numbering) (cells : Env) (old new : List GroundNode) (before after : Option (List Unrolled)) (e : ExprTree) (conditions : ExprTrees) (x : Unrolled)
     → Means n cells old new e x → after ≡ option_map (λ all. all ++ x ∷ []) before
-    → ((r : Reading n cells) → all_true (values_of Mode.Relational r.values conditions) ≡ Some true) → Lists n cells old new before after (part_value Mode.Relational e conditions)
+    → ((r : Reading n cells) → all_true (values_of n.mode r.values conditions) ≡ Some true) → Lists n cells old new before after (part_value n.mode e conditions)
 unfolding part_value part_where
 lists_where n cells old new before after e conditions x h pushed hold =
-    lists_one n cells old new before after e x (part_value Mode.Relational e conditions) h pushed (λ r. ap (λ o. part_where o (evaluate Mode.Relational r.values e)) (hold r))
+    lists_one n cells old new before after e x (part_value n.mode e conditions) h pushed (λ r. ap (λ o. part_where o (evaluate n.mode r.values e)) (hold r))
 
 -- ---- one number after another
 
@@ -297,8 +297,8 @@ counted_values mode env p e gens conditions d vs count many told = by (all_defin
         ∙ sym (comprehension_is mode env p e gens conditions d (index_values mode env d count) (Some ws) count (sym is ∙ told) (many ∙ sym (defined_long vs ws is)) refl)
 
 pub comprehension_some : (n : Numbering) (env : Env) (old new : List GroundNode) (p : Place) (e : ExprTree) (gens : Generators) (conditions : ExprTrees) (d : IndexDomain) (after : Option (List Unrolled)) (xs : List Unrolled) (x : Unrolled)
-    → Lists n env old new (Some []) after (λ values. listed_values Mode.Relational e conditions gens values) → after ≡ Some xs
-    → ((r : Reading n env) → worth new r.numbers x ≡ on_both (index_values Mode.Relational r.values d (length xs)) (all_defined (worths new r.numbers xs)) with_indices)
+    → Lists n env old new (Some []) after (λ values. listed_values n.mode e conditions gens values) → after ≡ Some xs
+    → ((r : Reading n env) → worth new r.numbers x ≡ on_both (index_values n.mode r.values d (length xs)) (all_defined (worths new r.numbers xs)) with_indices)
     → (HaveTerms (length new) xs → AreTerms (length new) x) → Means n env old new (comprehension p e gens conditions d) x
 unfolding MayHaveTerms HaveTerms listed_worths
 comprehension_some n env old new p e gens conditions d after xs x h some is terms = record {
@@ -306,21 +306,21 @@ comprehension_some n env old new p e gens conditions d after xs x h some is term
   known = terms (subst (MayHaveTerms (length new)) some (h.known tt));
   value = λ r.
       is r
-      ∙ counted_values Mode.Relational r.values p e gens conditions d (worths new r.numbers xs) (length xs) (sym (length-map xs (worth new r.numbers)))
-      (ap (listed_worths new r.numbers) (sym some) ∙ listed_is n env old new after (λ values. listed_values Mode.Relational e conditions gens values) h r);
+      ∙ counted_values n.mode r.values p e gens conditions d (worths new r.numbers xs) (length xs) (sym (length-map xs (worth new r.numbers)))
+      (ap (listed_worths new r.numbers) (sym some) ∙ listed_is n env old new after (λ values. listed_values n.mode e conditions gens values) h r);
 }
 
 pub comprehension_none : (n : Numbering) (env : Env) (old new : List GroundNode) (p : Place) (e : ExprTree) (gens : Generators) (conditions : ExprTrees) (d : IndexDomain) (after : Option (List Unrolled)) (x : Unrolled)
-    → Lists n env old new (Some []) after (λ values. listed_values Mode.Relational e conditions gens values) → after ≡ None
+    → Lists n env old new (Some []) after (λ values. listed_values n.mode e conditions gens values) → after ≡ None
     → ((numbers : List ℤ) → worth new numbers x ≡ None) → AreTerms (length new) x → Means n env old new (comprehension p e gens conditions d) x
 unfolding how_many listed_worths
 comprehension_none n env old new p e gens conditions d after x h none is known = record {
   grows = h.grows;
   known = known;
   value = λ r.
-      is r.numbers ∙ sym (no_list (index_values Mode.Relational r.values d 0) with_indices)
-      ∙ sym (comprehension_is Mode.Relational r.values p e gens conditions d (index_values Mode.Relational r.values d 0) None 0
-      (ap (listed_worths new r.numbers) (sym none) ∙ listed_is n env old new after (λ values. listed_values Mode.Relational e conditions gens values) h r) refl refl);
+      is r.numbers ∙ sym (no_list (index_values n.mode r.values d 0) with_indices)
+      ∙ sym (comprehension_is n.mode r.values p e gens conditions d (index_values n.mode r.values d 0) None 0
+      (ap (listed_worths new r.numbers) (sym none) ∙ listed_is n env old new after (λ values. listed_values n.mode e conditions gens values) h r) refl refl);
 }
 
 -- ---- conditions
@@ -335,13 +335,13 @@ truth_cut (Some x) os = by (all_defined os)
     by (Some xs) = refl
 
 -- whether a condition and others are all true
-pub truths_cut : (env : Env) (all : List Expr) (x : Expr) (rest : List Expr) → all ≡ x ∷ rest
-    → all_true (values_of Mode.Relational env (expr_trees all)) ≡ map_both ◌&&◌ (truth_of (evaluate Mode.Relational env (expr_tree x))) (all_true (values_of Mode.Relational env (expr_trees rest)))
+pub truths_cut : (mode : Mode) (env : Env) (all : List Expr) (x : Expr) (rest : List Expr) → all ≡ x ∷ rest
+    → all_true (values_of mode env (expr_trees all)) ≡ map_both ◌&&◌ (truth_of (evaluate mode env (expr_tree x))) (all_true (values_of mode env (expr_trees rest)))
 unfolding all_true
-truths_cut env all x rest cut =
-    ap (λ xs. all_true (values_of Mode.Relational env (expr_trees xs))) cut ∙ ap all_true (values_cut env x rest)
-    ∙ truth_cut (number_in (evaluate Mode.Relational env (expr_tree x))) (map number_in (values_of Mode.Relational env (expr_trees rest)))
+truths_cut mode env all x rest cut =
+    ap (λ xs. all_true (values_of mode env (expr_trees xs))) cut ∙ ap all_true (values_cut mode env x rest)
+    ∙ truth_cut (number_in (evaluate mode env (expr_tree x))) (map number_in (values_of mode env (expr_trees rest)))
 
-pub no_truths : (env : Env) (all : List Expr) → all ≡ [] → all_true (values_of Mode.Relational env (expr_trees all)) ≡ Some true
+pub no_truths : (mode : Mode) (env : Env) (all : List Expr) → all ≡ [] → all_true (values_of mode env (expr_trees all)) ≡ Some true
 unfolding all_true all_defined all_one
-no_truths env all none = ap (λ xs. all_true (values_of Mode.Relational env (expr_trees xs))) none ∙ ap all_true (values_end env)
+no_truths mode env all none = ap (λ xs. all_true (values_of mode env (expr_trees xs))) none ∙ ap all_true (values_end mode env)

@@ -1,6 +1,6 @@
 -- Reads of what was unrolled: the terms that choose.
 use Rattle.std.proofs.Common.{◌≡◌, ℕ, suc, ◌<◌, ℤ, pos, Bool, true, false, ◌&&◌, List, [], ◌∷◌, length, Some, None, refl, sym, ap, subst, ◌∙◌, arith}
-use Rattle.std.specs.Prelude.{IsSome, Option, map, option_and_then, option_map, unwrap_or, if◌then◌else◌}
+use Rattle.std.specs.Prelude.{IsSome, Option, map, option_and_then, option_map, unwrap_or}
 use Rattle.std.specs.List.{All}
 use Rattle.ep_base.specs.Numbers.{all_one, is_one, of_bool, same_numbers}
 use Rattle.ep_base.specs.Reads.{all_there, first_or_zero, picked, safe_picked}

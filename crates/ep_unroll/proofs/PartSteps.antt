@@ -1,5 +1,5 @@
 -- Parts of blocks of cells.
-use Rattle.std.proofs.Common.{◌≡◌, ℕ, zero, suc, ◌+◌, ◌*◌, ◌<◌, ◌≤◌, Bool, true, false, ℤ, List, [], ◌∷◌, ◌++◌, length, drop, get_or, Some, None, refl, sym, ap, subst, ◌∙◌, arith, append_assoc, slice_get, Ok, Err}
+use Rattle.std.proofs.Common.{◌≡◌, ℕ, suc, ◌+◌, ◌*◌, ◌<◌, ◌≤◌, Bool, true, false, ℤ, List, [], ◌∷◌, ◌++◌, length, drop, get_or, Some, None, refl, sym, ap, subst, ◌∙◌, arith, append_assoc, slice_get, Ok, Err}
 use Rattle.std.specs.Prelude.{Option, Result, IfOk, map, option_and_then, option_map, if◌then◌else◌}
 use Rattle.std.specs.Ordering.{int_eq}
 use Rattle.std.proofs.lemmas.List.{append-nil, at_drop_all, at_drop_more, map-append}
@@ -11,19 +11,18 @@ use Rattle.ep_tree.specs.Environments.{Bound, Env, has_cells, value_bound}
 use Rattle.ep_tree.specs.Evaluation.{evaluate, index_list, map_both, number_in, on_both, read_result, type_in}
 use Rattle.ep_tree.specs.Solutions.{cell_count}
 use Rattle.ep_tree.specs.Trees.{ExprTree, Indices, named, read}
-use Rattle.ep_tree.specs.Values.{Index, ValueTree, ValueTrees, all_defined, any_index, as_parts, at_index, listed_values, matrix, part_at, read_value, single}
+use Rattle.ep_tree.specs.Values.{Index, ValueTree, all_defined, any_index, as_parts, at_index, listed_values, matrix, part_at, read_value, single}
 use Rattle.ep_tree.specs.Views.{expr_tree, indices_of}
 use Rattle.ep_tree.specs.declared.syntax.Expr.{Expr}
 use Rattle.ep_tree.specs.declared.values.Mode.{Mode}
 use Rattle.ep_tree.specs.declared.values.Scalar.{Scalar}
 use Rattle.ep_tree.specs.declared.values.ValueType.{ValueType}
-use Rattle.ep_eval.specs.Helds.{seen_held}
+use Rattle.ep_eval.proofs.ReadResults.{read_found}
 use Rattle.ep_unroll.proofs.FreeValues.{type_kept}
 use Rattle.ep_unroll.specs.Blocks.{IsWorth, StandFor, block_under, cell_of, index_in, indices_in, one_index}
-use Rattle.ep_unroll.specs.Growing.{Grows}
 use Rattle.ep_unroll.specs.Meanings.{AreTerms, Means, worth}
 use Rattle.ep_unroll.specs.Readings.{Numbering, Reading, ReadsName, cells_value, each_from}
-use Rattle.ep_unroll.specs.declared.unrolled.Unrolled.{Unrolled, Number, Cells, Fixed, Matrix', Row_of-Unrolled, end_of-Unrolled, more_of-Unrolled}
+use Rattle.ep_unroll.specs.declared.unrolled.Unrolled.{Unrolled, Number, Cells, Fixed, Matrix'}
 
 -- ---- what is there
 
@@ -171,50 +170,50 @@ all_left nodes numbers x first domains is v none cells e = cells (read_value is 
 
 -- ---- indices
 
-pub no_number : (env : Env) (e : Expr) (index : Option Expr) → index ≡ Some e → number_in (evaluate Mode.Relational env (expr_tree e)) ≡ None → one_index env index ≡ None
+pub no_number : (mode : Mode) (env : Env) (e : Expr) (index : Option Expr) → index ≡ Some e → number_in (evaluate mode env (expr_tree e)) ≡ None → one_index mode env index ≡ None
 unfolding one_index
-no_number env e index is none = ap (one_index env) is ∙ ap (option_map at_index) none
+no_number mode env e index is none = ap (one_index mode env) is ∙ ap (option_map at_index) none
 
-pub some_index : (env : Env) (e : Expr) (index : Option Expr) (i : ℤ) → index ≡ Some e → number_in (evaluate Mode.Relational env (expr_tree e)) ≡ Some i → one_index env index ≡ Some (index_in (Some i))
+pub some_index : (mode : Mode) (env : Env) (e : Expr) (index : Option Expr) (i : ℤ) → index ≡ Some e → number_in (evaluate mode env (expr_tree e)) ≡ Some i → one_index mode env index ≡ Some (index_in (Some i))
 unfolding one_index index_in
-some_index env e index i is some = ap (one_index env) is ∙ ap (option_map at_index) some
+some_index mode env e index i is some = ap (one_index mode env) is ∙ ap (option_map at_index) some
 
-pub every_index : (env : Env) (index : Option Expr) → index ≡ None → one_index env index ≡ Some (index_in None)
+pub every_index : (mode : Mode) (env : Env) (index : Option Expr) → index ≡ None → one_index mode env index ≡ Some (index_in None)
 unfolding one_index index_in
-every_index env index none = ap (one_index env) none
+every_index mode env index none = ap (one_index mode env) none
 
-pub index_cut : (env : Env) (x : Option Expr) (xs : List (Option Expr))
-    → index_list Mode.Relational env (indices_of (x ∷ xs)) ≡ map_both (λ i is. i ∷ is) (one_index env x) (index_list Mode.Relational env (indices_of xs))
+pub index_cut : (mode : Mode) (env : Env) (x : Option Expr) (xs : List (Option Expr))
+    → index_list mode env (indices_of (x ∷ xs)) ≡ map_both (λ i is. i ∷ is) (one_index mode env x) (index_list mode env (indices_of xs))
 unfolding indices_of index_list one_index map_both
-index_cut env None xs = refl
-index_cut env (Some e) xs = go (number_in (evaluate Mode.Relational env (expr_tree e)))
+index_cut mode env None xs = refl
+index_cut mode env (Some e) xs = go (number_in (evaluate mode env (expr_tree e)))
   where
-    go : (o : Option ℤ) → map_both (λ i is. at_index i ∷ is) o (index_list Mode.Relational env (indices_of xs)) ≡ map_both (λ i is. i ∷ is) (option_map at_index o) (index_list Mode.Relational env (indices_of xs))
+    go : (o : Option ℤ) → map_both (λ i is. at_index i ∷ is) o (index_list mode env (indices_of xs)) ≡ map_both (λ i is. i ∷ is) (option_map at_index o) (index_list mode env (indices_of xs))
     go None = refl
     go (Some i) = refl
 
 -- indices so far, of which those behind a place are left
-abbrev pub IndicesSoFar : Env → List (Option Expr) → ℕ → List (Option ℤ) → Type 0
-IndicesSoFar env all k done =
-    index_list Mode.Relational env (indices_of all) ≡ option_map (λ is. indices_in done ++ is) (index_list Mode.Relational env (indices_of (drop k all)))
+abbrev pub IndicesSoFar : Mode → Env → List (Option Expr) → ℕ → List (Option ℤ) → Type 0
+IndicesSoFar mode env all k done =
+    index_list mode env (indices_of all) ≡ option_map (λ is. indices_in done ++ is) (index_list mode env (indices_of (drop k all)))
 
 same_option : {A : Type 0} (o : Option A) → o ≡ option_map (λ x. x) o
 same_option None = refl
 same_option (Some x) = refl
 
-pub indices_begin : (env : Env) (all : List (Option Expr)) (done : List (Option ℤ)) → done ≡ [] → IndicesSoFar env all 0 done
-indices_begin env all done none =
-    same_option (index_list Mode.Relational env (indices_of all)) ∙ ap (λ ds. option_map (λ is. indices_in ds ++ is) (index_list Mode.Relational env (indices_of all))) (sym none)
+pub indices_begin : (mode : Mode) (env : Env) (all : List (Option Expr)) (done : List (Option ℤ)) → done ≡ [] → IndicesSoFar mode env all 0 done
+indices_begin mode env all done none =
+    same_option (index_list mode env (indices_of all)) ∙ ap (λ ds. option_map (λ is. indices_in ds ++ is) (index_list mode env (indices_of all))) (sym none)
 
-pub indices_more : (env : Env) (all : List (Option Expr)) (k : ℕ) (x d : Option Expr) (one : Option ℤ) (done more : List (Option ℤ)) → k < length all → x ≡ get_or all k d
-    → IndicesSoFar env all k done → one_index env x ≡ Some (index_in one) → more ≡ done ++ one ∷ [] → IndicesSoFar env all (k + 1) more
+pub indices_more : (mode : Mode) (env : Env) (all : List (Option Expr)) (k : ℕ) (x d : Option Expr) (one : Option ℤ) (done more : List (Option ℤ)) → k < length all → x ≡ get_or all k d
+    → IndicesSoFar mode env all k done → one_index mode env x ≡ Some (index_in one) → more ≡ done ++ one ∷ [] → IndicesSoFar mode env all (k + 1) more
 unfolding map_both
-indices_more env all k x d one done more h same so is pushed =
-    let rest : Option (List Index) = index_list Mode.Relational env (indices_of (drop (k + 1) all)) in
+indices_more mode env all k x d one done more h same so is pushed =
+    let rest : Option (List Index) = index_list mode env (indices_of (drop (k + 1) all)) in
     so ∙ ap (option_map (λ is. indices_in done ++ is))
-    (at_drop_more (λ ys. index_list Mode.Relational env (indices_of ys)) all k d h
-    ∙ ap (λ y. index_list Mode.Relational env (indices_of (y ∷ drop (k + 1) all))) (sym same)
-    ∙ index_cut env x (drop (k + 1) all)
+    (at_drop_more (λ ys. index_list mode env (indices_of ys)) all k d h
+    ∙ ap (λ y. index_list mode env (indices_of (y ∷ drop (k + 1) all))) (sym same)
+    ∙ index_cut mode env x (drop (k + 1) all)
     ∙ ap (λ o. map_both (λ i is. i ∷ is) o rest) is)
     ∙ joined rest
     ∙ ap (λ ds. option_map (λ is. indices_in ds ++ is) rest) (sym pushed)
@@ -223,21 +222,21 @@ indices_more env all k x d one done more h same so is pushed =
     joined None = refl
     joined (Some is) = ap Some (sym (ap (λ l. l ++ is) (map-append index_in done (one ∷ [])) ∙ append_assoc (indices_in done) (index_in one ∷ []) is))
 
-pub indices_none : (env : Env) (all : List (Option Expr)) (k : ℕ) (x d : Option Expr) (done : List (Option ℤ)) → k < length all → x ≡ get_or all k d
-    → IndicesSoFar env all k done → one_index env x ≡ None → index_list Mode.Relational env (indices_of all) ≡ None
+pub indices_none : (mode : Mode) (env : Env) (all : List (Option Expr)) (k : ℕ) (x d : Option Expr) (done : List (Option ℤ)) → k < length all → x ≡ get_or all k d
+    → IndicesSoFar mode env all k done → one_index mode env x ≡ None → index_list mode env (indices_of all) ≡ None
 unfolding map_both
-indices_none env all k x d done h same so is =
+indices_none mode env all k x d done h same so is =
     so ∙ ap (option_map (λ is. indices_in done ++ is))
-    (at_drop_more (λ ys. index_list Mode.Relational env (indices_of ys)) all k d h
-    ∙ ap (λ y. index_list Mode.Relational env (indices_of (y ∷ drop (k + 1) all))) (sym same)
-    ∙ index_cut env x (drop (k + 1) all)
-    ∙ ap (λ o. map_both (λ i is. i ∷ is) o (index_list Mode.Relational env (indices_of (drop (k + 1) all)))) is)
+    (at_drop_more (λ ys. index_list mode env (indices_of ys)) all k d h
+    ∙ ap (λ y. index_list mode env (indices_of (y ∷ drop (k + 1) all))) (sym same)
+    ∙ index_cut mode env x (drop (k + 1) all)
+    ∙ ap (λ o. map_both (λ i is. i ∷ is) o (index_list mode env (indices_of (drop (k + 1) all)))) is)
 
-pub indices_all : (env : Env) (all : List (Option Expr)) (k : ℕ) (done : List (Option ℤ)) → length all ≤ k → IndicesSoFar env all k done
-    → index_list Mode.Relational env (indices_of all) ≡ Some (indices_in done)
+pub indices_all : (mode : Mode) (env : Env) (all : List (Option Expr)) (k : ℕ) (done : List (Option ℤ)) → length all ≤ k → IndicesSoFar mode env all k done
+    → index_list mode env (indices_of all) ≡ Some (indices_in done)
 unfolding indices_of index_list
-indices_all env all k done h so =
-    so ∙ ap (option_map (λ is. indices_in done ++ is)) (at_drop_all (λ ys. index_list Mode.Relational env (indices_of ys)) all k h)
+indices_all mode env all k done h so =
+    so ∙ ap (option_map (λ is. indices_in done ++ is)) (at_drop_all (λ ys. index_list mode env (indices_of ys)) all k h)
     ∙ ap Some (append-nil (indices_in done))
 
 -- ---- names
@@ -265,15 +264,15 @@ pub stands_means : (n : Numbering) (env : Env) (nodes : List GroundNode) (p : Pl
 stands_means n env nodes p name first domains x h is known = record {
   grows = record { more = []; whole = sym (append-nil nodes) };
   known = known;
-  value = λ r. let s = h.value r in is r.numbers ∙ s.1 ∙ sym s.2 ∙ sym (evaluate-named Mode.Relational r.values p name);
+  value = λ r. let s = h.value r in is r.numbers ∙ s.1 ∙ sym s.2 ∙ sym (evaluate-named n.mode r.values p name);
 }
 
 -- ---- reads
 
 pub read_means : (n : Numbering) (env : Env) (nodes : List GroundNode) (p q : Place) (name : Name) (indices : Indices) (e : ExprTree) (first : ℕ) (domains : List (List ℤ)) (is : Option (List Index)) (ty : ValueType) (x : Unrolled)
     → StandFor n env name first domains → e ≡ read p (named q name) indices → ty ≡ type_in env e
-    → ((r : Reading n env) → index_list Mode.Relational r.values indices ≡ is)
-    → ((numbers : List ℤ) (v : ValueTree) → cells_value numbers domains first ≡ Some v → worth nodes numbers x ≡ read_result Mode.Relational ty (option_and_then (λ js. read_value js v) is))
+    → ((r : Reading n env) → index_list n.mode r.values indices ≡ is)
+    → ((numbers : List ℤ) (v : ValueTree) → cells_value numbers domains first ≡ Some v → worth nodes numbers x ≡ read_result n.mode ty (option_and_then (λ js. read_value js v) is))
     → AreTerms (length nodes) x → Means n env nodes nodes e x
 unfolding on_both
 read_means n env nodes p q name indices e first domains is ty x h tree typed told is_worth known = record {
@@ -282,11 +281,11 @@ read_means n env nodes p q name indices e first domains is ty x h tree typed tol
   value = λ r.
       let s = h.value r in
       is_worth r.numbers s.0 s.1
-      ∙ ap (λ t. read_result Mode.Relational t (option_and_then (λ js. read_value js s.0) is)) (typed ∙ type_kept env r.values e r.reads.agree ∙ ap (type_in r.values) tree)
-      ∙ ap (read_result Mode.Relational (type_in r.values (read p (named q name) indices)))
-      (sym (ap (λ o. on_both o (evaluate Mode.Relational r.values (named q name)) read_value) (told r)
-      ∙ ap (λ o. on_both is o read_value) (evaluate-named Mode.Relational r.values q name ∙ s.2) ∙ both_there is s.0))
-      ∙ sym (ap (evaluate Mode.Relational r.values) tree ∙ evaluate-read Mode.Relational r.values p (named q name) indices);
+      ∙ ap (λ t. read_result n.mode t (option_and_then (λ js. read_value js s.0) is)) (typed ∙ type_kept env r.values e r.reads.agree ∙ ap (type_in r.values) tree)
+      ∙ ap (read_result n.mode (type_in r.values (read p (named q name) indices)))
+      (sym (ap (λ o. on_both o (evaluate n.mode r.values (named q name)) read_value) (told r)
+      ∙ ap (λ o. on_both is o read_value) (evaluate-named n.mode r.values q name ∙ s.2) ∙ both_there is s.0))
+      ∙ sym (ap (evaluate n.mode r.values) tree ∙ evaluate-read n.mode r.values p (named q name) indices);
 }
   where
     both_there : (o : Option (List Index)) (v : ValueTree) → on_both o (Some v) read_value ≡ option_and_then (λ js. read_value js v) o
@@ -302,22 +301,36 @@ is_worth nodes numbers (Cells k domains) o h = h.2 ∙ sym h.1
 is_worth nodes numbers (Fixed seen) o h = h
 is_worth nodes numbers (Matrix' indices size parts) o h = h
 
-some_read : (ty : ValueType) (v : ValueTree) → read_result Mode.Relational ty (Some v) ≡ Some v
+pub plain_int : (mode : Mode) (o : Option ValueTree) → read_result mode ValueType.Int o ≡ o
 unfolding read_result
-some_read ValueType.Bool v = refl
-some_read ValueType.Int v = refl
-some_read (ValueType.Matrix dims of) v = refl
-some_read ValueType.Empty v = refl
+plain_int Mode.Relational None = refl
+plain_int Mode.Relational (Some v) = refl
+plain_int Mode.Strict o = refl
 
-pub cells_finish : (numbers : List ℤ) (o : Option ValueTree) (first : ℕ) (domains : List (List ℤ)) (ty : ValueType) → (v : ValueTree) × (o ≡ Some v) × (cells_value numbers domains first ≡ Some v)
-    → cells_value numbers domains first ≡ read_result Mode.Relational ty o
-cells_finish numbers o first domains ty h = h.2 ∙ sym (ap (read_result Mode.Relational ty) h.1 ∙ some_read ty h.0)
+pub plain_matrix : (mode : Mode) (k : ℕ) (s : Scalar) (o : Option ValueTree) → read_result mode (ValueType.Matrix k s) o ≡ o
+unfolding read_result
+plain_matrix Mode.Relational k s None = refl
+plain_matrix Mode.Relational k s (Some v) = refl
+plain_matrix Mode.Strict k s o = refl
+
+pub plain_empty : (mode : Mode) (o : Option ValueTree) → read_result mode ValueType.Empty o ≡ o
+unfolding read_result
+plain_empty Mode.Relational None = refl
+plain_empty Mode.Relational (Some v) = refl
+plain_empty Mode.Strict o = refl
+
+some_read : (mode : Mode) (ty : ValueType) (v : ValueTree) → read_result mode ty (Some v) ≡ Some v
+some_read mode ty v = sym (read_found mode ty v)
+
+pub cells_finish : (mode : Mode) (numbers : List ℤ) (o : Option ValueTree) (first : ℕ) (domains : List (List ℤ)) (ty : ValueType) → (v : ValueTree) × (o ≡ Some v) × (cells_value numbers domains first ≡ Some v)
+    → cells_value numbers domains first ≡ read_result mode ty o
+cells_finish mode numbers o first domains ty h = h.2 ∙ sym (ap (read_result mode ty) h.1 ∙ some_read mode ty h.0)
 
 -- a read, once it is done
 pub read_done : {E : Type 0} (n : Numbering) (env : Env) (nodes : List GroundNode) (p q : Place) (name : Name) (indices : Indices) (e : ExprTree) (first : ℕ) (domains : List (List ℤ)) (is : Option (List Index)) (ty : ValueType) (result : Result Unrolled E)
     → StandFor n env name first domains → e ≡ read p (named q name) indices → ty ≡ type_in env e
-    → ((r : Reading n env) → index_list Mode.Relational r.values indices ≡ is)
-    → ((numbers : List ℤ) (v : ValueTree) → cells_value numbers domains first ≡ Some v → IfOk result (λ x. worth nodes numbers x ≡ read_result Mode.Relational ty (option_and_then (λ js. read_value js v) is)))
+    → ((r : Reading n env) → index_list n.mode r.values indices ≡ is)
+    → ((numbers : List ℤ) (v : ValueTree) → cells_value numbers domains first ≡ Some v → IfOk result (λ x. worth nodes numbers x ≡ read_result n.mode ty (option_and_then (λ js. read_value js v) is)))
     → IfOk result (AreTerms (length nodes)) → IfOk result (Means n env nodes nodes e)
 read_done n env nodes p q name indices e first domains is ty (Ok x) h tree typed told is_worth known = read_means n env nodes p q name indices e first domains is ty x h tree typed told is_worth known
 read_done n env nodes p q name indices e first domains is ty (Err m) h tree typed told is_worth known = tt

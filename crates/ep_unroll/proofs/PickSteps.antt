@@ -1,11 +1,11 @@
 -- The scalars among which a read chooses, one part after another.
-use Rattle.std.proofs.Common.{◌≡◌, ℕ, zero, suc, ◌+◌, ◌<◌, ◌<ℤ◌, nat_lt, Bool, true, false, ◌&&◌, not, cond, ℤ, List, [], ◌∷◌, ◌++◌, length, Some, None, refl, sym, ap, subst, ◌∙◌, arith, slice_get, get_or, append_assoc}
+use Rattle.std.proofs.Common.{◌≡◌, ℕ, zero, suc, ◌+◌, ◌<◌, nat_lt, Bool, true, false, ◌&&◌, not, cond, ℤ, List, [], ◌∷◌, ◌++◌, length, Some, None, refl, sym, ap, subst, ◌∙◌, arith, slice_get, get_or}
 use Rattle.std.specs.Prelude.{Option, map, option_and_then, option_map, if◌then◌else◌, position}
 use Rattle.std.specs.List.{All, position_or_len}
 use Rattle.std.specs.Ordering.{int_eq}
 use Rattle.std.proofs.lemmas.Bool.Decides.{Decides-int_eq, Decides-like, Decides-ltb, same_from_decides}
 use Rattle.std.proofs.lemmas.Int.{ints}
-use Rattle.std.proofs.lemmas.List.{append-nil, length-append, map-append}
+use Rattle.std.proofs.lemmas.List.{length-append, map-append}
 use Rattle.std.proofs.lemmas.List.Elements.{All-append}
 use Rattle.ep_base.proofs.Ascending.{ascending_cons, ascending_head, ascending_tail, first_of}
 use Rattle.ep_base.specs.Numbers.{same_numbers}
@@ -14,17 +14,16 @@ use Rattle.ep_base.specs.Runs.{IsAscending}
 use Rattle.ep_ground.specs.Nodes as node
 use Rattle.ep_ground.specs.Nodes.{GroundNode}
 use Rattle.ep_ground.specs.Terms.{node_value, term_value}
-use Rattle.ep_tree.specs.Solutions.{cell_count}
-use Rattle.ep_tree.specs.Values.{Index, ValueTree, all_defined, any_index, as_parts, at_index, matrix, part_at, read_value, single}
+use Rattle.ep_tree.specs.Values.{Index, ValueTree, as_parts, at_index, matrix, part_at, read_value, single}
 use Rattle.ep_unroll.proofs.FormValues.{grown_value, grows_long, grows_on}
 use Rattle.ep_unroll.proofs.MeaningSteps.{grows_none}
 use Rattle.ep_unroll.proofs.PartSteps.{Leads, block_leads}
 use Rattle.ep_unroll.specs.Blocks.{block_under}
 use Rattle.ep_unroll.specs.Growing.{Grows, Puts}
 use Rattle.ep_unroll.specs.Picks.{AreEntries, AreRead, filled_in, look_up, open_terms}
-use Rattle.ep_unroll.specs.Readings.{cells_value, each_from}
+use Rattle.ep_unroll.specs.Readings.{cells_value}
 use Rattle.ep_unroll.specs.declared.slots.Slot.{Slot}
-use Rattle.ep_unroll.specs.declared.slots.Slot.TheVariants.{Every, At, Open}
+use Rattle.ep_unroll.specs.declared.slots.Slot.TheVariants.{At, Open}
 
 some_is : {A : Type 0} {x y : A} → Some x ≡ Some y → x ≡ y
 some_is e = cc

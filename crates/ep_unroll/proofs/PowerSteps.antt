@@ -50,15 +50,15 @@ power_put old new a n t e is put kept = record {
 
 -- ---- `**`
 
-power_value : (o : Option ℤ) (e : ℤ) → binary_value Mode.Relational BinaryOp.Pow o (Some e) ≡ option_map single (option_and_then (λ x. numbers.power x e) o)
+power_value : (mode : Mode) (o : Option ℤ) (e : ℤ) → binary_value mode BinaryOp.Pow o (Some e) ≡ option_map single (option_and_then (λ x. numbers.power x e) o)
 unfolding binary_value binary_number joins_truths on_both
-power_value None e = refl
-power_value (Some x) e = refl
+power_value mode None e = refl
+power_value mode (Some x) e = refl
 
-power_without : (o : Option ℤ) → binary_value Mode.Relational BinaryOp.Pow o None ≡ option_map single None
+power_without : (mode : Mode) (o : Option ℤ) → binary_value mode BinaryOp.Pow o None ≡ option_map single None
 unfolding binary_value binary_number joins_truths on_both
-power_without None = refl
-power_without (Some x) = refl
+power_without mode None = refl
+power_without mode (Some x) = refl
 
 pub power_term : (n : Numbering) (cells : Env) (nodes mid new : List GroundNode) (p : Place) (e f : ExprTree) (a b t : ℕ) (k : ℤ)
     → IsNumberOf n cells nodes mid e a → IsNumberOf n cells nodes mid f b → ((ns : List ℤ) → term_value mid ns b ≡ Some k) → IsPower mid new a k t
@@ -67,9 +67,9 @@ power_term n cells nodes mid new p e f a b t k h h' always has = record {
   grows = grows_on nodes mid new h.grows has.grows;
   known = has.known;
   value = λ r.
-      evaluate-binary Mode.Relational r.values p BinaryOp.Pow e f
-      ∙ ap (binary_value Mode.Relational BinaryOp.Pow (number_in (evaluate Mode.Relational r.values e))) (sym (h'.number r) ∙ always r.numbers)
-      ∙ power_value (number_in (evaluate Mode.Relational r.values e)) k
+      evaluate-binary n.mode r.values p BinaryOp.Pow e f
+      ∙ ap (binary_value n.mode BinaryOp.Pow (number_in (evaluate n.mode r.values e))) (sym (h'.number r) ∙ always r.numbers)
+      ∙ power_value n.mode (number_in (evaluate n.mode r.values e)) k
       ∙ ap (λ o. option_map single (option_and_then (λ x. numbers.power x k) o)) (sym (h.number r))
       ∙ ap (option_map single) (sym (has.value r.numbers));
 }
@@ -81,8 +81,8 @@ power_undefined n cells nodes mid new p e f b t h never put = record {
   grows = grows_on nodes mid new h.grows put.grows;
   known = put.known;
   value = λ r.
-      evaluate-binary Mode.Relational r.values p BinaryOp.Pow e f
-      ∙ ap (binary_value Mode.Relational BinaryOp.Pow (number_in (evaluate Mode.Relational r.values e))) (sym (h.number r) ∙ never r.numbers)
-      ∙ power_without (number_in (evaluate Mode.Relational r.values e))
+      evaluate-binary n.mode r.values p BinaryOp.Pow e f
+      ∙ ap (binary_value n.mode BinaryOp.Pow (number_in (evaluate n.mode r.values e))) (sym (h.number r) ∙ never r.numbers)
+      ∙ power_without n.mode (number_in (evaluate n.mode r.values e))
       ∙ ap (option_map single) (sym (put.value r.numbers));
 }

@@ -17,13 +17,12 @@ use Rattle.ep_tree.specs.Evaluation.{folded_value}
 use Rattle.ep_tree.specs.Trees.{ExprTree, folded}
 use Rattle.ep_tree.specs.Values.{single}
 use Rattle.ep_tree.specs.declared.syntax.FoldOp.{FoldOp}
-use Rattle.ep_tree.specs.declared.values.Mode.{Mode}
 use Rattle.ep_eval.proofs.Products.{times_again}
 use Rattle.ep_unroll.proofs.FormSteps.{two_known}
 use Rattle.ep_unroll.proofs.FormValues.{grown_value, grows_long, grows_on}
 use Rattle.ep_unroll.proofs.MatrixSteps.{joined, there_cut}
 use Rattle.ep_unroll.proofs.MeaningSteps.{grows_none}
-use Rattle.ep_unroll.specs.Growing.{Grows, Puts}
+use Rattle.ep_unroll.specs.Growing.{Puts}
 use Rattle.ep_unroll.specs.Meanings.{IsTermOf}
 use Rattle.ep_unroll.specs.Numbers.{HasNumber}
 use Rattle.ep_unroll.specs.Readings.{Numbering}
@@ -107,5 +106,5 @@ unfolding folded_value
 product_is n cells nodes mid new p e ts t h own = record {
   grows = grows_on nodes mid new h.grows own.grows;
   known = own.known;
-  value = λ r. evaluate-folded Mode.Relational r.values p FoldOp.Product e ∙ ap (λ o. option_map single (option_map product_of o)) (sym (h.scalars r)) ∙ ap (option_map single) (sym (own.value r.numbers));
+  value = λ r. evaluate-folded n.mode r.values p FoldOp.Product e ∙ ap (λ o. option_map single (option_map product_of o)) (sym (h.scalars r)) ∙ ap (option_map single) (sym (own.value r.numbers));
 }

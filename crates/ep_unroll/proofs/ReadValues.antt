@@ -1,5 +1,5 @@
 -- The value of a read, by the numbers among which it chooses.
-use Rattle.std.proofs.Common.{◌≡◌, ℕ, ◌≤◌, ℤ, Bool, true, false, List, [], ◌∷◌, length, map, Some, None, refl, sym, ap, subst, ◌∙◌}
+use Rattle.std.proofs.Common.{◌≡◌, ℕ, ◌≤◌, ℤ, true, false, List, [], ◌∷◌, length, map, Some, None, refl, sym, ap, subst, ◌∙◌}
 use Rattle.std.specs.Prelude.{Option, is_some, option_and_then, option_map}
 use Rattle.ep_base.specs.Numbers.{is_one, of_bool}
 use Rattle.ep_base.specs.Reads.{all_there}
@@ -55,7 +55,7 @@ choice_grows n env nodes mid need have m known ss count keys ts others h = grows
 -- what indices read
 read_found : (n : Numbering) (env : Env) (r : Reading n env) (nodes mid need have : List GroundNode) (m : ExprTree) (known : Unrolled) (ss : List Slot) (count : ℕ) (keys : List (List ℤ)) (ts others : List ℕ)
     → Choice n env nodes mid need have m known ss count keys ts others → (js : List ℤ) → length js ≡ length (open_terms ss)
-    → option_and_then (read_value (filled_in ss js)) (evaluate Mode.Relational r.values m)
+    → option_and_then (read_value (filled_in ss js)) (evaluate n.mode r.values m)
     ≡ option_map single (only_where (numbers_at have r.numbers others) (option_and_then (λ ys. look_up keys ys js) (numbers_at have r.numbers ts)))
 unfolding only_where
 read_found n env r nodes mid need have m known ss count keys ts others h js few =
@@ -96,12 +96,12 @@ moved keys (Some zs) (Some ys) (Some js) = refl
 chosen_value : (n : Numbering) (env : Env) (r : Reading n env) (nodes mid need have : List GroundNode) (p : Place) (m e : ExprTree) (indices : List (Option Expr)) (known : Unrolled) (ss : List Slot) (count : ℕ)
     (keys : List (List ℤ)) (ts us others : List ℕ) (ty : ValueType)
     → Choice n env nodes mid need have m known ss count keys ts others → AreSlotsOf n env nodes mid indices ss → us ≡ open_terms ss → e ≡ read p m (indices_of indices) → ty ≡ type_in env e
-    → evaluate Mode.Relational r.values e ≡ read_result Mode.Relational ty (option_map single (chosen_among have r.numbers keys ts us others))
+    → evaluate n.mode r.values e ≡ read_result n.mode ty (option_map single (chosen_among have r.numbers keys ts us others))
 unfolding found_among
 chosen_value n env r nodes mid need have p m e indices known ss count keys ts us others ty h slots opened tree typed =
     read_is n env r nodes mid have p m e indices ss (λ js. only_where (numbers_at have r.numbers others) (option_and_then (λ ys. look_up keys ys js) (numbers_at have r.numbers ts))) ty slots
     (choice_grows n env nodes mid need have m known ss count keys ts others h) tree typed (read_found n env r nodes mid need have m known ss count keys ts others h)
-    ∙ ap (read_result Mode.Relational ty)
+    ∙ ap (read_result n.mode ty)
     (moved keys (numbers_at have r.numbers others) (numbers_at have r.numbers ts) (numbers_at have r.numbers (open_terms ss))
     ∙ ap (λ l. option_map single (chosen_among have r.numbers keys ts l others)) (sym opened))
 
@@ -109,7 +109,7 @@ chosen_value n env r nodes mid need have p m e indices known ss count keys ts us
 pub chosen_means : (n : Numbering) (env : Env) (nodes mid need have new : List GroundNode) (p : Place) (m e : ExprTree) (indices : List (Option Expr)) (known : Unrolled) (ss : List Slot) (count : ℕ)
     (keys : List (List ℤ)) (ts us others : List ℕ) (ty : ValueType) (t : ℕ)
     → Choice n env nodes mid need have m known ss count keys ts others → AreSlotsOf n env nodes mid indices ss → us ≡ open_terms ss → IsChosen have new keys ts us others t
-    → e ≡ read p m (indices_of indices) → ty ≡ type_in env e → ((o : Option ValueTree) → read_result Mode.Relational ty o ≡ o) → Means n env nodes new e (Number t)
+    → e ≡ read p m (indices_of indices) → ty ≡ type_in env e → ((o : Option ValueTree) → read_result n.mode ty o ≡ o) → Means n env nodes new e (Number t)
 unfolding worth AreTerms
 chosen_means n env nodes mid need have new p m e indices known ss count keys ts us others ty t h slots opened chosen tree typed plain = record {
   grows = grows_on nodes mid new h.meant.grows (grows_on mid have new (choice_grows n env nodes mid need have m known ss count keys ts others h) chosen.grows);
@@ -129,15 +129,16 @@ bit_read value (Some x) is bit = ap (λ y. Some (single y)) (bit x is) ∙ sym i
 pub truth_means : (n : Numbering) (env : Env) (nodes mid need have new : List GroundNode) (p : Place) (m e : ExprTree) (indices : List (Option Expr)) (known : Unrolled) (ss : List Slot) (count : ℕ)
     (keys : List (List ℤ)) (ts us others : List ℕ) (t : ℕ)
     → Choice n env nodes mid need have m known ss count keys ts others → AreSlotsOf n env nodes mid indices ss → us ≡ open_terms ss → IsTruth have new count keys ts us others t
-    → e ≡ read p m (indices_of indices) → ValueType.Bool ≡ type_in env e → Means n env nodes new e (Number t)
+    → e ≡ read p m (indices_of indices) → ValueType.Bool ≡ type_in env e → n.mode ≡ Mode.Relational → Means n env nodes new e (Number t)
 unfolding worth AreTerms
-truth_means n env nodes mid need have new p m e indices known ss count keys ts us others t h slots opened chosen tree typed = record {
+truth_means n env nodes mid need have new p m e indices known ss count keys ts us others t h slots opened chosen tree typed mode = record {
   grows = grows_on nodes mid new h.meant.grows (grows_on mid have new (choice_grows n env nodes mid need have m known ss count keys ts others h) chosen.grows);
   known = chosen.known;
   value = λ r.
       ap (option_map single) (chosen.value r.numbers (subst (λ k. k ≤ length r.numbers) h.counted r.reads.long))
-      ∙ bit_read (evaluate Mode.Relational r.values e) (chosen_among have r.numbers keys ts us others)
-      (chosen_value n env r nodes mid need have p m e indices known ss count keys ts us others ValueType.Bool h slots opened tree typed)
+      ∙ bit_read (evaluate n.mode r.values e) (chosen_among have r.numbers keys ts us others)
+      (chosen_value n env r nodes mid need have p m e indices known ss count keys ts us others ValueType.Bool h slots opened tree typed
+      ∙ ap (λ k. read_result k ValueType.Bool (option_map single (chosen_among have r.numbers keys ts us others))) mode)
       (λ x is. truth_is n env r e x (sym (typed ∙ type_kept env r.values e r.reads.agree)) is);
 }
 
@@ -170,24 +171,24 @@ left_means n env nodes mid new m indices known x ss is count others counted mean
       let v = some_true (worth mid r.numbers known) (sym (needed.values r.numbers enough) ∙ ap (λ l. is_some (numbers_at new r.numbers l)) none) in
       left new r.numbers v.0 (worth_kept mid new r.numbers known needed.grows meant.known ∙ v.1)
       ∙ sym
-      (ap (option_and_then (λ js. option_and_then (read_value js) (evaluate Mode.Relational r.values m))) (ap all_defined (sym (slots.values r) ∙ decided mid r.numbers) ∙ all_defined_are is)
+      (ap (option_and_then (λ js. option_and_then (read_value js) (evaluate n.mode r.values m))) (ap all_defined (sym (slots.values r) ∙ decided mid r.numbers) ∙ all_defined_are is)
       ∙ ap (option_and_then (read_value is)) (sym (meant.value r) ∙ v.1));
 }
 
 pub left_read : (n : Numbering) (env : Env) (nodes new : List GroundNode) (p : Place) (m e : ExprTree) (indices : List (Option Expr)) (ty : ValueType) (x : Unrolled) → LeftMeans n env nodes new m indices x
-    → e ≡ read p m (indices_of indices) → ty ≡ type_in env e → ((o : Option ValueTree) → read_result Mode.Relational ty o ≡ o) → Means n env nodes new e x
+    → e ≡ read p m (indices_of indices) → ty ≡ type_in env e → ((o : Option ValueTree) → read_result n.mode ty o ≡ o) → Means n env nodes new e x
 unfolding on_both
 left_read n env nodes new p m e indices ty x left tree typed plain = record {
   grows = left.grows;
   known = left.known;
   value = λ r.
-      let value : Option ValueTree = evaluate Mode.Relational r.values m in
-      let read : Option ValueTree = option_and_then (λ js. option_and_then (read_value js) value) (all_defined (map (one_index r.values) indices)) in
+      let value : Option ValueTree = evaluate n.mode r.values m in
+      let read : Option ValueTree = option_and_then (λ js. option_and_then (read_value js) value) (all_defined (map (one_index n.mode r.values) indices)) in
       left.value r
       ∙ sym
-      (ap (evaluate Mode.Relational r.values) tree ∙ evaluate-read Mode.Relational r.values p m (indices_of indices)
-      ∙ ap (λ t. read_result Mode.Relational t (on_both (index_list Mode.Relational r.values (indices_of indices)) value read_value))
+      (ap (evaluate n.mode r.values) tree ∙ evaluate-read n.mode r.values p m (indices_of indices)
+      ∙ ap (λ t. read_result n.mode t (on_both (index_list n.mode r.values (indices_of indices)) value read_value))
       (ap (type_in r.values) (sym tree) ∙ sym (typed ∙ type_kept env r.values e r.reads.agree))
-      ∙ ap (λ o. read_result Mode.Relational ty (on_both o value read_value)) (indices_listed r.values indices)
+      ∙ ap (λ o. read_result n.mode ty (on_both o value read_value)) (indices_listed n.mode r.values indices)
       ∙ plain read);
 }

@@ -1,6 +1,6 @@
 -- The terms of scalars, put behind others one after another.
 use Rattle.std.proofs.Common.{◌≡◌, ℕ, suc, ◌+◌, ◌-◌, ◌<◌, ◌≤◌, ℤ, pos, List, [], ◌∷◌, ◌++◌, length, drop, get_or, Some, None, Ok, Err, refl, sym, ap, subst, ◌∙◌, arith, slice_get, append_assoc}
-use Rattle.std.specs.Prelude.{OnOk, Option, Result, map, option_and_then, option_map}
+use Rattle.std.specs.Prelude.{OnOk, Option, Result, map, option_map}
 use Rattle.std.specs.List.{All}
 use Rattle.std.specs.declared.alloc.Global.{Global}
 use Rattle.std.specs.declared.vec.Vec.{Vec}
@@ -13,9 +13,9 @@ use Rattle.ep_ground.specs.Terms.{node_value, term_value}
 use Rattle.ep_tree.specs.Environments.{Env}
 use Rattle.ep_tree.specs.Evaluation.{scalars_in}
 use Rattle.ep_tree.specs.Trees.{ExprTree}
-use Rattle.ep_tree.specs.Values.{ValueTree, all_defined, as_parts, matrix, scalars_of, scalars_of_all, single}
+use Rattle.ep_tree.specs.Values.{all_defined, as_parts, scalars_of, scalars_of_all, single}
 use Rattle.ep_unroll.proofs.FormSteps.{none_known}
-use Rattle.ep_unroll.proofs.FormValues.{grown_value, grows_long, grows_on}
+use Rattle.ep_unroll.proofs.FormValues.{grows_long, grows_on}
 use Rattle.ep_unroll.proofs.GrownParts.{matrix_terms, matrix_worth, terms_kept, worth_kept}
 use Rattle.ep_unroll.proofs.MatrixSteps.{each_cut, joined, scalars_each, there_cut, values_kept, whole_scalars}
 use Rattle.ep_unroll.proofs.MeaningSteps.{grows_none}

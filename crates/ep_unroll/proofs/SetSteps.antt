@@ -24,18 +24,20 @@ use Rattle.ep_tree.proofs.EvaluationEquations.{evaluate-in_set}
 use Rattle.ep_tree.specs.Environments.{Env}
 use Rattle.ep_tree.specs.Evaluation.{evaluate, map_both, number_in, scalars_in, truth_in, undefined_truth}
 use Rattle.ep_tree.specs.Trees.{ExprTree, in_set}
-use Rattle.ep_tree.specs.Values.{single}
 use Rattle.ep_tree.specs.declared.values.Mode.{Mode}
-use Rattle.ep_unroll.proofs.FormValues.{grown_value, grows_on, number_grown}
+use Rattle.ep_unroll.proofs.FormValues.{grown_value, grows_on, one_truth, truth_told, untold_is}
 use Rattle.ep_unroll.proofs.MatrixSteps.{values_kept}
 use Rattle.ep_unroll.proofs.MeaningSteps.{Listing, listing_begins, listing_ends, listing_more}
+use Rattle.ep_unroll.proofs.TruthSteps.{told_both}
 use Rattle.ep_unroll.specs.Growing.{Grows, Puts}
 use Rattle.ep_unroll.specs.Meanings.{IsNumberOf, IsTermOf}
 use Rattle.ep_unroll.specs.Needs.{ArePartial}
+use Rattle.ep_unroll.specs.Numbers.{HasNumber}
 use Rattle.ep_unroll.specs.PartReads.{IsWhole, numbers_at, only_where}
 use Rattle.ep_unroll.specs.Readings.{Numbering, Reading}
 use Rattle.ep_unroll.specs.Scalars.{AreScalarsOf}
 use Rattle.ep_unroll.specs.Sets.{AreEqualities}
+use Rattle.ep_unroll.specs.Truths.{IsJudged, needed_in}
 
 -- ---- a set of numbers
 
@@ -64,48 +66,28 @@ set_has set xs parts are same x =
 
 -- ---- a list of numbers
 
-same_set : (ns : List ℤ) (o : Option ℤ) → truth_in Mode.Relational (map_both has_number (Some ns) o) ≡ option_map single (truth (option_map (has_number ns) o))
-unfolding undefined_truth truth_in truth map_both
-same_set ns None = refl
-same_set ns (Some x) = refl
-
 same_test : (ns ms : List ℤ) (o : Option ℤ) → ((x : ℤ) → has_number ms x ≡ has_number ns x) → option_map (has_number ns) o ≡ option_map (has_number ms) o
 same_test ns ms None h = refl
 same_test ns ms (Some x) h = ap Some (sym (h x))
 
-pub listed_is : (n : Numbering) (cells : Env) (nodes mid new : List GroundNode) (p : Place) (e f : ExprTree) (ns ms : List ℤ) (a t : ℕ)
-    → ((r : Reading n cells) → scalars_in (evaluate Mode.Relational r.values f) ≡ Some ns) → ((x : ℤ) → has_number ms x ≡ has_number ns x)
-    → IsNumberOf n cells nodes mid e a → Puts mid new (node.member a ms) t → IsTermOf n cells nodes new (in_set p e f) t
-unfolding node_value
-listed_is n cells nodes mid new p e f ns ms a t list same h put = record {
-  grows = grows_on nodes mid new h.grows put.grows;
-  known = put.known;
-  value = λ r.
-      evaluate-in_set Mode.Relational r.values p e f
-      ∙ ap (λ o. truth_in Mode.Relational (map_both has_number o (number_in (evaluate Mode.Relational r.values e)))) (list r)
-      ∙ same_set ns (number_in (evaluate Mode.Relational r.values e))
-      ∙ ap (λ o. option_map single (truth o)) (same_test ns ms (number_in (evaluate Mode.Relational r.values e)) same)
-      ∙ ap (λ o. option_map single (truth (option_map (has_number ms) o))) (sym ((number_grown n cells nodes mid new e a put.grows h).number r))
-      ∙ ap (option_map single) (sym (put.value r.numbers));
-}
+pub listed_is : (n : Numbering) (cells : Env) (nodes mid new : List GroundNode) (p : Place) (e f : ExprTree) (ns ms : List ℤ) (a t : ℕ) (us : List ℕ)
+    → ((r : Reading n cells) → scalars_in (evaluate n.mode r.values f) ≡ Some ns) → ((x : ℤ) → has_number ms x ≡ has_number ns x)
+    → IsNumberOf n cells nodes mid e a → ArePartial mid n.count (needed_in n.mode (a ∷ [])) us → IsJudged mid new (node.member a ms) us t → IsTermOf n cells nodes new (in_set p e f) t
+unfolding node_value map_both
+listed_is n cells nodes mid new p e f ns ms a t us list same =
+    one_truth n cells nodes mid new e (in_set p e f) a t us (node.member a ms) (has_number ms)
+    (λ r. evaluate-in_set n.mode r.values p e f
+    ∙ ap (λ o. truth_in n.mode (map_both has_number o (number_in (evaluate n.mode r.values e)))) (list r)
+    ∙ ap (truth_in n.mode) (same_test ns ms (number_in (evaluate n.mode r.values e)) same))
+    (λ numbers value. refl)
 
-no_set : (o : Option ℤ) → truth_in Mode.Relational (map_both has_number None o) ≡ option_map single (Some (pos 0))
-unfolding undefined_truth truth_in map_both
-no_set o = refl
-
-pub listed_none : (n : Numbering) (cells : Env) (nodes mid new : List GroundNode) (p : Place) (e f : ExprTree) (a t : ℕ)
-    → ((r : Reading n cells) → scalars_in (evaluate Mode.Relational r.values f) ≡ None)
-    → IsNumberOf n cells nodes mid e a → Puts mid new (node.constant (pos 0)) t → IsTermOf n cells nodes new (in_set p e f) t
-unfolding node_value
-listed_none n cells nodes mid new p e f a t list h put = record {
-  grows = grows_on nodes mid new h.grows put.grows;
-  known = put.known;
-  value = λ r.
-      evaluate-in_set Mode.Relational r.values p e f
-      ∙ ap (λ o. truth_in Mode.Relational (map_both has_number o (number_in (evaluate Mode.Relational r.values e)))) (list r)
-      ∙ no_set (number_in (evaluate Mode.Relational r.values e))
-      ∙ ap (option_map single) (sym (put.value r.numbers));
-}
+pub listed_none : (n : Numbering) (cells : Env) (nodes mid new : List GroundNode) (p : Place) (e f : ExprTree) (mode : Mode) (a t : ℕ) → n.mode ≡ mode
+    → ((r : Reading n cells) → scalars_in (evaluate n.mode r.values f) ≡ None)
+    → IsNumberOf n cells nodes mid e a → HasNumber mid new (λ numbers. number_in (undefined_truth mode)) t → IsTermOf n cells nodes new (in_set p e f) t
+unfolding map_both
+listed_none n cells nodes mid new p e f mode a t is list h =
+    untold_is n cells nodes mid new (in_set p e f) mode t is h.grows
+    (λ r. evaluate-in_set n.mode r.values p e f ∙ ap (λ o. truth_in n.mode (map_both has_number o (number_in (evaluate n.mode r.values e)))) (list r))
 
 -- ---- equalities with terms
 
@@ -192,46 +174,63 @@ mapped_twice f g [] = refl
 mapped_twice f g (x ∷ xs) = ap (λ l. f (g x) ∷ l) (mapped_twice f g xs)
 
 -- whether one of the equalities is true, by what has a number
-pub any_equal : (o w : Option ℤ) (l us : Option (List ℤ)) (os : List (Option ℤ)) → all_there os ≡ l → is_some us ≡ is_some l → w ≡ only_where us o
-    → truth_in Mode.Relational (map_both has_number l o) ≡ option_map single (truth (option_map any_one (all_there (map (equal_value w) os))))
-unfolding only_where truth_in undefined_truth map_both truth of_bool
+any_equal : (o w : Option ℤ) (l us : Option (List ℤ)) (os : List (Option ℤ)) → all_there os ≡ l → is_some us ≡ is_some l → w ≡ only_where us o
+    → truth (option_map any_one (all_there (map (equal_value w) os))) ≡ truth (map_both has_number l o)
+unfolding only_where map_both truth of_bool
 any_equal o w None None os is there whole =
     let p = none_equal os in
-    sym (ap (λ x. option_map single (truth (option_map any_one (all_there (map (equal_value x) os))))) whole
-    ∙ ap (λ x. option_map single (truth (option_map any_one x))) p.1 ∙ ap (λ b. option_map single (truth (Some b))) p.2)
+    ap (λ x. truth (option_map any_one (all_there (map (equal_value x) os)))) whole
+    ∙ ap (λ x. truth (option_map any_one x)) p.1 ∙ ap (λ b. truth (Some b)) p.2
 any_equal o w None (Some ys) os is there whole = absurd cc
 any_equal o w (Some ys) None os is there whole = absurd cc
 any_equal None w (Some ys) (Some zs) os is there whole =
     let p = none_equal os in
-    sym (ap (λ x. option_map single (truth (option_map any_one (all_there (map (equal_value x) os))))) whole
-    ∙ ap (λ x. option_map single (truth (option_map any_one x))) p.1 ∙ ap (λ b. option_map single (truth (Some b))) p.2)
+    ap (λ x. truth (option_map any_one (all_there (map (equal_value x) os)))) whole
+    ∙ ap (λ x. truth (option_map any_one x)) p.1 ∙ ap (λ b. truth (Some b)) p.2
 any_equal (Some x) w (Some ys) (Some zs) os is there whole =
     let p = some_equal x ys in
-    sym (ap (λ a. option_map single (truth (option_map any_one (all_there (map (equal_value a) os))))) whole
-    ∙ ap (λ a. option_map single (truth (option_map any_one (all_there (map (equal_value (Some x)) a))))) (there_are os ys is)
-    ∙ ap (λ a. option_map single (truth (option_map any_one (all_there a)))) (mapped_twice (equal_value (Some x)) Some ys)
-    ∙ ap (λ a. option_map single (truth (option_map any_one a))) p.1 ∙ ap (λ b. option_map single (truth (Some b))) p.2)
+    ap (λ a. truth (option_map any_one (all_there (map (equal_value a) os)))) whole
+    ∙ ap (λ a. truth (option_map any_one (all_there (map (equal_value (Some x)) a)))) (there_are os ys is)
+    ∙ ap (λ a. truth (option_map any_one (all_there a))) (mapped_twice (equal_value (Some x)) Some ys)
+    ∙ ap (λ a. truth (option_map any_one a)) p.1 ∙ ap (λ b. truth (Some b)) p.2
 
-pub chosen_is : (n : Numbering) (cells : Env) (nodes mid have with_tests new : List GroundNode) (p : Place) (e f : ExprTree) (count a b t : ℕ) (ts us qs : List ℕ)
-    → n.count ≡ count → IsNumberOf n cells nodes mid e a → AreScalarsOf n cells nodes mid f ts → ArePartial mid count ts us → IsWhole mid have us a b
-    → AreEqualities have with_tests b ts qs → Puts with_tests new (node.any_of qs) t → IsTermOf n cells nodes new (in_set p e f) t
+beside_there : (o : Option ℤ) (l : Option (List ℤ)) (os : List (Option ℤ)) → all_there os ≡ l → is_some (all_there (o ∷ os)) ≡ is_some (map_both has_number l o)
+unfolding all_there map_both
+beside_there None None os is = refl
+beside_there None (Some ys) os is = refl
+beside_there (Some x) None os is = ap (λ m. is_some (option_map (λ ns. x ∷ ns) m)) is
+beside_there (Some x) (Some ys) os is = ap (λ m. is_some (option_map (λ ns. x ∷ ns) m)) is
+
+pub chosen_is : (n : Numbering) (cells : Env) (nodes mid have with_tests new : List GroundNode) (p : Place) (e f : ExprTree) (count a b t : ℕ) (ts us qs vs : List ℕ)
+    → n.count ≡ count → IsNumberOf n cells nodes mid e a → AreScalarsOf n cells nodes mid f ts → ArePartial mid n.count (needed_in n.mode (a ∷ ts)) vs
+    → ArePartial mid count ts us → IsWhole mid have us a b
+    → AreEqualities have with_tests b ts qs → IsJudged with_tests new (node.any_of qs) vs t → IsTermOf n cells nodes new (in_set p e f) t
 unfolding node_value ground.values_of equal_value
-chosen_is n cells nodes mid have with_tests new p e f count a b t ts us qs counted h own partial whole tests put = record {
-  grows = grows_on nodes mid new h.grows (grows_on mid have new whole.grows (grows_on have with_tests new tests.grows put.grows));
-  known = put.known;
-  value = λ r.
-      let os : List (Option ℤ) = map (term_value mid r.numbers) ts in
-      let w : Option ℤ = term_value have r.numbers b in
-      evaluate-in_set Mode.Relational r.values p e f
-      ∙ ap (λ l. truth_in Mode.Relational (map_both has_number l (number_in (evaluate Mode.Relational r.values e)))) (sym (own.scalars r))
-      ∙ ap (λ o. truth_in Mode.Relational (map_both has_number (all_there os) o)) (sym (h.number r))
-      ∙ any_equal (term_value mid r.numbers a) w (all_there os) (numbers_at mid r.numbers us) os refl (partial.values r.numbers (subst (λ k. k ≤ length r.numbers) counted r.reads.long)) (whole.value r.numbers)
-      ∙ ap (λ l. option_map single (truth (option_map any_one (all_there l))))
-      (mapped_twice (equal_value w) (term_value mid r.numbers) ts
-      ∙ sym (tests.values r.numbers ∙ kept r.numbers w ts (values_kept mid have r.numbers ts whole.grows own.known))
-      ∙ sym (values_kept with_tests new r.numbers qs put.grows tests.known))
-      ∙ ap (option_map single) (sym (put.value r.numbers));
-}
+chosen_is n cells nodes mid have with_tests new p e f count a b t ts us qs vs counted h own needed partial whole tests judged =
+    let g : Grows mid judged.between = grows_on mid have judged.between whole.grows (grows_on have with_tests judged.between tests.grows judged.puts.grows) in
+    let j : IsJudged mid new (node.any_of qs) vs t = record {
+      between = judged.between;
+      own = judged.own;
+      puts = record { grows = g; known = judged.puts.known; value = judged.puts.value };
+      whole = judged.whole;
+    } in
+    truth_told n cells nodes mid new (in_set p e f) (a ∷ ts) vs t (node.any_of qs)
+    (λ r. map_both has_number (scalars_in (evaluate n.mode r.values f)) (number_in (evaluate n.mode r.values e))) h.grows needed j
+    (λ r. evaluate-in_set n.mode r.values p e f)
+    (λ r.
+    let os : List (Option ℤ) = map (term_value mid r.numbers) ts in
+    let w : Option ℤ = term_value have r.numbers b in
+    told_both n.mode (map_both has_number (scalars_in (evaluate n.mode r.values f)) (number_in (evaluate n.mode r.values e))) (term_value judged.between r.numbers judged.own)
+    (judged.puts.value r.numbers
+    ∙ ap (λ l. truth (option_map any_one (all_there l)))
+    (values_kept with_tests judged.between r.numbers qs judged.puts.grows tests.known ∙ tests.values r.numbers ∙ kept r.numbers w ts (values_kept mid have r.numbers ts whole.grows own.known)
+    ∙ sym (mapped_twice (equal_value w) (term_value mid r.numbers) ts))
+    ∙ any_equal (term_value mid r.numbers a) w (all_there os) (numbers_at mid r.numbers us) os refl (partial.values r.numbers (subst (λ k. k ≤ length r.numbers) counted r.reads.long)) (whole.value r.numbers)
+    ∙ ap (λ l. truth (map_both has_number l (term_value mid r.numbers a))) (own.scalars r)
+    ∙ ap (λ o. truth (map_both has_number (scalars_in (evaluate n.mode r.values f)) o)) (h.number r)))
+    (λ r. beside_there (term_value mid r.numbers a) (all_there (map (term_value mid r.numbers) ts)) (map (term_value mid r.numbers) ts) refl
+    ∙ ap (λ l. is_some (map_both has_number l (term_value mid r.numbers a))) (own.scalars r)
+    ∙ ap (λ o. is_some (map_both has_number (scalars_in (evaluate n.mode r.values f)) o)) (h.number r))
   where
     kept : (numbers : List ℤ) (w : Option ℤ) (xs : List ℕ) → map (term_value have numbers) xs ≡ map (term_value mid numbers) xs
         → map (λ x. equal_value w (term_value have numbers x)) xs ≡ map (λ x. equal_value w (term_value mid numbers x)) xs

@@ -1,14 +1,12 @@
 -- Places for the indices of a read, one after another, and reads that choose.
 use Rattle.std.proofs.Common.{◌≡◌, ℕ, zero, suc, ◌+◌, ◌<◌, ◌≤◌, ℤ, List, [], ◌∷◌, ◌++◌, length, drop, get_or, Some, None, refl, sym, ap, subst, ◌∙◌, arith, append_assoc}
-use Rattle.std.specs.Prelude.{IfOk, Option, Result, Ok, Err, map, option_and_then, option_map, if◌then◌else◌}
+use Rattle.std.specs.Prelude.{IfOk, Option, Result, Ok, Err, map, option_and_then, option_map}
 use Rattle.std.specs.List.{All}
 use Rattle.std.proofs.lemmas.List.{append-nil, at_drop_all, at_drop_more, map-append}
 use Rattle.std.proofs.lemmas.List.Elements.{All-append, All-push}
 use Rattle.ep_base.specs.Reads.{all_there}
 use Rattle.ep_base.specs.declared.places.Place.{Place}
-use Rattle.ep_ground.specs.Nodes as node
 use Rattle.ep_ground.specs.Nodes.{GroundNode}
-use Rattle.ep_ground.specs.Terms as ground
 use Rattle.ep_ground.specs.Terms.{term_value}
 use Rattle.ep_tree.proofs.EvaluationEquations.{evaluate-read}
 use Rattle.ep_tree.specs.Environments.{Env}
@@ -23,6 +21,7 @@ use Rattle.ep_unroll.proofs.FormValues.{grown_value, grows_long, grows_on}
 use Rattle.ep_unroll.proofs.FreeValues.{type_kept}
 use Rattle.ep_unroll.proofs.MeaningSteps.{grows_none}
 use Rattle.ep_unroll.proofs.PartSteps.{index_cut}
+use Rattle.ep_unroll.proofs.TruthSteps.{length_mapped, there_length}
 use Rattle.ep_unroll.specs.Blocks.{one_index}
 use Rattle.ep_unroll.specs.Growing.{Grows}
 use Rattle.ep_unroll.specs.Meanings.{AreTerms, IsNumberOf, Means, worth}
@@ -34,13 +33,13 @@ use Rattle.ep_unroll.specs.declared.unrolled.Unrolled.{Unrolled}
 
 -- ---- indices as a list of places
 
-pub indices_listed : (env : Env) (xs : List (Option Expr)) → index_list Mode.Relational env (indices_of xs) ≡ all_defined (map (one_index env) xs)
+pub indices_listed : (mode : Mode) (env : Env) (xs : List (Option Expr)) → index_list mode env (indices_of xs) ≡ all_defined (map (one_index mode env) xs)
 unfolding indices_of index_list all_defined map_both
-indices_listed env [] = refl
-indices_listed env (x ∷ xs) =
-    index_cut env x xs ∙ ap (map_both (λ i is. i ∷ is) (one_index env x)) (indices_listed env xs) ∙ by (one_index env x) (all_defined (map (one_index env) xs)) refl
+indices_listed mode env [] = refl
+indices_listed mode env (x ∷ xs) =
+    index_cut mode env x xs ∙ ap (map_both (λ i is. i ∷ is) (one_index mode env x)) (indices_listed mode env xs) ∙ by (one_index mode env x) (all_defined (map (one_index mode env) xs)) refl
   where
-    by : (o : Option Index) (os : Option (List Index)) → os ≡ all_defined (map (one_index env) xs) → map_both (λ i is. i ∷ is) o os ≡ all_defined (o ∷ map (one_index env) xs)
+    by : (o : Option Index) (os : Option (List Index)) → os ≡ all_defined (map (one_index mode env) xs) → map_both (λ i is. i ∷ is) o os ≡ all_defined (o ∷ map (one_index mode env) xs)
     by None os h = refl
     by (Some i) os h = ap (option_map (λ is. i ∷ is)) h
 
@@ -66,13 +65,13 @@ slots_kept mid new numbers (s ∷ ss) g known =
 pub record SlotsSoFar (n : Numbering) (env : Env) (old new : List GroundNode) (all : List (Option Expr)) (k : ℕ) (ss : List Slot) : Type 0 where
   pub grows : Grows old new
   pub known : All (IsSlot (length new)) ss
-  pub values : (r : Reading n env) → map (slot_index new r.numbers) ss ++ map (one_index r.values) (drop k all) ≡ map (one_index r.values) all
+  pub values : (r : Reading n env) → map (slot_index new r.numbers) ss ++ map (one_index n.mode r.values) (drop k all) ≡ map (one_index n.mode r.values) all
 
 pub slots_begin : (n : Numbering) (env : Env) (old : List GroundNode) (all : List (Option Expr)) (ss : List Slot) → ss ≡ [] → SlotsSoFar n env old old all 0 ss
 slots_begin n env old all ss none = record {
   grows = grows_none old old refl;
   known = subst (All (IsSlot (length old))) (sym none) (λ k d less. absurd (no_less k less));
-  values = λ r. ap (λ ts. map (slot_index old r.numbers) ts ++ map (one_index r.values) all) none;
+  values = λ r. ap (λ ts. map (slot_index old r.numbers) ts ++ map (one_index n.mode r.values) all) none;
 }
   where
     no_less : (k : ℕ) → k < 0 → ⊥
@@ -85,7 +84,7 @@ slots_more n env old mid new all k x d s ss more h same so one pushed = record {
   known = subst (All (IsSlot (length new))) (sym pushed)
       (All-push (IsSlot (length new)) ss s (λ j e less. slot_grown mid new _ one.grows (so.known j e less)) one.known);
   values = λ r.
-      let f : (Option Expr → Option Index) = one_index r.values in
+      let f : (Option Expr → Option Index) = one_index n.mode r.values in
       let g : (Slot → Option Index) = slot_index new r.numbers in
       let rest : List (Option Index) = map f (drop (k + 1) all) in
       ap (λ ts. map g ts ++ rest) pushed
@@ -102,7 +101,7 @@ slots_all n env old new all k ss h so = record {
   known = so.known;
   values = λ r.
       sym (append-nil (map (slot_index new r.numbers) ss))
-      ∙ ap (λ os. map (slot_index new r.numbers) ss ++ os) (sym (at_drop_all (map (one_index r.values)) all k h))
+      ∙ ap (λ os. map (slot_index new r.numbers) ss ++ os) (sym (at_drop_all (map (one_index n.mode r.values)) all k h))
       ∙ so.values r;
 }
 
@@ -113,9 +112,9 @@ none_within (None ∷ xs) ys = refl
 none_within (Some x ∷ xs) ys = ap (option_map (λ zs. x ∷ zs)) (none_within xs ys)
 
 pub slots_none : (n : Numbering) (env : Env) (old new : List GroundNode) (all : List (Option Expr)) (k : ℕ) (x d : Option Expr) (ss : List Slot) → k < length all → x ≡ get_or all k d
-    → SlotsSoFar n env old new all k ss → (r : Reading n env) → one_index r.values x ≡ None → all_defined (map (one_index r.values) all) ≡ None
+    → SlotsSoFar n env old new all k ss → (r : Reading n env) → one_index n.mode r.values x ≡ None → all_defined (map (one_index n.mode r.values) all) ≡ None
 slots_none n env old new all k x d ss h same so r none =
-    let f : (Option Expr → Option Index) = one_index r.values in
+    let f : (Option Expr → Option Index) = one_index n.mode r.values in
     ap all_defined (sym (so.values r)
     ∙ ap (λ os. map (slot_index new r.numbers) ss ++ os) (at_drop_more (map f) all k d h)
     ∙ ap (λ o. map (slot_index new r.numbers) ss ++ o ∷ map f (drop (k + 1) all)) (ap f (sym same) ∙ none))
@@ -127,18 +126,18 @@ unfolding IsSlot slot_index one_index
 open_slot n env old new e index t is h = record {
   grows = h.grows;
   known = h.known;
-  value = λ r. ap (option_map at_index) (h.number r) ∙ ap (one_index r.values) (sym is);
+  value = λ r. ap (option_map at_index) (h.number r) ∙ ap (one_index n.mode r.values) (sym is);
 }
 
 pub every_slot : (n : Numbering) (env : Env) (old : List GroundNode) (index : Option Expr) → index ≡ None → IsSlotOf n env old old index Every
 unfolding IsSlot slot_index one_index
-every_slot n env old index is = record { grows = grows_none old old refl; known = tt; value = λ r. ap (one_index r.values) (sym is) }
+every_slot n env old index is = record { grows = grows_none old old refl; known = tt; value = λ r. ap (one_index n.mode r.values) (sym is) }
 
-pub at_slot : (n : Numbering) (env : Env) (old : List GroundNode) (e : Expr) (i : ℤ) → ((r : Reading n env) → number_in (evaluate Mode.Relational r.values (expr_tree e)) ≡ Some i) → IsSlotOf n env old old (Some e) (At i)
+pub at_slot : (n : Numbering) (env : Env) (old : List GroundNode) (e : Expr) (i : ℤ) → ((r : Reading n env) → number_in (evaluate n.mode r.values (expr_tree e)) ≡ Some i) → IsSlotOf n env old old (Some e) (At i)
 unfolding IsSlot slot_index one_index
 at_slot n env old e i h = record { grows = grows_none old old refl; known = tt; value = λ r. ap (option_map at_index) (sym (h r)) }
 
-pub no_slot : (n : Numbering) (env : Env) (old : List GroundNode) (e : Expr) → ((r : Reading n env) → number_in (evaluate Mode.Relational r.values (expr_tree e)) ≡ None) → SlotMeans n env old old (Some e) None
+pub no_slot : (n : Numbering) (env : Env) (old : List GroundNode) (e : Expr) → ((r : Reading n env) → number_in (evaluate n.mode r.values (expr_tree e)) ≡ None) → SlotMeans n env old old (Some e) None
 unfolding SlotMeans one_index
 no_slot n env old e h = (grows_none old old refl, λ r. ap (option_map at_index) (h r))
 
@@ -184,26 +183,6 @@ slots_filled nodes numbers (Open t ∷ ss) = by (term_value nodes numbers t) (al
     by (Some j) None h = ap (option_map (λ is. at_index j ∷ is)) h
     by (Some j) (Some js) h = ap (option_map (λ is. at_index j ∷ is)) h
 
-there_length : (os : List (Option ℤ)) (js : List ℤ) → all_there os ≡ Some js → length js ≡ length os
-unfolding all_there
-there_length [] js e = ap length (some_is (sym e))
-  where
-    some_is : {A : Type 0} {x y : A} → Some x ≡ Some y → x ≡ y
-    some_is h = cc
-there_length (None ∷ os) js e = absurd cc
-there_length (Some x ∷ os) js e = by (all_there os) refl e (λ ks same. there_length os ks same)
-  where
-    some_is : {A : Type 0} {x y : A} → Some x ≡ Some y → x ≡ y
-    some_is h = cc
-
-    by : (o : Option (List ℤ)) → all_there os ≡ o → option_map (λ ns. x ∷ ns) o ≡ Some js → ((ks : List ℤ) → all_there os ≡ Some ks → length ks ≡ length os) → length js ≡ suc (length os)
-    by None same h below = absurd cc
-    by (Some ks) same h below = ap length (some_is (sym h)) ∙ ap suc (below ks same)
-
-length_mapped : {A B : Type 0} (f : A → B) (xs : List A) → length (map f xs) ≡ length xs
-length_mapped f [] = refl
-length_mapped f (x ∷ xs) = ap suc (length_mapped f xs)
-
 pub all_some : (xs : List ℤ) → all_there (map Some xs) ≡ Some xs
 unfolding all_there
 all_some [] = refl
@@ -231,44 +210,44 @@ opens_known count (Open t ∷ ss) known =
 -- what a read gives, by the numbers of its terms
 pub read_is : (n : Numbering) (env : Env) (r : Reading n env) (nodes mid new : List GroundNode) (p : Place) (m e : ExprTree) (indices : List (Option Expr)) (ss : List Slot) (look : List ℤ → Option ℤ) (ty : ValueType)
     → AreSlotsOf n env nodes mid indices ss → Grows mid new → e ≡ read p m (indices_of indices) → ty ≡ type_in env e
-    → ((js : List ℤ) → length js ≡ length (open_terms ss) → option_and_then (read_value (filled_in ss js)) (evaluate Mode.Relational r.values m) ≡ option_map single (look js))
-    → evaluate Mode.Relational r.values e
-    ≡ read_result Mode.Relational ty (option_and_then (λ js. option_map single (look js)) (all_there (map (term_value new r.numbers) (open_terms ss))))
+    → ((js : List ℤ) → length js ≡ length (open_terms ss) → option_and_then (read_value (filled_in ss js)) (evaluate n.mode r.values m) ≡ option_map single (look js))
+    → evaluate n.mode r.values e
+    ≡ read_result n.mode ty (option_and_then (λ js. option_map single (look js)) (all_there (map (term_value new r.numbers) (open_terms ss))))
 unfolding on_both
 read_is n env r nodes mid new p m e indices ss look ty slots grows tree typed found =
-    let value : Option ValueTree = evaluate Mode.Relational r.values m in
+    let value : Option ValueTree = evaluate n.mode r.values m in
     let opens : Option (List ℤ) = all_there (map (term_value new r.numbers) (open_terms ss)) in
-    ap (evaluate Mode.Relational r.values) tree ∙ evaluate-read Mode.Relational r.values p m (indices_of indices)
-    ∙ ap (λ t. read_result Mode.Relational t (on_both (index_list Mode.Relational r.values (indices_of indices)) value read_value))
+    ap (evaluate n.mode r.values) tree ∙ evaluate-read n.mode r.values p m (indices_of indices)
+    ∙ ap (λ t. read_result n.mode t (on_both (index_list n.mode r.values (indices_of indices)) value read_value))
     (ap (type_in r.values) (sym tree) ∙ sym (typed ∙ type_kept env r.values e r.reads.agree))
-    ∙ ap (λ o. read_result Mode.Relational ty (on_both o value read_value))
-    (indices_listed r.values indices ∙ ap all_defined (sym (slots.values r) ∙ sym (slots_kept mid new r.numbers ss grows slots.known)) ∙ slots_filled new r.numbers ss)
-    ∙ ap (read_result Mode.Relational ty) (by opens refl)
+    ∙ ap (λ o. read_result n.mode ty (on_both o value read_value))
+    (indices_listed n.mode r.values indices ∙ ap all_defined (sym (slots.values r) ∙ sym (slots_kept mid new r.numbers ss grows slots.known)) ∙ slots_filled new r.numbers ss)
+    ∙ ap (read_result n.mode ty) (by opens refl)
   where
     by : (o : Option (List ℤ)) → all_there (map (term_value new r.numbers) (open_terms ss)) ≡ o
-        → on_both (option_map (filled_in ss) o) (evaluate Mode.Relational r.values m) read_value ≡ option_and_then (λ js. option_map single (look js)) o
+        → on_both (option_map (filled_in ss) o) (evaluate n.mode r.values m) read_value ≡ option_and_then (λ js. option_map single (look js)) o
     by None e' = refl
     by (Some js) e' = found js (there_length (map (term_value new r.numbers) (open_terms ss)) js e' ∙ length_mapped (term_value new r.numbers) (open_terms ss))
 
 -- a read with an index that has no number
 without_means : (n : Numbering) (env : Env) (nodes mid : List GroundNode) (p : Place) (m e : ExprTree) (indices : List (Option Expr)) (ty : ValueType) (x : Unrolled)
-    → e ≡ read p m (indices_of indices) → ty ≡ type_in env e → Grows nodes mid → ((r : Reading n env) → all_defined (map (one_index r.values) indices) ≡ None)
-    → ((numbers : List ℤ) → worth mid numbers x ≡ read_result Mode.Relational ty None) → AreTerms (length mid) x → Means n env nodes mid e x
+    → e ≡ read p m (indices_of indices) → ty ≡ type_in env e → Grows nodes mid → ((r : Reading n env) → all_defined (map (one_index n.mode r.values) indices) ≡ None)
+    → ((numbers : List ℤ) → worth mid numbers x ≡ read_result n.mode ty None) → AreTerms (length mid) x → Means n env nodes mid e x
 unfolding on_both
 without_means n env nodes mid p m e indices ty x tree typed grows none is known = record {
   grows = grows;
   known = known;
   value = λ r.
       is r.numbers
-      ∙ ap (λ t. read_result Mode.Relational t None) (typed ∙ type_kept env r.values e r.reads.agree ∙ ap (type_in r.values) tree)
-      ∙ ap (λ o. read_result Mode.Relational (type_in r.values (read p m (indices_of indices))) (on_both o (evaluate Mode.Relational r.values m) read_value))
-      (sym (indices_listed r.values indices ∙ none r))
-      ∙ sym (ap (evaluate Mode.Relational r.values) tree ∙ evaluate-read Mode.Relational r.values p m (indices_of indices));
+      ∙ ap (λ t. read_result n.mode t None) (typed ∙ type_kept env r.values e r.reads.agree ∙ ap (type_in r.values) tree)
+      ∙ ap (λ o. read_result n.mode (type_in r.values (read p m (indices_of indices))) (on_both o (evaluate n.mode r.values m) read_value))
+      (sym (indices_listed n.mode r.values indices ∙ none r))
+      ∙ sym (ap (evaluate n.mode r.values) tree ∙ evaluate-read n.mode r.values p m (indices_of indices));
 }
 
 pub without_done : {E : Type 0} (n : Numbering) (env : Env) (nodes mid : List GroundNode) (p : Place) (m e : ExprTree) (indices : List (Option Expr)) (ty : ValueType) (result : Result Unrolled E)
-    → e ≡ read p m (indices_of indices) → ty ≡ type_in env e → Grows nodes mid → ((r : Reading n env) → all_defined (map (one_index r.values) indices) ≡ None)
-    → ((numbers : List ℤ) → IfOk result (λ x. worth mid numbers x ≡ read_result Mode.Relational ty None)) → IfOk result (AreTerms (length mid)) → IfOk result (Means n env nodes mid e)
+    → e ≡ read p m (indices_of indices) → ty ≡ type_in env e → Grows nodes mid → ((r : Reading n env) → all_defined (map (one_index n.mode r.values) indices) ≡ None)
+    → ((numbers : List ℤ) → IfOk result (λ x. worth mid numbers x ≡ read_result n.mode ty None)) → IfOk result (AreTerms (length mid)) → IfOk result (Means n env nodes mid e)
 without_done n env nodes mid p m e indices ty (Ok x) tree typed grows none is known = without_means n env nodes mid p m e indices ty x tree typed grows none is known
 without_done n env nodes mid p m e indices ty (Err f) tree typed grows none is known = tt
 

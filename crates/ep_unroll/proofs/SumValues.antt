@@ -1,9 +1,9 @@
 -- The terms of chains of sums and of quantifiers.
-use Rattle.std.proofs.Common.{◌≡◌, ℕ, suc, ◌+◌, ◌<◌, Bool, true, false, ℤ, pos, negsuc, List, [], ◌∷◌, ◌++◌, length, Some, None, refl, sym, ap, subst, ◌∙◌, arith}
-use Rattle.std.specs.Prelude.{Option, map, ◌*ℤ◌, ◌+ℤ◌, neg_ℤ, option_map, option_and_then}
+use Rattle.std.proofs.Common.{◌≡◌, ℕ, suc, ◌<◌, Bool, ℤ, pos, List, [], ◌∷◌, length, Some, None, refl, sym, ap, ◌∙◌, arith}
+use Rattle.std.specs.Prelude.{Option, is_some, map, ◌*ℤ◌, ◌+ℤ◌, option_map, option_and_then}
 use Rattle.std.specs.List.{All}
 use Rattle.std.proofs.lemmas.Int.{ints}
-use Rattle.ep_base.specs.Numbers.{all_one, any_one, of_bool, sum_of}
+use Rattle.ep_base.specs.Numbers.{all_one, any_one, sum_of}
 use Rattle.ep_base.specs.Reads.{all_there, weighted_sum}
 use Rattle.ep_base.specs.declared.names.Name.{Name}
 use Rattle.ep_base.specs.declared.places.Place.{Place}
@@ -12,9 +12,9 @@ use Rattle.ep_ground.specs.Nodes.{GroundNode}
 use Rattle.ep_ground.specs.Terms as ground
 use Rattle.ep_ground.specs.Terms.{node_value, term_value, weighed, truth as ground_truth}
 use Rattle.ep_tree.proofs.EvaluationEquations.{evaluate-chain}
-use Rattle.ep_tree.specs.Environments.{Env, scalar_in, with_number}
-use Rattle.ep_tree.specs.Evaluation.{all_numbers, all_true, any_true, domain_values, evaluate, number_in, number_value, quantified_value, term_values, truth_in, undefined_truth}
-use Rattle.ep_tree.specs.Trees.{ExprTree, Terms, chain}
+use Rattle.ep_tree.specs.Environments.{Env}
+use Rattle.ep_tree.specs.Evaluation.{all_numbers, all_true, any_true, domain_values, number_in, number_value, quantified_value, truth_in, undefined_truth}
+use Rattle.ep_tree.specs.Trees.{Terms, chain}
 use Rattle.ep_tree.specs.Values.{ValueTree, all_defined, single}
 use Rattle.ep_tree.specs.Views.{domain_tree, expr_tree}
 use Rattle.ep_tree.specs.declared.syntax.QuantOp.{QuantOp}
@@ -22,11 +22,16 @@ use Rattle.ep_tree.specs.declared.values.Mode.{Mode}
 use Rattle.ep_eval.proofs.Instances.{quantified_none, quantified_some}
 use Rattle.ep_eval.specs.Instances.{instance_value, quantified_tree}
 use Rattle.ep_eval.specs.declared.gathering.Quantifier.{Quantifier}
-use Rattle.ep_unroll.proofs.FormValues.{grows_long, grows_on, grown_value, there_defined}
+use Rattle.ep_unroll.proofs.FormValues.{grows_on, grown_value, there_defined, truth_told, untold_is}
+use Rattle.ep_unroll.proofs.MeaningSteps.{grows_none}
+use Rattle.ep_unroll.proofs.TruthSteps.{list_there, told_both}
 use Rattle.ep_unroll.specs.Growing.{Grows, Puts}
 use Rattle.ep_unroll.specs.Meanings.{AreInstancesOf, IsTermOf}
+use Rattle.ep_unroll.specs.Needs.{ArePartial}
+use Rattle.ep_unroll.specs.Numbers.{HasNumber}
 use Rattle.ep_unroll.specs.Readings.{Numbering, Reading}
 use Rattle.ep_unroll.specs.Signed.{AreSigned}
+use Rattle.ep_unroll.specs.Truths.{IsJudged, needed_in}
 
 -- a sum is the sum of its parts, each multiplied by its coefficient
 pub weighed_sum : (value : ℕ → Option ℤ) (ps : List (ℤ × ℕ))
@@ -78,7 +83,7 @@ chain_is n cells nodes mid new p terms ps t h put = record {
   grows = grows_on nodes mid new h.grows put.grows;
   known = put.known;
   value = λ r.
-      evaluate-chain Mode.Relational r.values p terms
+      evaluate-chain n.mode r.values p terms
       ∙ ap (λ os. number_value (option_map sum_of (all_defined os))) (sym (parts_grown mid new r.numbers ps put.grows h.known ∙ h.numbers r))
       ∙ ap (option_map single) (sym (put.value r.numbers ∙ sum_value r.numbers (term_value new r.numbers) ps));
 }
@@ -100,45 +105,63 @@ maps_twice f g (x ∷ xs) = ap (λ ys. f (g x) ∷ ys) (maps_twice f g xs)
 -- what the instances of a quantifier make of its node
 quantified_is : (n : Numbering) (cells : Env) (nodes mid new : List GroundNode) (p : Place) (q : Quantifier) (op : QuantOp) (name : Name) (rest : List Name) (ns : List ℤ) (ts : List ℕ) (t : ℕ) (own : GroundNode)
     (whole : List (Option ℤ) → Option ℤ)
-    → q.op ≡ op → ((vs : List (Option ValueTree)) → quantified_value Mode.Relational op (Some vs) ≡ option_map single (whole (map number_in vs)))
+    → q.op ≡ op → ((vs : List (Option ValueTree)) → quantified_value n.mode op (Some vs) ≡ option_map single (whole (map number_in vs)))
     → ((numbers : List ℤ) (value : ℕ → Option ℤ) → node_value numbers value own ≡ whole (map value ts))
-    → ((r : Reading n cells) → domain_values Mode.Relational r.values (domain_tree q.domain.now) ≡ Some ns)
+    → ((r : Reading n cells) → domain_values n.mode r.values (domain_tree q.domain.now) ≡ Some ns)
     → AreInstancesOf n cells nodes mid p q name rest ns ts → Puts mid new own t → IsTermOf n cells nodes new (quantified_tree p q (name ∷ rest)) t
 quantified_is n cells nodes mid new p q op name rest ns ts t own whole is one other domain h put = record {
   grows = grows_on nodes mid new h.grows put.grows;
   known = put.known;
   value = λ r.
-      quantified_some Mode.Relational r.values p q.op name rest (domain_tree q.domain.now) (expr_tree q.body.now) ns (domain r)
-      ∙ ap (λ o. quantified_value Mode.Relational o (Some (map (instance_value Mode.Relational r.values p q name rest) ns))) is
-      ∙ one (map (instance_value Mode.Relational r.values p q name rest) ns)
+      quantified_some n.mode r.values p q.op name rest (domain_tree q.domain.now) (expr_tree q.body.now) ns (domain r)
+      ∙ ap (λ o. quantified_value n.mode o (Some (map (instance_value n.mode r.values p q name rest) ns))) is
+      ∙ one (map (instance_value n.mode r.values p q name rest) ns)
       ∙ ap (λ os. option_map single (whole os))
-      (maps_twice number_in (instance_value Mode.Relational r.values p q name rest) ns
+      (maps_twice number_in (instance_value n.mode r.values p q name rest) ns
       ∙ sym (instances_grown mid new r.numbers ts put.grows h.known ∙ h.numbers r))
       ∙ ap (option_map single) (sym (put.value r.numbers ∙ other r.numbers (term_value new r.numbers)));
 }
 
-truths_same : (k : List ℤ → Bool) (o : Option (List ℤ)) → truth_in Mode.Relational (option_map k o) ≡ option_map single (ground_truth (option_map k o))
-unfolding undefined_truth truth_in ground_truth
-truths_same k None = refl
-truths_same k (Some xs) = refl
+-- what the instances of a quantifier make of its truth value
+quantified_truth : (n : Numbering) (cells : Env) (nodes mid new : List GroundNode) (p : Place) (q : Quantifier) (op : QuantOp) (name : Name) (rest : List Name) (ns : List ℤ) (ts us : List ℕ) (t : ℕ) (own : GroundNode)
+    (k : List ℤ → Bool)
+    → q.op ≡ op → ((vs : List (Option ValueTree)) → quantified_value n.mode op (Some vs) ≡ truth_in n.mode (option_map k (all_numbers vs)))
+    → ((numbers : List ℤ) (value : ℕ → Option ℤ) → node_value numbers value own ≡ ground_truth (option_map k (all_there (map value ts))))
+    → ((r : Reading n cells) → domain_values n.mode r.values (domain_tree q.domain.now) ≡ Some ns)
+    → AreInstancesOf n cells nodes mid p q name rest ns ts → ArePartial mid n.count (needed_in n.mode ts) us → IsJudged mid new own us t
+    → IsTermOf n cells nodes new (quantified_tree p q (name ∷ rest)) t
+quantified_truth n cells nodes mid new p q op name rest ns ts us t own k is one other domain h needed j =
+    truth_told n cells nodes mid new (quantified_tree p q (name ∷ rest)) ts us t own (λ r. option_map k (all_numbers (instances r))) h.grows needed j
+    (λ r. quantified_some n.mode r.values p q.op name rest (domain_tree q.domain.now) (expr_tree q.body.now) ns (domain r)
+    ∙ ap (λ o. quantified_value n.mode o (Some (instances r))) is ∙ one (instances r))
+    (λ r. told_both n.mode (option_map k (all_numbers (instances r))) (term_value j.between r.numbers j.own)
+    (j.puts.value r.numbers ∙ other r.numbers (term_value j.between r.numbers)
+    ∙ ap (λ os. ground_truth (option_map k (all_there os))) (instances_grown mid j.between r.numbers ts j.puts.grows h.known)
+    ∙ ap (λ o. ground_truth (option_map k o)) (numbers_there r)))
+    (λ r. ap is_some (numbers_there r) ∙ list_there k (all_numbers (instances r)))
+  where
+    instances : (r : Reading n cells) → List (Option ValueTree)
+    instances r = map (instance_value n.mode r.values p q name rest) ns
 
-pub for_all_is : (n : Numbering) (cells : Env) (nodes mid new : List GroundNode) (p : Place) (q : Quantifier) (name : Name) (rest : List Name) (ns : List ℤ) (ts : List ℕ) (t : ℕ)
-    → q.op ≡ QuantOp.ForAll → ((r : Reading n cells) → domain_values Mode.Relational r.values (domain_tree q.domain.now) ≡ Some ns)
-    → AreInstancesOf n cells nodes mid p q name rest ns ts → Puts mid new (node.all_of ts) t → IsTermOf n cells nodes new (quantified_tree p q (name ∷ rest)) t
+    numbers_there : (r : Reading n cells) → all_there (map (term_value mid r.numbers) ts) ≡ all_numbers (instances r)
+    numbers_there r =
+        ap all_there (h.numbers r ∙ sym (maps_twice number_in (instance_value n.mode r.values p q name rest) ns)) ∙ there_defined (map number_in (instances r))
+
+pub for_all_is : (n : Numbering) (cells : Env) (nodes mid new : List GroundNode) (p : Place) (q : Quantifier) (name : Name) (rest : List Name) (ns : List ℤ) (ts us : List ℕ) (t : ℕ)
+    → q.op ≡ QuantOp.ForAll → ((r : Reading n cells) → domain_values n.mode r.values (domain_tree q.domain.now) ≡ Some ns)
+    → AreInstancesOf n cells nodes mid p q name rest ns ts → ArePartial mid n.count (needed_in n.mode ts) us → IsJudged mid new (node.all_of ts) us t
+    → IsTermOf n cells nodes new (quantified_tree p q (name ∷ rest)) t
 unfolding node_value ground.values_of quantified_value all_true
-for_all_is n cells nodes mid new p q name rest ns ts t is =
-    quantified_is n cells nodes mid new p q QuantOp.ForAll name rest ns ts t (node.all_of ts) (λ os. ground_truth (option_map all_one (all_there os))) is
-    (λ vs. truths_same all_one (all_numbers vs) ∙ ap (λ o. option_map single (ground_truth (option_map all_one o))) (sym (there_defined (map number_in vs))))
-    (λ numbers value. refl)
+for_all_is n cells nodes mid new p q name rest ns ts us t is domain =
+    quantified_truth n cells nodes mid new p q QuantOp.ForAll name rest ns ts us t (node.all_of ts) all_one is (λ vs. refl) (λ numbers value. refl) domain
 
-pub exists_is : (n : Numbering) (cells : Env) (nodes mid new : List GroundNode) (p : Place) (q : Quantifier) (name : Name) (rest : List Name) (ns : List ℤ) (ts : List ℕ) (t : ℕ)
-    → q.op ≡ QuantOp.Exists → ((r : Reading n cells) → domain_values Mode.Relational r.values (domain_tree q.domain.now) ≡ Some ns)
-    → AreInstancesOf n cells nodes mid p q name rest ns ts → Puts mid new (node.any_of ts) t → IsTermOf n cells nodes new (quantified_tree p q (name ∷ rest)) t
+pub exists_is : (n : Numbering) (cells : Env) (nodes mid new : List GroundNode) (p : Place) (q : Quantifier) (name : Name) (rest : List Name) (ns : List ℤ) (ts us : List ℕ) (t : ℕ)
+    → q.op ≡ QuantOp.Exists → ((r : Reading n cells) → domain_values n.mode r.values (domain_tree q.domain.now) ≡ Some ns)
+    → AreInstancesOf n cells nodes mid p q name rest ns ts → ArePartial mid n.count (needed_in n.mode ts) us → IsJudged mid new (node.any_of ts) us t
+    → IsTermOf n cells nodes new (quantified_tree p q (name ∷ rest)) t
 unfolding node_value ground.values_of quantified_value any_true
-exists_is n cells nodes mid new p q name rest ns ts t is =
-    quantified_is n cells nodes mid new p q QuantOp.Exists name rest ns ts t (node.any_of ts) (λ os. ground_truth (option_map any_one (all_there os))) is
-    (λ vs. truths_same any_one (all_numbers vs) ∙ ap (λ o. option_map single (ground_truth (option_map any_one o))) (sym (there_defined (map number_in vs))))
-    (λ numbers value. refl)
+exists_is n cells nodes mid new p q name rest ns ts us t is domain =
+    quantified_truth n cells nodes mid new p q QuantOp.Exists name rest ns ts us t (node.any_of ts) any_one is (λ vs. refl) (λ numbers value. refl) domain
 
 pub ones_same : (value : ℕ → Option ℤ) (ts : List ℕ)
     → map (λ part. option_map (λ x. part.0 *ℤ x) (value part.1)) (map {B = ℤ × ℕ} (λ t. (pos 1, t)) ts) ≡ map value ts
@@ -155,7 +178,7 @@ ones_same value (t ∷ ts) =
     once (Some x) = ap Some (one_times x)
 
 pub total_is : (n : Numbering) (cells : Env) (nodes mid new : List GroundNode) (p : Place) (q : Quantifier) (name : Name) (rest : List Name) (ns : List ℤ) (ts : List ℕ) (t : ℕ)
-    → q.op ≡ QuantOp.Sum → ((r : Reading n cells) → domain_values Mode.Relational r.values (domain_tree q.domain.now) ≡ Some ns)
+    → q.op ≡ QuantOp.Sum → ((r : Reading n cells) → domain_values n.mode r.values (domain_tree q.domain.now) ≡ Some ns)
     → AreInstancesOf n cells nodes mid p q name rest ns ts → Puts mid new (node.sum (pos 0) (map {B = ℤ × ℕ} (λ u. (pos 1, u)) ts)) t
     → IsTermOf n cells nodes new (quantified_tree p q (name ∷ rest)) t
 unfolding quantified_value
@@ -166,14 +189,24 @@ total_is n cells nodes mid new p q name rest ns ts t is =
 
 -- a quantifier over a domain that is undefined
 pub nothing_is : (n : Numbering) (cells : Env) (old new : List GroundNode) (p : Place) (q : Quantifier) (op : QuantOp) (name : Name) (rest : List Name) (t : ℕ) (own : GroundNode) (o : Option ℤ)
-    → q.op ≡ op → quantified_value Mode.Relational op None ≡ option_map single o → ((numbers : List ℤ) (value : ℕ → Option ℤ) → node_value numbers value own ≡ o)
-    → ((r : Reading n cells) → domain_values Mode.Relational r.values (domain_tree q.domain.now) ≡ None)
+    → q.op ≡ op → quantified_value n.mode op None ≡ option_map single o → ((numbers : List ℤ) (value : ℕ → Option ℤ) → node_value numbers value own ≡ o)
+    → ((r : Reading n cells) → domain_values n.mode r.values (domain_tree q.domain.now) ≡ None)
     → Puts old new own t → IsTermOf n cells old new (quantified_tree p q (name ∷ rest)) t
 nothing_is n cells old new p q op name rest t own o is one other domain put = record {
   grows = put.grows;
   known = put.known;
   value = λ r.
-      quantified_none Mode.Relational r.values p q.op name rest (domain_tree q.domain.now) (expr_tree q.body.now) (domain r)
-      ∙ ap (λ k. quantified_value Mode.Relational k None) is ∙ one
+      quantified_none n.mode r.values p q.op name rest (domain_tree q.domain.now) (expr_tree q.body.now) (domain r)
+      ∙ ap (λ k. quantified_value n.mode k None) is ∙ one
       ∙ ap (option_map single) (sym (put.value r.numbers ∙ other r.numbers (term_value new r.numbers)));
 }
+
+-- and a truth value over one
+pub nothing_told : (n : Numbering) (cells : Env) (old new : List GroundNode) (p : Place) (q : Quantifier) (op : QuantOp) (name : Name) (rest : List Name) (mode : Mode) (t : ℕ)
+    → q.op ≡ op → n.mode ≡ mode → quantified_value n.mode op None ≡ truth_in n.mode None
+    → ((r : Reading n cells) → domain_values n.mode r.values (domain_tree q.domain.now) ≡ None)
+    → HasNumber old new (λ numbers. number_in (undefined_truth mode)) t → IsTermOf n cells old new (quantified_tree p q (name ∷ rest)) t
+nothing_told n cells old new p q op name rest mode t is same one domain =
+    untold_is n cells old old new (quantified_tree p q (name ∷ rest)) mode t same (grows_none old old refl)
+    (λ r. quantified_none n.mode r.values p q.op name rest (domain_tree q.domain.now) (expr_tree q.body.now) (domain r)
+    ∙ ap (λ k. quantified_value n.mode k None) is ∙ one)

@@ -1,5 +1,5 @@
 -- Sums that are gathered, scalar by scalar.
-use Rattle.std.proofs.Common.{◌≡◌, ℕ, zero, suc, ◌+◌, ◌<◌, ◌≤◌, ℤ, pos, ◌+ℤ◌, List, [], ◌∷◌, ◌++◌, length, get_or, take, Some, None, refl, sym, ap, subst, ◌∙◌, arith}
+use Rattle.std.proofs.Common.{◌≡◌, ℕ, ◌+◌, ◌<◌, ◌≤◌, ℤ, pos, ◌+ℤ◌, List, [], ◌∷◌, ◌++◌, length, get_or, take, Some, None, refl, sym, ap, subst, ◌∙◌, arith}
 use Rattle.std.specs.Prelude.{Option, map, option_map}
 use Rattle.std.specs.List.{All}
 use Rattle.std.proofs.lemmas.Int.{ints}
@@ -15,9 +15,8 @@ use Rattle.ep_tree.proofs.EvaluationEquations.{evaluate-folded}
 use Rattle.ep_tree.specs.Environments.{Env}
 use Rattle.ep_tree.specs.Evaluation.{folded_value, number_in, scalars_in}
 use Rattle.ep_tree.specs.Trees.{ExprTree, folded}
-use Rattle.ep_tree.specs.Values.{ValueTree, single}
+use Rattle.ep_tree.specs.Values.{single}
 use Rattle.ep_tree.specs.declared.syntax.FoldOp.{FoldOp}
-use Rattle.ep_tree.specs.declared.values.Mode.{Mode}
 use Rattle.ep_unroll.proofs.FlatSteps.{flat_numbers, number_at}
 use Rattle.ep_unroll.proofs.FormSteps.{none_known}
 use Rattle.ep_unroll.proofs.FormValues.{grows_long, grows_on}
@@ -232,7 +231,7 @@ sum_is n cells nodes mid new p e x xs t h flat own = record {
   value = λ r.
       let os : List (Option ℤ) = flat.own mid r.numbers in
       let same : map (number_at mid r.numbers) xs ≡ os = flat_numbers mid r.numbers xs x _ flat in
-      evaluate-folded Mode.Relational r.values p FoldOp.Sum e
+      evaluate-folded n.mode r.values p FoldOp.Sum e
       ∙ ap (λ o. option_map single (option_map sum_of o)) (sym (flat.values mid r.numbers ∙ ap scalars_in (h.value r)))
       ∙ ap (λ l. option_map single (option_map sum_of (all_there l))) (sym same)
       ∙ ap (option_map single) (sym (own.value r.numbers));

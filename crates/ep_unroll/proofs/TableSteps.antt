@@ -1,7 +1,7 @@
 -- Where the cells of decision variables begin, and how many there are, one variable after another.
-use Rattle.std.proofs.Common.{◌≡◌, ℕ, ◌+◌, ◌*◌, ◌<◌, ◌≤◌, ℤ, List, [], ◌∷◌, ◌++◌, length, drop, get_or, Some, None, refl, sym, ap, ◌∙◌, arith}
-use Rattle.std.specs.Prelude.{Bool, Option, bytes_eq, if◌then◌else◌, map, sum_by}
-use Rattle.std.proofs.lemmas.List.{at_drop_all, at_drop_more, drop_all}
+use Rattle.std.proofs.Common.{◌≡◌, ℕ, ◌+◌, ◌*◌, ◌<◌, ◌≤◌, ℤ, List, [], ◌∷◌, ◌++◌, length, drop, get_or, Some, refl, sym, ap, ◌∙◌, arith}
+use Rattle.std.specs.Prelude.{Option, bytes_eq, if◌then◌else◌, map, sum_by}
+use Rattle.std.proofs.lemmas.List.{at_drop_all, at_drop_more}
 use Rattle.std.proofs.lemmas.List.Sums.{sum_by-cons}
 use Rattle.std.proofs.Math.Nat.{mul_assoc}
 use Rattle.std.proofs.Math.Path.{fun_ext}
@@ -10,6 +10,7 @@ use Rattle.ep_instance.specs.Instances.{find_of}
 use Rattle.ep_instance.specs.declared.instances.Find.{Find as CodeFind}
 use Rattle.ep_tree.specs.Binding.{Find}
 use Rattle.ep_tree.specs.Solutions.{cell_count}
+use Rattle.ep_tree.specs.declared.values.Mode.{Mode}
 use Rattle.ep_unroll.specs.Firsts.{first_in, first_of, numbering, numbering_of}
 use Rattle.ep_unroll.specs.declared.firsts.CellTable.{CellTable}
 use Rattle.ep_unroll.specs.declared.firsts.FirstCell.{FirstCell}
@@ -69,14 +70,14 @@ tabled_more finds i find d firsts after f count cells next h same named at over 
           omega (arith, cut, here, over, sum, was.counted);
     }
 
-pub tabled_all : (finds : List CodeFind) (i : ℕ) (t : CellTable) → length finds ≤ i → Tabled finds i t.firsts.items t.count → numbering_of t ≡ numbering (map find_of finds)
-tabled_all finds i t h was =
+pub tabled_all : (mode : Mode) (finds : List CodeFind) (i : ℕ) (t : CellTable) → length finds ≤ i → Tabled finds i t.firsts.items t.count → numbering_of mode t ≡ numbering mode (map find_of finds)
+tabled_all mode finds i t h was =
     let firsts = t.firsts.items in
     let all : (name : Name) → first_in firsts name ≡ first_of (map find_of finds) 0 name =
     λ name. sym (firsts_end firsts t.count name) ∙ sym (at_drop_all (λ gs. firsts_then firsts (map find_of gs) t.count name) finds i h) ∙ was.first name in
     let ended : sum_by (λ g. cell_count g.indices) (map find_of (drop i finds)) ≡ 0 = at_drop_all (λ gs. sum_by (λ g. cell_count g.indices) (map find_of gs)) finds i h in
     let long : t.count ≡ sum_by (λ f. cell_count f.indices) (map find_of finds) = omega (arith, ended, was.counted) in
-    ap (λ first. record { first = first; count = t.count }) (fun_ext all) ∙ ap (λ n. record { first = first_of (map find_of finds) 0; count = n }) long
+    ap (λ first. record { mode = mode; first = first; count = t.count }) (fun_ext all) ∙ ap (λ n. record { mode = mode; first = first_of (map find_of finds) 0; count = n }) long
 
 -- ---- one variable's cells
 

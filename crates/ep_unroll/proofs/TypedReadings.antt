@@ -15,7 +15,6 @@ use Rattle.ep_tree.specs.Trees.{DomainTree, ExprTree}
 use Rattle.ep_tree.specs.TypedValues.{IsOf, IsOfDims, IsTypedBound, IsTypedEnv, is_number_of}
 use Rattle.ep_tree.specs.Types.{Judged, judge, judge_domain, mistyped, of_scalar, scalar_of, type_from, typed, untyped}
 use Rattle.ep_tree.specs.Values.{ValueTree, fitted, single}
-use Rattle.ep_tree.specs.declared.values.Mode.{Mode}
 use Rattle.ep_tree.specs.declared.values.Scalar.{Scalar}
 use Rattle.ep_tree.specs.declared.values.ValueType.{ValueType}
 use Rattle.ep_unroll.specs.Readings.{Numbering, Reading}
@@ -93,14 +92,14 @@ scalar_untyped env d j h none = ap (λ k. unwrap_or (option_map scalar_of (type_
 unfoldable pub AreOfScalar : Numbering → Env → DomainTree → List ℤ → Type 0
 AreOfScalar n env d ns = Reading n env → list_all (is_number_of (scalar_in env d)) ns ≡ true
 
-pub domain_numbers : (n : Numbering) (env : Env) (d : DomainTree) (ns left : List ℤ) → domain_values Mode.Relational env d ≡ Some ns → left ≡ ns → AreOfScalar n env d left
+pub domain_numbers : (n : Numbering) (env : Env) (d : DomainTree) (ns left : List ℤ) → domain_values n.mode env d ≡ Some ns → left ≡ ns → AreOfScalar n env d left
 unfolding AreOfScalar type_from
 domain_numbers n env d ns left is same r = subst (λ l. list_all (is_number_of (scalar_in env d)) l ≡ true) (sym same) (by (judge_domain (context_of env) d) refl)
   where
     by : (j : Judged) → judge_domain (context_of env) d ≡ j → list_all (is_number_of (scalar_in env d)) ns ≡ true
     by (typed t) h =
         subst (λ s. list_all (is_number_of s) ns ≡ true) (sym (scalar_judged env d t h))
-        (domain_typed Mode.Relational env (cells_typed env r.values r.reads.agree r.reads.typed) d t h ns is)
+        (domain_typed n.mode env (cells_typed env r.values r.reads.agree r.reads.typed) d t h ns is)
     by mistyped h = subst (λ s. list_all (is_number_of s) ns ≡ true) (sym (scalar_untyped env d mistyped h refl)) (all_int ns)
     by untyped h = subst (λ s. list_all (is_number_of s) ns ≡ true) (sym (scalar_untyped env d untyped h refl)) (all_int ns)
 
@@ -146,6 +145,6 @@ bit_is x h = by (int_eq x (pos 0)) refl (int_eq x (pos 1)) refl h
     by false none false one g = absurd cc
 
 -- a truth value that is there is 0 or 1
-pub truth_is : (n : Numbering) (env : Env) (r : Reading n env) (e : ExprTree) (x : ℤ) → type_in r.values e ≡ ValueType.Bool → evaluate Mode.Relational r.values e ≡ Some (single x) → of_bool (is_one x) ≡ x
+pub truth_is : (n : Numbering) (env : Env) (r : Reading n env) (e : ExprTree) (x : ℤ) → type_in r.values e ≡ ValueType.Bool → evaluate n.mode r.values e ≡ Some (single x) → of_bool (is_one x) ≡ x
 unfolding type_in
-truth_is n env r e x ty is = bit_is x (value_typed Mode.Relational r.values r.reads.typed e ValueType.Bool (bool_judged (judge (context_of r.values) e) ty) (single x) is)
+truth_is n env r e x ty is = bit_is x (value_typed n.mode r.values r.reads.typed e ValueType.Bool (bool_judged (judge (context_of r.values) e) ty) (single x) is)

@@ -1,5 +1,5 @@
 -- Parts of values, and the numbers among which a read of one chooses.
-use Rattle.std.proofs.Common.{◌≡◌, ℕ, ℤ, List, [], ◌∷◌, ◌+◌, ◌<◌, length, drop, get_or, Some, None, refl, sym, ap, ◌∙◌}
+use Rattle.std.proofs.Common.{◌≡◌, ℕ, ℤ, List, ◌∷◌, Some, None, refl, sym, ap, ◌∙◌}
 use Rattle.std.specs.Prelude.{Option, map, option_and_then, option_map}
 use Rattle.ep_eval.proofs.Lists.{values_from-map}
 use Rattle.ep_eval.proofs.ReadSteps.{read_stated}

@@ -13,7 +13,7 @@ use Rattle.ep_tree.specs.declared.syntax.Expr.{Expr}
 use Rattle.ep_tree.specs.declared.values.Mode.{Mode}
 use Rattle.ep_unroll.specs.Meanings.{worth}
 use Rattle.ep_unroll.specs.Readings.{Numbering, Reading, cells_value}
-use Rattle.ep_unroll.specs.declared.unrolled.Unrolled.{Unrolled, Number, Cells, Fixed, Matrix', Row_of-Unrolled, end_of-Unrolled, more_of-Unrolled}
+use Rattle.ep_unroll.specs.declared.unrolled.Unrolled.{Unrolled, Number, Cells, Fixed, Matrix'}
 
 -- the first cell of the part with an index, where parts of one size stand one after another
 unfoldable pub cell_of : ℕ → ℕ → List ℤ → ℤ → Option ℕ
@@ -40,9 +40,9 @@ abbrev pub indices_in : List (Option ℤ) → List Index
 indices_in indices = map index_in indices
 
 -- an index of a read, where it is `..` or has a number
-unfoldable pub one_index : Env → Option Expr → Option Index
-one_index env None = Some any_index
-one_index env (Some e) = option_map at_index (number_in (evaluate Mode.Relational env (expr_tree e)))
+unfoldable pub one_index : Mode → Env → Option Expr → Option Index
+one_index mode env None = Some any_index
+one_index mode env (Some e) = option_map at_index (number_in (evaluate mode env (expr_tree e)))
 
 -- What was unrolled has a value, or none; cells have one.
 unfoldable pub IsWorth : List GroundNode → List ℤ → Unrolled → Option ValueTree → Type 0

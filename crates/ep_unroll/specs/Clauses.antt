@@ -8,7 +8,6 @@ use Rattle.ep_ground.specs.Terms.{term_value}
 use Rattle.ep_tree.specs.Environments.{Env}
 use Rattle.ep_tree.specs.Evaluation.{is_true_in}
 use Rattle.ep_tree.specs.Trees.{ExprTree}
-use Rattle.ep_tree.specs.declared.values.Mode.{Mode}
 use Rattle.ep_unroll.specs.Growing.{Grows}
 use Rattle.ep_unroll.specs.Meanings.{IsNumberOf}
 use Rattle.ep_unroll.specs.Readings.{Numbering, Reading}
@@ -17,14 +16,14 @@ use Rattle.ep_unroll.specs.Readings.{Numbering, Reading}
 pub record IsClause (n : Numbering) (cells : Env) (old new : List GroundNode) (e : ExprTree) (t : ℕ) : Type 0 where
   pub grows : Grows old new
   pub known : t < length new
-  pub value : (r : Reading n cells) → term_value new r.numbers t ≡ Some (of_bool (is_true_in Mode.Relational r.values e))
+  pub value : (r : Reading n cells) → term_value new r.numbers t ≡ Some (of_bool (is_true_in n.mode r.values e))
 
 -- Terms are so of clauses, one for each.
 pub record AreClauses (n : Numbering) (cells : Env) (old new : List GroundNode) (es : List ExprTree) (ts : List ℕ) : Type 0 where
   pub grows : Grows old new
   pub known : All (λ t. t < length new) ts
   pub values : (r : Reading n cells)
-      → AllZip (λ t e. term_value new r.numbers t ≡ Some (of_bool (is_true_in Mode.Relational r.values e))) ts es
+      → AllZip (λ t e. term_value new r.numbers t ≡ Some (of_bool (is_true_in n.mode r.values e))) ts es
 
 -- An objective has a term of its sense, which has its number; none has none.
 unfoldable pub IsGoal : Numbering → Env → List GroundNode → List GroundNode → Option (Sense × ExprTree) → Option (Sense × ℕ) → Type 0

@@ -3,6 +3,7 @@ use Rattle.std.specs.Prelude.{ℕ, ◌+◌, List, [], ◌∷◌, Some, None, byt
 use Rattle.ep_base.specs.declared.names.Name.{Name}
 use Rattle.ep_tree.specs.Binding.{Find}
 use Rattle.ep_tree.specs.Solutions.{cell_count}
+use Rattle.ep_tree.specs.declared.values.Mode.{Mode}
 use Rattle.ep_unroll.specs.Readings.{Numbering}
 use Rattle.ep_unroll.specs.declared.firsts.CellTable.{CellTable}
 use Rattle.ep_unroll.specs.declared.firsts.FirstCell.{FirstCell}
@@ -17,10 +18,10 @@ unfoldable pub first_of : List Find → ℕ → Name → Option ℕ
 first_of [] k name = None
 first_of (f ∷ fs) k name = if bytes_eq name f.name then Some k else first_of fs (k + cell_count f.indices) name
 
--- how the cells of a table are numbered
-abbrev pub numbering_of : CellTable → Numbering
-numbering_of table = record { first = first_in table.firsts.items; count = table.count }
+-- how the cells of a table are numbered, in a mode
+abbrev pub numbering_of : Mode → CellTable → Numbering
+numbering_of mode table = record { mode = mode; first = first_in table.firsts.items; count = table.count }
 
--- how the cells of decision variables are numbered, one variable after another
-abbrev pub numbering : List Find → Numbering
-numbering fs = record { first = first_of fs 0; count = sum_by (λ f. cell_count f.indices) fs }
+-- how the cells of decision variables are numbered, one variable after another, in a mode
+abbrev pub numbering : Mode → List Find → Numbering
+numbering mode fs = record { mode = mode; first = first_of fs 0; count = sum_by (λ f. cell_count f.indices) fs }

@@ -11,10 +11,10 @@ use Rattle.ep_tree.specs.declared.values.Mode.{Mode}
 use Rattle.ep_unroll.specs.Firsts.{numbering}
 use Rattle.ep_unroll.specs.Readings.{Reading}
 
--- Whatever the numbers of the cells make of the decision variables, each clause and the objective have their terms.
-pub record IsGroundOf (i : Instance) (g : GroundState) : Type 0 where
-  pub clauses : (r : Reading (numbering i.finds) (clause_env i))
-      → AllZip (λ t e. term_value g.nodes r.numbers t ≡ Some (of_bool (is_true_in Mode.Relational r.values e))) g.clauses i.clauses
+-- Whatever the numbers of the cells make of the decision variables, each clause and the objective have their terms, in a mode.
+pub record IsGroundOf (mode : Mode) (i : Instance) (g : GroundState) : Type 0 where
+  pub clauses : (r : Reading (numbering mode i.finds) (clause_env i))
+      → AllZip (λ t e. term_value g.nodes r.numbers t ≡ Some (of_bool (is_true_in mode r.values e))) g.clauses i.clauses
   pub senses : option_map (λ goal. goal.0) g.objective ≡ option_map (λ goal. goal.0) i.goal
-  pub objective : (r : Reading (numbering i.finds) (clause_env i))
-      → ground_objective g r.numbers ≡ option_and_then (λ goal. number_in (evaluate Mode.Relational r.values goal.1)) i.goal
+  pub objective : (r : Reading (numbering mode i.finds) (clause_env i))
+      → ground_objective g r.numbers ≡ option_and_then (λ goal. number_in (evaluate mode r.values goal.1)) i.goal

@@ -6,7 +6,6 @@ use Rattle.ep_tree.specs.Evaluation.{evaluate}
 use Rattle.ep_tree.specs.Trees.{ExprTree}
 use Rattle.ep_tree.specs.Values.{Index, ValueTree, all_defined, read_value}
 use Rattle.ep_tree.specs.declared.syntax.Expr.{Expr}
-use Rattle.ep_tree.specs.declared.values.Mode.{Mode}
 use Rattle.ep_unroll.specs.Blocks.{one_index}
 use Rattle.ep_unroll.specs.Growing.{Grows}
 use Rattle.ep_unroll.specs.Meanings.{AreTerms, worth}
@@ -23,4 +22,4 @@ pub record LeftMeans (n : Numbering) (cells : Env) (old new : List GroundNode) (
   pub known : AreTerms (length new) x
   pub value : (r : Reading n cells)
       → worth new r.numbers x
-      ≡ option_and_then (λ is. option_and_then (read_value is) (evaluate Mode.Relational r.values m)) (all_defined (map (one_index r.values) indices))
+      ≡ option_and_then (λ is. option_and_then (read_value is) (evaluate n.mode r.values m)) (all_defined (map (one_index n.mode r.values) indices))

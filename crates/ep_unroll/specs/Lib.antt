@@ -19,4 +19,5 @@ pub mod Scalars
 pub mod Sets
 pub mod Signed
 pub mod Summing
+pub mod Truths
 pub mod Unrolling

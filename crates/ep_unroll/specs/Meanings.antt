@@ -1,16 +1,15 @@
 -- What terms, and matrices of terms, say of expressions. Each record tells as well that the old nodes stay, with others
 -- behind them.
-use Rattle.std.specs.Prelude.{◌≡◌, ℕ, ◌<◌, List, [], ◌∷◌, map, ℤ, Some, None, Option, option_map, length}
+use Rattle.std.specs.Prelude.{◌≡◌, ℕ, ◌<◌, List, [], ◌∷◌, map, ℤ, Option, option_map, length}
 use Rattle.std.specs.List.{All}
 use Rattle.ep_base.specs.declared.names.Name.{Name}
 use Rattle.ep_base.specs.declared.places.Place.{Place}
 use Rattle.ep_ground.specs.Nodes.{GroundNode}
 use Rattle.ep_ground.specs.Terms.{term_value}
 use Rattle.ep_tree.specs.Environments.{Env}
-use Rattle.ep_tree.specs.Evaluation.{evaluate, number_in, values_of, term_values}
-use Rattle.ep_tree.specs.Trees.{ExprTree, ExprTrees, Terms}
+use Rattle.ep_tree.specs.Evaluation.{evaluate, number_in, values_of}
+use Rattle.ep_tree.specs.Trees.{ExprTree, ExprTrees}
 use Rattle.ep_tree.specs.Values.{ValueTree, all_defined, as_parts, matrix, single}
-use Rattle.ep_tree.specs.declared.values.Mode.{Mode}
 use Rattle.ep_eval.specs.Helds.{seen_held}
 use Rattle.ep_eval.specs.Instances.{instance_value}
 use Rattle.ep_eval.specs.declared.gathering.Quantifier.{Quantifier}
@@ -49,26 +48,26 @@ unfoldable mutual
 pub record Means (n : Numbering) (cells : Env) (old new : List GroundNode) (e : ExprTree) (x : Unrolled) : Type 0 where
   pub grows : Grows old new
   pub known : AreTerms (length new) x
-  pub value : (r : Reading n cells) → worth new r.numbers x ≡ evaluate Mode.Relational r.values e
+  pub value : (r : Reading n cells) → worth new r.numbers x ≡ evaluate n.mode r.values e
 
 -- A term has the value of an expression, which is a number where it has one.
 pub record IsTermOf (n : Numbering) (cells : Env) (old new : List GroundNode) (e : ExprTree) (t : ℕ) : Type 0 where
   pub grows : Grows old new
   pub known : t < length new
-  pub value : (r : Reading n cells) → evaluate Mode.Relational r.values e ≡ option_map single (term_value new r.numbers t)
+  pub value : (r : Reading n cells) → evaluate n.mode r.values e ≡ option_map single (term_value new r.numbers t)
 
 -- A term has the number of an expression, and no value where the expression has no number.
 pub record IsNumberOf (n : Numbering) (cells : Env) (old new : List GroundNode) (e : ExprTree) (t : ℕ) : Type 0 where
   pub grows : Grows old new
   pub known : t < length new
-  pub number : (r : Reading n cells) → term_value new r.numbers t ≡ number_in (evaluate Mode.Relational r.values e)
+  pub number : (r : Reading n cells) → term_value new r.numbers t ≡ number_in (evaluate n.mode r.values e)
 
 -- Terms have the numbers of expressions, one for each.
 pub record AreNumbersOf (n : Numbering) (cells : Env) (old new : List GroundNode) (es : ExprTrees) (ts : List ℕ) : Type 0 where
   pub grows : Grows old new
   pub known : All (λ t. t < length new) ts
   pub numbers : (r : Reading n cells)
-      → map (term_value new r.numbers) ts ≡ map number_in (values_of Mode.Relational r.values es)
+      → map (term_value new r.numbers) ts ≡ map number_in (values_of n.mode r.values es)
 
 -- Terms have the numbers of the instances of a quantifier, one for each number of its domain.
 pub record AreInstancesOf (n : Numbering) (cells : Env) (old new : List GroundNode) (p : Place) (q : Quantifier) (name : Name) (rest : List Name) (ns : List ℤ) (ts : List ℕ) : Type 0 where
@@ -76,4 +75,4 @@ pub record AreInstancesOf (n : Numbering) (cells : Env) (old new : List GroundNo
   pub known : All (λ t. t < length new) ts
   pub numbers : (r : Reading n cells)
       → map (term_value new r.numbers) ts
-      ≡ map (λ k. number_in (instance_value Mode.Relational r.values p q name rest k)) ns
+      ≡ map (λ k. number_in (instance_value n.mode r.values p q name rest k)) ns

@@ -43,7 +43,7 @@ pub record AddsScalars (old new : List GroundNode) (before after : List ℕ) (sc
 pub record ArePartsOf (n : Numbering) (cells : Env) (old new : List GroundNode) (es : ExprTrees) (xs : List Unrolled) : Type 0 where
   pub grows : Grows old new
   pub known : HaveTerms (length new) xs
-  pub values : (r : Reading n cells) → worths new r.numbers xs ≡ values_of Mode.Relational r.values es
+  pub values : (r : Reading n cells) → worths new r.numbers xs ≡ values_of n.mode r.values es
 
 -- the parts that there are
 abbrev pub parts_in : Option (Vec Unrolled Global) → Option (List Unrolled)
@@ -67,13 +67,13 @@ pub record Lists (n : Numbering) (cells : Env) (old new : List GroundNode) (befo
       → listed_worths new r.numbers after ≡ map_both ◌++◌ (listed_worths old r.numbers before) (own r.values)
 
 -- the parts that generators lead to
-abbrev pub parts_of : Listing → Generators → Env → Option (List ValueTree)
-parts_of l gens env = listed_values Mode.Relational (expr_tree l.body.now) (expr_trees l.conditions.now) gens env
+abbrev pub parts_of : Mode → Listing → Generators → Env → Option (List ValueTree)
+parts_of mode l gens env = listed_values mode (expr_tree l.body.now) (expr_trees l.conditions.now) gens env
 
 -- some names over a domain, with the generators behind them
 abbrev pub ranging_over : Ranging → List Name → Generators
 ranging_over r names = generator_and names (domain_tree r.domain.now) (generators_of r.later.now)
 
 -- the parts that there are where a name stands for a number
-abbrev pub parts_at : Env → Ranging → Name → List Name → ℤ → Option (List ValueTree)
-parts_at env r name rest n = parts_of r.listing (ranging_over r rest) (with_number name (scalar_in env (domain_tree r.domain.now)) n env)
+abbrev pub parts_at : Mode → Env → Ranging → Name → List Name → ℤ → Option (List ValueTree)
+parts_at mode env r name rest n = parts_of mode r.listing (ranging_over r rest) (with_number name (scalar_in env (domain_tree r.domain.now)) n env)

@@ -29,22 +29,22 @@ IsSlot count (Open t) = t < count
 pub record IsSlotOf (n : Numbering) (cells : Env) (old new : List GroundNode) (index : Option Expr) (s : Slot) : Type 0 where
   pub grows : Grows old new
   pub known : IsSlot (length new) s
-  pub value : (r : Reading n cells) → slot_index new r.numbers s ≡ one_index r.values index
+  pub value : (r : Reading n cells) → slot_index new r.numbers s ≡ one_index n.mode r.values index
 
 -- A place for an index of a read, or none where the index has no number.
 unfoldable pub SlotMeans : Numbering → Env → List GroundNode → List GroundNode → Option Expr → Option Slot → Type 0
-SlotMeans n cells old new index None = Grows old new × ((r : Reading n cells) → one_index r.values index ≡ None)
+SlotMeans n cells old new index None = Grows old new × ((r : Reading n cells) → one_index n.mode r.values index ≡ None)
 SlotMeans n cells old new index (Some s) = IsSlotOf n cells old new index s
 
 -- Places have the indices of a read, one for each.
 pub record AreSlotsOf (n : Numbering) (cells : Env) (old new : List GroundNode) (indices : List (Option Expr)) (ss : List Slot) : Type 0 where
   pub grows : Grows old new
   pub known : All (IsSlot (length new)) ss
-  pub values : (r : Reading n cells) → map (slot_index new r.numbers) ss ≡ map (one_index r.values) indices
+  pub values : (r : Reading n cells) → map (slot_index new r.numbers) ss ≡ map (one_index n.mode r.values) indices
 
 -- Places for the indices of a read, or none where an index has no number.
 unfoldable pub SlotsMean : Numbering → Env → List GroundNode → List GroundNode → List (Option Expr) → Option (List Slot) → Type 0
-SlotsMean n cells old new indices None = Grows old new × ((r : Reading n cells) → all_defined (map (one_index r.values) indices) ≡ None)
+SlotsMean n cells old new indices None = Grows old new × ((r : Reading n cells) → all_defined (map (one_index n.mode r.values) indices) ≡ None)
 SlotsMean n cells old new indices (Some ss) = AreSlotsOf n cells old new indices ss
 
 -- the terms that stand in places

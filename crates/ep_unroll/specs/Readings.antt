@@ -6,6 +6,7 @@ use Rattle.ep_tree.specs.Environments.{Bound, Env, has_cells, has_value, shape_t
 use Rattle.ep_tree.specs.Solutions.{cell_count}
 use Rattle.ep_tree.specs.TypedValues.{IsTypedEnv}
 use Rattle.ep_tree.specs.Values.{ValueTree, all_defined, as_parts, matrix, single}
+use Rattle.ep_tree.specs.declared.values.Mode.{Mode}
 
 -- what a function gives of numbers that lie so far apart, one for each index
 unfoldable pub each_from : {A : Type 0} → (ℕ → A) → ℕ → ℕ → List ℤ → List A
@@ -26,8 +27,10 @@ ReadsName first numbers (Some (has_cells s indices values)) other =
     × (first ≡ Some k) × (other ≡ Some (has_value (shape_type s indices) v)) × (cells_value numbers indices k ≡ Some v)
 ReadsName first numbers _ other = Unit {0}
 
--- how cells are numbered: the first one of each decision variable, and how many there are
+-- The mode in which expressions have values, and how cells are numbered: the first one of each decision variable, and how
+-- many there are.
 pub record Numbering : Type 0 where
+  pub mode : Mode
   pub first : Name → Option ℕ
   pub count : ℕ
 

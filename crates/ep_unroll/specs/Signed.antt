@@ -6,7 +6,6 @@ use Rattle.ep_ground.specs.Terms.{term_value}
 use Rattle.ep_tree.specs.Environments.{Env}
 use Rattle.ep_tree.specs.Evaluation.{term_values}
 use Rattle.ep_tree.specs.Trees.{Terms}
-use Rattle.ep_tree.specs.declared.values.Mode.{Mode}
 use Rattle.ep_unroll.specs.Growing.{Grows}
 use Rattle.ep_unroll.specs.Readings.{Numbering, Reading}
 
@@ -21,4 +20,4 @@ pub record AreSigned (n : Numbering) (cells : Env) (old new : List GroundNode) (
   pub known : All (λ part. part.1 < length new) ps
   pub numbers : (r : Reading n cells)
       → map (λ part. option_map (λ x. part.0 *ℤ x) (term_value new r.numbers part.1)) ps
-      ≡ term_values Mode.Relational r.values terms
+      ≡ term_values n.mode r.values terms

@@ -7,6 +7,7 @@ ghost use Rattle.ep_tree.specs.Environments.{has_cells};
 ghost use Rattle.ep_tree.specs.Names.{put, put_all};
 ghost use Rattle.ep_tree.specs.Solutions.{cell_count, cells_bound};
 ghost use Rattle.ep_tree.specs.Types as types;
+ghost use Rattle.ep_tree.specs.declared.values.Mode.{Mode as EachMode};
 ghost use Rattle.ep_eval.specs.Known.{env_of};
 ghost use Rattle.ep_instance.specs.Instances.{find_of, instance_of, mode_of};
 ghost use Rattle.ep_unroll.specs.Cells as defined;
@@ -77,7 +78,7 @@ fn cells_over(alloc: Global, domains: &[Runs]) -> Result<u64, Memory>
 
 /// Where the cells of each decision variable begin.
 pub fn table_of(alloc: Global, finds: &[Find]) -> Result<CellTable, Memory>
-    ensures { IfOk result (λ t. numbering_of t ≡ numbering (map find_of finds.now)) }
+    ensures { IfOk result (λ t. (mode : EachMode) → numbering_of mode t ≡ numbering mode (map find_of finds.now)) }
 {
     let mut firsts = Vec::new(alloc);
     let mut count: u64 = 0;

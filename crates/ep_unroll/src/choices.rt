@@ -9,7 +9,7 @@ ghost use Rattle.ep_tree.specs.Trees.{ExprTree, read};
 ghost use Rattle.ep_tree.specs.Values.{all_defined};
 ghost use Rattle.ep_tree.specs.Views.{expr_tree, indices_of};
 ghost use Rattle.ep_tree.specs.declared.syntax.Expr.{Expr as EachExpr};
-ghost use Rattle.ep_eval.specs.Scopes.{env_in};
+ghost use Rattle.ep_eval.specs.Scopes.{env_in, mode_in};
 ghost use Rattle.ep_unroll.specs.Blocks.{one_index};
 ghost use Rattle.ep_unroll.specs.Firsts.{numbering_of};
 ghost use Rattle.ep_unroll.specs.Growing.{Grows, Puts};
@@ -24,7 +24,7 @@ use super::growing::put;
 use super::lefts::left_matrix;
 use super::needs::needed_terms;
 use super::picks::{Entries, one_entry, push_terms};
-use super::reads::{finish_read, is_matrix, is_truth};
+use super::reads::{finish_read, is_judged, is_matrix};
 use super::slots::{Slot, open_terms};
 use super::totals::is_total;
 use super::unrolled::Unrolled;
@@ -235,9 +235,9 @@ fn chosen<'a>(
     requires known { AreTerms (length arena.old) known.now }
     requires slots { All (IsSlot (length arena.old)) slots.now }
     ensures { (nodes : List GroundNode) → (p : Place) → (m : ExprTree) → (indices : List (Option EachExpr)) → expr_tree e.now ≡ read p m (indices_of indices)
-        → Means (numbering_of table.now) (env_in scope.entry) nodes arena.old m known.now
-        → AreSlotsOf (numbering_of table.now) (env_in scope.entry) nodes arena.old indices slots.now
-        → IfOk result (Means (numbering_of table.now) (env_in scope.entry) nodes arena.new (expr_tree e.now)) }
+        → Means (numbering_of (mode_in scope.entry) table.now) (env_in scope.entry) nodes arena.old m known.now
+        → AreSlotsOf (numbering_of (mode_in scope.entry) table.now) (env_in scope.entry) nodes arena.old indices slots.now
+        → IfOk result (Means (numbering_of (mode_in scope.entry) table.now) (env_in scope.entry) nodes arena.new (expr_tree e.now)) }
 {
     let ty = type_within(scope, e)?;
     if is_matrix(ty) {
@@ -246,7 +246,7 @@ fn chosen<'a>(
     let others = needed_terms(scope.alloc, arena, table.count, known)?;
     let entries = known_entries(scope.alloc, arena, known, slots)?;
     let indices = open_terms(scope.alloc, slots)?;
-    if is_truth(ty) {
+    if is_judged(scope, ty) {
         let term = chosen_truth(scope.alloc, arena, table.count, entries, indices, others)?;
         return Ok(Unrolled::Number(term));
     }
@@ -257,12 +257,12 @@ fn chosen<'a>(
 /// A read in which an index has no number.
 fn read_without<'a>(scope: Scope<'_, 'a>, e: &Expr) -> Result<Unrolled<'a>, Memory>
     ensures { (n : Numbering) → (nodes : List GroundNode) → (mid : List GroundNode) → (p : Place) → (m : ExprTree) → (indices : List (Option EachExpr))
-        → expr_tree e.now ≡ read p m (indices_of indices) → Grows nodes mid
-        → ((r : Reading n (env_in scope.entry)) → all_defined (map (one_index r.values) indices) ≡ None)
+        → n.mode ≡ mode_in scope.entry → expr_tree e.now ≡ read p m (indices_of indices) → Grows nodes mid
+        → ((r : Reading n (env_in scope.entry)) → all_defined (map (one_index n.mode r.values) indices) ≡ None)
         → IfOk result (Means n (env_in scope.entry) nodes mid (expr_tree e.now)) }
 {
     let ty = type_within(scope, e)?;
-    finish_read(ty, Unrolled::Fixed(None))
+    finish_read(scope, ty, Unrolled::Fixed(None))
 }
 
 /// A read, of what was unrolled, by what stands in the places of its indices.
@@ -277,9 +277,9 @@ pub fn read_with<'a>(
     requires known { AreTerms (length arena.old) known }
     requires slots { AreKnown (length arena.old) (option_map (λ v. v.items) slots) }
     ensures { (nodes : List GroundNode) → (p : Place) → (m : ExprTree) → (indices : List (Option EachExpr)) → expr_tree e.now ≡ read p m (indices_of indices)
-        → Means (numbering_of table.now) (env_in scope.entry) nodes arena.old m known.entry
-        → SlotsMean (numbering_of table.now) (env_in scope.entry) nodes arena.old indices (option_map (λ v. v.items) slots)
-        → IfOk result (Means (numbering_of table.now) (env_in scope.entry) nodes arena.new (expr_tree e.now)) }
+        → Means (numbering_of (mode_in scope.entry) table.now) (env_in scope.entry) nodes arena.old m known.entry
+        → SlotsMean (numbering_of (mode_in scope.entry) table.now) (env_in scope.entry) nodes arena.old indices (option_map (λ v. v.items) slots)
+        → IfOk result (Means (numbering_of (mode_in scope.entry) table.now) (env_in scope.entry) nodes arena.new (expr_tree e.now)) }
 {
     match slots {
         Some(slots) => chosen(scope, table, arena, e, &known, &slots),

@@ -24,7 +24,7 @@ fn clause_term(
     arena: &mut Arena,
     clause: &Expr,
 ) -> Result<Term, Memory>
-    ensures { IfOk result (IsClause (numbering_of table.now) (env_of env.now) arena.old arena.new (expr_tree clause.now)) }
+    ensures { IfOk result (IsClause (numbering_of env.now.mode table.now) (env_of env.now) arena.old arena.new (expr_tree clause.now)) }
 {
     let scope = Scope {
         alloc,
@@ -45,7 +45,7 @@ pub fn clause_terms(
     arena: &mut Arena,
     clauses: &[Expr],
 ) -> Result<Vec<Term>, Memory>
-    ensures { IfOk result (λ ts. AreClauses (numbering_of table.now) (env_of env.now) arena.old arena.new (map expr_tree clauses.now) ts.items) }
+    ensures { IfOk result (λ ts. AreClauses (numbering_of env.now.mode table.now) (env_of env.now) arena.old arena.new (map expr_tree clauses.now) ts.items) }
 {
     let mut terms = Vec::new(alloc);
     for clause in clauses {
@@ -63,7 +63,7 @@ pub fn goal_term(
     arena: &mut Arena,
     objective: Option<&Objective>,
 ) -> Result<Option<(Sense, Term)>, Memory>
-    ensures { IfOk result (IsGoal (numbering_of table.now) (env_of env.now) arena.old arena.new (option_map (λ o. goal_of o.now) objective.entry)) }
+    ensures { IfOk result (IsGoal (numbering_of env.now.mode table.now) (env_of env.now) arena.old arena.new (option_map (λ o. goal_of o.now) objective.entry)) }
 {
     let Some(objective) = objective else {
         return Ok(None);

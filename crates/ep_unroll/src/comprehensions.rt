@@ -4,12 +4,11 @@ ghost use Rattle.std.specs.Prelude.{◌≡◌, ◌++◌, ◌&&◌, ◌∷◌, []
 ghost use Rattle.ep_base.specs.declared.places.Place.{Place};
 ghost use Rattle.ep_eval.specs.Generating.{listed_values};
 ghost use Rattle.ep_eval.specs.Literals.{index_at};
-ghost use Rattle.ep_eval.specs.Scopes.{env_in};
+ghost use Rattle.ep_eval.specs.Scopes.{env_in, mode_in};
 ghost use Rattle.ep_ground.specs.Nodes.{GroundNode};
 ghost use Rattle.ep_tree.specs.Evaluation.{all_true, evaluate, map_both, truth_of, values_of};
 ghost use Rattle.ep_tree.specs.Trees.{ExprTree, ExprTrees, Generators, comprehension};
 ghost use Rattle.ep_tree.specs.Views.{expr_tree, expr_trees};
-ghost use Rattle.ep_tree.specs.declared.values.Mode.{Mode as EachMode};
 ghost use Rattle.ep_unroll.specs.Meanings.{Means};
 ghost use Rattle.ep_unroll.specs.PartLists.{Lists, parts_in};
 ghost use Rattle.ep_unroll.specs.Readings.{Numbering, Reading};
@@ -53,7 +52,7 @@ fn both_hold(one: Option<bool>, other: Option<bool>) -> Option<bool>
 /// Whether a condition is true, where it has a value. No decision variable may stand in it.
 fn condition_holds(scope: Scope<'_, '_>, condition: &Expr) -> Result<Option<bool>, Memory>
     ensures { IfOk result (λ truth. (n : Numbering) → (r : Reading n (env_in scope.entry))
-        → truth_of (evaluate EachMode.Relational r.values (expr_tree condition.now)) ≡ truth) }
+        → truth_of (evaluate (mode_in scope.entry) r.values (expr_tree condition.now)) ≡ truth) }
 {
     if !is_fixed(scope, condition) {
         return Err(Memory);
@@ -68,7 +67,7 @@ fn condition_holds(scope: Scope<'_, '_>, condition: &Expr) -> Result<Option<bool
 /// Whether all conditions are true, where each has a value.
 pub fn conditions_hold(scope: Scope<'_, '_>, conditions: &[Expr]) -> Result<Option<bool>, Memory>
     ensures { IfOk result (λ truth. (n : Numbering) → (r : Reading n (env_in scope.entry))
-        → all_true (values_of EachMode.Relational r.values (expr_trees conditions.now)) ≡ truth) }
+        → all_true (values_of (mode_in scope.entry) r.values (expr_trees conditions.now)) ≡ truth) }
 {
     match conditions.split_first() {
         Some((first, later)) => {
@@ -101,7 +100,7 @@ pub fn comprehension_matrix<'a>(
     parts: Option<Vec<Unrolled<'a>>>,
 ) -> Result<Unrolled<'a>, Memory>
     ensures { (n : Numbering) → (old nodes : List GroundNode) → (p : Place) → (e : ExprTree) → (gens : Generators) → (conditions : ExprTrees)
-        → Lists n (env_in scope.entry) old nodes (Some []) (parts_in parts.entry) (λ env. listed_values EachMode.Relational e conditions gens env)
+        → n.mode ≡ mode_in scope.entry → Lists n (env_in scope.entry) old nodes (Some []) (parts_in parts.entry) (λ env. listed_values n.mode e conditions gens env)
         → IfOk result (Means n (env_in scope.entry) old nodes (comprehension p e gens conditions (index_at domain.now))) }
 {
     match parts {

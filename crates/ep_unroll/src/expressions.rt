@@ -6,10 +6,9 @@ ghost use Rattle.ep_ground.specs.Nodes.{GroundNode};
 ghost use Rattle.ep_tree.specs.Evaluation.{domain_values};
 ghost use Rattle.ep_tree.specs.Reach.{decisions_in};
 ghost use Rattle.ep_tree.specs.Views.{domain_tree, expr_tree, expr_trees, generators_of, kind_tree, terms_of};
-ghost use Rattle.ep_tree.specs.declared.values.Mode.{Mode as EachMode};
 ghost use Rattle.ep_eval.specs.Generating.{lists_joined, part_value};
 ghost use Rattle.ep_eval.specs.Instances.{quantified_tree};
-ghost use Rattle.ep_eval.specs.Scopes.{env_in};
+ghost use Rattle.ep_eval.specs.Scopes.{env_in, mode_in};
 ghost use Rattle.ep_size.specs.Free as free;
 ghost use Rattle.ep_unroll.specs.Firsts.{numbering_of};
 ghost use Rattle.ep_unroll.specs.Meanings.{AreInstancesOf, AreNumbersOf, IsNumberOf, IsTermOf, Means};
@@ -49,7 +48,7 @@ use ep_tree::{Expr, Generator, Kind};
 /// What an expression without decision variables is unrolled to.
 fn fixed<'a>(scope: Scope<'_, 'a>, e: &Expr) -> Result<Unrolled<'a>, Memory>
     requires { free.is_free (decisions_in (env_in scope)) (expr_tree e.now) ≡ true }
-    ensures { (n : Numbering) → (nodes : List GroundNode)
+    ensures { (n : Numbering) → (nodes : List GroundNode) → n.mode ≡ mode_in scope.entry
         → IfOk result (Means n (env_in scope.entry) nodes nodes (expr_tree e.now)) }
 {
     let seen = fixed_value(scope, e)?;
@@ -64,7 +63,7 @@ pub fn unrolled<'a>(
     arena: &mut Arena,
     e: &Expr,
 ) -> Result<Unrolled<'a>, Memory>
-    ensures { IfOk result (Means (numbering_of table.now) (env_in scope.entry) arena.old arena.new (expr_tree e.now)) }
+    ensures { IfOk result (Means (numbering_of (mode_in scope.entry) table.now) (env_in scope.entry) arena.old arena.new (expr_tree e.now)) }
 {
     if is_fixed(scope, e) {
         return fixed(scope, e);
@@ -91,7 +90,7 @@ pub fn term_of(
     arena: &mut Arena,
     e: &Expr,
 ) -> Result<Term, Memory>
-    ensures { IfOk result (IsNumberOf (numbering_of table.now) (env_in scope.entry) arena.old arena.new (expr_tree e.now)) }
+    ensures { IfOk result (IsNumberOf (numbering_of (mode_in scope.entry) table.now) (env_in scope.entry) arena.old arena.new (expr_tree e.now)) }
 {
     let known = unrolled(scope, table, arena, e)?;
     number_term(arena, &known)
@@ -121,7 +120,7 @@ fn kind_unrolled<'a>(
     arena: &mut Arena,
     kind: &Kind,
 ) -> Result<Unrolled<'a>, Memory>
-    ensures { (p : Place) → IfOk result (Means (numbering_of table.now) (env_in scope.entry) arena.old arena.new (kind_tree p kind.now)) }
+    ensures { (p : Place) → IfOk result (Means (numbering_of (mode_in scope.entry) table.now) (env_in scope.entry) arena.old arena.new (kind_tree p kind.now)) }
 {
     match kind {
         Kind::Named(name) => named_cells(scope, table, name),
@@ -142,7 +141,7 @@ fn number_unrolled<'a>(
     arena: &mut Arena,
     kind: &Kind,
 ) -> Result<Unrolled<'a>, Memory>
-    ensures { (p : Place) → IfOk result (Means (numbering_of table.now) (env_in scope.entry) arena.old arena.new (kind_tree p kind.now)) }
+    ensures { (p : Place) → IfOk result (Means (numbering_of (mode_in scope.entry) table.now) (env_in scope.entry) arena.old arena.new (kind_tree p kind.now)) }
 {
     let term = kind_term(scope, table, arena, kind)?;
     Ok(Unrolled::Number(term))
@@ -156,7 +155,7 @@ fn kind_term(
     arena: &mut Arena,
     kind: &Kind,
 ) -> Result<Term, Memory>
-    ensures { (p : Place) → IfOk result (IsTermOf (numbering_of table.now) (env_in scope.entry) arena.old arena.new (kind_tree p kind.now)) }
+    ensures { (p : Place) → IfOk result (IsTermOf (numbering_of (mode_in scope.entry) table.now) (env_in scope.entry) arena.old arena.new (kind_tree p kind.now)) }
 {
     match kind {
         Kind::Not(_) | Kind::Neg(_) | Kind::Abs(_) => with_one(scope, table, arena, kind),
@@ -183,20 +182,20 @@ fn with_one(
     arena: &mut Arena,
     kind: &Kind,
 ) -> Result<Term, Memory>
-    ensures { (p : Place) → IfOk result (IsTermOf (numbering_of table.now) (env_in scope.entry) arena.old arena.new (kind_tree p kind.now)) }
+    ensures { (p : Place) → IfOk result (IsTermOf (numbering_of (mode_in scope.entry) table.now) (env_in scope.entry) arena.old arena.new (kind_tree p kind.now)) }
 {
     match kind {
         Kind::Not(part) => {
             let term = term_of(scope, table, arena, part)?;
-            finish_one(scope.alloc, arena, kind, term)
+            finish_one(scope, arena, table.count, kind, term)
         }
         Kind::Neg(part) => {
             let term = term_of(scope, table, arena, part)?;
-            finish_one(scope.alloc, arena, kind, term)
+            finish_one(scope, arena, table.count, kind, term)
         }
         Kind::Abs(part) => {
             let term = term_of(scope, table, arena, part)?;
-            finish_one(scope.alloc, arena, kind, term)
+            finish_one(scope, arena, table.count, kind, term)
         }
         // No other kind comes here.
         _ => Err(Memory),
@@ -211,18 +210,18 @@ fn with_two(
     arena: &mut Arena,
     kind: &Kind,
 ) -> Result<Term, Memory>
-    ensures { (p : Place) → IfOk result (IsTermOf (numbering_of table.now) (env_in scope.entry) arena.old arena.new (kind_tree p kind.now)) }
+    ensures { (p : Place) → IfOk result (IsTermOf (numbering_of (mode_in scope.entry) table.now) (env_in scope.entry) arena.old arena.new (kind_tree p kind.now)) }
 {
     match kind {
         Kind::Binary(_, left, right) => {
             let one = term_of(scope, table, arena, left)?;
             let other = term_of(scope, table, arena, right)?;
-            finish_two(scope.alloc, arena, table.count, kind, one, other)
+            finish_two(scope, arena, table.count, kind, one, other)
         }
         Kind::Compare(_, left, right) => {
             let one = term_of(scope, table, arena, left)?;
             let other = term_of(scope, table, arena, right)?;
-            finish_two(scope.alloc, arena, table.count, kind, one, other)
+            finish_two(scope, arena, table.count, kind, one, other)
         }
         // No other kind comes here.
         _ => Err(Memory),
@@ -237,16 +236,16 @@ fn with_parts(
     arena: &mut Arena,
     kind: &Kind,
 ) -> Result<Term, Memory>
-    ensures { (p : Place) → IfOk result (IsTermOf (numbering_of table.now) (env_in scope.entry) arena.old arena.new (kind_tree p kind.now)) }
+    ensures { (p : Place) → IfOk result (IsTermOf (numbering_of (mode_in scope.entry) table.now) (env_in scope.entry) arena.old arena.new (kind_tree p kind.now)) }
 {
     match kind {
         Kind::And(parts) => {
             let terms = terms_of_all(scope, table, arena, parts)?;
-            finish_all(arena, kind, terms)
+            finish_all(scope, arena, table.count, kind, terms)
         }
         Kind::Or(parts) => {
             let terms = terms_of_all(scope, table, arena, parts)?;
-            finish_all(arena, kind, terms)
+            finish_all(scope, arena, table.count, kind, terms)
         }
         // No other kind comes here.
         _ => Err(Memory),
@@ -261,7 +260,7 @@ fn terms_of_all(
     arena: &mut Arena,
     parts: &[Expr],
 ) -> Result<Vec<Term>, Memory>
-    ensures { IfOk result (λ ts. AreNumbersOf (numbering_of table.now) (env_in scope.entry) arena.old arena.new (expr_trees parts.now) ts.items) }
+    ensures { IfOk result (λ ts. AreNumbersOf (numbering_of (mode_in scope.entry) table.now) (env_in scope.entry) arena.old arena.new (expr_trees parts.now) ts.items) }
 {
     let mut terms = Vec::new(scope.alloc);
     for part in parts {
@@ -279,7 +278,7 @@ fn with_terms(
     arena: &mut Arena,
     kind: &Kind,
 ) -> Result<Term, Memory>
-    ensures { (p : Place) → IfOk result (IsTermOf (numbering_of table.now) (env_in scope.entry) arena.old arena.new (kind_tree p kind.now)) }
+    ensures { (p : Place) → IfOk result (IsTermOf (numbering_of (mode_in scope.entry) table.now) (env_in scope.entry) arena.old arena.new (kind_tree p kind.now)) }
 {
     match kind {
         Kind::Add(terms) => {
@@ -299,7 +298,7 @@ fn signed_terms(
     arena: &mut Arena,
     terms: &[(bool, Expr)],
 ) -> Result<Vec<(i64, Term)>, Memory>
-    ensures { IfOk result (λ ps. AreSigned (numbering_of table.now) (env_in scope.entry) arena.old arena.new (terms_of terms.now) ps.items) }
+    ensures { IfOk result (λ ps. AreSigned (numbering_of (mode_in scope.entry) table.now) (env_in scope.entry) arena.old arena.new (terms_of terms.now) ps.items) }
 {
     let mut parts = Vec::new(scope.alloc);
     for term in terms {
@@ -317,13 +316,13 @@ fn with_domain(
     arena: &mut Arena,
     kind: &Kind,
 ) -> Result<Term, Memory>
-    ensures { (p : Place) → IfOk result (IsTermOf (numbering_of table.now) (env_in scope.entry) arena.old arena.new (kind_tree p kind.now)) }
+    ensures { (p : Place) → IfOk result (IsTermOf (numbering_of (mode_in scope.entry) table.now) (env_in scope.entry) arena.old arena.new (kind_tree p kind.now)) }
 {
     match kind {
         Kind::InDomain(part, domain) => {
             let term = term_of(scope, table, arena, part)?;
             let numbers = fixed_numbers(scope, domain)?;
-            member_term(arena, term, numbers)
+            member_term(scope, arena, table.count, term, numbers)
         }
         // No other kind comes here.
         _ => Err(Memory),
@@ -339,7 +338,7 @@ fn quantified<'a>(
     quantifier: Quantifier<'_>,
     names: &[Name],
 ) -> Result<Unrolled<'a>, Memory>
-    ensures { (p : Place) → IfOk result (Means (numbering_of table.now) (env_in scope.entry) arena.old arena.new
+    ensures { (p : Place) → IfOk result (Means (numbering_of (mode_in scope.entry) table.now) (env_in scope.entry) arena.old arena.new
         (quantified_tree p quantifier.entry names.now)) }
 {
     match names.split_first() {
@@ -361,16 +360,16 @@ fn over_domain(
     name: &Name,
     rest: &[Name],
 ) -> Result<Term, Memory>
-    ensures { (p : Place) → IfOk result (IsTermOf (numbering_of table.now) (env_in scope.entry) arena.old arena.new
+    ensures { (p : Place) → IfOk result (IsTermOf (numbering_of (mode_in scope.entry) table.now) (env_in scope.entry) arena.old arena.new
         (quantified_tree p quantifier.entry (name.now ∷ rest.now))) }
 {
     let numbers = fixed_numbers(scope, quantifier.domain)?;
     match numbers {
         Some(set) => {
             let terms = instances(scope, table, arena, quantifier, name, rest, &set)?;
-            finish_quantifier(scope.alloc, arena, quantifier.op, terms)
+            finish_quantifier(scope, arena, table.count, quantifier.op, terms)
         }
-        None => without_domain(arena, quantifier.op),
+        None => without_domain(scope, arena, quantifier.op),
     }
 }
 
@@ -385,8 +384,8 @@ fn instances(
     rest: &[Name],
     set: &Runs,
 ) -> Result<Vec<Term>, Memory>
-    requires { domain_values EachMode.Relational (env_in scope) (domain_tree quantifier.domain.now) ≡ Some set.now }
-    ensures { (p : Place) → IfOk result (λ ts. AreInstancesOf (numbering_of table.now) (env_in scope.entry) arena.old arena.new
+    requires { domain_values (mode_in scope) (env_in scope) (domain_tree quantifier.domain.now) ≡ Some set.now }
+    ensures { (p : Place) → IfOk result (λ ts. AreInstancesOf (numbering_of (mode_in scope.entry) table.now) (env_in scope.entry) arena.old arena.new
         p quantifier.entry name.now rest.now set.now ts.items) }
 {
     let scalar = scalar_of(scope, quantifier.domain);
@@ -415,7 +414,7 @@ fn slot_of(
     arena: &mut Arena,
     index: &Option<Expr>,
 ) -> Result<Option<Slot>, Memory>
-    ensures { IfOk result (SlotMeans (numbering_of table.now) (env_in scope.entry) arena.old arena.new index.now) }
+    ensures { IfOk result (SlotMeans (numbering_of (mode_in scope.entry) table.now) (env_in scope.entry) arena.old arena.new index.now) }
 {
     match index {
         Some(stated) => {
@@ -437,7 +436,7 @@ fn slots_of(
     arena: &mut Arena,
     indices: &[Option<Expr>],
 ) -> Result<Option<Vec<Slot>>, Memory>
-    ensures { IfOk result (λ found. SlotsMean (numbering_of table.now) (env_in scope.entry) arena.old arena.new indices.now (option_map (λ v. v.items) found)) }
+    ensures { IfOk result (λ found. SlotsMean (numbering_of (mode_in scope.entry) table.now) (env_in scope.entry) arena.old arena.new indices.now (option_map (λ v. v.items) found)) }
 {
     let mut slots = Vec::new(scope.alloc);
     for index in indices {
@@ -458,7 +457,7 @@ fn read_unrolled<'a>(
     arena: &mut Arena,
     e: &Expr,
 ) -> Result<Unrolled<'a>, Memory>
-    ensures { IfOk result (Means (numbering_of table.now) (env_in scope.entry) arena.old arena.new (expr_tree e.now)) }
+    ensures { IfOk result (Means (numbering_of (mode_in scope.entry) table.now) (env_in scope.entry) arena.old arena.new (expr_tree e.now)) }
 {
     match &e.kind {
         Kind::Read(matrix, indices) => {
@@ -487,7 +486,7 @@ fn matrix_unrolled<'a>(
     arena: &mut Arena,
     kind: &Kind,
 ) -> Result<Unrolled<'a>, Memory>
-    ensures { (p : Place) → IfOk result (Means (numbering_of table.now) (env_in scope.entry) arena.old arena.new (kind_tree p kind.now)) }
+    ensures { (p : Place) → IfOk result (Means (numbering_of (mode_in scope.entry) table.now) (env_in scope.entry) arena.old arena.new (kind_tree p kind.now)) }
 {
     match kind {
         Kind::Literal(parts, domain) => {
@@ -517,7 +516,7 @@ fn parts_of_all<'a>(
     arena: &mut Arena,
     parts: &[Expr],
 ) -> Result<Vec<Unrolled<'a>>, Memory>
-    ensures { IfOk result (λ xs. ArePartsOf (numbering_of table.now) (env_in scope.entry) arena.old arena.new (expr_trees parts.now) xs.items) }
+    ensures { IfOk result (λ xs. ArePartsOf (numbering_of (mode_in scope.entry) table.now) (env_in scope.entry) arena.old arena.new (expr_trees parts.now) xs.items) }
 {
     let mut known = Vec::new(scope.alloc);
     for part in parts {
@@ -537,8 +536,8 @@ fn generated<'a>(
     generators: &[Generator],
     parts: Option<Vec<Unrolled<'a>>>,
 ) -> Result<Option<Vec<Unrolled<'a>>>, Memory>
-    ensures { IfOk result (λ more. Lists (numbering_of table.now) (env_in scope.entry) arena.old arena.new (parts_in parts.entry) (parts_in more)
-        (parts_of listing.entry (generators_of generators.now))) }
+    ensures { IfOk result (λ more. Lists (numbering_of (mode_in scope.entry) table.now) (env_in scope.entry) arena.old arena.new (parts_in parts.entry) (parts_in more)
+        (parts_of (mode_in scope.entry) listing.entry (generators_of generators.now))) }
 {
     match generators.split_first() {
         Some((first, later)) => {
@@ -567,8 +566,8 @@ fn over_names<'a>(
     names: &[Name],
     parts: Option<Vec<Unrolled<'a>>>,
 ) -> Result<Option<Vec<Unrolled<'a>>>, Memory>
-    ensures { IfOk result (λ more. Lists (numbering_of table.now) (env_in scope.entry) arena.old arena.new (parts_in parts.entry) (parts_in more)
-        (parts_of ranging.entry.listing (ranging_over ranging.entry names.now))) }
+    ensures { IfOk result (λ more. Lists (numbering_of (mode_in scope.entry) table.now) (env_in scope.entry) arena.old arena.new (parts_in parts.entry) (parts_in more)
+        (parts_of (mode_in scope.entry) ranging.entry.listing (ranging_over ranging.entry names.now))) }
 {
     match names.split_first() {
         Some((name, rest)) => {
@@ -600,9 +599,9 @@ fn over_numbers<'a>(
     set: &Runs,
     parts: Option<Vec<Unrolled<'a>>>,
 ) -> Result<Option<Vec<Unrolled<'a>>>, Memory>
-    requires { domain_values EachMode.Relational (env_in scope) (domain_tree ranging.domain.now) ≡ Some set.now }
-    ensures { IfOk result (λ more. Lists (numbering_of table.now) (env_in scope.entry) arena.old arena.new (parts_in parts.entry) (parts_in more)
-        (λ env. lists_joined (map (parts_at env ranging.entry name.now rest.now) set.now))) }
+    requires { domain_values (mode_in scope) (env_in scope) (domain_tree ranging.domain.now) ≡ Some set.now }
+    ensures { IfOk result (λ more. Lists (numbering_of (mode_in scope.entry) table.now) (env_in scope.entry) arena.old arena.new (parts_in parts.entry) (parts_in more)
+        (λ env. lists_joined (map (parts_at (mode_in scope.entry) env ranging.entry name.now rest.now) set.now))) }
 {
     let scalar = scalar_of(scope, ranging.domain);
     let mut more = parts;
@@ -629,8 +628,8 @@ fn with_part<'a>(
     listing: Listing<'_>,
     parts: Option<Vec<Unrolled<'a>>>,
 ) -> Result<Option<Vec<Unrolled<'a>>>, Memory>
-    ensures { IfOk result (λ more. Lists (numbering_of table.now) (env_in scope.entry) arena.old arena.new (parts_in parts.entry) (parts_in more)
-        (part_value EachMode.Relational (expr_tree listing.entry.body.now) (expr_trees listing.entry.conditions.now))) }
+    ensures { IfOk result (λ more. Lists (numbering_of (mode_in scope.entry) table.now) (env_in scope.entry) arena.old arena.new (parts_in parts.entry) (parts_in more)
+        (part_value (mode_in scope.entry) (expr_tree listing.entry.body.now) (expr_trees listing.entry.conditions.now))) }
 {
     let truth = conditions_hold(scope, listing.conditions)?;
     match truth {
@@ -652,7 +651,7 @@ fn scalars_of(
     arena: &mut Arena,
     e: &Expr,
 ) -> Result<Vec<Term>, Memory>
-    ensures { IfOk result (λ ts. AreScalarsOf (numbering_of table.now) (env_in scope.entry) arena.old arena.new (expr_tree e.now) ts.items) }
+    ensures { IfOk result (λ ts. AreScalarsOf (numbering_of (mode_in scope.entry) table.now) (env_in scope.entry) arena.old arena.new (expr_tree e.now) ts.items) }
 {
     let known = unrolled(scope, table, arena, e)?;
     taken_scalars(scope.alloc, arena, known)
@@ -666,16 +665,16 @@ fn with_matrix(
     arena: &mut Arena,
     kind: &Kind,
 ) -> Result<Term, Memory>
-    ensures { (p : Place) → IfOk result (IsTermOf (numbering_of table.now) (env_in scope.entry) arena.old arena.new (kind_tree p kind.now)) }
+    ensures { (p : Place) → IfOk result (IsTermOf (numbering_of (mode_in scope.entry) table.now) (env_in scope.entry) arena.old arena.new (kind_tree p kind.now)) }
 {
     match kind {
         Kind::AllDiff(part) => {
             let terms = scalars_of(scope, table, arena, part)?;
-            different_term(arena, terms)
+            different_term(scope, arena, table.count, terms)
         }
         Kind::Fold(op, part) => {
             let known = unrolled(scope, table, arena, part)?;
-            folded_term(scope.alloc, arena, *op, known)
+            folded_term(scope, arena, table.count, *op, known)
         }
         // No other kind comes here.
         _ => Err(Memory),
@@ -690,17 +689,17 @@ fn with_set(
     arena: &mut Arena,
     kind: &Kind,
 ) -> Result<Term, Memory>
-    ensures { (p : Place) → IfOk result (IsTermOf (numbering_of table.now) (env_in scope.entry) arena.old arena.new (kind_tree p kind.now)) }
+    ensures { (p : Place) → IfOk result (IsTermOf (numbering_of (mode_in scope.entry) table.now) (env_in scope.entry) arena.old arena.new (kind_tree p kind.now)) }
 {
     match kind {
         Kind::InSet(part, matrix) => {
             let term = term_of(scope, table, arena, part)?;
             if is_fixed(scope, matrix) {
                 let own = fixed_scalars(scope, matrix)?;
-                return listed_member(scope.alloc, arena, term, own);
+                return listed_member(scope, arena, table.count, term, own);
             }
             let terms = scalars_of(scope, table, arena, matrix)?;
-            chosen_member(scope.alloc, arena, table.count, term, &terms)
+            chosen_member(scope, arena, table.count, term, &terms)
         }
         // No other kind comes here.
         _ => Err(Memory),
@@ -715,18 +714,18 @@ fn with_matrices(
     arena: &mut Arena,
     kind: &Kind,
 ) -> Result<Term, Memory>
-    ensures { (p : Place) → IfOk result (IsTermOf (numbering_of table.now) (env_in scope.entry) arena.old arena.new (kind_tree p kind.now)) }
+    ensures { (p : Place) → IfOk result (IsTermOf (numbering_of (mode_in scope.entry) table.now) (env_in scope.entry) arena.old arena.new (kind_tree p kind.now)) }
 {
     match kind {
         Kind::Lex(op, left, right) => {
             let terms = scalars_of(scope, table, arena, left)?;
             let others = scalars_of(scope, table, arena, right)?;
-            lex_term(arena, *op, terms, others)
+            lex_term(scope, arena, table.count, *op, terms, others)
         }
         Kind::Table(row, rows) => {
             let terms = scalars_of(scope, table, arena, row)?;
             let own = fixed_rows(scope, rows)?;
-            table_term(arena, terms, own)
+            table_term(scope, arena, table.count, terms, own)
         }
         // No other kind comes here.
         _ => Err(Memory),
@@ -741,26 +740,26 @@ fn with_counts(
     arena: &mut Arena,
     kind: &Kind,
 ) -> Result<Term, Memory>
-    ensures { (p : Place) → IfOk result (IsTermOf (numbering_of table.now) (env_in scope.entry) arena.old arena.new (kind_tree p kind.now)) }
+    ensures { (p : Place) → IfOk result (IsTermOf (numbering_of (mode_in scope.entry) table.now) (env_in scope.entry) arena.old arena.new (kind_tree p kind.now)) }
 {
     match kind {
         Kind::Gcc(part, values, counts) => {
             let terms = scalars_of(scope, table, arena, part)?;
             let own = fixed_scalars(scope, values)?;
             let others = scalars_of(scope, table, arena, counts)?;
-            counts_term(arena, terms, own, others)
+            counts_term(scope, arena, table.count, terms, own, others)
         }
         Kind::AtLeast(part, counts, values) => {
             let terms = scalars_of(scope, table, arena, part)?;
             let bounds = fixed_scalars(scope, counts)?;
             let own = fixed_scalars(scope, values)?;
-            at_least_term(arena, terms, bounds, own)
+            at_least_term(scope, arena, table.count, terms, bounds, own)
         }
         Kind::AtMost(part, counts, values) => {
             let terms = scalars_of(scope, table, arena, part)?;
             let bounds = fixed_scalars(scope, counts)?;
             let own = fixed_scalars(scope, values)?;
-            at_most_term(arena, terms, bounds, own)
+            at_most_term(scope, arena, table.count, terms, bounds, own)
         }
         // No other kind comes here.
         _ => Err(Memory),

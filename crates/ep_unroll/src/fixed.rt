@@ -4,7 +4,6 @@ ghost use Rattle.std.specs.Prelude.{◌≡◌, true, IfOk};
 ghost use Rattle.ep_tree.specs.Evaluation.{domain_values, evaluate};
 ghost use Rattle.ep_tree.specs.Reach.{decisions_in};
 ghost use Rattle.ep_tree.specs.Views.{domain_tree, expr_tree};
-ghost use Rattle.ep_tree.specs.declared.values.Mode.{Mode as EachMode};
 ghost use Rattle.ep_eval.specs.Helds.{seen_held};
 ghost use Rattle.ep_eval.specs.Scopes.{env_in, mode_in};
 ghost use Rattle.ep_size.specs.Free as free;
@@ -13,7 +12,7 @@ ghost use Rattle.ep_unroll.specs.Readings.{Numbering, Reading};
 use ep_base::{Memory, Runs};
 use ep_eval::{Held, Scope, numbers_of, value_of};
 use ep_size::{Hidden, is_free_domain, standing_in};
-use ep_tree::{Domain, Expr, Mode};
+use ep_tree::{Domain, Expr};
 
 /// Whether no decision variable stands in an expression, neither in a domain nor in a condition. Linear in its text.
 pub fn is_fixed(scope: Scope<'_, '_>, e: &Expr) -> bool
@@ -30,25 +29,12 @@ fn is_fixed_domain(scope: Scope<'_, '_>, d: &Domain) -> bool
     is_free_domain(scope, &Hidden::Nothing, d)
 }
 
-/// Whether parts without a value make the nearest Boolean expression false.
-fn is_relational(scope: Scope<'_, '_>) -> bool
-    ensures { result ≡ true → mode_in scope.entry ≡ EachMode.Relational }
-{
-    match scope.env.mode() {
-        Mode::Relational => true,
-        Mode::Strict => false,
-    }
-}
-
 /// The value of an expression in which no decision variable stands.
 pub fn fixed_value<'a>(scope: Scope<'_, 'a>, e: &Expr) -> Result<Option<Held<'a>>, Memory>
     requires { free.is_free (decisions_in (env_in scope)) (expr_tree e.now) ≡ true }
     ensures { IfOk result (λ seen. (n : Numbering) → (r : Reading n (env_in scope.entry))
-        → evaluate EachMode.Relational r.values (expr_tree e.now) ≡ seen_held seen) }
+        → evaluate (mode_in scope.entry) r.values (expr_tree e.now) ≡ seen_held seen) }
 {
-    if !is_relational(scope) {
-        return Err(Memory);
-    }
     let mut met = 0;
     match value_of(scope, &mut met, e) {
         Ok(seen) => Ok(seen),
@@ -58,11 +44,11 @@ pub fn fixed_value<'a>(scope: Scope<'_, 'a>, e: &Expr) -> Result<Option<Held<'a>
 
 /// The numbers of a domain, in which no decision variable may stand; none where it is undefined.
 pub fn fixed_numbers(scope: Scope<'_, '_>, d: &Domain) -> Result<Option<Runs>, Memory>
-    ensures own { IfOk result (λ set. domain_values EachMode.Relational (env_in scope.entry) (domain_tree d.now) ≡ set) }
+    ensures own { IfOk result (λ set. domain_values (mode_in scope.entry) (env_in scope.entry) (domain_tree d.now) ≡ set) }
     ensures kept { IfOk result (λ set. (n : Numbering) → (r : Reading n (env_in scope.entry))
-        → domain_values EachMode.Relational r.values (domain_tree d.now) ≡ set) }
+        → domain_values (mode_in scope.entry) r.values (domain_tree d.now) ≡ set) }
 {
-    if !is_relational(scope) || !is_fixed_domain(scope, d) {
+    if !is_fixed_domain(scope, d) {
         return Err(Memory);
     }
     let mut met = 0;

@@ -2,11 +2,10 @@
 
 ghost use Rattle.std.specs.Prelude.{◌≡◌, ◌++◌, IfOk, OnOk, map, option_map};
 ghost use Rattle.ep_eval.specs.Helds.{held_value, seen_held};
-ghost use Rattle.ep_eval.specs.Scopes.{env_in};
+ghost use Rattle.ep_eval.specs.Scopes.{env_in, mode_in};
 ghost use Rattle.ep_tree.specs.Evaluation.{evaluate, rows_in, scalars_in};
 ghost use Rattle.ep_tree.specs.Values.{rows_of, scalars_of};
 ghost use Rattle.ep_tree.specs.Views.{expr_tree, value_tree};
-ghost use Rattle.ep_tree.specs.declared.values.Mode.{Mode as EachMode};
 ghost use Rattle.ep_unroll.specs.Readings.{Numbering, Reading};
 
 use super::fixed::{fixed_value, is_fixed};
@@ -73,7 +72,7 @@ pub fn seen_scalars(alloc: Global, seen: &Option<Held>) -> Result<Option<Vec<i64
 /// The scalars of an expression's value, where it has one. No decision variable may stand in it.
 pub fn fixed_scalars(scope: Scope<'_, '_>, e: &Expr) -> Result<Option<Vec<i64>>, Memory>
     ensures { IfOk result (λ parts. (n : Numbering) → (r : Reading n (env_in scope.entry))
-        → scalars_in (evaluate EachMode.Relational r.values (expr_tree e.now)) ≡ option_map (λ v. v.items) parts) }
+        → scalars_in (evaluate (mode_in scope.entry) r.values (expr_tree e.now)) ≡ option_map (λ v. v.items) parts) }
 {
     if !is_fixed(scope, e) {
         return Err(Memory);
@@ -126,7 +125,7 @@ fn seen_rows(alloc: Global, seen: &Option<Held>) -> Result<Option<Vec<Key>>, All
 /// The rows of an expression's value, where it has one. No decision variable may stand in it.
 pub fn fixed_rows(scope: Scope<'_, '_>, e: &Expr) -> Result<Option<Vec<Key>>, Memory>
     ensures { IfOk result (λ rows. (n : Numbering) → (r : Reading n (env_in scope.entry))
-        → rows_in (evaluate EachMode.Relational r.values (expr_tree e.now)) ≡ option_map (λ v. v.items) rows) }
+        → rows_in (evaluate (mode_in scope.entry) r.values (expr_tree e.now)) ≡ option_map (λ v. v.items) rows) }
 {
     if !is_fixed(scope, e) {
         return Err(Memory);

@@ -1,9 +1,12 @@
 //! The nodes of forms whose parts are numbers.
 
-ghost use Rattle.std.specs.Prelude.{◌≡◌, ◌<◌, List, [], ◌∷◌, pos, negsuc, IfOk, Some, length};
+ghost use Rattle.std.specs.Prelude.{◌≡◌, ◌<◌, ◌≤◌, ℤ, true, List, [], ◌∷◌, pos, negsuc, IfOk, IsSome, Some, length};
 ghost use Rattle.std.specs.List.{All};
 ghost use Rattle.ep_base.specs.declared.places.Place.{Place};
 ghost use Rattle.ep_ground.specs.Nodes.{GroundNode, sum};
+ghost use Rattle.ep_ground.specs.Terms.{term_value};
+ghost use Rattle.ep_eval.specs.Scopes.{mode_in};
+ghost use Rattle.ep_tree.specs.declared.values.Mode.{Mode as EachMode};
 ghost use Rattle.ep_tree.specs.Environments as names;
 ghost use Rattle.ep_tree.specs.Trees.{ExprTree, ExprTrees, binary};
 ghost use Rattle.ep_tree.specs.Views.{kind_tree};
@@ -13,13 +16,16 @@ ghost use Rattle.ep_unroll.specs.Growing.{Puts};
 ghost use Rattle.ep_unroll.specs.Meanings.{AreNumbersOf, IsNumberOf, IsTermOf};
 ghost use Rattle.ep_size.specs.Parts.{part_of, two_parts};
 ghost use Rattle.ep_unroll.specs.Readings.{Numbering};
+ghost use Rattle.ep_unroll.specs.Truths.{IsComparison};
 
 use super::growing::put;
 use super::powers::power_term;
 use super::totals::is_total;
+use super::truths::{judged, needed_pair, needed_part, needed_parts, pair};
 use ep_base::{CompareOp, Memory};
+use ep_eval::Scope;
 use ep_ground::{Arena, Node, Term};
-use ep_tree::{BinaryOp, Kind};
+use ep_tree::{BinaryOp, Kind, Mode};
 use std::alloc::Global;
 
 /// One part with its coefficient.
@@ -28,16 +34,6 @@ fn weighed(alloc: Global, coefficient: i64, part: Term) -> Result<Vec<(i64, Term
 {
     let mut parts = Vec::new(alloc);
     parts.push((coefficient, part))?;
-    Ok(parts)
-}
-
-/// Two parts.
-fn pair(alloc: Global, one: Term, other: Term) -> Result<Vec<Term>, Memory>
-    ensures { IfOk result (λ parts. parts.items ≡ one ∷ other ∷ []) }
-{
-    let mut parts = Vec::new(alloc);
-    parts.push(one)?;
-    parts.push(other)?;
     Ok(parts)
 }
 
@@ -51,24 +47,57 @@ pub fn negated(alloc: Global, arena: &mut Arena, part: Term) -> Result<Term, Mem
 }
 
 /// A node with one part.
-pub fn finish_one(alloc: Global, arena: &mut Arena, kind: &Kind, part: Term) -> Result<Term, Memory>
+pub fn finish_one(
+    scope: Scope<'_, '_>,
+    arena: &mut Arena,
+    count: u64,
+    kind: &Kind,
+    part: Term,
+) -> Result<Term, Memory>
     requires { part < length arena.old }
     ensures { (n : Numbering) → (cells : names.Env) → (nodes : List GroundNode) → (p : Place) → (e : ExprTree)
-        → part_of (kind_tree p kind.now) ≡ Some e → IsNumberOf n cells nodes arena.old e part
+        → part_of (kind_tree p kind.now) ≡ Some e → n.mode ≡ mode_in scope.entry → n.count ≡ count
+        → IsNumberOf n cells nodes arena.old e part
         → IfOk result (IsTermOf n cells nodes arena.new (kind_tree p kind.now)) }
 {
     match kind {
-        Kind::Not(_) => put(arena, Node::Not(part)),
+        Kind::Not(_) => {
+            let needed = needed_part(scope, arena, count, part)?;
+            judged(arena, Node::Not(part), needed)
+        }
         Kind::Abs(_) => put(arena, Node::Abs(part)),
-        Kind::Neg(_) => negated(alloc, arena, part),
+        Kind::Neg(_) => negated(scope.alloc, arena, part),
         // No other kind comes here.
         _ => Err(Memory),
     }
 }
 
-/// `one -> other` of two numbers that have values.
+/// Whether two terms have values whatever numbers the cells have.
+fn are_both_total(arena: &Arena, count: u64, one: Term, other: Term) -> bool
+    requires one { one < length arena.now }
+    requires other { other < length arena.now }
+    ensures { result ≡ true → (numbers : List ℤ) → count ≤ length numbers
+        → IsSome (term_value arena.now numbers one) × IsSome (term_value arena.now numbers other) }
+{
+    is_total(arena, count, one) && is_total(arena, count, other)
+}
+
+/// Whether `->` can be a disjunction of two parts: they have values, or what lacks a part has none in this mode.
+fn can_imply(scope: Scope<'_, '_>, arena: &Arena, count: u64, one: Term, other: Term) -> bool
+    requires one { one < length arena.now }
+    requires other { other < length arena.now }
+    ensures { result ≡ true → mode_in scope.entry ≡ EachMode.Relational → (numbers : List ℤ) → count ≤ length numbers
+        → IsSome (term_value arena.now numbers one) × IsSome (term_value arena.now numbers other) }
+{
+    match scope.env.mode() {
+        Mode::Relational => are_both_total(arena, count, one, other),
+        Mode::Strict => true,
+    }
+}
+
+/// `one -> other` of two numbers, which have values in the relational mode.
 fn implication(
-    alloc: Global,
+    scope: Scope<'_, '_>,
     arena: &mut Arena,
     count: u64,
     one: Term,
@@ -77,20 +106,38 @@ fn implication(
     requires one { one < length arena.old }
     requires other { other < length arena.old }
     ensures { (n : Numbering) → (cells : names.Env) → (nodes : List GroundNode) → (p : Place) → (e : ExprTree) → (f : ExprTree)
-        → n.count ≡ count → IsNumberOf n cells nodes arena.old e one → IsNumberOf n cells nodes arena.old f other
+        → n.mode ≡ mode_in scope.entry → n.count ≡ count → IsNumberOf n cells nodes arena.old e one → IsNumberOf n cells nodes arena.old f other
         → IfOk result (IsTermOf n cells nodes arena.new (binary p EachOp.Implies e f)) }
 {
-    if !is_total(arena, count, one) || !is_total(arena, count, other) {
+    if !can_imply(scope, arena, count, one, other) {
         return Err(Memory);
     }
+    let needed = needed_pair(scope, arena, count, one, other)?;
     let no = put(arena, Node::Not(one))?;
-    let parts = pair(alloc, no, other)?;
-    put(arena, Node::Or(parts))
+    let parts = pair(scope.alloc, no, other)?;
+    judged(arena, Node::Or(parts), needed)
+}
+
+/// A comparison of two numbers.
+fn comparison(
+    scope: Scope<'_, '_>,
+    arena: &mut Arena,
+    count: u64,
+    op: CompareOp,
+    one: Term,
+    other: Term,
+) -> Result<Term, Memory>
+    requires one { one < length arena.old }
+    requires other { other < length arena.old }
+    ensures { IfOk result (IsComparison (mode_in scope.entry) count arena.old arena.new op one other) }
+{
+    let needed = needed_pair(scope, arena, count, one, other)?;
+    judged(arena, Node::Compare(op, one, other), needed)
 }
 
 /// Two numbers with an operator between them.
 fn finish_binary(
-    alloc: Global,
+    scope: Scope<'_, '_>,
     arena: &mut Arena,
     count: u64,
     op: BinaryOp,
@@ -100,7 +147,7 @@ fn finish_binary(
     requires one { one < length arena.old }
     requires other { other < length arena.old }
     ensures { (n : Numbering) → (cells : names.Env) → (nodes : List GroundNode) → (p : Place) → (e : ExprTree) → (f : ExprTree)
-        → n.count ≡ count → IsNumberOf n cells nodes arena.old e one → IsNumberOf n cells nodes arena.old f other
+        → n.mode ≡ mode_in scope.entry → n.count ≡ count → IsNumberOf n cells nodes arena.old e one → IsNumberOf n cells nodes arena.old f other
         → IfOk result (IsTermOf n cells nodes arena.new (binary p op e f)) }
 {
     match op {
@@ -109,21 +156,21 @@ fn finish_binary(
         BinaryOp::Mod => put(arena, Node::Mod(one, other)),
         BinaryOp::Pow => power_term(arena, one, other),
         BinaryOp::Min => {
-            let parts = pair(alloc, one, other)?;
+            let parts = pair(scope.alloc, one, other)?;
             put(arena, Node::Min(parts))
         }
         BinaryOp::Max => {
-            let parts = pair(alloc, one, other)?;
+            let parts = pair(scope.alloc, one, other)?;
             put(arena, Node::Max(parts))
         }
-        BinaryOp::Implies => implication(alloc, arena, count, one, other),
-        BinaryOp::Iff => put(arena, Node::Compare(CompareOp::Equal, one, other)),
+        BinaryOp::Implies => implication(scope, arena, count, one, other),
+        BinaryOp::Iff => comparison(scope, arena, count, CompareOp::Equal, one, other),
     }
 }
 
 /// A node with two parts.
 pub fn finish_two(
-    alloc: Global,
+    scope: Scope<'_, '_>,
     arena: &mut Arena,
     count: u64,
     kind: &Kind,
@@ -133,28 +180,36 @@ pub fn finish_two(
     requires one { one < length arena.old }
     requires other { other < length arena.old }
     ensures { (n : Numbering) → (cells : names.Env) → (nodes : List GroundNode) → (p : Place) → (e : ExprTree) → (f : ExprTree)
-        → two_parts (kind_tree p kind.now) ≡ Some (e, f) → n.count ≡ count
+        → two_parts (kind_tree p kind.now) ≡ Some (e, f) → n.mode ≡ mode_in scope.entry → n.count ≡ count
         → IsNumberOf n cells nodes arena.old e one → IsNumberOf n cells nodes arena.old f other
         → IfOk result (IsTermOf n cells nodes arena.new (kind_tree p kind.now)) }
 {
     match kind {
-        Kind::Compare(op, _, _) => put(arena, Node::Compare(*op, one, other)),
-        Kind::Binary(op, _, _) => finish_binary(alloc, arena, count, *op, one, other),
+        Kind::Compare(op, _, _) => comparison(scope, arena, count, *op, one, other),
+        Kind::Binary(op, _, _) => finish_binary(scope, arena, count, *op, one, other),
         // No other kind comes here.
         _ => Err(Memory),
     }
 }
 
 /// A connective of these parts.
-pub fn finish_all(arena: &mut Arena, kind: &Kind, parts: Vec<Term>) -> Result<Term, Memory>
+pub fn finish_all(
+    scope: Scope<'_, '_>,
+    arena: &mut Arena,
+    count: u64,
+    kind: &Kind,
+    parts: Vec<Term>,
+) -> Result<Term, Memory>
     requires { All (λ part. part < length arena.old) parts.items }
     ensures { (n : Numbering) → (cells : names.Env) → (nodes : List GroundNode) → (p : Place) → (es : ExprTrees)
-        → all_parts (kind_tree p kind.now) ≡ Some es → AreNumbersOf n cells nodes arena.old es parts.items
+        → all_parts (kind_tree p kind.now) ≡ Some es → n.mode ≡ mode_in scope.entry → n.count ≡ count
+        → AreNumbersOf n cells nodes arena.old es parts.items
         → IfOk result (IsTermOf n cells nodes arena.new (kind_tree p kind.now)) }
 {
+    let needed = needed_parts(scope, arena, count, &parts)?;
     match kind {
-        Kind::And(_) => put(arena, Node::And(parts)),
-        Kind::Or(_) => put(arena, Node::Or(parts)),
+        Kind::And(_) => judged(arena, Node::And(parts), needed),
+        Kind::Or(_) => judged(arena, Node::Or(parts), needed),
         // No other kind comes here.
         _ => Err(Memory),
     }

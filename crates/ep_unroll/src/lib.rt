@@ -35,6 +35,7 @@ mod slots;
 mod summing;
 mod sums;
 mod totals;
+mod truths;
 mod unrolled;
 mod unrolling;
 

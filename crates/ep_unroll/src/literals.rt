@@ -3,11 +3,10 @@
 ghost use Rattle.std.specs.Prelude.{◌≡◌, ◌==◌, pos, ℕ, ℤ, List, Some, None, IfOk, if◌then◌else◌, length, option_map};
 ghost use Rattle.ep_base.specs.Runs.{counting};
 ghost use Rattle.ep_eval.specs.Literals.{index_at};
-ghost use Rattle.ep_eval.specs.Scopes.{env_in};
+ghost use Rattle.ep_eval.specs.Scopes.{env_in, mode_in};
 ghost use Rattle.ep_ground.specs.Nodes.{GroundNode};
 ghost use Rattle.ep_tree.specs.Evaluation.{index_values, on_both};
 ghost use Rattle.ep_tree.specs.Values.{all_defined, with_indices};
-ghost use Rattle.ep_tree.specs.declared.values.Mode.{Mode as EachMode};
 ghost use Rattle.ep_unroll.specs.Meanings.{AreTerms, worth};
 ghost use Rattle.ep_unroll.specs.PartLists.{HaveTerms, worths};
 ghost use Rattle.ep_unroll.specs.Readings.{Numbering, Reading};
@@ -39,7 +38,7 @@ fn index_set(
     count: usize,
 ) -> Result<Option<Runs>, Memory>
     ensures { IfOk result (λ set. (n : Numbering) → (r : Reading n (env_in scope.entry))
-        → index_values EachMode.Relational r.values (index_at domain.now) count ≡ set) }
+        → index_values (mode_in scope.entry) r.values (index_at domain.now) count ≡ set) }
 {
     match domain {
         Some(stated) => {
@@ -98,7 +97,7 @@ pub fn made_matrix<'a>(
     parts: Vec<Unrolled<'a>>,
 ) -> Result<Unrolled<'a>, Memory>
     ensures value { IfOk result (λ x. (n : Numbering) → (r : Reading n (env_in scope.entry)) → (nodes : List GroundNode)
-        → worth nodes r.numbers x ≡ on_both (index_values EachMode.Relational r.values (index_at domain.now) (length parts.entry.items))
+        → worth nodes r.numbers x ≡ on_both (index_values (mode_in scope.entry) r.values (index_at domain.now) (length parts.entry.items))
         (all_defined (worths nodes r.numbers parts.entry.items)) with_indices) }
     ensures terms { IfOk result (λ x. (count : ℕ) → HaveTerms count parts.entry.items → AreTerms count x) }
 {

@@ -5,6 +5,7 @@ ghost use Rattle.std.specs.List.{All};
 ghost use Rattle.ep_base.specs.Numbers.{greatest_of, least_of};
 ghost use Rattle.ep_base.specs.Reads.{all_there};
 ghost use Rattle.ep_base.specs.declared.places.Place.{Place};
+ghost use Rattle.ep_eval.specs.Scopes.{mode_in};
 ghost use Rattle.ep_ground.specs.Nodes.{GroundNode};
 ghost use Rattle.ep_ground.specs.Terms.{term_value};
 ghost use Rattle.ep_tree.specs.Environments as names;
@@ -19,11 +20,12 @@ use super::growing::put;
 use super::products::product_of_all;
 use super::scalars::scalar_terms;
 use super::summing::sum_of_all;
+use super::truths::{judged, needed_parts};
 use super::unrolled::Unrolled;
 use ep_base::Memory;
+use ep_eval::Scope;
 use ep_ground::{Arena, Node, Term};
 use ep_tree::FoldOp;
-use std::alloc::Global;
 
 /// The least of terms; of none there is no number.
 fn least_of_all(arena: &mut Arena, terms: Vec<Term>) -> Result<Term, Memory>
@@ -49,35 +51,38 @@ fn greatest_of_all(arena: &mut Arena, terms: Vec<Term>) -> Result<Term, Memory>
 
 /// The scalars of what was unrolled folded into one number.
 fn fold_of(
-    alloc: Global,
+    scope: Scope<'_, '_>,
     arena: &mut Arena,
+    count: u64,
     op: FoldOp,
     known: &Unrolled<'_>,
 ) -> Result<Term, Memory>
     requires { AreTerms (length arena.old) known.now }
     ensures { (n : Numbering) → (cells : names.Env) → (nodes : List GroundNode) → (p : Place) → (e : ExprTree)
-        → Means n cells nodes arena.old e known.now → IfOk result (IsTermOf n cells nodes arena.new (folded p op e)) }
+        → n.mode ≡ mode_in scope.entry → n.count ≡ count → Means n cells nodes arena.old e known.now → IfOk result (IsTermOf n cells nodes arena.new (folded p op e)) }
 {
     match op {
-        FoldOp::Sum => sum_of_all(alloc, arena, known),
+        FoldOp::Sum => sum_of_all(scope.alloc, arena, known),
         FoldOp::Product => {
-            let terms = scalar_terms(alloc, arena, known)?;
+            let terms = scalar_terms(scope.alloc, arena, known)?;
             product_of_all(arena, terms)
         }
         FoldOp::And => {
-            let terms = scalar_terms(alloc, arena, known)?;
-            put(arena, Node::And(terms))
+            let terms = scalar_terms(scope.alloc, arena, known)?;
+            let needed = needed_parts(scope, arena, count, &terms)?;
+            judged(arena, Node::And(terms), needed)
         }
         FoldOp::Or => {
-            let terms = scalar_terms(alloc, arena, known)?;
-            put(arena, Node::Or(terms))
+            let terms = scalar_terms(scope.alloc, arena, known)?;
+            let needed = needed_parts(scope, arena, count, &terms)?;
+            judged(arena, Node::Or(terms), needed)
         }
         FoldOp::Min => {
-            let terms = scalar_terms(alloc, arena, known)?;
+            let terms = scalar_terms(scope.alloc, arena, known)?;
             least_of_all(arena, terms)
         }
         FoldOp::Max => {
-            let terms = scalar_terms(alloc, arena, known)?;
+            let terms = scalar_terms(scope.alloc, arena, known)?;
             greatest_of_all(arena, terms)
         }
     }
@@ -85,23 +90,31 @@ fn fold_of(
 
 /// The same of what isn't used any more.
 pub fn folded_term(
-    alloc: Global,
+    scope: Scope<'_, '_>,
     arena: &mut Arena,
+    count: u64,
     op: FoldOp,
     known: Unrolled<'_>,
 ) -> Result<Term, Memory>
     requires { AreTerms (length arena.old) known }
     ensures { (n : Numbering) → (cells : names.Env) → (nodes : List GroundNode) → (p : Place) → (e : ExprTree)
-        → Means n cells nodes arena.old e known.entry → IfOk result (IsTermOf n cells nodes arena.new (folded p op e)) }
+        → n.mode ≡ mode_in scope.entry → n.count ≡ count → Means n cells nodes arena.old e known.entry → IfOk result (IsTermOf n cells nodes arena.new (folded p op e)) }
 {
-    fold_of(alloc, arena, op, &known)
+    fold_of(scope, arena, count, op, &known)
 }
 
 /// Whether the scalars of a matrix that these terms have are all different.
-pub fn different_term(arena: &mut Arena, terms: Vec<Term>) -> Result<Term, Memory>
+pub fn different_term(
+    scope: Scope<'_, '_>,
+    arena: &mut Arena,
+    count: u64,
+    terms: Vec<Term>,
+) -> Result<Term, Memory>
     requires { All (λ t. t < length arena.old) terms.items }
     ensures { (n : Numbering) → (cells : names.Env) → (nodes : List GroundNode) → (p : Place) → (e : ExprTree)
+        → n.mode ≡ mode_in scope.entry → n.count ≡ count
         → AreScalarsOf n cells nodes arena.old e terms.items → IfOk result (IsTermOf n cells nodes arena.new (all_different p e)) }
 {
-    put(arena, Node::AllDiff(terms))
+    let needed = needed_parts(scope, arena, count, &terms)?;
+    judged(arena, Node::AllDiff(terms), needed)
 }

@@ -5,7 +5,7 @@ ghost use Rattle.ep_base.specs.declared.places.Place.{Place};
 ghost use Rattle.ep_ground.specs.Nodes.{GroundNode};
 ghost use Rattle.ep_tree.specs.Environments as names;
 ghost use Rattle.ep_tree.specs.Trees.{named};
-ghost use Rattle.ep_eval.specs.Scopes.{env_in, with_all};
+ghost use Rattle.ep_eval.specs.Scopes.{env_in, mode_in, with_all};
 ghost use Rattle.ep_unroll.specs.Blocks.{StandFor};
 ghost use Rattle.ep_unroll.specs.Firsts.{numbering_of};
 ghost use Rattle.ep_unroll.specs.Meanings.{Means};
@@ -37,7 +37,7 @@ pub fn block_named<'a>(
     table: &CellTable,
     name: &Name,
 ) -> Result<Block<'a>, Memory>
-    ensures { IfOk result (λ block. StandFor (numbering_of table.now) (env_in scope.entry) name.now block.first block.domains.now) }
+    ensures { IfOk result (λ block. StandFor (numbering_of (mode_in scope.entry) table.now) (env_in scope.entry) name.now block.first block.domains.now) }
 {
     if is_quantified(scope.around, name) {
         return Err(Memory);
@@ -60,7 +60,7 @@ pub fn named_cells<'a>(
     table: &CellTable,
     name: &Name,
 ) -> Result<Unrolled<'a>, Memory>
-    ensures { (nodes : List GroundNode) → (p : Place) → IfOk result (Means (numbering_of table.now) (env_in scope.entry) nodes nodes (named p name.now)) }
+    ensures { (nodes : List GroundNode) → (p : Place) → IfOk result (Means (numbering_of (mode_in scope.entry) table.now) (env_in scope.entry) nodes nodes (named p name.now)) }
 {
     let block = block_named(scope, table, name)?;
     Ok(Unrolled::Cells(block.first, block.domains))

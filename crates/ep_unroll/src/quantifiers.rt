@@ -8,7 +8,7 @@ ghost use Rattle.ep_ground.specs.Nodes.{GroundNode, sum};
 ghost use Rattle.ep_tree.specs.Environments as names;
 ghost use Rattle.ep_tree.specs.Evaluation.{domain_values};
 ghost use Rattle.ep_tree.specs.Views.{domain_tree};
-ghost use Rattle.ep_tree.specs.declared.values.Mode.{Mode as EachMode};
+ghost use Rattle.ep_eval.specs.Scopes.{mode_in};
 ghost use Rattle.ep_eval.specs.Instances.{quantified_tree};
 ghost use Rattle.ep_eval.specs.declared.gathering.Quantifier.{Quantifier as EachQuantifier};
 ghost use Rattle.ep_unroll.specs.Growing.{Puts};
@@ -17,7 +17,9 @@ ghost use Rattle.ep_unroll.specs.Readings.{Numbering, Reading};
 
 use super::growing::put;
 use super::sums::added;
+use super::truths::{judged, needed_parts, no_truth};
 use ep_base::Memory;
+use ep_eval::Scope;
 use ep_ground::{Arena, Node, Term};
 use ep_tree::QuantOp;
 use std::alloc::Global;
@@ -33,35 +35,44 @@ pub fn sum_term(alloc: Global, arena: &mut Arena, terms: Vec<Term>) -> Result<Te
 
 /// The term of a quantifier with these instances.
 pub fn finish_quantifier(
-    alloc: Global,
+    scope: Scope<'_, '_>,
     arena: &mut Arena,
+    count: u64,
     op: QuantOp,
     terms: Vec<Term>,
 ) -> Result<Term, Memory>
     requires { All (λ t. t < length arena.old) terms.items }
     ensures { (n : Numbering) → (cells : names.Env) → (nodes : List GroundNode) → (p : Place) → (q : EachQuantifier)
         → (name : EachName) → (rest : List EachName) → (ns : List ℤ) → q.op ≡ op
-        → ((r : Reading n cells) → domain_values EachMode.Relational r.values (domain_tree q.domain.now) ≡ Some ns)
+        → n.mode ≡ mode_in scope.entry → n.count ≡ count
+        → ((r : Reading n cells) → domain_values n.mode r.values (domain_tree q.domain.now) ≡ Some ns)
         → AreInstancesOf n cells nodes arena.old p q name rest ns terms.items
         → IfOk result (IsTermOf n cells nodes arena.new (quantified_tree p q (name ∷ rest))) }
 {
     match op {
-        QuantOp::ForAll => put(arena, Node::And(terms)),
-        QuantOp::Exists => put(arena, Node::Or(terms)),
-        QuantOp::Sum => sum_term(alloc, arena, terms),
+        QuantOp::ForAll => {
+            let needed = needed_parts(scope, arena, count, &terms)?;
+            judged(arena, Node::And(terms), needed)
+        }
+        QuantOp::Exists => {
+            let needed = needed_parts(scope, arena, count, &terms)?;
+            judged(arena, Node::Or(terms), needed)
+        }
+        QuantOp::Sum => sum_term(scope.alloc, arena, terms),
     }
 }
 
 /// The term of a quantifier over a domain that is undefined.
-pub fn without_domain(arena: &mut Arena, op: QuantOp) -> Result<Term, Memory>
+pub fn without_domain(scope: Scope<'_, '_>, arena: &mut Arena, op: QuantOp) -> Result<Term, Memory>
     ensures { (n : Numbering) → (cells : names.Env) → (p : Place) → (q : EachQuantifier)
         → (name : EachName) → (rest : List EachName) → q.op ≡ op
-        → ((r : Reading n cells) → domain_values EachMode.Relational r.values (domain_tree q.domain.now) ≡ None)
+        → n.mode ≡ mode_in scope.entry
+        → ((r : Reading n cells) → domain_values n.mode r.values (domain_tree q.domain.now) ≡ None)
         → IfOk result (IsTermOf n cells arena.old arena.new (quantified_tree p q (name ∷ rest))) }
 {
     match op {
-        QuantOp::ForAll => put(arena, Node::Const(0)),
-        QuantOp::Exists => put(arena, Node::Const(0)),
+        QuantOp::ForAll => no_truth(scope, arena),
+        QuantOp::Exists => no_truth(scope, arena),
         QuantOp::Sum => put(arena, Node::Undefined),
     }
 }

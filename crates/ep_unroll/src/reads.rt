@@ -10,7 +10,7 @@ ghost use Rattle.ep_tree.specs.Views.{expr_tree, indices_of};
 ghost use Rattle.ep_tree.specs.declared.values.Mode.{Mode as EachMode};
 ghost use Rattle.ep_tree.specs.declared.values.ValueType.{ValueType as EachType};
 ghost use Rattle.ep_eval.specs.Helds.{seen_held};
-ghost use Rattle.ep_eval.specs.Scopes.{env_in};
+ghost use Rattle.ep_eval.specs.Scopes.{env_in, mode_in};
 ghost use Rattle.ep_unroll.specs.Blocks.{IsWorth, index_in, indices_in, one_index};
 ghost use Rattle.ep_unroll.specs.Firsts.{numbering_of};
 ghost use Rattle.ep_unroll.specs.Meanings.{AreTerms, Means, worth};
@@ -23,13 +23,13 @@ use super::named::block_named;
 use super::unrolled::Unrolled;
 use ep_base::{Memory, Name, Runs};
 use ep_eval::{Held, Scope, next_number, number_of, type_within, walk_of};
-use ep_tree::{Expr, Kind, ValueType};
+use ep_tree::{Expr, Kind, Mode, ValueType};
 use std::alloc::Global;
 
 /// The number of an index, in which no decision variable may stand, or `..`; nothing where it has no number.
 fn fixed_index(scope: Scope<'_, '_>, index: &Option<Expr>) -> Result<Option<Option<i64>>, Memory>
     ensures { IfOk result (λ found. (n : Numbering) → (r : Reading n (env_in scope.entry))
-        → one_index r.values index.now ≡ option_map index_in found) }
+        → one_index (mode_in scope.entry) r.values index.now ≡ option_map index_in found) }
 {
     match index {
         Some(stated) => {
@@ -52,7 +52,7 @@ fn fixed_indices(
     indices: &[Option<Expr>],
 ) -> Result<Option<Vec<Option<i64>>>, Memory>
     ensures { IfOk result (λ found. (n : Numbering) → (r : Reading n (env_in scope.entry))
-        → index_list EachMode.Relational r.values (indices_of indices.now) ≡ option_map (λ v. indices_in v.items) found) }
+        → index_list (mode_in scope.entry) r.values (indices_of indices.now) ≡ option_map (λ v. indices_in v.items) found) }
 {
     let mut numbers = Vec::new(scope.alloc);
     for index in indices {
@@ -190,9 +190,9 @@ fn each_left<'a>(
 }
 
 /// Whether a type is that of truth values.
-pub fn is_truth(ty: ValueType) -> bool
+fn is_truth(ty: ValueType) -> bool
     ensures truth { result ≡ true → ty ≡ EachType.Bool }
-    ensures other { result ≡ false → (o : Option ValueTree) → read_result EachMode.Relational ty o ≡ o }
+    ensures other { result ≡ false → (mode : EachMode) → (o : Option ValueTree) → read_result mode ty o ≡ o }
 {
     match ty {
         ValueType::Bool => true,
@@ -202,9 +202,21 @@ pub fn is_truth(ty: ValueType) -> bool
     }
 }
 
+/// Whether a read that finds nothing is false: one of a truth value in the relational mode.
+pub fn is_judged(scope: Scope<'_, '_>, ty: ValueType) -> bool
+    ensures truth { result ≡ true → ty ≡ EachType.Bool }
+    ensures mode { result ≡ true → mode_in scope.entry ≡ EachMode.Relational }
+    ensures other { result ≡ false → (o : Option ValueTree) → read_result (mode_in scope.entry) ty o ≡ o }
+{
+    match scope.env.mode() {
+        Mode::Relational => is_truth(ty),
+        Mode::Strict => false,
+    }
+}
+
 /// Whether a type is that of matrices.
 pub fn is_matrix(ty: ValueType) -> bool
-    ensures { result ≡ true → (o : Option ValueTree) → read_result EachMode.Relational ty o ≡ o }
+    ensures { result ≡ true → (mode : EachMode) → (o : Option ValueTree) → read_result mode ty o ≡ o }
 {
     match ty {
         ValueType::Bool => false,
@@ -224,13 +236,17 @@ fn or_false<'a>(seen: Option<Held<'a>>) -> Option<Held<'a>>
     }
 }
 
-/// What was read, which is false where there is no truth value.
-pub fn finish_read<'a>(ty: ValueType, known: Unrolled<'a>) -> Result<Unrolled<'a>, Memory>
+/// What was read, which may be false where there is nothing.
+pub fn finish_read<'a>(
+    scope: Scope<'_, 'a>,
+    ty: ValueType,
+    known: Unrolled<'a>,
+) -> Result<Unrolled<'a>, Memory>
     ensures worth { (nodes : List GroundNode) → (numbers : List ℤ) → (o : Option ValueTree) → IsWorth nodes numbers known.entry o
-        → IfOk result (λ x. worth nodes numbers x ≡ read_result EachMode.Relational ty o) }
+        → IfOk result (λ x. worth nodes numbers x ≡ read_result (mode_in scope.entry) ty o) }
     ensures terms { (count : ℕ) → AreTerms count known.entry → IfOk result (AreTerms count) }
 {
-    if !is_truth(ty) {
+    if !is_judged(scope, ty) {
         return Ok(known);
     }
     match known {
@@ -250,7 +266,7 @@ pub fn read_named<'a>(
     indices: &[Option<Expr>],
 ) -> Result<Unrolled<'a>, Memory>
     ensures { (nodes : List GroundNode) → (p q : Place) → expr_tree e.now ≡ read p (named q name.now) (indices_of indices.now)
-        → IfOk result (Means (numbering_of table.now) (env_in scope.entry) nodes nodes (expr_tree e.now)) }
+        → IfOk result (Means (numbering_of (mode_in scope.entry) table.now) (env_in scope.entry) nodes nodes (expr_tree e.now)) }
 {
     let block = block_named(scope, table, name)?;
     let ty = type_within(scope, e)?;
@@ -258,9 +274,9 @@ pub fn read_named<'a>(
     match numbers {
         Some(numbers) => {
             let left = block_left(scope.alloc, block, &numbers)?;
-            finish_read(ty, left)
+            finish_read(scope, ty, left)
         }
-        None => finish_read(ty, Unrolled::Fixed(None)),
+        None => finish_read(scope, ty, Unrolled::Fixed(None)),
     }
 }
 
@@ -273,7 +289,7 @@ pub fn read_of<'a>(
     indices: &[Option<Expr>],
 ) -> Result<Unrolled<'a>, Memory>
     ensures { (nodes : List GroundNode) → (p : Place) → expr_tree e.now ≡ read p (expr_tree matrix.now) (indices_of indices.now)
-        → IfOk result (Means (numbering_of table.now) (env_in scope.entry) nodes nodes (expr_tree e.now)) }
+        → IfOk result (Means (numbering_of (mode_in scope.entry) table.now) (env_in scope.entry) nodes nodes (expr_tree e.now)) }
 {
     match &matrix.kind {
         Kind::Named(name) => read_named(scope, table, e, name, indices),

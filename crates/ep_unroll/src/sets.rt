@@ -8,7 +8,7 @@ ghost use Rattle.ep_ground.specs.Nodes.{GroundNode};
 ghost use Rattle.ep_tree.specs.Environments as names;
 ghost use Rattle.ep_tree.specs.Evaluation.{evaluate, scalars_in};
 ghost use Rattle.ep_tree.specs.Trees.{ExprTree, in_set};
-ghost use Rattle.ep_tree.specs.declared.values.Mode.{Mode as EachMode};
+ghost use Rattle.ep_eval.specs.Scopes.{mode_in};
 ghost use Rattle.ep_unroll.specs.Meanings.{IsNumberOf, IsTermOf};
 ghost use Rattle.ep_unroll.specs.Readings.{Numbering, Reading};
 ghost use Rattle.ep_unroll.specs.Scalars.{AreScalarsOf};
@@ -17,7 +17,9 @@ ghost use Rattle.ep_unroll.specs.Sets.{AreEqualities};
 use super::choices::whole_term;
 use super::growing::put;
 use super::needs::partial_terms;
+use super::truths::{judged, needed_beside, needed_part, no_truth};
 use ep_base::{CompareOp, Memory, Run, Runs};
+use ep_eval::Scope;
 use ep_ground::{Arena, Node, Term};
 use std::alloc::Global;
 
@@ -35,25 +37,28 @@ fn set_of(alloc: Global, numbers: &[i64]) -> Result<Runs, Memory>
     Runs::new(alloc, parts)
 }
 
-/// Whether a part is one of some numbers; false where there are none at all.
+/// Whether a part is one of some numbers, which may lack a value.
 pub fn listed_member(
-    alloc: Global,
+    scope: Scope<'_, '_>,
     arena: &mut Arena,
+    count: u64,
     part: Term,
     numbers: Option<Vec<i64>>,
 ) -> Result<Term, Memory>
     requires { part < length arena.old }
     ensures { (n : Numbering) → (cells : names.Env) → (nodes : List GroundNode) → (p : Place) → (e : ExprTree) → (f : ExprTree)
-        → ((r : Reading n cells) → scalars_in (evaluate EachMode.Relational r.values f) ≡ option_map (λ v. v.items) numbers)
+        → n.mode ≡ mode_in scope.entry → n.count ≡ count
+        → ((r : Reading n cells) → scalars_in (evaluate n.mode r.values f) ≡ option_map (λ v. v.items) numbers)
         → IsNumberOf n cells nodes arena.old e part
         → IfOk result (IsTermOf n cells nodes arena.new (in_set p e f)) }
 {
     match numbers {
         Some(own) => {
-            let set = set_of(alloc, &own)?;
-            put(arena, Node::Member(part, set))
+            let set = set_of(scope.alloc, &own)?;
+            let needed = needed_part(scope, arena, count, part)?;
+            judged(arena, Node::Member(part, set), needed)
         }
-        None => put(arena, Node::Const(0)),
+        None => no_truth(scope, arena),
     }
 }
 
@@ -76,9 +81,9 @@ fn equalities(
     Ok(tests)
 }
 
-/// Whether a part is one of the scalars that these terms have; false where one lacks a value.
+/// Whether a part is one of the scalars that these terms have.
 pub fn chosen_member(
-    alloc: Global,
+    scope: Scope<'_, '_>,
     arena: &mut Arena,
     count: u64,
     part: Term,
@@ -87,11 +92,12 @@ pub fn chosen_member(
     requires part { part < length arena.old }
     requires terms { All (λ t. t < length arena.old) terms.now }
     ensures { (n : Numbering) → (cells : names.Env) → (nodes : List GroundNode) → (p : Place) → (e : ExprTree) → (f : ExprTree)
-        → n.count ≡ count → IsNumberOf n cells nodes arena.old e part → AreScalarsOf n cells nodes arena.old f terms.now
+        → n.mode ≡ mode_in scope.entry → n.count ≡ count → IsNumberOf n cells nodes arena.old e part → AreScalarsOf n cells nodes arena.old f terms.now
         → IfOk result (IsTermOf n cells nodes arena.new (in_set p e f)) }
 {
-    let partial = partial_terms(alloc, arena, count, terms)?;
+    let needed = needed_beside(scope, arena, count, part, terms)?;
+    let partial = partial_terms(scope.alloc, arena, count, terms)?;
     let whole = whole_term(arena, part, partial)?;
-    let tests = equalities(alloc, arena, whole, terms)?;
-    put(arena, Node::Or(tests))
+    let tests = equalities(scope.alloc, arena, whole, terms)?;
+    judged(arena, Node::Or(tests), needed)
 }

@@ -4,7 +4,7 @@ ghost use Rattle.std.specs.Prelude.{◌≡◌, true, List, Some, IfOk};
 ghost use Rattle.ep_ground.specs.Nodes.{GroundNode};
 ghost use Rattle.ep_tree.specs.Reach.{decisions_in};
 ghost use Rattle.ep_tree.specs.Views.{expr_tree};
-ghost use Rattle.ep_eval.specs.Scopes.{env_in};
+ghost use Rattle.ep_eval.specs.Scopes.{env_in, mode_in};
 ghost use Rattle.ep_size.specs.Free as free;
 ghost use Rattle.ep_unroll.specs.Picks as defined;
 ghost use Rattle.ep_unroll.specs.Picks.{SlotMeans};
@@ -58,7 +58,7 @@ pub fn are_decided(scope: Scope<'_, '_>, indices: &[Option<Expr>]) -> bool {
 /// What an index without decision variables is; nothing where it has no number.
 pub fn fixed_slot(scope: Scope<'_, '_>, stated: &Expr) -> Result<Option<Slot>, Memory>
     requires { free.is_free (decisions_in (env_in scope)) (expr_tree stated.now) ≡ true }
-    ensures { (n : Numbering) → (nodes : List GroundNode) → IfOk result (SlotMeans n (env_in scope.entry) nodes nodes (Some stated.now)) }
+    ensures { (n : Numbering) → (nodes : List GroundNode) → n.mode ≡ mode_in scope.entry → IfOk result (SlotMeans n (env_in scope.entry) nodes nodes (Some stated.now)) }
 {
     let seen = fixed_value(scope, stated)?;
     match number_of(&seen) {

@@ -9,7 +9,6 @@ ghost use Rattle.ep_ground.specs.GroundViews.{plain_ground};
 ghost use Rattle.ep_instance.specs.Instances.{instance_of, mode_of};
 ghost use Rattle.ep_tree.specs.Closed.{IsClosed};
 ghost use Rattle.ep_tree.specs.Solutions.{instance_limits, instance_size, instance_weight};
-ghost use Rattle.ep_tree.specs.declared.values.Mode.{Mode as EachMode};
 ghost use Rattle.ep_unroll.specs.Cells.{instance_cells};
 ghost use Rattle.ep_unroll.specs.Grounds.{IsGroundOf};
 ghost use Rattle.ep_unroll.specs.Unrolling.{SaysClauses, SaysObjective};
@@ -21,13 +20,12 @@ use ep_ground::{Arena, Ground};
 use ep_instance::Instance;
 use ep_reach::{is_bounded, is_well_formed};
 use ep_size::measure;
-use ep_tree::Mode;
 use std::alloc::Global;
 
 /// The ground of an instance before it is checked.
 fn ground_of(alloc: Global, instance: &Instance) -> Result<Ground, Memory>
     ensures cells { IfOk result (λ g. (plain_ground g).cells ≡ instance_cells (instance_of instance.now)) }
-    ensures terms { IfOk result (λ g. IsGroundOf (instance_of instance.now) (plain_ground g)) }
+    ensures terms { IfOk result (λ g. IsGroundOf (mode_of instance.now) (instance_of instance.now) (plain_ground g)) }
 {
     let env = env_with_cells(alloc, instance)?;
     let table = table_of(alloc, instance.finds())?;
@@ -57,10 +55,16 @@ fn is_small(alloc: Global, instance: &Instance, ground: &Ground) -> Result<bool,
     }
 }
 
-/// The ground of an instance in the relational mode.
-fn relational(alloc: Global, instance: &Instance) -> Result<Ground, Memory>
+/// The ground of an instance: a term for each clause and for the objective, over one cell for each number that is to be
+/// found. It has at most four nodes for each unit of the instance's size and weight.
+///
+/// In the strict mode a truth value's term has a value only where its parts have one, which costs it one node more.
+///
+/// That the ground is well formed, bounded and small is asked of it once it stands, and is believed never to fail.
+pub fn unroll(alloc: Global, instance: &Instance) -> Result<Ground, Memory>
     requires closed { IsClosed (instance_of instance.now) }
-    requires mode { mode_of instance.now ≡ EachMode.Relational }
+    requires small { instance_limits (mode_of instance.now) (instance_of instance.now) ≡ [] }
+    requires values { All (λ f. All IsWithinNumbers f.values) (instance_of instance.now).finds }
     ensures cells { IfOk result (λ g. (plain_ground g).cells ≡ instance_cells (instance_of instance.now)) }
     ensures clauses { IfOk result (λ g. SaysClauses (mode_of instance.now) (instance_of instance.now) (plain_ground g)) }
     ensures objective { IfOk result (λ g. SaysObjective (mode_of instance.now) (instance_of instance.now) (plain_ground g)) }
@@ -78,28 +82,4 @@ fn relational(alloc: Global, instance: &Instance) -> Result<Ground, Memory>
         return Err(Memory);
     }
     Ok(ground)
-}
-
-/// The ground of an instance: a term for each clause and for the objective, over one cell for each number that is to be
-/// found. It has at most four nodes for each unit of the instance's size and weight.
-///
-/// That the ground is well formed, bounded and small is asked of it once it stands, and is believed never to fail. In the
-/// strict mode there is no ground yet: it ends as want of memory.
-pub fn unroll(alloc: Global, instance: &Instance) -> Result<Ground, Memory>
-    requires closed { IsClosed (instance_of instance.now) }
-    requires small { instance_limits (mode_of instance.now) (instance_of instance.now) ≡ [] }
-    requires values { All (λ f. All IsWithinNumbers f.values) (instance_of instance.now).finds }
-    ensures cells { IfOk result (λ g. (plain_ground g).cells ≡ instance_cells (instance_of instance.now)) }
-    ensures clauses { IfOk result (λ g. SaysClauses (mode_of instance.now) (instance_of instance.now) (plain_ground g)) }
-    ensures objective { IfOk result (λ g. SaysObjective (mode_of instance.now) (instance_of instance.now) (plain_ground g)) }
-    ensures well_formed { IfOk result (λ g. IsWellFormed (plain_ground g)) }
-    ensures bounded { IfOk result (λ g. IsBounded (plain_ground g)) }
-    ensures nodes { IfOk result (λ g. length (plain_ground g).nodes
-        ≤ 4 * (instance_size (mode_of instance.now) (instance_of instance.now)
-        + instance_weight (mode_of instance.now) (instance_of instance.now))) }
-{
-    match instance.env().mode() {
-        Mode::Relational => relational(alloc, instance),
-        Mode::Strict => Err(Memory),
-    }
 }

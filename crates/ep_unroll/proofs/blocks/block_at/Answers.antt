@@ -1,4 +1,4 @@
-use Rattle.std.proofs.Common.{◌≡◌, ap, sym, ◌∙◌, refl, length, Some, arith, of_z, to_z, w64}
+use Rattle.std.proofs.Common.{◌≡◌, ap, sym, ◌∙◌, arith, of_z, to_z, w64}
 use Rattle.std.proofs.lemmas.Int.{ints, to_z-of_z}
 use Rattle.std.specs.Prelude.{option_map}
 use Rattle.ep_eval.proofs.WalkSteps.{no_runs}

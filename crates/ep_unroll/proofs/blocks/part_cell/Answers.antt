@@ -1,4 +1,4 @@
-use Rattle.std.proofs.Common.{◌≡◌, ◌∷◌, false, true, length, ap, sym, subst, ◌∙◌, arith, refl, of_z, to_z, w64}
+use Rattle.std.proofs.Common.{◌≡◌, ◌∷◌, length, ap, sym, subst, ◌∙◌, arith, of_z, to_z, w64}
 use Rattle.std.proofs.lemmas.Int.{ints, to_z-of_z}
 use Rattle.std.specs.Ordering.{int_eq}
 use Rattle.ep_eval.specs.Walking.{IsWalkBehind, before_rest, numbers_left}

@@ -1,4 +1,4 @@
-use Rattle.std.proofs.Common.{◌≡◌, ◌∷◌, ◌+◌, ◌*◌, length, ap, sym, subst, ◌∙◌, arith, refl}
+use Rattle.std.proofs.Common.{◌≡◌, ◌∷◌, length, ap, subst, ◌∙◌, arith}
 use Rattle.ep_eval.specs.Walking.{IsWalkBehind, before_rest, numbers_left}
 use Rattle.ep_unroll.proofs.PartSteps.{times_all, times_begin, times_more}
 use Rattle.ep_unroll.proofs.blocks.times.Goals as goal

@@ -1,4 +1,4 @@
-use Rattle.std.proofs.Common.{rules, ◌≡◌, ◌*◌, ap, ◌∙◌, length, arith}
+use Rattle.std.proofs.Common.{rules, ◌≡◌, ap, ◌∙◌, length}
 use Rattle.ep_unroll.proofs.TableSteps.{cells_all, cells_more, cells_none}
 use Rattle.ep_unroll.proofs.cells.cells_over.Goals as goal
 

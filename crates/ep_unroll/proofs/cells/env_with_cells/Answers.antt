@@ -1,4 +1,4 @@
-use Rattle.std.proofs.Common.{ap, sym, ◌∙◌}
+use Rattle.std.proofs.Common.{ap, ◌∙◌}
 use Rattle.ep_eval.specs.Known.{env_of}
 use Rattle.ep_instance.specs.Instances.{instance_of}
 use Rattle.ep_tree.specs.Names.{put_all}

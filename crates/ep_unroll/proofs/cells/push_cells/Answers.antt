@@ -1,4 +1,4 @@
-use Rattle.std.proofs.Common.{List, ap, sym, ◌∙◌, ◌++◌}
+use Rattle.std.proofs.Common.{ap, ◌∙◌, ◌++◌}
 use Rattle.std.specs.Prelude.{map}
 use Rattle.ep_instance.specs.Instances.{find_of}
 use Rattle.ep_unroll.specs.Cells.{cell_of, find_cells, index_lists}

@@ -1,4 +1,4 @@
-use Rattle.std.proofs.Common.{◌≡◌, ap, ◌∙◌, refl, arith}
+use Rattle.std.proofs.Common.{ap, ◌∙◌, refl}
 use Rattle.ep_tree.specs.Solutions.{cell_count}
 use Rattle.ep_unroll.proofs.TableSteps.{tabled_all, tabled_more, tabled_none}
 use Rattle.ep_unroll.proofs.cells.table_of.Goals as goal
@@ -13,4 +13,4 @@ loop-find-preserved c =
     (c.in_ok-cells.ensures ∙ ap cell_count c.deref.ensures.value) c.in-Some.ensures.1 c.in_ok-push.ensures.items c.loop-find.invariant
 
 pub returns : goal.returns
-returns c = tabled_all c.args.finds.now c.loop-find.find-index (record { firsts = c.loop-find.firsts; count = c.loop-find.count }) c.loop-find-test.false c.loop-find.invariant
+returns c mode = tabled_all mode c.args.finds.now c.loop-find.find-index (record { firsts = c.loop-find.firsts; count = c.loop-find.count }) c.loop-find-test.false c.loop-find.invariant

@@ -1,6 +1,6 @@
 use Rattle.std.proofs.Common.{length, refl, subst, sym, ◌<◌, ◌∙◌}
 use Rattle.std.specs.List.{All}
-use Rattle.ep_eval.specs.Scopes.{env_in}
+use Rattle.ep_eval.specs.Scopes.{env_in, mode_in}
 use Rattle.ep_tree.specs.Views.{expr_tree}
 use Rattle.ep_unroll.proofs.FormValues.{grows_long, grows_on, if_ok}
 use Rattle.ep_unroll.proofs.GrownParts.{terms_kept}
@@ -17,11 +17,11 @@ left_matrix-requires c = c.requires.known
 
 pub returns-then-is_matrix : goal.returns-then-is_matrix
 returns-then-is_matrix c nodes p m indices tree known slots =
-    let n = numbering_of c.args.table.now in
+    let n = numbering_of (mode_in c.args.scope) c.args.table.now in
     let env = env_in c.args.scope in
     let new = c.left_matrix.new.arena in
     let e = expr_tree c.args.e.now in
-    if_ok c.left_matrix.result _ _ (λ x h. left_read n env nodes new p m e indices c.in_ok-ty.ty x h tree c.in_ok-ty.ensures (c.is_matrix.ensures c.if-is_matrix.true))
+    if_ok c.left_matrix.result _ _ (λ x h. left_read n env nodes new p m e indices c.in_ok-ty.ty x h tree c.in_ok-ty.ensures (c.is_matrix.ensures c.if-is_matrix.true (mode_in c.args.scope)))
     (c.left_matrix.ensures n env nodes m indices refl known slots)
 
 pub chosen_truth-requires : goal.chosen_truth-requires
@@ -50,9 +50,9 @@ chosen_number-requires c =
       others = λ k d less. grows_long need have _ entries.grows (c.in_ok-others.ensures.known k d less);
     }
 
-pub returns-then-is_truth : goal.returns-then-is_truth
-returns-then-is_truth c nodes p m indices tree known slots =
-    let n = numbering_of c.args.table.now in
+pub returns-then-is_judged : goal.returns-then-is_judged
+returns-then-is_judged c nodes p m indices tree known slots =
+    let n = numbering_of (mode_in c.args.scope) c.args.table.now in
     let env = env_in c.args.scope in
     let mid = c.args.arena.now in
     let need = c.needed_terms.new.arena in
@@ -63,11 +63,11 @@ returns-then-is_truth c nodes p m indices tree known slots =
     record { counted = refl; meant = known; needed = c.in_ok-others.ensures; entries = entries } in
     truth_means n env nodes mid need have c.chosen_truth.new.arena p m (expr_tree c.args.e.now) indices c.args.known.now c.args.slots.now c.args.table.now.count es.keys.items es.terms.items
     c.in_ok-indices.indices.items c.in_ok-others.others.items c.in_ok-term.term choice slots c.in_ok-indices.ensures c.in_ok-term.ensures tree
-    (sym (c.is_truth.ensures.truth c.if-is_truth.true) ∙ c.in_ok-ty.ensures)
+    (sym (c.is_judged.ensures.truth c.if-is_judged.true) ∙ c.in_ok-ty.ensures) (c.is_judged.ensures.mode c.if-is_judged.true)
 
 pub returns : goal.returns
 returns c nodes p m indices tree known slots =
-    let n = numbering_of c.args.table.now in
+    let n = numbering_of (mode_in c.args.scope) c.args.table.now in
     let env = env_in c.args.scope in
     let mid = c.args.arena.now in
     let need = c.needed_terms.new.arena in
@@ -78,4 +78,4 @@ returns c nodes p m indices tree known slots =
     record { counted = refl; meant = known; needed = c.in_ok-others.ensures; entries = entries } in
     chosen_means n env nodes mid need have c.chosen_number.new.arena p m (expr_tree c.args.e.now) indices c.args.known.now c.args.slots.now c.args.table.now.count es.keys.items es.terms.items
     c.in_ok-indices.indices.items c.in_ok-others.others.items c.in_ok-ty.ty c.in_ok-term-2.term choice slots c.in_ok-indices.ensures c.in_ok-term-2.ensures tree c.in_ok-ty.ensures
-    (c.is_truth.ensures.other c.if-is_truth.false)
+    (c.is_judged.ensures.other c.if-is_judged.false)

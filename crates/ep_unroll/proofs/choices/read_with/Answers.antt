@@ -1,7 +1,7 @@
-use Rattle.std.proofs.Common.{length, subst, sym}
+use Rattle.std.proofs.Common.{length, refl, subst, sym}
 use Rattle.std.specs.Prelude.{option_map}
 use Rattle.std.specs.List.{All}
-use Rattle.ep_eval.specs.Scopes.{env_in}
+use Rattle.ep_eval.specs.Scopes.{env_in, mode_in}
 use Rattle.ep_unroll.specs.Firsts.{numbering_of}
 use Rattle.ep_unroll.specs.Picks.{AreKnown, AreSlotsOf, IsSlot, SlotsMean}
 use Rattle.ep_unroll.proofs.choices.read_with.Goals as goal
@@ -17,7 +17,7 @@ chosen-requires c = record {
 pub returns-in-Some : goal.returns-in-Some
 unfolding SlotsMean
 returns-in-Some c nodes p m indices tree known slots =
-    let n = numbering_of c.args.table.now in
+    let n = numbering_of (mode_in c.args.scope) c.args.table.now in
     let env = env_in c.args.scope in
     c.chosen.ensures nodes p m indices tree known
     (subst (AreSlotsOf n env nodes c.args.arena.now indices) (sym c.deref.ensures.value) (subst (λ found. SlotsMean n env nodes c.args.arena.now indices (option_map (λ v. v.items) found)) c.in-Some.is slots))
@@ -25,6 +25,6 @@ returns-in-Some c nodes p m indices tree known slots =
 pub returns : goal.returns
 unfolding SlotsMean
 returns c nodes p m indices tree known slots =
-    let n = numbering_of c.args.table.now in
+    let n = numbering_of (mode_in c.args.scope) c.args.table.now in
     let none = subst (λ found. SlotsMean n (env_in c.args.scope) nodes c.args.arena.now indices (option_map (λ v. v.items) found)) c.in-None.is slots in
-    c.read_without.ensures n nodes c.args.arena.now p m indices tree none.0 none.1
+    c.read_without.ensures n nodes c.args.arena.now p m indices refl tree none.0 none.1

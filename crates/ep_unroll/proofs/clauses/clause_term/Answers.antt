@@ -21,5 +21,5 @@ pub returns : goal.returns
 unfolding with_all
 returns c =
     if_ok c.put.result _ _
-    (λ t put. clause_is (numbering_of c.args.table.now) (env_of c.args.env.now) c.args.arena.now c.term_of.new.arena c.put.new.arena (expr_tree c.args.clause.now) c.in_ok-term.term t c.in_ok-term.ensures
+    (λ t put. clause_is (numbering_of c.args.env.now.mode c.args.table.now) (env_of c.args.env.now) c.args.arena.now c.term_of.new.arena c.put.new.arena (expr_tree c.args.clause.now) c.in_ok-term.term t c.in_ok-term.ensures
     (subst (λ ts. Puts c.term_of.new.arena c.put.new.arena (all_of ts) t) (c.in_ok-push.ensures.items ∙ ap (λ xs. xs ++ c.in_ok-term.term ∷ []) c.new-parts.ensures.items) put)) c.put.ensures

@@ -1,7 +1,7 @@
 use Rattle.std.proofs.Common.{◌+◌, ◌*◌, length}
 use Rattle.ep_base.specs.declared.places.Place.{Place}
 use Rattle.ep_eval.specs.Ranks.{depth_of}
-use Rattle.ep_eval.specs.Scopes.{env_in}
+use Rattle.ep_eval.specs.Scopes.{env_in, mode_in}
 use Rattle.ep_eval.specs.Walking.{IsWalk, numbers_left}
 use Rattle.ep_tree.specs.Views.{domain_tree}
 use Rattle.ep_unroll.proofs.CycleSteps.{InstancesSoFar, SignedSoFar, TermsSoFar}
@@ -64,14 +64,14 @@ decreases-instances-loop-number l = length (numbers_left l.walk)
 abbrev pub invariant-instances-loop-number : goal.invariant-instances-loop-number
 invariant-instances-loop-number l =
     (IsWalk l.walk)
-    × ((p : Place) → InstancesSoFar (numbering_of l.table) (env_in l.scope) l.fn.arena l.arena p l.quantifier l.name l.rest l.set (numbers_left l.walk) l.terms.items)
-    × AreOfScalar (numbering_of l.table) (env_in l.scope) (domain_tree l.quantifier.domain.now) (numbers_left l.walk)
+    × ((p : Place) → InstancesSoFar (numbering_of (mode_in l.scope) l.table) (env_in l.scope) l.fn.arena l.arena p l.quantifier l.name l.rest l.set (numbers_left l.walk) l.terms.items)
+    × AreOfScalar (numbering_of (mode_in l.scope) l.table) (env_in l.scope) (domain_tree l.quantifier.domain.now) (numbers_left l.walk)
 
 abbrev pub invariant-terms_of_all-loop-part : goal.invariant-terms_of_all-loop-part
-invariant-terms_of_all-loop-part l = TermsSoFar (numbering_of l.table) (env_in l.scope) l.fn.arena l.arena l.parts l.part-index l.terms.items
+invariant-terms_of_all-loop-part l = TermsSoFar (numbering_of (mode_in l.scope) l.table) (env_in l.scope) l.fn.arena l.arena l.parts l.part-index l.terms.items
 
 abbrev pub invariant-signed_terms-loop-term : goal.invariant-signed_terms-loop-term
-invariant-signed_terms-loop-term l = SignedSoFar (numbering_of l.table) (env_in l.scope) l.fn.arena l.arena l.terms l.term-index l.parts.items
+invariant-signed_terms-loop-term l = SignedSoFar (numbering_of (mode_in l.scope) l.table) (env_in l.scope) l.fn.arena l.arena l.terms l.term-index l.parts.items
 
 abbrev pub decreases-read_unrolled : goal.decreases-read_unrolled
 decreases-read_unrolled l = goal.size-read_unrolled l * 1361129467683753853853498429727072845824 + 9000000000000000000
@@ -83,7 +83,7 @@ abbrev pub decreases-slot_of : goal.decreases-slot_of
 decreases-slot_of l = goal.size-slot_of l * 1361129467683753853853498429727072845824 + 9000000000000000003
 
 abbrev pub invariant-slots_of-loop-index : goal.invariant-slots_of-loop-index
-invariant-slots_of-loop-index l = SlotsSoFar (numbering_of l.table) (env_in l.scope) l.fn.arena l.arena l.indices l.index-index l.slots.items
+invariant-slots_of-loop-index l = SlotsSoFar (numbering_of (mode_in l.scope) l.table) (env_in l.scope) l.fn.arena l.arena l.indices l.index-index l.slots.items
 
 abbrev pub decreases-with_matrix : goal.decreases-with_matrix
 decreases-with_matrix l = goal.size-with_matrix l * 1361129467683753853853498429727072845824 + 8999999999999999996
@@ -115,11 +115,11 @@ decreases-over_numbers-loop-number l = length (numbers_left l.walk)
 abbrev pub invariant-over_numbers-loop-number : goal.invariant-over_numbers-loop-number
 invariant-over_numbers-loop-number l =
     (IsWalk l.walk)
-    × ListsSoFar (numbering_of l.table) (env_in l.scope) l.fn.arena l.arena (parts_in l.fn.parts) (parts_in l.more) (λ env. parts_at env l.ranging l.name l.rest) l.set (numbers_left l.walk)
-    × AreOfScalar (numbering_of l.table) (env_in l.scope) (domain_tree l.ranging.domain.now) (numbers_left l.walk)
+    × ListsSoFar (numbering_of (mode_in l.scope) l.table) (env_in l.scope) l.fn.arena l.arena (parts_in l.fn.parts) (parts_in l.more) (λ env. parts_at (mode_in l.scope) env l.ranging l.name l.rest) l.set (numbers_left l.walk)
+    × AreOfScalar (numbering_of (mode_in l.scope) l.table) (env_in l.scope) (domain_tree l.ranging.domain.now) (numbers_left l.walk)
 
 abbrev pub invariant-parts_of_all-loop-part : goal.invariant-parts_of_all-loop-part
-invariant-parts_of_all-loop-part l = KnownSoFar (numbering_of l.table) (env_in l.scope) l.fn.arena l.arena l.parts l.part-index l.known.items
+invariant-parts_of_all-loop-part l = KnownSoFar (numbering_of (mode_in l.scope) l.table) (env_in l.scope) l.fn.arena l.arena l.parts l.part-index l.known.items
 
 abbrev pub decreases-scalars_of : goal.decreases-scalars_of
 decreases-scalars_of l = goal.size-scalars_of l * 1361129467683753853853498429727072845824 + 9000000000000000002

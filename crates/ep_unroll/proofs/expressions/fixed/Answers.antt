@@ -1,8 +1,14 @@
-use Rattle.std.proofs.Common.{refl, sym}
+use Rattle.std.proofs.Common.{ap, refl, sym, ◌∙◌}
+use Rattle.ep_tree.specs.Evaluation.{evaluate}
+use Rattle.ep_tree.specs.Views.{expr_tree}
 use Rattle.ep_unroll.proofs.MeaningSteps.{grows_none}
 use Rattle.ep_unroll.specs.Meanings.{AreTerms, worth}
 use Rattle.ep_unroll.proofs.expressions.fixed.Goals as goal
 
 pub returns : goal.returns
 unfolding worth AreTerms
-returns c n nodes = record { grows = grows_none nodes nodes refl; known = tt; value = λ r. sym (c.in_ok-seen.ensures n r) }
+returns c n nodes mode = record {
+  grows = grows_none nodes nodes refl;
+  known = tt;
+  value = λ r. sym (ap (λ m. evaluate m r.values (expr_tree c.args.e.now)) mode ∙ c.in_ok-seen.ensures n r);
+}

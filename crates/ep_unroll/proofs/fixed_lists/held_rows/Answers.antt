@@ -1,5 +1,5 @@
 use Rattle.std.proofs.Common.{◌≡◌, sym, ap, subst, ◌∙◌}
-use Rattle.std.specs.Prelude.{IfOk, map}
+use Rattle.std.specs.Prelude.{IfOk}
 use Rattle.ep_tree.specs.Values.{rows_of}
 use Rattle.ep_eval.proofs.ValueScalars.{rows_single}
 use Rattle.ep_eval.specs.Helds.{held_value}

@@ -1,4 +1,4 @@
-use Rattle.std.proofs.Common.{◌≡◌, length, pos, ap, ◌∙◌, List, ℤ}
+use Rattle.std.proofs.Common.{◌≡◌, length, pos, ap, ◌∙◌}
 use Rattle.std.specs.Prelude.{option_map}
 use Rattle.ep_base.specs.Runs.{counting}
 use Rattle.ep_tree.specs.Values.{all_defined, as_parts, matrix}

@@ -1,4 +1,4 @@
-use Rattle.std.proofs.Common.{ap, sym, subst, ◌∷◌, [], length, ◌<◌, pos, negsuc}
+use Rattle.std.proofs.Common.{sym, subst, length, ◌<◌, pos}
 use Rattle.std.specs.Prelude.{map, ℤ, ℕ}
 use Rattle.std.specs.List.{All}
 use Rattle.ep_ground.specs.Nodes.{parts_of, sum}

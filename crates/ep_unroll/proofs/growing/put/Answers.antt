@@ -1,6 +1,3 @@
-use Rattle.std.proofs.Common.{Ok, subst}
-use Rattle.std.specs.Prelude.{IfOk, OnOk, slice_get, ◌≡◌, Some}
-use Rattle.ep_ground.specs.ArenaSteps.{Interned}
 use Rattle.ep_ground.specs.NodeViews.{plain_node}
 use Rattle.ep_unroll.proofs.NodeValues.{put_is}
 use Rattle.ep_unroll.proofs.growing.put.Goals as goal

@@ -2,14 +2,14 @@ use Rattle.std.proofs.Common.{Some, ap, sym, ◌∙◌}
 use Rattle.ep_eval.proofs.LiteralForms.{index_values-none, index_values-some}
 use Rattle.ep_tree.specs.Evaluation.{domain_values}
 use Rattle.ep_tree.specs.Views.{domain_tree}
-use Rattle.ep_tree.specs.declared.values.Mode.{Mode}
+use Rattle.ep_eval.specs.Scopes.{mode_in}
 use Rattle.ep_unroll.proofs.literals.index_set.Goals as goal
 
 pub returns-in_ok-set-in-Some : goal.returns-in_ok-set-in-Some
 returns-in_ok-set-in-Some c n r =
-    sym (index_values-some Mode.Relational r.values c.args.domain.now c.in-Some.stated c.args.count c.in-Some.is)
-    ∙ ap (λ d. domain_values Mode.Relational r.values (domain_tree d)) (sym c.deref.ensures) ∙ c.in_ok-set-in-Some.ensures.kept n r
+    sym (index_values-some (mode_in c.args.scope) r.values c.args.domain.now c.in-Some.stated c.args.count c.in-Some.is)
+    ∙ ap (λ d. domain_values (mode_in c.args.scope) r.values (domain_tree d)) (sym c.deref.ensures) ∙ c.in_ok-set-in-Some.ensures.kept n r
 
 pub returns-in_ok-set-in-None : goal.returns-in_ok-set-in-None
 returns-in_ok-set-in-None c n r =
-    sym (ap Some c.in_ok-set-in-None.ensures ∙ index_values-none Mode.Relational r.values c.args.domain.now c.args.count c.in-None.is)
+    sym (ap Some c.in_ok-set-in-None.ensures ∙ index_values-none (mode_in c.args.scope) r.values c.args.domain.now c.args.count c.in-None.is)

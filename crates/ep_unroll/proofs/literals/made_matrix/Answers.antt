@@ -1,7 +1,7 @@
-use Rattle.std.proofs.Common.{Some, None, ap, length, sym, ◌∙◌}
+use Rattle.std.proofs.Common.{ap, sym, ◌∙◌}
 use Rattle.ep_tree.specs.Evaluation.{index_values, on_both}
 use Rattle.ep_tree.specs.Values.{all_defined, with_indices}
-use Rattle.ep_tree.specs.declared.values.Mode.{Mode}
+use Rattle.ep_eval.specs.Scopes.{mode_in}
 use Rattle.ep_eval.specs.Literals.{index_at}
 use Rattle.ep_unroll.proofs.FormValues.{if_ok}
 use Rattle.ep_unroll.proofs.PartListSteps.{no_indices, parts_counted}
@@ -16,7 +16,7 @@ returns-in-Some-clause-value c =
     if_ok c.matrix_of.result _ _
     (λ x value n r nodes. value nodes r.numbers
     ∙ ap (λ o. on_both o (all_defined (worths nodes r.numbers parts.items)) with_indices) (sym (c.in_ok-set.ensures n r ∙ c.in-Some.is))
-    ∙ ap (λ k. on_both (index_values Mode.Relational r.values d k) (all_defined (worths nodes r.numbers parts.items)) with_indices) (c.len.ensures ∙ parts_counted parts))
+    ∙ ap (λ k. on_both (index_values (mode_in c.args.scope) r.values d k) (all_defined (worths nodes r.numbers parts.items)) with_indices) (c.len.ensures ∙ parts_counted parts))
     c.matrix_of.ensures.value
 
 pub returns-clause-value : goal.returns-clause-value
@@ -26,7 +26,7 @@ returns-clause-value c n r nodes =
     let parts = c.args.parts in
     sym (no_indices (all_defined (worths nodes r.numbers parts.items)) with_indices)
     ∙ ap (λ o. on_both o (all_defined (worths nodes r.numbers parts.items)) with_indices) (sym (c.in_ok-set.ensures n r ∙ c.in-None.is))
-    ∙ ap (λ k. on_both (index_values Mode.Relational r.values d k) (all_defined (worths nodes r.numbers parts.items)) with_indices) (c.len.ensures ∙ parts_counted parts)
+    ∙ ap (λ k. on_both (index_values (mode_in c.args.scope) r.values d k) (all_defined (worths nodes r.numbers parts.items)) with_indices) (c.len.ensures ∙ parts_counted parts)
 
 pub returns-clause-terms : goal.returns-clause-terms
 unfolding AreTerms

@@ -1,11 +1,17 @@
+use Rattle.ep_eval.specs.Scopes.{mode_in}
 use Rattle.ep_ground.specs.Nodes.{parts_of}
-use Rattle.ep_unroll.proofs.FormValues.{if_ok}
+use Rattle.ep_unroll.proofs.FormValues.{asked_of, if_ok}
 use Rattle.ep_unroll.proofs.MatrixSteps.{different_term}
 use Rattle.ep_unroll.proofs.matrices.different_term.Goals as goal
 
-pub put-requires : goal.put-requires
+pub judged-requires : goal.judged-requires
 unfolding parts_of
-put-requires c = c.requires
+judged-requires c = record { node = c.requires; others = c.in_ok-needed.ensures.known }
 
 pub returns : goal.returns
-returns c n cells nodes p e h = if_ok c.put.result _ _ (λ t put. different_term n cells nodes c.args.arena.now c.put.new.arena p e c.args.terms.items t h put) c.put.ensures
+returns c n cells nodes p e mode count h =
+    let old = c.args.arena.now in
+    let us = c.in_ok-needed.needed.items in
+    if_ok c.judged.result _ _
+    (λ t j. different_term n cells nodes old c.judged.new.arena p e c.args.terms.items us t h
+    (asked_of n old c.args.count (mode_in c.args.scope) c.deref.result.now c.args.terms.items us c.deref.ensures.value mode count c.in_ok-needed.ensures) j) c.judged.ensures

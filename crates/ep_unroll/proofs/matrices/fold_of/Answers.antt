@@ -1,8 +1,10 @@
-use Rattle.std.proofs.Common.{subst, sym}
+use Rattle.std.proofs.Common.{length, subst, sym, ◌<◌}
+use Rattle.std.specs.List.{All}
+use Rattle.ep_eval.specs.Scopes.{mode_in}
 use Rattle.ep_ground.specs.Nodes.{parts_of}
 use Rattle.ep_tree.specs.Evaluation.{scalars_in}
 use Rattle.ep_tree.specs.Trees.{folded}
-use Rattle.ep_unroll.proofs.FormValues.{if_ok}
+use Rattle.ep_unroll.proofs.FormValues.{asked_of, if_ok}
 use Rattle.ep_unroll.proofs.MatrixSteps.{every_term, greatest_is, least_is, some_term}
 use Rattle.ep_unroll.proofs.ProductSteps.{product_is}
 use Rattle.ep_unroll.proofs.ScalarSteps.{adds_known, scalars_are}
@@ -16,14 +18,14 @@ pub scalar_terms-requires : goal.scalar_terms-requires
 scalar_terms-requires c = c.requires
 
 pub returns-in-Sum : goal.returns-in-Sum
-returns-in-Sum c n cells nodes p e h =
+returns-in-Sum c n cells nodes p e mode count h =
     if_ok c.sum_of_all.result _ _ (λ t own. subst (λ op. IsTermOf n cells nodes c.sum_of_all.new.arena (folded p op e) t) (sym c.in-Sum.is) own) (c.sum_of_all.ensures n cells nodes p e h)
 
 pub product_of_all-requires : goal.product_of_all-requires
 product_of_all-requires c = adds_known c.args.arena.now c.scalar_terms.new.arena c.in_ok-terms-in-Product.terms.items (λ numbers. scalars_in (worth c.args.arena.now numbers c.args.known.now)) c.in_ok-terms-in-Product.ensures
 
 pub returns-in_ok-terms-in-Product : goal.returns-in_ok-terms-in-Product
-returns-in_ok-terms-in-Product c n cells nodes p e h =
+returns-in_ok-terms-in-Product c n cells nodes p e mode count h =
     let mid = c.scalar_terms.new.arena in
     let new = c.product_of_all.new.arena in
     let ts = c.in_ok-terms-in-Product.terms.items in
@@ -31,37 +33,57 @@ returns-in_ok-terms-in-Product c n cells nodes p e h =
     (λ t own. subst (λ op. IsTermOf n cells nodes new (folded p op e) t) (sym c.in-Product.is)
     (product_is n cells nodes mid new p e ts t (scalars_are n cells nodes c.args.arena.now mid e c.args.known.now ts h c.in_ok-terms-in-Product.ensures) own)) c.product_of_all.ensures
 
-pub put-requires : goal.put-requires
+pub judged-requires : goal.judged-requires
 unfolding parts_of
-put-requires c = adds_known c.args.arena.now c.scalar_terms-in-And.new.arena c.in_ok-terms-in-And.terms.items (λ numbers. scalars_in (worth c.args.arena.now numbers c.args.known.now)) c.in_ok-terms-in-And.ensures
+judged-requires c = record {
+  node = adds_known c.args.arena.now c.scalar_terms-in-And.new.arena c.in_ok-terms-in-And.terms.items (λ numbers. scalars_in (worth c.args.arena.now numbers c.args.known.now)) c.in_ok-terms-in-And.ensures;
+  others = c.in_ok-needed-in-And.ensures.known;
+}
 
-pub returns-in_ok-terms-in-And : goal.returns-in_ok-terms-in-And
-returns-in_ok-terms-in-And c n cells nodes p e h =
+pub needed_parts-requires : goal.needed_parts-requires
+needed_parts-requires c =
+    subst (All (λ t. t < length c.scalar_terms-in-And.new.arena)) (sym c.deref.ensures.value)
+    (adds_known c.args.arena.now c.scalar_terms-in-And.new.arena c.in_ok-terms-in-And.terms.items (λ numbers. scalars_in (worth c.args.arena.now numbers c.args.known.now)) c.in_ok-terms-in-And.ensures)
+
+pub returns-in_ok-needed-in-And : goal.returns-in_ok-needed-in-And
+returns-in_ok-needed-in-And c n cells nodes p e mode count h =
     let mid = c.scalar_terms-in-And.new.arena in
-    let new = c.put.new.arena in
+    let new = c.judged.new.arena in
     let ts = c.in_ok-terms-in-And.terms.items in
-    if_ok c.put.result _ _
-    (λ t own. subst (λ op. IsTermOf n cells nodes new (folded p op e) t) (sym c.in-And.is)
-    (every_term n cells nodes mid new p e ts t (scalars_are n cells nodes c.args.arena.now mid e c.args.known.now ts h c.in_ok-terms-in-And.ensures) own)) c.put.ensures
+    let us = c.in_ok-needed-in-And.needed.items in
+    if_ok c.judged.result _ _
+    (λ t j. subst (λ op. IsTermOf n cells nodes new (folded p op e) t) (sym c.in-And.is)
+    (every_term n cells nodes mid new p e ts us t (scalars_are n cells nodes c.args.arena.now mid e c.args.known.now ts h c.in_ok-terms-in-And.ensures)
+    (asked_of n mid c.args.count (mode_in c.args.scope) c.deref.result.now ts us c.deref.ensures.value mode count c.in_ok-needed-in-And.ensures) j)) c.judged.ensures
 
-pub put-requires-in-Or : goal.put-requires-in-Or
+pub judged-requires-in-Or : goal.judged-requires-in-Or
 unfolding parts_of
-put-requires-in-Or c = adds_known c.args.arena.now c.scalar_terms-in-Or.new.arena c.in_ok-terms-in-Or.terms.items (λ numbers. scalars_in (worth c.args.arena.now numbers c.args.known.now)) c.in_ok-terms-in-Or.ensures
+judged-requires-in-Or c = record {
+  node = adds_known c.args.arena.now c.scalar_terms-in-Or.new.arena c.in_ok-terms-in-Or.terms.items (λ numbers. scalars_in (worth c.args.arena.now numbers c.args.known.now)) c.in_ok-terms-in-Or.ensures;
+  others = c.in_ok-needed-in-Or.ensures.known;
+}
 
-pub returns-in_ok-terms-in-Or : goal.returns-in_ok-terms-in-Or
-returns-in_ok-terms-in-Or c n cells nodes p e h =
+pub needed_parts-requires-in-Or : goal.needed_parts-requires-in-Or
+needed_parts-requires-in-Or c =
+    subst (All (λ t. t < length c.scalar_terms-in-Or.new.arena)) (sym c.deref-in-Or.ensures.value)
+    (adds_known c.args.arena.now c.scalar_terms-in-Or.new.arena c.in_ok-terms-in-Or.terms.items (λ numbers. scalars_in (worth c.args.arena.now numbers c.args.known.now)) c.in_ok-terms-in-Or.ensures)
+
+pub returns-in_ok-needed-in-Or : goal.returns-in_ok-needed-in-Or
+returns-in_ok-needed-in-Or c n cells nodes p e mode count h =
     let mid = c.scalar_terms-in-Or.new.arena in
-    let new = c.put-in-Or.new.arena in
+    let new = c.judged-in-Or.new.arena in
     let ts = c.in_ok-terms-in-Or.terms.items in
-    if_ok c.put-in-Or.result _ _
-    (λ t own. subst (λ op. IsTermOf n cells nodes new (folded p op e) t) (sym c.in-Or.is)
-    (some_term n cells nodes mid new p e ts t (scalars_are n cells nodes c.args.arena.now mid e c.args.known.now ts h c.in_ok-terms-in-Or.ensures) own)) c.put-in-Or.ensures
+    let us = c.in_ok-needed-in-Or.needed.items in
+    if_ok c.judged-in-Or.result _ _
+    (λ t j. subst (λ op. IsTermOf n cells nodes new (folded p op e) t) (sym c.in-Or.is)
+    (some_term n cells nodes mid new p e ts us t (scalars_are n cells nodes c.args.arena.now mid e c.args.known.now ts h c.in_ok-terms-in-Or.ensures)
+    (asked_of n mid c.args.count (mode_in c.args.scope) c.deref-in-Or.result.now ts us c.deref-in-Or.ensures.value mode count c.in_ok-needed-in-Or.ensures) j)) c.judged-in-Or.ensures
 
 pub least_of_all-requires : goal.least_of_all-requires
 least_of_all-requires c = adds_known c.args.arena.now c.scalar_terms-in-Min.new.arena c.in_ok-terms-in-Min.terms.items (λ numbers. scalars_in (worth c.args.arena.now numbers c.args.known.now)) c.in_ok-terms-in-Min.ensures
 
 pub returns-in_ok-terms-in-Min : goal.returns-in_ok-terms-in-Min
-returns-in_ok-terms-in-Min c n cells nodes p e h =
+returns-in_ok-terms-in-Min c n cells nodes p e mode count h =
     let mid = c.scalar_terms-in-Min.new.arena in
     let new = c.least_of_all.new.arena in
     let ts = c.in_ok-terms-in-Min.terms.items in
@@ -73,7 +95,7 @@ pub greatest_of_all-requires : goal.greatest_of_all-requires
 greatest_of_all-requires c = adds_known c.args.arena.now c.scalar_terms-in-Max.new.arena c.in_ok-terms-in-Max.terms.items (λ numbers. scalars_in (worth c.args.arena.now numbers c.args.known.now)) c.in_ok-terms-in-Max.ensures
 
 pub returns-in_ok-terms-in-Max : goal.returns-in_ok-terms-in-Max
-returns-in_ok-terms-in-Max c n cells nodes p e h =
+returns-in_ok-terms-in-Max c n cells nodes p e mode count h =
     let mid = c.scalar_terms-in-Max.new.arena in
     let new = c.greatest_of_all.new.arena in
     let ts = c.in_ok-terms-in-Max.terms.items in

@@ -1,5 +1,5 @@
 use Rattle.std.proofs.Common.{refl}
-use Rattle.ep_eval.specs.Scopes.{env_in}
+use Rattle.ep_eval.specs.Scopes.{env_in, mode_in}
 use Rattle.ep_unroll.proofs.PartSteps.{stands_means}
 use Rattle.ep_unroll.specs.Firsts.{numbering_of}
 use Rattle.ep_unroll.specs.Meanings.{AreTerms, worth}
@@ -10,4 +10,4 @@ pub returns : goal.returns
 unfolding worth AreTerms
 returns c nodes p =
     let block = c.in_ok-block.block in
-    stands_means (numbering_of c.args.table.now) (env_in c.args.scope) nodes p c.args.name.now block.first block.domains.now (Cells block.first block.domains) c.in_ok-block.ensures (λ numbers. refl) tt
+    stands_means (numbering_of (mode_in c.args.scope) c.args.table.now) (env_in c.args.scope) nodes p c.args.name.now block.first block.domains.now (Cells block.first block.domains) c.in_ok-block.ensures (λ numbers. refl) tt

@@ -1,4 +1,4 @@
-use Rattle.std.proofs.Common.{ap, sym, ◌∙◌, length}
+use Rattle.std.proofs.Common.{length}
 use Rattle.ep_eval.proofs.WalkSteps.{no_runs}
 use Rattle.ep_ground.specs.Nodes.{parts_of}
 use Rattle.ep_tree.specs.Evaluation.{number_in}

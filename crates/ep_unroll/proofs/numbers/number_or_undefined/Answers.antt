@@ -1,4 +1,4 @@
-use Rattle.std.proofs.Common.{ap, sym, subst, ◌∙◌, Some, length, w64, arith, refl}
+use Rattle.std.proofs.Common.{subst, length, w64, arith}
 use Rattle.std.proofs.lemmas.Int.{ints, to_z-of_z}
 use Rattle.ep_ground.specs.Nodes.{constant, parts_of}
 use Rattle.ep_unroll.proofs.FormSteps.{none_known}

@@ -1,4 +1,4 @@
-use Rattle.std.proofs.Common.{◌≡◌, ◌∷◌, ◌++◌, ◌∙◌, ◌+◌, ℕ, ℤ, List, None, Some, ap, arith, length, of_z, refl, subst, sym, to_z, w64}
+use Rattle.std.proofs.Common.{◌≡◌, ◌∷◌, ◌++◌, ◌∙◌, ◌+◌, ℕ, ℤ, List, ap, arith, length, of_z, subst, sym, to_z, w64}
 use Rattle.std.specs.Prelude.{map, option_map}
 use Rattle.std.proofs.lemmas.Int.{ints, to_z-of_z}
 use Rattle.ep_base.proofs.RunSteps.{numbers_ascend}

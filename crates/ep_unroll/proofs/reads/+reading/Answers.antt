@@ -1,4 +1,4 @@
-use Rattle.std.proofs.Common.{◌≡◌, ◌∷◌, None, Some, ap, arith, length, of_z, refl, subst, sym, to_z, w64, ◌∙◌}
+use Rattle.std.proofs.Common.{◌≡◌, ◌∷◌, None, ap, arith, length, of_z, refl, subst, sym, to_z, w64, ◌∙◌}
 use Rattle.std.specs.Prelude.{option_map}
 use Rattle.std.proofs.lemmas.Int.{ints, to_z-of_z}
 use Rattle.ep_eval.proofs.WalkSteps.{no_runs}

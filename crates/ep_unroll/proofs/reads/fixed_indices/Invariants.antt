@@ -1,8 +1,7 @@
-use Rattle.std.proofs.Common.{◌≡◌}
-use Rattle.ep_eval.specs.Scopes.{env_in}
+use Rattle.ep_eval.specs.Scopes.{env_in, mode_in}
 use Rattle.ep_unroll.proofs.PartSteps.{IndicesSoFar}
 use Rattle.ep_unroll.specs.Readings.{Numbering, Reading}
 use Rattle.ep_unroll.proofs.reads.fixed_indices.Given as goal
 
 abbrev pub invariant-loop-index : goal.invariant-loop-index
-invariant-loop-index l = (n : Numbering) (r : Reading n (env_in l.scope)) → IndicesSoFar r.values l.indices l.index-index l.numbers.items
+invariant-loop-index l = (n : Numbering) (r : Reading n (env_in l.scope)) → IndicesSoFar (mode_in l.scope) r.values l.indices l.index-index l.numbers.items

@@ -1,12 +1,10 @@
-use Rattle.std.proofs.Common.{ap}
+use Rattle.std.proofs.Common.{ap, ◌∙◌}
 use Rattle.ep_tree.specs.Evaluation.{read_result}
-use Rattle.ep_tree.specs.declared.values.Mode.{Mode}
+use Rattle.ep_unroll.proofs.PartSteps.{plain_empty, plain_matrix}
 use Rattle.ep_unroll.proofs.reads.is_matrix.Goals as goal
 
 pub returns-in-Matrix : goal.returns-in-Matrix
-unfolding read_result
-returns-in-Matrix c told o = ap (λ t. read_result Mode.Relational t o) c.in-Matrix.is
+returns-in-Matrix c told mode o = ap (λ t. read_result mode t o) c.in-Matrix.is ∙ plain_matrix mode _ _ o
 
 pub returns-in-Empty : goal.returns-in-Empty
-unfolding read_result
-returns-in-Empty c told o = ap (λ t. read_result Mode.Relational t o) c.in-Empty.is
+returns-in-Empty c told mode o = ap (λ t. read_result mode t o) c.in-Empty.is ∙ plain_empty mode o

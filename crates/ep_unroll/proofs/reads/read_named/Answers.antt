@@ -1,6 +1,6 @@
-use Rattle.std.proofs.Common.{◌≡◌, None, Some, ap, length, refl, sym, ◌∙◌}
+use Rattle.std.proofs.Common.{None, Some, ap, length, refl, sym, ◌∙◌}
 use Rattle.std.specs.Prelude.{option_map}
-use Rattle.ep_eval.specs.Scopes.{env_in}
+use Rattle.ep_eval.specs.Scopes.{env_in, mode_in}
 use Rattle.ep_tree.specs.Values.{read_value}
 use Rattle.ep_tree.specs.Views.{expr_tree, indices_of}
 use Rattle.ep_unroll.proofs.PartSteps.{read_done}
@@ -11,7 +11,7 @@ use Rattle.ep_unroll.proofs.reads.read_named.Goals as goal
 
 pub returns-in_ok-left-in-Some : goal.returns-in_ok-left-in-Some
 returns-in_ok-left-in-Some c nodes p q tree =
-    let n = numbering_of c.args.table.now in
+    let n = numbering_of (mode_in c.args.scope) c.args.table.now in
     let block = c.in_ok-block.block in
     let is = c.deref.result.now in
     read_done n (env_in c.args.scope) nodes p q c.args.name.now (indices_of c.args.indices.now) (expr_tree c.args.e.now) block.first block.domains.now (Some (indices_in is)) c.in_ok-ty.ty c.finish_read.result
@@ -23,7 +23,7 @@ returns-in_ok-left-in-Some c nodes p q tree =
 pub returns-in-None : goal.returns-in-None
 unfolding AreTerms IsWorth
 returns-in-None c nodes p q tree =
-    let n = numbering_of c.args.table.now in
+    let n = numbering_of (mode_in c.args.scope) c.args.table.now in
     let block = c.in_ok-block.block in
     read_done n (env_in c.args.scope) nodes p q c.args.name.now (indices_of c.args.indices.now) (expr_tree c.args.e.now) block.first block.domains.now None c.in_ok-ty.ty c.finish_read-in-None.result
     c.in_ok-block.ensures tree c.in_ok-ty.ensures

@@ -1,4 +1,4 @@
-use Rattle.std.proofs.Common.{◌+◌, [], ◌∷◌, Some, drop, get_or, length, pos, refl, subst, sym, w64, ap, ◌∙◌, rules}
+use Rattle.std.proofs.Common.{◌+◌, [], ◌∷◌, Some, drop, get_or, length, pos, refl, subst, w64, ap, rules}
 use Rattle.std.proofs.lemmas.Int.{to_z-of_z}
 use Rattle.std.proofs.lemmas.List.{drop_all}
 use Rattle.ep_ground.specs.Nodes.{constant, parts_of}

@@ -1,16 +1,19 @@
-use Rattle.std.proofs.Common.{◌≡◌, Some, ap, arith, of_z, subst, sym, to_z, w64, ◌∙◌}
+use Rattle.std.proofs.Common.{Some, ap, arith, of_z, sym, to_z, w64, ◌∙◌}
 use Rattle.std.proofs.lemmas.Int.{ints, to_z-of_z}
 use Rattle.ep_eval.specs.Scopes.{env_in}
-use Rattle.ep_tree.specs.Evaluation.{number_in}
+use Rattle.ep_tree.specs.Evaluation.{evaluate, number_in}
+use Rattle.ep_tree.specs.Views.{expr_tree}
 use Rattle.ep_unroll.proofs.SlotSteps.{at_slot, no_slot}
 use Rattle.ep_unroll.specs.Picks.{SlotMeans}
 use Rattle.ep_unroll.proofs.slots.fixed_slot.Goals as goal
 
 pub returns-in-Some : goal.returns-in-Some
 unfolding SlotMeans
-returns-in-Some c n nodes =
+returns-in-Some c n nodes mode =
     at_slot n (env_in c.args.scope) nodes c.args.stated.now (to_z w64 (of_z w64 c.in-Some.number))
-    (λ r. ap number_in (c.in_ok-seen.ensures n r) ∙ sym c.number_of.ensures ∙ c.in-Some.is ∙ ap Some (sym (to_z-of_z w64 c.in-Some.number (omega (arith, ints)))))
+    (λ r. ap (λ m. number_in (evaluate m r.values (expr_tree c.args.stated.now))) mode ∙ ap number_in (c.in_ok-seen.ensures n r) ∙ sym c.number_of.ensures ∙ c.in-Some.is ∙ ap Some (sym (to_z-of_z w64 c.in-Some.number (omega (arith, ints)))))
 
 pub returns : goal.returns
-returns c n nodes = no_slot n (env_in c.args.scope) nodes c.args.stated.now (λ r. ap number_in (c.in_ok-seen.ensures n r) ∙ sym c.number_of.ensures ∙ c.in-None.is)
+returns c n nodes mode =
+    no_slot n (env_in c.args.scope) nodes c.args.stated.now
+    (λ r. ap (λ m. number_in (evaluate m r.values (expr_tree c.args.stated.now))) mode ∙ ap number_in (c.in_ok-seen.ensures n r) ∙ sym c.number_of.ensures ∙ c.in-None.is)

@@ -1,4 +1,4 @@
-use Rattle.std.proofs.Common.{ap, sym, subst, ◌∙◌, Some, ◌∷◌, [], length, ◌<◌, pos, negsuc, refl}
+use Rattle.std.proofs.Common.{length, ◌<◌}
 use Rattle.ep_ground.specs.Nodes.{parts_of}
 use Rattle.std.proofs.lemmas.List.Elements.{All-map}
 use Rattle.ep_unroll.proofs.FormValues.{if_ok}

@@ -1,4 +1,4 @@
-use Rattle.std.proofs.Common.{ℕ, ◌<◌, sym, subst, arith, length, List, map, get_or}
+use Rattle.std.proofs.Common.{ℕ, ◌<◌, sym, subst, arith, length, List, map}
 use Rattle.std.specs.Prelude.{IsSome}
 use Rattle.std.specs.List.{All}
 use Rattle.std.proofs.lemmas.List.{get_or-map, length-map}

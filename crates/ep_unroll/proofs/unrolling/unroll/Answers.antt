@@ -1,8 +1,21 @@
-use Rattle.std.proofs.Common.{ap, sym, ◌∙◌}
+use Rattle.ep_ground.specs.GroundViews.{plain_ground}
+use Rattle.ep_instance.specs.Instances.{instance_of, mode_of}
+use Rattle.ep_unroll.proofs.GroundSteps.{says_clauses, says_objective}
 use Rattle.ep_unroll.proofs.unrolling.unroll.Goals as goal
 
-pub relational-requires : goal.relational-requires
-relational-requires c = record {
-  closed = c.requires.closed;
-  mode = sym (c.mode.ensures.mode ∙ ap (λ e. e.mode) c.env.ensures) ∙ c.in-Relational.is;
-}
+pub returns-clause-clauses : goal.returns-clause-clauses
+returns-clause-clauses c =
+    says_clauses (mode_of c.args.instance.now) (instance_of c.args.instance.now) (plain_ground c.in_ok-ground.ground) c.requires.closed c.in_ok-ground.ensures.terms
+
+pub returns-clause-objective : goal.returns-clause-objective
+returns-clause-objective c =
+    says_objective (mode_of c.args.instance.now) (instance_of c.args.instance.now) (plain_ground c.in_ok-ground.ground) c.requires.closed c.in_ok-ground.ensures.terms
+
+pub returns-clause-well_formed : goal.returns-clause-well_formed
+returns-clause-well_formed c = c.is_well_formed-well_formed.ensures.sound c.if-not-well_formed.false
+
+pub returns-clause-bounded : goal.returns-clause-bounded
+returns-clause-bounded c = c.in_ok-bounded.ensures.sound c.if-not-bounded.false
+
+pub returns-clause-nodes : goal.returns-clause-nodes
+returns-clause-nodes c = c.in_ok-small.ensures c.if-not-small.false

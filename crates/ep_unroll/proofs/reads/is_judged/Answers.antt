@@ -1,0 +1,14 @@
+use Rattle.std.proofs.Common.{ap, sym, ◌∙◌}
+use Rattle.ep_eval.specs.Scopes.{mode_in}
+use Rattle.ep_tree.specs.Evaluation.{read_result}
+use Rattle.ep_unroll.proofs.reads.is_judged.Goals as goal
+
+pub returns-in-Relational-clause-mode : goal.returns-in-Relational-clause-mode
+returns-in-Relational-clause-mode c told = sym c.mode.ensures.mode ∙ c.in-Relational.is
+
+pub returns-in-Relational-clause-other : goal.returns-in-Relational-clause-other
+returns-in-Relational-clause-other c told o = c.is_truth.ensures.other told (mode_in c.args.scope) o
+
+pub returns-in-Strict-clause-other : goal.returns-in-Strict-clause-other
+unfolding read_result
+returns-in-Strict-clause-other c told o = ap (λ m. read_result m c.args.ty o) (sym c.mode.ensures.mode ∙ c.in-Strict.is)
