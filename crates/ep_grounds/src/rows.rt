@@ -152,14 +152,22 @@ such that table([x, y], [[1, 2], [-1, 0]])
 such that table([x, y], [[1], [2, 1]])
 such that !table([x / y], [[1]])";
 
+/// The first wrong row in one of the modes of undefinedness.
+fn wrong_in_a_mode(alloc: Global, table: &str) -> Result<Option<String>, Fail> {
+    match first_wrong(alloc, Mode::Relational, table)? {
+        Some(wrong) => Ok(Some(wrong)),
+        None => first_wrong(alloc, Mode::Strict, table),
+    }
+}
+
 #[test]
 fn grounds_of_numbers_say_what_evaluation_says(rt: HostRuntime) -> Result<(), Fail> {
-    assert_eq!(rt; first_wrong(rt.alloc(), Mode::Relational, NUMBERS)?, None);
+    assert_eq!(rt; wrong_in_a_mode(rt.alloc(), NUMBERS)?, None);
     Ok(())
 }
 
 #[test]
 fn grounds_of_lists_say_what_evaluation_says(rt: HostRuntime) -> Result<(), Fail> {
-    assert_eq!(rt; first_wrong(rt.alloc(), Mode::Relational, LISTS)?, None);
+    assert_eq!(rt; wrong_in_a_mode(rt.alloc(), LISTS)?, None);
     Ok(())
 }

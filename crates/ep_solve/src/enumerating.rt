@@ -25,8 +25,7 @@ use std::alloc::Global;
 
 /// At most so many solutions of an instance, none twice, and whether these are all, within so many
 /// conflicts over all of them. An objective only has to have a value. The formula, a given for each solution
-/// which blocks it, and the solver's steps stand in the log then, and each step is sound, however it ends. In
-/// the strict mode it ends for want of memory.
+/// which blocks it, and the solver's steps stand in the log then, and each step is sound, however it ends.
 pub fn enumerate(
     alloc: Global,
     instance: &Instance,

@@ -17,7 +17,7 @@ use ep_unroll::unroll;
 use std::alloc::Global;
 
 /// A formula whose assignments decode to exactly the solutions of an instance, and the variable of the
-/// objective then to its number. In the strict mode it ends for want of memory.
+/// objective then to its number.
 pub fn formula_for(alloc: Global, instance: &Instance) -> Result<Encoded, Memory>
     requires closed { IsClosed (instance_of instance.now) }
     requires within { instance_limits (mode_of instance.now) (instance_of instance.now) ≡ [] }

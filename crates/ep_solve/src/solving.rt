@@ -29,7 +29,7 @@ use std::alloc::Global;
 /// The answer of an instance: a solution, an optimum where an objective is stated, that there is
 /// none, or that so many conflicts were spent. The formula, a given for each number of the objective that was
 /// reached, which asks for a better one, and the solver's steps stand in the log then, and each step is sound,
-/// however it ends. In the strict mode it ends for want of memory.
+/// however it ends.
 pub fn solve(
     alloc: Global,
     instance: &Instance,
