@@ -10,3 +10,4 @@ pub mod TokenLaws
 pub mod VectorsTokens
 pub mod RunEquality
 pub mod VectorsReads
+pub mod RunEnds

@@ -1,8 +1,8 @@
 -- How far `put_all` has come, and how a sink's refusal ends it.
-use Rattle.std.proofs.Common.{◌≡◌, ℕ, ◌+◌, ◌-◌, ◌≤◌, List, ◌++◌, length, take, drop, Option, Some, None, arith, sym, ap, refl, ◌∙◌, append_assoc, length-drop}
+use Rattle.std.proofs.Common.{◌≡◌, inl, inr, ℕ, ◌+◌, ◌-◌, ◌≤◌, List, ◌++◌, length, take, drop, Option, Some, None, arith, sym, ap, refl, ◌∙◌, append_assoc, length-drop}
 use Rattle.std.proofs.lemmas.List.{take_all, drop-drop}
 use Rattle.std.proofs.Math.Seq.{take-add}
-use Rattle.ep_base.specs.Outside.{with_more}
+use Rattle.ep_base.specs.Outside.{with_more, Rose}
 
 -- of these bytes the last ones are left, and those before them were taken
 pub record HasTaken (bytes rest : List ℕ) (before after : Option (List ℕ)) : Type 0 where
@@ -27,3 +27,8 @@ has_taken_more bytes rest before now after n h fits is =
       left = all ∙ ap (drop n) h.left ∙ drop-drop n h.count bytes;
       taken = is ∙ ap (with_more (take n rest)) h.taken ∙ with_more_twice (take h.count bytes) (take n rest) before ∙ ap (λ (xs : List ℕ). with_more xs before) (ap (λ (xs : List ℕ). take h.count bytes ++ take n xs) h.left ∙ sym (take-add h.count n bytes));
     }
+
+-- a count that rose after it was no less than before rose since before
+pub rose_later : (before now after : ℕ) → before ≤ now → Rose now after → Rose before after
+rose_later before now after fits (inl less) = inl (omega (arith, fits, less))
+rose_later before now after fits (inr ends) = inr ends

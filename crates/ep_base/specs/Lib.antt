@@ -7,3 +7,5 @@ pub mod Reads
 pub mod Runs
 pub mod TokenTexts
 pub mod Tokens
+pub mod RunEnds
+pub mod Senses

@@ -101,7 +101,6 @@ pub trait Files {
             ReadGives (held self.old) name.now at_most (option_map (λ bytes. bytes.items) answer)) }
         ensures unchanged { held self.new ≡ held self.old }
         ensures failed { IsErrOf result FileError.Failed → Rose (faults self.old) (faults self.new) }
-        ensures quiet { (IsErrOf result FileError.Failed → ⊥) → faults self.new ≡ faults self.old }
         ensures never_falls { faults self.old ≤ faults self.new }
         ensures fits { faults self.new < 2 ^ 64 };
 
@@ -114,7 +113,6 @@ pub trait Files {
             → SameElsewhere name.now (held self.old) (held self.new) }
         ensures unchanged { IsErrOf result FileError.Memory → held self.new ≡ held self.old }
         ensures failed { IsErrOf result FileError.Failed → Rose (faults self.old) (faults self.new) }
-        ensures quiet { (IsErrOf result FileError.Failed → ⊥) → faults self.new ≡ faults self.old }
         ensures never_falls { faults self.old ≤ faults self.new }
         ensures fits { faults self.new < 2 ^ 64 };
 }
@@ -136,7 +134,6 @@ pub trait Sink {
             taken self.new ≡ with_more (take count piece.now) (taken self.old)) }
         ensures refused { OnErr result (taken self.new ≡ taken self.old) }
         ensures failed { IsErrOf result PutError.Failed → Rose (faults self.old) (faults self.new) }
-        ensures quiet { (IsErrOf result PutError.Failed → ⊥) → faults self.new ≡ faults self.old }
         ensures never_falls { faults self.old ≤ faults self.new }
         ensures fits { faults self.new < 2 ^ 64 };
 }
@@ -147,7 +144,6 @@ pub fn put_all<K: Sink>(sink: &mut K, bytes: &[u8]) -> Result<(), PutError>
     ensures all { OnOk result (K.taken sink.new ≡ with_more bytes.now (K.taken sink.old)) }
     ensures part { OnErr result (TookPart bytes.now (K.taken sink.old) (K.taken sink.new)) }
     ensures failed { IsErrOf result PutError.Failed → Rose (K.faults sink.old) (K.faults sink.new) }
-    ensures quiet { (IsErrOf result PutError.Failed → ⊥) → K.faults sink.new ≡ K.faults sink.old }
     ensures never_falls { K.faults sink.old ≤ K.faults sink.new }
 {
     let mut rest = bytes;

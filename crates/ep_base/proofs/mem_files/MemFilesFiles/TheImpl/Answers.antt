@@ -9,7 +9,6 @@ write-tells c = record {
   written = on_ok_weaker c.result (λ e. ap Some (ap get e ∙ get-after_insert _ _ _)) c.ensures.written;
   elsewhere = search rules;
   unchanged = search rules;
-  quiet = c.ensures.quiet;
   failed = search rules;
   never_falls = c.ensures.never_falls;
   fits = c.ensures.fits;
