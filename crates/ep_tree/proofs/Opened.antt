@@ -3,6 +3,7 @@ use Rattle.std.specs.Prelude.{ℕ}
 use Rattle.ep_base.specs.Intervals.{width, least_or_zero, greatest_or_zero, spanned, negated, sum_interval, product_interval, products_interval, farthest_end, quotient_interval, remainder_interval, has_zero, nth_power_interval, power_interval, absolute_interval, least_interval, greatest_interval, hull, sum_cost}
 use Rattle.ep_base.specs.Numbers.{of_bool, is_one, floor_over, quotient, remainder, nth_power, power, product_to, factorial_of, absolute_of, compare_holds, sum_of, product_of, least_of, greatest_of, all_one, any_one, has_number, same_numbers, lex_less, lex_holds, are_different, times_in, counts_hold, is_row_of}
 use Rattle.ep_base.specs.Runs.{counting, numbers_in, numbers}
+use Rattle.ep_base.specs.Senses.{better_number}
 use Rattle.ep_tree.specs.Binding.{limits_met, unless_any, or_refuse, and_next, indices_bound, numbers_bound, above_end, below_end, ranges_pass, elements_pass, element_values, listed_domains, index_domains, shape_of, fitted_into, shape_bound, met_stated, letting_bound, bind_letting, bind_params, parameter, first_missing, given_bound, bind_names, bind_givens, group_finds, bound_finds, first_false, met_groups, met_in, in_env, with_finds, with_clauses, with_goal, now_with, bind_statement, bind_statements, bind}
 use Rattle.ep_tree.specs.Domains.{put_in, united, count_between, between, set_values, set_has}
 use Rattle.ep_tree.specs.Environments.{shape_type, meaning_in, context_of, value_bound, domain_bound, scalar_in, with_number, HasAscendingDomain}
@@ -15,7 +16,7 @@ use Rattle.ep_tree.specs.Names.{put_all}
 use Rattle.ep_tree.specs.Phrases.{saying_of, lexemes_of, Names, PlacedNames}
 use Rattle.ep_tree.specs.Reach.{fixed_span, wide_span, cell_reach, cell_span, with_spread, span_of, fixed_extent, sum_span, negated_span, product_span, folded_span, binary_span, is_decided_index, left_by, parts_left, plain_index, slice_extent, read_span, hiding, is_decision, is_decision_name, reads_cell, generator_names, holds_decision, one_holds_decision, term_holds_decision, index_holds_decision, measured, measured_indices, matrix_extent, named_extent, group_extent, read_extent, measured_index, quantified_span, signed_span, extent, extents_of, term_spans, measured_list}
 use Rattle.ep_tree.specs.SolutionTexts.{letting_names, fitting_letting, without_letting, with_lettings, is_find, strangers, shaped, shaped_by, read_solution}
-use Rattle.ep_tree.specs.Solutions.{named_in, fitted_find, found_values, goal_value, has_goal_value, judged_by, judgement, better_number, cells_bound, cell_count, met_instance, instance_size, instance_weight, instance_reach, limits_passed, or_weight, instance_limits}
+use Rattle.ep_tree.specs.Solutions.{named_in, fitted_find, found_values, goal_value, has_goal_value, judged_by, judgement, cells_bound, cell_count, met_instance, instance_size, instance_weight, instance_reach, limits_passed, or_weight, instance_limits}
 use Rattle.ep_tree.specs.Spelling.{rank, domain_rank, binary_word, compare_word, lex_word, quantifier_word, fold_word, set_word, sign_word, truth_word, has_terms, has_trees, ends_open, terms_end_open, trees_end_open, has_every, takes_own_group, SpellsChain, SpellsTerms, SpellsParts, SpellsMoreParts, SpellsList, SpellsMore, SpellsIndexDomain, SpellsGenerators, SpellsIndices, SpellsRanges, SpellsMoreRanges, SpellsEnd, SpellsIndexDomains, SpellsNode, SpellsDomainNode, SpellsMoreGenerators, SpellsMoreIndices, SpellsLastIndices, SpellsMoreIndexDomains, own_level, own_domain_level, binary_level, is_called, tighter}
 use Rattle.ep_tree.specs.StatementSpelling.{SpellsExpressions, SpellsGroups, SpellsStated, SpellsNames, SpellsSense, SpellsStatement, SpellsStatements, is_objective, is_letting, SpellsModel, SpellsParams}
 use Rattle.ep_tree.specs.Statements.{highest_of, highest_group, stated_height, statement_height, text_height}

@@ -4,6 +4,7 @@ use Rattle.std.proofs.Common.{ap, ◌∙◌, arith, sym, subst}
 use Rattle.std.proofs.lemmas.Bool.{false≢true}
 use Rattle.std.proofs.lemmas.Int.{ints}
 use Rattle.std.proofs.lemmas.List.Sorted.{IsPermutation-refl}
+use Rattle.ep_base.specs.Senses.{better_number}
 use Rattle.ep_base.specs.Numbers.{has_number}
 use Rattle.ep_base.specs.declared.operators.Sense.{Sense}
 use Rattle.ep_base.specs.declared.places.Place.{Place}
@@ -13,7 +14,7 @@ use Rattle.ep_tree.specs.Binding.{Find, Instance}
 use Rattle.ep_tree.specs.Environments.{has_value}
 use Rattle.ep_tree.specs.Evaluation.{on_both}
 use Rattle.ep_tree.specs.Names.{nothing_known}
-use Rattle.ep_tree.specs.Solutions.{Assigned, Fits, Found, IsBetter, IsOptimal, IsSolution, NamedValue, better_number, fitted_find, found_values, goal_value, has_goal_value, named_in}
+use Rattle.ep_tree.specs.Solutions.{Assigned, Fits, Found, IsBetter, IsOptimal, IsSolution, NamedValue, fitted_find, found_values, goal_value, has_goal_value, named_in}
 use Rattle.ep_tree.specs.Trees.{ExprTree, binary, named, number}
 use Rattle.ep_tree.specs.Types.{scalar_of}
 use Rattle.ep_tree.specs.Values.{ValueTree, fitted, matrix, scalar_fits, single}

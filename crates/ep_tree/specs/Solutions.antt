@@ -4,6 +4,7 @@
 -- has no value is no solution is this project's own choice.
 use Rattle.std.specs.Prelude.{◌≡◌, ℕ, ◌+◌, ◌*◌, Bool, true, false, ◌||◌, List, [], ◌∷◌, ◌++◌, map, length, ℤ, is_some, is_none, if◌then◌else◌, IsTrue, nat_lt, int_lt, Some, None, bytes_eq, sum_by, Option, option_map, option_to_list, option_and_then, IsPermutation}
 use Rattle.ep_base.specs.Numbers.{has_number}
+use Rattle.ep_base.specs.Senses.{better_number}
 use Rattle.ep_base.specs.declared.names.Name.{Name}
 use Rattle.ep_base.specs.declared.operators.Limit.{Limit}
 use Rattle.ep_base.specs.declared.operators.Sense.{Sense}
@@ -53,6 +54,15 @@ found_values (f ∷ fs) a =
     on_both (option_and_then (fitted_find f) (named_in a f.name)) (found_values fs a)
     (λ v rest. Some ((f.name, has_value (find_type f) v) ∷ rest))
 
+-- the values of an assignment, as an environment has them
+abbrev pub found_of : Assigned → Found
+found_of a = map (λ g. (g.name, has_value g.ty g.value)) a
+
+-- The values are written as the instance states them: in the order of the text, each with the type and the indices of its
+-- domain.
+abbrev pub IsWritten : Instance → Assigned → Type 0
+IsWritten i a = found_values i.finds a ≡ Some (found_of a)
+
 -- An assignment fits: it names each decision variable once and nothing else, and each value fits its domain. The
 -- environment has these values.
 pub record Fits (i : Instance) (a : Assigned) (found : Found) : Type 0 where
@@ -100,11 +110,6 @@ judged_by None true goal = a_solution goal
 unfoldable pub judgement : Mode → Instance → Found → Judgement
 judgement mode i found =
     judged_by (violated mode i found) (has_goal_value mode i found) (goal_value mode i found)
-
--- whether one number of an objective is better than another
-unfoldable pub better_number : Sense → ℤ → ℤ → Bool
-better_number Sense.Minimising x y = int_lt x y
-better_number Sense.Maximising x y = int_lt y x
 
 -- One assignment is better than another: its objective is smaller, or greater where the greatest is wanted.
 pub record IsBetter (mode : Mode) (i : Instance) (a b : Assigned) : Type 0 where
