@@ -7,29 +7,42 @@ use crate::lit::{Lit, MOST_VARIABLE};
 use ep_base::Memory;
 use std::alloc::Global;
 use std::marker::Model;
+use std::sync::ArcSlice;
 
 /// Distinct literals, ordered by variable, the positive one first. Some literal of a clause has to
 /// be true.
 #[derive(Clone, Debug, Drop)]
 pub struct Clause {
-    lits: Vec<Lit>,
+    lits: ArcSlice<Lit>,
 }
 
 impl Model for Clause {
     ghost use Rattle.std.specs.Prelude.{List};
+    ghost use Rattle.std.specs.Arc.{arc_slice_items};
     ghost use Rattle.cnf_core.specs.Literal.{Literal, IsClause};
 
     ghost Value = { List Literal };
 
-    ghost view = { λ a. a.lits.items };
+    ghost view = { λ a. arc_slice_items a.lits };
 
-    ghost invariant = { λ a. IsClause a.lits.items };
+    ghost invariant = { λ a. IsClause (arc_slice_items a.lits) };
+}
+
+/// The list itself, or a copy of its size where it has room to spare.
+fn without_spare_room(alloc: Global, lits: Vec<Lit>) -> Result<Vec<Lit>, Memory>
+    ensures { IfOk result (λ exact. exact.items ≡ lits.items) }
+{
+    if lits.capacity() > lits.len() {
+        return Ok(Vec::from_slice(alloc, lits.as_slice())?);
+    }
+    Ok(lits)
 }
 
 impl Clause {
     /// The clause of these literals. One that stands several times is taken once.
     ///
-    /// Costs a sort, and one allocation of the clause's size.
+    /// Costs a sort, an allocation for what is shared, and one of the clause's size where the list has room
+    /// to spare.
     pub fn new(alloc: Global, lits: Vec<Lit>) -> Result<Clause, Memory>
         ensures ordered { IfOk result (λ clause. IsOrdered clause) }
         ensures clause { IfOk result (λ clause. IsClause clause) }
@@ -41,7 +54,7 @@ impl Clause {
         for lit in &lits {
             prove!(lit.var() <= MOST_VARIABLE);
         }
-        let lits = Vec::from_slice(alloc, lits.as_slice())?;
+        let lits = ArcSlice::from_vec(without_spare_room(alloc, lits)?)?;
         Ok(Clause { lits })
     }
 

@@ -18,6 +18,3 @@ pub use laws::{
 pub use lit::{Lit, MOST_VARIABLE};
 pub use log::{CellNote, Event, Log};
 pub use proof::{Line, Proof};
-
-#[cfg(test)]
-mod tests;

@@ -1,6 +1,7 @@
 -- What the sort and `dedup` leave is the clause.
 use Rattle.std.proofs.Common.{List, subst, sym, ◌∙◌}
 use Rattle.std.specs.Prelude.{All}
+use Rattle.std.specs.Arc.{arc_slice_items}
 use Rattle.std.proofs.lemmas.List.{take_all}
 use Rattle.std.proofs.lemmas.List.Elements.{All-more}
 use Rattle.cnf_core.specs.Literal.{Literal, IsVariable, IsOrdered, HaveSameLiterals}
@@ -13,17 +14,17 @@ loop-lit-preserved c =
     All-more (λ l. IsVariable l.var) c.deref-lit-items.result.now c.loop-lit.lit-index c.lit-item.result c.loop-lit-test.true c.loop-lit.invariant
     (subst (λ (l : Literal). IsVariable l.var) c.lit-item.is (subst IsVariable c.var.ensures.value c.var.ensures.in_range))
 
-made : (c : In_ok-lits) → IsOrdered c.in_ok-lits.lits.items × HaveSameLiterals c.in_ok-lits.lits.items c.args.lits.items
+made : (c : In_ok-lits) → IsOrdered (arc_slice_items c.in_ok-lits.lits) × HaveSameLiterals (arc_slice_items c.in_ok-lits.lits) c.args.lits.items
 made c =
     subst (λ (ls : List Literal). IsOrdered ls × HaveSameLiterals ls c.args.lits.items)
-    (sym (c.in_ok-lits.ensures.items ∙ c.as_slice.ensures.value))
+    (sym (c.in_ok-lits.ensures ∙ c.in_ok-without_spare_room.ensures))
     (from_sort_and_dedup _ _ _ c.sort_unstable.ensures.permutation c.sort_unstable.ensures.sorted c.dedup.ensures.filtered)
 
-in_range : (c : In_ok-lits) → All (λ l. IsVariable l.var) c.in_ok-lits.lits.items
+in_range : (c : In_ok-lits) → All (λ l. IsVariable l.var) (arc_slice_items c.in_ok-lits.lits)
 in_range c =
     subst (All (λ l. IsVariable l.var))
     (take_all c.loop-lit.lit-index c.deref-lit-items.result.now c.loop-lit-test.false
-    ∙ c.deref-lit-items.ensures.value ∙ sym (c.in_ok-lits.ensures.items ∙ c.as_slice.ensures.value))
+    ∙ c.deref-lit-items.ensures.value ∙ sym (c.in_ok-lits.ensures ∙ c.in_ok-without_spare_room.ensures))
     c.loop-lit.invariant
 
 pub invariant_of-result : goal.invariant_of-result
