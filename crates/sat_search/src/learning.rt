@@ -10,7 +10,7 @@ use crate::levels::level_in;
 use crate::marks::Marks;
 use crate::minimal::{Seen, reason_of, removal};
 use crate::order::Order;
-use cnf_core::{Clause, Lit};
+use cnf_core::Lit;
 use ep_base::Memory;
 use sat_state::State;
 use std::alloc::Global;
@@ -70,14 +70,12 @@ fn meet(state: &State, analysis: &mut Analysis, level: u64, var: u64) -> Result<
 }
 
 // Marks the variables of a clause, and counts those that weren't marked before.
-fn mark(state: &State, analysis: &mut Analysis, clause: &Clause) -> Result<(), Memory>
-    requires { All (λ l. l.var < length analysis.old.marks) clause.now }
-    ensures ordered { OnOk result (IsOrdered clause.now) }
+fn mark(state: &State, analysis: &mut Analysis, lits: &[Lit]) -> Result<(), Memory>
+    requires { All (λ l. l.var < length analysis.old.marks) lits.now }
     ensures room { OnOk result (length analysis.new.marks ≡ length analysis.old.marks) }
-    ensures marks { OnOk result (MarksClause analysis.old.marks analysis.new.marks clause.now) }
+    ensures marks { OnOk result (MarksClause analysis.old.marks analysis.new.marks lits.now) }
     ensures counts { OnOk result (CountsMarks (literals state.now.trail) analysis.old.marks analysis.new.marks analysis.old.pending analysis.new.pending) }
 {
-    let lits = clause.lits();
     let level = state.level();
     for lit in lits {
         meet(state, analysis, level, lit.var())?;
@@ -101,7 +99,7 @@ fn resolve(
     ensures counts { OnOk result (CountsMarks (literals state.now.trail) analysis.old.marks analysis.new.marks analysis.old.pending analysis.new.pending) }
 {
     hints.push(number)?;
-    mark(state, analysis, state.clause(number))
+    mark(state, analysis, state.literals(number))
 }
 
 // The place of the last decision below a place, where nothing between is marked.
@@ -267,7 +265,7 @@ pub struct Explanation {
 fn name_reasons(state: &State, order: &mut Order, analysis: &mut Analysis, lits: &[Lit]) {
     for lit in lits {
         if let Some(number) = reason_of(state, lit.var()) {
-            for other in state.clause(number).lits() {
+            for other in state.literals(number) {
                 let var = other.var();
                 if !analysis.marks.is_marked(var) && level_in(state, var) > 0 {
                     analysis.marks.mark(var);

@@ -12,8 +12,6 @@ mod outcome;
 mod restarts;
 mod search;
 mod solver;
-#[cfg(test)]
-mod tests;
 
 pub use outcome::{Outcome, SolveError};
 pub use solver::Solver;

@@ -72,7 +72,7 @@ fn has_implied_reason(state: &State, marks: &Marks, seen: &mut Seen, var: u64, d
     let Some(number) = reason_of(state, var) else {
         return false;
     };
-    for lit in state.clause(number).lits() {
+    for lit in state.literals(number) {
         let other = lit.var();
         if other == var {
             continue;

@@ -16,3 +16,4 @@ pub mod Going
 pub mod Entries
 pub mod Added
 pub mod Finished
+pub mod RowsKept

@@ -9,6 +9,8 @@ pub mod TieredInside
 pub mod WatchesInside
 pub mod ValuesInside
 pub mod Stored
+pub mod Rowed
+pub mod RowsInside
 pub mod StoredInside
 pub mod Guards
 pub mod Joined

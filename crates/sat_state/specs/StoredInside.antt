@@ -6,9 +6,10 @@ use Rattle.sat_state.specs.Stored.{Stored}
 abbrev pub seen_clauses : Inside → Stored
 seen_clauses a = record {
   lists = a.clauses.items;
-  room = min (vec_capacity a.clauses - length a.clauses.items) (min (vec_capacity a.places - length a.places.items) (vec_capacity a.stamps - length a.stamps.items));
+  room = min (vec_capacity a.clauses - length a.clauses.items) a.rows.room;
+  spare = a.rows.spare;
 }
 
--- each clause has a place where the search in it begins
+-- the literals of each clause stand in its row
 abbrev pub AreClauses : Inside → Type 0
-AreClauses a = length a.places.items ≡ length a.clauses.items
+AreClauses a = a.rows.lists ≡ a.clauses.items

@@ -8,6 +8,7 @@ ghost use Rattle.sat_state.specs.Stored.{Stored, clause_at};
 ghost use Rattle.sat_state.specs.Watching.{lit_at};
 ghost use Rattle.sat_state.specs.Guards.{is_false};
 
+use crate::rows::{GIVEN, Rows};
 use crate::values::Values;
 use crate::watches::code;
 use cnf_core::{Clause, Lit};
@@ -15,22 +16,17 @@ use ep_base::Memory;
 use std::alloc::Global;
 use std::marker::Model;
 
-/// The stamp of a clause that came before the first conflict.
-const GIVEN: u32 = u32::MAX;
-
 /// A clause of more literals is near only where it was used of late.
 const FEW: usize = 6;
 
 /// So many conflicts ago is of late.
 const LATE: u32 = 300;
 
-/// Clauses by number, and for each the place where the search for a literal that isn't false begins, and a stamp: the conflict at
-/// which the clause was used last.
+/// Clauses by number, and beside them their literals once more, side by side, which is what propagation and learning read.
 #[derive(Debug, Drop)]
 pub struct Clauses {
     clauses: Vec<Clause>,
-    places: Vec<u32>,
-    stamps: Vec<u32>,
+    rows: Rows,
     conflicts: u32,
 }
 
@@ -107,33 +103,40 @@ impl Clauses {
     {
         Clauses {
             clauses: Vec::new(alloc),
-            places: Vec::new(alloc),
-            stamps: Vec::new(alloc),
+            rows: Rows::new(alloc),
             conflicts: 0,
         }
     }
 
-    /// Makes room for one more clause.
-    pub fn reserve(&mut self) -> Result<(), Memory>
+    /// Makes room for one more clause of so many literals.
+    pub fn reserve(&mut self, count: usize) -> Result<(), Memory>
         ensures lists { self.new.lists ≡ self.old.lists }
         ensures room { OnOk result (1 ≤ self.new.room) }
+        ensures spare { OnOk result (count ≤ self.new.spare) }
     {
         self.clauses.reserve(1)?;
-        self.places.reserve(1)?;
-        self.stamps.reserve(1)?;
+        self.rows.reserve(count)?;
         Ok(())
     }
 
     /// Appends a clause.
     pub fn push(&mut self, clause: Clause)
-        requires { 1 ≤ self.old.room }
+        requires room { 1 ≤ self.old.room }
+        requires spare { length clause ≤ self.old.spare }
         ensures { self.new.lists ≡ self.old.lists ++ clause ∷ [] }
     {
+        let stamp = self.new_stamp();
+        self.rows.push(clause.lits(), stamp);
         self.clauses.push_reserved(clause);
-        self.places.push_reserved(0);
-        let is_given = self.conflicts == 0;
-        self.stamps
-            .push_reserved(if is_given { GIVEN } else { self.conflicts });
+    }
+
+    // The stamp of a clause that comes now.
+    fn new_stamp(&self) -> u32 {
+        if self.conflicts == 0 {
+            GIVEN
+        } else {
+            self.conflicts
+        }
     }
 
     /// How many clauses there are.
@@ -151,6 +154,14 @@ impl Clauses {
         &self.clauses[number]
     }
 
+    /// The literals of the clause of this number.
+    pub fn lits(&self, number: usize) -> &[Lit]
+        requires { number < length self.now.lists }
+        ensures { result.now ≡ clause_at self.now.lists number }
+    {
+        self.rows.lits(number)
+    }
+
     /// Counts a conflict.
     pub fn count_conflict(&mut self)
         ensures { self.new ≡ self.old }
@@ -162,20 +173,15 @@ impl Clauses {
     pub fn touch(&mut self, number: usize)
         ensures { self.new ≡ self.old }
     {
-        let now = self.conflicts;
-        if let Some(stamp) = self.stamps.get_mut(number) {
-            if *stamp != GIVEN {
-                *stamp = now;
-            }
-        }
+        self.rows.touch(number, self.conflicts);
     }
 
     /// Whether a clause is long and wasn't used of late.
     pub fn is_far(&self, number: usize) -> bool
         requires { number < length self.now.lists }
     {
-        let stamp = self.stamps.get(number).copied().unwrap_or(GIVEN);
-        stamp < self.conflicts.saturating_sub(LATE) && self.clauses[number].lits().len() > FEW
+        self.rows.stamp(number) < self.conflicts.saturating_sub(LATE)
+            && self.rows.lits(number).len() > FEW
     }
 
     /// A literal of a clause that isn't this one and isn't false.
@@ -188,12 +194,12 @@ impl Clauses {
         ensures none { IsNone result
             → All (λ l. l ≢ lit → is_false (literals assigned.now.trail) l ≡ true) (clause_at self.old.lists number) }
     {
-        let lits = self.clauses[number].lits();
-        let begin = (self.places[number] as usize).min(lits.len());
+        let lits = self.rows.lits(number);
+        let begin = self.rows.begin(number).min(lits.len());
         match open_place_from(assigned, lits, lit, begin) {
             Some(place) => {
                 let found = lits[place];
-                self.places[number] = place.min(u32::MAX as usize) as u32;
+                self.rows.begin_at(number, place);
                 Some(found)
             }
             None => None,

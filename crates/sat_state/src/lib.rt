@@ -5,12 +5,10 @@ mod adding;
 mod assignment;
 mod clauses;
 mod parts;
+mod rows;
 mod state;
 mod tiers;
 mod values;
 mod watches;
 
 pub use state::{Propagated, State};
-
-#[cfg(test)]
-mod tests;

@@ -110,7 +110,7 @@ impl Parts {
             ⊎ HasTwoNotFalse (literals self.new.assigned.trail) (clause_at self.new.clauses.lists number) }
         ensures falsified { result ≡ false → NamesFalsified self.new.clauses.lists self.new.assigned.trail number }
     {
-        let lits = self.clauses.clause(number).lits();
+        let lits = self.clauses.lits(number);
         let Some(one) = first_open(&self.assigned, lits, 0) else {
             return false;
         };
@@ -279,7 +279,7 @@ impl Parts {
         ensures one { IsAllSeen self.now → IfSome result (λ pair. IsGuarded self.now.assigned.trail pair.0 pair.1) }
         ensures other { IsAllSeen self.now → IfSome result (λ pair. IsGuarded self.now.assigned.trail pair.1 pair.0) }
     {
-        let lits = self.clauses.clause(number).lits();
+        let lits = self.clauses.lits(number);
         if lits.len() < 2 {
             return None;
         }

@@ -2,7 +2,7 @@
 
 ghost use Rattle.std.specs.Prelude.{◌≡◌, ◌≢◌, ℕ, ◌+◌, ◌<◌, ◌≤◌, ◌⊎◌, [], ◌∷◌, ◌++◌, length, take, drop, Bool, All, AllPairs, None, Some, IfOk, OnOk, OnErr, IsSome, IsNone, IfSome, ◌↔◌, true, filter, nat_le, slice_index_or};
 ghost use Rattle.std.specs.Option.{option_map};
-ghost use Rattle.cnf_core.specs.Literal.{Literal, VariablesUpTo};
+ghost use Rattle.cnf_core.specs.Literal.{Literal, IsOrdered, IsVariable, VariablesUpTo};
 ghost use Rattle.cnf_core.specs.Steps.{IsLastOf};
 ghost use Rattle.sat_state.specs.Trail.{literals, value_of, level_of, entry_of, IsFalsified, NamesFalsified, IsGrounded, IsForcedAt, IsOpenBelow, FollowsFromDecisions};
 ghost use Rattle.sat_state.specs.View.{StateView, IsPropagated, BringsIn, AreTwoOf, IsGuarded};
@@ -188,6 +188,17 @@ impl State {
         ensures { result.now ≡ slice_index_or self.now.clauses number [] }
     {
         self.parts.clauses.clause(number as usize)
+    }
+
+    /// The literals of the clause of this number, in order. They stand beside those of the other clauses, so that reading them takes
+    /// fewer loads than [`State::clause`].
+    pub fn literals(&self, number: u64) -> &[Lit]
+        requires { number < length self.now.clauses }
+        ensures value { result.now ≡ slice_index_or self.now.clauses number [] }
+        ensures ordered { IsOrdered result.now }
+        ensures variables { All (λ l. IsVariable l.var) result.now }
+    {
+        self.parts.clauses.lits(number as usize)
     }
 
     /// The two literals that propagation watches in a clause, or none where it has fewer than two. Where propagation is known to be

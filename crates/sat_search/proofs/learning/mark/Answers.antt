@@ -1,4 +1,4 @@
-use Rattle.std.proofs.Common.{◌≡◌, ℕ, ◌+◌, ◌<◌, List, Bool, true, set, get_or, take, length, subst, sym, refl, arith, ◌∙◌, ap}
+use Rattle.std.proofs.Common.{◌≡◌, ℕ, ◌+◌, ◌<◌, List, Bool, true, set, take, length, subst, sym, refl, arith, ◌∙◌, ap}
 use Rattle.std.proofs.lemmas.List.{take_all, length-set}
 use Rattle.cnf_core.specs.Literal.{Literal}
 use Rattle.sat_search.specs.Analysis.{MarksClause}
@@ -15,12 +15,10 @@ loop-lit-init c = record {
 pub loop-lit-preserved : goal.loop-lit-preserved
 loop-lit-preserved c =
     let l = c.lit-item.result in
-    let lits = c.lits-lits.result.now in
+    let lits = c.args.lits.now in
     let i = c.loop-lit.lit-index in
     let now = c.loop-lit.analysis.marks in
-    let here : l ≡ get_or c.args.clause.now i l = c.lit-item.is ∙ ap (λ (ls : List Literal). get_or ls i l) c.lits-lits.ensures.value in
-    let within : i < length c.args.clause.now = omega (arith, c.loop-lit-test.true, ap length c.lits-lits.ensures.value) in
-    let room : l.var < length now = omega (arith, c.requires i l within, ap (λ (x : Literal). x.var) here, c.loop-lit.invariant.room) in
+    let room : l.var < length now = omega (arith, c.requires i l c.loop-lit-test.true, ap (λ (x : Literal). x.var) c.lit-item.is, c.loop-lit.invariant.room) in
     let set_is : c.meet.new.analysis.marks ≡ set now l.var true = c.in_ok-meet.ensures.marks ∙ ap (λ (v : ℕ). set now v true) c.var.ensures.value in
     record {
       room = ap length set_is ∙ length-set now l.var true ∙ c.loop-lit.invariant.room;
@@ -31,6 +29,6 @@ loop-lit-preserved c =
 
 pub returns-clause-marks : goal.returns-clause-marks
 returns-clause-marks c =
-    let lits = c.lits-lits.result.now in
-    let all : take c.loop-lit.lit-index lits ≡ c.args.clause.now = take_all c.loop-lit.lit-index lits (omega (arith)) ∙ c.lits-lits.ensures.value in
+    let lits = c.args.lits.now in
+    let all : take c.loop-lit.lit-index lits ≡ lits = take_all c.loop-lit.lit-index lits (omega arith) in
     subst (MarksClause c.args.analysis.now.marks c.loop-lit.analysis.marks) all c.loop-lit.invariant.marks
