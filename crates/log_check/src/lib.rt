@@ -88,6 +88,3 @@ pub fn check_log(alloc: Global, f: &Formula, p: &Proof) -> Result<Verdict, Memor
     }
     Ok(without_bad_step(clauses, &p.lines))
 }
-
-#[cfg(test)]
-mod tests;

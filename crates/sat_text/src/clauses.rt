@@ -2,7 +2,7 @@
 
 ghost use Rattle.std.specs.Prelude.{◌≡◌, ◌<◌, ◌≤◌, ◌+◌, ◌^◌, ◌++◌, ◌∷◌, [], false, ℕ, List, Result, Ok, length, OnOk, IfOk, MatchResult};
 ghost use Rattle.cnf_core.specs.Literal.{Literal, VariablesUpTo};
-ghost use Rattle.sat_text.specs.Words.{lines, words, is_comment, PlacedWord, words_on, text_words};
+ghost use Rattle.sat_text.specs.Words.{lines, words, PlacedWord, words_on, text_words};
 ghost use Rattle.sat_text.specs.Clauses.{in_order};
 ghost use Rattle.sat_text.specs.Cnf.{clauses_at, Completes, Stops};
 
@@ -10,11 +10,10 @@ use crate::faults::Stop;
 use crate::items::{is_zero, literal};
 use crate::numbers::whole;
 use crate::proof::clause;
-use crate::words::{next_line, next_word};
+use crate::words::{is_comment_line, next_line, next_word};
 use cnf_core::{Formula, Lit};
 use ep_base::Memory;
 use std::alloc::Global;
-use std::mem;
 
 /// Adds the clause that was begun, and begins the next one.
 fn end_clause(alloc: Global, f: &mut Formula, begun: &mut Vec<Lit>) -> Result<(), Memory>
@@ -23,7 +22,9 @@ fn end_clause(alloc: Global, f: &mut Formula, begun: &mut Vec<Lit>) -> Result<()
         (f.new ≡ record f.old { clauses = f.old.clauses ++ in_order begun.old.items ∷ [] }) }
     ensures empty { OnOk result (begun.new.items ≡ []) }
 {
-    let literals = mem::replace(begun, Vec::new(alloc));
+    // A copy of the right size, so that the room of what was begun serves the next one too.
+    let literals = Vec::from_slice(alloc, begun.as_slice())?;
+    begun.clear();
     let made = clause(alloc, literals)?;
     f.add(made)
 }
@@ -93,12 +94,6 @@ fn take_line(
         rest = after;
     }
     Ok(())
-}
-
-fn is_comment_line(line: &[u8]) -> bool
-    ensures { result ≡ is_comment line.now }
-{
-    matches!(line, [b'c', ..])
 }
 
 /// The clauses of a text, whose first line has the number behind this one.

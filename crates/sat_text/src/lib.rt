@@ -23,6 +23,3 @@ pub use writing::{write_cnf, write_log};
 
 /// The greatest number of bytes of a text that is read.
 pub const MOST_BYTES: usize = 1_073_741_824;
-
-#[cfg(test)]
-mod tests;

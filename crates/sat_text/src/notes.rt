@@ -11,7 +11,7 @@ ghost use Rattle.sat_text.specs.Notes.{is_free_name, are_wholes, are_indices, is
 
 use crate::items::{is_zero, literal};
 use crate::numbers::{natural, whole};
-use crate::words::next_line;
+use crate::words::{is_comment_line, next_line};
 use cnf_core::CellNote;
 use ep_base::Memory;
 use std::alloc::Global;
@@ -276,10 +276,12 @@ pub(crate) fn read_notes(alloc: Global, text: &[u8]) -> Result<(Vec<CellNote>, u
     let mut last_added = 0;
     let mut rest = text;
     while let Some((line, later)) = next_line(rest) {
-        if let Some(found) = note(alloc, line)? {
-            notes.push(found)?;
+        if is_comment_line(line) {
+            if let Some(found) = note(alloc, line)? {
+                notes.push(found)?;
+            }
+            last_added = added(line).unwrap_or(last_added);
         }
-        last_added = added(line).unwrap_or(last_added);
         rest = later;
     }
     Ok((notes, last_added))

@@ -1,7 +1,7 @@
 //! Cuts a text into lines, and a line into words.
 
 ghost use Rattle.std.specs.Prelude.{◌≡◌, ◌<◌, ◌==◌, [], ◌∷◌, length, not, IfSome, MatchOption, position};
-ghost use Rattle.sat_text.specs.Words.{lines, words, is_blank};
+ghost use Rattle.sat_text.specs.Words.{lines, words, is_blank, is_comment};
 
 /// The first line of a text, and what stands behind its line end.
 pub(crate) fn next_line(text: &[u8]) -> Option<(&[u8], &[u8])>
@@ -60,4 +60,11 @@ fn blank(b: u8) -> bool
     ensures { result ≡ is_blank b }
 {
     b == b' ' || b == b'\t' || b == b'\r'
+}
+
+/// Whether a line is a comment.
+pub(crate) fn is_comment_line(line: &[u8]) -> bool
+    ensures { result ≡ is_comment line.now }
+{
+    matches!(line, [b'c', ..])
 }

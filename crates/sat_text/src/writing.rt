@@ -237,16 +237,22 @@ pub fn write_log(alloc: Global, log: &Log) -> Result<Vec<u8>, Memory>
     log_bytes(alloc, log)
 }
 
+/// The most clauses that a header can state. Nobody has the memory for so many.
+const MOST_CLAUSES: u64 = 999_999_999_999_999_999;
+
 fn cnf_bytes(alloc: Global, f: &Formula, notes: &[CellNote], added: u64) -> Result<Vec<u8>, Memory>
     ensures text { IfOk result
         (λ text. text.items ≡ cnf_text f.now (map plain_note notes.now) added) }
     ensures readable { IfOk result (λ _. IsReadableFormula f.now) }
     ensures variables { IfOk result (λ _. NamesVariables (map plain_note notes.now)) }
 {
+    let clauses = f.clauses();
+    if clauses.len() as u64 > MOST_CLAUSES {
+        return Err(Memory);
+    }
     let mut out = Vec::new(alloc);
     put_notes(&mut out, notes)?;
     put_added(&mut out, added)?;
-    let clauses = f.clauses();
     put_header(&mut out, f.vars(), clauses.len())?;
     put_clauses(&mut out, clauses)?;
     Ok(out)
