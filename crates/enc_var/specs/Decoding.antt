@@ -74,7 +74,7 @@ known_holds s known.True = true
 known_holds s known.False = false
 known_holds s (known.Is l) = literal_holds s l
 
--- The value that an assignment gives a variable: the first one whose literal is true.
+-- The value that an assignment gives a variable: the first one whose literal is true, or 0 where there is none.
 unfoldable pub decoded : (ℕ → Bool) → VariableLiterals → ℤ
 decoded s e = first_or_zero (filter (λ v. known_holds s (eq_of e v)) e.domain)
 

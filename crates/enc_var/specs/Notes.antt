@@ -1,8 +1,6 @@
 -- The notes of cells: which literal says that a cell has a value.
-use Rattle.std.specs.Prelude.{◌≡◌, ℕ, ℤ, Bool, List, [], ◌∷◌, ◌++◌, map}
-use Rattle.std.specs.List.{AllZip, Contains}
+use Rattle.std.specs.Prelude.{ℕ, ℤ, List, [], ◌∷◌, ◌++◌, map}
 use Rattle.std.specs.Fmt.{signed_decimal}
-use Rattle.cnf_core.specs.Clauses.{IsTrueUnder}
 use Rattle.cnf_core.specs.Events.{Note}
 use Rattle.ep_ground.specs.declared.cells.Cell.{Cell}
 use Rattle.enc_var.specs.Decoding.{VariableLiterals, note_of}
@@ -33,17 +31,3 @@ unfoldable pub cell_notes : List VariableLiterals → List Cell → List ℕ →
 cell_notes layout [] xs = []
 cell_notes layout (one ∷ cells) [] = []
 cell_notes layout (one ∷ cells) (x ∷ xs) = notes_of_cell layout one x ++ cell_notes layout cells xs
-
--- By these notes alone a cell has this number under an assignment: a note of the cell with this number has a true literal,
--- and each note of the cell whose literal is true has this number.
-pub record IsNotedAs (s : ℕ → Bool) (notes : List Note) (cell : List ℕ) (number : ℤ) : Type 0 where
-  pub note : Note
-  pub noted : Contains notes note
-  pub of_cell : note.cell ≡ cell
-  pub has_number : note.value ≡ number
-  pub is_true : IsTrueUnder s note.lit
-  pub only : (other : Note) → Contains notes other → other.cell ≡ cell → IsTrueUnder s other.lit → other.value ≡ number
-
--- by these notes alone cells of these names have these numbers under an assignment
-abbrev pub Decodes : (ℕ → Bool) → List Note → List (List ℕ) → List ℤ → Type 0
-Decodes s notes cells numbers = AllZip (IsNotedAs s notes) cells numbers

@@ -2,7 +2,7 @@
 
 ghost use Rattle.std.specs.Prelude.{◌≡◌, ◌+◌, ◌<◌, ◌++◌, ◌∷◌, [], length, map, IsTrue, IfOk, OnOk};
 ghost use Rattle.cnf_core.specs.Events.{plain_note};
-ghost use Rattle.ep_flat.specs.Flats.{MapsCells};
+ghost use Rattle.ep_flat.specs.Flats.{StandForCells};
 ghost use Rattle.ep_flat.specs.FlatViews.{plain_map};
 ghost use Rattle.enc_var.specs.Decoding.{eq_of, le_of};
 ghost use Rattle.enc_var.specs.Layouts.{HasFreeChoice, GoesOn, IsLayoutOf, literals_at};
@@ -90,8 +90,8 @@ impl Layout {
         cells: &[Cell],
         cell_map: &CellMap,
     ) -> Result<Vec<CellNote>, Memory>
-        requires { MapsCells (map (λ one. one.values) cells.now)
-            (map (λ e. e.domain) self.now) (plain_map cell_map.now) }
+        requires { StandForCells (map (λ one. one.values) cells.now)
+            (map (λ e. e.domain) self.now) (plain_map cell_map.now).cells }
         ensures { IfOk result (λ notes. map plain_note notes.items
             ≡ cell_notes self.now cells.now (plain_map cell_map.now).cells) }
     {

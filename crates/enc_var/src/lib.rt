@@ -4,12 +4,10 @@
 
 mod clauses;
 mod known;
-mod laws;
 mod layout;
 mod listing;
 mod notes;
 mod variables;
 
 pub use known::Known;
-pub use laws::notes_tell_the_numbers;
 pub use layout::Layout;

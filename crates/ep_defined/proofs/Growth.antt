@@ -12,7 +12,7 @@ use Rattle.ep_defined.specs.Images.{IsConjunction, IsDivisorTest, IsImage, IsIma
 use Rattle.ep_defined.specs.declared.images.Image.{Image}
 use Rattle.ep_defined.proofs.KindSteps.{safe_parts, safe_stands, safe_whole}
 use Rattle.ep_defined.proofs.Reaches.{is_more}
-use Rattle.ep_defined.proofs.SameParts.{parts_with}
+use Rattle.ep_ground.proofs.SameParts.{parts_with}
 use Rattle.ep_ground.proofs.Taking.{got_from_longer}
 use Rattle.ep_ground.specs.ArenaSteps.{Interned}
 use Rattle.ep_ground.specs.Grounds.{StandsOver}

@@ -12,7 +12,7 @@ use Rattle.ep_base.specs.Reads.{first_or_zero, picked, safe_picked}
 use Rattle.ep_defined.specs.Growing.{Is}
 use Rattle.ep_defined.specs.Translations.{only_if}
 use Rattle.ep_defined.proofs.Parts.{there, values_there}
-use Rattle.ep_defined.proofs.SameParts.{values_same}
+use Rattle.ep_ground.proofs.SameParts.{values_same}
 use Rattle.ep_defined.proofs.Standing.{Follows}
 use Rattle.ep_ground.specs.Nodes.{GroundNode, table}
 use Rattle.ep_ground.specs.Terms.{node_value, truth}

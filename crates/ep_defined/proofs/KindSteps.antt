@@ -11,7 +11,7 @@ use Rattle.ep_defined.specs.Translations.{IsTruth, Stands, only_if}
 use Rattle.ep_defined.specs.declared.images.Image.{Image}
 use Rattle.ep_defined.specs.declared.kinds.Kind.{Kind}
 use Rattle.ep_defined.proofs.Parts.{absent, has_value, lacking, there, truth_value}
-use Rattle.ep_defined.proofs.SameParts.{node_as, node_same}
+use Rattle.ep_ground.proofs.SameParts.{node_as, node_same}
 use Rattle.ep_ground.specs.Grounds.{StandsOver}
 use Rattle.ep_ground.specs.Nodes.{GroundNode, constant, undefined, cell, sum, product, quotient, remainder, power, absolute, least, greatest, pick, whole, safe_quotient, safe_remainder, safe_pick, compare, lex, member, negation, all_of, any_of, same_truth, all_different, counts, at_least, at_most, table, parts_of, is_partial}
 use Rattle.ep_ground.specs.Terms.{node_value, truth}

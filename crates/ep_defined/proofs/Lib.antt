@@ -1,5 +1,3 @@
-pub mod Grown
-pub mod SameParts
 pub mod Parts
 pub mod Standing
 pub mod KeyTests

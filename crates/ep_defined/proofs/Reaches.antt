@@ -4,47 +4,22 @@ use Rattle.std.specs.List.{All, Contains}
 use Rattle.std.proofs.lemmas.List.{get_or_append_left}
 use Rattle.std.proofs.lemmas.List.Elements.{All-contains}
 use Rattle.std.proofs.lemmas.Option.{slice_get_within, same_Some, get_or_from_slice_get}
-use Rattle.ep_base.specs.Intervals.{Interval, only, truth_interval}
+use Rattle.ep_base.specs.Intervals.{Interval, truth_interval}
 use Rattle.ep_base.specs.Reads.{IsWithinNumbers}
 use Rattle.ep_defined.specs.Growing.{Is}
 use Rattle.ep_defined.specs.Images.{IsConjunction, IsImageBy, IsWholeImage, guards_in, kind_of, made_safe, over_totals, total_at}
 use Rattle.ep_defined.specs.Translations.{IsBoundedBelow}
 use Rattle.ep_defined.specs.declared.images.Image.{Image}
 use Rattle.ep_defined.specs.declared.kinds.Kind.{Kind}
-use Rattle.ep_defined.proofs.Grown.{made-at, grown-before, grown-more}
 use Rattle.ep_defined.proofs.KindSteps.{safe_parts}
-use Rattle.ep_defined.proofs.SameParts.{node_same, reach_as, reach_same, weights_same}
-use Rattle.ep_ground.specs.Bounds.{IsWithinReach, node_reach, reach_at, term_reach}
+use Rattle.ep_ground.proofs.SameParts.{reach_as, weights_same}
+use Rattle.ep_ground.proofs.TermLaws.{reach_is, reach_more}
+use Rattle.ep_ground.specs.Bounds.{IsWithinReach, node_reach, term_reach}
 use Rattle.ep_ground.specs.Grounds.{LeadsTo, itself, by_part}
 use Rattle.ep_ground.specs.Nodes.{GroundNode, constant, undefined, cell, sum, product, quotient, remainder, power, absolute, least, greatest, pick, whole, safe_quotient, safe_remainder, safe_pick, compare, lex, member, negation, all_of, any_of, same_truth, all_different, counts, at_least, at_most, table, parts_of, coefficients_of}
 use Rattle.ep_ground.specs.SameTrees.{with_parts}
-use Rattle.ep_ground.specs.Terms.{PartsStandBefore, node_value, term_value, value_at, values_from}
+use Rattle.ep_ground.specs.Terms.{PartsStandBefore}
 use Rattle.ep_ground.specs.declared.cells.Cell.{Cell}
-
--- the value of a term is that of its node
-pub value_is : (nodes : List GroundNode) (values : List ℤ) → PartsStandBefore nodes → (t : ℕ) (node : GroundNode) → Is nodes t node → term_value nodes values t ≡ node_value values (term_value nodes values) node
-unfolding term_value value_at values_from
-value_is nodes values before t node is =
-    let step = λ (done : List (Option ℤ)) (n : GroundNode). node_value values (value_at done) n in
-    made-at step nodes t node None is
-    ∙ node_same values _ (term_value nodes values) node
-    (λ p found. grown-before step nodes t p None (let h = slice_get_within nodes t node is in omega arith) (All-contains (λ part. part < t) (parts_of node) p (before t node is) found))
-
-pub reach_is : (nodes : List GroundNode) (cells : List Cell) → PartsStandBefore nodes → (t : ℕ) (node : GroundNode) → Is nodes t node → term_reach nodes cells t ≡ node_reach cells (term_reach nodes cells) node
-unfolding term_reach reach_at
-reach_is nodes cells before t node is =
-    let step = λ (done : List Interval) (n : GroundNode). node_reach cells (reach_at done) n in
-    made-at step nodes t node (only (pos 0)) is
-    ∙ reach_same cells _ (term_reach nodes cells) node
-    (λ p found. grown-before step nodes t p (only (pos 0)) (let h = slice_get_within nodes t node is in omega arith) (All-contains (λ part. part < t) (parts_of node) p (before t node is) found))
-
-pub value_more : (nodes more : List GroundNode) (values : List ℤ) (t : ℕ) → t < length nodes → term_value (nodes ++ more) values t ≡ term_value nodes values t
-unfolding term_value value_at values_from
-value_more nodes more values t below = grown-more (λ (done : List (Option ℤ)) (n : GroundNode). node_value values (value_at done) n) nodes more t None below
-
-pub reach_more : (nodes more : List GroundNode) (cells : List Cell) (t : ℕ) → t < length nodes → term_reach (nodes ++ more) cells t ≡ term_reach nodes cells t
-unfolding term_reach reach_at
-reach_more nodes more cells t below = grown-more (λ (done : List Interval) (n : GroundNode). node_reach cells (reach_at done) n) nodes more t (only (pos 0)) below
 
 pub get_more : {X : Type 0} (xs ys : List X) (k : ℕ) → k < length xs → slice_get (xs ++ ys) k ≡ slice_get xs k
 get_more [] ys k below = absurd (omega (arith, below))

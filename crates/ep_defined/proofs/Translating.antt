@@ -14,8 +14,9 @@ use Rattle.ep_defined.specs.declared.images.Image.{Image}
 use Rattle.ep_defined.specs.declared.kinds.Kind.{Kind}
 use Rattle.ep_defined.proofs.KindSteps.{safe_parts, stands_by}
 use Rattle.ep_defined.proofs.Parts.{of_cons, none_there}
-use Rattle.ep_defined.proofs.Reaches.{bounded_more, bounded_node, bounded_part, image_reach, is_more, reach_is, reach_more, totals_reach, truth_reach, truth_weights, value_is, value_more, weights_with}
-use Rattle.ep_defined.proofs.SameParts.{parts_with}
+use Rattle.ep_defined.proofs.Reaches.{bounded_more, bounded_node, bounded_part, image_reach, is_more, totals_reach, truth_reach, truth_weights, weights_with}
+use Rattle.ep_ground.proofs.TermLaws.{reach_is, reach_more, value_is, value_more}
+use Rattle.ep_ground.proofs.SameParts.{parts_with}
 use Rattle.ep_ground.specs.Bounds.{IsWithinReach, node_reach, term_reach}
 use Rattle.ep_ground.specs.Grounds.{StandsOver, itself}
 use Rattle.ep_ground.specs.Nodes.{GroundNode, constant, undefined, quotient, remainder, pick, whole, cell, sum, product, power, absolute, least, greatest, safe_quotient, safe_remainder, safe_pick, compare, lex, member, negation, all_of, any_of, same_truth, all_different, counts, at_least, at_most, table, parts_of, coefficients_of}

@@ -28,10 +28,14 @@ cell_numbers m values = numbers_at values m.cells
 unfoldable pub objective_number : MapState → List ℤ → Option ℤ
 objective_number m values = option_map (λ goal. number_at values goal.1) m.objective
 
--- A map names for each cell a variable whose domain is the cell's values, and one for the objective, where there is one.
+-- Variables stand for cells with these values, each for one: they are there, and the domain of each is its cell's values.
+pub record StandForCells (values : List (List ℤ)) (vars : List (List ℤ)) (variables : List ℕ) : Type 0 where
+  pub there : All (λ x. x < length vars) variables
+  pub domains : map (λ x. slice_index_or vars x []) variables ≡ values
+
+-- A map names for each cell a variable that stands for it, and one for the objective, where there is one.
 pub record MapsCells (values : List (List ℤ)) (vars : List (List ℤ)) (m : MapState) : Type 0 where
-  pub cells : All (λ x. x < length vars) m.cells
-  pub domains : map (λ x. slice_index_or vars x []) m.cells ≡ values
+  pub cells : StandForCells values vars m.cells
   pub objective : MatchOption m.objective (Unit {0}) (λ goal. goal.1 < length vars)
 
 -- each variable that a constraint names is one of so many

@@ -7,7 +7,6 @@ pub mod Growing
 pub mod MarkedTerms
 pub mod Adding
 pub mod Standing
-pub mod RunEnds
 pub mod Ends
 pub mod SumLaws
 pub mod FormLaws

@@ -113,7 +113,7 @@ stands_whole g forms asserted marks b tops h are formed top =
         coefficients = All-append HasSmallCoefficients b.cons tops h.sound.coefficients top.small;
       };
       is_map = record {
-        maps = record { cells = h.cells; domains = h.domains; objective = goal_within g b g.objective (named_goal g b known) };
+        maps = record { cells = record { there = h.cells; domains = h.domains }; objective = goal_within g b g.objective (named_goal g b known) };
         senses = goal_sense b.places g.objective;
       };
       extends = values_extend g forms asserted marks b tops h are top;

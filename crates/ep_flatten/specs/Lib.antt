@@ -3,7 +3,6 @@ pub mod Saying
 pub mod Tops
 pub mod Building
 pub mod Marking
-pub mod RunEnds
 pub mod Forms
 pub mod Sums
 pub mod FormViews

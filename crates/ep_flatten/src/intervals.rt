@@ -7,7 +7,7 @@ ghost use Rattle.ep_base.specs.Intervals.{Interval, from_to};
 ghost use Rattle.ep_base.specs.Numbers as numbers;
 ghost use Rattle.ep_base.specs.Numbers.{absolute_of};
 ghost use Rattle.ep_flatten.specs.Building.{HasSmall, interval_of, wide_interval};
-ghost use Rattle.ep_flatten.specs.RunEnds.{greatest_from, least_from};
+ghost use Rattle.ep_base.specs.RunEnds.{greatest_from, least_from};
 ghost use Rattle.ep_ground.specs.Bounds as bounds;
 ghost use Rattle.ep_ground.specs.Bounds.{IsWithinReach};
 

@@ -48,10 +48,12 @@ taken_objective count m values below = taken_goal count m.objective values below
 -- the first variables of a layout are those of the flat problem, so that what a map names there it names in the layout
 maps_in_layout : (values vars domains : List (List ℤ)) (m : MapState) → take (length vars) domains ≡ vars → MapsCells values vars m → MapsCells values domains m
 maps_in_layout values vars domains m first h = record {
-  cells = All-weaker (λ x. x < length vars) (λ x. x < length domains) (λ x low. omega (arith, low, long)) m.cells h.cells;
-  domains =
-      sym (map_same (λ x. slice_index_or vars x []) (λ x. slice_index_or domains x []) (λ x. x < length vars) m.cells h.cells
-      (λ x low. ap (λ xs. slice_index_or xs x []) (sym first) ∙ taken_at (length vars) domains x [] low)) ∙ h.domains;
+  cells = record {
+    there = All-weaker (λ x. x < length vars) (λ x. x < length domains) (λ x low. omega (arith, low, long)) m.cells h.cells.there;
+    domains =
+        sym (map_same (λ x. slice_index_or vars x []) (λ x. slice_index_or domains x []) (λ x. x < length vars) m.cells h.cells.there
+        (λ x low. ap (λ xs. slice_index_or xs x []) (sym first) ∙ taken_at (length vars) domains x [] low)) ∙ h.cells.domains;
+  };
   objective = goal_below m.objective h.objective;
 }
   where
@@ -89,21 +91,21 @@ stages_compose old new flat m layout f keeps stands encodes = record {
 
     kept : (s : ℕ → Bool) → Satisfies s f.clauses → IsGroundSolution new (decoded_cells layout m s)
     kept s met =
-        subst (IsGroundSolution new) (taken_cells count m (decoded_values layout s) stands.is_map.maps.cells)
+        subst (IsGroundSolution new) (taken_cells count m (decoded_values layout s) stands.is_map.maps.cells.there)
         (stands.restricts (take count (decoded_values layout s)) (encodes.sound s met))
 
     driven : (s : ℕ → Bool) → Satisfies s f.clauses → objective_number m (decoded_values layout s) ≡ ground_objective old (decoded_cells layout m s)
     driven s met =
         sym (taken_objective count m (decoded_values layout s) stands.is_map.maps.objective)
         ∙ stands.objective (take count (decoded_values layout s)) (encodes.sound s met)
-        ∙ ap (λ cells. ground_objective new cells) (taken_cells count m (decoded_values layout s) stands.is_map.maps.cells)
+        ∙ ap (λ cells. ground_objective new cells) (taken_cells count m (decoded_values layout s) stands.is_map.maps.cells.there)
         ∙ keeps.objective (decoded_cells layout m s) ((keeps.same (decoded_cells layout m s)).0 (kept s met))
 
     given_by : (cells : List ℤ) → IsGroundSolution old cells → IsMetBy flat m cells → AreGiven layout m f.clauses cells
     given_by cells solution by =
         let found = encodes.complete by.values by.meets in
         let same : decoded_cells layout m found.assignment ≡ cells =
-        sym (taken_cells count m (decoded_values layout found.assignment) stands.is_map.maps.cells)
+        sym (taken_cells count m (decoded_values layout found.assignment) stands.is_map.maps.cells.there)
         ∙ ap (λ values. cell_numbers m values) found.values_are ∙ by.gives in
         record {
           assignment = found.assignment;

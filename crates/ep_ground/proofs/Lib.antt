@@ -3,3 +3,6 @@ pub mod VectorsGrounds
 pub mod SameNodes
 pub mod Taking
 pub mod SameTerms
+pub mod Grown
+pub mod SameParts
+pub mod TermLaws

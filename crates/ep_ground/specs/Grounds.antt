@@ -40,13 +40,13 @@ pub data LeadsTo (nodes : List GroundNode) : ℕ → ℕ → Type 0 where
   itself : (t : ℕ) → LeadsTo nodes t t
   by_part : (t part u : ℕ) (node : GroundNode) → slice_get nodes t ≡ Some node → Contains (parts_of node) part → LeadsTo nodes part u → LeadsTo nodes t u
 
--- a term that the clauses and the objective lead to
+-- a term that one of the clauses, or the objective, leads to
 pub record IsReached (g : GroundState) (u : ℕ) : Type 0 where
   pub from : ℕ
   pub named : Contains (named_terms g) from
   pub leads : LeadsTo g.nodes from u
 
--- a node that can stand in a ground with so many cells: a cell is one of them, and a least or greatest part is one of some
+-- a node that can stand in a ground with so many cells: a cell is one of them, and a least or a greatest number is one of some part
 unfoldable pub StandsOver : ℕ → GroundNode → Type 0
 StandsOver cells (cell k) = k < cells
 StandsOver cells (least ts) = 0 < length ts
@@ -54,12 +54,12 @@ StandsOver cells (greatest ts) = 0 < length ts
 StandsOver cells _ = Unit {0}
 
 -- The clauses and the objective are terms of the ground, each cell that a node names is one of the ground, and each least
--- or greatest part is one of some.
+-- or greatest node has a part.
 pub record IsWellFormed (g : GroundState) : Type 0 where
   pub terms : All (λ t. t < length g.nodes) (named_terms g)
   pub nodes : All (StandsOver (length g.cells)) g.nodes
 
--- no node is without a value for some values of its parts
+-- no node is partial
 abbrev pub HasNoPartialNode : GroundState → Type 0
 HasNoPartialNode g = All (λ node. is_partial node ≡ false) g.nodes
 
@@ -83,3 +83,9 @@ additions_in _ = 0
 -- how many additions some terms ask for
 unfoldable pub additions : GroundState → List ℕ → ℕ
 additions g terms = sum_by (λ t. additions_in (slice_get g.nodes t)) terms
+
+-- A ground asks for this many additions: one less than its parts for each sum that the clauses and the objective lead to.
+pub record AsksForAdditions (g : GroundState) (count : ℕ) : Type 0 where
+  pub terms : List ℕ
+  pub are_reached : AreReached g terms
+  pub number : additions g terms ≡ count

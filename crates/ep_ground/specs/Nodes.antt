@@ -68,7 +68,8 @@ parts_of (at_least ts cs ns) = ts
 parts_of (at_most ts cs ns) = ts
 parts_of (table ts rows) = ts
 
--- a node that has no value for some values of its parts, or no value at all
+-- A partial node: one without a value, a quotient, a remainder or a read, which may lack a value though each part has one, or a
+-- whole, which has its other parts only so that it lacks a value where they do.
 unfoldable pub is_partial : GroundNode → Bool
 is_partial undefined = true
 is_partial (quotient a b) = true

@@ -13,6 +13,9 @@ mod tests;
 pub use arena::{Arena, InternError};
 pub use cells::Cell;
 pub use grounds::Ground;
-pub use laws::equal_trees_are_equal_terms;
+pub use laws::{
+    a_term_has_the_value_of_its_node, a_term_reaches_as_far_as_its_node,
+    equal_trees_are_equal_terms,
+};
 pub use nodes::Node;
 pub use terms::Term;

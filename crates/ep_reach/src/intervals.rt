@@ -8,7 +8,7 @@ ghost use Rattle.ep_base.specs.Numbers as numbers;
 ghost use Rattle.ep_base.specs.Numbers.{absolute_of};
 ghost use Rattle.ep_base.specs.Reads.{IsWithinNumbers};
 ghost use Rattle.ep_reach.specs.Reaching.{IsWide, interval_of, wide_interval};
-ghost use Rattle.ep_reach.specs.RunEnds.{greatest_from, least_from};
+ghost use Rattle.ep_base.specs.RunEnds.{greatest_from, least_from};
 ghost use Rattle.ep_ground.specs.Bounds as bounds;
 ghost use Rattle.ep_ground.specs.Bounds.{IsWithinReach};
 

@@ -1,4 +1,4 @@
-use Rattle.ep_flatten.proofs.RunEnds.{spanned_is, spanned_none}
+use Rattle.ep_base.proofs.RunEnds.{spanned_is, spanned_none}
 use Rattle.ep_flatten.proofs.intervals.span_of_set.Goals as goal
 
 pub returns-in-Some : goal.returns-in-Some
