@@ -2,19 +2,19 @@
 use Rattle.std.proofs.Common.{◌≡◌, ◌↔◌, ◌⊎◌, inl, inr, ℕ, ◌+◌, ◌-◌, ◌<◌, ◌≤◌, suc, zero, ℤ, pos, ◌+ℤ◌, ◌-ℤ◌, ◌≤ℤ◌, ◌<ℤ◌, Bool, true, false, cond, not, List, [], ◌∷◌, ◌++◌, length, Option, None, Some, refl, sym, ap, subst, ◌∙◌, arith}
 use Rattle.std.proofs.lemmas.Int.{ints}
 use Rattle.std.specs.Prelude.{◌==◌, filter, map, take, IfOk, IfSome, IsSome, IsTrue, Result, Ok, Err, unwrap_or, int_le, int_lt, slice_index_or}
-use Rattle.std.specs.List.{All, Contains}
+use Rattle.std.specs.List.{Contains}
 use mathlib.Core.Bool.{beq}
 use Rattle.std.proofs.lemmas.Bool.{false≢true}
 use Rattle.std.proofs.lemmas.Bool.Decides.{nat_tests}
 use Rattle.std.proofs.lemmas.List.{get_or_default, map-append, take_more}
-use Rattle.std.proofs.lemmas.List.Elements.{All-contains, All-get_or}
 use Rattle.cnf_core.specs.Clauses.{SatisfiesClause}
 use Rattle.cnf_core.specs.Literal.{HaveSameLiterals, Literal, negation}
 use Rattle.cnf_core.proofs.Keeping.{same_satisfied}
 use Rattle.cnf_core.proofs.Members.{Contains-here, none_in_nil}
+use Rattle.ep_base.specs.Senses.{better_number}
 use Rattle.ep_base.specs.declared.errors.Memory.{Memory}
 use Rattle.ep_base.specs.Reads.{same_bool}
-use Rattle.ep_base.specs.Runs.{AreApart, IsIn, numbers}
+use Rattle.ep_base.specs.Runs.{AreApart, numbers}
 use Rattle.ep_base.specs.declared.operators.Sense.{Sense}
 use Rattle.ep_base.specs.declared.run_lists.Run.{Run}
 use Rattle.ep_base.proofs.RunSteps.{in_numbers}
@@ -24,8 +24,7 @@ use Rattle.enc_var.specs.Decoding.{Means, VariableLiterals, decoded, known_holds
 use Rattle.enc_var.specs.declared.known.Known.{Known}
 use Rattle.enc_var.specs.declared.known.Known.TheVariants as known
 use Rattle.sat_search.specs.View.{SolverView, value_in}
-use Rattle.ep_answer.specs.Answered.{is_better}
-use Rattle.ep_answer.specs.Searches.{AreWithin, ClauseSaysBetter, Reaches, numbers_left, values_of}
+use Rattle.ep_answer.specs.Searches.{AreWithin, Reaches, numbers_left, values_of}
 
 -- each number of runs that are apart lies between the start of the first one and the end of the last one
 within_hull : (runs : List Run) (first last : Run) → AreApart runs → ((d : Run) → slice_index_or runs 0 d ≡ first) → ((d : Run) → slice_index_or runs (length runs - 1) d ≡ last) → (v : ℤ) → Contains (numbers runs) v → (first.lo ≤ℤ v) × (v ≤ℤ last.hi)
@@ -154,16 +153,16 @@ pub zero_isnt : (n : ℕ) → false ≡ (n == 0) → n ≡ 0 → ⊥
 zero_isnt n h is = grind (arith, nat_tests)
 
 -- no number of the variable is better than one that isn't above the least
-pub none_better : (s : ℕ → Bool) (e : VariableLiterals) (lo hi best : ℤ) → AreWithin e.domain (record { lo = lo; hi = hi }) → best ≤ℤ lo → Means s e → IsTrue (known_holds s known.False) ↔ IsTrue (is_better Sense.Minimising (decoded s e) best)
-unfolding known_holds is_better
+pub none_better : (s : ℕ → Bool) (e : VariableLiterals) (lo hi best : ℤ) → AreWithin e.domain (record { lo = lo; hi = hi }) → best ≤ℤ lo → Means s e → IsTrue (known_holds s known.False) ↔ IsTrue (better_number Sense.Minimising (decoded s e) best)
+unfolding known_holds better_number
 none_better s e lo hi best within low means = (
   λ t. absurd (false≢true t),
   λ b. let at = within (decoded s e) means.among in absurd (omega (arith, ints, at.0, low, b)),
 )
 
 -- "it is at most the number before"
-pub less_said : (s : ℕ → Bool) (e : VariableLiterals) (best before : ℤ) (k : Known) → before ≡ (best -ℤ pos 1) → k ≡ le_of e before → Means s e → IsTrue (known_holds s k) ↔ IsTrue (is_better Sense.Minimising (decoded s e) best)
-unfolding is_better
+pub less_said : (s : ℕ → Bool) (e : VariableLiterals) (best before : ℤ) (k : Known) → before ≡ (best -ℤ pos 1) → k ≡ le_of e before → Means s e → IsTrue (known_holds s k) ↔ IsTrue (better_number Sense.Minimising (decoded s e) best)
+unfolding better_number
 less_said s e best before k one is means =
     let same : known_holds s k ≡ int_le (decoded s e) before = ap (known_holds s) is ∙ means.at_most before in (
       λ t. let low : IsTrue (int_le (decoded s e) before) = sym same ∙ t in lt_true (decoded s e) best (omega (arith, ints, low, one)),
@@ -171,8 +170,8 @@ less_said s e best before k one is means =
     )
 
 -- the contrary of "it is at most the number"
-pub more_said : (s : ℕ → Bool) (e : VariableLiterals) (best : ℤ) (k : Known) → (IsTrue (known_holds s k) ↔ (known_holds s (le_of e best) ≡ false)) → Means s e → IsTrue (known_holds s k) ↔ IsTrue (is_better Sense.Maximising (decoded s e) best)
-unfolding is_better
+pub more_said : (s : ℕ → Bool) (e : VariableLiterals) (best : ℤ) (k : Known) → (IsTrue (known_holds s k) ↔ (known_holds s (le_of e best) ≡ false)) → Means s e → IsTrue (known_holds s k) ↔ IsTrue (better_number Sense.Maximising (decoded s e) best)
+unfolding better_number
 more_said s e best k contrary means = (
   λ t. above (decoded s e) (sym (means.at_most best) ∙ contrary.0 t),
   λ b. contrary.1 (means.at_most best ∙ below (decoded s e) b),
@@ -246,18 +245,18 @@ clause_none s clause lits same is =
     )
 
 -- that a number is better than itself isn't so
-pub not_better_than_itself : (sense : Sense) (n : ℤ) → IsTrue (is_better sense n n) → ⊥
-unfolding is_better
+pub not_better_than_itself : (sense : Sense) (n : ℤ) → IsTrue (better_number sense n n) → ⊥
+unfolding better_number
 not_better_than_itself Sense.Minimising n h = omega (arith, ints, h)
 not_better_than_itself Sense.Maximising n h = omega (arith, ints, h)
 
 -- what a variable can be isn't always better than a number that the variable reaches
 pub not_always : (e : VariableLiterals) (sense : Sense) (best : ℤ) (k : Known) → ((s : ℕ → Bool) × Reaches s e best)
-    → ((s : ℕ → Bool) → Means s e → IsTrue (known_holds s k) ↔ IsTrue (is_better sense (decoded s e) best)) → k ≡ known.True → ⊥
+    → ((s : ℕ → Bool) → Means s e → IsTrue (known_holds s k) ↔ IsTrue (better_number sense (decoded s e) best)) → k ≡ known.True → ⊥
 not_always e sense best k reached says is =
     let s = reached.0 in
     not_better_than_itself sense best
-    (subst (λ n. IsTrue (is_better sense n best)) reached.1.is ((says s reached.1.means).0 (ap (known_holds s) is ∙ holds_true s)))
+    (subst (λ n. IsTrue (better_number sense n best)) reached.1.is ((says s reached.1.means).0 (ap (known_holds s) is ∙ holds_true s)))
 
 -- the same of a clause that is made
 pub said_none : (r : Result (List Literal) Memory) (lits : List Literal) (k : Known) → IfOk r (λ clause. HaveSameLiterals clause lits) → lits ≡ [] → k ≡ known.False
@@ -271,9 +270,9 @@ said_literal (Ok clause) lits k l same is at = λ s. subst (λ (j : Known). Sati
 said_literal (Err e) lits k l same is at = tt
 
 -- what a variable's number comes from
-pub reached_by : (layout : List VariableLiterals) (s : ℕ → Bool) (x : ℕ) (n m : ℤ) → x < length layout → All (Means s) layout → n ≡ number_at (decoded_values layout s) x → m ≡ n → (t : ℕ → Bool) × Reaches t (literals_at layout x) m
+pub reached_by : (layout : List VariableLiterals) (s : ℕ → Bool) (x : ℕ) (n m : ℤ) → x < length layout → Means s (literals_at layout x) → n ≡ number_at (decoded_values layout s) x → m ≡ n → (t : ℕ → Bool) × Reaches t (literals_at layout x) m
 reached_by layout s x n m low means is same =
-    (s, record { means = All-get_or (Means s) layout x (record { domain = []; first = 0 }) low means; is = sym (number_is layout s x low) ∙ sym is ∙ sym same })
+    (s, record { means = means; is = sym (number_is layout s x low) ∙ sym is ∙ sym same })
 
 fewer : {X : Type 0} (p q : X → Bool) (xs : List X) → ((x : X) → p x ≡ true → q x ≡ true) → length (filter p xs) ≤ length (filter q xs)
 fewer p q [] h = omega arith
@@ -301,8 +300,8 @@ one_fewer p q (x ∷ xs) n h (suc k, low, at) passes fails = by (p x) (q x) (h x
     by false true i rest = omega (arith, rest)
     by false false i rest = rest
 
-better_through : (sense : Sense) (x y z : ℤ) → IsTrue (is_better sense x y) → IsTrue (is_better sense y z) → IsTrue (is_better sense x z)
-unfolding is_better
+better_through : (sense : Sense) (x y z : ℤ) → IsTrue (better_number sense x y) → IsTrue (better_number sense y z) → IsTrue (better_number sense x z)
+unfolding better_number
 better_through Sense.Minimising x y z a b = lt_true x z (omega (arith, ints, a, b))
 better_through Sense.Maximising x y z a b = lt_true z x (omega (arith, ints, a, b))
 
@@ -311,14 +310,14 @@ isnt true h = absurd (h refl)
 isnt false h = refl
 
 -- with a better number fewer are left
-pub numbers_fall : (sense : Sense) (domain : List ℤ) (best : Option ℤ) (number : ℤ) → Contains domain number → IfSome best (λ b. IsTrue (is_better sense number b)) → numbers_left sense domain (Some number) < numbers_left sense domain best
+pub numbers_fall : (sense : Sense) (domain : List ℤ) (best : Option ℤ) (number : ℤ) → Contains domain number → IfSome best (λ b. IsTrue (better_number sense number b)) → numbers_left sense domain (Some number) < numbers_left sense domain best
 unfolding numbers_left
 numbers_fall sense domain None number found better =
-    let most : length (filter (λ v. is_better sense v number) domain) ≤ length (filter (λ v. true) domain) = fewer (λ v. is_better sense v number) (λ v. true) domain (λ v t. refl) in
+    let most : length (filter (λ v. better_number sense v number) domain) ≤ length (filter (λ v. true) domain) = fewer (λ v. better_number sense v number) (λ v. true) domain (λ v t. refl) in
     omega (arith, most, all_pass domain)
   where
     all_pass : (vs : List ℤ) → length (filter (λ (v : ℤ). true) vs) ≡ length vs
     all_pass [] = refl
     all_pass (v ∷ vs) = ap suc (all_pass vs)
 numbers_fall sense domain (Some b) number found better =
-    one_fewer (λ v. is_better sense v number) (λ v. is_better sense v b) domain number (λ v t. better_through sense v number b t better) found better (isnt (is_better sense number number) (not_better_than_itself sense number))
+    one_fewer (λ v. better_number sense v number) (λ v. better_number sense v b) domain number (λ v t. better_through sense v number b t better) found better (isnt (better_number sense number number) (not_better_than_itself sense number))

@@ -5,7 +5,7 @@ use Rattle.std.specs.List.{All, AllZip, Contains}
 use Rattle.std.specs.Ordering.{int_eq}
 use Rattle.std.proofs.lemmas.Bool.{false≢true}
 use Rattle.std.proofs.lemmas.Bool.Decides.{Decides-int_eq}
-use Rattle.std.proofs.lemmas.List.Elements.{All-get_or, All-head, All-nil, All-push, All-tail, All-weaker, Contains-append_cases, Contains-append_left, Contains-append_right, Contains-push}
+use Rattle.std.proofs.lemmas.List.Elements.{All-head, All-nil, All-push, All-tail, All-weaker, Contains-append_cases, Contains-append_left, Contains-append_right, Contains-push}
 use Rattle.cnf_core.specs.Clauses.{Satisfies, SatisfiesClause}
 use Rattle.cnf_core.specs.Events.{LogState, Note, clauses_of, given, givens, nonempty_steps}
 use Rattle.cnf_core.specs.Literal.{Literal, negation}
@@ -16,11 +16,11 @@ use Rattle.ep_ground.specs.declared.cells.Cell.{Cell}
 use Rattle.enc_var.specs.Decoding.{Means, VariableLiterals, note_of}
 use Rattle.enc_var.specs.Layouts.{decoded_cells, decoded_values, literals_at}
 use Rattle.enc_var.specs.Notes.{cell_notes, cell_text, notes_of_cell}
-use Rattle.ep_answer.specs.Answered.{BlocksCells, IsNegatedNote, IsRightEnd, ListingEnd, ListsCells, complete, spent, stopped}
-use Rattle.ep_answer.specs.Problems.{CanSearch, IsAllowed, ProblemState, base_clauses}
+use Rattle.ep_answer.specs.Answered.{AllTell, BlocksCells, IsNegatedNote, IsRightEnd, ListingEnd, ListsCells, LiteralsTell, complete, spent, stopped}
+use Rattle.ep_answer.specs.Problems.{AllMean, CanSearch, IsAllowed, ProblemState, base_clauses}
 use Rattle.ep_answer.specs.Searches.{AreNumbers, HasCells, IsBlocked, IsListed, IsNotNumber, OtherNumbers, values_of}
 use Rattle.ep_answer.proofs.Deciding.{number_is}
-use Rattle.ep_answer.proofs.OtherNumbers.{number_had}
+use Rattle.ep_answer.proofs.OtherNumbers.{means_told, number_had}
 use Rattle.ep_answer.proofs.Searching.{added_are, allowed_now, base_is, base_stays, begun, cells_there, first_part, givens_append, givens_stay, goes_by_given, goes_by_steps, kept_satisfies, kept_some, pairs_push, second_part, within_any, zip_push}
 use Rattle.sat_search.proofs.Continued.{sound_givens}
 use Rattle.sat_search.specs.Logs.{AddsSteps, EndsWithEmptyStep, IsSound, NoneIsEmpty}
@@ -57,8 +57,8 @@ listed_on p budget old now next found h adds sound within =
     }
 
 -- the literals mean what they say under an assignment that satisfies the givens
-pub means_listed : (p : ProblemState) (budget : ℕ) (old now : LogState) (found : List (List ℤ)) (s : ℕ → Bool) → CanSearch p old → IsListed p budget old now found → Satisfies s (givens now.events) → All (Means s) p.layout
-means_listed p budget old now found s can h met = can.meaning s (subst (Satisfies s) (base_is old can.is_base) ((h.left s).0 met).0)
+pub means_listed : (p : ProblemState) (budget : ℕ) (old now : LogState) (found : List (List ℤ)) (s : ℕ → Bool) → CanSearch p old → IsListed p budget old now found → Satisfies s (givens now.events) → AllMean s p.layout p.variables.cells
+means_listed p budget old now found s can h met = (can.meaning s (subst (Satisfies s) (base_is old can.is_base) ((h.left s).0 met).0)).cells
 
 pub has_cells : (p : ProblemState) (budget : ℕ) (old now : LogState) (found : List (List ℤ)) (solver : SolverView) → CanSearch p old → IsListed p budget old now found → solver.broken ≡ false → solver.clauses ≡ clauses_of now.events
     → IsSomeAnd solver.kept (λ trues. Satisfies (value_in trues) (givens now.events)) → HasCells (record p { solver = solver }) now
@@ -75,17 +75,26 @@ pub blocked_same : (p : ProblemState) (solver : SolverView) (s : ℕ → Bool) (
 blocked_same p solver s old new cells h = record { cells_are = h.cells_are; clause = h.clause; blocks = h.blocks; new_is = h.new_is }
 
 -- what an assignment gives is among the numbers of the variables
-pub are_numbers : (layout : List VariableLiterals) (s : ℕ → Bool) (vars : List ℕ) (cells : List ℤ) → All (λ x. x < length layout) vars → All (Means s) layout → cells ≡ numbers_at (decoded_values layout s) vars → AreNumbers layout vars cells
+pub are_numbers : (layout : List VariableLiterals) (s : ℕ → Bool) (vars : List ℕ) (cells : List ℤ) → All (λ x. x < length layout) vars → AllMean s layout vars → cells ≡ numbers_at (decoded_values layout s) vars → AreNumbers layout vars cells
 unfolding numbers_at
-are_numbers layout s vars cells there means is = subst (AreNumbers layout vars) (sym is) (by vars there)
+are_numbers layout s vars cells there means is = subst (AreNumbers layout vars) (sym is) (by vars there means)
   where
-    by : (xs : List ℕ) → All (λ x. x < length layout) xs → AreNumbers layout xs (map (number_at (decoded_values layout s)) xs)
-    by [] low = tt
-    by (x ∷ xs) low =
-        let at : x < length layout = All-head (λ y. y < length layout) x xs low in (
-          subst (Contains (literals_at layout x).domain) (sym (number_is layout s x at)) (All-get_or (Means s) layout x (record { domain = []; first = 0 }) at means).among,
-          by xs (All-tail (λ y. y < length layout) x xs low),
-        )
+    by : (xs : List ℕ) → All (λ x. x < length layout) xs → AllMean s layout xs → AreNumbers layout xs (map (number_at (decoded_values layout s)) xs)
+    by [] low each = tt
+    by (x ∷ xs) low each = (
+      subst (Contains (literals_at layout x).domain) (sym (number_is layout s x (All-head (λ y. y < length layout) x xs low))) (All-head (λ y. Means s (literals_at layout y)) x xs each).among,
+      by xs (All-tail (λ y. y < length layout) x xs low) (All-tail (λ y. Means s (literals_at layout y)) x xs each),
+    )
+
+-- where the literals of variables mean what they say, those of their values tell the numbers that an assignment gives
+pub all_told : (layout : List VariableLiterals) (s : ℕ → Bool) (vars : List ℕ) → All (λ x. x < length layout) vars → AllMean s layout vars → AllTell s layout vars (numbers_at (decoded_values layout s) vars)
+unfolding numbers_at
+all_told layout s [] there means = tt
+all_told layout s (x ∷ vars) there means = (
+  subst (LiteralsTell s (literals_at layout x)) (sym (number_is layout s x (All-head (λ y. y < length layout) x vars there)))
+      (means_told s (literals_at layout x) (All-head (λ y. Means s (literals_at layout y)) x vars means)),
+  all_told layout s vars (All-tail (λ y. y < length layout) x vars there) (All-tail (λ y. Means s (literals_at layout y)) x vars means),
+)
 
 mapped_in : {X Y : Type 0} (f : X → Y) (xs : List X) (x : X) → Contains xs x → Contains (map f xs) (f x)
 mapped_in f [] x found = absurd (omega (arith, found.1))
@@ -141,7 +150,7 @@ blocks p old cells clause can numbers other = record {
     negated l h =
         let x = slice_index_or p.variables.cells h.place 0 in
         let v = slice_index_or cells h.place (pos 0) in
-        let values : map (λ one. one.values) p.cells ≡ map (λ y. (literals_at p.layout y).domain) p.variables.cells = sym can.maps.domains ∙ domains_same p.layout p.variables.cells (cells_there p old can) in
+        let values : map (λ one. one.values) p.cells ≡ map (λ y. (literals_at p.layout y).domain) p.variables.cells = sym can.maps.cells.domains ∙ domains_same p.layout p.variables.cells (cells_there p old can) in
         let note = note_at p.layout p.cells p.variables.cells h.place 0 v values h.there (number_had p.layout p.variables.cells cells h.place 0 (pos 0) numbers h.there) in
         record {
           note = note.note;
@@ -158,7 +167,8 @@ listed_more p budget old now next found s cells can h met new sound within =
     let clause = new.clause in
     let numbers = are_numbers p.layout s p.variables.cells cells (cells_there p old can) (means_listed p budget old now found s can h met) new.cells_are in
     let says = blocks p old cells clause can numbers new.blocks in
-    let meaning : (t : ℕ → Bool) → Satisfies t (base_clauses old) → All (Means t) p.layout = λ t base. can.meaning t (subst (Satisfies t) (base_is old can.is_base) base) in
+    let told : (t : ℕ → Bool) → Satisfies t (base_clauses old) → AllTell t p.layout p.variables.cells (decoded_cells p.layout p.variables t) =
+    λ t base. all_told p.layout t p.variables.cells (cells_there p old can) (can.meaning t (subst (Satisfies t) (base_is old can.is_base) base)).cells in
     let next_givens : givens next.events ≡ givens now.events ++ clause ∷ [] = ap (λ l. givens l.events) new.new_is ∙ givens_append now.events (given clause ∷ []) in
     record {
       goes = goes_by_given budget old now next clause h.goes new.new_is sound within;
@@ -173,13 +183,13 @@ listed_more p budget old now next found s cells can h met new sound within =
               before.0,
               λ there. elim (Contains-append_cases found (cells ∷ []) (decoded_cells p.layout p.variables t) there) as (λ _. ⊥) [
                 | inl w ↦ before.1 w
-                | inr w ↦ (says.says t (meaning t before.0)).0 (All-head (SatisfiesClause t) clause [] (second_part t (givens now.events) (clause ∷ []) parts)) (only cells (decoded_cells p.layout p.variables t) w)
+                | inr w ↦ (says.says t (decoded_cells p.layout p.variables t) (told t before.0)).0 (All-head (SatisfiesClause t) clause [] (second_part t (givens now.events) (clause ∷ []) parts)) (only cells (decoded_cells p.layout p.variables t) w)
               ],
             ),
         λ pair. subst (Satisfies t) (sym next_givens)
             (All-push (SatisfiesClause t) (givens now.events) clause
             ((h.left t).1 (pair.0, λ there. pair.1 (Contains-append_left found (cells ∷ []) (decoded_cells p.layout p.variables t) there)))
-            ((says.says t (meaning t pair.0)).1 (λ is. pair.1 (subst (Contains (found ++ cells ∷ [])) (sym is) (Contains-push found cells))))),
+            ((says.says t (decoded_cells p.layout p.variables t) (told t pair.0)).1 (λ is. pair.1 (subst (Contains (found ++ cells ∷ [])) (sym is) (Contains-push found cells))))),
       );
     }
   where

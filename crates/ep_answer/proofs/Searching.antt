@@ -5,21 +5,22 @@ use Rattle.std.specs.Prelude.{IfSome, IsErr, IsSome, IsSomeAnd, IsTrue, MatchOpt
 use Rattle.std.specs.List.{All, AllPairs, AllZip, Contains}
 use Rattle.std.proofs.lemmas.Bool.{false≢true}
 use Rattle.std.proofs.lemmas.List.{append-nil}
-use Rattle.std.proofs.lemmas.List.Elements.{All-cons, All-contains, All-get_or, All-head, All-nil, All-push, All-tail, All-weaker, Contains-append_left, Contains-append_right}
+use Rattle.std.proofs.lemmas.List.Elements.{All-cons, All-contains, All-head, All-nil, All-push, All-tail, All-weaker, Contains-append_left, Contains-append_right}
 use Rattle.std.proofs.lemmas.List.Sums.{length-filter}
 use Rattle.std.proofs.lemmas.List.Kept.{AllPairs-cons}
 use Rattle.cnf_core.specs.Clauses.{Satisfies, SatisfiesClause}
 use Rattle.cnf_core.specs.Events.{LogEvent, LogState, clauses_of, given, givens, is_given, is_nonempty_step, nonempty_steps, step}
 use Rattle.cnf_core.specs.Literal.{Literal}
 use Rattle.cnf_core.proofs.Members.{All-from_contains}
+use Rattle.ep_base.specs.Senses.{better_number}
 use Rattle.ep_base.specs.declared.operators.Sense.{Sense}
 use Rattle.enc_var.specs.Decoding.{Means, VariableLiterals, decoded}
 use Rattle.enc_var.specs.Layouts.{GivesCells, decoded_cells, decoded_values, literals_at}
 use Rattle.ep_flat.specs.Cons.{number_at}
 use Rattle.ep_flat.specs.Flats.{objective_number}
 use Rattle.ep_answer.proofs.Deciding.{lt_true, number_is, numbers_fall}
-use Rattle.ep_answer.specs.Answered.{AnswersCells, FoundCells, Improves, IsBetterThan, IsReachedGoal, IsRightAnswer, IsStillWanted, SaysBetter, added_givens, best_number, is_better, no_solution, optimum, solution, unknown}
-use Rattle.ep_answer.specs.Problems.{CanSearch, IsAllowed, ProblemState, base_clauses}
+use Rattle.ep_answer.specs.Answered.{AnswersCells, FoundCells, Improves, IsBetterThan, IsReachedGoal, IsRightAnswer, IsStillWanted, SaysBetter, added_givens, best_number, no_solution, optimum, solution, unknown}
+use Rattle.ep_answer.specs.Problems.{CanSearch, IsAllowed, MapMeans, ProblemState, base_clauses}
 use Rattle.ep_answer.specs.Searches.{ClauseSaysBetter, Continues, HasFound, IsImproved, IsPursued, best_answer, numbers_left, values_of}
 use Rattle.sat_search.proofs.Continued.{sound_givens}
 use Rattle.sat_search.specs.View.{SolverView, value_in}
@@ -160,15 +161,15 @@ objective_is p sense variable values stated = ap (option_map (λ goal. number_at
 
 -- an objective with this variable is better than a number where the variable's number is
 pub better_than : (p : ProblemState) (sense : Sense) (variable : ℕ) (best : ℤ) (values : List ℤ) → p.variables.objective ≡ Some (sense, variable)
-    → IsBetterThan p best (objective_number p.variables values) ↔ IsTrue (is_better sense (number_at values variable) best)
+    → IsBetterThan p best (objective_number p.variables values) ↔ IsTrue (better_number sense (number_at values variable) best)
 unfolding objective_number
 better_than p sense variable best values stated = (
   λ h.
       let same : Some (h.sense, h.variable) ≡ Some (sense, variable) = sym h.stated ∙ stated in
       let pair : (h.sense, h.variable) ≡ (sense, variable) = some_same (h.sense, h.variable) (sense, variable) same in
       let drives : Some (number_at values variable) ≡ Some h.number = sym (ap (option_map (λ goal. number_at values goal.1)) stated) ∙ h.drives in
-      subst (λ n. IsTrue (is_better sense n best)) (sym (some_same (number_at values variable) h.number drives))
-      (subst (λ w. IsTrue (is_better w h.number best)) (ap (λ w. w.0) pair) h.better),
+      subst (λ n. IsTrue (better_number sense n best)) (sym (some_same (number_at values variable) h.number drives))
+      (subst (λ w. IsTrue (better_number w h.number best)) (ap (λ w. w.0) pair) h.better),
   λ is. record {
     sense = sense;
     variable = variable;
@@ -181,7 +182,7 @@ better_than p sense variable best values stated = (
 
 -- what is better than a better number is better
 better_on : (p : ProblemState) (best number : ℤ) (goal : Option ℤ) → IsBetterThan p best (Some number) → IsBetterThan p number goal → IsBetterThan p best goal
-unfolding is_better
+unfolding better_number
 better_on p best number goal first second = record {
   sense = second.sense;
   variable = second.variable;
@@ -190,11 +191,11 @@ better_on p best number goal first second = record {
   drives = second.drives;
   better =
       through second.sense second.number number best second.better
-      (subst (λ n. IsTrue (is_better second.sense n best)) (sym (some_same number first.number first.drives))
-      (subst (λ w. IsTrue (is_better w first.number best)) (ap (λ w. w.0) (some_same (first.sense, first.variable) (second.sense, second.variable) (sym first.stated ∙ second.stated))) first.better));
+      (subst (λ n. IsTrue (better_number second.sense n best)) (sym (some_same number first.number first.drives))
+      (subst (λ w. IsTrue (better_number w first.number best)) (ap (λ w. w.0) (some_same (first.sense, first.variable) (second.sense, second.variable) (sym first.stated ∙ second.stated))) first.better));
 }
   where
-    through : (sense : Sense) (x y z : ℤ) → IsTrue (is_better sense x y) → IsTrue (is_better sense y z) → IsTrue (is_better sense x z)
+    through : (sense : Sense) (x y z : ℤ) → IsTrue (better_number sense x y) → IsTrue (better_number sense y z) → IsTrue (better_number sense x z)
     through Sense.Minimising x y z a b = lt_true x z (omega (arith, ints, a, b))
     through Sense.Maximising x y z a b = lt_true z x (omega (arith, ints, a, b))
 
@@ -226,12 +227,12 @@ pairs_push R (y ∷ xs) x pairs all =
     (pairs_push R xs x (λ i j d low high. pairs (suc i) (suc j) d (omega (arith, low)) (omega (arith, high))) (All-tail (λ z. R z x) y xs all))
 
 -- Under an assignment that satisfies the problem's clauses and those added, the objective is better than each number before.
-all_beaten : (p : ProblemState) (s : ℕ → Bool) (goal : Option ℤ) → All (Means s) p.layout → objective_number p.variables (decoded_values p.layout s) ≡ goal
+all_beaten : (p : ProblemState) (s : ℕ → Bool) (goal : Option ℤ) → MapMeans s p.layout p.variables → objective_number p.variables (decoded_values p.layout s) ≡ goal
     → (bests : List ℤ) (clauses : List (List Literal)) → AllZip (SaysBetter p) bests clauses → Satisfies s clauses → All (λ n. IsBetterThan p n goal) bests
 all_beaten p s goal means is [] clauses said met = All-nil (λ n. IsBetterThan p n goal)
 all_beaten p s goal means is (n ∷ ns) [] said met = absurd said
 all_beaten p s goal means is (n ∷ ns) (c ∷ cs) said met =
-    All-cons (λ m. IsBetterThan p m goal) n ns (subst (IsBetterThan p n) is ((said.0.says s means).0 (All-head (SatisfiesClause s) c cs met)))
+    All-cons (λ m. IsBetterThan p m goal) n ns (subst (IsBetterThan p n) is ((said.0.says s means.objective).0 (All-head (SatisfiesClause s) c cs met)))
     (all_beaten p s goal means is ns cs said.1 (All-tail (SatisfiesClause s) c cs met))
 
 pub first_part : (s : ℕ → Bool) (xs ys : List (List Literal)) → Satisfies s (xs ++ ys) → Satisfies s xs
@@ -240,18 +241,22 @@ first_part s xs ys h = All-from_contains (SatisfiesClause s) xs (λ c found. All
 pub second_part : (s : ℕ → Bool) (xs ys : List (List Literal)) → Satisfies s (xs ++ ys) → Satisfies s ys
 second_part s xs ys h = All-from_contains (SatisfiesClause s) ys (λ c found. All-contains (SatisfiesClause s) (xs ++ ys) c h (Contains-append_right xs ys c found))
 
+-- the literals of the objective's variable mean what they say
+pub drives_meant : (s : ℕ → Bool) (layout : List VariableLiterals) (objective : Option (Sense × ℕ)) (sense : Sense) (variable : ℕ) → objective ≡ Some (sense, variable)
+    → IfSome objective (λ goal. Means s (literals_at layout goal.1)) → Means s (literals_at layout variable)
+drives_meant s layout objective sense variable stated means = subst (λ (o : Option (Sense × ℕ)). IfSome o (λ goal. Means s (literals_at layout goal.1))) stated means
+
 -- the clause says of the problem that the objective is better
 says_better : (p : ProblemState) (sense : Sense) (variable : ℕ) (number : ℤ) (clause : List Literal) → p.variables.objective ≡ Some (sense, variable) → variable < length p.layout
     → ClauseSaysBetter (literals_at p.layout variable) sense number clause → SaysBetter p number clause
 says_better p sense variable number clause stated low says = record {
-  says = λ s all.
+  says = λ s means.
       let e = literals_at p.layout variable in
-      let means : Means s e = All-get_or (Means s) p.layout variable (record { domain = []; first = 0 }) low all in
-      let one = says s means in
+      let one = says s (drives_meant s p.layout p.variables.objective sense variable stated means) in
       let other = better_than p sense variable number (decoded_values p.layout s) stated in
       let same : number_at (decoded_values p.layout s) variable ≡ decoded s e = number_is p.layout s variable low in (
-        λ h. other.1 (subst (λ n. IsTrue (is_better sense n number)) (sym same) (one.0 h)),
-        λ b. one.1 (subst (λ n. IsTrue (is_better sense n number)) same (other.0 b)),
+        λ h. other.1 (subst (λ n. IsTrue (better_number sense n number)) (sym same) (one.0 h)),
+        λ b. one.1 (subst (λ n. IsTrue (better_number sense n number)) same (other.0 b)),
       );
 }
 
@@ -272,7 +277,7 @@ pursued_more p budget old now next best sense variable s number cells can stated
     let goal_is : objective_number p.variables (decoded_values p.layout s) ≡ Some number = objective_is p sense variable (decoded_values p.layout s) stated ∙ ap Some (sym found.number_is) in
     let allowed : IsAllowed p old cells (Some number) = record { are_given = record { assignment = s; satisfies = both.0; gives = sym found.cells_are }; drives = goal_is } in
     let says : SaysBetter p number clause = says_better p sense variable number clause stated low found.says in
-    let meaning : (t : ℕ → Bool) → Satisfies t (base_clauses old) → All (Means t) p.layout = λ t base. can.meaning t (subst (Satisfies t) (base_is old can.is_base) base) in
+    let meaning : (t : ℕ → Bool) → Satisfies t (base_clauses old) → MapMeans t p.layout p.variables = λ t base. can.meaning t (subst (Satisfies t) (base_is old can.is_base) base) in
     let wanted : IsStillWanted p best (Some number) = subst (IsStillWanted p best) goal_is both.1 in
     let all_givens : givens now.events ≡ givens old.events ++ givens h.goes.more = ap givens h.goes.events ∙ givens_append old.events h.goes.more in
     let next_givens : givens next.events ≡ givens now.events ++ clause ∷ [] = ap (λ l. givens l.events) found.new_is ∙ givens_append now.events (given clause ∷ []) in
@@ -289,10 +294,10 @@ pursued_more p budget old now next best sense variable s number cells can stated
         λ all.
             let parts : Satisfies t (givens now.events ++ clause ∷ []) = subst (Satisfies t) next_givens all in
             let base = ((h.left t).0 (first_part t (givens now.events) (clause ∷ []) parts)).0 in
-            (base, (says.says t (meaning t base)).0 (All-head (SatisfiesClause t) clause [] (second_part t (givens now.events) (clause ∷ []) parts))),
+            (base, (says.says t (meaning t base).objective).0 (All-head (SatisfiesClause t) clause [] (second_part t (givens now.events) (clause ∷ []) parts))),
         λ pair. subst (Satisfies t) (sym next_givens)
             (All-push (SatisfiesClause t) (givens now.events) clause
-            ((h.left t).1 (pair.0, still_on p best number (objective_number p.variables (decoded_values p.layout t)) wanted pair.1)) ((says.says t (meaning t pair.0)).1 pair.1)),
+            ((h.left t).1 (pair.0, still_on p best number (objective_number p.variables (decoded_values p.layout t)) wanted pair.1)) ((says.says t (meaning t pair.0).objective).1 pair.1)),
       );
     }
 
@@ -432,7 +437,7 @@ stays_whole false outcome r h is = refl
 stays_whole true outcome r h is = absurd (false≢true (subst (λ (q : Result Outcome SolveError). IsErr q) is (h refl)))
 
 -- the literals mean what they say under an assignment that satisfies the givens
-pub means_now : (p : ProblemState) (budget : ℕ) (old now : LogState) (best : Option (ℤ × List ℤ)) (s : ℕ → Bool) → CanSearch p old → IsPursued p budget old now best → Satisfies s (givens now.events) → All (Means s) p.layout
+pub means_now : (p : ProblemState) (budget : ℕ) (old now : LogState) (best : Option (ℤ × List ℤ)) (s : ℕ → Bool) → CanSearch p old → IsPursued p budget old now best → Satisfies s (givens now.events) → MapMeans s p.layout p.variables
 means_now p budget old now best s can h met = can.meaning s (subst (Satisfies s) (base_is old can.is_base) ((h.left s).0 met).0)
 
 -- the objective's variable is there
@@ -450,13 +455,15 @@ has_found p budget old now best solver sense variable can stated h whole clauses
   kept = kept_some solver (givens now.events) kept;
   sound = h.goes.sound;
   clauses = clauses;
-  cells = subst (λ n. All (λ x. x < n) p.variables.cells) (long_domains p.layout) can.maps.cells;
+  cells = subst (λ n. All (λ x. x < n) p.variables.cells) (long_domains p.layout) can.maps.cells.there;
   there = objective_there p sense variable old can stated;
-  meaning = means_now p budget old now best (values_of solver) can h (kept_satisfies solver (givens now.events) kept);
+  meaning = (means_now p budget old now best (values_of solver) can h (kept_satisfies solver (givens now.events) kept)).cells;
+  drives = drives_meant (values_of solver) p.layout p.variables.objective sense variable stated
+      (means_now p budget old now best (values_of solver) can h (kept_satisfies solver (givens now.events) kept)).objective;
 }
 
 pub cells_there : (p : ProblemState) (old : LogState) → CanSearch p old → All (λ x. x < length p.layout) p.variables.cells
-cells_there p old can = subst (λ n. All (λ x. x < n) p.variables.cells) (long_domains p.layout) can.maps.cells
+cells_there p old can = subst (λ n. All (λ x. x < n) p.variables.cells) (long_domains p.layout) can.maps.cells.there
 
 -- the solver's part is of no account for what was found
 pub improved_same : (p : ProblemState) (solver : SolverView) (sense : Sense) (variable : ℕ) (s : ℕ → Bool) (old new : LogState) (number : ℤ) (cells : List ℤ) → IsImproved (record p { solver = solver }) sense variable s old new number cells
@@ -471,13 +478,13 @@ unfolding IsStillWanted
 falls p budget old now next best sense variable s number cells can stated h met found =
     let e = literals_at p.layout variable in
     let low = objective_there p sense variable old can stated in
-    let means : Means s e = All-get_or (Means s) p.layout variable (record { domain = []; first = 0 }) low (means_now p budget old now best s can h met) in
+    let means : Means s e = drives_meant s p.layout p.variables.objective sense variable stated (means_now p budget old now best s can h met).objective in
     let same : decoded s e ≡ number = sym (number_is p.layout s variable low) ∙ sym found.number_is in
     numbers_fall sense e.domain (option_map (λ one. one.0) best) number (subst (Contains e.domain) same means.among)
     (wanted_better best (subst (IsStillWanted p best) (objective_is p sense variable (decoded_values p.layout s) stated ∙ ap Some (sym found.number_is)) ((h.left s).0 met).1))
   where
-    wanted_better : (b : Option (ℤ × List ℤ)) → IsStillWanted p b (Some number) → IfSome (option_map (λ one. one.0) b) (λ n. IsTrue (is_better sense number n))
+    wanted_better : (b : Option (ℤ × List ℤ)) → IsStillWanted p b (Some number) → IfSome (option_map (λ one. one.0) b) (λ n. IsTrue (better_number sense number n))
     wanted_better None w = tt
     wanted_better (Some one) w =
-        subst (λ n. IsTrue (is_better sense n one.0)) (sym (some_same number w.number w.drives))
-        (subst (λ t. IsTrue (is_better t w.number one.0)) (ap (λ t. t.0) (some_same (w.sense, w.variable) (sense, variable) (sym w.stated ∙ stated))) w.better)
+        subst (λ n. IsTrue (better_number sense n one.0)) (sym (some_same number w.number w.drives))
+        (subst (λ t. IsTrue (better_number t w.number one.0)) (ap (λ t. t.0) (some_same (w.sense, w.variable) (sense, variable) (sym w.stated ∙ stated))) w.better)

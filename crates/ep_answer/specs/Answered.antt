@@ -1,13 +1,14 @@
 -- What an answer says, over the numbers of the cells: that it is allowed, that nothing better is, or that the budget is
 -- spent; and what a list of answers says.
-use Rattle.std.specs.Prelude.{◌≡◌, ◌≢◌, ◌↔◌, ◌<◌, ◌≤◌, ◌-◌, ℕ, ℤ, Bool, int_lt, IsTrue, IfSome, List, drop, length, Option, Some, None, option_map, slice_get}
+use Rattle.std.specs.Prelude.{◌≡◌, ◌≢◌, ◌↔◌, ◌<◌, ◌≤◌, ◌-◌, ℕ, ℤ, Bool, IsTrue, IfSome, List, drop, length, Option, Some, None, option_map, slice_get}
 use Rattle.std.specs.List.{All, AllPairs, AllZip, Contains}
-use Rattle.cnf_core.specs.Clauses.{SatisfiesClause}
+use Rattle.cnf_core.specs.Clauses.{IsTrueUnder, SatisfiesClause}
 use Rattle.cnf_core.specs.Events.{LogState, Note, givens, nonempty_steps}
 use Rattle.cnf_core.specs.Literal.{Literal, negation}
+use Rattle.ep_base.specs.Senses.{better_number}
 use Rattle.ep_base.specs.declared.operators.Sense.{Sense}
-use Rattle.enc_var.specs.Decoding.{Means}
-use Rattle.enc_var.specs.Layouts.{decoded_cells, decoded_values}
+use Rattle.enc_var.specs.Decoding.{Means, VariableLiterals, note_of}
+use Rattle.enc_var.specs.Layouts.{decoded_values, literals_at}
 use Rattle.ep_flat.specs.Flats.{objective_number}
 use Rattle.ep_answer.specs.Problems.{IsAllowed, IsLeft, ProblemState}
 use Rattle.sat_search.specs.Logs.{EndsWithEmptyStep, IsSound, NoneIsEmpty}
@@ -19,11 +20,6 @@ pub data FoundCells : Type 0 where
   no_solution : FoundCells
   unknown : Option (ℤ × List ℤ) → FoundCells
 
--- whether one number of an objective is better than another
-unfoldable pub is_better : Sense → ℤ → ℤ → Bool
-is_better Sense.Minimising x y = int_lt x y
-is_better Sense.Maximising x y = int_lt y x
-
 -- an objective is stated, and its number is better than this one
 pub record IsBetterThan (p : ProblemState) (best : ℤ) (goal : Option ℤ) : Type 0 where
   pub sense : Sense
@@ -31,7 +27,7 @@ pub record IsBetterThan (p : ProblemState) (best : ℤ) (goal : Option ℤ) : Ty
   pub number : ℤ
   pub stated : p.variables.objective ≡ Some (sense, variable)
   pub drives : goal ≡ Some number
-  pub better : IsTrue (is_better sense number best)
+  pub better : IsTrue (better_number sense number best)
 
 -- No objective is stated, and the numbers are allowed.
 pub record IsSolutionFound (p : ProblemState) (log : LogState) (cells : List ℤ) : Type 0 where
@@ -81,9 +77,9 @@ pub record AnswersCells (p : ProblemState) (budget : ℕ) (log : LogState) (foun
 abbrev pub added_givens : LogState → LogState → List (List Literal)
 added_givens old new = givens (drop (length old.events) new.events)
 
--- wherever the variables' literals mean what they say, this clause holds exactly where the objective is better
+-- wherever the literals of the objective's variable mean what they say, this clause holds exactly where the objective is better
 pub record SaysBetter (p : ProblemState) (best : ℤ) (clause : List Literal) : Type 0 where
-  pub says : (s : ℕ → Bool) → All (Means s) p.layout
+  pub says : (s : ℕ → Bool) → IfSome p.variables.objective (λ goal. Means s (literals_at p.layout goal.1))
       → SatisfiesClause s clause ↔ IsBetterThan p best (objective_number p.variables (decoded_values p.layout s))
 
 -- this number of the objective comes with numbers of the cells that are allowed
@@ -130,15 +126,25 @@ pub record IsNegatedNote (log : LogState) (l : Literal) : Type 0 where
   pub noted : Contains log.notes note
   pub negated : l ≡ negation note.lit
 
--- Wherever the variables' literals mean what they say, this clause holds exactly where the cells have other numbers than these;
+-- The literals of a variable's values tell under an assignment that it has this number, one of its values: that of a value is true
+-- exactly where the value is this number.
+pub record LiteralsTell (s : ℕ → Bool) (e : VariableLiterals) (number : ℤ) : Type 0 where
+  pub among : Contains e.domain number
+  pub literals : (v : ℤ) → Contains e.domain v → IsTrueUnder s (note_of e v) ↔ (v ≡ number)
+
+-- the literals of some variables' values tell these numbers
+abbrev pub AllTell : (ℕ → Bool) → List VariableLiterals → List ℕ → List ℤ → Type 0
+AllTell s layout vars numbers = AllZip (λ x number. LiteralsTell s (literals_at layout x) number) vars numbers
+
+-- Whatever numbers of the cells the literals of their values tell, this clause holds exactly where they are other numbers than these;
 -- and each of its literals is the negation of a note's.
 pub record BlocksCells (p : ProblemState) (log : LogState) (cells : List ℤ) (clause : List Literal) : Type 0 where
-  pub says : (s : ℕ → Bool) → All (Means s) p.layout
-      → SatisfiesClause s clause ↔ (decoded_cells p.layout p.variables s ≢ cells)
+  pub says : (s : ℕ → Bool) (numbers : List ℤ) → AllTell s p.layout p.variables.cells numbers
+      → SatisfiesClause s clause ↔ (numbers ≢ cells)
   pub literals : All (IsNegatedNote log) clause
 
--- A list: each numbers of cells is allowed, no two are equal, the givens added block them one by one, what is left is exactly
--- what is allowed and wasn't found, and the end is right.
+-- A list: the numbers of the cells that were found are allowed, each time others, the givens added block them one by one, what is
+-- left is exactly what is allowed and wasn't found, and the end is right.
 pub record ListsCells (p : ProblemState) (budget most : ℕ) (old new : LogState) (found : List (List ℤ)) (end : ListingEnd) : Type 0 where
   pub sound : IsSound new.events
   pub within : nonempty_steps new.events ≤ budget

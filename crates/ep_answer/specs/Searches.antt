@@ -5,14 +5,15 @@ use Rattle.cnf_core.specs.Clauses.{Satisfies, SatisfiesClause}
 use Rattle.cnf_core.specs.Events.{LogEvent, LogState, clauses_of, given, givens, nonempty_steps}
 use Rattle.cnf_core.specs.Literal.{Literal, negation}
 use Rattle.ep_base.specs.Runs.{IsIn}
+use Rattle.ep_base.specs.Senses.{better_number}
 use Rattle.ep_base.specs.declared.operators.Sense.{Sense}
 use Rattle.ep_base.specs.declared.run_lists.Run.{Run}
 use Rattle.enc_var.specs.Decoding.{Means, VariableLiterals, decoded, note_of}
 use Rattle.enc_var.specs.Layouts.{decoded_cells, decoded_values, literals_at}
-use Rattle.ep_flat.specs.Cons.{number_at, numbers_at}
+use Rattle.ep_flat.specs.Cons.{number_at}
 use Rattle.ep_flat.specs.Flats.{objective_number}
-use Rattle.ep_answer.specs.Answered.{BlocksCells, FoundCells, IsBetterThan, IsReachedGoal, IsStillWanted, SaysBetter, is_better, no_solution, optimum}
-use Rattle.ep_answer.specs.Problems.{IsAllowed, ProblemState, base_clauses}
+use Rattle.ep_answer.specs.Answered.{AllTell, BlocksCells, FoundCells, IsBetterThan, IsReachedGoal, IsStillWanted, SaysBetter, no_solution, optimum}
+use Rattle.ep_answer.specs.Problems.{AllMean, IsAllowed, ProblemState, base_clauses}
 use Rattle.sat_search.specs.Logs.{IsSound}
 use Rattle.sat_search.specs.View.{SolverView, value_in}
 
@@ -28,7 +29,7 @@ best_answer (Some best) = optimum best.0 best.1
 -- how many numbers of a domain are better than the best so far, and one more than there are where there is none
 unfoldable pub numbers_left : Sense → List ℤ → Option ℤ → ℕ
 numbers_left sense domain None = suc (length domain)
-numbers_left sense domain (Some best) = length (filter (λ v. is_better sense v best) domain)
+numbers_left sense domain (Some best) = length (filter (λ v. better_number sense v best) domain)
 
 -- each of these numbers is in the run
 abbrev pub AreWithin : List ℤ → Run → Type 0
@@ -42,7 +43,7 @@ pub record Reaches (s : ℕ → Bool) (e : VariableLiterals) (number : ℤ) : Ty
 -- where a variable's literals mean what they say, a clause holds exactly where the variable's number is better than this one
 abbrev pub ClauseSaysBetter : VariableLiterals → Sense → ℤ → List Literal → Type 0
 ClauseSaysBetter e sense best clause =
-    (s : ℕ → Bool) → Means s e → SatisfiesClause s clause ↔ IsTrue (is_better sense (decoded s e) best)
+    (s : ℕ → Bool) → Means s e → SatisfiesClause s clause ↔ IsTrue (better_number sense (decoded s e) best)
 
 -- The log is the old one with some events at its end: sound, within the budget, and with the same notes and base.
 pub record Continues (budget : ℕ) (old now : LogState) : Type 0 where
@@ -83,7 +84,8 @@ pub record HasFound (p : ProblemState) (variable : ℕ) (log : LogState) : Type 
   pub clauses : p.solver.clauses ≡ clauses_of log.events
   pub cells : All (λ x. x < length p.layout) p.variables.cells
   pub there : variable < length p.layout
-  pub meaning : All (Means (values_of p.solver)) p.layout
+  pub meaning : AllMean (values_of p.solver) p.layout p.variables.cells
+  pub drives : Means (values_of p.solver) (literals_at p.layout variable)
 
 -- the literal says that one of the variables isn't its number
 pub record IsNotNumber (layout : List VariableLiterals) (vars : List ℕ) (cells : List ℤ) (l : Literal) : Type 0 where
@@ -91,15 +93,15 @@ pub record IsNotNumber (layout : List VariableLiterals) (vars : List ℕ) (cells
   pub there : place < length vars
   pub is : (x : ℕ) (v : ℤ) → l ≡ negation (note_of (literals_at layout (slice_index_or vars place x)) (slice_index_or cells place v))
 
--- Where the literals mean what they say, the clause holds exactly where the variables have other numbers than these, and each of its
--- literals says that one of the variables isn't its number.
+-- Whatever numbers the literals of the variables' values tell, the clause holds exactly where they are other numbers than these, and
+-- each of its literals says that one of the variables isn't its number.
 pub record OtherNumbers (layout : List VariableLiterals) (vars : List ℕ) (cells : List ℤ) (clause : List Literal) : Type 0 where
-  pub says : (s : ℕ → Bool) → All (Means s) layout → SatisfiesClause s clause ↔ (numbers_at (decoded_values layout s) vars ≢ cells)
+  pub says : (s : ℕ → Bool) (numbers : List ℤ) → AllTell s layout vars numbers → SatisfiesClause s clause ↔ (numbers ≢ cells)
   pub literals : All (IsNotNumber layout vars cells) clause
 
 -- The same of the first so many variables.
 pub record BlocksFirst (layout : List VariableLiterals) (vars : List ℕ) (cells : List ℤ) (count : ℕ) (literals_so_far : List Literal) : Type 0 where
-  pub says : (s : ℕ → Bool) → All (Means s) layout → SatisfiesClause s literals_so_far ↔ (numbers_at (decoded_values layout s) (take count vars) ≢ take count cells)
+  pub says : (s : ℕ → Bool) (numbers : List ℤ) → AllTell s layout vars numbers → SatisfiesClause s literals_so_far ↔ (take count numbers ≢ take count cells)
   pub literals : All (IsNotNumber layout vars cells) literals_so_far
 
 -- each number is one that its variable can have
@@ -120,7 +122,7 @@ pub record HasCells (p : ProblemState) (log : LogState) : Type 0 where
   pub sound : IsSound log.events
   pub clauses : p.solver.clauses ≡ clauses_of log.events
   pub cells : All (λ x. x < length p.layout) p.variables.cells
-  pub meaning : All (Means (values_of p.solver)) p.layout
+  pub meaning : AllMean (values_of p.solver) p.layout p.variables.cells
 
 -- Solutions are being listed: each is allowed, no two are equal, the givens added block them one by one, and what is left is exactly
 -- what wasn't found.

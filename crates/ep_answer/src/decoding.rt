@@ -6,6 +6,7 @@ ghost use Rattle.ep_base.specs.Runs.{AreApart, numbers};
 ghost use Rattle.ep_flat.specs.Cons.{number_at, numbers_at};
 ghost use Rattle.enc_var.specs.Decoding.{Means, known_holds};
 ghost use Rattle.enc_var.specs.Layouts.{decoded_values, literals_at};
+ghost use Rattle.ep_answer.specs.Problems.{AllMean};
 ghost use Rattle.ep_answer.specs.Searches.{AreWithin, values_of};
 
 use enc_var::{Known, Layout};
@@ -82,7 +83,7 @@ pub fn numbers_of(
 ) -> Result<Vec<i64>, Memory>
     requires kept { IsSome solver.now.kept }
     requires there { All (λ x. x < length layout.now) vars.now }
-    requires meaning { All (Means (values_of solver.now)) layout.now }
+    requires meaning { AllMean (values_of solver.now) layout.now vars.now }
     ensures { IfOk result (λ found.
         found.items ≡ numbers_at (decoded_values layout.now (values_of solver.now)) vars.now) }
 {

@@ -2,10 +2,10 @@
 
 ghost use Rattle.std.specs.Prelude.{◌≡◌, ◌≢◌, ◌↔◌, ◌<◌, ℕ, Bool, false, length, IfOk, IsTrue, OnErr};
 ghost use Rattle.cnf_core.specs.Clauses.{SatisfiesClause};
+ghost use Rattle.ep_base.specs.Senses.{better_number};
 ghost use Rattle.enc_var.specs.Decoding.{Means, decoded, known_holds};
 ghost use Rattle.enc_var.specs.Layouts.{literals_at};
 ghost use Rattle.enc_var.specs.declared.known.Known.TheVariants as variants;
-ghost use Rattle.ep_answer.specs.Answered.{is_better};
 ghost use Rattle.ep_answer.specs.AnswerViews.{plain_problem};
 ghost use Rattle.ep_answer.specs.Searches.{ClauseSaysBetter, HasFound, IsImproved, Reaches, values_of};
 ghost use Rattle.cnf_core.specs.Events.{clauses_of, nonempty_steps};
@@ -33,7 +33,7 @@ fn contrary(known: Known) -> Known
 fn better(layout: &Layout, sense: Sense, var: u64, best: i64) -> Known
     requires { var < length layout.now }
     ensures { (s : ℕ → Bool) → Means s (literals_at layout.now var)
-        → IsTrue (known_holds s result) ↔ IsTrue (is_better sense (decoded s (literals_at layout.now var)) best) }
+        → IsTrue (known_holds s result) ↔ IsTrue (better_number sense (decoded s (literals_at layout.now var)) best) }
 {
     match sense {
         Sense::Minimising => {

@@ -1,6 +1,7 @@
 use Rattle.std.specs.List.{All}
 use Rattle.std.proofs.Common.{◌<◌, ◌∙◌, ℕ, List, length, ap, subst, sym}
 use Rattle.enc_var.specs.Layouts.{decoded_values}
+use Rattle.ep_answer.specs.Problems.{AllMean}
 use Rattle.ep_answer.specs.Searches.{values_of}
 use Rattle.ep_answer.proofs.Listing.{are_numbers}
 use Rattle.ep_answer.proofs.OtherNumbers.{long_numbers}
@@ -10,7 +11,8 @@ pub other_numbers-requires-clause-numbers : goal.other_numbers-requires-clause-n
 other_numbers-requires-clause-numbers c =
     let layout = c.args.p.now.layout in
     are_numbers layout (values_of c.args.p.now.solver) c.as_slice-vars.result.now c.as_slice.result.now
-    (subst (λ (xs : List ℕ). All (λ x. x < length layout) xs) (sym c.as_slice-vars.ensures.value) c.requires.cells) c.requires.meaning
+    (subst (λ (xs : List ℕ). All (λ x. x < length layout) xs) (sym c.as_slice-vars.ensures.value) c.requires.cells)
+    (subst (λ (xs : List ℕ). AllMean (values_of c.args.p.now.solver) layout xs) (sym c.as_slice-vars.ensures.value) c.requires.meaning)
     (c.as_slice.ensures.value ∙ c.in_ok-cells.ensures)
 
 pub other_numbers-requires-clause-long : goal.other_numbers-requires-clause-long

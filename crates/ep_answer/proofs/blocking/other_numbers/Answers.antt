@@ -15,10 +15,10 @@ loop-place-preserved c =
     let fits : to_z w64 (of_z w64 v) ≡ v = to_z-of_z w64 v (search rules) in
     elim c.match-eq.branch [
       | in-Is+in_ok-push w ↦
-          blocks_literal c.args.layout.now c.args.vars.now c.args.cells.now k c.loop-place.lits.items c.match-eq.lits.items w.in-Is.lit w.negated.result (to_z w64 (of_z w64 v)) c.requires.there c.requires.long c.loop-place-test.true
+          blocks_literal c.args.layout.now c.args.vars.now c.args.cells.now k c.loop-place.lits.items c.match-eq.lits.items w.in-Is.lit w.negated.result (to_z w64 (of_z w64 v)) c.requires.numbers c.requires.long c.loop-place-test.true
           fits (sym w.in-Is.is ∙ c.eq.ensures) w.negated.ensures (ap (λ ls. ls.items) w.lits-is ∙ w.in_ok-push.ensures.items) c.loop-place.invariant
       | in_default w ↦
-          blocks_only c.args.layout.now c.args.vars.now c.args.cells.now k c.loop-place.lits.items c.match-eq.lits.items c.eq.result (to_z w64 (of_z w64 v)) c.requires.there c.requires.numbers c.requires.long c.loop-place-test.true
+          blocks_only c.args.layout.now c.args.vars.now c.args.cells.now k c.loop-place.lits.items c.match-eq.lits.items c.eq.result (to_z w64 (of_z w64 v)) c.requires.numbers c.requires.long c.loop-place-test.true
           fits c.eq.ensures w.in_default.not-Is (ap (λ ls. ls.items) w.lits-is) c.loop-place.invariant
     ]
 

@@ -1,5 +1,5 @@
-use Rattle.std.proofs.Common.{◌≡◌, Bool, refl, sym, ap, ◌∙◌}
-use Rattle.enc_var.specs.Decoding.{known_holds, literal_holds}
+use Rattle.std.proofs.Common.{sym, ap, ◌∙◌}
+use Rattle.enc_var.specs.Decoding.{known_holds}
 use Rattle.ep_answer.proofs.Deciding.{holds_false, holds_literal, holds_true}
 use Rattle.ep_answer.specs.Searches.{values_of}
 use Rattle.ep_answer.proofs.decoding.holds.Goals as goal

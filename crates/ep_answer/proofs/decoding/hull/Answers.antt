@@ -1,4 +1,4 @@
-use Rattle.std.proofs.Common.{◌≡◌, ◌-◌, ℤ, pos, length, sym, subst, w64, to_z, of_z, rules}
+use Rattle.std.proofs.Common.{◌-◌, ℤ, pos, length, sym, subst, w64, to_z, of_z, rules}
 use Rattle.std.proofs.lemmas.Int.{to_z-of_z}
 use Rattle.std.specs.Prelude.{slice_index_or}
 use Rattle.ep_base.specs.Runs.{numbers}

@@ -1,4 +1,4 @@
-use Rattle.std.proofs.Common.{◌≡◌, ◌≤ℤ◌, w64, to_z, arith}
+use Rattle.std.proofs.Common.{◌≤ℤ◌, w64, to_z, arith}
 use Rattle.std.proofs.lemmas.Int.{ints}
 use Rattle.ep_answer.specs.Searches.{values_of}
 use Rattle.ep_answer.proofs.Deciding.{number_found}

@@ -1,4 +1,4 @@
-use Rattle.std.proofs.Common.{◌≡◌, ◌∙◌, w64, rules}
+use Rattle.std.proofs.Common.{◌∙◌, w64, rules}
 use Rattle.std.proofs.lemmas.Int.{to_z-of_z}
 use Rattle.enc_var.specs.Layouts.{decoded_values}
 use Rattle.ep_answer.specs.Searches.{values_of}

@@ -1,9 +1,9 @@
-use Rattle.std.proofs.Common.{◌≡◌, ◌∙◌, ◌≤◌, ℤ, List, Option, None, Ok, Some, ap, refl, sym, subst, arith}
+use Rattle.std.proofs.Common.{◌≡◌, ◌∙◌, ℤ, List, Option, Ok, Some, ap, refl, sym, subst, arith}
 use Rattle.std.specs.Prelude.{option_map}
 use Rattle.cnf_core.specs.Events.{givens}
 use Rattle.ep_answer.specs.Answered.{AnswersCells, Improves}
 use Rattle.ep_answer.specs.AnswerViews.{plain_problem}
-use Rattle.ep_answer.specs.Searches.{HasFound, IsImproved, IsPursued, values_of}
+use Rattle.ep_answer.specs.Searches.{HasFound, IsImproved, values_of}
 use Rattle.ep_answer.specs.Problems.{ProblemState}
 use Rattle.ep_answer.proofs.Searching.{answers_end, answers_spent, falls, has_found, improved_same, improves_end, improves_spent, kept_satisfies, objective_there, pursued_first, pursued_more, pursued_on, stays_whole}
 use Rattle.ep_answer.proofs.finding.optimise_cells.Goals as goal

@@ -1,8 +1,4 @@
-use Rattle.std.proofs.Common.{◌≡◌, ◌↔◌, ◌++◌, ◌∷◌, [], ℕ, Bool, sym, subst, ap, ◌∙◌}
-use Rattle.std.specs.Prelude.{IfOk, IsTrue}
-use Rattle.cnf_core.specs.Clauses.{SatisfiesClause}
-use Rattle.enc_var.specs.Decoding.{known_holds}
-use Rattle.enc_var.specs.declared.known.Known.{Known}
+use Rattle.std.proofs.Common.{◌++◌, ◌∷◌, [], ap, ◌∙◌}
 use Rattle.ep_answer.proofs.Deciding.{said_literal, said_none}
 use Rattle.ep_answer.proofs.improving.clause_of.Goals.{in-False, in-Is+in_ok-push-in-Is}
 use Rattle.ep_answer.proofs.improving.clause_of.Goals as goal

@@ -1,4 +1,4 @@
-use Rattle.std.proofs.Common.{◌≡◌, ◌↔◌, Bool, false, sym, subst}
+use Rattle.std.proofs.Common.{◌≡◌, ◌↔◌, false, sym, subst}
 use Rattle.std.specs.Prelude.{IsTrue}
 use Rattle.enc_var.specs.Decoding.{known_holds}
 use Rattle.enc_var.specs.declared.known.Known.{Known}
