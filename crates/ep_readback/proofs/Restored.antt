@@ -17,14 +17,14 @@ use Rattle.ep_tree.specs.Faults.{faults_after, params_faults, text_faults}
 use Rattle.ep_tree.specs.Names.{nothing_known}
 use Rattle.ep_tree.specs.Placeless.{placeless_statement}
 use Rattle.ep_tree.specs.SolutionTexts.{fits, fitting_letting, is_find, letting_names, read_solution, shaped, shaped_by, strangers, with_lettings, without_letting}
-use Rattle.ep_tree.specs.Solutions.{Assigned, Fits, Found, NamedValue, find_type, fitted_find, found_values, named_in}
+use Rattle.ep_tree.specs.Solutions.{Assigned, Fits, Found, NamedValue, find_type, fitted_find, found_of, found_values, named_in}
 use Rattle.ep_tree.specs.Statements.{TextTree}
 use Rattle.ep_tree.specs.Types.{Meaning, scalar_of}
 use Rattle.ep_tree.specs.Values.{ValueTree}
 use Rattle.ep_tree.specs.declared.values.Mode.{Mode}
 use Rattle.ep_tree.specs.declared.values.ValueType.{ValueType}
 use Rattle.ep_readback.specs.Answered.{letting_of}
-use Rattle.ep_readback.specs.GivenBack.{CanBeRead, GivesBack, found_of, is_large}
+use Rattle.ep_readback.specs.GivenBack.{CanBeRead, GivesBack, is_large}
 use Rattle.ep_readback.proofs.Lettings.{AllStand, CanStand, IsKnownAs, LettingsFor, all_are_lettings, bounds_of, lettings_bind, lettings_faultless, lettings_known, lettings_stand, names_let, put_each, same_name, too_large}
 use Rattle.ep_readback.proofs.Shapes.{fit_of_own, fit_shape}
 

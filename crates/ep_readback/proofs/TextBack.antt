@@ -12,14 +12,14 @@ use Rattle.ep_base.specs.declared.names.Name.{Name}
 use Rattle.ep_tree.specs.Binding.{Find, Instance, bind}
 use Rattle.ep_tree.specs.Closed.{IsClosed}
 use Rattle.ep_tree.specs.Limits.{MOST_REACH, is_too_far}
-use Rattle.ep_tree.specs.Solutions.{Assigned}
+use Rattle.ep_tree.specs.Solutions.{Assigned, IsWritten, found_of}
 use Rattle.ep_tree.specs.Statements.{TextTree}
 use Rattle.ep_tree.specs.Texts.{IsSpellable}
 use Rattle.ep_tree.specs.Values.{ValueTree, ValueTrees, matrix, no_values, single, value_and}
 use Rattle.ep_tree.specs.declared.values.Mode.{Mode}
 use Rattle.ep_print.specs.Answers.{AnswerTree, answer_text}
 use Rattle.ep_readback.specs.Answered.{CanBeWritten, are_short_values, has_few_digits, is_short_value, values_in}
-use Rattle.ep_readback.specs.GivenBack.{CanBeRead, HasName, IsWritten, TextGivesBack, are_near_values, found_of, is_near, is_near_value}
+use Rattle.ep_readback.specs.GivenBack.{CanBeRead, HasName, TextGivesBack, are_near_values, is_near, is_near_value}
 use Rattle.ep_readback.proofs.Answered.{answer_spelled}
 use Rattle.ep_readback.proofs.BoundNames.{bound_named}
 use Rattle.ep_readback.proofs.NearDomains.{bound_near}

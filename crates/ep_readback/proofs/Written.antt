@@ -18,7 +18,7 @@ use Rattle.ep_tree.specs.Closed.{IsClosed}
 use Rattle.ep_tree.specs.Environments.{Bound, has_cells, has_domain, has_value, shape_type}
 use Rattle.ep_tree.specs.Placeless.{placeless_statement}
 use Rattle.ep_tree.specs.SolutionTexts.{fits}
-use Rattle.ep_tree.specs.Solutions.{Assigned, Fits, Found, NamedValue, find_type, fitted_find, found_values, named_in}
+use Rattle.ep_tree.specs.Solutions.{Assigned, Fits, Found, NamedValue, find_type, fitted_find, found_of, found_values, named_in}
 use Rattle.ep_tree.specs.Statements.{TextTree}
 use Rattle.ep_tree.specs.TypedValues.{is_number_of}
 use Rattle.ep_tree.specs.Types.{of_scalar, scalar_of}
@@ -27,7 +27,7 @@ use Rattle.ep_tree.specs.declared.values.Mode.{Mode}
 use Rattle.ep_tree.specs.declared.values.Scalar.{Scalar}
 use Rattle.ep_tree.specs.declared.values.ValueType.{ValueType}
 use Rattle.ep_readback.specs.Answered.{AreInOrder, IsInOrder, letting_of}
-use Rattle.ep_readback.specs.GivenBack.{CanBeRead, GivesItselfBack, IsNearDomain, are_near_values, found_of, is_large, is_near, is_near_value}
+use Rattle.ep_readback.specs.GivenBack.{CanBeRead, GivesItselfBack, IsNearDomain, are_near_values, is_large, is_near, is_near_value}
 use Rattle.ep_readback.proofs.Restored.{names_of, values_given_back}
 
 -- ---- what fits a near domain can be read

@@ -1,12 +1,11 @@
 -- Printed answers, read as solution texts: they give an instance the assignment back that was printed.
-use Rattle.std.specs.Prelude.{◌≡◌, ℕ, ℤ, ◌≤◌, Bool, true, not, ◌&&◌, List, [], ◌∷◌, length, map, IsTrue, false, nat_lt, if◌then◌else◌, Some, Ok, Err}
+use Rattle.std.specs.Prelude.{◌≡◌, ℕ, ℤ, ◌≤◌, Bool, true, not, ◌&&◌, List, [], ◌∷◌, length, map, IsTrue, false, nat_lt, if◌then◌else◌, Ok, Err}
 use Rattle.std.specs.List.{All, list_all, list_any}
 use Rattle.ep_base.specs.Runs.{IsAscending}
 use Rattle.ep_base.specs.TokenTexts.{is_name, is_word}
 use Rattle.ep_base.specs.declared.operators.Limit.{Limit}
 use Rattle.ep_tree.specs.Binding.{Find, Instance, bind, over_limit}
 use Rattle.ep_tree.specs.Closed.{IsClosed}
-use Rattle.ep_tree.specs.Environments.{has_value}
 use Rattle.ep_tree.specs.Faults.{params_faults}
 use Rattle.ep_tree.specs.Limits.{MOST_SIZE, is_too_far}
 use Rattle.ep_tree.specs.Measures.{met, size_of}
@@ -14,7 +13,7 @@ use Rattle.ep_tree.specs.Names.{nothing_known}
 use Rattle.ep_tree.specs.Placeless.{SameButPlaces}
 use Rattle.ep_tree.specs.Reading.{MOST_HEIGHT}
 use Rattle.ep_tree.specs.SolutionTexts.{fits, read_solution}
-use Rattle.ep_tree.specs.Solutions.{Assigned, Fits, Found, NamedValue, found_values}
+use Rattle.ep_tree.specs.Solutions.{Assigned, Fits, Found, IsWritten, NamedValue, found_of}
 use Rattle.ep_tree.specs.StatementSpelling.{SpellsParams}
 use Rattle.ep_tree.specs.Statements.{TextTree, text_height}
 use Rattle.ep_tree.specs.Texts.{AnswersParams, IsSpellable, MOST_BYTES, SpellsText, read_as}
@@ -56,10 +55,6 @@ pub record HasName (f : Find) : Type 0 where
   pub name : IsTrue (is_name f.name)
   pub no_word : is_word f.name ≡ false
 
--- the values of names, as an environment has them
-abbrev pub found_of : Assigned → Found
-found_of a = map (λ g. (g.name, has_value g.ty g.value)) a
-
 -- whether more nodes are met in the letting of a value than may be
 unfoldable pub is_large : Mode → NamedValue → Bool
 is_large mode g = nat_lt MOST_SIZE (size_of (met mode nothing_known (value_expr (scalar_of g.ty) g.value)))
@@ -81,11 +76,6 @@ AnswerGivesValuesBack =
     → (answer : AnswerTree) (found : Found) → Fits i (values_in answer) found → All CanBeRead (values_in answer)
     → (text : TextTree) → SameButPlaces text (map letting_of (values_in answer))
     → GivesBack mode i (values_in answer) found text
-
--- The values are written as the instance states them: in the order of its decision variables, each with the type and the
--- indices of its domain.
-abbrev pub IsWritten : Instance → Assigned → Type 0
-IsWritten i a = found_values i.finds a ≡ Some (found_of a)
 
 -- A solution text gives an instance exactly this assignment: it has no fault, and what reading it gives is the assignment,
 -- unless the letting of one of its values is too large.

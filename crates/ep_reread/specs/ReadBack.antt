@@ -2,13 +2,13 @@
 use Rattle.std.specs.Prelude.{◌≡◌, Ok}
 use Rattle.ep_tree.specs.Binding.{Instance, bind}
 use Rattle.ep_tree.specs.Closed.{IsClosed}
-use Rattle.ep_tree.specs.Solutions.{Assigned, Fits, Found, IsSolution, a_solution, goal_value, judgement}
+use Rattle.ep_tree.specs.Solutions.{Assigned, Fits, Found, IsSolution, IsWritten, a_solution, goal_value, judgement}
 use Rattle.ep_tree.specs.Statements.{TextTree}
 use Rattle.ep_tree.specs.Texts.{AnswersParams, IsSpellable, TextAnswer, bad_byte, long_number, read_as, syntax_fault, too_high, too_long}
 use Rattle.ep_tree.specs.declared.values.Mode.{Mode}
 use Rattle.ep_print.specs.Answers.{AnswerTree, answer_text}
 use Rattle.ep_readback.specs.Answered.{values_in}
-use Rattle.ep_readback.specs.GivenBack.{GivesItselfBack, IsWritten}
+use Rattle.ep_readback.specs.GivenBack.{GivesItselfBack}
 
 -- what a text is read as gives an instance exactly this assignment, or the text is too long or too high
 abbrev pub IsReadBack : Mode → Instance → Assigned → TextAnswer → Type 0

@@ -1,32 +1,56 @@
 -- Answers over numbers of cells are right answers of the instance.
 use Rattle.std.proofs.Common.{◌≡◌, ℕ, ℤ, List, Option, Some, None, refl, sym, ap, subst, ◌∙◌, IsTrue, option_map}
 use Rattle.cnf_core.specs.Events.{LogState}
+use Rattle.ep_base.specs.Senses.{better_number}
 use Rattle.ep_base.specs.declared.operators.Sense.{Sense}
-use Rattle.ep_answer.specs.Answered.{FoundCells, IsBetterThan, IsRightAnswer, is_better}
+use Rattle.ep_answer.specs.Answered.{FoundCells, IsBetterThan, IsRightAnswer}
 use Rattle.ep_answer.specs.Answered as found
 use Rattle.ep_answer.specs.Problems.{IsAllowed, ProblemState}
 use Rattle.ep_tree.specs.Binding.{Instance}
-use Rattle.ep_tree.specs.Solutions.{Assigned, IsBetter, IsSolution, better_number, goal_value}
+use Rattle.ep_tree.specs.Closed.{IsClosed}
+use Rattle.ep_tree.specs.Solutions.{Assigned, Found, IsBetter, IsSolution, found_of, goal_value, has_goal_value, violated}
 use Rattle.ep_tree.specs.declared.values.Mode.{Mode}
 use Rattle.ep_print.specs.Answers.{HasTypedValues, optimum, solution, unknown_with}
-use Rattle.ep_unroll.specs.Cells.{found_numbers}
+use Rattle.ep_ground.specs.Grounds.{AreCellValues}
+use Rattle.ep_unroll.specs.Cells.{found_numbers, instance_cells}
 use Rattle.ep_solve.specs.Formulas.{Solves}
-use Rattle.ep_solve.specs.Reading.{answer_from, assignment_from, found_of}
+use Rattle.ep_solve.specs.Reading.{ReadsAs, answer_from, assignment_from}
 use Rattle.ep_solve.specs.Right.{IsRight}
+use Rattle.ep_solve.proofs.Cells.{fits-gives, numbers-read, numbers-same}
+
+-- ---- solutions that are read back
+
+-- numbers of the cells are read as a solution, whose objective has this number
+pub record ReadsSolution (mode : Mode) (i : Instance) (cells : List ℤ) (goal : Option ℤ) : Type 0 where
+  pub reads : ReadsAs i cells
+  pub solves : IsSolution mode i (assignment_from i.finds cells)
+  pub valued : goal_value mode i (found_of (assignment_from i.finds cells)) ≡ goal
+
+-- those of a solution are
+pub read-solution : (mode : Mode) (i : Instance) (cells : List ℤ) (goal : Option ℤ) → IsClosed i → Solves mode i cells goal → ReadsSolution mode i cells goal
+read-solution mode i cells goal closed s =
+    let found : Found = s.solves.found in
+    let reads : ReadsAs i cells = numbers-read i cells closed (subst (AreCellValues (instance_cells i)) s.numbers_are (fits-gives i s.assigned found s.solves.fits)) in
+    let same : found ≡ found_of (assignment_from i.finds cells) = numbers-same i s.assigned (assignment_from i.finds cells) found (found_of (assignment_from i.finds cells)) s.solves.fits reads.fits (s.numbers_are ∙ sym reads.numbers_are) in
+    record {
+      reads = reads;
+      solves = record {
+        found = found_of (assignment_from i.finds cells);
+        fits = reads.fits;
+        holds = subst (λ f. violated mode i f ≡ None) same s.solves.holds;
+        measured = subst (λ f. IsTrue (has_goal_value mode i f)) same s.solves.measured;
+      };
+      valued = ap (goal_value mode i) (sym same) ∙ s.valued;
+    }
 
 -- ---- what a problem allows are the solutions of the instance
 
 -- a problem's log allows exactly the numbers of the cells in the solutions of an instance, each with the objective's number
 pub record Allows (mode : Mode) (i : Instance) (p : ProblemState) (log : LogState) : Type 0 where
-  pub solves : (cells : List ℤ) (goal : Option ℤ) → IsAllowed p log cells goal → Solves mode i cells goal
+  pub solves : (cells : List ℤ) (goal : Option ℤ) → IsAllowed p log cells goal → ReadsSolution mode i cells goal
   pub allowed : (a : Assigned) (s : IsSolution mode i a) → IsAllowed p log (found_numbers s.found) (goal_value mode i s.found)
 
--- ---- better numbers
-
-pub same-better : (sense : Sense) (x y : ℤ) → is_better sense x y ≡ better_number sense x y
-unfolding is_better better_number
-same-better Sense.Minimising x y = refl
-same-better Sense.Maximising x y = refl
+-- ---- the sense of an objective
 
 pub same-some : {A : Type 0} (x y : A) → Some x ≡ Some y → x ≡ y
 same-some x y h = cc
@@ -54,16 +78,16 @@ HasSense p i = option_map (λ g. g.0) p.variables.objective ≡ option_map (λ g
 
 -- ---- answers
 
-found-right : (mode : Mode) (i : Instance) (budget : ℕ) (cells : List ℤ) (goal : Option ℤ) → i.goal ≡ None → Solves mode i cells goal → IsRight mode i budget (solution (assignment_from i.finds cells))
+found-right : (mode : Mode) (i : Instance) (budget : ℕ) (cells : List ℤ) (goal : Option ℤ) → i.goal ≡ None → ReadsSolution mode i cells goal → IsRight mode i budget (solution (assignment_from i.finds cells))
 unfolding IsRight
 found-right mode i budget cells goal free s = (free, s.reads.fits.values, s.solves)
 
-unknown-right : (mode : Mode) (i : Instance) (budget : ℕ) (number : ℤ) (cells : List ℤ) → Solves mode i cells (Some number) → IsRight mode i budget (unknown_with budget number (assignment_from i.finds cells))
+unknown-right : (mode : Mode) (i : Instance) (budget : ℕ) (number : ℤ) (cells : List ℤ) → ReadsSolution mode i cells (Some number) → IsRight mode i budget (unknown_with budget number (assignment_from i.finds cells))
 unfolding IsRight
 unknown-right mode i budget number cells s = (refl, s.reads.fits.values, s.solves, s.valued)
 
 optimum-best : (mode : Mode) (i : Instance) (p : ProblemState) (log : LogState) → Allows mode i p log → HasSense p i
-    → (number : ℤ) (cells : List ℤ) → Solves mode i cells (Some number)
+    → (number : ℤ) (cells : List ℤ) → ReadsSolution mode i cells (Some number)
     → ((others : List ℤ) (goal : Option ℤ) → IsAllowed p log others goal → IsBetterThan p number goal → ⊥)
     → (b : Assigned) → IsSolution mode i b → IsBetter mode i b (assignment_from i.finds cells) → ⊥
 optimum-best mode i p log allows senses number cells s best b other better =
@@ -80,11 +104,11 @@ optimum-best mode i p log allows senses number cells s best b other better =
       number = better.x;
       stated = named.1;
       drives = x;
-      better = same-better better.sense better.x number ∙ subst P y better.is_better;
+      better = subst P y better.is_better;
     })
 
 optimum-right : (mode : Mode) (i : Instance) (p : ProblemState) (log : LogState) → Allows mode i p log → HasSense p i
-    → (budget : ℕ) (number : ℤ) (cells : List ℤ) → Solves mode i cells (Some number)
+    → (budget : ℕ) (number : ℤ) (cells : List ℤ) → ReadsSolution mode i cells (Some number)
     → ((others : List ℤ) (goal : Option ℤ) → IsAllowed p log others goal → IsBetterThan p number goal → ⊥)
     → IsRight mode i budget (optimum number (assignment_from i.finds cells))
 unfolding IsRight

@@ -15,7 +15,7 @@ use Rattle.ep_tree.specs.Binding.{Find, Instance}
 use Rattle.ep_tree.specs.Closed.{IsClosed}
 use Rattle.ep_tree.specs.Environments.{has_value, shape_type}
 use Rattle.ep_tree.specs.Evaluation.{on_both}
-use Rattle.ep_tree.specs.Solutions.{Assigned, Fits, Found, NamedValue, cell_count, find_type, fitted_find, found_values, named_in}
+use Rattle.ep_tree.specs.Solutions.{Assigned, Fits, Found, NamedValue, cell_count, find_type, fitted_find, found_of, found_values, named_in}
 use Rattle.ep_tree.specs.Types.{of_scalar, scalar_of}
 use Rattle.ep_tree.specs.Values.{ValueTree, fitted, scalars_of}
 use Rattle.ep_tree.specs.declared.values.Scalar.{Scalar}
@@ -24,7 +24,7 @@ use Rattle.ep_tree.specs.TypedValues.{IsOf, is_number_of}
 use Rattle.ep_print.specs.Answers.{AreTyped}
 use Rattle.std.proofs.lemmas.List.Elements.{All-cons, All-head, All-nil, All-tail}
 use Rattle.ep_unroll.specs.Cells.{bound_numbers, find_cells, found_numbers, index_lists, instance_cells, is_truth}
-use Rattle.ep_solve.specs.Reading.{GivesNumbers, ReadsAs, assignment_from, found_of, value_from}
+use Rattle.ep_solve.specs.Reading.{GivesNumbers, ReadsAs, assignment_from, value_from}
 use Rattle.ep_solve.proofs.Scalars.{Passing, all-weaker, fitted-passes, value-fits, value-made, value-read, value-typed}
 
 -- ---- how many cells there are
@@ -331,3 +331,8 @@ finds-found (f ∷ fs) a found e =
 
 pub found-read : (i : Instance) (a : Assigned) (found : Found) → Fits i a found → found_of (assignment_from i.finds (found_numbers found)) ≡ found
 found-read i a found h = finds-found i.finds a found h.values
+
+-- what gives the cells the same numbers is the same
+pub numbers-same : (i : Instance) (a b : Assigned) (found other : Found) → Fits i a found → Fits i b other → found_numbers found ≡ found_numbers other → found ≡ other
+numbers-same i a b found other one two same =
+    sym (found-read i a found one) ∙ ap (λ ns. found_of (assignment_from i.finds ns)) same ∙ found-read i b other two

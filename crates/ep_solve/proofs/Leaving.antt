@@ -7,21 +7,20 @@ use Rattle.std.proofs.lemmas.List.Elements.{All-take}
 use Rattle.cnf_core.specs.Clauses.{Satisfies, SatisfiesClause}
 use Rattle.cnf_core.specs.Events.{HasBase, LogEvent, LogState, given, givens, is_given, step}
 use Rattle.cnf_core.specs.Literal.{Literal}
-use Rattle.enc_var.specs.Decoding.{Means}
 use Rattle.enc_var.specs.Layouts.{GivesCells, decoded_cells, decoded_values}
 use Rattle.enc_var.specs.Notes.{cell_notes}
+use Rattle.ep_answer.proofs.Posing.{map_meant}
 use Rattle.ep_answer.specs.Answered.{IsBetterThan, IsBudgetSpent, IsStillWanted as IsCellWanted}
-use Rattle.ep_answer.specs.Problems.{IsAllowed, ProblemState, base_clauses}
+use Rattle.ep_answer.specs.Problems.{IsAllowed, MapMeans, ProblemState, base_clauses}
 use Rattle.ep_flat.specs.Flats.{MapsCells, objective_number}
 use Rattle.ep_ground.specs.declared.cells.Cell.{Cell}
 use Rattle.ep_tree.specs.Binding.{Instance}
-use Rattle.ep_tree.specs.Solutions.{Assigned, Found, IsSolution, goal_value}
+use Rattle.ep_tree.specs.Solutions.{Assigned, Found, IsSolution, found_of, goal_value}
 use Rattle.ep_tree.specs.declared.values.Mode.{Mode}
 use Rattle.ep_unroll.specs.Cells.{found_numbers, instance_cells}
 use Rattle.ep_solve.specs.Logged.{AreWanted, IsBetterGoal, IsStillWanted, Stands, TellNumbers, TellSolutions, added_clauses, noted_value}
-use Rattle.ep_solve.specs.Formulas.{Solves}
-use Rattle.ep_solve.specs.Reading.{assignment_from, found_of}
-use Rattle.ep_solve.proofs.Answering.{Allows, HasSense, same-better, same-some, stated-variable}
+use Rattle.ep_solve.specs.Reading.{assignment_from}
+use Rattle.ep_solve.proofs.Answering.{Allows, HasSense, ReadsSolution, same-some, stated-variable}
 use Rattle.ep_solve.proofs.Solved.{SearchedFor, allows-after, own-clauses, same-base}
 use Rattle.ep_solve.proofs.Telling.{as-many, notes-named, notes-tell}
 
@@ -43,12 +42,12 @@ narrower s n events met =
 -- ---- solutions that clauses tell
 
 -- What the search keeps of a problem: its log allows exactly the solutions of the instance, its notes are those of the instance's
--- cells, and under what satisfies its own clauses the literals mean what they say.
+-- cells, and under what satisfies its own clauses the literals of the map's variables mean what they say.
 pub record Keeps (mode : Mode) (i : Instance) (p : ProblemState) (log : LogState) : Type 0 where
   pub allows : Allows mode i p log
   pub notes : log.notes ≡ cell_notes p.layout (instance_cells i) p.variables.cells
   pub maps : MapsCells (map (λ one. one.values) (instance_cells i)) (map (λ e. e.domain) p.layout) p.variables
-  pub meaning : (s : ℕ → Bool) → Satisfies s (base_clauses log) → All (Means s) p.layout
+  pub meaning : (s : ℕ → Bool) → Satisfies s (base_clauses log) → MapMeans s p.layout p.variables
 
 -- under an assignment the notes tell the numbers that it gives the cells
 pub told : (mode : Mode) (i : Instance) (p : ProblemState) (log : LogState) → Keeps mode i p log → (s : ℕ → Bool) → Satisfies s (base_clauses log)
@@ -62,12 +61,13 @@ abbrev pub Agree : Mode → Instance → (List ℤ → Option ℤ → Type 0) �
 Agree mode i W V = (a : Assigned) (s : IsSolution mode i a) → W (found_numbers s.found) (goal_value mode i s.found) ↔ V s.found
 
 -- numbers that solve are wanted where their solution is
-are-wanted : (mode : Mode) (i : Instance) (numbers : List ℤ) (goal : Option ℤ) (W : List ℤ → Option ℤ → Type 0) (V : Found → Type 0) → Agree mode i W V → Solves mode i numbers goal → W numbers goal → AreWanted mode i V numbers
+pub are-wanted : (mode : Mode) (i : Instance) (numbers : List ℤ) (goal : Option ℤ) (W : List ℤ → Option ℤ → Type 0) (V : Found → Type 0) → Agree mode i W V → ReadsSolution mode i numbers goal → W numbers goal → AreWanted mode i V numbers
 are-wanted mode i numbers goal W V agree s want =
     let a : Assigned = assignment_from i.finds numbers in
     let same : s.solves.found ≡ found_of a = same-some s.solves.found (found_of a) (sym s.solves.fits.values ∙ s.reads.fits.values) in
     let are : found_numbers s.solves.found ≡ numbers = ap found_numbers same ∙ s.reads.numbers_are in
     record {
+      assigned = a;
       solves = s.solves;
       numbers_are = are;
       is_wanted = (agree a s.solves).0 (subst (λ ns. W ns (goal_value mode i s.solves.found)) (sym are) (subst (W numbers) (sym (ap (goal_value mode i) same ∙ s.valued)) want));
@@ -107,10 +107,10 @@ pub better-wanted : (i : Instance) (p : ProblemState) (best : ℤ) (goal : Optio
 better-wanted i p best goal senses = (
   λ h.
       let named = stated-variable i.goal p.variables.objective h.sense h.variable (sym senses) h.stated in
-      record { sense = h.sense; e = named.0; number = h.number; stated = named.1; has_number = h.drives; better = sym (same-better h.sense h.number best) ∙ h.better },
+      record { sense = h.sense; e = named.0; number = h.number; stated = named.1; has_number = h.drives; better = h.better },
   λ h.
       let named = stated-variable p.variables.objective i.goal h.sense h.e senses h.stated in
-      record { sense = h.sense; variable = named.0; number = h.number; stated = named.1; drives = h.has_number; better = same-better h.sense h.number best ∙ h.better },
+      record { sense = h.sense; variable = named.0; number = h.number; stated = named.1; drives = h.has_number; better = h.better },
 )
 
 -- the objective's number in the solution at hand
@@ -137,12 +137,13 @@ log-base old new whole all front base =
 
 pub kept : (mode : Mode) (i : Instance) → (h : SearchedFor mode i) → h.new.notes ≡ h.old.notes → Keeps mode i h.p h.new
 kept mode i h notes = record {
-  allows = allows-after mode i h.p h.old h.new h.poses h.front h.base;
+  allows = allows-after mode i h.p h.old h.new h.closed h.poses h.front h.base;
   notes = notes ∙ h.poses.notes ∙ ap (λ (cs : List Cell). cell_notes h.p.layout cs h.p.variables.cells) h.poses.cells;
   maps = h.poses.stands.maps;
   meaning = λ s met.
-      h.poses.stands.is_layout.meaning s
-      (subst (Satisfies s) (same-base h.old h.new h.poses.is_base h.front h.base ∙ own-clauses mode i h.p h.old h.poses) met);
+      map_meant s h.p.layout h.p.variables (map (λ one. one.values) (instance_cells i)) h.poses.stands.maps
+      (h.poses.stands.is_layout.meaning s
+      (subst (Satisfies s) (same-base h.old h.new h.poses.is_base h.front h.base ∙ own-clauses mode i h.p h.old h.poses) met));
 }
 
 pub stands : (mode : Mode) (i : Instance) (h : SearchedFor mode i) → Keeps mode i h.p h.new → Stands mode i h.new

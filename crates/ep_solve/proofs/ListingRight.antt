@@ -4,32 +4,29 @@ use Rattle.std.specs.List.{All, AllPairs, AllZip, Contains}
 use Rattle.std.proofs.lemmas.List.{length-map, take-map}
 use Rattle.std.proofs.lemmas.List.Elements.{All-contains, All-map, All-tail, All-take, All-weaker}
 use Rattle.std.proofs.lemmas.List.Kept.{AllPairs-cons}
+use Rattle.cnf_core.specs.Clauses.{SatisfiesClause}
 use Rattle.cnf_core.specs.Events.{givens}
 use Rattle.cnf_core.specs.Literal.{Literal}
 use Rattle.ep_answer.specs.Answered.{BlocksCells, IsNegatedNote, IsRightEnd, ListingEnd, ListsCells, added_givens}
 use Rattle.ep_answer.specs.Answered as cells
 use Rattle.ep_answer.specs.Problems.{IsAllowed}
+use Rattle.enc_var.specs.Layouts.{decoded_cells}
 use Rattle.ep_print.specs.Listings.{ListingTree}
 use Rattle.ep_tree.specs.Binding.{Instance}
-use Rattle.ep_tree.specs.Solutions.{Assigned, Found, IsSolution, goal_value}
+use Rattle.ep_tree.specs.Solutions.{Assigned, Found, IsSolution, IsWritten, found_of, goal_value}
 use Rattle.ep_tree.specs.declared.values.Mode.{Mode}
-use Rattle.ep_unroll.specs.Cells.{found_numbers}
-use Rattle.ep_solve.specs.Formulas.{Solves}
-use Rattle.ep_solve.specs.Listed.{EndsRightly, IsListed, IsUnlisted, Lists}
-use Rattle.ep_solve.specs.Logged.{SaysOfSolutions, TellSolutions, added_clauses, first_givens}
-use Rattle.ep_solve.specs.Reading.{assignment_from, end_from, found_of, listing_from}
-use Rattle.ep_solve.specs.Right.{IsWritten}
+use Rattle.ep_unroll.specs.Cells.{found_numbers, instance_cells}
+use Rattle.ep_solve.specs.Listed.{BlocksSolution, EndsRightly, IsListed, IsUnlisted, Lists}
+use Rattle.ep_solve.specs.Logged.{TellNumbers, TellSolutions, added_clauses, first_givens}
+use Rattle.ep_solve.specs.Reading.{assignment_from, end_from, listing_from}
+use Rattle.ep_solve.proofs.Answering.{ReadsSolution}
 use Rattle.ep_solve.proofs.Cells.{found-read}
 use Rattle.ep_solve.proofs.Leaving.{Agree, Keeps, kept, narrower, stands, tell-solutions}
 use Rattle.ep_solve.proofs.Solved.{SearchedFor}
-use Rattle.ep_solve.proofs.Stepwise.{Says, added-behind, as-long, not-among, says-of-solutions, tell-first, zip-mapped, zip-second, zip-weaker, zip-with}
+use Rattle.ep_solve.proofs.Stepwise.{Says, added-behind, as-long, not-among, tell-first, zip-mapped, zip-second, zip-weaker, zip-with}
+use Rattle.ep_solve.proofs.Telling.{cells-meant, mapped, notes-told}
 
 -- ---- lists of what a function gives of different elements
-
-mapped : {A B : Type 0} (g : A → B) (xs : List A) (x : A) → Contains xs x → Contains (map g xs) (g x)
-mapped g [] x found = absurd (omega (arith, found.1))
-mapped g (y ∷ xs) x (zero, low, is) = (0, omega arith, ap g is)
-mapped g (y ∷ xs) x (suc k, low, is) = let q = mapped g xs x (k, omega (arith, low), is) in (suc q.0, omega (arith, q.1), q.2)
 
 -- what a function gives of an element, which is made again from it
 record Comes {A B : Type 0} (g : A → B) (xs : List A) (y : B) : Type 0 where
@@ -67,7 +64,7 @@ given-by i numbers = found_of (read-as i numbers)
 
 -- each numbers of the cells are a solution
 abbrev AllSolve : Mode → Instance → List (List ℤ) → Type 0
-AllSolve mode i found = All (λ numbers. (goal : Option ℤ) × Solves mode i numbers goal) found
+AllSolve mode i found = All (λ numbers. (goal : Option ℤ) × ReadsSolution mode i numbers goal) found
 
 -- numbers of a solution were found exactly where the solution is listed
 listed-as : (mode : Mode) (i : Instance) (found : List (List ℤ)) → AllSolve mode i found → (a : Assigned) (s : IsSolution mode i a)
@@ -77,7 +74,7 @@ listed-as mode i found all a s = (
       (subst (Contains (map (given-by i) found)) (found-read i a s.found s.fits) (mapped (given-by i) found (found_numbers s.found) there)),
   λ there.
       let q = comes-from (given-by i) found s.found (subst (λ fs. Contains fs s.found) (mapped-twice found_of (read-as i) found) there) in
-      let at : (goal : Option ℤ) × Solves mode i q.from goal = All-contains (λ numbers. (goal : Option ℤ) × Solves mode i numbers goal) found q.from all q.there in
+      let at : (goal : Option ℤ) × ReadsSolution mode i q.from goal = All-contains (λ numbers. (goal : Option ℤ) × ReadsSolution mode i numbers goal) found q.from all q.there in
       subst (Contains found) (sym at.1.reads.numbers_are ∙ ap found_numbers q.is) q.there,
 )
 
@@ -86,7 +83,7 @@ listed-as mode i found all a s = (
 solve-all : (mode : Mode) (i : Instance) (budget most : ℕ) (h : SearchedFor mode i) → Keeps mode i h.p h.new → (found : List (List ℤ)) (end : ListingEnd)
     → ListsCells h.p budget most h.old h.new found end → AllSolve mode i found
 solve-all mode i budget most h k found end lists =
-    All-weaker (λ numbers. (goal : Option ℤ) × IsAllowed h.p h.new numbers goal) (λ numbers. (goal : Option ℤ) × Solves mode i numbers goal)
+    All-weaker (λ numbers. (goal : Option ℤ) × IsAllowed h.p h.new numbers goal) (λ numbers. (goal : Option ℤ) × ReadsSolution mode i numbers goal)
     (λ numbers one. (one.0, k.allows.solves numbers one.0 one.1)) found lists.allowed
 
 -- what is wanted of numbers that weren't found is what is wanted of a solution that isn't listed
@@ -99,20 +96,20 @@ unlisted mode i found all a s =
 abbrev Differs : List ℤ → List ℤ → Option ℤ → Type 0
 Differs ones numbers goal = numbers ≢ ones
 
--- each given that was added says that a solution gives other values
+-- each given that was added blocks a solution
 blocked-each : (mode : Mode) (i : Instance) (h : SearchedFor mode i) → Keeps mode i h.p h.new → (found : List (List ℤ)) → AllSolve mode i found → AllZip (BlocksCells h.p h.new) found (added_givens h.old h.new)
-    → AllZip (λ a. SaysOfSolutions i h.new (λ other. other ≢ found_of a)) (map (read-as i) found) (added_clauses h.new)
+    → AllZip (BlocksSolution i h.new) (map (read-as i) found) (added_clauses h.new)
 blocked-each mode i h k found all blocks =
-    zip-mapped (λ a. SaysOfSolutions i h.new (λ other. other ≢ found_of a)) (read-as i) found (added_clauses h.new)
-    (zip-with (λ numbers. (goal : Option ℤ) × Solves mode i numbers goal) (BlocksCells h.p h.new) (λ ones. SaysOfSolutions i h.new (λ other. other ≢ given-by i ones)) more found (added_clauses h.new) all
+    zip-mapped (BlocksSolution i h.new) (read-as i) found (added_clauses h.new)
+    (zip-with (λ numbers. (goal : Option ℤ) × ReadsSolution mode i numbers goal) (BlocksCells h.p h.new) (λ ones. BlocksSolution i h.new (read-as i ones)) more found (added_clauses h.new) all
     (subst (AllZip (BlocksCells h.p h.new) found) (added-behind mode i h) blocks))
   where
-    more : (ones : List ℤ) (clause : List Literal) → ((goal : Option ℤ) × Solves mode i ones goal) → BlocksCells h.p h.new ones clause → SaysOfSolutions i h.new (λ other. other ≢ given-by i ones) clause
-    more ones clause solves one =
-        says-of-solutions mode i h.p h.new k Differs ones (λ other. other ≢ given-by i ones) clause (λ numbers goal found. (
-          λ differ same. differ (sym found.reads.numbers_are ∙ ap found_numbers same ∙ solves.1.reads.numbers_are),
-          λ differ same. differ (ap (given-by i) same),
-        )) one.says
+    more : (ones : List ℤ) (clause : List Literal) → ((goal : Option ℤ) × ReadsSolution mode i ones goal) → BlocksCells h.p h.new ones clause → BlocksSolution i h.new (read-as i ones) clause
+    more ones clause solves one = record {
+      blocks = λ s numbers tell.
+          subst (λ ns. SatisfiesClause s clause ↔ (numbers ≢ ns)) (sym solves.1.reads.numbers_are)
+          (one.says s numbers (notes-told s h.p.layout (instance_cells i) h.p.variables numbers k.maps (subst (λ notes. TellNumbers s notes (instance_cells i) numbers) k.notes tell)));
+    }
 
 -- the first so many givens that were added block the first so many that were listed
 blocked-first : (mode : Mode) (i : Instance) (h : SearchedFor mode i) → Keeps mode i h.p h.new → (found : List (List ℤ)) → AllSolve mode i found → AllZip (BlocksCells h.p h.new) found (added_givens h.old h.new)
@@ -123,12 +120,12 @@ blocked-first mode i h k found all blocks count =
   where
     say : AllZip (Says h.p Differs) found (added_clauses h.new)
     say = subst (AllZip (Says h.p Differs) found) (added-behind mode i h)
-        (zip-weaker (BlocksCells h.p h.new) (Says h.p Differs) (λ ones clause one. one.says) found (added_givens h.old h.new) blocks)
+        (zip-weaker (BlocksCells h.p h.new) (Says h.p Differs) (λ ones clause one s means. one.says s (decoded_cells h.p.layout h.p.variables s) (cells-meant s h.p.layout (map (λ one. one.values) (instance_cells i)) h.p.variables k.maps means)) found (added_givens h.old h.new) blocks)
 
     agree : Agree mode i (λ numbers goal. All (λ ones. Differs ones numbers goal) (take count found)) (IsUnlisted (map (read-as i) (take count found)))
     agree a s =
         let among = not-among (take count found) (found_numbers s.found) in
-        let both = unlisted mode i (take count found) (All-take (λ numbers. (goal : Option ℤ) × Solves mode i numbers goal) count found all) a s in
+        let both = unlisted mode i (take count found) (All-take (λ numbers. (goal : Option ℤ) × ReadsSolution mode i numbers goal) count found all) a s in
         (λ differ. both.0 (among.0 differ), λ none. among.1 (both.1 none))
 
 -- how the list ends
@@ -159,11 +156,11 @@ lists-right mode i budget most found end listing h notes lists same =
       sound = lists.sound;
       within = lists.within;
       solutions = All-map (λ a. IsWritten i a × IsSolution mode i a) (read-as i) found
-          (All-weaker (λ numbers. (goal : Option ℤ) × Solves mode i numbers goal) (λ numbers. IsWritten i (read-as i numbers) × IsSolution mode i (read-as i numbers))
+          (All-weaker (λ numbers. (goal : Option ℤ) × ReadsSolution mode i numbers goal) (λ numbers. IsWritten i (read-as i numbers) × IsSolution mode i (read-as i numbers))
           (λ numbers one. (one.1.reads.fits.values, one.1.solves)) found all);
       different = subst (AllPairs ◌≢◌) (sym (mapped-twice found_of (read-as i) found))
           (stay-different (given-by i) found_numbers found
-          (All-weaker (λ numbers. (goal : Option ℤ) × Solves mode i numbers goal) (λ numbers. found_numbers (given-by i numbers) ≡ numbers) (λ numbers one. one.1.reads.numbers_are) found all) lists.different);
+          (All-weaker (λ numbers. (goal : Option ℤ) × ReadsSolution mode i numbers goal) (λ numbers. found_numbers (given-by i numbers) ≡ numbers) (λ numbers one. one.1.reads.numbers_are) found all) lists.different);
       added = ap length (sym (added-behind mode i h)) ∙ sym (as-long (BlocksCells h.p h.new) found (added_givens h.old h.new) lists.blocked)
           ∙ sym (length-map found (read-as i));
       literals = subst (All (All (IsNegatedNote h.new))) (added-behind mode i h)

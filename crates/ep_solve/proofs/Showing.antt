@@ -1,5 +1,5 @@
 -- What a log shows of what a search found.
-use Rattle.std.proofs.Common.{◌≡◌, ◌↔◌, ◌-◌, ◌+◌, ◌<ℤ◌, ℕ, ℤ, Bool, true, false, suc, List, [], ◌∷◌, ◌++◌, drop, length, take, Option, Some, None, IsTrue, refl, sym, ap, subst, ◌∙◌, arith}
+use Rattle.std.proofs.Common.{◌≡◌, ◌-◌, ◌+◌, ◌<ℤ◌, ℕ, ℤ, Bool, true, false, suc, List, [], ◌∷◌, ◌++◌, drop, length, take, Option, Some, None, IsTrue, refl, sym, ap, subst, ◌∙◌, arith}
 use Rattle.std.proofs.lemmas.Int.{ints}
 use Rattle.std.specs.Prelude.{int_lt, slice_get, slice_index_or}
 use Rattle.std.specs.List.{All, AllZip}
@@ -8,8 +8,9 @@ use Rattle.std.proofs.lemmas.List.{append-nil, take-append-drop}
 use Rattle.std.proofs.lemmas.List.Elements.{All-weaker}
 use Rattle.cnf_core.specs.Events.{LogState, givens}
 use Rattle.cnf_core.specs.Literal.{Literal}
+use Rattle.ep_base.specs.Senses.{better_number}
 use Rattle.ep_base.specs.declared.operators.Sense.{Sense}
-use Rattle.ep_answer.specs.Answered.{AnswersCells, FoundCells, Improves, IsBetterThan, IsReachedGoal, IsRightAnswer, SaysBetter, added_givens, best_number, is_better}
+use Rattle.ep_answer.specs.Answered.{AnswersCells, FoundCells, Improves, IsBetterThan, IsReachedGoal, IsRightAnswer, SaysBetter, added_givens, best_number}
 use Rattle.ep_answer.specs.Answered as cells
 use Rattle.ep_answer.specs.Problems.{ProblemState}
 use Rattle.ep_flat.specs.Flats.{objective_number}
@@ -17,10 +18,9 @@ use Rattle.ep_tree.specs.Binding.{Instance}
 use Rattle.ep_tree.specs.Solutions.{goal_value}
 use Rattle.ep_tree.specs.declared.values.Mode.{Mode}
 use Rattle.ep_print.specs.Answers.{AnswerTree}
-use Rattle.ep_solve.specs.Formulas.{Solves}
-use Rattle.ep_solve.specs.Logged.{IsBetterGoal, IsBetterSolution, IsDrivenTo, IsLogged, IsReached, SaysOfSolutions, ShowsAnswer, TellSolutions, added_clauses, first_givens}
+use Rattle.ep_solve.specs.Logged.{IsBetterSolution, IsDrivenTo, IsLogged, IsReached, SaysOfSolutions, ShowsAnswer, TellSolutions, added_clauses, first_givens}
 use Rattle.ep_solve.specs.Searched.{AddsBounds}
-use Rattle.ep_solve.specs.Reading.{answer_from, assignment_from, found_of}
+use Rattle.ep_solve.specs.Reading.{answer_from, assignment_from}
 use Rattle.ep_solve.proofs.Answering.{same-some}
 use Rattle.ep_solve.proofs.Leaving.{Agree, Keeps, better-wanted, givens-append, kept, leaves, none-added, stands}
 use Rattle.ep_solve.proofs.Solved.{SearchedFor}
@@ -43,8 +43,8 @@ is-below x y h = by (int_lt x y) refl
     by false e = absurd (omega (arith, ints, h, e))
 
 -- what is better than a better number is better
-better-still : (sense : Sense) (x y z : ℤ) → IsTrue (is_better sense y x) → IsTrue (is_better sense z y) → IsTrue (is_better sense z x)
-unfolding is_better
+better-still : (sense : Sense) (x y z : ℤ) → IsTrue (better_number sense y x) → IsTrue (better_number sense z y) → IsTrue (better_number sense z x)
+unfolding better_number
 better-still Sense.Minimising x y z first second =
     let p = lies-below y x first in
     let q = lies-below z y second in
@@ -58,7 +58,7 @@ beats-all : (p : ProblemState) (goal : Option ℤ) (x y : ℤ) → IsBetterThan 
 beats-all p goal x y first second =
     let same : (first.sense, first.variable) ≡ (second.sense, second.variable) = same-some (first.sense, first.variable) (second.sense, second.variable) (sym first.stated ∙ second.stated) in
     let number : y ≡ first.number = same-some y first.number first.drives in
-    let Better : Sense → ℤ → Type 0 = λ sense n. IsTrue (is_better sense n x) in
+    let Better : Sense → ℤ → Type 0 = λ sense n. IsTrue (better_number sense n x) in
     record {
       sense = second.sense;
       variable = second.variable;
@@ -82,7 +82,7 @@ driven-to mode i h k found value best improves = record {
   reached = All-weaker (IsReachedGoal h.p h.new) (IsReached mode i) (λ number one. reached number one) improves.bests improves.reached;
   better = λ m n d low high. (better-wanted i h.p (slice_index_or improves.bests m d) (Some (slice_index_or improves.bests n d)) h.poses.stands.senses).0 (improves.better m n d low high);
   last = improves.last ∙ best;
-  said = zip-weaker (Says h.p (Better h.p)) (λ number. SaysOfSolutions i h.new (IsBetterSolution mode i number)) (λ number clause say. says-of-solutions mode i h.p h.new k (Better h.p) number (IsBetterSolution mode i number) clause (of-solutions number) say) improves.bests (added_clauses h.new) say;
+  said = zip-weaker (Says h.p (Better h.p)) (λ number. SaysOfSolutions mode i h.new (IsBetterSolution mode i number)) (λ number clause say. says-of-solutions mode i h.p h.new k (Better h.p) number (IsBetterSolution mode i number) clause (of-solutions number) say) improves.bests (added_clauses h.new) say;
   narrows = narrows;
 }
   where
@@ -93,14 +93,10 @@ driven-to mode i h k found value best improves = record {
 
     say : AllZip (Says h.p (Better h.p)) improves.bests (added_clauses h.new)
     say = subst (AllZip (Says h.p (Better h.p)) improves.bests) (added-behind mode i h)
-        (zip-weaker (SaysBetter h.p) (Says h.p (Better h.p)) (λ number clause one. one.says) improves.bests (added_givens h.old h.new) improves.said)
+        (zip-weaker (SaysBetter h.p) (Says h.p (Better h.p)) (λ number clause one s means. one.says s means.objective) improves.bests (added_givens h.old h.new) improves.said)
 
-    of-solutions : (number : ℤ) (numbers : List ℤ) (goal : Option ℤ) → Solves mode i numbers goal → Better h.p number numbers goal ↔ IsBetterSolution mode i number (found_of (assignment_from i.finds numbers))
-    of-solutions number numbers goal solves =
-        let same = better-wanted i h.p number goal h.poses.stands.senses in (
-          λ better. subst (IsBetterGoal i number) (sym solves.valued) (same.0 better),
-          λ better. same.1 (subst (IsBetterGoal i number) solves.valued better),
-        )
+    of-solutions : (number : ℤ) → Agree mode i (Better h.p number) (IsBetterSolution mode i number)
+    of-solutions number a s = better-wanted i h.p number (goal_value mode i s.found) h.poses.stands.senses
 
     agree : (n : ℕ) (number : ℤ) → slice_get improves.bests n ≡ Some number → Agree mode i (λ numbers goal. All (λ x. Better h.p x numbers goal) (take (suc n) improves.bests)) (IsBetterSolution mode i number)
     agree n number at a s =

@@ -1,5 +1,5 @@
 -- What a search in the problem of an instance's ground finds is right.
-use Rattle.std.proofs.Common.{◌≡◌, ℕ, ◌+◌, ◌*◌, ◌≤◌, Bool, true, false, nat_lt, ℤ, List, [], ◌∷◌, ◌++◌, length, map, take, refl, sym, ap, subst, ◌∙◌, arith, if◌then◌else◌, int_lt}
+use Rattle.std.proofs.Common.{◌≡◌, ℕ, ◌+◌, ◌*◌, ◌≤◌, Bool, true, false, nat_lt, List, [], ◌∷◌, ◌++◌, length, map, take, refl, sym, ap, subst, ◌∙◌, arith, if◌then◌else◌, int_lt}
 use Rattle.std.specs.Prelude.{All, sum_by}
 use Rattle.std.proofs.lemmas.Bool.{false≢true}
 use Rattle.std.proofs.lemmas.Bool.Decides.{nat_tests}
@@ -10,22 +10,24 @@ use Rattle.cnf_core.specs.Events.{LogEvent, LogState, clauses_of, given, givens,
 use Rattle.cnf_core.specs.Formula.{Cnf}
 use Rattle.cnf_core.specs.Steps.{IsConsistent}
 use Rattle.enc_var.specs.Layouts.{decoded_cells}
+use Rattle.ep_answer.proofs.Posing.{map_meant}
 use Rattle.ep_answer.specs.Answered.{FoundCells, IsRightAnswer}
 use Rattle.ep_answer.specs.Problems.{CanSearch, ProblemState, base_clauses}
 use Rattle.ep_flat.specs.Flats.{MapsCells}
 use Rattle.ep_tree.specs.Binding.{Instance, Refusal, over_limit}
+use Rattle.ep_tree.specs.Closed.{IsClosed}
 use Rattle.ep_tree.specs.Limits.{MOST_REACH, MOST_SIZE, MOST_WEIGHT}
 use Rattle.ep_tree.specs.Measures.{Met, farthest_reach, size_of}
 use Rattle.ep_tree.specs.Solutions.{cell_count, goal_value, instance_limits, instance_size, instance_weight, limits_passed, met_instance, or_weight}
 use Rattle.ep_tree.specs.declared.values.Mode.{Mode}
 use Rattle.ep_base.specs.declared.operators.Limit.{Limit}
 use Rattle.ep_print.specs.Answers.{AnswerTree, HasTypedValues}
-use Rattle.ep_unroll.specs.Cells.{found_numbers}
+use Rattle.ep_unroll.specs.Cells.{instance_cells}
 use Rattle.ep_solve.specs.Formulas.{IsFormulaFor, Poses, Solves}
-use Rattle.ep_solve.specs.Reading.{answer_from, assignment_from, found_of}
+use Rattle.ep_solve.specs.Reading.{answer_from}
 use Rattle.ep_solve.specs.Right.{IsRight}
-use Rattle.ep_solve.proofs.Answering.{Allows, answered-right, answered-typed}
-use Rattle.ep_solve.proofs.Cells.{found-read}
+use Rattle.ep_solve.proofs.Answering.{Allows, answered-right, answered-typed, read-solution}
+use Rattle.ep_solve.proofs.Cells.{numbers-same}
 
 -- ---- limits
 
@@ -84,7 +86,8 @@ posed-can-search mode i p log h = record {
   consistent = subst (All IsConsistent) (sym (all-given log.events h.are_givens ∙ h.givens_are)) h.stands.consistent;
   clauses = h.clauses;
   maps = subst (λ cs. MapsCells (map (λ one. one.values) cs) (map (λ e. e.domain) p.layout) p.variables) (sym h.cells) h.stands.maps;
-  meaning = λ s met. h.stands.is_layout.meaning s (subst (Satisfies s) h.givens_are met);
+  meaning = λ s met.
+      map_meant s p.layout p.variables (map (λ one. one.values) (instance_cells i)) h.stands.maps (h.stands.is_layout.meaning s (subst (Satisfies s) h.givens_are met));
 }
 
 -- the problem's own clauses are the formula's
@@ -95,33 +98,32 @@ pub own-clauses : (mode : Mode) (i : Instance) (p : ProblemState) (old : LogStat
 own-clauses mode i p old h = own-base old h.is_base ∙ h.givens_are
 
 -- clauses that are a formula's allow exactly the solutions of the instance for which it stands
-clauses-allow : (mode : Mode) (i : Instance) (p : ProblemState) (log : LogState) (f : Cnf) → IsFormulaFor mode i p.layout p.variables f → base_clauses log ≡ f.clauses → Allows mode i p log
-clauses-allow mode i p log f stands own = record {
+clauses-allow : (mode : Mode) (i : Instance) (p : ProblemState) (log : LogState) (f : Cnf) → IsClosed i → IsFormulaFor mode i p.layout p.variables f → base_clauses log ≡ f.clauses → Allows mode i p log
+clauses-allow mode i p log f closed stands own = record {
   solves = λ cells goal h.
       let s : ℕ → Bool = h.are_given.assignment in
       let found = stands.sound s (subst (Satisfies s) own h.are_given.satisfies) in
-      subst (λ ns. Solves mode i ns goal) h.are_given.gives (subst (Solves mode i (decoded_cells p.layout p.variables s)) h.drives found);
+      read-solution mode i cells goal closed (subst (λ ns. Solves mode i ns goal) h.are_given.gives (subst (Solves mode i (decoded_cells p.layout p.variables s)) h.drives found));
   allowed = λ a solves.
-      let numbers : List ℤ = found_numbers solves.found in
       let given = stands.complete a solves in
       let s : ℕ → Bool = given.assignment in
       let found = stands.sound s given.satisfies in
-      let same : found_of (assignment_from i.finds (decoded_cells p.layout p.variables s)) ≡ solves.found =
-      ap (λ ns. found_of (assignment_from i.finds ns)) given.gives ∙ found-read i a solves.found solves.fits in
+      let same : found.solves.found ≡ solves.found = numbers-same i found.assigned a found.solves.found solves.found found.solves.fits solves.fits (found.numbers_are ∙ given.gives) in
       record {
         are_given = record { assignment = s; satisfies = subst (Satisfies s) (sym own) given.satisfies; gives = given.gives };
         drives = sym found.valued ∙ ap (goal_value mode i) same;
       };
 }
 
-pub allows-after : (mode : Mode) (i : Instance) (p : ProblemState) (old new : LogState) → Poses mode i p old → take (length old.events) new.events ≡ old.events → new.base ≡ old.base → Allows mode i p new
-allows-after mode i p old new h front base =
-    clauses-allow mode i p new h.formula h.stands (same-base old new h.is_base front base ∙ own-clauses mode i p old h)
+pub allows-after : (mode : Mode) (i : Instance) (p : ProblemState) (old new : LogState) → IsClosed i → Poses mode i p old → take (length old.events) new.events ≡ old.events → new.base ≡ old.base → Allows mode i p new
+allows-after mode i p old new closed h front base =
+    clauses-allow mode i p new h.formula closed h.stands (same-base old new h.is_base front base ∙ own-clauses mode i p old h)
 
 -- ---- answers
 
 -- a search went on in the problem of an instance
 pub record SearchedFor (mode : Mode) (i : Instance) : Type 0 where
+  pub closed : IsClosed i
   pub p : ProblemState
   pub old : LogState
   pub new : LogState
@@ -134,10 +136,10 @@ pub found-right : (mode : Mode) (i : Instance) (budget : ℕ) (found : FoundCell
     → answer ≡ answer_from i.finds budget found → IsRight mode i budget answer
 found-right mode i budget found answer h right same =
     subst (IsRight mode i budget) (sym same)
-    (answered-right mode i h.p h.new (allows-after mode i h.p h.old h.new h.poses h.front h.base) h.poses.stands.senses budget found right)
+    (answered-right mode i h.p h.new (allows-after mode i h.p h.old h.new h.closed h.poses h.front h.base) h.poses.stands.senses budget found right)
 
 pub found-typed : (mode : Mode) (i : Instance) (budget : ℕ) (found : FoundCells) (answer : AnswerTree) → (h : SearchedFor mode i) → IsRightAnswer h.p budget h.new found
     → answer ≡ answer_from i.finds budget found → HasTypedValues answer
 found-typed mode i budget found answer h right same =
     subst HasTypedValues (sym same)
-    (answered-typed mode i h.p h.new (allows-after mode i h.p h.old h.new h.poses h.front h.base) budget found right)
+    (answered-typed mode i h.p h.new (allows-after mode i h.p h.old h.new h.closed h.poses h.front h.base) budget found right)

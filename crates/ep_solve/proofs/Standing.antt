@@ -10,11 +10,11 @@ use Rattle.ep_ground.specs.Grounds.{GroundState, IsGroundSolution, ground_object
 use Rattle.ep_ground.specs.declared.cells.Cell.{Cell}
 use Rattle.ep_tree.specs.Binding.{Instance}
 use Rattle.ep_tree.specs.Closed.{IsClosed}
-use Rattle.ep_tree.specs.Solutions.{Assigned}
+use Rattle.ep_tree.specs.Solutions.{Assigned, found_of}
 use Rattle.ep_tree.specs.declared.values.Mode.{Mode}
 use Rattle.ep_unroll.specs.Cells.{found_numbers}
 use Rattle.ep_solve.specs.Formulas.{IsFormulaFor, Solves}
-use Rattle.ep_solve.specs.Reading.{ReadsAs, assignment_from, found_of}
+use Rattle.ep_solve.specs.Reading.{ReadsAs, assignment_from}
 use Rattle.ep_solve.proofs.Cells.{numbers-read}
 use Rattle.ep_solve.proofs.Judged.{SpeaksFor, ground-solves, solution-grounded}
 
@@ -27,8 +27,9 @@ kept-solves mode i g closed speaks cells kept =
     let Q : List ℤ → Type 0 = IsGroundSolution g in
     let judged = ground-solves mode i g speaks a (found_of a) reads.fits (subst Q (sym reads.numbers_are) kept) in
     record {
-      reads = reads;
+      assigned = a;
       solves = record { found = found_of a; fits = reads.fits; holds = judged.0; measured = judged.1 };
+      numbers_are = reads.numbers_are;
       valued = sym (speaks.objective.numbers a (found_of a) reads.fits) ∙ ap (ground_objective g) reads.numbers_are;
     }
 

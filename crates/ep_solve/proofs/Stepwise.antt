@@ -8,18 +8,19 @@ use Rattle.cnf_core.proofs.Members.{All-from_contains}
 use Rattle.cnf_core.specs.Clauses.{Satisfies, SatisfiesClause}
 use Rattle.cnf_core.specs.Events.{LogState, givens}
 use Rattle.cnf_core.specs.Literal.{Literal}
-use Rattle.enc_var.specs.Decoding.{Means}
 use Rattle.enc_var.specs.Layouts.{decoded_cells, decoded_values}
 use Rattle.ep_answer.specs.Answered.{added_givens}
-use Rattle.ep_answer.specs.Problems.{ProblemState, base_clauses}
+use Rattle.ep_answer.specs.Problems.{MapMeans, ProblemState, base_clauses}
 use Rattle.ep_flat.specs.Flats.{objective_number}
 use Rattle.ep_tree.specs.Binding.{Instance}
-use Rattle.ep_tree.specs.Solutions.{Found}
+use Rattle.ep_tree.specs.Solutions.{Found, found_of, goal_value}
 use Rattle.ep_tree.specs.declared.values.Mode.{Mode}
-use Rattle.ep_solve.specs.Formulas.{Solves}
-use Rattle.ep_solve.specs.Logged.{SaysOfSolutions, TellSolutions, added_clauses, first_givens}
-use Rattle.ep_solve.specs.Reading.{assignment_from, found_of}
-use Rattle.ep_solve.proofs.Leaving.{Agree, Keeps, tell-solutions, told}
+use Rattle.ep_unroll.specs.Cells.{found_numbers}
+use Rattle.ep_solve.specs.Logged.{AreWanted, SaysOfSolutions, TellSolutions, added_clauses, first_givens}
+use Rattle.ep_solve.specs.Reading.{assignment_from}
+use Rattle.ep_solve.proofs.Answering.{ReadsSolution}
+use Rattle.ep_solve.proofs.Cells.{numbers-same}
+use Rattle.ep_solve.proofs.Leaving.{Agree, Keeps, are-wanted, tell-solutions, told}
 use Rattle.ep_solve.proofs.Solved.{SearchedFor}
 
 -- ---- two lists, place by place
@@ -114,21 +115,26 @@ added-behind mode i h = ap (λ n. givens (drop n h.new.events)) (sym (h.base ∙
 -- what a clause says of an element, wherever the literals mean what they say
 abbrev pub Says : {A : Type 0} → ProblemState → (A → List ℤ → Option ℤ → Type 0) → A → List Literal → Type 0
 Says p P x clause =
-    (s : ℕ → Bool) → All (Means s) p.layout
+    (s : ℕ → Bool) → MapMeans s p.layout p.variables
     → SatisfiesClause s clause ↔ P x (decoded_cells p.layout p.variables s) (objective_number p.variables (decoded_values p.layout s))
 
 -- what a clause says of numbers of the cells it says of solutions, where the one is so exactly where the other is wanted
 pub says-of-solutions : {A : Type 0} (mode : Mode) (i : Instance) (p : ProblemState) (log : LogState) → Keeps mode i p log → (P : A → List ℤ → Option ℤ → Type 0) (x : A) (wanted : Found → Type 0) (clause : List Literal)
-    → ((numbers : List ℤ) (goal : Option ℤ) → Solves mode i numbers goal → P x numbers goal ↔ wanted (found_of (assignment_from i.finds numbers))) → Says p P x clause → SaysOfSolutions i log wanted clause
-says-of-solutions mode i p log k P x wanted clause same say = record {
+    → Agree mode i (P x) wanted → Says p P x clause → SaysOfSolutions mode i log wanted clause
+says-of-solutions mode i p log k P x wanted clause agree say = record {
   says = λ s met.
       let numbers : List ℤ = decoded_cells p.layout p.variables s in
       let goal : Option ℤ = objective_number p.variables (decoded_values p.layout s) in
-      let solves : Solves mode i numbers goal = k.allows.solves numbers goal (record { are_given = record { assignment = s; satisfies = met; gives = refl }; drives = refl }) in
+      let solves : ReadsSolution mode i numbers goal = k.allows.solves numbers goal (record { are_given = record { assignment = s; satisfies = met; gives = refl }; drives = refl }) in
       let one = say s (k.meaning s met) in
-      let other = same numbers goal solves in
-      (numbers, told mode i p log k s met, (λ holds. other.0 (one.0 holds), λ is. one.1 (other.1 is)));
+      (numbers, told mode i p log k s met, (λ holds. are-wanted mode i numbers goal (P x) wanted agree solves (one.0 holds), λ is. one.1 (back numbers goal solves is)));
 }
+  where
+    back : (numbers : List ℤ) (goal : Option ℤ) → ReadsSolution mode i numbers goal → AreWanted mode i wanted numbers → P x numbers goal
+    back numbers goal solves w =
+        let same : w.solves.found ≡ found_of (assignment_from i.finds numbers) = numbers-same i w.assigned (assignment_from i.finds numbers) w.solves.found (found_of (assignment_from i.finds numbers)) w.solves.fits solves.reads.fits
+        (w.numbers_are ∙ sym solves.reads.numbers_are) in
+        subst (λ ns. P x ns goal) w.numbers_are (subst (P x (found_numbers w.solves.found)) (ap (goal_value mode i) same ∙ solves.valued) ((agree w.assigned w.solves).1 w.is_wanted))
 
 -- Where each given that was added says something of an element, what satisfies the givens of the base and the first so many of them
 -- are exactly the solutions of which it is so of as many elements.

@@ -14,13 +14,13 @@ use Rattle.ep_unroll.specs.Cells.{found_numbers, instance_cells}
 use Rattle.enc_var.specs.Decoding.{VariableLiterals}
 use Rattle.enc_var.specs.Layouts.{AreGiven, IsLayoutOf, decoded_cells, decoded_values}
 use Rattle.enc_var.specs.Notes.{cell_notes}
-use Rattle.ep_solve.specs.Reading.{ReadsAs, assignment_from, found_of}
 
--- numbers of the cells are a solution, whose objective has this number
+-- numbers of the cells are those of a solution, whose objective has this number
 pub record Solves (mode : Mode) (i : Instance) (cells : List ℤ) (goal : Option ℤ) : Type 0 where
-  pub reads : ReadsAs i cells
-  pub solves : IsSolution mode i (assignment_from i.finds cells)
-  pub valued : goal_value mode i (found_of (assignment_from i.finds cells)) ≡ goal
+  pub assigned : Assigned
+  pub solves : IsSolution mode i assigned
+  pub numbers_are : found_numbers solves.found ≡ cells
+  pub valued : goal_value mode i solves.found ≡ goal
 
 -- The assignments that satisfy a formula decode to exactly the solutions of an instance, and the variable of the objective then to
 -- its number. The map names a variable for each cell of the instance, and one for its objective, which is to be driven the same way;

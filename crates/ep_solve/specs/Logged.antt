@@ -5,17 +5,17 @@ use Rattle.cnf_core.specs.Clauses.{IsTrueUnder, Satisfies, SatisfiesClause}
 use Rattle.cnf_core.specs.Events.{HasBase, LogState, Note, givens, nonempty_steps}
 use Rattle.cnf_core.specs.Literal.{Literal}
 use Rattle.enc_var.specs.Notes.{cell_text}
+use Rattle.ep_base.specs.Senses.{better_number}
 use Rattle.ep_base.specs.declared.operators.Sense.{Sense}
 use Rattle.ep_ground.specs.declared.cells.Cell.{Cell}
 use Rattle.ep_print.specs.Answers.{AnswerTree, no_solution, optimum, solution, unknown, unknown_with}
 use Rattle.ep_tree.specs.Binding.{Instance}
-use Rattle.ep_tree.specs.Solutions.{Assigned, Found, IsSolution, better_number, goal_value}
+use Rattle.ep_tree.specs.Solutions.{Assigned, Found, IsSolution, IsWritten, goal_value}
 use Rattle.ep_tree.specs.Trees.{ExprTree}
 use Rattle.ep_tree.specs.declared.values.Mode.{Mode}
 use Rattle.ep_unroll.specs.Cells.{found_numbers, instance_cells}
 use Rattle.sat_search.specs.Logs.{EndsWithEmptyStep, IsSound}
-use Rattle.ep_solve.specs.Reading.{assignment_from, found_of}
-use Rattle.ep_solve.specs.Right.{HasGoal, IsSpent, IsWritten}
+use Rattle.ep_solve.specs.Right.{HasGoal, IsSpent}
 
 -- ---- what notes tell
 
@@ -41,9 +41,10 @@ pub record AreTold (i : Instance) (notes : List Note) (clauses : List (List Lite
   pub satisfies : Satisfies assignment clauses
   pub tell : TellNumbers assignment notes (instance_cells i) numbers
 
--- numbers of the cells are a solution, and what it gives the decision variables is wanted
+-- numbers of the cells are those of a solution, and what it gives the decision variables is wanted
 pub record AreWanted (mode : Mode) (i : Instance) (wanted : Found → Type 0) (numbers : List ℤ) : Type 0 where
-  pub solves : IsSolution mode i (assignment_from i.finds numbers)
+  pub assigned : Assigned
+  pub solves : IsSolution mode i assigned
   pub numbers_are : found_numbers solves.found ≡ numbers
   pub is_wanted : wanted solves.found
 
@@ -103,12 +104,12 @@ first_givens log count = givens (take log.base log.events) ++ take count (added_
 abbrev pub IsReached : Mode → Instance → ℤ → Type 0
 IsReached mode i number = (a : Assigned) × IsWritten i a × IsSolution mode i a × HasGoal mode i a number
 
--- Under each assignment that satisfies the givens which stand for the instance, a clause holds exactly where the solution that the
--- notes tell is wanted.
-pub record SaysOfSolutions (i : Instance) (log : LogState) (wanted : Found → Type 0) (clause : List Literal) : Type 0 where
+-- Under each assignment that satisfies the givens which stand for the instance, the notes tell numbers of the cells, and a clause
+-- holds exactly where they are those of a solution that is wanted.
+pub record SaysOfSolutions (mode : Mode) (i : Instance) (log : LogState) (wanted : Found → Type 0) (clause : List Literal) : Type 0 where
   pub says : (s : ℕ → Bool) → Satisfies s (givens (take log.base log.events))
       → (numbers : List ℤ) × TellNumbers s log.notes (instance_cells i) numbers
-      × (SatisfiesClause s clause ↔ wanted (found_of (assignment_from i.finds numbers)))
+      × (SatisfiesClause s clause ↔ AreWanted mode i wanted numbers)
 
 -- what is better than this number of the objective
 abbrev pub IsBetterSolution : Mode → Instance → ℤ → Found → Type 0
@@ -122,14 +123,15 @@ pub record IsDrivenTo (mode : Mode) (i : Instance) (log : LogState) (value : ℤ
   pub reached : All (IsReached mode i) numbers
   pub better : AllPairs (λ earlier later. IsBetterGoal i earlier (Some later)) numbers
   pub last : slice_get numbers (length numbers - 1) ≡ Some value
-  pub said : AllZip (λ number. SaysOfSolutions i log (IsBetterSolution mode i number)) numbers (added_clauses log)
+  pub said : AllZip (λ number. SaysOfSolutions mode i log (IsBetterSolution mode i number)) numbers (added_clauses log)
   pub narrows : (k : ℕ) (number : ℤ) → slice_get numbers k ≡ Some number
       → TellSolutions mode i log.notes (first_givens log (k + 1)) (IsBetterSolution mode i number)
 
--- What the log shows of an answer: nothing was added to what stands for the instance where no better solution was looked for behind
--- one, be it that a single one is the answer, that there is none or that none was found, and else the givens that were added lead to
--- the number of the one at hand; it ends with the empty step where there is no solution or no better one; and where the budget is
--- spent, its steps are as many, and what is left are exactly the solutions that are better than the one at hand.
+-- What the log shows of an answer. Of a solution: nothing was added to what stands for the instance. Of an optimum: it ends with the
+-- empty step, and the givens that were added lead to the optimum's number. Of there being no solution: it ends with the empty step,
+-- and nothing was added. Where the budget is spent: it has as many steps as that, none of them empty; without a solution at hand
+-- nothing was added, so that all solutions are left; with one, the givens that were added lead to its number, and what is left are
+-- exactly the better solutions.
 unfoldable pub ShowsAnswer : Mode → Instance → ℕ → LogState → AnswerTree → Type 0
 ShowsAnswer mode i budget log (solution a) = added_clauses log ≡ []
 ShowsAnswer mode i budget log (optimum value a) = EndsWithEmptyStep log.events × IsDrivenTo mode i log value

@@ -7,8 +7,7 @@ use Rattle.ep_print.specs.Answers.{AnswerTree, AreTyped, no_solution, optimum, s
 use Rattle.ep_print.specs.Listings.{EndTree, ListingTree, complete, spent, stopped}
 use Rattle.ep_ground.specs.Grounds.{AreCellValues}
 use Rattle.ep_tree.specs.Binding.{Find, Instance}
-use Rattle.ep_tree.specs.Environments.{has_value}
-use Rattle.ep_tree.specs.Solutions.{Assigned, Fits, Found, find_type}
+use Rattle.ep_tree.specs.Solutions.{Assigned, Fits, Found, find_type, found_of}
 use Rattle.ep_tree.specs.Values.{ValueTree, as_parts, matrix, single}
 use Rattle.ep_unroll.specs.Cells.{found_numbers, instance_cells}
 
@@ -51,10 +50,6 @@ end_from budget found.spent = spent budget
 -- a list over numbers of cells as one over values
 unfoldable pub listing_from : List Find → ℕ → List (List ℤ) → ListingEnd → ListingTree
 listing_from fs budget cells end = record { found = map (assignment_from fs) cells; ending = end_from budget end }
-
--- values of names, as an environment has them
-abbrev pub found_of : Assigned → Found
-found_of a = map (λ g. (g.name, has_value g.ty g.value)) a
 
 -- the numbers of what was found are values of the cells
 abbrev pub GivesNumbers : Instance → Found → Type 0

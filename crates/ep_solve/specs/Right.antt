@@ -2,16 +2,10 @@
 use Rattle.std.specs.Prelude.{◌≡◌, ℕ, ℤ, List, [], Some, None}
 use Rattle.ep_print.specs.Answers.{AnswerTree, no_solution, optimum, solution, unknown, unknown_with}
 use Rattle.ep_tree.specs.Binding.{Instance}
-use Rattle.ep_tree.specs.Solutions.{Assigned, IsOptimal, IsSolution, found_values, goal_value}
+use Rattle.ep_tree.specs.Solutions.{Assigned, IsOptimal, IsSolution, IsWritten, found_of, goal_value}
 use Rattle.ep_tree.specs.declared.values.Mode.{Mode}
 use Rattle.cnf_core.specs.Events.{LogEvent, LogState, nonempty_steps}
 use Rattle.sat_search.specs.Logs.{NoneIsEmpty}
-use Rattle.ep_solve.specs.Reading.{found_of}
-
--- The values are written as the instance states them: in the order of the text, each with the type and the indices of its
--- domain.
-abbrev pub IsWritten : Instance → Assigned → Type 0
-IsWritten i a = found_values i.finds a ≡ Some (found_of a)
 
 -- the objective has this value under an assignment
 abbrev pub HasGoal : Mode → Instance → Assigned → ℤ → Type 0

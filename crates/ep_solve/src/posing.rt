@@ -3,7 +3,7 @@
 ghost use Rattle.std.specs.Prelude.{◌≡◌, [], true, map, All, IfOk, OnOk};
 ghost use Rattle.cnf_core.specs.Events.{given, is_given};
 ghost use Rattle.ep_answer.specs.AnswerViews.{plain_problem};
-ghost use Rattle.ep_flat.specs.Flats.{MapsCells};
+ghost use Rattle.ep_flat.specs.Flats.{StandForCells};
 ghost use Rattle.ep_flat.specs.FlatViews.{plain_map};
 ghost use Rattle.ep_solve.specs.Formulas.{IsFormulaFor, Poses};
 ghost use Rattle.ep_solve.specs.Right.{empty_log};
@@ -42,8 +42,8 @@ fn give_all(log: &mut Log, clauses: &[Clause]) -> Result<(), Memory>
 /// with the notes of the cells. It poses whatever instance the formula stands for.
 pub fn posed(alloc: Global, encoded: Encoded, log: &mut Log) -> Result<Problem, Memory>
     requires empty { log.old ≡ empty_log }
-    requires maps { MapsCells (map (λ one. one.values) encoded.cells.items)
-        (map (λ e. e.domain) encoded.layout) (plain_map encoded.map) }
+    requires maps { StandForCells (map (λ one. one.values) encoded.cells.items)
+        (map (λ e. e.domain) encoded.layout) (plain_map encoded.map).cells }
     ensures poses { IfOk result (λ problem. (mode : Mode) (i : InstanceValue)
         → IsFormulaFor mode i encoded.layout (plain_map encoded.map) encoded.formula
         → encoded.cells.items ≡ instance_cells i → Poses mode i (plain_problem problem) log.new) }

@@ -1,7 +1,7 @@
 use Rattle.std.proofs.Common.{◌≡◌, ◌∙◌, List, Result, Ok, Err, IfOk, map, ap, subst, sym}
 use Rattle.cnf_core.specs.Events.{LogState}
 use Rattle.ep_answer.specs.AnswerViews.{plain_answer, plain_problem}
-use Rattle.ep_flat.specs.Flats.{MapsCells}
+use Rattle.ep_flat.specs.Flats.{StandForCells}
 use Rattle.ep_flat.specs.FlatViews.{plain_map}
 use Rattle.ep_ground.specs.declared.cells.Cell.{Cell}
 use Rattle.ep_instance.specs.Instances.{find_of, instance_of, mode_of}
@@ -24,8 +24,8 @@ where-ok (Err e) P Q h more = tt
 pub posed-requires-clause-maps : goal.posed-requires-clause-maps
 posed-requires-clause-maps c =
     let encoded = c.in_ok-encoded.encoded in
-    subst (λ (cs : List Cell). MapsCells (map (λ one. one.values) cs) (map (λ e. e.domain) encoded.layout) (plain_map encoded.map))
-    (sym c.in_ok-encoded.ensures.cells) c.in_ok-encoded.ensures.stands.maps
+    subst (λ (cs : List Cell). StandForCells (map (λ one. one.values) cs) (map (λ e. e.domain) encoded.layout) (plain_map encoded.map).cells)
+    (sym c.in_ok-encoded.ensures.cells) c.in_ok-encoded.ensures.stands.maps.cells
 
 pub search-requires : goal.search-requires
 search-requires c =
@@ -38,6 +38,7 @@ returns-clause-right c =
     let mode : Mode = mode_of c.args.instance.now in
     let i : Instance = instance_of c.args.instance.now in
     let searched : SearchedFor mode i = record {
+      closed = c.requires.closed;
       p = plain_problem c.in_ok-problem.problem;
       old = c.posed.new.log;
       new = c.search.new.log;
@@ -56,6 +57,7 @@ returns-clause-typed c =
     let mode : Mode = mode_of c.args.instance.now in
     let i : Instance = instance_of c.args.instance.now in
     let searched : SearchedFor mode i = record {
+      closed = c.requires.closed;
       p = plain_problem c.in_ok-problem.problem;
       old = c.posed.new.log;
       new = c.search.new.log;
@@ -74,6 +76,7 @@ returns-clause-logged c =
     let mode : Mode = mode_of c.args.instance.now in
     let i : Instance = instance_of c.args.instance.now in
     let searched : SearchedFor mode i = record {
+      closed = c.requires.closed;
       p = plain_problem c.in_ok-problem.problem;
       old = c.posed.new.log;
       new = c.search.new.log;
