@@ -3,16 +3,16 @@
 ghost use Rattle.std.specs.Prelude.{◌≡◌, ◌++◌, ◌+◌, ◌≤◌, ◌<◌, ◌∷◌, ℤ, Some, true, false, flat_map, map, option_to_list, option_map, IfOk, IfErr, OnOk};
 ghost use Rattle.std.specs.List.{list_any};
 ghost use Rattle.ep_base.specs.declared.places.Place.{Place};
-ghost use Rattle.ep_base.specs.Numbers.{sum_of};
+ghost use Rattle.ep_base.specs.Numbers.{counts_hold, sum_of};
 ghost use Rattle.ep_tree.specs.Environments.{value_bound};
 ghost use Rattle.ep_tree.specs.Values.{all_defined};
-ghost use Rattle.ep_tree.specs.Evaluation.{domain_values, end_value, evaluate, index_list, index_values, map_both, number_in, range_values, term_values, values_of};
+ghost use Rattle.ep_tree.specs.Evaluation.{domain_values, end_value, evaluate, index_list, index_values, map_both, number_in, on_three, range_values, scalars_in, term_values, truth_in, values_of};
 ghost use Rattle.ep_tree.specs.Limits as limits;
 ghost use Rattle.ep_tree.specs.Limits.{is_too_far, limits_of_values};
 ghost use Rattle.ep_tree.specs.Measures as measures;
 ghost use Rattle.ep_tree.specs.Views as views;
 ghost use Rattle.ep_tree.specs.Views.{domain_tree, domains_of, expr_tree, expr_trees, generators_of, indices_of, kind_tree, ranges_of, terms_of};
-ghost use Rattle.ep_eval.specs.Counting.{Counted, Evaluated, IsRefused, of_all};
+ghost use Rattle.ep_eval.specs.Counting.{Counted, Evaluated, Gives, IsRefused, of_all};
 ghost use Rattle.ep_eval.specs.Gathering.{nothing_yet, with_more};
 ghost use Rattle.ep_eval.specs.Generating.{lists_joined, nodes_at, nodes_of, part_nodes, part_value, parts_at, parts_of, ranging_over};
 ghost use Rattle.ep_eval.specs.Helds.{seen_held};
@@ -94,6 +94,20 @@ fn check(seen: Option<Held>) -> Result<Option<Held>, EvalError>
         }
         None => Ok(seen),
     }
+}
+
+/// Whether numbers stand in a list as often as is compared with their counts.
+fn compare_counts<'a>(
+    scope: Scope<'_, '_>,
+    op: CompareOp,
+    list: &Option<Held>,
+    values: &Option<Held>,
+    counts: &Option<Held>,
+) -> Result<Option<Held<'a>>, EvalError>
+    ensures { Gives result (truth_in (mode_in scope.entry) (on_three (scalars_in (seen_held list.now))
+        (scalars_in (seen_held values.now)) (scalars_in (seen_held counts.now)) (counts_hold op))) }
+{
+    counting(scope.alloc, scope.env.mode(), op, list, values, counts)
 }
 
 /// The value of an expression.
@@ -182,12 +196,52 @@ fn kind_value<'a>(
             let truth = truths(scope, met, false, parts)?;
             Ok(truth_value(scope.env.mode(), truth))
         }
+        _ => matrix_value(scope, met, kind),
+    }
+}
+
+/// The value of an expression that reads or makes a matrix, or is one of lists or domains, whose own node is counted. No
+/// other kind comes to it.
+#[cycle(evaluating)]
+fn matrix_value<'a>(
+    scope: Scope<'_, 'a>,
+    met: &mut u64,
+    kind: &Kind,
+) -> Result<Option<Held<'a>>, EvalError>
+    requires small { met.old ≤ limits.MOST_SIZE }
+    ensures value { IfOk result (λ seen. (p : Place) → Evaluated (mode_in scope.entry) (env_in scope.entry)
+        (kind_tree p kind.now) met.old met.new (seen_held seen)) }
+    ensures cause { IfErr result (λ e. (p : Place) → IsRefused (mode_in scope.entry) (env_in scope.entry)
+        (kind_tree p kind.now) met.old e) }
+{
+    match kind {
+        Kind::Read(matrix, indices) => {
+            let seen = value_of(scope, met, matrix)?;
+            let values = index_values(scope, met, indices)?;
+            let found = read(scope.alloc, seen, values)?;
+            let given = given_read(scope, matrix, indices, found)?;
+            Ok(given)
+        }
+        Kind::Literal(parts, domain) => {
+            let values = part_values(scope, met, parts)?;
+            let indices = index_set(scope, met, domain, parts.len())?;
+            let made = made_matrix(scope.alloc, indices, values)?;
+            Ok(made)
+        }
+        Kind::Comprehension(body, generators, conditions, domain) => {
+            let listing = Listing { body, conditions };
+            let none = Some(Vec::new(scope.alloc));
+            let values = generated(scope, met, listing, generators, none)?;
+            let count = count_of(&values);
+            let indices = index_set(scope, met, domain, count)?;
+            let made = made_matrix(scope.alloc, indices, values)?;
+            Ok(made)
+        }
         _ => list_value(scope, met, kind),
     }
 }
 
-/// The value of an expression that is one of lists, matrices or domains, whose own node is counted. No other kind comes
-/// to it.
+/// The value of an expression that is one of lists or of a domain, whose own node is counted. No other kind comes to it.
 #[cycle(evaluating)]
 fn list_value<'a>(
     scope: Scope<'_, 'a>,
@@ -217,6 +271,25 @@ fn list_value<'a>(
             let seen = value_of(scope, met, part)?;
             flattened(scope.alloc, &seen)
         }
+        _ => pair_value(scope, met, kind),
+    }
+}
+
+/// The value of an expression that compares two parts, or one of counts, whose own node is counted. No other kind comes to
+/// it.
+#[cycle(evaluating)]
+fn pair_value<'a>(
+    scope: Scope<'_, 'a>,
+    met: &mut u64,
+    kind: &Kind,
+) -> Result<Option<Held<'a>>, EvalError>
+    requires small { met.old ≤ limits.MOST_SIZE }
+    ensures value { IfOk result (λ seen. (p : Place) → Evaluated (mode_in scope.entry) (env_in scope.entry)
+        (kind_tree p kind.now) met.old met.new (seen_held seen)) }
+    ensures cause { IfErr result (λ e. (p : Place) → IsRefused (mode_in scope.entry) (env_in scope.entry)
+        (kind_tree p kind.now) met.old e) }
+{
+    match kind {
         Kind::Lex(op, left, right) => {
             let first = value_of(scope, met, left)?;
             let second = value_of(scope, met, right)?;
@@ -237,66 +310,41 @@ fn list_value<'a>(
             let second = value_of(scope, met, rows)?;
             look_up_row(scope.alloc, scope.env.mode(), &first, &second)
         }
+        _ => counts_value(scope, met, kind),
+    }
+}
+
+/// The value of an expression that counts the parts of a list, whose own node is counted. No other kind comes to it.
+#[cycle(evaluating)]
+fn counts_value<'a>(
+    scope: Scope<'_, 'a>,
+    met: &mut u64,
+    kind: &Kind,
+) -> Result<Option<Held<'a>>, EvalError>
+    requires small { met.old ≤ limits.MOST_SIZE }
+    ensures value { IfOk result (λ seen. (p : Place) → Evaluated (mode_in scope.entry) (env_in scope.entry)
+        (kind_tree p kind.now) met.old met.new (seen_held seen)) }
+    ensures cause { IfErr result (λ e. (p : Place) → IsRefused (mode_in scope.entry) (env_in scope.entry)
+        (kind_tree p kind.now) met.old e) }
+{
+    match kind {
         Kind::Gcc(part, values, counts) => {
             let first = value_of(scope, met, part)?;
             let second = value_of(scope, met, values)?;
             let third = value_of(scope, met, counts)?;
-            counting(
-                scope.alloc,
-                scope.env.mode(),
-                CompareOp::Equal,
-                &first,
-                &second,
-                &third,
-            )
+            compare_counts(scope, CompareOp::Equal, &first, &second, &third)
         }
         Kind::AtLeast(part, counts, values) => {
             let first = value_of(scope, met, part)?;
             let second = value_of(scope, met, counts)?;
             let third = value_of(scope, met, values)?;
-            counting(
-                scope.alloc,
-                scope.env.mode(),
-                CompareOp::AtLeast,
-                &first,
-                &third,
-                &second,
-            )
+            compare_counts(scope, CompareOp::AtLeast, &first, &third, &second)
         }
         Kind::AtMost(part, counts, values) => {
             let first = value_of(scope, met, part)?;
             let second = value_of(scope, met, counts)?;
             let third = value_of(scope, met, values)?;
-            counting(
-                scope.alloc,
-                scope.env.mode(),
-                CompareOp::AtMost,
-                &first,
-                &third,
-                &second,
-            )
-        }
-        Kind::Read(matrix, indices) => {
-            let seen = value_of(scope, met, matrix)?;
-            let values = index_values(scope, met, indices)?;
-            let found = read(scope.alloc, seen, values)?;
-            let given = given_read(scope, matrix, indices, found)?;
-            Ok(given)
-        }
-        Kind::Literal(parts, domain) => {
-            let values = part_values(scope, met, parts)?;
-            let indices = index_set(scope, met, domain, parts.len())?;
-            let made = made_matrix(scope.alloc, indices, values)?;
-            Ok(made)
-        }
-        Kind::Comprehension(body, generators, conditions, domain) => {
-            let listing = Listing { body, conditions };
-            let none = Some(Vec::new(scope.alloc));
-            let values = generated(scope, met, listing, generators, none)?;
-            let count = count_of(&values);
-            let indices = index_set(scope, met, domain, count)?;
-            let made = made_matrix(scope.alloc, indices, values)?;
-            Ok(made)
+            compare_counts(scope, CompareOp::AtMost, &first, &third, &second)
         }
         _ => Err(EvalError::Memory),
     }

@@ -21,17 +21,11 @@ mod operands;
 mod orders;
 mod powers;
 mod reads;
-#[cfg(test)]
-mod rows;
 mod rules;
 mod scalars;
 mod scopes;
 mod sets;
-#[cfg(test)]
-mod tests;
 mod totals;
-#[cfg(test)]
-mod type_tests;
 mod typing;
 mod walking;
 mod within;

@@ -33,7 +33,33 @@ pub(crate) fn push_expr(text: &mut Vec<u8>, e: &Expr) -> Result<(), AllocError>
         Kind::ToInt(e) => push_around(text, &["toInt", "("], e, &[")"]),
         Kind::Factorial(e) => push_around(text, &["factorial", "("], e, &[")"]),
         Kind::Flatten(m) => push_around(text, &["flatten", "("], m, &[")"]),
+        Kind::Fold(op, m) => push_around(text, &[fold_word(*op), "("], m, &[")"]),
+        Kind::AllDiff(m) => push_around(text, &["allDiff", "("], m, &[")"]),
         Kind::Add(terms) => push_chain(text, terms),
+        Kind::And(parts) => push_parts(text, "/\\", false, parts),
+        Kind::Or(parts) => push_parts(text, "\\/", false, parts),
+        Kind::Quant(op, names, d, e) => {
+            push_word(text, quantifier_word(*op))?;
+            push_names(text, names)?;
+            push_domain_around(text, &[":"], d, &["."])?;
+            push_expr(text, e)
+        }
+        Kind::Binary(_, _, _) | Kind::Compare(_, _, _) | Kind::Lex(_, _, _) => push_pair(text, e),
+        Kind::InDomain(_, _) | Kind::InSet(_, _) | Kind::Table(_, _) => push_pair(text, e),
+        Kind::Gcc(_, _, _) => push_counts(text, e),
+        Kind::AtLeast(_, _, _) | Kind::AtMost(_, _, _) => push_counts(text, e),
+        Kind::Literal(_, _) | Kind::Comprehension(_, _, _, _) => push_matrix(text, e),
+        Kind::Read(_, _) => push_matrix(text, e),
+    }
+}
+
+/// An expression of two parts. No other kind comes to it.
+#[cycle(putting)]
+#[tactic(auto, unfolding(crate::specs::Words::expr_words, crate::specs::Words::binary_words, crate::specs::Joining::with_between, ep_tree::specs::Views::kind_tree))]
+fn push_pair(text: &mut Vec<u8>, e: &Expr) -> Result<(), AllocError>
+    ensures { OnOk result (text.new.items ≡ text.old.items ++ spaced (expr_words (expr_tree e.now))) }
+{
+    match &e.kind {
         Kind::Binary(op, a, b) => {
             if is_called(*op) {
                 push_around(text, &[binary_word(*op), "("], a, &[","])?;
@@ -58,31 +84,21 @@ pub(crate) fn push_expr(text: &mut Vec<u8>, e: &Expr) -> Result<(), AllocError>
             push_around(text, &[], e, &["in", "toSet", "("])?;
             push_around(text, &[], m, &[")"])
         }
-        Kind::And(parts) => push_parts(text, "/\\", false, parts),
-        Kind::Or(parts) => push_parts(text, "\\/", false, parts),
-        Kind::Quant(op, names, d, e) => {
-            push_word(text, quantifier_word(*op))?;
-            push_names(text, names)?;
-            push_domain_around(text, &[":"], d, &["."])?;
-            push_expr(text, e)
+        Kind::Table(row, rows) => {
+            push_around(text, &["table", "("], row, &[","])?;
+            push_around(text, &[], rows, &[")"])
         }
-        Kind::Literal(parts, d) => {
-            push_word(text, "[")?;
-            push_parts(text, ",", false, parts)?;
-            push_index_domain(text, d)
-        }
-        Kind::Comprehension(e, gens, conditions, d) => {
-            push_around(text, &["["], e, &["|"])?;
-            push_generators(text, gens)?;
-            push_parts(text, ",", !gens.is_empty(), conditions)?;
-            push_index_domain(text, d)
-        }
-        Kind::Read(m, indices) => {
-            push_around(text, &[], m, &["["])?;
-            push_indices(text, indices)
-        }
-        Kind::Fold(op, m) => push_around(text, &[fold_word(*op), "("], m, &[")"]),
-        Kind::AllDiff(m) => push_around(text, &["allDiff", "("], m, &[")"]),
+        _ => Err(AllocError),
+    }
+}
+
+/// An expression that counts the parts of a list. No other kind comes to it.
+#[cycle(putting)]
+#[tactic(auto, unfolding(crate::specs::Words::expr_words, crate::specs::Words::binary_words, crate::specs::Joining::with_between, ep_tree::specs::Views::kind_tree))]
+fn push_counts(text: &mut Vec<u8>, e: &Expr) -> Result<(), AllocError>
+    ensures { OnOk result (text.new.items ≡ text.old.items ++ spaced (expr_words (expr_tree e.now))) }
+{
+    match &e.kind {
         Kind::Gcc(m, values, counts) => {
             push_around(text, &["gcc", "("], m, &[","])?;
             push_around(text, &[], values, &[","])?;
@@ -98,10 +114,33 @@ pub(crate) fn push_expr(text: &mut Vec<u8>, e: &Expr) -> Result<(), AllocError>
             push_around(text, &[], counts, &[","])?;
             push_around(text, &[], values, &[")"])
         }
-        Kind::Table(row, rows) => {
-            push_around(text, &["table", "("], row, &[","])?;
-            push_around(text, &[], rows, &[")"])
+        _ => Err(AllocError),
+    }
+}
+
+/// An expression that makes a matrix or reads one. No other kind comes to it.
+#[cycle(putting)]
+#[tactic(auto, unfolding(crate::specs::Words::expr_words, crate::specs::Words::binary_words, crate::specs::Joining::with_between, ep_tree::specs::Views::kind_tree))]
+fn push_matrix(text: &mut Vec<u8>, e: &Expr) -> Result<(), AllocError>
+    ensures { OnOk result (text.new.items ≡ text.old.items ++ spaced (expr_words (expr_tree e.now))) }
+{
+    match &e.kind {
+        Kind::Literal(parts, d) => {
+            push_word(text, "[")?;
+            push_parts(text, ",", false, parts)?;
+            push_index_domain(text, d)
         }
+        Kind::Comprehension(e, gens, conditions, d) => {
+            push_around(text, &["["], e, &["|"])?;
+            push_generators(text, gens)?;
+            push_parts(text, ",", !gens.is_empty(), conditions)?;
+            push_index_domain(text, d)
+        }
+        Kind::Read(m, indices) => {
+            push_around(text, &[], m, &["["])?;
+            push_indices(text, indices)
+        }
+        _ => Err(AllocError),
     }
 }
 

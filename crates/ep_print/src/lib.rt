@@ -11,8 +11,6 @@ mod operators;
 mod refusals;
 mod spaced;
 mod statements;
-#[cfg(test)]
-mod table;
 mod texts;
 mod values;
 

@@ -433,8 +433,8 @@ list_value-returns-in_err-seen-in-Flatten-clause-cause t c =
     (λ p. ap (kind_tree p) c.in-Flatten.is ∙ kind_tree-flatten p c.in-Flatten.part) c.deref-in-Flatten.ensures (meets_flatten mode env)
     c.in_err-seen-in-Flatten.field-0.0 c.in_err-seen-in-Flatten.ensures.cause)
 
-pub list_value-returns-in_ok-numbers-in-InDomain-clause-value : goal.list_value-returns-in_ok-numbers-in-InDomain-clause-value
-list_value-returns-in_ok-numbers-in-InDomain-clause-value t c =
+pub pair_value-returns-in_ok-numbers-in-InDomain-clause-value : goal.pair_value-returns-in_ok-numbers-in-InDomain-clause-value
+pair_value-returns-in_ok-numbers-in-InDomain-clause-value t c =
     within_value (mode_in c.args.scope) c.mode-in-InDomain.result (env_in c.args.scope) c.args.met.now c.value_of-in-InDomain.new.met c.numbers_of.new.met (seen_held c.within.result)
     c.args.kind.now c.deref-in-InDomain.result.now c.deref-in-InDomain-2.result.now (seen_held c.in_ok-seen-in-InDomain.seen) c.in_ok-numbers-in-InDomain.numbers
     (within_is c.args.kind.now c.in-InDomain.part.value c.deref-in-InDomain.result.now c.in-InDomain.domain.value c.deref-in-InDomain-2.result.now
@@ -442,8 +442,8 @@ list_value-returns-in_ok-numbers-in-InDomain-clause-value t c =
     c.in_ok-seen-in-InDomain.ensures.counted c.in_ok-seen-in-InDomain.ensures.value c.in_ok-numbers-in-InDomain.ensures.counted c.in_ok-numbers-in-InDomain.ensures.value
     c.mode-in-InDomain.ensures.mode c.within.ensures
 
-pub list_value-returns-in_err-seen-in-InDomain-clause-cause : goal.list_value-returns-in_err-seen-in-InDomain-clause-cause
-list_value-returns-in_err-seen-in-InDomain-clause-cause t c =
+pub pair_value-returns-in_err-seen-in-InDomain-clause-cause : goal.pair_value-returns-in_err-seen-in-InDomain-clause-cause
+pair_value-returns-in_err-seen-in-InDomain-clause-cause t c =
     let p = err_from_is_err_and c.from_residual-in_err-seen-in-InDomain.result c.from_residual-in_err-seen-in-InDomain.ensures.1 in
     rw (p.1, p.2)
     (within_first (mode_in c.args.scope) (env_in c.args.scope) c.args.met.now c.args.kind.now c.deref-in-InDomain.result.now c.in-InDomain.domain.value
@@ -451,8 +451,8 @@ list_value-returns-in_err-seen-in-InDomain-clause-cause t c =
     (λ p. ap (kind_tree p) c.in-InDomain.is ∙ kind_tree-in_domain p c.in-InDomain.part c.in-InDomain.domain) c.deref-in-InDomain.ensures refl)
     c.in_err-seen-in-InDomain.field-0.0 c.in_err-seen-in-InDomain.ensures.cause)
 
-pub list_value-returns-in_err-numbers-in-InDomain-clause-cause : goal.list_value-returns-in_err-numbers-in-InDomain-clause-cause
-list_value-returns-in_err-numbers-in-InDomain-clause-cause t c =
+pub pair_value-returns-in_err-numbers-in-InDomain-clause-cause : goal.pair_value-returns-in_err-numbers-in-InDomain-clause-cause
+pair_value-returns-in_err-numbers-in-InDomain-clause-cause t c =
     let p = err_from_is_err_and c.from_residual-in_err-numbers-in-InDomain.result c.from_residual-in_err-numbers-in-InDomain.ensures.1 in
     rw (p.1, p.2)
     (within_second (mode_in c.args.scope) (env_in c.args.scope) c.args.met.now c.value_of-in-InDomain.new.met c.args.kind.now c.deref-in-InDomain.result.now c.deref-in-InDomain-2.result.now
@@ -460,54 +460,54 @@ list_value-returns-in_err-numbers-in-InDomain-clause-cause t c =
     (λ p. ap (kind_tree p) c.in-InDomain.is ∙ kind_tree-in_domain p c.in-InDomain.part c.in-InDomain.domain) c.deref-in-InDomain.ensures c.deref-in-InDomain-2.ensures)
     c.in_ok-seen-in-InDomain.ensures.counted c.in_err-numbers-in-InDomain.field-0.0 c.in_err-numbers-in-InDomain.ensures.cause)
 
-pub list_value-returns-in_ok-second-in-Lex-clause-value : goal.list_value-returns-in_ok-second-in-Lex-clause-value
-list_value-returns-in_ok-second-in-Lex-clause-value t c =
+pub pair_value-returns-in_ok-second-in-Lex-clause-value : goal.pair_value-returns-in_ok-second-in-Lex-clause-value
+pair_value-returns-in_ok-second-in-Lex-clause-value t c =
     let mode = mode_in c.args.scope in
     let env = env_in c.args.scope in
     let op = c.in-Lex.op in
-    two_given mode c.mode-in-Lex.result env c.args.met.now c.value_of-in-Lex.new.met c.value_of-in-Lex-2.new.met
+    two_given mode c.mode.result env c.args.met.now c.value_of.new.met c.value_of-in-Lex.new.met
     (seen_held c.in_ok-first-in-Lex.first) (seen_held c.in_ok-second-in-Lex.second) (λ m s u. truth_in m (map_both (lex_holds op) (scalars_in s) (scalars_in u)))
-    (λ p. lex p op) c.args.kind.now c.in-Lex.left.value c.in-Lex.right.value c.deref-in-Lex.result.now c.deref-in-Lex-2.result.now c.lex_comparison.result
-    (λ p. ap (kind_tree p) c.in-Lex.is ∙ kind_tree-lex p op c.in-Lex.left c.in-Lex.right) c.deref-in-Lex.ensures c.deref-in-Lex-2.ensures (meets_lex mode env op) (λ p e f. evaluate-lex mode env p op e f)
+    (λ p. lex p op) c.args.kind.now c.in-Lex.left.value c.in-Lex.right.value c.deref.result.now c.deref-in-Lex.result.now c.lex_comparison.result
+    (λ p. ap (kind_tree p) c.in-Lex.is ∙ kind_tree-lex p op c.in-Lex.left c.in-Lex.right) c.deref.ensures c.deref-in-Lex.ensures (meets_lex mode env op) (λ p e f. evaluate-lex mode env p op e f)
     c.in_ok-first-in-Lex.ensures.counted c.in_ok-first-in-Lex.ensures.value
-    c.in_ok-second-in-Lex.ensures.counted c.in_ok-second-in-Lex.ensures.value c.mode-in-Lex.ensures.mode c.lex_comparison.ensures
+    c.in_ok-second-in-Lex.ensures.counted c.in_ok-second-in-Lex.ensures.value c.mode.ensures.mode c.lex_comparison.ensures
 
-pub list_value-returns-in_ok-second-in-Lex-clause-cause : goal.list_value-returns-in_ok-second-in-Lex-clause-cause
-list_value-returns-in_ok-second-in-Lex-clause-cause t c =
+pub pair_value-returns-in_ok-second-in-Lex-clause-cause : goal.pair_value-returns-in_ok-second-in-Lex-clause-cause
+pair_value-returns-in_ok-second-in-Lex-clause-cause t c =
     let mode = mode_in c.args.scope in
     let env = env_in c.args.scope in
     let op = c.in-Lex.op in
-    two_given_cause mode c.mode-in-Lex.result env c.args.met.now
+    two_given_cause mode c.mode.result env c.args.met.now
     (seen_held c.in_ok-first-in-Lex.first) (seen_held c.in_ok-second-in-Lex.second) (λ m s u. truth_in m (map_both (lex_holds op) (scalars_in s) (scalars_in u)))
-    (λ p. lex p op) c.args.kind.now c.in-Lex.left.value c.in-Lex.right.value c.deref-in-Lex.result.now c.deref-in-Lex-2.result.now c.lex_comparison.result
-    (λ p. ap (kind_tree p) c.in-Lex.is ∙ kind_tree-lex p op c.in-Lex.left c.in-Lex.right) c.deref-in-Lex.ensures c.deref-in-Lex-2.ensures (meets_lex mode env op) (λ p e f. evaluate-lex mode env p op e f)
-    c.in_ok-first-in-Lex.ensures.value c.in_ok-second-in-Lex.ensures.value c.mode-in-Lex.ensures.mode c.lex_comparison.ensures
+    (λ p. lex p op) c.args.kind.now c.in-Lex.left.value c.in-Lex.right.value c.deref.result.now c.deref-in-Lex.result.now c.lex_comparison.result
+    (λ p. ap (kind_tree p) c.in-Lex.is ∙ kind_tree-lex p op c.in-Lex.left c.in-Lex.right) c.deref.ensures c.deref-in-Lex.ensures (meets_lex mode env op) (λ p e f. evaluate-lex mode env p op e f)
+    c.in_ok-first-in-Lex.ensures.value c.in_ok-second-in-Lex.ensures.value c.mode.ensures.mode c.lex_comparison.ensures
 
-pub list_value-returns-in_err-first-in-Lex-clause-cause : goal.list_value-returns-in_err-first-in-Lex-clause-cause
-list_value-returns-in_err-first-in-Lex-clause-cause t c =
+pub pair_value-returns-in_err-first-in-Lex-clause-cause : goal.pair_value-returns-in_err-first-in-Lex-clause-cause
+pair_value-returns-in_err-first-in-Lex-clause-cause t c =
     let mode = mode_in c.args.scope in
     let env = env_in c.args.scope in
     let op = c.in-Lex.op in
-    let p = err_from_is_err_and c.from_residual-in_err-first-in-Lex.result c.from_residual-in_err-first-in-Lex.ensures.1 in
+    let p = err_from_is_err_and c.from_residual.result c.from_residual.ensures.1 in
     rw (p.1, p.2)
-    (first_cause mode env c.args.met.now (λ p. lex p op) c.args.kind.now c.in-Lex.left.value c.in-Lex.right.value c.deref-in-Lex.result.now
-    (λ p. ap (kind_tree p) c.in-Lex.is ∙ kind_tree-lex p op c.in-Lex.left c.in-Lex.right) c.deref-in-Lex.ensures
+    (first_cause mode env c.args.met.now (λ p. lex p op) c.args.kind.now c.in-Lex.left.value c.in-Lex.right.value c.deref.result.now
+    (λ p. ap (kind_tree p) c.in-Lex.is ∙ kind_tree-lex p op c.in-Lex.left c.in-Lex.right) c.deref.ensures
     (meets_lex mode env op) c.in_err-first-in-Lex.field-0.0 c.in_err-first-in-Lex.ensures.cause)
 
-pub list_value-returns-in_err-second-in-Lex-clause-cause : goal.list_value-returns-in_err-second-in-Lex-clause-cause
-list_value-returns-in_err-second-in-Lex-clause-cause t c =
+pub pair_value-returns-in_err-second-in-Lex-clause-cause : goal.pair_value-returns-in_err-second-in-Lex-clause-cause
+pair_value-returns-in_err-second-in-Lex-clause-cause t c =
     let mode = mode_in c.args.scope in
     let env = env_in c.args.scope in
     let op = c.in-Lex.op in
     let p = err_from_is_err_and c.from_residual-in_err-second-in-Lex.result c.from_residual-in_err-second-in-Lex.ensures.1 in
     rw (p.1, p.2)
-    (second_cause mode env c.args.met.now c.value_of-in-Lex.new.met (λ p. lex p op) c.args.kind.now c.in-Lex.left.value c.in-Lex.right.value c.deref-in-Lex.result.now c.deref-in-Lex-2.result.now
-    (λ p. ap (kind_tree p) c.in-Lex.is ∙ kind_tree-lex p op c.in-Lex.left c.in-Lex.right) c.deref-in-Lex.ensures c.deref-in-Lex-2.ensures
+    (second_cause mode env c.args.met.now c.value_of.new.met (λ p. lex p op) c.args.kind.now c.in-Lex.left.value c.in-Lex.right.value c.deref.result.now c.deref-in-Lex.result.now
+    (λ p. ap (kind_tree p) c.in-Lex.is ∙ kind_tree-lex p op c.in-Lex.left c.in-Lex.right) c.deref.ensures c.deref-in-Lex.ensures
     (meets_lex mode env op) c.in_ok-first-in-Lex.ensures.counted
     c.in_err-second-in-Lex.field-0.0 c.in_err-second-in-Lex.ensures.cause)
 
-pub list_value-returns-in_ok-second-in-InSet-clause-value : goal.list_value-returns-in_ok-second-in-InSet-clause-value
-list_value-returns-in_ok-second-in-InSet-clause-value t c =
+pub pair_value-returns-in_ok-second-in-InSet-clause-value : goal.pair_value-returns-in_ok-second-in-InSet-clause-value
+pair_value-returns-in_ok-second-in-InSet-clause-value t c =
     let mode = mode_in c.args.scope in
     let env = env_in c.args.scope in
     two_given mode c.mode-in-InSet.result env c.args.met.now c.value_of-in-InSet.new.met c.value_of-in-InSet-2.new.met
@@ -517,8 +517,8 @@ list_value-returns-in_ok-second-in-InSet-clause-value t c =
     c.in_ok-first-in-InSet.ensures.counted c.in_ok-first-in-InSet.ensures.value
     c.in_ok-second-in-InSet.ensures.counted c.in_ok-second-in-InSet.ensures.value c.mode-in-InSet.ensures.mode c.membership.ensures
 
-pub list_value-returns-in_ok-second-in-InSet-clause-cause : goal.list_value-returns-in_ok-second-in-InSet-clause-cause
-list_value-returns-in_ok-second-in-InSet-clause-cause t c =
+pub pair_value-returns-in_ok-second-in-InSet-clause-cause : goal.pair_value-returns-in_ok-second-in-InSet-clause-cause
+pair_value-returns-in_ok-second-in-InSet-clause-cause t c =
     let mode = mode_in c.args.scope in
     let env = env_in c.args.scope in
     two_given_cause mode c.mode-in-InSet.result env c.args.met.now
@@ -527,8 +527,8 @@ list_value-returns-in_ok-second-in-InSet-clause-cause t c =
     (λ p. ap (kind_tree p) c.in-InSet.is ∙ kind_tree-in_set p c.in-InSet.part c.in-InSet.set) c.deref-in-InSet.ensures c.deref-in-InSet-2.ensures (meets_in_set mode env) (evaluate-in_set mode env)
     c.in_ok-first-in-InSet.ensures.value c.in_ok-second-in-InSet.ensures.value c.mode-in-InSet.ensures.mode c.membership.ensures
 
-pub list_value-returns-in_err-first-in-InSet-clause-cause : goal.list_value-returns-in_err-first-in-InSet-clause-cause
-list_value-returns-in_err-first-in-InSet-clause-cause t c =
+pub pair_value-returns-in_err-first-in-InSet-clause-cause : goal.pair_value-returns-in_err-first-in-InSet-clause-cause
+pair_value-returns-in_err-first-in-InSet-clause-cause t c =
     let mode = mode_in c.args.scope in
     let env = env_in c.args.scope in
     let p = err_from_is_err_and c.from_residual-in_err-first-in-InSet.result c.from_residual-in_err-first-in-InSet.ensures.1 in
@@ -537,8 +537,8 @@ list_value-returns-in_err-first-in-InSet-clause-cause t c =
     (λ p. ap (kind_tree p) c.in-InSet.is ∙ kind_tree-in_set p c.in-InSet.part c.in-InSet.set) c.deref-in-InSet.ensures
     (meets_in_set mode env) c.in_err-first-in-InSet.field-0.0 c.in_err-first-in-InSet.ensures.cause)
 
-pub list_value-returns-in_err-second-in-InSet-clause-cause : goal.list_value-returns-in_err-second-in-InSet-clause-cause
-list_value-returns-in_err-second-in-InSet-clause-cause t c =
+pub pair_value-returns-in_err-second-in-InSet-clause-cause : goal.pair_value-returns-in_err-second-in-InSet-clause-cause
+pair_value-returns-in_err-second-in-InSet-clause-cause t c =
     let mode = mode_in c.args.scope in
     let env = env_in c.args.scope in
     let p = err_from_is_err_and c.from_residual-in_err-second-in-InSet.result c.from_residual-in_err-second-in-InSet.ensures.1 in
@@ -548,8 +548,8 @@ list_value-returns-in_err-second-in-InSet-clause-cause t c =
     (meets_in_set mode env) c.in_ok-first-in-InSet.ensures.counted
     c.in_err-second-in-InSet.field-0.0 c.in_err-second-in-InSet.ensures.cause)
 
-pub list_value-returns-in_ok-second-in-Table-clause-value : goal.list_value-returns-in_ok-second-in-Table-clause-value
-list_value-returns-in_ok-second-in-Table-clause-value t c =
+pub pair_value-returns-in_ok-second-in-Table-clause-value : goal.pair_value-returns-in_ok-second-in-Table-clause-value
+pair_value-returns-in_ok-second-in-Table-clause-value t c =
     let mode = mode_in c.args.scope in
     let env = env_in c.args.scope in
     two_given mode c.mode-in-Table.result env c.args.met.now c.value_of-in-Table.new.met c.value_of-in-Table-2.new.met
@@ -559,8 +559,8 @@ list_value-returns-in_ok-second-in-Table-clause-value t c =
     c.in_ok-first-in-Table.ensures.counted c.in_ok-first-in-Table.ensures.value
     c.in_ok-second-in-Table.ensures.counted c.in_ok-second-in-Table.ensures.value c.mode-in-Table.ensures.mode c.look_up_row.ensures
 
-pub list_value-returns-in_ok-second-in-Table-clause-cause : goal.list_value-returns-in_ok-second-in-Table-clause-cause
-list_value-returns-in_ok-second-in-Table-clause-cause t c =
+pub pair_value-returns-in_ok-second-in-Table-clause-cause : goal.pair_value-returns-in_ok-second-in-Table-clause-cause
+pair_value-returns-in_ok-second-in-Table-clause-cause t c =
     let mode = mode_in c.args.scope in
     let env = env_in c.args.scope in
     two_given_cause mode c.mode-in-Table.result env c.args.met.now
@@ -569,8 +569,8 @@ list_value-returns-in_ok-second-in-Table-clause-cause t c =
     (λ p. ap (kind_tree p) c.in-Table.is ∙ kind_tree-table p c.in-Table.row c.in-Table.rows) c.deref-in-Table.ensures c.deref-in-Table-2.ensures (meets_table mode env) (evaluate-table mode env)
     c.in_ok-first-in-Table.ensures.value c.in_ok-second-in-Table.ensures.value c.mode-in-Table.ensures.mode c.look_up_row.ensures
 
-pub list_value-returns-in_err-first-in-Table-clause-cause : goal.list_value-returns-in_err-first-in-Table-clause-cause
-list_value-returns-in_err-first-in-Table-clause-cause t c =
+pub pair_value-returns-in_err-first-in-Table-clause-cause : goal.pair_value-returns-in_err-first-in-Table-clause-cause
+pair_value-returns-in_err-first-in-Table-clause-cause t c =
     let mode = mode_in c.args.scope in
     let env = env_in c.args.scope in
     let p = err_from_is_err_and c.from_residual-in_err-first-in-Table.result c.from_residual-in_err-first-in-Table.ensures.1 in
@@ -579,8 +579,8 @@ list_value-returns-in_err-first-in-Table-clause-cause t c =
     (λ p. ap (kind_tree p) c.in-Table.is ∙ kind_tree-table p c.in-Table.row c.in-Table.rows) c.deref-in-Table.ensures
     (meets_table mode env) c.in_err-first-in-Table.field-0.0 c.in_err-first-in-Table.ensures.cause)
 
-pub list_value-returns-in_err-second-in-Table-clause-cause : goal.list_value-returns-in_err-second-in-Table-clause-cause
-list_value-returns-in_err-second-in-Table-clause-cause t c =
+pub pair_value-returns-in_err-second-in-Table-clause-cause : goal.pair_value-returns-in_err-second-in-Table-clause-cause
+pair_value-returns-in_err-second-in-Table-clause-cause t c =
     let mode = mode_in c.args.scope in
     let env = env_in c.args.scope in
     let p = err_from_is_err_and c.from_residual-in_err-second-in-Table.result c.from_residual-in_err-second-in-Table.ensures.1 in
@@ -590,89 +590,89 @@ list_value-returns-in_err-second-in-Table-clause-cause t c =
     (meets_table mode env) c.in_ok-first-in-Table.ensures.counted
     c.in_err-second-in-Table.field-0.0 c.in_err-second-in-Table.ensures.cause)
 
-pub list_value-returns-in_ok-third-in-Gcc-clause-value : goal.list_value-returns-in_ok-third-in-Gcc-clause-value
-list_value-returns-in_ok-third-in-Gcc-clause-value t c =
+pub counts_value-returns-in_ok-third-in-Gcc-clause-value : goal.counts_value-returns-in_ok-third-in-Gcc-clause-value
+counts_value-returns-in_ok-third-in-Gcc-clause-value t c =
     let mode = mode_in c.args.scope in
     let env = env_in c.args.scope in
-    three_given mode c.mode-in-Gcc.result env c.args.met.now c.value_of-in-Gcc.new.met c.value_of-in-Gcc-2.new.met c.value_of-in-Gcc-3.new.met
+    three_given mode mode env c.args.met.now c.value_of.new.met c.value_of-in-Gcc.new.met c.value_of-in-Gcc-2.new.met
     (seen_held c.in_ok-first-in-Gcc.first) (seen_held c.in_ok-second-in-Gcc.second) (seen_held c.in_ok-third-in-Gcc.third) (λ m s u w. truth_in m (on_three (scalars_in s) (scalars_in u) (scalars_in w) (counts_hold CompareOp.Equal)))
-    gcc c.args.kind.now c.deref-in-Gcc.result.now c.deref-in-Gcc-2.result.now c.deref-in-Gcc-3.result.now c.counting.result
-    (three c.args.kind.now gcc c.in-Gcc.part.value c.in-Gcc.values.value c.in-Gcc.counts.value c.deref-in-Gcc.result.now c.deref-in-Gcc-2.result.now c.deref-in-Gcc-3.result.now
-    (λ p. ap (kind_tree p) c.in-Gcc.is ∙ kind_tree-gcc p c.in-Gcc.part c.in-Gcc.values c.in-Gcc.counts) c.deref-in-Gcc.ensures c.deref-in-Gcc-2.ensures c.deref-in-Gcc-3.ensures) (meets_gcc mode env) (evaluate-gcc mode env)
+    gcc c.args.kind.now c.deref.result.now c.deref-in-Gcc.result.now c.deref-in-Gcc-2.result.now c.compare_counts.result
+    (three c.args.kind.now gcc c.in-Gcc.part.value c.in-Gcc.values.value c.in-Gcc.counts.value c.deref.result.now c.deref-in-Gcc.result.now c.deref-in-Gcc-2.result.now
+    (λ p. ap (kind_tree p) c.in-Gcc.is ∙ kind_tree-gcc p c.in-Gcc.part c.in-Gcc.values c.in-Gcc.counts) c.deref.ensures c.deref-in-Gcc.ensures c.deref-in-Gcc-2.ensures) (meets_gcc mode env) (evaluate-gcc mode env)
     c.in_ok-first-in-Gcc.ensures.counted c.in_ok-first-in-Gcc.ensures.value
     c.in_ok-second-in-Gcc.ensures.counted c.in_ok-second-in-Gcc.ensures.value
-    c.in_ok-third-in-Gcc.ensures.counted c.in_ok-third-in-Gcc.ensures.value c.mode-in-Gcc.ensures.mode c.counting.ensures
+    c.in_ok-third-in-Gcc.ensures.counted c.in_ok-third-in-Gcc.ensures.value refl c.compare_counts.ensures
 
-pub list_value-returns-in_ok-third-in-Gcc-clause-cause : goal.list_value-returns-in_ok-third-in-Gcc-clause-cause
-list_value-returns-in_ok-third-in-Gcc-clause-cause t c =
+pub counts_value-returns-in_ok-third-in-Gcc-clause-cause : goal.counts_value-returns-in_ok-third-in-Gcc-clause-cause
+counts_value-returns-in_ok-third-in-Gcc-clause-cause t c =
     let mode = mode_in c.args.scope in
     let env = env_in c.args.scope in
-    three_given_cause mode c.mode-in-Gcc.result env c.args.met.now
+    three_given_cause mode mode env c.args.met.now
     (seen_held c.in_ok-first-in-Gcc.first) (seen_held c.in_ok-second-in-Gcc.second) (seen_held c.in_ok-third-in-Gcc.third) (λ m s u w. truth_in m (on_three (scalars_in s) (scalars_in u) (scalars_in w) (counts_hold CompareOp.Equal)))
-    gcc c.args.kind.now c.deref-in-Gcc.result.now c.deref-in-Gcc-2.result.now c.deref-in-Gcc-3.result.now c.counting.result
-    (three c.args.kind.now gcc c.in-Gcc.part.value c.in-Gcc.values.value c.in-Gcc.counts.value c.deref-in-Gcc.result.now c.deref-in-Gcc-2.result.now c.deref-in-Gcc-3.result.now
-    (λ p. ap (kind_tree p) c.in-Gcc.is ∙ kind_tree-gcc p c.in-Gcc.part c.in-Gcc.values c.in-Gcc.counts) c.deref-in-Gcc.ensures c.deref-in-Gcc-2.ensures c.deref-in-Gcc-3.ensures) (meets_gcc mode env) (evaluate-gcc mode env)
-    c.in_ok-first-in-Gcc.ensures.value c.in_ok-second-in-Gcc.ensures.value c.in_ok-third-in-Gcc.ensures.value c.mode-in-Gcc.ensures.mode c.counting.ensures
+    gcc c.args.kind.now c.deref.result.now c.deref-in-Gcc.result.now c.deref-in-Gcc-2.result.now c.compare_counts.result
+    (three c.args.kind.now gcc c.in-Gcc.part.value c.in-Gcc.values.value c.in-Gcc.counts.value c.deref.result.now c.deref-in-Gcc.result.now c.deref-in-Gcc-2.result.now
+    (λ p. ap (kind_tree p) c.in-Gcc.is ∙ kind_tree-gcc p c.in-Gcc.part c.in-Gcc.values c.in-Gcc.counts) c.deref.ensures c.deref-in-Gcc.ensures c.deref-in-Gcc-2.ensures) (meets_gcc mode env) (evaluate-gcc mode env)
+    c.in_ok-first-in-Gcc.ensures.value c.in_ok-second-in-Gcc.ensures.value c.in_ok-third-in-Gcc.ensures.value refl c.compare_counts.ensures
 
-pub list_value-returns-in_err-first-in-Gcc-clause-cause : goal.list_value-returns-in_err-first-in-Gcc-clause-cause
-list_value-returns-in_err-first-in-Gcc-clause-cause t c =
+pub counts_value-returns-in_err-first-in-Gcc-clause-cause : goal.counts_value-returns-in_err-first-in-Gcc-clause-cause
+counts_value-returns-in_err-first-in-Gcc-clause-cause t c =
     let mode = mode_in c.args.scope in
     let env = env_in c.args.scope in
-    let p = err_from_is_err_and c.from_residual-in_err-first-in-Gcc.result c.from_residual-in_err-first-in-Gcc.ensures.1 in
+    let p = err_from_is_err_and c.from_residual.result c.from_residual.ensures.1 in
     rw (p.1, p.2)
-    (three_first mode env c.args.met.now gcc c.args.kind.now c.deref-in-Gcc.result.now c.in-Gcc.values.value c.in-Gcc.counts.value
-    (three c.args.kind.now gcc c.in-Gcc.part.value c.in-Gcc.values.value c.in-Gcc.counts.value c.deref-in-Gcc.result.now c.in-Gcc.values.value c.in-Gcc.counts.value
-    (λ p. ap (kind_tree p) c.in-Gcc.is ∙ kind_tree-gcc p c.in-Gcc.part c.in-Gcc.values c.in-Gcc.counts) c.deref-in-Gcc.ensures refl refl) (meets_gcc mode env)
+    (three_first mode env c.args.met.now gcc c.args.kind.now c.deref.result.now c.in-Gcc.values.value c.in-Gcc.counts.value
+    (three c.args.kind.now gcc c.in-Gcc.part.value c.in-Gcc.values.value c.in-Gcc.counts.value c.deref.result.now c.in-Gcc.values.value c.in-Gcc.counts.value
+    (λ p. ap (kind_tree p) c.in-Gcc.is ∙ kind_tree-gcc p c.in-Gcc.part c.in-Gcc.values c.in-Gcc.counts) c.deref.ensures refl refl) (meets_gcc mode env)
     c.in_err-first-in-Gcc.field-0.0 c.in_err-first-in-Gcc.ensures.cause)
 
-pub list_value-returns-in_err-second-in-Gcc-clause-cause : goal.list_value-returns-in_err-second-in-Gcc-clause-cause
-list_value-returns-in_err-second-in-Gcc-clause-cause t c =
+pub counts_value-returns-in_err-second-in-Gcc-clause-cause : goal.counts_value-returns-in_err-second-in-Gcc-clause-cause
+counts_value-returns-in_err-second-in-Gcc-clause-cause t c =
     let mode = mode_in c.args.scope in
     let env = env_in c.args.scope in
     let p = err_from_is_err_and c.from_residual-in_err-second-in-Gcc.result c.from_residual-in_err-second-in-Gcc.ensures.1 in
     rw (p.1, p.2)
-    (three_second mode env c.args.met.now c.value_of-in-Gcc.new.met gcc c.args.kind.now c.deref-in-Gcc.result.now c.deref-in-Gcc-2.result.now c.in-Gcc.counts.value
-    (three c.args.kind.now gcc c.in-Gcc.part.value c.in-Gcc.values.value c.in-Gcc.counts.value c.deref-in-Gcc.result.now c.deref-in-Gcc-2.result.now c.in-Gcc.counts.value
-    (λ p. ap (kind_tree p) c.in-Gcc.is ∙ kind_tree-gcc p c.in-Gcc.part c.in-Gcc.values c.in-Gcc.counts) c.deref-in-Gcc.ensures c.deref-in-Gcc-2.ensures refl) (meets_gcc mode env) c.in_ok-first-in-Gcc.ensures.counted
+    (three_second mode env c.args.met.now c.value_of.new.met gcc c.args.kind.now c.deref.result.now c.deref-in-Gcc.result.now c.in-Gcc.counts.value
+    (three c.args.kind.now gcc c.in-Gcc.part.value c.in-Gcc.values.value c.in-Gcc.counts.value c.deref.result.now c.deref-in-Gcc.result.now c.in-Gcc.counts.value
+    (λ p. ap (kind_tree p) c.in-Gcc.is ∙ kind_tree-gcc p c.in-Gcc.part c.in-Gcc.values c.in-Gcc.counts) c.deref.ensures c.deref-in-Gcc.ensures refl) (meets_gcc mode env) c.in_ok-first-in-Gcc.ensures.counted
     c.in_err-second-in-Gcc.field-0.0 c.in_err-second-in-Gcc.ensures.cause)
 
-pub list_value-returns-in_err-third-in-Gcc-clause-cause : goal.list_value-returns-in_err-third-in-Gcc-clause-cause
-list_value-returns-in_err-third-in-Gcc-clause-cause t c =
+pub counts_value-returns-in_err-third-in-Gcc-clause-cause : goal.counts_value-returns-in_err-third-in-Gcc-clause-cause
+counts_value-returns-in_err-third-in-Gcc-clause-cause t c =
     let mode = mode_in c.args.scope in
     let env = env_in c.args.scope in
     let p = err_from_is_err_and c.from_residual-in_err-third-in-Gcc.result c.from_residual-in_err-third-in-Gcc.ensures.1 in
     rw (p.1, p.2)
-    (three_third mode env c.args.met.now c.value_of-in-Gcc.new.met c.value_of-in-Gcc-2.new.met gcc c.args.kind.now c.deref-in-Gcc.result.now c.deref-in-Gcc-2.result.now c.deref-in-Gcc-3.result.now
-    (three c.args.kind.now gcc c.in-Gcc.part.value c.in-Gcc.values.value c.in-Gcc.counts.value c.deref-in-Gcc.result.now c.deref-in-Gcc-2.result.now c.deref-in-Gcc-3.result.now
-    (λ p. ap (kind_tree p) c.in-Gcc.is ∙ kind_tree-gcc p c.in-Gcc.part c.in-Gcc.values c.in-Gcc.counts) c.deref-in-Gcc.ensures c.deref-in-Gcc-2.ensures c.deref-in-Gcc-3.ensures) (meets_gcc mode env) c.in_ok-first-in-Gcc.ensures.counted c.in_ok-second-in-Gcc.ensures.counted
+    (three_third mode env c.args.met.now c.value_of.new.met c.value_of-in-Gcc.new.met gcc c.args.kind.now c.deref.result.now c.deref-in-Gcc.result.now c.deref-in-Gcc-2.result.now
+    (three c.args.kind.now gcc c.in-Gcc.part.value c.in-Gcc.values.value c.in-Gcc.counts.value c.deref.result.now c.deref-in-Gcc.result.now c.deref-in-Gcc-2.result.now
+    (λ p. ap (kind_tree p) c.in-Gcc.is ∙ kind_tree-gcc p c.in-Gcc.part c.in-Gcc.values c.in-Gcc.counts) c.deref.ensures c.deref-in-Gcc.ensures c.deref-in-Gcc-2.ensures) (meets_gcc mode env) c.in_ok-first-in-Gcc.ensures.counted c.in_ok-second-in-Gcc.ensures.counted
     c.in_err-third-in-Gcc.field-0.0 c.in_err-third-in-Gcc.ensures.cause)
 
-pub list_value-returns-in_ok-third-in-AtLeast-clause-value : goal.list_value-returns-in_ok-third-in-AtLeast-clause-value
-list_value-returns-in_ok-third-in-AtLeast-clause-value t c =
+pub counts_value-returns-in_ok-third-in-AtLeast-clause-value : goal.counts_value-returns-in_ok-third-in-AtLeast-clause-value
+counts_value-returns-in_ok-third-in-AtLeast-clause-value t c =
     let mode = mode_in c.args.scope in
     let env = env_in c.args.scope in
-    three_given mode c.mode-in-AtLeast.result env c.args.met.now c.value_of-in-AtLeast.new.met c.value_of-in-AtLeast-2.new.met c.value_of-in-AtLeast-3.new.met
+    three_given mode mode env c.args.met.now c.value_of-in-AtLeast.new.met c.value_of-in-AtLeast-2.new.met c.value_of-in-AtLeast-3.new.met
     (seen_held c.in_ok-first-in-AtLeast.first) (seen_held c.in_ok-second-in-AtLeast.second) (seen_held c.in_ok-third-in-AtLeast.third) (λ m s u w. truth_in m (on_three (scalars_in s) (scalars_in w) (scalars_in u) (counts_hold CompareOp.AtLeast)))
-    at_least c.args.kind.now c.deref-in-AtLeast.result.now c.deref-in-AtLeast-2.result.now c.deref-in-AtLeast-3.result.now c.counting-in-AtLeast.result
+    at_least c.args.kind.now c.deref-in-AtLeast.result.now c.deref-in-AtLeast-2.result.now c.deref-in-AtLeast-3.result.now c.compare_counts-in-AtLeast.result
     (three c.args.kind.now at_least c.in-AtLeast.part.value c.in-AtLeast.counts.value c.in-AtLeast.values.value c.deref-in-AtLeast.result.now c.deref-in-AtLeast-2.result.now c.deref-in-AtLeast-3.result.now
     (λ p. ap (kind_tree p) c.in-AtLeast.is ∙ kind_tree-at_least p c.in-AtLeast.part c.in-AtLeast.counts c.in-AtLeast.values) c.deref-in-AtLeast.ensures c.deref-in-AtLeast-2.ensures c.deref-in-AtLeast-3.ensures) (meets_at_least mode env) (evaluate-at_least mode env)
     c.in_ok-first-in-AtLeast.ensures.counted c.in_ok-first-in-AtLeast.ensures.value
     c.in_ok-second-in-AtLeast.ensures.counted c.in_ok-second-in-AtLeast.ensures.value
-    c.in_ok-third-in-AtLeast.ensures.counted c.in_ok-third-in-AtLeast.ensures.value c.mode-in-AtLeast.ensures.mode c.counting-in-AtLeast.ensures
+    c.in_ok-third-in-AtLeast.ensures.counted c.in_ok-third-in-AtLeast.ensures.value refl c.compare_counts-in-AtLeast.ensures
 
-pub list_value-returns-in_ok-third-in-AtLeast-clause-cause : goal.list_value-returns-in_ok-third-in-AtLeast-clause-cause
-list_value-returns-in_ok-third-in-AtLeast-clause-cause t c =
+pub counts_value-returns-in_ok-third-in-AtLeast-clause-cause : goal.counts_value-returns-in_ok-third-in-AtLeast-clause-cause
+counts_value-returns-in_ok-third-in-AtLeast-clause-cause t c =
     let mode = mode_in c.args.scope in
     let env = env_in c.args.scope in
-    three_given_cause mode c.mode-in-AtLeast.result env c.args.met.now
+    three_given_cause mode mode env c.args.met.now
     (seen_held c.in_ok-first-in-AtLeast.first) (seen_held c.in_ok-second-in-AtLeast.second) (seen_held c.in_ok-third-in-AtLeast.third) (λ m s u w. truth_in m (on_three (scalars_in s) (scalars_in w) (scalars_in u) (counts_hold CompareOp.AtLeast)))
-    at_least c.args.kind.now c.deref-in-AtLeast.result.now c.deref-in-AtLeast-2.result.now c.deref-in-AtLeast-3.result.now c.counting-in-AtLeast.result
+    at_least c.args.kind.now c.deref-in-AtLeast.result.now c.deref-in-AtLeast-2.result.now c.deref-in-AtLeast-3.result.now c.compare_counts-in-AtLeast.result
     (three c.args.kind.now at_least c.in-AtLeast.part.value c.in-AtLeast.counts.value c.in-AtLeast.values.value c.deref-in-AtLeast.result.now c.deref-in-AtLeast-2.result.now c.deref-in-AtLeast-3.result.now
     (λ p. ap (kind_tree p) c.in-AtLeast.is ∙ kind_tree-at_least p c.in-AtLeast.part c.in-AtLeast.counts c.in-AtLeast.values) c.deref-in-AtLeast.ensures c.deref-in-AtLeast-2.ensures c.deref-in-AtLeast-3.ensures) (meets_at_least mode env) (evaluate-at_least mode env)
-    c.in_ok-first-in-AtLeast.ensures.value c.in_ok-second-in-AtLeast.ensures.value c.in_ok-third-in-AtLeast.ensures.value c.mode-in-AtLeast.ensures.mode c.counting-in-AtLeast.ensures
+    c.in_ok-first-in-AtLeast.ensures.value c.in_ok-second-in-AtLeast.ensures.value c.in_ok-third-in-AtLeast.ensures.value refl c.compare_counts-in-AtLeast.ensures
 
-pub list_value-returns-in_err-first-in-AtLeast-clause-cause : goal.list_value-returns-in_err-first-in-AtLeast-clause-cause
-list_value-returns-in_err-first-in-AtLeast-clause-cause t c =
+pub counts_value-returns-in_err-first-in-AtLeast-clause-cause : goal.counts_value-returns-in_err-first-in-AtLeast-clause-cause
+counts_value-returns-in_err-first-in-AtLeast-clause-cause t c =
     let mode = mode_in c.args.scope in
     let env = env_in c.args.scope in
     let p = err_from_is_err_and c.from_residual-in_err-first-in-AtLeast.result c.from_residual-in_err-first-in-AtLeast.ensures.1 in
@@ -682,8 +682,8 @@ list_value-returns-in_err-first-in-AtLeast-clause-cause t c =
     (λ p. ap (kind_tree p) c.in-AtLeast.is ∙ kind_tree-at_least p c.in-AtLeast.part c.in-AtLeast.counts c.in-AtLeast.values) c.deref-in-AtLeast.ensures refl refl) (meets_at_least mode env)
     c.in_err-first-in-AtLeast.field-0.0 c.in_err-first-in-AtLeast.ensures.cause)
 
-pub list_value-returns-in_err-second-in-AtLeast-clause-cause : goal.list_value-returns-in_err-second-in-AtLeast-clause-cause
-list_value-returns-in_err-second-in-AtLeast-clause-cause t c =
+pub counts_value-returns-in_err-second-in-AtLeast-clause-cause : goal.counts_value-returns-in_err-second-in-AtLeast-clause-cause
+counts_value-returns-in_err-second-in-AtLeast-clause-cause t c =
     let mode = mode_in c.args.scope in
     let env = env_in c.args.scope in
     let p = err_from_is_err_and c.from_residual-in_err-second-in-AtLeast.result c.from_residual-in_err-second-in-AtLeast.ensures.1 in
@@ -693,8 +693,8 @@ list_value-returns-in_err-second-in-AtLeast-clause-cause t c =
     (λ p. ap (kind_tree p) c.in-AtLeast.is ∙ kind_tree-at_least p c.in-AtLeast.part c.in-AtLeast.counts c.in-AtLeast.values) c.deref-in-AtLeast.ensures c.deref-in-AtLeast-2.ensures refl) (meets_at_least mode env) c.in_ok-first-in-AtLeast.ensures.counted
     c.in_err-second-in-AtLeast.field-0.0 c.in_err-second-in-AtLeast.ensures.cause)
 
-pub list_value-returns-in_err-third-in-AtLeast-clause-cause : goal.list_value-returns-in_err-third-in-AtLeast-clause-cause
-list_value-returns-in_err-third-in-AtLeast-clause-cause t c =
+pub counts_value-returns-in_err-third-in-AtLeast-clause-cause : goal.counts_value-returns-in_err-third-in-AtLeast-clause-cause
+counts_value-returns-in_err-third-in-AtLeast-clause-cause t c =
     let mode = mode_in c.args.scope in
     let env = env_in c.args.scope in
     let p = err_from_is_err_and c.from_residual-in_err-third-in-AtLeast.result c.from_residual-in_err-third-in-AtLeast.ensures.1 in
@@ -704,32 +704,32 @@ list_value-returns-in_err-third-in-AtLeast-clause-cause t c =
     (λ p. ap (kind_tree p) c.in-AtLeast.is ∙ kind_tree-at_least p c.in-AtLeast.part c.in-AtLeast.counts c.in-AtLeast.values) c.deref-in-AtLeast.ensures c.deref-in-AtLeast-2.ensures c.deref-in-AtLeast-3.ensures) (meets_at_least mode env) c.in_ok-first-in-AtLeast.ensures.counted c.in_ok-second-in-AtLeast.ensures.counted
     c.in_err-third-in-AtLeast.field-0.0 c.in_err-third-in-AtLeast.ensures.cause)
 
-pub list_value-returns-in_ok-third-in-AtMost-clause-value : goal.list_value-returns-in_ok-third-in-AtMost-clause-value
-list_value-returns-in_ok-third-in-AtMost-clause-value t c =
+pub counts_value-returns-in_ok-third-in-AtMost-clause-value : goal.counts_value-returns-in_ok-third-in-AtMost-clause-value
+counts_value-returns-in_ok-third-in-AtMost-clause-value t c =
     let mode = mode_in c.args.scope in
     let env = env_in c.args.scope in
-    three_given mode c.mode-in-AtMost.result env c.args.met.now c.value_of-in-AtMost.new.met c.value_of-in-AtMost-2.new.met c.value_of-in-AtMost-3.new.met
+    three_given mode mode env c.args.met.now c.value_of-in-AtMost.new.met c.value_of-in-AtMost-2.new.met c.value_of-in-AtMost-3.new.met
     (seen_held c.in_ok-first-in-AtMost.first) (seen_held c.in_ok-second-in-AtMost.second) (seen_held c.in_ok-third-in-AtMost.third) (λ m s u w. truth_in m (on_three (scalars_in s) (scalars_in w) (scalars_in u) (counts_hold CompareOp.AtMost)))
-    at_most c.args.kind.now c.deref-in-AtMost.result.now c.deref-in-AtMost-2.result.now c.deref-in-AtMost-3.result.now c.counting-in-AtMost.result
+    at_most c.args.kind.now c.deref-in-AtMost.result.now c.deref-in-AtMost-2.result.now c.deref-in-AtMost-3.result.now c.compare_counts-in-AtMost.result
     (three c.args.kind.now at_most c.in-AtMost.part.value c.in-AtMost.counts.value c.in-AtMost.values.value c.deref-in-AtMost.result.now c.deref-in-AtMost-2.result.now c.deref-in-AtMost-3.result.now
     (λ p. ap (kind_tree p) c.in-AtMost.is ∙ kind_tree-at_most p c.in-AtMost.part c.in-AtMost.counts c.in-AtMost.values) c.deref-in-AtMost.ensures c.deref-in-AtMost-2.ensures c.deref-in-AtMost-3.ensures) (meets_at_most mode env) (evaluate-at_most mode env)
     c.in_ok-first-in-AtMost.ensures.counted c.in_ok-first-in-AtMost.ensures.value
     c.in_ok-second-in-AtMost.ensures.counted c.in_ok-second-in-AtMost.ensures.value
-    c.in_ok-third-in-AtMost.ensures.counted c.in_ok-third-in-AtMost.ensures.value c.mode-in-AtMost.ensures.mode c.counting-in-AtMost.ensures
+    c.in_ok-third-in-AtMost.ensures.counted c.in_ok-third-in-AtMost.ensures.value refl c.compare_counts-in-AtMost.ensures
 
-pub list_value-returns-in_ok-third-in-AtMost-clause-cause : goal.list_value-returns-in_ok-third-in-AtMost-clause-cause
-list_value-returns-in_ok-third-in-AtMost-clause-cause t c =
+pub counts_value-returns-in_ok-third-in-AtMost-clause-cause : goal.counts_value-returns-in_ok-third-in-AtMost-clause-cause
+counts_value-returns-in_ok-third-in-AtMost-clause-cause t c =
     let mode = mode_in c.args.scope in
     let env = env_in c.args.scope in
-    three_given_cause mode c.mode-in-AtMost.result env c.args.met.now
+    three_given_cause mode mode env c.args.met.now
     (seen_held c.in_ok-first-in-AtMost.first) (seen_held c.in_ok-second-in-AtMost.second) (seen_held c.in_ok-third-in-AtMost.third) (λ m s u w. truth_in m (on_three (scalars_in s) (scalars_in w) (scalars_in u) (counts_hold CompareOp.AtMost)))
-    at_most c.args.kind.now c.deref-in-AtMost.result.now c.deref-in-AtMost-2.result.now c.deref-in-AtMost-3.result.now c.counting-in-AtMost.result
+    at_most c.args.kind.now c.deref-in-AtMost.result.now c.deref-in-AtMost-2.result.now c.deref-in-AtMost-3.result.now c.compare_counts-in-AtMost.result
     (three c.args.kind.now at_most c.in-AtMost.part.value c.in-AtMost.counts.value c.in-AtMost.values.value c.deref-in-AtMost.result.now c.deref-in-AtMost-2.result.now c.deref-in-AtMost-3.result.now
     (λ p. ap (kind_tree p) c.in-AtMost.is ∙ kind_tree-at_most p c.in-AtMost.part c.in-AtMost.counts c.in-AtMost.values) c.deref-in-AtMost.ensures c.deref-in-AtMost-2.ensures c.deref-in-AtMost-3.ensures) (meets_at_most mode env) (evaluate-at_most mode env)
-    c.in_ok-first-in-AtMost.ensures.value c.in_ok-second-in-AtMost.ensures.value c.in_ok-third-in-AtMost.ensures.value c.mode-in-AtMost.ensures.mode c.counting-in-AtMost.ensures
+    c.in_ok-first-in-AtMost.ensures.value c.in_ok-second-in-AtMost.ensures.value c.in_ok-third-in-AtMost.ensures.value refl c.compare_counts-in-AtMost.ensures
 
-pub list_value-returns-in_err-first-in-AtMost-clause-cause : goal.list_value-returns-in_err-first-in-AtMost-clause-cause
-list_value-returns-in_err-first-in-AtMost-clause-cause t c =
+pub counts_value-returns-in_err-first-in-AtMost-clause-cause : goal.counts_value-returns-in_err-first-in-AtMost-clause-cause
+counts_value-returns-in_err-first-in-AtMost-clause-cause t c =
     let mode = mode_in c.args.scope in
     let env = env_in c.args.scope in
     let p = err_from_is_err_and c.from_residual-in_err-first-in-AtMost.result c.from_residual-in_err-first-in-AtMost.ensures.1 in
@@ -739,8 +739,8 @@ list_value-returns-in_err-first-in-AtMost-clause-cause t c =
     (λ p. ap (kind_tree p) c.in-AtMost.is ∙ kind_tree-at_most p c.in-AtMost.part c.in-AtMost.counts c.in-AtMost.values) c.deref-in-AtMost.ensures refl refl) (meets_at_most mode env)
     c.in_err-first-in-AtMost.field-0.0 c.in_err-first-in-AtMost.ensures.cause)
 
-pub list_value-returns-in_err-second-in-AtMost-clause-cause : goal.list_value-returns-in_err-second-in-AtMost-clause-cause
-list_value-returns-in_err-second-in-AtMost-clause-cause t c =
+pub counts_value-returns-in_err-second-in-AtMost-clause-cause : goal.counts_value-returns-in_err-second-in-AtMost-clause-cause
+counts_value-returns-in_err-second-in-AtMost-clause-cause t c =
     let mode = mode_in c.args.scope in
     let env = env_in c.args.scope in
     let p = err_from_is_err_and c.from_residual-in_err-second-in-AtMost.result c.from_residual-in_err-second-in-AtMost.ensures.1 in
@@ -750,8 +750,8 @@ list_value-returns-in_err-second-in-AtMost-clause-cause t c =
     (λ p. ap (kind_tree p) c.in-AtMost.is ∙ kind_tree-at_most p c.in-AtMost.part c.in-AtMost.counts c.in-AtMost.values) c.deref-in-AtMost.ensures c.deref-in-AtMost-2.ensures refl) (meets_at_most mode env) c.in_ok-first-in-AtMost.ensures.counted
     c.in_err-second-in-AtMost.field-0.0 c.in_err-second-in-AtMost.ensures.cause)
 
-pub list_value-returns-in_err-third-in-AtMost-clause-cause : goal.list_value-returns-in_err-third-in-AtMost-clause-cause
-list_value-returns-in_err-third-in-AtMost-clause-cause t c =
+pub counts_value-returns-in_err-third-in-AtMost-clause-cause : goal.counts_value-returns-in_err-third-in-AtMost-clause-cause
+counts_value-returns-in_err-third-in-AtMost-clause-cause t c =
     let mode = mode_in c.args.scope in
     let env = env_in c.args.scope in
     let p = err_from_is_err_and c.from_residual-in_err-third-in-AtMost.result c.from_residual-in_err-third-in-AtMost.ensures.1 in
@@ -1528,54 +1528,54 @@ index_values-returns-clause-value t c =
     ∙ indices_value (mode_in c.args.scope) (env_in c.args.scope) c.args.met.now c.loop-index.met c.args.indices.now _ (option_map (λ v. v.items) c.loop-index.values) c.loop-index.invariant
     (drop_all c.loop-index.index-index c.args.indices.now c.loop-index-test.false)
 
-pub list_value-returns-in_ok-given-in-Read-clause-value : goal.list_value-returns-in_ok-given-in-Read-clause-value
-list_value-returns-in_ok-given-in-Read-clause-value t c =
+pub matrix_value-returns-in_ok-given-in-Read-clause-value : goal.matrix_value-returns-in_ok-given-in-Read-clause-value
+matrix_value-returns-in_ok-given-in-Read-clause-value t c =
     let mode = mode_in c.args.scope in
     let env = env_in c.args.scope in
-    let m = expr_tree c.deref-in-Read.result.now in
-    let is = indices_of c.deref-in-Read-2.result.now in
+    let m = expr_tree c.deref.result.now in
+    let is = indices_of c.deref-in-Read.result.now in
     let values = c.in_ok-values-in-Read.values in
     form_value mode env (met mode env m ++ met_indices mode env is) c.args.met.now c.index_values.new.met (seen_held c.in_ok-given-in-Read.given) (λ q. read q m is) c.args.kind.now
     (λ q. ap (kind_tree q) c.in-Read.is ∙ kind_tree-read q c.in-Read.matrix c.in-Read.indices
-    ∙ ap (λ x. read q (expr_tree x) (indices_of c.in-Read.indices.items)) (sym c.deref-in-Read.ensures) ∙ ap (λ l. read q m (indices_of l)) (sym c.deref-in-Read-2.ensures.value))
+    ∙ ap (λ x. read q (expr_tree x) (indices_of c.in-Read.indices.items)) (sym c.deref.ensures) ∙ ap (λ l. read q m (indices_of l)) (sym c.deref-in-Read.ensures.value))
     (λ q. meets_read mode env q m is)
-    (counted_append mode c.args.met.now c.value_of-in-Read.new.met c.index_values.new.met (met mode env m) (met_indices mode env is)
+    (counted_append mode c.args.met.now c.value_of.new.met c.index_values.new.met (met mode env m) (met_indices mode env is)
     c.in_ok-seen-in-Read.ensures.counted c.in_ok-values-in-Read.ensures.counted)
     (λ q. evaluate-read mode env q m is
     ∙ ap (λ o. read_result mode (type_in env (read q m is)) (on_both o (evaluate mode env m) read_value)) (sym c.in_ok-values-in-Read.ensures.value)
     ∙ ap (λ s. read_result mode (type_in env (read q m is)) (on_both (option_map (λ v. indices_in v.items) values) s read_value)) c.in_ok-seen-in-Read.ensures.value
     ∙ ap (read_result mode (type_in env (read q m is))) (sym c.in_ok-found-in-Read.ensures)
-    ∙ ap (λ x. read_result mode (type_in env (read q (expr_tree x) is)) (seen_held c.in_ok-found-in-Read.found)) (c.deref-in-Read.ensures ∙ sym c.deref-in-Read-3.ensures)
-    ∙ ap (λ l. read_result mode (type_in env (read q (expr_tree c.deref-in-Read-3.result.now) (indices_of l))) (seen_held c.in_ok-found-in-Read.found))
-    (c.deref-in-Read-2.ensures.value ∙ sym c.deref-in-Read-4.ensures.value)
+    ∙ ap (λ x. read_result mode (type_in env (read q (expr_tree x) is)) (seen_held c.in_ok-found-in-Read.found)) (c.deref.ensures ∙ sym c.deref-in-Read-2.ensures)
+    ∙ ap (λ l. read_result mode (type_in env (read q (expr_tree c.deref-in-Read-2.result.now) (indices_of l))) (seen_held c.in_ok-found-in-Read.found))
+    (c.deref-in-Read.ensures.value ∙ sym c.deref-in-Read-3.ensures.value)
     ∙ sym (c.in_ok-given-in-Read.ensures q))
 
-pub list_value-returns-in_err-seen-in-Read-clause-cause : goal.list_value-returns-in_err-seen-in-Read-clause-cause
-list_value-returns-in_err-seen-in-Read-clause-cause t c =
+pub matrix_value-returns-in_err-seen-in-Read-clause-cause : goal.matrix_value-returns-in_err-seen-in-Read-clause-cause
+matrix_value-returns-in_err-seen-in-Read-clause-cause t c =
     let mode = mode_in c.args.scope in
     let env = env_in c.args.scope in
-    let m = expr_tree c.deref-in-Read.result.now in
+    let m = expr_tree c.deref.result.now in
     let is = indices_of c.in-Read.indices.items in
-    let r = err_from_is_err_and c.from_residual-in_err-seen-in-Read.result c.from_residual-in_err-seen-in-Read.ensures.1 in
+    let r = err_from_is_err_and c.from_residual.result c.from_residual.ensures.1 in
     rw (r.1, r.2)
     (form_cause mode env (met mode env m ++ met_indices mode env is) c.args.met.now (λ q. read q m is) c.args.kind.now
-    (λ q. ap (kind_tree q) c.in-Read.is ∙ kind_tree-read q c.in-Read.matrix c.in-Read.indices ∙ ap (λ x. read q (expr_tree x) is) (sym c.deref-in-Read.ensures))
+    (λ q. ap (kind_tree q) c.in-Read.is ∙ kind_tree-read q c.in-Read.matrix c.in-Read.indices ∙ ap (λ x. read q (expr_tree x) is) (sym c.deref.ensures))
     (λ q. meets_read mode env q m is) c.in_err-seen-in-Read.field-0.0
     (cause_first mode c.args.met.now (met mode env m) (met_indices mode env is) c.in_err-seen-in-Read.field-0.0 c.in_err-seen-in-Read.ensures.cause))
 
-pub list_value-returns-in_err-values-in-Read-clause-cause : goal.list_value-returns-in_err-values-in-Read-clause-cause
-list_value-returns-in_err-values-in-Read-clause-cause t c =
+pub matrix_value-returns-in_err-values-in-Read-clause-cause : goal.matrix_value-returns-in_err-values-in-Read-clause-cause
+matrix_value-returns-in_err-values-in-Read-clause-cause t c =
     let mode = mode_in c.args.scope in
     let env = env_in c.args.scope in
-    let m = expr_tree c.deref-in-Read.result.now in
-    let is = indices_of c.deref-in-Read-2.result.now in
+    let m = expr_tree c.deref.result.now in
+    let is = indices_of c.deref-in-Read.result.now in
     let r = err_from_is_err_and c.from_residual-in_err-values-in-Read.result c.from_residual-in_err-values-in-Read.ensures.1 in
     rw (r.1, r.2)
     (form_cause mode env (met mode env m ++ met_indices mode env is) c.args.met.now (λ q. read q m is) c.args.kind.now
     (λ q. ap (kind_tree q) c.in-Read.is ∙ kind_tree-read q c.in-Read.matrix c.in-Read.indices
-    ∙ ap (λ x. read q (expr_tree x) (indices_of c.in-Read.indices.items)) (sym c.deref-in-Read.ensures) ∙ ap (λ l. read q m (indices_of l)) (sym c.deref-in-Read-2.ensures.value))
+    ∙ ap (λ x. read q (expr_tree x) (indices_of c.in-Read.indices.items)) (sym c.deref.ensures) ∙ ap (λ l. read q m (indices_of l)) (sym c.deref-in-Read.ensures.value))
     (λ q. meets_read mode env q m is) c.in_err-values-in-Read.field-0.0
-    (cause_then mode c.args.met.now c.value_of-in-Read.new.met (met mode env m) (met_indices mode env is) c.in_err-values-in-Read.field-0.0
+    (cause_then mode c.args.met.now c.value_of.new.met (met mode env m) (met_indices mode env is) c.in_err-values-in-Read.field-0.0
     c.in_ok-seen-in-Read.ensures.counted c.in_err-values-in-Read.ensures.cause))
 
 pub part_values-loop-part-init : goal.part_values-loop-part-init
@@ -1649,8 +1649,8 @@ pub index_set-returns-in_ok-set-in-None-clause-value : goal.index_set-returns-in
 index_set-returns-in_ok-set-in-None-clause-value t c =
     ap Some c.in_ok-set-in-None.ensures ∙ index_values-none (mode_in c.args.scope) (env_in c.args.scope) c.args.domain.now c.args.count c.in-None.is
 
-pub list_value-returns-in_ok-made-in-Literal-clause-value : goal.list_value-returns-in_ok-made-in-Literal-clause-value
-list_value-returns-in_ok-made-in-Literal-clause-value t c =
+pub matrix_value-returns-in_ok-made-in-Literal-clause-value : goal.matrix_value-returns-in_ok-made-in-Literal-clause-value
+matrix_value-returns-in_ok-made-in-Literal-clause-value t c =
     let mode = mode_in c.args.scope in
     let env = env_in c.args.scope in
     let ps = c.deref-in-Literal.result.now in
@@ -1665,8 +1665,8 @@ list_value-returns-in_ok-made-in-Literal-clause-value t c =
     (c.len.ensures ∙ counted_exprs c.in-Literal.parts ∙ ap length (sym c.deref-in-Literal.ensures.value)) c.in_ok-indices-in-Literal.ensures.value c.in_ok-values-in-Literal.ensures.value
     ∙ sym c.in_ok-made-in-Literal.ensures)
 
-pub list_value-returns-in_err-values-in-Literal-clause-cause : goal.list_value-returns-in_err-values-in-Literal-clause-cause
-list_value-returns-in_err-values-in-Literal-clause-cause t c =
+pub matrix_value-returns-in_err-values-in-Literal-clause-cause : goal.matrix_value-returns-in_err-values-in-Literal-clause-cause
+matrix_value-returns-in_err-values-in-Literal-clause-cause t c =
     let mode = mode_in c.args.scope in
     let env = env_in c.args.scope in
     let ps = c.deref-in-Literal.result.now in
@@ -1679,8 +1679,8 @@ list_value-returns-in_err-values-in-Literal-clause-cause t c =
     (λ q. meets_literal mode env q (expr_trees ps) d) c.in_err-values-in-Literal.field-0.0
     (cause_first mode c.args.met.now (met_all mode env (expr_trees ps)) (met_index mode env d) c.in_err-values-in-Literal.field-0.0 c.in_err-values-in-Literal.ensures.cause))
 
-pub list_value-returns-in_err-indices-in-Literal-clause-cause : goal.list_value-returns-in_err-indices-in-Literal-clause-cause
-list_value-returns-in_err-indices-in-Literal-clause-cause t c =
+pub matrix_value-returns-in_err-indices-in-Literal-clause-cause : goal.matrix_value-returns-in_err-indices-in-Literal-clause-cause
+matrix_value-returns-in_err-indices-in-Literal-clause-cause t c =
     let mode = mode_in c.args.scope in
     let env = env_in c.args.scope in
     let ps = c.deref-in-Literal.result.now in
@@ -2194,15 +2194,15 @@ generated-with_part-requires t c =
     let within : listing_depth l ≤ generators_depth l c.args.generators.now = first_within (listing_depth l) (most size-Generator c.args.generators.now) in
     (omega (arith, within, c.decreases), c.requires.small)
 
-pub list_value-generated-requires : goal.list_value-generated-requires
-list_value-generated-requires t c =
+pub matrix_value-generated-requires : goal.matrix_value-generated-requires
+matrix_value-generated-requires t c =
     let l : Listing = record { body = c.deref-in-Comprehension.result; conditions = c.deref-in-Comprehension-2.result } in
     let below = comprehension_depth c.args.kind.now c.in-Comprehension.body c.in-Comprehension.generators c.in-Comprehension.conditions c.in-Comprehension.domain l c.deref-in-Comprehension-3.result.now
     c.in-Comprehension.is c.deref-in-Comprehension.ensures c.deref-in-Comprehension-2.ensures.value c.deref-in-Comprehension-3.ensures.value in
     (omega (arith, below, c.decreases, c.deref-in-Comprehension-3.ensures.len), c.requires.small)
 
-pub list_value-returns-in_ok-made-in-Comprehension-clause-value : goal.list_value-returns-in_ok-made-in-Comprehension-clause-value
-list_value-returns-in_ok-made-in-Comprehension-clause-value t c =
+pub matrix_value-returns-in_ok-made-in-Comprehension-clause-value : goal.matrix_value-returns-in_ok-made-in-Comprehension-clause-value
+matrix_value-returns-in_ok-made-in-Comprehension-clause-value t c =
     let l : Listing = record { body = c.deref-in-Comprehension.result; conditions = c.deref-in-Comprehension-2.result } in
     let is = comprehension_at c.args.kind.now c.in-Comprehension.body c.in-Comprehension.generators c.in-Comprehension.conditions c.in-Comprehension.domain l c.deref-in-Comprehension-3.result.now
     c.in-Comprehension.is c.deref-in-Comprehension.ensures c.deref-in-Comprehension-2.ensures.value c.deref-in-Comprehension-3.ensures.value in
@@ -2211,8 +2211,8 @@ list_value-returns-in_ok-made-in-Comprehension-clause-value t c =
     c.in_ok-values-in-Comprehension.ensures.counted c.in_ok-indices-in-Comprehension.ensures.counted (ap (λ vs. Some (map value_tree vs)) c.new.ensures.items)
     c.in_ok-values-in-Comprehension.ensures.value c.count_of-count.ensures c.in_ok-indices-in-Comprehension.ensures.value c.in_ok-made-in-Comprehension.ensures
 
-pub list_value-returns-in_err-values-in-Comprehension-clause-cause : goal.list_value-returns-in_err-values-in-Comprehension-clause-cause
-list_value-returns-in_err-values-in-Comprehension-clause-cause t c =
+pub matrix_value-returns-in_err-values-in-Comprehension-clause-cause : goal.matrix_value-returns-in_err-values-in-Comprehension-clause-cause
+matrix_value-returns-in_err-values-in-Comprehension-clause-cause t c =
     let l : Listing = record { body = c.deref-in-Comprehension.result; conditions = c.deref-in-Comprehension-2.result } in
     let is = comprehension_at c.args.kind.now c.in-Comprehension.body c.in-Comprehension.generators c.in-Comprehension.conditions c.in-Comprehension.domain l c.deref-in-Comprehension-3.result.now
     c.in-Comprehension.is c.deref-in-Comprehension.ensures c.deref-in-Comprehension-2.ensures.value c.deref-in-Comprehension-3.ensures.value in
@@ -2221,8 +2221,8 @@ list_value-returns-in_err-values-in-Comprehension-clause-cause t c =
     (comprehension_first (mode_in c.args.scope) (env_in c.args.scope) c.args.kind.now l c.deref-in-Comprehension-3.result.now c.in-Comprehension.domain c.args.met.now c.in_err-values-in-Comprehension.field-0.0 is
     c.in_err-values-in-Comprehension.ensures.cause)
 
-pub list_value-returns-in_err-indices-in-Comprehension-clause-cause : goal.list_value-returns-in_err-indices-in-Comprehension-clause-cause
-list_value-returns-in_err-indices-in-Comprehension-clause-cause t c =
+pub matrix_value-returns-in_err-indices-in-Comprehension-clause-cause : goal.matrix_value-returns-in_err-indices-in-Comprehension-clause-cause
+matrix_value-returns-in_err-indices-in-Comprehension-clause-cause t c =
     let l : Listing = record { body = c.deref-in-Comprehension.result; conditions = c.deref-in-Comprehension-2.result } in
     let is = comprehension_at c.args.kind.now c.in-Comprehension.body c.in-Comprehension.generators c.in-Comprehension.conditions c.in-Comprehension.domain l c.deref-in-Comprehension-3.result.now
     c.in-Comprehension.is c.deref-in-Comprehension.ensures c.deref-in-Comprehension-2.ensures.value c.deref-in-Comprehension-3.ensures.value in

@@ -45,8 +45,17 @@ decreases-value_of l = goal.size-value_of l * 1361129467683753853853498429727072
 abbrev pub decreases-kind_value : goal.decreases-kind_value
 decreases-kind_value l = goal.size-kind_value l * 1361129467683753853853498429727072845824 + 8999999999999999999
 
+abbrev pub decreases-matrix_value : goal.decreases-matrix_value
+decreases-matrix_value l = goal.size-matrix_value l * 1361129467683753853853498429727072845824 + 8999999999999999998
+
 abbrev pub decreases-list_value : goal.decreases-list_value
-decreases-list_value l = goal.size-list_value l * 1361129467683753853853498429727072845824 + 8999999999999999998
+decreases-list_value l = goal.size-list_value l * 1361129467683753853853498429727072845824 + 8999999999999999997
+
+abbrev pub decreases-pair_value : goal.decreases-pair_value
+decreases-pair_value l = goal.size-pair_value l * 1361129467683753853853498429727072845824 + 8999999999999999996
+
+abbrev pub decreases-counts_value : goal.decreases-counts_value
+decreases-counts_value l = goal.size-counts_value l * 1361129467683753853853498429727072845824 + 8999999999999999995
 
 abbrev pub decreases-truths : goal.decreases-truths
 decreases-truths l = goal.size-truths l * 1361129467683753853853498429727072845824 + 9000000000000000001

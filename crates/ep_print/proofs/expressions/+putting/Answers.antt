@@ -55,20 +55,20 @@ pub push_expr-returns-in-Add : goal.push_expr-returns-in-Add
 push_expr-returns-in-Add t c =
     last1 _ _ _ _ _ (rw c.deref-in-Add.ensures.value at c.push_chain.ensures) (chain_pieces c.args.e.now.place c.args.e.now.kind _ c.in-Add.is)
 
-pub push_expr-returns-in_ok-push_around-in-Compare : goal.push_expr-returns-in_ok-push_around-in-Compare
-push_expr-returns-in_ok-push_around-in-Compare t c =
+pub push_pair-returns-in_ok-push_around-in-Compare : goal.push_pair-returns-in_ok-push_around-in-Compare
+push_pair-returns-in_ok-push_around-in-Compare t c =
     last2 _ _ _ _ _ _ _ (rw c.deref-in-Compare.ensures at c.in_ok-push_around-in-Compare.ensures) (rw c.deref-in-Compare-2.ensures at c.push_expr-in-Compare.ensures) (compare_pieces c.args.e.now.place c.args.e.now.kind _ _ _ _ c.in-Compare.is c.compare_word.ensures)
 
-pub push_expr-returns-in_ok-push_around-in-Lex : goal.push_expr-returns-in_ok-push_around-in-Lex
-push_expr-returns-in_ok-push_around-in-Lex t c =
+pub push_pair-returns-in_ok-push_around-in-Lex : goal.push_pair-returns-in_ok-push_around-in-Lex
+push_pair-returns-in_ok-push_around-in-Lex t c =
     last2 _ _ _ _ _ _ _ (rw c.deref-in-Lex.ensures at c.in_ok-push_around-in-Lex.ensures) (rw c.deref-in-Lex-2.ensures at c.push_expr-in-Lex.ensures) (lex_pieces c.args.e.now.place c.args.e.now.kind _ _ _ _ c.in-Lex.is c.lex_word.ensures)
 
-pub push_expr-returns-in_ok-push_around-in-InDomain : goal.push_expr-returns-in_ok-push_around-in-InDomain
-push_expr-returns-in_ok-push_around-in-InDomain t c =
+pub push_pair-returns-in_ok-push_around-in-InDomain : goal.push_pair-returns-in_ok-push_around-in-InDomain
+push_pair-returns-in_ok-push_around-in-InDomain t c =
     last2 _ _ _ _ _ _ _ (rw c.deref-in-InDomain.ensures at c.in_ok-push_around-in-InDomain.ensures) (rw c.deref-in-InDomain-2.ensures at c.push_domain.ensures) (in_domain_pieces c.args.e.now.place c.args.e.now.kind _ _ c.in-InDomain.is)
 
-pub push_expr-returns-in_ok-push_around-in-InSet : goal.push_expr-returns-in_ok-push_around-in-InSet
-push_expr-returns-in_ok-push_around-in-InSet t c =
+pub push_pair-returns-in_ok-push_around-in-InSet : goal.push_pair-returns-in_ok-push_around-in-InSet
+push_pair-returns-in_ok-push_around-in-InSet t c =
     last2 _ _ _ _ _ _ _ (rw c.deref-in-InSet.ensures at c.in_ok-push_around-in-InSet.ensures) (rw c.deref-in-InSet-2.ensures at c.push_around-in-InSet-2.ensures) (in_set_pieces c.args.e.now.place c.args.e.now.kind _ _ c.in-InSet.is)
 
 pub push_expr-returns-in-And : goal.push_expr-returns-in-And
@@ -81,34 +81,34 @@ push_expr-returns-in-Or t c =
 
 pub push_expr-returns-in_ok-push_domain_around-in-Quant : goal.push_expr-returns-in_ok-push_domain_around-in-Quant
 push_expr-returns-in_ok-push_domain_around-in-Quant t c =
-    last4 _ _ _ _ _ _ _ _ _ _ _ c.in_ok-push_word-in-Quant.ensures (rw c.deref-in-Quant.ensures.value at c.in_ok-push_names-in-Quant.ensures) (rw c.deref-in-Quant-2.ensures at c.in_ok-push_domain_around-in-Quant.ensures) (rw c.deref-in-Quant-3.ensures at c.push_expr-in-Quant.ensures) (quantified_pieces c.args.e.now.place c.args.e.now.kind _ _ _ _ _ c.in-Quant.is c.quantifier_word.ensures)
+    last4 _ _ _ _ _ _ _ _ _ _ _ c.in_ok-push_word-in-Quant.ensures (rw c.deref-in-Quant.ensures.value at c.in_ok-push_names-in-Quant.ensures) (rw c.deref-in-Quant-2.ensures at c.in_ok-push_domain_around-in-Quant.ensures) (rw c.deref-in-Quant-3.ensures at c.push_expr.ensures) (quantified_pieces c.args.e.now.place c.args.e.now.kind _ _ _ _ _ c.in-Quant.is c.quantifier_word.ensures)
 
-pub push_expr-returns-in_ok-push_parts-in-Literal : goal.push_expr-returns-in_ok-push_parts-in-Literal
-push_expr-returns-in_ok-push_parts-in-Literal t c =
-    last3 _ _ _ _ _ _ _ _ _ c.in_ok-push_word-in-Literal.ensures (rw c.deref-in-Literal.ensures.value at c.in_ok-push_parts-in-Literal.ensures) c.push_index_domain.ensures (literal_pieces c.args.e.now.place c.args.e.now.kind _ _ c.in-Literal.is)
+pub push_matrix-returns-in_ok-push_parts-in-Literal : goal.push_matrix-returns-in_ok-push_parts-in-Literal
+push_matrix-returns-in_ok-push_parts-in-Literal t c =
+    last3 _ _ _ _ _ _ _ _ _ c.in_ok-push_word-in-Literal.ensures (rw c.deref.ensures.value at c.in_ok-push_parts-in-Literal.ensures) c.push_index_domain.ensures (literal_pieces c.args.e.now.place c.args.e.now.kind _ _ c.in-Literal.is)
 
-pub push_expr-returns-in_ok-push_parts-in-Comprehension : goal.push_expr-returns-in_ok-push_parts-in-Comprehension
-push_expr-returns-in_ok-push_parts-in-Comprehension t c =
+pub push_matrix-returns-in_ok-push_parts-in-Comprehension : goal.push_matrix-returns-in_ok-push_parts-in-Comprehension
+push_matrix-returns-in_ok-push_parts-in-Comprehension t c =
     last4 _ _ _ _ _ _ _ _ _ _ _ (rw c.deref-in-Comprehension.ensures at c.in_ok-push_around-in-Comprehension.ensures) (rw c.deref-in-Comprehension-2.ensures.value at c.in_ok-push_generators-in-Comprehension.ensures) (rw c.deref-in-Comprehension-3.ensures.value at c.in_ok-push_parts-in-Comprehension.ensures) c.push_index_domain-in-Comprehension.ensures (comprehension_pieces c.args.e.now.place c.args.e.now.kind _ _ _ _ _ c.in-Comprehension.is (ap not (c.is_empty.ensures ∙ ap (λ n. n == 0) (sym c.deref-in-Comprehension-2.ensures.len ∙ ap length c.deref-in-Comprehension-2.ensures.value))))
 
-pub push_expr-returns-in_ok-push_around-in-Read : goal.push_expr-returns-in_ok-push_around-in-Read
-push_expr-returns-in_ok-push_around-in-Read t c =
+pub push_matrix-returns-in_ok-push_around-in-Read : goal.push_matrix-returns-in_ok-push_around-in-Read
+push_matrix-returns-in_ok-push_around-in-Read t c =
     last2 _ _ _ _ _ _ _ (rw c.deref-in-Read.ensures at c.in_ok-push_around-in-Read.ensures) (rw c.deref-in-Read-2.ensures.value at c.push_indices.ensures) (read_pieces c.args.e.now.place c.args.e.now.kind _ _ c.in-Read.is)
 
-pub push_expr-returns-in_ok-push_around-in-Gcc-2 : goal.push_expr-returns-in_ok-push_around-in-Gcc-2
-push_expr-returns-in_ok-push_around-in-Gcc-2 t c =
-    last3 _ _ _ _ _ _ _ _ _ (rw c.deref-in-Gcc.ensures at c.in_ok-push_around-in-Gcc.ensures) (rw c.deref-in-Gcc-2.ensures at c.in_ok-push_around-in-Gcc-2.ensures) (rw c.deref-in-Gcc-3.ensures at c.push_around-in-Gcc-3.ensures) (gcc_pieces c.args.e.now.place c.args.e.now.kind _ _ _ c.in-Gcc.is)
+pub push_counts-returns-in_ok-push_around-in-Gcc-2 : goal.push_counts-returns-in_ok-push_around-in-Gcc-2
+push_counts-returns-in_ok-push_around-in-Gcc-2 t c =
+    last3 _ _ _ _ _ _ _ _ _ (rw c.deref.ensures at c.in_ok-push_around-in-Gcc.ensures) (rw c.deref-in-Gcc.ensures at c.in_ok-push_around-in-Gcc-2.ensures) (rw c.deref-in-Gcc-2.ensures at c.push_around-in-Gcc-2.ensures) (gcc_pieces c.args.e.now.place c.args.e.now.kind _ _ _ c.in-Gcc.is)
 
-pub push_expr-returns-in_ok-push_around-in-AtLeast-2 : goal.push_expr-returns-in_ok-push_around-in-AtLeast-2
-push_expr-returns-in_ok-push_around-in-AtLeast-2 t c =
+pub push_counts-returns-in_ok-push_around-in-AtLeast-2 : goal.push_counts-returns-in_ok-push_around-in-AtLeast-2
+push_counts-returns-in_ok-push_around-in-AtLeast-2 t c =
     last3 _ _ _ _ _ _ _ _ _ (rw c.deref-in-AtLeast.ensures at c.in_ok-push_around-in-AtLeast.ensures) (rw c.deref-in-AtLeast-2.ensures at c.in_ok-push_around-in-AtLeast-2.ensures) (rw c.deref-in-AtLeast-3.ensures at c.push_around-in-AtLeast-3.ensures) (at_least_pieces c.args.e.now.place c.args.e.now.kind _ _ _ c.in-AtLeast.is)
 
-pub push_expr-returns-in_ok-push_around-in-AtMost-2 : goal.push_expr-returns-in_ok-push_around-in-AtMost-2
-push_expr-returns-in_ok-push_around-in-AtMost-2 t c =
+pub push_counts-returns-in_ok-push_around-in-AtMost-2 : goal.push_counts-returns-in_ok-push_around-in-AtMost-2
+push_counts-returns-in_ok-push_around-in-AtMost-2 t c =
     last3 _ _ _ _ _ _ _ _ _ (rw c.deref-in-AtMost.ensures at c.in_ok-push_around-in-AtMost.ensures) (rw c.deref-in-AtMost-2.ensures at c.in_ok-push_around-in-AtMost-2.ensures) (rw c.deref-in-AtMost-3.ensures at c.push_around-in-AtMost-3.ensures) (at_most_pieces c.args.e.now.place c.args.e.now.kind _ _ _ c.in-AtMost.is)
 
-pub push_expr-returns-in_ok-push_around-in-Table : goal.push_expr-returns-in_ok-push_around-in-Table
-push_expr-returns-in_ok-push_around-in-Table t c =
+pub push_pair-returns-in_ok-push_around-in-Table : goal.push_pair-returns-in_ok-push_around-in-Table
+push_pair-returns-in_ok-push_around-in-Table t c =
     last2 _ _ _ _ _ _ _ (rw c.deref-in-Table.ensures at c.in_ok-push_around-in-Table.ensures) (rw c.deref-in-Table-2.ensures at c.push_around-in-Table-2.ensures) (table_pieces c.args.e.now.place c.args.e.now.kind _ _ c.in-Table.is)
 
 pub push_generators-loop-generator-preserved : goal.push_generators-loop-generator-preserved
@@ -132,12 +132,12 @@ pub push_ranges-returns : goal.push_ranges-returns
 push_ranges-returns t c =
     puts_three _ _ _ _ _ _ _ c.in_ok-push_words.ensures (turns_end _ _ ranges_listed (codes "," ∷ []) c.loop-range.started c.args.ranges.now c.loop-range.range-index _ _ c.loop-range-test.false c.loop-range.invariant) c.in_ok-push_word.ensures
 
-pub push_expr-returns-then-is_called : goal.push_expr-returns-then-is_called
-push_expr-returns-then-is_called t c =
-    last2 _ _ _ _ _ _ _ (rw c.deref-then-is_called.ensures at c.in_ok-push_around-in-Binary.ensures) (rw c.deref-then-is_called-2.ensures at c.push_around-then-is_called-2.ensures) (called_pieces c.args.e.now.place c.args.e.now.kind _ _ _ _ c.in-Binary.is (sym c.is_called.ensures ∙ c.if-is_called.true) c.binary_word.ensures)
+pub push_pair-returns-then-is_called : goal.push_pair-returns-then-is_called
+push_pair-returns-then-is_called t c =
+    last2 _ _ _ _ _ _ _ (rw c.deref.ensures at c.in_ok-push_around-in-Binary.ensures) (rw c.deref-then-is_called.ensures at c.push_around-then-is_called.ensures) (called_pieces c.args.e.now.place c.args.e.now.kind _ _ _ _ c.in-Binary.is (sym c.is_called.ensures ∙ c.if-is_called.true) c.binary_word.ensures)
 
-pub push_expr-returns-in_ok-push_around-in-Binary-2 : goal.push_expr-returns-in_ok-push_around-in-Binary-2
-push_expr-returns-in_ok-push_around-in-Binary-2 t c =
+pub push_pair-returns-in_ok-push_around-in-Binary-2 : goal.push_pair-returns-in_ok-push_around-in-Binary-2
+push_pair-returns-in_ok-push_around-in-Binary-2 t c =
     last2 _ _ _ _ _ _ _ (rw c.deref-in-Binary.ensures at c.in_ok-push_around-in-Binary-2.ensures) (rw c.deref-in-Binary-2.ensures at c.push_expr.ensures) (infix_pieces c.args.e.now.place c.args.e.now.kind _ _ _ _ c.in-Binary.is (sym c.is_called.ensures ∙ c.if-is_called.false) c.binary_word-in-Binary.ensures)
 
 pub push_indices-loop-index-preserved : goal.push_indices-loop-index-preserved
