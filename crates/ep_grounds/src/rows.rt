@@ -1,38 +1,20 @@
 //! The table: models over a few decision variables.
 
-ghost use Rattle.std.specs.Prelude.{IfOk};
-ghost use Rattle.std.specs.List.{All};
-ghost use Rattle.ep_base.specs.Reads.{IsWithinNumbers};
-ghost use Rattle.ep_tree.specs.Closed.{IsClosed};
-ghost use Rattle.ep_instance.specs.Instances.{instance_of as plain_instance};
-
+use crate::instances::instance_of;
 use crate::lists::{all_lists, evaluated, grounded};
-use ep_instance::{Instance, bind};
-use ep_parse_model::{parse_model, parse_params};
 use ep_size::measure;
 use ep_tree::Mode;
-use ep_types::{check_model, check_params};
 use ep_unroll::unroll;
 use std::alloc::Global;
 use std::test::Fail;
 
 /// The decision variables of each row.
-const FRONT: &str = "language ESSENCE' 1.0\nfind x : int(-1..2) find y : int(0..2) find b : bool ";
-
-/// The instance of a row.
-fn instance_of(alloc: Global, mode: Mode, row: &str) -> Result<Instance, Fail>
-    ensures closed { IfOk result (λ i. IsClosed (plain_instance i)) }
-    ensures numbers { IfOk result (λ i. All (λ f. All IsWithinNumbers f.values) (plain_instance i).finds) }
-{
-    let text = format!(in alloc; "{FRONT}{row}")?;
-    let model = check_model(alloc, parse_model(alloc, text.as_bytes())?)?;
-    let params = check_params(alloc, parse_params(alloc, &[])?)?;
-    Ok(bind(alloc, model, params, mode)?)
-}
+const FRONT: &str = "find x : int(-1..2) find y : int(0..2) find b : bool ";
 
 /// The first list of numbers under which the ground of a row says something else than direct evaluation.
 fn first_different(alloc: Global, mode: Mode, row: &str) -> Result<Option<String>, Fail> {
-    let instance = instance_of(alloc, mode, row)?;
+    let text = format!(in alloc; "{FRONT}{row}")?;
+    let instance = instance_of(alloc, mode, text.as_str())?;
     let _measures = measure(alloc, &instance)?;
     let ground = unroll(alloc, &instance)?;
     for list in all_lists(alloc, &instance)? {
@@ -98,7 +80,7 @@ such that x in toSet([y, 1])
 such that y in toSet([x / y, 1])
 such that !(x in toSet([x / y]))";
 
-/// Lists: quantifiers, matrices, reads and statements on all parts.
+/// Quantifiers, comprehensions, and statements on all parts.
 const LISTS: &str = "such that forAll i : int(0..2) . x + i > y
 such that exists i : int(1..3) . i * x = y
 such that forAll i : int(1..0) . x > 5
@@ -111,20 +93,6 @@ such that exists i, j : int(0..1) . x / i = j
 minimising sum i : int(1..3) . i * x
 minimising sum i : int(1..1 / 0) . x
 minimising sum i : int(0..2) . y / (x + i)
-minimising [x, y][1]
-minimising [x, y][y]
-minimising [x, y; int(0..1)][y]
-minimising [x, y; int(1..3)][1]
-minimising [10 / x, y][2]
-minimising [10, y, 5][x]
-such that [b, x = 1][y]
-such that ![b, x = y][y]
-such that toInt([b, true][x]) = 0
-such that ([b, true][x]) = ([b, false][y])
-minimising [[x, y], [1, 2]][y, 1]
-minimising [[x, y], [1, 2]][y, x]
-minimising sum([[x, y], [1, 2]][1, ..])
-minimising sum([[x, y], [1, 2]][.., 2])
 minimising sum([i * x | i : int(1..3), i != 2])
 minimising [x / i | i : int(0..2), i > 0][y]
 minimising sum([x + j | i : int(1..2), j : int(1..i)])
@@ -152,6 +120,32 @@ such that table([x, y], [[1, 2], [-1, 0]])
 such that table([x, y], [[1], [2, 1]])
 such that !table([x / y], [[1]])";
 
+/// Reads of lists: of a number, of a truth value, and of a part that is a list.
+const READS: &str = "minimising [x, y][1]
+minimising [x, y][y]
+minimising [x, y; int(0..1)][y]
+minimising [x, y; int(1..3)][1]
+minimising [10 / x, y][2]
+minimising [10, y, 5][x]
+such that [b, x = 1][y]
+such that ![b, x = y][y]
+such that toInt([b, true][x]) = 0
+such that ([b, true][x]) = ([b, false][y])
+minimising [[x, y], [1, 2]][y, 1]
+minimising [[x, y], [1, 2]][y, x]
+minimising sum([[x, y], [1, 2]][1, ..])
+minimising sum([[x, y], [1, 2]][.., 2])
+minimising sum([10 / x, y][..])
+minimising sum([[10 / x, y], [y, 1]][2, ..])
+minimising sum([[5, 6], [10 / x, y]][1, ..])
+minimising max([[y, 10 / x], [x, 2]][.., 1])
+minimising [[10 / x, y], [y, 1]][1, ..][y]
+minimising sum([[x, y], [y / x, 1]][3, ..])
+such that allDiff([y, 10 / x][..])
+such that or([x / y = 1, b][..])
+such that !and([b, x = 10 / y][..])
+such that y in toSet([[y, x], [1, 1 / x]][1, ..])";
+
 /// The first wrong row in one of the modes of undefinedness.
 fn wrong_in_a_mode(alloc: Global, table: &str) -> Result<Option<String>, Fail> {
     match first_wrong(alloc, Mode::Relational, table)? {
@@ -169,5 +163,11 @@ fn grounds_of_numbers_say_what_evaluation_says(rt: HostRuntime) -> Result<(), Fa
 #[test]
 fn grounds_of_lists_say_what_evaluation_says(rt: HostRuntime) -> Result<(), Fail> {
     assert_eq!(rt; wrong_in_a_mode(rt.alloc(), LISTS)?, None);
+    Ok(())
+}
+
+#[test]
+fn grounds_of_reads_say_what_evaluation_says(rt: HostRuntime) -> Result<(), Fail> {
+    assert_eq!(rt; wrong_in_a_mode(rt.alloc(), READS)?, None);
     Ok(())
 }

@@ -26,7 +26,7 @@ pub mod ReadForms
 pub mod ReadSteps
 pub mod Regrouping
 pub mod RemainingSteps
-pub mod RunEnds
+pub mod RunCounts
 pub mod ScalarParts
 pub mod SliceParts
 pub mod SliceSteps

@@ -12,7 +12,6 @@ pub mod Parts
 pub mod Powers
 pub mod Quantified
 pub mod Refusing
-pub mod RunEnds
 pub mod Slices
 pub mod Spans
 pub mod Standings

@@ -14,7 +14,7 @@ ghost use Rattle.ep_eval.specs.Bounds.{cells_of};
 ghost use Rattle.ep_eval.specs.Scopes.{env_in, mode_in};
 ghost use Rattle.ep_size.specs.Extents.{span_of};
 ghost use Rattle.ep_size.specs.Finishing.{Finishes};
-ghost use Rattle.ep_size.specs.RunEnds.{greatest_from, least_from};
+ghost use Rattle.ep_base.specs.RunEnds.{greatest_from, least_from};
 ghost use Rattle.ep_size.specs.Spans.{interval_of};
 ghost use Rattle.ep_size.specs.declared.totals.Totals.{Totals as EachTotals};
 

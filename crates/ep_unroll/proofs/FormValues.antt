@@ -9,6 +9,7 @@ use Rattle.ep_base.specs.Numbers.{absolute_of, all_one, any_one, compare_holds, 
 use Rattle.ep_base.specs.Reads.{all_there, weighted_sum}
 use Rattle.ep_base.specs.declared.operators.CompareOp.{CompareOp}
 use Rattle.ep_base.specs.declared.places.Place.{Place}
+use Rattle.ep_ground.proofs.TermLaws.{value_more}
 use Rattle.ep_ground.specs.Nodes as node
 use Rattle.ep_ground.specs.Nodes.{GroundNode}
 use Rattle.ep_ground.specs.Terms as ground
@@ -20,7 +21,6 @@ use Rattle.ep_tree.specs.Trees.{DomainTree, ExprTree, ExprTrees, absolute, all_o
 use Rattle.ep_tree.specs.Values.{ValueTree, all_defined, single}
 use Rattle.ep_tree.specs.declared.syntax.BinaryOp.{BinaryOp}
 use Rattle.ep_tree.specs.declared.values.Mode.{Mode}
-use Rattle.ep_unroll.proofs.NodeValues.{value_kept}
 use Rattle.ep_unroll.proofs.TruthSteps.{IsToldBy, list_there, one_there, told_both, told_value, two_there, untold}
 use Rattle.ep_unroll.specs.Growing.{Grows, Puts}
 use Rattle.ep_unroll.specs.Meanings.{AreNumbersOf, IsNumberOf, IsTermOf}
@@ -41,7 +41,7 @@ grows_long a b t g h =
 
 -- a term keeps its value
 pub grown_value : (a b : List GroundNode) (numbers : List ℤ) (t : ℕ) → Grows a b → t < length a → term_value b numbers t ≡ term_value a numbers t
-grown_value a b numbers t g h = ap (λ ns. term_value ns numbers t) g.whole ∙ value_kept numbers a g.more t h
+grown_value a b numbers t g h = ap (λ ns. term_value ns numbers t) g.whole ∙ value_more a g.more numbers t h
 
 pub if_ok : {A E : Type 0} (r : Result A E) (P Q : A → Type 0) → ((x : A) → P x → Q x) → IfOk r P → IfOk r Q
 if_ok (Ok x) P Q f h = f x h

@@ -163,7 +163,7 @@ opened_more all left behind ys more x y so cut put is has = record {
   terms = λ count. subst (HaveTerms count) (sym put) (have_both count ys (y ∷ []) (so.terms count) (have_one count y (has count)));
 }
 
-all_there_are : (vs : List Value) → all_defined (values_of_all vs) ≡ Some (map value_tree vs)
+pub all_there_are : (vs : List Value) → all_defined (values_of_all vs) ≡ Some (map value_tree vs)
 unfolding all_defined
 all_there_are [] = refl
 all_there_are (v ∷ vs) = ap (option_map (λ ws. value_tree v ∷ ws)) (all_there_are vs)

@@ -40,3 +40,4 @@ pub mod TruthSteps
 pub mod TypedReadings
 pub mod ValueSteps
 pub mod Vectors
+pub mod WholeSteps

@@ -152,7 +152,7 @@ means_grown n env old mid new e x g h = record {
 
 -- ---- a read that leaves a matrix
 
-all_defined_are : {A : Type 0} (xs : List A) → all_defined (map Some xs) ≡ Some xs
+pub all_defined_are : {A : Type 0} (xs : List A) → all_defined (map Some xs) ≡ Some xs
 unfolding all_defined
 all_defined_are [] = refl
 all_defined_are (x ∷ xs) = ap (option_map (λ ys. x ∷ ys)) (all_defined_are xs)

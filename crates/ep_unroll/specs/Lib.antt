@@ -21,3 +21,4 @@ pub mod Signed
 pub mod Summing
 pub mod Truths
 pub mod Unrolling
+pub mod Wholes

@@ -22,6 +22,7 @@ use super::needs::needed_terms;
 use super::reads::block_left;
 use super::slots::Slot;
 use super::unrolled::Unrolled;
+use super::wholes::guarded;
 use ep_base::Memory;
 use ep_eval::Held;
 use ep_ground::Arena;
@@ -29,7 +30,7 @@ use ep_tree::Value;
 use std::alloc::Global;
 
 /// A value with its parts apart. Linear in its scalars.
-fn opened_value<'a>(alloc: Global, value: &Value) -> Result<Unrolled<'a>, Memory>
+pub fn opened_value<'a>(alloc: Global, value: &Value) -> Result<Unrolled<'a>, Memory>
     ensures worth { IfOk result (λ x. (nodes : List GroundNode) → (numbers : List ℤ) → worth nodes numbers x ≡ Some (value_tree value.now)) }
     ensures terms { IfOk result (λ x. (count : ℕ) → AreTerms count x) }
 {
@@ -64,7 +65,7 @@ fn opened_seen<'a>(alloc: Global, seen: &Option<Held<'_>>) -> Result<Unrolled<'a
 }
 
 /// What was unrolled once more. Linear in its parts.
-fn copied<'a>(alloc: Global, known: &Unrolled<'a>) -> Result<Unrolled<'a>, Memory>
+pub fn copied<'a>(alloc: Global, known: &Unrolled<'a>) -> Result<Unrolled<'a>, Memory>
     ensures worth { IfOk result (λ x. (nodes : List GroundNode) → (numbers : List ℤ) → worth nodes numbers x ≡ worth nodes numbers known.now) }
     ensures terms { IfOk result (λ x. (count : ℕ) → AreTerms count known.now → AreTerms count x) }
 {
@@ -211,7 +212,8 @@ fn decided_indices(alloc: Global, slots: &[Slot]) -> Result<Vec<Option<i64>>, Me
     Ok(indices)
 }
 
-/// What a read leaves of what was unrolled. Where that may lack a value, it ends as want of memory.
+/// What a read leaves of what was unrolled. Where that may lack a value, what is left has none without it either; of what
+/// has no scalars, it then ends as want of memory.
 pub fn left_matrix<'a>(
     alloc: Global,
     arena: &mut Arena,
@@ -224,9 +226,10 @@ pub fn left_matrix<'a>(
         → Means n env nodes arena.old m known.now → AreSlotsOf n env nodes arena.old indices slots.now → IfOk result (LeftMeans n env nodes arena.new m indices) }
 {
     let others = needed_terms(alloc, arena, count, known)?;
-    if others.len() > 0 {
-        return Err(Memory);
-    }
     let indices = decided_indices(alloc, slots)?;
-    left_of(alloc, known, &indices)
+    let left = left_of(alloc, known, &indices)?;
+    if others.len() == 0 {
+        return Ok(left);
+    }
+    guarded(alloc, arena, &left, others)
 }

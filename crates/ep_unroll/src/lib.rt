@@ -38,5 +38,6 @@ mod totals;
 mod truths;
 mod unrolled;
 mod unrolling;
+mod wholes;
 
 pub use unrolling::unroll;

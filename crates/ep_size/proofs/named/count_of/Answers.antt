@@ -1,5 +1,5 @@
 use Rattle.std.proofs.Common.{ap, refl, length, arith}
-use Rattle.ep_size.proofs.RunEnds.{count_more, numbers_none}
+use Rattle.ep_size.proofs.RunCounts.{count_more, numbers_none}
 use Rattle.ep_size.proofs.named.count_of.Goals as goal
 
 pub loop-run-init : goal.loop-run-init

@@ -1,7 +1,7 @@
 use Rattle.std.proofs.Common.{ap, refl, sym, ◌∙◌, arith, w64}
 use Rattle.std.proofs.lemmas.Int.{ints, to_z-of_z}
-use Rattle.ep_size.specs.RunEnds.{greatest_from, least_from}
-use Rattle.ep_size.proofs.RunEnds.{greatest_all, greatest_more, least_all, least_more}
+use Rattle.ep_base.specs.RunEnds.{greatest_from, least_from}
+use Rattle.ep_base.proofs.RunEnds.{greatest_all, greatest_more, least_all, least_more}
 use Rattle.ep_size.proofs.named.ends_from.Goals as goal
 
 pub loop-run-init : goal.loop-run-init

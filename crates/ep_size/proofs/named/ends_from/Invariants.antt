@@ -1,5 +1,5 @@
 use Rattle.std.proofs.Common.{◌≡◌, drop}
-use Rattle.ep_size.specs.RunEnds.{greatest_from, least_from}
+use Rattle.ep_base.specs.RunEnds.{greatest_from, least_from}
 use Rattle.ep_size.proofs.named.ends_from.Given as goal
 
 abbrev pub invariant-loop-run : goal.invariant-loop-run

@@ -1,4 +1,4 @@
-use Rattle.ep_size.proofs.RunEnds.{spanned_is, spanned_none}
+use Rattle.ep_base.proofs.RunEnds.{spanned_is, spanned_none}
 use Rattle.ep_size.proofs.named.ends_of.Goals as goal
 
 pub returns-in-Some : goal.returns-in-Some

@@ -1,0 +1,5 @@
+use Rattle.std.proofs.Common.{length}
+use Rattle.ep_unroll.proofs.wholes.+cells_guarded.Given as goal
+
+abbrev pub decreases-cells_guarded : goal.decreases-cells_guarded
+decreases-cells_guarded l = length l.domains.now
