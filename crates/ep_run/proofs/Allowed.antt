@@ -3,8 +3,9 @@ use Rattle.std.proofs.Common.{◌≡◌, ℕ, ◌≤◌, Bool, true, false, ◌&
 use Rattle.std.proofs.lemmas.Bool.{cases_Bool}
 use Rattle.std.specs.Str.Parse.{digits_value}
 use Rattle.ep_base.specs.TokenTexts.{is_number}
-use Rattle.ep_words.specs.Jobs.{check_job, check_options, conflicts_of as set_conflicts, enumerate_job, enumerate_options, generate_job, generate_options, job_of, number_or, number_within, sets_only, solution_count, solve_job, solve_options, verify_job, verify_options, workers_of}
+use Rattle.ep_words.specs.Jobs.{check_job, check_options, conflicts_of as set_conflicts, enumerate_job, enumerate_options, generate_job, generate_options, job_of, mode_of, number_or, number_within, sets_only, solution_count, solve_job, solve_options, verify_job, verify_options, workers_of}
 use Rattle.ep_words.specs.Settings.{Setting, Text, value_of}
+use Rattle.ep_tree.specs.declared.values.Mode.{Mode}
 use Rattle.ep_run.specs.Commands.{Want, conflicts_of, wanted_of}
 use Rattle.ep_words.specs.declared.job.Job.{Job}
 use Rattle.ep_run.specs.declared.wanted.Request.{Request}
@@ -19,6 +20,10 @@ if-chosen P false o x all e = absurd cc
 all-and-then : {A B : Type 0} (P : B → Type 0) (f : A → Option B) → ((a : A) (b : B) → f a ≡ Some b → P b) → (o : Option A) (b : B) → option_and_then f o ≡ Some b → P b
 all-and-then P f all None b e = absurd cc
 all-and-then P f all (Some a) b e = all a b e
+
+all-within : {A B : Type 0} (P : B → Type 0) (f : A → Option B) (o : Option A) → ((a : A) → o ≡ Some a → (b : B) → f a ≡ Some b → P b) → (b : B) → option_and_then f o ≡ Some b → P b
+all-within P f None all b e = absurd cc
+all-within P f (Some a) all b e = all a refl b e
 
 all-mapped : {A B : Type 0} (P : B → Type 0) (f : A → B) (o : Option A) → ((a : A) → o ≡ Some a → P (f a)) → (b : B) → option_map f o ≡ Some b → P b
 all-mapped P f None all b e = absurd cc
@@ -39,33 +44,36 @@ set-number (Some text) n e = tested-number (is_number text && nat_le (length tex
 
 -- a search of this job may take a conflict
 abbrev HasBudget : Job → Type 0
-HasBudget (Job.Solve _ _ conflicts _ _ _) = 1 ≤ conflicts
-HasBudget (Job.Enumerate _ _ _ conflicts _ _ _) = 1 ≤ conflicts
-HasBudget (Job.Verify _ _ _) = Unit {0}
+HasBudget (Job.Solve _ _ conflicts _ _ _ _) = 1 ≤ conflicts
+HasBudget (Job.Enumerate _ _ _ conflicts _ _ _ _) = 1 ≤ conflicts
+HasBudget (Job.Verify _ _ _ _) = Unit {0}
 HasBudget (Job.Check _ _ _) = Unit {0}
 HasBudget (Job.Generate _ _ _ _) = Unit {0}
 
 solve-budget : (s : List Setting) (job : Job) → solve_job s ≡ Some job → HasBudget job
 solve-budget s job e =
-    let make : Text → ℕ → Job = λ m n. Job.Solve m (value_of (codes "in-param") s) n (value_of (codes "out-solution") s) (value_of (codes "out-cnf") s) (value_of (codes "out-log") s) in
-    all-and-then HasBudget (λ m. option_map (make m) (set_conflicts s))
-    (λ m. all-mapped HasBudget (make m) (set_conflicts s) (λ n f. set-number (value_of (codes "conflicts") s) n f))
+    let make : Text → ℕ → Mode → Job = λ m n u. Job.Solve m (value_of (codes "in-param") s) n (value_of (codes "out-solution") s) (value_of (codes "out-cnf") s) (value_of (codes "out-log") s) u in
+    all-and-then HasBudget (λ m. option_and_then (λ n. option_map (make m n) (mode_of s)) (set_conflicts s))
+    (λ m. all-within HasBudget (λ n. option_map (make m n) (mode_of s)) (set_conflicts s)
+    (λ n f. all-mapped HasBudget (make m n) (mode_of s) (λ u g. set-number (value_of (codes "conflicts") s) n f)))
     (value_of (codes "in-eprime") s) job e
 
 enumerate-budget : (s : List Setting) (job : Job) → enumerate_job s ≡ Some job → HasBudget job
 enumerate-budget s job e =
-    let make : Text → ℕ → ℕ → Job = λ m most n. Job.Enumerate m (value_of (codes "in-param") s) most n (value_of (codes "out-solution") s) (value_of (codes "out-cnf") s) (value_of (codes "out-log") s) in
+    let make : Text → ℕ → ℕ → Mode → Job = λ m most n u. Job.Enumerate m (value_of (codes "in-param") s) most n (value_of (codes "out-solution") s) (value_of (codes "out-cnf") s) (value_of (codes "out-log") s) u in
     let most : Option ℕ = option_and_then solution_count (value_of (codes "solutions") s) in
-    all-and-then HasBudget (λ m. option_and_then (λ k. option_map (make m k) (set_conflicts s)) most)
-    (λ m. all-and-then HasBudget (λ k. option_map (make m k) (set_conflicts s))
-    (λ k. all-mapped HasBudget (make m k) (set_conflicts s) (λ n f. set-number (value_of (codes "conflicts") s) n f)) most)
+    all-and-then HasBudget (λ m. option_and_then (λ k. option_and_then (λ n. option_map (make m k n) (mode_of s)) (set_conflicts s)) most)
+    (λ m. all-and-then HasBudget (λ k. option_and_then (λ n. option_map (make m k n) (mode_of s)) (set_conflicts s))
+    (λ k. all-within HasBudget (λ n. option_map (make m k n) (mode_of s)) (set_conflicts s)
+    (λ n f. all-mapped HasBudget (make m k n) (mode_of s) (λ u g. set-number (value_of (codes "conflicts") s) n f))) most)
     (value_of (codes "in-eprime") s) job e
 
 verify-budget : (s : List Setting) (job : Job) → verify_job s ≡ Some job → HasBudget job
 verify-budget s job e =
-    let make : Text → Text → Job = λ m t. Job.Verify m t (value_of (codes "in-param") s) in
-    all-and-then HasBudget (λ m. option_map (make m) (value_of (codes "in-solution") s))
-    (λ m. all-mapped HasBudget (make m) (value_of (codes "in-solution") s) (λ t f. tt))
+    let make : Text → Text → Mode → Job = λ m t u. Job.Verify m t (value_of (codes "in-param") s) u in
+    all-and-then HasBudget (λ m. option_and_then (λ t. option_map (make m t) (mode_of s)) (value_of (codes "in-solution") s))
+    (λ m. all-and-then HasBudget (λ t. option_map (make m t) (mode_of s))
+    (λ t. all-mapped HasBudget (make m t) (mode_of s) (λ u f. tt)) (value_of (codes "in-solution") s))
     (value_of (codes "in-eprime") s) job e
 
 check-budget : (s : List Setting) (job : Job) → check_job s ≡ Some job → HasBudget job
@@ -104,25 +112,25 @@ job-budget s job e =
 
 -- ---- what is wanted
 
-wanted-budget : (job : Job) → HasBudget job → (model : List ℕ) (params : Option (List ℕ)) (request : Request) (output : Option (List ℕ)) → wanted_of job ≡ Some (Wanted.Search model params request output) → 1 ≤ conflicts_of request
+wanted-budget : (job : Job) → HasBudget job → (model : List ℕ) (params : Option (List ℕ)) (mode : Mode) (request : Request) (output : Option (List ℕ)) → wanted_of job ≡ Some (Wanted.Search model params mode request output) → 1 ≤ conflicts_of request
 unfolding wanted_of conflicts_of
-wanted-budget (Job.Solve m p n o None None) has model params request output e =
+wanted-budget (Job.Solve m p n o None None u) has model params mode request output e =
     let same : Request.One n ≡ request = cc in
     let P : Request → Type 0 = λ r. 1 ≤ conflicts_of r in
     subst P same has
-wanted-budget (Job.Solve m p n o None (Some l)) has model params request output e = absurd cc
-wanted-budget (Job.Solve m p n o (Some c) l) has model params request output e = absurd cc
-wanted-budget (Job.Enumerate m p most n o None None) has model params request output e =
+wanted-budget (Job.Solve m p n o None (Some l) u) has model params mode request output e = absurd cc
+wanted-budget (Job.Solve m p n o (Some c) l u) has model params mode request output e = absurd cc
+wanted-budget (Job.Enumerate m p most n o None None u) has model params mode request output e =
     let same : Request.Many most n ≡ request = cc in
     let P : Request → Type 0 = λ r. 1 ≤ conflicts_of r in
     subst P same has
-wanted-budget (Job.Enumerate m p most n o None (Some l)) has model params request output e = absurd cc
-wanted-budget (Job.Enumerate m p most n o (Some c) l) has model params request output e = absurd cc
-wanted-budget (Job.Verify m t p) has model params request output e = absurd cc
-wanted-budget (Job.Check c l w) has model params request output e = absurd cc
-wanted-budget (Job.Generate k n e' p) has model params request output e = absurd cc
+wanted-budget (Job.Enumerate m p most n o None (Some l) u) has model params mode request output e = absurd cc
+wanted-budget (Job.Enumerate m p most n o (Some c) l u) has model params mode request output e = absurd cc
+wanted-budget (Job.Verify m t p u) has model params mode request output e = absurd cc
+wanted-budget (Job.Check c l w) has model params mode request output e = absurd cc
+wanted-budget (Job.Generate k n e' p) has model params mode request output e = absurd cc
 
 -- words that want a search allow it a conflict
-pub wants-budget : (words : List (List ℕ)) (model : List ℕ) (params : Option (List ℕ)) (request : Request) (output : Option (List ℕ)) → Want words (Wanted.Search model params request output) → 1 ≤ conflicts_of request
-wants-budget words model params request output want =
-    wanted-budget want.0 (job-budget want.1.settings want.0 want.1.asks) model params request output want.2
+pub wants-budget : (words : List (List ℕ)) (model : List ℕ) (params : Option (List ℕ)) (mode : Mode) (request : Request) (output : Option (List ℕ)) → Want words (Wanted.Search model params mode request output) → 1 ≤ conflicts_of request
+wants-budget words model params mode request output want =
+    wanted-budget want.0 (job-budget want.1.settings want.0 want.1.asks) model params mode request output want.2

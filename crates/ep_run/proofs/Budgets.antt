@@ -5,6 +5,7 @@ use Rattle.std.proofs.lemmas.List.Elements.{All-head, All-tail}
 use Rattle.cnf_core.specs.Literal.{Literal}
 use Rattle.cnf_core.specs.Events.{EachStep, LogEvent, LogState, clauses_of, given, nonempty_steps, step}
 use Rattle.cnf_core.specs.Steps.{GivensNameOnly, IsEffectiveStep, IsValidStep, NonEmptyStepsAreEffective, NonEmptyStepsAreNew}
+use Rattle.ep_tree.specs.declared.values.Mode.{Mode}
 use Rattle.ep_run.specs.Budgets.{IsBelowPower, MeetsConflict, before_steps}
 use Rattle.ep_run.specs.Commands.{Want, conflicts_of}
 use Rattle.ep_solve.specs.Right.{IsSpent}
@@ -42,21 +43,21 @@ first-effective earlier (step (l ∷ clause) hints ∷ later) each filled some =
     (l ∷ clause, subst P (sym (append-nil earlier)) (each.0 (omega arith)))
 
 -- where a search spends its budget, unit propagation on what is given before the first step meets no conflict
-no-conflict : NoneAfterConflict → (words : List (List ℕ)) (model : List ℕ) (params : Option (List ℕ)) (request : Request) (output : Option (List ℕ)) (events : List LogEvent) → Want words (Wanted.Search model params request output) → NonEmptyStepsAreEffective events → IsSpent (conflicts_of request) events → ¬ MeetsConflict (before_steps events)
-no-conflict none words model params request output events want effective spent = λ conflict.
-    let some = wants-budget words model params request output want in
+no-conflict : NoneAfterConflict → (words : List (List ℕ)) (model : List ℕ) (params : Option (List ℕ)) (mode : Mode) (request : Request) (output : Option (List ℕ)) (events : List LogEvent) → Want words (Wanted.Search model params mode request output) → NonEmptyStepsAreEffective events → IsSpent (conflicts_of request) events → ¬ MeetsConflict (before_steps events)
+no-conflict none words model params mode request output events want effective spent = λ conflict.
+    let some = wants-budget words model params mode request output want in
     let first = first-effective [] events effective spent.1 (omega (arith, some, spent.0)) in
     none (before_steps events) first.0 conflict.0 conflict.1 first.1
 
 -- ---- the words and the log of a run
 
-pub below-said : FewSteps → (words : List (List ℕ)) (log : LogState) → WantOne words → NonEmptyStepsAreNew log.events → Spends words log → (model : List ℕ) (params : Option (List ℕ)) (request : Request) (output : Option (List ℕ)) → Want words (Wanted.Search model params request output) → IsBelowPower (conflicts_of request) log.events
-below-said few words log one new spends model params request output want =
-    let both = one (Wanted.Search spends.0 spends.1 spends.2 spends.3) (Wanted.Search model params request output) spends.4 want in
-    let same : spends.2 ≡ request = cc in
+pub below-said : FewSteps → (words : List (List ℕ)) (log : LogState) → WantOne words → NonEmptyStepsAreNew log.events → Spends words log → (model : List ℕ) (params : Option (List ℕ)) (mode : Mode) (request : Request) (output : Option (List ℕ)) → Want words (Wanted.Search model params mode request output) → IsBelowPower (conflicts_of request) log.events
+below-said few words log one new spends model params mode request output want =
+    let both = one (Wanted.Search spends.0 spends.1 spends.2 spends.3 spends.4) (Wanted.Search model params mode request output) spends.5 want in
+    let same : spends.3 ≡ request = cc in
     let P : Request → Type 0 = λ r. IsBelowPower (conflicts_of r) log.events in
-    subst P same (below-power few (conflicts_of spends.2) log.events new spends.5)
+    subst P same (below-power few (conflicts_of spends.3) log.events new spends.6)
 
 pub unforced-said : NoneAfterConflict → (words : List (List ℕ)) (log : LogState) → NonEmptyStepsAreEffective log.events → Spends words log → ¬ MeetsConflict (before_steps log.events)
 unforced-said none words log effective spends =
-    no-conflict none words spends.0 spends.1 spends.2 spends.3 log.events spends.4 effective spends.5
+    no-conflict none words spends.0 spends.1 spends.2 spends.3 spends.4 log.events spends.5 effective spends.6

@@ -6,6 +6,7 @@ use Rattle.ep_base.specs.Outside.{Held}
 use Rattle.ep_print.specs.declared.refusals.Refusal.{Refusal}
 use Rattle.ep_print.specs.declared.refusals.TextFile.{TextFile}
 use Rattle.ep_tree.specs.Statements.{TextTree}
+use Rattle.ep_tree.specs.declared.values.Mode.{Mode}
 use Rattle.ep_tree.specs.Texts.{Answers as TextAnswers, TextAnswer}
 use Rattle.ep_words.specs.Commands.{IsCommand}
 use Rattle.ep_words.specs.declared.job.Job.{Job}
@@ -66,14 +67,14 @@ pub record TextsAreOnce : Type 0 where
   pub solution : OneAnswer TextFile.Solution
 
 comes-once : TextsAreOnce → (wanted : Wanted) (held : Held) (a b : Outcome Task) → ComesTo wanted held a → ComesTo wanted held b → a ≡ b
-comes-once texts (Wanted.Search model params request output) held a b g h =
-    then-once (IsReadAs held TextFile.Model model) (λ m. comes_to_search request params m held) (file-once TextFile.Model texts.model model held)
-    (λ m. then-once (AreParams held params) (λ p outcome. outcome ≡ search_outcome request m p) (params-once texts.params params held) (λ p x y e f. e ∙ sym f))
+comes-once texts (Wanted.Search model params mode request output) held a b g h =
+    then-once (IsReadAs held TextFile.Model model) (λ m. comes_to_search mode request params m held) (file-once TextFile.Model texts.model model held)
+    (λ m. then-once (AreParams held params) (λ p outcome. outcome ≡ search_outcome mode request m p) (params-once texts.params params held) (λ p x y e f. e ∙ sym f))
     a b g h
-comes-once texts (Wanted.Verify model params solution) held a b g h =
-    then-once (IsReadAs held TextFile.Model model) (λ m. comes_to_verify params solution m held) (file-once TextFile.Model texts.model model held)
-    (λ m. then-once (AreParams held params) (λ p. comes_to_judge solution m p held) (params-once texts.params params held)
-    (λ p. then-once (IsReadAs held TextFile.Solution solution) (λ s outcome. outcome ≡ verify_outcome m p s) (file-once TextFile.Solution texts.solution solution held)
+comes-once texts (Wanted.Verify model params mode solution) held a b g h =
+    then-once (IsReadAs held TextFile.Model model) (λ m. comes_to_verify mode params solution m held) (file-once TextFile.Model texts.model model held)
+    (λ m. then-once (AreParams held params) (λ p. comes_to_judge mode solution m p held) (params-once texts.params params held)
+    (λ p. then-once (IsReadAs held TextFile.Solution solution) (λ s outcome. outcome ≡ verify_outcome mode m p s) (file-once TextFile.Solution texts.solution solution held)
     (λ s x y e f. e ∙ sym f)))
     a b g h
 
@@ -178,19 +179,19 @@ unlogged-on-want words (Some held) log once h = λ refusals show.
 
 -- ---- what a verification logs
 
-logs-nothing : (words : List (List ℕ)) (wanted : Wanted) (log : LogState) (model : List ℕ) (params : Option (List ℕ)) (solution : List ℕ) → WantOne words → Want words wanted → IsLogOf wanted log → Want words (Wanted.Verify model params solution) → log ≡ empty_log
-logs-nothing words (Wanted.Search m p request output) log model params solution one want logs judged =
-    let e = one (Wanted.Search m p request output) (Wanted.Verify model params solution) want judged in absurd cc
-logs-nothing words (Wanted.Verify m p s) log model params solution one want logs judged = logs
+logs-nothing : (words : List (List ℕ)) (wanted : Wanted) (log : LogState) (model : List ℕ) (params : Option (List ℕ)) (mode : Mode) (solution : List ℕ) → WantOne words → Want words wanted → IsLogOf wanted log → Want words (Wanted.Verify model params mode solution) → log ≡ empty_log
+logs-nothing words (Wanted.Search m p u request output) log model params mode solution one want logs judged =
+    let e = one (Wanted.Search m p u request output) (Wanted.Verify model params mode solution) want judged in absurd cc
+logs-nothing words (Wanted.Verify m p u s) log model params mode solution one want logs judged = logs
 
 -- nothing is logged where a solution is to be verified
-pub judged-said : (words : List (List ℕ)) (told after : Option Held) (rose : Type 0) (status : Status) (text : List ℕ) (log : LogState) → WantOne words → Case words told after rose status text log → (model : List ℕ) (params : Option (List ℕ)) (solution : List ℕ) → Want words (Wanted.Verify model params solution) → log ≡ empty_log
-judged-said words told after rose status text log one (no_command s t nothing kept none) = λ model params solution judged. nothing
-judged-said words told after rose status text log one (answer wanted want ends shown put) = λ model params solution judged. logs-nothing words wanted log model params solution one want (end-logs wanted status log ends) judged
-judged-said words told after rose status text log one (faulty wanted want r s t nothing kept of_text shown) = λ model params solution judged. nothing
-judged-said words told after rose status text log one (unread name s t nothing kept failed why) = λ model params solution judged. nothing
-judged-said words told after rose status text log one (unwritten name s t sound failed) = λ model params solution judged. logs-nothing words failed.1.0 log model params solution one failed.1.1 (output-logs failed.1.0 name log failed.1.2) judged
+pub judged-said : (words : List (List ℕ)) (told after : Option Held) (rose : Type 0) (status : Status) (text : List ℕ) (log : LogState) → WantOne words → Case words told after rose status text log → (model : List ℕ) (params : Option (List ℕ)) (mode : Mode) (solution : List ℕ) → Want words (Wanted.Verify model params mode solution) → log ≡ empty_log
+judged-said words told after rose status text log one (no_command s t nothing kept none) = λ model params mode solution judged. nothing
+judged-said words told after rose status text log one (answer wanted want ends shown put) = λ model params mode solution judged. logs-nothing words wanted log model params mode solution one want (end-logs wanted status log ends) judged
+judged-said words told after rose status text log one (faulty wanted want r s t nothing kept of_text shown) = λ model params mode solution judged. nothing
+judged-said words told after rose status text log one (unread name s t nothing kept failed why) = λ model params mode solution judged. nothing
+judged-said words told after rose status text log one (unwritten name s t sound failed) = λ model params mode solution judged. logs-nothing words failed.1.0 log model params mode solution one failed.1.1 (output-logs failed.1.0 name log failed.1.2) judged
 
-pub judged-on-want : (words : List (List ℕ)) (told : Option Held) (log : LogState) → WantOne words → LogsTask words told log → (model : List ℕ) (params : Option (List ℕ)) (solution : List ℕ) → Want words (Wanted.Verify model params solution) → log ≡ empty_log
-judged-on-want words told log one h = λ model params solution judged.
-    elim h [ inl nothing ↦ nothing | inr asked ↦ logs-nothing words asked.0 log model params solution one asked.1 asked.2 judged ]
+pub judged-on-want : (words : List (List ℕ)) (told : Option Held) (log : LogState) → WantOne words → LogsTask words told log → (model : List ℕ) (params : Option (List ℕ)) (mode : Mode) (solution : List ℕ) → Want words (Wanted.Verify model params mode solution) → log ≡ empty_log
+judged-on-want words told log one h = λ model params mode solution judged.
+    elim h [ inl nothing ↦ nothing | inr asked ↦ logs-nothing words asked.0 log model params mode solution one asked.1 asked.2 judged ]

@@ -7,6 +7,7 @@ use Rattle.ep_solve.specs.Right.{IsSpent, empty_log}
 use Rattle.ep_base.specs.Outside.{Held, SameElsewhere, TookPart, with_bytes, with_more}
 use Rattle.ep_print.specs.Refusals.{refusal_text}
 use Rattle.ep_print.specs.declared.refusals.Refusal.{Refusal}
+use Rattle.ep_tree.specs.declared.values.Mode.{Mode}
 use Rattle.ep_run.specs.Answers.{Answers}
 use Rattle.ep_run.specs.Commands.{AreNoCommand, Want, conflicts_of, output_of}
 use Rattle.ep_run.specs.Outcomes.{Task}
@@ -37,8 +38,8 @@ kind-ended : (s : Status) → HasReply s → kind s ≡ 0
 kind-ended s h = elim h [ inl e ↦ ap kind e | inr rest ↦ elim rest [ inl e ↦ ap kind e | inr e ↦ ap kind e ] ]
 
 kind-end : (wanted : Wanted) (s : Status) (log : LogState) → IsEnd wanted s log → kind s ≡ 0
-kind-end (Wanted.Search _ _ _ _) s log h = elim h.1 [ inl e ↦ ap kind e | inr e ↦ ap kind e.0 ]
-kind-end (Wanted.Verify _ _ _) s log h = elim h.1 [ inl e ↦ ap kind e | inr e ↦ ap kind e ]
+kind-end (Wanted.Search _ _ _ _ _) s log h = elim h.1 [ inl e ↦ ap kind e | inr e ↦ ap kind e.0 ]
+kind-end (Wanted.Verify _ _ _ _) s log h = elim h.1 [ inl e ↦ ap kind e | inr e ↦ ap kind e ]
 
 kind-text : (r : Refusal) (s : Status) → s ≡ status_of r → IsOfText r → kind s ≡ 2
 kind-text r s e h = elim h [ inl f ↦ ap kind (e ∙ f) | inr f ↦ ap kind (e ∙ f) ]
@@ -58,8 +59,8 @@ refused-not s n h k one two =
     ]
 
 pub ended-status : (wanted : Wanted) (s : Status) (log : LogState) → IsEnd wanted s log → HasReply s
-ended-status (Wanted.Search _ _ _ _) s log h = elim h.1 [ inl e ↦ inl e | inr e ↦ inr (inl e.0) ]
-ended-status (Wanted.Verify _ _ _) s log h = elim h.1 [ inl e ↦ inl e | inr e ↦ inr (inr e) ]
+ended-status (Wanted.Search _ _ _ _ _) s log h = elim h.1 [ inl e ↦ inl e | inr e ↦ inr (inl e.0) ]
+ended-status (Wanted.Verify _ _ _ _) s log h = elim h.1 [ inl e ↦ inl e | inr e ↦ inr (inr e) ]
 
 -- ---- the clauses
 
@@ -85,12 +86,12 @@ when-answered words told after rose status text log Took (unwritten name s t sou
 
 -- that a solution is verified, and nothing is logged
 abbrev pub Verifies : List (List ℕ) → Type 0
-Verifies words = (model : List ℕ) × (params : Option (List ℕ)) × (solution : List ℕ) × Want words (Wanted.Verify model params solution)
+Verifies words = (model : List ℕ) × (params : Option (List ℕ)) × (mode : Mode) × (solution : List ℕ) × Want words (Wanted.Verify model params mode solution)
 
 wants-verify : (words : List (List ℕ)) (wanted : Wanted) (status : Status) (log : LogState) → Want words wanted → IsEnd wanted status log → status ≡ Status.Refuted → Verifies words × (log ≡ empty_log) × (output_of wanted ≡ None)
 unfolding output_of
-wants-verify words (Wanted.Search model params request output) status log want ends e = elim ends.1 [ inl f ↦ let g = sym f ∙ e in absurd cc | inr f ↦ let g = sym f.0 ∙ e in absurd cc ]
-wants-verify words (Wanted.Verify model params solution) status log want ends e = ((model, params, solution, want), ends.0, refl)
+wants-verify words (Wanted.Search model params mode request output) status log want ends e = elim ends.1 [ inl f ↦ let g = sym f ∙ e in absurd cc | inr f ↦ let g = sym f.0 ∙ e in absurd cc ]
+wants-verify words (Wanted.Verify model params mode solution) status log want ends e = ((model, params, mode, solution, want), ends.0, refl)
 
 pub when-refuted : (words : List (List ℕ)) (told after : Option Held) (rose : Type 0) (status : Status) (text : List ℕ) (log : LogState) → Case words told after rose status text log → status ≡ Status.Refuted → Verifies words
 when-refuted words told after rose status text log (no_command s t nothing kept none) h = apart status 0 1 (ap kind h) (ap kind s) (λ e. cc)
@@ -176,11 +177,11 @@ may-be-put words told after rose status text log (unwritten name s t sound faile
 -- that a search goes on in a model, and so many steps are logged
 abbrev pub Spends : List (List ℕ) → LogState → Type 0
 Spends words log =
-    (model : List ℕ) × (params : Option (List ℕ)) × (request : Request) × (output : Option (List ℕ)) × Want words (Wanted.Search model params request output) × IsSpent (conflicts_of request) log.events
+    (model : List ℕ) × (params : Option (List ℕ)) × (mode : Mode) × (request : Request) × (output : Option (List ℕ)) × Want words (Wanted.Search model params mode request output) × IsSpent (conflicts_of request) log.events
 
 wants-search : (words : List (List ℕ)) (wanted : Wanted) (status : Status) (log : LogState) → Want words wanted → IsEnd wanted status log → status ≡ Status.Unknown → Spends words log
-wants-search words (Wanted.Search model params request output) status log want ends e = elim ends.1 [ inl f ↦ let g = sym f ∙ e in absurd cc | inr f ↦ (model, params, request, output, want, f.1) ]
-wants-search words (Wanted.Verify model params solution) status log want ends e = elim ends.1 [ inl f ↦ let g = sym f ∙ e in absurd cc | inr f ↦ let g = sym f ∙ e in absurd cc ]
+wants-search words (Wanted.Search model params mode request output) status log want ends e = elim ends.1 [ inl f ↦ let g = sym f ∙ e in absurd cc | inr f ↦ (model, params, mode, request, output, want, f.1) ]
+wants-search words (Wanted.Verify model params mode solution) status log want ends e = elim ends.1 [ inl f ↦ let g = sym f ∙ e in absurd cc | inr f ↦ let g = sym f ∙ e in absurd cc ]
 
 -- the budget is spent where a search goes on
 pub when-unknown : (words : List (List ℕ)) (told after : Option Held) (rose : Type 0) (status : Status) (text : List ℕ) (log : LogState) → Case words told after rose status text log → status ≡ Status.Unknown → Spends words log

@@ -1,10 +1,10 @@
 -- From what the steps of a run tell to what the run tells.
-use Rattle.std.proofs.Common.{◌≡◌, ℕ, ◌⊎◌, List, [], ◌∷◌, ◌++◌, map, Option, Some, None, Ok, Err, Result, IfOk, OnErr, Contains, ◌≤◌, inl, inr, refl, sym, ap, subst, ◌∙◌, arith}
+use Rattle.std.proofs.Common.{◌≡◌, ℕ, ◌⊎◌, List, [], ◌∷◌, ◌++◌, map, Option, Some, None, Ok, Err, Result, IfOk, OnErr, Contains, inl, inr, refl, sym, ap, subst, ◌∙◌}
 use Rattle.std.specs.declared.alloc.Global.{Global}
 use Rattle.std.specs.declared.vec.Vec.{Vec}
 use Rattle.std.proofs.lemmas.List.{append-nil}
 use Rattle.cnf_core.specs.Events.{LogState}
-use Rattle.ep_base.specs.Outside.{Held, Rose}
+use Rattle.ep_base.specs.Outside.{Held}
 use Rattle.ep_base.specs.declared.errors.Memory.{Memory}
 use Rattle.ep_instance.specs.Judgements.{FitsIfShaped}
 use Rattle.ep_instance.specs.Refusals.{Refuses, ShapeAnswers}
@@ -63,15 +63,6 @@ pub refused-asks : (words : List (List ℕ)) (told after : Option Held) (rose : 
 refused-asks words told after rose log r (Ok reply) h = tt
 refused-asks words told after rose log r (Err e) h = refused-asked words told after rose log r h
 
--- ---- faults that rose
-
--- what rose later in a run rose in it
-pub rose-later : (old now new : ℕ) → old ≤ now → Rose now new → Rose old new
-rose-later old now new low h = elim h [ inl up ↦ inl (omega (arith, low, up)) | inr end ↦ inr end ]
-
-pub rose-from : (old now new : ℕ) → now ≡ old → Rose now new → Rose old new
-rose-from old now new e h = let P : ℕ → Type 0 = λ x. Rose x new in subst P e h
-
 -- ---- reading
 
 pub none-read : (told : Option Held) (rose : Type 0) (params : Params) → params_tree params ≡ [] → TellsParams told None rose (Ok params)
@@ -87,85 +78,85 @@ no-more f (r ∷ rs) e = absurd cc
 pub none-passed : (rs : List BindRefusal) → bind_refusals rs ≡ [] → rs ≡ []
 none-passed rs e = no-more bind_refusal rs e
 
-pub bound-stopped : {V : Type 0} (view : V → Instance) (m p : TextTree) (stop : Stop) → Tells view (bound_outcome m p) (Err stop) → Tells view (instance_of m p) (Err stop)
-bound-stopped view m p (Stop.Refused r) h = (h.0, bound-refused m p r h.1)
-bound-stopped view m p Stop.Memory h = tt
+pub bound-stopped : {V : Type 0} (mode : Mode) (view : V → Instance) (m p : TextTree) (stop : Stop) → Tells view (bound_outcome mode m p) (Err stop) → Tells view (instance_of mode m p) (Err stop)
+bound-stopped mode view m p (Stop.Refused r) h = (h.0, bound-refused mode m p r h.1)
+bound-stopped mode view m p Stop.Memory h = tt
 
-pub limits-stopped : {V : Type 0} (view : V → Instance) (m p : TextTree) (i : Instance) (stop : Stop) → bound_outcome m p ≡ Ok i
-    → Passes {V = Unit {0}} (bind_refusals (instance_limits Mode.Relational i)) (Err stop) → Tells view (instance_of m p) (Err stop)
-limits-stopped view m p i (Stop.Refused r) e h = (h.0, limits-refused m p i r e h.1)
-limits-stopped view m p i Stop.Memory e h = tt
+pub limits-stopped : {V : Type 0} (mode : Mode) (view : V → Instance) (m p : TextTree) (i : Instance) (stop : Stop) → bound_outcome mode m p ≡ Ok i
+    → Passes {V = Unit {0}} (bind_refusals (instance_limits mode i)) (Err stop) → Tells view (instance_of mode m p) (Err stop)
+limits-stopped mode view m p i (Stop.Refused r) e h = (h.0, limits-refused mode m p i r e h.1)
+limits-stopped mode view m p i Stop.Memory e h = tt
 
 -- ---- searching
 
-pub search-model-stopped : (V : Type 0) (log : LogState) (q : Request) (m p : TextTree) (stop : Stop) → log ≡ empty_log → Passes {V = V} (fault_refusals TextFile.Model (text_faults m)) (Err stop) → TellsReply (search_outcome q m p) log (Err stop)
-search-model-stopped V log q m p (Stop.Refused r) nothing h = (h.0, search-model q m p r h.1)
-search-model-stopped V log q m p Stop.Memory nothing h = inl nothing
+pub search-model-stopped : (mode : Mode) (V : Type 0) (log : LogState) (q : Request) (m p : TextTree) (stop : Stop) → log ≡ empty_log → Passes {V = V} (fault_refusals TextFile.Model (text_faults m)) (Err stop) → TellsReply (search_outcome mode q m p) log (Err stop)
+search-model-stopped mode V log q m p (Stop.Refused r) nothing h = (h.0, search-model mode q m p r h.1)
+search-model-stopped mode V log q m p Stop.Memory nothing h = inl nothing
 
-pub search-params-stopped : (V : Type 0) (log : LogState) (q : Request) (m p : TextTree) (stop : Stop) → log ≡ empty_log → fault_refusals TextFile.Model (text_faults m) ≡ []
-    → Passes {V = V} (fault_refusals TextFile.Params (params_faults p)) (Err stop) → TellsReply (search_outcome q m p) log (Err stop)
-search-params-stopped V log q m p (Stop.Refused r) nothing e h = (h.0, search-params q m p r e h.1)
-search-params-stopped V log q m p Stop.Memory nothing e h = inl nothing
+pub search-params-stopped : (mode : Mode) (V : Type 0) (log : LogState) (q : Request) (m p : TextTree) (stop : Stop) → log ≡ empty_log → fault_refusals TextFile.Model (text_faults m) ≡ []
+    → Passes {V = V} (fault_refusals TextFile.Params (params_faults p)) (Err stop) → TellsReply (search_outcome mode q m p) log (Err stop)
+search-params-stopped mode V log q m p (Stop.Refused r) nothing e h = (h.0, search-params mode q m p r e h.1)
+search-params-stopped mode V log q m p Stop.Memory nothing e h = inl nothing
 
-pub search-instance-stopped : {V : Type 0} (view : V → Instance) (log : LogState) (q : Request) (m p m' p' : TextTree) (stop : Stop) → log ≡ empty_log → m' ≡ m → p' ≡ p → AreFaultless m p
-    → Tells view (instance_of m' p') (Err stop) → TellsReply (search_outcome q m p) log (Err stop)
-search-instance-stopped view log q m p m' p' (Stop.Refused r) nothing e f none h =
-    let P : TextTree → Type 0 = λ x. IsAmong (instance_of x p') r in
-    let Q : TextTree → Type 0 = λ x. IsAmong (instance_of m x) r in
-    (h.0, search-instance q m p r none (subst Q f (subst P e h.1)))
-search-instance-stopped view log q m p m' p' Stop.Memory nothing e f none h = inl nothing
+pub search-instance-stopped : {V : Type 0} (mode : Mode) (view : V → Instance) (log : LogState) (q : Request) (m p m' p' : TextTree) (stop : Stop) → log ≡ empty_log → m' ≡ m → p' ≡ p → AreFaultless m p
+    → Tells view (instance_of mode m' p') (Err stop) → TellsReply (search_outcome mode q m p) log (Err stop)
+search-instance-stopped mode view log q m p m' p' (Stop.Refused r) nothing e f none h =
+    let P : TextTree → Type 0 = λ x. IsAmong (instance_of mode x p') r in
+    let Q : TextTree → Type 0 = λ x. IsAmong (instance_of mode m x) r in
+    (h.0, search-instance mode q m p r none (subst Q f (subst P e h.1)))
+search-instance-stopped mode view log q m p m' p' Stop.Memory nothing e f none h = inl nothing
 
-pub same-instance : (m p m' p' : TextTree) (i : Instance) → m' ≡ m → p' ≡ p → instance_of m' p' ≡ Ok i → instance_of m p ≡ Ok i
-same-instance m p m' p' i e f h = sym (ap (λ x. instance_of x p') e ∙ ap (instance_of m) f) ∙ h
+pub same-instance : (mode : Mode) (m p m' p' : TextTree) (i : Instance) → m' ≡ m → p' ≡ p → instance_of mode m' p' ≡ Ok i → instance_of mode m p ≡ Ok i
+same-instance mode m p m' p' i e f h = sym (ap (λ x. instance_of mode x p') e ∙ ap (instance_of mode m) f) ∙ h
 
-pub search-answered : (q : Request) (m p : TextTree) (i : Instance) (reply : Reply) (log : LogState) → AreFaultless m p → instance_of m p ≡ Ok i
-    → Answers (task_of q i) reply.status reply.text.items log → TellsReply (search_outcome q m p) log (Ok reply)
-search-answered q m p i reply log none e answers = (task_of q i, is-search q m p i none e, answers)
+pub search-answered : (mode : Mode) (q : Request) (m p : TextTree) (i : Instance) (reply : Reply) (log : LogState) → AreFaultless m p → instance_of mode m p ≡ Ok i
+    → Answers (task_of mode q i) reply.status reply.text.items log → TellsReply (search_outcome mode q m p) log (Ok reply)
+search-answered mode q m p i reply log none e answers = (task_of mode q i, is-search mode q m p i none e, answers)
 
 -- memory is wanting in a search, for a task that comes out
-pub search-wanting : (q : Request) (m p : TextTree) (i : Instance) (log : LogState) → AreFaultless m p → instance_of m p ≡ Ok i → TellsReply (search_outcome q m p) log (Err Stop.Memory)
-search-wanting q m p i log none e = inr (task_of q i, is-search q m p i none e)
+pub search-wanting : (mode : Mode) (q : Request) (m p : TextTree) (i : Instance) (log : LogState) → AreFaultless m p → instance_of mode m p ≡ Ok i → TellsReply (search_outcome mode q m p) log (Err Stop.Memory)
+search-wanting mode q m p i log none e = inr (task_of mode q i, is-search mode q m p i none e)
 
 -- ---- verifying
 
-pub verify-model-stopped : (V : Type 0) (m p s : TextTree) (stop : Stop) → Passes {V = V} (fault_refusals TextFile.Model (text_faults m)) (Err stop) → TellsReply (verify_outcome m p s) empty_log (Err stop)
-verify-model-stopped V m p s (Stop.Refused r) h = (h.0, verify-model m p s r h.1)
-verify-model-stopped V m p s Stop.Memory h = inl refl
+pub verify-model-stopped : (mode : Mode) (V : Type 0) (m p s : TextTree) (stop : Stop) → Passes {V = V} (fault_refusals TextFile.Model (text_faults m)) (Err stop) → TellsReply (verify_outcome mode m p s) empty_log (Err stop)
+verify-model-stopped mode V m p s (Stop.Refused r) h = (h.0, verify-model mode m p s r h.1)
+verify-model-stopped mode V m p s Stop.Memory h = inl refl
 
-pub verify-params-stopped : (V : Type 0) (m p s : TextTree) (stop : Stop) → fault_refusals TextFile.Model (text_faults m) ≡ []
-    → Passes {V = V} (fault_refusals TextFile.Params (params_faults p)) (Err stop) → TellsReply (verify_outcome m p s) empty_log (Err stop)
-verify-params-stopped V m p s (Stop.Refused r) e h = (h.0, verify-params m p s r e h.1)
-verify-params-stopped V m p s Stop.Memory e h = inl refl
+pub verify-params-stopped : (mode : Mode) (V : Type 0) (m p s : TextTree) (stop : Stop) → fault_refusals TextFile.Model (text_faults m) ≡ []
+    → Passes {V = V} (fault_refusals TextFile.Params (params_faults p)) (Err stop) → TellsReply (verify_outcome mode m p s) empty_log (Err stop)
+verify-params-stopped mode V m p s (Stop.Refused r) e h = (h.0, verify-params mode m p s r e h.1)
+verify-params-stopped mode V m p s Stop.Memory e h = inl refl
 
-pub verify-solution-stopped : (V : Type 0) (m p s : TextTree) (stop : Stop) → AreFaultless m p
-    → Passes {V = V} (fault_refusals TextFile.Solution (params_faults s)) (Err stop) → TellsReply (verify_outcome m p s) empty_log (Err stop)
-verify-solution-stopped V m p s (Stop.Refused r) none h = (h.0, verify-solution m p s r none h.1)
-verify-solution-stopped V m p s Stop.Memory none h = inl refl
+pub verify-solution-stopped : (mode : Mode) (V : Type 0) (m p s : TextTree) (stop : Stop) → AreFaultless m p
+    → Passes {V = V} (fault_refusals TextFile.Solution (params_faults s)) (Err stop) → TellsReply (verify_outcome mode m p s) empty_log (Err stop)
+verify-solution-stopped mode V m p s (Stop.Refused r) none h = (h.0, verify-solution mode m p s r none h.1)
+verify-solution-stopped mode V m p s Stop.Memory none h = inl refl
 
-pub verify-instance-stopped : {V : Type 0} (view : V → Instance) (m p s m' p' : TextTree) (stop : Stop) → m' ≡ m → p' ≡ p → AreAllFaultless m p s
-    → Tells view (instance_of m' p') (Err stop) → TellsReply (verify_outcome m p s) empty_log (Err stop)
-verify-instance-stopped view m p s m' p' (Stop.Refused r) e f none h =
-    let P : TextTree → Type 0 = λ x. IsAmong (instance_of x p') r in
-    let Q : TextTree → Type 0 = λ x. IsAmong (instance_of m x) r in
-    (h.0, verify-instance m p s r none (subst Q f (subst P e h.1)))
-verify-instance-stopped view m p s m' p' Stop.Memory e f none h = inl refl
+pub verify-instance-stopped : {V : Type 0} (mode : Mode) (view : V → Instance) (m p s m' p' : TextTree) (stop : Stop) → m' ≡ m → p' ≡ p → AreAllFaultless m p s
+    → Tells view (instance_of mode m' p') (Err stop) → TellsReply (verify_outcome mode m p s) empty_log (Err stop)
+verify-instance-stopped mode view m p s m' p' (Stop.Refused r) e f none h =
+    let P : TextTree → Type 0 = λ x. IsAmong (instance_of mode x p') r in
+    let Q : TextTree → Type 0 = λ x. IsAmong (instance_of mode m x) r in
+    (h.0, verify-instance mode m p s r none (subst Q f (subst P e h.1)))
+verify-instance-stopped mode view m p s m' p' Stop.Memory e f none h = inl refl
 
-pub verify-judged : (m p s s' : TextTree) (i : Instance) (result : Result Reply Stop) → AreAllFaultless m p s → instance_of m p ≡ Ok i → s' ≡ s
-    → TellsReply (judge_outcome i s') empty_log result → TellsReply (verify_outcome m p s) empty_log result
-verify-judged m p s s' i result none e f h =
+pub verify-judged : (mode : Mode) (m p s s' : TextTree) (i : Instance) (result : Result Reply Stop) → AreAllFaultless m p s → instance_of mode m p ≡ Ok i → s' ≡ s
+    → TellsReply (judge_outcome mode i s') empty_log result → TellsReply (verify_outcome mode m p s) empty_log result
+verify-judged mode m p s s' i result none e f h =
     let P : Outcome Task → Type 0 = λ o. TellsReply o empty_log result in
-    subst P (ap (judge_outcome i) f ∙ sym (is-verify m p s i none e)) h
+    subst P (ap (judge_outcome mode i) f ∙ sym (is-verify mode m p s i none e)) h
 
 -- ---- judging
 
-pub shape-stopped : (i : Instance) (s : TextTree) (stop : Stop) → TellsShape i s (Err stop) → TellsReply (judge_outcome i s) empty_log (Err stop)
-shape-stopped i s (Stop.Refused r) h = (h.0, shape-refused i s r h.1)
-shape-stopped i s Stop.Memory h = inl refl
+pub shape-stopped : (mode : Mode) (i : Instance) (s : TextTree) (stop : Stop) → TellsShape mode i s (Err stop) → TellsReply (judge_outcome mode i s) empty_log (Err stop)
+shape-stopped mode i s (Stop.Refused r) h = (h.0, shape-refused mode i s r h.1)
+shape-stopped mode i s Stop.Memory h = inl refl
 
-pub fit-judged : (i : Instance) (s : TextTree) (a : Assigned) (found : Found) (reply : Reply) → shape_outcome i s ≡ Ok (fits a) → Fits i a found
-    → IsJudged i found reply.status reply.text.items → TellsReply (judge_outcome i s) empty_log (Ok reply)
+pub fit-judged : (mode : Mode) (i : Instance) (s : TextTree) (a : Assigned) (found : Found) (reply : Reply) → shape_outcome mode i s ≡ Ok (fits a) → Fits i a found
+    → IsJudged mode i found reply.status reply.text.items → TellsReply (judge_outcome mode i s) empty_log (Ok reply)
 unfolding Answers
-fit-judged i s a found reply e fit h = (to_judge i (fits a), is-judge i s (fits a) e, (found, fit, h.0, h.1))
+fit-judged mode i s a found reply e fit h = (to_judge mode i (fits a), is-judge mode i s (fits a) e, (found, fit, h.0, h.1))
 
 -- ---- files
 
@@ -177,27 +168,23 @@ last-read names shows told rose log result h =
 
 -- ---- shapes
 
-pub shaped-tells : (mode : Mode) (i : Instance) (s : TextTree) (shaped : CodeShaped) → mode ≡ Mode.Relational → ShapeAnswers (Ok shaped) (read_solution mode i s) → FitsIfShaped i shaped → TellsShape i s (Ok shaped)
+pub shaped-tells : (mode : Mode) (i : Instance) (s : TextTree) (shaped : CodeShaped) → ShapeAnswers (Ok shaped) (read_solution mode i s) → FitsIfShaped i shaped → TellsShape mode i s (Ok shaped)
 unfolding as_outcome
-shaped-tells mode i s (CodeShaped.Fits a) e h fit =
-    (sym (ap (λ m. as_outcome (read_solution m i s)) e) ∙ ap as_outcome h, fit.0, fit.1)
-shaped-tells mode i s (CodeShaped.WrongShape name) e h fit =
-    (h.0, sym (ap (λ m. as_outcome (read_solution m i s)) e) ∙ ap as_outcome h.1, h.2)
+shaped-tells mode i s (CodeShaped.Fits a) h fit = (ap as_outcome h, fit.0, fit.1)
+shaped-tells mode i s (CodeShaped.WrongShape name) h fit = (h.0, ap as_outcome h.1, h.2)
 
-tells-shape : (i : Instance) (s : TextTree) (stop : Stop) → Tells {V = Shaped} (λ x. x) (shape_outcome i s) (Err stop) → TellsShape i s (Err stop)
-tells-shape i s (Stop.Refused r) h = h
-tells-shape i s Stop.Memory h = tt
+tells-shape : (mode : Mode) (i : Instance) (s : TextTree) (stop : Stop) → Tells {V = Shaped} (λ x. x) (shape_outcome mode i s) (Err stop) → TellsShape mode i s (Err stop)
+tells-shape mode i s (Stop.Refused r) h = h
+tells-shape mode i s Stop.Memory h = tt
 
-pub shape-bound : (mode : Mode) (i : Instance) (s : TextTree) (error : BindError) → mode ≡ Mode.Relational → Refuses error (read_solution mode i s) → TellsShape i s (Err (bind_stop error))
-shape-bound mode i s error e h =
-    let P : Mode → Type 0 = λ m. Refuses error (read_solution m i s) in
-    tells-shape i s (bind_stop error) (bind-stopped (λ x. x) (read_solution Mode.Relational i s) error (subst P e h))
+pub shape-bound : (mode : Mode) (i : Instance) (s : TextTree) (error : BindError) → Refuses error (read_solution mode i s) → TellsShape mode i s (Err (bind_stop error))
+shape-bound mode i s error h = tells-shape mode i s (bind_stop error) (bind-stopped (λ x. x) (read_solution mode i s) error h)
 
 -- a text that says which name keeps a solution text from giving an assignment
-pub shape-said : (i : Instance) (s : TextTree) (names : List (List ℕ)) (name : List ℕ) (status : Status) (text : List ℕ) → shape_outcome i s ≡ Ok (wrong_shape names) → Contains names name
-    → status ≡ Status.Refuted → text ≡ wrong_shape_text name → (task : Task) × (judge_outcome i s ≡ Ok task) × Answers task status text empty_log
+pub shape-said : (mode : Mode) (i : Instance) (s : TextTree) (names : List (List ℕ)) (name : List ℕ) (status : Status) (text : List ℕ) → shape_outcome mode i s ≡ Ok (wrong_shape names) → Contains names name
+    → status ≡ Status.Refuted → text ≡ wrong_shape_text name → (task : Task) × (judge_outcome mode i s ≡ Ok task) × Answers task status text empty_log
 unfolding Answers
-shape-said i s names name status text e among ended said = (to_judge i (wrong_shape names), is-judge i s (wrong_shape names) e, (name, among, ended, said))
+shape-said mode i s names name status text e among ended said = (to_judge mode i (wrong_shape names), is-judge mode i s (wrong_shape names) e, (name, among, ended, said))
 
 pub unread-bytes : (told : Option Held) (name : List ℕ) (rose : Type 0) (stop : Stop) → IsUnreadStop name stop → IsNotThere told name rose → TellsBytes {V = Vec ℕ Global} (λ bytes. bytes.items) told name rose (Err stop)
 unread-bytes told name rose (Stop.Refused r) h there = (h, there)
@@ -217,23 +204,23 @@ same-ok : {A : Type 0} (x y : A) → ◌≡◌ {A = Outcome A} (Ok x) (Ok y) →
 same-ok x y h = cc
 
 -- what verifying a text comes to is a solution text to judge
-verify-judges : (m p s : TextTree) (task : Task) → verify_outcome m p s ≡ Ok task → (i : Instance) × (shaped : Shaped) × (to_judge i shaped ≡ task)
+verify-judges : (mode : Mode) (m p s : TextTree) (task : Task) → verify_outcome mode m p s ≡ Ok task → (i : Instance) × (shaped : Shaped) × (to_judge mode i shaped ≡ task)
 unfolding verify_outcome
-verify-judges m p s task h =
+verify-judges mode m p s task h =
     let a = unless-ok (fault_refusals TextFile.Model (text_faults m)) _ task h in
     let b = unless-ok (fault_refusals TextFile.Params (params_faults p)) _ task a in
     let c = unless-ok (fault_refusals TextFile.Solution (params_faults s)) _ task b in
-    let d = then-ok (instance_of m p) _ task c in
-    let e = then-ok (as_outcome (read_solution Mode.Relational d.0 s)) _ task d.1 in
-    (d.0, e.0, same-ok (to_judge d.0 e.0) task e.1)
+    let d = then-ok (instance_of mode m p) _ task c in
+    let e = then-ok (as_outcome (read_solution mode d.0 s)) _ task d.1 in
+    (d.0, e.0, same-ok (to_judge mode d.0 e.0) task e.1)
 
 -- how a reply ends that judges
-pub reply-ends : (m p s : TextTree) (result : Result Reply Stop) → TellsReply (verify_outcome m p s) empty_log result → IfOk result (λ reply. (reply.status ≡ Status.Answered) ⊎ (reply.status ≡ Status.Refuted))
-reply-ends m p s (Ok reply) h =
-    let q = verify-judges m p s h.0 h.1 in
+pub reply-ends : (mode : Mode) (m p s : TextTree) (result : Result Reply Stop) → TellsReply (verify_outcome mode m p s) empty_log result → IfOk result (λ reply. (reply.status ≡ Status.Answered) ⊎ (reply.status ≡ Status.Refuted))
+reply-ends mode m p s (Ok reply) h =
+    let q = verify-judges mode m p s h.0 h.1 in
     let P : Task → Type 0 = λ t. Answers t reply.status reply.text.items empty_log in
-    judge-ends q.0 q.1 reply.status reply.text.items empty_log (subst P (sym q.2) h.2)
-reply-ends m p s (Err stop) h = tt
+    judge-ends mode q.0 q.1 reply.status reply.text.items empty_log (subst P (sym q.2) h.2)
+reply-ends mode m p s (Err stop) h = tt
 
 -- ---- ends
 
@@ -246,8 +233,8 @@ pub stopped-as : (wanted : Wanted) (log : LogState) (stop : Stop) → log ≡ em
 stopped-as wanted log stop h = (nothing-logs wanted log h, stopped-ends (λ status. IsEnd wanted status log) log stop h)
 
 -- a verification ends so, whatever refuses it, with nothing logged
-pub verify-ends : (model : List ℕ) (params : Option (List ℕ)) (solution : List ℕ) (log : LogState) (result : Result Reply Stop) → log ≡ empty_log
-    → IfOk result (λ reply. (reply.status ≡ Status.Answered) ⊎ (reply.status ≡ Status.Refuted)) → EndsAs (Wanted.Verify model params solution) log result
-verify-ends model params solution log (Ok reply) nothing h = (nothing, (nothing, h))
-verify-ends model params solution log (Err (Stop.Refused r)) nothing h = (nothing, nothing)
-verify-ends model params solution log (Err Stop.Memory) nothing h = (nothing, nothing-sound log nothing)
+pub verify-ends : (model : List ℕ) (params : Option (List ℕ)) (mode : Mode) (solution : List ℕ) (log : LogState) (result : Result Reply Stop) → log ≡ empty_log
+    → IfOk result (λ reply. (reply.status ≡ Status.Answered) ⊎ (reply.status ≡ Status.Refuted)) → EndsAs (Wanted.Verify model params mode solution) log result
+verify-ends model params mode solution log (Ok reply) nothing h = (nothing, (nothing, h))
+verify-ends model params mode solution log (Err (Stop.Refused r)) nothing h = (nothing, nothing)
+verify-ends model params mode solution log (Err Stop.Memory) nothing h = (nothing, nothing-sound log nothing)

@@ -29,22 +29,22 @@ nothing-sound log e =
     subst P (sym e) (record { valid = tt; new = tt; effective = tt })
 
 pub end-sound : (wanted : Wanted) (status : Status) (log : LogState) → IsEnd wanted status log → IsSound log.events
-end-sound (Wanted.Search _ _ _ _) status log h = h.0
-end-sound (Wanted.Verify _ _ _) status log h = nothing-sound log h.0
+end-sound (Wanted.Search _ _ _ _ _) status log h = h.0
+end-sound (Wanted.Verify _ _ _ _) status log h = nothing-sound log h.0
 
 pub end-logs : (wanted : Wanted) (status : Status) (log : LogState) → IsEnd wanted status log → IsLogOf wanted log
-end-logs (Wanted.Search _ _ _ _) status log h = tt
-end-logs (Wanted.Verify _ _ _) status log h = h.0
+end-logs (Wanted.Search _ _ _ _ _) status log h = tt
+end-logs (Wanted.Verify _ _ _ _) status log h = h.0
 
 pub nothing-logs : (wanted : Wanted) (log : LogState) → log ≡ empty_log → IsLogOf wanted log
-nothing-logs (Wanted.Search _ _ _ _) log e = tt
-nothing-logs (Wanted.Verify _ _ _) log e = e
+nothing-logs (Wanted.Search _ _ _ _ _) log e = tt
+nothing-logs (Wanted.Verify _ _ _ _) log e = e
 
 -- where a file is named for the answer, no solution is verified
 pub output-logs : (wanted : Wanted) (name : List ℕ) (log : LogState) → output_of wanted ≡ Some name → IsLogOf wanted log
 unfolding output_of
-output-logs (Wanted.Search _ _ _ _) name log e = tt
-output-logs (Wanted.Verify model params solution) name log e = absurd cc
+output-logs (Wanted.Search _ _ _ _ _) name log e = tt
+output-logs (Wanted.Verify model params mode solution) name log e = absurd cc
 
 -- ---- from what is wanted to the words
 
@@ -65,10 +65,10 @@ asked-of wanted None status text log h = tt
 asked-of wanted (Some held) status text log h = (h.0, h.1)
 
 -- the answer is there, and its file can't be written
-pub unwritten-run : (V : Type 0) (words : List (List ℕ)) (wanted : Wanted) (output : Option (List ℕ)) (told between after : Option Held) (rose rose-now quiet : Type 0) (status : Status) (text : List ℕ) (log : LogState) (stop : Stop) → Want words wanted
+pub unwritten-run : (V : Type 0) (words : List (List ℕ)) (wanted : Wanted) (output : Option (List ℕ)) (told between after : Option Held) (rose rose-now : Type 0) (status : Status) (text : List ℕ) (log : LogState) (stop : Stop) → Want words wanted
     → output ≡ output_of wanted → between ≡ told → (rose-now → rose) → IsEnd wanted status log → IsAnswer (ComesTo wanted) told status text log
-    → TellsWritten {V = V} output text between after rose-now quiet (Err stop) → TellsRun words told after rose log (Err stop)
-unwritten-run V words wanted output told between after rose rose-now quiet status text log (Stop.Refused r) want named kept rises ends shown h =
+    → TellsWritten {V = V} output text between after rose-now (Err stop) → TellsRun words told after rose log (Err stop)
+unwritten-run V words wanted output told between after rose rose-now status text log (Stop.Refused r) want named kept rises ends shown h =
     inr (
       wanted,
       want,
@@ -82,19 +82,19 @@ unwritten-run V words wanted output told between after rose rose-now quiet statu
         asked-of wanted told status text log shown,
       ),
     )
-unwritten-run V words wanted output told between after rose rose-now quiet status text log Stop.Memory want named kept rises ends shown h = (
+unwritten-run V words wanted output told between after rose rose-now status text log Stop.Memory want named kept rises ends shown h = (
   end-sound wanted status log ends,
-  h.1 ∙ kept,
+  h ∙ kept,
   inr (wanted, want, end-logs wanted status log ends, asked-of wanted told status text log shown),
 )
 
 -- the answer is there, and its file is written
-pub answered-run : (V : Type 0) (words : List (List ℕ)) (wanted : Wanted) (output : Option (List ℕ)) (told between after : Option Held) (rose rose-now quiet : Type 0) (log : LogState) (reply : Reply) (x : V) → Want words wanted
+pub answered-run : (V : Type 0) (words : List (List ℕ)) (wanted : Wanted) (output : Option (List ℕ)) (told between after : Option Held) (rose rose-now : Type 0) (log : LogState) (reply : Reply) (x : V) → Want words wanted
     → output ≡ output_of wanted → between ≡ told → IsEnd wanted reply.status log → IsAnswer (ComesTo wanted) told reply.status reply.text.items log
-    → TellsWritten {V = V} output reply.text.items between after rose-now quiet (Ok x) → TellsRun words told after rose log (Ok reply)
-answered-run V words wanted output told between after rose rose-now quiet log reply x want named kept ends shown h =
+    → TellsWritten {V = V} output reply.text.items between after rose-now (Ok x) → TellsRun words told after rose log (Ok reply)
+answered-run V words wanted output told between after rose rose-now log reply x want named kept ends shown h =
     let text : List ℕ = reply.text.items in
-    (wanted, want, (ends, shown, h.1 ∙ ap (λ (o : Option (List ℕ)). with_output o text between) named ∙ ap (with_output (output_of wanted) text) kept))
+    (wanted, want, (ends, shown, h ∙ ap (λ (o : Option (List ℕ)). with_output o text between) named ∙ ap (with_output (output_of wanted) text) kept))
 
 refused-sound : (wanted : Wanted) (told after : Option Held) (rose : Type 0) (log : LogState) (r : Refusal) → IsRefused wanted told after rose log r → IsSound log.events
 refused-sound wanted told after rose log r h = elim h [ inl shown ↦ nothing-sound log shown.0 | inr unwritten ↦ unwritten.5 ]

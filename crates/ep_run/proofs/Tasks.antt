@@ -1,5 +1,5 @@
 -- What the steps over trees come to, one after another.
-use Rattle.std.proofs.Common.{◌≡◌, ℕ, ◌⊎◌, List, [], Ok, Contains, inl, inr, sym, subst, ◌∙◌}
+use Rattle.std.proofs.Common.{◌≡◌, ℕ, ◌⊎◌, List, [], Ok, Contains, inl, inr, ◌∙◌}
 use Rattle.cnf_core.specs.Events.{LogState}
 use Rattle.ep_print.specs.declared.refusals.Refusal.{Refusal}
 use Rattle.ep_print.specs.declared.refusals.TextFile.{TextFile}
@@ -28,45 +28,45 @@ pub record AreFaultless (m p : TextTree) : Type 0 where
 
 -- ---- the instance
 
-pub bound-refused : (m p : TextTree) (r : Refusal) → IsAmong (bound_outcome m p) r → IsAmong (instance_of m p) r
+pub bound-refused : (mode : Mode) (m p : TextTree) (r : Refusal) → IsAmong (bound_outcome mode m p) r → IsAmong (instance_of mode m p) r
 unfolding instance_of
-bound-refused m p r h = among-then (bound_outcome m p) r _ h
+bound-refused mode m p r h = among-then (bound_outcome mode m p) r _ h
 
-pub limits-refused : (m p : TextTree) (i : Instance) (r : Refusal) → bound_outcome m p ≡ Ok i → Contains (bind_refusals (instance_limits Mode.Relational i)) r → IsAmong (instance_of m p) r
+pub limits-refused : (mode : Mode) (m p : TextTree) (i : Instance) (r : Refusal) → bound_outcome mode m p ≡ Ok i → Contains (bind_refusals (instance_limits mode i)) r → IsAmong (instance_of mode m p) r
 unfolding instance_of
-limits-refused m p i r e h =
-    among-next (bound_outcome m p) i r _ e (among-first (bind_refusals (instance_limits Mode.Relational i)) r (Ok i) h)
+limits-refused mode m p i r e h =
+    among-next (bound_outcome mode m p) i r _ e (among-first (bind_refusals (instance_limits mode i)) r (Ok i) h)
 
-pub is-instance : (m p : TextTree) (i : Instance) → bound_outcome m p ≡ Ok i → bind_refusals (instance_limits Mode.Relational i) ≡ [] → instance_of m p ≡ Ok i
+pub is-instance : (mode : Mode) (m p : TextTree) (i : Instance) → bound_outcome mode m p ≡ Ok i → bind_refusals (instance_limits mode i) ≡ [] → instance_of mode m p ≡ Ok i
 unfolding instance_of
-is-instance m p i e none =
-    then-next (bound_outcome m p) i _ e ∙ none-refused (bind_refusals (instance_limits Mode.Relational i)) (Ok i) none
+is-instance mode m p i e none =
+    then-next (bound_outcome mode m p) i _ e ∙ none-refused (bind_refusals (instance_limits mode i)) (Ok i) none
 
 -- ---- searching
 
-pub search-model : (q : Request) (m p : TextTree) (r : Refusal) → Contains (fault_refusals TextFile.Model (text_faults m)) r → IsAmong (search_outcome q m p) r
+pub search-model : (mode : Mode) (q : Request) (m p : TextTree) (r : Refusal) → Contains (fault_refusals TextFile.Model (text_faults m)) r → IsAmong (search_outcome mode q m p) r
 unfolding search_outcome
-search-model q m p r h = among-first (fault_refusals TextFile.Model (text_faults m)) r _ h
+search-model mode q m p r h = among-first (fault_refusals TextFile.Model (text_faults m)) r _ h
 
-pub search-params : (q : Request) (m p : TextTree) (r : Refusal) → fault_refusals TextFile.Model (text_faults m) ≡ [] → Contains (fault_refusals TextFile.Params (params_faults p)) r → IsAmong (search_outcome q m p) r
+pub search-params : (mode : Mode) (q : Request) (m p : TextTree) (r : Refusal) → fault_refusals TextFile.Model (text_faults m) ≡ [] → Contains (fault_refusals TextFile.Params (params_faults p)) r → IsAmong (search_outcome mode q m p) r
 unfolding search_outcome
-search-params q m p r e h =
+search-params mode q m p r e h =
     among-later (fault_refusals TextFile.Model (text_faults m)) r _ e
     (among-first (fault_refusals TextFile.Params (params_faults p)) r _ h)
 
-pub search-instance : (q : Request) (m p : TextTree) (r : Refusal) → AreFaultless m p → IsAmong (instance_of m p) r → IsAmong (search_outcome q m p) r
+pub search-instance : (mode : Mode) (q : Request) (m p : TextTree) (r : Refusal) → AreFaultless m p → IsAmong (instance_of mode m p) r → IsAmong (search_outcome mode q m p) r
 unfolding search_outcome
-search-instance q m p r none h =
+search-instance mode q m p r none h =
     among-later (fault_refusals TextFile.Model (text_faults m)) r _ none.model
     (among-later (fault_refusals TextFile.Params (params_faults p)) r _ none.params
-    (among-then (instance_of m p) r _ h))
+    (among-then (instance_of mode m p) r _ h))
 
-pub is-search : (q : Request) (m p : TextTree) (i : Instance) → AreFaultless m p → instance_of m p ≡ Ok i → search_outcome q m p ≡ Ok (task_of q i)
+pub is-search : (mode : Mode) (q : Request) (m p : TextTree) (i : Instance) → AreFaultless m p → instance_of mode m p ≡ Ok i → search_outcome mode q m p ≡ Ok (task_of mode q i)
 unfolding search_outcome
-is-search q m p i none e =
+is-search mode q m p i none e =
     none-refused (fault_refusals TextFile.Model (text_faults m)) _ none.model
     ∙ none-refused (fault_refusals TextFile.Params (params_faults p)) _ none.params
-    ∙ then-next (instance_of m p) i _ e
+    ∙ then-next (instance_of mode m p) i _ e
 
 -- ---- verifying
 
@@ -75,48 +75,48 @@ pub record AreAllFaultless (m p s : TextTree) : Type 0 where
   pub texts : AreFaultless m p
   pub solution : fault_refusals TextFile.Solution (params_faults s) ≡ []
 
-pub verify-model : (m p s : TextTree) (r : Refusal) → Contains (fault_refusals TextFile.Model (text_faults m)) r → IsAmong (verify_outcome m p s) r
+pub verify-model : (mode : Mode) (m p s : TextTree) (r : Refusal) → Contains (fault_refusals TextFile.Model (text_faults m)) r → IsAmong (verify_outcome mode m p s) r
 unfolding verify_outcome
-verify-model m p s r h = among-first (fault_refusals TextFile.Model (text_faults m)) r _ h
+verify-model mode m p s r h = among-first (fault_refusals TextFile.Model (text_faults m)) r _ h
 
-pub verify-params : (m p s : TextTree) (r : Refusal) → fault_refusals TextFile.Model (text_faults m) ≡ [] → Contains (fault_refusals TextFile.Params (params_faults p)) r → IsAmong (verify_outcome m p s) r
+pub verify-params : (mode : Mode) (m p s : TextTree) (r : Refusal) → fault_refusals TextFile.Model (text_faults m) ≡ [] → Contains (fault_refusals TextFile.Params (params_faults p)) r → IsAmong (verify_outcome mode m p s) r
 unfolding verify_outcome
-verify-params m p s r e h =
+verify-params mode m p s r e h =
     among-later (fault_refusals TextFile.Model (text_faults m)) r _ e
     (among-first (fault_refusals TextFile.Params (params_faults p)) r _ h)
 
-pub verify-solution : (m p s : TextTree) (r : Refusal) → AreFaultless m p → Contains (fault_refusals TextFile.Solution (params_faults s)) r → IsAmong (verify_outcome m p s) r
+pub verify-solution : (mode : Mode) (m p s : TextTree) (r : Refusal) → AreFaultless m p → Contains (fault_refusals TextFile.Solution (params_faults s)) r → IsAmong (verify_outcome mode m p s) r
 unfolding verify_outcome
-verify-solution m p s r none h =
+verify-solution mode m p s r none h =
     among-later (fault_refusals TextFile.Model (text_faults m)) r _ none.model
     (among-later (fault_refusals TextFile.Params (params_faults p)) r _ none.params
     (among-first (fault_refusals TextFile.Solution (params_faults s)) r _ h))
 
-pub verify-instance : (m p s : TextTree) (r : Refusal) → AreAllFaultless m p s → IsAmong (instance_of m p) r → IsAmong (verify_outcome m p s) r
+pub verify-instance : (mode : Mode) (m p s : TextTree) (r : Refusal) → AreAllFaultless m p s → IsAmong (instance_of mode m p) r → IsAmong (verify_outcome mode m p s) r
 unfolding verify_outcome
-verify-instance m p s r none h =
+verify-instance mode m p s r none h =
     among-later (fault_refusals TextFile.Model (text_faults m)) r _ none.texts.model
     (among-later (fault_refusals TextFile.Params (params_faults p)) r _ none.texts.params
     (among-later (fault_refusals TextFile.Solution (params_faults s)) r _ none.solution
-    (among-then (instance_of m p) r _ h)))
+    (among-then (instance_of mode m p) r _ h)))
 
-pub is-verify : (m p s : TextTree) (i : Instance) → AreAllFaultless m p s → instance_of m p ≡ Ok i → verify_outcome m p s ≡ judge_outcome i s
+pub is-verify : (mode : Mode) (m p s : TextTree) (i : Instance) → AreAllFaultless m p s → instance_of mode m p ≡ Ok i → verify_outcome mode m p s ≡ judge_outcome mode i s
 unfolding verify_outcome judge_outcome and_then
-is-verify m p s i none e =
+is-verify mode m p s i none e =
     none-refused (fault_refusals TextFile.Model (text_faults m)) _ none.texts.model
     ∙ none-refused (fault_refusals TextFile.Params (params_faults p)) _ none.texts.params
     ∙ none-refused (fault_refusals TextFile.Solution (params_faults s)) _ none.solution
-    ∙ then-next (instance_of m p) i _ e
+    ∙ then-next (instance_of mode m p) i _ e
 
 -- ---- judging
 
-pub shape-refused : (i : Instance) (s : TextTree) (r : Refusal) → IsAmong (shape_outcome i s) r → IsAmong (judge_outcome i s) r
+pub shape-refused : (mode : Mode) (i : Instance) (s : TextTree) (r : Refusal) → IsAmong (shape_outcome mode i s) r → IsAmong (judge_outcome mode i s) r
 unfolding judge_outcome
-shape-refused i s r h = among-then (shape_outcome i s) r _ h
+shape-refused mode i s r h = among-then (shape_outcome mode i s) r _ h
 
-pub is-judge : (i : Instance) (s : TextTree) (shaped : Shaped) → shape_outcome i s ≡ Ok shaped → judge_outcome i s ≡ Ok (to_judge i shaped)
+pub is-judge : (mode : Mode) (i : Instance) (s : TextTree) (shaped : Shaped) → shape_outcome mode i s ≡ Ok shaped → judge_outcome mode i s ≡ Ok (to_judge mode i shaped)
 unfolding judge_outcome
-is-judge i s shaped e = then-next (shape_outcome i s) shaped _ e
+is-judge mode i s shaped e = then-next (shape_outcome mode i s) shaped _ e
 
 -- ---- how a task ends
 
@@ -126,45 +126,45 @@ judged-ends (a_solution goal) status e = inl e
 judged-ends (violates n) status e = inr e
 judged-ends goal_undefined status e = inr e
 
-pub judge-ends : (i : Instance) (shaped : Shaped) (status : Status) (text : List ℕ) (log : LogState) → Answers (to_judge i shaped) status text log → (status ≡ Status.Answered) ⊎ (status ≡ Status.Refuted)
+pub judge-ends : (mode : Mode) (i : Instance) (shaped : Shaped) (status : Status) (text : List ℕ) (log : LogState) → Answers (to_judge mode i shaped) status text log → (status ≡ Status.Answered) ⊎ (status ≡ Status.Refuted)
 unfolding Answers
-judge-ends i (fits a) status text log h = judged-ends (judgement Mode.Relational i h.0) status h.2
-judge-ends i (wrong_shape names) status text log h = inr h.2
+judge-ends mode i (fits a) status text log h = judged-ends (judgement mode i h.0) status h.2
+judge-ends mode i (wrong_shape names) status text log h = inr h.2
 
 -- ---- how a search ends
 
-shown-spent : (i : Instance) (conflicts : ℕ) (log : LogState) (a : AnswerTree) (status : Status) → status ≡ answer_status a → ShowsAnswer Mode.Relational i conflicts log a
+shown-spent : (mode : Mode) (i : Instance) (conflicts : ℕ) (log : LogState) (a : AnswerTree) (status : Status) → status ≡ answer_status a → ShowsAnswer mode i conflicts log a
     → (status ≡ Status.Answered) ⊎ ((status ≡ Status.Unknown) × IsSpent conflicts log.events)
 unfolding answer_status ShowsAnswer
-shown-spent i conflicts log (solution _) status e h = inl e
-shown-spent i conflicts log (optimum _ _) status e h = inl e
-shown-spent i conflicts log no_solution status e h = inl e
-shown-spent i conflicts log (unknown _) status e h = inr (e, h.0)
-shown-spent i conflicts log (unknown_with _ _ _) status e h = inr (e, h.0)
+shown-spent mode i conflicts log (solution _) status e h = inl e
+shown-spent mode i conflicts log (optimum _ _) status e h = inl e
+shown-spent mode i conflicts log no_solution status e h = inl e
+shown-spent mode i conflicts log (unknown _) status e h = inr (e, h.0)
+shown-spent mode i conflicts log (unknown_with _ _ _) status e h = inr (e, h.0)
 
 -- the log of an answer is sound, and shows where the budget was spent
-pub answer-ends : (i : Instance) (conflicts : ℕ) (log : LogState) (a : AnswerTree) (status : Status) → status ≡ answer_status a → IsLogged Mode.Relational i conflicts log a → IsSearched conflicts status log
-answer-ends i conflicts log a status e h = (h.sound, shown-spent i conflicts log a status e h.shows)
+pub answer-ends : (mode : Mode) (i : Instance) (conflicts : ℕ) (log : LogState) (a : AnswerTree) (status : Status) → status ≡ answer_status a → IsLogged mode i conflicts log a → IsSearched conflicts status log
+answer-ends mode i conflicts log a status e h = (h.sound, shown-spent mode i conflicts log a status e h.shows)
 
-list-spent : (i : Instance) (conflicts most : ℕ) (log : LogState) (listed : List Assigned) (end : EndTree) (status : Status) → status ≡ listing_status end → EndsRightly Mode.Relational i conflicts most log listed end
+list-spent : (mode : Mode) (i : Instance) (conflicts most : ℕ) (log : LogState) (listed : List Assigned) (end : EndTree) (status : Status) → status ≡ listing_status end → EndsRightly mode i conflicts most log listed end
     → (status ≡ Status.Answered) ⊎ ((status ≡ Status.Unknown) × IsSpent conflicts log.events)
 unfolding listing_status EndsRightly
-list-spent i conflicts most log listed complete status e h = inl e
-list-spent i conflicts most log listed stopped status e h = inl e
-list-spent i conflicts most log listed (spent n) status e h = inr (e, h.2)
+list-spent mode i conflicts most log listed complete status e h = inl e
+list-spent mode i conflicts most log listed stopped status e h = inl e
+list-spent mode i conflicts most log listed (spent n) status e h = inr (e, h.2)
 
 -- the log of a list is sound, and shows where the budget was spent
-pub list-ends : (i : Instance) (conflicts most : ℕ) (log : LogState) (listing : ListingTree) (status : Status) → status ≡ listing_status listing.ending → Lists Mode.Relational i conflicts most log listing → IsSearched conflicts status log
-list-ends i conflicts most log listing status e h = (h.sound, list-spent i conflicts most log listing.found listing.ending status e h.ends)
+pub list-ends : (mode : Mode) (i : Instance) (conflicts most : ℕ) (log : LogState) (listing : ListingTree) (status : Status) → status ≡ listing_status listing.ending → Lists mode i conflicts most log listing → IsSearched conflicts status log
+list-ends mode i conflicts most log listing status e h = (h.sound, list-spent mode i conflicts most log listing.found listing.ending status e h.ends)
 
 -- ---- what answers a search
 
-pub solved : (i : Instance) (conflicts : ℕ) (status : Status) (text : List ℕ) (log : LogState) (answer : AnswerTree) → IsRight Mode.Relational i conflicts answer → IsLogged Mode.Relational i conflicts log answer
-    → status ≡ answer_status answer → text ≡ answer_text answer → Answers (to_solve i conflicts) status text log
+pub solved : (mode : Mode) (i : Instance) (conflicts : ℕ) (status : Status) (text : List ℕ) (log : LogState) (answer : AnswerTree) → IsRight mode i conflicts answer → IsLogged mode i conflicts log answer
+    → status ≡ answer_status answer → text ≡ answer_text answer → Answers (to_solve mode i conflicts) status text log
 unfolding Answers
-solved i conflicts status text log answer right logged ended said = (answer, right, logged, ended, said)
+solved mode i conflicts status text log answer right logged ended said = (answer, right, logged, ended, said)
 
-pub listed : (i : Instance) (most conflicts : ℕ) (status : Status) (text : List ℕ) (log : LogState) (listing : ListingTree) → Lists Mode.Relational i conflicts most log listing
-    → status ≡ listing_status listing.ending → text ≡ listing_text listing → Answers (to_list i most conflicts) status text log
+pub listed : (mode : Mode) (i : Instance) (most conflicts : ℕ) (status : Status) (text : List ℕ) (log : LogState) (listing : ListingTree) → Lists mode i conflicts most log listing
+    → status ≡ listing_status listing.ending → text ≡ listing_text listing → Answers (to_list mode i most conflicts) status text log
 unfolding Answers
-listed i most conflicts status text log listing lists ended said = (listing, lists, ended, said)
+listed mode i most conflicts status text log listing lists ended said = (listing, lists, ended, said)

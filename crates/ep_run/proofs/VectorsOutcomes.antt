@@ -8,6 +8,7 @@ use Rattle.ep_print.specs.Listings.{complete, spent, stopped}
 use Rattle.ep_tree.specs.Solutions.{a_solution, goal_undefined, violates}
 use Rattle.ep_tree.specs.Statements.{TextTree, constraints, letting}
 use Rattle.ep_tree.specs.Trees.{ExprTree, named}
+use Rattle.ep_tree.specs.declared.values.Mode.{Mode}
 use Rattle.ep_tree.specs.Faults.{clause_faults, declaration_faults, faults, faults_after, name_faults, params_faults, stated_faults, statement_faults, text_faults, type_fault, unless}
 use Rattle.ep_tree.specs.StatementSpelling.{is_letting}
 use Rattle.ep_tree.specs.Types.{from_one, judge, named_type}
@@ -27,23 +28,23 @@ m = codes "m"
 abbrev s : List ℕ
 s = codes "s"
 
-solve-runs : wanted_of (Job.Solve m None 7 None None None) ≡ Some (Wanted.Search m None (Request.One 7) None)
+solve-runs : wanted_of (Job.Solve m None 7 None None None Mode.Strict) ≡ Some (Wanted.Search m None Mode.Strict (Request.One 7) None)
 unfolding wanted_of
 solve-runs = refl
 
-answers-are-written : wanted_of (Job.Solve m None 7 (Some s) None None) ≡ Some (Wanted.Search m None (Request.One 7) (Some s))
+answers-are-written : wanted_of (Job.Solve m None 7 (Some s) None None Mode.Relational) ≡ Some (Wanted.Search m None Mode.Relational (Request.One 7) (Some s))
 unfolding wanted_of
 answers-are-written = refl
 
-enumerate-runs : wanted_of (Job.Enumerate m (Some s) 10 7 None None None) ≡ Some (Wanted.Search m (Some s) (Request.Many 10 7) None)
+enumerate-runs : wanted_of (Job.Enumerate m (Some s) 10 7 None None None Mode.Strict) ≡ Some (Wanted.Search m (Some s) Mode.Strict (Request.Many 10 7) None)
 unfolding wanted_of
 enumerate-runs = refl
 
-formulas-are-not-written : wanted_of (Job.Solve m None 7 None (Some s) None) ≡ None
+formulas-are-not-written : wanted_of (Job.Solve m None 7 None (Some s) None Mode.Relational) ≡ None
 unfolding wanted_of
 formulas-are-not-written = refl
 
-verify-runs : wanted_of (Job.Verify m s (Some m)) ≡ Some (Wanted.Verify m (Some m) s)
+verify-runs : wanted_of (Job.Verify m s (Some m) Mode.Strict) ≡ Some (Wanted.Verify m (Some m) Mode.Strict s)
 unfolding wanted_of
 verify-runs = refl
 
@@ -61,19 +62,19 @@ faulty-model = constraints (at 1 1) (unknown 11 ∷ []) ∷ []
 abbrev faulty-params : TextTree
 faulty-params = letting (at 1 1) (codes "n") (at 1 9) None (unknown 14) ∷ []
 
-model-first : search_outcome (Request.One 7) faulty-model faulty-params ≡ Err (Refusal.UnknownName TextFile.Model (at 1 11) (codes "y") ∷ [])
+model-first : search_outcome Mode.Strict (Request.One 7) faulty-model faulty-params ≡ Err (Refusal.UnknownName TextFile.Model (at 1 11) (codes "y") ∷ [])
 unfolding clause_faults fault_refusal faults faults_after from_one judge name_faults named_type search_outcome statement_faults text_faults type_fault unless_refused
 model-first = refl
 
-params-next : search_outcome (Request.One 7) [] faulty-params ≡ Err (Refusal.UnknownName TextFile.Params (at 1 14) (codes "y") ∷ [])
+params-next : search_outcome Mode.Strict (Request.One 7) [] faulty-params ≡ Err (Refusal.UnknownName TextFile.Params (at 1 14) (codes "y") ∷ [])
 unfolding declaration_faults fault_refusal faults faults_after is_letting name_faults params_faults search_outcome stated_faults statement_faults text_faults unless unless_refused
 params-next = refl
 
-solution-last : verify_outcome [] [] faulty-params ≡ Err (Refusal.UnknownName TextFile.Solution (at 1 14) (codes "y") ∷ [])
+solution-last : verify_outcome Mode.Relational [] [] faulty-params ≡ Err (Refusal.UnknownName TextFile.Solution (at 1 14) (codes "y") ∷ [])
 unfolding declaration_faults fault_refusal faults faults_after is_letting name_faults params_faults stated_faults statement_faults text_faults unless unless_refused verify_outcome
 solution-last = refl
 
-params-before-solution : verify_outcome [] faulty-params faulty-params ≡ Err (Refusal.UnknownName TextFile.Params (at 1 14) (codes "y") ∷ [])
+params-before-solution : verify_outcome Mode.Relational [] faulty-params faulty-params ≡ Err (Refusal.UnknownName TextFile.Params (at 1 14) (codes "y") ∷ [])
 unfolding declaration_faults fault_refusal faults faults_after is_letting name_faults params_faults stated_faults statement_faults text_faults unless unless_refused verify_outcome
 params-before-solution = refl
 

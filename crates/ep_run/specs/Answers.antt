@@ -1,10 +1,8 @@
 -- Which answers are right for a task, their texts, and what the log shows of them.
 use Rattle.std.specs.Prelude.{◌≡◌, ℕ, List, ◌++◌, codes, Some, None, Contains}
 use Rattle.std.specs.Fmt.{decimal, signed_decimal}
-use Rattle.ep_tree.specs.Binding.{Instance}
 use Rattle.ep_tree.specs.SolutionTexts.{fits, wrong_shape}
 use Rattle.ep_tree.specs.Solutions.{Fits, Found, Judgement, a_solution, goal_undefined, judgement, violates}
-use Rattle.ep_tree.specs.declared.values.Mode.{Mode}
 use Rattle.ep_print.specs.Answers.{AnswerTree, answer_text, unknown, unknown_with}
 use Rattle.ep_print.specs.Listings.{EndTree, ListingTree, complete, listing_text, spent, stopped}
 use Rattle.cnf_core.specs.Events.{LogState}
@@ -45,15 +43,15 @@ wrong_shape_text name = codes "$ wrong shape " ++ (name ++ codes "\n")
 
 -- a status, a text and a log answer a task
 unfoldable pub Answers : Task → Status → List ℕ → LogState → Type 0
-Answers (to_solve i conflicts) status text log =
-    (answer : AnswerTree) × IsRight Mode.Relational i conflicts answer × IsLogged Mode.Relational i conflicts log answer
+Answers (to_solve mode i conflicts) status text log =
+    (answer : AnswerTree) × IsRight mode i conflicts answer × IsLogged mode i conflicts log answer
     × (status ≡ answer_status answer) × (text ≡ answer_text answer)
-Answers (to_list i most conflicts) status text log =
-    (listing : ListingTree) × Lists Mode.Relational i conflicts most log listing
+Answers (to_list mode i most conflicts) status text log =
+    (listing : ListingTree) × Lists mode i conflicts most log listing
     × (status ≡ listing_status listing.ending) × (text ≡ listing_text listing)
-Answers (to_judge i (fits a)) status text log =
+Answers (to_judge mode i (fits a)) status text log =
     (found : Found) × Fits i a found
-    × (status ≡ judgement_status (judgement Mode.Relational i found))
-    × (text ≡ judgement_text (judgement Mode.Relational i found))
-Answers (to_judge i (wrong_shape names)) status text log =
+    × (status ≡ judgement_status (judgement mode i found))
+    × (text ≡ judgement_text (judgement mode i found))
+Answers (to_judge mode i (wrong_shape names)) status text log =
     (name : List ℕ) × Contains names name × (status ≡ Status.Refuted) × (text ≡ wrong_shape_text name)

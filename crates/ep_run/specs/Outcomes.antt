@@ -59,46 +59,46 @@ unfoldable pub as_outcome : {A : Type 0} → Result A (List BindRefusal) → Out
 as_outcome (Ok x) = Ok x
 as_outcome (Err refusals) = Err (bind_refusals refusals)
 
--- what binding a model and its parameters comes to
-abbrev pub bound_outcome : TextTree → TextTree → Outcome Instance
-bound_outcome model params = as_outcome (bind Mode.Relational model params)
+-- what binding a model and its parameters comes to, in a mode of undefinedness
+abbrev pub bound_outcome : Mode → TextTree → TextTree → Outcome Instance
+bound_outcome mode model params = as_outcome (bind mode model params)
 
 -- The instance of a model and its parameters, within the limits: what refuses to bind comes first, and then what the
 -- measures pass.
-unfoldable pub instance_of : TextTree → TextTree → Outcome Instance
-instance_of model params =
-    and_then (bound_outcome model params) (λ i.
-    unless_refused (bind_refusals (instance_limits Mode.Relational i)) (Ok i))
+unfoldable pub instance_of : Mode → TextTree → TextTree → Outcome Instance
+instance_of mode model params =
+    and_then (bound_outcome mode model params) (λ i.
+    unless_refused (bind_refusals (instance_limits mode i)) (Ok i))
 
--- a task with what it needs: an instance to solve within so many conflicts; one of which at most so many solutions are to be listed
--- within so many conflicts; or one with what a solution text gives it
+-- a task with what it needs, in a mode of undefinedness: an instance to solve within so many conflicts; one of which at most so many
+-- solutions are to be listed within so many conflicts; or one with what a solution text gives it
 pub data Task : Type 0 where
-  to_solve : Instance → ℕ → Task
-  to_list : Instance → ℕ → ℕ → Task
-  to_judge : Instance → Shaped → Task
+  to_solve : Mode → Instance → ℕ → Task
+  to_list : Mode → Instance → ℕ → ℕ → Task
+  to_judge : Mode → Instance → Shaped → Task
 
 -- the task of a search in an instance
-unfoldable pub task_of : Request → Instance → Task
-task_of (Request.One conflicts) i = to_solve i conflicts
-task_of (Request.Many most conflicts) i = to_list i most conflicts
+unfoldable pub task_of : Mode → Request → Instance → Task
+task_of mode (Request.One conflicts) i = to_solve mode i conflicts
+task_of mode (Request.Many most conflicts) i = to_list mode i most conflicts
 
 -- What a search in a model under parameters comes to. The faults of the model come first, then those of the parameters.
-unfoldable pub search_outcome : Request → TextTree → TextTree → Outcome Task
-search_outcome request model params =
+unfoldable pub search_outcome : Mode → Request → TextTree → TextTree → Outcome Task
+search_outcome mode request model params =
     unless_refused (fault_refusals TextFile.Model (text_faults model))
     (unless_refused (fault_refusals TextFile.Params (params_faults params))
-    (and_then (instance_of model params) (λ i. Ok (task_of request i))))
+    (and_then (instance_of mode model params) (λ i. Ok (task_of mode request i))))
 
 -- what judging a solution text by an instance comes to
-unfoldable pub judge_outcome : Instance → TextTree → Outcome Task
-judge_outcome i solution =
-    and_then (as_outcome (read_solution Mode.Relational i solution)) (λ shaped. Ok (to_judge i shaped))
+unfoldable pub judge_outcome : Mode → Instance → TextTree → Outcome Task
+judge_outcome mode i solution =
+    and_then (as_outcome (read_solution mode i solution)) (λ shaped. Ok (to_judge mode i shaped))
 
 -- What verifying a solution text comes to. Its faults come before binding, and its lettings are evaluated last.
-unfoldable pub verify_outcome : TextTree → TextTree → TextTree → Outcome Task
-verify_outcome model params solution =
+unfoldable pub verify_outcome : Mode → TextTree → TextTree → TextTree → Outcome Task
+verify_outcome mode model params solution =
     unless_refused (fault_refusals TextFile.Model (text_faults model))
     (unless_refused (fault_refusals TextFile.Params (params_faults params))
     (unless_refused (fault_refusals TextFile.Solution (params_faults solution))
-    (and_then (instance_of model params) (λ i.
-    and_then (as_outcome (read_solution Mode.Relational i solution)) (λ shaped. Ok (to_judge i shaped))))))
+    (and_then (instance_of mode model params) (λ i.
+    and_then (as_outcome (read_solution mode i solution)) (λ shaped. Ok (to_judge mode i shaped))))))

@@ -5,6 +5,7 @@
 use Rattle.std.specs.Prelude.{◌≡◌, ◌⊎◌, ℕ, List, [], ◌∷◌, Option, Result, Ok, Err, Contains}
 use Rattle.ep_base.specs.Outside.{Held}
 use Rattle.ep_tree.specs.Statements.{TextTree}
+use Rattle.ep_tree.specs.declared.values.Mode.{Mode}
 use Rattle.ep_print.specs.Refusals.{refusal_text}
 use Rattle.ep_print.specs.declared.refusals.Refusal.{Refusal}
 use Rattle.ep_print.specs.declared.refusals.TextFile.{TextFile}
@@ -23,26 +24,26 @@ ThenShows reads next outcome =
     ⊎ ((refusal : Refusal) × reads (Err refusal) × (outcome ≡ Err (refusal ∷ [])))
 
 -- a search goes on in a model that was read: its parameters are read
-abbrev pub comes_to_search : Request → Option (List ℕ) → TextTree → Held → Outcome Task → Type 0
-comes_to_search request params model held =
-    ThenShows (AreParams held params) (λ p outcome. outcome ≡ search_outcome request model p)
+abbrev pub comes_to_search : Mode → Request → Option (List ℕ) → TextTree → Held → Outcome Task → Type 0
+comes_to_search mode request params model held =
+    ThenShows (AreParams held params) (λ p outcome. outcome ≡ search_outcome mode request model p)
 
 -- a model and its parameters were read, and a solution is judged: its text is read
-abbrev pub comes_to_judge : List ℕ → TextTree → TextTree → Held → Outcome Task → Type 0
-comes_to_judge solution model params held =
-    ThenShows (IsReadAs held TextFile.Solution solution) (λ s outcome. outcome ≡ verify_outcome model params s)
+abbrev pub comes_to_judge : Mode → List ℕ → TextTree → TextTree → Held → Outcome Task → Type 0
+comes_to_judge mode solution model params held =
+    ThenShows (IsReadAs held TextFile.Solution solution) (λ s outcome. outcome ≡ verify_outcome mode model params s)
 
 -- a model was read, and a solution of it is verified: its parameters are read
-abbrev pub comes_to_verify : Option (List ℕ) → List ℕ → TextTree → Held → Outcome Task → Type 0
-comes_to_verify params solution model held =
-    ThenShows (AreParams held params) (λ p. comes_to_judge solution model p held)
+abbrev pub comes_to_verify : Mode → Option (List ℕ) → List ℕ → TextTree → Held → Outcome Task → Type 0
+comes_to_verify mode params solution model held =
+    ThenShows (AreParams held params) (λ p. comes_to_judge mode solution model p held)
 
 -- what is wanted comes to this over held files: the model is read first
 abbrev pub ComesTo : Wanted → Held → Outcome Task → Type 0
-ComesTo (Wanted.Search model params request output) held =
-    ThenShows (IsReadAs held TextFile.Model model) (λ m. comes_to_search request params m held)
-ComesTo (Wanted.Verify model params solution) held =
-    ThenShows (IsReadAs held TextFile.Model model) (λ m. comes_to_verify params solution m held)
+ComesTo (Wanted.Search model params mode request output) held =
+    ThenShows (IsReadAs held TextFile.Model model) (λ m. comes_to_search mode request params m held)
+ComesTo (Wanted.Verify model params mode solution) held =
+    ThenShows (IsReadAs held TextFile.Model model) (λ m. comes_to_verify mode params solution m held)
 
 -- the words show this over held files
 abbrev pub Show : List (List ℕ) → Held → Outcome Task → Type 0

@@ -66,24 +66,24 @@ TellsReply outcome log (Err (Stop.Refused refusal)) = IsOfText refusal × IsAmon
 TellsReply outcome log (Err Stop.Memory) = OrUnlogged log ((task : Task) × (outcome ≡ Ok task))
 
 -- a status and a text are those of the judgement of an assignment
-abbrev pub IsJudged : Instance → Found → Status → List ℕ → Type 0
-IsJudged i found status text =
-    (status ≡ judgement_status (judgement Mode.Relational i found))
-    × (text ≡ judgement_text (judgement Mode.Relational i found))
+abbrev pub IsJudged : Mode → Instance → Found → Status → List ℕ → Type 0
+IsJudged mode i found status text =
+    (status ≡ judgement_status (judgement mode i found))
+    × (text ≡ judgement_text (judgement mode i found))
 
 -- what an instance gives a solution text
-abbrev pub shape_outcome : Instance → TextTree → Outcome PlainShaped
-shape_outcome i solution = as_outcome (read_solution Mode.Relational i solution)
+abbrev pub shape_outcome : Mode → Instance → TextTree → Outcome PlainShaped
+shape_outcome mode i solution = as_outcome (read_solution mode i solution)
 
 -- a solution text gives an assignment that fits, or it is one of the names that keep it from that
-abbrev pub TellsShape : Instance → TextTree → Result Shaped Stop → Type 0
-TellsShape i solution (Ok (Shaped.Fits a)) =
-    (shape_outcome i solution ≡ Ok (fits (assigned a))) × (found : Found) × Fits i (assigned a) found
-TellsShape i solution (Ok (Shaped.WrongShape name)) =
-    (names : List (List ℕ)) × (shape_outcome i solution ≡ Ok (wrong_shape names)) × Contains names name
-TellsShape i solution (Err (Stop.Refused refusal)) =
-    IsOfText refusal × IsAmong (shape_outcome i solution) refusal
-TellsShape i solution (Err Stop.Memory) = Unit {0}
+abbrev pub TellsShape : Mode → Instance → TextTree → Result Shaped Stop → Type 0
+TellsShape mode i solution (Ok (Shaped.Fits a)) =
+    (shape_outcome mode i solution ≡ Ok (fits (assigned a))) × (found : Found) × Fits i (assigned a) found
+TellsShape mode i solution (Ok (Shaped.WrongShape name)) =
+    (names : List (List ℕ)) × (shape_outcome mode i solution ≡ Ok (wrong_shape names)) × Contains names name
+TellsShape mode i solution (Err (Stop.Refused refusal)) =
+    IsOfText refusal × IsAmong (shape_outcome mode i solution) refusal
+TellsShape mode i solution (Err Stop.Memory) = Unit {0}
 
 -- ---- reading
 
@@ -168,14 +168,14 @@ IsSearched conflicts status log =
 
 -- how a run may end that has its answer, and with which log
 abbrev pub IsEnd : Wanted → Status → LogState → Type 0
-IsEnd (Wanted.Search _ _ request _) status log = IsSearched (conflicts_of request) status log
-IsEnd (Wanted.Verify _ _ _) status log =
+IsEnd (Wanted.Search _ _ _ request _) status log = IsSearched (conflicts_of request) status log
+IsEnd (Wanted.Verify _ _ _ _) status log =
     (log ≡ empty_log) × ((status ≡ Status.Answered) ⊎ (status ≡ Status.Refuted))
 
 -- to verify a solution is to log nothing
 abbrev pub IsLogOf : Wanted → LogState → Type 0
-IsLogOf (Wanted.Search _ _ _ _) log = Unit {0}
-IsLogOf (Wanted.Verify _ _ _) log = log ≡ empty_log
+IsLogOf (Wanted.Search _ _ _ _ _) log = Unit {0}
+IsLogOf (Wanted.Verify _ _ _ _) log = log ≡ empty_log
 
 -- an answer ends so; nothing is logged where there is a refusal, and soundly where memory is wanting
 abbrev pub EndsBy : (Status → Type 0) → LogState → Result Reply Stop → Type 0
@@ -187,12 +187,12 @@ EndsBy End log (Err Stop.Memory) = IsSound log.events
 abbrev pub EndsAs : Wanted → LogState → Result Reply Stop → Type 0
 EndsAs wanted log result = IsLogOf wanted log × EndsBy (λ status. IsEnd wanted status log) log result
 
--- what writing a text into the file that is named for it tells, where `rose` says that a fault was counted and `quiet` that none was
-abbrev pub TellsWritten : {V : Type 0} → Option (List ℕ) → List ℕ → Option Held → Option Held → Type 0 → Type 0 → Result V Stop → Type 0
-TellsWritten output text told after rose quiet (Ok x) = quiet × (after ≡ with_output output text told)
-TellsWritten output text told after rose quiet (Err (Stop.Refused refusal)) =
+-- what writing a text into the file that is named for it tells, where `rose` says that a fault was counted
+abbrev pub TellsWritten : {V : Type 0} → Option (List ℕ) → List ℕ → Option Held → Option Held → Type 0 → Result V Stop → Type 0
+TellsWritten output text told after rose (Ok x) = after ≡ with_output output text told
+TellsWritten output text told after rose (Err (Stop.Refused refusal)) =
     rose × (name : List ℕ) × (output ≡ Some name) × (refusal ≡ Refusal.CannotWrite name) × SameElsewhere name told after
-TellsWritten output text told after rose quiet (Err Stop.Memory) = quiet × (after ≡ told)
+TellsWritten output text told after rose (Err Stop.Memory) = after ≡ told
 
 -- a refusal that is shown: nothing is logged, and the files hold what they held
 abbrev pub IsShown : Wanted → Option Held → Option Held → Type 0 → LogState → Refusal → Type 0

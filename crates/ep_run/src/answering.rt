@@ -5,7 +5,6 @@ ghost use Rattle.std.specs.List.{All};
 ghost use Rattle.ep_base.specs.Reads.{IsWithinNumbers};
 ghost use Rattle.ep_tree.specs.Closed.{IsClosed};
 ghost use Rattle.ep_tree.specs.Solutions.{instance_limits};
-ghost use Rattle.ep_tree.specs.declared.values.Mode.{Mode};
 ghost use Rattle.ep_instance.specs.Instances.{instance_of as plain_instance, mode_of};
 ghost use Rattle.ep_print.specs.Answers.{answer_tree};
 ghost use Rattle.ep_print.specs.Listings.{end_tree};
@@ -34,13 +33,12 @@ pub fn searched_reply(
     request: Request,
     log: &mut Log,
 ) -> Result<Reply, Memory>
-    requires mode { mode_of instance.now ≡ Mode.Relational }
     requires closed { IsClosed (plain_instance instance.now) }
     requires numbers { All (λ f. All IsWithinNumbers f.values) (plain_instance instance.now).finds }
-    requires within { instance_limits Mode.Relational (plain_instance instance.now) ≡ [] }
+    requires within { instance_limits (mode_of instance.now) (plain_instance instance.now) ≡ [] }
     requires empty { log.old ≡ empty_log }
     ensures answers { IfOk result (λ reply.
-        Answers (task_of request (plain_instance instance.now)) reply.status reply.text.items log.new) }
+        Answers (task_of (mode_of instance.now) request (plain_instance instance.now)) reply.status reply.text.items log.new) }
     ensures ends { IfOk result (λ reply. IsSearched (conflicts_of request) reply.status log.new) }
     ensures sound { IsSound log.new.events }
 {
@@ -57,13 +55,12 @@ fn solved_reply(
     conflicts: u64,
     log: &mut Log,
 ) -> Result<Reply, Memory>
-    requires mode { mode_of instance.now ≡ Mode.Relational }
     requires closed { IsClosed (plain_instance instance.now) }
     requires numbers { All (λ f. All IsWithinNumbers f.values) (plain_instance instance.now).finds }
-    requires within { instance_limits Mode.Relational (plain_instance instance.now) ≡ [] }
+    requires within { instance_limits (mode_of instance.now) (plain_instance instance.now) ≡ [] }
     requires empty { log.old ≡ empty_log }
     ensures answers { IfOk result (λ reply.
-        Answers (to_solve (plain_instance instance.now) conflicts) reply.status reply.text.items log.new) }
+        Answers (to_solve (mode_of instance.now) (plain_instance instance.now) conflicts) reply.status reply.text.items log.new) }
     ensures ends { IfOk result (λ reply. IsSearched conflicts reply.status log.new) }
     ensures sound { IsSound log.new.events }
 {
@@ -83,13 +80,12 @@ fn listed_reply(
     conflicts: u64,
     log: &mut Log,
 ) -> Result<Reply, Memory>
-    requires mode { mode_of instance.now ≡ Mode.Relational }
     requires closed { IsClosed (plain_instance instance.now) }
     requires numbers { All (λ f. All IsWithinNumbers f.values) (plain_instance instance.now).finds }
-    requires within { instance_limits Mode.Relational (plain_instance instance.now) ≡ [] }
+    requires within { instance_limits (mode_of instance.now) (plain_instance instance.now) ≡ [] }
     requires empty { log.old ≡ empty_log }
     ensures answers { IfOk result (λ reply.
-        Answers (to_list (plain_instance instance.now) most conflicts) reply.status reply.text.items log.new) }
+        Answers (to_list (mode_of instance.now) (plain_instance instance.now) most conflicts) reply.status reply.text.items log.new) }
     ensures ends { IfOk result (λ reply. IsSearched conflicts reply.status log.new) }
     ensures sound { IsSound log.new.events }
 {

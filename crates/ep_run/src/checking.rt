@@ -7,7 +7,6 @@ ghost use Rattle.ep_tree.specs.Closed.{IsClosed};
 ghost use Rattle.ep_tree.specs.Faults.{params_faults, text_faults};
 ghost use Rattle.ep_tree.specs.Solutions.{instance_limits};
 ghost use Rattle.ep_tree.specs.Views.{model_tree, params_tree};
-ghost use Rattle.ep_tree.specs.declared.values.Mode.{Mode as ModeValue};
 ghost use Rattle.ep_types.specs.Texts.{typed_params_tree, typed_tree};
 ghost use Rattle.ep_instance.specs.Instances.{instance_of as plain_instance, mode_of};
 ghost use Rattle.ep_print.specs.declared.refusals.TextFile.{TextFile as TextFileValue};
@@ -46,30 +45,34 @@ pub fn checked_params(alloc: Global, file: TextFile, params: Params) -> Result<T
     }
 }
 
-/// The instance of a model and its parameters, if it is within the limits.
-pub fn instance_of(alloc: Global, model: Typed, params: TypedParams) -> Result<Instance, Stop>
+/// The instance of a model and its parameters in a mode of undefinedness, if it is within the limits.
+pub fn instance_of(
+    alloc: Global,
+    mode: Mode,
+    model: Typed,
+    params: TypedParams,
+) -> Result<Instance, Stop>
     ensures tells { Tells plain_instance
-        (instance_of (typed_tree model) (typed_params_tree params)) result }
-    ensures mode { IfOk result (λ i. mode_of i ≡ ModeValue.Relational) }
+        (instance_of mode (typed_tree model) (typed_params_tree params)) result }
+    ensures mode { IfOk result (λ i. mode_of i ≡ mode) }
     ensures closed { IfOk result (λ i. IsClosed (plain_instance i)) }
     ensures numbers { IfOk result (λ i. All (λ f. All IsWithinNumbers f.values) (plain_instance i).finds) }
-    ensures within { IfOk result (λ i.
-        instance_limits ModeValue.Relational (plain_instance i) ≡ []) }
+    ensures within { IfOk result (λ i. instance_limits (mode_of i) (plain_instance i) ≡ []) }
 {
-    let instance = bound(alloc, model, params)?;
+    let instance = bound(alloc, mode, model, params)?;
     check_limits(alloc, &instance)?;
     Ok(instance)
 }
 
 /// The instance of a model and its parameters.
-fn bound(alloc: Global, model: Typed, params: TypedParams) -> Result<Instance, Stop>
+fn bound(alloc: Global, mode: Mode, model: Typed, params: TypedParams) -> Result<Instance, Stop>
     ensures tells { Tells plain_instance
-        (bound_outcome (typed_tree model) (typed_params_tree params)) result }
-    ensures mode { IfOk result (λ i. mode_of i ≡ ModeValue.Relational) }
+        (bound_outcome mode (typed_tree model) (typed_params_tree params)) result }
+    ensures mode { IfOk result (λ i. mode_of i ≡ mode) }
     ensures closed { IfOk result (λ i. IsClosed (plain_instance i)) }
     ensures numbers { IfOk result (λ i. All (λ f. All IsWithinNumbers f.values) (plain_instance i).finds) }
 {
-    match bind(alloc, model, params, Mode::Relational) {
+    match bind(alloc, model, params, mode) {
         Ok(instance) => Ok(instance),
         Err(error) => Err(bind_stop(error)),
     }
@@ -77,10 +80,9 @@ fn bound(alloc: Global, model: Typed, params: TypedParams) -> Result<Instance, S
 
 /// Passes an instance that is within the limits of its measures.
 fn check_limits(alloc: Global, instance: &Instance) -> Result<(), Stop>
-    requires mode { mode_of instance.now ≡ ModeValue.Relational }
     requires closed { IsClosed (plain_instance instance.now) }
     ensures { Passes
-        (bind_refusals (instance_limits ModeValue.Relational (plain_instance instance.now))) result }
+        (bind_refusals (instance_limits (mode_of instance.now) (plain_instance instance.now))) result }
 {
     match measure(alloc, instance) {
         Ok(_) => Ok(()),

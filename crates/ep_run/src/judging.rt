@@ -5,7 +5,6 @@ ghost use Rattle.std.specs.Fmt.{decimal, signed_decimal};
 ghost use Rattle.ep_tree.specs.Closed.{IsClosed};
 ghost use Rattle.ep_tree.specs.Solutions.{Fits, Found, instance_limits};
 ghost use Rattle.ep_tree.specs.Views.{assigned};
-ghost use Rattle.ep_tree.specs.declared.values.Mode.{Mode};
 ghost use Rattle.ep_types.specs.Texts.{typed_params_tree};
 ghost use Rattle.ep_instance.specs.Instances.{instance_of as plain_instance, mode_of};
 ghost use Rattle.ep_instance.specs.Judgements.{judgement_of};
@@ -31,11 +30,11 @@ pub fn judged_reply(
     instance: &Instance,
     solution: TypedParams,
 ) -> Result<Reply, Stop>
-    requires mode { mode_of instance.now ≡ Mode.Relational }
     requires closed { IsClosed (plain_instance instance.now) }
-    requires within { instance_limits Mode.Relational (plain_instance instance.now) ≡ [] }
+    requires within { instance_limits (mode_of instance.now) (plain_instance instance.now) ≡ [] }
     ensures { TellsReply
-        (judge_outcome (plain_instance instance.now) (typed_params_tree solution)) empty_log result }
+        (judge_outcome (mode_of instance.now) (plain_instance instance.now) (typed_params_tree solution))
+        empty_log result }
 {
     match shaped(alloc, instance, solution)? {
         Shaped::Fits(assignment) => Ok(judged(alloc, instance, &assignment)?),
@@ -48,9 +47,8 @@ pub fn judged_reply(
 
 /// The assignment of a solution text, or a name that keeps it from giving one.
 fn shaped(alloc: Global, instance: &Instance, solution: TypedParams) -> Result<Shaped, Stop>
-    requires mode { mode_of instance.now ≡ Mode.Relational }
     requires closed { IsClosed (plain_instance instance.now) }
-    ensures { TellsShape (plain_instance instance.now) (typed_params_tree solution) result }
+    ensures { TellsShape (mode_of instance.now) (plain_instance instance.now) (typed_params_tree solution) result }
 {
     match read_assignment(alloc, instance, solution) {
         Ok(shaped) => Ok(shaped),
@@ -60,13 +58,12 @@ fn shaped(alloc: Global, instance: &Instance, solution: TypedParams) -> Result<S
 
 /// What is said of an assignment that fits.
 fn judged(alloc: Global, instance: &Instance, assignment: &Assignment) -> Result<Reply, Memory>
-    requires mode { mode_of instance.now ≡ Mode.Relational }
     requires closed { IsClosed (plain_instance instance.now) }
-    requires within { instance_limits Mode.Relational (plain_instance instance.now) ≡ [] }
+    requires within { instance_limits (mode_of instance.now) (plain_instance instance.now) ≡ [] }
     requires fits { (found : Found) × Fits (plain_instance instance.now) (assigned assignment.now) found }
     ensures { IfOk result (λ reply. (found : Found)
         → Fits (plain_instance instance.now) (assigned assignment.now) found
-        → IsJudged (plain_instance instance.now) found reply.status reply.text.items) }
+        → IsJudged (mode_of instance.now) (plain_instance instance.now) found reply.status reply.text.items) }
 {
     let judgement = is_solution(alloc, instance, assignment)?;
     Ok(Reply {

@@ -16,6 +16,3 @@ mod writing;
 
 pub use status::Status;
 pub use top::run;
-
-#[cfg(test)]
-mod tests;

@@ -1,6 +1,6 @@
 //! Reads the files of a run.
 
-ghost use Rattle.std.specs.Prelude.{◌≡◌, ◌≤◌, [], OnOk};
+ghost use Rattle.std.specs.Prelude.{◌≡◌, ◌≤◌, []};
 ghost use Rattle.ep_base.specs.Outside.{Rose};
 ghost use Rattle.ep_tree.specs.Views.{model_tree, params_tree};
 ghost use Rattle.ep_print.specs.declared.refusals.TextFile.{TextFile as TextFileValue};
@@ -24,7 +24,6 @@ pub fn read_model<F: Files>(alloc: Global, files: &mut F, name: &Word) -> Result
         (Rose (F.faults files.old) (F.faults files.new)) result }
     ensures held { F.held files.new ≡ F.held files.old }
     ensures faults { F.faults files.old ≤ F.faults files.new }
-    ensures quiet { OnOk result (F.faults files.new ≡ F.faults files.old) }
 {
     let text = read_bytes(alloc, files, name)?;
     model_in(alloc, &text)
@@ -42,7 +41,6 @@ pub fn read_params<F: Files>(
         (Rose (F.faults files.old) (F.faults files.new)) result }
     ensures held { F.held files.new ≡ F.held files.old }
     ensures faults { F.faults files.old ≤ F.faults files.new }
-    ensures quiet { OnOk result (F.faults files.new ≡ F.faults files.old) }
 {
     let text = read_bytes(alloc, files, name)?;
     params_in(alloc, file, &text)
@@ -58,7 +56,6 @@ pub fn read_named_params<F: Files>(
         (Rose (F.faults files.old) (F.faults files.new)) result }
     ensures held { F.held files.new ≡ F.held files.old }
     ensures faults { F.faults files.old ≤ F.faults files.new }
-    ensures quiet { OnOk result (F.faults files.new ≡ F.faults files.old) }
 {
     match name {
         Some(name) => read_params(alloc, files, TextFile::Params, name),
@@ -82,7 +79,6 @@ fn read_bytes<F: Files>(alloc: Global, files: &mut F, name: &Word) -> Result<Vec
         (Rose (F.faults files.old) (F.faults files.new)) result }
     ensures held { F.held files.new ≡ F.held files.old }
     ensures faults { F.faults files.old ≤ F.faults files.new }
-    ensures quiet { OnOk result (F.faults files.new ≡ F.faults files.old) }
 {
     match files.read(alloc, name.text(), MOST_BYTES + 1) {
         Ok(Some(bytes)) => Ok(bytes),

@@ -20,7 +20,7 @@ use super::wanted::{Request, Wanted};
 use cnf_core::Log;
 use ep_base::{Files, Word};
 use ep_print::TextFile;
-use ep_tree::{Model, Params};
+use ep_tree::{Mode, Model, Params};
 use std::alloc::Global;
 
 /// Does what is wanted. The formula and the solver's steps stand in the log then, where it was needed.
@@ -41,19 +41,21 @@ pub fn do_wanted<F: Files>(
         Wanted::Search {
             model,
             params,
+            mode,
             request,
             ..
         } => {
             let model = read_model(alloc, files, model)?;
-            search_model(alloc, files, model, params, *request, log)
+            search_model(alloc, files, model, params, *mode, *request, log)
         }
         Wanted::Verify {
             model,
             params,
+            mode,
             solution,
         } => {
             let model = read_model(alloc, files, model)?;
-            verify_model(alloc, files, model, params, solution)
+            verify_model(alloc, files, model, params, *mode, solution)
         }
     }
 }
@@ -64,18 +66,19 @@ fn search_model<F: Files>(
     files: &mut F,
     model: Model,
     params: &Option<Word>,
+    mode: Mode,
     request: Request,
     log: &mut Log,
 ) -> Result<Reply, Stop>
     requires empty { log.old ≡ empty_log }
-    ensures tells { TellsTask (option_to_list params.now) (comes_to_search request params.now (model_tree model))
+    ensures tells { TellsTask (option_to_list params.now) (comes_to_search mode request params.now (model_tree model))
         (F.held files.old) (Rose (F.faults files.old) (F.faults files.new)) log.new result }
     ensures ends { EndsBy (λ status. IsSearched (conflicts_of request) status log.new) log.new result }
     ensures held { F.held files.new ≡ F.held files.old }
     ensures faults { F.faults files.old ≤ F.faults files.new }
 {
     let params = read_named_params(alloc, files, params)?;
-    search_texts(alloc, model, params, request, log)
+    search_texts(alloc, model, params, mode, request, log)
 }
 
 /// Verifies a solution text of a model, once its parameters are read.
@@ -84,10 +87,11 @@ fn verify_model<F: Files>(
     files: &mut F,
     model: Model,
     params: &Option<Word>,
+    mode: Mode,
     solution: &Word,
 ) -> Result<Reply, Stop>
     ensures tells { TellsTask (option_to_list params.now ++ solution.now ∷ [])
-        (comes_to_verify params.now solution.now (model_tree model))
+        (comes_to_verify mode params.now solution.now (model_tree model))
         (F.held files.old) (Rose (F.faults files.old) (F.faults files.new)) empty_log result }
     ensures status { IfOk result (λ reply.
         (reply.status ≡ StatusValue.Answered) ⊎ (reply.status ≡ StatusValue.Refuted)) }
@@ -95,7 +99,7 @@ fn verify_model<F: Files>(
     ensures faults { F.faults files.old ≤ F.faults files.new }
 {
     let params = read_named_params(alloc, files, params)?;
-    verify_solution(alloc, files, model, params, solution)
+    verify_solution(alloc, files, model, params, mode, solution)
 }
 
 /// Verifies a solution text, once it is read.
@@ -104,10 +108,11 @@ fn verify_solution<F: Files>(
     files: &mut F,
     model: Model,
     params: Params,
+    mode: Mode,
     solution: &Word,
 ) -> Result<Reply, Stop>
     ensures tells { TellsTask (solution.now ∷ [])
-        (comes_to_judge solution.now (model_tree model) (params_tree params))
+        (comes_to_judge mode solution.now (model_tree model) (params_tree params))
         (F.held files.old) (Rose (F.faults files.old) (F.faults files.new)) empty_log result }
     ensures status { IfOk result (λ reply.
         (reply.status ≡ StatusValue.Answered) ⊎ (reply.status ≡ StatusValue.Refuted)) }
@@ -115,7 +120,7 @@ fn verify_solution<F: Files>(
     ensures faults { F.faults files.old ≤ F.faults files.new }
 {
     let solution = read_params(alloc, files, TextFile::Solution, solution)?;
-    verify_texts(alloc, model, params, solution)
+    verify_texts(alloc, model, params, mode, solution)
 }
 
 /// Searches in a model under its parameters.
@@ -123,16 +128,17 @@ fn search_texts(
     alloc: Global,
     model: Model,
     params: Params,
+    mode: Mode,
     request: Request,
     log: &mut Log,
 ) -> Result<Reply, Stop>
     requires empty { log.old ≡ empty_log }
-    ensures tells { TellsReply (search_outcome request (model_tree model) (params_tree params)) log.new result }
+    ensures tells { TellsReply (search_outcome mode request (model_tree model) (params_tree params)) log.new result }
     ensures ends { EndsBy (λ status. IsSearched (conflicts_of request) status log.new) log.new result }
 {
     let model = checked_model(alloc, model)?;
     let params = checked_params(alloc, TextFile::Params, params)?;
-    let instance = instance_of(alloc, model, params)?;
+    let instance = instance_of(alloc, mode, model, params)?;
     let reply = searched_reply(alloc, &instance, request, log)?;
     Ok(reply)
 }
@@ -142,14 +148,15 @@ fn verify_texts(
     alloc: Global,
     model: Model,
     params: Params,
+    mode: Mode,
     solution: Params,
 ) -> Result<Reply, Stop>
     ensures tells { TellsReply
-        (verify_outcome (model_tree model) (params_tree params) (params_tree solution)) empty_log result }
+        (verify_outcome mode (model_tree model) (params_tree params) (params_tree solution)) empty_log result }
 {
     let model = checked_model(alloc, model)?;
     let params = checked_params(alloc, TextFile::Params, params)?;
     let solution = checked_params(alloc, TextFile::Solution, solution)?;
-    let instance = instance_of(alloc, model, params)?;
+    let instance = instance_of(alloc, mode, model, params)?;
     judged_reply(alloc, &instance, solution)
 }

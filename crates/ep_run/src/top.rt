@@ -2,6 +2,7 @@
 
 ghost use Rattle.std.specs.Prelude.{◌≡◌, ◌⊎◌, ◌≤◌, ℕ, List, Err, Contains, IfSome, IsSomeAnd, Option, codes};
 ghost use Rattle.ep_base.specs.Outside.{Rose, TookPart, with_more};
+ghost use Rattle.ep_tree.specs.declared.values.Mode.{Mode};
 ghost use Rattle.ep_print.specs.Refusals.{refusal_text};
 ghost use Rattle.ep_print.specs.declared.refusals.Refusal.{Refusal};
 ghost use Rattle.ep_solve.specs.Right.{IsSpent, empty_log};
@@ -50,19 +51,19 @@ pub fn run<R: Threads, F: Files, K: Sink>(
         × (K.taken out.new ≡ with_more text (K.taken out.old))
         × HasOutput words.now text (F.held files.old) (F.held files.new)) }
     ensures unknown { result ≡ StatusValue.Unknown →
-        (model : List ℕ) × (params : Option (List ℕ)) × (request : Request) × (output : Option (List ℕ))
-        × Want words.now (Wanted.Search model params request output)
+        (model : List ℕ) × (params : Option (List ℕ)) × (mode : Mode) × (request : Request) × (output : Option (List ℕ))
+        × Want words.now (Wanted.Search model params mode request output)
         × IsSpent (conflicts_of request) log.new.events }
     // Then the conflicts were fewer than 3 to the number of variables of what was given, and unit propagation on what was given
     // before the first step meets no conflict.
     ensures few { result ≡ StatusValue.Unknown →
-        (model : List ℕ) (params : Option (List ℕ)) (request : Request) (output : Option (List ℕ))
-        → Want words.now (Wanted.Search model params request output)
+        (model : List ℕ) (params : Option (List ℕ)) (mode : Mode) (request : Request) (output : Option (List ℕ))
+        → Want words.now (Wanted.Search model params mode request output)
         → IsBelowPower (conflicts_of request) log.new.events }
     ensures unforced { result ≡ StatusValue.Unknown → ¬ MeetsConflict (before_steps log.new.events) }
     ensures refuted { result ≡ StatusValue.Refuted →
-        (model : List ℕ) × (params : Option (List ℕ)) × (solution : List ℕ)
-        × Want words.now (Wanted.Verify model params solution) }
+        (model : List ℕ) × (params : Option (List ℕ)) × (mode : Mode) × (solution : List ℕ)
+        × Want words.now (Wanted.Verify model params mode solution) }
 
     // A fault or a limit is one that the words and the held files show. Its line was put out, and
     // nothing else.
@@ -126,8 +127,8 @@ pub fn run<R: Threads, F: Files, K: Sink>(
         ⊎ ((result ≡ StatusValue.Text) ⊎ (result ≡ StatusValue.Limit))) → log.new ≡ empty_log }
     ensures refused_unlogged { IfSome (F.held files.old) (λ held.
         (refusals : List Refusal) → Show words.now held (Err refusals) → log.new ≡ empty_log) }
-    ensures judged_unlogged { (model : List ℕ) → (params : Option (List ℕ)) → (solution : List ℕ) →
-        Want words.now (Wanted.Verify model params solution) → log.new ≡ empty_log }
+    ensures judged_unlogged { (model : List ℕ) → (params : Option (List ℕ)) → (mode : Mode) → (solution : List ℕ) →
+        Want words.now (Wanted.Verify model params mode solution) → log.new ≡ empty_log }
 
     // Every file but the one that the words name for the answer stays as it was, and that one too where a
     // refusal stands, and with a refusal or a judgement. No count of faults falls.

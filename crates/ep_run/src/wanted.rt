@@ -7,16 +7,18 @@ ghost use Rattle.ep_run.specs.Steps.{TellsWanted};
 use super::stops::Stop;
 use ep_base::Word;
 use ep_print::Refusal;
+use ep_tree::Mode;
 use ep_words::{Job, WordsError, one_job_for_words, read_words};
 use std::alloc::Global;
 
-/// What a run is wanted to do, and with which files.
+/// What a run is wanted to do, with which files, and in which mode of undefinedness.
 #[derive(Debug, Drop)]
 pub enum Wanted {
     /// To search for solutions of a model, and to write the answer into a file where one is named.
     Search {
         model: Word,
         params: Option<Word>,
+        mode: Mode,
         request: Request,
         output: Option<Word>,
     },
@@ -24,6 +26,7 @@ pub enum Wanted {
     Verify {
         model: Word,
         params: Option<Word>,
+        mode: Mode,
         solution: Word,
     },
 }
@@ -65,9 +68,11 @@ fn wanted_of(job: Job) -> Option<Wanted>
             out_solution,
             out_cnf: None,
             out_log: None,
+            undefined,
         } => Some(Wanted::Search {
             model: in_eprime,
             params: in_param,
+            mode: undefined,
             request: Request::One { conflicts },
             output: out_solution,
         }),
@@ -79,9 +84,11 @@ fn wanted_of(job: Job) -> Option<Wanted>
             out_solution,
             out_cnf: None,
             out_log: None,
+            undefined,
         } => Some(Wanted::Search {
             model: in_eprime,
             params: in_param,
+            mode: undefined,
             request: Request::Many {
                 most: solutions,
                 conflicts,
@@ -92,9 +99,11 @@ fn wanted_of(job: Job) -> Option<Wanted>
             in_eprime,
             in_solution,
             in_param,
+            undefined,
         } => Some(Wanted::Verify {
             model: in_eprime,
             params: in_param,
+            mode: undefined,
             solution: in_solution,
         }),
         _ => None,

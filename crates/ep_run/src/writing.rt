@@ -1,6 +1,6 @@
 //! Writes the file of an answer.
 
-ghost use Rattle.std.specs.Prelude.{◌≡◌, ◌≤◌, OnOk, IsErrOf};
+ghost use Rattle.std.specs.Prelude.{◌≤◌};
 ghost use Rattle.ep_base.specs.Outside.{Rose};
 ghost use Rattle.ep_run.specs.Steps.{TellsWritten};
 
@@ -11,7 +11,7 @@ use ep_print::Refusal;
 /// Writes a text into the file of this name, if there is one.
 pub fn write_output<F: Files>(files: &mut F, output: Option<Word>, text: &[u8]) -> Result<(), Stop>
     ensures tells { TellsWritten output text.now (F.held files.old) (F.held files.new)
-        (Rose (F.faults files.old) (F.faults files.new)) (F.faults files.new ≡ F.faults files.old) result }
+        (Rose (F.faults files.old) (F.faults files.new)) result }
     ensures faults { F.faults files.old ≤ F.faults files.new }
 {
     let Some(name) = output else {

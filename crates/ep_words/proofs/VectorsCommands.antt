@@ -1,5 +1,6 @@
 -- Worked command lines.
 use Rattle.std.proofs.Common.{◌≡◌, List, [], ◌∷◌, map, codes, Some, None, inl, inr, refl, arith}
+use Rattle.ep_tree.specs.declared.values.Mode.{Mode}
 use Rattle.ep_words.specs.Settings.{AreSetOnce, BeginsBySetting, Text}
 use Rattle.ep_words.specs.Jobs.{job_of, number_within, solution_count}
 use Rattle.ep_words.specs.Commands.{IsCommand}
@@ -17,20 +18,32 @@ counts : map solution_count (codes "all" ∷ codes "1000000" ∷ codes "1000001"
 counts = refl
 
 -- what settings ask for, task by task
-model_alone : job_of ((codes "in-eprime", codes "m") ∷ []) ≡ Some (Solve (codes "m") None 1000000 None None None)
+model_alone : job_of ((codes "in-eprime", codes "m") ∷ []) ≡ Some (Solve (codes "m") None 1000000 None None None Mode.Relational)
 model_alone = refl
 
-all_of_solve : job_of ((codes "out-log", codes "l") ∷ (codes "task", codes "solve") ∷ (codes "conflicts", codes "7") ∷ (codes "in-eprime", codes "m") ∷ (codes "out-cnf", codes "c") ∷ (codes "in-param", codes "p") ∷ (codes "out-solution", codes "s") ∷ [])
-    ≡ Some (Solve (codes "m") (Some (codes "p")) 7 (Some (codes "s")) (Some (codes "c")) (Some (codes "l")))
+all_of_solve : job_of ((codes "out-log", codes "l") ∷ (codes "task", codes "solve") ∷ (codes "conflicts", codes "7") ∷ (codes "in-eprime", codes "m") ∷ (codes "out-cnf", codes "c") ∷ (codes "in-param", codes "p") ∷ (codes "undefined", codes "strict") ∷ (codes "out-solution", codes "s") ∷ [])
+    ≡ Some (Solve (codes "m") (Some (codes "p")) 7 (Some (codes "s")) (Some (codes "c")) (Some (codes "l")) Mode.Strict)
 all_of_solve = refl
 
 listing : job_of ((codes "task", codes "enumerate") ∷ (codes "in-eprime", codes "m") ∷ (codes "solutions", codes "all") ∷ [])
-    ≡ Some (Enumerate (codes "m") None 1000000 1000000 None None None)
+    ≡ Some (Enumerate (codes "m") None 1000000 1000000 None None None Mode.Relational)
 listing = refl
 
 verifying : job_of ((codes "task", codes "verify") ∷ (codes "in-solution", codes "s") ∷ (codes "in-eprime", codes "m") ∷ [])
-    ≡ Some (Verify (codes "m") (codes "s") None)
+    ≡ Some (Verify (codes "m") (codes "s") None Mode.Relational)
 verifying = refl
+
+-- the mode of undefinedness, which the tasks that read a model take
+strict_listing : job_of ((codes "undefined", codes "strict") ∷ (codes "task", codes "enumerate") ∷ (codes "in-eprime", codes "m") ∷ (codes "solutions", codes "2") ∷ [])
+    ≡ Some (Enumerate (codes "m") None 2 1000000 None None None Mode.Strict)
+strict_listing = refl
+
+strict_verifying : job_of ((codes "task", codes "verify") ∷ (codes "in-solution", codes "s") ∷ (codes "in-eprime", codes "m") ∷ (codes "undefined", codes "strict") ∷ [])
+    ≡ Some (Verify (codes "m") (codes "s") None Mode.Strict)
+strict_verifying = refl
+
+named_as_it_is : job_of ((codes "in-eprime", codes "m") ∷ (codes "undefined", codes "relational") ∷ []) ≡ job_of ((codes "in-eprime", codes "m") ∷ [])
+named_as_it_is = refl
 
 checking : job_of ((codes "task", codes "check") ∷ (codes "in-log", codes "l") ∷ (codes "in-cnf", codes "c") ∷ [])
     ≡ Some (Check (codes "c") (codes "l") 1)
@@ -40,7 +53,7 @@ generating : job_of ((codes "task", codes "generate") ∷ (codes "number", codes
     ≡ Some (Generate 0 1000000 None (Some (codes "p")))
 generating = refl
 
--- what is needed is missing, a number is out of its range, an option isn't the task's, or there is no such task
+-- what is needed is missing, a number is out of its range, an option isn't the task's, or there is no such mode or task
 no_jobs : map job_of (
     []
     ∷ ((codes "task", codes "solve") ∷ [])
@@ -55,12 +68,16 @@ no_jobs : map job_of (
     ∷ ((codes "task", codes "check") ∷ (codes "in-cnf", codes "c") ∷ (codes "in-log", codes "l") ∷ (codes "in-eprime", codes "m") ∷ [])
     ∷ ((codes "task", codes "generate") ∷ [])
     ∷ ((codes "task", codes "generate") ∷ (codes "number", codes "1000000001") ∷ [])
+    ∷ ((codes "in-eprime", codes "m") ∷ (codes "undefined", codes "lax") ∷ [])
+    ∷ ((codes "task", codes "verify") ∷ (codes "in-eprime", codes "m") ∷ (codes "in-solution", codes "s") ∷ (codes "undefined", codes "Strict") ∷ [])
+    ∷ ((codes "task", codes "check") ∷ (codes "in-cnf", codes "c") ∷ (codes "in-log", codes "l") ∷ (codes "undefined", codes "strict") ∷ [])
+    ∷ ((codes "task", codes "generate") ∷ (codes "number", codes "0") ∷ (codes "undefined", codes "strict") ∷ [])
     ∷ ((codes "task", codes "Solve") ∷ (codes "in-eprime", codes "m") ∷ [])
-    ∷ []) ≡ None ∷ None ∷ None ∷ None ∷ None ∷ None ∷ None ∷ None ∷ None ∷ None ∷ None ∷ None ∷ None ∷ None ∷ []
+    ∷ []) ≡ None ∷ None ∷ None ∷ None ∷ None ∷ None ∷ None ∷ None ∷ None ∷ None ∷ None ∷ None ∷ None ∷ None ∷ None ∷ None ∷ None ∷ None ∷ []
 no_jobs = refl
 
 -- a value may begin with `-` behind a `=`, and may have a `=` itself
-solve_line : IsCommand (codes "--in-eprime" ∷ codes "a=b" ∷ codes "--in-param=-p" ∷ []) (Solve (codes "a=b") (Some (codes "-p")) 1000000 None None None)
+solve_line : IsCommand (codes "--in-eprime" ∷ codes "a=b" ∷ codes "--in-param=-p" ∷ []) (Solve (codes "a=b") (Some (codes "-p")) 1000000 None None None Mode.Relational)
 solve_line = record {
   settings = (codes "in-eprime", codes "a=b") ∷ (codes "in-param", codes "-p") ∷ [];
   made = (

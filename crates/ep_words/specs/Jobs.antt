@@ -3,6 +3,7 @@ use Rattle.std.specs.Prelude.{ℕ, Bool, ◌&&◌, List, [], ◌∷◌, codes, O
 use Rattle.std.specs.List.{list_all}
 use Rattle.std.specs.Str.Parse.{digits_value}
 use Rattle.ep_base.specs.TokenTexts.{is_number, is_one_of}
+use Rattle.ep_tree.specs.declared.values.Mode.{Mode}
 use Rattle.ep_words.specs.Settings.{Setting, Text, value_of}
 use Rattle.ep_words.specs.declared.job.Job.{Job}
 use Rattle.ep_words.specs.declared.job.Job.TheVariants.{Solve, Enumerate, Verify, Check, Generate}
@@ -34,6 +35,19 @@ workers_of settings = number_or 1 (number_within 1 64) (value_of (codes "workers
 abbrev pub solution_count : Text → Option ℕ
 solution_count text = if bytes_eq text (codes "all") then Some 1000000 else number_within 1 1000000 text
 
+-- ---- modes of undefinedness
+
+-- the mode of a name
+abbrev pub mode_named : Text → Option Mode
+mode_named text =
+    if bytes_eq text (codes "relational") then Some Mode.Relational
+    else (if bytes_eq text (codes "strict") then Some Mode.Strict
+    else None)
+
+-- the mode that settings name, or the relational one where they name none
+abbrev pub mode_of : List Setting → Option Mode
+mode_of settings = mode_named (unwrap_or (value_of (codes "undefined") settings) (codes "relational"))
+
 -- ---- tasks
 
 -- the task of a name
@@ -53,15 +67,16 @@ sets_only names settings = list_all (λ setting. is_one_of names setting.0) sett
 abbrev pub solve_options : List Text
 solve_options =
     codes "task" ∷ codes "in-eprime" ∷ codes "in-param" ∷ codes "conflicts" ∷ codes "out-solution" ∷ codes "out-cnf"
-    ∷ codes "out-log" ∷ []
+    ∷ codes "out-log" ∷ codes "undefined" ∷ []
 
 abbrev pub enumerate_options : List Text
 enumerate_options =
     codes "task" ∷ codes "in-eprime" ∷ codes "in-param" ∷ codes "solutions" ∷ codes "conflicts"
-    ∷ codes "out-solution" ∷ codes "out-cnf" ∷ codes "out-log" ∷ []
+    ∷ codes "out-solution" ∷ codes "out-cnf" ∷ codes "out-log" ∷ codes "undefined" ∷ []
 
 abbrev pub verify_options : List Text
-verify_options = codes "task" ∷ codes "in-eprime" ∷ codes "in-solution" ∷ codes "in-param" ∷ []
+verify_options =
+    codes "task" ∷ codes "in-eprime" ∷ codes "in-solution" ∷ codes "in-param" ∷ codes "undefined" ∷ []
 
 abbrev pub check_options : List Text
 check_options = codes "task" ∷ codes "in-cnf" ∷ codes "in-log" ∷ codes "workers" ∷ []
@@ -75,9 +90,11 @@ generate_options = codes "task" ∷ codes "number" ∷ codes "conflicts" ∷ cod
 abbrev pub solve_job : List Setting → Option Job
 solve_job s =
     option_and_then (λ in_eprime.
-    option_map (λ conflicts.
+    option_and_then (λ conflicts.
+    option_map (λ undefined.
     Solve in_eprime (value_of (codes "in-param") s) conflicts (value_of (codes "out-solution") s)
-    (value_of (codes "out-cnf") s) (value_of (codes "out-log") s))
+    (value_of (codes "out-cnf") s) (value_of (codes "out-log") s) undefined)
+    (mode_of s))
     (conflicts_of s))
     (value_of (codes "in-eprime") s)
 
@@ -86,9 +103,11 @@ abbrev pub enumerate_job : List Setting → Option Job
 enumerate_job s =
     option_and_then (λ in_eprime.
     option_and_then (λ solutions.
-    option_map (λ conflicts.
+    option_and_then (λ conflicts.
+    option_map (λ undefined.
     Enumerate in_eprime (value_of (codes "in-param") s) solutions conflicts (value_of (codes "out-solution") s)
-    (value_of (codes "out-cnf") s) (value_of (codes "out-log") s))
+    (value_of (codes "out-cnf") s) (value_of (codes "out-log") s) undefined)
+    (mode_of s))
     (conflicts_of s))
     (option_and_then solution_count (value_of (codes "solutions") s)))
     (value_of (codes "in-eprime") s)
@@ -97,7 +116,9 @@ enumerate_job s =
 abbrev pub verify_job : List Setting → Option Job
 verify_job s =
     option_and_then (λ in_eprime.
-    option_map (λ in_solution. Verify in_eprime in_solution (value_of (codes "in-param") s))
+    option_and_then (λ in_solution.
+    option_map (λ undefined. Verify in_eprime in_solution (value_of (codes "in-param") s) undefined)
+    (mode_of s))
     (value_of (codes "in-solution") s))
     (value_of (codes "in-eprime") s)
 

@@ -15,7 +15,7 @@ abbrev pub options : List Text
 options =
     codes "task" ∷ codes "in-eprime" ∷ codes "in-param" ∷ codes "in-solution" ∷ codes "in-cnf" ∷ codes "in-log"
     ∷ codes "solutions" ∷ codes "conflicts" ∷ codes "workers" ∷ codes "number" ∷ codes "out-eprime"
-    ∷ codes "out-param" ∷ codes "out-cnf" ∷ codes "out-log" ∷ codes "out-solution" ∷ []
+    ∷ codes "out-param" ∷ codes "out-cnf" ∷ codes "out-log" ∷ codes "out-solution" ∷ codes "undefined" ∷ []
 
 -- the word that names an option
 abbrev pub option_word : Text → Text

@@ -1,6 +1,7 @@
 //! What a command asks for.
 
 use ep_base::Word;
+use ep_tree::Mode;
 
 /// What a command asks for. A field holds the value of the option of its name.
 #[derive(Debug, Drop)]
@@ -13,6 +14,7 @@ pub enum Job {
         out_solution: Option<Word>,
         out_cnf: Option<Word>,
         out_log: Option<Word>,
+        undefined: Mode,
     },
     /// To list the solutions of a model, at most so many.
     Enumerate {
@@ -23,12 +25,14 @@ pub enum Job {
         out_solution: Option<Word>,
         out_cnf: Option<Word>,
         out_log: Option<Word>,
+        undefined: Mode,
     },
     /// To say whether a solution text is a solution.
     Verify {
         in_eprime: Word,
         in_solution: Word,
         in_param: Option<Word>,
+        undefined: Mode,
     },
     /// To check a proof of a formula.
     Check {

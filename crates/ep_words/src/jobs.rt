@@ -6,6 +6,7 @@ ghost use Rattle.ep_words.specs.Views.{settings_of};
 
 use crate::errors::WordsError;
 use crate::job::Job;
+use crate::modes::mode_in;
 use crate::task::{self, Task};
 use crate::values::{
     conflicts, needed_word, number, set_only, solutions, value_in, word_in, workers,
@@ -64,12 +65,14 @@ fn solve(alloc: Global, settings: &ArgMatches) -> Result<Job, WordsError>
         "out-solution",
         "out-cnf",
         "out-log",
+        "undefined",
     ];
     if !set_only(settings, &allowed) {
         return Err(WordsError::Usage);
     }
     let in_eprime = needed_word(alloc, settings, "in-eprime")?;
     let conflicts = conflicts(settings).ok_or(WordsError::Usage)?;
+    let undefined = mode_in(settings).ok_or(WordsError::Usage)?;
     Ok(Job::Solve {
         in_eprime,
         in_param: word_in(alloc, settings, "in-param")?,
@@ -77,6 +80,7 @@ fn solve(alloc: Global, settings: &ArgMatches) -> Result<Job, WordsError>
         out_solution: word_in(alloc, settings, "out-solution")?,
         out_cnf: word_in(alloc, settings, "out-cnf")?,
         out_log: word_in(alloc, settings, "out-log")?,
+        undefined,
     })
 }
 
@@ -95,6 +99,7 @@ fn enumerate(alloc: Global, settings: &ArgMatches) -> Result<Job, WordsError>
         "out-solution",
         "out-cnf",
         "out-log",
+        "undefined",
     ];
     if !set_only(settings, &allowed) {
         return Err(WordsError::Usage);
@@ -103,6 +108,7 @@ fn enumerate(alloc: Global, settings: &ArgMatches) -> Result<Job, WordsError>
     let text = value_in(settings, "solutions").ok_or(WordsError::Usage)?;
     let solutions = solutions(text).ok_or(WordsError::Usage)?;
     let conflicts = conflicts(settings).ok_or(WordsError::Usage)?;
+    let undefined = mode_in(settings).ok_or(WordsError::Usage)?;
     Ok(Job::Enumerate {
         in_eprime,
         in_param: word_in(alloc, settings, "in-param")?,
@@ -111,6 +117,7 @@ fn enumerate(alloc: Global, settings: &ArgMatches) -> Result<Job, WordsError>
         out_solution: word_in(alloc, settings, "out-solution")?,
         out_cnf: word_in(alloc, settings, "out-cnf")?,
         out_log: word_in(alloc, settings, "out-log")?,
+        undefined,
     })
 }
 
@@ -120,13 +127,18 @@ fn verify(alloc: Global, settings: &ArgMatches) -> Result<Job, WordsError>
         (λ error. error ≡ WordsError.Usage
         → job_within verify_options verify_job (settings_of settings.now) ≡ None) }
 {
-    if !set_only(settings, &["task", "in-eprime", "in-solution", "in-param"]) {
+    let allowed = ["task", "in-eprime", "in-solution", "in-param", "undefined"];
+    if !set_only(settings, &allowed) {
         return Err(WordsError::Usage);
     }
+    let in_eprime = needed_word(alloc, settings, "in-eprime")?;
+    let in_solution = needed_word(alloc, settings, "in-solution")?;
+    let undefined = mode_in(settings).ok_or(WordsError::Usage)?;
     Ok(Job::Verify {
-        in_eprime: needed_word(alloc, settings, "in-eprime")?,
-        in_solution: needed_word(alloc, settings, "in-solution")?,
+        in_eprime,
+        in_solution,
         in_param: word_in(alloc, settings, "in-param")?,
+        undefined,
     })
 }
 

@@ -4,6 +4,7 @@
 mod errors;
 mod job;
 mod jobs;
+mod modes;
 mod options;
 mod read;
 mod settings;

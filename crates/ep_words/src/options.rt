@@ -11,7 +11,7 @@ use clap::{Arg, ArgAction, ArgMatches, Command};
 use std::alloc::{AllocError, Global};
 
 /// The names of the options.
-const OPTIONS: [&str; 15] = [
+const OPTIONS: [&str; 16] = [
     "task",
     "in-eprime",
     "in-param",
@@ -27,6 +27,7 @@ const OPTIONS: [&str; 15] = [
     "out-cnf",
     "out-log",
     "out-solution",
+    "undefined",
 ];
 
 /// The options that the words set, with their values.

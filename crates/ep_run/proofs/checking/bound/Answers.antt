@@ -1,7 +1,6 @@
 use Rattle.std.proofs.Common.{Err, ap, sym, subst}
 use Rattle.ep_instance.specs.Instances.{instance_of as plain_instance}
 use Rattle.ep_tree.specs.Binding.{bind}
-use Rattle.ep_tree.specs.declared.values.Mode.{Mode}
 use Rattle.ep_types.specs.Texts.{typed_params_tree, typed_tree}
 use Rattle.ep_run.specs.Outcomes.{as_outcome, bound_outcome}
 use Rattle.ep_run.specs.Steps.{Tells}
@@ -17,5 +16,5 @@ pub returns-in-Err-clause-tells : goal.returns-in-Err-clause-tells
 returns-in-Err-clause-tells c =
     let model = typed_tree c.args.model in
     let params = typed_params_tree c.args.params in
-    let P : Stop → Type 0 = λ s. Tells plain_instance (bound_outcome model params) (Err s) in
-    subst P (sym c.bind_stop.ensures) (bind-stopped plain_instance (bind Mode.Relational model params) c.in-Err.error c.in-Err.ensures.answer)
+    let P : Stop → Type 0 = λ s. Tells plain_instance (bound_outcome c.args.mode model params) (Err s) in
+    subst P (sym c.bind_stop.ensures) (bind-stopped plain_instance (bind c.args.mode model params) c.in-Err.error c.in-Err.ensures.answer)

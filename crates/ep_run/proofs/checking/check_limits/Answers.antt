@@ -3,7 +3,6 @@ use Rattle.ep_size.specs.Causes.{IsCause}
 use Rattle.ep_size.specs.declared.errors.SizeError.{SizeError}
 use Rattle.ep_instance.specs.Instances.{instance_of as plain_instance, mode_of}
 use Rattle.ep_tree.specs.Solutions.{instance_limits}
-use Rattle.ep_tree.specs.declared.values.Mode.{Mode}
 use Rattle.ep_run.specs.Status.{status_of}
 use Rattle.ep_run.proofs.Binding.{limit-passed}
 use Rattle.ep_run.proofs.checking.check_limits.Goals as goal
@@ -11,7 +10,6 @@ use Rattle.ep_run.proofs.checking.check_limits.Goals as goal
 pub returns-in-Err-Limit : goal.returns-in-Err-Limit
 unfolding status_of
 returns-in-Err-Limit c =
-    let i = plain_instance c.args.instance.now in
-    let P : Mode → Type 0 = λ m. IsCause (instance_limits m i) (SizeError.Limit c.in-Err-Limit.limit) in
-    let Q : SizeError → Type 0 = λ e. IsCause (instance_limits (mode_of c.args.instance.now) i) e in
-    (inr refl, limit-passed (instance_limits Mode.Relational i) c.in-Err-Limit.limit (subst P c.requires.mode (subst Q c.in-Err-Limit.field-0-is c.in-Err-Limit.ensures.cause)))
+    let passed = instance_limits (mode_of c.args.instance.now) (plain_instance c.args.instance.now) in
+    let P : SizeError → Type 0 = λ e. IsCause passed e in
+    (inr refl, limit-passed passed c.in-Err-Limit.limit (subst P c.in-Err-Limit.field-0-is c.in-Err-Limit.ensures.cause))

@@ -9,11 +9,12 @@ use Rattle.ep_run.proofs.judging.shaped.Goals as goal
 pub returns-in-Ok : goal.returns-in-Ok
 returns-in-Ok c =
     shaped-tells (mode_of c.args.instance.now) (plain_instance c.args.instance.now) (typed_params_tree c.args.solution) c.in-Ok.shaped
-    c.requires.mode c.in-Ok.ensures.answer c.in-Ok.ensures.fits
+    c.in-Ok.ensures.answer c.in-Ok.ensures.fits
 
 pub returns-in-Err : goal.returns-in-Err
 returns-in-Err c =
+    let mode = mode_of c.args.instance.now in
     let i = plain_instance c.args.instance.now in
     let s = typed_params_tree c.args.solution in
-    let P : Stop → Type 0 = λ x. TellsShape i s (Err x) in
-    subst P (sym c.bind_stop.ensures) (shape-bound (mode_of c.args.instance.now) i s c.in-Err.error c.requires.mode c.in-Err.ensures.answer)
+    let P : Stop → Type 0 = λ x. TellsShape mode i s (Err x) in
+    subst P (sym c.bind_stop.ensures) (shape-bound mode i s c.in-Err.error c.in-Err.ensures.answer)

@@ -1,8 +1,8 @@
 use Rattle.std.proofs.lemmas.Result.{err_from_is_err_and}
-use Rattle.std.proofs.Common.{◌≡◌, ℕ, List, Ok, Err, subst}
+use Rattle.std.proofs.Common.{ℕ, List, Ok, Err, subst}
+use Rattle.ep_base.proofs.PutSteps.{rose_later}
 use Rattle.ep_base.specs.Outside.{Rose}
 use Rattle.ep_run.specs.Steps.{TellsWritten}
-use Rattle.ep_run.proofs.Running.{rose-later}
 use Rattle.ep_run.proofs.Saying.{answered-run, refused-run, unread-words, unwritten-run}
 use Rattle.ep_run.proofs.replies.run_words.Goals as goal
 
@@ -33,10 +33,10 @@ returns-in_err-write_output-clause-tells g c =
     let after = g.F.Files.held c.write_output.new.files in
     let reply = c.in_ok-reply.reply in
     let stop = c.in_err-write_output.field-0.0 in
-    let T : List ℕ → Type 0 = λ text. TellsWritten {V = Unit {0}} c.output_of.result text between after (Rose next last) (last ≡ next) (Err stop) in
+    let T : List ℕ → Type 0 = λ text. TellsWritten {V = Unit {0}} c.output_of.result text between after (Rose next last) (Err stop) in
     rw (p.1, p.2)
-    (unwritten-run (Unit {0}) c.args.words.now c.in_ok-wanted.wanted c.output_of.result told between after (Rose first last) (Rose next last) (last ≡ next) reply.status reply.text.items c.do_wanted.new.log stop
-    c.in_ok-wanted.ensures c.output_of.ensures c.in_ok-reply.ensures.held (rose-later first next last c.in_ok-reply.ensures.faults) c.in_ok-reply.ensures.ends.1 c.in_ok-reply.ensures.tells
+    (unwritten-run (Unit {0}) c.args.words.now c.in_ok-wanted.wanted c.output_of.result told between after (Rose first last) (Rose next last) reply.status reply.text.items c.do_wanted.new.log stop
+    c.in_ok-wanted.ensures c.output_of.ensures c.in_ok-reply.ensures.held (rose_later first next last c.in_ok-reply.ensures.faults) c.in_ok-reply.ensures.ends.1 c.in_ok-reply.ensures.tells
     (subst T c.deref.ensures.value c.in_err-write_output.ensures.tells))
 
 pub returns-clause-tells : goal.returns-clause-tells
@@ -48,7 +48,7 @@ returns-clause-tells g c =
     let between = g.F.Files.held c.do_wanted.new.files in
     let after = g.F.Files.held c.write_output.new.files in
     let reply = c.in_ok-reply.reply in
-    let T : List ℕ → Type 0 = λ text. TellsWritten {V = Unit {0}} c.output_of.result text between after (Rose next last) (last ≡ next) (Ok c.in_ok-write_output.field-0) in
-    answered-run (Unit {0}) c.args.words.now c.in_ok-wanted.wanted c.output_of.result told between after (Rose first last) (Rose next last) (last ≡ next) c.do_wanted.new.log reply c.in_ok-write_output.field-0
+    let T : List ℕ → Type 0 = λ text. TellsWritten {V = Unit {0}} c.output_of.result text between after (Rose next last) (Ok c.in_ok-write_output.field-0) in
+    answered-run (Unit {0}) c.args.words.now c.in_ok-wanted.wanted c.output_of.result told between after (Rose first last) (Rose next last) c.do_wanted.new.log reply c.in_ok-write_output.field-0
     c.in_ok-wanted.ensures c.output_of.ensures c.in_ok-reply.ensures.held c.in_ok-reply.ensures.ends.1 c.in_ok-reply.ensures.tells
     (subst T c.deref.ensures.value c.in_ok-write_output.ensures.tells)

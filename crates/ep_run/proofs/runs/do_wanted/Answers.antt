@@ -1,6 +1,7 @@
 use Rattle.std.proofs.lemmas.Result.{err_from_is_err_and}
 use Rattle.std.proofs.Common.{[], ◌∷◌, ◌++◌, Err, option_to_list, sym, subst}
 use Rattle.cnf_core.specs.Events.{LogState}
+use Rattle.ep_base.proofs.PutSteps.{rose_later}
 use Rattle.ep_base.specs.Outside.{Rose}
 use Rattle.ep_print.specs.declared.refusals.TextFile.{TextFile}
 use Rattle.ep_tree.specs.Views.{model_tree}
@@ -11,7 +12,7 @@ use Rattle.ep_solve.specs.Right.{empty_log}
 use Rattle.ep_run.specs.Steps.{EndsAs, TellsTask}
 use Rattle.ep_run.specs.declared.wanted.Wanted.{Wanted}
 use Rattle.ep_run.proofs.Chains.{after, stable-file, unread}
-use Rattle.ep_run.proofs.Running.{rose-from, stopped-as, verify-ends}
+use Rattle.ep_run.proofs.Running.{stopped-as, verify-ends}
 use Rattle.ep_run.proofs.runs.do_wanted.Goals as goal
 
 pub returns-in_err-model-in-Search-clause-tells : goal.returns-in_err-model-in-Search-clause-tells
@@ -23,7 +24,7 @@ returns-in_err-model-in-Search-clause-tells g c =
     let W : Wanted → Type 0 = λ w. TellsTask (files_of w) (ComesTo w) told rose c.args.log.now (Err stop) in
     rw (p.1, p.2)
     (subst W (sym c.in-Search.is)
-    (unread model_tree TextFile.Model c.in-Search.model (option_to_list c.in-Search.params) (λ m. comes_to_search c.in-Search.request c.in-Search.params m) told rose c.args.log.now stop c.requires.empty c.in_err-model-in-Search.ensures.tells))
+    (unread model_tree TextFile.Model c.in-Search.model (option_to_list c.in-Search.params) (λ m. comes_to_search c.in-Search.mode c.in-Search.request c.in-Search.params m) told rose c.args.log.now stop c.requires.empty c.in_err-model-in-Search.ensures.tells))
 
 pub returns-in_err-model-in-Verify-clause-tells : goal.returns-in_err-model-in-Verify-clause-tells
 returns-in_err-model-in-Verify-clause-tells g c =
@@ -34,7 +35,7 @@ returns-in_err-model-in-Verify-clause-tells g c =
     let W : Wanted → Type 0 = λ w. TellsTask (files_of w) (ComesTo w) told rose c.args.log.now (Err stop) in
     rw (p.1, p.2)
     (subst W (sym c.in-Verify.is)
-    (unread model_tree TextFile.Model c.in-Verify.model (option_to_list c.in-Verify.params ++ c.in-Verify.solution ∷ []) (λ m. comes_to_verify c.in-Verify.params c.in-Verify.solution m) told rose c.args.log.now stop c.requires.empty c.in_err-model-in-Verify.ensures.tells))
+    (unread model_tree TextFile.Model c.in-Verify.model (option_to_list c.in-Verify.params ++ c.in-Verify.solution ∷ []) (λ m. comes_to_verify c.in-Verify.mode c.in-Verify.params c.in-Verify.solution m) told rose c.args.log.now stop c.requires.empty c.in_err-model-in-Verify.ensures.tells))
 
 pub returns-in_ok-model-in-Search-clause-tells : goal.returns-in_ok-model-in-Search-clause-tells
 returns-in_ok-model-in-Search-clause-tells g c =
@@ -43,10 +44,10 @@ returns-in_ok-model-in-Search-clause-tells g c =
     let now = g.F.Files.faults c.read_model.new.files in
     let W : Wanted → Type 0 = λ w. TellsTask (files_of w) (ComesTo w) told rose c.search_model.new.log c.search_model.result in
     subst W (sym c.in-Search.is)
-    (after (c.in-Search.model ∷ []) (option_to_list c.in-Search.params) (λ held. IsReadAs held TextFile.Model c.in-Search.model) (λ m. comes_to_search c.in-Search.request c.in-Search.params m)
+    (after (c.in-Search.model ∷ []) (option_to_list c.in-Search.params) (λ held. IsReadAs held TextFile.Model c.in-Search.model) (λ m. comes_to_search c.in-Search.mode c.in-Search.request c.in-Search.params m)
     (stable-file TextFile.Model c.in-Search.model) (model_tree c.in_ok-model-in-Search.model) told (g.F.Files.held c.read_model.new.files) rose
     (Rose now (g.F.Files.faults c.search_model.new.files)) c.search_model.new.log c.search_model.result c.in_ok-model-in-Search.ensures.held
-    (rose-from (g.F.Files.faults c.args.files.now) now (g.F.Files.faults c.search_model.new.files) c.in_ok-model-in-Search.ensures.quiet)
+    (rose_later (g.F.Files.faults c.args.files.now) now (g.F.Files.faults c.search_model.new.files) c.in_ok-model-in-Search.ensures.faults)
     c.in_ok-model-in-Search.ensures.tells c.search_model.ensures.tells)
 
 pub returns-in_ok-model-in-Verify-clause-tells : goal.returns-in_ok-model-in-Verify-clause-tells
@@ -55,13 +56,13 @@ returns-in_ok-model-in-Verify-clause-tells g c =
     let rose = Rose (g.F.Files.faults c.args.files.now) (g.F.Files.faults c.verify_model.new.files) in
     let now = g.F.Files.faults c.read_model-in-Verify.new.files in
     let W : Wanted → Type 0 = λ w. TellsTask (files_of w) (ComesTo w) told rose c.args.log.now c.verify_model.result in
-    let L : LogState → Type 0 = λ log. TellsTask (c.in-Verify.model ∷ option_to_list c.in-Verify.params ++ c.in-Verify.solution ∷ []) (ComesTo (Wanted.Verify c.in-Verify.model c.in-Verify.params c.in-Verify.solution)) told rose log c.verify_model.result in
+    let L : LogState → Type 0 = λ log. TellsTask (c.in-Verify.model ∷ option_to_list c.in-Verify.params ++ c.in-Verify.solution ∷ []) (ComesTo (Wanted.Verify c.in-Verify.model c.in-Verify.params c.in-Verify.mode c.in-Verify.solution)) told rose log c.verify_model.result in
     subst W (sym c.in-Verify.is)
     (subst L (sym c.requires.empty)
-    (after (c.in-Verify.model ∷ []) (option_to_list c.in-Verify.params ++ c.in-Verify.solution ∷ []) (λ held. IsReadAs held TextFile.Model c.in-Verify.model) (λ m. comes_to_verify c.in-Verify.params c.in-Verify.solution m)
+    (after (c.in-Verify.model ∷ []) (option_to_list c.in-Verify.params ++ c.in-Verify.solution ∷ []) (λ held. IsReadAs held TextFile.Model c.in-Verify.model) (λ m. comes_to_verify c.in-Verify.mode c.in-Verify.params c.in-Verify.solution m)
     (stable-file TextFile.Model c.in-Verify.model) (model_tree c.in_ok-model-in-Verify.model) told (g.F.Files.held c.read_model-in-Verify.new.files) rose
     (Rose now (g.F.Files.faults c.verify_model.new.files)) empty_log c.verify_model.result c.in_ok-model-in-Verify.ensures.held
-    (rose-from (g.F.Files.faults c.args.files.now) now (g.F.Files.faults c.verify_model.new.files) c.in_ok-model-in-Verify.ensures.quiet)
+    (rose_later (g.F.Files.faults c.args.files.now) now (g.F.Files.faults c.verify_model.new.files) c.in_ok-model-in-Verify.ensures.faults)
     c.in_ok-model-in-Verify.ensures.tells c.verify_model.ensures.tells))
 
 pub returns-in_err-model-in-Search-clause-ends : goal.returns-in_err-model-in-Search-clause-ends
@@ -83,4 +84,4 @@ pub returns-in_ok-model-in-Verify-clause-ends : goal.returns-in_ok-model-in-Veri
 returns-in_ok-model-in-Verify-clause-ends g c =
     let W : Wanted → Type 0 = λ w. EndsAs w c.args.log.now c.verify_model.result in
     subst W (sym c.in-Verify.is)
-    (verify-ends c.in-Verify.model c.in-Verify.params c.in-Verify.solution c.args.log.now c.verify_model.result c.requires.empty c.verify_model.ensures.status)
+    (verify-ends c.in-Verify.model c.in-Verify.params c.in-Verify.mode c.in-Verify.solution c.args.log.now c.verify_model.result c.requires.empty c.verify_model.ensures.status)

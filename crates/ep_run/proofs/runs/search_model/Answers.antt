@@ -17,8 +17,8 @@ returns-in_err-params-clause-tells g c =
     let rose = Rose (g.F.Files.faults c.args.files.now) (g.F.Files.faults c.read_named_params.new.files) in
     let m = model_tree c.args.model in
     rw (p.1, p.2)
-    (last-read (option_to_list c.args.params.now) (comes_to_search c.args.request c.args.params.now m) told rose c.args.log.now (Err c.in_err-params.field-0.0)
-    (unread-params c.args.params.now [] (λ q held outcome. outcome ≡ search_outcome c.args.request m q) told rose c.args.log.now c.in_err-params.field-0.0 c.requires.empty c.in_err-params.ensures.tells))
+    (last-read (option_to_list c.args.params.now) (comes_to_search c.args.mode c.args.request c.args.params.now m) told rose c.args.log.now (Err c.in_err-params.field-0.0)
+    (unread-params c.args.params.now [] (λ q held outcome. outcome ≡ search_outcome c.args.mode c.args.request m q) told rose c.args.log.now c.in_err-params.field-0.0 c.requires.empty c.in_err-params.ensures.tells))
 
 pub returns-in_err-params-clause-ends : goal.returns-in_err-params-clause-ends
 returns-in_err-params-clause-ends g c =

@@ -17,10 +17,10 @@ returns-in_err-solution-clause-tells g c =
     let m = model_tree c.args.model in
     let q = params_tree c.args.params in
     rw (p.1, p.2)
-    (unread params_tree TextFile.Solution c.args.solution.now [] (λ s held outcome. outcome ≡ verify_outcome m q s) told rose empty_log c.in_err-solution.field-0.0 refl c.in_err-solution.ensures.tells)
+    (unread params_tree TextFile.Solution c.args.solution.now [] (λ s held outcome. outcome ≡ verify_outcome c.args.mode m q s) told rose empty_log c.in_err-solution.field-0.0 refl c.in_err-solution.ensures.tells)
 
 pub returns-clause-status : goal.returns-clause-status
 returns-clause-status g c =
     let m = model_tree c.args.model in
     let q = params_tree c.args.params in
-    reply-ends m q (params_tree c.in_ok-solution.solution) c.verify_texts.result c.verify_texts.ensures.tells
+    reply-ends c.args.mode m q (params_tree c.in_ok-solution.solution) c.verify_texts.result c.verify_texts.ensures.tells
