@@ -13,7 +13,5 @@ mod operations;
 mod sides;
 mod targets;
 mod telling;
-#[cfg(test)]
-mod tests;
 
 pub use encode::encode_con;

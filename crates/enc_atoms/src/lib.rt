@@ -6,6 +6,3 @@ mod clauses;
 
 pub use atoms::{Atom, Test};
 pub use clauses::add_clause;
-
-#[cfg(test)]
-mod tests;

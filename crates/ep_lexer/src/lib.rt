@@ -7,8 +7,6 @@ mod errors;
 mod numbers;
 mod scan;
 mod symbols;
-#[cfg(test)]
-mod tests;
 mod words;
 
 pub use errors::LexError;

@@ -20,8 +20,6 @@ mod operands;
 mod operators;
 mod parts;
 mod reads;
-#[cfg(test)]
-mod tests;
 mod words;
 
 pub use calls::{parse_domain, parse_expr};

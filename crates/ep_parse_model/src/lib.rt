@@ -14,6 +14,3 @@ mod texts;
 pub use calls::{parse_model, parse_params};
 pub use laws::{texts_have_one_answer, tokens_spell_one_text};
 pub use text_errors::TextError;
-
-#[cfg(test)]
-mod text_tests;
