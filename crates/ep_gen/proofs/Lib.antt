@@ -1,0 +1,3 @@
+mod Squares
+mod Params
+mod Vectors
