@@ -18,7 +18,11 @@ mod names;
 #[cfg(test)]
 mod open_domains;
 #[cfg(test)]
+mod outputs;
+#[cfg(test)]
 mod printed;
+#[cfg(test)]
+mod reaches;
 #[cfg(test)]
 mod refusals;
 #[cfg(test)]
@@ -27,5 +31,9 @@ mod rows;
 mod sizes;
 #[cfg(test)]
 mod spelled;
+#[cfg(test)]
+mod texts;
+#[cfg(test)]
+mod tokens;
 #[cfg(test)]
 mod users;

@@ -1,4 +1,4 @@
-//! Whether a constraint holds, written from what each kind says, with numbers so small that nothing overflows.
+//! Whether a constraint holds, written from what each kind says, where what overflows is a number that no variable has.
 
 use ep_base::{CompareOp, Key, LexOp};
 use ep_flat::{Con, ConKind};
@@ -63,9 +63,15 @@ fn is_remainder(told: i64, x: i64, y: i64) -> bool {
     may_be_left(told, y) && x.saturating_sub(told).checked_rem(y) == Some(0)
 }
 
+/// A power. Those of -1, 0 and 1 repeat, and those of other numbers overflow before the exponent is 64.
 fn power(x: i64, exponent: u64) -> i64 {
+    let times = if exponent < 64 {
+        exponent
+    } else {
+        64 + exponent % 2
+    };
     let mut power: i64 = 1;
-    for _ in 0..exponent {
+    for _ in 0..times {
         power = power.saturating_mul(x);
     }
     power

@@ -11,7 +11,7 @@ use ep_base::{Run, Runs};
 use ep_flat::{Con, ConKind, Flat};
 
 /// The greatest number that a table has.
-const MOST: i64 = 100_000;
+const MOST: i64 = 1_099_511_627_776;
 
 /// Whether each is one of so many variables.
 fn are_below(count: u64, variables: &[u64]) -> bool

@@ -1,0 +1,5 @@
+//! Tests of whole runs: words and files in, bytes and a status out.
+#![tactic(auto)]
+
+#[cfg(test)]
+mod runs;
