@@ -5,3 +5,11 @@ pub mod Grounds
 pub mod Bounds
 pub mod Constraints
 pub mod Decodings
+pub mod Meeting
+pub mod Meanings
+pub mod TwoValues
+pub mod Noted
+pub mod Listings
+pub mod Optima
+pub mod Budgets
+pub mod Refuted
