@@ -1,5 +1,5 @@
 -- How many conflicts words allow.
-use Rattle.std.proofs.Common.{◌≡◌, ℕ, ◌≤◌, Bool, true, false, ◌&&◌, if◌then◌else◌, nat_le, zero, suc, length, codes, List, Option, Some, None, option_map, option_and_then, unwrap_or, bytes_eq, inl, inr, refl, subst, arith}
+use Rattle.std.proofs.Common.{◌≡◌, ℕ, ◌≤◌, Bool, true, false, ◌&&◌, if◌then◌else◌, nat_eq, nat_le, zero, suc, length, codes, List, Option, Some, None, option_map, option_and_then, unwrap_or, bytes_eq, inl, inr, refl, subst, arith}
 use Rattle.std.proofs.lemmas.Bool.{cases_Bool}
 use Rattle.std.specs.Str.Parse.{digits_value}
 use Rattle.ep_base.specs.TokenTexts.{is_number}
@@ -8,6 +8,7 @@ use Rattle.ep_words.specs.Settings.{Setting, Text, value_of}
 use Rattle.ep_tree.specs.declared.values.Mode.{Mode}
 use Rattle.ep_run.specs.Commands.{Want, conflicts_of, wanted_of}
 use Rattle.ep_words.specs.declared.job.Job.{Job}
+use Rattle.ep_run.specs.declared.wanted.Outputs.{Outputs}
 use Rattle.ep_run.specs.declared.wanted.Request.{Request}
 use Rattle.ep_run.specs.declared.wanted.Wanted.{Wanted}
 
@@ -112,25 +113,27 @@ job-budget s job e =
 
 -- ---- what is wanted
 
-wanted-budget : (job : Job) → HasBudget job → (model : List ℕ) (params : Option (List ℕ)) (mode : Mode) (request : Request) (output : Option (List ℕ)) → wanted_of job ≡ Some (Wanted.Search model params mode request output) → 1 ≤ conflicts_of request
+abbrev IsNoSearch : Wanted → Type 0
+IsNoSearch (Wanted.Search _ _ _ _ _) = ⊥
+IsNoSearch (Wanted.Verify _ _ _ _) = Unit {0}
+IsNoSearch (Wanted.Check _ _) = Unit {0}
+
+wanted-budget : (job : Job) → HasBudget job → (model : List ℕ) (params : Option (List ℕ)) (mode : Mode) (request : Request) (outputs : Outputs) → wanted_of job ≡ Some (Wanted.Search model params mode request outputs) → 1 ≤ conflicts_of request
 unfolding wanted_of conflicts_of
-wanted-budget (Job.Solve m p n o None None u) has model params mode request output e =
+wanted-budget (Job.Solve m p n o c l u) has model params mode request outputs e =
     let same : Request.One n ≡ request = cc in
     let P : Request → Type 0 = λ r. 1 ≤ conflicts_of r in
     subst P same has
-wanted-budget (Job.Solve m p n o None (Some l) u) has model params mode request output e = absurd cc
-wanted-budget (Job.Solve m p n o (Some c) l u) has model params mode request output e = absurd cc
-wanted-budget (Job.Enumerate m p most n o None None u) has model params mode request output e =
+wanted-budget (Job.Enumerate m p most n o c l u) has model params mode request outputs e =
     let same : Request.Many most n ≡ request = cc in
     let P : Request → Type 0 = λ r. 1 ≤ conflicts_of r in
     subst P same has
-wanted-budget (Job.Enumerate m p most n o None (Some l) u) has model params mode request output e = absurd cc
-wanted-budget (Job.Enumerate m p most n o (Some c) l u) has model params mode request output e = absurd cc
-wanted-budget (Job.Verify m t p u) has model params mode request output e = absurd cc
-wanted-budget (Job.Check c l w) has model params mode request output e = absurd cc
-wanted-budget (Job.Generate k n e' p) has model params mode request output e = absurd cc
+wanted-budget (Job.Verify m t p u) has model params mode request outputs e = absurd cc
+wanted-budget (Job.Check c l w) has model params mode request outputs e =
+    absurd (if-chosen IsNoSearch (nat_eq w 1) (Some (Wanted.Check c l)) (Wanted.Search model params mode request outputs) (λ y f. let same : Wanted.Check c l ≡ y = cc in subst IsNoSearch same tt) e)
+wanted-budget (Job.Generate k n e' p) has model params mode request outputs e = absurd cc
 
 -- words that want a search allow it a conflict
-pub wants-budget : (words : List (List ℕ)) (model : List ℕ) (params : Option (List ℕ)) (mode : Mode) (request : Request) (output : Option (List ℕ)) → Want words (Wanted.Search model params mode request output) → 1 ≤ conflicts_of request
-wants-budget words model params mode request output want =
-    wanted-budget want.0 (job-budget want.1.settings want.0 want.1.asks) model params mode request output want.2
+pub wants-budget : (words : List (List ℕ)) (model : List ℕ) (params : Option (List ℕ)) (mode : Mode) (request : Request) (outputs : Outputs) → Want words (Wanted.Search model params mode request outputs) → 1 ≤ conflicts_of request
+wants-budget words model params mode request outputs want =
+    wanted-budget want.0 (job-budget want.1.settings want.0 want.1.asks) model params mode request outputs want.2

@@ -10,6 +10,7 @@ use Rattle.ep_run.specs.Budgets.{IsBelowPower, MeetsConflict, before_steps}
 use Rattle.ep_run.specs.Commands.{Want, conflicts_of}
 use Rattle.ep_solve.specs.Right.{IsSpent}
 use Rattle.sat_search.specs.Logs.{NoneIsEmpty}
+use Rattle.ep_run.specs.declared.wanted.Outputs.{Outputs}
 use Rattle.ep_run.specs.declared.wanted.Request.{Request}
 use Rattle.ep_run.specs.declared.wanted.Wanted.{Wanted}
 use Rattle.ep_run.proofs.Allowed.{wants-budget}
@@ -43,17 +44,17 @@ first-effective earlier (step (l ∷ clause) hints ∷ later) each filled some =
     (l ∷ clause, subst P (sym (append-nil earlier)) (each.0 (omega arith)))
 
 -- where a search spends its budget, unit propagation on what is given before the first step meets no conflict
-no-conflict : NoneAfterConflict → (words : List (List ℕ)) (model : List ℕ) (params : Option (List ℕ)) (mode : Mode) (request : Request) (output : Option (List ℕ)) (events : List LogEvent) → Want words (Wanted.Search model params mode request output) → NonEmptyStepsAreEffective events → IsSpent (conflicts_of request) events → ¬ MeetsConflict (before_steps events)
-no-conflict none words model params mode request output events want effective spent = λ conflict.
-    let some = wants-budget words model params mode request output want in
+no-conflict : NoneAfterConflict → (words : List (List ℕ)) (model : List ℕ) (params : Option (List ℕ)) (mode : Mode) (request : Request) (outputs : Outputs) (events : List LogEvent) → Want words (Wanted.Search model params mode request outputs) → NonEmptyStepsAreEffective events → IsSpent (conflicts_of request) events → ¬ MeetsConflict (before_steps events)
+no-conflict none words model params mode request outputs events want effective spent = λ conflict.
+    let some = wants-budget words model params mode request outputs want in
     let first = first-effective [] events effective spent.1 (omega (arith, some, spent.0)) in
     none (before_steps events) first.0 conflict.0 conflict.1 first.1
 
 -- ---- the words and the log of a run
 
-pub below-said : FewSteps → (words : List (List ℕ)) (log : LogState) → WantOne words → NonEmptyStepsAreNew log.events → Spends words log → (model : List ℕ) (params : Option (List ℕ)) (mode : Mode) (request : Request) (output : Option (List ℕ)) → Want words (Wanted.Search model params mode request output) → IsBelowPower (conflicts_of request) log.events
-below-said few words log one new spends model params mode request output want =
-    let both = one (Wanted.Search spends.0 spends.1 spends.2 spends.3 spends.4) (Wanted.Search model params mode request output) spends.5 want in
+pub below-said : FewSteps → (words : List (List ℕ)) (log : LogState) → WantOne words → NonEmptyStepsAreNew log.events → Spends words log → (model : List ℕ) (params : Option (List ℕ)) (mode : Mode) (request : Request) (outputs : Outputs) → Want words (Wanted.Search model params mode request outputs) → IsBelowPower (conflicts_of request) log.events
+below-said few words log one new spends model params mode request outputs want =
+    let both = one (Wanted.Search spends.0 spends.1 spends.2 spends.3 spends.4) (Wanted.Search model params mode request outputs) spends.5 want in
     let same : spends.3 ≡ request = cc in
     let P : Request → Type 0 = λ r. IsBelowPower (conflicts_of r) log.events in
     subst P same (below-power few (conflicts_of spends.3) log.events new spends.6)

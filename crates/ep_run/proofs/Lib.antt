@@ -8,8 +8,12 @@ mod Limits
 mod Chains
 mod Tasks
 mod Saying
+mod Written
+mod Givens
 mod Promises
+mod OneReading
 mod Once
 mod Allowed
+mod Certified
 mod Budgets
 mod Running

@@ -6,22 +6,22 @@ use Rattle.ep_base.specs.Outside.{Held}
 use Rattle.ep_print.specs.declared.refusals.Refusal.{Refusal}
 use Rattle.ep_print.specs.declared.refusals.TextFile.{TextFile}
 use Rattle.ep_tree.specs.Statements.{TextTree}
-use Rattle.ep_tree.specs.declared.values.Mode.{Mode}
 use Rattle.ep_tree.specs.Texts.{Answers as TextAnswers, TextAnswer}
 use Rattle.ep_words.specs.Commands.{IsCommand}
 use Rattle.ep_words.specs.declared.job.Job.{Job}
 use Rattle.ep_run.specs.Answers.{Answers}
-use Rattle.ep_run.specs.Commands.{Want, wanted_of}
-use Rattle.ep_run.specs.Outcomes.{Outcome, Task, search_outcome, verify_outcome}
+use Rattle.ep_run.specs.Commands.{IsJudgement, Want, wanted_of}
+use Rattle.ep_run.specs.Outcomes.{Outcome, Task, search_outcome, to_check, verify_outcome}
 use Rattle.ep_run.specs.Puts.{HoldOnWant}
-use Rattle.ep_run.specs.Readings.{AreParams, IsHeldReadAs, IsReadAs, spells_in, tree_or_refusal}
-use Rattle.ep_run.specs.Shown.{Ask, ComesTo, Refuse, Show, ThenShows, comes_to_judge, comes_to_search, comes_to_verify}
+use Rattle.ep_run.specs.Readings.{AreParams, IsFormulaReadAs, IsHeldReadBy, IsProofReadAs, IsReadAs, IsReadBy, IsTextReadAs, ReadsTexts, spells_in, tree_or_refusal}
+use Rattle.ep_run.specs.Shown.{Ask, ComesTo, Refuse, Show, ThenShows, comes_to_check, comes_to_judge, comes_to_search, comes_to_verify}
 use Rattle.ep_run.specs.Status.{HasReply, status_of}
 use Rattle.ep_run.specs.Steps.{IsLogOf, LogsTask}
 use Rattle.ep_run.specs.declared.status.Status.{Status}
 use Rattle.ep_run.specs.declared.wanted.Wanted.{Wanted}
+use Rattle.ep_run.proofs.OneReading.{OneFormula, OneProof, formula-once, proof-once}
 use Rattle.ep_run.proofs.Promises.{ended-status, usage-told}
-use Rattle.ep_run.proofs.Saying.{Case, answer, end-logs, faulty, no_command, output-logs, unread, unwritten}
+use Rattle.ep_run.proofs.Saying.{Case, answer, end-logs, faulty, no_command, unread, unwritten}
 
 -- a text is read as one thing alone
 abbrev pub OneAnswer : (TextFile) → Type 0
@@ -31,24 +31,31 @@ OneAnswer file = (text : List ℕ) (a b : TextAnswer) → TextAnswers (spells_in
 abbrev pub OneJob : Type 0
 OneJob = (words : List (List ℕ)) (one other : Job) → IsCommand words one → IsCommand words other → one ≡ other
 
-held-once : (file : TextFile) → OneAnswer file → (name : List ℕ) (x : Option (List ℕ)) (a b : Result TextTree Refusal) → IsHeldReadAs file name x a → IsHeldReadAs file name x b → a ≡ b
-held-once file one name None a b g h = g ∙ sym h
-held-once file one name (Some text) a b g h = g.2 ∙ ap (tree_or_refusal file) (one text g.0 h.0 g.1 h.1) ∙ sym h.2
+-- texts are read as one thing alone
+abbrev pub OneReading : {A : Type 0} → ReadsTexts A → Type 0
+OneReading {A} texts = (text : List ℕ) (a b : Result A Refusal) → texts text a → texts text b → a ≡ b
 
-file-once : (file : TextFile) → OneAnswer file → (name : List ℕ) (held : Held) (a b : Result TextTree Refusal) → IsReadAs held file name a → IsReadAs held file name b → a ≡ b
-file-once file one name held a b g h = held-once file one name (held name) a b g h
+tree-once : (file : TextFile) → OneAnswer file → OneReading (IsTextReadAs file)
+tree-once file one text a b g h = g.2 ∙ ap (tree_or_refusal file) (one text g.0 h.0 g.1 h.1) ∙ sym h.2
+
+held-once : {A : Type 0} (texts : ReadsTexts A) → OneReading texts → (name : List ℕ) (x : Option (List ℕ)) (a b : Result A Refusal) → IsHeldReadBy texts name x a → IsHeldReadBy texts name x b → a ≡ b
+held-once texts one name None a b g h = g ∙ sym h
+held-once texts one name (Some text) a b g h = one text a b g h
+
+file-once : {A : Type 0} (texts : ReadsTexts A) → OneReading texts → (name : List ℕ) (held : Held) (a b : Result A Refusal) → IsReadBy texts held name a → IsReadBy texts held name b → a ≡ b
+file-once texts one name held a b g h = held-once texts one name (held name) a b g h
 
 params-once : OneAnswer TextFile.Params → (params : Option (List ℕ)) (held : Held) (a b : Result TextTree Refusal) → AreParams held params a → AreParams held params b → a ≡ b
 params-once one None held a b g h = g ∙ sym h
-params-once one (Some name) held a b g h = file-once TextFile.Params one name held a b g h
+params-once one (Some name) held a b g h = file-once (IsTextReadAs TextFile.Params) (tree-once TextFile.Params one) name held a b g h
 
-then-once : (reads : Result TextTree Refusal → Type 0) (next : TextTree → Outcome Task → Type 0) → ((a b : Result TextTree Refusal) → reads a → reads b → a ≡ b) → ((t : TextTree) (a b : Outcome Task) → next t a → next t b → a ≡ b) → (a b : Outcome Task) → ThenShows reads next a → ThenShows reads next b → a ≡ b
-then-once reads next once on a b g h =
+then-once : {A : Type 0} (reads : Result A Refusal → Type 0) (next : A → Outcome Task → Type 0) → ((a b : Result A Refusal) → reads a → reads b → a ≡ b) → ((t : A) (a b : Outcome Task) → next t a → next t b → a ≡ b) → (a b : Outcome Task) → ThenShows reads next a → ThenShows reads next b → a ≡ b
+then-once {A} reads next once on a b g h =
     elim g [
       | inl one ↦ elim h [
         | inl other ↦
             let same : one.0 ≡ other.0 = let e = once (Ok one.0) (Ok other.0) one.1 other.1 in cc in
-            let P : TextTree → Type 0 = λ t. next t a in
+            let P : A → Type 0 = λ t. next t a in
             on other.0 a b (subst P same one.2) other.2
         | inr other ↦ let e = once (Ok one.0) (Err other.0) one.1 other.1 in absurd cc
       ]
@@ -60,22 +67,29 @@ then-once reads next once on a b g h =
       ]
     ]
 
--- texts of all three kinds are read as one thing alone
+-- texts of all kinds are read as one thing alone
 pub record TextsAreOnce : Type 0 where
   pub model : OneAnswer TextFile.Model
   pub params : OneAnswer TextFile.Params
   pub solution : OneAnswer TextFile.Solution
+  pub formula : OneFormula
+  pub proof : OneProof
 
 comes-once : TextsAreOnce → (wanted : Wanted) (held : Held) (a b : Outcome Task) → ComesTo wanted held a → ComesTo wanted held b → a ≡ b
-comes-once texts (Wanted.Search model params mode request output) held a b g h =
-    then-once (IsReadAs held TextFile.Model model) (λ m. comes_to_search mode request params m held) (file-once TextFile.Model texts.model model held)
+comes-once texts (Wanted.Search model params mode request outputs) held a b g h =
+    then-once (IsReadAs held TextFile.Model model) (λ m. comes_to_search mode request params m held) (file-once (IsTextReadAs TextFile.Model) (tree-once TextFile.Model texts.model) model held)
     (λ m. then-once (AreParams held params) (λ p outcome. outcome ≡ search_outcome mode request m p) (params-once texts.params params held) (λ p x y e f. e ∙ sym f))
     a b g h
 comes-once texts (Wanted.Verify model params mode solution) held a b g h =
-    then-once (IsReadAs held TextFile.Model model) (λ m. comes_to_verify mode params solution m held) (file-once TextFile.Model texts.model model held)
+    then-once (IsReadAs held TextFile.Model model) (λ m. comes_to_verify mode params solution m held) (file-once (IsTextReadAs TextFile.Model) (tree-once TextFile.Model texts.model) model held)
     (λ m. then-once (AreParams held params) (λ p. comes_to_judge mode solution m p held) (params-once texts.params params held)
-    (λ p. then-once (IsReadAs held TextFile.Solution solution) (λ s outcome. outcome ≡ verify_outcome mode m p s) (file-once TextFile.Solution texts.solution solution held)
+    (λ p. then-once (IsReadAs held TextFile.Solution solution) (λ s outcome. outcome ≡ verify_outcome mode m p s) (file-once (IsTextReadAs TextFile.Solution) (tree-once TextFile.Solution texts.solution) solution held)
     (λ s x y e f. e ∙ sym f)))
+    a b g h
+comes-once texts (Wanted.Check formula proof) held a b g h =
+    then-once (IsReadBy IsFormulaReadAs held formula) (λ clauses. comes_to_check proof clauses held) (file-once IsFormulaReadAs (formula-once texts.formula) formula held)
+    (λ clauses. then-once (IsReadBy IsProofReadAs held proof) (λ lines outcome. outcome ≡ Ok (to_check clauses lines)) (file-once IsProofReadAs (proof-once texts.proof) proof held)
+    (λ lines x y e f. e ∙ sym f))
     a b g h
 
 -- words want one thing alone
@@ -121,7 +135,7 @@ answers-said words (Some held) after rose status text log once (answer wanted wa
 answers-said words (Some held) after rose status text log once (faulty wanted want r s t nothing kept of_text shown) calm = λ task ask. absurd (asked-not-refused words once held task r ask shown)
 answers-said words (Some held) after rose status text log once (unread name s t nothing kept failed why) calm = λ task ask.
     elim why [ inl up ↦ absurd (calm up) | inr missing ↦ absurd (asked-not-refused words once held task (Refusal.CannotRead name) ask missing) ]
-answers-said words (Some held) after rose status text log once (unwritten name s t sound failed) calm = λ task ask. absurd (calm failed.0)
+answers-said words (Some held) after rose status text log once (unwritten name s t sound wanted want logs failed) calm = λ task ask. absurd (calm failed.0)
 
 abbrev pub Refused : Status → List Refusal → Type 0
 Refused s refusals = (s ≡ Status.Memory) ⊎ ((r : Refusal) × Contains refusals r × (s ≡ status_of r))
@@ -144,7 +158,7 @@ refuses-said words (Some held) after rose status text log once (answer wanted wa
 refuses-said words (Some held) after rose status text log once (faulty wanted want r s t nothing kept of_text shown) calm = λ refusals show. refused-so words once held status refusals r s shown show
 refuses-said words (Some held) after rose status text log once (unread name s t nothing kept failed why) calm = λ refusals show.
     elim why [ inl up ↦ absurd (calm up) | inr missing ↦ refused-so words once held status refusals (Refusal.CannotRead name) s missing show ]
-refuses-said words (Some held) after rose status text log once (unwritten name s t sound failed) calm = λ refusals show. absurd (calm failed.0)
+refuses-said words (Some held) after rose status text log once (unwritten name s t sound wanted want logs failed) calm = λ refusals show. absurd (calm failed.0)
 
 -- nothing is logged where a refusal stands
 pub unlogged-said : (words : List (List ℕ)) (told after : Option Held) (rose : Type 0) (status : Status) (text : List ℕ) (log : LogState) → ShownOnce words → Case words told after rose status text log → IfSome told (λ held. (refusals : List Refusal) → Show words held (Err refusals) → log ≡ empty_log)
@@ -153,7 +167,7 @@ unlogged-said words (Some held) after rose status text log once (no_command s t 
 unlogged-said words (Some held) after rose status text log once (answer wanted want ends shown put) = λ refusals show. absurd (answered-not words once held status text log refusals shown show)
 unlogged-said words (Some held) after rose status text log once (faulty wanted want r s t nothing kept of_text shown) = λ refusals show. nothing
 unlogged-said words (Some held) after rose status text log once (unread name s t nothing kept failed why) = λ refusals show. nothing
-unlogged-said words (Some held) after rose status text log once (unwritten name s t sound failed) = λ refusals show. let e = once held (Ok failed.2.0) (Err refusals) failed.2.1 show in absurd cc
+unlogged-said words (Some held) after rose status text log once (unwritten name s t sound wanted want logs failed) = λ refusals show. let e = once held (Ok failed.5.0) (Err refusals) failed.5.2 show in absurd cc
 
 -- no file is changed where a refusal stands
 pub unwritten-said : (words : List (List ℕ)) (told after : Option Held) (rose : Type 0) (status : Status) (text : List ℕ) (log : LogState) → ShownOnce words → Case words told after rose status text log → IfSome told (λ held. (refusals : List Refusal) → Show words held (Err refusals) → after ≡ told)
@@ -162,14 +176,17 @@ unwritten-said words (Some held) after rose status text log once (no_command s t
 unwritten-said words (Some held) after rose status text log once (answer wanted want ends shown put) = λ refusals show. absurd (answered-not words once held status text log refusals shown show)
 unwritten-said words (Some held) after rose status text log once (faulty wanted want r s t nothing kept of_text shown) = λ refusals show. kept
 unwritten-said words (Some held) after rose status text log once (unread name s t nothing kept failed why) = λ refusals show. kept
-unwritten-said words (Some held) after rose status text log once (unwritten name s t sound failed) = λ refusals show. let e = once held (Ok failed.2.0) (Err refusals) failed.2.1 show in absurd cc
+unwritten-said words (Some held) after rose status text log once (unwritten name s t sound wanted want logs failed) = λ refusals show. let e = once held (Ok failed.5.0) (Err refusals) failed.5.2 show in absurd cc
 
-pub unwritten-on-want : (words : List (List ℕ)) (told after : Option Held) (rose : Type 0) → ShownOnce words → HoldOnWant words told after rose → IfSome told (λ held. (refusals : List Refusal) → Show words held (Err refusals) → after ≡ told)
-unwritten-on-want words None after rose once h = tt
-unwritten-on-want words (Some held) after rose once h = λ refusals show.
+pub unwritten-on-want : (words : List (List ℕ)) (told after : Option Held) (rose : Type 0) (log : LogState) → ShownOnce words → HoldOnWant words told after rose log → IfSome told (λ held. (refusals : List Refusal) → Show words held (Err refusals) → after ≡ told)
+unwritten-on-want words None after rose log once h = tt
+unwritten-on-want words (Some held) after rose log once h = λ refusals show.
     elim h [
       | inl kept ↦ kept
-      | inr failed ↦ let e = once held (Ok failed.1.2.0) (Err refusals) failed.1.2.1 show in absurd cc
+      | inr some ↦ elim some [
+        | inl partly ↦ let e = once held (Ok partly.4.0) (Err refusals) partly.4.2 show in absurd cc
+        | inr failed ↦ let e = once held (Ok failed.1.5.0) (Err refusals) failed.1.5.2 show in absurd cc
+      ]
     ]
 
 pub unlogged-on-want : (words : List (List ℕ)) (told : Option Held) (log : LogState) → ShownOnce words → LogsTask words told log → IfSome told (λ held. (refusals : List Refusal) → Show words held (Err refusals) → log ≡ empty_log)
@@ -177,21 +194,25 @@ unlogged-on-want words None log once h = tt
 unlogged-on-want words (Some held) log once h = λ refusals show.
     elim h [ inl nothing ↦ nothing | inr asked ↦ let e = once held (Ok asked.3.0) (Err refusals) asked.3.1 show in absurd cc ]
 
--- ---- what a verification logs
+-- ---- what a judgement logs
 
-logs-nothing : (words : List (List ℕ)) (wanted : Wanted) (log : LogState) (model : List ℕ) (params : Option (List ℕ)) (mode : Mode) (solution : List ℕ) → WantOne words → Want words wanted → IsLogOf wanted log → Want words (Wanted.Verify model params mode solution) → log ≡ empty_log
-logs-nothing words (Wanted.Search m p u request output) log model params mode solution one want logs judged =
-    let e = one (Wanted.Search m p u request output) (Wanted.Verify model params mode solution) want judged in absurd cc
-logs-nothing words (Wanted.Verify m p u s) log model params mode solution one want logs judged = logs
+logs-nothing : (wanted : Wanted) (log : LogState) → IsJudgement wanted → IsLogOf wanted log → log ≡ empty_log
+logs-nothing (Wanted.Search m p u request outputs) log judged logs = absurd judged
+logs-nothing (Wanted.Verify m p u s) log judged logs = logs
+logs-nothing (Wanted.Check formula proof) log judged logs = logs
 
--- nothing is logged where a solution is to be verified
-pub judged-said : (words : List (List ℕ)) (told after : Option Held) (rose : Type 0) (status : Status) (text : List ℕ) (log : LogState) → WantOne words → Case words told after rose status text log → (model : List ℕ) (params : Option (List ℕ)) (mode : Mode) (solution : List ℕ) → Want words (Wanted.Verify model params mode solution) → log ≡ empty_log
-judged-said words told after rose status text log one (no_command s t nothing kept none) = λ model params mode solution judged. nothing
-judged-said words told after rose status text log one (answer wanted want ends shown put) = λ model params mode solution judged. logs-nothing words wanted log model params mode solution one want (end-logs wanted status log ends) judged
-judged-said words told after rose status text log one (faulty wanted want r s t nothing kept of_text shown) = λ model params mode solution judged. nothing
-judged-said words told after rose status text log one (unread name s t nothing kept failed why) = λ model params mode solution judged. nothing
-judged-said words told after rose status text log one (unwritten name s t sound failed) = λ model params mode solution judged. logs-nothing words failed.1.0 log model params mode solution one failed.1.1 (output-logs failed.1.0 name log failed.1.2) judged
+judged-logs : (words : List (List ℕ)) (one other : Wanted) (log : LogState) → WantOne words → Want words one → IsLogOf one log → Want words other → IsJudgement other → log ≡ empty_log
+judged-logs words one other log once want logs also judged =
+    logs-nothing other log judged (subst (λ w. IsLogOf w log) (once one other want also) logs)
 
-pub judged-on-want : (words : List (List ℕ)) (told : Option Held) (log : LogState) → WantOne words → LogsTask words told log → (model : List ℕ) (params : Option (List ℕ)) (mode : Mode) (solution : List ℕ) → Want words (Wanted.Verify model params mode solution) → log ≡ empty_log
-judged-on-want words told log one h = λ model params mode solution judged.
-    elim h [ inl nothing ↦ nothing | inr asked ↦ logs-nothing words asked.0 log model params mode solution one asked.1 asked.2 judged ]
+-- nothing is logged where something is to be judged
+pub judged-said : (words : List (List ℕ)) (told after : Option Held) (rose : Type 0) (status : Status) (text : List ℕ) (log : LogState) → WantOne words → Case words told after rose status text log → (other : Wanted) → Want words other → IsJudgement other → log ≡ empty_log
+judged-said words told after rose status text log one (no_command s t nothing kept none) = λ other also judged. nothing
+judged-said words told after rose status text log one (answer wanted want ends shown put) = λ other also judged. judged-logs words wanted other log one want (end-logs wanted status log ends) also judged
+judged-said words told after rose status text log one (faulty wanted want r s t nothing kept of_text shown) = λ other also judged. nothing
+judged-said words told after rose status text log one (unread name s t nothing kept failed why) = λ other also judged. nothing
+judged-said words told after rose status text log one (unwritten name s t sound wanted want logs failed) = λ other also judged. judged-logs words wanted other log one want logs also judged
+
+pub judged-on-want : (words : List (List ℕ)) (told : Option Held) (log : LogState) → WantOne words → LogsTask words told log → (other : Wanted) → Want words other → IsJudgement other → log ≡ empty_log
+judged-on-want words told log one h = λ other also judged.
+    elim h [ inl nothing ↦ nothing | inr asked ↦ judged-logs words asked.0 other log one asked.1 asked.2 also judged ]

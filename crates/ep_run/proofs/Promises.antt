@@ -9,17 +9,19 @@ use Rattle.ep_print.specs.Refusals.{refusal_text}
 use Rattle.ep_print.specs.declared.refusals.Refusal.{Refusal}
 use Rattle.ep_tree.specs.declared.values.Mode.{Mode}
 use Rattle.ep_run.specs.Answers.{Answers}
-use Rattle.ep_run.specs.Commands.{AreNoCommand, Want, conflicts_of, output_of}
+use Rattle.ep_run.specs.Commands.{AreNoCommand, IsJudgement, Want, conflicts_of, no_outputs, outputs_of}
 use Rattle.ep_run.specs.Outcomes.{Task}
-use Rattle.ep_run.specs.Outputs.{HasOutput, IsOutput, SameButOutput, with_output}
-use Rattle.ep_run.specs.Puts.{HoldOnWant, IsDeviceLine, IsFailedRead, IsShownText, MayBePut, TookFirst, read_line}
+use Rattle.ep_run.specs.Outputs.{HasOutput, IsOutput, SameButOutput, in_order}
+use Rattle.ep_run.specs.Puts.{HoldOnWant, IsDeviceLine, IsFailedRead, IsFailedWrite, IsShownText, MayBePut, TookFirst, read_line}
 use Rattle.ep_run.specs.Shown.{Ask, Refuse, Refuses}
 use Rattle.ep_run.specs.Status.{HasReply, status_of}
 use Rattle.ep_run.specs.Steps.{IsEnd, IsOfText}
 use Rattle.ep_run.specs.declared.status.Status.{Status}
+use Rattle.ep_run.specs.declared.wanted.Outputs.{Outputs}
 use Rattle.ep_run.specs.declared.wanted.Request.{Request}
 use Rattle.ep_run.specs.declared.wanted.Wanted.{Wanted}
 use Rattle.ep_run.proofs.Refusing.{contains-first}
+use Rattle.ep_run.proofs.Written.{failed-same, nothing-written, outputs-named, partly-same, same-self, written-same}
 use Rattle.ep_run.proofs.Saying.{Case, answer, faulty, no_command, unread, unwritten}
 
 -- ---- kinds of ends, so that different ones are told apart
@@ -40,6 +42,7 @@ kind-ended s h = elim h [ inl e ↦ ap kind e | inr rest ↦ elim rest [ inl e �
 kind-end : (wanted : Wanted) (s : Status) (log : LogState) → IsEnd wanted s log → kind s ≡ 0
 kind-end (Wanted.Search _ _ _ _ _) s log h = elim h.1 [ inl e ↦ ap kind e | inr e ↦ ap kind e.0 ]
 kind-end (Wanted.Verify _ _ _ _) s log h = elim h.1 [ inl e ↦ ap kind e | inr e ↦ ap kind e ]
+kind-end (Wanted.Check _ _) s log h = elim h.1 [ inl e ↦ ap kind e | inr e ↦ ap kind e ]
 
 kind-text : (r : Refusal) (s : Status) → s ≡ status_of r → IsOfText r → kind s ≡ 2
 kind-text r s e h = elim h [ inl f ↦ ap kind (e ∙ f) | inr f ↦ ap kind (e ∙ f) ]
@@ -61,6 +64,7 @@ refused-not s n h k one two =
 pub ended-status : (wanted : Wanted) (s : Status) (log : LogState) → IsEnd wanted s log → HasReply s
 ended-status (Wanted.Search _ _ _ _ _) s log h = elim h.1 [ inl e ↦ inl e | inr e ↦ inr (inl e.0) ]
 ended-status (Wanted.Verify _ _ _ _) s log h = elim h.1 [ inl e ↦ inl e | inr e ↦ inr (inr e) ]
+ended-status (Wanted.Check _ _) s log h = elim h.1 [ inl e ↦ inl e | inr e ↦ inr (inr e) ]
 
 -- ---- the clauses
 
@@ -77,28 +81,29 @@ usage-told words None none = tt
 usage-told words (Some held) none = (Refusal.Usage ∷ [], inl (none, refl), contains-first Refusal.Usage [])
 
 pub when-answered : (words : List (List ℕ)) (told after : Option Held) (rose : Type 0) (status : Status) (text : List ℕ) (log : LogState) (Took : List ℕ → Type 0) → Case words told after rose status text log → Took text → HasReply status
-    → IfSome told (λ held. (task : Task) × (t : List ℕ) × Ask words held task × Answers task status t log × Took t × HasOutput words t told after)
+    → IfSome told (λ held. (task : Task) × (t : List ℕ) × Ask words held task × Answers task status t log × Took t × HasOutput words t log told after)
 when-answered words told after rose status text log Took (no_command s t nothing kept none) took h = apart status 0 1 (kind-ended status h) (ap kind s) (λ e. cc)
-when-answered words told after rose status text log Took (answer wanted want ends shown put) took h = with-taken words told status text log Took (λ t. HasOutput words t told after) took (wanted, want, put) shown
+when-answered words told after rose status text log Took (answer wanted want ends shown put) took h = with-taken words told status text log Took (λ t. HasOutput words t log told after) took (wanted, want, put) shown
 when-answered words told after rose status text log Took (faulty wanted want r s t nothing kept of_text shown) took h = apart status 0 2 (kind-ended status h) (kind-text r status s of_text) (λ e. cc)
 when-answered words told after rose status text log Took (unread name s t nothing kept failed why) took h = apart status 0 3 (kind-ended status h) (ap kind s) (λ e. cc)
-when-answered words told after rose status text log Took (unwritten name s t sound failed) took h = apart status 0 3 (kind-ended status h) (ap kind s) (λ e. cc)
+when-answered words told after rose status text log Took (unwritten name s t sound wanted want logs failed) took h = apart status 0 3 (kind-ended status h) (ap kind s) (λ e. cc)
 
--- that a solution is verified, and nothing is logged
-abbrev pub Verifies : List (List ℕ) → Type 0
-Verifies words = (model : List ℕ) × (params : Option (List ℕ)) × (mode : Mode) × (solution : List ℕ) × Want words (Wanted.Verify model params mode solution)
+-- that something is judged
+abbrev pub Judges : List (List ℕ) → Type 0
+Judges words = (wanted : Wanted) × Want words wanted × IsJudgement wanted
 
-wants-verify : (words : List (List ℕ)) (wanted : Wanted) (status : Status) (log : LogState) → Want words wanted → IsEnd wanted status log → status ≡ Status.Refuted → Verifies words × (log ≡ empty_log) × (output_of wanted ≡ None)
-unfolding output_of
-wants-verify words (Wanted.Search model params mode request output) status log want ends e = elim ends.1 [ inl f ↦ let g = sym f ∙ e in absurd cc | inr f ↦ let g = sym f.0 ∙ e in absurd cc ]
-wants-verify words (Wanted.Verify model params mode solution) status log want ends e = ((model, params, mode, solution, want), ends.0, refl)
+wants-judgement : (words : List (List ℕ)) (wanted : Wanted) (status : Status) (log : LogState) → Want words wanted → IsEnd wanted status log → status ≡ Status.Refuted → Judges words × (log ≡ empty_log) × (outputs_of wanted ≡ no_outputs)
+unfolding outputs_of
+wants-judgement words (Wanted.Search model params mode request outputs) status log want ends e = elim ends.1 [ inl f ↦ let g = sym f ∙ e in absurd cc | inr f ↦ let g = sym f.0 ∙ e in absurd cc ]
+wants-judgement words (Wanted.Verify model params mode solution) status log want ends e = ((Wanted.Verify model params mode solution, want, tt), ends.0, refl)
+wants-judgement words (Wanted.Check formula proof) status log want ends e = ((Wanted.Check formula proof, want, tt), ends.0, refl)
 
-pub when-refuted : (words : List (List ℕ)) (told after : Option Held) (rose : Type 0) (status : Status) (text : List ℕ) (log : LogState) → Case words told after rose status text log → status ≡ Status.Refuted → Verifies words
+pub when-refuted : (words : List (List ℕ)) (told after : Option Held) (rose : Type 0) (status : Status) (text : List ℕ) (log : LogState) → Case words told after rose status text log → status ≡ Status.Refuted → Judges words
 when-refuted words told after rose status text log (no_command s t nothing kept none) h = apart status 0 1 (ap kind h) (ap kind s) (λ e. cc)
-when-refuted words told after rose status text log (answer wanted want ends shown put) h = (wants-verify words wanted status log want ends h).0
+when-refuted words told after rose status text log (answer wanted want ends shown put) h = (wants-judgement words wanted status log want ends h).0
 when-refuted words told after rose status text log (faulty wanted want r s t nothing kept of_text shown) h = apart status 0 2 (ap kind h) (kind-text r status s of_text) (λ e. cc)
 when-refuted words told after rose status text log (unread name s t nothing kept failed why) h = apart status 0 3 (ap kind h) (ap kind s) (λ e. cc)
-when-refuted words told after rose status text log (unwritten name s t sound failed) h = apart status 0 3 (ap kind h) (ap kind s) (λ e. cc)
+when-refuted words told after rose status text log (unwritten name s t sound wanted want logs failed) h = apart status 0 3 (ap kind h) (ap kind s) (λ e. cc)
 
 pub when-refused : (words : List (List ℕ)) (told after : Option Held) (rose : Type 0) (status : Status) (text : List ℕ) (log : LogState) (Took : List ℕ → Type 0) → Case words told after rose status text log → Took text → IsRefused status → IfSome told (λ held. (line : List ℕ) × Refuses words held status line × Took line)
 unfolding status_of
@@ -106,14 +111,14 @@ when-refused words told after rose status text log Took (no_command s t nothing 
 when-refused words told after rose status text log Took (answer wanted want ends shown put) took h = refused-not status 0 h (kind-end wanted status log ends) (λ e. cc) (λ e. cc)
 when-refused words told after rose status text log Took (faulty wanted want r s t nothing kept of_text shown) took h = line-taken words told r status text Took s t took shown
 when-refused words told after rose status text log Took (unread name s t nothing kept failed why) took h = refused-not status 3 h (ap kind s) (λ e. cc) (λ e. cc)
-when-refused words told after rose status text log Took (unwritten name s t sound failed) took h = refused-not status 3 h (ap kind s) (λ e. cc) (λ e. cc)
+when-refused words told after rose status text log Took (unwritten name s t sound wanted want logs failed) took h = refused-not status 3 h (ap kind s) (λ e. cc) (λ e. cc)
 
 pub when-usage : (words : List (List ℕ)) (told after : Option Held) (rose : Type 0) (status : Status) (text : List ℕ) (log : LogState) → Case words told after rose status text log → status ≡ Status.Usage → AreNoCommand words × (text ≡ refusal_text Refusal.Usage)
 when-usage words told after rose status text log (no_command s t nothing kept none) h = (none, t)
 when-usage words told after rose status text log (answer wanted want ends shown put) h = apart status 1 0 (ap kind h) (kind-end wanted status log ends) (λ e. cc)
 when-usage words told after rose status text log (faulty wanted want r s t nothing kept of_text shown) h = apart status 1 2 (ap kind h) (kind-text r status s of_text) (λ e. cc)
 when-usage words told after rose status text log (unread name s t nothing kept failed why) h = apart status 1 3 (ap kind h) (ap kind s) (λ e. cc)
-when-usage words told after rose status text log (unwritten name s t sound failed) h = apart status 1 3 (ap kind h) (ap kind s) (λ e. cc)
+when-usage words told after rose status text log (unwritten name s t sound wanted want logs failed) h = apart status 1 3 (ap kind h) (ap kind s) (λ e. cc)
 
 missing-line : (words : List (List ℕ)) (told : Option Held) (name : List ℕ) → IsSomeAnd told (λ held. Refuse words held (Refusal.CannotRead name)) → IsSomeAnd told (λ held. (line : List ℕ) × Refuses words held Status.Device line)
 unfolding status_of
@@ -127,7 +132,7 @@ why-device words told after rose other status text log (answer wanted want ends 
 why-device words told after rose other status text log (faulty wanted want r s t nothing kept of_text shown) h = apart status 3 2 (ap kind h) (kind-text r status s of_text) (λ e. cc)
 why-device words told after rose other status text log (unread name s t nothing kept failed why) h =
     elim why [ inl up ↦ inl up | inr missing ↦ inr (inr (missing-line words told name missing)) ]
-why-device words told after rose other status text log (unwritten name s t sound failed) h = inl failed.0
+why-device words told after rose other status text log (unwritten name s t sound wanted want logs failed) h = inl failed.0
 
 missing-taken : (words : List (List ℕ)) (told : Option Held) (name text : List ℕ) (Took : List ℕ → Type 0) → text ≡ read_line name → Took text → IsSomeAnd told (λ held. Refuse words held (Refusal.CannotRead name)) → IfSome told (λ held. (line : List ℕ) × Refuses words held Status.Device line × Took line)
 unfolding status_of
@@ -140,7 +145,7 @@ when-not-held words told after rose status text log Took (answer wanted want end
 when-not-held words told after rose status text log Took (faulty wanted want r s t nothing kept of_text shown) took h calm = apart status 3 2 (ap kind h) (kind-text r status s of_text) (λ e. cc)
 when-not-held words told after rose status text log Took (unread name s t nothing kept failed why) took h calm =
     elim why [ inl up ↦ absurd (calm up) | inr missing ↦ missing-taken words told name text Took t took missing ]
-when-not-held words told after rose status text log Took (unwritten name s t sound failed) took h calm = absurd (calm failed.0)
+when-not-held words told after rose status text log Took (unwritten name s t sound wanted want logs failed) took h calm = absurd (calm failed.0)
 
 -- the line of a device, when its text was put out
 pub when-failed : (words : List (List ℕ)) (told after : Option Held) (rose : Type 0) (status : Status) (text : List ℕ) (log : LogState) (Took : List ℕ → Type 0) → Case words told after rose status text log → Took text → status ≡ Status.Device → (line : List ℕ) × IsDeviceLine words told after rose log line × Took line
@@ -148,9 +153,9 @@ when-failed words told after rose status text log Took (no_command s t nothing k
 when-failed words told after rose status text log Took (answer wanted want ends shown put) took h = apart status 3 0 (ap kind h) (kind-end wanted status log ends) (λ e. cc)
 when-failed words told after rose status text log Took (faulty wanted want r s t nothing kept of_text shown) took h = apart status 3 2 (ap kind h) (kind-text r status s of_text) (λ e. cc)
 when-failed words told after rose status text log Took (unread name s t nothing kept failed why) took h = (text, inl (name, failed, t, nothing, kept), took)
-when-failed words told after rose status text log Took (unwritten name s t sound failed) took h = (text, inr (name, failed, t), took)
+when-failed words told after rose status text log Took (unwritten name s t sound wanted want logs failed) took h = (text, inr (name, failed, t), took)
 
-answer-text : (words : List (List ℕ)) (told after : Option Held) (status : Status) (text : List ℕ) (log : LogState) → HasOutput words text told after → IfSome told (λ held. (task : Task) × Ask words held task × Answers task status text log) → IfSome told (λ held. IsShownText words held after log text)
+answer-text : (words : List (List ℕ)) (told after : Option Held) (status : Status) (text : List ℕ) (log : LogState) → HasOutput words text log told after → IfSome told (λ held. (task : Task) × Ask words held task × Answers task status text log) → IfSome told (λ held. IsShownText words held after log text)
 answer-text words None after status text log put h = tt
 answer-text words (Some held) after status text log put h = inr (h.0, status, h.1, h.2, put)
 
@@ -172,16 +177,17 @@ may-be-put words told after rose status text log (unread name s t nothing kept f
       | inl up ↦ inr (up, inl (name, failed, t, nothing, kept))
       | inr missing ↦ inl (refusal-shown words told after log (Refusal.CannotRead name) text t kept (missing-told words told name missing))
     ]
-may-be-put words told after rose status text log (unwritten name s t sound failed) = inr (failed.0, inr (name, failed, t))
+may-be-put words told after rose status text log (unwritten name s t sound wanted want logs failed) = inr (failed.0, inr (name, failed, t))
 
 -- that a search goes on in a model, and so many steps are logged
 abbrev pub Spends : List (List ℕ) → LogState → Type 0
 Spends words log =
-    (model : List ℕ) × (params : Option (List ℕ)) × (mode : Mode) × (request : Request) × (output : Option (List ℕ)) × Want words (Wanted.Search model params mode request output) × IsSpent (conflicts_of request) log.events
+    (model : List ℕ) × (params : Option (List ℕ)) × (mode : Mode) × (request : Request) × (outputs : Outputs) × Want words (Wanted.Search model params mode request outputs) × IsSpent (conflicts_of request) log.events
 
 wants-search : (words : List (List ℕ)) (wanted : Wanted) (status : Status) (log : LogState) → Want words wanted → IsEnd wanted status log → status ≡ Status.Unknown → Spends words log
-wants-search words (Wanted.Search model params mode request output) status log want ends e = elim ends.1 [ inl f ↦ let g = sym f ∙ e in absurd cc | inr f ↦ (model, params, mode, request, output, want, f.1) ]
+wants-search words (Wanted.Search model params mode request outputs) status log want ends e = elim ends.1 [ inl f ↦ let g = sym f ∙ e in absurd cc | inr f ↦ (model, params, mode, request, outputs, want, f.1) ]
 wants-search words (Wanted.Verify model params mode solution) status log want ends e = elim ends.1 [ inl f ↦ let g = sym f ∙ e in absurd cc | inr f ↦ let g = sym f ∙ e in absurd cc ]
+wants-search words (Wanted.Check formula proof) status log want ends e = elim ends.1 [ inl f ↦ let g = sym f ∙ e in absurd cc | inr f ↦ let g = sym f ∙ e in absurd cc ]
 
 -- the budget is spent where a search goes on
 pub when-unknown : (words : List (List ℕ)) (told after : Option Held) (rose : Type 0) (status : Status) (text : List ℕ) (log : LogState) → Case words told after rose status text log → status ≡ Status.Unknown → Spends words log
@@ -189,7 +195,7 @@ when-unknown words told after rose status text log (no_command s t nothing kept 
 when-unknown words told after rose status text log (answer wanted want ends shown put) h = wants-search words wanted status log want ends h
 when-unknown words told after rose status text log (faulty wanted want r s t nothing kept of_text shown) h = apart status 0 2 (ap kind h) (kind-text r status s of_text) (λ e. cc)
 when-unknown words told after rose status text log (unread name s t nothing kept failed why) h = apart status 0 3 (ap kind h) (ap kind s) (λ e. cc)
-when-unknown words told after rose status text log (unwritten name s t sound failed) h = apart status 0 3 (ap kind h) (ap kind s) (λ e. cc)
+when-unknown words told after rose status text log (unwritten name s t sound wanted want logs failed) h = apart status 0 3 (ap kind h) (ap kind s) (λ e. cc)
 
 -- ---- the log
 
@@ -205,19 +211,19 @@ pub when-unlogged : (words : List (List ℕ)) (told after : Option Held) (rose :
 when-unlogged words told after rose status text log (no_command s t nothing kept none) h = nothing
 when-unlogged words told after rose status text log (answer wanted want ends shown put) h =
     elim h [
-      | inl e ↦ (wants-verify words wanted status log want ends e).1
+      | inl e ↦ (wants-judgement words wanted status log want ends e).1
       | inr refused ↦ refused-not status 0 refused (kind-end wanted status log ends) (λ e. cc) (λ e. cc)
     ]
 when-unlogged words told after rose status text log (faulty wanted want r s t nothing kept of_text shown) h = nothing
 when-unlogged words told after rose status text log (unread name s t nothing kept failed why) h = nothing
-when-unlogged words told after rose status text log (unwritten name s t sound failed) h = device-not status s h
+when-unlogged words told after rose status text log (unwritten name s t sound wanted want logs failed) h = device-not status s h
 
 pub never-memory : (words : List (List ℕ)) (told after : Option Held) (rose : Type 0) (status : Status) (text : List ℕ) (log : LogState) → Case words told after rose status text log → status ≢ Status.Memory
 never-memory words told after rose status text log (no_command s t nothing kept none) h = apart status 4 1 (ap kind h) (ap kind s) (λ e. cc)
 never-memory words told after rose status text log (answer wanted want ends shown put) h = apart status 4 0 (ap kind h) (kind-end wanted status log ends) (λ e. cc)
 never-memory words told after rose status text log (faulty wanted want r s t nothing kept of_text shown) h = apart status 4 2 (ap kind h) (kind-text r status s of_text) (λ e. cc)
 never-memory words told after rose status text log (unread name s t nothing kept failed why) h = apart status 4 3 (ap kind h) (ap kind s) (λ e. cc)
-never-memory words told after rose status text log (unwritten name s t sound failed) h = apart status 4 3 (ap kind h) (ap kind s) (λ e. cc)
+never-memory words told after rose status text log (unwritten name s t sound wanted want logs failed) h = apart status 4 3 (ap kind h) (ap kind s) (λ e. cc)
 
 no-file : (words : List (List ℕ)) (told : Option Held) (name : List ℕ) → AreNoCommand words → IsFailedRead words told name → ⊥
 no-file words told name none failed = none failed.0.0 failed.0.1
@@ -228,7 +234,7 @@ usage-said words told after rose status text log (no_command s t nothing kept no
 usage-said words told after rose status text log (answer wanted want ends shown put) h = absurd (h wanted want)
 usage-said words told after rose status text log (faulty wanted want r s t nothing kept of_text shown) h = absurd (h wanted want)
 usage-said words told after rose status text log (unread name s t nothing kept failed why) h = absurd (no-file words told name h failed)
-usage-said words told after rose status text log (unwritten name s t sound failed) h = absurd (h failed.1.0 failed.1.1)
+usage-said words told after rose status text log (unwritten name s t sound wanted want logs failed) h = absurd (h wanted want)
 
 -- ---- the files
 
@@ -237,52 +243,37 @@ pub when-kept : (words : List (List ℕ)) (told after : Option Held) (rose : Typ
 when-kept words told after rose status text log (no_command s t nothing kept none) h = kept
 when-kept words told after rose status text log (answer wanted want ends shown put) h =
     elim h [
-      | inl e ↦ put ∙ ap (λ (o : Option (List ℕ)). with_output o text told) (wants-verify words wanted status log want ends e).2
+      | inl e ↦ nothing-written log text wanted told after (wants-judgement words wanted status log want ends e).2 put
       | inr refused ↦ refused-not status 0 refused (kind-end wanted status log ends) (λ e. cc) (λ e. cc)
     ]
 when-kept words told after rose status text log (faulty wanted want r s t nothing kept of_text shown) h = kept
 when-kept words told after rose status text log (unread name s t nothing kept failed why) h = kept
-when-kept words told after rose status text log (unwritten name s t sound failed) h = device-not status s h
+when-kept words told after rose status text log (unwritten name s t sound wanted want logs failed) h = device-not status s h
 
 kept-others : (words : List (List ℕ)) (told after : Option Held) → after ≡ told → SameButOutput words told after
-kept-others words told after kept = subst (SameButOutput words told) (sym kept) (itself told)
-  where
-    itself : (t : Option Held) → SameButOutput words t t
-    itself None = refl
-    itself (Some held) = λ name other. refl
+kept-others words told after kept = subst (SameButOutput words told) (sym kept) (same-self (IsOutput words) told)
 
--- a file of another name holds what it held
-other-held : (words : List (List ℕ)) (name text asked : List ℕ) (held : Held) → IsOutput words name → ¬ IsOutput words asked → with_bytes name text held asked ≡ held asked
-other-held words name text asked held is other = by (bytes_eq asked name) refl
-  where
-    by : (b : Bool) → bytes_eq asked name ≡ b → (if bytes_eq asked name then Some text else held asked) ≡ held asked
-    by true e =
-        let same : asked ≡ name = (bytes_eq-Decides asked name).0 e in
-        absurd (other (subst (IsOutput words) (sym same) is))
-    by false e = ap (λ (b : Bool). if b then Some text else held asked) e
+failed-others : (words : List (List ℕ)) (told after : Option Held) (rose : Type 0) (log : LogState) (name : List ℕ) → IsFailedWrite words told after rose log name → SameButOutput words told after
+failed-others words told after rose log name h =
+    failed-same (IsOutput words) log h.3 (in_order (outputs_of h.1)) told after name (outputs-named words h.1 h.2) h.4
 
-written-others : (words : List (List ℕ)) (wanted : Wanted) (output : Option (List ℕ)) (text : List ℕ) (told after : Option Held) → Want words wanted → output_of wanted ≡ output → after ≡ with_output output text told → SameButOutput words told after
-written-others words wanted None text told after want is put = kept-others words told after put
-written-others words wanted (Some name) text None after want is put = put
-written-others words wanted (Some name) text (Some held) after want is put =
-    subst (SameButOutput words (Some held)) (sym put) (λ asked other. other-held words name text asked held (wanted, want, is) other)
-
-failed-others : (words : List (List ℕ)) (told after : Option Held) (name : List ℕ) → IsOutput words name → SameElsewhere name told after → SameButOutput words told after
-failed-others words None after name is h = h
-failed-others words (Some before) None name is h = h
-failed-others words (Some before) (Some held) name is h = λ asked other. h asked (λ same. other (subst (IsOutput words) (sym same) is))
-
--- every file but the answer's holds what it held
+-- every file but those that are named for output holds what it held
 pub when-others : (words : List (List ℕ)) (told after : Option Held) (rose : Type 0) (status : Status) (text : List ℕ) (log : LogState) → Case words told after rose status text log → SameButOutput words told after
 when-others words told after rose status text log (no_command s t nothing kept none) = kept-others words told after kept
-when-others words told after rose status text log (answer wanted want ends shown put) = written-others words wanted (output_of wanted) text told after want refl put
+when-others words told after rose status text log (answer wanted want ends shown put) = written-same (IsOutput words) log text (in_order (outputs_of wanted)) told after (outputs-named words wanted want) put
 when-others words told after rose status text log (faulty wanted want r s t nothing kept of_text shown) = kept-others words told after kept
 when-others words told after rose status text log (unread name s t nothing kept failed why) = kept-others words told after kept
-when-others words told after rose status text log (unwritten name s t sound failed) = failed-others words told after name failed.1 failed.3
+when-others words told after rose status text log (unwritten name s t sound wanted want logs failed) = failed-others words told after rose log name failed
 
-pub want-others : (words : List (List ℕ)) (told after : Option Held) (rose : Type 0) → HoldOnWant words told after rose → SameButOutput words told after
-want-others words told after rose h =
-    elim h [ inl kept ↦ kept-others words told after kept | inr failed ↦ failed-others words told after failed.0 failed.1.1 failed.1.3 ]
+pub want-others : (words : List (List ℕ)) (told after : Option Held) (rose : Type 0) (log : LogState) → HoldOnWant words told after rose log → SameButOutput words told after
+want-others words told after rose log h =
+    elim h [
+      | inl kept ↦ kept-others words told after kept
+      | inr some ↦ elim some [
+        | inl partly ↦ partly-same (IsOutput words) log partly.2 (in_order (outputs_of partly.0)) told after (outputs-named words partly.0 partly.1) partly.3
+        | inr failed ↦ failed-others words told after rose log failed.0 failed.1
+      ]
+    ]
 
 -- ---- the line that says that memory is wanting
 

@@ -4,6 +4,11 @@ use Rattle.std.specs.declared.alloc.Global.{Global}
 use Rattle.std.specs.declared.vec.Vec.{Vec}
 use Rattle.std.proofs.lemmas.List.{append-nil}
 use Rattle.cnf_core.specs.Events.{LogState}
+use Rattle.cnf_core.specs.Lines.{ProofLine}
+use Rattle.cnf_core.specs.Literal.{Literal}
+use Rattle.log_check.specs.Verdict.{verdict_of}
+use Rattle.log_check.specs.declared.Verdict.{Verdict}
+use Rattle.log_check.specs.declared.Verdict.TheVariants.{BadStep, NoEmptyClause, Verified}
 use Rattle.ep_base.specs.Outside.{Held}
 use Rattle.ep_base.specs.declared.errors.Memory.{Memory}
 use Rattle.ep_instance.specs.Judgements.{FitsIfShaped}
@@ -22,10 +27,10 @@ use Rattle.ep_tree.specs.Views.{params_tree}
 use Rattle.ep_tree.specs.declared.statements.Params.{Params}
 use Rattle.ep_tree.specs.declared.values.Mode.{Mode}
 use Rattle.ep_solve.specs.Right.{empty_log}
-use Rattle.ep_run.specs.Answers.{Answers, wrong_shape_text}
-use Rattle.ep_run.specs.Outcomes.{Outcome, Task, and_then, as_outcome, bind_refusal, bind_refusals, bound_outcome, fault_refusals, instance_of, judge_outcome, search_outcome, task_of, to_judge, unless_refused, verify_outcome}
+use Rattle.ep_run.specs.Answers.{Answers, verdict_status, verdict_text, wrong_shape_text}
+use Rattle.ep_run.specs.Outcomes.{Outcome, Task, and_then, as_outcome, bind_refusal, bind_refusals, bound_outcome, fault_refusals, instance_of, judge_outcome, search_outcome, task_of, to_check, to_judge, unless_refused, verify_outcome}
 use Rattle.ep_run.specs.Status.{status_of}
-use Rattle.ep_run.specs.Steps.{EndsAs, EndsBy, IsAmong, IsEnd, IsJudged, IsNotThere, IsUnreadStop, LogsTask, Passes, Says, Tells, TellsBytes, TellsParams, TellsReply, TellsRun, TellsShape, TellsTask, shape_outcome}
+use Rattle.ep_run.specs.Steps.{EndsAs, EndsBy, IsAmong, IsEnd, IsJudged, IsJudgedEnd, IsNotThere, IsUnreadStop, LogsTask, Passes, Says, Tells, TellsBytes, TellsParams, TellsReply, TellsRun, TellsShape, TellsTask, shape_outcome}
 use Rattle.ep_run.specs.Stops.{bind_stop}
 use Rattle.ep_run.specs.declared.replies.Reply.{Reply}
 use Rattle.ep_run.specs.declared.status.Status.{Status}
@@ -34,7 +39,7 @@ use Rattle.ep_run.specs.declared.wanted.Request.{Request}
 use Rattle.ep_run.specs.declared.wanted.Wanted.{Wanted}
 use Rattle.ep_run.proofs.Binding.{bind-stopped}
 use Rattle.ep_run.specs.Puts.{HoldOnWant}
-use Rattle.ep_run.proofs.Saying.{holds-refused, nothing-logs, nothing-sound, refused-asked, said-refusal, wanting-asked}
+use Rattle.ep_run.proofs.Saying.{holds-refused, holds-wanting, nothing-logs, nothing-sound, refused-asked, said-refusal, wanting-asked}
 use Rattle.ep_run.proofs.Tasks.{AreAllFaultless, AreFaultless, bound-refused, is-judge, is-search, is-verify, limits-refused, shape-refused, search-instance, search-model, search-params, judge-ends, verify-instance, verify-model, verify-params, verify-solution}
 
 -- ---- words
@@ -47,7 +52,7 @@ refused-said words told after rose log r (Ok reply) s t h = said-refusal words t
 refused-said words told after rose log r (Err e) s t h = tt
 
 pub refused-holds : (words : List (List ℕ)) (told after : Option Held) (rose : Type 0) (log : LogState) (r : Refusal) (result : Result Reply Memory)
-    → TellsRun words told after rose log (Err (Stop.Refused r)) → OnErr result (HoldOnWant words told after rose)
+    → TellsRun words told after rose log (Err (Stop.Refused r)) → OnErr result (HoldOnWant words told after rose log)
 refused-holds words told after rose log r (Ok reply) h = tt
 refused-holds words told after rose log r (Err e) h = holds-refused words told after rose log r h
 
@@ -57,6 +62,11 @@ pub run-asked : (words : List (List ℕ)) (told after : Option Held) (rose : Typ
 run-asked words told after rose log (Ok reply) h = tt
 run-asked words told after rose log (Err (Stop.Refused r)) h = refused-asked words told after rose log r h
 run-asked words told after rose log (Err Stop.Memory) h = wanting-asked words told after rose log h
+
+-- what the files hold where a run gives no reply for want of memory
+pub run-holds : (words : List (List ℕ)) (told after : Option Held) (rose : Type 0) (log : LogState) (result : Result Reply Memory) → TellsRun words told after rose log (Err Stop.Memory) → OnErr result (HoldOnWant words told after rose log)
+run-holds words told after rose log (Ok reply) h = tt
+run-holds words told after rose log (Err e) h = holds-wanting words told after rose log h
 
 pub refused-asks : (words : List (List ℕ)) (told after : Option Held) (rose : Type 0) (log : LogState) (r : Refusal) (result : Result Reply Memory)
     → TellsRun words told after rose log (Err (Stop.Refused r)) → OnErr result (LogsTask words told log)
@@ -186,9 +196,9 @@ pub shape-said : (mode : Mode) (i : Instance) (s : TextTree) (names : List (List
 unfolding Answers
 shape-said mode i s names name status text e among ended said = (to_judge mode i (wrong_shape names), is-judge mode i s (wrong_shape names) e, (name, among, ended, said))
 
-pub unread-bytes : (told : Option Held) (name : List ℕ) (rose : Type 0) (stop : Stop) → IsUnreadStop name stop → IsNotThere told name rose → TellsBytes {V = Vec ℕ Global} (λ bytes. bytes.items) told name rose (Err stop)
-unread-bytes told name rose (Stop.Refused r) h there = (h, there)
-unread-bytes told name rose Stop.Memory h there = tt
+pub unread-bytes : (most : ℕ) (told : Option Held) (name : List ℕ) (rose : Type 0) (stop : Stop) → IsUnreadStop name stop → IsNotThere told name rose → TellsBytes {V = Vec ℕ Global} (λ bytes. bytes.items) most told name rose (Err stop)
+unread-bytes most told name rose (Stop.Refused r) h there = (h, there)
+unread-bytes most told name rose Stop.Memory h there = tt
 
 unless-ok : {A : Type 0} (rs : List Refusal) (o : Outcome A) (x : A) → unless_refused rs o ≡ Ok x → o ≡ Ok x
 unfolding unless_refused
@@ -215,11 +225,11 @@ verify-judges mode m p s task h =
     (d.0, e.0, same-ok (to_judge mode d.0 e.0) task e.1)
 
 -- how a reply ends that judges
-pub reply-ends : (mode : Mode) (m p s : TextTree) (result : Result Reply Stop) → TellsReply (verify_outcome mode m p s) empty_log result → IfOk result (λ reply. (reply.status ≡ Status.Answered) ⊎ (reply.status ≡ Status.Refuted))
+pub reply-ends : (mode : Mode) (m p s : TextTree) (result : Result Reply Stop) → TellsReply (verify_outcome mode m p s) empty_log result → IfOk result (λ reply. IsJudgedEnd reply.status empty_log)
 reply-ends mode m p s (Ok reply) h =
     let q = verify-judges mode m p s h.0 h.1 in
     let P : Task → Type 0 = λ t. Answers t reply.status reply.text.items empty_log in
-    judge-ends mode q.0 q.1 reply.status reply.text.items empty_log (subst P (sym q.2) h.2)
+    (refl, judge-ends mode q.0 q.1 reply.status reply.text.items empty_log (subst P (sym q.2) h.2))
 reply-ends mode m p s (Err stop) h = tt
 
 -- ---- ends
@@ -232,9 +242,34 @@ stopped-ends End log Stop.Memory h = nothing-sound log h
 pub stopped-as : (wanted : Wanted) (log : LogState) (stop : Stop) → log ≡ empty_log → EndsAs wanted log (Err stop)
 stopped-as wanted log stop h = (nothing-logs wanted log h, stopped-ends (λ status. IsEnd wanted status log) log stop h)
 
--- a verification ends so, whatever refuses it, with nothing logged
+-- a judgement ends so, whatever refuses it, with nothing logged
+judged-ends : (log : LogState) (result : Result Reply Stop) → log ≡ empty_log → IfOk result (λ reply. IsJudgedEnd reply.status empty_log) → EndsBy (λ status. IsJudgedEnd status log) log result
+judged-ends log (Ok reply) nothing h = (nothing, h.1)
+judged-ends log (Err (Stop.Refused r)) nothing h = nothing
+judged-ends log (Err Stop.Memory) nothing h = nothing-sound log nothing
+
 pub verify-ends : (model : List ℕ) (params : Option (List ℕ)) (mode : Mode) (solution : List ℕ) (log : LogState) (result : Result Reply Stop) → log ≡ empty_log
-    → IfOk result (λ reply. (reply.status ≡ Status.Answered) ⊎ (reply.status ≡ Status.Refuted)) → EndsAs (Wanted.Verify model params mode solution) log result
-verify-ends model params mode solution log (Ok reply) nothing h = (nothing, (nothing, h))
-verify-ends model params mode solution log (Err (Stop.Refused r)) nothing h = (nothing, nothing)
-verify-ends model params mode solution log (Err Stop.Memory) nothing h = (nothing, nothing-sound log nothing)
+    → IfOk result (λ reply. IsJudgedEnd reply.status empty_log) → EndsAs (Wanted.Verify model params mode solution) log result
+verify-ends model params mode solution log result nothing h = (nothing, judged-ends log result nothing h)
+
+pub check-ends : (formula proof : List ℕ) (log : LogState) (result : Result Reply Stop) → log ≡ empty_log
+    → IfOk result (λ reply. IsJudgedEnd reply.status empty_log) → EndsAs (Wanted.Check formula proof) log result
+check-ends formula proof log result nothing h = (nothing, judged-ends log result nothing h)
+
+-- ---- proofs
+
+pub verdict-said : (formula : List (List Literal)) (lines : List ProofLine) (verdict : Verdict) (status : Status) (text : List ℕ) → verdict ≡ verdict_of formula lines → status ≡ verdict_status verdict → text ≡ verdict_text verdict
+    → Answers (to_check formula lines) status text empty_log
+unfolding Answers
+verdict-said formula lines verdict status text v s t = (s ∙ ap verdict_status v, t ∙ ap verdict_text v)
+
+pub verdict-ends : (verdict : Verdict) (status : Status) → status ≡ verdict_status verdict → IsJudgedEnd status empty_log
+unfolding verdict_status
+verdict-ends Verified status e = (refl, inl e)
+verdict-ends (BadStep line) status e = (refl, inr e)
+verdict-ends NoEmptyClause status e = (refl, inr e)
+
+-- the reply to a formula and a proof that were read
+pub check-told : (formula : List (List Literal)) (lines : List ProofLine) (reply : Reply) → Answers (to_check formula lines) reply.status reply.text.items empty_log
+    → TellsReply (Ok (to_check formula lines)) empty_log (Ok reply)
+check-told formula lines reply answers = (to_check formula lines, refl, answers)

@@ -7,13 +7,14 @@ use Rattle.ep_print.specs.declared.refusals.Refusal.{Refusal}
 use Rattle.sat_search.specs.Logs.{IsSound}
 use Rattle.ep_solve.specs.Right.{empty_log}
 use Rattle.ep_run.specs.Answers.{Answers}
-use Rattle.ep_run.specs.Commands.{AreNoCommand, Want, files_of, output_of}
+use Rattle.ep_run.specs.Commands.{AreNoCommand, Want, files_of, outputs_of}
 use Rattle.ep_run.specs.Outcomes.{Task}
-use Rattle.ep_run.specs.Outputs.{with_output}
-use Rattle.ep_run.specs.Puts.{HoldOnWant, IsFailedRead, IsFailedWrite, read_line, write_line}
+use Rattle.ep_run.specs.Outputs.{AreWritten, ArePartlyWritten, FailsAt, in_order}
+use Rattle.ep_run.specs.declared.wanted.Outputs.{Outputs}
+use Rattle.ep_run.specs.Puts.{HoldOnWant, IsAnsweredBy, IsFailedRead, IsFailedWrite, read_line, write_line}
 use Rattle.ep_run.specs.Shown.{Ask, ComesTo, Refuse}
 use Rattle.ep_run.specs.Status.{status_of}
-use Rattle.ep_run.specs.Steps.{EndsAs, IsAnswer, IsEnd, IsFailed, IsFaulty, IsLogOf, IsOfText, IsRefused, IsShown, IsUnwritten, LogsTask, Says, TellsRun, TellsTask, TellsWanted, TellsWritten}
+use Rattle.ep_run.specs.Steps.{EndsAs, HasAnswer, IsAnswer, IsEnd, IsFailed, IsFaulty, IsLogOf, IsOfText, IsRefused, IsShown, IsUnwritten, LogsTask, Says, TellsRun, TellsTask, TellsWanted, TellsWritten}
 use Rattle.ep_run.specs.declared.replies.Reply.{Reply}
 use Rattle.ep_run.specs.declared.status.Status.{Status}
 use Rattle.ep_run.specs.declared.stops.Stop.{Stop}
@@ -31,70 +32,79 @@ nothing-sound log e =
 pub end-sound : (wanted : Wanted) (status : Status) (log : LogState) → IsEnd wanted status log → IsSound log.events
 end-sound (Wanted.Search _ _ _ _ _) status log h = h.0
 end-sound (Wanted.Verify _ _ _ _) status log h = nothing-sound log h.0
+end-sound (Wanted.Check _ _) status log h = nothing-sound log h.0
 
 pub end-logs : (wanted : Wanted) (status : Status) (log : LogState) → IsEnd wanted status log → IsLogOf wanted log
 end-logs (Wanted.Search _ _ _ _ _) status log h = tt
 end-logs (Wanted.Verify _ _ _ _) status log h = h.0
+end-logs (Wanted.Check _ _) status log h = h.0
 
 pub nothing-logs : (wanted : Wanted) (log : LogState) → log ≡ empty_log → IsLogOf wanted log
 nothing-logs (Wanted.Search _ _ _ _ _) log e = tt
 nothing-logs (Wanted.Verify _ _ _ _) log e = e
-
--- where a file is named for the answer, no solution is verified
-pub output-logs : (wanted : Wanted) (name : List ℕ) (log : LogState) → output_of wanted ≡ Some name → IsLogOf wanted log
-unfolding output_of
-output-logs (Wanted.Search _ _ _ _ _) name log e = tt
-output-logs (Wanted.Verify model params mode solution) name log e = absurd cc
+nothing-logs (Wanted.Check _ _) log e = e
 
 -- ---- from what is wanted to the words
 
 -- the words are no command, or memory is wanting
 pub unread-words : (words : List (List ℕ)) (told : Option Held) (rose : Type 0) (log : LogState) (stop : Stop) → log ≡ empty_log → TellsWanted words (Err stop) → TellsRun words told told rose log (Err stop)
 unread-words words told rose log (Stop.Refused r) nothing h = inl (h.0, nothing, refl, h.1)
-unread-words words told rose log Stop.Memory nothing h = (nothing-sound log nothing, refl, inl nothing)
+unread-words words told rose log Stop.Memory nothing h = (nothing-sound log nothing, inl refl, inl nothing)
 
 -- what is wanted is refused, or memory is wanting
 pub refused-run : (words : List (List ℕ)) (wanted : Wanted) (told after : Option Held) (rose : Type 0) (log : LogState) (stop : Stop) → Want words wanted → after ≡ told → EndsAs wanted log (Err stop)
     → TellsTask (files_of wanted) (ComesTo wanted) told rose log (Err stop) → TellsRun words told after rose log (Err stop)
 refused-run words wanted told after rose log (Stop.Refused r) want kept ends h = inr (wanted, want, inl (ends.1, kept, h))
 refused-run words wanted told after rose log Stop.Memory want kept ends h =
-    (ends.1, kept, elim h [ inl nothing ↦ inl nothing | inr asked ↦ inr (wanted, want, ends.0, asked) ])
+    (ends.1, inl kept, elim h [ inl nothing ↦ inl nothing | inr asked ↦ inr (wanted, want, ends.0, asked) ])
 
 asked-of : (wanted : Wanted) (told : Option Held) (status : Status) (text : List ℕ) (log : LogState) → IsAnswer (ComesTo wanted) told status text log → IfSome told (λ held. (task : Task) × ComesTo wanted held (Ok task))
 asked-of wanted None status text log h = tt
 asked-of wanted (Some held) status text log h = (h.0, h.1)
 
--- the answer is there, and its file can't be written
-pub unwritten-run : (V : Type 0) (words : List (List ℕ)) (wanted : Wanted) (output : Option (List ℕ)) (told between after : Option Held) (rose rose-now : Type 0) (status : Status) (text : List ℕ) (log : LogState) (stop : Stop) → Want words wanted
-    → output ≡ output_of wanted → between ≡ told → (rose-now → rose) → IsEnd wanted status log → IsAnswer (ComesTo wanted) told status text log
-    → TellsWritten {V = V} output text between after rose-now (Err stop) → TellsRun words told after rose log (Err stop)
-unwritten-run V words wanted output told between after rose rose-now status text log (Stop.Refused r) want named kept rises ends shown h =
+-- what answers is known with its status
+has-answer : (wanted : Wanted) (told : Option Held) (status : Status) (text : List ℕ) (log : LogState) → IsAnswer (ComesTo wanted) told status text log → HasAnswer wanted told text log
+has-answer wanted None status text log h = tt
+has-answer wanted (Some held) status text log h = (h.0, status, h.1, h.2)
+
+-- the answer is there, and a file can't be written, or memory is wanting for one
+pub unwritten-run : (V : Type 0) (words : List (List ℕ)) (wanted : Wanted) (outputs : Outputs) (told between after : Option Held) (rose rose-now : Type 0) (status : Status) (text : List ℕ) (log : LogState) (stop : Stop) → Want words wanted
+    → outputs ≡ outputs_of wanted → between ≡ told → (rose-now → rose) → IsEnd wanted status log → IsAnswer (ComesTo wanted) told status text log
+    → TellsWritten {V = V} log text (in_order outputs) between after rose-now (Err stop) → TellsRun words told after rose log (Err stop)
+unwritten-run V words wanted outputs told between after rose rose-now status text log (Stop.Refused r) want named kept rises ends shown h =
+    let F : Outputs → Type 0 = λ o. FailsAt log text (in_order o) between after h.1 in
+    let fails : FailsAt log text (in_order (outputs_of wanted)) between after h.1 = subst F named h.3 in
     inr (
       wanted,
       want,
       inr (
         rises h.0,
         h.1,
-        sym named ∙ h.2,
-        h.3,
-        subst (λ (t : Option Held). SameElsewhere h.1 t after) kept h.4,
+        text,
+        h.2,
+        subst (λ (t : Option Held). FailsAt log text (in_order (outputs_of wanted)) t after h.1) kept fails,
         end-sound wanted status log ends,
-        asked-of wanted told status text log shown,
+        end-logs wanted status log ends,
+        has-answer wanted told status text log shown,
       ),
     )
-unwritten-run V words wanted output told between after rose rose-now status text log Stop.Memory want named kept rises ends shown h = (
-  end-sound wanted status log ends,
-  h ∙ kept,
-  inr (wanted, want, end-logs wanted status log ends, asked-of wanted told status text log shown),
-)
+unwritten-run V words wanted outputs told between after rose rose-now status text log Stop.Memory want named kept rises ends shown h =
+    let F : Outputs → Type 0 = λ o. ArePartlyWritten log text (in_order o) between after in
+    let partly : ArePartlyWritten log text (in_order (outputs_of wanted)) between after = subst F named h in (
+      end-sound wanted status log ends,
+      inr (wanted, want, (text, subst (λ (t : Option Held). ArePartlyWritten log text (in_order (outputs_of wanted)) t after) kept partly, has-answer wanted told status text log shown)),
+      inr (wanted, want, end-logs wanted status log ends, asked-of wanted told status text log shown),
+    )
 
--- the answer is there, and its file is written
-pub answered-run : (V : Type 0) (words : List (List ℕ)) (wanted : Wanted) (output : Option (List ℕ)) (told between after : Option Held) (rose rose-now : Type 0) (log : LogState) (reply : Reply) (x : V) → Want words wanted
-    → output ≡ output_of wanted → between ≡ told → IsEnd wanted reply.status log → IsAnswer (ComesTo wanted) told reply.status reply.text.items log
-    → TellsWritten {V = V} output reply.text.items between after rose-now (Ok x) → TellsRun words told after rose log (Ok reply)
-answered-run V words wanted output told between after rose rose-now log reply x want named kept ends shown h =
+-- the answer is there, and its files are written
+pub answered-run : (V : Type 0) (words : List (List ℕ)) (wanted : Wanted) (outputs : Outputs) (told between after : Option Held) (rose rose-now : Type 0) (log : LogState) (reply : Reply) (x : V) → Want words wanted
+    → outputs ≡ outputs_of wanted → between ≡ told → IsEnd wanted reply.status log → IsAnswer (ComesTo wanted) told reply.status reply.text.items log
+    → TellsWritten {V = V} log reply.text.items (in_order outputs) between after rose-now (Ok x) → TellsRun words told after rose log (Ok reply)
+answered-run V words wanted outputs told between after rose rose-now log reply x want named kept ends shown h =
     let text : List ℕ = reply.text.items in
-    (wanted, want, (ends, shown, h ∙ ap (λ (o : Option (List ℕ)). with_output o text between) named ∙ ap (with_output (output_of wanted) text) kept))
+    let W : Outputs → Type 0 = λ o. AreWritten log text (in_order o) between after in
+    let written : AreWritten log text (in_order (outputs_of wanted)) between after = subst W named h in
+    (wanted, want, (ends, shown, subst (λ (t : Option Held). AreWritten log text (in_order (outputs_of wanted)) t after) kept written))
 
 refused-sound : (wanted : Wanted) (told after : Option Held) (rose : Type 0) (log : LogState) (r : Refusal) → IsRefused wanted told after rose log r → IsSound log.events
 refused-sound wanted told after rose log r h = elim h [ inl shown ↦ nothing-sound log shown.0 | inr unwritten ↦ unwritten.5 ]
@@ -147,19 +157,35 @@ asked-shown : (words : List (List ℕ)) (wanted : Wanted) (told : Option Held) �
 asked-shown words wanted None want h = tt
 asked-shown words wanted (Some held) want h = (h.0, inr (wanted, want, h.1))
 
+answered-by : (words : List (List ℕ)) (wanted : Wanted) (told : Option Held) (text : List ℕ) (log : LogState) → Want words wanted → HasAnswer wanted told text log → IsAnsweredBy words told text log
+answered-by words wanted None text log want h = tt
+answered-by words wanted (Some held) text log want h = (h.0, h.1, inr (wanted, want, h.2), h.3)
+
+asked-by : (wanted : Wanted) (told : Option Held) (text : List ℕ) (log : LogState) → HasAnswer wanted told text log → IfSome told (λ held. (task : Task) × ComesTo wanted held (Ok task))
+asked-by wanted None text log h = tt
+asked-by wanted (Some held) text log h = (h.0, h.2)
+
 -- a write that failed
-failed-write : (words : List (List ℕ)) (wanted : Wanted) (told after : Option Held) (rose : Type 0) (log : LogState) (r : Refusal) → Want words wanted → (h : IsUnwritten wanted told after rose log r) → IsFailedWrite words told after rose h.1
-failed-write words wanted told after rose log r want h = (h.0, (wanted, want, h.2), asked-shown words wanted told want h.6, h.4)
+failed-write : (words : List (List ℕ)) (wanted : Wanted) (told after : Option Held) (rose : Type 0) (log : LogState) (r : Refusal) → Want words wanted → (h : IsUnwritten wanted told after rose log r) → IsFailedWrite words told after rose log h.1
+failed-write words wanted told after rose log r want h = (h.0, wanted, want, h.2, h.4, answered-by words wanted told h.2 log want h.7)
 
 -- what the files hold where memory is wanting for the line of a refusal
-pub holds-refused : (words : List (List ℕ)) (told after : Option Held) (rose : Type 0) (log : LogState) (r : Refusal) → TellsRun words told after rose log (Err (Stop.Refused r)) → HoldOnWant words told after rose
+pub holds-refused : (words : List (List ℕ)) (told after : Option Held) (rose : Type 0) (log : LogState) (r : Refusal) → TellsRun words told after rose log (Err (Stop.Refused r)) → HoldOnWant words told after rose log
 holds-refused words told after rose log r h =
     elim h [
       | inl none ↦ inl none.2
       | inr some ↦ elim some.2 [
         | inl shown ↦ inl shown.1
-        | inr unwritten ↦ inr (unwritten.1, failed-write words some.0 told after rose log r some.1 unwritten)
+        | inr unwritten ↦ inr (inr (unwritten.1, failed-write words some.0 told after rose log r some.1 unwritten))
       ]
+    ]
+
+-- what they hold where it is wanting before
+pub holds-wanting : (words : List (List ℕ)) (told after : Option Held) (rose : Type 0) (log : LogState) → TellsRun words told after rose log (Err Stop.Memory) → HoldOnWant words told after rose log
+holds-wanting words told after rose log h =
+    elim h.1 [
+      | inl kept ↦ inl kept
+      | inr partly ↦ inr (inl (partly.0, partly.1, partly.2.0, partly.2.1, answered-by words partly.0 told partly.2.0 log partly.1 partly.2.2))
     ]
 
 -- where memory is wanting, something is logged for a task alone
@@ -174,7 +200,7 @@ refused-asked words told after rose log r h =
       | inl none ↦ inl none.1
       | inr some ↦ elim some.2 [
         | inl shown ↦ inl shown.0
-        | inr unwritten ↦ inr (some.0, some.1, output-logs some.0 unwritten.1 log unwritten.2, asked-shown words some.0 told some.1 unwritten.6)
+        | inr unwritten ↦ inr (some.0, some.1, unwritten.6, asked-shown words some.0 told some.1 (asked-by some.0 told unwritten.2 log unwritten.7))
       ]
     ]
 
@@ -183,14 +209,14 @@ no-command-shown words held none = (Refusal.Usage ∷ [], inl (none, refl), cont
 
 -- ---- cases of what is said
 
--- What is said: that the words are no command; an answer; a fault or a limit; that a file can't be read; or that the answer's file
--- can't be written. Nothing is logged but with an answer, and no file is changed but the answer's.
+-- What is said: that the words are no command; an answer; a fault or a limit; that a file can't be read; or that a file can't be
+-- written. Nothing is logged but with an answer, and no file is changed but those that are named for output.
 pub data Case (words : List (List ℕ)) (told after : Option Held) (rose : Type 0) (status : Status) (text : List ℕ) (log : LogState) : Type 0 where
   no_command : status ≡ Status.Usage → text ≡ refusal_text Refusal.Usage → log ≡ empty_log → after ≡ told → AreNoCommand words → Case words told after rose status text log
-  answer : (wanted : Wanted) → Want words wanted → IsEnd wanted status log → IfSome told (λ held. (task : Task) × Ask words held task × Answers task status text log) → after ≡ with_output (output_of wanted) text told → Case words told after rose status text log
+  answer : (wanted : Wanted) → Want words wanted → IsEnd wanted status log → IfSome told (λ held. (task : Task) × Ask words held task × Answers task status text log) → AreWritten log text (in_order (outputs_of wanted)) told after → Case words told after rose status text log
   faulty : (wanted : Wanted) → Want words wanted → (r : Refusal) → status ≡ status_of r → text ≡ refusal_text r → log ≡ empty_log → after ≡ told → IsOfText r → IfSome told (λ held. Refuse words held r) → Case words told after rose status text log
   unread : (name : List ℕ) → status ≡ Status.Device → text ≡ read_line name → log ≡ empty_log → after ≡ told → IsFailedRead words told name → rose ⊎ IsSomeAnd told (λ held. Refuse words held (Refusal.CannotRead name)) → Case words told after rose status text log
-  unwritten : (name : List ℕ) → status ≡ Status.Device → text ≡ write_line name → IsSound log.events → IsFailedWrite words told after rose name → Case words told after rose status text log
+  unwritten : (name : List ℕ) → status ≡ Status.Device → text ≡ write_line name → IsSound log.events → (wanted : Wanted) → Want words wanted → IsLogOf wanted log → IsFailedWrite words told after rose log name → Case words told after rose status text log
 
 shown-case : (words : List (List ℕ)) (wanted : Wanted) (told after : Option Held) (rose : Type 0) (r : Refusal) (status : Status) (text : List ℕ) (log : LogState) → Want words wanted → status ≡ status_of r → text ≡ refusal_text r
     → IsShown wanted told after rose log r → Case words told after rose status text log
@@ -213,7 +239,7 @@ unwritten-case : (words : List (List ℕ)) (wanted : Wanted) (told after : Optio
     → IsUnwritten wanted told after rose log r → Case words told after rose status text log
 unfolding status_of
 unwritten-case words wanted told after rose r status text log want s t h =
-    unwritten h.1 (s ∙ ap status_of h.3) (t ∙ ap refusal_text h.3) h.5 (failed-write words wanted told after rose log r want h)
+    unwritten h.1 (s ∙ ap status_of h.3) (t ∙ ap refusal_text h.3) h.5 wanted want h.6 (failed-write words wanted told after rose log r want h)
 
 pub case-of : (words : List (List ℕ)) (told after : Option Held) (rose : Type 0) (status : Status) (text : List ℕ) (log : LogState) → Says words told after rose status text log → Case words told after rose status text log
 case-of words told after rose status text log h =

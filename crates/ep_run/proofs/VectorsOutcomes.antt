@@ -13,8 +13,10 @@ use Rattle.ep_tree.specs.Faults.{clause_faults, declaration_faults, faults, faul
 use Rattle.ep_tree.specs.StatementSpelling.{is_letting}
 use Rattle.ep_tree.specs.Types.{from_one, judge, named_type}
 use Rattle.ep_words.specs.declared.job.Job.{Job}
-use Rattle.ep_run.specs.Answers.{judgement_status, judgement_text, listing_status}
-use Rattle.ep_run.specs.Commands.{wanted_of}
+use Rattle.log_check.specs.declared.Verdict.TheVariants.{BadStep, NoEmptyClause, Verified}
+use Rattle.ep_run.specs.Answers.{judgement_status, judgement_text, listing_status, verdict_status, verdict_text}
+use Rattle.ep_run.specs.Commands.{no_outputs, wanted_of}
+use Rattle.ep_run.specs.Outputs.{a_formula, an_answer, in_order, named as named_files, steps}
 use Rattle.ep_run.specs.Outcomes.{fault_refusal, search_outcome, unless_refused, verify_outcome}
 use Rattle.ep_run.specs.Status.{code_of, status_of}
 use Rattle.ep_run.specs.declared.wanted.Request.{Request}
@@ -28,25 +30,38 @@ m = codes "m"
 abbrev s : List ℕ
 s = codes "s"
 
-solve-runs : wanted_of (Job.Solve m None 7 None None None Mode.Strict) ≡ Some (Wanted.Search m None Mode.Strict (Request.One 7) None)
+solve-runs : wanted_of (Job.Solve m None 7 None None None Mode.Strict) ≡ Some (Wanted.Search m None Mode.Strict (Request.One 7) no_outputs)
 unfolding wanted_of
 solve-runs = refl
 
-answers-are-written : wanted_of (Job.Solve m None 7 (Some s) None None Mode.Relational) ≡ Some (Wanted.Search m None Mode.Relational (Request.One 7) (Some s))
+answers-are-written : wanted_of (Job.Solve m None 7 (Some s) None None Mode.Relational) ≡ Some (Wanted.Search m None Mode.Relational (Request.One 7) (record { formula = None; log = None; solution = Some s }))
 unfolding wanted_of
 answers-are-written = refl
 
-enumerate-runs : wanted_of (Job.Enumerate m (Some s) 10 7 None None None Mode.Strict) ≡ Some (Wanted.Search m (Some s) Mode.Strict (Request.Many 10 7) None)
+enumerate-runs : wanted_of (Job.Enumerate m (Some s) 10 7 None None None Mode.Strict) ≡ Some (Wanted.Search m (Some s) Mode.Strict (Request.Many 10 7) no_outputs)
 unfolding wanted_of
 enumerate-runs = refl
 
-formulas-are-not-written : wanted_of (Job.Solve m None 7 None (Some s) None Mode.Relational) ≡ None
+formulas-are-written : wanted_of (Job.Solve m None 7 None (Some s) (Some m) Mode.Relational) ≡ Some (Wanted.Search m None Mode.Relational (Request.One 7) (record { formula = Some s; log = Some m; solution = None }))
 unfolding wanted_of
-formulas-are-not-written = refl
+formulas-are-written = refl
+
+-- the formula is written first, and the answer last
+formula-first : in_order (record { formula = Some m; log = Some s; solution = Some m }) ≡ record { content = a_formula; name = m } ∷ record { content = steps; name = s } ∷ record { content = an_answer; name = m } ∷ []
+unfolding in_order named_files
+formula-first = refl
 
 verify-runs : wanted_of (Job.Verify m s (Some m) Mode.Strict) ≡ Some (Wanted.Verify m (Some m) Mode.Strict s)
 unfolding wanted_of
 verify-runs = refl
+
+check-runs : wanted_of (Job.Check m s 1) ≡ Some (Wanted.Check m s)
+unfolding wanted_of
+check-runs = refl
+
+workers-dont-run : wanted_of (Job.Check m s 2) ≡ None
+unfolding wanted_of
+workers-dont-run = refl
 
 -- ---- faults: those of the model come first, then those of the parameters, then those of the solution text
 
@@ -107,6 +122,32 @@ violated-ends = refl
 undefined-ends : code_of (judgement_status goal_undefined) ≡ 7
 unfolding judgement_status
 undefined-ends = refl
+
+-- ---- what is said of a proof
+
+verified-says : verdict_text Verified ≡ codes "$ verified\n"
+unfolding verdict_text
+verified-says = refl
+
+bad-step-says : verdict_text (BadStep 12) ≡ codes "$ bad step 12\n"
+unfolding digits verdict_text
+bad-step-says = refl
+
+unfinished-says : verdict_text NoEmptyClause ≡ codes "$ no empty clause\n"
+unfolding verdict_text
+unfinished-says = refl
+
+verified-ends : code_of (verdict_status Verified) ≡ 0
+unfolding verdict_status
+verified-ends = refl
+
+bad-step-ends : code_of (verdict_status (BadStep 1)) ≡ 7
+unfolding verdict_status
+bad-step-ends = refl
+
+unfinished-ends : code_of (verdict_status NoEmptyClause) ≡ 7
+unfolding verdict_status
+unfinished-ends = refl
 
 -- ---- lists
 

@@ -6,10 +6,13 @@ use Rattle.ep_tree.specs.Solutions.{Fits, Found, Judgement, a_solution, goal_und
 use Rattle.ep_print.specs.Answers.{AnswerTree, answer_text, unknown, unknown_with}
 use Rattle.ep_print.specs.Listings.{EndTree, ListingTree, complete, listing_text, spent, stopped}
 use Rattle.cnf_core.specs.Events.{LogState}
+use Rattle.log_check.specs.Verdict.{verdict_of}
+use Rattle.log_check.specs.declared.Verdict.{Verdict}
+use Rattle.log_check.specs.declared.Verdict.TheVariants.{BadStep, NoEmptyClause, Verified}
 use Rattle.ep_solve.specs.Listed.{Lists}
 use Rattle.ep_solve.specs.Logged.{IsLogged}
 use Rattle.ep_solve.specs.Right.{IsRight}
-use Rattle.ep_run.specs.Outcomes.{Task, to_judge, to_list, to_solve}
+use Rattle.ep_run.specs.Outcomes.{Task, to_check, to_judge, to_list, to_solve}
 use Rattle.ep_run.specs.declared.status.Status.{Status}
 
 -- how a run ends that has an answer: with the end of its budget where nothing is known
@@ -41,6 +44,18 @@ judgement_text goal_undefined = codes "$ objective undefined\n"
 abbrev pub wrong_shape_text : List ℕ → List ℕ
 wrong_shape_text name = codes "$ wrong shape " ++ (name ++ codes "\n")
 
+-- how a run ends that checks a proof: answered exactly where it is verified
+unfoldable pub verdict_status : Verdict → Status
+verdict_status Verified = Status.Answered
+verdict_status (BadStep line) = Status.Refuted
+verdict_status NoEmptyClause = Status.Refuted
+
+-- what is said of a proof
+unfoldable pub verdict_text : Verdict → List ℕ
+verdict_text Verified = codes "$ verified\n"
+verdict_text (BadStep line) = codes "$ bad step " ++ (decimal line ++ codes "\n")
+verdict_text NoEmptyClause = codes "$ no empty clause\n"
+
 -- a status, a text and a log answer a task
 unfoldable pub Answers : Task → Status → List ℕ → LogState → Type 0
 Answers (to_solve mode i conflicts) status text log =
@@ -55,3 +70,5 @@ Answers (to_judge mode i (fits a)) status text log =
     × (text ≡ judgement_text (judgement mode i found))
 Answers (to_judge mode i (wrong_shape names)) status text log =
     (name : List ℕ) × Contains names name × (status ≡ Status.Refuted) × (text ≡ wrong_shape_text name)
+Answers (to_check formula lines) status text log =
+    (status ≡ verdict_status (verdict_of formula lines)) × (text ≡ verdict_text (verdict_of formula lines))

@@ -1,18 +1,22 @@
 -- What the words of a command want of a run.
-use Rattle.std.specs.Prelude.{◌≡◌, ℕ, List, [], ◌∷◌, ◌++◌, Option, Some, None, option_to_list}
+use Rattle.std.specs.Prelude.{◌≡◌, ℕ, nat_eq, if◌then◌else◌, List, [], ◌∷◌, ◌++◌, Option, Some, None, option_to_list}
 use Rattle.ep_words.specs.Commands.{IsCommand}
 use Rattle.ep_words.specs.declared.job.Job.{Job}
+use Rattle.ep_run.specs.declared.wanted.Outputs.{Outputs}
 use Rattle.ep_run.specs.declared.wanted.Request.{Request}
 use Rattle.ep_run.specs.declared.wanted.Wanted.{Wanted}
 
--- What a job wants of a run: to search for one solution of a model or for many, and to write the answer into a file where one is
--- named; or to verify a solution; each in a mode of undefinedness. Formulas and logs to write, proofs to check and inputs to generate don't run yet.
+-- What a job wants of a run: to search for one solution of a model or for many, and to write the formula, the steps of the log and
+-- the answer into files where they are named; or to verify a solution; each in a mode of undefinedness; or to check a proof of a
+-- formula, for now with one worker alone. Inputs to generate don't run yet.
 unfoldable pub wanted_of : Job → Option Wanted
-wanted_of (Job.Solve model params conflicts output None None mode) =
-    Some (Wanted.Search model params mode (Request.One conflicts) output)
-wanted_of (Job.Enumerate model params solutions conflicts output None None mode) =
-    Some (Wanted.Search model params mode (Request.Many solutions conflicts) output)
+wanted_of (Job.Solve model params conflicts solution formula log mode) =
+    Some (Wanted.Search model params mode (Request.One conflicts) (record { formula = formula; log = log; solution = solution }))
+wanted_of (Job.Enumerate model params solutions conflicts solution formula log mode) =
+    Some (Wanted.Search model params mode (Request.Many solutions conflicts) (record { formula = formula; log = log; solution = solution }))
 wanted_of (Job.Verify model solution params mode) = Some (Wanted.Verify model params mode solution)
+wanted_of (Job.Check formula proof workers) =
+    if nat_eq workers 1 then Some (Wanted.Check formula proof) else None
 wanted_of _ = None
 
 -- the words are a command that wants this
@@ -25,15 +29,27 @@ AreNoCommand words = (wanted : Wanted) → ¬ Want words wanted
 
 -- the files that have to be read, in this order
 abbrev pub files_of : Wanted → List (List ℕ)
-files_of (Wanted.Search model params mode request output) = model ∷ option_to_list params
+files_of (Wanted.Search model params mode request outputs) = model ∷ option_to_list params
 files_of (Wanted.Verify model params mode solution) = (model ∷ option_to_list params) ++ solution ∷ []
+files_of (Wanted.Check formula proof) = formula ∷ proof ∷ []
+
+-- a solution or a proof is judged, and nothing is searched for
+abbrev pub IsJudgement : Wanted → Type 0
+IsJudgement (Wanted.Search model params mode request outputs) = ⊥
+IsJudgement (Wanted.Verify model params mode solution) = Unit {0}
+IsJudgement (Wanted.Check formula proof) = Unit {0}
 
 -- how many conflicts a search may take
 unfoldable pub conflicts_of : Request → ℕ
 conflicts_of (Request.One conflicts) = conflicts
 conflicts_of (Request.Many most conflicts) = conflicts
 
--- the file into which the answer is to be written, if one is named
-unfoldable pub output_of : Wanted → Option (List ℕ)
-output_of (Wanted.Search model params mode request output) = output
-output_of (Wanted.Verify model params mode solution) = None
+-- no file is named for output
+abbrev pub no_outputs : Outputs
+no_outputs = record { formula = None; log = None; solution = None }
+
+-- the files that are named for output
+unfoldable pub outputs_of : Wanted → Outputs
+outputs_of (Wanted.Search model params mode request outputs) = outputs
+outputs_of (Wanted.Verify model params mode solution) = no_outputs
+outputs_of (Wanted.Check formula proof) = no_outputs

@@ -1,5 +1,7 @@
 -- What steps over trees come to: the task with what it needs, or the refusals of the first step that refuses.
 use Rattle.std.specs.Prelude.{ℕ, List, [], ◌∷◌, map, Result, Ok, Err}
+use Rattle.cnf_core.specs.Lines.{ProofLine}
+use Rattle.cnf_core.specs.Literal.{Literal}
 use Rattle.ep_tree.specs.Binding.{Instance, Refusal as BindRefusal, TextName, bind, missing_parameter, model_text, outside_domain, over_limit, parameter_text, solution_text, undefined_at, where_false}
 use Rattle.ep_tree.specs.Faults.{Fault, ill_typed, open_domain, params_faults, redeclared, text_faults, unknown_name, wrong_category}
 use Rattle.ep_tree.specs.SolutionTexts.{Shaped, read_solution}
@@ -71,11 +73,13 @@ instance_of mode model params =
     unless_refused (bind_refusals (instance_limits mode i)) (Ok i))
 
 -- a task with what it needs, in a mode of undefinedness: an instance to solve within so many conflicts; one of which at most so many
--- solutions are to be listed within so many conflicts; or one with what a solution text gives it
+-- solutions are to be listed within so many conflicts; or one with what a solution text gives it; or the clauses of a formula with
+-- the lines of a proof that is to be checked
 pub data Task : Type 0 where
   to_solve : Mode → Instance → ℕ → Task
   to_list : Mode → Instance → ℕ → ℕ → Task
   to_judge : Mode → Instance → Shaped → Task
+  to_check : List (List Literal) → List ProofLine → Task
 
 -- the task of a search in an instance
 unfoldable pub task_of : Mode → Request → Instance → Task

@@ -1,8 +1,10 @@
 -- What a command over held files shows: the task with what it needs, or the refusals of the first step that refuses.
 --
 -- The words come first, then each file in its turn, with its tokens and its grammar before the next one is read; then the
--- names and types of the texts, the instance, and the values of the solution. This order is the project's own choice.
+-- names and types of the texts, the instance, and the values of the solution. Of a formula and its proof the formula is read first.
+-- This order is the project's own choice.
 use Rattle.std.specs.Prelude.{◌≡◌, ◌⊎◌, ℕ, List, [], ◌∷◌, Option, Result, Ok, Err, Contains}
+use Rattle.cnf_core.specs.Literal.{Literal}
 use Rattle.ep_base.specs.Outside.{Held}
 use Rattle.ep_tree.specs.Statements.{TextTree}
 use Rattle.ep_tree.specs.declared.values.Mode.{Mode}
@@ -10,17 +12,17 @@ use Rattle.ep_print.specs.Refusals.{refusal_text}
 use Rattle.ep_print.specs.declared.refusals.Refusal.{Refusal}
 use Rattle.ep_print.specs.declared.refusals.TextFile.{TextFile}
 use Rattle.ep_run.specs.Commands.{AreNoCommand, Want}
-use Rattle.ep_run.specs.Outcomes.{Outcome, Task, search_outcome, verify_outcome}
-use Rattle.ep_run.specs.Readings.{AreParams, IsReadAs}
+use Rattle.ep_run.specs.Outcomes.{Outcome, Task, search_outcome, to_check, verify_outcome}
+use Rattle.ep_run.specs.Readings.{AreParams, IsFormulaReadAs, IsProofReadAs, IsReadAs, IsReadBy}
 use Rattle.ep_run.specs.Status.{status_of}
 use Rattle.ep_run.specs.declared.status.Status.{Status}
 use Rattle.ep_run.specs.declared.wanted.Request.{Request}
 use Rattle.ep_run.specs.declared.wanted.Wanted.{Wanted}
 
 -- a file is read, and what follows comes out; or it is refused, and that comes out
-abbrev pub ThenShows : (Result TextTree Refusal → Type 0) → (TextTree → Outcome Task → Type 0) → Outcome Task → Type 0
-ThenShows reads next outcome =
-    ((tree : TextTree) × reads (Ok tree) × next tree outcome)
+abbrev pub ThenShows : {A : Type 0} → (Result A Refusal → Type 0) → (A → Outcome Task → Type 0) → Outcome Task → Type 0
+ThenShows {A} reads next outcome =
+    ((x : A) × reads (Ok x) × next x outcome)
     ⊎ ((refusal : Refusal) × reads (Err refusal) × (outcome ≡ Err (refusal ∷ [])))
 
 -- a search goes on in a model that was read: its parameters are read
@@ -38,12 +40,19 @@ abbrev pub comes_to_verify : Mode → Option (List ℕ) → List ℕ → TextTre
 comes_to_verify mode params solution model held =
     ThenShows (AreParams held params) (λ p. comes_to_judge mode solution model p held)
 
--- what is wanted comes to this over held files: the model is read first
+-- the clauses of a formula were read, and a proof of them is checked: it is read
+abbrev pub comes_to_check : List ℕ → List (List Literal) → Held → Outcome Task → Type 0
+comes_to_check proof clauses held =
+    ThenShows (IsReadBy IsProofReadAs held proof) (λ lines outcome. outcome ≡ Ok (to_check clauses lines))
+
+-- what is wanted comes to this over held files: the model or the formula is read first
 abbrev pub ComesTo : Wanted → Held → Outcome Task → Type 0
-ComesTo (Wanted.Search model params mode request output) held =
+ComesTo (Wanted.Search model params mode request outputs) held =
     ThenShows (IsReadAs held TextFile.Model model) (λ m. comes_to_search mode request params m held)
 ComesTo (Wanted.Verify model params mode solution) held =
     ThenShows (IsReadAs held TextFile.Model model) (λ m. comes_to_verify mode params solution m held)
+ComesTo (Wanted.Check formula proof) held =
+    ThenShows (IsReadBy IsFormulaReadAs held formula) (λ clauses. comes_to_check proof clauses held)
 
 -- the words show this over held files
 abbrev pub Show : List (List ℕ) → Held → Outcome Task → Type 0

@@ -1,9 +1,12 @@
 -- What the steps of a run tell.
-use Rattle.std.specs.Prelude.{◌≡◌, ◌⊎◌, ◌+◌, ℕ, List, [], ◌∷◌, Option, Some, None, Ok, Err, Result, Contains, IfSome, IsSomeAnd}
+use Rattle.std.specs.Prelude.{◌≡◌, ◌⊎◌, ◌+◌, ℕ, List, [], ◌∷◌, Option, Some, None, Ok, Err, Result, Contains, IfSome, IsSomeAnd, option_map}
 use Rattle.cnf_core.specs.Events.{LogState}
-use Rattle.ep_base.specs.Outside.{Held, ReadGives, SameElsewhere}
+use Rattle.cnf_core.specs.Formula.{Cnf}
+use Rattle.cnf_core.specs.Lines.{ProofLine, plain_lines}
+use Rattle.cnf_core.specs.Literal.{Literal}
+use Rattle.cnf_core.specs.declared.proof.Proof.{Proof}
+use Rattle.ep_base.specs.Outside.{Held, ReadGives, SameElsewhere, with_bytes}
 use Rattle.ep_tree.specs.Statements.{TextTree}
-use Rattle.ep_tree.specs.Texts.{MOST_BYTES}
 use Rattle.ep_tree.specs.Views.{assigned, params_tree}
 use Rattle.ep_tree.specs.declared.statements.Params.{Params}
 use Rattle.ep_print.specs.Refusals.{refusal_text}
@@ -17,10 +20,10 @@ use Rattle.ep_instance.specs.declared.judging.Shaped.{Shaped}
 use Rattle.ep_solve.specs.Right.{IsSpent, empty_log}
 use Rattle.sat_search.specs.Logs.{IsSound}
 use Rattle.ep_run.specs.Answers.{Answers, judgement_status, judgement_text}
-use Rattle.ep_run.specs.Commands.{AreNoCommand, Want, conflicts_of, files_of, output_of}
+use Rattle.ep_run.specs.Commands.{AreNoCommand, Want, conflicts_of, files_of, outputs_of}
 use Rattle.ep_run.specs.Outcomes.{Outcome, Task, as_outcome}
-use Rattle.ep_run.specs.Outputs.{with_output}
-use Rattle.ep_run.specs.Readings.{AreParams, IsReadAs, IsTextReadAs, without}
+use Rattle.ep_run.specs.Outputs.{AreWritten, ArePartlyWritten, FailsAt, Output, in_order}
+use Rattle.ep_run.specs.Readings.{AreParams, IsReadBy, IsTextReadAs, ReadsTexts, without}
 use Rattle.ep_run.specs.Shown.{Ask, ComesTo}
 use Rattle.ep_run.specs.Status.{status_of}
 use Rattle.ep_run.specs.declared.replies.Reply.{Reply}
@@ -92,41 +95,48 @@ abbrev pub IsNotThere : Option Held → List ℕ → Type 0 → Type 0
 IsNotThere told name rose = rose ⊎ IsSomeAnd told (λ held. held name ≡ None)
 
 -- the bytes of a file were read, one more at most than a text may have; or it can't be read
-abbrev pub TellsBytes : {V : Type 0} → (V → List ℕ) → Option Held → List ℕ → Type 0 → Result V Stop → Type 0
-TellsBytes view told name rose (Ok bytes) = ReadGives told name (MOST_BYTES + 1) (Some (view bytes))
-TellsBytes view told name rose (Err (Stop.Refused refusal)) =
+abbrev pub TellsBytes : {V : Type 0} → (V → List ℕ) → ℕ → Option Held → List ℕ → Type 0 → Result V Stop → Type 0
+TellsBytes view most told name rose (Ok bytes) = ReadGives told name (most + 1) (Some (view bytes))
+TellsBytes view most told name rose (Err (Stop.Refused refusal)) =
     (refusal ≡ Refusal.CannotRead name) × IsNotThere told name rose
-TellsBytes view told name rose (Err Stop.Memory) = Unit {0}
+TellsBytes view most told name rose (Err Stop.Memory) = Unit {0}
 
 -- a file can't be read; want of memory says nothing
 abbrev pub IsUnreadStop : List ℕ → Stop → Type 0
 IsUnreadStop name (Stop.Refused refusal) = refusal ≡ Refusal.CannotRead name
 IsUnreadStop name Stop.Memory = Unit {0}
 
--- a text is read as a tree, or it has a refusal
-abbrev pub TellsText : {V : Type 0} → (V → TextTree) → TextFile → List ℕ → Result V Stop → Type 0
-TellsText view file text (Ok x) = IsTextReadAs file text (Ok (view x))
-TellsText view file text (Err (Stop.Refused refusal)) =
-    IsOfText refusal × IsTextReadAs file text (Err refusal)
-TellsText view file text (Err Stop.Memory) = Unit {0}
+-- a text is read, or it has a refusal
+abbrev pub TellsText : {V A : Type 0} → (V → A) → ReadsTexts A → List ℕ → Result V Stop → Type 0
+TellsText view reads text (Ok x) = reads text (Ok (view x))
+TellsText view reads text (Err (Stop.Refused refusal)) = IsOfText refusal × reads text (Err refusal)
+TellsText view reads text (Err Stop.Memory) = Unit {0}
 
--- why a file gives no tree: it can't be read, or its text is refused
-abbrev pub IsUnread : Option Held → TextFile → List ℕ → Type 0 → Refusal → Type 0
-IsUnread told file name rose refusal =
+-- why a file gives nothing: it can't be read, or its text is refused
+abbrev pub IsUnread : {A : Type 0} → ReadsTexts A → Option Held → List ℕ → Type 0 → Refusal → Type 0
+IsUnread reads told name rose refusal =
     ((refusal ≡ Refusal.CannotRead name) × IsNotThere told name rose)
-    ⊎ (IsOfText refusal × IfSome told (λ held. IsReadAs held file name (Err refusal)))
+    ⊎ (IsOfText refusal × IfSome told (λ held. IsReadBy reads held name (Err refusal)))
 
 -- what reading a file tells, where `rose` says that a fault was counted
-abbrev pub TellsRead : {V : Type 0} → (V → TextTree) → Option Held → TextFile → List ℕ → Type 0 → Result V Stop → Type 0
-TellsRead view told file name rose (Ok x) = IfSome told (λ held. IsReadAs held file name (Ok (view x)))
-TellsRead view told file name rose (Err (Stop.Refused refusal)) = IsUnread told file name rose refusal
-TellsRead view told file name rose (Err Stop.Memory) = Unit {0}
+abbrev pub TellsRead : {V A : Type 0} → (V → A) → ReadsTexts A → Option Held → List ℕ → Type 0 → Result V Stop → Type 0
+TellsRead view reads told name rose (Ok x) = IfSome told (λ held. IsReadBy reads held name (Ok (view x)))
+TellsRead view reads told name rose (Err (Stop.Refused refusal)) = IsUnread reads told name rose refusal
+TellsRead view reads told name rose (Err Stop.Memory) = Unit {0}
+
+-- the clauses of a formula
+abbrev pub formula_clauses : Cnf → List (List Literal)
+formula_clauses f = f.clauses
+
+-- the lines of a proof
+abbrev pub proof_lines : Proof → List ProofLine
+proof_lines p = plain_lines p.lines.items
 
 -- the same of a parameter file that may be left out
 abbrev pub TellsParams : Option Held → Option (List ℕ) → Type 0 → Result Params Stop → Type 0
 TellsParams told params rose (Ok x) = IfSome told (λ held. AreParams held params (Ok (params_tree x)))
 TellsParams told params rose (Err (Stop.Refused refusal)) =
-    (name : List ℕ) × (params ≡ Some name) × IsUnread told TextFile.Params name rose refusal
+    (name : List ℕ) × (params ≡ Some name) × IsUnread (IsTextReadAs TextFile.Params) told name rose refusal
 TellsParams told params rose (Err Stop.Memory) = Unit {0}
 
 -- ---- a run
@@ -166,16 +176,21 @@ abbrev pub IsSearched : ℕ → Status → LogState → Type 0
 IsSearched conflicts status log =
     IsSound log.events × ((status ≡ Status.Answered) ⊎ ((status ≡ Status.Unknown) × IsSpent conflicts log.events))
 
+-- how a judgement may end: what is judged holds or doesn't, and nothing is logged
+abbrev pub IsJudgedEnd : Status → LogState → Type 0
+IsJudgedEnd status log = (log ≡ empty_log) × ((status ≡ Status.Answered) ⊎ (status ≡ Status.Refuted))
+
 -- how a run may end that has its answer, and with which log
 abbrev pub IsEnd : Wanted → Status → LogState → Type 0
 IsEnd (Wanted.Search _ _ _ request _) status log = IsSearched (conflicts_of request) status log
-IsEnd (Wanted.Verify _ _ _ _) status log =
-    (log ≡ empty_log) × ((status ≡ Status.Answered) ⊎ (status ≡ Status.Refuted))
+IsEnd (Wanted.Verify _ _ _ _) status log = IsJudgedEnd status log
+IsEnd (Wanted.Check _ _) status log = IsJudgedEnd status log
 
--- to verify a solution is to log nothing
+-- to judge is to log nothing
 abbrev pub IsLogOf : Wanted → LogState → Type 0
 IsLogOf (Wanted.Search _ _ _ _ _) log = Unit {0}
 IsLogOf (Wanted.Verify _ _ _ _) log = log ≡ empty_log
+IsLogOf (Wanted.Check _ _) log = log ≡ empty_log
 
 -- an answer ends so; nothing is logged where there is a refusal, and soundly where memory is wanting
 abbrev pub EndsBy : (Status → Type 0) → LogState → Result Reply Stop → Type 0
@@ -187,12 +202,19 @@ EndsBy End log (Err Stop.Memory) = IsSound log.events
 abbrev pub EndsAs : Wanted → LogState → Result Reply Stop → Type 0
 EndsAs wanted log result = IsLogOf wanted log × EndsBy (λ status. IsEnd wanted status log) log result
 
--- what writing a text into the file that is named for it tells, where `rose` says that a fault was counted
-abbrev pub TellsWritten : {V : Type 0} → Option (List ℕ) → List ℕ → Option Held → Option Held → Type 0 → Result V Stop → Type 0
-TellsWritten output text told after rose (Ok x) = after ≡ with_output output text told
-TellsWritten output text told after rose (Err (Stop.Refused refusal)) =
-    rose × (name : List ℕ) × (output ≡ Some name) × (refusal ≡ Refusal.CannotWrite name) × SameElsewhere name told after
-TellsWritten output text told after rose (Err Stop.Memory) = after ≡ told
+-- what writing a text under a name tells, where `rose` says that a fault was counted
+abbrev pub TellsWrite : {V : Type 0} → List ℕ → List ℕ → Option Held → Option Held → Type 0 → Result V Stop → Type 0
+TellsWrite name text told after rose (Ok x) = after ≡ option_map (with_bytes name text) told
+TellsWrite name text told after rose (Err (Stop.Refused refusal)) =
+    rose × (refusal ≡ Refusal.CannotWrite name) × SameElsewhere name told after
+TellsWrite name text told after rose (Err Stop.Memory) = after ≡ told
+
+-- what writing some files with what a log and an answer's text are tells, one after another
+abbrev pub TellsWritten : {V : Type 0} → LogState → List ℕ → List Output → Option Held → Option Held → Type 0 → Result V Stop → Type 0
+TellsWritten log answer outputs told after rose (Ok x) = AreWritten log answer outputs told after
+TellsWritten log answer outputs told after rose (Err (Stop.Refused refusal)) =
+    rose × (name : List ℕ) × (refusal ≡ Refusal.CannotWrite name) × FailsAt log answer outputs told after name
+TellsWritten log answer outputs told after rose (Err Stop.Memory) = ArePartlyWritten log answer outputs told after
 
 -- a refusal that is shown: nothing is logged, and the files hold what they held
 abbrev pub IsShown : Wanted → Option Held → Option Held → Type 0 → LogState → Refusal → Type 0
@@ -200,23 +222,33 @@ IsShown wanted told after rose log refusal =
     (log ≡ empty_log) × (after ≡ told)
     × (IsFailed (files_of wanted) (ComesTo wanted) told rose refusal ⊎ IsFaulty (ComesTo wanted) told refusal)
 
--- the answer's file can't be written
+-- what is wanted comes to a task, which this text and this log answer
+abbrev pub HasAnswer : Wanted → Option Held → List ℕ → LogState → Type 0
+HasAnswer wanted told text log =
+    IfSome told (λ held. (task : Task) × (status : Status) × ComesTo wanted held (Ok task) × Answers task status text log)
+
+-- a file can't be written into which what answers is to be written
 abbrev pub IsUnwritten : Wanted → Option Held → Option Held → Type 0 → LogState → Refusal → Type 0
 IsUnwritten wanted told after rose log refusal =
-    rose × (name : List ℕ) × (output_of wanted ≡ Some name) × (refusal ≡ Refusal.CannotWrite name)
-    × SameElsewhere name told after × IsSound log.events
-    × IfSome told (λ held. (task : Task) × ComesTo wanted held (Ok task))
+    rose × (name : List ℕ) × (text : List ℕ) × (refusal ≡ Refusal.CannotWrite name)
+    × FailsAt log text (in_order (outputs_of wanted)) told after name × IsSound log.events × IsLogOf wanted log
+    × HasAnswer wanted told text log
+
+-- memory is wanting, and some first ones of the files that are named for output are written with what answers
+abbrev pub IsWanting : Wanted → Option Held → Option Held → LogState → Type 0
+IsWanting wanted told after log =
+    (text : List ℕ) × ArePartlyWritten log text (in_order (outputs_of wanted)) told after × HasAnswer wanted told text log
 
 -- a refusal of what is wanted
 abbrev pub IsRefused : Wanted → Option Held → Option Held → Type 0 → LogState → Refusal → Type 0
 IsRefused wanted told after rose log refusal =
     IsShown wanted told after rose log refusal ⊎ IsUnwritten wanted told after rose log refusal
 
--- what is wanted is answered, and the answer's file is written
+-- what is wanted is answered, and the files that are named for output are written
 abbrev pub IsAnswered : Wanted → Option Held → Option Held → Status → List ℕ → LogState → Type 0
 IsAnswered wanted told after status text log =
     IsEnd wanted status log × IsAnswer (ComesTo wanted) told status text log
-    × (after ≡ with_output (output_of wanted) text told)
+    × AreWritten log text (in_order (outputs_of wanted)) told after
 
 -- a status, a text and a log with which what is wanted is answered
 abbrev pub SaysTo : Wanted → Option Held → Option Held → Type 0 → Status → List ℕ → LogState → Type 0
@@ -239,7 +271,8 @@ TellsRun words told after rose log (Err (Stop.Refused refusal)) =
     ((refusal ≡ Refusal.Usage) × (log ≡ empty_log) × (after ≡ told) × AreNoCommand words)
     ⊎ ((wanted : Wanted) × Want words wanted × IsRefused wanted told after rose log refusal)
 TellsRun words told after rose log (Err Stop.Memory) =
-    IsSound log.events × (after ≡ told)
+    IsSound log.events
+    × ((after ≡ told) ⊎ ((wanted : Wanted) × Want words wanted × IsWanting wanted told after log))
     × OrUnlogged log ((wanted : Wanted) × Want words wanted × IsLogOf wanted log
     × IfSome told (λ held. (task : Task) × ComesTo wanted held (Ok task)))
 

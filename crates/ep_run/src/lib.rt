@@ -10,7 +10,9 @@ mod replies;
 mod runs;
 mod status;
 mod stops;
+mod texts;
 mod top;
+mod verdicts;
 mod wanted;
 mod writing;
 

@@ -12,8 +12,8 @@ ghost use Rattle.ep_run.specs.Steps.{LogsTask, Says, TellsRun};
 use super::runs::do_wanted;
 use super::status::Status;
 use super::stops::{Stop, status_of};
-use super::wanted::{output_of, read_wanted};
-use super::writing::write_output;
+use super::wanted::{outputs_of, read_wanted};
+use super::writing::write_outputs;
 use cnf_core::Log;
 use ep_base::{Files, Memory, Word};
 use ep_print::{Refusal, refusal_line};
@@ -37,7 +37,7 @@ pub fn reply_to<F: Files>(
     ensures says { IfOk result (λ reply. Says words.now (F.held files.old) (F.held files.new)
         (Rose (F.faults files.old) (F.faults files.new)) reply.status reply.text.items log.new) }
     ensures wants { OnErr result (HoldOnWant words.now (F.held files.old) (F.held files.new)
-        (Rose (F.faults files.old) (F.faults files.new))) }
+        (Rose (F.faults files.old) (F.faults files.new)) log.new) }
     ensures asked { OnErr result (LogsTask words.now (F.held files.old) log.new) }
     ensures sound { IsSound log.new.events }
     ensures faults { F.faults files.old ≤ F.faults files.new }
@@ -49,7 +49,7 @@ pub fn reply_to<F: Files>(
     }
 }
 
-/// Does what the words want, and writes the answer into the file that is named for it, if one is.
+/// Does what the words want, and writes what answers into the files that are named for output.
 fn run_words<F: Files>(
     alloc: Global,
     words: &[Word],
@@ -63,7 +63,7 @@ fn run_words<F: Files>(
 {
     let wanted = read_wanted(alloc, words)?;
     let reply = do_wanted(alloc, files, &wanted, log)?;
-    write_output(files, output_of(wanted), &reply.text)?;
+    write_outputs(alloc, files, outputs_of(wanted), log, &reply.text)?;
     Ok(reply)
 }
 

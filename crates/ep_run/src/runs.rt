@@ -5,19 +5,19 @@ ghost use Rattle.ep_base.specs.Outside.{Rose};
 ghost use Rattle.ep_tree.specs.Views.{model_tree, params_tree};
 ghost use Rattle.ep_run.specs.Commands.{conflicts_of, files_of};
 ghost use Rattle.ep_run.specs.Outcomes.{search_outcome, verify_outcome};
-ghost use Rattle.ep_run.specs.Shown.{ComesTo, comes_to_search, comes_to_verify, comes_to_judge};
+ghost use Rattle.ep_run.specs.Shown.{ComesTo, comes_to_check, comes_to_judge, comes_to_search, comes_to_verify};
 ghost use Rattle.ep_solve.specs.Right.{empty_log};
-ghost use Rattle.ep_run.specs.Steps.{EndsAs, EndsBy, IsSearched, TellsReply, TellsTask};
-ghost use Rattle.ep_run.specs.declared.status.Status.{Status as StatusValue};
+ghost use Rattle.ep_run.specs.Steps.{EndsAs, EndsBy, IsJudgedEnd, IsSearched, TellsReply, TellsTask, formula_clauses};
 
 use super::answering::searched_reply;
 use super::checking::{checked_model, checked_params, instance_of};
 use super::judging::judged_reply;
-use super::reading::{read_model, read_named_params, read_params};
+use super::reading::{read_formula, read_model, read_named_params, read_params, read_proof};
 use super::replies::Reply;
 use super::stops::Stop;
+use super::verdicts::checked_reply;
 use super::wanted::{Request, Wanted};
-use cnf_core::Log;
+use cnf_core::{Formula, Log};
 use ep_base::{Files, Word};
 use ep_print::TextFile;
 use ep_tree::{Mode, Model, Params};
@@ -57,6 +57,10 @@ pub fn do_wanted<F: Files>(
             let model = read_model(alloc, files, model)?;
             verify_model(alloc, files, model, params, *mode, solution)
         }
+        Wanted::Check { formula, proof } => {
+            let formula = read_formula(alloc, files, formula)?;
+            check_proof(alloc, files, formula, proof)
+        }
     }
 }
 
@@ -93,8 +97,7 @@ fn verify_model<F: Files>(
     ensures tells { TellsTask (option_to_list params.now ++ solution.now ∷ [])
         (comes_to_verify mode params.now solution.now (model_tree model))
         (F.held files.old) (Rose (F.faults files.old) (F.faults files.new)) empty_log result }
-    ensures status { IfOk result (λ reply.
-        (reply.status ≡ StatusValue.Answered) ⊎ (reply.status ≡ StatusValue.Refuted)) }
+    ensures status { IfOk result (λ reply. IsJudgedEnd reply.status empty_log) }
     ensures held { F.held files.new ≡ F.held files.old }
     ensures faults { F.faults files.old ≤ F.faults files.new }
 {
@@ -114,13 +117,30 @@ fn verify_solution<F: Files>(
     ensures tells { TellsTask (solution.now ∷ [])
         (comes_to_judge mode solution.now (model_tree model) (params_tree params))
         (F.held files.old) (Rose (F.faults files.old) (F.faults files.new)) empty_log result }
-    ensures status { IfOk result (λ reply.
-        (reply.status ≡ StatusValue.Answered) ⊎ (reply.status ≡ StatusValue.Refuted)) }
+    ensures status { IfOk result (λ reply. IsJudgedEnd reply.status empty_log) }
     ensures held { F.held files.new ≡ F.held files.old }
     ensures faults { F.faults files.old ≤ F.faults files.new }
 {
     let solution = read_params(alloc, files, TextFile::Solution, solution)?;
     verify_texts(alloc, model, params, mode, solution)
+}
+
+/// Checks a proof of a formula, once it is read.
+fn check_proof<F: Files>(
+    alloc: Global,
+    files: &mut F,
+    formula: Formula,
+    proof: &Word,
+) -> Result<Reply, Stop>
+    ensures tells { TellsTask (proof.now ∷ []) (comes_to_check proof.now (formula_clauses formula))
+        (F.held files.old) (Rose (F.faults files.old) (F.faults files.new)) empty_log result }
+    ensures status { IfOk result (λ reply. IsJudgedEnd reply.status empty_log) }
+    ensures held { F.held files.new ≡ F.held files.old }
+    ensures faults { F.faults files.old ≤ F.faults files.new }
+{
+    let proof = read_proof(alloc, files, proof)?;
+    let reply = checked_reply(alloc, &formula, &proof)?;
+    Ok(reply)
 }
 
 /// Searches in a model under its parameters.

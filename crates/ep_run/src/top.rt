@@ -1,21 +1,26 @@
 //! The top call.
 
-ghost use Rattle.std.specs.Prelude.{◌≡◌, ◌⊎◌, ◌≤◌, ℕ, List, Err, Contains, IfSome, IsSomeAnd, Option, codes};
+ghost use Rattle.std.specs.Prelude.{◌≡◌, ◌⊎◌, ◌≤◌, ℕ, List, [], None, Err, Contains, IfSome, IsSomeAnd, Option, codes};
 ghost use Rattle.ep_base.specs.Outside.{Rose, TookPart, with_more};
 ghost use Rattle.ep_tree.specs.declared.values.Mode.{Mode};
 ghost use Rattle.ep_print.specs.Refusals.{refusal_text};
 ghost use Rattle.ep_print.specs.declared.refusals.Refusal.{Refusal};
 ghost use Rattle.ep_solve.specs.Right.{IsSpent, empty_log};
-ghost use Rattle.sat_search.specs.Logs.{IsSound};
+ghost use Rattle.sat_search.specs.Logs.{EndsWithEmptyStep, IsSound};
+ghost use Rattle.cnf_core.specs.Events.{givens};
+ghost use Rattle.cnf_core.specs.LogLines.{log_lines};
+ghost use Rattle.log_check.specs.Verdict.{first_bad, verdict_of};
+ghost use Rattle.log_check.specs.declared.Verdict.TheVariants.{Verified};
 ghost use Rattle.ep_run.specs.Answers.{Answers};
 ghost use Rattle.ep_run.specs.Budgets.{IsBelowPower, MeetsConflict, before_steps};
-ghost use Rattle.ep_run.specs.Commands.{AreNoCommand, Want, conflicts_of};
+ghost use Rattle.ep_run.specs.Commands.{AreNoCommand, IsJudgement, Want, conflicts_of};
 ghost use Rattle.ep_run.specs.Outcomes.{Task};
 ghost use Rattle.ep_run.specs.Outputs.{HasOutput, SameButOutput};
 ghost use Rattle.ep_run.specs.Puts.{IsDeviceLine, MayBePut, TookFirst, TookOnWant};
 ghost use Rattle.ep_run.specs.Shown.{Ask, Refuses, Show};
 ghost use Rattle.ep_run.specs.Status.{HasReply, status_of};
 ghost use Rattle.ep_run.specs.declared.status.Status.{Status as StatusValue};
+ghost use Rattle.ep_run.specs.declared.wanted.Outputs.{Outputs};
 ghost use Rattle.ep_run.specs.declared.wanted.Request.{Request};
 ghost use Rattle.ep_run.specs.declared.wanted.Wanted.{Wanted};
 
@@ -25,12 +30,14 @@ use cnf_core::{Log, new_steps_are_few, no_step_is_effective_after_a_conflict};
 use ep_base::{Files, PutError, Sink, Word, put_all};
 use ep_parse_model::texts_have_one_answer;
 use ep_words::one_job_for_words;
+use log_check::valid_logs_are_accepted;
+use sat_text::{cnf_texts_have_one_meaning, log_texts_have_one_meaning};
 use std::alloc::Global;
 use std::thread::Threads;
 
 /// Does what the words ask for, and says how it ended. What the solver was given and the steps that it
-/// made stand in the log then. The answer is written into the file that the words name for it before it is
-/// put out.
+/// made stand in the log then. The formula, these steps and the answer are written into the files that the
+/// words name for them, in this order, before the answer is put out.
 pub fn run<R: Threads, F: Files, K: Sink>(
     rt: &R,
     alloc: Global,
@@ -42,28 +49,27 @@ pub fn run<R: Threads, F: Files, K: Sink>(
     requires empty { log.old ≡ empty_log }
     // An answer is right for the task that the words and the held files show: an optimum or a
     // solution, that there is none, or that the conflicts were spent, with the best solution so far;
-    // a list of solutions, and whether these are all; a judgement of a solution text. Its text was put
-    // out, and nothing else, and it stands in the file that the words name for it, if they name one. The log
-    // shows the answer of a search.
+    // a list of solutions, and whether these are all; a judgement of a solution text; the verdict on a proof
+    // of a formula. Its text was put out, and nothing else, and the files that the words name for output are
+    // written. The log shows the answer of a search.
     ensures answered { HasReply result →
         IfSome (F.held files.old) (λ held. (task : Task) × (text : List ℕ)
         × Ask words.now held task × Answers task result text log.new
         × (K.taken out.new ≡ with_more text (K.taken out.old))
-        × HasOutput words.now text (F.held files.old) (F.held files.new)) }
+        × HasOutput words.now text log.new (F.held files.old) (F.held files.new)) }
     ensures unknown { result ≡ StatusValue.Unknown →
-        (model : List ℕ) × (params : Option (List ℕ)) × (mode : Mode) × (request : Request) × (output : Option (List ℕ))
-        × Want words.now (Wanted.Search model params mode request output)
+        (model : List ℕ) × (params : Option (List ℕ)) × (mode : Mode) × (request : Request) × (outputs : Outputs)
+        × Want words.now (Wanted.Search model params mode request outputs)
         × IsSpent (conflicts_of request) log.new.events }
     // Then the conflicts were fewer than 3 to the number of variables of what was given, and unit propagation on what was given
     // before the first step meets no conflict.
     ensures few { result ≡ StatusValue.Unknown →
-        (model : List ℕ) (params : Option (List ℕ)) (mode : Mode) (request : Request) (output : Option (List ℕ))
-        → Want words.now (Wanted.Search model params mode request output)
+        (model : List ℕ) (params : Option (List ℕ)) (mode : Mode) (request : Request) (outputs : Outputs)
+        → Want words.now (Wanted.Search model params mode request outputs)
         → IsBelowPower (conflicts_of request) log.new.events }
     ensures unforced { result ≡ StatusValue.Unknown → ¬ MeetsConflict (before_steps log.new.events) }
     ensures refuted { result ≡ StatusValue.Refuted →
-        (model : List ℕ) × (params : Option (List ℕ)) × (mode : Mode) × (solution : List ℕ)
-        × Want words.now (Wanted.Verify model params mode solution) }
+        (wanted : Wanted) × Want words.now wanted × IsJudgement wanted }
 
     // A fault or a limit is one that the words and the held files show. Its line was put out, and
     // nothing else.
@@ -120,18 +126,24 @@ pub fn run<R: Threads, F: Files, K: Sink>(
         (result ≡ StatusValue.Usage) ⊎ (result ≡ StatusValue.Memory) }
 
     // Each step of the log is valid, and each with a literal new and effective, however the run ends; and
-    // nothing is logged with a refusal or a judgement, nor where a refusal stands, nor where the words ask to
-    // verify a solution, however that ends.
+    // nothing is logged with a refusal or a judgement, nor where a refusal stands, nor where the words ask for
+    // a judgement, however that ends.
     ensures sound { IsSound log.new.events }
     ensures unlogged { (result ≡ StatusValue.Refuted) ⊎ ((result ≡ StatusValue.Usage)
         ⊎ ((result ≡ StatusValue.Text) ⊎ (result ≡ StatusValue.Limit))) → log.new ≡ empty_log }
     ensures refused_unlogged { IfSome (F.held files.old) (λ held.
         (refusals : List Refusal) → Show words.now held (Err refusals) → log.new ≡ empty_log) }
-    ensures judged_unlogged { (model : List ℕ) → (params : Option (List ℕ)) → (mode : Mode) → (solution : List ℕ) →
-        Want words.now (Wanted.Verify model params mode solution) → log.new ≡ empty_log }
+    ensures judged_unlogged { (wanted : Wanted) → Want words.now wanted → IsJudgement wanted
+        → log.new ≡ empty_log }
 
-    // Every file but the one that the words name for the answer stays as it was, and that one too where a
-    // refusal stands, and with a refusal or a judgement. No count of faults falls.
+    // No line of these steps is bad over what was given to the solver, however the run ends. Where the last step is the empty one,
+    // as with an optimum, without a solution, or with a list that is complete, they are verified.
+    ensures accepted { first_bad (givens log.new.events) [] (log_lines log.new.events) ≡ None }
+    ensures verified { EndsWithEmptyStep log.new.events →
+        verdict_of (givens log.new.events) (log_lines log.new.events) ≡ Verified }
+
+    // Every file but those that the words name for output stays as it was, and these too where a refusal
+    // stands, and with a refusal or a judgement. No count of faults falls.
     ensures others { SameButOutput words.now (F.held files.old) (F.held files.new) }
     ensures refused_unwritten { IfSome (F.held files.old) (λ held. (refusals : List Refusal) →
         Show words.now held (Err refusals) → F.held files.new ≡ F.held files.old) }
@@ -144,8 +156,11 @@ pub fn run<R: Threads, F: Files, K: Sink>(
     let _ = rt;
     one_job_for_words();
     texts_have_one_answer();
+    cnf_texts_have_one_meaning();
+    log_texts_have_one_meaning();
     new_steps_are_few();
     no_step_is_effective_after_a_conflict();
+    valid_logs_are_accepted();
     let Ok(reply) = reply_to(alloc, words, files, log) else {
         put_memory(out);
         return Status::Memory;

@@ -1,7 +1,7 @@
 //! What the words of a command want of a run.
 
 ghost use Rattle.std.specs.Prelude.{◌≡◌};
-ghost use Rattle.ep_run.specs.Commands.{output_of, wanted_of};
+ghost use Rattle.ep_run.specs.Commands.{outputs_of, wanted_of};
 ghost use Rattle.ep_run.specs.Steps.{TellsWanted};
 
 use super::stops::Stop;
@@ -14,13 +14,13 @@ use std::alloc::Global;
 /// What a run is wanted to do, with which files, and in which mode of undefinedness.
 #[derive(Debug, Drop)]
 pub enum Wanted {
-    /// To search for solutions of a model, and to write the answer into a file where one is named.
+    /// To search for solutions of a model, and to write what answers into files where they are named.
     Search {
         model: Word,
         params: Option<Word>,
         mode: Mode,
         request: Request,
-        output: Option<Word>,
+        outputs: Outputs,
     },
     /// To say whether a solution text is a solution of a model.
     Verify {
@@ -29,6 +29,22 @@ pub enum Wanted {
         mode: Mode,
         solution: Word,
     },
+    /// To say whether a proof shows that a formula has no satisfying assignment.
+    Check {
+        formula: Word,
+        proof: Word,
+    },
+}
+
+/// The files into which a search writes, where they are named.
+#[derive(Debug, Drop)]
+pub struct Outputs {
+    /// The formula, with what was added to it.
+    pub formula: Option<Word>,
+    /// The steps of the log.
+    pub log: Option<Word>,
+    /// The answer.
+    pub solution: Option<Word>,
 }
 
 /// What is searched for, and within how many conflicts.
@@ -66,15 +82,19 @@ fn wanted_of(job: Job) -> Option<Wanted>
             in_param,
             conflicts,
             out_solution,
-            out_cnf: None,
-            out_log: None,
+            out_cnf,
+            out_log,
             undefined,
         } => Some(Wanted::Search {
             model: in_eprime,
             params: in_param,
             mode: undefined,
             request: Request::One { conflicts },
-            output: out_solution,
+            outputs: Outputs {
+                formula: out_cnf,
+                log: out_log,
+                solution: out_solution,
+            },
         }),
         Job::Enumerate {
             in_eprime,
@@ -82,8 +102,8 @@ fn wanted_of(job: Job) -> Option<Wanted>
             solutions,
             conflicts,
             out_solution,
-            out_cnf: None,
-            out_log: None,
+            out_cnf,
+            out_log,
             undefined,
         } => Some(Wanted::Search {
             model: in_eprime,
@@ -93,7 +113,11 @@ fn wanted_of(job: Job) -> Option<Wanted>
                 most: solutions,
                 conflicts,
             },
-            output: out_solution,
+            outputs: Outputs {
+                formula: out_cnf,
+                log: out_log,
+                solution: out_solution,
+            },
         }),
         Job::Verify {
             in_eprime,
@@ -106,17 +130,35 @@ fn wanted_of(job: Job) -> Option<Wanted>
             mode: undefined,
             solution: in_solution,
         }),
+        Job::Check {
+            in_cnf,
+            in_log,
+            workers,
+        } => {
+            if workers == 1 {
+                Some(Wanted::Check {
+                    formula: in_cnf,
+                    proof: in_log,
+                })
+            } else {
+                None
+            }
+        }
         _ => None,
     }
 }
 
-/// The file into which the answer is to be written, if one is named.
-#[tactic(auto, unfolding(crate::specs::Commands::output_of))]
-pub fn output_of(wanted: Wanted) -> Option<Word>
-    ensures { result ≡ output_of wanted }
+/// The files that are named for output.
+#[tactic(auto, unfolding(crate::specs::Commands::outputs_of))]
+pub fn outputs_of(wanted: Wanted) -> Outputs
+    ensures { result ≡ outputs_of wanted }
 {
     match wanted {
-        Wanted::Search { output, .. } => output,
-        Wanted::Verify { .. } => None,
+        Wanted::Search { outputs, .. } => outputs,
+        Wanted::Verify { .. } | Wanted::Check { .. } => Outputs {
+            formula: None,
+            log: None,
+            solution: None,
+        },
     }
 }

@@ -1,22 +1,96 @@
-//! Writes the file of an answer.
+//! Writes the files of an answer.
 
-ghost use Rattle.std.specs.Prelude.{◌≤◌};
+ghost use Rattle.std.specs.Prelude.{◌≤◌, ℕ, List};
 ghost use Rattle.ep_base.specs.Outside.{Rose};
-ghost use Rattle.ep_run.specs.Steps.{TellsWritten};
+ghost use Rattle.ep_run.specs.Outputs.{a_formula, an_answer, in_order, named, steps};
+ghost use Rattle.ep_run.specs.Steps.{TellsWrite, TellsWritten};
 
 use super::stops::Stop;
+use super::texts::formula_text;
+use super::wanted::Outputs;
+use cnf_core::Log;
 use ep_base::{FileError, Files, Word};
 use ep_print::Refusal;
+use sat_text::write_log;
+use std::alloc::Global;
 
-/// Writes a text into the file of this name, if there is one.
-pub fn write_output<F: Files>(files: &mut F, output: Option<Word>, text: &[u8]) -> Result<(), Stop>
-    ensures tells { TellsWritten output text.now (F.held files.old) (F.held files.new)
+/// Writes the files that are named for output: the formula, the steps of the log, and the answer.
+pub fn write_outputs<F: Files>(
+    alloc: Global,
+    files: &mut F,
+    outputs: Outputs,
+    log: &Log,
+    answer: &[u8],
+) -> Result<(), Stop>
+    ensures tells { TellsWritten log.now answer.now (in_order outputs) (F.held files.old) (F.held files.new)
+        (Rose (F.faults files.old) (F.faults files.new)) result }
+    ensures faults { F.faults files.old ≤ F.faults files.new }
+{
+    write_formula(alloc, files, outputs.formula, log)?;
+    write_steps(alloc, files, outputs.log, log)?;
+    write_answer(files, outputs.solution, log, answer)
+}
+
+/// Writes the formula into the file of this name, if there is one.
+fn write_formula<F: Files>(
+    alloc: Global,
+    files: &mut F,
+    output: Option<Word>,
+    log: &Log,
+) -> Result<(), Stop>
+    ensures tells { (answer : List ℕ) → TellsWritten log.now answer (named a_formula output) (F.held files.old) (F.held files.new)
         (Rose (F.faults files.old) (F.faults files.new)) result }
     ensures faults { F.faults files.old ≤ F.faults files.new }
 {
     let Some(name) = output else {
         return Ok(());
     };
+    let text = formula_text(alloc, log)?;
+    write_text(files, name, &text)
+}
+
+/// Writes the steps of the log into the file of this name, if there is one.
+fn write_steps<F: Files>(
+    alloc: Global,
+    files: &mut F,
+    output: Option<Word>,
+    log: &Log,
+) -> Result<(), Stop>
+    ensures tells { (answer : List ℕ) → TellsWritten log.now answer (named steps output) (F.held files.old) (F.held files.new)
+        (Rose (F.faults files.old) (F.faults files.new)) result }
+    ensures faults { F.faults files.old ≤ F.faults files.new }
+{
+    let Some(name) = output else {
+        return Ok(());
+    };
+    let text = write_log(alloc, log)?;
+    write_text(files, name, &text)
+}
+
+/// Writes the answer into the file of this name, if there is one.
+fn write_answer<F: Files>(
+    files: &mut F,
+    output: Option<Word>,
+    log: &Log,
+    answer: &[u8],
+) -> Result<(), Stop>
+    ensures tells { TellsWritten log.now answer.now (named an_answer output) (F.held files.old) (F.held files.new)
+        (Rose (F.faults files.old) (F.faults files.new)) result }
+    ensures faults { F.faults files.old ≤ F.faults files.new }
+{
+    let _ = log;
+    let Some(name) = output else {
+        return Ok(());
+    };
+    write_text(files, name, answer)
+}
+
+/// Writes a text under a name.
+fn write_text<F: Files>(files: &mut F, name: Word, text: &[u8]) -> Result<(), Stop>
+    ensures tells { TellsWrite name text.now (F.held files.old) (F.held files.new)
+        (Rose (F.faults files.old) (F.faults files.new)) result }
+    ensures faults { F.faults files.old ≤ F.faults files.new }
+{
     match files.write(name.text(), text) {
         Ok(()) => Ok(()),
         Err(FileError::Failed) => Err(Stop::Refused(Refusal::CannotWrite(name))),

@@ -52,7 +52,7 @@ fn files_of(alloc: Global, texts: &Texts, file_fails: &[u64]) -> Result<MemFiles
 }
 
 /// Runs the words, with a space between any two, over files.
-fn run_over<R: Threads + AllocGlobal>(
+pub fn run_over<R: Threads + AllocGlobal>(
     rt: &R,
     words: &str,
     files: &mut MemFiles,
@@ -85,7 +85,7 @@ fn check_run<R: Abort + Threads + AllocGlobal>(
 }
 
 /// A text of a row, behind another.
-fn text_of(alloc: Global, before: &str, text: &str) -> Result<String, AllocError> {
+pub fn text_of(alloc: Global, before: &str, text: &str) -> Result<String, AllocError> {
     let mut whole = String::from_str(alloc, before)?;
     for letter in text.chars() {
         whole.push(if letter == '@' { '\n' } else { letter })?;
@@ -93,10 +93,10 @@ fn text_of(alloc: Global, before: &str, text: &str) -> Result<String, AllocError
     Ok(whole)
 }
 
-const FIRST_LINE: &str = "language ESSENCE' 1.0\n";
+pub const FIRST_LINE: &str = "language ESSENCE' 1.0\n";
 
 /// How a run ends that puts this out.
-fn status_of(want: &str) -> Status {
+pub fn status_of(want: &str) -> Status {
     for (beginning, status) in [
         ("fault", Status::Text),
         ("limit", Status::Limit),
@@ -105,6 +105,8 @@ fn status_of(want: &str) -> Status {
         ("$ violated", Status::Refuted),
         ("$ objective", Status::Refuted),
         ("$ wrong", Status::Refuted),
+        ("$ bad", Status::Refuted),
+        ("$ no empty", Status::Refuted),
     ] {
         if want.starts_with(beginning) {
             return status;
@@ -456,7 +458,8 @@ const NO_COMMANDS: &str = "\
 --in-eprime m --conflicts 0
 --in-eprime m --solutions 2
 --in-eprime m --in-eprime m
---in-eprime m --out-cnf x
+--task check --in-cnf m
+--task check --in-cnf m --in-log s --workers 2
 --task enumerate --in-eprime m
 --task enumerate --in-eprime m --solutions 0
 --task generate --number 0

@@ -2,7 +2,7 @@ use Rattle.std.proofs.Common.{Err, refl, sym, subst}
 use Rattle.ep_print.specs.declared.refusals.TextFile.{TextFile}
 use Rattle.ep_tree.specs.Texts.{read_as}
 use Rattle.ep_tree.specs.Views.{model_tree}
-use Rattle.ep_run.specs.Readings.{tree_or_refusal}
+use Rattle.ep_run.specs.Readings.{IsTextReadAs, tree_or_refusal}
 use Rattle.ep_run.specs.Steps.{TellsText}
 use Rattle.ep_run.specs.declared.stops.Stop.{Stop}
 use Rattle.ep_run.proofs.FileReading.{text-stopped}
@@ -14,5 +14,5 @@ returns-in-Ok c = (read_as (model_tree c.in-Ok.model), c.in-Ok.ensures.answer, r
 
 pub returns-in-Err : goal.returns-in-Err
 returns-in-Err c =
-    let P : Stop → Type 0 = λ s. TellsText model_tree TextFile.Model c.args.text.now (Err s) in
+    let P : Stop → Type 0 = λ s. TellsText model_tree (IsTextReadAs TextFile.Model) c.args.text.now (Err s) in
     subst P (sym c.text_stop.ensures) (text-stopped model_tree TextFile.Model c.args.text.now c.in-Err.error c.in-Err.ensures.answer)

@@ -1,7 +1,7 @@
 use Rattle.std.proofs.Common.{Err, refl, sym, subst}
 use Rattle.ep_tree.specs.Texts.{read_as}
 use Rattle.ep_tree.specs.Views.{params_tree}
-use Rattle.ep_run.specs.Readings.{tree_or_refusal}
+use Rattle.ep_run.specs.Readings.{IsTextReadAs, tree_or_refusal}
 use Rattle.ep_run.specs.Steps.{TellsText}
 use Rattle.ep_run.specs.declared.stops.Stop.{Stop}
 use Rattle.ep_run.proofs.FileReading.{as-params, as-refuses, text-stopped}
@@ -17,6 +17,6 @@ pub returns-in-Err : goal.returns-in-Err
 returns-in-Err c =
     let file = c.args.file in
     let text = c.args.text.now in
-    let P : Stop → Type 0 = λ s. TellsText params_tree file text (Err s) in
+    let P : Stop → Type 0 = λ s. TellsText params_tree (IsTextReadAs file) text (Err s) in
     subst P (sym c.text_stop.ensures)
     (text-stopped params_tree file text c.in-Err.error (as-refuses file c.requires text c.in-Err.error c.in-Err.ensures.answer))

@@ -4,7 +4,7 @@ use Rattle.ep_run.specs.Steps.{LogsTask, TellsRun}
 use Rattle.ep_run.specs.declared.replies.Reply.{Reply}
 use Rattle.ep_run.specs.declared.stops.Stop.{Stop}
 use Rattle.ep_run.proofs.Running.{refused-asks, refused-holds, refused-said, run-asked}
-use Rattle.ep_run.proofs.Saying.{run-sound}
+use Rattle.ep_run.proofs.Saying.{holds-wanting, run-sound}
 use Rattle.ep_run.proofs.replies.reply_to.Goals as goal
 
 pub returns-in-Err-Refused-clause-says : goal.returns-in-Err-Refused-clause-says
@@ -66,3 +66,13 @@ returns-in-Err-Memory-clause-sound g c =
     let after = g.F.Files.held c.run_words.new.files in
     let rose = Rose (g.F.Files.faults c.args.files.now) (g.F.Files.faults c.run_words.new.files) in
     run-sound c.args.words.now told after rose c.run_words.new.log c.run_words.result c.run_words.ensures.tells
+
+pub returns-in-Err-Memory-clause-wants : goal.returns-in-Err-Memory-clause-wants
+returns-in-Err-Memory-clause-wants g c =
+    let told = g.F.Files.held c.args.files.now in
+    let after = g.F.Files.held c.run_words.new.files in
+    let rose = Rose (g.F.Files.faults c.args.files.now) (g.F.Files.faults c.run_words.new.files) in
+    let R : Result Reply Stop → Type 0 = λ r. TellsRun c.args.words.now told after rose c.run_words.new.log r in
+    let S : Stop → Type 0 = λ s. TellsRun c.args.words.now told after rose c.run_words.new.log (Err s) in
+    holds-wanting c.args.words.now told after rose c.run_words.new.log
+    (subst S c.in-Err-Memory.field-0-is (subst R c.in-Err-Memory.is c.run_words.ensures.tells))

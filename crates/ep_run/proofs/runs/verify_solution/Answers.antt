@@ -5,6 +5,7 @@ use Rattle.ep_print.specs.declared.refusals.TextFile.{TextFile}
 use Rattle.ep_tree.specs.Views.{model_tree, params_tree}
 use Rattle.ep_solve.specs.Right.{empty_log}
 use Rattle.ep_run.specs.Outcomes.{verify_outcome}
+use Rattle.ep_run.specs.Readings.{IsTextReadAs}
 use Rattle.ep_run.proofs.Chains.{unread}
 use Rattle.ep_run.proofs.Running.{reply-ends}
 use Rattle.ep_run.proofs.runs.verify_solution.Goals as goal
@@ -17,7 +18,7 @@ returns-in_err-solution-clause-tells g c =
     let m = model_tree c.args.model in
     let q = params_tree c.args.params in
     rw (p.1, p.2)
-    (unread params_tree TextFile.Solution c.args.solution.now [] (λ s held outcome. outcome ≡ verify_outcome c.args.mode m q s) told rose empty_log c.in_err-solution.field-0.0 refl c.in_err-solution.ensures.tells)
+    (unread params_tree (IsTextReadAs TextFile.Solution) c.args.solution.now [] (λ s held outcome. outcome ≡ verify_outcome c.args.mode m q s) told rose empty_log c.in_err-solution.field-0.0 refl c.in_err-solution.ensures.tells)
 
 pub returns-clause-status : goal.returns-clause-status
 returns-clause-status g c =

@@ -2,6 +2,7 @@ use Rattle.std.proofs.Common.{◌≡◌, ◌∙◌, ℕ, List, Err, inl, inr, ap
 use Rattle.ep_base.specs.Outside.{Rose, TookPart, with_more}
 use Rattle.ep_run.specs.Puts.{TookOnWant}
 use Rattle.ep_run.proofs.Budgets.{below-said, unforced-said}
+use Rattle.ep_run.proofs.Certified.{ends-verified}
 use Rattle.ep_run.proofs.Once.{ShownOnce, TextsAreOnce, answers-said, judged-on-want, judged-said, refuses-said, shown-once, unlogged-on-want, unlogged-said, unwritten-on-want, unwritten-said, want-once}
 use Rattle.ep_run.proofs.Promises.{may-be-put, never-memory, usage-said, want-others, when-answered, when-failed, when-kept, when-not-held, when-others, when-refused, when-refuted, when-unknown, when-unlogged, when-usage, why-device}
 use Rattle.ep_run.proofs.Saying.{case-of}
@@ -190,6 +191,8 @@ returns-in-Ok-put_all-clause-refuses g c =
       model = c.texts_have_one_answer.ensures.models;
       params = c.texts_have_one_answer.ensures.params;
       solution = c.texts_have_one_answer.ensures.params;
+      formula = c.cnf_texts_have_one_meaning.ensures;
+      proof = c.log_texts_have_one_meaning.ensures;
     } in
     let once : ShownOnce words = shown-once c.one_job_for_words.ensures texts words in
     λ calm _. refuses-said words told after rose status text log once case calm
@@ -208,6 +211,8 @@ returns-in-Ok-put_all-clause-answers g c =
       model = c.texts_have_one_answer.ensures.models;
       params = c.texts_have_one_answer.ensures.params;
       solution = c.texts_have_one_answer.ensures.params;
+      formula = c.cnf_texts_have_one_meaning.ensures;
+      proof = c.log_texts_have_one_meaning.ensures;
     } in
     let once : ShownOnce words = shown-once c.one_job_for_words.ensures texts words in
     λ calm _. answers-said words told after rose status text log once case calm
@@ -257,6 +262,8 @@ returns-in-Ok-put_all-clause-refused_unlogged g c =
       model = c.texts_have_one_answer.ensures.models;
       params = c.texts_have_one_answer.ensures.params;
       solution = c.texts_have_one_answer.ensures.params;
+      formula = c.cnf_texts_have_one_meaning.ensures;
+      proof = c.log_texts_have_one_meaning.ensures;
     } in
     let once : ShownOnce words = shown-once c.one_job_for_words.ensures texts words in
     unlogged-said words told after rose status text log once case
@@ -275,6 +282,8 @@ returns-in-Err-Failed-clause-refused_unlogged g c =
       model = c.texts_have_one_answer.ensures.models;
       params = c.texts_have_one_answer.ensures.params;
       solution = c.texts_have_one_answer.ensures.params;
+      formula = c.cnf_texts_have_one_meaning.ensures;
+      proof = c.log_texts_have_one_meaning.ensures;
     } in
     let once : ShownOnce words = shown-once c.one_job_for_words.ensures texts words in
     unlogged-said words told after rose status text log once case
@@ -297,7 +306,7 @@ returns-in_default-clause-others g c =
     let told = g.F.Files.held c.args.files.now in
     let after = g.F.Files.held c.reply_to.new.files in
     let rose = Rose (g.F.Files.faults c.args.files.now) (g.F.Files.faults c.reply_to.new.files) in
-    want-others words told after rose c.in_default.ensures.wants
+    want-others words told after rose c.reply_to.new.log c.in_default.ensures.wants
 
 pub returns-in-Ok-put_all-clause-others : goal.returns-in-Ok-put_all-clause-others
 returns-in-Ok-put_all-clause-others g c =
@@ -357,9 +366,11 @@ returns-in_default-clause-refused_unwritten g c =
       model = c.texts_have_one_answer.ensures.models;
       params = c.texts_have_one_answer.ensures.params;
       solution = c.texts_have_one_answer.ensures.params;
+      formula = c.cnf_texts_have_one_meaning.ensures;
+      proof = c.log_texts_have_one_meaning.ensures;
     } in
     let once : ShownOnce words = shown-once c.one_job_for_words.ensures texts words in
-    unwritten-on-want words told after rose once c.in_default.ensures.wants
+    unwritten-on-want words told after rose c.reply_to.new.log once c.in_default.ensures.wants
 
 pub returns-in-Ok-put_all-clause-refused_unwritten : goal.returns-in-Ok-put_all-clause-refused_unwritten
 returns-in-Ok-put_all-clause-refused_unwritten g c =
@@ -375,6 +386,8 @@ returns-in-Ok-put_all-clause-refused_unwritten g c =
       model = c.texts_have_one_answer.ensures.models;
       params = c.texts_have_one_answer.ensures.params;
       solution = c.texts_have_one_answer.ensures.params;
+      formula = c.cnf_texts_have_one_meaning.ensures;
+      proof = c.log_texts_have_one_meaning.ensures;
     } in
     let once : ShownOnce words = shown-once c.one_job_for_words.ensures texts words in
     unwritten-said words told after rose status text log once case
@@ -393,6 +406,8 @@ returns-in-Err-Failed-clause-refused_unwritten g c =
       model = c.texts_have_one_answer.ensures.models;
       params = c.texts_have_one_answer.ensures.params;
       solution = c.texts_have_one_answer.ensures.params;
+      formula = c.cnf_texts_have_one_meaning.ensures;
+      proof = c.log_texts_have_one_meaning.ensures;
     } in
     let once : ShownOnce words = shown-once c.one_job_for_words.ensures texts words in
     unwritten-said words told after rose status text log once case
@@ -411,6 +426,8 @@ returns-clause-refused_unwritten g c =
       model = c.texts_have_one_answer.ensures.models;
       params = c.texts_have_one_answer.ensures.params;
       solution = c.texts_have_one_answer.ensures.params;
+      formula = c.cnf_texts_have_one_meaning.ensures;
+      proof = c.log_texts_have_one_meaning.ensures;
     } in
     let once : ShownOnce words = shown-once c.one_job_for_words.ensures texts words in
     unwritten-said words told after rose status text log once case
@@ -423,6 +440,8 @@ returns-in_default-clause-refused_unlogged g c =
       model = c.texts_have_one_answer.ensures.models;
       params = c.texts_have_one_answer.ensures.params;
       solution = c.texts_have_one_answer.ensures.params;
+      formula = c.cnf_texts_have_one_meaning.ensures;
+      proof = c.log_texts_have_one_meaning.ensures;
     } in
     let once : ShownOnce words = shown-once c.one_job_for_words.ensures texts words in
     unlogged-on-want words told c.reply_to.new.log once c.in_default.ensures.asked
@@ -441,6 +460,8 @@ returns-clause-refused_unlogged g c =
       model = c.texts_have_one_answer.ensures.models;
       params = c.texts_have_one_answer.ensures.params;
       solution = c.texts_have_one_answer.ensures.params;
+      formula = c.cnf_texts_have_one_meaning.ensures;
+      proof = c.log_texts_have_one_meaning.ensures;
     } in
     let once : ShownOnce words = shown-once c.one_job_for_words.ensures texts words in
     unlogged-said words told after rose status text log once case
@@ -486,3 +507,30 @@ returns-clause-judged_unlogged g c =
     let log = c.reply_to.new.log in
     let case = case-of words told after rose status text log c.in-Ok.ensures.says in
     judged-said words told after rose status text log (want-once c.one_job_for_words.ensures words) case
+
+pub returns-in_default-clause-wanting : goal.returns-in_default-clause-wanting
+returns-in_default-clause-wanting g c = λ h. inl (c.in_default.ensures.wants, c.put_memory.ensures.taken)
+
+pub returns-in_default-clause-accepted : goal.returns-in_default-clause-accepted
+returns-in_default-clause-accepted g c = c.valid_logs_are_accepted.ensures.no_bad c.reply_to.new.log.events c.reply_to.ensures.sound.valid
+
+pub returns-in_default-clause-verified : goal.returns-in_default-clause-verified
+returns-in_default-clause-verified g c = λ ends. ends-verified c.valid_logs_are_accepted.ensures.closed c.reply_to.new.log.events c.reply_to.ensures.sound.valid ends
+
+pub returns-in-Ok-put_all-clause-accepted : goal.returns-in-Ok-put_all-clause-accepted
+returns-in-Ok-put_all-clause-accepted g c = c.valid_logs_are_accepted.ensures.no_bad c.reply_to.new.log.events c.reply_to.ensures.sound.valid
+
+pub returns-in-Ok-put_all-clause-verified : goal.returns-in-Ok-put_all-clause-verified
+returns-in-Ok-put_all-clause-verified g c = λ ends. ends-verified c.valid_logs_are_accepted.ensures.closed c.reply_to.new.log.events c.reply_to.ensures.sound.valid ends
+
+pub returns-in-Err-Failed-clause-accepted : goal.returns-in-Err-Failed-clause-accepted
+returns-in-Err-Failed-clause-accepted g c = c.valid_logs_are_accepted.ensures.no_bad c.reply_to.new.log.events c.reply_to.ensures.sound.valid
+
+pub returns-in-Err-Failed-clause-verified : goal.returns-in-Err-Failed-clause-verified
+returns-in-Err-Failed-clause-verified g c = λ ends. ends-verified c.valid_logs_are_accepted.ensures.closed c.reply_to.new.log.events c.reply_to.ensures.sound.valid ends
+
+pub returns-clause-accepted : goal.returns-clause-accepted
+returns-clause-accepted g c = c.valid_logs_are_accepted.ensures.no_bad c.reply_to.new.log.events c.reply_to.ensures.sound.valid
+
+pub returns-clause-verified : goal.returns-clause-verified
+returns-clause-verified g c = λ ends. ends-verified c.valid_logs_are_accepted.ensures.closed c.reply_to.new.log.events c.reply_to.ensures.sound.valid ends
