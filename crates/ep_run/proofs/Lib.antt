@@ -14,6 +14,7 @@ mod Promises
 mod OneReading
 mod Once
 mod Allowed
+mod Files
 mod Certified
 mod Budgets
 mod Running

@@ -88,6 +88,14 @@ when-answered words told after rose status text log Took (faulty wanted want r s
 when-answered words told after rose status text log Took (unread name s t nothing kept failed why) took h = apart status 0 3 (kind-ended status h) (ap kind s) (λ e. cc)
 when-answered words told after rose status text log Took (unwritten name s t sound wanted want logs failed) took h = apart status 0 3 (kind-ended status h) (ap kind s) (λ e. cc)
 
+-- the files that are named for output are written where a run ends with a reply
+pub when-written : (words : List (List ℕ)) (told after : Option Held) (rose : Type 0) (status : Status) (text : List ℕ) (log : LogState) → Case words told after rose status text log → HasReply status → HasOutput words text log told after
+when-written words told after rose status text log (no_command s t nothing kept none) h = apart status 0 1 (kind-ended status h) (ap kind s) (λ e. cc)
+when-written words told after rose status text log (answer wanted want ends shown put) h = (wanted, want, put)
+when-written words told after rose status text log (faulty wanted want r s t nothing kept of_text shown) h = apart status 0 2 (kind-ended status h) (kind-text r status s of_text) (λ e. cc)
+when-written words told after rose status text log (unread name s t nothing kept failed why) h = apart status 0 3 (kind-ended status h) (ap kind s) (λ e. cc)
+when-written words told after rose status text log (unwritten name s t sound wanted want logs failed) h = apart status 0 3 (kind-ended status h) (ap kind s) (λ e. cc)
+
 -- that something is judged
 abbrev pub Judges : List (List ℕ) → Type 0
 Judges words = (wanted : Wanted) × Want words wanted × IsJudgement wanted

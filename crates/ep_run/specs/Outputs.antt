@@ -1,5 +1,5 @@
 -- The files of an answer: which ones they are, what is written into them and in which order, and what the files hold then.
-use Rattle.std.specs.Prelude.{◌≡◌, ◌<◌, ◌⊎◌, ◌^◌, ℕ, All, List, [], ◌∷◌, ◌++◌, length, Option, Some, None, option_map, IsSomeAnd}
+use Rattle.std.specs.Prelude.{◌≡◌, ◌<◌, ◌⊎◌, ◌^◌, ℕ, All, List, [], ◌∷◌, ◌++◌, length, Option, Some, None, option_map, IfSome, IsSomeAnd}
 use Rattle.cnf_core.specs.Events.{LogState, givens}
 use Rattle.cnf_core.specs.Formula.{Cnf, NamesItsVariables}
 use Rattle.cnf_core.specs.LogLines.{log_lines}
@@ -108,3 +108,7 @@ SameBut IsOne (Some before) after = IsSomeAnd after (λ held. (name : List ℕ) 
 -- every file but those that the words name for output holds what it held
 abbrev pub SameButOutput : List (List ℕ) → Option Held → Option Held → Type 0
 SameButOutput words before after = SameBut (IsOutput words) before after
+
+-- where the files tell what they hold, a text of this kind stands under this name
+abbrev pub HoldsText : Option Held → List ℕ → (List ℕ → Type 0) → Type 0
+HoldsText told name IsOne = IfSome told (λ held. (text : List ℕ) × (held name ≡ Some text) × IsOne text)

@@ -1,6 +1,6 @@
 //! The top call.
 
-ghost use Rattle.std.specs.Prelude.{◌≡◌, ◌⊎◌, ◌≤◌, ℕ, List, [], None, Err, Contains, IfSome, IsSomeAnd, Option, codes};
+ghost use Rattle.std.specs.Prelude.{◌≡◌, ◌≢◌, ◌⊎◌, ◌≤◌, ℕ, List, [], None, Some, Err, Contains, IfSome, IsSomeAnd, Option, codes};
 ghost use Rattle.ep_base.specs.Outside.{Rose, TookPart, with_more};
 ghost use Rattle.ep_tree.specs.declared.values.Mode.{Mode};
 ghost use Rattle.ep_print.specs.Refusals.{refusal_text};
@@ -15,7 +15,7 @@ ghost use Rattle.ep_run.specs.Answers.{Answers};
 ghost use Rattle.ep_run.specs.Budgets.{IsBelowPower, MeetsConflict, before_steps};
 ghost use Rattle.ep_run.specs.Commands.{AreNoCommand, IsJudgement, Want, conflicts_of};
 ghost use Rattle.ep_run.specs.Outcomes.{Task};
-ghost use Rattle.ep_run.specs.Outputs.{HasOutput, SameButOutput};
+ghost use Rattle.ep_run.specs.Outputs.{HasOutput, HoldsText, IsFormulaText, IsStepsText, SameButOutput};
 ghost use Rattle.ep_run.specs.Puts.{IsDeviceLine, MayBePut, TookFirst, TookOnWant};
 ghost use Rattle.ep_run.specs.Shown.{Ask, Refuses, Show};
 ghost use Rattle.ep_run.specs.Status.{HasReply, status_of};
@@ -135,6 +135,19 @@ pub fn run<R: Threads, F: Files, K: Sink>(
         (refusals : List Refusal) → Show words.now held (Err refusals) → log.new ≡ empty_log) }
     ensures judged_unlogged { (wanted : Wanted) → Want words.now wanted → IsJudgement wanted
         → log.new ≡ empty_log }
+
+    // Where the words name a file for the formula, and no other output by its name, the formula's text stands there then; and
+    // likewise the text of the steps.
+    ensures formula_file { HasReply result →
+        (model : List ℕ) (params : Option (List ℕ)) (mode : Mode) (request : Request) (outputs : Outputs)
+        → Want words.now (Wanted.Search model params mode request outputs) → (name : List ℕ)
+        → outputs.formula ≡ Some name → outputs.log ≢ Some name → outputs.solution ≢ Some name
+        → HoldsText (F.held files.new) name (IsFormulaText log.new) }
+    ensures log_file { HasReply result →
+        (model : List ℕ) (params : Option (List ℕ)) (mode : Mode) (request : Request) (outputs : Outputs)
+        → Want words.now (Wanted.Search model params mode request outputs) → (name : List ℕ)
+        → outputs.log ≡ Some name → outputs.solution ≢ Some name
+        → HoldsText (F.held files.new) name (IsStepsText log.new) }
 
     // No line of these steps is bad over what was given to the solver, however the run ends. Where the last step is the empty one,
     // as with an optimum, without a solution, or with a list that is complete, they are verified.

@@ -3,8 +3,9 @@ use Rattle.ep_base.specs.Outside.{Rose, TookPart, with_more}
 use Rattle.ep_run.specs.Puts.{TookOnWant}
 use Rattle.ep_run.proofs.Budgets.{below-said, unforced-said}
 use Rattle.ep_run.proofs.Certified.{ends-verified}
+use Rattle.ep_run.proofs.Files.{formula-stands, log-stands}
 use Rattle.ep_run.proofs.Once.{ShownOnce, TextsAreOnce, answers-said, judged-on-want, judged-said, refuses-said, shown-once, unlogged-on-want, unlogged-said, unwritten-on-want, unwritten-said, want-once}
-use Rattle.ep_run.proofs.Promises.{may-be-put, never-memory, usage-said, want-others, when-answered, when-failed, when-kept, when-not-held, when-others, when-refused, when-refuted, when-unknown, when-unlogged, when-usage, why-device}
+use Rattle.ep_run.proofs.Promises.{may-be-put, never-memory, usage-said, want-others, when-answered, when-failed, when-kept, when-not-held, when-others, when-refused, when-refuted, when-unknown, when-unlogged, when-usage, when-written, why-device}
 use Rattle.ep_run.proofs.Saying.{case-of}
 use Rattle.ep_run.proofs.top.run.Goals as goal
 
@@ -534,3 +535,27 @@ returns-clause-accepted g c = c.valid_logs_are_accepted.ensures.no_bad c.reply_t
 
 pub returns-clause-verified : goal.returns-clause-verified
 returns-clause-verified g c = λ ends. ends-verified c.valid_logs_are_accepted.ensures.closed c.reply_to.new.log.events c.reply_to.ensures.sound.valid ends
+
+pub returns-in-Ok-put_all-clause-formula_file : goal.returns-in-Ok-put_all-clause-formula_file
+returns-in-Ok-put_all-clause-formula_file g c =
+    let words = c.args.words.now in
+    let told = g.F.Files.held c.args.files.now in
+    let after = g.F.Files.held c.reply_to.new.files in
+    let rose = Rose (g.F.Files.faults c.args.files.now) (g.F.Files.faults c.reply_to.new.files) in
+    let status = c.in-Ok.reply.status in
+    let text = c.in-Ok.reply.text.items in
+    let log = c.reply_to.new.log in
+    let case = case-of words told after rose status text log c.in-Ok.ensures.says in
+    λ h. formula-stands words text log told after (want-once c.one_job_for_words.ensures words) (when-written words told after rose status text log case h)
+
+pub returns-in-Ok-put_all-clause-log_file : goal.returns-in-Ok-put_all-clause-log_file
+returns-in-Ok-put_all-clause-log_file g c =
+    let words = c.args.words.now in
+    let told = g.F.Files.held c.args.files.now in
+    let after = g.F.Files.held c.reply_to.new.files in
+    let rose = Rose (g.F.Files.faults c.args.files.now) (g.F.Files.faults c.reply_to.new.files) in
+    let status = c.in-Ok.reply.status in
+    let text = c.in-Ok.reply.text.items in
+    let log = c.reply_to.new.log in
+    let case = case-of words told after rose status text log c.in-Ok.ensures.says in
+    λ h. log-stands words text log told after (want-once c.one_job_for_words.ensures words) (when-written words told after rose status text log case h)
