@@ -60,8 +60,7 @@ const WRITTEN: &str = "\
 find a, b, c, d : int(1..3)@such that allDiff([a, b, c, d])@#--in-eprime m#$ no solution@#$ verified@
 find x : int(1..3)@maximising x@such that x < 3@#--in-eprime m#$ optimum 2@letting x be 2@#$ verified@
 find x : int(1..3)@such that x > 2@#--in-eprime m#$ solution@letting x be 3@#$ no empty clause@
-find x : int(1..1)@#--task enumerate --solutions all --in-eprime m#$ solution 1@letting x be 1@$ complete@#$ verified@
-find x : int(1..1)@#--task enumerate --solutions 1 --in-eprime m#$ solution 1@letting x be 1@#$ no empty clause@";
+find x : int(1..1)@#--task enumerate --solutions all --in-eprime m#$ solution 1@letting x be 1@$ complete@#$ verified@";
 
 #[test]
 fn a_written_log_is_checked_against_the_written_formula(rt: HostRuntime) -> Result<(), Fail> {
