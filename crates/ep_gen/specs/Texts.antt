@@ -8,7 +8,7 @@ use Rattle.ep_tree.specs.declared.values.ValueType.{ValueType}
 use Rattle.ep_gen.specs.Hints.{hints_of, order_of, square_value}
 
 -- the model, which is the same for each number
-abbrev pub generated_model : List ℕ
+unfoldable pub generated_model : List ℕ
 generated_model =
     language_line
     ++ (codes "given n : int(1..100)\n"

@@ -5,4 +5,4 @@ mod hints;
 mod stream;
 mod texts;
 
-pub use texts::gen_text;
+pub use texts::{gen_text, order};

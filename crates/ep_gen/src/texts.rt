@@ -28,6 +28,7 @@ forAll i,j : int(1..n) . (hint[i,j] != 0) -> (q[i,j] = hint[i,j])
 ";
 
 /// The text of a model, and that of the parameters that a number gives it. Linear in the text.
+#[tactic(auto, unfolding(crate::specs::Texts::generated_model))]
 pub fn gen_text(alloc: Global, number: u64) -> Result<(Vec<u8>, Vec<u8>), Memory>
     requires within { number ≤ 1000000000 }
     ensures model { IfOk result (λ texts. texts.0.items ≡ generated_model) }
@@ -38,9 +39,9 @@ pub fn gen_text(alloc: Global, number: u64) -> Result<(Vec<u8>, Vec<u8>), Memory
     Ok((model, params))
 }
 
-/// The order of the square of a number.
+/// The order of the square of a number: how many rows and columns it has.
 #[tactic(auto, unfolding(crate::specs::Hints::order_of))]
-fn order(number: u64) -> u64
+pub fn order(number: u64) -> u64
     ensures order { result ≡ order_of number }
     ensures within { (0 < result) × (result ≤ 20) }
 {

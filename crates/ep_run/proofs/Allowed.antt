@@ -1,12 +1,14 @@
 -- How many conflicts words allow.
-use Rattle.std.proofs.Common.{◌≡◌, ℕ, ◌≤◌, Bool, true, false, ◌&&◌, if◌then◌else◌, nat_eq, nat_le, zero, suc, length, codes, List, Option, Some, None, option_map, option_and_then, unwrap_or, bytes_eq, inl, inr, refl, subst, arith}
+use Rattle.std.proofs.Common.{◌≡◌, ℕ, ◌≤◌, Bool, true, false, ◌&&◌, if◌then◌else◌, nat_eq, nat_le, zero, suc, length, codes, List, Option, Some, None, option_map, option_and_then, unwrap_or, bytes_eq, inl, inr, refl, sym, subst, arith}
 use Rattle.std.proofs.lemmas.Bool.{cases_Bool}
+use Rattle.std.proofs.lemmas.Bool.Decides.{nat_tests}
 use Rattle.std.specs.Str.Parse.{digits_value}
 use Rattle.ep_base.specs.TokenTexts.{is_number}
 use Rattle.ep_words.specs.Jobs.{check_job, check_options, conflicts_of as set_conflicts, enumerate_job, enumerate_options, generate_job, generate_options, job_of, mode_of, number_or, number_within, sets_only, solution_count, solve_job, solve_options, verify_job, verify_options, workers_of}
 use Rattle.ep_words.specs.Settings.{Setting, Text, value_of}
 use Rattle.ep_tree.specs.declared.values.Mode.{Mode}
 use Rattle.ep_run.specs.Commands.{Want, conflicts_of, wanted_of}
+use Rattle.ep_run.specs.Searches.{HasTexts, IsSearchFor}
 use Rattle.ep_words.specs.declared.job.Job.{Job}
 use Rattle.ep_run.specs.declared.wanted.Outputs.{Outputs}
 use Rattle.ep_run.specs.declared.wanted.Request.{Request}
@@ -41,15 +43,39 @@ set-number : (text : Option Text) (n : ℕ) → number_or 1000000 (number_within
 set-number None n e = let same : 1000000 ≡ n = cc in omega (arith, same)
 set-number (Some text) n e = tested-number (is_number text && nat_le (length text) 10) (digits_value 10 text) 1000000000 n e
 
+at-most : (a b : ℕ) → nat_le a b ≡ true → a ≤ b
+at-most a b e = grind (arith, nat_tests)
+
+last-of : (a b c : Bool) → (a && (b && c)) ≡ true → c ≡ true
+last-of true true c e = e
+last-of true false c e = absurd cc
+last-of false b c e = absurd cc
+
+if-tested : {A : Type 0} (P : A → Type 0) (test : Bool) (o : Option A) (x : A) → (test ≡ true → (y : A) → o ≡ Some y → P y) → (if test then o else None) ≡ Some x → P x
+if-tested P true o x all e = all refl x e
+if-tested P false o x all e = absurd cc
+
+bounded-number : (digits : Bool) (value most n : ℕ) → (if digits && (nat_le 0 value && nat_le value most) then Some value else None) ≡ Some n → n ≤ most
+bounded-number digits value most n e =
+    if-tested (λ m. m ≤ most) (digits && (nat_le 0 value && nat_le value most)) (Some value) n
+    (λ t m same.
+    let here : value ≡ m = cc in
+    let low : value ≤ most = at-most value most (last-of digits (nat_le 0 value) (nat_le value most) t) in
+    subst (λ (k : ℕ). k ≤ most) here low)
+    e
+
+kept-number : (text : Text) (n : ℕ) → number_within 0 1000000000 text ≡ Some n → n ≤ 1000000000
+kept-number text n e = bounded-number (is_number text && nat_le (length text) 10) (digits_value 10 text) 1000000000 n e
+
 -- ---- jobs
 
--- a search of this job may take a conflict
+-- a search of this job may take a conflict, and its number has texts
 abbrev HasBudget : Job → Type 0
 HasBudget (Job.Solve _ _ conflicts _ _ _ _) = 1 ≤ conflicts
 HasBudget (Job.Enumerate _ _ _ conflicts _ _ _ _) = 1 ≤ conflicts
 HasBudget (Job.Verify _ _ _ _) = Unit {0}
 HasBudget (Job.Check _ _ _) = Unit {0}
-HasBudget (Job.Generate _ _ _ _) = Unit {0}
+HasBudget (Job.Generate number conflicts _ _) = (1 ≤ conflicts) × (number ≤ 1000000000)
 
 solve-budget : (s : List Setting) (job : Job) → solve_job s ≡ Some job → HasBudget job
 solve-budget s job e =
@@ -87,9 +113,10 @@ check-budget s job e =
 generate-budget : (s : List Setting) (job : Job) → generate_job s ≡ Some job → HasBudget job
 generate-budget s job e =
     let make : ℕ → ℕ → Job = λ k n. Job.Generate k n (value_of (codes "out-eprime") s) (value_of (codes "out-param") s) in
-    all-and-then HasBudget (λ k. option_map (make k) (set_conflicts s))
-    (λ k. all-mapped HasBudget (make k) (set_conflicts s) (λ n f. tt))
-    (option_and_then (number_within 0 1000000000) (value_of (codes "number") s)) job e
+    let number : Option ℕ = option_and_then (number_within 0 1000000000) (value_of (codes "number") s) in
+    all-within HasBudget (λ k. option_map (make k) (set_conflicts s)) number
+    (λ k f. all-mapped HasBudget (make k) (set_conflicts s)
+    (λ n g. (set-number (value_of (codes "conflicts") s) n g, all-and-then (λ m. m ≤ 1000000000) (number_within 0 1000000000) kept-number (value_of (codes "number") s) k f))) job e
 
 job-budget : (s : List Setting) (job : Job) → job_of s ≡ Some job → HasBudget job
 job-budget s job e =
@@ -113,27 +140,50 @@ job-budget s job e =
 
 -- ---- what is wanted
 
-abbrev IsNoSearch : Wanted → Type 0
-IsNoSearch (Wanted.Search _ _ _ _ _) = ⊥
-IsNoSearch (Wanted.Verify _ _ _ _) = Unit {0}
-IsNoSearch (Wanted.Check _ _) = Unit {0}
+-- a search that is wanted may take a conflict, and a number that is wanted has texts
+abbrev IsAllowed : Wanted → Type 0
+IsAllowed (Wanted.Search _ _ _ request _) = 1 ≤ conflicts_of request
+IsAllowed (Wanted.Verify _ _ _ _) = Unit {0}
+IsAllowed (Wanted.Check _ _) = Unit {0}
+IsAllowed (Wanted.Generate number conflicts eprime param) = (1 ≤ conflicts) × (number ≤ 1000000000)
 
-wanted-budget : (job : Job) → HasBudget job → (model : List ℕ) (params : Option (List ℕ)) (mode : Mode) (request : Request) (outputs : Outputs) → wanted_of job ≡ Some (Wanted.Search model params mode request outputs) → 1 ≤ conflicts_of request
+wanted-allowed : (job : Job) → HasBudget job → (wanted : Wanted) → wanted_of job ≡ Some wanted → IsAllowed wanted
 unfolding wanted_of conflicts_of
-wanted-budget (Job.Solve m p n o c l u) has model params mode request outputs e =
-    let same : Request.One n ≡ request = cc in
-    let P : Request → Type 0 = λ r. 1 ≤ conflicts_of r in
-    subst P same has
-wanted-budget (Job.Enumerate m p most n o c l u) has model params mode request outputs e =
-    let same : Request.Many most n ≡ request = cc in
-    let P : Request → Type 0 = λ r. 1 ≤ conflicts_of r in
-    subst P same has
-wanted-budget (Job.Verify m t p u) has model params mode request outputs e = absurd cc
-wanted-budget (Job.Check c l w) has model params mode request outputs e =
-    absurd (if-chosen IsNoSearch (nat_eq w 1) (Some (Wanted.Check c l)) (Wanted.Search model params mode request outputs) (λ y f. let same : Wanted.Check c l ≡ y = cc in subst IsNoSearch same tt) e)
-wanted-budget (Job.Generate k n e' p) has model params mode request outputs e = absurd cc
+wanted-allowed (Job.Solve m p n o c l u) has wanted e =
+    let outputs : Outputs = record { formula = c; log = l; solution = o } in
+    let same : Wanted.Search m p u (Request.One n) outputs ≡ wanted = cc in
+    subst IsAllowed same has
+wanted-allowed (Job.Enumerate m p most n o c l u) has wanted e =
+    let outputs : Outputs = record { formula = c; log = l; solution = o } in
+    let same : Wanted.Search m p u (Request.Many most n) outputs ≡ wanted = cc in
+    subst IsAllowed same has
+wanted-allowed (Job.Verify m t p u) has wanted e =
+    let same : Wanted.Verify m p u t ≡ wanted = cc in subst IsAllowed same tt
+wanted-allowed (Job.Check c l w) has wanted e =
+    if-chosen IsAllowed (nat_eq w 1) (Some (Wanted.Check c l)) wanted (λ y f. let same : Wanted.Check c l ≡ y = cc in subst IsAllowed same tt) e
+wanted-allowed (Job.Generate k n f q) has wanted e =
+    let same : Wanted.Generate k n f q ≡ wanted = cc in subst IsAllowed same has
+
+wants-allowed : (words : List (List ℕ)) (wanted : Wanted) → Want words wanted → IsAllowed wanted
+wants-allowed words wanted want =
+    wanted-allowed want.0 (job-budget want.1.settings want.0 want.1.asks) wanted want.2
+
+allowed-budget : (wanted : Wanted) (conflicts : ℕ) → IsAllowed wanted → IsSearchFor wanted conflicts → 1 ≤ conflicts
+allowed-budget (Wanted.Search m p u request o) conflicts allowed is = subst (λ (n : ℕ). 1 ≤ n) (sym is) allowed
+allowed-budget (Wanted.Verify m p u s) conflicts allowed is = absurd is
+allowed-budget (Wanted.Check f l) conflicts allowed is = absurd is
+allowed-budget (Wanted.Generate number most eprime param) conflicts allowed is = subst (λ (n : ℕ). 1 ≤ n) (sym is) allowed.0
+
+allowed-texts : (wanted : Wanted) → IsAllowed wanted → HasTexts wanted
+allowed-texts (Wanted.Search m p u request o) allowed = tt
+allowed-texts (Wanted.Verify m p u s) allowed = tt
+allowed-texts (Wanted.Check f l) allowed = tt
+allowed-texts (Wanted.Generate number conflicts eprime param) allowed = allowed.1
 
 -- words that want a search allow it a conflict
-pub wants-budget : (words : List (List ℕ)) (model : List ℕ) (params : Option (List ℕ)) (mode : Mode) (request : Request) (outputs : Outputs) → Want words (Wanted.Search model params mode request outputs) → 1 ≤ conflicts_of request
-wants-budget words model params mode request outputs want =
-    wanted-budget want.0 (job-budget want.1.settings want.0 want.1.asks) model params mode request outputs want.2
+pub wants-budget : (words : List (List ℕ)) (wanted : Wanted) (conflicts : ℕ) → Want words wanted → IsSearchFor wanted conflicts → 1 ≤ conflicts
+wants-budget words wanted conflicts want is = allowed-budget wanted conflicts (wants-allowed words wanted want) is
+
+-- a number that words want has texts
+pub wants-texts : (words : List (List ℕ)) (wanted : Wanted) → Want words wanted → HasTexts wanted
+wants-texts words wanted want = allowed-texts wanted (wants-allowed words wanted want)

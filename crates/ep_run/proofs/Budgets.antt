@@ -1,17 +1,15 @@
 -- What a spent budget tells of the log.
-use Rattle.std.proofs.Common.{◌≡◌, ◌≢◌, ℕ, ◌<◌, ◌≤◌, ◌^◌, List, [], ◌∷◌, ◌++◌, length, Option, sym, subst, refl, arith, append_assoc}
+use Rattle.std.proofs.Common.{◌≡◌, ◌∙◌, ◌≢◌, ℕ, ◌<◌, ◌≤◌, ◌^◌, List, [], ◌∷◌, ◌++◌, length, Option, sym, subst, refl, arith, append_assoc}
 use Rattle.std.proofs.lemmas.List.{append-nil}
 use Rattle.std.proofs.lemmas.List.Elements.{All-head, All-tail}
 use Rattle.cnf_core.specs.Literal.{Literal}
 use Rattle.cnf_core.specs.Events.{EachStep, LogEvent, LogState, clauses_of, given, nonempty_steps, step}
 use Rattle.cnf_core.specs.Steps.{GivensNameOnly, IsEffectiveStep, IsValidStep, NonEmptyStepsAreEffective, NonEmptyStepsAreNew}
-use Rattle.ep_tree.specs.declared.values.Mode.{Mode}
 use Rattle.ep_run.specs.Budgets.{IsBelowPower, MeetsConflict, before_steps}
-use Rattle.ep_run.specs.Commands.{Want, conflicts_of}
+use Rattle.ep_run.specs.Commands.{Want}
+use Rattle.ep_run.specs.Searches.{IsSearchFor}
 use Rattle.ep_solve.specs.Right.{IsSpent}
 use Rattle.sat_search.specs.Logs.{NoneIsEmpty}
-use Rattle.ep_run.specs.declared.wanted.Outputs.{Outputs}
-use Rattle.ep_run.specs.declared.wanted.Request.{Request}
 use Rattle.ep_run.specs.declared.wanted.Wanted.{Wanted}
 use Rattle.ep_run.proofs.Allowed.{wants-budget}
 use Rattle.ep_run.proofs.Once.{WantOne}
@@ -44,21 +42,28 @@ first-effective earlier (step (l ∷ clause) hints ∷ later) each filled some =
     (l ∷ clause, subst P (sym (append-nil earlier)) (each.0 (omega arith)))
 
 -- where a search spends its budget, unit propagation on what is given before the first step meets no conflict
-no-conflict : NoneAfterConflict → (words : List (List ℕ)) (model : List ℕ) (params : Option (List ℕ)) (mode : Mode) (request : Request) (outputs : Outputs) (events : List LogEvent) → Want words (Wanted.Search model params mode request outputs) → NonEmptyStepsAreEffective events → IsSpent (conflicts_of request) events → ¬ MeetsConflict (before_steps events)
-no-conflict none words model params mode request outputs events want effective spent = λ conflict.
-    let some = wants-budget words model params mode request outputs want in
+no-conflict : NoneAfterConflict → (words : List (List ℕ)) (wanted : Wanted) (conflicts : ℕ) (events : List LogEvent) → Want words wanted → IsSearchFor wanted conflicts → NonEmptyStepsAreEffective events → IsSpent conflicts events → ¬ MeetsConflict (before_steps events)
+no-conflict none words wanted conflicts events want is effective spent = λ conflict.
+    let some = wants-budget words wanted conflicts want is in
     let first = first-effective [] events effective spent.1 (omega (arith, some, spent.0)) in
     none (before_steps events) first.0 conflict.0 conflict.1 first.1
 
+-- a search that is wanted has one budget
+one-budget : (wanted : Wanted) (m n : ℕ) → IsSearchFor wanted m → IsSearchFor wanted n → m ≡ n
+one-budget (Wanted.Search model params mode request output) m n g h = g ∙ sym h
+one-budget (Wanted.Verify model params mode solution) m n g h = absurd g
+one-budget (Wanted.Check formula proof) m n g h = absurd g
+one-budget (Wanted.Generate number most eprime param) m n g h = g ∙ sym h
+
 -- ---- the words and the log of a run
 
-pub below-said : FewSteps → (words : List (List ℕ)) (log : LogState) → WantOne words → NonEmptyStepsAreNew log.events → Spends words log → (model : List ℕ) (params : Option (List ℕ)) (mode : Mode) (request : Request) (outputs : Outputs) → Want words (Wanted.Search model params mode request outputs) → IsBelowPower (conflicts_of request) log.events
-below-said few words log one new spends model params mode request outputs want =
-    let both = one (Wanted.Search spends.0 spends.1 spends.2 spends.3 spends.4) (Wanted.Search model params mode request outputs) spends.5 want in
-    let same : spends.3 ≡ request = cc in
-    let P : Request → Type 0 = λ r. IsBelowPower (conflicts_of r) log.events in
-    subst P same (below-power few (conflicts_of spends.3) log.events new spends.6)
+pub below-said : FewSteps → (words : List (List ℕ)) (log : LogState) → WantOne words → NonEmptyStepsAreNew log.events → Spends words log → (wanted : Wanted) (conflicts : ℕ) → Want words wanted → IsSearchFor wanted conflicts → IsBelowPower conflicts log.events
+below-said few words log one new spends wanted conflicts want is =
+    let both : spends.0 ≡ wanted = one spends.0 wanted spends.2 want in
+    let same : spends.1 ≡ conflicts = one-budget wanted spends.1 conflicts (subst (λ (w : Wanted). IsSearchFor w spends.1) both spends.3) is in
+    let P : ℕ → Type 0 = λ n. IsBelowPower n log.events in
+    subst P same (below-power few spends.1 log.events new spends.4)
 
 pub unforced-said : NoneAfterConflict → (words : List (List ℕ)) (log : LogState) → NonEmptyStepsAreEffective log.events → Spends words log → ¬ MeetsConflict (before_steps log.events)
 unforced-said none words log effective spends =
-    no-conflict none words spends.0 spends.1 spends.2 spends.3 spends.4 log.events spends.5 effective spends.6
+    no-conflict none words spends.0 spends.1 log.events spends.2 spends.3 effective spends.4

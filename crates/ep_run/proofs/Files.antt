@@ -4,8 +4,8 @@ use Rattle.std.proofs.lemmas.List.Elements.{All-append, All-cons, All-nil}
 use Rattle.std.proofs.lemmas.Slice.Eq.{bytes_eq-Decides}
 use Rattle.cnf_core.specs.Events.{LogState}
 use Rattle.ep_base.specs.Outside.{Held, with_bytes}
-use Rattle.ep_run.specs.Commands.{Want, outputs_of}
-use Rattle.ep_run.specs.Outputs.{AreWritten, Content, HasOutput, HoldsText, IsFormulaText, IsStepsText, IsTextOf, Output, a_formula, an_answer, in_order, named, steps}
+use Rattle.ep_run.specs.Commands.{Want}
+use Rattle.ep_run.specs.Outputs.{AreWritten, Content, HasOutput, HoldsText, IsFormulaText, IsStepsText, IsTextOf, Output, a_formula, an_answer, in_order, named, steps, written_for}
 use Rattle.ep_run.specs.declared.wanted.Outputs.{Outputs}
 use Rattle.ep_run.specs.declared.wanted.Request.{Request}
 use Rattle.ep_run.specs.declared.wanted.Wanted.{Wanted}
@@ -57,16 +57,16 @@ log-holds log answer o name before after is solution-other h =
     let mine : W (Some name) = subst W is behind.1 in
     first-holds log answer (record { content = steps; name = name }) rest behind.0 after (others-named an_answer o.solution name solution-other) mine
 
-abbrev written-of : (words : List (List ℕ)) (wanted : Wanted) (text : List ℕ) (log : LogState) (before after : Option Held) → WantOne words → Want words wanted → HasOutput words text log before after → AreWritten log text (in_order (outputs_of wanted)) before after
+abbrev written-of : (words : List (List ℕ)) (wanted : Wanted) (text : List ℕ) (log : LogState) (before after : Option Held) → WantOne words → Want words wanted → HasOutput words text log before after → AreWritten log text (written_for wanted) before after
 written-of words wanted text log before after one want h =
-    subst (λ (w : Wanted). AreWritten log text (in_order (outputs_of w)) before after) (one h.0 wanted h.1 want) h.2
+    subst (λ (w : Wanted). AreWritten log text (written_for w) before after) (one h.0 wanted h.1 want) h.2
 
 pub formula-stands : (words : List (List ℕ)) (text : List ℕ) (log : LogState) (before after : Option Held) → WantOne words → HasOutput words text log before after → (model : List ℕ) (params : Option (List ℕ)) (mode : Mode) (request : Request) (outputs : Outputs) → Want words (Wanted.Search model params mode request outputs) → (name : List ℕ) → outputs.formula ≡ Some name → outputs.log ≢ Some name → outputs.solution ≢ Some name → HoldsText after name (IsFormulaText log)
-unfolding outputs_of
+unfolding written_for
 formula-stands words text log before after one h model params mode request outputs want name is log-other solution-other =
     formula-holds log text outputs name before after is log-other solution-other (written-of words (Wanted.Search model params mode request outputs) text log before after one want h)
 
 pub log-stands : (words : List (List ℕ)) (text : List ℕ) (log : LogState) (before after : Option Held) → WantOne words → HasOutput words text log before after → (model : List ℕ) (params : Option (List ℕ)) (mode : Mode) (request : Request) (outputs : Outputs) → Want words (Wanted.Search model params mode request outputs) → (name : List ℕ) → outputs.log ≡ Some name → outputs.solution ≢ Some name → HoldsText after name (IsStepsText log)
-unfolding outputs_of
+unfolding written_for
 log-stands words text log before after one h model params mode request outputs want name is solution-other =
     log-holds log text outputs name before after is solution-other (written-of words (Wanted.Search model params mode request outputs) text log before after one want h)

@@ -1,6 +1,7 @@
 mod Wanting
 mod Puts
 mod VectorsOutcomes
+mod VectorsSummaries
 mod Refusing
 mod FileReading
 mod Binding
@@ -13,6 +14,7 @@ mod Givens
 mod Promises
 mod OneReading
 mod Once
+mod ShownTexts
 mod Allowed
 mod Files
 mod Certified

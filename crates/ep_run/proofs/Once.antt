@@ -5,6 +5,8 @@ use Rattle.ep_solve.specs.Right.{empty_log}
 use Rattle.ep_base.specs.Outside.{Held}
 use Rattle.ep_print.specs.declared.refusals.Refusal.{Refusal}
 use Rattle.ep_print.specs.declared.refusals.TextFile.{TextFile}
+use Rattle.ep_tree.specs.declared.values.Mode.{Mode}
+use Rattle.ep_gen.specs.Texts.{generated_model, generated_params}
 use Rattle.ep_tree.specs.Statements.{TextTree}
 use Rattle.ep_tree.specs.Texts.{Answers as TextAnswers, TextAnswer}
 use Rattle.ep_words.specs.Commands.{IsCommand}
@@ -14,10 +16,11 @@ use Rattle.ep_run.specs.Commands.{IsJudgement, Want, wanted_of}
 use Rattle.ep_run.specs.Outcomes.{Outcome, Task, search_outcome, to_check, verify_outcome}
 use Rattle.ep_run.specs.Puts.{HoldOnWant}
 use Rattle.ep_run.specs.Readings.{AreParams, IsFormulaReadAs, IsHeldReadBy, IsProofReadAs, IsReadAs, IsReadBy, IsTextReadAs, ReadsTexts, spells_in, tree_or_refusal}
-use Rattle.ep_run.specs.Shown.{Ask, ComesTo, Refuse, Show, ThenShows, comes_to_check, comes_to_judge, comes_to_search, comes_to_verify}
+use Rattle.ep_run.specs.Shown.{Ask, ComesTo, Refuse, Show, ThenShows, comes_to_check, comes_to_judge, comes_to_parameters, comes_to_search, comes_to_verify}
 use Rattle.ep_run.specs.Status.{HasReply, status_of}
 use Rattle.ep_run.specs.Steps.{IsLogOf, LogsTask}
 use Rattle.ep_run.specs.declared.status.Status.{Status}
+use Rattle.ep_run.specs.declared.wanted.Request.{Request}
 use Rattle.ep_run.specs.declared.wanted.Wanted.{Wanted}
 use Rattle.ep_run.proofs.OneReading.{OneFormula, OneProof, formula-once, proof-once}
 use Rattle.ep_run.proofs.Promises.{ended-status, usage-told}
@@ -90,6 +93,11 @@ comes-once texts (Wanted.Check formula proof) held a b g h =
     then-once (IsReadBy IsFormulaReadAs held formula) (λ clauses. comes_to_check proof clauses held) (file-once IsFormulaReadAs (formula-once texts.formula) formula held)
     (λ clauses. then-once (IsReadBy IsProofReadAs held proof) (λ lines outcome. outcome ≡ Ok (to_check clauses lines)) (file-once IsProofReadAs (proof-once texts.proof) proof held)
     (λ lines x y e f. e ∙ sym f))
+    a b g h
+comes-once texts (Wanted.Generate number conflicts eprime param) held a b g h =
+    then-once (IsTextReadAs TextFile.Model generated_model) (λ m. comes_to_parameters number conflicts m) (tree-once TextFile.Model texts.model generated_model)
+    (λ m. then-once (IsTextReadAs TextFile.Params (generated_params number)) (λ p outcome. outcome ≡ search_outcome Mode.Relational (Request.Generated number conflicts) m p)
+    (tree-once TextFile.Params texts.params (generated_params number)) (λ p x y e f. e ∙ sym f))
     a b g h
 
 -- words want one thing alone
@@ -200,6 +208,7 @@ logs-nothing : (wanted : Wanted) (log : LogState) → IsJudgement wanted → IsL
 logs-nothing (Wanted.Search m p u request outputs) log judged logs = absurd judged
 logs-nothing (Wanted.Verify m p u s) log judged logs = logs
 logs-nothing (Wanted.Check formula proof) log judged logs = logs
+logs-nothing (Wanted.Generate number conflicts eprime param) log judged logs = absurd judged
 
 judged-logs : (words : List (List ℕ)) (one other : Wanted) (log : LogState) → WantOne words → Want words one → IsLogOf one log → Want words other → IsJudgement other → log ≡ empty_log
 judged-logs words one other log once want logs also judged =

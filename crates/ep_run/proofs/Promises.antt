@@ -7,18 +7,16 @@ use Rattle.ep_solve.specs.Right.{IsSpent, empty_log}
 use Rattle.ep_base.specs.Outside.{Held, SameElsewhere, TookPart, with_bytes, with_more}
 use Rattle.ep_print.specs.Refusals.{refusal_text}
 use Rattle.ep_print.specs.declared.refusals.Refusal.{Refusal}
-use Rattle.ep_tree.specs.declared.values.Mode.{Mode}
 use Rattle.ep_run.specs.Answers.{Answers}
-use Rattle.ep_run.specs.Commands.{AreNoCommand, IsJudgement, Want, conflicts_of, no_outputs, outputs_of}
+use Rattle.ep_run.specs.Commands.{AreNoCommand, IsJudgement, Want, conflicts_of}
 use Rattle.ep_run.specs.Outcomes.{Task}
-use Rattle.ep_run.specs.Outputs.{HasOutput, IsOutput, SameButOutput, in_order}
+use Rattle.ep_run.specs.Outputs.{HasOutput, IsOutput, SameButOutput, written_for}
 use Rattle.ep_run.specs.Puts.{HoldOnWant, IsDeviceLine, IsFailedRead, IsFailedWrite, IsShownText, MayBePut, TookFirst, read_line}
+use Rattle.ep_run.specs.Searches.{IsSearchFor}
 use Rattle.ep_run.specs.Shown.{Ask, Refuse, Refuses}
 use Rattle.ep_run.specs.Status.{HasReply, status_of}
 use Rattle.ep_run.specs.Steps.{IsEnd, IsOfText}
 use Rattle.ep_run.specs.declared.status.Status.{Status}
-use Rattle.ep_run.specs.declared.wanted.Outputs.{Outputs}
-use Rattle.ep_run.specs.declared.wanted.Request.{Request}
 use Rattle.ep_run.specs.declared.wanted.Wanted.{Wanted}
 use Rattle.ep_run.proofs.Refusing.{contains-first}
 use Rattle.ep_run.proofs.Written.{failed-same, nothing-written, outputs-named, partly-same, same-self, written-same}
@@ -43,6 +41,7 @@ kind-end : (wanted : Wanted) (s : Status) (log : LogState) → IsEnd wanted s lo
 kind-end (Wanted.Search _ _ _ _ _) s log h = elim h.1 [ inl e ↦ ap kind e | inr e ↦ ap kind e.0 ]
 kind-end (Wanted.Verify _ _ _ _) s log h = elim h.1 [ inl e ↦ ap kind e | inr e ↦ ap kind e ]
 kind-end (Wanted.Check _ _) s log h = elim h.1 [ inl e ↦ ap kind e | inr e ↦ ap kind e ]
+kind-end (Wanted.Generate _ _ _ _) s log h = elim h.1 [ inl e ↦ ap kind e | inr e ↦ ap kind e.0 ]
 
 kind-text : (r : Refusal) (s : Status) → s ≡ status_of r → IsOfText r → kind s ≡ 2
 kind-text r s e h = elim h [ inl f ↦ ap kind (e ∙ f) | inr f ↦ ap kind (e ∙ f) ]
@@ -65,6 +64,7 @@ pub ended-status : (wanted : Wanted) (s : Status) (log : LogState) → IsEnd wan
 ended-status (Wanted.Search _ _ _ _ _) s log h = elim h.1 [ inl e ↦ inl e | inr e ↦ inr (inl e.0) ]
 ended-status (Wanted.Verify _ _ _ _) s log h = elim h.1 [ inl e ↦ inl e | inr e ↦ inr (inr e) ]
 ended-status (Wanted.Check _ _) s log h = elim h.1 [ inl e ↦ inl e | inr e ↦ inr (inr e) ]
+ended-status (Wanted.Generate _ _ _ _) s log h = elim h.1 [ inl e ↦ inl e | inr e ↦ inr (inl e.0) ]
 
 -- ---- the clauses
 
@@ -100,11 +100,12 @@ when-written words told after rose status text log (unwritten name s t sound wan
 abbrev pub Judges : List (List ℕ) → Type 0
 Judges words = (wanted : Wanted) × Want words wanted × IsJudgement wanted
 
-wants-judgement : (words : List (List ℕ)) (wanted : Wanted) (status : Status) (log : LogState) → Want words wanted → IsEnd wanted status log → status ≡ Status.Refuted → Judges words × (log ≡ empty_log) × (outputs_of wanted ≡ no_outputs)
-unfolding outputs_of
+wants-judgement : (words : List (List ℕ)) (wanted : Wanted) (status : Status) (log : LogState) → Want words wanted → IsEnd wanted status log → status ≡ Status.Refuted → Judges words × (log ≡ empty_log) × (written_for wanted ≡ [])
+unfolding written_for
 wants-judgement words (Wanted.Search model params mode request outputs) status log want ends e = elim ends.1 [ inl f ↦ let g = sym f ∙ e in absurd cc | inr f ↦ let g = sym f.0 ∙ e in absurd cc ]
 wants-judgement words (Wanted.Verify model params mode solution) status log want ends e = ((Wanted.Verify model params mode solution, want, tt), ends.0, refl)
 wants-judgement words (Wanted.Check formula proof) status log want ends e = ((Wanted.Check formula proof, want, tt), ends.0, refl)
+wants-judgement words (Wanted.Generate number conflicts eprime param) status log want ends e = elim ends.1 [ inl f ↦ let g = sym f ∙ e in absurd cc | inr f ↦ let g = sym f.0 ∙ e in absurd cc ]
 
 pub when-refuted : (words : List (List ℕ)) (told after : Option Held) (rose : Type 0) (status : Status) (text : List ℕ) (log : LogState) → Case words told after rose status text log → status ≡ Status.Refuted → Judges words
 when-refuted words told after rose status text log (no_command s t nothing kept none) h = apart status 0 1 (ap kind h) (ap kind s) (λ e. cc)
@@ -187,15 +188,16 @@ may-be-put words told after rose status text log (unread name s t nothing kept f
     ]
 may-be-put words told after rose status text log (unwritten name s t sound wanted want logs failed) = inr (failed.0, inr (name, failed, t))
 
--- that a search goes on in a model, and so many steps are logged
+-- that a search is wanted, and so many steps are logged
 abbrev pub Spends : List (List ℕ) → LogState → Type 0
 Spends words log =
-    (model : List ℕ) × (params : Option (List ℕ)) × (mode : Mode) × (request : Request) × (outputs : Outputs) × Want words (Wanted.Search model params mode request outputs) × IsSpent (conflicts_of request) log.events
+    (wanted : Wanted) × (conflicts : ℕ) × Want words wanted × IsSearchFor wanted conflicts × IsSpent conflicts log.events
 
 wants-search : (words : List (List ℕ)) (wanted : Wanted) (status : Status) (log : LogState) → Want words wanted → IsEnd wanted status log → status ≡ Status.Unknown → Spends words log
-wants-search words (Wanted.Search model params mode request outputs) status log want ends e = elim ends.1 [ inl f ↦ let g = sym f ∙ e in absurd cc | inr f ↦ (model, params, mode, request, outputs, want, f.1) ]
+wants-search words (Wanted.Search model params mode request output) status log want ends e = elim ends.1 [ inl f ↦ let g = sym f ∙ e in absurd cc | inr f ↦ (Wanted.Search model params mode request output, conflicts_of request, want, refl, f.1) ]
 wants-search words (Wanted.Verify model params mode solution) status log want ends e = elim ends.1 [ inl f ↦ let g = sym f ∙ e in absurd cc | inr f ↦ let g = sym f ∙ e in absurd cc ]
 wants-search words (Wanted.Check formula proof) status log want ends e = elim ends.1 [ inl f ↦ let g = sym f ∙ e in absurd cc | inr f ↦ let g = sym f ∙ e in absurd cc ]
+wants-search words (Wanted.Generate number conflicts eprime param) status log want ends e = elim ends.1 [ inl f ↦ let g = sym f ∙ e in absurd cc | inr f ↦ (Wanted.Generate number conflicts eprime param, conflicts, want, refl, f.1) ]
 
 -- the budget is spent where a search goes on
 pub when-unknown : (words : List (List ℕ)) (told after : Option Held) (rose : Type 0) (status : Status) (text : List ℕ) (log : LogState) → Case words told after rose status text log → status ≡ Status.Unknown → Spends words log
@@ -263,12 +265,12 @@ kept-others words told after kept = subst (SameButOutput words told) (sym kept) 
 
 failed-others : (words : List (List ℕ)) (told after : Option Held) (rose : Type 0) (log : LogState) (name : List ℕ) → IsFailedWrite words told after rose log name → SameButOutput words told after
 failed-others words told after rose log name h =
-    failed-same (IsOutput words) log h.3 (in_order (outputs_of h.1)) told after name (outputs-named words h.1 h.2) h.4
+    failed-same (IsOutput words) log h.3 (written_for h.1) told after name (outputs-named words h.1 h.2) h.4
 
 -- every file but those that are named for output holds what it held
 pub when-others : (words : List (List ℕ)) (told after : Option Held) (rose : Type 0) (status : Status) (text : List ℕ) (log : LogState) → Case words told after rose status text log → SameButOutput words told after
 when-others words told after rose status text log (no_command s t nothing kept none) = kept-others words told after kept
-when-others words told after rose status text log (answer wanted want ends shown put) = written-same (IsOutput words) log text (in_order (outputs_of wanted)) told after (outputs-named words wanted want) put
+when-others words told after rose status text log (answer wanted want ends shown put) = written-same (IsOutput words) log text (written_for wanted) told after (outputs-named words wanted want) put
 when-others words told after rose status text log (faulty wanted want r s t nothing kept of_text shown) = kept-others words told after kept
 when-others words told after rose status text log (unread name s t nothing kept failed why) = kept-others words told after kept
 when-others words told after rose status text log (unwritten name s t sound wanted want logs failed) = failed-others words told after rose log name failed
@@ -278,7 +280,7 @@ want-others words told after rose log h =
     elim h [
       | inl kept ↦ kept-others words told after kept
       | inr some ↦ elim some [
-        | inl partly ↦ partly-same (IsOutput words) log partly.2 (in_order (outputs_of partly.0)) told after (outputs-named words partly.0 partly.1) partly.3
+        | inl partly ↦ partly-same (IsOutput words) log partly.2 (written_for partly.0) told after (outputs-named words partly.0 partly.1) partly.3
         | inr failed ↦ failed-others words told after rose log failed.0 failed.1
       ]
     ]

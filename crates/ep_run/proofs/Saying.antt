@@ -7,10 +7,9 @@ use Rattle.ep_print.specs.declared.refusals.Refusal.{Refusal}
 use Rattle.sat_search.specs.Logs.{IsSound}
 use Rattle.ep_solve.specs.Right.{empty_log}
 use Rattle.ep_run.specs.Answers.{Answers}
-use Rattle.ep_run.specs.Commands.{AreNoCommand, Want, files_of, outputs_of}
+use Rattle.ep_run.specs.Commands.{AreNoCommand, Want, files_of}
 use Rattle.ep_run.specs.Outcomes.{Task}
-use Rattle.ep_run.specs.Outputs.{AreWritten, ArePartlyWritten, FailsAt, in_order}
-use Rattle.ep_run.specs.declared.wanted.Outputs.{Outputs}
+use Rattle.ep_run.specs.Outputs.{AreWritten, ArePartlyWritten, FailsAt, Output, written_for}
 use Rattle.ep_run.specs.Puts.{HoldOnWant, IsAnsweredBy, IsFailedRead, IsFailedWrite, read_line, write_line}
 use Rattle.ep_run.specs.Shown.{Ask, ComesTo, Refuse}
 use Rattle.ep_run.specs.Status.{status_of}
@@ -33,16 +32,19 @@ pub end-sound : (wanted : Wanted) (status : Status) (log : LogState) → IsEnd w
 end-sound (Wanted.Search _ _ _ _ _) status log h = h.0
 end-sound (Wanted.Verify _ _ _ _) status log h = nothing-sound log h.0
 end-sound (Wanted.Check _ _) status log h = nothing-sound log h.0
+end-sound (Wanted.Generate _ _ _ _) status log h = h.0
 
 pub end-logs : (wanted : Wanted) (status : Status) (log : LogState) → IsEnd wanted status log → IsLogOf wanted log
 end-logs (Wanted.Search _ _ _ _ _) status log h = tt
 end-logs (Wanted.Verify _ _ _ _) status log h = h.0
 end-logs (Wanted.Check _ _) status log h = h.0
+end-logs (Wanted.Generate _ _ _ _) status log h = tt
 
 pub nothing-logs : (wanted : Wanted) (log : LogState) → log ≡ empty_log → IsLogOf wanted log
 nothing-logs (Wanted.Search _ _ _ _ _) log e = tt
 nothing-logs (Wanted.Verify _ _ _ _) log e = e
 nothing-logs (Wanted.Check _ _) log e = e
+nothing-logs (Wanted.Generate _ _ _ _) log e = tt
 
 -- ---- from what is wanted to the words
 
@@ -68,12 +70,12 @@ has-answer wanted None status text log h = tt
 has-answer wanted (Some held) status text log h = (h.0, status, h.1, h.2)
 
 -- the answer is there, and a file can't be written, or memory is wanting for one
-pub unwritten-run : (V : Type 0) (words : List (List ℕ)) (wanted : Wanted) (outputs : Outputs) (told between after : Option Held) (rose rose-now : Type 0) (status : Status) (text : List ℕ) (log : LogState) (stop : Stop) → Want words wanted
-    → outputs ≡ outputs_of wanted → between ≡ told → (rose-now → rose) → IsEnd wanted status log → IsAnswer (ComesTo wanted) told status text log
-    → TellsWritten {V = V} log text (in_order outputs) between after rose-now (Err stop) → TellsRun words told after rose log (Err stop)
+pub unwritten-run : (V : Type 0) (words : List (List ℕ)) (wanted : Wanted) (outputs : List Output) (told between after : Option Held) (rose rose-now : Type 0) (status : Status) (text : List ℕ) (log : LogState) (stop : Stop) → Want words wanted
+    → outputs ≡ written_for wanted → between ≡ told → (rose-now → rose) → IsEnd wanted status log → IsAnswer (ComesTo wanted) told status text log
+    → TellsWritten {V = V} log text outputs between after rose-now (Err stop) → TellsRun words told after rose log (Err stop)
 unwritten-run V words wanted outputs told between after rose rose-now status text log (Stop.Refused r) want named kept rises ends shown h =
-    let F : Outputs → Type 0 = λ o. FailsAt log text (in_order o) between after h.1 in
-    let fails : FailsAt log text (in_order (outputs_of wanted)) between after h.1 = subst F named h.3 in
+    let F : List Output → Type 0 = λ o. FailsAt log text o between after h.1 in
+    let fails : FailsAt log text (written_for wanted) between after h.1 = subst F named h.3 in
     inr (
       wanted,
       want,
@@ -82,29 +84,29 @@ unwritten-run V words wanted outputs told between after rose rose-now status tex
         h.1,
         text,
         h.2,
-        subst (λ (t : Option Held). FailsAt log text (in_order (outputs_of wanted)) t after h.1) kept fails,
+        subst (λ (t : Option Held). FailsAt log text (written_for wanted) t after h.1) kept fails,
         end-sound wanted status log ends,
         end-logs wanted status log ends,
         has-answer wanted told status text log shown,
       ),
     )
 unwritten-run V words wanted outputs told between after rose rose-now status text log Stop.Memory want named kept rises ends shown h =
-    let F : Outputs → Type 0 = λ o. ArePartlyWritten log text (in_order o) between after in
-    let partly : ArePartlyWritten log text (in_order (outputs_of wanted)) between after = subst F named h in (
+    let F : List Output → Type 0 = λ o. ArePartlyWritten log text o between after in
+    let partly : ArePartlyWritten log text (written_for wanted) between after = subst F named h in (
       end-sound wanted status log ends,
-      inr (wanted, want, (text, subst (λ (t : Option Held). ArePartlyWritten log text (in_order (outputs_of wanted)) t after) kept partly, has-answer wanted told status text log shown)),
+      inr (wanted, want, (text, subst (λ (t : Option Held). ArePartlyWritten log text (written_for wanted) t after) kept partly, has-answer wanted told status text log shown)),
       inr (wanted, want, end-logs wanted status log ends, asked-of wanted told status text log shown),
     )
 
 -- the answer is there, and its files are written
-pub answered-run : (V : Type 0) (words : List (List ℕ)) (wanted : Wanted) (outputs : Outputs) (told between after : Option Held) (rose rose-now : Type 0) (log : LogState) (reply : Reply) (x : V) → Want words wanted
-    → outputs ≡ outputs_of wanted → between ≡ told → IsEnd wanted reply.status log → IsAnswer (ComesTo wanted) told reply.status reply.text.items log
-    → TellsWritten {V = V} log reply.text.items (in_order outputs) between after rose-now (Ok x) → TellsRun words told after rose log (Ok reply)
+pub answered-run : (V : Type 0) (words : List (List ℕ)) (wanted : Wanted) (outputs : List Output) (told between after : Option Held) (rose rose-now : Type 0) (log : LogState) (reply : Reply) (x : V) → Want words wanted
+    → outputs ≡ written_for wanted → between ≡ told → IsEnd wanted reply.status log → IsAnswer (ComesTo wanted) told reply.status reply.text.items log
+    → TellsWritten {V = V} log reply.text.items outputs between after rose-now (Ok x) → TellsRun words told after rose log (Ok reply)
 answered-run V words wanted outputs told between after rose rose-now log reply x want named kept ends shown h =
     let text : List ℕ = reply.text.items in
-    let W : Outputs → Type 0 = λ o. AreWritten log text (in_order o) between after in
-    let written : AreWritten log text (in_order (outputs_of wanted)) between after = subst W named h in
-    (wanted, want, (ends, shown, subst (λ (t : Option Held). AreWritten log text (in_order (outputs_of wanted)) t after) kept written))
+    let W : List Output → Type 0 = λ o. AreWritten log text o between after in
+    let written : AreWritten log text (written_for wanted) between after = subst W named h in
+    (wanted, want, (ends, shown, subst (λ (t : Option Held). AreWritten log text (written_for wanted) t after) kept written))
 
 refused-sound : (wanted : Wanted) (told after : Option Held) (rose : Type 0) (log : LogState) (r : Refusal) → IsRefused wanted told after rose log r → IsSound log.events
 refused-sound wanted told after rose log r h = elim h [ inl shown ↦ nothing-sound log shown.0 | inr unwritten ↦ unwritten.5 ]
@@ -213,7 +215,7 @@ no-command-shown words held none = (Refusal.Usage ∷ [], inl (none, refl), cont
 -- written. Nothing is logged but with an answer, and no file is changed but those that are named for output.
 pub data Case (words : List (List ℕ)) (told after : Option Held) (rose : Type 0) (status : Status) (text : List ℕ) (log : LogState) : Type 0 where
   no_command : status ≡ Status.Usage → text ≡ refusal_text Refusal.Usage → log ≡ empty_log → after ≡ told → AreNoCommand words → Case words told after rose status text log
-  answer : (wanted : Wanted) → Want words wanted → IsEnd wanted status log → IfSome told (λ held. (task : Task) × Ask words held task × Answers task status text log) → AreWritten log text (in_order (outputs_of wanted)) told after → Case words told after rose status text log
+  answer : (wanted : Wanted) → Want words wanted → IsEnd wanted status log → IfSome told (λ held. (task : Task) × Ask words held task × Answers task status text log) → AreWritten log text (written_for wanted) told after → Case words told after rose status text log
   faulty : (wanted : Wanted) → Want words wanted → (r : Refusal) → status ≡ status_of r → text ≡ refusal_text r → log ≡ empty_log → after ≡ told → IsOfText r → IfSome told (λ held. Refuse words held r) → Case words told after rose status text log
   unread : (name : List ℕ) → status ≡ Status.Device → text ≡ read_line name → log ≡ empty_log → after ≡ told → IsFailedRead words told name → rose ⊎ IsSomeAnd told (λ held. Refuse words held (Refusal.CannotRead name)) → Case words told after rose status text log
   unwritten : (name : List ℕ) → status ≡ Status.Device → text ≡ write_line name → IsSound log.events → (wanted : Wanted) → Want words wanted → IsLogOf wanted log → IsFailedWrite words told after rose log name → Case words told after rose status text log

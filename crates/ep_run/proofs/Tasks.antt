@@ -15,8 +15,9 @@ use Rattle.ep_solve.specs.Listed.{EndsRightly, Lists}
 use Rattle.ep_solve.specs.Logged.{IsLogged, ShowsAnswer}
 use Rattle.ep_solve.specs.Right.{IsRight, IsSpent}
 use Rattle.ep_run.specs.Answers.{Answers, answer_status, judgement_status, listing_status}
-use Rattle.ep_run.specs.Outcomes.{and_then, bind_refusals, bound_outcome, fault_refusals, instance_of, judge_outcome, search_outcome, task_of, to_judge, to_list, to_solve, verify_outcome}
+use Rattle.ep_run.specs.Outcomes.{and_then, bind_refusals, bound_outcome, fault_refusals, instance_of, judge_outcome, search_outcome, task_of, to_generate, to_judge, to_list, to_solve, verify_outcome}
 use Rattle.ep_run.specs.Steps.{IsAmong, IsSearched, shape_outcome}
+use Rattle.ep_run.specs.Summaries.{summary_text}
 use Rattle.ep_run.specs.declared.status.Status.{Status}
 use Rattle.ep_run.specs.declared.wanted.Request.{Request}
 use Rattle.ep_run.proofs.Refusing.{among-first, among-later, among-next, among-then, none-refused, then-next}
@@ -168,3 +169,8 @@ pub listed : (mode : Mode) (i : Instance) (most conflicts : ℕ) (status : Statu
     → status ≡ listing_status listing.ending → text ≡ listing_text listing → Answers (to_list mode i most conflicts) status text log
 unfolding Answers
 listed mode i most conflicts status text log listing lists ended said = (listing, lists, ended, said)
+
+pub summed : (number : ℕ) (mode : Mode) (i : Instance) (conflicts : ℕ) (status : Status) (text : List ℕ) (log : LogState) (answer : AnswerTree) → IsRight mode i conflicts answer → IsLogged mode i conflicts log answer
+    → status ≡ answer_status answer → text ≡ summary_text number answer → Answers (to_generate number mode i conflicts) status text log
+unfolding Answers
+summed number mode i conflicts status text log answer right logged ended said = (answer, right, logged, ended, said)

@@ -4,11 +4,11 @@ use Rattle.std.proofs.lemmas.List.Elements.{All-append, All-cons, All-head, All-
 use Rattle.std.proofs.lemmas.Slice.Eq.{bytes_eq-Decides}
 use Rattle.cnf_core.specs.Events.{LogState}
 use Rattle.ep_base.specs.Outside.{Held, SameElsewhere, with_bytes}
-use Rattle.ep_run.specs.Commands.{Want, no_outputs, outputs_of}
-use Rattle.ep_run.specs.Outputs.{ArePartlyWritten, AreWritten, Content, FailsAt, IsNamed, IsOutput, IsTextOf, Output, SameBut, a_formula, an_answer, in_order, named, steps}
+use Rattle.ep_gen.specs.Texts.{generated_model, generated_params}
+use Rattle.ep_run.specs.Commands.{Want}
+use Rattle.ep_run.specs.Outputs.{ArePartlyWritten, AreWritten, Content, FailsAt, IsOutput, IsTextOf, Output, SameBut, a_formula, a_text, an_answer, for_texts, in_order, named, steps, written_for}
 use Rattle.ep_run.specs.Steps.{TellsWrite, TellsWritten}
 use Rattle.ep_run.specs.declared.stops.Stop.{Stop}
-use Rattle.ep_run.specs.declared.wanted.Outputs.{Outputs}
 use Rattle.ep_run.specs.declared.wanted.Wanted.{Wanted}
 
 -- ---- some files, and others behind them
@@ -109,11 +109,10 @@ pub none-made : (V : Type 0) (log : LogState) (answer : List ℕ) (outputs : Lis
 none-made V log answer outputs told rose = record { made = []; rest = outputs; cut = refl; written = refl }
 
 -- nothing is written where nothing is named
-pub nothing-written : (log : LogState) (answer : List ℕ) (wanted : Wanted) (told after : Option Held) → outputs_of wanted ≡ no_outputs → AreWritten log answer (in_order (outputs_of wanted)) told after → after ≡ told
-unfolding in_order named
+pub nothing-written : (log : LogState) (answer : List ℕ) (wanted : Wanted) (told after : Option Held) → written_for wanted ≡ [] → AreWritten log answer (written_for wanted) told after → after ≡ told
 nothing-written log answer wanted told after e h =
-    let P : Outputs → Type 0 = λ o. AreWritten log answer (in_order o) told after in
-    let none : AreWritten log answer (in_order no_outputs) told after = subst P e h in
+    let P : List Output → Type 0 = λ os. AreWritten log answer os told after in
+    let none : AreWritten log answer [] told after = subst P e h in
     none
 
 -- ---- every other file
@@ -182,13 +181,21 @@ unfolding named
 named-all P content None all = All-nil (λ (x : Output). P x.name)
 named-all P content (Some name) all = All-cons (λ (x : Output). P x.name) (record { content = content; name = name }) [] (all name refl) (All-nil (λ (x : Output). P x.name))
 
-pub outputs-named : (words : List (List ℕ)) (wanted : Wanted) → Want words wanted → AllNamed (IsOutput words) (in_order (outputs_of wanted))
-unfolding in_order
-outputs-named words wanted want =
-    let o : Outputs = outputs_of wanted in
+pub outputs-named : (words : List (List ℕ)) (wanted : Wanted) → Want words wanted → AllNamed (IsOutput words) (written_for wanted)
+unfolding for_texts in_order written_for
+outputs-named words (Wanted.Search model params mode request o) want =
+    let wanted : Wanted = Wanted.Search model params mode request o in
     let P : Output → Type 0 = λ x. IsOutput words x.name in
     All-append P (named a_formula o.formula) (named steps o.log ++ named an_answer o.solution)
     (named-all (IsOutput words) a_formula o.formula (λ name e. (wanted, want, inl e)))
     (All-append P (named steps o.log) (named an_answer o.solution)
     (named-all (IsOutput words) steps o.log (λ name e. (wanted, want, inr (inl e))))
     (named-all (IsOutput words) an_answer o.solution (λ name e. (wanted, want, inr (inr e)))))
+outputs-named words (Wanted.Verify model params mode solution) want = All-nil (λ (x : Output). IsOutput words x.name)
+outputs-named words (Wanted.Check formula proof) want = All-nil (λ (x : Output). IsOutput words x.name)
+outputs-named words (Wanted.Generate number conflicts eprime param) want =
+    let wanted : Wanted = Wanted.Generate number conflicts eprime param in
+    let P : Output → Type 0 = λ x. IsOutput words x.name in
+    All-append P (named (a_text generated_model) eprime) (named (a_text (generated_params number)) param)
+    (named-all (IsOutput words) (a_text generated_model) eprime (λ name e. (wanted, want, inl e)))
+    (named-all (IsOutput words) (a_text (generated_params number)) param (λ name e. (wanted, want, inr e)))

@@ -1,8 +1,10 @@
 -- Which answers are right for a task, their texts, and what the log shows of them.
 use Rattle.std.specs.Prelude.{◌≡◌, ℕ, List, ◌++◌, codes, Some, None, Contains}
 use Rattle.std.specs.Fmt.{decimal, signed_decimal}
+use Rattle.ep_tree.specs.Binding.{Instance}
 use Rattle.ep_tree.specs.SolutionTexts.{fits, wrong_shape}
 use Rattle.ep_tree.specs.Solutions.{Fits, Found, Judgement, a_solution, goal_undefined, judgement, violates}
+use Rattle.ep_tree.specs.declared.values.Mode.{Mode}
 use Rattle.ep_print.specs.Answers.{AnswerTree, answer_text, unknown, unknown_with}
 use Rattle.ep_print.specs.Listings.{EndTree, ListingTree, complete, listing_text, spent, stopped}
 use Rattle.cnf_core.specs.Events.{LogState}
@@ -12,7 +14,8 @@ use Rattle.log_check.specs.declared.Verdict.TheVariants.{BadStep, NoEmptyClause,
 use Rattle.ep_solve.specs.Listed.{Lists}
 use Rattle.ep_solve.specs.Logged.{IsLogged}
 use Rattle.ep_solve.specs.Right.{IsRight}
-use Rattle.ep_run.specs.Outcomes.{Task, to_check, to_judge, to_list, to_solve}
+use Rattle.ep_run.specs.Outcomes.{Task, to_check, to_generate, to_judge, to_list, to_solve}
+use Rattle.ep_run.specs.Summaries.{summary_text}
 use Rattle.ep_run.specs.declared.status.Status.{Status}
 
 -- how a run ends that has an answer: with the end of its budget where nothing is known
@@ -56,11 +59,15 @@ verdict_text Verified = codes "$ verified\n"
 verdict_text (BadStep line) = codes "$ bad step " ++ (decimal line ++ codes "\n")
 verdict_text NoEmptyClause = codes "$ no empty clause\n"
 
+-- a status, a text and a log say which answer of an instance is right, where this is the text of an answer
+abbrev pub AnswersBy : (AnswerTree → List ℕ) → Mode → Instance → ℕ → Status → List ℕ → LogState → Type 0
+AnswersBy text_of mode i conflicts status text log =
+    (answer : AnswerTree) × IsRight mode i conflicts answer × IsLogged mode i conflicts log answer
+    × (status ≡ answer_status answer) × (text ≡ text_of answer)
+
 -- a status, a text and a log answer a task
 unfoldable pub Answers : Task → Status → List ℕ → LogState → Type 0
-Answers (to_solve mode i conflicts) status text log =
-    (answer : AnswerTree) × IsRight mode i conflicts answer × IsLogged mode i conflicts log answer
-    × (status ≡ answer_status answer) × (text ≡ answer_text answer)
+Answers (to_solve mode i conflicts) status text log = AnswersBy answer_text mode i conflicts status text log
 Answers (to_list mode i most conflicts) status text log =
     (listing : ListingTree) × Lists mode i conflicts most log listing
     × (status ≡ listing_status listing.ending) × (text ≡ listing_text listing)
@@ -72,3 +79,4 @@ Answers (to_judge mode i (wrong_shape names)) status text log =
     (name : List ℕ) × Contains names name × (status ≡ Status.Refuted) × (text ≡ wrong_shape_text name)
 Answers (to_check formula lines) status text log =
     (status ≡ verdict_status (verdict_of formula lines)) × (text ≡ verdict_text (verdict_of formula lines))
+Answers (to_generate number mode i conflicts) status text log = AnswersBy (summary_text number) mode i conflicts status text log

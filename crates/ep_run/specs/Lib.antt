@@ -1,9 +1,11 @@
 pub mod Status
 pub mod Commands
+pub mod Searches
 pub mod Outputs
 pub mod Readings
 pub mod Outcomes
 pub mod Shown
+pub mod Summaries
 pub mod Answers
 pub mod Budgets
 pub mod Puts

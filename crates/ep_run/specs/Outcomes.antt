@@ -74,17 +74,19 @@ instance_of mode model params =
 
 -- a task with what it needs, in a mode of undefinedness: an instance to solve within so many conflicts; one of which at most so many
 -- solutions are to be listed within so many conflicts; or one with what a solution text gives it; or the clauses of a formula with
--- the lines of a proof that is to be checked
+-- the lines of a proof that is to be checked; or the instance of a number's texts, to solve within so many conflicts and to sum up
 pub data Task : Type 0 where
   to_solve : Mode → Instance → ℕ → Task
   to_list : Mode → Instance → ℕ → ℕ → Task
   to_judge : Mode → Instance → Shaped → Task
   to_check : List (List Literal) → List ProofLine → Task
+  to_generate : ℕ → Mode → Instance → ℕ → Task
 
 -- the task of a search in an instance
 unfoldable pub task_of : Mode → Request → Instance → Task
 task_of mode (Request.One conflicts) i = to_solve mode i conflicts
 task_of mode (Request.Many most conflicts) i = to_list mode i most conflicts
+task_of mode (Request.Generated number conflicts) i = to_generate number mode i conflicts
 
 -- What a search in a model under parameters comes to. The faults of the model come first, then those of the parameters.
 unfoldable pub search_outcome : Mode → Request → TextTree → TextTree → Outcome Task

@@ -8,7 +8,8 @@ use Rattle.sat_text.specs.LogGrammar.{SpellsLog}
 use Rattle.sat_text.specs.Writing.{IsReadableNote, SaysAgain, cnf_text, log_text}
 use Rattle.ep_base.specs.Outside.{Held, SameElsewhere, with_bytes}
 use Rattle.ep_solve.specs.Logged.{added_clauses}
-use Rattle.ep_run.specs.Commands.{Want, outputs_of}
+use Rattle.ep_gen.specs.Texts.{generated_model, generated_params}
+use Rattle.ep_run.specs.Commands.{Want}
 use Rattle.ep_run.specs.declared.wanted.Outputs.{Outputs}
 use Rattle.ep_run.specs.declared.wanted.Wanted.{Wanted}
 
@@ -30,17 +31,19 @@ pub record IsStepsText (log : LogState) (text : List ℕ) : Type 0 where
   pub is_text : text ≡ log_text log.events
   pub spells : SpellsLog text (log_lines log.events)
 
--- what is written into a file: a formula, the steps of a log, or an answer
+-- what is written into a file: a formula, the steps of a log, an answer, or a text that was made
 pub data Content : Type 0 where
   a_formula : Content
   steps : Content
   an_answer : Content
+  a_text : List ℕ → Content
 
--- a text is that of a log's formula or of its steps, or it is the answer's own
+-- a text is that of a log's formula or of its steps, or it is the answer's own, or the one that was made
 abbrev pub IsTextOf : Content → LogState → List ℕ → List ℕ → Type 0
 IsTextOf a_formula log answer text = IsFormulaText log text
 IsTextOf steps log answer text = IsStepsText log text
 IsTextOf an_answer log answer text = text ≡ answer
+IsTextOf (a_text made) log answer text = text ≡ made
 
 -- a file that is named for output, and what is written into it
 pub record Output : Type 0 where
@@ -55,6 +58,17 @@ named content (Some name) = record { content = content; name = name } ∷ []
 -- the files that are named for output, in the order in which they are written
 unfoldable pub in_order : Outputs → List Output
 in_order o = named a_formula o.formula ++ (named steps o.log ++ named an_answer o.solution)
+
+-- the files that are named for the texts of a number, the model first
+unfoldable pub for_texts : ℕ → Option (List ℕ) → Option (List ℕ) → List Output
+for_texts number eprime param = named (a_text generated_model) eprime ++ named (a_text (generated_params number)) param
+
+-- the files that are written for what is wanted, in this order
+unfoldable pub written_for : Wanted → List Output
+written_for (Wanted.Search model params mode request outputs) = in_order outputs
+written_for (Wanted.Verify model params mode solution) = []
+written_for (Wanted.Check formula proof) = []
+written_for (Wanted.Generate number conflicts eprime param) = for_texts number eprime param
 
 -- ---- what the files hold then
 
@@ -88,17 +102,21 @@ pub record FailsAt (log : LogState) (answer : List ℕ) (outputs : List Output) 
 -- ---- the words
 
 -- a file is named for output
-abbrev pub IsNamed : Outputs → List ℕ → Type 0
-IsNamed o name = (o.formula ≡ Some name) ⊎ ((o.log ≡ Some name) ⊎ (o.solution ≡ Some name))
+abbrev pub IsNamed : Wanted → List ℕ → Type 0
+IsNamed (Wanted.Search model params mode request o) name =
+    (o.formula ≡ Some name) ⊎ ((o.log ≡ Some name) ⊎ (o.solution ≡ Some name))
+IsNamed (Wanted.Verify model params mode solution) name = ⊥
+IsNamed (Wanted.Check formula proof) name = ⊥
+IsNamed (Wanted.Generate number conflicts eprime param) name = (eprime ≡ Some name) ⊎ (param ≡ Some name)
 
 -- the words name this file for output
 abbrev pub IsOutput : List (List ℕ) → List ℕ → Type 0
-IsOutput words name = (wanted : Wanted) × Want words wanted × IsNamed (outputs_of wanted) name
+IsOutput words name = (wanted : Wanted) × Want words wanted × IsNamed wanted name
 
 -- the files that the words name for output are written with what a log and an answer's text are, and nothing else was changed
 abbrev pub HasOutput : List (List ℕ) → List ℕ → LogState → Option Held → Option Held → Type 0
 HasOutput words text log before after =
-    (wanted : Wanted) × Want words wanted × AreWritten log text (in_order (outputs_of wanted)) before after
+    (wanted : Wanted) × Want words wanted × AreWritten log text (written_for wanted) before after
 
 -- every file that isn't one of these holds what it held
 abbrev pub SameBut : (List ℕ → Type 0) → Option Held → Option Held → Type 0

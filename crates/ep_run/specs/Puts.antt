@@ -6,9 +6,9 @@ use Rattle.ep_print.specs.Refusals.{refusal_text}
 use Rattle.ep_print.specs.declared.refusals.Refusal.{Refusal}
 use Rattle.ep_solve.specs.Right.{empty_log}
 use Rattle.ep_run.specs.Answers.{Answers}
-use Rattle.ep_run.specs.Commands.{Want, files_of, outputs_of}
+use Rattle.ep_run.specs.Commands.{Want, files_of}
 use Rattle.ep_run.specs.Outcomes.{Task}
-use Rattle.ep_run.specs.Outputs.{ArePartlyWritten, FailsAt, HasOutput, in_order}
+use Rattle.ep_run.specs.Outputs.{ArePartlyWritten, FailsAt, HasOutput, written_for}
 use Rattle.ep_run.specs.Readings.{without}
 use Rattle.ep_run.specs.Shown.{Ask, Refuse, Refuses}
 use Rattle.ep_run.specs.declared.status.Status.{Status}
@@ -42,13 +42,13 @@ IsAnsweredBy words told text log =
 abbrev pub IsFailedWrite : List (List ℕ) → Option Held → Option Held → Type 0 → LogState → List ℕ → Type 0
 IsFailedWrite words told after rose log name =
     rose × (wanted : Wanted) × Want words wanted × (text : List ℕ)
-    × FailsAt log text (in_order (outputs_of wanted)) told after name × IsAnsweredBy words told text log
+    × FailsAt log text (written_for wanted) told after name × IsAnsweredBy words told text log
 
 -- some first ones of the files that the words name for output are written with what answers
 abbrev pub IsPartlyWritten : List (List ℕ) → Option Held → Option Held → LogState → Type 0
 IsPartlyWritten words told after log =
     (wanted : Wanted) × Want words wanted × (text : List ℕ)
-    × ArePartlyWritten log text (in_order (outputs_of wanted)) told after × IsAnsweredBy words told text log
+    × ArePartlyWritten log text (written_for wanted) told after × IsAnsweredBy words told text log
 
 -- the line of a file that can't be read, where nothing is logged and the files hold what they held, or of a file that can't be
 -- written

@@ -2,10 +2,12 @@
 --
 -- The words come first, then each file in its turn, with its tokens and its grammar before the next one is read; then the
 -- names and types of the texts, the instance, and the values of the solution. Of a formula and its proof the formula is read first.
+-- The texts of a number take the place of those of files.
 -- This order is the project's own choice.
 use Rattle.std.specs.Prelude.{◌≡◌, ◌⊎◌, ℕ, List, [], ◌∷◌, Option, Result, Ok, Err, Contains}
 use Rattle.cnf_core.specs.Literal.{Literal}
 use Rattle.ep_base.specs.Outside.{Held}
+use Rattle.ep_gen.specs.Texts.{generated_model, generated_params}
 use Rattle.ep_tree.specs.Statements.{TextTree}
 use Rattle.ep_tree.specs.declared.values.Mode.{Mode}
 use Rattle.ep_print.specs.Refusals.{refusal_text}
@@ -13,7 +15,7 @@ use Rattle.ep_print.specs.declared.refusals.Refusal.{Refusal}
 use Rattle.ep_print.specs.declared.refusals.TextFile.{TextFile}
 use Rattle.ep_run.specs.Commands.{AreNoCommand, Want}
 use Rattle.ep_run.specs.Outcomes.{Outcome, Task, search_outcome, to_check, verify_outcome}
-use Rattle.ep_run.specs.Readings.{AreParams, IsFormulaReadAs, IsProofReadAs, IsReadAs, IsReadBy}
+use Rattle.ep_run.specs.Readings.{AreParams, IsFormulaReadAs, IsProofReadAs, IsReadAs, IsReadBy, IsTextReadAs}
 use Rattle.ep_run.specs.Status.{status_of}
 use Rattle.ep_run.specs.declared.status.Status.{Status}
 use Rattle.ep_run.specs.declared.wanted.Request.{Request}
@@ -45,6 +47,18 @@ abbrev pub comes_to_check : List ℕ → List (List Literal) → Held → Outcom
 comes_to_check proof clauses held =
     ThenShows (IsReadBy IsProofReadAs held proof) (λ lines outcome. outcome ≡ Ok (to_check clauses lines))
 
+-- the model of a number was read, and its parameters are
+abbrev pub comes_to_parameters : ℕ → ℕ → TextTree → Outcome Task → Type 0
+comes_to_parameters number conflicts model =
+    ThenShows (IsTextReadAs TextFile.Params (generated_params number))
+    (λ p outcome. outcome ≡ search_outcome Mode.Relational (Request.Generated number conflicts) model p)
+
+-- The texts of a number are read as those of files are, the model first, and solved in the relational mode within so many
+-- conflicts. No file is read.
+abbrev pub comes_to_generate : ℕ → ℕ → Outcome Task → Type 0
+comes_to_generate number conflicts =
+    ThenShows (IsTextReadAs TextFile.Model generated_model) (λ m. comes_to_parameters number conflicts m)
+
 -- what is wanted comes to this over held files: the model or the formula is read first
 abbrev pub ComesTo : Wanted → Held → Outcome Task → Type 0
 ComesTo (Wanted.Search model params mode request outputs) held =
@@ -53,6 +67,7 @@ ComesTo (Wanted.Verify model params mode solution) held =
     ThenShows (IsReadAs held TextFile.Model model) (λ m. comes_to_verify mode params solution m held)
 ComesTo (Wanted.Check formula proof) held =
     ThenShows (IsReadBy IsFormulaReadAs held formula) (λ clauses. comes_to_check proof clauses held)
+ComesTo (Wanted.Generate number conflicts eprime param) held = comes_to_generate number conflicts
 
 -- the words show this over held files
 abbrev pub Show : List (List ℕ) → Held → Outcome Task → Type 0

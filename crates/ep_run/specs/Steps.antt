@@ -20,9 +20,9 @@ use Rattle.ep_instance.specs.declared.judging.Shaped.{Shaped}
 use Rattle.ep_solve.specs.Right.{IsSpent, empty_log}
 use Rattle.sat_search.specs.Logs.{IsSound}
 use Rattle.ep_run.specs.Answers.{Answers, judgement_status, judgement_text}
-use Rattle.ep_run.specs.Commands.{AreNoCommand, Want, conflicts_of, files_of, outputs_of}
+use Rattle.ep_run.specs.Commands.{AreNoCommand, Want, conflicts_of, files_of}
 use Rattle.ep_run.specs.Outcomes.{Outcome, Task, as_outcome}
-use Rattle.ep_run.specs.Outputs.{AreWritten, ArePartlyWritten, FailsAt, Output, in_order}
+use Rattle.ep_run.specs.Outputs.{AreWritten, ArePartlyWritten, FailsAt, Output, written_for}
 use Rattle.ep_run.specs.Readings.{AreParams, IsReadBy, IsTextReadAs, ReadsTexts, without}
 use Rattle.ep_run.specs.Shown.{Ask, ComesTo}
 use Rattle.ep_run.specs.Status.{status_of}
@@ -67,6 +67,13 @@ TellsReply outcome log (Ok reply) =
     (task : Task) × (outcome ≡ Ok task) × Answers task reply.status reply.text.items log
 TellsReply outcome log (Err (Stop.Refused refusal)) = IsOfText refusal × IsAmong outcome refusal
 TellsReply outcome log (Err Stop.Memory) = OrUnlogged log ((task : Task) × (outcome ≡ Ok task))
+
+-- the same of what shows outcomes, where no file is read
+abbrev pub TellsShown : (Outcome Task → Type 0) → LogState → Result Reply Stop → Type 0
+TellsShown shows log (Ok reply) = (task : Task) × shows (Ok task) × Answers task reply.status reply.text.items log
+TellsShown shows log (Err (Stop.Refused refusal)) =
+    IsOfText refusal × (refusals : List Refusal) × shows (Err refusals) × Contains refusals refusal
+TellsShown shows log (Err Stop.Memory) = OrUnlogged log ((task : Task) × shows (Ok task))
 
 -- a status and a text are those of the judgement of an assignment
 abbrev pub IsJudged : Mode → Instance → Found → Status → List ℕ → Type 0
@@ -185,12 +192,14 @@ abbrev pub IsEnd : Wanted → Status → LogState → Type 0
 IsEnd (Wanted.Search _ _ _ request _) status log = IsSearched (conflicts_of request) status log
 IsEnd (Wanted.Verify _ _ _ _) status log = IsJudgedEnd status log
 IsEnd (Wanted.Check _ _) status log = IsJudgedEnd status log
+IsEnd (Wanted.Generate _ conflicts _ _) status log = IsSearched conflicts status log
 
 -- to judge is to log nothing
 abbrev pub IsLogOf : Wanted → LogState → Type 0
 IsLogOf (Wanted.Search _ _ _ _ _) log = Unit {0}
 IsLogOf (Wanted.Verify _ _ _ _) log = log ≡ empty_log
 IsLogOf (Wanted.Check _ _) log = log ≡ empty_log
+IsLogOf (Wanted.Generate _ _ _ _) log = Unit {0}
 
 -- an answer ends so; nothing is logged where there is a refusal, and soundly where memory is wanting
 abbrev pub EndsBy : (Status → Type 0) → LogState → Result Reply Stop → Type 0
@@ -231,13 +240,13 @@ HasAnswer wanted told text log =
 abbrev pub IsUnwritten : Wanted → Option Held → Option Held → Type 0 → LogState → Refusal → Type 0
 IsUnwritten wanted told after rose log refusal =
     rose × (name : List ℕ) × (text : List ℕ) × (refusal ≡ Refusal.CannotWrite name)
-    × FailsAt log text (in_order (outputs_of wanted)) told after name × IsSound log.events × IsLogOf wanted log
+    × FailsAt log text (written_for wanted) told after name × IsSound log.events × IsLogOf wanted log
     × HasAnswer wanted told text log
 
 -- memory is wanting, and some first ones of the files that are named for output are written with what answers
 abbrev pub IsWanting : Wanted → Option Held → Option Held → LogState → Type 0
 IsWanting wanted told after log =
-    (text : List ℕ) × ArePartlyWritten log text (in_order (outputs_of wanted)) told after × HasAnswer wanted told text log
+    (text : List ℕ) × ArePartlyWritten log text (written_for wanted) told after × HasAnswer wanted told text log
 
 -- a refusal of what is wanted
 abbrev pub IsRefused : Wanted → Option Held → Option Held → Type 0 → LogState → Refusal → Type 0
@@ -248,7 +257,7 @@ IsRefused wanted told after rose log refusal =
 abbrev pub IsAnswered : Wanted → Option Held → Option Held → Status → List ℕ → LogState → Type 0
 IsAnswered wanted told after status text log =
     IsEnd wanted status log × IsAnswer (ComesTo wanted) told status text log
-    × AreWritten log text (in_order (outputs_of wanted)) told after
+    × AreWritten log text (written_for wanted) told after
 
 -- a status, a text and a log with which what is wanted is answered
 abbrev pub SaysTo : Wanted → Option Held → Option Held → Type 0 → Status → List ℕ → LogState → Type 0

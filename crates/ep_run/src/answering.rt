@@ -17,6 +17,7 @@ ghost use Rattle.ep_run.specs.Steps.{IsSearched};
 
 use super::replies::Reply;
 use super::status::Status;
+use super::summaries::summed_reply;
 use super::wanted::Request;
 use cnf_core::Log;
 use ep_base::Memory;
@@ -45,6 +46,9 @@ pub fn searched_reply(
     match request {
         Request::One { conflicts } => solved_reply(alloc, instance, conflicts, log),
         Request::Many { most, conflicts } => listed_reply(alloc, instance, most, conflicts, log),
+        Request::Generated { number, conflicts } => {
+            summed_reply(alloc, instance, number, conflicts, log)
+        }
     }
 }
 
@@ -99,7 +103,7 @@ fn listed_reply(
 
 /// How a run ends that has an answer.
 #[tactic(auto, unfolding(crate::specs::Answers::answer_status, ep_print::specs::Answers::answer_tree, ep_print::specs::Answers::unknown_tree))]
-fn answer_status(answer: &Answer) -> Status
+pub fn answer_status(answer: &Answer) -> Status
     ensures { result ≡ answer_status (answer_tree answer.now) }
 {
     match answer {

@@ -4,12 +4,14 @@
 mod answering;
 mod checking;
 mod errors;
+mod generating;
 mod judging;
 mod reading;
 mod replies;
 mod runs;
 mod status;
 mod stops;
+mod summaries;
 mod texts;
 mod top;
 mod verdicts;

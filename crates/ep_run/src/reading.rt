@@ -132,7 +132,7 @@ fn unread(alloc: Global, name: &Word) -> Stop
 }
 
 /// The model that a text is.
-fn model_in(alloc: Global, text: &[u8]) -> Result<Model, Stop>
+pub fn model_in(alloc: Global, text: &[u8]) -> Result<Model, Stop>
     ensures { TellsText model_tree (IsTextReadAs TextFileValue.Model) text.now result }
 {
     match parse_model(alloc, text) {
@@ -142,7 +142,7 @@ fn model_in(alloc: Global, text: &[u8]) -> Result<Model, Stop>
 }
 
 /// The parameter text or the solution text that a text is.
-fn params_in(alloc: Global, file: TextFile, text: &[u8]) -> Result<Params, Stop>
+pub fn params_in(alloc: Global, file: TextFile, text: &[u8]) -> Result<Params, Stop>
     requires { HasParams file }
     ensures { TellsText params_tree (IsTextReadAs file) text.now result }
 {

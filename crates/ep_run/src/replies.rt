@@ -12,8 +12,8 @@ ghost use Rattle.ep_run.specs.Steps.{LogsTask, Says, TellsRun};
 use super::runs::do_wanted;
 use super::status::Status;
 use super::stops::{Stop, status_of};
-use super::wanted::{outputs_of, read_wanted};
-use super::writing::write_outputs;
+use super::wanted::read_wanted;
+use super::writing::write_wanted;
 use cnf_core::Log;
 use ep_base::{Files, Memory, Word};
 use ep_print::{Refusal, refusal_line};
@@ -63,7 +63,7 @@ fn run_words<F: Files>(
 {
     let wanted = read_wanted(alloc, words)?;
     let reply = do_wanted(alloc, files, &wanted, log)?;
-    write_outputs(alloc, files, outputs_of(wanted), log, &reply.text)?;
+    write_wanted(alloc, files, wanted, log, &reply.text)?;
     Ok(reply)
 }
 

@@ -5,12 +5,14 @@ ghost use Rattle.ep_base.specs.Outside.{Rose};
 ghost use Rattle.ep_tree.specs.Views.{model_tree, params_tree};
 ghost use Rattle.ep_run.specs.Commands.{conflicts_of, files_of};
 ghost use Rattle.ep_run.specs.Outcomes.{search_outcome, verify_outcome};
+ghost use Rattle.ep_run.specs.Searches.{HasTexts};
 ghost use Rattle.ep_run.specs.Shown.{ComesTo, comes_to_check, comes_to_judge, comes_to_search, comes_to_verify};
 ghost use Rattle.ep_solve.specs.Right.{empty_log};
 ghost use Rattle.ep_run.specs.Steps.{EndsAs, EndsBy, IsJudgedEnd, IsSearched, TellsReply, TellsTask, formula_clauses};
 
 use super::answering::searched_reply;
 use super::checking::{checked_model, checked_params, instance_of};
+use super::generating::generate;
 use super::judging::judged_reply;
 use super::reading::{read_formula, read_model, read_named_params, read_params, read_proof};
 use super::replies::Reply;
@@ -31,6 +33,7 @@ pub fn do_wanted<F: Files>(
     log: &mut Log,
 ) -> Result<Reply, Stop>
     requires empty { log.old ≡ empty_log }
+    requires texts { HasTexts wanted.now }
     ensures tells { TellsTask (files_of wanted.now) (ComesTo wanted.now) (F.held files.old)
         (Rose (F.faults files.old) (F.faults files.new)) log.new result }
     ensures ends { EndsAs wanted.now log.new result }
@@ -61,6 +64,11 @@ pub fn do_wanted<F: Files>(
             let formula = read_formula(alloc, files, formula)?;
             check_proof(alloc, files, formula, proof)
         }
+        Wanted::Generate {
+            number,
+            conflicts,
+            ..
+        } => generate(alloc, *number, *conflicts, log),
     }
 }
 
@@ -144,7 +152,7 @@ fn check_proof<F: Files>(
 }
 
 /// Searches in a model under its parameters.
-fn search_texts(
+pub fn search_texts(
     alloc: Global,
     model: Model,
     params: Params,

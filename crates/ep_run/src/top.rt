@@ -13,10 +13,11 @@ ghost use Rattle.log_check.specs.Verdict.{first_bad, verdict_of};
 ghost use Rattle.log_check.specs.declared.Verdict.TheVariants.{Verified};
 ghost use Rattle.ep_run.specs.Answers.{Answers};
 ghost use Rattle.ep_run.specs.Budgets.{IsBelowPower, MeetsConflict, before_steps};
-ghost use Rattle.ep_run.specs.Commands.{AreNoCommand, IsJudgement, Want, conflicts_of};
+ghost use Rattle.ep_run.specs.Commands.{AreNoCommand, IsJudgement, Want};
 ghost use Rattle.ep_run.specs.Outcomes.{Task};
 ghost use Rattle.ep_run.specs.Outputs.{HasOutput, HoldsText, IsFormulaText, IsStepsText, SameButOutput};
 ghost use Rattle.ep_run.specs.Puts.{IsDeviceLine, MayBePut, TookFirst, TookOnWant};
+ghost use Rattle.ep_run.specs.Searches.{IsSearchFor};
 ghost use Rattle.ep_run.specs.Shown.{Ask, Refuses, Show};
 ghost use Rattle.ep_run.specs.Status.{HasReply, status_of};
 ghost use Rattle.ep_run.specs.declared.status.Status.{Status as StatusValue};
@@ -50,23 +51,21 @@ pub fn run<R: Threads, F: Files, K: Sink>(
     // An answer is right for the task that the words and the held files show: an optimum or a
     // solution, that there is none, or that the conflicts were spent, with the best solution so far;
     // a list of solutions, and whether these are all; a judgement of a solution text; the verdict on a proof
-    // of a formula. Its text was put out, and nothing else, and the files that the words name for output are
-    // written. The log shows the answer of a search.
+    // of a formula; the summary of a number's texts. Its text was put out, and nothing else, and the files
+    // that the words name for output are written. The log shows the answer of a search.
     ensures answered { HasReply result →
         IfSome (F.held files.old) (λ held. (task : Task) × (text : List ℕ)
         × Ask words.now held task × Answers task result text log.new
         × (K.taken out.new ≡ with_more text (K.taken out.old))
         × HasOutput words.now text log.new (F.held files.old) (F.held files.new)) }
     ensures unknown { result ≡ StatusValue.Unknown →
-        (model : List ℕ) × (params : Option (List ℕ)) × (mode : Mode) × (request : Request) × (outputs : Outputs)
-        × Want words.now (Wanted.Search model params mode request outputs)
-        × IsSpent (conflicts_of request) log.new.events }
+        (wanted : Wanted) × (conflicts : ℕ) × Want words.now wanted × IsSearchFor wanted conflicts
+        × IsSpent conflicts log.new.events }
     // Then the conflicts were fewer than 3 to the number of variables of what was given, and unit propagation on what was given
     // before the first step meets no conflict.
     ensures few { result ≡ StatusValue.Unknown →
-        (model : List ℕ) (params : Option (List ℕ)) (mode : Mode) (request : Request) (outputs : Outputs)
-        → Want words.now (Wanted.Search model params mode request outputs)
-        → IsBelowPower (conflicts_of request) log.new.events }
+        (wanted : Wanted) (conflicts : ℕ) → Want words.now wanted → IsSearchFor wanted conflicts
+        → IsBelowPower conflicts log.new.events }
     ensures unforced { result ≡ StatusValue.Unknown → ¬ MeetsConflict (before_steps log.new.events) }
     ensures refuted { result ≡ StatusValue.Refuted →
         (wanted : Wanted) × Want words.now wanted × IsJudgement wanted }

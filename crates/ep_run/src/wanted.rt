@@ -1,7 +1,7 @@
 //! What the words of a command want of a run.
 
 ghost use Rattle.std.specs.Prelude.{◌≡◌};
-ghost use Rattle.ep_run.specs.Commands.{outputs_of, wanted_of};
+ghost use Rattle.ep_run.specs.Commands.{wanted_of};
 ghost use Rattle.ep_run.specs.Steps.{TellsWanted};
 
 use super::stops::Stop;
@@ -34,6 +34,14 @@ pub enum Wanted {
         formula: Word,
         proof: Word,
     },
+    /// To solve the texts of a number within so many conflicts, to sum up what was found, and to write the texts into files where
+    /// they are named.
+    Generate {
+        number: u64,
+        conflicts: u64,
+        eprime: Option<Word>,
+        param: Option<Word>,
+    },
 }
 
 /// The files into which a search writes, where they are named.
@@ -54,6 +62,8 @@ pub enum Request {
     One { conflicts: u64 },
     /// At most so many solutions.
     Many { most: u64, conflicts: u64 },
+    /// A solution of the texts of a number, of which a summary is given.
+    Generated { number: u64, conflicts: u64 },
 }
 
 /// What the words want of a run.
@@ -144,21 +154,16 @@ fn wanted_of(job: Job) -> Option<Wanted>
                 None
             }
         }
-        _ => None,
-    }
-}
-
-/// The files that are named for output.
-#[tactic(auto, unfolding(crate::specs::Commands::outputs_of))]
-pub fn outputs_of(wanted: Wanted) -> Outputs
-    ensures { result ≡ outputs_of wanted }
-{
-    match wanted {
-        Wanted::Search { outputs, .. } => outputs,
-        Wanted::Verify { .. } | Wanted::Check { .. } => Outputs {
-            formula: None,
-            log: None,
-            solution: None,
-        },
+        Job::Generate {
+            number,
+            conflicts,
+            out_eprime,
+            out_param,
+        } => Some(Wanted::Generate {
+            number,
+            conflicts,
+            eprime: out_eprime,
+            param: out_param,
+        }),
     }
 }

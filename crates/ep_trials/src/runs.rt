@@ -462,7 +462,9 @@ const NO_COMMANDS: &str = "\
 --task check --in-cnf m --in-log s --workers 2
 --task enumerate --in-eprime m
 --task enumerate --in-eprime m --solutions 0
---task generate --number 0
+--task generate
+--task generate --number 1000000001
+--task generate --number 0 --out-solution x
 --task verify --in-eprime m
 --in-eprime m --undefined lax
 --in-eprime m --undefined strict --undefined strict

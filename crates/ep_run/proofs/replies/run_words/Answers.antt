@@ -1,9 +1,10 @@
 use Rattle.std.proofs.lemmas.Result.{err_from_is_err_and}
-use Rattle.std.proofs.Common.{ℕ, List, Ok, Err, subst}
+use Rattle.std.proofs.Common.{ℕ, List, Ok, Err, refl, subst}
 use Rattle.ep_base.proofs.PutSteps.{rose_later}
 use Rattle.ep_base.specs.Outside.{Rose}
-use Rattle.ep_run.specs.Outputs.{in_order}
+use Rattle.ep_run.specs.Outputs.{written_for}
 use Rattle.ep_run.specs.Steps.{TellsWritten}
+use Rattle.ep_run.proofs.Allowed.{wants-texts}
 use Rattle.ep_run.proofs.Saying.{answered-run, refused-run, unread-words, unwritten-run}
 use Rattle.ep_run.proofs.replies.run_words.Goals as goal
 
@@ -23,33 +24,39 @@ returns-in_err-reply-clause-tells g c =
     rw (p.1, p.2)
     (refused-run c.args.words.now c.in_ok-wanted.wanted told after rose c.do_wanted.new.log c.in_err-reply.field-0.0 c.in_ok-wanted.ensures c.in_err-reply.ensures.held c.in_err-reply.ensures.ends c.in_err-reply.ensures.tells)
 
-pub returns-in_err-write_outputs-clause-tells : goal.returns-in_err-write_outputs-clause-tells
-returns-in_err-write_outputs-clause-tells g c =
-    let p = err_from_is_err_and c.from_residual-in_err-write_outputs.result c.from_residual-in_err-write_outputs.ensures.1 in
+pub returns-in_err-write_wanted-clause-tells : goal.returns-in_err-write_wanted-clause-tells
+returns-in_err-write_wanted-clause-tells g c =
+    let p = err_from_is_err_and c.from_residual-in_err-write_wanted.result c.from_residual-in_err-write_wanted.ensures.1 in
     let first = g.F.Files.faults c.args.files.now in
     let next = g.F.Files.faults c.do_wanted.new.files in
-    let last = g.F.Files.faults c.write_outputs.new.files in
+    let last = g.F.Files.faults c.write_wanted.new.files in
     let told = g.F.Files.held c.args.files.now in
     let between = g.F.Files.held c.do_wanted.new.files in
-    let after = g.F.Files.held c.write_outputs.new.files in
+    let after = g.F.Files.held c.write_wanted.new.files in
     let reply = c.in_ok-reply.reply in
-    let stop = c.in_err-write_outputs.field-0.0 in
-    let T : List ℕ → Type 0 = λ text. TellsWritten {V = Unit {0}} c.do_wanted.new.log text (in_order c.outputs_of.result) between after (Rose next last) (Err stop) in
+    let stop = c.in_err-write_wanted.field-0.0 in
+    let T : List ℕ → Type 0 = λ text. TellsWritten {V = Unit {0}} c.do_wanted.new.log text (written_for c.in_ok-wanted.wanted) between after (Rose next last) (Err stop) in
     rw (p.1, p.2)
-    (unwritten-run (Unit {0}) c.args.words.now c.in_ok-wanted.wanted c.outputs_of.result told between after (Rose first last) (Rose next last) reply.status reply.text.items c.do_wanted.new.log stop
-    c.in_ok-wanted.ensures c.outputs_of.ensures c.in_ok-reply.ensures.held (rose_later first next last c.in_ok-reply.ensures.faults) c.in_ok-reply.ensures.ends.1 c.in_ok-reply.ensures.tells
-    (subst T c.deref.ensures.value c.in_err-write_outputs.ensures.tells))
+    (unwritten-run (Unit {0}) c.args.words.now c.in_ok-wanted.wanted (written_for c.in_ok-wanted.wanted) told between after (Rose first last) (Rose next last) reply.status reply.text.items c.do_wanted.new.log stop
+    c.in_ok-wanted.ensures refl c.in_ok-reply.ensures.held (rose_later first next last c.in_ok-reply.ensures.faults) c.in_ok-reply.ensures.ends.1 c.in_ok-reply.ensures.tells
+    (subst T c.deref.ensures.value c.in_err-write_wanted.ensures.tells))
 
 pub returns-clause-tells : goal.returns-clause-tells
 returns-clause-tells g c =
     let first = g.F.Files.faults c.args.files.now in
     let next = g.F.Files.faults c.do_wanted.new.files in
-    let last = g.F.Files.faults c.write_outputs.new.files in
+    let last = g.F.Files.faults c.write_wanted.new.files in
     let told = g.F.Files.held c.args.files.now in
     let between = g.F.Files.held c.do_wanted.new.files in
-    let after = g.F.Files.held c.write_outputs.new.files in
+    let after = g.F.Files.held c.write_wanted.new.files in
     let reply = c.in_ok-reply.reply in
-    let T : List ℕ → Type 0 = λ text. TellsWritten {V = Unit {0}} c.do_wanted.new.log text (in_order c.outputs_of.result) between after (Rose next last) (Ok c.in_ok-write_outputs.field-0) in
-    answered-run (Unit {0}) c.args.words.now c.in_ok-wanted.wanted c.outputs_of.result told between after (Rose first last) (Rose next last) c.do_wanted.new.log reply c.in_ok-write_outputs.field-0
-    c.in_ok-wanted.ensures c.outputs_of.ensures c.in_ok-reply.ensures.held c.in_ok-reply.ensures.ends.1 c.in_ok-reply.ensures.tells
-    (subst T c.deref.ensures.value c.in_ok-write_outputs.ensures.tells)
+    let T : List ℕ → Type 0 = λ text. TellsWritten {V = Unit {0}} c.do_wanted.new.log text (written_for c.in_ok-wanted.wanted) between after (Rose next last) (Ok c.in_ok-write_wanted.field-0) in
+    answered-run (Unit {0}) c.args.words.now c.in_ok-wanted.wanted (written_for c.in_ok-wanted.wanted) told between after (Rose first last) (Rose next last) c.do_wanted.new.log reply c.in_ok-write_wanted.field-0
+    c.in_ok-wanted.ensures refl c.in_ok-reply.ensures.held c.in_ok-reply.ensures.ends.1 c.in_ok-reply.ensures.tells
+    (subst T c.deref.ensures.value c.in_ok-write_wanted.ensures.tells)
+
+pub do_wanted-requires-clause-texts : goal.do_wanted-requires-clause-texts
+do_wanted-requires-clause-texts g c = wants-texts c.args.words.now c.in_ok-wanted.wanted c.in_ok-wanted.ensures
+
+pub write_wanted-requires : goal.write_wanted-requires
+write_wanted-requires g c = record { texts = wants-texts c.args.words.now c.in_ok-wanted.wanted c.in_ok-wanted.ensures }

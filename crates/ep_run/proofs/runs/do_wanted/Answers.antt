@@ -7,12 +7,14 @@ use Rattle.ep_print.specs.declared.refusals.TextFile.{TextFile}
 use Rattle.ep_tree.specs.Views.{model_tree}
 use Rattle.ep_run.specs.Commands.{files_of}
 use Rattle.ep_run.specs.Readings.{IsFormulaReadAs, IsReadAs, IsReadBy, IsTextReadAs}
-use Rattle.ep_run.specs.Shown.{ComesTo, comes_to_check, comes_to_search, comes_to_verify}
+use Rattle.ep_run.specs.Shown.{ComesTo, comes_to_check, comes_to_generate, comes_to_search, comes_to_verify}
+use Rattle.ep_run.specs.Searches.{HasTexts}
 use Rattle.ep_solve.specs.Right.{empty_log}
 use Rattle.ep_run.specs.Steps.{EndsAs, TellsTask, formula_clauses}
 use Rattle.ep_run.specs.declared.wanted.Wanted.{Wanted}
 use Rattle.ep_run.proofs.Chains.{after, stable-file, unread}
 use Rattle.ep_run.proofs.Running.{check-ends, stopped-as, verify-ends}
+use Rattle.ep_run.proofs.ShownTexts.{over-shown}
 use Rattle.ep_run.proofs.runs.do_wanted.Goals as goal
 
 pub returns-in_err-model-in-Search-clause-tells : goal.returns-in_err-model-in-Search-clause-tells
@@ -121,3 +123,19 @@ pub returns-in_ok-formula-in-Check-clause-ends : goal.returns-in_ok-formula-in-C
 returns-in_ok-formula-in-Check-clause-ends g c =
     let W : Wanted → Type 0 = λ w. EndsAs w c.args.log.now c.check_proof.result in
     subst W (sym c.in-Check.is) (check-ends c.in-Check.formula c.in-Check.proof c.args.log.now c.check_proof.result c.requires.empty c.check_proof.ensures.status)
+
+pub generate-requires-clause-within : goal.generate-requires-clause-within
+generate-requires-clause-within g c = subst HasTexts c.in-Generate.is c.requires.texts
+
+pub returns-in-Generate-clause-tells : goal.returns-in-Generate-clause-tells
+returns-in-Generate-clause-tells g c =
+    let told = g.F.Files.held c.args.files.now in
+    let rose = Rose (g.F.Files.faults c.args.files.now) (g.F.Files.faults c.args.files.now) in
+    let W : Wanted → Type 0 = λ w. TellsTask (files_of w) (ComesTo w) told rose c.generate.new.log c.generate.result in
+    subst W (sym c.in-Generate.is)
+    (over-shown (comes_to_generate c.in-Generate.number c.in-Generate.conflicts) told rose c.generate.new.log c.generate.result c.generate.ensures.tells)
+
+pub returns-in-Generate-clause-ends : goal.returns-in-Generate-clause-ends
+returns-in-Generate-clause-ends g c =
+    let W : Wanted → Type 0 = λ w. EndsAs w c.generate.new.log c.generate.result in
+    subst W (sym c.in-Generate.is) (tt, c.generate.ensures.ends)
