@@ -17,7 +17,7 @@ use Rattle.enc_var.specs.Layouts.{IsLayoutOf, literals_at}
 use Rattle.ep_flat.specs.Cons.{number_at}
 use Rattle.enc_adder.proofs.Sums.{before_front, before_none, before_nothing, before_push, below, spelled_before}
 use Rattle.enc_adder.proofs.Widening.{bits_later, constant_is, literals_later, new_bit_is, no_longer, widens_like, widens_nothing, widens_then, widens_truths, zero_bit}
-use Rattle.enc_adder.specs.Bits.{AreBits, HasBit, IsBit, IsConstant, Spells, Widens, spelled}
+use Rattle.enc_adder.specs.Bits.{AreBits, HasBit, IsBit, IsConstant, SpellsNumber, Widens, spelled}
 use Rattle.enc_adder.specs.Parts.{AreStepsOf, HaveWorths, half_step, low_bit}
 use Rattle.enc_adder.specs.declared.parts.Step.{Step}
 
@@ -157,7 +157,7 @@ one_bit_more L f L1 g L2 h var whole bits more steps halves bit low so_far made 
     there = let h = no_longer L L1 so_far.widens.goes_on.earlier in omega (arith, h, low)
 
 pub all_bits : (L : List VariableLiterals) (f : Cnf) (L1 : List VariableLiterals) (g : Cnf) (var : ℕ) (whole : ℤ → ℤ) (bits : List ℕ) (steps : List Step) → var < length L → Halving L f L1 g var whole bits steps → All (λ step. step.worth ≡ 0) steps
-    → Spells L f L1 g (λ values. whole (number_at values var)) bits
+    → SpellsNumber L f L1 g (λ values. whole (number_at values var)) bits
 all_bits L f L1 g var whole bits steps low so_far none = record {
   are_bits = so_far.are_bits;
   widens = widens_like L f L1 g (λ values. spelled_before values bits (pos (so_far.left (number_at values var))) ≡ whole (number_at values var)) (λ values. spelled values bits ≡ whole (number_at values var)) so_far.widens
@@ -199,10 +199,10 @@ pub begun : (L : List VariableLiterals) (f : Cnf) (var : ℕ) (bits : List ℕ) 
 begun L f var bits steps size least s l ready low are worths empty is_size is_least = no_bit_yet L f var (λ v. s *ℤ (v -ℤ l)) bits steps ready low are (worths_as steps size least s l worths is_size is_least) empty
 
 pub all_bits_as : (L : List VariableLiterals) (f : Cnf) (L1 : List VariableLiterals) (g : Cnf) (var : ℕ) (bits : List ℕ) (steps now : List Step) (s l size least : ℤ) → var < length L → Halving L f L1 g var (λ v. s *ℤ (v -ℤ l)) bits steps → All (λ step. step.worth ≡ 0) now → now ≡ steps → s ≡ size → l ≡ least
-    → Spells L f L1 g (λ values. size *ℤ (number_at values var -ℤ least)) bits
+    → SpellsNumber L f L1 g (λ values. size *ℤ (number_at values var -ℤ least)) bits
 all_bits_as L f L1 g var bits steps now s l size least low so_far none same is_size is_least =
-    subst (λ m. Spells L f L1 g (λ values. size *ℤ (number_at values var -ℤ m)) bits) is_least
-    (subst (λ m. Spells L f L1 g (λ values. m *ℤ (number_at values var -ℤ l)) bits) is_size
+    subst (λ m. SpellsNumber L f L1 g (λ values. size *ℤ (number_at values var -ℤ m)) bits) is_least
+    (subst (λ m. SpellsNumber L f L1 g (λ values. m *ℤ (number_at values var -ℤ l)) bits) is_size
     (all_bits L f L1 g var (λ v. s *ℤ (v -ℤ l)) bits steps low so_far (subst (All (λ (step : Step). step.worth ≡ 0)) same none)))
 
 -- steps with half their worths, one after another

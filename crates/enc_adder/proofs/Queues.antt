@@ -11,7 +11,7 @@ use Rattle.enc_steps.specs.Steps.{IsReady}
 use Rattle.enc_var.specs.Decoding.{VariableLiterals}
 use Rattle.enc_adder.proofs.Sums.{none_spelled, none_total, numbers_below, total_cons, total_front, total_push}
 use Rattle.enc_adder.proofs.Widening.{no_longer, numbers_later, widens_like, widens_nothing, widens_then}
-use Rattle.enc_adder.specs.Bits.{AreBits, AreNumbers, Spells, Widens, spelled, total}
+use Rattle.enc_adder.specs.Bits.{AreBits, AreNumbers, SpellsNumber, Widens, spelled, total}
 use Rattle.enc_adder.specs.declared.bits.Binary.{Binary}
 
 above_zero : ℤ → ℕ
@@ -65,7 +65,7 @@ rest_is L queue rest one is all = All-tail (λ (n : Binary). AreBits L n.bits.it
 -- two numbers give way to their sum
 pub two_added : (L : List VariableLiterals) (f : Cnf) (L1 : List VariableLiterals) (g : Cnf) (L2 : List VariableLiterals) (h : Cnf) (numbers queue middle rest later : List Binary) (one other sum : Binary) (xs ys : List ℕ)
     → AreNumbers L numbers → Holds L f L1 g numbers queue → queue ≡ one ∷ middle → middle ≡ other ∷ rest → xs ≡ one.bits.items → ys ≡ other.bits.items
-    → Spells L1 g L2 h (λ values. spelled values xs +ℤ spelled values ys) sum.bits.items → later ≡ rest ++ sum ∷ [] → Holds L f L2 h numbers later
+    → SpellsNumber L1 g L2 h (λ values. spelled values xs +ℤ spelled values ys) sum.bits.items → later ≡ rest ++ sum ∷ [] → Holds L f L2 h numbers later
 two_added L f L1 g L2 h numbers queue middle rest later one other sum xs ys are so_far first second is_xs is_ys spells pushed = record {
   are_numbers = subst (AreNumbers L2) (sym pushed) (All-push (λ (n : Binary). AreBits L2 n.bits.items) rest sum
       (numbers_later L1 L2 rest spells.widens.goes_on.earlier (rest_is L1 middle rest other second (rest_is L1 queue middle one first so_far.are_numbers))) spells.are_bits);
@@ -84,7 +84,7 @@ two_added L f L1 g L2 h numbers queue middle rest later one other sum xs ys are 
 
 -- one number is left, or none
 pub one_left : (L : List VariableLiterals) (f : Cnf) (L1 : List VariableLiterals) (g : Cnf) (numbers queue rest : List Binary) (one : Binary) → Holds L f L1 g numbers queue → queue ≡ one ∷ rest → rest ≡ []
-    → Spells L f L1 g (λ values. total values numbers) one.bits.items
+    → SpellsNumber L f L1 g (λ values. total values numbers) one.bits.items
 one_left L f L1 g numbers queue rest one so_far is none = record {
   are_bits = first_is L1 queue rest one is so_far.are_numbers;
   widens = widens_like L f L1 g (λ values. total values queue ≡ total values numbers) (λ values. spelled values one.bits.items ≡ total values numbers) so_far.widens
@@ -95,7 +95,7 @@ one_left L f L1 g numbers queue rest one so_far is none = record {
 }
 
 pub none_left : (L : List VariableLiterals) (f : Cnf) (L1 : List VariableLiterals) (g : Cnf) (numbers queue : List Binary) (bits : List ℕ) → Holds L f L1 g numbers queue → queue ≡ [] → bits ≡ []
-    → Spells L f L1 g (λ values. total values numbers) bits
+    → SpellsNumber L f L1 g (λ values. total values numbers) bits
 none_left L f L1 g numbers queue bits so_far none empty = record {
   are_bits = subst (AreBits L1) (sym empty) (λ k d low. absurd (omega (arith, low)));
   widens = widens_like L f L1 g (λ values. total values queue ≡ total values numbers) (λ values. spelled values bits ≡ total values numbers) so_far.widens

@@ -17,7 +17,7 @@ use Rattle.enc_var.specs.Decoding.{VariableLiterals}
 use Rattle.ep_flat.specs.Cons.{number_at}
 use Rattle.enc_adder.proofs.Sums.{none_total, numbers_below, total_front, total_push}
 use Rattle.enc_adder.proofs.Widening.{no_longer, numbers_later, widens_like, widens_nothing, widens_then}
-use Rattle.enc_adder.specs.Bits.{AreBits, AreNumbers, Spells, spelled, total}
+use Rattle.enc_adder.specs.Bits.{AreBits, AreNumbers, SpellsNumber, spelled, total}
 use Rattle.enc_adder.specs.Parts.{HasSides, Levels, difference, sum_of_parts}
 use Rattle.enc_adder.specs.declared.bits.Binary.{Binary}
 use Rattle.enc_adder.specs.declared.sides.Sides.{Sides}
@@ -68,7 +68,7 @@ spread (negsuc a) x y =
 
 -- a part on the left, and one on the right
 pub on_left : (L : List VariableLiterals) (f : Cnf) (L1 : List VariableLiterals) (g : Cnf) (old new : Sides) (made : Binary) (a least size shift : ℤ) (var : ℕ) → AreNumbers L old.left.items → AreNumbers L old.right.items
-    → Spells L f L1 g (λ values. size *ℤ (number_at values var -ℤ least)) made.bits.items → size ≡ a → shift ≡ a *ℤ least → new.left.items ≡ old.left.items ++ made ∷ [] → new.right.items ≡ old.right.items → new.rest ≡ old.rest +ℤ shift
+    → SpellsNumber L f L1 g (λ values. size *ℤ (number_at values var -ℤ least)) made.bits.items → size ≡ a → shift ≡ a *ℤ least → new.left.items ≡ old.left.items ++ made ∷ [] → new.right.items ≡ old.right.items → new.rest ≡ old.rest +ℤ shift
     → HasSides L f L1 g (λ values. difference values old +ℤ (a *ℤ number_at values var)) new
 unfolding difference
 on_left L f L1 g old new made a least size shift var left right spells is_size is_shift pushed same rest = record {
@@ -83,7 +83,7 @@ on_left L f L1 g old new made a least size shift var left right spells is_size i
 }
 
 pub on_right : (L : List VariableLiterals) (f : Cnf) (L1 : List VariableLiterals) (g : Cnf) (old new : Sides) (made : Binary) (a least size shift : ℤ) (var : ℕ) → AreNumbers L old.left.items → AreNumbers L old.right.items
-    → Spells L f L1 g (λ values. size *ℤ (number_at values var -ℤ least)) made.bits.items → size ≡ neg_ℤ a → shift ≡ a *ℤ least → new.right.items ≡ old.right.items ++ made ∷ [] → new.left.items ≡ old.left.items → new.rest ≡ old.rest +ℤ shift
+    → SpellsNumber L f L1 g (λ values. size *ℤ (number_at values var -ℤ least)) made.bits.items → size ≡ neg_ℤ a → shift ≡ a *ℤ least → new.right.items ≡ old.right.items ++ made ∷ [] → new.left.items ≡ old.left.items → new.rest ≡ old.rest +ℤ shift
     → HasSides L f L1 g (λ values. difference values old +ℤ (a *ℤ number_at values var)) new
 unfolding difference
 on_right L f L1 g old new made a least size shift var left right spells is_size is_shift pushed same rest = record {

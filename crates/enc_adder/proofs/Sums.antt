@@ -13,7 +13,7 @@ use Rattle.enc_var.specs.Decoding.{VariableLiterals}
 use Rattle.ep_flat.specs.Cons.{number_at}
 use Rattle.enc_adder.proofs.Widening.{bit_later, bits_later, constant_is, constant_later, no_longer, widens_like, widens_nothing, widens_then, zero_bit}
 use Rattle.enc_adder.specs.Adding.{HasSum}
-use Rattle.enc_adder.specs.Bits.{AreBits, AreNumbers, IsBit, IsConstant, IsSum, Spells, Widens, spelled, total}
+use Rattle.enc_adder.specs.Bits.{AreBits, AreNumbers, IsBit, IsConstant, IsSum, SpellsNumber, Widens, spelled, total}
 use Rattle.enc_adder.specs.declared.bits.Binary.{Binary}
 
 -- the number that variables spell with a further number in place of the bits behind them
@@ -148,7 +148,7 @@ one_place_more L f L1 g L2 h one other bits more carry place none a b made of_on
 
 -- behind the last place the carry is the last bit
 pub all_places : (L : List VariableLiterals) (f : Cnf) (L1 : List VariableLiterals) (g : Cnf) (one other bits more : List ℕ) (carry place : ℕ) → AddsUpTo L f L1 g one other bits carry place → length one ≤ place → length other ≤ place
-    → more ≡ bits ++ carry ∷ [] → Spells L f L1 g (λ values. spelled values one +ℤ spelled values other) more
+    → more ≡ bits ++ carry ∷ [] → SpellsNumber L f L1 g (λ values. spelled values one +ℤ spelled values other) more
 all_places L f L1 g one other bits more carry place so_far past_one past_other pushed = record {
   are_bits = subst (AreBits L1) (sym pushed) (All-push (IsBit L1) bits carry so_far.are_bits so_far.is_bit);
   widens = widens_like L f L1 g

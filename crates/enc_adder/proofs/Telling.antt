@@ -21,7 +21,7 @@ use Rattle.ep_flat.specs.Cons.{is_as_said, number_at}
 use Rattle.enc_adder.proofs.SideSums.{compare_moved, parts_below, parts_front}
 use Rattle.enc_adder.proofs.Sums.{below, numbers_below, spelled_front, total_front}
 use Rattle.enc_adder.proofs.Widening.{no_longer, widens_end, widens_then}
-use Rattle.enc_adder.specs.Bits.{AreBits, AreNumbers, Spells, Widens, spelled, total}
+use Rattle.enc_adder.specs.Bits.{AreBits, AreNumbers, SpellsNumber, Widens, spelled, total}
 use Rattle.enc_adder.specs.Comparing.{Tells}
 use Rattle.enc_adder.specs.Parts.{HasSides, Levels, difference, sum_of_parts}
 use Rattle.enc_adder.specs.declared.bits.Binary.{Binary}
@@ -41,7 +41,7 @@ leveled L f L1 g L2 h old new parts number first sides levels =
     omega (arith, ints, one, is))
 
 pub left_summed : (L : List VariableLiterals) (f : Cnf) (L1 : List VariableLiterals) (g : Cnf) (L2 : List VariableLiterals) (h : Cnf) (left right : List Binary) (bits : List ℕ) (parts : List (ℤ × ℕ)) (number : ℤ) → All (λ p. p.1 < length L) parts → AreNumbers L1 left → AreNumbers L1 right
-    → Widens L f L1 g (Differ parts number (λ values. total values left) (λ values. total values right)) → Spells L1 g L2 h (λ values. total values left) bits
+    → Widens L f L1 g (Differ parts number (λ values. total values left) (λ values. total values right)) → SpellsNumber L1 g L2 h (λ values. total values left) bits
     → Widens L f L2 h (Differ parts number (λ values. spelled values bits) (λ values. total values right))
 left_summed L f L1 g L2 h left right bits parts number names of_left of_right wide spells =
     widens_then L f L1 g L2 h (Differ parts number (λ values. total values left) (λ values. total values right)) (λ values. spelled values bits ≡ total values left) (Differ parts number (λ values. spelled values bits) (λ values. total values right)) wide spells.widens
@@ -53,7 +53,7 @@ left_summed L f L1 g L2 h left right bits parts number names of_left of_right wi
     omega (arith, ints, before, now, one, two, three))
 
 pub right_summed : (L : List VariableLiterals) (f : Cnf) (L1 : List VariableLiterals) (g : Cnf) (L2 : List VariableLiterals) (h : Cnf) (left : List ℕ) (right : List Binary) (bits : List ℕ) (parts : List (ℤ × ℕ)) (number : ℤ) → All (λ p. p.1 < length L) parts → AreBits L1 left → AreNumbers L1 right
-    → Widens L f L1 g (Differ parts number (λ values. spelled values left) (λ values. total values right)) → Spells L1 g L2 h (λ values. total values right) bits
+    → Widens L f L1 g (Differ parts number (λ values. spelled values left) (λ values. total values right)) → SpellsNumber L1 g L2 h (λ values. total values right) bits
     → Widens L f L2 h (Differ parts number (λ values. spelled values left) (λ values. spelled values bits))
 right_summed L f L1 g L2 h left right bits parts number names of_left of_right wide spells =
     widens_then L f L1 g L2 h (Differ parts number (λ values. spelled values left) (λ values. total values right)) (λ values. spelled values bits ≡ total values right) (Differ parts number (λ values. spelled values left) (λ values. spelled values bits)) wide spells.widens

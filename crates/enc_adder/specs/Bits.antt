@@ -55,7 +55,7 @@ pub record HasBit (layout : List VariableLiterals) (f : Cnf) (new_layout : List 
   pub widens : Widens layout f new_layout g (λ values. says values x)
 
 -- A formula and its layout were widened, and bits of the layout spell a number.
-pub record Spells (layout : List VariableLiterals) (f : Cnf) (new_layout : List VariableLiterals) (g : Cnf) (worth : List ℤ → ℤ) (bits : List ℕ) : Type 0 where
+pub record SpellsNumber (layout : List VariableLiterals) (f : Cnf) (new_layout : List VariableLiterals) (g : Cnf) (worth : List ℤ → ℤ) (bits : List ℕ) : Type 0 where
   pub are_bits : AreBits new_layout bits
   pub widens : Widens layout f new_layout g (λ values. spelled values bits ≡ worth values)
 

@@ -2,7 +2,7 @@
 
 ghost use Rattle.std.specs.Prelude.{◌+ℤ◌, pos, IfOk};
 ghost use Rattle.std.specs.List.Sorted.{IsPermutation};
-ghost use Rattle.enc_adder.specs.Bits.{AreBits, AreNumbers, IsConstant, Spells, spelled, total};
+ghost use Rattle.enc_adder.specs.Bits.{AreBits, AreNumbers, IsConstant, SpellsNumber, spelled, total};
 ghost use Rattle.enc_steps.specs.Steps.{IsReady};
 
 use crate::bits::{Binary, bit_at};
@@ -26,7 +26,7 @@ fn added(
     requires zero { IsConstant layout.old zero (pos 0) }
     requires one { AreBits layout.old one.now }
     requires other { AreBits layout.old other.now }
-    ensures { IfOk result (λ sum. Spells layout.old f.old layout.new f.new
+    ensures { IfOk result (λ sum. SpellsNumber layout.old f.old layout.new f.new
         (λ values. spelled values one.now +ℤ spelled values other.now) sum.bits.items) }
 {
     let mut bits = Vec::new(alloc);
@@ -62,7 +62,7 @@ pub(crate) fn sum_of_numbers(
     requires ready { IsReady layout.old f.old }
     requires zero { IsConstant layout.old zero (pos 0) }
     requires numbers { AreNumbers layout.old numbers.items }
-    ensures { IfOk result (λ sum. Spells layout.old f.old layout.new f.new
+    ensures { IfOk result (λ sum. SpellsNumber layout.old f.old layout.new f.new
         (λ values. total values numbers.items) sum.bits.items) }
 {
     let mut queue = in_order(numbers)?;

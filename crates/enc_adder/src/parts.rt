@@ -2,7 +2,7 @@
 
 ghost use Rattle.std.specs.Prelude.{◌≡◌, ◌<◌, ◌-ℤ◌, ◌*ℤ◌, ℕ, ℤ, pos, true, false, length, map, IfOk, OnOk};
 ghost use Rattle.std.specs.List.{All};
-ghost use Rattle.enc_adder.specs.Bits.{HasBit, IsBit, IsConstant, Spells};
+ghost use Rattle.enc_adder.specs.Bits.{HasBit, IsBit, IsConstant, SpellsNumber};
 ghost use Rattle.enc_adder.specs.Parts.{AreStepsOf, HaveWorths, half_step, low_bit as low_bit_is};
 ghost use Rattle.enc_atoms.specs.Atoms.{Adds};
 ghost use Rattle.enc_steps.specs.Steps.{IsReady};
@@ -177,7 +177,7 @@ pub(crate) fn part(
     requires ready { IsReady layout.old f.old }
     requires zero { IsConstant layout.old zero (pos 0) }
     requires var { var < length layout.old }
-    ensures { IfOk result (λ made. Spells layout.old f.old layout.new f.new
+    ensures { IfOk result (λ made. SpellsNumber layout.old f.old layout.new f.new
         (λ values. size *ℤ (number_at values var -ℤ least)) made.bits.items) }
 {
     let mut steps = steps_of(alloc, layout, var, least, size)?;

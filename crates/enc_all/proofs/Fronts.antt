@@ -8,7 +8,7 @@ use Rattle.enc_atoms.proofs.Decoded.{number_front}
 use Rattle.ep_base.specs.Numbers.{absolute_of, are_different, compare_holds, counts_hold, greatest_of, is_one, is_row_of, least_of, has_number, lex_holds, nth_power, of_bool}
 use Rattle.ep_base.specs.Reads.{safe_picked, safe_quotient, safe_remainder, same_bool, weighted_sum}
 use Rattle.ep_base.specs.declared.operators.CompareOp.{CompareOp}
-use Rattle.ep_flat.specs.Cons.{FlatCon, FlatKind, all_different, all_of, at_least, at_most, absolute, clause, con_holds, con_variables, counts, element, greatest, is_as_said, is_value, kind_holds, kind_variables, least, lex, linear, member, number_at, numbers_at, power, product, quotient, remainder, same_truth, table}
+use Rattle.ep_flat.specs.Cons.{FlatCon, FlatKind, all_different, all_of, at_least, at_most, absolute, clause, con_holds, con_variables, counts, element, greatest, is_as_said, is_value, kind_holds, kind_variables, least, lex, linear, member, number_at, numbers_of_vars, power, product, quotient, remainder, same_truth, table}
 
 front_part : (P : ℕ → Type 0) (xs ys : List ℕ) → All P (xs ++ ys) → All P xs
 front_part P xs ys all = All-from_contains P xs (λ x found. All-contains P (xs ++ ys) x all (Contains-append_left xs ys x found))
@@ -16,8 +16,8 @@ front_part P xs ys all = All-from_contains P xs (λ x found. All-contains P (xs 
 back_part : (P : ℕ → Type 0) (xs ys : List ℕ) → All P (xs ++ ys) → All P ys
 back_part P xs ys all = All-from_contains P ys (λ x found. All-contains P (xs ++ ys) x all (Contains-append_right xs ys x found))
 
-numbers_front : (values : List ℤ) (n : ℕ) (xs : List ℕ) → All (λ x. x < n) xs → numbers_at values xs ≡ numbers_at (take n values) xs
-unfolding numbers_at
+numbers_front : (values : List ℤ) (n : ℕ) (xs : List ℕ) → All (λ x. x < n) xs → numbers_of_vars values xs ≡ numbers_of_vars (take n values) xs
+unfolding numbers_of_vars
 numbers_front values n [] low = refl
 numbers_front values n (x ∷ xs) low =
     ap (λ v. v ∷ map (number_at values) xs) (sym (number_front values n x (All-head (λ y. y < n) x xs low)))
@@ -58,15 +58,15 @@ three_front values n x y z h low =
     ∙ two_front values n y z (h (number_at (take n values) x)) (All-tail Low x (y ∷ z ∷ []) low)
 
 -- a number and some numbers
-more_front : {R : Type 0} (values : List ℤ) (n x : ℕ) (xs : List ℕ) (h : ℤ → List ℤ → R) → All (λ z. z < n) (x ∷ xs) → h (number_at values x) (numbers_at values xs) ≡ h (number_at (take n values) x) (numbers_at (take n values) xs)
+more_front : {R : Type 0} (values : List ℤ) (n x : ℕ) (xs : List ℕ) (h : ℤ → List ℤ → R) → All (λ z. z < n) (x ∷ xs) → h (number_at values x) (numbers_of_vars values xs) ≡ h (number_at (take n values) x) (numbers_of_vars (take n values) xs)
 more_front values n x xs h low =
     let Low : ℕ → Type 0 = λ z. z < n in
-    ap (λ v. h v (numbers_at values xs)) (sym (number_front values n x (All-head Low x xs low))) ∙ ap (h (number_at (take n values) x)) (numbers_front values n xs (All-tail Low x xs low))
+    ap (λ v. h v (numbers_of_vars values xs)) (sym (number_front values n x (All-head Low x xs low))) ∙ ap (h (number_at (take n values) x)) (numbers_front values n xs (All-tail Low x xs low))
 
 -- the numbers of two lists
-lists_front : {R : Type 0} (values : List ℤ) (n : ℕ) (xs ys : List ℕ) (h : List ℤ → List ℤ → R) → All (λ z. z < n) (xs ++ ys) → h (numbers_at values xs) (numbers_at values ys) ≡ h (numbers_at (take n values) xs) (numbers_at (take n values) ys)
+lists_front : {R : Type 0} (values : List ℤ) (n : ℕ) (xs ys : List ℕ) (h : List ℤ → List ℤ → R) → All (λ z. z < n) (xs ++ ys) → h (numbers_of_vars values xs) (numbers_of_vars values ys) ≡ h (numbers_of_vars (take n values) xs) (numbers_of_vars (take n values) ys)
 lists_front values n xs ys h low =
-    ap (λ vs. h vs (numbers_at values ys)) (numbers_front values n xs (front_part (λ z. z < n) xs ys low)) ∙ ap (h (numbers_at (take n values) xs)) (numbers_front values n ys (back_part (λ z. z < n) xs ys low))
+    ap (λ vs. h vs (numbers_of_vars values ys)) (numbers_front values n xs (front_part (λ z. z < n) xs ys low)) ∙ ap (h (numbers_of_vars (take n values) xs)) (numbers_front values n ys (back_part (λ z. z < n) xs ys low))
 
 kind_front : (values : List ℤ) (n : ℕ) (kind : FlatKind) → All (λ x. x < n) (kind_variables kind) → kind_holds values kind ≡ kind_holds (take n values) kind
 unfolding kind_holds kind_variables
@@ -83,8 +83,8 @@ kind_front values n (absolute r x) low = two_front values n r x (λ u v. int_eq 
 kind_front values n (least r xs) low = more_front values n r xs (λ u vs. is_value (least_of vs) u) low
 kind_front values n (greatest r xs) low = more_front values n r xs (λ u vs. is_value (greatest_of vs) u) low
 kind_front values n (element r xs keys indices) low =
-    more_front values n r xs (λ u vs. int_eq u (safe_picked vs keys (numbers_at values indices))) (front_part (λ x. x < n) (r ∷ xs) indices low)
-    ∙ ap (λ vs. int_eq (number_at (take n values) r) (safe_picked (numbers_at (take n values) xs) keys vs)) (numbers_front values n indices (back_part (λ x. x < n) (r ∷ xs) indices low))
+    more_front values n r xs (λ u vs. int_eq u (safe_picked vs keys (numbers_of_vars values indices))) (front_part (λ x. x < n) (r ∷ xs) indices low)
+    ∙ ap (λ vs. int_eq (number_at (take n values) r) (safe_picked (numbers_of_vars (take n values) xs) keys vs)) (numbers_front values n indices (back_part (λ x. x < n) (r ∷ xs) indices low))
 kind_front values n (all_different xs) low = ap are_different (numbers_front values n xs low)
 kind_front values n (counts xs ns cs) low = lists_front values n xs cs (λ vs ws. unwrap_or (counts_hold CompareOp.Equal vs ns ws) false) low
 kind_front values n (at_least xs cs ns) low = ap (λ vs. unwrap_or (counts_hold CompareOp.AtLeast vs ns cs) false) (numbers_front values n xs low)

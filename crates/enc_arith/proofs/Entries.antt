@@ -9,7 +9,7 @@ use Rattle.std.specs.Ordering.{int_eq}
 use Rattle.std.proofs.lemmas.Bool.Decides.{Decides-int_eq, Decides-like, Decides-ltb, same_from_decides}
 use Rattle.ep_base.specs.Numbers.{same_numbers}
 use Rattle.ep_base.specs.Reads.{first_or_zero, picked, safe_picked}
-use Rattle.ep_flat.specs.Cons.{number_at, numbers_at}
+use Rattle.ep_flat.specs.Cons.{number_at, numbers_of_vars}
 use Rattle.enc_arith.specs.Entries.{HaveParts}
 use Rattle.enc_arith.specs.Elements.{element_value, number_of_first, part_of, rest_after, rests_after, with_parts}
 
@@ -75,8 +75,8 @@ later v vs None = refl
 later v vs (Some i) = refl
 
 -- what is picked is the number of the part of the key
-pub picked_part : (values : List ℤ) (xs : List ℕ) (keys : List (List ℤ)) (ns : List ℤ) → picked (numbers_at values xs) keys ns ≡ option_map (number_at values) (part_of (with_parts keys xs) ns)
-unfolding picked part_of with_parts numbers_at
+pub picked_part : (values : List ℤ) (xs : List ℕ) (keys : List (List ℤ)) (ns : List ℤ) → picked (numbers_of_vars values xs) keys ns ≡ option_map (number_at values) (part_of (with_parts keys xs) ns)
+unfolding picked part_of with_parts numbers_of_vars
 picked_part values xs [] ns = refl
 picked_part values [] (key ∷ keys) ns = none_there (position (λ k. same_numbers k ns) (key ∷ keys))
 picked_part values (x ∷ xs) (key ∷ keys) ns =
@@ -89,19 +89,19 @@ picked_part values (x ∷ xs) (key ∷ keys) ns =
     by rest true = refl
     by rest false = later (number_at values x) (map (number_at values) xs) (position (λ k. same_numbers k ns) keys) ∙ rest
 
-first_number : (values : List ℤ) (o : Option ℕ) (ys : List ℕ) → number_of_first values o (slice_get ys 0) ≡ unwrap_or (option_map (number_at values) o) (first_or_zero (numbers_at values ys))
-unfolding number_of_first first_or_zero numbers_at
+first_number : (values : List ℤ) (o : Option ℕ) (ys : List ℕ) → number_of_first values o (slice_get ys 0) ≡ unwrap_or (option_map (number_at values) o) (first_or_zero (numbers_of_vars values ys))
+unfolding number_of_first first_or_zero numbers_of_vars
 first_number values (Some x) ys = refl
 first_number values None [] = refl
 first_number values None (y ∷ ys) = refl
 
 -- an element is the value of its entries
 pub element_is : (values : List ℤ) (xs : List ℕ) (keys : List (List ℤ)) (indices : List ℕ)
-    → element_value values (with_parts keys xs) (slice_get xs 0) indices ≡ safe_picked (numbers_at values xs) keys (numbers_at values indices)
+    → element_value values (with_parts keys xs) (slice_get xs 0) indices ≡ safe_picked (numbers_of_vars values xs) keys (numbers_of_vars values indices)
 unfolding element_value safe_picked
 element_is values xs keys indices =
-    first_number values (part_of (with_parts keys xs) (numbers_at values indices)) xs
-    ∙ ap (λ o. unwrap_or o (first_or_zero (numbers_at values xs))) (sym (picked_part values xs keys (numbers_at values indices)))
+    first_number values (part_of (with_parts keys xs) (numbers_of_vars values indices)) xs
+    ∙ ap (λ o. unwrap_or o (first_or_zero (numbers_of_vars values xs))) (sym (picked_part values xs keys (numbers_of_vars values indices)))
 
 -- ---- keys with their parts, one by one
 
@@ -250,7 +250,7 @@ whole_none plain all xs k long so_far = sym (so_far ∙ ap (λ ys. part_of (map 
 
 pub element_after : (values : List ℤ) (entries : List (List ℤ × ℕ)) (other : Option ℕ) (index : ℕ) (later indices : List ℕ) → indices ≡ index ∷ later
     → element_value values (rests_after (number_at values index) entries) other later ≡ element_value values entries other indices
-unfolding element_value numbers_at
+unfolding element_value numbers_of_vars
 element_after values entries other index later indices is =
     ap (λ o. number_of_first values o other) (sym (part_after entries (number_at values index) (map (number_at values) later)))
     ∙ ap (λ xs. number_of_first values (part_of entries (map (number_at values) xs)) other) (sym is)
@@ -258,10 +258,10 @@ element_after values entries other index later indices is =
 pub element_none : (values : List ℤ) (entries : List (List ℤ × ℕ)) (other : Option ℕ) (indices : List ℕ) → entries ≡ [] → number_of_first values None other ≡ element_value values entries other indices
 unfolding element_value
 element_none values entries other indices none =
-    ap (λ o. number_of_first values o other) (sym (no_part (numbers_at values indices))) ∙ ap (λ es. number_of_first values (part_of es (numbers_at values indices)) other) (sym none)
+    ap (λ o. number_of_first values o other) (sym (no_part (numbers_of_vars values indices))) ∙ ap (λ es. number_of_first values (part_of es (numbers_of_vars values indices)) other) (sym none)
 
 pub element_last : (values : List ℤ) (entries : List (List ℤ × ℕ)) (part other : Option ℕ) (indices : List ℕ) → indices ≡ [] → part ≡ part_of entries [] → number_of_first values part other ≡ element_value values entries other indices
-unfolding element_value numbers_at
+unfolding element_value numbers_of_vars
 element_last values entries part other indices none is =
     ap (λ o. number_of_first values o other) is ∙ ap (λ xs. number_of_first values (part_of entries (map (number_at values) xs)) other) (sym none)
 

@@ -7,7 +7,7 @@ use Rattle.std.proofs.lemmas.Int.{ints}
 use Rattle.cnf_core.specs.Formula.{Cnf}
 use Rattle.ep_base.specs.Numbers.{compare_holds, of_bool}
 use Rattle.ep_base.specs.declared.operators.CompareOp.{CompareOp}
-use Rattle.ep_flat.specs.Cons.{is_as_said, number_at, numbers_at}
+use Rattle.ep_flat.specs.Cons.{is_as_said, number_at, numbers_of_vars}
 use Rattle.enc_atoms.proofs.Adding.{adds_both, adds_like}
 use Rattle.enc_atoms.specs.Atoms.{Adds, atom_holds, clause_holds, test_holds}
 use Rattle.enc_atoms.specs.declared.atoms.Atom.{Atom}
@@ -124,24 +124,24 @@ atoms_told values r t w v = two_atoms values (is_not_atom r w) (is_atom t v)
 
 -- whether a number is the least or greatest one, by two facts about it
 pub whether_told : (side : Side) (values : List ℤ) (xs : List ℕ) (r t : ℕ) (w : ℤ) (fails holds beyond : List Atom) → fails ≡ is_not_atom r w ∷ is_atom t (pos 0) ∷ [] → holds ≡ is_not_atom r w ∷ is_atom t (pos 1) ∷ []
-    → clause_holds values beyond ≡ (clause_holds values holds || any_compares (contrary_of (within_of side)) (numbers_at values xs) w)
-    → (IsTrue (clause_holds values fails || all_compare (within_of side) (numbers_at values xs) w) × IsTrue (clause_holds values fails || any_compares (reached_of side) (numbers_at values xs) w)
-    × IsTrue (clause_holds values beyond || all_compare (contrary_of (reached_of side)) (numbers_at values xs) w))
-    ↔ IsTrue (says values (or_is_not [] r w) (Some t) (is_extreme side (numbers_at values xs) w))
+    → clause_holds values beyond ≡ (clause_holds values holds || any_compares (contrary_of (within_of side)) (numbers_of_vars values xs) w)
+    → (IsTrue (clause_holds values fails || all_compare (within_of side) (numbers_of_vars values xs) w) × IsTrue (clause_holds values fails || any_compares (reached_of side) (numbers_of_vars values xs) w)
+    × IsTrue (clause_holds values beyond || all_compare (contrary_of (reached_of side)) (numbers_of_vars values xs) w))
+    ↔ IsTrue (says values (or_is_not [] r w) (Some t) (is_extreme side (numbers_of_vars values xs) w))
 unfolding is_extreme
 whether_told side values xs r t w fails holds beyond is_fails is_holds is_beyond =
     let c : Bool = not (int_eq (number_at values r) w) in
     let x : ℤ = number_at values t in
-    let A : Bool = all_compare (within_of side) (numbers_at values xs) w in
-    let B : Bool = any_compares (reached_of side) (numbers_at values xs) w in
+    let A : Bool = all_compare (within_of side) (numbers_of_vars values xs) w in
+    let B : Bool = any_compares (reached_of side) (numbers_of_vars values xs) w in
     let f : clause_holds values fails ≡ (c || int_eq x (pos 0)) = ap (clause_holds values) is_fails ∙ atoms_told values r t w (pos 0) in
     let b : clause_holds values beyond ≡ ((c || int_eq x (pos 1)) || not A) =
-    is_beyond ∙ ap (λ e. e || any_compares (contrary_of (within_of side)) (numbers_at values xs) w) (ap (clause_holds values) is_holds ∙ atoms_told values r t w (pos 1))
-    ∙ ap (λ e. (c || int_eq x (pos 1)) || e) (any_contrary (within_of side) (numbers_at values xs) w) in
+    is_beyond ∙ ap (λ e. e || any_compares (contrary_of (within_of side)) (numbers_of_vars values xs) w) (ap (clause_holds values) is_holds ∙ atoms_told values r t w (pos 1))
+    ∙ ap (λ e. (c || int_eq x (pos 1)) || e) (any_contrary (within_of side) (numbers_of_vars values xs) w) in
     let one : (clause_holds values fails || A) ≡ ((c || int_eq x (pos 0)) || A) = ap (λ e. e || A) f in
     let two : (clause_holds values fails || B) ≡ ((c || int_eq x (pos 0)) || B) = ap (λ e. e || B) f in
-    let three : (clause_holds values beyond || all_compare (contrary_of (reached_of side)) (numbers_at values xs) w) ≡ (((c || int_eq x (pos 1)) || not A) || not B) =
-    ap (λ e. e || all_compare (contrary_of (reached_of side)) (numbers_at values xs) w) b ∙ ap (λ e. ((c || int_eq x (pos 1)) || not A) || e) (all_contrary (reached_of side) (numbers_at values xs) w) in
+    let three : (clause_holds values beyond || all_compare (contrary_of (reached_of side)) (numbers_of_vars values xs) w) ≡ (((c || int_eq x (pos 1)) || not A) || not B) =
+    ap (λ e. e || all_compare (contrary_of (reached_of side)) (numbers_of_vars values xs) w) b ∙ ap (λ e. ((c || int_eq x (pos 1)) || not A) || e) (all_contrary (reached_of side) (numbers_of_vars values xs) w) in
     let h = three_told c A B x in
     let s : (c || int_eq x (of_bool (A && B))) ≡ says values (or_is_not [] r w) (Some t) (A && B) = said values r t w (A && B) in (
       λ p. subst IsTrue s (h.0 (subst IsTrue one p.0, subst IsTrue two p.1, subst IsTrue three p.2)),
@@ -151,27 +151,27 @@ whether_told side values xs r t w fails holds beyond is_fails is_holds is_beyond
 pub adds_is_extreme : (L : List VariableLiterals) (f f1 f2 g : Cnf) (side : Side) (xs : List ℕ) (r t : ℕ) (w n : ℤ) (fails holds beyond : List Atom) (a b d : CompareOp) → IsReady L f → n ≡ w
     → fails ≡ is_not_atom r w ∷ is_atom t (pos 0) ∷ [] → holds ≡ is_not_atom r w ∷ is_atom t (pos 1) ∷ []
     → a ≡ within_of side → b ≡ reached_of side → d ≡ contrary_of (reached_of side)
-    → ((values : List ℤ) → clause_holds values beyond ≡ (clause_holds values holds || any_compares (contrary_of (within_of side)) (numbers_at values xs) w))
-    → Adds L f L f1 (λ values. IsTrue (clause_holds values fails || all_compare a (numbers_at values xs) n))
-    → Adds L f1 L f2 (λ values. IsTrue (clause_holds values fails || any_compares b (numbers_at values xs) n))
-    → Adds L f2 L g (λ values. IsTrue (clause_holds values beyond || all_compare d (numbers_at values xs) n))
-    → Adds L f L g (λ values. IsTrue (says values (or_is_not [] r w) (Some t) (is_extreme side (numbers_at values xs) w)))
+    → ((values : List ℤ) → clause_holds values beyond ≡ (clause_holds values holds || any_compares (contrary_of (within_of side)) (numbers_of_vars values xs) w))
+    → Adds L f L f1 (λ values. IsTrue (clause_holds values fails || all_compare a (numbers_of_vars values xs) n))
+    → Adds L f1 L f2 (λ values. IsTrue (clause_holds values fails || any_compares b (numbers_of_vars values xs) n))
+    → Adds L f2 L g (λ values. IsTrue (clause_holds values beyond || all_compare d (numbers_of_vars values xs) n))
+    → Adds L f L g (λ values. IsTrue (says values (or_is_not [] r w) (Some t) (is_extreme side (numbers_of_vars values xs) w)))
 adds_is_extreme L f f1 f2 g side xs r t w n fails holds beyond a b d ready same is_fails is_holds is_a is_b is_d is_beyond one two three =
-    let P : List ℤ → Type 0 = λ values. IsTrue (clause_holds values fails || all_compare (within_of side) (numbers_at values xs) w) in
-    let Q : List ℤ → Type 0 = λ values. IsTrue (clause_holds values fails || any_compares (reached_of side) (numbers_at values xs) w) in
-    let R : List ℤ → Type 0 = λ values. IsTrue (clause_holds values beyond || all_compare (contrary_of (reached_of side)) (numbers_at values xs) w) in
+    let P : List ℤ → Type 0 = λ values. IsTrue (clause_holds values fails || all_compare (within_of side) (numbers_of_vars values xs) w) in
+    let Q : List ℤ → Type 0 = λ values. IsTrue (clause_holds values fails || any_compares (reached_of side) (numbers_of_vars values xs) w) in
+    let R : List ℤ → Type 0 = λ values. IsTrue (clause_holds values beyond || all_compare (contrary_of (reached_of side)) (numbers_of_vars values xs) w) in
     let p : Adds L f L f1 P =
-    subst (λ v. Adds L f L f1 (λ values. IsTrue (clause_holds values fails || all_compare (within_of side) (numbers_at values xs) v))) same
-    (subst (λ o. Adds L f L f1 (λ values. IsTrue (clause_holds values fails || all_compare o (numbers_at values xs) n))) is_a one) in
+    subst (λ v. Adds L f L f1 (λ values. IsTrue (clause_holds values fails || all_compare (within_of side) (numbers_of_vars values xs) v))) same
+    (subst (λ o. Adds L f L f1 (λ values. IsTrue (clause_holds values fails || all_compare o (numbers_of_vars values xs) n))) is_a one) in
     let q : Adds L f1 L f2 Q =
-    subst (λ v. Adds L f1 L f2 (λ values. IsTrue (clause_holds values fails || any_compares (reached_of side) (numbers_at values xs) v))) same
-    (subst (λ o. Adds L f1 L f2 (λ values. IsTrue (clause_holds values fails || any_compares o (numbers_at values xs) n))) is_b two) in
+    subst (λ v. Adds L f1 L f2 (λ values. IsTrue (clause_holds values fails || any_compares (reached_of side) (numbers_of_vars values xs) v))) same
+    (subst (λ o. Adds L f1 L f2 (λ values. IsTrue (clause_holds values fails || any_compares o (numbers_of_vars values xs) n))) is_b two) in
     let s : Adds L f2 L g R =
-    subst (λ v. Adds L f2 L g (λ values. IsTrue (clause_holds values beyond || all_compare (contrary_of (reached_of side)) (numbers_at values xs) v))) same
-    (subst (λ o. Adds L f2 L g (λ values. IsTrue (clause_holds values beyond || all_compare o (numbers_at values xs) n))) is_d three) in
+    subst (λ v. Adds L f2 L g (λ values. IsTrue (clause_holds values beyond || all_compare (contrary_of (reached_of side)) (numbers_of_vars values xs) v))) same
+    (subst (λ o. Adds L f2 L g (λ values. IsTrue (clause_holds values beyond || all_compare o (numbers_of_vars values xs) n))) is_d three) in
     let PQ : List ℤ → Type 0 = λ values. P values × Q values in
     let whole : Adds L f L g (λ values. PQ values × R values) = adds_both L f f2 L g PQ R ready.is_layout (adds_both L f f1 L f2 P Q ready.is_layout p q) s in
-    adds_like L f L g (λ values. PQ values × R values) (λ values. IsTrue (says values (or_is_not [] r w) (Some t) (is_extreme side (numbers_at values xs) w))) ready.is_layout whole
+    adds_like L f L g (λ values. PQ values × R values) (λ values. IsTrue (says values (or_is_not [] r w) (Some t) (is_extreme side (numbers_of_vars values xs) w))) ready.is_layout whole
     (λ values among. let h = whether_told side values xs r t w fails holds beyond is_fails is_holds (is_beyond values) in
     (λ e. h.0 (e.0.0, e.0.1, e.1), λ k. let m = h.1 k in ((m.0, m.1), m.2)))
 

@@ -2,7 +2,7 @@
 use Rattle.std.specs.Prelude.{ℕ, ℤ, pos, List, [], ◌∷◌, ◌++◌, Option, Some, None, if◌then◌else◌}
 use Rattle.std.specs.Ordering.{int_eq}
 use Rattle.ep_base.specs.Numbers.{same_numbers}
-use Rattle.ep_flat.specs.Cons.{number_at, numbers_at}
+use Rattle.ep_flat.specs.Cons.{number_at, numbers_of_vars}
 
 -- keys with the variables of their parts, as far as there are both
 unfoldable pub with_parts : List (List ℤ) → List ℕ → List (List ℤ × ℕ)
@@ -33,4 +33,4 @@ number_of_first values None None = pos 0
 
 -- the number of the part whose key the indices are, or else of the other part, or 0
 unfoldable pub element_value : List ℤ → List (List ℤ × ℕ) → Option ℕ → List ℕ → ℤ
-element_value values entries other indices = number_of_first values (part_of entries (numbers_at values indices)) other
+element_value values entries other indices = number_of_first values (part_of entries (numbers_of_vars values indices)) other

@@ -6,10 +6,10 @@ use Rattle.enc_arith.specs.declared.functions.Function.{Function}
 use Rattle.enc_arith.specs.declared.functions.Function.TheVariants as code
 
 -- the value of a function
-unfoldable pub value_of : Function → ℤ → ℤ
-value_of code.Same n = n
-value_of code.Absolute n = absolute_of n
-value_of (code.Power exponent) n = nth_power n exponent
-value_of (code.Product factor) n = factor *ℤ n
-value_of (code.Quotient over) n = safe_quotient over n
-value_of (code.Remainder over) n = safe_remainder over n
+unfoldable pub function_value : Function → ℤ → ℤ
+function_value code.Same n = n
+function_value code.Absolute n = absolute_of n
+function_value (code.Power exponent) n = nth_power n exponent
+function_value (code.Product factor) n = factor *ℤ n
+function_value (code.Quotient over) n = safe_quotient over n
+function_value (code.Remainder over) n = safe_remainder over n

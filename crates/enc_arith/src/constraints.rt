@@ -8,7 +8,7 @@ ghost use Rattle.enc_arith.specs.Extremes.{extreme_of};
 ghost use Rattle.enc_arith.specs.Saying.{IsReady, IsTarget, says};
 ghost use Rattle.enc_atoms.specs.Atoms.{Adds};
 ghost use Rattle.enc_var.specs.Layouts.{CanTake};
-ghost use Rattle.ep_flat.specs.Cons.{con_holds, family_of, is_value, number_at, numbers_at, of_functions};
+ghost use Rattle.ep_flat.specs.Cons.{con_holds, family_of, is_value, number_at, numbers_of_vars, of_functions};
 ghost use Rattle.ep_flat.specs.FlatViews.{plain_con};
 
 use crate::elements::{add_element, with_parts};
@@ -47,7 +47,7 @@ fn add_picked(
     requires indices { All (λ x. x < length layout.now) indices.now }
     ensures { OnOk result (Adds layout.now f.old layout.now f.new
         (λ values. IsTrue (says values [] target.truth (int_eq (number_at values target.result)
-        (safe_picked (numbers_at values parts.now) keys.now (numbers_at values indices.now)))))) }
+        (safe_picked (numbers_of_vars values parts.now) keys.now (numbers_of_vars values indices.now)))))) }
 {
     let entries = with_parts(alloc, keys, parts)?;
     let other = first_of(parts);
@@ -78,7 +78,7 @@ fn add_side(
     requires parts { All (λ x. x < length layout.now) parts.now }
     ensures { OnOk result (Adds layout.now f.old layout.now f.new
         (λ values. IsTrue (says values [] target.truth
-        (is_value (extreme_of side (numbers_at values parts.now)) (number_at values target.result))))) }
+        (is_value (extreme_of side (numbers_of_vars values parts.now)) (number_at values target.result))))) }
 {
     match target.truth {
         Some(truth) => add_whether_extreme(alloc, layout, f, side, truth, parts, target.result)?,

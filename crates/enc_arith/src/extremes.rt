@@ -4,7 +4,7 @@ ghost use Rattle.std.specs.Prelude.{◌≡◌, ◌<◌, ◌||◌, ℕ, ℤ, List
 ghost use Rattle.std.specs.List.{All};
 ghost use Rattle.ep_base.specs.Numbers.{compare_holds};
 ghost use Rattle.ep_base.specs.Reads.{IsWithinNumbers};
-ghost use Rattle.ep_flat.specs.Cons.{is_value, number_at, numbers_at};
+ghost use Rattle.ep_flat.specs.Cons.{is_value, number_at, numbers_of_vars};
 ghost use Rattle.enc_atoms.specs.Atoms.{Adds, atom_holds, clause_holds};
 ghost use Rattle.enc_arith.specs.Extremes.{all_compare, any_compares, extreme_of, is_extreme, level_holds};
 ghost use Rattle.enc_arith.specs.Saying.{IsReady, NamesIn, or_is_not, says};
@@ -46,7 +46,7 @@ fn gathered(
 ) -> Result<Vec<Atom>, AllocError>
     requires { IsWithinNumbers number }
     ensures means { IfOk result (λ atoms. (values : List ℤ)
-        → clause_holds values atoms.items ≡ (clause_holds values when.now || any_compares op (numbers_at values xs.now) number)) }
+        → clause_holds values atoms.items ≡ (clause_holds values when.now || any_compares op (numbers_of_vars values xs.now) number)) }
     ensures names { IfOk result (λ atoms. (count : ℕ) → All (λ atom. atom.var < count) when.now
         → All (λ x. x < count) xs.now → All (λ atom. atom.var < count) atoms.items) }
 {
@@ -94,7 +94,7 @@ fn add_each(
     requires near { IsWithinNumbers number }
     requires there { All (λ x. x < length layout.now) xs.now }
     ensures { OnOk result (Adds layout.now f.old layout.now f.new
-        (λ values. IsTrue (clause_holds values when.now || all_compare op (numbers_at values xs.now) number))) }
+        (λ values. IsTrue (clause_holds values when.now || all_compare op (numbers_of_vars values xs.now) number))) }
 {
     for x in xs {
         add_compared(alloc, layout, f, when, op, number, *x)?;
@@ -117,7 +117,7 @@ fn add_some(
     requires near { IsWithinNumbers number }
     requires there { All (λ x. x < length layout.now) xs.now }
     ensures { OnOk result (Adds layout.now f.old layout.now f.new
-        (λ values. IsTrue (clause_holds values when.now || any_compares op (numbers_at values xs.now) number))) }
+        (λ values. IsTrue (clause_holds values when.now || any_compares op (numbers_of_vars values xs.now) number))) }
 {
     let atoms = gathered(alloc, when, op, number, xs)?;
     add_clause(alloc, layout, f, atoms.as_slice())?;
@@ -139,7 +139,7 @@ fn add_level(
     requires there { All (λ x. x < length layout.now) xs.now }
     requires result { r < length layout.now }
     ensures { OnOk result (Adds layout.now f.old layout.now f.new
-        (λ values. IsTrue (level_holds side (numbers_at values xs.now) (number_at values r) number))) }
+        (λ values. IsTrue (level_holds side (numbers_of_vars values xs.now) (number_at values r) number))) }
 {
     let within = side.within();
     let past = contrary(within);
@@ -166,7 +166,7 @@ pub(crate) fn add_extreme(
     requires target { r < length layout.now }
     requires numbers { All IsWithinNumbers (literals_at layout.now r).domain }
     ensures { OnOk result (Adds layout.now f.old layout.now f.new
-        (λ values. IsTrue (is_value (extreme_of side (numbers_at values xs.now)) (number_at values r)))) }
+        (λ values. IsTrue (is_value (extreme_of side (numbers_of_vars values xs.now)) (number_at values r)))) }
 {
     let numbers = listed(alloc, layout.domain(r))?;
     for number in numbers.as_slice() {
@@ -192,7 +192,7 @@ fn add_whether(
     requires result { r < length layout.now }
     requires truth { truth < length layout.now }
     ensures { OnOk result (Adds layout.now f.old layout.now f.new
-        (λ values. IsTrue (says values (or_is_not [] r number) (Some truth) (is_extreme side (numbers_at values xs.now) number)))) }
+        (λ values. IsTrue (says values (or_is_not [] r number) (Some truth) (is_extreme side (numbers_of_vars values xs.now) number)))) }
 {
     let within = side.within();
     let reached = side.reached();
@@ -224,7 +224,7 @@ pub(crate) fn add_whether_extreme(
     requires numbers { All IsWithinNumbers (literals_at layout.now r).domain }
     ensures { OnOk result (Adds layout.now f.old layout.now f.new
         (λ values. IsTrue (says values [] (Some truth)
-        (is_value (extreme_of side (numbers_at values xs.now)) (number_at values r))))) }
+        (is_value (extreme_of side (numbers_of_vars values xs.now)) (number_at values r))))) }
 {
     let numbers = listed(alloc, layout.domain(r))?;
     for number in numbers.as_slice() {

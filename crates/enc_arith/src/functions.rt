@@ -22,11 +22,11 @@ pub(crate) enum Function {
 }
 
 impl Function {
-    ghost use Rattle.enc_arith.specs.Functions.{value_of};
+    ghost use Rattle.enc_arith.specs.Functions.{function_value};
 
     /// The function's value, if a variable can have it.
     pub(crate) fn at(self, number: i64) -> Option<i64>
-        ensures { Finds result (value_of self number) }
+        ensures { Finds result (function_value self number) }
     {
         match self {
             Function::Same => Some(number),

@@ -27,13 +27,13 @@ pub(crate) enum Operation {
 
 impl Operation {
     ghost use Rattle.std.specs.Prelude.{◌≡◌, ℤ};
-    ghost use Rattle.enc_arith.specs.Functions.{value_of};
+    ghost use Rattle.enc_arith.specs.Functions.{function_value};
     ghost use Rattle.enc_arith.specs.Operations.{result_of};
 
     /// The function of the second number, where this is the first one.
-    #[tactic(auto, unfolding(crate::specs::Functions::value_of, crate::specs::Operations::result_of))]
+    #[tactic(auto, unfolding(crate::specs::Functions::function_value, crate::specs::Operations::result_of))]
     fn given(self, first: i64) -> Function
-        ensures { (n : ℤ) → value_of result n ≡ result_of self first n }
+        ensures { (n : ℤ) → function_value result n ≡ result_of self first n }
     {
         match self {
             Operation::Product => Function::Product(first),

@@ -4,7 +4,7 @@ ghost use Rattle.std.specs.Prelude.{◌<◌, ◌++◌, false, length, IsTrue, On
 ghost use Rattle.std.specs.Ordering.{int_eq};
 ghost use Rattle.ep_flat.specs.Cons.{is_value, number_at};
 ghost use Rattle.enc_atoms.specs.Atoms.{Adds, clause_holds};
-ghost use Rattle.enc_arith.specs.Functions.{value_of};
+ghost use Rattle.enc_arith.specs.Functions.{function_value};
 ghost use Rattle.enc_arith.specs.Saying.{IsReady, IsTarget, NamesIn, or_is_not, says};
 
 use crate::functions::Function;
@@ -134,7 +134,7 @@ fn add_case(
     requires argument { y < length layout.now }
     ensures { OnOk result (Adds layout.now f.old layout.now f.new
         (λ values. IsTrue (says values (or_is_not when.now y number) target.truth
-        (int_eq (number_at values target.result) (value_of function number))))) }
+        (int_eq (number_at values target.result) (function_value function number))))) }
 {
     let mut atoms = Vec::from_slice(alloc, when)?;
     atoms.push(Atom::is_not(y, number))?;
@@ -165,7 +165,7 @@ pub(crate) fn add_function(
     requires argument { y < length layout.now }
     ensures { OnOk result (Adds layout.now f.old layout.now f.new
         (λ values. IsTrue (says values when.now target.truth
-        (int_eq (number_at values target.result) (value_of function (number_at values y)))))) }
+        (int_eq (number_at values target.result) (function_value function (number_at values y)))))) }
 {
     let numbers = listed(alloc, layout.domain(y))?;
     for number in numbers.as_slice() {

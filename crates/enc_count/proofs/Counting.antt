@@ -15,7 +15,7 @@ use Rattle.ep_base.specs.Numbers.{compare_holds, counts_hold, has_number, of_boo
 use Rattle.ep_base.specs.Reads.{IsWithinNumbers, weighted_sum}
 use Rattle.ep_base.specs.declared.operators.CompareOp.{CompareOp}
 use Rattle.ep_base.specs.declared.operators.CompareOp.TheVariants as Op
-use Rattle.ep_flat.specs.Cons.{FlatCon, con_holds, con_variables, is_as_said, kind_coefficients, kind_holds, kind_variables, linear, number_at, numbers_at}
+use Rattle.ep_flat.specs.Cons.{FlatCon, con_holds, con_variables, is_as_said, kind_coefficients, kind_holds, kind_variables, linear, number_at, numbers_of_vars}
 use Rattle.enc_atoms.proofs.Adding.{adds_both, adds_later, adds_like}
 use Rattle.enc_atoms.proofs.Decoded.{length_among, number_among, number_front}
 use Rattle.enc_atoms.specs.Atoms.{Adds, AreOfDomains, clause_holds}
@@ -62,46 +62,46 @@ times_append (x ∷ xs) ys v = omega (arith, ints, times_cons x (xs ++ ys) v, ti
 times_one : (x v : ℤ) → times_in (x ∷ []) v ≡ of_bool (int_eq v x)
 times_one x v = omega (arith, ints, times_cons x [] v, times_nothing v)
 
-numbers_append : (values : List ℤ) (xs ys : List ℕ) → numbers_at values (xs ++ ys) ≡ numbers_at values xs ++ numbers_at values ys
-unfolding numbers_at
+numbers_append : (values : List ℤ) (xs ys : List ℕ) → numbers_of_vars values (xs ++ ys) ≡ numbers_of_vars values xs ++ numbers_of_vars values ys
+unfolding numbers_of_vars
 numbers_append values xs ys = map-append (number_at values) xs ys
 
-numbers_one : (values : List ℤ) (x : ℕ) → numbers_at values (x ∷ []) ≡ number_at values x ∷ []
-unfolding numbers_at
+numbers_one : (values : List ℤ) (x : ℕ) → numbers_of_vars values (x ∷ []) ≡ number_at values x ∷ []
+unfolding numbers_of_vars
 numbers_one values x = refl
 
-numbers_cons : (values : List ℤ) (x : ℕ) (xs : List ℕ) → numbers_at values (x ∷ xs) ≡ number_at values x ∷ numbers_at values xs
-unfolding numbers_at
+numbers_cons : (values : List ℤ) (x : ℕ) (xs : List ℕ) → numbers_of_vars values (x ∷ xs) ≡ number_at values x ∷ numbers_of_vars values xs
+unfolding numbers_of_vars
 numbers_cons values x xs = refl
 
-times_next : (values : List ℤ) (xs : List ℕ) (x : ℕ) (v : ℤ) → times_in (numbers_at values (xs ++ x ∷ [])) v ≡ times_in (numbers_at values xs) v +ℤ of_bool (int_eq v (number_at values x))
+times_next : (values : List ℤ) (xs : List ℕ) (x : ℕ) (v : ℤ) → times_in (numbers_of_vars values (xs ++ x ∷ [])) v ≡ times_in (numbers_of_vars values xs) v +ℤ of_bool (int_eq v (number_at values x))
 times_next values xs x v =
-    ap (λ ns. times_in ns v) (numbers_append values xs (x ∷ []) ∙ ap (λ ns. numbers_at values xs ++ ns) (numbers_one values x))
-    ∙ times_append (numbers_at values xs) (number_at values x ∷ []) v
-    ∙ ap (λ n. times_in (numbers_at values xs) v +ℤ n) (times_one (number_at values x) v)
+    ap (λ ns. times_in ns v) (numbers_append values xs (x ∷ []) ∙ ap (λ ns. numbers_of_vars values xs ++ ns) (numbers_one values x))
+    ∙ times_append (numbers_of_vars values xs) (number_at values x ∷ []) v
+    ∙ ap (λ n. times_in (numbers_of_vars values xs) v +ℤ n) (times_one (number_at values x) v)
 
 -- the variables that can be a number, so far
-pub able_none : (L : List VariableLiterals) (items vars : List ℕ) (v : ℤ) → items ≡ [] → (values : List ℤ) → AreOfDomains L values → times_in (numbers_at values items) v ≡ times_in (numbers_at values (take 0 vars)) v
-able_none L items vars v empty values among = ap (λ xs. times_in (numbers_at values xs) v) empty
+pub able_none : (L : List VariableLiterals) (items vars : List ℕ) (v : ℤ) → items ≡ [] → (values : List ℤ) → AreOfDomains L values → times_in (numbers_of_vars values items) v ≡ times_in (numbers_of_vars values (take 0 vars)) v
+able_none L items vars v empty values among = ap (λ xs. times_in (numbers_of_vars values xs) v) empty
 
 pub able_more : (L : List VariableLiterals) (items new vars : List ℕ) (k : ℕ) (v : ℤ) → k < length vars → new ≡ items ++ get_or vars k 0 ∷ []
-    → ((values : List ℤ) → AreOfDomains L values → times_in (numbers_at values items) v ≡ times_in (numbers_at values (take k vars)) v)
-    → (values : List ℤ) → AreOfDomains L values → times_in (numbers_at values new) v ≡ times_in (numbers_at values (take (k + 1) vars)) v
+    → ((values : List ℤ) → AreOfDomains L values → times_in (numbers_of_vars values items) v ≡ times_in (numbers_of_vars values (take k vars)) v)
+    → (values : List ℤ) → AreOfDomains L values → times_in (numbers_of_vars values new) v ≡ times_in (numbers_of_vars values (take (k + 1) vars)) v
 able_more L items new vars k v low pushed so_far values among =
-    ap (λ xs. times_in (numbers_at values xs) v) pushed ∙ times_next values items (get_or vars k 0) v
+    ap (λ xs. times_in (numbers_of_vars values xs) v) pushed ∙ times_next values items (get_or vars k 0) v
     ∙ ap (λ n. n +ℤ of_bool (int_eq v (number_at values (get_or vars k 0)))) (so_far values among)
     ∙ sym (times_next values (take k vars) (get_or vars k 0) v)
-    ∙ ap (λ xs. times_in (numbers_at values xs) v) (sym (take_more vars k 0 low))
+    ∙ ap (λ xs. times_in (numbers_of_vars values xs) v) (sym (take_more vars k 0 low))
 
 pub able_same : (L : List VariableLiterals) (items vars : List ℕ) (k : ℕ) (v : ℤ) → k < length vars → get_or vars k 0 < length L → (Contains (literals_at L (get_or vars k 0)).domain v → ⊥)
-    → ((values : List ℤ) → AreOfDomains L values → times_in (numbers_at values items) v ≡ times_in (numbers_at values (take k vars)) v)
-    → (values : List ℤ) → AreOfDomains L values → times_in (numbers_at values items) v ≡ times_in (numbers_at values (take (k + 1) vars)) v
+    → ((values : List ℤ) → AreOfDomains L values → times_in (numbers_of_vars values items) v ≡ times_in (numbers_of_vars values (take k vars)) v)
+    → (values : List ℤ) → AreOfDomains L values → times_in (numbers_of_vars values items) v ≡ times_in (numbers_of_vars values (take (k + 1) vars)) v
 unfolding of_bool
 able_same L items vars k v low there none so_far values among =
     let differ : int_eq v (number_at values (get_or vars k 0)) ≡ false =
     other_test v (number_at values (get_or vars k 0)) (λ is. none (subst (λ n. Contains (literals_at L (get_or vars k 0)).domain n) (sym is) (number_among L values (get_or vars k 0) among there))) in
     let last : of_bool (int_eq v (number_at values (get_or vars k 0))) ≡ pos 0 = ap of_bool differ in
-    omega (arith, ints, so_far values among, times_next values (take k vars) (get_or vars k 0) v, last, ap (λ xs. times_in (numbers_at values xs) v) (take_more vars k 0 low))
+    omega (arith, ints, so_far values among, times_next values (take k vars) (get_or vars k 0) v, last, ap (λ xs. times_in (numbers_of_vars values xs) v) (take_more vars k 0 low))
 
 -- ---- marks
 
@@ -181,8 +181,8 @@ sum_is (b ∷ bits) (x ∷ xs) v long each =
 
 -- ---- a sum as a constraint
 
-ones : (vs : List ℤ) (marks : List ℕ) → weighted_sum (map {B = ℤ × ℤ} (λ p. (p.0, number_at vs p.1)) (map {B = ℤ × ℕ} (λ x. (pos 1, x)) marks)) ≡ sum_of (numbers_at vs marks)
-unfolding weighted_sum sum_of numbers_at
+ones : (vs : List ℤ) (marks : List ℕ) → weighted_sum (map {B = ℤ × ℤ} (λ p. (p.0, number_at vs p.1)) (map {B = ℤ × ℕ} (λ x. (pos 1, x)) marks)) ≡ sum_of (numbers_of_vars vs marks)
+unfolding weighted_sum sum_of numbers_of_vars
 ones vs [] = refl
 ones vs (x ∷ marks) =
     let rest = ones vs marks in
@@ -190,10 +190,10 @@ ones vs (x ∷ marks) =
     ap (λ n. n +ℤ sum_of (map (λ p. p.0 *ℤ p.1) (map {B = ℤ × ℤ} (λ p. (p.0, number_at vs p.1)) (map {B = ℤ × ℕ} (λ y. (pos 1, y)) marks)))) one ∙ ap (λ n. number_at vs x +ℤ n) rest
 
 counted : (vs : List ℤ) (var : Option ℕ) (marks : List ℕ)
-    → weighted_sum (map {B = ℤ × ℤ} (λ p. (p.0, number_at vs p.1)) (counted_parts var marks)) ≡ neg_ℤ (unwrap_or (option_map (number_at vs) var) (pos 0)) +ℤ sum_of (numbers_at vs marks)
+    → weighted_sum (map {B = ℤ × ℤ} (λ p. (p.0, number_at vs p.1)) (counted_parts var marks)) ≡ neg_ℤ (unwrap_or (option_map (number_at vs) var) (pos 0)) +ℤ sum_of (numbers_of_vars vs marks)
 unfolding counted_parts weighted_sum sum_of
 counted vs None marks =
-    let nothing : sum_of (numbers_at vs marks) ≡ neg_ℤ (pos 0) +ℤ sum_of (numbers_at vs marks) = omega (arith, ints) in
+    let nothing : sum_of (numbers_of_vars vs marks) ≡ neg_ℤ (pos 0) +ℤ sum_of (numbers_of_vars vs marks) = omega (arith, ints) in
     ones vs marks ∙ nothing
 counted vs (Some x) marks =
     let minus : negsuc 0 *ℤ number_at vs x ≡ neg_ℤ (number_at vs x) = omega (arith, ints) in
@@ -211,8 +211,8 @@ shifted Op.AtLeast s a c = grind (arith, ints)
 sum_said : (vs : List ℤ) (op : CompareOp) (marks : List ℕ) (wanted : Wanted) (n : ℤ) → n ≡ wanted.count → kind_holds vs (linear (counted_parts wanted.var marks) op n) ≡ sum_holds vs op marks wanted
 unfolding kind_holds sum_holds wanted_count
 sum_said vs op marks wanted n is =
-    ap (λ s. compare_holds op s n) (counted vs wanted.var marks) ∙ shifted op (sum_of (numbers_at vs marks)) (unwrap_or (option_map (number_at vs) wanted.var) (pos 0)) n
-    ∙ ap (λ m. compare_holds op (sum_of (numbers_at vs marks)) (unwrap_or (option_map (number_at vs) wanted.var) (pos 0) +ℤ m)) is
+    ap (λ s. compare_holds op s n) (counted vs wanted.var marks) ∙ shifted op (sum_of (numbers_of_vars vs marks)) (unwrap_or (option_map (number_at vs) wanted.var) (pos 0)) n
+    ∙ ap (λ m. compare_holds op (sum_of (numbers_of_vars vs marks)) (unwrap_or (option_map (number_at vs) wanted.var) (pos 0) +ℤ m)) is
 
 part_vars : (var : Option ℕ) (marks : List ℕ) → map (λ p. p.1) (counted_parts var marks) ≡ option_to_list var ++ marks
 unfolding counted_parts
@@ -319,21 +319,21 @@ abbrev pub IsCounted : Option ℕ → CompareOp → List ℕ → List ℕ → Wa
 IsCounted truth op marks able wanted values =
     ((k : ℕ) → k < length able → IsMark (get_or marks k 0) (get_or able k 0) wanted.value values) × IsTrue (is_as_said values truth (sum_holds values op marks wanted))
 
-number_of : (values : List ℤ) (xs : List ℕ) (k : ℕ) (d : ℤ) → k < length xs → get_or (numbers_at values xs) k d ≡ number_at values (get_or xs k 0)
-unfolding numbers_at
+number_of : (values : List ℤ) (xs : List ℕ) (k : ℕ) (d : ℤ) → k < length xs → get_or (numbers_of_vars values xs) k d ≡ number_at values (get_or xs k 0)
+unfolding numbers_of_vars
 number_of values xs k d low = get_or-map (number_at values) xs k 0 d low
 
-length_numbers : (values : List ℤ) (xs : List ℕ) → length (numbers_at values xs) ≡ length xs
-unfolding numbers_at
+length_numbers : (values : List ℤ) (xs : List ℕ) → length (numbers_of_vars values xs) ≡ length xs
+unfolding numbers_of_vars
 length_numbers values xs = length-map xs (number_at values)
 
 -- There are marks with such a sum exactly where the number stands so often.
 marked : (values : List ℤ) (N : ℕ) (truth : Option ℕ) (op : CompareOp) (marks able vars : List ℕ) (wanted : Wanted) → length values ≡ N → All (λ x. x < length values) (option_to_list truth) → All (λ x. x < length values) (option_to_list wanted.var) → All (λ x. x < length values) able
-    → marks ≡ numbers_from N (length able) → times_in (numbers_at values able) wanted.value ≡ times_in (numbers_at values vars) wanted.value
+    → marks ≡ numbers_from N (length able) → times_in (numbers_of_vars values able) wanted.value ≡ times_in (numbers_of_vars values vars) wanted.value
     → SomeTruths (length able) (λ bits. IsCounted truth op marks able wanted (values ++ bits)) ↔ IsTrue (is_as_said values truth (wanted_holds values op vars wanted))
 unfolding sum_holds wanted_holds
 marked values N truth op marks able vars wanted long truth_low var_low able_low marks_are times_are = (
-  λ h. sym (said h.truths (sum_is h.truths (numbers_at values able) wanted.value (h.many ∙ sym (length_numbers values able)) (λ k low. bit h k (omega (arith, low, length_numbers values able)))) h.many) ∙ h.holds_there.1,
+  λ h. sym (said h.truths (sum_is h.truths (numbers_of_vars values able) wanted.value (h.many ∙ sym (length_numbers values able)) (λ k low. bit h k (omega (arith, low, length_numbers values able)))) h.many) ∙ h.holds_there.1,
   λ h. record {
     truths = B;
     many = length-map able (λ x. of_bool (int_eq wanted.value (number_at values x)));
@@ -343,7 +343,7 @@ marked values N truth op marks able vars wanted long truth_low var_low able_low 
         λ one. able_kept B k low ∙ sym (same wanted.value (number_at values (get_or able k 0)) (bit_one (int_eq wanted.value (number_at values (get_or able k 0))) (sym (at_bit k (pos 0) low) ∙ sym (mark_is B k low) ∙ one))),
         λ at. mark_is B k low ∙ at_bit k (pos 0) low ∙ one_bit (int_eq wanted.value (number_at values (get_or able k 0))) (same_test wanted.value (number_at values (get_or able k 0)) (sym (sym (able_kept B k low) ∙ at))),
       ),
-      said B (sum_is B (numbers_at values able) wanted.value (length-map able (λ x. of_bool (int_eq wanted.value (number_at values x))) ∙ sym (length_numbers values able))
+      said B (sum_is B (numbers_of_vars values able) wanted.value (length-map able (λ x. of_bool (int_eq wanted.value (number_at values x))) ∙ sym (length_numbers values able))
           (λ k low.
           let within : k < length able = omega (arith, low, length_numbers values able) in
           at_bit k (pos 0) within ∙ ap (λ n. of_bool (int_eq wanted.value n)) (sym (number_of values able k (pos 0) within)))) (length-map able (λ x. of_bool (int_eq wanted.value (number_at values x)))) ∙ h,
@@ -363,7 +363,7 @@ marked values N truth op marks able vars wanted long truth_low var_low able_low 
     able_kept : (bits : List ℤ) (k : ℕ) → k < length able → number_at (values ++ bits) (get_or able k 0) ≡ number_at values (get_or able k 0)
     able_kept bits k low = number_kept values bits (get_or able k 0) (able_low k 0 low)
 
-    bit : (h : SomeTruths (length able) (λ bits. IsCounted truth op marks able wanted (values ++ bits))) (k : ℕ) → k < length able → get_or h.truths k (pos 0) ≡ of_bool (int_eq wanted.value (get_or (numbers_at values able) k (pos 0)))
+    bit : (h : SomeTruths (length able) (λ bits. IsCounted truth op marks able wanted (values ++ bits))) (k : ℕ) → k < length able → get_or h.truths k (pos 0) ≡ of_bool (int_eq wanted.value (get_or (numbers_of_vars values able) k (pos 0)))
     bit h k low =
         let mark = h.holds_there.0 k low in
         bit_of_mark (get_or h.truths k (pos 0)) (number_at values (get_or able k 0)) wanted.value (h.each k (pos 0) (omega (arith, low, h.many)))
@@ -371,16 +371,16 @@ marked values N truth op marks able vars wanted long truth_low var_low able_low 
         (λ at. sym (mark_is h.truths k low) ∙ mark.1 (able_kept h.truths k low ∙ at))
         ∙ ap (λ n. of_bool (int_eq wanted.value n)) (sym (number_of values able k (pos 0) low))
 
-    sum_bits : (bits : List ℤ) → length bits ≡ length able → numbers_at (values ++ bits) marks ≡ bits
-    sum_bits bits many = ap (numbers_at (values ++ bits)) marks_are ∙ truths_are values bits N (length able) long many
+    sum_bits : (bits : List ℤ) → length bits ≡ length able → numbers_of_vars (values ++ bits) marks ≡ bits
+    sum_bits bits many = ap (numbers_of_vars (values ++ bits)) marks_are ∙ truths_are values bits N (length able) long many
 
-    same_sum : (bits : List ℤ) → sum_of bits ≡ times_in (numbers_at values able) wanted.value → length bits ≡ length able → sum_holds (values ++ bits) op marks wanted ≡ wanted_holds values op vars wanted
+    same_sum : (bits : List ℤ) → sum_of bits ≡ times_in (numbers_of_vars values able) wanted.value → length bits ≡ length able → sum_holds (values ++ bits) op marks wanted ≡ wanted_holds values op vars wanted
     same_sum bits is many =
         ap (λ n. compare_holds op (sum_of n) (wanted_count (values ++ bits) wanted)) (sum_bits bits many)
         ∙ ap (λ n. compare_holds op n (wanted_count (values ++ bits) wanted)) (is ∙ times_are)
-        ∙ ap (compare_holds op (times_in (numbers_at values vars) wanted.value)) (count_kept values bits wanted var_low)
+        ∙ ap (compare_holds op (times_in (numbers_of_vars values vars) wanted.value)) (count_kept values bits wanted var_low)
 
-    said : (bits : List ℤ) → sum_of bits ≡ times_in (numbers_at values able) wanted.value → length bits ≡ length able → is_as_said (values ++ bits) truth (sum_holds (values ++ bits) op marks wanted) ≡ is_as_said values truth (wanted_holds values op vars wanted)
+    said : (bits : List ℤ) → sum_of bits ≡ times_in (numbers_of_vars values able) wanted.value → length bits ≡ length able → is_as_said (values ++ bits) truth (sum_holds (values ++ bits) op marks wanted) ≡ is_as_said values truth (wanted_holds values op vars wanted)
     said bits is many = ap (is_as_said (values ++ bits) truth) (same_sum bits is many) ∙ said_kept values bits truth (wanted_holds values op vars wanted) truth_low
 
 lower : (L : List VariableLiterals) (values : List ℤ) (xs : List ℕ) → length values ≡ length L → AreOf L xs → All (λ x. x < length values) xs
@@ -389,7 +389,7 @@ lower L values xs long low = All-weaker (λ (x : ℕ). x < length L) (λ (x : �
 -- new variables that are marks, and what their sum is said to be
 pub count_whole : (L : List VariableLiterals) (f : Cnf) (L1 : List VariableLiterals) (f1 f2 : Cnf) (L2 : List VariableLiterals) (f3 : Cnf) (truth : Option ℕ) (op : CompareOp) (marks able vars : List ℕ) (wanted : Wanted) (count : ℕ) (v : ℤ) → IsLayoutOf L f
     → AreOf L (option_to_list truth) → AreOf L (option_to_list wanted.var) → AreOf L able → HasTruths L f L1 f1 count → count ≡ length able → marks ≡ numbers_from (length L) count → v ≡ wanted.value
-    → ((values : List ℤ) → AreOfDomains L values → times_in (numbers_at values able) v ≡ times_in (numbers_at values vars) v)
+    → ((values : List ℤ) → AreOfDomains L values → times_in (numbers_of_vars values able) v ≡ times_in (numbers_of_vars values vars) v)
     → Adds L1 f1 L1 f2 (λ values. (k : ℕ) → k < length able → IsMark (get_or marks k 0) (get_or able k 0) v values)
     → Adds L1 f2 L2 f3 (λ values. IsTrue (is_as_said values truth (sum_holds values op marks wanted)))
     → Adds L f L2 f3 (λ values. IsTrue (is_as_said values truth (wanted_holds values op vars wanted)))
@@ -402,7 +402,7 @@ count_whole L f L1 f1 f2 L2 f3 truth op marks able vars wanted count v is_layout
     let long : length values ≡ length L = length_among L values among in
     let both = marked values (length L) truth op marks able vars wanted long (lower L values (option_to_list truth) long truth_low) (lower L values (option_to_list wanted.var) long var_low) (lower L values able long able_low)
     (marks_are ∙ ap (numbers_from (length L)) many)
-    (subst (λ (w : ℤ). times_in (numbers_at values able) w ≡ times_in (numbers_at values vars) w) is (times_are values among)) in (
+    (subst (λ (w : ℤ). times_in (numbers_of_vars values able) w ≡ times_in (numbers_of_vars values vars) w) is (times_are values among)) in (
       λ h. both.0 (subst (λ (n : ℕ). SomeTruths n (λ bits. IsCounted truth op marks able wanted (values ++ bits))) many h),
       λ h. subst (λ (n : ℕ). SomeTruths n (λ bits. IsCounted truth op marks able wanted (values ++ bits))) (sym many) (both.1 h),
     ))
@@ -455,8 +455,8 @@ truths_fit L f L1 g count truths new are = subst (λ ts. AreFit L1 ts) (sym are)
         subst (λ (v : VariableLiterals). All IsWithinNumbers v.domain) (sym is) (small_bits e (new.domains k (record { domain = []; first = 0 }) (omega (arith, within, new.many))))
 
 -- numbers of earlier variables
-numbers_front : (values : List ℤ) (n : ℕ) (xs : List ℕ) → All (λ x. x < n) xs → numbers_at (take n values) xs ≡ numbers_at values xs
-unfolding numbers_at
+numbers_front : (values : List ℤ) (n : ℕ) (xs : List ℕ) → All (λ x. x < n) xs → numbers_of_vars (take n values) xs ≡ numbers_of_vars values xs
+unfolding numbers_of_vars
 numbers_front values n [] low = refl
 numbers_front values n (x ∷ xs) low =
     ap (λ v. v ∷ map (number_at (take n values)) xs) (number_front values n x (All-head (λ y. y < n) x xs low))
@@ -471,7 +471,7 @@ wanted_front : (values : List ℤ) (n : ℕ) (op : CompareOp) (vars : List ℕ) 
 unfolding wanted_holds wanted_count
 wanted_front values n op vars wanted vars_low var_low =
     ap (λ ns. compare_holds op (times_in ns wanted.value) (unwrap_or (option_map (number_at (take n values)) wanted.var) (pos 0) +ℤ wanted.count)) (numbers_front values n vars vars_low)
-    ∙ ap (λ o. compare_holds op (times_in (numbers_at values vars) wanted.value) (unwrap_or o (pos 0) +ℤ wanted.count)) (front wanted.var var_low)
+    ∙ ap (λ o. compare_holds op (times_in (numbers_of_vars values vars) wanted.value) (unwrap_or o (pos 0) +ℤ wanted.count)) (front wanted.var var_low)
   where
     front : (var : Option ℕ) → All (λ x. x < n) (option_to_list var) → option_map (number_at (take n values)) var ≡ option_map (number_at values) var
     front None low = refl
@@ -569,15 +569,15 @@ first_off p (x ∷ xs) d off = by (p x) refl (λ h. first_off p xs d h)
 -- ---- all of many
 
 pub all_whole : (L : List VariableLiterals) (f f1 f2 f3 : Cnf) (t : ℕ) (told : List ℕ) → IsLayoutOf L f → Adds L f L f1 (λ values. IsTruth (number_at values t)) → Adds L f1 L f2 (λ values. All (λ d. Implied t (pos 1) d (pos 1) values) told)
-    → Adds L f2 L f3 (λ values. number_at values t ≡ pos 0 → IsTrue (has_number (numbers_at values told) (pos 0))) → Adds L f L f3 (IsAllOf t told)
+    → Adds L f2 L f3 (λ values. number_at values t ≡ pos 0 → IsTrue (has_number (numbers_of_vars values told) (pos 0))) → Adds L f L f3 (IsAllOf t told)
 all_whole L f f1 f2 f3 t told is_layout one two three =
-    adds_both L f f2 L f3 (λ values. IsTruth (number_at values t) × All (λ d. Implied t (pos 1) d (pos 1) values) told) (λ values. number_at values t ≡ pos 0 → IsTrue (has_number (numbers_at values told) (pos 0))) is_layout
+    adds_both L f f2 L f3 (λ values. IsTruth (number_at values t) × All (λ d. Implied t (pos 1) d (pos 1) values) told) (λ values. number_at values t ≡ pos 0 → IsTrue (has_number (numbers_of_vars values told) (pos 0))) is_layout
     (adds_both L f f1 L f2 (λ values. IsTruth (number_at values t)) (λ values. All (λ d. Implied t (pos 1) d (pos 1) values) told) is_layout one two) three
 
 pub untold_whole : (L : List VariableLiterals) (f g : Cnf) (off atoms : List Atom) (t : ℕ) (told : List ℕ) → IsLayoutOf L f → off ≡ is_not t (pos 0) ∷ [] → atoms ≡ are_all told (pos 0) → Adds L f L g (Unless off (λ values. IsTrue (clause_holds values atoms)))
-    → Adds L f L g (λ values. number_at values t ≡ pos 0 → IsTrue (has_number (numbers_at values told) (pos 0)))
+    → Adds L f L g (λ values. number_at values t ≡ pos 0 → IsTrue (has_number (numbers_of_vars values told) (pos 0)))
 untold_whole L f g off atoms t told is_layout off_is atoms_are adds =
-    adds_like L f L g (Unless off (λ values. IsTrue (clause_holds values atoms))) (λ values. number_at values t ≡ pos 0 → IsTrue (has_number (numbers_at values told) (pos 0))) is_layout adds
+    adds_like L f L g (Unless off (λ values. IsTrue (clause_holds values atoms))) (λ values. number_at values t ≡ pos 0 → IsTrue (has_number (numbers_of_vars values told) (pos 0))) is_layout adds
     (λ values among. (
       λ h at. (one_is_says values told (pos 0)).0 (ap (clause_holds values) (sym atoms_are) ∙ h ((fails_as t (pos 0) off off_is values).1 at)),
       λ h no. ap (clause_holds values) atoms_are ∙ (one_is_says values told (pos 0)).1 (h ((fails_as t (pos 0) off off_is values).0 no)),
@@ -632,8 +632,8 @@ told_all values N t told op vars wanted long t_low vars_low wanted_low told_are 
     told_is : (bits : List ℤ) (k : ℕ) → k < length wanted → number_at (values ++ bits) (get_or told k 0) ≡ get_or bits k (pos 0)
     told_is bits k low = ap (λ ts. number_at (values ++ bits) (get_or ts k 0)) told_are ∙ ap (number_at (values ++ bits)) (numbers_from_at N (length wanted) k 0 low) ∙ truth_at values bits N k long
 
-    told_bits : (bits : List ℤ) → length bits ≡ length wanted → numbers_at (values ++ bits) told ≡ bits
-    told_bits bits many = ap (numbers_at (values ++ bits)) told_are ∙ truths_are values bits N (length wanted) long many
+    told_bits : (bits : List ℤ) → length bits ≡ length wanted → numbers_of_vars (values ++ bits) told ≡ bits
+    told_bits bits many = ap (numbers_of_vars (values ++ bits)) told_are ∙ truths_are values bits N (length wanted) long many
 
     place_told : (k : ℕ) → k < length wanted → slice_get told k ≡ Some (get_or told k 0)
     place_told k low = slice_get-get_or told k 0 (omega (arith, low, told_long))
@@ -641,7 +641,7 @@ told_all values N t told op vars wanted long t_low vars_low wanted_low told_are 
     holds_kept : (bits : List ℤ) (k : ℕ) → k < length wanted → wanted_holds (values ++ bits) op vars (get_or wanted k no_wanted) ≡ wanted_holds values op vars (get_or wanted k no_wanted)
     holds_kept bits k low =
         ap (λ ns. compare_holds op (times_in ns (get_or wanted k no_wanted).value) (wanted_count (values ++ bits) (get_or wanted k no_wanted))) (numbers_kept values bits vars vars_low)
-        ∙ ap (compare_holds op (times_in (numbers_at values vars) (get_or wanted k no_wanted).value)) (count_kept values bits (get_or wanted k no_wanted) (wanted_low k no_wanted low))
+        ∙ ap (compare_holds op (times_in (numbers_of_vars values vars) (get_or wanted k no_wanted).value)) (count_kept values bits (get_or wanted k no_wanted) (wanted_low k no_wanted low))
 
     bit_is : (bits : List ℤ) → ((k : ℕ) → k < length wanted → IsSaid told op vars wanted (values ++ bits) k) → (k : ℕ) → k < length wanted → get_or bits k (pos 0) ≡ of_bool (wanted_holds values op vars (get_or wanted k no_wanted))
     bit_is bits said k low =
@@ -733,8 +733,8 @@ numbers_fit L (v ∷ numbers) (n ∷ counts) =
     (numbers_fit L numbers counts)
 
 -- counts of numbers as what is wanted
-pub vars_hold : (values : List ℤ) (op : CompareOp) (vars : List ℕ) (numbers : List ℤ) (counts : List ℕ) → length numbers ≡ length counts → counts_hold op (numbers_at values vars) numbers (numbers_at values counts) ≡ Some (list_all (wanted_holds values op vars) (wanted_by_vars numbers counts))
-unfolding counts_hold wanted_by_vars wanted_holds wanted_count numbers_at
+pub vars_hold : (values : List ℤ) (op : CompareOp) (vars : List ℕ) (numbers : List ℤ) (counts : List ℕ) → length numbers ≡ length counts → counts_hold op (numbers_of_vars values vars) numbers (numbers_of_vars values counts) ≡ Some (list_all (wanted_holds values op vars) (wanted_by_vars numbers counts))
+unfolding counts_hold wanted_by_vars wanted_holds wanted_count numbers_of_vars
 vars_hold values op vars [] [] long = refl
 vars_hold values op vars [] (x ∷ counts) long = absurd (omega (arith, long))
 vars_hold values op vars (v ∷ numbers) [] long = absurd (omega (arith, long))
@@ -743,15 +743,15 @@ vars_hold values op vars (v ∷ numbers) (x ∷ counts) long =
     ap (option_map (λ others. compare_holds op (times_in (map (number_at values) vars) v) (number_at values x) && others)) (vars_hold values op vars numbers counts (omega (arith, long)))
     ∙ ap (λ (n : ℤ). Some (compare_holds op (times_in (map (number_at values) vars) v) n && list_all (wanted_holds values op vars) (wanted_by_vars numbers counts))) more
 
-pub numbers_hold : (values : List ℤ) (op : CompareOp) (vars : List ℕ) (numbers counts : List ℤ) → length numbers ≡ length counts → counts_hold op (numbers_at values vars) numbers counts ≡ Some (list_all (wanted_holds values op vars) (wanted_by_numbers numbers counts))
+pub numbers_hold : (values : List ℤ) (op : CompareOp) (vars : List ℕ) (numbers counts : List ℤ) → length numbers ≡ length counts → counts_hold op (numbers_of_vars values vars) numbers counts ≡ Some (list_all (wanted_holds values op vars) (wanted_by_numbers numbers counts))
 unfolding counts_hold wanted_by_numbers wanted_holds wanted_count
 numbers_hold values op vars [] [] long = refl
 numbers_hold values op vars [] (n ∷ counts) long = absurd (omega (arith, long))
 numbers_hold values op vars (v ∷ numbers) [] long = absurd (omega (arith, long))
 numbers_hold values op vars (v ∷ numbers) (n ∷ counts) long =
     let more : n ≡ pos 0 +ℤ n = omega (arith, ints) in
-    ap (option_map (λ others. compare_holds op (times_in (numbers_at values vars) v) n && others)) (numbers_hold values op vars numbers counts (omega (arith, long)))
-    ∙ ap (λ (m : ℤ). Some (compare_holds op (times_in (numbers_at values vars) v) m && list_all (wanted_holds values op vars) (wanted_by_numbers numbers counts))) more
+    ap (option_map (λ others. compare_holds op (times_in (numbers_of_vars values vars) v) n && others)) (numbers_hold values op vars numbers counts (omega (arith, long)))
+    ∙ ap (λ (m : ℤ). Some (compare_holds op (times_in (numbers_of_vars values vars) v) m && list_all (wanted_holds values op vars) (wanted_by_numbers numbers counts))) more
 
 none_hold : (op : CompareOp) (xs numbers counts : List ℤ) → (length numbers ≡ length counts → ⊥) → counts_hold op xs numbers counts ≡ None
 unfolding counts_hold
@@ -767,25 +767,25 @@ said_like L f L1 g truth K J is_layout same_word adds =
     (λ values among. (λ h. ap (is_as_said values truth) (same_word values) ∙ h, λ h. ap (is_as_said values truth) (sym (same_word values)) ∙ h))
 
 pub vars_said : (L : List VariableLiterals) (f : Cnf) (L1 : List VariableLiterals) (g : Cnf) (truth : Option ℕ) (op : CompareOp) (vars : List ℕ) (numbers : List ℤ) (counts : List ℕ) (wanted : List Wanted) → IsLayoutOf L f → length numbers ≡ length counts → wanted ≡ wanted_by_vars numbers counts
-    → Adds L f L1 g (λ values. IsTrue (is_as_said values truth (list_all (wanted_holds values op vars) wanted))) → Adds L f L1 g (λ values. IsTrue (is_as_said values truth (unwrap_or (counts_hold op (numbers_at values vars) numbers (numbers_at values counts)) false)))
+    → Adds L f L1 g (λ values. IsTrue (is_as_said values truth (list_all (wanted_holds values op vars) wanted))) → Adds L f L1 g (λ values. IsTrue (is_as_said values truth (unwrap_or (counts_hold op (numbers_of_vars values vars) numbers (numbers_of_vars values counts)) false)))
 vars_said L f L1 g truth op vars numbers counts wanted is_layout long are adds =
-    said_like L f L1 g truth (λ values. list_all (wanted_holds values op vars) wanted) (λ values. unwrap_or (counts_hold op (numbers_at values vars) numbers (numbers_at values counts)) false) is_layout
+    said_like L f L1 g truth (λ values. list_all (wanted_holds values op vars) wanted) (λ values. unwrap_or (counts_hold op (numbers_of_vars values vars) numbers (numbers_of_vars values counts)) false) is_layout
     (λ values. ap (λ o. unwrap_or o false) (vars_hold values op vars numbers counts long) ∙ ap (list_all (wanted_holds values op vars)) (sym are)) adds
 
 pub numbers_said : (L : List VariableLiterals) (f : Cnf) (L1 : List VariableLiterals) (g : Cnf) (truth : Option ℕ) (op : CompareOp) (vars : List ℕ) (numbers counts : List ℤ) (wanted : List Wanted) → IsLayoutOf L f → length numbers ≡ length counts → wanted ≡ wanted_by_numbers numbers counts
-    → Adds L f L1 g (λ values. IsTrue (is_as_said values truth (list_all (wanted_holds values op vars) wanted))) → Adds L f L1 g (λ values. IsTrue (is_as_said values truth (unwrap_or (counts_hold op (numbers_at values vars) numbers counts) false)))
+    → Adds L f L1 g (λ values. IsTrue (is_as_said values truth (list_all (wanted_holds values op vars) wanted))) → Adds L f L1 g (λ values. IsTrue (is_as_said values truth (unwrap_or (counts_hold op (numbers_of_vars values vars) numbers counts) false)))
 numbers_said L f L1 g truth op vars numbers counts wanted is_layout long are adds =
-    said_like L f L1 g truth (λ values. list_all (wanted_holds values op vars) wanted) (λ values. unwrap_or (counts_hold op (numbers_at values vars) numbers counts) false) is_layout
+    said_like L f L1 g truth (λ values. list_all (wanted_holds values op vars) wanted) (λ values. unwrap_or (counts_hold op (numbers_of_vars values vars) numbers counts) false) is_layout
     (λ values. ap (λ o. unwrap_or o false) (numbers_hold values op vars numbers counts long) ∙ ap (list_all (wanted_holds values op vars)) (sym are)) adds
 
 pub vars_never : (L : List VariableLiterals) (f g : Cnf) (truth : Option ℕ) (op : CompareOp) (vars : List ℕ) (numbers : List ℤ) (counts : List ℕ) → IsLayoutOf L f → (length numbers ≡ length counts → ⊥)
-    → Adds L f L g (λ values. IsTrue (is_as_said values truth false)) → Adds L f L g (λ values. IsTrue (is_as_said values truth (unwrap_or (counts_hold op (numbers_at values vars) numbers (numbers_at values counts)) false)))
+    → Adds L f L g (λ values. IsTrue (is_as_said values truth false)) → Adds L f L g (λ values. IsTrue (is_as_said values truth (unwrap_or (counts_hold op (numbers_of_vars values vars) numbers (numbers_of_vars values counts)) false)))
 vars_never L f g truth op vars numbers counts is_layout apart adds =
-    said_like L f L g truth (λ values. false) (λ values. unwrap_or (counts_hold op (numbers_at values vars) numbers (numbers_at values counts)) false) is_layout
-    (λ values. ap (λ o. unwrap_or o false) (none_hold op (numbers_at values vars) numbers (numbers_at values counts) (λ e. apart (e ∙ length_numbers values counts)))) adds
+    said_like L f L g truth (λ values. false) (λ values. unwrap_or (counts_hold op (numbers_of_vars values vars) numbers (numbers_of_vars values counts)) false) is_layout
+    (λ values. ap (λ o. unwrap_or o false) (none_hold op (numbers_of_vars values vars) numbers (numbers_of_vars values counts) (λ e. apart (e ∙ length_numbers values counts)))) adds
 
 pub numbers_never : (L : List VariableLiterals) (f g : Cnf) (truth : Option ℕ) (op : CompareOp) (vars : List ℕ) (numbers counts : List ℤ) → IsLayoutOf L f → (length numbers ≡ length counts → ⊥)
-    → Adds L f L g (λ values. IsTrue (is_as_said values truth false)) → Adds L f L g (λ values. IsTrue (is_as_said values truth (unwrap_or (counts_hold op (numbers_at values vars) numbers counts) false)))
+    → Adds L f L g (λ values. IsTrue (is_as_said values truth false)) → Adds L f L g (λ values. IsTrue (is_as_said values truth (unwrap_or (counts_hold op (numbers_of_vars values vars) numbers counts) false)))
 numbers_never L f g truth op vars numbers counts is_layout apart adds =
-    said_like L f L g truth (λ values. false) (λ values. unwrap_or (counts_hold op (numbers_at values vars) numbers counts) false) is_layout
-    (λ values. ap (λ o. unwrap_or o false) (none_hold op (numbers_at values vars) numbers counts apart)) adds
+    said_like L f L g truth (λ values. false) (λ values. unwrap_or (counts_hold op (numbers_of_vars values vars) numbers counts) false) is_layout
+    (λ values. ap (λ o. unwrap_or o false) (none_hold op (numbers_of_vars values vars) numbers counts apart)) adds

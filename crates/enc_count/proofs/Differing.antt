@@ -13,7 +13,7 @@ use Rattle.ep_base.proofs.RunSteps.{in_numbers}
 use Rattle.ep_base.specs.Numbers.{are_different, has_number}
 use Rattle.ep_base.specs.Runs.{IsIn, numbers}
 use Rattle.ep_base.specs.declared.run_lists.Run.{Run}
-use Rattle.ep_flat.specs.Cons.{number_at, numbers_at}
+use Rattle.ep_flat.specs.Cons.{number_at, numbers_of_vars}
 use Rattle.enc_atoms.proofs.Adding.{adds_all, adds_both, adds_like, adds_nothing}
 use Rattle.enc_atoms.proofs.Decoded.{length_among, number_among}
 use Rattle.enc_atoms.specs.Atoms.{Adds, AreOfDomains, clause_holds}
@@ -40,12 +40,12 @@ apart_all L f g guard x y numbers k is_layout low are long adds =
     ))
 
 -- the numbers of a list of variables, one by one
-pub number_of : (values : List ℤ) (xs : List ℕ) (k : ℕ) (d : ℤ) → k < length xs → get_or (numbers_at values xs) k d ≡ number_at values (get_or xs k 0)
-unfolding numbers_at
+pub number_of : (values : List ℤ) (xs : List ℕ) (k : ℕ) (d : ℤ) → k < length xs → get_or (numbers_of_vars values xs) k d ≡ number_at values (get_or xs k 0)
+unfolding numbers_of_vars
 number_of values xs k d low = get_or-map (number_at values) xs k 0 d low
 
-pub length_numbers : (values : List ℤ) (xs : List ℕ) → length (numbers_at values xs) ≡ length xs
-unfolding numbers_at
+pub length_numbers : (values : List ℤ) (xs : List ℕ) → length (numbers_of_vars values xs) ≡ length xs
+unfolding numbers_of_vars
 length_numbers values xs = length-map xs (number_at values)
 
 and_both : (a b : Bool) → a ≡ true → b ≡ true → (a && b) ≡ true
@@ -69,22 +69,22 @@ there_not true e h = not_false false e refl
 there_not false e h = not_false false h refl
 
 -- a number that isn't among those of some variables
-none_same : (values : List ℤ) (x : ℕ) (xs : List ℕ) → All (λ p. Differ p values) (map (λ y. (x, y)) xs) → not (has_number (numbers_at values xs) (number_at values x)) ≡ true
-none_same values x xs differ = not_there (has_number (numbers_at values xs) (number_at values x)) (λ found.
-    let at = number_there (numbers_at values xs) (number_at values x) found in
+none_same : (values : List ℤ) (x : ℕ) (xs : List ℕ) → All (λ p. Differ p values) (map (λ y. (x, y)) xs) → not (has_number (numbers_of_vars values xs) (number_at values x)) ≡ true
+none_same values x xs differ = not_there (has_number (numbers_of_vars values xs) (number_at values x)) (λ found.
+    let at = number_there (numbers_of_vars values xs) (number_at values x) found in
     let k : ℕ = at.0 in
     let low : k < length xs = omega (arith, at.2, length_numbers values xs) in
     let here : Differ (x, get_or xs k 0) values = pair_at k low in
-    here (same (number_at values x) at.1 at.4 ∙ sym at.3 ∙ get_or_default (numbers_at values xs) k at.1 (pos 0) at.2 ∙ number_of values xs k (pos 0) low))
+    here (same (number_at values x) at.1 at.4 ∙ sym at.3 ∙ get_or_default (numbers_of_vars values xs) k at.1 (pos 0) at.2 ∙ number_of values xs k (pos 0) low))
   where
     pair_at : (k : ℕ) → k < length xs → Differ (x, get_or xs k 0) values
     pair_at k low = subst (λ (p : ℕ × ℕ). Differ p values) (get_or-map (λ y. (x, y)) xs k 0 (0, 0) low) (differ k (0, 0) (omega (arith, low, length-map {B = ℕ × ℕ} xs (λ y. (x, y)))))
 
-same_none : (values : List ℤ) (x : ℕ) (xs : List ℕ) → not (has_number (numbers_at values xs) (number_at values x)) ≡ true → All (λ p. Differ p values) (map (λ y. (x, y)) xs)
+same_none : (values : List ℤ) (x : ℕ) (xs : List ℕ) → not (has_number (numbers_of_vars values xs) (number_at values x)) ≡ true → All (λ p. Differ p values) (map (λ y. (x, y)) xs)
 same_none values x xs none =
     All-map (λ p. Differ p values) (λ y. (x, y)) xs (λ k d low equal.
-    there_not (has_number (numbers_at values xs) (number_at values x)) none
-    (number_from (numbers_at values xs) (number_at values x) k (pos 0) (omega (arith, low, length_numbers values xs))
+    there_not (has_number (numbers_of_vars values xs) (number_at values x)) none
+    (number_from (numbers_of_vars values xs) (number_at values x) k (pos 0) (omega (arith, low, length_numbers values xs))
     (number_of values xs k (pos 0) low ∙ ap (number_at values) (get_or_default xs k 0 d low) ∙ sym equal)))
 
 front : {X : Type 0} (P : X → Type 0) (xs ys : List X) → All P (xs ++ ys) → All P xs
@@ -94,21 +94,21 @@ back : {X : Type 0} (P : X → Type 0) (xs ys : List X) → All P (xs ++ ys) →
 back P xs ys h = All-from_contains P ys (λ x found. All-contains P (xs ++ ys) x h (Contains-append_right xs ys x found))
 
 -- all numbers are different exactly where those of each pair are
-pub from_pairs : (values : List ℤ) (xs : List ℕ) → All (λ p. Differ p values) (all_pairs xs) → are_different (numbers_at values xs) ≡ true
-unfolding all_pairs are_different numbers_at
+pub from_pairs : (values : List ℤ) (xs : List ℕ) → All (λ p. Differ p values) (all_pairs xs) → are_different (numbers_of_vars values xs) ≡ true
+unfolding all_pairs are_different numbers_of_vars
 from_pairs values [] h = refl
 from_pairs values (x ∷ xs) h =
-    and_both (not (has_number (numbers_at values xs) (number_at values x))) (are_different (numbers_at values xs))
+    and_both (not (has_number (numbers_of_vars values xs) (number_at values x))) (are_different (numbers_of_vars values xs))
     (none_same values x xs (front (λ p. Differ p values) (map (λ y. (x, y)) xs) (all_pairs xs) h))
     (from_pairs values xs (back (λ p. Differ p values) (map (λ y. (x, y)) xs) (all_pairs xs) h))
 
-pub to_pairs : (values : List ℤ) (xs : List ℕ) → are_different (numbers_at values xs) ≡ true → All (λ p. Differ p values) (all_pairs xs)
-unfolding all_pairs are_different numbers_at
+pub to_pairs : (values : List ℤ) (xs : List ℕ) → are_different (numbers_of_vars values xs) ≡ true → All (λ p. Differ p values) (all_pairs xs)
+unfolding all_pairs are_different numbers_of_vars
 to_pairs values [] h = All-nil (λ p. Differ p values)
 to_pairs values (x ∷ xs) h =
     All-append (λ p. Differ p values) (map (λ y. (x, y)) xs) (all_pairs xs)
-    (same_none values x xs (and_first (not (has_number (numbers_at values xs) (number_at values x))) (are_different (numbers_at values xs)) h))
-    (to_pairs values xs (and_second (not (has_number (numbers_at values xs) (number_at values x))) (are_different (numbers_at values xs)) h))
+    (same_none values x xs (and_first (not (has_number (numbers_of_vars values xs) (number_at values x))) (are_different (numbers_of_vars values xs)) h))
+    (to_pairs values xs (and_second (not (has_number (numbers_of_vars values xs) (number_at values x))) (are_different (numbers_of_vars values xs)) h))
 
 -- different numbers are distinct
 distinct : (xs : List ℤ) → are_different xs ≡ true → IsDistinct int_eq xs
@@ -132,13 +132,13 @@ unfolding has_number
 no_more xs numbers differ within = length-le_from_is_member int_eq_equiv xs numbers (distinct xs differ) within
 
 -- the numbers of variables are among those of their domains
-among_domains : (L : List VariableLiterals) (values : List ℤ) (xs : List ℕ) (numbers : List ℤ) → AreOfDomains L values → AreOf L xs → HasDomains L xs numbers → (v : ℤ) → has_number (numbers_at values xs) v ≡ true → has_number numbers v ≡ true
+among_domains : (L : List VariableLiterals) (values : List ℤ) (xs : List ℕ) (numbers : List ℤ) → AreOfDomains L values → AreOf L xs → HasDomains L xs numbers → (v : ℤ) → has_number (numbers_of_vars values xs) v ≡ true → has_number numbers v ≡ true
 among_domains L values xs numbers among low has v found =
-    let at = number_there (numbers_at values xs) v found in
+    let at = number_there (numbers_of_vars values xs) v found in
     let k : ℕ = at.0 in
     let within : k < length xs = omega (arith, at.2, length_numbers values xs) in
     let x : ℕ = get_or xs k 0 in
-    let is : number_at values x ≡ v = sym (number_of values xs k (pos 0) within) ∙ get_or_default (numbers_at values xs) k (pos 0) at.1 at.2 ∙ at.3 ∙ sym (same v at.1 at.4) in
+    let is : number_at values x ≡ v = sym (number_of values xs k (pos 0) within) ∙ get_or_default (numbers_of_vars values xs) k (pos 0) at.1 at.2 ∙ at.3 ∙ sym (same v at.1 at.4) in
     let there = has k 0 within (number_at values x) (number_among L values x among (low k 0 within)) in
     number_from numbers v there.0 (number_at values x) there.1 (there.2 ∙ is)
 
@@ -154,20 +154,20 @@ unfolding are_different
 differ_cons v xs none differ = and_both (not (has_number xs v)) (are_different xs) (ap not none) differ
 
 -- different variables cover the numbers that they can have
-pub covers : (L : List VariableLiterals) (values : List ℤ) (xs : List ℕ) (numbers : List ℤ) → AreOfDomains L values → AreOf L xs → HasDomains L xs numbers → are_different (numbers_at values xs) ≡ true → Covers xs numbers values
+pub covers : (L : List VariableLiterals) (values : List ℤ) (xs : List ℕ) (numbers : List ℤ) → AreOfDomains L values → AreOf L xs → HasDomains L xs numbers → are_different (numbers_of_vars values xs) ≡ true → Covers xs numbers values
 covers L values xs numbers among low has differ = record {
-  enough = λ fewer. let most = no_more (numbers_at values xs) numbers differ (among_domains L values xs numbers among low has) in omega (arith, fewer, most, length_numbers values xs);
-  taken = λ many k d below. elim (either (has_number (numbers_at values xs) (get_or numbers k d))) as (λ _. IsTrue (has_number (numbers_at values xs) (get_or numbers k d))) [
+  enough = λ fewer. let most = no_more (numbers_of_vars values xs) numbers differ (among_domains L values xs numbers among low has) in omega (arith, fewer, most, length_numbers values xs);
+  taken = λ many k d below. elim (either (has_number (numbers_of_vars values xs) (get_or numbers k d))) as (λ _. IsTrue (has_number (numbers_of_vars values xs) (get_or numbers k d))) [
     | inl on ↦ on
     | inr off ↦ absurd (too_many (get_or numbers k d) (number_from numbers (get_or numbers k d) k d below refl) off many)
   ];
 }
   where
-    too_many : (v : ℤ) → has_number numbers v ≡ true → has_number (numbers_at values xs) v ≡ false → length numbers ≡ length xs → ⊥
+    too_many : (v : ℤ) → has_number numbers v ≡ true → has_number (numbers_of_vars values xs) v ≡ false → length numbers ≡ length xs → ⊥
     too_many v there none many =
-        let most : length (v ∷ numbers_at values xs) ≤ length numbers =
-        no_more (v ∷ numbers_at values xs) numbers (differ_cons v (numbers_at values xs) none differ)
-        (λ u found. elim (cons_found v u (numbers_at values xs) found) as (λ _. has_number numbers u ≡ true) [
+        let most : length (v ∷ numbers_of_vars values xs) ≤ length numbers =
+        no_more (v ∷ numbers_of_vars values xs) numbers (differ_cons v (numbers_of_vars values xs) none differ)
+        (λ u found. elim (cons_found v u (numbers_of_vars values xs) found) as (λ _. has_number numbers u ≡ true) [
           | inl is ↦ ap (has_number numbers) is ∙ there
           | inr later ↦ among_domains L values xs numbers among low has u later
         ]) in
@@ -176,9 +176,9 @@ covers L values xs numbers among low has differ = record {
 -- pairs that differ, and what follows for different variables, are different variables
 pub different_whole : (L : List VariableLiterals) (f f1 f2 : Cnf) (guard : List Atom) (xs : List ℕ) (pairs : List (ℕ × ℕ)) (set numbers : List ℤ) → IsLayoutOf L f → AreOf L xs → pairs ≡ all_pairs xs → HasDomains L xs set → numbers ≡ set
     → Adds L f L f1 (Unless guard (λ values. All (λ p. Differ p values) pairs)) → Adds L f1 L f2 (Unless guard (Covers xs numbers))
-    → Adds L f L f2 (Unless guard (λ values. IsTrue (are_different (numbers_at values xs))))
+    → Adds L f L f2 (Unless guard (λ values. IsTrue (are_different (numbers_of_vars values xs))))
 different_whole L f f1 f2 guard xs pairs set numbers is_layout low pairs_are has numbers_are one two =
-    unless_like L f L f2 guard (λ values. All (λ p. Differ p values) pairs × Covers xs numbers values) (λ values. IsTrue (are_different (numbers_at values xs))) is_layout
+    unless_like L f L f2 guard (λ values. All (λ p. Differ p values) pairs × Covers xs numbers values) (λ values. IsTrue (are_different (numbers_of_vars values xs))) is_layout
     (unless_both L f f1 L f2 guard (λ values. All (λ p. Differ p values) pairs) (Covers xs numbers) is_layout one two)
     (λ values among. (
       λ h. from_pairs values xs (subst (λ ps. All (λ p. Differ p values) ps) pairs_are h.0),
@@ -215,18 +215,18 @@ pub same_pair : List ℤ → ℕ × ℕ → Bool
 same_pair values p = int_eq (number_at values p.0) (number_at values p.1)
 
 -- not all numbers are different exactly where those of a pair are the same
-some_pair : (values : List ℤ) (xs : List ℕ) → (list_any (same_pair values) (all_pairs xs) ≡ true) ↔ (are_different (numbers_at values xs) ≡ false)
+some_pair : (values : List ℤ) (xs : List ℕ) → (list_any (same_pair values) (all_pairs xs) ≡ true) ↔ (are_different (numbers_of_vars values xs) ≡ false)
 unfolding same_pair
 some_pair values xs = (
   λ h.
       let at = Any-from_list_any (same_pair values) (all_pairs xs) h in
-      elim (either (are_different (numbers_at values xs))) as (λ _. are_different (numbers_at values xs) ≡ false) [
+      elim (either (are_different (numbers_of_vars values xs))) as (λ _. are_different (numbers_of_vars values xs) ≡ false) [
         | inl differ ↦ absurd (subst (λ (p : ℕ × ℕ). Differ p values) at.3 (to_pairs values xs differ at.0 at.1 at.2) (same (number_at values at.1.0) (number_at values at.1.1) at.4))
         | inr off ↦ off
       ],
   λ off. elim (either (list_any (same_pair values) (all_pairs xs))) as (λ _. list_any (same_pair values) (all_pairs xs) ≡ true) [
     | inl on ↦ on
-    | inr none ↦ not_false (are_different (numbers_at values xs))
+    | inr none ↦ not_false (are_different (numbers_of_vars values xs))
         (from_pairs values xs (λ k d below equal. not_false (list_any (same_pair values) (all_pairs xs)) (list_any_at (same_pair values) (all_pairs xs) k d below (same_test (number_at values (get_or (all_pairs xs) k d).0) (number_at values (get_or (all_pairs xs) k d).1) equal)) none)) off
   ],
 )
@@ -278,9 +278,9 @@ covers_few L f g guard atoms vars numbers is_layout few none adds =
     (λ values among. (λ h. not_false (clause_holds values atoms) h (ap (clause_holds values) none ∙ clause_none values), λ h. absurd (h.enough few)))
 
 -- as many numbers as variables
-pub covers_same : (L : List VariableLiterals) (f g : Cnf) (guard : List Atom) (vars : List ℕ) (numbers : List ℤ) → IsLayoutOf L f → length numbers ≡ length vars → Adds L f L g (Unless guard (λ values. All (λ v. IsTrue (has_number (numbers_at values vars) v)) numbers)) → Adds L f L g (Unless guard (Covers vars numbers))
+pub covers_same : (L : List VariableLiterals) (f g : Cnf) (guard : List Atom) (vars : List ℕ) (numbers : List ℤ) → IsLayoutOf L f → length numbers ≡ length vars → Adds L f L g (Unless guard (λ values. All (λ v. IsTrue (has_number (numbers_of_vars values vars) v)) numbers)) → Adds L f L g (Unless guard (Covers vars numbers))
 covers_same L f g guard vars numbers is_layout many adds =
-    unless_like L f L g guard (λ values. All (λ v. IsTrue (has_number (numbers_at values vars) v)) numbers) (Covers vars numbers) is_layout adds
+    unless_like L f L g guard (λ values. All (λ v. IsTrue (has_number (numbers_of_vars values vars) v)) numbers) (Covers vars numbers) is_layout adds
     (λ values among. (λ h. record { enough = λ few. omega (arith, few, many); taken = λ any. h }, λ h. h.taken many))
 
 -- more numbers than variables: nothing is said
@@ -295,10 +295,10 @@ within_later L f L1 g count pairs new low = All-weaker (λ (p : ℕ × ℕ). (p.
 -- variables that choose pairs of equal variables say that not all are different
 pub some_equal_whole : (L : List VariableLiterals) (f : Cnf) (L1 : List VariableLiterals) (f1 f2 f3 : Cnf) (guard atoms : List Atom) (xs truths : List ℕ) (pairs : List (ℕ × ℕ)) (count : ℕ) → IsLayoutOf L f → AreOf L xs → AreAtomsOf L guard → pairs ≡ all_pairs xs → HasTruths L f L1 f1 count → count ≡ length pairs → truths ≡ numbers_from (length L) count → atoms ≡ are_all truths (pos 1)
     → Adds L1 f1 L1 f2 (λ values. (k : ℕ) → k < length pairs → AreEqual (get_or truths k 0) (get_or pairs k (0, 0)) values) → Adds L1 f2 L1 f3 (Unless guard (λ values. IsTrue (clause_holds values atoms)))
-    → Adds L f L1 f3 (Unless guard (λ values. are_different (numbers_at values xs) ≡ false))
+    → Adds L f L1 f3 (Unless guard (λ values. are_different (numbers_of_vars values xs) ≡ false))
 unfolding same_pair
 some_equal_whole L f L1 f1 f2 f3 guard atoms xs truths pairs count is_layout low guard_low pairs_are new many truths_are_from atoms_are one two =
-    adds_like L f L1 f3 (λ values. SomeTruths count (λ bits. Q (values ++ bits))) (Unless guard (λ values. are_different (numbers_at values xs) ≡ false)) is_layout
+    adds_like L f L1 f3 (λ values. SomeTruths count (λ bits. Q (values ++ bits))) (Unless guard (λ values. are_different (numbers_of_vars values xs) ≡ false)) is_layout
     (adds_truths L f L1 f1 L1 f3 count Q is_layout new
     (adds_both L1 f1 f2 L1 f3 (λ values. (k : ℕ) → k < length pairs → AreEqual (get_or truths k 0) (get_or pairs k (0, 0)) values) (Unless guard (λ values. IsTrue (clause_holds values atoms))) new.goes_on.is_layout one two))
     (λ values among.
@@ -338,7 +338,7 @@ some_equal_whole L f L1 f1 f2 f3 guard atoms xs truths pairs count is_layout low
     at_truth : (k : ℕ) → k < length pairs → get_or truths k 0 ≡ length L + k
     at_truth k below = ap (λ ts. get_or ts k 0) truths_are_from ∙ numbers_from_at (length L) count k 0 (omega (arith, below, many))
 
-    clause_is : (vs : List ℤ) → clause_holds vs atoms ≡ has_number (numbers_at vs (numbers_from (length L) (length (all_pairs xs)))) (pos 1)
+    clause_is : (vs : List ℤ) → clause_holds vs atoms ≡ has_number (numbers_of_vars vs (numbers_from (length L) (length (all_pairs xs)))) (pos 1)
     clause_is vs = ap (clause_holds vs) (atoms_are ∙ ap (λ ts. are_all ts (pos 1)) (truths_are_from ∙ ap (numbers_from (length L)) total)) ∙ are_all_says vs (numbers_from (length L) (length (all_pairs xs))) (pos 1)
 
     pair_kept : (values bits : List ℤ) → length values ≡ length L → (k : ℕ) → k < length (all_pairs xs) → (number_at (values ++ bits) (get_or (all_pairs xs) k (0, 0)).0 ≡ number_at values (get_or (all_pairs xs) k (0, 0)).0) × (number_at (values ++ bits) (get_or (all_pairs xs) k (0, 0)).1 ≡ number_at values (get_or (all_pairs xs) k (0, 0)).1)

@@ -4,7 +4,7 @@ use Rattle.std.specs.List.{All}
 use Rattle.ep_base.specs.Numbers.{compare_holds, has_number, sum_of, times_in}
 use Rattle.ep_base.specs.Reads.{IsWithinNumbers}
 use Rattle.ep_base.specs.declared.operators.CompareOp.{CompareOp}
-use Rattle.ep_flat.specs.Cons.{number_at, numbers_at}
+use Rattle.ep_flat.specs.Cons.{number_at, numbers_of_vars}
 use Rattle.enc_count.specs.declared.counts.Wanted.{Wanted}
 use Rattle.enc_steps.specs.Steps.{AreOf, Implied, IsTruth}
 use Rattle.enc_var.specs.Decoding.{VariableLiterals}
@@ -21,11 +21,11 @@ wanted_count values wanted = unwrap_or (option_map (number_at values) wanted.var
 
 -- whether a number stands among variables as often as is compared with its count
 unfoldable pub wanted_holds : List ℤ → CompareOp → List ℕ → Wanted → Bool
-wanted_holds values op xs wanted = compare_holds op (times_in (numbers_at values xs) wanted.value) (wanted_count values wanted)
+wanted_holds values op xs wanted = compare_holds op (times_in (numbers_of_vars values xs) wanted.value) (wanted_count values wanted)
 
 -- whether the sum of some variables compares so with the count of a number
 unfoldable pub sum_holds : List ℤ → CompareOp → List ℕ → Wanted → Bool
-sum_holds values op marks wanted = compare_holds op (sum_of (numbers_at values marks)) (wanted_count values wanted)
+sum_holds values op marks wanted = compare_holds op (sum_of (numbers_of_vars values marks)) (wanted_count values wanted)
 
 -- the parts of a sum of marks, less a variable where there is one
 unfoldable pub counted_parts : Option ℕ → List ℕ → List (ℤ × ℕ)
@@ -55,4 +55,4 @@ IsMark mark x v values = Implied mark (pos 1) x v values × Implied x v mark (po
 abbrev pub IsAllOf : ℕ → List ℕ → List ℤ → Type 0
 IsAllOf t told values =
     (IsTruth (number_at values t) × All (λ d. Implied t (pos 1) d (pos 1) values) told)
-    × (number_at values t ≡ pos 0 → IsTrue (has_number (numbers_at values told) (pos 0)))
+    × (number_at values t ≡ pos 0 → IsTrue (has_number (numbers_of_vars values told) (pos 0)))

@@ -2,7 +2,7 @@
 use Rattle.std.specs.Prelude.{◌≡◌, ℕ, ◌<◌, ℤ, pos, IsTrue, List, [], ◌∷◌, ◌++◌, length, map}
 use Rattle.std.specs.List.{All, Contains}
 use Rattle.ep_base.specs.Numbers.{has_number}
-use Rattle.ep_flat.specs.Cons.{number_at, numbers_at}
+use Rattle.ep_flat.specs.Cons.{number_at, numbers_of_vars}
 use Rattle.enc_var.specs.Decoding.{VariableLiterals}
 use Rattle.enc_var.specs.Layouts.{literals_at}
 
@@ -30,4 +30,4 @@ HasDomains layout vars numbers = All (λ x. (v : ℤ) → Contains (literals_at 
 -- the variables aren't more than the numbers, and where they are as many each number is taken
 pub record Covers (vars : List ℕ) (numbers : List ℤ) (values : List ℤ) : Type 0 where
   pub enough : length numbers < length vars → ⊥
-  pub taken : length numbers ≡ length vars → All (λ v. IsTrue (has_number (numbers_at values vars) v)) numbers
+  pub taken : length numbers ≡ length vars → All (λ v. IsTrue (has_number (numbers_of_vars values vars) v)) numbers

@@ -5,7 +5,7 @@ ghost use Rattle.std.specs.Prelude.{◌≡◌, ◌<◌, pos, ℕ, ℤ, List, [],
 ghost use Rattle.std.specs.List.{All, list_all};
 ghost use Rattle.ep_base.specs.Numbers.{counts_hold, has_number, times_in};
 ghost use Rattle.ep_base.specs.declared.operators.CompareOp.TheVariants as Op;
-ghost use Rattle.ep_flat.specs.Cons.{is_as_said, numbers_at, number_at};
+ghost use Rattle.ep_flat.specs.Cons.{is_as_said, numbers_of_vars, number_at};
 ghost use Rattle.enc_atoms.specs.Atoms.{Adds, AreOfDomains};
 ghost use Rattle.enc_count.specs.Counts.{AreFit, IsAllOf, IsMark, counted_parts, no_wanted, sum_holds, wanted_by_numbers, wanted_by_vars, wanted_holds};
 ghost use Rattle.enc_steps.specs.Steps.{AreOf, HasTruth, Implied, IsReady};
@@ -33,7 +33,7 @@ fn able_to_be(alloc: Global, layout: &Layout, vars: &[u64], number: i64) -> Resu
     requires { AreOf layout.now vars.now }
     ensures within { IfOk result (λ able. AreOf layout.now able.items) }
     ensures times { IfOk result (λ able. (values : List ℤ) → AreOfDomains layout.now values
-        → times_in (numbers_at values able.items) number ≡ times_in (numbers_at values vars.now) number) }
+        → times_in (numbers_of_vars values able.items) number ≡ times_in (numbers_of_vars values vars.now) number) }
 {
     let mut able = Vec::new(alloc);
     for var in vars {
@@ -231,7 +231,7 @@ fn add_some_untold(
     requires truth { truth < length layout.now }
     requires told { AreOf layout.now told.now }
     ensures { OnOk result (Adds layout.now f.old layout.now f.new (λ values. number_at values truth ≡ pos 0
-        → IsTrue (has_number (numbers_at values told.now) (pos 0)))) }
+        → IsTrue (has_number (numbers_of_vars values told.now) (pos 0)))) }
 {
     let off = [Atom::is_not(truth, 0)];
     let atoms = all_are(alloc, told, 0)?;
@@ -351,7 +351,7 @@ pub(crate) fn encode_counts(
     requires vars { AreOf layout.old vars.now }
     requires counts { AreFit layout.old counts.now }
     ensures { OnOk result (Adds layout.old f.old layout.new f.new (λ values. IsTrue (is_as_said values truth
-        (unwrap_or (counts_hold Op.Equal (numbers_at values vars.now) numbers.now (numbers_at values counts.now)) false)))) }
+        (unwrap_or (counts_hold Op.Equal (numbers_of_vars values vars.now) numbers.now (numbers_of_vars values counts.now)) false)))) }
 {
     if numbers.len() != counts.len() {
         return add_never(alloc, layout, f, truth);
@@ -376,7 +376,7 @@ pub(crate) fn encode_bounds(
     requires truth { HasTruth layout.old truth }
     requires vars { AreOf layout.old vars.now }
     ensures { OnOk result (Adds layout.old f.old layout.new f.new (λ values. IsTrue (is_as_said values truth
-        (unwrap_or (counts_hold op (numbers_at values vars.now) numbers.now counts.now) false)))) }
+        (unwrap_or (counts_hold op (numbers_of_vars values vars.now) numbers.now counts.now) false)))) }
 {
     if numbers.len() != counts.len() {
         return add_never(alloc, layout, f, truth);

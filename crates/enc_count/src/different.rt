@@ -3,7 +3,7 @@
 ghost use Rattle.std.specs.Prelude.{◌≡◌, ◌<◌, ◌++◌, ℕ, false, map, length, IsTrue, IfOk, OnOk, Some, slice_index_or};
 ghost use Rattle.std.specs.List.{All};
 ghost use Rattle.ep_base.specs.Numbers.{are_different, has_number};
-ghost use Rattle.ep_flat.specs.Cons.{is_as_said, numbers_at, number_at};
+ghost use Rattle.ep_flat.specs.Cons.{is_as_said, numbers_of_vars, number_at};
 ghost use Rattle.enc_atoms.specs.Atoms.{Adds};
 ghost use Rattle.enc_count.specs.Different.{AreEqual, AreWithin, Covers, Differ, HasDomains, all_pairs};
 ghost use Rattle.enc_steps.specs.Steps.{AreAtomsOf, AreOf, HasTruth, IsReady, Unless};
@@ -105,7 +105,7 @@ fn add_taken(
     requires guard { AreAtomsOf layout.now guard.now }
     requires within { AreOf layout.now vars.now }
     ensures { OnOk result (Adds layout.now f.old layout.now f.new
-        (Unless guard.now (λ values. IsTrue (has_number (numbers_at values vars.now) number)))) }
+        (Unless guard.now (λ values. IsTrue (has_number (numbers_of_vars values vars.now) number)))) }
 {
     let atoms = all_are(alloc, vars, number)?;
     add_guarded(alloc, layout, f, guard, &atoms)
@@ -124,7 +124,7 @@ fn add_each_taken(
     requires guard { AreAtomsOf layout.now guard.now }
     requires within { AreOf layout.now vars.now }
     ensures { OnOk result (Adds layout.now f.old layout.now f.new (Unless guard.now
-        (λ values. All (λ number. IsTrue (has_number (numbers_at values vars.now) number)) numbers.now))) }
+        (λ values. All (λ number. IsTrue (has_number (numbers_of_vars values vars.now) number)) numbers.now))) }
 {
     for number in numbers {
         add_taken(alloc, layout, f, guard, vars, *number)?;
@@ -170,7 +170,7 @@ fn add_different(
     requires guard { AreAtomsOf layout.now guard.now }
     requires within { AreOf layout.now vars.now }
     ensures { OnOk result (Adds layout.now f.old layout.now f.new
-        (Unless guard.now (λ values. IsTrue (are_different (numbers_at values vars.now))))) }
+        (Unless guard.now (λ values. IsTrue (are_different (numbers_of_vars values vars.now))))) }
 {
     let pairs = pairs_of(alloc, vars)?;
     let numbers = numbers_of(alloc, layout, vars)?;
@@ -236,7 +236,7 @@ fn add_some_equal(
     requires guard { AreAtomsOf layout.old guard.now }
     requires within { AreOf layout.old vars.now }
     ensures { OnOk result (Adds layout.old f.old layout.new f.new
-        (Unless guard.now (λ values. are_different (numbers_at values vars.now) ≡ false))) }
+        (Unless guard.now (λ values. are_different (numbers_of_vars values vars.now) ≡ false))) }
 {
     let pairs = pairs_of(alloc, vars)?;
     let truths = new_truths(alloc, layout, f, pairs.len())?;
@@ -257,7 +257,7 @@ fn encode_truth(
     requires truth { truth < length layout.old }
     requires within { AreOf layout.old vars.now }
     ensures { OnOk result (Adds layout.old f.old layout.new f.new
-        (λ values. IsTrue (is_as_said values (Some truth) (are_different (numbers_at values vars.now))))) }
+        (λ values. IsTrue (is_as_said values (Some truth) (are_different (numbers_of_vars values vars.now))))) }
 {
     let on = [Atom::is_not(truth, 1)];
     let off = [Atom::is_not(truth, 0)];
@@ -278,7 +278,7 @@ pub(crate) fn encode_different(
     requires truth { HasTruth layout.old truth }
     requires within { AreOf layout.old vars.now }
     ensures { OnOk result (Adds layout.old f.old layout.new f.new
-        (λ values. IsTrue (is_as_said values truth (are_different (numbers_at values vars.now))))) }
+        (λ values. IsTrue (is_as_said values truth (are_different (numbers_of_vars values vars.now))))) }
 {
     match truth {
         None => add_different(alloc, layout, f, &[], vars),

@@ -15,7 +15,7 @@ use Rattle.enc_atoms.proofs.Decoded.{number_among}
 use Rattle.enc_linear.specs.declared.terms.Step.{Step}
 use Rattle.enc_linear.specs.declared.terms.Term.{Term}
 use Rattle.enc_linear.proofs.Saying.{negated}
-use Rattle.enc_linear.specs.Terms.{AreInOrder, IsOrdered, IsTermOf, Says, worth_at, worth_of}
+use Rattle.enc_linear.specs.Terms.{AreInOrder, HasOrderedSteps, IsTermOf, SaysOfTerm, worth_at, worth_of}
 use Rattle.enc_var.proofs.Counts.{is_at_most, is_below}
 use Rattle.enc_var.specs.Decoding.{VariableLiterals}
 use Rattle.ep_flat.specs.Cons.{number_at}
@@ -92,11 +92,11 @@ unfolding test_holds
 tests_is_not v x = negated (int_eq x v) (x ≡ v) (Decides-int_eq x v)
 
 -- "less than at this step", where worths rise
-pub less_rising : (term : Term) (step : Step) (atom : Atom) (v : ℕ) (below : ℤ) → term.rising ≡ true → IsOrdered term → Contains term.steps.items step
-    → atom ≡ record { var = v; test = Test.AtMost; value = below } → v ≡ term.var → below ≡ step.value -ℤ pos 1 → Says term atom (λ worth. worth <ℤ step.worth)
+pub less_rising : (term : Term) (step : Step) (atom : Atom) (v : ℕ) (below : ℤ) → term.rising ≡ true → HasOrderedSteps term → Contains term.steps.items step
+    → atom ≡ record { var = v; test = Test.AtMost; value = below } → v ≡ term.var → below ≡ step.value -ℤ pos 1 → SaysOfTerm term atom (λ worth. worth <ℤ step.worth)
 less_rising term step atom v below rising ordered there made of_var is =
     let pairs : AllPairs (AreInOrder true) term.steps.items = subst (λ (b : Bool). AllPairs (AreInOrder b) term.steps.items) rising ordered in
-    subst (λ (a : Atom). Says term a (λ worth. worth <ℤ step.worth)) (sym made)
+    subst (λ (a : Atom). SaysOfTerm term a (λ worth. worth <ℤ step.worth)) (sym made)
     (record {
       var = of_var;
       tells = All-from_contains (λ (other : Step). IsTrue (test_holds Test.AtMost below other.value) ↔ (other.worth <ℤ step.worth)) term.steps.items
@@ -108,11 +108,11 @@ less_rising term step atom v below rising ordered there made of_var is =
     })
 
 -- "less than at this step", where worths fall
-pub less_falling : (term : Term) (step : Step) (atom : Atom) (v : ℕ) (at : ℤ) → term.rising ≡ false → IsOrdered term → Contains term.steps.items step
-    → atom ≡ record { var = v; test = Test.Above; value = at } → v ≡ term.var → at ≡ step.value → Says term atom (λ worth. worth <ℤ step.worth)
+pub less_falling : (term : Term) (step : Step) (atom : Atom) (v : ℕ) (at : ℤ) → term.rising ≡ false → HasOrderedSteps term → Contains term.steps.items step
+    → atom ≡ record { var = v; test = Test.Above; value = at } → v ≡ term.var → at ≡ step.value → SaysOfTerm term atom (λ worth. worth <ℤ step.worth)
 less_falling term step atom v at falling ordered there made of_var is =
     let pairs : AllPairs (AreInOrder false) term.steps.items = subst (λ (b : Bool). AllPairs (AreInOrder b) term.steps.items) falling ordered in
-    subst (λ (a : Atom). Says term a (λ worth. worth <ℤ step.worth)) (sym made)
+    subst (λ (a : Atom). SaysOfTerm term a (λ worth. worth <ℤ step.worth)) (sym made)
     (record {
       var = of_var;
       tells = All-from_contains (λ (other : Step). IsTrue (test_holds Test.Above at other.value) ↔ (other.worth <ℤ step.worth)) term.steps.items
@@ -257,7 +257,7 @@ pub stands_of : (L : List VariableLiterals) (term : Term) (values : List ℤ) �
 stands_of L term values of_layout among = stands term.steps.items (number_at values term.var) (subst (λ xs. Contains xs (number_at values term.var)) (sym of_layout.values) (number_among L values term.var among of_layout.var))
 
 -- an atom that says something of a term's worth holds exactly where that is so
-pub so_said : (L : List VariableLiterals) (term : Term) (atom : Atom) (holds : ℤ → Type 0) (values : List ℤ) → IsTermOf L term → Says term atom holds → AreOfDomains L values → IsTrue (atom_holds values atom) ↔ holds (worth_of values term)
+pub so_said : (L : List VariableLiterals) (term : Term) (atom : Atom) (holds : ℤ → Type 0) (values : List ℤ) → IsTermOf L term → SaysOfTerm term atom holds → AreOfDomains L values → IsTrue (atom_holds values atom) ↔ holds (worth_of values term)
 unfolding atom_holds worth_of
 so_said L term atom holds values of_layout says among =
     let s = stands_of L term values of_layout among in
@@ -270,7 +270,7 @@ so_said L term atom holds values of_layout says among =
 -- what the two searches find, as what an atom says of a term
 pub found_says : (term : Term) (xs : List Step) (v : ℕ) (most m : ℤ) (r : Option Atom) → xs ≡ term.steps.items → v ≡ term.var
     → MatchOption r (All (λ (step : Step). m <ℤ step.worth) xs) (λ atom. (atom.var ≡ v) × All (λ (step : Step). IsTrue (test_holds atom.test atom.value step.value) ↔ (step.worth ≤ℤ m)) xs)
-    → m ≡ most → MatchOption r (All (λ (step : Step). most <ℤ step.worth) term.steps.items) (λ atom. Says term atom (λ worth. worth ≤ℤ most))
+    → m ≡ most → MatchOption r (All (λ (step : Step). most <ℤ step.worth) term.steps.items) (λ atom. SaysOfTerm term atom (λ worth. worth ≤ℤ most))
 found_says term xs v most m None e w h same = subst (λ (n : ℤ). All (λ (step : Step). n <ℤ step.worth) term.steps.items) same (subst (All (λ (step : Step). m <ℤ step.worth)) e h)
 found_says term xs v most m (Some atom) e w h same = record {
   var = h.0 ∙ w;
@@ -280,19 +280,19 @@ found_says term xs v most m (Some atom) e w h same = record {
 
 pub found_says_ok : {E : Type 0} (term : Term) (xs : List Step) (v : ℕ) (most m : ℤ) (r : Result (Option Atom) E) → xs ≡ term.steps.items → v ≡ term.var
     → IfOk r (λ found. MatchOption found (All (λ (step : Step). m <ℤ step.worth) xs) (λ atom. (atom.var ≡ v) × All (λ (step : Step). IsTrue (test_holds atom.test atom.value step.value) ↔ (step.worth ≤ℤ m)) xs))
-    → m ≡ most → IfOk r (λ found. MatchOption found (All (λ (step : Step). most <ℤ step.worth) term.steps.items) (λ atom. Says term atom (λ worth. worth ≤ℤ most)))
+    → m ≡ most → IfOk r (λ found. MatchOption found (All (λ (step : Step). most <ℤ step.worth) term.steps.items) (λ atom. SaysOfTerm term atom (λ worth. worth ≤ℤ most)))
 found_says_ok term xs v most m (Ok found) e w h same = found_says term xs v most m found e w h same
 found_says_ok term xs v most m (Err e') e w h same = tt
 
 -- what a search found, with its number in other words
-pub never : (term : Term) (most m : ℤ) (r : Option Atom) → r ≡ None → MatchOption r (All (λ (step : Step). m <ℤ step.worth) term.steps.items) (λ atom. Says term atom (λ worth. worth ≤ℤ m)) → m ≡ most
+pub never : (term : Term) (most m : ℤ) (r : Option Atom) → r ≡ None → MatchOption r (All (λ (step : Step). m <ℤ step.worth) term.steps.items) (λ atom. SaysOfTerm term atom (λ worth. worth ≤ℤ m)) → m ≡ most
     → All (λ (step : Step). most <ℤ step.worth) term.steps.items
 never term most m r e h same =
     subst (λ (n : ℤ). All (λ (step : Step). n <ℤ step.worth) term.steps.items) same
-    (subst (λ (o : Option Atom). MatchOption o (All (λ (step : Step). m <ℤ step.worth) term.steps.items) (λ atom. Says term atom (λ worth. worth ≤ℤ m))) e h)
+    (subst (λ (o : Option Atom). MatchOption o (All (λ (step : Step). m <ℤ step.worth) term.steps.items) (λ atom. SaysOfTerm term atom (λ worth. worth ≤ℤ m))) e h)
 
-pub says_found : (term : Term) (most m : ℤ) (r : Option Atom) (atom : Atom) → r ≡ Some atom → MatchOption r (All (λ (step : Step). m <ℤ step.worth) term.steps.items) (λ atom. Says term atom (λ worth. worth ≤ℤ m)) → m ≡ most
-    → Says term atom (λ worth. worth ≤ℤ most)
+pub says_found : (term : Term) (most m : ℤ) (r : Option Atom) (atom : Atom) → r ≡ Some atom → MatchOption r (All (λ (step : Step). m <ℤ step.worth) term.steps.items) (λ atom. SaysOfTerm term atom (λ worth. worth ≤ℤ m)) → m ≡ most
+    → SaysOfTerm term atom (λ worth. worth ≤ℤ most)
 says_found term most m r atom e h same =
-    subst (λ (n : ℤ). Says term atom (λ worth. worth ≤ℤ n)) same
-    (subst (λ (o : Option Atom). MatchOption o (All (λ (step : Step). m <ℤ step.worth) term.steps.items) (λ atom. Says term atom (λ worth. worth ≤ℤ m))) e h)
+    subst (λ (n : ℤ). SaysOfTerm term atom (λ worth. worth ≤ℤ n)) same
+    (subst (λ (o : Option Atom). MatchOption o (All (λ (step : Step). m <ℤ step.worth) term.steps.items) (λ atom. SaysOfTerm term atom (λ worth. worth ≤ℤ m))) e h)

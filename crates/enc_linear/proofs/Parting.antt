@@ -14,7 +14,7 @@ use Rattle.enc_atoms.specs.declared.atoms.Test.{Test}
 use Rattle.enc_linear.specs.declared.terms.Step.{Step}
 use Rattle.enc_linear.specs.declared.terms.Term.{Term}
 use Rattle.enc_linear.specs.Guards.{Unless}
-use Rattle.enc_linear.specs.Terms.{IsOrdered, IsTermOf, Says, worth_of}
+use Rattle.enc_linear.specs.Terms.{HasOrderedSteps, IsTermOf, SaysOfTerm, worth_of}
 use Rattle.enc_linear.proofs.Ladders.{falls, rises, so_said, stands_of, tests_is_not}
 use Rattle.enc_linear.proofs.Saying.{with_one_more}
 use Rattle.enc_linear.proofs.Turns.{nothing_new, one_more}
@@ -49,24 +49,24 @@ turned P Q R S one two = (
 )
 
 -- one step's number is another exactly where its worth is another
-pub apart_there : (term : Term) (a b : Step) → IsOrdered term → Contains term.steps.items a → Contains term.steps.items b → (a.value ≢ b.value) ↔ (a.worth ≢ b.worth)
+pub apart_there : (term : Term) (a b : Step) → HasOrderedSteps term → Contains term.steps.items a → Contains term.steps.items b → (a.value ≢ b.value) ↔ (a.worth ≢ b.worth)
 apart_there term a b ordered here there = by term.rising refl
   where
     by : (r : Bool) → term.rising ≡ r → (a.value ≢ b.value) ↔ (a.worth ≢ b.worth)
     by true e =
-        let pairs = subst (λ (r : Bool). IsOrdered (record term { rising = r })) e ordered in
+        let pairs = subst (λ (r : Bool). HasOrderedSteps (record term { rising = r })) e ordered in
         same_with_orders a.value b.value a.worth b.worth
         (swapped (a.value <ℤ b.value) (b.value <ℤ a.value) (a.worth <ℤ b.worth) (b.worth <ℤ a.worth) (rises term.steps.items a b pairs here there) (rises term.steps.items b a pairs there here))
     by false e =
-        let pairs = subst (λ (r : Bool). IsOrdered (record term { rising = r })) e ordered in
+        let pairs = subst (λ (r : Bool). HasOrderedSteps (record term { rising = r })) e ordered in
         same_with_orders a.value b.value a.worth b.worth
         (turned (a.value <ℤ b.value) (b.value <ℤ a.value) (a.worth <ℤ b.worth) (b.worth <ℤ a.worth) (falls term.steps.items b a pairs there here) (falls term.steps.items a b pairs here there))
 
 -- "it isn't worth what it is at this step"
-pub other_said : (term : Term) (step : Step) (atom : Atom) (v : ℕ) (at : ℤ) → IsOrdered term → Contains term.steps.items step → atom ≡ record { var = v; test = Test.IsNot; value = at } → v ≡ term.var → at ≡ step.value
-    → Says term atom (λ worth. worth ≢ step.worth)
+pub other_said : (term : Term) (step : Step) (atom : Atom) (v : ℕ) (at : ℤ) → HasOrderedSteps term → Contains term.steps.items step → atom ≡ record { var = v; test = Test.IsNot; value = at } → v ≡ term.var → at ≡ step.value
+    → SaysOfTerm term atom (λ worth. worth ≢ step.worth)
 other_said term step atom v at ordered there made of_var is =
-    subst (λ (a : Atom). Says term a (λ worth. worth ≢ step.worth)) (sym made)
+    subst (λ (a : Atom). SaysOfTerm term a (λ worth. worth ≢ step.worth)) (sym made)
     (record {
       var = of_var;
       tells = All-from_contains (λ (other : Step). IsTrue (test_holds Test.IsNot at other.value) ↔ (other.worth ≢ step.worth)) term.steps.items
@@ -90,7 +90,7 @@ apart_passed L f f1 guards term number step d i is_layout low at before other =
 
 -- a turn over a step that is worth the number
 pub apart_turn : (L : List VariableLiterals) (f f1 f2 : Cnf) (guards : List Atom) (atom : Atom) (term : Term) (number : ℤ) (step d : Step) (i : ℕ) → IsLayoutOf L f → IsTermOf L term → i < length term.steps.items
-    → step ≡ get_or term.steps.items i d → Says term atom (λ worth. worth ≢ step.worth)
+    → step ≡ get_or term.steps.items i d → SaysOfTerm term atom (λ worth. worth ≢ step.worth)
     → Adds L f L f1 (λ values. All (Apart guards term number values) (take i term.steps.items)) → Adds L f1 L f2 (Unless guards (λ values. IsTrue (atom_holds values atom))) → step.worth ≡ number
     → Adds L f L f2 (λ values. All (Apart guards term number values) (take (i + 1) term.steps.items))
 apart_turn L f f1 f2 guards atom term number step d i is_layout of_layout low at says before added is =
@@ -135,7 +135,7 @@ Parted guards first rest number values step = (IsTrue (clause_holds values guard
 
 -- a turn
 pub parted_turn : (L : List VariableLiterals) (f f1 f2 : Cnf) (guards atoms : List Atom) (other : Atom) (first : Term) (rest : List ℤ → ℤ) (number left : ℤ) (step d : Step) (i : ℕ) → IsLayoutOf L f → IsTermOf L first
-    → i < length first.steps.items → step ≡ get_or first.steps.items i d → Says first other (λ worth. worth ≢ step.worth) → atoms ≡ guards ++ other ∷ []
+    → i < length first.steps.items → step ≡ get_or first.steps.items i d → SaysOfTerm first other (λ worth. worth ≢ step.worth) → atoms ≡ guards ++ other ∷ []
     → Adds L f L f1 (λ values. All (Parted guards first rest number values) (take i first.steps.items)) → Adds L f1 L f2 (Unless atoms (λ values. rest values ≢ left)) → left ≡ number -ℤ step.worth
     → Adds L f L f2 (λ values. All (Parted guards first rest number values) (take (i + 1) first.steps.items))
 parted_turn L f f1 f2 guards atoms other first rest number left step d i is_layout of_layout low at says is before added left_is =

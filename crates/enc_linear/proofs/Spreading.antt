@@ -11,7 +11,7 @@ use Rattle.enc_atoms.specs.declared.atoms.Atom.{Atom}
 use Rattle.enc_linear.specs.declared.terms.Step.{Step}
 use Rattle.enc_linear.specs.declared.terms.Term.{Term}
 use Rattle.enc_linear.specs.Guards.{Unless}
-use Rattle.enc_linear.specs.Terms.{IsTermOf, Says, worth_of}
+use Rattle.enc_linear.specs.Terms.{IsTermOf, SaysOfTerm, worth_of}
 use Rattle.enc_linear.proofs.Ladders.{so_said, stands_of}
 use Rattle.enc_linear.proofs.Saying.{with_one_more}
 use Rattle.enc_linear.proofs.Turns.{one_more}
@@ -29,7 +29,7 @@ only_guards L term guards most values of_layout above among =
     (λ h. inl h, λ h. elim h as (λ _. IsTrue (clause_holds values guards)) [ inl g ↦ g | inr low ↦ absurd (omega (arith, ints, low, high, worth)) ])
 
 -- a guarded atom that says so of the term
-pub guarded_term : (L : List VariableLiterals) (term : Term) (guards : List Atom) (atom : Atom) (most : ℤ) (values : List ℤ) → IsTermOf L term → Says term atom (λ worth. worth ≤ℤ most) → AreOfDomains L values
+pub guarded_term : (L : List VariableLiterals) (term : Term) (guards : List Atom) (atom : Atom) (most : ℤ) (values : List ℤ) → IsTermOf L term → SaysOfTerm term atom (λ worth. worth ≤ℤ most) → AreOfDomains L values
     → Unless guards (λ values. IsTrue (atom_holds values atom)) values ↔ Unless guards (λ values. worth_of values term ≤ℤ most) values
 guarded_term L term guards atom most values of_layout says among =
     let said = so_said L term atom (λ worth. worth ≤ℤ most) values of_layout says among in (
@@ -43,7 +43,7 @@ Spread guards first rest most values step = (IsTrue (clause_holds values guards)
 
 -- a turn
 pub spread_turn : (L : List VariableLiterals) (f f1 f2 : Cnf) (guards atoms : List Atom) (less : Atom) (first : Term) (rest : List ℤ → ℤ) (most left : ℤ) (step d : Step) (i : ℕ) → IsLayoutOf L f → IsTermOf L first
-    → i < length first.steps.items → step ≡ get_or first.steps.items i d → Says first less (λ worth. worth <ℤ step.worth) → atoms ≡ guards ++ less ∷ []
+    → i < length first.steps.items → step ≡ get_or first.steps.items i d → SaysOfTerm first less (λ worth. worth <ℤ step.worth) → atoms ≡ guards ++ less ∷ []
     → Adds L f L f1 (λ values. All (Spread guards first rest most values) (take i first.steps.items)) → Adds L f1 L f2 (Unless atoms (λ values. rest values ≤ℤ left)) → left ≡ most -ℤ step.worth
     → Adds L f L f2 (λ values. All (Spread guards first rest most values) (take (i + 1) first.steps.items))
 spread_turn L f f1 f2 guards atoms less first rest most left step d i is_layout of_layout low at says is before added left_is =

@@ -35,8 +35,8 @@ abbrev pub AreInOrder : Bool → Step → Step → Type 0
 AreInOrder rising one next = (one.value <ℤ next.value) × IsBefore rising one.worth next.worth
 
 -- the steps of a term stand in order
-abbrev pub IsOrdered : Term → Type 0
-IsOrdered term = AllPairs (AreInOrder term.rising) term.steps.items
+abbrev pub HasOrderedSteps : Term → Type 0
+HasOrderedSteps term = AllPairs (AreInOrder term.rising) term.steps.items
 
 -- a number lies within bounds
 abbrev pub LiesWithin : Bounds → ℤ → Type 0
@@ -50,11 +50,11 @@ HoldsSteps bounds steps = All (λ step. LiesWithin bounds step.worth) steps
 pub record IsTermOf (layout : List VariableLiterals) (term : Term) : Type 0 where
   pub var : term.var < length layout
   pub values : map (λ step. step.value) term.steps.items ≡ (literals_at layout term.var).domain
-  pub ordered : IsOrdered term
+  pub ordered : HasOrderedSteps term
   pub bounds : HoldsSteps term.bounds term.steps.items
 
 -- an atom is of the term's variable, and says this of the term's worth
-pub record Says (term : Term) (atom : Atom) (holds : ℤ → Type 0) : Type 0 where
+pub record SaysOfTerm (term : Term) (atom : Atom) (holds : ℤ → Type 0) : Type 0 where
   pub var : atom.var ≡ term.var
   pub tells : All (λ step. IsTrue (test_holds atom.test atom.value step.value) ↔ holds step.worth) term.steps.items
 

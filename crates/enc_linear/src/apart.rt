@@ -4,7 +4,7 @@ ghost use Rattle.std.specs.Prelude.{◌≢◌, ◌+ℤ◌, ◌<◌, pos, length,
 ghost use Rattle.std.specs.List.{All, Contains};
 ghost use Rattle.enc_atoms.specs.Atoms.{Adds};
 ghost use Rattle.enc_linear.specs.Guards.{Unless};
-ghost use Rattle.enc_linear.specs.Terms.{IsOrdered, IsTermOf, Says, worth_of};
+ghost use Rattle.enc_linear.specs.Terms.{HasOrderedSteps, IsTermOf, SaysOfTerm, worth_of};
 ghost use Rattle.enc_var.specs.Layouts.{IsLayoutOf};
 
 use crate::guards::{add_guarded, with_atom};
@@ -17,9 +17,9 @@ use std::alloc::Global;
 
 /// "It isn't worth what it is at this step."
 fn other_than(term: &Term, step: Step) -> Atom
-    requires ordered { IsOrdered term.now }
+    requires ordered { HasOrderedSteps term.now }
     requires step { Contains term.now.steps.items step }
-    ensures { Says term.now result (λ worth. worth ≢ step.worth) }
+    ensures { SaysOfTerm term.now result (λ worth. worth ≢ step.worth) }
 {
     Atom::is_not(term.var, step.value)
 }

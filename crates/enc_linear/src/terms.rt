@@ -3,7 +3,7 @@
 ghost use Rattle.std.specs.Prelude.{◌≡◌, ◌↔◌, ◌≤◌, ◌<◌, ◌<ℤ◌, ◌≤ℤ◌, true, false, length, IfOk, IsTrue, MatchOption, MatchResult};
 ghost use Rattle.std.specs.List.{All, AllPairs, AllWithin, Contains};
 ghost use Rattle.enc_atoms.specs.Atoms.{test_holds};
-ghost use Rattle.enc_linear.specs.Terms.{AreInOrder, IsOrdered, Says};
+ghost use Rattle.enc_linear.specs.Terms.{AreInOrder, HasOrderedSteps, SaysOfTerm};
 
 use crate::bounds::Bounds;
 use enc_atoms::Atom;
@@ -33,9 +33,9 @@ pub struct Term {
 
 /// "It is worth less than at this step."
 pub(crate) fn less_than(term: &Term, step: Step) -> Result<Atom, Memory>
-    requires ordered { IsOrdered term.now }
+    requires ordered { HasOrderedSteps term.now }
     requires step { Contains term.now.steps.items step }
-    ensures { IfOk result (λ atom. Says term.now atom (λ worth. worth <ℤ step.worth)) }
+    ensures { IfOk result (λ atom. SaysOfTerm term.now atom (λ worth. worth <ℤ step.worth)) }
 {
     if term.rising {
         let below = step.value.checked_sub(1).ok_or(Memory)?;
@@ -95,9 +95,9 @@ fn falling_up_to(var: u64, steps: &[Step], most: i128) -> Result<Option<Atom>, M
 
 /// "It is worth at most so much"; none where it never is.
 pub(crate) fn up_to(term: &Term, most: i128) -> Result<Option<Atom>, Memory>
-    requires { IsOrdered term.now }
+    requires { HasOrderedSteps term.now }
     ensures { IfOk result (λ found. MatchOption found (All (λ step. most <ℤ step.worth) term.now.steps.items)
-        (λ atom. Says term.now atom (λ worth. worth ≤ℤ most))) }
+        (λ atom. SaysOfTerm term.now atom (λ worth. worth ≤ℤ most))) }
 {
     if term.rising {
         return Ok(rising_up_to(term.var, &term.steps, most));

@@ -6,7 +6,7 @@ use Rattle.std.proofs.lemmas.List.{get_or-append-add, get_or-map, get_or_append_
 use Rattle.std.proofs.lemmas.List.Elements.{All-head, All-tail}
 use Rattle.std.proofs.lemmas.List.Folds.{Any-from_list_any, list_any_at}
 use Rattle.ep_base.specs.Numbers.{has_number, of_bool}
-use Rattle.ep_flat.specs.Cons.{number_at, numbers_at}
+use Rattle.ep_flat.specs.Cons.{number_at, numbers_of_vars}
 use Rattle.enc_atoms.specs.Atoms.{atom_holds, clause_holds, test_holds}
 use Rattle.enc_atoms.specs.declared.atoms.Atom.{Atom}
 use Rattle.enc_steps.proofs.Meanings.{not_false, same, same_test}
@@ -22,8 +22,8 @@ pub number_kept : (values truths : List ℤ) (x : ℕ) → x < length values →
 unfolding number_at
 number_kept values truths x low = get_or_append_left values truths (pos 0) x low
 
-pub numbers_kept : (values truths : List ℤ) (xs : List ℕ) → All (λ x. x < length values) xs → numbers_at (values ++ truths) xs ≡ numbers_at values xs
-unfolding numbers_at
+pub numbers_kept : (values truths : List ℤ) (xs : List ℕ) → All (λ x. x < length values) xs → numbers_of_vars (values ++ truths) xs ≡ numbers_of_vars values xs
+unfolding numbers_of_vars
 numbers_kept values truths [] low = refl
 numbers_kept values truths (x ∷ xs) low =
     ap (λ v. v ∷ map (number_at (values ++ truths)) xs) (number_kept values truths x (All-head (λ y. y < length values) x xs low))
@@ -36,8 +36,8 @@ guard_kept values truths (a ∷ guard) low =
     ap (λ v. test_holds a.test a.value v || list_any (atom_holds (values ++ truths)) guard) (number_kept values truths a.var (All-head (λ b. b.var < length values) a guard low))
     ∙ ap (λ b. test_holds a.test a.value (number_at values a.var) || b) (guard_kept values truths guard (All-tail (λ b. b.var < length values) a guard low))
 
-pub truths_are : (values truths : List ℤ) (n count : ℕ) → length values ≡ n → length truths ≡ count → numbers_at (values ++ truths) (numbers_from n count) ≡ truths
-unfolding numbers_at
+pub truths_are : (values truths : List ℤ) (n count : ℕ) → length values ≡ n → length truths ≡ count → numbers_of_vars (values ++ truths) (numbers_from n count) ≡ truths
+unfolding numbers_of_vars
 truths_are values truths n count long many =
     same_lists (map (number_at (values ++ truths)) (numbers_from n count)) truths
     (length-map (numbers_from n count) (number_at (values ++ truths)) ∙ length-numbers_from n count ∙ sym many)
@@ -73,7 +73,7 @@ number_from xs v k d low is = list_any_at (λ y. int_eq v y) xs k d low (same_te
 
 -- where none of the guard holds one of the variables is 1
 abbrev pub OneIs : List Atom → ℕ → ℕ → List ℤ → Type 0
-OneIs guard n count = Unless guard (λ vs. IsTrue (has_number (numbers_at vs (numbers_from n count)) (pos 1)))
+OneIs guard n count = Unless guard (λ vs. IsTrue (has_number (numbers_of_vars vs (numbers_from n count)) (pos 1)))
 
 -- Some of the things are chosen, each of these passes, and where none of the guard holds one is chosen: that can be so exactly
 -- where one passes, unless the guard holds. What else is asked of the choice has to be so of the choice of all that pass.

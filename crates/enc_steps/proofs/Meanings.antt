@@ -5,7 +5,7 @@ use Rattle.std.specs.Ordering.{int_eq}
 use Rattle.std.proofs.lemmas.Bool.Decides.{Decides-int_eq}
 use Rattle.std.proofs.lemmas.Int.{ints}
 use Rattle.ep_base.specs.Numbers.{has_number, of_bool}
-use Rattle.ep_flat.specs.Cons.{is_as_said, number_at, numbers_at}
+use Rattle.ep_flat.specs.Cons.{is_as_said, number_at, numbers_of_vars}
 use Rattle.enc_atoms.specs.Atoms.{atom_holds, clause_holds, test_holds}
 use Rattle.enc_atoms.specs.declared.atoms.Atom.{Atom}
 use Rattle.enc_steps.specs.Steps.{Implied, IsTruth, NotBoth, above, at_most, is, is_not, are_all}
@@ -145,8 +145,8 @@ apart : {X : Type 0} → pos 1 ≡ pos 0 → X
 apart e = absurd (omega (arith, ints, e))
 
 -- a clause which says that one of some variables is this number
-pub are_all_says : (values : List ℤ) (xs : List ℕ) (v : ℤ) → clause_holds values (are_all xs v) ≡ has_number (numbers_at values xs) v
-unfolding clause_holds are_all has_number numbers_at
+pub are_all_says : (values : List ℤ) (xs : List ℕ) (v : ℤ) → clause_holds values (are_all xs v) ≡ has_number (numbers_of_vars values xs) v
+unfolding clause_holds are_all has_number numbers_of_vars
 are_all_says values [] v = refl
 are_all_says values (x ∷ xs) v = ap (λ b. b || list_any (atom_holds values) (map (λ y. is y v) xs)) (one x) ∙ ap (λ b. int_eq v (number_at values x) || b) (are_all_says values xs v)
   where

@@ -5,7 +5,7 @@ use Rattle.cnf_core.proofs.Keeping.{keeps_like}
 use Rattle.cnf_core.proofs.Members.{All-from_contains}
 use Rattle.cnf_core.specs.Formula.{Cnf, Keeps}
 use Rattle.ep_base.specs.Numbers.{has_number, of_bool}
-use Rattle.ep_flat.specs.Cons.{FlatCon, FlatKind, con_holds, con_variables, is_as_said, kind_holds, kind_variables, numbers_at}
+use Rattle.ep_flat.specs.Cons.{FlatCon, FlatKind, con_holds, con_variables, is_as_said, kind_holds, kind_variables, numbers_of_vars}
 use Rattle.ep_flat.specs.Flats.{NamesBelow}
 use Rattle.enc_atoms.proofs.Adding.{adds_like}
 use Rattle.enc_atoms.specs.Atoms.{Adds, clause_holds}
@@ -61,7 +61,7 @@ unfolding are_all
 atoms_of L vars v atoms are low = subst (λ (those : List Atom). AreAtomsOf L those) (sym are) (All-map (λ (a : Atom). a.var < length L) (λ x. is x v) vars low)
 
 -- a clause which says that one of some variables is a number
-pub one_is_says : (values : List ℤ) (vars : List ℕ) (v : ℤ) → IsTrue (clause_holds values (are_all vars v)) ↔ IsTrue (has_number (numbers_at values vars) v)
+pub one_is_says : (values : List ℤ) (vars : List ℕ) (v : ℤ) → IsTrue (clause_holds values (are_all vars v)) ↔ IsTrue (has_number (numbers_of_vars values vars) v)
 one_is_says values vars v = (λ h. sym (are_all_says values vars v) ∙ h, λ h. are_all_says values vars v ∙ h)
 
 -- where the guard of one atom fails

@@ -8,7 +8,7 @@ use Rattle.cnf_core.proofs.Members.{All-from_contains}
 use Rattle.cnf_core.specs.Formula.{Cnf}
 use Rattle.ep_base.specs.Numbers.{lex_holds, lex_less, of_bool}
 use Rattle.ep_base.specs.declared.operators.LexOp.{LexOp}
-use Rattle.ep_flat.specs.Cons.{is_as_said, number_at, numbers_at}
+use Rattle.ep_flat.specs.Cons.{is_as_said, number_at, numbers_of_vars}
 use Rattle.enc_atoms.proofs.Adding.{adds_all, adds_both, adds_later, adds_like, adds_nothing}
 use Rattle.enc_atoms.proofs.Decoded.{length_among, number_among, number_front}
 use Rattle.enc_atoms.specs.Atoms.{Adds, atom_holds, clause_holds, test_holds}
@@ -168,17 +168,17 @@ was_false : (b : Bool) → not b ≡ true → b ≡ false
 was_false true e = not_false false e refl
 was_false false e = refl
 
-number_of : (values : List ℤ) (xs : List ℕ) (k : ℕ) (d : ℤ) → k < length xs → get_or (numbers_at values xs) k d ≡ number_at values (get_or xs k 0)
-unfolding numbers_at
+number_of : (values : List ℤ) (xs : List ℕ) (k : ℕ) (d : ℤ) → k < length xs → get_or (numbers_of_vars values xs) k d ≡ number_at values (get_or xs k 0)
+unfolding numbers_of_vars
 number_of values xs k d low = get_or-map (number_at values) xs k 0 d low
 
-length_numbers : (values : List ℤ) (xs : List ℕ) → length (numbers_at values xs) ≡ length xs
-unfolding numbers_at
+length_numbers : (values : List ℤ) (xs : List ℕ) → length (numbers_of_vars values xs) ≡ length xs
+unfolding numbers_of_vars
 length_numbers values xs = length-map xs (number_at values)
 
 -- the numbers of variables of an earlier layout
-numbers_front : (values : List ℤ) (n : ℕ) (xs : List ℕ) → All (λ x. x < n) xs → numbers_at (take n values) xs ≡ numbers_at values xs
-unfolding numbers_at
+numbers_front : (values : List ℤ) (n : ℕ) (xs : List ℕ) → All (λ x. x < n) xs → numbers_of_vars (take n values) xs ≡ numbers_of_vars values xs
+unfolding numbers_of_vars
 numbers_front values n [] low = refl
 numbers_front values n (x ∷ xs) low =
     ap (λ v. v ∷ map (number_at (take n values)) xs) (number_front values n x (All-head (λ y. y < n) x xs low))
@@ -190,9 +190,9 @@ next_number k = omega arith
 -- There are links of a chain exactly where the lists are in order, unless the guard holds.
 chained : (values : List ℤ) (N n : ℕ) (guard : List Atom) (strict : Bool) (xs ys links : List ℕ) → length values ≡ N → All (λ a. a.var < length values) guard → All (λ x. x < length values) xs → All (λ x. x < length values) ys
     → links ≡ numbers_from N (n + 1) → n ≤ length xs → n ≤ length ys → (length xs ≤ n) ⊎ (length ys ≤ n)
-    → SomeTruths (n + 1) (λ bits. IsChain guard strict xs ys links n (values ++ bits)) ↔ Unless guard (λ vs. is_before strict (numbers_at vs xs) (numbers_at vs ys) ≡ true) values
+    → SomeTruths (n + 1) (λ bits. IsChain guard strict xs ys links n (values ++ bits)) ↔ Unless guard (λ vs. is_before strict (numbers_of_vars vs xs) (numbers_of_vars vs ys) ≡ true) values
 chained values N n guard strict xs ys links long guard_low xs_low ys_low links_are first second stops = (
-  λ h off. in_order strict (numbers_at values xs) (numbers_at values ys) (λ k. get_or h.truths k (pos 0) ≡ pos 1)
+  λ h off. in_order strict (numbers_of_vars values xs) (numbers_of_vars values ys) (λ k. get_or h.truths k (pos 0) ≡ pos 1)
       (λ k lowx lowy e.
       let below : k < n = within k (omega (arith, lowx, length_numbers values xs)) (omega (arith, lowy, length_numbers values ys)) in
       let st = h.holds_there.0.1 k below (link_is h.truths k (omega (arith, below)) ∙ e) in
@@ -224,13 +224,13 @@ chained values N n guard strict xs ys links long guard_low xs_low ys_low links_a
 )
   where
     X : List ℤ
-    X = numbers_at values xs
+    X = numbers_of_vars values xs
 
     Y : List ℤ
-    Y = numbers_at values ys
+    Y = numbers_of_vars values ys
 
     P : ℕ → Bool
-    P k = not (clause_holds values guard) && same_first k (numbers_at values xs) (numbers_at values ys)
+    P k = not (clause_holds values guard) && same_first k (numbers_of_vars values xs) (numbers_of_vars values ys)
 
     B : List ℤ
     B = bits_of P (n + 1)
@@ -244,8 +244,8 @@ chained values N n guard strict xs ys links long guard_low xs_low ys_low links_a
     next_place : (bits : List ℤ) (k : ℕ) → get_or bits (suc k) (pos 0) ≡ get_or bits (k + 1) (pos 0)
     next_place bits k = ap (λ j. get_or bits j (pos 0)) (next_number k)
 
-    next_same : (k : ℕ) → same_first (suc k) (numbers_at values xs) (numbers_at values ys) ≡ true → same_first (k + 1) (numbers_at values xs) (numbers_at values ys) ≡ true
-    next_same k h = ap (λ j. same_first j (numbers_at values xs) (numbers_at values ys)) (sym (next_number k)) ∙ h
+    next_same : (k : ℕ) → same_first (suc k) (numbers_of_vars values xs) (numbers_of_vars values ys) ≡ true → same_first (k + 1) (numbers_of_vars values xs) (numbers_of_vars values ys) ≡ true
+    next_same k h = ap (λ j. same_first j (numbers_of_vars values xs) (numbers_of_vars values ys)) (sym (next_number k)) ∙ h
 
     within : (k : ℕ) → k < length xs → k < length ys → k < n
     within k lowx lowy = elim stops as (λ _. k < n) [ inl a ↦ omega (arith, a, lowx) | inr b ↦ omega (arith, b, lowy) ]
@@ -256,25 +256,25 @@ chained values N n guard strict xs ys links long guard_low xs_low ys_low links_a
       | inr b ↦ elim ends_there as (λ _. m ≡ n) [ inl c ↦ omega (arith, b, c, mx, my, first, second) | inr d ↦ omega (arith, b, d, mx, my, first, second) ]
     ]
 
-    end_lengths : (m : ℕ) → (length (numbers_at values xs) ≤ m) ⊎ (length (numbers_at values ys) ≤ m) → (length xs ≤ m) ⊎ (length ys ≤ m)
+    end_lengths : (m : ℕ) → (length (numbers_of_vars values xs) ≤ m) ⊎ (length (numbers_of_vars values ys) ≤ m) → (length xs ≤ m) ⊎ (length ys ≤ m)
     end_lengths m h = elim h as (λ _. (length xs ≤ m) ⊎ (length ys ≤ m)) [ inl a ↦ inl (omega (arith, a, length_numbers values xs)) | inr b ↦ inr (omega (arith, b, length_numbers values ys)) ]
 
-    stops_there : (length (numbers_at values xs) ≤ n) ⊎ (length (numbers_at values ys) ≤ n)
-    stops_there = elim stops as (λ _. (length (numbers_at values xs) ≤ n) ⊎ (length (numbers_at values ys) ≤ n)) [ inl a ↦ inl (omega (arith, a, length_numbers values xs)) | inr b ↦ inr (omega (arith, b, length_numbers values ys)) ]
+    stops_there : (length (numbers_of_vars values xs) ≤ n) ⊎ (length (numbers_of_vars values ys) ≤ n)
+    stops_there = elim stops as (λ _. (length (numbers_of_vars values xs) ≤ n) ⊎ (length (numbers_of_vars values ys) ≤ n)) [ inl a ↦ inl (omega (arith, a, length_numbers values xs)) | inr b ↦ inr (omega (arith, b, length_numbers values ys)) ]
 
-    bad_lengths : EndsBadly strict (length (numbers_at values xs)) (length (numbers_at values ys)) → EndsBadly strict (length xs) (length ys)
+    bad_lengths : EndsBadly strict (length (numbers_of_vars values xs)) (length (numbers_of_vars values ys)) → EndsBadly strict (length xs) (length ys)
     bad_lengths bad = elim bad as (λ _. EndsBadly strict (length xs) (length ys)) [ inl a ↦ inl (omega (arith, a, length_numbers values xs, length_numbers values ys)) | inr b ↦ inr (b.0, sym (length_numbers values xs) ∙ b.1 ∙ length_numbers values ys) ]
 
-    lengths_bad : EndsBadly strict (length xs) (length ys) → EndsBadly strict (length (numbers_at values xs)) (length (numbers_at values ys))
-    lengths_bad bad = elim bad as (λ _. EndsBadly strict (length (numbers_at values xs)) (length (numbers_at values ys))) [
+    lengths_bad : EndsBadly strict (length xs) (length ys) → EndsBadly strict (length (numbers_of_vars values xs)) (length (numbers_of_vars values ys))
+    lengths_bad bad = elim bad as (λ _. EndsBadly strict (length (numbers_of_vars values xs)) (length (numbers_of_vars values ys))) [
       | inl a ↦ inl (omega (arith, a, length_numbers values xs, length_numbers values ys))
       | inr b ↦ inr (b.0, length_numbers values xs ∙ b.1 ∙ sym (length_numbers values ys))
     ]
 
-    x_kept : (bits : List ℤ) (k : ℕ) → k < length xs → number_at (values ++ bits) (get_or xs k 0) ≡ get_or (numbers_at values xs) k (pos 0)
+    x_kept : (bits : List ℤ) (k : ℕ) → k < length xs → number_at (values ++ bits) (get_or xs k 0) ≡ get_or (numbers_of_vars values xs) k (pos 0)
     x_kept bits k low = number_kept values bits (get_or xs k 0) (xs_low k 0 low) ∙ sym (number_of values xs k (pos 0) low)
 
-    y_kept : (bits : List ℤ) (k : ℕ) → k < length ys → number_at (values ++ bits) (get_or ys k 0) ≡ get_or (numbers_at values ys) k (pos 0)
+    y_kept : (bits : List ℤ) (k : ℕ) → k < length ys → number_at (values ++ bits) (get_or ys k 0) ≡ get_or (numbers_of_vars values ys) k (pos 0)
     y_kept bits k low = number_kept values bits (get_or ys k 0) (ys_low k 0 low) ∙ sym (number_of values ys k (pos 0) low)
 
 -- the first link, the steps and the end of a chain
@@ -292,9 +292,9 @@ chain_whole L f f1 f2 f3 guard strict xs ys links n is_layout one two three =
 pub before_whole : (L : List VariableLiterals) (f : Cnf) (L1 : List VariableLiterals) (f1 f2 : Cnf) (guard : List Atom) (strict : Bool) (xs ys links : List ℕ) (n : ℕ) → IsLayoutOf L f → AreOf L xs → AreOf L ys → AreAtomsOf L guard
     → HasTruths L f L1 f1 (n + 1) → links ≡ numbers_from (length L) (n + 1) → n ≤ length xs → n ≤ length ys → (length xs ≤ n) ⊎ (length ys ≤ n)
     → Adds L1 f1 L1 f2 (IsChain guard strict xs ys links n)
-    → Adds L f L1 f2 (Unless guard (λ values. is_before strict (numbers_at values xs) (numbers_at values ys) ≡ true))
+    → Adds L f L1 f2 (Unless guard (λ values. is_before strict (numbers_of_vars values xs) (numbers_of_vars values ys) ≡ true))
 before_whole L f L1 f1 f2 guard strict xs ys links n is_layout xs_low ys_low guard_low new links_are first second stops adds =
-    adds_like L f L1 f2 (λ values. SomeTruths (n + 1) (λ bits. IsChain guard strict xs ys links n (values ++ bits))) (Unless guard (λ values. is_before strict (numbers_at values xs) (numbers_at values ys) ≡ true)) is_layout
+    adds_like L f L1 f2 (λ values. SomeTruths (n + 1) (λ bits. IsChain guard strict xs ys links n (values ++ bits))) (Unless guard (λ values. is_before strict (numbers_of_vars values xs) (numbers_of_vars values ys) ≡ true)) is_layout
     (adds_truths L f L1 f1 L1 f2 (n + 1) (IsChain guard strict xs ys links n) is_layout new adds)
     (λ values among.
     let long : length values ≡ length L = length_among L values among in
@@ -317,11 +317,11 @@ turned_order false xs ys = twice (lex_less ys xs)
 -- a truth value, with which lists are in order, and without it the other way round
 pub order_decided : (L : List VariableLiterals) (f f1 : Cnf) (L2 : List VariableLiterals) (f2 : Cnf) (L3 : List VariableLiterals) (f3 : Cnf) (t : ℕ) (on off : List Atom) (strict other : Bool) (xs ys : List ℕ) → IsLayoutOf L f → t < length L → AreOf L xs → AreOf L ys
     → on ≡ is_not t (pos 1) ∷ [] → off ≡ is_not t (pos 0) ∷ [] → other ≡ not strict
-    → Adds L f L f1 (λ values. IsTruth (number_at values t)) → Adds L f1 L2 f2 (Unless on (λ values. is_before strict (numbers_at values xs) (numbers_at values ys) ≡ true)) → Adds L2 f2 L3 f3 (Unless off (λ values. is_before other (numbers_at values ys) (numbers_at values xs) ≡ true))
-    → Adds L f L3 f3 (λ values. IsTrue (is_as_said values (Some t) (is_before strict (numbers_at values xs) (numbers_at values ys))))
+    → Adds L f L f1 (λ values. IsTruth (number_at values t)) → Adds L f1 L2 f2 (Unless on (λ values. is_before strict (numbers_of_vars values xs) (numbers_of_vars values ys) ≡ true)) → Adds L2 f2 L3 f3 (Unless off (λ values. is_before other (numbers_of_vars values ys) (numbers_of_vars values xs) ≡ true))
+    → Adds L f L3 f3 (λ values. IsTrue (is_as_said values (Some t) (is_before strict (numbers_of_vars values xs) (numbers_of_vars values ys))))
 order_decided L f f1 L2 f2 L3 f3 t on off strict other xs ys is_layout t_low xs_low ys_low on_is off_is other_is one two three =
     adds_like L f L3 f3 (λ values. (IsTruth (number_at values t) × Unless on (λ vs. K vs ≡ true) values) × (number_at values t ≡ pos 0 → K values ≡ false)) (λ values. IsTrue (is_as_said values (Some t) (K values))) is_layout
-    (adds_later L f L2 f2 L3 f3 (λ values. IsTruth (number_at values t) × Unless on (λ vs. K vs ≡ true) values) (Unless off (λ values. is_before other (numbers_at values ys) (numbers_at values xs) ≡ true)) (λ values. number_at values t ≡ pos 0 → K values ≡ false) is_layout
+    (adds_later L f L2 f2 L3 f3 (λ values. IsTruth (number_at values t) × Unless on (λ vs. K vs ≡ true) values) (Unless off (λ values. is_before other (numbers_of_vars values ys) (numbers_of_vars values xs) ≡ true)) (λ values. number_at values t ≡ pos 0 → K values ≡ false) is_layout
     (adds_both L f f1 L2 f2 (λ values. IsTruth (number_at values t)) (Unless on (λ vs. K vs ≡ true)) is_layout one two) three
     (λ values among. (
       λ h at. was_false (K (take (length L) values)) (sym (turned values) ∙ h ((fails_as t (pos 0) off off_is values).1 (sym (number_front values (length L) t t_low) ∙ at))),
@@ -333,13 +333,13 @@ order_decided L f f1 L2 f2 L3 f3 t on off strict other xs ys is_layout t_low xs_
     ))
   where
     K : List ℤ → Bool
-    K values = is_before strict (numbers_at values xs) (numbers_at values ys)
+    K values = is_before strict (numbers_of_vars values xs) (numbers_of_vars values ys)
 
-    turned : (values : List ℤ) → is_before other (numbers_at values ys) (numbers_at values xs) ≡ not (K (take (length L) values))
+    turned : (values : List ℤ) → is_before other (numbers_of_vars values ys) (numbers_of_vars values xs) ≡ not (K (take (length L) values))
     turned values =
-        ap (λ b. is_before b (numbers_at values ys) (numbers_at values xs)) other_is ∙ turned_order strict (numbers_at values xs) (numbers_at values ys)
-        ∙ ap (λ vs. not (is_before strict vs (numbers_at values ys))) (sym (numbers_front values (length L) xs xs_low))
-        ∙ ap (λ vs. not (is_before strict (numbers_at (take (length L) values) xs) vs)) (sym (numbers_front values (length L) ys ys_low))
+        ap (λ b. is_before b (numbers_of_vars values ys) (numbers_of_vars values xs)) other_is ∙ turned_order strict (numbers_of_vars values xs) (numbers_of_vars values ys)
+        ∙ ap (λ vs. not (is_before strict vs (numbers_of_vars values ys))) (sym (numbers_front values (length L) xs xs_low))
+        ∙ ap (λ vs. not (is_before strict (numbers_of_vars (take (length L) values) xs) vs)) (sym (numbers_front values (length L) ys ys_low))
 
 -- variables of a layout are of a later one
 pub of_later : (L : List VariableLiterals) (f : Cnf) (L1 : List VariableLiterals) (g : Cnf) (xs : List ℕ) → GoesOn L f L1 g → AreOf L xs → AreOf L1 xs

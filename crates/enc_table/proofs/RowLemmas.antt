@@ -8,7 +8,7 @@ use Rattle.std.proofs.lemmas.List.Elements.{All-cons, All-head, All-nil, All-tai
 use Rattle.std.proofs.lemmas.List.Folds.{list_all_at, list_any_at, list_any_none}
 use Rattle.cnf_core.specs.Formula.{Cnf}
 use Rattle.ep_base.specs.Numbers.{is_row_of, same_numbers}
-use Rattle.ep_flat.specs.Cons.{is_as_said, number_at, numbers_at}
+use Rattle.ep_flat.specs.Cons.{is_as_said, number_at, numbers_of_vars}
 use Rattle.enc_atoms.proofs.Adding.{adds_both, adds_like}
 use Rattle.enc_atoms.specs.Atoms.{Adds, atom_holds, clause_holds, test_holds}
 use Rattle.enc_atoms.specs.declared.atoms.Atom.{Atom}
@@ -40,8 +40,8 @@ and_second true b e = e
 and_second false b e = not_false false e refl
 
 -- a row is the variables exactly where it is each of them
-is_row : (values : List ℤ) (vars : List ℕ) (row : List ℤ) → length row ≡ length vars → ((k : ℕ) → k < length row → number_at values (get_or vars k 0) ≡ get_or row k (pos 0)) → same_numbers row (numbers_at values vars) ≡ true
-unfolding same_numbers numbers_at
+is_row : (values : List ℤ) (vars : List ℕ) (row : List ℤ) → length row ≡ length vars → ((k : ℕ) → k < length row → number_at values (get_or vars k 0) ≡ get_or row k (pos 0)) → same_numbers row (numbers_of_vars values vars) ≡ true
+unfolding same_numbers numbers_of_vars
 is_row values [] [] long each = refl
 is_row values [] (v ∷ row) long each = absurd (omega (arith, long))
 is_row values (x ∷ vars) [] long each = absurd (omega (arith, long))
@@ -49,8 +49,8 @@ is_row values (x ∷ vars) (v ∷ row) long each =
     and_both (int_eq v (number_at values x)) (same_numbers row (map (number_at values) vars)) (same_test v (number_at values x) (sym (each 0 (omega arith))))
     (is_row values vars row (omega (arith, long)) (λ k low. each (suc k) (omega (arith, low))))
 
-pub row_is : (values : List ℤ) (vars : List ℕ) (row : List ℤ) → same_numbers row (numbers_at values vars) ≡ true → (k : ℕ) → k < length row → number_at values (get_or vars k 0) ≡ get_or row k (pos 0)
-unfolding same_numbers numbers_at
+pub row_is : (values : List ℤ) (vars : List ℕ) (row : List ℤ) → same_numbers row (numbers_of_vars values vars) ≡ true → (k : ℕ) → k < length row → number_at values (get_or vars k 0) ≡ get_or row k (pos 0)
+unfolding same_numbers numbers_of_vars
 row_is values vars [] same_row k low = absurd (omega (arith, low))
 row_is values [] (v ∷ row) same_row k low = not_false false same_row refl
 row_is values (x ∷ vars) (v ∷ row) same_row zero low = sym (same v (number_at values x) (and_first (int_eq v (number_at values x)) (same_numbers row (map (number_at values) vars)) same_row))
@@ -72,8 +72,8 @@ turned a b = elim (either (int_eq a b)) as (λ _. int_eq a b ≡ int_eq b a) [
 ]
 
 -- a clause of "it isn't" for each number of a row
-others_say : (values : List ℤ) (vars : List ℕ) (row : List ℤ) → length row ≡ length vars → clause_holds values (others_of vars row) ≡ not (same_numbers row (numbers_at values vars))
-unfolding clause_holds others_of same_numbers numbers_at atom_holds test_holds
+others_say : (values : List ℤ) (vars : List ℕ) (row : List ℤ) → length row ≡ length vars → clause_holds values (others_of vars row) ≡ not (same_numbers row (numbers_of_vars values vars))
+unfolding clause_holds others_of same_numbers numbers_of_vars atom_holds test_holds
 others_say values [] [] long = refl
 others_say values [] (v ∷ row) long = absurd (omega (arith, long))
 others_say values (x ∷ vars) [] long = absurd (omega (arith, long))
@@ -86,11 +86,11 @@ others_say values (x ∷ vars) (v ∷ row) long =
     not_both true b = refl
     not_both false b = refl
 
-pub others_clause : (L : List VariableLiterals) (f g : Cnf) (guard atoms : List Atom) (vars : List ℕ) (row : List ℤ) → IsLayoutOf L f → length row ≡ length vars → atoms ≡ others_of vars row → Adds L f L g (Unless guard (λ values. IsTrue (clause_holds values atoms))) → Adds L f L g (Unless guard (λ values. same_numbers row (numbers_at values vars) ≡ false))
+pub others_clause : (L : List VariableLiterals) (f g : Cnf) (guard atoms : List Atom) (vars : List ℕ) (row : List ℤ) → IsLayoutOf L f → length row ≡ length vars → atoms ≡ others_of vars row → Adds L f L g (Unless guard (λ values. IsTrue (clause_holds values atoms))) → Adds L f L g (Unless guard (λ values. same_numbers row (numbers_of_vars values vars) ≡ false))
 others_clause L f g guard atoms vars row is_layout long are adds =
-    unless_like L f L g guard (λ values. IsTrue (clause_holds values atoms)) (λ values. same_numbers row (numbers_at values vars) ≡ false) is_layout adds
+    unless_like L f L g guard (λ values. IsTrue (clause_holds values atoms)) (λ values. same_numbers row (numbers_of_vars values vars) ≡ false) is_layout adds
     (λ values among. (
-      λ h. was_false (same_numbers row (numbers_at values vars)) (sym (others_say values vars row long) ∙ ap (clause_holds values) (sym are) ∙ h),
+      λ h. was_false (same_numbers row (numbers_of_vars values vars)) (sym (others_say values vars row long) ∙ ap (clause_holds values) (sym are) ∙ h),
       λ h. ap (clause_holds values) are ∙ others_say values vars row long ∙ ap not h,
     ))
   where
@@ -122,34 +122,34 @@ others_end items whole vars row k low long so_far =
 
 -- none of the rows
 pub none_whole : (L : List VariableLiterals) (f g : Cnf) (guard : List Atom) (vars : List ℕ) (rows : List (List ℤ)) (k : ℕ) → IsLayoutOf L f → k ≡ length rows
-    → Adds L f L g (λ values. (j : ℕ) → j < k → Unless guard (λ vs. same_numbers (get_or rows j []) (numbers_at vs vars) ≡ false) values)
-    → Adds L f L g (Unless guard (λ values. list_any (λ row. same_numbers row (numbers_at values vars)) rows ≡ false))
+    → Adds L f L g (λ values. (j : ℕ) → j < k → Unless guard (λ vs. same_numbers (get_or rows j []) (numbers_of_vars vs vars) ≡ false) values)
+    → Adds L f L g (Unless guard (λ values. list_any (λ row. same_numbers row (numbers_of_vars values vars)) rows ≡ false))
 none_whole L f g guard vars rows k is_layout whole adds =
-    adds_like L f L g (λ values. (j : ℕ) → j < k → Unless guard (λ vs. same_numbers (get_or rows j []) (numbers_at vs vars) ≡ false) values) (Unless guard (λ values. list_any (λ row. same_numbers row (numbers_at values vars)) rows ≡ false)) is_layout adds
+    adds_like L f L g (λ values. (j : ℕ) → j < k → Unless guard (λ vs. same_numbers (get_or rows j []) (numbers_of_vars vs vars) ≡ false) values) (Unless guard (λ values. list_any (λ row. same_numbers row (numbers_of_vars values vars)) rows ≡ false)) is_layout adds
     (λ values among. (
-      λ h off. list_any_none (λ row. same_numbers row (numbers_at values vars)) rows (λ j d low. ap (λ r. same_numbers r (numbers_at values vars)) (get_or_default rows j d [] low) ∙ h j (omega (arith, low, whole)) off),
-      λ h j low off. elim (either (same_numbers (get_or rows j []) (numbers_at values vars))) as (λ _. same_numbers (get_or rows j []) (numbers_at values vars) ≡ false) [
-        | inl on ↦ not_false (list_any (λ row. same_numbers row (numbers_at values vars)) rows) (list_any_at (λ row. same_numbers row (numbers_at values vars)) rows j [] (omega (arith, low, whole)) on) (h off)
+      λ h off. list_any_none (λ row. same_numbers row (numbers_of_vars values vars)) rows (λ j d low. ap (λ r. same_numbers r (numbers_of_vars values vars)) (get_or_default rows j d [] low) ∙ h j (omega (arith, low, whole)) off),
+      λ h j low off. elim (either (same_numbers (get_or rows j []) (numbers_of_vars values vars))) as (λ _. same_numbers (get_or rows j []) (numbers_of_vars values vars) ≡ false) [
+        | inl on ↦ not_false (list_any (λ row. same_numbers row (numbers_of_vars values vars)) rows) (list_any_at (λ row. same_numbers row (numbers_of_vars values vars)) rows j [] (omega (arith, low, whole)) on) (h off)
         | inr none ↦ none
       ],
     ))
 
-length_numbers : (values : List ℤ) (xs : List ℕ) → length (numbers_at values xs) ≡ length xs
-unfolding numbers_at
+length_numbers : (values : List ℤ) (xs : List ℕ) → length (numbers_of_vars values xs) ≡ length xs
+unfolding numbers_of_vars
 length_numbers values xs = length-map xs (number_at values)
 
 -- where a row doesn't fit, no numbers are a row
-pub row_of_fit : (rows : List (List ℤ)) (values : List ℤ) (vars : List ℕ) (b : Bool) → b ≡ list_all (λ row. length row == length vars) rows → b ≡ true → unwrap_or (is_row_of rows (numbers_at values vars)) false ≡ list_any (λ row. same_numbers row (numbers_at values vars)) rows
+pub row_of_fit : (rows : List (List ℤ)) (values : List ℤ) (vars : List ℕ) (b : Bool) → b ≡ list_all (λ row. length row == length vars) rows → b ≡ true → unwrap_or (is_row_of rows (numbers_of_vars values vars)) false ≡ list_any (λ row. same_numbers row (numbers_of_vars values vars)) rows
 unfolding is_row_of
 row_of_fit rows values vars b is on =
-    ap (λ n. unwrap_or (if list_all (λ row. length row == n) rows then Some (list_any (λ row. same_numbers row (numbers_at values vars)) rows) else None) false) (length_numbers values vars)
-    ∙ ap (λ t. unwrap_or (if t then Some (list_any (λ row. same_numbers row (numbers_at values vars)) rows) else None) false) (sym is ∙ on)
+    ap (λ n. unwrap_or (if list_all (λ row. length row == n) rows then Some (list_any (λ row. same_numbers row (numbers_of_vars values vars)) rows) else None) false) (length_numbers values vars)
+    ∙ ap (λ t. unwrap_or (if t then Some (list_any (λ row. same_numbers row (numbers_of_vars values vars)) rows) else None) false) (sym is ∙ on)
 
-pub row_of_none : (rows : List (List ℤ)) (values : List ℤ) (vars : List ℕ) (b : Bool) → b ≡ list_all (λ row. length row == length vars) rows → b ≡ false → unwrap_or (is_row_of rows (numbers_at values vars)) false ≡ false
+pub row_of_none : (rows : List (List ℤ)) (values : List ℤ) (vars : List ℕ) (b : Bool) → b ≡ list_all (λ row. length row == length vars) rows → b ≡ false → unwrap_or (is_row_of rows (numbers_of_vars values vars)) false ≡ false
 unfolding is_row_of
 row_of_none rows values vars b is off =
-    ap (λ n. unwrap_or (if list_all (λ row. length row == n) rows then Some (list_any (λ row. same_numbers row (numbers_at values vars)) rows) else None) false) (length_numbers values vars)
-    ∙ ap (λ t. unwrap_or (if t then Some (list_any (λ row. same_numbers row (numbers_at values vars)) rows) else None) false) (sym is ∙ off)
+    ap (λ n. unwrap_or (if list_all (λ row. length row == n) rows then Some (list_any (λ row. same_numbers row (numbers_of_vars values vars)) rows) else None) false) (length_numbers values vars)
+    ∙ ap (λ t. unwrap_or (if t then Some (list_any (λ row. same_numbers row (numbers_of_vars values vars)) rows) else None) false) (sym is ∙ off)
 
 -- a constraint in other words
 pub said_like : (L : List VariableLiterals) (f : Cnf) (L1 : List VariableLiterals) (g : Cnf) (truth : Option ℕ) (K J : List ℤ → Bool) → IsLayoutOf L f → ((values : List ℤ) → J values ≡ K values) → Adds L f L1 g (λ values. IsTrue (is_as_said values truth (K values))) → Adds L f L1 g (λ values. IsTrue (is_as_said values truth (J values)))
@@ -162,8 +162,8 @@ pub row_where : (L : List VariableLiterals) (f g : Cnf) (guard : List Atom) (t :
 row_where L f g guard t vars row other_row is_layout are same_row adds =
     adds_like L f L g (Unless guard (IsRow vars row)) (IsRowWhere t vars other_row) is_layout adds
     (λ values among. (
-      λ h one. ap (λ r. same_numbers r (numbers_at values vars)) (sym same_row) ∙ h ((fails_as t (pos 1) guard are values).1 one),
-      λ h off. ap (λ r. same_numbers r (numbers_at values vars)) same_row ∙ h ((fails_as t (pos 1) guard are values).0 off),
+      λ h one. ap (λ r. same_numbers r (numbers_of_vars values vars)) (sym same_row) ∙ h ((fails_as t (pos 1) guard are values).1 one),
+      λ h off. ap (λ r. same_numbers r (numbers_of_vars values vars)) same_row ∙ h ((fails_as t (pos 1) guard are values).0 off),
     ))
 
 -- the atom of a guard is of the layout

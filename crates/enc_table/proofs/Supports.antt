@@ -7,7 +7,7 @@ use Rattle.std.proofs.lemmas.List.Elements.{All-cons, All-contains, All-head, Al
 use Rattle.std.proofs.lemmas.List.Folds.{Any-from_list_any, list_any-append}
 use Rattle.cnf_core.specs.Formula.{Cnf}
 use Rattle.ep_base.specs.Numbers.{has_number, of_bool, same_numbers}
-use Rattle.ep_flat.specs.Cons.{number_at, numbers_at}
+use Rattle.ep_flat.specs.Cons.{number_at, numbers_of_vars}
 use Rattle.enc_atoms.proofs.Adding.{adds_all, adds_both, adds_like}
 use Rattle.enc_atoms.proofs.Decoded.{length_among, number_among}
 use Rattle.enc_atoms.specs.Atoms.{Adds, atom_holds, clause_holds}
@@ -52,9 +52,9 @@ closed_fails values guard x v = (
 )
 
 pub one_where : (L : List VariableLiterals) (f g : Cnf) (guard closed atoms : List Atom) (atom : Atom) (chosen : List ℕ) (x : ℕ) (v : ℤ) → IsLayoutOf L f → closed ≡ guard ++ atom ∷ [] → atom ≡ is_not x v → atoms ≡ are_all chosen (pos 1)
-    → Adds L f L g (Unless closed (λ values. IsTrue (clause_holds values atoms))) → Adds L f L g (Unless guard (λ values. number_at values x ≡ v → IsTrue (has_number (numbers_at values chosen) (pos 1))))
+    → Adds L f L g (Unless closed (λ values. IsTrue (clause_holds values atoms))) → Adds L f L g (Unless guard (λ values. number_at values x ≡ v → IsTrue (has_number (numbers_of_vars values chosen) (pos 1))))
 one_where L f g guard closed atoms atom chosen x v is_layout closed_is atom_is atoms_are adds =
-    adds_like L f L g (Unless closed (λ values. IsTrue (clause_holds values atoms))) (Unless guard (λ values. number_at values x ≡ v → IsTrue (has_number (numbers_at values chosen) (pos 1)))) is_layout adds
+    adds_like L f L g (Unless closed (λ values. IsTrue (clause_holds values atoms))) (Unless guard (λ values. number_at values x ≡ v → IsTrue (has_number (numbers_of_vars values chosen) (pos 1)))) is_layout adds
     (λ values among.
     let is_closed : closed ≡ guard ++ is_not x v ∷ [] = closed_is ∙ ap (λ a. guard ++ a ∷ []) atom_is in (
       λ h off at. (one_is_says values chosen (pos 1)).0 (ap (clause_holds values) (sym atoms_are) ∙ h (ap (clause_holds values) is_closed ∙ (closed_fails values guard x v).1 (off, at))),
@@ -103,39 +103,39 @@ having_within L (t ∷ ts) (row ∷ rows) place number low =
     by false rest = rest
 
 having_there : (values : List ℤ) (truths : List ℕ) (rows : List (List ℤ)) (place : ℕ) (number : ℤ) (r : ℕ) → length truths ≡ length rows → r < length rows → int_eq (get_or (get_or rows r []) place (pos 0)) number ≡ true → number_at values (get_or truths r 0) ≡ pos 1
-    → has_number (numbers_at values (truths_having truths rows place number)) (pos 1) ≡ true
-unfolding truths_having has_number numbers_at
+    → has_number (numbers_of_vars values (truths_having truths rows place number)) (pos 1) ≡ true
+unfolding truths_having has_number numbers_of_vars
 having_there values truths [] place number r many low on one = absurd (omega (arith, low))
 having_there values [] (row ∷ rows) place number r many low on one = absurd (omega (arith, many))
 having_there values (t ∷ ts) (row ∷ rows) place number zero many low on one =
-    ap (λ b. has_number (numbers_at values (if b then t ∷ truths_having ts rows place number else truths_having ts rows place number)) (pos 1)) on
-    ∙ ap (λ b. b || has_number (numbers_at values (truths_having ts rows place number)) (pos 1)) (same_test (pos 1) (number_at values t) (sym one))
+    ap (λ b. has_number (numbers_of_vars values (if b then t ∷ truths_having ts rows place number else truths_having ts rows place number)) (pos 1)) on
+    ∙ ap (λ b. b || has_number (numbers_of_vars values (truths_having ts rows place number)) (pos 1)) (same_test (pos 1) (number_at values t) (sym one))
 having_there values (t ∷ ts) (row ∷ rows) place number (suc r) many low on one =
     by (int_eq (get_or row place (pos 0)) number) (having_there values ts rows place number r (omega (arith, many)) (omega (arith, low)) on one)
   where
-    by : (b : Bool) → has_number (numbers_at values (truths_having ts rows place number)) (pos 1) ≡ true → has_number (numbers_at values (if b then t ∷ truths_having ts rows place number else truths_having ts rows place number)) (pos 1) ≡ true
-    by true rest = or_second (int_eq (pos 1) (number_at values t)) (has_number (numbers_at values (truths_having ts rows place number)) (pos 1)) rest
+    by : (b : Bool) → has_number (numbers_of_vars values (truths_having ts rows place number)) (pos 1) ≡ true → has_number (numbers_of_vars values (if b then t ∷ truths_having ts rows place number else truths_having ts rows place number)) (pos 1) ≡ true
+    by true rest = or_second (int_eq (pos 1) (number_at values t)) (has_number (numbers_of_vars values (truths_having ts rows place number)) (pos 1)) rest
     by false rest = rest
 
 -- supports for each number of a variable
 pub supports_whole : (L : List VariableLiterals) (f g : Cnf) (guard : List Atom) (truths : List ℕ) (rows : List (List ℤ)) (place x : ℕ) (numbers : List ℤ) (k : ℕ) → IsLayoutOf L f → x < length L → numbers ≡ (literals_at L x).domain → length numbers ≤ k
-    → Adds L f L g (λ values. All (λ v. Unless guard (λ vs. number_at vs x ≡ v → IsTrue (has_number (numbers_at vs (truths_having truths rows place v)) (pos 1))) values) (take k numbers)) → Adds L f L g (Unless guard (IsSupported truths rows place x))
+    → Adds L f L g (λ values. All (λ v. Unless guard (λ vs. number_at vs x ≡ v → IsTrue (has_number (numbers_of_vars vs (truths_having truths rows place v)) (pos 1))) values) (take k numbers)) → Adds L f L g (Unless guard (IsSupported truths rows place x))
 supports_whole L f g guard truths rows place x numbers k is_layout low are long adds =
-    unless_like L f L g guard (λ values. All (λ v. number_at values x ≡ v → IsTrue (has_number (numbers_at values (truths_having truths rows place v)) (pos 1))) numbers) (IsSupported truths rows place x) is_layout
-    (unless_all L f L g guard (λ values v. number_at values x ≡ v → IsTrue (has_number (numbers_at values (truths_having truths rows place v)) (pos 1))) numbers is_layout
-    (adds_all L f L g (λ values v. Unless guard (λ vs. number_at vs x ≡ v → IsTrue (has_number (numbers_at vs (truths_having truths rows place v)) (pos 1))) values) numbers k long adds))
+    unless_like L f L g guard (λ values. All (λ v. number_at values x ≡ v → IsTrue (has_number (numbers_of_vars values (truths_having truths rows place v)) (pos 1))) numbers) (IsSupported truths rows place x) is_layout
+    (unless_all L f L g guard (λ values v. number_at values x ≡ v → IsTrue (has_number (numbers_of_vars values (truths_having truths rows place v)) (pos 1))) numbers is_layout
+    (adds_all L f L g (λ values v. Unless guard (λ vs. number_at vs x ≡ v → IsTrue (has_number (numbers_of_vars vs (truths_having truths rows place v)) (pos 1))) values) numbers k long adds))
     (λ values among. (
-      λ h. All-contains (λ v. number_at values x ≡ v → IsTrue (has_number (numbers_at values (truths_having truths rows place v)) (pos 1))) numbers (number_at values x) h (subst (λ ns. Contains ns (number_at values x)) (sym are) (number_among L values x among low)) refl,
-      λ h k' d below at. subst (λ (v : ℤ). IsTrue (has_number (numbers_at values (truths_having truths rows place v)) (pos 1))) at h,
+      λ h. All-contains (λ v. number_at values x ≡ v → IsTrue (has_number (numbers_of_vars values (truths_having truths rows place v)) (pos 1))) numbers (number_at values x) h (subst (λ ns. Contains ns (number_at values x)) (sym are) (number_among L values x among low)) refl,
+      λ h k' d below at. subst (λ (v : ℤ). IsTrue (has_number (numbers_of_vars values (truths_having truths rows place v)) (pos 1))) at h,
     ))
 
 -- one of the rows is chosen
 pub some_whole : (L : List VariableLiterals) (f : Cnf) (L1 : List VariableLiterals) (f1 f2 f3 f4 : Cnf) (guard atoms : List Atom) (vars truths : List ℕ) (rows : List (List ℤ)) (count : ℕ) → IsLayoutOf L f → AreOf L vars → AllFit rows (length vars) → AreAtomsOf L guard → HasTruths L f L1 f1 count → count ≡ length rows → truths ≡ numbers_from (length L) count → atoms ≡ are_all truths (pos 1)
     → Adds L1 f1 L1 f2 (λ values. (k : ℕ) → k < length rows → IsRowWhere (get_or truths k 0) vars (get_or rows k []) values)
     → Adds L1 f2 L1 f3 (λ values. (k : ℕ) → k < length vars → Unless guard (IsSupported truths rows k (get_or vars k 0)) values) → Adds L1 f3 L1 f4 (Unless guard (λ values. IsTrue (clause_holds values atoms)))
-    → Adds L f L1 f4 (Unless guard (λ values. list_any (λ row. same_numbers row (numbers_at values vars)) rows ≡ true))
+    → Adds L f L1 f4 (Unless guard (λ values. list_any (λ row. same_numbers row (numbers_of_vars values vars)) rows ≡ true))
 some_whole L f L1 f1 f2 f3 f4 guard atoms vars truths rows count is_layout low fit guard_low new many truths_are_from atoms_are one two three =
-    adds_like L f L1 f4 (λ values. SomeTruths count (λ bits. Q (values ++ bits))) (Unless guard (λ values. list_any (λ row. same_numbers row (numbers_at values vars)) rows ≡ true)) is_layout
+    adds_like L f L1 f4 (λ values. SomeTruths count (λ bits. Q (values ++ bits))) (Unless guard (λ values. list_any (λ row. same_numbers row (numbers_of_vars values vars)) rows ≡ true)) is_layout
     (adds_truths L f L1 f1 L1 f4 count Q is_layout new
     (adds_both L1 f1 f3 L1 f4 (λ values. ((k : ℕ) → k < length rows → IsRowWhere (get_or truths k 0) vars (get_or rows k []) values) × ((k : ℕ) → k < length vars → Unless guard (IsSupported truths rows k (get_or vars k 0)) values)) (Unless guard (λ values. IsTrue (clause_holds values atoms))) new.goes_on.is_layout
     (adds_both L1 f1 f2 L1 f3 (λ values. (k : ℕ) → k < length rows → IsRowWhere (get_or truths k 0) vars (get_or rows k []) values) (λ values. (k : ℕ) → k < length vars → Unless guard (IsSupported truths rows k (get_or vars k 0)) values) new.goes_on.is_layout one two) three))
@@ -143,7 +143,7 @@ some_whole L f L1 f1 f2 f3 f4 guard atoms vars truths rows count is_layout low f
     let long : length values ≡ length L = length_among L values among in
     let guard_below : All (λ (a : Atom). a.var < length values) guard = All-weaker (λ (a : Atom). a.var < length L) (λ (a : Atom). a.var < length values) (λ a below. omega (arith, below, long)) guard guard_low in
     let vars_below : All (λ (x : ℕ). x < length values) vars = All-weaker (λ (x : ℕ). x < length L) (λ (x : ℕ). x < length values) (λ x below. omega (arith, below, long)) vars low in
-    let chosen = choosing values (length L) guard rows [] (λ row. same_numbers row (numbers_at values vars)) (λ bits. (k : ℕ) → k < length vars → Unless guard (IsSupported truths rows k (get_or vars k 0)) (values ++ bits)) long guard_below (supported values long guard_below vars_below) in (
+    let chosen = choosing values (length L) guard rows [] (λ row. same_numbers row (numbers_of_vars values vars)) (λ bits. (k : ℕ) → k < length vars → Unless guard (IsSupported truths rows k (get_or vars k 0)) (values ++ bits)) long guard_below (supported values long guard_below vars_below) in (
       λ h off. chosen.0 (record {
         truths = h.truths;
         many = h.many ∙ many;
@@ -175,19 +175,19 @@ some_whole L f L1 f1 f2 f3 f4 guard atoms vars truths rows count is_layout low f
     at_truth : (k : ℕ) → k < length rows → get_or truths k 0 ≡ length L + k
     at_truth k below = ap (λ ts. get_or ts k 0) truths_are_from ∙ numbers_from_at (length L) count k 0 (omega (arith, below, many))
 
-    clause_is : (vs : List ℤ) → clause_holds vs atoms ≡ has_number (numbers_at vs (numbers_from (length L) (length rows))) (pos 1)
+    clause_is : (vs : List ℤ) → clause_holds vs atoms ≡ has_number (numbers_of_vars vs (numbers_from (length L) (length rows))) (pos 1)
     clause_is vs = ap (clause_holds vs) (atoms_are ∙ ap (λ ts. are_all ts (pos 1)) (truths_are_from ∙ ap (numbers_from (length L)) many)) ∙ are_all_says vs (numbers_from (length L) (length rows)) (pos 1)
 
-    supported : (values : List ℤ) → length values ≡ length L → All (λ (a : Atom). a.var < length values) guard → All (λ (x : ℕ). x < length values) vars → Unless guard (λ vs. list_any (λ row. same_numbers row (numbers_at values vars)) rows ≡ true) values
-        → (k : ℕ) → k < length vars → Unless guard (IsSupported truths rows k (get_or vars k 0)) (values ++ map (λ row. of_bool (same_numbers row (numbers_at values vars))) rows)
+    supported : (values : List ℤ) → length values ≡ length L → All (λ (a : Atom). a.var < length values) guard → All (λ (x : ℕ). x < length values) vars → Unless guard (λ vs. list_any (λ row. same_numbers row (numbers_of_vars values vars)) rows ≡ true) values
+        → (k : ℕ) → k < length vars → Unless guard (IsSupported truths rows k (get_or vars k 0)) (values ++ map (λ row. of_bool (same_numbers row (numbers_of_vars values vars))) rows)
     supported values long guard_below vars_below h k below off_there =
-        let B : List ℤ = map (λ row. of_bool (same_numbers row (numbers_at values vars))) rows in
-        let at = Any-from_list_any (λ row. same_numbers row (numbers_at values vars)) rows (h (sym (guard_kept values B guard guard_below) ∙ off_there)) in
+        let B : List ℤ = map (λ row. of_bool (same_numbers row (numbers_of_vars values vars))) rows in
+        let at = Any-from_list_any (λ row. same_numbers row (numbers_of_vars values vars)) rows (h (sym (guard_kept values B guard guard_below) ∙ off_there)) in
         let r : ℕ = at.0 in
         let within : r < length rows = at.2 in
-        let passes : same_numbers (get_or rows r []) (numbers_at values vars) ≡ true = ap (λ row. same_numbers row (numbers_at values vars)) (get_or_default rows r [] at.1 at.2 ∙ at.3) ∙ at.4 in
+        let passes : same_numbers (get_or rows r []) (numbers_of_vars values vars) ≡ true = ap (λ row. same_numbers row (numbers_of_vars values vars)) (get_or_default rows r [] at.1 at.2 ∙ at.3) ∙ at.4 in
         let bit : number_at (values ++ B) (get_or truths r 0) ≡ pos 1 =
-        ap (number_at (values ++ B)) (at_truth r within) ∙ truth_at values B (length L) r long ∙ get_or-map (λ row. of_bool (same_numbers row (numbers_at values vars))) rows r [] (pos 0) within ∙ one_bit (same_numbers (get_or rows r []) (numbers_at values vars)) passes in
+        ap (number_at (values ++ B)) (at_truth r within) ∙ truth_at values B (length L) r long ∙ get_or-map (λ row. of_bool (same_numbers row (numbers_of_vars values vars))) rows r [] (pos 0) within ∙ one_bit (same_numbers (get_or rows r []) (numbers_of_vars values vars)) passes in
         let is_there : number_at (values ++ B) (get_or vars k 0) ≡ get_or (get_or rows r []) k (pos 0) =
         number_kept values B (get_or vars k 0) (vars_below k 0 below) ∙ row_is values vars (get_or rows r []) passes k (omega (arith, below, fits_at rows (length vars) r [] within fit)) in
         having_there (values ++ B) truths rows k (number_at (values ++ B) (get_or vars k 0)) r (ap length truths_are_from ∙ length-numbers_from (length L) count ∙ many) within

@@ -3,7 +3,7 @@ use Rattle.std.specs.Prelude.{◌≡◌, ℕ, ℤ, pos, true, ◌==◌, IsTrue, 
 use Rattle.std.specs.List.{list_all}
 use Rattle.std.specs.Ordering.{int_eq}
 use Rattle.ep_base.specs.Numbers.{has_number, same_numbers}
-use Rattle.ep_flat.specs.Cons.{number_at, numbers_at}
+use Rattle.ep_flat.specs.Cons.{number_at, numbers_of_vars}
 use Rattle.enc_atoms.specs.declared.atoms.Atom.{Atom}
 use Rattle.enc_steps.specs.Steps.{is_not}
 
@@ -13,11 +13,11 @@ AllFit rows count = list_all (λ row. length row == count) rows ≡ true
 
 -- the variables are the row
 abbrev pub IsRow : List ℕ → List ℤ → List ℤ → Type 0
-IsRow vars row values = same_numbers row (numbers_at values vars) ≡ true
+IsRow vars row values = same_numbers row (numbers_of_vars values vars) ≡ true
 
 -- where a variable is 1, others are the row
 abbrev pub IsRowWhere : ℕ → List ℕ → List ℤ → List ℤ → Type 0
-IsRowWhere t vars row values = number_at values t ≡ pos 1 → same_numbers row (numbers_at values vars) ≡ true
+IsRowWhere t vars row values = number_at values t ≡ pos 1 → same_numbers row (numbers_of_vars values vars) ≡ true
 
 -- for each variable "it isn't the row's number"
 unfoldable pub others_of : List ℕ → List ℤ → List Atom
@@ -35,4 +35,4 @@ truths_having (t ∷ ts) (row ∷ rows) place number =
 -- one of the rows that have a variable's number at its place is chosen
 abbrev pub IsSupported : List ℕ → List (List ℤ) → ℕ → ℕ → List ℤ → Type 0
 IsSupported truths rows place x values =
-    IsTrue (has_number (numbers_at values (truths_having truths rows place (number_at values x))) (pos 1))
+    IsTrue (has_number (numbers_of_vars values (truths_having truths rows place (number_at values x))) (pos 1))

@@ -3,7 +3,7 @@
 
 ghost use Rattle.std.specs.Prelude.{◌≡◌, ◌<◌, ◌≤◌, ◌+◌, ◌⊎◌, ◌≤ℤ◌, ◌↔◌, pos, ℕ, true, length, IsTrue, OnOk, Some, slice_index_or};
 ghost use Rattle.ep_base.specs.Numbers.{lex_holds};
-ghost use Rattle.ep_flat.specs.Cons.{is_as_said, numbers_at, number_at};
+ghost use Rattle.ep_flat.specs.Cons.{is_as_said, numbers_of_vars, number_at};
 ghost use Rattle.enc_atoms.specs.Atoms.{Adds};
 ghost use Rattle.enc_steps.specs.Steps.{AreAtomsOf, AreOf, HasTruth, IsReady, Unless};
 ghost use Rattle.enc_table.specs.Orders.{EndsBadly, EndsWell, IsChain, IsNext, IsStep, is_before};
@@ -260,7 +260,7 @@ fn add_before(
     requires xs { AreOf layout.old xs.now }
     requires ys { AreOf layout.old ys.now }
     ensures { OnOk result (Adds layout.old f.old layout.new f.new (Unless guard.now
-        (λ values. is_before strict (numbers_at values xs.now) (numbers_at values ys.now) ≡ true))) }
+        (λ values. is_before strict (numbers_of_vars values xs.now) (numbers_of_vars values ys.now) ≡ true))) }
 {
     let count = common(xs, ys);
     let links = new_truths(alloc, layout, f, count + 1)?;
@@ -283,7 +283,7 @@ fn encode_truth(
     requires xs { AreOf layout.old xs.now }
     requires ys { AreOf layout.old ys.now }
     ensures { OnOk result (Adds layout.old f.old layout.new f.new (λ values. IsTrue (is_as_said values (Some truth)
-        (is_before strict (numbers_at values xs.now) (numbers_at values ys.now))))) }
+        (is_before strict (numbers_of_vars values xs.now) (numbers_of_vars values ys.now))))) }
 {
     let on = [Atom::is_not(truth, 1)];
     let off = [Atom::is_not(truth, 0)];
@@ -308,7 +308,7 @@ fn encode_before(
     requires xs { AreOf layout.old xs.now }
     requires ys { AreOf layout.old ys.now }
     ensures { OnOk result (Adds layout.old f.old layout.new f.new (λ values. IsTrue (is_as_said values truth
-        (is_before strict (numbers_at values xs.now) (numbers_at values ys.now))))) }
+        (is_before strict (numbers_of_vars values xs.now) (numbers_of_vars values ys.now))))) }
 {
     match truth {
         None => add_before(alloc, layout, f, &[], strict, xs, ys),
@@ -331,7 +331,7 @@ pub(crate) fn encode_lex(
     requires xs { AreOf layout.old xs.now }
     requires ys { AreOf layout.old ys.now }
     ensures { OnOk result (Adds layout.old f.old layout.new f.new (λ values. IsTrue (is_as_said values truth
-        (lex_holds op (numbers_at values xs.now) (numbers_at values ys.now))))) }
+        (lex_holds op (numbers_of_vars values xs.now) (numbers_of_vars values ys.now))))) }
 {
     match op {
         LexOp::Less => encode_before(alloc, layout, f, truth, true, xs, ys),

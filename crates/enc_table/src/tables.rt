@@ -4,7 +4,7 @@ ghost use Rattle.std.specs.Prelude.{◌≡◌, ◌<◌, ◌==◌, pos, ℕ, [], 
 ghost use Rattle.std.specs.List.{All, list_all, list_any};
 ghost use Rattle.std.specs.Ordering.{int_eq};
 ghost use Rattle.ep_base.specs.Numbers.{has_number, is_row_of, same_numbers};
-ghost use Rattle.ep_flat.specs.Cons.{is_as_said, numbers_at, number_at};
+ghost use Rattle.ep_flat.specs.Cons.{is_as_said, numbers_of_vars, number_at};
 ghost use Rattle.enc_atoms.specs.Atoms.{Adds};
 ghost use Rattle.enc_steps.specs.Steps.{AreAtomsOf, AreOf, HasTruth, IsReady, Unless};
 ghost use Rattle.enc_table.specs.Rows.{AllFit, IsRow, IsRowWhere, IsSupported, others_of, truths_having};
@@ -141,7 +141,7 @@ fn add_one_where(
     requires chosen { AreOf layout.now chosen.now }
     requires there { var < length layout.now }
     ensures { OnOk result (Adds layout.now f.old layout.now f.new (Unless guard.now (λ values.
-        number_at values var ≡ number → IsTrue (has_number (numbers_at values chosen.now) (pos 1))))) }
+        number_at values var ≡ number → IsTrue (has_number (numbers_of_vars values chosen.now) (pos 1))))) }
 {
     let mut closed = Vec::from_slice(alloc, guard)?;
     closed.push(Atom::is_not(var, number))?;
@@ -171,7 +171,7 @@ fn add_support(
     requires place { place < length vars.now }
     ensures { OnOk result (Adds layout.now f.old layout.now f.new (Unless guard.now (λ values.
         number_at values (slice_index_or vars.now place 0) ≡ number
-        → IsTrue (has_number (numbers_at values (truths_having truths.now rows.now place number)) (pos 1))))) }
+        → IsTrue (has_number (numbers_of_vars values (truths_having truths.now rows.now place number)) (pos 1))))) }
 {
     let chosen = having(alloc, truths, rows, vars.len(), place, number)?;
     add_one_where(alloc, layout, f, guard, &chosen, vars[place], number)
@@ -246,7 +246,7 @@ fn add_some_row(
     requires within { AreOf layout.old vars.now }
     requires fit { AllFit rows.now (length vars.now) }
     ensures { OnOk result (Adds layout.old f.old layout.new f.new (Unless guard.now
-        (λ values. list_any (λ row. same_numbers row (numbers_at values vars.now)) rows.now ≡ true))) }
+        (λ values. list_any (λ row. same_numbers row (numbers_of_vars values vars.now)) rows.now ≡ true))) }
 {
     let truths = new_truths(alloc, layout, f, rows.len())?;
     add_rows(alloc, layout, f, &truths, vars, rows)?;
@@ -281,7 +281,7 @@ fn add_other_row(
     requires within { AreOf layout.now vars.now }
     requires fits { length row.now ≡ length vars.now }
     ensures { OnOk result (Adds layout.now f.old layout.now f.new
-        (Unless guard.now (λ values. same_numbers row.now (numbers_at values vars.now) ≡ false))) }
+        (Unless guard.now (λ values. same_numbers row.now (numbers_of_vars values vars.now) ≡ false))) }
 {
     let atoms = others_than(alloc, vars, row)?;
     add_guarded(alloc, layout, f, guard, &atoms)
@@ -301,7 +301,7 @@ fn add_no_row(
     requires within { AreOf layout.now vars.now }
     requires fit { AllFit rows.now (length vars.now) }
     ensures { OnOk result (Adds layout.now f.old layout.now f.new (Unless guard.now
-        (λ values. list_any (λ row. same_numbers row (numbers_at values vars.now)) rows.now ≡ false))) }
+        (λ values. list_any (λ row. same_numbers row (numbers_of_vars values vars.now)) rows.now ≡ false))) }
 {
     for k in 0..rows.len() {
         let row = rows[k].numbers();
@@ -324,7 +324,7 @@ fn encode_truth(
     requires within { AreOf layout.old vars.now }
     requires fit { AllFit rows.now (length vars.now) }
     ensures { OnOk result (Adds layout.old f.old layout.new f.new (λ values. IsTrue (is_as_said values (Some truth)
-        (list_any (λ row. same_numbers row (numbers_at values vars.now)) rows.now)))) }
+        (list_any (λ row. same_numbers row (numbers_of_vars values vars.now)) rows.now)))) }
 {
     let on = [Atom::is_not(truth, 1)];
     let off = [Atom::is_not(truth, 0)];
@@ -347,7 +347,7 @@ fn encode_rows(
     requires within { AreOf layout.old vars.now }
     requires fit { AllFit rows.now (length vars.now) }
     ensures { OnOk result (Adds layout.old f.old layout.new f.new (λ values. IsTrue (is_as_said values truth
-        (list_any (λ row. same_numbers row (numbers_at values vars.now)) rows.now)))) }
+        (list_any (λ row. same_numbers row (numbers_of_vars values vars.now)) rows.now)))) }
 {
     match truth {
         None => add_some_row(alloc, layout, f, &[], vars, rows),
@@ -368,7 +368,7 @@ pub(crate) fn encode_table(
     requires truth { HasTruth layout.old truth }
     requires within { AreOf layout.old vars.now }
     ensures { OnOk result (Adds layout.old f.old layout.new f.new (λ values. IsTrue (is_as_said values truth
-        (unwrap_or (is_row_of rows.now (numbers_at values vars.now)) false)))) }
+        (unwrap_or (is_row_of rows.now (numbers_of_vars values vars.now)) false)))) }
 {
     if all_fit(rows, vars.len()) {
         encode_rows(alloc, layout, f, truth, vars, rows)

@@ -3,7 +3,7 @@ use Rattle.std.proofs.Common.{◌≡◌, ℕ, ◌+◌, ◌-◌, ◌<◌, ◌≤�
 use Rattle.std.proofs.lemmas.Bool.Decides.{nat_tests}
 use Rattle.cnf_core.specs.Literal.{Literal}
 use Rattle.ep_base.specs.Numbers.{has_number}
-use Rattle.enc_var.specs.Decoding.{VariableLiterals, among_first, eq_of, le_of, no, note_of, place_literal, values_below, values_up_to, yes}
+use Rattle.enc_var.specs.Decoding.{VariableLiterals, among_first, eq_of, le_of, no, literal_of_note, place_literal, values_below, values_up_to, yes}
 use Rattle.enc_var.specs.declared.known.Known.TheVariants as known
 
 pub at_most : (m n : ℕ) → m ≤ n → nat_le m n ≡ true
@@ -51,7 +51,7 @@ pub eq_single : (e : VariableLiterals) (v : ℤ) → has_number e.domain v ≡ t
 unfolding eq_of
 eq_single e v h few = rw (h, at_most (length e.domain) 1 few) refl
 
-pub eq_is : (e : VariableLiterals) (v : ℤ) → has_number e.domain v ≡ true → 1 < length e.domain → known.Is (note_of e v) ≡ eq_of e v
+pub eq_is : (e : VariableLiterals) (v : ℤ) → has_number e.domain v ≡ true → 1 < length e.domain → known.Is (literal_of_note e v) ≡ eq_of e v
 unfolding eq_of
 eq_is e v h many = rw (h, not_at_most (length e.domain) 1 many) refl
 
@@ -63,6 +63,6 @@ pub counted_below : (count : ℕ) (seen values domain : List ℤ) (w v : ℤ) �
 counted_below count seen values domain w v e g same h = h ∙ ap (λ xs. values_below xs w) (e ∙ g) ∙ ap (λ z. values_below domain z) same
 
 -- the literal of a value is that of its place
-pub noted_at : (e : VariableLiterals) (v : ℤ) (count place : ℕ) (l : Literal) → count ≡ length e.domain → place ≡ values_below e.domain v → l ≡ place_literal e.first count place → l ≡ note_of e v
-unfolding note_of
+pub noted_at : (e : VariableLiterals) (v : ℤ) (count place : ℕ) (l : Literal) → count ≡ length e.domain → place ≡ values_below e.domain v → l ≡ place_literal e.first count place → l ≡ literal_of_note e v
+unfolding literal_of_note
 noted_at e v count place l long is h = h ∙ ap (λ n. place_literal e.first n place) long ∙ ap (λ p. place_literal e.first (length e.domain) p) is

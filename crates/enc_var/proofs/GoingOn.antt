@@ -13,7 +13,7 @@ use Rattle.enc_var.proofs.Choices.{eq_is, eq_none, eq_single, le_all, le_is, le_
 use Rattle.enc_var.proofs.Counts.{has_number_decides}
 use Rattle.enc_var.proofs.Growing.{means_met}
 use Rattle.enc_var.proofs.Places.{below_found, lt_back, lt_back_false}
-use Rattle.enc_var.specs.Decoding.{HasLiteralsUpTo, IsKnownUpTo, IsLiteralUpTo, Means, VariableLiterals, eq_of, le_of, note_of, place_literal, values_below, values_up_to}
+use Rattle.enc_var.specs.Decoding.{HasLiteralsUpTo, IsKnownUpTo, IsLiteralUpTo, Means, VariableLiterals, eq_of, le_of, literal_of_note, place_literal, values_below, values_up_to}
 use Rattle.enc_var.specs.Layouts.{GoesOn, IsLayoutOf}
 use Rattle.enc_var.specs.Ties.{AreMet, Grows}
 use Rattle.enc_var.specs.declared.known.Known.{Known}
@@ -59,10 +59,10 @@ place_up_to most first count q one low within room there = by (nat_le count 1) r
         ((omega (arith, one), omega (arith, within, space, inner, long, more)), omega (arith, space, inner, long, more))
 
 pub literals_up_to : (most : ℕ) (e : VariableLiterals) → 1 ≤ e.first → e.first ≤ most → most ≤ MOST_VARIABLE → (1 < length e.domain → e.first + 2 * length e.domain ≤ most + 4) → IsAscending e.domain → HasLiteralsUpTo most e
-unfolding IsKnownUpTo note_of
+unfolding IsKnownUpTo literal_of_note
 literals_up_to most e one low within room up = record { at_most = at_most_of; equal = equal_of; noted = noted_of }
   where
-    noted_of : (v : ℤ) → Contains e.domain v → IsLiteralUpTo most (note_of e v)
+    noted_of : (v : ℤ) → Contains e.domain v → IsLiteralUpTo most (literal_of_note e v)
     noted_of v found = place_up_to most e.first (length e.domain) (values_below e.domain v) one low within room (below_found e.domain v up found)
 
     equal_of : (v : ℤ) → IsKnownUpTo most (eq_of e v)

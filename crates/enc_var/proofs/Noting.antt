@@ -7,7 +7,7 @@ use Rattle.std.proofs.lemmas.List.{append-nil, get_or-map, take_all}
 use Rattle.std.proofs.lemmas.List.Concat.{flat_map-cons}
 use Rattle.cnf_core.specs.Events.{Note}
 use Rattle.ep_ground.specs.declared.cells.Cell.{Cell}
-use Rattle.enc_var.specs.Decoding.{VariableLiterals, note_of}
+use Rattle.enc_var.specs.Decoding.{VariableLiterals, literal_of_note}
 use Rattle.enc_var.specs.Layouts.{literals_at}
 use Rattle.enc_var.specs.Notes.{cell_notes, cell_text, indices_text, joined_numbers, notes_of_cell}
 
@@ -66,12 +66,12 @@ pub more_cells : (layout : List VariableLiterals) (cells : List Cell) (xs : List
     → one ≡ get_or cells k one → e ≡ literals_at layout (get_or xs k d)
     → map (λ y. (literals_at layout y).domain) xs ≡ map (λ c. c.values) cells
     → before ≡ cell_notes layout (take k cells) xs
-    → now ≡ before ++ map (λ v. record { cell = cell_text one; value = v; lit = note_of e v }) e.domain
+    → now ≡ before ++ map (λ v. record { cell = cell_text one; value = v; lit = literal_of_note e v }) e.domain
     → now ≡ cell_notes layout (take (k + 1) cells) xs
 unfolding notes_of_cell
 more_cells layout cells xs before now k one d e low within one_is e_is same so_far more =
     let x : ℕ = get_or xs k d in
-    let note_at : VariableLiterals → ℤ → Note = λ a v. record { cell = cell_text one; value = v; lit = note_of a v } in
+    let note_at : VariableLiterals → ℤ → Note = λ a v. record { cell = cell_text one; value = v; lit = literal_of_note a v } in
     let earlier : List Note = cell_notes layout (take k cells) xs in
     let at_x : (literals_at layout x).domain ≡ one.values =
     sym (get_or-map (λ y. (literals_at layout y).domain) xs k d one.values within)

@@ -11,7 +11,7 @@ use Rattle.ep_base.specs.Reads.{first_or_zero, same_bool}
 use Rattle.ep_base.specs.Runs.{IsAscending}
 use Rattle.enc_var.proofs.Choices.{eq_is, eq_none, eq_single, le_all, le_is, le_none}
 use Rattle.enc_var.proofs.Counts.{has_number_decides, is_below, none_pass, parted_up_to, passed_at}
-use Rattle.enc_var.specs.Decoding.{Means, VariableLiterals, decoded, eq_of, known_holds, le_of, literal_holds, note_of, place_literal, values_below, values_up_to}
+use Rattle.enc_var.specs.Decoding.{Means, VariableLiterals, decoded, eq_of, known_holds, le_of, literal_holds, literal_of_note, place_literal, values_below, values_up_to}
 
 pub lt_true : (a b : ℕ) → a < b → nat_lt a b ≡ true
 lt_true a b h = grind (arith, nat_tests)
@@ -144,8 +144,8 @@ pub record IsAtPlace (s : ℕ → Bool) (e : VariableLiterals) (p : ℕ) : Type 
   pub is : (q : ℕ) → q < length e.domain → literal_holds s (place_literal e.first (length e.domain) q) ≡ (q == p)
 
 -- the literal of a value says whether it is the one at the place
-pub noted_at_place : (s : ℕ → Bool) (e : VariableLiterals) (p : ℕ) → IsAtPlace s e p → (v : ℤ) → Contains e.domain v → literal_holds s (note_of e v) ≡ int_eq (value_at e.domain p) v
-unfolding note_of
+pub noted_at_place : (s : ℕ → Bool) (e : VariableLiterals) (p : ℕ) → IsAtPlace s e p → (v : ℤ) → Contains e.domain v → literal_holds s (literal_of_note e v) ≡ int_eq (value_at e.domain p) v
+unfolding literal_of_note
 noted_at_place s e p h v found =
     let q = found.0 in
     ap (λ w. literal_holds s (place_literal e.first (length e.domain) (values_below e.domain w))) (sym (stands_at e.domain v found))

@@ -54,14 +54,14 @@ place_literal first count place =
     else (if nat_le count (place + 1) then yes (first + (place - 1)) else yes (first + (count - 1) + (place - 1))))
 
 -- the literal that says that it is v, one of its values
-unfoldable pub note_of : VariableLiterals → ℤ → Literal
-note_of e v = place_literal e.first (length e.domain) (values_below e.domain v)
+unfoldable pub literal_of_note : VariableLiterals → ℤ → Literal
+literal_of_note e v = place_literal e.first (length e.domain) (values_below e.domain v)
 
 -- "it is v"
 unfoldable pub eq_of : VariableLiterals → ℤ → Known
 eq_of e v =
     if has_number e.domain v
-    then (if nat_le (length e.domain) 1 then known.True else known.Is (note_of e v))
+    then (if nat_le (length e.domain) 1 then known.True else known.Is (literal_of_note e v))
     else known.False
 
 -- whether a literal is true under an assignment
@@ -83,7 +83,7 @@ pub record Means (s : ℕ → Bool) (e : VariableLiterals) : Type 0 where
   pub among : Contains e.domain (decoded s e)
   pub at_most : (v : ℤ) → known_holds s (le_of e v) ≡ int_le (decoded s e) v
   pub equal : (v : ℤ) → known_holds s (eq_of e v) ≡ int_eq (decoded s e) v
-  pub noted : (v : ℤ) → Contains e.domain v → literal_holds s (note_of e v) ≡ int_eq (decoded s e) v
+  pub noted : (v : ℤ) → Contains e.domain v → literal_holds s (literal_of_note e v) ≡ int_eq (decoded s e) v
 
 -- a literal is of a variable from 1 up to this number
 abbrev pub IsLiteralUpTo : ℕ → Literal → Type 0
@@ -99,4 +99,4 @@ IsKnownUpTo most (known.Is l) = IsLiteralUpTo most l
 pub record HasLiteralsUpTo (most : ℕ) (e : VariableLiterals) : Type 0 where
   pub at_most : (v : ℤ) → IsKnownUpTo most (le_of e v)
   pub equal : (v : ℤ) → IsKnownUpTo most (eq_of e v)
-  pub noted : (v : ℤ) → Contains e.domain v → IsLiteralUpTo most (note_of e v)
+  pub noted : (v : ℤ) → Contains e.domain v → IsLiteralUpTo most (literal_of_note e v)

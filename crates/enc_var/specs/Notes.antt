@@ -3,7 +3,7 @@ use Rattle.std.specs.Prelude.{ℕ, ℤ, List, [], ◌∷◌, ◌++◌, map}
 use Rattle.std.specs.Fmt.{signed_decimal}
 use Rattle.cnf_core.specs.Events.{Note}
 use Rattle.ep_ground.specs.declared.cells.Cell.{Cell}
-use Rattle.enc_var.specs.Decoding.{VariableLiterals, note_of}
+use Rattle.enc_var.specs.Decoding.{VariableLiterals, literal_of_note}
 use Rattle.enc_var.specs.Layouts.{literals_at}
 
 -- numbers with a comma between any two
@@ -24,7 +24,7 @@ cell_text one = one.name ++ indices_text one.indices
 -- the notes of a cell for which this variable stands: one for each of its values, in ascending order
 unfoldable pub notes_of_cell : List VariableLiterals → Cell → ℕ → List Note
 notes_of_cell layout one x =
-    map (λ v. record { cell = cell_text one; value = v; lit = note_of (literals_at layout x) v }) one.values
+    map (λ v. record { cell = cell_text one; value = v; lit = literal_of_note (literals_at layout x) v }) one.values
 
 -- the notes of cells for which these variables stand, cell by cell
 unfoldable pub cell_notes : List VariableLiterals → List Cell → List ℕ → List Note

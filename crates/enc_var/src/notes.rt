@@ -4,7 +4,7 @@ ghost use Rattle.std.specs.Prelude.{◌≡◌, ◌<◌, ◌++◌, ◌∷◌, [],
 ghost use Rattle.std.specs.Fmt.{signed_decimal};
 ghost use Rattle.std.specs.List.{All, Contains, flat_map};
 ghost use Rattle.cnf_core.specs.Events.{plain_note};
-ghost use Rattle.enc_var.specs.Decoding.{note_of};
+ghost use Rattle.enc_var.specs.Decoding.{literal_of_note};
 ghost use Rattle.enc_var.specs.Layouts.{literals_at};
 ghost use Rattle.enc_var.specs.Notes.{cell_notes, cell_text, indices_text};
 
@@ -66,7 +66,7 @@ fn note_of_value(
 ) -> Result<CellNote, AllocError>
     requires { Contains variable.now.domain value }
     ensures { IfOk result (λ note. plain_note note
-        ≡ record { cell = name.now; value = value; lit = note_of variable.now value }) }
+        ≡ record { cell = name.now; value = value; lit = literal_of_note variable.now value }) }
 {
     let cell = Vec::from_slice(alloc, name)?;
     let lit = variable.note(value);
@@ -81,7 +81,7 @@ fn push_notes(
     variable: &Variable,
 ) -> Result<(), AllocError>
     ensures { OnOk result (map plain_note notes.new.items ≡ map plain_note notes.old.items
-        ++ map (λ v. record { cell = cell_text cell.now; value = v; lit = note_of variable.now v })
+        ++ map (λ v. record { cell = cell_text cell.now; value = v; lit = literal_of_note variable.now v })
         variable.now.domain) }
 {
     let name = text_of_cell(alloc, cell)?;

@@ -4,7 +4,7 @@ ghost use Rattle.std.specs.Prelude.{◌≡◌, ◌≤◌, ◌<◌, ◌+◌, ◌-
 ghost use Rattle.cnf_core.specs.Literal.{IsVariable};
 ghost use Rattle.cnf_core.specs.declared.lit.TheConstants.{MOST_VARIABLE};
 ghost use Rattle.ep_base.specs.Runs.{IsAscending};
-ghost use Rattle.enc_var.specs.Decoding.{eq_of, le_of, note_of, place_literal as place_literal_of, values_below, values_up_to, yes};
+ghost use Rattle.enc_var.specs.Decoding.{eq_of, le_of, literal_of_note, place_literal as place_literal_of, values_below, values_up_to, yes};
 ghost use Rattle.enc_var.specs.Ties.{AreMet, Grows};
 ghost use Rattle.std.specs.List.{Contains};
 
@@ -95,7 +95,7 @@ impl Variable {
     /// The literal that says that it is `v`, one of its values.
     pub fn note(&self, v: i64) -> Lit
         requires { Contains self.now.domain v }
-        ensures { result ≡ note_of self.now v }
+        ensures { result ≡ literal_of_note self.now v }
     {
         let place = count_below(&self.values, v) as u64;
         place_literal(self.first, self.values.len() as u64, place)

@@ -18,13 +18,13 @@ use Rattle.ep_base.specs.Runs.{AreApart, numbers}
 use Rattle.ep_base.specs.declared.operators.Sense.{Sense}
 use Rattle.ep_base.specs.declared.run_lists.Run.{Run}
 use Rattle.ep_base.proofs.RunSteps.{in_numbers}
-use Rattle.ep_flat.specs.Cons.{number_at, numbers_at}
+use Rattle.ep_flat.specs.Cons.{number_at, numbers_of_vars}
 use Rattle.enc_var.specs.Layouts.{decoded_values, literals_at}
 use Rattle.enc_var.specs.Decoding.{Means, VariableLiterals, decoded, known_holds, le_of, literal_holds}
 use Rattle.enc_var.specs.declared.known.Known.{Known}
 use Rattle.enc_var.specs.declared.known.Known.TheVariants as known
 use Rattle.sat_search.specs.View.{SolverView, value_in}
-use Rattle.ep_answer.specs.Searches.{AreWithin, Reaches, numbers_left, values_of}
+use Rattle.ep_answer.specs.Searches.{AreWithin, Reaches, numbers_left, kept_values}
 
 -- each number of runs that are apart lies between the start of the first one and the end of the last one
 within_hull : (runs : List Run) (first last : Run) → AreApart runs → ((d : Run) → slice_index_or runs 0 d ≡ first) → ((d : Run) → slice_index_or runs (length runs - 1) d ≡ last) → (v : ℤ) → Contains (numbers runs) v → (first.lo ≤ℤ v) × (v ≤ℤ last.hi)
@@ -91,16 +91,16 @@ number_is (e ∷ layout) s (suc x) low = number_is layout s x (omega (arith, low
 pub number_found : (layout : List VariableLiterals) (s : ℕ → Bool) (x : ℕ) (low high : ℤ) → x < length layout → low ≤ℤ decoded s (literals_at layout x) → decoded s (literals_at layout x) ≤ℤ high → high ≤ℤ low → low ≡ number_at (decoded_values layout s) x
 number_found layout s x low high there above below none = (omega (arith, ints, above, below, none)) ∙ sym (number_is layout s x there)
 
-pub numbers_more : (values : List ℤ) (xs : List ℕ) (k : ℕ) (d : ℕ) (found : List ℤ) (number : ℤ) → k < length xs → found ≡ numbers_at values (take k xs) → number ≡ number_at values (slice_index_or xs k d) → found ++ number ∷ [] ≡ numbers_at values (take (k + 1) xs)
-unfolding numbers_at
+pub numbers_more : (values : List ℤ) (xs : List ℕ) (k : ℕ) (d : ℕ) (found : List ℤ) (number : ℤ) → k < length xs → found ≡ numbers_of_vars values (take k xs) → number ≡ number_at values (slice_index_or xs k d) → found ++ number ∷ [] ≡ numbers_of_vars values (take (k + 1) xs)
+unfolding numbers_of_vars
 numbers_more values xs k d found number low so_far is =
     ap (λ ns. ns ++ number ∷ []) so_far
     ∙ ap (λ n. map (number_at values) (take k xs) ++ n ∷ []) is
     ∙ sym (map-append (number_at values) (take k xs) (slice_index_or xs k d ∷ []))
     ∙ ap (map (number_at values)) (sym (take_more xs k d low))
 
-pub numbers_none : (values : List ℤ) → [] ≡ numbers_at values []
-unfolding numbers_at
+pub numbers_none : (values : List ℤ) → [] ≡ numbers_of_vars values []
+unfolding numbers_of_vars
 numbers_none values = refl
 
 -- the two tests of two truth values
@@ -201,10 +201,10 @@ holds_false s = refl
 
 -- a literal holds where the solver's value is its sign
 pub holds_literal : (solver : SolverView) (value sign : Bool) (var : ℕ) (l : Literal) → IsSome solver.kept → IfSome solver.kept (λ trues. value ≡ value_in trues var) → var ≡ l.var → sign ≡ l.positive
-    → beq value sign ≡ known_holds (values_of solver) (known.Is l)
+    → beq value sign ≡ known_holds (kept_values solver) (known.Is l)
 unfolding known_holds literal_holds
 holds_literal solver value sign var l some is at positive =
-    same_test value sign ∙ ap (λ b. same_bool b sign) (kept solver.kept some is ∙ ap (values_of solver) at) ∙ ap (λ b. same_bool (values_of solver l.var) b) positive
+    same_test value sign ∙ ap (λ b. same_bool b sign) (kept solver.kept some is ∙ ap (kept_values solver) at) ∙ ap (λ b. same_bool (kept_values solver l.var) b) positive
   where
     kept : (k : Option (List Literal)) → IsSome k → IfSome k (λ trues. value ≡ value_in trues var) → value ≡ value_in (unwrap_or k []) var
     kept None some2 is2 = absurd (false≢true some2)

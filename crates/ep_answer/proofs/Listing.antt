@@ -10,15 +10,15 @@ use Rattle.cnf_core.specs.Clauses.{Satisfies, SatisfiesClause}
 use Rattle.cnf_core.specs.Events.{LogState, Note, clauses_of, given, givens, nonempty_steps}
 use Rattle.cnf_core.specs.Literal.{Literal, negation}
 use Rattle.cnf_core.proofs.Members.{All-from_contains}
-use Rattle.ep_flat.specs.Cons.{number_at, numbers_at}
+use Rattle.ep_flat.specs.Cons.{number_at, numbers_of_vars}
 use Rattle.ep_flat.specs.Flats.{objective_number}
 use Rattle.ep_ground.specs.declared.cells.Cell.{Cell}
-use Rattle.enc_var.specs.Decoding.{Means, VariableLiterals, note_of}
+use Rattle.enc_var.specs.Decoding.{Means, VariableLiterals, literal_of_note}
 use Rattle.enc_var.specs.Layouts.{decoded_cells, decoded_values, literals_at}
 use Rattle.enc_var.specs.Notes.{cell_notes, cell_text, notes_of_cell}
 use Rattle.ep_answer.specs.Answered.{AllTell, BlocksCells, IsNegatedNote, IsRightEnd, ListingEnd, ListsCells, LiteralsTell, complete, spent, stopped}
 use Rattle.ep_answer.specs.Problems.{AllMean, CanSearch, IsAllowed, ProblemState, base_clauses}
-use Rattle.ep_answer.specs.Searches.{AreNumbers, HasCells, IsBlocked, IsListed, IsNotNumber, OtherNumbers, values_of}
+use Rattle.ep_answer.specs.Searches.{AreNumbers, HasCells, IsBlocked, ListsNumbers, IsNotNumber, OtherNumbers, kept_values}
 use Rattle.ep_answer.proofs.Deciding.{number_is}
 use Rattle.ep_answer.proofs.OtherNumbers.{means_told, number_had}
 use Rattle.ep_answer.proofs.Searching.{added_are, allowed_now, base_is, base_stays, begun, cells_there, first_part, givens_append, givens_stay, goes_by_given, goes_by_steps, kept_satisfies, kept_some, pairs_push, second_part, within_any, zip_push}
@@ -30,7 +30,7 @@ nothing_in : {X : Type 0} (x : X) → Contains [] x → ⊥
 nothing_in x found = omega (arith, found.1)
 
 -- nothing is found
-pub listed_first : (p : ProblemState) (budget : ℕ) (old : LogState) → CanSearch p old → IsListed p budget old old []
+pub listed_first : (p : ProblemState) (budget : ℕ) (old : LogState) → CanSearch p old → ListsNumbers p budget old old []
 unfolding begun
 listed_first p budget old can = record {
   goes = begun budget old (sound_givens old.events can.are_givens) (within_any budget old.events can.are_givens);
@@ -44,7 +44,7 @@ listed_first p budget old can = record {
 }
 
 -- the solver's steps leave what is left
-pub listed_on : (p : ProblemState) (budget : ℕ) (old now next : LogState) (found : List (List ℤ)) → IsListed p budget old now found → AddsSteps now next → IsSound next.events → nonempty_steps next.events ≤ budget → IsListed p budget old next found
+pub listed_on : (p : ProblemState) (budget : ℕ) (old now next : LogState) (found : List (List ℤ)) → ListsNumbers p budget old now found → AddsSteps now next → IsSound next.events → nonempty_steps next.events ≤ budget → ListsNumbers p budget old next found
 unfolding goes_by_steps
 listed_on p budget old now next found h adds sound within =
     let same : givens next.events ≡ givens now.events = ap givens adds.events ∙ givens_stay now.events adds.added adds.are_steps in
@@ -57,10 +57,10 @@ listed_on p budget old now next found h adds sound within =
     }
 
 -- the literals mean what they say under an assignment that satisfies the givens
-pub means_listed : (p : ProblemState) (budget : ℕ) (old now : LogState) (found : List (List ℤ)) (s : ℕ → Bool) → CanSearch p old → IsListed p budget old now found → Satisfies s (givens now.events) → AllMean s p.layout p.variables.cells
+pub means_listed : (p : ProblemState) (budget : ℕ) (old now : LogState) (found : List (List ℤ)) (s : ℕ → Bool) → CanSearch p old → ListsNumbers p budget old now found → Satisfies s (givens now.events) → AllMean s p.layout p.variables.cells
 means_listed p budget old now found s can h met = (can.meaning s (subst (Satisfies s) (base_is old can.is_base) ((h.left s).0 met).0)).cells
 
-pub has_cells : (p : ProblemState) (budget : ℕ) (old now : LogState) (found : List (List ℤ)) (solver : SolverView) → CanSearch p old → IsListed p budget old now found → solver.broken ≡ false → solver.clauses ≡ clauses_of now.events
+pub has_cells : (p : ProblemState) (budget : ℕ) (old now : LogState) (found : List (List ℤ)) (solver : SolverView) → CanSearch p old → ListsNumbers p budget old now found → solver.broken ≡ false → solver.clauses ≡ clauses_of now.events
     → IsSomeAnd solver.kept (λ trues. Satisfies (value_in trues) (givens now.events)) → HasCells (record p { solver = solver }) now
 has_cells p budget old now found solver can h whole clauses kept = record {
   is_whole = whole;
@@ -68,15 +68,15 @@ has_cells p budget old now found solver can h whole clauses kept = record {
   sound = h.goes.sound;
   clauses = clauses;
   cells = cells_there p old can;
-  meaning = means_listed p budget old now found (values_of solver) can h (kept_satisfies solver (givens now.events) kept);
+  meaning = means_listed p budget old now found (kept_values solver) can h (kept_satisfies solver (givens now.events) kept);
 }
 
 pub blocked_same : (p : ProblemState) (solver : SolverView) (s : ℕ → Bool) (old new : LogState) (cells : List ℤ) → IsBlocked (record p { solver = solver }) s old new cells → IsBlocked p s old new cells
 blocked_same p solver s old new cells h = record { cells_are = h.cells_are; clause = h.clause; blocks = h.blocks; new_is = h.new_is }
 
 -- what an assignment gives is among the numbers of the variables
-pub are_numbers : (layout : List VariableLiterals) (s : ℕ → Bool) (vars : List ℕ) (cells : List ℤ) → All (λ x. x < length layout) vars → AllMean s layout vars → cells ≡ numbers_at (decoded_values layout s) vars → AreNumbers layout vars cells
-unfolding numbers_at
+pub are_numbers : (layout : List VariableLiterals) (s : ℕ → Bool) (vars : List ℕ) (cells : List ℤ) → All (λ x. x < length layout) vars → AllMean s layout vars → cells ≡ numbers_of_vars (decoded_values layout s) vars → AreNumbers layout vars cells
+unfolding numbers_of_vars
 are_numbers layout s vars cells there means is = subst (AreNumbers layout vars) (sym is) (by vars there means)
   where
     by : (xs : List ℕ) → All (λ x. x < length layout) xs → AllMean s layout xs → AreNumbers layout xs (map (number_at (decoded_values layout s)) xs)
@@ -87,8 +87,8 @@ are_numbers layout s vars cells there means is = subst (AreNumbers layout vars) 
     )
 
 -- where the literals of variables mean what they say, those of their values tell the numbers that an assignment gives
-pub all_told : (layout : List VariableLiterals) (s : ℕ → Bool) (vars : List ℕ) → All (λ x. x < length layout) vars → AllMean s layout vars → AllTell s layout vars (numbers_at (decoded_values layout s) vars)
-unfolding numbers_at
+pub all_told : (layout : List VariableLiterals) (s : ℕ → Bool) (vars : List ℕ) → All (λ x. x < length layout) vars → AllMean s layout vars → AllTell s layout vars (numbers_of_vars (decoded_values layout s) vars)
+unfolding numbers_of_vars
 all_told layout s [] there means = tt
 all_told layout s (x ∷ vars) there means = (
   subst (LiteralsTell s (literals_at layout x)) (sym (number_is layout s x (All-head (λ y. y < length layout) x vars there)))
@@ -105,7 +105,7 @@ mapped_in f (y ∷ xs) x (suc k, low, is) = Contains-append_right (f y ∷ []) (
 record NoteOf (layout : List VariableLiterals) (notes : List Note) (x : ℕ) (v : ℤ) : Type 0 where
   pub note : Note
   pub noted : Contains notes note
-  pub lit : note.lit ≡ note_of (literals_at layout x) v
+  pub lit : note.lit ≡ literal_of_note (literals_at layout x) v
 
 note_at : (layout : List VariableLiterals) (cells : List Cell) (vars : List ℕ) (place x : ℕ) (v : ℤ) → map (λ one. one.values) cells ≡ map (λ y. (literals_at layout y).domain) vars → place < length vars
     → Contains (literals_at layout (slice_index_or vars place x)).domain v → NoteOf layout (cell_notes layout cells vars) (slice_index_or vars place x) v
@@ -115,16 +115,16 @@ note_at layout [] (y ∷ vars) place x v same low found = absurd (omega (arith, 
 note_at layout (one ∷ cells) (y ∷ vars) zero x v same low found =
     let values : one.values ≡ (literals_at layout y).domain = ap (λ ds. slice_index_or ds 0 []) same in
     record {
-      note = record { cell = cell_text one; value = v; lit = note_of (literals_at layout y) v };
-      noted = Contains-append_left (map (λ w. record { cell = cell_text one; value = w; lit = note_of (literals_at layout y) w }) one.values) (cell_notes layout cells vars) (record { cell = cell_text one; value = v; lit = note_of (literals_at layout y) v })
-          (mapped_in (λ w. record { cell = cell_text one; value = w; lit = note_of (literals_at layout y) w }) one.values v (subst (λ vs. Contains vs v) (sym values) found));
+      note = record { cell = cell_text one; value = v; lit = literal_of_note (literals_at layout y) v };
+      noted = Contains-append_left (map (λ w. record { cell = cell_text one; value = w; lit = literal_of_note (literals_at layout y) w }) one.values) (cell_notes layout cells vars) (record { cell = cell_text one; value = v; lit = literal_of_note (literals_at layout y) v })
+          (mapped_in (λ w. record { cell = cell_text one; value = w; lit = literal_of_note (literals_at layout y) w }) one.values v (subst (λ vs. Contains vs v) (sym values) found));
       lit = refl;
     }
 note_at layout (one ∷ cells) (y ∷ vars) (suc place) x v same low found =
     let rest = note_at layout cells vars place x v (ap (drop 1) same) (omega (arith, low)) found in
     record {
       note = rest.note;
-      noted = Contains-append_right (map (λ w. record { cell = cell_text one; value = w; lit = note_of (literals_at layout y) w }) one.values) (cell_notes layout cells vars) rest.note rest.noted;
+      noted = Contains-append_right (map (λ w. record { cell = cell_text one; value = w; lit = literal_of_note (literals_at layout y) w }) one.values) (cell_notes layout cells vars) rest.note rest.noted;
       lit = rest.lit;
     }
 
@@ -159,8 +159,8 @@ blocks p old cells clause can numbers other = record {
         }
 
 -- one more solution is found
-pub listed_more : (p : ProblemState) (budget : ℕ) (old now next : LogState) (found : List (List ℤ)) (s : ℕ → Bool) (cells : List ℤ) → CanSearch p old → IsListed p budget old now found → Satisfies s (givens now.events)
-    → IsBlocked p s now next cells → IsSound next.events → nonempty_steps next.events ≤ budget → IsListed p budget old next (found ++ cells ∷ [])
+pub listed_more : (p : ProblemState) (budget : ℕ) (old now next : LogState) (found : List (List ℤ)) (s : ℕ → Bool) (cells : List ℤ) → CanSearch p old → ListsNumbers p budget old now found → Satisfies s (givens now.events)
+    → IsBlocked p s now next cells → IsSound next.events → nonempty_steps next.events ≤ budget → ListsNumbers p budget old next (found ++ cells ∷ [])
 unfolding goes_by_given
 listed_more p budget old now next found s cells can h met new sound within =
     let both = (h.left s).0 met in
@@ -198,7 +198,7 @@ listed_more p budget old now next found s cells can h met new sound within =
     only one other (suc k, low, is) = absurd (omega (arith, low))
 
 -- a listing ends
-pub lists : (p : ProblemState) (budget most : ℕ) (old now : LogState) (found : List (List ℤ)) (end : ListingEnd) → CanSearch p old → IsListed p budget old now found → IsRightEnd p budget most now found end → ListsCells p budget most old now found end
+pub lists : (p : ProblemState) (budget most : ℕ) (old now : LogState) (found : List (List ℤ)) (end : ListingEnd) → CanSearch p old → ListsNumbers p budget old now found → IsRightEnd p budget most now found end → ListsCells p budget most old now found end
 lists p budget most old now found end can h right =
     let same = base_stays budget old now can.is_base h.goes in
     record {
@@ -268,7 +268,7 @@ found_or_not (x ∷ xs) cells = by (lists_same x cells) (found_or_not xs cells)
     by (inr differ) (inr none) = inr (first_or_later differ none)
 
 -- nothing satisfies the givens: all were found
-pub right_complete : (p : ProblemState) (budget most : ℕ) (old now : LogState) (found : List (List ℤ)) → CanSearch p old → IsListed p budget old now found → length found < most → EndsWithEmptyStep now.events
+pub right_complete : (p : ProblemState) (budget most : ℕ) (old now : LogState) (found : List (List ℤ)) → CanSearch p old → ListsNumbers p budget old now found → length found < most → EndsWithEmptyStep now.events
     → ((s : ℕ → Bool) → Satisfies s (givens now.events) → ⊥) → IsRightEnd p budget most now found complete
 unfolding IsRightEnd
 right_complete p budget most old now found can h few ends none = (

@@ -14,8 +14,8 @@ use Rattle.cnf_core.proofs.Members.{All-from_contains, Contains-here, none_in_ni
 use Rattle.ep_base.specs.Numbers.{has_number}
 use Rattle.ep_base.specs.Reads.{same_bool}
 use Rattle.ep_base.specs.declared.errors.Memory.{Memory}
-use Rattle.ep_flat.specs.Cons.{numbers_at}
-use Rattle.enc_var.specs.Decoding.{Means, VariableLiterals, decoded, eq_of, known_holds, literal_holds, note_of}
+use Rattle.ep_flat.specs.Cons.{numbers_of_vars}
+use Rattle.enc_var.specs.Decoding.{Means, VariableLiterals, decoded, eq_of, known_holds, literal_holds, literal_of_note}
 use Rattle.enc_var.specs.Layouts.{literals_at}
 use Rattle.enc_var.specs.declared.known.Known.{Known}
 use Rattle.enc_var.specs.declared.known.Known.TheVariants as known
@@ -37,8 +37,8 @@ long_take zero xs low = refl
 long_take (suc k) [] low = absurd (omega (arith, low))
 long_take (suc k) (x ∷ xs) low = ap suc (long_take k xs (omega (arith, low)))
 
-pub long_numbers : (values : List ℤ) (xs : List ℕ) → length (numbers_at values xs) ≡ length xs
-unfolding numbers_at
+pub long_numbers : (values : List ℤ) (xs : List ℕ) → length (numbers_of_vars values xs) ≡ length xs
+unfolding numbers_of_vars
 long_numbers values [] = refl
 long_numbers values (x ∷ xs) = ap suc (long_numbers values xs)
 
@@ -65,7 +65,7 @@ unfolding literal_holds
 means_told s e means = record {
   among = means.among;
   literals = λ v there.
-      let l : Literal = note_of e v in (
+      let l : Literal = literal_of_note e v in (
         λ is. sym ((Decides-int_eq (decoded s e) v).0 (sym (means.noted v there) ∙ (holds_as (s l.var) l.positive).1 is)),
         λ same. (holds_as (s l.var) l.positive).0 (means.noted v there ∙ (Decides-int_eq (decoded s e) v).1 (sym same)),
       );
@@ -113,7 +113,7 @@ has_it xs v found = by (has_number xs v) refl
 chosen_known : Bool → Bool → Literal → Known
 chosen_known has one l = if has then (if one then known.True else known.Is l) else known.False
 
-eq_is : (e : VariableLiterals) (v : ℤ) → eq_of e v ≡ chosen_known (has_number e.domain v) (nat_le (length e.domain) 1) (note_of e v)
+eq_is : (e : VariableLiterals) (v : ℤ) → eq_of e v ≡ chosen_known (has_number e.domain v) (nat_le (length e.domain) 1) (literal_of_note e v)
 unfolding eq_of chosen_known
 eq_is e v = refl
 
@@ -121,9 +121,9 @@ eq_is e v = refl
 pub never_false : (e : VariableLiterals) (v : ℤ) → Contains e.domain v → known.False ≡ eq_of e v → ⊥
 unfolding is_false chosen_known
 never_false e v found is =
-    by (nat_le (length e.domain) 1) (is ∙ eq_is e v ∙ ap (λ has. chosen_known has (nat_le (length e.domain) 1) (note_of e v)) (has_it e.domain v found))
+    by (nat_le (length e.domain) 1) (is ∙ eq_is e v ∙ ap (λ has. chosen_known has (nat_le (length e.domain) 1) (literal_of_note e v)) (has_it e.domain v found))
   where
-    by : (b : Bool) → known.False ≡ chosen_known true b (note_of e v) → ⊥
+    by : (b : Bool) → known.False ≡ chosen_known true b (literal_of_note e v) → ⊥
     by true h = false≢true (sym (ap is_false h))
     by false h = false≢true (sym (ap is_false h))
 
@@ -143,11 +143,11 @@ is_literal known.False = false
 is_literal (known.Is l) = true
 
 -- the literal is that of the note
-pub note_is : (e : VariableLiterals) (v : ℤ) (l : Literal) → known.Is l ≡ eq_of e v → l ≡ note_of e v
+pub note_is : (e : VariableLiterals) (v : ℤ) (l : Literal) → known.Is l ≡ eq_of e v → l ≡ literal_of_note e v
 unfolding chosen_known literal_or is_literal
 note_is e v l is = by (has_number e.domain v) (nat_le (length e.domain) 1) (is ∙ eq_is e v)
   where
-    by : (a b : Bool) → known.Is l ≡ chosen_known a b (note_of e v) → l ≡ note_of e v
+    by : (a b : Bool) → known.Is l ≡ chosen_known a b (literal_of_note e v) → l ≡ literal_of_note e v
     by true true h = absurd (false≢true (sym (ap is_literal h)))
     by true false h = ap (literal_or l) h
     by false b h = absurd (false≢true (sym (ap is_literal h)))
@@ -159,7 +159,7 @@ says_not_literal e v l m there is turned = record {
       let one = clause_is s (m ∷ []) (m ∷ []) m (record { from_first = itself m; from_second = itself m }) refl in
       let two = contrary_is s l m turned in
       let three = fails_as s l in
-      let noted : l ≡ note_of e v = note_is e v l is in
+      let noted : l ≡ literal_of_note e v = note_is e v l is in
       let four : IsTrueUnder s l ↔ (v ≡ number) = subst (λ k. IsTrueUnder s k ↔ (v ≡ number)) (sym noted) (tell.literals v there) in (
         λ h same. three.0 (two.0 (one.0 h)) (four.1 (sym same)),
         λ differs. one.1 (two.1 (three.1 (λ holds. differs (sym (four.0 holds))))),
@@ -181,7 +181,7 @@ known_few : (e : VariableLiterals) (v : ℤ) → known.True ≡ eq_of e v → le
 unfolding chosen_known always_is
 known_few e v is = by (has_number e.domain v) (nat_le (length e.domain) 1) refl (is ∙ eq_is e v)
   where
-    by : (a b : Bool) → nat_le (length e.domain) 1 ≡ b → known.True ≡ chosen_known a b (note_of e v) → length e.domain ≤ 1
+    by : (a b : Bool) → nat_le (length e.domain) 1 ≡ b → known.True ≡ chosen_known a b (literal_of_note e v) → length e.domain ≤ 1
     by true true test h = grind (arith, nat_tests)
     by true false test h = absurd (false≢true (sym (ap always_is h)))
     by false b test h = absurd (false≢true (sym (ap always_is h)))
@@ -279,8 +279,8 @@ not_number layout vars cells k l m long low is turned = All-cons (IsNotNumber la
   there = low;
   is = λ x v.
       turned ∙ ap negation (note_is (literals_at layout (slice_index_or vars k 0)) (slice_index_or cells k (pos 0)) l is)
-      ∙ ap (λ y. negation (note_of (literals_at layout y) (slice_index_or cells k (pos 0)))) (get_or_default vars k 0 x low)
-      ∙ ap (λ w. negation (note_of (literals_at layout (slice_index_or vars k x)) w)) (get_or_default cells k (pos 0) v (omega (arith, low, long)));
+      ∙ ap (λ y. negation (literal_of_note (literals_at layout y) (slice_index_or cells k (pos 0)))) (get_or_default vars k 0 x low)
+      ∙ ap (λ w. negation (literal_of_note (literals_at layout (slice_index_or vars k x)) w)) (get_or_default cells k (pos 0) v (omega (arith, low, long)));
 }) (All-nil (IsNotNumber layout vars cells))
 
 -- a number that is found is one that its variable can have

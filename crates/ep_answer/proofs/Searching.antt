@@ -19,9 +19,9 @@ use Rattle.enc_var.specs.Layouts.{GivesCells, decoded_cells, decoded_values, lit
 use Rattle.ep_flat.specs.Cons.{number_at}
 use Rattle.ep_flat.specs.Flats.{objective_number}
 use Rattle.ep_answer.proofs.Deciding.{lt_true, number_is, numbers_fall}
-use Rattle.ep_answer.specs.Answered.{AnswersCells, FoundCells, Improves, IsBetterThan, IsReachedGoal, IsRightAnswer, IsStillWanted, SaysBetter, added_givens, best_number, no_solution, optimum, solution, unknown}
+use Rattle.ep_answer.specs.Answered.{AnswersCells, FoundCells, Improves, IsBetterThan, IsReachedGoal, IsRightAnswer, IsNumberWanted, SaysBetter, added_givens, best_number, no_solution, optimum, solution, unknown}
 use Rattle.ep_answer.specs.Problems.{CanSearch, IsAllowed, MapMeans, ProblemState, base_clauses}
-use Rattle.ep_answer.specs.Searches.{ClauseSaysBetter, Continues, HasFound, IsImproved, IsPursued, best_answer, numbers_left, values_of}
+use Rattle.ep_answer.specs.Searches.{ClauseSaysBetter, Continues, HasFound, IsImproved, IsPursued, best_answer, numbers_left, kept_values}
 use Rattle.sat_search.proofs.Continued.{sound_givens}
 use Rattle.sat_search.specs.View.{SolverView, value_in}
 use Rattle.sat_search.specs.declared.outcome.Outcome.{Outcome}
@@ -119,7 +119,7 @@ module _ (p : ProblemState) (old now : LogState) (same : base_clauses now ≡ ba
 
 -- The best so far is none.
 pub pursued_from : (p : ProblemState) (budget : ℕ) (old : LogState) → CanSearch p old → IsSound old.events → nonempty_steps old.events ≤ budget → IsPursued p budget old old None
-unfolding IsStillWanted begun
+unfolding IsNumberWanted begun
 pursued_from p budget old can sound within = record {
   goes = begun budget old sound within;
   bests = [];
@@ -261,8 +261,8 @@ says_better p sense variable number clause stated low says = record {
 }
 
 -- what is better than a number that is still wanted is still wanted
-still_on : (p : ProblemState) (best : Option (ℤ × List ℤ)) (number : ℤ) (goal : Option ℤ) → IsStillWanted p best (Some number) → IsBetterThan p number goal → IsStillWanted p best goal
-unfolding IsStillWanted
+still_on : (p : ProblemState) (best : Option (ℤ × List ℤ)) (number : ℤ) (goal : Option ℤ) → IsNumberWanted p best (Some number) → IsBetterThan p number goal → IsNumberWanted p best goal
+unfolding IsNumberWanted
 still_on p None number goal first second = tt
 still_on p (Some best) number goal first second = better_on p best.0 number goal first second
 
@@ -270,7 +270,7 @@ still_on p (Some best) number goal first second = better_on p best.0 number goal
 pub pursued_more : (p : ProblemState) (budget : ℕ) (old now next : LogState) (best : Option (ℤ × List ℤ)) (sense : Sense) (variable : ℕ) (s : ℕ → Bool) (number : ℤ) (cells : List ℤ)
     → CanSearch p old → p.variables.objective ≡ Some (sense, variable) → variable < length p.layout → IsPursued p budget old now best → Satisfies s (givens now.events)
     → IsImproved p sense variable s now next number cells → IsSound next.events → nonempty_steps next.events ≤ budget → IsPursued p budget old next (Some (number, cells))
-unfolding IsStillWanted goes_by_given
+unfolding IsNumberWanted goes_by_given
 pursued_more p budget old now next best sense variable s number cells can stated low h met found sound within =
     let both = (h.left s).0 met in
     let clause = found.clause in
@@ -278,7 +278,7 @@ pursued_more p budget old now next best sense variable s number cells can stated
     let allowed : IsAllowed p old cells (Some number) = record { are_given = record { assignment = s; satisfies = both.0; gives = sym found.cells_are }; drives = goal_is } in
     let says : SaysBetter p number clause = says_better p sense variable number clause stated low found.says in
     let meaning : (t : ℕ → Bool) → Satisfies t (base_clauses old) → MapMeans t p.layout p.variables = λ t base. can.meaning t (subst (Satisfies t) (base_is old can.is_base) base) in
-    let wanted : IsStillWanted p best (Some number) = subst (IsStillWanted p best) goal_is both.1 in
+    let wanted : IsNumberWanted p best (Some number) = subst (IsNumberWanted p best) goal_is both.1 in
     let all_givens : givens now.events ≡ givens old.events ++ givens h.goes.more = ap givens h.goes.events ∙ givens_append old.events h.goes.more in
     let next_givens : givens next.events ≡ givens now.events ++ clause ∷ [] = ap (λ l. givens l.events) found.new_is ∙ givens_append now.events (given clause ∷ []) in
     record {
@@ -304,7 +304,7 @@ pursued_more p budget old now next best sense variable s number cells can stated
 -- nothing satisfies the givens: nothing is still wanted
 pub answers_end : (p : ProblemState) (budget : ℕ) (old now : LogState) (best : Option (ℤ × List ℤ)) → old.base ≡ length old.events → IsPursued p budget old now best → EndsWithEmptyStep now.events
     → ((s : ℕ → Bool) → Satisfies s (givens now.events) → ⊥) → AnswersCells p budget now (best_answer best)
-unfolding IsStillWanted IsRightAnswer
+unfolding IsNumberWanted IsRightAnswer
 answers_end p budget old now None is h ends none = record {
   sound = h.goes.sound;
   within = h.goes.within;
@@ -345,14 +345,14 @@ answers_spent p budget old now best is h spent none_empty =
               let s = x.are_given.assignment in
               let both = (h.left s).0 x.are_given.satisfies in (
                 record { are_given = record { assignment = s; satisfies = subst (Satisfies s) (sym same) both.0; gives = x.are_given.gives }; drives = x.drives },
-                subst (IsStillWanted p best) x.drives both.1,
+                subst (IsNumberWanted p best) x.drives both.1,
               ),
           λ pair.
               let s = pair.0.are_given.assignment in
               record {
                 are_given = record {
                   assignment = s;
-                  satisfies = (h.left s).1 (subst (Satisfies s) same pair.0.are_given.satisfies, subst (IsStillWanted p best) (sym pair.0.drives) pair.1);
+                  satisfies = (h.left s).1 (subst (Satisfies s) same pair.0.are_given.satisfies, subst (IsNumberWanted p best) (sym pair.0.drives) pair.1);
                   gives = pair.0.are_given.gives;
                 };
                 drives = pair.0.drives;
@@ -417,7 +417,7 @@ pub pursued_first : (p : ProblemState) (budget : ℕ) (old : LogState) → CanSe
 pursued_first p budget old can = pursued_from p budget old can (sound_givens old.events can.are_givens) (within_any budget old.events can.are_givens)
 
 -- the values that are kept satisfy what the answer says
-pub kept_satisfies : (solver : SolverView) (clauses : List (List Literal)) → IsSomeAnd solver.kept (λ trues. Satisfies (value_in trues) clauses) → Satisfies (values_of solver) clauses
+pub kept_satisfies : (solver : SolverView) (clauses : List (List Literal)) → IsSomeAnd solver.kept (λ trues. Satisfies (value_in trues) clauses) → Satisfies (kept_values solver) clauses
 kept_satisfies solver clauses h = by solver.kept h
   where
     by : (k : Option (List Literal)) → IsSomeAnd k (λ trues. Satisfies (value_in trues) clauses) → Satisfies (value_in (unwrap_or k [])) clauses
@@ -457,9 +457,9 @@ has_found p budget old now best solver sense variable can stated h whole clauses
   clauses = clauses;
   cells = subst (λ n. All (λ x. x < n) p.variables.cells) (long_domains p.layout) can.maps.cells.there;
   there = objective_there p sense variable old can stated;
-  meaning = (means_now p budget old now best (values_of solver) can h (kept_satisfies solver (givens now.events) kept)).cells;
-  drives = drives_meant (values_of solver) p.layout p.variables.objective sense variable stated
-      (means_now p budget old now best (values_of solver) can h (kept_satisfies solver (givens now.events) kept)).objective;
+  meaning = (means_now p budget old now best (kept_values solver) can h (kept_satisfies solver (givens now.events) kept)).cells;
+  drives = drives_meant (kept_values solver) p.layout p.variables.objective sense variable stated
+      (means_now p budget old now best (kept_values solver) can h (kept_satisfies solver (givens now.events) kept)).objective;
 }
 
 pub cells_there : (p : ProblemState) (old : LogState) → CanSearch p old → All (λ x. x < length p.layout) p.variables.cells
@@ -474,16 +474,16 @@ improved_same p solver sense variable s old new number cells h = record { number
 pub falls : (p : ProblemState) (budget : ℕ) (old now next : LogState) (best : Option (ℤ × List ℤ)) (sense : Sense) (variable : ℕ) (s : ℕ → Bool) (number : ℤ) (cells : List ℤ) → CanSearch p old → p.variables.objective ≡ Some (sense, variable)
     → IsPursued p budget old now best → Satisfies s (givens now.events) → IsImproved p sense variable s now next number cells
     → numbers_left sense (literals_at p.layout variable).domain (Some number) < numbers_left sense (literals_at p.layout variable).domain (option_map (λ one. one.0) best)
-unfolding IsStillWanted
+unfolding IsNumberWanted
 falls p budget old now next best sense variable s number cells can stated h met found =
     let e = literals_at p.layout variable in
     let low = objective_there p sense variable old can stated in
     let means : Means s e = drives_meant s p.layout p.variables.objective sense variable stated (means_now p budget old now best s can h met).objective in
     let same : decoded s e ≡ number = sym (number_is p.layout s variable low) ∙ sym found.number_is in
     numbers_fall sense e.domain (option_map (λ one. one.0) best) number (subst (Contains e.domain) same means.among)
-    (wanted_better best (subst (IsStillWanted p best) (objective_is p sense variable (decoded_values p.layout s) stated ∙ ap Some (sym found.number_is)) ((h.left s).0 met).1))
+    (wanted_better best (subst (IsNumberWanted p best) (objective_is p sense variable (decoded_values p.layout s) stated ∙ ap Some (sym found.number_is)) ((h.left s).0 met).1))
   where
-    wanted_better : (b : Option (ℤ × List ℤ)) → IsStillWanted p b (Some number) → IfSome (option_map (λ one. one.0) b) (λ n. IsTrue (better_number sense number n))
+    wanted_better : (b : Option (ℤ × List ℤ)) → IsNumberWanted p b (Some number) → IfSome (option_map (λ one. one.0) b) (λ n. IsTrue (better_number sense number n))
     wanted_better None w = tt
     wanted_better (Some one) w =
         subst (λ n. IsTrue (better_number sense n one.0)) (sym (some_same number w.number w.drives))

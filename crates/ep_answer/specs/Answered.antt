@@ -7,7 +7,7 @@ use Rattle.cnf_core.specs.Events.{LogState, Note, givens, nonempty_steps}
 use Rattle.cnf_core.specs.Literal.{Literal, negation}
 use Rattle.ep_base.specs.Senses.{better_number}
 use Rattle.ep_base.specs.declared.operators.Sense.{Sense}
-use Rattle.enc_var.specs.Decoding.{Means, VariableLiterals, note_of}
+use Rattle.enc_var.specs.Decoding.{Means, VariableLiterals, literal_of_note}
 use Rattle.enc_var.specs.Layouts.{decoded_values, literals_at}
 use Rattle.ep_flat.specs.Flats.{objective_number}
 use Rattle.ep_answer.specs.Problems.{IsAllowed, IsLeft, ProblemState}
@@ -46,9 +46,9 @@ pub record IsNothingFound (p : ProblemState) (log : LogState) : Type 0 where
   pub ends : EndsWithEmptyStep log.events
 
 -- what is better than the best so far, and anything where there is none
-unfoldable pub IsStillWanted : ProblemState → Option (ℤ × List ℤ) → Option ℤ → Type 0
-IsStillWanted p None goal = Unit {0}
-IsStillWanted p (Some best) goal = IsBetterThan p best.0 goal
+unfoldable pub IsNumberWanted : ProblemState → Option (ℤ × List ℤ) → Option ℤ → Type 0
+IsNumberWanted p None goal = Unit {0}
+IsNumberWanted p (Some best) goal = IsBetterThan p best.0 goal
 
 -- The steps with a literal are as many as the budget says, no event is empty, the best so far is allowed with its objective,
 -- and what is left is exactly what is allowed and still wanted.
@@ -57,7 +57,7 @@ pub record IsBudgetSpent (p : ProblemState) (budget : ℕ) (log : LogState) (bes
   pub none_is_empty : NoneIsEmpty log.events
   pub incumbent : IfSome best (λ one. IsAllowed p log one.1 (Some one.0))
   pub left : (cells : List ℤ) (goal : Option ℤ)
-      → IsLeft p log cells goal ↔ (IsAllowed p log cells goal × IsStillWanted p best goal)
+      → IsLeft p log cells goal ↔ (IsAllowed p log cells goal × IsNumberWanted p best goal)
 
 -- when an answer is right
 unfoldable pub IsRightAnswer : ProblemState → ℕ → LogState → FoundCells → Type 0
@@ -130,7 +130,7 @@ pub record IsNegatedNote (log : LogState) (l : Literal) : Type 0 where
 -- exactly where the value is this number.
 pub record LiteralsTell (s : ℕ → Bool) (e : VariableLiterals) (number : ℤ) : Type 0 where
   pub among : Contains e.domain number
-  pub literals : (v : ℤ) → Contains e.domain v → IsTrueUnder s (note_of e v) ↔ (v ≡ number)
+  pub literals : (v : ℤ) → Contains e.domain v → IsTrueUnder s (literal_of_note e v) ↔ (v ≡ number)
 
 -- the literals of some variables' values tell these numbers
 abbrev pub AllTell : (ℕ → Bool) → List VariableLiterals → List ℕ → List ℤ → Type 0

@@ -8,18 +8,18 @@ use Rattle.ep_base.specs.Runs.{IsIn}
 use Rattle.ep_base.specs.Senses.{better_number}
 use Rattle.ep_base.specs.declared.operators.Sense.{Sense}
 use Rattle.ep_base.specs.declared.run_lists.Run.{Run}
-use Rattle.enc_var.specs.Decoding.{Means, VariableLiterals, decoded, note_of}
+use Rattle.enc_var.specs.Decoding.{Means, VariableLiterals, decoded, literal_of_note}
 use Rattle.enc_var.specs.Layouts.{decoded_cells, decoded_values, literals_at}
 use Rattle.ep_flat.specs.Cons.{number_at}
 use Rattle.ep_flat.specs.Flats.{objective_number}
-use Rattle.ep_answer.specs.Answered.{AllTell, BlocksCells, FoundCells, IsBetterThan, IsReachedGoal, IsStillWanted, SaysBetter, no_solution, optimum}
+use Rattle.ep_answer.specs.Answered.{AllTell, BlocksCells, FoundCells, IsBetterThan, IsReachedGoal, IsNumberWanted, SaysBetter, no_solution, optimum}
 use Rattle.ep_answer.specs.Problems.{AllMean, IsAllowed, ProblemState, base_clauses}
 use Rattle.sat_search.specs.Logs.{IsSound}
 use Rattle.sat_search.specs.View.{SolverView, value_in}
 
 -- the values that a solver keeps
-abbrev pub values_of : SolverView → ℕ → Bool
-values_of solver = value_in (unwrap_or solver.kept [])
+abbrev pub kept_values : SolverView → ℕ → Bool
+kept_values solver = value_in (unwrap_or solver.kept [])
 
 -- the answer where nothing is better than the best so far
 abbrev pub best_answer : Option (ℤ × List ℤ) → FoundCells
@@ -65,7 +65,7 @@ pub record IsPursued (p : ProblemState) (budget : ℕ) (old now : LogState) (bes
   pub said : AllZip (SaysBetter p) bests (givens goes.more)
   pub incumbent : IfSome best (λ one. IsAllowed p old one.1 (Some one.0))
   pub left : (s : ℕ → Bool) → Satisfies s (givens now.events)
-      ↔ (Satisfies s (base_clauses old) × IsStillWanted p best (objective_number p.variables (decoded_values p.layout s)))
+      ↔ (Satisfies s (base_clauses old) × IsNumberWanted p best (objective_number p.variables (decoded_values p.layout s)))
 
 -- One solution was found and a given added: an assignment gives the cells and the objective these numbers, and the given says that the
 -- objective is better.
@@ -84,14 +84,14 @@ pub record HasFound (p : ProblemState) (variable : ℕ) (log : LogState) : Type 
   pub clauses : p.solver.clauses ≡ clauses_of log.events
   pub cells : All (λ x. x < length p.layout) p.variables.cells
   pub there : variable < length p.layout
-  pub meaning : AllMean (values_of p.solver) p.layout p.variables.cells
-  pub drives : Means (values_of p.solver) (literals_at p.layout variable)
+  pub meaning : AllMean (kept_values p.solver) p.layout p.variables.cells
+  pub drives : Means (kept_values p.solver) (literals_at p.layout variable)
 
 -- the literal says that one of the variables isn't its number
 pub record IsNotNumber (layout : List VariableLiterals) (vars : List ℕ) (cells : List ℤ) (l : Literal) : Type 0 where
   pub place : ℕ
   pub there : place < length vars
-  pub is : (x : ℕ) (v : ℤ) → l ≡ negation (note_of (literals_at layout (slice_index_or vars place x)) (slice_index_or cells place v))
+  pub is : (x : ℕ) (v : ℤ) → l ≡ negation (literal_of_note (literals_at layout (slice_index_or vars place x)) (slice_index_or cells place v))
 
 -- Whatever numbers the literals of the variables' values tell, the clause holds exactly where they are other numbers than these, and
 -- each of its literals says that one of the variables isn't its number.
@@ -122,11 +122,11 @@ pub record HasCells (p : ProblemState) (log : LogState) : Type 0 where
   pub sound : IsSound log.events
   pub clauses : p.solver.clauses ≡ clauses_of log.events
   pub cells : All (λ x. x < length p.layout) p.variables.cells
-  pub meaning : AllMean (values_of p.solver) p.layout p.variables.cells
+  pub meaning : AllMean (kept_values p.solver) p.layout p.variables.cells
 
 -- Solutions are being listed: each is allowed, no two are equal, the givens added block them one by one, and what is left is exactly
 -- what wasn't found.
-pub record IsListed (p : ProblemState) (budget : ℕ) (old now : LogState) (found : List (List ℤ)) : Type 0 where
+pub record ListsNumbers (p : ProblemState) (budget : ℕ) (old now : LogState) (found : List (List ℤ)) : Type 0 where
   pub goes : Continues budget old now
   pub allowed : All (λ cells. (goal : Option ℤ) × IsAllowed p old cells goal) found
   pub different : AllPairs ◌≢◌ found

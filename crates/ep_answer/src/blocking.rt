@@ -4,7 +4,7 @@ ghost use Rattle.std.specs.Prelude.{◌≡◌, ◌<◌, false, length, IfOk, OnE
 ghost use Rattle.std.specs.List.{All};
 ghost use Rattle.cnf_core.specs.Events.{clauses_of, nonempty_steps};
 ghost use Rattle.ep_answer.specs.AnswerViews.{plain_problem};
-ghost use Rattle.ep_answer.specs.Searches.{AreNumbers, HasCells, IsBlocked, OtherNumbers, values_of};
+ghost use Rattle.ep_answer.specs.Searches.{AreNumbers, HasCells, IsBlocked, OtherNumbers, kept_values};
 ghost use Rattle.sat_search.specs.Logs.{IsSound};
 
 use crate::decoding::numbers_of;
@@ -39,7 +39,7 @@ fn other_numbers(
 /// The numbers of the cells in the solution that the solver keeps. A given is added which blocks it.
 pub fn block(alloc: Global, p: &mut Problem, log: &mut Log) -> Result<Vec<i64>, Memory>
     requires { HasCells (plain_problem p.old) log.old }
-    ensures blocked { IfOk result (λ cells. IsBlocked (plain_problem p.old) (values_of p.old.solver) log.old log.new cells.items) }
+    ensures blocked { IfOk result (λ cells. IsBlocked (plain_problem p.old) (kept_values p.old.solver) log.old log.new cells.items) }
     ensures err { OnErr result (log.new ≡ log.old) }
     ensures sound { IsSound log.new.events }
     ensures steps { nonempty_steps log.new.events ≡ nonempty_steps log.old.events }

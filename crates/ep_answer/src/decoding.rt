@@ -3,11 +3,11 @@
 ghost use Rattle.std.specs.Prelude.{◌≡◌, ◌<◌, ◌≤ℤ◌, ◌<ℤ◌, length, IfOk, IsSome};
 ghost use Rattle.std.specs.List.{All};
 ghost use Rattle.ep_base.specs.Runs.{AreApart, numbers};
-ghost use Rattle.ep_flat.specs.Cons.{number_at, numbers_at};
+ghost use Rattle.ep_flat.specs.Cons.{number_at, numbers_of_vars};
 ghost use Rattle.enc_var.specs.Decoding.{Means, known_holds};
 ghost use Rattle.enc_var.specs.Layouts.{decoded_values, literals_at};
 ghost use Rattle.ep_answer.specs.Problems.{AllMean};
-ghost use Rattle.ep_answer.specs.Searches.{AreWithin, values_of};
+ghost use Rattle.ep_answer.specs.Searches.{AreWithin, kept_values};
 
 use enc_var::{Known, Layout};
 use ep_base::{Memory, Run};
@@ -44,7 +44,7 @@ fn middle(low: i64, high: i64) -> i64
 /// Whether what is known is so.
 fn holds(solver: &Solver, known: Known) -> bool
     requires { IsSome solver.now.kept }
-    ensures { result ≡ known_holds (values_of solver.now) known }
+    ensures { result ≡ known_holds (kept_values solver.now) known }
 {
     match known {
         Known::True => true,
@@ -57,8 +57,8 @@ fn holds(solver: &Solver, known: Known) -> bool
 pub fn number_of(layout: &Layout, solver: &Solver, var: u64) -> i64
     requires kept { IsSome solver.now.kept }
     requires there { var < length layout.now }
-    requires meaning { Means (values_of solver.now) (literals_at layout.now var) }
-    ensures { result ≡ number_at (decoded_values layout.now (values_of solver.now)) var }
+    requires meaning { Means (kept_values solver.now) (literals_at layout.now var) }
+    ensures { result ≡ number_at (decoded_values layout.now (kept_values solver.now)) var }
 {
     let within = hull(layout.domain(var).runs());
     let mut low = within.lo;
@@ -83,9 +83,9 @@ pub fn numbers_of(
 ) -> Result<Vec<i64>, Memory>
     requires kept { IsSome solver.now.kept }
     requires there { All (λ x. x < length layout.now) vars.now }
-    requires meaning { AllMean (values_of solver.now) layout.now vars.now }
+    requires meaning { AllMean (kept_values solver.now) layout.now vars.now }
     ensures { IfOk result (λ found.
-        found.items ≡ numbers_at (decoded_values layout.now (values_of solver.now)) vars.now) }
+        found.items ≡ numbers_of_vars (decoded_values layout.now (kept_values solver.now)) vars.now) }
 {
     let mut found = Vec::new(alloc);
     for var in vars {

@@ -7,7 +7,7 @@ ghost use Rattle.enc_var.specs.Decoding.{Means, decoded, known_holds};
 ghost use Rattle.enc_var.specs.Layouts.{literals_at};
 ghost use Rattle.enc_var.specs.declared.known.Known.TheVariants as variants;
 ghost use Rattle.ep_answer.specs.AnswerViews.{plain_problem};
-ghost use Rattle.ep_answer.specs.Searches.{ClauseSaysBetter, HasFound, IsImproved, Reaches, values_of};
+ghost use Rattle.ep_answer.specs.Searches.{ClauseSaysBetter, HasFound, IsImproved, Reaches, kept_values};
 ghost use Rattle.cnf_core.specs.Events.{clauses_of, nonempty_steps};
 ghost use Rattle.sat_search.specs.Logs.{IsSound};
 
@@ -89,7 +89,7 @@ pub fn improve(
 ) -> Result<(i64, Vec<i64>), Memory>
     requires { HasFound (plain_problem p.old) var log.old }
     ensures improved { IfOk result (λ best. IsImproved (plain_problem p.old) sense var
-        (values_of p.old.solver) log.old log.new best.0 best.1.items) }
+        (kept_values p.old.solver) log.old log.new best.0 best.1.items) }
     ensures err { OnErr result (log.new ≡ log.old) }
     ensures sound { IsSound log.new.events }
     ensures steps { nonempty_steps log.new.events ≡ nonempty_steps log.old.events }

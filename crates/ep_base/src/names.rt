@@ -42,7 +42,7 @@ impl Name {
 
 impl PartialEq for Name {
     ghost use Rattle.std.specs.Str.{bytes_eq};
-    ghost use Rattle.std.specs.Cmp as Cmp;
+    ghost use Rattle.std.specs.Cmp;
     ghost use Rattle.std.specs.Cmp.Lexicographic.{nat_list_eq_equiv};
 
     ghost eq = { bytes_eq };

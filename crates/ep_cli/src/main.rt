@@ -3,7 +3,7 @@
 
 ghost use Rattle.std.specs.Prelude.{◌≡◌};
 ghost use Rattle.std.specs.Process.{exit_status};
-ghost use Rattle.ep_run.specs.Status.{code_of};
+ghost use Rattle.ep_run.specs.Status.{exit_code};
 
 use cnf_core::Log;
 use ep_base::{StdFiles, StdSink, Word};
@@ -28,7 +28,7 @@ fn main(rt: HostRuntime) -> ExitCode {
 
 /// How the program ends with a status.
 fn ended(status: Status) -> ExitCode
-    ensures { exit_status result ≡ code_of status }
+    ensures { exit_status result ≡ exit_code status }
 {
     ExitCode::from(status.code())
 }

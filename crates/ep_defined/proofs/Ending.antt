@@ -4,7 +4,7 @@ use Rattle.std.specs.Prelude.{option_map, option_to_list}
 use Rattle.std.specs.List.{All, flat_map}
 use Rattle.std.proofs.lemmas.List.{flat_map_more, take_more}
 use Rattle.ep_base.specs.declared.operators.Sense.{Sense}
-use Rattle.ep_defined.specs.Growing.{Grows, Is, IsSafeOver}
+use Rattle.ep_defined.specs.Growing.{Grows, IsNodeAt, IsSafeOver}
 use Rattle.ep_defined.specs.Images.{image_at}
 use Rattle.ep_defined.specs.Translations.{IsRemoved, Translates, clause_terms}
 use Rattle.ep_defined.specs.declared.images.Image.{Image}
@@ -39,7 +39,7 @@ none_before : PartsStandBefore []
 none_before t node e = absurd (cc)
 
 -- 0 alone, and nothing stands for any term
-pub started : (cells : List Cell) (olds old news : List GroundNode) (nought : ℕ) → old ≡ [] → Is news nought (constant (pos 0)) → ((asker : GroundNode) → ((n : ℕ) → StandsOver n asker → IsSafeOver n (constant (pos 0))) → Grows asker 1 old news) → Translates cells olds news nought []
+pub started : (cells : List Cell) (olds old news : List GroundNode) (nought : ℕ) → old ≡ [] → IsNodeAt news nought (constant (pos 0)) → ((asker : GroundNode) → ((n : ℕ) → StandsOver n asker → IsSafeOver n (constant (pos 0))) → Grows asker 1 old news) → Translates cells olds news nought []
 unfolding StandsOver is_partial
 started cells olds old news nought empty is grows =
     let g : Grows (constant (pos 0)) 1 [] news = subst (λ ns. Grows (constant (pos 0)) 1 ns news) empty (grows (constant (pos 0)) (λ n h. record { whole = refl; stands = tt })) in

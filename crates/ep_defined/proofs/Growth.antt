@@ -7,8 +7,8 @@ use Rattle.std.specs.List.{All}
 use Rattle.std.proofs.lemmas.List.{append-nil, append_assoc, length-append, length-map}
 use Rattle.std.proofs.lemmas.Option.{slice_get_within}
 use Rattle.std.proofs.lemmas.List.Elements.{All-append, All-cons, All-get_or, All-head, All-map, All-nil, All-tail, All-weaker}
-use Rattle.ep_defined.specs.Growing.{Grows, Is, IsSafeOver}
-use Rattle.ep_defined.specs.Images.{IsConjunction, IsDivisorTest, IsImage, IsImageBy, IsKeyTest, StandsIn, guards_in, image_at, kind_of, made_safe, nowhere, over_totals, total_at}
+use Rattle.ep_defined.specs.Growing.{Grows, IsNodeAt, IsSafeOver}
+use Rattle.ep_defined.specs.Images.{IsConjunction, IsDivisorTest, IsImage, IsImageBy, IsKeyTest, StandsIn, guards_in, image_at, image_kind, made_safe, nowhere, over_totals, total_at}
 use Rattle.ep_defined.specs.declared.images.Image.{Image}
 use Rattle.ep_defined.proofs.KindSteps.{safe_parts, safe_stands, safe_whole}
 use Rattle.ep_defined.proofs.Reaches.{is_more}
@@ -54,8 +54,8 @@ pub grows_at_most : (asker : GroundNode) (a b : ℕ) (old new : List GroundNode)
 grows_at_most asker a b old new fits g = record { more = g.more; is = g.is; few = omega (arith, g.few); before = g.before; safe = g.safe }
 
 -- the node of a term stays
-pub is_later : (asker : GroundNode) (count : ℕ) (old new : List GroundNode) (t : ℕ) (node : GroundNode) → Grows asker count old new → Is old t node → Is new t node
-is_later asker count old new t node g is = subst (λ ns. Is ns t node) (sym g.is) (is_more old g.more t node is)
+pub is_later : (asker : GroundNode) (count : ℕ) (old new : List GroundNode) (t : ℕ) (node : GroundNode) → Grows asker count old new → IsNodeAt old t node → IsNodeAt new t node
+is_later asker count old new t node g is = subst (λ ns. IsNodeAt ns t node) (sym g.is) (is_more old g.more t node is)
 
 pub below_later : (asker : GroundNode) (count : ℕ) (old new : List GroundNode) (t : ℕ) → Grows asker count old new → t < length old → t < length new
 below_later asker count old new t g below = omega (arith, below, ap length g.is, length-append old g.more)
@@ -102,7 +102,7 @@ conjunction_one nodes [] t low high e = absurd (omega (arith, low))
 conjunction_one nodes (g ∷ []) t low high e = e
 conjunction_one nodes (g ∷ k ∷ gs) t low high e = absurd (omega (arith, high))
 
-pub conjunction_more : (nodes : List GroundNode) (gs : List ℕ) (t : ℕ) → 2 ≤ length gs → Is nodes t (all_of gs) → IsConjunction nodes gs (Some t)
+pub conjunction_more : (nodes : List GroundNode) (gs : List ℕ) (t : ℕ) → 2 ≤ length gs → IsNodeAt nodes t (all_of gs) → IsConjunction nodes gs (Some t)
 unfolding IsConjunction
 conjunction_more nodes [] t low e = absurd (omega (arith, low))
 conjunction_more nodes (g ∷ []) t low e = absurd (omega (arith, low))
@@ -216,23 +216,23 @@ pub on_ok_then : {T E : Type 0} (r : Result T E) (P Q : Type 0) → OnOk r P →
 on_ok_then (Ok x) P Q h next = next h
 on_ok_then (Err e) P Q h next = tt
 
-nothing_else : (node : GroundNode) → (kind : Kind) → kind_of node ≡ kind → (Kind.Nothing ≡ kind → ⊥) → node ≡ undefined → ⊥
-unfolding kind_of
-nothing_else node kind e other u = other (sym (ap kind_of u) ∙ e)
+nothing_else : (node : GroundNode) → (kind : Kind) → image_kind node ≡ kind → (Kind.Nothing ≡ kind → ⊥) → node ≡ undefined → ⊥
+unfolding image_kind
+nothing_else node kind e other u = other (sym (ap image_kind u) ∙ e)
 
-pub number_safe : (node : GroundNode) → kind_of node ≡ Kind.Number → is_partial (made_safe node) ≡ false
+pub number_safe : (node : GroundNode) → image_kind node ≡ Kind.Number → is_partial (made_safe node) ≡ false
 number_safe node e = safe_whole node (nothing_else node Kind.Number e (λ h. cc)) (λ h. let x : Kind.Number ≡ Kind.Whole = sym e ∙ h in cc)
 
-pub truth_safe : (node : GroundNode) → kind_of node ≡ Kind.Truth → is_partial (made_safe node) ≡ false
+pub truth_safe : (node : GroundNode) → image_kind node ≡ Kind.Truth → is_partial (made_safe node) ≡ false
 truth_safe node e = safe_whole node (nothing_else node Kind.Truth e (λ h. cc)) (λ h. let x : Kind.Truth ≡ Kind.Whole = sym e ∙ h in cc)
 
-pub division_safe : (node : GroundNode) → kind_of node ≡ Kind.Division → is_partial (made_safe node) ≡ false
+pub division_safe : (node : GroundNode) → image_kind node ≡ Kind.Division → is_partial (made_safe node) ≡ false
 division_safe node e = safe_whole node (nothing_else node Kind.Division e (λ h. cc)) (λ h. let x : Kind.Division ≡ Kind.Whole = sym e ∙ h in cc)
 
-pub pick_safe : (node : GroundNode) → kind_of node ≡ Kind.Pick → is_partial (made_safe node) ≡ false
+pub pick_safe : (node : GroundNode) → image_kind node ≡ Kind.Pick → is_partial (made_safe node) ≡ false
 pick_safe node e = safe_whole node (nothing_else node Kind.Pick e (λ h. cc)) (λ h. let x : Kind.Pick ≡ Kind.Whole = sym e ∙ h in cc)
 
-pub image_by : (kind : Kind) (nodes : List GroundNode) (nought : ℕ) (images : List Image) (node : GroundNode) (image : Image) → kind_of node ≡ kind → IsImageBy kind nodes nought images node image → IsImage nodes nought images node image
+pub image_by : (kind : Kind) (nodes : List GroundNode) (nought : ℕ) (images : List Image) (node : GroundNode) (image : Image) → image_kind node ≡ kind → IsImageBy kind nodes nought images node image → IsImage nodes nought images node image
 image_by kind nodes nought images node image e is = subst (λ k. IsImageBy k nodes nought images node image) (sym e) is
 
 pub divisor_later : (asker : GroundNode) (count : ℕ) (old new : List GroundNode) (nought : ℕ) (images : List Image) (node : GroundNode) (own : ℕ) → Grows asker count old new → IsDivisorTest old nought images node own → IsDivisorTest new nought images node own
@@ -359,5 +359,5 @@ keys_there nodes images (at_least ts cs ns) own h = absurd h
 keys_there nodes images (at_most ts cs ns) own h = absurd h
 keys_there nodes images (table ts rows) own h = absurd h
 
-pub is_there : (nodes : List GroundNode) (t : ℕ) (node : GroundNode) → Is nodes t node → t < length nodes
+pub is_there : (nodes : List GroundNode) (t : ℕ) (node : GroundNode) → IsNodeAt nodes t node → t < length nodes
 is_there nodes t node is = slice_get_within nodes t node is

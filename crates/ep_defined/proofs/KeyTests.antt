@@ -9,7 +9,7 @@ use Rattle.std.proofs.lemmas.Bool.Decides.{Decides-eqb, nat_tests}
 use Rattle.std.proofs.lemmas.List.{length-map}
 use Rattle.ep_base.specs.Numbers.{is_row_of, of_bool, same_numbers}
 use Rattle.ep_base.specs.Reads.{first_or_zero, picked, safe_picked}
-use Rattle.ep_defined.specs.Growing.{Is}
+use Rattle.ep_defined.specs.Growing.{IsNodeAt}
 use Rattle.ep_defined.specs.Translations.{only_if}
 use Rattle.ep_defined.proofs.Parts.{there, values_there}
 use Rattle.ep_ground.proofs.SameParts.{values_same}
@@ -104,7 +104,7 @@ row_there xs ks =
 
 -- a table of the keys tells whether the indices are one of them
 pub keys_tested : (nodes : List GroundNode) (values : List ℤ) (w : ℕ → Option ℤ) → Follows nodes values w → (n : ℕ → ℤ) (f : ℕ → ℕ) (parts : ℕ) (keys : List (List ℤ)) (indices : List ℕ) → ((p : ℕ) → Contains indices p → Some (n p) ≡ w (f p))
-    → (own : ℕ) → Is nodes own (table (map f indices) (filter (λ key. length key == length indices) (take parts keys))) → w own ≡ Some (of_bool (key_there parts keys (map n indices)))
+    → (own : ℕ) → IsNodeAt nodes own (table (map f indices) (filter (λ key. length key == length indices) (take parts keys))) → w own ≡ Some (of_bool (key_there parts keys (map n indices)))
 unfolding node_value truth
 keys_tested nodes values w follows n f parts keys indices same own is =
     let rows = λ (m : ℕ). filter (λ key. length key == m) (take parts keys) in

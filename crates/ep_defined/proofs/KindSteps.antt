@@ -5,9 +5,9 @@ use Rattle.std.specs.List.{Contains}
 use Rattle.std.proofs.lemmas.List.Elements.{Contains-append_right}
 use Rattle.ep_base.specs.Numbers.{all_one, is_one, of_bool}
 use Rattle.ep_base.specs.Reads.{all_there}
-use Rattle.ep_defined.specs.Growing.{Is}
-use Rattle.ep_defined.specs.Images.{IsNumberImage, IsTruthImage, IsTestedImage, guards_in, image_at, kind_of, made_safe, over_totals, total_at}
-use Rattle.ep_defined.specs.Translations.{IsTruth, Stands, only_if}
+use Rattle.ep_defined.specs.Growing.{IsNodeAt}
+use Rattle.ep_defined.specs.Images.{IsNumberImage, IsTruthImage, IsTestedImage, guards_in, image_at, image_kind, made_safe, over_totals, total_at}
+use Rattle.ep_defined.specs.Translations.{IsTruth, StandsForTerm, only_if}
 use Rattle.ep_defined.specs.declared.images.Image.{Image}
 use Rattle.ep_defined.specs.declared.kinds.Kind.{Kind}
 use Rattle.ep_defined.proofs.Parts.{absent, has_value, lacking, there, truth_value}
@@ -61,8 +61,8 @@ own_safe (at_least ts cs ns) e = refl
 own_safe (at_most ts cs ns) e = refl
 own_safe (table ts rows) e = refl
 
-pub number_whole : (node : GroundNode) → kind_of node ≡ Kind.Number → is_partial node ≡ false
-unfolding kind_of is_partial
+pub number_whole : (node : GroundNode) → image_kind node ≡ Kind.Number → is_partial node ≡ false
+unfolding image_kind is_partial
 number_whole (constant n) e = refl
 number_whole undefined e = absurd (cc)
 number_whole (cell k) e = refl
@@ -92,8 +92,8 @@ number_whole (at_least ts cs ns) e = absurd (cc)
 number_whole (at_most ts cs ns) e = absurd (cc)
 number_whole (table ts rows) e = absurd (cc)
 
-pub truth_whole : (node : GroundNode) → kind_of node ≡ Kind.Truth → is_partial node ≡ false
-unfolding kind_of is_partial
+pub truth_whole : (node : GroundNode) → image_kind node ≡ Kind.Truth → is_partial node ≡ false
+unfolding image_kind is_partial
 truth_whole (constant n) e = absurd (cc)
 truth_whole undefined e = absurd (cc)
 truth_whole (cell k) e = absurd (cc)
@@ -124,8 +124,8 @@ truth_whole (at_most ts cs ns) e = refl
 truth_whole (table ts rows) e = refl
 
 -- the safe form is never partial, but for what has no value at all
-pub safe_whole : (node : GroundNode) → (node ≡ undefined → ⊥) → (kind_of node ≡ Kind.Whole → ⊥) → is_partial (made_safe node) ≡ false
-unfolding kind_of is_partial made_safe
+pub safe_whole : (node : GroundNode) → (node ≡ undefined → ⊥) → (image_kind node ≡ Kind.Whole → ⊥) → is_partial (made_safe node) ≡ false
+unfolding image_kind is_partial made_safe
 safe_whole (constant n) e f = refl
 safe_whole undefined e f = absurd (e refl)
 safe_whole (cell k) e f = refl
@@ -220,17 +220,17 @@ safe_parts (table ts rows) = refl
 -- a node over the terms of images, of which each stands for a part
 pub record Over (nodes : List GroundNode) (values : List ℤ) (v w : ℕ → Option ℤ) (images : List Image) (node : GroundNode) : Type 0 where
   pub follows : Follows nodes values w
-  pub each : (p : ℕ) → Contains (parts_of node) p → Stands w (v p) (image_at images p)
+  pub each : (p : ℕ) → Contains (parts_of node) p → StandsForTerm w (v p) (image_at images p)
   pub stands : StandsOver (length values) node
 
 -- the number of a part
 abbrev pub number_at : (ℕ → Option ℤ) → List Image → ℕ → ℤ
 number_at w images t = unwrap_or (w (total_at images t)) (pos 0)
 
-part_there : (w : ℕ → Option ℤ) (old : Option ℤ) (image : Image) → Stands w old image → w image.total ≡ Some (unwrap_or (w image.total) (pos 0))
+part_there : (w : ℕ → Option ℤ) (old : Option ℤ) (image : Image) → StandsForTerm w old image → w image.total ≡ Some (unwrap_or (w image.total) (pos 0))
 part_there w old image h = h.total ∙ sym (ap (λ o. Some (unwrap_or o (pos 0))) h.total)
 
-pub total_is : (nodes : List GroundNode) (values : List ℤ) (v w : ℕ → Option ℤ) (images : List Image) (node : GroundNode) → Over nodes values v w images node → (k : ℕ) → Is nodes k (over_totals images node) → w k ≡ node_value values (there (number_at w images)) (made_safe node)
+pub total_is : (nodes : List GroundNode) (values : List ℤ) (v w : ℕ → Option ℤ) (images : List Image) (node : GroundNode) → Over nodes values v w images node → (k : ℕ) → IsNodeAt nodes k (over_totals images node) → w k ≡ node_value values (there (number_at w images)) (made_safe node)
 total_is nodes values v w images node h k is =
     h.follows k (over_totals images node) is
     ∙ sym (node_as values (there (number_at w images)) w (total_at images) (made_safe node)
@@ -240,10 +240,10 @@ all_is : (nodes : List GroundNode) (values : List ℤ) (v w : ℕ → Option ℤ
 all_is nodes values v w images node h g e =
     node_same values v (there (number_at w images)) node (λ p found. g.all e p found ∙ part_there w (v p) (image_at images p) (h.each p found))
 
-some_is : (nodes : List GroundNode) (values : List ℤ) (v w : ℕ → Option ℤ) (images : List Image) (node : GroundNode) → (g : Gathered v w images (parts_of node)) → all_true g.bs ≡ false → node_value values v node ≡ absent (kind_of node)
+some_is : (nodes : List GroundNode) (values : List ℤ) (v w : ℕ → Option ℤ) (images : List Image) (node : GroundNode) → (g : Gathered v w images (parts_of node)) → all_true g.bs ≡ false → node_value values v node ≡ absent (image_kind node)
 some_is nodes values v w images node g e = let found = g.some e in lacking values v node found.0 found.1 found.2
 
-pub number_stands : (nodes : List GroundNode) (values : List ℤ) (v w : ℕ → Option ℤ) (images : List Image) (node : GroundNode) (image : Image) → kind_of node ≡ Kind.Number → Over nodes values v w images node → IsNumberImage nodes images node image → Stands w (node_value values v node) image
+pub number_stands : (nodes : List GroundNode) (values : List ℤ) (v w : ℕ → Option ℤ) (images : List Image) (node : GroundNode) (image : Image) → image_kind node ≡ Kind.Number → Over nodes values v w images node → IsNumberImage nodes images node image → StandsForTerm w (node_value values v node) image
 number_stands nodes values v w images node image kind h is =
     let g = gathered v w images (parts_of node) h.each in
     let whole = number_whole node kind in
@@ -260,7 +260,7 @@ number_stands nodes values v w images node image kind h is =
     by y e g true s = all_is nodes values v w images node h g s ∙ e
     by y e g false s = some_is nodes values v w images node g s ∙ ap absent kind
 
-pub truth_stands : (nodes : List GroundNode) (values : List ℤ) (v w : ℕ → Option ℤ) (images : List Image) (node : GroundNode) (image : Image) → kind_of node ≡ Kind.Truth → Over nodes values v w images node → IsTruthImage nodes images node image → Stands w (node_value values v node) image
+pub truth_stands : (nodes : List GroundNode) (values : List ℤ) (v w : ℕ → Option ℤ) (images : List Image) (node : GroundNode) (image : Image) → image_kind node ≡ Kind.Truth → Over nodes values v w images node → IsTruthImage nodes images node image → StandsForTerm w (node_value values v node) image
 unfolding of_bool
 truth_stands nodes values v w images node image kind h is =
     let g = gathered v w images (parts_of node) h.each in
@@ -279,9 +279,9 @@ truth_stands nodes values v w images node image kind h is =
     by y e g false s = some_is nodes values v w images node g s ∙ ap absent kind ∙ ap (λ b. Some (of_bool (b && y))) (sym s)
 
 -- a node that is there where its parts are and a test of its own is 1
-pub tested_stands : (nodes : List GroundNode) (values : List ℤ) (v w : ℕ → Option ℤ) (images : List Image) (node : GroundNode) (Test : ℕ → Type 0) (image : Image) → absent (kind_of node) ≡ None → Over nodes values v w images node
+pub tested_stands : (nodes : List GroundNode) (values : List ℤ) (v w : ℕ → Option ℤ) (images : List Image) (node : GroundNode) (Test : ℕ → Type 0) (image : Image) → absent (image_kind node) ≡ None → Over nodes values v w images node
     → (y : ℤ) → node_value values (there (number_at w images)) (made_safe node) ≡ Some y → (b : Bool) → ((own : ℕ) → Test own → w own ≡ Some (of_bool b)) → node_value values (there (number_at w images)) node ≡ only_if b y
-    → IsTestedImage nodes images node Test image → Stands w (node_value values v node) image
+    → IsTestedImage nodes images node Test image → StandsForTerm w (node_value values v node) image
 tested_stands nodes values v w images node Test image kind h y safe b test plain is =
     let g = gathered v w images (parts_of node) h.each in
     record {
@@ -320,14 +320,14 @@ remainder_if x (ℤ.pos ℕ.zero) = refl
 remainder_if x (ℤ.pos (ℕ.suc y)) = sym (ap (λ b. only_if (not b) (reads.safe_remainder x (pos (suc y)))) (not_same (pos (suc y)) (pos 0) (λ e. cc)))
 remainder_if x (ℤ.negsuc y) = refl
 
-divisor_tested : (nodes : List GroundNode) (values : List ℤ) (w : ℕ → Option ℤ) → Follows nodes values w → (nought b : ℕ) (y : ℤ) → w nought ≡ Some (pos 0) → w b ≡ Some y → (own : ℕ) → Is nodes own (compare CompareOp.NotEqual b nought) → w own ≡ Some (of_bool (not_nought y))
+divisor_tested : (nodes : List GroundNode) (values : List ℤ) (w : ℕ → Option ℤ) → Follows nodes values w → (nought b : ℕ) (y : ℤ) → w nought ≡ Some (pos 0) → w b ≡ Some y → (own : ℕ) → IsNodeAt nodes own (compare CompareOp.NotEqual b nought) → w own ≡ Some (of_bool (not_nought y))
 unfolding node_value truth on_both compare_holds not_nought
 divisor_tested nodes values w follows nought b y nil_is there_is own is =
     follows own (compare CompareOp.NotEqual b nought) is
     ∙ (λ i. truth (on_both (λ x z. Some (compare_holds CompareOp.NotEqual x z)) (there_is i) (nil_is i)))
 
-pub division_stands : (nodes : List GroundNode) (values : List ℤ) (v w : ℕ → Option ℤ) (images : List Image) (nought : ℕ) (node : GroundNode) (image : Image) → kind_of node ≡ Kind.Division → w nought ≡ Some (pos 0) → Over nodes values v w images node → IsTestedImage nodes images node (IsDivisorTest nodes nought images node) image → Stands w (node_value values v node) image
-unfolding kind_of node_value parts_of made_safe IsDivisorTest on_both
+pub division_stands : (nodes : List GroundNode) (values : List ℤ) (v w : ℕ → Option ℤ) (images : List Image) (nought : ℕ) (node : GroundNode) (image : Image) → image_kind node ≡ Kind.Division → w nought ≡ Some (pos 0) → Over nodes values v w images node → IsTestedImage nodes images node (IsDivisorTest nodes nought images node) image → StandsForTerm w (node_value values v node) image
+unfolding image_kind node_value parts_of made_safe IsDivisorTest on_both
 division_stands nodes values v w images nought (constant n) image kind nil_is h is = absurd (cc)
 division_stands nodes values v w images nought undefined image kind nil_is h is = absurd (cc)
 division_stands nodes values v w images nought (cell k) image kind nil_is h is = absurd (cc)
@@ -367,8 +367,8 @@ division_stands nodes values v w images nought (at_least ts cs ns) image kind ni
 division_stands nodes values v w images nought (at_most ts cs ns) image kind nil_is h is = absurd (cc)
 division_stands nodes values v w images nought (table ts rows) image kind nil_is h is = absurd (cc)
 
-pub pick_stands : (nodes : List GroundNode) (values : List ℤ) (v w : ℕ → Option ℤ) (images : List Image) (node : GroundNode) (image : Image) → kind_of node ≡ Kind.Pick → Over nodes values v w images node → IsTestedImage nodes images node (IsKeyTest nodes images node) image → Stands w (node_value values v node) image
-unfolding kind_of node_value parts_of made_safe IsKeyTest on_both
+pub pick_stands : (nodes : List GroundNode) (values : List ℤ) (v w : ℕ → Option ℤ) (images : List Image) (node : GroundNode) (image : Image) → image_kind node ≡ Kind.Pick → Over nodes values v w images node → IsTestedImage nodes images node (IsKeyTest nodes images node) image → StandsForTerm w (node_value values v node) image
+unfolding image_kind node_value parts_of made_safe IsKeyTest on_both
 pick_stands nodes values v w images (constant n) image kind h is = absurd (cc)
 pick_stands nodes values v w images undefined image kind h is = absurd (cc)
 pick_stands nodes values v w images (cell k) image kind h is = absurd (cc)
@@ -407,8 +407,8 @@ pick_stands nodes values v w images (at_least ts cs ns) image kind h is = absurd
 pick_stands nodes values v w images (at_most ts cs ns) image kind h is = absurd (cc)
 pick_stands nodes values v w images (table ts rows) image kind h is = absurd (cc)
 
-pub whole_stands : (nodes : List GroundNode) (values : List ℤ) (v w : ℕ → Option ℤ) (images : List Image) (node : GroundNode) (image : Image) → kind_of node ≡ Kind.Whole → Over nodes values v w images node → IsWholeImage nodes images node image → Stands w (node_value values v node) image
-unfolding kind_of node_value parts_of IsWholeImage on_both
+pub whole_stands : (nodes : List GroundNode) (values : List ℤ) (v w : ℕ → Option ℤ) (images : List Image) (node : GroundNode) (image : Image) → image_kind node ≡ Kind.Whole → Over nodes values v w images node → IsWholeImage nodes images node image → StandsForTerm w (node_value values v node) image
+unfolding image_kind node_value parts_of IsWholeImage on_both
 whole_stands nodes values v w images (constant n) image kind h is = absurd (cc)
 whole_stands nodes values v w images undefined image kind h is = absurd (cc)
 whole_stands nodes values v w images (cell k) image kind h is = absurd (cc)
@@ -452,8 +452,8 @@ whole_stands nodes values v w images (at_least ts cs ns) image kind h is = absur
 whole_stands nodes values v w images (at_most ts cs ns) image kind h is = absurd (cc)
 whole_stands nodes values v w images (table ts rows) image kind h is = absurd (cc)
 
-nothing_stands : (values : List ℤ) (v w : ℕ → Option ℤ) (nought : ℕ) (node : GroundNode) (image : Image) → kind_of node ≡ Kind.Nothing → w nought ≡ Some (pos 0) → IsNothingImage nought image → Stands w (node_value values v node) image
-unfolding kind_of node_value of_bool
+nothing_stands : (values : List ℤ) (v w : ℕ → Option ℤ) (nought : ℕ) (node : GroundNode) (image : Image) → image_kind node ≡ Kind.Nothing → w nought ≡ Some (pos 0) → IsNothingImage nought image → StandsForTerm w (node_value values v node) image
+unfolding image_kind node_value of_bool
 nothing_stands values v w nought (constant n) image kind nil_is is = absurd (cc)
 nothing_stands values v w nought undefined image kind nil_is is = record {
   number = pos 0;
@@ -490,7 +490,7 @@ nothing_stands values v w nought (at_most ts cs ns) image kind nil_is is = absur
 nothing_stands values v w nought (table ts rows) image kind nil_is is = absurd (cc)
 
 -- what stands for a node of a kind has its value
-pub stands_by : (kind : Kind) (nodes : List GroundNode) (values : List ℤ) (v w : ℕ → Option ℤ) (images : List Image) (nought : ℕ) (node : GroundNode) (image : Image) → kind_of node ≡ kind → w nought ≡ Some (pos 0) → Over nodes values v w images node → IsImageBy kind nodes nought images node image → Stands w (node_value values v node) image
+pub stands_by : (kind : Kind) (nodes : List GroundNode) (values : List ℤ) (v w : ℕ → Option ℤ) (images : List Image) (nought : ℕ) (node : GroundNode) (image : Image) → image_kind node ≡ kind → w nought ≡ Some (pos 0) → Over nodes values v w images node → IsImageBy kind nodes nought images node image → StandsForTerm w (node_value values v node) image
 unfolding IsImageBy
 stands_by Kind.Nothing nodes values v w images nought node image kind nil_is h is = nothing_stands values v w nought node image kind nil_is is
 stands_by Kind.Number nodes values v w images nought node image kind nil_is h is = number_stands nodes values v w images node image kind h is

@@ -9,11 +9,11 @@ use Rattle.ep_base.specs.Numbers.{absolute_of, all_one, any_one, are_different, 
 use Rattle.ep_base.specs.Reads as reads
 use Rattle.ep_base.specs.Reads.{all_there, picked, safe_picked, same_bool, weighted_sum}
 use Rattle.ep_base.specs.declared.operators.CompareOp.{CompareOp}
-use Rattle.ep_defined.specs.Images.{kind_of}
+use Rattle.ep_defined.specs.Images.{image_kind}
 use Rattle.ep_defined.specs.declared.kinds.Kind.{Kind}
 use Rattle.ep_ground.specs.Grounds.{StandsOver}
 use Rattle.ep_ground.specs.Nodes.{GroundNode, constant, undefined, cell, sum, product, quotient, remainder, power, absolute, least, greatest, pick, whole, safe_quotient, safe_remainder, safe_pick, compare, lex, member, negation, all_of, any_of, same_truth, all_different, counts, at_least, at_most, table, parts_of, is_partial}
-use Rattle.ep_ground.specs.Terms.{node_value, on_both, truth, values_of, weighed}
+use Rattle.ep_ground.specs.Terms.{node_value, on_both, truth, term_values_of, weighed}
 
 -- what a node of a kind is worth where a part has no value
 abbrev pub absent : Kind → Option ℤ
@@ -55,22 +55,22 @@ two_lack k v a b p found none = elim (of_cons a (b ∷ []) p found) as (λ _. on
 map_none : {A B : Type 0} (f : A → B) (o : Option A) → o ≡ None → option_map f o ≡ None
 map_none f o e = ap (option_map f) e
 
-pub list_lacks : (v : ℕ → Option ℤ) (ts : List ℕ) (p : ℕ) → Contains ts p → v p ≡ None → values_of v ts ≡ None
-unfolding values_of all_there
+pub list_lacks : (v : ℕ → Option ℤ) (ts : List ℕ) (p : ℕ) → Contains ts p → v p ≡ None → term_values_of v ts ≡ None
+unfolding term_values_of all_there
 list_lacks v [] p found none = none_there p found
-list_lacks v (t ∷ ts) p found none = elim (of_cons t ts p found) as (λ _. values_of v (t ∷ ts) ≡ None) [
-  | inl e ↦ ap (λ o. option_and_then (λ n. option_map (λ ns. n ∷ ns) (values_of v ts)) o) (ap v e ∙ none)
+list_lacks v (t ∷ ts) p found none = elim (of_cons t ts p found) as (λ _. term_values_of v (t ∷ ts) ≡ None) [
+  | inl e ↦ ap (λ o. option_and_then (λ n. option_map (λ ns. n ∷ ns) (term_values_of v ts)) o) (ap v e ∙ none)
   | inr h ↦ behind (v t) (list_lacks v ts p h none)
 ]
   where
-    behind : (o : Option ℤ) → values_of v ts ≡ None → option_and_then (λ n. option_map (λ ns. n ∷ ns) (values_of v ts)) o ≡ None
+    behind : (o : Option ℤ) → term_values_of v ts ≡ None → option_and_then (λ n. option_map (λ ns. n ∷ ns) (term_values_of v ts)) o ≡ None
     behind None e = refl
     behind (Some n) e = ap (option_map (λ ns. n ∷ ns)) e
 
-lists_lack : {C : Type 0} (k : List ℤ → List ℤ → Option C) (v : ℕ → Option ℤ) (ts us : List ℕ) (p : ℕ) → Contains (ts ++ us) p → v p ≡ None → on_both k (values_of v ts) (values_of v us) ≡ None
-lists_lack k v ts us p found none = elim (Contains-append_cases ts us p found) as (λ _. on_both k (values_of v ts) (values_of v us) ≡ None) [
-  | inl h ↦ both_first k (values_of v ts) (values_of v us) (list_lacks v ts p h none)
-  | inr h ↦ both_second k (values_of v ts) (values_of v us) (list_lacks v us p h none)
+lists_lack : {C : Type 0} (k : List ℤ → List ℤ → Option C) (v : ℕ → Option ℤ) (ts us : List ℕ) (p : ℕ) → Contains (ts ++ us) p → v p ≡ None → on_both k (term_values_of v ts) (term_values_of v us) ≡ None
+lists_lack k v ts us p found none = elim (Contains-append_cases ts us p found) as (λ _. on_both k (term_values_of v ts) (term_values_of v us) ≡ None) [
+  | inl h ↦ both_first k (term_values_of v ts) (term_values_of v us) (list_lacks v ts p h none)
+  | inr h ↦ both_second k (term_values_of v ts) (term_values_of v us) (list_lacks v us p h none)
 ]
 
 weights_lack : (v : ℕ → Option ℤ) (parts : List (ℤ × ℕ)) (p : ℕ) → Contains (map (λ q. q.1) parts) p → v p ≡ None → weighed v parts ≡ None
@@ -81,15 +81,15 @@ weights_lack v (q ∷ parts) p found none = elim (of_cons q.1 (map (λ r. r.1) p
   | inr h ↦ both_second (λ x rest. Some ((q.0, x) ∷ rest)) (v q.1) (weighed v parts) (weights_lack v parts p h none)
 ]
 
-whole_lacks : (v : ℕ → Option ℤ) (a : ℕ) (ts : List ℕ) (p : ℕ) → Contains (a ∷ ts) p → v p ≡ None → on_both (λ x xs. Some x) (v a) (values_of v ts) ≡ None
-whole_lacks v a ts p found none = elim (of_cons a ts p found) as (λ _. on_both (λ x xs. Some x) (v a) (values_of v ts) ≡ None) [
-  | inl e ↦ both_first (λ x xs. Some x) (v a) (values_of v ts) (ap v e ∙ none)
-  | inr h ↦ both_second (λ x xs. Some x) (v a) (values_of v ts) (list_lacks v ts p h none)
+whole_lacks : (v : ℕ → Option ℤ) (a : ℕ) (ts : List ℕ) (p : ℕ) → Contains (a ∷ ts) p → v p ≡ None → on_both (λ x xs. Some x) (v a) (term_values_of v ts) ≡ None
+whole_lacks v a ts p found none = elim (of_cons a ts p found) as (λ _. on_both (λ x xs. Some x) (v a) (term_values_of v ts) ≡ None) [
+  | inl e ↦ both_first (λ x xs. Some x) (v a) (term_values_of v ts) (ap v e ∙ none)
+  | inr h ↦ both_second (λ x xs. Some x) (v a) (term_values_of v ts) (list_lacks v ts p h none)
 ]
 
 -- where a part has no value, a truth value is 0 and a number isn't there
-pub lacking : (cells : List ℤ) (v : ℕ → Option ℤ) (node : GroundNode) (p : ℕ) → Contains (parts_of node) p → v p ≡ None → node_value cells v node ≡ absent (kind_of node)
-unfolding node_value parts_of kind_of truth
+pub lacking : (cells : List ℤ) (v : ℕ → Option ℤ) (node : GroundNode) (p : ℕ) → Contains (parts_of node) p → v p ≡ None → node_value cells v node ≡ absent (image_kind node)
+unfolding node_value parts_of image_kind truth
 lacking cells v (constant n) p found none = none_there p found
 lacking cells v undefined p found none = none_there p found
 lacking cells v (cell k) p found none = none_there p found
@@ -125,8 +125,8 @@ truth_there None = (false, refl)
 truth_there (Some b) = (b, refl)
 
 -- a truth value is always there
-pub truth_value : (cells : List ℤ) (v : ℕ → Option ℤ) (node : GroundNode) → kind_of node ≡ Kind.Truth → (b : Bool) × (node_value cells v node ≡ Some (of_bool b))
-unfolding node_value kind_of
+pub truth_value : (cells : List ℤ) (v : ℕ → Option ℤ) (node : GroundNode) → image_kind node ≡ Kind.Truth → (b : Bool) × (node_value cells v node ≡ Some (of_bool b))
+unfolding node_value image_kind
 truth_value cells v (constant n) e = absurd (cc)
 truth_value cells v undefined e = absurd (cc)
 truth_value cells v (cell k) e = absurd (cc)
@@ -144,24 +144,24 @@ truth_value cells v (safe_quotient a b) e = absurd (cc)
 truth_value cells v (safe_remainder a b) e = absurd (cc)
 truth_value cells v (safe_pick ts keys indices) e = absurd (cc)
 truth_value cells v (compare op a b) e = truth_there (on_both (λ x y. Some (compare_holds op x y)) (v a) (v b))
-truth_value cells v (lex op ts us) e = truth_there (on_both (λ xs ys. Some (lex_holds op xs ys)) (values_of v ts) (values_of v us))
+truth_value cells v (lex op ts us) e = truth_there (on_both (λ xs ys. Some (lex_holds op xs ys)) (term_values_of v ts) (term_values_of v us))
 truth_value cells v (member a ns) e = truth_there (option_map (has_number ns) (v a))
 truth_value cells v (negation a) e = truth_there (option_map (λ x. not (is_one x)) (v a))
-truth_value cells v (all_of ts) e = truth_there (option_map all_one (values_of v ts))
-truth_value cells v (any_of ts) e = truth_there (option_map any_one (values_of v ts))
+truth_value cells v (all_of ts) e = truth_there (option_map all_one (term_values_of v ts))
+truth_value cells v (any_of ts) e = truth_there (option_map any_one (term_values_of v ts))
 truth_value cells v (same_truth a b) e = truth_there (on_both (λ x y. Some (same_bool (is_one x) (is_one y))) (v a) (v b))
-truth_value cells v (all_different ts) e = truth_there (option_map are_different (values_of v ts))
-truth_value cells v (counts ts ns us) e = truth_there (on_both (λ xs cs. counts_hold CompareOp.Equal xs ns cs) (values_of v ts) (values_of v us))
-truth_value cells v (at_least ts cs ns) e = truth_there (option_and_then (λ xs. counts_hold CompareOp.AtLeast xs ns cs) (values_of v ts))
-truth_value cells v (at_most ts cs ns) e = truth_there (option_and_then (λ xs. counts_hold CompareOp.AtMost xs ns cs) (values_of v ts))
-truth_value cells v (table ts rows) e = truth_there (option_and_then (is_row_of rows) (values_of v ts))
+truth_value cells v (all_different ts) e = truth_there (option_map are_different (term_values_of v ts))
+truth_value cells v (counts ts ns us) e = truth_there (on_both (λ xs cs. counts_hold CompareOp.Equal xs ns cs) (term_values_of v ts) (term_values_of v us))
+truth_value cells v (at_least ts cs ns) e = truth_there (option_and_then (λ xs. counts_hold CompareOp.AtLeast xs ns cs) (term_values_of v ts))
+truth_value cells v (at_most ts cs ns) e = truth_there (option_and_then (λ xs. counts_hold CompareOp.AtMost xs ns cs) (term_values_of v ts))
+truth_value cells v (table ts rows) e = truth_there (option_and_then (is_row_of rows) (term_values_of v ts))
 
 -- values that are all there
 abbrev pub there : (ℕ → ℤ) → ℕ → Option ℤ
 there n t = Some (n t)
 
-pub values_there : (n : ℕ → ℤ) (ts : List ℕ) → values_of (there n) ts ≡ Some (map n ts)
-unfolding values_of all_there
+pub values_there : (n : ℕ → ℤ) (ts : List ℕ) → term_values_of (there n) ts ≡ Some (map n ts)
+unfolding term_values_of all_there
 values_there n [] = refl
 values_there n (t ∷ ts) = ap (option_map (λ ns. n t ∷ ns)) (values_there n ts)
 
@@ -182,7 +182,7 @@ some_greatest x xs = (_, refl)
 
 -- A node that isn't partial has a value where its parts have one.
 pub has_value : (cells : List ℤ) (n : ℕ → ℤ) (node : GroundNode) → is_partial node ≡ false → StandsOver (length cells) node → (y : ℤ) × (node_value cells (there n) node ≡ Some y)
-unfolding node_value kind_of is_partial StandsOver on_both
+unfolding node_value image_kind is_partial StandsOver on_both
 has_value cells n (constant c) total stands = (c, refl)
 has_value cells n undefined total stands = absurd (cc)
 has_value cells n (cell k) total stands = (_, slice_get-get_or cells k (pos 0) stands)

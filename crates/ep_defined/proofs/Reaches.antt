@@ -6,8 +6,8 @@ use Rattle.std.proofs.lemmas.List.Elements.{All-contains}
 use Rattle.std.proofs.lemmas.Option.{slice_get_within, same_Some, get_or_from_slice_get}
 use Rattle.ep_base.specs.Intervals.{Interval, truth_interval}
 use Rattle.ep_base.specs.Reads.{IsWithinNumbers}
-use Rattle.ep_defined.specs.Growing.{Is}
-use Rattle.ep_defined.specs.Images.{IsConjunction, IsImageBy, IsWholeImage, guards_in, kind_of, made_safe, over_totals, total_at}
+use Rattle.ep_defined.specs.Growing.{IsNodeAt}
+use Rattle.ep_defined.specs.Images.{IsConjunction, IsImageBy, IsWholeImage, guards_in, image_kind, made_safe, over_totals, total_at}
 use Rattle.ep_defined.specs.Translations.{IsBoundedBelow}
 use Rattle.ep_defined.specs.declared.images.Image.{Image}
 use Rattle.ep_defined.specs.declared.kinds.Kind.{Kind}
@@ -27,7 +27,7 @@ get_more (x ∷ xs) ys zero below = refl
 get_more (x ∷ xs) ys (suc k) below = get_more xs ys k (omega (arith, below))
 
 -- the node of a term stays
-pub is_more : (nodes more : List GroundNode) (t : ℕ) (node : GroundNode) → Is nodes t node → Is (nodes ++ more) t node
+pub is_more : (nodes more : List GroundNode) (t : ℕ) (node : GroundNode) → IsNodeAt nodes t node → IsNodeAt (nodes ++ more) t node
 is_more nodes more t node is = get_more nodes more t (slice_get_within nodes t node is) ∙ is
 
 pub leads_more : (nodes more : List GroundNode) → PartsStandBefore nodes → (t u : ℕ) → t < length nodes → LeadsTo (nodes ++ more) t u → LeadsTo nodes t u × (u < length nodes)
@@ -47,7 +47,7 @@ bounded_more nodes more cells before t below h = λ u leads.
     )
 
 -- a node stays within bounds where it does itself and its parts do
-pub bounded_node : (nodes : List GroundNode) (cells : List Cell) → PartsStandBefore nodes → (t : ℕ) (node : GroundNode) → Is nodes t node → IsWithinReach (node_reach cells (term_reach nodes cells) node) → All IsWithinNumbers (coefficients_of node) → ((p : ℕ) → Contains (parts_of node) p → IsBoundedBelow nodes cells p) → IsBoundedBelow nodes cells t
+pub bounded_node : (nodes : List GroundNode) (cells : List Cell) → PartsStandBefore nodes → (t : ℕ) (node : GroundNode) → IsNodeAt nodes t node → IsWithinReach (node_reach cells (term_reach nodes cells) node) → All IsWithinNumbers (coefficients_of node) → ((p : ℕ) → Contains (parts_of node) p → IsBoundedBelow nodes cells p) → IsBoundedBelow nodes cells t
 bounded_node nodes cells before t node is reach weights parts = λ u leads. by u leads
   where
     by : (u : ℕ) → LeadsTo nodes t u → IsWithinReach (term_reach nodes cells u) × All IsWithinNumbers (coefficients_of (slice_index_or nodes u undefined))
@@ -60,7 +60,7 @@ bounded_node nodes cells before t node is reach weights parts = λ u leads. by u
         parts part (subst (λ n. Contains (parts_of n) part) same found) u rest
 
 -- and then its parts do
-pub bounded_part : (nodes : List GroundNode) (cells : List Cell) (t : ℕ) (node : GroundNode) → Is nodes t node → IsBoundedBelow nodes cells t → (p : ℕ) → Contains (parts_of node) p → IsBoundedBelow nodes cells p
+pub bounded_part : (nodes : List GroundNode) (cells : List Cell) (t : ℕ) (node : GroundNode) → IsNodeAt nodes t node → IsBoundedBelow nodes cells t → (p : ℕ) → Contains (parts_of node) p → IsBoundedBelow nodes cells p
 bounded_part nodes cells t node is h p found = λ u leads. h u (by_part t p u node is found leads)
 
 safe_reach : (cells : List Cell) (r : ℕ → Interval) (node : GroundNode) → node_reach cells r (made_safe node) ≡ node_reach cells r node
@@ -94,8 +94,8 @@ safe_reach cells r (at_least ts cs ns) = refl
 safe_reach cells r (at_most ts cs ns) = refl
 safe_reach cells r (table ts rows) = refl
 
-truth_with : (f : ℕ → ℕ) (node : GroundNode) → kind_of node ≡ Kind.Truth → kind_of (with_parts f (made_safe node)) ≡ Kind.Truth
-unfolding kind_of made_safe with_parts
+truth_with : (f : ℕ → ℕ) (node : GroundNode) → image_kind node ≡ Kind.Truth → image_kind (with_parts f (made_safe node)) ≡ Kind.Truth
+unfolding image_kind made_safe with_parts
 truth_with f (constant n) e = absurd (cc)
 truth_with f undefined e = absurd (cc)
 truth_with f (cell k) e = absurd (cc)
@@ -125,8 +125,8 @@ truth_with f (at_least ts cs ns) e = refl
 truth_with f (at_most ts cs ns) e = refl
 truth_with f (table ts rows) e = refl
 
-pub truth_reach : (cells : List Cell) (r : ℕ → Interval) (node : GroundNode) → kind_of node ≡ Kind.Truth → node_reach cells r node ≡ truth_interval
-unfolding kind_of node_reach
+pub truth_reach : (cells : List Cell) (r : ℕ → Interval) (node : GroundNode) → image_kind node ≡ Kind.Truth → node_reach cells r node ≡ truth_interval
+unfolding image_kind node_reach
 truth_reach cells r (constant n) e = absurd (cc)
 truth_reach cells r undefined e = absurd (cc)
 truth_reach cells r (cell k) e = absurd (cc)
@@ -156,8 +156,8 @@ truth_reach cells r (at_least ts cs ns) e = refl
 truth_reach cells r (at_most ts cs ns) e = refl
 truth_reach cells r (table ts rows) e = refl
 
-pub truth_weights : (node : GroundNode) → kind_of node ≡ Kind.Truth → coefficients_of node ≡ []
-unfolding kind_of coefficients_of
+pub truth_weights : (node : GroundNode) → image_kind node ≡ Kind.Truth → coefficients_of node ≡ []
+unfolding image_kind coefficients_of
 truth_weights (constant n) e = absurd (cc)
 truth_weights undefined e = absurd (cc)
 truth_weights (cell k) e = absurd (cc)
@@ -230,8 +230,8 @@ conjunction_reach nodes cells before [] plain t e is = ap (term_reach nodes cell
 conjunction_reach nodes cells before (g ∷ []) plain t e is = reach_is nodes cells before t (all_of (g ∷ plain ∷ [])) is
 conjunction_reach nodes cells before (g ∷ k ∷ gs) plain t e is = reach_is nodes cells before t (all_of (g ∷ k ∷ (gs ++ plain ∷ []))) is
 
-nothing_reach : (cells : List Cell) (q r : ℕ → Interval) (node : GroundNode) → kind_of node ≡ Kind.Nothing → node_reach cells q (constant (pos 0)) ≡ node_reach cells r node
-unfolding kind_of node_reach
+nothing_reach : (cells : List Cell) (q r : ℕ → Interval) (node : GroundNode) → image_kind node ≡ Kind.Nothing → node_reach cells q (constant (pos 0)) ≡ node_reach cells r node
+unfolding image_kind node_reach
 nothing_reach cells q r (constant n) e = absurd (cc)
 nothing_reach cells q r undefined e = refl
 nothing_reach cells q r (cell k) e = absurd (cc)
@@ -261,8 +261,8 @@ nothing_reach cells q r (at_least ts cs ns) e = absurd (cc)
 nothing_reach cells q r (at_most ts cs ns) e = absurd (cc)
 nothing_reach cells q r (table ts rows) e = absurd (cc)
 
-whole_reach : (news : List GroundNode) (cells : List Cell) (r : ℕ → Interval) (images : List Image) (node : GroundNode) (image : Image) → kind_of node ≡ Kind.Whole → ((p : ℕ) → Contains (parts_of node) p → term_reach news cells (total_at images p) ≡ r p) → IsWholeImage news images node image → term_reach news cells image.total ≡ node_reach cells r node
-unfolding kind_of node_reach parts_of IsWholeImage
+whole_reach : (news : List GroundNode) (cells : List Cell) (r : ℕ → Interval) (images : List Image) (node : GroundNode) (image : Image) → image_kind node ≡ Kind.Whole → ((p : ℕ) → Contains (parts_of node) p → term_reach news cells (total_at images p) ≡ r p) → IsWholeImage news images node image → term_reach news cells image.total ≡ node_reach cells r node
+unfolding image_kind node_reach parts_of IsWholeImage
 whole_reach news cells r images (constant n) image kind same is = absurd (cc)
 whole_reach news cells r images undefined image kind same is = absurd (cc)
 whole_reach news cells r images (cell k) image kind same is = absurd (cc)
@@ -293,12 +293,12 @@ whole_reach news cells r images (at_most ts cs ns) image kind same is = absurd (
 whole_reach news cells r images (table ts rows) image kind same is = absurd (cc)
 
 -- what stands for a node reaches as far as the node
-pub image_reach : (kind : Kind) (olds news : List GroundNode) (cells : List Cell) (nought : ℕ) (images : List Image) (node : GroundNode) (image : Image) → kind_of node ≡ kind → PartsStandBefore news → Is news nought (constant (pos 0))
+pub image_reach : (kind : Kind) (olds news : List GroundNode) (cells : List Cell) (nought : ℕ) (images : List Image) (node : GroundNode) (image : Image) → image_kind node ≡ kind → PartsStandBefore news → IsNodeAt news nought (constant (pos 0))
     → ((p : ℕ) → Contains (parts_of node) p → term_reach news cells (total_at images p) ≡ term_reach olds cells p) → IsImageBy kind news nought images node image → term_reach news cells image.total ≡ node_reach cells (term_reach olds cells) node
 unfolding IsImageBy
 image_reach Kind.Nothing olds news cells nought images node image kind before zero_is same is = nothing node kind
   where
-    nothing : (other : GroundNode) → kind_of other ≡ Kind.Nothing → term_reach news cells image.total ≡ node_reach cells (term_reach olds cells) other
+    nothing : (other : GroundNode) → image_kind other ≡ Kind.Nothing → term_reach news cells image.total ≡ node_reach cells (term_reach olds cells) other
     nothing other e = ap (term_reach news cells) is.total ∙ reach_is news cells before nought (constant (pos 0)) zero_is ∙ nothing_reach cells (term_reach news cells) (term_reach olds cells) other e
 image_reach Kind.Number olds news cells nought images node image kind before zero_is same is =
     reach_is news cells before image.total (over_totals images node) is.total ∙ totals_reach cells (term_reach olds cells) (term_reach news cells) images node same

@@ -7,12 +7,12 @@ use Rattle.ep_base.specs.Reads.{IsWithinNumbers}
 use Rattle.ep_base.specs.declared.operators.Sense.{Sense}
 use Rattle.ep_defined.specs.Growing.{IsSafeOver}
 use Rattle.ep_defined.specs.Images.{image_at, total_at}
-use Rattle.ep_defined.specs.Translations.{IsBoundedBelow, IsRemoved, Stands, Translated, Translates, clause_terms, objective_guards, objective_total}
+use Rattle.ep_defined.specs.Translations.{IsBoundedBelow, IsRemoved, StandsForTerm, Translated, Translates, clause_terms, objective_guards, objective_total}
 use Rattle.ep_defined.specs.declared.images.Image.{Image}
 use Rattle.ep_defined.proofs.Listing.{All-left, All-right}
 use Rattle.ep_defined.proofs.Removing.{IsOneUnder, all_joined, all_parts, clause_holds, clause_says, objective_holds, objective_same, objective_says}
 use Rattle.ep_ground.specs.Bounds.{IsBounded}
-use Rattle.ep_ground.specs.Grounds.{AreCellValues, GroundState, HasNoPartialNode, HasObjective, IsReached, IsWellFormed, KeepsSolutions, StandsOver, ground_objective, named_terms}
+use Rattle.ep_ground.specs.Grounds.{AreCellValues, GroundState, HasNoPartialNode, HasObjective, IsTermReached, IsWellFormed, KeepsSolutions, StandsOver, ground_objective, named_terms}
 use Rattle.ep_ground.specs.Nodes.{is_partial}
 use Rattle.ep_ground.specs.Terms.{term_value}
 use Rattle.ep_ground.specs.declared.cells.Cell.{Cell}
@@ -49,22 +49,22 @@ new_named P images clauses o each =
     totals (Some goal) h = All-cons P (total_at images goal.1) [] (h goal.1 (0, omega arith, refl)).0 (All-nil P)
 
 -- objectives
-objective_back : (v w : ℕ → Option ℤ) (images : List Image) (o : Option (Sense × ℕ)) → ((t : ℕ) → Contains (option_to_list (option_map (λ goal. goal.1) o)) t → Stands w (v t) (image_at images t)) → All (IsOneUnder w) (objective_guards images o) → MatchOption o (Unit {0}) (λ goal. IsSome (v goal.1))
+objective_back : (v w : ℕ → Option ℤ) (images : List Image) (o : Option (Sense × ℕ)) → ((t : ℕ) → Contains (option_to_list (option_map (λ goal. goal.1) o)) t → StandsForTerm w (v t) (image_at images t)) → All (IsOneUnder w) (objective_guards images o) → MatchOption o (Unit {0}) (λ goal. IsSome (v goal.1))
 objective_back v w images None each all = tt
 objective_back v w images (Some goal) each all = objective_says w (v goal.1) (image_at images goal.1) (each goal.1 (0, omega arith, refl)) all
 
-objective_on : (v w : ℕ → Option ℤ) (images : List Image) (o : Option (Sense × ℕ)) → ((t : ℕ) → Contains (option_to_list (option_map (λ goal. goal.1) o)) t → Stands w (v t) (image_at images t)) → MatchOption o (Unit {0}) (λ goal. IsSome (v goal.1)) → All (IsOneUnder w) (objective_guards images o)
+objective_on : (v w : ℕ → Option ℤ) (images : List Image) (o : Option (Sense × ℕ)) → ((t : ℕ) → Contains (option_to_list (option_map (λ goal. goal.1) o)) t → StandsForTerm w (v t) (image_at images t)) → MatchOption o (Unit {0}) (λ goal. IsSome (v goal.1)) → All (IsOneUnder w) (objective_guards images o)
 objective_on v w images None each h = All-nil (IsOneUnder w)
 objective_on v w images (Some goal) each h = objective_holds w (v goal.1) (image_at images goal.1) (each goal.1 (0, omega arith, refl)) h
 
-total_there : (w : ℕ → Option ℤ) (old : Option ℤ) (image : Image) → Stands w old image → IsSome (w image.total)
+total_there : (w : ℕ → Option ℤ) (old : Option ℤ) (image : Image) → StandsForTerm w old image → IsSome (w image.total)
 total_there w old image s = subst IsSome (sym s.total) refl
 
-objective_there : (v w : ℕ → Option ℤ) (images : List Image) (o : Option (Sense × ℕ)) → ((t : ℕ) → Contains (option_to_list (option_map (λ goal. goal.1) o)) t → Stands w (v t) (image_at images t)) → MatchOption (objective_total images o) (Unit {0}) (λ goal. IsSome (w goal.1))
+objective_there : (v w : ℕ → Option ℤ) (images : List Image) (o : Option (Sense × ℕ)) → ((t : ℕ) → Contains (option_to_list (option_map (λ goal. goal.1) o)) t → StandsForTerm w (v t) (image_at images t)) → MatchOption (objective_total images o) (Unit {0}) (λ goal. IsSome (w goal.1))
 objective_there v w images None each = tt
 objective_there v w images (Some goal) each = total_there w (v goal.1) (image_at images goal.1) (each goal.1 (0, omega arith, refl))
 
-objective_is : (v w : ℕ → Option ℤ) (images : List Image) (o : Option (Sense × ℕ)) → ((t : ℕ) → Contains (option_to_list (option_map (λ goal. goal.1) o)) t → Stands w (v t) (image_at images t)) → MatchOption o (Unit {0}) (λ goal. IsSome (v goal.1)) → option_and_then (λ goal. w goal.1) (objective_total images o) ≡ option_and_then (λ goal. v goal.1) o
+objective_is : (v w : ℕ → Option ℤ) (images : List Image) (o : Option (Sense × ℕ)) → ((t : ℕ) → Contains (option_to_list (option_map (λ goal. goal.1) o)) t → StandsForTerm w (v t) (image_at images t)) → MatchOption o (Unit {0}) (λ goal. IsSome (v goal.1)) → option_and_then (λ goal. w goal.1) (objective_total images o) ≡ option_and_then (λ goal. v goal.1) o
 objective_is v w images None each h = refl
 objective_is v w images (Some goal) each h = objective_same w (v goal.1) (image_at images goal.1) (each goal.1 (0, omega arith, refl)) h
 
@@ -132,7 +132,7 @@ keeps g new images h = record {
     w : List ℤ → ℕ → Option ℤ
     w values = term_value new.nodes values
 
-    stands : (values : List ℤ) → AreCellValues g.cells values → (t : ℕ) → Contains (named_terms g) t → Stands (term_value new.nodes values) (term_value g.nodes values t) (image_at images t)
+    stands : (values : List ℤ) → AreCellValues g.cells values → (t : ℕ) → Contains (named_terms g) t → StandsForTerm (term_value new.nodes values) (term_value g.nodes values t) (image_at images t)
     stands values cells t found = (each_named g new images h t found).stands values (zip_length (λ (one : Cell) (value : ℤ). Contains one.values value) g.cells values cells)
 
 pub well_formed_after : (g new : GroundState) (images : List Image) → IsAllTranslated g new images → IsWellFormed new
@@ -151,7 +151,7 @@ pub bounded_after : (g new : GroundState) (images : List Image) → IsAllTransla
 unfolding named_terms
 bounded_after g new images h bounded =
     let below = λ (t : ℕ) (found : Contains (named_terms g) t). (each_named g new images h t found).bounded
-    (λ u leads. let reached : IsReached g u = record { from = t; named = found; leads = leads } in (bounded.reaches u reached, bounded.coefficients u reached)) in
+    (λ u leads. let reached : IsTermReached g u = record { from = t; named = found; leads = leads } in (bounded.reaches u reached, bounded.coefficients u reached)) in
     let named = subst (λ cs. All (IsBoundedBelow new.nodes new.cells) (cs ++ option_to_list (option_map (λ goal. goal.1) new.objective))) (sym h.removed.clauses)
     (subst (λ o. All (IsBoundedBelow new.nodes new.cells) ((flat_map (λ t. clause_terms (image_at images t)) g.clauses ++ objective_guards images g.objective) ++ option_to_list (option_map (λ goal. goal.1) o))) (sym h.removed.objective)
     (subst (λ cs. All (IsBoundedBelow new.nodes cs) ((flat_map (λ t. clause_terms (image_at images t)) g.clauses ++ objective_guards images g.objective) ++ option_to_list (option_map (λ goal. goal.1) (objective_total images g.objective)))) (sym h.removed.cells)

@@ -6,7 +6,7 @@ use Rattle.std.proofs.lemmas.List.Elements.{All-append, All-cons, All-head, All-
 use Rattle.std.proofs.lemmas.Option.{none-some, same_Some}
 use Rattle.ep_base.specs.Numbers.{of_bool}
 use Rattle.ep_defined.specs.Images.{image_at}
-use Rattle.ep_defined.specs.Translations.{IsTruth, Stands, clause_terms, only_if}
+use Rattle.ep_defined.specs.Translations.{IsTruth, StandsForTerm, clause_terms, only_if}
 use Rattle.ep_defined.specs.declared.images.Image.{Image}
 use Rattle.ep_defined.proofs.Listing.{All-left, All-right}
 
@@ -34,14 +34,14 @@ one_inside true n e = (refl, same_Some n (pos 1) e)
 one_inside false n e = absurd (none-some (pos 1) e)
 
 -- where its terms are 1 the old term is
-pub clause_says : (w : ℕ → Option ℤ) (old : Option ℤ) (image : Image) → Stands w old image → All (IsOneUnder w) (clause_terms image) → old ≡ Some (pos 1)
+pub clause_says : (w : ℕ → Option ℤ) (old : Option ℤ) (image : Image) → StandsForTerm w old image → All (IsOneUnder w) (clause_terms image) → old ≡ Some (pos 1)
 clause_says w old image s all =
     let has = guard_true w image.guard s.has s.guard (All-tail (IsOneUnder w) image.total (option_to_list image.guard) all) in
     let number = same_Some s.number (pos 1) (sym s.total ∙ All-head (IsOneUnder w) image.total (option_to_list image.guard) all) in
     s.is ∙ (λ i. only_if (has i) (number i))
 
 -- and where that is 1 they are
-pub clause_holds : (w : ℕ → Option ℤ) (old : Option ℤ) (image : Image) → Stands w old image → old ≡ Some (pos 1) → All (IsOneUnder w) (clause_terms image)
+pub clause_holds : (w : ℕ → Option ℤ) (old : Option ℤ) (image : Image) → StandsForTerm w old image → old ≡ Some (pos 1) → All (IsOneUnder w) (clause_terms image)
 clause_holds w old image s one =
     let inside = one_inside s.has s.number (sym s.is ∙ one) in
     All-cons (IsOneUnder w) image.total (option_to_list image.guard) (s.total ∙ ap (λ n. Some n) inside.1) (true_guard w image.guard s.has s.guard inside.0)
@@ -55,14 +55,14 @@ true_there true n h = refl
 true_there false n h = absurd (cc)
 
 -- an objective has a number where its guard is 1
-pub objective_says : (w : ℕ → Option ℤ) (old : Option ℤ) (image : Image) → Stands w old image → All (IsOneUnder w) (option_to_list image.guard) → IsSome old
+pub objective_says : (w : ℕ → Option ℤ) (old : Option ℤ) (image : Image) → StandsForTerm w old image → All (IsOneUnder w) (option_to_list image.guard) → IsSome old
 objective_says w old image s all = subst IsSome (sym s.is) (some_there s.has s.number (guard_true w image.guard s.has s.guard all))
 
-pub objective_holds : (w : ℕ → Option ℤ) (old : Option ℤ) (image : Image) → Stands w old image → IsSome old → All (IsOneUnder w) (option_to_list image.guard)
+pub objective_holds : (w : ℕ → Option ℤ) (old : Option ℤ) (image : Image) → StandsForTerm w old image → IsSome old → All (IsOneUnder w) (option_to_list image.guard)
 objective_holds w old image s h = true_guard w image.guard s.has s.guard (true_there s.has s.number (subst IsSome s.is h))
 
 -- and then it is the old one
-pub objective_same : (w : ℕ → Option ℤ) (old : Option ℤ) (image : Image) → Stands w old image → IsSome old → w image.total ≡ old
+pub objective_same : (w : ℕ → Option ℤ) (old : Option ℤ) (image : Image) → StandsForTerm w old image → IsSome old → w image.total ≡ old
 objective_same w old image s h = s.total ∙ sym (s.is ∙ ap (λ b. only_if b s.number) (true_there s.has s.number (subst IsSome s.is h)))
 
 -- what holds of all lists that are joined holds of each

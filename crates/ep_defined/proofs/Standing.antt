@@ -7,13 +7,13 @@ use Rattle.std.proofs.lemmas.Bool.{false≢true}
 use Rattle.std.proofs.lemmas.List.Elements.{Contains-append_right}
 use Rattle.ep_base.specs.Numbers.{all_one, is_one, of_bool}
 use Rattle.ep_base.specs.Reads.{all_there}
-use Rattle.ep_defined.specs.Growing.{Is}
+use Rattle.ep_defined.specs.Growing.{IsNodeAt}
 use Rattle.ep_defined.specs.Images.{IsConjunction, guards_in, image_at, total_at}
-use Rattle.ep_defined.specs.Translations.{IsTruth, Stands, only_if}
+use Rattle.ep_defined.specs.Translations.{IsTruth, StandsForTerm, only_if}
 use Rattle.ep_defined.specs.declared.images.Image.{Image}
 use Rattle.ep_defined.proofs.Parts.{none_there, of_cons}
 use Rattle.ep_ground.specs.Nodes.{GroundNode, all_of}
-use Rattle.ep_ground.specs.Terms.{node_value, truth, values_of}
+use Rattle.ep_ground.specs.Terms.{node_value, truth, term_values_of}
 
 -- whether all of some are true
 abbrev pub all_true : List Bool → Bool
@@ -36,8 +36,8 @@ truths-push w [] (c ∷ bs) g b h e = absurd h
 truths-push w (x ∷ gs) [] g b h e = absurd h
 truths-push w (x ∷ gs) (c ∷ bs) g b h e = (h.0, truths-push w gs bs g b h.1 e)
 
-truths_values : (w : ℕ → Option ℤ) (gs : List ℕ) (bs : List Bool) → Truths w gs bs → values_of w gs ≡ Some (map of_bool bs)
-unfolding values_of all_there
+truths_values : (w : ℕ → Option ℤ) (gs : List ℕ) (bs : List Bool) → Truths w gs bs → term_values_of w gs ≡ Some (map of_bool bs)
+unfolding term_values_of all_there
 truths_values w [] [] h = refl
 truths_values w [] (c ∷ bs) h = absurd h
 truths_values w (x ∷ gs) [] h = absurd h
@@ -55,7 +55,7 @@ all_one_true (b ∷ bs) = λ i. one_of_bool b i && all_one_true bs i
 
 -- each node's value is that of its term
 abbrev pub Follows : List GroundNode → List ℤ → (ℕ → Option ℤ) → Type 0
-Follows nodes values w = (t : ℕ) (node : GroundNode) → Is nodes t node → w t ≡ node_value values w node
+Follows nodes values w = (t : ℕ) (node : GroundNode) → IsNodeAt nodes t node → w t ≡ node_value values w node
 
 pub conjoined : (nodes : List GroundNode) (values : List ℤ) (w : ℕ → Option ℤ) → Follows nodes values w → (gs : List ℕ) (bs : List Bool) (r : Option ℕ) → Truths w gs bs → IsConjunction nodes gs r → IsTruth w r (all_true bs)
 unfolding IsConjunction node_value truth
@@ -89,10 +89,10 @@ longer : (w : ℕ → Option ℤ) (o : Option ℕ) (b : Bool) (gs : List ℕ) (b
 longer w None b gs bs e h = record { cs = bs; truths = h; is = ap (λ c. c && all_true bs) (sym e) }
 longer w (Some g) b gs bs e h = record { cs = b ∷ bs; truths = (e, h); is = refl }
 
-there_is : (old : Option ℤ) (w : ℕ → Option ℤ) (image : Image) (h : Stands w old image) → h.has ≡ true → old ≡ w image.total
+there_is : (old : Option ℤ) (w : ℕ → Option ℤ) (image : Image) (h : StandsForTerm w old image) → h.has ≡ true → old ≡ w image.total
 there_is old w image h e = h.is ∙ ap (λ b. only_if b h.number) e ∙ sym h.total
 
-pub gathered : (v w : ℕ → Option ℤ) (images : List Image) (ts : List ℕ) → ((p : ℕ) → Contains ts p → Stands w (v p) (image_at images p)) → Gathered v w images ts
+pub gathered : (v w : ℕ → Option ℤ) (images : List Image) (ts : List ℕ) → ((p : ℕ) → Contains ts p → StandsForTerm w (v p) (image_at images p)) → Gathered v w images ts
 gathered v w images [] each = record { bs = []; truths = tt; all = λ _ p found. none_there p found; some = λ e. absurd (false≢true (sym e)) }
 gathered v w images (t ∷ ts) each =
     let h = each t (0, omega arith, refl) in

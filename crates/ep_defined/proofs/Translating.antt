@@ -7,9 +7,9 @@ use Rattle.std.proofs.lemmas.List.Elements.{All-contains, All-nil, All-append, A
 use Rattle.std.proofs.lemmas.Option.{slice_get_within, get_or_from_slice_get}
 use Rattle.ep_base.specs.Reads.{IsWithinNumbers}
 use Rattle.ep_base.specs.declared.operators.CompareOp.{CompareOp}
-use Rattle.ep_defined.specs.Growing.{Grows, Is, IsSafeOver}
-use Rattle.ep_defined.specs.Images.{IsConjunction, IsDivisorTest, IsKeyTest, IsImage, IsImageBy, IsTestedImage, IsWholeImage, StandsIn, guards_in, image_at, kind_of, made_safe, over_totals, nowhere, total_at}
-use Rattle.ep_defined.specs.Translations.{IsBoundedBelow, IsTruth, Stands, Translated, Translates}
+use Rattle.ep_defined.specs.Growing.{Grows, IsNodeAt, IsSafeOver}
+use Rattle.ep_defined.specs.Images.{IsConjunction, IsDivisorTest, IsKeyTest, IsImage, IsImageBy, IsTestedImage, IsWholeImage, StandsIn, guards_in, image_at, image_kind, made_safe, over_totals, nowhere, total_at}
+use Rattle.ep_defined.specs.Translations.{IsBoundedBelow, IsTruth, StandsForTerm, Translated, Translates}
 use Rattle.ep_defined.specs.declared.images.Image.{Image}
 use Rattle.ep_defined.specs.declared.kinds.Kind.{Kind}
 use Rattle.ep_defined.proofs.KindSteps.{safe_parts, stands_by}
@@ -28,7 +28,7 @@ lt_or_eq t n h = grind arith
 
 -- What holds of a term where it holds of the parts of its node, for nodes that are F.
 abbrev Closed : List GroundNode → (GroundNode → Type 0) → (ℕ → Type 0) → Type 0
-Closed nodes F P = (t : ℕ) (node : GroundNode) → Is nodes t node → F node → ((p : ℕ) → Contains (parts_of node) p → P p) → P t
+Closed nodes F P = (t : ℕ) (node : GroundNode) → IsNodeAt nodes t node → F node → ((p : ℕ) → Contains (parts_of node) p → P p) → P t
 
 -- it holds of what stands for a term
 abbrev HoldsOf : (ℕ → Type 0) → Image → Type 0
@@ -65,7 +65,7 @@ from_map f (t ∷ ts) p found = elim (of_cons (f t) (map f ts) p found) as (λ _
 totals_hold : (P : ℕ → Type 0) (images : List Image) (ts : List ℕ) → ((p : ℕ) → Contains ts p → HoldsOf P (image_at images p)) → (q : ℕ) → Contains (map (total_at images) ts) q → P q
 totals_hold P images ts each q found = let from = from_map (total_at images) ts q found in subst P from.2 (each from.0 from.1).0
 
-node_holds : (nodes : List GroundNode) (F : GroundNode → Type 0) (P : ℕ → Type 0) → Closed nodes F P → (images : List Image) (node : GroundNode) → F (over_totals images node) → ((p : ℕ) → Contains (parts_of node) p → HoldsOf P (image_at images p)) → (t : ℕ) → Is nodes t (over_totals images node) → P t
+node_holds : (nodes : List GroundNode) (F : GroundNode → Type 0) (P : ℕ → Type 0) → Closed nodes F P → (images : List Image) (node : GroundNode) → F (over_totals images node) → ((p : ℕ) → Contains (parts_of node) p → HoldsOf P (image_at images p)) → (t : ℕ) → IsNodeAt nodes t (over_totals images node) → P t
 node_holds nodes F P closed images node fits each t is =
     closed t (over_totals images node) is fits
     (λ q found. totals_hold P images (parts_of node) each q
@@ -82,8 +82,8 @@ tested_holds nodes F P closed truths images node Test image fits each tests is =
 )
 
 -- GENERATED
-divisor_holds : (nodes : List GroundNode) (F : GroundNode → Type 0) (P : ℕ → Type 0) → Closed nodes F P → ((other : GroundNode) → kind_of other ≡ Kind.Truth → F other) → (images : List Image) (nought : ℕ) → P nought → (node : GroundNode) → ((p : ℕ) → Contains (parts_of node) p → HoldsOf P (image_at images p)) → (own : ℕ) → IsDivisorTest nodes nought images node own → P own
-unfolding IsDivisorTest parts_of kind_of
+divisor_holds : (nodes : List GroundNode) (F : GroundNode → Type 0) (P : ℕ → Type 0) → Closed nodes F P → ((other : GroundNode) → image_kind other ≡ Kind.Truth → F other) → (images : List Image) (nought : ℕ) → P nought → (node : GroundNode) → ((p : ℕ) → Contains (parts_of node) p → HoldsOf P (image_at images p)) → (own : ℕ) → IsDivisorTest nodes nought images node own → P own
+unfolding IsDivisorTest parts_of image_kind
 divisor_holds nodes F P closed truths images nought nil (constant n) each own is = absurd is
 divisor_holds nodes F P closed truths images nought nil undefined each own is = absurd is
 divisor_holds nodes F P closed truths images nought nil (cell k) each own is = absurd is
@@ -123,8 +123,8 @@ divisor_holds nodes F P closed truths images nought nil (at_least ts cs ns) each
 divisor_holds nodes F P closed truths images nought nil (at_most ts cs ns) each own is = absurd is
 divisor_holds nodes F P closed truths images nought nil (table ts rows) each own is = absurd is
 
-keys_hold : (nodes : List GroundNode) (F : GroundNode → Type 0) (P : ℕ → Type 0) → Closed nodes F P → ((other : GroundNode) → kind_of other ≡ Kind.Truth → F other) → (images : List Image) (node : GroundNode) → ((p : ℕ) → Contains (parts_of node) p → HoldsOf P (image_at images p)) → (own : ℕ) → IsKeyTest nodes images node own → P own
-unfolding IsKeyTest parts_of kind_of
+keys_hold : (nodes : List GroundNode) (F : GroundNode → Type 0) (P : ℕ → Type 0) → Closed nodes F P → ((other : GroundNode) → image_kind other ≡ Kind.Truth → F other) → (images : List Image) (node : GroundNode) → ((p : ℕ) → Contains (parts_of node) p → HoldsOf P (image_at images p)) → (own : ℕ) → IsKeyTest nodes images node own → P own
+unfolding IsKeyTest parts_of image_kind
 keys_hold nodes F P closed truths images (constant n) each own is = absurd is
 keys_hold nodes F P closed truths images undefined each own is = absurd is
 keys_hold nodes F P closed truths images (cell k) each own is = absurd is
@@ -156,8 +156,8 @@ keys_hold nodes F P closed truths images (at_least ts cs ns) each own is = absur
 keys_hold nodes F P closed truths images (at_most ts cs ns) each own is = absurd is
 keys_hold nodes F P closed truths images (table ts rows) each own is = absurd is
 
-whole_holds : (nodes : List GroundNode) (F : GroundNode → Type 0) (P : ℕ → Type 0) → Closed nodes F P → ((other : GroundNode) → kind_of other ≡ Kind.Truth → F other) → (images : List Image) (node : GroundNode) (image : Image) → ((p : ℕ) → Contains (parts_of node) p → HoldsOf P (image_at images p)) → IsWholeImage nodes images node image → HoldsOf P image
-unfolding IsWholeImage parts_of kind_of
+whole_holds : (nodes : List GroundNode) (F : GroundNode → Type 0) (P : ℕ → Type 0) → Closed nodes F P → ((other : GroundNode) → image_kind other ≡ Kind.Truth → F other) → (images : List Image) (node : GroundNode) (image : Image) → ((p : ℕ) → Contains (parts_of node) p → HoldsOf P (image_at images p)) → IsWholeImage nodes images node image → HoldsOf P image
+unfolding IsWholeImage parts_of image_kind
 whole_holds nodes F P closed truths images (constant n) image each is = absurd is
 whole_holds nodes F P closed truths images undefined image each is = absurd is
 whole_holds nodes F P closed truths images (cell k) image each is = absurd is
@@ -190,8 +190,8 @@ whole_holds nodes F P closed truths images (at_least ts cs ns) image each is = a
 whole_holds nodes F P closed truths images (at_most ts cs ns) image each is = absurd is
 whole_holds nodes F P closed truths images (table ts rows) image each is = absurd is
 
-image_holds : (kind : Kind) (nodes : List GroundNode) (F : GroundNode → Type 0) (P : ℕ → Type 0) → Closed nodes F P → ((other : GroundNode) → kind_of other ≡ Kind.Truth → F other) → (images : List Image) (nought : ℕ) → P nought → (node : GroundNode) (image : Image) → F (over_totals images node) → ((p : ℕ) → Contains (parts_of node) p → HoldsOf P (image_at images p)) → IsImageBy kind nodes nought images node image → HoldsOf P image
-unfolding IsImageBy kind_of
+image_holds : (kind : Kind) (nodes : List GroundNode) (F : GroundNode → Type 0) (P : ℕ → Type 0) → Closed nodes F P → ((other : GroundNode) → image_kind other ≡ Kind.Truth → F other) → (images : List Image) (nought : ℕ) → P nought → (node : GroundNode) (image : Image) → F (over_totals images node) → ((p : ℕ) → Contains (parts_of node) p → HoldsOf P (image_at images p)) → IsImageBy kind nodes nought images node image → HoldsOf P image
+unfolding IsImageBy image_kind
 image_holds Kind.Nothing nodes F P closed truths images nought nil node image fits each is = (subst P (sym is.total) nil, subst (λ o. IfSome o P) (sym is.guard) nil)
 image_holds Kind.Number nodes F P closed truths images nought nil node image fits each is = (
   node_holds nodes F P closed images node fits each image.total is.total,
@@ -215,9 +215,9 @@ image_holds Kind.Pick nodes F P closed truths images nought nil node image fits 
 image_holds Kind.Whole nodes F P closed truths images nought nil node image fits each is = whole_holds nodes F P closed truths images node image each is
 
 -- what stands for a node stands in the new nodes
-pub image_stands_in : (nodes : List GroundNode) (images : List Image) (nought : ℕ) (node : GroundNode) (image : Image) → Is nodes nought (constant (pos 0)) → ((p : ℕ) → Contains (parts_of node) p → StandsIn nodes (image_at images p)) → IsImage nodes nought images node image → StandsIn nodes image
+pub image_stands_in : (nodes : List GroundNode) (images : List Image) (nought : ℕ) (node : GroundNode) (image : Image) → IsNodeAt nodes nought (constant (pos 0)) → ((p : ℕ) → Contains (parts_of node) p → StandsIn nodes (image_at images p)) → IsImage nodes nought images node image → StandsIn nodes image
 image_stands_in nodes images nought node image zero_is each is =
-    let h = image_holds (kind_of node) nodes (λ other. Unit {0}) (λ t. t < length nodes) (λ t other there fits parts. slice_get_within nodes t other there) (λ other e. tt) images nought
+    let h = image_holds (image_kind node) nodes (λ other. Unit {0}) (λ t. t < length nodes) (λ t other there fits parts. slice_get_within nodes t other there) (λ other e. tt) images nought
     (slice_get_within nodes nought (constant (pos 0)) zero_is) node image tt (λ p found. let e = each p found in (e.total, e.guard)) is in
     record { total = h.0; guard = h.1 }
 
@@ -225,23 +225,23 @@ image_stands_in nodes images nought node image zero_is each is =
 abbrev Fits : List GroundNode → List Cell → GroundNode → Type 0
 Fits nodes cells node = IsWithinReach (node_reach cells (term_reach nodes cells) node) × All IsWithinNumbers (coefficients_of node)
 
-truth_fits : (nodes : List GroundNode) (cells : List Cell) (node : GroundNode) → kind_of node ≡ Kind.Truth → Fits nodes cells node
+truth_fits : (nodes : List GroundNode) (cells : List Cell) (node : GroundNode) → image_kind node ≡ Kind.Truth → Fits nodes cells node
 truth_fits nodes cells node kind = (
   subst IsWithinReach (sym (truth_reach cells (term_reach nodes cells) node kind)) (record { low = (search rules, search rules); high = (search rules, search rules) }),
   subst (All IsWithinNumbers) (sym (truth_weights node kind)) (All-nil IsWithinNumbers),
 )
 
-nought_bounded : (nodes : List GroundNode) (cells : List Cell) → PartsStandBefore nodes → (nought : ℕ) → Is nodes nought (constant (pos 0)) → IsBoundedBelow nodes cells nought
+nought_bounded : (nodes : List GroundNode) (cells : List Cell) → PartsStandBefore nodes → (nought : ℕ) → IsNodeAt nodes nought (constant (pos 0)) → IsBoundedBelow nodes cells nought
 unfolding node_reach coefficients_of parts_of
 nought_bounded nodes cells before nought is =
     bounded_node nodes cells before nought (constant (pos 0)) is (record { low = (search rules, search rules); high = (search rules, search rules) }) (All-nil IsWithinNumbers) (λ p found. none_there p found)
 
 -- what stands for a node stays within bounds where the node does
-pub image_bounded : (olds news : List GroundNode) (cells : List Cell) (images : List Image) (nought t : ℕ) (node : GroundNode) (image : Image) → PartsStandBefore olds → PartsStandBefore news → Is news nought (constant (pos 0)) → Is olds t node
+pub image_bounded : (olds news : List GroundNode) (cells : List Cell) (images : List Image) (nought t : ℕ) (node : GroundNode) (image : Image) → PartsStandBefore olds → PartsStandBefore news → IsNodeAt news nought (constant (pos 0)) → IsNodeAt olds t node
     → ((p : ℕ) → Contains (parts_of node) p → Translated cells olds news p (image_at images p)) → IsImage news nought images node image → IsBoundedBelow olds cells t → IsBoundedBelow news cells image.total × IfSome image.guard (IsBoundedBelow news cells)
 image_bounded olds news cells images nought t node image olds_before before zero_is at each is bounded =
     let here = bounded t (itself t) in
-    image_holds (kind_of node) news (Fits news cells) (IsBoundedBelow news cells)
+    image_holds (image_kind node) news (Fits news cells) (IsBoundedBelow news cells)
     (λ k other there fits parts. bounded_node news cells before k other there fits.0 fits.1 parts) (truth_fits news cells) images nought
     (nought_bounded news cells before nought zero_is) node image (
       subst IsWithinReach (reach_is olds cells olds_before t node at ∙ sym (totals_reach cells (term_reach olds cells) (term_reach news cells) images node (λ p found. (each p found).reach))) here.0,
@@ -250,21 +250,21 @@ image_bounded olds news cells images nought t node image olds_before before zero
     (λ p found. (each p found).bounded (bounded_part olds cells t node at bounded p found)) is
 
 -- what stands for a term of a node
-pub translated_node : (cells : List Cell) (olds news : List GroundNode) (images : List Image) (nought t : ℕ) (node : GroundNode) (image : Image) → PartsStandBefore olds → PartsStandBefore news → StandsOver (length cells) node → Is news nought (constant (pos 0)) → Is olds t node
+pub translated_node : (cells : List Cell) (olds news : List GroundNode) (images : List Image) (nought t : ℕ) (node : GroundNode) (image : Image) → PartsStandBefore olds → PartsStandBefore news → StandsOver (length cells) node → IsNodeAt news nought (constant (pos 0)) → IsNodeAt olds t node
     → ((p : ℕ) → Contains (parts_of node) p → Translated cells olds news p (image_at images p)) → IsImage news nought images node image → Translated cells olds news t image
 unfolding node_value
 translated_node cells olds news images nought t node image olds_before before stands zero_is at each is = record {
   there = image_stands_in news images nought node image zero_is (λ p found. (each p found).there) is;
   stands = λ values many.
-      subst (λ o. Stands (term_value news values) o image) (sym (value_is olds values olds_before t node at))
-      (stands_by (kind_of node) news values (term_value olds values) (term_value news values) images nought node image refl
+      subst (λ o. StandsForTerm (term_value news values) o image) (sym (value_is olds values olds_before t node at))
+      (stands_by (image_kind node) news values (term_value olds values) (term_value news values) images nought node image refl
       (value_is news values before nought (constant (pos 0)) zero_is)
       (record {
         follows = value_is news values before;
         each = λ p found. (each p found).stands values many;
         stands = subst (λ n. StandsOver n node) (sym many) stands;
       }) is);
-  reach = image_reach (kind_of node) olds news cells nought images node image refl before zero_is (λ p found. (each p found).reach) is ∙ sym (reach_is olds cells olds_before t node at);
+  reach = image_reach (image_kind node) olds news cells nought images node image refl before zero_is (λ p found. (each p found).reach) is ∙ sym (reach_is olds cells olds_before t node at);
   bounded = image_bounded olds news cells images nought t node image olds_before before zero_is at each is;
 }
 
@@ -297,10 +297,10 @@ translated_more cells olds nodes more t image before h = record {
 
 -- one node more
 pub translates_more : (cells : List Cell) (olds news later : List GroundNode) (nought : ℕ) (images : List Image) (node : GroundNode) (image : Image) → PartsStandBefore olds → All (StandsOver (length cells)) olds → Translates cells olds news nought images
-    → Is olds (length images) node → Grows node 3 news later → IsImage later nought images node image → Translates cells olds later nought (images ++ image ∷ [])
+    → IsNodeAt olds (length images) node → Grows node 3 news later → IsImage later nought images node image → Translates cells olds later nought (images ++ image ∷ [])
 translates_more cells olds news later nought images node image olds_before stands h at grows is =
     let before = grows.before h.before in
-    let zero_is = subst (λ ns. Is ns nought (constant (pos 0))) (sym grows.is) (is_more news grows.more nought (constant (pos 0)) h.is_nought) in
+    let zero_is = subst (λ ns. IsNodeAt ns nought (constant (pos 0))) (sym grows.is) (is_more news grows.more nought (constant (pos 0)) h.is_nought) in
     let each = λ (t : ℕ) (below : t < length images). subst (λ ns. Translated cells olds ns t (image_at images t)) (sym grows.is) (translated_more cells olds news grows.more t (image_at images t) h.before (h.each t below)) in
     let over : StandsOver (length cells) node = subst (StandsOver (length cells)) (get_or_from_slice_get olds (length images) node undefined at) (All-get_or (StandsOver (length cells)) olds (length images) undefined (slice_get_within olds (length images) node at) stands) in
     let last = translated_node cells olds later images nought (length images) node image olds_before before over zero_is at

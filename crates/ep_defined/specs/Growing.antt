@@ -6,8 +6,8 @@ use Rattle.ep_ground.specs.Nodes.{GroundNode, is_partial}
 use Rattle.ep_ground.specs.Terms.{PartsStandBefore}
 
 -- the term has this node
-abbrev pub Is : List GroundNode → ℕ → GroundNode → Type 0
-Is nodes t node = slice_get nodes t ≡ Some node
+abbrev pub IsNodeAt : List GroundNode → ℕ → GroundNode → Type 0
+IsNodeAt nodes t node = slice_get nodes t ≡ Some node
 
 -- a node that has a value wherever its parts have one, over so many cells
 pub record IsSafeOver (cells : ℕ) (node : GroundNode) : Type 0 where

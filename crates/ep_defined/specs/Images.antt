@@ -2,32 +2,32 @@
 use Rattle.std.specs.Prelude.{◌≡◌, ℕ, ◌<◌, List, [], ◌∷◌, ◌++◌, ◌==◌, length, map, take, filter, Option, Some, None, IfSome, option_to_list, slice_index_or}
 use Rattle.std.specs.List.{flat_map}
 use Rattle.ep_base.specs.declared.operators.CompareOp.{CompareOp}
-use Rattle.ep_defined.specs.Growing.{Is}
+use Rattle.ep_defined.specs.Growing.{IsNodeAt}
 use Rattle.ep_defined.specs.declared.images.Image.{Image}
 use Rattle.ep_defined.specs.declared.kinds.Kind.{Kind}
 use Rattle.ep_ground.specs.Nodes.{GroundNode, undefined, quotient, remainder, pick, whole, safe_quotient, safe_remainder, safe_pick, compare, lex, member, negation, all_of, any_of, same_truth, all_different, counts, at_least, at_most, table, parts_of}
 use Rattle.ep_ground.specs.SameTrees.{with_parts}
 
 -- the kind of a node
-unfoldable pub kind_of : GroundNode → Kind
-kind_of undefined = Kind.Nothing
-kind_of (quotient a b) = Kind.Division
-kind_of (remainder a b) = Kind.Division
-kind_of (pick ts keys indices) = Kind.Pick
-kind_of (whole a ts) = Kind.Whole
-kind_of (compare op a b) = Kind.Truth
-kind_of (lex op ts us) = Kind.Truth
-kind_of (member a ns) = Kind.Truth
-kind_of (negation a) = Kind.Truth
-kind_of (all_of ts) = Kind.Truth
-kind_of (any_of ts) = Kind.Truth
-kind_of (same_truth a b) = Kind.Truth
-kind_of (all_different ts) = Kind.Truth
-kind_of (counts ts ns us) = Kind.Truth
-kind_of (at_least ts cs ns) = Kind.Truth
-kind_of (at_most ts cs ns) = Kind.Truth
-kind_of (table ts rows) = Kind.Truth
-kind_of _ = Kind.Number
+unfoldable pub image_kind : GroundNode → Kind
+image_kind undefined = Kind.Nothing
+image_kind (quotient a b) = Kind.Division
+image_kind (remainder a b) = Kind.Division
+image_kind (pick ts keys indices) = Kind.Pick
+image_kind (whole a ts) = Kind.Whole
+image_kind (compare op a b) = Kind.Truth
+image_kind (lex op ts us) = Kind.Truth
+image_kind (member a ns) = Kind.Truth
+image_kind (negation a) = Kind.Truth
+image_kind (all_of ts) = Kind.Truth
+image_kind (any_of ts) = Kind.Truth
+image_kind (same_truth a b) = Kind.Truth
+image_kind (all_different ts) = Kind.Truth
+image_kind (counts ts ns us) = Kind.Truth
+image_kind (at_least ts cs ns) = Kind.Truth
+image_kind (at_most ts cs ns) = Kind.Truth
+image_kind (table ts rows) = Kind.Truth
+image_kind _ = Kind.Number
 
 -- the node that has a value wherever its parts have one: the safe form of a quotient, a remainder or a pick
 unfoldable pub made_safe : GroundNode → GroundNode
@@ -65,19 +65,19 @@ pub record StandsIn (nodes : List GroundNode) (image : Image) : Type 0 where
 unfoldable pub IsConjunction : List GroundNode → List ℕ → Option ℕ → Type 0
 IsConjunction nodes [] None = Unit {0}
 IsConjunction nodes (g ∷ []) (Some t) = t ≡ g
-IsConjunction nodes (g ∷ h ∷ gs) (Some t) = Is nodes t (all_of (g ∷ h ∷ gs))
+IsConjunction nodes (g ∷ h ∷ gs) (Some t) = IsNodeAt nodes t (all_of (g ∷ h ∷ gs))
 IsConjunction nodes _ _ = ⊥
 
 -- a term that is 1 exactly where the divisor of a node isn't 0
 unfoldable pub IsDivisorTest : List GroundNode → ℕ → List Image → GroundNode → ℕ → Type 0
-IsDivisorTest nodes nought images (quotient a b) own = Is nodes own (compare CompareOp.NotEqual (total_at images b) nought)
-IsDivisorTest nodes nought images (remainder a b) own = Is nodes own (compare CompareOp.NotEqual (total_at images b) nought)
+IsDivisorTest nodes nought images (quotient a b) own = IsNodeAt nodes own (compare CompareOp.NotEqual (total_at images b) nought)
+IsDivisorTest nodes nought images (remainder a b) own = IsNodeAt nodes own (compare CompareOp.NotEqual (total_at images b) nought)
 IsDivisorTest nodes nought images _ own = ⊥
 
 -- a term that is 1 exactly where some indices are one of the keys
 unfoldable pub IsKeyTest : List GroundNode → List Image → GroundNode → ℕ → Type 0
 IsKeyTest nodes images (pick ts keys indices) own =
-    Is nodes own (table (map (total_at images) indices) (filter (λ key. length key == length indices) (take (length ts) keys)))
+    IsNodeAt nodes own (table (map (total_at images) indices) (filter (λ key. length key == length indices) (take (length ts) keys)))
 IsKeyTest nodes images _ own = ⊥
 
 -- what stands for a node without a value of its own
@@ -87,13 +87,13 @@ pub record IsNothingImage (nought : ℕ) (image : Image) : Type 0 where
 
 -- what stands for a number that is there wherever its parts are
 pub record IsNumberImage (nodes : List GroundNode) (images : List Image) (node : GroundNode) (image : Image) : Type 0 where
-  pub total : Is nodes image.total (over_totals images node)
+  pub total : IsNodeAt nodes image.total (over_totals images node)
   pub guard : IsConjunction nodes (guards_in images (parts_of node)) image.guard
 
 -- what stands for a truth value, which is always there
 pub record IsTruthImage (nodes : List GroundNode) (images : List Image) (node : GroundNode) (image : Image) : Type 0 where
   pub plain : ℕ
-  pub is : Is nodes plain (over_totals images node)
+  pub is : IsNodeAt nodes plain (over_totals images node)
   pub total : IsConjunction nodes (guards_in images (parts_of node) ++ plain ∷ []) (Some image.total)
   pub guard : image.guard ≡ None
 
@@ -101,7 +101,7 @@ pub record IsTruthImage (nodes : List GroundNode) (images : List Image) (node : 
 pub record IsTestedImage (nodes : List GroundNode) (images : List Image) (node : GroundNode) (Test : ℕ → Type 0) (image : Image) : Type 0 where
   pub own : ℕ
   pub test : Test own
-  pub total : Is nodes image.total (over_totals images node)
+  pub total : IsNodeAt nodes image.total (over_totals images node)
   pub guard : IsConjunction nodes (own ∷ guards_in images (parts_of node)) image.guard
 
 -- what stands for the first term, where all others are there too
@@ -121,4 +121,4 @@ IsImageBy Kind.Whole nodes nought images node image = IsWholeImage nodes images 
 
 -- what stands for a node among these nodes, of which one is 0, over what stands for its parts
 abbrev pub IsImage : List GroundNode → ℕ → List Image → GroundNode → Image → Type 0
-IsImage nodes nought images node image = IsImageBy (kind_of node) nodes nought images node image
+IsImage nodes nought images node image = IsImageBy (image_kind node) nodes nought images node image

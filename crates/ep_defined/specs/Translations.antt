@@ -4,7 +4,7 @@ use Rattle.std.specs.List.{All, flat_map}
 use Rattle.ep_base.specs.declared.operators.Sense.{Sense}
 use Rattle.ep_base.specs.Numbers.{of_bool}
 use Rattle.ep_base.specs.Reads.{IsWithinNumbers}
-use Rattle.ep_defined.specs.Growing.{Is, IsSafeOver}
+use Rattle.ep_defined.specs.Growing.{IsNodeAt, IsSafeOver}
 use Rattle.ep_defined.specs.Images.{StandsIn, image_at, total_at}
 use Rattle.ep_defined.specs.declared.images.Image.{Image}
 use Rattle.ep_ground.specs.Bounds.{IsWithinReach, term_reach}
@@ -24,7 +24,7 @@ IsTruth value None holds = holds ≡ true
 IsTruth value (Some g) holds = value g ≡ Some (of_bool holds)
 
 -- The total term has a number, which is the old value where the guard is 1; where it is 0 there is no old value.
-pub record Stands (value : ℕ → Option ℤ) (old : Option ℤ) (image : Image) : Type 0 where
+pub record StandsForTerm (value : ℕ → Option ℤ) (old : Option ℤ) (image : Image) : Type 0 where
   pub number : ℤ
   pub has : Bool
   pub total : value image.total ≡ Some number
@@ -40,14 +40,14 @@ IsBoundedBelow nodes cells t =
 -- within bounds.
 pub record Translated (cells : List Cell) (olds news : List GroundNode) (t : ℕ) (image : Image) : Type 0 where
   pub there : StandsIn news image
-  pub stands : (values : List ℤ) → length values ≡ length cells → Stands (term_value news values) (term_value olds values t) image
+  pub stands : (values : List ℤ) → length values ≡ length cells → StandsForTerm (term_value news values) (term_value olds values t) image
   pub reach : term_reach news cells image.total ≡ term_reach olds cells t
   pub bounded : IsBoundedBelow olds cells t → IsBoundedBelow news cells image.total × IfSome image.guard (IsBoundedBelow news cells)
 
 -- What stands for the first terms of an old ground, among new nodes of which one is 0 and none is partial.
 pub record Translates (cells : List Cell) (olds news : List GroundNode) (nought : ℕ) (images : List Image) : Type 0 where
   pub before : PartsStandBefore news
-  pub is_nought : Is news nought (constant (pos 0))
+  pub is_nought : IsNodeAt news nought (constant (pos 0))
   pub each : (t : ℕ) → t < length images → Translated cells olds news t (image_at images t)
   pub safe : All (IsSafeOver (length cells)) news
   pub few : length news ≤ 3 * length images + 1

@@ -1,7 +1,7 @@
 //! The kinds of nodes, by where they have a value.
 
 ghost use Rattle.std.specs.Prelude.{◌≡◌};
-ghost use Rattle.ep_defined.specs.Images.{kind_of};
+ghost use Rattle.ep_defined.specs.Images.{image_kind};
 ghost use Rattle.ep_ground.specs.NodeViews.{plain_node};
 
 use ep_ground::Node;
@@ -24,9 +24,9 @@ pub enum Kind {
 }
 
 /// The kind of a node.
-#[tactic(auto, unfolding(crate::specs::Images::kind_of))]
+#[tactic(auto, unfolding(crate::specs::Images::image_kind))]
 pub fn node_kind(node: &Node) -> Kind
-    ensures { result ≡ kind_of (plain_node node.now) }
+    ensures { result ≡ image_kind (plain_node node.now) }
 {
     match node {
         Node::Const(_) => Kind::Number,

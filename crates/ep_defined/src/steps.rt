@@ -3,8 +3,8 @@
 ghost use Rattle.std.specs.Prelude.{◌≡◌, ◌<◌, ◌++◌, ◌==◌, ◌∷◌, [], ℕ, false, filter, length, map, take, IfOk, IfSome, OnOk, option_to_list};
 ghost use Rattle.std.specs.List.{All};
 ghost use Rattle.ep_base.specs.declared.operators.CompareOp.{CompareOp};
-ghost use Rattle.ep_defined.specs.Growing.{Grows, Is, IsSafeOver};
-ghost use Rattle.ep_defined.specs.Images.{IsConjunction, IsDivisorTest, IsImage, IsKeyTest, IsNothingImage, StandsIn, guards_in, made_safe, kind_of, over_totals, total_at};
+ghost use Rattle.ep_defined.specs.Growing.{Grows, IsNodeAt, IsSafeOver};
+ghost use Rattle.ep_defined.specs.Images.{IsConjunction, IsDivisorTest, IsImage, IsKeyTest, IsNothingImage, StandsIn, guards_in, made_safe, image_kind, over_totals, total_at};
 ghost use Rattle.ep_defined.specs.declared.kinds.Kind.{Kind};
 ghost use Rattle.ep_ground.specs.Grounds.{StandsOver};
 ghost use Rattle.ep_ground.specs.Nodes.{GroundNode, compare, is_partial, parts_of, table};
@@ -20,7 +20,7 @@ use std::alloc::Global;
 /// The term of a node; want of memory, too, where there are as many nodes as there can be.
 pub fn taken(arena: &mut Arena, node: Node) -> Result<Term, Memory>
     requires { All (λ part. part < length arena.old) (parts_of (plain_node node)) }
-    ensures term { IfOk result (λ term. Is arena.new term (plain_node node)) }
+    ensures term { IfOk result (λ term. IsNodeAt arena.new term (plain_node node)) }
     ensures grows { OnOk result ((asker : GroundNode)
         → ((cells : ℕ) → StandsOver cells asker → IsSafeOver cells (plain_node node))
         → Grows asker 1 arena.old arena.new) }
@@ -50,7 +50,7 @@ fn total_of(alloc: Global, arena: &mut Arena, images: &[Image], node: &Node) -> 
     requires stand { All (StandsIn arena.old) images.now }
     requires whole { is_partial (made_safe (plain_node node.now)) ≡ false }
     ensures is { IfOk result (λ total.
-        Is arena.new total (over_totals images.now (plain_node node.now))) }
+        IsNodeAt arena.new total (over_totals images.now (plain_node node.now))) }
     ensures grows { OnOk result (Grows (plain_node node.now) 1 arena.old arena.new) }
 {
     let safe = safe_node(alloc, images, node)?;
@@ -105,7 +105,7 @@ fn number_image(
     requires own { IfSome own (λ t. t < length arena.old) }
     requires whole { is_partial (made_safe (plain_node node.now)) ≡ false }
     ensures total { IfOk result (λ image.
-        Is arena.new image.total (over_totals images.now (plain_node node.now))) }
+        IsNodeAt arena.new image.total (over_totals images.now (plain_node node.now))) }
     ensures guard { IfOk result (λ image. IsConjunction arena.new
         (option_to_list own ++ guards_in images.now (parts_of (plain_node node.now))) image.guard) }
     ensures grows { OnOk result (Grows (plain_node node.now) 2 arena.old arena.new) }
@@ -123,7 +123,7 @@ fn plain_image(
     images: &[Image],
     node: &Node,
 ) -> Result<Image, Memory>
-    requires kind { kind_of (plain_node node.now) ≡ Kind.Number }
+    requires kind { image_kind (plain_node node.now) ≡ Kind.Number }
     requires parts { All (λ t. t < length images.now) (parts_of (plain_node node.now)) }
     requires stand { All (StandsIn arena.old) images.now }
     ensures is { IfOk result (λ image.
@@ -143,7 +143,7 @@ fn truth_image(
     images: &[Image],
     node: &Node,
 ) -> Result<Image, Memory>
-    requires kind { kind_of (plain_node node.now) ≡ Kind.Truth }
+    requires kind { image_kind (plain_node node.now) ≡ Kind.Truth }
     requires parts { All (λ t. t < length images.now) (parts_of (plain_node node.now)) }
     requires stand { All (StandsIn arena.old) images.now }
     ensures is { IfOk result (λ image.
@@ -170,7 +170,7 @@ fn whole_image(
     images: &[Image],
     node: &Node,
 ) -> Result<Image, Memory>
-    requires kind { kind_of (plain_node node.now) ≡ Kind.Whole }
+    requires kind { image_kind (plain_node node.now) ≡ Kind.Whole }
     requires parts { All (λ t. t < length images.now) (parts_of (plain_node node.now)) }
     requires stand { All (StandsIn arena.old) images.now }
     ensures is { IfOk result (λ image.
@@ -191,7 +191,7 @@ fn unequal(arena: &mut Arena, term: Term, nought: Term) -> Result<Term, Memory>
     requires term { term < length arena.old }
     requires nought { nought < length arena.old }
     ensures is { IfOk result (λ own.
-        Is arena.new own (compare CompareOp.NotEqual term nought)) }
+        IsNodeAt arena.new own (compare CompareOp.NotEqual term nought)) }
     ensures grows { OnOk result ((asker : GroundNode) → Grows asker 1 arena.old arena.new) }
 {
     let own = taken(arena, Node::Compare(CompareOp::NotEqual, term, nought))?;
@@ -266,7 +266,7 @@ fn table_of(
 ) -> Result<Term, Memory>
     requires indices { All (λ t. t < length images.now) indices.now }
     requires stand { All (StandsIn arena.old) images.now }
-    ensures is { IfOk result (λ own. Is arena.new own (table (map (total_at images.now) indices.now)
+    ensures is { IfOk result (λ own. IsNodeAt arena.new own (table (map (total_at images.now) indices.now)
         (filter (λ key. length key == length indices.now) (take count keys.now)))) }
     ensures grows { OnOk result ((asker : GroundNode) → Grows asker 1 arena.old arena.new) }
 {
@@ -300,7 +300,7 @@ fn division_image(
     images: &[Image],
     node: &Node,
 ) -> Result<Image, Memory>
-    requires kind { kind_of (plain_node node.now) ≡ Kind.Division }
+    requires kind { image_kind (plain_node node.now) ≡ Kind.Division }
     requires parts { All (λ t. t < length images.now) (parts_of (plain_node node.now)) }
     requires stand { All (StandsIn arena.old) images.now }
     requires nought { nought < length arena.old }
@@ -321,7 +321,7 @@ fn pick_image(
     images: &[Image],
     node: &Node,
 ) -> Result<Image, Memory>
-    requires kind { kind_of (plain_node node.now) ≡ Kind.Pick }
+    requires kind { image_kind (plain_node node.now) ≡ Kind.Pick }
     requires parts { All (λ t. t < length images.now) (parts_of (plain_node node.now)) }
     requires stand { All (StandsIn arena.old) images.now }
     ensures is { IfOk result (λ image.

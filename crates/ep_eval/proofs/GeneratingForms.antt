@@ -20,7 +20,7 @@ use Rattle.ep_eval.proofs.Countings.{cause_more}
 use Rattle.ep_eval.proofs.FormParts.{Meets}
 use Rattle.ep_eval.proofs.Walks.{Walked, walk_begins, walk_cause, walk_ends, walk_more}
 use Rattle.ep_eval.specs.Counting.{Counted, all_but_first}
-use Rattle.ep_eval.specs.Generating.{how_many, listed_nodes, listed_values, lists_joined, nodes_where, part_nodes, part_value, part_where, some_joined}
+use Rattle.ep_eval.specs.Generating.{how_many, listed_nodes, generated_values, lists_joined, nodes_where, part_nodes, part_value, part_where, some_joined}
 use Rattle.ep_eval.specs.Outcomes.{IsCause}
 use Rattle.ep_eval.specs.declared.errors.EvalError.{EvalError}
 
@@ -277,14 +277,14 @@ one_told env t h value (Some false) told holds =
 
 -- the parts that are gathered list of numbers by list of numbers are those of the definition
 pub values_regrouped : (mode : Mode) (e : ExprTree) (conditions : ExprTrees) (gens : Generators) (env : Env)
-    → listed_values mode e conditions gens env
+    → generated_values mode e conditions gens env
     ≡ guarded (domains_defined mode env gens && are_told (λ inner. values_of mode inner conditions) (reached mode env gens))
     (all_defined (map (λ inner. evaluate mode inner e) (chosen mode env gens conditions)))
-unfolding listed_values domains_defined reached holding are_told part_value
+unfolding generated_values domains_defined reached holding are_told part_value
 values_regrouped mode e conditions no_generators env =
     one_told env (λ inner. is_some (all_true (values_of mode inner conditions))) (λ inner. unwrap_or (all_true (values_of mode inner conditions)) false)
     (λ inner. evaluate mode inner e) (all_true (values_of mode env conditions)) refl refl
 values_regrouped mode e conditions (generator_and names d gens) env =
-    told_one (numbered mode d) (listed_values mode e conditions gens) (λ inner. domains_defined mode inner gens) (λ inner. reached mode inner gens)
+    told_one (numbered mode d) (generated_values mode e conditions gens) (λ inner. domains_defined mode inner gens) (λ inner. reached mode inner gens)
     (λ inner. is_some (all_true (values_of mode inner conditions))) (λ inner. unwrap_or (all_true (values_of mode inner conditions)) false)
     (λ inner. evaluate mode inner e) (values_regrouped mode e conditions gens) names env

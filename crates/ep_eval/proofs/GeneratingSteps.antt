@@ -29,7 +29,7 @@ use Rattle.ep_eval.proofs.GeneratingForms.{SameNodes, cause_same, counted_same, 
 use Rattle.ep_eval.proofs.LiteralForms.{index_is}
 use Rattle.ep_eval.proofs.Walks.{Walked, walk_begins, walk_cause, walk_ends, walk_more}
 use Rattle.ep_eval.specs.Counting.{Counted, Evaluated, IsRefused, all_but_first}
-use Rattle.ep_eval.specs.Generating.{how_many, listed_nodes, listed_values, lists_joined, nodes_of, nodes_where, parts_of, part_nodes, part_value, part_where, some_joined}
+use Rattle.ep_eval.specs.Generating.{how_many, listed_nodes, generated_values, lists_joined, nodes_of, nodes_where, parts_of, part_nodes, part_value, part_where, some_joined}
 use Rattle.ep_eval.specs.Literals.{index_at}
 use Rattle.ep_eval.specs.Outcomes.{IsCause}
 use Rattle.ep_eval.specs.declared.generating.Listing.{Listing}
@@ -87,8 +87,8 @@ unfolding listed_nodes met_names
 nodes_bare mode e conditions d gens env = refl
 
 pub values_bare : (mode : Mode) (e : ExprTree) (conditions : ExprTrees) (d : DomainTree) (gens : Generators) (env : Env)
-    → listed_values mode e conditions (generator_and [] d gens) env ≡ listed_values mode e conditions gens env
-unfolding listed_values over_names
+    → generated_values mode e conditions (generator_and [] d gens) env ≡ generated_values mode e conditions gens env
+unfolding generated_values over_names
 values_bare mode e conditions d gens env = refl
 
 -- without generators there are the conditions, and the part behind them
@@ -96,8 +96,8 @@ pub nodes_part : (mode : Mode) (e : ExprTree) (conditions : ExprTrees) (env : En
 unfolding listed_nodes
 nodes_part mode e conditions env = refl
 
-pub values_part : (mode : Mode) (e : ExprTree) (conditions : ExprTrees) (env : Env) → listed_values mode e conditions no_generators env ≡ part_value mode e conditions env
-unfolding listed_values
+pub values_part : (mode : Mode) (e : ExprTree) (conditions : ExprTrees) (env : Env) → generated_values mode e conditions no_generators env ≡ part_value mode e conditions env
+unfolding generated_values
 values_part mode e conditions env = refl
 
 -- what generators with a name in front meet: the name, its domain, and what follows for each number
@@ -123,19 +123,19 @@ nodes_name mode e conditions name names d gens env ns h =
 pub values_some :
     (mode : Mode) (e : ExprTree) (conditions : ExprTrees) (name : Name) (names : List Name) (d : DomainTree) (gens : Generators) (env : Env) (ns : List ℤ)
     → domain_values mode env d ≡ Some ns
-    → listed_values mode e conditions (generator_and (name ∷ names) d gens) env
-    ≡ lists_joined (map (λ n. listed_values mode e conditions (generator_and names d gens) (with_number name (scalar_in env d) n env)) ns)
-unfolding listed_values over_names standing_for some_joined
+    → generated_values mode e conditions (generator_and (name ∷ names) d gens) env
+    ≡ lists_joined (map (λ n. generated_values mode e conditions (generator_and names d gens) (with_number name (scalar_in env d) n env)) ns)
+unfolding generated_values over_names standing_for some_joined
 values_some mode e conditions name names d gens env ns h =
-    ap (λ o. some_joined (option_map (map (listed_values mode e conditions (generator_and names d gens))) (option_map (map (λ n. with_number name (scalar_in env d) n env)) o))) h
-    ∙ ap lists_joined (inner_maps (listed_values mode e conditions (generator_and names d gens)) (λ n. with_number name (scalar_in env d) n env) ns)
+    ap (λ o. some_joined (option_map (map (generated_values mode e conditions (generator_and names d gens))) (option_map (map (λ n. with_number name (scalar_in env d) n env)) o))) h
+    ∙ ap lists_joined (inner_maps (generated_values mode e conditions (generator_and names d gens)) (λ n. with_number name (scalar_in env d) n env) ns)
 
 pub values_none :
     (mode : Mode) (e : ExprTree) (conditions : ExprTrees) (name : Name) (names : List Name) (d : DomainTree) (gens : Generators) (env : Env)
-    → domain_values mode env d ≡ None → listed_values mode e conditions (generator_and (name ∷ names) d gens) env ≡ None
-unfolding listed_values over_names standing_for some_joined
+    → domain_values mode env d ≡ None → generated_values mode e conditions (generator_and (name ∷ names) d gens) env ≡ None
+unfolding generated_values over_names standing_for some_joined
 values_none mode e conditions name names d gens env h =
-    ap (λ o. some_joined (option_map (map (listed_values mode e conditions (generator_and names d gens))) (option_map (map (λ n. with_number name (scalar_in env d) n env)) o))) h
+    ap (λ o. some_joined (option_map (map (generated_values mode e conditions (generator_and names d gens))) (option_map (map (λ n. with_number name (scalar_in env d) n env)) o))) h
 
 -- a list of generators in front
 pub generators_first : (all : List Generator) (g : Generator) (later : List Generator) (d : DomainTree) (names : List Name) → all ≡ g ∷ later → domain_tree g.domain ≡ d → g.names.items ≡ names
@@ -323,7 +323,7 @@ as_many (Some x ∷ parts) vs h = by (as_many parts) (all_defined parts) refl h
 -- its value is the matrix of the parts that its generators lead to
 pub comprehension_is :
     (mode : Mode) (env : Env) (p : Place) (e : ExprTree) (gens : Generators) (conditions : ExprTrees) (d : IndexDomain) (set : Option (List ℤ)) (values : Option (List ValueTree)) (count : ℕ)
-    → values ≡ listed_values mode e conditions gens env → count ≡ how_many values → set ≡ index_values mode env d count
+    → values ≡ generated_values mode e conditions gens env → count ≡ how_many values → set ≡ index_values mode env d count
     → evaluate mode env (comprehension p e gens conditions d) ≡ on_both set values with_indices
 unfolding matrix_value holding
 comprehension_is mode env p e gens conditions d set values count told many own =
@@ -385,7 +385,7 @@ comprehension_value mode env k l gens d a b c set first values count made is nod
     (λ p. meets_in_order mode env p e gs cs (index_at d))
     (counted_same mode a c _ _ (in_order mode env e gs cs (index_at d)) (counted_append mode a b c (listed_nodes mode e cs gs env) (met_index mode env (index_at d)) nodes index))
     (λ p. comprehension_is mode env p e gs cs (index_at d) set values count
-    (told ∙ ap (λ o. before_others o (listed_values mode e cs gs env)) nothing ∙ sym (none_before (listed_values mode e cs gs env))) many own ∙ sym whole)
+    (told ∙ ap (λ o. before_others o (generated_values mode e cs gs env)) nothing ∙ sym (none_before (generated_values mode e cs gs env))) many own ∙ sym whole)
 
 pub comprehension_first :
     (mode : Mode) (env : Env) (k : Kind) (l : Listing) (gens : List Generator) (d : Option (Box Domain Global)) (a : ℕ) (error : EvalError)

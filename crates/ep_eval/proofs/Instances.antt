@@ -31,7 +31,7 @@ use Rattle.std.specs.List.{list_any}
 use Rattle.ep_eval.specs.Counting.{Counted, Evaluated, Gives, IsRefused, IsTooFar, IsWithin, all_but_first, is_far_value, of_all, together}
 use Rattle.ep_eval.specs.Helds.{seen_held}
 use Rattle.ep_eval.specs.declared.held.Held.{Held}
-use Rattle.ep_eval.specs.Gathering.{IsSmall, none_at_all, nothing_yet, with_more, worth}
+use Rattle.ep_eval.specs.Gathering.{IsSmall, none_at_all, nothing_yet, gathered_with_more, worth}
 use Rattle.ep_eval.specs.Outcomes.{IsCause}
 use Rattle.ep_eval.specs.declared.errors.EvalError.{EvalError}
 use Rattle.ep_eval.specs.declared.errors.EvalError.TheVariants.{Limit, Memory}
@@ -47,13 +47,13 @@ number_alone : (v : Option ValueTree) → option_map sum_of (all_numbers (v ∷ 
 unfolding all_defined sum_of
 number_alone v = total_more (number_in v) [] ∙ nothing_behind (number_in v)
 
-pub more_none : (g : Gathered) → with_more g [] ≡ g
-unfolding with_more all_defined sum_of
+pub more_none : (g : Gathered) → gathered_with_more g [] ≡ g
+unfolding gathered_with_more all_defined sum_of
 more_none (Truths every truth) = ap (Truths every) (ap (map_both (together every) truth) (of_none every) ∙ last_unit every truth)
 more_none (Total total) = ap Total (nothing_behind total)
 
-pub more_one : (g : Gathered) (v : Option ValueTree) (vs : List (Option ValueTree)) → with_more g (v ∷ vs) ≡ with_more (with_more g (v ∷ [])) vs
-unfolding with_more
+pub more_one : (g : Gathered) (v : Option ValueTree) (vs : List (Option ValueTree)) → gathered_with_more g (v ∷ vs) ≡ gathered_with_more (gathered_with_more g (v ∷ [])) vs
+unfolding gathered_with_more
 more_one (Truths every truth) v vs =
     ap (Truths every)
     (ap (map_both (together every) truth) (of_all_more every v vs)
@@ -67,10 +67,10 @@ more_one (Total total) v vs =
 
 -- one instance more, by its truth
 pub more_truth : (every : Bool) (truth r : Option Bool) (v : Option ValueTree) (g : Gathered) → g ≡ Truths every truth → r ≡ map_both (together every) truth (truth_of v)
-    → Truths every r ≡ with_more g (v ∷ [])
-unfolding with_more
+    → Truths every r ≡ gathered_with_more g (v ∷ [])
+unfolding gathered_with_more
 more_truth every truth r v g is given =
-    ap (Truths every) (given ∙ ap (map_both (together every) truth) (sym (truth_alone every v))) ∙ sym (ap (λ x. with_more x (v ∷ [])) is)
+    ap (Truths every) (given ∙ ap (map_both (together every) truth) (sym (truth_alone every v))) ∙ sym (ap (λ x. gathered_with_more x (v ∷ [])) is)
 
 kept_sign : (o : Option ℤ) → option_map (signed true) o ≡ o
 unfolding signed
@@ -79,10 +79,10 @@ kept_sign (Some x) = refl
 
 -- and by its number
 pub more_number : (total r : Option ℤ) (v : Option ValueTree) (g : Gathered) → g ≡ Total total → r ≡ map_both ◌+ℤ◌ total (option_map (signed true) (number_in v))
-    → Total r ≡ with_more g (v ∷ [])
-unfolding with_more
+    → Total r ≡ gathered_with_more g (v ∷ [])
+unfolding gathered_with_more
 more_number total r v g is given =
-    ap Total (given ∙ ap (map_both ◌+ℤ◌ total) (kept_sign (number_in v) ∙ sym (number_alone v))) ∙ sym (ap (λ x. with_more x (v ∷ [])) is)
+    ap Total (given ∙ ap (map_both ◌+ℤ◌ total) (kept_sign (number_in v) ∙ sym (number_alone v))) ∙ sym (ap (λ x. gathered_with_more x (v ∷ [])) is)
 
 pub small_total_is : (most : ℕ) (total : Option ℤ) (g : Gathered) → g ≡ Total total → IsSmall most g → IsWithin most total
 unfolding IsSmall
@@ -104,8 +104,8 @@ first_truth false None = refl
 first_truth false (Some b) = refl
 
 -- the value of a quantifier is what its instances gave
-pub worth_all : (mode : Mode) (op : QuantOp) (vs : List (Option ValueTree)) → worth mode (with_more (nothing_yet op) vs) ≡ quantified_value mode op (Some vs)
-unfolding worth with_more nothing_yet quantified_value of_all map_both
+pub worth_all : (mode : Mode) (op : QuantOp) (vs : List (Option ValueTree)) → worth mode (gathered_with_more (nothing_yet op) vs) ≡ quantified_value mode op (Some vs)
+unfolding worth gathered_with_more nothing_yet quantified_value of_all map_both
 worth_all mode QuantOp.ForAll vs = ap (λ o. worth mode (Truths true o)) (first_truth true (of_all true vs))
 worth_all mode QuantOp.Exists vs = ap (λ o. worth mode (Truths false o)) (first_truth false (of_all false vs))
 worth_all mode QuantOp.Sum vs = ap (λ o. worth mode (Total o)) (first_total (option_map sum_of (all_numbers vs)))
@@ -136,7 +136,7 @@ small_before n QuantOp.Sum = omega arith
 -- some instances are evaluated, and others are left
 pub record Gathering (mode : Mode) (op : QuantOp) (value_at : ℤ → Option ValueTree) (nodes_at : ℤ → List Met) (start now : ℕ) (numbers left : List ℤ) (g : Gathered) : Type 0 where
   pub walked : Walked mode start now (flat_map nodes_at numbers) (flat_map nodes_at left)
-  pub value : with_more (nothing_yet op) (map value_at numbers) ≡ with_more g (map value_at left)
+  pub value : gathered_with_more (nothing_yet op) (map value_at numbers) ≡ gathered_with_more g (map value_at left)
   pub within : IsSmall (now * 9223372036854775808) g
   pub small : now ≤ MOST_SIZE
 
@@ -144,7 +144,7 @@ pub gathering_begins : (mode : Mode) (op : QuantOp) (value_at : ℤ → Option V
     → start ≤ MOST_SIZE → left ≡ numbers → g ≡ nothing_yet op → Gathering mode op value_at nodes_at start start numbers left g
 gathering_begins mode op value_at nodes_at start numbers left g h same is = record {
   walked = subst (λ l. Walked mode start start (flat_map nodes_at numbers) (flat_map nodes_at l)) (sym same) (walk_begins mode start (flat_map nodes_at numbers) h);
-  value = ap (λ l. with_more (nothing_yet op) (map value_at l)) (sym same) ∙ ap (λ x. with_more x (map value_at left)) (sym is);
+  value = ap (λ l. gathered_with_more (nothing_yet op) (map value_at l)) (sym same) ∙ ap (λ x. gathered_with_more x (map value_at left)) (sym is);
   within = subst (IsSmall (start * 9223372036854775808)) (sym is) (small_before (start * 9223372036854775808) op);
   small = h;
 }
@@ -157,14 +157,14 @@ gathering_small mode op value_at nodes_at start now numbers left g h =
 pub gathering_goes_on : (mode : Mode) (op : QuantOp) (value_at : ℤ → Option ValueTree) (nodes_at : ℤ → List Met) (start now after : ℕ) (numbers left rest : List ℤ) (g more : Gathered) (n : ℤ) (seen : Option ValueTree)
     → Gathering mode op value_at nodes_at start now numbers left g → left ≡ n ∷ rest
     → Counted mode now after (nodes_at n) → value_at n ≡ seen → 1 ≤ length (nodes_at n)
-    → more ≡ with_more g (seen ∷ []) → ((most : ℕ) → IsSmall most g → IsSmall (most + 9223372036854775808) more)
+    → more ≡ gathered_with_more g (seen ∷ []) → ((most : ℕ) → IsSmall most g → IsSmall (most + 9223372036854775808) more)
     → Gathering mode op value_at nodes_at start after numbers rest more
 gathering_goes_on mode op value_at nodes_at start now after numbers left rest g more n seen h cut counted value some is within = record {
   walked = walk_more mode start now after _ _ (nodes_at n) _ h.walked (ap (flat_map nodes_at) cut) counted;
   value =
-      h.value ∙ ap (λ l. with_more g (map value_at l)) cut ∙ more_one g (value_at n) (map value_at rest)
-      ∙ ap (λ v. with_more (with_more g (v ∷ [])) (map value_at rest)) value
-      ∙ ap (λ x. with_more x (map value_at rest)) (sym is);
+      h.value ∙ ap (λ l. gathered_with_more g (map value_at l)) cut ∙ more_one g (value_at n) (map value_at rest)
+      ∙ ap (λ v. gathered_with_more (gathered_with_more g (v ∷ [])) (map value_at rest)) value
+      ∙ ap (λ x. gathered_with_more x (map value_at rest)) (sym is);
   within =
       small_wider (now * 9223372036854775808 + 9223372036854775808) (after * 9223372036854775808) more
       (let count = counted.count in omega (arith, some, count))
@@ -185,9 +185,9 @@ gathering_counted mode op value_at nodes_at start now numbers left g h none =
     walk_ends mode start now _ (subst (λ l. Walked mode start now (flat_map nodes_at numbers) (flat_map nodes_at l)) none h.walked)
 
 pub gathering_value : (mode : Mode) (op : QuantOp) (value_at : ℤ → Option ValueTree) (nodes_at : ℤ → List Met) (start now : ℕ) (numbers left : List ℤ) (g : Gathered)
-    → Gathering mode op value_at nodes_at start now numbers left g → left ≡ [] → g ≡ with_more (nothing_yet op) (map value_at numbers)
+    → Gathering mode op value_at nodes_at start now numbers left g → left ≡ [] → g ≡ gathered_with_more (nothing_yet op) (map value_at numbers)
 gathering_value mode op value_at nodes_at start now numbers left g h none =
-    sym (h.value ∙ ap (λ l. with_more g (map value_at l)) none ∙ more_none g)
+    sym (h.value ∙ ap (λ l. gathered_with_more g (map value_at l)) none ∙ more_none g)
 
 -- ---- a quantifier by its instances
 
@@ -311,7 +311,7 @@ gives_cause v (Err e) P gives cause = cause e gives
 -- the value of a quantifier by what its instances gave
 pub gathered_is : (mode : Mode) (env : Env) (p : Place) (op : QuantOp) (name : Name) (names : List Name) (d : DomainTree) (e : ExprTree) (ns : List ℤ) (g : Gathered)
     → domain_values mode env d ≡ Some ns
-    → g ≡ with_more (nothing_yet op) (map (λ n. evaluate mode (with_number name (scalar_in env d) n env) (quantified p op names d e)) ns)
+    → g ≡ gathered_with_more (nothing_yet op) (map (λ n. evaluate mode (with_number name (scalar_in env d) n env) (quantified p op names d e)) ns)
     → evaluate mode env (quantified p op (name ∷ names) d e) ≡ worth mode g
 gathered_is mode env p op name names d e ns g h is =
     quantified_some mode env p op name names d e ns h

@@ -26,7 +26,7 @@ use Rattle.ep_tree.specs.declared.values.ValueType.{ValueType}
 use Rattle.ep_eval.proofs.DomainTypes.{index_is, pass_append}
 use Rattle.ep_eval.proofs.JudgingForms.{first_all, given_by, next_is, typed_more}
 use Rattle.ep_eval.specs.Bounds.{only_domain}
-use Rattle.ep_eval.specs.Judging.{all_pass, domain_type_at, list_of, name_scalar, passes, quantified_part, quantified_type, type_at, type_if}
+use Rattle.ep_eval.specs.Judging.{all_pass, domain_type_at, list_of, name_scalar, passes, quantified_part, type_of_quantifier, type_at, type_if}
 use Rattle.ep_eval.specs.Literals.{index_at}
 use Rattle.ep_eval.specs.Typing.{AreTyped, inside_names, readings, typed_meaning, with_typed}
 use Rattle.ep_eval.specs.declared.rules.Wanted.{Wanted}
@@ -244,18 +244,18 @@ is_scalar : (o : Option Bool) → o ≡ Some true → unwrap_or o false ≡ true
 is_scalar o h = ap (λ x. unwrap_or x false) h
 
 quants_by : (op : QuantOp) (ds : List ValueType) (t : ValueType) → list_all (passes Wanted.Integer) ds ≡ true
-    → types.quantified_type op ds t ≡ gives (quantified_type op) (passes (quantified_part op) t)
-unfolding types.quantified_type quantified_type quantified_part passes
+    → types.quantified_type op ds t ≡ gives (type_of_quantifier op) (passes (quantified_part op) t)
+unfolding types.quantified_type type_of_quantifier quantified_part passes
 quants_by QuantOp.ForAll ds t e = ap (λ b. gives ValueType.Bool (b && is_boolean t)) e
 quants_by QuantOp.Exists ds t e = ap (λ b. gives ValueType.Bool (b && is_boolean t)) e
 quants_by QuantOp.Sum ds t e = ap (λ b. gives ValueType.Int (b && is_integer t)) e
 
 quant_some : (o : Option (List ValueType)) (j : Judged) (op : QuantOp) → option_map (list_all (passes Wanted.Integer)) o ≡ Some true
-    → type_from (from_all o (λ ds. from_one j (types.quantified_type op ds))) ≡ type_if (quantified_type op) (option_map (passes (quantified_part op)) (type_from j))
+    → type_from (from_all o (λ ds. from_one j (types.quantified_type op ds))) ≡ type_if (type_of_quantifier op) (option_map (passes (quantified_part op)) (type_from j))
 unfolding from_all from_one type_from type_if
 quant_some None j op h = absurd cc
 quant_some (Some ds) (typed t) op h =
-    ap type_from (quants_by op ds t (is_scalar (Some (list_all (passes Wanted.Integer) ds)) h)) ∙ given_by (quantified_type op) (passes (quantified_part op) t)
+    ap type_from (quants_by op ds t (is_scalar (Some (list_all (passes Wanted.Integer) ds)) h)) ∙ given_by (type_of_quantifier op) (passes (quantified_part op) t)
 quant_some (Some ds) mistyped op h = refl
 quant_some (Some ds) untyped op h = refl
 
@@ -279,11 +279,11 @@ quant_none (Some ds) untyped op h = refl
 
 pub at-quantified : (c inner : Context) (p : Place) (op : QuantOp) (names : List Name) (d : DomainTree) (e : ExprTree)
     → all_pass Wanted.Integer (readings c names d) ≡ Some true → inside_names c names d ≡ inner
-    → type_at c (quantified p op names d e) ≡ type_if (quantified_type op) (option_map (passes (quantified_part op)) (type_at inner e))
+    → type_at c (quantified p op names d e) ≡ type_if (type_of_quantifier op) (option_map (passes (quantified_part op)) (type_at inner e))
 unfolding from_many
 at-quantified c inner p op names d e scalar is =
     ap type_from (judge-quantified c p op names d e) ∙ quant_some (all_typed (readings c names d)) (judge (inside_names c names d) e) op scalar
-    ∙ ap (λ k. type_if (quantified_type op) (option_map (passes (quantified_part op)) (type_at k e))) is
+    ∙ ap (λ k. type_if (type_of_quantifier op) (option_map (passes (quantified_part op)) (type_at k e))) is
 
 pub at-quantified-none : (c : Context) (p : Place) (op : QuantOp) (names : List Name) (d : DomainTree) (e : ExprTree)
     → all_pass Wanted.Integer (readings c names d) ≢ Some true → None ≡ type_at c (quantified p op names d e)
@@ -385,12 +385,12 @@ pub quantifier_told : (c outer : Context) (p : Place) (kind : Kind) (op : QuantO
     (marked lent : List TypedName) (ns : List Name) (d : Domain) (e : Expr) (part : Wanted) (ty : ValueType) (holds : Option Bool) (t : Option ValueType)
     → kind ≡ Quant op names domain body → ns ≡ names.items → d ≡ domain.value → e ≡ body.value
     → AreTyped (Some marked) outer (all_pass Wanted.Integer (readings c ns (domain_tree d))) (inside_names c ns (domain_tree d))
-    → part ≡ quantified_part op → ty ≡ quantified_type op → lent ≡ marked → holds ≡ option_map (passes part) (type_at (with_typed lent outer) (expr_tree e)) → t ≡ type_if ty holds
+    → part ≡ quantified_part op → ty ≡ type_of_quantifier op → lent ≡ marked → holds ≡ option_map (passes part) (type_at (with_typed lent outer) (expr_tree e)) → t ≡ type_if ty holds
     → t ≡ type_at c (kind_tree p kind)
 quantifier_told c outer p kind op names domain body marked lent ns d e part ty holds t is same_names same_domain same_body told wanted type same_typed has given =
     let inner = with_typed marked outer in
-    given ∙ ap (λ x. type_if x holds) type ∙ ap (type_if (quantified_type op)) (has ∙ ap (λ ts. option_map (passes part) (type_at (with_typed ts outer) (expr_tree e))) same_typed)
-    ∙ ap (λ x. type_if (quantified_type op) (option_map (passes x) (type_at inner (expr_tree e)))) wanted
+    given ∙ ap (λ x. type_if x holds) type ∙ ap (type_if (type_of_quantifier op)) (has ∙ ap (λ ts. option_map (passes part) (type_at (with_typed ts outer) (expr_tree e))) same_typed)
+    ∙ ap (λ x. type_if (type_of_quantifier op) (option_map (passes x) (type_at inner (expr_tree e)))) wanted
     ∙ sym (at-quantified c inner p op ns (domain_tree d) (expr_tree e) (typed_passes marked outer (inside_names c ns (domain_tree d)) _ told) (typed_inside marked outer (inside_names c ns (domain_tree d)) _ told))
     ∙ ap (λ x. type_at c (quantified p op x (domain_tree d) (expr_tree e))) same_names
     ∙ ap (λ x. type_at c (quantified p op names.items (domain_tree x) (expr_tree e))) same_domain

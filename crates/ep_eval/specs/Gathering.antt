@@ -22,9 +22,9 @@ none_at_all QuantOp.Exists = Truths false None
 none_at_all QuantOp.Sum = Total None
 
 -- what is gathered with some instances more
-unfoldable pub with_more : Gathered → List (Option ValueTree) → Gathered
-with_more (Truths every truth) vs = Truths every (map_both (together every) truth (of_all every vs))
-with_more (Total total) vs = Total (map_both ◌+ℤ◌ total (option_map sum_of (all_numbers vs)))
+unfoldable pub gathered_with_more : Gathered → List (Option ValueTree) → Gathered
+gathered_with_more (Truths every truth) vs = Truths every (map_both (together every) truth (of_all every vs))
+gathered_with_more (Total total) vs = Total (map_both ◌+ℤ◌ total (option_map sum_of (all_numbers vs)))
 
 -- the value of the quantifier
 unfoldable pub worth : Mode → Gathered → Option ValueTree

@@ -51,10 +51,10 @@ listed_nodes mode e conditions (generator_and names d gens) env =
     (numbered mode d) (λ inner. listed_nodes mode e conditions gens inner) names env
 
 -- the parts that generators lead to, where each is there
-unfoldable pub listed_values : Mode → ExprTree → ExprTrees → Generators → Env → Option (List ValueTree)
-listed_values mode e conditions no_generators env = part_value mode e conditions env
-listed_values mode e conditions (generator_and names d gens) env =
-    over_names (numbered mode d) some_joined (λ inner. listed_values mode e conditions gens inner) names env
+unfoldable pub generated_values : Mode → ExprTree → ExprTrees → Generators → Env → Option (List ValueTree)
+generated_values mode e conditions no_generators env = part_value mode e conditions env
+generated_values mode e conditions (generator_and names d gens) env =
+    over_names (numbered mode d) some_joined (λ inner. generated_values mode e conditions gens inner) names env
 
 -- what generators of the code meet
 abbrev pub nodes_of : Mode → Listing → Generators → Env → List Met
@@ -62,7 +62,7 @@ nodes_of mode l gens env = listed_nodes mode (expr_tree l.body.now) (expr_trees 
 
 -- and the parts that they lead to
 abbrev pub parts_of : Mode → Listing → Generators → Env → Option (List ValueTree)
-parts_of mode l gens env = listed_values mode (expr_tree l.body.now) (expr_trees l.conditions.now) gens env
+parts_of mode l gens env = generated_values mode (expr_tree l.body.now) (expr_trees l.conditions.now) gens env
 
 -- some names over a domain, with the generators behind them
 abbrev pub ranging_over : Ranging → List Name → Generators

@@ -105,10 +105,10 @@ quantified_part QuantOp.ForAll = Wanted.Boolean
 quantified_part QuantOp.Exists = Wanted.Boolean
 quantified_part QuantOp.Sum = Wanted.Integer
 
-unfoldable pub quantified_type : QuantOp → ValueType
-quantified_type QuantOp.ForAll = ValueType.Bool
-quantified_type QuantOp.Exists = ValueType.Bool
-quantified_type QuantOp.Sum = ValueType.Int
+unfoldable pub type_of_quantifier : QuantOp → ValueType
+type_of_quantifier QuantOp.ForAll = ValueType.Bool
+type_of_quantifier QuantOp.Exists = ValueType.Bool
+type_of_quantifier QuantOp.Sum = ValueType.Int
 
 -- the scalar of a quantified name by the type of its domain, where that is scalar
 unfoldable pub name_scalar : Option ValueType → Option Scalar

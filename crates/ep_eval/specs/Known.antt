@@ -22,6 +22,6 @@ abbrev pub HasAscendingDomains : Env → Type 0
 HasAscendingDomains env = (name : Name) → HasAscendingDomain (env name)
 
 -- a value that a name stands for is an entry of that name
-unfoldable pub IsNamed : Name → Option Meaning → Type 0
-IsNamed name (Some (Value e)) = e.name ≡ name
-IsNamed _ _ = ⊤
+unfoldable pub StandsUnderName : Name → Option Meaning → Type 0
+StandsUnderName name (Some (Value e)) = e.name ≡ name
+StandsUnderName _ _ = ⊤

@@ -21,6 +21,6 @@ abbrev pub mode_in : Scope → Mode
 mode_in scope = scope.env.now.mode
 
 -- the number of a quantified name, and else what the name is worth without it
-unfoldable pub number_or : Option ℤ → Option ValueTree → Option ValueTree
-number_or None v = v
-number_or (Some n) v = Some (single n)
+unfoldable pub number_or_value : Option ℤ → Option ValueTree → Option ValueTree
+number_or_value None v = v
+number_or_value (Some n) v = Some (single n)

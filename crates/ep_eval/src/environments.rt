@@ -8,7 +8,7 @@ ghost use Rattle.ep_tree.specs.Types.{named_type, type_from};
 ghost use Rattle.ep_tree.specs.TypedValues.{IsOf, IsTypedBound, IsTypedEnv, is_number_of};
 ghost use Rattle.ep_tree.specs.Views.{value_tree};
 ghost use Rattle.ep_eval.specs.Bounds.{bound_of, cells_of, domain_of, entry_bound, only_cells, only_domain, only_value};
-ghost use Rattle.ep_eval.specs.Known.{HasAscendingDomains, IsNamed, env_of};
+ghost use Rattle.ep_eval.specs.Known.{HasAscendingDomains, StandsUnderName, env_of};
 
 use super::copies::{copy_domain, copy_entry};
 use ep_base::{Memory, Name, Runs};
@@ -39,10 +39,10 @@ enum Meaning {
 }
 
 /// The same meaning once more.
-#[tactic(auto, unfolding(crate::specs::Bounds::bound_of, crate::specs::Known::IsNamed))]
+#[tactic(auto, unfolding(crate::specs::Bounds::bound_of, crate::specs::Known::StandsUnderName))]
 fn copy_meaning(alloc: Global, meaning: &Meaning) -> Result<Meaning, Memory>
     ensures bound { IfOk result (λ copy. bound_of copy ≡ bound_of meaning.now) }
-    ensures named { IfOk result (λ copy. (name : Name) → IsNamed name (Some meaning.now) → IsNamed name (Some copy)) }
+    ensures named { IfOk result (λ copy. (name : Name) → StandsUnderName name (Some meaning.now) → StandsUnderName name (Some copy)) }
 {
     match meaning {
         Meaning::Value(entry) => {
@@ -103,11 +103,11 @@ impl Model for Env {
 
     ghost coded = { Prim.hlevel (codes, value.the_row.coded) };
 
-    ghost use Rattle.ep_eval.specs.EnvInside.{IsSound, known_of};
+    ghost use Rattle.ep_eval.specs.EnvInside.{IsSoundEnv, known_of};
 
     ghost view = { known_of };
 
-    ghost invariant = { IsSound };
+    ghost invariant = { IsSoundEnv };
 }
 
 impl Env {
@@ -136,7 +136,7 @@ impl Env {
     fn put(&mut self, name: Name, meaning: Meaning) -> Result<(), Memory>
         requires typed { IsTypedBound (Some (bound_of meaning)) }
         requires ascending { HasAscendingDomain (Some (bound_of meaning)) }
-        requires named { IsNamed name (Some meaning) }
+        requires named { StandsUnderName name (Some meaning) }
         ensures mode { self.new.mode ≡ self.old.mode }
         ensures known { OnOk result (env_of self.new ≡ put name (bound_of meaning) (env_of self.old)) }
         ensures unchanged { OnErr result (self.new ≡ self.old) }
@@ -206,7 +206,7 @@ impl Env {
     fn put_copy(&mut self, name: &Name, meaning: &Meaning) -> Result<(), Memory>
         requires typed { IsTypedBound (Some (bound_of meaning.now)) }
         requires ascending { HasAscendingDomain (Some (bound_of meaning.now)) }
-        requires named { IsNamed name.now (Some meaning.now) }
+        requires named { StandsUnderName name.now (Some meaning.now) }
         ensures mode { self.new.mode ≡ self.old.mode }
         ensures known { OnOk result (env_of self.new ≡ put name.now (bound_of meaning.now) (env_of self.old)) }
     {
@@ -232,7 +232,7 @@ impl Env {
     /// What a name stands for, where it stands for anything.
     fn meaning(&self, name: &Name) -> Option<&Meaning>
         ensures bound { option_map (λ m. bound_of m.now) result ≡ env_of self.now name.now }
-        ensures named { IsNamed name.now (option_map (λ m. m.now) result) }
+        ensures named { StandsUnderName name.now (option_map (λ m. m.now) result) }
     {
         self.known.get(name)
     }
@@ -249,7 +249,7 @@ impl Env {
     }
 
     /// The value that a name stands for, where it stands for one, with that name and its type.
-    #[tactic(auto, unfolding(crate::specs::Bounds::bound_of, crate::specs::Bounds::only_value, crate::specs::Known::IsNamed))]
+    #[tactic(auto, unfolding(crate::specs::Bounds::bound_of, crate::specs::Bounds::only_value, crate::specs::Known::StandsUnderName))]
     pub fn entry(&self, name: &Name) -> Option<&Entry>
         ensures bound { option_map (λ e. entry_bound e.now) result ≡ only_value (env_of self.now name.now) }
         ensures named { IfSome result (λ e. e.now.name ≡ name.now) }

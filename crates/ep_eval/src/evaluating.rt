@@ -13,7 +13,7 @@ ghost use Rattle.ep_tree.specs.Measures as measures;
 ghost use Rattle.ep_tree.specs.Views as views;
 ghost use Rattle.ep_tree.specs.Views.{domain_tree, domains_of, expr_tree, expr_trees, generators_of, indices_of, kind_tree, ranges_of, terms_of};
 ghost use Rattle.ep_eval.specs.Counting.{Counted, Evaluated, Gives, IsRefused, of_all};
-ghost use Rattle.ep_eval.specs.Gathering.{nothing_yet, with_more};
+ghost use Rattle.ep_eval.specs.Gathering.{nothing_yet, gathered_with_more};
 ghost use Rattle.ep_eval.specs.Generating.{lists_joined, nodes_at, nodes_of, part_nodes, part_value, parts_at, parts_of, ranging_over};
 ghost use Rattle.ep_eval.specs.Helds.{seen_held};
 ghost use Rattle.ep_eval.specs.Literals.{index_at, listed_in};
@@ -678,7 +678,7 @@ fn instances(
     ensures counted { OnOk result ((p : Place) → Counted (mode_in scope.entry) met.old met.new
         (flat_map (instance_nodes (mode_in scope.entry) (env_in scope.entry) p quantifier.entry name.now rest.now)
         set.now)) }
-    ensures value { IfOk result (λ gathered. (p : Place) → gathered ≡ with_more (nothing_yet quantifier.entry.op)
+    ensures value { IfOk result (λ gathered. (p : Place) → gathered ≡ gathered_with_more (nothing_yet quantifier.entry.op)
         (map (instance_value (mode_in scope.entry) (env_in scope.entry) p quantifier.entry name.now rest.now)
         set.now)) }
     ensures cause { IfErr result (λ e. (p : Place) → IsCause (limits_of_values (mode_in scope.entry) met.old

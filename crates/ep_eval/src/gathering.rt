@@ -2,7 +2,7 @@
 
 ghost use Rattle.std.specs.Prelude.{◌≡◌, ◌+◌, ◌∷◌, [], ℕ};
 ghost use Rattle.ep_eval.specs.Counting.{Gives};
-ghost use Rattle.ep_eval.specs.Gathering.{IsSmall, none_at_all, nothing_yet, with_more, worth};
+ghost use Rattle.ep_eval.specs.Gathering.{IsSmall, none_at_all, nothing_yet, gathered_with_more, worth};
 ghost use Rattle.ep_eval.specs.Helds.{seen_held};
 
 use super::binaries::some_number;
@@ -56,7 +56,7 @@ pub fn without_domain(op: QuantOp) -> Gathered
 /// What is gathered with what an instance showed.
 fn with_seen(gathered: Gathered, seen: &Option<Held>) -> Gathered
     requires small { IsSmall 46116860184273879040000000 gathered }
-    ensures more { result ≡ with_more gathered (seen_held seen.now ∷ []) }
+    ensures more { result ≡ gathered_with_more gathered (seen_held seen.now ∷ []) }
     ensures small { (most : ℕ) → IsSmall most gathered → IsSmall (most + 9223372036854775808) result }
 {
     match gathered {
@@ -70,7 +70,7 @@ fn with_seen(gathered: Gathered, seen: &Option<Held>) -> Gathered
 /// What is gathered with an instance more.
 pub fn with_instance(gathered: Gathered, seen: Option<Held>) -> Gathered
     requires small { IsSmall 46116860184273879040000000 gathered }
-    ensures more { result ≡ with_more gathered (seen_held seen.entry ∷ []) }
+    ensures more { result ≡ gathered_with_more gathered (seen_held seen.entry ∷ []) }
     ensures small { (most : ℕ) → IsSmall most gathered → IsSmall (most + 9223372036854775808) result }
 {
     with_seen(gathered, &seen)

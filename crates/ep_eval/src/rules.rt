@@ -6,7 +6,7 @@ ghost use Rattle.ep_tree.specs.Types as types;
 ghost use Rattle.ep_tree.specs.Types.{slice_count, type_from};
 ghost use Rattle.ep_tree.specs.Views.{indices_of};
 ghost use Rattle.ep_tree.specs.declared.values.ValueType.{ValueType as EachType};
-ghost use Rattle.ep_eval.specs.Judging.{flattened, fold_part, fold_type, join_part, join_type, list_of, matrix_over, name_scalar, passes, quantified_part, quantified_type, read_of, set_of_both, type_if};
+ghost use Rattle.ep_eval.specs.Judging.{flattened, fold_part, fold_type, join_part, join_type, list_of, matrix_over, name_scalar, passes, quantified_part, type_of_quantifier, read_of, set_of_both, type_if};
 ghost use Rattle.ep_eval.specs.declared.rules.Wanted.{Wanted};
 
 use ep_base::Memory;
@@ -377,9 +377,9 @@ pub fn quantified_part(op: QuantOp) -> Wanted
 }
 
 /// The type of a quantifier.
-#[tactic(auto, unfolding(crate::specs::Judging::quantified_type))]
+#[tactic(auto, unfolding(crate::specs::Judging::type_of_quantifier))]
 pub fn quantified_type(op: QuantOp) -> ValueType
-    ensures { result ≡ quantified_type op }
+    ensures { result ≡ type_of_quantifier op }
 {
     match op {
         QuantOp::ForAll | QuantOp::Exists => ValueType::Bool,

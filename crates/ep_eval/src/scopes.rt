@@ -5,7 +5,7 @@ ghost use Rattle.ep_tree.specs.Environments as names;
 ghost use Rattle.ep_tree.specs.Environments.{value_bound};
 ghost use Rattle.ep_eval.specs.Helds.{seen_held};
 ghost use Rattle.ep_eval.specs.Known.{env_of};
-ghost use Rattle.ep_eval.specs.Scopes.{env_in, number_or, with_all};
+ghost use Rattle.ep_eval.specs.Scopes.{env_in, number_or_value, with_all};
 
 use super::environments::Env;
 use super::held::Held;
@@ -33,7 +33,7 @@ pub struct Scope<'s, 'a> {
 /// The number of the innermost quantified name that is this one, where there is one. Linear in the names around.
 fn number_around(around: &Around, name: &Name) -> Option<i64>
     ensures { (env : names.Env) → value_bound (with_all env around.now name.now)
-        ≡ number_or result (value_bound (env name.now)) }
+        ≡ number_or_value result (value_bound (env name.now)) }
 {
     match around {
         Around::Nothing => None,

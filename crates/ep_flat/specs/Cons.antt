@@ -41,8 +41,8 @@ unfoldable pub number_at : List ℤ → ℕ → ℤ
 number_at values x = slice_index_or values x (pos 0)
 
 -- the numbers of some variables
-unfoldable pub numbers_at : List ℤ → List ℕ → List ℤ
-numbers_at values xs = map (number_at values) xs
+unfoldable pub numbers_of_vars : List ℤ → List ℕ → List ℤ
+numbers_of_vars values xs = map (number_at values) xs
 
 -- whether a number is there, and is this one
 unfoldable pub is_value : Option ℤ → ℤ → Bool
@@ -63,17 +63,17 @@ kind_holds values (remainder r x y) =
     int_eq (number_at values r) (safe_remainder (number_at values x) (number_at values y))
 kind_holds values (power r x n) = int_eq (number_at values r) (nth_power (number_at values x) n)
 kind_holds values (absolute r x) = int_eq (number_at values r) (absolute_of (number_at values x))
-kind_holds values (least r xs) = is_value (least_of (numbers_at values xs)) (number_at values r)
-kind_holds values (greatest r xs) = is_value (greatest_of (numbers_at values xs)) (number_at values r)
+kind_holds values (least r xs) = is_value (least_of (numbers_of_vars values xs)) (number_at values r)
+kind_holds values (greatest r xs) = is_value (greatest_of (numbers_of_vars values xs)) (number_at values r)
 kind_holds values (element r xs keys indices) =
-    int_eq (number_at values r) (safe_picked (numbers_at values xs) keys (numbers_at values indices))
-kind_holds values (all_different xs) = are_different (numbers_at values xs)
+    int_eq (number_at values r) (safe_picked (numbers_of_vars values xs) keys (numbers_of_vars values indices))
+kind_holds values (all_different xs) = are_different (numbers_of_vars values xs)
 kind_holds values (counts xs ns cs) =
-    unwrap_or (counts_hold CompareOp.Equal (numbers_at values xs) ns (numbers_at values cs)) false
-kind_holds values (at_least xs cs ns) = unwrap_or (counts_hold CompareOp.AtLeast (numbers_at values xs) ns cs) false
-kind_holds values (at_most xs cs ns) = unwrap_or (counts_hold CompareOp.AtMost (numbers_at values xs) ns cs) false
-kind_holds values (table xs rows) = unwrap_or (is_row_of rows (numbers_at values xs)) false
-kind_holds values (lex op xs ys) = lex_holds op (numbers_at values xs) (numbers_at values ys)
+    unwrap_or (counts_hold CompareOp.Equal (numbers_of_vars values xs) ns (numbers_of_vars values cs)) false
+kind_holds values (at_least xs cs ns) = unwrap_or (counts_hold CompareOp.AtLeast (numbers_of_vars values xs) ns cs) false
+kind_holds values (at_most xs cs ns) = unwrap_or (counts_hold CompareOp.AtMost (numbers_of_vars values xs) ns cs) false
+kind_holds values (table xs rows) = unwrap_or (is_row_of rows (numbers_of_vars values xs)) false
+kind_holds values (lex op xs ys) = lex_holds op (numbers_of_vars values xs) (numbers_of_vars values ys)
 
 -- a constraint is as it has to be: it holds, or its variable is 1 exactly where it holds, and else 0
 unfoldable pub is_as_said : List ℤ → Option ℕ → Bool → Bool

@@ -3,7 +3,7 @@ use Rattle.std.specs.Prelude.{◌≡◌, [], map, MatchOption, slice_index_or, �
 use Rattle.std.specs.List.{All, AllZip, Contains}
 use Rattle.ep_base.specs.Reads.{IsWithinNumbers}
 use Rattle.ep_base.specs.declared.operators.Sense.{Sense}
-use Rattle.ep_flat.specs.Cons.{FlatCon, con_holds, con_variables, kind_coefficients, number_at, numbers_at}
+use Rattle.ep_flat.specs.Cons.{FlatCon, con_holds, con_variables, kind_coefficients, number_at, numbers_of_vars}
 
 -- the domains of variables, and the constraints on them
 pub record FlatState : Type 0 where
@@ -22,7 +22,7 @@ pub record Meets (flat : FlatState) (values : List ℤ) : Type 0 where
 
 -- the numbers that the cells have where the variables have these
 abbrev pub cell_numbers : MapState → List ℤ → List ℤ
-cell_numbers m values = numbers_at values m.cells
+cell_numbers m values = numbers_of_vars values m.cells
 
 -- the number of the objective's variable, where there is one
 unfoldable pub objective_number : MapState → List ℤ → Option ℤ

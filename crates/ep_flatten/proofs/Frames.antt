@@ -8,7 +8,7 @@ use Rattle.std.proofs.lemmas.List.Elements.{All-head, All-tail, All-weaker}
 use Rattle.ep_base.specs.Numbers.{absolute_of, are_different, compare_holds, counts_hold, greatest_of, has_number, is_one, is_row_of, least_of, lex_holds, nth_power, of_bool}
 use Rattle.ep_base.specs.Reads.{safe_picked, safe_quotient, safe_remainder, same_bool, weighted_sum}
 use Rattle.ep_base.specs.declared.operators.CompareOp.{CompareOp}
-use Rattle.ep_flat.specs.Cons.{FlatKind, FlatCon, clause, all_of, same_truth, linear, member, product, quotient, remainder, power, absolute, least, greatest, element, all_different, counts, at_least, at_most, table, lex, con_holds, con_variables, is_as_said, is_value, kind_holds, kind_variables, number_at, numbers_at}
+use Rattle.ep_flat.specs.Cons.{FlatKind, FlatCon, clause, all_of, same_truth, linear, member, product, quotient, remainder, power, absolute, least, greatest, element, all_different, counts, at_least, at_most, table, lex, con_holds, con_variables, is_as_said, is_value, kind_holds, kind_variables, number_at, numbers_of_vars}
 use Rattle.ep_flat.specs.Flats.{NamesBelow}
 use Rattle.ep_flatten.proofs.Unrolled.{all_left, all_right, map_same}
 
@@ -16,8 +16,8 @@ use Rattle.ep_flatten.proofs.Unrolled.{all_left, all_right, map_same}
 abbrev pub Agree : List ℤ → List ℤ → List ℕ → Type 0
 Agree u v xs = All (λ x. number_at u x ≡ number_at v x) xs
 
-pub numbers_agree : (u v : List ℤ) (xs : List ℕ) → Agree u v xs → numbers_at u xs ≡ numbers_at v xs
-unfolding numbers_at
+pub numbers_agree : (u v : List ℤ) (xs : List ℕ) → Agree u v xs → numbers_of_vars u xs ≡ numbers_of_vars v xs
+unfolding numbers_of_vars
 numbers_agree u v xs h = map_same (number_at u) (number_at v) xs h
 
 first : (u v : List ℤ) (x : ℕ) (xs : List ℕ) → Agree u v (x ∷ xs) → number_at u x ≡ number_at v x
@@ -52,13 +52,13 @@ two_agree f u v x y xs h = ap (λ n. f n (number_at u y)) (first u v x (y ∷ xs
 three_agree : {A : Type 0} (f : ℤ → ℤ → ℤ → A) (u v : List ℤ) (x y z : ℕ) → Agree u v (x ∷ y ∷ z ∷ []) → f (number_at u x) (number_at u y) (number_at u z) ≡ f (number_at v x) (number_at v y) (number_at v z)
 three_agree f u v x y z h = ap (λ n. f n (number_at u y) (number_at u z)) (first u v x (y ∷ z ∷ []) h) ∙ two_agree (f (number_at v x)) u v y z [] (rest u v x (y ∷ z ∷ []) h)
 
-list_agrees : {A : Type 0} (f : ℤ → List ℤ → A) (u v : List ℤ) (r : ℕ) (xs : List ℕ) → Agree u v (r ∷ xs) → f (number_at u r) (numbers_at u xs) ≡ f (number_at v r) (numbers_at v xs)
-list_agrees f u v r xs h = ap (λ n. f n (numbers_at u xs)) (first u v r xs h) ∙ ap (f (number_at v r)) (numbers_agree u v xs (rest u v r xs h))
+list_agrees : {A : Type 0} (f : ℤ → List ℤ → A) (u v : List ℤ) (r : ℕ) (xs : List ℕ) → Agree u v (r ∷ xs) → f (number_at u r) (numbers_of_vars u xs) ≡ f (number_at v r) (numbers_of_vars v xs)
+list_agrees f u v r xs h = ap (λ n. f n (numbers_of_vars u xs)) (first u v r xs h) ∙ ap (f (number_at v r)) (numbers_agree u v xs (rest u v r xs h))
 
-lists_agree : {A : Type 0} (f : List ℤ → List ℤ → A) (u v : List ℤ) (xs ys : List ℕ) → Agree u v (xs ++ ys) → f (numbers_at u xs) (numbers_at u ys) ≡ f (numbers_at v xs) (numbers_at v ys)
+lists_agree : {A : Type 0} (f : List ℤ → List ℤ → A) (u v : List ℤ) (xs ys : List ℕ) → Agree u v (xs ++ ys) → f (numbers_of_vars u xs) (numbers_of_vars u ys) ≡ f (numbers_of_vars v xs) (numbers_of_vars v ys)
 lists_agree f u v xs ys h =
-    ap (λ ns. f ns (numbers_at u ys)) (numbers_agree u v xs (all_left (λ x. number_at u x ≡ number_at v x) xs ys h))
-    ∙ ap (λ ns. f (numbers_at v xs) ns) (numbers_agree u v ys (all_right (λ x. number_at u x ≡ number_at v x) xs ys h))
+    ap (λ ns. f ns (numbers_of_vars u ys)) (numbers_agree u v xs (all_left (λ x. number_at u x ≡ number_at v x) xs ys h))
+    ∙ ap (λ ns. f (numbers_of_vars v xs) ns) (numbers_agree u v ys (all_right (λ x. number_at u x ≡ number_at v x) xs ys h))
 
 pub kind_agrees : (u v : List ℤ) (kind : FlatKind) → Agree u v (kind_variables kind) → kind_holds u kind ≡ kind_holds v kind
 unfolding kind_holds kind_variables
@@ -75,7 +75,7 @@ kind_agrees u v (absolute r x) h = two_agree (λ m a. int_eq m (absolute_of a)) 
 kind_agrees u v (least r xs) h = list_agrees (λ n ns. is_value (least_of ns) n) u v r xs h
 kind_agrees u v (greatest r xs) h = list_agrees (λ n ns. is_value (greatest_of ns) n) u v r xs h
 kind_agrees u v (element r xs keys indices) h =
-    ap (λ n. int_eq n (safe_picked (numbers_at u xs) keys (numbers_at u indices))) (first u v r (xs ++ indices) h)
+    ap (λ n. int_eq n (safe_picked (numbers_of_vars u xs) keys (numbers_of_vars u indices))) (first u v r (xs ++ indices) h)
     ∙ lists_agree (λ ms ns. int_eq (number_at v r) (safe_picked ms keys ns)) u v xs indices (rest u v r (xs ++ indices) h)
 kind_agrees u v (all_different xs) h = ap are_different (numbers_agree u v xs h)
 kind_agrees u v (counts xs ns cs) h = lists_agree (λ ms ks. unwrap_or (counts_hold CompareOp.Equal ms ns ks) false) u v xs cs h

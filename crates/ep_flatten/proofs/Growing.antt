@@ -11,15 +11,15 @@ use Rattle.std.proofs.lemmas.List.Elements.{All-append, All-nil, All-cons, All-h
 use Rattle.std.proofs.lemmas.Option.{get_or_from_slice_get}
 use Rattle.ep_base.specs.Intervals.{Interval, LiesIn, only}
 use Rattle.ep_base.specs.Reads.{IsWithinNumbers}
-use Rattle.ep_flat.specs.Cons.{FlatCon, con_holds, number_at, numbers_at}
+use Rattle.ep_flat.specs.Cons.{FlatCon, con_holds, number_at, numbers_of_vars}
 use Rattle.ep_flat.specs.Flats.{FlatState, HasSmallCoefficients, IsSoundFlat, Meets, NamesBelow}
 use Rattle.ep_ground.specs.Nodes.{GroundNode, constant, cell, coefficients_of, parts_of, undefined}
 use Rattle.ep_ground.specs.Terms.{node_value, term_value}
 use Rattle.ep_ground.specs.Bounds.{IsBounded, IsWithinReach, node_reach, reach_at, term_reach}
-use Rattle.ep_ground.specs.Grounds.{AreCellValues, GroundState, IsReached}
+use Rattle.ep_ground.specs.Grounds.{AreCellValues, GroundState, IsTermReached}
 use Rattle.ep_ground.specs.declared.cells.Cell.{Cell}
 use Rattle.ep_flatten.specs.Forms.{AreNumbersOf, TermForm, form_parts, form_value}
-use Rattle.ep_flatten.specs.Saying.{SaysForm, place_of, value_under}
+use Rattle.ep_flatten.specs.Saying.{SaysForm, variable_at, value_under}
 use Rattle.ep_flatten.proofs.FormLaws.{form_lies, form_same}
 use Rattle.ep_flatten.specs.Building.{Built, Covers, CoversForm, Extends, HasAll, IsBuilt, IsMarked, IsTermOf, flat_of, span_at}
 use Rattle.ep_flatten.proofs.Frames.{at_end, cons_back, cons_stay, domains_more, domains_split, earlier, names_more, numbers_agree}
@@ -44,8 +44,8 @@ contained (d ∷ vars) (v ∷ values) (suc x) h l = contained vars values x h.1 
 
 -- the cells' numbers are of their domains
 pub cells_of : (cells : List Cell) (at : List ℕ) (vars : List (List ℤ)) (values : List ℤ) → AllZip Contains vars values → All (λ x. x < length vars) at
-    → map (λ x. slice_index_or vars x []) at ≡ map (λ one. one.values) cells → AreCellValues cells (numbers_at values at)
-unfolding numbers_at
+    → map (λ x. slice_index_or vars x []) at ≡ map (λ one. one.values) cells → AreCellValues cells (numbers_of_vars values at)
+unfolding numbers_of_vars
 cells_of [] [] vars values h k e = tt
 cells_of [] (x ∷ at) vars values h k e = absurd cc
 cells_of (one ∷ cells) [] vars values h k e = absurd cc
@@ -85,7 +85,7 @@ record GoesBack (b : Built) (values : List ℤ) : Type 0 where
 -- what is known of the new term
 record Here (g : GroundState) (t : ℕ) (flat : FlatState) (cells : List ℕ) (place : ℕ) (span : Interval) : Type 0 where
   within : place < length flat.vars
-  tells : (values : List ℤ) → Meets flat values → term_value g.nodes (numbers_at values cells) t ≡ Some (number_at values place)
+  tells : (values : List ℤ) → Meets flat values → term_value g.nodes (numbers_of_vars values cells) t ≡ Some (number_at values place)
   ends : (xs : List ℤ) → AreCellValues g.cells xs → (n : ℤ) → term_value g.nodes xs t ≡ Some n → LiesIn n span
 
 abbrev pub later : Built → List (List ℤ) → List FlatCon → ℕ → Interval → Built
@@ -101,9 +101,9 @@ further : (g : GroundState) (marks : List Bool) (t : ℕ) (b : Built) (more : Li
     → (IsMarked marks t → Here g t (record { vars = b.vars ++ more; cons = cons }) b.cells place span)
     → IsBuilt g marks (t + 1) (later b more cons place span)
 further g marks t b more cons place span h sound extends back here =
-    let old_place : (u : ℕ) → u < t → place_of (b.places ++ place ∷ []) u ≡ place_of b.places u =
+    let old_place : (u : ℕ) → u < t → variable_at (b.places ++ place ∷ []) u ≡ variable_at b.places u =
     λ u l. get_or_append_left b.places (place ∷ []) 0 u (subst (λ m. u < m) (sym h.places) l) in
-    let new_place : place_of (b.places ++ place ∷ []) t ≡ place = get_or_at b.places place [] 0 t h.places in
+    let new_place : variable_at (b.places ++ place ∷ []) t ≡ place = get_or_at b.places place [] 0 t h.places in
     let old_span : (u : ℕ) → u < t → span_at (b.spans ++ span ∷ []) u ≡ span_at b.spans u =
     λ u l. get_or_append_left b.spans (span ∷ []) (only (pos 0)) u (subst (λ m. u < m) (sym h.spans) l) in
     let new_span : span_at (b.spans ++ span ∷ []) t ≡ span = get_or_at b.spans span [] (only (pos 0)) t h.spans in
@@ -113,16 +113,16 @@ further g marks t b more cons place span h sound extends back here =
       sound = sound;
       cells = All-weaker (λ x. x < length b.vars) (λ x. x < length (b.vars ++ more)) (λ x l. omega (arith, l, length-append b.vars more)) b.cells h.cells;
       domains = domains_stay b.vars more b.cells h.cells ∙ h.domains;
-      within = one_more (λ u. IsMarked marks u → place_of (b.places ++ place ∷ []) u < length (b.vars ++ more)) t
-          (λ u l m. subst (λ p. p < length (b.vars ++ more)) (sym (old_place u l)) (wider (place_of b.places u) b.vars more (h.within u l m)))
+      within = one_more (λ u. IsMarked marks u → variable_at (b.places ++ place ∷ []) u < length (b.vars ++ more)) t
+          (λ u l m. subst (λ p. p < length (b.vars ++ more)) (sym (old_place u l)) (wider (variable_at b.places u) b.vars more (h.within u l m)))
           (λ m. subst (λ p. p < length (b.vars ++ more)) (sym new_place) (here m).within);
       extends = extends;
-      tells = λ values meets. one_more (λ u. IsMarked marks u → term_value g.nodes (numbers_at values b.cells) u ≡ Some (number_at values (place_of (b.places ++ place ∷ []) u))) t
+      tells = λ values meets. one_more (λ u. IsMarked marks u → term_value g.nodes (numbers_of_vars values b.cells) u ≡ Some (number_at values (variable_at (b.places ++ place ∷ []) u))) t
           (λ u l m.
           let was = back values meets in
           ap (λ xs. term_value g.nodes xs u) (numbers_agree values was.front b.cells (All-weaker (λ x. x < length b.vars) (λ x. number_at values x ≡ number_at was.front x) was.same b.cells h.cells))
           ∙ h.tells was.front was.meets u l m
-          ∙ ap (λ n. Some n) (sym (ap (number_at values) (old_place u l) ∙ was.same (place_of b.places u) (h.within u l m))))
+          ∙ ap (λ n. Some n) (sym (ap (number_at values) (old_place u l) ∙ was.same (variable_at b.places u) (h.within u l m))))
           (λ m. (here m).tells values meets ∙ ap (λ p. Some (number_at values p)) (sym new_place));
       ends = λ xs are. one_more (λ u. IsMarked marks u → (n : ℤ) → term_value g.nodes xs u ≡ Some n → LiesIn n (span_at (b.spans ++ span ∷ []) u)) t
           (λ u l m n e. subst (λ i. LiesIn n i) (sym (old_span u l)) (h.ends xs are u l m n e))
@@ -187,9 +187,9 @@ within_reach i n h l =
 
 -- the parts of a marked term's form have the numbers of their variables
 told_parts : (g : GroundState) (marks : List Bool) (t : ℕ) (b : Built) (node : GroundNode) (form : TermForm) → IsBuilt g marks t b → IsTermOf g marks t node form
-    → (front : List ℤ) → Meets (flat_of b) front → AreNumbersOf (term_value g.nodes (numbers_at front b.cells)) (λ p. number_at front (place_of b.places p)) (form_parts node form)
+    → (front : List ℤ) → Meets (flat_of b) front → AreNumbersOf (term_value g.nodes (numbers_of_vars front b.cells)) (λ p. number_at front (variable_at b.places p)) (form_parts node form)
 told_parts g marks t b node form h at front meets =
-    both_parts {P = λ p. p < t} {Q = IsMarked marks} {R = λ p. term_value g.nodes (numbers_at front b.cells) p ≡ Some (number_at front (place_of b.places p))} (form_parts node form) (h.tells front meets) at.is.before at.marked
+    both_parts {P = λ p. p < t} {Q = IsMarked marks} {R = λ p. term_value g.nodes (numbers_of_vars front b.cells) p ≡ Some (number_at front (variable_at b.places p))} (form_parts node form) (h.tells front meets) at.is.before at.marked
 
 -- the value of a term lies in what covers its form's reach
 term_ends : (g : GroundState) (marks : List Bool) (t : ℕ) (b : Built) (node : GroundNode) (form : TermForm) (span : Interval) → IsBuilt g marks t b → IsTermOf g marks t node form → IsBounded g → CoversForm g.cells b.spans node form span
@@ -197,7 +197,7 @@ term_ends : (g : GroundState) (marks : List Bool) (t : ℕ) (b : Built) (node : 
 term_ends g marks t b node form span h at bounded covers xs are n e =
     let value = term_value g.nodes xs in
     let old = h.extends xs are in
-    let numbers : ℕ → ℤ = λ p. number_at old.values (place_of b.places p) in
+    let numbers : ℕ → ℤ = λ p. number_at old.values (variable_at b.places p) in
     let have : AreNumbersOf value numbers (form_parts node form) = subst (λ ys. AreNumbersOf (term_value g.nodes ys) numbers (form_parts node form)) old.gives (told_parts g marks t b node form h at old.values old.meets) in
     let of_form : form_value xs (λ p. Some (numbers p)) node form ≡ Some n = sym (at.is.value xs numbers have) ∙ e in
     let same : form_value xs (masked marks t value) node form ≡ form_value xs value node form =
@@ -208,16 +208,16 @@ term_ends g marks t b node form span h at bounded covers xs are n e =
 
 -- the value of a term is that of its form, where the parts have the values of their variables
 term_told : (g : GroundState) (marks : List Bool) (t : ℕ) (b : Built) (node : GroundNode) (form : TermForm) → IsBuilt g marks t b → IsTermOf g marks t node form
-    → (front : List ℤ) → Meets (flat_of b) front → term_value g.nodes (numbers_at front b.cells) t ≡ form_value (numbers_at front b.cells) (value_under front b.places) node form
+    → (front : List ℤ) → Meets (flat_of b) front → term_value g.nodes (numbers_of_vars front b.cells) t ≡ form_value (numbers_of_vars front b.cells) (value_under front b.places) node form
 unfolding value_under
-term_told g marks t b node form h at front meets = at.is.value (numbers_at front b.cells) (λ p. number_at front (place_of b.places p)) (told_parts g marks t b node form h at front meets)
+term_told g marks t b node form h at front meets = at.is.value (numbers_of_vars front b.cells) (λ p. number_at front (variable_at b.places p)) (told_parts g marks t b node form h at front meets)
 
 length_map : {A B : Type 0} (xs : List A) (f : A → B) → length (map f xs) ≡ length xs
 length_map [] f = refl
 length_map (x ∷ xs) f = ap suc (length_map xs f)
 
-cell_there : (values : List ℤ) (cells : List ℕ) (k : ℕ) → k < length cells → slice_get (numbers_at values cells) k ≡ Some (number_at values (slice_index_or cells k 0))
-unfolding numbers_at
+cell_there : (values : List ℤ) (cells : List ℕ) (k : ℕ) → k < length cells → slice_get (numbers_of_vars values cells) k ≡ Some (number_at values (slice_index_or cells k 0))
+unfolding numbers_of_vars
 cell_there values [] k h = absurd (omega (arith, h))
 cell_there values (x ∷ cells) zero h = refl
 cell_there values (x ∷ cells) (suc k) h = cell_there values cells k (omega (arith, h))
@@ -232,7 +232,7 @@ with_cell g marks t b k form span h at bounded covers l =
     let here : k < length b.cells = subst (λ n. k < n) (sym many) l in
     reusing g marks t b (slice_index_or b.cells k 0) span h (λ _. record {
       within = h.cells k 0 here;
-      tells = λ values meets. unrolled (numbers_at values b.cells) g.nodes t (cell k) at.got none ∙ cell_there values b.cells k here;
+      tells = λ values meets. unrolled (numbers_of_vars values b.cells) g.nodes t (cell k) at.got none ∙ cell_there values b.cells k here;
       ends = λ xs are n e.
           covers.holds n
           (node_lies g.cells xs (masked marks t (term_value g.nodes xs)) (span_at b.spans) are (masked_lies g marks t b h xs are) (cell k) n (sym (unrolled xs g.nodes t (cell k) at.got none) ∙ e))
@@ -295,12 +295,12 @@ record Determines (b : Built) (d : List ℤ) (more : List FlatCon) (value : List
 
 grown : (g : GroundState) (marks : List Bool) (t : ℕ) (b : Built) (d : List ℤ) (more : List FlatCon) (span : Interval) (value : List ℤ → ℤ) → IsBuilt g marks t b
     → IsSoundFlat (longer b d more) → Determines b d more value
-    → ((front : List ℤ) → Meets (flat_of b) front → term_value g.nodes (numbers_at front b.cells) t ≡ Some (value front))
+    → ((front : List ℤ) → Meets (flat_of b) front → term_value g.nodes (numbers_of_vars front b.cells) t ≡ Some (value front))
     → ((xs : List ℤ) → AreCellValues g.cells xs → (n : ℤ) → term_value g.nodes xs t ≡ Some n → LiesIn n span)
     → IsBuilt g marks (t + 1) (later b (d ∷ []) (b.cons ++ more) (length b.vars) span)
 grown g marks t b d more span value h sound is told ends =
     let names = h.sound.names in
-    let cells_stay : (front : List ℤ) (n : ℤ) → length front ≡ length b.vars → numbers_at (front ++ n ∷ []) b.cells ≡ numbers_at front b.cells =
+    let cells_stay : (front : List ℤ) (n : ℤ) → length front ≡ length b.vars → numbers_of_vars (front ++ n ∷ []) b.cells ≡ numbers_of_vars front b.cells =
     λ front n long. numbers_agree (front ++ n ∷ []) front b.cells (All-weaker (λ x. x < length b.vars) (λ x. number_at (front ++ n ∷ []) x ≡ number_at front x)
     (λ x l. earlier front n x (subst (λ m. x < m) (sym long) l)) b.cells h.cells) in
     further g marks t b (d ∷ []) (b.cons ++ more) (length b.vars) span h sound
@@ -319,7 +319,7 @@ grown g marks t b d more span value h sound is told ends =
       within = omega (arith, length_push b.vars d);
       tells = λ values meets.
           let s = split b d more values names meets in
-          ap (λ vs. term_value g.nodes (numbers_at vs b.cells) t) s.is
+          ap (λ vs. term_value g.nodes (numbers_of_vars vs b.cells) t) s.is
           ∙ ap (λ xs. term_value g.nodes xs t) (cells_stay s.front s.last s.long)
           ∙ told s.front s.meets
           ∙ ap (λ n. Some n) (sym (ap (λ vs. number_at vs (length b.vars)) s.is ∙ at_end s.front s.last (length b.vars) s.long ∙ is.back s.front s.last s.meets s.has s.holds));
@@ -346,28 +346,28 @@ pub with_operation : (g : GroundState) (marks : List Bool) (t : ℕ) (b : Built)
 unfolding value_under
 with_operation g marks t b node form con d span h at bounded covers says has =
     let r = length b.vars in
-    let placed : All (λ p. place_of b.places p < r) (form_parts node form) =
-    both_parts {P = λ p. p < t} {Q = IsMarked marks} {R = λ p. place_of b.places p < r} (form_parts node form) h.within at.is.before at.marked in
+    let placed : All (λ p. variable_at b.places p < r) (form_parts node form) =
+    both_parts {P = λ p. p < t} {Q = IsMarked marks} {R = λ p. variable_at b.places p < r} (form_parts node form) h.within at.is.before at.marked in
     let same_value : (front : List ℤ) (n : ℤ) → length front ≡ r → says.value (front ++ n ∷ []) ≡ says.value front =
     λ front n long. some_is (
     sym (says.gives [] (front ++ n ∷ []))
     ∙ form_same [] (value_under (front ++ n ∷ []) b.places) (value_under front b.places) node form
-    (All-weaker (λ p. place_of b.places p < r) (λ p. value_under (front ++ n ∷ []) b.places p ≡ value_under front b.places p)
-    (λ p l. ap (λ m. Some m) (earlier front n (place_of b.places p) (subst (λ m. place_of b.places p < m) (sym long) l))) (form_parts node form) placed)
+    (All-weaker (λ p. variable_at b.places p < r) (λ p. value_under (front ++ n ∷ []) b.places p ≡ value_under front b.places p)
+    (λ p l. ap (λ m. Some m) (earlier front n (variable_at b.places p) (subst (λ m. variable_at b.places p < m) (sym long) l))) (form_parts node form) placed)
     ∙ says.gives [] front) in
-    let told : (front : List ℤ) → Meets (flat_of b) front → term_value g.nodes (numbers_at front b.cells) t ≡ Some (says.value front) =
-    λ front meets. term_told g marks t b node form h at front meets ∙ says.gives (numbers_at front b.cells) front in
+    let told : (front : List ℤ) → Meets (flat_of b) front → term_value g.nodes (numbers_of_vars front b.cells) t ≡ Some (says.value front) =
+    λ front meets. term_told g marks t b node form h at front meets ∙ says.gives (numbers_of_vars front b.cells) front in
     let ends = term_ends g marks t b node form span h at bounded covers in
     let holds_is : (front : List ℤ) (n : ℤ) → length front ≡ r → con_holds (front ++ n ∷ []) con ≡ int_eq n (says.value front) =
     λ front n long. says.says (front ++ n ∷ []) ∙ ap (λ m. int_eq m (says.value (front ++ n ∷ []))) (at_end front n r long) ∙ ap (int_eq n) (same_value front n long) in
     grown g marks t b d (con ∷ []) span says.value h
     (sound_further b d (con ∷ []) h.sound (small_domain d span covers.small has)
-    (alone (NamesBelow (r + 1)) con (says.names (r + 1) (omega arith) (All-weaker (λ p. place_of b.places p < r) (λ p. place_of b.places p < r + 1) (λ p l. omega (arith, l)) (form_parts node form) placed)))
+    (alone (NamesBelow (r + 1)) con (says.names (r + 1) (omega arith) (All-weaker (λ p. variable_at b.places p < r) (λ p. variable_at b.places p < r + 1) (λ p l. omega (arith, l)) (form_parts node form) placed)))
     (alone HasSmallCoefficients con (says.coefficients (at.is.coefficients (subst (λ n. All IsWithinNumbers (coefficients_of n)) (get_or_from_slice_get g.nodes t node undefined at.got) (bounded.coefficients t at.reached))))))
     (record {
       forth = λ front meets.
           let long = zip_length b.vars front meets.domains in (
-            (has (says.value front)).1 (ends (numbers_at front b.cells) (cells_of g.cells b.cells b.vars front meets.domains h.cells h.domains) (says.value front) (told front meets)),
+            (has (says.value front)).1 (ends (numbers_of_vars front b.cells) (cells_of g.cells b.cells b.vars front meets.domains h.cells h.domains) (says.value front) (told front meets)),
             alone (λ c. IsTrue (con_holds (front ++ says.value front ∷ []) c)) con
                 ((holds_is front (says.value front) long ∙ (Decides-int_eq (says.value front) (says.value front)).1 refl)),
           );
@@ -411,7 +411,7 @@ number_reach cells (node ∷ nodes) reaches (suc k) c e =
 zero_first : (n : ℕ) → n ≡ 0 + n
 zero_first n = omega arith
 
-number_small : (g : GroundState) (t : ℕ) (c : ℤ) → slice_get g.nodes t ≡ Some (constant c) → IsReached g t → IsBounded g → IsWithinReach (only c)
+number_small : (g : GroundState) (t : ℕ) (c : ℤ) → slice_get g.nodes t ≡ Some (constant c) → IsTermReached g t → IsBounded g → IsWithinReach (only c)
 unfolding term_reach
 number_small g t c e reached bounded =
     subst IsWithinReach (ap (reach_at (fold (λ before node. before ++ node_reach g.cells (reach_at before) node ∷ []) [] g.nodes)) (zero_first t) ∙ number_reach g.cells g.nodes [] t c e) (bounded.reaches t reached)
@@ -438,5 +438,5 @@ with_number g marks t b c form d h at bounded has =
       forth = λ front meets. ((has c).1 here, All-nil (λ con. IsTrue (con_holds (front ++ c ∷ []) con)));
       back = λ front n meets in_domain _. let l = (has n).0 in_domain in same_ends n c l.0 l.1;
     })
-    (λ front meets. unrolled (numbers_at front b.cells) g.nodes t (constant c) at.got none)
+    (λ front meets. unrolled (numbers_of_vars front b.cells) g.nodes t (constant c) at.got none)
     (λ xs are n e. subst (λ m. LiesIn m (only c)) (some_is (sym (unrolled xs g.nodes t (constant c) at.got none) ∙ e)) here))

@@ -5,7 +5,7 @@ use Rattle.std.specs.List.{All, Contains}
 use Rattle.std.proofs.lemmas.Bool.{false≢true}
 use Rattle.std.proofs.lemmas.List.{get_or-set_same, length-set, length-replicate, map_more, take_more}
 use Rattle.std.proofs.lemmas.List.Elements.{All-cons, All-contains, All-head, All-nil, All-tail, All-weaker, Contains-append_left, Contains-append_right}
-use Rattle.ep_ground.specs.Grounds.{GroundState, IsReached, IsWellFormed, LeadsTo, itself, by_part, named_terms}
+use Rattle.ep_ground.specs.Grounds.{GroundState, IsTermReached, IsWellFormed, LeadsTo, itself, by_part, named_terms}
 use Rattle.ep_ground.specs.Nodes.{GroundNode, parts_of}
 use Rattle.ep_flatten.specs.Building.{AreMarks, IsForced, IsMarked, goal_terms}
 use Rattle.ep_flatten.specs.Forms.{HaveForms, IsFormOf, TermForm, form_at, form_parts}
@@ -127,11 +127,11 @@ same_node : (g : GroundState) (t u : ℕ) (node other : GroundNode) → t ≡ u 
 same_node g t u node other e got found = some_is (sym got ∙ ap (slice_get g.nodes) e ∙ found)
 
 -- the ground leads to a part of what it leads to
-reached_part : (g : GroundState) (t u : ℕ) (node : GroundNode) → IsReached g t → slice_get g.nodes t ≡ Some node → Contains (parts_of node) u → IsReached g u
+reached_part : (g : GroundState) (t u : ℕ) (node : GroundNode) → IsTermReached g t → slice_get g.nodes t ≡ Some node → Contains (parts_of node) u → IsTermReached g u
 reached_part g t u node r got part = record { from = r.from; named = r.named; leads = leads_on g.nodes r.from t u r.leads (by_part t u u node got part (itself u)) }
 
 -- the ground leads to what such a term leads to
-reached_on : (g : GroundState) (t u : ℕ) → IsReached g t → LeadsTo g.nodes t u → IsReached g u
+reached_on : (g : GroundState) (t u : ℕ) → IsTermReached g t → LeadsTo g.nodes t u → IsTermReached g u
 reached_on g t u r leads = record { from = r.from; named = r.named; leads = leads_on g.nodes r.from t u r.leads leads }
 
 -- what holds of each element
@@ -168,7 +168,7 @@ tops_step g forms t node truths ms h have m got before =
     let inside : All (λ p. p < length ms) needs = all_from (λ p. p < length ms) needs (λ u found. let l = need_before u found in omega (arith, l, below, h.long)) in
     let keeps : (ts : List ℕ) → All (IsMarked truths) ts → All (IsMarked (marked truths (asserts_of node))) ts = λ ts. All-weaker (IsMarked truths) (IsMarked (marked truths (asserts_of node))) (marks_kept truths (asserts_of node)) ts in
     let stays : (ts : List ℕ) → All (IsMarked ms) ts → All (IsMarked (marked ms needs)) ts = λ ts. All-weaker (IsMarked ms) (IsMarked (marked ms needs)) (marks_kept ms needs) ts in
-    let above : IsReached g t = h.above t m in
+    let above : IsTermReached g t = h.above t m in
     record {
       asserted_long = marks_long truths (asserts_of node) ∙ h.asserted_long;
       long = marks_long ms needs ∙ h.long;
@@ -195,10 +195,10 @@ tops_step g forms t node truths ms h have m got before =
         | inl was ↦ h.forced u was
         | inr part ↦ forced_part g t u node (h.forced t m) got before part
       ];
-      above = λ u n. elim (marks_only truths (asserts_of node) u n) as (λ _. IsReached g u) [ inl was ↦ h.above u was | inr part ↦ reached_part g t u node above got (asserts_in node u part) ];
-      reached = λ u n. elim (marks_only ms needs u n) as (λ _. IsReached g u) [
+      above = λ u n. elim (marks_only truths (asserts_of node) u n) as (λ _. IsTermReached g u) [ inl was ↦ h.above u was | inr part ↦ reached_part g t u node above got (asserts_in node u part) ];
+      reached = λ u n. elim (marks_only ms needs u n) as (λ _. IsTermReached g u) [
         | inl was ↦ h.reached u was
-        | inr part ↦ elim (needs_in t node form u part) as (λ _. IsReached g u) [ inl same ↦ subst (IsReached g) same above | inr found ↦ reached_on g t u above (All-contains (LeadsTo g.nodes t) (form_parts node form) u is.leads found) ]
+        | inr part ↦ elim (needs_in t node form u part) as (λ _. IsTermReached g u) [ inl same ↦ subst (IsTermReached g) same above | inr found ↦ reached_on g t u above (All-contains (LeadsTo g.nodes t) (form_parts node form) u is.leads found) ]
       ];
     }
 
@@ -243,7 +243,7 @@ marks_step g forms t node truths ms h have m got =
           (subst (λ o. All (IsMarked (marked ms (form_parts node form))) (form_parts o form)) (same_node g t u node other k got found) (marks_have ms (form_parts node form) inside)));
       forced = h.forced;
       above = h.above;
-      reached = λ u n. elim (marks_only ms (form_parts node form) u n) as (λ _. IsReached g u) [ inl was ↦ h.reached u was | inr part ↦ reached_on g t u (h.reached t m) (All-contains (LeadsTo g.nodes t) (form_parts node form) u is.leads part) ];
+      reached = λ u n. elim (marks_only ms (form_parts node form) u n) as (λ _. IsTermReached g u) [ inl was ↦ h.reached u was | inr part ↦ reached_on g t u (h.reached t m) (All-contains (LeadsTo g.nodes t) (form_parts node form) u is.leads part) ];
     }
 
 pub marks_done : (g : GroundState) (forms : List TermForm) (truths ms : List Bool) → AreMarksFrom g forms 0 0 truths ms → AreMarks g forms truths ms

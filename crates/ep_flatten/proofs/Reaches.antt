@@ -11,7 +11,7 @@ use Rattle.ep_base.specs.Numbers.{absolute_of, greatest_of, least_of, nth_power,
 use Rattle.ep_base.specs.Reads as reads
 use Rattle.ep_base.specs.Reads.{all_there, first_or_zero, picked, safe_picked, weighted_sum}
 use Rattle.ep_ground.specs.Nodes.{GroundNode, constant, undefined, cell, sum, product, quotient, remainder, power, absolute, least, greatest, pick, whole, safe_quotient, safe_remainder, safe_pick, compare, lex, member, negation, all_of, any_of, same_truth, all_different, counts, at_least, at_most, table}
-use Rattle.ep_ground.specs.Terms.{node_value, on_both, term_value, truth, value_at, values_from, values_of, weighed}
+use Rattle.ep_ground.specs.Terms.{node_value, on_both, term_value, truth, value_at, values_from, term_values_of, weighed}
 use Rattle.ep_ground.specs.Bounds.{node_reach, reach_at, scaled, term_reach}
 use Rattle.ep_ground.specs.Grounds.{AreCellValues}
 use Rattle.ep_ground.specs.declared.cells.Cell.{Cell}
@@ -142,8 +142,8 @@ truth_lies (Some true) n e = subst (λ m. LiesIn m truth_interval) (some_is e) (
 truth_lies (Some false) n e = subst (λ m. LiesIn m truth_interval) (some_is e) (omega (arith, ints), omega (arith, ints))
 
 -- the values of some terms lie in their intervals, one in each
-each_lies : (value : ℕ → Option ℤ) (reach : ℕ → Interval) → Lie value reach → (ts : List ℕ) (ns : List ℤ) → values_of value ts ≡ Some ns → LieInEach ns (map reach ts)
-unfolding values_of all_there
+each_lies : (value : ℕ → Option ℤ) (reach : ℕ → Interval) → Lie value reach → (ts : List ℕ) (ns : List ℤ) → term_values_of value ts ≡ Some ns → LieInEach ns (map reach ts)
+unfolding term_values_of all_there
 each_lies value reach h [] ns e = subst (λ ms. LieInEach ms []) (some_is e) tt
 each_lies value reach h (t ∷ ts) ns e = by (value t) refl (all_there (map value ts)) refl (each_lies value reach h ts) e
   where
@@ -248,16 +248,16 @@ node_lies cells values value reach are h (absolute a) n e =
     let g : _ = one_given absolute_of (value a) n e in
     subst (λ k. LiesIn k (absolute_interval (reach a))) g.2 (absolute_lies g.0 (reach a) (h a g.0 g.1))
 node_lies cells values value reach are h (least ts) n e =
-    let g : _ = then_given least_of (values_of value ts) n e in
+    let g : _ = then_given least_of (term_values_of value ts) n e in
     least_lies g.0 (map reach ts) (each_lies value reach h ts g.0 g.1) n g.2
 node_lies cells values value reach are h (greatest ts) n e =
-    let g : _ = then_given greatest_of (values_of value ts) n e in
+    let g : _ = then_given greatest_of (term_values_of value ts) n e in
     greatest_lies g.0 (map reach ts) (each_lies value reach h ts g.0 g.1) n g.2
 node_lies cells values value reach are h (pick ts keys indices) n e =
-    let g : _ = both_given (λ xs is. picked xs keys is) (values_of value ts) (values_of value indices) n e in
+    let g : _ = both_given (λ xs is. picked xs keys is) (term_values_of value ts) (term_values_of value indices) n e in
     picked_lies g.0 (map reach ts) (each_lies value reach h ts g.0 g.2) keys g.1 n g.4
 node_lies cells values value reach are h (whole a ts) n e =
-    let g : _ = both_given (λ x xs. Some x) (value a) (values_of value ts) n e in
+    let g : _ = both_given (λ x xs. Some x) (value a) (term_values_of value ts) n e in
     subst (λ k. LiesIn k (reach a)) (some_is g.4) (h a g.0 g.2)
 node_lies cells values value reach are h (safe_quotient a b) n e =
     let g : _ = both_given (λ x y. Some (reads.safe_quotient x y)) (value a) (value b) n e in
@@ -266,7 +266,7 @@ node_lies cells values value reach are h (safe_remainder a b) n e =
     let g : _ = both_given (λ x y. Some (reads.safe_remainder x y)) (value a) (value b) n e in
     subst (λ k. LiesIn k (remainder_interval (reach b))) (some_is g.4) (safe_remainder_lies g.0 g.1 (reach b) (h b g.1 g.3))
 node_lies cells values value reach are h (safe_pick ts keys indices) n e =
-    let g : _ = both_given (λ xs is. Some (safe_picked xs keys is)) (values_of value ts) (values_of value indices) n e in
+    let g : _ = both_given (λ xs is. Some (safe_picked xs keys is)) (term_values_of value ts) (term_values_of value indices) n e in
     subst (λ k. LiesIn k (hull (map reach ts))) (some_is g.4) (safe_picked_lies g.0 (map reach ts) (each_lies value reach h ts g.0 g.2) keys g.1)
 node_lies cells values value reach are h (compare op a b) n e = truth_lies _ n e
 node_lies cells values value reach are h (lex op ts us) n e = truth_lies _ n e

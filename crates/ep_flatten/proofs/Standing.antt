@@ -6,12 +6,12 @@ use Rattle.std.proofs.lemmas.List.{get_or-map, get_or_append_left, get_or_at, ge
 use Rattle.std.proofs.lemmas.List.Elements.{All-append, All-from_get_or, All-head, All-map, All-nil}
 use Rattle.ep_base.specs.Reads.{IsWithinNumbers}
 use Rattle.ep_base.specs.declared.operators.Sense.{Sense}
-use Rattle.ep_flat.specs.Cons.{FlatCon, con_holds, number_at, numbers_at}
+use Rattle.ep_flat.specs.Cons.{FlatCon, con_holds, number_at, numbers_of_vars}
 use Rattle.ep_flat.specs.Flats.{FlatState, HasSmallCoefficients, MapState, Meets, NamesBelow, objective_number}
 use Rattle.ep_flatten.specs.Building.{AreMarks, Built, HasTops, IsBuilt, IsMarked, flat_of, goal_terms}
 use Rattle.ep_flatten.specs.Flattening.{IsMetBy, StandsFor}
 use Rattle.ep_flatten.specs.Forms.{TermForm}
-use Rattle.ep_flatten.specs.Saying.{place_of}
+use Rattle.ep_flatten.specs.Saying.{variable_at}
 use Rattle.ep_flatten.proofs.Growing.{cells_of}
 use Rattle.ep_flatten.proofs.Unrolled.{all_left, all_right}
 use Rattle.ep_ground.specs.Bounds.{IsBounded}
@@ -24,8 +24,8 @@ both_all xs f h k = λ i d l. f (slice_index_or xs i d) (h i d l) (k i d l)
 
 -- what is known of a named term
 record IsNamed (g : GroundState) (b : Built) (t : ℕ) : Type 0 where
-  within : place_of b.places t < length b.vars
-  tells : (values : List ℤ) → Meets (flat_of b) values → term_value g.nodes (numbers_at values b.cells) t ≡ Some (number_at values (place_of b.places t))
+  within : variable_at b.places t < length b.vars
+  tells : (values : List ℤ) → Meets (flat_of b) values → term_value g.nodes (numbers_of_vars values b.cells) t ≡ Some (number_at values (variable_at b.places t))
 
 named : (g : GroundState) (forms : List TermForm) (asserted marks : List Bool) (b : Built) → IsBuilt g marks (length g.nodes) b → AreMarks g forms asserted marks → IsWellFormed g → All (IsNamed g b) (goal_terms g)
 unfolding named_terms goal_terms
@@ -43,7 +43,7 @@ named_goal g b h = by g.objective h
     by (Some goal) k = All-head (IsNamed g b) goal.1 [] k
 
 abbrev goal_of : List ℕ → Option (Sense × ℕ) → Option (Sense × ℕ)
-goal_of places o = option_map (λ goal. (goal.0, place_of places goal.1)) o
+goal_of places o = option_map (λ goal. (goal.0, variable_at places goal.1)) o
 
 goal_within : (g : GroundState) (b : Built) (o : Option (Sense × ℕ)) → MatchOption o (Unit {0}) (λ goal. IsNamed g b goal.1) → MatchOption (goal_of b.places o) (Unit {0}) (λ goal. goal.1 < length b.vars)
 goal_within g b None h = tt
@@ -54,12 +54,12 @@ goal_sense places None = refl
 goal_sense places (Some goal) = refl
 
 goal_number : (g : GroundState) (b : Built) (values : List ℤ) (o : Option (Sense × ℕ)) → Meets (flat_of b) values → MatchOption o (Unit {0}) (λ goal. IsNamed g b goal.1)
-    → option_map (λ goal. number_at values goal.1) (goal_of b.places o) ≡ option_and_then (λ goal. term_value g.nodes (numbers_at values b.cells) goal.1) o
+    → option_map (λ goal. number_at values goal.1) (goal_of b.places o) ≡ option_and_then (λ goal. term_value g.nodes (numbers_of_vars values b.cells) goal.1) o
 goal_number g b values None meets h = refl
 goal_number g b values (Some goal) meets h = sym (h.tells values meets)
 
 goal_there : (g : GroundState) (b : Built) (values : List ℤ) (o : Option (Sense × ℕ)) → Meets (flat_of b) values → MatchOption o (Unit {0}) (λ goal. IsNamed g b goal.1)
-    → MatchOption o (Unit {0}) (λ goal. IsSome (term_value g.nodes (numbers_at values b.cells) goal.1))
+    → MatchOption o (Unit {0}) (λ goal. IsSome (term_value g.nodes (numbers_of_vars values b.cells) goal.1))
 goal_there g b values None meets h = tt
 goal_there g b values (Some goal) meets h = subst IsSome (sym (h.tells values meets)) refl
 
@@ -88,14 +88,14 @@ values_extend g forms asserted marks b tops h are top cells s =
     }
 
 values_restrict : (g : GroundState) (forms : List TermForm) (asserted marks : List Bool) (b : Built) (tops : List FlatCon) → IsBuilt g marks (length g.nodes) b → AreMarks g forms asserted marks → IsWellFormed g → HasTops g asserted b (length g.nodes) tops
-    → All (IsNamed g b) (goal_terms g) → (values : List ℤ) → Meets (whole_flat b tops) values → IsGroundSolution g (numbers_at values b.cells)
+    → All (IsNamed g b) (goal_terms g) → (values : List ℤ) → Meets (whole_flat b tops) values → IsGroundSolution g (numbers_of_vars values b.cells)
 unfolding HasObjective named_terms
 values_restrict g forms asserted marks b tops h are formed top known values meets =
     let part = meets_part b tops values meets in
     let goals = option_to_list (option_map (λ goal. goal.1) g.objective) in
     record {
       cells = cells_of g.cells b.cells b.vars values meets.domains h.cells h.domains;
-      clauses = both_all {P = IsMarked asserted} {Q = λ t. t < length g.nodes} {R = λ t. term_value g.nodes (numbers_at values b.cells) t ≡ Some (pos 1)} g.clauses
+      clauses = both_all {P = IsMarked asserted} {Q = λ t. t < length g.nodes} {R = λ t. term_value g.nodes (numbers_of_vars values b.cells) t ≡ Some (pos 1)} g.clauses
           (λ t m l. top.forth values part (all_right (λ con. IsTrue (con_holds values con)) b.cons tops meets.cons) t l m)
           are.clauses (all_left (λ t. t < length g.nodes) g.clauses goals formed.terms);
       objective = goal_there g b values g.objective part (named_goal g b known);
@@ -123,7 +123,7 @@ stands_whole g forms asserted marks b tops h are formed top =
 
 -- the same, where the constraints and the map are known to be these
 pub stands : (g : GroundState) (forms : List TermForm) (asserted marks : List Bool) (b : Built) (tops cons : List FlatCon) (goal : Option (Sense × ℕ)) → IsBuilt g marks (length g.nodes) b → AreMarks g forms asserted marks → IsWellFormed g
-    → HasTops g asserted b (length g.nodes) tops → cons ≡ b.cons ++ tops → goal ≡ option_map (λ goal. (goal.0, place_of b.places goal.1)) g.objective
+    → HasTops g asserted b (length g.nodes) tops → cons ≡ b.cons ++ tops → goal ≡ option_map (λ goal. (goal.0, variable_at b.places goal.1)) g.objective
     → StandsFor g (record { vars = b.vars; cons = cons }) (record { cells = b.cells; objective = goal })
 stands g forms asserted marks b tops cons goal h are formed top e f =
     subst (λ cs. StandsFor g (record { vars = b.vars; cons = cs }) (record { cells = b.cells; objective = goal })) (sym e)
@@ -182,7 +182,7 @@ cell_domains (one ∷ cells) (x ∷ xs) h = (h.0, cell_domains cells xs h.1)
 -- the cells' variables alone
 pub begins : (g : GroundState) (marks : List Bool) (vars : List (List ℤ)) (at : List ℕ) → vars ≡ map (λ one. one.values) g.cells → Counting at (length g.cells) → IsBounded g
     → IsBuilt g marks 0 (record { vars = vars; cons = []; places = []; spans = []; cells = at })
-unfolding numbers_at number_at
+unfolding numbers_of_vars number_at
 begins g marks vars at e h bounded =
     let long : length vars ≡ length g.cells = ap length e ∙ length-map g.cells (λ one. one.values) in
     let count : Counting at (length vars) = subst (Counting at) (sym long) h in

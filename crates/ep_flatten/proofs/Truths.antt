@@ -7,10 +7,10 @@ use Rattle.std.proofs.lemmas.Bool.Decides.{Decides-int_eq}
 use Rattle.std.proofs.lemmas.List.Elements.{All-append, All-cons, All-contains, All-head, All-nil, All-tail}
 use Rattle.ep_base.specs.Numbers.{all_one, is_one, of_bool}
 use Rattle.ep_base.specs.Reads.{IsWithinNumbers, all_there, same_bool}
-use Rattle.ep_flat.specs.Cons.{FlatCon, FlatKind, con_holds, con_variables, is_as_said, kind_coefficients, kind_holds, kind_variables, number_at, numbers_at}
+use Rattle.ep_flat.specs.Cons.{FlatCon, FlatKind, con_holds, con_variables, is_as_said, kind_coefficients, kind_holds, kind_variables, number_at, numbers_of_vars}
 use Rattle.ep_flat.specs.Flats.{HasSmallCoefficients, Meets, NamesBelow}
 use Rattle.ep_flatten.specs.Building.{is_truth_node, AreMarks, Built, HasTops, IsBuilt, IsForced, IsMarked, flat_of, truth_con}
-use Rattle.ep_flatten.specs.Saying.{place_of, value_under}
+use Rattle.ep_flatten.specs.Saying.{variable_at, value_under}
 use Rattle.ep_flatten.specs.Forms.{HaveForms, IsFormOf, TermForm, own, summed, compared, form_at, form_coefficients, form_parts, form_value}
 use Rattle.ep_flatten.specs.Tops.{Asserts, HasFormValue, HaveVariables, Tells, TellsForm, asserts_of, is_all, is_test, needs_by, needs_of}
 use Rattle.ep_flatten.proofs.FormLaws.{form_there}
@@ -22,7 +22,7 @@ use Rattle.ep_flatten.proofs.Sayings.{plain}
 use Rattle.ep_flatten.proofs.Unrolled.{all_left, all_right, unrolled}
 use Rattle.ep_ground.specs.Grounds.{GroundState}
 use Rattle.ep_ground.specs.Nodes.{GroundNode, compare, lex, member, negation, all_of, any_of, same_truth, all_different, counts, at_least, at_most, table, coefficients_of, parts_of, undefined}
-use Rattle.ep_ground.specs.Terms.{node_value, term_value, truth, values_of}
+use Rattle.ep_ground.specs.Terms.{node_value, term_value, truth, term_values_of}
 use Rattle.ep_tree.proofs.TypedParts.{some_is}
 
 -- ---- truth values
@@ -54,9 +54,9 @@ same_true true = refl
 same_true false = refl
 
 -- the clause of a term holds where its variable is 1
-truth_holds : (values : List ℤ) (places : List ℕ) (t : ℕ) → con_holds values (truth_con places t) ≡ is_one (number_at values (place_of places t))
+truth_holds : (values : List ℤ) (places : List ℕ) (t : ℕ) → con_holds values (truth_con places t) ≡ is_one (number_at values (variable_at places t))
 unfolding con_holds is_as_said kind_holds
-truth_holds values places t = same_true (is_one (number_at values (place_of places t)))
+truth_holds values places t = same_true (is_one (number_at values (variable_at places t)))
 
 -- ---- conjunctions
 
@@ -72,24 +72,24 @@ unfolding truth all_one of_bool
 true_with_one None h = h
 true_with_one (Some ns) h = ap (λ b. Some (of_bool (b && list_all is_one ns))) (is_one_of (pos 1) refl) ∙ h
 
-all_true : (value : ℕ → Option ℤ) (ts : List ℕ) → truth (option_map all_one (values_of value ts)) ≡ Some (pos 1) → All (λ u. value u ≡ Some (pos 1)) ts
-unfolding values_of all_there truth of_bool
+all_true : (value : ℕ → Option ℤ) (ts : List ℕ) → truth (option_map all_one (term_values_of value ts)) ≡ Some (pos 1) → All (λ u. value u ≡ Some (pos 1)) ts
+unfolding term_values_of all_there truth of_bool
 all_true value [] h = All-nil (λ u. value u ≡ Some (pos 1))
 all_true value (t ∷ ts) h = by (value t) refl h (all_true value ts)
   where
     by : (o : Option ℤ) → value t ≡ o → truth (option_map all_one (option_and_then (λ n. option_map (λ ns. n ∷ ns) (all_there (map value ts))) o)) ≡ Some (pos 1)
-        → (truth (option_map all_one (values_of value ts)) ≡ Some (pos 1) → All (λ u. value u ≡ Some (pos 1)) ts) → All (λ u. value u ≡ Some (pos 1)) (t ∷ ts)
+        → (truth (option_map all_one (term_values_of value ts)) ≡ Some (pos 1) → All (λ u. value u ≡ Some (pos 1)) ts) → All (λ u. value u ≡ Some (pos 1)) (t ∷ ts)
     by None e k rest = absurd cc
     by (Some n) e k rest =
         let one = one_more_true n (all_there (map value ts)) k in
         All-cons (λ u. value u ≡ Some (pos 1)) t ts (e ∙ ap (λ m. Some m) one.0) (rest one.1)
 
-true_all : (value : ℕ → Option ℤ) (ts : List ℕ) → All (λ u. value u ≡ Some (pos 1)) ts → truth (option_map all_one (values_of value ts)) ≡ Some (pos 1)
-unfolding values_of all_there truth of_bool all_one
+true_all : (value : ℕ → Option ℤ) (ts : List ℕ) → All (λ u. value u ≡ Some (pos 1)) ts → truth (option_map all_one (term_values_of value ts)) ≡ Some (pos 1)
+unfolding term_values_of all_there truth of_bool all_one
 true_all value [] h = refl
 true_all value (t ∷ ts) h =
     ap (λ o. truth (option_map all_one (option_and_then (λ n. option_map (λ ns. n ∷ ns) (all_there (map value ts))) o))) (All-head (λ u. value u ≡ Some (pos 1)) t ts h)
-    ∙ true_with_one (values_of value ts) (true_all value ts (All-tail (λ u. value u ≡ Some (pos 1)) t ts h))
+    ∙ true_with_one (term_values_of value ts) (true_all value ts (All-tail (λ u. value u ≡ Some (pos 1)) t ts h))
 
 -- the terms that have to be true with one are where it is
 whole_parts : (cells : List ℤ) (value : ℕ → Option ℤ) (node : GroundNode) → node_value cells value node ≡ Some (pos 1) → All (λ u. value u ≡ Some (pos 1)) (asserts_of node)
@@ -185,7 +185,7 @@ asserts_truth places t node kind h other is =
     record {
       forth = λ cells values value same e holds. valued cells values value same e ∙ ap (λ b. Some (of_bool b)) holds;
       back = λ cells values value same e one. of_true (kind_holds values kind) (some_is (sym (valued cells values value same e) ∙ one));
-      names = λ bound k. h.names bound (subst (λ ps. All (λ p. place_of places p < bound) ps) needs k);
+      names = λ bound k. h.names bound (subst (λ ps. All (λ p. variable_at places p < bound) ps) needs k);
       small = λ _. h.coefficients;
     }
 
@@ -199,19 +199,19 @@ asserts_compared places t node op parts c kind h other =
     record {
       forth = λ cells values value same e holds. valued cells values value same e ∙ ap (λ b. Some (of_bool b)) holds;
       back = λ cells values value same e one. of_true (kind_holds values kind) (some_is (sym (valued cells values value same e) ∙ one));
-      names = λ bound k. h.names bound (subst (λ ps. All (λ p. place_of places p < bound) ps) needs k);
+      names = λ bound k. h.names bound (subst (λ ps. All (λ p. variable_at places p < bound) ps) needs k);
       small = h.coefficients;
     }
 
 pub asserts_place : (places : List ℕ) (t : ℕ) (node : GroundNode) (form : TermForm) → needs_of t node form ≡ t ∷ [] → Asserts places t node form (truth_con places t)
 unfolding value_under con_variables kind_variables kind_coefficients
 asserts_place places t node form needs =
-    let valued : (values : List ℤ) (value : ℕ → Option ℤ) → HaveVariables values places value (needs_of t node form) → value t ≡ Some (number_at values (place_of places t)) =
+    let valued : (values : List ℤ) (value : ℕ → Option ℤ) → HaveVariables values places value (needs_of t node form) → value t ≡ Some (number_at values (variable_at places t)) =
     λ values value same. All-head (λ p. value p ≡ value_under values places p) t [] (subst (HaveVariables values places value) needs same) in
     record {
-      forth = λ cells values value same _ holds. valued values value same ∙ ap (λ n. Some n) (one_is (number_at values (place_of places t)) (sym (truth_holds values places t) ∙ holds));
-      back = λ cells values value same _ one. truth_holds values places t ∙ is_one_of (number_at values (place_of places t)) (some_is (sym (valued values value same) ∙ one));
-      names = λ bound k. All-cons (λ x. x < bound) (place_of places t) [] (All-head (λ p. place_of places p < bound) t [] (subst (λ ps. All (λ p. place_of places p < bound) ps) needs k)) (All-nil (λ x. x < bound));
+      forth = λ cells values value same _ holds. valued values value same ∙ ap (λ n. Some n) (one_is (number_at values (variable_at places t)) (sym (truth_holds values places t) ∙ holds));
+      back = λ cells values value same _ one. truth_holds values places t ∙ is_one_of (number_at values (variable_at places t)) (some_is (sym (valued values value same) ∙ one));
+      names = λ bound k. All-cons (λ x. x < bound) (variable_at places t) [] (All-head (λ p. variable_at places p < bound) t [] (subst (λ ps. All (λ p. variable_at places p < bound) ps) needs k)) (All-nil (λ x. x < bound));
       small = λ _. All-nil IsWithinNumbers;
     }
 
@@ -247,7 +247,7 @@ pub tops_skip : (g : GroundState) (asserted : List Bool) (b : Built) (t : ℕ) (
 tops_skip g asserted b t cons h none = record {
   names = h.names;
   small = h.small;
-  forth = λ values meets holds. one_more (λ u. IsMarked asserted u → term_value g.nodes (numbers_at values b.cells) u ≡ Some (pos 1)) t (h.forth values meets holds) (λ m. absurd (false≢true (sym none ∙ m)));
+  forth = λ values meets holds. one_more (λ u. IsMarked asserted u → term_value g.nodes (numbers_of_vars values b.cells) u ≡ Some (pos 1)) t (h.forth values meets holds) (λ m. absurd (false≢true (sym none ∙ m)));
   back = h.back;
 }
 
@@ -258,9 +258,9 @@ unfolding asserts_of parts_of
 tops_whole g forms asserted marks b t node cons h are m got before is = record {
   names = h.names;
   small = h.small;
-  forth = λ values meets holds. one_more (λ u. IsMarked asserted u → term_value g.nodes (numbers_at values b.cells) u ≡ Some (pos 1)) t (h.forth values meets holds)
+  forth = λ values meets holds. one_more (λ u. IsMarked asserted u → term_value g.nodes (numbers_of_vars values b.cells) u ≡ Some (pos 1)) t (h.forth values meets holds)
       (λ _.
-      let xs = numbers_at values b.cells in
+      let xs = numbers_of_vars values b.cells in
       unrolled xs g.nodes t node got before
       ∙ whole_true xs (term_value g.nodes xs) node is (λ k d l.
       let u = slice_index_or (asserts_of node) k d in
@@ -282,26 +282,26 @@ tops_more g forms asserted marks b t node cons con h are have bounded m built go
     let needs = needs_of t node form in
     let marked : All (IsMarked marks) needs = are.tops t node got m in
     let inside : All (λ p. p < t + 1) needs = needs_before t node form is.before in
-    let same : (values : List ℤ) → Meets (flat_of b) values → HaveVariables values b.places (term_value g.nodes (numbers_at values b.cells)) needs =
+    let same : (values : List ℤ) → Meets (flat_of b) values → HaveVariables values b.places (term_value g.nodes (numbers_of_vars values b.cells)) needs =
     λ values meets k d l.
     let less = inside k d l in
     told values meets (slice_index_or needs k d) (omega (arith, less, below)) (marked k d l) in
-    let valued : (values : List ℤ) → HasFormValue (numbers_at values b.cells) values b.places (term_value g.nodes (numbers_at values b.cells)) t node form =
-    λ values theirs. is.value (numbers_at values b.cells) (λ p. number_at values (place_of b.places p)) theirs in
+    let valued : (values : List ℤ) → HasFormValue (numbers_of_vars values b.cells) values b.places (term_value g.nodes (numbers_of_vars values b.cells)) t node form =
+    λ values theirs. is.value (numbers_of_vars values b.cells) (λ p. number_at values (variable_at b.places p)) theirs in
     let small : All IsWithinNumbers (form_coefficients node form) = is.coefficients (subst (λ n. All IsWithinNumbers (coefficients_of n)) (get_or_from_slice_get g.nodes t node undefined got) (bounded.coefficients t (are.above t m))) in
     record {
       names = All-append (NamesBelow (length b.vars)) cons (con ∷ []) h.names
           (All-cons (NamesBelow (length b.vars)) con [] (says.names (length b.vars) (λ k d l. let less = inside k d l in built.within (slice_index_or needs k d) (omega (arith, less, below)) (marked k d l))) (All-nil (NamesBelow (length b.vars))));
       small = All-append HasSmallCoefficients cons (con ∷ []) h.small (All-cons HasSmallCoefficients con [] (says.small small) (All-nil HasSmallCoefficients));
-      forth = λ values meets holds. one_more (λ u. IsMarked asserted u → term_value g.nodes (numbers_at values b.cells) u ≡ Some (pos 1)) t
+      forth = λ values meets holds. one_more (λ u. IsMarked asserted u → term_value g.nodes (numbers_of_vars values b.cells) u ≡ Some (pos 1)) t
           (h.forth values meets (all_left (λ c. IsTrue (con_holds values c)) cons (con ∷ []) holds))
-          (λ _. says.forth (numbers_at values b.cells) values (term_value g.nodes (numbers_at values b.cells)) (same values meets) (valued values)
+          (λ _. says.forth (numbers_of_vars values b.cells) values (term_value g.nodes (numbers_of_vars values b.cells)) (same values meets) (valued values)
           (All-head (λ c. IsTrue (con_holds values c)) con [] (all_right (λ c. IsTrue (con_holds values c)) cons (con ∷ []) holds)));
       back = λ values meets true_ones. All-append (λ c. IsTrue (con_holds values c)) cons (con ∷ []) (h.back values meets true_ones)
           (All-cons (λ c. IsTrue (con_holds values c)) con []
-          (says.back (numbers_at values b.cells) values (term_value g.nodes (numbers_at values b.cells)) (same values meets) (valued values) (true_ones t m))
+          (says.back (numbers_of_vars values b.cells) values (term_value g.nodes (numbers_of_vars values b.cells)) (same values meets) (valued values) (true_ones t m))
           (All-nil (λ c. IsTrue (con_holds values c))));
     }
   where
-    told : (values : List ℤ) → Meets (flat_of b) values → (u : ℕ) → u < length g.nodes → IsMarked marks u → term_value g.nodes (numbers_at values b.cells) u ≡ value_under values b.places u
+    told : (values : List ℤ) → Meets (flat_of b) values → (u : ℕ) → u < length g.nodes → IsMarked marks u → term_value g.nodes (numbers_of_vars values b.cells) u ≡ value_under values b.places u
     told values meets u l n = built.tells values meets u l n

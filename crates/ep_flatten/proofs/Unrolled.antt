@@ -10,7 +10,7 @@ use Rattle.ep_base.specs.Reads as reads
 use Rattle.ep_base.specs.Reads.{all_there, picked, safe_picked, same_bool, weighted_sum}
 use Rattle.ep_base.specs.declared.operators.CompareOp.{CompareOp}
 use Rattle.ep_ground.specs.Nodes.{GroundNode, constant, undefined, cell, sum, product, quotient, remainder, power, absolute, least, greatest, pick, whole, safe_quotient, safe_remainder, safe_pick, compare, lex, member, negation, all_of, any_of, same_truth, all_different, counts, at_least, at_most, table, parts_of}
-use Rattle.ep_ground.specs.Terms.{node_value, on_both, term_value, truth, value_at, values_from, values_of, weighed}
+use Rattle.ep_ground.specs.Terms.{node_value, on_both, term_value, truth, value_at, values_from, term_values_of, weighed}
 use Rattle.ep_tree.proofs.TypedParts.{some_is}
 
 -- what holds of the elements of two lists in a row holds of those of each
@@ -27,8 +27,8 @@ map_same f g [] h = refl
 map_same f g (t ∷ ts) h =
     ap (λ x. x ∷ map f ts) (All-head (λ u. f u ≡ g u) t ts h) ∙ ap (λ xs. g t ∷ xs) (map_same f g ts (All-tail (λ u. f u ≡ g u) t ts h))
 
-values_same : (f g : ℕ → Option ℤ) (ts : List ℕ) → All (λ t. f t ≡ g t) ts → values_of f ts ≡ values_of g ts
-unfolding values_of
+values_same : (f g : ℕ → Option ℤ) (ts : List ℕ) → All (λ t. f t ≡ g t) ts → term_values_of f ts ≡ term_values_of g ts
+unfolding term_values_of
 values_same f g ts h = ap all_there (map_same f g ts h)
 
 pub weighed_same : (f g : ℕ → Option ℤ) (parts : List (ℤ × ℕ)) → All (λ t. f t ≡ g t) (map (λ p. p.1) parts) → weighed f parts ≡ weighed g parts
@@ -48,10 +48,10 @@ second_same f g a b h = All-head (λ u. f u ≡ g u) b [] (All-tail (λ u. f u �
 two_same : {C : Type 0} (h : ℤ → ℤ → Option C) (f g : ℕ → Option ℤ) (a b : ℕ) → All (λ t. f t ≡ g t) (a ∷ b ∷ []) → on_both h (f a) (f b) ≡ on_both h (g a) (g b)
 two_same h f g a b e = ap (λ x. on_both h x (f b)) (first_same f g a (b ∷ []) e) ∙ ap (λ y. on_both h (g a) y) (second_same f g a b e)
 
-lists_same : {C : Type 0} (h : List ℤ → List ℤ → Option C) (f g : ℕ → Option ℤ) (ts us : List ℕ) → All (λ t. f t ≡ g t) (ts ++ us) → on_both h (values_of f ts) (values_of f us) ≡ on_both h (values_of g ts) (values_of g us)
+lists_same : {C : Type 0} (h : List ℤ → List ℤ → Option C) (f g : ℕ → Option ℤ) (ts us : List ℕ) → All (λ t. f t ≡ g t) (ts ++ us) → on_both h (term_values_of f ts) (term_values_of f us) ≡ on_both h (term_values_of g ts) (term_values_of g us)
 lists_same h f g ts us e =
-    ap (λ x. on_both h x (values_of f us)) (values_same f g ts (all_left (λ t. f t ≡ g t) ts us e))
-    ∙ ap (λ y. on_both h (values_of g ts) y) (values_same f g us (all_right (λ t. f t ≡ g t) ts us e))
+    ap (λ x. on_both h x (term_values_of f us)) (values_same f g ts (all_left (λ t. f t ≡ g t) ts us e))
+    ∙ ap (λ y. on_both h (term_values_of g ts) y) (values_same f g us (all_right (λ t. f t ≡ g t) ts us e))
 
 -- the value of a node depends on the values of its parts alone
 pub node_same : (cells : List ℤ) (f g : ℕ → Option ℤ) (node : GroundNode) → All (λ t. f t ≡ g t) (parts_of node) → node_value cells f node ≡ node_value cells g node
@@ -69,7 +69,7 @@ node_same cells f g (least ts) h = ap (option_and_then least_of) (values_same f 
 node_same cells f g (greatest ts) h = ap (option_and_then greatest_of) (values_same f g ts h)
 node_same cells f g (pick ts keys indices) h = lists_same (λ xs is. picked xs keys is) f g ts indices h
 node_same cells f g (whole a ts) h =
-    ap (λ x. on_both {A = ℤ} {B = List ℤ} (λ x xs. Some x) x (values_of f ts)) (first_same f g a ts h)
+    ap (λ x. on_both {A = ℤ} {B = List ℤ} (λ x xs. Some x) x (term_values_of f ts)) (first_same f g a ts h)
     ∙ ap (λ y. on_both {A = ℤ} {B = List ℤ} (λ x xs. Some x) (g a) y) (values_same f g ts (All-tail (λ t. f t ≡ g t) a ts h))
 node_same cells f g (safe_quotient a b) h = two_same (λ x y. Some (reads.safe_quotient x y)) f g a b h
 node_same cells f g (safe_remainder a b) h = two_same (λ x y. Some (reads.safe_remainder x y)) f g a b h

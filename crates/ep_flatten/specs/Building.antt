@@ -3,17 +3,17 @@ use Rattle.std.specs.Prelude.{◌≡◌, ℕ, ◌+◌, ◌<◌, ℤ, pos, Bool, 
 use Rattle.std.specs.List.{All, Contains}
 use Rattle.ep_base.specs.Intervals.{Interval, LiesIn, from_to, only, truth_interval}
 use Rattle.ep_base.specs.Reads.{IsWithinNumbers}
-use Rattle.ep_flat.specs.Cons.{FlatCon, clause, con_holds, number_at, numbers_at}
+use Rattle.ep_flat.specs.Cons.{FlatCon, clause, con_holds, number_at, numbers_of_vars}
 use Rattle.ep_flat.specs.Flats.{FlatState, HasSmallCoefficients, IsSoundFlat, Meets, NamesBelow}
 use Rattle.ep_flat.specs.FlatViews.{plain_con}
 use Rattle.ep_flatten.specs.Forms.{IsFormOf, TermForm, own, summed, compared, form_at, form_parts}
-use Rattle.ep_flatten.specs.Saying.{place_of}
+use Rattle.ep_flatten.specs.Saying.{variable_at}
 use Rattle.ep_flatten.specs.Tops.{asserts_of, needs_of}
 use Rattle.ep_flatten.specs.declared.building.Building.{Building}
 use Rattle.ep_flatten.specs.declared.intervals.WideSpan.{WideSpan}
 use Rattle.ep_flatten.specs.declared.intervals.Span.{Span}
 use Rattle.ep_ground.specs.Bounds.{IsBounded, IsWithinReach, node_reach}
-use Rattle.ep_ground.specs.Grounds.{AreCellValues, GroundState, IsReached, StandsOver}
+use Rattle.ep_ground.specs.Grounds.{AreCellValues, GroundState, IsTermReached, StandsOver}
 use Rattle.ep_ground.specs.Nodes.{GroundNode, sum, compare, lex, member, negation, all_of, any_of, same_truth, all_different, counts, at_least, at_most, table}
 use Rattle.ep_ground.specs.Terms.{term_value}
 use Rattle.ep_ground.specs.declared.cells.Cell.{Cell}
@@ -40,8 +40,8 @@ pub record AreMarks (g : GroundState) (forms : List TermForm) (asserted marks : 
   pub tops : (t : ℕ) (node : GroundNode) → slice_get g.nodes t ≡ Some node → IsMarked asserted t → All (IsMarked marks) (needs_of t node (form_at forms t))
   pub closed : (t : ℕ) (node : GroundNode) → slice_get g.nodes t ≡ Some node → IsMarked marks t → All (IsMarked marks) (form_parts node (form_at forms t))
   pub forced : (t : ℕ) → IsMarked asserted t → IsForced g t
-  pub above : (t : ℕ) → IsMarked asserted t → IsReached g t
-  pub reached : (t : ℕ) → IsMarked marks t → IsReached g t
+  pub above : (t : ℕ) → IsMarked asserted t → IsTermReached g t
+  pub reached : (t : ℕ) → IsMarked marks t → IsTermReached g t
 
 -- the interval of a term, and [0, 0] of one that has none
 abbrev pub span_at : List Interval → ℕ → Interval
@@ -91,7 +91,7 @@ flat_of b = record { vars = b.vars; cons = b.cons }
 pub record Extends (flat : FlatState) (cells : List ℕ) (xs : List ℤ) : Type 0 where
   pub values : List ℤ
   pub meets : Meets flat values
-  pub gives : numbers_at values cells ≡ xs
+  pub gives : numbers_of_vars values cells ≡ xs
 
 -- What is built stands for the marked ones of the first terms: values of the cells extend to numbers that meet the flat
 -- problem, and whatever meets it gives each such term's variable the term's value.
@@ -101,9 +101,9 @@ pub record IsBuilt (g : GroundState) (marks : List Bool) (count : ℕ) (b : Buil
   pub sound : IsSoundFlat (flat_of b)
   pub cells : All (λ x. x < length b.vars) b.cells
   pub domains : map (λ x. slice_index_or b.vars x []) b.cells ≡ map (λ one. one.values) g.cells
-  pub within : (t : ℕ) → t < count → IsMarked marks t → place_of b.places t < length b.vars
+  pub within : (t : ℕ) → t < count → IsMarked marks t → variable_at b.places t < length b.vars
   pub extends : (xs : List ℤ) → AreCellValues g.cells xs → Extends (flat_of b) b.cells xs
-  pub tells : (values : List ℤ) → Meets (flat_of b) values → (t : ℕ) → t < count → IsMarked marks t → term_value g.nodes (numbers_at values b.cells) t ≡ Some (number_at values (place_of b.places t))
+  pub tells : (values : List ℤ) → Meets (flat_of b) values → (t : ℕ) → t < count → IsMarked marks t → term_value g.nodes (numbers_of_vars values b.cells) t ≡ Some (number_at values (variable_at b.places t))
   pub ends : (xs : List ℤ) → AreCellValues g.cells xs → (t : ℕ) → t < count → IsMarked marks t → (n : ℤ) → term_value g.nodes xs t ≡ Some n → LiesIn n (span_at b.spans t)
 
 -- Constraints that hold exactly where each asserted one of the first terms is true: they say so of the numbers that meet
@@ -111,15 +111,15 @@ pub record IsBuilt (g : GroundState) (marks : List Bool) (count : ℕ) (b : Buil
 pub record HasTops (g : GroundState) (asserted : List Bool) (b : Built) (count : ℕ) (tops : List FlatCon) : Type 0 where
   pub names : All (NamesBelow (length b.vars)) tops
   pub small : All HasSmallCoefficients tops
-  pub forth : (values : List ℤ) → Meets (flat_of b) values → All (λ con. IsTrue (con_holds values con)) tops → (t : ℕ) → t < count → IsMarked asserted t → term_value g.nodes (numbers_at values b.cells) t ≡ Some (pos 1)
-  pub back : (values : List ℤ) → Meets (flat_of b) values → ((t : ℕ) → IsMarked asserted t → term_value g.nodes (numbers_at values b.cells) t ≡ Some (pos 1)) → All (λ con. IsTrue (con_holds values con)) tops
+  pub forth : (values : List ℤ) → Meets (flat_of b) values → All (λ con. IsTrue (con_holds values con)) tops → (t : ℕ) → t < count → IsMarked asserted t → term_value g.nodes (numbers_of_vars values b.cells) t ≡ Some (pos 1)
+  pub back : (values : List ℤ) → Meets (flat_of b) values → ((t : ℕ) → IsMarked asserted t → term_value g.nodes (numbers_of_vars values b.cells) t ≡ Some (pos 1)) → All (λ con. IsTrue (con_holds values con)) tops
 
 -- what is known of a marked term, of its node and of its form
 pub record IsTermOf (g : GroundState) (marks : List Bool) (t : ℕ) (node : GroundNode) (form : TermForm) : Type 0 where
   pub got : slice_get g.nodes t ≡ Some node
   pub is : IsFormOf g.nodes t node form
   pub marked : All (IsMarked marks) (form_parts node form)
-  pub reached : IsReached g t
+  pub reached : IsTermReached g t
   pub stands : StandsOver (length g.cells) node
 
 -- where the first was built for the terms before one with this node and this form, the second is built for that one too
@@ -133,7 +133,7 @@ HasAll domain span = (n : ℤ) → (Contains domain n → LiesIn n span) × (Lie
 
 -- the constraint that a term is true, by its variable
 abbrev pub truth_con : List ℕ → ℕ → FlatCon
-truth_con places t = record { truth = None; kind = clause ((true, place_of places t) ∷ []) }
+truth_con places t = record { truth = None; kind = clause ((true, variable_at places t) ∷ []) }
 
 -- the interval between two ends of the code
 abbrev pub interval_of : Span → Interval

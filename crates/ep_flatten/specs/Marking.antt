@@ -4,7 +4,7 @@ use Rattle.std.specs.List.{All}
 use Rattle.ep_flatten.specs.Building.{IsForced, IsMarked, goal_terms}
 use Rattle.ep_flatten.specs.Forms.{TermForm, form_at, form_parts}
 use Rattle.ep_flatten.specs.Tops.{asserts_of, needs_of}
-use Rattle.ep_ground.specs.Grounds.{GroundState, IsReached}
+use Rattle.ep_ground.specs.Grounds.{GroundState, IsTermReached}
 use Rattle.ep_ground.specs.Nodes.{GroundNode}
 
 -- marks with those of these terms
@@ -22,5 +22,5 @@ pub record AreMarksFrom (g : GroundState) (forms : List TermForm) (j k : ℕ) (a
   pub tops : (t : ℕ) (node : GroundNode) → j ≤ t → slice_get g.nodes t ≡ Some node → IsMarked asserted t → All (IsMarked marks) (needs_of t node (form_at forms t))
   pub closed : (t : ℕ) (node : GroundNode) → k ≤ t → slice_get g.nodes t ≡ Some node → IsMarked marks t → All (IsMarked marks) (form_parts node (form_at forms t))
   pub forced : (t : ℕ) → IsMarked asserted t → IsForced g t
-  pub above : (t : ℕ) → IsMarked asserted t → IsReached g t
-  pub reached : (t : ℕ) → IsMarked marks t → IsReached g t
+  pub above : (t : ℕ) → IsMarked asserted t → IsTermReached g t
+  pub reached : (t : ℕ) → IsMarked marks t → IsTermReached g t

@@ -10,12 +10,12 @@ use Rattle.ep_ground.specs.Nodes.{GroundNode, constant, undefined, cell, quotien
 use Rattle.ep_ground.specs.Terms.{node_value}
 
 -- the variable of a term, and 0 of one that has none
-abbrev pub place_of : List ℕ → ℕ → ℕ
-place_of places t = slice_index_or places t 0
+abbrev pub variable_at : List ℕ → ℕ → ℕ
+variable_at places t = slice_index_or places t 0
 
 -- what a term has as its value, where the variables have these numbers
 unfoldable pub value_under : List ℤ → List ℕ → ℕ → Option ℤ
-value_under values places t = Some (number_at values (place_of places t))
+value_under values places t = Some (number_at values (variable_at places t))
 
 -- a least or greatest part is one of some
 unfoldable pub HasParts : GroundNode → Type 0
@@ -36,11 +36,11 @@ is_operation _ = true
 
 -- The constraint holds exactly where the variable r has the node's value. It names that variable and those of the node's
 -- parts, and its coefficients are no greater than the node's.
-pub record Says (places : List ℕ) (node : GroundNode) (r : ℕ) (con : FlatCon) : Type 0 where
+pub record SaysOfNode (places : List ℕ) (node : GroundNode) (r : ℕ) (con : FlatCon) : Type 0 where
   pub value : List ℤ → ℤ
   pub gives : (cells values : List ℤ) → node_value cells (value_under values places) node ≡ Some (value values)
   pub says : (values : List ℤ) → con_holds values con ≡ int_eq (number_at values r) (value values)
-  pub names : (bound : ℕ) → r < bound → All (λ t. place_of places t < bound) (parts_of node) → NamesBelow bound con
+  pub names : (bound : ℕ) → r < bound → All (λ t. variable_at places t < bound) (parts_of node) → NamesBelow bound con
   pub coefficients : All IsWithinNumbers (coefficients_of node) → HasSmallCoefficients con
 
 -- The same of the value of a term with this node and this form.
@@ -48,5 +48,5 @@ pub record SaysForm (places : List ℕ) (node : GroundNode) (form : TermForm) (r
   pub value : List ℤ → ℤ
   pub gives : (cells values : List ℤ) → form_value cells (value_under values places) node form ≡ Some (value values)
   pub says : (values : List ℤ) → con_holds values con ≡ int_eq (number_at values r) (value values)
-  pub names : (bound : ℕ) → r < bound → All (λ t. place_of places t < bound) (form_parts node form) → NamesBelow bound con
+  pub names : (bound : ℕ) → r < bound → All (λ t. variable_at places t < bound) (form_parts node form) → NamesBelow bound con
   pub coefficients : All IsWithinNumbers (form_coefficients node form) → HasSmallCoefficients con

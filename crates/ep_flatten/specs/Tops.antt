@@ -7,7 +7,7 @@ use Rattle.ep_base.specs.Reads.{IsWithinNumbers}
 use Rattle.ep_flat.specs.Cons.{FlatCon, FlatKind, con_holds, kind_coefficients, kind_holds, kind_variables}
 use Rattle.ep_flat.specs.Flats.{HasSmallCoefficients, NamesBelow}
 use Rattle.ep_flatten.specs.Forms.{TermForm, own, summed, compared, form_coefficients, form_parts, form_value}
-use Rattle.ep_flatten.specs.Saying.{place_of, value_under}
+use Rattle.ep_flatten.specs.Saying.{variable_at, value_under}
 use Rattle.ep_ground.specs.Nodes.{GroundNode, compare, lex, member, negation, all_of, any_of, same_truth, all_different, counts, at_least, at_most, table, parts_of}
 use Rattle.ep_ground.specs.Terms.{node_value}
 
@@ -50,13 +50,13 @@ needs_of t node form = if is_all node then [] else needs_by t node form
 -- parts alone, and has no great coefficient.
 pub record Tells (places : List ℕ) (node : GroundNode) (kind : FlatKind) : Type 0 where
   pub gives : (cells values : List ℤ) → node_value cells (value_under values places) node ≡ Some (of_bool (kind_holds values kind))
-  pub names : (bound : ℕ) → All (λ t. place_of places t < bound) (parts_of node) → All (λ x. x < bound) (kind_variables kind)
+  pub names : (bound : ℕ) → All (λ t. variable_at places t < bound) (parts_of node) → All (λ x. x < bound) (kind_variables kind)
   pub coefficients : All IsWithinNumbers (kind_coefficients kind)
 
 -- The same of the value of a term with this node and this form.
 pub record TellsForm (places : List ℕ) (node : GroundNode) (form : TermForm) (kind : FlatKind) : Type 0 where
   pub gives : (cells values : List ℤ) → form_value cells (value_under values places) node form ≡ Some (of_bool (kind_holds values kind))
-  pub names : (bound : ℕ) → All (λ t. place_of places t < bound) (form_parts node form) → All (λ x. x < bound) (kind_variables kind)
+  pub names : (bound : ℕ) → All (λ t. variable_at places t < bound) (form_parts node form) → All (λ x. x < bound) (kind_variables kind)
   pub coefficients : All IsWithinNumbers (form_coefficients node form) → All IsWithinNumbers (kind_coefficients kind)
 
 -- terms have the numbers of their variables as their values
@@ -72,5 +72,5 @@ HasFormValue cells values places value t node form = HaveVariables values places
 pub record Asserts (places : List ℕ) (t : ℕ) (node : GroundNode) (form : TermForm) (con : FlatCon) : Type 0 where
   pub forth : (cells values : List ℤ) (value : ℕ → Option ℤ) → HaveVariables values places value (needs_of t node form) → HasFormValue cells values places value t node form → IsTrue (con_holds values con) → value t ≡ Some (pos 1)
   pub back : (cells values : List ℤ) (value : ℕ → Option ℤ) → HaveVariables values places value (needs_of t node form) → HasFormValue cells values places value t node form → value t ≡ Some (pos 1) → IsTrue (con_holds values con)
-  pub names : (bound : ℕ) → All (λ p. place_of places p < bound) (needs_of t node form) → NamesBelow bound con
+  pub names : (bound : ℕ) → All (λ p. variable_at places p < bound) (needs_of t node form) → NamesBelow bound con
   pub small : All IsWithinNumbers (form_coefficients node form) → HasSmallCoefficients con

@@ -8,7 +8,7 @@ ghost use Rattle.ep_base.specs.declared.operators.CompareOp.{CompareOp};
 ghost use Rattle.ep_flat.specs.FlatViews.{plain_con, plain_kind};
 ghost use Rattle.ep_flatten.specs.Forms.{compared, form_coefficients};
 ghost use Rattle.ep_flatten.specs.FormViews.{plain_form};
-ghost use Rattle.ep_flatten.specs.Saying.{HasParts, Says, SaysForm, is_operation};
+ghost use Rattle.ep_flatten.specs.Saying.{HasParts, SaysOfNode, SaysForm, is_operation};
 ghost use Rattle.ep_flatten.specs.Tops.{Tells, TellsForm};
 ghost use Rattle.ep_ground.specs.NodeViews.{plain_node};
 ghost use Rattle.ep_ground.specs.Nodes as nodes;
@@ -69,7 +69,7 @@ fn constraint(alloc: Global, places: &[u64], node: &Node, variable: u64) -> Resu
     requires parts { HasParts (plain_node node.now) }
     requires operation { is_operation (plain_node node.now) ≡ true }
     requires small { All IsWithinNumbers (coefficients_of (plain_node node.now)) }
-    ensures { IfOk result (λ con. Says places.now (plain_node node.now) variable (plain_con con)) }
+    ensures { IfOk result (λ con. SaysOfNode places.now (plain_node node.now) variable (plain_con con)) }
 {
     match node {
         Node::Add(number, parts) => sum(alloc, places, *number, parts, variable),
@@ -125,7 +125,7 @@ fn sum(
     variable: u64,
 ) -> Result<Con, Memory>
     requires { All (λ part. IsWithinNumbers part.0) parts.now }
-    ensures { IfOk result (λ con. Says places.now (nodes.sum number parts.now) variable (plain_con con)) }
+    ensures { IfOk result (λ con. SaysOfNode places.now (nodes.sum number parts.now) variable (plain_con con)) }
 {
     let mut placed = negated_parts(alloc, places, parts)?;
     placed.push((1, variable))?;
@@ -135,7 +135,7 @@ fn sum(
 
 /// A product.
 fn product(places: &[u64], one: Term, other: Term, variable: u64) -> Con
-    ensures { Says places.now (nodes.product one other) variable (plain_con result) }
+    ensures { SaysOfNode places.now (nodes.product one other) variable (plain_con result) }
 {
     let kind = ConKind::Product(variable, place_at(places, one), place_at(places, other));
     Con { truth: None, kind }
@@ -143,7 +143,7 @@ fn product(places: &[u64], one: Term, other: Term, variable: u64) -> Con
 
 /// A quotient.
 fn quotient(places: &[u64], one: Term, other: Term, variable: u64) -> Con
-    ensures { Says places.now (nodes.safe_quotient one other) variable (plain_con result) }
+    ensures { SaysOfNode places.now (nodes.safe_quotient one other) variable (plain_con result) }
 {
     let kind = ConKind::Quotient(variable, place_at(places, one), place_at(places, other));
     Con { truth: None, kind }
@@ -151,7 +151,7 @@ fn quotient(places: &[u64], one: Term, other: Term, variable: u64) -> Con
 
 /// A remainder.
 fn remainder(places: &[u64], one: Term, other: Term, variable: u64) -> Con
-    ensures { Says places.now (nodes.safe_remainder one other) variable (plain_con result) }
+    ensures { SaysOfNode places.now (nodes.safe_remainder one other) variable (plain_con result) }
 {
     let kind = ConKind::Remainder(variable, place_at(places, one), place_at(places, other));
     Con { truth: None, kind }
@@ -159,7 +159,7 @@ fn remainder(places: &[u64], one: Term, other: Term, variable: u64) -> Con
 
 /// A power.
 fn power(places: &[u64], part: Term, exponent: u64, variable: u64) -> Con
-    ensures { Says places.now (nodes.power part exponent) variable (plain_con result) }
+    ensures { SaysOfNode places.now (nodes.power part exponent) variable (plain_con result) }
 {
     let kind = ConKind::Power(variable, place_at(places, part), exponent);
     Con { truth: None, kind }
@@ -167,7 +167,7 @@ fn power(places: &[u64], part: Term, exponent: u64, variable: u64) -> Con
 
 /// An absolute value.
 fn absolute(places: &[u64], part: Term, variable: u64) -> Con
-    ensures { Says places.now (nodes.absolute part) variable (plain_con result) }
+    ensures { SaysOfNode places.now (nodes.absolute part) variable (plain_con result) }
 {
     let kind = ConKind::Absolute(variable, place_at(places, part));
     Con { truth: None, kind }
@@ -176,7 +176,7 @@ fn absolute(places: &[u64], part: Term, variable: u64) -> Con
 /// The least of some terms.
 fn least(alloc: Global, places: &[u64], parts: &[Term], variable: u64) -> Result<Con, Memory>
     requires { 0 < length parts.now }
-    ensures { IfOk result (λ con. Says places.now (nodes.least parts.now) variable (plain_con con)) }
+    ensures { IfOk result (λ con. SaysOfNode places.now (nodes.least parts.now) variable (plain_con con)) }
 {
     let placed = places_of(alloc, places, parts)?;
     let kind = ConKind::Least(variable, placed);
@@ -186,7 +186,7 @@ fn least(alloc: Global, places: &[u64], parts: &[Term], variable: u64) -> Result
 /// The greatest of some terms.
 fn greatest(alloc: Global, places: &[u64], parts: &[Term], variable: u64) -> Result<Con, Memory>
     requires { 0 < length parts.now }
-    ensures { IfOk result (λ con. Says places.now (nodes.greatest parts.now) variable (plain_con con)) }
+    ensures { IfOk result (λ con. SaysOfNode places.now (nodes.greatest parts.now) variable (plain_con con)) }
 {
     let placed = places_of(alloc, places, parts)?;
     let kind = ConKind::Greatest(variable, placed);
@@ -202,7 +202,7 @@ fn pick(
     indices: &[Term],
     variable: u64,
 ) -> Result<Con, Memory>
-    ensures { IfOk result (λ con. Says places.now (nodes.safe_pick parts.now keys.now indices.now) variable (plain_con con)) }
+    ensures { IfOk result (λ con. SaysOfNode places.now (nodes.safe_pick parts.now keys.now indices.now) variable (plain_con con)) }
 {
     let placed = places_of(alloc, places, parts)?;
     let keys = copied_keys(alloc, keys)?;

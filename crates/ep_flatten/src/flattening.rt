@@ -7,7 +7,7 @@ ghost use Rattle.ep_flatten.specs.Building.{AreMarks, IsBuilt, plain_built};
 ghost use Rattle.ep_flatten.specs.Flattening.{StandsFor};
 ghost use Rattle.ep_flatten.specs.Forms.{HaveForms};
 ghost use Rattle.ep_flatten.specs.FormViews.{plain_forms};
-ghost use Rattle.ep_flatten.specs.Saying.{place_of};
+ghost use Rattle.ep_flatten.specs.Saying.{variable_at};
 ghost use Rattle.ep_ground.specs.Bounds.{IsBounded};
 ghost use Rattle.ep_ground.specs.Grounds.{HasNoPartialNode, IsWellFormed};
 ghost use Rattle.ep_ground.specs.GroundViews.{plain_ground};
@@ -87,7 +87,7 @@ fn begun(alloc: Global, g: &Ground) -> Result<Building, Memory>
 
 /// The variable of the objective's term, where there is one.
 fn placed_goal(places: &[u64], objective: &Option<(Sense, Term)>) -> Option<(Sense, u64)>
-    ensures { result ≡ option_map (λ goal. (goal.0, place_of places.now goal.1)) objective.now }
+    ensures { result ≡ option_map (λ goal. (goal.0, variable_at places.now goal.1)) objective.now }
 {
     let (sense, goal) = (*objective)?;
     Some((sense, place_at(places, goal)))

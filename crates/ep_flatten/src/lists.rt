@@ -3,7 +3,7 @@
 ghost use Rattle.std.specs.Prelude.{neg_ℤ, ◌≡◌, ◌++◌, ◌∷◌, [], map, negsuc, IfOk, true};
 ghost use Rattle.std.specs.List.{All};
 ghost use Rattle.ep_base.specs.Reads.{IsWithinNumbers};
-ghost use Rattle.ep_flatten.specs.Saying.{place_of};
+ghost use Rattle.ep_flatten.specs.Saying.{variable_at};
 
 use ep_base::{Key, Memory};
 use ep_ground::Term;
@@ -11,7 +11,7 @@ use std::alloc::Global;
 
 /// The variable of a term, and 0 of one that has none.
 pub fn place_at(places: &[u64], term: Term) -> u64
-    ensures { result ≡ place_of places.now term }
+    ensures { result ≡ variable_at places.now term }
 {
     let place = term.number() as usize;
     if place < places.len() {
@@ -23,7 +23,7 @@ pub fn place_at(places: &[u64], term: Term) -> u64
 
 /// The variables of terms.
 pub fn places_of(alloc: Global, places: &[u64], terms: &[Term]) -> Result<Vec<u64>, Memory>
-    ensures { IfOk result (λ made. made.items ≡ map (place_of places.now) terms.now) }
+    ensures { IfOk result (λ made. made.items ≡ map (variable_at places.now) terms.now) }
 {
     let mut made = Vec::new(alloc);
     for term in terms {
@@ -39,7 +39,7 @@ pub fn literals_of(
     terms: &[Term],
 ) -> Result<Vec<(bool, u64)>, Memory>
     ensures { IfOk result (λ made.
-        made.items ≡ map (λ x. (true, x)) (map (place_of places.now) terms.now)) }
+        made.items ≡ map (λ x. (true, x)) (map (variable_at places.now) terms.now)) }
 {
     let mut made = Vec::new(alloc);
     for term in terms {
@@ -55,7 +55,7 @@ pub fn placed_parts(
     parts: &[(i64, Term)],
 ) -> Result<Vec<(i64, u64)>, Memory>
     ensures { IfOk result (λ made.
-        made.items ≡ map (λ p. (p.0, place_of places.now p.1)) parts.now) }
+        made.items ≡ map (λ p. (p.0, variable_at places.now p.1)) parts.now) }
 {
     let mut made = Vec::new(alloc);
     for part in parts {
@@ -72,7 +72,7 @@ pub fn negated_parts(
 ) -> Result<Vec<(i64, u64)>, Memory>
     requires { All (λ part. IsWithinNumbers part.0) parts.now }
     ensures { IfOk result (λ made.
-        made.items ≡ map (λ p. (neg_ℤ p.0, place_of places.now p.1)) parts.now) }
+        made.items ≡ map (λ p. (neg_ℤ p.0, variable_at places.now p.1)) parts.now) }
 {
     let mut made = Vec::new(alloc);
     for part in parts {

@@ -6,7 +6,7 @@ use Rattle.std.proofs.lemmas.List.Elements.{All-head, All-tail, All-weaker}
 use Rattle.cnf_core.specs.Clauses.{Satisfies}
 use Rattle.cnf_core.specs.Formula.{Cnf}
 use Rattle.ep_base.specs.declared.operators.Sense.{Sense}
-use Rattle.ep_flat.specs.Cons.{number_at, numbers_at}
+use Rattle.ep_flat.specs.Cons.{number_at, numbers_of_vars}
 use Rattle.ep_flat.specs.Flats.{FlatState, MapState, MapsCells, cell_numbers, objective_number}
 use Rattle.ep_flatten.specs.Flattening.{IsMetBy, StandsFor}
 use Rattle.ep_formula.specs.Formulas.{IsFormulaOf}
@@ -32,7 +32,7 @@ map_same f g P (x ∷ xs) all same =
 
 -- cells whose variables are among the first ones have the numbers that these say
 pub taken_cells : (count : ℕ) (m : MapState) (values : List ℤ) → All (λ x. x < count) m.cells → cell_numbers m (take count values) ≡ cell_numbers m values
-unfolding numbers_at
+unfolding numbers_of_vars
 taken_cells count m values below =
     map_same (number_at (take count values)) (number_at values) (λ x. x < count) m.cells below (λ x low. taken_number count values x low)
 

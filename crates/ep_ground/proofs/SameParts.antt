@@ -13,7 +13,7 @@ use Rattle.ep_base.specs.declared.operators.CompareOp.{CompareOp}
 use Rattle.ep_ground.specs.Bounds.{node_reach, scaled}
 use Rattle.ep_ground.specs.Nodes.{GroundNode, constant, undefined, cell, sum, product, quotient, remainder, power, absolute, least, greatest, pick, whole, safe_quotient, safe_remainder, safe_pick, compare, lex, member, negation, all_of, any_of, same_truth, all_different, counts, at_least, at_most, table, parts_of}
 use Rattle.ep_ground.specs.SameTrees.{with_parts}
-use Rattle.ep_ground.specs.Terms.{node_value, on_both, truth, values_of, weighed}
+use Rattle.ep_ground.specs.Terms.{node_value, on_both, truth, term_values_of, weighed}
 use Rattle.ep_ground.specs.declared.cells.Cell.{Cell}
 
 -- the first and the second of some parts
@@ -40,8 +40,8 @@ pub maps_same : {X : Type 0} (v w : ℕ → X) (f : ℕ → ℕ) (ts : List ℕ)
 maps_same v w f [] same = refl
 maps_same v w f (t ∷ ts) same = λ i. same t (first t ts) i ∷ maps_same v w f ts (agree_tail v w f t ts same) i
 
-pub values_same : (v w : ℕ → Option ℤ) (f : ℕ → ℕ) (ts : List ℕ) → Agree v w f ts → values_of v ts ≡ values_of w (map f ts)
-unfolding values_of
+pub values_same : (v w : ℕ → Option ℤ) (f : ℕ → ℕ) (ts : List ℕ) → Agree v w f ts → term_values_of v ts ≡ term_values_of w (map f ts)
+unfolding term_values_of
 values_same v w f ts same = ap all_there (maps_same v w f ts same)
 
 weighed_same : (v w : ℕ → Option ℤ) (f : ℕ → ℕ) (parts : List (ℤ × ℕ)) → Agree v w f (map (λ p. p.1) parts) → weighed v parts ≡ weighed w (map (λ p. (p.0, f p.1)) parts)

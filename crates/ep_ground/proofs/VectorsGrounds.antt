@@ -13,7 +13,7 @@ use Rattle.ep_base.specs.Reads.{IsWithinNumbers}
 use Rattle.ep_base.specs.declared.operators.CompareOp.{CompareOp}
 use Rattle.ep_base.specs.declared.operators.Sense.{Sense}
 use Rattle.ep_ground.specs.Bounds.{IsBounded, IsWithinReach, node_reach, reach_at, scaled, term_reach}
-use Rattle.ep_ground.specs.Grounds.{AreReached, AsksForAdditions, GroundState, IsReached, LeadsTo, by_part, itself, additions, additions_in, named_terms}
+use Rattle.ep_ground.specs.Grounds.{AreReached, AsksForAdditions, GroundState, IsTermReached, LeadsTo, by_part, itself, additions, additions_in, named_terms}
 use Rattle.ep_ground.specs.Nodes.{GroundNode, constant, undefined, cell, sum, product, quotient, remainder, power, least, whole, safe_pick, compare, negation, coefficients_of, is_partial, parts_of}
 use Rattle.ep_ground.specs.declared.cells.Cell.{Cell}
 
@@ -51,7 +51,7 @@ leads_within nodes terms closed t u found (by_part _ part _ node is inside rest)
 
 -- so a ground reaches terms in such a list alone
 reached_within : (g : GroundState) (terms : List ℕ) → All (Contains terms) (named_terms g)
-    → All (λ t. All (Contains terms) (parts_of (slice_index_or g.nodes t undefined))) terms → (u : ℕ) → IsReached g u → Contains terms u
+    → All (λ t. All (Contains terms) (parts_of (slice_index_or g.nodes t undefined))) terms → (u : ℕ) → IsTermReached g u → Contains terms u
 reached_within g terms named closed u r =
     leads_within g.nodes terms closed r.from u (All-contains (Contains terms) (named_terms g) r.from named r.named) r.leads
 
@@ -89,14 +89,14 @@ denied_increases (suc zero) low = omega arith
 denied_increases (suc (suc zero)) low = omega arith
 denied_increases (suc (suc (suc k))) low = absurd (omega (arith, low))
 
-within_denied : (u : ℕ) → IsReached denied u → Contains of_denied u
+within_denied : (u : ℕ) → IsTermReached denied u → Contains of_denied u
 unfolding parts_of named_terms
 within_denied =
     reached_within denied of_denied (All-from_recursion (Contains of_denied) (5 ∷ []) ((3, omega arith, refl), tt))
     (All-from_recursion (λ t. All (Contains of_denied) (parts_of (slice_index_or more_nodes t undefined))) of_denied
     (All-nil _, (All-nil _, (All-from_recursion (Contains of_denied) (0 ∷ 1 ∷ []) ((0, omega arith, refl), ((1, omega arith, refl), tt)), (All-from_recursion (Contains of_denied) (2 ∷ []) ((2, omega arith, refl), tt), tt)))))
 
-from_denied : (u : ℕ) → LeadsTo more_nodes 5 u → IsReached denied u
+from_denied : (u : ℕ) → LeadsTo more_nodes 5 u → IsTermReached denied u
 unfolding named_terms
 from_denied u leads = record { from = 5; named = (0, omega arith, refl); leads = leads }
 
@@ -104,7 +104,7 @@ reached_by_denied : AreReached denied of_denied
 reached_by_denied = record {
   ascending = AllPairs-from_increasing of_denied denied_increases;
   reached = λ u. (
-    λ found. All-contains (IsReached denied) of_denied u (All-from_recursion (IsReached denied) of_denied (from_denied 0 leads_to_the_cell, (from_denied 1 leads_to_three, (from_denied 2 leads_to_less, (from_denied 5 (itself 5), tt))))) found,
+    λ found. All-contains (IsTermReached denied) of_denied u (All-from_recursion (IsTermReached denied) of_denied (from_denied 0 leads_to_the_cell, (from_denied 1 leads_to_three, (from_denied 2 leads_to_less, (from_denied 5 (itself 5), tt))))) found,
     within_denied u,
   );
 }
@@ -116,10 +116,10 @@ not_these =
     ((λ e. omega (arith, e), λ e. omega (arith, e)), ((λ e. omega (arith, e), λ e. omega (arith, e)), ((λ e. omega (arith, e), λ e. omega (arith, e)), ((λ e. omega (arith, e), λ e. omega (arith, e)), tt))))
 
 -- so the sum and the far number aren't reached
-the_sum_is_unreached : IsReached denied 3 → ⊥
+the_sum_is_unreached : IsTermReached denied 3 → ⊥
 the_sum_is_unreached r = (All-contains (λ t. (t ≡ 3 → ⊥) × (t ≡ 4 → ⊥)) of_denied 3 not_these (within_denied 3 r)).0 refl
 
-the_far_number_is_unreached : IsReached denied 4 → ⊥
+the_far_number_is_unreached : IsTermReached denied 4 → ⊥
 the_far_number_is_unreached r = (All-contains (λ t. (t ≡ 3 → ⊥) × (t ≡ 4 → ⊥)) of_denied 4 not_these (within_denied 4 r)).1 refl
 
 -- no addition is asked for, since the sum isn't reached
@@ -140,7 +140,7 @@ driven_increases (suc zero) low = omega arith
 driven_increases (suc (suc zero)) low = omega arith
 driven_increases (suc (suc (suc k))) low = absurd (omega (arith, low))
 
-within_driven : (u : ℕ) → IsReached driven u → Contains of_driven u
+within_driven : (u : ℕ) → IsTermReached driven u → Contains of_driven u
 unfolding parts_of named_terms
 within_driven =
     reached_within driven of_driven (All-from_recursion (Contains of_driven) (2 ∷ 3 ∷ []) ((2, omega arith, refl), ((3, omega arith, refl), tt)))
@@ -152,15 +152,15 @@ reached_by_driven : AreReached driven of_driven
 unfolding parts_of named_terms
 reached_by_driven = record {
   ascending = AllPairs-from_increasing of_driven driven_increases;
-  reached = λ u. (λ found. All-contains (IsReached driven) of_driven u each found, within_driven u);
+  reached = λ u. (λ found. All-contains (IsTermReached driven) of_driven u each found, within_driven u);
 }
   where
-    part : (p : ℕ) → Contains (parts_of (compare CompareOp.Less 0 1)) p → IsReached driven p
+    part : (p : ℕ) → Contains (parts_of (compare CompareOp.Less 0 1)) p → IsTermReached driven p
     part p found = record { from = 2; named = (0, omega arith, refl); leads = by_part 2 p p (compare CompareOp.Less 0 1) refl found (itself p) }
 
-    each : All (IsReached driven) of_driven
+    each : All (IsTermReached driven) of_driven
     each =
-        All-from_recursion (IsReached driven) of_driven (
+        All-from_recursion (IsTermReached driven) of_driven (
           part 0 (0, omega arith, refl),
           (
             part 1 (1, omega arith, refl),
@@ -192,7 +192,7 @@ is_bounded = record {
   coefficients = λ t r. (near t r).1;
 }
   where
-    near : (t : ℕ) → IsReached denied t → IsNear t
+    near : (t : ℕ) → IsTermReached denied t → IsNear t
     near t r =
         All-contains IsNear of_denied t
         (All-from_recursion IsNear of_denied (

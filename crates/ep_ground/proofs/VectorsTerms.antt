@@ -6,7 +6,7 @@ use Rattle.ep_base.specs.Reads as reads
 use Rattle.ep_base.specs.declared.operators.CompareOp.{CompareOp}
 use Rattle.ep_base.specs.declared.operators.LexOp.{LexOp}
 use Rattle.ep_ground.specs.Nodes.{GroundNode, constant, undefined, cell, sum, product, quotient, remainder, power, absolute, least, greatest, pick, whole, safe_quotient, safe_remainder, safe_pick, compare, lex, member, negation, all_of, any_of, same_truth, all_different, counts, at_least, at_most, table}
-use Rattle.ep_ground.specs.Terms.{node_value, on_both, term_value, truth, value_at, values_from, values_of, weighed}
+use Rattle.ep_ground.specs.Terms.{node_value, on_both, term_value, truth, value_at, values_from, term_values_of, weighed}
 
 -- the terms 0 to 5: 7, -2, 0, nothing, the first cell, which is 5, and 1
 abbrev six : List GroundNode
@@ -28,7 +28,7 @@ sums_and_products :
     ∷ product 0 1 ∷ product 0 3 ∷ power 1 3 ∷ power 1 0 ∷ power 3 0 ∷ absolute 1 ∷ absolute 3 ∷ [])
     ≡ here (pos 3) ∷ None ∷ here (pos 5) ∷ None ∷ here (pos 4) ∷ here (pos 13) ∷ None
     ∷ here (negsuc 13) ∷ None ∷ here (negsuc 7) ∷ here (pos 1) ∷ None ∷ here (pos 2) ∷ None ∷ []
-unfolding term_value values_from value_at node_value on_both values_of weighed truth numbers.quotient numbers.remainder numbers.floor_over numbers.nth_power numbers.absolute_of numbers.least_of numbers.greatest_of numbers.has_number numbers.is_one numbers.of_bool numbers.same_numbers numbers.compare_holds numbers.lex_holds numbers.lex_less numbers.all_one numbers.any_one numbers.are_different numbers.counts_hold numbers.times_in numbers.is_row_of numbers.sum_of reads.all_there reads.picked reads.safe_picked reads.first_or_zero reads.safe_quotient reads.safe_remainder reads.weighted_sum reads.same_bool
+unfolding term_value values_from value_at node_value on_both term_values_of weighed truth numbers.quotient numbers.remainder numbers.floor_over numbers.nth_power numbers.absolute_of numbers.least_of numbers.greatest_of numbers.has_number numbers.is_one numbers.of_bool numbers.same_numbers numbers.compare_holds numbers.lex_holds numbers.lex_less numbers.all_one numbers.any_one numbers.are_different numbers.counts_hold numbers.times_in numbers.is_row_of numbers.sum_of reads.all_there reads.picked reads.safe_picked reads.first_or_zero reads.safe_quotient reads.safe_remainder reads.weighted_sum reads.same_bool
 sums_and_products = refl
 
 -- quotients and remainders: by a negative number, by 0, by nothing; plain and safe
@@ -37,14 +37,14 @@ divisions :
     ∷ safe_quotient 0 1 ∷ safe_quotient 0 2 ∷ safe_quotient 3 2 ∷ safe_remainder 0 1 ∷ safe_remainder 0 2 ∷ safe_remainder 0 3 ∷ [])
     ≡ here (negsuc 3) ∷ None ∷ None ∷ here (negsuc 0) ∷ here (pos 5) ∷ None
     ∷ here (negsuc 3) ∷ here (pos 0) ∷ None ∷ here (negsuc 0) ∷ here (pos 0) ∷ None ∷ []
-unfolding term_value values_from value_at node_value on_both values_of weighed truth numbers.quotient numbers.remainder numbers.floor_over numbers.nth_power numbers.absolute_of numbers.least_of numbers.greatest_of numbers.has_number numbers.is_one numbers.of_bool numbers.same_numbers numbers.compare_holds numbers.lex_holds numbers.lex_less numbers.all_one numbers.any_one numbers.are_different numbers.counts_hold numbers.times_in numbers.is_row_of numbers.sum_of reads.all_there reads.picked reads.safe_picked reads.first_or_zero reads.safe_quotient reads.safe_remainder reads.weighted_sum reads.same_bool
+unfolding term_value values_from value_at node_value on_both term_values_of weighed truth numbers.quotient numbers.remainder numbers.floor_over numbers.nth_power numbers.absolute_of numbers.least_of numbers.greatest_of numbers.has_number numbers.is_one numbers.of_bool numbers.same_numbers numbers.compare_holds numbers.lex_holds numbers.lex_less numbers.all_one numbers.any_one numbers.are_different numbers.counts_hold numbers.times_in numbers.is_row_of numbers.sum_of reads.all_there reads.picked reads.safe_picked reads.first_or_zero reads.safe_quotient reads.safe_remainder reads.weighted_sum reads.same_bool
 divisions = refl
 
 -- least and greatest: of some parts, of none, with one that has no value
 least_and_greatest :
     behind_each (least (0 ∷ 1 ∷ 4 ∷ []) ∷ least [] ∷ least (0 ∷ 3 ∷ []) ∷ greatest (1 ∷ 0 ∷ 4 ∷ []) ∷ greatest [] ∷ greatest (3 ∷ []) ∷ [])
     ≡ here (negsuc 1) ∷ None ∷ None ∷ here (pos 7) ∷ None ∷ None ∷ []
-unfolding term_value values_from value_at node_value on_both values_of weighed truth numbers.quotient numbers.remainder numbers.floor_over numbers.nth_power numbers.absolute_of numbers.least_of numbers.greatest_of numbers.has_number numbers.is_one numbers.of_bool numbers.same_numbers numbers.compare_holds numbers.lex_holds numbers.lex_less numbers.all_one numbers.any_one numbers.are_different numbers.counts_hold numbers.times_in numbers.is_row_of numbers.sum_of reads.all_there reads.picked reads.safe_picked reads.first_or_zero reads.safe_quotient reads.safe_remainder reads.weighted_sum reads.same_bool
+unfolding term_value values_from value_at node_value on_both term_values_of weighed truth numbers.quotient numbers.remainder numbers.floor_over numbers.nth_power numbers.absolute_of numbers.least_of numbers.greatest_of numbers.has_number numbers.is_one numbers.of_bool numbers.same_numbers numbers.compare_holds numbers.lex_holds numbers.lex_less numbers.all_one numbers.any_one numbers.are_different numbers.counts_hold numbers.times_in numbers.is_row_of numbers.sum_of reads.all_there reads.picked reads.safe_picked reads.first_or_zero reads.safe_quotient reads.safe_remainder reads.weighted_sum reads.same_bool
 least_and_greatest = refl
 
 -- the keys 1, 2 and 1
@@ -58,12 +58,12 @@ picks :
     ∷ safe_pick (0 ∷ 1 ∷ 4 ∷ []) keys (2 ∷ []) ∷ safe_pick (0 ∷ 1 ∷ 4 ∷ []) keys (0 ∷ []) ∷ safe_pick (0 ∷ []) keys (2 ∷ []) ∷ safe_pick [] keys (5 ∷ []) ∷ safe_pick (0 ∷ 3 ∷ []) keys (5 ∷ []) ∷ safe_pick (0 ∷ []) keys (3 ∷ []) ∷ [])
     ≡ here (pos 7) ∷ None ∷ None ∷ None ∷ None ∷ None
     ∷ here (negsuc 1) ∷ here (pos 7) ∷ here (pos 7) ∷ here (pos 0) ∷ None ∷ None ∷ []
-unfolding term_value values_from value_at node_value on_both values_of weighed truth numbers.quotient numbers.remainder numbers.floor_over numbers.nth_power numbers.absolute_of numbers.least_of numbers.greatest_of numbers.has_number numbers.is_one numbers.of_bool numbers.same_numbers numbers.compare_holds numbers.lex_holds numbers.lex_less numbers.all_one numbers.any_one numbers.are_different numbers.counts_hold numbers.times_in numbers.is_row_of numbers.sum_of reads.all_there reads.picked reads.safe_picked reads.first_or_zero reads.safe_quotient reads.safe_remainder reads.weighted_sum reads.same_bool
+unfolding term_value values_from value_at node_value on_both term_values_of weighed truth numbers.quotient numbers.remainder numbers.floor_over numbers.nth_power numbers.absolute_of numbers.least_of numbers.greatest_of numbers.has_number numbers.is_one numbers.of_bool numbers.same_numbers numbers.compare_holds numbers.lex_holds numbers.lex_less numbers.all_one numbers.any_one numbers.are_different numbers.counts_hold numbers.times_in numbers.is_row_of numbers.sum_of reads.all_there reads.picked reads.safe_picked reads.first_or_zero reads.safe_quotient reads.safe_remainder reads.weighted_sum reads.same_bool
 picks = refl
 
 -- the first term where all the others have values, as also where there is no other
 wholes : behind_each (whole 0 (1 ∷ 4 ∷ []) ∷ whole 0 (1 ∷ 3 ∷ []) ∷ whole 3 (0 ∷ []) ∷ whole 0 [] ∷ []) ≡ here (pos 7) ∷ None ∷ None ∷ here (pos 7) ∷ []
-unfolding term_value values_from value_at node_value on_both values_of weighed truth numbers.quotient numbers.remainder numbers.floor_over numbers.nth_power numbers.absolute_of numbers.least_of numbers.greatest_of numbers.has_number numbers.is_one numbers.of_bool numbers.same_numbers numbers.compare_holds numbers.lex_holds numbers.lex_less numbers.all_one numbers.any_one numbers.are_different numbers.counts_hold numbers.times_in numbers.is_row_of numbers.sum_of reads.all_there reads.picked reads.safe_picked reads.first_or_zero reads.safe_quotient reads.safe_remainder reads.weighted_sum reads.same_bool
+unfolding term_value values_from value_at node_value on_both term_values_of weighed truth numbers.quotient numbers.remainder numbers.floor_over numbers.nth_power numbers.absolute_of numbers.least_of numbers.greatest_of numbers.has_number numbers.is_one numbers.of_bool numbers.same_numbers numbers.compare_holds numbers.lex_holds numbers.lex_less numbers.all_one numbers.any_one numbers.are_different numbers.counts_hold numbers.times_in numbers.is_row_of numbers.sum_of reads.all_there reads.picked reads.safe_picked reads.first_or_zero reads.safe_quotient reads.safe_remainder reads.weighted_sum reads.same_bool
 wholes = refl
 
 -- comparisons, orders of lists and membership, and 0 where a part has no value
@@ -74,7 +74,7 @@ comparisons :
     ≡ here (pos 1) ∷ here (pos 0) ∷ here (pos 0) ∷ here (pos 1)
     ∷ here (pos 1) ∷ here (pos 0) ∷ here (pos 0)
     ∷ here (pos 1) ∷ here (pos 0) ∷ here (pos 0) ∷ []
-unfolding term_value values_from value_at node_value on_both values_of weighed truth numbers.quotient numbers.remainder numbers.floor_over numbers.nth_power numbers.absolute_of numbers.least_of numbers.greatest_of numbers.has_number numbers.is_one numbers.of_bool numbers.same_numbers numbers.compare_holds numbers.lex_holds numbers.lex_less numbers.all_one numbers.any_one numbers.are_different numbers.counts_hold numbers.times_in numbers.is_row_of numbers.sum_of reads.all_there reads.picked reads.safe_picked reads.first_or_zero reads.safe_quotient reads.safe_remainder reads.weighted_sum reads.same_bool
+unfolding term_value values_from value_at node_value on_both term_values_of weighed truth numbers.quotient numbers.remainder numbers.floor_over numbers.nth_power numbers.absolute_of numbers.least_of numbers.greatest_of numbers.has_number numbers.is_one numbers.of_bool numbers.same_numbers numbers.compare_holds numbers.lex_holds numbers.lex_less numbers.all_one numbers.any_one numbers.are_different numbers.counts_hold numbers.times_in numbers.is_row_of numbers.sum_of reads.all_there reads.picked reads.safe_picked reads.first_or_zero reads.safe_quotient reads.safe_remainder reads.weighted_sum reads.same_bool
 comparisons = refl
 
 -- connectives: a part is true where it is 1, so 7 isn't; no part; a part without a value makes all of them 0
@@ -83,7 +83,7 @@ connectives :
     ∷ any_of (2 ∷ 5 ∷ []) ∷ any_of (0 ∷ []) ∷ any_of [] ∷ any_of (5 ∷ 3 ∷ []) ∷ same_truth 5 5 ∷ same_truth 0 2 ∷ same_truth 5 0 ∷ same_truth 3 2 ∷ [])
     ≡ here (pos 0) ∷ here (pos 1) ∷ here (pos 0) ∷ here (pos 1) ∷ here (pos 0) ∷ here (pos 1) ∷ here (pos 0)
     ∷ here (pos 1) ∷ here (pos 0) ∷ here (pos 0) ∷ here (pos 0) ∷ here (pos 1) ∷ here (pos 1) ∷ here (pos 0) ∷ here (pos 0) ∷ []
-unfolding term_value values_from value_at node_value on_both values_of weighed truth numbers.quotient numbers.remainder numbers.floor_over numbers.nth_power numbers.absolute_of numbers.least_of numbers.greatest_of numbers.has_number numbers.is_one numbers.of_bool numbers.same_numbers numbers.compare_holds numbers.lex_holds numbers.lex_less numbers.all_one numbers.any_one numbers.are_different numbers.counts_hold numbers.times_in numbers.is_row_of numbers.sum_of reads.all_there reads.picked reads.safe_picked reads.first_or_zero reads.safe_quotient reads.safe_remainder reads.weighted_sum reads.same_bool
+unfolding term_value values_from value_at node_value on_both term_values_of weighed truth numbers.quotient numbers.remainder numbers.floor_over numbers.nth_power numbers.absolute_of numbers.least_of numbers.greatest_of numbers.has_number numbers.is_one numbers.of_bool numbers.same_numbers numbers.compare_holds numbers.lex_holds numbers.lex_less numbers.all_one numbers.any_one numbers.are_different numbers.counts_hold numbers.times_in numbers.is_row_of numbers.sum_of reads.all_there reads.picked reads.safe_picked reads.first_or_zero reads.safe_quotient reads.safe_remainder reads.weighted_sum reads.same_bool
 connectives = refl
 
 -- counts and rows: right, wrong, of other lengths, and with a part that has no value
@@ -98,5 +98,5 @@ counted :
     ∷ here (pos 1) ∷ here (pos 0) ∷ here (pos 0) ∷ here (pos 0)
     ∷ here (pos 1) ∷ here (pos 0) ∷ here (pos 0) ∷ here (pos 0)
     ∷ here (pos 1) ∷ here (pos 0) ∷ here (pos 0) ∷ here (pos 0) ∷ here (pos 1) ∷ here (pos 0) ∷ []
-unfolding term_value values_from value_at node_value on_both values_of weighed truth numbers.quotient numbers.remainder numbers.floor_over numbers.nth_power numbers.absolute_of numbers.least_of numbers.greatest_of numbers.has_number numbers.is_one numbers.of_bool numbers.same_numbers numbers.compare_holds numbers.lex_holds numbers.lex_less numbers.all_one numbers.any_one numbers.are_different numbers.counts_hold numbers.times_in numbers.is_row_of numbers.sum_of reads.all_there reads.picked reads.safe_picked reads.first_or_zero reads.safe_quotient reads.safe_remainder reads.weighted_sum reads.same_bool
+unfolding term_value values_from value_at node_value on_both term_values_of weighed truth numbers.quotient numbers.remainder numbers.floor_over numbers.nth_power numbers.absolute_of numbers.least_of numbers.greatest_of numbers.has_number numbers.is_one numbers.of_bool numbers.same_numbers numbers.compare_holds numbers.lex_holds numbers.lex_less numbers.all_one numbers.any_one numbers.are_different numbers.counts_hold numbers.times_in numbers.is_row_of numbers.sum_of reads.all_there reads.picked reads.safe_picked reads.first_or_zero reads.safe_quotient reads.safe_remainder reads.weighted_sum reads.same_bool
 counted = refl

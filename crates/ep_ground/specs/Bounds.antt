@@ -4,7 +4,7 @@ use Rattle.std.specs.List.{All}
 use Rattle.ep_base.specs.Intervals.{Interval, absolute_interval, greatest_interval, hull, least_interval, nth_power_interval, only, product_interval, quotient_interval, remainder_interval, spanned, sum_interval, truth_interval}
 use Rattle.ep_base.specs.Reads.{IsWithinNumbers}
 use Rattle.ep_ground.specs.Nodes.{GroundNode, constant, undefined, cell, sum, product, quotient, remainder, power, absolute, least, greatest, pick, whole, safe_quotient, safe_remainder, safe_pick, coefficients_of}
-use Rattle.ep_ground.specs.Grounds.{GroundState, IsReached}
+use Rattle.ep_ground.specs.Grounds.{GroundState, IsTermReached}
 use Rattle.ep_ground.specs.declared.cells.Cell.{Cell}
 
 -- the numbers of an interval, each multiplied by a coefficient
@@ -49,5 +49,5 @@ pub record IsWithinReach (i : Interval) : Type 0 where
 -- within the numbers that the stages compute with.
 pub record IsBounded (g : GroundState) : Type 0 where
   pub cells : All (λ one. All IsWithinNumbers one.values) g.cells
-  pub reaches : (t : ℕ) → IsReached g t → IsWithinReach (term_reach g.nodes g.cells t)
-  pub coefficients : (t : ℕ) → IsReached g t → All IsWithinNumbers (coefficients_of (slice_index_or g.nodes t undefined))
+  pub reaches : (t : ℕ) → IsTermReached g t → IsWithinReach (term_reach g.nodes g.cells t)
+  pub coefficients : (t : ℕ) → IsTermReached g t → All IsWithinNumbers (coefficients_of (slice_index_or g.nodes t undefined))

@@ -41,7 +41,7 @@ pub data LeadsTo (nodes : List GroundNode) : ℕ → ℕ → Type 0 where
   by_part : (t part u : ℕ) (node : GroundNode) → slice_get nodes t ≡ Some node → Contains (parts_of node) part → LeadsTo nodes part u → LeadsTo nodes t u
 
 -- a term that one of the clauses, or the objective, leads to
-pub record IsReached (g : GroundState) (u : ℕ) : Type 0 where
+pub record IsTermReached (g : GroundState) (u : ℕ) : Type 0 where
   pub from : ℕ
   pub named : Contains (named_terms g) from
   pub leads : LeadsTo g.nodes from u
@@ -73,7 +73,7 @@ pub record KeepsSolutions (old new : GroundState) : Type 0 where
 -- the terms that the clauses and the objective lead to, in order
 pub record AreReached (g : GroundState) (terms : List ℕ) : Type 0 where
   pub ascending : AllPairs (λ t later. t < later) terms
-  pub reached : (u : ℕ) → Contains terms u ↔ IsReached g u
+  pub reached : (u : ℕ) → Contains terms u ↔ IsTermReached g u
 
 -- how many additions a node asks for: one less than a sum's parts
 unfoldable pub additions_in : Option GroundNode → ℕ

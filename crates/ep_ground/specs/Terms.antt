@@ -16,8 +16,8 @@ unfoldable pub on_both : {A B C : Type 0} → (A → B → Option C) → Option 
 on_both f x y = option_and_then (λ a. option_and_then (f a) y) x
 
 -- the values of terms, where each has one
-unfoldable pub values_of : (ℕ → Option ℤ) → List ℕ → Option (List ℤ)
-values_of value ts = all_there (map value ts)
+unfoldable pub term_values_of : (ℕ → Option ℤ) → List ℕ → Option (List ℤ)
+term_values_of value ts = all_there (map value ts)
 
 -- a sum's parts, each with its coefficient and its value, where each has one
 unfoldable pub weighed : (ℕ → Option ℤ) → List (ℤ × ℕ) → Option (List (ℤ × ℤ))
@@ -40,32 +40,32 @@ node_value cells value (quotient a b) = on_both numbers.quotient (value a) (valu
 node_value cells value (remainder a b) = on_both numbers.remainder (value a) (value b)
 node_value cells value (power a n) = option_map (λ x. nth_power x n) (value a)
 node_value cells value (absolute a) = option_map absolute_of (value a)
-node_value cells value (least ts) = option_and_then least_of (values_of value ts)
-node_value cells value (greatest ts) = option_and_then greatest_of (values_of value ts)
+node_value cells value (least ts) = option_and_then least_of (term_values_of value ts)
+node_value cells value (greatest ts) = option_and_then greatest_of (term_values_of value ts)
 node_value cells value (pick ts keys indices) =
-    on_both (λ xs is. picked xs keys is) (values_of value ts) (values_of value indices)
-node_value cells value (whole a ts) = on_both (λ x xs. Some x) (value a) (values_of value ts)
+    on_both (λ xs is. picked xs keys is) (term_values_of value ts) (term_values_of value indices)
+node_value cells value (whole a ts) = on_both (λ x xs. Some x) (value a) (term_values_of value ts)
 node_value cells value (safe_quotient a b) = on_both (λ x y. Some (reads.safe_quotient x y)) (value a) (value b)
 node_value cells value (safe_remainder a b) = on_both (λ x y. Some (reads.safe_remainder x y)) (value a) (value b)
 node_value cells value (safe_pick ts keys indices) =
-    on_both (λ xs is. Some (safe_picked xs keys is)) (values_of value ts) (values_of value indices)
+    on_both (λ xs is. Some (safe_picked xs keys is)) (term_values_of value ts) (term_values_of value indices)
 node_value cells value (compare op a b) = truth (on_both (λ x y. Some (compare_holds op x y)) (value a) (value b))
 node_value cells value (lex op ts us) =
-    truth (on_both (λ xs ys. Some (lex_holds op xs ys)) (values_of value ts) (values_of value us))
+    truth (on_both (λ xs ys. Some (lex_holds op xs ys)) (term_values_of value ts) (term_values_of value us))
 node_value cells value (member a ns) = truth (option_map (has_number ns) (value a))
 node_value cells value (negation a) = truth (option_map (λ x. not (is_one x)) (value a))
-node_value cells value (all_of ts) = truth (option_map all_one (values_of value ts))
-node_value cells value (any_of ts) = truth (option_map any_one (values_of value ts))
+node_value cells value (all_of ts) = truth (option_map all_one (term_values_of value ts))
+node_value cells value (any_of ts) = truth (option_map any_one (term_values_of value ts))
 node_value cells value (same_truth a b) =
     truth (on_both (λ x y. Some (same_bool (is_one x) (is_one y))) (value a) (value b))
-node_value cells value (all_different ts) = truth (option_map are_different (values_of value ts))
+node_value cells value (all_different ts) = truth (option_map are_different (term_values_of value ts))
 node_value cells value (counts ts ns us) =
-    truth (on_both (λ xs cs. counts_hold CompareOp.Equal xs ns cs) (values_of value ts) (values_of value us))
+    truth (on_both (λ xs cs. counts_hold CompareOp.Equal xs ns cs) (term_values_of value ts) (term_values_of value us))
 node_value cells value (at_least ts cs ns) =
-    truth (option_and_then (λ xs. counts_hold CompareOp.AtLeast xs ns cs) (values_of value ts))
+    truth (option_and_then (λ xs. counts_hold CompareOp.AtLeast xs ns cs) (term_values_of value ts))
 node_value cells value (at_most ts cs ns) =
-    truth (option_and_then (λ xs. counts_hold CompareOp.AtMost xs ns cs) (values_of value ts))
-node_value cells value (table ts rows) = truth (option_and_then (is_row_of rows) (values_of value ts))
+    truth (option_and_then (λ xs. counts_hold CompareOp.AtMost xs ns cs) (term_values_of value ts))
+node_value cells value (table ts rows) = truth (option_and_then (is_row_of rows) (term_values_of value ts))
 
 -- what a list says of a term, and nothing of one that isn't there
 unfoldable pub value_at : List (Option ℤ) → ℕ → Option ℤ

@@ -4,7 +4,7 @@ ghost use Rattle.std.specs.Prelude.{◌≡◌, []};
 ghost use Rattle.ep_tree.specs.Closed.{IsClosed};
 ghost use Rattle.ep_tree.specs.Solutions.{Fits, Found, instance_limits};
 ghost use Rattle.ep_tree.specs.Views.{assigned};
-ghost use Rattle.ep_instance.specs.Instances.{instance_of, mode_of};
+ghost use Rattle.ep_instance.specs.Instances.{plain_instance, instance_mode};
 
 use crate::worths::worths_of;
 use ep_ground::Ground;
@@ -87,9 +87,9 @@ pub(crate) enum Said {
 
 /// How direct evaluation judges an assignment.
 fn judged(alloc: Global, instance: &Instance, assignment: &Assignment) -> Result<Said, Fail>
-    requires closed { IsClosed (instance_of instance.now) }
-    requires within { instance_limits (mode_of instance.now) (instance_of instance.now) ≡ [] }
-    requires fits { (found : Found) × Fits (instance_of instance.now) (assigned assignment.now) found }
+    requires closed { IsClosed (plain_instance instance.now) }
+    requires within { instance_limits (instance_mode instance.now) (plain_instance instance.now) ≡ [] }
+    requires fits { (found : Found) × Fits (plain_instance instance.now) (assigned assignment.now) found }
 {
     no_limit_is_passed();
     let said = match is_solution(alloc, instance, assignment)? {
@@ -102,8 +102,8 @@ fn judged(alloc: Global, instance: &Instance, assignment: &Assignment) -> Result
 
 /// What direct evaluation says.
 pub(crate) fn evaluated(alloc: Global, instance: &Instance, text: &str) -> Result<Said, Fail>
-    requires closed { IsClosed (instance_of instance.now) }
-    requires within { instance_limits (mode_of instance.now) (instance_of instance.now) ≡ [] }
+    requires closed { IsClosed (plain_instance instance.now) }
+    requires within { instance_limits (instance_mode instance.now) (plain_instance instance.now) ≡ [] }
 {
     let params = parse_params(alloc, text.as_bytes())?;
     let typed = check_params(alloc, params)?;

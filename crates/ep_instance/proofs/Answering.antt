@@ -10,7 +10,7 @@ use Rattle.ep_tree.specs.Binding.{Refusal, and_next, limits_met, over_limit, und
 use Rattle.ep_tree.specs.Limits.{limits_of_values}
 use Rattle.ep_tree.specs.Measures.{Met}
 use Rattle.ep_tree.specs.declared.values.Mode.{Mode}
-use Rattle.ep_instance.specs.Refusals.{Answers, IsOneOf, Refuses, bind_error, text_name}
+use Rattle.ep_instance.specs.Refusals.{BindsTo, IsOneOf, RefusesBinding, bind_error, text_name}
 use Rattle.ep_base.specs.declared.places.Place.{Place}
 use Rattle.ep_instance.specs.declared.errors.Source.{Source}
 use Rattle.ep_instance.specs.declared.errors.BindError.{BindError}
@@ -22,7 +22,7 @@ pub then_is : {A B : Type 0} (whole : Result B (List Refusal)) (one : Result A (
 unfolding and_next
 then_is whole one next x w e = w ∙ ap (λ o. and_next o next) e
 
-first : {A B : Type 0} (e : BindError) (one : Result A (List Refusal)) (next : A → Result B (List Refusal)) → Refuses e one → Refuses e (and_next one next)
+first : {A B : Type 0} (e : BindError) (one : Result A (List Refusal)) (next : A → Result B (List Refusal)) → RefusesBinding e one → RefusesBinding e (and_next one next)
 unfolding and_next
 first Memory one next h = tt
 first (Missing n) (Ok x) next h = absurd h
@@ -38,27 +38,27 @@ first (Limit l) (Err rs) next h = h
 
 -- what refuses the first step refuses the whole
 pub refuses_first : {A B : Type 0} (e : BindError) (whole : Result B (List Refusal)) (one : Result A (List Refusal)) (next : A → Result B (List Refusal))
-    → whole ≡ and_next one next → Refuses e one → Refuses e whole
-refuses_first e whole one next w h = subst (λ r. Refuses e r) (sym w) (first e one next h)
+    → whole ≡ and_next one next → RefusesBinding e one → RefusesBinding e whole
+refuses_first e whole one next w h = subst (λ r. RefusesBinding e r) (sym w) (first e one next h)
 
 -- what refuses one thing refuses what it is
-pub refuses_same : {A : Type 0} (e : BindError) (whole one : Result A (List Refusal)) → whole ≡ one → Refuses e one → Refuses e whole
-refuses_same e whole one w h = subst (λ r. Refuses e r) (sym w) h
+pub refuses_same : {A : Type 0} (e : BindError) (whole one : Result A (List Refusal)) → whole ≡ one → RefusesBinding e one → RefusesBinding e whole
+refuses_same e whole one w h = subst (λ r. RefusesBinding e r) (sym w) h
 
 -- an answer to one thing answers what it is
 pub answers_same : {V A : Type 0} (view : V → A) (answer : Result V BindError) (whole one : Result A (List Refusal)) → whole ≡ one
-    → Answers view answer one → Answers view answer whole
+    → BindsTo view answer one → BindsTo view answer whole
 answers_same view (Ok x) whole one w h = w ∙ h
 answers_same view (Err e) whole one w h = refuses_same e whole one w h
 
 -- one of some refusals
-pub refuses_one : {A : Type 0} (e : BindError) (whole : Result A (List Refusal)) (rs : List Refusal) → whole ≡ Err rs → IsOneOf e rs → Refuses e whole
+pub refuses_one : {A : Type 0} (e : BindError) (whole : Result A (List Refusal)) (rs : List Refusal) → whole ≡ Err rs → IsOneOf e rs → RefusesBinding e whole
 refuses_one Memory whole rs w h = tt
-refuses_one (Missing n) whole rs w h = subst (λ r. Refuses (Missing n) r) (sym w) h
-refuses_one (Outside n) whole rs w h = subst (λ r. Refuses (Outside n) r) (sym w) h
-refuses_one (Undefined s p) whole rs w h = subst (λ r. Refuses (Undefined s p) r) (sym w) h
-refuses_one (WhereFalse n) whole rs w h = subst (λ r. Refuses (WhereFalse n) r) (sym w) h
-refuses_one (Limit l) whole rs w h = subst (λ r. Refuses (Limit l) r) (sym w) h
+refuses_one (Missing n) whole rs w h = subst (λ r. RefusesBinding (Missing n) r) (sym w) h
+refuses_one (Outside n) whole rs w h = subst (λ r. RefusesBinding (Outside n) r) (sym w) h
+refuses_one (Undefined s p) whole rs w h = subst (λ r. RefusesBinding (Undefined s p) r) (sym w) h
+refuses_one (WhereFalse n) whole rs w h = subst (λ r. RefusesBinding (WhereFalse n) r) (sym w) h
+refuses_one (Limit l) whole rs w h = subst (λ r. RefusesBinding (Limit l) r) (sym w) h
 
 -- ---- limits
 
@@ -67,14 +67,14 @@ limit_mapped l [] (k, low, is) = absurd (omega (arith, low))
 limit_mapped l (m ∷ ls) (zero, low, is) = (zero, omega arith, ap over_limit is)
 limit_mapped l (m ∷ ls) (suc k, low, is) = Contains-append_right (over_limit m ∷ []) (map over_limit ls) (over_limit l) (limit_mapped l ls (k, omega (arith, low), is))
 
-some_limit : {A : Type 0} (l : LimitName) (ls : List LimitName) (answer : Result A (List Refusal)) → Contains ls l → Refuses (Limit l) (unless_any (map over_limit ls) answer)
+some_limit : {A : Type 0} (l : LimitName) (ls : List LimitName) (answer : Result A (List Refusal)) → Contains ls l → RefusesBinding (Limit l) (unless_any (map over_limit ls) answer)
 unfolding unless_any
 some_limit l [] answer h = absurd (omega (arith, h.1))
 some_limit l (k ∷ ks) answer h = limit_mapped l (k ∷ ks) h
 
 -- a limit that is passed comes first
 pub limit_refuses : {A : Type 0} (mode : Mode) (ms : List Met) (answer : Result A (List Refusal)) (e : EvalError) → IsCause (limits_of_values mode 0 ms) e
-    → Refuses (bind_error e) (unless_any (limits_met mode ms) answer)
+    → RefusesBinding (bind_error e) (unless_any (limits_met mode ms) answer)
 unfolding limits_met
 limit_refuses mode ms answer (error.Limit l) h = some_limit l (limits_of_values mode 0 ms) answer h
 limit_refuses mode ms answer error.Memory h = tt
@@ -99,9 +99,9 @@ next_then (Ok x) two three = refl
 next_then (Err rs) two three = refl
 
 -- a place without a value
-pub refuses_undefined : {A : Type 0} (text : Source) (p : Place) (whole : Result A (List Refusal)) → whole ≡ Err (undefined_at (text_name text) p ∷ []) → Refuses (Undefined text p) whole
+pub refuses_undefined : {A : Type 0} (text : Source) (p : Place) (whole : Result A (List Refusal)) → whole ≡ Err (undefined_at (text_name text) p ∷ []) → RefusesBinding (Undefined text p) whole
 refuses_undefined text p whole e = refuses_one (Undefined text p) whole (undefined_at (text_name text) p ∷ []) e (0, omega arith, refl)
 
 -- a condition that is false
-pub refuses_false : {A : Type 0} (n : ℕ) (whole : Result A (List Refusal)) → whole ≡ Err (where_false n ∷ []) → Refuses (WhereFalse n) whole
+pub refuses_false : {A : Type 0} (n : ℕ) (whole : Result A (List Refusal)) → whole ≡ Err (where_false n ∷ []) → RefusesBinding (WhereFalse n) whole
 refuses_false n whole e = refuses_one (WhereFalse n) whole (where_false n ∷ []) e (0, omega arith, refl)

@@ -31,7 +31,7 @@ use Rattle.ep_tree.specs.declared.values.Value.{Value}
 use Rattle.ep_tree.specs.declared.values.ValueType.{ValueType}
 use Rattle.ep_instance.specs.Elements.{PassesAs, element_passes}
 use Rattle.ep_instance.specs.Reading.{FitsAreTyped, IsShape}
-use Rattle.ep_instance.specs.Steps.{AnswersBy, fitted_said, group_said, missing_name, name_said, nothing_refused, named_said, plain_said, shape_said, stated_said}
+use Rattle.ep_instance.specs.Steps.{StepsTo, fitted_said, group_said, missing_name, name_said, nothing_refused, named_said, plain_said, shape_said, stated_said}
 use Rattle.ep_instance.specs.Tests.{Answers64, element_test}
 use Rattle.ep_instance.specs.declared.elements.Elements.{Elements}
 use Rattle.ep_instance.specs.declared.errors.BindError.{BindError}
@@ -111,7 +111,7 @@ shaped mode env d r is elements kept i e h s k =
 
 -- an answer by a relation to one thing answers what it is
 pub related_same : {V A : Type 0} (R : A → V → Type 0) (answer : Result V BindError) (whole one : Result A (List Refusal)) → whole ≡ one
-    → AnswersBy R answer one → AnswersBy R answer whole
+    → StepsTo R answer one → StepsTo R answer whole
 related_same R (Ok x) whole one w h = (h.0, w ∙ h.1, h.2)
 related_same R (Err e) whole one w h = refuses_same e whole one w h
 

@@ -26,7 +26,7 @@ use Rattle.ep_instance.specs.declared.instances.Find.{Find as KeptFind}
 use Rattle.ep_tree.specs.Types.{of_scalar, scalar_of}
 use Rattle.ep_tree.specs.declared.values.Scalar.{Scalar}
 use Rattle.ep_tree.specs.declared.values.ValueType.{ValueType}
-use Rattle.ep_instance.specs.Reading.{IsListed, IsListedShape}
+use Rattle.ep_instance.specs.Reading.{IsReadListed, IsListedShape}
 use Rattle.ep_instance.specs.Steps.{finds_of, finds_said}
 use Rattle.ep_instance.specs.declared.lettings.ListedShape.{ListedShape}
 use Rattle.ep_instance.specs.declared.listed.Listed.{Listed}
@@ -62,7 +62,7 @@ values_pass mode env (matrix_domain p ds d) values e = go (values_pass mode env 
     go : (f : ℤ → Bool) × (elements_pass mode env d ≡ Some f) → (f : ℤ → Bool) × (elements_pass mode env (matrix_domain p ds d) ≡ Some f)
     go q = q
 
-pub listed_shape : (mode : Mode) (env : Env) (before after : ℕ) (d : DomainTree) (read : Listed) (kept : ListedShape) → IsListed mode env before d read after
+pub listed_shape : (mode : Mode) (env : Env) (before after : ℕ) (d : DomainTree) (read : Listed) (kept : ListedShape) → IsReadListed mode env before d read after
     → option_map (λ v. v.items) read.indices ≡ Some kept.indices.items → read.values ≡ Some kept.values → kept.scalar ≡ scalar_in env d → IsListedShape (shape_of mode env d) (Some kept)
 unfolding shape_of
 listed_shape mode env before after d read kept h i v s =
@@ -71,13 +71,13 @@ listed_shape mode env before after d read kept h i v s =
     let shape : Shape = record { scalar = scalar_in env d; indices = kept.indices.items; passes = f.0; values = element_values mode env d } in
     (shape, both_some _ (index_domains mode env d) (elements_pass mode env d) kept.indices.items f.0 (sym h.indices ∙ i) f.1, s, refl, values)
 
-pub unlisted_indices : (mode : Mode) (env : Env) (before after : ℕ) (d : DomainTree) (read : Listed) → IsListed mode env before d read after → option_map (λ v. v.items) read.indices ≡ None
+pub unlisted_indices : (mode : Mode) (env : Env) (before after : ℕ) (d : DomainTree) (read : Listed) → IsReadListed mode env before d read after → option_map (λ v. v.items) read.indices ≡ None
     → IsListedShape (shape_of mode env d) None
 unfolding shape_of
 unlisted_indices mode env before after d read h i =
     ap (option_and_then (λ (s : Shape). s.values)) (no_first _ (index_domains mode env d) (elements_pass mode env d) (sym h.indices ∙ i))
 
-pub unlisted_values : (mode : Mode) (env : Env) (before after : ℕ) (d : DomainTree) (read : Listed) → IsListed mode env before d read after → read.values ≡ None
+pub unlisted_values : (mode : Mode) (env : Env) (before after : ℕ) (d : DomainTree) (read : Listed) → IsReadListed mode env before d read after → read.values ≡ None
     → IsListedShape (shape_of mode env d) None
 unlisted_values mode env before after d read h v = go (shape_of mode env d) refl
   where

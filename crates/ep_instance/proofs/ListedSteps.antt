@@ -26,7 +26,7 @@ use Rattle.ep_eval.specs.declared.errors.EvalError.{EvalError}
 use Rattle.ep_tree.specs.Limits.{limits_of_values}
 use Rattle.ep_instance.specs.Counted.{IsCounted}
 use Rattle.ep_instance.specs.Elements.{element_passes}
-use Rattle.ep_instance.specs.Reading.{IsListed, IsOpened, IsScalars, Joins, NamesListed, NamesOpened, ReadsListed, ReadsScalars}
+use Rattle.ep_instance.specs.Reading.{IsReadListed, IsOpened, IsScalars, Joins, NamesListed, NamesOpened, ReadsListed, ReadsScalars}
 use Rattle.ep_instance.specs.Tests.{Answers64, element_test, run_test}
 use Rattle.ep_instance.specs.declared.elements.Elements.{Elements, Joined, Within}
 use Rattle.ep_instance.specs.declared.listed.Listed.{Listed}
@@ -99,28 +99,28 @@ named_unopened b kept h i v = record {
 
 -- ---- lists, form by form
 
-pub listed_bool : (mode : Mode) (env : Env) (before : ℕ) (p : _) (kept : Listed) (after : ℕ) → IsScalars mode env before (bool p) kept after → IsListed mode env before (bool p) kept after
+pub listed_bool : (mode : Mode) (env : Env) (before : ℕ) (p : _) (kept : Listed) (after : ℕ) → IsScalars mode env before (bool p) kept after → IsReadListed mode env before (bool p) kept after
 unfolding index_domains element_values
 listed_bool mode env before p kept after h = record { indices = h.indices; values = h.values; counted = h.counted }
 
-pub listed_int : (mode : Mode) (env : Env) (before : ℕ) (p : _) (kept : Listed) (after : ℕ) → IsScalars mode env before (int p) kept after → IsListed mode env before (int p) kept after
+pub listed_int : (mode : Mode) (env : Env) (before : ℕ) (p : _) (kept : Listed) (after : ℕ) → IsScalars mode env before (int p) kept after → IsReadListed mode env before (int p) kept after
 unfolding index_domains element_values
 listed_int mode env before p kept after h = record { indices = h.indices; values = h.values; counted = h.counted }
 
-pub listed_ranges : (mode : Mode) (env : Env) (before : ℕ) (p : _) (rs : Ranges) (kept : Listed) (after : ℕ) → IsScalars mode env before (ranges p rs) kept after → IsListed mode env before (ranges p rs) kept after
+pub listed_ranges : (mode : Mode) (env : Env) (before : ℕ) (p : _) (rs : Ranges) (kept : Listed) (after : ℕ) → IsScalars mode env before (ranges p rs) kept after → IsReadListed mode env before (ranges p rs) kept after
 unfolding index_domains element_values
 listed_ranges mode env before p rs kept after h = record { indices = h.indices; values = h.values; counted = h.counted }
 
 pub listed_set : (mode : Mode) (env : Env) (before : ℕ) (p : _) (op : SetOp) (c d : DomainTree) (kept : Listed) (after : ℕ) → IsScalars mode env before (set_domain p op c d) kept after
-    → IsListed mode env before (set_domain p op c d) kept after
+    → IsReadListed mode env before (set_domain p op c d) kept after
 unfolding index_domains element_values
 listed_set mode env before p op c d kept after h = record { indices = h.indices; values = h.values; counted = h.counted }
 
-pub listed_named : (mode : Mode) (env : Env) (before : ℕ) (p : _) (name : _) (kept : Listed) → before ≤ 5000000 → NamesListed (env name) kept → IsListed mode env before (named_domain p name) kept before
+pub listed_named : (mode : Mode) (env : Env) (before : ℕ) (p : _) (name : _) (kept : Listed) → before ≤ 5000000 → NamesListed (env name) kept → IsReadListed mode env before (named_domain p name) kept before
 unfolding index_domains element_values met
 listed_named mode env before p name kept small h = record { indices = h.indices; values = h.values; counted = counted_none mode before small }
 
-pub listed_group : (mode : Mode) (env : Env) (before : ℕ) (p : _) (d : DomainTree) (kept : Listed) (after : ℕ) → IsListed mode env before d kept after → IsListed mode env before (group_domain p d) kept after
+pub listed_group : (mode : Mode) (env : Env) (before : ℕ) (p : _) (d : DomainTree) (kept : Listed) (after : ℕ) → IsReadListed mode env before d kept after → IsReadListed mode env before (group_domain p d) kept after
 unfolding index_domains element_values met
 listed_group mode env before p d kept after h = record { indices = h.indices; values = h.values; counted = h.counted }
 
@@ -145,9 +145,9 @@ all_indices mode env p ds d sets inner all s i a =
     a ∙ ap (λ o. map_both (λ xs ys. xs ++ ys) o inner) s ∙ ap (map_both (λ xs ys. xs ++ ys) (listed_domains mode env ds)) i ∙ sym (matrix_indices mode env p ds d)
 
 pub listed_matrix : (mode : Mode) (env : Env) (before count after : ℕ) (p : _) (ds : Domains) (d : DomainTree) (sets : Option (List (List ℤ))) (inner kept : Listed)
-    → sets ≡ listed_domains mode env ds → IsCounted mode before (met_domains mode env ds) count → IsListed mode env count d inner after
+    → sets ≡ listed_domains mode env ds → IsCounted mode before (met_domains mode env ds) count → IsReadListed mode env count d inner after
     → option_map (λ v. v.items) kept.indices ≡ map_both (λ xs ys. xs ++ ys) sets (option_map (λ v. v.items) inner.indices) → kept.values ≡ inner.values
-    → IsListed mode env before (matrix_domain p ds d) kept after
+    → IsReadListed mode env before (matrix_domain p ds d) kept after
 unfolding element_values met
 listed_matrix mode env before count after p ds d sets inner kept s c h i v = record {
   indices = all_indices mode env p ds d sets _ _ s h.indices i;

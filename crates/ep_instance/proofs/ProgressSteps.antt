@@ -25,7 +25,7 @@ use Rattle.ep_tree.specs.declared.syntax.Expr.{Expr}
 use Rattle.ep_tree.specs.declared.values.Mode.{Mode}
 use Rattle.ep_instance.specs.Instances.{find_of}
 use Rattle.ep_instance.specs.declared.instances.Find.{Find as KeptFind}
-use Rattle.ep_instance.specs.Refusals.{Answers}
+use Rattle.ep_instance.specs.Refusals.{BindsTo}
 use Rattle.ep_instance.specs.Steps.{IsFaultless, conditions_said, finds_said}
 use Rattle.ep_instance.specs.declared.errors.BindError.{BindError}
 use Rattle.ep_instance.proofs.Answering.{refuses_first}
@@ -95,7 +95,7 @@ given_faultless env p gs h = groups_kept h.context (context_of env) h.lacks gs h
 -- ---- answers, with what they make of the whole
 
 pub answers_next : {V A B : Type 0} (view : V → A) (f : A → B) (answer : Result V BindError) (whole : Result B (List Refusal)) (one : Result A (List Refusal))
-    → whole ≡ and_next one (λ x. Ok (f x)) → Answers view answer one → Answers (λ v. f (view v)) answer whole
+    → whole ≡ and_next one (λ x. Ok (f x)) → BindsTo view answer one → BindsTo (λ v. f (view v)) answer whole
 unfolding and_next
 answers_next view f (Ok x) whole one w h = w ∙ ap (λ o. and_next o (λ x. Ok (f x))) h
 answers_next view f (Err e) whole one w h = refuses_first e whole one (λ x. Ok (f x)) w h

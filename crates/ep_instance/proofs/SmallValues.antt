@@ -30,7 +30,7 @@ use Rattle.ep_tree.specs.declared.syntax.QuantOp.{QuantOp}
 use Rattle.ep_tree.specs.declared.syntax.SetOp.{SetOp}
 use Rattle.ep_tree.specs.declared.values.Mode.{Mode}
 use Rattle.ep_tree.specs.declared.values.ValueType.{ValueType}
-use Rattle.ep_instance.specs.Refusals.{Answers}
+use Rattle.ep_instance.specs.Refusals.{BindsTo}
 use Rattle.ep_instance.specs.Steps.{group_said, named_said}
 use Rattle.ep_instance.specs.declared.errors.BindError.{BindError}
 use Rattle.ep_instance.proofs.BindSteps.{both_ok, given_is, group_parts, named_put, next_group, next_name, unless_ok}
@@ -432,7 +432,7 @@ bound_small mode model params i h =
     all_finds i.finds (subst (λ (x : Instance). SmallFinds x.finds) (ok_same b.2) k.finds)
 
 -- the same of an answer
-pub answer_small : {V : Type 0} (view : V → Instance) (answer : Result V BindError) (mode : Mode) (model params : TextTree) → Answers view answer (bind mode model params)
+pub answer_small : {V : Type 0} (view : V → Instance) (answer : Result V BindError) (mode : Mode) (model params : TextTree) → BindsTo view answer (bind mode model params)
     → IfOk answer (λ v. All (λ (f : Find). All IsWithinNumbers f.values) (view v).finds)
 answer_small view (Ok v) mode model params h = bound_small mode model params (view v) h
 answer_small view (Err e) mode model params h = tt

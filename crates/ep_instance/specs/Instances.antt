@@ -20,8 +20,8 @@ abbrev pub goal_of : Objective → Sense × ExprTree
 goal_of o = (o.sense, expr_tree o.e)
 
 -- an instance
-abbrev pub instance_of : Instance → defined.Instance
-instance_of i = record {
+abbrev pub plain_instance : Instance → defined.Instance
+plain_instance i = record {
   finds = map find_of i.finds.items;
   clauses = map expr_tree i.clauses.items;
   goal = option_map goal_of i.objective;
@@ -29,5 +29,5 @@ instance_of i = record {
 }
 
 -- the mode in which an instance is evaluated
-abbrev pub mode_of : Instance → Mode
-mode_of i = i.env.mode
+abbrev pub instance_mode : Instance → Mode
+instance_mode i = i.env.mode

@@ -8,13 +8,13 @@ use Rattle.ep_tree.specs.Environments.{Env}
 use Rattle.ep_tree.specs.Statements.{Group}
 use Rattle.ep_tree.specs.Trees.{DomainTree, ExprTree}
 use Rattle.ep_tree.specs.declared.values.Mode.{Mode}
-use Rattle.ep_instance.specs.Instances.{instance_of}
+use Rattle.ep_instance.specs.Instances.{plain_instance}
 use Rattle.ep_instance.specs.Steps.{conditions_said, finds_said, named_said, value_said}
 use Rattle.ep_instance.specs.declared.statements.Progress.{Progress}
 
 -- the instance so far, and the number of the next condition
 abbrev pub progress_of : Progress → defined.Progress
-progress_of p = record { instance = instance_of p.instance; next_where = p.next_where }
+progress_of p = record { instance = plain_instance p.instance; next_where = p.next_where }
 
 -- a `given`
 abbrev pub given_progress : Mode → Env → defined.Progress → Place → List Group → Result defined.Progress (List Refusal)

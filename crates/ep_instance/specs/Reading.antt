@@ -31,14 +31,14 @@ pub record NamesListed (bound : Option Bound) (kept : Listed) : Type 0 where
   pub values : kept.values ≡ numbers_bound bound
 
 -- a domain lists its index domains and its numbers, and so many nodes are met by its end
-pub record IsListed (mode : Mode) (env : Env) (before : ℕ) (d : DomainTree) (kept : Listed) (after : ℕ) : Type 0 where
+pub record IsReadListed (mode : Mode) (env : Env) (before : ℕ) (d : DomainTree) (kept : Listed) (after : ℕ) : Type 0 where
   pub indices : option_map (λ v. v.items) kept.indices ≡ index_domains mode env d
   pub values : kept.values ≡ element_values mode env d
   pub counted : IsCounted mode before (met_domain mode env d) after
 
 -- a domain is read as it is, or passes a limit
 abbrev pub ReadsListed : Mode → Env → ℕ → DomainTree → Result (Listed × ℕ) EvalError → Type 0
-ReadsListed mode env before d (Ok r) = IsListed mode env before d r.0 r.1
+ReadsListed mode env before d (Ok r) = IsReadListed mode env before d r.0 r.1
 ReadsListed mode env before d (Err e) = IsCause (limits_of_values mode before (met_domain mode env d)) e
 
 -- a domain of scalars lists its numbers alone

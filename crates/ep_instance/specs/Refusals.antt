@@ -29,15 +29,15 @@ IsOneOf (Limit limit) refusals = Contains refusals (over_limit limit)
 IsOneOf Memory refusals = Unit {0}
 
 -- an error answers what is defined, where that is a list of refusals; want of memory may come at any point
-abbrev pub Refuses : {A : Type 0} → BindError → Result A (List Refusal) → Type 0
-Refuses Memory said = Unit {0}
-Refuses e (Ok x) = ⊥
-Refuses e (Err refusals) = IsOneOf e refusals
+abbrev pub RefusesBinding : {A : Type 0} → BindError → Result A (List Refusal) → Type 0
+RefusesBinding Memory said = Unit {0}
+RefusesBinding e (Ok x) = ⊥
+RefusesBinding e (Err refusals) = IsOneOf e refusals
 
 -- an answer, seen by a view, is what is defined
-abbrev pub Answers : {V A : Type 0} → (V → A) → Result V BindError → Result A (List Refusal) → Type 0
-Answers view (Ok x) said = said ≡ Ok (view x)
-Answers view (Err e) said = Refuses e said
+abbrev pub BindsTo : {V A : Type 0} → (V → A) → Result V BindError → Result A (List Refusal) → Type 0
+BindsTo view (Ok x) said = said ≡ Ok (view x)
+BindsTo view (Err e) said = RefusesBinding e said
 
 -- An answer to a solution text is what is defined: an assignment that fits, or one of the names that keep it from
 -- having a right shape.
@@ -45,7 +45,7 @@ abbrev pub ShapeAnswers : Result Shaped BindError → Result defined.Shaped (Lis
 ShapeAnswers (Ok (Fits a)) said = said ≡ Ok (defined.fits (assigned a))
 ShapeAnswers (Ok (WrongShape name)) said =
     (names : List Name) × (said ≡ Ok (defined.wrong_shape names)) × Contains names name
-ShapeAnswers (Err e) said = Refuses e said
+ShapeAnswers (Err e) said = RefusesBinding e said
 
 -- an error of the evaluator, as one of binding
 abbrev pub bind_error : EvalError → BindError

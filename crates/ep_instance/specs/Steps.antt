@@ -15,13 +15,13 @@ use Rattle.ep_tree.specs.Values.{ValueTree}
 use Rattle.ep_tree.specs.declared.values.Mode.{Mode}
 use Rattle.ep_tree.specs.declared.values.ValueType.{ValueType}
 use Rattle.ep_laws.specs.Deciding.{LacksDecisions}
-use Rattle.ep_instance.specs.Refusals.{Refuses}
+use Rattle.ep_instance.specs.Refusals.{RefusesBinding}
 use Rattle.ep_instance.specs.declared.errors.BindError.{BindError}
 
 -- an answer is, by a relation, what is defined
-abbrev pub AnswersBy : {V A : Type 0} → (A → V → Type 0) → Result V BindError → Result A (List Refusal) → Type 0
-AnswersBy {V} {A} relates (Ok x) said = (y : A) × (said ≡ Ok y) × relates y x
-AnswersBy relates (Err e) said = Refuses e said
+abbrev pub StepsTo : {V A : Type 0} → (A → V → Type 0) → Result V BindError → Result A (List Refusal) → Type 0
+StepsTo {V} {A} relates (Ok x) said = (y : A) × (said ≡ Ok y) × relates y x
+StepsTo relates (Err e) said = RefusesBinding e said
 
 -- a domain that is bound: first the limits, then a domain that isn't defined
 abbrev pub shape_said : Mode → Refusal → Env → DomainTree → Result Shape (List Refusal)

@@ -5,8 +5,8 @@ ghost use Rattle.ep_base.specs.Reads.{IsWithinNumbers};
 ghost use Rattle.ep_tree.specs.Binding as defined;
 ghost use Rattle.ep_tree.specs.Closed.{IsClosed};
 ghost use Rattle.ep_types.specs.Texts.{typed_params_tree, typed_tree};
-ghost use Rattle.ep_instance.specs.Instances.{instance_of, mode_of};
-ghost use Rattle.ep_instance.specs.Refusals.{Answers};
+ghost use Rattle.ep_instance.specs.Instances.{plain_instance, instance_mode};
+ghost use Rattle.ep_instance.specs.Refusals.{BindsTo};
 
 use super::errors::{BindError, Source};
 use super::instances::Instance;
@@ -25,10 +25,10 @@ pub fn bind(
     params: TypedParams,
     mode: Mode,
 ) -> Result<Instance, BindError>
-    ensures answer { Answers instance_of result (defined.bind mode (typed_tree typed) (typed_params_tree params)) }
-    ensures mode { IfOk result (λ i. mode_of i ≡ mode) }
-    ensures closed { IfOk result (λ i. IsClosed (instance_of i)) }
-    ensures numbers { IfOk result (λ i. All (λ f. All IsWithinNumbers f.values) (instance_of i).finds) }
+    ensures answer { BindsTo plain_instance result (defined.bind mode (typed_tree typed) (typed_params_tree params)) }
+    ensures mode { IfOk result (λ i. instance_mode i ≡ mode) }
+    ensures closed { IfOk result (λ i. IsClosed (plain_instance i)) }
+    ensures numbers { IfOk result (λ i. All (λ f. All IsWithinNumbers f.values) (plain_instance i).finds) }
 {
     let params = params.into_params();
     let known = bind_params(alloc, Source::Params, mode, &params.statements)?;

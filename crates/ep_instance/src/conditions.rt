@@ -6,7 +6,7 @@ ghost use Rattle.ep_tree.specs.Evaluation.{truth_of};
 ghost use Rattle.ep_tree.specs.Views.{expr_tree};
 ghost use Rattle.ep_eval.specs.Known.{env_of};
 ghost use Rattle.ep_eval.specs.Outcomes.{seen_value};
-ghost use Rattle.ep_instance.specs.Refusals.{Answers};
+ghost use Rattle.ep_instance.specs.Refusals.{BindsTo};
 ghost use Rattle.ep_instance.specs.Steps.{conditions_said, first_of};
 
 use super::bounds::seen_number;
@@ -68,7 +68,7 @@ pub fn check_conditions(
     first: u64,
     conditions: &[Expr],
 ) -> Result<u64, BindError>
-    ensures { Answers (λ n. n) result
+    ensures { BindsTo (λ n. n) result
         (conditions_said env.now.mode (env_of env.now) first (map expr_tree conditions.now)) }
 {
     let mut violated = None;

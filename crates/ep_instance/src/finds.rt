@@ -6,7 +6,7 @@ ghost use Rattle.ep_tree.specs.Views.{group_of};
 ghost use Rattle.ep_eval.specs.Known.{env_of};
 ghost use Rattle.ep_instance.specs.Finding.{kept_find, kept_finds};
 ghost use Rattle.ep_instance.specs.Instances.{find_of};
-ghost use Rattle.ep_instance.specs.Refusals.{Answers};
+ghost use Rattle.ep_instance.specs.Refusals.{BindsTo};
 ghost use Rattle.ep_instance.specs.Steps.{finds_said};
 
 use super::errors::{BindError, Source};
@@ -81,7 +81,7 @@ pub fn bind_finds(
     env: &Env,
     groups: &[Declared],
 ) -> Result<Vec<Find>, BindError>
-    ensures { Answers (λ fs. map find_of fs.items) result
+    ensures { BindsTo (λ fs. map find_of fs.items) result
         (finds_said env.now.mode place (env_of env.now) (map group_of groups.now)) }
 {
     let mut finds = Some(Vec::new(alloc));

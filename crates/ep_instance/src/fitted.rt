@@ -10,7 +10,7 @@ ghost use Rattle.ep_tree.specs.Types as types;
 ghost use Rattle.ep_tree.specs.Views.{value_tree};
 ghost use Rattle.ep_eval.specs.Known.{env_of};
 ghost use Rattle.ep_instance.specs.Reading.{IsShape, IsTypedShape};
-ghost use Rattle.ep_instance.specs.Refusals.{Answers, IsOneOf};
+ghost use Rattle.ep_instance.specs.Refusals.{BindsTo, IsOneOf};
 ghost use Rattle.ep_instance.specs.Steps.{fitted_said};
 
 use super::errors::BindError;
@@ -80,7 +80,7 @@ pub fn put_value(
 ) -> Result<(), BindError>
     requires typed { IsOf ty (value_tree value) }
     ensures mode { env.new.mode ≡ env.old.mode }
-    ensures known { Answers (λ _. env_of env.new) result
+    ensures known { BindsTo (λ _. env_of env.new) result
         (Ok (put name.now (has_value ty (value_tree value)) (env_of env.old))) }
 {
     let name = Name::new(alloc, name.text())?;
@@ -99,7 +99,7 @@ pub fn bind_fitted(
 ) -> Result<(), BindError>
     requires typed { IsTypedShape shape.now }
     ensures mode { env.new.mode ≡ env.old.mode }
-    ensures known { (bound : defined.Shape) → IsShape bound shape.now → Answers (λ _. env_of env.new) result
+    ensures known { (bound : defined.Shape) → IsShape bound shape.now → BindsTo (λ _. env_of env.new) result
         (fitted_said bound name.now own (value_tree value.now) (env_of env.old)) }
 {
     let wanted = shape.scalar;

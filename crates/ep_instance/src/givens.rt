@@ -8,7 +8,7 @@ ghost use Rattle.ep_tree.specs.Faults.{group_faults};
 ghost use Rattle.ep_tree.specs.Views.{group_of};
 ghost use Rattle.ep_eval.specs.Known.{env_of};
 ghost use Rattle.ep_instance.specs.Reading.{IsShape, IsTypedShape};
-ghost use Rattle.ep_instance.specs.Refusals.{Answers};
+ghost use Rattle.ep_instance.specs.Refusals.{BindsTo};
 ghost use Rattle.ep_instance.specs.Steps.{group_said, missing_name, name_said, nothing_refused};
 
 use super::errors::BindError;
@@ -21,7 +21,7 @@ use std::alloc::Global;
 
 /// Checks that a name has a parameter.
 fn check_name(alloc: Global, params: &Env, name: &Name) -> Result<(), BindError>
-    ensures { Answers (λ _. tt) result (nothing_refused (missing_name (env_of params.now) name.now)) }
+    ensures { BindsTo (λ _. tt) result (nothing_refused (missing_name (env_of params.now) name.now)) }
 {
     match params.entry(name) {
         Some(_) => Ok(()),
@@ -31,7 +31,7 @@ fn check_name(alloc: Global, params: &Env, name: &Name) -> Result<(), BindError>
 
 /// Checks that each name of a group has a parameter.
 fn check_names(alloc: Global, params: &Env, names: &[(Name, Place)]) -> Result<(), BindError>
-    ensures { Answers (λ _. tt) result (nothing_refused (first_missing (env_of params.now) names.now)) }
+    ensures { BindsTo (λ _. tt) result (nothing_refused (first_missing (env_of params.now) names.now)) }
 {
     for name in names {
         check_name(alloc, params, &name.0)?;
@@ -49,7 +49,7 @@ fn bind_name(
 ) -> Result<(), BindError>
     requires typed { IsTypedShape shape.now }
     ensures mode { env.new.mode ≡ env.old.mode }
-    ensures known { (bound : defined.Shape) → IsShape bound shape.now → Answers (λ _. env_of env.new) result
+    ensures known { (bound : defined.Shape) → IsShape bound shape.now → BindsTo (λ _. env_of env.new) result
         (name_said (env_of params.now) bound name.now (env_of env.old)) }
 {
     match params.entry(name) {
@@ -68,7 +68,7 @@ fn bind_names(
 ) -> Result<(), BindError>
     requires typed { IsTypedShape shape.now }
     ensures mode { env.new.mode ≡ env.old.mode }
-    ensures known { (bound : defined.Shape) → IsShape bound shape.now → Answers (λ _. env_of env.new) result
+    ensures known { (bound : defined.Shape) → IsShape bound shape.now → BindsTo (λ _. env_of env.new) result
         (bind_names (env_of params.now) bound names.now (env_of env.old)) }
 {
     for name in names {
@@ -87,7 +87,7 @@ fn bind_group(
 ) -> Result<(), BindError>
     requires faultless { group_faults (context_of (env_of env.old)) false true (group_of group.now ∷ []) ≡ [] }
     ensures mode { env.new.mode ≡ env.old.mode }
-    ensures known { Answers (λ _. env_of env.new) result
+    ensures known { BindsTo (λ _. env_of env.new) result
         (group_said env.old.mode place (env_of params.now) (group_of group.now) (env_of env.old)) }
 {
     let _mode = env.mode();
@@ -106,7 +106,7 @@ pub fn bind_givens(
 ) -> Result<(), BindError>
     requires faultless { group_faults (context_of (env_of env.old)) false true (map group_of groups.now) ≡ [] }
     ensures mode { env.new.mode ≡ env.old.mode }
-    ensures known { Answers (λ _. env_of env.new) result
+    ensures known { BindsTo (λ _. env_of env.new) result
         (bind_givens env.old.mode place (env_of params.now) (map group_of groups.now) (env_of env.old)) }
 {
     for group in groups {

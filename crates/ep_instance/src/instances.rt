@@ -32,25 +32,25 @@ pub struct Instance {
 }
 
 impl Instance {
-    ghost use Rattle.ep_instance.specs.Instances.{find_of, goal_of, instance_of};
+    ghost use Rattle.ep_instance.specs.Instances.{find_of, goal_of, plain_instance};
 
     /// The decision variables, in the order of the text.
     pub fn finds(&self) -> &[Find]
-        ensures { map find_of result.now ≡ (instance_of self.now).finds }
+        ensures { map find_of result.now ≡ (plain_instance self.now).finds }
     {
         &self.finds
     }
 
     /// The clauses, in the order of the text.
     pub fn clauses(&self) -> &[Expr]
-        ensures { map expr_tree result.now ≡ (instance_of self.now).clauses }
+        ensures { map expr_tree result.now ≡ (plain_instance self.now).clauses }
     {
         &self.clauses
     }
 
     /// What is to be as small or as great as can be, where an objective is stated.
     pub fn objective(&self) -> Option<&Objective>
-        ensures { option_map (λ o. goal_of o.now) result ≡ (instance_of self.now).goal }
+        ensures { option_map (λ o. goal_of o.now) result ≡ (plain_instance self.now).goal }
     {
         self.objective.as_ref()
     }

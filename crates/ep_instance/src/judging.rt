@@ -9,7 +9,7 @@ ghost use Rattle.ep_tree.specs.Views.{assigned, expr_tree};
 ghost use Rattle.ep_eval.specs.Known.{env_of};
 ghost use Rattle.ep_eval.specs.Outcomes.{seen_value};
 ghost use Rattle.ep_instance.specs.Assigning.{judged_by_goal, judgement_in};
-ghost use Rattle.ep_instance.specs.Instances.{goal_of, instance_of, mode_of};
+ghost use Rattle.ep_instance.specs.Instances.{goal_of, plain_instance, instance_mode};
 ghost use Rattle.ep_instance.specs.Judgements.{IsWithinLimits, judgement_of};
 
 use super::bounds::seen_number;
@@ -101,7 +101,7 @@ fn judge_objective(alloc: Global, env: &Env, goal: Option<&Objective>) -> Result
 /// answer is want of memory; no clause refuses that yet.
 fn judged_in(alloc: Global, env: &Env, instance: &Instance) -> Result<Judgement, Memory>
     ensures { IfOk result (λ j. judgement_of j
-        ≡ judgement_in env.now.mode (env_of env.now) (instance_of instance.now)) }
+        ≡ judgement_in env.now.mode (env_of env.now) (plain_instance instance.now)) }
 {
     let violated = first_violated(alloc, env, instance.clauses())?;
     match violated {
@@ -123,7 +123,7 @@ impl Judge {
 
     /// A judge of an instance.
     pub fn new(alloc: Global, instance: &Instance) -> Result<Judge, Memory>
-        ensures { IfOk result (IsJudgeOf (mode_of instance.now) (instance_of instance.now)) }
+        ensures { IfOk result (IsJudgeOf (instance_mode instance.now) (plain_instance instance.now)) }
     {
         let env = instance.env.copy()?;
         Ok(Judge { alloc, env })
@@ -131,13 +131,13 @@ impl Judge {
 
     /// Judges an assignment that fits. Where memory is refused, others can be judged still.
     pub fn judge(&mut self, instance: &Instance, a: &Assignment) -> Result<Judgement, Memory>
-        requires closed { IsClosed (instance_of instance.now) }
-        requires small { IsWithinLimits (mode_of instance.now) (instance_of instance.now) }
-        requires fits { (found : Found) × Fits (instance_of instance.now) (assigned a.now) found }
-        requires own { IsJudgeOf (mode_of instance.now) (instance_of instance.now) self.old }
-        ensures own { IsJudgeOf (mode_of instance.now) (instance_of instance.now) self.new }
-        ensures judgement { IfOk result (λ j. (found : Found) → Fits (instance_of instance.now) (assigned a.now) found →
-            judgement_of j ≡ judgement (mode_of instance.now) (instance_of instance.now) found) }
+        requires closed { IsClosed (plain_instance instance.now) }
+        requires small { IsWithinLimits (instance_mode instance.now) (plain_instance instance.now) }
+        requires fits { (found : Found) × Fits (plain_instance instance.now) (assigned a.now) found }
+        requires own { IsJudgeOf (instance_mode instance.now) (plain_instance instance.now) self.old }
+        ensures own { IsJudgeOf (instance_mode instance.now) (plain_instance instance.now) self.new }
+        ensures judgement { IfOk result (λ j. (found : Found) → Fits (plain_instance instance.now) (assigned a.now) found →
+            judgement_of j ≡ judgement (instance_mode instance.now) (plain_instance instance.now) found) }
     {
         set_finds(self.alloc, &mut self.env, instance.finds(), &a.entries)?;
         judged_in(self.alloc, &self.env, instance)
@@ -147,11 +147,11 @@ impl Judge {
 /// Judges an assignment that fits. A `Judge` is cheaper where several assignments are judged, since
 /// this call copies what the parameters and the lettings stand for.
 pub fn is_solution(alloc: Global, instance: &Instance, a: &Assignment) -> Result<Judgement, Memory>
-    requires closed { IsClosed (instance_of instance.now) }
-    requires small { IsWithinLimits (mode_of instance.now) (instance_of instance.now) }
-    requires fits { (found : Found) × Fits (instance_of instance.now) (assigned a.now) found }
-    ensures { IfOk result (λ j. (found : Found) → Fits (instance_of instance.now) (assigned a.now) found →
-        judgement_of j ≡ judgement (mode_of instance.now) (instance_of instance.now) found) }
+    requires closed { IsClosed (plain_instance instance.now) }
+    requires small { IsWithinLimits (instance_mode instance.now) (plain_instance instance.now) }
+    requires fits { (found : Found) × Fits (plain_instance instance.now) (assigned a.now) found }
+    ensures { IfOk result (λ j. (found : Found) → Fits (plain_instance instance.now) (assigned a.now) found →
+        judgement_of j ≡ judgement (instance_mode instance.now) (plain_instance instance.now) found) }
 {
     let mut judge = Judge::new(alloc, instance)?;
     judge.judge(instance, a)

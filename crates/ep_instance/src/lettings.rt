@@ -10,9 +10,9 @@ ghost use Rattle.ep_tree.specs.StatementSpelling as spelling;
 ghost use Rattle.ep_tree.specs.TypedValues.{is_number_of};
 ghost use Rattle.ep_tree.specs.Views.{domain_tree, expr_tree, statement_tree};
 ghost use Rattle.ep_eval.specs.Known.{env_of};
-ghost use Rattle.ep_instance.specs.Reading.{IsListed, IsListedShape};
-ghost use Rattle.ep_instance.specs.Refusals.{Answers, text_name};
-ghost use Rattle.ep_instance.specs.Steps.{AnswersBy, IsFaultless, named_said, plain_said, stated_said, value_said};
+ghost use Rattle.ep_instance.specs.Reading.{IsReadListed, IsListedShape};
+ghost use Rattle.ep_instance.specs.Refusals.{BindsTo, text_name};
+ghost use Rattle.ep_instance.specs.Steps.{StepsTo, IsFaultless, named_said, plain_said, stated_said, value_said};
 
 use super::errors::{BindError, Source};
 use super::fitted::{bind_fitted, put_value};
@@ -35,7 +35,7 @@ fn bind_plain(
 ) -> Result<(), BindError>
     requires faultless { faults (context_of (env_of env.old)) false (expr_tree e.now) ≡ [] }
     ensures mode { env.new.mode ≡ env.old.mode }
-    ensures known { Answers (λ _. env_of env.new) result (plain_said env.old.mode
+    ensures known { BindsTo (λ _. env_of env.new) result (plain_said env.old.mode
         (undefined_at (text_name text) place) (env_of env.old) name.now (expr_tree e.now)) }
 {
     let seen = evaluate(alloc, env, e)?;
@@ -59,7 +59,7 @@ fn bind_stated(
 ) -> Result<(), BindError>
     requires faultless { domain_faults (context_of (env_of env.old)) false (domain_tree d.now) ≡ [] }
     ensures mode { env.new.mode ≡ env.old.mode }
-    ensures known { Answers (λ _. env_of env.new) result (stated_said env.old.mode
+    ensures known { BindsTo (λ _. env_of env.new) result (stated_said env.old.mode
         (undefined_at (text_name text) place) (env_of env.old) name.now (domain_tree d.now) (expr_tree e.now)) }
 {
     let (read, count) = read_opened(alloc, env, 0, d)?;
@@ -88,7 +88,7 @@ pub fn listed_from(
     d: &Domain,
     read: Listed,
 ) -> Result<Option<ListedShape>, Memory>
-    requires read { (before after : ℕ) × IsListed env.now.mode (env_of env.now) before (domain_tree d.now) read after }
+    requires read { (before after : ℕ) × IsReadListed env.now.mode (env_of env.now) before (domain_tree d.now) read after }
     ensures { IfOk result (IsListedShape (shape_of env.now.mode (env_of env.now) (domain_tree d.now))) }
 {
     let scalar = scalar_in(alloc, env, d)?;
@@ -118,7 +118,7 @@ pub fn bind_domain(
 ) -> Result<(), BindError>
     requires faultless { domain_faults (context_of (env_of env.old)) false (domain_tree d.now) ≡ [] }
     ensures mode { env.new.mode ≡ env.old.mode }
-    ensures known { Answers (λ _. env_of env.new) result (named_said env.old.mode
+    ensures known { BindsTo (λ _. env_of env.new) result (named_said env.old.mode
         (undefined_at (text_name text) place) (env_of env.old) name.now (domain_tree d.now)) }
 {
     let _mode = env.mode();
@@ -144,7 +144,7 @@ pub fn bind_value(
     requires stated { stated_faults (context_of (env_of env.old)) (option_map domain_tree d.now) ≡ [] }
     requires value { faults (context_of (env_of env.old)) false (expr_tree e.now) ≡ [] }
     ensures mode { env.new.mode ≡ env.old.mode }
-    ensures known { Answers (λ _. env_of env.new) result (value_said env.old.mode (text_name text) place
+    ensures known { BindsTo (λ _. env_of env.new) result (value_said env.old.mode (text_name text) place
         (env_of env.old) name.now (option_map domain_tree d.now) (expr_tree e.now)) }
 {
     match d {
@@ -163,7 +163,7 @@ fn bind_letting(
     requires faultless { spelling.is_letting (statement_tree statement.now) ≡ true →
         IsFaultless (env_of env.old) (statement_tree statement.now) }
     ensures mode { env.new.mode ≡ env.old.mode }
-    ensures known { Answers (λ _. env_of env.new) result
+    ensures known { BindsTo (λ _. env_of env.new) result
         (bind_letting env.old.mode (text_name text) (env_of env.old) (statement_tree statement.now)) }
 {
     let place = statement.place;
@@ -191,7 +191,7 @@ pub fn bind_params(
 ) -> Result<Env, BindError>
     requires faultless { text_faults (lettings_of (map statement_tree statements.now)) ≡ [] }
     ensures mode { IfOk result (λ env. env.mode ≡ mode) }
-    ensures known { Answers (λ env. env_of env) result
+    ensures known { BindsTo (λ env. env_of env) result
         (bind_params mode (text_name text) nothing_known (lettings_of (map statement_tree statements.now))) }
 {
     let mut env = Env::new(alloc, mode);

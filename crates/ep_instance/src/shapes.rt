@@ -6,7 +6,7 @@ ghost use Rattle.ep_tree.specs.Views.{domain_tree};
 ghost use Rattle.ep_eval.specs.Known.{env_of};
 ghost use Rattle.ep_instance.specs.Reading.{IsShape};
 ghost use Rattle.ep_instance.specs.Refusals.{text_name};
-ghost use Rattle.ep_instance.specs.Steps.{AnswersBy, shape_said};
+ghost use Rattle.ep_instance.specs.Steps.{StepsTo, shape_said};
 ghost use Rattle.ep_instance.specs.Tests.{Answers64, element_test};
 
 use super::elements::Elements;
@@ -39,7 +39,7 @@ pub fn shape_from(
         ≡ index_domains env.now.mode (env_of env.now) (domain_tree d.now) }
     requires elements { Answers64 element_test read.elements
         (elements_pass env.now.mode (env_of env.now) (domain_tree d.now)) }
-    ensures { AnswersBy IsShape result (or_refuse (undefined_at (text_name text) place)
+    ensures { StepsTo IsShape result (or_refuse (undefined_at (text_name text) place)
         (shape_of env.now.mode (env_of env.now) (domain_tree d.now))) }
 {
     let scalar = scalar_in(alloc, env, d)?;
@@ -60,7 +60,7 @@ pub fn shape_from(
 
 /// The domain of a group of parameters.
 pub fn given_shape(alloc: Global, place: Place, env: &Env, d: &Domain) -> Result<Shape, BindError>
-    ensures { AnswersBy IsShape result (shape_said env.now.mode (undefined_at model_text place)
+    ensures { StepsTo IsShape result (shape_said env.now.mode (undefined_at model_text place)
         (env_of env.now) (domain_tree d.now)) }
 {
     let (read, _) = read_opened(alloc, env, 0, d)?;

@@ -8,7 +8,7 @@ ghost use Rattle.ep_tree.specs.SolutionTexts.{letting_names, read_solution};
 ghost use Rattle.ep_tree.specs.Views.{named_value, statement_tree};
 ghost use Rattle.ep_types.specs.Texts.{typed_params_tree};
 ghost use Rattle.ep_eval.specs.Known.{env_of};
-ghost use Rattle.ep_instance.specs.Instances.{find_of, instance_of, mode_of};
+ghost use Rattle.ep_instance.specs.Instances.{find_of, plain_instance, instance_mode};
 ghost use Rattle.ep_instance.specs.Judgements.{FitsIfShaped};
 ghost use Rattle.ep_instance.specs.Refusals.{ShapeAnswers};
 ghost use Rattle.ep_instance.specs.Shaping as shaping;
@@ -142,10 +142,10 @@ pub fn read_assignment(
     instance: &Instance,
     params: TypedParams,
 ) -> Result<Shaped, BindError>
-    requires closed { IsClosed (instance_of instance.now) }
+    requires closed { IsClosed (plain_instance instance.now) }
     ensures answer { ShapeAnswers result
-        (read_solution (mode_of instance.now) (instance_of instance.now) (typed_params_tree params)) }
-    ensures fits { IfOk result (FitsIfShaped (instance_of instance.now)) }
+        (read_solution (instance_mode instance.now) (plain_instance instance.now) (typed_params_tree params)) }
+    ensures fits { IfOk result (FitsIfShaped (plain_instance instance.now)) }
 {
     let params = params.into_params();
     let mode = instance.env.mode();

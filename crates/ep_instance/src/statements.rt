@@ -9,8 +9,8 @@ ghost use Rattle.ep_tree.specs.Faults.{domain_faults, faults, group_faults, stat
 ghost use Rattle.ep_tree.specs.Views.{domain_tree, expr_tree, group_of, statement_kind_tree, statement_tree};
 ghost use Rattle.ep_eval.specs.Known.{env_of};
 ghost use Rattle.ep_instance.specs.Progressing.{finds_progress, given_progress, named_progress, progress_of, valued_progress, where_progress};
-ghost use Rattle.ep_instance.specs.Instances.{instance_of};
-ghost use Rattle.ep_instance.specs.Refusals.{Answers};
+ghost use Rattle.ep_instance.specs.Instances.{plain_instance};
+ghost use Rattle.ep_instance.specs.Refusals.{BindsTo};
 ghost use Rattle.ep_instance.specs.Steps.{IsFaultless};
 
 use super::conditions::check_conditions;
@@ -41,7 +41,7 @@ fn bind_given(
 ) -> Result<(), BindError>
     requires faultless { group_faults (context_of (env_of at.old.instance.env)) false true (map group_of groups.items) ≡ [] }
     ensures mode { at.new.instance.env.mode ≡ at.old.instance.env.mode }
-    ensures progress { Answers (λ _. progress_of at.new) result (given_progress at.old.instance.env.mode
+    ensures progress { BindsTo (λ _. progress_of at.new) result (given_progress at.old.instance.env.mode
         (env_of params.now) (progress_of at.old) place (map group_of groups.items)) }
 {
     bind_givens(alloc, place, params, &groups, &mut at.instance.env)
@@ -55,7 +55,7 @@ fn bind_find(
     at: &mut Progress,
 ) -> Result<(), BindError>
     ensures mode { at.new.instance.env.mode ≡ at.old.instance.env.mode }
-    ensures progress { Answers (λ _. progress_of at.new) result (finds_progress at.old.instance.env.mode
+    ensures progress { BindsTo (λ _. progress_of at.new) result (finds_progress at.old.instance.env.mode
         (progress_of at.old) place (map group_of groups.items)) }
 {
     let mut finds = bind_finds(alloc, place, &at.instance.env, &groups)?;
@@ -75,7 +75,7 @@ fn bind_letting_value(
     requires stated { stated_faults (context_of (env_of at.old.instance.env)) (option_map domain_tree d) ≡ [] }
     requires value { faults (context_of (env_of at.old.instance.env)) false (expr_tree e) ≡ [] }
     ensures mode { at.new.instance.env.mode ≡ at.old.instance.env.mode }
-    ensures progress { Answers (λ _. progress_of at.new) result (valued_progress at.old.instance.env.mode
+    ensures progress { BindsTo (λ _. progress_of at.new) result (valued_progress at.old.instance.env.mode
         (progress_of at.old) place name (option_map domain_tree d) (expr_tree e)) }
 {
     bind_value(
@@ -99,7 +99,7 @@ fn bind_letting_domain(
 ) -> Result<(), BindError>
     requires faultless { domain_faults (context_of (env_of at.old.instance.env)) false (domain_tree d) ≡ [] }
     ensures mode { at.new.instance.env.mode ≡ at.old.instance.env.mode }
-    ensures progress { Answers (λ _. progress_of at.new) result (named_progress at.old.instance.env.mode
+    ensures progress { BindsTo (λ _. progress_of at.new) result (named_progress at.old.instance.env.mode
         (progress_of at.old) place name (domain_tree d)) }
 {
     bind_domain(alloc, Source::Model, &mut at.instance.env, place, &name, &d)
@@ -108,7 +108,7 @@ fn bind_letting_domain(
 /// Conditions on the parameters.
 fn bind_where(alloc: Global, conditions: Vec<Expr>, at: &mut Progress) -> Result<(), BindError>
     ensures mode { at.new.instance.env.mode ≡ at.old.instance.env.mode }
-    ensures progress { Answers (λ _. progress_of at.new) result (where_progress at.old.instance.env.mode
+    ensures progress { BindsTo (λ _. progress_of at.new) result (where_progress at.old.instance.env.mode
         (progress_of at.old) (map expr_tree conditions.items)) }
 {
     let next = check_conditions(alloc, &at.instance.env, at.next_where, &conditions)?;
@@ -119,8 +119,8 @@ fn bind_where(alloc: Global, conditions: Vec<Expr>, at: &mut Progress) -> Result
 /// Constraints.
 fn add_clauses(clauses: Vec<Expr>, at: &mut Progress) -> Result<(), BindError>
     ensures mode { at.new.instance.env.mode ≡ at.old.instance.env.mode }
-    ensures progress { Answers (λ _. progress_of at.new) result (Ok (now_with (progress_of at.old)
-        (with_clauses (instance_of at.old.instance) (map expr_tree clauses.items)))) }
+    ensures progress { BindsTo (λ _. progress_of at.new) result (Ok (now_with (progress_of at.old)
+        (with_clauses (plain_instance at.old.instance) (map expr_tree clauses.items)))) }
 {
     let mut clauses = clauses;
     at.instance.clauses.append(&mut clauses)?;
@@ -130,8 +130,8 @@ fn add_clauses(clauses: Vec<Expr>, at: &mut Progress) -> Result<(), BindError>
 /// What is to be as small or as great as can be.
 fn set_objective(sense: Sense, e: Expr, at: &mut Progress) -> Result<(), BindError>
     ensures mode { at.new.instance.env.mode ≡ at.old.instance.env.mode }
-    ensures progress { Answers (λ _. progress_of at.new) result (Ok (now_with (progress_of at.old)
-        (with_goal (instance_of at.old.instance) sense (expr_tree e)))) }
+    ensures progress { BindsTo (λ _. progress_of at.new) result (Ok (now_with (progress_of at.old)
+        (with_goal (plain_instance at.old.instance) sense (expr_tree e)))) }
 {
     at.instance.objective = Some(Objective { sense, e });
     Ok(())
@@ -147,7 +147,7 @@ fn bind_statement(
 ) -> Result<(), BindError>
     requires faultless { IsFaultless (env_of at.old.instance.env) (statement_kind_tree place kind) }
     ensures mode { at.new.instance.env.mode ≡ at.old.instance.env.mode }
-    ensures progress { Answers (λ _. progress_of at.new) result (bind_statement at.old.instance.env.mode
+    ensures progress { BindsTo (λ _. progress_of at.new) result (bind_statement at.old.instance.env.mode
         (env_of params.now) (progress_of at.old) (statement_kind_tree place kind)) }
 {
     match kind {
@@ -172,9 +172,9 @@ pub fn bind_statements(
 ) -> Result<Instance, BindError>
     requires faultless { text_faults (map statement_tree statements.items) ≡ [] }
     ensures mode { IfOk result (λ i. i.env.mode ≡ mode) }
-    ensures instance { Answers instance_of result (defined.and_next (bind_statements mode (env_of params.now)
+    ensures instance { BindsTo plain_instance result (defined.and_next (bind_statements mode (env_of params.now)
         nothing_bound (map statement_tree statements.items)) (λ at. Ok at.instance)) }
-    ensures closed { IfOk result (λ i. IsClosed (instance_of i)) }
+    ensures closed { IfOk result (λ i. IsClosed (plain_instance i)) }
 {
     let env = Env::new(alloc, mode);
     let instance = Instance {

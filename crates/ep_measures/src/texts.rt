@@ -4,7 +4,7 @@ ghost use Rattle.std.specs.Prelude.{◌≡◌, []};
 ghost use Rattle.ep_tree.specs.Closed.{IsClosed};
 ghost use Rattle.ep_tree.specs.Solutions.{Fits, Found, instance_limits};
 ghost use Rattle.ep_tree.specs.Views.{assigned};
-ghost use Rattle.ep_instance.specs.Instances.{instance_of, mode_of};
+ghost use Rattle.ep_instance.specs.Instances.{plain_instance, instance_mode};
 
 use ep_base::Limit;
 use ep_instance::{
@@ -99,9 +99,9 @@ fn judgement_text(alloc: Global, judgement: Judgement) -> Result<String, Fail> {
 
 /// How an assignment that fits is judged.
 fn judged(alloc: Global, instance: &Instance, assignment: &Assignment) -> Result<String, Fail>
-    requires closed { IsClosed (instance_of instance.now) }
-    requires within { instance_limits (mode_of instance.now) (instance_of instance.now) ≡ [] }
-    requires fits { (found : Found) × Fits (instance_of instance.now) (assigned assignment.now) found }
+    requires closed { IsClosed (plain_instance instance.now) }
+    requires within { instance_limits (instance_mode instance.now) (plain_instance instance.now) ≡ [] }
+    requires fits { (found : Found) × Fits (plain_instance instance.now) (assigned assignment.now) found }
 {
     no_limit_is_passed();
     let judgement = is_solution(alloc, instance, assignment)?;
@@ -110,8 +110,8 @@ fn judged(alloc: Global, instance: &Instance, assignment: &Assignment) -> Result
 
 /// How a solution text is judged.
 fn judged_text(alloc: Global, instance: &Instance, solution: TypedParams) -> Result<String, Fail>
-    requires closed { IsClosed (instance_of instance.now) }
-    requires within { instance_limits (mode_of instance.now) (instance_of instance.now) ≡ [] }
+    requires closed { IsClosed (plain_instance instance.now) }
+    requires within { instance_limits (instance_mode instance.now) (plain_instance instance.now) ≡ [] }
 {
     match read_assignment(alloc, instance, solution) {
         Ok(Shaped::Fits(assignment)) => judged(alloc, instance, &assignment),

@@ -11,7 +11,7 @@ use Rattle.ep_tree.specs.Trees.{DomainTree, ExprTree}
 use Rattle.ep_parse_expr.specs.DomainReaders.{set_words}
 use Rattle.ep_parse_expr.specs.OperandReaders.{Lower}
 use Rattle.ep_parse_expr.specs.OperatorReaders.{comparison_words, implication_words, only_word, power_words, product_words, sign_words}
-use Rattle.ep_parse_expr.specs.Readers.{Read, chosen, grown, grown_from, growing, next_in, says, took, word_from, wrong, ◌and_then◌}
+use Rattle.ep_parse_expr.specs.Readers.{Read, either_reader, grown, grown_from, growing, next_in, says, took, word_from, wrong, ◌and_then◌}
 
 -- a token that says this, at a place
 abbrev pub lexeme : Place → Saying → Lexeme
@@ -129,7 +129,7 @@ pub word_again : (w : List ℕ) (p : Place) (ls : List Lexeme) → word_from w (
 unfolding word_from
 word_again w p ls = go (bytes_eq w w) ((bytes_eq-Decides w w).1 refl)
   where
-    go : (b : Bool) → b ≡ true → chosen b (λ all. took p ls) (λ all. wrong all) (lexeme p (a_word w) ∷ ls) ≡ took p ls
+    go : (b : Bool) → b ≡ true → either_reader b (λ all. took p ls) (λ all. wrong all) (lexeme p (a_word w) ∷ ls) ≡ took p ls
     go true e = refl
     go false e = absurd cc
 

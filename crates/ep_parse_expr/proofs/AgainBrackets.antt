@@ -9,7 +9,7 @@ use Rattle.ep_tree.specs.Phrases.{Lexeme, Names, Phrase, Says, a_word, ◌follow
 use Rattle.ep_tree.specs.Spelling.{Spells, SpellsDomain, SpellsGenerators, SpellsMore, SpellsMoreGenerators, SpellsNode, SpellsList, implications, set_operations}
 use Rattle.ep_tree.specs.Trees.{DomainTree, ExprTree, ExprTrees, Generators, IndexDomain, comprehension, generator_and, literal, no_generators, no_trees, tree_and, truth}
 use Rattle.ep_parse_expr.specs.OperandReaders.{Generator, Lower, another_generator, as_generators, as_trees, bracket_from, colon_comes, comprehension_from, conditions_from, expression_next, generator_from, list_end, literal_from}
-use Rattle.ep_parse_expr.specs.Readers.{Reader, behind, chosen, looked_up, more_from, others_from, says, took, word_from, ◌and_then◌}
+use Rattle.ep_parse_expr.specs.Readers.{Reader, behind, either_reader, looked_up, more_from, others_from, says, took, word_from, ◌and_then◌}
 use Rattle.ep_parse_expr.proofs.Again.{AreComplete, Behind, DomainEnds, NoImplications, behind_word_cut, lexeme}
 use Rattle.ep_parse_expr.proofs.AgainLists.{BehindList, more_again}
 use Rattle.ep_parse_expr.proofs.AgainParts.{as_listed, listed}
@@ -109,10 +109,10 @@ module _ (less : ℕ) (low : Lower) (good : AreComplete less low) where
 
   -- what stands behind the first expression in a bracket
   abbrev behind_item : Bool → Place → ExprTree → Reader ExprTree
-  behind_item low_enough p e ls = chosen (says (codes "|") ls) (λ next. comprehension_from low_enough low p e (behind next)) (literal_from low_enough low p e) ls
+  behind_item low_enough p e ls = either_reader (says (codes "|") ls) (λ next. comprehension_from low_enough low p e (behind next)) (literal_from low_enough low p e) ls
 
   no_bar : (low_enough : Bool) (p : Place) (e : ExprTree) (ls : List Lexeme) → says (codes "|") ls ≡ false → behind_item low_enough p e ls ≡ literal_from low_enough low p e ls
-  no_bar low_enough p e ls none = ap (λ b. chosen b (λ next. comprehension_from low_enough low p e (behind next)) (literal_from low_enough low p e) ls) none
+  no_bar low_enough p e ls none = ap (λ b. either_reader b (λ next. comprehension_from low_enough low p e (behind next)) (literal_from low_enough low p e) ls) none
 
   with_item : (low_enough : Bool) (p : Place) (result : ExprTree) (e : ExprTree) (P : Phrase) (rest : List Lexeme)
       → Again (Spells implications e followed_by P) (λ ls. low.expr implications ls and_then behind_item low_enough p) result rest
@@ -121,7 +121,7 @@ module _ (less : ℕ) (low : Lower) (good : AreComplete less low) where
   with_item low_enough p result e P rest on front h =
       let seen : expression_next (front ++ rest) ≡ true =
       ap (λ x. expression_next (x ++ rest)) h.2 ∙ ap expression_next (append_assoc h.0 h.1 rest) ∙ expression_seen h.0 (h.1 ++ rest) (starts e h.0 h.3.1.1) in
-      ap (λ b. chosen b (λ all. low.expr implications all and_then behind_item low_enough p) (list_end low_enough low (literal p no_trees)) (front ++ rest)) seen
+      ap (λ b. either_reader b (λ all. low.expr implications all and_then behind_item low_enough p) (list_end low_enough low (literal p no_trees)) (front ++ rest)) seen
       ∙ on front h
 
   pub literal_again : (low_enough : Bool) (p : Place) (es : ExprTrees) (d : IndexDomain) (rest : List Lexeme) → highest es ≤ less → index_height d ≤ less → (1 ≤ less → low_enough ≡ true)
@@ -131,7 +131,7 @@ module _ (less : ℕ) (low : Lower) (good : AreComplete less low) where
       let cut : front ≡ h.1 = h.2 ∙ ap (λ x. x ++ h.1) h.3 in
       let none : expression_next (h.1 ++ rest) ≡ false = tail_is (λ x. expression_next x ≡ false) (λ q ls. refl) (λ q ls. refl) d rest h.1 h.4 in
       ap (λ x. bracket_from low_enough low p (x ++ rest)) cut
-      ∙ ap (λ b. chosen b (λ all. low.expr implications all and_then behind_item low_enough p) (list_end low_enough low (literal p no_trees)) (h.1 ++ rest)) none
+      ∙ ap (λ b. either_reader b (λ all. low.expr implications all and_then behind_item low_enough p) (list_end low_enough low (literal p no_trees)) (h.1 ++ rest)) none
       ∙ list_end_again less low good (literal p no_trees) d low_enough rest small_d enough_for h.1 h.4
   literal_again low_enough p (tree_and e es) d rest small small_d enough_for front h =
       with_item low_enough p (literal p (tree_and e es) d) e (SpellsMore es followed_by Tail d) rest

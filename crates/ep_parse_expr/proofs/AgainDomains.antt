@@ -10,7 +10,7 @@ use Rattle.ep_tree.specs.Trees.{DomainTree, Domains, bool, domain_and, group_dom
 use Rattle.ep_tree.specs.declared.syntax.SetOp.{SetOp}
 use Rattle.ep_parse_expr.specs.DomainReaders.{another_index_domain, another_operation, any_domain_from, as_domains, domain_begun_from, domain_open_from, domain_part_from, index_domain_behind, matrix_follows, matrix_from, matrix_head_from, operations_from, place_next, ranges_from, set_words}
 use Rattle.ep_parse_expr.specs.OperandReaders.{Lower, if_low}
-use Rattle.ep_parse_expr.specs.Readers.{Read, Reader, behind, chosen, grown, looked_up, more_from, next_in, others_from, says, took, word_from, ◌and_then◌}
+use Rattle.ep_parse_expr.specs.Readers.{Read, Reader, behind, either_reader, grown, looked_up, more_from, next_in, others_from, says, took, word_from, ◌and_then◌}
 use Rattle.ep_parse_expr.proofs.Again.{AreComplete, DomainEnds, GrownTo, around_cut, around_rest, behind_word_cut, below_again, grown_end, grown_more, grown_start, lexeme, same_place}
 use Rattle.ep_parse_expr.proofs.AgainPhrases.{Again, bracket_closes, comma_closes, domain_then, enough, group_closes, last_ends_domain, some_domain}
 use Rattle.ep_parse_expr.proofs.AgainRanges.{ranges_again}
@@ -73,7 +73,7 @@ module _ (less : ℕ) (low : Lower) (good : AreComplete less low) where
       ap (λ x. domain_part_from low_enough low (x ++ rest)) h.1 ∙ ap (λ q. took (bool q) rest) here
   part_again (int p) front rest up at h high none =
       let here : h.0 ≡ p = subst (λ x. StartsAt p x) h.1 at in
-      ap (λ x. domain_part_from low_enough low (x ++ rest)) h.1 ∙ ap (λ b. chosen b (λ next. ranges_from low h.0 (behind next)) (λ next. took (int h.0) next) rest) none ∙ ap (λ q. took (int q) rest) here
+      ap (λ x. domain_part_from low_enough low (x ++ rest)) h.1 ∙ ap (λ b. either_reader b (λ next. ranges_from low h.0 (behind next)) (λ next. took (int h.0) next) rest) none ∙ ap (λ q. took (int q) rest) here
   part_again (ranges p rs) front rest up at h high none =
       let c = behind_word_cut (codes "int") (Says "(" followed_by SpellsRanges rs followed_by Says ")") front h in
       let d = behind_word_cut (codes "(") (SpellsRanges rs followed_by Says ")") c.rest c.spelled in
@@ -289,7 +289,7 @@ module _ (less : ℕ) (low : Lower) (good : AreComplete less low) where
       → any_domain_from (suc less) low (front ++ rest) ≡ took d rest
   unfolding any_domain_from
   without_matrix d front rest up h high ends =
-      ap (λ b. chosen b (if_low (nat_lt 1 (suc less)) (λ all. matrix_from low (place_next all) (behind all))) (operations_from (suc less) low) (front ++ rest)) (no_matrix d front rest up h.1.1)
+      ap (λ b. either_reader b (if_low (nat_lt 1 (suc less)) (λ all. matrix_from low (place_next all) (behind all))) (operations_from (suc less) low) (front ++ rest)) (no_matrix d front rest up h.1.1)
       ∙ operations_again d front rest (up, h.1) high ends
 
   -- any domain is read again

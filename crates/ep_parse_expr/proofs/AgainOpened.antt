@@ -11,7 +11,7 @@ use Rattle.ep_tree.specs.declared.syntax.BinaryOp.{BinaryOp}
 use Rattle.ep_tree.specs.declared.syntax.FoldOp.{FoldOp}
 use Rattle.ep_tree.specs.declared.syntax.QuantOp.{QuantOp}
 use Rattle.ep_parse_expr.specs.OperandReaders.{Lower, Opening, ThreeParts, a_bar, a_bracket, a_greatest, a_group, a_least, a_minus, a_negation, a_quantifier, a_sum, a_table, a_truth, and_part, begun_from, call_from, call_of_three_from, call_of_two_from, closed_by, of_one, of_three, open_from, opened_from, openings, operand_from, quantifier_from, sum_from, table_from, three_parts}
-use Rattle.ep_parse_expr.specs.Readers.{Reader, chosen, looked_up, says, took, word_from, ◌and_then◌}
+use Rattle.ep_parse_expr.specs.Readers.{Reader, either_reader, looked_up, says, took, word_from, ◌and_then◌}
 use Rattle.ep_parse_expr.proofs.Again.{AreComplete, EndsBefore, NoImplications, behind_word_cut, lexeme}
 use Rattle.ep_parse_expr.proofs.AgainPhrases.{Again, EndsExpr, bar_closes, closed_again, comma_closes, domain_then, dot_closes, enough, expr_then, group_closes, last_ends, names_cut, names_then, word_ends, word_ends_domain, word_then}
 
@@ -95,7 +95,7 @@ module _ (less : ℕ) (low : Lower) (good : AreComplete less low) where
   -- what stands behind the first part of a function of one part or two
   abbrev behind_first : FoldOp → BinaryOp → Place → ExprTree → Reader ExprTree
   behind_first one two p a ls =
-      chosen (says (codes ",") ls) (and_part low (λ b. closed_by (codes ")") (binary p two a b))) (closed_by (codes ")") (folded p one a)) ls
+      either_reader (says (codes ",") ls) (and_part low (λ b. closed_by (codes ")") (binary p two a b))) (closed_by (codes ")") (folded p one a)) ls
 
   pub one_of_two_again : (one : FoldOp) (two : BinaryOp) (p : Place) (e : ExprTree) (rest : List Lexeme) → height e ≤ less
       → Again (Says "(" followed_by Spells implications e followed_by Says ")") (call_of_two_from low one two p) (folded p one e) rest
@@ -183,7 +183,7 @@ module _ (less : ℕ) (low : Lower) (good : AreComplete less low) where
   sum_call_again p e rest small front h =
       let c = behind_word_cut (codes "(") (Spells implications e followed_by Says ")") front h in
       let begins : says (codes "(") (front ++ rest) ≡ true = ap (λ x. says (codes "(") (x ++ rest)) c.parts in
-      ap (λ b. chosen b (call_from low (folded p FoldOp.Sum)) (quantifier_from low QuantOp.Sum p) (front ++ rest)) begins
+      ap (λ b. either_reader b (call_from low (folded p FoldOp.Sum)) (quantifier_from low QuantOp.Sum p) (front ++ rest)) begins
       ∙ call_again (folded p FoldOp.Sum) e rest small front h
 
   pub sum_over_again : (p : Place) (xs : List Name) (d : DomainTree) (e : ExprTree) (rest : List Lexeme) → domain_height d ≤ less → height e ≤ less → NoImplications rest
@@ -192,5 +192,5 @@ module _ (less : ℕ) (low : Lower) (good : AreComplete less low) where
   sum_over_again p xs d e rest small_d small_e ends front h =
       let closed : says (codes "(") (front ++ rest) ≡ false =
       subst (λ x. says (codes "(") (x ++ rest) ≡ false) (sym h.2) (subst (λ x. says (codes "(") x ≡ false) (sym (append_assoc h.0 h.1 rest)) (names_first xs h.0 (h.1 ++ rest) h.3)) in
-      ap (λ b. chosen b (call_from low (folded p FoldOp.Sum)) (quantifier_from low QuantOp.Sum p) (front ++ rest)) closed
+      ap (λ b. either_reader b (call_from low (folded p FoldOp.Sum)) (quantifier_from low QuantOp.Sum p) (front ++ rest)) closed
       ∙ quantifier_again QuantOp.Sum p xs d e rest small_d small_e ends front h

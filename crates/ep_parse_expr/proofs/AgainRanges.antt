@@ -9,7 +9,7 @@ use Rattle.ep_tree.specs.Spelling.{Spells, SpellsEnd, SpellsMoreRanges, SpellsNo
 use Rattle.ep_tree.specs.Trees.{End, ExprTree, Ranges, end_at, no_end, no_ranges, one_and, ranges, span_and}
 use Rattle.ep_parse_expr.specs.DomainReaders.{RangeRead, as_ranges, end_from, of_number, of_span, range_from, ranges_from}
 use Rattle.ep_parse_expr.specs.OperandReaders.{Lower, expression_next}
-use Rattle.ep_parse_expr.specs.Readers.{Reader, behind, behind_comma, chosen, looked_up, more_from, others_from, says, took, word_from, ◌and_then◌}
+use Rattle.ep_parse_expr.specs.Readers.{Reader, behind, behind_comma, either_reader, looked_up, more_from, others_from, says, took, word_from, ◌and_then◌}
 use Rattle.ep_parse_expr.proofs.Again.{AreComplete, NoImplications, behind_word_cut, lexeme}
 use Rattle.ep_parse_expr.proofs.AgainPhrases.{Again, comma_closes, group_closes, span_closes}
 use Rattle.ep_parse_expr.proofs.AgainStarts.{expression_seen, starts, word_unseen}
@@ -72,7 +72,7 @@ module _ (less : ℕ) (low : Lower) (good : AreComplete less low) where
 
   -- what is read behind the first expression of a range
   abbrev range_on : ExprTree → Reader RangeRead
-  range_on e rest = chosen (says (codes "..") rest) (λ next. end_from low (end_at e) (behind next)) (λ next. took (of_number e) next) rest
+  range_on e rest = either_reader (says (codes "..") rest) (λ next. end_from low (end_at e) (behind next)) (λ next. took (of_number e) next) rest
 
   with_first : (e : ExprTree) (r : RangeRead) (f rest end : List Lexeme) → Spells implications e f → height e ≤ less → NoImplications rest → range_on e rest ≡ took r end → range_from low (f ++ rest) ≡ took r end
   unfolding range_from rank looked_up
@@ -90,7 +90,7 @@ module _ (less : ℕ) (low : Lower) (good : AreComplete less low) where
   range_again : (r : RangeRead) (rest : List Lexeme) → range_height r ≤ less → BehindRange rest → Again (OneRange r) (range_from low) r rest
   unfolding SpellsNode height
   range_again (of_number e) rest small b front h =
-      with_first e (of_number e) front rest rest h small b.ends (ap (λ x. chosen x (λ next. end_from low (end_at e) (behind next)) (λ next. took (of_number e) next) rest) b.no_span)
+      with_first e (of_number e) front rest rest h small b.ends (ap (λ x. either_reader x (λ next. end_from low (end_at e) (behind next)) (λ next. took (of_number e) next) rest) b.no_span)
   range_again (of_span no_end last) rest small b front h =
       let c = behind_word_cut (codes "..") (SpellsEnd last) h.1 h.4 in
       let low_last : end_height last ≤ less = omega (arith, small, le-max_right 0 (end_height last)) in

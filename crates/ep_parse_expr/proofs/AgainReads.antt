@@ -10,7 +10,7 @@ use Rattle.ep_tree.specs.Spelling.{At, BetweenIndices, Spells, SpellsIndices, Sp
 use Rattle.ep_tree.specs.Trees.{ExprTree, Indices, absolute, all_different, all_of, any_of, at_least, at_most, binary, chain, compare, comprehension, every_and, factorial, flatten, folded, gcc, group, in_domain, in_set, index_and, lex, literal, minus, named, negation, no_indices, number, place_of, quantified, read, table, to_int, truth}
 use Rattle.ep_tree.specs.declared.syntax.BinaryOp.{BinaryOp}
 use Rattle.ep_parse_expr.specs.OperandReaders.{Lower, closed_by, operand_from}
-use Rattle.ep_parse_expr.specs.OperatorReaders.{Index, another_index, another_read, as_indices, index_from, read_from, takes_group, unary_from}
+use Rattle.ep_parse_expr.specs.OperatorReaders.{ReadIndex, another_index, another_read, as_indices, index_from, read_from, takes_group, unary_from}
 use Rattle.ep_parse_expr.specs.Readers.{Read, Reader, behind, grown, kept, kept_or, looked_up, more_from, others_from, says, took, ◌and_then◌}
 use Rattle.ep_parse_expr.proofs.Again.{AreComplete, EndsBefore, GrownTo, NoImplications, around_cut, around_rest, behind_word_cut, below_again, grown_end, grown_more, grown_start, lexeme, same_place}
 use Rattle.ep_parse_expr.proofs.AgainOperands.{operand_again}
@@ -18,7 +18,7 @@ use Rattle.ep_parse_expr.proofs.AgainPhrases.{Again, bracket_closes, closed_agai
 use Rattle.ep_parse_expr.proofs.AgainStarts.{starts, word_unseen}
 
 -- indices as a list, each with whether a `..` has come
-abbrev pub listed_indices : Bool → Indices → List Index
+abbrev pub listed_indices : Bool → Indices → List ReadIndex
 listed_indices every no_indices = []
 listed_indices every (every_and indices) = (true, None) ∷ listed_indices true indices
 listed_indices every (index_and e indices) = (every, Some e) ∷ listed_indices every indices
@@ -56,7 +56,7 @@ between_some f (inl h) = let long : length f ≡ 1 = ap length h.1 in omega (ari
 between_some f (inr h) = let long : length f ≡ suc (length h.1) = ap length (h.2 ∙ ap (λ x. x ++ h.1) h.3.1) in omega (arith, long)
 
 module _ (less : ℕ) (low : Lower) (good : AreComplete less low) where
-  abbrev item : Index → Reader Index
+  abbrev item : ReadIndex → Reader ReadIndex
   item last = index_from low last.0
 
   every_index : (every : Bool) (p : Place) (mid : List Lexeme) → index_from low every (span p ∷ mid) ≡ took (true, None) mid
@@ -68,12 +68,12 @@ module _ (less : ℕ) (low : Lower) (good : AreComplete less low) where
   some_index every e f rest h small ends =
       rw (word_unseen (codes "..") f rest refl (starts e f h.1.1), good.expr implications refl e f rest h small (record { ends = ends; open_ends = λ _. ends })) refl
 
-  index_go : (n : ℕ) (last x : Index) (xs : List Index) (all next mid tail : List Lexeme) → another_index last all ≡ Some next → index_from low last.0 next ≡ took x mid
+  index_go : (n : ℕ) (last x : ReadIndex) (xs : List ReadIndex) (all next mid tail : List Lexeme) → another_index last all ≡ Some next → index_from low last.0 next ≡ took x mid
       → more_from another_index item n x mid ≡ took xs tail → more_from another_index item (suc n) last all ≡ took (x ∷ xs) tail
   unfolding more_from
   index_go n last x xs all next mid tail on first others = rw (on, first, others) refl
 
-  index_end : (n : ℕ) (last : Index) (all : List Lexeme) → another_index last all ≡ None → more_from another_index item n last all ≡ took [] all
+  index_end : (n : ℕ) (last : ReadIndex) (all : List Lexeme) → another_index last all ≡ None → more_from another_index item n last all ≡ took [] all
   unfolding more_from
   index_end zero last all none = refl
   index_end (suc n) last all none = rw none refl
@@ -189,11 +189,11 @@ module _ (less : ℕ) (low : Lower) (good : AreComplete less low) where
   -- ---- the indices of a read
 
   -- what a read makes of its first index and of what stands behind it
-  abbrev read_on : ExprTree → Index → Reader ExprTree
+  abbrev read_on : ExprTree → ReadIndex → Reader ExprTree
   read_on m first ls =
       others_from another_index item first ls and_then λ others end. closed_by (codes "]") (read (place_of m) m (as_indices (first ∷ others))) end
 
-  close : (m : ExprTree) (first : Index) (xs : List Index) (indices : Indices) (q : Place) (rest ls : List Lexeme) → as_indices (first ∷ xs) ≡ indices
+  close : (m : ExprTree) (first : ReadIndex) (xs : List ReadIndex) (indices : Indices) (q : Place) (rest ls : List Lexeme) → as_indices (first ∷ xs) ≡ indices
       → others_from another_index item first ls ≡ took xs (bracket q ∷ rest) → read_on m first ls ≡ took (read (place_of m) m indices) rest
   close m first xs indices q rest ls made others =
       ap (λ r. r and_then λ ys end. closed_by (codes "]") (read (place_of m) m (as_indices (first ∷ ys))) end) others

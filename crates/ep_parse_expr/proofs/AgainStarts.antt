@@ -13,22 +13,22 @@ use Rattle.ep_tree.specs.Trees.{ExprTree, absolute, all_different, all_of, any_o
 use Rattle.ep_tree.specs.declared.syntax.BinaryOp.{BinaryOp}
 use Rattle.ep_tree.specs.declared.syntax.FoldOp.{FoldOp}
 use Rattle.ep_tree.specs.declared.syntax.QuantOp.{QuantOp}
-use Rattle.ep_parse_expr.specs.OperandReaders.{colon_comes, colon_or, expression_next, is_name, is_there, openings, opens}
-use Rattle.ep_parse_expr.specs.Readers.{is_word, looked_up, says}
+use Rattle.ep_parse_expr.specs.OperandReaders.{colon_comes, colon_or, expression_next, says_name, is_there, openings, opens}
+use Rattle.ep_parse_expr.specs.Readers.{says_word, looked_up, says}
 use Rattle.ep_parse_expr.proofs.Again.{around_cut, behind_word_cut, lexeme}
 
 -- A name alone, or a token that opens an expression and is no name, or a name before what is neither a colon nor a comma.
 pub data Start (front : List Lexeme) : Type 0 where
   alone : (p : Place) (x : Name) → front ≡ lexeme p (a_name x) ∷ [] → Start front
-  opened : (t : Lexeme) (ts : List Lexeme) → front ≡ t ∷ ts → opens t.saying ≡ true → is_name t.saying ≡ false → Start front
-  before : (p : Place) (x : Name) (u : Lexeme) (us : List Lexeme) → front ≡ lexeme p (a_name x) ∷ u ∷ us → is_word (codes ":") u.saying ≡ false → is_word (codes ",") u.saying ≡ false → Start front
+  opened : (t : Lexeme) (ts : List Lexeme) → front ≡ t ∷ ts → opens t.saying ≡ true → says_name t.saying ≡ false → Start front
+  before : (p : Place) (x : Name) (u : Lexeme) (us : List Lexeme) → front ≡ lexeme p (a_name x) ∷ u ∷ us → says_word (codes ":") u.saying ≡ false → says_word (codes ",") u.saying ≡ false → Start front
 
 -- ---- how an expression starts
 
 by_word : (w : List ℕ) (P : Phrase) (front : List Lexeme) → is_there (looked_up openings w) ≡ true → (Is (a_word w) followed_by P) front → Start front
 by_word w P front opening h = let c = behind_word_cut w P front h in opened (lexeme c.place (a_word w)) c.rest c.parts opening refl
 
-extended : (f back front : List Lexeme) (t : Lexeme) → front ≡ f ++ t ∷ back → is_word (codes ":") t.saying ≡ false → is_word (codes ",") t.saying ≡ false → Start f → Start front
+extended : (f back front : List Lexeme) (t : Lexeme) → front ≡ f ++ t ∷ back → says_word (codes ":") t.saying ≡ false → says_word (codes ",") t.saying ≡ false → Start f → Start front
 extended f back front t e colon comma (alone p x k) = before p x t back (e ∙ ap (λ y. y ++ t ∷ back) k) colon comma
 extended f back front t e colon comma (opened u us k o n) = opened u (us ++ t ∷ back) (e ∙ ap (λ y. y ++ t ∷ back) k) o n
 extended f back front t e colon comma (before p x u us k a b) = before p x u (us ++ t ∷ back) (e ∙ ap (λ y. y ++ t ∷ back) k) a b
@@ -136,7 +136,7 @@ expression_seen front rest (alone p x k) = ap (λ y. expression_next (y ++ rest)
 expression_seen front rest (opened t ts k o n) = ap (λ y. expression_next (y ++ rest)) k ∙ o
 expression_seen front rest (before p x u us k a b) = ap (λ y. expression_next (y ++ rest)) k
 
-no_opening : (w : List ℕ) (s : Saying) → is_there (looked_up openings w) ≡ false → opens s ≡ true → is_word w s ≡ false
+no_opening : (w : List ℕ) (s : Saying) → is_there (looked_up openings w) ≡ false → opens s ≡ true → says_word w s ≡ false
 no_opening w (a_name x) none o = refl
 no_opening w (a_number n) none o = refl
 no_opening w (a_word v) none o = go (bytes_eq v w) refl
@@ -162,5 +162,5 @@ colon_unseen front rest (alone p x k) none = ap (λ y. colon_comes true (y ++ re
 colon_unseen front rest (opened t ts k o n) none = ap (λ y. colon_comes true (y ++ rest)) k ∙ ap (λ b. b && colon_comes false (ts ++ rest)) n
 colon_unseen front rest (before p x u us k a b) none =
     ap (λ y. colon_comes true (y ++ rest)) k
-    ∙ ap (λ c. colon_or c (is_word (codes ",") u.saying) (colon_comes true (us ++ rest))) a
+    ∙ ap (λ c. colon_or c (says_word (codes ",") u.saying) (colon_comes true (us ++ rest))) a
     ∙ ap (λ c. colon_or false c (colon_comes true (us ++ rest))) b

@@ -4,7 +4,7 @@ use Rattle.std.proofs.Common.{ap, arith, sym, ◌∙◌}
 use Rattle.ep_parse_expr.proofs.Shorter.{Came, expr_shorter, then_came}
 use Rattle.ep_parse_expr.proofs.Turns.{grown_turn}
 use Rattle.ep_parse_expr.specs.Chains.{another_part, operator_behind, where_so}
-use Rattle.ep_parse_expr.specs.Cursors.{Stops}
+use Rattle.ep_parse_expr.specs.Cursors.{StopsReading}
 use Rattle.ep_parse_expr.specs.declared.cursor.Stop.{Stop}
 use Rattle.ep_parse_expr.specs.declared.cursor.Stop.TheVariants.{Memory, TooHigh, Wrong}
 use Rattle.ep_parse_expr.specs.Founds.{lower}
@@ -111,8 +111,8 @@ with_part most words right ok left first ls start op inv o =
 -- a part is refused: so is the chain
 pub chain_fails : (most : ℕ) (words : List (List ℕ × BinaryOp)) (right : Level) → nat_le (rank right) (rank unaries) ≡ true → (left first : ExprTree) (ls new start : List Lexeme) (op : BinaryOp) (e : Stop)
     → grown (another_binary most (lower most) words right) left ls ≡ grown (another_binary most (lower most) words right) first start
-    → operator_behind words left ls ≡ Some op → Stops e new (another_part most (lower most) right left op ls)
-    → Stops e new (grown (another_binary most (lower most) words right) first start)
+    → operator_behind words left ls ≡ Some op → StopsReading e new (another_part most (lower most) right left op ls)
+    → StopsReading e new (grown (another_binary most (lower most) words right) first start)
 chain_fails most words right ok left first ls new start op Wrong inv o s =
     with_part most words right ok left first ls start op inv o ∙ ap (λ r. r and_then grown (another_binary most (lower most) words right)) s
 chain_fails most words right ok left first ls new start op TooHigh inv o s =

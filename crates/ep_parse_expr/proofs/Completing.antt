@@ -8,7 +8,7 @@ use Rattle.ep_tree.specs.Phrases.{Is, Lexeme, Phrase, Saying, a_name, a_word, �
 use Rattle.ep_tree.specs.Spelling.{DomainLevel, Level, Spells, SpellsDomain, SpellsDomainNode, SpellsNode, domain_rank, own_domain_level, own_level, primaries, rank, set_parts}
 use Rattle.ep_tree.specs.Trees.{DomainTree, ExprTree, bool, named, place_of, place_of_domain}
 use Rattle.ep_parse_expr.specs.OperandReaders.{if_low}
-use Rattle.ep_parse_expr.specs.Readers.{Read, Reader, behind, chosen, going_on, grown_from, growing, high, is_word, more_from, others_from, took, word_from, wrong, ◌and_then◌}
+use Rattle.ep_parse_expr.specs.Readers.{Read, Reader, behind, either_reader, going_on, grown_from, growing, high, says_word, more_from, others_from, took, word_from, wrong, ◌and_then◌}
 use Rattle.ep_parse_expr.proofs.Again.{lexeme}
 use Rattle.ep_parse_expr.proofs.Holding.{Holds, HoldsIf, Takes, more_sound, word_sound}
 use Rattle.ep_parse_expr.proofs.SoundParts.{IsDomain, IsExpr}
@@ -179,7 +179,7 @@ refuses_made {A} {B} P ls r make h = go r h
     go (wrong rest) h = record { wrong_at = λ z e. h.wrong_at z (ap wrong (ap left e)); high_at = λ z e. absurd cc }
     go (high rest) h = record { wrong_at = λ z e. absurd cc; high_at = λ z e. h.high_at z (ap high (ap left e)) }
 
-pub refuses_chosen : {A : Type 0} (P : Shape) (b : Bool) (one other : Reader A) (ls : List Lexeme) → (b ≡ true → Refuses P ls (one ls)) → (b ≡ false → Refuses P ls (other ls)) → Refuses P ls (chosen b one other ls)
+pub refuses_chosen : {A : Type 0} (P : Shape) (b : Bool) (one other : Reader A) (ls : List Lexeme) → (b ≡ true → Refuses P ls (one ls)) → (b ≡ false → Refuses P ls (other ls)) → Refuses P ls (either_reader b one other ls)
 refuses_chosen P true one other ls h k = h refl
 refuses_chosen P false one other ls h k = k refl
 
@@ -247,7 +247,7 @@ domain_filled level most ranked some = record {
 pub word_refuses : (w : List ℕ) (ls : List Lexeme) → Refuses (Word w) ls (word_from w ls)
 unfolding word_from
 word_refuses w [] = refuses_wrong (Word w) []
-word_refuses w (l ∷ ls) = refuses_chosen (Word w) (is_word w l.saying) (λ all. took l.place ls) (λ all. wrong all) (l ∷ ls) (λ e. refuses_took (Word w) (l ∷ ls) ls l.place) (λ e. refuses_wrong (Word w) (l ∷ ls))
+word_refuses w (l ∷ ls) = refuses_chosen (Word w) (says_word w l.saying) (λ all. took l.place ls) (λ all. wrong all) (l ∷ ls) (λ e. refuses_took (Word w) (l ∷ ls) ls l.place) (λ e. refuses_wrong (Word w) (l ∷ ls))
 
 -- a word, and what is read behind it
 pub word_then : {B : Type 0} (w : List ℕ) (Q : Shape) (ls : List Lexeme) (k : Place → Reader B) → Filled Q → ((p : Place) (rest : List Lexeme) → Refuses Q rest (k p rest)) → Refuses (Word w then Q) ls (word_from w ls and_then k)

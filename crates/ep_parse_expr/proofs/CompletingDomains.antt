@@ -12,7 +12,7 @@ use Rattle.ep_tree.specs.Trees.{DomainTree, Domains, End, Ranges, bool, domain_a
 use Rattle.ep_tree.specs.declared.syntax.SetOp.{SetOp}
 use Rattle.ep_parse_expr.specs.DomainReaders.{DomainOpening, RangeRead, a_bool, a_domain_group, an_int, another_index_domain, another_operation, any_domain_from, as_domains, as_ranges, domain_at_level, domain_begun_from, domain_open_from, domain_openings, domain_part_from, end_from, index_domain_behind, matrix_follows, matrix_from, matrix_head_from, of_number, of_span, operations_from, range_from, ranges_from, set_words}
 use Rattle.ep_parse_expr.specs.OperandReaders.{Lower, expression_next, if_low}
-use Rattle.ep_parse_expr.specs.Readers.{Read, behind, behind_comma, is_word, looked_up, next_in, says, took, word_from, ◌and_then◌}
+use Rattle.ep_parse_expr.specs.Readers.{Read, behind, behind_comma, says_word, looked_up, next_in, says, took, word_from, ◌and_then◌}
 use Rattle.ep_parse_expr.proofs.Again.{behind_word_cut}
 use Rattle.ep_parse_expr.proofs.AgainPhrases.{some_domain}
 use Rattle.ep_parse_expr.proofs.Completing.{ADomain, AnExpr, Filled, ItemSo, Lifts, Refuses, Shape, Word, domain_filled, grown_refuses, next_then, others_then, refuses_as, refuses_behind, refuses_chosen, refuses_low, refuses_made, refuses_then, refuses_took, refuses_wrong, then_filled, word_filled, word_refuses, word_then, ◌then◌}
@@ -412,7 +412,7 @@ module _ (less : ℕ) (low : Lower) (sound : AreSound less low) (good : AreOpen 
   unfolding any_domain_from says domain_rank
   any_refuses [] = refuses_as Operations (ADomain domains (suc less)) [] _ (looser_shape domains set_operations refl) (operations_refuse [])
   any_refuses (l ∷ ls) =
-      refuses_chosen (ADomain domains (suc less)) (is_word (codes "matrix") l.saying) _ _ (l ∷ ls)
+      refuses_chosen (ADomain domains (suc less)) (says_word (codes "matrix") l.saying) _ _ (l ∷ ls)
       (λ e. let said = is_word-sound (codes "matrix") l.saying e in
       refuses_low (ADomain domains (suc less)) (nat_lt 1 (suc less)) _ l ls (token_opens (codes "matrix") (InMatrix less) (ADomain domains (suc less)) l said (matrix_node less) (in_matrix_has less false (λ k. absurd cc)))
       (λ lt. let some = test_enough lt in

@@ -10,7 +10,7 @@ use Rattle.ep_tree.specs.Phrases.{Is, Lexeme, Names, Phrase, Says, Saying, Silen
 use Rattle.ep_tree.specs.Spelling.{DomainLevel, Level, SpellsIndexDomain, SpellsMore, SpellsMoreGenerators, SpellsNode, implications, own_level, primaries, rank, domain_rank, set_operations, unaries}
 use Rattle.ep_tree.specs.Trees.{DomainTree, ExprTree, ExprTrees, Generators, IndexDomain, generator_and, no_generators, no_trees, over, place_of, tree_and, unstated}
 use Rattle.ep_parse_expr.specs.OperandReaders.{Generator, Lower, another_generator, closed_by, colon_comes, conditions_from, generator_from, if_low, index_domain_from, list_end}
-use Rattle.ep_parse_expr.specs.Readers.{Reader, behind, behind_comma, chosen, is_word, name_from, name_in, names_from, others_from, says, took, word_from, ◌and_then◌}
+use Rattle.ep_parse_expr.specs.Readers.{Reader, behind, behind_comma, either_reader, says_word, name_from, name_in, names_from, others_from, says, took, word_from, ◌and_then◌}
 use Rattle.ep_parse_expr.proofs.Again.{behind_word_cut}
 use Rattle.ep_parse_expr.proofs.Completing.{ADomain, AnExpr, Filled, ItemSo, Lifts, Opens, Refuses, Shape, Word, a_domain, an_expr, domain_filled, domain_lifts, expr_filled, expr_lifts, more_refuses, more_takes, next_then, others_then, refuses_as, refuses_behind, refuses_chosen, refuses_low, refuses_made, refuses_then, refuses_took, refuses_wrong, somewhere, then_filled, then_lifts, word_filled, word_refuses, word_then, ◌then◌}
 use Rattle.ep_parse_expr.proofs.Holding.{Holds, Takes, holds_as, holds_then, holds_took, is_word-sound, says_sound, takes_then, word_sound}
@@ -247,7 +247,7 @@ module _ (less : ℕ) (low : Lower) (sound : AreSound less low) (good : AreOpen 
   unfolding index_domain_from says domain_rank
   index_domain_refuses t enough [] = refuses_took (AnIndexDomain less) [] [] unstated
   index_domain_refuses t enough (l ∷ ls) =
-      refuses_chosen (AnIndexDomain less) (is_word (codes ";") l.saying) _ _ (l ∷ ls)
+      refuses_chosen (AnIndexDomain less) (says_word (codes ";") l.saying) _ _ (l ∷ ls)
       (λ e. let said = is_word-sound (codes ";") l.saying e in
       refuses_low (AnIndexDomain less) t _ l ls (token_opens (codes ";") (ADomain set_operations less) (AnIndexDomain less) l said (an_index_domain less) (domain_any set_operations less refl))
       (λ on. next_then (codes ";") (ADomain set_operations less) (AnIndexDomain less) (l ∷ ls) _ (says_sound (codes ";") (l ∷ ls) e) (domain_filled set_operations less refl (enough on)) (an_index_domain less)
@@ -257,10 +257,10 @@ module _ (less : ℕ) (low : Lower) (sound : AreSound less low) (good : AreOpen 
   index_domain_taken : (t : Bool) (ls : List Lexeme) → Holds (λ d rest. Takes (AnIndexDomain less true) ls rest) (index_domain_from t low ls)
   unfolding index_domain_from says
   index_domain_taken t [] = holds_took (λ d rest. Takes (AnIndexDomain less true) [] rest) unstated [] (record { front = []; parts = refl; spelled = no_index_domain less true })
-  index_domain_taken t (l ∷ ls) = go (is_word (codes ";") l.saying) refl t
+  index_domain_taken t (l ∷ ls) = go (says_word (codes ";") l.saying) refl t
     where
-      go : (b : Bool) → is_word (codes ";") l.saying ≡ b → (t : Bool)
-          → Holds (λ d rest. Takes (AnIndexDomain less true) (l ∷ ls) rest) (chosen b (if_low t (λ all. low.domain set_operations (behind all) and_then λ d rest. took (over d) rest)) (λ all. took unstated all) (l ∷ ls))
+      go : (b : Bool) → says_word (codes ";") l.saying ≡ b → (t : Bool)
+          → Holds (λ d rest. Takes (AnIndexDomain less true) (l ∷ ls) rest) (either_reader b (if_low t (λ all. low.domain set_operations (behind all) and_then λ d rest. took (over d) rest)) (λ all. took unstated all) (l ∷ ls))
       go false e t = holds_took (λ d rest. Takes (AnIndexDomain less true) (l ∷ ls) rest) unstated (l ∷ ls) (record { front = []; parts = refl; spelled = no_index_domain less true })
       go true e false = record { holds = λ x z k. absurd cc }
       go true e true =

@@ -9,7 +9,7 @@ use Rattle.ep_tree.specs.Phrases.{Is, Lexeme, Says, a_word, ◌followed_by◌}
 use Rattle.ep_tree.specs.Spelling.{Level, Spells, SpellsIndices, SpellsNode, implications, own_level, rank, reads, takes_own_group, unaries}
 use Rattle.ep_tree.specs.Trees.{ExprTree, Indices, no_indices, place_of, read}
 use Rattle.ep_parse_expr.specs.OperandReaders.{Lower, if_low, operand_from}
-use Rattle.ep_parse_expr.specs.OperatorReaders.{Index, another_index, another_read, as_indices, index_from, only_if, read_from, takes_group, unary_from, with_index}
+use Rattle.ep_parse_expr.specs.OperatorReaders.{ReadIndex, another_index, another_read, as_indices, index_from, only_if, read_from, takes_group, unary_from, with_index}
 use Rattle.ep_parse_expr.specs.Readers.{Read, Reader, behind, high, says, took, wrong, ◌and_then◌}
 use Rattle.ep_parse_expr.proofs.Completing.{AnExpr, Filled, Half, ItemSo, Lifts, Opens, Refuses, Shape, Word, grown_refuses, others_then, refuses_as, refuses_behind, refuses_chosen, refuses_made, refuses_took, then_filled, word_filled, ◌then◌}
 use Rattle.ep_parse_expr.proofs.CompletingOpened.{operand_refuses}
@@ -98,7 +98,7 @@ module _ (less : ℕ) where
   AnIndex b front = (x : Option ExprTree) × (b ≡ true → index_high x ≤ less) × SpellsIndex x front
 
   -- further indices behind one
-  abbrev MoreIndices : Index → Shape
+  abbrev MoreIndices : ReadIndex → Shape
   MoreIndices last b front = (xs : Indices) × (b ≡ true → highest_index xs ≤ less) × Further last.0 xs front
 
   abbrev ReadEnd : Shape
@@ -121,11 +121,11 @@ module _ (less : ℕ) where
   indices_are None xs front h = h
   indices_are (Some e) xs front h = h
 
-  nothing_further : (last : Index) (b : Bool) → MoreIndices last b []
+  nothing_further : (last : ReadIndex) (b : Bool) → MoreIndices last b []
   unfolding height
   nothing_further last b = (no_indices, (λ _. omega arith), no_further last.0)
 
-  further_lifts : (last : Index) → Lifts (MoreIndices last)
+  further_lifts : (last : ReadIndex) → Lifts (MoreIndices last)
   further_lifts last front h = (h.0, (λ e. absurd cc), h.2)
 
   index_filled : Filled AnIndex
@@ -149,7 +149,7 @@ module _ (less : ℕ) (low : Lower) (sound : AreSound less low) (good : AreOpen 
       (λ _. refuses_took (AnIndex less) ls (behind ls) (true, None))
       (λ _. refuses_as (AnExpr implications less) (AnIndex less) ls _ (λ b front h. (Some h.0, h.1, h.2)) (refuses_made (AnExpr implications less) ls (low.expr implications ls) (λ e. (every, Some e)) (good.expr implications refl ls)))
 
-  index_items : (last : Index) (ls next : List Lexeme) → another_index last ls ≡ Some next → ItemSo another_index (λ last. index_from low last.0) (MoreIndices less) (nothing_further less) last ls (index_from low last.0 next)
+  index_items : (last : ReadIndex) (ls next : List Lexeme) → another_index last ls ≡ Some next → ItemSo another_index (λ last. index_from low last.0) (MoreIndices less) (nothing_further less) last ls (index_from low last.0 next)
   unfolding height
   index_items last ls next e =
       let s = another_sound last ls next e in

@@ -5,7 +5,7 @@ use Rattle.ep_base.specs.declared.places.Place.{Place}
 use Rattle.ep_base.specs.declared.tokens.Token.{Token}
 use Rattle.ep_parse_expr.proofs.Again.{lexeme}
 use Rattle.ep_parse_expr.specs.Cursors.{passing}
-use Rattle.ep_parse_expr.specs.Readers.{is_word, name_from, name_in, says, took, word_from, wrong}
+use Rattle.ep_parse_expr.specs.Readers.{says_word, name_from, name_in, says, took, word_from, wrong}
 use Rattle.ep_parse_expr.specs.Sayings.{name_of}
 use Rattle.ep_tree.specs.Phrases.{Lexeme, Saying, a_name, a_number, a_word, lexemes_of, saying_of}
 
@@ -28,11 +28,11 @@ pub word_at_end : (bytes : List ℕ) (now : List Lexeme) → now ≡ [] → word
 unfolding word_from
 word_at_end bytes now e = rw e refl
 
-pub word_not : (bytes : List ℕ) (now : List Lexeme) (place : Place) (what : Saying) (ls : List Lexeme) → now ≡ lexeme place what ∷ ls → is_word bytes what ≡ false → word_from bytes now ≡ wrong now
+pub word_not : (bytes : List ℕ) (now : List Lexeme) (place : Place) (what : Saying) (ls : List Lexeme) → now ≡ lexeme place what ∷ ls → says_word bytes what ≡ false → word_from bytes now ≡ wrong now
 unfolding word_from
 word_not bytes now place what ls e none = rw e (rw none refl)
 
-pub word_read : (bytes : List ℕ) (now : List Lexeme) (place : Place) (what : Saying) (ls : List Lexeme) → now ≡ lexeme place what ∷ ls → is_word bytes what ≡ true → word_from bytes now ≡ took place ls
+pub word_read : (bytes : List ℕ) (now : List Lexeme) (place : Place) (what : Saying) (ls : List Lexeme) → now ≡ lexeme place what ∷ ls → says_word bytes what ≡ true → word_from bytes now ≡ took place ls
 unfolding word_from
 word_read bytes now place what ls e found = rw e (rw found refl)
 
@@ -60,10 +60,10 @@ pub pass_at_end : (bytes : List ℕ) (now : List Lexeme) → now ≡ [] → (fal
 unfolding passing says
 pass_at_end bytes now e = rw e refl
 
-pub pass_not : (bytes : List ℕ) (now : List Lexeme) (place : Place) (what : Saying) (ls : List Lexeme) → now ≡ lexeme place what ∷ ls → is_word bytes what ≡ false → (false, now) ≡ passing bytes now
+pub pass_not : (bytes : List ℕ) (now : List Lexeme) (place : Place) (what : Saying) (ls : List Lexeme) → now ≡ lexeme place what ∷ ls → says_word bytes what ≡ false → (false, now) ≡ passing bytes now
 unfolding passing says
 pass_not bytes now place what ls e none = rw e (rw none refl)
 
-pub pass_read : (bytes : List ℕ) (now : List Lexeme) (place : Place) (what : Saying) (ls : List Lexeme) → now ≡ lexeme place what ∷ ls → is_word bytes what ≡ true → (true, ls) ≡ passing bytes now
+pub pass_read : (bytes : List ℕ) (now : List Lexeme) (place : Place) (what : Saying) (ls : List Lexeme) → now ≡ lexeme place what ∷ ls → says_word bytes what ≡ true → (true, ls) ≡ passing bytes now
 unfolding passing says
 pass_read bytes now place what ls e found = rw e (rw found refl)

@@ -2,7 +2,7 @@
 use Rattle.std.specs.Prelude.{◌≡◌, ◌-◌, ◌≤◌, ℕ, zero, suc, Bool, true, false, List, Result, Ok, Err, if◌then◌else◌, refl}
 use Rattle.std.proofs.Common.{ap, arith, sym, subst, ◌∙◌}
 use Rattle.ep_parse_expr.proofs.ListLoops.{finds_as, stops_as}
-use Rattle.ep_parse_expr.specs.Cursors.{Stops}
+use Rattle.ep_parse_expr.specs.Cursors.{StopsReading}
 use Rattle.ep_parse_expr.specs.DomainReaders.{domain_at_level}
 use Rattle.ep_parse_expr.specs.Founds.{Finds, FindsDomain, lower}
 use Rattle.ep_parse_expr.specs.OperandReaders.{domain_next, expression_next, none_low}
@@ -38,7 +38,7 @@ pub domain_at : (most : ℕ) (level : DomainLevel) (ls new : List Lexeme) (resul
 domain_at most level ls new (Ok found) h f = (domain_some most level ls h ∙ f.0, f.1)
 domain_at most level ls new (Err e) h f = stops_as e new _ _ (domain_some most level ls h) f
 
-none : (A : Type 0) (begins : Bool) (ls : List Lexeme) (e : Stop) → e ≡ (if begins then TooHigh else Wrong) → Stops {Y = A} e ls (none_low {A = A} begins ls)
+none : (A : Type 0) (begins : Bool) (ls : List Lexeme) (e : Stop) → e ≡ (if begins then TooHigh else Wrong) → StopsReading {Y = A} e ls (none_low {A = A} begins ls)
 none A true ls Wrong e = absurd cc
 none A true ls TooHigh e = refl
 none A true ls Memory e = absurd cc

@@ -8,12 +8,12 @@ use Rattle.ep_parse_expr.proofs.Lengths.{Shortens, domain_shortens, expr_shorten
 use Rattle.ep_parse_expr.proofs.ListLoops.{stops_as, stops_then}
 use Rattle.ep_parse_expr.proofs.NameTurns.{behind_short, continued, kept_is}
 use Rattle.ep_parse_expr.proofs.PartFacts.{as_domains_of, as_ranges_of, map_more}
-use Rattle.ep_parse_expr.specs.Cursors.{Stops, passing}
+use Rattle.ep_parse_expr.specs.Cursors.{StopsReading, passing}
 use Rattle.ep_parse_expr.specs.DomainReaders.{RangeRead, another_index_domain, as_domains, as_ranges, end_from, index_domain_behind, matrix_follows, matrix_from, matrix_head_from, of_number, of_span, range_from, ranges_from}
 use Rattle.ep_parse_expr.specs.Founds.{FindsDomain, lower}
 use Rattle.ep_parse_expr.specs.Gathered.{Added, DomainsGiven, PassesTo, RangesGiven, all_ranges_from, domains_go_on, elements_from, end_tree, index_domains_from, range_read, to_index_domain, upper_from}
 use Rattle.ep_parse_expr.specs.OperandReaders.{Lower, expression_next}
-use Rattle.ep_parse_expr.specs.Readers.{Read, Reader, behind, behind_comma, chosen, high, is_word, kept, others_from, says, took, word_from, wrong, ◌and_then◌}
+use Rattle.ep_parse_expr.specs.Readers.{Read, Reader, behind, behind_comma, either_reader, high, says_word, kept, others_from, says, took, word_from, wrong, ◌and_then◌}
 use Rattle.ep_parse_expr.specs.declared.cursor.Stop.{Stop}
 use Rattle.ep_parse_expr.specs.declared.found.FoundDomain.{FoundDomain}
 use Rattle.ep_parse_expr.specs.declared.parts.Domains.{Domains}
@@ -32,8 +32,8 @@ domain_finds_as (Err e) new r q k f = stops_as e new r q k f
 -- ---- ranges
 
 end_is : (b : Bool) (low : Lower) (first : End) (ls : List Lexeme)
-    → chosen b (λ all. low.expr implications all and_then λ e rest. took (of_span first (end_at e)) rest) (λ all. took (of_span first no_end) all) ls
-    ≡ (chosen b (λ all. low.expr implications all and_then λ e rest. took (end_at e) rest) (λ all. took no_end all) ls and_then λ last rest. took (of_span first last) rest)
+    → either_reader b (λ all. low.expr implications all and_then λ e rest. took (of_span first (end_at e)) rest) (λ all. took (of_span first no_end) all) ls
+    ≡ (either_reader b (λ all. low.expr implications all and_then λ e rest. took (end_at e) rest) (λ all. took no_end all) ls and_then λ last rest. took (of_span first last) rest)
 end_is true low first ls = inner (low.expr implications ls)
   where
     inner : (r : Read ExprTree) → (r and_then λ e rest. took (of_span first (end_at e)) rest) ≡ ((r and_then λ e rest. took (end_at e) rest) and_then λ last rest. took (of_span first last) rest)
@@ -58,32 +58,32 @@ pub range_dots : (low : Lower) (ls new : List Lexeme) → (true, new) ≡ passin
 unfolding range_from
 range_dots low ls new e =
     let s = seen true new ls (codes "..") e in
-    ap (λ b. chosen b (λ all. end_from low no_end (behind all)) (λ all. low.expr implications all and_then λ e rest. chosen (says (codes "..") rest) (λ next. end_from low (end_at e) (behind next)) (λ next. took (of_number e) next) rest) ls) s.0
+    ap (λ b. either_reader b (λ all. end_from low no_end (behind all)) (λ all. low.expr implications all and_then λ e rest. either_reader (says (codes "..") rest) (λ next. end_from low (end_at e) (behind next)) (λ next. took (of_number e) next) rest) ls) s.0
     ∙ ap (λ k. end_from low no_end k) (sym s.1)
 
 -- a range that begins with an expression
 pub range_first : (low : Lower) (ls mid : List Lexeme) → (false, mid) ≡ passing (codes "..") ls
-    → range_from low ls ≡ (low.expr implications mid and_then λ e rest. chosen (says (codes "..") rest) (λ next. end_from low (end_at e) (behind next)) (λ next. took (of_number e) next) rest)
+    → range_from low ls ≡ (low.expr implications mid and_then λ e rest. either_reader (says (codes "..") rest) (λ next. end_from low (end_at e) (behind next)) (λ next. took (of_number e) next) rest)
 unfolding range_from
 range_first low ls mid e =
     let s = seen false mid ls (codes "..") e in
-    ap (λ b. chosen b (λ all. end_from low no_end (behind all)) (λ all. low.expr implications all and_then λ e rest. chosen (says (codes "..") rest) (λ next. end_from low (end_at e) (behind next)) (λ next. took (of_number e) next) rest) ls) s.0
-    ∙ ap (λ k. low.expr implications k and_then λ e rest. chosen (says (codes "..") rest) (λ next. end_from low (end_at e) (behind next)) (λ next. took (of_number e) next) rest) (sym s.1)
+    ap (λ b. either_reader b (λ all. end_from low no_end (behind all)) (λ all. low.expr implications all and_then λ e rest. either_reader (says (codes "..") rest) (λ next. end_from low (end_at e) (behind next)) (λ next. took (of_number e) next) rest) ls) s.0
+    ∙ ap (λ k. low.expr implications k and_then λ e rest. either_reader (says (codes "..") rest) (λ next. end_from low (end_at e) (behind next)) (λ next. took (of_number e) next) rest) (sym s.1)
 
 pub range_number : (low : Lower) (ls mid rest new : List Lexeme) (e : ExprTree) → (false, mid) ≡ passing (codes "..") ls → low.expr implications mid ≡ took e rest → (false, new) ≡ passing (codes "..") rest → range_from low ls ≡ took (of_number e) new
 range_number low ls mid rest new e p is q =
     let s = seen false new rest (codes "..") q in
     range_first low ls mid p
-    ∙ ap (λ r. r and_then λ e rest. chosen (says (codes "..") rest) (λ next. end_from low (end_at e) (behind next)) (λ next. took (of_number e) next) rest) is
-    ∙ ap (λ b. chosen b (λ next. end_from low (end_at e) (behind next)) (λ next. took (of_number e) next) rest) s.0
+    ∙ ap (λ r. r and_then λ e rest. either_reader (says (codes "..") rest) (λ next. end_from low (end_at e) (behind next)) (λ next. took (of_number e) next) rest) is
+    ∙ ap (λ b. either_reader b (λ next. end_from low (end_at e) (behind next)) (λ next. took (of_number e) next) rest) s.0
     ∙ ap (λ k. took (of_number e) k) (sym s.1)
 
 pub range_span : (low : Lower) (ls mid rest new : List Lexeme) (e : ExprTree) → (false, mid) ≡ passing (codes "..") ls → low.expr implications mid ≡ took e rest → (true, new) ≡ passing (codes "..") rest → range_from low ls ≡ end_from low (end_at e) new
 range_span low ls mid rest new e p is q =
     let s = seen true new rest (codes "..") q in
     range_first low ls mid p
-    ∙ ap (λ r. r and_then λ e rest. chosen (says (codes "..") rest) (λ next. end_from low (end_at e) (behind next)) (λ next. took (of_number e) next) rest) is
-    ∙ ap (λ b. chosen b (λ next. end_from low (end_at e) (behind next)) (λ next. took (of_number e) next) rest) s.0
+    ∙ ap (λ r. r and_then λ e rest. either_reader (says (codes "..") rest) (λ next. end_from low (end_at e) (behind next)) (λ next. took (of_number e) next) rest) is
+    ∙ ap (λ b. either_reader b (λ next. end_from low (end_at e) (behind next)) (λ next. took (of_number e) next) rest) s.0
     ∙ ap (λ k. end_from low (end_at e) k) (sym s.1)
 
 -- a range that begins with `..`, and whose lower end is left out in the code
@@ -99,7 +99,7 @@ range_span_end low ls mid rest new e first p is q f = range_span low ls mid rest
 pub upper_none : (low : Lower) (ls : List Lexeme) (last : Option Expr) → false ≡ expression_next ls → last ≡ None → upper_from low ls ≡ took (end_tree last) ls
 unfolding upper_from end_tree
 upper_none low ls last e n =
-    ap (λ b. chosen b (λ all. low.expr implications all and_then λ e rest. took (end_at e) rest) (λ all. took no_end all) ls) (sym e) ∙ ap (λ o. took (end_tree o) ls) (sym n)
+    ap (λ b. either_reader b (λ all. low.expr implications all and_then λ e rest. took (end_at e) rest) (λ all. took no_end all) ls) (sym e) ∙ ap (λ o. took (end_tree o) ls) (sym n)
 
 end_keeps : (most : ℕ) (first : End) (ls : List Lexeme) → Holds (λ _ rest. length rest ≤ length ls) (end_from (lower most) first ls)
 unfolding end_from
@@ -125,8 +125,8 @@ range_shrinks most last ls next x rest o e = let s = (range_shortens most next).
 pub ranges_begin : (most : ℕ) (rs : Ranges) (ls : List Lexeme) → rs.items.items ≡ [] → continued (map range_read rs.items.items) (all_ranges_from (lower most) ls) ≡ all_ranges_from (lower most) ls
 ranges_begin most rs ls none = ap (λ xs. continued (map range_read xs) (all_ranges_from (lower most) ls)) none ∙ continued_none (all_ranges_from (lower most) ls)
 
-pub ranges_fail : (most : ℕ) (done : List RangeRead) (ls new begin : List Lexeme) (e : Stop) → continued done (all_ranges_from (lower most) ls) ≡ all_ranges_from (lower most) begin → Stops e new (range_from (lower most) ls)
-    → Stops e new (all_ranges_from (lower most) begin)
+pub ranges_fail : (most : ℕ) (done : List RangeRead) (ls new begin : List Lexeme) (e : Stop) → continued done (all_ranges_from (lower most) ls) ≡ all_ranges_from (lower most) begin → StopsReading e new (range_from (lower most) ls)
+    → StopsReading e new (all_ranges_from (lower most) begin)
 unfolding all_ranges_from
 ranges_fail most done ls new begin e inv s =
     first_fails behind_comma (λ last. range_from (lower most)) comma_ends (range_shrinks most) done (range_from (lower most) ls) (all_ranges_from (lower most) begin) new e inv s
@@ -156,7 +156,7 @@ unfolding ranges_from all_ranges_from
 ranges_are low p ls =
     regrouped (range_from low ls) (λ r rest. others_from behind_comma (λ last. range_from low) r rest) (λ rs next. word_from (codes ")") next and_then λ _ end. took (ranges p (as_ranges rs)) end)
 
-pub all_ranges_fail : (low : Lower) (p : Place) (ls new : List Lexeme) (e : Stop) → Stops e new (all_ranges_from low ls) → Stops e new (ranges_from low p ls)
+pub all_ranges_fail : (low : Lower) (p : Place) (ls new : List Lexeme) (e : Stop) → StopsReading e new (all_ranges_from low ls) → StopsReading e new (ranges_from low p ls)
 all_ranges_fail low p ls new e s = stops_as e new _ _ (ranges_are low p ls) (stops_then e new _ _ s)
 
 pub ranges_read : (low : Lower) (p : Place) (rs : Ranges) (ls mid new : List Lexeme) (result : Result FoundDomain Stop) → RangesGiven rs mid (all_ranges_from low ls)
@@ -169,11 +169,11 @@ ranges_read low p rs ls mid new result g f =
 -- ---- index domains
 
 by_comma : (low : Lower) (ls : List Lexeme) (b : Bool) → says (codes ",") ls ≡ b
-    → chosen b (λ all. low.domain set_operations (behind all)) (λ all. matrix_head_from (behind (behind (behind all))) and_then λ _ rest. low.domain set_operations rest) ls
-    ≡ (chosen b (word_from (codes ",")) (λ all. matrix_head_from (behind (behind (behind all)))) ls and_then λ _ rest. low.domain set_operations rest)
+    → either_reader b (λ all. low.domain set_operations (behind all)) (λ all. matrix_head_from (behind (behind (behind all))) and_then λ _ rest. low.domain set_operations rest) ls
+    ≡ (either_reader b (word_from (codes ",")) (λ all. matrix_head_from (behind (behind (behind all)))) ls and_then λ _ rest. low.domain set_operations rest)
 unfolding word_from says
 by_comma low [] true e = absurd cc
-by_comma low (l ∷ ls) true e = ap (λ b. chosen b (λ all. took l.place ls) (λ all. wrong all) (l ∷ ls) and_then λ _ rest. low.domain set_operations rest) (sym e)
+by_comma low (l ∷ ls) true e = ap (λ b. either_reader b (λ all. took l.place ls) (λ all. wrong all) (l ∷ ls) and_then λ _ rest. low.domain set_operations rest) (sym e)
 by_comma low ls false e = refl
 
 behind_is : (low : Lower) (ls : List Lexeme) → index_domain_behind low ls ≡ (to_index_domain ls and_then λ _ rest. low.domain set_operations rest)
@@ -219,7 +219,7 @@ domains_begin most ds ls none = ap (λ xs. continued (map domain_tree xs) (index
 
 -- a domain is refused
 pub domains_fail : (most : ℕ) (done : List DomainTree) (ls new begin : List Lexeme) (e : Stop) → continued done (index_domains_from (lower most) ls) ≡ index_domains_from (lower most) begin
-    → Stops e new ((lower most).domain set_operations ls) → Stops e new (index_domains_from (lower most) begin)
+    → StopsReading e new ((lower most).domain set_operations ls) → StopsReading e new (index_domains_from (lower most) begin)
 unfolding index_domains_from
 domains_fail most done ls new begin e inv s =
     first_fails another_index_domain (λ last. index_domain_behind (lower most)) domains_end (domains_shrink most) done ((lower most).domain set_operations ls) (index_domains_from (lower most) begin) new e inv s
@@ -244,7 +244,7 @@ passes_at b c old new e p = subst (λ x. PassesTo (Ok x) old new) e p
 
 -- what stands before a further domain is refused
 pub passing_fails : (most : ℕ) (done all : List DomainTree) (d : DomainTree) (ls mid new begin : List Lexeme) (e : Stop) → continued done (index_domains_from (lower most) ls) ≡ index_domains_from (lower most) begin
-    → (lower most).domain set_operations ls ≡ took d mid → all ≡ done ++ d ∷ [] → PassesTo (Err e) mid new → Stops e new (index_domains_from (lower most) begin)
+    → (lower most).domain set_operations ls ≡ took d mid → all ≡ done ++ d ∷ [] → PassesTo (Err e) mid new → StopsReading e new (index_domains_from (lower most) begin)
 passing_fails most done all d ls mid new begin e inv is t p =
     stops_as e new _ _ (sym (turn_on most done all d ls mid begin inv is t p.0))
     (stops_then e new _ (λ ys end. took (all ++ ys) end) (stops_then e new _ (λ x rest. others_from another_index_domain (λ last. index_domain_behind (lower most)) x rest and_then λ xs end. took (x ∷ xs) end)
@@ -280,10 +280,10 @@ matrix_is low p ls =
     (λ _ first. regrouped (low.domain set_operations first) (λ d rest. others_from another_index_domain (λ last. index_domain_behind low) d rest)
     (λ ds end. word_from (codes "]") end and_then λ _ of_word. word_from (codes "of") of_word and_then λ _ elements. low.domain set_operations elements and_then λ element after. took (matrix_domain p (as_domains ds) element) after))
 
-pub head_fails : (low : Lower) (p : Place) (ls new : List Lexeme) (e : Stop) → Stops e new (matrix_head_from ls) → Stops e new (matrix_from low p ls)
+pub head_fails : (low : Lower) (p : Place) (ls new : List Lexeme) (e : Stop) → StopsReading e new (matrix_head_from ls) → StopsReading e new (matrix_from low p ls)
 head_fails low p ls new e s = stops_as e new _ _ (matrix_is low p ls) (stops_then e new _ _ s)
 
-pub index_domains_fail : (low : Lower) (p q : Place) (ls first new : List Lexeme) (e : Stop) → matrix_head_from ls ≡ took q first → Stops e new (index_domains_from low first) → Stops e new (matrix_from low p ls)
+pub index_domains_fail : (low : Lower) (p q : Place) (ls first new : List Lexeme) (e : Stop) → matrix_head_from ls ≡ took q first → StopsReading e new (index_domains_from low first) → StopsReading e new (matrix_from low p ls)
 index_domains_fail low p q ls first new e h s =
     stops_as e new _ _ (matrix_is low p ls ∙ ap (λ r. r and_then λ _ first. index_domains_from low first and_then λ ds end. elements_from low p (as_domains ds) end) h) (stops_then e new _ _ s)
 
@@ -301,14 +301,14 @@ go_on : (ls : List Lexeme) (b c : Bool) → says (codes ",") ls ≡ b → matrix
 unfolding domains_go_on
 go_on ls b c e m = ap (λ x. x || matrix_follows ls) e ∙ ap (λ x. b || x) m
 
-to_by : (ls : List Lexeme) (b : Bool) → says (codes ",") ls ≡ b → to_index_domain ls ≡ chosen b (word_from (codes ",")) (λ all. matrix_head_from (behind (behind (behind all)))) ls
+to_by : (ls : List Lexeme) (b : Bool) → says (codes ",") ls ≡ b → to_index_domain ls ≡ either_reader b (word_from (codes ",")) (λ all. matrix_head_from (behind (behind (behind all)))) ls
 unfolding to_index_domain
-to_by ls b e = ap (λ x. chosen x (word_from (codes ",")) (λ all. matrix_head_from (behind (behind (behind all)))) ls) e
+to_by ls b e = ap (λ x. either_reader x (word_from (codes ",")) (λ all. matrix_head_from (behind (behind (behind all)))) ls) e
 
 pub comma_passed : (ls new : List Lexeme) (p : Place) → true ≡ says (codes ",") ls → word_from (codes ",") ls ≡ took p new → PassesTo (Ok true) ls new
 comma_passed ls new p e w = (go_on ls true (matrix_follows ls) (sym e) refl, p, to_by ls true (sym e) ∙ w)
 
-pub comma_refused : (ls new : List Lexeme) (k : Stop) → true ≡ says (codes ",") ls → Stops k new (word_from (codes ",") ls) → PassesTo (Err k) ls new
+pub comma_refused : (ls new : List Lexeme) (k : Stop) → true ≡ says (codes ",") ls → StopsReading k new (word_from (codes ",") ls) → PassesTo (Err k) ls new
 comma_refused ls new k e w = (go_on ls true (matrix_follows ls) (sym e) refl, stops_as k new _ _ (to_by ls true (sym e)) w)
 
 pub nothing_passed : (ls : List Lexeme) → false ≡ says (codes ",") ls → false ≡ matrix_follows ls → PassesTo (Ok false) ls ls
@@ -318,6 +318,6 @@ pub head_passed : (ls one two three new : List Lexeme) (p : Place) → false ≡
 head_passed ls one two three new p e m a b c h =
     (go_on ls false true (sym e) (sym m), p, to_by ls false (sym e) ∙ ap matrix_head_from (sym (c ∙ ap (λ x. behind x) (b ∙ ap (λ x. behind x) a))) ∙ h)
 
-pub head_refused : (ls one two three new : List Lexeme) (k : Stop) → false ≡ says (codes ",") ls → true ≡ matrix_follows ls → one ≡ behind ls → two ≡ behind one → three ≡ behind two → Stops k new (matrix_head_from three) → PassesTo (Err k) ls new
+pub head_refused : (ls one two three new : List Lexeme) (k : Stop) → false ≡ says (codes ",") ls → true ≡ matrix_follows ls → one ≡ behind ls → two ≡ behind one → three ≡ behind two → StopsReading k new (matrix_head_from three) → PassesTo (Err k) ls new
 head_refused ls one two three new k e m a b c h =
     (go_on ls false true (sym e) (sym m), stops_as k new _ _ (to_by ls false (sym e) ∙ ap matrix_head_from (sym (c ∙ ap (λ x. behind x) (b ∙ ap (λ x. behind x) a)))) h)

@@ -1,7 +1,7 @@
 -- What was made is what was found.
 use Rattle.std.specs.Prelude.{◌≡◌, List, Result, Ok, Err, refl}
 use Rattle.std.proofs.Common.{ap, sym, subst, ◌∙◌}
-use Rattle.ep_parse_expr.specs.Cursors.{Gives, Stops}
+use Rattle.ep_parse_expr.specs.Cursors.{Gives, StopsReading}
 use Rattle.ep_parse_expr.specs.Founds.{Finds, FindsDomain, Makes, MakesDomain, Shows, ShowsDomain}
 use Rattle.ep_parse_expr.specs.Readers.{Read, Reader, took, wrong, high, ◌and_then◌}
 use Rattle.ep_parse_expr.specs.declared.cursor.Stop.{Stop}
@@ -19,7 +19,7 @@ shows_own found tree s = subst (λ t. Shows found t) (sym s.is) s
 pub shows_own_domain : (found : FoundDomain) (tree : DomainTree) → ShowsDomain found tree → ShowsDomain found (domain_tree found.domain)
 shows_own_domain found tree s = subst (λ t. ShowsDomain found t) (sym s.is) s
 
-pub memory_stops : {A : Type 0} (e : Stop) (left : List Lexeme) (read : Read A) → e ≡ Memory → Stops e left read
+pub memory_stops : {A : Type 0} (e : Stop) (left : List Lexeme) (read : Read A) → e ≡ Memory → StopsReading e left read
 memory_stops Wrong left read e = absurd cc
 memory_stops TooHigh left read e = absurd cc
 memory_stops Memory left read e = tt

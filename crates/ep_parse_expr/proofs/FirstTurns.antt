@@ -4,7 +4,7 @@ use Rattle.std.proofs.Common.{ap, arith, append_assoc, sym, subst, ◌∙◌}
 use Rattle.ep_parse_expr.proofs.ListTurns.{list_ends, list_fails, list_goes}
 use Rattle.ep_parse_expr.proofs.NameTurns.{behind_short, continued, kept_is, passed}
 use Rattle.ep_parse_expr.proofs.Turns.{grown_turn, list_turn}
-use Rattle.ep_parse_expr.specs.Cursors.{Stops, passing}
+use Rattle.ep_parse_expr.specs.Cursors.{StopsReading, passing}
 use Rattle.ep_parse_expr.specs.Gathered.{Gathered}
 use Rattle.ep_parse_expr.specs.Readers.{Read, Reader, behind, behind_comma, going_on, grown, growing, high, kept, more_from, others_from, says, took, wrong, ◌and_then◌}
 use Rattle.ep_parse_expr.specs.declared.cursor.Stop.{Stop}
@@ -30,7 +30,7 @@ gathered done all left (took more ls) e =
 gathered done all left (wrong ls) e = absurd cc
 gathered done all left (high ls) e = absurd cc
 
-pub stops_inside : {A : Type 0} (done : List A) (e : Stop) (left : List Lexeme) (r : Read (List A)) → Stops e left (continued done r) → Stops e left r
+pub stops_inside : {A : Type 0} (done : List A) (e : Stop) (left : List Lexeme) (r : Read (List A)) → StopsReading e left (continued done r) → StopsReading e left r
 unfolding tokens_of
 stops_inside done Wrong left (took more ls) s = absurd cc
 stops_inside done Wrong left (wrong ls) s = ap (λ k. wrong k) (ap tokens_of s)
@@ -60,7 +60,7 @@ module _ {A : Type 0} (goes_on : A → List Lexeme → Option (List Lexeme)) (it
     (ends : (last : A) → goes_on last [] ≡ None)
     (shrinks : (last : A) (ls next : List Lexeme) (x : A) (rest : List Lexeme) → goes_on last ls ≡ Some next → item last next ≡ took x rest → length rest < length ls) where
   -- the item is refused: so is the list
-  pub first_fails : (done : List A) (first : Read A) (whole : Read (List A)) (new : List Lexeme) (e : Stop) → continued done (from_first goes_on item first) ≡ whole → Stops e new first → Stops e new whole
+  pub first_fails : (done : List A) (first : Read A) (whole : Read (List A)) (new : List Lexeme) (e : Stop) → continued done (from_first goes_on item first) ≡ whole → StopsReading e new first → StopsReading e new whole
   first_fails done first whole new Wrong inv s = sym inv ∙ ap (λ r. continued done (from_first goes_on item r)) s
   first_fails done first whole new TooHigh inv s = sym inv ∙ ap (λ r. continued done (from_first goes_on item r)) s
   first_fails done first whole new Memory inv s = tt
@@ -135,7 +135,7 @@ module _ {A : Type 0} (item : Reader A) (shorter : (ls rest : List Lexeme) (x : 
       list_ends behind_comma (λ last. item) comma_ends comma_shrinks whole done d ls inv (no_comma d new ls e) ∙ ap (λ k. took done k) (sym (same_without_comma new ls e))
 
   pub commas_fail : (done : List A) (d : A) (whole : Read (List A)) (ls next new : List Lexeme) (e : Stop) → continued done (others_from behind_comma (λ last. item) d ls) ≡ whole
-      → (true, next) ≡ passing (codes ",") ls → Stops e new (item next) → Stops e new whole
+      → (true, next) ≡ passing (codes ",") ls → StopsReading e new (item next) → StopsReading e new whole
   commas_fail done d whole ls next new e inv p s =
       list_fails behind_comma (λ last. item) comma_ends comma_shrinks whole done d ls next new e inv (comma_came d next ls p) s
 
@@ -161,7 +161,7 @@ module _ {A : Type 0} (step : A → List Lexeme → Option (Read A))
   grown_ends x ls whole inv e = grown_as x ls whole None inv e
 
   -- a step is refused
-  pub grown_fails : (x : A) (ls new : List Lexeme) (whole r : Read A) (e : Stop) → grown step x ls ≡ whole → step x ls ≡ Some r → Stops e new r → Stops e new whole
+  pub grown_fails : (x : A) (ls new : List Lexeme) (whole r : Read A) (e : Stop) → grown step x ls ≡ whole → step x ls ≡ Some r → StopsReading e new r → StopsReading e new whole
   grown_fails x ls new whole r Wrong inv e s = grown_as x ls whole (Some r) inv e ∙ ap (λ q. q and_then grown step) s
   grown_fails x ls new whole r TooHigh inv e s = grown_as x ls whole (Some r) inv e ∙ ap (λ q. q and_then grown step) s
   grown_fails x ls new whole r Memory inv e s = tt

@@ -6,7 +6,7 @@ use Rattle.ep_base.specs.declared.places.Place.{Place}
 use Rattle.ep_tree.specs.Phrases.{Is, Lexeme, Phrase, Saying, Silence, StartsAt, a_name, a_number, a_word, ◌followed_by◌}
 use Rattle.ep_parse_expr.specs.OperandReaders.{if_low}
 use Rattle.ep_parse_expr.specs.OperatorReaders.{only_if, operated}
-use Rattle.ep_parse_expr.specs.Readers.{Read, Reader, behind, chosen, found_or, going_on, grown_from, growing, high, if_some, is_word, looked_up, meant_by, more_from, next_in, says, took, word_from, wrong, ◌and_then◌}
+use Rattle.ep_parse_expr.specs.Readers.{Read, Reader, behind, either_reader, found_or, going_on, grown_from, growing, high, if_some, says_word, looked_up, meant_by, more_from, next_in, says, took, word_from, wrong, ◌and_then◌}
 
 -- something holds of what is taken and of the tokens behind it
 pub record Holds {A : Type 0} (Q : A → List Lexeme → Type 0) (r : Read A) : Type 0 where
@@ -40,7 +40,7 @@ holds_then Q R (wrong ls) f h k = holds_wrong R ls
 holds_then Q R (high ls) f h k = holds_high R ls
 
 pub holds_chosen : {A : Type 0} (Q : A → List Lexeme → Type 0) (b : Bool) (one other : Reader A) (ls : List Lexeme)
-    → (b ≡ true → Holds Q (one ls)) → (b ≡ false → Holds Q (other ls)) → Holds Q (chosen b one other ls)
+    → (b ≡ true → Holds Q (one ls)) → (b ≡ false → Holds Q (other ls)) → Holds Q (either_reader b one other ls)
 holds_chosen Q true one other ls h k = h refl
 holds_chosen Q false one other ls h k = k refl
 
@@ -123,7 +123,7 @@ starts_front p (x ∷ xs) ys h = h
 
 -- ---- words
 
-pub is_word-sound : (w : List ℕ) (s : Saying) → is_word w s ≡ true → s ≡ a_word w
+pub is_word-sound : (w : List ℕ) (s : Saying) → says_word w s ≡ true → s ≡ a_word w
 is_word-sound w (a_word v) e = ap a_word ((bytes_eq-Decides v w).0 e)
 is_word-sound w (a_name x) e = absurd cc
 is_word-sound w (a_number n) e = absurd cc
@@ -133,7 +133,7 @@ unfolding word_from
 word_sound w [] = holds_wrong (λ p rest. Takes (Is (a_word w)) [] rest) []
 word_sound w (l ∷ ls) =
     let Q : Place → List Lexeme → Type 0 = λ p rest. Takes (Is (a_word w)) (l ∷ ls) rest in
-    holds_chosen Q (is_word w l.saying) (λ all. took l.place ls) (λ all. wrong all) (l ∷ ls)
+    holds_chosen Q (says_word w l.saying) (λ all. took l.place ls) (λ all. wrong all) (l ∷ ls)
     (λ e. holds_took Q l.place ls (takes_token l ls (a_word w) (is_word-sound w l.saying e)))
     (λ e. holds_wrong Q (l ∷ ls))
 

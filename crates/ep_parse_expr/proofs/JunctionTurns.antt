@@ -9,14 +9,14 @@ use Rattle.ep_parse_expr.proofs.NameTurns.{continued, kept_is}
 use Rattle.ep_parse_expr.proofs.PartFacts.{ends_more, map_more}
 use Rattle.ep_parse_expr.proofs.Shorter.{expr_shorter}
 use Rattle.ep_parse_expr.proofs.Turns.{list_turn}
-use Rattle.ep_parse_expr.specs.Cursors.{Stops}
+use Rattle.ep_parse_expr.specs.Cursors.{StopsReading}
 use Rattle.ep_parse_expr.specs.Founds.{lower}
 use Rattle.ep_parse_expr.specs.Gathered.{OrMemory, PartsCount}
 use Rattle.ep_parse_expr.specs.Junctions.{AddsPart, PartAdded, PartsGiven, goes_on, more_parts, trees_of}
 use Rattle.ep_parse_expr.specs.Openings.{level_of}
 use Rattle.ep_parse_expr.specs.OperandReaders.{Lower, as_trees, if_low, is_there}
 use Rattle.ep_parse_expr.specs.OperatorReaders.{only_word, part_from, parts_behind, parts_from, with_operator}
-use Rattle.ep_parse_expr.specs.Readers.{Read, Reader, chosen, found_or, going_on, high, if_some, is_word, kept, looked_up, meant_by, next_in, others_from, says, took, word_from, wrong, ◌and_then◌}
+use Rattle.ep_parse_expr.specs.Readers.{Read, Reader, either_reader, found_or, going_on, high, if_some, says_word, kept, looked_up, meant_by, next_in, others_from, says, took, word_from, wrong, ◌and_then◌}
 use Rattle.ep_parse_expr.specs.declared.cursor.Stop.{Stop}
 use Rattle.ep_parse_expr.specs.declared.cursor.Stop.TheVariants.{Memory, TooHigh, Wrong}
 use Rattle.ep_parse_expr.specs.declared.found.Found.{Found}
@@ -54,7 +54,7 @@ unfolding next_in looked_up says
 said_is_there bytes [] = refl
 said_is_there bytes (l ∷ ls) = by_saying l.saying
   where
-    by_saying : (s : Saying) → is_there (meant_by (only_word bytes) s) ≡ is_word bytes s
+    by_saying : (s : Saying) → is_there (meant_by (only_word bytes) s) ≡ says_word bytes s
     by_saying (a_name x) = refl
     by_saying (a_number n) = refl
     by_saying (a_word w) = found_there (bytes_eq bytes w) ∙ bytes_eq_turned bytes w
@@ -75,9 +75,9 @@ part_shorter : (most : ℕ) (bytes : List ℕ) (level : Level) → nat_le (rank 
     → length rest < length ls
 unfolding part_from word_from
 part_shorter most bytes level ok [] rest x e = absurd cc
-part_shorter most bytes level ok (l ∷ ls) rest x e = by_word (is_word bytes l.saying) e
+part_shorter most bytes level ok (l ∷ ls) rest x e = by_word (says_word bytes l.saying) e
   where
-    by_word : (b : Bool) → (chosen b (λ all. took l.place ls) (λ all. wrong all) (l ∷ ls) and_then λ _ next. (lower most).expr level next) ≡ took x rest → length rest < length (l ∷ ls)
+    by_word : (b : Bool) → (either_reader b (λ all. took l.place ls) (λ all. wrong all) (l ∷ ls) and_then λ _ next. (lower most).expr level next) ≡ took x rest → length rest < length (l ∷ ls)
     by_word true e = let s = expr_shorter most level ok ls rest x e in omega (arith, s)
     by_word false e = absurd cc
 
@@ -107,7 +107,7 @@ parts_end most bytes level ok whole parts ls s e =
     (goes_on_is bytes s.last ls parts.ends_open false s.ends e)
 
 pub parts_fail : (most : ℕ) (bytes : List ℕ) (level : Level) → nat_le (rank level) (rank unaries) ≡ true → (whole : Read (List ExprTree)) (parts : Parts) (ls new : List Lexeme) (e : Stop)
-    → SoFar most bytes level whole parts ls → true ≡ goes_on parts.ends_open bytes ls → Stops e new (part_from (lower most) bytes level ls) → Stops e new whole
+    → SoFar most bytes level whole parts ls → true ≡ goes_on parts.ends_open bytes ls → StopsReading e new (part_from (lower most) bytes level ls) → StopsReading e new whole
 parts_fail most bytes level ok whole parts ls new e s t stops =
     list_fails (with_operator (only_word bytes)) (λ last. part_from (lower most) bytes level) (junction_ends bytes) (junction_shrinks most bytes level ok) whole (trees_of parts.items.items) s.last ls ls new e s.is
     (goes_on_is bytes s.last ls parts.ends_open true s.ends t) stops
@@ -201,7 +201,7 @@ part_added (Ok x) old new found left read more counted e =
       ends = counted.ends ∙ ap (λ es. trees_end_open (expr_trees es)) more ∙ ends_more old.items.items found.expr;
       counted = counted;
     }
-part_added (Err e) old new found left read m counted k = subst (λ s. Stops s left read) (sym m) tt
+part_added (Err e) old new found left read m counted k = subst (λ s. StopsReading s left read) (sym m) tt
 
 -- the first part is too high
 pub first_too_high : (b : Bool) (reader : Reader (List ExprTree)) (start : List Lexeme) → b ≡ false → if_low b reader start ≡ high start
@@ -215,8 +215,8 @@ parts_given b reader first parts start ls low e counted =
     record { more = g.more; is = ap (λ t. if_low t reader start) low ∙ g.is; together = g.together; counted = counted }
 
 -- a part was refused
-pub parts_stopped : (b : Bool) (reader : Reader (List ExprTree)) (first : ExprTree) (start new : List Lexeme) (e : Stop) → b ≡ true → Stops e new (continued (first ∷ []) (reader start)) → Stops e new (if_low b reader start)
-parts_stopped b reader first start new e low s = subst (λ t. Stops e new (if_low t reader start)) (sym low) (stops_inside (first ∷ []) e new (reader start) s)
+pub parts_stopped : (b : Bool) (reader : Reader (List ExprTree)) (first : ExprTree) (start new : List Lexeme) (e : Stop) → b ≡ true → StopsReading e new (continued (first ∷ []) (reader start)) → StopsReading e new (if_low b reader start)
+parts_stopped b reader first start new e low s = subst (λ t. StopsReading e new (if_low t reader start)) (sym low) (stops_inside (first ∷ []) e new (reader start) s)
 
 -- ---- the chain's node
 
@@ -244,8 +244,8 @@ junction_made most bytes level ok make first parts ls left open_last p o e at gi
     ∙ ap (λ es. took (make (place_of first) es) left) (as_trees_of parts.items.items) ∙ ap (λ q. took (make q (expr_trees parts.items.items)) left) at
 
 pub junction_stopped : (most : ℕ) (bytes : List ℕ) (level : Level) → nat_le (rank level) (rank unaries) ≡ true → (make : Place → ExprTrees → ExprTree) (first : ExprTree) (ls left : List Lexeme) (open_last : Bool) (stop : Stop)
-    → open_last ≡ ends_open first → true ≡ goes_on open_last bytes ls → Stops stop left (if_low (nat_lt (height first) most) (more_parts (lower most) bytes level first) ls)
-    → Stops stop left (parts_behind most (lower most) bytes level make first ls)
+    → open_last ≡ ends_open first → true ≡ goes_on open_last bytes ls → StopsReading stop left (if_low (nat_lt (height first) most) (more_parts (lower most) bytes level first) ls)
+    → StopsReading stop left (parts_behind most (lower most) bytes level make first ls)
 junction_stopped most bytes level ok make first ls left open_last Wrong o e s =
     junction_is most bytes level ok make first ls open_last o e
     ∙ then_low (nat_lt (height first) most) (more_parts (lower most) bytes level first) (λ es end. took (make (place_of first) (as_trees (first ∷ es))) end) ls

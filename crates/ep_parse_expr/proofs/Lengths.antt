@@ -8,8 +8,8 @@ use Rattle.ep_parse_expr.proofs.NameTurns.{behind_short, kept_is, name_shrinks}
 use Rattle.ep_parse_expr.proofs.Shorter.{domain_shorter, expr_shorter}
 use Rattle.ep_parse_expr.specs.Founds.{lower}
 use Rattle.ep_parse_expr.specs.OperandReaders.{Generator, Lower, another_generator, closed_by, generator_from, if_low}
-use Rattle.ep_parse_expr.specs.OperatorReaders.{Index, another_index, another_read, index_from, only_if, read_from, takes_group}
-use Rattle.ep_parse_expr.specs.Readers.{Read, Reader, behind, behind_comma, chosen, high, is_word, kept, kept_or, name_from, names_from, others_from, says, took, word_from, wrong, ◌and_then◌}
+use Rattle.ep_parse_expr.specs.OperatorReaders.{ReadIndex, another_index, another_read, index_from, only_if, read_from, takes_group}
+use Rattle.ep_parse_expr.specs.Readers.{Read, Reader, behind, behind_comma, either_reader, high, says_word, kept, kept_or, name_from, names_from, others_from, says, took, word_from, wrong, ◌and_then◌}
 use Rattle.ep_tree.specs.Heights.{height}
 use Rattle.ep_tree.specs.Phrases.{Lexeme}
 use Rattle.ep_tree.specs.Spelling.{Level, implications, rank, set_operations, unaries}
@@ -41,7 +41,7 @@ pub word_shortens : (bytes : List ℕ) (ls : List Lexeme) → Shortens ls (word_
 unfolding word_from
 word_shortens bytes [] = holds_wrong (λ _ rest. length rest < 0) []
 word_shortens bytes (l ∷ ls) =
-    holds_chosen (λ _ rest. length rest < length (l ∷ ls)) (is_word bytes l.saying) (λ all. took l.place ls) (λ all. wrong all) (l ∷ ls)
+    holds_chosen (λ _ rest. length rest < length (l ∷ ls)) (says_word bytes l.saying) (λ all. took l.place ls) (λ all. wrong all) (l ∷ ls)
     (λ _. holds_took (λ _ rest. length rest < length (l ∷ ls)) l.place ls (omega arith))
     (λ _. holds_wrong (λ _ rest. length rest < length (l ∷ ls)) (l ∷ ls))
 
@@ -69,16 +69,16 @@ before_keeps false group ls next e =
     let is : length next ≡ length (behind (behind ls)) = ap length (kept_is group (behind (behind ls)) next e) in
     omega (arith, is, behind_short ls, behind_short (behind ls))
 
-pub another_keeps : (last : Index) (ls next : List Lexeme) → another_index last ls ≡ Some next → length next ≤ length ls
+pub another_keeps : (last : ReadIndex) (ls next : List Lexeme) → another_index last ls ≡ Some next → length next ≤ length ls
 unfolding another_index
 another_keeps last ls next e = before_keeps (says (codes ",") ls) (not last.0 && (says (codes "]") ls && says (codes "[") (behind ls))) ls next e
 
-pub index_ends : (last : Index) → another_index last [] ≡ None
+pub index_ends : (last : ReadIndex) → another_index last [] ≡ None
 unfolding another_index says
 index_ends (true, i) = refl
 index_ends (false, i) = refl
 
-pub index_shrinks : (most : ℕ) (last : Index) (ls next : List Lexeme) (x : Index) (rest : List Lexeme) → another_index last ls ≡ Some next → index_from (lower most) last.0 next ≡ took x rest → length rest < length ls
+pub index_shrinks : (most : ℕ) (last : ReadIndex) (ls next : List Lexeme) (x : ReadIndex) (rest : List Lexeme) → another_index last ls ≡ Some next → index_from (lower most) last.0 next ≡ took x rest → length rest < length ls
 index_shrinks most last ls next x rest o e =
     let s = (index_shortens most last.0 next).holds x rest e in let n = another_keeps last ls next o in omega (arith, s, n)
 

@@ -8,14 +8,14 @@ use Rattle.ep_parse_expr.proofs.Lengths.{any_expr, generator_ends, generator_sho
 use Rattle.ep_parse_expr.proofs.NameTurns.{behind_short, continued}
 use Rattle.ep_parse_expr.proofs.PartFacts.{as_expr_trees, as_generators_of, as_indices_more, indices_every, indices_more, index_last, map_more}
 use Rattle.ep_parse_expr.proofs.Shorter.{expr_shorter}
-use Rattle.ep_parse_expr.specs.Cursors.{Stops, passing}
+use Rattle.ep_parse_expr.specs.Cursors.{StopsReading, passing}
 use Rattle.ep_parse_expr.specs.Founds.{Finds, Measured, lower}
 use Rattle.ep_parse_expr.specs.Gathered.{Added, Adds, AddsIndex, Gathered, GeneratorsGiven, IndexAdded, IndicesCount, IndicesGiven, OrMemory, as_read, generators_from, indices_from}
 use Rattle.ep_parse_expr.specs.OperandReaders as readers
 use Rattle.ep_parse_expr.specs.OperandReaders.{Lower, another_generator, as_generators, as_trees, bracket_from, closed_by, colon_comes, comprehension_from, conditions_from, expression_next, generator_from, if_low, list_end, literal_from}
 use Rattle.ep_parse_expr.specs.OperatorReaders as operators
 use Rattle.ep_parse_expr.specs.OperatorReaders.{another_index, another_read, as_indices, index_from, only_if, read_from, takes_group}
-use Rattle.ep_parse_expr.specs.Readers.{Read, Reader, behind, behind_comma, chosen, grown, high, kept, kept_or, others_from, says, took, wrong, ◌and_then◌}
+use Rattle.ep_parse_expr.specs.Readers.{Read, Reader, behind, behind_comma, either_reader, grown, high, kept, kept_or, others_from, says, took, wrong, ◌and_then◌}
 use Rattle.ep_parse_expr.specs.declared.cursor.Stop.{Stop}
 use Rattle.ep_parse_expr.specs.declared.cursor.Stop.TheVariants.{Memory, TooHigh, Wrong}
 use Rattle.ep_parse_expr.specs.declared.found.Found.{Found}
@@ -30,12 +30,12 @@ use Rattle.ep_tree.specs.Views.{expr_tree, expr_trees, generators_of, indices_of
 use Rattle.ep_tree.specs.declared.syntax.Expr.{Expr}
 
 -- what is refused first is refused
-pub stops_then : {A B : Type 0} (e : Stop) (new : List Lexeme) (r : Read A) (f : A → Reader B) → Stops e new r → Stops e new (r and_then f)
+pub stops_then : {A B : Type 0} (e : Stop) (new : List Lexeme) (r : Read A) (f : A → Reader B) → StopsReading e new r → StopsReading e new (r and_then f)
 stops_then Wrong new r f s = ap (λ q. q and_then f) s
 stops_then TooHigh new r f s = ap (λ q. q and_then f) s
 stops_then Memory new r f s = tt
 
-pub stops_as : {A : Type 0} (e : Stop) (new : List Lexeme) (r q : Read A) → q ≡ r → Stops e new r → Stops e new q
+pub stops_as : {A : Type 0} (e : Stop) (new : List Lexeme) (r q : Read A) → q ≡ r → StopsReading e new r → StopsReading e new q
 stops_as Wrong new r q k s = k ∙ s
 stops_as TooHigh new r q k s = k ∙ s
 stops_as Memory new r q k s = tt
@@ -65,7 +65,7 @@ parts_end most done start ls new begin inv p =
     gathered start done new _ (commas_end ((lower most).expr implications) (shorter most) done _ (continued start (conditions_from (lower most) begin)) ls new inv p)
 
 pub parts_fail : (most : ℕ) (done start : List ExprTree) (ls next new begin : List Lexeme) (e : Stop) → continued done (conditions_from (lower most) ls) ≡ continued start (conditions_from (lower most) begin)
-    → (true, next) ≡ passing (codes ",") ls → Stops e new ((lower most).expr implications next) → Stops e new (conditions_from (lower most) begin)
+    → (true, next) ≡ passing (codes ",") ls → StopsReading e new ((lower most).expr implications next) → StopsReading e new (conditions_from (lower most) begin)
 unfolding conditions_from
 parts_fail most done start ls next new begin e inv p s =
     stops_inside start e new _ (commas_fail ((lower most).expr implications) (shorter most) done _ (continued start (conditions_from (lower most) begin)) ls next new e inv p s)
@@ -100,7 +100,7 @@ literal_read b most p first start old all ls mid new result none pushed g f =
     let one : map expr_tree old ≡ expr_tree first ∷ [] = ap (λ es. map expr_tree es) (pushed ∙ ap (λ xs. xs ++ first ∷ []) none) in
     finds_as result new _ _ (literal_is b most p (expr_tree first) all g.more ls mid g.is (g.together ∙ ap (λ xs. xs ++ g.more) one)) f
 
-pub literal_fails : (b : Bool) (most : ℕ) (p : Place) (first : ExprTree) (ls new : List Lexeme) (e : Stop) → Stops e new (conditions_from (lower most) ls) → Stops e new (literal_from b (lower most) p first ls)
+pub literal_fails : (b : Bool) (most : ℕ) (p : Place) (first : ExprTree) (ls new : List Lexeme) (e : Stop) → StopsReading e new (conditions_from (lower most) ls) → StopsReading e new (literal_from b (lower most) p first ls)
 unfolding literal_from conditions_from
 literal_fails b most p first ls new e s =
     stops_then e new _ (λ es rest. list_end b (lower most) (literal p (as_trees (first ∷ es))) rest)
@@ -115,7 +115,7 @@ comprehension_is b low p part ls =
     regrouped (generator_from low ls) (λ g rest. others_from another_generator (λ last. generator_from low) g rest)
     (λ gens next. conditions_from low next and_then λ conditions end. list_end b low (comprehension p part (as_generators gens) (as_trees conditions)) end)
 
-pub comprehension_fails : (b : Bool) (low : Lower) (p : Place) (part : ExprTree) (ls new : List Lexeme) (e : Stop) → Stops e new (generators_from low ls) → Stops e new (comprehension_from b low p part ls)
+pub comprehension_fails : (b : Bool) (low : Lower) (p : Place) (part : ExprTree) (ls new : List Lexeme) (e : Stop) → StopsReading e new (generators_from low ls) → StopsReading e new (comprehension_from b low p part ls)
 comprehension_fails b low p part ls new e s = stops_as e new _ _ (comprehension_is b low p part ls) (stops_then e new _ _ s)
 
 behind_generators : (b : Bool) (low : Lower) (p : Place) (part : ExprTree) (gens : Generators) (ls mid : List Lexeme) → GeneratorsGiven gens mid (generators_from low ls) → comprehension_from b low p part ls
@@ -125,8 +125,8 @@ behind_generators b low p part gens ls mid g =
     ∙ ap (λ r. r and_then λ gens next. conditions_from low next and_then λ conditions end. list_end b low (comprehension p part (as_generators gens) (as_trees conditions)) end) g.is
     ∙ ap (λ gs. conditions_from low mid and_then λ conditions end. list_end b low (comprehension p part gs (as_trees conditions)) end) (as_generators_of gens.items.items)
 
-pub conditions_fail : (b : Bool) (low : Lower) (p : Place) (part : ExprTree) (gens : Generators) (ls mid new : List Lexeme) (e : Stop) → GeneratorsGiven gens mid (generators_from low ls) → Stops e new (conditions_from low mid)
-    → Stops e new (comprehension_from b low p part ls)
+pub conditions_fail : (b : Bool) (low : Lower) (p : Place) (part : ExprTree) (gens : Generators) (ls mid new : List Lexeme) (e : Stop) → GeneratorsGiven gens mid (generators_from low ls) → StopsReading e new (conditions_from low mid)
+    → StopsReading e new (comprehension_from b low p part ls)
 conditions_fail b low p part gens ls mid new e g s = stops_as e new _ _ (behind_generators b low p part gens ls mid g) (stops_then e new _ _ s)
 
 pub comprehension_read : (b : Bool) (low : Lower) (p : Place) (part : ExprTree) (gens : Generators) (start all : List Expr) (ls mid end new : List Lexeme) (result : Result Found Stop)
@@ -144,7 +144,7 @@ pub generators_begin : (most : ℕ) (gens : Generators) (ls : List Lexeme) → g
 generators_begin most gens ls none = ap (λ gs. continued (map as_read gs) (generators_from (lower most) ls)) none ∙ continued_none (generators_from (lower most) ls)
 
 pub generators_fail : (most : ℕ) (done : List readers.Generator) (ls new begin : List Lexeme) (e : Stop) → continued done (generators_from (lower most) ls) ≡ generators_from (lower most) begin
-    → Stops e new (generator_from (lower most) ls) → Stops e new (generators_from (lower most) begin)
+    → StopsReading e new (generator_from (lower most) ls) → StopsReading e new (generators_from (lower most) begin)
 unfolding generators_from
 generators_fail most done ls new begin e inv s =
     first_fails another_generator (λ last. generator_from (lower most)) generator_ends (generator_shrinks most) done (generator_from (lower most) ls) (generators_from (lower most) begin) new e inv s
@@ -176,7 +176,7 @@ generators_smaller most done all ls mid next g n =
 
 -- what was read of indices, and what is left
 pub record IndicesLeft (most : ℕ) (indices : Indices) (ls begin : List Lexeme) : Type 0 where
-  pub done : List operators.Index
+  pub done : List operators.ReadIndex
   pub same : as_indices done ≡ indices_of indices.items.items
   pub left : continued done (indices_from (lower most) indices.has_every ls) ≡ indices_from (lower most) false begin
   pub counted : IndicesCount indices
@@ -191,7 +191,7 @@ indices_begin most indices ls none counted =
       counted = counted;
     }
 
-pub indices_fail : (most : ℕ) (indices : Indices) (ls new begin : List Lexeme) (e : Stop) → IndicesLeft most indices ls begin → Stops e new (index_from (lower most) indices.has_every ls) → Stops e new (indices_from (lower most) false begin)
+pub indices_fail : (most : ℕ) (indices : Indices) (ls new begin : List Lexeme) (e : Stop) → IndicesLeft most indices ls begin → StopsReading e new (index_from (lower most) indices.has_every ls) → StopsReading e new (indices_from (lower most) false begin)
 unfolding indices_from
 indices_fail most indices ls new begin e inv s =
     first_fails another_index (λ last. index_from (lower most) last.0) index_ends (index_shrinks most) inv.done (index_from (lower most) indices.has_every ls) (indices_from (lower most) false begin) new e inv.left s
@@ -201,7 +201,7 @@ goes_by : (every : Bool) (i j : Option ExprTree) (ls : List Lexeme) → another_
 unfolding another_index
 goes_by every i j ls = refl
 
-goes_as : (index : operators.Index) (every : Bool) (ls : List Lexeme) → index.0 ≡ every → another_index index ls ≡ another_index (every, None) ls
+goes_as : (index : operators.ReadIndex) (every : Bool) (ls : List Lexeme) → index.0 ≡ every → another_index index ls ≡ another_index (every, None) ls
 goes_as (b, i) every ls e = ap (λ c. another_index (c, i) ls) e ∙ goes_by every i None ls
 
 pub indices_end : (most : ℕ) (old indices : Indices) (ls mid new begin : List Lexeme) → IndicesLeft most old ls begin → IndexAdded old indices mid (index_from (lower most) old.has_every ls)
@@ -239,7 +239,7 @@ indices_smaller most old indices ls mid new i k =
     omega (arith, s, n)
 
 -- a `..` was pushed
-pub every_added : {X : Type 0} (result : Result X Stop) (old new : Indices) (r : Read operators.Index) (left : List Lexeme) → OrMemory result (new.items.items ≡ old.items.items ++ None ∷ []) → OnOk result (IndicesCount new)
+pub every_added : {X : Type 0} (result : Result X Stop) (old new : Indices) (r : Read operators.ReadIndex) (left : List Lexeme) → OrMemory result (new.items.items ≡ old.items.items ++ None ∷ []) → OnOk result (IndicesCount new)
     → r ≡ took (true, None) left → AddsIndex result old new left r
 unfolding has_every index_last
 every_added (Ok x) old new r left m c e =
@@ -259,7 +259,7 @@ every_added (Ok x) old new r left m c e =
 every_added (Err e) old new r left m c k = memory_stops e left r m
 
 -- an index was pushed
-pub index_added : {X : Type 0} (result : Result X Stop) (old new : Indices) (e : Expr) (r : Read operators.Index) (left : List Lexeme) → IndicesCount old → OrMemory result (new.items.items ≡ old.items.items ++ Some e ∷ [])
+pub index_added : {X : Type 0} (result : Result X Stop) (old new : Indices) (e : Expr) (r : Read operators.ReadIndex) (left : List Lexeme) → IndicesCount old → OrMemory result (new.items.items ≡ old.items.items ++ Some e ∷ [])
     → OnOk result (IndicesCount new) → r ≡ took (old.has_every, Some (expr_tree e)) left → AddsIndex result old new left r
 unfolding has_every index_last
 index_added (Ok x) old new e r left before m c k =
@@ -283,14 +283,14 @@ unfolding index_from passing
 index_dots low every ls left e =
     let seen : says (codes "..") ls ≡ true = sym (ap (λ (p : Bool × List Lexeme). p.0) e) in
     let rest : left ≡ behind ls = ap (λ (p : Bool × List Lexeme). p.1) e ∙ ap (λ b. if b then behind ls else ls) seen in
-    ap (λ b. chosen b (λ all. took (true, None) (behind all)) (λ all. low.expr implications all and_then λ e rest. took (every, Some e) rest) ls) seen ∙ ap (λ z. took (true, None) z) (sym rest)
+    ap (λ b. either_reader b (λ all. took (true, None) (behind all)) (λ all. low.expr implications all and_then λ e rest. took (every, Some e) rest) ls) seen ∙ ap (λ z. took (true, None) z) (sym rest)
 
 pub index_part : (low : Lower) (every : Bool) (ls mid : List Lexeme) → (false, mid) ≡ passing (codes "..") ls → index_from low every ls ≡ (low.expr implications mid and_then λ e rest. took (every, Some e) rest)
 unfolding index_from passing
 index_part low every ls mid e =
     let seen : says (codes "..") ls ≡ false = sym (ap (λ (p : Bool × List Lexeme). p.0) e) in
     let rest : mid ≡ ls = ap (λ (p : Bool × List Lexeme). p.1) e ∙ ap (λ b. if b then behind ls else ls) seen in
-    ap (λ b. chosen b (λ all. took (true, None) (behind all)) (λ all. low.expr implications all and_then λ e rest. took (every, Some e) rest) ls) seen
+    ap (λ b. either_reader b (λ all. took (true, None) (behind all)) (λ all. low.expr implications all and_then λ e rest. took (every, Some e) rest) ls) seen
     ∙ ap (λ z. low.expr implications z and_then λ e rest. took (every, Some e) rest) (sym rest)
 
 -- ---- reads
@@ -301,7 +301,7 @@ read_is low m ls =
     regrouped (index_from low false ls) (λ first rest. others_from another_index (λ last. index_from low last.0) first rest)
     (λ all end. closed_by (codes "]") (read (place_of m) m (as_indices all)) end)
 
-pub read_fails : (low : Lower) (m : ExprTree) (ls new : List Lexeme) (e : Stop) → Stops e new (indices_from low false ls) → Stops e new (read_from low m ls)
+pub read_fails : (low : Lower) (m : ExprTree) (ls new : List Lexeme) (e : Stop) → StopsReading e new (indices_from low false ls) → StopsReading e new (read_from low m ls)
 read_fails low m ls new e s = stops_as e new _ _ (read_is low m ls) (stops_then e new _ _ s)
 
 pub read_given : (low : Lower) (m : ExprTree) (indices : Indices) (ls mid new : List Lexeme) (result : Result Found Stop) → IndicesGiven indices mid (indices_from low false ls)
@@ -322,7 +322,7 @@ reads_end most m ls whole inv e =
     grown_ends (another_read most (lower most)) (read_ends most (lower most)) (read_shrinks most) m ls whole inv (step_is most m ls false e)
 
 pub reads_fail : (most : ℕ) (m : ExprTree) (ls new : List Lexeme) (whole : Read ExprTree) (e : Stop) → grown (another_read most (lower most)) m ls ≡ whole → true ≡ (says (codes "[") ls && takes_group m)
-    → Stops e new (if_low (nat_lt (height m) most) (λ all. read_from (lower most) m (behind all)) ls) → Stops e new whole
+    → StopsReading e new (if_low (nat_lt (height m) most) (λ all. read_from (lower most) m (behind all)) ls) → StopsReading e new whole
 reads_fail most m ls new whole e inv t s =
     grown_fails (another_read most (lower most)) (read_ends most (lower most)) (read_shrinks most) m ls new whole _ e inv (step_is most m ls true t) s
 
@@ -374,7 +374,7 @@ stays_so new ls e = (commas false new ls e).1
 
 -- ---- an empty list
 
-chosen_no : {A : Type 0} (b : Bool) (one other : Reader A) (ls : List Lexeme) → false ≡ b → chosen b one other ls ≡ other ls
+chosen_no : {A : Type 0} (b : Bool) (one other : Reader A) (ls : List Lexeme) → false ≡ b → either_reader b one other ls ≡ other ls
 chosen_no true one other ls e = absurd cc
 chosen_no false one other ls e = refl
 
@@ -385,6 +385,6 @@ unfolding bracket_from expr_trees
 bracket_empty b low p start ls new result e none f =
     finds_as result new _ _
     (chosen_no (expression_next ls)
-    (λ all. low.expr implications all and_then λ e rest. chosen (says (codes "|") rest) (λ next. comprehension_from b low p e (behind next)) (literal_from b low p e) rest)
+    (λ all. low.expr implications all and_then λ e rest. either_reader (says (codes "|") rest) (λ next. comprehension_from b low p e (behind next)) (literal_from b low p e) rest)
     (list_end b low (literal p trees.no_trees)) ls e
     ∙ ap (λ es. list_end b low (literal p (expr_trees es)) ls) (sym none)) f

@@ -4,7 +4,7 @@ use Rattle.std.specs.Prelude.{◌≡◌, ◌<◌, List, [], ◌∷◌, ◌++◌,
 use Rattle.std.proofs.Common.{ap, append_assoc, sym, ◌∙◌}
 use Rattle.ep_parse_expr.proofs.NameTurns.{continued}
 use Rattle.ep_parse_expr.proofs.Turns.{list_turn}
-use Rattle.ep_parse_expr.specs.Cursors.{Stops}
+use Rattle.ep_parse_expr.specs.Cursors.{StopsReading}
 use Rattle.ep_parse_expr.specs.Readers.{Read, Reader, going_on, high, others_from, took, wrong, ◌and_then◌}
 use Rattle.ep_parse_expr.specs.declared.cursor.Stop.{Stop}
 use Rattle.ep_parse_expr.specs.declared.cursor.Stop.TheVariants.{Memory, TooHigh, Wrong}
@@ -42,7 +42,7 @@ module _ {A : Type 0} (goes_on : A → List Lexeme → Option (List Lexeme)) (it
 
   -- an item is refused: so is the list
   pub list_fails : (whole : Read (List A)) (done : List A) (last : A) (ls next new : List Lexeme) (e : Stop) → Whole whole done last ls → goes_on last ls ≡ Some next
-      → Stops e new (item last next) → Stops e new whole
+      → StopsReading e new (item last next) → StopsReading e new whole
   list_fails whole done last ls next new Wrong inv g s =
       on whole done last ls next inv g ∙ ap (λ r. continued done (r and_then λ x rest. others_from goes_on item x rest and_then λ xs end. took (x ∷ xs) end)) s
   list_fails whole done last ls next new TooHigh inv g s =

@@ -14,7 +14,7 @@ use Rattle.ep_parse_expr.specs.Founds.{Shows}
 use Rattle.ep_parse_expr.specs.LoneNumbers.{TakesAtOnce, closers}
 use Rattle.ep_parse_expr.specs.Openings.{level_of}
 use Rattle.ep_parse_expr.specs.Readers.{behind, took}
-use Rattle.ep_parse_expr.specs.Sayings.{number_next, number_of, word_next, word_of}
+use Rattle.ep_parse_expr.specs.Sayings.{said_number_next, said_number, word_next, word_of}
 use Rattle.ep_parse_expr.specs.TreeReaders.{expr_from}
 use Rattle.ep_parse_expr.specs.declared.found.Found.{Found}
 use Rattle.ep_parse_expr.specs.declared.words.Level.{Level}
@@ -26,14 +26,14 @@ use Rattle.ep_tree.specs.Trees.{number, place_of}
 
 -- ---- what tokens say
 
-said_number : (s : Saying) (n : ℤ) → number_of s ≡ Some n → s ≡ a_number n
-said_number (a_name x) n e = absurd cc
-said_number (a_number m) n e = ap (λ o. a_number (or_this o)) e
+says_that_number : (s : Saying) (n : ℤ) → said_number s ≡ Some n → s ≡ a_number n
+says_that_number (a_name x) n e = absurd cc
+says_that_number (a_number m) n e = ap (λ o. a_number (or_this o)) e
   where
     or_this : Option ℤ → ℤ
     or_this (Some z) = z
     or_this None = m
-said_number (a_word w) n e = absurd cc
+says_that_number (a_word w) n e = absurd cc
 
 said_word : (s : Saying) (w : List ℕ) → word_of s ≡ Some w → s ≡ a_word w
 said_word (a_name x) w e = absurd cc
@@ -103,17 +103,17 @@ lone most level p n ls some ends =
     (record { ends = ends_each level ls ends; open_ends = λ _. ends })
 
 -- a number by what is next, and a word that is next behind it
-lone_next : (most : ℕ) (level : Level) (n : ℤ) (w : List ℕ) (ls : List Lexeme) → 1 ≤ most → number_next ls ≡ Some n → word_next (behind ls) ≡ Some w → Closes w
+lone_next : (most : ℕ) (level : Level) (n : ℤ) (w : List ℕ) (ls : List Lexeme) → 1 ≤ most → said_number_next ls ≡ Some n → word_next (behind ls) ≡ Some w → Closes w
     → expr_from most (level_of level) ls ≡ took (number (place_next ls) n) (behind ls)
-unfolding number_next word_next
+unfolding said_number_next word_next
 lone_next most level n w [] some is next closes = absurd cc
 lone_next most level n w (l ∷ []) some is next closes = absurd cc
 lone_next most level n w (l ∷ t ∷ ls) some is next closes =
     let ends : NoImplications (t ∷ ls) = subst (λ (s : Saying). NoImplications (lexeme t.place s ∷ ls)) (sym (said_word t.saying w next)) (closes.expr t.place ls) in
-    ap (λ (s : Saying). expr_from most (level_of level) (lexeme l.place s ∷ t ∷ ls)) (said_number l.saying n is) ∙ lone most level l.place n (t ∷ ls) some ends
+    ap (λ (s : Saying). expr_from most (level_of level) (lexeme l.place s ∷ t ∷ ls)) (says_that_number l.saying n is) ∙ lone most level l.place n (t ∷ ls) some ends
 
 -- what is taken where a number and such a word behind it were seen
-pub taken : (found : Found) (n : ℤ) (word : Option (Bor (List ℕ))) (w : Bor (List ℕ)) (p : Place) (old ahead new : List Lexeme) → number_next old ≡ Some n → ahead ≡ behind old
+pub taken : (found : Found) (n : ℤ) (word : Option (Bor (List ℕ))) (w : Bor (List ℕ)) (p : Place) (old ahead new : List Lexeme) → said_number_next old ≡ Some n → ahead ≡ behind old
     → option_copied word ≡ word_next ahead → word ≡ Some w → list_any (bytes_eq w.now) closers ≡ true → p ≡ place_next old → new ≡ behind old → Shows found (number p n) → TakesAtOnce (Some found) old new
 taken found n word w p old ahead new is passed seen some closes at left shows =
     λ most level h.

@@ -6,8 +6,8 @@ use Rattle.std.proofs.Common.{Bor, is_some, option_map}
 use Rattle.std.specs.Option.{option_copied}
 use Rattle.ep_parse_expr.specs.Cursors.{passing}
 use Rattle.ep_parse_expr.specs.OperandReaders.{Opening, colon_comes, colon_or, expression_next, is_there, openings}
-use Rattle.ep_parse_expr.specs.Readers.{behind, is_word, looked_up, says}
-use Rattle.ep_parse_expr.specs.Sayings.{name_next, name_of, number_next, number_of, word_next, word_of}
+use Rattle.ep_parse_expr.specs.Readers.{behind, says_word, looked_up, says}
+use Rattle.ep_parse_expr.specs.Sayings.{name_next, name_of, said_number_next, said_number, word_next, word_of}
 use Rattle.ep_tree.specs.Phrases.{Lexeme, Saying, a_name, a_number, a_word}
 
 -- what an expression begins with
@@ -21,12 +21,12 @@ name_begins (l ∷ ls) x e = by_saying l.saying e
     by_saying (a_number n) e = absurd cc
     by_saying (a_word w) e = absurd cc
 
-pub number_begins : (ls : List Lexeme) (n : ℤ) → number_next ls ≡ Some n → expression_next ls ≡ true
-unfolding number_next expression_next
+pub number_begins : (ls : List Lexeme) (n : ℤ) → said_number_next ls ≡ Some n → expression_next ls ≡ true
+unfolding said_number_next expression_next
 number_begins [] n e = absurd cc
 number_begins (l ∷ ls) n e = by_saying l.saying e
   where
-    by_saying : (s : Saying) → number_of s ≡ Some n → Rattle.ep_parse_expr.specs.OperandReaders.opens s ≡ true
+    by_saying : (s : Saying) → said_number s ≡ Some n → Rattle.ep_parse_expr.specs.OperandReaders.opens s ≡ true
     by_saying (a_name y) e = absurd cc
     by_saying (a_number n) e = refl
     by_saying (a_word w) e = absurd cc
@@ -45,12 +45,12 @@ word_begins (l ∷ ls) w e = by_saying l.saying e
         there None = false
         there (Some u) = is_there (looked_up openings u)
 
-pub nothing_begins : (ls : List Lexeme) → name_next ls ≡ None → number_next ls ≡ None → word_next ls ≡ None → expression_next ls ≡ false
-unfolding name_next number_next word_next expression_next
+pub nothing_begins : (ls : List Lexeme) → name_next ls ≡ None → said_number_next ls ≡ None → word_next ls ≡ None → expression_next ls ≡ false
+unfolding name_next said_number_next word_next expression_next
 nothing_begins [] a b c = refl
 nothing_begins (l ∷ ls) a b c = by_saying l.saying a b c
   where
-    by_saying : (s : Saying) → name_of s ≡ None → number_of s ≡ None → word_of s ≡ None → Rattle.ep_parse_expr.specs.OperandReaders.opens s ≡ false
+    by_saying : (s : Saying) → name_of s ≡ None → said_number s ≡ None → word_of s ≡ None → Rattle.ep_parse_expr.specs.OperandReaders.opens s ≡ false
     by_saying (a_name y) a b c = absurd cc
     by_saying (a_number n) a b c = absurd cc
     by_saying (a_word v) a b c = absurd cc
@@ -60,7 +60,7 @@ pub is_named : (o : Option (Bor (List ℕ))) (ls : List Lexeme) → option_copie
 is_named None ls e t = absurd cc
 is_named (Some x) ls e t = sym (name_begins ls x.now (sym e))
 
-pub is_numbered : (o : Option ℤ) (ls : List Lexeme) → o ≡ number_next ls → true ≡ is_some o → true ≡ expression_next ls
+pub is_numbered : (o : Option ℤ) (ls : List Lexeme) → o ≡ said_number_next ls → true ≡ is_some o → true ≡ expression_next ls
 is_numbered None ls e t = absurd cc
 is_numbered (Some n) ls e t = sym (number_begins ls n (sym e))
 
@@ -73,7 +73,7 @@ pub is_worded : {A : Type 0} (f : A → Opening) (found : Option A) (o : Option 
 is_worded f found o w ls e s m =
     sym (word_begins ls w.now (sym e ∙ ap option_copied s) ∙ ap is_there (sym m) ∙ is_there-is_some f found)
 
-pub is_nothing : (o : Option (Bor (List ℕ))) (n : Option ℤ) (w : Option (Bor (List ℕ))) (ls : List Lexeme) → option_copied o ≡ name_next ls → false ≡ is_some o → n ≡ number_next ls → false ≡ is_some n
+pub is_nothing : (o : Option (Bor (List ℕ))) (n : Option ℤ) (w : Option (Bor (List ℕ))) (ls : List Lexeme) → option_copied o ≡ name_next ls → false ≡ is_some o → n ≡ said_number_next ls → false ≡ is_some n
     → option_copied w ≡ word_next ls → w ≡ None → false ≡ expression_next ls
 is_nothing None None w ls a x b y c z = sym (nothing_begins ls (sym a) (sym b) (sym c ∙ ap option_copied z))
 is_nothing (Some o) n w ls a x b y c z = absurd cc
@@ -109,17 +109,17 @@ comes_not (l ∷ ls) e = by_saying l.saying e
 behind_colon : (ls : List Lexeme) → says (codes ":") ls ≡ true → colon_comes false ls ≡ true
 unfolding colon_comes says
 behind_colon [] e = absurd cc
-behind_colon (l ∷ ls) e = ap (λ b. colon_or b (is_word (codes ",") l.saying) (colon_comes true ls)) e
+behind_colon (l ∷ ls) e = ap (λ b. colon_or b (says_word (codes ",") l.saying) (colon_comes true ls)) e
 
 behind_neither : (ls : List Lexeme) → says (codes ":") ls ≡ false → says (codes ",") ls ≡ false → colon_comes false ls ≡ false
 unfolding colon_comes says
 behind_neither [] e f = refl
-behind_neither (l ∷ ls) e f = ap (λ b. colon_or b (is_word (codes ",") l.saying) (colon_comes true ls)) e ∙ ap (λ b. colon_or false b (colon_comes true ls)) f
+behind_neither (l ∷ ls) e f = ap (λ b. colon_or b (says_word (codes ",") l.saying) (colon_comes true ls)) e ∙ ap (λ b. colon_or false b (colon_comes true ls)) f
 
 behind_comma_comes : (ls : List Lexeme) → says (codes ":") ls ≡ false → says (codes ",") ls ≡ true → colon_comes false ls ≡ colon_comes true (behind ls)
 unfolding colon_comes says
 behind_comma_comes [] e f = absurd cc
-behind_comma_comes (l ∷ ls) e f = ap (λ b. colon_or b (is_word (codes ",") l.saying) (colon_comes true ls)) e ∙ ap (λ b. colon_or false b (colon_comes true ls)) f
+behind_comma_comes (l ∷ ls) e f = ap (λ b. colon_or b (says_word (codes ",") l.saying) (colon_comes true ls)) e ∙ ap (λ b. colon_or false b (colon_comes true ls)) f
 
 -- a name, and then a colon
 pub comes_now : (ls next : List Lexeme) (x : List ℕ) → name_next ls ≡ Some x → next ≡ behind ls → true ≡ says (codes ":") next → colon_comes true ls ≡ true

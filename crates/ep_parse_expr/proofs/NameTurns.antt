@@ -3,7 +3,7 @@ use Rattle.std.specs.Prelude.{◌≡◌, ◌≤◌, ◌<◌, Bool, true, false, 
 use Rattle.std.proofs.Common.{ap, arith, sym, ◌∙◌, append_assoc}
 use Rattle.ep_base.specs.declared.names.Name.{Name}
 use Rattle.ep_parse_expr.proofs.Turns.{list_turn}
-use Rattle.ep_parse_expr.specs.Cursors.{Stops, passing}
+use Rattle.ep_parse_expr.specs.Cursors.{StopsReading, passing}
 use Rattle.ep_parse_expr.specs.declared.cursor.Stop.{Stop}
 use Rattle.ep_parse_expr.specs.declared.cursor.Stop.TheVariants.{Memory, TooHigh, Wrong}
 use Rattle.ep_parse_expr.specs.Readers.{Read, behind, behind_comma, going_on, high, kept, name_from, name_in, names_from, others_from, says, took, wrong, ◌and_then◌}
@@ -58,7 +58,7 @@ names_turn x ls = list_turn behind_comma (λ last. name_from) comma_ends comma_s
 -- ---- the loop over names
 
 -- where a name is refused, names are
-pub names_fail : (items : List Name) (cursor new start : List Lexeme) (e : Stop) → continued items (names_from cursor) ≡ names_from start → Stops e new (name_from cursor) → Stops e new (names_from start)
+pub names_fail : (items : List Name) (cursor new start : List Lexeme) (e : Stop) → continued items (names_from cursor) ≡ names_from start → StopsReading e new (name_from cursor) → StopsReading e new (names_from start)
 unfolding names_from
 names_fail items cursor new start Wrong inv k =
     sym inv ∙ ap (λ r. continued items (r and_then λ x rest. others_from behind_comma (λ last. name_from) x rest and_then λ xs end. took (x ∷ xs) end)) k

@@ -8,8 +8,8 @@ use Rattle.ep_parse_expr.specs.DomainReaders as domain_readers
 use Rattle.ep_parse_expr.specs.OperandReaders.{Lower, a_bracket, a_truth, begun_from, bracket_from, if_low, open_from, opened_from, openings, operand_from}
 use Rattle.ep_parse_expr.specs.OperandReaders as readers
 use Rattle.ep_parse_expr.specs.Openings.{opening_of}
-use Rattle.ep_parse_expr.specs.Readers.{Read, behind, chosen, high, looked_up, took, wrong}
-use Rattle.ep_parse_expr.specs.Sayings.{name_next, name_of, number_next, number_of, word_next, word_of}
+use Rattle.ep_parse_expr.specs.Readers.{Read, behind, either_reader, high, looked_up, took, wrong}
+use Rattle.ep_parse_expr.specs.Sayings.{name_next, name_of, said_number_next, said_number, word_next, word_of}
 use Rattle.ep_parse_expr.specs.declared.words.Opening.{Opening}
 use Rattle.ep_parse_expr.specs.declared.words.Opening.TheVariants as opening
 use Rattle.ep_tree.specs.Phrases.{Lexeme, Saying, a_name, a_number, a_word}
@@ -27,7 +27,7 @@ begun_name b low p (a_name y) x ls all e = ap (λ o. took (named p (or_this o)) 
 begun_name b low p (a_number n) x ls all e = absurd cc
 begun_name b low p (a_word w) x ls all e = absurd cc
 
-begun_number : (b : Bool) (low : Lower) (p : Place) (s : Saying) (x : ℤ) (ls all : List Lexeme) → number_of s ≡ Some x → begun_from b low p s ls all ≡ took (number p x) ls
+begun_number : (b : Bool) (low : Lower) (p : Place) (s : Saying) (x : ℤ) (ls all : List Lexeme) → said_number s ≡ Some x → begun_from b low p s ls all ≡ took (number p x) ls
 unfolding begun_from
 begun_number b low p (a_name y) x ls all e = absurd cc
 begun_number b low p (a_number n) x ls all e = ap (λ o. took (number p (or_this o)) ls) e
@@ -52,8 +52,8 @@ unfolding operand_from name_next
 named_now b low [] x e = absurd cc
 named_now b low (l ∷ ls) x e = begun_name b low l.place l.saying x ls (l ∷ ls) e
 
-numbered_now : (b : Bool) (low : Lower) (ls : List Lexeme) (x : ℤ) → number_next ls ≡ Some x → operand_from b low ls ≡ took (number (place_next ls) x) (behind ls)
-unfolding operand_from number_next
+numbered_now : (b : Bool) (low : Lower) (ls : List Lexeme) (x : ℤ) → said_number_next ls ≡ Some x → operand_from b low ls ≡ took (number (place_next ls) x) (behind ls)
+unfolding operand_from said_number_next
 numbered_now b low [] x e = absurd cc
 numbered_now b low (l ∷ ls) x e = begun_number b low l.place l.saying x ls (l ∷ ls) e
 
@@ -67,17 +67,17 @@ pub operand_named : (b : Bool) (low : Lower) (x : List ℕ) (ls new : List Lexem
 operand_named b low x ls new p name e n q k =
     named_now b low ls x e ∙ ap (λ r. took (named r x) (behind ls)) (sym q) ∙ ap (λ y. took (named p y) (behind ls)) (sym n) ∙ ap (λ y. took (named p name) y) (sym k)
 
-pub operand_numbered : (b : Bool) (low : Lower) (x : ℤ) (ls new : List Lexeme) (p : Place) → number_next ls ≡ Some x → p ≡ place_next ls → new ≡ behind ls → operand_from b low ls ≡ took (number p x) new
+pub operand_numbered : (b : Bool) (low : Lower) (x : ℤ) (ls new : List Lexeme) (p : Place) → said_number_next ls ≡ Some x → p ≡ place_next ls → new ≡ behind ls → operand_from b low ls ≡ took (number p x) new
 operand_numbered b low x ls new p e q k =
     numbered_now b low ls x e ∙ ap (λ r. took (number r x) (behind ls)) (sym q) ∙ ap (λ y. took (number p x) y) (sym k)
 
 -- no word
-pub operand_nothing : (b : Bool) (low : Lower) (ls : List Lexeme) → name_next ls ≡ None → number_next ls ≡ None → word_next ls ≡ None → operand_from b low ls ≡ wrong ls
-unfolding operand_from name_next number_next word_next begun_from
+pub operand_nothing : (b : Bool) (low : Lower) (ls : List Lexeme) → name_next ls ≡ None → said_number_next ls ≡ None → word_next ls ≡ None → operand_from b low ls ≡ wrong ls
+unfolding operand_from name_next said_number_next word_next begun_from
 operand_nothing b low [] f h j = refl
 operand_nothing b low (l ∷ ls) f h j = by_saying l.saying f h j
   where
-    by_saying : (s : Saying) → name_of s ≡ None → number_of s ≡ None → word_of s ≡ None → begun_from b low l.place s ls (l ∷ ls) ≡ wrong (l ∷ ls)
+    by_saying : (s : Saying) → name_of s ≡ None → said_number s ≡ None → word_of s ≡ None → begun_from b low l.place s ls (l ∷ ls) ≡ wrong (l ∷ ls)
     by_saying (a_name y) a b c = absurd cc
     by_saying (a_number n) a b c = absurd cc
     by_saying (a_word v) a b c = absurd cc

@@ -129,7 +129,7 @@ indices_every [] = refl
 indices_every (None ∷ is) = ap (λ xs. every_and xs) (indices_every is)
 indices_every (Some x ∷ is) = ap (λ xs. index_and (expr_tree x) xs) (indices_every is)
 
-pub as_indices_more : (is : List operators.Index) (every : Bool) (i : Option trees.ExprTree) → as_indices (is ++ (every, i) ∷ []) ≡ index_last (as_indices is) i
+pub as_indices_more : (is : List operators.ReadIndex) (every : Bool) (i : Option trees.ExprTree) → as_indices (is ++ (every, i) ∷ []) ≡ index_last (as_indices is) i
 unfolding as_indices index_last
 as_indices_more [] every None = refl
 as_indices_more [] every (Some e) = refl

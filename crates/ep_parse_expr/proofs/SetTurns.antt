@@ -7,7 +7,7 @@ use Rattle.ep_parse_expr.proofs.FirstTurns.{grown_ends, grown_fails, grown_goes,
 use Rattle.ep_parse_expr.proofs.Shorter.{domain_shorter, then_came}
 use Rattle.ep_parse_expr.proofs.WordFacts.{next_nothing, next_word}
 use Rattle.ep_parse_expr.specs.Chains.{another_set}
-use Rattle.ep_parse_expr.specs.Cursors.{Stops}
+use Rattle.ep_parse_expr.specs.Cursors.{StopsReading}
 use Rattle.ep_parse_expr.specs.DomainReaders.{another_operation, set_words}
 use Rattle.ep_parse_expr.specs.Founds.{lower}
 use Rattle.ep_parse_expr.specs.OperandReaders.{Lower, if_low}
@@ -70,7 +70,7 @@ sets_end most left ls whole inv o =
     grown_ends (another_operation most (lower most)) (set_at_end most (lower most)) (set_shrinks most) left ls whole inv (set_none most (lower most) left ls o)
 
 pub sets_fail : (most : ℕ) (left : DomainTree) (ls new : List Lexeme) (whole : Read DomainTree) (op : SetOp) (e : Stop) → grown (another_operation most (lower most)) left ls ≡ whole → next_in set_words ls ≡ Some op
-    → Stops e new (another_set most (lower most) left op ls) → Stops e new whole
+    → StopsReading e new (another_set most (lower most) left op ls) → StopsReading e new whole
 sets_fail most left ls new whole op e inv o s =
     grown_fails (another_operation most (lower most)) (set_at_end most (lower most)) (set_shrinks most) left ls new whole (another_set most (lower most) left op ls) e inv
     (set_some most (lower most) left ls op o) s

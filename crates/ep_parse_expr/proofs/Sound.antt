@@ -13,7 +13,7 @@ use Rattle.ep_tree.specs.declared.syntax.SetOp.{SetOp}
 use Rattle.ep_parse_expr.specs.DomainReaders.{DomainOpening, RangeRead, a_bool, a_domain_group, an_int, another_index_domain, another_operation, any_domain_from, as_domains, as_ranges, domain_at_level, domain_begun_from, domain_open_from, domain_openings, domain_part_from, end_from, index_domain_behind, matrix_follows, matrix_from, matrix_head_from, of_number, of_span, operations_from, range_from, ranges_from, set_words}
 use Rattle.ep_parse_expr.specs.OperandReaders.{Lower, domain_next, expression_next, none_low}
 use Rattle.ep_parse_expr.specs.OperatorReaders.{at_level}
-use Rattle.ep_parse_expr.specs.Readers.{behind, behind_comma, is_word, looked_up, next_in, others_from, says, word_from}
+use Rattle.ep_parse_expr.specs.Readers.{behind, behind_comma, says_word, looked_up, next_in, others_from, says, word_from}
 use Rattle.ep_parse_expr.specs.TreeReaders.{expr_from, some_domain_from}
 use Rattle.ep_parse_expr.proofs.Holding.{AreWordsOf, Holds, HoldsIf, Takes, behind_three, behind_two, grown_sound, holds_as, holds_chosen, holds_high, holds_low, holds_then, holds_took, holds_wrong, is_word-sound, looked_up-sound, more_sound, next_in-sound, operated_sound, says_sound, takes_as, takes_nothing, takes_then, ungrouped, word_sound}
 use Rattle.ep_parse_expr.proofs.SoundLists.{whole}
@@ -274,7 +274,7 @@ module _ (less : ℕ) (low : Lower) (good : AreSound less low) where
   unfolding any_domain_from says domain_rank
   any_domain_sound [] = holds_as (IsDomain set_operations (suc less) []) (IsDomain domains (suc less) []) (operations_from (suc less) low []) (operations_sound []) (λ d rest h. looser_domain domains set_operations (suc less) [] d rest refl h)
   any_domain_sound (l ∷ ls) =
-      holds_chosen (IsDomain domains (suc less) (l ∷ ls)) (is_word (codes "matrix") l.saying) _ _ (l ∷ ls)
+      holds_chosen (IsDomain domains (suc less) (l ∷ ls)) (says_word (codes "matrix") l.saying) _ _ (l ∷ ls)
       (λ e. holds_low (IsDomain domains (suc less) (l ∷ ls)) (nat_lt 1 (suc less)) _ (l ∷ ls) (λ _. matrix_sound l ls (is_word-sound (codes "matrix") l.saying e)))
       (λ _. holds_as (IsDomain set_operations (suc less) (l ∷ ls)) (IsDomain domains (suc less) (l ∷ ls)) (operations_from (suc less) low (l ∷ ls)) (operations_sound (l ∷ ls)) (λ d rest h. looser_domain domains set_operations (suc less) (l ∷ ls) d rest refl h))
 

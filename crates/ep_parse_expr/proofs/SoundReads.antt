@@ -9,7 +9,7 @@ use Rattle.ep_tree.specs.Phrases.{Lexeme, Phrase, Says, ◌followed_by◌}
 use Rattle.ep_tree.specs.Spelling.{BetweenIndices, Spells, SpellsIndices, SpellsLastIndices, SpellsMoreIndices, SpellsNode, implications, own_level, rank, reads, takes_own_group, unaries}
 use Rattle.ep_tree.specs.Trees.{ExprTree, Indices, no_indices, place_of, read}
 use Rattle.ep_parse_expr.specs.OperandReaders.{Lower, operand_from}
-use Rattle.ep_parse_expr.specs.OperatorReaders.{Index, another_index, another_read, as_indices, index_from, read_from, takes_group, unary_from, with_index}
+use Rattle.ep_parse_expr.specs.OperatorReaders.{ReadIndex, another_index, another_read, as_indices, index_from, read_from, takes_group, unary_from, with_index}
 use Rattle.ep_parse_expr.specs.Readers.{behind, kept, kept_or, others_from, says}
 use Rattle.ep_parse_expr.proofs.Holding.{Holds, HoldsIf, Takes, grown_sound, holds_as, holds_chosen, holds_low, holds_then, holds_took, more_sound, only_if_sound, says_sound, takes_as, takes_nothing, takes_then}
 use Rattle.ep_parse_expr.proofs.SoundLists.{whole}
@@ -85,7 +85,7 @@ before_sound false false ls next c e =
     (takes_then (Says "]") (Says "[") ls (behind ls) next (says_sound (codes "]") ls both.0)
     (subst (λ x. Takes (Says "[") (behind ls) x) (sym k.1) (says_sound (codes "[") (behind ls) both.1)))
 
-pub another_sound : (last : Index) (ls next : List Lexeme) → another_index last ls ≡ Some next → Takes (Before last.0) ls next
+pub another_sound : (last : ReadIndex) (ls next : List Lexeme) → another_index last ls ≡ Some next → Takes (Before last.0) ls next
 unfolding another_index
 another_sound last ls next e = before_sound last.0 (says (codes ",") ls) ls next refl e
 
@@ -94,7 +94,7 @@ below m n e = grind (arith, nat_tests)
 
 module _ (less : ℕ) (low : Lower) (good : AreSound less low) where
   -- an index, and whether a `..` has come
-  abbrev pub IsIndex : Bool → List Lexeme → Index → List Lexeme → Type 0
+  abbrev pub IsIndex : Bool → List Lexeme → ReadIndex → List Lexeme → Type 0
   IsIndex every ls x rest = Takes (SpellsIndex x.1) ls rest × (x.0 ≡ then_every every x.1) × (index_high x.1 ≤ less)
 
   pub index_sound : (every : Bool) (ls : List Lexeme) → Holds (IsIndex every ls) (index_from low every ls)
@@ -105,10 +105,10 @@ module _ (less : ℕ) (low : Lower) (good : AreSound less low) where
       (λ _. holds_then (IsExpr implications less ls) (IsIndex every ls) (low.expr implications ls) _ (whole less low good ls)
       (λ e rest h. holds_took (IsIndex every ls) (every, Some e) rest (takes_expr implications less ls e rest h, refl, h.low)))
 
-  AreFurther : Index → List Lexeme → List Index → List Lexeme → Type 0
+  AreFurther : ReadIndex → List Lexeme → List ReadIndex → List Lexeme → Type 0
   AreFurther last from xs end = Takes (Further last.0 (as_indices xs)) from end × (highest_index (as_indices xs) ≤ less)
 
-  others_sound : (first : Index) (ls : List Lexeme) → Holds (AreFurther first ls) (others_from another_index (λ last. index_from low last.0) first ls)
+  others_sound : (first : ReadIndex) (ls : List Lexeme) → Holds (AreFurther first ls) (others_from another_index (λ last. index_from low last.0) first ls)
   unfolding as_indices AreFurther height
   others_sound first ls =
       more_sound another_index (λ last. index_from low last.0) AreFurther (λ last from. (none_further last.0 from, omega arith))

@@ -7,7 +7,7 @@ use Rattle.std.specs.Prelude.{◌≡◌, ℕ, suc, ◌≤◌, ◌<◌, Bool, tru
 use Rattle.std.proofs.Common.{ap, arith, sym, subst, ◌∙◌}
 use Rattle.ep_tree.specs.Phrases.{Lexeme, Saying, a_name, a_number, a_word}
 use Rattle.ep_parse_expr.specs.OperandReaders.{if_low}
-use Rattle.ep_parse_expr.specs.Readers.{Read, Reader, behind, chosen, high, is_word, says, took, word_from, name_from, name_in, wrong, ◌and_then◌}
+use Rattle.ep_parse_expr.specs.Readers.{Read, Reader, behind, either_reader, high, says_word, says, took, word_from, name_from, name_in, wrong, ◌and_then◌}
 
 -- what stands behind a cut in two lists: one token that is the same, or nothing in the second
 pub data Same (exact : Bool) (a b : List Lexeme) : Type 0 where
@@ -182,14 +182,14 @@ module _ (c : Cut) where
   -- ---- words and tests
 
   word_decides : (w : List ℕ) (b : Bool) (l : Lexeme) (rest rest2 : List Lexeme) → Cuts rest rest2
-      → Decides (length rest) (chosen b (λ all. took l.place rest) (λ all. wrong all) (l ∷ rest)) (chosen b (λ all. took l.place rest2) (λ all. wrong all) (l ∷ rest2)) (wrong (l ∷ rest)) (wrong (l ∷ rest2)) (l ∷ rest) (l ∷ rest2)
+      → Decides (length rest) (either_reader b (λ all. took l.place rest) (λ all. wrong all) (l ∷ rest)) (either_reader b (λ all. took l.place rest2) (λ all. wrong all) (l ∷ rest2)) (wrong (l ∷ rest)) (wrong (l ∷ rest2)) (l ∷ rest) (l ∷ rest2)
   word_decides w true l rest rest2 s = inside (took_steady l.place rest rest2 s)
   word_decides w false l rest rest2 s = neither refl refl
 
   pub word_steady : (w : List ℕ) (ls ls2 : List Lexeme) → Cuts ls ls2 → Steady (length ls) (word_from w ls) (word_from w ls2)
   unfolding word_from
   word_steady w ls ls2 s =
-      decided (word_from w) (word_from w) (λ z. wrong z) (λ z. wrong z) refl refl (λ l rest rest2 t. word_decides w (is_word w l.saying) l rest rest2 t) ls ls2 s (wrong_steady ls ls2 s)
+      decided (word_from w) (word_from w) (λ z. wrong z) (λ z. wrong z) refl refl (λ l rest rest2 t. word_decides w (says_word w l.saying) l rest rest2 t) ls ls2 s (wrong_steady ls ls2 s)
 
   name_decides : (l : Lexeme) (s : Saying) (rest rest2 : List Lexeme) → Cuts rest rest2
       → Decides (length rest) (name_in l s rest) (name_in l s rest2) (wrong (l ∷ rest)) (wrong (l ∷ rest2)) (l ∷ rest) (l ∷ rest2)
@@ -212,7 +212,7 @@ module _ (c : Cut) where
   no_test t = record { higher = λ e. e; alike = λ _. refl }
 
   pub low_decides : {A : Type 0} (b t t2 : Bool) (one one2 other other2 : Reader A) (l : Lexeme) (rest rest2 : List Lexeme) → Tests t t2 → (t ≡ true → Steady (length rest) (one (l ∷ rest)) (one2 (l ∷ rest2)))
-      → Decides (length rest) (chosen b (if_low t one) other (l ∷ rest)) (chosen b (if_low t2 one2) other2 (l ∷ rest2)) (other (l ∷ rest)) (other2 (l ∷ rest2)) (l ∷ rest) (l ∷ rest2)
+      → Decides (length rest) (either_reader b (if_low t one) other (l ∷ rest)) (either_reader b (if_low t2 one2) other2 (l ∷ rest2)) (other (l ∷ rest)) (other2 (l ∷ rest2)) (l ∷ rest) (l ∷ rest2)
   low_decides false t t2 one one2 other other2 l rest rest2 tests h = neither refl refl
   low_decides true true true one one2 other other2 l rest rest2 tests h = inside (h refl)
   low_decides true true false one one2 other other2 l rest rest2 tests h = let no : false ≡ true = tests.higher refl in absurd cc
@@ -221,31 +221,31 @@ module _ (c : Cut) where
   -- a word that is next, and a test
   pub low_word_steady : {A : Type 0} (w : List ℕ) (t t2 : Bool) (one one2 other other2 : Reader A) → Tests t t2
       → (t ≡ true → (ls ls2 : List Lexeme) → Cuts ls ls2 → Steady (length ls) (one ls) (one2 ls2)) → (ls ls2 : List Lexeme) → Cuts ls ls2 → Steady (length ls) (other ls) (other2 ls2)
-      → Steady (length ls) (chosen (says w ls) (if_low t (λ all. one (behind all))) other ls) (chosen (says w ls2) (if_low t2 (λ all. one2 (behind all))) other2 ls2)
+      → Steady (length ls) (either_reader (says w ls) (if_low t (λ all. one (behind all))) other ls) (either_reader (says w ls2) (if_low t2 (λ all. one2 (behind all))) other2 ls2)
   unfolding says
   low_word_steady w t t2 one one2 other other2 tests h ls ls2 s o =
-      decided (λ z. chosen (says w z) (if_low t (λ all. one (behind all))) other z) (λ z. chosen (says w z) (if_low t2 (λ all. one2 (behind all))) other2 z) other other2 refl refl
-      (λ l rest rest2 k. low_decides (is_word w l.saying) t t2 (λ all. one (behind all)) (λ all. one2 (behind all)) other other2 l rest rest2 tests (λ e. h e rest rest2 k)) ls ls2 s o
+      decided (λ z. either_reader (says w z) (if_low t (λ all. one (behind all))) other z) (λ z. either_reader (says w z) (if_low t2 (λ all. one2 (behind all))) other2 z) other other2 refl refl
+      (λ l rest rest2 k. low_decides (says_word w l.saying) t t2 (λ all. one (behind all)) (λ all. one2 (behind all)) other other2 l rest rest2 tests (λ e. h e rest rest2 k)) ls ls2 s o
 
   -- a word that is next
   pub next_word_steady : {A : Type 0} (w : List ℕ) (one one2 other other2 : Reader A)
       → ((ls ls2 : List Lexeme) → Cuts ls ls2 → Steady (length ls) (one ls) (one2 ls2)) → (ls ls2 : List Lexeme) → Cuts ls ls2 → Steady (length ls) (other ls) (other2 ls2)
-      → Steady (length ls) (chosen (says w ls) (λ all. one (behind all)) other ls) (chosen (says w ls2) (λ all. one2 (behind all)) other2 ls2)
+      → Steady (length ls) (either_reader (says w ls) (λ all. one (behind all)) other ls) (either_reader (says w ls2) (λ all. one2 (behind all)) other2 ls2)
   next_word_steady w one one2 other other2 h ls ls2 s o = low_word_steady w true true one one2 other other2 (no_test true) (λ _. h) ls ls2 s o
 
   -- a word that is next, and that is read again
-  word_read : {A : Type 0} (w : List ℕ) (b : Bool) (one one2 : Reader A) (other other2 : Reader A) (l : Lexeme) (rest rest2 : List Lexeme) → is_word w l.saying ≡ b → Steady (length rest) (one rest) (one2 rest2)
-      → Decides (length rest) (chosen b (λ all. word_from w all and_then λ p. one) other (l ∷ rest)) (chosen b (λ all. word_from w all and_then λ p. one2) other2 (l ∷ rest2))
+  word_read : {A : Type 0} (w : List ℕ) (b : Bool) (one one2 : Reader A) (other other2 : Reader A) (l : Lexeme) (rest rest2 : List Lexeme) → says_word w l.saying ≡ b → Steady (length rest) (one rest) (one2 rest2)
+      → Decides (length rest) (either_reader b (λ all. word_from w all and_then λ p. one) other (l ∷ rest)) (either_reader b (λ all. word_from w all and_then λ p. one2) other2 (l ∷ rest2))
       (other (l ∷ rest)) (other2 (l ∷ rest2)) (l ∷ rest) (l ∷ rest2)
   unfolding word_from
   word_read w true one one2 other other2 l rest rest2 e st =
-      inside (subst (λ z. Steady (length rest) (chosen z (λ all. took l.place rest) (λ all. wrong all) (l ∷ rest) and_then λ p. one) (chosen z (λ all. took l.place rest2) (λ all. wrong all) (l ∷ rest2) and_then λ p. one2)) (sym e) st)
+      inside (subst (λ z. Steady (length rest) (either_reader z (λ all. took l.place rest) (λ all. wrong all) (l ∷ rest) and_then λ p. one) (either_reader z (λ all. took l.place rest2) (λ all. wrong all) (l ∷ rest2) and_then λ p. one2)) (sym e) st)
   word_read w false one one2 other other2 l rest rest2 e st = neither refl refl
 
   pub word_itself_steady : {A : Type 0} (w : List ℕ) (one one2 other other2 : Reader A)
       → ((ls ls2 : List Lexeme) → Cuts ls ls2 → Steady (length ls) (one ls) (one2 ls2)) → (ls ls2 : List Lexeme) → Cuts ls ls2 → Steady (length ls) (other ls) (other2 ls2)
-      → Steady (length ls) (chosen (says w ls) (λ all. word_from w all and_then λ p. one) other ls) (chosen (says w ls2) (λ all. word_from w all and_then λ p. one2) other2 ls2)
+      → Steady (length ls) (either_reader (says w ls) (λ all. word_from w all and_then λ p. one) other ls) (either_reader (says w ls2) (λ all. word_from w all and_then λ p. one2) other2 ls2)
   unfolding says
   word_itself_steady w one one2 other other2 h ls ls2 s o =
-      decided (λ z. chosen (says w z) (λ all. word_from w all and_then λ p. one) other z) (λ z. chosen (says w z) (λ all. word_from w all and_then λ p. one2) other2 z) other other2 refl refl
-      (λ l rest rest2 k. word_read w (is_word w l.saying) one one2 other other2 l rest rest2 refl (h rest rest2 k)) ls ls2 s o
+      decided (λ z. either_reader (says w z) (λ all. word_from w all and_then λ p. one) other z) (λ z. either_reader (says w z) (λ all. word_from w all and_then λ p. one2) other2 z) other other2 refl refl
+      (λ l rest rest2 k. word_read w (says_word w l.saying) one one2 other other2 l rest rest2 refl (h rest rest2 k)) ls ls2 s o

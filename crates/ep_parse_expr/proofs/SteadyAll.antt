@@ -10,7 +10,7 @@ use Rattle.ep_tree.specs.Trees.{all_of, any_of}
 use Rattle.ep_parse_expr.specs.DomainReaders.{a_bool, a_domain_group, an_int, another_operation, any_domain_from, domain_at_level, domain_begun_from, domain_open_from, domain_openings, domain_part_from, matrix_from, operations_from, place_next}
 use Rattle.ep_parse_expr.specs.OperandReaders.{Lower, Opening, begun_from, domain_next, expression_next, if_low, is_there, none_low, open_from, openings, operand_from, opens, opens_domain}
 use Rattle.ep_parse_expr.specs.OperatorReaders.{another_binary, another_read, at_level, chain_from, comparison_behind, comparison_from, conjunction_from, disjunction_from, implication_from, implication_words, parts_behind, power_from, power_words, product_from, product_words, terms_behind, unary_from}
-use Rattle.ep_parse_expr.specs.Readers.{Reader, behind, chosen, found_or, grown, high, is_word, looked_up, says, wrong, ◌and_then◌}
+use Rattle.ep_parse_expr.specs.Readers.{Reader, behind, either_reader, found_or, grown, high, says_word, looked_up, says, wrong, ◌and_then◌}
 use Rattle.ep_parse_expr.specs.TreeReaders.{expr_from, some_domain_from}
 use Rattle.ep_parse_expr.proofs.Again.{lexeme}
 use Rattle.ep_parse_expr.proofs.AgainAll.{all_complete, readers}
@@ -135,7 +135,7 @@ unfolding domain_next says
 no_domain [] e = (refl, refl)
 no_domain (l ∷ rest) e = go l.saying e
   where
-    go : (s : Saying) → opens_domain domains s ≡ false → (opens_domain set_parts s ≡ false) × (is_word (codes "matrix") s ≡ false)
+    go : (s : Saying) → opens_domain domains s ≡ false → (opens_domain set_parts s ≡ false) × (says_word (codes "matrix") s ≡ false)
     go (a_name x) e = let no : true ≡ false = e in absurd cc
     go (a_number n) e = (refl, refl)
     go (a_word w) e =
@@ -147,7 +147,7 @@ no_domain (l ∷ rest) e = go l.saying e
 
 domain_level_unopened : (most : ℕ) (low : Lower) (level : DomainLevel) (ls : List Lexeme) → domain_next level ls ≡ false → domain_at_level most low level ls ≡ wrong ls
 unfolding domain_at_level any_domain_from domain_next
-domain_level_unopened most low domains ls none = let k = no_domain ls none in ap (λ b. chosen b (if_low (nat_lt 1 most) (λ all. matrix_from low (place_next all) (behind all))) (operations_from most low) ls) k.1 ∙ operations_unopened most low ls k.0
+domain_level_unopened most low domains ls none = let k = no_domain ls none in ap (λ b. either_reader b (if_low (nat_lt 1 most) (λ all. matrix_from low (place_next all) (behind all))) (operations_from most low) ls) k.1 ∙ operations_unopened most low ls k.0
 domain_level_unopened most low set_operations ls none = operations_unopened most low ls (same_part ls none)
   where
     same_part : (z : List Lexeme) → domain_next set_operations z ≡ false → domain_next set_parts z ≡ false

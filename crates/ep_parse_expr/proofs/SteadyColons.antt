@@ -7,8 +7,8 @@ use Rattle.ep_tree.specs.Heights.{height}
 use Rattle.ep_tree.specs.Phrases.{Lexeme, Saying, a_name, a_number, a_word}
 use Rattle.ep_tree.specs.Spelling.{SpellsNode, implications, set_operations, own_level, rank}
 use Rattle.ep_tree.specs.Trees.{ExprTree, named, place_of, truth}
-use Rattle.ep_parse_expr.specs.OperandReaders.{Generator, Lower, another_generator, colon_comes, colon_or, conditions_from, generator_from, is_name}
-use Rattle.ep_parse_expr.specs.Readers.{Read, Reader, behind_comma, chosen, going_on, kept, is_word, more_from, name_from, name_in, names_from, others_from, says, took, high, word_from, wrong, ◌and_then◌}
+use Rattle.ep_parse_expr.specs.OperandReaders.{Generator, Lower, another_generator, colon_comes, colon_or, conditions_from, generator_from, says_name}
+use Rattle.ep_parse_expr.specs.Readers.{Read, Reader, behind_comma, either_reader, going_on, kept, says_word, more_from, name_from, name_in, names_from, others_from, says, took, high, word_from, wrong, ◌and_then◌}
 use Rattle.ep_parse_expr.proofs.Again.{AreComplete, NoImplications}
 use Rattle.ep_parse_expr.proofs.AgainLists.{comma_ends}
 use Rattle.ep_parse_expr.proofs.Holding.{is_word-sound}
@@ -18,32 +18,32 @@ use Rattle.ep_parse_expr.proofs.SteadyParts.{AreSteady, commas_steady, domain_ma
 
 -- what a look-ahead behind a name sees
 data SeesName (l : Lexeme) (rest : List Lexeme) : Type 0 where
-  a_colon : is_word (codes ":") l.saying ≡ true → colon_comes false (l ∷ rest) ≡ true → SeesName l rest
-  a_comma : is_word (codes ":") l.saying ≡ false → is_word (codes ",") l.saying ≡ true → colon_comes false (l ∷ rest) ≡ colon_comes true rest → SeesName l rest
-  another : is_word (codes ":") l.saying ≡ false → is_word (codes ",") l.saying ≡ false → colon_comes false (l ∷ rest) ≡ false → SeesName l rest
+  a_colon : says_word (codes ":") l.saying ≡ true → colon_comes false (l ∷ rest) ≡ true → SeesName l rest
+  a_comma : says_word (codes ":") l.saying ≡ false → says_word (codes ",") l.saying ≡ true → colon_comes false (l ∷ rest) ≡ colon_comes true rest → SeesName l rest
+  another : says_word (codes ":") l.saying ≡ false → says_word (codes ",") l.saying ≡ false → colon_comes false (l ∷ rest) ≡ false → SeesName l rest
 
 sees : (l : Lexeme) (rest : List Lexeme) → SeesName l rest
 unfolding colon_comes
-sees l rest = go (is_word (codes ":") l.saying) (is_word (codes ",") l.saying) refl refl
+sees l rest = go (says_word (codes ":") l.saying) (says_word (codes ",") l.saying) refl refl
   where
-    go : (a b : Bool) → is_word (codes ":") l.saying ≡ a → is_word (codes ",") l.saying ≡ b → SeesName l rest
-    go true b e k = a_colon e (ap (λ z. colon_or z (is_word (codes ",") l.saying) (colon_comes true rest)) e)
-    go false true e k = a_comma e k (ap (λ z. colon_or z (is_word (codes ",") l.saying) (colon_comes true rest)) e ∙ ap (λ z. colon_or false z (colon_comes true rest)) k)
-    go false false e k = another e k (ap (λ z. colon_or z (is_word (codes ",") l.saying) (colon_comes true rest)) e ∙ ap (λ z. colon_or false z (colon_comes true rest)) k)
+    go : (a b : Bool) → says_word (codes ":") l.saying ≡ a → says_word (codes ",") l.saying ≡ b → SeesName l rest
+    go true b e k = a_colon e (ap (λ z. colon_or z (says_word (codes ",") l.saying) (colon_comes true rest)) e)
+    go false true e k = a_comma e k (ap (λ z. colon_or z (says_word (codes ",") l.saying) (colon_comes true rest)) e ∙ ap (λ z. colon_or false z (colon_comes true rest)) k)
+    go false false e k = another e k (ap (λ z. colon_or z (says_word (codes ",") l.saying) (colon_comes true rest)) e ∙ ap (λ z. colon_or false z (colon_comes true rest)) k)
 
 -- what it sees at a name
 data SeesFirst (l : Lexeme) (rest : List Lexeme) : Type 0 where
   the_name : (x : Name) → l.saying ≡ a_name x → colon_comes true (l ∷ rest) ≡ colon_comes false rest → SeesFirst l rest
-  no_name : is_name l.saying ≡ false → colon_comes true (l ∷ rest) ≡ false → SeesFirst l rest
+  no_name : says_name l.saying ≡ false → colon_comes true (l ∷ rest) ≡ false → SeesFirst l rest
 
 sees_first : (l : Lexeme) (rest : List Lexeme) → SeesFirst l rest
 unfolding colon_comes
 sees_first l rest = go l.saying refl
   where
     go : (s : Saying) → l.saying ≡ s → SeesFirst l rest
-    go (a_name x) e = the_name x e (ap (λ z. is_name z && colon_comes false rest) e)
-    go (a_number n) e = no_name (ap is_name e) (ap (λ z. is_name z && colon_comes false rest) e)
-    go (a_word w) e = no_name (ap is_name e) (ap (λ z. is_name z && colon_comes false rest) e)
+    go (a_name x) e = the_name x e (ap (λ z. says_name z && colon_comes false rest) e)
+    go (a_number n) e = no_name (ap says_name e) (ap (λ z. says_name z && colon_comes false rest) e)
+    go (a_word w) e = no_name (ap says_name e) (ap (λ z. says_name z && colon_comes false rest) e)
 
 none_comes : (b : Bool) → colon_comes b [] ≡ false
 unfolding colon_comes
@@ -53,10 +53,10 @@ none_comes false = refl
 clash : {b : Bool} → b ≡ true → b ≡ false → ⊥
 clash e k = let no : true ≡ false = sym e ∙ k in cc
 
-no_comma : (l : Lexeme) → is_word (codes ":") l.saying ≡ true → is_word (codes ",") l.saying ≡ false
-no_comma l e = ap (λ z. is_word (codes ",") z) (is_word-sound (codes ":") l.saying e)
+no_comma : (l : Lexeme) → says_word (codes ":") l.saying ≡ true → says_word (codes ",") l.saying ≡ false
+no_comma l e = ap (λ z. says_word (codes ",") z) (is_word-sound (codes ":") l.saying e)
 
-comma_goes : {A : Type 0} (last : A) (l : Lexeme) (rest : List Lexeme) (b : Bool) → is_word (codes ",") l.saying ≡ b → behind_comma last (l ∷ rest) ≡ kept b rest
+comma_goes : {A : Type 0} (last : A) (l : Lexeme) (rest : List Lexeme) (b : Bool) → says_word (codes ",") l.saying ≡ b → behind_comma last (l ∷ rest) ≡ kept b rest
 unfolding says
 comma_goes last l rest b e = ap (λ z. kept z rest) e
 
@@ -93,13 +93,13 @@ module _ (c : Cut) where
     Short k k2 = (xs : List Name) (ls ls2 : List Lexeme) → Cuts c ls ls2 → Steady c (length ls) (k xs ls) (k2 xs ls2)
 
     abbrev AtColon : (List Name → Reader B) → Type 0
-    AtColon k = (xs : List Name) (l : Lexeme) (ls : List Lexeme) → is_word (codes ":") l.saying ≡ true → length ls < length c.one → length (left_by (k xs (l ∷ ls))) ≤ length ls
+    AtColon k = (xs : List Name) (l : Lexeme) (ls : List Lexeme) → says_word (codes ":") l.saying ≡ true → length ls < length c.one → length (left_by (k xs (l ∷ ls))) ≤ length ls
 
     more_names : (n : ℕ) (k k2 : List Name → Reader B) → Short k k2 → (x : Name) (ls : List Lexeme) → length ls ≤ n → Past ls → length (left_by (more_from behind_comma Names n x ls and_then k)) ≤ length ls
     more_names n k k2 short x ls few p = let st = more_commas_steady c Names Names (λ last. name_steady c) k k2 short n 0 x ls [] few (omega arith) (behind_cut p) in st.short
 
     -- another name behind a comma
-    behind_a_comma : (n : ℕ) (k : List Name → Reader B) (x : Name) (u : Lexeme) (ls : List Lexeme) → is_word (codes ",") u.saying ≡ true
+    behind_a_comma : (n : ℕ) (k : List Name → Reader B) (x : Name) (u : Lexeme) (ls : List Lexeme) → says_word (codes ",") u.saying ≡ true
         → (more_from behind_comma Names (suc n) x (u ∷ ls) and_then k) ≡ (name_from ls and_then λ y r. more_from behind_comma Names n y r and_then λ xs. k (y ∷ xs))
     unfolding more_from
     behind_a_comma n k x u ls e =
@@ -111,7 +111,7 @@ module _ (c : Cut) where
         by_cases (wrong rest) = refl
         by_cases (high rest) = refl
 
-    no_comma_ends : (n : ℕ) (k : List Name → Reader B) (x : Name) (u : Lexeme) (ls : List Lexeme) → is_word (codes ",") u.saying ≡ false
+    no_comma_ends : (n : ℕ) (k : List Name → Reader B) (x : Name) (u : Lexeme) (ls : List Lexeme) → says_word (codes ",") u.saying ≡ false
         → (more_from behind_comma Names (suc n) x (u ∷ ls) and_then k) ≡ k [] (u ∷ ls)
     unfolding more_from
     no_comma_ends n k x u ls e =
@@ -150,7 +150,7 @@ module _ (c : Cut) where
         go t rest p few e (another _ _ none) = absurd (clash e none)
     names_to_colon (suc n) k k2 short at x (u ∷ []) few one two = go (sees u c.one) (sees u c.two)
       where
-        past_name : colon_comes true c.one ≡ true → is_word (codes ",") u.saying ≡ true → length (left_by (more_from behind_comma Names (suc n) x (u ∷ c.one) and_then k)) < length c.one
+        past_name : colon_comes true c.one ≡ true → says_word (codes ",") u.saying ≡ true → length (left_by (more_from behind_comma Names (suc n) x (u ∷ c.one) and_then k)) < length c.one
         past_name e is =
             let f = first_behind true e in
             let t = f.0 in
@@ -179,7 +179,7 @@ module _ (c : Cut) where
             → length (left_by (name_from (v ∷ front ++ c.one) and_then λ y r. more_from behind_comma Names n y r and_then λ xs. k (y ∷ xs))) < length c.one
         taken (the_name y is e) (the_name z _ e2) a b on =
             subst (λ z. length (left_by (z and_then λ y r. more_from behind_comma Names n y r and_then λ xs. k (y ∷ xs))) < length c.one) (sym (name_taken v y (front ++ c.one) is)) (on y (sym e ∙ a) (sym e2 ∙ b))
-        taken (the_name y is e) (no_name other none) a b on = absurd (clash (ap is_name is) other)
+        taken (the_name y is e) (no_name other none) a b on = absurd (clash (ap says_name is) other)
         taken (no_name other none) s a b on = absurd (clash a none)
 
         go : SeesName u (v ∷ front ++ c.one) → SeesName u (v ∷ front ++ c.two) → Further n k front → length (left_by (more_from behind_comma Names (suc n) x (u ∷ v ∷ front ++ c.one) and_then k)) < length c.one
@@ -195,7 +195,7 @@ module _ (c : Cut) where
     abbrev Conditions : Lower → ExprTree → Reader ExprTree
     Conditions lower last = lower.expr implications
 
-    name_again : 1 ≤ less → (v w : Lexeme) (ws : List Lexeme) (x : Name) → v.saying ≡ a_name x → is_word (codes ",") w.saying ≡ true → low.expr implications (v ∷ w ∷ ws) ≡ took (named v.place x) (w ∷ ws)
+    name_again : 1 ≤ less → (v w : Lexeme) (ws : List Lexeme) (x : Name) → v.saying ≡ a_name x → says_word (codes ",") w.saying ≡ true → low.expr implications (v ∷ w ∷ ws) ≡ took (named v.place x) (w ∷ ws)
     unfolding SpellsNode own_level rank place_of height
     name_again some v w ws x is comma =
         let ends : NoImplications (w ∷ ws) = subst (λ (s : Saying). NoImplications (record { place = w.place; saying = s } ∷ ws)) (sym (is_word-sound (codes ",") w.saying comma)) (comma_ends w.place ws) in
@@ -205,12 +205,12 @@ module _ (c : Cut) where
     first_named some t rest x is = subst (λ (s : Saying). length (left_by (low.expr implications (record { place = t.place; saying = s } ∷ rest))) ≤ length rest) (sym is) (good.named t.place x rest some)
 
     -- a comma comes where the look-ahead goes on
-    comma_next : (front : List Lexeme) → colon_comes false (front ++ c.one) ≡ false → colon_comes false (front ++ c.two) ≡ true → (w : Lexeme) × (ws : List Lexeme) × (front ++ c.one ≡ w ∷ ws) × (is_word (codes ",") w.saying ≡ true)
+    comma_next : (front : List Lexeme) → colon_comes false (front ++ c.one) ≡ false → colon_comes false (front ++ c.two) ≡ true → (w : Lexeme) × (ws : List Lexeme) × (front ++ c.one ≡ w ∷ ws) × (says_word (codes ",") w.saying ≡ true)
     comma_next [] one two =
         let f = first_of_both false two in
         go f.0 f.1 f.2 f.3 (subst (λ z. colon_comes false z ≡ false) f.3 one) (subst (λ z. colon_comes false z ≡ true) f.4 two) (sees f.0 f.1) (sees f.0 f.2)
       where
-        go : (t : Lexeme) (rest other : List Lexeme) → c.one ≡ t ∷ rest → colon_comes false (t ∷ rest) ≡ false → colon_comes false (t ∷ other) ≡ true → SeesName t rest → SeesName t other → (w : Lexeme) × (ws : List Lexeme) × (c.one ≡ w ∷ ws) × (is_word (codes ",") w.saying ≡ true)
+        go : (t : Lexeme) (rest other : List Lexeme) → c.one ≡ t ∷ rest → colon_comes false (t ∷ rest) ≡ false → colon_comes false (t ∷ other) ≡ true → SeesName t rest → SeesName t other → (w : Lexeme) × (ws : List Lexeme) × (c.one ≡ w ∷ ws) × (says_word (codes ",") w.saying ≡ true)
         go t rest other is a b (a_comma _ k _) s = (t, rest, is, k)
         go t rest other is a b (a_colon _ e) s = absurd (clash e a)
         go t rest other is a b (another _ _ _) (another _ _ e) = absurd (clash b e)
@@ -218,7 +218,7 @@ module _ (c : Cut) where
         go t rest other is a b (another _ k _) (a_comma _ k2 _) = absurd (clash k2 k)
     comma_next (w ∷ ws) one two = go (sees w (ws ++ c.one)) (sees w (ws ++ c.two))
       where
-        go : SeesName w (ws ++ c.one) → SeesName w (ws ++ c.two) → (u : Lexeme) × (us : List Lexeme) × (w ∷ ws ++ c.one ≡ u ∷ us) × (is_word (codes ",") u.saying ≡ true)
+        go : SeesName w (ws ++ c.one) → SeesName w (ws ++ c.two) → (u : Lexeme) × (us : List Lexeme) × (w ∷ ws ++ c.one ≡ u ∷ us) × (says_word (codes ",") u.saying ≡ true)
         go (a_comma _ k _) s = (w, ws ++ c.one, refl, k)
         go (a_colon _ e) s = absurd (clash e one)
         go (another _ _ _) (another _ _ e) = absurd (clash two e)
@@ -235,7 +235,7 @@ module _ (c : Cut) where
       abbrev Onwards : ℕ → (List ExprTree → Reader B) → ExprTree → Reader B
       Onwards n k y r = more_from behind_comma (Conditions low) n y r and_then λ xs. k (y ∷ xs)
 
-      another_condition : (n : ℕ) (k : List ExprTree → Reader B) (x : ExprTree) (u : Lexeme) (ls : List Lexeme) → is_word (codes ",") u.saying ≡ true
+      another_condition : (n : ℕ) (k : List ExprTree → Reader B) (x : ExprTree) (u : Lexeme) (ls : List Lexeme) → says_word (codes ",") u.saying ≡ true
           → (more_from behind_comma (Conditions low) (suc n) x (u ∷ ls) and_then k) ≡ (low.expr implications ls and_then Onwards n k)
       unfolding more_from
       another_condition n k x u ls e =
@@ -273,7 +273,7 @@ module _ (c : Cut) where
       conditions_to_colon some (suc n) k k2 alike x (u ∷ []) few one two =
           let w = comma_next (u ∷ []) one two in go (sees u c.one) (sees u c.two)
         where
-          past_name : is_word (codes ",") u.saying ≡ true → colon_comes true c.two ≡ true → length (left_by (more_from behind_comma (Conditions low) (suc n) x (u ∷ c.one) and_then k)) < length c.one
+          past_name : says_word (codes ",") u.saying ≡ true → colon_comes true c.two ≡ true → length (left_by (more_from behind_comma (Conditions low) (suc n) x (u ∷ c.one) and_then k)) < length c.one
           past_name is two_so =
               let f = first_of_both true two_so in
               let long : length c.one ≡ suc (length f.1) = ap length f.3 in
@@ -302,7 +302,7 @@ module _ (c : Cut) where
               subst (λ z. low.expr implications (v ∷ z) ≡ took (named v.place y) z) (sym w.2) (name_again some v w.0 w.1 y is w.3) in
               subst (λ z. length (left_by (z and_then Onwards n k)) < length c.one) (sym again) (on (named v.place y) (sym e ∙ a) (sym e2 ∙ b))
           taken (the_name y is e) (no_name other none) a b on = absurd (clash b none)
-          taken (no_name other none) (the_name y is e) a b on = absurd (clash (ap is_name is) other)
+          taken (no_name other none) (the_name y is e) a b on = absurd (clash (ap says_name is) other)
           taken (no_name other none) (no_name other2 none2) a b on = absurd (clash b none2)
 
           go : SeesName u (v ∷ front ++ c.one) → SeesName u (v ∷ front ++ c.two) → Further2 n k front → length (left_by (more_from behind_comma (Conditions low) (suc n) x (u ∷ v ∷ front ++ c.one) and_then k)) < length c.one
@@ -339,7 +339,7 @@ module _ (c : Cut) where
     abbrev ConditionsPast : List Lexeme → Type 0
     ConditionsPast ls = length (left_by (conditions_from low ls)) < length c.one
 
-    comma_sees : (u : Lexeme) (rest : List Lexeme) → is_word (codes ",") u.saying ≡ true → colon_comes false (u ∷ rest) ≡ colon_comes true rest
+    comma_sees : (u : Lexeme) (rest : List Lexeme) → says_word (codes ",") u.saying ≡ true → colon_comes false (u ∷ rest) ≡ colon_comes true rest
     comma_sees u rest is = go (sees u rest)
       where
         go : SeesName u rest → colon_comes false (u ∷ rest) ≡ colon_comes true rest
@@ -347,7 +347,7 @@ module _ (c : Cut) where
         go (a_colon k _) = absurd (clash is (no_comma u k))
         go (another _ k _) = absurd (clash is k)
 
-    conditions_past : 1 ≤ less → (u : Lexeme) (rest rest2 : List Lexeme) → is_word (codes ",") u.saying ≡ true → Cuts c rest rest2 → colon_comes true rest ≡ false → colon_comes true rest2 ≡ true → ConditionsPast (u ∷ rest)
+    conditions_past : 1 ≤ less → (u : Lexeme) (rest rest2 : List Lexeme) → says_word (codes ",") u.saying ≡ true → Cuts c rest rest2 → colon_comes true rest ≡ false → colon_comes true rest2 ≡ true → ConditionsPast (u ∷ rest)
     unfolding conditions_from
     conditions_past some u rest rest2 is (behind_cut p) a b =
         let first = truth (record { line = 0; column = 0 }) true in
@@ -372,10 +372,10 @@ module _ (c : Cut) where
         steady_then c (length ls) (word_from (codes ":") ls) (word_from (codes ":") ls2) _ _ (word_steady c (codes ":") ls ls2 s)
         (λ q b b2 le t. domain_made_steady c less low low2 good set_operations (λ d. (names, d)) b b2 t)
 
-    behind_colon : (names : List Name) (l : Lexeme) (ls : List Lexeme) → is_word (codes ":") l.saying ≡ true → Past ls → length (left_by (BehindNames low names (l ∷ ls))) ≤ length ls
+    behind_colon : (names : List Name) (l : Lexeme) (ls : List Lexeme) → says_word (codes ":") l.saying ≡ true → Past ls → length (left_by (BehindNames low names (l ∷ ls))) ≤ length ls
     unfolding word_from
     behind_colon names l ls is p =
-        subst (λ z. length (left_by {A = Generator} (chosen z (λ all. took l.place ls) (λ all. wrong all) (l ∷ ls) and_then λ _ next. low.domain set_operations next and_then λ d end. took (names, d) end)) ≤ length ls) (sym is)
+        subst (λ z. length (left_by {A = Generator} (either_reader z (λ all. took l.place ls) (λ all. wrong all) (l ∷ ls) and_then λ _ next. low.domain set_operations next and_then λ d end. took (names, d) end)) ≤ length ls) (sym is)
         (let st = domain_made_steady c less low low2 good set_operations (λ d. (names, d)) ls [] (behind_cut p) in st.short)
 
     generators_past : (rest rest2 : List Lexeme) → Cuts c rest rest2 → colon_comes true rest ≡ true → colon_comes true rest2 ≡ false → length (left_by (generator_from low rest)) < length c.one
@@ -401,7 +401,7 @@ module _ (c : Cut) where
           where
             next : SeesFirst v (f ++ c.one) → SeesFirst v (f ++ c.two) → length (left_by (generator_from low (v ∷ f ++ c.one))) < length c.one
             next (no_name _ none) s = absurd (clash one none)
-            next (the_name x is _) (no_name other _) = absurd (clash (ap is_name is) other)
+            next (the_name x is _) (no_name other _) = absurd (clash (ap says_name is) other)
             next (the_name x is k) (the_name y _ k2) =
                 subst (λ z. length (left_by z) < length c.one) (sym (named_generator x v (f ++ c.one) is))
                 (names_to_colon (length (f ++ c.one)) (λ xs. BehindNames low (x ∷ xs)) (λ xs. BehindNames low2 (x ∷ xs)) (λ xs. behind_names_steady (x ∷ xs)) (λ xs. behind_colon (x ∷ xs)) x f (omega arith) (sym k ∙ one) (sym k2 ∙ two))
@@ -410,7 +410,7 @@ module _ (c : Cut) where
     unfolding another_generator says
     generator_turn some last ls ls2 s = go (look c ls ls2 s)
       where
-        decided_by : (l : Lexeme) (rest : List Lexeme) (a b : Bool) → is_word (codes ",") l.saying ≡ a → colon_comes true rest ≡ b → another_generator last (l ∷ rest) ≡ kept (a && b) rest
+        decided_by : (l : Lexeme) (rest : List Lexeme) (a b : Bool) → says_word (codes ",") l.saying ≡ a → colon_comes true rest ≡ b → another_generator last (l ∷ rest) ≡ kept (a && b) rest
         decided_by l rest a b e k = ap (λ z. kept (z && colon_comes true rest) rest) e ∙ ap (λ z. kept (a && z) rest) k
 
         few_conditions : (z : List Lexeme) → Past z → ConditionsPast z
@@ -418,23 +418,23 @@ module _ (c : Cut) where
 
         behind_it : (z z2 : List Lexeme) → Past z → Turns c another_generator (λ last. generator_from low) (λ last. generator_from low2) ConditionsPast last z z2
         behind_it [] z2 p = ends_alone refl (few_conditions [] p)
-        behind_it (l ∷ rest) z2 p = by (is_word (codes ",") l.saying) (colon_comes true rest) refl refl
+        behind_it (l ∷ rest) z2 p = by (says_word (codes ",") l.saying) (colon_comes true rest) refl refl
           where
-            by : (a b : Bool) → is_word (codes ",") l.saying ≡ a → colon_comes true rest ≡ b → Turns c another_generator (λ last. generator_from low) (λ last. generator_from low2) ConditionsPast last (l ∷ rest) z2
+            by : (a b : Bool) → says_word (codes ",") l.saying ≡ a → colon_comes true rest ≡ b → Turns c another_generator (λ last. generator_from low) (λ last. generator_from low2) ConditionsPast last (l ∷ rest) z2
             by true true e k = let st = generator_steady c less low low2 good rest [] (behind_cut (omega (arith, p))) in goes_alone rest (decided_by l rest true true e k) (omega (arith, st.short, p)) (omega (arith, st.short))
             by true false e k = ends_alone (decided_by l rest true false e k) (few_conditions (l ∷ rest) p)
             by false b e k = ends_alone (decided_by l rest false b e k) (few_conditions (l ∷ rest) p)
 
         at_its_end : (z : List Lexeme) → z ≡ c.one → Turns c another_generator (λ last. generator_from low) (λ last. generator_from low2) ConditionsPast last z []
         at_its_end [] e = both_end refl refl
-        at_its_end (l ∷ rest) e = let long : suc (length rest) ≡ length c.one = ap length e in by long (is_word (codes ",") l.saying) (colon_comes true rest) refl refl
+        at_its_end (l ∷ rest) e = let long : suc (length rest) ≡ length c.one = ap length e in by long (says_word (codes ",") l.saying) (colon_comes true rest) refl refl
           where
-            by : suc (length rest) ≡ length c.one → (a b : Bool) → is_word (codes ",") l.saying ≡ a → colon_comes true rest ≡ b → Turns c another_generator (λ last. generator_from low) (λ last. generator_from low2) ConditionsPast last (l ∷ rest) []
+            by : suc (length rest) ≡ length c.one → (a b : Bool) → says_word (codes ",") l.saying ≡ a → colon_comes true rest ≡ b → Turns c another_generator (λ last. generator_from low) (λ last. generator_from low2) ConditionsPast last (l ∷ rest) []
             by long true true e k = let st = generator_steady c less low low2 good rest [] (behind_cut (omega (arith, long))) in goes_alone rest (decided_by l rest true true e k) (omega (arith, st.short, long)) (omega (arith, st.short))
             by long true false e k = both_end (decided_by l rest true false e k) refl
             by long false b e k = both_end (decided_by l rest false b e k) refl
 
-        before_it : (l : Lexeme) (rest rest2 : List Lexeme) → Cuts c rest rest2 → (a b b2 : Bool) → is_word (codes ",") l.saying ≡ a → colon_comes true rest ≡ b → colon_comes true rest2 ≡ b2
+        before_it : (l : Lexeme) (rest rest2 : List Lexeme) → Cuts c rest rest2 → (a b b2 : Bool) → says_word (codes ",") l.saying ≡ a → colon_comes true rest ≡ b → colon_comes true rest2 ≡ b2
             → Turns c another_generator (λ last. generator_from low) (λ last. generator_from low2) ConditionsPast last (l ∷ rest) (l ∷ rest2)
         before_it l rest rest2 t false b b2 e k k2 = both_end (decided_by l rest false b e k) (decided_by l rest2 false b2 e k2)
         before_it l rest rest2 t true true true e k k2 = both_go (length rest) rest rest2 (decided_by l rest true true e k) (decided_by l rest2 true true e k2) refl (generator_steady c less low low2 good rest rest2 t)
@@ -448,7 +448,7 @@ module _ (c : Cut) where
         go (head l rest rest2 e e2 t) =
             subst (λ z. Turns c another_generator (λ last. generator_from low) (λ last. generator_from low2) ConditionsPast last z ls2) (sym e)
             (subst (λ z. Turns c another_generator (λ last. generator_from low) (λ last. generator_from low2) ConditionsPast last (l ∷ rest) z) (sym e2)
-            (before_it l rest rest2 t (is_word (codes ",") l.saying) (colon_comes true rest) (colon_comes true rest2) refl refl refl))
+            (before_it l rest rest2 t (says_word (codes ",") l.saying) (colon_comes true rest) (colon_comes true rest2) refl refl refl))
         go (at_end inexact e e2) = subst (λ z. Turns c another_generator (λ last. generator_from low) (λ last. generator_from low2) ConditionsPast last ls z) (sym e2) (at_its_end ls e)
 
     -- generators, conditions and what is read behind them

@@ -9,7 +9,7 @@ use Rattle.ep_tree.specs.Trees.{DomainTree, End, bool, end_at, group_domain, int
 use Rattle.ep_tree.specs.declared.syntax.SetOp.{SetOp}
 use Rattle.ep_parse_expr.specs.DomainReaders.{DomainOpening, RangeRead, a_bool, a_domain_group, an_int, another_index_domain, another_operation, any_domain_from, as_domains, as_ranges, domain_at_level, domain_begun_from, domain_open_from, domain_openings, domain_part_from, end_from, index_domain_behind, matrix_follows, matrix_from, matrix_head_from, of_number, of_span, operations_from, place_next, range_from, ranges_from, set_words}
 use Rattle.ep_parse_expr.specs.OperandReaders.{Lower, expression_next, if_low, opens}
-use Rattle.ep_parse_expr.specs.Readers.{Read, Reader, behind, chosen, high, is_word, kept, looked_up, meant_by, next_in, says, took, word_from, wrong, ◌and_then◌}
+use Rattle.ep_parse_expr.specs.Readers.{Read, Reader, behind, either_reader, high, says_word, kept, looked_up, meant_by, next_in, says, took, word_from, wrong, ◌and_then◌}
 use Rattle.ep_parse_expr.proofs.Steady.{Cut, Cuts, Decides, Look, Steady, Tests, at_end, behind_cut, behind_too, decided, gone, head, high_alone, inside, left_by, look, neither, next_word_steady, steady_then, took_steady, too_high, wider, word_steady, wrong_steady}
 use Rattle.ep_parse_expr.proofs.SteadyLists.{Turns, both_end, both_go, ends_alone, goes_alone, grown_steady, others_steady}
 use Rattle.ep_parse_expr.proofs.SteadyOperators.{Higher, SaysSo, behind_less, below_tests, both_say, neither_says, says_past, says_so, silent_past, steps_operated}
@@ -26,7 +26,7 @@ module _ (c : Cut) (less : ℕ) (low low2 : Lower) (good : AreSteady c less low 
   unfolding end_from expression_next
   end_steady first ls ls2 s = go (look c ls ls2 s)
     where
-      both : (b : Bool) → Steady c (length ls) (chosen b (WithEnd low first) (λ all. took (of_span first no_end) all) ls) (chosen b (WithEnd low2 first) (λ all. took (of_span first no_end) all) ls2)
+      both : (b : Bool) → Steady c (length ls) (either_reader b (WithEnd low first) (λ all. took (of_span first no_end) all) ls) (either_reader b (WithEnd low2 first) (λ all. took (of_span first no_end) all) ls2)
       both true = made_steady c less low low2 good implications (λ e. of_span first (end_at e)) ls ls2 s
       both false = took_steady c (of_span first no_end) ls ls2 s
 
@@ -44,21 +44,21 @@ module _ (c : Cut) (less : ℕ) (low low2 : Lower) (good : AreSteady c less low 
               record { short = omega (arith, st.short); stops = behind_too (omega (arith, st.short, lt)) }
 
       at_last : (z : List Lexeme) → z ≡ c.one → c.exact ≡ false → Cuts c z []
-          → Steady c (length z) (chosen (expression_next z) (WithEnd low first) (λ all. took (of_span first no_end) all) z) (took (of_span first no_end) [])
+          → Steady c (length z) (either_reader (expression_next z) (WithEnd low first) (λ all. took (of_span first no_end) all) z) (took (of_span first no_end) [])
       at_last [] e inexact s = took_steady c (of_span first no_end) [] [] s
       at_last (l ∷ rest) e inexact s = let long : suc (length rest) ≡ length c.one = ap length e in by long (opens l.saying) refl
         where
-          by : suc (length rest) ≡ length c.one → (b : Bool) → opens l.saying ≡ b → Steady c (length (l ∷ rest)) (chosen b (WithEnd low first) (λ all. took (of_span first no_end) all) (l ∷ rest)) (took (of_span first no_end) [])
+          by : suc (length rest) ≡ length c.one → (b : Bool) → opens l.saying ≡ b → Steady c (length (l ∷ rest)) (either_reader b (WithEnd low first) (λ all. took (of_span first no_end) all) (l ∷ rest)) (took (of_span first no_end) [])
           by long true o = alone l rest (took (of_span first no_end) []) inexact (omega (arith, long)) o
           by long false o = took_steady c (of_span first no_end) (l ∷ rest) [] s
 
-      go : Look c ls ls2 → Steady c (length ls) (chosen (expression_next ls) (WithEnd low first) (λ all. took (of_span first no_end) all) ls) (chosen (expression_next ls2) (WithEnd low2 first) (λ all. took (of_span first no_end) all) ls2)
+      go : Look c ls ls2 → Steady c (length ls) (either_reader (expression_next ls) (WithEnd low first) (λ all. took (of_span first no_end) all) ls) (either_reader (expression_next ls2) (WithEnd low2 first) (λ all. took (of_span first no_end) all) ls2)
       go (gone q) = let st = both (expression_next ls) in record { short = st.short; stops = behind_too (omega (arith, st.short, q)) }
       go (head l rest rest2 e e2 u) =
           let same : expression_next ls2 ≡ expression_next ls = ap expression_next e2 ∙ sym (ap expression_next e) in
-          subst (λ z. Steady c (length ls) (chosen (expression_next ls) (WithEnd low first) (λ all. took (of_span first no_end) all) ls) (chosen z (WithEnd low2 first) (λ all. took (of_span first no_end) all) ls2)) (sym same) (both (expression_next ls))
+          subst (λ z. Steady c (length ls) (either_reader (expression_next ls) (WithEnd low first) (λ all. took (of_span first no_end) all) ls) (either_reader z (WithEnd low2 first) (λ all. took (of_span first no_end) all) ls2)) (sym same) (both (expression_next ls))
       go (at_end inexact e e2) =
-          subst (λ z. Steady c (length ls) (chosen (expression_next ls) (WithEnd low first) (λ all. took (of_span first no_end) all) ls) (chosen (expression_next z) (WithEnd low2 first) (λ all. took (of_span first no_end) all) z)) (sym e2)
+          subst (λ z. Steady c (length ls) (either_reader (expression_next ls) (WithEnd low first) (λ all. took (of_span first no_end) all) ls) (either_reader (expression_next z) (WithEnd low2 first) (λ all. took (of_span first no_end) all) z)) (sym e2)
           (at_last ls e inexact (subst (λ z. Cuts c ls z) e2 s))
 
   range_steady : (ls ls2 : List Lexeme) → Cuts c ls ls2 → Steady c (length ls) (range_from low ls) (range_from low2 ls2)
@@ -139,21 +139,21 @@ module _ (c : Cut) (less : ℕ) (low low2 : Lower) (good : AreSteady c less low 
   word_said : (w : List ℕ) (ls : List Lexeme) → says w ls ≡ true → length (left_by (word_from w ls)) ≤ length (behind ls)
   unfolding says word_from
   word_said w [] e = absurd cc
-  word_said w (l ∷ ls) e = subst (λ z. length (left_by (chosen z (λ all. took l.place ls) (λ all. wrong all) (l ∷ ls))) ≤ length ls) (sym e) (omega arith)
+  word_said w (l ∷ ls) e = subst (λ z. length (left_by (either_reader z (λ all. took l.place ls) (λ all. wrong all) (l ∷ ls))) ≤ length ls) (sym e) (omega arith)
 
-  behind_closing : (l : Lexeme) (rest : List Lexeme) → is_word (codes "]") l.saying ≡ true → Behind (l ∷ rest) ≡ word_from (codes "of") rest
+  behind_closing : (l : Lexeme) (rest : List Lexeme) → says_word (codes "]") l.saying ≡ true → Behind (l ∷ rest) ≡ word_from (codes "of") rest
   unfolding word_from
-  behind_closing l rest e = ap (λ z. chosen z (λ all. took l.place rest) (λ all. wrong all) (l ∷ rest) and_then λ _ of_word. word_from (codes "of") of_word) e
+  behind_closing l rest e = ap (λ z. either_reader z (λ all. took l.place rest) (λ all. wrong all) (l ∷ rest) and_then λ _ of_word. word_from (codes "of") of_word) e
 
   few_behind : (ls : List Lexeme) → length ls < length c.one → EndsPast ls
   few_behind ls p =
       let st = steady_then c (length ls) (word_from (codes "]") ls) (word_from (codes "]") []) (λ _ of_word. word_from (codes "of") of_word) (λ _ of_word. word_from (codes "of") of_word) (word_steady c (codes "]") ls [] (behind_cut p)) (λ q a a2 le t. word_steady c (codes "of") a a2 t) in
       omega (arith, st.short, p)
 
-  closes_of : (l : Lexeme) (rest : List Lexeme) → is_word (codes "]") l.saying ≡ true → says (codes "of") rest ≡ true → length (behind rest) < length c.one → EndsPast (l ∷ rest)
+  closes_of : (l : Lexeme) (rest : List Lexeme) → says_word (codes "]") l.saying ≡ true → says (codes "of") rest ≡ true → length (behind rest) < length c.one → EndsPast (l ∷ rest)
   closes_of l rest e k p = subst (λ z. length (left_by z) < length c.one) (sym (behind_closing l rest e)) (let le = word_said (codes "of") rest k in omega (arith, le, p))
 
-  closes_only : (l : Lexeme) (rest : List Lexeme) → is_word (codes "]") l.saying ≡ true → length rest < length c.one → EndsPast (l ∷ rest)
+  closes_only : (l : Lexeme) (rest : List Lexeme) → says_word (codes "]") l.saying ≡ true → length rest < length c.one → EndsPast (l ∷ rest)
   closes_only l rest e p = subst (λ z. length (left_by z) < length c.one) (sym (behind_closing l rest e)) (let st = word_steady c (codes "of") rest [] (behind_cut p) in omega (arith, st.short, p))
 
   abbrev DomainTurns : DomainTree → List Lexeme → List Lexeme → Type 0
@@ -163,18 +163,18 @@ module _ (c : Cut) (less : ℕ) (low low2 : Lower) (good : AreSteady c less low 
   abbrev Follows : List Lexeme → Bool
   Follows rest = says (codes "of") rest && says (codes "matrix") (behind rest)
 
-  goes_by : (last : DomainTree) (l : Lexeme) (rest : List Lexeme) (a b d : Bool) → is_word (codes ",") l.saying ≡ a → is_word (codes "]") l.saying ≡ b → Follows rest ≡ d
+  goes_by : (last : DomainTree) (l : Lexeme) (rest : List Lexeme) (a b d : Bool) → says_word (codes ",") l.saying ≡ a → says_word (codes "]") l.saying ≡ b → Follows rest ≡ d
       → another_index_domain last (l ∷ rest) ≡ kept (a || (b && d)) (l ∷ rest)
   unfolding another_index_domain matrix_follows says
   goes_by last l rest a b d e k h =
-      ap (λ z. kept (z || (is_word (codes "]") l.saying && Follows rest)) (l ∷ rest)) e ∙ ap (λ z. kept (a || (z && Follows rest)) (l ∷ rest)) k ∙ ap (λ z. kept (a || (b && z)) (l ∷ rest)) h
+      ap (λ z. kept (z || (says_word (codes "]") l.saying && Follows rest)) (l ∷ rest)) e ∙ ap (λ z. kept (a || (z && Follows rest)) (l ∷ rest)) k ∙ ap (λ z. kept (a || (b && z)) (l ∷ rest)) h
 
-  item_of : (lower : Lower) (l : Lexeme) (rest : List Lexeme) (a : Bool) → is_word (codes ",") l.saying ≡ a
-      → index_domain_behind lower (l ∷ rest) ≡ chosen a (λ all. lower.domain set_operations (behind all)) (λ all. InMatrix lower (behind (behind (behind all)))) (l ∷ rest)
+  item_of : (lower : Lower) (l : Lexeme) (rest : List Lexeme) (a : Bool) → says_word (codes ",") l.saying ≡ a
+      → index_domain_behind lower (l ∷ rest) ≡ either_reader a (λ all. lower.domain set_operations (behind all)) (λ all. InMatrix lower (behind (behind (behind all)))) (l ∷ rest)
   unfolding index_domain_behind says
-  item_of lower l rest a e = ap (λ z. chosen z (λ all. lower.domain set_operations (behind all)) (λ all. InMatrix lower (behind (behind (behind all)))) (l ∷ rest)) e
+  item_of lower l rest a e = ap (λ z. either_reader z (λ all. lower.domain set_operations (behind all)) (λ all. InMatrix lower (behind (behind (behind all)))) (l ∷ rest)) e
 
-  item_steady : (last : DomainTree) (l : Lexeme) (rest rest2 : List Lexeme) (a : Bool) → is_word (codes ",") l.saying ≡ a
+  item_steady : (last : DomainTree) (l : Lexeme) (rest rest2 : List Lexeme) (a : Bool) → says_word (codes ",") l.saying ≡ a
       → (a ≡ true → Cuts c rest rest2) → (a ≡ false → Cuts c (behind (behind rest)) (behind (behind rest2))) → Steady c (length rest) (index_domain_behind low (l ∷ rest)) (index_domain_behind low2 (l ∷ rest2))
   item_steady last l rest rest2 true e s t =
       subst (λ z. Steady c (length rest) z (index_domain_behind low2 (l ∷ rest2))) (sym (item_of low l rest true e))
@@ -187,7 +187,7 @@ module _ (c : Cut) (less : ℕ) (low low2 : Lower) (good : AreSteady c less low 
       (wider c (length (behind (behind rest))) (length rest) _ _ (omega (arith, one, two)) (in_matrix_steady (behind (behind rest)) (behind (behind rest2)) (t refl))))
 
   -- where the item is behind the cut
-  goes_past : (last : DomainTree) (l : Lexeme) (rest : List Lexeme) (z2 : List Lexeme) (a b d : Bool) → is_word (codes ",") l.saying ≡ a → is_word (codes "]") l.saying ≡ b → Follows rest ≡ d
+  goes_past : (last : DomainTree) (l : Lexeme) (rest : List Lexeme) (z2 : List Lexeme) (a b d : Bool) → says_word (codes ",") l.saying ≡ a → says_word (codes "]") l.saying ≡ b → Follows rest ≡ d
       → (a || (b && d)) ≡ true → (a ≡ true → length rest < length c.one) → (a ≡ false → length (behind (behind rest)) < length c.one) → DomainTurns last (l ∷ rest) z2
   goes_past last l rest z2 true b d e k h on p q =
       let st = good.domain set_operations rest [] (behind_cut (p refl)) in
@@ -206,12 +206,12 @@ module _ (c : Cut) (less : ℕ) (low low2 : Lower) (good : AreSteady c less low 
 
   behind_it : (last : DomainTree) (z z2 : List Lexeme) → length z < length c.one → DomainTurns last z z2
   behind_it last [] z2 p = ends_alone (never_on last) (few_behind [] p)
-  behind_it last (l ∷ rest) z2 p = by (is_word (codes ",") l.saying) (is_word (codes "]") l.saying) (Follows rest) refl refl refl
+  behind_it last (l ∷ rest) z2 p = by (says_word (codes ",") l.saying) (says_word (codes "]") l.saying) (Follows rest) refl refl refl
     where
       still : length (behind (behind rest)) < length c.one
       still = let one = behind_less c rest in let two = behind_less c (behind rest) in omega (arith, p, one, two)
 
-      by : (a b d : Bool) → is_word (codes ",") l.saying ≡ a → is_word (codes "]") l.saying ≡ b → Follows rest ≡ d → DomainTurns last (l ∷ rest) z2
+      by : (a b d : Bool) → says_word (codes ",") l.saying ≡ a → says_word (codes "]") l.saying ≡ b → Follows rest ≡ d → DomainTurns last (l ∷ rest) z2
       by true b d e k h = goes_past last l rest z2 true b d e k h refl (λ _. omega (arith, p)) (λ _. still)
       by false true true e k h = goes_past last l rest z2 false true true e k h refl (λ _. omega (arith, p)) (λ _. still)
       by false true false e k h = ends_alone (goes_by last l rest false true false e k h) (few_behind (l ∷ rest) p)
@@ -219,12 +219,12 @@ module _ (c : Cut) (less : ℕ) (low low2 : Lower) (good : AreSteady c less low 
 
   at_its_end : (last : DomainTree) (z : List Lexeme) → z ≡ c.one → DomainTurns last z []
   at_its_end last [] e = both_end (never_on last) (never_on last)
-  at_its_end last (l ∷ rest) e = let long : suc (length rest) ≡ length c.one = ap length e in by long (is_word (codes ",") l.saying) (is_word (codes "]") l.saying) (Follows rest) refl refl refl
+  at_its_end last (l ∷ rest) e = let long : suc (length rest) ≡ length c.one = ap length e in by long (says_word (codes ",") l.saying) (says_word (codes "]") l.saying) (Follows rest) refl refl refl
     where
       still : suc (length rest) ≡ length c.one → length (behind (behind rest)) < length c.one
       still long = let one = behind_less c rest in let two = behind_less c (behind rest) in omega (arith, long, one, two)
 
-      by : suc (length rest) ≡ length c.one → (a b d : Bool) → is_word (codes ",") l.saying ≡ a → is_word (codes "]") l.saying ≡ b → Follows rest ≡ d → DomainTurns last (l ∷ rest) []
+      by : suc (length rest) ≡ length c.one → (a b d : Bool) → says_word (codes ",") l.saying ≡ a → says_word (codes "]") l.saying ≡ b → Follows rest ≡ d → DomainTurns last (l ∷ rest) []
       by long true b d e k h = goes_past last l rest [] true b d e k h refl (λ _. omega (arith, long)) (λ _. still long)
       by long false true true e k h = goes_past last l rest [] false true true e k h refl (λ _. omega (arith, long)) (λ _. still long)
       by long false true false e k h = both_end (goes_by last l rest false true false e k h) (never_on last)
@@ -239,7 +239,7 @@ module _ (c : Cut) (less : ℕ) (low low2 : Lower) (good : AreSteady c less low 
   no_matrix : (rest : List Lexeme) → says (codes "of") rest ≡ true → says (codes "matrix") (behind rest) ≡ false → Follows rest ≡ false
   no_matrix rest e k = ap (λ z. z && says (codes "matrix") (behind rest)) e ∙ k
 
-  closing_turn : (last : DomainTree) (l : Lexeme) (rest rest2 : List Lexeme) → is_word (codes ",") l.saying ≡ false → is_word (codes "]") l.saying ≡ true → SaysSo c (codes "of") rest rest2 → DomainTurns last (l ∷ rest) (l ∷ rest2)
+  closing_turn : (last : DomainTree) (l : Lexeme) (rest rest2 : List Lexeme) → says_word (codes ",") l.saying ≡ false → says_word (codes "]") l.saying ≡ true → SaysSo c (codes "of") rest rest2 → DomainTurns last (l ∷ rest) (l ∷ rest2)
   closing_turn last l rest rest2 e k (both_say x x2 u) = by (says_so c (codes "matrix") (behind rest) (behind rest2) u)
     where
       by : SaysSo c (codes "matrix") (behind rest) (behind rest2) → DomainTurns last (l ∷ rest) (l ∷ rest2)
@@ -257,7 +257,7 @@ module _ (c : Cut) (less : ℕ) (low low2 : Lower) (good : AreSteady c less low 
       by false y = ends_alone (goes_by last l rest false true false e k (no_matrix rest x y)) (closes_of l rest k x p)
   closing_turn last l rest rest2 e k (silent_past x p) = ends_alone (goes_by last l rest false true false e k (no_of rest x)) (closes_only l rest k p)
 
-  before_it : (last : DomainTree) (l : Lexeme) (rest rest2 : List Lexeme) → Cuts c rest rest2 → (a b : Bool) → is_word (codes ",") l.saying ≡ a → is_word (codes "]") l.saying ≡ b → DomainTurns last (l ∷ rest) (l ∷ rest2)
+  before_it : (last : DomainTree) (l : Lexeme) (rest rest2 : List Lexeme) → Cuts c rest rest2 → (a b : Bool) → says_word (codes ",") l.saying ≡ a → says_word (codes "]") l.saying ≡ b → DomainTurns last (l ∷ rest) (l ∷ rest2)
   before_it last l rest rest2 s true b e k =
       both_go (length rest) (l ∷ rest) (l ∷ rest2) (goes_by last l rest true b (Follows rest) e k refl) (goes_by last l rest2 true b (Follows rest2) e k refl) refl
       (item_steady last l rest rest2 true e (λ _. s) (λ wrong. let no : true ≡ false = wrong in absurd cc))
@@ -270,7 +270,7 @@ module _ (c : Cut) (less : ℕ) (low low2 : Lower) (good : AreSteady c less low 
       go : Look c ls ls2 → DomainTurns last ls ls2
       go (gone p) = behind_it last ls ls2 p
       go (head l rest rest2 e e2 t) =
-          subst (λ z. DomainTurns last z ls2) (sym e) (subst (λ z. DomainTurns last (l ∷ rest) z) (sym e2) (before_it last l rest rest2 t (is_word (codes ",") l.saying) (is_word (codes "]") l.saying) refl refl))
+          subst (λ z. DomainTurns last z ls2) (sym e) (subst (λ z. DomainTurns last (l ∷ rest) z) (sym e2) (before_it last l rest rest2 t (says_word (codes ",") l.saying) (says_word (codes "]") l.saying) refl refl))
       go (at_end inexact e e2) = subst (λ z. DomainTurns last ls z) (sym e2) (at_its_end last ls e)
 
   -- what is read behind the index domains
@@ -324,10 +324,10 @@ module _ (c : Cut) (less : ℕ) (low low2 : Lower) (good : AreSteady c less low 
     unfolding any_domain_from says
     any_steady ls ls2 s =
         decided c (any_domain_from most low) (any_domain_from most2 low2) (operations_from most low) (operations_from most2 low2) refl refl
-        (λ l rest rest2 t. go l rest rest2 t (is_word (codes "matrix") l.saying) (nat_lt 1 most) (nat_lt 1 most2) (below_tests c 1 most most2 higher)) ls ls2 s (operations_steady ls ls2 s)
+        (λ l rest rest2 t. go l rest rest2 t (says_word (codes "matrix") l.saying) (nat_lt 1 most) (nat_lt 1 most2) (below_tests c 1 most most2 higher)) ls ls2 s (operations_steady ls ls2 s)
       where
         go : (l : Lexeme) (rest rest2 : List Lexeme) → Cuts c rest rest2 → (b t t2 : Bool) → Tests c t t2
-            → Decides c (length rest) (chosen b (if_low t (λ all. matrix_from low (place_next all) (behind all))) (operations_from most low) (l ∷ rest)) (chosen b (if_low t2 (λ all. matrix_from low2 (place_next all) (behind all))) (operations_from most2 low2) (l ∷ rest2))
+            → Decides c (length rest) (either_reader b (if_low t (λ all. matrix_from low (place_next all) (behind all))) (operations_from most low) (l ∷ rest)) (either_reader b (if_low t2 (λ all. matrix_from low2 (place_next all) (behind all))) (operations_from most2 low2) (l ∷ rest2))
             (operations_from most low (l ∷ rest)) (operations_from most2 low2 (l ∷ rest2)) (l ∷ rest) (l ∷ rest2)
         go l rest rest2 u false t t2 tests = neither refl refl
         go l rest rest2 u true true true tests = inside (matrix_steady l.place rest rest2 u)

@@ -9,7 +9,7 @@ use Rattle.ep_tree.specs.Trees.{ExprTree, absolute, comprehension, group, litera
 use Rattle.ep_tree.specs.declared.syntax.BinaryOp.{BinaryOp}
 use Rattle.ep_tree.specs.declared.syntax.FoldOp.{FoldOp}
 use Rattle.ep_parse_expr.specs.OperandReaders.{Lower, Opening, a_bar, a_bracket, a_greatest, a_group, a_least, a_minus, a_negation, a_quantifier, a_sum, a_table, a_truth, as_generators, as_trees, begun_from, bracket_from, closed_by, comprehension_from, expression_next, if_low, is_there, list_end, literal_from, of_one, of_three, one_part, open_from, opened_from, openings, operand_from, opens}
-use Rattle.ep_parse_expr.specs.Readers.{Read, Reader, behind, chosen, high, looked_up, says, took, wrong, ◌and_then◌}
+use Rattle.ep_parse_expr.specs.Readers.{Read, Reader, behind, either_reader, high, looked_up, says, took, wrong, ◌and_then◌}
 use Rattle.ep_parse_expr.proofs.Again.{AreComplete, lexeme}
 use Rattle.ep_parse_expr.proofs.AgainOperands.{some_expr}
 use Rattle.ep_parse_expr.proofs.SoundParts.{AreSound}
@@ -39,7 +39,7 @@ module _ (c : Cut) (less : ℕ) (low low2 : Lower) (complete : AreComplete less 
 
   -- a list or a comprehension behind its first expression
   abbrev BehindFirst : Bool → Lower → Place → ExprTree → Reader ExprTree
-  BehindFirst t lower p e rest = chosen (says (codes "|") rest) (λ next. comprehension_from t lower p e (behind next)) (literal_from t lower p e) rest
+  BehindFirst t lower p e rest = either_reader (says (codes "|") rest) (λ next. comprehension_from t lower p e (behind next)) (literal_from t lower p e) rest
 
   abbrev Listed : Bool → Lower → Place → Reader ExprTree
   Listed t lower p ls = lower.expr implications ls and_then BehindFirst t lower p
@@ -72,26 +72,26 @@ module _ (c : Cut) (less : ℕ) (low low2 : Lower) (complete : AreComplete less 
   unfolding bracket_from expression_next
   bracket_steady t t2 tests p ls ls2 s = go (look c ls ls2 s)
     where
-      both : (b : Bool) → Steady c (length ls) (chosen b (Listed t low p) (list_end t low (literal p no_trees)) ls) (chosen b (Listed t2 low2 p) (list_end t2 low2 (literal p no_trees)) ls2)
+      both : (b : Bool) → Steady c (length ls) (either_reader b (Listed t low p) (list_end t low (literal p no_trees)) ls) (either_reader b (Listed t2 low2 p) (list_end t2 low2 (literal p no_trees)) ls2)
       both true = listed_steady t t2 tests p ls ls2 s
       both false = list_end_steady c less low low2 good t t2 tests (literal p no_trees) ls ls2 s
 
       at_last : (z : List Lexeme) → z ≡ c.one → c.exact ≡ false → Cuts c z []
-          → Steady c (length z) (chosen (expression_next z) (Listed t low p) (list_end t low (literal p no_trees)) z) (list_end t2 low2 (literal p no_trees) [])
+          → Steady c (length z) (either_reader (expression_next z) (Listed t low p) (list_end t low (literal p no_trees)) z) (list_end t2 low2 (literal p no_trees) [])
       at_last [] e inexact s = list_end_steady c less low low2 good t t2 tests (literal p no_trees) [] [] s
       at_last (l ∷ rest) e inexact s = let long : suc (length rest) ≡ length c.one = ap length e in by long (opens l.saying) refl
         where
-          by : suc (length rest) ≡ length c.one → (b : Bool) → opens l.saying ≡ b → Steady c (length (l ∷ rest)) (chosen b (Listed t low p) (list_end t low (literal p no_trees)) (l ∷ rest)) (list_end t2 low2 (literal p no_trees) [])
+          by : suc (length rest) ≡ length c.one → (b : Bool) → opens l.saying ≡ b → Steady c (length (l ∷ rest)) (either_reader b (Listed t low p) (list_end t low (literal p no_trees)) (l ∷ rest)) (list_end t2 low2 (literal p no_trees) [])
           by long true o = listed_alone t t2 tests p l rest (list_end t2 low2 (literal p no_trees) []) inexact (omega (arith, long)) o
           by long false o = list_end_steady c less low low2 good t t2 tests (literal p no_trees) (l ∷ rest) [] s
 
-      go : Look c ls ls2 → Steady c (length ls) (chosen (expression_next ls) (Listed t low p) (list_end t low (literal p no_trees)) ls) (chosen (expression_next ls2) (Listed t2 low2 p) (list_end t2 low2 (literal p no_trees)) ls2)
+      go : Look c ls ls2 → Steady c (length ls) (either_reader (expression_next ls) (Listed t low p) (list_end t low (literal p no_trees)) ls) (either_reader (expression_next ls2) (Listed t2 low2 p) (list_end t2 low2 (literal p no_trees)) ls2)
       go (gone q) = let st = both (expression_next ls) in record { short = st.short; stops = behind_too (omega (arith, st.short, q)) }
       go (head l rest rest2 e e2 u) =
           let same : expression_next ls2 ≡ expression_next ls = ap expression_next e2 ∙ sym (ap expression_next e) in
-          subst (λ z. Steady c (length ls) (chosen (expression_next ls) (Listed t low p) (list_end t low (literal p no_trees)) ls) (chosen z (Listed t2 low2 p) (list_end t2 low2 (literal p no_trees)) ls2)) (sym same) (both (expression_next ls))
+          subst (λ z. Steady c (length ls) (either_reader (expression_next ls) (Listed t low p) (list_end t low (literal p no_trees)) ls) (either_reader z (Listed t2 low2 p) (list_end t2 low2 (literal p no_trees)) ls2)) (sym same) (both (expression_next ls))
       go (at_end inexact e e2) =
-          subst (λ z. Steady c (length ls) (chosen (expression_next ls) (Listed t low p) (list_end t low (literal p no_trees)) ls) (chosen (expression_next z) (Listed t2 low2 p) (list_end t2 low2 (literal p no_trees)) z)) (sym e2)
+          subst (λ z. Steady c (length ls) (either_reader (expression_next ls) (Listed t low p) (list_end t low (literal p no_trees)) ls) (either_reader (expression_next z) (Listed t2 low2 p) (list_end t2 low2 (literal p no_trees)) z)) (sym e2)
           (at_last ls e inexact (subst (λ z. Cuts c ls z) e2 s))
 
   -- ---- what a word opens

@@ -11,8 +11,8 @@ use Rattle.ep_tree.specs.Spelling.{Level, comparisons, conjunctions, disjunction
 use Rattle.ep_tree.specs.Trees.{ExprTree, ExprTrees, all_of, any_of, binary, chain, compare, in_domain, in_set, lex, place_of, read, term_and}
 use Rattle.ep_tree.specs.declared.syntax.BinaryOp.{BinaryOp}
 use Rattle.ep_parse_expr.specs.OperandReaders.{Lower, as_trees, call_from, closed_by, if_low, is_there, operand_from, opens}
-use Rattle.ep_parse_expr.specs.OperatorReaders.{Comparison, Index, another_binary, another_index, another_read, as_indices, as_terms, at_level, behind_operator, chain_from, compared_with, comparison_behind, comparison_from, comparison_words, conjunction_from, disjunction_from, implication_from, implication_words, index_from, of_lists, of_numbers, of_set, only_if, only_word, operated, part_from, parts_behind, parts_from, power_from, power_words, product_from, product_words, read_from, sign_words, takes_group, term_behind, term_from, terms_behind, terms_from, unary_from, with_operator}
-use Rattle.ep_parse_expr.specs.Readers.{Read, Reader, behind, chosen, found_or, grown, high, if_some, is_word, kept, kept_or, looked_up, meant_by, next_in, others_from, says, took, word_from, wrong, ◌and_then◌}
+use Rattle.ep_parse_expr.specs.OperatorReaders.{Comparison, ReadIndex, another_binary, another_index, another_read, as_indices, as_terms, at_level, behind_operator, chain_from, compared_with, comparison_behind, comparison_from, comparison_words, conjunction_from, disjunction_from, implication_from, implication_words, index_from, of_lists, of_numbers, of_set, only_if, only_word, operated, part_from, parts_behind, parts_from, power_from, power_words, product_from, product_words, read_from, sign_words, takes_group, term_behind, term_from, terms_behind, terms_from, unary_from, with_operator}
+use Rattle.ep_parse_expr.specs.Readers.{Read, Reader, behind, either_reader, found_or, grown, high, if_some, says_word, kept, kept_or, looked_up, meant_by, next_in, others_from, says, took, word_from, wrong, ◌and_then◌}
 use Rattle.ep_parse_expr.proofs.Again.{AreComplete, lexeme}
 use Rattle.ep_parse_expr.proofs.SoundParts.{AreSound}
 use Rattle.ep_parse_expr.proofs.Steady.{Cut, Cuts, Decides, Look, Steady, Tests, at_end, behind_cut, decided, gone, head, inside, left_by, look, neither, next_word_steady, steady_then, took_steady, too_high, wider}
@@ -79,13 +79,13 @@ module _ (c : Cut) where
       by_end true e k k2 = let long : length ls ≡ length c.one = ap length k in says_past e (let lt = behind_said w ls e in omega (arith, lt, long))
       by_end false e k k2 = neither_says e (ap (says w) k2)
 
-      by_head : (l : Lexeme) (rest rest2 : List Lexeme) → ls ≡ l ∷ rest → ls2 ≡ l ∷ rest2 → Cuts c rest rest2 → (b : Bool) → is_word w l.saying ≡ b → SaysSo w ls ls2
+      by_head : (l : Lexeme) (rest rest2 : List Lexeme) → ls ≡ l ∷ rest → ls2 ≡ l ∷ rest2 → Cuts c rest rest2 → (b : Bool) → says_word w l.saying ≡ b → SaysSo w ls ls2
       by_head l rest rest2 e e2 t true k = both_say (ap (says w) e ∙ k) (ap (says w) e2 ∙ k) (subst (λ z. Cuts c (behind z) (behind ls2)) (sym e) (subst (λ z. Cuts c rest (behind z)) (sym e2) t))
       by_head l rest rest2 e e2 t false k = neither_says (ap (says w) e ∙ k) (ap (says w) e2 ∙ k)
 
       go : Look c ls ls2 → SaysSo w ls ls2
       go (gone p) = by_one (says w ls) refl p
-      go (head l rest rest2 e e2 t) = by_head l rest rest2 e e2 t (is_word w l.saying) refl
+      go (head l rest rest2 e e2 t) = by_head l rest rest2 e e2 t (says_word w l.saying) refl
       go (at_end inexact e e2) = by_end (says w ls) refl e e2
 
   -- a list whose items begin with an operator of a table
@@ -156,47 +156,47 @@ module _ (c : Cut) where
     abbrev ClosesPast : List Lexeme → Type 0
     ClosesPast ls = (e : ExprTree) → length (left_by (closed_by (codes "]") e ls)) < length c.one
 
-    abbrev IndexTurns : Index → List Lexeme → List Lexeme → Type 0
+    abbrev IndexTurns : ReadIndex → List Lexeme → List Lexeme → Type 0
     IndexTurns last ls ls2 = Turns c another_index (λ last. index_from low last.0) (λ last. index_from low2 last.0) ClosesPast last ls ls2
 
     few_closed : (ls : List Lexeme) → length ls < length c.one → ClosesPast ls
     few_closed ls p e = let st = closed_steady c (codes "]") e ls [] (behind_cut p) in omega (arith, st.short, p)
 
-    closes : (l : Lexeme) (rest : List Lexeme) → is_word (codes "]") l.saying ≡ true → length rest < length c.one → ClosesPast (l ∷ rest)
+    closes : (l : Lexeme) (rest : List Lexeme) → says_word (codes "]") l.saying ≡ true → length rest < length c.one → ClosesPast (l ∷ rest)
     unfolding word_from
-    closes l rest is p e = subst (λ z. length (left_by {A = ExprTree} (chosen z (λ all. took l.place rest) (λ all. wrong all) (l ∷ rest) and_then λ q r. took e r)) < length c.one) (sym is) p
+    closes l rest is p e = subst (λ z. length (left_by {A = ExprTree} (either_reader z (λ all. took l.place rest) (λ all. wrong all) (l ∷ rest) and_then λ q r. took e r)) < length c.one) (sym is) p
 
-    index_by : (last : Index) (l : Lexeme) (rest : List Lexeme) (a d b : Bool) → is_word (codes ",") l.saying ≡ a → (not last.0 && is_word (codes "]") l.saying) ≡ d → says (codes "[") rest ≡ b
+    index_by : (last : ReadIndex) (l : Lexeme) (rest : List Lexeme) (a d b : Bool) → says_word (codes ",") l.saying ≡ a → (not last.0 && says_word (codes "]") l.saying) ≡ d → says (codes "[") rest ≡ b
         → another_index last (l ∷ rest) ≡ kept_or a rest (kept (d && b) (behind rest))
     unfolding another_index says
     index_by last l rest a d b e k h =
-        ap (λ z. kept_or z rest (kept (not last.0 && (is_word (codes "]") l.saying && says (codes "[") rest)) (behind rest))) e
-        ∙ ap (λ z. kept_or a rest (kept z (behind rest))) (and_grouped (not last.0) (is_word (codes "]") l.saying) (says (codes "[") rest) ∙ ap (λ z. z && says (codes "[") rest) k ∙ ap (λ z. d && z) h)
+        ap (λ z. kept_or z rest (kept (not last.0 && (says_word (codes "]") l.saying && says (codes "[") rest)) (behind rest))) e
+        ∙ ap (λ z. kept_or a rest (kept z (behind rest))) (and_grouped (not last.0) (says_word (codes "]") l.saying) (says (codes "[") rest) ∙ ap (λ z. z && says (codes "[") rest) k ∙ ap (λ z. d && z) h)
       where
         and_grouped : (x y z : Bool) → (x && (y && z)) ≡ ((x && y) && z)
         and_grouped true y z = refl
         and_grouped false y z = refl
 
-    is_closing : (last : Index) (l : Lexeme) → (not last.0 && is_word (codes "]") l.saying) ≡ true → is_word (codes "]") l.saying ≡ true
+    is_closing : (last : ReadIndex) (l : Lexeme) → (not last.0 && says_word (codes "]") l.saying) ≡ true → says_word (codes "]") l.saying ≡ true
     is_closing last l e = by (not last.0) e
       where
-        by : (x : Bool) → (x && is_word (codes "]") l.saying) ≡ true → is_word (codes "]") l.saying ≡ true
+        by : (x : Bool) → (x && says_word (codes "]") l.saying) ≡ true → says_word (codes "]") l.saying ≡ true
         by true e = e
         by false e = absurd cc
 
-    index_short : (last : Index) (ls : List Lexeme) → length ls < length c.one → length (left_by (index_from low last.0 ls)) ≤ length ls
+    index_short : (last : ReadIndex) (ls : List Lexeme) → length ls < length c.one → length (left_by (index_from low last.0 ls)) ≤ length ls
     index_short last ls p = let st = index_steady last.0 ls [] (behind_cut p) in st.short
 
-    behind_it : (last : Index) (z z2 : List Lexeme) → length z < length c.one → IndexTurns last z z2
+    behind_it : (last : ReadIndex) (z z2 : List Lexeme) → length z < length c.one → IndexTurns last z z2
     unfolding another_index says
     behind_it last [] z2 p = ends_alone (ap (λ b. kept b []) (never (not last.0))) (few_closed [] p)
       where
         never : (x : Bool) → (x && false) ≡ false
         never true = refl
         never false = refl
-    behind_it last (l ∷ rest) z2 p = by (is_word (codes ",") l.saying) (not last.0 && is_word (codes "]") l.saying) (says (codes "[") rest) refl refl refl
+    behind_it last (l ∷ rest) z2 p = by (says_word (codes ",") l.saying) (not last.0 && says_word (codes "]") l.saying) (says (codes "[") rest) refl refl refl
       where
-        by : (a d b : Bool) → is_word (codes ",") l.saying ≡ a → (not last.0 && is_word (codes "]") l.saying) ≡ d → says (codes "[") rest ≡ b → IndexTurns last (l ∷ rest) z2
+        by : (a d b : Bool) → says_word (codes ",") l.saying ≡ a → (not last.0 && says_word (codes "]") l.saying) ≡ d → says (codes "[") rest ≡ b → IndexTurns last (l ∷ rest) z2
         by true d b e k h = let le = index_short last rest (omega (arith, p)) in goes_alone rest (index_by last l rest true d b e k h) (omega (arith, le, p)) (omega (arith, le))
         by false true true e k h =
             let less_still = behind_less rest in
@@ -204,7 +204,7 @@ module _ (c : Cut) where
         by false true false e k h = ends_alone (index_by last l rest false true false e k h) (few_closed (l ∷ rest) p)
         by false false b e k h = ends_alone (index_by last l rest false false b e k h) (few_closed (l ∷ rest) p)
 
-    never_on : (last : Index) → another_index last [] ≡ None
+    never_on : (last : ReadIndex) → another_index last [] ≡ None
     unfolding another_index says
     never_on last = ap (λ b. kept b []) (never (not last.0))
       where
@@ -212,12 +212,12 @@ module _ (c : Cut) where
         never true = refl
         never false = refl
 
-    at_its_end : (last : Index) (z : List Lexeme) → z ≡ c.one → IndexTurns last z []
+    at_its_end : (last : ReadIndex) (z : List Lexeme) → z ≡ c.one → IndexTurns last z []
     at_its_end last [] e = both_end (never_on last) (never_on last)
     at_its_end last (l ∷ rest) e =
-        let long : suc (length rest) ≡ length c.one = ap length e in by long (is_word (codes ",") l.saying) (not last.0 && is_word (codes "]") l.saying) (says (codes "[") rest) refl refl refl
+        let long : suc (length rest) ≡ length c.one = ap length e in by long (says_word (codes ",") l.saying) (not last.0 && says_word (codes "]") l.saying) (says (codes "[") rest) refl refl refl
       where
-        by : suc (length rest) ≡ length c.one → (a d b : Bool) → is_word (codes ",") l.saying ≡ a → (not last.0 && is_word (codes "]") l.saying) ≡ d → says (codes "[") rest ≡ b → IndexTurns last (l ∷ rest) []
+        by : suc (length rest) ≡ length c.one → (a d b : Bool) → says_word (codes ",") l.saying ≡ a → (not last.0 && says_word (codes "]") l.saying) ≡ d → says (codes "[") rest ≡ b → IndexTurns last (l ∷ rest) []
         by long true d b e k h = let le = index_short last rest (omega (arith, long)) in goes_alone rest (index_by last l rest true d b e k h) (omega (arith, le, long)) (omega (arith, le))
         by long false true true e k h =
             let less_still = behind_less rest in
@@ -225,7 +225,7 @@ module _ (c : Cut) where
         by long false true false e k h = both_end (index_by last l rest false true false e k h) (never_on last)
         by long false false b e k h = both_end (index_by last l rest false false b e k h) (never_on last)
 
-    before_it : (last : Index) (l : Lexeme) (rest rest2 : List Lexeme) → Cuts c rest rest2 → (a d b b2 : Bool) → is_word (codes ",") l.saying ≡ a → (not last.0 && is_word (codes "]") l.saying) ≡ d
+    before_it : (last : ReadIndex) (l : Lexeme) (rest rest2 : List Lexeme) → Cuts c rest rest2 → (a d b b2 : Bool) → says_word (codes ",") l.saying ≡ a → (not last.0 && says_word (codes "]") l.saying) ≡ d
         → says (codes "[") rest ≡ b → says (codes "[") rest2 ≡ b2 → SaysSo (codes "[") rest rest2 → IndexTurns last (l ∷ rest) (l ∷ rest2)
     before_it last l rest rest2 t true d b b2 e k h h2 so = both_go (length rest) rest rest2 (index_by last l rest true d b e k h) (index_by last l rest2 true d b2 e k h2) refl (index_steady last.0 rest rest2 t)
     before_it last l rest rest2 t false false b b2 e k h h2 so = both_end (index_by last l rest false false b e k h) (index_by last l rest2 false false b2 e k h2)
@@ -238,14 +238,14 @@ module _ (c : Cut) where
         let le = index_short last (behind rest) p in goes_alone (behind rest) (index_by last l rest false true true e k x) (omega (arith, le, p)) (omega (arith, le, less_still))
     before_it last l rest rest2 t false true b b2 e k h h2 (silent_past x p) = ends_alone (index_by last l rest false true false e k x) (closes l rest (is_closing last l k) p)
 
-    index_turn : (last : Index) (ls ls2 : List Lexeme) → Cuts c ls ls2 → IndexTurns last ls ls2
+    index_turn : (last : ReadIndex) (ls ls2 : List Lexeme) → Cuts c ls ls2 → IndexTurns last ls ls2
     index_turn last ls ls2 s = go (look c ls ls2 s)
       where
         go : Look c ls ls2 → IndexTurns last ls ls2
         go (gone p) = behind_it last ls ls2 p
         go (head l rest rest2 e e2 t) =
             subst (λ z. IndexTurns last z ls2) (sym e) (subst (λ z. IndexTurns last (l ∷ rest) z) (sym e2)
-            (before_it last l rest rest2 t (is_word (codes ",") l.saying) (not last.0 && is_word (codes "]") l.saying) (says (codes "[") rest) (says (codes "[") rest2) refl refl refl refl (says_so (codes "[") rest rest2 t)))
+            (before_it last l rest rest2 t (says_word (codes ",") l.saying) (not last.0 && says_word (codes "]") l.saying) (says (codes "[") rest) (says (codes "[") rest2) refl refl refl refl (says_so (codes "[") rest rest2 t)))
         go (at_end inexact e e2) = subst (λ z. IndexTurns last ls z) (sym e2) (at_its_end last ls e)
 
     read_steady : (m : ExprTree) (ls ls2 : List Lexeme) → Cuts c ls ls2 → Steady c (length ls) (read_from low m ls) (read_from low2 m ls2)
@@ -261,7 +261,7 @@ module _ (c : Cut) where
       unfolding another_read says
       reads_grown m ls ls2 s =
           grown_steady c (another_read most low) (another_read most2 low2) (λ x. refl) (λ x. refl)
-          (λ x l rest rest2 t. steps_only_if (is_word (codes "[") l.saying && takes_group x) (nat_lt (height x) most) (nat_lt (height x) most2) _ _ l rest rest2 (below_tests c (height x) most most2 higher) (read_steady x rest rest2 t)) m ls ls2 s
+          (λ x l rest rest2 t. steps_only_if (says_word (codes "[") l.saying && takes_group x) (nat_lt (height x) most) (nat_lt (height x) most2) _ _ l rest rest2 (below_tests c (height x) most most2 higher) (read_steady x rest rest2 t)) m ls ls2 s
 
       pub unary_steady : (ls ls2 : List Lexeme) → Cuts c ls ls2 → Steady c (length ls) (unary_from most low ls) (unary_from most2 low2 ls2)
       unfolding unary_from
@@ -363,15 +363,15 @@ module _ (c : Cut) where
       part_at : (bytes : List ℕ) (level : Level) → AtOperator (only_word bytes) (part_from low bytes level) (part_from low2 bytes level)
       unfolding part_from word_from next_in looked_up
       part_at bytes level l rest rest2 s k =
-          let is : is_word bytes l.saying ≡ true = said l.saying k in
-          subst (λ z. Steady c (length rest) (chosen z (λ all. took l.place rest) (λ all. wrong all) (l ∷ rest) and_then λ p r. low.expr level r) (chosen z (λ all. took l.place rest2) (λ all. wrong all) (l ∷ rest2) and_then λ p r. low2.expr level r)) (sym is)
+          let is : says_word bytes l.saying ≡ true = said l.saying k in
+          subst (λ z. Steady c (length rest) (either_reader z (λ all. took l.place rest) (λ all. wrong all) (l ∷ rest) and_then λ p r. low.expr level r) (either_reader z (λ all. took l.place rest2) (λ all. wrong all) (l ∷ rest2) and_then λ p r. low2.expr level r)) (sym is)
           (good.expr level rest rest2 s)
         where
           by : (w : List ℕ) (b : Bool) → bytes_eq bytes w ≡ b → is_there (found_or b true None) ≡ true → bytes_eq w bytes ≡ true
           by w true e h = (bytes_eq-Decides w bytes).1 (sym ((bytes_eq-Decides bytes w).0 e))
           by w false e h = let no : false ≡ true = h in absurd cc
 
-          said : (s : Saying) → is_there (meant_by (only_word bytes) s) ≡ true → is_word bytes s ≡ true
+          said : (s : Saying) → is_there (meant_by (only_word bytes) s) ≡ true → says_word bytes s ≡ true
           said (a_name x) h = let no : false ≡ true = h in absurd cc
           said (a_number n) h = let no : false ≡ true = h in absurd cc
           said (a_word w) h = by w (bytes_eq bytes w) refl h

@@ -11,7 +11,7 @@ use Rattle.ep_tree.specs.declared.syntax.BinaryOp.{BinaryOp}
 use Rattle.ep_tree.specs.declared.syntax.FoldOp.{FoldOp}
 use Rattle.ep_tree.specs.declared.syntax.QuantOp.{QuantOp}
 use Rattle.ep_parse_expr.specs.OperandReaders.{Lower, ThreeParts, and_part, as_trees, call_from, call_of_three_from, call_of_two_from, closed_by, generator_from, in_brackets, index_domain_from, list_end, literal_from, opens, quantifier_from, sum_from, table_from, three_parts}
-use Rattle.ep_parse_expr.specs.Readers.{Reader, behind_comma, chosen, high, is_word, kept, more_from, name_from, names_from, others_from, says, took, word_from, ◌and_then◌}
+use Rattle.ep_parse_expr.specs.Readers.{Reader, behind_comma, either_reader, high, says_word, kept, more_from, name_from, names_from, others_from, says, took, word_from, ◌and_then◌}
 use Rattle.ep_parse_expr.proofs.Again.{lexeme}
 use Rattle.ep_parse_expr.proofs.Steady.{Cut, Cuts, Look, Steady, Tests, at_end, behind_cut, gone, head, left_by, look, low_word_steady, name_steady, steady_then, took_steady, word_itself_steady, word_steady}
 use Rattle.ep_parse_expr.proofs.SteadyLists.{Turns, both_end, both_go, ends_alone, goes_alone, more_steady, others_steady}
@@ -81,7 +81,7 @@ module _ (c : Cut) where
 
   -- ---- lists with commas
 
-  comma_item : {A : Type 0} (item item2 : A → Reader A) (b : Bool) (last : A) (l : Lexeme) (rest rest2 : List Lexeme) → is_word (codes ",") l.saying ≡ b → Steady c (length rest) (item last rest) (item2 last rest2)
+  comma_item : {A : Type 0} (item item2 : A → Reader A) (b : Bool) (last : A) (l : Lexeme) (rest rest2 : List Lexeme) → says_word (codes ",") l.saying ≡ b → Steady c (length rest) (item last rest) (item2 last rest2)
       → ItemsSo behind_comma item item2 last l rest rest2
   unfolding says
   comma_item item item2 true last l rest rest2 e st = an_item rest rest2 (ap (λ z. kept z rest) e) (ap (λ z. kept z rest2) e) st
@@ -92,7 +92,7 @@ module _ (c : Cut) where
       → (last : A) (ls ls2 : List Lexeme) → Cuts c ls ls2 → Steady c (length ls) (others_from behind_comma item last ls and_then k) (others_from behind_comma item2 last ls2 and_then k2)
   unfolding says
   commas_steady item item2 items k k2 after last ls ls2 s =
-      list_steady behind_comma item item2 (λ x. refl) (λ last l rest rest2 t. comma_item item item2 (is_word (codes ",") l.saying) last l rest rest2 refl (items last rest rest2 t)) k k2 after last ls ls2 s
+      list_steady behind_comma item item2 (λ x. refl) (λ last l rest rest2 t. comma_item item item2 (says_word (codes ",") l.saying) last l rest rest2 refl (items last rest rest2 t)) k k2 after last ls ls2 s
 
   -- the same with so many steps
   pub more_commas_steady : {A B : Type 0} (item item2 : A → Reader A) → ((last : A) (ls ls2 : List Lexeme) → Cuts c ls ls2 → Steady c (length ls) (item last ls) (item2 last ls2))
@@ -100,7 +100,7 @@ module _ (c : Cut) where
       → (n m : ℕ) (last : A) (ls ls2 : List Lexeme) → length ls ≤ n → length ls2 ≤ m → Cuts c ls ls2 → Steady c (length ls) (more_from behind_comma item n last ls and_then k) (more_from behind_comma item2 m last ls2 and_then k2)
   unfolding says
   more_commas_steady item item2 items k k2 after n m last ls ls2 few few2 s =
-      more_list_steady behind_comma item item2 (λ x. refl) (λ last l rest rest2 t. comma_item item item2 (is_word (codes ",") l.saying) last l rest rest2 refl (items last rest rest2 t)) k k2 after n m last ls ls2 few few2 s
+      more_list_steady behind_comma item item2 (λ x. refl) (λ last l rest rest2 t. comma_item item item2 (says_word (codes ",") l.saying) last l rest rest2 refl (items last rest rest2 t)) k k2 after n m last ls ls2 few few2 s
 
   pub names_steady : (ls ls2 : List Lexeme) → Cuts c ls ls2 → Steady c (length ls) (names_from ls) (names_from ls2)
   unfolding names_from
@@ -152,8 +152,8 @@ module _ (c : Cut) where
         part_after a z z2 u = steady_then c (length z) (low.expr implications z) (low2.expr implications z2) _ _ (good.expr implications z z2 u) (λ b r r2 le t. closed_steady (codes ")") (binary p two a b) r r2 t)
 
         second : (a : ExprTree) (z z2 : List Lexeme) → Cuts c z z2
-            → Steady c (length z) (chosen (says (codes ",") z) (and_part low (λ b. closed_by (codes ")") (binary p two a b))) (closed_by (codes ")") (folded p one a)) z)
-            (chosen (says (codes ",") z2) (and_part low2 (λ b. closed_by (codes ")") (binary p two a b))) (closed_by (codes ")") (folded p one a)) z2)
+            → Steady c (length z) (either_reader (says (codes ",") z) (and_part low (λ b. closed_by (codes ")") (binary p two a b))) (closed_by (codes ")") (folded p one a)) z)
+            (either_reader (says (codes ",") z2) (and_part low2 (λ b. closed_by (codes ")") (binary p two a b))) (closed_by (codes ")") (folded p one a)) z2)
         second a z z2 u = word_itself_steady c (codes ",") _ _ _ _ (λ r r2 t. part_after a r r2 t) z z2 u (closed_steady (codes ")") (folded p one a) z z2 u)
 
     pub table_steady : (p : Place) (ls ls2 : List Lexeme) → Cuts c ls ls2 → Steady c (length ls) (table_from low p ls) (table_from low2 p ls2)

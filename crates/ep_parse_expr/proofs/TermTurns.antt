@@ -9,7 +9,7 @@ use Rattle.ep_parse_expr.proofs.NameTurns.{continued, kept_is}
 use Rattle.ep_parse_expr.proofs.PartFacts.{as_terms_of, map_more, terms_end_more}
 use Rattle.ep_parse_expr.proofs.Shorter.{expr_shorter, then_came}
 use Rattle.ep_parse_expr.proofs.Turns.{list_turn}
-use Rattle.ep_parse_expr.specs.Cursors.{Stops}
+use Rattle.ep_parse_expr.specs.Cursors.{StopsReading}
 use Rattle.ep_parse_expr.specs.Founds.{lower}
 use Rattle.ep_parse_expr.specs.Gathered.{OrMemory, TermsCount}
 use Rattle.ep_parse_expr.specs.Junctions.{AddsTerm, TermAdded, TermsGiven, more_terms, sign_comes, term_read}
@@ -86,8 +86,8 @@ pub terms_end : (most : ℕ) (whole : Read (List Term)) (terms : Terms) (ls : Li
 terms_end most whole terms ls s e =
     list_ends on (λ last. term_from (lower most)) on_ends (on_shrinks most) whole (map term_read terms.items.items) s.last ls s.is (comes_is s.last ls terms.ends_open false s.ends e)
 
-pub terms_fail : (most : ℕ) (whole : Read (List Term)) (terms : Terms) (ls new : List Lexeme) (e : Stop) → SoFar most whole terms ls → true ≡ sign_comes terms.ends_open ls → Stops e new (term_from (lower most) ls)
-    → Stops e new whole
+pub terms_fail : (most : ℕ) (whole : Read (List Term)) (terms : Terms) (ls new : List Lexeme) (e : Stop) → SoFar most whole terms ls → true ≡ sign_comes terms.ends_open ls → StopsReading e new (term_from (lower most) ls)
+    → StopsReading e new whole
 terms_fail most whole terms ls new e s t stops =
     list_fails on (λ last. term_from (lower most)) on_ends (on_shrinks most) whole (map term_read terms.items.items) s.last ls ls new e s.is (comes_is s.last ls terms.ends_open true s.ends t) stops
 
@@ -129,7 +129,7 @@ pub no_term : (low : Lower) (ls : List Lexeme) → None ≡ next_in sign_words l
 unfolding term_from
 no_term low ls s = ap (λ o. if_some o (λ plus. term_behind low plus (behind ls)) (wrong ls)) (sym s)
 
-pub term_stopped : (low : Lower) (plus : Bool) (ls mid left : List Lexeme) (e : Stop) → Some plus ≡ next_in sign_words ls → mid ≡ behind ls → Stops e left (low.expr products mid) → Stops e left (term_from low ls)
+pub term_stopped : (low : Lower) (plus : Bool) (ls mid left : List Lexeme) (e : Stop) → Some plus ≡ next_in sign_words ls → mid ≡ behind ls → StopsReading e left (low.expr products mid) → StopsReading e left (term_from low ls)
 unfolding term_from term_behind
 term_stopped low plus ls mid left Wrong s m x =
     ap (λ o. if_some o (λ plus. term_behind low plus (behind ls)) (wrong ls)) (sym s) ∙ ap (λ rest. low.expr products rest and_then λ e rest. took (plus, e) rest) (sym m)
@@ -149,7 +149,7 @@ term_added (Ok x) old new plus found left read more counted e =
       ends = counted.ends ∙ ap (λ ts. terms_end_open (terms_of ts)) more ∙ terms_end_more old.items.items plus found.expr;
       counted = counted;
     }
-term_added (Err e) old new plus found left read m counted k = subst (λ s. Stops s left read) (sym m) tt
+term_added (Err e) old new plus found left read m counted k = subst (λ s. StopsReading s left read) (sym m) tt
 
 pub first_too_high : (b : Bool) (reader : Reader (List Term)) (start : List Lexeme) → b ≡ false → if_low b reader start ≡ high start
 first_too_high b reader start e = ap (λ t. if_low t reader start) e
@@ -160,8 +160,8 @@ terms_given b reader first terms start ls low e counted =
     let g = gathered (first ∷ []) (map term_read terms.items.items) ls (reader start) e in
     record { more = g.more; is = ap (λ t. if_low t reader start) low ∙ g.is; together = g.together; counted = counted }
 
-pub terms_stopped : (b : Bool) (reader : Reader (List Term)) (first : Term) (start new : List Lexeme) (e : Stop) → b ≡ true → Stops e new (continued (first ∷ []) (reader start)) → Stops e new (if_low b reader start)
-terms_stopped b reader first start new e low s = subst (λ t. Stops e new (if_low t reader start)) (sym low) (stops_inside (first ∷ []) e new (reader start) s)
+pub terms_stopped : (b : Bool) (reader : Reader (List Term)) (first : Term) (start new : List Lexeme) (e : Stop) → b ≡ true → StopsReading e new (continued (first ∷ []) (reader start)) → StopsReading e new (if_low b reader start)
+terms_stopped b reader first start new e low s = subst (λ t. StopsReading e new (if_low t reader start)) (sym low) (stops_inside (first ∷ []) e new (reader start) s)
 
 -- ---- the chain's node
 
@@ -196,7 +196,7 @@ sum_made most first terms ls left open_last p o e at given =
     ∙ ap (λ ts. took (chain (place_of first) ts) left) (as_terms_of terms.items.items) ∙ ap (λ q. took (chain q (terms_of terms.items.items)) left) at
 
 pub sum_stopped : (most : ℕ) (first : ExprTree) (ls left : List Lexeme) (open_last : Bool) (stop : Stop) → open_last ≡ ends_open first → true ≡ sign_comes open_last ls
-    → Stops stop left (if_low (nat_lt (height first) most) (more_terms (lower most) (true, first)) ls) → Stops stop left (terms_behind most (lower most) first ls)
+    → StopsReading stop left (if_low (nat_lt (height first) most) (more_terms (lower most) (true, first)) ls) → StopsReading stop left (terms_behind most (lower most) first ls)
 sum_stopped most first ls left open_last Wrong o e s = sum_is most first ls open_last o e ∙ ap (λ r. r and_then λ ts end. made first ((true, first) ∷ ts) end) s
 sum_stopped most first ls left open_last TooHigh o e s = sum_is most first ls open_last o e ∙ ap (λ r. r and_then λ ts end. made first ((true, first) ∷ ts) end) s
 sum_stopped most first ls left open_last Memory o e s = tt

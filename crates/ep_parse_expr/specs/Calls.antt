@@ -3,7 +3,7 @@ use Rattle.std.specs.Prelude.{Bool, codes}
 use Rattle.ep_base.specs.declared.places.Place.{Place}
 use Rattle.ep_parse_expr.specs.OperandReaders.{Lower, ThreeParts, and_part, closed_by, three_parts}
 use Rattle.ep_parse_expr.specs.Openings.{extreme_of, fold_of}
-use Rattle.ep_parse_expr.specs.Readers.{Reader, chosen, says}
+use Rattle.ep_parse_expr.specs.Readers.{Reader, either_reader, says}
 use Rattle.ep_tree.specs.Trees.{ExprTree, binary, folded, table}
 
 -- the bracket behind the only part of a least or greatest

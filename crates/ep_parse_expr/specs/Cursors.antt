@@ -22,16 +22,16 @@ LieIn text tokens = AllByRecursion (LiesIn text) tokens
 
 -- A reader takes nothing, for this reason, and the tokens that are left are those that it names. Want of memory says
 -- nothing.
-abbrev pub Stops : {Y : Type 0} → Stop → List Lexeme → Read Y → Type 0
-Stops Wrong left read = read ≡ wrong left
-Stops TooHigh left read = read ≡ high left
-Stops Memory left read = Unit {0}
+abbrev pub StopsReading : {Y : Type 0} → Stop → List Lexeme → Read Y → Type 0
+StopsReading Wrong left read = read ≡ wrong left
+StopsReading TooHigh left read = read ≡ high left
+StopsReading Memory left read = Unit {0}
 
 -- What a function returned, seen by view, is what a reader gives, and the tokens that are left are those that the reader
 -- leaves or names.
 abbrev pub Gives : {X Y : Type 0} → (X → Y) → Result X Stop → List Lexeme → Read Y → Type 0
 Gives view (Ok x) left read = read ≡ took (view x) left
-Gives view (Err e) left read = Stops e left read
+Gives view (Err e) left read = StopsReading e left read
 
 -- whether this word or symbol is next, with the tokens behind it, or else all
 unfoldable pub passing : List ℕ → List Lexeme → Bool × List Lexeme

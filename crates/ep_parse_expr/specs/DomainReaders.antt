@@ -3,7 +3,7 @@ use Rattle.std.specs.Prelude.{ℕ, Bool, true, ◌&&◌, ◌||◌, List, [], ◌
 use Rattle.ep_base.specs.declared.places.Place.{Place}
 use Rattle.ep_parse_expr.specs.OperandReaders.{Lower, expression_next, if_low}
 use Rattle.ep_parse_expr.specs.OperatorReaders.{operated}
-use Rattle.ep_parse_expr.specs.Readers.{Read, Reader, behind, behind_comma, chosen, grown, kept, looked_up, next_in, others_from, says, took, word_from, wrong, ◌and_then◌}
+use Rattle.ep_parse_expr.specs.Readers.{Read, Reader, behind, behind_comma, either_reader, grown, kept, looked_up, next_in, others_from, says, took, word_from, wrong, ◌and_then◌}
 use Rattle.ep_tree.specs.Heights.{domain_height}
 use Rattle.ep_tree.specs.Phrases.{Lexeme, Saying, a_name, a_number, a_word}
 use Rattle.ep_tree.specs.Spelling.{DomainLevel, domains, implications, set_operations, set_parts}
@@ -24,15 +24,15 @@ as_ranges (of_span a b ∷ rs) = span_and a b (as_ranges rs)
 -- the upper end of a range behind its `..`, where there is one
 unfoldable pub end_from : Lower → End → Reader RangeRead
 end_from low first ls =
-    chosen (expression_next ls) (λ all. low.expr implications all and_then λ e rest. took (of_span first (end_at e)) rest)
+    either_reader (expression_next ls) (λ all. low.expr implications all and_then λ e rest. took (of_span first (end_at e)) rest)
     (λ all. took (of_span first no_end) all) ls
 
 -- a range
 unfoldable pub range_from : Lower → Reader RangeRead
 range_from low ls =
-    chosen (says (codes "..") ls) (λ all. end_from low no_end (behind all))
+    either_reader (says (codes "..") ls) (λ all. end_from low no_end (behind all))
     (λ all. low.expr implications all and_then λ e rest.
-    chosen (says (codes "..") rest) (λ next. end_from low (end_at e) (behind next)) (λ next. took (of_number e) next) rest) ls
+    either_reader (says (codes "..") rest) (λ next. end_from low (end_at e) (behind next)) (λ next. took (of_number e) next) rest) ls
 
 -- the ranges of a domain behind their bracket
 unfoldable pub ranges_from : Lower → Place → Reader DomainTree
@@ -54,7 +54,7 @@ unfoldable pub domain_open_from : Bool → Lower → Place → Option DomainOpen
 domain_open_from low_enough low p None rest all = wrong all
 domain_open_from low_enough low p (Some a_bool) rest all = took (bool p) rest
 domain_open_from low_enough low p (Some an_int) rest all =
-    chosen (says (codes "(") rest) (λ next. ranges_from low p (behind next)) (λ next. took (int p) next) rest
+    either_reader (says (codes "(") rest) (λ next. ranges_from low p (behind next)) (λ next. took (int p) next) rest
 domain_open_from low_enough low p (Some a_domain_group) rest all =
     if_low low_enough
     (λ _. low.domain set_operations rest and_then λ d next. word_from (codes ")") next and_then λ _ end.
@@ -104,7 +104,7 @@ another_index_domain last ls = kept (says (codes ",") ls || matrix_follows ls) l
 -- a further index domain, with what stands before it
 unfoldable pub index_domain_behind : Lower → Reader DomainTree
 index_domain_behind low ls =
-    chosen (says (codes ",") ls) (λ all. low.domain set_operations (behind all))
+    either_reader (says (codes ",") ls) (λ all. low.domain set_operations (behind all))
     (λ all. matrix_head_from (behind (behind (behind all))) and_then λ _ rest. low.domain set_operations rest) ls
 
 -- domains as index domains
@@ -128,7 +128,7 @@ place_next (l ∷ ls) = l.place
 -- any domain
 unfoldable pub any_domain_from : ℕ → Lower → Reader DomainTree
 any_domain_from most low ls =
-    chosen (says (codes "matrix") ls) (if_low (nat_lt 1 most) (λ all. matrix_from low (place_next all) (behind all)))
+    either_reader (says (codes "matrix") ls) (if_low (nat_lt 1 most) (λ all. matrix_from low (place_next all) (behind all)))
     (operations_from most low) ls
 
 -- a domain where a level is asked for

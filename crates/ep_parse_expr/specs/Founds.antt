@@ -1,6 +1,6 @@
 -- What is known of the trees that were read: what decides what may follow them.
 use Rattle.std.specs.Prelude.{◌≡◌, ℕ, Bool, List, map, Result, Ok, Err, min, ◌^◌, ◌-◌}
-use Rattle.ep_parse_expr.specs.Cursors.{Stops}
+use Rattle.ep_parse_expr.specs.Cursors.{StopsReading}
 use Rattle.ep_parse_expr.specs.OperandReaders.{Lower}
 use Rattle.ep_parse_expr.specs.OperatorReaders.{takes_group}
 use Rattle.ep_parse_expr.specs.Readers.{Read, took}
@@ -50,11 +50,11 @@ MakesDomain (Err e) tree = e ≡ Memory
 -- What a function returned is what a reader gives, and the tokens that are left are those that the reader leaves or names.
 abbrev pub Finds : Result Found Stop → List Lexeme → Read ExprTree → Type 0
 Finds (Ok found) left read = (read ≡ took (expr_tree found.expr) left) × Measured found
-Finds (Err e) left read = Stops e left read
+Finds (Err e) left read = StopsReading e left read
 
 abbrev pub FindsDomain : Result FoundDomain Stop → List Lexeme → Read DomainTree → Type 0
 FindsDomain (Ok found) left read = (read ≡ took (domain_tree found.domain) left) × MeasuredDomain found
-FindsDomain (Err e) left read = Stops e left read
+FindsDomain (Err e) left read = StopsReading e left read
 
 -- the readers of what is lower by one than so much
 unfoldable pub lower : ℕ → Lower

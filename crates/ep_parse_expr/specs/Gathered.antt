@@ -3,14 +3,14 @@ use Rattle.std.specs.Prelude.{◌≡◌, ◌||◌, Bool, true, false, codes, Lis
 use Rattle.std.specs.declared.boxed.Box.{Box}
 use Rattle.std.specs.declared.alloc.Global.{Global}
 use Rattle.ep_base.specs.declared.places.Place.{Place}
-use Rattle.ep_parse_expr.specs.Cursors.{Stops}
+use Rattle.ep_parse_expr.specs.Cursors.{StopsReading}
 use Rattle.ep_parse_expr.specs.DomainReaders.{RangeRead, another_index_domain, index_domain_behind, matrix_follows, matrix_head_from, of_number, of_span, range_from}
 use Rattle.ep_parse_expr.specs.Founds.{told}
 use Rattle.ep_parse_expr.specs.OperandReaders as readers
 use Rattle.ep_parse_expr.specs.OperandReaders.{Lower, another_generator, expression_next, generator_from}
 use Rattle.ep_parse_expr.specs.OperatorReaders as operators
 use Rattle.ep_parse_expr.specs.OperatorReaders.{another_index, as_indices, index_from}
-use Rattle.ep_parse_expr.specs.Readers.{Read, Reader, behind, behind_comma, chosen, others_from, says, took, word_from, ◌and_then◌}
+use Rattle.ep_parse_expr.specs.Readers.{Read, Reader, behind, behind_comma, either_reader, others_from, says, took, word_from, ◌and_then◌}
 use Rattle.ep_parse_expr.specs.declared.cursor.Stop.{Stop}
 use Rattle.ep_parse_expr.specs.declared.cursor.Stop.TheVariants.{Memory}
 use Rattle.ep_parse_expr.specs.declared.parts.Domains.{Domains}
@@ -104,7 +104,7 @@ pub record Gathered {A : Type 0} (done all : List A) (left : List Lexeme) (read 
 -- A function added to a list what a reader gives, and the tokens that are left are those that the reader leaves or names.
 abbrev pub Gathers : {X A : Type 0} → Result X Stop → List A → List A → List Lexeme → Read (List A) → Type 0
 Gathers (Ok x) done all left read = Gathered done all left read
-Gathers (Err e) done all left read = Stops e left read
+Gathers (Err e) done all left read = StopsReading e left read
 
 -- Behind what was there, this is what a reader gives.
 pub record Added {A : Type 0} (done all : List A) (left : List Lexeme) (read : Read A) : Type 0 where
@@ -115,17 +115,17 @@ pub record Added {A : Type 0} (done all : List A) (left : List Lexeme) (read : R
 -- the same, where a function added one item
 abbrev pub Adds : {X A : Type 0} → Result X Stop → List A → List A → List Lexeme → Read A → Type 0
 Adds (Ok x) done all left read = Added done all left read
-Adds (Err e) done all left read = Stops e left read
+Adds (Err e) done all left read = StopsReading e left read
 
 -- the domain of a list's indices is what a reader gives
 abbrev pub FindsIndex : Result Index Stop → List Lexeme → Read IndexDomain → Type 0
 FindsIndex (Ok index) left read = (read ≡ took (index_tree index.domain) left) × IndexCount index
-FindsIndex (Err e) left read = Stops e left read
+FindsIndex (Err e) left read = StopsReading e left read
 
 -- an end of a range is what a reader gives
 abbrev pub FindsEnd : Result End Stop → List Lexeme → Read trees.End → Type 0
 FindsEnd (Ok last) left read = (read ≡ took (end_tree last.end) left) × EndCount last
-FindsEnd (Err e) left read = Stops e left read
+FindsEnd (Err e) left read = StopsReading e left read
 
 -- a range as it is read
 unfoldable pub range_read : Range → RangeRead
@@ -137,27 +137,27 @@ abbrev pub as_read : Generator → readers.Generator
 as_read g = (g.names.items, domain_tree g.domain)
 
 -- Behind the indices that were there, this is what a reader gives.
-pub record IndexAdded (old new : Indices) (left : List Lexeme) (read : Read operators.Index) : Type 0 where
-  pub one : operators.Index
+pub record IndexAdded (old new : Indices) (left : List Lexeme) (read : Read operators.ReadIndex) : Type 0 where
+  pub one : operators.ReadIndex
   pub is : read ≡ took one left
   pub came : one.0 ≡ new.has_every
-  pub together : (front : List operators.Index) → as_indices front ≡ indices_of old.items.items → as_indices (front ++ one ∷ []) ≡ indices_of new.items.items
+  pub together : (front : List operators.ReadIndex) → as_indices front ≡ indices_of old.items.items → as_indices (front ++ one ∷ []) ≡ indices_of new.items.items
   pub counted : IndicesCount new
 
-abbrev pub AddsIndex : {X : Type 0} → Result X Stop → Indices → Indices → List Lexeme → Read operators.Index → Type 0
+abbrev pub AddsIndex : {X : Type 0} → Result X Stop → Indices → Indices → List Lexeme → Read operators.ReadIndex → Type 0
 AddsIndex (Ok x) old new left read = IndexAdded old new left read
-AddsIndex (Err e) old new left read = Stops e left read
+AddsIndex (Err e) old new left read = StopsReading e left read
 
 -- These indices are all that a reader gives.
-pub record IndicesGiven (indices : Indices) (left : List Lexeme) (read : Read (List operators.Index)) : Type 0 where
-  pub all : List operators.Index
+pub record IndicesGiven (indices : Indices) (left : List Lexeme) (read : Read (List operators.ReadIndex)) : Type 0 where
+  pub all : List operators.ReadIndex
   pub is : read ≡ took all left
   pub same : as_indices all ≡ indices_of indices.items.items
   pub counted : IndicesCount indices
 
-abbrev pub GivesIndices : Result Indices Stop → List Lexeme → Read (List operators.Index) → Type 0
+abbrev pub GivesIndices : Result Indices Stop → List Lexeme → Read (List operators.ReadIndex) → Type 0
 GivesIndices (Ok indices) left read = IndicesGiven indices left read
-GivesIndices (Err e) left read = Stops e left read
+GivesIndices (Err e) left read = StopsReading e left read
 
 -- These generators are all that a reader gives.
 pub record GeneratorsGiven (generators : Generators) (left : List Lexeme) (read : Read (List readers.Generator)) : Type 0 where
@@ -166,7 +166,7 @@ pub record GeneratorsGiven (generators : Generators) (left : List Lexeme) (read 
 
 abbrev pub GivesGenerators : Result Generators Stop → List Lexeme → Read (List readers.Generator) → Type 0
 GivesGenerators (Ok generators) left read = GeneratorsGiven generators left read
-GivesGenerators (Err e) left read = Stops e left read
+GivesGenerators (Err e) left read = StopsReading e left read
 
 -- These ranges are all that a reader gives.
 pub record RangesGiven (ranges : Ranges) (left : List Lexeme) (read : Read (List RangeRead)) : Type 0 where
@@ -175,7 +175,7 @@ pub record RangesGiven (ranges : Ranges) (left : List Lexeme) (read : Read (List
 
 abbrev pub GivesRanges : Result Ranges Stop → List Lexeme → Read (List RangeRead) → Type 0
 GivesRanges (Ok ranges) left read = RangesGiven ranges left read
-GivesRanges (Err e) left read = Stops e left read
+GivesRanges (Err e) left read = StopsReading e left read
 
 -- These domains are all that a reader gives.
 pub record DomainsGiven (domains : Domains) (left : List Lexeme) (read : Read (List DomainTree)) : Type 0 where
@@ -184,14 +184,14 @@ pub record DomainsGiven (domains : Domains) (left : List Lexeme) (read : Read (L
 
 abbrev pub GivesDomains : Result Domains Stop → List Lexeme → Read (List DomainTree) → Type 0
 GivesDomains (Ok domains) left read = DomainsGiven domains left read
-GivesDomains (Err e) left read = Stops e left read
+GivesDomains (Err e) left read = StopsReading e left read
 
 -- ---- whole lists
 
 -- the upper end of a range, where there is one
 unfoldable pub upper_from : Lower → Reader trees.End
 upper_from low ls =
-    chosen (expression_next ls) (λ all. low.expr implications all and_then λ e rest. took (end_at e) rest) (λ all. took no_end all) ls
+    either_reader (expression_next ls) (λ all. low.expr implications all and_then λ e rest. took (end_at e) rest) (λ all. took no_end all) ls
 
 -- the ranges of a domain
 unfoldable pub all_ranges_from : Lower → Reader (List RangeRead)
@@ -204,13 +204,13 @@ domains_go_on ls = says (codes ",") ls || matrix_follows ls
 
 -- what stands before a further index domain
 unfoldable pub to_index_domain : Reader Place
-to_index_domain ls = chosen (says (codes ",") ls) (word_from (codes ",")) (λ all. matrix_head_from (behind (behind (behind all)))) ls
+to_index_domain ls = either_reader (says (codes ",") ls) (word_from (codes ",")) (λ all. matrix_head_from (behind (behind (behind all)))) ls
 
 -- What was passed before a further index domain, if there is one.
 abbrev pub PassesTo : Result Bool Stop → List Lexeme → List Lexeme → Type 0
 PassesTo (Ok true) old new = (domains_go_on old ≡ true) × (p : Place) × (to_index_domain old ≡ took p new)
 PassesTo (Ok false) old new = (domains_go_on old ≡ false) × (new ≡ old)
-PassesTo (Err e) old new = (domains_go_on old ≡ true) × Stops e new (to_index_domain old)
+PassesTo (Err e) old new = (domains_go_on old ≡ true) × StopsReading e new (to_index_domain old)
 
 -- the index domains of a matrix domain
 unfoldable pub index_domains_from : Lower → Reader (List DomainTree)
@@ -231,7 +231,7 @@ generators_from low ls =
     others_from another_generator (λ last. generator_from low) g rest and_then λ gens end. took (g ∷ gens) end
 
 -- the indices of a read; whether a `..` has come is said
-unfoldable pub indices_from : Lower → Bool → Reader (List operators.Index)
+unfoldable pub indices_from : Lower → Bool → Reader (List operators.ReadIndex)
 indices_from low every ls =
     index_from low every ls and_then λ first rest.
     others_from another_index (λ last. index_from low last.0) first rest and_then λ others end. took (first ∷ others) end

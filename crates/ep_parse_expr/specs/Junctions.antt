@@ -1,6 +1,6 @@
 -- Chains with one word between any two parts, and chains of sums: the parts behind the first, and what was read of them.
 use Rattle.std.specs.Prelude.{◌≡◌, ℕ, Bool, not, ◌&&◌, List, [], ◌∷◌, ◌++◌, Result, Ok, Err, map}
-use Rattle.ep_parse_expr.specs.Cursors.{Stops}
+use Rattle.ep_parse_expr.specs.Cursors.{StopsReading}
 use Rattle.ep_parse_expr.specs.Gathered.{PartsCount, TermsCount}
 use Rattle.ep_parse_expr.specs.OperandReaders.{Lower, is_there}
 use Rattle.ep_parse_expr.specs.OperatorReaders.{Term, only_word, part_from, sign_words, term_from, with_operator}
@@ -36,7 +36,7 @@ pub record PartAdded (old new : Parts) (left : List Lexeme) (read : Read ExprTre
 
 abbrev pub AddsPart : {X : Type 0} → Result X Stop → Parts → Parts → List Lexeme → Read ExprTree → Type 0
 AddsPart (Ok x) old new left read = PartAdded old new left read
-AddsPart (Err e) old new left read = Stops e left read
+AddsPart (Err e) old new left read = StopsReading e left read
 
 -- These are a first part, and then all that a reader gives.
 pub record PartsGiven (first : ExprTree) (parts : Parts) (left : List Lexeme) (read : Read (List ExprTree)) : Type 0 where
@@ -47,7 +47,7 @@ pub record PartsGiven (first : ExprTree) (parts : Parts) (left : List Lexeme) (r
 
 abbrev pub GivesParts : Result Parts Stop → ExprTree → List Lexeme → Read (List ExprTree) → Type 0
 GivesParts (Ok parts) first left read = PartsGiven first parts left read
-GivesParts (Err e) first left read = Stops e left read
+GivesParts (Err e) first left read = StopsReading e left read
 
 -- ---- chains of sums
 
@@ -73,7 +73,7 @@ pub record TermAdded (old new : Terms) (left : List Lexeme) (read : Read Term) :
 
 abbrev pub AddsTerm : {X : Type 0} → Result X Stop → Terms → Terms → List Lexeme → Read Term → Type 0
 AddsTerm (Ok x) old new left read = TermAdded old new left read
-AddsTerm (Err e) old new left read = Stops e left read
+AddsTerm (Err e) old new left read = StopsReading e left read
 
 -- These are a first term, and then all that a reader gives.
 pub record TermsGiven (first : Term) (terms : Terms) (left : List Lexeme) (read : Read (List Term)) : Type 0 where
@@ -84,4 +84,4 @@ pub record TermsGiven (first : Term) (terms : Terms) (left : List Lexeme) (read 
 
 abbrev pub GivesTerms : Result Terms Stop → Term → List Lexeme → Read (List Term) → Type 0
 GivesTerms (Ok terms) first left read = TermsGiven first terms left read
-GivesTerms (Err e) first left read = Stops e left read
+GivesTerms (Err e) first left read = StopsReading e left read

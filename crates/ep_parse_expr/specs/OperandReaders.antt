@@ -3,7 +3,7 @@ use Rattle.std.specs.List.{list_any}
 use Rattle.std.specs.Prelude.{ℕ, Bool, true, false, ◌&&◌, List, [], ◌∷◌, Option, Some, None, bytes_eq, codes}
 use Rattle.ep_base.specs.declared.names.Name.{Name}
 use Rattle.ep_base.specs.declared.places.Place.{Place}
-use Rattle.ep_parse_expr.specs.Readers.{Reader, behind, behind_comma, chosen, high, is_word, kept, looked_up, names_from, others_from, says, took, word_from, wrong, ◌and_then◌}
+use Rattle.ep_parse_expr.specs.Readers.{Reader, behind, behind_comma, either_reader, high, says_word, kept, looked_up, names_from, others_from, says, took, word_from, wrong, ◌and_then◌}
 use Rattle.ep_tree.specs.Phrases.{Lexeme, Saying, a_name, a_number, a_word}
 use Rattle.ep_tree.specs.Spelling.{DomainLevel, Level, domains, implications, set_operations, unaries}
 use Rattle.ep_tree.specs.Trees.{DomainTree, ExprTree, ExprTrees, Generators, IndexDomain, absolute, all_different, at_least, at_most, binary, comprehension, factorial, flatten, folded, gcc, generator_and, group, literal, minus, named, negation, no_generators, no_trees, number, over, quantified, table, to_int, tree_and, truth, unstated}
@@ -86,11 +86,11 @@ domain_next level (l ∷ ls) = opens_domain level l.saying
 
 -- Nothing is low enough: what begins is too high, and what doesn't is wrong.
 abbrev pub none_low : {A : Type 0} → Bool → Reader A
-none_low begins = chosen begins (λ ls. high ls) (λ ls. wrong ls)
+none_low begins = either_reader begins (λ ls. high ls) (λ ls. wrong ls)
 
 -- a reader where the height is enough for one part, else the next token is too high
 abbrev pub if_low : {A : Type 0} → Bool → Reader A → Reader A
-if_low low reader = chosen low reader (λ ls. high ls)
+if_low low reader = either_reader low reader (λ ls. high ls)
 
 -- ---- the parts of expressions
 
@@ -135,7 +135,7 @@ three_parts counts_at_most p a b c = at_most p a b c
 -- the domain of indices behind a semicolon, where there is one
 unfoldable pub index_domain_from : Bool → Lower → Reader IndexDomain
 index_domain_from low_enough low ls =
-    chosen (says (codes ";") ls)
+    either_reader (says (codes ";") ls)
     (if_low low_enough (λ all. low.domain set_operations (behind all) and_then λ d rest. took (over d) rest))
     (λ all. took unstated all) ls
 
@@ -159,10 +159,10 @@ generator_from low ls =
     low.domain set_operations next and_then λ d end. took (names, d) end
 
 -- whether a token is a name
-abbrev pub is_name : Saying → Bool
-is_name (a_name x) = true
-is_name (a_number n) = false
-is_name (a_word w) = false
+abbrev pub says_name : Saying → Bool
+says_name (a_name x) = true
+says_name (a_number n) = false
+says_name (a_word w) = false
 
 -- whether a colon comes behind a name: here, or behind a comma where one comes behind further names
 abbrev pub colon_or : Bool → Bool → Bool → Bool
@@ -173,8 +173,8 @@ colon_or false false more = false
 -- Whether names with commas between them and then a colon are next: at first a name, else what stands behind one.
 unfoldable pub colon_comes : Bool → List Lexeme → Bool
 colon_comes name_wanted [] = false
-colon_comes true (l ∷ ls) = is_name l.saying && colon_comes false ls
-colon_comes false (l ∷ ls) = colon_or (is_word (codes ":") l.saying) (is_word (codes ",") l.saying) (colon_comes true ls)
+colon_comes true (l ∷ ls) = says_name l.saying && colon_comes false ls
+colon_comes false (l ∷ ls) = colon_or (says_word (codes ":") l.saying) (says_word (codes ",") l.saying) (colon_comes true ls)
 
 -- generators go on behind a comma, where one is next there
 unfoldable pub another_generator : Generator → List Lexeme → Option (List Lexeme)
@@ -201,9 +201,9 @@ literal_from low_enough low p e ls =
 -- a list or a comprehension behind its bracket
 unfoldable pub bracket_from : Bool → Lower → Place → Reader ExprTree
 bracket_from low_enough low p ls =
-    chosen (expression_next ls)
+    either_reader (expression_next ls)
     (λ all. low.expr implications all and_then λ e rest.
-    chosen (says (codes "|") rest) (λ next. comprehension_from low_enough low p e (behind next)) (literal_from low_enough low p e) rest)
+    either_reader (says (codes "|") rest) (λ next. comprehension_from low_enough low p e (behind next)) (literal_from low_enough low p e) rest)
     (list_end low_enough low (literal p no_trees)) ls
 
 -- ---- nodes that a word opens
@@ -223,7 +223,7 @@ call_from low make ls = in_brackets low (λ e. closed_by (codes ")") (make e)) l
 unfoldable pub call_of_two_from : Lower → FoldOp → BinaryOp → Place → Reader ExprTree
 call_of_two_from low one two p ls =
     in_brackets low
-    (λ a rest. chosen (says (codes ",") rest) (and_part low (λ b. closed_by (codes ")") (binary p two a b)))
+    (λ a rest. either_reader (says (codes ",") rest) (and_part low (λ b. closed_by (codes ")") (binary p two a b)))
     (closed_by (codes ")") (folded p one a)) rest) ls
 
 -- a table behind its name
@@ -238,7 +238,7 @@ call_of_three_from low what p ls =
 -- a sum over a domain or of a matrix, behind its word
 unfoldable pub sum_from : Lower → Place → Reader ExprTree
 sum_from low p ls =
-    chosen (says (codes "(") ls) (call_from low (folded p FoldOp.Sum)) (quantifier_from low QuantOp.Sum p) ls
+    either_reader (says (codes "(") ls) (call_from low (folded p FoldOp.Sum)) (quantifier_from low QuantOp.Sum p) ls
 
 -- a node with a part, behind the word that opens it
 unfoldable pub opened_from : Lower → Place → Opening → Reader ExprTree

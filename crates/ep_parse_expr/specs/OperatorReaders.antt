@@ -4,7 +4,7 @@ use Rattle.ep_base.specs.declared.operators.CompareOp.{CompareOp}
 use Rattle.ep_base.specs.declared.operators.LexOp.{LexOp}
 use Rattle.ep_base.specs.declared.places.Place.{Place}
 use Rattle.ep_parse_expr.specs.OperandReaders.{Lower, as_trees, call_from, closed_by, if_low, is_there, operand_from}
-use Rattle.ep_parse_expr.specs.Readers.{Read, Reader, behind, chosen, grown, if_some, kept, kept_or, next_in, others_from, says, took, word_from, wrong, ◌and_then◌}
+use Rattle.ep_parse_expr.specs.Readers.{Read, Reader, behind, either_reader, grown, if_some, kept, kept_or, next_in, others_from, says, took, word_from, wrong, ◌and_then◌}
 use Rattle.ep_tree.specs.Heights.{height}
 use Rattle.ep_tree.specs.Phrases.{Lexeme}
 use Rattle.ep_tree.specs.Spelling.{Level, comparisons, conjunctions, disjunctions, ends_open, implications, own_level, powers, primaries, products, rank, reads, set_operations, sums, takes_own_group, unaries}
@@ -14,8 +14,8 @@ use Rattle.ep_tree.specs.declared.syntax.BinaryOp.{BinaryOp}
 -- ---- reads
 
 -- an index, with whether a `..` has come
-abbrev pub Index : Type 0
-Index = Bool × Option ExprTree
+abbrev pub ReadIndex : Type 0
+ReadIndex = Bool × Option ExprTree
 
 -- an index before others
 abbrev pub with_index : Option ExprTree → Indices → Indices
@@ -23,18 +23,18 @@ with_index None others = every_and others
 with_index (Some e) others = index_and e others
 
 -- indices as those of a read
-unfoldable pub as_indices : List Index → Indices
+unfoldable pub as_indices : List ReadIndex → Indices
 as_indices [] = no_indices
 as_indices (index ∷ indices) = with_index index.1 (as_indices indices)
 
 -- an index
-unfoldable pub index_from : Lower → Bool → Reader Index
+unfoldable pub index_from : Lower → Bool → Reader ReadIndex
 index_from low every ls =
-    chosen (says (codes "..") ls) (λ all. took (true, None) (behind all))
+    either_reader (says (codes "..") ls) (λ all. took (true, None) (behind all))
     (λ all. low.expr implications all and_then λ e rest. took (every, Some e) rest) ls
 
 -- indices go on behind a comma, and as long as no `..` has come in the next bracket group
-unfoldable pub another_index : Index → List Lexeme → Option (List Lexeme)
+unfoldable pub another_index : ReadIndex → List Lexeme → Option (List Lexeme)
 another_index last ls =
     kept_or (says (codes ",") ls) (behind ls)
     (kept (not last.0 && (says (codes "]") ls && says (codes "[") (behind ls))) (behind (behind ls)))
@@ -163,7 +163,7 @@ compared_with low a (of_numbers op) ls =
     low.expr sums ls and_then λ b rest. took (compare (place_of a) op a b) rest
 compared_with low a (of_lists op) ls = low.expr sums ls and_then λ b rest. took (lex (place_of a) op a b) rest
 compared_with low a of_set ls =
-    chosen (says (codes "toSet") ls) (λ all. call_from low (in_set (place_of a) a) (behind all))
+    either_reader (says (codes "toSet") ls) (λ all. call_from low (in_set (place_of a) a) (behind all))
     (λ all. low.domain set_operations all and_then λ d rest. took (in_domain (place_of a) a d) rest) ls
 
 -- what was read, or a comparison of it

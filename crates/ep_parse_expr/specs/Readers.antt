@@ -26,22 +26,22 @@ abbrev pub ◌and_then◌ : {A B : Type 0} → Read A → (A → Reader B) → R
 (high ls) and_then f = high ls
 
 -- one reader where a test holds, else another
-abbrev pub chosen : {A : Type 0} → Bool → Reader A → Reader A → Reader A
-chosen true one other ls = one ls
-chosen false one other ls = other ls
+abbrev pub either_reader : {A : Type 0} → Bool → Reader A → Reader A → Reader A
+either_reader true one other ls = one ls
+either_reader false one other ls = other ls
 
 -- ---- single tokens
 
 -- whether a token is this word or symbol
-abbrev pub is_word : List ℕ → Saying → Bool
-is_word bytes (a_word other) = bytes_eq other bytes
-is_word bytes (a_name x) = false
-is_word bytes (a_number n) = false
+abbrev pub says_word : List ℕ → Saying → Bool
+says_word bytes (a_word other) = bytes_eq other bytes
+says_word bytes (a_name x) = false
+says_word bytes (a_number n) = false
 
 -- whether this word or symbol is next
 unfoldable pub says : List ℕ → List Lexeme → Bool
 says bytes [] = false
-says bytes (l ∷ ls) = is_word bytes l.saying
+says bytes (l ∷ ls) = says_word bytes l.saying
 
 -- the tokens behind the next
 abbrev pub behind : List Lexeme → List Lexeme
@@ -51,7 +51,7 @@ behind (l ∷ ls) = ls
 -- this word or symbol, and its place
 unfoldable pub word_from : List ℕ → Reader Place
 word_from bytes [] = wrong []
-word_from bytes (l ∷ ls) = chosen (is_word bytes l.saying) (λ all. took l.place ls) (λ all. wrong all) (l ∷ ls)
+word_from bytes (l ∷ ls) = either_reader (says_word bytes l.saying) (λ all. took l.place ls) (λ all. wrong all) (l ∷ ls)
 
 -- a name
 unfoldable pub name_in : Lexeme → Saying → Reader Name
@@ -67,7 +67,7 @@ name_from (l ∷ ls) = name_in l l.saying ls
 -- this number
 unfoldable pub number_from : ℤ → Reader Place
 number_from n [] = wrong []
-number_from n (l ∷ ls) = chosen (says_number n l.saying) (λ all. took l.place ls) (λ all. wrong all) (l ∷ ls)
+number_from n (l ∷ ls) = either_reader (says_number n l.saying) (λ all. took l.place ls) (λ all. wrong all) (l ∷ ls)
 
 -- a finding, or else another
 abbrev pub found_or : {A : Type 0} → Bool → A → Option A → Option A

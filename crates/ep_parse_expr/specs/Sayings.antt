@@ -10,10 +10,10 @@ name_of (a_number n) = None
 name_of (a_word w) = None
 
 -- the number that a token says
-abbrev pub number_of : Saying → Option ℤ
-number_of (a_name x) = None
-number_of (a_number n) = Some n
-number_of (a_word w) = None
+abbrev pub said_number : Saying → Option ℤ
+said_number (a_name x) = None
+said_number (a_number n) = Some n
+said_number (a_word w) = None
 
 -- the word or symbol that a token is
 abbrev pub word_of : Saying → Option (List ℕ)
@@ -27,9 +27,9 @@ name_next [] = None
 name_next (l ∷ ls) = name_of l.saying
 
 -- the number that is next
-unfoldable pub number_next : List Lexeme → Option ℤ
-number_next [] = None
-number_next (l ∷ ls) = number_of l.saying
+unfoldable pub said_number_next : List Lexeme → Option ℤ
+said_number_next [] = None
+said_number_next (l ∷ ls) = said_number l.saying
 
 -- the word or symbol that is next
 unfoldable pub word_next : List Lexeme → Option (List ℕ)

@@ -10,9 +10,9 @@ ghost use Rattle.ep_parse_expr.specs.Cursors.{Gives, LieIn, LiesIn, passing};
 ghost use Rattle.ep_parse_expr.specs.DomainReaders.{matrix_follows, place_next};
 ghost use Rattle.ep_parse_expr.specs.OperandReaders.{colon_comes, domain_next, expression_next};
 ghost use Rattle.ep_parse_expr.specs.Openings.{domain_level_of};
-ghost use Rattle.ep_parse_expr.specs.Readers.{behind, is_word, name_from, says, word_from};
+ghost use Rattle.ep_parse_expr.specs.Readers.{behind, says_word, name_from, says, word_from};
 ghost use Rattle.ep_parse_expr.specs.declared.cursor.Stop.TheVariants.{Memory as OutOfMemory};
-ghost use Rattle.ep_parse_expr.specs.Sayings.{name_next, name_of, number_next, number_of, word_next, word_of};
+ghost use Rattle.ep_parse_expr.specs.Sayings.{name_next, name_of, said_number_next, said_number, word_next, word_of};
 
 mod next;
 
@@ -149,9 +149,9 @@ impl<'a> Cursor<'a> {
     }
 
     /// The number that is next.
-    #[tactic(auto, unfolding(crate::specs::Sayings::number_next, ep_tree::specs::Phrases::lexemes_of))]
+    #[tactic(auto, unfolding(crate::specs::Sayings::said_number_next, ep_tree::specs::Phrases::lexemes_of))]
     pub fn number_next(&self) -> Option<i64>
-        ensures next { result ≡ number_next self.now }
+        ensures next { result ≡ said_number_next self.now }
     {
         match self.tokens.first() {
             Some(token) => number_in(token),
@@ -265,7 +265,7 @@ impl<'a> Cursor<'a> {
 #[tactic(auto, unfolding(ep_tree::specs::Phrases::saying_of))]
 fn is_said(text: &[u8], token: &Token, word: &[u8]) -> bool
     requires { LiesIn text.now token.now }
-    ensures { result ≡ is_word word.now (saying_of (token_text text.now token.now) token.now.kind) }
+    ensures { result ≡ says_word word.now (saying_of (token_text text.now token.now) token.now.kind) }
 {
     match token.kind {
         TokenKind::Word | TokenKind::Symbol => {
@@ -294,7 +294,7 @@ fn name_in<'a>(text: &'a [u8], token: &Token) -> Option<&'a str>
 #[tactic(auto, unfolding(ep_tree::specs::Phrases::saying_of))]
 fn number_in(token: &Token) -> Option<i64>
     ensures { (text : List ℕ) →
-        result ≡ number_of (saying_of (token_text text token.now) token.now.kind) }
+        result ≡ said_number (saying_of (token_text text token.now) token.now.kind) }
 {
     match token.kind {
         TokenKind::Number(number) => Some(number),

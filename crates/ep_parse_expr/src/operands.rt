@@ -8,7 +8,7 @@ ghost use Rattle.ep_parse_expr.specs.OperandReaders.{a_bar, a_group, a_minus, a_
 ghost use Rattle.ep_parse_expr.specs.Openings.{opening_of};
 ghost use Rattle.ep_parse_expr.specs.OperatorReaders.{unary_from};
 ghost use Rattle.ep_parse_expr.specs.Readers.{behind};
-ghost use Rattle.ep_parse_expr.specs.Sayings.{name_next, number_next, word_next};
+ghost use Rattle.ep_parse_expr.specs.Sayings.{name_next, said_number_next, word_next};
 
 use crate::below::Below;
 use crate::cursor::{Cursor, Stop};
@@ -57,7 +57,7 @@ impl<
     fn worded(&self, cursor: &mut Cursor<'_>) -> Result<Found, Stop>
         requires ready { Ready E.Fn D.Fn self.now }
         requires no_name { name_next cursor.old ≡ None }
-        requires no_number { number_next cursor.old ≡ None }
+        requires no_number { said_number_next cursor.old ≡ None }
         ensures read { Finds result cursor.new (operand_from (nat_lt 1 self.now.most) (lower self.now.most) cursor.old) }
     {
         match cursor.word_next() {

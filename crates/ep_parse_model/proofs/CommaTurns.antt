@@ -3,7 +3,7 @@ use Rattle.std.specs.Prelude.{◌≡◌, ◌<◌, Bool, true, false, List, [], �
 use Rattle.std.proofs.Common.{ap, arith, sym, ◌∙◌, append_assoc}
 use Rattle.ep_parse_expr.proofs.NameTurns.{continued}
 use Rattle.ep_parse_expr.proofs.Turns.{list_turn}
-use Rattle.ep_parse_expr.specs.Cursors.{Stops, passing}
+use Rattle.ep_parse_expr.specs.Cursors.{StopsReading, passing}
 use Rattle.ep_parse_expr.specs.declared.cursor.Stop.{Stop}
 use Rattle.ep_parse_expr.specs.declared.cursor.Stop.TheVariants.{Memory, TooHigh, Wrong}
 use Rattle.ep_parse_expr.specs.Readers.{Read, Reader, behind, behind_comma, going_on, high, kept, others_from, says, took, wrong, ◌and_then◌}
@@ -38,12 +38,12 @@ none_yet (wrong ls) = refl
 none_yet (high ls) = refl
 
 -- what stops a part stops all
-pub stops_all : {A B : Type 0} (e : Stop) (new : List Lexeme) (r : Read A) (f : A → Reader B) → Stops e new r → Stops e new (r and_then f)
+pub stops_all : {A B : Type 0} (e : Stop) (new : List Lexeme) (r : Read A) (f : A → Reader B) → StopsReading e new r → StopsReading e new (r and_then f)
 stops_all Wrong new r f h = ap (λ q. q and_then f) h
 stops_all TooHigh new r f h = ap (λ q. q and_then f) h
 stops_all Memory new r f h = tt
 
-pub stops_so : {A : Type 0} (e : Stop) (new : List Lexeme) (r s : Read A) → r ≡ s → Stops e new r → Stops e new s
+pub stops_so : {A : Type 0} (e : Stop) (new : List Lexeme) (r s : Read A) → r ≡ s → StopsReading e new r → StopsReading e new s
 stops_so Wrong new r s same h = sym same ∙ h
 stops_so TooHigh new r s same h = sym same ∙ h
 stops_so Memory new r s same h = tt
@@ -65,7 +65,7 @@ module _ {A : Type 0} (item : Reader A) (shrinks : (ls rest : List Lexeme) (x : 
   all_turn : (x : A) (ls : List Lexeme) → others_from behind_comma (λ last. item) x ls ≡ going_on (behind_comma x ls) ls all
   all_turn x ls = list_turn behind_comma (λ last. item) comma_ends comma_shrinks x ls
 
-  pub fails : (items : List A) (cursor new start : List Lexeme) (e : Stop) → continued items (all cursor) ≡ all start → Stops e new (item cursor) → Stops e new (all start)
+  pub fails : (items : List A) (cursor new start : List Lexeme) (e : Stop) → continued items (all cursor) ≡ all start → StopsReading e new (item cursor) → StopsReading e new (all start)
   fails items cursor new start e inv k =
       stops_so e new (continued items (all cursor)) (all start) inv
       (stops_all e new (all cursor) (λ ys end. took (items ++ ys) end) (stops_all e new (item cursor) (λ x rest. others_from behind_comma (λ last. item) x rest and_then λ xs end. took (x ∷ xs) end) k))

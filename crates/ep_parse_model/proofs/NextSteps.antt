@@ -4,11 +4,11 @@ use Rattle.std.proofs.Common.{ap, sym, ◌∙◌}
 use Rattle.ep_base.specs.declared.names.Name.{Name}
 use Rattle.ep_base.specs.declared.places.Place.{Place}
 use Rattle.ep_base.specs.Tokens.{place_at}
-use Rattle.ep_parse_expr.specs.Cursors.{Stops, none_left}
+use Rattle.ep_parse_expr.specs.Cursors.{StopsReading, none_left}
 use Rattle.ep_parse_model.specs.Answers.{place_left}
 use Rattle.ep_parse_expr.specs.DomainReaders.{place_next}
 use Rattle.ep_parse_expr.specs.declared.cursor.Stop.{Stop}
-use Rattle.ep_parse_expr.specs.Readers.{Read, behind, chosen, if_some, looked_up, meant_by, name_from, name_in, next_in, took, wrong, ◌and_then◌}
+use Rattle.ep_parse_expr.specs.Readers.{Read, behind, either_reader, if_some, looked_up, meant_by, name_from, name_in, next_in, took, wrong, ◌and_then◌}
 use Rattle.ep_parse_expr.specs.Sayings.{word_next, word_of}
 use Rattle.ep_parse_model.proofs.CommaTurns.{stops_all, stops_so}
 use Rattle.ep_parse_model.specs.TextReaders.{allowed_statement_from, allows, full, placed_name_from, placed_name_in, statement_behind, statement_words}
@@ -27,7 +27,7 @@ unfolding name_from placed_name_from
 placed_is [] = refl
 placed_is (l ∷ ls) = placed_in l l.saying ls
 
-pub placed_fails : (ls new : List Lexeme) (e : Stop) → Stops e new (name_from ls) → Stops e new (placed_name_from ls)
+pub placed_fails : (ls new : List Lexeme) (e : Stop) → StopsReading e new (name_from ls) → StopsReading e new (placed_name_from ls)
 placed_fails ls new e h = stops_so e new _ (placed_name_from ls) (placed_is ls) (stops_all e new (name_from ls) (λ x rest. took (x, place_next ls) rest) h)
 
 pub placed_reads : (ls new : List Lexeme) (x y : Name) (p : Place) → name_from ls ≡ took x new → y ≡ x → p ≡ place_next ls → placed_name_from ls ≡ took (y, p) new
@@ -64,14 +64,14 @@ next_is_none words (l ∷ ls) h = meant_none words l.saying h
 pub no_word : (allowed : Allowed) (ls : List Lexeme) → next_in statement_words ls ≡ None → allowed_statement_from full allowed ls ≡ wrong ls
 unfolding allowed_statement_from
 no_word allowed ls h =
-    ap (λ o. if_some o (λ what. chosen (allows allowed what) (λ all. statement_behind full (place_next all) what (behind all)) (λ all. wrong all) ls) (wrong ls)) h
+    ap (λ o. if_some o (λ what. either_reader (allows allowed what) (λ all. statement_behind full (place_next all) what (behind all)) (λ all. wrong all) ls) (wrong ls)) h
 
 with_word : (allowed : Allowed) (ls : List Lexeme) (what : Opening) (may : Bool) → next_in statement_words ls ≡ Some what → allows allowed what ≡ may
-    → allowed_statement_from full allowed ls ≡ chosen may (λ all. statement_behind full (place_next all) what (behind all)) (λ all. wrong all) ls
+    → allowed_statement_from full allowed ls ≡ either_reader may (λ all. statement_behind full (place_next all) what (behind all)) (λ all. wrong all) ls
 unfolding allowed_statement_from
 with_word allowed ls what may h k =
-    ap (λ o. if_some o (λ what. chosen (allows allowed what) (λ all. statement_behind full (place_next all) what (behind all)) (λ all. wrong all) ls) (wrong ls)) h
-    ∙ ap (λ b. chosen b (λ all. statement_behind full (place_next all) what (behind all)) (λ all. wrong all) ls) k
+    ap (λ o. if_some o (λ what. either_reader (allows allowed what) (λ all. statement_behind full (place_next all) what (behind all)) (λ all. wrong all) ls) (wrong ls)) h
+    ∙ ap (λ b. either_reader b (λ all. statement_behind full (place_next all) what (behind all)) (λ all. wrong all) ls) k
 
 -- the statement that the next word begins may not come
 pub may_not : (allowed : Allowed) (ls : List Lexeme) (what : Opening) → next_in statement_words ls ≡ Some what → allows allowed what ≡ false → allowed_statement_from full allowed ls ≡ wrong ls

@@ -10,7 +10,7 @@ use Rattle.ep_parse_expr.proofs.CompletingAll.{all_open}
 use Rattle.ep_parse_expr.proofs.Steady.{Cut, Cuts, Steady}
 use Rattle.ep_parse_expr.proofs.SteadyAll.{all_sound}
 use Rattle.ep_parse_expr.proofs.SteadyOperators.{Higher}
-use Rattle.ep_parse_expr.specs.Cursors.{Stops}
+use Rattle.ep_parse_expr.specs.Cursors.{StopsReading}
 use Rattle.ep_parse_expr.specs.declared.cursor.Stop.{Stop}
 use Rattle.ep_parse_expr.specs.declared.cursor.Stop.TheVariants.{Memory, TooHigh, Wrong}
 use Rattle.ep_parse_expr.specs.Readers.{Reader, behind, high, took, wrong}
@@ -18,7 +18,7 @@ use Rattle.ep_parse_model.proofs.TextFaults.{AreBegun, high_is_fault, wrong_is_f
 use Rattle.ep_parse_model.proofs.TextStops.{model_complete, model_so, params_complete, params_so}
 use Rattle.ep_parse_model.proofs.TextsBegun.{model_refuses, params_refuses}
 use Rattle.ep_parse_model.proofs.TextsSteady.{Going}
-use Rattle.ep_parse_model.specs.Answers.{Refuses, place_left, refusal_of}
+use Rattle.ep_parse_model.specs.Answers.{RefusesText, place_left, refusal_of}
 use Rattle.ep_parse_model.specs.TextReaders.{full, model_from, params_from}
 use Rattle.ep_tree.specs.Phrases.{Lexeme, Phrase, lexemes_of}
 use Rattle.ep_tree.specs.Reading.{Begins, IsTextFault, IsTooHigh, Low, MOST_HEIGHT}
@@ -116,7 +116,7 @@ module _ (spells : TextTree → Phrase) (reader : ℕ → Reader TextTree)
           stands = ap (place_left text) w.left ∙ sym (place_found text ts w.front (w.token ∷ w.after) w.parts);
         }
 
-    stopped : (left : List Lexeme) (stop : Stop) → Stops stop left (reader MOST_HEIGHT (lexemes_of text ts)) → Refuses spells text (refusal_of text left stop)
+    stopped : (left : List Lexeme) (stop : Stop) → StopsReading stop left (reader MOST_HEIGHT (lexemes_of text ts)) → RefusesText spells text (refusal_of text left stop)
     stopped left Wrong e = wrong_text left e
     stopped left TooHigh e = high_text left e
     stopped left Memory e = tt
@@ -132,14 +132,14 @@ texts most = params_from (readers most)
 some_height : 1 ≤ MOST_HEIGHT
 some_height = omega arith
 
-pub model_stopped : (text : List ℕ) (ts : List Token) (ls left : List Lexeme) (stop : Stop) → length text ≤ MOST_BYTES → tokens_of text ≡ Ok ts → ls ≡ lexemes_of text ts → Stops stop left (model_from full ls)
-    → Refuses SpellsModel text (refusal_of text left stop)
+pub model_stopped : (text : List ℕ) (ts : List Token) (ls left : List Lexeme) (stop : Stop) → length text ≤ MOST_BYTES → tokens_of text ≡ Ok ts → ls ≡ lexemes_of text ts → StopsReading stop left (model_from full ls)
+    → RefusesText SpellsModel text (refusal_of text left stop)
 model_stopped text ts ls left stop short found all h =
     stopped SpellsModel models model_complete model_so (λ z. model_refuses MOST_HEIGHT some_height (readers MOST_HEIGHT) (all_sound MOST_HEIGHT) (all_open MOST_HEIGHT) z) text ts short found left stop
-    (subst (λ z. Stops stop left (model_from full z)) all h)
+    (subst (λ z. StopsReading stop left (model_from full z)) all h)
 
-pub params_stopped : (text : List ℕ) (ts : List Token) (ls left : List Lexeme) (stop : Stop) → length text ≤ MOST_BYTES → tokens_of text ≡ Ok ts → ls ≡ lexemes_of text ts → Stops stop left (params_from full ls)
-    → Refuses SpellsParams text (refusal_of text left stop)
+pub params_stopped : (text : List ℕ) (ts : List Token) (ls left : List Lexeme) (stop : Stop) → length text ≤ MOST_BYTES → tokens_of text ≡ Ok ts → ls ≡ lexemes_of text ts → StopsReading stop left (params_from full ls)
+    → RefusesText SpellsParams text (refusal_of text left stop)
 params_stopped text ts ls left stop short found all h =
     stopped SpellsParams texts params_complete params_so (λ z. params_refuses MOST_HEIGHT some_height (readers MOST_HEIGHT) (all_sound MOST_HEIGHT) (all_open MOST_HEIGHT) z) text ts short found left stop
-    (subst (λ z. Stops stop left (params_from full z)) all h)
+    (subst (λ z. StopsReading stop left (params_from full z)) all h)

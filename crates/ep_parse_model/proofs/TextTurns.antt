@@ -2,10 +2,10 @@
 use Rattle.std.specs.Prelude.{◌≡◌, ℕ, zero, suc, ◌≤◌, ◌<◌, Bool, true, false, List, [], ◌∷◌, ◌++◌, length, codes, refl}
 use Rattle.std.proofs.Common.{ap, append-nil, arith, sym, ◌∙◌}
 use Rattle.ep_parse_expr.proofs.NameTurns.{continued}
-use Rattle.ep_parse_expr.specs.Cursors.{Stops, none_left, passing}
+use Rattle.ep_parse_expr.specs.Cursors.{StopsReading, none_left, passing}
 use Rattle.ep_parse_expr.specs.declared.cursor.Stop.{Stop}
 use Rattle.ep_parse_expr.specs.OperandReaders.{expression_next}
-use Rattle.ep_parse_expr.specs.Readers.{Read, Reader, behind, chosen, high, says, took, wrong, ◌and_then◌}
+use Rattle.ep_parse_expr.specs.Readers.{Read, Reader, behind, either_reader, high, says, took, wrong, ◌and_then◌}
 use Rattle.ep_parse_model.proofs.CommaTurns.{one_more, passed, stops_all, stops_so}
 use Rattle.ep_parse_model.proofs.Shrinking.{behind_short, expr_shrinks, statement_shrinks}
 use Rattle.ep_parse_model.specs.TextReaders.{allowed_behind, allowed_statement_from, expressions_from, expressions_within, full, statements_from, statements_within}
@@ -20,15 +20,15 @@ use Rattle.ep_tree.specs.Trees.{ExprTree}
 -- what is read behind an expression, where others are read so
 abbrev behind_expr : Reader (List ExprTree) → ExprTree → Reader (List ExprTree)
 behind_expr others e rest =
-    chosen (says (codes ",") rest) (λ next. others (behind next) and_then λ es end. took (e ∷ es) end) (λ next. took (e ∷ []) next) rest
+    either_reader (says (codes ",") rest) (λ next. others (behind next) and_then λ es end. took (e ∷ es) end) (λ next. took (e ∷ []) next) rest
 
 -- a turn of reading expressions, where others are read so
 abbrev expr_turn : Reader (List ExprTree) → Reader (List ExprTree)
-expr_turn others ls = chosen (expression_next ls) (λ all. full.expr implications all and_then behind_expr others) (λ all. took [] all) ls
+expr_turn others ls = either_reader (expression_next ls) (λ all. full.expr implications all and_then behind_expr others) (λ all. took [] all) ls
 
 same_behind : (F G : Reader (List ExprTree)) (b : Bool) (e : ExprTree) (rest : List Lexeme) → F (behind rest) ≡ G (behind rest)
-    → chosen b (λ next. F (behind next) and_then λ es end. took (e ∷ es) end) (λ next. took (e ∷ []) next) rest
-    ≡ chosen b (λ next. G (behind next) and_then λ es end. took (e ∷ es) end) (λ next. took (e ∷ []) next) rest
+    → either_reader b (λ next. F (behind next) and_then λ es end. took (e ∷ es) end) (λ next. took (e ∷ []) next) rest
+    ≡ either_reader b (λ next. G (behind next) and_then λ es end. took (e ∷ es) end) (λ next. took (e ∷ []) next) rest
 same_behind F G true e rest agree = ap (λ r. r and_then λ es end. took (e ∷ es) end) agree
 same_behind F G false e rest agree = refl
 
@@ -39,7 +39,7 @@ same_read F G (wrong ls) agree = refl
 same_read F G (high ls) agree = refl
 
 same_chosen : (F G : Reader (List ExprTree)) (b : Bool) (ls : List Lexeme) → (full.expr implications ls and_then behind_expr F) ≡ (full.expr implications ls and_then behind_expr G)
-    → chosen b (λ all. full.expr implications all and_then behind_expr F) (λ all. took [] all) ls ≡ chosen b (λ all. full.expr implications all and_then behind_expr G) (λ all. took [] all) ls
+    → either_reader b (λ all. full.expr implications all and_then behind_expr F) (λ all. took [] all) ls ≡ either_reader b (λ all. full.expr implications all and_then behind_expr G) (λ all. took [] all) ls
 same_chosen F G true ls agree = agree
 same_chosen F G false ls agree = refl
 
@@ -72,27 +72,27 @@ module _ (items : List ExprTree) (cursor start : List Lexeme) (inv : continued i
   exprs_end none =
       sym inv
       ∙ ap (λ r. continued items r)
-      (exprs_turn cursor ∙ ap (λ b. chosen b (λ all. full.expr implications all and_then behind_expr (expressions_from full)) (λ all. took [] all) cursor) none)
+      (exprs_turn cursor ∙ ap (λ b. either_reader b (λ all. full.expr implications all and_then behind_expr (expressions_from full)) (λ all. took [] all) cursor) none)
       ∙ ap (λ xs. took xs cursor) (append-nil items)
 
   seen : expression_next cursor ≡ true → continued items (full.expr implications cursor and_then behind_expr (expressions_from full)) ≡ expressions_from full start
   seen some =
       sym (ap (λ r. continued items r)
-      (exprs_turn cursor ∙ ap (λ b. chosen b (λ all. full.expr implications all and_then behind_expr (expressions_from full)) (λ all. took [] all) cursor) some))
+      (exprs_turn cursor ∙ ap (λ b. either_reader b (λ all. full.expr implications all and_then behind_expr (expressions_from full)) (λ all. took [] all) cursor) some))
       ∙ inv
 
-  pub exprs_fail : (new : List Lexeme) (e : Stop) → expression_next cursor ≡ true → Stops e new (full.expr implications cursor) → Stops e new (expressions_from full start)
+  pub exprs_fail : (new : List Lexeme) (e : Stop) → expression_next cursor ≡ true → StopsReading e new (full.expr implications cursor) → StopsReading e new (expressions_from full start)
   exprs_fail new e some k =
       stops_so e new _ (expressions_from full start) (seen some)
       (stops_all e new (full.expr implications cursor and_then behind_expr (expressions_from full)) (λ ys end. took (items ++ ys) end)
       (stops_all e new (full.expr implications cursor) (behind_expr (expressions_from full)) k))
 
   with_expr : (mid : List Lexeme) (e : ExprTree) (comma : Bool) → expression_next cursor ≡ true → full.expr implications cursor ≡ took e mid → says (codes ",") mid ≡ comma
-      → expressions_from full start ≡ continued items (chosen comma (λ next. expressions_from full (behind next) and_then λ es end. took (e ∷ es) end) (λ next. took (e ∷ []) next) mid)
+      → expressions_from full start ≡ continued items (either_reader comma (λ next. expressions_from full (behind next) and_then λ es end. took (e ∷ es) end) (λ next. took (e ∷ []) next) mid)
   with_expr mid e comma some first is =
       sym (seen some)
       ∙ ap (λ r. continued items (r and_then behind_expr (expressions_from full))) first
-      ∙ ap (λ b. continued items (chosen b (λ next. expressions_from full (behind next) and_then λ es end. took (e ∷ es) end) (λ next. took (e ∷ []) next) mid)) is
+      ∙ ap (λ b. continued items (either_reader b (λ next. expressions_from full (behind next) and_then λ es end. took (e ∷ es) end) (λ next. took (e ∷ []) next) mid)) is
 
   -- no comma comes: this is the last
   pub exprs_last : (mid new : List Lexeme) (e : ExprTree) → expression_next cursor ≡ true → full.expr implications cursor ≡ took e mid → (false, new) ≡ passing (codes ",") mid
@@ -160,7 +160,7 @@ turned items allowed [] all inv some = let wrong_way : true ≡ false = some in 
 turned items allowed (l ∷ ls) all inv some = sym (ap (λ r. continued items r) (statements_turn allowed l ls)) ∙ inv
 
 pub statements_fail : (items : TextTree) (allowed : Allowed) (cursor new : List Lexeme) (all : Read TextTree) (e : Stop) → continued items (statements_from full allowed cursor) ≡ all → none_left cursor ≡ false
-    → Stops e new (allowed_statement_from full allowed cursor) → Stops e new all
+    → StopsReading e new (allowed_statement_from full allowed cursor) → StopsReading e new all
 statements_fail items allowed cursor new all e inv some k =
     stops_so e new _ all (turned items allowed cursor all inv some)
     (stops_all e new (allowed_statement_from full allowed cursor and_then behind_statement (statements_from full) allowed) (λ ys end. took (items ++ ys) end)

@@ -8,7 +8,7 @@ use Rattle.ep_base.specs.declared.places.Place.{Place}
 use Rattle.ep_parse_model.specs.declared.openings.Allowed.{Allowed}
 use Rattle.ep_parse_model.specs.declared.openings.Opening.{Opening}
 use Rattle.ep_parse_expr.specs.OperandReaders.{Lower, expression_next}
-use Rattle.ep_parse_expr.specs.Readers.{Read, behind, chosen, high, if_some, looked_up, name_from, name_in, next_in, number_from, says, took, word_from, wrong, ◌and_then◌}
+use Rattle.ep_parse_expr.specs.Readers.{Read, behind, either_reader, high, if_some, looked_up, name_from, name_in, next_in, number_from, says, took, word_from, wrong, ◌and_then◌}
 use Rattle.ep_parse_expr.proofs.Again.{AreComplete, DomainEnds, NoImplications, behind_word_cut, lexeme}
 use Rattle.ep_parse_expr.proofs.AgainAll.{all_complete, readers}
 use Rattle.ep_parse_expr.proofs.AgainPhrases.{Again, word_then}
@@ -259,7 +259,7 @@ module _ (less : ℕ) (low : Lower) (good : AreComplete less low) where
   unfolding stated_from SpellsStated stated_height says
   stated_again None f g ls h b small =
       subst (λ x. stated_from low (x ++ (g ++ ls)) ≡ took None (g ++ ls)) (sym h)
-      (ap (λ c. chosen c (λ all. low.domain domains (behind all) and_then λ d rest. took (Some d) rest) (λ all. took None all) (g ++ ls)) (be_no_colon g ls b))
+      (ap (λ c. either_reader c (λ all. low.domain domains (behind all) and_then λ d rest. took (Some d) rest) (λ all. took None all) (g ++ ls)) (be_no_colon g ls b))
   stated_again (Some d) f g ls h b small =
       let c = behind_word_cut (codes ":") (SpellsDomain domains d) f h in
       ap (λ x. stated_from low (x ++ (g ++ ls))) c.parts
@@ -323,7 +323,7 @@ module _ (less : ℕ) (low : Lower) (good : AreComplete less low) where
       let cut : front ++ rest ≡ h.0 ++ last ∷ rest = ap (λ z. z ++ rest) h.2 ∙ append_assoc h.0 h.1 rest ∙ ap (λ z. h.0 ++ (z ++ rest)) h.4.1 in
       let named : says (codes "]") (h.0 ++ last ∷ rest) ≡ false = ap (λ z. says (codes "]") (z ++ last ∷ rest)) (placed_cut x xs h.0 h.3).parts in
       ap (λ z. bracket_names_from z and_then λ names end. word_from (codes "]") end and_then λ _ after. took (branching p names) after) cut
-      ∙ ap (λ b. chosen b (λ all. took [] all) placed_names_from (h.0 ++ last ∷ rest) and_then λ names end. word_from (codes "]") end and_then λ _ after. took (branching p names) after) named
+      ∙ ap (λ b. either_reader b (λ all. took [] all) placed_names_from (h.0 ++ last ∷ rest) and_then λ names end. word_from (codes "]") end and_then λ _ after. took (branching p names) after) named
       ∙ ap (λ r. r and_then λ names end. word_from (codes "]") end and_then λ _ after. took (branching p names) after) (placed_names_again (x ∷ xs) (last ∷ rest) refl h.0 h.3)
 
   branching_again : (p : Place) (xs : List (Name × Place)) (rest : List Lexeme) → Again (Behind_word (branching p xs)) (branching_from p) (branching p xs) rest
@@ -361,8 +361,8 @@ module _ (less : ℕ) (low : Lower) (good : AreComplete less low) where
       let here : c.place ≡ at s = subst (λ x. StartsAt (at s) x) c.parts k.0 in
       let all = lexeme c.place (a_word c.word) ∷ (c.rest ++ rest) in
       ap (λ x. allowed_statement_from low allowed (x ++ rest)) c.parts
-      ∙ ap (λ o. if_some o (λ what. chosen (allows allowed what) (λ ls. statement_behind low (place_next ls) what (behind ls)) (λ ls. wrong ls) all) (wrong all)) (c.found (c.rest ++ rest))
-      ∙ ap (λ b. chosen b (λ ls. statement_behind low (place_next ls) (opening_of s) (behind ls)) (λ ls. wrong ls) all) may
+      ∙ ap (λ o. if_some o (λ what. either_reader (allows allowed what) (λ ls. statement_behind low (place_next ls) what (behind ls)) (λ ls. wrong ls) all) (wrong all)) (c.found (c.rest ++ rest))
+      ∙ ap (λ b. either_reader b (λ ls. statement_behind low (place_next ls) (opening_of s) (behind ls)) (λ ls. wrong ls) all) may
       ∙ ap (λ q. statement_behind low q (opening_of s) (c.rest ++ rest)) here
       ∙ behind_again s rest small after c.rest c.spelled
 
@@ -422,14 +422,14 @@ module _ (less : ℕ) (low : Lower) (good : AreComplete less low) where
 
       go : (LanguageLine h.1.0 ⊎ (h.1.0 ≡ [])) → params_from low front ≡ took ss []
       go (inl l) =
-          ap (λ b. chosen b (λ all. line_from all and_then λ _ rest. statements_from low Allowed.Lettings rest) (statements_from low Allowed.Lettings) front)
+          ap (λ b. either_reader b (λ all. line_from all and_then λ _ rest. statements_from low Allowed.Lettings rest) (statements_from low Allowed.Lettings) front)
           (with_line (SpellsStatements ss) front (h.1.0, h.1.1, h.1.2, l, h.1.4))
           ∙ ap (λ ls. line_from ls and_then λ _ rest. statements_from low Allowed.Lettings rest) h.1.2
           ∙ ap (λ r. r and_then λ _ rest. statements_from low Allowed.Lettings rest) (line_again h.1.0 h.1.1 l).1
           ∙ statements_again Allowed.Lettings ss h.1.1 h.1.4 small fits
       go (inr l) =
           let all : SpellsStatements ss front = subst (SpellsStatements ss) (sym (h.1.2 ∙ ap (λ x. x ++ h.1.1) l)) h.1.4 in
-          ap (λ b. chosen b (λ all. line_from all and_then λ _ rest. statements_from low Allowed.Lettings rest) (statements_from low Allowed.Lettings) front) (no_line ss front all)
+          ap (λ b. either_reader b (λ all. line_from all and_then λ _ rest. statements_from low Allowed.Lettings rest) (statements_from low Allowed.Lettings) front) (no_line ss front all)
           ∙ statements_again Allowed.Lettings ss front all small fits
 
 -- ---- one text

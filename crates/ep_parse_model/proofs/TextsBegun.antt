@@ -8,7 +8,7 @@ use Rattle.ep_parse_model.specs.declared.openings.Allowed.{Allowed}
 use Rattle.ep_parse_model.specs.declared.openings.Opening.{Opening}
 use Rattle.ep_parse_expr.specs.DomainReaders.{place_next}
 use Rattle.ep_parse_expr.specs.OperandReaders.{Lower, expression_next}
-use Rattle.ep_parse_expr.specs.Readers.{Read, Reader, behind, behind_comma, chosen, high, if_some, meant_by, name_from, name_in, next_in, number_from, others_from, says, took, word_from, wrong, ◌and_then◌}
+use Rattle.ep_parse_expr.specs.Readers.{Read, Reader, behind, behind_comma, either_reader, high, if_some, meant_by, name_from, name_in, next_in, number_from, others_from, says, took, word_from, wrong, ◌and_then◌}
 use Rattle.ep_parse_expr.specs.Sayings.{says_number}
 use Rattle.ep_parse_expr.proofs.Completing.{ADomain, AnExpr, Filled, Lifts, Refuses, Shape, Word, domain_filled, domain_lifts, expr_filled, next_then, refuses_as, refuses_behind, refuses_chosen, refuses_made, refuses_then, refuses_took, refuses_wrong, somewhere, then_filled, word_filled, word_refuses, word_then, ◌then◌}
 use Rattle.ep_parse_expr.proofs.CompletingParts.{AreOpen, domain_taken, expr_then, sep_refuses, unlimited}
@@ -347,7 +347,7 @@ module _ (less : ℕ) (some : 1 ≤ less) (low : Lower) (sound : AreSound less l
     after_name_refuses rest = go (says (codes ":") rest) refl
       where
         go : (b : Bool) → says (codes ":") rest ≡ b
-            → Refuses AfterName rest (chosen b (λ all. low.domain domains (behind all) and_then λ d next. took (Some d) next) (λ all. took None all) rest and_then Behind_stated)
+            → Refuses AfterName rest (either_reader b (λ all. low.domain domains (behind all) and_then λ d next. took (Some d) next) (λ all. took None all) rest and_then Behind_stated)
         go true c =
             subst (λ r. Refuses AfterName rest r) (sym (grouped (low.domain domains (behind rest)) (λ d next. took (Some d) next) Behind_stated))
             (next_then (codes ":") AfterColon AfterName rest _ (says_sound (codes ":") rest c) after_colon_filled (λ b front h. inl h)
@@ -502,7 +502,7 @@ module _ (less : ℕ) (some : 1 ≤ less) (low : Lower) (sound : AreSound less l
   allowed_refuses allowed (l ∷ ls) = go (meant_by statement_words l.saying) refl
     where
       may : (what : Opening) → meant_by statement_words l.saying ≡ Some what → (b : Bool) → allows allowed what ≡ b
-          → Refuses (AStatement allowed) (l ∷ ls) (chosen b (λ z. statement_behind low (place_next z) what (behind z)) (λ z. wrong z) (l ∷ ls))
+          → Refuses (AStatement allowed) (l ∷ ls) (either_reader b (λ z. statement_behind low (place_next z) what (behind z)) (λ z. wrong z) (l ∷ ls))
       may what e true k =
           refuses_behind (λ front. front ≡ l ∷ []) (ABehind what less) (AStatement allowed) (l ∷ ls) ls (statement_behind low l.place what ls) (token_taken l ls)
           (λ b front back is q. subst (λ z. AStatement allowed b (z ++ back)) (sym is) (at_word l allowed b what back (meant_by-related Opens statement_words are_openings l l.saying refl what e) k q))
@@ -510,7 +510,7 @@ module _ (less : ℕ) (some : 1 ≤ less) (low : Lower) (sound : AreSound less l
       may what e false k = refuses_wrong (AStatement allowed) (l ∷ ls)
 
       go : (o : Option Opening) → meant_by statement_words l.saying ≡ o
-          → Refuses (AStatement allowed) (l ∷ ls) (if_some o (λ what. chosen (allows allowed what) (λ z. statement_behind low (place_next z) what (behind z)) (λ z. wrong z) (l ∷ ls)) (wrong (l ∷ ls)))
+          → Refuses (AStatement allowed) (l ∷ ls) (if_some o (λ what. either_reader (allows allowed what) (λ z. statement_behind low (place_next z) what (behind z)) (λ z. wrong z) (l ∷ ls)) (wrong (l ∷ ls)))
       go None e = refuses_wrong (AStatement allowed) (l ∷ ls)
       go (Some what) e = may what e (allows allowed what) refl
 

@@ -10,7 +10,7 @@ use Rattle.ep_parse_model.specs.declared.openings.Allowed.{Allowed}
 use Rattle.ep_parse_model.specs.declared.openings.Opening.{Opening}
 use Rattle.ep_parse_expr.specs.DomainReaders.{place_next}
 use Rattle.ep_parse_expr.specs.OperandReaders.{Lower, expression_next}
-use Rattle.ep_parse_expr.specs.Readers.{Reader, behind, chosen, if_some, is_word, meant_by, next_in, number_from, says, took, word_from, wrong, ◌and_then◌}
+use Rattle.ep_parse_expr.specs.Readers.{Reader, behind, either_reader, if_some, says_word, meant_by, next_in, number_from, says, took, word_from, wrong, ◌and_then◌}
 use Rattle.ep_parse_expr.specs.Sayings.{says_number}
 use Rattle.ep_parse_expr.proofs.SoundParts.{AreSound}
 use Rattle.ep_parse_expr.proofs.Steady.{Cut, Cuts, Decides, Look, Steady, at_end, before_cut, behind_cut, decided, decided_within, gone, head, inside, left_by, look, name_steady, neither, next_word_steady, steady_after, steady_then, took_steady, word_steady, wrong_steady}
@@ -50,7 +50,7 @@ module _ (c : Cut) where
       (λ x rest rest2 le t. commas_steady c (λ last. placed_name_from) (λ last. placed_name_from) (λ last. placed_steady) (λ xs end. took (x ∷ xs) end) (λ xs end. took (x ∷ xs) end) (λ xs. took_steady c (x ∷ xs)) x rest rest2 t)
 
   number_decides : (b : Bool) (l : Lexeme) (rest rest2 : List Lexeme) → Cuts c rest rest2
-      → Decides c (length rest) (chosen b (λ all. took l.place rest) (λ all. wrong all) (l ∷ rest)) (chosen b (λ all. took l.place rest2) (λ all. wrong all) (l ∷ rest2)) (wrong (l ∷ rest)) (wrong (l ∷ rest2)) (l ∷ rest) (l ∷ rest2)
+      → Decides c (length rest) (either_reader b (λ all. took l.place rest) (λ all. wrong all) (l ∷ rest)) (either_reader b (λ all. took l.place rest2) (λ all. wrong all) (l ∷ rest2)) (wrong (l ∷ rest)) (wrong (l ∷ rest2)) (l ∷ rest) (l ∷ rest2)
   number_decides true l rest rest2 s = inside (took_steady c l.place rest rest2 s)
   number_decides false l rest rest2 s = neither refl refl
 
@@ -68,18 +68,18 @@ module _ (c : Cut) where
       (λ _ d d2 le v. steady_then c (length d) _ _ _ _ (word_steady c (codes ".") d d2 v)
       (λ _ e e2 le w. number_steady (pos 0) e e2 w))))
 
-  be_decides : (b : Bool) (l : Lexeme) (rest rest2 : List Lexeme) → is_word (codes "be") l.saying ≡ b → Cuts c rest rest2
-      → Decides c (length rest) (chosen b (word_from (codes "be")) (word_from (codes "=")) (l ∷ rest)) (chosen b (word_from (codes "be")) (word_from (codes "=")) (l ∷ rest2))
+  be_decides : (b : Bool) (l : Lexeme) (rest rest2 : List Lexeme) → says_word (codes "be") l.saying ≡ b → Cuts c rest rest2
+      → Decides c (length rest) (either_reader b (word_from (codes "be")) (word_from (codes "=")) (l ∷ rest)) (either_reader b (word_from (codes "be")) (word_from (codes "=")) (l ∷ rest2))
       (word_from (codes "=") (l ∷ rest)) (word_from (codes "=") (l ∷ rest2)) (l ∷ rest) (l ∷ rest2)
   unfolding word_from
   be_decides true l rest rest2 e s =
-      inside (subst (λ z. Steady c (length rest) (chosen z (λ all. took l.place rest) (λ all. wrong all) (l ∷ rest)) (chosen z (λ all. took l.place rest2) (λ all. wrong all) (l ∷ rest2))) (sym e) (took_steady c l.place rest rest2 s))
+      inside (subst (λ z. Steady c (length rest) (either_reader z (λ all. took l.place rest) (λ all. wrong all) (l ∷ rest)) (either_reader z (λ all. took l.place rest2) (λ all. wrong all) (l ∷ rest2))) (sym e) (took_steady c l.place rest rest2 s))
   be_decides false l rest rest2 e s = neither refl refl
 
   be_steady : (ls ls2 : List Lexeme) → Cuts c ls ls2 → Steady c (length ls) (be_from ls) (be_from ls2)
   unfolding be_from says
   be_steady ls ls2 s =
-      decided c be_from be_from (word_from (codes "=")) (word_from (codes "=")) refl refl (λ l rest rest2 t. be_decides (is_word (codes "be") l.saying) l rest rest2 refl t) ls ls2 s (word_steady c (codes "=") ls ls2 s)
+      decided c be_from be_from (word_from (codes "=")) (word_from (codes "=")) refl refl (λ l rest rest2 t. be_decides (says_word (codes "be") l.saying) l rest rest2 refl t) ls ls2 s (word_steady c (codes "=") ls ls2 s)
 
   module _ (less : ℕ) (low low2 : Lower) (good : AreSteady c less low low2) where
     -- ---- groups and lettings
@@ -125,11 +125,11 @@ module _ (c : Cut) where
 
 -- what is read behind an expression, with so many steps
 abbrev Behind_expr : Lower → ℕ → ExprTree → Reader (List ExprTree)
-Behind_expr l m e ls = chosen (says (codes ",") ls) (λ next. expressions_within l m (behind next) and_then λ es end. took (e ∷ es) end) (λ next. took (e ∷ []) next) ls
+Behind_expr l m e ls = either_reader (says (codes ",") ls) (λ next. expressions_within l m (behind next) and_then λ es end. took (e ∷ es) end) (λ next. took (e ∷ []) next) ls
 
 -- a turn of reading expressions, where this is whether one begins
 abbrev Turn : Bool → Lower → ℕ → Reader (List ExprTree)
-Turn b l m ls = chosen b (λ all. l.expr implications all and_then Behind_expr l m) (λ all. took [] all) ls
+Turn b l m ls = either_reader b (λ all. l.expr implications all and_then Behind_expr l m) (λ all. took [] all) ls
 
 nothing_left : (low : Lower) → length (left_by (expressions_within low zero [])) ≤ 0
 unfolding expressions_within
@@ -180,10 +180,10 @@ module _ (c : Cut) (going : Going c) where
   bracket_names_steady : (ls ls2 : List Lexeme) → Cuts c ls ls2 → Steady c (length ls) (bracket_names_from ls) (bracket_names_from ls2)
   unfolding bracket_names_from says placed_names_from placed_name_from
   bracket_names_steady ls ls2 s =
-      by_first bracket_names_from bracket_names_from (omega arith) (λ u. wrong_steady c [] [] u) (λ l rest rest2 t u. both (is_word (codes "]") l.saying) l rest rest2 u) ls ls2 s
+      by_first bracket_names_from bracket_names_from (omega arith) (λ u. wrong_steady c [] [] u) (λ l rest rest2 t u. both (says_word (codes "]") l.saying) l rest rest2 u) ls ls2 s
     where
       both : (b : Bool) (l : Lexeme) (rest rest2 : List Lexeme) → Cuts c (l ∷ rest) (l ∷ rest2)
-          → Steady c (length (l ∷ rest)) (chosen b (λ all. took [] all) placed_names_from (l ∷ rest)) (chosen b (λ all. took [] all) placed_names_from (l ∷ rest2))
+          → Steady c (length (l ∷ rest)) (either_reader b (λ all. took [] all) placed_names_from (l ∷ rest)) (either_reader b (λ all. took [] all) placed_names_from (l ∷ rest2))
       both true l rest rest2 u = took_steady c [] (l ∷ rest) (l ∷ rest2) u
       both false l rest rest2 u = placed_names_steady c (l ∷ rest) (l ∷ rest2) u
 
@@ -200,8 +200,8 @@ module _ (c : Cut) (going : Going c) where
 
     module _ (n k : ℕ) (ih : (ls ls2 : List Lexeme) → length ls ≤ n → length ls2 ≤ k → Cuts c ls ls2 → Steady c (length ls) (expressions_within low n ls) (expressions_within low2 k ls2)) where
       comma_decides : (e : ExprTree) (b : Bool) (l : Lexeme) (rest rest2 : List Lexeme) → length rest < suc n → length rest2 < suc k → Cuts c rest rest2
-          → Decides c (length rest) (chosen b (λ next. expressions_within low n (behind next) and_then λ es end. took (e ∷ es) end) (λ next. took (e ∷ []) next) (l ∷ rest))
-          (chosen b (λ next. expressions_within low2 k (behind next) and_then λ es end. took (e ∷ es) end) (λ next. took (e ∷ []) next) (l ∷ rest2)) (took (e ∷ []) (l ∷ rest)) (took (e ∷ []) (l ∷ rest2)) (l ∷ rest) (l ∷ rest2)
+          → Decides c (length rest) (either_reader b (λ next. expressions_within low n (behind next) and_then λ es end. took (e ∷ es) end) (λ next. took (e ∷ []) next) (l ∷ rest))
+          (either_reader b (λ next. expressions_within low2 k (behind next) and_then λ es end. took (e ∷ es) end) (λ next. took (e ∷ []) next) (l ∷ rest2)) (took (e ∷ []) (l ∷ rest)) (took (e ∷ []) (l ∷ rest2)) (l ∷ rest) (l ∷ rest2)
       comma_decides e true l rest rest2 lt lt2 t =
           inside (steady_then c (length rest) (expressions_within low n rest) (expressions_within low2 k rest2) _ _ (ih rest rest2 (omega (arith, lt)) (omega (arith, lt2)) t) (λ es z z2 le u. took_steady c (e ∷ es) z z2 u))
       comma_decides e false l rest rest2 lt lt2 t = neither refl refl
@@ -210,7 +210,7 @@ module _ (c : Cut) (going : Going c) where
       unfolding says
       behind_room e r r2 few few2 s =
           decided_within c (suc n) (suc k) (omega arith) (Behind_expr low n e) (Behind_expr low2 k e) (λ z. took (e ∷ []) z) (λ z. took (e ∷ []) z) refl refl
-          (λ l rest rest2 lt lt2 t. comma_decides e (is_word (codes ",") l.saying) l rest rest2 lt lt2 t) r r2 few few2 s (took_steady c (e ∷ []) r r2 s)
+          (λ l rest rest2 lt lt2 t. comma_decides e (says_word (codes ",") l.saying) l rest rest2 lt lt2 t) r r2 few few2 s (took_steady c (e ∷ []) r r2 s)
 
       behind_steady : (e : ExprTree) (ls ls2 r r2 : List Lexeme) → Cuts c ls ls2 → length ls ≤ suc n → length ls2 ≤ suc k → length r ≤ length ls → Cuts c r r2 → Steady c (length r) (Behind_expr low n e r) (Behind_expr low2 k e r2)
       behind_steady e ls ls2 r r2 s few few2 le u = by (room c (suc k) ls ls2 r r2 s u le few2)
@@ -288,10 +288,10 @@ module _ (c : Cut) (going : Going c) where
 
     -- what a word begins, where it may come
     abbrev Opened : Lower → Allowed → Option Opening → Reader StatementTree
-    Opened l allowed o ls = if_some o (λ what. chosen (allows allowed what) (λ all. statement_behind l (place_next all) what (behind all)) (λ all. wrong all) ls) (wrong ls)
+    Opened l allowed o ls = if_some o (λ what. either_reader (allows allowed what) (λ all. statement_behind l (place_next all) what (behind all)) (λ all. wrong all) ls) (wrong ls)
 
     may_decides : (b : Bool) (what : Opening) (l : Lexeme) (rest rest2 : List Lexeme) → Cuts c rest rest2
-        → Decides c (length rest) (chosen b (λ all. statement_behind low (place_next all) what (behind all)) (λ all. wrong all) (l ∷ rest)) (chosen b (λ all. statement_behind low2 (place_next all) what (behind all)) (λ all. wrong all) (l ∷ rest2))
+        → Decides c (length rest) (either_reader b (λ all. statement_behind low (place_next all) what (behind all)) (λ all. wrong all) (l ∷ rest)) (either_reader b (λ all. statement_behind low2 (place_next all) what (behind all)) (λ all. wrong all) (l ∷ rest2))
         (wrong (l ∷ rest)) (wrong (l ∷ rest2)) (l ∷ rest) (l ∷ rest2)
     may_decides true what l rest rest2 t = inside (behind_word_steady l.place what rest rest2 t)
     may_decides false what l rest rest2 t = neither refl refl
@@ -381,10 +381,10 @@ module _ (c : Cut) (going : Going c) where
       pub params_steady : (ls ls2 : List Lexeme) → Cuts c ls ls2 → Steady c (length ls) (params_from low ls) (params_from low2 ls2)
       unfolding params_from says
       params_steady ls ls2 s =
-          by_first (params_from low) (params_from low2) (nothing_taken 0 Allowed.Lettings) (λ u. no_statements 0 0 Allowed.Lettings [] [] refl refl u) (λ l rest rest2 t u. both (is_word (codes "language") l.saying) l rest rest2 u) ls ls2 s
+          by_first (params_from low) (params_from low2) (nothing_taken 0 Allowed.Lettings) (λ u. no_statements 0 0 Allowed.Lettings [] [] refl refl u) (λ l rest rest2 t u. both (says_word (codes "language") l.saying) l rest rest2 u) ls ls2 s
         where
           both : (b : Bool) (l : Lexeme) (rest rest2 : List Lexeme) → Cuts c (l ∷ rest) (l ∷ rest2)
-              → Steady c (length (l ∷ rest)) (chosen b (λ all. line_from all and_then λ _ rest. statements_from low Allowed.Lettings rest) (statements_from low Allowed.Lettings) (l ∷ rest))
-              (chosen b (λ all. line_from all and_then λ _ rest. statements_from low2 Allowed.Lettings rest) (statements_from low2 Allowed.Lettings) (l ∷ rest2))
+              → Steady c (length (l ∷ rest)) (either_reader b (λ all. line_from all and_then λ _ rest. statements_from low Allowed.Lettings rest) (statements_from low Allowed.Lettings) (l ∷ rest))
+              (either_reader b (λ all. line_from all and_then λ _ rest. statements_from low2 Allowed.Lettings rest) (statements_from low2 Allowed.Lettings) (l ∷ rest2))
           both true l rest rest2 u = steady_then c (length (l ∷ rest)) (line_from (l ∷ rest)) (line_from (l ∷ rest2)) _ _ (line_steady c (l ∷ rest) (l ∷ rest2) u) (λ _ r r2 le v. statements_steady Allowed.Lettings r r2 v)
           both false l rest rest2 u = statements_steady Allowed.Lettings (l ∷ rest) (l ∷ rest2) u

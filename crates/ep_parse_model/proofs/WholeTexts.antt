@@ -8,7 +8,7 @@ use Rattle.ep_parse_expr.specs.Readers.{took}
 use Rattle.ep_parse_model.proofs.Shrinking.{full_sound}
 use Rattle.ep_parse_model.proofs.TextsSound.{model_sound, params_sound}
 use Rattle.ep_parse_model.proofs.TokenFacts.{tokens_lie_in}
-use Rattle.ep_parse_model.specs.Answers.{Refuses, RefusesTokens}
+use Rattle.ep_parse_model.specs.Answers.{RefusesText, RefusesTokens}
 use Rattle.ep_parse_model.specs.TextReaders.{full, model_from, params_from}
 use Rattle.ep_parse_model.specs.Tokens as tokens
 use Rattle.ep_parse_model.specs.declared.text_errors.TextError.{TextError}
@@ -27,7 +27,7 @@ all_lie text (t ∷ ts) h = (record { ordered = h.0.ordered; within = h.0.within
 pub spans_lie : (text : List ℕ) (ts : List Token) → tokens_of text ≡ Ok ts → cursors.LieIn text ts
 spans_lie text ts e = all_lie text ts (tokens_lie_in text ts e)
 
-pub refused_so : (spells : TextTree → Phrase) (text : List ℕ) (e : TextError) → RefusesTokens text e → Refuses spells text e
+pub refused_so : (spells : TextTree → Phrase) (text : List ℕ) (e : TextError) → RefusesTokens text e → RefusesText spells text e
 refused_so spells text TooLong h = h
 refused_so spells text (BadByte place) h = h
 refused_so spells text (LongNumber place) h = h

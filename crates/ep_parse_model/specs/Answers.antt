@@ -16,13 +16,13 @@ use Rattle.ep_parse_model.specs.declared.text_errors.TextError.{TextError}
 use Rattle.ep_parse_model.specs.declared.text_errors.TextError.TheVariants.{BadByte, LongNumber, Memory, Syntax, TooHigh, TooLong}
 
 -- A refusal is the one that the text meets. Want of memory says nothing.
-abbrev pub Refuses : (TextTree → Phrase) → List ℕ → TextError → Type 0
-Refuses spells text TooLong = Answers spells text too_long
-Refuses spells text (BadByte place) = Answers spells text (bad_byte place)
-Refuses spells text (LongNumber place) = Answers spells text (long_number place)
-Refuses spells text (Syntax place) = Answers spells text (syntax_fault place)
-Refuses spells text (TooHigh place) = Answers spells text (too_high place)
-Refuses spells text Memory = Unit {0}
+abbrev pub RefusesText : (TextTree → Phrase) → List ℕ → TextError → Type 0
+RefusesText spells text TooLong = Answers spells text too_long
+RefusesText spells text (BadByte place) = Answers spells text (bad_byte place)
+RefusesText spells text (LongNumber place) = Answers spells text (long_number place)
+RefusesText spells text (Syntax place) = Answers spells text (syntax_fault place)
+RefusesText spells text (TooHigh place) = Answers spells text (too_high place)
+RefusesText spells text Memory = Unit {0}
 
 -- A text is refused for its bytes or its tokens. Want of memory says nothing.
 abbrev pub RefusesTokens : List ℕ → TextError → Type 0
@@ -47,9 +47,9 @@ refusal_of text left stop.Memory = Memory
 -- what is said of a text that is read as a model
 abbrev pub GivesModel : List ℕ → Result Model TextError → Type 0
 GivesModel text (Ok model) = Answers SpellsModel text (read_as (model_tree model))
-GivesModel text (Err e) = Refuses SpellsModel text e
+GivesModel text (Err e) = RefusesText SpellsModel text e
 
 -- what is said of a text that is read as a parameter text
 abbrev pub GivesParams : List ℕ → Result Params TextError → Type 0
 GivesParams text (Ok params) = Answers SpellsParams text (read_as (params_tree params))
-GivesParams text (Err e) = Refuses SpellsParams text e
+GivesParams text (Err e) = RefusesText SpellsParams text e

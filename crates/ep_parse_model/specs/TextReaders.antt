@@ -7,7 +7,7 @@ use Rattle.ep_parse_model.specs.declared.openings.Allowed.{Allowed}
 use Rattle.ep_parse_model.specs.declared.openings.Opening.{Opening}
 use Rattle.ep_parse_expr.specs.DomainReaders.{place_next}
 use Rattle.ep_parse_expr.specs.OperandReaders.{Lower, expression_next}
-use Rattle.ep_parse_expr.specs.Readers.{Reader, behind, behind_comma, chosen, if_some, name_from, next_in, number_from, others_from, says, took, word_from, wrong, ◌and_then◌}
+use Rattle.ep_parse_expr.specs.Readers.{Reader, behind, behind_comma, either_reader, if_some, name_from, next_in, number_from, others_from, says, took, word_from, wrong, ◌and_then◌}
 use Rattle.ep_parse_expr.specs.TreeReaders.{expr_from, some_domain_from}
 use Rattle.ep_tree.specs.Reading.{MOST_HEIGHT}
 use Rattle.ep_tree.specs.Phrases.{Lexeme, Saying, a_name, a_number, a_word}
@@ -52,9 +52,9 @@ groups_from low ls =
 unfoldable pub expressions_within : Lower → ℕ → Reader (List ExprTree)
 expressions_within low zero ls = took [] ls
 expressions_within low (suc more) ls =
-    chosen (expression_next ls)
+    either_reader (expression_next ls)
     (λ all. low.expr implications all and_then λ e rest.
-    chosen (says (codes ",") rest)
+    either_reader (says (codes ",") rest)
     (λ next. expressions_within low more (behind next) and_then λ es end. took (e ∷ es) end) (λ next. took (e ∷ []) next) rest)
     (λ all. took [] all) ls
 
@@ -65,12 +65,12 @@ expressions_from low ls = expressions_within low (length ls) ls
 -- the domain that a letting states, where it does
 unfoldable pub stated_from : Lower → Reader (Option DomainTree)
 stated_from low ls =
-    chosen (says (codes ":") ls) (λ all. low.domain domains (behind all) and_then λ d rest. took (Some d) rest)
+    either_reader (says (codes ":") ls) (λ all. low.domain domains (behind all) and_then λ d rest. took (Some d) rest)
     (λ all. took None all) ls
 
 -- what stands between a letting's name and its value
 unfoldable pub be_from : Reader Place
-be_from ls = chosen (says (codes "be") ls) (word_from (codes "be")) (word_from (codes "=")) ls
+be_from ls = either_reader (says (codes "be") ls) (word_from (codes "be")) (word_from (codes "=")) ls
 
 -- the value of a letting
 unfoldable pub value_from : Lower → Place → Name × Place → Option DomainTree → Reader StatementTree
@@ -79,7 +79,7 @@ value_from low p x d ls = low.expr implications ls and_then λ e rest. took (let
 -- what is let: a value, or a domain where none is stated
 unfoldable pub let_from : Lower → Place → Name × Place → Option DomainTree → Reader StatementTree
 let_from low p x None ls =
-    chosen (says (codes "domain") ls)
+    either_reader (says (codes "domain") ls)
     (λ all. low.domain domains (behind all) and_then λ d rest. took (domain_letting p x.0 x.1 d) rest)
     (value_from low p x None) ls
 let_from low p x (Some d) ls = value_from low p x (Some d) ls
@@ -101,7 +101,7 @@ statement_words =
 
 -- the names of a branching behind their bracket, or none
 unfoldable pub bracket_names_from : Reader (List (Name × Place))
-bracket_names_from ls = chosen (says (codes "]") ls) (λ all. took [] all) placed_names_from ls
+bracket_names_from ls = either_reader (says (codes "]") ls) (λ all. took [] all) placed_names_from ls
 
 -- a branching behind its first word
 unfoldable pub branching_from : Place → Reader StatementTree
@@ -140,7 +140,7 @@ allowed_behind s allowed = allowed
 unfoldable pub allowed_statement_from : Lower → Allowed → Reader StatementTree
 allowed_statement_from low allowed ls =
     if_some (next_in statement_words ls)
-    (λ what. chosen (allows allowed what) (λ all. statement_behind low (place_next all) what (behind all)) (λ all. wrong all) ls) (wrong ls)
+    (λ what. either_reader (allows allowed what) (λ all. statement_behind low (place_next all) what (behind all)) (λ all. wrong all) ls) (wrong ls)
 
 -- Statements up to the end of the text, where so many are enough.
 unfoldable pub statements_within : Lower → ℕ → Allowed → Reader TextTree
@@ -167,5 +167,5 @@ model_from low ls = line_from ls and_then λ _ rest. statements_from low Allowed
 -- a parameter text
 unfoldable pub params_from : Lower → Reader TextTree
 params_from low ls =
-    chosen (says (codes "language") ls) (λ all. line_from all and_then λ _ rest. statements_from low Allowed.Lettings rest)
+    either_reader (says (codes "language") ls) (λ all. line_from all and_then λ _ rest. statements_from low Allowed.Lettings rest)
     (statements_from low Allowed.Lettings) ls

@@ -23,7 +23,7 @@ use Rattle.ep_tree.specs.Trees.{ExprTree, Terms, no_terms, term_and}
 use Rattle.ep_tree.specs.Views.{domain_kind_tree, domain_tree, domains_of, end_of, held_end, expr_tree, expr_trees, generators_of, indices_of, kind_tree, ranges_of, terms_of, with_range}
 use Rattle.ep_tree.proofs.ViewLemmas.{domain_kind_tree-matrix, domain_kind_tree-ranges, index_of, kind_tree-all_of, kind_tree-any_of, kind_tree-chain, kind_tree-comprehension, kind_tree-literal, kind_tree-read}
 use Rattle.ep_print.specs.Joining.{with_between}
-use Rattle.ep_print.specs.Putting.{between_if, chain_from, continued, held_index_words, held_range_words, index_tree, spaced}
+use Rattle.ep_print.specs.Putting.{between_if, chain_from, continued, held_index_words, held_range_words, index_tree, words_spaced}
 use Rattle.ep_print.specs.Words.{Words, all_domain_words, all_words, binary_words, domain_words, end_words, expr_words, generator_words, index_domain_words, index_words, name_words, range_words, term_words}
 use Rattle.ep_print.proofs.Puts.{continued-append, joined-continued, puts_both, spaced-nil, started_after}
 use Rattle.ep_print.proofs.Turns.{Listed, next_is, turn}
@@ -35,16 +35,16 @@ on_ok_map (Ok x) P Q f p = f p
 on_ok_map (Err e) P Q f p = tt
 
 -- the words of some pieces are these
-pub last1 : {X E : Type 0} (r : Result X E) (old t1 : List ℕ) (a words : Words) → OnOk r (t1 ≡ old ++ spaced a) → a ≡ words → OnOk r (t1 ≡ old ++ spaced words)
-last1 r old t1 a words p e = subst (λ (w : Words). OnOk r (t1 ≡ old ++ spaced w)) e p
+pub last1 : {X E : Type 0} (r : Result X E) (old t1 : List ℕ) (a words : Words) → OnOk r (t1 ≡ old ++ words_spaced a) → a ≡ words → OnOk r (t1 ≡ old ++ words_spaced words)
+last1 r old t1 a words p e = subst (λ (w : Words). OnOk r (t1 ≡ old ++ words_spaced w)) e p
 
-pub last2 : {X E : Type 0} (r : Result X E) (old t1 t2 : List ℕ) (a b words : Words) → t1 ≡ old ++ spaced a → OnOk r (t2 ≡ t1 ++ spaced b) → a ++ b ≡ words → OnOk r (t2 ≡ old ++ spaced words)
+pub last2 : {X E : Type 0} (r : Result X E) (old t1 t2 : List ℕ) (a b words : Words) → t1 ≡ old ++ words_spaced a → OnOk r (t2 ≡ t1 ++ words_spaced b) → a ++ b ≡ words → OnOk r (t2 ≡ old ++ words_spaced words)
 last2 r old t1 t2 a b words p q e = last1 r old t2 (a ++ b) words (on_ok_map r _ _ (λ s. puts_both old t1 t2 a b p s) q) e
 
-pub last3 : {X E : Type 0} (r : Result X E) (old t1 t2 t3 : List ℕ) (a b c words : Words) → t1 ≡ old ++ spaced a → t2 ≡ t1 ++ spaced b → OnOk r (t3 ≡ t2 ++ spaced c) → (a ++ b) ++ c ≡ words → OnOk r (t3 ≡ old ++ spaced words)
+pub last3 : {X E : Type 0} (r : Result X E) (old t1 t2 t3 : List ℕ) (a b c words : Words) → t1 ≡ old ++ words_spaced a → t2 ≡ t1 ++ words_spaced b → OnOk r (t3 ≡ t2 ++ words_spaced c) → (a ++ b) ++ c ≡ words → OnOk r (t3 ≡ old ++ words_spaced words)
 last3 r old t1 t2 t3 a b c words p q s e = last2 r old t2 t3 (a ++ b) c words (puts_both old t1 t2 a b p q) s e
 
-pub last4 : {X E : Type 0} (r : Result X E) (old t1 t2 t3 t4 : List ℕ) (a b c d words : Words) → t1 ≡ old ++ spaced a → t2 ≡ t1 ++ spaced b → t3 ≡ t2 ++ spaced c → OnOk r (t4 ≡ t3 ++ spaced d) → ((a ++ b) ++ c) ++ d ≡ words → OnOk r (t4 ≡ old ++ spaced words)
+pub last4 : {X E : Type 0} (r : Result X E) (old t1 t2 t3 t4 : List ℕ) (a b c d words : Words) → t1 ≡ old ++ words_spaced a → t2 ≡ t1 ++ words_spaced b → t3 ≡ t2 ++ words_spaced c → OnOk r (t4 ≡ t3 ++ words_spaced d) → ((a ++ b) ++ c) ++ d ≡ words → OnOk r (t4 ≡ old ++ words_spaced words)
 last4 r old t1 t2 t3 t4 a b c d words p q s u e = last2 r old t3 t4 ((a ++ b) ++ c) d words (puts_both old t2 t3 (a ++ b) c (puts_both old t1 t2 a b p q) s) u e
 
 -- ---- regrouping
@@ -237,7 +237,7 @@ module _ (p : Place) (k : DomainKind) where
 
 -- ---- lists of parts
 
-pub puts_three : (old t1 t2 t3 : List ℕ) (a b c : Words) → t1 ≡ old ++ spaced a → t2 ≡ t1 ++ spaced b → t3 ≡ t2 ++ spaced c → t3 ≡ old ++ spaced (a ++ (b ++ c))
+pub puts_three : (old t1 t2 t3 : List ℕ) (a b c : Words) → t1 ≡ old ++ words_spaced a → t2 ≡ t1 ++ words_spaced b → t3 ≡ t2 ++ words_spaced c → t3 ≡ old ++ words_spaced (a ++ (b ++ c))
 puts_three old t1 t2 t3 a b c p q s = puts_both old t1 t3 a (b ++ c) p (puts_both t1 t2 t3 b c q s)
 
 pub parts_listed : Listed (λ (es : List Expr). all_words (expr_trees es)) (λ (e : Expr). expr_words (expr_tree e))
@@ -261,22 +261,22 @@ indices_listed = record { none = refl; more = one_more }
     one_more (Some e) xs = refl
 
 -- an index that is put out
-pub some_index : (x : Option Expr) (e : Expr) (t1 t2 : List ℕ) → x ≡ Some e → t2 ≡ t1 ++ spaced (expr_words (expr_tree e)) → t2 ≡ t1 ++ spaced (held_index_words x)
+pub some_index : (x : Option Expr) (e : Expr) (t1 t2 : List ℕ) → x ≡ Some e → t2 ≡ t1 ++ words_spaced (expr_words (expr_tree e)) → t2 ≡ t1 ++ words_spaced (held_index_words x)
 unfolding held_index_words
-some_index x e t1 t2 is put = put ∙ ap (λ (y : Option Expr). t1 ++ spaced (held_index_words y)) (sym is)
+some_index x e t1 t2 is put = put ∙ ap (λ (y : Option Expr). t1 ++ words_spaced (held_index_words y)) (sym is)
 
 -- an index that is `..`
-pub no_index : (x : Option Expr) (t1 t2 : List ℕ) → x ≡ None → t2 ≡ t1 ++ spaced (codes ".." ∷ []) → t2 ≡ t1 ++ spaced (held_index_words x)
+pub no_index : (x : Option Expr) (t1 t2 : List ℕ) → x ≡ None → t2 ≡ t1 ++ words_spaced (codes ".." ∷ []) → t2 ≡ t1 ++ words_spaced (held_index_words x)
 unfolding held_index_words
-no_index x t1 t2 is put = put ∙ ap (λ (y : Option Expr). t1 ++ spaced (held_index_words y)) (sym is)
+no_index x t1 t2 is put = put ∙ ap (λ (y : Option Expr). t1 ++ words_spaced (held_index_words y)) (sym is)
 
 -- a turn of a loop over indices whose arms have joined
 pub index_turn : (started now : Bool) (xs : List (Option Expr)) (i : ℕ) (x : Option Expr) (t0 t1 t2 t3 goal : List ℕ) → i < length xs → x ≡ get_or xs i x
-    → t1 ≡ t0 ++ spaced (between_if started (codes "," ∷ [])) → t2 ≡ t1 ++ spaced (held_index_words x) → t3 ≡ t2 → now ≡ true
-    → t0 ++ spaced (continued (codes "," ∷ []) started (index_words (indices_of (drop i xs)))) ≡ goal → t3 ++ spaced (continued (codes "," ∷ []) now (index_words (indices_of (drop (i + 1) xs)))) ≡ goal
+    → t1 ≡ t0 ++ words_spaced (between_if started (codes "," ∷ [])) → t2 ≡ t1 ++ words_spaced (held_index_words x) → t3 ≡ t2 → now ≡ true
+    → t0 ++ words_spaced (continued (codes "," ∷ []) started (index_words (indices_of (drop i xs)))) ≡ goal → t3 ++ words_spaced (continued (codes "," ∷ []) now (index_words (indices_of (drop (i + 1) xs)))) ≡ goal
 index_turn started now xs i x t0 t1 t2 t3 goal lt is first second same joined so_far =
     let left = index_words (indices_of (drop (i + 1) xs)) in
-    ap (λ t. t ++ spaced (continued (codes "," ∷ []) now left)) same ∙ ap (λ b. t2 ++ spaced (continued (codes "," ∷ []) b left)) joined
+    ap (λ t. t ++ words_spaced (continued (codes "," ∷ []) now left)) same ∙ ap (λ b. t2 ++ words_spaced (continued (codes "," ∷ []) b left)) joined
     ∙ turn _ _ indices_listed (codes "," ∷ []) started xs i x t0 t1 t2 goal lt is first second so_far
 
 -- a range of two ends
@@ -304,22 +304,22 @@ chain_one true plus e ts = refl
 chain_one false plus e ts = refl
 
 pub chain_turn : (started : Bool) (xs : List (Bool × Expr)) (i : ℕ) (x : Bool × Expr) (w t0 t1 t2 goal : List ℕ) → i < length xs → x ≡ get_or xs i x → w ≡ codes (sign_word x.0)
-    → t1 ≡ t0 ++ spaced (between_if started (w ∷ [])) → t2 ≡ t1 ++ spaced (expr_words (expr_tree x.1))
-    → t0 ++ spaced (chain_from started (terms_of (drop i xs))) ≡ goal → t2 ++ spaced (chain_from true (terms_of (drop (i + 1) xs))) ≡ goal
+    → t1 ≡ t0 ++ words_spaced (between_if started (w ∷ [])) → t2 ≡ t1 ++ words_spaced (expr_words (expr_tree x.1))
+    → t0 ++ words_spaced (chain_from started (terms_of (drop i xs))) ≡ goal → t2 ++ words_spaced (chain_from true (terms_of (drop (i + 1) xs))) ≡ goal
 unfolding chain_from terms_of
 chain_turn started xs i x w t0 t1 t2 goal lt is word first second so_far =
     let rest = terms_of (drop (i + 1) xs) in
     let sign = between_if started (codes (sign_word x.0) ∷ []) in
-    puts_three t0 t1 t2 (t2 ++ spaced (term_words rest)) sign (expr_words (expr_tree x.1)) (term_words rest) (first ∙ ap (λ v. t0 ++ spaced (between_if started (v ∷ []))) word) second refl
-    ∙ ap (λ ws. t0 ++ spaced ws) (sym (chain_one started x.0 (expr_tree x.1) rest))
-    ∙ ap (λ ys. t0 ++ spaced (chain_from started (terms_of ys))) (sym (next_is xs i x lt is)) ∙ so_far
+    puts_three t0 t1 t2 (t2 ++ words_spaced (term_words rest)) sign (expr_words (expr_tree x.1)) (term_words rest) (first ∙ ap (λ v. t0 ++ words_spaced (between_if started (v ∷ []))) word) second refl
+    ∙ ap (λ ws. t0 ++ words_spaced ws) (sym (chain_one started x.0 (expr_tree x.1) rest))
+    ∙ ap (λ ys. t0 ++ words_spaced (chain_from started (terms_of ys))) (sym (next_is xs i x lt is)) ∙ so_far
 
 no_chain : (started : Bool) → chain_from started no_terms ≡ []
 unfolding chain_from expr_words
 no_chain true = refl
 no_chain false = refl
 
-pub chain_end : (started : Bool) (xs : List (Bool × Expr)) (i : ℕ) (t goal : List ℕ) → length xs ≤ i → t ++ spaced (chain_from started (terms_of (drop i xs))) ≡ goal → t ≡ goal
+pub chain_end : (started : Bool) (xs : List (Bool × Expr)) (i : ℕ) (t goal : List ℕ) → length xs ≤ i → t ++ words_spaced (chain_from started (terms_of (drop i xs))) ≡ goal → t ≡ goal
 unfolding terms_of
 chain_end started xs i t goal le so_far =
-    sym (ap (λ ys. t ++ spaced (chain_from started (terms_of ys))) (drop_all i xs le) ∙ ap (λ ws. t ++ spaced ws) (no_chain started) ∙ ap (λ s. t ++ s) spaced-nil ∙ append-nil t) ∙ so_far
+    sym (ap (λ ys. t ++ words_spaced (chain_from started (terms_of ys))) (drop_all i xs le) ∙ ap (λ ws. t ++ words_spaced ws) (no_chain started) ∙ ap (λ s. t ++ s) spaced-nil ∙ append-nil t) ∙ so_far

@@ -3,24 +3,24 @@ use Rattle.std.proofs.Common.{◌≡◌, ℕ, Bool, true, false, List, [], ◌�
 use Rattle.std.proofs.lemmas.Grind.{flat_map-append}
 use Rattle.std.proofs.lemmas.List.{append-nil}
 use Rattle.ep_print.specs.Joining.{with_between}
-use Rattle.ep_print.specs.Putting.{between_if, continued, spaced}
+use Rattle.ep_print.specs.Putting.{between_if, continued, words_spaced}
 use Rattle.ep_print.specs.Words.{Words}
 
-pub spaced-append : (a b : Words) → spaced (a ++ b) ≡ spaced a ++ spaced b
-unfolding spaced
+pub spaced-append : (a b : Words) → words_spaced (a ++ b) ≡ words_spaced a ++ words_spaced b
+unfolding words_spaced
 spaced-append a b = flat_map-append (λ w. w ++ codes " ") a b
 
-pub spaced-nil : spaced [] ≡ []
-unfolding spaced
+pub spaced-nil : words_spaced [] ≡ []
+unfolding words_spaced
 spaced-nil = refl
 
 -- words, and then more words
-pub puts_both : (old one both : List ℕ) (a b : Words) → one ≡ old ++ spaced a → both ≡ one ++ spaced b → both ≡ old ++ spaced (a ++ b)
+pub puts_both : (old one both : List ℕ) (a b : Words) → one ≡ old ++ words_spaced a → both ≡ one ++ words_spaced b → both ≡ old ++ words_spaced (a ++ b)
 puts_both old one both a b first second =
-    second ∙ ap (λ t. t ++ spaced b) first ∙ append_assoc old (spaced a) (spaced b) ∙ ap (λ t. old ++ t) (sym (spaced-append a b))
+    second ∙ ap (λ t. t ++ words_spaced b) first ∙ append_assoc old (words_spaced a) (words_spaced b) ∙ ap (λ t. old ++ t) (sym (spaced-append a b))
 
 -- no words
-pub puts_none : (old : List ℕ) → old ≡ old ++ spaced []
+pub puts_none : (old : List ℕ) → old ≡ old ++ words_spaced []
 puts_none old = sym (ap (λ t. old ++ t) spaced-nil ∙ append-nil old)
 
 -- lists with something between any two begin with the first

@@ -16,8 +16,8 @@ use Rattle.ep_tree.specs.declared.syntax.Domain.{Domain}
 use Rattle.ep_tree.specs.declared.syntax.Expr.{Expr}
 use Rattle.ep_print.specs.Joining.{with_between}
 use Rattle.ep_print.specs.Models.{statement_text}
-use Rattle.ep_print.specs.Putting.{continued, spaced}
-use Rattle.ep_print.specs.Words.{Words, domain_words, expr_words, group_words, placed_words, sense_word, stated_words, statement_words}
+use Rattle.ep_print.specs.Putting.{continued, words_spaced}
+use Rattle.ep_print.specs.Words.{Words, domain_words, expr_words, group_words, words_of_placed, sense_word, stated_words, statement_words}
 use Rattle.ep_print.proofs.Puts.{joined-continued}
 use Rattle.ep_print.proofs.Turns.{Listed}
 
@@ -26,7 +26,7 @@ use Rattle.ep_print.proofs.Turns.{Listed}
 pub clauses_listed : Listed (λ (es : List Expr). map expr_words (map expr_tree es)) (λ (e : Expr). expr_words (expr_tree e))
 clauses_listed = record { none = refl; more = λ x xs. refl }
 
-pub groups_listed : Listed (λ (ds : List Declared). map group_words (map group_of ds)) (λ (d : Declared). placed_words d.names.items ++ (codes ":" ∷ domain_words (domain_tree d.domain)))
+pub groups_listed : Listed (λ (ds : List Declared). map group_words (map group_of ds)) (λ (d : Declared). words_of_placed d.names.items ++ (codes ":" ∷ domain_words (domain_tree d.domain)))
 unfolding group_words group_of
 groups_listed = record { none = refl; more = λ x xs. refl }
 
@@ -82,7 +82,7 @@ module _ (p : Place) (k : StatementKind) where
   objective_pieces sense e w is word =
       ap (λ v. v ∷ expr_words (expr_tree e)) word ∙ ap (λ kind. statement_words (statement_kind_tree p kind)) (sym is)
 
-  pub branching_pieces : (names : Vec (Name × Place) Global) → k ≡ Branching names → ((codes "branching" ∷ codes "on" ∷ codes "[" ∷ []) ++ placed_words names.items) ++ codes "]" ∷ [] ≡ statement_words (statement_kind_tree p k)
+  pub branching_pieces : (names : Vec (Name × Place) Global) → k ≡ Branching names → ((codes "branching" ∷ codes "on" ∷ codes "[" ∷ []) ++ words_of_placed names.items) ++ codes "]" ∷ [] ≡ statement_words (statement_kind_tree p k)
   unfolding statement_words statement_kind_tree
   branching_pieces names is = ap (λ kind. statement_words (statement_kind_tree p kind)) (sym is)
 
@@ -93,11 +93,11 @@ module _ (p : Place) (k : StatementKind) where
 
 -- ---- the end of a line
 
-spaces_between : (w : List ℕ) (ws : Words) → spaced (w ∷ ws) ≡ with_between (codes " ") (w ∷ ws) ++ codes " "
-unfolding spaced with_between
+spaces_between : (w : List ℕ) (ws : Words) → words_spaced (w ∷ ws) ≡ with_between (codes " ") (w ∷ ws) ++ codes " "
+unfolding words_spaced with_between
 spaces_between w [] = append_assoc w (codes " ") []
 spaces_between w (v ∷ vs) =
-    append_assoc w (codes " ") (spaced (v ∷ vs)) ∙ ap (λ t. w ++ (32 ∷ t)) (spaces_between v vs)
+    append_assoc w (codes " ") (words_spaced (v ∷ vs)) ∙ ap (λ t. w ++ (32 ∷ t)) (spaces_between v vs)
     ∙ sym (append_assoc w (codes " " ++ with_between (codes " ") (v ∷ vs)) (codes " "))
 
 last_dropped : (text : List ℕ) → take (length (text ++ codes " ") - 1) (text ++ codes " ") ≡ text
@@ -125,12 +125,12 @@ begun (branching p names) = record { first = _; others = _; is = refl }
 begun (heuristic p name) = record { first = _; others = _; is = refl }
 
 -- A line end takes the place of the last space.
-pub line_ended : (s : StatementTree) (old one both : List ℕ) → one ≡ old ++ spaced (statement_words s) → both ≡ take (length one - 1) one ++ codes "\n" → both ≡ old ++ statement_text s
+pub line_ended : (s : StatementTree) (old one both : List ℕ) → one ≡ old ++ words_spaced (statement_words s) → both ≡ take (length one - 1) one ++ codes "\n" → both ≡ old ++ statement_text s
 unfolding statement_text
 line_ended s old one both first second =
     let b = begun s in
     let line = with_between (codes " ") (statement_words s) in
     let spread : one ≡ (old ++ line) ++ codes " " =
-    first ∙ ap (λ ws. old ++ spaced ws) b.is ∙ ap (λ t. old ++ t) (spaces_between b.first b.others)
+    first ∙ ap (λ ws. old ++ words_spaced ws) b.is ∙ ap (λ t. old ++ t) (spaces_between b.first b.others)
     ∙ ap (λ ws. old ++ (with_between (codes " ") ws ++ codes " ")) (sym b.is) ∙ sym (append_assoc old line (codes " ")) in
     second ∙ ap (λ t. take (length t - 1) t ++ codes "\n") spread ∙ ap (λ t. t ++ codes "\n") (last_dropped (old ++ line)) ∙ append_assoc old line (codes "\n")

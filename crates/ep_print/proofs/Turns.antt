@@ -4,7 +4,7 @@ use Rattle.std.proofs.Math.Seq.{drop-cons}
 use Rattle.std.proofs.Math.ListN.{drop_of_length-le}
 use Rattle.std.proofs.lemmas.List.{append-nil, drop_all, drop_more}
 use Rattle.std.specs.Borrow.{Bor}
-use Rattle.ep_print.specs.Putting.{between_if, continued, spaced}
+use Rattle.ep_print.specs.Putting.{between_if, continued, words_spaced}
 use Rattle.ep_print.specs.Words.{Words}
 use Rattle.ep_print.proofs.Appends.{three}
 use Rattle.ep_print.proofs.Puts.{puts_both, spaced-nil}
@@ -19,28 +19,28 @@ pub record Listed {X : Type 0} (words_of : List X → List Words) (item_words : 
   pub more : (x : X) (xs : List X) → words_of (x ∷ xs) ≡ item_words x ∷ words_of xs
 
 -- one more list of words, with what stands between
-step : (b : Words) (started : Bool) (x : Words) (xs : List Words) (t0 t1 t2 goal : List ℕ) → t1 ≡ t0 ++ spaced (between_if started b) → t2 ≡ t1 ++ spaced x → t0 ++ spaced (continued b started (x ∷ xs)) ≡ goal → t2 ++ spaced (continued b true xs) ≡ goal
+step : (b : Words) (started : Bool) (x : Words) (xs : List Words) (t0 t1 t2 goal : List ℕ) → t1 ≡ t0 ++ words_spaced (between_if started b) → t2 ≡ t1 ++ words_spaced x → t0 ++ words_spaced (continued b started (x ∷ xs)) ≡ goal → t2 ++ words_spaced (continued b true xs) ≡ goal
 unfolding continued
 step b started x xs t0 t1 t2 goal first second so_far =
     let both = puts_both t0 t1 t2 (between_if started b) x first second in
-    let all = puts_both t0 t2 (t2 ++ spaced (continued b true xs)) (between_if started b ++ x) (continued b true xs) both refl in
-    all ∙ ap (λ w. t0 ++ spaced w) (append_assoc (between_if started b) x (continued b true xs)) ∙ so_far
+    let all = puts_both t0 t2 (t2 ++ words_spaced (continued b true xs)) (between_if started b ++ x) (continued b true xs) both refl in
+    all ∙ ap (λ w. t0 ++ words_spaced w) (append_assoc (between_if started b) x (continued b true xs)) ∙ so_far
 
 -- an item is put out
 pub turn : {X : Type 0} (words_of : List X → List Words) (item_words : X → Words) (listed : Listed words_of item_words) (b : Words) (started : Bool) (xs : List X) (i : ℕ) (x : X) (t0 t1 t2 goal : List ℕ) → i < length xs → x ≡ get_or xs i x
-    → t1 ≡ t0 ++ spaced (between_if started b) → t2 ≡ t1 ++ spaced (item_words x)
-    → t0 ++ spaced (continued b started (words_of (drop i xs))) ≡ goal → t2 ++ spaced (continued b true (words_of (drop (i + 1) xs))) ≡ goal
+    → t1 ≡ t0 ++ words_spaced (between_if started b) → t2 ≡ t1 ++ words_spaced (item_words x)
+    → t0 ++ words_spaced (continued b started (words_of (drop i xs))) ≡ goal → t2 ++ words_spaced (continued b true (words_of (drop (i + 1) xs))) ≡ goal
 turn words_of item_words listed b started xs i x t0 t1 t2 goal lt is first second so_far =
     step b started (item_words x) (words_of (drop (i + 1) xs)) t0 t1 t2 goal first second
-    (ap (λ ws. t0 ++ spaced (continued b started ws)) (sym (ap words_of (next_is xs i x lt is) ∙ listed.more x (drop (i + 1) xs))) ∙ so_far)
+    (ap (λ ws. t0 ++ words_spaced (continued b started ws)) (sym (ap words_of (next_is xs i x lt is) ∙ listed.more x (drop (i + 1) xs))) ∙ so_far)
 
 -- all items are put out
 pub turns_end : {X : Type 0} (words_of : List X → List Words) (item_words : X → Words) (listed : Listed words_of item_words) (b : Words) (started : Bool) (xs : List X) (i : ℕ) (t goal : List ℕ) → length xs ≤ i
-    → t ++ spaced (continued b started (words_of (drop i xs))) ≡ goal → t ≡ goal
+    → t ++ words_spaced (continued b started (words_of (drop i xs))) ≡ goal → t ≡ goal
 unfolding continued
 turns_end words_of item_words listed b started xs i t goal le so_far =
     let left = ap words_of (drop_of_length-le xs le) ∙ listed.none in
-    sym (ap (λ ws. t ++ spaced (continued b started ws)) left ∙ ap (λ s. t ++ s) spaced-nil ∙ append-nil t) ∙ so_far
+    sym (ap (λ ws. t ++ words_spaced (continued b started ws)) left ∙ ap (λ s. t ++ s) spaced-nil ∙ append-nil t) ∙ so_far
 
 -- ---- the same of texts
 
@@ -78,13 +78,13 @@ text_end b started all t goal is so_far = sym (ap (λ ts. t ++ continued b start
 
 -- ---- words without anything between them
 
-pub words_turn : (ws : List (Bor (List ℕ))) (i : ℕ) (d : Bor (List ℕ)) (t0 t1 goal : List ℕ) → i < length ws → t1 ≡ t0 ++ spaced ((get_or ws i d).now ∷ [])
-    → t0 ++ spaced (map (λ w. w.now) (drop i ws)) ≡ goal → t1 ++ spaced (map (λ w. w.now) (drop (i + 1) ws)) ≡ goal
+pub words_turn : (ws : List (Bor (List ℕ))) (i : ℕ) (d : Bor (List ℕ)) (t0 t1 goal : List ℕ) → i < length ws → t1 ≡ t0 ++ words_spaced ((get_or ws i d).now ∷ [])
+    → t0 ++ words_spaced (map (λ w. w.now) (drop i ws)) ≡ goal → t1 ++ words_spaced (map (λ w. w.now) (drop (i + 1) ws)) ≡ goal
 words_turn ws i d t0 t1 goal lt first so_far =
     let rest = map (λ w. w.now) (drop (i + 1) ws) in
-    puts_both t0 t1 (t1 ++ spaced rest) ((get_or ws i d).now ∷ []) rest first refl
-    ∙ ap (λ xs. t0 ++ spaced (map (λ w. w.now) xs)) (sym (drop_more ws i d lt)) ∙ so_far
+    puts_both t0 t1 (t1 ++ words_spaced rest) ((get_or ws i d).now ∷ []) rest first refl
+    ∙ ap (λ xs. t0 ++ words_spaced (map (λ w. w.now) xs)) (sym (drop_more ws i d lt)) ∙ so_far
 
-pub words_end : (ws : List (Bor (List ℕ))) (i : ℕ) (t goal : List ℕ) → length ws ≤ i → t ++ spaced (map (λ w. w.now) (drop i ws)) ≡ goal → t ≡ goal
+pub words_end : (ws : List (Bor (List ℕ))) (i : ℕ) (t goal : List ℕ) → length ws ≤ i → t ++ words_spaced (map (λ w. w.now) (drop i ws)) ≡ goal → t ≡ goal
 words_end ws i t goal le so_far =
-    sym (ap (λ xs. t ++ spaced (map (λ w. w.now) xs)) (drop_all i ws le) ∙ ap (λ s. t ++ s) spaced-nil ∙ append-nil t) ∙ so_far
+    sym (ap (λ xs. t ++ words_spaced (map (λ w. w.now) xs)) (drop_all i ws le) ∙ ap (λ s. t ++ s) spaced-nil ∙ append-nil t) ∙ so_far

@@ -11,8 +11,8 @@ use Rattle.ep_tree.specs.declared.syntax.Range.{Range, One', Span'}
 use Rattle.ep_print.specs.Words.{Words, chain_words, end_words, expr_words, term_words, word}
 
 -- words with a space behind each
-unfoldable pub spaced : Words → List ℕ
-spaced words = flat_map (λ w. w ++ codes " ") words
+unfoldable pub words_spaced : Words → List ℕ
+words_spaced words = flat_map (λ w. w ++ codes " ") words
 
 -- something where something stands before it, and else nothing
 unfoldable pub between_if : {A : Type 0} → Bool → List A → List A

@@ -136,12 +136,12 @@ unfoldable mutual
   all_domain_words (domain_and d ds) = domain_words d ∷ all_domain_words ds
 
 -- names with their places, of which the places aren't written
-abbrev pub placed_words : List (Name × Place) → Words
-placed_words names = name_words (map (λ entry. entry.0) names)
+abbrev pub words_of_placed : List (Name × Place) → Words
+words_of_placed names = name_words (map (λ entry. entry.0) names)
 
 -- names that are declared together
 unfoldable pub group_words : Group → Words
-group_words g = placed_words g.names ++ (word ":" ++ domain_words g.domain)
+group_words g = words_of_placed g.names ++ (word ":" ++ domain_words g.domain)
 
 -- the domain that a letting states, or nothing
 unfoldable pub stated_words : Option DomainTree → Words
@@ -165,5 +165,5 @@ statement_words (requirements _ es) = word "where" ++ parted "," (map expr_words
 statement_words (constraints _ es) = word "such" ++ (word "that" ++ parted "," (map expr_words es))
 statement_words (objective _ sense e) = word (sense_word sense) ++ expr_words e
 statement_words (branching _ names) =
-    word "branching" ++ (word "on" ++ (word "[" ++ (placed_words names ++ word "]")))
+    word "branching" ++ (word "on" ++ (word "[" ++ (words_of_placed names ++ word "]")))
 statement_words (heuristic _ name) = word "heuristic" ++ (name ∷ [])

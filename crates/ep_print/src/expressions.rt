@@ -2,7 +2,7 @@
 
 ghost use Rattle.std.specs.Prelude.{◌≡◌, ◌++◌, ◌∷◌, [], codes, map, OnOk, false};
 ghost use Rattle.ep_tree.specs.Views.{expr_tree, domain_tree, expr_trees, terms_of, indices_of, generators_of, domains_of, ranges_of, end_of};
-ghost use Rattle.ep_print.specs.Putting.{spaced, continued, chain_from, held_range_words, index_tree};
+ghost use Rattle.ep_print.specs.Putting.{words_spaced, continued, chain_from, held_range_words, index_tree};
 ghost use Rattle.ep_print.specs.Words.{expr_words, domain_words, all_words, index_words, range_words, end_words, all_domain_words, generator_words, index_domain_words};
 
 use crate::operators::{
@@ -20,7 +20,7 @@ const BETWEEN_INDICES: &str = ",";
 #[cycle(putting)]
 #[tactic(auto, unfolding(crate::specs::Words::expr_words, crate::specs::Words::binary_words, crate::specs::Joining::with_between, ep_tree::specs::Views::kind_tree))]
 pub(crate) fn push_expr(text: &mut Vec<u8>, e: &Expr) -> Result<(), AllocError>
-    ensures { OnOk result (text.new.items ≡ text.old.items ++ spaced (expr_words (expr_tree e.now))) }
+    ensures { OnOk result (text.new.items ≡ text.old.items ++ words_spaced (expr_words (expr_tree e.now))) }
 {
     match &e.kind {
         Kind::Number(n) => push_number(text, *n),
@@ -57,7 +57,7 @@ pub(crate) fn push_expr(text: &mut Vec<u8>, e: &Expr) -> Result<(), AllocError>
 #[cycle(putting)]
 #[tactic(auto, unfolding(crate::specs::Words::expr_words, crate::specs::Words::binary_words, crate::specs::Joining::with_between, ep_tree::specs::Views::kind_tree))]
 fn push_pair(text: &mut Vec<u8>, e: &Expr) -> Result<(), AllocError>
-    ensures { OnOk result (text.new.items ≡ text.old.items ++ spaced (expr_words (expr_tree e.now))) }
+    ensures { OnOk result (text.new.items ≡ text.old.items ++ words_spaced (expr_words (expr_tree e.now))) }
 {
     match &e.kind {
         Kind::Binary(op, a, b) => {
@@ -96,7 +96,7 @@ fn push_pair(text: &mut Vec<u8>, e: &Expr) -> Result<(), AllocError>
 #[cycle(putting)]
 #[tactic(auto, unfolding(crate::specs::Words::expr_words, crate::specs::Words::binary_words, crate::specs::Joining::with_between, ep_tree::specs::Views::kind_tree))]
 fn push_counts(text: &mut Vec<u8>, e: &Expr) -> Result<(), AllocError>
-    ensures { OnOk result (text.new.items ≡ text.old.items ++ spaced (expr_words (expr_tree e.now))) }
+    ensures { OnOk result (text.new.items ≡ text.old.items ++ words_spaced (expr_words (expr_tree e.now))) }
 {
     match &e.kind {
         Kind::Gcc(m, values, counts) => {
@@ -122,7 +122,7 @@ fn push_counts(text: &mut Vec<u8>, e: &Expr) -> Result<(), AllocError>
 #[cycle(putting)]
 #[tactic(auto, unfolding(crate::specs::Words::expr_words, crate::specs::Words::binary_words, crate::specs::Joining::with_between, ep_tree::specs::Views::kind_tree))]
 fn push_matrix(text: &mut Vec<u8>, e: &Expr) -> Result<(), AllocError>
-    ensures { OnOk result (text.new.items ≡ text.old.items ++ spaced (expr_words (expr_tree e.now))) }
+    ensures { OnOk result (text.new.items ≡ text.old.items ++ words_spaced (expr_words (expr_tree e.now))) }
 {
     match &e.kind {
         Kind::Literal(parts, d) => {
@@ -153,7 +153,7 @@ fn push_around(
     after: &[&str],
 ) -> Result<(), AllocError>
     ensures { OnOk result (text.new.items ≡ text.old.items
-        ++ spaced (map (λ word. word.now) before.now
+        ++ words_spaced (map (λ word. word.now) before.now
         ++ (expr_words (expr_tree e.now) ++ map (λ word. word.now) after.now))) }
 {
     push_words(text, before)?;
@@ -171,7 +171,7 @@ fn push_domain_around(
     after: &[&str],
 ) -> Result<(), AllocError>
     ensures { OnOk result (text.new.items ≡ text.old.items
-        ++ spaced (map (λ word. word.now) before.now
+        ++ words_spaced (map (λ word. word.now) before.now
         ++ (domain_words (domain_tree d.now) ++ map (λ word. word.now) after.now))) }
 {
     push_words(text, before)?;
@@ -189,7 +189,7 @@ fn push_parts(
     parts: &[Expr],
 ) -> Result<(), AllocError>
     ensures { OnOk result (text.new.items ≡ text.old.items
-        ++ spaced (continued (between.now ∷ []) after (all_words (expr_trees parts.now)))) }
+        ++ words_spaced (continued (between.now ∷ []) after (all_words (expr_trees parts.now)))) }
 {
     let mut started = after;
     for part in parts {
@@ -204,7 +204,7 @@ fn push_parts(
 #[cycle(putting)]
 fn push_chain(text: &mut Vec<u8>, terms: &[(bool, Expr)]) -> Result<(), AllocError>
     ensures { OnOk result (text.new.items
-        ≡ text.old.items ++ spaced (chain_from false (terms_of terms.now))) }
+        ≡ text.old.items ++ words_spaced (chain_from false (terms_of terms.now))) }
 {
     let mut started = false;
     for (plus, e) in terms {
@@ -219,7 +219,7 @@ fn push_chain(text: &mut Vec<u8>, terms: &[(bool, Expr)]) -> Result<(), AllocErr
 #[cycle(putting)]
 fn push_indices(text: &mut Vec<u8>, indices: &[Option<Expr>]) -> Result<(), AllocError>
     ensures { OnOk result (text.new.items ≡ text.old.items
-        ++ spaced (continued (codes "," ∷ []) false (index_words (indices_of indices.now)) ++ codes "]" ∷ [])) }
+        ++ words_spaced (continued (codes "," ∷ []) false (index_words (indices_of indices.now)) ++ codes "]" ∷ [])) }
 {
     let mut started = false;
     for index in indices {
@@ -238,7 +238,7 @@ fn push_indices(text: &mut Vec<u8>, indices: &[Option<Expr>]) -> Result<(), Allo
 #[cycle(putting)]
 fn push_generators(text: &mut Vec<u8>, gens: &[Generator]) -> Result<(), AllocError>
     ensures { OnOk result (text.new.items ≡ text.old.items
-        ++ spaced (continued (codes "," ∷ []) false (generator_words (generators_of gens.now)))) }
+        ++ words_spaced (continued (codes "," ∷ []) false (generator_words (generators_of gens.now)))) }
 {
     let mut started = false;
     for generator in gens {
@@ -256,7 +256,7 @@ fn push_generators(text: &mut Vec<u8>, gens: &[Generator]) -> Result<(), AllocEr
 #[tactic(auto, unfolding(crate::specs::Words::expr_words, crate::specs::Putting::index_tree))]
 fn push_index_domain(text: &mut Vec<u8>, d: &Option<Box<Domain>>) -> Result<(), AllocError>
     ensures { OnOk result (text.new.items
-        ≡ text.old.items ++ spaced (index_domain_words (index_tree d.now) ++ codes "]" ∷ [])) }
+        ≡ text.old.items ++ words_spaced (index_domain_words (index_tree d.now) ++ codes "]" ∷ [])) }
 {
     match d {
         Some(d) => push_domain_around(text, &[";"], d, &["]"]),
@@ -269,7 +269,7 @@ fn push_index_domain(text: &mut Vec<u8>, d: &Option<Box<Domain>>) -> Result<(), 
 #[tactic(auto, unfolding(crate::specs::Words::domain_words, ep_tree::specs::Views::domain_kind_tree))]
 pub(crate) fn push_domain(text: &mut Vec<u8>, d: &Domain) -> Result<(), AllocError>
     ensures { OnOk result (text.new.items
-        ≡ text.old.items ++ spaced (domain_words (domain_tree d.now))) }
+        ≡ text.old.items ++ words_spaced (domain_words (domain_tree d.now))) }
 {
     match &d.kind {
         DomainKind::Bool => push_word(text, "bool"),
@@ -293,7 +293,7 @@ pub(crate) fn push_domain(text: &mut Vec<u8>, d: &Domain) -> Result<(), AllocErr
 #[cycle(putting)]
 fn push_domains(text: &mut Vec<u8>, domains: &[Domain]) -> Result<(), AllocError>
     ensures { OnOk result (text.new.items ≡ text.old.items
-        ++ spaced (continued (codes "," ∷ []) false (all_domain_words (domains_of domains.now)))) }
+        ++ words_spaced (continued (codes "," ∷ []) false (all_domain_words (domains_of domains.now)))) }
 {
     let mut started = false;
     for domain in domains {
@@ -308,7 +308,7 @@ fn push_domains(text: &mut Vec<u8>, domains: &[Domain]) -> Result<(), AllocError
 #[cycle(putting)]
 fn push_ranges(text: &mut Vec<u8>, ranges: &[Range]) -> Result<(), AllocError>
     ensures { OnOk result (text.new.items ≡ text.old.items
-        ++ spaced (codes "int" ∷ codes "("
+        ++ words_spaced (codes "int" ∷ codes "("
         ∷ (continued (codes "," ∷ []) false (range_words (ranges_of ranges.now)) ++ codes ")" ∷ []))) }
 {
     push_words(text, &["int", "("])?;
@@ -326,7 +326,7 @@ fn push_ranges(text: &mut Vec<u8>, ranges: &[Range]) -> Result<(), AllocError>
 #[cycle(putting)]
 #[tactic(auto, unfolding(crate::specs::Putting::held_range_words))]
 fn push_range(text: &mut Vec<u8>, range: &Range) -> Result<(), AllocError>
-    ensures { OnOk result (text.new.items ≡ text.old.items ++ spaced (held_range_words range.now)) }
+    ensures { OnOk result (text.new.items ≡ text.old.items ++ words_spaced (held_range_words range.now)) }
 {
     match range {
         Range::One(e) => push_expr(text, e),
@@ -343,7 +343,7 @@ fn push_range(text: &mut Vec<u8>, range: &Range) -> Result<(), AllocError>
 #[tactic(auto, unfolding(crate::specs::Words::expr_words, ep_tree::specs::Views::end_of))]
 fn push_end(text: &mut Vec<u8>, end: &Option<Expr>) -> Result<(), AllocError>
     ensures { OnOk result (text.new.items
-        ≡ text.old.items ++ spaced (end_words (end_of end.now))) }
+        ≡ text.old.items ++ words_spaced (end_words (end_of end.now))) }
 {
     match end {
         Some(e) => push_expr(text, e),

@@ -2,17 +2,17 @@
 
 ghost use Rattle.std.specs.Prelude.{◌≡◌, ◌++◌, ◌∷◌, [], ◌-◌, codes, map, length, take, OnOk};
 ghost use Rattle.std.specs.Fmt.{signed_decimal};
-ghost use Rattle.ep_print.specs.Putting.{between_if, spaced};
-ghost use Rattle.ep_print.specs.Words.{name_words, placed_words};
+ghost use Rattle.ep_print.specs.Putting.{between_if, words_spaced};
+ghost use Rattle.ep_print.specs.Words.{name_words, words_of_placed};
 
 use ep_base::{Name, Place};
 use itoa::Buffer;
 use std::alloc::AllocError;
 
 /// A word.
-#[tactic(auto, unfolding(crate::specs::Putting::spaced))]
+#[tactic(auto, unfolding(crate::specs::Putting::words_spaced))]
 pub(crate) fn push_word(text: &mut Vec<u8>, word: &str) -> Result<(), AllocError>
-    ensures { OnOk result (text.new.items ≡ text.old.items ++ spaced (word.now ∷ [])) }
+    ensures { OnOk result (text.new.items ≡ text.old.items ++ words_spaced (word.now ∷ [])) }
 {
     text.extend_from_slice(word.as_bytes())?;
     text.push(b' ')?;
@@ -22,7 +22,7 @@ pub(crate) fn push_word(text: &mut Vec<u8>, word: &str) -> Result<(), AllocError
 /// Words, one after another.
 pub(crate) fn push_words(text: &mut Vec<u8>, words: &[&str]) -> Result<(), AllocError>
     ensures { OnOk result (text.new.items
-        ≡ text.old.items ++ spaced (map (λ word. word.now) words.now)) }
+        ≡ text.old.items ++ words_spaced (map (λ word. word.now) words.now)) }
 {
     for word in words {
         push_word(text, word)?;
@@ -31,10 +31,10 @@ pub(crate) fn push_words(text: &mut Vec<u8>, words: &[&str]) -> Result<(), Alloc
 }
 
 /// A word where something stands before it.
-#[tactic(auto, unfolding(crate::specs::Putting::spaced, crate::specs::Putting::between_if))]
+#[tactic(auto, unfolding(crate::specs::Putting::words_spaced, crate::specs::Putting::between_if))]
 pub(crate) fn push_between(text: &mut Vec<u8>, started: bool, word: &str) -> Result<(), AllocError>
     ensures { OnOk result (text.new.items
-        ≡ text.old.items ++ spaced (between_if started (word.now ∷ []))) }
+        ≡ text.old.items ++ words_spaced (between_if started (word.now ∷ []))) }
 {
     if started {
         return push_word(text, word);
@@ -44,7 +44,7 @@ pub(crate) fn push_between(text: &mut Vec<u8>, started: bool, word: &str) -> Res
 
 /// A whole number.
 pub(crate) fn push_number(text: &mut Vec<u8>, number: i64) -> Result<(), AllocError>
-    ensures { OnOk result (text.new.items ≡ text.old.items ++ spaced (signed_decimal number ∷ [])) }
+    ensures { OnOk result (text.new.items ≡ text.old.items ++ words_spaced (signed_decimal number ∷ [])) }
 {
     let mut digits = Buffer::new();
     push_word(text, digits.format(number))
@@ -52,7 +52,7 @@ pub(crate) fn push_number(text: &mut Vec<u8>, number: i64) -> Result<(), AllocEr
 
 /// Names with commas between them.
 pub(crate) fn push_names(text: &mut Vec<u8>, names: &[Name]) -> Result<(), AllocError>
-    ensures { OnOk result (text.new.items ≡ text.old.items ++ spaced (name_words names.now)) }
+    ensures { OnOk result (text.new.items ≡ text.old.items ++ words_spaced (name_words names.now)) }
 {
     let mut started = false;
     for name in names {
@@ -65,7 +65,7 @@ pub(crate) fn push_names(text: &mut Vec<u8>, names: &[Name]) -> Result<(), Alloc
 
 /// Names with commas between them, without their places.
 pub(crate) fn push_placed(text: &mut Vec<u8>, names: &[(Name, Place)]) -> Result<(), AllocError>
-    ensures { OnOk result (text.new.items ≡ text.old.items ++ spaced (placed_words names.now)) }
+    ensures { OnOk result (text.new.items ≡ text.old.items ++ words_spaced (words_of_placed names.now)) }
 {
     let mut started = false;
     for (name, _) in names {

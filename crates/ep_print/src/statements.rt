@@ -5,7 +5,7 @@ ghost use Rattle.std.specs.List.{flat_map};
 ghost use Rattle.std.specs.Option.{option_map};
 ghost use Rattle.ep_tree.specs.Views.{domain_tree, expr_tree, group_of, statement_tree};
 ghost use Rattle.ep_print.specs.Models.{statement_text};
-ghost use Rattle.ep_print.specs.Putting.{spaced, continued};
+ghost use Rattle.ep_print.specs.Putting.{words_spaced, continued};
 ghost use Rattle.ep_print.specs.Words.{expr_words, group_words, stated_words, statement_words};
 
 use crate::expressions::{push_domain, push_expr};
@@ -42,7 +42,7 @@ fn push_statement(text: &mut Vec<u8>, statement: &Statement) -> Result<(), Alloc
 #[tactic(auto, unfolding(crate::specs::Words::statement_words, ep_tree::specs::Views::statement_kind_tree))]
 fn push_statement_words(text: &mut Vec<u8>, statement: &Statement) -> Result<(), AllocError>
     ensures { OnOk result (text.new.items
-        ≡ text.old.items ++ spaced (statement_words (statement_tree statement.now))) }
+        ≡ text.old.items ++ words_spaced (statement_words (statement_tree statement.now))) }
 {
     match &statement.kind {
         StatementKind::Given(groups) => push_groups(text, "given", groups),
@@ -75,7 +75,7 @@ fn push_statement_words(text: &mut Vec<u8>, statement: &Statement) -> Result<(),
 /// Names that are declared together, with their domains.
 fn push_groups(text: &mut Vec<u8>, word: &str, groups: &[Declared]) -> Result<(), AllocError>
     ensures { OnOk result (text.new.items ≡ text.old.items
-        ++ spaced (word.now ∷ continued (codes "," ∷ []) false (map group_words (map group_of groups.now)))) }
+        ++ words_spaced (word.now ∷ continued (codes "," ∷ []) false (map group_words (map group_of groups.now)))) }
 {
     push_word(text, word)?;
     let mut started = false;
@@ -92,7 +92,7 @@ fn push_groups(text: &mut Vec<u8>, word: &str, groups: &[Declared]) -> Result<()
 /// The domain that a letting states, if there is one.
 fn push_stated(text: &mut Vec<u8>, d: &Option<Domain>) -> Result<(), AllocError>
     ensures { OnOk result (text.new.items
-        ≡ text.old.items ++ spaced (stated_words (option_map domain_tree d.now))) }
+        ≡ text.old.items ++ words_spaced (stated_words (option_map domain_tree d.now))) }
 {
     if let Some(d) = d {
         push_word(text, ":")?;
@@ -104,7 +104,7 @@ fn push_stated(text: &mut Vec<u8>, d: &Option<Domain>) -> Result<(), AllocError>
 /// Clauses behind their words.
 fn push_clauses(text: &mut Vec<u8>, words: &[&str], clauses: &[Expr]) -> Result<(), AllocError>
     ensures { OnOk result (text.new.items ≡ text.old.items
-        ++ spaced (map (λ word. word.now) words.now
+        ++ words_spaced (map (λ word. word.now) words.now
         ++ continued (codes "," ∷ []) false (map expr_words (map expr_tree clauses.now)))) }
 {
     push_words(text, words)?;

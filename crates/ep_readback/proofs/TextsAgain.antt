@@ -14,7 +14,7 @@ use Rattle.ep_tree.specs.StatementSpelling.{LanguageLine, SaysBe, SpellsExpressi
 use Rattle.ep_tree.specs.Statements.{Group, StatementTree, TextTree, branching, constraints, decided, domain_letting, given, heuristic, letting, objective, requirements}
 use Rattle.ep_tree.specs.Trees.{DomainTree, ExprTree}
 use Rattle.ep_print.specs.Joining.{with_between}
-use Rattle.ep_print.specs.Words.{Words, expr_words, group_words, parted, placed_words, sense_word, stated_words, statement_words, word}
+use Rattle.ep_print.specs.Words.{Words, expr_words, group_words, parted, words_of_placed, sense_word, stated_words, statement_words, word}
 use Rattle.ep_readback.proofs.Clearing.{objective_cleared}
 use Rattle.ep_readback.proofs.Literals as literals
 use Rattle.ep_readback.proofs.Literals.{one_digit, sense_literal, zero_digit}
@@ -39,7 +39,7 @@ again_from q a = record { again = λ tokens said h. respelled_from (a.again toke
 -- ---- lists
 
 -- names with their places
-pub placed_again : (names : List (Name × Place)) → Again (PlacedNames names) (λ (x : Twin (map placeless_name) names). PlacedNames x.tree) (placed_words names)
+pub placed_again : (names : List (Name × Place)) → Again (PlacedNames names) (λ (x : Twin (map placeless_name) names). PlacedNames x.tree) (words_of_placed names)
 unfolding PlacedNames with_between
 placed_again [] = again_nothing
 placed_again (name ∷ []) = again_as (again_from name.1 (again_name name.0)) (λ x. record { tree = (name.0, x.0) ∷ []; same = refl }) (λ x ts h. h)
@@ -96,7 +96,7 @@ stated_again None = again_as again_none (λ u. record { tree = None; same = refl
 stated_again (Some d) =
     again_as (again_then (again_word ":" literals.colon) (domain_whole d)) (λ x. record { tree = Some x.1.tree; same = ap Some x.1.same }) (λ x ts h. h)
 
-names_again : (names : List (Name × Place)) → Again (SpellsNames names) (λ (x : Twin (map placeless_name) names). SpellsNames x.tree) (placed_words names)
+names_again : (names : List (Name × Place)) → Again (SpellsNames names) (λ (x : Twin (map placeless_name) names). SpellsNames x.tree) (words_of_placed names)
 unfolding SpellsNames with_between
 names_again [] = again_as again_none (λ u. record { tree = []; same = refl }) (λ u ts h. h)
 names_again (name ∷ names) = again_as (placed_again (name ∷ names)) (λ x. x) (λ x ts h. some x.tree ts x.same h)

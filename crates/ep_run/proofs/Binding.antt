@@ -1,14 +1,14 @@
 -- What errors of checking and binding say.
 use Rattle.std.proofs.Common.{List, Ok, Err, Result, Contains, inl, inr, refl}
 use Rattle.ep_base.specs.declared.operators.Limit.{Limit}
-use Rattle.ep_instance.specs.Refusals.{Refuses}
+use Rattle.ep_instance.specs.Refusals.{RefusesBinding}
 use Rattle.ep_instance.specs.declared.errors.BindError.{BindError}
 use Rattle.ep_instance.specs.declared.errors.Source.{Source}
 use Rattle.ep_print.specs.declared.refusals.Refusal.{Refusal}
 use Rattle.ep_print.specs.declared.refusals.TextFile.{TextFile}
 use Rattle.ep_tree.specs.Binding.{Refusal as BindRefusal, missing_parameter, model_text, outside_domain, over_limit, parameter_text, solution_text, undefined_at, where_false}
 use Rattle.ep_tree.specs.Faults.{Fault, ill_typed, open_domain, redeclared, unknown_name, wrong_category}
-use Rattle.ep_types.specs.Named.{IsNamed, fault_of}
+use Rattle.ep_types.specs.Named.{IsAmongFaults, fault_of}
 use Rattle.ep_types.specs.declared.errors.StaticError.{StaticError}
 use Rattle.ep_run.specs.Outcomes.{as_outcome, bind_refusal, bind_refusals, fault_refusal, fault_refusals, file_of}
 use Rattle.ep_run.specs.Status.{status_of}
@@ -17,7 +17,7 @@ use Rattle.ep_run.specs.Stops.{bind_stop, static_stop}
 use Rattle.ep_run.proofs.Refusing.{contains-map}
 
 -- an error of types or categories names one of the faults
-pub static-stopped : (V : Type 0) (file : TextFile) (faults : List Fault) (error : StaticError) → IsNamed faults error → Passes {V = V} (fault_refusals file faults) (Err (static_stop file error))
+pub static-stopped : (V : Type 0) (file : TextFile) (faults : List Fault) (error : StaticError) → IsAmongFaults faults error → Passes {V = V} (fault_refusals file faults) (Err (static_stop file error))
 unfolding fault_refusal fault_of status_of
 static-stopped V file faults (StaticError.UnknownName p n) h = (inl refl, contains-map (fault_refusal file) faults (unknown_name p n) (h (unknown_name p n) refl))
 static-stopped V file faults (StaticError.Redeclared p n) h = (inl refl, contains-map (fault_refusal file) faults (redeclared p n) (h (redeclared p n) refl))
@@ -27,7 +27,7 @@ static-stopped V file faults (StaticError.OpenDomain p) h = (inl refl, contains-
 static-stopped V file faults StaticError.Memory h = tt
 
 -- an error of binding names one of the refusals
-pub bind-stopped : {V A : Type 0} (view : V → A) (said : Result A (List BindRefusal)) (error : BindError) → Refuses error said → Tells view (as_outcome said) (Err (bind_stop error))
+pub bind-stopped : {V A : Type 0} (view : V → A) (said : Result A (List BindRefusal)) (error : BindError) → RefusesBinding error said → Tells view (as_outcome said) (Err (bind_stop error))
 unfolding as_outcome bind_refusal file_of status_of
 bind-stopped view said BindError.Memory h = tt
 bind-stopped view (Ok x) (BindError.Missing name) h = absurd h

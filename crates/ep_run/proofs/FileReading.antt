@@ -2,7 +2,7 @@
 use Rattle.std.proofs.Common.{◌≡◌, ◌↔◌, ℕ, ◌+◌, ◌<◌, ◌≤◌, List, length, take, Option, Some, None, Ok, Err, Result, IfOk, IfSome, IsErrOf, IsSomeAnd, MatchResult, option_map, inl, inr, refl, subst, arith}
 use Rattle.std.proofs.lemmas.List.{take_all, length-take}
 use Rattle.ep_base.specs.Outside.{Held, ReadGives}
-use Rattle.ep_parse_model.specs.Answers.{Refuses}
+use Rattle.ep_parse_model.specs.Answers.{RefusesText}
 use Rattle.ep_parse_model.specs.declared.text_errors.TextError.{TextError}
 use Rattle.ep_print.specs.declared.refusals.Refusal.{Refusal}
 use Rattle.ep_print.specs.declared.refusals.TextFile.{TextFile}
@@ -105,7 +105,7 @@ tells-read view most texts alike told name bytes rose (Err Stop.Memory) gives h 
 
 -- ---- what an error of reading a text says
 
-pub text-stopped : {V : Type 0} (view : V → TextTree) (file : TextFile) (text : List ℕ) (error : TextError) → Refuses (spells_in file) text error → TellsText view (IsTextReadAs file) text (Err (text_stop file error))
+pub text-stopped : {V : Type 0} (view : V → TextTree) (file : TextFile) (text : List ℕ) (error : TextError) → RefusesText (spells_in file) text error → TellsText view (IsTextReadAs file) text (Err (text_stop file error))
 unfolding tree_or_refusal status_of
 text-stopped view file text TextError.TooLong h = (inr refl, (too_long, h, refl))
 text-stopped view file text (TextError.BadByte place) h = (inl refl, (bad_byte place, h, refl))
@@ -178,7 +178,7 @@ as-params TextFile.Solution has text answer h = h
 as-params TextFile.Cnf has text answer h = h
 as-params TextFile.Log has text answer h = h
 
-pub as-refuses : (file : TextFile) → HasParams file → (text : List ℕ) (error : TextError) → Refuses SpellsParams text error → Refuses (spells_in file) text error
+pub as-refuses : (file : TextFile) → HasParams file → (text : List ℕ) (error : TextError) → RefusesText SpellsParams text error → RefusesText (spells_in file) text error
 as-refuses TextFile.Model has text error h = absurd has
 as-refuses TextFile.Params has text error h = h
 as-refuses TextFile.Solution has text error h = h

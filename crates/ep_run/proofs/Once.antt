@@ -11,7 +11,7 @@ use Rattle.ep_tree.specs.Statements.{TextTree}
 use Rattle.ep_tree.specs.Texts.{Answers as TextAnswers, TextAnswer}
 use Rattle.ep_words.specs.Commands.{IsCommand}
 use Rattle.ep_words.specs.declared.job.Job.{Job}
-use Rattle.ep_run.specs.Answers.{Answers}
+use Rattle.ep_run.specs.Answers.{Settles}
 use Rattle.ep_run.specs.Commands.{IsJudgement, Want, wanted_of}
 use Rattle.ep_run.specs.Outcomes.{Outcome, Task, search_outcome, to_check, verify_outcome}
 use Rattle.ep_run.specs.Puts.{HoldOnWant}
@@ -154,7 +154,7 @@ refused-so words once held status refusals r s refuse show =
     let P : List Refusal → Type 0 = λ x. Contains x r in
     inr (r, subst P same refuse.2, s)
 
-answered-not : (words : List (List ℕ)) → ShownOnce words → (held : Held) (status : Status) (text : List ℕ) (log : LogState) (refusals : List Refusal) → ((task : Task) × Ask words held task × Answers task status text log) → Show words held (Err refusals) → ⊥
+answered-not : (words : List (List ℕ)) → ShownOnce words → (held : Held) (status : Status) (text : List ℕ) (log : LogState) (refusals : List Refusal) → ((task : Task) × Ask words held task × Settles task status text log) → Show words held (Err refusals) → ⊥
 answered-not words once held status text log refusals shown show =
     let e = once held (Ok shown.0) (Err refusals) shown.1 show in absurd cc
 

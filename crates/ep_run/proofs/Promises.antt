@@ -7,7 +7,7 @@ use Rattle.ep_solve.specs.Right.{IsSpent, empty_log}
 use Rattle.ep_base.specs.Outside.{Held, SameElsewhere, TookPart, with_bytes, with_more}
 use Rattle.ep_print.specs.Refusals.{refusal_text}
 use Rattle.ep_print.specs.declared.refusals.Refusal.{Refusal}
-use Rattle.ep_run.specs.Answers.{Answers}
+use Rattle.ep_run.specs.Answers.{Settles}
 use Rattle.ep_run.specs.Commands.{AreNoCommand, IsJudgement, Want, conflicts_of}
 use Rattle.ep_run.specs.Outcomes.{Task}
 use Rattle.ep_run.specs.Outputs.{HasOutput, IsOutput, SameButOutput, written_for}
@@ -68,7 +68,7 @@ ended-status (Wanted.Generate _ _ _ _) s log h = elim h.1 [ inl e ↦ inl e | in
 
 -- ---- the clauses
 
-with-taken : (words : List (List ℕ)) (told : Option Held) (status : Status) (text : List ℕ) (log : LogState) (Took Put : List ℕ → Type 0) → Took text → Put text → IfSome told (λ held. (task : Task) × Ask words held task × Answers task status text log) → IfSome told (λ held. (task : Task) × (t : List ℕ) × Ask words held task × Answers task status t log × Took t × Put t)
+with-taken : (words : List (List ℕ)) (told : Option Held) (status : Status) (text : List ℕ) (log : LogState) (Took Put : List ℕ → Type 0) → Took text → Put text → IfSome told (λ held. (task : Task) × Ask words held task × Settles task status text log) → IfSome told (λ held. (task : Task) × (t : List ℕ) × Ask words held task × Settles task status t log × Took t × Put t)
 with-taken words None status text log Took Put took put h = tt
 with-taken words (Some held) status text log Took Put took put h = (h.0, text, h.1, h.2, took, put)
 
@@ -81,7 +81,7 @@ usage-told words None none = tt
 usage-told words (Some held) none = (Refusal.Usage ∷ [], inl (none, refl), contains-first Refusal.Usage [])
 
 pub when-answered : (words : List (List ℕ)) (told after : Option Held) (rose : Type 0) (status : Status) (text : List ℕ) (log : LogState) (Took : List ℕ → Type 0) → Case words told after rose status text log → Took text → HasReply status
-    → IfSome told (λ held. (task : Task) × (t : List ℕ) × Ask words held task × Answers task status t log × Took t × HasOutput words t log told after)
+    → IfSome told (λ held. (task : Task) × (t : List ℕ) × Ask words held task × Settles task status t log × Took t × HasOutput words t log told after)
 when-answered words told after rose status text log Took (no_command s t nothing kept none) took h = apart status 0 1 (kind-ended status h) (ap kind s) (λ e. cc)
 when-answered words told after rose status text log Took (answer wanted want ends shown put) took h = with-taken words told status text log Took (λ t. HasOutput words t log told after) took (wanted, want, put) shown
 when-answered words told after rose status text log Took (faulty wanted want r s t nothing kept of_text shown) took h = apart status 0 2 (kind-ended status h) (kind-text r status s of_text) (λ e. cc)
@@ -164,7 +164,7 @@ when-failed words told after rose status text log Took (faulty wanted want r s t
 when-failed words told after rose status text log Took (unread name s t nothing kept failed why) took h = (text, inl (name, failed, t, nothing, kept), took)
 when-failed words told after rose status text log Took (unwritten name s t sound wanted want logs failed) took h = (text, inr (name, failed, t), took)
 
-answer-text : (words : List (List ℕ)) (told after : Option Held) (status : Status) (text : List ℕ) (log : LogState) → HasOutput words text log told after → IfSome told (λ held. (task : Task) × Ask words held task × Answers task status text log) → IfSome told (λ held. IsShownText words held after log text)
+answer-text : (words : List (List ℕ)) (told after : Option Held) (status : Status) (text : List ℕ) (log : LogState) → HasOutput words text log told after → IfSome told (λ held. (task : Task) × Ask words held task × Settles task status text log) → IfSome told (λ held. IsShownText words held after log text)
 answer-text words None after status text log put h = tt
 answer-text words (Some held) after status text log put h = inr (h.0, status, h.1, h.2, put)
 

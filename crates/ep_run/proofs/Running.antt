@@ -12,7 +12,7 @@ use Rattle.log_check.specs.declared.Verdict.TheVariants.{BadStep, NoEmptyClause,
 use Rattle.ep_base.specs.Outside.{Held}
 use Rattle.ep_base.specs.declared.errors.Memory.{Memory}
 use Rattle.ep_instance.specs.Judgements.{FitsIfShaped}
-use Rattle.ep_instance.specs.Refusals.{Refuses, ShapeAnswers}
+use Rattle.ep_instance.specs.Refusals.{RefusesBinding, ShapeAnswers}
 use Rattle.ep_instance.specs.declared.errors.BindError.{BindError}
 use Rattle.ep_instance.specs.declared.judging.Shaped.{Shaped as CodeShaped}
 use Rattle.ep_print.specs.Refusals.{refusal_text}
@@ -27,10 +27,10 @@ use Rattle.ep_tree.specs.Views.{params_tree}
 use Rattle.ep_tree.specs.declared.statements.Params.{Params}
 use Rattle.ep_tree.specs.declared.values.Mode.{Mode}
 use Rattle.ep_solve.specs.Right.{empty_log}
-use Rattle.ep_run.specs.Answers.{Answers, verdict_status, verdict_text, wrong_shape_text}
+use Rattle.ep_run.specs.Answers.{Settles, verdict_status, verdict_text, wrong_shape_text}
 use Rattle.ep_run.specs.Outcomes.{Outcome, Task, and_then, as_outcome, bind_refusal, bind_refusals, bound_outcome, fault_refusals, instance_of, judge_outcome, search_outcome, task_of, to_check, to_judge, unless_refused, verify_outcome}
 use Rattle.ep_run.specs.Status.{status_of}
-use Rattle.ep_run.specs.Steps.{EndsAs, EndsBy, IsAmong, IsEnd, IsJudged, IsJudgedEnd, IsNotThere, IsUnreadStop, LogsTask, Passes, Says, Tells, TellsBytes, TellsParams, TellsReply, TellsRun, TellsShape, TellsTask, shape_outcome}
+use Rattle.ep_run.specs.Steps.{EndsAs, EndsBy, IsAmong, IsEnd, IsJudged, IsJudgedEnd, IsNotThere, IsUnreadStop, LogsTask, Passes, SaysOfRun, Tells, TellsBytes, TellsParams, TellsReply, TellsRun, TellsShape, TellsTask, shape_outcome}
 use Rattle.ep_run.specs.Stops.{bind_stop}
 use Rattle.ep_run.specs.declared.replies.Reply.{Reply}
 use Rattle.ep_run.specs.declared.status.Status.{Status}
@@ -47,7 +47,7 @@ use Rattle.ep_run.proofs.Tasks.{AreAllFaultless, AreFaultless, bound-refused, is
 pub refused-said : (words : List (List ℕ)) (told after : Option Held) (rose : Type 0) (log : LogState) (r : Refusal) (result : Result Reply Memory)
     → IfOk result (λ reply. reply.status ≡ status_of r) → IfOk result (λ reply. reply.text.items ≡ refusal_text r)
     → TellsRun words told after rose log (Err (Stop.Refused r))
-    → IfOk result (λ reply. Says words told after rose reply.status reply.text.items log)
+    → IfOk result (λ reply. SaysOfRun words told after rose reply.status reply.text.items log)
 refused-said words told after rose log r (Ok reply) s t h = said-refusal words told after rose log r reply.status reply.text.items s t h
 refused-said words told after rose log r (Err e) s t h = tt
 
@@ -120,7 +120,7 @@ pub same-instance : (mode : Mode) (m p m' p' : TextTree) (i : Instance) → m' �
 same-instance mode m p m' p' i e f h = sym (ap (λ x. instance_of mode x p') e ∙ ap (instance_of mode m) f) ∙ h
 
 pub search-answered : (mode : Mode) (q : Request) (m p : TextTree) (i : Instance) (reply : Reply) (log : LogState) → AreFaultless m p → instance_of mode m p ≡ Ok i
-    → Answers (task_of mode q i) reply.status reply.text.items log → TellsReply (search_outcome mode q m p) log (Ok reply)
+    → Settles (task_of mode q i) reply.status reply.text.items log → TellsReply (search_outcome mode q m p) log (Ok reply)
 search-answered mode q m p i reply log none e answers = (task_of mode q i, is-search mode q m p i none e, answers)
 
 -- memory is wanting in a search, for a task that comes out
@@ -165,7 +165,7 @@ shape-stopped mode i s Stop.Memory h = inl refl
 
 pub fit-judged : (mode : Mode) (i : Instance) (s : TextTree) (a : Assigned) (found : Found) (reply : Reply) → shape_outcome mode i s ≡ Ok (fits a) → Fits i a found
     → IsJudged mode i found reply.status reply.text.items → TellsReply (judge_outcome mode i s) empty_log (Ok reply)
-unfolding Answers
+unfolding Settles
 fit-judged mode i s a found reply e fit h = (to_judge mode i (fits a), is-judge mode i s (fits a) e, (found, fit, h.0, h.1))
 
 -- ---- files
@@ -187,13 +187,13 @@ tells-shape : (mode : Mode) (i : Instance) (s : TextTree) (stop : Stop) → Tell
 tells-shape mode i s (Stop.Refused r) h = h
 tells-shape mode i s Stop.Memory h = tt
 
-pub shape-bound : (mode : Mode) (i : Instance) (s : TextTree) (error : BindError) → Refuses error (read_solution mode i s) → TellsShape mode i s (Err (bind_stop error))
+pub shape-bound : (mode : Mode) (i : Instance) (s : TextTree) (error : BindError) → RefusesBinding error (read_solution mode i s) → TellsShape mode i s (Err (bind_stop error))
 shape-bound mode i s error h = tells-shape mode i s (bind_stop error) (bind-stopped (λ x. x) (read_solution mode i s) error h)
 
 -- a text that says which name keeps a solution text from giving an assignment
 pub shape-said : (mode : Mode) (i : Instance) (s : TextTree) (names : List (List ℕ)) (name : List ℕ) (status : Status) (text : List ℕ) → shape_outcome mode i s ≡ Ok (wrong_shape names) → Contains names name
-    → status ≡ Status.Refuted → text ≡ wrong_shape_text name → (task : Task) × (judge_outcome mode i s ≡ Ok task) × Answers task status text empty_log
-unfolding Answers
+    → status ≡ Status.Refuted → text ≡ wrong_shape_text name → (task : Task) × (judge_outcome mode i s ≡ Ok task) × Settles task status text empty_log
+unfolding Settles
 shape-said mode i s names name status text e among ended said = (to_judge mode i (wrong_shape names), is-judge mode i s (wrong_shape names) e, (name, among, ended, said))
 
 pub unread-bytes : (most : ℕ) (told : Option Held) (name : List ℕ) (rose : Type 0) (stop : Stop) → IsUnreadStop name stop → IsNotThere told name rose → TellsBytes {V = Vec ℕ Global} (λ bytes. bytes.items) most told name rose (Err stop)
@@ -228,7 +228,7 @@ verify-judges mode m p s task h =
 pub reply-ends : (mode : Mode) (m p s : TextTree) (result : Result Reply Stop) → TellsReply (verify_outcome mode m p s) empty_log result → IfOk result (λ reply. IsJudgedEnd reply.status empty_log)
 reply-ends mode m p s (Ok reply) h =
     let q = verify-judges mode m p s h.0 h.1 in
-    let P : Task → Type 0 = λ t. Answers t reply.status reply.text.items empty_log in
+    let P : Task → Type 0 = λ t. Settles t reply.status reply.text.items empty_log in
     (refl, judge-ends mode q.0 q.1 reply.status reply.text.items empty_log (subst P (sym q.2) h.2))
 reply-ends mode m p s (Err stop) h = tt
 
@@ -259,8 +259,8 @@ check-ends formula proof log result nothing h = (nothing, judged-ends log result
 -- ---- proofs
 
 pub verdict-said : (formula : List (List Literal)) (lines : List ProofLine) (verdict : Verdict) (status : Status) (text : List ℕ) → verdict ≡ verdict_of formula lines → status ≡ verdict_status verdict → text ≡ verdict_text verdict
-    → Answers (to_check formula lines) status text empty_log
-unfolding Answers
+    → Settles (to_check formula lines) status text empty_log
+unfolding Settles
 verdict-said formula lines verdict status text v s t = (s ∙ ap verdict_status v, t ∙ ap verdict_text v)
 
 pub verdict-ends : (verdict : Verdict) (status : Status) → status ≡ verdict_status verdict → IsJudgedEnd status empty_log
@@ -270,6 +270,6 @@ verdict-ends (BadStep line) status e = (refl, inr e)
 verdict-ends NoEmptyClause status e = (refl, inr e)
 
 -- the reply to a formula and a proof that were read
-pub check-told : (formula : List (List Literal)) (lines : List ProofLine) (reply : Reply) → Answers (to_check formula lines) reply.status reply.text.items empty_log
+pub check-told : (formula : List (List Literal)) (lines : List ProofLine) (reply : Reply) → Settles (to_check formula lines) reply.status reply.text.items empty_log
     → TellsReply (Ok (to_check formula lines)) empty_log (Ok reply)
 check-told formula lines reply answers = (to_check formula lines, refl, answers)

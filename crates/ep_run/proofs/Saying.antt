@@ -6,14 +6,14 @@ use Rattle.ep_print.specs.Refusals.{refusal_text}
 use Rattle.ep_print.specs.declared.refusals.Refusal.{Refusal}
 use Rattle.sat_search.specs.Logs.{IsSound}
 use Rattle.ep_solve.specs.Right.{empty_log}
-use Rattle.ep_run.specs.Answers.{Answers}
+use Rattle.ep_run.specs.Answers.{Settles}
 use Rattle.ep_run.specs.Commands.{AreNoCommand, Want, files_of}
 use Rattle.ep_run.specs.Outcomes.{Task}
 use Rattle.ep_run.specs.Outputs.{AreWritten, ArePartlyWritten, FailsAt, Output, written_for}
 use Rattle.ep_run.specs.Puts.{HoldOnWant, IsAnsweredBy, IsFailedRead, IsFailedWrite, read_line, write_line}
 use Rattle.ep_run.specs.Shown.{Ask, ComesTo, Refuse}
 use Rattle.ep_run.specs.Status.{status_of}
-use Rattle.ep_run.specs.Steps.{EndsAs, HasAnswer, IsAnswer, IsEnd, IsFailed, IsFaulty, IsLogOf, IsOfText, IsRefused, IsShown, IsUnwritten, LogsTask, Says, TellsRun, TellsTask, TellsWanted, TellsWritten}
+use Rattle.ep_run.specs.Steps.{EndsAs, HasAnswer, IsAnswer, IsEnd, IsFailed, IsFaulty, IsLogOf, IsOfText, IsRefused, IsShown, IsUnwritten, LogsTask, SaysOfRun, TellsRun, TellsTask, TellsWanted, TellsWritten}
 use Rattle.ep_run.specs.declared.replies.Reply.{Reply}
 use Rattle.ep_run.specs.declared.status.Status.{Status}
 use Rattle.ep_run.specs.declared.stops.Stop.{Stop}
@@ -117,10 +117,10 @@ run-sound words told after rose log (Ok reply) h = end-sound h.0 reply.status lo
 run-sound words told after rose log (Err (Stop.Refused r)) h = elim h [ inl none ↦ nothing-sound log none.1 | inr some ↦ refused-sound some.0 told after rose log r some.2 ]
 run-sound words told after rose log (Err Stop.Memory) h = h.0
 
-pub said-answer : (words : List (List ℕ)) (told after : Option Held) (rose : Type 0) (log : LogState) (reply : Reply) → TellsRun words told after rose log (Ok reply) → Says words told after rose reply.status reply.text.items log
+pub said-answer : (words : List (List ℕ)) (told after : Option Held) (rose : Type 0) (log : LogState) (reply : Reply) → TellsRun words told after rose log (Ok reply) → SaysOfRun words told after rose reply.status reply.text.items log
 said-answer words told after rose log reply h = inr (h.0, h.1, inl h.2)
 
-pub said-refusal : (words : List (List ℕ)) (told after : Option Held) (rose : Type 0) (log : LogState) (r : Refusal) (status : Status) (text : List ℕ) → status ≡ status_of r → text ≡ refusal_text r → TellsRun words told after rose log (Err (Stop.Refused r)) → Says words told after rose status text log
+pub said-refusal : (words : List (List ℕ)) (told after : Option Held) (rose : Type 0) (log : LogState) (r : Refusal) (status : Status) (text : List ℕ) → status ≡ status_of r → text ≡ refusal_text r → TellsRun words told after rose log (Err (Stop.Refused r)) → SaysOfRun words told after rose status text log
 unfolding status_of
 said-refusal words told after rose log r status text s t h =
     elim h [
@@ -130,7 +130,7 @@ said-refusal words told after rose log r status text s t h =
 
 -- ---- what a text of a run is
 
-answer-shown : (words : List (List ℕ)) (wanted : Wanted) (told : Option Held) (status : Status) (text : List ℕ) (log : LogState) → Want words wanted → IsAnswer (ComesTo wanted) told status text log → IfSome told (λ held. (task : Task) × Ask words held task × Answers task status text log)
+answer-shown : (words : List (List ℕ)) (wanted : Wanted) (told : Option Held) (status : Status) (text : List ℕ) (log : LogState) → Want words wanted → IsAnswer (ComesTo wanted) told status text log → IfSome told (λ held. (task : Task) × Ask words held task × Settles task status text log)
 answer-shown words wanted None status text log want h = tt
 answer-shown words wanted (Some held) status text log want h = (h.0, inr (wanted, want, h.1), h.2)
 
@@ -215,7 +215,7 @@ no-command-shown words held none = (Refusal.Usage ∷ [], inl (none, refl), cont
 -- written. Nothing is logged but with an answer, and no file is changed but those that are named for output.
 pub data Case (words : List (List ℕ)) (told after : Option Held) (rose : Type 0) (status : Status) (text : List ℕ) (log : LogState) : Type 0 where
   no_command : status ≡ Status.Usage → text ≡ refusal_text Refusal.Usage → log ≡ empty_log → after ≡ told → AreNoCommand words → Case words told after rose status text log
-  answer : (wanted : Wanted) → Want words wanted → IsEnd wanted status log → IfSome told (λ held. (task : Task) × Ask words held task × Answers task status text log) → AreWritten log text (written_for wanted) told after → Case words told after rose status text log
+  answer : (wanted : Wanted) → Want words wanted → IsEnd wanted status log → IfSome told (λ held. (task : Task) × Ask words held task × Settles task status text log) → AreWritten log text (written_for wanted) told after → Case words told after rose status text log
   faulty : (wanted : Wanted) → Want words wanted → (r : Refusal) → status ≡ status_of r → text ≡ refusal_text r → log ≡ empty_log → after ≡ told → IsOfText r → IfSome told (λ held. Refuse words held r) → Case words told after rose status text log
   unread : (name : List ℕ) → status ≡ Status.Device → text ≡ read_line name → log ≡ empty_log → after ≡ told → IsFailedRead words told name → rose ⊎ IsSomeAnd told (λ held. Refuse words held (Refusal.CannotRead name)) → Case words told after rose status text log
   unwritten : (name : List ℕ) → status ≡ Status.Device → text ≡ write_line name → IsSound log.events → (wanted : Wanted) → Want words wanted → IsLogOf wanted log → IsFailedWrite words told after rose log name → Case words told after rose status text log
@@ -243,7 +243,7 @@ unfolding status_of
 unwritten-case words wanted told after rose r status text log want s t h =
     unwritten h.1 (s ∙ ap status_of h.3) (t ∙ ap refusal_text h.3) h.5 wanted want h.6 (failed-write words wanted told after rose log r want h)
 
-pub case-of : (words : List (List ℕ)) (told after : Option Held) (rose : Type 0) (status : Status) (text : List ℕ) (log : LogState) → Says words told after rose status text log → Case words told after rose status text log
+pub case-of : (words : List (List ℕ)) (told after : Option Held) (rose : Type 0) (status : Status) (text : List ℕ) (log : LogState) → SaysOfRun words told after rose status text log → Case words told after rose status text log
 case-of words told after rose status text log h =
     elim h [
       | inl none ↦ no_command none.0 none.1 none.2 none.3 none.4

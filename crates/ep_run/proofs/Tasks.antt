@@ -14,7 +14,7 @@ use Rattle.ep_print.specs.Listings.{EndTree, ListingTree, complete, listing_text
 use Rattle.ep_solve.specs.Listed.{EndsRightly, Lists}
 use Rattle.ep_solve.specs.Logged.{IsLogged, ShowsAnswer}
 use Rattle.ep_solve.specs.Right.{IsRight, IsSpent}
-use Rattle.ep_run.specs.Answers.{Answers, answer_status, judgement_status, listing_status}
+use Rattle.ep_run.specs.Answers.{Settles, answer_status, judgement_status, listing_status}
 use Rattle.ep_run.specs.Outcomes.{and_then, bind_refusals, bound_outcome, fault_refusals, instance_of, judge_outcome, search_outcome, task_of, to_generate, to_judge, to_list, to_solve, verify_outcome}
 use Rattle.ep_run.specs.Steps.{IsAmong, IsSearched, shape_outcome}
 use Rattle.ep_run.specs.Summaries.{summary_text}
@@ -127,8 +127,8 @@ judged-ends (a_solution goal) status e = inl e
 judged-ends (violates n) status e = inr e
 judged-ends goal_undefined status e = inr e
 
-pub judge-ends : (mode : Mode) (i : Instance) (shaped : Shaped) (status : Status) (text : List ℕ) (log : LogState) → Answers (to_judge mode i shaped) status text log → (status ≡ Status.Answered) ⊎ (status ≡ Status.Refuted)
-unfolding Answers
+pub judge-ends : (mode : Mode) (i : Instance) (shaped : Shaped) (status : Status) (text : List ℕ) (log : LogState) → Settles (to_judge mode i shaped) status text log → (status ≡ Status.Answered) ⊎ (status ≡ Status.Refuted)
+unfolding Settles
 judge-ends mode i (fits a) status text log h = judged-ends (judgement mode i h.0) status h.2
 judge-ends mode i (wrong_shape names) status text log h = inr h.2
 
@@ -161,16 +161,16 @@ list-ends mode i conflicts most log listing status e h = (h.sound, list-spent mo
 -- ---- what answers a search
 
 pub solved : (mode : Mode) (i : Instance) (conflicts : ℕ) (status : Status) (text : List ℕ) (log : LogState) (answer : AnswerTree) → IsRight mode i conflicts answer → IsLogged mode i conflicts log answer
-    → status ≡ answer_status answer → text ≡ answer_text answer → Answers (to_solve mode i conflicts) status text log
-unfolding Answers
+    → status ≡ answer_status answer → text ≡ answer_text answer → Settles (to_solve mode i conflicts) status text log
+unfolding Settles
 solved mode i conflicts status text log answer right logged ended said = (answer, right, logged, ended, said)
 
 pub listed : (mode : Mode) (i : Instance) (most conflicts : ℕ) (status : Status) (text : List ℕ) (log : LogState) (listing : ListingTree) → Lists mode i conflicts most log listing
-    → status ≡ listing_status listing.ending → text ≡ listing_text listing → Answers (to_list mode i most conflicts) status text log
-unfolding Answers
+    → status ≡ listing_status listing.ending → text ≡ listing_text listing → Settles (to_list mode i most conflicts) status text log
+unfolding Settles
 listed mode i most conflicts status text log listing lists ended said = (listing, lists, ended, said)
 
 pub summed : (number : ℕ) (mode : Mode) (i : Instance) (conflicts : ℕ) (status : Status) (text : List ℕ) (log : LogState) (answer : AnswerTree) → IsRight mode i conflicts answer → IsLogged mode i conflicts log answer
-    → status ≡ answer_status answer → text ≡ summary_text number answer → Answers (to_generate number mode i conflicts) status text log
-unfolding Answers
+    → status ≡ answer_status answer → text ≡ summary_text number answer → Settles (to_generate number mode i conflicts) status text log
+unfolding Settles
 summed number mode i conflicts status text log answer right logged ended said = (answer, right, logged, ended, said)

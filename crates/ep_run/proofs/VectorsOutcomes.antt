@@ -18,7 +18,7 @@ use Rattle.ep_run.specs.Answers.{judgement_status, judgement_text, listing_statu
 use Rattle.ep_run.specs.Commands.{no_outputs, wanted_of}
 use Rattle.ep_run.specs.Outputs.{a_formula, an_answer, in_order, named as named_files, steps}
 use Rattle.ep_run.specs.Outcomes.{fault_refusal, search_outcome, unless_refused, verify_outcome}
-use Rattle.ep_run.specs.Status.{code_of, status_of}
+use Rattle.ep_run.specs.Status.{exit_code, status_of}
 use Rattle.ep_run.specs.declared.wanted.Request.{Request}
 use Rattle.ep_run.specs.declared.wanted.Wanted.{Wanted}
 
@@ -111,15 +111,15 @@ undefined-says : judgement_text goal_undefined ≡ codes "$ objective undefined\
 unfolding judgement_text
 undefined-says = refl
 
-solution-ends : code_of (judgement_status (a_solution None)) ≡ 0
+solution-ends : exit_code (judgement_status (a_solution None)) ≡ 0
 unfolding judgement_status
 solution-ends = refl
 
-violated-ends : code_of (judgement_status (violates 1)) ≡ 7
+violated-ends : exit_code (judgement_status (violates 1)) ≡ 7
 unfolding judgement_status
 violated-ends = refl
 
-undefined-ends : code_of (judgement_status goal_undefined) ≡ 7
+undefined-ends : exit_code (judgement_status goal_undefined) ≡ 7
 unfolding judgement_status
 undefined-ends = refl
 
@@ -137,46 +137,46 @@ unfinished-says : verdict_text NoEmptyClause ≡ codes "$ no empty clause\n"
 unfolding verdict_text
 unfinished-says = refl
 
-verified-ends : code_of (verdict_status Verified) ≡ 0
+verified-ends : exit_code (verdict_status Verified) ≡ 0
 unfolding verdict_status
 verified-ends = refl
 
-bad-step-ends : code_of (verdict_status (BadStep 1)) ≡ 7
+bad-step-ends : exit_code (verdict_status (BadStep 1)) ≡ 7
 unfolding verdict_status
 bad-step-ends = refl
 
-unfinished-ends : code_of (verdict_status NoEmptyClause) ≡ 7
+unfinished-ends : exit_code (verdict_status NoEmptyClause) ≡ 7
 unfolding verdict_status
 unfinished-ends = refl
 
 -- ---- lists
 
-complete-ends : code_of (listing_status complete) ≡ 0
+complete-ends : exit_code (listing_status complete) ≡ 0
 unfolding listing_status
 complete-ends = refl
 
-stopped-ends : code_of (listing_status stopped) ≡ 0
+stopped-ends : exit_code (listing_status stopped) ≡ 0
 unfolding listing_status
 stopped-ends = refl
 
-spent-ends : code_of (listing_status (spent 12)) ≡ 1
+spent-ends : exit_code (listing_status (spent 12)) ≡ 1
 unfolding listing_status
 spent-ends = refl
 
 -- ---- codes
 
-usage-code : code_of (status_of Refusal.Usage) ≡ 2
+usage-code : exit_code (status_of Refusal.Usage) ≡ 2
 unfolding status_of
 usage-code = refl
 
-fault-code : code_of (status_of (Refusal.WhereFalse 1)) ≡ 3
+fault-code : exit_code (status_of (Refusal.WhereFalse 1)) ≡ 3
 unfolding status_of
 fault-code = refl
 
-device-code : code_of (status_of (Refusal.CannotRead m)) ≡ 5
+device-code : exit_code (status_of (Refusal.CannotRead m)) ≡ 5
 unfolding status_of
 device-code = refl
 
-write-code : code_of (status_of (Refusal.CannotWrite m)) ≡ 5
+write-code : exit_code (status_of (Refusal.CannotWrite m)) ≡ 5
 unfolding status_of
 write-code = refl

@@ -60,23 +60,23 @@ verdict_text (BadStep line) = codes "$ bad step " ++ (decimal line ++ codes "\n"
 verdict_text NoEmptyClause = codes "$ no empty clause\n"
 
 -- a status, a text and a log say which answer of an instance is right, where this is the text of an answer
-abbrev pub AnswersBy : (AnswerTree → List ℕ) → Mode → Instance → ℕ → Status → List ℕ → LogState → Type 0
-AnswersBy text_of mode i conflicts status text log =
+abbrev pub SettlesBy : (AnswerTree → List ℕ) → Mode → Instance → ℕ → Status → List ℕ → LogState → Type 0
+SettlesBy text_of mode i conflicts status text log =
     (answer : AnswerTree) × IsRight mode i conflicts answer × IsLogged mode i conflicts log answer
     × (status ≡ answer_status answer) × (text ≡ text_of answer)
 
 -- a status, a text and a log answer a task
-unfoldable pub Answers : Task → Status → List ℕ → LogState → Type 0
-Answers (to_solve mode i conflicts) status text log = AnswersBy answer_text mode i conflicts status text log
-Answers (to_list mode i most conflicts) status text log =
+unfoldable pub Settles : Task → Status → List ℕ → LogState → Type 0
+Settles (to_solve mode i conflicts) status text log = SettlesBy answer_text mode i conflicts status text log
+Settles (to_list mode i most conflicts) status text log =
     (listing : ListingTree) × Lists mode i conflicts most log listing
     × (status ≡ listing_status listing.ending) × (text ≡ listing_text listing)
-Answers (to_judge mode i (fits a)) status text log =
+Settles (to_judge mode i (fits a)) status text log =
     (found : Found) × Fits i a found
     × (status ≡ judgement_status (judgement mode i found))
     × (text ≡ judgement_text (judgement mode i found))
-Answers (to_judge mode i (wrong_shape names)) status text log =
+Settles (to_judge mode i (wrong_shape names)) status text log =
     (name : List ℕ) × Contains names name × (status ≡ Status.Refuted) × (text ≡ wrong_shape_text name)
-Answers (to_check formula lines) status text log =
+Settles (to_check formula lines) status text log =
     (status ≡ verdict_status (verdict_of formula lines)) × (text ≡ verdict_text (verdict_of formula lines))
-Answers (to_generate number mode i conflicts) status text log = AnswersBy (summary_text number) mode i conflicts status text log
+Settles (to_generate number mode i conflicts) status text log = SettlesBy (summary_text number) mode i conflicts status text log

@@ -102,16 +102,16 @@ pub record FailsAt (log : LogState) (answer : List ℕ) (outputs : List Output) 
 -- ---- the words
 
 -- a file is named for output
-abbrev pub IsNamed : Wanted → List ℕ → Type 0
-IsNamed (Wanted.Search model params mode request o) name =
+abbrev pub IsOutputName : Wanted → List ℕ → Type 0
+IsOutputName (Wanted.Search model params mode request o) name =
     (o.formula ≡ Some name) ⊎ ((o.log ≡ Some name) ⊎ (o.solution ≡ Some name))
-IsNamed (Wanted.Verify model params mode solution) name = ⊥
-IsNamed (Wanted.Check formula proof) name = ⊥
-IsNamed (Wanted.Generate number conflicts eprime param) name = (eprime ≡ Some name) ⊎ (param ≡ Some name)
+IsOutputName (Wanted.Verify model params mode solution) name = ⊥
+IsOutputName (Wanted.Check formula proof) name = ⊥
+IsOutputName (Wanted.Generate number conflicts eprime param) name = (eprime ≡ Some name) ⊎ (param ≡ Some name)
 
 -- the words name this file for output
 abbrev pub IsOutput : List (List ℕ) → List ℕ → Type 0
-IsOutput words name = (wanted : Wanted) × Want words wanted × IsNamed wanted name
+IsOutput words name = (wanted : Wanted) × Want words wanted × IsOutputName wanted name
 
 -- the files that the words name for output are written with what a log and an answer's text are, and nothing else was changed
 abbrev pub HasOutput : List (List ℕ) → List ℕ → LogState → Option Held → Option Held → Type 0

@@ -5,7 +5,7 @@ use Rattle.ep_base.specs.Outside.{Held, TookPart, with_more}
 use Rattle.ep_print.specs.Refusals.{refusal_text}
 use Rattle.ep_print.specs.declared.refusals.Refusal.{Refusal}
 use Rattle.ep_solve.specs.Right.{empty_log}
-use Rattle.ep_run.specs.Answers.{Answers}
+use Rattle.ep_run.specs.Answers.{Settles}
 use Rattle.ep_run.specs.Commands.{Want, files_of}
 use Rattle.ep_run.specs.Outcomes.{Task}
 use Rattle.ep_run.specs.Outputs.{ArePartlyWritten, FailsAt, HasOutput, written_for}
@@ -35,7 +35,7 @@ IsFailedRead words told name =
 -- the words show a task, which this text and this log answer
 abbrev pub IsAnsweredBy : List (List ℕ) → Option Held → List ℕ → LogState → Type 0
 IsAnsweredBy words told text log =
-    IfSome told (λ held. (task : Task) × (status : Status) × Ask words held task × Answers task status text log)
+    IfSome told (λ held. (task : Task) × (status : Status) × Ask words held task × Settles task status text log)
 
 -- A write of what answers failed, and the files counted a fault: the words name this file for output. The files before it are
 -- written, it may hold anything then, and every other one holds what it held.
@@ -62,7 +62,7 @@ IsDeviceLine words told after rose log text =
 abbrev pub IsShownText : List (List ℕ) → Held → Option Held → LogState → List ℕ → Type 0
 IsShownText words held after log text =
     ((status : Status) × Refuses words held status text × (after ≡ Some held))
-    ⊎ ((task : Task) × (status : Status) × Ask words held task × Answers task status text log
+    ⊎ ((task : Task) × (status : Status) × Ask words held task × Settles task status text log
     × HasOutput words text log (Some held) after)
 
 -- A text that a run may put out, with what the files hold then, where `rose` says that they counted a fault: one that the words

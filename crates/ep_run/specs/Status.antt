@@ -4,15 +4,15 @@ use Rattle.ep_print.specs.declared.refusals.Refusal.{Refusal}
 use Rattle.ep_run.specs.declared.status.Status.{Status}
 
 -- the code with which the program ends
-abbrev pub code_of : Status → ℕ
-code_of Status.Answered = 0
-code_of Status.Unknown = 1
-code_of Status.Usage = 2
-code_of Status.Text = 3
-code_of Status.Limit = 4
-code_of Status.Device = 5
-code_of Status.Memory = 6
-code_of Status.Refuted = 7
+abbrev pub exit_code : Status → ℕ
+exit_code Status.Answered = 0
+exit_code Status.Unknown = 1
+exit_code Status.Usage = 2
+exit_code Status.Text = 3
+exit_code Status.Limit = 4
+exit_code Status.Device = 5
+exit_code Status.Memory = 6
+exit_code Status.Refuted = 7
 
 -- a run ends with a reply: an answer, the end of its budget, or the judgement of what is no solution
 abbrev pub HasReply : Status → Type 0

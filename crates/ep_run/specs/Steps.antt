@@ -19,7 +19,7 @@ use Rattle.ep_tree.specs.declared.values.Mode.{Mode}
 use Rattle.ep_instance.specs.declared.judging.Shaped.{Shaped}
 use Rattle.ep_solve.specs.Right.{IsSpent, empty_log}
 use Rattle.sat_search.specs.Logs.{IsSound}
-use Rattle.ep_run.specs.Answers.{Answers, judgement_status, judgement_text}
+use Rattle.ep_run.specs.Answers.{Settles, judgement_status, judgement_text}
 use Rattle.ep_run.specs.Commands.{AreNoCommand, Want, conflicts_of, files_of}
 use Rattle.ep_run.specs.Outcomes.{Outcome, Task, as_outcome}
 use Rattle.ep_run.specs.Outputs.{AreWritten, ArePartlyWritten, FailsAt, Output, written_for}
@@ -64,13 +64,13 @@ OrUnlogged log P = (log ≡ empty_log) ⊎ P
 -- a reply answers the task that comes out, or one of the refusals; where memory is wanting, something is logged for a task alone
 abbrev pub TellsReply : Outcome Task → LogState → Result Reply Stop → Type 0
 TellsReply outcome log (Ok reply) =
-    (task : Task) × (outcome ≡ Ok task) × Answers task reply.status reply.text.items log
+    (task : Task) × (outcome ≡ Ok task) × Settles task reply.status reply.text.items log
 TellsReply outcome log (Err (Stop.Refused refusal)) = IsOfText refusal × IsAmong outcome refusal
 TellsReply outcome log (Err Stop.Memory) = OrUnlogged log ((task : Task) × (outcome ≡ Ok task))
 
 -- the same of what shows outcomes, where no file is read
 abbrev pub TellsShown : (Outcome Task → Type 0) → LogState → Result Reply Stop → Type 0
-TellsShown shows log (Ok reply) = (task : Task) × shows (Ok task) × Answers task reply.status reply.text.items log
+TellsShown shows log (Ok reply) = (task : Task) × shows (Ok task) × Settles task reply.status reply.text.items log
 TellsShown shows log (Err (Stop.Refused refusal)) =
     IsOfText refusal × (refusals : List Refusal) × shows (Err refusals) × Contains refusals refusal
 TellsShown shows log (Err Stop.Memory) = OrUnlogged log ((task : Task) × shows (Ok task))
@@ -168,7 +168,7 @@ IsFaulty shows told refusal =
 -- a task comes out, and the reply answers it
 abbrev pub IsAnswer : Shows → Option Held → Status → List ℕ → LogState → Type 0
 IsAnswer shows told status text log =
-    IfSome told (λ held. (task : Task) × shows held (Ok task) × Answers task status text log)
+    IfSome told (λ held. (task : Task) × shows held (Ok task) × Settles task status text log)
 
 -- what a run tells that has some files to read
 abbrev pub TellsTask : List (List ℕ) → Shows → Option Held → Type 0 → LogState → Result Reply Stop → Type 0
@@ -234,7 +234,7 @@ IsShown wanted told after rose log refusal =
 -- what is wanted comes to a task, which this text and this log answer
 abbrev pub HasAnswer : Wanted → Option Held → List ℕ → LogState → Type 0
 HasAnswer wanted told text log =
-    IfSome told (λ held. (task : Task) × (status : Status) × ComesTo wanted held (Ok task) × Answers task status text log)
+    IfSome told (λ held. (task : Task) × (status : Status) × ComesTo wanted held (Ok task) × Settles task status text log)
 
 -- a file can't be written into which what answers is to be written
 abbrev pub IsUnwritten : Wanted → Option Held → Option Held → Type 0 → LogState → Refusal → Type 0
@@ -267,8 +267,8 @@ SaysTo wanted told after rose status text log =
     × IsRefused wanted told after rose log refusal)
 
 -- a status, a text and a log with which the words are answered
-abbrev pub Says : List (List ℕ) → Option Held → Option Held → Type 0 → Status → List ℕ → LogState → Type 0
-Says words told after rose status text log =
+abbrev pub SaysOfRun : List (List ℕ) → Option Held → Option Held → Type 0 → Status → List ℕ → LogState → Type 0
+SaysOfRun words told after rose status text log =
     ((status ≡ Status.Usage) × (text ≡ refusal_text Refusal.Usage) × (log ≡ empty_log) × (after ≡ told) × AreNoCommand words)
     ⊎ ((wanted : Wanted) × Want words wanted × SaysTo wanted told after rose status text log)
 

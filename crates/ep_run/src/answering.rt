@@ -5,12 +5,12 @@ ghost use Rattle.std.specs.List.{All};
 ghost use Rattle.ep_base.specs.Reads.{IsWithinNumbers};
 ghost use Rattle.ep_tree.specs.Closed.{IsClosed};
 ghost use Rattle.ep_tree.specs.Solutions.{instance_limits};
-ghost use Rattle.ep_instance.specs.Instances.{instance_of as plain_instance, mode_of};
+ghost use Rattle.ep_instance.specs.Instances.{plain_instance, instance_mode};
 ghost use Rattle.ep_print.specs.Answers.{answer_tree};
 ghost use Rattle.ep_print.specs.Listings.{end_tree};
 ghost use Rattle.ep_solve.specs.Right.{empty_log};
 ghost use Rattle.sat_search.specs.Logs.{IsSound};
-ghost use Rattle.ep_run.specs.Answers.{Answers, answer_status, listing_status};
+ghost use Rattle.ep_run.specs.Answers.{Settles, answer_status, listing_status};
 ghost use Rattle.ep_run.specs.Commands.{conflicts_of};
 ghost use Rattle.ep_run.specs.Outcomes.{task_of, to_list, to_solve};
 ghost use Rattle.ep_run.specs.Steps.{IsSearched};
@@ -36,10 +36,10 @@ pub fn searched_reply(
 ) -> Result<Reply, Memory>
     requires closed { IsClosed (plain_instance instance.now) }
     requires numbers { All (λ f. All IsWithinNumbers f.values) (plain_instance instance.now).finds }
-    requires within { instance_limits (mode_of instance.now) (plain_instance instance.now) ≡ [] }
+    requires within { instance_limits (instance_mode instance.now) (plain_instance instance.now) ≡ [] }
     requires empty { log.old ≡ empty_log }
     ensures answers { IfOk result (λ reply.
-        Answers (task_of (mode_of instance.now) request (plain_instance instance.now)) reply.status reply.text.items log.new) }
+        Settles (task_of (instance_mode instance.now) request (plain_instance instance.now)) reply.status reply.text.items log.new) }
     ensures ends { IfOk result (λ reply. IsSearched (conflicts_of request) reply.status log.new) }
     ensures sound { IsSound log.new.events }
 {
@@ -61,10 +61,10 @@ fn solved_reply(
 ) -> Result<Reply, Memory>
     requires closed { IsClosed (plain_instance instance.now) }
     requires numbers { All (λ f. All IsWithinNumbers f.values) (plain_instance instance.now).finds }
-    requires within { instance_limits (mode_of instance.now) (plain_instance instance.now) ≡ [] }
+    requires within { instance_limits (instance_mode instance.now) (plain_instance instance.now) ≡ [] }
     requires empty { log.old ≡ empty_log }
     ensures answers { IfOk result (λ reply.
-        Answers (to_solve (mode_of instance.now) (plain_instance instance.now) conflicts) reply.status reply.text.items log.new) }
+        Settles (to_solve (instance_mode instance.now) (plain_instance instance.now) conflicts) reply.status reply.text.items log.new) }
     ensures ends { IfOk result (λ reply. IsSearched conflicts reply.status log.new) }
     ensures sound { IsSound log.new.events }
 {
@@ -86,10 +86,10 @@ fn listed_reply(
 ) -> Result<Reply, Memory>
     requires closed { IsClosed (plain_instance instance.now) }
     requires numbers { All (λ f. All IsWithinNumbers f.values) (plain_instance instance.now).finds }
-    requires within { instance_limits (mode_of instance.now) (plain_instance instance.now) ≡ [] }
+    requires within { instance_limits (instance_mode instance.now) (plain_instance instance.now) ≡ [] }
     requires empty { log.old ≡ empty_log }
     ensures answers { IfOk result (λ reply.
-        Answers (to_list (mode_of instance.now) (plain_instance instance.now) most conflicts) reply.status reply.text.items log.new) }
+        Settles (to_list (instance_mode instance.now) (plain_instance instance.now) most conflicts) reply.status reply.text.items log.new) }
     ensures ends { IfOk result (λ reply. IsSearched conflicts reply.status log.new) }
     ensures sound { IsSound log.new.events }
 {

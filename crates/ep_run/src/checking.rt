@@ -8,7 +8,7 @@ ghost use Rattle.ep_tree.specs.Faults.{params_faults, text_faults};
 ghost use Rattle.ep_tree.specs.Solutions.{instance_limits};
 ghost use Rattle.ep_tree.specs.Views.{model_tree, params_tree};
 ghost use Rattle.ep_types.specs.Texts.{typed_params_tree, typed_tree};
-ghost use Rattle.ep_instance.specs.Instances.{instance_of as plain_instance, mode_of};
+ghost use Rattle.ep_instance.specs.Instances.{plain_instance, instance_mode};
 ghost use Rattle.ep_print.specs.declared.refusals.TextFile.{TextFile as TextFileValue};
 ghost use Rattle.ep_run.specs.Outcomes.{bind_refusals, bound_outcome, fault_refusals, instance_of};
 ghost use Rattle.ep_run.specs.Steps.{Passes, Tells};
@@ -54,10 +54,10 @@ pub fn instance_of(
 ) -> Result<Instance, Stop>
     ensures tells { Tells plain_instance
         (instance_of mode (typed_tree model) (typed_params_tree params)) result }
-    ensures mode { IfOk result (λ i. mode_of i ≡ mode) }
+    ensures mode { IfOk result (λ i. instance_mode i ≡ mode) }
     ensures closed { IfOk result (λ i. IsClosed (plain_instance i)) }
     ensures numbers { IfOk result (λ i. All (λ f. All IsWithinNumbers f.values) (plain_instance i).finds) }
-    ensures within { IfOk result (λ i. instance_limits (mode_of i) (plain_instance i) ≡ []) }
+    ensures within { IfOk result (λ i. instance_limits (instance_mode i) (plain_instance i) ≡ []) }
 {
     let instance = bound(alloc, mode, model, params)?;
     check_limits(alloc, &instance)?;
@@ -68,7 +68,7 @@ pub fn instance_of(
 fn bound(alloc: Global, mode: Mode, model: Typed, params: TypedParams) -> Result<Instance, Stop>
     ensures tells { Tells plain_instance
         (bound_outcome mode (typed_tree model) (typed_params_tree params)) result }
-    ensures mode { IfOk result (λ i. mode_of i ≡ mode) }
+    ensures mode { IfOk result (λ i. instance_mode i ≡ mode) }
     ensures closed { IfOk result (λ i. IsClosed (plain_instance i)) }
     ensures numbers { IfOk result (λ i. All (λ f. All IsWithinNumbers f.values) (plain_instance i).finds) }
 {
@@ -82,7 +82,7 @@ fn bound(alloc: Global, mode: Mode, model: Typed, params: TypedParams) -> Result
 fn check_limits(alloc: Global, instance: &Instance) -> Result<(), Stop>
     requires closed { IsClosed (plain_instance instance.now) }
     ensures { Passes
-        (bind_refusals (instance_limits (mode_of instance.now) (plain_instance instance.now))) result }
+        (bind_refusals (instance_limits (instance_mode instance.now) (plain_instance instance.now))) result }
 {
     match measure(alloc, instance) {
         Ok(_) => Ok(()),

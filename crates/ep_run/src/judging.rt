@@ -6,7 +6,7 @@ ghost use Rattle.ep_tree.specs.Closed.{IsClosed};
 ghost use Rattle.ep_tree.specs.Solutions.{Fits, Found, instance_limits};
 ghost use Rattle.ep_tree.specs.Views.{assigned};
 ghost use Rattle.ep_types.specs.Texts.{typed_params_tree};
-ghost use Rattle.ep_instance.specs.Instances.{instance_of as plain_instance, mode_of};
+ghost use Rattle.ep_instance.specs.Instances.{plain_instance, instance_mode};
 ghost use Rattle.ep_instance.specs.Judgements.{judgement_of};
 ghost use Rattle.ep_solve.specs.Right.{empty_log};
 ghost use Rattle.ep_run.specs.Answers.{judgement_status, judgement_text, wrong_shape_text};
@@ -31,9 +31,9 @@ pub fn judged_reply(
     solution: TypedParams,
 ) -> Result<Reply, Stop>
     requires closed { IsClosed (plain_instance instance.now) }
-    requires within { instance_limits (mode_of instance.now) (plain_instance instance.now) ≡ [] }
+    requires within { instance_limits (instance_mode instance.now) (plain_instance instance.now) ≡ [] }
     ensures { TellsReply
-        (judge_outcome (mode_of instance.now) (plain_instance instance.now) (typed_params_tree solution))
+        (judge_outcome (instance_mode instance.now) (plain_instance instance.now) (typed_params_tree solution))
         empty_log result }
 {
     match shaped(alloc, instance, solution)? {
@@ -48,7 +48,7 @@ pub fn judged_reply(
 /// The assignment of a solution text, or a name that keeps it from giving one.
 fn shaped(alloc: Global, instance: &Instance, solution: TypedParams) -> Result<Shaped, Stop>
     requires closed { IsClosed (plain_instance instance.now) }
-    ensures { TellsShape (mode_of instance.now) (plain_instance instance.now) (typed_params_tree solution) result }
+    ensures { TellsShape (instance_mode instance.now) (plain_instance instance.now) (typed_params_tree solution) result }
 {
     match read_assignment(alloc, instance, solution) {
         Ok(shaped) => Ok(shaped),
@@ -59,11 +59,11 @@ fn shaped(alloc: Global, instance: &Instance, solution: TypedParams) -> Result<S
 /// What is said of an assignment that fits.
 fn judged(alloc: Global, instance: &Instance, assignment: &Assignment) -> Result<Reply, Memory>
     requires closed { IsClosed (plain_instance instance.now) }
-    requires within { instance_limits (mode_of instance.now) (plain_instance instance.now) ≡ [] }
+    requires within { instance_limits (instance_mode instance.now) (plain_instance instance.now) ≡ [] }
     requires fits { (found : Found) × Fits (plain_instance instance.now) (assigned assignment.now) found }
     ensures { IfOk result (λ reply. (found : Found)
         → Fits (plain_instance instance.now) (assigned assignment.now) found
-        → IsJudged (mode_of instance.now) (plain_instance instance.now) found reply.status reply.text.items) }
+        → IsJudged (instance_mode instance.now) (plain_instance instance.now) found reply.status reply.text.items) }
 {
     let judgement = is_solution(alloc, instance, assignment)?;
     Ok(Reply {

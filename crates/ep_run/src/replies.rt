@@ -7,7 +7,7 @@ ghost use Rattle.ep_solve.specs.Right.{empty_log};
 ghost use Rattle.sat_search.specs.Logs.{IsSound};
 ghost use Rattle.ep_run.specs.Puts.{HoldOnWant};
 ghost use Rattle.ep_run.specs.Status.{status_of};
-ghost use Rattle.ep_run.specs.Steps.{LogsTask, Says, TellsRun};
+ghost use Rattle.ep_run.specs.Steps.{LogsTask, SaysOfRun, TellsRun};
 
 use super::runs::do_wanted;
 use super::status::Status;
@@ -34,7 +34,7 @@ pub fn reply_to<F: Files>(
     log: &mut Log,
 ) -> Result<Reply, Memory>
     requires empty { log.old ≡ empty_log }
-    ensures says { IfOk result (λ reply. Says words.now (F.held files.old) (F.held files.new)
+    ensures says { IfOk result (λ reply. SaysOfRun words.now (F.held files.old) (F.held files.new)
         (Rose (F.faults files.old) (F.faults files.new)) reply.status reply.text.items log.new) }
     ensures wants { OnErr result (HoldOnWant words.now (F.held files.old) (F.held files.new)
         (Rose (F.faults files.old) (F.faults files.new)) log.new) }

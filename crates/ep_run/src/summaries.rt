@@ -6,12 +6,12 @@ ghost use Rattle.std.specs.List.{All};
 ghost use Rattle.ep_base.specs.Reads.{IsWithinNumbers};
 ghost use Rattle.ep_tree.specs.Closed.{IsClosed};
 ghost use Rattle.ep_tree.specs.Solutions.{instance_limits};
-ghost use Rattle.ep_instance.specs.Instances.{instance_of as plain_instance, mode_of};
+ghost use Rattle.ep_instance.specs.Instances.{plain_instance, instance_mode};
 ghost use Rattle.ep_print.specs.Answers.{answer_tree, unknown_text};
 ghost use Rattle.ep_gen.specs.Hints.{order_of};
 ghost use Rattle.ep_solve.specs.Right.{empty_log};
 ghost use Rattle.sat_search.specs.Logs.{IsSound};
-ghost use Rattle.ep_run.specs.Answers.{Answers};
+ghost use Rattle.ep_run.specs.Answers.{Settles};
 ghost use Rattle.ep_run.specs.Outcomes.{to_generate};
 ghost use Rattle.ep_run.specs.Steps.{IsSearched};
 ghost use Rattle.ep_run.specs.Summaries.{found_line, summary_text};
@@ -37,10 +37,10 @@ pub fn summed_reply(
 ) -> Result<Reply, Memory>
     requires closed { IsClosed (plain_instance instance.now) }
     requires numbers { All (λ f. All IsWithinNumbers f.values) (plain_instance instance.now).finds }
-    requires within { instance_limits (mode_of instance.now) (plain_instance instance.now) ≡ [] }
+    requires within { instance_limits (instance_mode instance.now) (plain_instance instance.now) ≡ [] }
     requires empty { log.old ≡ empty_log }
     ensures answers { IfOk result (λ reply.
-        Answers (to_generate number (mode_of instance.now) (plain_instance instance.now) conflicts)
+        Settles (to_generate number (instance_mode instance.now) (plain_instance instance.now) conflicts)
         reply.status reply.text.items log.new) }
     ensures ends { IfOk result (λ reply. IsSearched conflicts reply.status log.new) }
     ensures sound { IsSound log.new.events }

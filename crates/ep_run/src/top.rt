@@ -11,7 +11,7 @@ ghost use Rattle.cnf_core.specs.Events.{givens};
 ghost use Rattle.cnf_core.specs.LogLines.{log_lines};
 ghost use Rattle.log_check.specs.Verdict.{first_bad, verdict_of};
 ghost use Rattle.log_check.specs.declared.Verdict.TheVariants.{Verified};
-ghost use Rattle.ep_run.specs.Answers.{Answers};
+ghost use Rattle.ep_run.specs.Answers.{Settles};
 ghost use Rattle.ep_run.specs.Budgets.{IsBelowPower, MeetsConflict, before_steps};
 ghost use Rattle.ep_run.specs.Commands.{AreNoCommand, IsJudgement, Want};
 ghost use Rattle.ep_run.specs.Outcomes.{Task};
@@ -55,7 +55,7 @@ pub fn run<R: Threads, F: Files, K: Sink>(
     // that the words name for output are written. The log shows the answer of a search.
     ensures answered { HasReply result →
         IfSome (F.held files.old) (λ held. (task : Task) × (text : List ℕ)
-        × Ask words.now held task × Answers task result text log.new
+        × Ask words.now held task × Settles task result text log.new
         × (K.taken out.new ≡ with_more text (K.taken out.old))
         × HasOutput words.now text log.new (F.held files.old) (F.held files.new)) }
     ensures unknown { result ≡ StatusValue.Unknown →

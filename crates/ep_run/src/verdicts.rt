@@ -3,7 +3,7 @@
 ghost use Rattle.std.specs.Prelude.{◌≡◌, ◌⊎◌, ◌++◌, codes, IfOk};
 ghost use Rattle.std.specs.Fmt.{decimal};
 ghost use Rattle.ep_solve.specs.Right.{empty_log};
-ghost use Rattle.ep_run.specs.Answers.{Answers, verdict_status, verdict_text};
+ghost use Rattle.ep_run.specs.Answers.{Settles, verdict_status, verdict_text};
 ghost use Rattle.ep_run.specs.Outcomes.{to_check};
 ghost use Rattle.ep_run.specs.Steps.{IsJudgedEnd, formula_clauses, proof_lines};
 
@@ -18,7 +18,7 @@ use std::alloc::{AllocError, Global};
 /// What is said of a proof of a formula.
 pub fn checked_reply(alloc: Global, formula: &Formula, proof: &Proof) -> Result<Reply, Memory>
     ensures answers { IfOk result (λ reply.
-        Answers (to_check (formula_clauses formula.now) (proof_lines proof.now)) reply.status reply.text.items empty_log) }
+        Settles (to_check (formula_clauses formula.now) (proof_lines proof.now)) reply.status reply.text.items empty_log) }
     ensures ends { IfOk result (λ reply. IsJudgedEnd reply.status empty_log) }
 {
     let verdict = check_log(alloc, formula, proof)?;

@@ -25,7 +25,7 @@ use Rattle.ep_tree.specs.Environments.{Env}
 use Rattle.ep_tree.specs.Evaluation.{evaluate}
 use Rattle.ep_tree.specs.Trees.{ExprTree}
 use Rattle.ep_tree.specs.Values.{ValueTree}
-use Rattle.ep_size.specs.Extents.{Known}
+use Rattle.ep_size.specs.Extents.{IsKnownExtent}
 use Rattle.ep_size.specs.declared.errors.SizeError.{SizeError}
 use Rattle.ep_size.specs.declared.errors.SizeError.TheVariants.{Memory as OutOfMemory}
 use Rattle.ep_size.specs.declared.extents.Extent.{Extent}
@@ -101,8 +101,8 @@ yes_ok (Ok x) P h = h
 yes_ok (Err e) P h = tt
 
 pub known_ok : (mode : Mode) (env : Env) (e : ExprTree) (r : Result Extent SizeError) (v : Option ValueTree)
-    → IfOk r (λ x. (m : Mode) → holds_decision (decisions_in env) e ≡ false → evaluate m env e ≡ v → Known m env e x)
-    → holds_decision (decisions_in env) e ≡ false → evaluate mode env e ≡ v → IfOk r (Known mode env e)
+    → IfOk r (λ x. (m : Mode) → holds_decision (decisions_in env) e ≡ false → evaluate m env e ≡ v → IsKnownExtent m env e x)
+    → holds_decision (decisions_in env) e ≡ false → evaluate mode env e ≡ v → IfOk r (IsKnownExtent mode env e)
 known_ok mode env e (Ok x) v h k q = h mode k q
 known_ok mode env e (Err error) v h k q = tt
 

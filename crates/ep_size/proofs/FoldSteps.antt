@@ -14,7 +14,7 @@ use Rattle.ep_tree.specs.Reach.{folded_span, reaches, sum_span, truth_span, wide
 use Rattle.ep_tree.specs.declared.syntax.FoldOp.{FoldOp}
 use Rattle.ep_size.proofs.Caps.{product_kept}
 use Rattle.ep_size.proofs.Measurings.{is_past, left_true, neither, or_again, or_false, past_of, right_true}
-use Rattle.ep_size.specs.Extents.{span_of}
+use Rattle.ep_size.specs.Extents.{plain_span}
 use Rattle.ep_size.specs.Finishing.{Gives}
 use Rattle.ep_size.specs.Folds.{Chooses, Folds, GivesFold, Multiplies, RefusesFold, fold_reaches, greater, is_far_fold, is_far_reach, lesser}
 use Rattle.ep_size.specs.Spans.{Keeps, interval_of}
@@ -49,7 +49,7 @@ chooses_none step t started reach weight = record { started = started; reach = r
 
 -- the first number
 pub chooses_first : (step : Interval → Interval → Interval) (t u : Chosen) (spans : List defined.Span) (s : Span) → t.started ≡ false → Chooses step t spans
-    → u.started ≡ true → u.ends ≡ s.reach → u.weight ≡ 0 → Chooses step u (spans ++ span_of s ∷ [])
+    → u.started ≡ true → u.ends ≡ s.reach → u.weight ≡ 0 → Chooses step u (spans ++ plain_span s ∷ [])
 unfolding Chooses folding_weight
 chooses_first step t u [] s none h started reach weight = record { started = started; reach = ap interval_of reach; weight = weight }
 chooses_first step t u (x ∷ xs) s none h started reach weight = let two : true ≡ false = sym h.started ∙ none in absurd cc
@@ -57,17 +57,17 @@ chooses_first step t u (x ∷ xs) s none h started reach weight = let two : true
 -- one number more
 pub chooses_next : (step : Interval → Interval → Interval) (t u : Chosen) (spans : List defined.Span) (s : Span) → t.started ≡ true → Chooses step t spans
     → u.started ≡ true → interval_of u.ends ≡ step (interval_of t.ends) (interval_of s.reach)
-    → u.weight ≡ capped (capped t.weight + capped (capped (width (interval_of t.ends)) * capped s.spread)) → Chooses step u (spans ++ span_of s ∷ [])
+    → u.weight ≡ capped (capped t.weight + capped (capped (width (interval_of t.ends)) * capped s.spread)) → Chooses step u (spans ++ plain_span s ∷ [])
 unfolding Chooses
 chooses_next step t u [] s some h started reach weight = let two : true ≡ false = sym some ∙ h.started in absurd cc
 chooses_next step t u (x ∷ xs) s some h started reach weight =
     let own : capped (capped (width (interval_of t.ends)) * capped s.spread) ≡ capped (width (fold step x.reach (reaches xs)) * s.spread) =
     product_kept (width (interval_of t.ends)) s.spread ∙ ap (λ i. capped (width i * s.spread)) h.reach in
-    let last : folding_weight step x.reach (xs ++ span_of s ∷ []) ≡ folding_weight step x.reach xs + width (fold step x.reach (reaches xs)) * s.spread =
-    weight_last step x.reach xs (span_of s) in
+    let last : folding_weight step x.reach (xs ++ plain_span s ∷ []) ≡ folding_weight step x.reach xs + width (fold step x.reach (reaches xs)) * s.spread =
+    weight_last step x.reach xs (plain_span s) in
     record {
       started = started;
-      reach = reach ∙ ap (λ i. step i (interval_of s.reach)) h.reach ∙ sym (fold_last step x.reach xs (span_of s));
+      reach = reach ∙ ap (λ i. step i (interval_of s.reach)) h.reach ∙ sym (fold_last step x.reach xs (plain_span s));
       weight = added u.weight t.weight _ (folding_weight step x.reach xs) (width (fold step x.reach (reaches xs)) * s.spread) _ weight own h.weight last;
     }
   where
@@ -194,12 +194,12 @@ multiplies_none t whole weighed = record { whole = whole; near = refl; weighed =
 pub multiplies_more : (t u : Multiplied) (spans : List defined.Span) (s : Span) → Multiplies t spans
     → interval_of u.whole ≡ product_interval (interval_of t.whole) (interval_of s.reach)
     → is_far_reach (product_interval (interval_of t.whole) (interval_of s.reach)) ≡ false
-    → Chooses product_interval u.chosen (spans ++ span_of s ∷ []) → Multiplies u (spans ++ span_of s ∷ [])
+    → Chooses product_interval u.chosen (spans ++ plain_span s ∷ []) → Multiplies u (spans ++ plain_span s ∷ [])
 unfolding products_interval
 multiplies_more t u spans s h whole near weighed = record {
-  whole = whole ∙ ap (λ i. product_interval i (interval_of s.reach)) h.whole ∙ sym (fold_last product_interval (only (pos 1)) spans (span_of s));
+  whole = whole ∙ ap (λ i. product_interval i (interval_of s.reach)) h.whole ∙ sym (fold_last product_interval (only (pos 1)) spans (plain_span s));
   near =
-      far_last (only (pos 1)) spans (span_of s)
+      far_last (only (pos 1)) spans (plain_span s)
       ∙ neither _ _ h.near (ap (λ i. is_far_reach (product_interval i (interval_of s.reach))) (sym h.whole) ∙ near);
   weighed = weighed;
 }
@@ -223,13 +223,13 @@ product_far spans = far_any ((folded_span FoldOp.Product spans).reach ∷ first_
 -- a product is refused
 pub product_refused : (t : Multiplied) (spans rest : List defined.Span) (s : Span) (e : SizeError) (i : Interval)
     → i ≡ product_interval (interval_of t.whole) (interval_of s.reach) → Keeps i (Err e) → Multiplies t spans
-    → RefusesFold e FoldOp.Product (spans ++ span_of s ∷ rest)
+    → RefusesFold e FoldOp.Product (spans ++ plain_span s ∷ rest)
 unfolding products_interval
 product_refused t spans rest s Memory i same k h = tt
 product_refused t spans rest s (Limit l) i same k h =
     let far : is_far_reach (product_interval (fold product_interval (only (pos 1)) (reaches spans)) (interval_of s.reach)) ≡ true =
     ap (λ j. is_far_reach (product_interval j (interval_of s.reach))) (sym h.whole) ∙ ap is_far_reach (sym same) ∙ k.1 in
-    (k.0, product_far (spans ++ span_of s ∷ rest) ∙ right_true _ _ (far_among (only (pos 1)) spans (span_of s) rest far))
+    (k.0, product_far (spans ++ plain_span s ∷ rest) ∙ right_true _ _ (far_among (only (pos 1)) spans (plain_span s) rest far))
 
 plain_gives : (op : FoldOp) (spans : List defined.Span) (r : Result Span SizeError) → Gives r (folded_span op spans)
     → is_far_fold op spans ≡ is_far_reach (folded_span op spans).reach → GivesFold r op spans
@@ -264,7 +264,7 @@ product_gives t FoldOp.Or spans r h g = absurd h
 product_gives t FoldOp.Min spans r h g = absurd h
 product_gives t FoldOp.Max spans r h g = absurd h
 
-pub truth_gives : (n : ℕ) (op : FoldOp) (spans : List defined.Span) (own : Span) → Folds (Truth n) op spans → span_of own ≡ truth_span
+pub truth_gives : (n : ℕ) (op : FoldOp) (spans : List defined.Span) (own : Span) → Folds (Truth n) op spans → plain_span own ≡ truth_span
     → GivesFold (Ok own) op spans
 unfolding Folds folded_span fold_reaches is_too_far farthest_end farthest_of absolute_of
 truth_gives n FoldOp.And spans own h g = (g, refl)

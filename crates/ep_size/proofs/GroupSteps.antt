@@ -16,7 +16,7 @@ use Rattle.std.specs.declared.vec.Vec.{Vec}
 use Rattle.ep_size.proofs.ExtentViews.{grid_of-matrix}
 use Rattle.ep_size.proofs.FormSteps.{measured_decided, own_weight}
 use Rattle.ep_size.proofs.Measurings.{near_nothing}
-use Rattle.ep_size.specs.Extents.{Known, TellsValue, grid_of, span_of}
+use Rattle.ep_size.specs.Extents.{IsKnownExtent, TellsValue, grid_of, plain_span}
 use Rattle.ep_size.specs.Finishing.{Finished, IsLightNode, IsNumberNode}
 use Rattle.ep_size.specs.declared.extents.Extent.{Extent, Cells, Fixed, Matrix, Matrix', NoParts, Nothing, Number}
 use Rattle.ep_size.specs.declared.extents.Span.{Span}
@@ -24,13 +24,13 @@ use Rattle.ep_size.specs.declared.totals.Totals.{Totals}
 
 -- ---- a node that weighs nothing
 
-pub light_number : (mode : Mode) (env : Env) (e : ExprTree) (x : Extent) (s : Span) → grid_of x ≡ single (span_of s) → IsLightNode mode env e x
-    → IsNumberNode mode env e 0 (span_of s)
+pub light_number : (mode : Mode) (env : Env) (e : ExprTree) (x : Extent) (s : Span) → grid_of x ≡ single (plain_span s) → IsLightNode mode env e x
+    → IsNumberNode mode env e 0 (plain_span s)
 light_number mode env e x s is h = record { plain = h.plain; value = h.known.extent ∙ is; holds = h.holds; weight = h.weight }
 
 -- a matrix of cells is near
 pub light_cells : (mode : Mode) (env : Env) (e : ExprTree) (x : Extent) (t : Totals) (s : Span) (i : List ℤ) (is : List (List ℤ))
-    → grid_of x ≡ filled (span_of s) (i ∷ is) → IsLightNode mode env e x → Finished mode env e t t x
+    → grid_of x ≡ filled (plain_span s) (i ∷ is) → IsLightNode mode env e x → Finished mode env e t t x
 unfolding number_reach filled
 light_cells mode env e x t s i is grid h = record {
   near = near_nothing mode (a_node env e) (h.plain ∙ ap number_reach (h.known.extent ∙ grid));
@@ -90,7 +90,7 @@ tells_group mode env p e NoParts holds h = both_ways _ _ holds (holds_decision-g
 
 -- anything else in brackets
 pub same_group : (mode : Mode) (env : Env) (p : Place) (e : ExprTree) (t : ValueType) (x : Extent) → holds_decision (decisions_in env) (group p e) ≡ true
-    → t ≡ type_in env e → ((y : defined.Extent) → group_extent t y ≡ y) → Known mode env e x → IsLightNode mode env (group p e) x
+    → t ≡ type_in env e → ((y : defined.Extent) → group_extent t y ≡ y) → IsKnownExtent mode env e x → IsLightNode mode env (group p e) x
 unfolding reaches_at
 same_group mode env p e t x holds typed same h = record {
   plain = refl;

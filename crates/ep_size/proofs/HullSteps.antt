@@ -11,7 +11,7 @@ use Rattle.ep_tree.specs.Measures.{index_width, read_weight}
 use Rattle.ep_tree.specs.Reach as defined
 use Rattle.ep_tree.specs.Reach.{MeasuredIndex, is_decided_index, read_span, reaches, truth_span, wide_span}
 use Rattle.ep_tree.specs.declared.values.Scalar.{Scalar}
-use Rattle.ep_size.specs.Extents.{span_of}
+use Rattle.ep_size.specs.Extents.{plain_span}
 use Rattle.ep_size.specs.Finishing.{Gives}
 use Rattle.ep_size.specs.Hulls.{Hulls}
 use Rattle.ep_size.specs.Spans.{Keeps, interval_of}
@@ -54,23 +54,23 @@ hulls_none t count reach = record { count = count; reach = reach }
 
 -- the first number
 pub hulls_first : (t u : Hulled) (spans : List defined.Span) (s : Span) → t.count ≡ 0 → Hulls t spans → u.count ≡ 1 → u.reach ≡ s.reach → u.first ≡ s
-    → Hulls u (spans ++ span_of s ∷ [])
+    → Hulls u (spans ++ plain_span s ∷ [])
 unfolding Hulls
 hulls_first t u [] s none h count reach first =
-    record { count = count; reach = ap interval_of reach ∙ hull_alone (span_of s); first = ap span_of first }
+    record { count = count; reach = ap interval_of reach ∙ hull_alone (plain_span s); first = ap plain_span first }
 hulls_first t u (x ∷ xs) s none h count reach first = absurd (omega (arith, h.count, none))
 
 -- one number more
 pub hulls_next : (t u : Hulled) (spans : List defined.Span) (s : Span) → t.count ≢ 0 → Hulls t spans → u.count ≡ capped (capped t.count + 1)
-    → interval_of u.reach ≡ hull (interval_of t.reach ∷ interval_of s.reach ∷ []) → u.first ≡ t.first → Hulls u (spans ++ span_of s ∷ [])
+    → interval_of u.reach ≡ hull (interval_of t.reach ∷ interval_of s.reach ∷ []) → u.first ≡ t.first → Hulls u (spans ++ plain_span s ∷ [])
 unfolding Hulls
 hulls_next t u [] s some h count reach first = absurd (some h.count)
 hulls_next t u (x ∷ xs) s some h count reach first =
-    let a : length ((x ∷ xs) ++ span_of s ∷ []) ≡ length (x ∷ xs) + 1 = length_push (x ∷ xs) (span_of s) in
+    let a : length ((x ∷ xs) ++ plain_span s ∷ []) ≡ length (x ∷ xs) + 1 = length_push (x ∷ xs) (plain_span s) in
     record {
       count = omega (arith, a, count, h.count);
-      reach = reach ∙ ap (λ i. hull (i ∷ interval_of s.reach ∷ [])) h.reach ∙ hull_more x xs (span_of s);
-      first = ap span_of first ∙ h.first;
+      reach = reach ∙ ap (λ i. hull (i ∷ interval_of s.reach ∷ [])) h.reach ∙ hull_more x xs (plain_span s);
+      first = ap plain_span first ∙ h.first;
     }
 
 pub hulls_count : (t : Hulled) (spans : List defined.Span) → Hulls t spans → t.count ≡ capped (length spans)
@@ -98,7 +98,7 @@ read_some is whole left b h k = let e : list_any is_decided_index is ≡ true = 
 -- ---- what is known of a read
 
 pub cell_read : (t : Hulled) (spans : List defined.Span) (b : Bool) (scalar : Scalar) → Hulls t spans → b ≡ true → t.count ≡ 1
-    → span_of t.first ≡ read_span b scalar spans
+    → plain_span t.first ≡ read_span b scalar spans
 unfolding Hulls read_span
 cell_read t [] b scalar h of_cell one = absurd (omega (arith, h.count, one))
 cell_read t (x ∷ []) true scalar h of_cell one = h.first
@@ -115,7 +115,7 @@ other_read t (x ∷ []) true scalar h more = absurd (more h.count)
 other_read t (x ∷ (y ∷ zs)) true Scalar.Bool h more = refl
 other_read t (x ∷ (y ∷ zs)) true Scalar.Int h more = refl
 
-pub bool_read : (spans : List defined.Span) (scalar : Scalar) (own : Span) → scalar ≡ Scalar.Bool → span_of own ≡ truth_span
+pub bool_read : (spans : List defined.Span) (scalar : Scalar) (own : Span) → scalar ≡ Scalar.Bool → plain_span own ≡ truth_span
     → Gives (Ok own) (read_span false scalar spans)
 unfolding read_span is_too_far farthest_end absolute_of
 bool_read spans Scalar.Bool own same known = (known, refl)
@@ -127,7 +127,7 @@ unfolding read_span
 int_read t spans Scalar.Int same h = ap wide_span (hulls_reach t spans h)
 int_read t spans Scalar.Bool same h = absurd cc
 
-pub kept_gives : (s : defined.Span) (i : Interval) (own : Span) (ends : Ends) → i ≡ s.reach → span_of own ≡ s → Keeps i (Ok ends) → Gives (Ok own) s
+pub kept_gives : (s : defined.Span) (i : Interval) (own : Span) (ends : Ends) → i ≡ s.reach → plain_span own ≡ s → Keeps i (Ok ends) → Gives (Ok own) s
 kept_gives s i own ends same known k = (known, ap (λ j. is_too_far (farthest_end j)) (sym same) ∙ k.1)
 
 -- ---- numbers that are alike
@@ -152,15 +152,15 @@ hull_same n s =
     ap (λ a. from_to a s.reach.high) (sym (least_same s.reach.low n s refl))
     ∙ ap (from_to (fold int_min s.reach.low (lows (reaches (replicate n s))))) (sym (greatest_same s.reach.high n s refl))
 
-pub hulls_same : (t : Hulled) (s : Span) (n : ℕ) → t.count ≢ 0 → t.count ≡ capped n → t.reach ≡ s.reach → t.first ≡ s → Hulls t (replicate n (span_of s))
+pub hulls_same : (t : Hulled) (s : Span) (n : ℕ) → t.count ≢ 0 → t.count ≡ capped n → t.reach ≡ s.reach → t.first ≡ s → Hulls t (replicate n (plain_span s))
 unfolding Hulls
 hulls_same t s zero some count reach first = absurd (some count)
 hulls_same t s (suc n) some count reach first = record {
-  count = count ∙ ap (λ k. capped (suc k)) (sym (length-replicate n (span_of s)));
-  reach = ap interval_of reach ∙ hull_same n (span_of s);
-  first = ap span_of first;
+  count = count ∙ ap (λ k. capped (suc k)) (sym (length-replicate n (plain_span s)));
+  reach = ap interval_of reach ∙ hull_same n (plain_span s);
+  first = ap plain_span first;
 }
 
-pub hulls_no : (t : Hulled) (s : Span) (k n : ℕ) → Hulls t [] → k ≡ 0 → k ≡ capped n → Hulls t (replicate n (span_of s))
+pub hulls_no : (t : Hulled) (s : Span) (k n : ℕ) → Hulls t [] → k ≡ 0 → k ≡ capped n → Hulls t (replicate n (plain_span s))
 hulls_no t s k zero h none count = h
 hulls_no t s k (suc n) h none count = absurd (omega (arith, none, count))

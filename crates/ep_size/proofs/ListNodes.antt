@@ -17,9 +17,9 @@ use Rattle.ep_tree.specs.declared.values.Mode.{Mode}
 use Rattle.ep_size.proofs.ExtentViews.{grid_of-matrix}
 use Rattle.ep_size.proofs.FormSteps.{measured_decided, own_weight}
 use Rattle.ep_size.proofs.Measurings.{near_nothing}
-use Rattle.ep_size.specs.Extents.{Known, TellsValue, grid_of, grids_from, span_of}
+use Rattle.ep_size.specs.Extents.{IsKnownExtent, TellsValue, grid_of, grids_from, plain_span}
 use Rattle.ep_size.specs.Finishing.{Finished, Finishes}
-use Rattle.ep_size.specs.Lists.{IsListed, IsMatrixNode, Lists}
+use Rattle.ep_size.specs.Lists.{TellsExtent, IsMatrixNode, ListsExtent}
 use Rattle.ep_size.specs.declared.errors.SizeError.{SizeError}
 use Rattle.ep_size.specs.declared.errors.SizeError.TheVariants.{Memory}
 use Rattle.ep_size.specs.declared.extents.Extent.{Extent, Matrix, Number}
@@ -33,14 +33,14 @@ grids_from-map [] = refl
 grids_from-map (x ∷ xs) = ap (λ ys. value_and (grid_of x) ys) (grids_from-map xs)
 
 -- a matrix of parts
-pub listed_matrix : (is : Vec ℤ Global) (v : Vec Extent Global) → IsListed (Matrix is v) (matrix is.items (as_parts (map grid_of v.items)))
+pub listed_matrix : (is : Vec ℤ Global) (v : Vec Extent Global) → TellsExtent (Matrix is v) (matrix is.items (as_parts (map grid_of v.items)))
 unfolding TellsValue
 listed_matrix is v = record {
   grid = grid_of-matrix is v ∙ ap (matrix is.items) (grids_from-map v.items);
   tells = λ mode env e h. h;
 }
 
-matrix_finished : (mode : Mode) (env : Env) (e : ExprTree) (g : defined.Extent) (t : Totals) (x : Extent) → IsMatrixNode mode env e g → IsListed x g
+matrix_finished : (mode : Mode) (env : Env) (e : ExprTree) (g : defined.Extent) (t : Totals) (x : Extent) → IsMatrixNode mode env e g → TellsExtent x g
     → Finished mode env e t t x
 matrix_finished mode env e g t x h k = record {
   near = near_nothing mode (a_node env e) (h.plain ∙ ap number_reach h.value ∙ h.none);
@@ -53,7 +53,7 @@ memory_finishes mode env e t error h = subst (λ x. Finishes mode env e t t (Err
 
 -- a matrix that is made is what is known of a node
 pub lists_finish : (mode : Mode) (env : Env) (e : ExprTree) (g : defined.Extent) (t : Totals) (r : Result Extent SizeError) → IsMatrixNode mode env e g
-    → Lists r g → Finishes mode env e t t r
+    → ListsExtent r g → Finishes mode env e t t r
 lists_finish mode env e g t (Ok x) h made = matrix_finished mode env e g t x h made.0
 lists_finish mode env e g t (Err error) h made = memory_finishes mode env e t error made.1
 
@@ -67,7 +67,7 @@ list_reach xs = refl
 
 -- a `flatten` by the scalars of its part
 pub flatten_node : (mode : Mode) (env : Env) (p : Place) (e : ExprTree) (x : Extent) (spans : List defined.Span)
-    → holds_decision (decisions_in env) (flatten p e) ≡ true → Known mode env e x → spans ≡ scalars_of (grid_of x)
+    → holds_decision (decisions_in env) (flatten p e) ≡ true → IsKnownExtent mode env e x → spans ≡ scalars_of (grid_of x)
     → IsMatrixNode mode env (flatten p e) (list_value spans)
 unfolding reaches_at decided_weight
 flatten_node mode env p e x spans holds known same = record {
@@ -84,22 +84,22 @@ flatten_node mode env p e x spans holds known same = record {
 
 -- one number more
 pub list_more : (xs : List Span) (i : ℕ) (d : Span) (old new : List Extent) → i < length xs → new ≡ old ++ Number (get_or xs i d) ∷ []
-    → map grid_of old ≡ map single (map span_of (take i xs)) → map grid_of new ≡ map single (map span_of (take (i + 1) xs))
+    → map grid_of old ≡ map single (map plain_span (take i xs)) → map grid_of new ≡ map single (map plain_span (take (i + 1) xs))
 unfolding grid_of
 list_more xs i d old new within pushed h =
     let x : Span = get_or xs i d in
-    ap (map grid_of) pushed ∙ map-append grid_of old (Number x ∷ []) ∙ ap (λ l. l ++ single (span_of x) ∷ []) h
-    ∙ sym (ap (λ l. map single (map span_of l)) (take_more xs i d within) ∙ ap (map single) (map-append span_of (take i xs) (x ∷ []))
-    ∙ map-append single (map span_of (take i xs)) (span_of x ∷ []))
+    ap (map grid_of) pushed ∙ map-append grid_of old (Number x ∷ []) ∙ ap (λ l. l ++ single (plain_span x) ∷ []) h
+    ∙ sym (ap (λ l. map single (map plain_span l)) (take_more xs i d within) ∙ ap (map single) (map-append plain_span (take i xs) (x ∷ []))
+    ∙ map-append single (map plain_span (take i xs)) (plain_span x ∷ []))
 
 -- all of them
 pub list_all : (xs : List Span) (i : ℕ) (is : Vec ℤ Global) (parts : Vec Extent Global) → length xs ≤ i → i ≤ length xs → is.items ≡ counting (pos 1) i
-    → map grid_of parts.items ≡ map single (map span_of (take i xs)) → IsListed (Matrix is parts) (list_value (map span_of xs))
+    → map grid_of parts.items ≡ map single (map plain_span (take i xs)) → TellsExtent (Matrix is parts) (list_value (map plain_span xs))
 unfolding list_value
 list_all xs i is parts past within own h =
-    let many : length (map span_of xs) ≡ length xs = length-map xs span_of in
-    let count : i ≡ length (map span_of xs) = omega (arith, past, within, many) in
-    let grid : matrix is.items (as_parts (map grid_of parts.items)) ≡ list_value (map span_of xs) =
+    let many : length (map plain_span xs) ≡ length xs = length-map xs plain_span in
+    let count : i ≡ length (map plain_span xs) = omega (arith, past, within, many) in
+    let grid : matrix is.items (as_parts (map grid_of parts.items)) ≡ list_value (map plain_span xs) =
     ap (λ l. matrix l (as_parts (map grid_of parts.items))) (own ∙ ap (counting (pos 1)) count)
-    ∙ ap (λ l. matrix (counting (pos 1) (length (map span_of xs))) (as_parts l)) (h ∙ ap (λ l. map single (map span_of l)) (take_all i xs past)) in
-    subst (IsListed (Matrix is parts)) grid (listed_matrix is parts)
+    ∙ ap (λ l. matrix (counting (pos 1) (length (map plain_span xs))) (as_parts l)) (h ∙ ap (λ l. map single (map plain_span l)) (take_all i xs past)) in
+    subst (TellsExtent (Matrix is parts)) grid (listed_matrix is parts)

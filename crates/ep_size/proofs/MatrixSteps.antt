@@ -27,7 +27,7 @@ use Rattle.ep_tree.specs.declared.values.Mode.{Mode}
 use Rattle.ep_size.proofs.FormSteps.{measured_decided, number_node, one_number, own_weight, two_number}
 use Rattle.ep_size.specs.Extending.{Added}
 use Rattle.ep_size.specs.Extents as own
-use Rattle.ep_size.specs.Extents.{Known, TellsValue, fixed_grid, grid_of, grids_from}
+use Rattle.ep_size.specs.Extents.{IsKnownExtent, TellsValue, fixed_grid, grid_of, grids_from}
 use Rattle.ep_size.specs.Finishing.{Finished, Finishes, IsNumberNode, is_far_node}
 use Rattle.ep_size.specs.Folds.{GivesFold, IsFoldNode, RefusesFold, fold_reaches, is_far_fold}
 use Rattle.ep_size.specs.declared.errors.SizeError.{SizeError}
@@ -172,9 +172,9 @@ at_most_number mode env p tree m counts values x y z is holds known told last =
 -- ---- scalars as a list of what is known
 
 -- what is counted of them is counted of the matrix
-pub counted_of : (w : Widths) (xs items : List Span) (zs : List defined.Span) → Widens w (map own.span_of xs) → xs ≡ items → map own.span_of items ≡ zs
+pub counted_of : (w : Widths) (xs items : List Span) (zs : List defined.Span) → Widens w (map own.plain_span xs) → xs ≡ items → map own.plain_span items ≡ zs
     → Widens w zs
-counted_of w xs items zs h same scalars = subst (λ ys. Widens w ys) (ap (map own.span_of) same ∙ scalars) h
+counted_of w xs items zs h same scalars = subst (λ ys. Widens w ys) (ap (map own.plain_span) same ∙ scalars) h
 
 -- ---- three parts
 

@@ -15,7 +15,7 @@ use Rattle.ep_tree.specs.declared.values.Scalar.{Scalar}
 use Rattle.ep_size.proofs.FormSteps.{measured_decided, own_weight}
 use Rattle.ep_size.proofs.Measurings.{near_nothing}
 use Rattle.ep_size.proofs.NodeSteps.{err_gives, number_finished, number_refused}
-use Rattle.ep_size.specs.Extents.{TellsValue, grid_of, span_of}
+use Rattle.ep_size.specs.Extents.{TellsValue, grid_of, plain_span}
 use Rattle.ep_size.specs.Finishing.{Finished, Finishes, IsNumberNode}
 use Rattle.ep_size.specs.Spans.{Keeps}
 use Rattle.ep_size.specs.declared.errors.SizeError.{SizeError}
@@ -42,7 +42,7 @@ named_weight mode env name p h = own_weight mode env (named p name) 0 h refl
 
 -- a matrix of cells
 pub cells_finished : (mode : Mode) (env : Env) (name : Name) (p : Place) (t : Totals) (s : Scalar) (i : List ℤ) (is : List (List ℤ)) (values : List ℤ) (x : Extent) (own : Span)
-    → env name ≡ Some (has_cells s (i ∷ is) values) → span_of own ≡ cell_span s values → grid_of x ≡ filled (span_of own) (i ∷ is)
+    → env name ≡ Some (has_cells s (i ∷ is) values) → plain_span own ≡ cell_span s values → grid_of x ≡ filled (plain_span own) (i ∷ is)
     → (holds_decision (decisions_in env) (named p name) ≡ true → TellsValue mode env (named p name) x)
     → Finished mode env (named p name) t t x
 unfolding reaches_at number_reach filled
@@ -66,14 +66,14 @@ cell_number mode env name p s values h =
     record { plain = refl; value = named_is mode env name p s [] values h; holds = held; weight = named_weight mode env name p held }
 
 pub cell_finished : (mode : Mode) (env : Env) (name : Name) (p : Place) (t : Totals) (s : Scalar) (values : List ℤ) (own : Span) (i : Interval)
-    → env name ≡ Some (has_cells s [] values) → span_of own ≡ cell_span s values → i ≡ (span_of own).reach → is_too_far (farthest_end i) ≡ false
+    → env name ≡ Some (has_cells s [] values) → plain_span own ≡ cell_span s values → i ≡ (plain_span own).reach → is_too_far (farthest_end i) ≡ false
     → Finished mode env (named p name) t t (Number own)
 cell_finished mode env name p t s values own i h same reach near =
     number_finished mode env (named p name) 0 (cell_span s values) t t own (cell_number mode env name p s values h) same
     (ap (λ j. is_too_far (farthest_end j)) (sym (reach ∙ ap (λ c. c.reach) same)) ∙ near) (record { size = refl; weight = omega arith })
 
 pub cell_refused : (mode : Mode) (env : Env) (name : Name) (p : Place) (t : Totals) (s : Scalar) (values : List ℤ) (own : Span) (i : Interval) (error : SizeError)
-    → env name ≡ Some (has_cells s [] values) → span_of own ≡ cell_span s values → i ≡ (span_of own).reach → Keeps i (Err error)
+    → env name ≡ Some (has_cells s [] values) → plain_span own ≡ cell_span s values → i ≡ (plain_span own).reach → Keeps i (Err error)
     → Finishes mode env (named p name) t t (Err error)
 cell_refused mode env name p t s values own i error h same reach keeps =
     number_refused mode env (named p name) 0 (cell_span s values) t t error (cell_number mode env name p s values h)

@@ -18,7 +18,7 @@ use Rattle.ep_eval.specs.Counting.{all_but_first, met_below}
 use Rattle.ep_size.proofs.Measurings.{cause_more, far_either, is_far, near_alone, reach_refuses, right_true}
 use Rattle.ep_size.specs.Causes.{IsCause}
 use Rattle.ep_size.specs.Extending.{Added, Extended, IsRefused, Weighed}
-use Rattle.ep_size.specs.Extents.{Known, TellsValue, grid_of, span_of}
+use Rattle.ep_size.specs.Extents.{IsKnownExtent, TellsValue, grid_of, plain_span}
 use Rattle.ep_size.specs.Finishing.{Finished, Finishes, Gives, IsNumberNode}
 use Rattle.ep_size.specs.Spans.{Keeps}
 use Rattle.ep_size.specs.Totals.{Measured}
@@ -84,7 +84,7 @@ unfolding number_reach is_too_far
 number_far mode env e w s h = near_alone mode (a_node env e) s.reach (h.plain ∙ ap number_reach h.value)
 
 pub number_finished : (mode : Mode) (env : Env) (e : ExprTree) (w : ℕ) (s : defined.Span) (a b : Totals) (own : Span) → IsNumberNode mode env e w s
-    → span_of own ≡ s → is_too_far (farthest_end s.reach) ≡ false → Added a b w → Finished mode env e a b (Number own)
+    → plain_span own ≡ s → is_too_far (farthest_end s.reach) ≡ false → Added a b w → Finished mode env e a b (Number own)
 unfolding grid_of TellsValue
 number_finished mode env e w s a b own h same near added = record {
   near = number_far mode env e w s h ∙ near;
@@ -115,7 +115,7 @@ then_extended mode env tree below a b c (Ok x) meets measured done = λ p held.
     }
 
 pub then_known : {P : Place → Type 0} (mode : Mode) (env : Env) (tree : Place → ExprTree) (b c : Totals) (r : Result Extent SizeError)
-    → ((p : Place) → P p → Finishes mode env (tree p) b c r) → IfOk r (λ x. (p : Place) → P p → Known mode env (tree p) x)
+    → ((p : Place) → P p → Finishes mode env (tree p) b c r) → IfOk r (λ x. (p : Place) → P p → IsKnownExtent mode env (tree p) x)
 then_known mode env tree b c (Err error) done = tt
 then_known mode env tree b c (Ok x) done = λ p held. (done p held).known
 
@@ -174,7 +174,7 @@ then_measured P mode env tree p a b c (Err error) one same little held h = tt
 then_measured P mode env tree p a b c (Ok x) one same little held h = measured_node mode env (tree p) a b c one same little (h p held)
 
 pub then_told : (P : Place → Type 0) (mode : Mode) (env : Env) (tree : Place → ExprTree) (p : Place) (r : Result Extent SizeError)
-    → P p → IfOk r (λ x. (q : Place) → P q → Known mode env (tree q) x) → IfOk r (Known mode env (tree p))
+    → P p → IfOk r (λ x. (q : Place) → P q → IsKnownExtent mode env (tree q) x) → IfOk r (IsKnownExtent mode env (tree p))
 then_told P mode env tree p (Err error) held h = tt
 then_told P mode env tree p (Ok x) held h = h p held
 

@@ -14,7 +14,7 @@ use Rattle.ep_size.proofs.KnownParts.{listed_known}
 use Rattle.ep_size.proofs.ListNodes.{grids_from-map}
 use Rattle.ep_size.proofs.SliceParts.{all_told, defined_more, defined_none, part_grid, slice_told}
 use Rattle.ep_size.specs.Extents.{fixed_grid, grid_of, grids_from}
-use Rattle.ep_size.specs.Lists.{IsListed}
+use Rattle.ep_size.specs.Lists.{TellsExtent}
 use Rattle.ep_size.specs.Slices.{IsPart, ReadsGrid, is_told}
 use Rattle.ep_size.specs.declared.extents.Extent.{Extent, Matrix}
 
@@ -176,10 +176,10 @@ left_none ms own all left behind ys x o so cut is h =
 
 -- ---- the slice
 
-pub parts_slice : (ms : List MeasuredIndex) (g : ExtentTree) (o : Option Extent) (x y : Extent) → list_all is_told ms ≡ true → ReadsGrid ms g o → o ≡ Some x → IsListed y (grid_of x) → IsListed y (slice_extent ms g)
+pub parts_slice : (ms : List MeasuredIndex) (g : ExtentTree) (o : Option Extent) (x y : Extent) → list_all is_told ms ≡ true → ReadsGrid ms g o → o ≡ Some x → TellsExtent y (grid_of x) → TellsExtent y (slice_extent ms g)
 parts_slice ms g o x y told h is listed =
     let plain = all_told ms told in
-    subst (IsListed y) (sym (slice_told ms g plain.plain plain.is ∙ ap (λ q. unwrap_or q no_extent) (h plain.plain plain.is ∙ ap (option_map grid_of) is))) listed
+    subst (TellsExtent y) (sym (slice_told ms g plain.plain plain.is ∙ ap (λ q. unwrap_or q no_extent) (h plain.plain plain.is ∙ ap (option_map grid_of) is))) listed
 
 pub parts_gone : (ms : List MeasuredIndex) (g : ExtentTree) (o : Option Extent) → list_all is_told ms ≡ true → ReadsGrid ms g o → o ≡ None → slice_extent ms g ≡ no_extent
 parts_gone ms g o told h is =

@@ -10,7 +10,7 @@ use Rattle.ep_tree.specs.Limits.{is_too_far}
 use Rattle.ep_tree.specs.Reach as defined
 use Rattle.ep_tree.specs.Reach.{MeasuredIndex, fixed_index, measured_index, wide_span}
 use Rattle.ep_size.proofs.EndSteps.{far_ends}
-use Rattle.ep_size.specs.Extents.{span_of}
+use Rattle.ep_size.specs.Extents.{plain_span}
 use Rattle.ep_size.specs.Finishing.{Gives}
 use Rattle.ep_size.specs.Indices.{measured_of}
 use Rattle.ep_size.specs.Powers.{TellsPower}
@@ -90,12 +90,12 @@ untold_far o whole is h = subst (λ p. TellsPower p whole) is h
 -- ---- single numbers
 
 -- a single number near 0
-pub gives_one : (s : Span) (i : Interval) (n : ℕ) → span_of s ≡ wide_span (only (pos 1)) → n ≡ 0 → Gives (Ok s) (wide_span (nth_power_interval i n))
+pub gives_one : (s : Span) (i : Interval) (n : ℕ) → plain_span s ≡ wide_span (only (pos 1)) → n ≡ 0 → Gives (Ok s) (wide_span (nth_power_interval i n))
 unfolding nth_power_interval wide_span is_too_far farthest_end absolute_of
 gives_one s i n same none =
     subst (λ k. Gives (Ok s) (wide_span (nth_power_interval i k))) (sym none) (same, refl)
 
-pub gives_undefined : (s : Span) (i : Interval) (n : Option ℤ) → span_of s ≡ wide_span (only (pos 0)) → power_interval i n ≡ only (pos 0)
+pub gives_undefined : (s : Span) (i : Interval) (n : Option ℤ) → plain_span s ≡ wide_span (only (pos 0)) → power_interval i n ≡ only (pos 0)
     → Gives (Ok s) (wide_span (power_interval i n))
 unfolding wide_span is_too_far farthest_end absolute_of
 gives_undefined s i n same none = subst (λ j. Gives (Ok s) (wide_span j)) (sym none) (same, refl)

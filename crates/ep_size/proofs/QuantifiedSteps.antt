@@ -26,7 +26,7 @@ use Rattle.ep_size.proofs.Measurings.{cause_first, cause_then, measured_append, 
 use Rattle.ep_size.proofs.NodeSteps.{measured_node, part_refused, refused_whole, then_extended, then_refused}
 use Rattle.ep_size.specs.Causes.{IsCause}
 use Rattle.ep_size.specs.Extending.{Extended, IsRefused}
-use Rattle.ep_size.specs.Extents.{Known}
+use Rattle.ep_size.specs.Extents.{IsKnownExtent}
 use Rattle.ep_size.specs.Finishing.{Finishes, IsNumberNode}
 use Rattle.ep_size.specs.Quantified.{HasInstances}
 use Rattle.ep_size.specs.Totals.{Measured}
@@ -205,7 +205,7 @@ each_extended mode env tree below a b c (Ok x) meets measured done = λ p.
     then_extended {P = λ _. Unit {0}} mode env (λ _. tree p) (below p) a b c (Ok x) (λ _. meets p) (measured p) (λ _ _. done p) p tt
 
 pub each_known : (mode : Mode) (env : Env) (tree : Place → ExprTree) (b c : Totals) (r : Result Told SizeError)
-    → ((p : Place) → Finishes mode env (tree p) b c r) → IfOk r (λ x. (p : Place) → Known mode env (tree p) x)
+    → ((p : Place) → Finishes mode env (tree p) b c r) → IfOk r (λ x. (p : Place) → IsKnownExtent mode env (tree p) x)
 each_known mode env tree b c (Err error) done = tt
 each_known mode env tree b c (Ok x) done = λ p. (done p).known
 

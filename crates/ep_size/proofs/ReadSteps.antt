@@ -15,7 +15,7 @@ use Rattle.ep_tree.specs.Trees.{ExprTree, absolute, all_different, all_of, any_o
 use Rattle.ep_tree.specs.declared.values.Mode.{Mode}
 use Rattle.ep_eval.specs.Helds.{held_value}
 use Rattle.ep_eval.specs.declared.held.Held.{Held}
-use Rattle.ep_size.specs.Extents.{Known, TellsValue, grid_of, span_of}
+use Rattle.ep_size.specs.Extents.{IsKnownExtent, TellsValue, grid_of, plain_span}
 use Rattle.std.specs.declared.alloc.Global.{Global}
 use Rattle.std.specs.declared.vec.Vec.{Vec}
 use Rattle.ep_size.specs.declared.extents.Extent.{Extent, Matrix}
@@ -27,7 +27,7 @@ use Rattle.ep_size.proofs.Caps.{product_kept}
 use Rattle.ep_size.proofs.ScalarParts.{cells_repeated}
 use Rattle.ep_size.specs.Hulls.{Hulls}
 use Rattle.ep_size.specs.declared.hulls.Hulled.{Hulled}
-use Rattle.ep_size.specs.Indices.{cells_left, is_name, kept_parts, measured_of}
+use Rattle.ep_size.specs.Indices.{cells_left, is_named_tree, kept_parts, measured_of}
 use Rattle.ep_size.specs.Totals.{capped}
 use Rattle.ep_size.specs.declared.extents.Span.{Span as OneSpan}
 use Rattle.ep_size.specs.declared.reading.Indexed.{Indexed}
@@ -149,7 +149,7 @@ abbrev IsIndex : Mode → Env → ExprTree → Indexed → Type 0
 IsIndex mode env e index =
     measured_of index ≡ measured_index (holds_decision (decisions_in env) e) (defined.span_of (extent mode env e)) (number_in (evaluate mode env e))
 
-decided_index_is : (mode : Mode) (env : Env) (e : ExprTree) (x : Extent) (s : OneSpan) → Known mode env e x → span_of s ≡ defined.span_of (grid_of x)
+decided_index_is : (mode : Mode) (env : Env) (e : ExprTree) (x : Extent) (s : OneSpan) → IsKnownExtent mode env e x → plain_span s ≡ defined.span_of (grid_of x)
     → holds_decision (decisions_in env) e ≡ true → IsIndex mode env e (Decided s)
 unfolding measured_of measured_index
 decided_index_is mode env e x s known same held =
@@ -162,42 +162,42 @@ unfolding measured_of measured_index
 stated_index_is mode env e n free value =
     ap fixed_index value ∙ ap (λ b. measured_index b (defined.span_of (extent mode env e)) (number_in (evaluate mode env e))) (sym free)
 
-pub index_number : (mode : Mode) (env : Env) (e : ExprTree) (x : Extent) (s own : OneSpan) → x ≡ Number own → Known mode env e x
-    → span_of s ≡ defined.span_of (grid_of x) → IsIndex mode env e (Decided s)
+pub index_number : (mode : Mode) (env : Env) (e : ExprTree) (x : Extent) (s own : OneSpan) → x ≡ Number own → IsKnownExtent mode env e x
+    → plain_span s ≡ defined.span_of (grid_of x) → IsIndex mode env e (Decided s)
 unfolding TellsValue
-index_number mode env e x s own is known same = decided_index_is mode env e x s known same (subst (Known mode env e) is known).value
+index_number mode env e x s own is known same = decided_index_is mode env e x s known same (subst (IsKnownExtent mode env e) is known).value
 
-pub index_cells : (mode : Mode) (env : Env) (e : ExprTree) (x : Extent) (s own : OneSpan) (ds : _) → x ≡ Cells own ds → Known mode env e x
-    → span_of s ≡ defined.span_of (grid_of x) → IsIndex mode env e (Decided s)
+pub index_cells : (mode : Mode) (env : Env) (e : ExprTree) (x : Extent) (s own : OneSpan) (ds : _) → x ≡ Cells own ds → IsKnownExtent mode env e x
+    → plain_span s ≡ defined.span_of (grid_of x) → IsIndex mode env e (Decided s)
 unfolding TellsValue
-index_cells mode env e x s own ds is known same = decided_index_is mode env e x s known same (subst (Known mode env e) is known).value
+index_cells mode env e x s own ds is known same = decided_index_is mode env e x s known same (subst (IsKnownExtent mode env e) is known).value
 
-pub index_matrix : (mode : Mode) (env : Env) (e : ExprTree) (x : Extent) (s : OneSpan) (is : Vec ℤ Global) (v : Vec Extent Global) → x ≡ Matrix is v → Known mode env e x
-    → span_of s ≡ defined.span_of (grid_of x) → IsIndex mode env e (Decided s)
+pub index_matrix : (mode : Mode) (env : Env) (e : ExprTree) (x : Extent) (s : OneSpan) (is : Vec ℤ Global) (v : Vec Extent Global) → x ≡ Matrix is v → IsKnownExtent mode env e x
+    → plain_span s ≡ defined.span_of (grid_of x) → IsIndex mode env e (Decided s)
 unfolding TellsValue
-index_matrix mode env e x s is v same known told = decided_index_is mode env e x s known told (subst (Known mode env e) same known).value
+index_matrix mode env e x s is v same known told = decided_index_is mode env e x s known told (subst (IsKnownExtent mode env e) same known).value
 
-pub index_fixed : (mode : Mode) (env : Env) (e : ExprTree) (x : Extent) (h : Held) (n : Option ℤ) → x ≡ Fixed h → Known mode env e x
+pub index_fixed : (mode : Mode) (env : Env) (e : ExprTree) (x : Extent) (h : Held) (n : Option ℤ) → x ≡ Fixed h → IsKnownExtent mode env e x
     → n ≡ number_in (Some (held_value h)) → IsIndex mode env e (Stated n)
 unfolding TellsValue
 index_fixed mode env e x h n is known value =
-    let tells = (subst (Known mode env e) is known).value in
+    let tells = (subst (IsKnownExtent mode env e) is known).value in
     stated_index_is mode env e n tells.0 (value ∙ ap number_in (sym tells.1))
 
-pub index_nothing : (mode : Mode) (env : Env) (e : ExprTree) (x : Extent) → x ≡ Nothing → Known mode env e x → IsIndex mode env e (Stated None)
+pub index_nothing : (mode : Mode) (env : Env) (e : ExprTree) (x : Extent) → x ≡ Nothing → IsKnownExtent mode env e x → IsIndex mode env e (Stated None)
 unfolding TellsValue number_in
 index_nothing mode env e x is known =
-    let tells = (subst (Known mode env e) is known).value in stated_index_is mode env e None tells.0 (ap number_in (sym tells.1))
+    let tells = (subst (IsKnownExtent mode env e) is known).value in stated_index_is mode env e None tells.0 (ap number_in (sym tells.1))
 
-pub index_no_parts : (mode : Mode) (env : Env) (e : ExprTree) (x : Extent) → x ≡ NoParts → Known mode env e x → IsIndex mode env e (Stated None)
+pub index_no_parts : (mode : Mode) (env : Env) (e : ExprTree) (x : Extent) → x ≡ NoParts → IsKnownExtent mode env e x → IsIndex mode env e (Stated None)
 unfolding TellsValue number_in
 index_no_parts mode env e x is known =
-    let tells = (subst (Known mode env e) is known).value in stated_index_is mode env e None tells.0 (ap number_in (sym tells.1))
+    let tells = (subst (IsKnownExtent mode env e) is known).value in stated_index_is mode env e None tells.0 (ap number_in (sym tells.1))
 
 -- ---- names of decision variables
 
-pub name_cells : (env : Env) (e : ExprTree) (b : Bool) → is_name e ≡ true → b ≡ holds_decision (decisions_in env) e → b ≡ is_decision_name env e
-unfolding is_name is_decision_name
+pub name_cells : (env : Env) (e : ExprTree) (b : Bool) → is_named_tree e ≡ true → b ≡ holds_decision (decisions_in env) e → b ≡ is_decision_name env e
+unfolding is_named_tree is_decision_name
 name_cells env (named p name) b h k = k ∙ holds_decision-named (decisions_in env) p name
 name_cells env (absolute x0 x1) b h k = absurd cc
 name_cells env (all_different x0 x1) b h k = absurd cc
@@ -227,8 +227,8 @@ name_cells env (table x0 x1 x2) b h k = absurd cc
 name_cells env (to_int x0 x1) b h k = absurd cc
 name_cells env (truth x0 x1) b h k = absurd cc
 
-pub no_name : (env : Env) (e : ExprTree) → is_name e ≡ false → false ≡ is_decision_name env e
-unfolding is_name is_decision_name
+pub no_name : (env : Env) (e : ExprTree) → is_named_tree e ≡ false → false ≡ is_decision_name env e
+unfolding is_named_tree is_decision_name
 no_name env (named p name) h = absurd cc
 no_name env (absolute x0 x1) h = refl
 no_name env (all_different x0 x1) h = refl
@@ -258,30 +258,30 @@ no_name env (table x0 x1 x2) h = refl
 no_name env (to_int x0 x1) h = refl
 no_name env (truth x0 x1) h = refl
 
-pub number_known : (mode : Mode) (env : Env) (e : ExprTree) (x : Extent) (own : OneSpan) → x ≡ Number own → Known mode env e x → true ≡ holds_decision (decisions_in env) e
+pub number_known : (mode : Mode) (env : Env) (e : ExprTree) (x : Extent) (own : OneSpan) → x ≡ Number own → IsKnownExtent mode env e x → true ≡ holds_decision (decisions_in env) e
 unfolding TellsValue
-number_known mode env e x own is known = sym (subst (Known mode env e) is known).value
+number_known mode env e x own is known = sym (subst (IsKnownExtent mode env e) is known).value
 
-pub cells_known : (mode : Mode) (env : Env) (e : ExprTree) (x : Extent) (own : OneSpan) (ds : _) → x ≡ Cells own ds → Known mode env e x → true ≡ holds_decision (decisions_in env) e
+pub cells_known : (mode : Mode) (env : Env) (e : ExprTree) (x : Extent) (own : OneSpan) (ds : _) → x ≡ Cells own ds → IsKnownExtent mode env e x → true ≡ holds_decision (decisions_in env) e
 unfolding TellsValue
-cells_known mode env e x own ds is known = sym (subst (Known mode env e) is known).value
+cells_known mode env e x own ds is known = sym (subst (IsKnownExtent mode env e) is known).value
 
-pub matrix_known : (mode : Mode) (env : Env) (e : ExprTree) (x : Extent) (is : Vec ℤ Global) (v : Vec Extent Global) → x ≡ Matrix is v → Known mode env e x
+pub matrix_known : (mode : Mode) (env : Env) (e : ExprTree) (x : Extent) (is : Vec ℤ Global) (v : Vec Extent Global) → x ≡ Matrix is v → IsKnownExtent mode env e x
     → true ≡ holds_decision (decisions_in env) e
 unfolding TellsValue
-matrix_known mode env e x is v same known = sym (subst (Known mode env e) same known).value
+matrix_known mode env e x is v same known = sym (subst (IsKnownExtent mode env e) same known).value
 
-pub fixed_known : (mode : Mode) (env : Env) (e : ExprTree) (x : Extent) (h : Held) → x ≡ Fixed h → Known mode env e x → false ≡ holds_decision (decisions_in env) e
+pub fixed_known : (mode : Mode) (env : Env) (e : ExprTree) (x : Extent) (h : Held) → x ≡ Fixed h → IsKnownExtent mode env e x → false ≡ holds_decision (decisions_in env) e
 unfolding TellsValue
-fixed_known mode env e x h is known = sym (subst (Known mode env e) is known).value.0
+fixed_known mode env e x h is known = sym (subst (IsKnownExtent mode env e) is known).value.0
 
-pub nothing_known : (mode : Mode) (env : Env) (e : ExprTree) (x : Extent) → x ≡ Nothing → Known mode env e x → false ≡ holds_decision (decisions_in env) e
+pub nothing_known : (mode : Mode) (env : Env) (e : ExprTree) (x : Extent) → x ≡ Nothing → IsKnownExtent mode env e x → false ≡ holds_decision (decisions_in env) e
 unfolding TellsValue
-nothing_known mode env e x is known = sym (subst (Known mode env e) is known).value.0
+nothing_known mode env e x is known = sym (subst (IsKnownExtent mode env e) is known).value.0
 
-pub no_parts_known : (mode : Mode) (env : Env) (e : ExprTree) (x : Extent) → x ≡ NoParts → Known mode env e x → false ≡ holds_decision (decisions_in env) e
+pub no_parts_known : (mode : Mode) (env : Env) (e : ExprTree) (x : Extent) → x ≡ NoParts → IsKnownExtent mode env e x → false ≡ holds_decision (decisions_in env) e
 unfolding TellsValue
-no_parts_known mode env e x is known = sym (subst (Known mode env e) is known).value.0
+no_parts_known mode env e x is known = sym (subst (IsKnownExtent mode env e) is known).value.0
 
 -- ---- what is left
 
@@ -296,18 +296,18 @@ unfolding parts_left scalars_of
 number_gone is rest i s cut = ap (λ l. flat_map scalars_of (parts_left (map measured_of l) (single s))) (sym cut)
 
 -- what is left of a value of which this is known
-pub number_left_of : (t : Hulled) (is : List MeasuredIndex) (x : Extent) (s : OneSpan) → x ≡ Number s → Hulls t (flat_map scalars_of (parts_left is (single (span_of s))))
+pub number_left_of : (t : Hulled) (is : List MeasuredIndex) (x : Extent) (s : OneSpan) → x ≡ Number s → Hulls t (flat_map scalars_of (parts_left is (single (plain_span s))))
     → Hulls t (flat_map scalars_of (parts_left is (grid_of x)))
 unfolding grid_of
 number_left_of t is x s same h = subst (λ y. Hulls t (flat_map scalars_of (parts_left is (grid_of y)))) (sym same) h
 
-pub cells_left_of : (t : Hulled) (is : List MeasuredIndex) (x : Extent) (s : OneSpan) (ds : _) (lists : List (List ℤ)) → x ≡ Cells s ds → grid_of (Cells s ds) ≡ filled (span_of s) lists
-    → Hulls t (flat_map scalars_of (parts_left is (filled (span_of s) lists))) → Hulls t (flat_map scalars_of (parts_left is (grid_of x)))
+pub cells_left_of : (t : Hulled) (is : List MeasuredIndex) (x : Extent) (s : OneSpan) (ds : _) (lists : List (List ℤ)) → x ≡ Cells s ds → grid_of (Cells s ds) ≡ filled (plain_span s) lists
+    → Hulls t (flat_map scalars_of (parts_left is (filled (plain_span s) lists))) → Hulls t (flat_map scalars_of (parts_left is (grid_of x)))
 cells_left_of t is x s ds lists same grid h =
     subst (λ g. Hulls t (flat_map scalars_of (parts_left is g))) (sym (ap grid_of same ∙ grid)) h
 
-pub nothing_left_of : (t : Hulled) (is : List MeasuredIndex) (x : Extent) (s : OneSpan) → x ≡ Nothing → span_of s ≡ defined.fixed_span None
-    → Hulls t (flat_map scalars_of (parts_left is (single (span_of s)))) → Hulls t (flat_map scalars_of (parts_left is (grid_of x)))
+pub nothing_left_of : (t : Hulled) (is : List MeasuredIndex) (x : Extent) (s : OneSpan) → x ≡ Nothing → plain_span s ≡ defined.fixed_span None
+    → Hulls t (flat_map scalars_of (parts_left is (single (plain_span s)))) → Hulls t (flat_map scalars_of (parts_left is (grid_of x)))
 unfolding grid_of
 nothing_left_of t is x s same none h =
     subst (λ y. Hulls t (flat_map scalars_of (parts_left is (grid_of y)))) (sym same)

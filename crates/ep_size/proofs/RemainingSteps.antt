@@ -11,7 +11,7 @@ use Rattle.ep_eval.specs.Helds.{held_value}
 use Rattle.ep_eval.specs.Reading.{part_under}
 use Rattle.ep_eval.specs.declared.held.Held.{Held}
 use Rattle.ep_eval.specs.declared.held.Held.TheVariants.{Number as HeldNumber}
-use Rattle.ep_size.specs.Extents.{fixed_grid, grid_of, span_of}
+use Rattle.ep_size.specs.Extents.{fixed_grid, grid_of, plain_span}
 use Rattle.ep_size.specs.Hulls.{Hulls}
 use Rattle.ep_size.specs.declared.errors.SizeError.{SizeError}
 use Rattle.ep_size.specs.declared.extents.Extent.{Extent}
@@ -87,8 +87,8 @@ whole_left is g none =
 
 -- ---- what is held
 
-pub number_held : (t : Hulled) (ms : List MeasuredIndex) (h : Held) (n : ℤ) (s : OneSpan) → h ≡ HeldNumber n → span_of s ≡ fixed_span (Some n)
-    → Hulls t (flat_map scalars_of (parts_left ms (single (span_of s)))) → Hulls t (flat_map scalars_of (parts_left ms (fixed_grid (held_value h))))
+pub number_held : (t : Hulled) (ms : List MeasuredIndex) (h : Held) (n : ℤ) (s : OneSpan) → h ≡ HeldNumber n → plain_span s ≡ fixed_span (Some n)
+    → Hulls t (flat_map scalars_of (parts_left ms (single (plain_span s)))) → Hulls t (flat_map scalars_of (parts_left ms (fixed_grid (held_value h))))
 unfolding held_value map_grid
 number_held t ms h n s is same left =
     subst (λ v. Hulls t (flat_map scalars_of (parts_left ms (fixed_grid (held_value v))))) (sym is)

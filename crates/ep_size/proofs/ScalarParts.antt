@@ -9,13 +9,13 @@ use Rattle.ep_tree.specs.Solutions.{cell_count}
 use Rattle.ep_tree.specs.Values.{as_parts, filled, map_grid, map_grids, matrix, scalars_of, scalars_of_all, single}
 use Rattle.ep_tree.specs.Views.{value_tree, values_from}
 use Rattle.ep_tree.specs.declared.values.Value.{Value}
-use Rattle.ep_size.specs.Extents.{fixed_grid, span_of}
+use Rattle.ep_size.specs.Extents.{fixed_grid, plain_span}
 use Rattle.ep_size.specs.Totals.{MOST_TOLD, capped}
 use Rattle.ep_size.specs.declared.extents.Span.{Span}
 
 -- one number more
-pub span_pushed : (old new : List Span) (x : Span) → new ≡ old ++ x ∷ [] → map span_of new ≡ map span_of old ++ span_of x ∷ []
-span_pushed old new x h = ap (map span_of) h ∙ map_push span_of old x
+pub span_pushed : (old new : List Span) (x : Span) → new ≡ old ++ x ∷ [] → map plain_span new ≡ map plain_span old ++ plain_span x ∷ []
+span_pushed old new x h = ap (map plain_span) h ∙ map_push plain_span old x
 
 -- ---- values
 
@@ -58,15 +58,15 @@ cells_repeated s (is ∷ inner) = parts_repeated s (cell_count inner) inner is (
 
 -- so many of them are put behind others
 abbrev pub with_copies : List Span → List Span → ℕ → Span → Type 0
-with_copies old new n x = map span_of new ≡ map span_of old ++ replicate n (span_of x)
+with_copies old new n x = map plain_span new ≡ map plain_span old ++ replicate n (plain_span x)
 
 pub copies_more : (old now next : List Span) (n : ℕ) (x : Span) → next ≡ now ++ x ∷ [] → with_copies old now n x → with_copies old next (n + 1) x
 copies_more old now next n x pushed h =
-    span_pushed now next x pushed ∙ ap (λ l. l ++ span_of x ∷ []) h ∙ append_assoc (map span_of old) (replicate n (span_of x)) (span_of x ∷ [])
-    ∙ ap (λ l. map span_of old ++ l) (replicate_more n (span_of x))
+    span_pushed now next x pushed ∙ ap (λ l. l ++ plain_span x ∷ []) h ∙ append_assoc (map plain_span old) (replicate n (plain_span x)) (plain_span x ∷ [])
+    ∙ ap (λ l. map plain_span old ++ l) (replicate_more n (plain_span x))
 
 pub copies_all : (old new : List Span) (n told : ℕ) (x : Span) (indices : List (List ℤ)) → with_copies old new n x → n ≡ told
-    → told ≡ capped (cell_count indices) → told < MOST_TOLD → map span_of new ≡ map span_of old ++ scalars_of (filled (span_of x) indices)
+    → told ≡ capped (cell_count indices) → told < MOST_TOLD → map plain_span new ≡ map plain_span old ++ scalars_of (filled (plain_span x) indices)
 copies_all old new n told x indices h same is small =
     let count : n ≡ cell_count indices = omega (arith, same, is, small) in
-    h ∙ ap (λ l. map span_of old ++ l) (ap (λ k. replicate k (span_of x)) count ∙ sym (cells_repeated (span_of x) indices))
+    h ∙ ap (λ l. map plain_span old ++ l) (ap (λ k. replicate k (plain_span x)) count ∙ sym (cells_repeated (plain_span x) indices))

@@ -22,11 +22,11 @@ use Rattle.ep_size.proofs.ListNodes.{listed_matrix, lists_finish, memory_stops}
 use Rattle.ep_size.proofs.ReadForms.{left_of}
 use Rattle.ep_size.proofs.ReadSteps.{part_of_same}
 use Rattle.ep_size.proofs.SliceSteps.{cells_listed, matrix_read, no_weight}
-use Rattle.ep_size.specs.Extents.{grid_of, span_of as known_span}
+use Rattle.ep_size.specs.Extents.{grid_of, plain_span as known_span}
 use Rattle.ep_size.specs.Finishing.{Finishes}
 use Rattle.ep_size.specs.Indices.{keeps_all, measured_of}
-use Rattle.ep_size.specs.Lists.{IsListed, IsMatrixNode}
-use Rattle.ep_size.specs.Slices.{IsPart, Leaves, PartOf, is_told, names_one}
+use Rattle.ep_size.specs.Lists.{TellsExtent, IsMatrixNode}
+use Rattle.ep_size.specs.Slices.{IsPart, LeavesDomains, PartOf, is_told, names_one}
 use Rattle.ep_size.specs.declared.errors.SizeError.{SizeError}
 use Rattle.ep_size.specs.declared.errors.SizeError.TheVariants.{Memory}
 use Rattle.ep_size.specs.declared.extents.Extent.{Extent, Matrix}
@@ -66,7 +66,7 @@ same_plain : (a b : List Index) (o : Option (List Index)) → o ≡ Some a → o
 same_plain a b o h k = ap (λ x. unwrap_or x []) (sym h ∙ k)
 
 -- all of them
-pub kept_part : (ms : List MeasuredIndex) (s : OneSpan) (ds : _) (lists : List (List ℤ)) → grid_of (Cells s ds) ≡ filled (known_span s) lists → Leaves ms lists lists
+pub kept_part : (ms : List MeasuredIndex) (s : OneSpan) (ds : _) (lists : List (List ℤ)) → grid_of (Cells s ds) ≡ filled (known_span s) lists → LeavesDomains ms lists lists
     → (js : List Index) → all_defined (map plain_index ms) ≡ Some js → IsPart (Some (Cells s ds)) (read_value js (filled (known_span s) lists))
 unfolding IsPart
 kept_part ms s ds lists same h js told = record {
@@ -273,12 +273,12 @@ unfolding slice_extent
 slice_untold ms x h k = ap (λ o. unwrap_or (option_and_then (λ l. read_value l x) o) no_extent) (not_told ms h k)
 
 pub slice_read : (indices : List Indexed) (domains : List (List ℤ)) (s : OneSpan) (o : Option Extent) (x : Extent) → list_all is_told (map measured_of indices) ≡ true
-    → Reads indices domains s o → o ≡ Some x → IsListed x (slice_extent (map measured_of indices) (filled (known_span s) domains))
+    → Reads indices domains s o → o ≡ Some x → TellsExtent x (slice_extent (map measured_of indices) (filled (known_span s) domains))
 unfolding IsPart
 slice_read indices domains s o x told h is =
     let plain = all_told (map measured_of indices) told in
     let part : PartOf x (read_value plain.plain (filled (known_span s) domains)) = subst (λ q. IsPart q (read_value plain.plain (filled (known_span s) domains))) is (h plain.plain plain.is) in
-    subst (IsListed x)
+    subst (TellsExtent x)
     (sym (slice_told (map measured_of indices) (filled (known_span s) domains) plain.plain plain.is ∙ ap (λ q. unwrap_or q no_extent) part.is)) part.listed
 
 pub slice_none : (indices : List Indexed) (domains : List (List ℤ)) (s : OneSpan) (o : Option Extent) → list_all is_told (map measured_of indices) ≡ true
@@ -316,7 +316,7 @@ sliced_node mode env p m is ms t x g holds told typed matrix_typed plain known s
 pub apart_finishes : (mode : Mode) (env : Env) (p : Place) (m : ExprTree) (is : Indices) (ms : List MeasuredIndex) (t : ValueType) (x : ExtentTree) (totals : Totals) (r : Result Extent SizeError)
     → holds_decision (decisions_in env) (read p m is) ≡ true → ms ≡ measured_list mode env is → t ≡ type_in env (read p m is) → is_matrix t ≡ true
     → list_any is_decided_index ms ≡ false → extent mode env m ≡ x
-    → IfOk r (λ y. IsListed y (slice_extent ms x)) → IfOk r (λ y. number_reach (grid_of y) ≡ []) → IfErr r (λ e. e ≡ Memory)
+    → IfOk r (λ y. TellsExtent y (slice_extent ms x)) → IfOk r (λ y. number_reach (grid_of y) ≡ []) → IfErr r (λ e. e ≡ Memory)
     → Finishes mode env (read p m is) totals totals r
 apart_finishes mode env p m is ms t x totals (Ok y) holds told typed matrix_typed plain known listed none memory =
     lists_finish mode env (read p m is) (slice_extent ms x) totals (Ok y)

@@ -19,24 +19,24 @@ use Rattle.ep_tree.specs.declared.values.ValueType.{ValueType}
 use Rattle.ep_size.proofs.FormSteps.{measured_decided, own_weight}
 use Rattle.ep_size.proofs.ReadForms.{left_of}
 use Rattle.ep_size.proofs.ReadSteps.{part_of_same}
-use Rattle.ep_size.specs.Extents.{Known, TellsValue, grid_of, span_of as known_span}
+use Rattle.ep_size.specs.Extents.{IsKnownExtent, TellsValue, grid_of, plain_span as known_span}
 use Rattle.ep_size.specs.Indices.{measured_of}
-use Rattle.ep_size.specs.Lists.{IsListed, IsMatrixNode}
+use Rattle.ep_size.specs.Lists.{TellsExtent, IsMatrixNode}
 use Rattle.ep_size.specs.declared.extents.Extent.{Extent}
 use Rattle.ep_size.specs.declared.extents.Extent.TheVariants.{Cells}
 use Rattle.ep_size.specs.declared.extents.Span.{Span as OneSpan}
 use Rattle.ep_size.specs.declared.reading.Indexed.{Indexed}
 use Rattle.ep_size.specs.declared.reading.Indexed.TheVariants.{Stated, Every}
-use Rattle.ep_size.specs.Slices.{Leaves}
+use Rattle.ep_size.specs.Slices.{LeavesDomains}
 
 -- without an index all domains are left
-pub leaves_all : (ds : List (List ℤ)) → Leaves [] ds ds
+pub leaves_all : (ds : List (List ℤ)) → LeavesDomains [] ds ds
 unfolding all_defined read_value
 leaves_all ds = record { plain = []; told = refl; reads = λ s. refl }
 
 -- an index that is stated takes its domain away
-pub leaves_below : (k : ℤ) (is : List MeasuredIndex) (d : List ℤ) (ds ls : List (List ℤ)) → has_number d k ≡ true → Leaves is ds ls
-    → Leaves (fixed_index (Some k) ∷ is) (d ∷ ds) ls
+pub leaves_below : (k : ℤ) (is : List MeasuredIndex) (d : List ℤ) (ds ls : List (List ℤ)) → has_number d k ≡ true → LeavesDomains is ds ls
+    → LeavesDomains (fixed_index (Some k) ∷ is) (d ∷ ds) ls
 unfolding all_defined plain_index read_value filled
 leaves_below k is d ds ls has h = record {
   plain = at_index k ∷ h.plain;
@@ -53,7 +53,7 @@ read_each f g h (i ∷ d) e =
     ap (λ o. all_defined (o ∷ map f (listed_values (as_parts (map (λ j. g) d))))) e ∙ ap (option_map (λ ys. h ∷ ys)) (read_each f g h d e)
 
 -- `..` keeps its domain
-pub leaves_more : (is : List MeasuredIndex) (d : List ℤ) (ds ls : List (List ℤ)) → Leaves is ds ls → Leaves (whole_index ∷ is) (d ∷ ds) (d ∷ ls)
+pub leaves_more : (is : List MeasuredIndex) (d : List ℤ) (ds ls : List (List ℤ)) → LeavesDomains is ds ls → LeavesDomains (whole_index ∷ is) (d ∷ ds) (d ∷ ls)
 unfolding all_defined plain_index read_value filled
 leaves_more is d ds ls h = record {
   plain = any_index ∷ h.plain;
@@ -62,7 +62,7 @@ leaves_more is d ds ls h = record {
 }
 
 -- the slice of cells
-pub slice_is : (is : List MeasuredIndex) (s : Span) (ds ls : List (List ℤ)) → Leaves is ds ls → slice_extent is (filled s ds) ≡ filled s ls
+pub slice_is : (is : List MeasuredIndex) (s : Span) (ds ls : List (List ℤ)) → LeavesDomains is ds ls → slice_extent is (filled s ds) ≡ filled s ls
 unfolding slice_extent
 slice_is is s ds ls h =
     ap (λ o. unwrap_or (option_and_then (λ js. read_value js (filled s ds)) o) no_extent) h.told ∙ ap (λ o. unwrap_or o no_extent) (h.reads s)
@@ -82,7 +82,7 @@ no_weight ms w left h = ap (λ b. if b then length left * (width w.reach + sum_b
 -- a read that leaves cells
 pub slice_node : (mode : Mode) (env : Env) (p : Place) (m : ExprTree) (is : Indices) (ms : List MeasuredIndex) (t : ValueType) (s : Span) (ds ls : List (List ℤ)) (d : List ℤ) (inner : List (List ℤ))
     → holds_decision (decisions_in env) (read p m is) ≡ true → ms ≡ measured_list mode env is → t ≡ type_in env (read p m is) → is_matrix t ≡ true
-    → list_any is_decided_index ms ≡ false → extent mode env m ≡ filled s ds → Leaves ms ds ls → ls ≡ d ∷ inner
+    → list_any is_decided_index ms ≡ false → extent mode env m ≡ filled s ds → LeavesDomains ms ds ls → ls ≡ d ∷ inner
     → IsMatrixNode mode env (read p m is) (filled s ls)
 unfolding reaches_at decided_weight number_reach filled
 slice_node mode env p m is ms t s ds ls d inner holds told typed matrix_typed plain known left some =
@@ -104,36 +104,36 @@ slice_node mode env p m is ms t s ds ls d inner holds told typed matrix_typed pl
 
 -- ---- what is known of cells
 
-pub cells_listed : (s : OneSpan) (ds : _) (lists : List (List ℤ)) → grid_of (Cells s ds) ≡ filled (known_span s) lists → IsListed (Cells s ds) (filled (known_span s) lists)
+pub cells_listed : (s : OneSpan) (ds : _) (lists : List (List ℤ)) → grid_of (Cells s ds) ≡ filled (known_span s) lists → TellsExtent (Cells s ds) (filled (known_span s) lists)
 unfolding TellsValue
 cells_listed s ds lists same = record { grid = same; tells = λ mode env e h. h }
 
 pub cells_are : (mode : Mode) (env : Env) (m : ExprTree) (x : Extent) (s : OneSpan) (ds : _) (lists : List (List ℤ)) → x ≡ Cells s ds → grid_of (Cells s ds) ≡ filled (known_span s) lists
-    → Known mode env m x → extent mode env m ≡ filled (known_span s) lists
+    → IsKnownExtent mode env m x → extent mode env m ≡ filled (known_span s) lists
 cells_are mode env m x s ds lists is same known = known.extent ∙ ap grid_of is ∙ same
 
 -- ---- one index
 
 pub stated_leaves : (index : Indexed) (stated : Option ℤ) (k : ℤ) (is : List MeasuredIndex) (d : List ℤ) (ds ls : List (List ℤ)) → index ≡ Stated stated → stated ≡ Some k
-    → has_number d k ≡ true → Leaves is ds ls → Leaves (measured_of index ∷ is) (d ∷ ds) ls
+    → has_number d k ≡ true → LeavesDomains is ds ls → LeavesDomains (measured_of index ∷ is) (d ∷ ds) ls
 unfolding measured_of
 stated_leaves index stated k is d ds ls same told has h =
-    subst (λ i. Leaves (measured_of i ∷ is) (d ∷ ds) ls) (sym (same ∙ ap Stated told)) (leaves_below k is d ds ls has h)
+    subst (λ i. LeavesDomains (measured_of i ∷ is) (d ∷ ds) ls) (sym (same ∙ ap Stated told)) (leaves_below k is d ds ls has h)
 
-pub every_leaves : (index : Indexed) (is : List MeasuredIndex) (d : List ℤ) (ds ls : List (List ℤ)) → index ≡ Every → Leaves is ds ls
-    → Leaves (measured_of index ∷ is) (d ∷ ds) (d ∷ ls)
+pub every_leaves : (index : Indexed) (is : List MeasuredIndex) (d : List ℤ) (ds ls : List (List ℤ)) → index ≡ Every → LeavesDomains is ds ls
+    → LeavesDomains (measured_of index ∷ is) (d ∷ ds) (d ∷ ls)
 unfolding measured_of
-every_leaves index is d ds ls same h = subst (λ i. Leaves (measured_of i ∷ is) (d ∷ ds) (d ∷ ls)) (sym same) (leaves_more is d ds ls h)
+every_leaves index is d ds ls same h = subst (λ i. LeavesDomains (measured_of i ∷ is) (d ∷ ds) (d ∷ ls)) (sym same) (leaves_more is d ds ls h)
 
 -- no index is left
-pub nothing_leaves : (all : List Indexed) (ds : List (List ℤ)) → all ≡ [] → Leaves (map measured_of all) ds ds
-nothing_leaves all ds none = subst (λ l. Leaves (map measured_of l) ds ds) (sym none) (leaves_all ds)
+pub nothing_leaves : (all : List Indexed) (ds : List (List ℤ)) → all ≡ [] → LeavesDomains (map measured_of all) ds ds
+nothing_leaves all ds none = subst (λ l. LeavesDomains (map measured_of l) ds ds) (sym none) (leaves_all ds)
 
 -- one index before others
 pub cut_leaves : (all rest : List Indexed) (index : Indexed) (domains inner ls : List (List ℤ)) (domain : List ℤ) → all ≡ index ∷ rest → domains ≡ domain ∷ inner
-    → Leaves (measured_of index ∷ map measured_of rest) (domain ∷ inner) ls → Leaves (map measured_of all) domains ls
+    → LeavesDomains (measured_of index ∷ map measured_of rest) (domain ∷ inner) ls → LeavesDomains (map measured_of all) domains ls
 cut_leaves all rest index domains inner ls domain cut part h =
-    subst (λ l. Leaves (map measured_of l) domains ls) (sym cut) (subst (λ l. Leaves (measured_of index ∷ map measured_of rest) l ls) (sym part) h)
+    subst (λ l. LeavesDomains (map measured_of l) domains ls) (sym cut) (subst (λ l. LeavesDomains (measured_of index ∷ map measured_of rest) l ls) (sym part) h)
 
 -- ---- in the code's words
 

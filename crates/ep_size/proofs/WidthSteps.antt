@@ -6,7 +6,7 @@ use Rattle.ep_base.specs.Intervals.{width}
 use Rattle.ep_tree.specs.Measures.{widths}
 use Rattle.ep_tree.specs.Reach as defined
 use Rattle.ep_size.proofs.Caps.{product_kept}
-use Rattle.ep_size.specs.Extents.{span_of}
+use Rattle.ep_size.specs.Extents.{plain_span}
 use Rattle.ep_size.specs.Spans.{interval_of}
 use Rattle.ep_size.specs.Totals.{capped}
 use Rattle.ep_size.specs.Widths.{Widens}
@@ -15,11 +15,11 @@ use Rattle.ep_size.specs.declared.widths.Widths.{Widths}
 
 -- one number more
 pub widens_more : (t u : Widths) (spans : List defined.Span) (s : Span) → Widens t spans → u.count ≡ capped (capped t.count + 1)
-    → u.widths ≡ capped (capped t.widths + capped (width (interval_of s.reach))) → Widens u (spans ++ span_of s ∷ [])
+    → u.widths ≡ capped (capped t.widths + capped (width (interval_of s.reach))) → Widens u (spans ++ plain_span s ∷ [])
 widens_more t u spans s h count wide =
-    let a : length (spans ++ span_of s ∷ []) ≡ length spans + 1 = length_push spans (span_of s) in
-    let b : widths (spans ++ span_of s ∷ []) ≡ widths spans + width (interval_of s.reach) =
-    sum_by_push (λ x. width x.reach) spans (span_of s) in
+    let a : length (spans ++ plain_span s ∷ []) ≡ length spans + 1 = length_push spans (plain_span s) in
+    let b : widths (spans ++ plain_span s ∷ []) ≡ widths spans + width (interval_of s.reach) =
+    sum_by_push (λ x. width x.reach) spans (plain_span s) in
     record { count = omega (arith, a, count, h.count); widths = omega (arith, b, wide, h.widths) }
 
 -- a product of two numbers that are told

@@ -13,8 +13,8 @@ use Rattle.ep_size.specs.declared.extents.Extent.{Extent, Number, Cells, Fixed, 
 use Rattle.ep_size.specs.declared.extents.Span.{Span}
 
 -- what is known of a number
-abbrev pub span_of : Span → defined.Span
-span_of s = record { reach = interval_of s.reach; spread = s.spread; decided = s.decided }
+abbrev pub plain_span : Span → defined.Span
+plain_span s = record { reach = interval_of s.reach; spread = s.spread; decided = s.decided }
 
 -- what is known of a value without decision variables
 abbrev pub fixed_grid : ValueTree → ExtentTree
@@ -24,8 +24,8 @@ fixed_grid v = map_grid (λ n. fixed_span (Some n)) v
 unfoldable mutual
   -- a number or a matrix
   pub grid_of : Extent → ExtentTree
-  grid_of (Number s) = single (span_of s)
-  grid_of (Cells s indices) = filled (span_of s) indices.now
+  grid_of (Number s) = single (plain_span s)
+  grid_of (Cells s indices) = filled (plain_span s) indices.now
   grid_of (Fixed h) = fixed_grid (held_value h)
   grid_of Nothing = single (fixed_span None)
   grid_of NoParts = no_extent
@@ -49,6 +49,6 @@ TellsValue mode env e NoParts = (holds_decision (decisions_in env) e ≡ false) 
 TellsValue mode env e _ = holds_decision (decisions_in env) e ≡ true
 
 -- what is known of an expression
-pub record Known (mode : Mode) (env : Env) (e : ExprTree) (x : Extent) : Type 0 where
+pub record IsKnownExtent (mode : Mode) (env : Env) (e : ExprTree) (x : Extent) : Type 0 where
   pub extent : extent mode env e ≡ grid_of x
   pub value : TellsValue mode env e x

@@ -11,7 +11,7 @@ use Rattle.ep_tree.specs.Trees.{ExprTree}
 use Rattle.ep_tree.specs.Values.{single}
 use Rattle.ep_tree.specs.declared.values.Mode.{Mode}
 use Rattle.ep_size.specs.Extending.{Added}
-use Rattle.ep_size.specs.Extents.{Known, span_of}
+use Rattle.ep_size.specs.Extents.{IsKnownExtent, plain_span}
 use Rattle.ep_size.specs.declared.errors.SizeError.{SizeError}
 use Rattle.ep_size.specs.declared.errors.SizeError.TheVariants.{Limit, Memory}
 use Rattle.ep_size.specs.declared.extents.Extent.{Extent}
@@ -20,7 +20,7 @@ use Rattle.ep_size.specs.declared.totals.Totals.{Totals}
 
 -- what is known of a number, unless it reaches too far
 abbrev pub Gives : Result Span SizeError → defined.Span → Type 0
-Gives (Ok own) s = (span_of own ≡ s) × (is_too_far (farthest_end s.reach) ≡ false)
+Gives (Ok own) s = (plain_span own ≡ s) × (is_too_far (farthest_end s.reach) ≡ false)
 Gives (Err (Limit l)) s = (l ≡ LimitName.Reach) × (is_too_far (farthest_end s.reach) ≡ true)
 Gives (Err Memory) s = Unit {0}
 
@@ -38,14 +38,14 @@ pub record IsNumberNode (mode : Mode) (env : Env) (e : ExprTree) (w : ℕ) (s : 
 -- a node that holds a decision variable and weighs nothing, of which this is known
 pub record IsLightNode (mode : Mode) (env : Env) (e : ExprTree) (x : Extent) : Type 0 where
   pub plain : reaches_at mode (a_node env e) ≡ number_reach (extent mode env e)
-  pub known : Known mode env e x
+  pub known : IsKnownExtent mode env e x
   pub holds : holds_decision (decisions_in env) e ≡ true
   pub weight : weight_at mode (a_node env e) ≡ 0
 
 -- a node is near, is known, and is weighed
 pub record Finished (mode : Mode) (env : Env) (e : ExprTree) (before after : Totals) (x : Extent) : Type 0 where
   pub near : is_far_node mode env e ≡ false
-  pub known : Known mode env e x
+  pub known : IsKnownExtent mode env e x
   pub added : Added before after (weight_at mode (a_node env e))
 
 -- a node is finished, or it is refused since it reaches too far

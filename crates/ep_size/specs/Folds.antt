@@ -12,7 +12,7 @@ use Rattle.ep_tree.specs.Trees.{ExprTree}
 use Rattle.ep_tree.specs.Values.{single}
 use Rattle.ep_tree.specs.declared.values.Mode.{Mode}
 use Rattle.ep_tree.specs.declared.syntax.FoldOp.{FoldOp}
-use Rattle.ep_size.specs.Extents.{span_of}
+use Rattle.ep_size.specs.Extents.{plain_span}
 use Rattle.ep_size.specs.Spans.{interval_of}
 use Rattle.ep_size.specs.Sums.{Sums}
 use Rattle.ep_size.specs.Totals.{capped}
@@ -86,7 +86,7 @@ RefusesFold Memory op spans = Unit {0}
 
 -- what is known of folded numbers, unless they reach too far
 abbrev pub GivesFold : Result Span SizeError → FoldOp → List defined.Span → Type 0
-GivesFold (Ok own) op spans = (span_of own ≡ folded_span op spans) × (is_far_fold op spans ≡ false)
+GivesFold (Ok own) op spans = (plain_span own ≡ folded_span op spans) × (is_far_fold op spans ≡ false)
 GivesFold (Err e) op spans = RefusesFold e op spans
 
 -- A node that holds a decision variable and is a number that others are folded into. It reaches as far as they do

@@ -2,7 +2,7 @@
 use Rattle.std.specs.Prelude.{◌≡◌, List, [], ◌∷◌, length, pos}
 use Rattle.ep_base.specs.Intervals.{hull, only}
 use Rattle.ep_tree.specs.Reach.{Span, reaches}
-use Rattle.ep_size.specs.Extents.{span_of}
+use Rattle.ep_size.specs.Extents.{plain_span}
 use Rattle.ep_size.specs.Spans.{interval_of}
 use Rattle.ep_size.specs.Totals.{capped}
 use Rattle.ep_size.specs.declared.hulls.Hulled.{Hulled}
@@ -11,7 +11,7 @@ use Rattle.ep_size.specs.declared.hulls.Hulled.{Hulled}
 pub record HullOf (t : Hulled) (s : Span) (spans : List Span) : Type 0 where
   pub count : t.count ≡ capped (length (s ∷ spans))
   pub reach : interval_of t.reach ≡ hull (reaches (s ∷ spans))
-  pub first : span_of t.first ≡ s
+  pub first : plain_span t.first ≡ s
 
 -- no number is left
 pub record HullOfNone (t : Hulled) : Type 0 where

@@ -15,7 +15,7 @@ use Rattle.ep_size.specs.declared.reading.Indexed.TheVariants.{Stated, Every, De
 unfoldable pub measured_of : Indexed → MeasuredIndex
 measured_of (Stated n) = fixed_index n
 measured_of Every = whole_index
-measured_of (Decided s) = decided_index (kept.span_of s)
+measured_of (Decided s) = decided_index (kept.plain_span s)
 
 -- an index, which is `..` where there is none, as it is measured
 unfoldable pub index_of : Mode → Env → End → MeasuredIndex
@@ -38,35 +38,35 @@ cells_left (i ∷ is) [] = 0
 cells_left (i ∷ is) (domain ∷ domains) = kept_parts i domain * cells_left is domains
 
 -- whether an expression is a name
-unfoldable pub is_name : ExprTree → Bool
-is_name (named _ _) = true
-is_name (number _ _) = false
-is_name (truth _ _) = false
-is_name (negation _ _) = false
-is_name (minus _ _) = false
-is_name (absolute _ _) = false
-is_name (to_int _ _) = false
-is_name (factorial _ _) = false
-is_name (chain _ _) = false
-is_name (binary _ _ _ _) = false
-is_name (compare _ _ _ _) = false
-is_name (lex _ _ _ _) = false
-is_name (in_domain _ _ _) = false
-is_name (in_set _ _ _) = false
-is_name (all_of _ _) = false
-is_name (any_of _ _) = false
-is_name (folded _ _ _) = false
-is_name (all_different _ _) = false
-is_name (gcc _ _ _ _) = false
-is_name (at_least _ _ _ _) = false
-is_name (at_most _ _ _ _) = false
-is_name (table _ _ _) = false
-is_name (group _ _) = false
-is_name (flatten _ _) = false
-is_name (quantified _ _ _ _ _) = false
-is_name (literal _ _ _) = false
-is_name (comprehension _ _ _ _ _) = false
-is_name (read _ _ _) = false
+unfoldable pub is_named_tree : ExprTree → Bool
+is_named_tree (named _ _) = true
+is_named_tree (number _ _) = false
+is_named_tree (truth _ _) = false
+is_named_tree (negation _ _) = false
+is_named_tree (minus _ _) = false
+is_named_tree (absolute _ _) = false
+is_named_tree (to_int _ _) = false
+is_named_tree (factorial _ _) = false
+is_named_tree (chain _ _) = false
+is_named_tree (binary _ _ _ _) = false
+is_named_tree (compare _ _ _ _) = false
+is_named_tree (lex _ _ _ _) = false
+is_named_tree (in_domain _ _ _) = false
+is_named_tree (in_set _ _ _) = false
+is_named_tree (all_of _ _) = false
+is_named_tree (any_of _ _) = false
+is_named_tree (folded _ _ _) = false
+is_named_tree (all_different _ _) = false
+is_named_tree (gcc _ _ _ _) = false
+is_named_tree (at_least _ _ _ _) = false
+is_named_tree (at_most _ _ _ _) = false
+is_named_tree (table _ _ _) = false
+is_named_tree (group _ _) = false
+is_named_tree (flatten _ _) = false
+is_named_tree (quantified _ _ _ _ _) = false
+is_named_tree (literal _ _ _) = false
+is_named_tree (comprehension _ _ _ _ _) = false
+is_named_tree (read _ _ _) = false
 
 -- whether an index leaves each part
 unfoldable pub keeps_all : MeasuredIndex → Bool

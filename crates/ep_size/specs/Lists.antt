@@ -20,10 +20,10 @@ pub record IsMatrixNode (mode : Mode) (env : Env) (e : ExprTree) (g : defined.Ex
   pub weight : weight_at mode (a_node env e) ≡ 0
 
 -- what is known of such a node: that it holds a decision variable is all that is told of its value
-pub record IsListed (x : Extent) (g : defined.Extent) : Type 0 where
+pub record TellsExtent (x : Extent) (g : defined.Extent) : Type 0 where
   pub grid : grid_of x ≡ g
   pub tells : (mode : Mode) → (env : Env) → (e : ExprTree) → holds_decision (decisions_in env) e ≡ true → TellsValue mode env e x
 
 -- a matrix is made, unless memory is wanted
-abbrev pub Lists : Result Extent SizeError → defined.Extent → Type 0
-Lists r g = IfOk r (λ x. IsListed x g) × IfErr r (λ e. e ≡ Memory)
+abbrev pub ListsExtent : Result Extent SizeError → defined.Extent → Type 0
+ListsExtent r g = IfOk r (λ x. TellsExtent x g) × IfErr r (λ e. e ≡ Memory)

@@ -4,11 +4,11 @@ use Rattle.ep_base.specs.Numbers.{has_number}
 use Rattle.ep_tree.specs.Reach.{Extent as ExtentTree, MeasuredIndex, Span, decided_index, fixed_index, plain_index, whole_index}
 use Rattle.ep_tree.specs.Values.{Index, all_defined, filled, read_value}
 use Rattle.ep_size.specs.Extents.{grid_of}
-use Rattle.ep_size.specs.Lists.{IsListed}
+use Rattle.ep_size.specs.Lists.{TellsExtent}
 use Rattle.ep_size.specs.declared.extents.Extent.{Extent}
 
 -- indices without a decision variable, each with a value, leave cells over other index domains
-pub record Leaves (is : List MeasuredIndex) (domains left : List (List ℤ)) : Type 0 where
+pub record LeavesDomains (is : List MeasuredIndex) (domains left : List (List ℤ)) : Type 0 where
   pub plain : List Index
   pub told : all_defined (map plain_index is) ≡ Some plain
   pub reads : (s : Span) → read_value plain (filled s domains) ≡ Some (filled s left)
@@ -31,7 +31,7 @@ names_one (decided_index s) domain = false
 pub record PartOf (x : Extent) (read : Option ExtentTree) : Type 0 where
   pub grid : ExtentTree
   pub is : read ≡ Some grid
-  pub listed : IsListed x grid
+  pub listed : TellsExtent x grid
 
 -- what is read is known, or there is nothing
 unfoldable pub IsPart : Option Extent → Option ExtentTree → Type 0

@@ -29,8 +29,8 @@ standing_of_indices decided indices =
 abbrev pub both : Standing → Standing → Standing
 both one other = record { decided = one.decided || other.decided; free = one.free && other.free }
 
--- the test of names without those that are hidden
-unfoldable pub without : (Name → Bool) → Hidden → Name → Bool
-without decided Nothing = decided
-without decided (Names' _ outer names) = hiding names.now (without decided outer)
-without decided (Generators' _ outer gens) = hiding (generator_names (generators_of gens.now)) (without decided outer)
+-- the test of names hidden_without those that are hidden
+unfoldable pub hidden_without : (Name → Bool) → Hidden → Name → Bool
+hidden_without decided Nothing = decided
+hidden_without decided (Names' _ outer names) = hiding names.now (hidden_without decided outer)
+hidden_without decided (Generators' _ outer gens) = hiding (generator_names (generators_of gens.now)) (hidden_without decided outer)

@@ -18,7 +18,7 @@ ghost use Rattle.ep_eval.specs.Instances.{instance_nodes, quantified_tree};
 ghost use Rattle.ep_eval.specs.Scopes.{env_in, mode_in};
 ghost use Rattle.ep_size.specs.Causes.{IsCause};
 ghost use Rattle.ep_size.specs.Extending.{Extended, IsRefused};
-ghost use Rattle.ep_size.specs.Extents.{Known, grid_of};
+ghost use Rattle.ep_size.specs.Extents.{IsKnownExtent, grid_of};
 ghost use Rattle.ep_size.specs.Free.{is_free};
 ghost use Rattle.ep_size.specs.Generated.{known_at, known_of, listing_of, part_extents, ranging_of};
 ghost use Rattle.ep_size.specs.Indices.{index_of, measured_of};
@@ -76,7 +76,7 @@ fn count(totals: &mut Totals) -> Result<(), SizeError>
 #[tactic(auto, unfolding(ep_tree::specs::Types::is_integer))]
 fn without_value<'a>(ty: ValueType) -> Extent<'a>
     ensures { (mode : EachMode) → (env : names.Env) → (e : ExprTree) → ty ≡ type_in env e
-        → holds_decision (decisions_in env) e ≡ false → evaluate mode env e ≡ None → Known mode env e result }
+        → holds_decision (decisions_in env) e ≡ false → evaluate mode env e ≡ None → IsKnownExtent mode env e result }
 {
     match ty {
         ValueType::Bool => Extent::Nothing,
@@ -94,7 +94,7 @@ fn known_value<'a>(
 ) -> Result<Extent<'a>, SizeError>
     ensures known { IfOk result (λ x. (mode : EachMode) → holds_decision (decisions_in (env_in scope.entry)) (expr_tree e.now) ≡ false
         → evaluate mode (env_in scope.entry) (expr_tree e.now) ≡ seen_held seen.entry
-        → Known mode (env_in scope.entry) (expr_tree e.now) x) }
+        → IsKnownExtent mode (env_in scope.entry) (expr_tree e.now) x) }
     ensures memory { IfErr result (λ e. e ≡ error.Memory) }
 {
     match seen {
@@ -111,7 +111,7 @@ fn fixed<'a>(scope: Scope<'_, 'a>, totals: &mut Totals, e: &Expr) -> Result<Exte
     requires { is_free (decisions_in (env_in scope)) (expr_tree e.now) ≡ true }
     ensures measured { OnOk result (Measured (mode_in scope.entry) totals.old totals.new
         (measures.met (mode_in scope.entry) (env_in scope.entry) (expr_tree e.now))) }
-    ensures known { IfOk result (λ x. Known (mode_in scope.entry) (env_in scope.entry) (expr_tree e.now) x) }
+    ensures known { IfOk result (λ x. IsKnownExtent (mode_in scope.entry) (env_in scope.entry) (expr_tree e.now) x) }
     ensures cause { IfErr result (IsCause (limits_passed (mode_in scope.entry) totals.old.size
         (measures.met (mode_in scope.entry) (env_in scope.entry) (expr_tree e.now)))) }
 {
@@ -129,7 +129,7 @@ pub fn extent_of<'a>(
 ) -> Result<Extent<'a>, SizeError>
     ensures measured { OnOk result (Measured (mode_in scope.entry) totals.old totals.new
         (measures.met (mode_in scope.entry) (env_in scope.entry) (expr_tree e.now))) }
-    ensures known { IfOk result (λ x. Known (mode_in scope.entry) (env_in scope.entry) (expr_tree e.now) x) }
+    ensures known { IfOk result (λ x. IsKnownExtent (mode_in scope.entry) (env_in scope.entry) (expr_tree e.now) x) }
     ensures cause { IfErr result (IsCause (limits_passed (mode_in scope.entry) totals.old.size
         (measures.met (mode_in scope.entry) (env_in scope.entry) (expr_tree e.now)))) }
 {
@@ -157,7 +157,7 @@ fn decided<'a>(scope: Scope<'_, 'a>, totals: &mut Totals, e: &Expr) -> Result<Ex
     requires { holds_decision (decisions_in (env_in scope)) (expr_tree e.now) ≡ true }
     ensures measured { OnOk result (Measured (mode_in scope.entry) totals.old totals.new
         (measures.met (mode_in scope.entry) (env_in scope.entry) (expr_tree e.now))) }
-    ensures known { IfOk result (λ x. Known (mode_in scope.entry) (env_in scope.entry) (expr_tree e.now) x) }
+    ensures known { IfOk result (λ x. IsKnownExtent (mode_in scope.entry) (env_in scope.entry) (expr_tree e.now) x) }
     ensures cause { IfErr result (IsCause (limits_passed (mode_in scope.entry) totals.old.size
         (measures.met (mode_in scope.entry) (env_in scope.entry) (expr_tree e.now)))) }
 {
@@ -186,7 +186,7 @@ fn read_extent<'a>(
     requires { holds_decision (decisions_in (env_in scope)) (expr_tree e.now) ≡ true }
     ensures measured { OnOk result (Measured (mode_in scope.entry) totals.old totals.new
         (measures.met (mode_in scope.entry) (env_in scope.entry) (expr_tree e.now))) }
-    ensures known { IfOk result (λ x. Known (mode_in scope.entry) (env_in scope.entry) (expr_tree e.now) x) }
+    ensures known { IfOk result (λ x. IsKnownExtent (mode_in scope.entry) (env_in scope.entry) (expr_tree e.now) x) }
     ensures cause { IfErr result (IsCause (limits_passed (mode_in scope.entry) totals.old.size
         (measures.met (mode_in scope.entry) (env_in scope.entry) (expr_tree e.now)))) }
 {
@@ -259,7 +259,7 @@ fn kind_extent<'a>(
         → Extended (mode_in scope.entry) (env_in scope.entry)
         (kind_tree p kind.now) totals.old totals.new) }
     ensures known { IfOk result (λ x. (p : Place) → holds_decision (decisions_in (env_in scope.entry)) (kind_tree p kind.now) ≡ true
-        → Known (mode_in scope.entry) (env_in scope.entry) (kind_tree p kind.now) x) }
+        → IsKnownExtent (mode_in scope.entry) (env_in scope.entry) (kind_tree p kind.now) x) }
     ensures cause { IfErr result (λ e. (p : Place) → holds_decision (decisions_in (env_in scope.entry)) (kind_tree p kind.now) ≡ true
         → IsRefused (mode_in scope.entry) (env_in scope.entry)
         (kind_tree p kind.now) totals.old.size e) }
@@ -298,7 +298,7 @@ fn with_one<'a>(
         → Extended (mode_in scope.entry) (env_in scope.entry)
         (kind_tree p kind.now) totals.old totals.new) }
     ensures known { IfOk result (λ x. (p : Place) → holds_decision (decisions_in (env_in scope.entry)) (kind_tree p kind.now) ≡ true
-        → Known (mode_in scope.entry) (env_in scope.entry) (kind_tree p kind.now) x) }
+        → IsKnownExtent (mode_in scope.entry) (env_in scope.entry) (kind_tree p kind.now) x) }
     ensures cause { IfErr result (λ e. (p : Place) → holds_decision (decisions_in (env_in scope.entry)) (kind_tree p kind.now) ≡ true
         → IsRefused (mode_in scope.entry) (env_in scope.entry)
         (kind_tree p kind.now) totals.old.size e) }
@@ -336,7 +336,7 @@ fn with_two<'a>(
         → Extended (mode_in scope.entry) (env_in scope.entry)
         (kind_tree p kind.now) totals.old totals.new) }
     ensures known { IfOk result (λ x. (p : Place) → holds_decision (decisions_in (env_in scope.entry)) (kind_tree p kind.now) ≡ true
-        → Known (mode_in scope.entry) (env_in scope.entry) (kind_tree p kind.now) x) }
+        → IsKnownExtent (mode_in scope.entry) (env_in scope.entry) (kind_tree p kind.now) x) }
     ensures cause { IfErr result (λ e. (p : Place) → holds_decision (decisions_in (env_in scope.entry)) (kind_tree p kind.now) ≡ true
         → IsRefused (mode_in scope.entry) (env_in scope.entry)
         (kind_tree p kind.now) totals.old.size e) }
@@ -379,7 +379,7 @@ fn with_parts<'a>(
         → Extended (mode_in scope.entry) (env_in scope.entry)
         (kind_tree p kind.now) totals.old totals.new) }
     ensures known { IfOk result (λ x. (p : Place) → holds_decision (decisions_in (env_in scope.entry)) (kind_tree p kind.now) ≡ true
-        → Known (mode_in scope.entry) (env_in scope.entry) (kind_tree p kind.now) x) }
+        → IsKnownExtent (mode_in scope.entry) (env_in scope.entry) (kind_tree p kind.now) x) }
     ensures cause { IfErr result (λ e. (p : Place) → holds_decision (decisions_in (env_in scope.entry)) (kind_tree p kind.now) ≡ true
         → IsRefused (mode_in scope.entry) (env_in scope.entry)
         (kind_tree p kind.now) totals.old.size e) }
@@ -424,7 +424,7 @@ fn quantified<'a>(
     requires holds { holds_decision (hiding names.now (decisions_in (env_in scope))) (expr_tree quantifier.body.now) ≡ true }
     ensures measured { OnOk result ((p : Place) → Measured (mode_in scope.entry) totals.old totals.new
         (measures.met (mode_in scope.entry) (env_in scope.entry) (quantified_tree p quantifier.entry names.now))) }
-    ensures known { IfOk result (λ x. (p : Place) → Known (mode_in scope.entry) (env_in scope.entry)
+    ensures known { IfOk result (λ x. (p : Place) → IsKnownExtent (mode_in scope.entry) (env_in scope.entry)
         (quantified_tree p quantifier.entry names.now) x) }
     ensures cause { IfErr result (λ e. (p : Place) → IsCause (limits_passed (mode_in scope.entry) totals.old.size
         (measures.met (mode_in scope.entry) (env_in scope.entry) (quantified_tree p quantifier.entry names.now))) e) }
@@ -454,7 +454,7 @@ fn over_domain<'a>(
     requires small { totals.old.size ≤ limits.MOST_SIZE }
     ensures extended { OnOk result ((p : Place) → Extended (mode_in scope.entry) (env_in scope.entry)
         (quantified_tree p quantifier.entry (name.now ∷ rest.now)) totals.old totals.new) }
-    ensures known { IfOk result (λ x. (p : Place) → Known (mode_in scope.entry) (env_in scope.entry)
+    ensures known { IfOk result (λ x. (p : Place) → IsKnownExtent (mode_in scope.entry) (env_in scope.entry)
         (quantified_tree p quantifier.entry (name.now ∷ rest.now)) x) }
     ensures cause { IfErr result (λ e. (p : Place) → IsRefused (mode_in scope.entry) (env_in scope.entry)
         (quantified_tree p quantifier.entry (name.now ∷ rest.now)) totals.old.size e) }
@@ -518,7 +518,7 @@ fn chain_extent<'a>(
         → Extended (mode_in scope.entry) (env_in scope.entry)
         (kind_tree p kind.now) totals.old totals.new) }
     ensures known { IfOk result (λ x. (p : Place) → holds_decision (decisions_in (env_in scope.entry)) (kind_tree p kind.now) ≡ true
-        → Known (mode_in scope.entry) (env_in scope.entry) (kind_tree p kind.now) x) }
+        → IsKnownExtent (mode_in scope.entry) (env_in scope.entry) (kind_tree p kind.now) x) }
     ensures cause { IfErr result (λ e. (p : Place) → holds_decision (decisions_in (env_in scope.entry)) (kind_tree p kind.now) ≡ true
         → IsRefused (mode_in scope.entry) (env_in scope.entry)
         (kind_tree p kind.now) totals.old.size e) }
@@ -567,7 +567,7 @@ fn group_extent<'a>(
         → Extended (mode_in scope.entry) (env_in scope.entry)
         (kind_tree p kind.now) totals.old totals.new) }
     ensures known { IfOk result (λ x. (p : Place) → holds_decision (decisions_in (env_in scope.entry)) (kind_tree p kind.now) ≡ true
-        → Known (mode_in scope.entry) (env_in scope.entry) (kind_tree p kind.now) x) }
+        → IsKnownExtent (mode_in scope.entry) (env_in scope.entry) (kind_tree p kind.now) x) }
     ensures cause { IfErr result (λ e. (p : Place) → holds_decision (decisions_in (env_in scope.entry)) (kind_tree p kind.now) ≡ true
         → IsRefused (mode_in scope.entry) (env_in scope.entry)
         (kind_tree p kind.now) totals.old.size e) }
@@ -593,7 +593,7 @@ fn with_matrix<'a>(
         → Extended (mode_in scope.entry) (env_in scope.entry)
         (kind_tree p kind.now) totals.old totals.new) }
     ensures known { IfOk result (λ x. (p : Place) → holds_decision (decisions_in (env_in scope.entry)) (kind_tree p kind.now) ≡ true
-        → Known (mode_in scope.entry) (env_in scope.entry) (kind_tree p kind.now) x) }
+        → IsKnownExtent (mode_in scope.entry) (env_in scope.entry) (kind_tree p kind.now) x) }
     ensures cause { IfErr result (λ e. (p : Place) → holds_decision (decisions_in (env_in scope.entry)) (kind_tree p kind.now) ≡ true
         → IsRefused (mode_in scope.entry) (env_in scope.entry)
         (kind_tree p kind.now) totals.old.size e) }
@@ -627,7 +627,7 @@ fn with_matrices<'a>(
         → Extended (mode_in scope.entry) (env_in scope.entry)
         (kind_tree p kind.now) totals.old totals.new) }
     ensures known { IfOk result (λ x. (p : Place) → holds_decision (decisions_in (env_in scope.entry)) (kind_tree p kind.now) ≡ true
-        → Known (mode_in scope.entry) (env_in scope.entry) (kind_tree p kind.now) x) }
+        → IsKnownExtent (mode_in scope.entry) (env_in scope.entry) (kind_tree p kind.now) x) }
     ensures cause { IfErr result (λ e. (p : Place) → holds_decision (decisions_in (env_in scope.entry)) (kind_tree p kind.now) ≡ true
         → IsRefused (mode_in scope.entry) (env_in scope.entry)
         (kind_tree p kind.now) totals.old.size e) }
@@ -664,7 +664,7 @@ fn with_counts<'a>(
         → Extended (mode_in scope.entry) (env_in scope.entry)
         (kind_tree p kind.now) totals.old totals.new) }
     ensures known { IfOk result (λ x. (p : Place) → holds_decision (decisions_in (env_in scope.entry)) (kind_tree p kind.now) ≡ true
-        → Known (mode_in scope.entry) (env_in scope.entry) (kind_tree p kind.now) x) }
+        → IsKnownExtent (mode_in scope.entry) (env_in scope.entry) (kind_tree p kind.now) x) }
     ensures cause { IfErr result (λ e. (p : Place) → holds_decision (decisions_in (env_in scope.entry)) (kind_tree p kind.now) ≡ true
         → IsRefused (mode_in scope.entry) (env_in scope.entry)
         (kind_tree p kind.now) totals.old.size e) }
@@ -704,7 +704,7 @@ fn with_list<'a>(
         → Extended (mode_in scope.entry) (env_in scope.entry)
         (kind_tree p kind.now) totals.old totals.new) }
     ensures known { IfOk result (λ x. (p : Place) → holds_decision (decisions_in (env_in scope.entry)) (kind_tree p kind.now) ≡ true
-        → Known (mode_in scope.entry) (env_in scope.entry) (kind_tree p kind.now) x) }
+        → IsKnownExtent (mode_in scope.entry) (env_in scope.entry) (kind_tree p kind.now) x) }
     ensures cause { IfErr result (λ e. (p : Place) → holds_decision (decisions_in (env_in scope.entry)) (kind_tree p kind.now) ≡ true
         → IsRefused (mode_in scope.entry) (env_in scope.entry)
         (kind_tree p kind.now) totals.old.size e) }
@@ -731,7 +731,7 @@ fn with_generators<'a>(
         → Extended (mode_in scope.entry) (env_in scope.entry)
         (kind_tree p kind.now) totals.old totals.new) }
     ensures known { IfOk result (λ x. (p : Place) → holds_decision (decisions_in (env_in scope.entry)) (kind_tree p kind.now) ≡ true
-        → Known (mode_in scope.entry) (env_in scope.entry) (kind_tree p kind.now) x) }
+        → IsKnownExtent (mode_in scope.entry) (env_in scope.entry) (kind_tree p kind.now) x) }
     ensures cause { IfErr result (λ e. (p : Place) → holds_decision (decisions_in (env_in scope.entry)) (kind_tree p kind.now) ≡ true
         → IsRefused (mode_in scope.entry) (env_in scope.entry)
         (kind_tree p kind.now) totals.old.size e) }
@@ -913,7 +913,7 @@ fn member_extent<'a>(
         → Extended (mode_in scope.entry) (env_in scope.entry)
         (kind_tree p kind.now) totals.old totals.new) }
     ensures known { IfOk result (λ x. (p : Place) → holds_decision (decisions_in (env_in scope.entry)) (kind_tree p kind.now) ≡ true
-        → Known (mode_in scope.entry) (env_in scope.entry) (kind_tree p kind.now) x) }
+        → IsKnownExtent (mode_in scope.entry) (env_in scope.entry) (kind_tree p kind.now) x) }
     ensures cause { IfErr result (λ e. (p : Place) → holds_decision (decisions_in (env_in scope.entry)) (kind_tree p kind.now) ≡ true
         → IsRefused (mode_in scope.entry) (env_in scope.entry)
         (kind_tree p kind.now) totals.old.size e) }

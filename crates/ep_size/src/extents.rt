@@ -5,7 +5,7 @@ ghost use Rattle.ep_tree.specs.Reach as defined;
 ghost use Rattle.ep_tree.specs.Values.{filled};
 ghost use Rattle.ep_tree.specs.Views.{value_tree};
 ghost use Rattle.ep_eval.specs.Helds.{held_value};
-ghost use Rattle.ep_size.specs.Extents.{fixed_grid, grid_of, span_of};
+ghost use Rattle.ep_size.specs.Extents.{fixed_grid, grid_of, plain_span};
 ghost use Rattle.ep_size.specs.Spans.{interval_of};
 
 use super::intervals::{Ends, width};
@@ -42,7 +42,7 @@ pub enum Extent<'a> {
 /// A number without a decision variable.
 #[tactic(auto, unfolding(ep_tree::specs::Reach::fixed_span))]
 pub fn fixed_number(number: i64) -> Span
-    ensures { span_of result ≡ defined.fixed_span (Some number) }
+    ensures { plain_span result ≡ defined.fixed_span (Some number) }
 {
     Span {
         reach: Ends {
@@ -57,14 +57,14 @@ pub fn fixed_number(number: i64) -> Span
 /// A number without a decision variable that has no value.
 #[tactic(auto, unfolding(ep_tree::specs::Reach::fixed_span))]
 pub fn undefined_number() -> Span
-    ensures { span_of result ≡ defined.fixed_span None }
+    ensures { plain_span result ≡ defined.fixed_span None }
 {
     fixed_number(0)
 }
 
 /// A truth value with a decision variable.
 pub fn truth_span() -> Span
-    ensures { span_of result ≡ defined.truth_span }
+    ensures { plain_span result ≡ defined.truth_span }
 {
     Span {
         reach: Ends { low: 0, high: 1 },
@@ -76,7 +76,7 @@ pub fn truth_span() -> Span
 /// A number with a decision variable that takes all values between these ends.
 #[tactic(auto, unfolding(ep_tree::specs::Reach::wide_span))]
 pub fn wide_span(reach: Ends) -> Span
-    ensures { span_of result ≡ defined.wide_span (interval_of reach) }
+    ensures { plain_span result ≡ defined.wide_span (interval_of reach) }
 {
     Span {
         reach,
@@ -88,7 +88,7 @@ pub fn wide_span(reach: Ends) -> Span
 /// What is known of the number of a value; of a matrix, that of an empty sum.
 #[tactic(auto, unfolding(ep_tree::specs::Reach::span_of, ep_tree::specs::Values::map_grid, ep_tree::specs::Views::value_tree))]
 fn value_span(value: &Value) -> Span
-    ensures { span_of result ≡ defined.span_of (fixed_grid (value_tree value.now)) }
+    ensures { plain_span result ≡ defined.span_of (fixed_grid (value_tree value.now)) }
 {
     match value {
         Value::Number(number) => fixed_number(*number),
@@ -99,7 +99,7 @@ fn value_span(value: &Value) -> Span
 /// The same of a value that is held.
 #[tactic(auto, unfolding(ep_eval::specs::Helds::held_value, ep_tree::specs::Reach::span_of, ep_tree::specs::Values::map_grid))]
 fn held_span(held: &Held) -> Span
-    ensures { span_of result ≡ defined.span_of (fixed_grid (held_value held.now)) }
+    ensures { plain_span result ≡ defined.span_of (fixed_grid (held_value held.now)) }
 {
     match held {
         Held::Number(number) => fixed_number(*number),
@@ -110,7 +110,7 @@ fn held_span(held: &Held) -> Span
 
 /// The same of the cells of a decision variable, of which there is one where it has no index domain.
 fn cells_span(span: Span, indices: &[Runs]) -> Span
-    ensures { span_of result ≡ defined.span_of (filled (span_of span) indices.now) }
+    ensures { plain_span result ≡ defined.span_of (filled (plain_span span) indices.now) }
 {
     match indices.split_first() {
         Some(_) => undefined_number(),
@@ -121,7 +121,7 @@ fn cells_span(span: Span, indices: &[Runs]) -> Span
 /// What is known of a number; of a matrix, that of an empty sum.
 #[tactic(auto, unfolding(crate::specs::Extents::grid_of, ep_tree::specs::Reach::span_of, ep_tree::specs::Values::filled))]
 pub fn number_span(extent: &Extent) -> Span
-    ensures { span_of result ≡ defined.span_of (grid_of extent.now) }
+    ensures { plain_span result ≡ defined.span_of (grid_of extent.now) }
 {
     match extent {
         Extent::Number(span) => *span,

@@ -8,7 +8,7 @@ ghost use Rattle.ep_tree.specs.Measures as measures;
 ghost use Rattle.ep_tree.specs.Reach as defined;
 ghost use Rattle.ep_tree.specs.declared.syntax.FoldOp.{FoldOp as EachOp};
 ghost use Rattle.ep_tree.specs.declared.syntax.FoldOp.TheVariants as op_named;
-ghost use Rattle.ep_size.specs.Extents.{span_of};
+ghost use Rattle.ep_size.specs.Extents.{plain_span};
 ghost use Rattle.ep_size.specs.Folds.{Chooses, Folds, GivesFold, Multiplies, RefusesFold, greater, lesser};
 ghost use Rattle.ep_size.specs.Spans.{interval_of};
 ghost use Rattle.ep_size.specs.Totals.{MOST_TOLD, capped};
@@ -67,7 +67,7 @@ impl Chosen {
     fn with(self, span: Span, folded: Ends) -> Chosen
         ensures { (step : Interval → Interval → Interval) → (spans : List defined.Span) → Chooses step self spans
             → (self.started ≡ true → interval_of folded ≡ step (interval_of self.ends) (interval_of span.reach))
-            → Chooses step result (spans ++ span_of span ∷ []) }
+            → Chooses step result (spans ++ plain_span span ∷ []) }
     {
         if !self.started {
             return Chosen {
@@ -86,14 +86,14 @@ impl Chosen {
 
     /// The same for the least of some numbers.
     fn with_least(self, span: Span) -> Chosen
-        ensures { (spans : List defined.Span) → Chooses lesser self spans → Chooses lesser result (spans ++ span_of span ∷ []) }
+        ensures { (spans : List defined.Span) → Chooses lesser self spans → Chooses lesser result (spans ++ plain_span span ∷ []) }
     {
         self.with(span, least(self.ends, span.reach))
     }
 
     /// The same for the greatest of some numbers.
     fn with_greatest(self, span: Span) -> Chosen
-        ensures { (spans : List defined.Span) → Chooses greater self spans → Chooses greater result (spans ++ span_of span ∷ []) }
+        ensures { (spans : List defined.Span) → Chooses greater self spans → Chooses greater result (spans ++ plain_span span ∷ []) }
     {
         self.with(span, greatest(self.ends, span.reach))
     }
@@ -113,9 +113,9 @@ impl Multiplied {
     /// The same with one number more.
     fn with(self, span: Span) -> Result<Multiplied, SizeError>
         ensures added { IfOk result (λ t. (spans : List defined.Span) → Multiplies self spans
-            → Multiplies t (spans ++ span_of span ∷ [])) }
+            → Multiplies t (spans ++ plain_span span ∷ [])) }
         ensures refused { IfErr result (λ e. (spans : List defined.Span) → (rest : List defined.Span) → Multiplies self spans
-            → RefusesFold e op_named.Product (spans ++ span_of span ∷ rest)) }
+            → RefusesFold e op_named.Product (spans ++ plain_span span ∷ rest)) }
     {
         let whole = near(product(self.whole, span.reach))?;
         Ok(Multiplied {
@@ -143,9 +143,9 @@ impl Folding {
     /// The same with one number more. Only a product is refused here, since what its first parts make may reach too far.
     pub fn with(self, span: Span) -> Result<Folding, SizeError>
         ensures added { IfOk result (λ t. (op : EachOp) → (spans : List defined.Span) → length spans + 1 < 2 ^ 64 → Folds self op spans
-            → Folds t op (spans ++ span_of span ∷ [])) }
+            → Folds t op (spans ++ plain_span span ∷ [])) }
         ensures refused { IfErr result (λ e. (op : EachOp) → (spans : List defined.Span) → (rest : List defined.Span)
-            → Folds self op spans → RefusesFold e op (spans ++ span_of span ∷ rest)) }
+            → Folds self op spans → RefusesFold e op (spans ++ plain_span span ∷ rest)) }
     {
         match self {
             Folding::Sum(sum) => {
@@ -194,8 +194,8 @@ impl Folding {
 
 /// Some numbers, folded by an operation.
 pub fn fold_all(op: FoldOp, spans: &[Span]) -> Result<Folding, SizeError>
-    ensures folded { IfOk result (λ t. Folds t op (map span_of spans.now)) }
-    ensures refused { IfErr result (λ e. RefusesFold e op (map span_of spans.now)) }
+    ensures folded { IfOk result (λ t. Folds t op (map plain_span spans.now)) }
+    ensures refused { IfErr result (λ e. RefusesFold e op (map plain_span spans.now)) }
 {
     let mut folding = Folding::new(op);
     for span in spans {

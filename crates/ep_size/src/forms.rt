@@ -9,7 +9,7 @@ ghost use Rattle.ep_tree.specs.Reach.{decisions_in, holds_decision, measured_ind
 ghost use Rattle.ep_tree.specs.Trees.{ExprTree};
 ghost use Rattle.ep_tree.specs.Views.{kind_tree};
 ghost use Rattle.ep_tree.specs.declared.values.Mode.{Mode as EachMode};
-ghost use Rattle.ep_size.specs.Extents.{Known, span_of};
+ghost use Rattle.ep_size.specs.Extents.{IsKnownExtent, plain_span};
 ghost use Rattle.ep_size.specs.Finishing.{Finishes, Gives};
 ghost use Rattle.ep_size.specs.Indices.{measured_of};
 ghost use Rattle.ep_size.specs.Parts.{part_of, two_parts};
@@ -33,7 +33,7 @@ pub fn finish_one<'a>(
     known: &Extent<'_>,
 ) -> Result<Extent<'a>, SizeError>
     ensures { (mode : EachMode) → (env : names.Env) → (p : Place) → (e : ExprTree) → part_of (kind_tree p kind.now) ≡ Some e
-        → holds_decision (decisions_in env) (kind_tree p kind.now) ≡ true → Known mode env e known.now
+        → holds_decision (decisions_in env) (kind_tree p kind.now) ≡ true → IsKnownExtent mode env e known.now
         → Finishes mode env (kind_tree p kind.now) totals.old totals.new result }
 {
     let span = number_span(known);
@@ -49,7 +49,7 @@ pub fn finish_one<'a>(
 
 /// The widths of two numbers, added, as far as that is told.
 fn widths_of_two(one: Span, other: Span) -> u64
-    ensures { result ≡ capped (measures.widths (span_of one ∷ span_of other ∷ [])) }
+    ensures { result ≡ capped (measures.widths (plain_span one ∷ plain_span other ∷ [])) }
 {
     let first = told_count(width(one.reach));
     let second = told_count(width(other.reach));
@@ -69,7 +69,7 @@ fn spread_product(one: Span, other: Span) -> u64
 /// The weight of two parts with an operator between them, as far as it is told.
 #[tactic(auto, unfolding(ep_tree::specs::Measures::binary_weight))]
 fn binary_weight(op: BinaryOp, one: Span, other: Span) -> u64
-    ensures { result ≡ capped (measures.binary_weight op (span_of one) (span_of other)) }
+    ensures { result ≡ capped (measures.binary_weight op (plain_span one) (plain_span other)) }
 {
     match op {
         BinaryOp::Pow => told_count(one.spread),
@@ -87,7 +87,7 @@ fn binary_weight(op: BinaryOp, one: Span, other: Span) -> u64
 #[tactic(auto, unfolding(ep_tree::specs::Reach::binary_span))]
 fn binary_span(op: BinaryOp, one: Span, other: Span, exponent: Indexed) -> Result<Span, SizeError>
     ensures { (n : Option ℤ) → (decided : Bool) → (s : defined.Span) → measured_of exponent ≡ measured_index decided s n
-        → Gives result (defined.binary_span op (span_of one) (span_of other) n) }
+        → Gives result (defined.binary_span op (plain_span one) (plain_span other) n) }
 {
     match op {
         BinaryOp::Mul => product_span(one, other),
@@ -110,7 +110,7 @@ pub fn finish_two<'a>(
 ) -> Result<Extent<'a>, SizeError>
     ensures { (mode : EachMode) → (env : names.Env) → (p : Place) → (e : ExprTree) → (f : ExprTree)
         → two_parts (kind_tree p kind.now) ≡ Some (e, f)
-        → holds_decision (decisions_in env) (kind_tree p kind.now) ≡ true → Known mode env e one.now → Known mode env f other.now
+        → holds_decision (decisions_in env) (kind_tree p kind.now) ≡ true → IsKnownExtent mode env e one.now → IsKnownExtent mode env f other.now
         → Finishes mode env (kind_tree p kind.now) totals.old totals.new result }
 {
     let first = number_span(one);

@@ -10,7 +10,7 @@ ghost use Rattle.ep_tree.specs.Values.{single};
 ghost use Rattle.ep_tree.specs.Views.{expr_tree};
 ghost use Rattle.ep_tree.specs.declared.values.Mode.{Mode as EachMode};
 ghost use Rattle.ep_eval.specs.Scopes.{env_in};
-ghost use Rattle.ep_size.specs.Extents.{Known};
+ghost use Rattle.ep_size.specs.Extents.{IsKnownExtent};
 ghost use Rattle.ep_size.specs.Finishing.{Finishes, IsLightNode};
 
 use super::errors::SizeError;
@@ -60,7 +60,7 @@ pub fn group_node<'a>(
     known: Extent<'a>,
 ) -> Result<Extent<'a>, SizeError>
     ensures { (mode : EachMode) → (p : Place) → holds_decision (decisions_in (env_in scope.entry)) (group p (expr_tree part.now)) ≡ true
-        → Known mode (env_in scope.entry) (expr_tree part.now) known.entry
+        → IsKnownExtent mode (env_in scope.entry) (expr_tree part.now) known.entry
         → Finishes mode (env_in scope.entry) (group p (expr_tree part.now)) totals.old totals.new result }
 {
     match type_within(scope, part) {

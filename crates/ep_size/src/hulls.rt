@@ -6,7 +6,7 @@ ghost use Rattle.ep_base.specs.Intervals as defined_intervals;
 ghost use Rattle.ep_tree.specs.Measures as measures;
 ghost use Rattle.ep_tree.specs.Reach as defined;
 ghost use Rattle.ep_tree.specs.Reach.{MeasuredIndex, is_decided_index};
-ghost use Rattle.ep_size.specs.Extents.{span_of};
+ghost use Rattle.ep_size.specs.Extents.{plain_span};
 ghost use Rattle.ep_size.specs.Finishing.{Gives};
 ghost use Rattle.ep_size.specs.Hulls.{Hulls};
 ghost use Rattle.ep_size.specs.Spans.{interval_of};
@@ -41,7 +41,7 @@ fn hull_of(x: Ends, y: Ends) -> Ends
 
 /// A number that is near enough to 0 to be kept.
 fn kept(span: Span) -> Result<Span, SizeError>
-    ensures { Gives result (span_of span) }
+    ensures { Gives result (plain_span span) }
 {
     match near(widened(span.reach)) {
         Ok(_) => Ok(span),
@@ -63,7 +63,7 @@ impl Hulled {
 
     /// Of so many numbers that are alike, as far as that is told.
     pub fn repeated(span: Span, count: u64) -> Hulled
-        ensures { (n : ℕ) → count ≡ capped n → Hulls result (replicate n (span_of span)) }
+        ensures { (n : ℕ) → count ≡ capped n → Hulls result (replicate n (plain_span span)) }
     {
         if count == 0 {
             return Hulled::new();
@@ -77,7 +77,7 @@ impl Hulled {
 
     /// The same with one number more.
     pub fn add(&mut self, span: Span)
-        ensures { (spans : List defined.Span) → Hulls self.old spans → Hulls self.new (spans ++ span_of span ∷ []) }
+        ensures { (spans : List defined.Span) → Hulls self.old spans → Hulls self.new (spans ++ plain_span span ∷ []) }
     {
         if self.count == 0 {
             self.reach = span.reach;
@@ -126,7 +126,7 @@ pub fn read_weight(is_decided: bool, widths: u64, whole: Span, left: u64) -> u64
     ensures told { result ≤ MOST_TOLD }
     ensures weight { (is : List MeasuredIndex) → (spans : List defined.Span) → is_decided ≡ list_any is_decided_index is
         → widths ≡ capped (sum_by measures.index_width is) → left ≡ capped (length spans)
-        → result ≡ capped (measures.read_weight is (span_of whole) spans) }
+        → result ≡ capped (measures.read_weight is (plain_span whole) spans) }
 {
     if !is_decided {
         return 0;

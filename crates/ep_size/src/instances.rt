@@ -8,7 +8,7 @@ ghost use Rattle.ep_tree.specs.Reach.{decisions_in, extent, holds_decision};
 ghost use Rattle.ep_tree.specs.Trees.{ExprTree};
 ghost use Rattle.ep_tree.specs.Values.{single};
 ghost use Rattle.ep_tree.specs.declared.values.Mode.{Mode as EachMode};
-ghost use Rattle.ep_size.specs.Extents.{Known, grid_of};
+ghost use Rattle.ep_size.specs.Extents.{IsKnownExtent, grid_of};
 ghost use Rattle.ep_size.specs.Finishing.{Finishes, IsNumberNode};
 ghost use Rattle.ep_size.specs.Quantified.{HasInstances};
 
@@ -51,9 +51,9 @@ pub fn with_instance(before: Instances, instance: Extent<'_>) -> Instances
 
 /// A quantifier without names, by what is known of its body.
 pub fn bare_quantifier<'a>(body: Extent<'_>) -> Extent<'a>
-    ensures { (mode : EachMode) → (env : names.Env) → (e : ExprTree) → (f : ExprTree) → Known mode env f body.entry
+    ensures { (mode : EachMode) → (env : names.Env) → (e : ExprTree) → (f : ExprTree) → IsKnownExtent mode env f body.entry
         → extent mode env e ≡ single (defined.span_of (extent mode env f)) → holds_decision (decisions_in env) e ≡ true
-        → Known mode env e result }
+        → IsKnownExtent mode env e result }
 {
     Extent::Number(number_span(&body))
 }

@@ -9,9 +9,9 @@ ghost use Rattle.ep_tree.specs.Reach.{decisions_in, holds_decision};
 ghost use Rattle.ep_tree.specs.Trees.{ExprTree, flatten};
 ghost use Rattle.ep_tree.specs.Values.{as_parts, list_value, matrix};
 ghost use Rattle.ep_tree.specs.declared.values.Mode.{Mode as EachMode};
-ghost use Rattle.ep_size.specs.Extents.{Known, grid_of, span_of};
+ghost use Rattle.ep_size.specs.Extents.{IsKnownExtent, grid_of, plain_span};
 ghost use Rattle.ep_size.specs.Finishing.{Finishes};
-ghost use Rattle.ep_size.specs.Lists.{IsListed, Lists};
+ghost use Rattle.ep_size.specs.Lists.{TellsExtent, ListsExtent};
 ghost use Rattle.ep_size.specs.declared.errors.SizeError.TheVariants as error;
 ghost use Rattle.ep_size.specs.declared.totals.Totals.{Totals as EachTotals};
 
@@ -24,7 +24,7 @@ use std::alloc::Global;
 
 /// Numbers as a matrix of one dimension, with indices from 1.
 fn list_of<'a>(alloc: Global, spans: &[Span]) -> Result<Extent<'a>, SizeError>
-    ensures { Lists result (list_value (map span_of spans.now)) }
+    ensures { ListsExtent result (list_value (map plain_span spans.now)) }
 {
     let mut indices = Vec::with_capacity(alloc, spans.len())?;
     let mut parts = Vec::with_capacity(alloc, spans.len())?;
@@ -38,7 +38,7 @@ fn list_of<'a>(alloc: Global, spans: &[Span]) -> Result<Extent<'a>, SizeError>
 /// What is known of a `flatten` of which this is known.
 pub fn flat_node<'a>(alloc: Global, known: &Extent<'_>) -> Result<Extent<'a>, SizeError>
     ensures { (mode : EachMode) → (env : names.Env) → (p : Place) → (e : ExprTree) → (t : EachTotals)
-        → holds_decision (decisions_in env) (flatten p e) ≡ true → Known mode env e known.now
+        → holds_decision (decisions_in env) (flatten p e) ≡ true → IsKnownExtent mode env e known.now
         → Finishes mode env (flatten p e) t t result }
 {
     let spans = scalars_of(alloc, known)?;
@@ -103,7 +103,7 @@ pub fn matrix_of<'a>(
     set: &Option<Runs>,
     parts: Vec<Extent<'a>>,
 ) -> Result<Extent<'a>, SizeError>
-    ensures { Lists result (matrix (defined.measured_indices set.now (length parts.entry.items)) (as_parts (map grid_of parts.entry.items))) }
+    ensures { ListsExtent result (matrix (defined.measured_indices set.now (length parts.entry.items)) (as_parts (map grid_of parts.entry.items))) }
 {
     let indices = indices_of(alloc, set, parts.len())?;
     Ok(Extent::Matrix(indices, parts))

@@ -12,7 +12,7 @@ ghost use Rattle.ep_tree.specs.Values.{scalars_of as each_scalar};
 ghost use Rattle.ep_tree.specs.Views.{kind_tree};
 ghost use Rattle.ep_tree.specs.declared.syntax.FoldOp.{FoldOp as EachOp};
 ghost use Rattle.ep_tree.specs.declared.values.Mode.{Mode as EachMode};
-ghost use Rattle.ep_size.specs.Extents.{Known, grid_of};
+ghost use Rattle.ep_size.specs.Extents.{IsKnownExtent, grid_of};
 ghost use Rattle.ep_size.specs.Finishing.{Finishes, IsNumberNode};
 ghost use Rattle.ep_size.specs.Folds.{GivesFold, IsFoldNode};
 ghost use Rattle.ep_size.specs.Parts.{part_of, three_parts, two_parts};
@@ -184,7 +184,7 @@ pub fn finish_matrix<'a>(
     known: &Extent,
 ) -> Result<Extent<'a>, SizeError>
     ensures { (mode : EachMode) → (env : names.Env) → (p : Place) → (e : ExprTree) → part_of (kind_tree p kind.now) ≡ Some e
-        → holds_decision (decisions_in env) (kind_tree p kind.now) ≡ true → Known mode env e known.now
+        → holds_decision (decisions_in env) (kind_tree p kind.now) ≡ true → IsKnownExtent mode env e known.now
         → Finishes mode env (kind_tree p kind.now) totals.old totals.new result }
 {
     match kind {
@@ -204,7 +204,7 @@ pub fn finish_two_matrices<'a>(
 ) -> Result<Extent<'a>, SizeError>
     ensures { (mode : EachMode) → (env : names.Env) → (p : Place) → (e : ExprTree) → (f : ExprTree)
         → two_parts (kind_tree p kind.now) ≡ Some (e, f)
-        → holds_decision (decisions_in env) (kind_tree p kind.now) ≡ true → Known mode env e one.now → Known mode env f other.now
+        → holds_decision (decisions_in env) (kind_tree p kind.now) ≡ true → IsKnownExtent mode env e one.now → IsKnownExtent mode env f other.now
         → Finishes mode env (kind_tree p kind.now) totals.old totals.new result }
 {
     match kind {
@@ -226,8 +226,8 @@ pub fn finish_three<'a>(
 ) -> Result<Extent<'a>, SizeError>
     ensures { (mode : EachMode) → (env : names.Env) → (p : Place) → (e : ExprTree) → (f : ExprTree) → (g : ExprTree)
         → three_parts (kind_tree p kind.now) ≡ Some (e, f, g)
-        → holds_decision (decisions_in env) (kind_tree p kind.now) ≡ true → Known mode env e one.now → Known mode env f two.now
-        → Known mode env g three.now → Finishes mode env (kind_tree p kind.now) totals.old totals.new result }
+        → holds_decision (decisions_in env) (kind_tree p kind.now) ≡ true → IsKnownExtent mode env e one.now → IsKnownExtent mode env f two.now
+        → IsKnownExtent mode env g three.now → Finishes mode env (kind_tree p kind.now) totals.old totals.new result }
 {
     match kind {
         Kind::Gcc(_, _, _) => finish_counting(alloc, totals, one, two, three),

@@ -3,7 +3,7 @@
 ghost use Rattle.std.specs.Prelude.{◌≡◌, [], IfOk, OnOk, IfErr};
 ghost use Rattle.ep_tree.specs.Closed.{IsClosed};
 ghost use Rattle.ep_tree.specs.Solutions.{instance_limits, instance_size, instance_weight};
-ghost use Rattle.ep_instance.specs.Instances.{instance_of, mode_of};
+ghost use Rattle.ep_instance.specs.Instances.{plain_instance, instance_mode};
 ghost use Rattle.ep_size.specs.Causes.{IsCause};
 
 use super::cells::name_cells;
@@ -30,11 +30,11 @@ pub struct Measures {
 /// instance of an expression costs its text times its height, since each level asks anew whether a
 /// decision variable stands below it; a form over a matrix lists what is known of its scalars.
 pub fn measure(alloc: Global, instance: &Instance) -> Result<Measures, SizeError>
-    requires { IsClosed (instance_of instance.now) }
-    ensures size { IfOk result (λ m. m.size ≡ instance_size (mode_of instance.now) (instance_of instance.now)) }
-    ensures weight { IfOk result (λ m. m.weight ≡ instance_weight (mode_of instance.now) (instance_of instance.now)) }
-    ensures within { OnOk result (instance_limits (mode_of instance.now) (instance_of instance.now) ≡ []) }
-    ensures cause { IfErr result (IsCause (instance_limits (mode_of instance.now) (instance_of instance.now))) }
+    requires { IsClosed (plain_instance instance.now) }
+    ensures size { IfOk result (λ m. m.size ≡ instance_size (instance_mode instance.now) (plain_instance instance.now)) }
+    ensures weight { IfOk result (λ m. m.weight ≡ instance_weight (instance_mode instance.now) (plain_instance instance.now)) }
+    ensures within { OnOk result (instance_limits (instance_mode instance.now) (plain_instance instance.now) ≡ []) }
+    ensures cause { IfErr result (IsCause (instance_limits (instance_mode instance.now) (plain_instance instance.now))) }
 {
     let mut env = instance.env().copy()?;
     let mut totals = name_cells(alloc, &mut env, instance.finds())?;

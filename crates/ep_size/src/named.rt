@@ -12,7 +12,7 @@ ghost use Rattle.ep_tree.specs.Trees.{named};
 ghost use Rattle.ep_tree.specs.declared.values.Mode.{Mode as EachMode};
 ghost use Rattle.ep_eval.specs.Bounds.{cells_of};
 ghost use Rattle.ep_eval.specs.Scopes.{env_in, mode_in};
-ghost use Rattle.ep_size.specs.Extents.{span_of};
+ghost use Rattle.ep_size.specs.Extents.{plain_span};
 ghost use Rattle.ep_size.specs.Finishing.{Finishes};
 ghost use Rattle.ep_base.specs.RunEnds.{greatest_from, least_from};
 ghost use Rattle.ep_size.specs.Spans.{interval_of};
@@ -107,7 +107,7 @@ fn cell_reach(of: Scalar, values: &Runs) -> Ends
 /// What is known of each cell of a decision variable.
 #[tactic(auto, unfolding(ep_tree::specs::Reach::cell_span))]
 fn cell_span(domain: &NamedDomain) -> Result<Span, SizeError>
-    ensures { IfOk result (λ span. span_of span ≡ defined.cell_span domain.now.of domain.now.values) }
+    ensures { IfOk result (λ span. plain_span span ≡ defined.cell_span domain.now.of domain.now.values) }
 {
     let spread = count_of(&domain.values)?;
     let reach = cell_reach(domain.of, &domain.values);
@@ -121,7 +121,7 @@ fn cell_span(domain: &NamedDomain) -> Result<Span, SizeError>
 /// What is known of the cells of a decision variable, by what is known of each.
 fn cells_with(domain: &NamedDomain, span: Span) -> Result<Extent<'_>, SizeError>
     ensures { (mode : EachMode) → (env : names.Env) → (name : EachName) → (p : Place) → (t : EachTotals)
-        → env name ≡ Some (cells_of domain.now) → span_of span ≡ defined.cell_span domain.now.of domain.now.values
+        → env name ≡ Some (cells_of domain.now) → plain_span span ≡ defined.cell_span domain.now.of domain.now.values
         → Finishes mode env (named p name) t t result }
 {
     match domain.indices.as_slice().split_first() {

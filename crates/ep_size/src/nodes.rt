@@ -6,7 +6,7 @@ ghost use Rattle.ep_tree.specs.Reach as defined;
 ghost use Rattle.ep_tree.specs.Trees.{ExprTree};
 ghost use Rattle.ep_tree.specs.declared.values.Mode.{Mode as EachMode};
 ghost use Rattle.ep_size.specs.Extending.{Added};
-ghost use Rattle.ep_size.specs.Extents.{span_of};
+ghost use Rattle.ep_size.specs.Extents.{plain_span};
 ghost use Rattle.ep_size.specs.Finishing.{Finishes, Gives, IsNumberNode};
 ghost use Rattle.ep_size.specs.Spans.{interval_of, wide_of};
 ghost use Rattle.ep_size.specs.Totals.{MOST_TOLD, capped};
@@ -37,7 +37,7 @@ pub fn wide(reach: WideEnds) -> Result<Span, SizeError>
 
 /// A number, unless it reaches too far.
 pub fn kept_span(x: Span) -> Result<Span, SizeError>
-    ensures { Gives result (span_of x) }
+    ensures { Gives result (plain_span x) }
 {
     match near(widened(x.reach)) {
         Ok(reach) => Ok(Span {
@@ -52,7 +52,7 @@ pub fn kept_span(x: Span) -> Result<Span, SizeError>
 /// `-x`
 #[tactic(auto, unfolding(ep_tree::specs::Reach::negated_span))]
 pub fn negated_span(x: Span) -> Result<Span, SizeError>
-    ensures { Gives result (defined.negated_span (span_of x)) }
+    ensures { Gives result (defined.negated_span (plain_span x)) }
 {
     match near(negated(x.reach)) {
         Ok(reach) => Ok(Span {
@@ -67,7 +67,7 @@ pub fn negated_span(x: Span) -> Result<Span, SizeError>
 /// What is known of a product with this reach: where one factor is free of decision variables its spread is that of the other.
 #[tactic(auto, unfolding(ep_tree::specs::Reach::with_spread, ep_tree::specs::Reach::wide_span))]
 fn spread_of(reach: Ends, x: Span, y: Span) -> Span
-    ensures { span_of result ≡ (if x.decided
+    ensures { plain_span result ≡ (if x.decided
         then (if y.decided then defined.wide_span (interval_of reach) else defined.with_spread x.spread (defined.wide_span (interval_of reach)))
         else defined.with_spread y.spread (defined.wide_span (interval_of reach))) }
 {
@@ -92,7 +92,7 @@ fn spread_of(reach: Ends, x: Span, y: Span) -> Span
 /// `x * y`
 #[tactic(auto, unfolding(ep_tree::specs::Reach::product_span, ep_tree::specs::Reach::with_spread, ep_tree::specs::Reach::wide_span))]
 pub fn product_span(x: Span, y: Span) -> Result<Span, SizeError>
-    ensures { Gives result (defined.product_span (span_of x) (span_of y)) }
+    ensures { Gives result (defined.product_span (plain_span x) (plain_span y)) }
 {
     match near(product(x.reach, y.reach)) {
         Ok(reach) => Ok(spread_of(reach, x, y)),

@@ -9,7 +9,7 @@ ghost use Rattle.ep_tree.specs.Views.{value_tree};
 ghost use Rattle.ep_eval.specs.Helds.{held_value};
 ghost use Rattle.ep_size.specs.Extents.{fixed_grid, grid_of, grids_from};
 ghost use Rattle.ep_size.specs.Indices.{measured_of};
-ghost use Rattle.ep_size.specs.Lists.{IsListed};
+ghost use Rattle.ep_size.specs.Lists.{TellsExtent};
 ghost use Rattle.ep_size.specs.Slices.{ReadsGrid};
 ghost use Rattle.ep_size.specs.declared.errors.SizeError.TheVariants as error;
 
@@ -187,7 +187,7 @@ fn left_of_each<'a>(
 
 /// What is known of a matrix with a decision variable, by its cells or by its parts.
 fn as_matrix(known: Extent<'_>) -> Result<Extent<'_>, SizeError>
-    ensures listed { IfOk result (λ x. IsListed x (grid_of known.entry)) }
+    ensures listed { IfOk result (λ x. TellsExtent x (grid_of known.entry)) }
     ensures none { IfOk result (λ x. number_reach (grid_of x) ≡ []) }
     ensures memory { IfErr result (λ e. e ≡ error.Memory) }
 {
@@ -208,7 +208,7 @@ pub fn parts_apart<'a>(
     indices: &[Indexed],
 ) -> Result<Extent<'a>, SizeError>
     ensures listed { IfOk result (λ x. list_any is_decided_index (map measured_of indices.now) ≡ false
-        → IsListed x (slice_extent (map measured_of indices.now) (grid_of known.now))) }
+        → TellsExtent x (slice_extent (map measured_of indices.now) (grid_of known.now))) }
     ensures none { IfOk result (λ x. number_reach (grid_of x) ≡ []) }
     ensures memory { IfErr result (λ e. e ≡ error.Memory) }
 {

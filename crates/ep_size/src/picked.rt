@@ -4,7 +4,7 @@ ghost use Rattle.std.specs.Prelude.{◌≡◌, ◌∷◌, ◌++◌, List, IfErr,
 ghost use Rattle.ep_tree.specs.Reach.{MeasuredIndex, parts_left};
 ghost use Rattle.ep_tree.specs.Values.{filled, matrix, part_at, scalars_of};
 ghost use Rattle.ep_eval.specs.Helds.{held_value};
-ghost use Rattle.ep_size.specs.Extents.{fixed_grid, grid_of, grids_from, span_of};
+ghost use Rattle.ep_size.specs.Extents.{fixed_grid, grid_of, grids_from, plain_span};
 ghost use Rattle.ep_size.specs.Hulls.{Hulls};
 ghost use Rattle.ep_size.specs.Indices.{keeps_all, measured_of};
 ghost use Rattle.ep_size.specs.declared.errors.SizeError.TheVariants as error;
@@ -82,8 +82,8 @@ fn add_cells_left(
     indices: &[Indexed],
     spans: &mut Vec<Span>,
 ) -> Result<(), SizeError>
-    ensures added { OnOk result (map span_of spans.new.items
-        ≡ map span_of spans.old.items ++ flat_map scalars_of (parts_left (map measured_of indices.now) (filled (span_of span) domains.now))) }
+    ensures added { OnOk result (map plain_span spans.new.items
+        ≡ map plain_span spans.old.items ++ flat_map scalars_of (parts_left (map measured_of indices.now) (filled (plain_span span) domains.now))) }
     ensures memory { IfErr result (λ e. e ≡ error.Memory) }
 {
     let count = cells_left(indices, domains);
@@ -98,8 +98,8 @@ fn add_cells_left(
 
 /// The same of a value that is held. Of a number it isn't told: it has no part.
 fn add_held_left(held: &Held, indices: &[Indexed], spans: &mut Vec<Span>) -> Result<(), SizeError>
-    ensures added { OnOk result (map span_of spans.new.items
-        ≡ map span_of spans.old.items ++ flat_map scalars_of (parts_left (map measured_of indices.now) (fixed_grid (held_value held.now)))) }
+    ensures added { OnOk result (map plain_span spans.new.items
+        ≡ map plain_span spans.old.items ++ flat_map scalars_of (parts_left (map measured_of indices.now) (fixed_grid (held_value held.now)))) }
     ensures memory { IfErr result (λ e. e ≡ error.Memory) }
 {
     match held {
@@ -111,8 +111,8 @@ fn add_held_left(held: &Held, indices: &[Indexed], spans: &mut Vec<Span>) -> Res
 
 /// The same of what is known of a part that isn't known by its own parts.
 fn add_whole(known: &Extent, indices: &[Indexed], spans: &mut Vec<Span>) -> Result<(), SizeError>
-    ensures added { OnOk result (map span_of spans.new.items
-        ≡ map span_of spans.old.items ++ flat_map scalars_of (parts_left (map measured_of indices.now) (grid_of known.now))) }
+    ensures added { OnOk result (map plain_span spans.new.items
+        ≡ map plain_span spans.old.items ++ flat_map scalars_of (parts_left (map measured_of indices.now) (grid_of known.now))) }
     ensures memory { IfErr result (λ e. e ≡ error.Memory) }
 {
     match known {
@@ -133,8 +133,8 @@ fn is_parted(known: &Extent) -> bool {
 
 /// Puts the scalars that indices leave of what is known behind others.
 fn add_known(known: &Extent, indices: &[Indexed], spans: &mut Vec<Span>) -> Result<(), SizeError>
-    ensures added { OnOk result (map span_of spans.new.items
-        ≡ map span_of spans.old.items ++ flat_map scalars_of (parts_left (map measured_of indices.now) (grid_of known.now))) }
+    ensures added { OnOk result (map plain_span spans.new.items
+        ≡ map plain_span spans.old.items ++ flat_map scalars_of (parts_left (map measured_of indices.now) (grid_of known.now))) }
     ensures memory { IfErr result (λ e. e ≡ error.Memory) }
 {
     match indices.split_first() {

@@ -12,9 +12,9 @@ ghost use Rattle.ep_tree.specs.Trees.{ExprTree};
 ghost use Rattle.ep_tree.specs.Views.{kind_tree, value_tree};
 ghost use Rattle.ep_tree.specs.declared.values.Mode.{Mode as EachMode};
 ghost use Rattle.ep_eval.specs.Helds.{held_value};
-ghost use Rattle.ep_size.specs.Extents.{Known};
+ghost use Rattle.ep_size.specs.Extents.{IsKnownExtent};
 ghost use Rattle.ep_size.specs.Indices as plain;
-ghost use Rattle.ep_size.specs.Indices.{is_name, measured_of};
+ghost use Rattle.ep_size.specs.Indices.{is_named_tree, measured_of};
 ghost use Rattle.ep_size.specs.Totals.{capped};
 
 use super::cells::{cells_over, set_length};
@@ -61,7 +61,7 @@ fn held_number(held: &Held) -> Option<i64>
 
 /// An index of which this is known.
 pub fn index_with(known: &Extent) -> Indexed
-    ensures { (mode : EachMode) → (env : names.Env) → (e : ExprTree) → Known mode env e known.now
+    ensures { (mode : EachMode) → (env : names.Env) → (e : ExprTree) → IsKnownExtent mode env e known.now
         → measured_of result ≡ measured_index (holds_decision (decisions_in env) e) (defined.span_of (extent mode env e)) (number_in (evaluate mode env e)) }
 {
     let span = number_span(known);
@@ -157,9 +157,9 @@ pub fn cells_left(indices: &[Indexed], domains: &[Runs]) -> u64
 }
 
 /// Whether an expression of this kind is a name.
-#[tactic(auto, unfolding(crate::specs::Indices::is_name, ep_tree::specs::Views::kind_tree))]
+#[tactic(auto, unfolding(crate::specs::Indices::is_named_tree, ep_tree::specs::Views::kind_tree))]
 fn is_name_kind(kind: &Kind) -> bool
-    ensures { (p : Place) → result ≡ is_name (kind_tree p kind.now) }
+    ensures { (p : Place) → result ≡ is_named_tree (kind_tree p kind.now) }
 {
     match kind {
         Kind::Named(_) => true,
@@ -195,7 +195,7 @@ fn is_name_kind(kind: &Kind) -> bool
 
 /// Whether this is known of a value with a decision variable.
 fn is_decided_extent(known: &Extent) -> bool
-    ensures { (mode : EachMode) → (env : names.Env) → (e : ExprTree) → Known mode env e known.now
+    ensures { (mode : EachMode) → (env : names.Env) → (e : ExprTree) → IsKnownExtent mode env e known.now
         → result ≡ holds_decision (decisions_in env) e }
 {
     match known {
@@ -210,7 +210,7 @@ fn is_decided_extent(known: &Extent) -> bool
 
 /// Whether an expression of this kind, of which this is known, is the name of a decision variable.
 pub fn names_cells(kind: &Kind, known: &Extent) -> bool
-    ensures { (mode : EachMode) → (env : names.Env) → (p : Place) → Known mode env (kind_tree p kind.now) known.now
+    ensures { (mode : EachMode) → (env : names.Env) → (p : Place) → IsKnownExtent mode env (kind_tree p kind.now) known.now
         → result ≡ defined.is_decision_name env (kind_tree p kind.now) }
 {
     if is_name_kind(kind) {

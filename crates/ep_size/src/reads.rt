@@ -11,7 +11,7 @@ ghost use Rattle.ep_tree.specs.Types.{of_scalar};
 ghost use Rattle.ep_tree.specs.Values.{filled, scalars_of, single};
 ghost use Rattle.ep_tree.specs.declared.values.Mode.{Mode as EachMode};
 ghost use Rattle.ep_eval.specs.Helds.{held_value};
-ghost use Rattle.ep_size.specs.Extents.{Known, fixed_grid, grid_of, span_of};
+ghost use Rattle.ep_size.specs.Extents.{IsKnownExtent, fixed_grid, grid_of, plain_span};
 ghost use Rattle.ep_size.specs.Finishing.{Finishes};
 ghost use Rattle.ep_size.specs.Hulls.{Hulls};
 ghost use Rattle.ep_size.specs.Indices.{measured_of};
@@ -33,7 +33,7 @@ use std::alloc::Global;
 
 /// What indices leave of a number: nothing, where there is one.
 fn number_left(span: Span, indices: &[Indexed]) -> Hulled
-    ensures { Hulls result (flat_map scalars_of (parts_left (map measured_of indices.now) (single (span_of span)))) }
+    ensures { Hulls result (flat_map scalars_of (parts_left (map measured_of indices.now) (single (plain_span span)))) }
 {
     match indices.split_first() {
         Some(_) => Hulled::new(),
@@ -43,7 +43,7 @@ fn number_left(span: Span, indices: &[Indexed]) -> Hulled
 
 /// The cells that indices leave of those of a decision variable.
 fn some_cells(span: Span, domains: &[Runs], indices: &[Indexed]) -> Hulled
-    ensures { Hulls result (flat_map scalars_of (parts_left (map measured_of indices.now) (filled (span_of span) domains.now))) }
+    ensures { Hulls result (flat_map scalars_of (parts_left (map measured_of indices.now) (filled (plain_span span) domains.now))) }
 {
     Hulled::repeated(span, cells_left(indices, domains))
 }
@@ -133,7 +133,7 @@ pub fn read_node<'a>(
 ) -> Result<Extent<'a>, SizeError>
     ensures { (mode : EachMode) → (env : names.Env) → (p : Place) → (m : ExprTree) → (is : Indices)
         → holds_decision (decisions_in env) (read p m is) ≡ true
-        → Known mode env m known.now
+        → IsKnownExtent mode env m known.now
         → map measured_of indices.now ≡ measured_list mode env is
         → ty ≡ type_in env (read p m is)
         → of_name ≡ is_decision_name env m

@@ -7,7 +7,7 @@ ghost use Rattle.ep_tree.specs.Reach.{MeasuredIndex, parts_left};
 ghost use Rattle.ep_tree.specs.Values.{part_at, scalars_of};
 ghost use Rattle.ep_tree.specs.Views.{value_tree, values_from};
 ghost use Rattle.ep_eval.specs.Reading.{part_under};
-ghost use Rattle.ep_size.specs.Extents.{fixed_grid, span_of};
+ghost use Rattle.ep_size.specs.Extents.{fixed_grid, plain_span};
 ghost use Rattle.ep_size.specs.Hulls.{Hulls};
 ghost use Rattle.ep_size.specs.Indices.{keeps_all, measured_of};
 ghost use Rattle.ep_size.specs.declared.errors.SizeError.TheVariants as error;
@@ -88,8 +88,8 @@ fn part_left(value: &Value, index: Indexed) -> Option<&Value>
 
 /// Puts the scalars that indices leave of a value behind others.
 pub fn add_left(value: &Value, indices: &[Indexed], spans: &mut Vec<Span>) -> Result<(), SizeError>
-    ensures added { OnOk result (map span_of spans.new.items
-        ≡ map span_of spans.old.items ++ flat_map scalars_of (parts_left (map measured_of indices.now) (fixed_grid (value_tree value.now)))) }
+    ensures added { OnOk result (map plain_span spans.new.items
+        ≡ map plain_span spans.old.items ++ flat_map scalars_of (parts_left (map measured_of indices.now) (fixed_grid (value_tree value.now)))) }
     ensures memory { IfErr result (λ e. e ≡ error.Memory) }
 {
     match indices.split_first() {
@@ -116,7 +116,7 @@ pub fn add_left(value: &Value, indices: &[Indexed], spans: &mut Vec<Span>) -> Re
 
 /// Some numbers one after another.
 pub fn hull_over(spans: &[Span]) -> Hulled
-    ensures { Hulls result (map span_of spans.now) }
+    ensures { Hulls result (map plain_span spans.now) }
 {
     let mut hull = Hulled::new();
     for span in spans {

@@ -4,7 +4,7 @@ ghost use Rattle.std.specs.Prelude.{◌≡◌, length};
 ghost use Rattle.ep_tree.specs.Values.{filled, rows_of};
 ghost use Rattle.ep_tree.specs.Views.{value_tree};
 ghost use Rattle.ep_eval.specs.Helds.{held_value};
-ghost use Rattle.ep_size.specs.Extents.{fixed_grid, grid_of, span_of};
+ghost use Rattle.ep_size.specs.Extents.{fixed_grid, grid_of, plain_span};
 ghost use Rattle.ep_size.specs.Totals.{capped};
 
 use super::cells::set_length;
@@ -37,7 +37,7 @@ fn held_rows(held: &Held) -> u64
 
 /// How many rows the cells of a decision variable have.
 fn cell_rows(span: Span, indices: &[Runs]) -> u64
-    ensures { result ≡ capped (length (rows_of (filled (span_of span) indices.now))) }
+    ensures { result ≡ capped (length (rows_of (filled (plain_span span) indices.now))) }
 {
     match indices.split_first() {
         Some((first, _)) => set_length(first),

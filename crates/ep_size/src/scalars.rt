@@ -4,7 +4,7 @@ ghost use Rattle.std.specs.Prelude.{◌≡◌, ◌++◌, IfErr, IfOk, OnOk, map}
 ghost use Rattle.ep_tree.specs.Values.{filled, scalars_of};
 ghost use Rattle.ep_tree.specs.Views.{value_tree};
 ghost use Rattle.ep_eval.specs.Helds.{held_value};
-ghost use Rattle.ep_size.specs.Extents.{fixed_grid, grid_of, span_of};
+ghost use Rattle.ep_size.specs.Extents.{fixed_grid, grid_of, plain_span};
 ghost use Rattle.ep_size.specs.declared.errors.SizeError.TheVariants as error;
 
 use super::cells::cells_over;
@@ -18,7 +18,7 @@ use std::alloc::Global;
 
 /// Puts the scalars of a value behind others.
 pub fn add_value(value: &Value, spans: &mut Vec<Span>) -> Result<(), SizeError>
-    ensures added { OnOk result (map span_of spans.new.items ≡ map span_of spans.old.items ++ scalars_of (fixed_grid (value_tree value.now))) }
+    ensures added { OnOk result (map plain_span spans.new.items ≡ map plain_span spans.old.items ++ scalars_of (fixed_grid (value_tree value.now))) }
     ensures memory { IfErr result (λ e. e ≡ error.Memory) }
 {
     match value {
@@ -37,7 +37,7 @@ pub fn add_value(value: &Value, spans: &mut Vec<Span>) -> Result<(), SizeError>
 
 /// The same of a value that is held.
 fn add_held(held: &Held, spans: &mut Vec<Span>) -> Result<(), SizeError>
-    ensures added { OnOk result (map span_of spans.new.items ≡ map span_of spans.old.items ++ scalars_of (fixed_grid (held_value held.now))) }
+    ensures added { OnOk result (map plain_span spans.new.items ≡ map plain_span spans.old.items ++ scalars_of (fixed_grid (held_value held.now))) }
     ensures memory { IfErr result (λ e. e ≡ error.Memory) }
 {
     match held {
@@ -52,7 +52,7 @@ fn add_held(held: &Held, spans: &mut Vec<Span>) -> Result<(), SizeError>
 
 /// The same of the cells of a decision variable. An instance has fewer of them than there may be told.
 fn add_cells(span: Span, indices: &[Runs], spans: &mut Vec<Span>) -> Result<(), SizeError>
-    ensures added { OnOk result (map span_of spans.new.items ≡ map span_of spans.old.items ++ scalars_of (filled (span_of span) indices.now)) }
+    ensures added { OnOk result (map plain_span spans.new.items ≡ map plain_span spans.old.items ++ scalars_of (filled (plain_span span) indices.now)) }
     ensures memory { IfErr result (λ e. e ≡ error.Memory) }
 {
     let count = cells_over(indices);
@@ -67,7 +67,7 @@ fn add_cells(span: Span, indices: &[Runs], spans: &mut Vec<Span>) -> Result<(), 
 
 /// The same of what is known of a number or of a matrix.
 pub fn add_scalars(extent: &Extent, spans: &mut Vec<Span>) -> Result<(), SizeError>
-    ensures added { OnOk result (map span_of spans.new.items ≡ map span_of spans.old.items ++ scalars_of (grid_of extent.now)) }
+    ensures added { OnOk result (map plain_span spans.new.items ≡ map plain_span spans.old.items ++ scalars_of (grid_of extent.now)) }
     ensures memory { IfErr result (λ e. e ≡ error.Memory) }
 {
     match extent {
@@ -93,7 +93,7 @@ pub fn add_scalars(extent: &Extent, spans: &mut Vec<Span>) -> Result<(), SizeErr
 
 /// What is known of the scalars of a number or of a matrix. Linear in them.
 pub fn scalars_of(alloc: Global, extent: &Extent) -> Result<Vec<Span>, SizeError>
-    ensures scalars { IfOk result (λ spans. map span_of spans.items ≡ scalars_of (grid_of extent.now)) }
+    ensures scalars { IfOk result (λ spans. map plain_span spans.items ≡ scalars_of (grid_of extent.now)) }
     ensures memory { IfErr result (λ e. e ≡ error.Memory) }
 {
     let mut spans = Vec::new(alloc);

@@ -11,11 +11,11 @@ ghost use Rattle.ep_tree.specs.Trees.{ExprTree, Indices, read};
 ghost use Rattle.ep_tree.specs.Types.{is_matrix};
 ghost use Rattle.ep_tree.specs.Values.{Index, all_defined, any_index, filled, read_value};
 ghost use Rattle.ep_tree.specs.declared.values.Mode.{Mode as EachMode};
-ghost use Rattle.ep_size.specs.Extents.{Known, grid_of, span_of};
+ghost use Rattle.ep_size.specs.Extents.{IsKnownExtent, grid_of, plain_span};
 ghost use Rattle.ep_size.specs.Finishing.{Finishes};
 ghost use Rattle.ep_size.specs.Indices.{measured_of};
-ghost use Rattle.ep_size.specs.Lists.{IsListed};
-ghost use Rattle.ep_size.specs.Slices.{IsPart, Leaves, is_told, names_one};
+ghost use Rattle.ep_size.specs.Lists.{TellsExtent};
+ghost use Rattle.ep_size.specs.Slices.{IsPart, LeavesDomains, is_told, names_one};
 ghost use Rattle.ep_size.specs.declared.errors.SizeError.TheVariants as error;
 ghost use Rattle.ep_size.specs.declared.totals.Totals.{Totals as EachTotals};
 
@@ -31,7 +31,7 @@ use std::alloc::Global;
 
 /// Whether each index is `..`, and there are no more than domains.
 fn keeps_each(indices: &[Indexed], domains: &[Runs]) -> bool
-    ensures { result ≡ true → Leaves (map measured_of indices.now) domains.now domains.now }
+    ensures { result ≡ true → LeavesDomains (map measured_of indices.now) domains.now domains.now }
 {
     match indices.split_first() {
         Some((index, rest)) => match domains.split_first() {
@@ -68,7 +68,7 @@ fn domains_with<'a>(
     left: Option<&'a [Runs]>,
 ) -> Option<&'a [Runs]>
     ensures { (inner : List (List ℤ)) → (is : List MeasuredIndex) → domains.now ≡ domain.now ∷ inner
-        → IfSome left.entry (λ l. Leaves is inner l.now) → IfSome result (λ l. Leaves (measured_of index ∷ is) (domain.now ∷ inner) l.now) }
+        → IfSome left.entry (λ l. LeavesDomains is inner l.now) → IfSome result (λ l. LeavesDomains (measured_of index ∷ is) (domain.now ∷ inner) l.now) }
 {
     match index {
         Indexed::Stated(number) => match number {
@@ -90,7 +90,7 @@ fn domains_with<'a>(
 
 /// The index domains that are left, where these stand one after another: the last of them, or a single one.
 fn domains_left<'a>(indices: &[Indexed], domains: &'a [Runs]) -> Option<&'a [Runs]>
-    ensures { IfSome result (λ left. Leaves (map measured_of indices.now) domains.now left.now) }
+    ensures { IfSome result (λ left. LeavesDomains (map measured_of indices.now) domains.now left.now) }
 {
     if keeps_each(indices, domains) {
         return Some(domains);
@@ -172,7 +172,7 @@ pub fn cells_part<'a>(
     indices: &[Indexed],
 ) -> Result<Option<Extent<'a>>, SizeError>
     ensures read { IfOk result (λ part. (js : List Index) → all_defined (map plain_index (map measured_of indices.now)) ≡ Some js
-        → IsPart part (read_value js (filled (span_of span) domains.now))) }
+        → IsPart part (read_value js (filled (plain_span span) domains.now))) }
     ensures memory { IfErr result (λ e. e ≡ error.Memory) }
 {
     if keeps_each(indices, domains) {
@@ -205,7 +205,7 @@ fn cells_each<'a>(
     rest: &[Indexed],
 ) -> Result<Option<Extent<'a>>, SizeError>
     ensures read { IfOk result (λ part. (js : List Index) → all_defined (map plain_index (map measured_of rest.now)) ≡ Some js
-        → IsPart part (read_value (any_index ∷ js) (filled (span_of span) (domain.now ∷ inner.now)))) }
+        → IsPart part (read_value (any_index ∷ js) (filled (plain_span span) (domain.now ∷ inner.now)))) }
     ensures memory { IfErr result (λ e. e ≡ error.Memory) }
 {
     let mut numbers = Vec::new(alloc);
@@ -225,7 +225,7 @@ fn cells_each<'a>(
 
 /// A matrix without parts.
 pub fn no_parts<'a>(alloc: Global) -> Extent<'a>
-    ensures { IsListed result no_extent }
+    ensures { TellsExtent result no_extent }
 {
     Extent::Matrix(Vec::new(alloc), Vec::new(alloc))
 }
@@ -250,7 +250,7 @@ fn cells_apart<'a>(
     indices: &[Indexed],
 ) -> Result<Extent<'a>, SizeError>
     ensures listed { IfOk result (λ x. list_any is_decided_index (map measured_of indices.now) ≡ false
-        → IsListed x (slice_extent (map measured_of indices.now) (filled (span_of span) domains.now))) }
+        → TellsExtent x (slice_extent (map measured_of indices.now) (filled (plain_span span) domains.now))) }
     ensures none { IfOk result (λ x. number_reach (grid_of x) ≡ []) }
     ensures memory { IfErr result (λ e. e ≡ error.Memory) }
 {
@@ -273,7 +273,7 @@ pub fn slice_node<'a>(
 ) -> Result<Extent<'a>, SizeError>
     ensures { (mode : EachMode) → (env : names.Env) → (p : Place) → (m : ExprTree) → (is : Indices) → (t : EachTotals)
         → holds_decision (decisions_in env) (read p m is) ≡ true
-        → Known mode env m known.now
+        → IsKnownExtent mode env m known.now
         → map measured_of indices.now ≡ measured_list mode env is
         → ty ≡ type_in env (read p m is)
         → Finishes mode env (read p m is) t t result }

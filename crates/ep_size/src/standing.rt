@@ -10,7 +10,7 @@ ghost use Rattle.ep_eval.specs.Literals.{index_at};
 ghost use Rattle.ep_eval.specs.Ranges.{alone};
 ghost use Rattle.ep_eval.specs.Scopes.{env_in, with_all};
 ghost use Rattle.ep_size.specs.Free as free;
-ghost use Rattle.ep_size.specs.Standings.{both, standing_of, standing_of_all, standing_of_indices, standing_of_terms, without};
+ghost use Rattle.ep_size.specs.Standings.{both, standing_of, standing_of_all, standing_of_indices, standing_of_terms, hidden_without};
 
 use ep_base::Name;
 use ep_eval::{Around, Scope};
@@ -107,7 +107,7 @@ fn is_decision(scope: Scope<'_, '_>, name: &Name) -> bool
 
 /// Whether a name that isn't hidden stands for a decision variable.
 fn is_shown(scope: Scope<'_, '_>, hidden: &Hidden, name: &Name) -> bool
-    ensures { result ≡ without (decisions_in (env_in scope.entry)) hidden.now name.now }
+    ensures { result ≡ hidden_without (decisions_in (env_in scope.entry)) hidden.now name.now }
 {
     match hidden {
         Hidden::Nothing => is_decision(scope, name),
@@ -128,8 +128,8 @@ fn is_shown(scope: Scope<'_, '_>, hidden: &Hidden, name: &Name) -> bool
 
 /// What a name alone says.
 fn of_name(scope: Scope<'_, '_>, hidden: &Hidden, name: &Name) -> Standing
-    ensures decided { result.decided ≡ without (decisions_in (env_in scope.entry)) hidden.now name.now }
-    ensures free { result.free ≡ not (without (decisions_in (env_in scope.entry)) hidden.now name.now) }
+    ensures decided { result.decided ≡ hidden_without (decisions_in (env_in scope.entry)) hidden.now name.now }
+    ensures free { result.free ≡ not (hidden_without (decisions_in (env_in scope.entry)) hidden.now name.now) }
 {
     let decided = is_shown(scope, hidden, name);
     Standing {
@@ -141,7 +141,7 @@ fn of_name(scope: Scope<'_, '_>, hidden: &Hidden, name: &Name) -> Standing
 /// Where they stand in an expression.
 #[cycle(looking)]
 pub fn standing_in(scope: Scope<'_, '_>, hidden: &Hidden, e: &Expr) -> Standing
-    ensures { result ≡ standing_of (without (decisions_in (env_in scope.entry)) hidden.now) (expr_tree e.now) }
+    ensures { result ≡ standing_of (hidden_without (decisions_in (env_in scope.entry)) hidden.now) (expr_tree e.now) }
 {
     match &e.kind {
         Kind::Number(_) => FREE,
@@ -264,7 +264,7 @@ pub fn are_both(one: bool, other: bool) -> bool
 /// Where they stand in some expressions.
 #[cycle(looking)]
 fn of_all(scope: Scope<'_, '_>, hidden: &Hidden, parts: &[Expr]) -> Standing
-    ensures { result ≡ standing_of_all (without (decisions_in (env_in scope.entry)) hidden.now) (expr_trees parts.now) }
+    ensures { result ≡ standing_of_all (hidden_without (decisions_in (env_in scope.entry)) hidden.now) (expr_trees parts.now) }
 {
     let mut all = FREE;
     for part in parts {
@@ -276,7 +276,7 @@ fn of_all(scope: Scope<'_, '_>, hidden: &Hidden, parts: &[Expr]) -> Standing
 /// Where they stand in the terms of a chain.
 #[cycle(looking)]
 fn of_terms(scope: Scope<'_, '_>, hidden: &Hidden, terms: &[(bool, Expr)]) -> Standing
-    ensures { result ≡ standing_of_terms (without (decisions_in (env_in scope.entry)) hidden.now) (terms_of terms.now) }
+    ensures { result ≡ standing_of_terms (hidden_without (decisions_in (env_in scope.entry)) hidden.now) (terms_of terms.now) }
 {
     let mut all = FREE;
     for term in terms {
@@ -288,7 +288,7 @@ fn of_terms(scope: Scope<'_, '_>, hidden: &Hidden, terms: &[(bool, Expr)]) -> St
 /// Where they stand in the indices of a read.
 #[cycle(looking)]
 fn of_indices(scope: Scope<'_, '_>, hidden: &Hidden, indices: &[Option<Expr>]) -> Standing
-    ensures { result ≡ standing_of_indices (without (decisions_in (env_in scope.entry)) hidden.now) (indices_of indices.now) }
+    ensures { result ≡ standing_of_indices (hidden_without (decisions_in (env_in scope.entry)) hidden.now) (indices_of indices.now) }
 {
     let mut all = FREE;
     for index in indices {
@@ -303,7 +303,7 @@ fn of_indices(scope: Scope<'_, '_>, hidden: &Hidden, indices: &[Option<Expr>]) -
 /// Whether no decision variable stands in a domain.
 #[cycle(looking)]
 pub fn is_free_domain(scope: Scope<'_, '_>, hidden: &Hidden, d: &Domain) -> bool
-    ensures { result ≡ free.is_free_domain (without (decisions_in (env_in scope.entry)) hidden.now) (domain_tree d.now) }
+    ensures { result ≡ free.is_free_domain (hidden_without (decisions_in (env_in scope.entry)) hidden.now) (domain_tree d.now) }
 {
     match &d.kind {
         DomainKind::Bool => true,
@@ -325,7 +325,7 @@ pub fn is_free_domain(scope: Scope<'_, '_>, hidden: &Hidden, d: &Domain) -> bool
 /// Whether none stands at an end of a range.
 #[cycle(looking)]
 fn is_free_end(scope: Scope<'_, '_>, hidden: &Hidden, end: &Option<Expr>) -> bool
-    ensures { result ≡ free.is_free_end (without (decisions_in (env_in scope.entry)) hidden.now) (end_of end.now) }
+    ensures { result ≡ free.is_free_end (hidden_without (decisions_in (env_in scope.entry)) hidden.now) (end_of end.now) }
 {
     match end {
         Some(e) => standing_in(scope, hidden, e).free,
@@ -336,7 +336,7 @@ fn is_free_end(scope: Scope<'_, '_>, hidden: &Hidden, end: &Option<Expr>) -> boo
 /// Whether none stands in a range.
 #[cycle(looking)]
 fn is_free_range(scope: Scope<'_, '_>, hidden: &Hidden, range: &Range) -> bool
-    ensures { result ≡ free.are_free_ranges (without (decisions_in (env_in scope.entry)) hidden.now) (alone range.now) }
+    ensures { result ≡ free.are_free_ranges (hidden_without (decisions_in (env_in scope.entry)) hidden.now) (alone range.now) }
 {
     match range {
         Range::One(e) => standing_in(scope, hidden, e).free,
@@ -350,7 +350,7 @@ fn is_free_range(scope: Scope<'_, '_>, hidden: &Hidden, range: &Range) -> bool
 /// Whether none stands in some ranges.
 #[cycle(looking)]
 fn are_free_ranges(scope: Scope<'_, '_>, hidden: &Hidden, ranges: &[Range]) -> bool
-    ensures { result ≡ free.are_free_ranges (without (decisions_in (env_in scope.entry)) hidden.now) (ranges_of ranges.now) }
+    ensures { result ≡ free.are_free_ranges (hidden_without (decisions_in (env_in scope.entry)) hidden.now) (ranges_of ranges.now) }
 {
     let mut all = true;
     for range in ranges {
@@ -362,7 +362,7 @@ fn are_free_ranges(scope: Scope<'_, '_>, hidden: &Hidden, ranges: &[Range]) -> b
 /// Whether none stands in some domains.
 #[cycle(looking)]
 fn are_free_domains(scope: Scope<'_, '_>, hidden: &Hidden, domains: &[Domain]) -> bool
-    ensures { result ≡ free.are_free_domains (without (decisions_in (env_in scope.entry)) hidden.now) (domains_of domains.now) }
+    ensures { result ≡ free.are_free_domains (hidden_without (decisions_in (env_in scope.entry)) hidden.now) (domains_of domains.now) }
 {
     let mut all = true;
     for domain in domains {
@@ -374,7 +374,7 @@ fn are_free_domains(scope: Scope<'_, '_>, hidden: &Hidden, domains: &[Domain]) -
 /// Whether none stands in the domains of some generators.
 #[cycle(looking)]
 fn are_free_generators(scope: Scope<'_, '_>, hidden: &Hidden, generators: &[Generator]) -> bool
-    ensures { result ≡ free.are_free_generators (without (decisions_in (env_in scope.entry)) hidden.now) (views.generators_of generators.now) }
+    ensures { result ≡ free.are_free_generators (hidden_without (decisions_in (env_in scope.entry)) hidden.now) (views.generators_of generators.now) }
 {
     let mut all = true;
     for generator in generators {
@@ -386,7 +386,7 @@ fn are_free_generators(scope: Scope<'_, '_>, hidden: &Hidden, generators: &[Gene
 /// Whether none stands in the domain of a list's indices.
 #[cycle(looking)]
 fn is_free_index(scope: Scope<'_, '_>, hidden: &Hidden, domain: &Option<Box<Domain>>) -> bool
-    ensures { result ≡ free.is_free_index (without (decisions_in (env_in scope.entry)) hidden.now) (index_at domain.now) }
+    ensures { result ≡ free.is_free_index (hidden_without (decisions_in (env_in scope.entry)) hidden.now) (index_at domain.now) }
 {
     match domain {
         Some(own) => is_free_domain(scope, hidden, own),

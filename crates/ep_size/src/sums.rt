@@ -7,7 +7,7 @@ ghost use Rattle.ep_tree.specs.Measures as measures;
 ghost use Rattle.ep_tree.specs.Reach as defined;
 ghost use Rattle.ep_tree.specs.Trees.{ExprTree};
 ghost use Rattle.ep_tree.specs.declared.values.Mode.{Mode as EachMode};
-ghost use Rattle.ep_size.specs.Extents.{span_of};
+ghost use Rattle.ep_size.specs.Extents.{plain_span};
 ghost use Rattle.ep_size.specs.Finishing.{Finishes, Gives, IsNumberNode};
 ghost use Rattle.ep_size.specs.Spans.{wide_of};
 ghost use Rattle.ep_size.specs.Sums.{Sums};
@@ -70,7 +70,7 @@ impl Summed {
     /// The same with one number more.
     pub fn add(&mut self, span: Span)
         ensures { (spans : List defined.Span) → length spans + 1 < 2 ^ 64 → Sums self.old spans
-            → Sums self.new (spans ++ span_of span ∷ []) }
+            → Sums self.new (spans ++ plain_span span ∷ []) }
     {
         self.low = self.low.saturating_add(i128::from(span.reach.low));
         self.high = self.high.saturating_add(i128::from(span.reach.high));
@@ -83,7 +83,7 @@ impl Summed {
     /// The same with the opposite of a number more.
     fn subtract(&mut self, span: Span)
         ensures { (spans : List defined.Span) → length spans + 1 < 2 ^ 64 → Sums self.old spans
-            → Sums self.new (spans ++ defined.negated_span (span_of span) ∷ []) }
+            → Sums self.new (spans ++ defined.negated_span (plain_span span) ∷ []) }
     {
         self.low = self.low.saturating_sub(i128::from(span.reach.high));
         self.high = self.high.saturating_sub(i128::from(span.reach.low));
@@ -96,7 +96,7 @@ impl Summed {
     /// The same with one term of a chain more, which is added or subtracted.
     pub fn add_signed(&mut self, plus: bool, span: Span)
         ensures { (spans : List defined.Span) → length spans + 1 < 2 ^ 64 → Sums self.old spans
-            → Sums self.new (spans ++ defined.signed_span plus (span_of span) ∷ []) }
+            → Sums self.new (spans ++ defined.signed_span plus (plain_span span) ∷ []) }
     {
         if plus {
             self.add(span);
@@ -139,7 +139,7 @@ pub fn summed_node<'a>(totals: &mut Totals, sum: Summed) -> Result<Extent<'a>, S
 
 /// The sum of some numbers.
 pub fn sum_all(spans: &[Span]) -> Summed
-    ensures { Sums result (map span_of spans.now) }
+    ensures { Sums result (map plain_span spans.now) }
 {
     let mut sum = Summed::new();
     for span in spans {

@@ -4,7 +4,7 @@ ghost use Rattle.std.specs.Prelude.{◌≡◌, ◌≤◌, ◌∷◌, ◌++◌, �
 ghost use Rattle.ep_base.specs.Intervals as defined_intervals;
 ghost use Rattle.ep_tree.specs.Measures as measures;
 ghost use Rattle.ep_tree.specs.Reach as defined;
-ghost use Rattle.ep_size.specs.Extents.{span_of};
+ghost use Rattle.ep_size.specs.Extents.{plain_span};
 ghost use Rattle.ep_size.specs.Spans.{interval_of};
 ghost use Rattle.ep_size.specs.Totals.{MOST_TOLD, capped};
 ghost use Rattle.ep_size.specs.Widths.{Widens};
@@ -33,7 +33,7 @@ impl Widths {
 
     /// The same with one number more.
     pub fn add(&mut self, span: Span)
-        ensures { (spans : List defined.Span) → Widens self.old spans → Widens self.new (spans ++ span_of span ∷ []) }
+        ensures { (spans : List defined.Span) → Widens self.old spans → Widens self.new (spans ++ plain_span span ∷ []) }
     {
         self.count = told(told(self.count) + 1);
         self.widths = told(told(self.widths) + told_count(width(span.reach)));
@@ -42,7 +42,7 @@ impl Widths {
 
 /// How many some numbers are, and their widths together.
 pub fn widths_of(spans: &[Span]) -> Widths
-    ensures { Widens result (map span_of spans.now) }
+    ensures { Widens result (map plain_span spans.now) }
 {
     let mut all = Widths::new();
     for span in spans {

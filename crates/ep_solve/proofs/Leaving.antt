@@ -10,7 +10,7 @@ use Rattle.cnf_core.specs.Literal.{Literal}
 use Rattle.enc_var.specs.Layouts.{GivesCells, decoded_cells, decoded_values}
 use Rattle.enc_var.specs.Notes.{cell_notes}
 use Rattle.ep_answer.proofs.Posing.{map_meant}
-use Rattle.ep_answer.specs.Answered.{IsBetterThan, IsBudgetSpent, IsStillWanted as IsCellWanted}
+use Rattle.ep_answer.specs.Answered.{IsBetterThan, IsBudgetSpent, IsNumberWanted as IsCellWanted}
 use Rattle.ep_answer.specs.Problems.{IsAllowed, MapMeans, ProblemState, base_clauses}
 use Rattle.ep_flat.specs.Flats.{MapsCells, objective_number}
 use Rattle.ep_ground.specs.declared.cells.Cell.{Cell}

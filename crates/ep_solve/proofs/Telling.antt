@@ -13,14 +13,14 @@ use Rattle.ep_answer.specs.Answered.{AllTell, LiteralsTell}
 use Rattle.ep_answer.specs.Problems.{MapMeans}
 use Rattle.ep_flat.specs.Flats.{MapState, MapsCells}
 use Rattle.ep_ground.specs.declared.cells.Cell.{Cell}
-use Rattle.enc_var.specs.Decoding.{VariableLiterals, note_of}
+use Rattle.enc_var.specs.Decoding.{VariableLiterals, literal_of_note}
 use Rattle.enc_var.specs.Layouts.{decoded_cells, literals_at}
 use Rattle.enc_var.specs.Notes.{cell_notes, cell_text, notes_of_cell}
 use Rattle.ep_solve.specs.Logged.{TellNumber, TellNumbers, named_values, noted_value}
 
 -- ---- one cell
 
-values-of : (e : VariableLiterals) (cell : List ℕ) (values : List ℤ) → map (λ (n : Note). n.value) (map (λ v. record { cell = cell; value = v; lit = note_of e v }) values) ≡ values
+values-of : (e : VariableLiterals) (cell : List ℕ) (values : List ℤ) → map (λ (n : Note). n.value) (map (λ v. record { cell = cell; value = v; lit = literal_of_note e v }) values) ≡ values
 values-of e cell [] = refl
 values-of e cell (v ∷ values) = ap (λ vs. v ∷ vs) (values-of e cell values)
 
@@ -40,7 +40,7 @@ cell-told : (s : ℕ → Bool) (layout : List VariableLiterals) (one : Cell) (x 
 unfolding notes_of_cell
 cell-told s layout one x number same tell =
     let e : VariableLiterals = literals_at layout x in
-    let note : ℤ → Note = λ v. record { cell = cell_text one; value = v; lit = note_of e v } in
+    let note : ℤ → Note = λ v. record { cell = cell_text one; value = v; lit = literal_of_note e v } in
     let Named : Note → Type 0 = λ n. n.cell ≡ cell_text one in
     let Told : Note → Type 0 = λ n. IsTrueUnder s n.lit ↔ (n.value ≡ number) in
     record {
@@ -55,7 +55,7 @@ cell-tells : (s : ℕ → Bool) (layout : List VariableLiterals) (one : Cell) (x
     → LiteralsTell s (literals_at layout x) number
 unfolding notes_of_cell
 cell-tells s layout one x number same told =
-    let note : ℤ → Note = λ v. record { cell = cell_text one; value = v; lit = note_of (literals_at layout x) v } in
+    let note : ℤ → Note = λ v. record { cell = cell_text one; value = v; lit = literal_of_note (literals_at layout x) v } in
     let Told : Note → Type 0 = λ n. IsTrueUnder s n.lit ↔ (n.value ≡ number) in
     record {
       among = subst (λ vs. Contains vs number) (sym same) told.among;
@@ -65,7 +65,7 @@ cell-tells s layout one x number same told =
 long-notes : (layout : List VariableLiterals) (one : Cell) (x : ℕ) → length (notes_of_cell layout one x) ≡ length one.values
 unfolding notes_of_cell
 long-notes layout one x =
-    let note : ℤ → Note = λ v. record { cell = cell_text one; value = v; lit = note_of (literals_at layout x) v } in
+    let note : ℤ → Note = λ v. record { cell = cell_text one; value = v; lit = literal_of_note (literals_at layout x) v } in
     length-map one.values note
 
 -- ---- what notes name
@@ -74,7 +74,7 @@ map-append : {A B : Type 0} (f : A → B) (xs ys : List A) → map f (xs ++ ys) 
 map-append f [] ys = refl
 map-append f (x ∷ xs) ys = ap (λ zs. f x ∷ zs) (map-append f xs ys)
 
-cell-named : (e : VariableLiterals) (cell : List ℕ) (values : List ℤ) → map noted_value (map (λ v. record { cell = cell; value = v; lit = note_of e v }) values) ≡ map {B = List ℕ × ℤ} (λ v. (cell, v)) values
+cell-named : (e : VariableLiterals) (cell : List ℕ) (values : List ℤ) → map noted_value (map (λ v. record { cell = cell; value = v; lit = literal_of_note e v }) values) ≡ map {B = List ℕ × ℤ} (λ v. (cell, v)) values
 cell-named e cell [] = refl
 cell-named e cell (v ∷ values) = let first : List ℕ × ℤ = (cell, v) in ap (λ vs. first ∷ vs) (cell-named e cell values)
 
@@ -85,7 +85,7 @@ notes-named layout [] [] same = refl
 notes-named layout [] (x ∷ xs) same = refl
 notes-named layout (one ∷ cells) [] same = absurd (omega (arith, same))
 notes-named layout (one ∷ cells) (x ∷ xs) same =
-    let note : ℤ → Note = λ v. record { cell = cell_text one; value = v; lit = note_of (literals_at layout x) v } in
+    let note : ℤ → Note = λ v. record { cell = cell_text one; value = v; lit = literal_of_note (literals_at layout x) v } in
     let own : List (List ℕ × ℤ) = map (λ v. (cell_text one, v)) one.values in
     map-append noted_value (map note one.values) (cell_notes layout cells xs)
     ∙ ap (λ named. named ++ map noted_value (cell_notes layout cells xs)) (cell-named (literals_at layout x) (cell_text one) one.values)

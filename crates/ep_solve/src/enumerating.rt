@@ -4,7 +4,7 @@ ghost use Rattle.std.specs.Prelude.{◌≡◌, [], map, IfOk};
 ghost use Rattle.std.specs.List.{All};
 ghost use Rattle.ep_answer.specs.AnswerViews.{plain_end};
 ghost use Rattle.ep_base.specs.Reads.{IsWithinNumbers};
-ghost use Rattle.ep_instance.specs.Instances.{find_of, instance_of, mode_of};
+ghost use Rattle.ep_instance.specs.Instances.{find_of, plain_instance, instance_mode};
 ghost use Rattle.ep_print.specs.Listings.{end_tree, listing_tree};
 ghost use Rattle.ep_solve.specs.Listed.{Lists};
 ghost use Rattle.ep_solve.specs.Reading.{end_from, listing_from};
@@ -33,12 +33,12 @@ pub fn enumerate(
     budget: u64,
     log: &mut Log,
 ) -> Result<Listing, Memory>
-    requires closed { IsClosed (instance_of instance.now) }
-    requires within { instance_limits (mode_of instance.now) (instance_of instance.now) ≡ [] }
-    requires values { All (λ f. All IsWithinNumbers f.values) (instance_of instance.now).finds }
+    requires closed { IsClosed (plain_instance instance.now) }
+    requires within { instance_limits (instance_mode instance.now) (plain_instance instance.now) ≡ [] }
+    requires values { All (λ f. All IsWithinNumbers f.values) (plain_instance instance.now).finds }
     requires empty { log.old ≡ empty_log }
     ensures lists { IfOk result (λ listing.
-        Lists (mode_of instance.now) (instance_of instance.now) budget most log.new (listing_tree listing)) }
+        Lists (instance_mode instance.now) (plain_instance instance.now) budget most log.new (listing_tree listing)) }
     ensures sound { IsSound log.new.events }
 {
     let encoded = formula_for(alloc, instance)?;

@@ -6,7 +6,7 @@ ghost use Rattle.ep_answer.specs.Answered.{AnswersCells};
 ghost use Rattle.ep_answer.specs.AnswerViews.{plain_answer, plain_problem};
 ghost use Rattle.ep_answer.specs.Problems.{CanSearch};
 ghost use Rattle.ep_base.specs.Reads.{IsWithinNumbers};
-ghost use Rattle.ep_instance.specs.Instances.{find_of, instance_of, mode_of};
+ghost use Rattle.ep_instance.specs.Instances.{find_of, plain_instance, instance_mode};
 ghost use Rattle.ep_print.specs.Answers.{HasTypedValues, answer_tree};
 ghost use Rattle.ep_solve.specs.Reading.{answer_from};
 ghost use Rattle.ep_solve.specs.Logged.{IsLogged};
@@ -36,15 +36,15 @@ pub fn solve(
     budget: u64,
     log: &mut Log,
 ) -> Result<Answer, Memory>
-    requires closed { IsClosed (instance_of instance.now) }
-    requires within { instance_limits (mode_of instance.now) (instance_of instance.now) ≡ [] }
-    requires values { All (λ f. All IsWithinNumbers f.values) (instance_of instance.now).finds }
+    requires closed { IsClosed (plain_instance instance.now) }
+    requires within { instance_limits (instance_mode instance.now) (plain_instance instance.now) ≡ [] }
+    requires values { All (λ f. All IsWithinNumbers f.values) (plain_instance instance.now).finds }
     requires empty { log.old ≡ empty_log }
     ensures right { IfOk result (λ answer.
-        IsRight (mode_of instance.now) (instance_of instance.now) budget (answer_tree answer)) }
+        IsRight (instance_mode instance.now) (plain_instance instance.now) budget (answer_tree answer)) }
     ensures typed { IfOk result (λ answer. HasTypedValues (answer_tree answer)) }
     ensures logged { IfOk result (λ answer.
-        IsLogged (mode_of instance.now) (instance_of instance.now) budget log.new (answer_tree answer)) }
+        IsLogged (instance_mode instance.now) (plain_instance instance.now) budget log.new (answer_tree answer)) }
     ensures sound { IsSound log.new.events }
 {
     let encoded = formula_for(alloc, instance)?;

@@ -347,7 +347,7 @@ matrices_are s k (t ∷ ts) (v ∷ vs) c d h = (
       (λ e. and_right (is_matrix_of_bool t) (list_all is_matrix_of_bool ts) (d e)) h.1,
 )
 
--- lists without parts as parts of a matrix
+-- lists without parts of a matrix
 empties_are : (ts : List ValueType) (vs : List ValueTree) → stated_dimensions ts ≡ None → list_all is_matrix ts ≡ true → AllOf ts vs
     → AreOfDims Scalar.Bool 1 (as_parts vs)
 unfolding as_parts stated_dimensions is_matrix is_integer listed_values

@@ -3,7 +3,7 @@ use Rattle.std.specs.Prelude.{◌≡◌, ℕ, [], ◌++◌, length, take, vec_le
 use Rattle.std.proofs.Common.{arith, ap, sym, ◌∙◌, append_assoc}
 use Rattle.std.proofs.lemmas.List.{append-nil, take_at}
 use Rattle.ep_types.specs.Hiding.{Hides}
-use Rattle.ep_types.specs.Meanings.{IsSame, behind_names, context_of, known_by}
+use Rattle.ep_types.specs.Meanings.{IsSame, behind_names, names_context, known_by}
 use Rattle.ep_types.specs.declared.names.Names.{Names}
 
 pub hides_none : (old new : Names) → IsSame old new → Hides old new
@@ -18,7 +18,7 @@ hides_after old mid new a b = record {
 
 -- names stand for what they did once the others are let go
 pub shown : (old mid new : Names) (depth : ℕ) → Hides old mid → depth ≡ length old.inner.items → new.inner.items ≡ take depth mid.inner.items → new.declared ≡ mid.declared → IsSame old new
-unfolding context_of
+unfolding names_context
 shown old mid new depth h d i t =
     let inner : new.inner.items ≡ old.inner.items = i ∙ ap (take depth) h.inner ∙ take_at old.inner.items h.extra depth (sym d) in
     let same : new.declared ≡ old.declared = t ∙ h.declared in

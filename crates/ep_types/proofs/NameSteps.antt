@@ -13,7 +13,7 @@ use Rattle.ep_tree.specs.Types as types
 use Rattle.ep_tree.specs.Types.{Context, Judged, gives}
 use Rattle.ep_tree.specs.declared.values.ValueType.{ValueType}
 use Rattle.ep_types.proofs.Said.{ill_typed_says, wrong_category_says}
-use Rattle.ep_types.specs.Checking.{Checked, Says, check_domain_name, check_name, check_value, conclude, quantified_over}
+use Rattle.ep_types.specs.Checking.{Checked, SaysOfCheck, check_domain_name, check_name, check_value, conclude, quantified_over}
 use Rattle.ep_types.specs.Meanings.{behind_names, known_by, meaning_of}
 use Rattle.ep_types.specs.Named.{IsUnknown, fault_of}
 use Rattle.ep_types.specs.declared.errors.StaticError.{StaticError}
@@ -69,8 +69,8 @@ may_here d p t true h = rw h refl
 may_here d p t false h = refl
 
 -- a check that is the same as another says the same
-pub says_same : (result : Result ValueType StaticError) (one other : Checked ValueType) → one ≡ other → Says (λ t. t) result other → Says (λ t. t) result one
-says_same result one other e h = let P : Checked ValueType → Type 0 = λ x. Says (λ t. t) result x in subst P (sym e) h
+pub says_same : (result : Result ValueType StaticError) (one other : Checked ValueType) → one ≡ other → SaysOfCheck (λ t. t) result other → SaysOfCheck (λ t. t) result one
+says_same result one other e h = let P : Checked ValueType → Type 0 = λ x. SaysOfCheck (λ t. t) result x in subst P (sym e) h
 
 pub wrong_category_is : {A : Type 0} (p : Place) (check : Checked A) → check ≡ Err (wrong_category p) → (fault : Fault) → fault_of (WrongCategory p) ≡ Some fault → check ≡ Err fault
 wrong_category_is p check e fault s = e ∙ wrong_category_says p fault s

@@ -3,12 +3,12 @@ use Rattle.std.specs.Prelude.{◌≡◌, List, Some, Err, refl}
 use Rattle.ep_base.specs.declared.places.Place.{Place}
 use Rattle.ep_tree.specs.Faults.{Fault, ill_typed, open_domain, wrong_category}
 use Rattle.ep_types.specs.Checking.{Checked, ◌>>=◌}
-use Rattle.ep_types.specs.Named.{IsNamed, fault_of}
+use Rattle.ep_types.specs.Named.{IsAmongFaults, fault_of}
 use Rattle.ep_types.specs.declared.errors.StaticError.{StaticError}
 use Rattle.ep_types.specs.declared.errors.StaticError.TheVariants.{IllTyped, Memory, OpenDomain, WrongCategory}
 
 -- want of memory names no fault
-pub memory_names_none : (faults : List Fault) → IsNamed faults Memory
+pub memory_names_none : (faults : List Fault) → IsAmongFaults faults Memory
 unfolding fault_of
 memory_names_none faults = λ fault e. absurd cc
 

@@ -25,7 +25,7 @@ use Rattle.ep_types.proofs.Sound.{AreTyped, Sound, text_sound}
 use Rattle.ep_types.specs.Checking.{Checked, check, check_goal, check_stated, conclude, check_branching, check_clause, check_clauses, check_declared, check_domain, check_groups, check_statement, check_text, unless_fault, ◌>>=◌}
 use Rattle.ep_types.specs.Declaring.{declares}
 use Rattle.ep_types.specs.Meanings.{known_by, meaning_of}
-use Rattle.ep_types.specs.Named.{IsNamed}
+use Rattle.ep_types.specs.Named.{IsAmongFaults}
 use Rattle.ep_types.specs.declared.errors.StaticError.{StaticError}
 use Rattle.ep_types.specs.declared.names.Meaning.{Meaning}
 
@@ -149,7 +149,7 @@ faultless statements e =
     let P : Checked (Unit {0}) → Type 0 = λ r. Sound (faults_after nothing_known statements) (λ _. Unit {0}) r in
     (subst P e (text_sound nothing_known nothing_typed statements)).0
 
-pub faulty : (statements : TextTree) (e : StaticError) → Blames e (check_text nothing_known statements) → IsNamed (text_faults statements) e
+pub faulty : (statements : TextTree) (e : StaticError) → Blames e (check_text nothing_known statements) → IsAmongFaults (text_faults statements) e
 unfolding text_faults
 faulty statements e h fault s =
     let P : Checked (Unit {0}) → Type 0 = λ r. Sound (faults_after nothing_known statements) (λ _. Unit {0}) r in

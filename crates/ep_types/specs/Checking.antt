@@ -28,9 +28,9 @@ abbrev pub ◌>>=◌ : {A B : Type 0} → Checked A → (A → Checked B) → Ch
 (Err fault) >>= next = Err fault
 
 -- What a function returned, seen by view, is what checking says. Want of memory says nothing.
-abbrev pub Says : {X Y : Type 0} → (X → Y) → Result X StaticError → Checked Y → Type 0
-Says view (Ok x) check = check ≡ Ok (view x)
-Says view (Err e) check = (fault : Fault) → fault_of e ≡ Some fault → check ≡ Err fault
+abbrev pub SaysOfCheck : {X Y : Type 0} → (X → Y) → Result X StaticError → Checked Y → Type 0
+SaysOfCheck view (Ok x) check = check ≡ Ok (view x)
+SaysOfCheck view (Err e) check = (fault : Fault) → fault_of e ≡ Some fault → check ≡ Err fault
 
 -- The type of a node whose parts have types. That it is told of no type isn't met, since a part without a type has stopped
 -- the checking before.

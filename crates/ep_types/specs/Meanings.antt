@@ -29,11 +29,11 @@ or_else None other = other
 or_else (Some x) other = Some x
 
 -- what names stand for: those of quantifiers and generators hide those of statements
-unfoldable pub context_of : Names → Context
-context_of names = behind_names names.inner.items (known_by names.declared.now.entries)
+unfoldable pub names_context : Names → Context
+names_context names = behind_names names.inner.items (known_by names.declared.now.entries)
 
 -- names that stand for the same, by the same tables
 pub record IsSame (old new : Names) : Type 0 where
   pub inner : new.inner.items ≡ old.inner.items
   pub declared : new.declared ≡ old.declared
-  pub context : context_of new ≡ context_of old
+  pub context : names_context new ≡ names_context old

@@ -16,8 +16,8 @@ fault_of (OpenDomain p) = Some (open_domain p)
 fault_of Memory = None
 
 -- an error may be answered where these faults stand: what it names is one of them
-abbrev pub IsNamed : List Fault → StaticError → Type 0
-IsNamed faults error = (fault : Fault) → fault_of error ≡ Some fault → Contains faults fault
+abbrev pub IsAmongFaults : List Fault → StaticError → Type 0
+IsAmongFaults faults error = (fault : Fault) → fault_of error ≡ Some fault → Contains faults fault
 
 -- an error says that a name is unknown, or want of memory
 abbrev pub IsUnknown : Place → Name → StaticError → Type 0

@@ -4,7 +4,7 @@ ghost use Rattle.std.specs.Prelude.{◌≡◌, [], IfOk, OnOk, IfErr};
 ghost use Rattle.ep_tree.specs.Faults.{lettings_of, params_faults, text_faults};
 ghost use Rattle.ep_tree.specs.Views.{model_tree, params_tree};
 ghost use Rattle.ep_types.specs.First.{IsFirst};
-ghost use Rattle.ep_types.specs.Named.{IsNamed};
+ghost use Rattle.ep_types.specs.Named.{IsAmongFaults};
 ghost use Rattle.ep_types.specs.Texts.{typed_params_tree, typed_tree};
 
 use crate::errors::StaticError;
@@ -25,7 +25,7 @@ use std::alloc::Global;
 pub fn check_model(alloc: Global, model: Model) -> Result<Typed, StaticError>
     ensures same { IfOk result (λ typed. typed_tree typed ≡ model_tree model) }
     ensures faultless { OnOk result (text_faults (model_tree model) ≡ []) }
-    ensures named { IfErr result (IsNamed (text_faults (model_tree model))) }
+    ensures named { IfErr result (IsAmongFaults (text_faults (model_tree model))) }
     ensures first { IfErr result (IsFirst (model_tree model)) }
 {
     check_statements(alloc, &model.statements)?;
@@ -37,7 +37,7 @@ pub fn check_model(alloc: Global, model: Model) -> Result<Typed, StaticError>
 pub fn check_params(alloc: Global, params: Params) -> Result<TypedParams, StaticError>
     ensures same { IfOk result (λ typed. typed_params_tree typed ≡ params_tree params) }
     ensures faultless { OnOk result (params_faults (params_tree params) ≡ []) }
-    ensures named { IfErr result (IsNamed (params_faults (params_tree params))) }
+    ensures named { IfErr result (IsAmongFaults (params_faults (params_tree params))) }
     ensures first { IfErr result (IsFirst (lettings_of (params_tree params))) }
 {
     check_lettings(alloc, &params.statements)?;

@@ -2,9 +2,9 @@
 
 ghost use Rattle.std.specs.Prelude.{◌≡◌, false, IfSome, Ok, OnOk};
 ghost use Rattle.ep_tree.specs.Views.{domain_tree, domains_of, end_of, expr_tree, expr_trees, generators_of, indices_of, ranges_of, terms_of};
-ghost use Rattle.ep_types.specs.Checking.{Says, check, check_all, check_domain, check_domains, check_end, check_generators, check_index, check_indices, check_readings, check_terms};
+ghost use Rattle.ep_types.specs.Checking.{SaysOfCheck, check, check_all, check_domain, check_domains, check_end, check_generators, check_index, check_indices, check_readings, check_terms};
 ghost use Rattle.ep_types.specs.Hiding.{Hides};
-ghost use Rattle.ep_types.specs.Meanings.{IsSame, context_of};
+ghost use Rattle.ep_types.specs.Meanings.{IsSame, names_context};
 ghost use Rattle.ep_types.specs.Reading.{check_bounds, check_read, range_bounds, stated_index};
 
 use crate::errors::StaticError;
@@ -22,7 +22,7 @@ pub(crate) fn type_of<'a>(
     e: &'a Expr,
 ) -> Result<ValueType, StaticError>
     ensures same { OnOk result (IsSame names.old names.new) }
-    ensures says { Says (λ t. t) result (check (context_of names.old) decisions (expr_tree e.now)) }
+    ensures says { SaysOfCheck (λ t. t) result (check (names_context names.old) decisions (expr_tree e.now)) }
 {
     let place = e.place;
     match &e.kind {
@@ -64,7 +64,7 @@ fn with_one_part<'a>(
     e: &'a Expr,
 ) -> Result<ValueType, StaticError>
     ensures same { OnOk result (IsSame names.old names.new) }
-    ensures says { Says (λ t. t) result (check (context_of names.old) decisions (expr_tree e.now)) }
+    ensures says { SaysOfCheck (λ t. t) result (check (names_context names.old) decisions (expr_tree e.now)) }
 {
     let place = e.place;
     match &e.kind {
@@ -110,7 +110,7 @@ fn with_two_parts<'a>(
     e: &'a Expr,
 ) -> Result<ValueType, StaticError>
     ensures same { OnOk result (IsSame names.old names.new) }
-    ensures says { Says (λ t. t) result (check (context_of names.old) decisions (expr_tree e.now)) }
+    ensures says { SaysOfCheck (λ t. t) result (check (names_context names.old) decisions (expr_tree e.now)) }
 {
     let place = e.place;
     match &e.kind {
@@ -156,7 +156,7 @@ fn with_three_parts<'a>(
     e: &'a Expr,
 ) -> Result<ValueType, StaticError>
     ensures same { OnOk result (IsSame names.old names.new) }
-    ensures says { Says (λ t. t) result (check (context_of names.old) decisions (expr_tree e.now)) }
+    ensures says { SaysOfCheck (λ t. t) result (check (names_context names.old) decisions (expr_tree e.now)) }
 {
     let place = e.place;
     match &e.kind {
@@ -186,7 +186,7 @@ fn with_list<'a>(
     e: &'a Expr,
 ) -> Result<ValueType, StaticError>
     ensures same { OnOk result (IsSame names.old names.new) }
-    ensures says { Says (λ t. t) result (check (context_of names.old) decisions (expr_tree e.now)) }
+    ensures says { SaysOfCheck (λ t. t) result (check (names_context names.old) decisions (expr_tree e.now)) }
 {
     let place = e.place;
     match &e.kind {
@@ -225,7 +225,7 @@ fn with_domain<'a>(
     e: &'a Expr,
 ) -> Result<ValueType, StaticError>
     ensures same { OnOk result (IsSame names.old names.new) }
-    ensures says { Says (λ t. t) result (check (context_of names.old) decisions (expr_tree e.now)) }
+    ensures says { SaysOfCheck (λ t. t) result (check (names_context names.old) decisions (expr_tree e.now)) }
 {
     let place = e.place;
     match &e.kind {
@@ -264,8 +264,8 @@ fn types_of<'a>(
     parts: &'a [Expr],
 ) -> Result<Vec<ValueType>, StaticError>
     ensures same { OnOk result (IsSame names.old names.new) }
-    ensures says { Says (λ v. v.items) result
-        (check_all (context_of names.old) decisions (expr_trees parts.now)) }
+    ensures says { SaysOfCheck (λ v. v.items) result
+        (check_all (names_context names.old) decisions (expr_trees parts.now)) }
 {
     let mut types = Vec::with_capacity(names.alloc, parts.len())?;
     for part in parts {
@@ -284,8 +284,8 @@ fn term_types<'a>(
     terms: &'a [(bool, Expr)],
 ) -> Result<Vec<ValueType>, StaticError>
     ensures same { OnOk result (IsSame names.old names.new) }
-    ensures says { Says (λ v. v.items) result
-        (check_terms (context_of names.old) decisions (terms_of terms.now)) }
+    ensures says { SaysOfCheck (λ v. v.items) result
+        (check_terms (names_context names.old) decisions (terms_of terms.now)) }
 {
     let mut types = Vec::with_capacity(names.alloc, terms.len())?;
     for term in terms {
@@ -305,8 +305,8 @@ fn read_type<'a>(
     indices: &'a [Option<Expr>],
 ) -> Result<ValueType, StaticError>
     ensures same { OnOk result (IsSame names.old names.new) }
-    ensures says { Says (λ t. t) result
-        (check_read (context_of names.old) decisions place ty (indices_of indices.now)) }
+    ensures says { SaysOfCheck (λ t. t) result
+        (check_read (names_context names.old) decisions place ty (indices_of indices.now)) }
 {
     let may_decide = rules::may_decide_indices(decisions, ty, indices);
     let types = index_types(names, may_decide, indices)?;
@@ -322,8 +322,8 @@ fn index_types<'a>(
     indices: &'a [Option<Expr>],
 ) -> Result<Vec<ValueType>, StaticError>
     ensures same { OnOk result (IsSame names.old names.new) }
-    ensures says { Says (λ v. v.items) result
-        (check_indices (context_of names.old) decisions (indices_of indices.now)) }
+    ensures says { SaysOfCheck (λ v. v.items) result
+        (check_indices (names_context names.old) decisions (indices_of indices.now)) }
 {
     let mut types = Vec::with_capacity(names.alloc, indices.len())?;
     for index in indices {
@@ -347,8 +347,8 @@ pub(crate) fn domain_type<'a>(
     domain: &'a Domain,
 ) -> Result<ValueType, StaticError>
     ensures same { OnOk result (IsSame names.old names.new) }
-    ensures says { Says (λ t. t) result
-        (check_domain (context_of names.old) may_open (domain_tree domain.now)) }
+    ensures says { SaysOfCheck (λ t. t) result
+        (check_domain (names_context names.old) may_open (domain_tree domain.now)) }
 {
     let place = domain.place;
     match &domain.kind {
@@ -385,8 +385,8 @@ fn domain_types<'a>(
     domains: &'a [Domain],
 ) -> Result<Vec<ValueType>, StaticError>
     ensures same { OnOk result (IsSame names.old names.new) }
-    ensures says { Says (λ v. v.items) result
-        (check_domains (context_of names.old) (domains_of domains.now)) }
+    ensures says { SaysOfCheck (λ v. v.items) result
+        (check_domains (names_context names.old) (domains_of domains.now)) }
 {
     let mut types = Vec::with_capacity(names.alloc, domains.len())?;
     for domain in domains {
@@ -406,8 +406,8 @@ fn domain_again<'a>(
 ) -> Result<ValueType, StaticError>
     ensures same { OnOk result (IsSame names.old names.new) }
     ensures says { IfSome known (λ t.
-        check_domain (context_of names.old) false (domain_tree domain.now) ≡ Ok t)
-        → Says (λ t. t) result (check_domain (context_of names.old) false (domain_tree domain.now)) }
+        check_domain (names_context names.old) false (domain_tree domain.now) ≡ Ok t)
+        → SaysOfCheck (λ t. t) result (check_domain (names_context names.old) false (domain_tree domain.now)) }
 {
     match known {
         Some(ty) => Ok(ty),
@@ -424,9 +424,9 @@ fn read_domain<'a>(
     domain: &'a Domain,
 ) -> Result<bool, StaticError>
     ensures hides { OnOk result (Hides names.old names.new) }
-    ensures says { Says (λ b. (b, context_of names.new)) result
+    ensures says { SaysOfCheck (λ b. (b, names_context names.new)) result
         (check_readings quantified.now (λ c. check_domain c false (domain_tree domain.now))
-        (context_of names.old)) }
+        (names_context names.old)) }
 {
     let mut scalar = true;
     let mut known = None;
@@ -446,8 +446,8 @@ fn read_generators<'a>(
     generators: &'a [Generator],
 ) -> Result<bool, StaticError>
     ensures hides { OnOk result (Hides names.old names.new) }
-    ensures says { Says (λ b. (b, context_of names.new)) result
-        (check_generators (context_of names.old) (generators_of generators.now)) }
+    ensures says { SaysOfCheck (λ b. (b, names_context names.new)) result
+        (check_generators (names_context names.old) (generators_of generators.now)) }
 {
     let mut scalar = true;
     for generator in generators {
@@ -465,8 +465,8 @@ fn index_is_scalar<'a>(
     index: &'a Option<Box<Domain>>,
 ) -> Result<bool, StaticError>
     ensures same { OnOk result (IsSame names.old names.new) }
-    ensures says { Says (λ b. b) result
-        (check_index (context_of names.old) (stated_index index.now)) }
+    ensures says { SaysOfCheck (λ b. b) result
+        (check_index (names_context names.old) (stated_index index.now)) }
 {
     match index {
         None => Ok(true),
@@ -485,8 +485,8 @@ fn all_bounds_are_integer<'a>(
     ranges: &'a [Range],
 ) -> Result<bool, StaticError>
     ensures same { OnOk result (IsSame names.old names.new) }
-    ensures says { Says (λ b. b) result
-        (check_bounds (context_of names.old) (ranges_of ranges.now)) }
+    ensures says { SaysOfCheck (λ b. b) result
+        (check_bounds (names_context names.old) (ranges_of ranges.now)) }
 {
     let mut integer = true;
     for range in ranges {
@@ -501,8 +501,8 @@ fn all_bounds_are_integer<'a>(
 #[tactic(auto, using(crate::proofs::Scopes::same_again, crate::proofs::Scopes::same_after))]
 fn bounds_are_integer<'a>(names: &mut Names<'a>, range: &'a Range) -> Result<bool, StaticError>
     ensures same { OnOk result (IsSame names.old names.new) }
-    ensures says { Says (λ b. b) result
-        (range_bounds (context_of names.old) range.now) }
+    ensures says { SaysOfCheck (λ b. b) result
+        (range_bounds (names_context names.old) range.now) }
 {
     match range {
         Range::One(e) => {
@@ -522,7 +522,7 @@ fn bounds_are_integer<'a>(names: &mut Names<'a>, range: &'a Range) -> Result<boo
 #[tactic(auto, using(crate::proofs::Said::passed_on, crate::proofs::Scopes::same_again, crate::proofs::Scopes::same_after), unfolding(crate::specs::Checking::check, ep_tree::specs::Views::end_of))]
 fn end_type<'a>(names: &mut Names<'a>, end: &'a Option<Expr>) -> Result<ValueType, StaticError>
     ensures same { OnOk result (IsSame names.old names.new) }
-    ensures says { Says (λ t. t) result (check_end (context_of names.old) (end_of end.now)) }
+    ensures says { SaysOfCheck (λ t. t) result (check_end (names_context names.old) (end_of end.now)) }
 {
     match end {
         None => Ok(ValueType::Int),

@@ -5,8 +5,8 @@ ghost use Rattle.ep_tree.specs.Names.{put};
 ghost use Rattle.ep_tree.specs.Types as types;
 ghost use Rattle.ep_tree.specs.Types.{Context, typed};
 ghost use Rattle.ep_types.specs.Again.{Keeps};
-ghost use Rattle.ep_types.specs.Checking.{Says, check_domain_name, check_name, check_value};
-ghost use Rattle.ep_types.specs.Meanings.{behind_names, context_of, known_by, meaning_of, or_else};
+ghost use Rattle.ep_types.specs.Checking.{SaysOfCheck, check_domain_name, check_name, check_value};
+ghost use Rattle.ep_types.specs.Meanings.{behind_names, names_context, known_by, meaning_of, or_else};
 ghost use Rattle.ep_types.specs.Hiding.{Hides};
 ghost use Rattle.ep_types.specs.Named.{IsUnknown};
 ghost use Rattle.ep_types.specs.declared.errors.StaticError.TheVariants.{Memory as OutOfMemory};
@@ -59,7 +59,7 @@ fn may_stand(
     ty: ValueType,
     decision: bool,
 ) -> Result<ValueType, StaticError>
-    ensures { Says (λ t. t) result (check_value decisions place ty decision) }
+    ensures { SaysOfCheck (λ t. t) result (check_value decisions place ty decision) }
 {
     if !decision {
         return Ok(ty);
@@ -87,9 +87,9 @@ fn known_if(known: bool, ty: ValueType) -> Option<ValueType>
 
 impl<'a> Names<'a> {
     /// The names of statements alone.
-    #[tactic(auto, unfolding(crate::specs::Meanings::context_of, crate::specs::Meanings::behind_names))]
+    #[tactic(auto, unfolding(crate::specs::Meanings::names_context, crate::specs::Meanings::behind_names))]
     pub(crate) fn new(alloc: Global, declared: &'a IndexMap<&'a str, Meaning>) -> Names<'a>
-        ensures { context_of result ≡ known_by declared.now.entries }
+        ensures { names_context result ≡ known_by declared.now.entries }
     {
         Names {
             alloc,
@@ -102,7 +102,7 @@ impl<'a> Names<'a> {
     ///
     /// Linear in the names of the quantifiers around.
     fn find(&self, name: &str) -> Option<Meaning>
-        ensures { option_map meaning_of result ≡ context_of self.now name.now }
+        ensures { option_map meaning_of result ≡ names_context self.now name.now }
     {
         match hidden_by(&self.inner, name) {
             Some(meaning) => Some(meaning),
@@ -117,8 +117,8 @@ impl<'a> Names<'a> {
         place: Place,
         name: &Name,
     ) -> Result<ValueType, StaticError>
-        ensures { Says (λ t. t) result
-            (check_name decisions place name.now (context_of self.now name.now)) }
+        ensures { SaysOfCheck (λ t. t) result
+            (check_name decisions place name.now (names_context self.now name.now)) }
     {
         match self.find(name.text()) {
             None => Err(self.unknown(place, name)),
@@ -129,8 +129,8 @@ impl<'a> Names<'a> {
 
     /// The type of a name as a domain.
     pub(crate) fn domain_type(&self, place: Place, name: &Name) -> Result<ValueType, StaticError>
-        ensures { Says (λ t. t) result
-            (check_domain_name place name.now (context_of self.now name.now)) }
+        ensures { SaysOfCheck (λ t. t) result
+            (check_domain_name place name.now (names_context self.now name.now)) }
     {
         match self.find(name.text()) {
             None => Err(self.unknown(place, name)),
@@ -153,8 +153,8 @@ impl<'a> Names<'a> {
     /// A name stands for something new, until it is shown again.
     fn hide(&mut self, name: &'a Name, meaning: Meaning) -> Result<(), StaticError>
         ensures hides { OnOk result (Hides self.old self.new) }
-        ensures known { OnOk result (context_of self.new
-            ≡ put name.now (meaning_of meaning) (context_of self.old)) }
+        ensures known { OnOk result (names_context self.new
+            ≡ put name.now (meaning_of meaning) (names_context self.old)) }
         ensures memory { IfErr result (λ e. e ≡ OutOfMemory) }
     {
         self.inner.push((name.text(), meaning))?;
@@ -163,7 +163,7 @@ impl<'a> Names<'a> {
 
     /// Whether a name stands for nothing, or for this already.
     fn keeps(&self, name: &Name, meaning: Meaning) -> bool
-        ensures { result ≡ true → Keeps (context_of self.now) name.now (meaning_of meaning) }
+        ensures { result ≡ true → Keeps (names_context self.now) name.now (meaning_of meaning) }
     {
         match self.find(name.text()) {
             None => true,
@@ -179,11 +179,11 @@ impl<'a> Names<'a> {
         ty: ValueType,
     ) -> Result<Option<ValueType>, StaticError>
         ensures hides { OnOk result (Hides self.old self.new) }
-        ensures known { OnOk result (context_of self.new
-            ≡ put name.now (types.quantified_name (typed ty)) (context_of self.old)) }
+        ensures known { OnOk result (names_context self.new
+            ≡ put name.now (types.quantified_name (typed ty)) (names_context self.old)) }
         ensures same { IfOk result (λ again. IfSome again (λ t. t ≡ ty)) }
         ensures keeps { IfOk result (λ again. OnSome again
-            (Keeps (context_of self.old) name.now (types.quantified_name (typed ty)))) }
+            (Keeps (names_context self.old) name.now (types.quantified_name (typed ty)))) }
         ensures memory { IfErr result (λ e. e ≡ OutOfMemory) }
     {
         let meaning = rules::quantified_name(ty);

@@ -9,7 +9,7 @@ ghost use Rattle.ep_tree.specs.Trees.{Ranges, span_and};
 ghost use Rattle.ep_tree.specs.Views.{end_of, indices_of, ranges_of, with_range};
 ghost use Rattle.ep_tree.specs.declared.values.Scalar.{Scalar};
 ghost use Rattle.ep_tree.specs.declared.values.ValueType.{ValueType};
-ghost use Rattle.ep_types.specs.Checking.{Says, conclude, quantified_over, unless_fault};
+ghost use Rattle.ep_types.specs.Checking.{SaysOfCheck, conclude, quantified_over, unless_fault};
 ghost use Rattle.ep_types.specs.Meanings.{meaning_of};
 
 use crate::errors::StaticError;
@@ -111,7 +111,7 @@ pub(crate) fn both_scalars(one: Scalar, other: Scalar) -> Scalar
 /// A type where a condition holds; else the node is ill typed.
 #[tactic(auto, using(crate::proofs::Said::ill_typed_says), unfolding(ep_tree::specs::Types::gives))]
 pub(crate) fn gives(place: Place, ty: ValueType, holds: bool) -> Result<ValueType, StaticError>
-    ensures { Says (λ t. t) result (conclude place (types.gives ty holds)) }
+    ensures { SaysOfCheck (λ t. t) result (conclude place (types.gives ty holds)) }
 {
     if holds {
         Ok(ty)
@@ -153,7 +153,7 @@ pub(crate) fn binary(
     one: ValueType,
     other: ValueType,
 ) -> Result<ValueType, StaticError>
-    ensures { Says (λ t. t) result (conclude place (types.binary_type op one other)) }
+    ensures { SaysOfCheck (λ t. t) result (conclude place (types.binary_type op one other)) }
 {
     match op {
         BinaryOp::Implies | BinaryOp::Iff => {
@@ -176,7 +176,7 @@ pub(crate) fn both_integer(
     one: ValueType,
     other: ValueType,
 ) -> Result<ValueType, StaticError>
-    ensures { Says (λ t. t) result
+    ensures { SaysOfCheck (λ t. t) result
         (conclude place (types.gives ValueType.Bool (types.is_integer one && types.is_integer other))) }
 {
     gives(place, ValueType::Bool, is_integer(one) && is_integer(other))
@@ -193,7 +193,7 @@ pub(crate) fn are_lists(one: ValueType, other: ValueType) -> bool
 /// A matrix folded into a number.
 #[tactic(auto, unfolding(ep_tree::specs::Types::folded_type))]
 pub(crate) fn folded(place: Place, op: FoldOp, ty: ValueType) -> Result<ValueType, StaticError>
-    ensures { Says (λ t. t) result (conclude place (types.folded_type op ty)) }
+    ensures { SaysOfCheck (λ t. t) result (conclude place (types.folded_type op ty)) }
 {
     match op {
         FoldOp::And | FoldOp::Or => gives(place, ValueType::Bool, is_matrix_of_bool(ty)),
@@ -208,7 +208,7 @@ pub(crate) fn counting(
     other: ValueType,
     third: ValueType,
 ) -> Result<ValueType, StaticError>
-    ensures { Says (λ t. t) result (conclude place
+    ensures { SaysOfCheck (λ t. t) result (conclude place
         (types.gives ValueType.Bool (types.is_matrix one && types.are_lists other third))) }
 {
     gives(
@@ -226,7 +226,7 @@ pub(crate) fn quantified(
     scalar: bool,
     ty: ValueType,
 ) -> Result<ValueType, StaticError>
-    ensures { Says (λ t. t) result
+    ensures { SaysOfCheck (λ t. t) result
         (conclude place (quantified_over scalar (types.quantified_type op [] ty))) }
 {
     if !scalar {
@@ -240,7 +240,7 @@ pub(crate) fn quantified(
 
 /// A set operation on two domains.
 pub(crate) fn set(place: Place, one: ValueType, other: ValueType) -> Result<ValueType, StaticError>
-    ensures { Says (λ t. t) result (conclude place
+    ensures { SaysOfCheck (λ t. t) result (conclude place
         (types.gives (types.of_scalar (types.both_scalars (types.scalar_of one) (types.scalar_of other)))
         (types.is_integer one && types.is_integer other))) }
 {
@@ -308,7 +308,7 @@ pub(crate) fn list(
     parts: &[ValueType],
     scalar: bool,
 ) -> Result<ValueType, StaticError>
-    ensures { Says (λ t. t) result
+    ensures { SaysOfCheck (λ t. t) result
         (conclude place (quantified_over scalar (types.list_type parts.now))) }
 {
     if !scalar {
@@ -336,7 +336,7 @@ fn list_of_matrices(
     parts: &[ValueType],
     stated: Option<u64>,
 ) -> Result<ValueType, StaticError>
-    ensures { Says (λ t. t) result (conclude place (types.list_of_matrices parts.now stated)) }
+    ensures { SaysOfCheck (λ t. t) result (conclude place (types.list_of_matrices parts.now stated)) }
 {
     match stated {
         None => Ok(ValueType::Matrix {
@@ -375,7 +375,7 @@ pub(crate) fn read(
     indices: &[ValueType],
     slices: u64,
 ) -> Result<ValueType, StaticError>
-    ensures { Says (λ t. t) result (conclude place (types.read_type ty indices.now slices)) }
+    ensures { SaysOfCheck (λ t. t) result (conclude place (types.read_type ty indices.now slices)) }
 {
     match ty {
         ValueType::Matrix { dims, of } => read_matrix(place, dims, of, indices, slices),
@@ -393,7 +393,7 @@ fn read_matrix(
     indices: &[ValueType],
     slices: u64,
 ) -> Result<ValueType, StaticError>
-    ensures { Says (λ t. t) result (conclude place (types.gives
+    ensures { SaysOfCheck (λ t. t) result (conclude place (types.gives
         (types.left_type (dims - length indices.now) of)
         (list_all types.is_integer indices.now && nat_le (length indices.now + slices) dims))) }
 {
@@ -426,7 +426,7 @@ pub(crate) fn matrix(
     indices: &[ValueType],
     element: ValueType,
 ) -> Result<ValueType, StaticError>
-    ensures { Says (λ t. t) result (conclude place (types.matrix_type indices.now element)) }
+    ensures { SaysOfCheck (λ t. t) result (conclude place (types.matrix_type indices.now element)) }
 {
     match element {
         ValueType::Matrix { dims, of } => matrix_of(place, indices, dims, of),
@@ -443,7 +443,7 @@ fn matrix_of(
     inner: u64,
     of: Scalar,
 ) -> Result<ValueType, StaticError>
-    ensures { Says (λ t. t) result (conclude place (types.gives
+    ensures { SaysOfCheck (λ t. t) result (conclude place (types.gives
         (ValueType.Matrix (length indices.now + inner) of) (types.can_index indices.now))) }
 {
     let own = indices.len() as u64;
@@ -556,7 +556,7 @@ pub(crate) fn comprehension(
     conditions: &[ValueType],
     ty: ValueType,
 ) -> Result<ValueType, StaticError>
-    ensures { Says (λ t. t) result (conclude place (quantified_over
+    ensures { SaysOfCheck (λ t. t) result (conclude place (quantified_over
         (index && scalar && list_all types.is_boolean conditions.now) (types.list_type (ty ∷ [])))) }
 {
     let holds = both(both(index, scalar), all_boolean(conditions));
@@ -573,7 +573,7 @@ pub(crate) fn both(one: bool, other: bool) -> bool
 /// The list of all parts of a matrix.
 #[tactic(auto, unfolding(ep_tree::specs::Types::gives))]
 pub(crate) fn flattened(place: Place, ty: ValueType) -> Result<ValueType, StaticError>
-    ensures { Says (λ t. t) result (conclude place
+    ensures { SaysOfCheck (λ t. t) result (conclude place
         (types.gives (ValueType.Matrix 1 (types.scalar_of ty)) (types.is_matrix ty))) }
 {
     let of = scalar_of(ty);
@@ -598,7 +598,7 @@ pub(crate) fn may_have_ranges(may_open: bool, ranges: &[Range]) -> bool
 /// A range may be open, or none is; else the domain is at fault.
 #[tactic(auto, using(crate::proofs::Said::open_domain_says))]
 pub(crate) fn check_open(place: Place, holds: bool) -> Result<(), StaticError>
-    ensures { Says (λ _. tt) result (unless_fault holds (open_domain place)) }
+    ensures { SaysOfCheck (λ _. tt) result (unless_fault holds (open_domain place)) }
 {
     if holds {
         return Ok(());

@@ -7,7 +7,7 @@ ghost use Rattle.ep_tree.specs.StatementSpelling.{is_letting};
 ghost use Rattle.ep_tree.specs.Views.{domain_tree, expr_tree, group_of, statement_tree};
 ghost use Rattle.ep_types.specs.Declaring.{declares};
 ghost use Rattle.ep_types.specs.Checking as checking;
-ghost use Rattle.ep_types.specs.Checking.{Says, check_declared, unless_fault};
+ghost use Rattle.ep_types.specs.Checking.{SaysOfCheck, check_declared, unless_fault};
 ghost use Rattle.ep_types.specs.Meanings.{known_by, meaning_of};
 ghost use Rattle.ep_types.specs.Named.{IsUnknown, fault_of};
 
@@ -58,7 +58,7 @@ fn declare<'a>(
     place: Place,
     standing_for: Meaning,
 ) -> Result<(), StaticError>
-    ensures { Says (λ _. known_by declared.new.entries) result
+    ensures { SaysOfCheck (λ _. known_by declared.new.entries) result
         (declares (meaning_of standing_for) (known_by declared.old.entries) name.now place) }
 {
     match meaning(declared, name) {
@@ -77,7 +77,7 @@ fn declare_all<'a>(
     names: &'a [(Name, Place)],
     standing_for: Meaning,
 ) -> Result<(), StaticError>
-    ensures { Says (λ _. known_by declared.new.entries) result
+    ensures { SaysOfCheck (λ _. known_by declared.new.entries) result
         (check_declared (meaning_of standing_for) (known_by declared.old.entries) names.now) }
 {
     for name in names {
@@ -93,7 +93,7 @@ fn stated_domain<'a>(
     may_open: bool,
     domain: &'a Domain,
 ) -> Result<ValueType, StaticError>
-    ensures { Says (λ t. t) result
+    ensures { SaysOfCheck (λ t. t) result
         (checking.check_domain (known_by declared.now.entries) may_open (domain_tree domain.now)) }
 {
     let mut names = Names::new(alloc, declared);
@@ -107,7 +107,7 @@ fn stated_type<'a>(
     decisions: bool,
     e: &'a Expr,
 ) -> Result<ValueType, StaticError>
-    ensures { Says (λ t. t) result
+    ensures { SaysOfCheck (λ t. t) result
         (checking.check (known_by declared.now.entries) decisions (expr_tree e.now)) }
 {
     let mut names = Names::new(alloc, declared);
@@ -121,7 +121,7 @@ fn check_clause<'a>(
     decisions: bool,
     e: &'a Expr,
 ) -> Result<ValueType, StaticError>
-    ensures { Says (λ t. t) result
+    ensures { SaysOfCheck (λ t. t) result
         (checking.check_clause (known_by declared.now.entries) decisions (expr_tree e.now)) }
 {
     let ty = stated_type(alloc, declared, decisions, e)?;
@@ -134,7 +134,7 @@ fn check_goal<'a>(
     declared: &'a IndexMap<&'a str, Meaning>,
     e: &'a Expr,
 ) -> Result<ValueType, StaticError>
-    ensures { Says (λ t. t) result
+    ensures { SaysOfCheck (λ t. t) result
         (checking.check_goal (known_by declared.now.entries) (expr_tree e.now)) }
 {
     let ty = stated_type(alloc, declared, true, e)?;
@@ -148,7 +148,7 @@ fn check_clauses<'a>(
     decisions: bool,
     clauses: &'a [Expr],
 ) -> Result<(), StaticError>
-    ensures { Says (λ _. tt) result
+    ensures { SaysOfCheck (λ _. tt) result
         (checking.check_clauses (known_by declared.now.entries) decisions (map expr_tree clauses.now)) }
 {
     for clause in clauses {
@@ -165,7 +165,7 @@ fn check_groups<'a>(
     may_open: bool,
     groups: &'a [Declared],
 ) -> Result<(), StaticError>
-    ensures { Says (λ _. known_by declared.new.entries) result (checking.check_groups decisions
+    ensures { SaysOfCheck (λ _. known_by declared.new.entries) result (checking.check_groups decisions
         may_open (known_by declared.old.entries) (map group_of groups.now)) }
 {
     for group in groups {
@@ -181,7 +181,7 @@ fn stated<'a>(
     declared: &'a IndexMap<&'a str, Meaning>,
     domain: &'a Option<Domain>,
 ) -> Result<Option<ValueType>, StaticError>
-    ensures { Says (λ t. t) result (checking.check_stated (known_by declared.now.entries)
+    ensures { SaysOfCheck (λ t. t) result (checking.check_stated (known_by declared.now.entries)
         (option_map domain_tree domain.now)) }
 {
     match domain {
@@ -200,7 +200,7 @@ fn check_known(
     name: &Name,
     place: Place,
 ) -> Result<(), StaticError>
-    ensures { Says (λ _. tt) result (unless_fault (is_some (known_by declared.now.entries name.now))
+    ensures { SaysOfCheck (λ _. tt) result (unless_fault (is_some (known_by declared.now.entries name.now))
         (unknown_name place name.now)) }
 {
     match meaning(declared, name) {
@@ -215,7 +215,7 @@ fn check_branching(
     declared: &IndexMap<&str, Meaning>,
     names: &[(Name, Place)],
 ) -> Result<(), StaticError>
-    ensures { Says (λ _. tt) result (checking.check_branching (known_by declared.now.entries) names.now) }
+    ensures { SaysOfCheck (λ _. tt) result (checking.check_branching (known_by declared.now.entries) names.now) }
 {
     for name in names {
         check_known(alloc, declared, &name.0, name.1)?;
@@ -230,7 +230,7 @@ pub(crate) fn check_statement<'a>(
     declared: &mut IndexMap<&'a str, Meaning>,
     statement: &'a Statement,
 ) -> Result<(), StaticError>
-    ensures { Says (λ _. known_by declared.new.entries) result (checking.check_statement
+    ensures { SaysOfCheck (λ _. known_by declared.new.entries) result (checking.check_statement
         (known_by declared.old.entries) (statement_tree statement.now)) }
 {
     match &statement.kind {
@@ -262,7 +262,7 @@ pub(crate) fn check_statements<'a>(
     alloc: Global,
     statements: &'a [Statement],
 ) -> Result<(), StaticError>
-    ensures { Says (λ _. tt) result
+    ensures { SaysOfCheck (λ _. tt) result
         (checking.check_text nothing_known (map statement_tree statements.now)) }
 {
     let mut declared = IndexMap::new(alloc);
@@ -295,7 +295,7 @@ pub(crate) fn check_lettings<'a>(
     alloc: Global,
     statements: &'a [Statement],
 ) -> Result<(), StaticError>
-    ensures { Says (λ _. tt) result
+    ensures { SaysOfCheck (λ _. tt) result
         (checking.check_text nothing_known (lettings_of (map statement_tree statements.now))) }
 {
     let mut declared = IndexMap::new(alloc);

@@ -17,7 +17,7 @@ use Rattle.ep_tree.specs.Views.{expr_tree}
 use Rattle.ep_tree.specs.declared.syntax.Expr.{Expr}
 use Rattle.ep_unroll.proofs.FormValues.{grows_long, grows_on, grown_value, number_grown}
 use Rattle.ep_unroll.proofs.MeaningSteps.{grows_none}
-use Rattle.ep_unroll.specs.Clauses.{AreClauses, IsClause}
+use Rattle.ep_unroll.specs.Clauses.{AreClauses, IsClauseTerm}
 use Rattle.ep_unroll.specs.Growing.{Grows, Puts}
 use Rattle.ep_unroll.specs.Meanings.{IsNumberOf}
 use Rattle.ep_unroll.specs.Readings.{Numbering}
@@ -31,8 +31,8 @@ unfolding ground_truth all_there all_one of_bool
 one_truth None = refl
 one_truth (Some x) = ap (λ b. Some (of_bool b)) (and_true (is_one x))
 
-pub clause_is : (n : Numbering) (cells : Env) (nodes mid new : List GroundNode) (e : ExprTree) (a t : ℕ) → IsNumberOf n cells nodes mid e a → Puts mid new (node.all_of (a ∷ [])) t → IsClause n cells nodes new e t
-unfolding node_value ground.values_of
+pub clause_is : (n : Numbering) (cells : Env) (nodes mid new : List GroundNode) (e : ExprTree) (a t : ℕ) → IsNumberOf n cells nodes mid e a → Puts mid new (node.all_of (a ∷ [])) t → IsClauseTerm n cells nodes new e t
+unfolding node_value ground.term_values_of
 clause_is n cells nodes mid new e a t h put = record {
   grows = grows_on nodes mid new h.grows put.grows;
   known = put.known;
@@ -67,7 +67,7 @@ clauses_begin n env old xs ts none = record {
     no_less k less = omega (arith, less)
 
 pub clauses_more : (n : Numbering) (env : Env) (old mid new : List GroundNode) (xs : List Expr) (k : ℕ) (x d : Expr) (t : ℕ) (ts us : List ℕ) → k < length xs → x ≡ get_or xs k d
-    → AreClauses n env old mid (map expr_tree (take k xs)) ts → IsClause n env mid new (expr_tree x) t → us ≡ ts ++ t ∷ [] → AreClauses n env old new (map expr_tree (take (k + 1) xs)) us
+    → AreClauses n env old mid (map expr_tree (take k xs)) ts → IsClauseTerm n env mid new (expr_tree x) t → us ≡ ts ++ t ∷ [] → AreClauses n env old new (map expr_tree (take (k + 1) xs)) us
 clauses_more n env old mid new xs k x d t ts us h same so one pushed =
     let longer : map expr_tree (take (k + 1) xs) ≡ map expr_tree (take k xs) ++ expr_tree x ∷ [] =
     ap (map expr_tree) (take_more xs k d h ∙ ap (λ y. take k xs ++ y ∷ []) (sym same)) ∙ map-append expr_tree (take k xs) (x ∷ []) in

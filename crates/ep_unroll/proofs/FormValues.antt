@@ -26,7 +26,7 @@ use Rattle.ep_unroll.specs.Growing.{Grows, Puts}
 use Rattle.ep_unroll.specs.Meanings.{AreNumbersOf, IsNumberOf, IsTermOf}
 use Rattle.ep_unroll.specs.Needs.{ArePartial}
 use Rattle.ep_unroll.specs.Numbers.{HasNumber}
-use Rattle.ep_unroll.specs.PartReads.{numbers_at, only_where}
+use Rattle.ep_unroll.specs.PartReads.{numbers_of_terms, only_where}
 use Rattle.ep_unroll.specs.Readings.{Numbering, Reading}
 use Rattle.ep_unroll.specs.Truths.{IsJudged, needed_in}
 
@@ -89,7 +89,7 @@ truth_told n cells nodes mid new tree ts us t own f g needed j one told there = 
   known = j.whole.known;
   value = λ r.
       one r
-      ∙ told_value n.mode (term_value mid r.numbers) ts (f r) (term_value j.between r.numbers j.own) (numbers_at mid r.numbers us)
+      ∙ told_value n.mode (term_value mid r.numbers) ts (f r) (term_value j.between r.numbers j.own) (numbers_of_terms mid r.numbers us)
       (needed.values r.numbers r.reads.long) (told r) (there r)
       ∙ ap (λ l. option_map single (only_where l (term_value j.between r.numbers j.own))) (sym (ap all_there (values_stay mid j.between r.numbers us j.puts.grows needed.known)))
       ∙ ap (option_map single) (sym (j.whole.value r.numbers));
@@ -305,7 +305,7 @@ same_least mode (Some x) (Some y) = refl
 pub least_term : (n : Numbering) (cells : Env) (nodes mid new : List GroundNode) (p : Place) (e e' : ExprTree) (a b t : ℕ)
     → IsNumberOf n cells nodes mid e a → IsNumberOf n cells nodes mid e' b → Puts mid new (node.least (a ∷ b ∷ [])) t
     → IsTermOf n cells nodes new (binary p BinaryOp.Min e e') t
-unfolding node_value ground.values_of
+unfolding node_value ground.term_values_of
 least_term n cells nodes mid new p e e' a b t =
     two_form n cells nodes mid new e e' (binary p BinaryOp.Min e e') a b t (node.least (a ∷ b ∷ [])) (binary_value n.mode BinaryOp.Min)
     (λ o o'. option_and_then least_of (all_there (o ∷ o' ∷ []))) (λ values. evaluate-binary n.mode values p BinaryOp.Min e e') (λ numbers value. refl) (same_least n.mode)
@@ -319,7 +319,7 @@ same_greatest mode (Some x) (Some y) = refl
 pub greatest_term : (n : Numbering) (cells : Env) (nodes mid new : List GroundNode) (p : Place) (e e' : ExprTree) (a b t : ℕ)
     → IsNumberOf n cells nodes mid e a → IsNumberOf n cells nodes mid e' b → Puts mid new (node.greatest (a ∷ b ∷ [])) t
     → IsTermOf n cells nodes new (binary p BinaryOp.Max e e') t
-unfolding node_value ground.values_of
+unfolding node_value ground.term_values_of
 greatest_term n cells nodes mid new p e e' a b t =
     two_form n cells nodes mid new e e' (binary p BinaryOp.Max e e') a b t (node.greatest (a ∷ b ∷ [])) (binary_value n.mode BinaryOp.Max)
     (λ o o'. option_and_then greatest_of (all_there (o ∷ o' ∷ []))) (λ values. evaluate-binary n.mode values p BinaryOp.Max e e') (λ numbers value. refl) (same_greatest n.mode)
@@ -348,13 +348,13 @@ truths_term n cells nodes mid new es tree ts us t own k one other h needed j =
 
 pub and_term : (n : Numbering) (cells : Env) (nodes mid new : List GroundNode) (p : Place) (es : ExprTrees) (ts us : List ℕ) (t : ℕ)
     → AreNumbersOf n cells nodes mid es ts → ArePartial mid n.count (needed_in n.mode ts) us → IsJudged mid new (node.all_of ts) us t → IsTermOf n cells nodes new (all_of p es) t
-unfolding node_value ground.values_of all_true
+unfolding node_value ground.term_values_of all_true
 and_term n cells nodes mid new p es ts us t =
     truths_term n cells nodes mid new es (all_of p es) ts us t (node.all_of ts) all_one (λ r. evaluate-all_of n.mode r.values p es) (λ numbers value. refl)
 
 pub or_term : (n : Numbering) (cells : Env) (nodes mid new : List GroundNode) (p : Place) (es : ExprTrees) (ts us : List ℕ) (t : ℕ)
     → AreNumbersOf n cells nodes mid es ts → ArePartial mid n.count (needed_in n.mode ts) us → IsJudged mid new (node.any_of ts) us t → IsTermOf n cells nodes new (any_of p es) t
-unfolding node_value ground.values_of any_true
+unfolding node_value ground.term_values_of any_true
 or_term n cells nodes mid new p es ts us t =
     truths_term n cells nodes mid new es (any_of p es) ts us t (node.any_of ts) any_one (λ r. evaluate-any_of n.mode r.values p es) (λ numbers value. refl)
 
@@ -394,7 +394,7 @@ pub implies_term : (n : Numbering) (cells : Env) (nodes mid not_in new : List Gr
     → (n.mode ≡ Mode.Relational → (numbers : List ℤ) → n.count ≤ length numbers → IsSome (term_value mid numbers a) × IsSome (term_value mid numbers b))
     → IsNumberOf n cells nodes mid e a → IsNumberOf n cells nodes mid e' b → ArePartial mid n.count (needed_in n.mode (a ∷ b ∷ [])) us
     → Puts mid not_in (node.negation a) c → IsJudged not_in new (node.any_of (c ∷ b ∷ [])) us t → IsTermOf n cells nodes new (binary p BinaryOp.Implies e e') t
-unfolding node_value ground.values_of
+unfolding node_value ground.term_values_of
 implies_term n cells nodes mid not_in new p e e' a b c t us total h h' needed negated judged =
     let g : Grows mid judged.between = grows_on mid not_in judged.between negated.grows judged.puts.grows in
     let j : IsJudged mid new (node.any_of (c ∷ b ∷ [])) us t = record {

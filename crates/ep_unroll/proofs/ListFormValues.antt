@@ -51,7 +51,7 @@ two_lists n cells nodes mid new e e' tree ts us qs t own k one other there h h' 
 pub lex_is : (n : Numbering) (cells : Env) (nodes mid new : List GroundNode) (p : Place) (op : LexOp) (e f : ExprTree) (ts us qs : List ℕ) (t : ℕ)
     → AreScalarsOf n cells nodes mid e ts → AreScalarsOf n cells nodes mid f us → ArePartial mid n.count (needed_in n.mode (ts ++ us)) qs → IsJudged mid new (node.lex op ts us) qs t
     → IsTermOf n cells nodes new (lex p op e f) t
-unfolding node_value ground.values_of
+unfolding node_value ground.term_values_of
 lex_is n cells nodes mid new p op e f ts us qs t =
     two_lists n cells nodes mid new e f (lex p op e f) ts us qs t (node.lex op ts us) (λ xs ys. Some (lex_holds op xs ys))
     (λ r. evaluate-lex n.mode r.values p op e f
@@ -78,7 +78,7 @@ rows_untold rows k all (Some xs) long = row_untold rows xs k (long xs refl) all
 pub table_is : (n : Numbering) (cells : Env) (nodes mid new : List GroundNode) (p : Place) (e f : ExprTree) (ts us : List ℕ) (rows : List (List ℤ)) (t : ℕ)
     → AreScalarsOf n cells nodes mid e ts → ((r : Reading n cells) → rows_in (evaluate n.mode r.values f) ≡ Some rows) → list_all (λ row. length row == length ts) rows ≡ true
     → ArePartial mid n.count (needed_in n.mode ts) us → IsJudged mid new (node.table ts rows) us t → IsTermOf n cells nodes new (table p e f) t
-unfolding node_value ground.values_of
+unfolding node_value ground.term_values_of
 table_is n cells nodes mid new p e f ts us rows t h fixed all =
     one_list n cells nodes mid new e (table p e f) ts us t (node.table ts rows) (λ o. option_and_then (is_row_of rows) o)
     (λ r. evaluate-table n.mode r.values p e f
@@ -129,7 +129,7 @@ no_last op (Some xs) (Some ys) = refl
 pub counts_are : (n : Numbering) (cells : Env) (nodes mid new : List GroundNode) (p : Place) (e f g : ExprTree) (ts us qs : List ℕ) (ns : List ℤ) (t : ℕ)
     → AreScalarsOf n cells nodes mid e ts → ((r : Reading n cells) → scalars_in (evaluate n.mode r.values f) ≡ Some ns) → length ns ≡ length us → AreScalarsOf n cells nodes mid g us
     → ArePartial mid n.count (needed_in n.mode (ts ++ us)) qs → IsJudged mid new (node.counts ts ns us) qs t → IsTermOf n cells nodes new (gcc p e f g) t
-unfolding node_value ground.values_of
+unfolding node_value ground.term_values_of
 counts_are n cells nodes mid new p e f g ts us qs ns t h fixed many h' =
     two_lists n cells nodes mid new e g (gcc p e f g) ts us qs t (node.counts ts ns us) (λ xs cs. counts_hold CompareOp.Equal xs ns cs)
     (λ r. evaluate-gcc n.mode r.values p e f g
@@ -191,7 +191,7 @@ at_least_value n cells p e f g cs ns counts values r =
 pub at_least_is : (n : Numbering) (cells : Env) (nodes mid new : List GroundNode) (p : Place) (e f g : ExprTree) (ts us : List ℕ) (cs ns : List ℤ) (t : ℕ)
     → AreScalarsOf n cells nodes mid e ts → ((r : Reading n cells) → scalars_in (evaluate n.mode r.values f) ≡ Some cs) → ((r : Reading n cells) → scalars_in (evaluate n.mode r.values g) ≡ Some ns)
     → length ns ≡ length cs → ArePartial mid n.count (needed_in n.mode ts) us → IsJudged mid new (node.at_least ts cs ns) us t → IsTermOf n cells nodes new (at_least p e f g) t
-unfolding node_value ground.values_of
+unfolding node_value ground.term_values_of
 at_least_is n cells nodes mid new p e f g ts us cs ns t h counts values many =
     one_list n cells nodes mid new e (at_least p e f g) ts us t (node.at_least ts cs ns) (λ o. option_and_then (λ xs. counts_hold CompareOp.AtLeast xs ns cs) o)
     (at_least_value n cells p e f g cs ns counts values) (λ numbers value. refl) (λ o long. counts_all CompareOp.AtLeast ns cs many o) h
@@ -233,7 +233,7 @@ at_most_value n cells p e f g cs ns counts values r =
 pub at_most_is : (n : Numbering) (cells : Env) (nodes mid new : List GroundNode) (p : Place) (e f g : ExprTree) (ts us : List ℕ) (cs ns : List ℤ) (t : ℕ)
     → AreScalarsOf n cells nodes mid e ts → ((r : Reading n cells) → scalars_in (evaluate n.mode r.values f) ≡ Some cs) → ((r : Reading n cells) → scalars_in (evaluate n.mode r.values g) ≡ Some ns)
     → length ns ≡ length cs → ArePartial mid n.count (needed_in n.mode ts) us → IsJudged mid new (node.at_most ts cs ns) us t → IsTermOf n cells nodes new (at_most p e f g) t
-unfolding node_value ground.values_of
+unfolding node_value ground.term_values_of
 at_most_is n cells nodes mid new p e f g ts us cs ns t h counts values many =
     one_list n cells nodes mid new e (at_most p e f g) ts us t (node.at_most ts cs ns) (λ o. option_and_then (λ xs. counts_hold CompareOp.AtMost xs ns cs) o)
     (at_most_value n cells p e f g cs ns counts values) (λ numbers value. refl) (λ o long. counts_all CompareOp.AtMost ns cs many o) h

@@ -147,19 +147,19 @@ one_list n cells nodes mid new e tree ts us t own f one other there h needed j =
 
 pub different_term : (n : Numbering) (cells : Env) (nodes mid new : List GroundNode) (p : Place) (e : ExprTree) (ts us : List ℕ) (t : ℕ)
     → AreScalarsOf n cells nodes mid e ts → ArePartial mid n.count (needed_in n.mode ts) us → IsJudged mid new (node.all_different ts) us t → IsTermOf n cells nodes new (all_different p e) t
-unfolding node_value ground.values_of
+unfolding node_value ground.term_values_of
 different_term n cells nodes mid new p e ts us t =
     one_list n cells nodes mid new e (all_different p e) ts us t (node.all_different ts) (option_map are_different) (λ r. evaluate-all_different n.mode r.values p e) (λ numbers value. refl) (λ o long. list_there are_different o)
 
 pub every_term : (n : Numbering) (cells : Env) (nodes mid new : List GroundNode) (p : Place) (e : ExprTree) (ts us : List ℕ) (t : ℕ)
     → AreScalarsOf n cells nodes mid e ts → ArePartial mid n.count (needed_in n.mode ts) us → IsJudged mid new (node.all_of ts) us t → IsTermOf n cells nodes new (folded p FoldOp.And e) t
-unfolding node_value ground.values_of folded_value
+unfolding node_value ground.term_values_of folded_value
 every_term n cells nodes mid new p e ts us t =
     one_list n cells nodes mid new e (folded p FoldOp.And e) ts us t (node.all_of ts) (option_map all_one) (λ r. evaluate-folded n.mode r.values p FoldOp.And e) (λ numbers value. refl) (λ o long. list_there all_one o)
 
 pub some_term : (n : Numbering) (cells : Env) (nodes mid new : List GroundNode) (p : Place) (e : ExprTree) (ts us : List ℕ) (t : ℕ)
     → AreScalarsOf n cells nodes mid e ts → ArePartial mid n.count (needed_in n.mode ts) us → IsJudged mid new (node.any_of ts) us t → IsTermOf n cells nodes new (folded p FoldOp.Or e) t
-unfolding node_value ground.values_of folded_value
+unfolding node_value ground.term_values_of folded_value
 some_term n cells nodes mid new p e ts us t =
     one_list n cells nodes mid new e (folded p FoldOp.Or e) ts us t (node.any_of ts) (option_map any_one) (λ r. evaluate-folded n.mode r.values p FoldOp.Or e) (λ numbers value. refl) (λ o long. list_there any_one o)
 
@@ -191,7 +191,7 @@ greatest_is n cells nodes mid new p e ts t =
     extreme_is n cells nodes mid new p FoldOp.Max e ts t greatest_of (λ values. evaluate-folded n.mode values p FoldOp.Max e)
 
 pub least_put : (old new : List GroundNode) (ts : List ℕ) (t : ℕ) → All (λ u. u < length old) ts → Puts old new (node.least ts) t → HasNumber old new (folded_of least_of old ts) t
-unfolding node_value ground.values_of
+unfolding node_value ground.term_values_of
 least_put old new ts t known put = record {
   grows = put.grows;
   known = put.known;
@@ -199,7 +199,7 @@ least_put old new ts t known put = record {
 }
 
 pub greatest_put : (old new : List GroundNode) (ts : List ℕ) (t : ℕ) → All (λ u. u < length old) ts → Puts old new (node.greatest ts) t → HasNumber old new (folded_of greatest_of old ts) t
-unfolding node_value ground.values_of
+unfolding node_value ground.term_values_of
 greatest_put old new ts t known put = record {
   grows = put.grows;
   known = put.known;

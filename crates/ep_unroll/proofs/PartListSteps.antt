@@ -1,4 +1,4 @@
--- Lists of parts: those of a literal, and those of a comprehension, one after another.
+-- ListsTerms of parts: those of a literal, and those of a comprehension, one after another.
 use Rattle.std.proofs.Common.{◌≡◌, ℕ, suc, ◌+◌, ◌<◌, ◌≤◌, true, ℤ, List, [], ◌∷◌, ◌++◌, length, drop, get_or, Some, None, Ok, Err, refl, sym, ap, subst, ◌∙◌, rules, vec_len, append_assoc}
 use Rattle.std.specs.Prelude.{◌&&◌, ◌==◌, IfOk, Option, Result, if◌then◌else◌, map, option_map}
 use Rattle.std.specs.declared.alloc.Global.{Global}
@@ -9,7 +9,7 @@ use Rattle.ep_base.specs.declared.names.Name.{Name}
 use Rattle.ep_base.specs.declared.places.Place.{Place}
 use Rattle.ep_eval.proofs.GeneratingSteps.{comprehension_is, lost_behind, none_before, none_behind, regrouped}
 use Rattle.ep_eval.proofs.LiteralForms.{indices_differ, indices_match}
-use Rattle.ep_eval.specs.Generating.{how_many, listed_values, lists_joined, part_value, part_where}
+use Rattle.ep_eval.specs.Generating.{how_many, generated_values, lists_joined, part_value, part_where}
 use Rattle.ep_ground.specs.Nodes.{GroundNode}
 use Rattle.ep_tree.proofs.EvaluationEquations.{evaluate-literal}
 use Rattle.ep_tree.specs.Environments.{Env, scalar_in, with_number}
@@ -28,7 +28,7 @@ use Rattle.ep_unroll.proofs.GrownParts.{have_both, have_kept, have_one, worths_k
 use Rattle.ep_unroll.proofs.MeaningSteps.{grows_none}
 use Rattle.ep_unroll.specs.Growing.{Grows}
 use Rattle.ep_unroll.specs.Meanings.{AreTerms, Means, worth}
-use Rattle.ep_unroll.specs.PartLists.{ArePartsOf, HaveTerms, Lists, MayHaveTerms, listed_worths, worths}
+use Rattle.ep_unroll.specs.PartLists.{ArePartsOf, HaveTerms, ListsTerms, MayHaveTerms, listed_worths, worths}
 use Rattle.ep_unroll.specs.Readings.{Numbering, Reading}
 use Rattle.ep_unroll.specs.declared.unrolled.Unrolled.{Unrolled}
 
@@ -155,7 +155,7 @@ literal_means n env old new p es d xs x h is known = record {
 
 -- what other parts there are
 pub lists_same : (n : Numbering) (cells : Env) (old new : List GroundNode) (before after : Option (List Unrolled)) (values other : Env → Option (List ValueTree))
-    → ((r : Reading n cells) → values r.values ≡ other r.values) → Lists n cells old new before after values → Lists n cells old new before after other
+    → ((r : Reading n cells) → values r.values ≡ other r.values) → ListsTerms n cells old new before after values → ListsTerms n cells old new before after other
 lists_same n cells old new before after values other same h = record {
   grows = h.grows;
   known = h.known;
@@ -164,7 +164,7 @@ lists_same n cells old new before after values other same h = record {
 
 -- no parts more
 pub lists_none : (n : Numbering) (cells : Env) (old : List GroundNode) (before after : Option (List Unrolled)) (values : Env → Option (List ValueTree)) → after ≡ before
-    → ((r : Reading n cells) → values r.values ≡ Some []) → Lists n cells old old before after values
+    → ((r : Reading n cells) → values r.values ≡ Some []) → ListsTerms n cells old old before after values
 lists_none n cells old before after values same none = record {
   grows = grows_none old old refl;
   known = λ known. subst (MayHaveTerms (length old)) (sym same) known;
@@ -174,7 +174,7 @@ lists_none n cells old before after values same none = record {
 
 -- no parts at all
 pub lists_lost : (n : Numbering) (cells : Env) (old : List GroundNode) (before after : Option (List Unrolled)) (values : Env → Option (List ValueTree)) → after ≡ None
-    → ((r : Reading n cells) → values r.values ≡ None) → Lists n cells old old before after values
+    → ((r : Reading n cells) → values r.values ≡ None) → ListsTerms n cells old old before after values
 unfolding MayHaveTerms listed_worths
 lists_lost n cells old before after values same none = record {
   grows = grows_none old old refl;
@@ -198,7 +198,7 @@ defined_cut (Some w ∷ vs) v = ap (option_map (λ ys. w ∷ ys)) (defined_cut v
 -- one part more
 pub lists_one : (n : Numbering) (cells : Env) (old new : List GroundNode) (before after : Option (List Unrolled)) (e : ExprTree) (x : Unrolled) (values : Env → Option (List ValueTree))
     → Means n cells old new e x → after ≡ option_map (λ all. all ++ x ∷ []) before
-    → ((r : Reading n cells) → values r.values ≡ option_map (λ v. v ∷ []) (evaluate n.mode r.values e)) → Lists n cells old new before after values
+    → ((r : Reading n cells) → values r.values ≡ option_map (λ v. v ∷ []) (evaluate n.mode r.values e)) → ListsTerms n cells old new before after values
 unfolding MayHaveTerms listed_worths map_both
 lists_one n cells old new before after e x values h pushed own = record {
   grows = h.grows;
@@ -221,7 +221,7 @@ lists_one n cells old new before after e x values h pushed own = record {
 -- the part where conditions hold
 pub lists_where : (n : Numbering) (cells : Env) (old new : List GroundNode) (before after : Option (List Unrolled)) (e : ExprTree) (conditions : ExprTrees) (x : Unrolled)
     → Means n cells old new e x → after ≡ option_map (λ all. all ++ x ∷ []) before
-    → ((r : Reading n cells) → all_true (values_of n.mode r.values conditions) ≡ Some true) → Lists n cells old new before after (part_value n.mode e conditions)
+    → ((r : Reading n cells) → all_true (values_of n.mode r.values conditions) ≡ Some true) → ListsTerms n cells old new before after (part_value n.mode e conditions)
 unfolding part_value part_where
 lists_where n cells old new before after e conditions x h pushed hold =
     lists_one n cells old new before after e x (part_value n.mode e conditions) h pushed (λ r. ap (λ o. part_where o (evaluate n.mode r.values e)) (hold r))
@@ -246,7 +246,7 @@ lists_begin n cells old first at numbers left same = record {
 pub lists_more : (n : Numbering) (cells : Env) (old mid new : List GroundNode) (first now after : Option (List Unrolled)) (at : Env → ℤ → Option (List ValueTree)) (numbers left behind : List ℤ)
     (name : Name) (s : Scalar) (d : DomainTree) (k : ℤ) (own : Env → Option (List ValueTree))
     → ListsSoFar n cells old mid first now at numbers left → left ≡ k ∷ behind → s ≡ scalar_in cells d → (Reading n cells → is_number_of s k ≡ true)
-    → Lists n (with_number name s k cells) mid new now after own
+    → ListsTerms n (with_number name s k cells) mid new now after own
     → ((env : Env) → at env k ≡ own (with_number name (scalar_in env d) k env))
     → ListsSoFar n cells old new first after at numbers behind
 unfolding lists_joined within
@@ -265,7 +265,7 @@ lists_more n cells old mid new first now after at numbers left behind name s d k
 }
 
 pub lists_all : (n : Numbering) (cells : Env) (old mid : List GroundNode) (first now : Option (List Unrolled)) (at : Env → ℤ → Option (List ValueTree)) (numbers left : List ℤ)
-    → ListsSoFar n cells old mid first now at numbers left → left ≡ [] → Lists n cells old mid first now (λ env. lists_joined (map (at env) numbers))
+    → ListsSoFar n cells old mid first now at numbers left → left ≡ [] → ListsTerms n cells old mid first now (λ env. lists_joined (map (at env) numbers))
 unfolding lists_joined
 lists_all n cells old mid first now at numbers left so none = record {
   grows = so.grows;
@@ -277,13 +277,13 @@ lists_all n cells old mid first now at numbers left so none = record {
 
 -- ---- the comprehension
 
-listed_is : (n : Numbering) (cells : Env) (old new : List GroundNode) (after : Option (List Unrolled)) (values : Env → Option (List ValueTree)) → Lists n cells old new (Some []) after values
+listed_is : (n : Numbering) (cells : Env) (old new : List GroundNode) (after : Option (List Unrolled)) (values : Env → Option (List ValueTree)) → ListsTerms n cells old new (Some []) after values
     → (r : Reading n cells) → listed_worths new r.numbers after ≡ values r.values
 unfolding MayHaveTerms HaveTerms listed_worths all_defined
 listed_is n cells old new after values h r = h.values tt r ∙ sym (none_before (values r.values))
 
 counted_values : (mode : Mode) (env : Env) (p : Place) (e : ExprTree) (gens : Generators) (conditions : ExprTrees) (d : IndexDomain) (vs : List (Option ValueTree)) (count : ℕ) → count ≡ length vs
-    → all_defined vs ≡ listed_values mode e conditions gens env
+    → all_defined vs ≡ generated_values mode e conditions gens env
     → on_both (index_values mode env d count) (all_defined vs) with_indices ≡ evaluate mode env (comprehension p e gens conditions d)
 unfolding how_many
 counted_values mode env p e gens conditions d vs count many told = by (all_defined vs) refl
@@ -297,7 +297,7 @@ counted_values mode env p e gens conditions d vs count many told = by (all_defin
         ∙ sym (comprehension_is mode env p e gens conditions d (index_values mode env d count) (Some ws) count (sym is ∙ told) (many ∙ sym (defined_long vs ws is)) refl)
 
 pub comprehension_some : (n : Numbering) (env : Env) (old new : List GroundNode) (p : Place) (e : ExprTree) (gens : Generators) (conditions : ExprTrees) (d : IndexDomain) (after : Option (List Unrolled)) (xs : List Unrolled) (x : Unrolled)
-    → Lists n env old new (Some []) after (λ values. listed_values n.mode e conditions gens values) → after ≡ Some xs
+    → ListsTerms n env old new (Some []) after (λ values. generated_values n.mode e conditions gens values) → after ≡ Some xs
     → ((r : Reading n env) → worth new r.numbers x ≡ on_both (index_values n.mode r.values d (length xs)) (all_defined (worths new r.numbers xs)) with_indices)
     → (HaveTerms (length new) xs → AreTerms (length new) x) → Means n env old new (comprehension p e gens conditions d) x
 unfolding MayHaveTerms HaveTerms listed_worths
@@ -307,11 +307,11 @@ comprehension_some n env old new p e gens conditions d after xs x h some is term
   value = λ r.
       is r
       ∙ counted_values n.mode r.values p e gens conditions d (worths new r.numbers xs) (length xs) (sym (length-map xs (worth new r.numbers)))
-      (ap (listed_worths new r.numbers) (sym some) ∙ listed_is n env old new after (λ values. listed_values n.mode e conditions gens values) h r);
+      (ap (listed_worths new r.numbers) (sym some) ∙ listed_is n env old new after (λ values. generated_values n.mode e conditions gens values) h r);
 }
 
 pub comprehension_none : (n : Numbering) (env : Env) (old new : List GroundNode) (p : Place) (e : ExprTree) (gens : Generators) (conditions : ExprTrees) (d : IndexDomain) (after : Option (List Unrolled)) (x : Unrolled)
-    → Lists n env old new (Some []) after (λ values. listed_values n.mode e conditions gens values) → after ≡ None
+    → ListsTerms n env old new (Some []) after (λ values. generated_values n.mode e conditions gens values) → after ≡ None
     → ((numbers : List ℤ) → worth new numbers x ≡ None) → AreTerms (length new) x → Means n env old new (comprehension p e gens conditions d) x
 unfolding how_many listed_worths
 comprehension_none n env old new p e gens conditions d after x h none is known = record {
@@ -320,7 +320,7 @@ comprehension_none n env old new p e gens conditions d after x h none is known =
   value = λ r.
       is r.numbers ∙ sym (no_list (index_values n.mode r.values d 0) with_indices)
       ∙ sym (comprehension_is n.mode r.values p e gens conditions d (index_values n.mode r.values d 0) None 0
-      (ap (listed_worths new r.numbers) (sym none) ∙ listed_is n env old new after (λ values. listed_values n.mode e conditions gens values) h r) refl refl);
+      (ap (listed_worths new r.numbers) (sym none) ∙ listed_is n env old new after (λ values. generated_values n.mode e conditions gens values) h r) refl refl);
 }
 
 -- ---- conditions

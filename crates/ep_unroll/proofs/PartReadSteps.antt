@@ -14,7 +14,7 @@ use Rattle.ep_unroll.proofs.MeaningSteps.{grows_none}
 use Rattle.ep_unroll.proofs.NeedSteps.{some_there}
 use Rattle.ep_unroll.proofs.PickSteps.{picked_found}
 use Rattle.ep_unroll.specs.Growing.{Grows, Puts}
-use Rattle.ep_unroll.specs.PartReads.{CanBeSafe, IsAlone, IsChosen, IsFound, IsTruth, IsWhole, found_among, numbers_at, only_where}
+use Rattle.ep_unroll.specs.PartReads.{CanBeSafe, IsAlone, IsChosen, IsFound, IsTruth, IsWhole, found_among, numbers_of_terms, only_where}
 use Rattle.ep_unroll.specs.Picks.{look_up}
 
 -- ---- what is found
@@ -27,14 +27,14 @@ pick_found keys (Some ys) (Some is) = picked_found ys keys is
 
 pub found_picks : (old new : List GroundNode) (keys : List (List ℤ)) (ts us : List ℕ) (t : ℕ) → All (λ x. x < length old) ts → All (λ x. x < length old) us → Puts old new (node.pick ts keys us) t
     → IsFound old new keys ts us t
-unfolding node_value ground.values_of
+unfolding node_value ground.term_values_of
 found_picks old new keys ts us t known indices put = record {
   grows = put.grows;
   known = put.known;
   value = λ numbers.
-      put.value numbers ∙ pick_found keys (numbers_at new numbers ts) (numbers_at new numbers us)
-      ∙ ap (λ l. found_among keys (all_there l) (numbers_at new numbers us)) (values_kept old new numbers ts put.grows known)
-      ∙ ap (λ l. found_among keys (numbers_at old numbers ts) (all_there l)) (values_kept old new numbers us put.grows indices);
+      put.value numbers ∙ pick_found keys (numbers_of_terms new numbers ts) (numbers_of_terms new numbers us)
+      ∙ ap (λ l. found_among keys (all_there l) (numbers_of_terms new numbers us)) (values_kept old new numbers ts put.grows known)
+      ∙ ap (λ l. found_among keys (numbers_of_terms old numbers ts) (all_there l)) (values_kept old new numbers us put.grows indices);
 }
 
 nothing_found : (keys : List (List ℤ)) → look_up keys [] [] ≡ None
@@ -47,7 +47,7 @@ unfolding node_value found_among all_there
 found_nowhere old new keys ts t none put = record {
   grows = put.grows;
   known = put.known;
-  value = λ numbers. put.value numbers ∙ sym (ap (λ l. found_among keys (numbers_at old numbers l) (Some [])) none ∙ nothing_found keys);
+  value = λ numbers. put.value numbers ∙ sym (ap (λ l. found_among keys (numbers_of_terms old numbers l) (Some [])) none ∙ nothing_found keys);
 }
 
 alone_found : (later : List (List ℤ)) (o : Option ℤ) → o ≡ found_among ([] ∷ later) (all_there (o ∷ [])) (Some [])
@@ -62,7 +62,7 @@ found_alone old keys ts t known alone = record {
   known = (subst (All (λ x. x < length old)) alone.term known) 0 t (omega arith);
   value = λ numbers.
       alone_found alone.later (term_value old numbers t) ∙ ap (λ ks. found_among ks (all_there (term_value old numbers t ∷ [])) (Some [])) (sym alone.key)
-      ∙ ap (λ l. found_among keys (numbers_at old numbers l) (Some [])) (sym alone.term);
+      ∙ ap (λ l. found_among keys (numbers_of_terms old numbers l) (Some [])) (sym alone.term);
 }
 
 -- ---- where others have numbers too
@@ -72,7 +72,7 @@ unfolding only_where all_there
 whole_alone old others a known none = record {
   grows = grows_none old old refl;
   known = known;
-  value = λ numbers. ap (λ l. only_where (numbers_at old numbers l) (term_value old numbers a)) (sym none);
+  value = λ numbers. ap (λ l. only_where (numbers_of_terms old numbers l) (term_value old numbers a)) (sym none);
 }
 
 whole_where : (x : Option ℤ) (o : Option (List ℤ)) → ground.on_both (λ y ys. Some y) x o ≡ only_where o x
@@ -83,14 +83,14 @@ whole_where (Some x) None = refl
 whole_where (Some x) (Some ys) = refl
 
 pub whole_put : (old new : List GroundNode) (others : List ℕ) (a t : ℕ) → a < length old → All (λ x. x < length old) others → Puts old new (node.whole a others) t → IsWhole old new others a t
-unfolding node_value ground.values_of
+unfolding node_value ground.term_values_of
 whole_put old new others a t known rest put = record {
   grows = put.grows;
   known = put.known;
   value = λ numbers.
-      put.value numbers ∙ whole_where (term_value new numbers a) (numbers_at new numbers others)
+      put.value numbers ∙ whole_where (term_value new numbers a) (numbers_of_terms new numbers others)
       ∙ ap (λ l. only_where (all_there l) (term_value new numbers a)) (values_kept old new numbers others put.grows rest)
-      ∙ ap (only_where (numbers_at old numbers others)) (grown_value old new numbers a put.grows known);
+      ∙ ap (only_where (numbers_of_terms old numbers others)) (grown_value old new numbers a put.grows known);
 }
 
 pub chosen_is : (old mid new : List GroundNode) (keys : List (List ℤ)) (ts us others : List ℕ) (a t : ℕ) → All (λ x. x < length old) others → IsFound old mid keys ts us a → IsWhole mid new others a t
@@ -99,8 +99,8 @@ chosen_is old mid new keys ts us others a t rest found whole = record {
   grows = grows_on old mid new found.grows whole.grows;
   known = whole.known;
   value = λ numbers.
-      whole.value numbers ∙ ap (only_where (numbers_at mid numbers others)) (found.value numbers)
-      ∙ ap (λ l. only_where (all_there l) (found_among keys (numbers_at old numbers ts) (numbers_at old numbers us))) (values_kept old mid numbers others found.grows rest);
+      whole.value numbers ∙ ap (only_where (numbers_of_terms mid numbers others)) (found.value numbers)
+      ∙ ap (λ l. only_where (all_there l) (found_among keys (numbers_of_terms old numbers ts) (numbers_of_terms old numbers us))) (values_kept old mid numbers others found.grows rest);
 }
 
 -- ---- truth values
@@ -116,7 +116,7 @@ truth_alone (Some x) = by (is_one x)
 
 pub chosen_true : (old mid new : List GroundNode) (count : ℕ) (keys : List (List ℤ)) (ts us others : List ℕ) (a t : ℕ) → IsChosen old mid keys ts us others a → Puts mid new (node.all_of (a ∷ [])) t
     → IsTruth old new count keys ts us others t
-unfolding node_value ground.values_of
+unfolding node_value ground.term_values_of
 chosen_true old mid new count keys ts us others a t chosen put = record {
   grows = grows_on old mid new chosen.grows put.grows;
   known = put.known;
@@ -151,7 +151,7 @@ safe_found keys xs js some = ap (λ o. unwrap_or o (pos 0)) (picked_found (pos 0
 
 safe_value : (numbers : List ℤ) (f : ℕ → Option ℤ) (none : ℕ) (ts us : List ℕ) (keys : List (List ℤ)) (xs js : List ℤ) → f none ≡ Some (pos 0) → all_there (map f ts) ≡ Some xs → all_there (map f us) ≡ Some js
     → 0 < length js → node_value numbers f (node.safe_pick (none ∷ ts) ([] ∷ keys) us) ≡ Some (unwrap_or (look_up keys xs js) (pos 0))
-unfolding node_value ground.values_of ground.on_both all_there
+unfolding node_value ground.term_values_of ground.on_both all_there
 safe_value numbers f none ts us keys xs js starts is there some =
     ap (λ o. option_and_then (λ ys. option_and_then (λ ks. Some (safe_picked ys ([] ∷ keys) ks)) (all_there (map f us))) (all_there (o ∷ map f ts))) starts
     ∙ ap (λ o. option_and_then (λ ys. option_and_then (λ ks. Some (safe_picked ys ([] ∷ keys) ks)) (all_there (map f us))) (option_map (λ ns. pos 0 ∷ ns) o)) is
@@ -161,7 +161,7 @@ safe_value numbers f none ts us keys xs js starts is there some =
 pub safe_true : (old mid have new : List GroundNode) (count : ℕ) (keys all : List (List ℤ)) (ts us all_ts : List ℕ) (none a t : ℕ)
     → CanBeSafe old count ts us [] → All (λ u. u < length old) ts → All (λ u. u < length old) us → Puts old mid (node.constant (pos 0)) none → all ≡ [] ∷ keys → all_ts ≡ none ∷ ts
     → Puts mid have (node.safe_pick all_ts all us) a → Puts have new (node.all_of (a ∷ [])) t → IsTruth old new count keys ts us [] t
-unfolding node_value ground.values_of found_among only_where all_there
+unfolding node_value ground.term_values_of found_among only_where all_there
 safe_true old mid have new count keys all ts us all_ts none a t safe terms indices starts is pushed put told = record {
   grows = grows_on old have new (grows_on old mid have starts.grows put.grows) told.grows;
   known = told.known;
@@ -178,5 +178,5 @@ safe_true old mid have new count keys all ts us all_ts none a t safe terms indic
       ∙ ap (λ o. truth (option_map is_one o)) (grown_value have new numbers a told.grows put.known ∙ own)
       ∙ truth_or_none (look_up keys xs.0 js.0)
       ∙ ap (λ o. truth (option_map is_one (option_and_then (λ ys. option_and_then (look_up keys ys) (Some js.0)) o))) (sym xs.1)
-      ∙ ap (λ o. truth (option_map is_one (option_and_then (λ ys. option_and_then (look_up keys ys) o) (numbers_at old numbers ts)))) (sym js.1);
+      ∙ ap (λ o. truth (option_map is_one (option_and_then (λ ys. option_and_then (look_up keys ys) o) (numbers_of_terms old numbers ts)))) (sym js.1);
 }

@@ -26,7 +26,7 @@ use Rattle.ep_unroll.specs.Growing.{Grows}
 use Rattle.ep_unroll.specs.Lefts.{IsLeft, LeftMeans}
 use Rattle.ep_unroll.specs.Meanings.{AreTerms, Means, worth}
 use Rattle.ep_unroll.specs.Needs.{AreNeeded}
-use Rattle.ep_unroll.specs.PartReads.{IsChosen, IsTruth, chosen_among, found_among, numbers_at, only_where}
+use Rattle.ep_unroll.specs.PartReads.{IsChosen, IsTruth, chosen_among, found_among, numbers_of_terms, only_where}
 use Rattle.ep_unroll.specs.Picks.{AreEntries, AreSlotsOf, filled_in, look_up, open_terms, slot_index}
 use Rattle.ep_unroll.specs.Readings.{Numbering, Reading}
 use Rattle.ep_unroll.specs.declared.slots.Slot.{Slot}
@@ -56,7 +56,7 @@ choice_grows n env nodes mid need have m known ss count keys ts others h = grows
 read_found : (n : Numbering) (env : Env) (r : Reading n env) (nodes mid need have : List GroundNode) (m : ExprTree) (known : Unrolled) (ss : List Slot) (count : ℕ) (keys : List (List ℤ)) (ts others : List ℕ)
     → Choice n env nodes mid need have m known ss count keys ts others → (js : List ℤ) → length js ≡ length (open_terms ss)
     → option_and_then (read_value (filled_in ss js)) (evaluate n.mode r.values m)
-    ≡ option_map single (only_where (numbers_at have r.numbers others) (option_and_then (λ ys. look_up keys ys js) (numbers_at have r.numbers ts)))
+    ≡ option_map single (only_where (numbers_of_terms have r.numbers others) (option_and_then (λ ys. look_up keys ys js) (numbers_of_terms have r.numbers ts)))
 unfolding only_where
 read_found n env r nodes mid need have m known ss count keys ts others h js few =
     ap (option_and_then (read_value (filled_in ss js))) (sym (h.meant.value r)) ∙ by (worth mid r.numbers known) refl
@@ -64,21 +64,21 @@ read_found n env r nodes mid need have m known ss count keys ts others h js few 
     enough : count ≤ length r.numbers
     enough = subst (λ k. k ≤ length r.numbers) h.counted r.reads.long
 
-    same : numbers_at have r.numbers others ≡ numbers_at need r.numbers others
+    same : numbers_of_terms have r.numbers others ≡ numbers_of_terms need r.numbers others
     same = ap all_there (values_kept need have r.numbers others h.entries.grows h.needed.known)
 
     by : (o : Option ValueTree) → worth mid r.numbers known ≡ o
         → option_and_then (read_value (filled_in ss js)) o
-        ≡ option_map single (only_where (numbers_at have r.numbers others) (option_and_then (λ ys. look_up keys ys js) (numbers_at have r.numbers ts)))
+        ≡ option_map single (only_where (numbers_of_terms have r.numbers others) (option_and_then (λ ys. look_up keys ys js) (numbers_of_terms have r.numbers ts)))
     by None is =
-        let none : numbers_at have r.numbers others ≡ None = same ∙ some_false (numbers_at need r.numbers others) (h.needed.values r.numbers enough ∙ ap is_some is) in
-        sym (ap (λ l. option_map single (only_where l (option_and_then (λ ys. look_up keys ys js) (numbers_at have r.numbers ts)))) none)
+        let none : numbers_of_terms have r.numbers others ≡ None = same ∙ some_false (numbers_of_terms need r.numbers others) (h.needed.values r.numbers enough ∙ ap is_some is) in
+        sym (ap (λ l. option_map single (only_where l (option_and_then (λ ys. look_up keys ys js) (numbers_of_terms have r.numbers ts)))) none)
     by (Some v) is =
         let q = h.entries.values r.numbers v (worth_kept mid need r.numbers known h.needed.grows h.meant.known ∙ is) in
         let found = q.2 in
-        let zs = some_true (numbers_at need r.numbers others) (h.needed.values r.numbers enough ∙ ap is_some is) in
+        let zs = some_true (numbers_of_terms need r.numbers others) (h.needed.values r.numbers enough ∙ ap is_some is) in
         found.read js few
-        ∙ sym (ap (λ l. option_map single (only_where l (option_and_then (λ ys. look_up keys ys js) (numbers_at have r.numbers ts)))) (same ∙ zs.1)
+        ∙ sym (ap (λ l. option_map single (only_where l (option_and_then (λ ys. look_up keys ys js) (numbers_of_terms have r.numbers ts)))) (same ∙ zs.1)
         ∙ ap (λ l. option_map single (option_and_then (λ ys. look_up keys ys js) l)) (ap all_there q.1 ∙ all_some q.0))
 
 moved : (keys : List (List ℤ)) (others xs opens : Option (List ℤ))
@@ -99,10 +99,10 @@ chosen_value : (n : Numbering) (env : Env) (r : Reading n env) (nodes mid need h
     → evaluate n.mode r.values e ≡ read_result n.mode ty (option_map single (chosen_among have r.numbers keys ts us others))
 unfolding found_among
 chosen_value n env r nodes mid need have p m e indices known ss count keys ts us others ty h slots opened tree typed =
-    read_is n env r nodes mid have p m e indices ss (λ js. only_where (numbers_at have r.numbers others) (option_and_then (λ ys. look_up keys ys js) (numbers_at have r.numbers ts))) ty slots
+    read_is n env r nodes mid have p m e indices ss (λ js. only_where (numbers_of_terms have r.numbers others) (option_and_then (λ ys. look_up keys ys js) (numbers_of_terms have r.numbers ts))) ty slots
     (choice_grows n env nodes mid need have m known ss count keys ts others h) tree typed (read_found n env r nodes mid need have m known ss count keys ts others h)
     ∙ ap (read_result n.mode ty)
-    (moved keys (numbers_at have r.numbers others) (numbers_at have r.numbers ts) (numbers_at have r.numbers (open_terms ss))
+    (moved keys (numbers_of_terms have r.numbers others) (numbers_of_terms have r.numbers ts) (numbers_of_terms have r.numbers (open_terms ss))
     ∙ ap (λ l. option_map single (chosen_among have r.numbers keys ts l others)) (sym opened))
 
 -- a read of a number
@@ -168,7 +168,7 @@ left_means n env nodes mid new m indices known x ss is count others counted mean
   known = has (length new) (terms_kept mid new known needed.grows meant.known);
   value = λ r.
       let enough : count ≤ length r.numbers = subst (λ k. k ≤ length r.numbers) counted r.reads.long in
-      let v = some_true (worth mid r.numbers known) (sym (needed.values r.numbers enough) ∙ ap (λ l. is_some (numbers_at new r.numbers l)) none) in
+      let v = some_true (worth mid r.numbers known) (sym (needed.values r.numbers enough) ∙ ap (λ l. is_some (numbers_of_terms new r.numbers l)) none) in
       left new r.numbers v.0 (worth_kept mid new r.numbers known needed.grows meant.known ∙ v.1)
       ∙ sym
       (ap (option_and_then (λ js. option_and_then (read_value js) (evaluate n.mode r.values m))) (ap all_defined (sym (slots.values r) ∙ decided mid r.numbers) ∙ all_defined_are is)

@@ -33,7 +33,7 @@ use Rattle.ep_unroll.specs.Growing.{Grows, Puts}
 use Rattle.ep_unroll.specs.Meanings.{IsNumberOf, IsTermOf}
 use Rattle.ep_unroll.specs.Needs.{ArePartial}
 use Rattle.ep_unroll.specs.Numbers.{HasNumber}
-use Rattle.ep_unroll.specs.PartReads.{IsWhole, numbers_at, only_where}
+use Rattle.ep_unroll.specs.PartReads.{IsWhole, numbers_of_terms, only_where}
 use Rattle.ep_unroll.specs.Readings.{Numbering, Reading}
 use Rattle.ep_unroll.specs.Scalars.{AreScalarsOf}
 use Rattle.ep_unroll.specs.Sets.{AreEqualities}
@@ -205,7 +205,7 @@ pub chosen_is : (n : Numbering) (cells : Env) (nodes mid have with_tests new : L
     → n.count ≡ count → IsNumberOf n cells nodes mid e a → AreScalarsOf n cells nodes mid f ts → ArePartial mid n.count (needed_in n.mode (a ∷ ts)) vs
     → ArePartial mid count ts us → IsWhole mid have us a b
     → AreEqualities have with_tests b ts qs → IsJudged with_tests new (node.any_of qs) vs t → IsTermOf n cells nodes new (in_set p e f) t
-unfolding node_value ground.values_of equal_value
+unfolding node_value ground.term_values_of equal_value
 chosen_is n cells nodes mid have with_tests new p e f count a b t ts us qs vs counted h own needed partial whole tests judged =
     let g : Grows mid judged.between = grows_on mid have judged.between whole.grows (grows_on have with_tests judged.between tests.grows judged.puts.grows) in
     let j : IsJudged mid new (node.any_of qs) vs t = record {
@@ -225,7 +225,7 @@ chosen_is n cells nodes mid have with_tests new p e f count a b t ts us qs vs co
     ∙ ap (λ l. truth (option_map any_one (all_there l)))
     (values_kept with_tests judged.between r.numbers qs judged.puts.grows tests.known ∙ tests.values r.numbers ∙ kept r.numbers w ts (values_kept mid have r.numbers ts whole.grows own.known)
     ∙ sym (mapped_twice (equal_value w) (term_value mid r.numbers) ts))
-    ∙ any_equal (term_value mid r.numbers a) w (all_there os) (numbers_at mid r.numbers us) os refl (partial.values r.numbers (subst (λ k. k ≤ length r.numbers) counted r.reads.long)) (whole.value r.numbers)
+    ∙ any_equal (term_value mid r.numbers a) w (all_there os) (numbers_of_terms mid r.numbers us) os refl (partial.values r.numbers (subst (λ k. k ≤ length r.numbers) counted r.reads.long)) (whole.value r.numbers)
     ∙ ap (λ l. truth (map_both has_number l (term_value mid r.numbers a))) (own.scalars r)
     ∙ ap (λ o. truth (map_both has_number (scalars_in (evaluate n.mode r.values f)) o)) (h.number r)))
     (λ r. beside_there (term_value mid r.numbers a) (all_there (map (term_value mid r.numbers) ts)) (map (term_value mid r.numbers) ts) refl

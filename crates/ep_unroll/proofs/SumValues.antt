@@ -151,7 +151,7 @@ pub for_all_is : (n : Numbering) (cells : Env) (nodes mid new : List GroundNode)
     → q.op ≡ QuantOp.ForAll → ((r : Reading n cells) → domain_values n.mode r.values (domain_tree q.domain.now) ≡ Some ns)
     → AreInstancesOf n cells nodes mid p q name rest ns ts → ArePartial mid n.count (needed_in n.mode ts) us → IsJudged mid new (node.all_of ts) us t
     → IsTermOf n cells nodes new (quantified_tree p q (name ∷ rest)) t
-unfolding node_value ground.values_of quantified_value all_true
+unfolding node_value ground.term_values_of quantified_value all_true
 for_all_is n cells nodes mid new p q name rest ns ts us t is domain =
     quantified_truth n cells nodes mid new p q QuantOp.ForAll name rest ns ts us t (node.all_of ts) all_one is (λ vs. refl) (λ numbers value. refl) domain
 
@@ -159,7 +159,7 @@ pub exists_is : (n : Numbering) (cells : Env) (nodes mid new : List GroundNode) 
     → q.op ≡ QuantOp.Exists → ((r : Reading n cells) → domain_values n.mode r.values (domain_tree q.domain.now) ≡ Some ns)
     → AreInstancesOf n cells nodes mid p q name rest ns ts → ArePartial mid n.count (needed_in n.mode ts) us → IsJudged mid new (node.any_of ts) us t
     → IsTermOf n cells nodes new (quantified_tree p q (name ∷ rest)) t
-unfolding node_value ground.values_of quantified_value any_true
+unfolding node_value ground.term_values_of quantified_value any_true
 exists_is n cells nodes mid new p q name rest ns ts us t is domain =
     quantified_truth n cells nodes mid new p q QuantOp.Exists name rest ns ts us t (node.any_of ts) any_one is (λ vs. refl) (λ numbers value. refl) domain
 

@@ -6,7 +6,7 @@ use Rattle.std.proofs.lemmas.Option.{slice_get-get_or}
 use Rattle.ep_base.specs.Numbers as counted
 use Rattle.ep_base.specs.Reads.{all_there, weighted_sum}
 use Rattle.ep_ground.specs.Nodes as node
-use Rattle.ep_ground.specs.Terms.{node_value, on_both, truth, values_of, weighed}
+use Rattle.ep_ground.specs.Terms.{node_value, on_both, truth, term_values_of, weighed}
 
 pub some_total : {A : Type 0} (o : Option A) (x : A) → o ≡ Some x → IsSome o
 some_total o x h = subst IsSome (sym h) (it_is x)
@@ -113,9 +113,9 @@ chosen_total g f ts h some told =
     by (x ∷ xs) is more = let q = some_of (g (x ∷ xs)) (h x xs) in some_total (option_and_then g (all_there (map f ts))) q.0 (ap (option_and_then g) is ∙ q.1)
 
 pub least_total : (numbers : List ℤ) (f : ℕ → Option ℤ) (ts : List ℕ) → 0 < length ts → All (λ t. IsSome (f t)) ts → IsSome (node_value numbers f (node.least ts))
-unfolding node_value values_of counted.least_of
+unfolding node_value term_values_of counted.least_of
 least_total numbers f ts some told = chosen_total counted.least_of f ts (λ x xs. search rules) some told
 
 pub greatest_total : (numbers : List ℤ) (f : ℕ → Option ℤ) (ts : List ℕ) → 0 < length ts → All (λ t. IsSome (f t)) ts → IsSome (node_value numbers f (node.greatest ts))
-unfolding node_value values_of counted.greatest_of
+unfolding node_value term_values_of counted.greatest_of
 greatest_total numbers f ts some told = chosen_total counted.greatest_of f ts (λ x xs. search rules) some told

@@ -28,7 +28,7 @@ use Rattle.ep_unroll.specs.Lefts.{IsLeft, LeftMeans}
 use Rattle.ep_unroll.specs.Meanings.{AreTerms, Means, worth}
 use Rattle.ep_unroll.specs.Needs.{AreNeeded}
 use Rattle.ep_unroll.specs.PartLists.{HaveTerms, worths}
-use Rattle.ep_unroll.specs.PartReads.{IsWhole, numbers_at, only_where, parts_worth}
+use Rattle.ep_unroll.specs.PartReads.{IsWhole, numbers_of_terms, only_where, parts_worth}
 use Rattle.ep_unroll.specs.Picks.{AreSlotsOf, slot_index}
 use Rattle.ep_unroll.specs.Readings.{Numbering, cells_value, each_from}
 use Rattle.ep_unroll.specs.Wholes.{IsWholeOf}
@@ -80,7 +80,7 @@ unfolding worth AreTerms
 term_whole old new others a t h = record {
   grows = h.grows;
   known = h.known;
-  value = λ numbers. ap (option_map single) (h.value numbers) ∙ only_single (numbers_at old numbers others) (term_value old numbers a);
+  value = λ numbers. ap (option_map single) (h.value numbers) ∙ only_single (numbers_of_terms old numbers others) (term_value old numbers a);
 }
 
 -- the number of a node that was taken in
@@ -91,15 +91,15 @@ put_whole old mid new others own seen a t known put whole is = record {
   grows = grows_on old mid new put.grows whole.grows;
   known = whole.known;
   value = λ numbers.
-      ap (option_map single) (whole.value numbers) ∙ only_single (numbers_at mid numbers others) (term_value mid numbers a)
+      ap (option_map single) (whole.value numbers) ∙ only_single (numbers_of_terms mid numbers others) (term_value mid numbers a)
       ∙ ap (λ l. option_and_then (λ js. option_map single (term_value mid numbers a)) (all_there l)) (values_kept old mid numbers others put.grows known)
-      ∙ ap (λ x. option_and_then (λ js. x) (numbers_at old numbers others)) (ap (option_map single) (put.value numbers) ∙ is numbers);
+      ∙ ap (λ x. option_and_then (λ js. x) (numbers_of_terms old numbers others)) (ap (option_map single) (put.value numbers) ∙ is numbers);
 }
 
 -- what has no value
 pub nothing_whole : (old : List GroundNode) (others : List ℕ) → IsWholeOf old old others (λ numbers. None) (Fixed None)
 unfolding worth AreTerms
-nothing_whole old others = record { grows = grows_none old old refl; known = tt; value = λ numbers. go (numbers_at old numbers others) None refl }
+nothing_whole old others = record { grows = grows_none old old refl; known = tt; value = λ numbers. go (numbers_of_terms old numbers others) None refl }
   where
     go : (o : Option (List ℤ)) (x : Option ValueTree) → x ≡ None → x ≡ option_and_then (λ js. x) o
     go None x e = e
@@ -122,8 +122,8 @@ matrix_whole old new others own first whole rest js ys y h same parts known is =
   value = λ numbers.
       matrix_worth new numbers js ys ∙ ap (λ l. parts_worth l new numbers ys.items) same
       ∙ ap (λ os. option_map (λ vs. matrix own (as_parts vs)) (all_defined os)) (parts numbers ∙ ap (λ o. o ∷ rest numbers) (h.value numbers))
-      ∙ first_lost own (numbers_at old numbers others) (first numbers) (rest numbers)
-      ∙ ap (λ o. option_and_then (λ ks. o) (numbers_at old numbers others)) (is numbers);
+      ∙ first_lost own (numbers_of_terms old numbers others) (first numbers) (rest numbers)
+      ∙ ap (λ o. option_and_then (λ ks. o) (numbers_of_terms old numbers others)) (is numbers);
 }
 
 -- the same of another way to say the value
@@ -132,7 +132,7 @@ pub whole_same : (old new : List GroundNode) (others : List ℕ) (seen whole : L
 whole_same old new others seen whole x same h = record {
   grows = h.grows;
   known = h.known;
-  value = λ numbers. h.value numbers ∙ ap (λ o. option_and_then (λ js. o) (numbers_at old numbers others)) (same numbers);
+  value = λ numbers. h.value numbers ∙ ap (λ o. option_and_then (λ js. o) (numbers_of_terms old numbers others)) (same numbers);
 }
 
 -- ---- a read that leaves a matrix
@@ -152,7 +152,7 @@ left_whole n env nodes old mid new m indices known left x ss is count others cou
   value = λ r.
       let enough : count ≤ length r.numbers = subst (λ k. k ≤ length r.numbers) counted r.reads.long in
       whole.value r.numbers
-      ∙ go (numbers_at mid r.numbers others) (worth old r.numbers known) (worth mid r.numbers left) (needed.values r.numbers enough)
+      ∙ go (numbers_of_terms mid r.numbers others) (worth old r.numbers known) (worth mid r.numbers left) (needed.values r.numbers enough)
       (λ v e. leaves mid r.numbers v (worth_kept old mid r.numbers known needed.grows meant.known ∙ e))
       ∙ ap (option_and_then (read_value is)) (meant.value r)
       ∙ sym (ap (option_and_then (λ js. option_and_then (read_value js) (evaluate n.mode r.values m))) (ap all_defined (sym (slots.values r) ∙ decided old r.numbers) ∙ all_defined_are is));

@@ -13,7 +13,7 @@ use Rattle.ep_unroll.specs.Meanings.{IsNumberOf}
 use Rattle.ep_unroll.specs.Readings.{Numbering, Reading}
 
 -- A term is 1 where a clause is true, and 0 where it isn't.
-pub record IsClause (n : Numbering) (cells : Env) (old new : List GroundNode) (e : ExprTree) (t : ℕ) : Type 0 where
+pub record IsClauseTerm (n : Numbering) (cells : Env) (old new : List GroundNode) (e : ExprTree) (t : ℕ) : Type 0 where
   pub grows : Grows old new
   pub known : t < length new
   pub value : (r : Reading n cells) → term_value new r.numbers t ≡ Some (of_bool (is_true_in n.mode r.values e))

@@ -1,4 +1,4 @@
--- Lists of parts that were unrolled, and terms that are put behind others.
+-- ListsTerms of parts that were unrolled, and terms that are put behind others.
 use Rattle.std.specs.Prelude.{◌≡◌, ℕ, ◌<◌, List, [], ◌∷◌, ◌++◌, map, ℤ, Option, Some, None, length, option_and_then, option_map}
 use Rattle.std.specs.List.{All}
 use Rattle.std.specs.declared.alloc.Global.{Global}
@@ -13,7 +13,7 @@ use Rattle.ep_tree.specs.Trees.{ExprTrees, Generators, generator_and}
 use Rattle.ep_tree.specs.Values.{ValueTree, all_defined}
 use Rattle.ep_tree.specs.Views.{domain_tree, expr_tree, expr_trees, generators_of}
 use Rattle.ep_tree.specs.declared.values.Mode.{Mode}
-use Rattle.ep_eval.specs.Generating.{listed_values}
+use Rattle.ep_eval.specs.Generating.{generated_values}
 use Rattle.ep_unroll.specs.Growing.{Grows}
 use Rattle.ep_unroll.specs.Meanings.{AreTerms, worth}
 use Rattle.ep_unroll.specs.Readings.{Numbering, Reading}
@@ -60,7 +60,7 @@ listed_worths nodes numbers parts = option_and_then (λ xs. all_defined (worths 
 
 -- Parts with others behind them: these have values, whatever values decision variables have, and where they have none
 -- there are no parts, or one of them has no value.
-pub record Lists (n : Numbering) (cells : Env) (old new : List GroundNode) (before after : Option (List Unrolled)) (own : Env → Option (List ValueTree)) : Type 0 where
+pub record ListsTerms (n : Numbering) (cells : Env) (old new : List GroundNode) (before after : Option (List Unrolled)) (own : Env → Option (List ValueTree)) : Type 0 where
   pub grows : Grows old new
   pub known : MayHaveTerms (length old) before → MayHaveTerms (length new) after
   pub values : MayHaveTerms (length old) before → (r : Reading n cells)
@@ -68,7 +68,7 @@ pub record Lists (n : Numbering) (cells : Env) (old new : List GroundNode) (befo
 
 -- the parts that generators lead to
 abbrev pub parts_of : Mode → Listing → Generators → Env → Option (List ValueTree)
-parts_of mode l gens env = listed_values mode (expr_tree l.body.now) (expr_trees l.conditions.now) gens env
+parts_of mode l gens env = generated_values mode (expr_tree l.body.now) (expr_trees l.conditions.now) gens env
 
 -- some names over a domain, with the generators behind them
 abbrev pub ranging_over : Ranging → List Name → Generators

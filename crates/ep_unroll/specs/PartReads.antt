@@ -23,8 +23,8 @@ part_with (j ∷ js) [] i = None
 part_with (j ∷ js) (x ∷ xs) i = if int_eq i j then Some x else part_with js xs i
 
 -- the numbers of terms, where each has one
-abbrev pub numbers_at : List GroundNode → List ℤ → List ℕ → Option (List ℤ)
-numbers_at nodes numbers ts = all_there (map (term_value nodes numbers) ts)
+abbrev pub numbers_of_terms : List GroundNode → List ℤ → List ℕ → Option (List ℤ)
+numbers_of_terms nodes numbers ts = all_there (map (term_value nodes numbers) ts)
 
 -- the number that is found under indices among others with keys, where all of these are there
 unfoldable pub found_among : List (List ℤ) → Option (List ℤ) → Option (List ℤ) → Option ℤ
@@ -38,18 +38,18 @@ only_where others x = option_and_then (λ ys. x) others
 pub record IsFound (old new : List GroundNode) (keys : List (List ℤ)) (ts us : List ℕ) (t : ℕ) : Type 0 where
   pub grows : Grows old new
   pub known : t < length new
-  pub value : (numbers : List ℤ) → term_value new numbers t ≡ found_among keys (numbers_at old numbers ts) (numbers_at old numbers us)
+  pub value : (numbers : List ℤ) → term_value new numbers t ≡ found_among keys (numbers_of_terms old numbers ts) (numbers_of_terms old numbers us)
 
 -- A term has another one's number, where some terms have numbers too.
 pub record IsWhole (old new : List GroundNode) (others : List ℕ) (a t : ℕ) : Type 0 where
   pub grows : Grows old new
   pub known : t < length new
-  pub value : (numbers : List ℤ) → term_value new numbers t ≡ only_where (numbers_at old numbers others) (term_value old numbers a)
+  pub value : (numbers : List ℤ) → term_value new numbers t ≡ only_where (numbers_of_terms old numbers others) (term_value old numbers a)
 
 -- the number that is found under the numbers of other terms, where some more have numbers too
 abbrev pub chosen_among : List GroundNode → List ℤ → List (List ℤ) → List ℕ → List ℕ → List ℕ → Option ℤ
 chosen_among nodes numbers keys ts us others =
-    only_where (numbers_at nodes numbers others) (found_among keys (numbers_at nodes numbers ts) (numbers_at nodes numbers us))
+    only_where (numbers_of_terms nodes numbers others) (found_among keys (numbers_of_terms nodes numbers ts) (numbers_of_terms nodes numbers us))
 
 -- A term has that number.
 pub record IsChosen (old new : List GroundNode) (keys : List (List ℤ)) (ts us others : List ℕ) (t : ℕ) : Type 0 where

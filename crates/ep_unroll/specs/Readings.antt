@@ -36,7 +36,7 @@ pub record Numbering : Type 0 where
 
 -- Two environments agree but for decision variables, and those stand for the values of their cells in the second one.
 -- Each name stands for something of its type there, and each cell has a number.
-pub record Reads (n : Numbering) (numbers : List ℤ) (cells values : Env) : Type 0 where
+pub record ReadsCells (n : Numbering) (numbers : List ℤ) (cells values : Env) : Type 0 where
   pub agree : Agree cells values
   pub typed : IsTypedEnv values
   pub names : (name : Name) → ReadsName (n.first name) numbers (cells name) (values name)
@@ -46,4 +46,4 @@ pub record Reads (n : Numbering) (numbers : List ℤ) (cells values : Env) : Typ
 pub record Reading (n : Numbering) (cells : Env) : Type 0 where
   pub numbers : List ℤ
   pub values : Env
-  pub reads : Reads n numbers cells values
+  pub reads : ReadsCells n numbers cells values

@@ -6,7 +6,7 @@ use Rattle.ep_tree.specs.Values.{ValueTree}
 use Rattle.ep_unroll.specs.Growing.{Grows}
 use Rattle.ep_unroll.specs.Meanings.{AreTerms, worth}
 use Rattle.ep_unroll.specs.PartLists.{HaveTerms, worths}
-use Rattle.ep_unroll.specs.PartReads.{numbers_at}
+use Rattle.ep_unroll.specs.PartReads.{numbers_of_terms}
 use Rattle.ep_unroll.specs.Readings.{cells_value, each_from}
 use Rattle.ep_unroll.specs.declared.unrolled.Unrolled.{Unrolled}
 
@@ -14,7 +14,7 @@ use Rattle.ep_unroll.specs.declared.unrolled.Unrolled.{Unrolled}
 pub record IsWholeOf (old new : List GroundNode) (others : List ℕ) (seen : List ℤ → Option ValueTree) (x : Unrolled) : Type 0 where
   pub grows : Grows old new
   pub known : AreTerms (length new) x
-  pub value : (numbers : List ℤ) → worth new numbers x ≡ option_and_then (λ js. seen numbers) (numbers_at old numbers others)
+  pub value : (numbers : List ℤ) → worth new numbers x ≡ option_and_then (λ js. seen numbers) (numbers_of_terms old numbers others)
 
 -- The parts of a block of cells but for its first part, in whose place another stands.
 pub record AreCellsBehind (first : Unrolled) (cell : ℕ) (own : List ℤ) (inner : List (List ℤ)) (xs : List Unrolled) : Type 0 where

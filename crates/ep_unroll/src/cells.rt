@@ -9,7 +9,7 @@ ghost use Rattle.ep_tree.specs.Solutions.{cell_count, cells_bound};
 ghost use Rattle.ep_tree.specs.Types as types;
 ghost use Rattle.ep_tree.specs.declared.values.Mode.{Mode as EachMode};
 ghost use Rattle.ep_eval.specs.Known.{env_of};
-ghost use Rattle.ep_instance.specs.Instances.{find_of, instance_of, mode_of};
+ghost use Rattle.ep_instance.specs.Instances.{find_of, plain_instance, instance_mode};
 ghost use Rattle.ep_unroll.specs.Cells as defined;
 ghost use Rattle.ep_unroll.specs.Cells.{cell_of, find_cells};
 ghost use Rattle.ep_unroll.specs.Firsts.{numbering, numbering_of};
@@ -155,8 +155,8 @@ fn name_finds(alloc: Global, env: &mut Env, finds: &[Find]) -> Result<(), Memory
 
 /// The environment of an instance in which the names of decision variables stand for their cells.
 pub fn env_with_cells(alloc: Global, instance: &Instance) -> Result<Env, Memory>
-    ensures mode { IfOk result (λ env. env.mode ≡ mode_of instance.now) }
-    ensures known { IfOk result (λ env. env_of env ≡ clause_env (instance_of instance.now)) }
+    ensures mode { IfOk result (λ env. env.mode ≡ instance_mode instance.now) }
+    ensures known { IfOk result (λ env. env_of env ≡ clause_env (plain_instance instance.now)) }
 {
     let mut env = instance.env().copy()?;
     name_finds(alloc, &mut env, instance.finds())?;

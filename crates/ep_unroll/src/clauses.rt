@@ -4,7 +4,7 @@ ghost use Rattle.std.specs.Prelude.{IfOk, map, option_map};
 ghost use Rattle.ep_tree.specs.Views.{expr_tree};
 ghost use Rattle.ep_eval.specs.Known.{env_of};
 ghost use Rattle.ep_instance.specs.Instances.{goal_of};
-ghost use Rattle.ep_unroll.specs.Clauses.{AreClauses, IsClause, IsGoal};
+ghost use Rattle.ep_unroll.specs.Clauses.{AreClauses, IsClauseTerm, IsGoal};
 ghost use Rattle.ep_unroll.specs.Firsts.{numbering_of};
 
 use super::expressions::term_of;
@@ -24,7 +24,7 @@ fn clause_term(
     arena: &mut Arena,
     clause: &Expr,
 ) -> Result<Term, Memory>
-    ensures { IfOk result (IsClause (numbering_of env.now.mode table.now) (env_of env.now) arena.old arena.new (expr_tree clause.now)) }
+    ensures { IfOk result (IsClauseTerm (numbering_of env.now.mode table.now) (env_of env.now) arena.old arena.new (expr_tree clause.now)) }
 {
     let scope = Scope {
         alloc,

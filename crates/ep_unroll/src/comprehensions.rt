@@ -2,7 +2,7 @@
 
 ghost use Rattle.std.specs.Prelude.{◌≡◌, ◌++◌, ◌&&◌, ◌∷◌, [], List, Some, IfOk, option_map};
 ghost use Rattle.ep_base.specs.declared.places.Place.{Place};
-ghost use Rattle.ep_eval.specs.Generating.{listed_values};
+ghost use Rattle.ep_eval.specs.Generating.{generated_values};
 ghost use Rattle.ep_eval.specs.Literals.{index_at};
 ghost use Rattle.ep_eval.specs.Scopes.{env_in, mode_in};
 ghost use Rattle.ep_ground.specs.Nodes.{GroundNode};
@@ -10,7 +10,7 @@ ghost use Rattle.ep_tree.specs.Evaluation.{all_true, evaluate, map_both, truth_o
 ghost use Rattle.ep_tree.specs.Trees.{ExprTree, ExprTrees, Generators, comprehension};
 ghost use Rattle.ep_tree.specs.Views.{expr_tree, expr_trees};
 ghost use Rattle.ep_unroll.specs.Meanings.{Means};
-ghost use Rattle.ep_unroll.specs.PartLists.{Lists, parts_in};
+ghost use Rattle.ep_unroll.specs.PartLists.{ListsTerms, parts_in};
 ghost use Rattle.ep_unroll.specs.Readings.{Numbering, Reading};
 
 use super::fixed::{fixed_value, is_fixed};
@@ -100,7 +100,7 @@ pub fn comprehension_matrix<'a>(
     parts: Option<Vec<Unrolled<'a>>>,
 ) -> Result<Unrolled<'a>, Memory>
     ensures { (n : Numbering) → (old nodes : List GroundNode) → (p : Place) → (e : ExprTree) → (gens : Generators) → (conditions : ExprTrees)
-        → n.mode ≡ mode_in scope.entry → Lists n (env_in scope.entry) old nodes (Some []) (parts_in parts.entry) (λ env. listed_values n.mode e conditions gens env)
+        → n.mode ≡ mode_in scope.entry → ListsTerms n (env_in scope.entry) old nodes (Some []) (parts_in parts.entry) (λ env. generated_values n.mode e conditions gens env)
         → IfOk result (Means n (env_in scope.entry) old nodes (comprehension p e gens conditions (index_at domain.now))) }
 {
     match parts {

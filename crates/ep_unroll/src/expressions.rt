@@ -13,7 +13,7 @@ ghost use Rattle.ep_size.specs.Free as free;
 ghost use Rattle.ep_unroll.specs.Firsts.{numbering_of};
 ghost use Rattle.ep_unroll.specs.Meanings.{AreInstancesOf, AreNumbersOf, IsNumberOf, IsTermOf, Means};
 ghost use Rattle.ep_unroll.specs.Picks.{SlotMeans, SlotsMean};
-ghost use Rattle.ep_unroll.specs.PartLists.{ArePartsOf, Lists, parts_at, parts_in, parts_of, ranging_over};
+ghost use Rattle.ep_unroll.specs.PartLists.{ArePartsOf, ListsTerms, parts_at, parts_in, parts_of, ranging_over};
 ghost use Rattle.ep_unroll.specs.Readings.{Numbering};
 ghost use Rattle.ep_unroll.specs.Scalars.{AreScalarsOf};
 ghost use Rattle.ep_unroll.specs.Signed.{AreSigned};
@@ -536,7 +536,7 @@ fn generated<'a>(
     generators: &[Generator],
     parts: Option<Vec<Unrolled<'a>>>,
 ) -> Result<Option<Vec<Unrolled<'a>>>, Memory>
-    ensures { IfOk result (λ more. Lists (numbering_of (mode_in scope.entry) table.now) (env_in scope.entry) arena.old arena.new (parts_in parts.entry) (parts_in more)
+    ensures { IfOk result (λ more. ListsTerms (numbering_of (mode_in scope.entry) table.now) (env_in scope.entry) arena.old arena.new (parts_in parts.entry) (parts_in more)
         (parts_of (mode_in scope.entry) listing.entry (generators_of generators.now))) }
 {
     match generators.split_first() {
@@ -566,7 +566,7 @@ fn over_names<'a>(
     names: &[Name],
     parts: Option<Vec<Unrolled<'a>>>,
 ) -> Result<Option<Vec<Unrolled<'a>>>, Memory>
-    ensures { IfOk result (λ more. Lists (numbering_of (mode_in scope.entry) table.now) (env_in scope.entry) arena.old arena.new (parts_in parts.entry) (parts_in more)
+    ensures { IfOk result (λ more. ListsTerms (numbering_of (mode_in scope.entry) table.now) (env_in scope.entry) arena.old arena.new (parts_in parts.entry) (parts_in more)
         (parts_of (mode_in scope.entry) ranging.entry.listing (ranging_over ranging.entry names.now))) }
 {
     match names.split_first() {
@@ -600,7 +600,7 @@ fn over_numbers<'a>(
     parts: Option<Vec<Unrolled<'a>>>,
 ) -> Result<Option<Vec<Unrolled<'a>>>, Memory>
     requires { domain_values (mode_in scope) (env_in scope) (domain_tree ranging.domain.now) ≡ Some set.now }
-    ensures { IfOk result (λ more. Lists (numbering_of (mode_in scope.entry) table.now) (env_in scope.entry) arena.old arena.new (parts_in parts.entry) (parts_in more)
+    ensures { IfOk result (λ more. ListsTerms (numbering_of (mode_in scope.entry) table.now) (env_in scope.entry) arena.old arena.new (parts_in parts.entry) (parts_in more)
         (λ env. lists_joined (map (parts_at (mode_in scope.entry) env ranging.entry name.now rest.now) set.now))) }
 {
     let scalar = scalar_of(scope, ranging.domain);
@@ -628,7 +628,7 @@ fn with_part<'a>(
     listing: Listing<'_>,
     parts: Option<Vec<Unrolled<'a>>>,
 ) -> Result<Option<Vec<Unrolled<'a>>>, Memory>
-    ensures { IfOk result (λ more. Lists (numbering_of (mode_in scope.entry) table.now) (env_in scope.entry) arena.old arena.new (parts_in parts.entry) (parts_in more)
+    ensures { IfOk result (λ more. ListsTerms (numbering_of (mode_in scope.entry) table.now) (env_in scope.entry) arena.old arena.new (parts_in parts.entry) (parts_in more)
         (part_value (mode_in scope.entry) (expr_tree listing.entry.body.now) (expr_trees listing.entry.conditions.now))) }
 {
     let truth = conditions_hold(scope, listing.conditions)?;

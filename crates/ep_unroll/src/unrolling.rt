@@ -6,7 +6,7 @@ ghost use Rattle.ep_base.specs.Reads.{IsWithinNumbers};
 ghost use Rattle.ep_ground.specs.Bounds.{IsBounded};
 ghost use Rattle.ep_ground.specs.Grounds.{IsWellFormed};
 ghost use Rattle.ep_ground.specs.GroundViews.{plain_ground};
-ghost use Rattle.ep_instance.specs.Instances.{instance_of, mode_of};
+ghost use Rattle.ep_instance.specs.Instances.{plain_instance, instance_mode};
 ghost use Rattle.ep_tree.specs.Closed.{IsClosed};
 ghost use Rattle.ep_tree.specs.Solutions.{instance_limits, instance_size, instance_weight};
 ghost use Rattle.ep_unroll.specs.Cells.{instance_cells};
@@ -24,8 +24,8 @@ use std::alloc::Global;
 
 /// The ground of an instance before it is checked.
 fn ground_of(alloc: Global, instance: &Instance) -> Result<Ground, Memory>
-    ensures cells { IfOk result (λ g. (plain_ground g).cells ≡ instance_cells (instance_of instance.now)) }
-    ensures terms { IfOk result (λ g. IsGroundOf (mode_of instance.now) (instance_of instance.now) (plain_ground g)) }
+    ensures cells { IfOk result (λ g. (plain_ground g).cells ≡ instance_cells (plain_instance instance.now)) }
+    ensures terms { IfOk result (λ g. IsGroundOf (instance_mode instance.now) (plain_instance instance.now) (plain_ground g)) }
 {
     let env = env_with_cells(alloc, instance)?;
     let table = table_of(alloc, instance.finds())?;
@@ -43,10 +43,10 @@ fn ground_of(alloc: Global, instance: &Instance) -> Result<Ground, Memory>
 
 /// Whether a ground has few nodes beside the size and the weight of its instance.
 fn is_small(alloc: Global, instance: &Instance, ground: &Ground) -> Result<bool, Memory>
-    requires { IsClosed (instance_of instance.now) }
+    requires { IsClosed (plain_instance instance.now) }
     ensures { IfOk result (λ small. small ≡ true → length (plain_ground ground.now).nodes
-        ≤ 4 * (instance_size (mode_of instance.now) (instance_of instance.now)
-        + instance_weight (mode_of instance.now) (instance_of instance.now))) }
+        ≤ 4 * (instance_size (instance_mode instance.now) (plain_instance instance.now)
+        + instance_weight (instance_mode instance.now) (plain_instance instance.now))) }
 {
     let count = u128::from(ground.arena.len());
     match measure(alloc, instance) {
@@ -62,17 +62,17 @@ fn is_small(alloc: Global, instance: &Instance, ground: &Ground) -> Result<bool,
 ///
 /// That the ground is well formed, bounded and small is asked of it once it stands, and is believed never to fail.
 pub fn unroll(alloc: Global, instance: &Instance) -> Result<Ground, Memory>
-    requires closed { IsClosed (instance_of instance.now) }
-    requires small { instance_limits (mode_of instance.now) (instance_of instance.now) ≡ [] }
-    requires values { All (λ f. All IsWithinNumbers f.values) (instance_of instance.now).finds }
-    ensures cells { IfOk result (λ g. (plain_ground g).cells ≡ instance_cells (instance_of instance.now)) }
-    ensures clauses { IfOk result (λ g. SaysClauses (mode_of instance.now) (instance_of instance.now) (plain_ground g)) }
-    ensures objective { IfOk result (λ g. SaysObjective (mode_of instance.now) (instance_of instance.now) (plain_ground g)) }
+    requires closed { IsClosed (plain_instance instance.now) }
+    requires small { instance_limits (instance_mode instance.now) (plain_instance instance.now) ≡ [] }
+    requires values { All (λ f. All IsWithinNumbers f.values) (plain_instance instance.now).finds }
+    ensures cells { IfOk result (λ g. (plain_ground g).cells ≡ instance_cells (plain_instance instance.now)) }
+    ensures clauses { IfOk result (λ g. SaysClauses (instance_mode instance.now) (plain_instance instance.now) (plain_ground g)) }
+    ensures objective { IfOk result (λ g. SaysObjective (instance_mode instance.now) (plain_instance instance.now) (plain_ground g)) }
     ensures well_formed { IfOk result (λ g. IsWellFormed (plain_ground g)) }
     ensures bounded { IfOk result (λ g. IsBounded (plain_ground g)) }
     ensures nodes { IfOk result (λ g. length (plain_ground g).nodes
-        ≤ 4 * (instance_size (mode_of instance.now) (instance_of instance.now)
-        + instance_weight (mode_of instance.now) (instance_of instance.now))) }
+        ≤ 4 * (instance_size (instance_mode instance.now) (plain_instance instance.now)
+        + instance_weight (instance_mode instance.now) (plain_instance instance.now))) }
 {
     let ground = ground_of(alloc, instance)?;
     let bounded = is_bounded(alloc, &ground)?;

@@ -4,7 +4,7 @@ use Rattle.std.specs.Prelude.{map, ◌||◌}
 use Rattle.ep_base.specs.Numbers.{has_number}
 use Rattle.ep_base.specs.Reads.{first_or_zero, same_bool}
 use Rattle.enc_var.specs.declared.known.Known.TheVariants as known
-use Rattle.enc_var.specs.Decoding.{VariableLiterals, decoded, among_first, eq_of, known_holds, le_of, literal_holds, no, note_of, place_literal, values_below, values_up_to, yes}
+use Rattle.enc_var.specs.Decoding.{VariableLiterals, decoded, among_first, eq_of, known_holds, le_of, literal_holds, no, literal_of_note, place_literal, values_below, values_up_to, yes}
 
 -- the values -1, 2, 3 and 5, over the variables from 7 on: 7 to 9 say "at least 2, 3, 5", and 10 and 11 "it is 2, 3"
 abbrev four : VariableLiterals
@@ -25,7 +25,7 @@ greatest v = nat_eq v 7 || (nat_eq v 8 || nat_eq v 9)
 
 decodings : map (λ s. decoded s four) (least ∷ second ∷ third ∷ greatest ∷ [])
     ≡ negsuc 0 ∷ pos 2 ∷ pos 3 ∷ pos 5 ∷ []
-unfolding decoded known_holds literal_holds eq_of note_of place_literal values_below has_number first_or_zero same_bool
+unfolding decoded known_holds literal_holds eq_of literal_of_note place_literal values_below has_number first_or_zero same_bool
 decodings = refl
 
 -- a variable without a value is at most nothing and nothing, and the literal of a single value is the first
@@ -36,9 +36,9 @@ abbrev single : VariableLiterals
 single = record { domain = pos 8 ∷ []; first = 4 }
 
 edges : le_of empty (pos 0) ∷ eq_of empty (pos 0) ∷ le_of single (pos 7) ∷ le_of single (pos 8) ∷ [] ≡ known.False ∷ known.False ∷ known.False ∷ known.True ∷ []
-unfolding le_of eq_of among_first note_of place_literal values_below values_up_to has_number
+unfolding le_of eq_of among_first literal_of_note place_literal values_below values_up_to has_number
 edges = refl
 
-notes : note_of single (pos 8) ∷ map (note_of four) (negsuc 0 ∷ pos 2 ∷ pos 3 ∷ pos 5 ∷ []) ≡ yes 4 ∷ no 7 ∷ yes 10 ∷ yes 11 ∷ yes 9 ∷ []
-unfolding note_of place_literal values_below
+notes : literal_of_note single (pos 8) ∷ map (literal_of_note four) (negsuc 0 ∷ pos 2 ∷ pos 3 ∷ pos 5 ∷ []) ≡ yes 4 ∷ no 7 ∷ yes 10 ∷ yes 11 ∷ yes 9 ∷ []
+unfolding literal_of_note place_literal values_below
 notes = refl

@@ -9,7 +9,7 @@ use Rattle.ep_base.specs.declared.operators.CompareOp.{CompareOp}
 use Rattle.ep_base.specs.declared.operators.Sense.{Sense}
 use Rattle.ep_ground.specs.Grounds.{GroundState, HasObjective, IsGroundSolution, IsWellFormed, StandsOver, additions, additions_in, ground_objective, named_terms}
 use Rattle.ep_ground.specs.Nodes.{cell, constant, sum, quotient, least, greatest, compare}
-use Rattle.ep_ground.specs.Terms.{node_value, on_both, term_value, truth, value_at, values_from, values_of}
+use Rattle.ep_ground.specs.Terms.{node_value, on_both, term_value, truth, value_at, values_from, term_values_of}
 use Rattle.ep_ground.specs.declared.cells.Cell.{Cell}
 
 -- a cell from -2 to 3
@@ -28,12 +28,12 @@ divided = record {
 -- 3 over -2, 0, 3 and a number that the cell doesn't have; without a cell there is no number
 objectives : map (ground_objective divided) ((negsuc 1 ∷ []) ∷ (pos 0 ∷ []) ∷ (pos 3 ∷ []) ∷ (pos 1 ∷ []) ∷ [] ∷ [])
     ≡ Some (negsuc 1) ∷ None ∷ Some (pos 1) ∷ Some (pos 3) ∷ None ∷ []
-unfolding ground_objective term_value values_from value_at node_value on_both values_of truth numbers.quotient numbers.floor_over
+unfolding ground_objective term_value values_from value_at node_value on_both term_values_of truth numbers.quotient numbers.floor_over
 objectives = refl
 
 -- -2 is one of the cell's numbers, is less than 3, and 3 / -2 has a number
 is_kept : IsGroundSolution divided (negsuc 1 ∷ [])
-unfolding HasObjective term_value values_from value_at node_value on_both values_of truth numbers.quotient numbers.floor_over numbers.of_bool numbers.compare_holds
+unfolding HasObjective term_value values_from value_at node_value on_both term_values_of truth numbers.quotient numbers.floor_over numbers.of_bool numbers.compare_holds
 is_kept = record {
   cells = (Contains-here (negsuc 1) (pos 0 ∷ pos 3 ∷ []), tt);
   clauses = All-cons (λ t. term_value divided.nodes (negsuc 1 ∷ []) t ≡ Some (pos 1)) 2 [] refl (All-nil _);
@@ -42,7 +42,7 @@ is_kept = record {
 
 -- 0 isn't kept, since 3 / 0 has no number
 is_undefined : IsGroundSolution divided (pos 0 ∷ []) → ⊥
-unfolding HasObjective term_value values_from value_at node_value on_both values_of truth numbers.quotient numbers.floor_over
+unfolding HasObjective term_value values_from value_at node_value on_both term_values_of truth numbers.quotient numbers.floor_over
 is_undefined s = false≢true s.objective
 
 -- additions: three parts ask for two, and what isn't a sum for none
@@ -59,7 +59,7 @@ is_well_formed = record {
 
 -- a false clause, a number that the cell doesn't have, and too few numbers keep nothing
 is_false : IsGroundSolution divided (pos 3 ∷ []) → ⊥
-unfolding HasObjective term_value values_from value_at node_value on_both values_of truth numbers.of_bool numbers.compare_holds
+unfolding HasObjective term_value values_from value_at node_value on_both term_values_of truth numbers.of_bool numbers.compare_holds
 is_false s = one≢none (ap (λ o. number_or o) (s.clauses 0 0 (omega arith)))
   where
     number_or : Option ℤ → ℤ

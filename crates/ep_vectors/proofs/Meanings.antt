@@ -9,7 +9,7 @@ use Rattle.std.proofs.lemmas.Cmp.{int_eq_equiv}
 use Rattle.std.proofs.lemmas.Map.Views.{list_any-from_Contains}
 use Rattle.ep_base.specs.Numbers.{has_number}
 use Rattle.ep_base.specs.Reads.{first_or_zero, same_bool}
-use Rattle.enc_var.specs.Decoding.{Means, VariableLiterals, decoded, among_first, eq_of, known_holds, le_of, literal_holds, note_of, place_literal, values_below, values_up_to}
+use Rattle.enc_var.specs.Decoding.{Means, VariableLiterals, decoded, among_first, eq_of, known_holds, le_of, literal_holds, literal_of_note, place_literal, values_below, values_up_to}
 
 -- the values -1, 2, 3 and 5, over the variables from 7 on: 7 to 9 say "at least 2, 3, 5", and 10 and 11 "it is 2, 3"
 abbrev four : VariableLiterals
@@ -33,7 +33,7 @@ five_at_most (pos (suc (suc (suc (suc (suc n)))))) = grind (arith, ints)
 
 -- where it is said to be a number, that is 5
 five_equal : (v : ℤ) → known_holds five (eq_of four v) ≡ int_eq (pos 5) v
-unfolding known_holds literal_holds eq_of note_of place_literal values_below has_number same_bool
+unfolding known_holds literal_holds eq_of literal_of_note place_literal values_below has_number same_bool
 five_equal (negsuc (suc n)) = grind (arith, ints)
 five_equal (negsuc zero) = refl
 five_equal (pos zero) = refl
@@ -49,8 +49,8 @@ no_four : Contains four.domain (pos 4) → ⊥
 no_four found = false≢true (list_any-from_Contains int_eq_equiv (pos 4) four.domain found)
 
 -- of the values' notes that of 5 alone is true
-five_noted : (v : ℤ) → Contains four.domain v → literal_holds five (note_of four v) ≡ int_eq (pos 5) v
-unfolding literal_holds note_of place_literal values_below same_bool
+five_noted : (v : ℤ) → Contains four.domain v → literal_holds five (literal_of_note four v) ≡ int_eq (pos 5) v
+unfolding literal_holds literal_of_note place_literal values_below same_bool
 five_noted (negsuc (suc n)) found = grind (arith, ints)
 five_noted (negsuc zero) found = refl
 five_noted (pos zero) found = refl
@@ -63,12 +63,12 @@ five_noted (pos (suc (suc (suc (suc (suc (suc n))))))) found = grind (arith, int
 
 -- the variable is 5
 five_is : decoded five four ≡ pos 5
-unfolding decoded known_holds literal_holds eq_of note_of place_literal values_below has_number first_or_zero same_bool
+unfolding decoded known_holds literal_holds eq_of literal_of_note place_literal values_below has_number first_or_zero same_bool
 five_is = refl
 
 -- and its literals mean that
 five_means : Means five four
-unfolding decoded known_holds literal_holds eq_of note_of place_literal values_below has_number first_or_zero same_bool
+unfolding decoded known_holds literal_holds eq_of literal_of_note place_literal values_below has_number first_or_zero same_bool
 five_means = record {
   among = (3, omega arith, refl);
   at_most = five_at_most;
@@ -82,12 +82,12 @@ with_gap v = nat_eq v 7 || nat_eq v 9
 
 -- the variable is 5 again
 gap_is : decoded with_gap four ≡ pos 5
-unfolding decoded known_holds literal_holds eq_of note_of place_literal values_below has_number first_or_zero same_bool
+unfolding decoded known_holds literal_holds eq_of literal_of_note place_literal values_below has_number first_or_zero same_bool
 gap_is = refl
 
 -- but it is said to be at most 2, so its literals don't mean that
 gap_is_refused : Means with_gap four → ⊥
-unfolding decoded known_holds literal_holds le_of among_first values_up_to eq_of note_of place_literal values_below has_number first_or_zero same_bool
+unfolding decoded known_holds literal_holds le_of among_first values_up_to eq_of literal_of_note place_literal values_below has_number first_or_zero same_bool
 gap_is_refused m = false≢true (sym (m.at_most (pos 2)))
 
 -- under which 10 alone is true: it is 2, and not at least 2
@@ -96,12 +96,12 @@ both v = nat_eq v 10
 
 -- the variable is -1, the first value that is said
 both_is : decoded both four ≡ negsuc 0
-unfolding decoded known_holds literal_holds eq_of note_of place_literal values_below has_number first_or_zero same_bool
+unfolding decoded known_holds literal_holds eq_of literal_of_note place_literal values_below has_number first_or_zero same_bool
 both_is = refl
 
 -- but it is said to be 2 as well, so its literals don't mean that
 both_is_refused : Means both four → ⊥
-unfolding decoded known_holds literal_holds eq_of note_of place_literal values_below has_number first_or_zero same_bool
+unfolding decoded known_holds literal_holds eq_of literal_of_note place_literal values_below has_number first_or_zero same_bool
 both_is_refused m = false≢true (sym (m.equal (pos 2)))
 
 -- under which 7 alone is true: it is at least 2, less than 3, and not 2
@@ -110,12 +110,12 @@ none v = nat_eq v 7
 
 -- no value is said, so that 0 is given
 none_is : decoded none four ≡ pos 0
-unfolding decoded known_holds literal_holds eq_of note_of place_literal values_below has_number first_or_zero same_bool
+unfolding decoded known_holds literal_holds eq_of literal_of_note place_literal values_below has_number first_or_zero same_bool
 none_is = refl
 
 -- but 0 is none of the values, so the literals mean nothing
 none_is_refused : Means none four → ⊥
-unfolding decoded known_holds literal_holds eq_of note_of place_literal values_below has_number first_or_zero same_bool
+unfolding decoded known_holds literal_holds eq_of literal_of_note place_literal values_below has_number first_or_zero same_bool
 none_is_refused m = false≢true (list_any-from_Contains int_eq_equiv (pos 0) four.domain m.among)
 
 -- the single value 8, with the variable 4, which has to be true
@@ -124,7 +124,7 @@ single = record { domain = pos 8 ∷ []; first = 4 }
 
 -- where the variable 4 is false, its note says otherwise
 single_is_refused : Means (λ v. false) single → ⊥
-unfolding decoded known_holds literal_holds eq_of note_of place_literal values_below has_number first_or_zero same_bool
+unfolding decoded known_holds literal_holds eq_of literal_of_note place_literal values_below has_number first_or_zero same_bool
 single_is_refused m = false≢true (m.noted (pos 8) (0, omega arith, refl))
 
 -- no assignment means a value of a variable without one

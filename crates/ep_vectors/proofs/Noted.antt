@@ -10,7 +10,7 @@ use Rattle.std.proofs.lemmas.List.Elements.{All-from_recursion, All-head, All-ni
 use Rattle.cnf_core.proofs.Members.{Contains-cases, none_in_nil}
 use Rattle.cnf_core.specs.Clauses.{IsTrueUnder, SatisfiesClause}
 use Rattle.cnf_core.specs.Events.{LogEvent, LogState, Note, givens, is_given}
-use Rattle.enc_var.specs.Decoding.{no, note_of, place_literal, values_below, yes}
+use Rattle.enc_var.specs.Decoding.{no, literal_of_note, place_literal, values_below, yes}
 use Rattle.enc_var.specs.Notes.{cell_notes, cell_text, indices_text, joined_numbers, notes_of_cell}
 use Rattle.ep_flat.specs.Flats.{StandForCells}
 use Rattle.ep_ground.specs.declared.cells.Cell.{Cell}
@@ -49,7 +49,7 @@ names = refl
 
 -- the notes of a cell of 1 and 2 whose literals begin at the variable 1
 made : cell_notes (record { domain = one_or_two; first = 1 } ∷ []) (cell ∷ []) (0 ∷ []) ≡ notes
-unfolding cell_notes notes_of_cell cell_text indices_text note_of place_literal values_below
+unfolding cell_notes notes_of_cell cell_text indices_text literal_of_note place_literal values_below
 made = refl
 
 -- the notes tell 1 where the variable 1 is false

@@ -11,7 +11,7 @@ use Rattle.cnf_core.specs.Steps.{IsAtEnd, HasTrueLiteral, HasTwoNotFalse}
 use Rattle.cnf_core.proofs.Members.{either, none_in_nil, negation-negation, Contains-here, Contains-there, Contains-cases, test_from_Contains, All-from_contains}
 use Rattle.cnf_core.proofs.Readings.{reading_ends, reading_goes_on}
 use Rattle.cnf_core.proofs.Reading.{Settled, reading_fails}
-use Rattle.sat_state.specs.Trail.{Gives, IsFalsified, value_of}
+use Rattle.sat_state.specs.Trail.{Gives, IsFalsified, trail_value}
 use Rattle.sat_state.proofs.Literals.{not_true, not_false, no_literal, no_value}
 use Rattle.std.proofs.lemmas.List.Sorted.{IsPermutation-reverse, IsPermutation-sym, Contains-permutation}
 use Rattle.sat_search.specs.Analysis.{is_marked, IsNamedIn, MarksClause, clauses_of_numbers, StandsIn, IsTraced, KeepsMore, IsDecisionAt, HasLast, IsExplained, IsCut, IsUnmarkedBetween}
@@ -172,7 +172,7 @@ in_one x y found = elim (Contains-cases x [] y found) [ inl is ↦ is | inr none
 -- the negation of the literal at a cut is the last of what is kept from it on
 pub last_kept : (clauses : List (List Literal)) (trail : List Literal) (marks : List Bool) (place decision : ℕ) (l : Literal) (first lits : List Literal) → IsCut clauses trail marks place decision → l ≡ get_or trail place l → first ≡ negation l ∷ [] → KeepsMore (take decision trail) first lits → HasLast clauses lits
 last_kept clauses trail marks place decision l first lits cut is one keeps =
-    let free : value_of (take decision trail) l.var ≡ None = ap (λ (x : Literal). value_of (take decision trail) x.var) is ∙ cut.free l in
+    let free : trail_value (take decision trail) l.var ≡ None = ap (λ (x : Literal). trail_value (take decision trail) x.var) is ∙ cut.free l in
     record {
       trues = take decision trail;
       last = negation l;
@@ -215,7 +215,7 @@ decision_cut clauses trail marks hints i l is decision traced = record {
 }
 
 -- a variable without a value before a place has none before a lower one
-pub free_below : (trail : List Literal) (low high v : ℕ) → low ≤ high → value_of (take high trail) v ≡ None → value_of (take low trail) v ≡ None
+pub free_below : (trail : List Literal) (low high v : ℕ) → low ≤ high → trail_value (take high trail) v ≡ None → trail_value (take low trail) v ≡ None
 free_below trail low high v order free =
     no_value (take low trail) v (subst (All (λ (l : Literal). l.var ≢ v)) (take-take low high trail order) (All-take (λ (l : Literal). l.var ≢ v) low (take high trail) (no_literal (take high trail) v free)))
 

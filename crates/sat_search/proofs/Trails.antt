@@ -8,7 +8,7 @@ use Rattle.std.proofs.lemmas.List.{get_or-map, take-map, length-map}
 use Rattle.std.proofs.lemmas.List.Elements.{All-head, All-tail}
 use Rattle.cnf_core.specs.Literal.{Literal}
 use Rattle.cnf_core.proofs.Members.{either, Contains-here, Contains-there}
-use Rattle.sat_state.specs.Trail.{Entry, literals, value_of, entry_of, HasReason, IsGrounded}
+use Rattle.sat_state.specs.Trail.{Entry, literals, trail_value, entry_of, HasReason, IsGrounded}
 use Rattle.sat_state.proofs.Literals.{no_literal}
 use Rattle.sat_search.specs.Analysis.{IsDecisionAt}
 
@@ -73,7 +73,7 @@ decision_read clauses trail lits i v l grounded are within is var read =
     (ap (λ (w : ℕ). option_map (λ (e : Entry). e.reason) (entry_of trail w)) (sym var) ∙ read)
 
 -- the variable of a place had no value before it
-pub free_at : (clauses : List (List Literal)) (trail : List Entry) (i : ℕ) (d : Literal) → IsGrounded clauses trail → i < length (literals trail) → value_of (take i (literals trail)) (get_or (literals trail) i d).var ≡ None
+pub free_at : (clauses : List (List Literal)) (trail : List Entry) (i : ℕ) (d : Literal) → IsGrounded clauses trail → i < length (literals trail) → trail_value (take i (literals trail)) (get_or (literals trail) i d).var ≡ None
 free_at clauses trail i d grounded within =
     let get = λ (e : Entry). e.literal in
     let there : i < length trail = omega (arith, within, length-map trail get) in

@@ -9,7 +9,7 @@ use Rattle.cnf_core.specs.Clauses.{SatisfiesClause, Satisfies}
 use Rattle.cnf_core.specs.Events.{LogEvent, given, step, clauses_of, givens}
 use Rattle.cnf_core.specs.Steps.{IsAtEnd, IsConsistent, HasTrueLiteral, HasTwoNotFalse}
 use Rattle.cnf_core.proofs.Members.{either, or_cases, Contains-from_test, test_from_Contains, All-from_contains}
-use Rattle.sat_state.specs.Trail.{Entry, literals, value_of}
+use Rattle.sat_state.specs.Trail.{Entry, literals, trail_value}
 use Rattle.sat_state.proofs.Literals.{true_or_false}
 use Rattle.sat_state.proofs.Settling.{length_front, front_again}
 use Rattle.sat_search.specs.Analysis.{AllHaveValues, AreInRange, KeepsValues}
@@ -45,7 +45,7 @@ stays_true old new l within front is =
     (contains_front (length old) (literals new) l (omega (arith, within, length-map new get))
     (subst (λ (ls : List Literal). Contains ls l) (sym (take-map get (length old) new ∙ ap literals front)) (Contains-from_test (literals old) l is)))
 
-pub value_stays : (old new : List Entry) (v : ℕ) → length old ≤ length new → take (length old) new ≡ old → IsSome (value_of (literals old) v) → IsSome (value_of (literals new) v)
+pub value_stays : (old new : List Entry) (v : ℕ) → length old ≤ length new → take (length old) new ≡ old → IsSome (trail_value (literals old) v) → IsSome (trail_value (literals new) v)
 value_stays old new v within front some =
     choice_some (is_among (literals new) (record { var = v; positive = true })) (is_among (literals new) (record { var = v; positive = false }))
     (elim (choice_cases (is_among (literals old) (record { var = v; positive = true })) (is_among (literals old) (record { var = v; positive = false })) some) [
@@ -89,7 +89,7 @@ pub satisfies_givens : (vars : ℕ) (trail : List Entry) (clauses : List (List L
 satisfies_givens vars trail clauses events are at_end values range =
     givens_satisfied (value_in (literals trail)) events (subst (Satisfies (value_in (literals trail))) are (all_satisfied vars trail clauses at_end values range))
 
-some_value : (trues : List Literal) (v : ℕ) (p : Bool) → Contains trues (record { var = v; positive = p }) → IsSome (value_of trues v)
+some_value : (trues : List Literal) (v : ℕ) (p : Bool) → Contains trues (record { var = v; positive = p }) → IsSome (trail_value trues v)
 some_value trues v true found = choice_some (is_among trues (record { var = v; positive = true })) (is_among trues (record { var = v; positive = false })) (inl (test_from_Contains trues (record { var = v; positive = true }) found))
 some_value trues v false found = choice_some (is_among trues (record { var = v; positive = true })) (is_among trues (record { var = v; positive = false })) (inr (test_from_Contains trues (record { var = v; positive = false }) found))
 
@@ -100,15 +100,15 @@ stays_decided old mid new e is front v some =
     let both = front_again old mid new first front in
     value_stays old new v (length_front old new both) both some
 
-pub value_decided : (old mid new : List Entry) (e : Entry) → mid ≡ old ++ e ∷ [] → take (length mid) new ≡ mid → IsSome (value_of (literals new) e.literal.var)
+pub value_decided : (old mid new : List Entry) (e : Entry) → mid ≡ old ++ e ∷ [] → take (length mid) new ≡ mid → IsSome (trail_value (literals new) e.literal.var)
 value_decided old mid new e is front =
     value_stays mid new e.literal.var (length_front mid new front) front
     (some_value (literals mid) e.literal.var e.literal.positive
     (subst (λ (es : List Entry). Contains (literals es) e.literal) (sym is)
     (subst (λ (ls : List Literal). Contains ls e.literal) (sym (map_push (λ (x : Entry). x.literal) old e)) (Contains-push (literals old) e.literal))))
 
-pub values_more : (vars : ℕ) (trail : List Entry) → AllHaveValues vars trail → IsSome (value_of (literals trail) (vars + 1)) → AllHaveValues (vars + 1) trail
+pub values_more : (vars : ℕ) (trail : List Entry) → AllHaveValues vars trail → IsSome (trail_value (literals trail) (vars + 1)) → AllHaveValues (vars + 1) trail
 values_more vars trail before here v low high = elim (cases_lt vars v) [
-  | inl above ↦ subst (λ (w : ℕ). IsSome (value_of (literals trail) w)) (omega arith) here
+  | inl above ↦ subst (λ (w : ℕ). IsSome (trail_value (literals trail) w)) (omega arith) here
   | inr within ↦ before v low within
 ]

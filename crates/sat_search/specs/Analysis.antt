@@ -5,7 +5,7 @@ use Rattle.cnf_core.specs.Literal.{Literal, negation, IsOrdered}
 use Rattle.cnf_core.specs.declared.lit.TheConstants.{MOST_VARIABLE}
 use Rattle.cnf_core.specs.Reading.{reading_succeeds}
 use Rattle.cnf_core.specs.Steps.{IsLastOf, IsAtEnd}
-use Rattle.sat_state.specs.Trail.{Entry, literals, value_of}
+use Rattle.sat_state.specs.Trail.{Entry, literals, trail_value}
 use Rattle.sat_state.specs.View.{StateView}
 
 -- the variables of these literals go from 1 to the number
@@ -20,11 +20,11 @@ pub record IsKnown (vars : ℕ) (state : StateView) : Type 0 where
 
 -- each variable from 1 to the number has a value
 abbrev pub AllHaveValues : ℕ → List Entry → Type 0
-AllHaveValues vars trail = (v : ℕ) → 1 ≤ v → v ≤ vars → IsSome (value_of (literals trail) v)
+AllHaveValues vars trail = (v : ℕ) → 1 ≤ v → v ≤ vars → IsSome (trail_value (literals trail) v)
 
 -- a variable that had a value has one
 abbrev pub KeepsValues : List Entry → List Entry → Type 0
-KeepsValues old new = (v : ℕ) → IsSome (value_of (literals old) v) → IsSome (value_of (literals new) v)
+KeepsValues old new = (v : ℕ) → IsSome (trail_value (literals old) v) → IsSome (trail_value (literals new) v)
 
 -- whether a variable is marked
 abbrev pub is_marked : List Bool → ℕ → Bool
@@ -46,7 +46,7 @@ pub record MarksClause (old new : List Bool) (clause : List Literal) : Type 0 wh
 pub record IsDecisionAt (clauses : List (List Literal)) (trail : List Literal) (place : ℕ) : Type 0 where
   pub there : place < length trail
   pub at_end : IsAtEnd (take place trail) clauses
-  pub free : (d : Literal) → value_of (take place trail) (slice_index_or trail place d).var ≡ None
+  pub free : (d : Literal) → trail_value (take place trail) (slice_index_or trail place d).var ≡ None
 
 -- no literal of the trail between these places is marked
 abbrev pub IsUnmarkedBetween : List Literal → List Bool → ℕ → ℕ → Type 0
@@ -57,7 +57,7 @@ pub record IsCut (clauses : List (List Literal)) (trail : List Literal) (marks :
   pub order : decision ≤ place
   pub there : place < length trail
   pub at_end : IsAtEnd (take decision trail) clauses
-  pub free : (d : Literal) → value_of (take decision trail) (slice_index_or trail place d).var ≡ None
+  pub free : (d : Literal) → trail_value (take decision trail) (slice_index_or trail place d).var ≡ None
   pub marked : (d : Literal) → is_marked marks (slice_index_or trail place d).var ≡ true
   pub alone : IsUnmarkedBetween trail marks decision place
 

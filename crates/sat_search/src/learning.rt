@@ -3,7 +3,7 @@
 ghost use Rattle.std.specs.Prelude.{◌≡◌, ◌⊎◌, ℕ, ◌+◌, ◌<◌, ◌≤◌, [], ◌∷◌, ◌++◌, length, take, All, Bool, true, false, Some, None, IfOk, OnOk, IsSome, IfSome, slice_index_or, slice_set, vec_len, IsOk};
 ghost use Rattle.std.specs.Option.{option_map, option_map_or, ForSome};
 ghost use Rattle.cnf_core.specs.Literal.{Literal, negation, IsOrdered};
-ghost use Rattle.sat_state.specs.Trail.{literals, value_of, entry_of, NamesFalsified};
+ghost use Rattle.sat_state.specs.Trail.{literals, trail_value, entry_of, NamesFalsified};
 ghost use Rattle.sat_search.specs.Analysis.{IsKnown, is_marked, MarksClause, IsTraced, IsDecisionAt, IsUnmarkedBetween, IsCut, KeepsMore, HasLast, IsExplained, count_marked, CountsMarks};
 
 use crate::levels::level_in;
@@ -136,7 +136,7 @@ struct Cut {
 fn cut_at(state: &State, marks: &Marks, place: usize, last: u64) -> Option<Cut>
     requires within { place < length (literals state.now.trail) }
     requires marked { (d : Literal) → is_marked marks.now (slice_index_or (literals state.now.trail) place d).var ≡ true }
-    requires free { (d : Literal) → value_of (take place (literals state.now.trail)) (slice_index_or (literals state.now.trail) place d).var ≡ None }
+    requires free { (d : Literal) → trail_value (take place (literals state.now.trail)) (slice_index_or (literals state.now.trail) place d).var ≡ None }
     ensures { IfSome result (λ cut. (cut.place ≡ place) × IsCut state.now.clauses (literals state.now.trail) marks.now place cut.decision) }
 {
     if last != 1 {

@@ -3,7 +3,7 @@
 
 ghost use Rattle.std.specs.Prelude.{◌≡◌, ℕ, ◌<◌, length, Some, IfSome, IsSome};
 ghost use Rattle.std.specs.Option.{option_map};
-ghost use Rattle.sat_state.specs.Trail.{literals, value_of, entry_of};
+ghost use Rattle.sat_state.specs.Trail.{literals, trail_value, entry_of};
 
 use crate::levels::level_in;
 use crate::marks::Marks;
@@ -93,7 +93,7 @@ fn has_implied_reason(state: &State, marks: &Marks, seen: &mut Seen, var: u64, d
 /// The number of the clause that gave a literal of the trail, if that clause's other literals are false at level 0 or follow from
 /// what is marked.
 pub fn removal(state: &State, marks: &Marks, seen: &mut Seen, lit: Lit) -> Option<u64>
-    requires { IsSome (value_of (literals state.now.trail) lit.var) }
+    requires { IsSome (trail_value (literals state.now.trail) lit.var) }
     ensures { IfSome result (λ number. option_map (λ e. e.reason) (entry_of state.now.trail lit.var) ≡ Some (Some number)) }
 {
     if has_implied_reason(state, marks, seen, lit.var(), DEPTH) {

@@ -2,7 +2,7 @@
 
 ghost use Rattle.std.specs.Prelude.{◌≡◌, ◌⊎◌, ℕ, ◌<◌, ◌≤◌, ◌∷◌, ◌++◌, [], length, All, IfOk, OnOk, IsNone, IsSome, IfSome};
 ghost use Rattle.cnf_core.specs.Events.{clauses_of, nonempty_steps, HintsAreThere};
-ghost use Rattle.sat_state.specs.Trail.{literals, value_of, NamesFalsified};
+ghost use Rattle.sat_state.specs.Trail.{literals, trail_value, NamesFalsified};
 ghost use Rattle.sat_state.specs.View.{IsPropagated};
 ghost use Rattle.sat_search.specs.Analysis.{IsKnown, AreInRange, AllHaveValues, KeepsValues, HasTwoFrom};
 ghost use Rattle.sat_search.specs.Logs.{IsSound, IsContinued, HasEnded, IsAnswer, with_step};
@@ -46,7 +46,7 @@ fn decide(state: &mut State, vars: u64, var: u64, positive: bool) -> Option<u64>
     ensures falsified { IfSome result (NamesFalsified state.new.clauses state.new.trail) }
     ensures propagated { IsNone result → IsPropagated state.new }
     ensures stays { KeepsValues state.old.trail state.new.trail }
-    ensures value { 1 ≤ var → var ≤ vars → IsSome (value_of (literals state.new.trail) var) }
+    ensures value { 1 ≤ var → var ≤ vars → IsSome (trail_value (literals state.new.trail) var) }
 {
     if var == 0 || var > vars || state.value(var).is_some() {
         return None;

@@ -10,7 +10,7 @@ use Rattle.sat_state.specs.Stored.{clause_at}
 use Rattle.sat_state.specs.Watching.{no_lit, lit_at}
 use Rattle.sat_state.specs.Guards.{is_false, IsFresh, ArePartners, IsPair, AreWatched}
 use Rattle.sat_state.specs.Tiered.{far_at}
-use Rattle.sat_state.specs.Joined.{AreJoined, IsNotLow, HasHigh, place_of, heads_of}
+use Rattle.sat_state.specs.Joined.{AreJoined, IsNotLow, HasHigh, place_in_queue, heads_of}
 use Rattle.sat_state.specs.declared.parts.Parts.{Parts}
 use Rattle.sat_state.proofs.Literals.{Contains-from_among, among_from_Contains}
 use Rattle.sat_state.proofs.Linked.{literal_again}
@@ -256,7 +256,7 @@ joined_added old new clause j may known is_clause size same more stays fresh cla
   grounded = rw (clauses, assigned) (grounded_more old.clauses.lists clause old.assigned.trail j.grounded may);
   watched = rw (clauses, assigned, queue)
       (watched_added old.clauses.lists old.watches.lits old.assigned.trail old.queue.checked (heads_of old.queue old.watches.fars) j.watched j.checked_in clause new.watches.lits (heads_of old.queue new.watches.fars) size same
-      (λ x lt. ap (place_of old.queue) (stays x (omega (arith, lt, j.fars)))) fresh);
+      (λ x lt. ap (place_in_queue old.queue) (stays x (omega (arith, lt, j.fars)))) fresh);
   checked_in = rw (clauses, queue) (omega (arith, j.checked_in, length_push old.clauses.lists clause));
   head_in = rw (assigned, queue) j.head_in;
   present = rw (assigned, queue) j.present;

@@ -6,13 +6,13 @@ use Rattle.std.proofs.lemmas.Bool.{cases_lt, eq-eqb}
 use Rattle.std.proofs.lemmas.List.{take_all, get_or-drop, length-drop}
 use Rattle.cnf_core.specs.Literal.{Literal, negation}
 use Rattle.cnf_core.specs.Steps.{IsAtEnd, IsLastOf}
-use Rattle.sat_state.specs.Trail.{Entry, literals, level_of, value_of, HasReason, Gives, StandsOn, IsGrounded, NamesFalsified}
+use Rattle.sat_state.specs.Trail.{Entry, literals, level_of, trail_value, HasReason, Gives, StandsOn, IsGrounded, NamesFalsified}
 use Rattle.sat_state.specs.Joined.{some_entry, IsAllSeen}
 use Rattle.sat_state.specs.declared.parts.Parts.{Parts}
 use Rattle.sat_state.proofs.Literals.{not_true, not_false}
 use Rattle.sat_state.proofs.Ends.{all_forced, none_falsified, none_unit, not_among}
 
-unit_of : (trues clause : List Literal) (l : Literal) → Gives trues clause l → value_of trues l.var ≡ None → IsLastOf trues clause l
+unit_of : (trues clause : List Literal) (l : Literal) → Gives trues clause l → trail_value trues l.var ≡ None → IsLastOf trues clause l
 unit_of trues clause l gives free = record {
   in_clause = gives.in_clause;
   others = gives.others_false;
@@ -20,7 +20,7 @@ unit_of trues clause l gives free = record {
   not_false = not_among trues (negation l) (not_false trues l free);
 }
 
-no_reason : (clauses : List (List Literal)) (trues : List Literal) (l : Literal) (reason : Option ℕ) → IsAtEnd trues clauses → IsSome reason → HasReason clauses trues l reason → value_of trues l.var ≡ None → ⊥
+no_reason : (clauses : List (List Literal)) (trues : List Literal) (l : Literal) (reason : Option ℕ) → IsAtEnd trues clauses → IsSome reason → HasReason clauses trues l reason → trail_value trues l.var ≡ None → ⊥
 no_reason clauses trues l None ends some has free = cc some
 no_reason clauses trues l (Some n) ends some has free = none_unit trues clauses ends n [] has.0 l (unit_of trues (get_or clauses n []) l has.1 free)
 

@@ -6,14 +6,14 @@ use Rattle.std.proofs.lemmas.List.Elements.{All-nil, All-push, All-same, All-con
 use Rattle.cnf_core.specs.Literal.{Literal, negation, is_among, code_of, IsClause, VariablesUpTo}
 use Rattle.cnf_core.specs.Steps.{IsAtEnd, IsConsistent, HasTrueLiteral, HasTwoNotFalse}
 use Rattle.cnf_core.proofs.Members.{Contains-here, Contains-cases, none_in_nil}
-use Rattle.sat_state.specs.Trail.{Entry, literals, level_of, next_level, value_of, Gives, IsFalsified, IsGrounded}
+use Rattle.sat_state.specs.Trail.{Entry, literals, level_of, next_level, trail_value, Gives, IsFalsified, IsGrounded}
 use Rattle.sat_state.specs.Stored.{Stored, clause_at}
-use Rattle.sat_state.specs.Assigned.{Assigned}
+use Rattle.sat_state.specs.Assigned.{TrailState}
 use Rattle.sat_state.specs.Watching.{no_lit, lit_at}
 use Rattle.sat_state.specs.Tiered.{far_at, IsNext}
 use Rattle.sat_state.specs.View.{IsGuarded}
 use Rattle.sat_state.specs.Guards.{is_false, IsTrueBy, IsPair, ArePartners, AreWatched}
-use Rattle.sat_state.specs.Joined.{AreJoined, GoesOn, IsAllSeen, IsInWalk, IsWalking, some_entry, place_of, heads_of}
+use Rattle.sat_state.specs.Joined.{AreJoined, GoesOn, IsAllSeen, IsInWalk, IsWalking, some_entry, place_in_queue, heads_of}
 use Rattle.sat_state.specs.declared.parts.Queue.{Queue}
 use Rattle.sat_state.specs.declared.parts.Parts.{Parts}
 use Rattle.sat_state.proofs.Literals.{Contains-from_among}
@@ -24,10 +24,10 @@ use Rattle.sat_state.proofs.Grounds.{grounded_push, next_stands, literals_push}
 use Rattle.sat_state.proofs.Guarded.{turned, literals_grow, watched_push, watched_checked, watched_walked, watched_moved, at_end, watched_back}
 
 -- a literal that is neither true nor false is of a variable without a value
-pub free_literal : (trues : List Literal) (l : Literal) → is_among trues l ≡ false → is_among trues (negation l) ≡ false → value_of trues l.var ≡ None
+pub free_literal : (trues : List Literal) (l : Literal) → is_among trues l ≡ false → is_among trues (negation l) ≡ false → trail_value trues l.var ≡ None
 free_literal trues l a b = by_sign l.positive refl
   where
-    by_sign : (p : Bool) → l.positive ≡ p → value_of trues l.var ≡ None
+    by_sign : (p : Bool) → l.positive ≡ p → trail_value trues l.var ≡ None
     by_sign true e =
         let first : is_among trues (record { var = l.var; positive = true }) ≡ false = subst (λ (p : Bool). is_among trues (record { var = l.var; positive = p }) ≡ false) e a in
         let second : is_among trues (record { var = l.var; positive = false }) ≡ false = subst (λ (p : Bool). is_among trues (record { var = l.var; positive = Rattle.std.proofs.Common.not p }) ≡ false) e b in
@@ -48,9 +48,9 @@ module _ (p : Parts) (j : AreJoined p) where
   joined_low = levels_within p.clauses.lists p.assigned.trail j.grounded
 
   -- the next entry of the trail is of its level
-  pub next_level_is : (far : Bool) → place_of p.queue far < length p.assigned.trail → (get_or p.assigned.trail (place_of p.queue far) some_entry).level ≡ level_of p.assigned.trail
+  pub next_level_is : (far : Bool) → place_in_queue p.queue far < length p.assigned.trail → (get_or p.assigned.trail (place_in_queue p.queue far) some_entry).level ≡ level_of p.assigned.trail
   next_level_is far more =
-      let h = place_of p.queue far in
+      let h = place_in_queue p.queue far in
       let trail = p.assigned.trail in
       let there : 0 < length (drop h trail) = omega (arith, length-drop h trail, more) in
       let is : get_or (drop h trail) 0 some_entry ≡ get_or trail h some_entry = get_or-drop h trail 0 some_entry ∙ ap (λ (n : ℕ). get_or trail n some_entry) (let e : h + 0 ≡ h = omega arith in e) in
@@ -91,9 +91,9 @@ pub goes_same : (old new : Parts) → AreJoined old → new.clauses.lists ≡ ol
 goes_same old new j clauses lits fars lists assigned queue = record {
   joined = joined_same old new j clauses lits fars lists assigned queue;
   clauses = clauses;
-  vars = ap (λ (a : Assigned). a.vars) assigned;
-  front = ap (λ (a : Assigned). take (length old.assigned.trail) a.trail) assigned ∙ take_all (length old.assigned.trail) old.assigned.trail (omega arith);
-  level = ap (λ (a : Assigned). level_of a.trail) assigned;
+  vars = ap (λ (a : TrailState). a.vars) assigned;
+  front = ap (λ (a : TrailState). take (length old.assigned.trail) a.trail) assigned ∙ take_all (length old.assigned.trail) old.assigned.trail (omega arith);
+  level = ap (λ (a : TrailState). level_of a.trail) assigned;
 }
 
 pub goes_here : (p : Parts) → AreJoined p → GoesOn p p
@@ -110,7 +110,7 @@ goes_again first second third one two = record {
 
 -- a literal that a clause gives becomes true
 pub goes_forced : (old new : Parts) (l : Literal) (number : ℕ) → AreJoined old → number < length old.clauses.lists → Gives (literals old.assigned.trail) (clause_at old.clauses.lists number) l
-    → value_of (literals old.assigned.trail) l.var ≡ None → new.clauses ≡ old.clauses → new.watches ≡ old.watches → new.queue ≡ old.queue → new.assigned.vars ≡ old.assigned.vars
+    → trail_value (literals old.assigned.trail) l.var ≡ None → new.clauses ≡ old.clauses → new.watches ≡ old.watches → new.queue ≡ old.queue → new.assigned.vars ≡ old.assigned.vars
     → new.assigned.trail ≡ old.assigned.trail ++ record { literal = l; level = next_level old.assigned.trail (Some number); reason = Some number } ∷ [] → GoesOn old new
 goes_forced old new l number j there gives free clauses watches queue vars more =
     let trail = old.assigned.trail in
@@ -123,7 +123,7 @@ goes_forced old new l number j there gives free clauses watches queue vars more 
         checked_in = rw (clauses, queue) j.checked_in;
         head_in = rw (queue, more) (λ far. omega (arith, j.head_in far, length_push trail x));
         present = rw (queue, more) (λ far.
-            let h = place_of old.queue far in
+            let h = place_in_queue old.queue far in
             subst (All (λ (e : Entry). e.level ≡ level_of (trail ++ x ∷ []))) (sym (drop-append-le h trail (x ∷ []) (j.head_in far)))
             (subst (λ (n : ℕ). All (λ (e : Entry). e.level ≡ n) (drop h trail ++ x ∷ [])) (sym level)
             (All-push (λ (e : Entry). e.level ≡ level_of trail) (drop h trail) x (j.present far) (omega arith))));
@@ -171,27 +171,27 @@ same_tier false true = inr false≢true
 -- the queue after the near or the far list of the next literal was walked
 pub record IsStep (far : Bool) (old new : Queue) : Type 0 where
   pub checked : new.checked ≡ old.checked
-  pub walked : place_of new far ≡ place_of old far + 1
-  pub other : (tier : Bool) → tier ≢ far → place_of new tier ≡ place_of old tier
+  pub walked : place_in_queue new far ≡ place_in_queue old far + 1
+  pub other : (tier : Bool) → tier ≢ far → place_in_queue new tier ≡ place_in_queue old tier
 
 pub near_step : (old : Queue) → IsStep false old (record { checked = old.checked; head = old.head + 1; far = old.far })
 near_step old = record { checked = refl; walked = refl; other = other }
   where
-    other : (tier : Bool) → tier ≢ false → place_of (record { checked = old.checked; head = old.head + 1; far = old.far }) tier ≡ place_of old tier
+    other : (tier : Bool) → tier ≢ false → place_in_queue (record { checked = old.checked; head = old.head + 1; far = old.far }) tier ≡ place_in_queue old tier
     other true ne = refl
     other false ne = absurd (ne refl)
 
 pub far_step : (old : Queue) → IsStep true old (record { checked = old.checked; head = old.head; far = old.far + 1 })
 far_step old = record { checked = refl; walked = refl; other = other }
   where
-    other : (tier : Bool) → tier ≢ true → place_of (record { checked = old.checked; head = old.head; far = old.far + 1 }) tier ≡ place_of old tier
+    other : (tier : Bool) → tier ≢ true → place_in_queue (record { checked = old.checked; head = old.head; far = old.far + 1 }) tier ≡ place_in_queue old tier
     other false ne = refl
     other true ne = absurd (ne refl)
 
 -- a tier is the one of a step, or stays
-stepped : (far : Bool) (old new : Queue) → IsStep far old new → (tier : Bool) → (place_of new tier ≡ place_of old tier) ⊎ ((place_of new tier ≡ place_of old tier + 1) × (tier ≡ far))
+stepped : (far : Bool) (old new : Queue) → IsStep far old new → (tier : Bool) → (place_in_queue new tier ≡ place_in_queue old tier) ⊎ ((place_in_queue new tier ≡ place_in_queue old tier + 1) × (tier ≡ far))
 stepped far old new step tier = ⊎_elim
-    (λ (same : tier ≡ far). inr (ap (place_of new) same ∙ step.walked ∙ ap (λ (t : Bool). place_of old t + 1) (sym same), same))
+    (λ (same : tier ≡ far). inr (ap (place_in_queue new) same ∙ step.walked ∙ ap (λ (t : Bool). place_in_queue old t + 1) (sym same), same))
     (λ (ne : tier ≢ far). inl (step.other tier ne))
     (same_tier tier far)
 
@@ -213,10 +213,10 @@ goes_walked old j w none queue step new is =
     (λ (done : Contains (literals trail) (lit_at old.watches.lits f)). done)
     (w.partners e f p (record { there = lt; literal = same; tier = far })) in
     let watched = watched_walked old.clauses.lists old.watches.lits trail old.queue.checked (heads_of old.queue old.watches.fars) j.watched (joined_consistent old j) (joined_low old j) w.checked
-    (place_of old.queue old.watches.walks_far) w.more old.watches.walked w.walked (next_level_is old j old.watches.walks_far w.more) (heads_of queue old.watches.fars)
+    (place_in_queue old.queue old.watches.walks_far) w.more old.watches.walked w.walked (next_level_is old j old.watches.walks_far w.more) (heads_of queue old.watches.fars)
     (λ e. ⊎_elim
-    (λ (same : place_of queue (tier e) ≡ place_of old.queue (tier e)). inl same)
-    (λ (at : (place_of queue (tier e) ≡ place_of old.queue (tier e) + 1) × (tier e ≡ old.watches.walks_far)). inr (at.0, ap (place_of old.queue) at.1, each e at.1))
+    (λ (same : place_in_queue queue (tier e) ≡ place_in_queue old.queue (tier e)). inl same)
+    (λ (at : (place_in_queue queue (tier e) ≡ place_in_queue old.queue (tier e) + 1) × (tier e ≡ old.watches.walks_far)). inr (at.0, ap (place_in_queue old.queue) at.1, each e at.1))
     (stepped old.watches.walks_far old.queue queue step (tier e))) in
     subst (GoesOn old) (sym is) (record {
       joined = record {
@@ -224,14 +224,14 @@ goes_walked old j w none queue step new is =
         watched = subst (λ (n : ℕ). AreWatched old.clauses.lists old.watches.lits trail n (heads_of queue old.watches.fars)) (sym step.checked) watched;
         checked_in = omega (arith, step.checked, j.checked_in);
         head_in = λ far. ⊎_elim
-            (λ (same : place_of queue far ≡ place_of old.queue far). omega (arith, same, j.head_in far))
-            (λ (at : (place_of queue far ≡ place_of old.queue far + 1) × (far ≡ old.watches.walks_far)). omega (arith, at.0, ap (place_of old.queue) at.1, w.more))
+            (λ (same : place_in_queue queue far ≡ place_in_queue old.queue far). omega (arith, same, j.head_in far))
+            (λ (at : (place_in_queue queue far ≡ place_in_queue old.queue far + 1) × (far ≡ old.watches.walks_far)). omega (arith, at.0, ap (place_in_queue old.queue) at.1, w.more))
             (stepped old.watches.walks_far old.queue queue step far);
         present = λ far. ⊎_elim
-            (λ (same : place_of queue far ≡ place_of old.queue far). subst (λ (n : ℕ). All (λ (e : Entry). e.level ≡ level_of trail) (drop n trail)) (sym same) (j.present far))
-            (λ (at : (place_of queue far ≡ place_of old.queue far + 1) × (far ≡ old.watches.walks_far)).
+            (λ (same : place_in_queue queue far ≡ place_in_queue old.queue far). subst (λ (n : ℕ). All (λ (e : Entry). e.level ≡ level_of trail) (drop n trail)) (sym same) (j.present far))
+            (λ (at : (place_in_queue queue far ≡ place_in_queue old.queue far + 1) × (far ≡ old.watches.walks_far)).
             subst (λ (n : ℕ). All (λ (e : Entry). e.level ≡ level_of trail) (drop n trail)) (sym at.0)
-            (later_present trail (level_of trail) (place_of old.queue far) (omega (arith, ap (place_of old.queue) at.1, w.more)) (j.present far)))
+            (later_present trail (level_of trail) (place_in_queue old.queue far) (omega (arith, ap (place_in_queue old.queue) at.1, w.more)) (j.present far)))
             (stepped old.watches.walks_far old.queue queue step far);
         fars = j.fars;
         lists = j.lists;
@@ -244,7 +244,7 @@ goes_walked old j w none queue step new is =
       level = refl;
     })
 
-pub both_tiers : (queue : Queue) (n : ℕ) → queue.head ≡ n → queue.far ≡ n → (far : Bool) → place_of queue far ≡ n
+pub both_tiers : (queue : Queue) (n : ℕ) → queue.head ≡ n → queue.far ≡ n → (far : Bool) → place_in_queue queue far ≡ n
 both_tiers queue n near far true = far
 both_tiers queue n near far false = near
 
@@ -275,12 +275,12 @@ module _ (old : Parts) (j : AreJoined old) (w : IsWalking old) (e : ℕ) (next :
   pub walked_false : Contains (literals old.assigned.trail) (negation old.watches.walked)
   walked_false =
       subst (λ (l : Literal). Contains (literals old.assigned.trail) l) w.walked
-      (Rattle.sat_state.proofs.Guarded.literal_of_entry old.assigned.trail (get_or old.assigned.trail (place_of old.queue old.watches.walks_far) some_entry)
-      (Rattle.sat_state.proofs.Guarded.entry_at_place old.assigned.trail (place_of old.queue old.watches.walks_far) some_entry w.more))
+      (Rattle.sat_state.proofs.Guarded.literal_of_entry old.assigned.trail (get_or old.assigned.trail (place_in_queue old.queue old.watches.walks_far) some_entry)
+      (Rattle.sat_state.proofs.Guarded.entry_at_place old.assigned.trail (place_in_queue old.queue old.watches.walks_far) some_entry w.more))
 
   -- the entry is kept where the other literal is true
   pub walking_kept : (f : ℕ) → ArePartners e f → (new : Parts) → Contains (literals new.assigned.trail) (lit_at old.watches.lits f) → ((l : Literal) → Contains (literals old.assigned.trail) l → Contains (literals new.assigned.trail) l)
-      → get_or new.assigned.trail (place_of old.queue old.watches.walks_far) some_entry ≡ get_or old.assigned.trail (place_of old.queue old.watches.walks_far) some_entry → length old.assigned.trail ≤ length new.assigned.trail
+      → get_or new.assigned.trail (place_in_queue old.queue old.watches.walks_far) some_entry ≡ get_or old.assigned.trail (place_in_queue old.queue old.watches.walks_far) some_entry → length old.assigned.trail ≤ length new.assigned.trail
       → new.clauses.lists ≡ old.clauses.lists → new.queue ≡ old.queue → new.watches.lits ≡ old.watches.lits → new.watches.fars ≡ old.watches.fars → new.watches.walked ≡ old.watches.walked → new.watches.walks_far ≡ old.watches.walks_far → new.watches.waiting ≡ drop 1 old.watches.waiting → IsWalking new
   walking_kept f p new is_true grows at longer clauses queue lits fars walked walks_far waiting = record {
     checked = rw (clauses, queue) w.checked;
@@ -330,7 +330,7 @@ module _ (old : Parts) (j : AreJoined old) (w : IsWalking old) (e : ℕ) (next :
         grounded = rw (clauses, assigned) j.grounded;
         watched = rw (clauses, assigned, queue)
             (watched_moved old.clauses.lists old.watches.lits old.assigned.trail old.queue.checked (heads_of old.queue old.watches.fars) j.watched (joined_consistent old j) (joined_low old j) w.checked new.watches.lits
-            (heads_of old.queue new.watches.fars) e old.watches.walked l size next.there at others (λ x ne. ap (place_of old.queue) (tiers x ne)) next.walked
+            (heads_of old.queue new.watches.fars) e old.watches.walked l size next.there at others (λ x ne. ap (place_in_queue old.queue) (tiers x ne)) next.walked
             walked_false lg in_clause (λ g q. subst (λ (z : ℕ). l ≢ lit_at old.watches.lits z) (sym (same_partner f e g (turned e f p) (turned e g q))) not_other)
             (not_among (literals old.assigned.trail) (negation l) not_false));
         checked_in = rw (clauses, queue) j.checked_in;
@@ -342,9 +342,9 @@ module _ (old : Parts) (j : AreJoined old) (w : IsWalking old) (e : ℕ) (next :
         clauses = rw clauses j.clauses;
       };
       clauses = clauses;
-      vars = ap (λ (a : Assigned). a.vars) assigned;
-      front = ap (λ (a : Assigned). take (length old.assigned.trail) a.trail) assigned ∙ take_all (length old.assigned.trail) old.assigned.trail (omega arith);
-      level = ap (λ (a : Assigned). level_of a.trail) assigned;
+      vars = ap (λ (a : TrailState). a.vars) assigned;
+      front = ap (λ (a : TrailState). take (length old.assigned.trail) a.trail) assigned ∙ take_all (length old.assigned.trail) old.assigned.trail (omega arith);
+      level = ap (λ (a : TrailState). level_of a.trail) assigned;
     }
 
     not_walked : l ≢ old.watches.walked
@@ -378,7 +378,7 @@ none_behind : (trail : List Entry) (head : ℕ) (P : Entry → Type 0) → head 
 none_behind trail head P seen = λ k d h. absurd (omega (arith, h, length-drop head trail, seen))
 
 -- a literal is decided
-pub joined_decided : (old new : Parts) (l : Literal) → AreJoined old → IsAllSeen old → IsAtEnd (literals old.assigned.trail) old.clauses.lists → value_of (literals old.assigned.trail) l.var ≡ None
+pub joined_decided : (old new : Parts) (l : Literal) → AreJoined old → IsAllSeen old → IsAtEnd (literals old.assigned.trail) old.clauses.lists → trail_value (literals old.assigned.trail) l.var ≡ None
     → new.clauses ≡ old.clauses → new.watches ≡ old.watches → new.queue ≡ old.queue → new.assigned.vars ≡ old.assigned.vars
     → new.assigned.trail ≡ old.assigned.trail ++ record { literal = l; level = next_level old.assigned.trail None; reason = None } ∷ [] → AreJoined new
 joined_decided old new l j seen ends free clauses watches queue vars more =
@@ -391,7 +391,7 @@ joined_decided old new l j seen ends free clauses watches queue vars more =
       checked_in = rw (clauses, queue) j.checked_in;
       head_in = rw (queue, more) (λ far. omega (arith, j.head_in far, length_push trail x));
       present = rw (queue, more) (λ far.
-          let h = place_of old.queue far in
+          let h = place_in_queue old.queue far in
           subst (All (λ (e : Entry). e.level ≡ level_of (trail ++ x ∷ []))) (sym (drop-append-le h trail (x ∷ []) (j.head_in far)))
           (All-push (λ (e : Entry). e.level ≡ level_of (trail ++ x ∷ [])) (drop h trail) x
           (none_behind trail h (λ (e : Entry). e.level ≡ level_of (trail ++ x ∷ [])) (seen.head far)) (omega (arith, level_push trail x))));
@@ -406,7 +406,7 @@ pub joined_back : (old new : Parts) (level : ℕ) → AreJoined old → level < 
     → new.clauses ≡ old.clauses → new.watches ≡ old.watches → new.queue.checked ≡ old.queue.checked → new.queue.head ≡ length new.assigned.trail → new.queue.far ≡ length new.assigned.trail → new.assigned.vars ≡ old.assigned.vars
     → new.assigned.trail ≡ filter (λ e. nat_le e.level level) old.assigned.trail → take (length new.assigned.trail) old.assigned.trail ≡ new.assigned.trail → AreJoined new
 joined_back old new level j lower grounded clauses watches checked near far vars kept front =
-    let head : (tier : Bool) → place_of new.queue tier ≡ length new.assigned.trail = both_tiers new.queue (length new.assigned.trail) near far in
+    let head : (tier : Bool) → place_in_queue new.queue tier ≡ length new.assigned.trail = both_tiers new.queue (length new.assigned.trail) near far in
     record {
       grounded = rw clauses grounded;
       watched = rw (clauses, watches, checked)
@@ -414,7 +414,7 @@ joined_back old new level j lower grounded clauses watches checked near far vars
           (heads_of new.queue old.watches.fars) (λ e. head (far_at old.watches.fars e)));
       checked_in = rw (clauses, checked) j.checked_in;
       head_in = λ far. omega (arith, head far);
-      present = λ far. none_behind new.assigned.trail (place_of new.queue far) (λ (e : Entry). e.level ≡ level_of new.assigned.trail) (head far);
+      present = λ far. none_behind new.assigned.trail (place_in_queue new.queue far) (λ (e : Entry). e.level ≡ level_of new.assigned.trail) (head far);
       fars = rw watches j.fars;
       lists = rw (watches, vars) j.lists;
       in_range = rw (clauses, vars) j.in_range;

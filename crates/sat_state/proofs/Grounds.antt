@@ -4,7 +4,7 @@ use Rattle.std.proofs.lemmas.Bool.{cases_lt}
 use Rattle.std.proofs.lemmas.List.{take-append-le, take_at, get_or_append_left, get_or_push, get_or-take, take-take, length_push, length-take-le, map_push}
 use Rattle.std.proofs.lemmas.List.Sums.{sum_by_push}
 use Rattle.cnf_core.specs.Literal.{Literal}
-use Rattle.sat_state.specs.Trail.{Entry, literals, next_level, value_of, HasReason, StandsOn, IsGrounded}
+use Rattle.sat_state.specs.Trail.{Entry, literals, next_level, trail_value, HasReason, StandsOn, IsGrounded}
 use Rattle.sat_state.proofs.Counts.{one_if}
 
 -- an entry that stands on the trail is appended
@@ -23,7 +23,7 @@ grounded_take clauses trail n within grounded k d h =
     rw (take-take k n trail (omega arith), get_or-take n trail k d lt) (grounded k d (omega arith))
 
 -- the next entry stands on the trail where it has its reason there
-pub next_stands : (clauses : List (List Literal)) (trail : List Entry) (l : Literal) (reason : Option ℕ) → value_of (literals trail) l.var ≡ None → HasReason clauses (literals trail) l reason
+pub next_stands : (clauses : List (List Literal)) (trail : List Entry) (l : Literal) (reason : Option ℕ) → trail_value (literals trail) l.var ≡ None → HasReason clauses (literals trail) l reason
     → StandsOn clauses trail (record { literal = l; level = next_level trail reason; reason = reason })
 next_stands clauses trail l reason free has = record {
   free = free;

@@ -9,7 +9,7 @@ use Rattle.cnf_core.specs.Literal.{Literal, negation, same_sign, same_literal, i
 use Rattle.cnf_core.specs.Steps.{IsConsistent}
 use Rattle.std.specs.Option.{option_eq}
 use mathlib.Core.Bool.{beq}
-use Rattle.sat_state.specs.Trail.{value_of}
+use Rattle.sat_state.specs.Trail.{trail_value}
 
 pub same_sign_is : (a b : Bool) → same_sign a b ≡ true → a ≡ b
 same_sign_is true true h = refl
@@ -101,30 +101,30 @@ choice_at false true true h = cc
 choice_at false true false h = refl
 choice_at false false c h = cc
 
-none_among : (trues : List Literal) (v : ℕ) (p : Bool) → value_of trues v ≡ None → (is_among trues (of v p) ≡ false) × (is_among trues (of v (not p)) ≡ false)
+none_among : (trues : List Literal) (v : ℕ) (p : Bool) → trail_value trues v ≡ None → (is_among trues (of v p) ≡ false) × (is_among trues (of v (not p)) ≡ false)
 none_among trues v true h = choice_none (is_among trues (of v true)) (is_among trues (of v false)) h
 none_among trues v false h =
     let e = choice_none (is_among trues (of v true)) (is_among trues (of v false)) h in (e.1, e.0)
 
 -- a literal whose variable has no value is neither true nor false
-pub not_true : (trues : List Literal) (u : Literal) → value_of trues u.var ≡ None → is_among trues u ≡ false
+pub not_true : (trues : List Literal) (u : Literal) → trail_value trues u.var ≡ None → is_among trues u ≡ false
 not_true trues u h = (none_among trues u.var u.positive h).0
 
-pub not_false : (trues : List Literal) (u : Literal) → value_of trues u.var ≡ None → is_among trues (negation u) ≡ false
+pub not_false : (trues : List Literal) (u : Literal) → trail_value trues u.var ≡ None → is_among trues (negation u) ≡ false
 not_false trues u h = (none_among trues u.var u.positive h).1
 
-some_among : (trues : List Literal) (v : ℕ) (p : Bool) → IsSome (value_of trues v) → (is_among trues (of v p) || is_among trues (of v (not p))) ≡ true
+some_among : (trues : List Literal) (v : ℕ) (p : Bool) → IsSome (trail_value trues v) → (is_among trues (of v p) || is_among trues (of v (not p))) ≡ true
 some_among trues v true h = choice_some (is_among trues (of v true)) (is_among trues (of v false)) h
 some_among trues v false h = or_comm (is_among trues (of v false)) (is_among trues (of v true)) ∙ choice_some (is_among trues (of v true)) (is_among trues (of v false)) h
 
 -- a literal whose variable has a value is true or false
-pub true_or_false : (trues : List Literal) (u : Literal) → IsSome (value_of trues u.var) → (is_among trues u || is_among trues (negation u)) ≡ true
+pub true_or_false : (trues : List Literal) (u : Literal) → IsSome (trail_value trues u.var) → (is_among trues u || is_among trues (negation u)) ≡ true
 true_or_false trues u h = some_among trues u.var u.positive h
 
 -- a variable without a value is that of no literal
-pub no_literal : (trues : List Literal) (v : ℕ) → value_of trues v ≡ None → All (λ l. l.var ≢ v) trues
+pub no_literal : (trues : List Literal) (v : ℕ) → trail_value trues v ≡ None → All (λ l. l.var ≢ v) trues
 no_literal trues v h k d in_list e =
-    let free : value_of trues (get_or trues k d).var ≡ None = ap (value_of trues) e ∙ h in
+    let free : trail_value trues (get_or trues k d).var ≡ None = ap (trail_value trues) e ∙ h in
     both_ways (is_among trues (get_or trues k d)) (not_true trues (get_or trues k d) free) (among_at trues k d in_list)
 
 other_literal : (v w : ℕ) (p q : Bool) → v ≢ w → same_literal (of v p) (of w q) ≡ false
@@ -135,7 +135,7 @@ other_among trues u v p h =
     is_among_push trues u (of v p) ∙ ap (λ (t : Bool). is_among trues (of v p) || t) (other_literal v u.var p u.positive h) ∙ or_false (is_among trues (of v p))
 
 -- another variable keeps its value where one more literal is true
-pub value_push_other : (trues : List Literal) (u : Literal) (v : ℕ) → v ≢ u.var → value_of (trues ++ u ∷ []) v ≡ value_of trues v
+pub value_push_other : (trues : List Literal) (u : Literal) (v : ℕ) → v ≢ u.var → trail_value (trues ++ u ∷ []) v ≡ trail_value trues v
 value_push_other trues u v h =
     ap (λ (a : Bool). choice a (is_among (trues ++ u ∷ []) (of v false))) (other_among trues u v true h)
     ∙ ap (λ (b : Bool). choice (is_among trues (of v true)) b) (other_among trues u v false h)
@@ -143,7 +143,7 @@ value_push_other trues u v h =
 sign_of_var : (v : ℕ) (p q : Bool) → same_literal (of v p) (of v q) ≡ same_sign p q
 sign_of_var v p q = ap (λ (t : Bool). t && same_sign p q) (eq-eqb v v refl)
 
-push_sign : (trues : List Literal) (v : ℕ) (p : Bool) → value_of trues v ≡ None → value_of (trues ++ of v p ∷ []) v ≡ Some p
+push_sign : (trues : List Literal) (v : ℕ) (p : Bool) → trail_value trues v ≡ None → trail_value (trues ++ of v p ∷ []) v ≡ Some p
 push_sign trues v true h =
     let none = none_among trues v true h in
     let yes : is_among (trues ++ of v true ∷ []) (of v true) ≡ true = is_among_push trues (of v true) (of v true) ∙ ap (λ (t : Bool). is_among trues (of v true) || t) (sign_of_var v true true) ∙ or_true (is_among trues (of v true)) in
@@ -155,11 +155,11 @@ push_sign trues v false h =
     ap (λ (a : Bool). choice a (is_among (trues ++ of v false ∷ []) (of v false))) no ∙ ap (λ (b : Bool). choice false b) yes
 
 -- a variable without a value gets the sign of the literal that becomes true
-pub value_push : (trues : List Literal) (u : Literal) → value_of trues u.var ≡ None → value_of (trues ++ u ∷ []) u.var ≡ Some u.positive
+pub value_push : (trues : List Literal) (u : Literal) → trail_value trues u.var ≡ None → trail_value (trues ++ u ∷ []) u.var ≡ Some u.positive
 value_push trues u h = push_sign trues u.var u.positive h
 
 -- a variable that is that of no literal has no value
-pub no_value : (trues : List Literal) (v : ℕ) → All (λ l. l.var ≢ v) trues → value_of trues v ≡ None
+pub no_value : (trues : List Literal) (v : ℕ) → All (λ l. l.var ≢ v) trues → trail_value trues v ≡ None
 no_value trues v h =
     let none : (p : Bool) → is_among trues (of v p) ≡ false = λ p. list_any_none (same_literal (of v p)) trues (λ k d in_list. other_literal v (get_or trues k d).var p (get_or trues k d).positive (λ e. h k d in_list (sym e))) in
     ap (λ (a : Bool). choice a (is_among trues (of v false))) (none true) ∙ ap (λ (b : Bool). choice false b) (none false)
@@ -178,7 +178,7 @@ sign_test trues v true = refl
 sign_test trues v false = refl
 
 -- a literal is true where its variable has its sign
-pub value_test : (trues : List Literal) (l : Literal) → IsConsistent trues → option_eq beq (value_of trues l.var) (Some l.positive) ≡ is_among trues l
+pub value_test : (trues : List Literal) (l : Literal) → IsConsistent trues → option_eq beq (trail_value trues l.var) (Some l.positive) ≡ is_among trues l
 value_test trues l apart =
     test_choice (is_among trues (of l.var true)) (is_among trues (of l.var false)) l.positive
     (λ yes' no'. apart (of l.var true) (Contains-from_among trues (of l.var true) yes') (Contains-from_among trues (of l.var false) no'))

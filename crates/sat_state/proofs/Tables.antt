@@ -8,9 +8,9 @@ use Rattle.std.proofs.lemmas.List.Sums.{sum_by-set, sum_by_push, sum_by-append, 
 use Rattle.std.proofs.lemmas.List.Folds.{sum_by-replicate}
 use Rattle.cnf_core.specs.Literal.{Literal}
 use Rattle.sat_state.specs.declared.assignment.Slot.{Slot}
-use Rattle.sat_state.specs.Trail.{Entry, literals, level_of, value_of, entry_of}
+use Rattle.sat_state.specs.Trail.{Entry, literals, level_of, trail_value, entry_of}
 use Rattle.sat_state.specs.declared.assignment.Assignment.TheInside.{Inside}
-use Rattle.sat_state.specs.Assigned.{Assigned}
+use Rattle.sat_state.specs.Assigned.{TrailState}
 use Rattle.sat_state.specs.AssignmentInside.{slot_of, entry_at, entries, IsTable, seen, IsAssignment}
 use Rattle.sat_state.proofs.Literals.{no_literal, no_value, value_push, value_push_other}
 
@@ -42,7 +42,7 @@ literals-entries slots [] = refl
 literals-entries slots (l ∷ ls) = ap (λ (xs : List Literal). l ∷ xs) (literals-entries slots ls)
 
 -- the trail that the literals make where one more is true
-pub entries_push : (slots : List (Option Slot)) (trues : List Literal) (u : Literal) (s : Slot) → u.var < length slots → value_of trues u.var ≡ None
+pub entries_push : (slots : List (Option Slot)) (trues : List Literal) (u : Literal) (s : Slot) → u.var < length slots → trail_value trues u.var ≡ None
     → entries (set slots u.var (Some s)) (trues ++ u ∷ []) ≡ entries slots trues ++ record { literal = u; level = s.level; reason = s.reason } ∷ []
 unfolding entry_by
 entries_push slots trues u s known free =
@@ -59,9 +59,9 @@ some_from_map None b h = cc
 some_from_map (Some s) b h = refl
 
 abbrev pub Apart : List Literal → Type 0
-Apart trues = (k : ℕ) (d : Literal) → k < length trues → value_of (take k trues) (get_or trues k d).var ≡ None
+Apart trues = (k : ℕ) (d : Literal) → k < length trues → trail_value (take k trues) (get_or trues k d).var ≡ None
 
-apart_push : (trues : List Literal) (u : Literal) → Apart trues → value_of trues u.var ≡ None → Apart (trues ++ u ∷ [])
+apart_push : (trues : List Literal) (u : Literal) → Apart trues → trail_value trues u.var ≡ None → Apart (trues ++ u ∷ [])
 apart_push trues u apart free k d h = ⊎_elim
     (λ (lt : k < length trues). rw (take-append-le k trues (u ∷ []) (omega arith), get_or_append_left trues (u ∷ []) d k lt) (apart k d lt))
     (λ (ge : length trues ≤ k).
@@ -71,7 +71,7 @@ apart_push trues u apart free k d h = ⊎_elim
 
 -- a literal whose variable had no value becomes true
 pub pushed : (slots : List (Option Slot)) (trues : List Literal) (level capacity : ℕ) (u : Literal) (s : Slot) → IsTable slots trues level capacity
-    → 1 ≤ u.var → u.var < length slots → value_of trues u.var ≡ None → s.positive ≡ u.positive
+    → 1 ≤ u.var → u.var < length slots → trail_value trues u.var ≡ None → s.positive ≡ u.positive
     → IsTable (set slots u.var (Some s)) (trues ++ u ∷ []) (level + cond (is_none s.reason) 1 0) capacity
 pushed slots trues level capacity u s t positive known free sign =
     let len = length-set slots u.var (Some s) in
@@ -81,7 +81,7 @@ pushed slots trues level capacity u s t positive known free sign =
       zero = get_or-set_other slots u.var 0 (Some s) None (λ e. absurd (omega (arith, e, positive))) ∙ t.zero;
       room = omega (arith, len, t.room);
       values = λ v h. ⊎_elim (λ (e : v ≡ u.var).
-          subst (λ (x : ℕ). option_map (λ (y : Slot). y.positive) (slot_of (set slots u.var (Some s)) x) ≡ value_of (trues ++ u ∷ []) x) (sym e)
+          subst (λ (x : ℕ). option_map (λ (y : Slot). y.positive) (slot_of (set slots u.var (Some s)) x) ≡ trail_value (trues ++ u ∷ []) x) (sym e)
           (ap (option_map (λ (y : Slot). y.positive)) (get_or-set_same slots u.var (Some s) None known) ∙ ap Some sign ∙ sym (value_push trues u free)))
           (λ (n : v ≢ u.var). ap (option_map (λ (y : Slot). y.positive)) (get_or-set_other slots u.var v (Some s) None n) ∙ t.values v (omega (arith, len, h)) ∙ sym (value_push_other trues u v n))
           (cases_eq v u.var);
@@ -106,7 +106,7 @@ popped slots trues level lower capacity u t same =
     let more : length all ≡ length trues + 1 = length_push trues u in
     let last : get_or all (length trues) u ≡ u = get_or_push trues u u (length trues) refl in
     let known : u.var < length slots = rw last at (t.in_range (length trues) u (omega (arith, more))) in
-    let free : value_of trues u.var ≡ None = rw (take_at trues (u ∷ []) (length trues) refl, last) at (t.apart (length trues) u (omega (arith, more))) in
+    let free : trail_value trues u.var ≡ None = rw (take_at trues (u ∷ []) (length trues) refl, last) at (t.apart (length trues) u (omega (arith, more))) in
     let len = length-set slots u.var None in
     let was : is_some (get_or slots u.var None) ≡ true = some_from_map (get_or slots u.var None) u.positive (t.values u.var known ∙ value_push trues u free) in
     record {
@@ -117,7 +117,7 @@ popped slots trues level lower capacity u t same =
           (cases_eq 0 u.var);
       room = omega (arith, len, t.room);
       values = λ v h. ⊎_elim (λ (e : v ≡ u.var).
-          subst (λ (x : ℕ). option_map (λ (y : Slot). y.positive) (slot_of (set slots u.var None) x) ≡ value_of trues x) (sym e)
+          subst (λ (x : ℕ). option_map (λ (y : Slot). y.positive) (slot_of (set slots u.var None) x) ≡ trail_value trues x) (sym e)
           (ap (option_map (λ (y : Slot). y.positive)) (get_or-set_same slots u.var None None known) ∙ sym free))
           (λ (n : v ≢ u.var). ap (option_map (λ (y : Slot). y.positive)) (get_or-set_other slots u.var v None None n) ∙ t.values v (omega (arith, len, h)) ∙ value_push_other trues u v n)
           (cases_eq v u.var);
@@ -153,14 +153,14 @@ grown slots trues level capacity n room t fits =
       levels = t.levels ∙ ap level_of (sym (entries-append slots (replicate n None) trues t.in_range));
     }
 
-known_by_cases : (slots : List (Option Slot)) (trues : List Literal) (v : ℕ) → All (λ l. l.var < length slots) trues → IsSome (value_of trues v) → (v < length slots) ⊎ (length slots ≤ v) → v < length slots
+known_by_cases : (slots : List (Option Slot)) (trues : List Literal) (v : ℕ) → All (λ l. l.var < length slots) trues → IsSome (trail_value trues v) → (v < length slots) ⊎ (length slots ≤ v) → v < length slots
 known_by_cases slots trues v in_range has (inl lt) = lt
 known_by_cases slots trues v in_range has (inr ge) =
-    let none : value_of trues v ≡ None = no_value trues v (λ k d in_list e. absurd (omega (arith, in_range k d in_list, e))) in
+    let none : trail_value trues v ≡ None = no_value trues v (λ k d in_list e. absurd (omega (arith, in_range k d in_list, e))) in
     absurd (true≢false (sym has ∙ ap is_some none))
 
 -- a variable with a value is in the table
-pub known_var : (slots : List (Option Slot)) (trues : List Literal) (level capacity v : ℕ) → IsTable slots trues level capacity → IsSome (value_of trues v) → v < length slots
+pub known_var : (slots : List (Option Slot)) (trues : List Literal) (level capacity v : ℕ) → IsTable slots trues level capacity → IsSome (trail_value trues v) → v < length slots
 known_var slots trues level capacity v t has = known_by_cases slots trues v t.in_range has (cases_lt v (length slots))
 
 is_some-option_map : (o : Option Slot) → is_some (option_map (λ (s : Slot). s.positive) o) ≡ is_some o
@@ -168,7 +168,7 @@ is_some-option_map None = refl
 is_some-option_map (Some s) = refl
 
 -- and has a slot there
-pub known_slot : (slots : List (Option Slot)) (trues : List Literal) (level capacity v : ℕ) → IsTable slots trues level capacity → IsSome (value_of trues v) → IsSome (slot_of slots v)
+pub known_slot : (slots : List (Option Slot)) (trues : List Literal) (level capacity v : ℕ) → IsTable slots trues level capacity → IsSome (trail_value trues v) → IsSome (slot_of slots v)
 known_slot slots trues level capacity v t has =
     sym (is_some-option_map (slot_of slots v)) ∙ ap is_some (t.values v (known_var slots trues level capacity v t has)) ∙ has
 
@@ -187,12 +187,12 @@ entry_found X get slots (l ∷ ls) v x here some =
     (λ e. entry_found X get slots ls v x here (λ all. some (All-cons (λ (y : Literal). y.var ≢ v) l ls (eqb-false l.var v e) all)))
 
 -- a variable with a value is that of a literal
-pub has_literal : (trues : List Literal) (v : ℕ) → IsSome (value_of trues v) → All (λ l. l.var ≢ v) trues → ⊥
+pub has_literal : (trues : List Literal) (v : ℕ) → IsSome (trail_value trues v) → All (λ l. l.var ≢ v) trues → ⊥
 has_literal trues v has none = true≢false (sym has ∙ ap is_some (no_value trues v none))
 
 -- while a variable has no value there is room for its literal
 pub room_left : (slots : List (Option Slot)) (trues : List Literal) (level capacity v : ℕ) → IsTable slots trues level capacity
-    → v < length slots → value_of trues v ≡ None → length trues < capacity
+    → v < length slots → trail_value trues v ≡ None → length trues < capacity
 room_left slots trues level capacity v t known free =
     let slot : Slot = record { positive = true; level = 0; reason = None } in
     let old : is_some (get_or slots v None) ≡ false = none_from_map (get_or slots v None) (t.values v known ∙ free) in
@@ -201,21 +201,21 @@ room_left slots trues level capacity v t known free =
     omega (arith, moved, none, t.count, t.room, length-set slots v (Some slot), count_by-le-length is_some (set slots v (Some slot)))
 
 -- what is seen of the table
-pub seen_literals : (a : Inside) (now : Assigned) → seen a ≡ now → literals now.trail ≡ a.trail.items
-seen_literals a now e = sym (ap (λ (x : Assigned). literals x.trail) e) ∙ literals-entries a.slots.items a.trail.items
+pub seen_literals : (a : Inside) (now : TrailState) → seen a ≡ now → literals now.trail ≡ a.trail.items
+seen_literals a now e = sym (ap (λ (x : TrailState). literals x.trail) e) ∙ literals-entries a.slots.items a.trail.items
 
-pub seen_value : (a : Inside) (now : Assigned) (v : ℕ) → seen a ≡ now → value_of (literals now.trail) v ≡ value_of a.trail.items v
-seen_value a now v e = ap (λ (ls : List Literal). value_of ls v) (seen_literals a now e)
+pub seen_value : (a : Inside) (now : TrailState) (v : ℕ) → seen a ≡ now → trail_value (literals now.trail) v ≡ trail_value a.trail.items v
+seen_value a now v e = ap (λ (ls : List Literal). trail_value ls v) (seen_literals a now e)
 
-pub seen_var : (a : Inside) (now : Assigned) (v : ℕ) → seen a ≡ now → IsAssignment a → v ≤ now.vars → v < length a.slots.items
-seen_var a now v e t h = let vars : length a.slots.items - 1 ≡ now.vars = ap (λ (x : Assigned). x.vars) e in omega (arith, vars, h, t.some)
+pub seen_var : (a : Inside) (now : TrailState) (v : ℕ) → seen a ≡ now → IsAssignment a → v ≤ now.vars → v < length a.slots.items
+seen_var a now v e t h = let vars : length a.slots.items - 1 ≡ now.vars = ap (λ (x : TrailState). x.vars) e in omega (arith, vars, h, t.some)
 
 -- the variable of the last literal is in the table, and is no other literal's
 pub last_known : (slots : List (Option Slot)) (trues : List Literal) (u : Literal) (level capacity : ℕ) → IsTable slots (trues ++ u ∷ []) level capacity → u.var < length slots
 last_known slots trues u level capacity t =
     rw (get_or_push trues u u (length trues) refl) at (t.in_range (length trues) u (omega (arith, length_push trues u)))
 
-pub last_free : (slots : List (Option Slot)) (trues : List Literal) (u : Literal) (level capacity : ℕ) → IsTable slots (trues ++ u ∷ []) level capacity → value_of trues u.var ≡ None
+pub last_free : (slots : List (Option Slot)) (trues : List Literal) (u : Literal) (level capacity : ℕ) → IsTable slots (trues ++ u ∷ []) level capacity → trail_value trues u.var ≡ None
 last_free slots trues u level capacity t =
     rw (take_at trues (u ∷ []) (length trues) refl, get_or_push trues u u (length trues) refl) at (t.apart (length trues) u (omega (arith, length_push trues u)))
 
@@ -223,7 +223,7 @@ last_free slots trues u level capacity t =
 pub entries-unset : (slots : List (Option Slot)) (trues : List Literal) (u : Literal) (level capacity : ℕ) → IsTable slots (trues ++ u ∷ []) level capacity → entries (set slots u.var None) trues ≡ entries slots trues
 entries-unset slots trues u level capacity t = entries-set slots u.var None trues (no_literal trues u.var (last_free slots trues u level capacity t))
 
-pub seen_has : (a : Inside) (now : Assigned) (v : ℕ) → seen a ≡ now → IsSome (value_of (literals now.trail) v) → IsSome (value_of a.trail.items v)
+pub seen_has : (a : Inside) (now : TrailState) (v : ℕ) → seen a ≡ now → IsSome (trail_value (literals now.trail) v) → IsSome (trail_value a.trail.items v)
 seen_has a now v e has = ap is_some (sym (seen_value a now v e)) ∙ has
 
 -- what a pop of the literals says: the table was that of those that are left, and the last one
@@ -232,8 +232,8 @@ pub before_pop : (slots : List (Option Slot)) (items left : List Literal) (poppe
 before_pop slots items left popped u level capacity split some t =
     subst (λ (ls : List Literal). IsTable slots ls level capacity) (split ∙ ap (λ (o : Option Literal). left ++ option_to_list o) some) t
 
-pub trail_before_pop : (a : Inside) (now : Assigned) (left : List Literal) (popped : Option Literal) (u : Literal) → seen a ≡ now → a.trail.items ≡ left ++ option_to_list popped → popped ≡ Some u
+pub trail_before_pop : (a : Inside) (now : TrailState) (left : List Literal) (popped : Option Literal) (u : Literal) → seen a ≡ now → a.trail.items ≡ left ++ option_to_list popped → popped ≡ Some u
     → now.trail ≡ entries a.slots.items left ++ entry_at a.slots.items u ∷ []
 trail_before_pop a now left popped u e split some =
-    sym (ap (λ (x : Assigned). x.trail) e) ∙ ap (entries a.slots.items) (split ∙ ap (λ (o : Option Literal). left ++ option_to_list o) some)
+    sym (ap (λ (x : TrailState). x.trail) e) ∙ ap (entries a.slots.items) (split ∙ ap (λ (o : Option Literal). left ++ option_to_list o) some)
     ∙ entries-more a.slots.items left u

@@ -4,8 +4,8 @@ use Rattle.std.specs.Option.{option_map, option_map_or}
 use Rattle.cnf_core.specs.Literal.{Literal}
 use Rattle.sat_state.specs.declared.assignment.Slot.{Slot}
 use Rattle.sat_state.specs.declared.assignment.Assignment.TheInside.{Inside}
-use Rattle.sat_state.specs.Trail.{Entry, level_of, value_of}
-use Rattle.sat_state.specs.Assigned.{Assigned}
+use Rattle.sat_state.specs.Trail.{Entry, level_of, trail_value}
+use Rattle.sat_state.specs.Assigned.{TrailState}
 
 -- what the table has for a variable
 abbrev pub slot_of : List (Option Slot) → ℕ → Option Slot
@@ -28,13 +28,13 @@ pub record IsTable (slots : List (Option Slot)) (trues : List Literal) (level ca
   pub some : 0 < length slots
   pub zero : slot_of slots 0 ≡ None
   pub room : length slots ≤ capacity
-  pub values : (v : ℕ) → v < length slots → option_map (λ s. s.positive) (slot_of slots v) ≡ value_of trues v
-  pub apart : (k : ℕ) (d : Literal) → k < length trues → value_of (take k trues) (slice_index_or trues k d).var ≡ None
+  pub values : (v : ℕ) → v < length slots → option_map (λ s. s.positive) (slot_of slots v) ≡ trail_value trues v
+  pub apart : (k : ℕ) (d : Literal) → k < length trues → trail_value (take k trues) (slice_index_or trues k d).var ≡ None
   pub in_range : All (λ l. l.var < length slots) trues
   pub count : count_by is_some slots ≡ length trues
   pub levels : level ≡ level_of (entries slots trues)
 
-abbrev pub seen : Inside → Assigned
+abbrev pub seen : Inside → TrailState
 seen a = record { vars = length a.slots.items - 1; trail = entries a.slots.items a.trail.items }
 
 abbrev pub IsAssignment : Inside → Type 0

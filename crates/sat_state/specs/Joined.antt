@@ -9,12 +9,12 @@ use Rattle.sat_state.specs.declared.parts.Queue.{Queue}
 use Rattle.sat_state.specs.declared.parts.Parts.{Parts}
 
 -- the place of the trail from which on the near or the far lists are left
-abbrev pub place_of : Queue → Bool → ℕ
-place_of queue far = if far then queue.far else queue.head
+abbrev pub place_in_queue : Queue → Bool → ℕ
+place_in_queue queue far = if far then queue.far else queue.head
 
 -- how far the lists of an entry were walked
 abbrev pub heads_of : Queue → List Bool → ℕ → ℕ
-heads_of queue fars e = place_of queue (far_at fars e)
+heads_of queue fars e = place_in_queue queue (far_at fars e)
 
 -- Each entry stands on those before it, what is left of the trail to look at is of its level, and the clauses are watched. The
 -- variables are known.
@@ -22,8 +22,8 @@ pub record AreJoined (p : Parts) : Type 0 where
   pub grounded : IsGrounded p.clauses.lists p.assigned.trail
   pub watched : AreWatched p.clauses.lists p.watches.lits p.assigned.trail p.queue.checked (heads_of p.queue p.watches.fars)
   pub checked_in : p.queue.checked ≤ length p.clauses.lists
-  pub head_in : (far : Bool) → place_of p.queue far ≤ length p.assigned.trail
-  pub present : (far : Bool) → All (λ e. e.level ≡ level_of p.assigned.trail) (drop (place_of p.queue far) p.assigned.trail)
+  pub head_in : (far : Bool) → place_in_queue p.queue far ≤ length p.assigned.trail
+  pub present : (far : Bool) → All (λ e. e.level ≡ level_of p.assigned.trail) (drop (place_in_queue p.queue far) p.assigned.trail)
   pub fars : length p.watches.fars ≡ length p.watches.lits
   pub lists : 2 * p.assigned.vars + 2 ≤ p.watches.lists
   pub in_range : All (VariablesUpTo p.assigned.vars) p.clauses.lists
@@ -40,7 +40,7 @@ pub record GoesOn (old new : Parts) : Type 0 where
 -- nothing is left to look at
 pub record IsAllSeen (p : Parts) : Type 0 where
   pub checked : p.queue.checked ≡ length p.clauses.lists
-  pub head : (far : Bool) → place_of p.queue far ≡ length p.assigned.trail
+  pub head : (far : Bool) → place_in_queue p.queue far ≡ length p.assigned.trail
 
 abbrev pub some_entry : Entry
 some_entry = record { literal = no_lit; level = 0; reason = None }
@@ -54,9 +54,9 @@ pub record IsInWalk (p : Parts) (e : ℕ) : Type 0 where
 -- the list of the literal is walked that the next entry of the trail makes false: each clause that was looked at has its other literal true
 pub record IsWalking (p : Parts) : Type 0 where
   pub checked : p.queue.checked ≡ length p.clauses.lists
-  pub more : place_of p.queue p.watches.walks_far < length p.assigned.trail
+  pub more : place_in_queue p.queue p.watches.walks_far < length p.assigned.trail
   pub some : 1 ≤ p.watches.walked.var
-  pub walked : (slice_index_or p.assigned.trail (place_of p.queue p.watches.walks_far) some_entry).literal ≡ negation p.watches.walked
+  pub walked : (slice_index_or p.assigned.trail (place_in_queue p.queue p.watches.walks_far) some_entry).literal ≡ negation p.watches.walked
   pub partners : (e f : ℕ) → ArePartners e f → IsInWalk p e
       → Contains p.watches.waiting e ⊎ Contains (literals p.assigned.trail) (lit_at p.watches.lits f)
 

@@ -6,12 +6,12 @@ use Rattle.sat_state.specs.declared.rows.Row.{Row}
 use Rattle.sat_state.specs.declared.rows.Rows.TheInside.{Inside}
 
 -- the literals from where a clause begins to where it ends
-abbrev pub row_of : List Literal → Row → List Literal
-row_of literals row = take (row.end - row.start) (drop row.start literals)
+abbrev pub literals_of_row : List Literal → Row → List Literal
+literals_of_row literals row = take (row.end - row.start) (drop row.start literals)
 
 abbrev pub seen_rows : Inside → Rowed
 seen_rows a = record {
-  lists = map (row_of a.lits.items) a.rows.items;
+  lists = map (literals_of_row a.lits.items) a.rows.items;
   room = vec_capacity a.rows - length a.rows.items;
   spare = min (vec_capacity a.lits - length a.lits.items) (2 ^ 32 - 1 - length a.lits.items);
 }

@@ -20,8 +20,8 @@ abbrev pub level_of : List Entry → ℕ
 level_of trail = count_by (λ e. is_none e.reason) trail
 
 -- the value of a variable where these literals are true
-abbrev pub value_of : List Literal → ℕ → Option Bool
-value_of trues var =
+abbrev pub trail_value : List Literal → ℕ → Option Bool
+trail_value trues var =
     if is_among trues (record { var = var; positive = true }) then Some true
     else (if is_among trues (record { var = var; positive = false }) then Some false else None)
 
@@ -42,7 +42,7 @@ HasReason clauses trues literal (Some number) = (number < length clauses) × Giv
 -- An entry stands on those before it: its variable had no value, its level is the number of decisions up to it, and it has
 -- its reason in what was true before.
 pub record StandsOn (clauses : List (List Literal)) (before : List Entry) (entry : Entry) : Type 0 where
-  pub free : value_of (literals before) entry.literal.var ≡ None
+  pub free : trail_value (literals before) entry.literal.var ≡ None
   pub level : entry.level ≡ level_of (before ++ entry ∷ [])
   pub reason : HasReason clauses (literals before) entry.literal entry.reason
 

@@ -2,10 +2,10 @@
 use Rattle.std.specs.Prelude.{◌≡◌, ◌+◌, ◌*◌, ◌<◌, ◌≤◌, Bool, false, List, length, slice_index_or}
 use Rattle.cnf_core.specs.Literal.{Literal, is_among, code_of}
 use Rattle.sat_state.specs.Trail.{literals}
-use Rattle.sat_state.specs.Assigned.{Assigned}
+use Rattle.sat_state.specs.Assigned.{TrailState}
 use Rattle.sat_state.specs.declared.values.Values.TheInside.{Inside}
 
-abbrev pub seen_values : Inside → Assigned
+abbrev pub seen_values : Inside → TrailState
 seen_values a = a.assigned
 
 -- the table has whether each literal is true

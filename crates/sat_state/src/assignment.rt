@@ -3,7 +3,7 @@
 ghost use Rattle.std.specs.Prelude.{◌≡◌, ℕ, ◌+◌, ◌-◌, ◌<◌, ◌≤◌, [], ◌∷◌, ◌++◌, length, take, max, IfOk, OnOk, OnErr, IsSome, is_none, if◌then◌else◌, slice_index_or, All};
 ghost use Rattle.std.specs.Option.{option_map, option_map_or};
 ghost use Rattle.cnf_core.specs.Literal.{is_among};
-ghost use Rattle.sat_state.specs.Trail.{Entry, literals, level_of, value_of, entry_of, next_level};
+ghost use Rattle.sat_state.specs.Trail.{Entry, literals, level_of, trail_value, entry_of, next_level};
 
 use cnf_core::Lit;
 use ep_base::Memory;
@@ -48,9 +48,9 @@ pub struct Assignment {
 }
 
 impl Model for Assignment {
-    ghost use Rattle.sat_state.specs.Assigned.{Assigned};
+    ghost use Rattle.sat_state.specs.Assigned.{TrailState};
 
-    ghost Value = { Assigned };
+    ghost Value = { TrailState };
 
     ghost use Rattle.sat_state.specs.AssignmentInside.{seen, IsAssignment};
 
@@ -91,7 +91,7 @@ impl Assignment {
 
     /// The value of a variable.
     pub fn value(&self, var: u64) -> Option<bool>
-        ensures value { result ≡ value_of (literals self.now.trail) var }
+        ensures value { result ≡ trail_value (literals self.now.trail) var }
         ensures unknown { self.now.vars < var → result ≡ None }
     {
         let var = var as usize;
@@ -120,7 +120,7 @@ impl Assignment {
 
     /// The level at which a variable got its value.
     pub fn level_of(&self, var: u64) -> u64
-        requires { IsSome (value_of (literals self.now.trail) var) }
+        requires { IsSome (trail_value (literals self.now.trail) var) }
         ensures { option_map (λ e. e.level) (entry_of self.now.trail var) ≡ Some result }
     {
         self.slots[var as usize].unwrap().level
@@ -128,7 +128,7 @@ impl Assignment {
 
     /// The clause that gave a variable its value, or none where it was decided.
     pub fn reason(&self, var: u64) -> Option<u64>
-        requires { IsSome (value_of (literals self.now.trail) var) }
+        requires { IsSome (trail_value (literals self.now.trail) var) }
         ensures { option_map (λ e. e.reason) (entry_of self.now.trail var) ≡ Some result }
     {
         self.slots[var as usize].unwrap().reason
@@ -137,7 +137,7 @@ impl Assignment {
     /// Makes a literal true. Without a reason it is a decision, which opens a level.
     pub fn push(&mut self, lit: Lit, reason: Option<u64>)
         requires known { lit.var ≤ self.old.vars }
-        requires free { value_of (literals self.old.trail) lit.var ≡ None }
+        requires free { trail_value (literals self.old.trail) lit.var ≡ None }
         ensures vars { self.new.vars ≡ self.old.vars }
         ensures trail { self.new.trail
             ≡ self.old.trail ++ record { literal = lit; level = next_level self.old.trail reason; reason = reason } ∷ [] }
@@ -158,7 +158,7 @@ impl Assignment {
         ensures trail { self.new.trail ≡ take (length self.old.trail - 1) self.old.trail }
         ensures literal { literals self.old.trail ≡ literals self.new.trail ++ result ∷ [] }
         ensures known { result.var ≤ self.old.vars }
-        ensures free { value_of (literals self.new.trail) result.var ≡ None }
+        ensures free { trail_value (literals self.new.trail) result.var ≡ None }
     {
         let lit = self.trail.pop().unwrap();
         let var = lit.var() as usize;

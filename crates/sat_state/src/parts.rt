@@ -3,12 +3,12 @@
 ghost use Rattle.std.specs.Prelude.{◌≡◌, ℕ, ◌+◌, ◌*◌, ◌^◌, ◌<◌, ◌≤◌, ◌⊎◌, [], ◌∷◌, ◌++◌, length, take, max, None, Some, false, IsTrue, Contains, IsNone, IfSome, IfOk, OnOk, OnErr, filter, nat_le, ◌/◌, ◌≢◌, if◌then◌else◌};
 ghost use Rattle.cnf_core.specs.Literal.{VariablesUpTo};
 ghost use Rattle.cnf_core.specs.Steps.{IsAtEnd, HasTrueLiteral, HasTwoNotFalse};
-ghost use Rattle.sat_state.specs.Trail.{literals, value_of, next_level, level_of, HasReason, IsFalsified, NamesFalsified, Gives, IsOpenBelow};
+ghost use Rattle.sat_state.specs.Trail.{literals, trail_value, next_level, level_of, HasReason, IsFalsified, NamesFalsified, Gives, IsOpenBelow};
 ghost use Rattle.sat_state.specs.Stored.{clause_at};
 ghost use Rattle.sat_state.specs.Tiered.{IsNext};
 ghost use Rattle.sat_state.specs.View.{AreTwoOf, IsGuarded};
 ghost use Rattle.sat_state.specs.Guards.{ArePartners};
-ghost use Rattle.sat_state.specs.Joined.{AreJoined, GoesOn, IsAllSeen, IsWalking, place_of};
+ghost use Rattle.sat_state.specs.Joined.{AreJoined, GoesOn, IsAllSeen, IsWalking, place_in_queue};
 
 use crate::clauses::{Clauses, first_open};
 use crate::tiers::Tiers;
@@ -29,7 +29,7 @@ pub struct Queue {
 impl Queue {
     // The place of the trail from which on the near or the far lists are left.
     fn place(self, far: bool) -> usize
-        ensures { result ≡ place_of self far }
+        ensures { result ≡ place_in_queue self far }
     {
         if far { self.far } else { self.head }
     }
@@ -86,7 +86,7 @@ impl Parts {
         requires joined { AreJoined self.old }
         requires there { number < length self.old.clauses.lists }
         requires gives { Gives (literals self.old.assigned.trail) (clause_at self.old.clauses.lists number) lit }
-        requires free { value_of (literals self.old.assigned.trail) lit.var ≡ None }
+        requires free { trail_value (literals self.old.assigned.trail) lit.var ≡ None }
         ensures goes { GoesOn self.old self.new }
         ensures clauses { self.new.clauses ≡ self.old.clauses }
         ensures watches { self.new.watches ≡ self.old.watches }
@@ -182,7 +182,7 @@ impl Parts {
     fn walk(&mut self, far: bool) -> Option<usize>
         requires joined { AreJoined self.old }
         requires checked { self.old.queue.checked ≡ length self.old.clauses.lists }
-        requires more { place_of self.old.queue far < length self.old.assigned.trail }
+        requires more { place_in_queue self.old.queue far < length self.old.assigned.trail }
         ensures goes { GoesOn self.old self.new }
         ensures checked { self.new.queue.checked ≡ self.old.queue.checked }
         ensures falsified { IfSome result (NamesFalsified self.new.clauses.lists self.new.assigned.trail) }
@@ -292,7 +292,7 @@ impl Parts {
         requires seen { IsAllSeen self.old }
         requires at_end { IsAtEnd (literals self.old.assigned.trail) self.old.clauses.lists }
         requires known { lit.var ≤ self.old.assigned.vars }
-        requires free { value_of (literals self.old.assigned.trail) lit.var ≡ None }
+        requires free { trail_value (literals self.old.assigned.trail) lit.var ≡ None }
         ensures joined { AreJoined self.new }
         ensures clauses { self.new.clauses ≡ self.old.clauses }
         ensures vars { self.new.assigned.vars ≡ self.old.assigned.vars }

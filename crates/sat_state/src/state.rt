@@ -4,7 +4,7 @@ ghost use Rattle.std.specs.Prelude.{◌≡◌, ◌≢◌, ℕ, ◌+◌, ◌<◌,
 ghost use Rattle.std.specs.Option.{option_map};
 ghost use Rattle.cnf_core.specs.Literal.{Literal, IsOrdered, IsVariable, VariablesUpTo};
 ghost use Rattle.cnf_core.specs.Steps.{IsLastOf};
-ghost use Rattle.sat_state.specs.Trail.{literals, value_of, level_of, entry_of, IsFalsified, NamesFalsified, IsGrounded, IsForcedAt, IsOpenBelow, FollowsFromDecisions};
+ghost use Rattle.sat_state.specs.Trail.{literals, trail_value, level_of, entry_of, IsFalsified, NamesFalsified, IsGrounded, IsForcedAt, IsOpenBelow, FollowsFromDecisions};
 ghost use Rattle.sat_state.specs.View.{StateView, IsPropagated, BringsIn, AreTwoOf, IsGuarded};
 
 use crate::parts::Parts;
@@ -93,7 +93,7 @@ impl State {
     /// Opens a level, at which a literal is made true without a reason. Takes no memory.
     pub fn decide(&mut self, lit: Lit)
         requires known { lit.var ≤ self.old.vars }
-        requires free { value_of (literals self.old.trail) lit.var ≡ None }
+        requires free { trail_value (literals self.old.trail) lit.var ≡ None }
         requires propagated { IsPropagated self.old }
         ensures clauses { self.new.clauses ≡ self.old.clauses }
         ensures vars { self.new.vars ≡ self.old.vars }
@@ -155,7 +155,7 @@ impl State {
 
     /// The value of a variable, or none where it has none or isn't known.
     pub fn value(&self, var: u64) -> Option<bool>
-        ensures value { result ≡ value_of (literals self.now.trail) var }
+        ensures value { result ≡ trail_value (literals self.now.trail) var }
         ensures unknown { self.now.vars < var → result ≡ None }
     {
         self.parts.assigned.value(var)
@@ -215,7 +215,7 @@ impl State {
 
     /// The level at which a variable got its value.
     pub fn level_of(&self, var: u64) -> u64
-        requires { IsSome (value_of (literals self.now.trail) var) }
+        requires { IsSome (trail_value (literals self.now.trail) var) }
         ensures { option_map (λ e. e.level) (entry_of self.now.trail var) ≡ Some result }
     {
         self.parts.assigned.level_of(var)
@@ -223,7 +223,7 @@ impl State {
 
     /// The number of the clause that gave a variable its value, or none where it was decided.
     pub fn reason(&self, var: u64) -> Option<u64>
-        requires { IsSome (value_of (literals self.now.trail) var) }
+        requires { IsSome (trail_value (literals self.now.trail) var) }
         ensures { option_map (λ e. e.reason) (entry_of self.now.trail var) ≡ Some result }
     {
         self.parts.assigned.reason(var)

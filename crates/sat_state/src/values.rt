@@ -3,7 +3,7 @@
 ghost use Rattle.std.specs.Prelude.{◌≡◌, ℕ, ◌+◌, ◌-◌, ◌<◌, ◌≤◌, [], ◌∷◌, ◌++◌, length, take, max, IfOk, OnOk, OnErr, IsSome, None, Some, All};
 ghost use Rattle.std.specs.Option.{option_map};
 ghost use Rattle.cnf_core.specs.Literal.{is_among};
-ghost use Rattle.sat_state.specs.Trail.{Entry, literals, level_of, value_of, entry_of, next_level};
+ghost use Rattle.sat_state.specs.Trail.{Entry, literals, level_of, trail_value, entry_of, next_level};
 
 use crate::assignment::Assignment;
 use crate::watches::code;
@@ -20,9 +20,9 @@ pub struct Values {
 }
 
 impl Model for Values {
-    ghost use Rattle.sat_state.specs.Assigned.{Assigned};
+    ghost use Rattle.sat_state.specs.Assigned.{TrailState};
 
-    ghost Value = { Assigned };
+    ghost Value = { TrailState };
 
     ghost use Rattle.sat_state.specs.ValuesInside.{seen_values, AreValues};
 
@@ -61,7 +61,7 @@ impl Values {
 
     /// The value of a variable.
     pub fn value(&self, var: u64) -> Option<bool>
-        ensures value { result ≡ value_of (literals self.now.trail) var }
+        ensures value { result ≡ trail_value (literals self.now.trail) var }
         ensures unknown { self.now.vars < var → result ≡ None }
     {
         self.assigned.value(var)
@@ -96,7 +96,7 @@ impl Values {
 
     /// The level at which a variable got its value.
     pub fn level_of(&self, var: u64) -> u64
-        requires { IsSome (value_of (literals self.now.trail) var) }
+        requires { IsSome (trail_value (literals self.now.trail) var) }
         ensures { option_map (λ e. e.level) (entry_of self.now.trail var) ≡ Some result }
     {
         self.assigned.level_of(var)
@@ -104,7 +104,7 @@ impl Values {
 
     /// The clause that gave a variable its value, or none where it was decided.
     pub fn reason(&self, var: u64) -> Option<u64>
-        requires { IsSome (value_of (literals self.now.trail) var) }
+        requires { IsSome (trail_value (literals self.now.trail) var) }
         ensures { option_map (λ e. e.reason) (entry_of self.now.trail var) ≡ Some result }
     {
         self.assigned.reason(var)
@@ -113,7 +113,7 @@ impl Values {
     /// Makes a literal true. Without a reason it is a decision, which opens a level.
     pub fn push(&mut self, lit: Lit, reason: Option<u64>)
         requires known { lit.var ≤ self.old.vars }
-        requires free { value_of (literals self.old.trail) lit.var ≡ None }
+        requires free { trail_value (literals self.old.trail) lit.var ≡ None }
         ensures vars { self.new.vars ≡ self.old.vars }
         ensures trail { self.new.trail
             ≡ self.old.trail ++ record { literal = lit; level = next_level self.old.trail reason; reason = reason } ∷ [] }
@@ -129,7 +129,7 @@ impl Values {
         ensures trail { self.new.trail ≡ take (length self.old.trail - 1) self.old.trail }
         ensures literal { literals self.old.trail ≡ literals self.new.trail ++ result ∷ [] }
         ensures known { result.var ≤ self.old.vars }
-        ensures free { value_of (literals self.new.trail) result.var ≡ None }
+        ensures free { trail_value (literals self.new.trail) result.var ≡ None }
     {
         let lit = self.assigned.pop();
         self.truths[code(lit)] = false;

@@ -136,16 +136,16 @@ Completes last f left begun later answer =
     behind_clauses f.clauses (clauses_at last f.vars left begun later) ≡ answer
 
 -- a reader stops for want of memory, at the line of a wrong word, or where words are wanting
-abbrev pub Stops : {Y : Type 0} → ℕ → Stop → Result Y ℕ → Type 0
-Stops last Memory answer = Unit {0}
-Stops last (At line) answer = answer ≡ Err line
-Stops last Ends answer = answer ≡ Err last
+abbrev pub StopsLine : {Y : Type 0} → ℕ → Stop → Result Y ℕ → Type 0
+StopsLine last Memory answer = Unit {0}
+StopsLine last (At line) answer = answer ≡ Err line
+StopsLine last Ends answer = answer ≡ Err last
 
 -- where a reader stops, when it looks for the next word: at its line, or behind the last one
-abbrev pub Names : ℕ → Stop → ℕ → Type 0
-Names last Memory line = ⊥
-Names last (At number) line = line ≡ number
-Names last Ends line = line ≡ last
+abbrev pub NamesLine : ℕ → Stop → ℕ → Type 0
+NamesLine last Memory line = ⊥
+NamesLine last (At number) line = line ≡ number
+NamesLine last Ends line = line ≡ last
 
 -- a formula that was read, as its variables and clauses
 abbrev pub plain_formula : Cnf → CnfContent

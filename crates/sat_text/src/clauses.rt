@@ -4,7 +4,7 @@ ghost use Rattle.std.specs.Prelude.{◌≡◌, ◌<◌, ◌≤◌, ◌+◌, ◌^
 ghost use Rattle.cnf_core.specs.Literal.{Literal, VariablesUpTo};
 ghost use Rattle.sat_text.specs.Words.{lines, words, PlacedWord, words_on, text_words};
 ghost use Rattle.sat_text.specs.Clauses.{in_order};
-ghost use Rattle.sat_text.specs.Cnf.{clauses_at, Completes, Stops};
+ghost use Rattle.sat_text.specs.Cnf.{clauses_at, Completes, StopsLine};
 
 use crate::faults::Stop;
 use crate::items::{is_zero, literal};
@@ -47,7 +47,7 @@ fn take_word(
         (record { line = line; bytes = word.now } ∷ later) answer →
         MatchResult result
         (λ _. Completes last f.new left.new begun.new.items later answer)
-        (λ stop. Stops last stop answer) }
+        (λ stop. StopsLine last stop answer) }
 {
     if *left == 0 {
         return Err(Stop::At(line));
@@ -86,7 +86,7 @@ fn take_line(
         (words_on number (words line.now) ++ later) answer →
         MatchResult result
         (λ _. Completes last f.new left.new begun.new.items later answer)
-        (λ stop. Stops last stop answer) }
+        (λ stop. StopsLine last stop answer) }
 {
     let mut rest = line;
     while let Some((word, after)) = next_word(rest) {
@@ -111,7 +111,7 @@ pub(crate) fn read_clauses(
     ensures clauses { (last : ℕ) → MatchResult result
         (λ f. clauses_at last vars count [] (text_words (before + 1) (lines text.now))
         ≡ Ok f.clauses)
-        (λ stop. Stops last stop
+        (λ stop. StopsLine last stop
         (clauses_at last vars count [] (text_words (before + 1) (lines text.now)))) }
 {
     let mut f = Formula::with_vars(alloc, vars);

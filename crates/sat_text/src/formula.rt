@@ -2,7 +2,7 @@
 
 ghost use Rattle.std.specs.Prelude.{◌≡◌, ◌<◌, ◌≤◌, ◌+◌, ◌^◌, ℕ, Ok, Err, false, length, IfOk, MatchResult};
 ghost use Rattle.sat_text.specs.Words.{lines, last_line, words, text_words};
-ghost use Rattle.sat_text.specs.Cnf.{first_word_line, formula_from, formula_of, Stops, Names, plain_formula};
+ghost use Rattle.sat_text.specs.Cnf.{first_word_line, formula_from, formula_of, StopsLine, NamesLine, plain_formula};
 
 use crate::clauses::read_clauses;
 use crate::faults::Stop;
@@ -29,7 +29,7 @@ pub(crate) fn last_line(text: &[u8]) -> u64
 /// The line of the first word of a text, whose first line has the number behind this one.
 fn first_word(before: u64, text: &[u8]) -> Stop
     requires few { before + length text.now < 2 ^ 62 }
-    ensures { (last : ℕ) → Names last result
+    ensures { (last : ℕ) → NamesLine last result
         (first_word_line last (text_words (before + 1) (lines text.now))) }
 {
     let mut rest = text;
@@ -50,7 +50,7 @@ pub(crate) fn read_formula(alloc: Global, text: &[u8]) -> Result<Formula, Stop>
     ensures origin { IfOk result (λ f. f.from_new ≡ false) }
     ensures found { (last : ℕ) → MatchResult result
         (λ f. formula_from last 1 (lines text.now) ≡ Ok (plain_formula f))
-        (λ stop. Stops last stop (formula_from last 1 (lines text.now))) }
+        (λ stop. StopsLine last stop (formula_from last 1 (lines text.now))) }
 {
     let mut rest = text;
     let mut number = 0u64;

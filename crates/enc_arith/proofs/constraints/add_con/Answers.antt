@@ -3,11 +3,11 @@ use Rattle.std.proofs.lemmas.List.{append-nil}
 use Rattle.std.specs.List.{All}
 use Rattle.std.specs.Ordering.{int_eq}
 use Rattle.ep_base.specs.Reads.{safe_picked}
-use Rattle.ep_flat.specs.Cons.{FlatKind, absolute, element, greatest, is_value, kind_holds, kind_variables, least, number_at, numbers_at, power, product, quotient, remainder}
+use Rattle.ep_flat.specs.Cons.{FlatKind, absolute, element, greatest, is_value, kind_holds, kind_variables, least, number_at, numbers_of_vars, power, product, quotient, remainder}
 use Rattle.ep_flat.specs.FlatViews.{plain_con, plain_kind}
 use Rattle.ep_flat.specs.declared.flats.ConKind.{ConKind}
 use Rattle.enc_arith.specs.Extremes.{extreme_of}
-use Rattle.enc_arith.specs.Functions.{value_of}
+use Rattle.enc_arith.specs.Functions.{function_value}
 use Rattle.enc_arith.specs.Operations.{result_of}
 use Rattle.enc_arith.specs.declared.functions.Function.TheVariants as function
 use Rattle.enc_arith.specs.declared.operations.Operation.{Operation}
@@ -66,9 +66,9 @@ add_function-requires c =
     record { ready = t.ready; names = λ k d low. absurd (omega (arith, low)); there = h.0; argument = h.1 }
 
 pub returns-in_ok-add_function-in-Power : goal.returns-in_ok-add_function-in-Power
-unfolding kind_holds value_of
+unfolding kind_holds function_value
 returns-in_ok-add_function-in-Power c =
-    adds_con _ _ _ (plain_con c.args.con.now) c.args.con.now.truth (λ values. int_eq (number_at values c.in-Power.r) (value_of (function.Power c.in-Power.n) (number_at values c.in-Power.x)))
+    adds_con _ _ _ (plain_con c.args.con.now) c.args.con.now.truth (λ values. int_eq (number_at values c.in-Power.r) (function_value (function.Power c.in-Power.n) (number_at values c.in-Power.x)))
     c.requires.can_take.is_layout refl (λ values. sym (ap (λ (k : ConKind). kind_holds values (plain_kind k)) c.in-Power.is)) c.in_ok-add_function-in-Power.ensures
 
 pub add_function-requires-in-Absolute : goal.add_function-requires-in-Absolute
@@ -80,9 +80,9 @@ add_function-requires-in-Absolute c =
     record { ready = t.ready; names = λ k d low. absurd (omega (arith, low)); there = h.0; argument = h.1 }
 
 pub returns-in_ok-add_function-in-Absolute : goal.returns-in_ok-add_function-in-Absolute
-unfolding kind_holds value_of
+unfolding kind_holds function_value
 returns-in_ok-add_function-in-Absolute c =
-    adds_con _ _ _ (plain_con c.args.con.now) c.args.con.now.truth (λ values. int_eq (number_at values c.in-Absolute.r) (value_of (function.Absolute) (number_at values c.in-Absolute.x)))
+    adds_con _ _ _ (plain_con c.args.con.now) c.args.con.now.truth (λ values. int_eq (number_at values c.in-Absolute.r) (function_value (function.Absolute) (number_at values c.in-Absolute.x)))
     c.requires.can_take.is_layout refl (λ values. sym (ap (λ (k : ConKind). kind_holds values (plain_kind k)) c.in-Absolute.is)) c.in_ok-add_function-in-Absolute.ensures
 
 pub add_side-requires : goal.add_side-requires
@@ -97,9 +97,9 @@ add_side-requires c =
 pub returns-in_ok-add_side-in-Least : goal.returns-in_ok-add_side-in-Least
 unfolding kind_holds extreme_of
 returns-in_ok-add_side-in-Least c =
-    adds_con _ _ _ (plain_con c.args.con.now) c.args.con.now.truth (λ values. is_value (extreme_of Side.Least (numbers_at values c.as_slice.result.now)) (number_at values c.in-Least.r))
+    adds_con _ _ _ (plain_con c.args.con.now) c.args.con.now.truth (λ values. is_value (extreme_of Side.Least (numbers_of_vars values c.as_slice.result.now)) (number_at values c.in-Least.r))
     c.requires.can_take.is_layout refl
-    (λ values. ap (λ (xs : List ℕ). is_value (extreme_of Side.Least (numbers_at values xs)) (number_at values c.in-Least.r)) c.as_slice.ensures.value ∙ sym (ap (λ (k : ConKind). kind_holds values (plain_kind k)) c.in-Least.is))
+    (λ values. ap (λ (xs : List ℕ). is_value (extreme_of Side.Least (numbers_of_vars values xs)) (number_at values c.in-Least.r)) c.as_slice.ensures.value ∙ sym (ap (λ (k : ConKind). kind_holds values (plain_kind k)) c.in-Least.is))
     c.in_ok-add_side-in-Least.ensures
 
 pub add_side-requires-in-Greatest : goal.add_side-requires-in-Greatest
@@ -114,9 +114,9 @@ add_side-requires-in-Greatest c =
 pub returns-in_ok-add_side-in-Greatest : goal.returns-in_ok-add_side-in-Greatest
 unfolding kind_holds extreme_of
 returns-in_ok-add_side-in-Greatest c =
-    adds_con _ _ _ (plain_con c.args.con.now) c.args.con.now.truth (λ values. is_value (extreme_of Side.Greatest (numbers_at values c.as_slice-in-Greatest.result.now)) (number_at values c.in-Greatest.r))
+    adds_con _ _ _ (plain_con c.args.con.now) c.args.con.now.truth (λ values. is_value (extreme_of Side.Greatest (numbers_of_vars values c.as_slice-in-Greatest.result.now)) (number_at values c.in-Greatest.r))
     c.requires.can_take.is_layout refl
-    (λ values. ap (λ (xs : List ℕ). is_value (extreme_of Side.Greatest (numbers_at values xs)) (number_at values c.in-Greatest.r)) c.as_slice-in-Greatest.ensures.value ∙ sym (ap (λ (k : ConKind). kind_holds values (plain_kind k)) c.in-Greatest.is))
+    (λ values. ap (λ (xs : List ℕ). is_value (extreme_of Side.Greatest (numbers_of_vars values xs)) (number_at values c.in-Greatest.r)) c.as_slice-in-Greatest.ensures.value ∙ sym (ap (λ (k : ConKind). kind_holds values (plain_kind k)) c.in-Greatest.is))
     c.in_ok-add_side-in-Greatest.ensures
 
 pub add_picked-requires : goal.add_picked-requires
@@ -142,11 +142,11 @@ returns-in_ok-add_picked-in-Element c =
     let xs : List ℕ = c.as_slice-in-Element.result.now in
     let keys : List (List ℤ) = c.as_slice-in-Element-2.result.now in
     let ys : List ℕ = c.as_slice-in-Element-3.result.now in
-    adds_con _ _ _ (plain_con c.args.con.now) c.args.con.now.truth (λ values. int_eq (number_at values r) (safe_picked (numbers_at values xs) keys (numbers_at values ys)))
+    adds_con _ _ _ (plain_con c.args.con.now) c.args.con.now.truth (λ values. int_eq (number_at values r) (safe_picked (numbers_of_vars values xs) keys (numbers_of_vars values ys)))
     c.requires.can_take.is_layout refl
-    (λ values. ap (λ (zs : List ℕ). int_eq (number_at values r) (safe_picked (numbers_at values zs) keys (numbers_at values ys))) c.as_slice-in-Element.ensures.value
-    ∙ ap (λ (ks : List (List ℤ)). int_eq (number_at values r) (safe_picked (numbers_at values c.in-Element.parts.items) ks (numbers_at values ys))) c.as_slice-in-Element-2.ensures.value
-    ∙ ap (λ (zs : List ℕ). int_eq (number_at values r) (safe_picked (numbers_at values c.in-Element.parts.items) c.in-Element.keys.items (numbers_at values zs))) c.as_slice-in-Element-3.ensures.value
+    (λ values. ap (λ (zs : List ℕ). int_eq (number_at values r) (safe_picked (numbers_of_vars values zs) keys (numbers_of_vars values ys))) c.as_slice-in-Element.ensures.value
+    ∙ ap (λ (ks : List (List ℤ)). int_eq (number_at values r) (safe_picked (numbers_of_vars values c.in-Element.parts.items) ks (numbers_of_vars values ys))) c.as_slice-in-Element-2.ensures.value
+    ∙ ap (λ (zs : List ℕ). int_eq (number_at values r) (safe_picked (numbers_of_vars values c.in-Element.parts.items) c.in-Element.keys.items (numbers_of_vars values zs))) c.as_slice-in-Element-3.ensures.value
     ∙ sym (ap (λ (k : ConKind). kind_holds values (plain_kind k)) c.in-Element.is))
     c.in_ok-add_picked-in-Element.ensures
 

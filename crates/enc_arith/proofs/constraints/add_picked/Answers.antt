@@ -1,7 +1,7 @@
 use Rattle.std.proofs.Common.{ℕ, ◌<◌, ℤ, [], List, length, map, refl, sym, ap, subst, ◌∙◌, arith}
 use Rattle.std.specs.Prelude.{MatchOption, Option}
 use Rattle.ep_base.specs.Reads.{safe_picked}
-use Rattle.ep_flat.specs.Cons.{numbers_at}
+use Rattle.ep_flat.specs.Cons.{numbers_of_vars}
 use Rattle.enc_arith.specs.Elements.{element_value, with_parts}
 use Rattle.enc_arith.specs.Entries.{HaveParts, plain_entry}
 use Rattle.enc_arith.proofs.Cases.{adds_same}
@@ -23,7 +23,7 @@ returns c =
     let keys : List (List ℤ) = c.args.keys.now in
     let parts : List ℕ = c.args.parts.now in
     let indices : List ℕ = c.args.indices.now in
-    let v : List ℤ → ℤ = λ values. safe_picked (numbers_at values parts) keys (numbers_at values indices) in
+    let v : List ℤ → ℤ = λ values. safe_picked (numbers_of_vars values parts) keys (numbers_of_vars values indices) in
     let w : List ℤ → ℤ = λ values. element_value values (map plain_entry c.as_slice.result.now) c.first_of-other.result indices in
     adds_same _ _ _ [] [] _ _ v w c.requires.ready refl
     (λ values. ap (λ es. element_value values es c.first_of-other.result indices) (ap (map plain_entry) c.as_slice.ensures.value ∙ c.in_ok-entries.ensures)

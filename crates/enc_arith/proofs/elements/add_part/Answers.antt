@@ -2,12 +2,12 @@ use Rattle.std.proofs.Common.{ℤ, List, refl, sym, ap}
 use Rattle.std.specs.Prelude.{None}
 use Rattle.ep_flat.specs.Cons.{number_at}
 use Rattle.enc_arith.specs.Elements.{number_of_first}
-use Rattle.enc_arith.specs.Functions.{value_of}
+use Rattle.enc_arith.specs.Functions.{function_value}
 use Rattle.enc_arith.proofs.Cases.{adds_same}
 use Rattle.enc_arith.proofs.elements.add_part.Goals as goal
 
 pub returns-in_ok-add_function-in-Some : goal.returns-in_ok-add_function-in-Some
-unfolding value_of number_of_first
+unfolding function_value number_of_first
 returns-in_ok-add_function-in-Some c =
     let v : List ℤ → ℤ = λ values. number_of_first values c.args.part c.args.other in
     let w : List ℤ → ℤ = λ values. number_at values c.in-Some.x in

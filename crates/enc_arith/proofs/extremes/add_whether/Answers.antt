@@ -1,6 +1,6 @@
 use Rattle.std.proofs.Common.{◌≡◌, ℕ, ◌||◌, ℤ, [], ◌∷◌, List, ap, ◌∙◌, w64, to_z, of_z, rules}
 use Rattle.std.proofs.lemmas.Int.{to_z-of_z}
-use Rattle.ep_flat.specs.Cons.{numbers_at}
+use Rattle.ep_flat.specs.Cons.{numbers_of_vars}
 use Rattle.enc_atoms.specs.Atoms.{clause_holds}
 use Rattle.enc_atoms.specs.declared.atoms.Atom.{Atom}
 use Rattle.enc_arith.specs.Extremes.{any_compares, contrary_of, within_of}
@@ -21,6 +21,6 @@ returns c =
     (ap (λ (a : Atom). a ∷ c.is-2.result ∷ []) (c.is_not-2.ensures ∙ ap (is_not_atom r) word) ∙ ap (λ (a : Atom). is_not_atom r w ∷ a ∷ []) c.is-2.ensures)
     c.within-within.ensures c.reached-reached.ensures (c.contrary-before.ensures ∙ ap contrary_of c.reached-reached.ensures)
     (λ values. ap (clause_holds values) c.as_slice.ensures.value ∙ c.in_ok-beyond.ensures.means values
-    ∙ ap (λ o. clause_holds values (c.is_not-2.result ∷ c.is-2.result ∷ []) || any_compares o (numbers_at values xs) (to_z w64 (of_z w64 w))) (c.contrary-past.ensures ∙ ap contrary_of c.within-within.ensures)
-    ∙ ap (λ n. clause_holds values (c.is_not-2.result ∷ c.is-2.result ∷ []) || any_compares (contrary_of (within_of c.args.side)) (numbers_at values xs) n) word)
+    ∙ ap (λ o. clause_holds values (c.is_not-2.result ∷ c.is-2.result ∷ []) || any_compares o (numbers_of_vars values xs) (to_z w64 (of_z w64 w))) (c.contrary-past.ensures ∙ ap contrary_of c.within-within.ensures)
+    ∙ ap (λ n. clause_holds values (c.is_not-2.result ∷ c.is-2.result ∷ []) || any_compares (contrary_of (within_of c.args.side)) (numbers_of_vars values xs) n) word)
     c.in_ok-add_each.ensures c.in_ok-add_some.ensures c.in_ok-add_each-2.ensures

@@ -4,7 +4,7 @@ use Rattle.std.proofs.lemmas.Int.{ints, to_z-of_z}
 use Rattle.std.proofs.lemmas.List.{take_all}
 use Rattle.std.proofs.lemmas.List.Elements.{All-nil, All-push}
 use Rattle.ep_base.specs.Numbers.{times_in}
-use Rattle.ep_flat.specs.Cons.{numbers_at}
+use Rattle.ep_flat.specs.Cons.{numbers_of_vars}
 use Rattle.enc_steps.proofs.Meanings.{not_false}
 use Rattle.enc_steps.specs.Steps.{AreOf}
 use Rattle.enc_count.proofs.Counting.{able_more, able_none, able_same}
@@ -40,5 +40,5 @@ pub returns-clause-times : goal.returns-clause-times
 returns-clause-times c = λ values among.
     let v : ℤ = c.args.number in
     let whole : to_z w64 (of_z w64 v) ≡ v = to_z-of_z w64 v (omega (arith, ints)) in
-    subst (λ (w : ℤ). times_in (numbers_at values c.loop-var.able.items) w ≡ times_in (numbers_at values c.args.vars.now) w) whole
-    (c.loop-var.invariant.times values among ∙ ap (λ (xs : List ℕ). times_in (numbers_at values xs) (to_z w64 (of_z w64 v))) (take_all c.loop-var.var-index c.args.vars.now c.loop-var-test.false))
+    subst (λ (w : ℤ). times_in (numbers_of_vars values c.loop-var.able.items) w ≡ times_in (numbers_of_vars values c.args.vars.now) w) whole
+    (c.loop-var.invariant.times values among ∙ ap (λ (xs : List ℕ). times_in (numbers_of_vars values xs) (to_z w64 (of_z w64 v))) (take_all c.loop-var.var-index c.args.vars.now c.loop-var-test.false))

@@ -2,7 +2,7 @@ use Rattle.std.proofs.Common.{◌≡◌, ◌∙◌, ℕ, ◌<◌, ℤ, List, len
 use Rattle.std.proofs.lemmas.Int.{to_z-of_z}
 use Rattle.std.proofs.lemmas.Result.{on_ok_weaker}
 use Rattle.ep_base.specs.Numbers.{times_in}
-use Rattle.ep_flat.specs.Cons.{numbers_at}
+use Rattle.ep_flat.specs.Cons.{numbers_of_vars}
 use Rattle.enc_atoms.specs.Atoms.{Adds}
 use Rattle.enc_steps.proofs.Naming.{truths_within}
 use Rattle.enc_steps.proofs.NewTruths.{length-numbers_from}
@@ -45,6 +45,6 @@ returns c =
     (count_whole c.args.layout.now c.args.f.now c.new_truths.new.layout c.new_truths.new.f c.add_marks.new.f c.add_sum.new.layout c.add_sum.new.f c.args.truth c.args.op c.deref-3.result.now c.deref-2.result.now c.args.vars.now c.args.wanted c.len.result (to_z w64 (of_z w64 v)) c.requires.ready.is_layout
     c.requires.truth.there c.requires.wanted.there (subst (λ (xs : List ℕ). AreOf c.args.layout.now xs) (sym able_is) c.in_ok-able.ensures.within) c.in_ok-marks.ensures.new
     (c.len.ensures ∙ counted ∙ ap length (sym able_is)) (c.deref-3.ensures.value ∙ c.in_ok-marks.ensures.numbers) whole
-    (λ values among. ap (λ (xs : List ℕ). times_in (numbers_at values xs) (to_z w64 (of_z w64 v))) able_is ∙ c.in_ok-able.ensures.times values among)
+    (λ values among. ap (λ (xs : List ℕ). times_in (numbers_of_vars values xs) (to_z w64 (of_z w64 v))) able_is ∙ c.in_ok-able.ensures.times values among)
     (subst (λ (ms : List ℕ). Adds c.new_truths.new.layout c.new_truths.new.f c.new_truths.new.layout c.add_marks.new.f (λ values. (k : ℕ) → k < length c.deref-2.result.now → IsMark (get_or ms k 0) (get_or c.deref-2.result.now k 0) (to_z w64 (of_z w64 v)) values)) (c.deref.ensures.value ∙ sym c.deref-3.ensures.value) c.in_ok-add_marks.ensures))
     c.add_sum.ensures

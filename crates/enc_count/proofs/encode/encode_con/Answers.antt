@@ -2,7 +2,7 @@ use Rattle.std.proofs.Common.{◌≡◌, ℕ, ◌∙◌, ◌++◌, ℤ, List, fa
 use Rattle.std.proofs.lemmas.Result.{on_ok_weaker}
 use Rattle.ep_base.specs.Numbers.{are_different, counts_hold}
 use Rattle.ep_base.specs.declared.operators.CompareOp.TheVariants as Op
-use Rattle.ep_flat.specs.Cons.{kind_holds, kind_variables, numbers_at}
+use Rattle.ep_flat.specs.Cons.{kind_holds, kind_variables, numbers_of_vars}
 use Rattle.ep_flat.specs.FlatViews.{plain_con, plain_kind}
 use Rattle.enc_steps.proofs.Naming.{keeps_con, kind_named, truth_named}
 use Rattle.enc_steps.specs.Steps.{AreOf}
@@ -22,12 +22,12 @@ pub returns-in-AllDiff : goal.returns-in-AllDiff
 unfolding kind_holds
 returns-in-AllDiff c =
     let vars : List ℕ = c.deref.result.now in
-    let says : (values : List ℤ) → kind_holds values (plain_kind c.args.con.now.kind) ≡ are_different (numbers_at values vars) =
-    λ values. ap (kind_holds values) (ap plain_kind c.in-AllDiff.is) ∙ ap (λ xs. are_different (numbers_at values xs)) (sym c.deref.ensures.value) in
+    let says : (values : List ℤ) → kind_holds values (plain_kind c.args.con.now.kind) ≡ are_different (numbers_of_vars values vars) =
+    λ values. ap (kind_holds values) (ap plain_kind c.in-AllDiff.is) ∙ ap (λ xs. are_different (numbers_of_vars values xs)) (sym c.deref.ensures.value) in
     record {
       goes_on = on_ok_weaker c.encode_different.result (λ adds. adds.goes_on) c.encode_different.ensures;
       keeps = on_ok_weaker c.encode_different.result
-          (keeps_con c.args.layout.now c.args.f.now c.encode_different.new.layout c.encode_different.new.f (plain_con c.args.con.now) (λ values. are_different (numbers_at values vars)) says)
+          (keeps_con c.args.layout.now c.args.f.now c.encode_different.new.layout c.encode_different.new.f (plain_con c.args.con.now) (λ values. are_different (numbers_of_vars values vars)) says)
           c.encode_different.ensures;
     }
 
@@ -54,15 +54,15 @@ returns-in-Gcc c =
     let vars : List ℕ = c.deref-in-Gcc.result.now in
     let numbers : List ℤ = c.deref-in-Gcc-2.result.now in
     let counts : List ℕ = c.deref-in-Gcc-3.result.now in
-    let says : (values : List ℤ) → kind_holds values (plain_kind c.args.con.now.kind) ≡ unwrap_or (counts_hold Op.Equal (numbers_at values vars) numbers (numbers_at values counts)) false =
+    let says : (values : List ℤ) → kind_holds values (plain_kind c.args.con.now.kind) ≡ unwrap_or (counts_hold Op.Equal (numbers_of_vars values vars) numbers (numbers_of_vars values counts)) false =
     λ values. ap (kind_holds values) (ap plain_kind c.in-Gcc.is)
-    ∙ ap (λ xs. unwrap_or (counts_hold Op.Equal (numbers_at values xs) c.in-Gcc.numbers.items (numbers_at values c.in-Gcc.counts.items)) false) (sym c.deref-in-Gcc.ensures.value)
-    ∙ ap (λ ns. unwrap_or (counts_hold Op.Equal (numbers_at values vars) ns (numbers_at values c.in-Gcc.counts.items)) false) (sym c.deref-in-Gcc-2.ensures.value)
-    ∙ ap (λ cs. unwrap_or (counts_hold Op.Equal (numbers_at values vars) numbers (numbers_at values cs)) false) (sym c.deref-in-Gcc-3.ensures.value) in
+    ∙ ap (λ xs. unwrap_or (counts_hold Op.Equal (numbers_of_vars values xs) c.in-Gcc.numbers.items (numbers_of_vars values c.in-Gcc.counts.items)) false) (sym c.deref-in-Gcc.ensures.value)
+    ∙ ap (λ ns. unwrap_or (counts_hold Op.Equal (numbers_of_vars values vars) ns (numbers_of_vars values c.in-Gcc.counts.items)) false) (sym c.deref-in-Gcc-2.ensures.value)
+    ∙ ap (λ cs. unwrap_or (counts_hold Op.Equal (numbers_of_vars values vars) numbers (numbers_of_vars values cs)) false) (sym c.deref-in-Gcc-3.ensures.value) in
     record {
       goes_on = on_ok_weaker c.encode_counts.result (λ adds. adds.goes_on) c.encode_counts.ensures;
       keeps = on_ok_weaker c.encode_counts.result
-          (keeps_con c.args.layout.now c.args.f.now c.encode_counts.new.layout c.encode_counts.new.f (plain_con c.args.con.now) (λ values. unwrap_or (counts_hold Op.Equal (numbers_at values vars) numbers (numbers_at values counts)) false) says)
+          (keeps_con c.args.layout.now c.args.f.now c.encode_counts.new.layout c.encode_counts.new.f (plain_con c.args.con.now) (λ values. unwrap_or (counts_hold Op.Equal (numbers_of_vars values vars) numbers (numbers_of_vars values counts)) false) says)
           c.encode_counts.ensures;
     }
 
@@ -80,15 +80,15 @@ returns-in-AtLeast c =
     let vars : List ℕ = c.deref-in-AtLeast.result.now in
     let numbers : List ℤ = c.deref-in-AtLeast-2.result.now in
     let counts : List ℤ = c.deref-in-AtLeast-3.result.now in
-    let says : (values : List ℤ) → kind_holds values (plain_kind c.args.con.now.kind) ≡ unwrap_or (counts_hold Op.AtLeast (numbers_at values vars) numbers counts) false =
+    let says : (values : List ℤ) → kind_holds values (plain_kind c.args.con.now.kind) ≡ unwrap_or (counts_hold Op.AtLeast (numbers_of_vars values vars) numbers counts) false =
     λ values. ap (kind_holds values) (ap plain_kind c.in-AtLeast.is)
-    ∙ ap (λ xs. unwrap_or (counts_hold Op.AtLeast (numbers_at values xs) c.in-AtLeast.numbers.items c.in-AtLeast.counts.items) false) (sym c.deref-in-AtLeast.ensures.value)
-    ∙ ap (λ ns. unwrap_or (counts_hold Op.AtLeast (numbers_at values vars) ns c.in-AtLeast.counts.items) false) (sym c.deref-in-AtLeast-2.ensures.value)
-    ∙ ap (λ cs. unwrap_or (counts_hold Op.AtLeast (numbers_at values vars) numbers cs) false) (sym c.deref-in-AtLeast-3.ensures.value) in
+    ∙ ap (λ xs. unwrap_or (counts_hold Op.AtLeast (numbers_of_vars values xs) c.in-AtLeast.numbers.items c.in-AtLeast.counts.items) false) (sym c.deref-in-AtLeast.ensures.value)
+    ∙ ap (λ ns. unwrap_or (counts_hold Op.AtLeast (numbers_of_vars values vars) ns c.in-AtLeast.counts.items) false) (sym c.deref-in-AtLeast-2.ensures.value)
+    ∙ ap (λ cs. unwrap_or (counts_hold Op.AtLeast (numbers_of_vars values vars) numbers cs) false) (sym c.deref-in-AtLeast-3.ensures.value) in
     record {
       goes_on = on_ok_weaker c.encode_bounds.result (λ adds. adds.goes_on) c.encode_bounds.ensures;
       keeps = on_ok_weaker c.encode_bounds.result
-          (keeps_con c.args.layout.now c.args.f.now c.encode_bounds.new.layout c.encode_bounds.new.f (plain_con c.args.con.now) (λ values. unwrap_or (counts_hold Op.AtLeast (numbers_at values vars) numbers counts) false) says)
+          (keeps_con c.args.layout.now c.args.f.now c.encode_bounds.new.layout c.encode_bounds.new.f (plain_con c.args.con.now) (λ values. unwrap_or (counts_hold Op.AtLeast (numbers_of_vars values vars) numbers counts) false) says)
           c.encode_bounds.ensures;
     }
 
@@ -106,14 +106,14 @@ returns-in-AtMost c =
     let vars : List ℕ = c.deref-in-AtMost.result.now in
     let numbers : List ℤ = c.deref-in-AtMost-2.result.now in
     let counts : List ℤ = c.deref-in-AtMost-3.result.now in
-    let says : (values : List ℤ) → kind_holds values (plain_kind c.args.con.now.kind) ≡ unwrap_or (counts_hold Op.AtMost (numbers_at values vars) numbers counts) false =
+    let says : (values : List ℤ) → kind_holds values (plain_kind c.args.con.now.kind) ≡ unwrap_or (counts_hold Op.AtMost (numbers_of_vars values vars) numbers counts) false =
     λ values. ap (kind_holds values) (ap plain_kind c.in-AtMost.is)
-    ∙ ap (λ xs. unwrap_or (counts_hold Op.AtMost (numbers_at values xs) c.in-AtMost.numbers.items c.in-AtMost.counts.items) false) (sym c.deref-in-AtMost.ensures.value)
-    ∙ ap (λ ns. unwrap_or (counts_hold Op.AtMost (numbers_at values vars) ns c.in-AtMost.counts.items) false) (sym c.deref-in-AtMost-2.ensures.value)
-    ∙ ap (λ cs. unwrap_or (counts_hold Op.AtMost (numbers_at values vars) numbers cs) false) (sym c.deref-in-AtMost-3.ensures.value) in
+    ∙ ap (λ xs. unwrap_or (counts_hold Op.AtMost (numbers_of_vars values xs) c.in-AtMost.numbers.items c.in-AtMost.counts.items) false) (sym c.deref-in-AtMost.ensures.value)
+    ∙ ap (λ ns. unwrap_or (counts_hold Op.AtMost (numbers_of_vars values vars) ns c.in-AtMost.counts.items) false) (sym c.deref-in-AtMost-2.ensures.value)
+    ∙ ap (λ cs. unwrap_or (counts_hold Op.AtMost (numbers_of_vars values vars) numbers cs) false) (sym c.deref-in-AtMost-3.ensures.value) in
     record {
       goes_on = on_ok_weaker c.encode_bounds-in-AtMost.result (λ adds. adds.goes_on) c.encode_bounds-in-AtMost.ensures;
       keeps = on_ok_weaker c.encode_bounds-in-AtMost.result
-          (keeps_con c.args.layout.now c.args.f.now c.encode_bounds-in-AtMost.new.layout c.encode_bounds-in-AtMost.new.f (plain_con c.args.con.now) (λ values. unwrap_or (counts_hold Op.AtMost (numbers_at values vars) numbers counts) false) says)
+          (keeps_con c.args.layout.now c.args.f.now c.encode_bounds-in-AtMost.new.layout c.encode_bounds-in-AtMost.new.f (plain_con c.args.con.now) (λ values. unwrap_or (counts_hold Op.AtMost (numbers_of_vars values vars) numbers counts) false) says)
           c.encode_bounds-in-AtMost.ensures;
     }

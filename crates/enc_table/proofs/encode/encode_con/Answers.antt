@@ -1,7 +1,7 @@
 use Rattle.std.proofs.Common.{◌≡◌, ℕ, ◌∙◌, ◌++◌, ℤ, List, false, unwrap_or, subst, sym, ap}
 use Rattle.std.proofs.lemmas.Result.{on_ok_weaker}
 use Rattle.ep_base.specs.Numbers.{is_row_of, lex_holds}
-use Rattle.ep_flat.specs.Cons.{kind_holds, kind_variables, numbers_at}
+use Rattle.ep_flat.specs.Cons.{kind_holds, kind_variables, numbers_of_vars}
 use Rattle.ep_flat.specs.FlatViews.{plain_con, plain_kind}
 use Rattle.enc_steps.proofs.Naming.{keeps_con, kind_named, truth_named}
 use Rattle.enc_steps.specs.Steps.{AreOf}
@@ -21,12 +21,12 @@ unfolding kind_holds
 returns-in-Table c =
     let vars : List ℕ = c.deref.result.now in
     let rows : List (List ℤ) = c.deref-in-Table.result.now in
-    let says : (values : List ℤ) → kind_holds values (plain_kind c.args.con.now.kind) ≡ unwrap_or (is_row_of rows (numbers_at values vars)) false =
-    λ values. ap (kind_holds values) (ap plain_kind c.in-Table.is) ∙ ap (λ xs. unwrap_or (is_row_of c.in-Table.rows.items (numbers_at values xs)) false) (sym c.deref.ensures.value) ∙ ap (λ rs. unwrap_or (is_row_of rs (numbers_at values vars)) false) (sym c.deref-in-Table.ensures.value) in
+    let says : (values : List ℤ) → kind_holds values (plain_kind c.args.con.now.kind) ≡ unwrap_or (is_row_of rows (numbers_of_vars values vars)) false =
+    λ values. ap (kind_holds values) (ap plain_kind c.in-Table.is) ∙ ap (λ xs. unwrap_or (is_row_of c.in-Table.rows.items (numbers_of_vars values xs)) false) (sym c.deref.ensures.value) ∙ ap (λ rs. unwrap_or (is_row_of rs (numbers_of_vars values vars)) false) (sym c.deref-in-Table.ensures.value) in
     record {
       goes_on = on_ok_weaker c.encode_table.result (λ adds. adds.goes_on) c.encode_table.ensures;
       keeps = on_ok_weaker c.encode_table.result
-          (keeps_con c.args.layout.now c.args.f.now c.encode_table.new.layout c.encode_table.new.f (plain_con c.args.con.now) (λ values. unwrap_or (is_row_of rows (numbers_at values vars)) false) says)
+          (keeps_con c.args.layout.now c.args.f.now c.encode_table.new.layout c.encode_table.new.f (plain_con c.args.con.now) (λ values. unwrap_or (is_row_of rows (numbers_of_vars values vars)) false) says)
           c.encode_table.ensures;
     }
 
@@ -53,13 +53,13 @@ returns-in-Lex c =
     let op = c.in-Lex.op in
     let xs : List ℕ = c.deref-in-Lex.result.now in
     let ys : List ℕ = c.deref-in-Lex-2.result.now in
-    let says : (values : List ℤ) → kind_holds values (plain_kind c.args.con.now.kind) ≡ lex_holds op (numbers_at values xs) (numbers_at values ys) =
+    let says : (values : List ℤ) → kind_holds values (plain_kind c.args.con.now.kind) ≡ lex_holds op (numbers_of_vars values xs) (numbers_of_vars values ys) =
     λ values. ap (kind_holds values) (ap plain_kind c.in-Lex.is)
-    ∙ ap (λ zs. lex_holds op (numbers_at values zs) (numbers_at values c.in-Lex.ys.items)) (sym c.deref-in-Lex.ensures.value)
-    ∙ ap (λ zs. lex_holds op (numbers_at values xs) (numbers_at values zs)) (sym c.deref-in-Lex-2.ensures.value) in
+    ∙ ap (λ zs. lex_holds op (numbers_of_vars values zs) (numbers_of_vars values c.in-Lex.ys.items)) (sym c.deref-in-Lex.ensures.value)
+    ∙ ap (λ zs. lex_holds op (numbers_of_vars values xs) (numbers_of_vars values zs)) (sym c.deref-in-Lex-2.ensures.value) in
     record {
       goes_on = on_ok_weaker c.encode_lex.result (λ adds. adds.goes_on) c.encode_lex.ensures;
       keeps = on_ok_weaker c.encode_lex.result
-          (keeps_con c.args.layout.now c.args.f.now c.encode_lex.new.layout c.encode_lex.new.f (plain_con c.args.con.now) (λ values. lex_holds op (numbers_at values xs) (numbers_at values ys)) says)
+          (keeps_con c.args.layout.now c.args.f.now c.encode_lex.new.layout c.encode_lex.new.f (plain_con c.args.con.now) (λ values. lex_holds op (numbers_of_vars values xs) (numbers_of_vars values ys)) says)
           c.encode_lex.ensures;
     }

@@ -2,7 +2,7 @@ use Rattle.std.proofs.Common.{◌≡◌, ◌∙◌, ℕ, ℤ, pos, List, IsTrue,
 use Rattle.std.proofs.lemmas.Int.{ints, to_z-of_z}
 use Rattle.std.proofs.lemmas.Result.{on_ok_weaker}
 use Rattle.ep_base.specs.Numbers.{has_number}
-use Rattle.ep_flat.specs.Cons.{number_at, numbers_at}
+use Rattle.ep_flat.specs.Cons.{number_at, numbers_of_vars}
 use Rattle.enc_atoms.specs.Atoms.{Adds}
 use Rattle.enc_steps.specs.Steps.{AreOf, Unless}
 use Rattle.enc_table.proofs.Supports.{having_within}
@@ -22,6 +22,6 @@ returns c =
     let whole : to_z w64 (of_z w64 v) ≡ v = to_z-of_z w64 v (omega (arith, ints)) in
     let L = c.args.layout.now in
     on_ok_weaker c.add_one_where.result
-    (λ h. subst (λ (w : ℤ). Adds L c.args.f.now L c.add_one_where.new.f (Unless c.args.guard.now (λ values. number_at values (get_or c.args.vars.now c.args.place 0) ≡ w → IsTrue (has_number (numbers_at values (truths_having c.args.truths.now c.args.rows.now c.args.place w)) (pos 1))))) whole
-    (subst (λ (xs : List ℕ). Adds L c.args.f.now L c.add_one_where.new.f (Unless c.args.guard.now (λ values. number_at values (get_or c.args.vars.now c.args.place 0) ≡ to_z w64 (of_z w64 v) → IsTrue (has_number (numbers_at values xs) (pos 1))))) (c.deref.ensures.value ∙ c.in_ok-chosen.ensures) h))
+    (λ h. subst (λ (w : ℤ). Adds L c.args.f.now L c.add_one_where.new.f (Unless c.args.guard.now (λ values. number_at values (get_or c.args.vars.now c.args.place 0) ≡ w → IsTrue (has_number (numbers_of_vars values (truths_having c.args.truths.now c.args.rows.now c.args.place w)) (pos 1))))) whole
+    (subst (λ (xs : List ℕ). Adds L c.args.f.now L c.add_one_where.new.f (Unless c.args.guard.now (λ values. number_at values (get_or c.args.vars.now c.args.place 0) ≡ to_z w64 (of_z w64 v) → IsTrue (has_number (numbers_of_vars values xs) (pos 1))))) (c.deref.ensures.value ∙ c.in_ok-chosen.ensures) h))
     c.add_one_where.ensures

@@ -4,14 +4,14 @@ use Rattle.std.proofs.lemmas.List.{length-map, length_push, map-append}
 use Rattle.cnf_core.specs.Events.{givens}
 use Rattle.ep_answer.specs.AnswerViews.{plain_problem}
 use Rattle.ep_answer.specs.Problems.{ProblemState}
-use Rattle.ep_answer.specs.Searches.{HasCells, IsBlocked, IsListed, values_of}
+use Rattle.ep_answer.specs.Searches.{HasCells, IsBlocked, ListsNumbers, kept_values}
 use Rattle.ep_answer.proofs.Searching.{kept_satisfies, stays_whole}
 use Rattle.ep_answer.proofs.Listing.{blocked_same, has_cells, listed_first, listed_more, listed_on, lists, right_complete, right_spent, right_stopped}
 use Rattle.ep_answer.proofs.finding.enumerate_cells.Goals as goal
 
 pub solutions-init : goal.solutions-init
 solutions-init c = record {
-  listed = subst (IsListed (plain_problem c.args.p.now) c.args.budget c.args.log.now c.args.log.now) (sym (ap (map (λ cells. cells.items)) c.new-found.ensures.items)) (listed_first (plain_problem c.args.p.now) c.args.budget c.args.log.now c.requires);
+  listed = subst (ListsNumbers (plain_problem c.args.p.now) c.args.budget c.args.log.now c.args.log.now) (sym (ap (map (λ cells. cells.items)) c.new-found.ensures.items)) (listed_first (plain_problem c.args.p.now) c.args.budget c.args.log.now c.requires);
   problem = refl;
   whole = c.requires.is_whole;
   clauses = c.requires.clauses;
@@ -44,12 +44,12 @@ solutions-preserved c =
     let cells = c.in_ok-block-in-Sat.field-0 in
     let grown : length c.push.new.self.items ≡ length c.solutions.found.items + 1 = ap length c.in_ok-push-in-Sat.ensures.items ∙ length_push c.solutions.found.items cells in
     record {
-      listed = subst (IsListed p c.args.budget old next) (sym (map-append (λ one. one.items) c.solutions.found.items _) ∙ sym (ap (map (λ one. one.items)) c.in_ok-push-in-Sat.ensures.items))
-          (listed_more p c.args.budget old now next found (values_of solver) cells.items c.requires
+      listed = subst (ListsNumbers p c.args.budget old next) (sym (map-append (λ one. one.items) c.solutions.found.items _) ∙ sym (ap (map (λ one. one.items)) c.in_ok-push-in-Sat.ensures.items))
+          (listed_more p c.args.budget old now next found (kept_values solver) cells.items c.requires
           (listed_on p c.args.budget old c.solutions.log now found c.solutions.invariant.listed c.solve.ensures.steps c.solve.ensures.sound c.solve.ensures.within)
           (kept_satisfies solver (givens now.events) (c.solve.ensures.sat is))
-          (blocked_same p solver (values_of solver) now next cells.items
-          (subst (λ q. IsBlocked q (values_of solver) now next cells.items) (ap {A = ProblemState} (λ q. record q { solver = solver }) c.solutions.invariant.problem) c.in_ok-block-in-Sat.ensures.blocked))
+          (blocked_same p solver (kept_values solver) now next cells.items
+          (subst (λ q. IsBlocked q (kept_values solver) now next cells.items) (ap {A = ProblemState} (λ q. record q { solver = solver }) c.solutions.invariant.problem) c.in_ok-block-in-Sat.ensures.blocked))
           c.block.ensures.sound (omega (arith, c.block.ensures.steps, c.solve.ensures.within)));
       problem = c.block.ensures.problem ∙ ap {A = ProblemState} (λ q. record q { solver = c.block.new.p.solver }) c.solutions.invariant.problem;
       whole = c.in_ok-block-in-Sat.ensures.whole;

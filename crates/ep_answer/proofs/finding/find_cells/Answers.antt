@@ -1,11 +1,11 @@
 use Rattle.std.proofs.Common.{◌∙◌, ℕ, List, None, Ok, ap, subst, sym}
-use Rattle.ep_flat.specs.Cons.{numbers_at}
+use Rattle.ep_flat.specs.Cons.{numbers_of_vars}
 use Rattle.enc_var.specs.Layouts.{decoded_values}
 use Rattle.cnf_core.specs.Events.{givens}
 use Rattle.sat_search.proofs.Continued.{sound_givens}
 use Rattle.ep_answer.specs.AnswerViews.{plain_problem}
 use Rattle.ep_answer.specs.Problems.{AllMean}
-use Rattle.ep_answer.specs.Searches.{values_of}
+use Rattle.ep_answer.specs.Searches.{kept_values}
 use Rattle.ep_answer.proofs.Searching.{answers_end, answers_found, answers_spent, kept_satisfies, means_now, pursued_first, pursued_on, within_any}
 use Rattle.ep_answer.proofs.finding.find_cells.Goals as goal
 
@@ -21,8 +21,8 @@ numbers_of-requires-clause-meaning c =
     let old = c.args.log.now in
     let now = c.solve.new.log in
     let first = pursued_first p c.args.budget old c.requires.can_search in
-    subst (λ (xs : List ℕ). AllMean (values_of c.solve.new.self) p.layout xs) (sym c.as_slice.ensures.value)
-    (means_now p c.args.budget old now None (values_of c.solve.new.self) c.requires.can_search (pursued_on p c.args.budget old old now None first c.solve.ensures.steps c.solve.ensures.sound c.solve.ensures.within)
+    subst (λ (xs : List ℕ). AllMean (kept_values c.solve.new.self) p.layout xs) (sym c.as_slice.ensures.value)
+    (means_now p c.args.budget old now None (kept_values c.solve.new.self) c.requires.can_search (pursued_on p c.args.budget old old now None first c.solve.ensures.steps c.solve.ensures.sound c.solve.ensures.within)
     (kept_satisfies c.solve.new.self (givens now.events) (c.solve.ensures.sat (c.in-Ok.is ∙ ap Ok c.in-Sat.is)))).cells
 
 pub returns-in_ok-cells-in-Sat-clause-answers : goal.returns-in_ok-cells-in-Sat-clause-answers
@@ -31,10 +31,10 @@ returns-in_ok-cells-in-Sat-clause-answers c =
     let old = c.args.log.now in
     let now = c.solve.new.log in
     let first = pursued_first p c.args.budget old c.requires.can_search in
-    answers_found p c.args.budget old now (values_of c.solve.new.self) c.in_ok-cells-in-Sat.cells.items c.requires.can_search.is_base c.requires.no_objective
+    answers_found p c.args.budget old now (kept_values c.solve.new.self) c.in_ok-cells-in-Sat.cells.items c.requires.can_search.is_base c.requires.no_objective
     (pursued_on p c.args.budget old old now None first c.solve.ensures.steps c.solve.ensures.sound c.solve.ensures.within)
     (kept_satisfies c.solve.new.self (givens now.events) (c.solve.ensures.sat (c.in-Ok.is ∙ ap Ok c.in-Sat.is)))
-    (c.in_ok-cells-in-Sat.ensures ∙ ap (numbers_at (decoded_values p.layout (values_of c.solve.new.self))) c.as_slice.ensures.value)
+    (c.in_ok-cells-in-Sat.ensures ∙ ap (numbers_of_vars (decoded_values p.layout (kept_values c.solve.new.self))) c.as_slice.ensures.value)
 
 pub returns-in-Unsat-clause-answers : goal.returns-in-Unsat-clause-answers
 returns-in-Unsat-clause-answers c =

@@ -3,7 +3,7 @@ use Rattle.std.specs.Prelude.{option_map}
 use Rattle.cnf_core.specs.Events.{givens}
 use Rattle.ep_answer.specs.Answered.{AnswersCells, Improves}
 use Rattle.ep_answer.specs.AnswerViews.{plain_problem}
-use Rattle.ep_answer.specs.Searches.{HasFound, IsImproved, values_of}
+use Rattle.ep_answer.specs.Searches.{HasFound, IsImproved, kept_values}
 use Rattle.ep_answer.specs.Problems.{ProblemState}
 use Rattle.ep_answer.proofs.Searching.{answers_end, answers_spent, falls, has_found, improved_same, improves_end, improves_spent, kept_satisfies, objective_there, pursued_first, pursued_more, pursued_on, stays_whole}
 use Rattle.ep_answer.proofs.finding.optimise_cells.Goals as goal
@@ -39,11 +39,11 @@ solutions-smaller c =
     let best : Option (ℤ × List ℤ) = option_map (λ one. (one.0, one.1.items)) c.solutions.best in
     let is = c.in-Ok.is ∙ ap Ok c.in-Sat.is in
     let found = c.in_ok-improve-in-Sat.field-0 in
-    falls p c.args.budget old now c.improve.new.log best c.in-Some.sense c.in-Some.var (values_of solver) found.0 found.1.items c.requires.can_search c.in-Some.is
+    falls p c.args.budget old now c.improve.new.log best c.in-Some.sense c.in-Some.var (kept_values solver) found.0 found.1.items c.requires.can_search c.in-Some.is
     (pursued_on p c.args.budget old c.solutions.log now best c.solutions.invariant.pursued c.solve.ensures.steps c.solve.ensures.sound c.solve.ensures.within)
     (kept_satisfies solver (givens now.events) (c.solve.ensures.sat is))
-    (improved_same p solver c.in-Some.sense c.in-Some.var (values_of solver) now c.improve.new.log found.0 found.1.items
-    (subst (λ q. IsImproved q c.in-Some.sense c.in-Some.var (values_of solver) now c.improve.new.log found.0 found.1.items) (ap {A = ProblemState} (λ q. record q { solver = solver }) c.solutions.invariant.problem) c.in_ok-improve-in-Sat.ensures.improved))
+    (improved_same p solver c.in-Some.sense c.in-Some.var (kept_values solver) now c.improve.new.log found.0 found.1.items
+    (subst (λ q. IsImproved q c.in-Some.sense c.in-Some.var (kept_values solver) now c.improve.new.log found.0 found.1.items) (ap {A = ProblemState} (λ q. record q { solver = solver }) c.solutions.invariant.problem) c.in_ok-improve-in-Sat.ensures.improved))
 
 pub solutions-preserved : goal.solutions-preserved
 solutions-preserved c =
@@ -57,11 +57,11 @@ solutions-preserved c =
     let found = c.in_ok-improve-in-Sat.field-0 in
     let stated : p.variables.objective ≡ Some (c.in-Some.sense, c.in-Some.var) = c.in-Some.is in
     record {
-      pursued = pursued_more p c.args.budget old now next best c.in-Some.sense c.in-Some.var (values_of solver) found.0 found.1.items c.requires.can_search stated (objective_there p c.in-Some.sense c.in-Some.var old c.requires.can_search stated)
+      pursued = pursued_more p c.args.budget old now next best c.in-Some.sense c.in-Some.var (kept_values solver) found.0 found.1.items c.requires.can_search stated (objective_there p c.in-Some.sense c.in-Some.var old c.requires.can_search stated)
           (pursued_on p c.args.budget old c.solutions.log now best c.solutions.invariant.pursued c.solve.ensures.steps c.solve.ensures.sound c.solve.ensures.within)
           (kept_satisfies solver (givens now.events) (c.solve.ensures.sat is))
-          (improved_same p solver c.in-Some.sense c.in-Some.var (values_of solver) now next found.0 found.1.items
-          (subst (λ q. IsImproved q c.in-Some.sense c.in-Some.var (values_of solver) now next found.0 found.1.items) (ap {A = ProblemState} (λ q. record q { solver = solver }) c.solutions.invariant.problem) c.in_ok-improve-in-Sat.ensures.improved))
+          (improved_same p solver c.in-Some.sense c.in-Some.var (kept_values solver) now next found.0 found.1.items
+          (subst (λ q. IsImproved q c.in-Some.sense c.in-Some.var (kept_values solver) now next found.0 found.1.items) (ap {A = ProblemState} (λ q. record q { solver = solver }) c.solutions.invariant.problem) c.in_ok-improve-in-Sat.ensures.improved))
           c.improve.ensures.sound (omega (arith, c.improve.ensures.steps, c.solve.ensures.within));
       problem = c.improve.ensures.problem ∙ ap {A = ProblemState} (λ q. record q { solver = c.improve.new.p.solver }) c.solutions.invariant.problem;
       whole = c.in_ok-improve-in-Sat.ensures.whole;

@@ -1,6 +1,6 @@
 use Rattle.std.proofs.Common.{ℕ, [], length, subst, sym}
 use Rattle.ep_base.specs.declared.operators.CompareOp.{CompareOp}
-use Rattle.ep_defined.specs.Growing.{Is}
+use Rattle.ep_defined.specs.Growing.{IsNodeAt}
 use Rattle.ep_defined.specs.Images.{IsDivisorTest}
 use Rattle.ep_ground.specs.Nodes.{compare, parts_of}
 use Rattle.ep_ground.specs.NodeViews.{plain_node}
@@ -20,9 +20,9 @@ total-requires-in-Mod c =
 pub returns-in_ok-own-in-Div-clause-is : goal.returns-in_ok-own-in-Div-clause-is
 unfolding IsDivisorTest
 returns-in_ok-own-in-Div-clause-is c =
-    subst (λ n. IsDivisorTest c.unequal.new.arena c.args.nought c.args.images.now (plain_node n) c.in_ok-own-in-Div.own) (sym c.in-Div.is) (subst (λ (t : ℕ). Is c.unequal.new.arena c.in_ok-own-in-Div.own (compare CompareOp.NotEqual t c.args.nought)) c.total.ensures c.in_ok-own-in-Div.ensures.is)
+    subst (λ n. IsDivisorTest c.unequal.new.arena c.args.nought c.args.images.now (plain_node n) c.in_ok-own-in-Div.own) (sym c.in-Div.is) (subst (λ (t : ℕ). IsNodeAt c.unequal.new.arena c.in_ok-own-in-Div.own (compare CompareOp.NotEqual t c.args.nought)) c.total.ensures c.in_ok-own-in-Div.ensures.is)
 
 pub returns-in_ok-own-in-Mod-clause-is : goal.returns-in_ok-own-in-Mod-clause-is
 unfolding IsDivisorTest
 returns-in_ok-own-in-Mod-clause-is c =
-    subst (λ n. IsDivisorTest c.unequal-in-Mod.new.arena c.args.nought c.args.images.now (plain_node n) c.in_ok-own-in-Mod.own) (sym c.in-Mod.is) (subst (λ (t : ℕ). Is c.unequal-in-Mod.new.arena c.in_ok-own-in-Mod.own (compare CompareOp.NotEqual t c.args.nought)) c.total-in-Mod.ensures c.in_ok-own-in-Mod.ensures.is)
+    subst (λ n. IsDivisorTest c.unequal-in-Mod.new.arena c.args.nought c.args.images.now (plain_node n) c.in_ok-own-in-Mod.own) (sym c.in-Mod.is) (subst (λ (t : ℕ). IsNodeAt c.unequal-in-Mod.new.arena c.in_ok-own-in-Mod.own (compare CompareOp.NotEqual t c.args.nought)) c.total-in-Mod.ensures c.in_ok-own-in-Mod.ensures.is)

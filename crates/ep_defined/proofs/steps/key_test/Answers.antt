@@ -1,6 +1,6 @@
 use Rattle.std.proofs.Common.{◌≡◌, ℤ, List, ◌==◌, length, map, subst, sym, rules, take}
 use Rattle.std.specs.Prelude.{filter}
-use Rattle.ep_defined.specs.Growing.{Is}
+use Rattle.ep_defined.specs.Growing.{IsNodeAt}
 use Rattle.ep_defined.specs.Images.{IsKeyTest, total_at}
 use Rattle.ep_ground.specs.Nodes.{GroundNode, parts_of, table}
 use Rattle.ep_ground.specs.NodeViews.{plain_node}
@@ -16,4 +16,4 @@ pub returns-in_ok-own-in-Pick-clause-is : goal.returns-in_ok-own-in-Pick-clause-
 unfolding IsKeyTest
 returns-in_ok-own-in-Pick-clause-is c =
     let count : c.len.result ≡ length c.in-Pick.parts.items = search rules in
-    subst (λ n. IsKeyTest c.table_of.new.arena c.args.images.now (plain_node n) c.in_ok-own-in-Pick.own) (sym c.in-Pick.is) (subst (λ (n : GroundNode). Is c.table_of.new.arena c.in_ok-own-in-Pick.own n) (λ i. table (map (total_at c.args.images.now) (c.deref-in-Pick.ensures.value i)) (filter (λ (key : List ℤ). length key == length (c.deref-in-Pick.ensures.value i)) (take (count i) (c.deref.ensures.value i)))) c.in_ok-own-in-Pick.ensures.is)
+    subst (λ n. IsKeyTest c.table_of.new.arena c.args.images.now (plain_node n) c.in_ok-own-in-Pick.own) (sym c.in-Pick.is) (subst (λ (n : GroundNode). IsNodeAt c.table_of.new.arena c.in_ok-own-in-Pick.own n) (λ i. table (map (total_at c.args.images.now) (c.deref-in-Pick.ensures.value i)) (filter (λ (key : List ℤ). length key == length (c.deref-in-Pick.ensures.value i)) (take (count i) (c.deref.ensures.value i)))) c.in_ok-own-in-Pick.ensures.is)

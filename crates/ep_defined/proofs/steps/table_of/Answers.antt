@@ -1,7 +1,7 @@
 use Rattle.std.proofs.Common.{ℕ, ℤ, List, ◌<◌, ◌==◌, ap, length, subst, sym, ◌∙◌}
 use Rattle.std.specs.Prelude.{filter}
 use Rattle.std.specs.List.{All}
-use Rattle.ep_defined.specs.Growing.{Is}
+use Rattle.ep_defined.specs.Growing.{IsNodeAt}
 use Rattle.ep_ground.specs.Nodes.{GroundNode, parts_of, table}
 use Rattle.ep_defined.proofs.Growth.{table_safe, totals_stand}
 use Rattle.ep_defined.proofs.steps.table_of.Goals as goal
@@ -13,7 +13,7 @@ taken-requires c =
 
 pub returns-clause-is : goal.returns-clause-is
 returns-clause-is c =
-    subst (λ (n : GroundNode). Is c.taken.new.arena c.in_ok-own.own n) (λ i. table (c.in_ok-columns.ensures i) ((c.in_ok-rows.ensures ∙ ap (filter (λ (key : List ℤ). length key == length c.args.indices.now)) c.first_keys.ensures) i)) c.in_ok-own.ensures.term
+    subst (λ (n : GroundNode). IsNodeAt c.taken.new.arena c.in_ok-own.own n) (λ i. table (c.in_ok-columns.ensures i) ((c.in_ok-rows.ensures ∙ ap (filter (λ (key : List ℤ). length key == length c.args.indices.now)) c.first_keys.ensures) i)) c.in_ok-own.ensures.term
 
 pub returns-clause-grows : goal.returns-clause-grows
 returns-clause-grows c =

@@ -53,7 +53,7 @@ use Rattle.ep_eval.specs.Literals.{index_at, listed_in}
 use Rattle.std.specs.Prelude.{None, true, false}
 use Rattle.ep_tree.specs.Views.{generators_of}
 use Rattle.ep_tree.specs.Measures.{a_generator}
-use Rattle.ep_eval.specs.Generating.{how_many, listed_nodes, listed_values, lists_joined, nodes_at, nodes_of, parts_at, parts_of, ranging_over}
+use Rattle.ep_eval.specs.Generating.{how_many, listed_nodes, generated_values, lists_joined, nodes_at, nodes_of, parts_at, parts_of, ranging_over}
 use Rattle.ep_eval.specs.declared.generating.Listing.{Listing}
 use Rattle.ep_eval.proofs.GeneratingDepths.{comprehension_depth, first_generator, generators_depth, listing_depth}
 use Rattle.ep_eval.proofs.GeneratingSteps.{before_others, behind_cause, comprehension_at, comprehension_first, comprehension_second, comprehension_value, conditions_cause, domain_cause, generators_first, generators_none, listed_begins, listed_cause, listed_counted, listed_goes_on, listed_value, lost_behind, lost_part_is, name_domain, name_refused, name_whole, no_nodes_false, no_nodes_none, no_part_counted, no_part_is, nodes_bare, nodes_name, nodes_part, part_cause, part_counted, part_is, values_bare, values_none, values_part, values_some}

@@ -4,15 +4,15 @@ use Rattle.std.proofs.lemmas.Int.{ints, to_z-of_z}
 use Rattle.ep_tree.specs.Environments.{has_value, value_bound, with_number}
 use Rattle.ep_tree.specs.Types.{of_scalar}
 use Rattle.ep_tree.specs.Values.{single}
-use Rattle.ep_eval.specs.Scopes.{number_or, with_all}
+use Rattle.ep_eval.specs.Scopes.{number_or_value, with_all}
 use Rattle.ep_eval.proofs.scopes.+number_around.Goals as goal
 
 pub returns-in-Nothing : goal.returns-in-Nothing
-unfolding with_all number_or
+unfolding with_all number_or_value
 returns-in-Nothing t c env = ap (λ a. value_bound (with_all env a c.args.name.now)) c.in-Nothing.is
 
 pub returns-then-eq : goal.returns-then-eq
-unfolding with_all number_or with_number value_bound
+unfolding with_all number_or_value with_number value_bound
 returns-then-eq t c env =
     let name = c.args.name.now in
     let rest = with_all env c.in-Number.outer.now in

@@ -8,7 +8,7 @@ use Rattle.ep_ground.specs.NodeViews.{plain_node}
 use Rattle.ep_ground.specs.Nodes as nodes
 use Rattle.ep_flatten.specs.Forms.{compared, form_coefficients}
 use Rattle.ep_flatten.specs.FormViews.{plain_form}
-use Rattle.ep_flatten.specs.Saying.{Says, SaysForm}
+use Rattle.ep_flatten.specs.Saying.{SaysOfNode, SaysForm}
 use Rattle.ep_flatten.specs.declared.forms.Form.{Form}
 use Rattle.ep_flatten.proofs.Adding.{if_ok_then}
 use Rattle.ep_flatten.proofs.Sayings.{small_parts, says_form, says_own, says_summed, told}
@@ -29,8 +29,8 @@ returns-in-Sum c =
     subst (λ (form : Form). IfOk c.sum.result (λ con. SaysForm c.args.places.now node (plain_form form) c.args.variable (plain_con con))) (sym c.in-Sum.is)
     (if_ok_then c.sum.result c.sum.ensures (λ con says.
     says_summed c.args.places.now node n parts c.args.variable (plain_con con)
-    (subst (λ (m : ℤ). Says c.args.places.now (nodes.sum m parts) c.args.variable (plain_con con)) (to_z-of_z w64 n (search rules))
-    (subst (λ (ps : List (ℤ × ℕ)). Says c.args.places.now (nodes.sum (to_z w64 (of_z w64 n)) ps) c.args.variable (plain_con con)) c.deref.ensures.value says))))
+    (subst (λ (m : ℤ). SaysOfNode c.args.places.now (nodes.sum m parts) c.args.variable (plain_con con)) (to_z-of_z w64 n (search rules))
+    (subst (λ (ps : List (ℤ × ℕ)). SaysOfNode c.args.places.now (nodes.sum (to_z w64 (of_z w64 n)) ps) c.args.variable (plain_con con)) c.deref.ensures.value says))))
 
 pub returns-in_ok-kind-in-Compare : goal.returns-in_ok-kind-in-Compare
 returns-in_ok-kind-in-Compare c =

@@ -1,7 +1,7 @@
 use Rattle.std.proofs.Common.{◌≡◌, take, true}
 use Rattle.std.specs.Prelude.{map}
-use Rattle.ep_flatten.specs.Saying.{place_of}
+use Rattle.ep_flatten.specs.Saying.{variable_at}
 use Rattle.ep_flatten.proofs.lists.literals_of.Given as goal
 
 abbrev pub invariant-loop-term : goal.invariant-loop-term
-invariant-loop-term l = l.made.items ≡ map (λ x. (true, x)) (map (place_of l.places) (take l.term-index l.terms))
+invariant-loop-term l = l.made.items ≡ map (λ x. (true, x)) (map (variable_at l.places) (take l.term-index l.terms))

@@ -6,7 +6,7 @@ use Rattle.ep_tree.specs.Binding.{and_next, bind_params, bind_statements, nothin
 use Rattle.ep_tree.specs.Faults.{lettings_of, text_faults}
 use Rattle.ep_tree.specs.Names.{nothing_known}
 use Rattle.ep_types.specs.Texts.{typed_params_tree, typed_tree}
-use Rattle.ep_instance.specs.Instances.{instance_of}
+use Rattle.ep_instance.specs.Instances.{plain_instance}
 use Rattle.ep_instance.proofs.Answering.{answers_same, refuses_first, then_is}
 use Rattle.ep_instance.proofs.ProgressSteps.{bind_is, model_given, params_faultless, params_given}
 use Rattle.ep_instance.proofs.SmallValues.{answer_small}
@@ -35,7 +35,7 @@ pub returns-clause-answer : goal.returns-clause-answer
 returns-clause-answer c =
     let same = params_given c.into_params-params.result c.deref.result.now _ c.into_params-params.ensures.same c.deref.ensures.value in
     let model = model_given c.into_model-model.result _ c.into_model-model.ensures.same in
-    answers_same instance_of c.bind_statements.result _ _
+    answers_same plain_instance c.bind_statements.result _ _
     (then_is _ _ _ _
     (bind_is c.args.mode _ _ ∙ ap (λ t. and_next (bind_params c.args.mode parameter_text nothing_known (lettings_of t)) (λ known. and_next (bind_statements c.args.mode known nothing_bound (typed_tree c.args.typed)) (λ at. Ok at.instance))) (sym same))
     c.in_ok-known.ensures.known
@@ -46,8 +46,8 @@ pub returns-clause-numbers : goal.returns-clause-numbers
 returns-clause-numbers c =
     let same = params_given c.into_params-params.result c.deref.result.now _ c.into_params-params.ensures.same c.deref.ensures.value in
     let model = model_given c.into_model-model.result _ c.into_model-model.ensures.same in
-    answer_small instance_of c.bind_statements.result c.args.mode (typed_tree c.args.typed) (typed_params_tree c.args.params)
-    (answers_same instance_of c.bind_statements.result _ _
+    answer_small plain_instance c.bind_statements.result c.args.mode (typed_tree c.args.typed) (typed_params_tree c.args.params)
+    (answers_same plain_instance c.bind_statements.result _ _
     (then_is _ _ _ _
     (bind_is c.args.mode _ _ ∙ ap (λ t. and_next (bind_params c.args.mode parameter_text nothing_known (lettings_of t)) (λ known. and_next (bind_statements c.args.mode known nothing_bound (typed_tree c.args.typed)) (λ at. Ok at.instance))) (sym same))
     c.in_ok-known.ensures.known

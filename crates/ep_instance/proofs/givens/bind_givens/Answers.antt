@@ -6,7 +6,7 @@ use Rattle.ep_tree.specs.Binding.{bind_givens}
 use Rattle.ep_tree.specs.Environments.{context_of}
 use Rattle.ep_tree.specs.Faults.{group_faults}
 use Rattle.ep_tree.specs.Views.{group_of}
-use Rattle.ep_instance.specs.Refusals.{Refuses}
+use Rattle.ep_instance.specs.Refusals.{RefusesBinding}
 use Rattle.ep_instance.specs.Steps.{group_said}
 use Rattle.ep_instance.proofs.Answering.{refuses_first, then_is}
 use Rattle.ep_instance.proofs.BindSteps.{alone_faultless, group_context, next_group, no_group, others_faultless, first_faultless}
@@ -64,7 +64,7 @@ returns-in_err-bind_group-clause-known c =
     rw (p.1, p.2)
     (refuses_first _ _ (group_said mode c.args.place params g env) _
     (c.loop-group.invariant.2 ∙ ap (λ xs. bind_givens mode c.args.place params xs env) cut ∙ next_group mode c.args.place params g left env)
-    (subst (λ m. Refuses c.in_err-bind_group.field-0.0 (group_said m c.args.place params g env)) c.loop-group.invariant.0 c.in_err-bind_group.ensures.known))
+    (subst (λ m. RefusesBinding c.in_err-bind_group.field-0.0 (group_said m c.args.place params g env)) c.loop-group.invariant.0 c.in_err-bind_group.ensures.known))
 
 pub returns-clause-mode : goal.returns-clause-mode
 returns-clause-mode c = c.loop-group.invariant.0

@@ -7,7 +7,7 @@ use Rattle.ep_tree.specs.Binding.{bind_letting, bind_params}
 use Rattle.ep_tree.specs.StatementSpelling.{is_letting}
 use Rattle.ep_tree.specs.Views.{statement_tree}
 use Rattle.ep_types.proofs.Walks.{next_is}
-use Rattle.ep_instance.specs.Refusals.{Refuses, text_name}
+use Rattle.ep_instance.specs.Refusals.{RefusesBinding, text_name}
 use Rattle.ep_instance.proofs.Answering.{refuses_first, then_is}
 use Rattle.ep_instance.proofs.ParamSteps.{Left, left_begin, letting_faultless, letting_left, next_letting, no_letting}
 use Rattle.ep_instance.proofs.lettings.bind_params.Goals as goal
@@ -55,7 +55,7 @@ returns-in_err-bind_letting-clause-known c =
     rw (p.1, p.2)
     (refuses_first _ _ (bind_letting c.args.mode text env s) _
     (c.loop-statement.invariant.2 ∙ ap (λ xs. bind_params c.args.mode text env (filter is_letting xs)) cut ∙ next_letting c.args.mode text env s ss)
-    (subst (λ m. Refuses c.in_err-bind_letting.field-0.0 (bind_letting m text env s)) c.loop-statement.invariant.0 c.in_err-bind_letting.ensures.known))
+    (subst (λ m. RefusesBinding c.in_err-bind_letting.field-0.0 (bind_letting m text env s)) c.loop-statement.invariant.0 c.in_err-bind_letting.ensures.known))
 
 pub returns-clause-mode : goal.returns-clause-mode
 returns-clause-mode c = c.loop-statement.invariant.0

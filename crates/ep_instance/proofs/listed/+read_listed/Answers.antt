@@ -8,7 +8,7 @@ use Rattle.ep_tree.specs.Limits.{limits_of_values}
 use Rattle.ep_tree.specs.Measures.{met_domain}
 use Rattle.ep_tree.specs.Trees.{bool, group_domain, int, matrix_domain, named_domain, ranges, set_domain}
 use Rattle.ep_tree.specs.Views.{domain_kind_tree, domain_tree, domains_of, ranges_of}
-use Rattle.ep_instance.specs.Reading.{IsListed, ReadsListed, ReadsScalars}
+use Rattle.ep_instance.specs.Reading.{IsReadListed, ReadsListed, ReadsScalars}
 use Rattle.ep_instance.proofs.ListedSteps.{group_cause, listed_group, listed_matrix, listed_named, matrix_cause_first, matrix_cause_next, reads_bool, reads_int, reads_ranges, reads_set}
 use Rattle.ep_instance.proofs.listed.+read_listed.Goals as goal
 
@@ -69,7 +69,7 @@ returns-in_ok-kept-in-Named t c =
     let tree : domain_tree c.args.d.now ≡ named_domain p c.in-Named.name =
     ap (domain_kind_tree p) c.in-Named.is ∙ domain_kind_tree-named p c.in-Named.name in
     let small : c.args.before ≤ 5000000 = grind (arith, c.if-before-gt-MOST_SIZE.false) in
-    subst (λ e. IsListed mode env c.args.before e c.in_ok-kept-in-Named.kept c.args.before) (sym tree)
+    subst (λ e. IsReadListed mode env c.args.before e c.in_ok-kept-in-Named.kept c.args.before) (sym tree)
     (listed_named mode env c.args.before p c.in-Named.name c.in_ok-kept-in-Named.kept small c.in_ok-kept-in-Named.ensures)
 
 pub returns-in_ok-kept-in-Group : goal.returns-in_ok-kept-in-Group
@@ -79,7 +79,7 @@ returns-in_ok-kept-in-Group t c =
     let p = c.args.d.now.place in
     let tree : domain_tree c.args.d.now ≡ group_domain p (domain_tree c.deref.result.now) =
     ap (domain_kind_tree p) c.in-Group.is ∙ domain_kind_tree-group p c.in-Group.inner ∙ ap (λ x. group_domain p (domain_tree x)) (sym c.deref.ensures) in
-    subst (λ e. IsListed mode env c.args.before e c.in_ok-kept-in-Group.kept c.in_ok-kept-in-Group.after) (sym tree)
+    subst (λ e. IsReadListed mode env c.args.before e c.in_ok-kept-in-Group.kept c.in_ok-kept-in-Group.after) (sym tree)
     (listed_group mode env c.args.before p (domain_tree c.deref.result.now) _ _ c.in_ok-kept-in-Group.ensures)
 
 pub returns-in_err-kept-in-Group : goal.returns-in_err-kept-in-Group
@@ -103,7 +103,7 @@ returns-in_ok-indices-in-Matrix t c =
     ap (domain_kind_tree p) c.in-Matrix.is ∙ domain_kind_tree-matrix p c.in-Matrix.own c.in-Matrix.inner
     ∙ ap (λ l. matrix_domain p (domains_of l) (domain_tree c.in-Matrix.inner.value)) (sym c.deref-in-Matrix.ensures.value)
     ∙ ap (λ x. matrix_domain p (domains_of c.deref-in-Matrix.result.now) (domain_tree x)) (sym c.deref-in-Matrix-2.ensures) in
-    subst (λ e. IsListed mode env c.args.before e (record { indices = c.in_ok-indices-in-Matrix.indices; values = c.in_ok-kept-in-Matrix.kept.values }) c.in_ok-kept-in-Matrix.after) (sym tree)
+    subst (λ e. IsReadListed mode env c.args.before e (record { indices = c.in_ok-indices-in-Matrix.indices; values = c.in_ok-kept-in-Matrix.kept.values }) c.in_ok-kept-in-Matrix.after) (sym tree)
     (listed_matrix mode env c.args.before c.in_ok-sets-in-Matrix.count c.in_ok-kept-in-Matrix.after p (domains_of c.deref-in-Matrix.result.now) (domain_tree c.deref-in-Matrix-2.result.now) _ c.in_ok-kept-in-Matrix.kept (record { indices = c.in_ok-indices-in-Matrix.indices; values = c.in_ok-kept-in-Matrix.kept.values })
     c.in_ok-sets-in-Matrix.ensures.indices c.in_ok-sets-in-Matrix.ensures.counted c.in_ok-kept-in-Matrix.ensures c.in_ok-indices-in-Matrix.ensures refl)
 

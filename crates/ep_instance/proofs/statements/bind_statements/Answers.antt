@@ -6,7 +6,7 @@ use Rattle.ep_eval.specs.Known.{env_of}
 use Rattle.ep_tree.specs.Binding.{Progress, bind_statement, bind_statements, nothing_bound}
 use Rattle.ep_tree.specs.Views.{statement_tree}
 use Rattle.ep_instance.specs.Progressing.{progress_of}
-use Rattle.ep_instance.specs.Refusals.{Refuses}
+use Rattle.ep_instance.specs.Refusals.{RefusesBinding}
 use Rattle.ep_instance.proofs.Answering.{refuses_first, then_is}
 use Rattle.ep_instance.proofs.ProgressSteps.{Remains, begins, nothing_left, next_statement, no_statement, remains_begin, remains_faultless, remains_next}
 use Rattle.ep_instance.proofs.statements.bind_statements.Goals as goal
@@ -55,7 +55,7 @@ returns-in_err-bind_statement-clause-instance c =
     (refuses_first _ _ (bind_statements c.args.mode params nothing_bound _) _ refl
     (refuses_first _ _ (bind_statement c.args.mode params at s) _
     (c.loop-statement.invariant.1 ∙ ap (λ ss. bind_statements c.args.mode params at ss) cut ∙ next_statement c.args.mode params at s _)
-    (subst (λ m. Refuses c.in_err-bind_statement.field-0.0 (bind_statement m params at s)) c.loop-statement.invariant.0 c.in_err-bind_statement.ensures.progress)))
+    (subst (λ m. RefusesBinding c.in_err-bind_statement.field-0.0 (bind_statement m params at s)) c.loop-statement.invariant.0 c.in_err-bind_statement.ensures.progress)))
 
 pub returns-clause-mode : goal.returns-clause-mode
 returns-clause-mode c = c.loop-statement.invariant.0

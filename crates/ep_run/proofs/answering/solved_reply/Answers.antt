@@ -1,14 +1,14 @@
-use Rattle.ep_instance.specs.Instances.{instance_of as plain_instance, mode_of}
+use Rattle.ep_instance.specs.Instances.{plain_instance, instance_mode}
 use Rattle.ep_print.specs.Answers.{answer_tree}
 use Rattle.ep_run.proofs.Tasks.{answer-ends, solved}
 use Rattle.ep_run.proofs.answering.solved_reply.Goals as goal
 
 pub returns-clause-answers : goal.returns-clause-answers
 returns-clause-answers c =
-    solved (mode_of c.args.instance.now) (plain_instance c.args.instance.now) c.args.conflicts c.answer_status.result c.in_ok-text.text.items c.solve.new.log (answer_tree c.in_ok-answer.answer)
+    solved (instance_mode c.args.instance.now) (plain_instance c.args.instance.now) c.args.conflicts c.answer_status.result c.in_ok-text.text.items c.solve.new.log (answer_tree c.in_ok-answer.answer)
     c.in_ok-answer.ensures.right c.in_ok-answer.ensures.logged c.answer_status.ensures c.in_ok-text.ensures.text
 
 pub returns-clause-ends : goal.returns-clause-ends
 returns-clause-ends c =
-    answer-ends (mode_of c.args.instance.now) (plain_instance c.args.instance.now) c.args.conflicts c.solve.new.log (answer_tree c.in_ok-answer.answer) c.answer_status.result
+    answer-ends (instance_mode c.args.instance.now) (plain_instance c.args.instance.now) c.args.conflicts c.solve.new.log (answer_tree c.in_ok-answer.answer) c.answer_status.result
     c.answer_status.ensures c.in_ok-answer.ensures.logged

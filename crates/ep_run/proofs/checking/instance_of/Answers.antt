@@ -1,6 +1,6 @@
 use Rattle.std.proofs.lemmas.Result.{err_from_is_err_and}
 use Rattle.std.proofs.Common.{◌≡◌, [], Err, subst}
-use Rattle.ep_instance.specs.Instances.{instance_of as plain_instance, mode_of}
+use Rattle.ep_instance.specs.Instances.{plain_instance, instance_mode}
 use Rattle.ep_tree.specs.Solutions.{instance_limits}
 use Rattle.ep_tree.specs.declared.values.Mode.{Mode}
 use Rattle.ep_types.specs.Texts.{typed_params_tree, typed_tree}
@@ -34,4 +34,4 @@ returns-clause-tells c =
 
 pub returns-clause-within : goal.returns-clause-within
 returns-clause-within c =
-    none-passed (instance_limits (mode_of c.in_ok-instance.instance) (plain_instance c.in_ok-instance.instance)) c.in_ok-check_limits.ensures
+    none-passed (instance_limits (instance_mode c.in_ok-instance.instance) (plain_instance c.in_ok-instance.instance)) c.in_ok-check_limits.ensures

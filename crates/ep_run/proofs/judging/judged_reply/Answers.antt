@@ -1,6 +1,6 @@
 use Rattle.std.proofs.Common.{◌∙◌, Ok, inl, refl, ap, subst}
 use Rattle.std.proofs.lemmas.Result.{err_from_is_err_and}
-use Rattle.ep_instance.specs.Instances.{instance_of as plain_instance, mode_of}
+use Rattle.ep_instance.specs.Instances.{plain_instance, instance_mode}
 use Rattle.ep_instance.specs.declared.judging.Shaped.{Shaped}
 use Rattle.ep_types.specs.Texts.{typed_params_tree}
 use Rattle.ep_tree.specs.Views.{assigned}
@@ -13,11 +13,11 @@ use Rattle.ep_run.proofs.judging.judged_reply.Goals as goal
 pub returns-in_err-assignment : goal.returns-in_err-assignment
 returns-in_err-assignment c =
     let p = err_from_is_err_and c.from_residual.result c.from_residual.ensures.1 in
-    rw (p.1, p.2) (shape-stopped (mode_of c.args.instance.now) (plain_instance c.args.instance.now) (typed_params_tree c.args.solution) c.in_err-assignment.field-0.0 c.in_err-assignment.ensures)
+    rw (p.1, p.2) (shape-stopped (instance_mode c.args.instance.now) (plain_instance c.args.instance.now) (typed_params_tree c.args.solution) c.in_err-assignment.field-0.0 c.in_err-assignment.ensures)
 
 pub returns-in_ok-judged-in-Fits : goal.returns-in_ok-judged-in-Fits
 returns-in_ok-judged-in-Fits c =
-    let mode = mode_of c.args.instance.now in
+    let mode = instance_mode c.args.instance.now in
     let i = plain_instance c.args.instance.now in
     let s = typed_params_tree c.args.solution in
     let P : Shaped → Type 0 = λ x. TellsShape mode i s (Ok x) in
@@ -26,7 +26,7 @@ returns-in_ok-judged-in-Fits c =
 
 pub returns-in_ok-wrong_shape_text-in-WrongShape : goal.returns-in_ok-wrong_shape_text-in-WrongShape
 returns-in_ok-wrong_shape_text-in-WrongShape c =
-    let mode = mode_of c.args.instance.now in
+    let mode = instance_mode c.args.instance.now in
     let i = plain_instance c.args.instance.now in
     let s = typed_params_tree c.args.solution in
     let P : Shaped → Type 0 = λ x. TellsShape mode i s (Ok x) in

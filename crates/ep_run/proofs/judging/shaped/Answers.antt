@@ -1,5 +1,5 @@
 use Rattle.std.proofs.Common.{Err, sym, subst}
-use Rattle.ep_instance.specs.Instances.{instance_of as plain_instance, mode_of}
+use Rattle.ep_instance.specs.Instances.{plain_instance, instance_mode}
 use Rattle.ep_types.specs.Texts.{typed_params_tree}
 use Rattle.ep_run.specs.Steps.{TellsShape}
 use Rattle.ep_run.specs.declared.stops.Stop.{Stop}
@@ -8,12 +8,12 @@ use Rattle.ep_run.proofs.judging.shaped.Goals as goal
 
 pub returns-in-Ok : goal.returns-in-Ok
 returns-in-Ok c =
-    shaped-tells (mode_of c.args.instance.now) (plain_instance c.args.instance.now) (typed_params_tree c.args.solution) c.in-Ok.shaped
+    shaped-tells (instance_mode c.args.instance.now) (plain_instance c.args.instance.now) (typed_params_tree c.args.solution) c.in-Ok.shaped
     c.in-Ok.ensures.answer c.in-Ok.ensures.fits
 
 pub returns-in-Err : goal.returns-in-Err
 returns-in-Err c =
-    let mode = mode_of c.args.instance.now in
+    let mode = instance_mode c.args.instance.now in
     let i = plain_instance c.args.instance.now in
     let s = typed_params_tree c.args.solution in
     let P : Stop → Type 0 = λ x. TellsShape mode i s (Err x) in

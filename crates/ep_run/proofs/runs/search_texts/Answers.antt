@@ -1,12 +1,12 @@
 use Rattle.std.proofs.lemmas.Result.{err_from_is_err_and}
 use Rattle.std.proofs.Common.{subst}
-use Rattle.ep_instance.specs.Instances.{instance_of as plain_instance}
+use Rattle.ep_instance.specs.Instances.{plain_instance}
 use Rattle.ep_tree.specs.Views.{model_tree, params_tree}
 use Rattle.ep_tree.specs.declared.values.Mode.{Mode}
 use Rattle.ep_types.specs.Texts.{typed_params_tree, typed_tree}
 use Rattle.ep_types.specs.declared.typed.Typed.{Typed}
 use Rattle.ep_types.specs.declared.typed.TypedParams.{TypedParams}
-use Rattle.ep_run.specs.Answers.{Answers}
+use Rattle.ep_run.specs.Answers.{Settles}
 use Rattle.ep_run.specs.Commands.{conflicts_of}
 use Rattle.ep_run.specs.Outcomes.{task_of}
 use Rattle.ep_run.specs.Steps.{IsSearched}
@@ -46,7 +46,7 @@ returns-clause-tells c =
     let i = plain_instance c.in_ok-instance.instance in
     let bound = same-instance c.args.mode m q (typed_tree c.in_ok-model.model) (typed_params_tree c.in_ok-params.params) i c.in_ok-model.ensures.same c.in_ok-params.ensures.same c.in_ok-instance.ensures.tells in
     let reply = c.in_ok-reply.reply in
-    let P : Mode → Type 0 = λ mode. Answers (task_of mode c.args.request i) reply.status reply.text.items c.searched_reply.new.log in
+    let P : Mode → Type 0 = λ mode. Settles (task_of mode c.args.request i) reply.status reply.text.items c.searched_reply.new.log in
     search-answered c.args.mode c.args.request m q i reply c.searched_reply.new.log none bound (subst P c.in_ok-instance.ensures.mode c.in_ok-reply.ensures.answers)
 
 pub returns-in_err-model-clause-ends : goal.returns-in_err-model-clause-ends

@@ -18,10 +18,10 @@ use Rattle.ep_size.proofs.FormSteps.{all_of_number, any_of_number}
 use Rattle.ep_size.proofs.TermSteps.{chain_number, met_by, spans_few, spans_more, spans_of, summing_none, term_measured, term_refused}
 use Rattle.ep_size.proofs.NodeSteps.{meets_same, part_refused, then_caused, then_extended, then_known, then_measured, then_refused, then_told, refused_whole}
 use Rattle.ep_size.specs.Causes.{IsCause}
-use Rattle.ep_size.specs.Extents.{Known, grid_of}
+use Rattle.ep_size.specs.Extents.{IsKnownExtent, grid_of}
 use Rattle.ep_size.specs.Finishing.{Finishes}
 use Rattle.ep_size.specs.Parts.{part_of, two_parts}
-use Rattle.ep_size.specs.Standings.{without}
+use Rattle.ep_size.specs.Standings.{hidden_without}
 use Rattle.ep_size.specs.Sums.{Sums}
 use Rattle.ep_size.specs.Totals.{Measured, capped}
 use Rattle.std.specs.Prelude.{Some, None, flat_map, map}
@@ -437,11 +437,11 @@ decided-returns-clause-cause t c =
     c.kind_extent.result c.in_ok-count.ensures.counted c.requires c.kind_extent.ensures.cause
 
 pub extent_of-fixed-requires : goal.extent_of-fixed-requires
-unfolding without
+unfolding hidden_without
 extent_of-fixed-requires t c = ap (λ s. s.free) (sym c.standing_in-own.ensures) ∙ c.if-own.true
 
 pub extent_of-decided-requires : goal.extent_of-decided-requires
-unfolding without
+unfolding hidden_without
 extent_of-decided-requires t c = (search rules, ap (λ s. s.decided) (sym c.standing_in-own.ensures) ∙ c.if-own-2.true)
 
 pub kind_extent-returns-in-Named-clause-extended : goal.kind_extent-returns-in-Named-clause-extended
@@ -622,7 +622,7 @@ decided-returns-in-Quant-clause-known t c =
     let tree : expr_tree c.args.e.now ≡ quantified p c.in-Quant.op c.deref-in-Quant-2.result.now (domain_tree c.deref.result.now) (expr_tree c.deref-in-Quant.result.now) =
     quantifier_tree p c.args.e.now c.in-Quant.op c.in-Quant.names c.in-Quant.domain c.in-Quant.body c.deref.result.now c.deref-in-Quant.result.now c.deref-in-Quant-2.result.now refl c.in-Quant.is
     c.deref.ensures c.deref-in-Quant.ensures c.deref-in-Quant-2.ensures.value in
-    if_ok c.quantified.result _ _ c.quantified.ensures.known (λ known h. subst (λ x. Known mode env x known) (sym tree) (h p))
+    if_ok c.quantified.result _ _ c.quantified.ensures.known (λ known h. subst (λ x. IsKnownExtent mode env x known) (sym tree) (h p))
 
 pub decided-returns-in-Quant-clause-cause : goal.decided-returns-in-Quant-clause-cause
 decided-returns-in-Quant-clause-cause t c =
@@ -682,7 +682,7 @@ quantified-returns-in_ok-count-in-Some-clause-known t c =
     let rest = c.in-Some.rest.now in
     let cut = c.in-Some.ensures.cases.0 in
     if_ok c.over_domain.result _ _ c.over_domain.ensures.known
-    (λ x h p. subst (λ ns. Known mode env (quantified_tree p q ns) x) (sym cut) (h p))
+    (λ x h p. subst (λ ns. IsKnownExtent mode env (quantified_tree p q ns) x) (sym cut) (h p))
 
 pub quantified-returns-in_ok-count-in-Some-clause-cause : goal.quantified-returns-in_ok-count-in-Some-clause-cause
 quantified-returns-in_ok-count-in-Some-clause-cause t c =
@@ -730,7 +730,7 @@ quantified-returns-in_ok-known-in-None-clause-known t c p =
     let e = expr_tree q.body.now in
     let none = no_runs c.args.names.now c.in-None.ensures.cases in
     let held = subst (λ ns. holds_decision (hiding ns (decisions_in env)) e ≡ true) none c.requires.holds in
-    subst (λ ns. Known mode env (quantified_tree p q ns) c.bare_quantifier.result) (sym none)
+    subst (λ ns. IsKnownExtent mode env (quantified_tree p q ns) c.bare_quantifier.result) (sym none)
     (c.bare_quantifier.ensures mode env (quantified_tree p q []) e c.in_ok-known-in-None.ensures.known (bare_is mode env p q.op d e held) (quantified_holds env p q.op [] d e held))
 
 pub quantified-returns-in_err-known-in-None-clause-cause : goal.quantified-returns-in_err-known-in-None-clause-cause
@@ -1015,7 +1015,7 @@ group_extent-returns-in_ok-known-in-Group-clause-extended t c =
     let same : e ≡ expr_tree c.deref-in-Group.result.now = ap expr_tree (c.deref.ensures ∙ sym c.deref-in-Group.ensures) in
     let done : (p : Place) → holds_decision (decisions_in env) (kind_tree p c.args.kind.now) ≡ true → Finishes mode env (kind_tree p c.args.kind.now) c.extent_of.new.totals c.group_node.new.totals c.group_node.result =
     λ p held. subst (λ x. Finishes mode env x c.extent_of.new.totals c.group_node.new.totals c.group_node.result) (sym (within p))
-    (c.group_node.ensures mode p (ap (holds_decision (decisions_in env)) (sym (within p)) ∙ held) (subst (λ x. Known mode env x c.in_ok-known-in-Group.known) same c.in_ok-known-in-Group.ensures.known)) in
+    (c.group_node.ensures mode p (ap (holds_decision (decisions_in env)) (sym (within p)) ∙ held) (subst (λ x. IsKnownExtent mode env x c.in_ok-known-in-Group.known) same c.in_ok-known-in-Group.ensures.known)) in
     then_extended mode env (λ p. kind_tree p c.args.kind.now) (met mode env e) c.args.totals.now c.extent_of.new.totals c.group_node.new.totals c.group_node.result
     meets c.in_ok-known-in-Group.ensures.measured done
 
@@ -1032,7 +1032,7 @@ group_extent-returns-in_ok-known-in-Group-clause-known t c =
     let same : e ≡ expr_tree c.deref-in-Group.result.now = ap expr_tree (c.deref.ensures ∙ sym c.deref-in-Group.ensures) in
     let done : (p : Place) → holds_decision (decisions_in env) (kind_tree p c.args.kind.now) ≡ true → Finishes mode env (kind_tree p c.args.kind.now) c.extent_of.new.totals c.group_node.new.totals c.group_node.result =
     λ p held. subst (λ x. Finishes mode env x c.extent_of.new.totals c.group_node.new.totals c.group_node.result) (sym (within p))
-    (c.group_node.ensures mode p (ap (holds_decision (decisions_in env)) (sym (within p)) ∙ held) (subst (λ x. Known mode env x c.in_ok-known-in-Group.known) same c.in_ok-known-in-Group.ensures.known)) in
+    (c.group_node.ensures mode p (ap (holds_decision (decisions_in env)) (sym (within p)) ∙ held) (subst (λ x. IsKnownExtent mode env x c.in_ok-known-in-Group.known) same c.in_ok-known-in-Group.ensures.known)) in
     then_known mode env (λ p. kind_tree p c.args.kind.now) c.extent_of.new.totals c.group_node.new.totals c.group_node.result done
 
 pub group_extent-returns-in_ok-known-in-Group-clause-cause : goal.group_extent-returns-in_ok-known-in-Group-clause-cause
@@ -1048,7 +1048,7 @@ group_extent-returns-in_ok-known-in-Group-clause-cause t c =
     let same : e ≡ expr_tree c.deref-in-Group.result.now = ap expr_tree (c.deref.ensures ∙ sym c.deref-in-Group.ensures) in
     let done : (p : Place) → holds_decision (decisions_in env) (kind_tree p c.args.kind.now) ≡ true → Finishes mode env (kind_tree p c.args.kind.now) c.extent_of.new.totals c.group_node.new.totals c.group_node.result =
     λ p held. subst (λ x. Finishes mode env x c.extent_of.new.totals c.group_node.new.totals c.group_node.result) (sym (within p))
-    (c.group_node.ensures mode p (ap (holds_decision (decisions_in env)) (sym (within p)) ∙ held) (subst (λ x. Known mode env x c.in_ok-known-in-Group.known) same c.in_ok-known-in-Group.ensures.known)) in
+    (c.group_node.ensures mode p (ap (holds_decision (decisions_in env)) (sym (within p)) ∙ held) (subst (λ x. IsKnownExtent mode env x c.in_ok-known-in-Group.known) same c.in_ok-known-in-Group.ensures.known)) in
     then_refused mode env (λ p. kind_tree p c.args.kind.now) (met mode env e) c.args.totals.now.size c.extent_of.new.totals c.group_node.new.totals c.group_node.result meets done
 
 pub group_extent-returns-in_err-known-in-Group-clause-cause : goal.group_extent-returns-in_err-known-in-Group-clause-cause
@@ -1181,7 +1181,7 @@ read_extent-returns-in_ok-values-in-Read-clause-measured t c =
     subst (λ e. Finishes mode env e c.index_extents.new.totals c.read_node.new.totals c.read_node.result) (sym shape)
     (c.read_node.ensures mode env place m is (ap (holds_decision (decisions_in env)) (sym shape) ∙ held) c.in_ok-known-in-Read.ensures.known (ap (map measured_of) c.deref-in-Read-3.ensures.value ∙ c.in_ok-values-in-Read.ensures.values)
     (c.in_ok-ty.ensures ∙ ap (type_in env) shape) (subst (λ x. c.names_cells-of_name.result ≡ is_decision_name env (expr_tree x)) (sym same)
-    (c.names_cells-of_name.ensures mode env c.deref-in-Read-2.result.now.place (subst (λ x. Known mode env (expr_tree x) c.in_ok-known-in-Read.known) same c.in_ok-known-in-Read.ensures.known)))) in
+    (c.names_cells-of_name.ensures mode env c.deref-in-Read-2.result.now.place (subst (λ x. IsKnownExtent mode env (expr_tree x) c.in_ok-known-in-Read.known) same c.in_ok-known-in-Read.ensures.known)))) in
     then_measured (λ q. holds_decision (decisions_in env) tree ≡ true) mode env (λ q. tree) place c.args.totals.now c.count.new.totals c.read_node.new.totals c.read_node.result
     c.in_ok-count.ensures.counted c.count.ensures.weight c.in_ok-count.ensures.small c.requires
     (then_extended mode env (λ q. tree) below c.count.new.totals c.index_extents.new.totals c.read_node.new.totals c.read_node.result (λ q. meets)
@@ -1205,7 +1205,7 @@ read_extent-returns-in_ok-values-in-Read-clause-known t c =
     subst (λ e. Finishes mode env e c.index_extents.new.totals c.read_node.new.totals c.read_node.result) (sym shape)
     (c.read_node.ensures mode env place m is (ap (holds_decision (decisions_in env)) (sym shape) ∙ held) c.in_ok-known-in-Read.ensures.known (ap (map measured_of) c.deref-in-Read-3.ensures.value ∙ c.in_ok-values-in-Read.ensures.values)
     (c.in_ok-ty.ensures ∙ ap (type_in env) shape) (subst (λ x. c.names_cells-of_name.result ≡ is_decision_name env (expr_tree x)) (sym same)
-    (c.names_cells-of_name.ensures mode env c.deref-in-Read-2.result.now.place (subst (λ x. Known mode env (expr_tree x) c.in_ok-known-in-Read.known) same c.in_ok-known-in-Read.ensures.known)))) in
+    (c.names_cells-of_name.ensures mode env c.deref-in-Read-2.result.now.place (subst (λ x. IsKnownExtent mode env (expr_tree x) c.in_ok-known-in-Read.known) same c.in_ok-known-in-Read.ensures.known)))) in
     then_told (λ q. holds_decision (decisions_in env) tree ≡ true) mode env (λ q. tree) place c.read_node.result c.requires
     (then_known mode env (λ q. tree) c.index_extents.new.totals c.read_node.new.totals c.read_node.result done)
 
@@ -1227,7 +1227,7 @@ read_extent-returns-in_ok-values-in-Read-clause-cause t c =
     subst (λ e. Finishes mode env e c.index_extents.new.totals c.read_node.new.totals c.read_node.result) (sym shape)
     (c.read_node.ensures mode env place m is (ap (holds_decision (decisions_in env)) (sym shape) ∙ held) c.in_ok-known-in-Read.ensures.known (ap (map measured_of) c.deref-in-Read-3.ensures.value ∙ c.in_ok-values-in-Read.ensures.values)
     (c.in_ok-ty.ensures ∙ ap (type_in env) shape) (subst (λ x. c.names_cells-of_name.result ≡ is_decision_name env (expr_tree x)) (sym same)
-    (c.names_cells-of_name.ensures mode env c.deref-in-Read-2.result.now.place (subst (λ x. Known mode env (expr_tree x) c.in_ok-known-in-Read.known) same c.in_ok-known-in-Read.ensures.known)))) in
+    (c.names_cells-of_name.ensures mode env c.deref-in-Read-2.result.now.place (subst (λ x. IsKnownExtent mode env (expr_tree x) c.in_ok-known-in-Read.known) same c.in_ok-known-in-Read.ensures.known)))) in
     then_caused (λ q. holds_decision (decisions_in env) tree ≡ true) mode env (λ q. tree) place c.args.totals.now.size c.count.new.totals.size c.read_node.result
     c.in_ok-count.ensures.counted c.requires
     (then_refused mode env (λ q. tree) below c.count.new.totals.size c.index_extents.new.totals c.read_node.new.totals c.read_node.result (λ q. meets) done)

@@ -1,15 +1,15 @@
 use Rattle.std.proofs.Common.{subst, arith, map, take, drop, ◌+◌}
 use Rattle.std.proofs.lemmas.Result.{err_from_is_err_and}
-use Rattle.ep_size.specs.Extents.{span_of}
+use Rattle.ep_size.specs.Extents.{plain_span}
 use Rattle.ep_size.specs.Folds.{Folds, RefusesFold}
 use Rattle.ep_size.proofs.ListSteps.{fed, fed_all, fed_at_most, fed_whole}
 use Rattle.ep_size.proofs.folds.fold_all.Goals as goal
 
 pub loop-span-preserved : goal.loop-span-preserved
 loop-span-preserved c =
-    subst (λ xs. Folds c.in_ok-folding.folding c.args.op xs) (fed span_of c.args.spans.now c.loop-span.span-index _ c.loop-span-test.true)
-    (c.in_ok-folding.ensures.added c.args.op (map span_of (take c.loop-span.span-index c.args.spans.now))
-    (omega (arith, fed_at_most span_of c.args.spans.now c.loop-span.span-index, c.well_formed.0.1)) c.loop-span.invariant)
+    subst (λ xs. Folds c.in_ok-folding.folding c.args.op xs) (fed plain_span c.args.spans.now c.loop-span.span-index _ c.loop-span-test.true)
+    (c.in_ok-folding.ensures.added c.args.op (map plain_span (take c.loop-span.span-index c.args.spans.now))
+    (omega (arith, fed_at_most plain_span c.args.spans.now c.loop-span.span-index, c.well_formed.0.1)) c.loop-span.invariant)
 
 pub returns-in_err-folding-clause-refused : goal.returns-in_err-folding-clause-refused
 returns-in_err-folding-clause-refused c =
@@ -17,9 +17,9 @@ returns-in_err-folding-clause-refused c =
     let k = c.loop-span.span-index in
     let xs = c.args.spans.now in
     rw (p.1, p.2)
-    (subst (λ ys. RefusesFold c.in_err-folding.field-0.0 c.args.op ys) (fed_whole span_of xs k _ c.loop-span-test.true)
-    (c.in_err-folding.ensures.refused c.args.op (map span_of (take k xs)) (map span_of (drop (k + 1) xs)) c.loop-span.invariant))
+    (subst (λ ys. RefusesFold c.in_err-folding.field-0.0 c.args.op ys) (fed_whole plain_span xs k _ c.loop-span-test.true)
+    (c.in_err-folding.ensures.refused c.args.op (map plain_span (take k xs)) (map plain_span (drop (k + 1) xs)) c.loop-span.invariant))
 
 pub returns-clause-folded : goal.returns-clause-folded
 returns-clause-folded c =
-    subst (λ xs. Folds c.loop-span.folding c.args.op xs) (fed_all span_of c.args.spans.now c.loop-span.span-index c.loop-span-test.false) c.loop-span.invariant
+    subst (λ xs. Folds c.loop-span.folding c.args.op xs) (fed_all plain_span c.args.spans.now c.loop-span.span-index c.loop-span-test.false) c.loop-span.invariant

@@ -6,11 +6,11 @@ use Rattle.ep_tree.specs.Views.{expr_tree}
 use Rattle.ep_eval.specs.Scopes.{env_in, mode_in}
 use Rattle.ep_size.proofs.FixedParts.{fixed_cause, fixed_measured}
 use Rattle.ep_size.proofs.FreeParts.{free_met, same_below}
-use Rattle.ep_size.specs.Standings.{without}
+use Rattle.ep_size.specs.Standings.{hidden_without}
 use Rattle.ep_size.proofs.generating.fixed_value.Goals as goal
 
 pub returns-then-own-clause-measured : goal.returns-then-own-clause-measured
-unfolding without
+unfolding hidden_without
 returns-then-own-clause-measured c =
     let mode = mode_in c.args.scope in
     let env = env_in c.args.scope in
@@ -19,7 +19,7 @@ returns-then-own-clause-measured c =
     (free_met mode env (decisions_in env) (same_below (decisions_in env)) e (ap (λ s. s.free) (sym c.standing_in-own.ensures) ∙ c.if-own.true)) c.in_ok-seen.ensures.counted refl
 
 pub returns-in_err-seen-clause-cause : goal.returns-in_err-seen-clause-cause
-unfolding without
+unfolding hidden_without
 returns-in_err-seen-clause-cause c =
     let mode = mode_in c.args.scope in
     let env = env_in c.args.scope in

@@ -4,14 +4,14 @@ use Rattle.ep_base.specs.Intervals.{width}
 use Rattle.ep_tree.specs.Measures.{index_width}
 use Rattle.ep_size.proofs.Caps.{product_kept}
 use Rattle.ep_size.proofs.HullSteps.{read_none, read_some}
-use Rattle.ep_size.specs.Extents.{span_of}
+use Rattle.ep_size.specs.Extents.{plain_span}
 use Rattle.ep_size.specs.Spans.{interval_of}
 use Rattle.ep_size.specs.Totals.{capped}
 use Rattle.ep_size.proofs.hulls.read_weight.Goals as goal
 
 pub returns-then-not-is_decided-clause-weight : goal.returns-then-not-is_decided-clause-weight
 returns-then-not-is_decided-clause-weight c is spans h wide left =
-    read_none is (span_of c.args.whole) spans c.args.is_decided c.if-not-is_decided.true h
+    read_none is (plain_span c.args.whole) spans c.args.is_decided c.if-not-is_decided.true h
 
 pub returns-clause-weight : goal.returns-clause-weight
 returns-clause-weight c is spans h wide left =
@@ -22,4 +22,4 @@ returns-clause-weight c is spans h wide left =
     omega (arith, c.told-wide.ensures, c.told_count.ensures, c.width.ensures, c.told.ensures, wide) in
     c.product.ensures ∙ ap (λ n. capped (n * c.told-wide.result)) many ∙ ap (λ n. capped (capped (length spans) * n)) broad
     ∙ product_kept (length spans) (w + s)
-    ∙ ap capped (read_some is (span_of c.args.whole) spans c.args.is_decided c.if-not-is_decided.false h)
+    ∙ ap capped (read_some is (plain_span c.args.whole) spans c.args.is_decided c.if-not-is_decided.false h)

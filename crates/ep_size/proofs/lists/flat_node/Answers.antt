@@ -3,14 +3,14 @@ use Rattle.std.specs.Prelude.{map}
 use Rattle.std.proofs.lemmas.Result.{err_from_is_err_and}
 use Rattle.ep_tree.specs.Trees.{flatten}
 use Rattle.ep_size.proofs.ListNodes.{flatten_node, lists_finish, memory_stops}
-use Rattle.ep_size.specs.Extents.{span_of}
+use Rattle.ep_size.specs.Extents.{plain_span}
 use Rattle.ep_size.proofs.lists.flat_node.Goals as goal
 
 pub returns : goal.returns
 returns c mode env p e t holds known =
     lists_finish mode env (flatten p e) _ t c.list_of.result
-    (flatten_node mode env p e c.args.known.now (map span_of c.deref.result.now) holds known
-    (ap (map span_of) c.deref.ensures.value ∙ c.in_ok-spans.ensures.scalars)) c.list_of.ensures
+    (flatten_node mode env p e c.args.known.now (map plain_span c.deref.result.now) holds known
+    (ap (map plain_span) c.deref.ensures.value ∙ c.in_ok-spans.ensures.scalars)) c.list_of.ensures
 
 pub returns-in_err-spans : goal.returns-in_err-spans
 returns-in_err-spans c mode env p e t holds known =

@@ -2,7 +2,7 @@ use Rattle.std.proofs.Common.{◌≡◌, ap, subst, sym, ◌∙◌, arith}
 use Rattle.std.specs.Prelude.{map, option_map, option_to_list}
 use Rattle.std.proofs.lemmas.Result.{err_from_is_err_and}
 use Rattle.ep_eval.specs.Known.{env_of}
-use Rattle.ep_instance.specs.Instances.{goal_of, instance_of, mode_of}
+use Rattle.ep_instance.specs.Instances.{goal_of, plain_instance, instance_mode}
 use Rattle.ep_tree.specs.Binding.{met_in}
 use Rattle.ep_tree.specs.Names.{put_all}
 use Rattle.ep_tree.specs.Solutions.{cells_bound, limits_passed, met_instance}
@@ -14,8 +14,8 @@ use Rattle.ep_size.proofs.measuring.measure.Goals as goal
 
 pub returns-in_err-totals-clause-cause : goal.returns-in_err-totals-clause-cause
 returns-in_err-totals-clause-cause c =
-    let i = instance_of c.args.instance.now in
-    let mode = mode_of c.args.instance.now in
+    let i = plain_instance c.args.instance.now in
+    let mode = instance_mode c.args.instance.now in
     let p = err_from_is_err_and c.from_residual-in_err-totals.result c.from_residual-in_err-totals.ensures.1 in
     rw (p.1, p.2)
     (cells_refuse mode i c.in_err-totals.field-0.0
@@ -23,8 +23,8 @@ returns-in_err-totals-clause-cause c =
 
 pub returns-in_err-measure_all-clause-cause : goal.returns-in_err-measure_all-clause-cause
 returns-in_err-measure_all-clause-cause c =
-    let i = instance_of c.args.instance.now in
-    let mode = mode_of c.args.instance.now in
+    let i = plain_instance c.args.instance.now in
+    let mode = instance_mode c.args.instance.now in
     let env = c.name_cells.new.env in
     let t = c.in_ok-totals.totals in
     let same_mode : env.mode ≡ mode = c.name_cells.ensures.mode ∙ c.in_ok-env.ensures.mode ∙ ap (λ e. e.mode) c.env.ensures in
@@ -41,8 +41,8 @@ returns-in_err-measure_all-clause-cause c =
 
 pub returns-in_err-measure_goal-clause-cause : goal.returns-in_err-measure_goal-clause-cause
 returns-in_err-measure_goal-clause-cause c =
-    let i = instance_of c.args.instance.now in
-    let mode = mode_of c.args.instance.now in
+    let i = plain_instance c.args.instance.now in
+    let mode = instance_mode c.args.instance.now in
     let env = c.name_cells.new.env in
     let t = c.in_ok-totals.totals in
     let u = c.measure_all.new.totals in
@@ -66,8 +66,8 @@ returns-in_err-measure_goal-clause-cause c =
 
 pub returns-then-totals-gt-MOST_WEIGHT-clause-cause : goal.returns-then-totals-gt-MOST_WEIGHT-clause-cause
 returns-then-totals-gt-MOST_WEIGHT-clause-cause c =
-    let i = instance_of c.args.instance.now in
-    let mode = mode_of c.args.instance.now in
+    let i = plain_instance c.args.instance.now in
+    let mode = instance_mode c.args.instance.now in
     let env = c.name_cells.new.env in
     let t = c.in_ok-totals.totals in
     let u = c.measure_all.new.totals in
@@ -91,8 +91,8 @@ returns-then-totals-gt-MOST_WEIGHT-clause-cause c =
 
 pub returns-clause-size : goal.returns-clause-size
 returns-clause-size c =
-    let i = instance_of c.args.instance.now in
-    let mode = mode_of c.args.instance.now in
+    let i = plain_instance c.args.instance.now in
+    let mode = instance_mode c.args.instance.now in
     let env = c.name_cells.new.env in
     let t = c.in_ok-totals.totals in
     let u = c.measure_all.new.totals in
@@ -116,8 +116,8 @@ returns-clause-size c =
 
 pub returns-clause-weight : goal.returns-clause-weight
 returns-clause-weight c =
-    let i = instance_of c.args.instance.now in
-    let mode = mode_of c.args.instance.now in
+    let i = plain_instance c.args.instance.now in
+    let mode = instance_mode c.args.instance.now in
     let env = c.name_cells.new.env in
     let t = c.in_ok-totals.totals in
     let u = c.measure_all.new.totals in
@@ -141,8 +141,8 @@ returns-clause-weight c =
 
 pub returns-clause-within : goal.returns-clause-within
 returns-clause-within c =
-    let i = instance_of c.args.instance.now in
-    let mode = mode_of c.args.instance.now in
+    let i = plain_instance c.args.instance.now in
+    let mode = instance_mode c.args.instance.now in
     let env = c.name_cells.new.env in
     let t = c.in_ok-totals.totals in
     let u = c.measure_all.new.totals in

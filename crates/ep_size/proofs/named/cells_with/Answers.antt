@@ -3,7 +3,7 @@ use Rattle.ep_eval.proofs.WalkSteps.{no_runs}
 use Rattle.ep_tree.specs.Environments.{has_cells}
 use Rattle.ep_tree.specs.Values.{filled}
 use Rattle.ep_size.proofs.NamedSteps.{cell_finished, cell_refused, cells_finished}
-use Rattle.ep_size.specs.Extents.{TellsValue, grid_of, span_of}
+use Rattle.ep_size.specs.Extents.{TellsValue, grid_of, plain_span}
 use Rattle.ep_size.specs.Spans.{Keeps, wide_of}
 use Rattle.ep_size.proofs.named.cells_with.Goals as goal
 
@@ -13,7 +13,7 @@ returns-in-Some c mode env name p t h same =
     let d = c.args.domain.now in
     let cut = sym c.as_slice.ensures.value ∙ c.in-Some.ensures.cases.0 in
     cells_finished mode env name p t d.of _ _ d.values _ c.args.span (h ∙ ap (λ l. Some (has_cells d.of l d.values)) cut) same
-    (ap (filled (span_of c.args.span)) (c.deref.ensures.value ∙ cut)) (λ held. held)
+    (ap (filled (plain_span c.args.span)) (c.deref.ensures.value ∙ cut)) (λ held. held)
 
 pub returns-in-Ok : goal.returns-in-Ok
 returns-in-Ok c mode env name p t h same =

@@ -2,7 +2,7 @@ use Rattle.std.proofs.Common.{ap, subst, sym, ◌∙◌}
 use Rattle.ep_base.specs.Intervals.{farthest_end}
 use Rattle.ep_tree.specs.Limits.{is_too_far}
 use Rattle.ep_size.proofs.NodeSteps.{err_gives}
-use Rattle.ep_size.specs.Extents.{span_of}
+use Rattle.ep_size.specs.Extents.{plain_span}
 use Rattle.ep_size.specs.Spans.{Keeps, wide_of}
 use Rattle.ep_size.proofs.nodes.kept_span.Goals as goal
 
@@ -16,4 +16,4 @@ returns-in-Ok c =
 
 pub returns-in-Err : goal.returns-in-Err
 returns-in-Err c =
-    err_gives (span_of c.args.x) (wide_of c.widened.result) c.in-Err.refused (sym c.widened.ensures) (subst (Keeps (wide_of c.widened.result)) c.in-Err.is c.near.ensures)
+    err_gives (plain_span c.args.x) (wide_of c.widened.result) c.in-Err.refused (sym c.widened.ensures) (subst (Keeps (wide_of c.widened.result)) c.in-Err.is c.near.ensures)

@@ -3,7 +3,7 @@ use Rattle.ep_base.specs.Intervals.{farthest_end}
 use Rattle.ep_tree.specs.Limits.{is_too_far}
 use Rattle.ep_tree.specs.Reach.{negated_span}
 use Rattle.ep_size.proofs.NodeSteps.{err_gives}
-use Rattle.ep_size.specs.Extents.{span_of}
+use Rattle.ep_size.specs.Extents.{plain_span}
 use Rattle.ep_size.specs.Spans.{Keeps, wide_of}
 use Rattle.ep_size.proofs.nodes.negated_span.Goals as goal
 
@@ -19,4 +19,4 @@ returns-in-Ok c =
 pub returns-in-Err : goal.returns-in-Err
 unfolding negated_span
 returns-in-Err c =
-    err_gives (negated_span (span_of c.args.x)) (wide_of c.negated.result) c.in-Err.refused (sym c.negated.ensures) (subst (Keeps (wide_of c.negated.result)) c.in-Err.is c.near.ensures)
+    err_gives (negated_span (plain_span c.args.x)) (wide_of c.negated.result) c.in-Err.refused (sym c.negated.ensures) (subst (Keeps (wide_of c.negated.result)) c.in-Err.is c.near.ensures)

@@ -4,7 +4,7 @@ use Rattle.ep_base.specs.Intervals.{farthest_end}
 use Rattle.ep_tree.specs.Limits.{is_too_far}
 use Rattle.ep_tree.specs.Reach.{product_span, wide_span, with_spread}
 use Rattle.ep_size.proofs.NodeSteps.{err_gives, product_reach}
-use Rattle.ep_size.specs.Extents.{span_of}
+use Rattle.ep_size.specs.Extents.{plain_span}
 use Rattle.ep_size.specs.Spans.{Keeps, wide_of}
 use Rattle.ep_size.proofs.nodes.product_span.Goals as goal
 
@@ -17,10 +17,10 @@ returns-in-Ok c =
       c.spread_of.ensures
           ∙ ap (λ i. if x.decided then (if y.decided then wide_span i else with_spread x.spread (wide_span i)) else with_spread y.spread (wide_span i))
           (k.0 ∙ c.product.ensures),
-      ap (λ i. is_too_far (farthest_end i)) (product_reach (span_of x) (span_of y) ∙ sym c.product.ensures) ∙ k.1,
+      ap (λ i. is_too_far (farthest_end i)) (product_reach (plain_span x) (plain_span y) ∙ sym c.product.ensures) ∙ k.1,
     )
 
 pub returns-in-Err : goal.returns-in-Err
 returns-in-Err c =
-    err_gives (product_span (span_of c.args.x) (span_of c.args.y)) (wide_of c.product.result) c.in-Err.refused
-    (product_reach (span_of c.args.x) (span_of c.args.y) ∙ sym c.product.ensures) (subst (Keeps (wide_of c.product.result)) c.in-Err.is c.near.ensures)
+    err_gives (product_span (plain_span c.args.x) (plain_span c.args.y)) (wide_of c.product.result) c.in-Err.refused
+    (product_reach (plain_span c.args.x) (plain_span c.args.y) ∙ sym c.product.ensures) (subst (Keeps (wide_of c.product.result)) c.in-Err.is c.near.ensures)

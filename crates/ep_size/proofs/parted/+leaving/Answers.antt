@@ -7,7 +7,7 @@ use Rattle.ep_tree.specs.Values.{filled, matrix, part_at, read_value}
 use Rattle.ep_size.proofs.ExtentViews.{grid_of-matrix}
 use Rattle.ep_size.proofs.PartedSteps.{left_begin, left_done, left_more, left_none, nothing_read, part_read, stated_nowhere, stated_read}
 use Rattle.ep_size.proofs.QuantifiedSteps.{if_ok}
-use Rattle.ep_size.specs.Extents.{grid_of, grids_from, span_of}
+use Rattle.ep_size.specs.Extents.{grid_of, grids_from, plain_span}
 use Rattle.ep_size.specs.Indices.{measured_of}
 use Rattle.ep_size.specs.Slices.{ReadsGrid}
 use Rattle.ep_size.specs.declared.extents.Extent.{Extent}
@@ -51,7 +51,7 @@ unfolding grid_of
 left_of-returns-in-Cells-clause-read t c =
     if_ok c.cells_part.result _ _ c.cells_part.ensures.read
     (λ o h. subst (λ y. ReadsGrid (map measured_of c.args.indices.now) (grid_of y) o) (sym c.in-Cells.is)
-    (λ js told. part_read o (read_value js (filled (span_of c.in-Cells.span) c.in-Cells.domains.now)) (h js told)))
+    (λ js told. part_read o (read_value js (filled (plain_span c.in-Cells.span) c.in-Cells.domains.now)) (h js told)))
 
 pub left_of-returns-in-Fixed-clause-read : goal.left_of-returns-in-Fixed-clause-read
 unfolding grid_of

@@ -2,7 +2,7 @@ use Rattle.std.proofs.Common.{ap, sym}
 use Rattle.ep_tree.specs.Measures.{number_reach}
 use Rattle.ep_tree.specs.Values.{filled}
 use Rattle.ep_size.proofs.ExtentViews.{grid_of-matrix}
-use Rattle.ep_size.specs.Extents.{TellsValue, grid_of, span_of}
+use Rattle.ep_size.specs.Extents.{TellsValue, grid_of, plain_span}
 use Rattle.ep_size.proofs.parted.as_matrix.Goals as goal
 
 pub returns-in-Matrix-clause-listed : goal.returns-in-Matrix-clause-listed
@@ -19,4 +19,4 @@ returns-in-Some-clause-listed c = record { grid = ap grid_of (sym c.in-Cells.is)
 
 pub returns-in-Some-clause-none : goal.returns-in-Some-clause-none
 unfolding number_reach grid_of filled
-returns-in-Some-clause-none c = ap (λ l. number_reach (filled (span_of c.in-Cells.span) l)) c.in-Some.ensures.cases.0
+returns-in-Some-clause-none c = ap (λ l. number_reach (filled (plain_span c.in-Cells.span) l)) c.in-Some.ensures.cases.0

@@ -5,13 +5,13 @@ use Rattle.ep_size.proofs.QuantifiedSteps.{if_ok}
 use Rattle.ep_size.proofs.SliceParts.{slice_untold}
 use Rattle.ep_size.specs.Extents.{grid_of}
 use Rattle.ep_size.specs.Indices.{measured_of}
-use Rattle.ep_size.specs.Lists.{IsListed}
+use Rattle.ep_size.specs.Lists.{TellsExtent}
 use Rattle.ep_size.proofs.parted.parts_apart.Goals as goal
 
 pub returns-then-not-are_told-clause-listed : goal.returns-then-not-are_told-clause-listed
 returns-then-not-are_told-clause-listed c plain =
     let ms = map measured_of c.args.indices.now in
-    subst (IsListed c.no_parts.result) (sym (slice_untold ms (grid_of c.args.known.now) (sym c.are_told.ensures ∙ c.if-not-are_told.true) plain)) c.no_parts.ensures
+    subst (TellsExtent c.no_parts.result) (sym (slice_untold ms (grid_of c.args.known.now) (sym c.are_told.ensures ∙ c.if-not-are_told.true) plain)) c.no_parts.ensures
 
 pub returns-then-not-are_told-clause-none : goal.returns-then-not-are_told-clause-none
 unfolding number_reach
@@ -25,7 +25,7 @@ returns-in-Some-clause-listed c =
 
 pub returns-in-None-clause-listed : goal.returns-in-None-clause-listed
 returns-in-None-clause-listed c plain =
-    subst (IsListed c.no_parts-in-None.result)
+    subst (TellsExtent c.no_parts-in-None.result)
     (sym (parts_gone (map measured_of c.args.indices.now) (grid_of c.args.known.now) c.in_ok-left.left (sym c.are_told.ensures ∙ c.if-not-are_told.false) c.in_ok-left.ensures.read c.in-None.is))
     c.no_parts-in-None.ensures
 

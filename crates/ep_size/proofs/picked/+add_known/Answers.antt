@@ -8,7 +8,7 @@ use Rattle.ep_tree.specs.Values.{scalars_of}
 use Rattle.ep_size.proofs.ExtentViews.{grid_of-matrix}
 use Rattle.ep_size.proofs.KnownParts.{known_kept, known_none, known_part, left_known}
 use Rattle.ep_size.proofs.RemainingSteps.{whole_left}
-use Rattle.ep_size.specs.Extents.{grid_of, span_of}
+use Rattle.ep_size.specs.Extents.{grid_of, plain_span}
 use Rattle.ep_size.specs.Indices.{measured_of}
 use Rattle.ep_size.specs.declared.extents.Extent.{Extent}
 use Rattle.ep_size.proofs.picked.+add_known.Goals as goal
@@ -19,7 +19,7 @@ loop-part-preserved t c =
     let all : List Extent = c.deref-part-items.result.now in
     let k : ℕ = c.loop-part.part-index in
     let part : Extent = c.part-item.result in
-    let old : List defined.Span = map span_of c.loop-part.spans.items in
+    let old : List defined.Span = map plain_span c.loop-part.spans.items in
     let rest : List defined.Span = left_known ms (drop (k + 1) all) in
     let cut : drop k all ≡ part ∷ drop (k + 1) all =
     drop_more all k part c.loop-part-test.true ∙ ap (λ r. r ∷ drop (k + 1) all) (sym c.part-item.is) in
@@ -33,8 +33,8 @@ returns-after-loop-part-clause-added t c =
     let i = measured_of c.in-Some.index.now in
     let all : List Extent = c.deref-part-items.result.now in
     let k : ℕ = c.loop-part.part-index in
-    let old : List defined.Span = map span_of c.args.spans.now.items in
-    let new : List defined.Span = map span_of c.loop-part.spans.items in
+    let old : List defined.Span = map plain_span c.args.spans.now.items in
+    let new : List defined.Span = map plain_span c.loop-part.spans.items in
     let own = c.in-Matrix.field-0 in
     let parts = c.in-Matrix.parts in
     sym (ap (λ l. new ++ l) (ap (left_known ms) (drop_all k all c.loop-part-test.false) ∙ known_none ms) ∙ append-nil new)
@@ -46,6 +46,6 @@ returns-after-loop-part-clause-added t c =
 
 pub returns-in-None-clause-added : goal.returns-in-None-clause-added
 returns-in-None-clause-added t c =
-    let old : List defined.Span = map span_of c.args.spans.now.items in
-    subst (λ l. OnOk c.add_scalars.result (map span_of c.add_scalars.new.spans.items ≡ old ++ l))
+    let old : List defined.Span = map plain_span c.args.spans.now.items in
+    subst (λ l. OnOk c.add_scalars.result (map plain_span c.add_scalars.new.spans.items ≡ old ++ l))
     (whole_left c.args.indices.now (grid_of c.args.known.now) (no_runs c.args.indices.now c.in-None.ensures.cases)) c.add_scalars.ensures.added

@@ -1,7 +1,7 @@
 use Rattle.std.proofs.Common.{◌≡◌, ◌++◌, drop, length}
 use Rattle.std.specs.Prelude.{map}
 use Rattle.ep_size.proofs.KnownParts.{left_known}
-use Rattle.ep_size.specs.Extents.{span_of}
+use Rattle.ep_size.specs.Extents.{plain_span}
 use Rattle.ep_size.specs.Indices.{measured_of}
 use Rattle.ep_size.proofs.picked.+add_known.Given as goal
 
@@ -10,4 +10,4 @@ decreases-add_known l = length l.indices.now
 
 abbrev pub invariant-loop-part : goal.invariant-loop-part
 invariant-loop-part l =
-    map span_of l.spans.items ++ left_known (map measured_of l.rest) (drop l.part-index l.part-items) ≡ map span_of l.fn.spans.items ++ left_known (map measured_of l.rest) l.part-items
+    map plain_span l.spans.items ++ left_known (map measured_of l.rest) (drop l.part-index l.part-items) ≡ map plain_span l.fn.spans.items ++ left_known (map measured_of l.rest) l.part-items

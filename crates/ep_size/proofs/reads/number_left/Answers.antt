@@ -1,14 +1,14 @@
 use Rattle.std.proofs.Common.{subst, refl}
 use Rattle.ep_eval.proofs.WalkSteps.{no_runs}
 use Rattle.ep_size.proofs.ReadSteps.{number_gone, number_whole}
-use Rattle.ep_size.specs.Extents.{span_of}
+use Rattle.ep_size.specs.Extents.{plain_span}
 use Rattle.ep_size.specs.Hulls.{Hulls}
 use Rattle.ep_size.proofs.reads.number_left.Goals as goal
 
 pub returns-in-Some : goal.returns-in-Some
-returns-in-Some c = subst (Hulls c.new.result) (number_gone c.args.indices.now _ _ (span_of c.args.span) c.in-Some.ensures.cases.0) c.new.ensures
+returns-in-Some c = subst (Hulls c.new.result) (number_gone c.args.indices.now _ _ (plain_span c.args.span) c.in-Some.ensures.cases.0) c.new.ensures
 
 pub returns-in-None : goal.returns-in-None
 returns-in-None c =
-    subst (Hulls c.repeated.result) (number_whole c.args.indices.now (span_of c.args.span) (no_runs c.args.indices.now c.in-None.ensures.cases))
+    subst (Hulls c.repeated.result) (number_whole c.args.indices.now (plain_span c.args.span) (no_runs c.args.indices.now c.in-None.ensures.cases))
     (c.repeated.ensures 1 refl)

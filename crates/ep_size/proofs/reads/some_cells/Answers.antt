@@ -1,6 +1,6 @@
 use Rattle.std.proofs.Common.{subst, sym, map}
 use Rattle.ep_size.proofs.ReadSteps.{filled_left}
-use Rattle.ep_size.specs.Extents.{span_of}
+use Rattle.ep_size.specs.Extents.{plain_span}
 use Rattle.ep_size.specs.Hulls.{Hulls}
 use Rattle.ep_size.specs.Indices.{cells_left, measured_of}
 use Rattle.ep_size.proofs.reads.some_cells.Goals as goal
@@ -8,5 +8,5 @@ use Rattle.ep_size.proofs.reads.some_cells.Goals as goal
 pub returns : goal.returns
 returns c =
     let is = map measured_of c.args.indices.now in
-    subst (Hulls c.repeated.result) (sym (filled_left is (span_of c.args.span) c.args.domains.now))
+    subst (Hulls c.repeated.result) (sym (filled_left is (plain_span c.args.span) c.args.domains.now))
     (c.repeated.ensures (cells_left is c.args.domains.now) c.cells_left.ensures)

@@ -9,7 +9,7 @@ use Rattle.ep_tree.specs.Values.{scalars_of}
 use Rattle.ep_tree.specs.Views.{value_tree}
 use Rattle.ep_tree.specs.declared.values.Value.{Value}
 use Rattle.ep_size.proofs.RemainingSteps.{left_none, left_part, left_parts, matrix_kept, number_kept, whole_left}
-use Rattle.ep_size.specs.Extents.{fixed_grid, span_of}
+use Rattle.ep_size.specs.Extents.{fixed_grid, plain_span}
 use Rattle.ep_size.specs.Indices.{measured_of}
 use Rattle.ep_size.proofs.remaining.+add_left.Goals as goal
 
@@ -19,7 +19,7 @@ loop-part-preserved t c =
     let all : List Value = c.deref-part-items.result.now in
     let k : ℕ = c.loop-part.part-index in
     let part : Value = c.part-item.result in
-    let old : List defined.Span = map span_of c.loop-part.spans.items in
+    let old : List defined.Span = map plain_span c.loop-part.spans.items in
     let rest : List defined.Span = left_parts ms (drop (k + 1) all) in
     let cut : drop k all ≡ part ∷ drop (k + 1) all =
     drop_more all k part c.loop-part-test.true ∙ ap (λ r. r ∷ drop (k + 1) all) (sym c.part-item.is) in
@@ -32,8 +32,8 @@ returns-after-loop-part-clause-added t c =
     let ms = map measured_of c.in-Some.rest.now in
     let all : List Value = c.deref-part-items.result.now in
     let k : ℕ = c.loop-part.part-index in
-    let old : List defined.Span = map span_of c.args.spans.now.items in
-    let new : List defined.Span = map span_of c.loop-part.spans.items in
+    let old : List defined.Span = map plain_span c.args.spans.now.items in
+    let new : List defined.Span = map plain_span c.loop-part.spans.items in
     let own = c.in-Matrix.field-0 in
     let parts = c.in-Matrix.parts in
     sym (ap (λ l. new ++ l) (ap (left_parts ms) (drop_all k all c.loop-part-test.false) ∙ left_none ms) ∙ append-nil new)
@@ -46,7 +46,7 @@ returns-after-loop-part-clause-added t c =
 pub returns-in-Number-clause-added : goal.returns-in-Number-clause-added
 returns-in-Number-clause-added t c =
     let ms = map measured_of c.in-Some.rest.now in
-    let old : List defined.Span = map span_of c.args.spans.now.items in
+    let old : List defined.Span = map plain_span c.args.spans.now.items in
     sym (append-nil old)
     ∙ ap (λ l. old ++ l) (sym (number_kept (measured_of c.in-Some.index.now) ms c.in-Number.field-0))
     ∙ ap (λ v. old ++ flat_map scalars_of (parts_left (measured_of c.in-Some.index.now ∷ ms) (fixed_grid v))) (sym (value_tree-number c.in-Number.field-0))
@@ -55,6 +55,6 @@ returns-in-Number-clause-added t c =
 
 pub returns-in-None-clause-added : goal.returns-in-None-clause-added
 returns-in-None-clause-added t c =
-    let old : List defined.Span = map span_of c.args.spans.now.items in
-    subst (λ l. OnOk c.add_value.result (map span_of c.add_value.new.spans.items ≡ old ++ l))
+    let old : List defined.Span = map plain_span c.args.spans.now.items in
+    subst (λ l. OnOk c.add_value.result (map plain_span c.add_value.new.spans.items ≡ old ++ l))
     (whole_left c.args.indices.now (fixed_grid (value_tree c.args.value.now)) (no_runs c.args.indices.now c.in-None.ensures.cases)) c.add_value.ensures.added

@@ -1,13 +1,13 @@
 use Rattle.std.proofs.Common.{subst, map, take}
-use Rattle.ep_size.specs.Extents.{span_of}
+use Rattle.ep_size.specs.Extents.{plain_span}
 use Rattle.ep_size.specs.Hulls.{Hulls}
 use Rattle.ep_size.proofs.ListSteps.{fed, fed_all}
 use Rattle.ep_size.proofs.remaining.hull_over.Goals as goal
 
 pub loop-span-preserved : goal.loop-span-preserved
 loop-span-preserved c =
-    subst (λ xs. Hulls c.add.new.self xs) (fed span_of c.args.spans.now c.loop-span.span-index _ c.loop-span-test.true)
-    (c.add.ensures (map span_of (take c.loop-span.span-index c.args.spans.now)) c.loop-span.invariant)
+    subst (λ xs. Hulls c.add.new.self xs) (fed plain_span c.args.spans.now c.loop-span.span-index _ c.loop-span-test.true)
+    (c.add.ensures (map plain_span (take c.loop-span.span-index c.args.spans.now)) c.loop-span.invariant)
 
 pub returns : goal.returns
-returns c = subst (Hulls c.loop-span.hull) (fed_all span_of c.args.spans.now c.loop-span.span-index c.loop-span-test.false) c.loop-span.invariant
+returns c = subst (Hulls c.loop-span.hull) (fed_all plain_span c.args.spans.now c.loop-span.span-index c.loop-span-test.false) c.loop-span.invariant

@@ -4,13 +4,13 @@ use Rattle.ep_tree.specs.Values.{listed_values, rows_of}
 use Rattle.std.specs.Prelude.{None}
 use Rattle.ep_size.proofs.ExtentViews.{grid_of-matrix}
 use Rattle.ep_size.proofs.MatrixSteps.{known_none, parts_len, parts_rows}
-use Rattle.ep_size.specs.Extents.{grid_of, span_of}
+use Rattle.ep_size.specs.Extents.{grid_of, plain_span}
 use Rattle.ep_size.specs.Totals.{capped}
 use Rattle.ep_size.proofs.row_counts.row_count.Goals as goal
 
 pub returns-in-Number : goal.returns-in-Number
 unfolding grid_of
-returns-in-Number c = known_none (span_of c.in-Number.field-0) (grid_of c.args.extent.now) (ap grid_of c.in-Number.is)
+returns-in-Number c = known_none (plain_span c.in-Number.field-0) (grid_of c.args.extent.now) (ap grid_of c.in-Number.is)
 
 pub returns-in-Cells : goal.returns-in-Cells
 unfolding grid_of

@@ -6,7 +6,7 @@ use Rattle.ep_tree.specs.Reach.{fixed_span}
 use Rattle.ep_tree.specs.Values.{scalars_of, scalars_of_all}
 use Rattle.ep_size.proofs.ExtentViews.{grid_of-matrix, scalars_matrix, scalars_none, scalars_part, scalars_single}
 use Rattle.ep_size.proofs.ScalarParts.{span_pushed}
-use Rattle.ep_size.specs.Extents.{grid_of, grids_from, span_of}
+use Rattle.ep_size.specs.Extents.{grid_of, grids_from, plain_span}
 use Rattle.ep_size.specs.declared.extents.Extent.{Extent}
 use Rattle.ep_size.proofs.scalars.+add_scalars.Goals as goal
 
@@ -15,7 +15,7 @@ loop-part-preserved t c =
     let all : List Extent = c.deref-part-items.result.now in
     let k : ℕ = c.loop-part.part-index in
     let part : Extent = c.part-item.result in
-    let old : List defined.Span = map span_of c.loop-part.spans.items in
+    let old : List defined.Span = map plain_span c.loop-part.spans.items in
     let rest : List defined.Span = scalars_of_all (grids_from (drop (k + 1) all)) in
     let cut : drop k all ≡ part ∷ drop (k + 1) all =
     drop_more all k part c.loop-part-test.true ∙ ap (λ r. r ∷ drop (k + 1) all) (sym c.part-item.is) in
@@ -28,35 +28,35 @@ unfolding grid_of
 returns-in_ok-push-in-Number-clause-added t c =
     let old = c.args.spans.now.items in
     let own = c.in-Number.span in
-    span_pushed old _ own c.in_ok-push-in-Number.ensures.items ∙ ap (λ l. map span_of old ++ l) (sym (scalars_single (span_of own)))
-    ∙ ap (λ x. map span_of old ++ scalars_of (grid_of x)) (sym c.in-Number.is)
+    span_pushed old _ own c.in_ok-push-in-Number.ensures.items ∙ ap (λ l. map plain_span old ++ l) (sym (scalars_single (plain_span own)))
+    ∙ ap (λ x. map plain_span old ++ scalars_of (grid_of x)) (sym c.in-Number.is)
 
 pub returns-in_ok-push-in-Nothing-clause-added : goal.returns-in_ok-push-in-Nothing-clause-added
 unfolding grid_of
 returns-in_ok-push-in-Nothing-clause-added t c =
     let old = c.args.spans.now.items in
     span_pushed old _ c.undefined_number.result c.in_ok-push-in-Nothing.ensures.items
-    ∙ ap (λ s. map span_of old ++ s ∷ []) c.undefined_number.ensures ∙ ap (λ l. map span_of old ++ l) (sym (scalars_single (fixed_span None)))
-    ∙ ap (λ x. map span_of old ++ scalars_of (grid_of x)) (sym c.in-Nothing.is)
+    ∙ ap (λ s. map plain_span old ++ s ∷ []) c.undefined_number.ensures ∙ ap (λ l. map plain_span old ++ l) (sym (scalars_single (fixed_span None)))
+    ∙ ap (λ x. map plain_span old ++ scalars_of (grid_of x)) (sym c.in-Nothing.is)
 
 pub returns-in-Cells-clause-added : goal.returns-in-Cells-clause-added
 unfolding grid_of
 returns-in-Cells-clause-added t c =
-    subst (λ x. OnOk c.add_cells.result (map span_of c.add_cells.new.spans.items ≡ map span_of c.args.spans.now.items ++ scalars_of (grid_of x)))
+    subst (λ x. OnOk c.add_cells.result (map plain_span c.add_cells.new.spans.items ≡ map plain_span c.args.spans.now.items ++ scalars_of (grid_of x)))
     (sym c.in-Cells.is) c.add_cells.ensures.added
 
 pub returns-in-Fixed-clause-added : goal.returns-in-Fixed-clause-added
 unfolding grid_of
 returns-in-Fixed-clause-added t c =
-    subst (λ x. OnOk c.add_held.result (map span_of c.add_held.new.spans.items ≡ map span_of c.args.spans.now.items ++ scalars_of (grid_of x)))
+    subst (λ x. OnOk c.add_held.result (map plain_span c.add_held.new.spans.items ≡ map plain_span c.args.spans.now.items ++ scalars_of (grid_of x)))
     (sym c.in-Fixed.is) c.add_held.ensures.added
 
 pub returns-after-loop-part-clause-added : goal.returns-after-loop-part-clause-added
 returns-after-loop-part-clause-added t c =
     let all : List Extent = c.deref-part-items.result.now in
     let k : ℕ = c.loop-part.part-index in
-    let old : List defined.Span = map span_of c.args.spans.now.items in
-    let new : List defined.Span = map span_of c.loop-part.spans.items in
+    let old : List defined.Span = map plain_span c.args.spans.now.items in
+    let new : List defined.Span = map plain_span c.loop-part.spans.items in
     let indices = c.in-Matrix.field-0 in
     let parts = c.in-Matrix.parts in
     sym (ap (λ l. new ++ l) (ap (λ l. scalars_of_all (grids_from l)) (drop_all k all c.loop-part-test.false) ∙ scalars_none) ∙ append-nil new)
@@ -68,4 +68,4 @@ pub returns-in-NoParts-clause-added : goal.returns-in-NoParts-clause-added
 unfolding grid_of scalars_of scalars_of_all
 returns-in-NoParts-clause-added t c =
     let old = c.args.spans.now.items in
-    sym (append-nil (map span_of old)) ∙ ap (λ x. map span_of old ++ scalars_of (grid_of x)) (sym c.in-NoParts.is)
+    sym (append-nil (map plain_span old)) ∙ ap (λ x. map plain_span old ++ scalars_of (grid_of x)) (sym c.in-NoParts.is)

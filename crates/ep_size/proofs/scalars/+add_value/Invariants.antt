@@ -1,9 +1,9 @@
 use Rattle.std.proofs.Common.{◌≡◌, ◌++◌, drop}
 use Rattle.std.specs.Prelude.{map}
 use Rattle.ep_size.proofs.ScalarParts.{fixed_parts}
-use Rattle.ep_size.specs.Extents.{span_of}
+use Rattle.ep_size.specs.Extents.{plain_span}
 use Rattle.ep_size.proofs.scalars.+add_value.Given as goal
 
 abbrev pub invariant-loop-part : goal.invariant-loop-part
 invariant-loop-part l =
-    map span_of l.spans.items ++ fixed_parts (drop l.part-index l.part-items) ≡ map span_of l.fn.spans.items ++ fixed_parts l.part-items
+    map plain_span l.spans.items ++ fixed_parts (drop l.part-index l.part-items) ≡ map plain_span l.fn.spans.items ++ fixed_parts l.part-items

@@ -1,11 +1,11 @@
 use Rattle.std.proofs.Common.{sym, append-nil, arith}
 use Rattle.std.specs.Prelude.{map}
 use Rattle.ep_size.proofs.ScalarParts.{copies_all, copies_more}
-use Rattle.ep_size.specs.Extents.{span_of}
+use Rattle.ep_size.specs.Extents.{plain_span}
 use Rattle.ep_size.proofs.scalars.add_cells.Goals as goal
 
 pub loop-cell-init : goal.loop-cell-init
-loop-cell-init c = sym (append-nil (map span_of c.args.spans.now.items))
+loop-cell-init c = sym (append-nil (map plain_span c.args.spans.now.items))
 
 pub loop-cell-preserved : goal.loop-cell-preserved
 loop-cell-preserved c =

@@ -2,7 +2,7 @@ use Rattle.std.proofs.Common.{◌∷◌, map, subst, sym}
 use Rattle.ep_eval.proofs.WalkSteps.{no_runs}
 use Rattle.ep_size.proofs.SliceSteps.{cut_leaves, every_leaves, nothing_leaves}
 use Rattle.ep_size.specs.Indices.{measured_of}
-use Rattle.ep_size.specs.Slices.{Leaves}
+use Rattle.ep_size.specs.Slices.{LeavesDomains}
 use Rattle.ep_size.proofs.slices.+keeps_each.Goals as goal
 
 pub returns-in-Every : goal.returns-in-Every
@@ -12,7 +12,7 @@ returns-in-Every t c h =
     let d = c.in-Some-split_first.field-0-0.now in
     let inner = c.in-Some-split_first.inner.now in
     let part = c.in-Some-split_first.ensures.cases.0 in
-    subst (λ l. Leaves (map measured_of all) domains l) (sym part)
+    subst (λ l. LeavesDomains (map measured_of all) domains l) (sym part)
     (cut_leaves all c.in-Some.rest.now c.in-Some.index.now domains inner (d ∷ inner) d c.in-Some.ensures.cases.0 part
     (every_leaves c.in-Some.index.now (map measured_of c.in-Some.rest.now) d inner inner c.in-Every.is (c.keeps_each.ensures h)))
 

@@ -3,7 +3,7 @@ use Rattle.std.proofs.lemmas.Int.{ints, to_z-of_z}
 use Rattle.std.specs.Prelude.{◌∷◌, ◌↔◌, Contains, IfSome, IsTrue}
 use Rattle.ep_size.proofs.SliceSteps.{every_leaves, has_told, kept_some, stated_leaves}
 use Rattle.ep_size.specs.Indices.{measured_of}
-use Rattle.ep_size.specs.Slices.{Leaves}
+use Rattle.ep_size.specs.Slices.{LeavesDomains}
 use Rattle.ep_size.proofs.slices.domains_with.Goals as goal
 
 pub returns-then-has : goal.returns-then-has
@@ -17,5 +17,5 @@ pub returns-in-Some-left : goal.returns-in-Some-left
 returns-in-Some-left c inner is same kept =
     let d = c.args.domain.now in
     kept_some c.first_alone.result _ _ (c.first_alone.ensures d inner same)
-    (λ l e. subst (λ x. Leaves (measured_of c.args.index ∷ is) (d ∷ inner) x) (sym e)
-    (every_leaves c.args.index is d inner c.in-Some-left.behind.now c.in-Every.is (subst (λ o. IfSome o (λ l. Leaves is inner l.now)) c.in-Some-left.is kept)))
+    (λ l e. subst (λ x. LeavesDomains (measured_of c.args.index ∷ is) (d ∷ inner) x) (sym e)
+    (every_leaves c.args.index is d inner c.in-Some-left.behind.now c.in-Every.is (subst (λ o. IfSome o (λ l. LeavesDomains is inner l.now)) c.in-Some-left.is kept)))

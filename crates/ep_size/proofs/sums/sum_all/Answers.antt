@@ -1,11 +1,11 @@
 use Rattle.std.proofs.Common.{subst, arith, map, take}
-use Rattle.ep_size.specs.Extents.{span_of}
+use Rattle.ep_size.specs.Extents.{plain_span}
 use Rattle.ep_size.specs.Sums.{Sums}
 use Rattle.ep_size.proofs.ListSteps.{fed, fed_at_most}
 use Rattle.ep_size.proofs.sums.sum_all.Goals as goal
 
 pub loop-span-preserved : goal.loop-span-preserved
 loop-span-preserved c =
-    subst (λ xs. Sums c.add.new.self xs) (fed span_of c.args.spans.now c.loop-span.span-index _ c.loop-span-test.true)
-    (c.add.ensures (map span_of (take c.loop-span.span-index c.args.spans.now))
-    (omega (arith, fed_at_most span_of c.args.spans.now c.loop-span.span-index, c.well_formed.0.1)) c.loop-span.invariant)
+    subst (λ xs. Sums c.add.new.self xs) (fed plain_span c.args.spans.now c.loop-span.span-index _ c.loop-span-test.true)
+    (c.add.ensures (map plain_span (take c.loop-span.span-index c.args.spans.now))
+    (omega (arith, fed_at_most plain_span c.args.spans.now c.loop-span.span-index, c.well_formed.0.1)) c.loop-span.invariant)

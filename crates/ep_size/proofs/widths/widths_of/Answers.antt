@@ -1,10 +1,10 @@
 use Rattle.std.proofs.Common.{subst, map, take}
-use Rattle.ep_size.specs.Extents.{span_of}
+use Rattle.ep_size.specs.Extents.{plain_span}
 use Rattle.ep_size.specs.Widths.{Widens}
 use Rattle.ep_size.proofs.ListSteps.{fed}
 use Rattle.ep_size.proofs.widths.widths_of.Goals as goal
 
 pub loop-span-preserved : goal.loop-span-preserved
 loop-span-preserved c =
-    subst (λ xs. Widens c.add.new.self xs) (fed span_of c.args.spans.now c.loop-span.span-index _ c.loop-span-test.true)
-    (c.add.ensures (map span_of (take c.loop-span.span-index c.args.spans.now)) c.loop-span.invariant)
+    subst (λ xs. Widens c.add.new.self xs) (fed plain_span c.args.spans.now c.loop-span.span-index _ c.loop-span-test.true)
+    (c.add.ensures (map plain_span (take c.loop-span.span-index c.args.spans.now)) c.loop-span.invariant)

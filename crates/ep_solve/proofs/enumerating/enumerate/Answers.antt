@@ -4,7 +4,7 @@ use Rattle.ep_answer.specs.AnswerViews.{plain_end, plain_problem}
 use Rattle.ep_flat.specs.Flats.{StandForCells}
 use Rattle.ep_flat.specs.FlatViews.{plain_map}
 use Rattle.ep_ground.specs.declared.cells.Cell.{Cell}
-use Rattle.ep_instance.specs.Instances.{find_of, instance_of, mode_of}
+use Rattle.ep_instance.specs.Instances.{find_of, plain_instance, instance_mode}
 use Rattle.ep_print.specs.Listings.{listing_tree}
 use Rattle.ep_solve.specs.Listed.{Lists}
 use Rattle.ep_solve.specs.Reading.{listing_from}
@@ -28,14 +28,14 @@ posed-requires-clause-maps c =
 
 pub enumerate_cells-requires : goal.enumerate_cells-requires
 enumerate_cells-requires c =
-    let mode : Mode = mode_of c.args.instance.now in
-    let i : Instance = instance_of c.args.instance.now in
+    let mode : Mode = instance_mode c.args.instance.now in
+    let i : Instance = plain_instance c.args.instance.now in
     posed-can-search mode i (plain_problem c.in_ok-problem.problem) c.posed.new.log (c.in_ok-problem.ensures.poses mode i c.in_ok-encoded.ensures.stands c.in_ok-encoded.ensures.cells)
 
 pub returns-clause-lists : goal.returns-clause-lists
 returns-clause-lists c =
-    let mode : Mode = mode_of c.args.instance.now in
-    let i : Instance = instance_of c.args.instance.now in
+    let mode : Mode = instance_mode c.args.instance.now in
+    let i : Instance = plain_instance c.args.instance.now in
     let found : List (List ℤ) = map (λ cells. cells.items) c.in_ok-found.found.found.items in
     let searched : SearchedFor mode i = record {
       closed = c.requires.closed;

@@ -4,7 +4,7 @@ use Rattle.ep_answer.specs.AnswerViews.{plain_answer, plain_problem}
 use Rattle.ep_flat.specs.Flats.{StandForCells}
 use Rattle.ep_flat.specs.FlatViews.{plain_map}
 use Rattle.ep_ground.specs.declared.cells.Cell.{Cell}
-use Rattle.ep_instance.specs.Instances.{find_of, instance_of, mode_of}
+use Rattle.ep_instance.specs.Instances.{find_of, plain_instance, instance_mode}
 use Rattle.ep_print.specs.Answers.{HasTypedValues, answer_tree}
 use Rattle.ep_solve.specs.Reading.{answer_from}
 use Rattle.ep_solve.specs.Logged.{IsLogged}
@@ -29,14 +29,14 @@ posed-requires-clause-maps c =
 
 pub search-requires : goal.search-requires
 search-requires c =
-    let mode : Mode = mode_of c.args.instance.now in
-    let i : Instance = instance_of c.args.instance.now in
+    let mode : Mode = instance_mode c.args.instance.now in
+    let i : Instance = plain_instance c.args.instance.now in
     posed-can-search mode i (plain_problem c.in_ok-problem.problem) c.posed.new.log (c.in_ok-problem.ensures.poses mode i c.in_ok-encoded.ensures.stands c.in_ok-encoded.ensures.cells)
 
 pub returns-clause-right : goal.returns-clause-right
 returns-clause-right c =
-    let mode : Mode = mode_of c.args.instance.now in
-    let i : Instance = instance_of c.args.instance.now in
+    let mode : Mode = instance_mode c.args.instance.now in
+    let i : Instance = plain_instance c.args.instance.now in
     let searched : SearchedFor mode i = record {
       closed = c.requires.closed;
       p = plain_problem c.in_ok-problem.problem;
@@ -54,8 +54,8 @@ returns-clause-right c =
 
 pub returns-clause-typed : goal.returns-clause-typed
 returns-clause-typed c =
-    let mode : Mode = mode_of c.args.instance.now in
-    let i : Instance = instance_of c.args.instance.now in
+    let mode : Mode = instance_mode c.args.instance.now in
+    let i : Instance = plain_instance c.args.instance.now in
     let searched : SearchedFor mode i = record {
       closed = c.requires.closed;
       p = plain_problem c.in_ok-problem.problem;
@@ -73,8 +73,8 @@ returns-clause-typed c =
 
 pub returns-clause-logged : goal.returns-clause-logged
 returns-clause-logged c =
-    let mode : Mode = mode_of c.args.instance.now in
-    let i : Instance = instance_of c.args.instance.now in
+    let mode : Mode = instance_mode c.args.instance.now in
+    let i : Instance = plain_instance c.args.instance.now in
     let searched : SearchedFor mode i = record {
       closed = c.requires.closed;
       p = plain_problem c.in_ok-problem.problem;

@@ -1,10 +1,10 @@
 use Rattle.std.proofs.Common.{subst}
 use Rattle.ep_tree.specs.Types.{Context}
 use Rattle.ep_tree.specs.Views.{domain_tree}
-use Rattle.ep_types.specs.Checking.{Says, check_domain}
+use Rattle.ep_types.specs.Checking.{SaysOfCheck, check_domain}
 use Rattle.ep_types.proofs.statements.stated_domain.Goals as goal
 
 pub returns : goal.returns
 returns c =
-    let P : Context → Type 0 = λ x. Says (λ t. t) c.domain_type.result (check_domain x c.args.may_open (domain_tree c.args.domain.now)) in
+    let P : Context → Type 0 = λ x. SaysOfCheck (λ t. t) c.domain_type.result (check_domain x c.args.may_open (domain_tree c.args.domain.now)) in
     subst P c.new-names.ensures c.domain_type.ensures.says

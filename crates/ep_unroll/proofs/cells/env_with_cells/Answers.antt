@@ -1,6 +1,6 @@
 use Rattle.std.proofs.Common.{ap, ◌∙◌}
 use Rattle.ep_eval.specs.Known.{env_of}
-use Rattle.ep_instance.specs.Instances.{instance_of}
+use Rattle.ep_instance.specs.Instances.{plain_instance}
 use Rattle.ep_tree.specs.Names.{put_all}
 use Rattle.ep_tree.specs.Solutions.{cells_bound}
 use Rattle.ep_unroll.proofs.cells.env_with_cells.Goals as goal
@@ -11,4 +11,4 @@ returns-clause-mode c = c.name_finds.ensures.mode ∙ c.in_ok-env.ensures.mode �
 pub returns-clause-known : goal.returns-clause-known
 returns-clause-known c =
     c.in_ok-name_finds.ensures.known ∙ ap (λ fs. put_all (cells_bound fs) (env_of c.in_ok-env.env)) c.finds.ensures
-    ∙ ap (put_all (cells_bound (instance_of c.args.instance.now).finds)) (c.in_ok-env.ensures.known ∙ ap env_of c.env.ensures)
+    ∙ ap (put_all (cells_bound (plain_instance c.args.instance.now).finds)) (c.in_ok-env.ensures.known ∙ ap env_of c.env.ensures)

@@ -41,7 +41,7 @@ use Rattle.ep_tree.specs.declared.syntax.Generator.{size-Generator}
 use Rattle.ep_unroll.proofs.ListingDepths.{evaluated}
 use Rattle.ep_unroll.proofs.PartListSteps.{if_both, known_all, known_begin, known_more, lists_all, lists_begin, lists_lost, lists_more, lists_none, lists_same, lists_where, literal_means}
 use Rattle.ep_unroll.proofs.ScalarSteps.{scalars_from, scalars_grown}
-use Rattle.ep_unroll.specs.PartLists.{Lists, parts_at, parts_in, parts_of, ranging_over}
+use Rattle.ep_unroll.specs.PartLists.{ListsTerms, parts_at, parts_in, parts_of, ranging_over}
 use Rattle.ep_unroll.proofs.GrownParts.{terms_kept}
 use Rattle.ep_unroll.proofs.ReadValues.{means_grown}
 use Rattle.ep_unroll.specs.Scalars.{AreScalarsOf}
@@ -563,7 +563,7 @@ matrix_unrolled-returns-in_ok-parts-in-Comprehension t c p =
     c.in-Comprehension.is c.deref-in-Comprehension.ensures c.deref-in-Comprehension-2.ensures.value c.deref-in-Comprehension-3.ensures.value in
     if_ok c.comprehension_matrix.result _ _ (λ x h. subst (λ y. Means n env old new y x) (sym (is.tree p)) h)
     (c.comprehension_matrix.ensures n old new p (expr_tree l.body.now) (generators_of gens) (expr_trees l.conditions.now) refl
-    (subst (λ (xs : List Unrolled). Lists n env old new (Some xs) (parts_in c.in_ok-parts-in-Comprehension.parts) (parts_of (mode_in c.args.scope) l (generators_of gens))) c.new.ensures.items c.in_ok-parts-in-Comprehension.ensures))
+    (subst (λ (xs : List Unrolled). ListsTerms n env old new (Some xs) (parts_in c.in_ok-parts-in-Comprehension.parts) (parts_of (mode_in c.args.scope) l (generators_of gens))) c.new.ensures.items c.in_ok-parts-in-Comprehension.ensures))
 
 pub parts_of_all-loop-part-init : goal.parts_of_all-loop-part-init
 parts_of_all-loop-part-init t c =
@@ -588,7 +588,7 @@ generated-over_names-requires t c =
 pub generated-returns-in_ok-more-in-Some : goal.generated-returns-in_ok-more-in-Some
 generated-returns-in_ok-more-in-Some t c =
     let gens = generators_first c.args.generators.now c.in-Some.first.now c.in-Some.later.now (domain_tree c.in-Some.first.now.domain) c.deref.result.now c.in-Some.ensures.cases.0 refl (sym c.deref.ensures.value) in
-    subst (λ g. Lists (numbering_of (mode_in c.args.scope) c.args.table.now) (env_in c.args.scope) c.args.arena.now c.over_names.new.arena (parts_in c.args.parts) (parts_in c.in_ok-more-in-Some.more) (parts_of (mode_in c.args.scope) c.args.listing g)) (sym gens)
+    subst (λ g. ListsTerms (numbering_of (mode_in c.args.scope) c.args.table.now) (env_in c.args.scope) c.args.arena.now c.over_names.new.arena (parts_in c.args.parts) (parts_in c.in_ok-more-in-Some.more) (parts_of (mode_in c.args.scope) c.args.listing g)) (sym gens)
     c.in_ok-more-in-Some.ensures
 
 pub generated-with_part-requires : goal.generated-with_part-requires
@@ -603,7 +603,7 @@ generated-returns-in_ok-more-in-None t c =
     let env = env_in c.args.scope in
     let l = c.args.listing in
     let gens = generators_none c.args.generators.now (no_runs c.args.generators.now c.in-None.ensures.cases) in
-    subst (λ g. Lists n env c.args.arena.now c.with_part.new.arena (parts_in c.args.parts) (parts_in c.in_ok-more-in-None.more) (parts_of (mode_in c.args.scope) l g)) (sym gens)
+    subst (λ g. ListsTerms n env c.args.arena.now c.with_part.new.arena (parts_in c.args.parts) (parts_in c.in_ok-more-in-None.more) (parts_of (mode_in c.args.scope) l g)) (sym gens)
     (lists_same n env c.args.arena.now c.with_part.new.arena (parts_in c.args.parts) (parts_in c.in_ok-more-in-None.more) (part_value n.mode (expr_tree l.body.now) (expr_trees l.conditions.now)) (parts_of (mode_in c.args.scope) l no_generators)
     (λ r. sym (values_part n.mode (expr_tree l.body.now) (expr_trees l.conditions.now) r.values)) c.in_ok-more-in-None.ensures)
 
@@ -626,7 +626,7 @@ over_names-returns-in-Some-numbers t c =
     let name = c.in-Some.name.now in
     let rest = c.in-Some.rest.now in
     let set = c.in-Some-numbers.set in
-    subst (λ ns. Lists n env c.args.arena.now c.over_numbers.new.arena (parts_in c.args.parts) (parts_in c.in_ok-more-in-Some-numbers.more) (parts_of (mode_in c.args.scope) g.listing (ranging_over g ns))) (sym c.in-Some.ensures.cases.0)
+    subst (λ ns. ListsTerms n env c.args.arena.now c.over_numbers.new.arena (parts_in c.args.parts) (parts_in c.in_ok-more-in-Some-numbers.more) (parts_of (mode_in c.args.scope) g.listing (ranging_over g ns))) (sym c.in-Some.ensures.cases.0)
     (lists_same n env c.args.arena.now c.over_numbers.new.arena (parts_in c.args.parts) (parts_in c.in_ok-more-in-Some-numbers.more)
     (λ values. lists_joined (map (parts_at (mode_in c.args.scope) values g name rest) set)) (parts_of (mode_in c.args.scope) g.listing (ranging_over g (name ∷ rest)))
     (λ r. sym (values_some n.mode (expr_tree g.listing.body.now) (expr_trees g.listing.conditions.now) name rest (domain_tree g.domain.now) (generators_of g.later.now) r.values set
@@ -640,7 +640,7 @@ over_names-returns-in-Some t c =
     let g = c.args.ranging in
     let name = c.in-Some.name.now in
     let rest = c.in-Some.rest.now in
-    subst (λ ns. Lists n env c.args.arena.now c.args.arena.now (parts_in c.args.parts) None (parts_of (mode_in c.args.scope) g.listing (ranging_over g ns))) (sym c.in-Some.ensures.cases.0)
+    subst (λ ns. ListsTerms n env c.args.arena.now c.args.arena.now (parts_in c.args.parts) None (parts_of (mode_in c.args.scope) g.listing (ranging_over g ns))) (sym c.in-Some.ensures.cases.0)
     (lists_lost n env c.args.arena.now (parts_in c.args.parts) None (parts_of (mode_in c.args.scope) g.listing (ranging_over g (name ∷ rest))) refl
     (λ r. values_none n.mode (expr_tree g.listing.body.now) (expr_trees g.listing.conditions.now) name rest (domain_tree g.domain.now) (generators_of g.later.now) r.values
     (c.in_ok-numbers-in-Some.ensures.kept n r ∙ c.in-None-numbers.is)))
@@ -650,7 +650,7 @@ over_names-returns t c =
     let n = numbering_of (mode_in c.args.scope) c.args.table.now in
     let env = env_in c.args.scope in
     let g = c.args.ranging in
-    subst (λ ns. Lists n env c.args.arena.now c.generated.new.arena (parts_in c.args.parts) (parts_in c.in_ok-more-in-None.more) (parts_of (mode_in c.args.scope) g.listing (ranging_over g ns))) (sym (no_runs c.args.names.now c.in-None.ensures.cases))
+    subst (λ ns. ListsTerms n env c.args.arena.now c.generated.new.arena (parts_in c.args.parts) (parts_in c.in_ok-more-in-None.more) (parts_of (mode_in c.args.scope) g.listing (ranging_over g ns))) (sym (no_runs c.args.names.now c.in-None.ensures.cases))
     (lists_same n env c.args.arena.now c.generated.new.arena (parts_in c.args.parts) (parts_in c.in_ok-more-in-None.more) (parts_of (mode_in c.args.scope) g.listing (generators_of g.later.now)) (parts_of (mode_in c.args.scope) g.listing (ranging_over g []))
     (λ r. sym (values_bare n.mode (expr_tree g.listing.body.now) (expr_trees g.listing.conditions.now) (domain_tree g.domain.now) (generators_of g.later.now) r.values))
     c.in_ok-more-in-None.ensures)
@@ -694,7 +694,7 @@ over_numbers-loop-number-preserved t c =
       lists_more n env c.args.arena.now c.loop-number.arena c.over_names.new.arena (parts_in c.args.parts) (parts_in c.loop-number.more) (parts_in c.in_ok-more.more) (λ values. parts_at (mode_in c.args.scope) values g name rest)
           c.args.set.now (numbers_left c.loop-number.walk) (numbers_left c.in-Some.behind) name c.scalar_of-scalar.result d k (parts_of (mode_in c.args.scope) g.listing (ranging_over g rest)) c.loop-number.invariant.1 cut scalar
           (number_next n env d (numbers_left c.loop-number.walk) (numbers_left c.in-Some.behind) k c.scalar_of-scalar.result c.loop-number.invariant.2 cut scalar)
-          (subst (λ m. Lists n (with_number name c.scalar_of-scalar.result m env) c.loop-number.arena c.over_names.new.arena (parts_in c.loop-number.more) (parts_in c.in_ok-more.more) (parts_of (mode_in c.args.scope) g.listing (ranging_over g rest))) same
+          (subst (λ m. ListsTerms n (with_number name c.scalar_of-scalar.result m env) c.loop-number.arena c.over_names.new.arena (parts_in c.loop-number.more) (parts_in c.in_ok-more.more) (parts_of (mode_in c.args.scope) g.listing (ranging_over g rest))) same
           c.in_ok-more.ensures)
           (λ values. refl),
       numbers_behind n env d (numbers_left c.loop-number.walk) (numbers_left c.in-Some.behind) k c.loop-number.invariant.2 cut,

@@ -1,7 +1,7 @@
 use Rattle.std.proofs.Common.{ap, sym, ◌∙◌}
-use Rattle.ep_size.specs.Standings.{without}
+use Rattle.ep_size.specs.Standings.{hidden_without}
 use Rattle.ep_unroll.proofs.fixed.is_fixed.Goals as goal
 
 pub returns : goal.returns
-unfolding without
+unfolding hidden_without
 returns c h = ap (λ s. s.free) (sym c.standing_in-standing.ensures) ∙ h

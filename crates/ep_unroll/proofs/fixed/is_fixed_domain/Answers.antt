@@ -1,7 +1,7 @@
 use Rattle.std.proofs.Common.{sym, ◌∙◌}
-use Rattle.ep_size.specs.Standings.{without}
+use Rattle.ep_size.specs.Standings.{hidden_without}
 use Rattle.ep_unroll.proofs.fixed.is_fixed_domain.Goals as goal
 
 pub returns : goal.returns
-unfolding without
+unfolding hidden_without
 returns c h = sym c.is_free_domain.ensures ∙ h

@@ -1,7 +1,7 @@
 use Rattle.std.proofs.Common.{ap, ◌∙◌}
 use Rattle.std.specs.Prelude.{flat_map, map, option_map}
 use Rattle.ep_eval.specs.Known.{env_of}
-use Rattle.ep_instance.specs.Instances.{goal_of, instance_of, mode_of}
+use Rattle.ep_instance.specs.Instances.{goal_of, plain_instance, instance_mode}
 use Rattle.ep_tree.specs.Views.{expr_tree}
 use Rattle.ep_unroll.proofs.GroundSteps.{ground_is}
 use Rattle.ep_unroll.specs.Cells.{find_cells, instance_cells}
@@ -15,6 +15,6 @@ returns-clause-cells c = c.in_ok-cells.ensures ∙ ap (flat_map find_cells) c.fi
 pub returns-clause-terms : goal.returns-clause-terms
 returns-clause-terms c =
     let mode = c.in_ok-env.env.mode in
-    ground_is (mode_of c.args.instance.now) (instance_of c.args.instance.now) (numbering_of mode c.in_ok-table.table) (env_of c.in_ok-env.env) c.new-arena.result c.clause_terms.new.arena c.goal_term.new.arena
+    ground_is (instance_mode c.args.instance.now) (plain_instance c.args.instance.now) (numbering_of mode c.in_ok-table.table) (env_of c.in_ok-env.env) c.new-arena.result c.clause_terms.new.arena c.goal_term.new.arena
     (map expr_tree c.clauses.result.now) (option_map (λ o. goal_of o.now) c.objective.result) c.in_ok-cells.cells.items c.in_ok-clauses.clauses.items c.in_ok-objective.objective
-    (c.in_ok-table.ensures mode ∙ ap (numbering mode) c.finds.ensures ∙ ap (λ m. numbering m (instance_of c.args.instance.now).finds) c.in_ok-env.ensures.mode) c.in_ok-env.ensures.known c.clauses.ensures c.objective.ensures c.in_ok-clauses.ensures c.in_ok-objective.ensures
+    (c.in_ok-table.ensures mode ∙ ap (numbering mode) c.finds.ensures ∙ ap (λ m. numbering m (plain_instance c.args.instance.now).finds) c.in_ok-env.ensures.mode) c.in_ok-env.ensures.known c.clauses.ensures c.objective.ensures c.in_ok-clauses.ensures c.in_ok-objective.ensures

@@ -1,15 +1,15 @@
 use Rattle.ep_ground.specs.GroundViews.{plain_ground}
-use Rattle.ep_instance.specs.Instances.{instance_of, mode_of}
+use Rattle.ep_instance.specs.Instances.{plain_instance, instance_mode}
 use Rattle.ep_unroll.proofs.GroundSteps.{says_clauses, says_objective}
 use Rattle.ep_unroll.proofs.unrolling.unroll.Goals as goal
 
 pub returns-clause-clauses : goal.returns-clause-clauses
 returns-clause-clauses c =
-    says_clauses (mode_of c.args.instance.now) (instance_of c.args.instance.now) (plain_ground c.in_ok-ground.ground) c.requires.closed c.in_ok-ground.ensures.terms
+    says_clauses (instance_mode c.args.instance.now) (plain_instance c.args.instance.now) (plain_ground c.in_ok-ground.ground) c.requires.closed c.in_ok-ground.ensures.terms
 
 pub returns-clause-objective : goal.returns-clause-objective
 returns-clause-objective c =
-    says_objective (mode_of c.args.instance.now) (instance_of c.args.instance.now) (plain_ground c.in_ok-ground.ground) c.requires.closed c.in_ok-ground.ensures.terms
+    says_objective (instance_mode c.args.instance.now) (plain_instance c.args.instance.now) (plain_ground c.in_ok-ground.ground) c.requires.closed c.in_ok-ground.ensures.terms
 
 pub returns-clause-well_formed : goal.returns-clause-well_formed
 returns-clause-well_formed c = c.is_well_formed-well_formed.ensures.sound c.if-not-well_formed.false

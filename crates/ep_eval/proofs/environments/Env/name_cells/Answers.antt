@@ -1,7 +1,7 @@
 use Rattle.ep_tree.specs.Environments.{HasAscendingDomain}
 use Rattle.ep_tree.specs.TypedValues.{IsTypedBound}
 use Rattle.ep_eval.specs.Bounds.{bound_of}
-use Rattle.ep_eval.specs.Known.{IsNamed}
+use Rattle.ep_eval.specs.Known.{StandsUnderName}
 use Rattle.ep_eval.proofs.environments.Env.name_cells.Goals as goal
 
 pub put-requires-clause-typed : goal.put-requires-clause-typed
@@ -13,7 +13,7 @@ unfolding HasAscendingDomain bound_of
 put-requires-clause-ascending c = tt
 
 pub put-requires-clause-named : goal.put-requires-clause-named
-unfolding IsNamed
+unfolding StandsUnderName
 put-requires-clause-named c = tt
 
 pub returns-clause-known : goal.returns-clause-known

@@ -4,7 +4,7 @@ use Rattle.ep_base.specs.Runs.{IsAscending}
 use Rattle.ep_tree.specs.Environments.{HasAscendingDomain}
 use Rattle.ep_tree.specs.TypedValues.{IsTypedBound}
 use Rattle.ep_eval.specs.Bounds.{bound_of}
-use Rattle.ep_eval.specs.Known.{IsNamed}
+use Rattle.ep_eval.specs.Known.{StandsUnderName}
 use Rattle.ep_eval.proofs.environments.Env.name_domain.Goals as goal
 
 pub put-requires-clause-typed : goal.put-requires-clause-typed
@@ -17,7 +17,7 @@ put-requires-clause-ascending c =
     subst (λ ns. IsAscending ns) c.runs.ensures.numbers (numbers_ascend c.runs.result.now c.runs.ensures.apart)
 
 pub put-requires-clause-named : goal.put-requires-clause-named
-unfolding IsNamed
+unfolding StandsUnderName
 put-requires-clause-named c = tt
 
 pub returns-clause-known : goal.returns-clause-known

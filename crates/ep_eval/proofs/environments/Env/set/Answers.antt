@@ -3,7 +3,7 @@ use Rattle.ep_tree.specs.Environments.{HasAscendingDomain}
 use Rattle.ep_tree.specs.Names.{put}
 use Rattle.ep_tree.specs.TypedValues.{IsTypedBound}
 use Rattle.ep_eval.specs.Bounds.{bound_of, entry_bound}
-use Rattle.ep_eval.specs.Known.{IsNamed, env_of}
+use Rattle.ep_eval.specs.Known.{StandsUnderName, env_of}
 use Rattle.ep_eval.proofs.environments.Env.set.Goals as goal
 
 pub put-requires-clause-typed : goal.put-requires-clause-typed
@@ -15,7 +15,7 @@ unfolding HasAscendingDomain bound_of
 put-requires-clause-ascending c = tt
 
 pub put-requires-clause-named : goal.put-requires-clause-named
-unfolding IsNamed
+unfolding StandsUnderName
 put-requires-clause-named c = sym (c.in_ok-name.ensures.copied ∙ c.text.ensures.text)
 
 pub returns-clause-known : goal.returns-clause-known

@@ -3,7 +3,7 @@ use Rattle.std.specs.List.{list_all}
 use Rattle.ep_eval.specs.Known.{env_of}
 use Rattle.ep_tree.specs.TypedValues.{is_number_of}
 use Rattle.ep_tree.specs.Views.{assigned, named_value}
-use Rattle.ep_instance.specs.Instances.{instance_of, mode_of}
+use Rattle.ep_instance.specs.Instances.{plain_instance, instance_mode}
 use Rattle.ep_instance.proofs.JudgingSteps.{agree_again, judged_after, under_given}
 use Rattle.ep_instance.proofs.judging.Judge.judge.Goals as goal
 
@@ -13,7 +13,7 @@ set_finds-requires c =
 
 pub returns-in_err-set_finds-clause-own : goal.returns-in_err-set_finds-clause-own
 returns-in_err-set_finds-clause-own c =
-    let i = instance_of c.args.instance.now in
+    let i = plain_instance c.args.instance.now in
     record {
       in_mode = c.set_finds.ensures.mode ∙ c.requires.own.in_mode;
       elsewhere = agree_again _ i.finds (env_of c.set_finds.new.env) (env_of c.args.self.now.env) i.env c.finds.ensures c.set_finds.ensures.elsewhere c.requires.own.elsewhere;
@@ -21,7 +21,7 @@ returns-in_err-set_finds-clause-own c =
 
 pub returns-clause-own : goal.returns-clause-own
 returns-clause-own c =
-    let i = instance_of c.args.instance.now in
+    let i = plain_instance c.args.instance.now in
     record {
       in_mode = c.set_finds.ensures.mode ∙ c.requires.own.in_mode;
       elsewhere = agree_again _ i.finds (env_of c.set_finds.new.env) (env_of c.args.self.now.env) i.env c.finds.ensures c.set_finds.ensures.elsewhere c.requires.own.elsewhere;
@@ -29,6 +29,6 @@ returns-clause-own c =
 
 pub returns-clause-judgement : goal.returns-clause-judgement
 returns-clause-judgement c =
-    let i = instance_of c.args.instance.now in
-    judged_after (mode_of c.args.instance.now) _ i (assigned c.args.a.now) (env_of c.args.self.now.env) (env_of c.set_finds.new.env) c.judged_in.result (c.set_finds.ensures.mode ∙ c.requires.own.in_mode)
+    let i = plain_instance c.args.instance.now in
+    judged_after (instance_mode c.args.instance.now) _ i (assigned c.args.a.now) (env_of c.args.self.now.env) (env_of c.set_finds.new.env) c.judged_in.result (c.set_finds.ensures.mode ∙ c.requires.own.in_mode)
     (under_given _ _ _ _ _ _ c.finds.ensures (ap (map named_value) c.deref.ensures.value) c.in_ok-set_finds.ensures.known) c.requires.own.elsewhere c.judged_in.ensures

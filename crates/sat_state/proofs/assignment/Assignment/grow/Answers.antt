@@ -1,7 +1,7 @@
 use Rattle.std.proofs.Common.{◌≡◌, ◌-◌, Option, List, replicate, ◌++◌, vec_capacity, vec_len, None, ap, ◌∙◌, arith}
 use Rattle.std.proofs.lemmas.List.{take_all}
 use Rattle.sat_state.specs.declared.assignment.Slot.{Slot}
-use Rattle.sat_state.specs.Assigned.{Assigned}
+use Rattle.sat_state.specs.Assigned.{TrailState}
 use Rattle.sat_state.proofs.Tables.{grown, entries-append}
 use Rattle.sat_state.proofs.assignment.Assignment.grow.Goals as goal
 use Rattle.sat_state.proofs.assignment.Assignment.grow.Goals.{In_ok-resize}
@@ -23,4 +23,4 @@ returns-clause-trail c =
     let a = c.self.inside in
     let more = c.in_ok-wanted.wanted - vec_len a.slots in
     rw (slots_are c, c.in_ok-reserve.ensures.items)
-    (entries-append a.slots.items (replicate more None) a.trail.items c.self.invariant.in_range ∙ ap (λ (x : Assigned). x.trail) c.self.view_is)
+    (entries-append a.slots.items (replicate more None) a.trail.items c.self.invariant.in_range ∙ ap (λ (x : TrailState). x.trail) c.self.view_is)

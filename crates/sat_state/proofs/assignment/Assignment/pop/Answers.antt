@@ -4,8 +4,8 @@ use Rattle.std.proofs.lemmas.List.{get_or_read, length_push, take_at}
 use Rattle.std.proofs.lemmas.List.Sums.{sum_by_push}
 use Rattle.cnf_core.specs.Literal.{Literal}
 use Rattle.sat_state.specs.declared.assignment.Slot.{Slot}
-use Rattle.sat_state.specs.Assigned.{Assigned}
-use Rattle.sat_state.specs.Trail.{Entry, value_of, level_of}
+use Rattle.sat_state.specs.Assigned.{TrailState}
+use Rattle.sat_state.specs.Trail.{Entry, trail_value, level_of}
 use Rattle.sat_state.specs.AssignmentInside.{slot_of, entry_at, entries}
 use Rattle.sat_state.proofs.Tables.{seen_literals, literals-entries, last_known, last_free, popped, before_pop, trail_before_pop, entries-more, entries-unset}
 use Rattle.sat_state.proofs.assignment.Assignment.pop.Goals as goal
@@ -50,7 +50,7 @@ pub returns-clause-known : goal.returns-clause-known
 returns-clause-known c =
     let a = c.self.inside in
     let known = last_known a.slots.items c.pop.new.self.items c.unwrap-lit.result a.level (vec_capacity a.trail) (before_pop a.slots.items a.trail.items c.pop.new.self.items c.pop.result c.unwrap-lit.result a.level (vec_capacity a.trail) c.pop.ensures.items c.unwrap-lit.ensures c.self.invariant) in
-    let vars : length a.slots.items - 1 ≡ c.args.self.now.vars = ap (λ (x : Assigned). x.vars) c.self.view_is in
+    let vars : length a.slots.items - 1 ≡ c.args.self.now.vars = ap (λ (x : TrailState). x.vars) c.self.view_is in
     omega (arith, known, vars)
 
 pub returns-clause-free : goal.returns-clause-free
@@ -58,5 +58,5 @@ returns-clause-free c =
     let a = c.self.inside in
     let left = c.pop.new.self.items in
     let slots = Rattle.std.proofs.Common.set a.slots.items c.var-var.result None in
-    ap (λ (ls : List Literal). value_of ls c.unwrap-lit.result.var) (literals-entries slots left)
+    ap (λ (ls : List Literal). trail_value ls c.unwrap-lit.result.var) (literals-entries slots left)
     ∙ last_free a.slots.items left c.unwrap-lit.result a.level (vec_capacity a.trail) (before_pop a.slots.items a.trail.items c.pop.new.self.items c.pop.result c.unwrap-lit.result a.level (vec_capacity a.trail) c.pop.ensures.items c.unwrap-lit.ensures c.self.invariant)

@@ -1,7 +1,7 @@
 use Rattle.std.proofs.Common.{◌≡◌, ℕ, ◌≤◌, ◌+◌, ◌∷◌, [], ◌++◌, List, cond, vec_capacity, None, is_none, sym, ap, ◌∙◌, arith}
 use Rattle.sat_state.specs.declared.assignment.Slot.{Slot}
-use Rattle.sat_state.specs.Assigned.{Assigned}
-use Rattle.sat_state.specs.Trail.{Entry, value_of, level_of}
+use Rattle.sat_state.specs.Assigned.{TrailState}
+use Rattle.sat_state.specs.Trail.{Entry, trail_value, level_of}
 use Rattle.sat_state.specs.AssignmentInside.{entries}
 use Rattle.sat_state.proofs.Tables.{seen_value, seen_var, room_left, pushed, entries_push}
 use Rattle.sat_state.proofs.assignment.Assignment.push.Goals as goal
@@ -14,7 +14,7 @@ push_reserved-requires c =
     let a = c.self.inside in
     let now = c.args.self.now in
     let known = seen_var a now c.args.lit.var c.self.view_is c.self.invariant c.requires.known in
-    let free : value_of a.trail.items c.args.lit.var ≡ None = sym (seen_value a now c.args.lit.var c.self.view_is) ∙ c.requires.free in
+    let free : trail_value a.trail.items c.args.lit.var ≡ None = sym (seen_value a now c.args.lit.var c.self.view_is) ∙ c.requires.free in
     omega (arith, room_left a.slots.items a.trail.items a.level (vec_capacity a.trail) c.args.lit.var c.self.invariant known free, a.trail.ok.0)
 
 pub invariant_of-self : goal.invariant_of-self
@@ -22,7 +22,7 @@ invariant_of-self c =
     let a = c.self.inside in
     let now = c.args.self.now in
     let known = seen_var a now c.args.lit.var c.self.view_is c.self.invariant c.requires.known in
-    let free : value_of a.trail.items c.args.lit.var ≡ None = sym (seen_value a now c.args.lit.var c.self.view_is) ∙ c.requires.free in
+    let free : trail_value a.trail.items c.args.lit.var ≡ None = sym (seen_value a now c.args.lit.var c.self.view_is) ∙ c.requires.free in
     let slot : Slot = record { positive = c.positive.result; level = a.level + cond (is_none c.args.reason) 1 0; reason = c.args.reason } in
     let positive = variable_low c.var.result c.args.lit.var c.var.ensures.in_range.0 c.var.ensures.value in
     let kept = pushed a.slots.items a.trail.items a.level (vec_capacity a.trail) c.args.lit slot c.self.invariant positive known free c.positive.ensures in
@@ -33,9 +33,9 @@ returns-clause-trail c =
     let a = c.self.inside in
     let now = c.args.self.now in
     let known = seen_var a now c.args.lit.var c.self.view_is c.self.invariant c.requires.known in
-    let free : value_of a.trail.items c.args.lit.var ≡ None = sym (seen_value a now c.args.lit.var c.self.view_is) ∙ c.requires.free in
+    let free : trail_value a.trail.items c.args.lit.var ≡ None = sym (seen_value a now c.args.lit.var c.self.view_is) ∙ c.requires.free in
     let slot : Slot = record { positive = c.positive.result; level = a.level + cond (is_none c.args.reason) 1 0; reason = c.args.reason } in
-    let seen_trail : entries a.slots.items a.trail.items ≡ now.trail = ap (λ (x : Assigned). x.trail) c.self.view_is in
+    let seen_trail : entries a.slots.items a.trail.items ≡ now.trail = ap (λ (x : TrailState). x.trail) c.self.view_is in
     let entry = λ (n : ℕ). let e : Entry = record { literal = c.args.lit; level = n + cond (is_none c.args.reason) 1 0; reason = c.args.reason } in e in
     rw (c.var.ensures.value, c.push_reserved.ensures.items, c.levels_opened.ensures)
     (entries_push a.slots.items a.trail.items c.args.lit slot known free

@@ -2,7 +2,7 @@ use Rattle.std.proofs.Common.{◌≡◌, ◌-◌, ◌≤◌, is_some, None, refl
 use Rattle.std.proofs.lemmas.List.{length-map}
 use Rattle.std.proofs.lemmas.List.Elements.{All-same}
 use Rattle.cnf_core.specs.Literal.{Literal}
-use Rattle.sat_state.specs.Assigned.{Assigned}
+use Rattle.sat_state.specs.Assigned.{TrailState}
 use Rattle.sat_state.specs.AssignmentInside.{entry_at}
 use Rattle.sat_state.proofs.Settling.{one_fails}
 use Rattle.sat_state.proofs.Tables.{seen_literals}
@@ -14,13 +14,13 @@ returns-clause-value c = c.as_slice.ensures.value ∙ sym (seen_literals c.self.
 pub returns-clause-known : goal.returns-clause-known
 returns-clause-known c =
     let a = c.self.inside in
-    let vars : length a.slots.items - 1 ≡ c.args.self.now.vars = ap (λ (x : Assigned). x.vars) c.self.view_is in
+    let vars : length a.slots.items - 1 ≡ c.args.self.now.vars = ap (λ (x : TrailState). x.vars) c.self.view_is in
     All-same (λ (l : Literal). l.var ≤ c.args.self.now.vars) c.as_slice.result.now a.trail.items c.as_slice.ensures.value
     (λ k d h. omega (arith, c.self.invariant.in_range k d h, vars))
 
 pub returns-clause-few : goal.returns-clause-few
 returns-clause-few c =
     let a = c.self.inside in
-    let vars : length a.slots.items - 1 ≡ c.args.self.now.vars = ap (λ (x : Assigned). x.vars) c.self.view_is in
-    let len : length a.trail.items ≡ length c.args.self.now.trail = sym (length-map a.trail.items (entry_at a.slots.items)) ∙ ap (λ (x : Assigned). length x.trail) c.self.view_is in
+    let vars : length a.slots.items - 1 ≡ c.args.self.now.vars = ap (λ (x : TrailState). x.vars) c.self.view_is in
+    let len : length a.trail.items ≡ length c.args.self.now.trail = sym (length-map a.trail.items (entry_at a.slots.items)) ∙ ap (λ (x : TrailState). length x.trail) c.self.view_is in
     omega (arith, len, vars, c.self.invariant.count, c.self.invariant.some, one_fails is_some a.slots.items None (0, c.self.invariant.some, c.self.invariant.zero) refl)

@@ -6,7 +6,7 @@ use Rattle.sat_state.specs.Stored.{Stored, clause_at}
 use Rattle.sat_state.specs.Watching.{no_lit, lit_at}
 use Rattle.sat_state.specs.Tiered.{Tiered}
 use Rattle.sat_state.specs.Guards.{is_false}
-use Rattle.sat_state.specs.Joined.{some_entry, place_of}
+use Rattle.sat_state.specs.Joined.{some_entry, place_in_queue}
 use Rattle.sat_state.proofs.Literals.{Contains-from_among}
 use Rattle.sat_state.proofs.Guarded.{literals_grow}
 use Rattle.sat_state.proofs.Going.{joined_same, goes_same, entry_clause, entry_long, other_there, other_pair, other_var, open_not_walked, first_is, walking_kept, goes_moved, walking_moved, gives_by, falsified_by, pushed_true}
@@ -100,7 +100,7 @@ returns-clause-walking c = λ e.
     = subst (λ (l : Literal). Contains (literals c.force.new.self.assigned.trail) l) c.lit-other.ensures (subst (λ (es : List Entry). Contains (literals es) c.lit-other.result) (sym more) (pushed_true trail x)) in
     walking_kept old c.requires.joined c.requires.walking c.args.entry c.requires.next c.partner.result c.partner.ensures _ is_true
     (λ l h. subst (λ (es : List Entry). Contains (literals es) l) (sym more) (literals_grow trail x l h))
-    (rw more (get_or_append_left trail (x ∷ []) some_entry (place_of old.queue old.watches.walks_far) c.requires.walking.more))
+    (rw more (get_or_append_left trail (x ∷ []) some_entry (place_in_queue old.queue old.watches.walks_far) c.requires.walking.more))
     (rw more (omega (arith, length_push trail x)))
     (ap (λ (s : Stored). s.lists) c.force.ensures.clauses ∙ c.other_open.ensures.clauses) c.force.ensures.queue
     (c.keep-2.ensures.lits ∙ ap (λ (v : Tiered). v.lits) c.force.ensures.watches) (c.keep-2.ensures.fars ∙ ap (λ (v : Tiered). v.fars) c.force.ensures.watches)
