@@ -11,7 +11,7 @@ use Rattle.ep_base.specs.declared.operators.CompareOp.{CompareOp}
 use Rattle.enc_atoms.proofs.Adding.{goes_further}
 use Rattle.enc_atoms.proofs.Decoded.{number_front}
 use Rattle.enc_atoms.specs.Atoms.{AreOfDomains}
-use Rattle.enc_steps.specs.Steps.{IsReady, IsTruth}
+use Rattle.enc_atoms.specs.Steps.{IsReady, IsTruth}
 use Rattle.enc_var.specs.Decoding.{VariableLiterals}
 use Rattle.ep_flat.specs.Cons.{number_at}
 use Rattle.enc_adder.proofs.Sums.{below, bit_at_is, none_spelled, spelled_drop, spelled_front}

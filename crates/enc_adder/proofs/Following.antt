@@ -4,8 +4,8 @@ use Rattle.cnf_core.specs.Formula.{Cnf}
 use Rattle.enc_atoms.proofs.Adding.{adds_like}
 use Rattle.enc_atoms.specs.Atoms.{Adds, atom_holds, clause_holds}
 use Rattle.enc_atoms.specs.declared.atoms.Atom.{Atom}
-use Rattle.enc_steps.proofs.Meanings.{is_not_fails}
-use Rattle.enc_steps.specs.Steps.{Implied, Unless, is_not}
+use Rattle.enc_atoms.proofs.Meanings.{is_not_fails}
+use Rattle.enc_atoms.specs.Steps.{Implied, Unless, is_not}
 use Rattle.enc_var.specs.Decoding.{VariableLiterals}
 use Rattle.enc_var.specs.Layouts.{IsLayoutOf}
 use Rattle.ep_flat.specs.Cons.{number_at}

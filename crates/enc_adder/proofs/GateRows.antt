@@ -3,8 +3,8 @@ use Rattle.std.proofs.Common.{inl, inr, ◌≡◌, ◌↔◌, ℕ, ◌+◌, ◌<
 use Rattle.std.specs.List.{All}
 use Rattle.std.proofs.lemmas.Int.{ints}
 use Rattle.std.proofs.lemmas.List.Elements.{All-cons, All-nil}
-use Rattle.enc_steps.proofs.Choosing.{number_kept, truth_at}
-use Rattle.enc_steps.specs.Steps.{IsTruth, SomeTruths}
+use Rattle.enc_atoms.proofs.Choosing.{number_kept, truth_at}
+use Rattle.enc_atoms.specs.Steps.{IsTruth, SomeTruths}
 use Rattle.ep_flat.specs.Cons.{number_at}
 use Rattle.enc_adder.specs.Bits.{Follows, IsAbove, IsAlike, IsSum, Row}
 

@@ -7,7 +7,7 @@ use Rattle.cnf_core.specs.Formula.{Cnf}
 use Rattle.enc_atoms.proofs.Adding.{adds_like}
 use Rattle.enc_atoms.proofs.Decoded.{length_among}
 use Rattle.enc_atoms.specs.Atoms.{Adds}
-use Rattle.enc_steps.specs.Steps.{HasTruths, IsReady}
+use Rattle.enc_atoms.specs.Steps.{HasTruths, IsReady}
 use Rattle.enc_var.specs.Decoding.{VariableLiterals}
 use Rattle.enc_var.specs.Layouts.{IsLayoutOf}
 use Rattle.ep_flat.specs.Cons.{number_at}

@@ -9,9 +9,9 @@ use Rattle.ep_base.specs.Runs.{or_zero}
 use Rattle.enc_atoms.proofs.Decoded.{length_among, number_among, number_front}
 use Rattle.enc_atoms.proofs.Adding.{adds_like}
 use Rattle.enc_atoms.specs.Atoms.{Adds, AreOfDomains}
-use Rattle.enc_steps.proofs.Meanings.{clause_none}
-use Rattle.enc_steps.proofs.Choosing.{number_kept, truth_at}
-use Rattle.enc_steps.specs.Steps.{HasTruths, Implied, IsReady, IsTruth, SomeTruths, Unless}
+use Rattle.enc_atoms.proofs.Meanings.{clause_none}
+use Rattle.enc_atoms.proofs.Choosing.{number_kept, truth_at}
+use Rattle.enc_atoms.specs.Steps.{HasTruths, Implied, IsReady, IsTruth, SomeTruths, Unless}
 use Rattle.enc_var.specs.Decoding.{VariableLiterals}
 use Rattle.enc_var.specs.Layouts.{IsLayoutOf, literals_at}
 use Rattle.ep_flat.specs.Cons.{number_at}

@@ -6,7 +6,7 @@ use Rattle.ep_base.specs.Numbers.{compare_holds}
 use Rattle.ep_base.specs.Reads.{weighted_sum}
 use Rattle.ep_base.specs.declared.operators.CompareOp.{CompareOp}
 use Rattle.ep_flat.specs.Cons.{FlatKind, kind_holds, kind_variables, linear, number_at}
-use Rattle.enc_steps.specs.Steps.{AreOf}
+use Rattle.enc_atoms.specs.Steps.{AreOf}
 use Rattle.enc_var.specs.Decoding.{VariableLiterals}
 use Rattle.enc_adder.specs.Parts.{sum_of_parts}
 

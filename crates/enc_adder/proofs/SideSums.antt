@@ -12,7 +12,7 @@ use Rattle.ep_base.specs.Reads.{weighted_sum}
 use Rattle.ep_base.specs.declared.operators.CompareOp.{CompareOp}
 use Rattle.enc_atoms.proofs.Decoded.{number_front}
 use Rattle.enc_atoms.specs.Atoms.{AreOfDomains}
-use Rattle.enc_steps.specs.Steps.{IsReady}
+use Rattle.enc_atoms.specs.Steps.{IsReady}
 use Rattle.enc_var.specs.Decoding.{VariableLiterals}
 use Rattle.ep_flat.specs.Cons.{number_at}
 use Rattle.enc_adder.proofs.Sums.{none_total, numbers_below, total_front, total_push}

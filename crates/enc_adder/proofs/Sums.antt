@@ -8,7 +8,7 @@ use Rattle.cnf_core.specs.Formula.{Cnf}
 use Rattle.ep_base.specs.Numbers.{sum_of}
 use Rattle.enc_atoms.proofs.Decoded.{number_front}
 use Rattle.enc_atoms.specs.Atoms.{AreOfDomains}
-use Rattle.enc_steps.specs.Steps.{IsReady}
+use Rattle.enc_atoms.specs.Steps.{IsReady}
 use Rattle.enc_var.specs.Decoding.{VariableLiterals}
 use Rattle.ep_flat.specs.Cons.{number_at}
 use Rattle.enc_adder.proofs.Widening.{bit_later, bits_later, constant_is, constant_later, no_longer, widens_like, widens_nothing, widens_then, zero_bit}

@@ -11,10 +11,10 @@ use Rattle.enc_atoms.proofs.Decoded.{number_front}
 use Rattle.enc_atoms.proofs.Adding.{adds_like}
 use Rattle.enc_atoms.specs.Atoms.{Adds, clause_holds}
 use Rattle.enc_atoms.specs.declared.atoms.Atom.{Atom}
-use Rattle.enc_steps.proofs.Guards.{adds_decided, unless_like}
-use Rattle.enc_steps.proofs.Meanings.{either, guard_fails, is_clause, not_false, other, other_test, same, same_test}
-use Rattle.enc_steps.proofs.Naming.{adds_some}
-use Rattle.enc_steps.specs.Steps.{HasTruth, IsTruth, Unless, is, is_not}
+use Rattle.enc_atoms.proofs.Guards.{adds_decided, unless_like}
+use Rattle.enc_atoms.proofs.Meanings.{either, guard_fails, is_clause, not_false, other, other_test, same, same_test}
+use Rattle.enc_atoms.proofs.Naming.{adds_some}
+use Rattle.enc_atoms.specs.Steps.{HasTruth, IsTruth, Unless, is, is_not}
 use Rattle.enc_var.specs.Decoding.{VariableLiterals}
 use Rattle.enc_var.specs.Layouts.{IsLayoutOf}
 use Rattle.ep_flat.specs.Cons.{is_as_said, number_at}

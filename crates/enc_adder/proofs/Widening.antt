@@ -9,8 +9,8 @@ use Rattle.cnf_core.specs.Formula.{Cnf, Extends}
 use Rattle.enc_atoms.proofs.Adding.{goes_further, goes_nowhere, satisfied_before}
 use Rattle.enc_atoms.proofs.Decoded.{number_among, values_along, values_among, values_front}
 use Rattle.enc_atoms.specs.Atoms.{Adds, AreOfDomains}
-use Rattle.enc_steps.proofs.NewTruths.{adds_truths, length-numbers_from, length_later, numbers_from_at}
-use Rattle.enc_steps.specs.Steps.{HasTruths, IsReady, IsTruth, SomeTruths, numbers_from}
+use Rattle.enc_atoms.proofs.NewTruths.{adds_truths, length-numbers_from, length_later, numbers_from_at}
+use Rattle.enc_atoms.specs.Steps.{HasTruths, IsReady, IsTruth, SomeTruths, numbers_from}
 use Rattle.enc_var.specs.Decoding.{VariableLiterals}
 use Rattle.enc_var.specs.Layouts.{GoesOn, HasFreeChoice, IsLayoutOf, decoded_values, literals_at}
 use Rattle.ep_flat.specs.Cons.{number_at}

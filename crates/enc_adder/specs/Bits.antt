@@ -7,7 +7,7 @@ use Rattle.ep_base.specs.Numbers.{sum_of}
 use Rattle.ep_flat.specs.Cons.{number_at}
 use Rattle.enc_adder.specs.declared.bits.Binary.{Binary}
 use Rattle.enc_adder.specs.declared.bits.Constants.{Constants}
-use Rattle.enc_steps.specs.Steps.{IsTruth}
+use Rattle.enc_atoms.specs.Steps.{IsTruth}
 use Rattle.enc_var.specs.Decoding.{VariableLiterals}
 use Rattle.enc_var.specs.Layouts.{GoesOn, decoded_values, literals_at}
 

@@ -3,7 +3,7 @@
 ghost use Rattle.std.specs.Prelude.{◌+ℤ◌, pos, IfOk};
 ghost use Rattle.std.specs.List.Sorted.{IsPermutation};
 ghost use Rattle.enc_adder.specs.Bits.{AreBits, AreNumbers, IsConstant, SpellsNumber, spelled, total};
-ghost use Rattle.enc_steps.specs.Steps.{IsReady};
+ghost use Rattle.enc_atoms.specs.Steps.{IsReady};
 
 use crate::bits::{Binary, bit_at};
 use crate::gates::summed;

@@ -3,7 +3,7 @@
 ghost use Rattle.std.specs.Prelude.{◌≡◌, ◌%◌, ℤ, List, pos, slice_index_or, IfOk};
 ghost use Rattle.enc_adder.specs.Bits.{AreBits, AreNewConstants, HasConstants, IsNewConstant, spelled};
 ghost use Rattle.enc_atoms.specs.Atoms.{AreOfDomains};
-ghost use Rattle.enc_steps.specs.Steps.{IsReady};
+ghost use Rattle.enc_atoms.specs.Steps.{IsReady};
 ghost use Rattle.enc_var.specs.Decoding.{VariableLiterals};
 
 use cnf_core::Formula;

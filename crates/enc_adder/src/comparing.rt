@@ -3,14 +3,14 @@
 ghost use Rattle.std.specs.Prelude.{◌≡◌, ◌↔◌, ◌<ℤ◌, pos, IfOk};
 ghost use Rattle.enc_adder.specs.Bits.{AreBits, HasBit, HasConstants, IsConstant, spelled};
 ghost use Rattle.enc_adder.specs.Comparing.{Tells};
-ghost use Rattle.enc_steps.specs.Steps.{IsReady};
+ghost use Rattle.enc_atoms.specs.Steps.{IsReady};
 ghost use Rattle.ep_base.specs.Numbers.{compare_holds};
 ghost use Rattle.ep_flat.specs.Cons.{number_at};
 
 use crate::bits::{Constants, bit_at};
 use crate::gates::{new_above, new_alike};
 use cnf_core::Formula;
-use enc_steps::Place;
+use enc_atoms::Place;
 use enc_var::Layout;
 use ep_base::{CompareOp, Memory};
 use std::alloc::Global;

@@ -4,11 +4,11 @@ ghost use Rattle.std.specs.Prelude.{◌≡◌, pos, length, IfOk, OnOk};
 ghost use Rattle.enc_atoms.specs.Atoms.{Adds};
 ghost use Rattle.enc_adder.specs.Bits.{HasBit, IsAbove, IsAlike, IsBit, IsConstant, IsSum};
 ghost use Rattle.enc_adder.specs.Adding.{HasSum};
-ghost use Rattle.enc_steps.specs.Steps.{HasTruths, IsReady};
+ghost use Rattle.enc_atoms.specs.Steps.{HasTruths, IsReady};
 
 use crate::rows::add_rows;
 use cnf_core::Formula;
-use enc_steps::new_truths;
+use enc_atoms::new_truths;
 use enc_var::Layout;
 use ep_base::Memory;
 use std::alloc::Global;

@@ -6,7 +6,7 @@ ghost use Rattle.std.specs.Ordering.{int_eq};
 ghost use Rattle.enc_atoms.specs.Atoms.{Adds};
 ghost use Rattle.enc_adder.specs.Comparing.{Tells};
 ghost use Rattle.enc_adder.specs.Parts.{sum_of_parts};
-ghost use Rattle.enc_steps.specs.Steps.{HasTruth, IsReady};
+ghost use Rattle.enc_atoms.specs.Steps.{HasTruth, IsReady};
 ghost use Rattle.ep_base.specs.Numbers.{compare_holds};
 ghost use Rattle.ep_flat.specs.Cons.{is_as_said, number_at};
 
@@ -15,8 +15,7 @@ use crate::bits::new_constants;
 use crate::comparing::compared;
 use crate::sides::{level, sides_of};
 use cnf_core::Formula;
-use enc_atoms::{Atom, add_clause};
-use enc_steps::{Place, add_decided, add_guarded};
+use enc_atoms::{Atom, Place, add_clause, add_decided, add_guarded};
 use enc_var::Layout;
 use ep_base::{CompareOp, Memory};
 use std::alloc::Global;

@@ -5,13 +5,13 @@ ghost use Rattle.std.specs.List.{All};
 ghost use Rattle.enc_adder.specs.Bits.{HasBit, IsBit, IsConstant, SpellsNumber};
 ghost use Rattle.enc_adder.specs.Parts.{AreStepsOf, HaveWorths, half_step, low_bit as low_bit_is};
 ghost use Rattle.enc_atoms.specs.Atoms.{Adds};
-ghost use Rattle.enc_steps.specs.Steps.{IsReady};
+ghost use Rattle.enc_atoms.specs.Steps.{IsReady};
 ghost use Rattle.ep_flat.specs.Cons.{number_at};
 
 use crate::bits::Binary;
 use crate::gates::new_bit;
 use cnf_core::Formula;
-use enc_steps::{add_implied, listed};
+use enc_atoms::{add_implied, listed};
 use enc_var::Layout;
 use ep_base::Memory;
 use std::alloc::Global;

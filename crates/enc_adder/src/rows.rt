@@ -4,11 +4,10 @@ ghost use Rattle.std.specs.Prelude.{OnOk};
 ghost use Rattle.std.specs.List.{All};
 ghost use Rattle.enc_atoms.specs.Atoms.{Adds};
 ghost use Rattle.enc_adder.specs.Bits.{Follows, IsRowOf};
-ghost use Rattle.enc_steps.specs.Steps.{IsReady};
+ghost use Rattle.enc_atoms.specs.Steps.{IsReady};
 
 use cnf_core::Formula;
-use enc_atoms::Atom;
-use enc_steps::{Place, add_implied};
+use enc_atoms::{Atom, Place, add_implied};
 use enc_var::Layout;
 use ep_base::Memory;
 use std::alloc::Global;

@@ -5,7 +5,7 @@ ghost use Rattle.std.specs.List.{All};
 ghost use Rattle.enc_adder.specs.Bits.{AreNumbers, HasConstants, IsConstant, total};
 ghost use Rattle.enc_adder.specs.Parts.{HasSides, Levels, difference, sum_of_parts};
 ghost use Rattle.enc_atoms.specs.Atoms.{AreOfDomains};
-ghost use Rattle.enc_steps.specs.Steps.{IsReady};
+ghost use Rattle.enc_atoms.specs.Steps.{IsReady};
 ghost use Rattle.enc_var.specs.Decoding.{VariableLiterals};
 ghost use Rattle.ep_flat.specs.Cons.{number_at};
 

@@ -3,7 +3,7 @@
 ghost use Rattle.std.specs.Prelude.{◌<◌, length};
 ghost use Rattle.std.specs.List.{All};
 
-use enc_steps::listed;
+use enc_atoms::listed;
 use enc_var::Layout;
 use ep_base::{CompareOp, Memory};
 use std::alloc::Global;

@@ -2,3 +2,8 @@ pub mod Decoded
 pub mod Adding
 pub mod Gathering
 pub mod Holding
+pub mod Choosing
+pub mod Guards
+pub mod Meanings
+pub mod Naming
+pub mod NewTruths

@@ -22,12 +22,12 @@ use Rattle.enc_atoms.specs.Atoms.{Adds, AreOfDomains, clause_holds}
 use Rattle.enc_atoms.specs.declared.atoms.Atom.{Atom}
 use Rattle.enc_count.specs.Counts.{AreFit, IsAllOf, IsMark, counted_parts, no_wanted, sum_holds, wanted_by_numbers, wanted_by_vars, wanted_count, wanted_holds}
 use Rattle.enc_count.specs.declared.counts.Wanted.{Wanted}
-use Rattle.enc_steps.proofs.Choosing.{number_from, number_kept, number_there, numbers_kept, truth_at, truths_are}
-use Rattle.enc_steps.proofs.Guards.{adds_below_none}
-use Rattle.enc_steps.proofs.Meanings.{clause_none, decided, either, not_false, other_test, same, same_test}
-use Rattle.enc_steps.proofs.Naming.{fails_as, one_is_says}
-use Rattle.enc_steps.proofs.NewTruths.{adds_truths, length-numbers_from, length_later, numbers_from_at}
-use Rattle.enc_steps.specs.Steps.{AreOf, HasTruths, Implied, IsReady, IsTruth, IsTruthDomain, SomeTruths, Unless, are_all, is_not, numbers_from}
+use Rattle.enc_atoms.proofs.Choosing.{number_from, number_kept, number_there, numbers_kept, truth_at, truths_are}
+use Rattle.enc_atoms.proofs.Guards.{adds_below_none}
+use Rattle.enc_atoms.proofs.Meanings.{clause_none, decided, either, not_false, other_test, same, same_test}
+use Rattle.enc_atoms.proofs.Naming.{fails_as, one_is_says}
+use Rattle.enc_atoms.proofs.NewTruths.{adds_truths, length-numbers_from, length_later, numbers_from_at}
+use Rattle.enc_atoms.specs.Steps.{AreOf, HasTruths, Implied, IsReady, IsTruth, IsTruthDomain, SomeTruths, Unless, are_all, is_not, numbers_from}
 use Rattle.enc_var.proofs.Places.{lt_back, lt_back_false}
 use Rattle.enc_var.specs.Decoding.{VariableLiterals}
 use Rattle.enc_var.specs.Layouts.{CanTake, GoesOn, HoldsUnder, IsLayoutOf, literals_at}

@@ -18,11 +18,11 @@ use Rattle.enc_atoms.proofs.Adding.{adds_all, adds_both, adds_like, adds_nothing
 use Rattle.enc_atoms.proofs.Decoded.{length_among, number_among}
 use Rattle.enc_atoms.specs.Atoms.{Adds, AreOfDomains, clause_holds}
 use Rattle.enc_atoms.specs.declared.atoms.Atom.{Atom}
-use Rattle.enc_steps.proofs.Choosing.{choosing, number_from, number_kept, number_there}
-use Rattle.enc_steps.proofs.Guards.{unless_all, unless_both, unless_like}
-use Rattle.enc_steps.proofs.Meanings.{are_all_says, clause_none, either, not_false, same, same_test}
-use Rattle.enc_steps.proofs.NewTruths.{adds_truths, length_later, numbers_from_at}
-use Rattle.enc_steps.specs.Steps.{AreAtomsOf, AreOf, HasTruths, Implied, NotBoth, SomeTruths, Unless, are_all, numbers_from}
+use Rattle.enc_atoms.proofs.Choosing.{choosing, number_from, number_kept, number_there}
+use Rattle.enc_atoms.proofs.Guards.{unless_all, unless_both, unless_like}
+use Rattle.enc_atoms.proofs.Meanings.{are_all_says, clause_none, either, not_false, same, same_test}
+use Rattle.enc_atoms.proofs.NewTruths.{adds_truths, length_later, numbers_from_at}
+use Rattle.enc_atoms.specs.Steps.{AreAtomsOf, AreOf, HasTruths, Implied, NotBoth, SomeTruths, Unless, are_all, numbers_from}
 use Rattle.enc_var.specs.Decoding.{VariableLiterals}
 use Rattle.enc_var.specs.Layouts.{IsLayoutOf, literals_at}
 use Rattle.enc_count.specs.Different.{AreEqual, AreWithin, Covers, Differ, HasDomains, all_pairs}

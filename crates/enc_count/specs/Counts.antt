@@ -6,7 +6,7 @@ use Rattle.ep_base.specs.Reads.{IsWithinNumbers}
 use Rattle.ep_base.specs.declared.operators.CompareOp.{CompareOp}
 use Rattle.ep_flat.specs.Cons.{number_at, numbers_of_vars}
 use Rattle.enc_count.specs.declared.counts.Wanted.{Wanted}
-use Rattle.enc_steps.specs.Steps.{AreOf, Implied, IsTruth}
+use Rattle.enc_atoms.specs.Steps.{AreOf, Implied, IsTruth}
 use Rattle.enc_var.specs.Decoding.{VariableLiterals}
 use Rattle.enc_var.specs.Layouts.{literals_at}
 

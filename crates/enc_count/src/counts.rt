@@ -8,12 +8,11 @@ ghost use Rattle.ep_base.specs.declared.operators.CompareOp.TheVariants as Op;
 ghost use Rattle.ep_flat.specs.Cons.{is_as_said, numbers_of_vars, number_at};
 ghost use Rattle.enc_atoms.specs.Atoms.{Adds, AreOfDomains};
 ghost use Rattle.enc_count.specs.Counts.{AreFit, IsAllOf, IsMark, counted_parts, no_wanted, sum_holds, wanted_by_numbers, wanted_by_vars, wanted_holds};
-ghost use Rattle.enc_steps.specs.Steps.{AreOf, HasTruth, Implied, IsReady};
+ghost use Rattle.enc_atoms.specs.Steps.{AreOf, HasTruth, Implied, IsReady};
 
 use cnf_core::Formula;
-use enc_atoms::Atom;
+use enc_atoms::{Atom, add_decided, add_guarded, add_implied, add_never, all_are, new_truths};
 use enc_linear::encode_con;
-use enc_steps::{add_decided, add_guarded, add_implied, add_never, all_are, new_truths};
 use enc_var::Layout;
 use ep_base::{CompareOp, Memory};
 use ep_flat::{Con, ConKind};

@@ -6,12 +6,13 @@ ghost use Rattle.ep_base.specs.Numbers.{are_different, has_number};
 ghost use Rattle.ep_flat.specs.Cons.{is_as_said, numbers_of_vars, number_at};
 ghost use Rattle.enc_atoms.specs.Atoms.{Adds};
 ghost use Rattle.enc_count.specs.Different.{AreEqual, AreWithin, Covers, Differ, HasDomains, all_pairs};
-ghost use Rattle.enc_steps.specs.Steps.{AreAtomsOf, AreOf, HasTruth, IsReady, Unless};
+ghost use Rattle.enc_atoms.specs.Steps.{AreAtomsOf, AreOf, HasTruth, IsReady, Unless};
 ghost use Rattle.enc_var.specs.Layouts.{literals_at};
 
 use cnf_core::Formula;
-use enc_atoms::Atom;
-use enc_steps::{add_decided, add_guarded, add_implied, add_not_both, all_are, listed, new_truths};
+use enc_atoms::{
+    Atom, add_decided, add_guarded, add_implied, add_not_both, all_are, listed, new_truths,
+};
 use enc_var::Layout;
 use ep_base::{Memory, Run, Runs};
 use std::alloc::Global;

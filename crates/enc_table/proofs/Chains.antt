@@ -3,7 +3,7 @@ use Rattle.std.proofs.Common.{◌≡◌, ◌⊎◌, inl, inr, ℕ, zero, suc, �
 use Rattle.std.specs.Ordering.{int_eq}
 use Rattle.std.proofs.lemmas.Int.{ints}
 use Rattle.ep_base.specs.Numbers.{lex_less}
-use Rattle.enc_steps.proofs.Meanings.{either, not_false, same, same_test, other_test}
+use Rattle.enc_atoms.proofs.Meanings.{either, not_false, same, same_test, other_test}
 use Rattle.enc_table.specs.Orders.{EndsBadly, is_before}
 
 below_test : (a b : ℤ) → a <ℤ b → int_lt a b ≡ true

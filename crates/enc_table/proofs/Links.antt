@@ -13,12 +13,12 @@ use Rattle.enc_atoms.proofs.Adding.{adds_all, adds_both, adds_later, adds_like, 
 use Rattle.enc_atoms.proofs.Decoded.{length_among, number_among, number_front}
 use Rattle.enc_atoms.specs.Atoms.{Adds, atom_holds, clause_holds, test_holds}
 use Rattle.enc_atoms.specs.declared.atoms.Atom.{Atom}
-use Rattle.enc_steps.proofs.Choosing.{guard_kept, number_kept, truth_at}
-use Rattle.enc_steps.proofs.Guards.{unless_all, unless_both, unless_like}
-use Rattle.enc_steps.proofs.Meanings.{clause_more, clause_one, decided, either, guard_fails, is_not_fails, is_says, not_false}
-use Rattle.enc_steps.proofs.Naming.{fails_as}
-use Rattle.enc_steps.proofs.NewTruths.{adds_truths, length-numbers_from, numbers_from_at}
-use Rattle.enc_steps.specs.Steps.{AreAtomsOf, AreOf, HasTruths, IsTruth, SomeTruths, Unless, above, at_most, is, is_not, numbers_from}
+use Rattle.enc_atoms.proofs.Choosing.{guard_kept, number_kept, truth_at}
+use Rattle.enc_atoms.proofs.Guards.{unless_all, unless_both, unless_like}
+use Rattle.enc_atoms.proofs.Meanings.{clause_more, clause_one, decided, either, guard_fails, is_not_fails, is_says, not_false}
+use Rattle.enc_atoms.proofs.Naming.{fails_as}
+use Rattle.enc_atoms.proofs.NewTruths.{adds_truths, length-numbers_from, numbers_from_at}
+use Rattle.enc_atoms.specs.Steps.{AreAtomsOf, AreOf, HasTruths, IsTruth, SomeTruths, Unless, above, at_most, is, is_not, numbers_from}
 use Rattle.enc_var.specs.Decoding.{VariableLiterals}
 use Rattle.enc_var.specs.Layouts.{GoesOn, IsLayoutOf, literals_at}
 use Rattle.enc_table.proofs.Chains.{end_holds, in_order, none_first, same_first, steps_hold}

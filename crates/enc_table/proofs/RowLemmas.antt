@@ -12,10 +12,10 @@ use Rattle.ep_flat.specs.Cons.{is_as_said, number_at, numbers_of_vars}
 use Rattle.enc_atoms.proofs.Adding.{adds_both, adds_like}
 use Rattle.enc_atoms.specs.Atoms.{Adds, atom_holds, clause_holds, test_holds}
 use Rattle.enc_atoms.specs.declared.atoms.Atom.{Atom}
-use Rattle.enc_steps.proofs.Guards.{unless_like}
-use Rattle.enc_steps.proofs.Meanings.{decided, either, not_false, other_test, same, same_test}
-use Rattle.enc_steps.proofs.Naming.{fails_as}
-use Rattle.enc_steps.specs.Steps.{AreAtomsOf, AreOf, IsTruth, Unless, is, is_not}
+use Rattle.enc_atoms.proofs.Guards.{unless_like}
+use Rattle.enc_atoms.proofs.Meanings.{decided, either, not_false, other_test, same, same_test}
+use Rattle.enc_atoms.proofs.Naming.{fails_as}
+use Rattle.enc_atoms.specs.Steps.{AreAtomsOf, AreOf, IsTruth, Unless, is, is_not}
 use Rattle.enc_var.specs.Decoding.{VariableLiterals}
 use Rattle.enc_var.specs.Layouts.{IsLayoutOf}
 use Rattle.enc_table.specs.Rows.{AllFit, IsRow, IsRowWhere, others_of}

@@ -12,12 +12,12 @@ use Rattle.enc_atoms.proofs.Adding.{adds_all, adds_both, adds_like}
 use Rattle.enc_atoms.proofs.Decoded.{length_among, number_among}
 use Rattle.enc_atoms.specs.Atoms.{Adds, atom_holds, clause_holds}
 use Rattle.enc_atoms.specs.declared.atoms.Atom.{Atom}
-use Rattle.enc_steps.proofs.Choosing.{choosing, guard_kept, number_kept, numbers_kept, truth_at}
-use Rattle.enc_steps.proofs.Guards.{unless_all, unless_like}
-use Rattle.enc_steps.proofs.Meanings.{are_all_says, clause_one, is_not_fails, not_false, same_test}
-use Rattle.enc_steps.proofs.Naming.{one_is_says}
-use Rattle.enc_steps.proofs.NewTruths.{adds_truths, length-numbers_from, numbers_from_at}
-use Rattle.enc_steps.specs.Steps.{AreAtomsOf, AreOf, HasTruths, SomeTruths, Unless, are_all, is_not, numbers_from}
+use Rattle.enc_atoms.proofs.Choosing.{choosing, guard_kept, number_kept, numbers_kept, truth_at}
+use Rattle.enc_atoms.proofs.Guards.{unless_all, unless_like}
+use Rattle.enc_atoms.proofs.Meanings.{are_all_says, clause_one, is_not_fails, not_false, same_test}
+use Rattle.enc_atoms.proofs.Naming.{one_is_says}
+use Rattle.enc_atoms.proofs.NewTruths.{adds_truths, length-numbers_from, numbers_from_at}
+use Rattle.enc_atoms.specs.Steps.{AreAtomsOf, AreOf, HasTruths, SomeTruths, Unless, are_all, is_not, numbers_from}
 use Rattle.enc_var.specs.Decoding.{VariableLiterals}
 use Rattle.enc_var.specs.Layouts.{IsLayoutOf, literals_at}
 use Rattle.enc_table.proofs.RowLemmas.{fits_at, row_is}

@@ -3,7 +3,7 @@ use Rattle.std.specs.Prelude.{◌≡◌, ◌⊎◌, ℕ, ◌+◌, ◌<◌, ℤ, 
 use Rattle.ep_base.specs.Numbers.{lex_less}
 use Rattle.ep_flat.specs.Cons.{number_at}
 use Rattle.enc_atoms.specs.declared.atoms.Atom.{Atom}
-use Rattle.enc_steps.specs.Steps.{Unless}
+use Rattle.enc_atoms.specs.Steps.{Unless}
 
 -- whether the first list comes before the second, and where that is enough whether they are the same
 unfoldable pub is_before : Bool → List ℤ → List ℤ → Bool

@@ -5,7 +5,7 @@ use Rattle.std.specs.Ordering.{int_eq}
 use Rattle.ep_base.specs.Numbers.{has_number, same_numbers}
 use Rattle.ep_flat.specs.Cons.{number_at, numbers_of_vars}
 use Rattle.enc_atoms.specs.declared.atoms.Atom.{Atom}
-use Rattle.enc_steps.specs.Steps.{is_not}
+use Rattle.enc_atoms.specs.Steps.{is_not}
 
 -- each row has so many numbers
 abbrev pub AllFit : List (List ℤ) → ℕ → Type 0

@@ -5,13 +5,12 @@ ghost use Rattle.std.specs.Prelude.{◌≡◌, ◌<◌, ◌≤◌, ◌+◌, ◌�
 ghost use Rattle.ep_base.specs.Numbers.{lex_holds};
 ghost use Rattle.ep_flat.specs.Cons.{is_as_said, numbers_of_vars, number_at};
 ghost use Rattle.enc_atoms.specs.Atoms.{Adds};
-ghost use Rattle.enc_steps.specs.Steps.{AreAtomsOf, AreOf, HasTruth, IsReady, Unless};
+ghost use Rattle.enc_atoms.specs.Steps.{AreAtomsOf, AreOf, HasTruth, IsReady, Unless};
 ghost use Rattle.enc_table.specs.Orders.{EndsBadly, EndsWell, IsChain, IsNext, IsStep, is_before};
 
 use crate::tables::add_is;
 use cnf_core::Formula;
-use enc_atoms::{Atom, add_clause};
-use enc_steps::{add_decided, add_guarded, listed, new_truths};
+use enc_atoms::{Atom, add_clause, add_decided, add_guarded, listed, new_truths};
 use enc_var::Layout;
 use ep_base::{LexOp, Memory};
 use std::alloc::Global;

@@ -6,12 +6,11 @@ ghost use Rattle.std.specs.Ordering.{int_eq};
 ghost use Rattle.ep_base.specs.Numbers.{has_number, is_row_of, same_numbers};
 ghost use Rattle.ep_flat.specs.Cons.{is_as_said, numbers_of_vars, number_at};
 ghost use Rattle.enc_atoms.specs.Atoms.{Adds};
-ghost use Rattle.enc_steps.specs.Steps.{AreAtomsOf, AreOf, HasTruth, IsReady, Unless};
+ghost use Rattle.enc_atoms.specs.Steps.{AreAtomsOf, AreOf, HasTruth, IsReady, Unless};
 ghost use Rattle.enc_table.specs.Rows.{AllFit, IsRow, IsRowWhere, IsSupported, others_of, truths_having};
 
 use cnf_core::Formula;
-use enc_atoms::Atom;
-use enc_steps::{add_decided, add_guarded, add_never, all_are, listed, new_truths};
+use enc_atoms::{Atom, add_decided, add_guarded, add_never, all_are, listed, new_truths};
 use enc_var::Layout;
 use ep_base::{Key, Memory};
 use std::alloc::Global;

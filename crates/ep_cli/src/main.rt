@@ -3,11 +3,11 @@
 
 ghost use Rattle.std.specs.Prelude.{◌≡◌};
 ghost use Rattle.std.specs.Process.{exit_status};
-ghost use Rattle.ep_run.specs.Status.{exit_code};
+ghost use Rattle.ep_driver.specs.Status.{exit_code};
 
 use cnf_core::Log;
 use ep_base::{StdFiles, StdSink, Word};
-use ep_run::{Status, run};
+use ep_driver::{Status, run};
 use std::env;
 use std::io::{self, ErrorKind};
 use std::process::ExitCode;

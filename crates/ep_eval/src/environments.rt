@@ -12,8 +12,8 @@ ghost use Rattle.ep_eval.specs.Known.{HasAscendingDomains, StandsUnderName, env_
 
 use super::copies::{copy_domain, copy_entry};
 use ep_base::{Memory, Name, Runs};
-use ep_rules::of_scalar;
 use ep_tree::{Entry, Mode, Scalar, ValueType};
+use ep_types_rules::of_scalar;
 use indexmap::IndexMap;
 use std::alloc::Global;
 use std::marker::Model;

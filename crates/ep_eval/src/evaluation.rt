@@ -23,8 +23,8 @@ use super::judging::{domain_type, type_of};
 use super::scopes::{Around, Scope};
 use super::within::Within;
 use ep_base::{Limit, Memory, Runs};
-use ep_rules::scalar_of;
 use ep_tree::{Domain, Expr, Scalar, Value, ValueType};
+use ep_types_rules::scalar_of;
 use std::alloc::Global;
 
 /// What evaluating an expression shows.

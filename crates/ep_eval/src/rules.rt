@@ -10,12 +10,12 @@ ghost use Rattle.ep_eval.specs.Judging.{flattened, fold_part, fold_type, join_pa
 ghost use Rattle.ep_eval.specs.declared.rules.Wanted.{Wanted};
 
 use ep_base::Memory;
-use ep_rules::{
+use ep_tree::{BinaryOp, Expr, FoldOp, QuantOp, Scalar, ValueType};
+use ep_types_rules::{
     all_boolean, all_have_dimensions, all_integer, all_matrix, all_matrix_of_bool, bool_if,
     both_scalars, has_dimensions, is_boolean, is_integer, is_matrix, is_matrix_of_bool, left_type,
     of_scalar, scalar_of, stated_dimensions,
 };
-use ep_tree::{BinaryOp, Expr, FoldOp, QuantOp, Scalar, ValueType};
 use std::alloc::AllocError;
 
 /// Which types a part may have.

@@ -17,8 +17,8 @@ use super::rules::read_by;
 use super::scopes::Scope;
 use super::within::Within;
 use ep_base::Memory;
-use ep_rules::is_boolean;
 use ep_tree::{Expr, Mode, ValueType};
+use ep_types_rules::is_boolean;
 
 /// Whether there is a type, and it is Boolean.
 #[tactic(auto, unfolding(ep_tree::specs::Types::is_boolean))]

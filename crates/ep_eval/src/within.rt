@@ -14,8 +14,8 @@ use super::domains::hides;
 use super::environments::shape_type;
 use super::scopes::{Around, Scope};
 use ep_base::{Memory, Name};
-use ep_rules::of_scalar;
 use ep_tree::{Scalar, ValueType};
+use ep_types_rules::of_scalar;
 use std::alloc::Global;
 
 /// A name of a quantifier or generator, with what its domain's numbers stand for.

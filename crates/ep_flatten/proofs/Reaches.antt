@@ -15,8 +15,8 @@ use Rattle.ep_ground.specs.Terms.{node_value, on_both, term_value, truth, value_
 use Rattle.ep_ground.specs.Bounds.{node_reach, reach_at, scaled, term_reach}
 use Rattle.ep_ground.specs.Grounds.{AreCellValues}
 use Rattle.ep_ground.specs.declared.cells.Cell.{Cell}
-use Rattle.ep_laws.specs.Intervals.{LieInEach}
-use Rattle.ep_laws.proofs.Intervals.{absolute_lies, greatest_lies, least_lies, power_lies, product_lies, quotient_lies, remainder_lies, sum_lies}
+use Rattle.ep_tree_laws.specs.Intervals.{LieInEach}
+use Rattle.ep_tree_laws.proofs.Intervals.{absolute_lies, greatest_lies, least_lies, power_lies, product_lies, quotient_lies, remainder_lies, sum_lies}
 use Rattle.ep_tree.proofs.TypedParts.{no_some, some_is}
 
 -- each value that is there lies in its interval

@@ -6,10 +6,10 @@ use Rattle.std.proofs.lemmas.Int.{ints}
 use Rattle.ep_base.specs.declared.names.Name.{Name}
 use Rattle.ep_base.specs.declared.places.Place.{Place}
 use Rattle.ep_eval.specs.Bounds.{only_value}
-use Rattle.ep_laws.proofs.Bindings.{fit_typed}
-use Rattle.ep_laws.proofs.Deciding.{left_none, right_none}
-use Rattle.ep_laws.proofs.Shapes.{shape_lists, shape_typed}
-use Rattle.ep_laws.proofs.Typing.{context_typed, domain_typed, expression_typed}
+use Rattle.ep_tree_laws.proofs.Bindings.{fit_typed}
+use Rattle.ep_tree_laws.proofs.Deciding.{left_none, right_none}
+use Rattle.ep_tree_laws.proofs.Shapes.{shape_lists, shape_typed}
+use Rattle.ep_tree_laws.proofs.Typing.{context_typed, domain_typed, expression_typed}
 use Rattle.ep_tree.proofs.TypedEvaluation.{context_put, value_typed}
 use Rattle.ep_tree.specs.Binding.{Refusal, Shape, and_next, bind_givens, bind_names, element_values, elements_pass, first_missing, fitted_into, given_bound, index_domains, limits_met, missing_parameter, model_text, or_refuse, outside_domain, parameter, shape_bound, shape_of, undefined_at, unless_any}
 use Rattle.ep_tree.specs.Environments.{Bound, Env, context_of, has_cells, has_domain, has_value, meaning_in, scalar_in, shape_type}

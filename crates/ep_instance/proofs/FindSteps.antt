@@ -7,7 +7,7 @@ use Rattle.ep_base.specs.declared.names.Name.{Name}
 use Rattle.ep_base.specs.declared.places.Place.{Place}
 use Rattle.ep_eval.specs.Outcomes.{IsCause}
 use Rattle.ep_eval.specs.declared.errors.EvalError.{EvalError}
-use Rattle.ep_laws.proofs.Shapes.{shape_parts}
+use Rattle.ep_tree_laws.proofs.Shapes.{shape_parts}
 use Rattle.ep_tree.proofs.ClosedDomains.{elements_pass-values}
 use Rattle.ep_tree.specs.Binding.{Find, Shape, bound_finds, element_values, elements_pass, group_finds, index_domains, met_groups, model_text, numbers_bound, or_refuse, shape_of, undefined_at}
 use Rattle.ep_tree.specs.Environments.{Env, scalar_in, shape_type}

@@ -6,7 +6,7 @@ use Rattle.std.specs.Prelude.{IsTrue}
 use Rattle.std.proofs.lemmas.List.Elements.{All-nil}
 use Rattle.ep_base.specs.declared.names.Name.{Name}
 use Rattle.ep_base.specs.declared.places.Place.{Place}
-use Rattle.ep_laws.proofs.Deciding.{domain_kept, expression_kept, lacking, left_none, right_none}
+use Rattle.ep_tree_laws.proofs.Deciding.{domain_kept, expression_kept, lacking, left_none, right_none}
 use Rattle.ep_tree.specs.Binding.{Find, Instance, Refusal, Shape, TextName, and_next, bind_letting, bind_params, in_env, letting_bound, limits_met, met_stated, or_refuse, outside_domain, shape_of, undefined_at, unless_any, fitted_into}
 use Rattle.ep_tree.specs.Closed.{instance_faults}
 use Rattle.ep_tree.specs.Environments.{Env, context_of, has_value, shape_type}

@@ -4,8 +4,8 @@ use Rattle.std.specs.Prelude.{Result, Ok, Err, is_none}
 use Rattle.ep_base.specs.declared.names.Name.{Name}
 use Rattle.ep_base.specs.declared.operators.Sense.{Sense}
 use Rattle.ep_base.specs.declared.places.Place.{Place}
-use Rattle.ep_laws.proofs.Deciding.{domain_kept, lacking, left_none, right_none}
-use Rattle.ep_laws.specs.Deciding.{LacksDecisions, without_decision}
+use Rattle.ep_tree_laws.proofs.Deciding.{domain_kept, lacking, left_none, right_none}
+use Rattle.ep_tree_laws.specs.Deciding.{LacksDecisions, without_decision}
 use Rattle.ep_tree.specs.Binding.{Instance, Progress, Refusal, and_next, bind, bind_givens, bind_params, bind_letting, bind_statement, bind_statements, in_env, limits_met, met_groups, met_in, model_text, now_with, nothing_bound, unless_any, with_clauses, with_finds, with_goal, parameter_text, bound_finds, first_false, or_refuse, undefined_at}
 use Rattle.ep_tree.specs.Environments.{Env, context_of}
 use Rattle.ep_tree.specs.Faults.{Fault, after_group, after_statement, declaration_faults, declare, domain_faults, faults_after, group_faults, group_meaning, lettings_of, params_faults, redeclared, statement_faults, text_faults, unless}

@@ -7,8 +7,8 @@ use Rattle.std.proofs.lemmas.List.Elements.{All-cons, All-head, All-nil, All-pus
 use Rattle.std.proofs.lemmas.Slice.Eq.{bytes_eq-Decides}
 use Rattle.ep_base.specs.declared.names.Name.{Name}
 use Rattle.ep_base.specs.declared.operators.Sense.{Sense}
-use Rattle.ep_laws.proofs.Deciding.{expression_kept, left_none, right_none}
-use Rattle.ep_laws.specs.Deciding.{IsKept, LacksDecisions, NamesAreKept, without_decision}
+use Rattle.ep_tree_laws.proofs.Deciding.{expression_kept, left_none, right_none}
+use Rattle.ep_tree_laws.specs.Deciding.{IsKept, LacksDecisions, NamesAreKept, without_decision}
 use Rattle.ep_tree.proofs.TypedEvaluation.{context_put, put_typed}
 use Rattle.ep_tree.specs.Binding.{Find, Instance, in_env, with_clauses, with_finds, with_goal}
 use Rattle.ep_tree.specs.Closed.{IsClosed, clause_env, instance_faults}

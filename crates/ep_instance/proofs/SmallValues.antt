@@ -11,7 +11,7 @@ use Rattle.ep_base.specs.Reads.{IsWithinNumbers}
 use Rattle.ep_base.specs.declared.names.Name.{Name}
 use Rattle.ep_base.specs.declared.operators.Limit.{Limit}
 use Rattle.ep_base.specs.declared.places.Place.{Place}
-use Rattle.ep_laws.proofs.Shapes.{shape_parts}
+use Rattle.ep_tree_laws.proofs.Shapes.{shape_parts}
 use Rattle.ep_tree.proofs.DomainLaws.{between-has, put_in-has, set_values-has, united-has}
 use Rattle.ep_tree.proofs.TypedParts.{map_is, no_some, some_is, then_is}
 use Rattle.ep_tree.specs.Binding.{Find, Instance, Progress, Refusal, Shape, TextName, and_next, bind, bind_givens, bind_letting, bind_names, bind_params, bind_statement, bind_statements, bound_finds, element_values, first_false, fitted_into, group_finds, in_env, letting_bound, limits_met, met_groups, met_in, met_stated, model_text, nothing_bound, now_with, numbers_bound, or_refuse, outside_domain, over_limit, parameter_text, shape_bound, shape_of, undefined_at, unless_any, with_clauses, with_finds, with_goal}

@@ -5,10 +5,10 @@ use Rattle.std.specs.List.{list_all}
 use Rattle.std.proofs.lemmas.List.{append-nil}
 use Rattle.ep_base.specs.declared.names.Name.{Name}
 use Rattle.ep_base.specs.declared.places.Place.{Place}
-use Rattle.ep_laws.proofs.Bindings.{bound_typed, fit_typed}
-use Rattle.ep_laws.proofs.Deciding.{domain_kept, expression_kept, lacking, left_none, right_none}
-use Rattle.ep_laws.proofs.Shapes.{shape_lists, shape_typed}
-use Rattle.ep_laws.proofs.Typing.{context_typed, domain_typed, expression_typed}
+use Rattle.ep_tree_laws.proofs.Bindings.{bound_typed, fit_typed}
+use Rattle.ep_tree_laws.proofs.Deciding.{domain_kept, expression_kept, lacking, left_none, right_none}
+use Rattle.ep_tree_laws.proofs.Shapes.{shape_lists, shape_typed}
+use Rattle.ep_tree_laws.proofs.Typing.{context_typed, domain_typed, expression_typed}
 use Rattle.ep_tree.proofs.TypedParts.{map_is, some_is, then_is}
 use Rattle.ep_tree.specs.Binding.{Find, Instance, Progress, Refusal, Shape, TextName, and_next, bind_givens, bind_letting, bind_names, bind_statement, bound_finds, first_false, group_finds, in_env, letting_bound, limits_met, met_groups, met_in, model_text, now_with, or_refuse, outside_domain, shape_bound, shape_of, undefined_at, with_clauses, with_finds, with_goal, fitted_into, met_stated}
 use Rattle.ep_tree.specs.Environments.{Bound, Env, context_of, has_domain, has_value, meaning_in, shape_type}

@@ -14,7 +14,7 @@ use Rattle.ep_tree.specs.Types.{Context}
 use Rattle.ep_tree.specs.Values.{ValueTree}
 use Rattle.ep_tree.specs.declared.values.Mode.{Mode}
 use Rattle.ep_tree.specs.declared.values.ValueType.{ValueType}
-use Rattle.ep_laws.specs.Deciding.{LacksDecisions}
+use Rattle.ep_tree_laws.specs.Deciding.{LacksDecisions}
 use Rattle.ep_instance.specs.Refusals.{RefusesBinding}
 use Rattle.ep_instance.specs.declared.errors.BindError.{BindError}
 

@@ -8,7 +8,7 @@ use Rattle.ep_base.specs.declared.operators.Limit.{Limit as LimitName}
 use Rattle.ep_eval.specs.Outcomes as evaluated
 use Rattle.ep_eval.specs.declared.errors.EvalError.{EvalError}
 use Rattle.ep_eval.specs.declared.errors.EvalError.TheVariants as eval
-use Rattle.ep_laws.specs.FixedLimits.{LimitsOfFixed, is_fixed}
+use Rattle.ep_tree_laws.specs.FixedLimits.{LimitsOfFixed, is_fixed}
 use Rattle.ep_tree.specs.Binding.{Refusal, over_limit}
 use Rattle.ep_tree.specs.Limits.{MOST_SIZE, limits_of_values}
 use Rattle.ep_tree.specs.Measures.{Met, a_generator, a_node, decided_weight, weight_at, weight_of}

@@ -4,7 +4,7 @@ use Rattle.std.proofs.Common.{ap, ◌∙◌}
 use Rattle.std.specs.List.{list_all, list_any}
 use Rattle.ep_base.specs.declared.names.Name.{Name}
 use Rattle.ep_base.specs.declared.places.Place.{Place}
-use Rattle.ep_laws.specs.FixedLimits.{is_fixed}
+use Rattle.ep_tree_laws.specs.FixedLimits.{is_fixed}
 use Rattle.ep_tree.specs.Environments.{Env, has_value, scalar_in, with_number}
 use Rattle.ep_tree.specs.Evaluation.{all_joined, chosen, domain_values, holding, numbered, over_names, reached, standing_for}
 use Rattle.ep_tree.specs.Measures.{Met, a_generator, a_node, met, met_all, met_domain, met_domains, met_end, met_generators, met_index, met_indices, met_names, met_ranges, met_terms}

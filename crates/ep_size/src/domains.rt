@@ -15,8 +15,8 @@ use super::standing::{Hidden, is_free_domain};
 use super::totals::{MOST_SIZE, Totals};
 use ep_base::{Limit, Runs};
 use ep_eval::{Scope, numbers_of};
-use ep_laws::limits_are_of_values;
 use ep_tree::Domain;
+use ep_tree_laws::limits_are_of_values;
 
 /// The numbers of a domain in which no decision variable stands. Of another one they aren't told.
 pub fn fixed_numbers(

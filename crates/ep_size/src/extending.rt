@@ -54,8 +54,8 @@ use ep_base::{Limit, Name, Runs};
 use ep_eval::{
     Around, Held, Quantifier, Scope, next_number, scalar_of, type_within, value_of, walk_of,
 };
-use ep_laws::limits_are_of_values;
 use ep_tree::{Expr, Generator, Kind, ValueType};
+use ep_tree_laws::limits_are_of_values;
 
 /// Counts a node.
 fn count(totals: &mut Totals) -> Result<(), SizeError>

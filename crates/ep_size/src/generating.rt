@@ -16,8 +16,8 @@ use super::extents::Extent;
 use super::standing::{Hidden, are_both, standing_in};
 use super::totals::Totals;
 use ep_eval::{Held, Scope, number_of, value_of};
-use ep_laws::limits_are_of_values;
 use ep_tree::{Domain, Expr, Generator};
+use ep_tree_laws::limits_are_of_values;
 
 /// What a comprehension lists, and under which conditions.
 #[derive(Clone, Copy)]

@@ -7,7 +7,7 @@ use Rattle.std.specs.List.{list_any}
 use Rattle.ep_base.specs.Numbers.{absolute_of, compare_holds, factorial_of, has_number, lex_holds, are_different, counts_hold, is_row_of, sum_of}
 use Rattle.ep_base.specs.declared.operators.CompareOp.{CompareOp}
 use Rattle.ep_base.specs.declared.names.Name.{Name}
-use Rattle.ep_laws.proofs.SameTypes.{domain_type_is_kept, type_is_kept}
+use Rattle.ep_tree_laws.proofs.SameTypes.{domain_type_is_kept, type_is_kept}
 use Rattle.ep_size.specs.Free.{are_free, are_free_domains, are_free_generators, are_free_indices, are_free_ranges, are_free_terms, is_free, is_free_domain, is_free_end, is_free_index}
 use Rattle.ep_tree.specs.Agreement.{Agree, AgreeOn}
 use Rattle.ep_tree.specs.Domains.{between, put_in, set_values, united}

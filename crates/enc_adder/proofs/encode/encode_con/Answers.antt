@@ -3,7 +3,7 @@ use Rattle.std.proofs.lemmas.Int.{ints}
 use Rattle.std.proofs.lemmas.Result.{on_ok_weaker}
 use Rattle.ep_base.specs.Numbers.{compare_holds}
 use Rattle.ep_flat.specs.FlatViews.{plain_con, plain_kind}
-use Rattle.enc_steps.proofs.Naming.{keeps_con, kind_named, truth_named}
+use Rattle.enc_atoms.proofs.Naming.{keeps_con, kind_named, truth_named}
 use Rattle.enc_adder.proofs.LinearKinds.{linear_named, linear_says}
 use Rattle.enc_adder.specs.Parts.{sum_of_parts}
 use Rattle.enc_adder.proofs.encode.encode_con.Goals as goal

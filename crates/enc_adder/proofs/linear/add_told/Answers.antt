@@ -1,7 +1,7 @@
 use Rattle.std.proofs.Common.{◌≡◌, ◌∙◌, ℤ, [], ◌∷◌, ap, w64, arith}
 use Rattle.std.proofs.lemmas.Int.{ints, to_z-of_z}
 use Rattle.std.proofs.lemmas.Result.{on_ok_weaker}
-use Rattle.enc_steps.specs.Steps.{is, is_not}
+use Rattle.enc_atoms.specs.Steps.{is, is_not}
 use Rattle.enc_adder.proofs.Telling.{told_plain, told_truth}
 use Rattle.enc_adder.proofs.linear.add_told.Goals as goal
 

@@ -1,5 +1,5 @@
 use Rattle.std.proofs.Common.{arith}
-use Rattle.enc_steps.proofs.NewTruths.{length_later}
+use Rattle.enc_atoms.proofs.NewTruths.{length_later}
 use Rattle.enc_adder.proofs.Halves.{even_bit, made_bit, own_bit}
 use Rattle.enc_adder.proofs.parts.low_bit_of.Goals as goal
 

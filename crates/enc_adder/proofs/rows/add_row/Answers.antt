@@ -1,7 +1,7 @@
 use Rattle.std.proofs.Common.{◌≡◌, ◌∙◌, ℤ, [], ◌∷◌, ap, refl, w64, arith}
 use Rattle.std.proofs.lemmas.Int.{ints, to_z-of_z}
 use Rattle.std.proofs.lemmas.Result.{on_ok_weaker}
-use Rattle.enc_steps.specs.Steps.{is_not}
+use Rattle.enc_atoms.specs.Steps.{is_not}
 use Rattle.enc_adder.proofs.Following.{row_adds}
 use Rattle.enc_adder.proofs.rows.add_row.Goals as goal
 

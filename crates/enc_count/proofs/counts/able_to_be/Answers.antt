@@ -5,8 +5,8 @@ use Rattle.std.proofs.lemmas.List.{take_all}
 use Rattle.std.proofs.lemmas.List.Elements.{All-nil, All-push}
 use Rattle.ep_base.specs.Numbers.{times_in}
 use Rattle.ep_flat.specs.Cons.{numbers_of_vars}
-use Rattle.enc_steps.proofs.Meanings.{not_false}
-use Rattle.enc_steps.specs.Steps.{AreOf}
+use Rattle.enc_atoms.proofs.Meanings.{not_false}
+use Rattle.enc_atoms.specs.Steps.{AreOf}
 use Rattle.enc_count.proofs.Counting.{able_more, able_none, able_same}
 use Rattle.enc_count.proofs.counts.able_to_be.Goals as goal
 

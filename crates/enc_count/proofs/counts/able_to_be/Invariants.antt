@@ -2,7 +2,7 @@ use Rattle.std.proofs.Common.{◌≡◌, ℤ, List, take}
 use Rattle.ep_base.specs.Numbers.{times_in}
 use Rattle.ep_flat.specs.Cons.{numbers_of_vars}
 use Rattle.enc_atoms.specs.Atoms.{AreOfDomains}
-use Rattle.enc_steps.specs.Steps.{AreOf}
+use Rattle.enc_atoms.specs.Steps.{AreOf}
 use Rattle.enc_count.proofs.counts.able_to_be.Given as goal
 
 abbrev pub invariant-loop-var : goal.invariant-loop-var

@@ -4,9 +4,9 @@ use Rattle.std.proofs.lemmas.Result.{on_ok_weaker}
 use Rattle.ep_base.specs.Numbers.{times_in}
 use Rattle.ep_flat.specs.Cons.{numbers_of_vars}
 use Rattle.enc_atoms.specs.Atoms.{Adds}
-use Rattle.enc_steps.proofs.Naming.{truths_within}
-use Rattle.enc_steps.proofs.NewTruths.{length-numbers_from}
-use Rattle.enc_steps.specs.Steps.{AreOf}
+use Rattle.enc_atoms.proofs.Naming.{truths_within}
+use Rattle.enc_atoms.proofs.NewTruths.{length-numbers_from}
+use Rattle.enc_atoms.specs.Steps.{AreOf}
 use Rattle.enc_count.proofs.Counting.{count_whole, fit_later, of_later, truths_fit}
 use Rattle.enc_count.specs.Counts.{IsMark}
 use Rattle.enc_count.proofs.counts.add_count.Goals as goal

@@ -1,6 +1,6 @@
 use Rattle.std.proofs.Common.{ℕ, pos, refl, get_or}
 use Rattle.enc_atoms.proofs.Adding.{adds_all, adds_none, adds_one_more}
-use Rattle.enc_steps.specs.Steps.{Implied}
+use Rattle.enc_atoms.specs.Steps.{Implied}
 use Rattle.enc_count.proofs.Counting.{unless_nothing}
 use Rattle.enc_count.proofs.counts.add_each_told.Goals as goal
 

@@ -1,7 +1,7 @@
 use Rattle.std.proofs.Common.{pos, take}
 use Rattle.std.specs.List.{All}
 use Rattle.enc_atoms.specs.Atoms.{Adds}
-use Rattle.enc_steps.specs.Steps.{Implied}
+use Rattle.enc_atoms.specs.Steps.{Implied}
 use Rattle.enc_count.proofs.counts.add_each_told.Given as goal
 
 abbrev pub invariant-loop-one : goal.invariant-loop-one

@@ -1,7 +1,7 @@
 use Rattle.std.proofs.Common.{◌≡◌, ℕ, ◌<◌, ℤ, length, subst, get_or, w64, to_z, of_z, arith}
 use Rattle.std.proofs.lemmas.Int.{ints, to_z-of_z}
 use Rattle.enc_atoms.specs.Atoms.{Adds}
-use Rattle.enc_steps.proofs.Guards.{adds_below_more, adds_below_none}
+use Rattle.enc_atoms.proofs.Guards.{adds_below_more, adds_below_none}
 use Rattle.enc_count.specs.Counts.{IsMark}
 use Rattle.enc_count.proofs.counts.add_marks.Goals as goal
 

@@ -1,6 +1,6 @@
 use Rattle.std.proofs.Common.{◌∙◌, [], ◌∷◌, ap}
 use Rattle.std.proofs.lemmas.Result.{on_ok_weaker}
-use Rattle.enc_steps.proofs.Naming.{atoms_of}
+use Rattle.enc_atoms.proofs.Naming.{atoms_of}
 use Rattle.enc_count.proofs.Counting.{untold_whole}
 use Rattle.enc_count.proofs.counts.add_some_untold.Goals as goal
 

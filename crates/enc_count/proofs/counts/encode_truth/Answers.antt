@@ -1,7 +1,7 @@
 use Rattle.std.proofs.Common.{◌∙◌, ℕ, List, length, refl, subst, sym}
 use Rattle.std.proofs.lemmas.Result.{on_ok_weaker}
 use Rattle.enc_atoms.specs.Atoms.{Adds}
-use Rattle.enc_steps.proofs.Naming.{truths_within}
+use Rattle.enc_atoms.proofs.Naming.{truths_within}
 use Rattle.enc_count.proofs.Counting.{of_later, told_whole, truths_fit, wanted_later}
 use Rattle.enc_count.specs.Counts.{IsAllOf}
 use Rattle.enc_count.proofs.counts.encode_truth.Goals as goal

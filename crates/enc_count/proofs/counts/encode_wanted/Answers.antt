@@ -1,7 +1,7 @@
 use Rattle.std.proofs.Common.{refl}
 use Rattle.std.specs.List.{list_all}
 use Rattle.std.proofs.lemmas.Result.{on_ok_weaker}
-use Rattle.enc_steps.proofs.Naming.{adds_some}
+use Rattle.enc_atoms.proofs.Naming.{adds_some}
 use Rattle.enc_count.proofs.Counting.{counts_plain}
 use Rattle.enc_count.specs.Counts.{wanted_holds}
 use Rattle.enc_count.proofs.counts.encode_wanted.Goals as goal

@@ -2,7 +2,7 @@ use Rattle.std.proofs.Common.{◌≡◌, ◌∙◌, ℤ, pos, List, subst, get_o
 use Rattle.std.proofs.lemmas.Int.{to_z-of_z}
 use Rattle.enc_atoms.proofs.Adding.{adds_none, adds_one_more}
 use Rattle.enc_atoms.specs.Atoms.{Adds}
-use Rattle.enc_steps.specs.Steps.{NotBoth, Unless}
+use Rattle.enc_atoms.specs.Steps.{NotBoth, Unless}
 use Rattle.enc_count.proofs.Differing.{apart_all}
 use Rattle.enc_count.proofs.different.add_apart.Goals as goal
 

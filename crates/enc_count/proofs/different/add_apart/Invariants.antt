@@ -1,7 +1,7 @@
 use Rattle.std.proofs.Common.{take}
 use Rattle.std.specs.List.{All}
 use Rattle.enc_atoms.specs.Atoms.{Adds}
-use Rattle.enc_steps.specs.Steps.{NotBoth, Unless}
+use Rattle.enc_atoms.specs.Steps.{NotBoth, Unless}
 use Rattle.enc_count.proofs.different.add_apart.Given as goal
 
 abbrev pub invariant-loop-number : goal.invariant-loop-number

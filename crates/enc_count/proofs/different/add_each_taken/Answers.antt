@@ -4,8 +4,8 @@ use Rattle.ep_base.specs.Numbers.{has_number}
 use Rattle.ep_flat.specs.Cons.{numbers_of_vars}
 use Rattle.enc_atoms.proofs.Adding.{adds_all, adds_none, adds_one_more}
 use Rattle.enc_atoms.specs.Atoms.{Adds}
-use Rattle.enc_steps.proofs.Guards.{unless_all}
-use Rattle.enc_steps.specs.Steps.{Unless}
+use Rattle.enc_atoms.proofs.Guards.{unless_all}
+use Rattle.enc_atoms.specs.Steps.{Unless}
 use Rattle.enc_count.proofs.different.add_each_taken.Goals as goal
 
 pub loop-number-init : goal.loop-number-init

@@ -3,7 +3,7 @@ use Rattle.std.specs.List.{All}
 use Rattle.ep_base.specs.Numbers.{has_number}
 use Rattle.ep_flat.specs.Cons.{numbers_of_vars}
 use Rattle.enc_atoms.specs.Atoms.{Adds}
-use Rattle.enc_steps.specs.Steps.{Unless}
+use Rattle.enc_atoms.specs.Steps.{Unless}
 use Rattle.enc_count.proofs.different.add_each_taken.Given as goal
 
 abbrev pub invariant-loop-number : goal.invariant-loop-number

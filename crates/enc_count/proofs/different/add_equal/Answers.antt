@@ -2,8 +2,8 @@ use Rattle.std.proofs.Common.{◌≡◌, ◌∙◌, ℤ, pos, List, [], ◌∷�
 use Rattle.std.proofs.lemmas.Int.{to_z-of_z}
 use Rattle.enc_atoms.proofs.Adding.{adds_none, adds_one_more}
 use Rattle.enc_atoms.specs.Atoms.{Adds}
-use Rattle.enc_steps.proofs.Naming.{fails_as}
-use Rattle.enc_steps.specs.Steps.{Implied, Unless}
+use Rattle.enc_atoms.proofs.Naming.{fails_as}
+use Rattle.enc_atoms.specs.Steps.{Implied, Unless}
 use Rattle.enc_count.proofs.Differing.{equal_all}
 use Rattle.enc_count.proofs.different.add_equal.Goals as goal
 

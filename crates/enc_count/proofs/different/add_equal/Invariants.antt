@@ -1,7 +1,7 @@
 use Rattle.std.proofs.Common.{take}
 use Rattle.std.specs.List.{All}
 use Rattle.enc_atoms.specs.Atoms.{Adds}
-use Rattle.enc_steps.specs.Steps.{Implied, Unless}
+use Rattle.enc_atoms.specs.Steps.{Implied, Unless}
 use Rattle.enc_count.proofs.different.add_equal.Given as goal
 
 abbrev pub invariant-loop-number : goal.invariant-loop-number

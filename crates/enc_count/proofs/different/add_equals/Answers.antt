@@ -1,6 +1,6 @@
 use Rattle.std.proofs.Common.{◌≡◌, ℕ, ◌<◌, subst, get_or, length, arith}
 use Rattle.enc_atoms.specs.Atoms.{Adds}
-use Rattle.enc_steps.proofs.Guards.{adds_below_more, adds_below_none}
+use Rattle.enc_atoms.proofs.Guards.{adds_below_more, adds_below_none}
 use Rattle.enc_count.specs.Different.{AreEqual}
 use Rattle.enc_count.proofs.different.add_equals.Goals as goal
 

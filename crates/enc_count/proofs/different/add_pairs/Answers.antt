@@ -1,7 +1,7 @@
 use Rattle.std.proofs.Common.{ℕ}
 use Rattle.enc_atoms.proofs.Adding.{adds_all, adds_none, adds_one_more}
-use Rattle.enc_steps.proofs.Guards.{unless_all}
-use Rattle.enc_steps.specs.Steps.{Unless}
+use Rattle.enc_atoms.proofs.Guards.{unless_all}
+use Rattle.enc_atoms.specs.Steps.{Unless}
 use Rattle.enc_count.specs.Different.{Differ}
 use Rattle.enc_count.proofs.different.add_pairs.Goals as goal
 

@@ -1,8 +1,8 @@
 use Rattle.std.proofs.Common.{◌≡◌, ℕ, ◌∙◌, pos, List, length, subst, sym, ap, rules, vec_len}
 use Rattle.std.proofs.lemmas.Result.{on_ok_weaker}
-use Rattle.enc_steps.proofs.Naming.{atoms_of, truths_within}
-use Rattle.enc_steps.proofs.NewTruths.{length-numbers_from}
-use Rattle.enc_steps.specs.Steps.{are_all}
+use Rattle.enc_atoms.proofs.Naming.{atoms_of, truths_within}
+use Rattle.enc_atoms.proofs.NewTruths.{length-numbers_from}
+use Rattle.enc_atoms.specs.Steps.{are_all}
 use Rattle.enc_count.proofs.Differing.{pairs_within, some_equal_whole, within_later}
 use Rattle.enc_count.specs.Different.{AreWithin}
 use Rattle.enc_count.proofs.different.add_some_equal.Goals as goal

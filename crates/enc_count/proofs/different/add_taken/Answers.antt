@@ -3,9 +3,9 @@ use Rattle.std.proofs.lemmas.Int.{ints, to_z-of_z}
 use Rattle.std.proofs.lemmas.Result.{on_ok_weaker}
 use Rattle.ep_base.specs.Numbers.{has_number}
 use Rattle.ep_flat.specs.Cons.{numbers_of_vars}
-use Rattle.enc_steps.proofs.Guards.{unless_says}
-use Rattle.enc_steps.proofs.Naming.{atoms_of, one_is_says}
-use Rattle.enc_steps.specs.Steps.{are_all}
+use Rattle.enc_atoms.proofs.Guards.{unless_says}
+use Rattle.enc_atoms.proofs.Naming.{atoms_of, one_is_says}
+use Rattle.enc_atoms.specs.Steps.{are_all}
 use Rattle.enc_count.proofs.different.add_taken.Goals as goal
 
 pub add_guarded-requires-clause-names : goal.add_guarded-requires-clause-names

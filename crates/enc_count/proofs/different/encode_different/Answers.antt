@@ -2,7 +2,7 @@ use Rattle.std.proofs.Common.{refl}
 use Rattle.std.proofs.lemmas.Result.{on_ok_weaker}
 use Rattle.ep_base.specs.Numbers.{are_different}
 use Rattle.ep_flat.specs.Cons.{numbers_of_vars}
-use Rattle.enc_steps.proofs.Naming.{adds_plain, adds_some}
+use Rattle.enc_atoms.proofs.Naming.{adds_plain, adds_some}
 use Rattle.enc_count.proofs.different.encode_different.Goals as goal
 
 pub returns-in-None : goal.returns-in-None

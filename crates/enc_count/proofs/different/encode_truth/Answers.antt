@@ -2,7 +2,7 @@ use Rattle.std.proofs.Common.{[], ◌∷◌, ap}
 use Rattle.std.proofs.lemmas.Result.{on_ok_weaker}
 use Rattle.ep_base.specs.Numbers.{are_different}
 use Rattle.ep_flat.specs.Cons.{numbers_of_vars}
-use Rattle.enc_steps.proofs.Guards.{adds_decided}
+use Rattle.enc_atoms.proofs.Guards.{adds_decided}
 use Rattle.enc_count.proofs.different.encode_truth.Goals as goal
 
 pub returns : goal.returns

@@ -4,8 +4,8 @@ use Rattle.ep_base.specs.Numbers.{are_different, counts_hold}
 use Rattle.ep_base.specs.declared.operators.CompareOp.TheVariants as Op
 use Rattle.ep_flat.specs.Cons.{kind_holds, kind_variables, numbers_of_vars}
 use Rattle.ep_flat.specs.FlatViews.{plain_con, plain_kind}
-use Rattle.enc_steps.proofs.Naming.{keeps_con, kind_named, truth_named}
-use Rattle.enc_steps.specs.Steps.{AreOf}
+use Rattle.enc_atoms.proofs.Naming.{keeps_con, kind_named, truth_named}
+use Rattle.enc_atoms.specs.Steps.{AreOf}
 use Rattle.enc_count.proofs.Counting.{both_fit, kind_fit}
 use Rattle.enc_count.specs.Counts.{AreFit}
 use Rattle.enc_count.proofs.encode.encode_con.Goals as goal

@@ -3,8 +3,8 @@ use Rattle.std.proofs.lemmas.Result.{on_ok_weaker}
 use Rattle.ep_base.specs.Numbers.{is_row_of, lex_holds}
 use Rattle.ep_flat.specs.Cons.{kind_holds, kind_variables, numbers_of_vars}
 use Rattle.ep_flat.specs.FlatViews.{plain_con, plain_kind}
-use Rattle.enc_steps.proofs.Naming.{keeps_con, kind_named, truth_named}
-use Rattle.enc_steps.specs.Steps.{AreOf}
+use Rattle.enc_atoms.proofs.Naming.{keeps_con, kind_named, truth_named}
+use Rattle.enc_atoms.specs.Steps.{AreOf}
 use Rattle.enc_table.proofs.Links.{both_of}
 use Rattle.enc_table.proofs.encode.encode_con.Goals as goal
 

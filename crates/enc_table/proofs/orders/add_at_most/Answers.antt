@@ -3,7 +3,7 @@ use Rattle.std.proofs.lemmas.Int.{to_z-of_z}
 use Rattle.ep_flat.specs.Cons.{number_at}
 use Rattle.enc_atoms.proofs.Adding.{adds_none, adds_one_more}
 use Rattle.enc_atoms.specs.Atoms.{Adds}
-use Rattle.enc_steps.specs.Steps.{Unless}
+use Rattle.enc_atoms.specs.Steps.{Unless}
 use Rattle.enc_table.proofs.Links.{at_most_all}
 use Rattle.enc_table.proofs.orders.add_at_most.Goals as goal
 

@@ -2,7 +2,7 @@ use Rattle.std.proofs.Common.{◌≤ℤ◌, take}
 use Rattle.std.specs.List.{All}
 use Rattle.ep_flat.specs.Cons.{number_at}
 use Rattle.enc_atoms.specs.Atoms.{Adds}
-use Rattle.enc_steps.specs.Steps.{Unless}
+use Rattle.enc_atoms.specs.Steps.{Unless}
 use Rattle.enc_table.proofs.orders.add_at_most.Given as goal
 
 abbrev pub invariant-loop-number : goal.invariant-loop-number

@@ -1,7 +1,7 @@
 use Rattle.std.proofs.Common.{◌∙◌, ◌+◌, length, ap}
 use Rattle.std.proofs.lemmas.Result.{on_ok_weaker}
-use Rattle.enc_steps.proofs.Naming.{later_guard, later_vars, truths_within}
-use Rattle.enc_steps.proofs.NewTruths.{length-numbers_from}
+use Rattle.enc_atoms.proofs.Naming.{later_guard, later_vars, truths_within}
+use Rattle.enc_atoms.proofs.NewTruths.{length-numbers_from}
 use Rattle.enc_table.proofs.Links.{before_whole}
 use Rattle.enc_table.proofs.orders.add_before.Goals as goal
 

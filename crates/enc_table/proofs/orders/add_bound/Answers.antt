@@ -2,8 +2,8 @@ use Rattle.std.proofs.Common.{◌≡◌, ◌∙◌, ℤ, ◌≤ℤ◌, [], ◌�
 use Rattle.std.proofs.lemmas.Int.{ints, to_z-of_z}
 use Rattle.std.proofs.lemmas.Result.{on_ok_weaker}
 use Rattle.ep_flat.specs.Cons.{number_at}
-use Rattle.enc_steps.proofs.Guards.{unless_says}
-use Rattle.enc_steps.specs.Steps.{above, at_most}
+use Rattle.enc_atoms.proofs.Guards.{unless_says}
+use Rattle.enc_atoms.specs.Steps.{above, at_most}
 use Rattle.enc_table.proofs.Links.{bound_says}
 use Rattle.enc_table.proofs.orders.add_bound.Goals as goal
 

@@ -1,8 +1,8 @@
 use Rattle.std.proofs.Common.{◌≡◌, pos, [], ◌∷◌, ap}
 use Rattle.std.proofs.lemmas.Result.{on_ok_weaker}
 use Rattle.ep_flat.specs.Cons.{number_at}
-use Rattle.enc_steps.proofs.Guards.{clause_says}
-use Rattle.enc_steps.specs.Steps.{is_not}
+use Rattle.enc_atoms.proofs.Guards.{clause_says}
+use Rattle.enc_atoms.specs.Steps.{is_not}
 use Rattle.enc_table.proofs.Links.{broken_says}
 use Rattle.enc_table.proofs.orders.add_broken.Goals as goal
 

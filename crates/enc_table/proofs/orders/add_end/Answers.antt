@@ -1,5 +1,5 @@
 use Rattle.std.proofs.lemmas.Result.{on_ok_weaker}
-use Rattle.enc_steps.proofs.Meanings.{not_false}
+use Rattle.enc_atoms.proofs.Meanings.{not_false}
 use Rattle.enc_table.proofs.Links.{end_bad, end_good}
 use Rattle.enc_table.proofs.orders.add_end.Goals as goal
 

@@ -1,8 +1,8 @@
 use Rattle.std.proofs.Common.{◌≡◌, ◌∙◌, ℤ, pos, [], ◌∷◌, ap, w64, arith}
 use Rattle.std.proofs.lemmas.Int.{ints, to_z-of_z}
 use Rattle.std.proofs.lemmas.Result.{on_ok_weaker}
-use Rattle.enc_steps.proofs.Guards.{unless_says}
-use Rattle.enc_steps.specs.Steps.{above, is, is_not}
+use Rattle.enc_atoms.proofs.Guards.{unless_says}
+use Rattle.enc_atoms.specs.Steps.{above, is, is_not}
 use Rattle.enc_table.proofs.Links.{next_says}
 use Rattle.enc_table.specs.Orders.{IsNext}
 use Rattle.enc_table.proofs.orders.add_next.Goals as goal

@@ -2,7 +2,7 @@ use Rattle.std.proofs.Common.{◌≡◌, ◌∙◌, ℤ, pos, List, subst, get_o
 use Rattle.std.proofs.lemmas.Int.{to_z-of_z}
 use Rattle.enc_atoms.proofs.Adding.{adds_none, adds_one_more}
 use Rattle.enc_atoms.specs.Atoms.{Adds}
-use Rattle.enc_steps.specs.Steps.{Unless}
+use Rattle.enc_atoms.specs.Steps.{Unless}
 use Rattle.enc_table.proofs.Links.{nexts_all}
 use Rattle.enc_table.specs.Orders.{IsNext}
 use Rattle.enc_table.proofs.orders.add_nexts.Goals as goal

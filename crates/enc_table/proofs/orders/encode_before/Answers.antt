@@ -1,7 +1,7 @@
 use Rattle.std.proofs.Common.{refl}
 use Rattle.std.proofs.lemmas.Result.{on_ok_weaker}
 use Rattle.ep_flat.specs.Cons.{numbers_of_vars}
-use Rattle.enc_steps.proofs.Naming.{adds_plain, adds_some}
+use Rattle.enc_atoms.proofs.Naming.{adds_plain, adds_some}
 use Rattle.enc_table.specs.Orders.{is_before}
 use Rattle.enc_table.proofs.orders.encode_before.Goals as goal
 

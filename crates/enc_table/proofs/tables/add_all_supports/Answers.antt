@@ -1,7 +1,7 @@
 use Rattle.std.proofs.Common.{◌≡◌, ℕ, ◌<◌, length, subst, get_or, arith}
 use Rattle.enc_atoms.specs.Atoms.{Adds}
-use Rattle.enc_steps.proofs.Guards.{adds_below_more, adds_below_none}
-use Rattle.enc_steps.specs.Steps.{Unless}
+use Rattle.enc_atoms.proofs.Guards.{adds_below_more, adds_below_none}
+use Rattle.enc_atoms.specs.Steps.{Unless}
 use Rattle.enc_table.specs.Rows.{IsSupported}
 use Rattle.enc_table.proofs.tables.add_all_supports.Goals as goal
 

@@ -1,6 +1,6 @@
 use Rattle.std.proofs.Common.{ℕ, ◌<◌, get_or}
 use Rattle.enc_atoms.specs.Atoms.{Adds}
-use Rattle.enc_steps.specs.Steps.{Unless}
+use Rattle.enc_atoms.specs.Steps.{Unless}
 use Rattle.enc_table.specs.Rows.{IsSupported}
 use Rattle.enc_table.proofs.tables.add_all_supports.Given as goal
 

@@ -2,9 +2,9 @@ use Rattle.std.proofs.Common.{◌≡◌, ◌∙◌, ℤ, [], ◌∷◌, ap, w64,
 use Rattle.std.proofs.lemmas.Int.{ints, to_z-of_z}
 use Rattle.std.proofs.lemmas.Result.{on_ok_weaker}
 use Rattle.ep_flat.specs.Cons.{number_at}
-use Rattle.enc_steps.proofs.Guards.{unless_says}
-use Rattle.enc_steps.specs.Steps.{is}
-use Rattle.enc_steps.proofs.Meanings.{is_clause}
+use Rattle.enc_atoms.proofs.Guards.{unless_says}
+use Rattle.enc_atoms.specs.Steps.{is}
+use Rattle.enc_atoms.proofs.Meanings.{is_clause}
 use Rattle.enc_table.proofs.tables.add_is.Goals as goal
 
 pub returns : goal.returns

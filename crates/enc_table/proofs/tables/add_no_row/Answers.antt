@@ -3,8 +3,8 @@ use Rattle.std.proofs.lemmas.List.{get_or_read}
 use Rattle.ep_base.specs.Numbers.{same_numbers}
 use Rattle.ep_flat.specs.Cons.{numbers_of_vars}
 use Rattle.enc_atoms.specs.Atoms.{Adds}
-use Rattle.enc_steps.proofs.Guards.{adds_below_more, adds_below_none}
-use Rattle.enc_steps.specs.Steps.{Unless}
+use Rattle.enc_atoms.proofs.Guards.{adds_below_more, adds_below_none}
+use Rattle.enc_atoms.specs.Steps.{Unless}
 use Rattle.enc_table.proofs.RowLemmas.{fits_at, none_whole}
 use Rattle.enc_table.proofs.tables.add_no_row.Goals as goal
 

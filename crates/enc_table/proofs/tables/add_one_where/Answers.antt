@@ -3,8 +3,8 @@ use Rattle.std.proofs.lemmas.Int.{ints, to_z-of_z}
 use Rattle.std.proofs.lemmas.List.Elements.{All-push}
 use Rattle.std.proofs.lemmas.Result.{on_ok_weaker}
 use Rattle.enc_atoms.specs.declared.atoms.Atom.{Atom}
-use Rattle.enc_steps.proofs.Naming.{atoms_of}
-use Rattle.enc_steps.specs.Steps.{AreAtomsOf, is_not}
+use Rattle.enc_atoms.proofs.Naming.{atoms_of}
+use Rattle.enc_atoms.specs.Steps.{AreAtomsOf, is_not}
 use Rattle.enc_table.proofs.Supports.{one_where}
 use Rattle.enc_table.proofs.tables.add_one_where.Goals as goal
 

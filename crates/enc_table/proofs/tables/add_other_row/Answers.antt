@@ -1,7 +1,7 @@
 use Rattle.std.proofs.Common.{◌∙◌, List, subst, sym}
 use Rattle.std.proofs.lemmas.Result.{on_ok_weaker}
 use Rattle.enc_atoms.specs.declared.atoms.Atom.{Atom}
-use Rattle.enc_steps.specs.Steps.{AreAtomsOf}
+use Rattle.enc_atoms.specs.Steps.{AreAtomsOf}
 use Rattle.enc_table.proofs.RowLemmas.{others_clause, others_within}
 use Rattle.enc_table.proofs.tables.add_other_row.Goals as goal
 

@@ -2,8 +2,8 @@ use Rattle.std.proofs.Common.{◌≡◌, ℤ, pos, List, length, subst, get_or, 
 use Rattle.std.proofs.lemmas.Int.{to_z-of_z}
 use Rattle.ep_flat.specs.Cons.{number_at}
 use Rattle.enc_atoms.specs.Atoms.{Adds}
-use Rattle.enc_steps.proofs.Guards.{adds_below_more, adds_below_none}
-use Rattle.enc_steps.specs.Steps.{Unless}
+use Rattle.enc_atoms.proofs.Guards.{adds_below_more, adds_below_none}
+use Rattle.enc_atoms.specs.Steps.{Unless}
 use Rattle.enc_table.proofs.RowLemmas.{row_whole}
 use Rattle.enc_table.proofs.tables.add_row.Goals as goal
 

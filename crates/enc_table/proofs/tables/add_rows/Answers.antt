@@ -1,7 +1,7 @@
 use Rattle.std.proofs.Common.{◌≡◌, ℕ, ◌<◌, ◌∙◌, pos, [], ◌∷◌, length, ap, subst, get_or, arith}
 use Rattle.std.proofs.lemmas.List.{get_or_read}
 use Rattle.enc_atoms.specs.Atoms.{Adds}
-use Rattle.enc_steps.proofs.Guards.{adds_below_more, adds_below_none}
+use Rattle.enc_atoms.proofs.Guards.{adds_below_more, adds_below_none}
 use Rattle.enc_table.proofs.RowLemmas.{fits_at, guard_of, row_where}
 use Rattle.enc_table.specs.Rows.{IsRowWhere}
 use Rattle.enc_table.proofs.tables.add_rows.Goals as goal

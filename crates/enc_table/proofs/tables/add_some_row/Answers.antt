@@ -1,9 +1,9 @@
 use Rattle.std.proofs.Common.{◌∙◌, ℕ, ◌<◌, pos, List, length, sym, ap, refl, get_or, subst}
 use Rattle.std.proofs.lemmas.Result.{on_ok_weaker}
 use Rattle.enc_atoms.specs.Atoms.{Adds}
-use Rattle.enc_steps.proofs.Naming.{atoms_of, later_guard, later_vars, truths_within}
-use Rattle.enc_steps.proofs.NewTruths.{length-numbers_from}
-use Rattle.enc_steps.specs.Steps.{Unless, are_all}
+use Rattle.enc_atoms.proofs.Naming.{atoms_of, later_guard, later_vars, truths_within}
+use Rattle.enc_atoms.proofs.NewTruths.{length-numbers_from}
+use Rattle.enc_atoms.specs.Steps.{Unless, are_all}
 use Rattle.enc_table.proofs.Supports.{some_whole}
 use Rattle.enc_table.specs.Rows.{IsSupported}
 use Rattle.enc_table.proofs.tables.add_some_row.Goals as goal

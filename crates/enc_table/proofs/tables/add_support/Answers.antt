@@ -4,7 +4,7 @@ use Rattle.std.proofs.lemmas.Result.{on_ok_weaker}
 use Rattle.ep_base.specs.Numbers.{has_number}
 use Rattle.ep_flat.specs.Cons.{number_at, numbers_of_vars}
 use Rattle.enc_atoms.specs.Atoms.{Adds}
-use Rattle.enc_steps.specs.Steps.{AreOf, Unless}
+use Rattle.enc_atoms.specs.Steps.{AreOf, Unless}
 use Rattle.enc_table.proofs.Supports.{having_within}
 use Rattle.enc_table.specs.Rows.{truths_having}
 use Rattle.enc_table.proofs.tables.add_support.Goals as goal

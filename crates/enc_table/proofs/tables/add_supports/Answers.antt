@@ -4,7 +4,7 @@ use Rattle.ep_base.specs.Numbers.{has_number}
 use Rattle.ep_flat.specs.Cons.{number_at, numbers_of_vars}
 use Rattle.enc_atoms.proofs.Adding.{adds_none, adds_one_more}
 use Rattle.enc_atoms.specs.Atoms.{Adds}
-use Rattle.enc_steps.specs.Steps.{Unless}
+use Rattle.enc_atoms.specs.Steps.{Unless}
 use Rattle.enc_table.proofs.Supports.{supports_whole}
 use Rattle.enc_table.specs.Rows.{truths_having}
 use Rattle.enc_table.proofs.tables.add_supports.Goals as goal

@@ -3,7 +3,7 @@ use Rattle.std.specs.List.{list_any}
 use Rattle.std.proofs.lemmas.Result.{on_ok_weaker}
 use Rattle.ep_base.specs.Numbers.{same_numbers}
 use Rattle.ep_flat.specs.Cons.{numbers_of_vars}
-use Rattle.enc_steps.proofs.Naming.{adds_plain, adds_some}
+use Rattle.enc_atoms.proofs.Naming.{adds_plain, adds_some}
 use Rattle.enc_table.proofs.tables.encode_rows.Goals as goal
 
 pub returns-in-None : goal.returns-in-None

@@ -1,6 +1,6 @@
 use Rattle.std.proofs.Common.{◌≡◌, ◌∙◌, ℤ, pos, List, ap, get_or, w64, to_z, of_z, rules}
 use Rattle.std.proofs.lemmas.Int.{to_z-of_z}
-use Rattle.enc_steps.specs.Steps.{is_not}
+use Rattle.enc_atoms.specs.Steps.{is_not}
 use Rattle.enc_table.proofs.RowLemmas.{others_end, others_step}
 use Rattle.enc_table.proofs.tables.others_than.Goals as goal
 

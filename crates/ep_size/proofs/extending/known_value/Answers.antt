@@ -1,6 +1,6 @@
 use Rattle.std.proofs.Common.{ap, ◌∙◌}
 use Rattle.ep_eval.specs.Helds.{seen_held}
-use Rattle.ep_laws.proofs.FixedLimits.{extent_fixed}
+use Rattle.ep_tree_laws.proofs.FixedLimits.{extent_fixed}
 use Rattle.ep_tree.specs.Evaluation.{type_in}
 use Rattle.ep_tree.specs.Reach.{fixed_extent}
 use Rattle.ep_tree.specs.Views.{expr_tree}

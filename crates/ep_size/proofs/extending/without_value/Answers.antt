@@ -1,6 +1,6 @@
 use Rattle.std.proofs.Common.{ap, sym, ◌∙◌}
 use Rattle.std.specs.Prelude.{None, if◌then◌else◌}
-use Rattle.ep_laws.proofs.FixedLimits.{extent_fixed}
+use Rattle.ep_tree_laws.proofs.FixedLimits.{extent_fixed}
 use Rattle.ep_tree.specs.Evaluation.{type_in}
 use Rattle.ep_tree.specs.Reach.{fixed_extent, fixed_span, no_extent}
 use Rattle.ep_tree.specs.Types.{is_integer}

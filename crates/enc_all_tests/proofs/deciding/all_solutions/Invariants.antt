@@ -1,0 +1,11 @@
+use Rattle.std.proofs.Common.{◌≡◌, ◌≤◌, false}
+use Rattle.cnf_core.specs.Events.{clauses_of, nonempty_steps}
+use Rattle.sat_search.specs.Logs.{IsSound}
+use Rattle.enc_all_tests.proofs.deciding.all_solutions.Given as goal
+
+abbrev pub invariant-loop-turn : goal.invariant-loop-turn
+invariant-loop-turn l = record {
+  sound : IsSound l.log.events;
+  clauses : l.solver.broken ≡ false → l.solver.clauses ≡ clauses_of l.log.events;
+  budget : nonempty_steps l.log.events ≤ 1000000;
+}

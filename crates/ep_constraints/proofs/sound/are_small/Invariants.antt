@@ -1,6 +1,0 @@
-use Rattle.std.proofs.Common.{take}
-use Rattle.ep_flat.specs.Flats.{HaveSmallNumbers}
-use Rattle.ep_constraints.proofs.sound.are_small.Given as goal
-
-abbrev pub invariant-loop-domain : goal.invariant-loop-domain
-invariant-loop-domain l = HaveSmallNumbers (take l.domain-index l.domains)

@@ -1,0 +1,189 @@
+-- How many conflicts words allow.
+use Rattle.std.proofs.Common.{◌≡◌, ℕ, ◌≤◌, Bool, true, false, ◌&&◌, if◌then◌else◌, nat_eq, nat_le, zero, suc, length, codes, List, Option, Some, None, option_map, option_and_then, unwrap_or, bytes_eq, inl, inr, refl, sym, subst, arith}
+use Rattle.std.proofs.lemmas.Bool.{cases_Bool}
+use Rattle.std.proofs.lemmas.Bool.Decides.{nat_tests}
+use Rattle.std.specs.Str.Parse.{digits_value}
+use Rattle.ep_base.specs.TokenTexts.{is_number}
+use Rattle.ep_words.specs.Jobs.{check_job, check_options, conflicts_of as set_conflicts, enumerate_job, enumerate_options, generate_job, generate_options, job_of, mode_of, number_or, number_within, sets_only, solution_count, solve_job, solve_options, verify_job, verify_options, workers_of}
+use Rattle.ep_words.specs.Settings.{Setting, Text, value_of}
+use Rattle.ep_tree.specs.declared.values.Mode.{Mode}
+use Rattle.ep_driver.specs.Commands.{Want, conflicts_of, wanted_of}
+use Rattle.ep_driver.specs.Searches.{HasTexts, IsSearchFor}
+use Rattle.ep_words.specs.declared.job.Job.{Job}
+use Rattle.ep_driver.specs.declared.wanted.Outputs.{Outputs}
+use Rattle.ep_driver.specs.declared.wanted.Request.{Request}
+use Rattle.ep_driver.specs.declared.wanted.Wanted.{Wanted}
+
+-- ---- options
+
+if-chosen : {A : Type 0} (P : A → Type 0) (test : Bool) (o : Option A) (x : A) → ((y : A) → o ≡ Some y → P y) → (if test then o else None) ≡ Some x → P x
+if-chosen P true o x all e = all x e
+if-chosen P false o x all e = absurd cc
+
+all-and-then : {A B : Type 0} (P : B → Type 0) (f : A → Option B) → ((a : A) (b : B) → f a ≡ Some b → P b) → (o : Option A) (b : B) → option_and_then f o ≡ Some b → P b
+all-and-then P f all None b e = absurd cc
+all-and-then P f all (Some a) b e = all a b e
+
+all-within : {A B : Type 0} (P : B → Type 0) (f : A → Option B) (o : Option A) → ((a : A) → o ≡ Some a → (b : B) → f a ≡ Some b → P b) → (b : B) → option_and_then f o ≡ Some b → P b
+all-within P f None all b e = absurd cc
+all-within P f (Some a) all b e = all a refl b e
+
+all-mapped : {A B : Type 0} (P : B → Type 0) (f : A → B) (o : Option A) → ((a : A) → o ≡ Some a → P (f a)) → (b : B) → option_map f o ≡ Some b → P b
+all-mapped P f None all b e = absurd cc
+all-mapped P f (Some a) all b e = let same : f a ≡ b = cc in subst P same (all a refl)
+
+-- ---- numbers
+
+tested-number : (digits : Bool) (value most n : ℕ) → (if digits && (nat_le 1 value && nat_le value most) then Some value else None) ≡ Some n → 1 ≤ n
+tested-number true zero most n e = absurd cc
+tested-number true (suc value) most n e = if-chosen (λ m. 1 ≤ m) (nat_le 1 (suc value) && nat_le (suc value) most) (Some (suc value)) n (λ m same. let here : suc value ≡ m = cc in omega (arith, here)) e
+tested-number false value most n e = absurd cc
+
+set-number : (text : Option Text) (n : ℕ) → number_or 1000000 (number_within 1 1000000000) text ≡ Some n → 1 ≤ n
+set-number None n e = let same : 1000000 ≡ n = cc in omega (arith, same)
+set-number (Some text) n e = tested-number (is_number text && nat_le (length text) 10) (digits_value 10 text) 1000000000 n e
+
+at-most : (a b : ℕ) → nat_le a b ≡ true → a ≤ b
+at-most a b e = grind (arith, nat_tests)
+
+last-of : (a b c : Bool) → (a && (b && c)) ≡ true → c ≡ true
+last-of true true c e = e
+last-of true false c e = absurd cc
+last-of false b c e = absurd cc
+
+if-tested : {A : Type 0} (P : A → Type 0) (test : Bool) (o : Option A) (x : A) → (test ≡ true → (y : A) → o ≡ Some y → P y) → (if test then o else None) ≡ Some x → P x
+if-tested P true o x all e = all refl x e
+if-tested P false o x all e = absurd cc
+
+bounded-number : (digits : Bool) (value most n : ℕ) → (if digits && (nat_le 0 value && nat_le value most) then Some value else None) ≡ Some n → n ≤ most
+bounded-number digits value most n e =
+    if-tested (λ m. m ≤ most) (digits && (nat_le 0 value && nat_le value most)) (Some value) n
+    (λ t m same.
+    let here : value ≡ m = cc in
+    let low : value ≤ most = at-most value most (last-of digits (nat_le 0 value) (nat_le value most) t) in
+    subst (λ (k : ℕ). k ≤ most) here low)
+    e
+
+kept-number : (text : Text) (n : ℕ) → number_within 0 1000000000 text ≡ Some n → n ≤ 1000000000
+kept-number text n e = bounded-number (is_number text && nat_le (length text) 10) (digits_value 10 text) 1000000000 n e
+
+-- ---- jobs
+
+-- a search of this job may take a conflict, and its number has texts
+abbrev HasBudget : Job → Type 0
+HasBudget (Job.Solve _ _ conflicts _ _ _ _) = 1 ≤ conflicts
+HasBudget (Job.Enumerate _ _ _ conflicts _ _ _ _) = 1 ≤ conflicts
+HasBudget (Job.Verify _ _ _ _) = Unit {0}
+HasBudget (Job.Check _ _ _) = Unit {0}
+HasBudget (Job.Generate number conflicts _ _) = (1 ≤ conflicts) × (number ≤ 1000000000)
+
+solve-budget : (s : List Setting) (job : Job) → solve_job s ≡ Some job → HasBudget job
+solve-budget s job e =
+    let make : Text → ℕ → Mode → Job = λ m n u. Job.Solve m (value_of (codes "in-param") s) n (value_of (codes "out-solution") s) (value_of (codes "out-cnf") s) (value_of (codes "out-log") s) u in
+    all-and-then HasBudget (λ m. option_and_then (λ n. option_map (make m n) (mode_of s)) (set_conflicts s))
+    (λ m. all-within HasBudget (λ n. option_map (make m n) (mode_of s)) (set_conflicts s)
+    (λ n f. all-mapped HasBudget (make m n) (mode_of s) (λ u g. set-number (value_of (codes "conflicts") s) n f)))
+    (value_of (codes "in-eprime") s) job e
+
+enumerate-budget : (s : List Setting) (job : Job) → enumerate_job s ≡ Some job → HasBudget job
+enumerate-budget s job e =
+    let make : Text → ℕ → ℕ → Mode → Job = λ m most n u. Job.Enumerate m (value_of (codes "in-param") s) most n (value_of (codes "out-solution") s) (value_of (codes "out-cnf") s) (value_of (codes "out-log") s) u in
+    let most : Option ℕ = option_and_then solution_count (value_of (codes "solutions") s) in
+    all-and-then HasBudget (λ m. option_and_then (λ k. option_and_then (λ n. option_map (make m k n) (mode_of s)) (set_conflicts s)) most)
+    (λ m. all-and-then HasBudget (λ k. option_and_then (λ n. option_map (make m k n) (mode_of s)) (set_conflicts s))
+    (λ k. all-within HasBudget (λ n. option_map (make m k n) (mode_of s)) (set_conflicts s)
+    (λ n f. all-mapped HasBudget (make m k n) (mode_of s) (λ u g. set-number (value_of (codes "conflicts") s) n f))) most)
+    (value_of (codes "in-eprime") s) job e
+
+verify-budget : (s : List Setting) (job : Job) → verify_job s ≡ Some job → HasBudget job
+verify-budget s job e =
+    let make : Text → Text → Mode → Job = λ m t u. Job.Verify m t (value_of (codes "in-param") s) u in
+    all-and-then HasBudget (λ m. option_and_then (λ t. option_map (make m t) (mode_of s)) (value_of (codes "in-solution") s))
+    (λ m. all-and-then HasBudget (λ t. option_map (make m t) (mode_of s))
+    (λ t. all-mapped HasBudget (make m t) (mode_of s) (λ u f. tt)) (value_of (codes "in-solution") s))
+    (value_of (codes "in-eprime") s) job e
+
+check-budget : (s : List Setting) (job : Job) → check_job s ≡ Some job → HasBudget job
+check-budget s job e =
+    all-and-then HasBudget (λ m. option_and_then (λ l. option_map (Job.Check m l) (workers_of s)) (value_of (codes "in-log") s))
+    (λ m. all-and-then HasBudget (λ l. option_map (Job.Check m l) (workers_of s))
+    (λ l. all-mapped HasBudget (Job.Check m l) (workers_of s) (λ n f. tt)) (value_of (codes "in-log") s))
+    (value_of (codes "in-cnf") s) job e
+
+generate-budget : (s : List Setting) (job : Job) → generate_job s ≡ Some job → HasBudget job
+generate-budget s job e =
+    let make : ℕ → ℕ → Job = λ k n. Job.Generate k n (value_of (codes "out-eprime") s) (value_of (codes "out-param") s) in
+    let number : Option ℕ = option_and_then (number_within 0 1000000000) (value_of (codes "number") s) in
+    all-within HasBudget (λ k. option_map (make k) (set_conflicts s)) number
+    (λ k f. all-mapped HasBudget (make k) (set_conflicts s)
+    (λ n g. (set-number (value_of (codes "conflicts") s) n g, all-and-then (λ m. m ≤ 1000000000) (number_within 0 1000000000) kept-number (value_of (codes "number") s) k f))) job e
+
+job-budget : (s : List Setting) (job : Job) → job_of s ≡ Some job → HasBudget job
+job-budget s job e =
+    let name = unwrap_or (value_of (codes "task") s) (codes "solve") in
+    elim (cases_Bool (bytes_eq name (codes "solve"))) [
+      | inl solve ↦ if-chosen HasBudget (sets_only solve_options s) (solve_job s) job (λ k f. solve-budget s k f) (rw solve at e)
+      | inr a ↦ let e1 = rw a at e in elim (cases_Bool (bytes_eq name (codes "enumerate"))) [
+        | inl enumerate ↦ if-chosen HasBudget (sets_only enumerate_options s) (enumerate_job s) job (λ k f. enumerate-budget s k f) (rw enumerate at e1)
+        | inr b ↦ let e2 = rw b at e1 in elim (cases_Bool (bytes_eq name (codes "verify"))) [
+          | inl verify ↦ if-chosen HasBudget (sets_only verify_options s) (verify_job s) job (λ k f. verify-budget s k f) (rw verify at e2)
+          | inr c ↦ let e3 = rw c at e2 in elim (cases_Bool (bytes_eq name (codes "check"))) [
+            | inl check ↦ if-chosen HasBudget (sets_only check_options s) (check_job s) job (λ k f. check-budget s k f) (rw check at e3)
+            | inr d ↦ let e4 = rw d at e3 in elim (cases_Bool (bytes_eq name (codes "generate"))) [
+              | inl generate ↦ if-chosen HasBudget (sets_only generate_options s) (generate_job s) job (λ k f. generate-budget s k f) (rw generate at e4)
+              | inr f ↦ let none = rw f at e4 in absurd cc
+            ]
+          ]
+        ]
+      ]
+    ]
+
+-- ---- what is wanted
+
+-- a search that is wanted may take a conflict, and a number that is wanted has texts
+abbrev IsAllowed : Wanted → Type 0
+IsAllowed (Wanted.Search _ _ _ request _) = 1 ≤ conflicts_of request
+IsAllowed (Wanted.Verify _ _ _ _) = Unit {0}
+IsAllowed (Wanted.Check _ _) = Unit {0}
+IsAllowed (Wanted.Generate number conflicts eprime param) = (1 ≤ conflicts) × (number ≤ 1000000000)
+
+wanted-allowed : (job : Job) → HasBudget job → (wanted : Wanted) → wanted_of job ≡ Some wanted → IsAllowed wanted
+unfolding wanted_of conflicts_of
+wanted-allowed (Job.Solve m p n o c l u) has wanted e =
+    let outputs : Outputs = record { formula = c; log = l; solution = o } in
+    let same : Wanted.Search m p u (Request.One n) outputs ≡ wanted = cc in
+    subst IsAllowed same has
+wanted-allowed (Job.Enumerate m p most n o c l u) has wanted e =
+    let outputs : Outputs = record { formula = c; log = l; solution = o } in
+    let same : Wanted.Search m p u (Request.Many most n) outputs ≡ wanted = cc in
+    subst IsAllowed same has
+wanted-allowed (Job.Verify m t p u) has wanted e =
+    let same : Wanted.Verify m p u t ≡ wanted = cc in subst IsAllowed same tt
+wanted-allowed (Job.Check c l w) has wanted e =
+    if-chosen IsAllowed (nat_eq w 1) (Some (Wanted.Check c l)) wanted (λ y f. let same : Wanted.Check c l ≡ y = cc in subst IsAllowed same tt) e
+wanted-allowed (Job.Generate k n f q) has wanted e =
+    let same : Wanted.Generate k n f q ≡ wanted = cc in subst IsAllowed same has
+
+wants-allowed : (words : List (List ℕ)) (wanted : Wanted) → Want words wanted → IsAllowed wanted
+wants-allowed words wanted want =
+    wanted-allowed want.0 (job-budget want.1.settings want.0 want.1.asks) wanted want.2
+
+allowed-budget : (wanted : Wanted) (conflicts : ℕ) → IsAllowed wanted → IsSearchFor wanted conflicts → 1 ≤ conflicts
+allowed-budget (Wanted.Search m p u request o) conflicts allowed is = subst (λ (n : ℕ). 1 ≤ n) (sym is) allowed
+allowed-budget (Wanted.Verify m p u s) conflicts allowed is = absurd is
+allowed-budget (Wanted.Check f l) conflicts allowed is = absurd is
+allowed-budget (Wanted.Generate number most eprime param) conflicts allowed is = subst (λ (n : ℕ). 1 ≤ n) (sym is) allowed.0
+
+allowed-texts : (wanted : Wanted) → IsAllowed wanted → HasTexts wanted
+allowed-texts (Wanted.Search m p u request o) allowed = tt
+allowed-texts (Wanted.Verify m p u s) allowed = tt
+allowed-texts (Wanted.Check f l) allowed = tt
+allowed-texts (Wanted.Generate number conflicts eprime param) allowed = allowed.1
+
+-- words that want a search allow it a conflict
+pub wants-budget : (words : List (List ℕ)) (wanted : Wanted) (conflicts : ℕ) → Want words wanted → IsSearchFor wanted conflicts → 1 ≤ conflicts
+wants-budget words wanted conflicts want is = allowed-budget wanted conflicts (wants-allowed words wanted want) is
+
+-- a number that words want has texts
+pub wants-texts : (words : List (List ℕ)) (wanted : Wanted) → Want words wanted → HasTexts wanted
+wants-texts words wanted want = allowed-texts wanted (wants-allowed words wanted want)

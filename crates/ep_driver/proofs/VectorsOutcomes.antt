@@ -1,0 +1,182 @@
+-- Worked examples of what commands want, of what texts come to, and of what is said, computed by the checker.
+use Rattle.std.proofs.Common.{◌≡◌, ℕ, List, [], ◌∷◌, negsuc, codes, Some, None, Err, refl}
+use Rattle.std.specs.Fmt.{digits}
+use Rattle.ep_base.specs.declared.places.Place.{Place}
+use Rattle.ep_print.specs.declared.refusals.Refusal.{Refusal}
+use Rattle.ep_print.specs.declared.refusals.TextFile.{TextFile}
+use Rattle.ep_print.specs.Listings.{complete, spent, stopped}
+use Rattle.ep_tree.specs.Solutions.{a_solution, goal_undefined, violates}
+use Rattle.ep_tree.specs.Statements.{TextTree, constraints, letting}
+use Rattle.ep_tree.specs.Trees.{ExprTree, named}
+use Rattle.ep_tree.specs.declared.values.Mode.{Mode}
+use Rattle.ep_tree.specs.Faults.{clause_faults, declaration_faults, faults, faults_after, name_faults, params_faults, stated_faults, statement_faults, text_faults, type_fault, unless}
+use Rattle.ep_tree.specs.StatementSpelling.{is_letting}
+use Rattle.ep_tree.specs.Types.{from_one, judge, named_type}
+use Rattle.ep_words.specs.declared.job.Job.{Job}
+use Rattle.log_check.specs.declared.Verdict.TheVariants.{BadStep, NoEmptyClause, Verified}
+use Rattle.ep_driver.specs.Answers.{judgement_status, judgement_text, listing_status, verdict_status, verdict_text}
+use Rattle.ep_driver.specs.Commands.{no_outputs, wanted_of}
+use Rattle.ep_driver.specs.Outputs.{a_formula, an_answer, in_order, named as named_files, steps}
+use Rattle.ep_driver.specs.Outcomes.{fault_refusal, search_outcome, unless_refused, verify_outcome}
+use Rattle.ep_driver.specs.Status.{exit_code, status_of}
+use Rattle.ep_driver.specs.declared.wanted.Request.{Request}
+use Rattle.ep_driver.specs.declared.wanted.Wanted.{Wanted}
+
+-- ---- what is wanted
+
+abbrev m : List ℕ
+m = codes "m"
+
+abbrev s : List ℕ
+s = codes "s"
+
+solve-runs : wanted_of (Job.Solve m None 7 None None None Mode.Strict) ≡ Some (Wanted.Search m None Mode.Strict (Request.One 7) no_outputs)
+unfolding wanted_of
+solve-runs = refl
+
+answers-are-written : wanted_of (Job.Solve m None 7 (Some s) None None Mode.Relational) ≡ Some (Wanted.Search m None Mode.Relational (Request.One 7) (record { formula = None; log = None; solution = Some s }))
+unfolding wanted_of
+answers-are-written = refl
+
+enumerate-runs : wanted_of (Job.Enumerate m (Some s) 10 7 None None None Mode.Strict) ≡ Some (Wanted.Search m (Some s) Mode.Strict (Request.Many 10 7) no_outputs)
+unfolding wanted_of
+enumerate-runs = refl
+
+formulas-are-written : wanted_of (Job.Solve m None 7 None (Some s) (Some m) Mode.Relational) ≡ Some (Wanted.Search m None Mode.Relational (Request.One 7) (record { formula = Some s; log = Some m; solution = None }))
+unfolding wanted_of
+formulas-are-written = refl
+
+-- the formula is written first, and the answer last
+formula-first : in_order (record { formula = Some m; log = Some s; solution = Some m }) ≡ record { content = a_formula; name = m } ∷ record { content = steps; name = s } ∷ record { content = an_answer; name = m } ∷ []
+unfolding in_order named_files
+formula-first = refl
+
+verify-runs : wanted_of (Job.Verify m s (Some m) Mode.Strict) ≡ Some (Wanted.Verify m (Some m) Mode.Strict s)
+unfolding wanted_of
+verify-runs = refl
+
+check-runs : wanted_of (Job.Check m s 1) ≡ Some (Wanted.Check m s)
+unfolding wanted_of
+check-runs = refl
+
+workers-dont-run : wanted_of (Job.Check m s 2) ≡ None
+unfolding wanted_of
+workers-dont-run = refl
+
+-- ---- faults: those of the model come first, then those of the parameters, then those of the solution text
+
+abbrev at : ℕ → ℕ → Place
+at line column = record { line = line; column = column }
+
+abbrev unknown : ℕ → ExprTree
+unknown column = named (at 1 column) (codes "y")
+
+abbrev faulty-model : TextTree
+faulty-model = constraints (at 1 1) (unknown 11 ∷ []) ∷ []
+
+abbrev faulty-params : TextTree
+faulty-params = letting (at 1 1) (codes "n") (at 1 9) None (unknown 14) ∷ []
+
+model-first : search_outcome Mode.Strict (Request.One 7) faulty-model faulty-params ≡ Err (Refusal.UnknownName TextFile.Model (at 1 11) (codes "y") ∷ [])
+unfolding clause_faults fault_refusal faults faults_after from_one judge name_faults named_type search_outcome statement_faults text_faults type_fault unless_refused
+model-first = refl
+
+params-next : search_outcome Mode.Strict (Request.One 7) [] faulty-params ≡ Err (Refusal.UnknownName TextFile.Params (at 1 14) (codes "y") ∷ [])
+unfolding declaration_faults fault_refusal faults faults_after is_letting name_faults params_faults search_outcome stated_faults statement_faults text_faults unless unless_refused
+params-next = refl
+
+solution-last : verify_outcome Mode.Relational [] [] faulty-params ≡ Err (Refusal.UnknownName TextFile.Solution (at 1 14) (codes "y") ∷ [])
+unfolding declaration_faults fault_refusal faults faults_after is_letting name_faults params_faults stated_faults statement_faults text_faults unless unless_refused verify_outcome
+solution-last = refl
+
+params-before-solution : verify_outcome Mode.Relational [] faulty-params faulty-params ≡ Err (Refusal.UnknownName TextFile.Params (at 1 14) (codes "y") ∷ [])
+unfolding declaration_faults fault_refusal faults faults_after is_letting name_faults params_faults stated_faults statement_faults text_faults unless unless_refused verify_outcome
+params-before-solution = refl
+
+-- ---- what is said of an assignment
+
+solution-says : judgement_text (a_solution None) ≡ codes "$ solution\n"
+unfolding judgement_text
+solution-says = refl
+
+objective-says : judgement_text (a_solution (Some (negsuc 2))) ≡ codes "$ solution objective -3\n"
+unfolding digits judgement_text
+objective-says = refl
+
+violated-says : judgement_text (violates 12) ≡ codes "$ violated 12\n"
+unfolding digits judgement_text
+violated-says = refl
+
+undefined-says : judgement_text goal_undefined ≡ codes "$ objective undefined\n"
+unfolding judgement_text
+undefined-says = refl
+
+solution-ends : exit_code (judgement_status (a_solution None)) ≡ 0
+unfolding judgement_status
+solution-ends = refl
+
+violated-ends : exit_code (judgement_status (violates 1)) ≡ 7
+unfolding judgement_status
+violated-ends = refl
+
+undefined-ends : exit_code (judgement_status goal_undefined) ≡ 7
+unfolding judgement_status
+undefined-ends = refl
+
+-- ---- what is said of a proof
+
+verified-says : verdict_text Verified ≡ codes "$ verified\n"
+unfolding verdict_text
+verified-says = refl
+
+bad-step-says : verdict_text (BadStep 12) ≡ codes "$ bad step 12\n"
+unfolding digits verdict_text
+bad-step-says = refl
+
+unfinished-says : verdict_text NoEmptyClause ≡ codes "$ no empty clause\n"
+unfolding verdict_text
+unfinished-says = refl
+
+verified-ends : exit_code (verdict_status Verified) ≡ 0
+unfolding verdict_status
+verified-ends = refl
+
+bad-step-ends : exit_code (verdict_status (BadStep 1)) ≡ 7
+unfolding verdict_status
+bad-step-ends = refl
+
+unfinished-ends : exit_code (verdict_status NoEmptyClause) ≡ 7
+unfolding verdict_status
+unfinished-ends = refl
+
+-- ---- lists
+
+complete-ends : exit_code (listing_status complete) ≡ 0
+unfolding listing_status
+complete-ends = refl
+
+stopped-ends : exit_code (listing_status stopped) ≡ 0
+unfolding listing_status
+stopped-ends = refl
+
+spent-ends : exit_code (listing_status (spent 12)) ≡ 1
+unfolding listing_status
+spent-ends = refl
+
+-- ---- codes
+
+usage-code : exit_code (status_of Refusal.Usage) ≡ 2
+unfolding status_of
+usage-code = refl
+
+fault-code : exit_code (status_of (Refusal.WhereFalse 1)) ≡ 3
+unfolding status_of
+fault-code = refl
+
+device-code : exit_code (status_of (Refusal.CannotRead m)) ≡ 5
+unfolding status_of
+device-code = refl
+
+write-code : exit_code (status_of (Refusal.CannotWrite m)) ≡ 5
+unfolding status_of
+write-code = refl

@@ -1,0 +1,141 @@
+use Rattle.std.proofs.lemmas.Result.{err_from_is_err_and}
+use Rattle.std.proofs.Common.{[], ◌∷◌, ◌++◌, Err, option_to_list, sym, subst}
+use Rattle.cnf_core.specs.Events.{LogState}
+use Rattle.ep_base.proofs.PutSteps.{rose_later}
+use Rattle.ep_base.specs.Outside.{Rose}
+use Rattle.ep_print.specs.declared.refusals.TextFile.{TextFile}
+use Rattle.ep_tree.specs.Views.{model_tree}
+use Rattle.ep_driver.specs.Commands.{files_of}
+use Rattle.ep_driver.specs.Readings.{IsFormulaReadAs, IsReadAs, IsReadBy, IsTextReadAs}
+use Rattle.ep_driver.specs.Shown.{ComesTo, comes_to_check, comes_to_generate, comes_to_search, comes_to_verify}
+use Rattle.ep_driver.specs.Searches.{HasTexts}
+use Rattle.ep_solve.specs.Right.{empty_log}
+use Rattle.ep_driver.specs.Steps.{EndsAs, TellsTask, formula_clauses}
+use Rattle.ep_driver.specs.declared.wanted.Wanted.{Wanted}
+use Rattle.ep_driver.proofs.Chains.{after, stable-file, unread}
+use Rattle.ep_driver.proofs.Running.{check-ends, stopped-as, verify-ends}
+use Rattle.ep_driver.proofs.ShownTexts.{over-shown}
+use Rattle.ep_driver.proofs.runs.do_wanted.Goals as goal
+
+pub returns-in_err-model-in-Search-clause-tells : goal.returns-in_err-model-in-Search-clause-tells
+returns-in_err-model-in-Search-clause-tells g c =
+    let p = err_from_is_err_and c.from_residual.result c.from_residual.ensures.1 in
+    let told = g.F.Files.held c.args.files.now in
+    let rose = Rose (g.F.Files.faults c.args.files.now) (g.F.Files.faults c.read_model.new.files) in
+    let stop = c.in_err-model-in-Search.field-0.0 in
+    let W : Wanted → Type 0 = λ w. TellsTask (files_of w) (ComesTo w) told rose c.args.log.now (Err stop) in
+    rw (p.1, p.2)
+    (subst W (sym c.in-Search.is)
+    (unread model_tree (IsTextReadAs TextFile.Model) c.in-Search.model (option_to_list c.in-Search.params) (λ m. comes_to_search c.in-Search.mode c.in-Search.request c.in-Search.params m) told rose c.args.log.now stop c.requires.empty c.in_err-model-in-Search.ensures.tells))
+
+pub returns-in_err-model-in-Verify-clause-tells : goal.returns-in_err-model-in-Verify-clause-tells
+returns-in_err-model-in-Verify-clause-tells g c =
+    let p = err_from_is_err_and c.from_residual-in_err-model-in-Verify.result c.from_residual-in_err-model-in-Verify.ensures.1 in
+    let told = g.F.Files.held c.args.files.now in
+    let rose = Rose (g.F.Files.faults c.args.files.now) (g.F.Files.faults c.read_model-in-Verify.new.files) in
+    let stop = c.in_err-model-in-Verify.field-0.0 in
+    let W : Wanted → Type 0 = λ w. TellsTask (files_of w) (ComesTo w) told rose c.args.log.now (Err stop) in
+    rw (p.1, p.2)
+    (subst W (sym c.in-Verify.is)
+    (unread model_tree (IsTextReadAs TextFile.Model) c.in-Verify.model (option_to_list c.in-Verify.params ++ c.in-Verify.solution ∷ []) (λ m. comes_to_verify c.in-Verify.mode c.in-Verify.params c.in-Verify.solution m) told rose c.args.log.now stop c.requires.empty c.in_err-model-in-Verify.ensures.tells))
+
+pub returns-in_ok-model-in-Search-clause-tells : goal.returns-in_ok-model-in-Search-clause-tells
+returns-in_ok-model-in-Search-clause-tells g c =
+    let told = g.F.Files.held c.args.files.now in
+    let rose = Rose (g.F.Files.faults c.args.files.now) (g.F.Files.faults c.search_model.new.files) in
+    let now = g.F.Files.faults c.read_model.new.files in
+    let W : Wanted → Type 0 = λ w. TellsTask (files_of w) (ComesTo w) told rose c.search_model.new.log c.search_model.result in
+    subst W (sym c.in-Search.is)
+    (after (c.in-Search.model ∷ []) (option_to_list c.in-Search.params) (λ held. IsReadAs held TextFile.Model c.in-Search.model) (λ m. comes_to_search c.in-Search.mode c.in-Search.request c.in-Search.params m)
+    (stable-file (IsTextReadAs TextFile.Model) c.in-Search.model) (model_tree c.in_ok-model-in-Search.model) told (g.F.Files.held c.read_model.new.files) rose
+    (Rose now (g.F.Files.faults c.search_model.new.files)) c.search_model.new.log c.search_model.result c.in_ok-model-in-Search.ensures.held
+    (rose_later (g.F.Files.faults c.args.files.now) now (g.F.Files.faults c.search_model.new.files) c.in_ok-model-in-Search.ensures.faults)
+    c.in_ok-model-in-Search.ensures.tells c.search_model.ensures.tells)
+
+pub returns-in_ok-model-in-Verify-clause-tells : goal.returns-in_ok-model-in-Verify-clause-tells
+returns-in_ok-model-in-Verify-clause-tells g c =
+    let told = g.F.Files.held c.args.files.now in
+    let rose = Rose (g.F.Files.faults c.args.files.now) (g.F.Files.faults c.verify_model.new.files) in
+    let now = g.F.Files.faults c.read_model-in-Verify.new.files in
+    let W : Wanted → Type 0 = λ w. TellsTask (files_of w) (ComesTo w) told rose c.args.log.now c.verify_model.result in
+    let L : LogState → Type 0 = λ log. TellsTask (c.in-Verify.model ∷ option_to_list c.in-Verify.params ++ c.in-Verify.solution ∷ []) (ComesTo (Wanted.Verify c.in-Verify.model c.in-Verify.params c.in-Verify.mode c.in-Verify.solution)) told rose log c.verify_model.result in
+    subst W (sym c.in-Verify.is)
+    (subst L (sym c.requires.empty)
+    (after (c.in-Verify.model ∷ []) (option_to_list c.in-Verify.params ++ c.in-Verify.solution ∷ []) (λ held. IsReadAs held TextFile.Model c.in-Verify.model) (λ m. comes_to_verify c.in-Verify.mode c.in-Verify.params c.in-Verify.solution m)
+    (stable-file (IsTextReadAs TextFile.Model) c.in-Verify.model) (model_tree c.in_ok-model-in-Verify.model) told (g.F.Files.held c.read_model-in-Verify.new.files) rose
+    (Rose now (g.F.Files.faults c.verify_model.new.files)) empty_log c.verify_model.result c.in_ok-model-in-Verify.ensures.held
+    (rose_later (g.F.Files.faults c.args.files.now) now (g.F.Files.faults c.verify_model.new.files) c.in_ok-model-in-Verify.ensures.faults)
+    c.in_ok-model-in-Verify.ensures.tells c.verify_model.ensures.tells))
+
+pub returns-in_err-model-in-Search-clause-ends : goal.returns-in_err-model-in-Search-clause-ends
+returns-in_err-model-in-Search-clause-ends g c =
+    let p = err_from_is_err_and c.from_residual.result c.from_residual.ensures.1 in
+    rw (p.1, p.2) (stopped-as c.args.wanted.now c.args.log.now c.in_err-model-in-Search.field-0.0 c.requires.empty)
+
+pub returns-in_err-model-in-Verify-clause-ends : goal.returns-in_err-model-in-Verify-clause-ends
+returns-in_err-model-in-Verify-clause-ends g c =
+    let p = err_from_is_err_and c.from_residual-in_err-model-in-Verify.result c.from_residual-in_err-model-in-Verify.ensures.1 in
+    rw (p.1, p.2) (stopped-as c.args.wanted.now c.args.log.now c.in_err-model-in-Verify.field-0.0 c.requires.empty)
+
+pub returns-in_ok-model-in-Search-clause-ends : goal.returns-in_ok-model-in-Search-clause-ends
+returns-in_ok-model-in-Search-clause-ends g c =
+    let W : Wanted → Type 0 = λ w. EndsAs w c.search_model.new.log c.search_model.result in
+    subst W (sym c.in-Search.is) (tt, c.search_model.ensures.ends)
+
+pub returns-in_ok-model-in-Verify-clause-ends : goal.returns-in_ok-model-in-Verify-clause-ends
+returns-in_ok-model-in-Verify-clause-ends g c =
+    let W : Wanted → Type 0 = λ w. EndsAs w c.args.log.now c.verify_model.result in
+    subst W (sym c.in-Verify.is)
+    (verify-ends c.in-Verify.model c.in-Verify.params c.in-Verify.mode c.in-Verify.solution c.args.log.now c.verify_model.result c.requires.empty c.verify_model.ensures.status)
+
+pub returns-in_err-formula-in-Check-clause-tells : goal.returns-in_err-formula-in-Check-clause-tells
+returns-in_err-formula-in-Check-clause-tells g c =
+    let p = err_from_is_err_and c.from_residual-in_err-formula-in-Check.result c.from_residual-in_err-formula-in-Check.ensures.1 in
+    let told = g.F.Files.held c.args.files.now in
+    let rose = Rose (g.F.Files.faults c.args.files.now) (g.F.Files.faults c.read_formula.new.files) in
+    let stop = c.in_err-formula-in-Check.field-0.0 in
+    let W : Wanted → Type 0 = λ w. TellsTask (files_of w) (ComesTo w) told rose c.args.log.now (Err stop) in
+    rw (p.1, p.2)
+    (subst W (sym c.in-Check.is)
+    (unread formula_clauses IsFormulaReadAs c.in-Check.formula (c.in-Check.proof ∷ []) (λ clauses. comes_to_check c.in-Check.proof clauses) told rose c.args.log.now stop c.requires.empty c.in_err-formula-in-Check.ensures.tells))
+
+pub returns-in_ok-formula-in-Check-clause-tells : goal.returns-in_ok-formula-in-Check-clause-tells
+returns-in_ok-formula-in-Check-clause-tells g c =
+    let told = g.F.Files.held c.args.files.now in
+    let rose = Rose (g.F.Files.faults c.args.files.now) (g.F.Files.faults c.check_proof.new.files) in
+    let now = g.F.Files.faults c.read_formula.new.files in
+    let W : Wanted → Type 0 = λ w. TellsTask (files_of w) (ComesTo w) told rose c.args.log.now c.check_proof.result in
+    let L : LogState → Type 0 = λ log. TellsTask (c.in-Check.formula ∷ c.in-Check.proof ∷ []) (ComesTo (Wanted.Check c.in-Check.formula c.in-Check.proof)) told rose log c.check_proof.result in
+    subst W (sym c.in-Check.is)
+    (subst L (sym c.requires.empty)
+    (after (c.in-Check.formula ∷ []) (c.in-Check.proof ∷ []) (λ held. IsReadBy IsFormulaReadAs held c.in-Check.formula) (λ clauses. comes_to_check c.in-Check.proof clauses)
+    (stable-file IsFormulaReadAs c.in-Check.formula) (formula_clauses c.in_ok-formula-in-Check.formula) told (g.F.Files.held c.read_formula.new.files) rose
+    (Rose now (g.F.Files.faults c.check_proof.new.files)) empty_log c.check_proof.result c.in_ok-formula-in-Check.ensures.held
+    (rose_later (g.F.Files.faults c.args.files.now) now (g.F.Files.faults c.check_proof.new.files) c.in_ok-formula-in-Check.ensures.faults)
+    c.in_ok-formula-in-Check.ensures.tells c.check_proof.ensures.tells))
+
+pub returns-in_err-formula-in-Check-clause-ends : goal.returns-in_err-formula-in-Check-clause-ends
+returns-in_err-formula-in-Check-clause-ends g c =
+    let p = err_from_is_err_and c.from_residual-in_err-formula-in-Check.result c.from_residual-in_err-formula-in-Check.ensures.1 in
+    rw (p.1, p.2) (stopped-as c.args.wanted.now c.args.log.now c.in_err-formula-in-Check.field-0.0 c.requires.empty)
+
+pub returns-in_ok-formula-in-Check-clause-ends : goal.returns-in_ok-formula-in-Check-clause-ends
+returns-in_ok-formula-in-Check-clause-ends g c =
+    let W : Wanted → Type 0 = λ w. EndsAs w c.args.log.now c.check_proof.result in
+    subst W (sym c.in-Check.is) (check-ends c.in-Check.formula c.in-Check.proof c.args.log.now c.check_proof.result c.requires.empty c.check_proof.ensures.status)
+
+pub generate-requires-clause-within : goal.generate-requires-clause-within
+generate-requires-clause-within g c = subst HasTexts c.in-Generate.is c.requires.texts
+
+pub returns-in-Generate-clause-tells : goal.returns-in-Generate-clause-tells
+returns-in-Generate-clause-tells g c =
+    let told = g.F.Files.held c.args.files.now in
+    let rose = Rose (g.F.Files.faults c.args.files.now) (g.F.Files.faults c.args.files.now) in
+    let W : Wanted → Type 0 = λ w. TellsTask (files_of w) (ComesTo w) told rose c.generate.new.log c.generate.result in
+    subst W (sym c.in-Generate.is)
+    (over-shown (comes_to_generate c.in-Generate.number c.in-Generate.conflicts) told rose c.generate.new.log c.generate.result c.generate.ensures.tells)
+
+pub returns-in-Generate-clause-ends : goal.returns-in-Generate-clause-ends
+returns-in-Generate-clause-ends g c =
+    let W : Wanted → Type 0 = λ w. EndsAs w c.generate.new.log c.generate.result in
+    subst W (sym c.in-Generate.is) (tt, c.generate.ensures.ends)

@@ -1,0 +1,42 @@
+use Rattle.std.proofs.Common.{refl, sym, subst}
+use Rattle.ep_base.specs.Outside.{Rose}
+use Rattle.ep_driver.specs.Outputs.{AreWritten, written_for}
+use Rattle.ep_driver.specs.Searches.{HasTexts}
+use Rattle.ep_driver.specs.Steps.{TellsWritten}
+use Rattle.ep_driver.specs.declared.wanted.Wanted.{Wanted}
+use Rattle.ep_driver.proofs.writing.write_wanted.Goals as goal
+
+pub returns-in-Search-clause-tells : goal.returns-in-Search-clause-tells
+unfolding written_for
+returns-in-Search-clause-tells g c =
+    let told = g.F.Files.held c.args.files.now in
+    let after = g.F.Files.held c.write_outputs.new.files in
+    let rose = Rose (g.F.Files.faults c.args.files.now) (g.F.Files.faults c.write_outputs.new.files) in
+    let W : Wanted → Type 0 = λ w. TellsWritten c.args.log.now c.args.answer.now (written_for w) told after rose c.write_outputs.result in
+    subst W (sym c.in-Search.is) c.write_outputs.ensures.tells
+
+pub write_texts-requires : goal.write_texts-requires
+write_texts-requires g c = record { within = subst HasTexts c.in-Generate.is c.requires.texts }
+
+pub returns-clause-tells : goal.returns-clause-tells
+unfolding written_for
+returns-clause-tells g c =
+    let told = g.F.Files.held c.args.files.now in
+    let after = g.F.Files.held c.write_texts.new.files in
+    let rose = Rose (g.F.Files.faults c.args.files.now) (g.F.Files.faults c.write_texts.new.files) in
+    let W : Wanted → Type 0 = λ w. TellsWritten c.args.log.now c.args.answer.now (written_for w) told after rose c.write_texts.result in
+    subst W (sym c.in-Generate.is) (c.write_texts.ensures.tells c.args.log.now c.args.answer.now)
+
+pub returns-in-Verify-clause-tells : goal.returns-in-Verify-clause-tells
+unfolding written_for
+returns-in-Verify-clause-tells g c =
+    let told = g.F.Files.held c.args.files.now in
+    let W : Wanted → Type 0 = λ w. AreWritten c.args.log.now c.args.answer.now (written_for w) told told in
+    subst W (sym c.in-Verify.is) refl
+
+pub returns-in-Check-clause-tells : goal.returns-in-Check-clause-tells
+unfolding written_for
+returns-in-Check-clause-tells g c =
+    let told = g.F.Files.held c.args.files.now in
+    let W : Wanted → Type 0 = λ w. AreWritten c.args.log.now c.args.answer.now (written_for w) told told in
+    subst W (sym c.in-Check.is) refl

@@ -1,0 +1,82 @@
+-- Which answers are right for a task, their texts, and what the log shows of them.
+use Rattle.std.specs.Prelude.{◌≡◌, ℕ, List, ◌++◌, codes, Some, None, Contains}
+use Rattle.std.specs.Fmt.{decimal, signed_decimal}
+use Rattle.ep_tree.specs.Binding.{Instance}
+use Rattle.ep_tree.specs.SolutionTexts.{fits, wrong_shape}
+use Rattle.ep_tree.specs.Solutions.{Fits, Found, Judgement, a_solution, goal_undefined, judgement, violates}
+use Rattle.ep_tree.specs.declared.values.Mode.{Mode}
+use Rattle.ep_print.specs.Answers.{AnswerTree, answer_text, unknown, unknown_with}
+use Rattle.ep_print.specs.Listings.{EndTree, ListingTree, complete, listing_text, spent, stopped}
+use Rattle.cnf_core.specs.Events.{LogState}
+use Rattle.log_check.specs.Verdict.{verdict_of}
+use Rattle.log_check.specs.declared.Verdict.{Verdict}
+use Rattle.log_check.specs.declared.Verdict.TheVariants.{BadStep, NoEmptyClause, Verified}
+use Rattle.ep_solve.specs.Listed.{Lists}
+use Rattle.ep_solve.specs.Logged.{IsLogged}
+use Rattle.ep_solve.specs.Right.{IsRight}
+use Rattle.ep_driver.specs.Outcomes.{Task, to_check, to_generate, to_judge, to_list, to_solve}
+use Rattle.ep_driver.specs.Summaries.{summary_text}
+use Rattle.ep_driver.specs.declared.status.Status.{Status}
+
+-- how a run ends that has an answer: with the end of its budget where nothing is known
+unfoldable pub answer_status : AnswerTree → Status
+answer_status (unknown _) = Status.Unknown
+answer_status (unknown_with _ _ _) = Status.Unknown
+answer_status _ = Status.Answered
+
+-- how a run ends that has a list: with the end of its budget where the list ends with it
+unfoldable pub listing_status : EndTree → Status
+listing_status complete = Status.Answered
+listing_status stopped = Status.Answered
+listing_status (spent _) = Status.Unknown
+
+-- how a run ends that judges an assignment: answered where it is a solution
+unfoldable pub judgement_status : Judgement → Status
+judgement_status (a_solution _) = Status.Answered
+judgement_status (violates _) = Status.Refuted
+judgement_status goal_undefined = Status.Refuted
+
+-- what is said of an assignment
+unfoldable pub judgement_text : Judgement → List ℕ
+judgement_text (a_solution None) = codes "$ solution\n"
+judgement_text (a_solution (Some value)) = codes "$ solution objective " ++ (signed_decimal value ++ codes "\n")
+judgement_text (violates number) = codes "$ violated " ++ (decimal number ++ codes "\n")
+judgement_text goal_undefined = codes "$ objective undefined\n"
+
+-- a name keeps a solution text from giving an assignment
+abbrev pub wrong_shape_text : List ℕ → List ℕ
+wrong_shape_text name = codes "$ wrong shape " ++ (name ++ codes "\n")
+
+-- how a run ends that checks a proof: answered exactly where it is verified
+unfoldable pub verdict_status : Verdict → Status
+verdict_status Verified = Status.Answered
+verdict_status (BadStep line) = Status.Refuted
+verdict_status NoEmptyClause = Status.Refuted
+
+-- what is said of a proof
+unfoldable pub verdict_text : Verdict → List ℕ
+verdict_text Verified = codes "$ verified\n"
+verdict_text (BadStep line) = codes "$ bad step " ++ (decimal line ++ codes "\n")
+verdict_text NoEmptyClause = codes "$ no empty clause\n"
+
+-- a status, a text and a log say which answer of an instance is right, where this is the text of an answer
+abbrev pub SettlesBy : (AnswerTree → List ℕ) → Mode → Instance → ℕ → Status → List ℕ → LogState → Type 0
+SettlesBy text_of mode i conflicts status text log =
+    (answer : AnswerTree) × IsRight mode i conflicts answer × IsLogged mode i conflicts log answer
+    × (status ≡ answer_status answer) × (text ≡ text_of answer)
+
+-- a status, a text and a log answer a task
+unfoldable pub Settles : Task → Status → List ℕ → LogState → Type 0
+Settles (to_solve mode i conflicts) status text log = SettlesBy answer_text mode i conflicts status text log
+Settles (to_list mode i most conflicts) status text log =
+    (listing : ListingTree) × Lists mode i conflicts most log listing
+    × (status ≡ listing_status listing.ending) × (text ≡ listing_text listing)
+Settles (to_judge mode i (fits a)) status text log =
+    (found : Found) × Fits i a found
+    × (status ≡ judgement_status (judgement mode i found))
+    × (text ≡ judgement_text (judgement mode i found))
+Settles (to_judge mode i (wrong_shape names)) status text log =
+    (name : List ℕ) × Contains names name × (status ≡ Status.Refuted) × (text ≡ wrong_shape_text name)
+Settles (to_check formula lines) status text log =
+    (status ≡ verdict_status (verdict_of formula lines)) × (text ≡ verdict_text (verdict_of formula lines))
+Settles (to_generate number mode i conflicts) status text log = SettlesBy (summary_text number) mode i conflicts status text log

@@ -1,0 +1,52 @@
+-- What the words of a command want of a run.
+use Rattle.std.specs.Prelude.{◌≡◌, ℕ, nat_eq, if◌then◌else◌, List, [], ◌∷◌, ◌++◌, Option, Some, None, option_to_list}
+use Rattle.ep_words.specs.Commands.{IsCommand}
+use Rattle.ep_words.specs.declared.job.Job.{Job}
+use Rattle.ep_driver.specs.declared.wanted.Outputs.{Outputs}
+use Rattle.ep_driver.specs.declared.wanted.Request.{Request}
+use Rattle.ep_driver.specs.declared.wanted.Wanted.{Wanted}
+
+-- What a job wants of a run: to search for one solution of a model or for many, and to write the formula, the steps of the log and
+-- the answer into files where they are named; or to verify a solution; each in a mode of undefinedness; or to check a proof of a
+-- formula, for now with one worker alone; or to solve the texts of a number, and to write them where files are named.
+unfoldable pub wanted_of : Job → Option Wanted
+wanted_of (Job.Solve model params conflicts solution formula log mode) =
+    Some (Wanted.Search model params mode (Request.One conflicts) (record { formula = formula; log = log; solution = solution }))
+wanted_of (Job.Enumerate model params solutions conflicts solution formula log mode) =
+    Some (Wanted.Search model params mode (Request.Many solutions conflicts) (record { formula = formula; log = log; solution = solution }))
+wanted_of (Job.Verify model solution params mode) = Some (Wanted.Verify model params mode solution)
+wanted_of (Job.Check formula proof workers) =
+    if nat_eq workers 1 then Some (Wanted.Check formula proof) else None
+wanted_of (Job.Generate number conflicts eprime param) = Some (Wanted.Generate number conflicts eprime param)
+
+-- the words are a command that wants this
+abbrev pub Want : List (List ℕ) → Wanted → Type 0
+Want words wanted = (job : Job) × IsCommand words job × (wanted_of job ≡ Some wanted)
+
+-- the words are no command that runs
+abbrev pub AreNoCommand : List (List ℕ) → Type 0
+AreNoCommand words = (wanted : Wanted) → ¬ Want words wanted
+
+-- the files that have to be read, in this order
+abbrev pub files_of : Wanted → List (List ℕ)
+files_of (Wanted.Search model params mode request outputs) = model ∷ option_to_list params
+files_of (Wanted.Verify model params mode solution) = (model ∷ option_to_list params) ++ solution ∷ []
+files_of (Wanted.Check formula proof) = formula ∷ proof ∷ []
+files_of (Wanted.Generate number conflicts eprime param) = []
+
+-- a solution or a proof is judged, and nothing is searched for
+abbrev pub IsJudgement : Wanted → Type 0
+IsJudgement (Wanted.Search model params mode request outputs) = ⊥
+IsJudgement (Wanted.Verify model params mode solution) = Unit {0}
+IsJudgement (Wanted.Check formula proof) = Unit {0}
+IsJudgement (Wanted.Generate number conflicts eprime param) = ⊥
+
+-- how many conflicts a search may take
+unfoldable pub conflicts_of : Request → ℕ
+conflicts_of (Request.One conflicts) = conflicts
+conflicts_of (Request.Many most conflicts) = conflicts
+conflicts_of (Request.Generated number conflicts) = conflicts
+
+-- no file is named for output
+abbrev pub no_outputs : Outputs
+no_outputs = record { formula = None; log = None; solution = None }

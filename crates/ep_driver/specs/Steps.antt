@@ -1,0 +1,292 @@
+-- What the steps of a run tell.
+use Rattle.std.specs.Prelude.{◌≡◌, ◌⊎◌, ◌+◌, ℕ, List, [], ◌∷◌, Option, Some, None, Ok, Err, Result, Contains, IfSome, IsSomeAnd, option_map}
+use Rattle.cnf_core.specs.Events.{LogState}
+use Rattle.cnf_core.specs.Formula.{Cnf}
+use Rattle.cnf_core.specs.Lines.{ProofLine, plain_lines}
+use Rattle.cnf_core.specs.Literal.{Literal}
+use Rattle.cnf_core.specs.declared.proof.Proof.{Proof}
+use Rattle.ep_base.specs.Outside.{Held, ReadGives, SameElsewhere, with_bytes}
+use Rattle.ep_tree.specs.Statements.{TextTree}
+use Rattle.ep_tree.specs.Views.{assigned, params_tree}
+use Rattle.ep_tree.specs.declared.statements.Params.{Params}
+use Rattle.ep_print.specs.Refusals.{refusal_text}
+use Rattle.ep_print.specs.declared.refusals.Refusal.{Refusal}
+use Rattle.ep_print.specs.declared.refusals.TextFile.{TextFile}
+use Rattle.ep_tree.specs.Binding.{Instance}
+use Rattle.ep_tree.specs.SolutionTexts.{Shaped as PlainShaped, fits, read_solution, wrong_shape}
+use Rattle.ep_tree.specs.Solutions.{Fits, Found, judgement}
+use Rattle.ep_tree.specs.declared.values.Mode.{Mode}
+use Rattle.ep_instance.specs.declared.judging.Shaped.{Shaped}
+use Rattle.ep_solve.specs.Right.{IsSpent, empty_log}
+use Rattle.sat_search.specs.Logs.{IsSound}
+use Rattle.ep_driver.specs.Answers.{Settles, judgement_status, judgement_text}
+use Rattle.ep_driver.specs.Commands.{AreNoCommand, Want, conflicts_of, files_of}
+use Rattle.ep_driver.specs.Outcomes.{Outcome, Task, as_outcome}
+use Rattle.ep_driver.specs.Outputs.{AreWritten, ArePartlyWritten, FailsAt, Output, written_for}
+use Rattle.ep_driver.specs.Readings.{AreParams, IsReadBy, IsTextReadAs, ReadsTexts, without}
+use Rattle.ep_driver.specs.Shown.{Ask, ComesTo}
+use Rattle.ep_driver.specs.Status.{status_of}
+use Rattle.ep_driver.specs.declared.replies.Reply.{Reply}
+use Rattle.ep_driver.specs.declared.status.Status.{Status}
+use Rattle.ep_driver.specs.declared.stops.Stop.{Stop}
+use Rattle.ep_driver.specs.declared.wanted.Wanted.{Wanted}
+
+-- the words want this, or they are no command
+abbrev pub TellsWanted : List (List ℕ) → Result Wanted Stop → Type 0
+TellsWanted words (Ok wanted) = Want words wanted
+TellsWanted words (Err (Stop.Refused refusal)) = (refusal ≡ Refusal.Usage) × AreNoCommand words
+TellsWanted words (Err Stop.Memory) = Unit {0}
+
+-- a refusal is a fault or a limit of a text
+abbrev pub IsOfText : Refusal → Type 0
+IsOfText refusal = (status_of refusal ≡ Status.Text) ⊎ (status_of refusal ≡ Status.Limit)
+
+-- some refusals come out, and this is one of them
+abbrev pub IsAmong : {A : Type 0} → Outcome A → Refusal → Type 0
+IsAmong outcome refusal = (refusals : List Refusal) × (outcome ≡ Err refusals) × Contains refusals refusal
+
+-- a step tells what an outcome is: it gives the value, or one of the refusals; want of memory tells nothing
+abbrev pub Tells : {V A : Type 0} → (V → A) → Outcome A → Result V Stop → Type 0
+Tells view outcome (Ok x) = outcome ≡ Ok (view x)
+Tells view outcome (Err (Stop.Refused refusal)) = IsOfText refusal × IsAmong outcome refusal
+Tells view outcome (Err Stop.Memory) = Unit {0}
+
+-- a step passes where there are no refusals, and else names one of them
+abbrev pub Passes : {V : Type 0} → List Refusal → Result V Stop → Type 0
+Passes refusals (Ok x) = refusals ≡ []
+Passes refusals (Err (Stop.Refused refusal)) = IsOfText refusal × Contains refusals refusal
+Passes refusals (Err Stop.Memory) = Unit {0}
+
+-- nothing is logged, or this holds
+abbrev pub OrUnlogged : LogState → Type 0 → Type 0
+OrUnlogged log P = (log ≡ empty_log) ⊎ P
+
+-- a reply answers the task that comes out, or one of the refusals; where memory is wanting, something is logged for a task alone
+abbrev pub TellsReply : Outcome Task → LogState → Result Reply Stop → Type 0
+TellsReply outcome log (Ok reply) =
+    (task : Task) × (outcome ≡ Ok task) × Settles task reply.status reply.text.items log
+TellsReply outcome log (Err (Stop.Refused refusal)) = IsOfText refusal × IsAmong outcome refusal
+TellsReply outcome log (Err Stop.Memory) = OrUnlogged log ((task : Task) × (outcome ≡ Ok task))
+
+-- the same of what shows outcomes, where no file is read
+abbrev pub TellsShown : (Outcome Task → Type 0) → LogState → Result Reply Stop → Type 0
+TellsShown shows log (Ok reply) = (task : Task) × shows (Ok task) × Settles task reply.status reply.text.items log
+TellsShown shows log (Err (Stop.Refused refusal)) =
+    IsOfText refusal × (refusals : List Refusal) × shows (Err refusals) × Contains refusals refusal
+TellsShown shows log (Err Stop.Memory) = OrUnlogged log ((task : Task) × shows (Ok task))
+
+-- a status and a text are those of the judgement of an assignment
+abbrev pub IsJudged : Mode → Instance → Found → Status → List ℕ → Type 0
+IsJudged mode i found status text =
+    (status ≡ judgement_status (judgement mode i found))
+    × (text ≡ judgement_text (judgement mode i found))
+
+-- what an instance gives a solution text
+abbrev pub shape_outcome : Mode → Instance → TextTree → Outcome PlainShaped
+shape_outcome mode i solution = as_outcome (read_solution mode i solution)
+
+-- a solution text gives an assignment that fits, or it is one of the names that keep it from that
+abbrev pub TellsShape : Mode → Instance → TextTree → Result Shaped Stop → Type 0
+TellsShape mode i solution (Ok (Shaped.Fits a)) =
+    (shape_outcome mode i solution ≡ Ok (fits (assigned a))) × (found : Found) × Fits i (assigned a) found
+TellsShape mode i solution (Ok (Shaped.WrongShape name)) =
+    (names : List (List ℕ)) × (shape_outcome mode i solution ≡ Ok (wrong_shape names)) × Contains names name
+TellsShape mode i solution (Err (Stop.Refused refusal)) =
+    IsOfText refusal × IsAmong (shape_outcome mode i solution) refusal
+TellsShape mode i solution (Err Stop.Memory) = Unit {0}
+
+-- ---- reading
+
+-- a file isn't there, or it wasn't read: a fault was counted
+abbrev pub IsNotThere : Option Held → List ℕ → Type 0 → Type 0
+IsNotThere told name rose = rose ⊎ IsSomeAnd told (λ held. held name ≡ None)
+
+-- the bytes of a file were read, one more at most than a text may have; or it can't be read
+abbrev pub TellsBytes : {V : Type 0} → (V → List ℕ) → ℕ → Option Held → List ℕ → Type 0 → Result V Stop → Type 0
+TellsBytes view most told name rose (Ok bytes) = ReadGives told name (most + 1) (Some (view bytes))
+TellsBytes view most told name rose (Err (Stop.Refused refusal)) =
+    (refusal ≡ Refusal.CannotRead name) × IsNotThere told name rose
+TellsBytes view most told name rose (Err Stop.Memory) = Unit {0}
+
+-- a file can't be read; want of memory says nothing
+abbrev pub IsUnreadStop : List ℕ → Stop → Type 0
+IsUnreadStop name (Stop.Refused refusal) = refusal ≡ Refusal.CannotRead name
+IsUnreadStop name Stop.Memory = Unit {0}
+
+-- a text is read, or it has a refusal
+abbrev pub TellsText : {V A : Type 0} → (V → A) → ReadsTexts A → List ℕ → Result V Stop → Type 0
+TellsText view reads text (Ok x) = reads text (Ok (view x))
+TellsText view reads text (Err (Stop.Refused refusal)) = IsOfText refusal × reads text (Err refusal)
+TellsText view reads text (Err Stop.Memory) = Unit {0}
+
+-- why a file gives nothing: it can't be read, or its text is refused
+abbrev pub IsUnread : {A : Type 0} → ReadsTexts A → Option Held → List ℕ → Type 0 → Refusal → Type 0
+IsUnread reads told name rose refusal =
+    ((refusal ≡ Refusal.CannotRead name) × IsNotThere told name rose)
+    ⊎ (IsOfText refusal × IfSome told (λ held. IsReadBy reads held name (Err refusal)))
+
+-- what reading a file tells, where `rose` says that a fault was counted
+abbrev pub TellsRead : {V A : Type 0} → (V → A) → ReadsTexts A → Option Held → List ℕ → Type 0 → Result V Stop → Type 0
+TellsRead view reads told name rose (Ok x) = IfSome told (λ held. IsReadBy reads held name (Ok (view x)))
+TellsRead view reads told name rose (Err (Stop.Refused refusal)) = IsUnread reads told name rose refusal
+TellsRead view reads told name rose (Err Stop.Memory) = Unit {0}
+
+-- the clauses of a formula
+abbrev pub formula_clauses : Cnf → List (List Literal)
+formula_clauses f = f.clauses
+
+-- the lines of a proof
+abbrev pub proof_lines : Proof → List ProofLine
+proof_lines p = plain_lines p.lines.items
+
+-- the same of a parameter file that may be left out
+abbrev pub TellsParams : Option Held → Option (List ℕ) → Type 0 → Result Params Stop → Type 0
+TellsParams told params rose (Ok x) = IfSome told (λ held. AreParams held params (Ok (params_tree x)))
+TellsParams told params rose (Err (Stop.Refused refusal)) =
+    (name : List ℕ) × (params ≡ Some name) × IsUnread (IsTextReadAs TextFile.Params) told name rose refusal
+TellsParams told params rose (Err Stop.Memory) = Unit {0}
+
+-- ---- a run
+
+-- what comes to something over held files
+abbrev pub Shows : Type 1
+Shows = Held → Outcome Task → Type 0
+
+-- one of these files can't be read, and without it the line that says so comes out
+abbrev pub IsFailed : List (List ℕ) → Shows → Option Held → Type 0 → Refusal → Type 0
+IsFailed names shows told rose refusal =
+    (name : List ℕ) × Contains names name × (refusal ≡ Refusal.CannotRead name)
+    × IfSome told (λ held. shows (without name held) (Err (Refusal.CannotRead name ∷ [])))
+    × (rose ⊎ IsSomeAnd told (λ held. shows held (Err (Refusal.CannotRead name ∷ []))))
+
+-- a fault or a limit of a text comes out
+abbrev pub IsFaulty : Shows → Option Held → Refusal → Type 0
+IsFaulty shows told refusal =
+    IsOfText refusal
+    × IfSome told (λ held. (refusals : List Refusal) × shows held (Err refusals) × Contains refusals refusal)
+
+-- a task comes out, and the reply answers it
+abbrev pub IsAnswer : Shows → Option Held → Status → List ℕ → LogState → Type 0
+IsAnswer shows told status text log =
+    IfSome told (λ held. (task : Task) × shows held (Ok task) × Settles task status text log)
+
+-- what a run tells that has some files to read
+abbrev pub TellsTask : List (List ℕ) → Shows → Option Held → Type 0 → LogState → Result Reply Stop → Type 0
+TellsTask names shows told rose log (Ok reply) = IsAnswer shows told reply.status reply.text.items log
+TellsTask names shows told rose log (Err (Stop.Refused refusal)) =
+    IsFailed names shows told rose refusal ⊎ IsFaulty shows told refusal
+TellsTask names shows told rose log (Err Stop.Memory) = OrUnlogged log (IfSome told (λ held. (task : Task) × shows held (Ok task)))
+
+-- How a search within so many conflicts may end: with its answer, or with as many steps in the log. The steps of the log are
+-- valid, and those with a literal new and effective.
+abbrev pub IsSearched : ℕ → Status → LogState → Type 0
+IsSearched conflicts status log =
+    IsSound log.events × ((status ≡ Status.Answered) ⊎ ((status ≡ Status.Unknown) × IsSpent conflicts log.events))
+
+-- how a judgement may end: what is judged holds or doesn't, and nothing is logged
+abbrev pub IsJudgedEnd : Status → LogState → Type 0
+IsJudgedEnd status log = (log ≡ empty_log) × ((status ≡ Status.Answered) ⊎ (status ≡ Status.Refuted))
+
+-- how a run may end that has its answer, and with which log
+abbrev pub IsEnd : Wanted → Status → LogState → Type 0
+IsEnd (Wanted.Search _ _ _ request _) status log = IsSearched (conflicts_of request) status log
+IsEnd (Wanted.Verify _ _ _ _) status log = IsJudgedEnd status log
+IsEnd (Wanted.Check _ _) status log = IsJudgedEnd status log
+IsEnd (Wanted.Generate _ conflicts _ _) status log = IsSearched conflicts status log
+
+-- to judge is to log nothing
+abbrev pub IsLogOf : Wanted → LogState → Type 0
+IsLogOf (Wanted.Search _ _ _ _ _) log = Unit {0}
+IsLogOf (Wanted.Verify _ _ _ _) log = log ≡ empty_log
+IsLogOf (Wanted.Check _ _) log = log ≡ empty_log
+IsLogOf (Wanted.Generate _ _ _ _) log = Unit {0}
+
+-- an answer ends so; nothing is logged where there is a refusal, and soundly where memory is wanting
+abbrev pub EndsBy : (Status → Type 0) → LogState → Result Reply Stop → Type 0
+EndsBy End log (Ok reply) = End reply.status
+EndsBy End log (Err (Stop.Refused refusal)) = log ≡ empty_log
+EndsBy End log (Err Stop.Memory) = IsSound log.events
+
+-- how a run ends, and with which log
+abbrev pub EndsAs : Wanted → LogState → Result Reply Stop → Type 0
+EndsAs wanted log result = IsLogOf wanted log × EndsBy (λ status. IsEnd wanted status log) log result
+
+-- what writing a text under a name tells, where `rose` says that a fault was counted
+abbrev pub TellsWrite : {V : Type 0} → List ℕ → List ℕ → Option Held → Option Held → Type 0 → Result V Stop → Type 0
+TellsWrite name text told after rose (Ok x) = after ≡ option_map (with_bytes name text) told
+TellsWrite name text told after rose (Err (Stop.Refused refusal)) =
+    rose × (refusal ≡ Refusal.CannotWrite name) × SameElsewhere name told after
+TellsWrite name text told after rose (Err Stop.Memory) = after ≡ told
+
+-- what writing some files with what a log and an answer's text are tells, one after another
+abbrev pub TellsWritten : {V : Type 0} → LogState → List ℕ → List Output → Option Held → Option Held → Type 0 → Result V Stop → Type 0
+TellsWritten log answer outputs told after rose (Ok x) = AreWritten log answer outputs told after
+TellsWritten log answer outputs told after rose (Err (Stop.Refused refusal)) =
+    rose × (name : List ℕ) × (refusal ≡ Refusal.CannotWrite name) × FailsAt log answer outputs told after name
+TellsWritten log answer outputs told after rose (Err Stop.Memory) = ArePartlyWritten log answer outputs told after
+
+-- a refusal that is shown: nothing is logged, and the files hold what they held
+abbrev pub IsShown : Wanted → Option Held → Option Held → Type 0 → LogState → Refusal → Type 0
+IsShown wanted told after rose log refusal =
+    (log ≡ empty_log) × (after ≡ told)
+    × (IsFailed (files_of wanted) (ComesTo wanted) told rose refusal ⊎ IsFaulty (ComesTo wanted) told refusal)
+
+-- what is wanted comes to a task, which this text and this log answer
+abbrev pub HasAnswer : Wanted → Option Held → List ℕ → LogState → Type 0
+HasAnswer wanted told text log =
+    IfSome told (λ held. (task : Task) × (status : Status) × ComesTo wanted held (Ok task) × Settles task status text log)
+
+-- a file can't be written into which what answers is to be written
+abbrev pub IsUnwritten : Wanted → Option Held → Option Held → Type 0 → LogState → Refusal → Type 0
+IsUnwritten wanted told after rose log refusal =
+    rose × (name : List ℕ) × (text : List ℕ) × (refusal ≡ Refusal.CannotWrite name)
+    × FailsAt log text (written_for wanted) told after name × IsSound log.events × IsLogOf wanted log
+    × HasAnswer wanted told text log
+
+-- memory is wanting, and some first ones of the files that are named for output are written with what answers
+abbrev pub IsWanting : Wanted → Option Held → Option Held → LogState → Type 0
+IsWanting wanted told after log =
+    (text : List ℕ) × ArePartlyWritten log text (written_for wanted) told after × HasAnswer wanted told text log
+
+-- a refusal of what is wanted
+abbrev pub IsRefused : Wanted → Option Held → Option Held → Type 0 → LogState → Refusal → Type 0
+IsRefused wanted told after rose log refusal =
+    IsShown wanted told after rose log refusal ⊎ IsUnwritten wanted told after rose log refusal
+
+-- what is wanted is answered, and the files that are named for output are written
+abbrev pub IsAnswered : Wanted → Option Held → Option Held → Status → List ℕ → LogState → Type 0
+IsAnswered wanted told after status text log =
+    IsEnd wanted status log × IsAnswer (ComesTo wanted) told status text log
+    × AreWritten log text (written_for wanted) told after
+
+-- a status, a text and a log with which what is wanted is answered
+abbrev pub SaysTo : Wanted → Option Held → Option Held → Type 0 → Status → List ℕ → LogState → Type 0
+SaysTo wanted told after rose status text log =
+    IsAnswered wanted told after status text log
+    ⊎ ((refusal : Refusal) × (status ≡ status_of refusal) × (text ≡ refusal_text refusal)
+    × IsRefused wanted told after rose log refusal)
+
+-- a status, a text and a log with which the words are answered
+abbrev pub SaysOfRun : List (List ℕ) → Option Held → Option Held → Type 0 → Status → List ℕ → LogState → Type 0
+SaysOfRun words told after rose status text log =
+    ((status ≡ Status.Usage) × (text ≡ refusal_text Refusal.Usage) × (log ≡ empty_log) × (after ≡ told) × AreNoCommand words)
+    ⊎ ((wanted : Wanted) × Want words wanted × SaysTo wanted told after rose status text log)
+
+-- what a run tells of the words
+abbrev pub TellsRun : List (List ℕ) → Option Held → Option Held → Type 0 → LogState → Result Reply Stop → Type 0
+TellsRun words told after rose log (Ok reply) =
+    (wanted : Wanted) × Want words wanted × IsAnswered wanted told after reply.status reply.text.items log
+TellsRun words told after rose log (Err (Stop.Refused refusal)) =
+    ((refusal ≡ Refusal.Usage) × (log ≡ empty_log) × (after ≡ told) × AreNoCommand words)
+    ⊎ ((wanted : Wanted) × Want words wanted × IsRefused wanted told after rose log refusal)
+TellsRun words told after rose log (Err Stop.Memory) =
+    IsSound log.events
+    × ((after ≡ told) ⊎ ((wanted : Wanted) × Want words wanted × IsWanting wanted told after log))
+    × OrUnlogged log ((wanted : Wanted) × Want words wanted × IsLogOf wanted log
+    × IfSome told (λ held. (task : Task) × ComesTo wanted held (Ok task)))
+
+-- nothing is logged, or the words show a task, and want what may have this log
+abbrev pub LogsTask : List (List ℕ) → Option Held → LogState → Type 0
+LogsTask words told log =
+    OrUnlogged log ((wanted : Wanted) × Want words wanted × IsLogOf wanted log
+    × IfSome told (λ held. (task : Task) × Ask words held task))

@@ -1,0 +1,31 @@
+//! Solves the texts of a number.
+
+ghost use Rattle.std.specs.Prelude.{◌≡◌, ◌≤◌};
+ghost use Rattle.ep_solve.specs.Right.{empty_log};
+ghost use Rattle.ep_driver.specs.Shown.{comes_to_generate};
+ghost use Rattle.ep_driver.specs.Steps.{EndsBy, IsSearched, TellsShown};
+
+use super::reading::{model_in, params_in};
+use super::replies::Reply;
+use super::runs::search_texts;
+use super::stops::Stop;
+use super::wanted::Request;
+use cnf_core::Log;
+use ep_gen::gen_text;
+use ep_print::TextFile;
+use ep_tree::Mode;
+use std::alloc::Global;
+
+/// Makes the texts of a number, and solves them within so many conflicts.
+pub fn generate(alloc: Global, number: u64, conflicts: u64, log: &mut Log) -> Result<Reply, Stop>
+    requires within { number ≤ 1000000000 }
+    requires empty { log.old ≡ empty_log }
+    ensures tells { TellsShown (comes_to_generate number conflicts) log.new result }
+    ensures ends { EndsBy (λ status. IsSearched conflicts status log.new) log.new result }
+{
+    let texts = gen_text(alloc, number)?;
+    let model = model_in(alloc, &texts.0)?;
+    let params = params_in(alloc, TextFile::Params, &texts.1)?;
+    let request = Request::Generated { number, conflicts };
+    search_texts(alloc, model, params, Mode::Relational, request, log)
+}

@@ -1,0 +1,79 @@
+//! What is to be said to the words, and with which status.
+
+ghost use Rattle.std.specs.Prelude.{◌≡◌, ◌≤◌, IfOk, OnErr};
+ghost use Rattle.ep_base.specs.Outside.{Rose};
+ghost use Rattle.ep_print.specs.Refusals.{refusal_text};
+ghost use Rattle.ep_solve.specs.Right.{empty_log};
+ghost use Rattle.sat_search.specs.Logs.{IsSound};
+ghost use Rattle.ep_driver.specs.Puts.{HoldOnWant};
+ghost use Rattle.ep_driver.specs.Status.{status_of};
+ghost use Rattle.ep_driver.specs.Steps.{LogsTask, SaysOfRun, TellsRun};
+
+use super::runs::do_wanted;
+use super::status::Status;
+use super::stops::{Stop, status_of};
+use super::wanted::read_wanted;
+use super::writing::write_wanted;
+use cnf_core::Log;
+use ep_base::{Files, Memory, Word};
+use ep_print::{Refusal, refusal_line};
+use std::alloc::Global;
+
+/// A status and the text that goes with it.
+#[derive(Drop)]
+pub struct Reply {
+    pub status: Status,
+    pub text: Vec<u8>,
+}
+
+/// What the words ask to be said.
+pub fn reply_to<F: Files>(
+    alloc: Global,
+    words: &[Word],
+    files: &mut F,
+    log: &mut Log,
+) -> Result<Reply, Memory>
+    requires empty { log.old ≡ empty_log }
+    ensures says { IfOk result (λ reply. SaysOfRun words.now (F.held files.old) (F.held files.new)
+        (Rose (F.faults files.old) (F.faults files.new)) reply.status reply.text.items log.new) }
+    ensures wants { OnErr result (HoldOnWant words.now (F.held files.old) (F.held files.new)
+        (Rose (F.faults files.old) (F.faults files.new)) log.new) }
+    ensures asked { OnErr result (LogsTask words.now (F.held files.old) log.new) }
+    ensures sound { IsSound log.new.events }
+    ensures faults { F.faults files.old ≤ F.faults files.new }
+{
+    match run_words(alloc, words, files, log) {
+        Ok(reply) => Ok(reply),
+        Err(Stop::Refused(refusal)) => refused(alloc, &refusal),
+        Err(Stop::Memory) => Err(Memory),
+    }
+}
+
+/// Does what the words want, and writes what answers into the files that are named for output.
+fn run_words<F: Files>(
+    alloc: Global,
+    words: &[Word],
+    files: &mut F,
+    log: &mut Log,
+) -> Result<Reply, Stop>
+    requires empty { log.old ≡ empty_log }
+    ensures tells { TellsRun words.now (F.held files.old) (F.held files.new)
+        (Rose (F.faults files.old) (F.faults files.new)) log.new result }
+    ensures faults { F.faults files.old ≤ F.faults files.new }
+{
+    let wanted = read_wanted(alloc, words)?;
+    let reply = do_wanted(alloc, files, &wanted, log)?;
+    write_wanted(alloc, files, wanted, log, &reply.text)?;
+    Ok(reply)
+}
+
+/// The status and the line of a refusal.
+fn refused(alloc: Global, refusal: &Refusal) -> Result<Reply, Memory>
+    ensures status { IfOk result (λ reply. reply.status ≡ status_of refusal.now) }
+    ensures line { IfOk result (λ reply. reply.text.items ≡ refusal_text refusal.now) }
+{
+    Ok(Reply {
+        status: status_of(refusal),
+        text: refusal_line(alloc, refusal)?,
+    })
+}

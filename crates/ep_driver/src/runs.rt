@@ -1,0 +1,190 @@
+//! Does what is wanted of a run.
+
+ghost use Rattle.std.specs.Prelude.{◌≡◌, ◌≤◌, ◌⊎◌, ◌++◌, ◌∷◌, [], option_to_list, IfOk};
+ghost use Rattle.ep_base.specs.Outside.{Rose};
+ghost use Rattle.ep_tree.specs.Views.{model_tree, params_tree};
+ghost use Rattle.ep_driver.specs.Commands.{conflicts_of, files_of};
+ghost use Rattle.ep_driver.specs.Outcomes.{search_outcome, verify_outcome};
+ghost use Rattle.ep_driver.specs.Searches.{HasTexts};
+ghost use Rattle.ep_driver.specs.Shown.{ComesTo, comes_to_check, comes_to_judge, comes_to_search, comes_to_verify};
+ghost use Rattle.ep_solve.specs.Right.{empty_log};
+ghost use Rattle.ep_driver.specs.Steps.{EndsAs, EndsBy, IsJudgedEnd, IsSearched, TellsReply, TellsTask, formula_clauses};
+
+use super::answering::searched_reply;
+use super::checking::{checked_model, checked_params, instance_of};
+use super::generating::generate;
+use super::judging::judged_reply;
+use super::reading::{read_formula, read_model, read_named_params, read_params, read_proof};
+use super::replies::Reply;
+use super::stops::Stop;
+use super::verdicts::checked_reply;
+use super::wanted::{Request, Wanted};
+use cnf_core::{Formula, Log};
+use ep_base::{Files, Word};
+use ep_print::TextFile;
+use ep_tree::{Mode, Model, Params};
+use std::alloc::Global;
+
+/// Does what is wanted. The formula and the solver's steps stand in the log then, where it was needed.
+pub fn do_wanted<F: Files>(
+    alloc: Global,
+    files: &mut F,
+    wanted: &Wanted,
+    log: &mut Log,
+) -> Result<Reply, Stop>
+    requires empty { log.old ≡ empty_log }
+    requires texts { HasTexts wanted.now }
+    ensures tells { TellsTask (files_of wanted.now) (ComesTo wanted.now) (F.held files.old)
+        (Rose (F.faults files.old) (F.faults files.new)) log.new result }
+    ensures ends { EndsAs wanted.now log.new result }
+    ensures held { F.held files.new ≡ F.held files.old }
+    ensures faults { F.faults files.old ≤ F.faults files.new }
+{
+    match wanted {
+        Wanted::Search {
+            model,
+            params,
+            mode,
+            request,
+            ..
+        } => {
+            let model = read_model(alloc, files, model)?;
+            search_model(alloc, files, model, params, *mode, *request, log)
+        }
+        Wanted::Verify {
+            model,
+            params,
+            mode,
+            solution,
+        } => {
+            let model = read_model(alloc, files, model)?;
+            verify_model(alloc, files, model, params, *mode, solution)
+        }
+        Wanted::Check { formula, proof } => {
+            let formula = read_formula(alloc, files, formula)?;
+            check_proof(alloc, files, formula, proof)
+        }
+        Wanted::Generate {
+            number,
+            conflicts,
+            ..
+        } => generate(alloc, *number, *conflicts, log),
+    }
+}
+
+/// Searches in a model, once its parameters are read.
+fn search_model<F: Files>(
+    alloc: Global,
+    files: &mut F,
+    model: Model,
+    params: &Option<Word>,
+    mode: Mode,
+    request: Request,
+    log: &mut Log,
+) -> Result<Reply, Stop>
+    requires empty { log.old ≡ empty_log }
+    ensures tells { TellsTask (option_to_list params.now) (comes_to_search mode request params.now (model_tree model))
+        (F.held files.old) (Rose (F.faults files.old) (F.faults files.new)) log.new result }
+    ensures ends { EndsBy (λ status. IsSearched (conflicts_of request) status log.new) log.new result }
+    ensures held { F.held files.new ≡ F.held files.old }
+    ensures faults { F.faults files.old ≤ F.faults files.new }
+{
+    let params = read_named_params(alloc, files, params)?;
+    search_texts(alloc, model, params, mode, request, log)
+}
+
+/// Verifies a solution text of a model, once its parameters are read.
+fn verify_model<F: Files>(
+    alloc: Global,
+    files: &mut F,
+    model: Model,
+    params: &Option<Word>,
+    mode: Mode,
+    solution: &Word,
+) -> Result<Reply, Stop>
+    ensures tells { TellsTask (option_to_list params.now ++ solution.now ∷ [])
+        (comes_to_verify mode params.now solution.now (model_tree model))
+        (F.held files.old) (Rose (F.faults files.old) (F.faults files.new)) empty_log result }
+    ensures status { IfOk result (λ reply. IsJudgedEnd reply.status empty_log) }
+    ensures held { F.held files.new ≡ F.held files.old }
+    ensures faults { F.faults files.old ≤ F.faults files.new }
+{
+    let params = read_named_params(alloc, files, params)?;
+    verify_solution(alloc, files, model, params, mode, solution)
+}
+
+/// Verifies a solution text, once it is read.
+fn verify_solution<F: Files>(
+    alloc: Global,
+    files: &mut F,
+    model: Model,
+    params: Params,
+    mode: Mode,
+    solution: &Word,
+) -> Result<Reply, Stop>
+    ensures tells { TellsTask (solution.now ∷ [])
+        (comes_to_judge mode solution.now (model_tree model) (params_tree params))
+        (F.held files.old) (Rose (F.faults files.old) (F.faults files.new)) empty_log result }
+    ensures status { IfOk result (λ reply. IsJudgedEnd reply.status empty_log) }
+    ensures held { F.held files.new ≡ F.held files.old }
+    ensures faults { F.faults files.old ≤ F.faults files.new }
+{
+    let solution = read_params(alloc, files, TextFile::Solution, solution)?;
+    verify_texts(alloc, model, params, mode, solution)
+}
+
+/// Checks a proof of a formula, once it is read.
+fn check_proof<F: Files>(
+    alloc: Global,
+    files: &mut F,
+    formula: Formula,
+    proof: &Word,
+) -> Result<Reply, Stop>
+    ensures tells { TellsTask (proof.now ∷ []) (comes_to_check proof.now (formula_clauses formula))
+        (F.held files.old) (Rose (F.faults files.old) (F.faults files.new)) empty_log result }
+    ensures status { IfOk result (λ reply. IsJudgedEnd reply.status empty_log) }
+    ensures held { F.held files.new ≡ F.held files.old }
+    ensures faults { F.faults files.old ≤ F.faults files.new }
+{
+    let proof = read_proof(alloc, files, proof)?;
+    let reply = checked_reply(alloc, &formula, &proof)?;
+    Ok(reply)
+}
+
+/// Searches in a model under its parameters.
+pub fn search_texts(
+    alloc: Global,
+    model: Model,
+    params: Params,
+    mode: Mode,
+    request: Request,
+    log: &mut Log,
+) -> Result<Reply, Stop>
+    requires empty { log.old ≡ empty_log }
+    ensures tells { TellsReply (search_outcome mode request (model_tree model) (params_tree params)) log.new result }
+    ensures ends { EndsBy (λ status. IsSearched (conflicts_of request) status log.new) log.new result }
+{
+    let model = checked_model(alloc, model)?;
+    let params = checked_params(alloc, TextFile::Params, params)?;
+    let instance = instance_of(alloc, mode, model, params)?;
+    let reply = searched_reply(alloc, &instance, request, log)?;
+    Ok(reply)
+}
+
+/// Verifies a solution text of a model under its parameters.
+fn verify_texts(
+    alloc: Global,
+    model: Model,
+    params: Params,
+    mode: Mode,
+    solution: Params,
+) -> Result<Reply, Stop>
+    ensures tells { TellsReply
+        (verify_outcome mode (model_tree model) (params_tree params) (params_tree solution)) empty_log result }
+{
+    let model = checked_model(alloc, model)?;
+    let params = checked_params(alloc, TextFile::Params, params)?;
+    let solution = checked_params(alloc, TextFile::Solution, solution)?;
+    let instance = instance_of(alloc, mode, model, params)?;
+    judged_reply(alloc, &instance, solution)
+}

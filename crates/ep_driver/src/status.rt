@@ -1,0 +1,43 @@
+//! How a run ends.
+
+ghost use Rattle.std.specs.Prelude.{◌≡◌};
+ghost use Rattle.ep_driver.specs.Status.{exit_code};
+
+/// How a run ended.
+#[derive(Clone, Copy, Debug, PartialEq, Eq)]
+pub enum Status {
+    /// The answer was written.
+    Answered,
+    /// The budget of conflicts was spent.
+    Unknown,
+    /// The words aren't a command.
+    Usage,
+    /// A text has a fault.
+    Text,
+    /// A text passes a limit.
+    Limit,
+    /// A device failed, or a file that the words name isn't held.
+    Device,
+    /// An allocation was refused.
+    Memory,
+    /// What was to be checked doesn't hold.
+    Refuted,
+}
+
+impl Status {
+    /// The code with which the program ends.
+    pub fn code(&self) -> u8
+        ensures { result ≡ exit_code self.now }
+    {
+        match self {
+            Status::Answered => 0,
+            Status::Unknown => 1,
+            Status::Usage => 2,
+            Status::Text => 3,
+            Status::Limit => 4,
+            Status::Device => 5,
+            Status::Memory => 6,
+            Status::Refuted => 7,
+        }
+    }
+}

@@ -1,0 +1,101 @@
+//! The text of what was given to the solver.
+
+ghost use Rattle.std.specs.Prelude.{◌≡◌, ◌<◌, ◌≤◌, ◌^◌, ℕ, All, IfOk, length, map};
+ghost use Rattle.cnf_core.specs.Events.{givens, plain_event};
+ghost use Rattle.cnf_core.specs.Literal.{VariablesUpTo};
+ghost use Rattle.cnf_core.specs.declared.lit.TheConstants.{MOST_VARIABLE};
+ghost use Rattle.ep_solve.specs.Logged.{added_clauses};
+ghost use Rattle.ep_driver.specs.Outputs.{IsFormulaText};
+
+use cnf_core::{Clause, Event, Formula, Log};
+use ep_base::Memory;
+use sat_text::write_cnf;
+use std::alloc::{AllocError, Global};
+
+/// The text of a log's formula, with the notes of the cells and the number of givens that were added.
+pub fn formula_text(alloc: Global, log: &Log) -> Result<Vec<u8>, Memory>
+    ensures { IfOk result (λ text. IsFormulaText log.now text.items) }
+{
+    let clauses = given_clauses(alloc, log.events())?;
+    let formula = formula_of(alloc, &clauses)?;
+    let _names = formula.clauses();
+    let added = few(added_number(log, &clauses))?;
+    write_cnf(alloc, &formula, log.notes(), added)
+}
+
+/// The most clauses that a line can say were added. Nobody has the memory for so many.
+const MOST_ADDED: u64 = 999_999_999_999_999_999;
+
+/// A number that a line can say.
+fn few(number: u64) -> Result<u64, Memory>
+    ensures same { IfOk result (λ n. n ≡ number) }
+    ensures short { IfOk result (λ n. n < 10 ^ 18) }
+{
+    if number > MOST_ADDED {
+        return Err(Memory);
+    }
+    Ok(number)
+}
+
+/// How many of a log's givens were added to those that stand for the instance.
+fn added_number(log: &Log, clauses: &[Clause]) -> u64
+    requires { clauses.now ≡ givens log.now.events }
+    ensures { result ≡ length (added_clauses log.now) }
+{
+    clauses.len() as u64 - log.base()
+}
+
+/// The clauses that were given.
+fn given_clauses(alloc: Global, events: &[Event]) -> Result<Vec<Clause>, AllocError>
+    ensures { IfOk result (λ clauses. clauses.items ≡ givens (map plain_event events.now)) }
+{
+    let mut clauses = Vec::new(alloc);
+    for event in events {
+        match event {
+            Event::Given(clause) => clauses.push(copied(clause)?)?,
+            Event::Step(_, _) => {}
+        }
+    }
+    Ok(clauses)
+}
+
+/// A clause once more; both share their literals.
+fn copied(clause: &Clause) -> Result<Clause, AllocError>
+    ensures { IfOk result (λ copy. copy ≡ clause.now) }
+{
+    Ok(clause.clone()?)
+}
+
+/// The greatest variable of clauses, or 0 where they have no literal.
+fn greatest_variable(clauses: &[Clause]) -> u64
+    ensures none_above { All (VariablesUpTo result) clauses.now }
+    ensures in_range { result ≤ MOST_VARIABLE }
+{
+    let mut most = 0;
+    for clause in clauses {
+        let _lits = clause.lits();
+        most = greater(most, clause.greatest_variable());
+    }
+    most
+}
+
+/// The greater one of two numbers.
+fn greater(one: u64, other: u64) -> u64
+    ensures first { one ≤ result }
+    ensures second { other ≤ result }
+    ensures least { (most : ℕ) → one ≤ most → other ≤ most → result ≤ most }
+{
+    if one < other { other } else { one }
+}
+
+/// The formula of clauses.
+fn formula_of(alloc: Global, clauses: &[Clause]) -> Result<Formula, Memory>
+    ensures { IfOk result (λ f. f.clauses ≡ clauses.now) }
+{
+    let most = greatest_variable(clauses);
+    let mut formula = Formula::with_vars(alloc, most);
+    for clause in clauses {
+        formula.add(copied(clause)?)?;
+    }
+    Ok(formula)
+}

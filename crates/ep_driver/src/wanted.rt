@@ -1,0 +1,169 @@
+//! What the words of a command want of a run.
+
+ghost use Rattle.std.specs.Prelude.{◌≡◌};
+ghost use Rattle.ep_driver.specs.Commands.{wanted_of};
+ghost use Rattle.ep_driver.specs.Steps.{TellsWanted};
+
+use super::stops::Stop;
+use ep_base::Word;
+use ep_print::Refusal;
+use ep_tree::Mode;
+use ep_words::{Job, WordsError, one_job_for_words, read_words};
+use std::alloc::Global;
+
+/// What a run is wanted to do, with which files, and in which mode of undefinedness.
+#[derive(Debug, Drop)]
+pub enum Wanted {
+    /// To search for solutions of a model, and to write what answers into files where they are named.
+    Search {
+        model: Word,
+        params: Option<Word>,
+        mode: Mode,
+        request: Request,
+        outputs: Outputs,
+    },
+    /// To say whether a solution text is a solution of a model.
+    Verify {
+        model: Word,
+        params: Option<Word>,
+        mode: Mode,
+        solution: Word,
+    },
+    /// To say whether a proof shows that a formula has no satisfying assignment.
+    Check {
+        formula: Word,
+        proof: Word,
+    },
+    /// To solve the texts of a number within so many conflicts, to sum up what was found, and to write the texts into files where
+    /// they are named.
+    Generate {
+        number: u64,
+        conflicts: u64,
+        eprime: Option<Word>,
+        param: Option<Word>,
+    },
+}
+
+/// The files into which a search writes, where they are named.
+#[derive(Debug, Drop)]
+pub struct Outputs {
+    /// The formula, with what was added to it.
+    pub formula: Option<Word>,
+    /// The steps of the log.
+    pub log: Option<Word>,
+    /// The answer.
+    pub solution: Option<Word>,
+}
+
+/// What is searched for, and within how many conflicts.
+#[derive(Clone, Copy, Debug)]
+pub enum Request {
+    /// A solution, and the best one where an objective is stated.
+    One { conflicts: u64 },
+    /// At most so many solutions.
+    Many { most: u64, conflicts: u64 },
+    /// A solution of the texts of a number, of which a summary is given.
+    Generated { number: u64, conflicts: u64 },
+}
+
+/// What the words want of a run.
+pub fn read_wanted(alloc: Global, words: &[Word]) -> Result<Wanted, Stop>
+    ensures { TellsWanted words.now result }
+{
+    one_job_for_words();
+    match read_words(alloc, words) {
+        Ok(job) => match wanted_of(job) {
+            Some(wanted) => Ok(wanted),
+            None => Err(Stop::Refused(Refusal::Usage)),
+        },
+        Err(WordsError::Usage) => Err(Stop::Refused(Refusal::Usage)),
+        Err(WordsError::Memory) => Err(Stop::Memory),
+    }
+}
+
+/// What a job wants of a run, if it is one that runs.
+#[tactic(auto, unfolding(crate::specs::Commands::wanted_of))]
+fn wanted_of(job: Job) -> Option<Wanted>
+    ensures { result ≡ wanted_of job }
+{
+    match job {
+        Job::Solve {
+            in_eprime,
+            in_param,
+            conflicts,
+            out_solution,
+            out_cnf,
+            out_log,
+            undefined,
+        } => Some(Wanted::Search {
+            model: in_eprime,
+            params: in_param,
+            mode: undefined,
+            request: Request::One { conflicts },
+            outputs: Outputs {
+                formula: out_cnf,
+                log: out_log,
+                solution: out_solution,
+            },
+        }),
+        Job::Enumerate {
+            in_eprime,
+            in_param,
+            solutions,
+            conflicts,
+            out_solution,
+            out_cnf,
+            out_log,
+            undefined,
+        } => Some(Wanted::Search {
+            model: in_eprime,
+            params: in_param,
+            mode: undefined,
+            request: Request::Many {
+                most: solutions,
+                conflicts,
+            },
+            outputs: Outputs {
+                formula: out_cnf,
+                log: out_log,
+                solution: out_solution,
+            },
+        }),
+        Job::Verify {
+            in_eprime,
+            in_solution,
+            in_param,
+            undefined,
+        } => Some(Wanted::Verify {
+            model: in_eprime,
+            params: in_param,
+            mode: undefined,
+            solution: in_solution,
+        }),
+        Job::Check {
+            in_cnf,
+            in_log,
+            workers,
+        } => {
+            if workers == 1 {
+                Some(Wanted::Check {
+                    formula: in_cnf,
+                    proof: in_log,
+                })
+            } else {
+                None
+            }
+        }
+        Job::Generate {
+            number,
+            conflicts,
+            out_eprime,
+            out_param,
+        } => Some(Wanted::Generate {
+            number,
+            conflicts,
+            eprime: out_eprime,
+            param: out_param,
+        }),
+    }
+}

@@ -1,0 +1,4 @@
+pub mod Printed
+pub mod Answered
+pub mod GivenBack
+pub mod ReadBack

@@ -1,5 +1,0 @@
-use Rattle.ep_readback.proofs.TextBack.{text_given_back}
-use Rattle.ep_readback.proofs.answers_are_read_again.Goals as goal
-
-pub returns : goal.returns
-returns c = text_given_back

@@ -1,9 +1,0 @@
-use Rattle.ep_readback.proofs.BoundNames.{bound_named}
-use Rattle.ep_readback.proofs.NearDomains.{bound_near}
-use Rattle.ep_readback.proofs.bound_variables_can_be_written.Goals as goal
-
-pub returns-clause-domains : goal.returns-clause-domains
-returns-clause-domains c = bound_near
-
-pub returns-clause-names : goal.returns-clause-names
-returns-clause-names c = bound_named

@@ -1,5 +1,0 @@
-use Rattle.ep_readback.proofs.Worth.{value_read}
-use Rattle.ep_readback.proofs.printed_values_are_read_again.Goals as goal
-
-pub returns : goal.returns
-returns c = value_read

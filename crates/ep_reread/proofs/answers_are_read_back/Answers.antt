@@ -1,5 +1,0 @@
-use Rattle.ep_reread.proofs.Reread.{reread}
-use Rattle.ep_reread.proofs.answers_are_read_back.Goals as goal
-
-pub returns : goal.returns
-returns c = reread c.tokens_spell_one_text.ensures.params c.answers_are_read_again.ensures

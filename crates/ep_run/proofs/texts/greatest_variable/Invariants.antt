@@ -1,7 +1,0 @@
-use Rattle.std.proofs.Common.{◌≤◌}
-use Rattle.cnf_core.specs.declared.lit.TheConstants.{MOST_VARIABLE}
-use Rattle.ep_run.proofs.Givens.{AreUpTo}
-use Rattle.ep_run.proofs.texts.greatest_variable.Given as goal
-
-abbrev pub invariant-loop-clause : goal.invariant-loop-clause
-invariant-loop-clause l = AreUpTo l.most l.clause-index l.clauses × (l.most ≤ MOST_VARIABLE)
