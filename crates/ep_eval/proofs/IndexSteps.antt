@@ -4,8 +4,9 @@ use Rattle.std.specs.Prelude.{is_some}
 use Rattle.std.specs.declared.alloc.Global.{Global}
 use Rattle.std.specs.declared.vec.Vec.{Vec}
 use Rattle.std.proofs.lemmas.List.{append-nil}
+use Rattle.ep_base.specs.Options.{map_both}
 use Rattle.ep_tree.specs.Environments.{Env}
-use Rattle.ep_tree.specs.Evaluation.{end_value, evaluate, index_list, map_both, number_in}
+use Rattle.ep_tree.specs.Evaluation.{end_value, evaluate, index_list, number_in}
 use Rattle.ep_tree.specs.Limits.{MOST_SIZE, limits_of_values}
 use Rattle.ep_tree.specs.Measures.{met_end, met_indices}
 use Rattle.ep_tree.specs.Values.{Index, any_index, at_index}

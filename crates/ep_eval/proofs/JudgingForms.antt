@@ -4,12 +4,12 @@ use Rattle.std.specs.Prelude.{nat_le}
 use Rattle.std.specs.List.{list_all}
 use Rattle.std.proofs.Math.ListN.{drop_of_length-le}
 use Rattle.std.proofs.lemmas.List.{drop_more}
+use Rattle.ep_base.specs.Options.{map_both}
 use Rattle.ep_base.specs.declared.operators.CompareOp.{CompareOp}
 use Rattle.ep_base.specs.declared.operators.LexOp.{LexOp}
 use Rattle.ep_base.specs.declared.places.Place.{Place}
 use Rattle.ep_tree.proofs.TypeEquations.{judge-absolute, judge-all_different, judge-all_of, judge-any_of, judge-at_least, judge-at_most, judge-binary, judge-chain, judge-compare, judge-factorial, judge-flatten, judge-folded, judge-gcc, judge-group, judge-in_set, judge-lex, judge-minus, judge-negation, judge-number, judge-read, judge-table, judge-to_int, judge-truth}
 use Rattle.ep_tree.specs.Environments.{shape_type}
-use Rattle.ep_tree.specs.Evaluation.{map_both}
 use Rattle.ep_tree.specs.Trees.{ExprTree, ExprTrees, Terms, absolute, all_different, all_of, any_of, at_least, at_most, binary, chain, compare, factorial, flatten, folded, gcc, group, in_set, lex, minus, negation, number, read, table, to_int, truth}
 use Rattle.ep_tree.specs.Types.{Context, Judged, all_typed, are_lists, binary_type, folded_type, from_all, from_many, from_one, from_three, from_two, gives, is_integer, is_matrix, judge, judge_all, judge_indices, judge_terms, left_type, mistyped, of_scalar, read_type, scalar_of, slice_count, type_from, typed, untyped}
 use Rattle.ep_tree.specs.Views.{expr_tree, expr_trees, indices_of, kind_tree, terms_of}

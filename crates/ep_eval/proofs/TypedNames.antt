@@ -5,12 +5,12 @@ use Rattle.std.specs.List.{list_all}
 use Rattle.std.specs.declared.alloc.Global.{Global}
 use Rattle.std.specs.declared.boxed.Box.{Box}
 use Rattle.std.specs.declared.vec.Vec.{Vec}
+use Rattle.ep_base.specs.Options.{map_both}
 use Rattle.ep_base.specs.declared.names.Name.{Name}
 use Rattle.ep_base.specs.declared.places.Place.{Place}
 use Rattle.ep_tree.proofs.ViewLemmas.{kind_tree-comprehension, kind_tree-quantified}
 use Rattle.ep_tree.proofs.TypeEquations.{judge-comprehension, judge-quantified}
 use Rattle.ep_tree.specs.Environments.{Bound, has_cells, has_domain, has_value, meaning_in}
-use Rattle.ep_tree.specs.Evaluation.{map_both}
 use Rattle.ep_tree.specs.Names.{put}
 use Rattle.ep_tree.specs.Trees.{DomainTree, ExprTree, ExprTrees, Generators, IndexDomain, comprehension, quantified}
 use Rattle.ep_tree.specs.Types as types

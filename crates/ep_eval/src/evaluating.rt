@@ -4,9 +4,10 @@ ghost use Rattle.std.specs.Prelude.{◌≡◌, ◌++◌, ◌+◌, ◌≤◌, ◌
 ghost use Rattle.std.specs.List.{list_any};
 ghost use Rattle.ep_base.specs.declared.places.Place.{Place};
 ghost use Rattle.ep_base.specs.Numbers.{counts_hold, sum_of};
+ghost use Rattle.ep_base.specs.Options.{map_both, on_three};
 ghost use Rattle.ep_tree.specs.Environments.{value_bound};
 ghost use Rattle.ep_tree.specs.Values.{all_defined};
-ghost use Rattle.ep_tree.specs.Evaluation.{domain_values, end_value, evaluate, index_list, index_values, map_both, number_in, on_three, range_values, scalars_in, term_values, truth_in, values_of};
+ghost use Rattle.ep_tree.specs.Evaluation.{domain_values, end_value, evaluate, index_list, index_values, number_in, range_values, scalars_in, term_values, truth_in, values_of};
 ghost use Rattle.ep_tree.specs.Limits as limits;
 ghost use Rattle.ep_tree.specs.Limits.{is_too_far, limits_of_values};
 ghost use Rattle.ep_tree.specs.Measures as measures;

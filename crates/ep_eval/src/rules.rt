@@ -1,7 +1,7 @@
 //! The types of forms by those of their parts.
 
 ghost use Rattle.std.specs.Prelude.{◌≡◌, ℕ, Bool, suc, Some, ◌++◌, ◌+◌, ◌-◌, ◌&&◌, ◌∷◌, [], ◌≤◌, IfOk, length, option_map};
-ghost use Rattle.ep_tree.specs.Evaluation.{map_both};
+ghost use Rattle.ep_base.specs.Options.{map_both};
 ghost use Rattle.ep_tree.specs.Types as types;
 ghost use Rattle.ep_tree.specs.Types.{slice_count, type_from};
 ghost use Rattle.ep_tree.specs.Views.{indices_of};
@@ -61,7 +61,7 @@ pub fn passing(wanted: Wanted, ty: Option<ValueType>) -> Option<bool>
 }
 
 /// Whether two conditions hold, where both are told.
-#[tactic(auto, unfolding(ep_tree::specs::Evaluation::map_both))]
+#[tactic(auto, unfolding(ep_base::specs::Options::map_both))]
 pub fn both(one: Option<bool>, other: Option<bool>) -> Option<bool>
     ensures { result ≡ map_both (λ a b. a && b) one other }
 {
@@ -347,7 +347,7 @@ pub fn list_of(
 }
 
 /// Types and one more, where all are there.
-#[tactic(auto, unfolding(ep_tree::specs::Evaluation::map_both))]
+#[tactic(auto, unfolding(ep_base::specs::Options::map_both))]
 pub fn with_type(
     types: Option<Vec<ValueType>>,
     ty: Option<ValueType>,
