@@ -1,11 +1,10 @@
 -- What it means that a formula stands for a ground.
-use Rattle.std.specs.Prelude.{◌≡◌, ℕ, Bool, ℤ, IsTrue, List, map}
+use Rattle.std.specs.Prelude.{◌≡◌, ℕ, Bool, ℤ, IsTrue, List, map, option_map}
 use Rattle.std.specs.List.{All}
 use Rattle.cnf_core.specs.Clauses.{Satisfies}
 use Rattle.cnf_core.specs.Formula.{Cnf}
 use Rattle.cnf_core.specs.Steps.{IsConsistent}
-use Rattle.ep_flat.specs.Flats.{MapState, objective_number}
-use Rattle.ep_flatten.specs.Flattening.{IsMapOf}
+use Rattle.ep_flat.specs.Flats.{IsMapOf, MapState, objective_number}
 use Rattle.ep_ground.specs.Grounds.{GroundState, IsGroundSolution, ground_objective}
 use Rattle.enc_var.specs.Decoding.{VariableLiterals}
 use Rattle.enc_var.specs.Layouts.{AreGiven, IsLayoutOf, decoded_cells, decoded_values}
@@ -15,7 +14,7 @@ use Rattle.enc_var.specs.Layouts.{AreGiven, IsLayoutOf, decoded_cells, decoded_v
 pub record IsFormulaOf (g : GroundState) (layout : List VariableLiterals) (m : MapState) (f : Cnf) : Type 0 where
   pub from_new : IsTrue f.from_new
   pub is_layout : IsLayoutOf layout f
-  pub is_map : IsMapOf g (map (λ e. e.domain) layout) m
+  pub is_map : IsMapOf (map (λ one. one.values) g.cells) (option_map (λ goal. goal.0) g.objective) (map (λ e. e.domain) layout) m
   pub consistent : All IsConsistent f.clauses
   pub sound : (s : ℕ → Bool) → Satisfies s f.clauses → IsGroundSolution g (decoded_cells layout m s)
   pub complete : (cells : List ℤ) → IsGroundSolution g cells → AreGiven layout m f.clauses cells
