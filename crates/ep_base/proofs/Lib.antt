@@ -11,3 +11,4 @@ pub mod VectorsTokens
 pub mod RunEquality
 pub mod VectorsReads
 pub mod RunEnds
+pub mod Contraries

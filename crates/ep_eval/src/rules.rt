@@ -14,7 +14,7 @@ use ep_tree::{BinaryOp, Expr, FoldOp, QuantOp, Scalar, ValueType};
 use ep_types_rules::{
     all_boolean, all_have_dimensions, all_integer, all_matrix, all_matrix_of_bool, bool_if,
     both_scalars, has_dimensions, is_boolean, is_integer, is_matrix, is_matrix_of_bool, left_type,
-    of_scalar, scalar_of, stated_dimensions,
+    of_scalar, stated_dimensions,
 };
 use std::alloc::AllocError;
 
@@ -226,7 +226,7 @@ pub fn flattened(ty: Option<ValueType>) -> Option<ValueType>
     };
     let list = ValueType::Matrix {
         dims: 1,
-        of: scalar_of(whole),
+        of: whole.scalar(),
     };
     type_if(list, Some(is_matrix(whole)))
 }
@@ -242,7 +242,7 @@ pub fn set_of_both(one: Option<ValueType>, other: Option<ValueType>) -> Option<V
     let Some(second) = other else {
         return None;
     };
-    let of = both_scalars(scalar_of(first), scalar_of(second));
+    let of = both_scalars(first.scalar(), second.scalar());
     type_if(of_scalar(of), Some(is_integer(first) && is_integer(second)))
 }
 

@@ -74,18 +74,6 @@ pub(crate) fn has_dimensions(count: u64, ty: ValueType) -> bool
     }
 }
 
-/// The scalar of a type.
-#[tactic(auto, unfolding(ep_tree::specs::Types::scalar_of))]
-pub(crate) fn scalar_of(ty: ValueType) -> Scalar
-    ensures { result ≡ types.scalar_of ty }
-{
-    match ty {
-        ValueType::Bool | ValueType::Empty => Scalar::Bool,
-        ValueType::Int => Scalar::Int,
-        ValueType::Matrix { of, .. } => of,
-    }
-}
-
 /// The type of a number of this scalar.
 #[tactic(auto, unfolding(ep_tree::specs::Types::of_scalar))]
 pub(crate) fn of_scalar(scalar: Scalar) -> ValueType
@@ -244,7 +232,7 @@ pub(crate) fn set(place: Place, one: ValueType, other: ValueType) -> Result<Valu
         (types.gives (types.of_scalar (types.both_scalars (types.scalar_of one) (types.scalar_of other)))
         (types.is_integer one && types.is_integer other))) }
 {
-    let of = both_scalars(scalar_of(one), scalar_of(other));
+    let of = both_scalars(one.scalar(), other.scalar());
     gives(place, of_scalar(of), is_integer(one) && is_integer(other))
 }
 
@@ -576,7 +564,7 @@ pub(crate) fn flattened(place: Place, ty: ValueType) -> Result<ValueType, Static
     ensures { SaysOfCheck (λ t. t) result (conclude place
         (types.gives (ValueType.Matrix 1 (types.scalar_of ty)) (types.is_matrix ty))) }
 {
-    let of = scalar_of(ty);
+    let of = ty.scalar();
     gives(place, ValueType::Matrix { dims: 1, of }, is_matrix(ty))
 }
 

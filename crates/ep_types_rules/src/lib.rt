@@ -65,18 +65,6 @@ pub fn has_dimensions(count: u64, ty: ValueType) -> bool
     }
 }
 
-/// The scalar of a type.
-#[tactic(auto, unfolding(ep_tree::specs::Types::scalar_of))]
-pub fn scalar_of(ty: ValueType) -> Scalar
-    ensures { result ≡ types.scalar_of ty }
-{
-    match ty {
-        ValueType::Bool | ValueType::Empty => Scalar::Bool,
-        ValueType::Int => Scalar::Int,
-        ValueType::Matrix { of, .. } => of,
-    }
-}
-
 /// The type of a number of this scalar.
 #[tactic(auto, unfolding(ep_tree::specs::Types::of_scalar))]
 pub fn of_scalar(scalar: Scalar) -> ValueType

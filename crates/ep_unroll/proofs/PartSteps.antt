@@ -12,7 +12,7 @@ use Rattle.ep_tree.specs.Environments.{Bound, Env, has_cells, value_bound}
 use Rattle.ep_tree.specs.Evaluation.{evaluate, index_list, number_in, read_result, type_in}
 use Rattle.ep_tree.specs.Solutions.{cell_count}
 use Rattle.ep_tree.specs.Trees.{ExprTree, Indices, named, read}
-use Rattle.ep_tree.specs.Values.{Index, ValueTree, all_defined, any_index, as_parts, at_index, listed_values, matrix, part_at, read_value, single}
+use Rattle.ep_tree.specs.Values.{Index, ValueTree, all_defined, any_index, as_parts, at_index, index_in, indices_in, listed_values, matrix, part_at, read_value, single}
 use Rattle.ep_tree.specs.Views.{expr_tree, indices_of}
 use Rattle.ep_tree.specs.declared.syntax.Expr.{Expr}
 use Rattle.ep_tree.specs.declared.values.Mode.{Mode}
@@ -20,7 +20,7 @@ use Rattle.ep_tree.specs.declared.values.Scalar.{Scalar}
 use Rattle.ep_tree.specs.declared.values.ValueType.{ValueType}
 use Rattle.ep_eval.proofs.ReadResults.{read_found}
 use Rattle.ep_unroll.proofs.FreeValues.{type_kept}
-use Rattle.ep_unroll.specs.Blocks.{IsWorth, StandFor, block_under, cell_of, index_in, indices_in, one_index}
+use Rattle.ep_unroll.specs.Blocks.{IsWorth, StandFor, block_under, cell_of, one_index}
 use Rattle.ep_unroll.specs.Meanings.{AreTerms, Means, worth}
 use Rattle.ep_unroll.specs.Readings.{Numbering, Reading, ReadsName, cells_value, each_from}
 use Rattle.ep_unroll.specs.declared.unrolled.Unrolled.{Unrolled, Number, Cells, Fixed, Matrix'}

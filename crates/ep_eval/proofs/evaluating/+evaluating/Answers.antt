@@ -10,9 +10,9 @@ use Rattle.ep_base.specs.Numbers.{absolute_of, are_different, compare_holds, cou
 use Rattle.ep_base.specs.declared.operators.CompareOp.{CompareOp}
 use Rattle.ep_tree.specs.Measures.{met, met_all, met_terms, met_domain, met_domains, met_end, met_index, met_indices}
 use Rattle.ep_tree.specs.Trees.{all_different, at_least, at_most, factorial, flatten, gcc, in_set, lex, table, chain, absolute, all_of, any_of, binary, minus, named, compare, group, negation, number, to_int, truth, bool, group_domain, int, named_domain, ranges, read, literal, set_domain, matrix_domain}
-use Rattle.ep_tree.specs.Values.{list_value, single, read_value}
+use Rattle.ep_tree.specs.Values.{list_value, single, read_value, indices_in}
 use Rattle.ep_tree.specs.Views.{expr_tree, expr_trees, kind_tree, terms_of, domain_kind_tree, domain_tree, ranges_of, end_of, indices_of, domains_of, value_tree}
-use Rattle.ep_eval.specs.Reading.{indices_in, with_index}
+use Rattle.ep_eval.specs.Reading.{with_index}
 use Rattle.ep_eval.proofs.ReadResults.{meets_read}
 use Rattle.ep_eval.proofs.IndexSteps.{IndicesSoFar, in_option, indices_begin, indices_cause, indices_counted, indices_more, indices_value}
 use Rattle.ep_tree.specs.declared.syntax.Domain.{size-Domain}
