@@ -12,3 +12,4 @@ pub mod RunEquality
 pub mod VectorsReads
 pub mod RunEnds
 pub mod Contraries
+pub mod WordLengths

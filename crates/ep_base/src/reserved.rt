@@ -1,8 +1,22 @@
-//! Reserved words.
+//! Reserved words, and which bytes names are made of.
 
 ghost use Rattle.std.specs.Prelude.{◌≡◌, bytes_eq};
 ghost use Rattle.std.specs.List.{list_any};
-ghost use Rattle.ep_base.specs.TokenTexts.{is_word};
+ghost use Rattle.ep_base.specs.TokenTexts.{begins_name, continues_name, is_word};
+
+/// Whether a byte may begin a name: a letter or an underscore.
+pub fn begins_name(byte: u8) -> bool
+    ensures { result ≡ begins_name byte }
+{
+    byte.is_ascii_alphabetic() || byte == b'_'
+}
+
+/// Whether a byte may stand further on in a name: a letter, an underscore or a digit.
+pub fn continues_name(byte: u8) -> bool
+    ensures { result ≡ continues_name byte }
+{
+    begins_name(byte) || byte.is_ascii_digit()
+}
 
 const OF_TWO: [&[u8]; 6] = [b"on", b"be", b"by", b"of", b"in", b"or"];
 
@@ -34,7 +48,7 @@ fn is_one_of(words: &[&[u8]], text: &[u8]) -> bool
 }
 
 /// Whether a text is a reserved word or the name of the language.
-pub(crate) fn is_word(text: &[u8]) -> bool
+pub fn is_word(text: &[u8]) -> bool
     ensures { result ≡ is_word text.now }
 {
     match text.len() {

@@ -1,7 +1,7 @@
 use Rattle.std.proofs.Common.{◌≡◌, false, arith}
 use Rattle.std.proofs.lemmas.Bool.Decides.{nat_tests}
-use Rattle.ep_lexer.proofs.Fronts.{is_word-of_length, no_word-of_length, has_word_length}
-use Rattle.ep_lexer.proofs.words.is_word.Goals as goal
+use Rattle.ep_base.proofs.WordLengths.{is_word-of_length, no_word-of_length, has_word_length}
+use Rattle.ep_base.proofs.reserved.is_word.Goals as goal
 
 pub returns-in-2 : goal.returns-in-2
 returns-in-2 c = is_word-of_length 2 c.args.text.now _ c.in-2.is c.is_one_of.ensures
