@@ -1,6 +1,5 @@
 pub mod Counts
 pub mod Choices
-pub mod VectorsDecoding
 pub mod Places
 pub mod TiedPlaces
 pub mod Saying

@@ -4,7 +4,7 @@ use Rattle.ep_base.specs.declared.operators.CompareOp.{CompareOp}
 use Rattle.ep_base.specs.declared.operators.LexOp.{LexOp}
 use Rattle.ep_base.specs.declared.places.Place.{Place}
 use Rattle.ep_tree.proofs.Opened.{the_language}
-use Rattle.ep_tree.proofs.VectorsTypes.{known_names}
+use Rattle.ep_tree_rows.proofs.Types.{known_names}
 use Rattle.ep_tree.specs.Names.{put}
 use Rattle.ep_tree.specs.Trees.{DomainTree, ExprTree, absolute, at_least, at_most, binary, bool, compare, comprehension, domain_and, end_at, every_and, folded, gcc, generator_and, group, group_domain, in_domain, in_set, index_and, lex, literal, matrix_domain, named, named_domain, negation, no_domains, no_generators, no_indices, no_ranges, no_trees, number, over, quantified, ranges, read, set_domain, span_and, table, tree_and, unstated}
 use Rattle.ep_tree.specs.Types.{Context, Judged, a_domain, judge, judge_domain, mistyped, typed, untyped}
@@ -19,7 +19,7 @@ use Rattle.ep_tree.specs.declared.values.ValueType.{ValueType}
 abbrev p : Place
 p = record { line = 1; column = 1 }
 
--- the names of the other vectors, and F for a domain of Booleans
+-- the names of the other rows, and F for a domain of Booleans
 abbrev known : Context
 known = put (codes "F") (a_domain (Some ValueType.Bool)) known_names
 

@@ -6,7 +6,7 @@ use Rattle.ep_base.specs.declared.operators.Sense.{Sense}
 use Rattle.ep_base.specs.declared.places.Place.{Place}
 use Prim.Native.String.{String}
 use Rattle.ep_tree.proofs.Opened.{the_language}
-use Rattle.ep_tree.proofs.Openings.{bangs-below, begins, begins_well, one_of, says_one}
+use Rattle.ep_tree_rows.proofs.Openings.{bangs-below, begins, begins_well, one_of, says_one}
 use Rattle.ep_tree.specs.Heights.{height}
 use Rattle.ep_tree.specs.Phrases.{Is, Lexeme, Phrase, Saying, a_name, a_number, a_word, ◌followed_by◌}
 use Rattle.ep_tree.specs.Reading.{IsSyntaxFault, IsTextFault, IsTooHigh, MOST_HEIGHT, Reads, ReadsWhole}

@@ -4,7 +4,7 @@ use Rattle.ep_base.specs.declared.operators.CompareOp.{CompareOp}
 use Rattle.ep_base.specs.declared.operators.LexOp.{LexOp}
 use Rattle.ep_base.specs.declared.operators.Sense.{Sense}
 use Rattle.ep_base.specs.declared.places.Place.{Place}
-use Rattle.ep_tree.proofs.Cuts.{cut_domain, cut_expr, cut_model, cut_params, spelled_by, the_cuts}
+use Rattle.ep_tree_rows.proofs.Cuts.{cut_domain, cut_expr, cut_model, cut_params, spelled_by, the_cuts}
 use Rattle.ep_tree.proofs.Opened.{the_language}
 use Rattle.ep_tree.specs.Phrases.{Lexeme, Saying, a_name, a_number, a_word}
 use Rattle.ep_tree.specs.Spelling.{Spells, SpellsDomain, domains, implications}

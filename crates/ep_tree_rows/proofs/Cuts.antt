@@ -1,4 +1,4 @@
--- Cutting tokens by a tree: the first tokens that spell it, found and shown to spell it. Vectors compute with this.
+-- Cutting tokens by a tree: the first tokens that spell it, found and shown to spell it. Rows compute with this.
 use Rattle.std.specs.Prelude.{◌≡◌, ℕ, Bool, true, false, ◌&&◌, List, [], ◌∷◌, ◌++◌, Option, Some, None, ◌==◌, bytes_eq, codes, pos, refl}
 use Rattle.std.proofs.Common.{ap, sym, inl, inr, subst, ◌∙◌}
 use Rattle.std.specs.Ordering.{int_eq}
@@ -461,7 +461,7 @@ spelled_by phrase cut ls e = go (cut ls) e
     go None k = absurd cc
     go (Some f) k = all f f.back refl k
 
--- a vector that says `unfolding the_cuts` computes with all of them
+-- a row that says `unfolding the_cuts` computes with all of them
 unfoldable pub the_cuts : ℕ
 unfolding cut_node cut_domain_node cut_chain cut_terms cut_parts cut_more_parts cut_list cut_more cut_index_domain cut_generators cut_more_generators cut_indices cut_more_indices cut_last_indices cut_ranges cut_more_ranges cut_end cut_index_domains cut_more_index_domains cut_names cut_placed cut_expressions cut_groups cut_stated cut_some_names cut_sense cut_statement cut_statements cut_model cut_params
 the_cuts = 0

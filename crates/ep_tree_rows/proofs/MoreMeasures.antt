@@ -15,9 +15,9 @@ use Rattle.ep_base.specs.Runs.{counting}
 use Rattle.ep_tree.specs.Measures.{farthest_reach, met, size_of, weight_of}
 use Rattle.ep_tree.specs.Reach.{Span, extent, span_of}
 use Rattle.ep_tree.specs.declared.values.Scalar.{Scalar}
-use Rattle.ep_tree.proofs.VectorsMeasures.{cells, p}
+use Rattle.ep_tree_rows.proofs.Measures.{cells, p}
 
--- the cells of the other vectors, and h, a Boolean cell whose one value is false
+-- the cells of the other rows, and h, a Boolean cell whose one value is false
 abbrev with_one : Env
 with_one = put (codes "h") (has_cells Scalar.Bool [] (pos 0 ∷ [])) cells
 

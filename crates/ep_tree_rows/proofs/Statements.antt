@@ -4,7 +4,7 @@ use Rattle.ep_base.specs.TokenTexts.{is_symbol, is_word, kind_of}
 use Rattle.ep_base.specs.declared.operators.Sense.{Sense}
 use Rattle.ep_base.specs.declared.places.Place.{Place}
 use Prim.Native.String.{String}
-use Rattle.ep_tree.proofs.Cuts.{cut_statement, spelled_by, the_cuts}
+use Rattle.ep_tree_rows.proofs.Cuts.{cut_statement, spelled_by, the_cuts}
 use Rattle.ep_tree.proofs.Opened.{the_language}
 use Rattle.ep_tree.specs.Phrases.{Lexeme, saying_of}
 use Rattle.ep_tree.specs.StatementSpelling.{SpellsParams, SpellsStatement}
