@@ -23,8 +23,9 @@ use Rattle.ep_tree.specs.declared.syntax.Kind.{Comprehension, Kind, Quant}
 use Rattle.ep_tree.specs.declared.syntax.QuantOp.{QuantOp}
 use Rattle.ep_tree.specs.declared.values.Scalar.{Scalar}
 use Rattle.ep_tree.specs.declared.values.ValueType.{ValueType}
+use Rattle.ep_types_rules.proofs.RuleSteps.{next_is}
 use Rattle.ep_eval.proofs.DomainTypes.{index_is, pass_append}
-use Rattle.ep_eval.proofs.JudgingForms.{first_all, given_by, next_is, typed_more}
+use Rattle.ep_eval.proofs.JudgingForms.{first_all, given_by, typed_more}
 use Rattle.ep_eval.specs.Bounds.{only_domain}
 use Rattle.ep_eval.specs.Judging.{all_pass, domain_type_at, list_of, name_scalar, passes, quantified_part, type_of_quantifier, type_at, type_if}
 use Rattle.ep_eval.specs.Literals.{index_at}

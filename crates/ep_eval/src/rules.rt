@@ -13,8 +13,8 @@ use ep_base::Memory;
 use ep_tree::{BinaryOp, Expr, FoldOp, QuantOp, Scalar, ValueType};
 use ep_types_rules::{
     all_boolean, all_have_dimensions, all_integer, all_matrix, all_matrix_of_bool, bool_if,
-    both_scalars, has_dimensions, is_boolean, is_integer, is_matrix, is_matrix_of_bool, left_type,
-    of_scalar, stated_dimensions,
+    both_scalars, count_slices, has_dimensions, is_boolean, is_integer, is_matrix,
+    is_matrix_of_bool, left_type, of_scalar, stated_dimensions,
 };
 use std::alloc::AllocError;
 
@@ -86,31 +86,6 @@ pub fn type_if(ty: ValueType, holds: Option<bool>) -> Option<ValueType>
         return Some(ty);
     }
     None
-}
-
-/// One for `..`, and else nothing.
-#[tactic(auto, unfolding(ep_tree::specs::Types::slice_count, ep_tree::specs::Views::indices_of))]
-fn count_one(index: &Option<Expr>) -> u64
-    ensures count { result ≡ slice_count (indices_of (index.now ∷ [])) }
-    ensures within { result ≤ 1 }
-{
-    match index {
-        None => 1,
-        Some(_) => 0,
-    }
-}
-
-/// How many indices of a read are `..`.
-fn count_slices(indices: &[Option<Expr>]) -> u64
-    ensures count { result ≡ slice_count (indices_of indices.now) }
-    ensures within { result ≤ length indices.now }
-{
-    let mut count = 0;
-    for index in indices {
-        let one = count_one(index);
-        count += one;
-    }
-    count
 }
 
 /// The type of a read of a matrix of so many dimensions.
