@@ -10,13 +10,13 @@ ghost use Rattle.enc_arith.specs.Extremes.{all_compare, any_compares, extreme_of
 ghost use Rattle.enc_arith.specs.Saying.{IsReady, NamesIn, or_is_not, says};
 ghost use Rattle.enc_var.specs.Layouts.{literals_at};
 
-use crate::listing::listed;
 use crate::sides::{Side, contrary};
 use crate::telling::add_more;
 use cnf_core::Formula;
 use enc_atoms::{Atom, add_clause};
 use enc_var::Layout;
 use ep_base::{CompareOp, Memory};
+use ep_numbers::listed;
 use std::alloc::{AllocError, Global};
 
 /// The statement that a variable compares so with a number.

@@ -4,7 +4,6 @@ pub mod VectorsDecoding
 pub mod Places
 pub mod TiedPlaces
 pub mod Saying
-pub mod Counting
 pub mod Growing
 pub mod GoingOn
 pub mod Noting

@@ -15,11 +15,12 @@ ghost use Rattle.ep_unroll.specs.Cells.{cell_of, find_cells};
 ghost use Rattle.ep_unroll.specs.Firsts.{numbering, numbering_of};
 
 use super::firsts::{CellTable, FirstCell};
-use super::listing::{index_lists, listed};
+use super::listing::index_lists;
 use ep_base::{Key, Memory, Name, Runs};
 use ep_eval::Env;
 use ep_ground::Cell;
 use ep_instance::{Find, Instance};
+use ep_numbers::listed;
 use ep_tree::{Scalar, ValueType};
 use std::alloc::Global;
 
