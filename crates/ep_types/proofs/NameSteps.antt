@@ -1,6 +1,6 @@
 -- Steps of the proofs on rules and names.
-use Rattle.std.specs.Prelude.{◌≡◌, ℕ, Bool, true, false, List, [], ◌∷◌, ◌++◌, if◌then◌else◌, bytes_eq, Some, None, Ok, Err, Option, Result, option_map, length, take, ◌≤◌, ◌<◌, ◌+◌, ◌-◌, refl}
-use Rattle.std.proofs.Common.{ap, arith, subst, sym, ◌∙◌}
+use Rattle.std.specs.Prelude.{◌≡◌, ℕ, Bool, true, false, List, [], ◌∷◌, ◌++◌, if◌then◌else◌, bytes_eq, Some, None, Ok, Err, Option, option_map, length, take, ◌≤◌, ◌<◌, ◌+◌, ◌-◌, refl}
+use Rattle.std.proofs.Common.{ap, arith, sym, ◌∙◌}
 use Rattle.std.proofs.lemmas.List.{take_more}
 use Rattle.std.specs.Prelude.{slice_index_or}
 use Rattle.std.specs.Borrow.{Bor}
@@ -10,13 +10,13 @@ use Rattle.ep_base.specs.declared.places.Place.{Place}
 use Rattle.ep_tree.specs.Faults.{Fault, ill_typed, unknown_name, wrong_category}
 use Rattle.ep_tree.specs.Names.{put}
 use Rattle.ep_tree.specs.Types as types
-use Rattle.ep_tree.specs.Types.{Context, Judged, gives}
+use Rattle.ep_tree.specs.Types.{Context}
 use Rattle.ep_tree.specs.declared.values.ValueType.{ValueType}
-use Rattle.ep_types_rules.proofs.Said.{ill_typed_says, wrong_category_says}
-use Rattle.ep_types_rules.specs.Concluding.{Checked, SaysOfCheck, conclude, quantified_over}
+use Rattle.ep_types_rules.proofs.Said.{wrong_category_says}
+use Rattle.ep_types_rules.specs.Concluding.{Checked}
 use Rattle.ep_types_rules.specs.Named.{IsUnknown, fault_of}
 use Rattle.ep_types_rules.specs.declared.errors.StaticError.{StaticError}
-use Rattle.ep_types_rules.specs.declared.errors.StaticError.TheVariants.{IllTyped, WrongCategory}
+use Rattle.ep_types_rules.specs.declared.errors.StaticError.TheVariants.{WrongCategory}
 use Rattle.ep_types.specs.Checking.{check_domain_name, check_name, check_value}
 use Rattle.ep_types.specs.Meanings.{behind_names, known_by, meaning_of}
 use Rattle.ep_types.specs.declared.names.Meaning.{Meaning}

@@ -1,6 +1,6 @@
 //! The types of nodes by those of their parts.
 
-ghost use Rattle.std.specs.Prelude.{◌≡◌, ◌&&◌, ◌||◌, ◌+◌, ◌-◌, ◌≤◌, ◌∷◌, [], if◌then◌else◌, length, nat_le, nat_lt, not};
+ghost use Rattle.std.specs.Prelude.{◌≡◌, ◌&&◌, ◌||◌, ◌+◌, ◌-◌, ◌≤◌, ◌∷◌, [], length, nat_le, nat_lt, not};
 ghost use Rattle.std.specs.List.{list_all};
 ghost use Rattle.ep_tree.specs.Faults.{entry_count, has_open_range, is_power, leaves_matrix, open_domain};
 ghost use Rattle.ep_tree.specs.Types as types;
