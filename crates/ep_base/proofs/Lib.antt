@@ -13,3 +13,4 @@ pub mod VectorsReads
 pub mod RunEnds
 pub mod Contraries
 pub mod WordLengths
+pub mod Small
