@@ -4,6 +4,7 @@ use Rattle.std.specs.List.{All, Contains, list_all, list_any}
 use Rattle.std.proofs.lemmas.List.{map-append, take_more, take_all}
 use Rattle.std.proofs.lemmas.List.Elements.{All-cons, All-head, All-nil, All-tail}
 use Rattle.std.proofs.lemmas.List.Folds.{list_any-append}
+use Rattle.std.proofs.Math.Bool.{or-false, or_assoc}
 use Rattle.cnf_core.specs.Formula.{Cnf}
 use Rattle.ep_base.specs.Numbers.{compare_holds, contrary_comparison}
 use Rattle.ep_base.specs.declared.operators.CompareOp.{CompareOp}
@@ -20,14 +21,6 @@ use Rattle.enc_arith.specs.Extremes.{all_compare, any_compares, extreme_of, leve
 use Rattle.enc_arith.specs.Saying.{IsReady}
 use Rattle.enc_arith.specs.declared.sides.Side.{Side}
 
-or_false : (b : Bool) → (b || false) ≡ b
-or_false true = refl
-or_false false = refl
-
-or_again : (a b c : Bool) → ((a || b) || c) ≡ (a || (b || c))
-or_again true b c = refl
-or_again false b c = refl
-
 -- ---- atoms that are gathered
 
 pub any_more : (op : CompareOp) (values : List ℤ) (xs : List ℕ) (n : ℤ) (k d : ℕ) → k < length xs
@@ -37,13 +30,13 @@ any_more op values xs n k d low =
     ap (λ ys. list_any (λ m. compare_holds op m n) (map (number_at values) ys)) (take_more xs k d low)
     ∙ ap (list_any (λ m. compare_holds op m n)) (map-append (number_at values) (take k xs) (get_or xs k d ∷ []))
     ∙ list_any-append (λ m. compare_holds op m n) (map (number_at values) (take k xs)) (number_at values (get_or xs k d) ∷ [])
-    ∙ ap (λ b. list_any (λ m. compare_holds op m n) (map (number_at values) (take k xs)) || b) (or_false (compare_holds op (number_at values (get_or xs k d)) n))
+    ∙ ap (λ b. list_any (λ m. compare_holds op m n) (map (number_at values) (take k xs)) || b) (or-false (compare_holds op (number_at values (get_or xs k d)) n))
 
 -- no atom yet
 pub gathers_none : (op : CompareOp) (values : List ℤ) (when atoms : List Atom) (xs : List ℕ) (n : ℤ) → atoms ≡ when
     → clause_holds values atoms ≡ (clause_holds values when || any_compares op (numbers_of_vars values (take 0 xs)) n)
 unfolding any_compares numbers_of_vars
-gathers_none op values when atoms xs n is = ap (clause_holds values) is ∙ sym (or_false (clause_holds values when))
+gathers_none op values when atoms xs n is = ap (clause_holds values) is ∙ sym (or-false (clause_holds values when))
 
 -- one atom more
 pub gathers_more : (op : CompareOp) (values : List ℤ) (when atoms more : List Atom) (a : Atom) (xs : List ℕ) (n : ℤ) (k d : ℕ) → k < length xs
@@ -55,7 +48,7 @@ gathers_more op values when atoms more a xs n k d low so_far pushed means =
     ap (clause_holds values) pushed ∙ one_pushed values atoms a
     ∙ ap (λ b. b || atom_holds values a) so_far
     ∙ ap (λ b. (clause_holds values when || any_compares op (numbers_of_vars values (take k xs)) n) || b) means
-    ∙ or_again (clause_holds values when) (any_compares op (numbers_of_vars values (take k xs)) n) (compare_holds op (number_at values (get_or xs k d)) n)
+    ∙ or_assoc (clause_holds values when) (any_compares op (numbers_of_vars values (take k xs)) n) (compare_holds op (number_at values (get_or xs k d)) n)
     ∙ ap (λ b. clause_holds values when || b) (sym (any_more op values xs n k d low))
 
 pub gathers_all : (op : CompareOp) (values : List ℤ) (when atoms : List Atom) (xs : List ℕ) (n m : ℤ) (k : ℕ) → m ≡ n → length xs ≤ k
@@ -143,7 +136,7 @@ each_more L f f1 g when op n m xs k d ready same low one two =
 
 one_atom : (values : List ℤ) (a : Atom) → clause_holds values (a ∷ []) ≡ atom_holds values a
 unfolding clause_holds
-one_atom values a = or_false (atom_holds values a)
+one_atom values a = or-false (atom_holds values a)
 
 both_told : (a b : Bool) → (IsTrue a × IsTrue b) ↔ IsTrue (a && b)
 both_told true b = (λ h. h.1, λ h. (refl, h))

@@ -4,6 +4,7 @@ use Rattle.std.specs.Prelude.{None, Option, Some, int_le, int_lt}
 use Rattle.std.specs.Ordering.{int_eq}
 use Rattle.std.specs.List.{list_all, list_any}
 use Rattle.std.proofs.lemmas.Int.{ints}
+use Rattle.std.proofs.Math.Bool.{or-false}
 use Rattle.cnf_core.specs.Formula.{Cnf}
 use Rattle.ep_base.specs.Numbers.{compare_holds, contrary_comparison, of_bool}
 use Rattle.ep_base.specs.declared.operators.CompareOp.{CompareOp}
@@ -88,17 +89,13 @@ three_told false false b x = (λ h. one (int_eq x (pos 0)) h.0, λ h. (two (int_
     yes true k = refl
     yes false k = refl
 
-or_false : (b : Bool) → (b || false) ≡ b
-or_false true = refl
-or_false false = refl
-
 two_atoms : (values : List ℤ) (a b : Atom) → clause_holds values (a ∷ b ∷ []) ≡ (atom_holds values a || atom_holds values b)
 unfolding clause_holds
-two_atoms values a b = ap (λ e. atom_holds values a || e) (or_false (atom_holds values b))
+two_atoms values a b = ap (λ e. atom_holds values a || e) (or-false (atom_holds values b))
 
 said : (values : List ℤ) (r t : ℕ) (w : ℤ) (b : Bool) → (not (int_eq (number_at values r) w) || int_eq (number_at values t) (of_bool b)) ≡ says values (or_is_not [] r w) (Some t) b
 unfolding says is_as_said clause_holds atom_holds test_holds
-said values r t w b = ap (λ e. e || int_eq (number_at values t) (of_bool b)) (sym (or_false (not (int_eq (number_at values r) w))))
+said values r t w b = ap (λ e. e || int_eq (number_at values t) (of_bool b)) (sym (or-false (not (int_eq (number_at values r) w))))
 
 atoms_told : (values : List ℤ) (r t : ℕ) (w v : ℤ) → clause_holds values (is_not_atom r w ∷ is_atom t v ∷ []) ≡ (not (int_eq (number_at values r) w) || int_eq (number_at values t) v)
 unfolding atom_holds test_holds

@@ -8,3 +8,4 @@ pub mod RunEquality
 pub mod RunEnds
 pub mod Contraries
 pub mod WordLengths
+pub mod Small

@@ -2,6 +2,7 @@
 use Rattle.std.proofs.Common.{◌≡◌, ℕ, ⊎_elim, Bool, true, false, ◌&&◌, ◌||◌, List, [], ◌∷◌, ◌++◌, length, refl, sym, ap, subst, ◌∙◌, filter}
 use Rattle.std.specs.Prelude.{◌==◌, nat_lt, bytes_eq}
 use Rattle.std.specs.List.{list_all}
+use Rattle.std.proofs.Math.Bool.{or-false}
 use Rattle.std.proofs.lemmas.Bool.{cases_Bool, eqb-true, eqb-false, eq-eqb, false_from_ne_true, false≢true, and_parts, or_cases}
 use Rattle.std.proofs.lemmas.List.Folds.{list_any-append}
 use Rattle.std.proofs.lemmas.Slice.Eq.{bytes_eq-Decides}
@@ -19,10 +20,6 @@ or_in false false r h = refl
 or_out : (l b r : Bool) → (l ≡ true → b ≡ false) → (l && r) ≡ (l && (b || r))
 or_out true b r h = rw (h refl) refl
 or_out false b r h = refl
-
-pub or_false : (b : Bool) → (b || false) ≡ b
-or_false true = refl
-or_false false = refl
 
 -- equal bytes are as many
 bytes_eq-length : (xs ys : List ℕ) → bytes_eq xs ys ≡ true → length xs ≡ length ys
@@ -61,7 +58,7 @@ pub is_word-is : (text : List ℕ) → is_word text ≡ is_one_of words text
 unfolding is_word
 is_word-is text =
     let e = list_any-append (λ word. bytes_eq word text) reserved_words (language_name ∷ []) in
-    rw e (ap (λ b. is_one_of reserved_words text || b) (sym (or_false (bytes_eq language_name text))))
+    rw e (ap (λ b. is_one_of reserved_words text || b) (sym (or-false (bytes_eq language_name text))))
 
 -- a text is a word exactly where it is one of the words of its length
 pub is_word-of_length : (n : ℕ) (text : List ℕ) (r : Bool) → length text ≡ n → r ≡ is_one_of (of_length n words) text → r ≡ is_word text

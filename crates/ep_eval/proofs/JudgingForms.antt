@@ -2,6 +2,8 @@
 use Rattle.std.proofs.Common.{◌≡◌, ℕ, suc, ◌+◌, ◌-◌, ◌<◌, ◌≤◌, Bool, true, false, ◌&&◌, ℤ, List, [], ◌∷◌, length, Option, Some, None, option_map, refl, sym, ap, ◌∙◌, arith}
 use Rattle.std.specs.Prelude.{nat_le}
 use Rattle.std.specs.List.{list_all}
+use Rattle.std.proofs.Math.Bool.{and-true, and-false}
+use Rattle.ep_base.proofs.Small.{some_is}
 use Rattle.ep_base.specs.Options.{map_both}
 use Rattle.ep_base.specs.declared.operators.CompareOp.{CompareOp}
 use Rattle.ep_base.specs.declared.operators.LexOp.{LexOp}
@@ -297,20 +299,17 @@ stated_count c (Some x ∷ is) = let e = stated_count c is in omega (arith, e)
 
 -- ---- reads
 
-some_same : {A : Type 0} {x y : A} → Some x ≡ Some y → x ≡ y
-some_same e = cc
-
 longer : (t : ValueType) (js : List Judged) (ts : List ValueType) (o : Option (List ValueType)) → ((us : List ValueType) → o ≡ Some us → length us ≡ length js)
     → option_map (λ us. t ∷ us) o ≡ Some ts → length ts ≡ suc (length js)
 longer t js ts None more h = absurd cc
 longer t js ts (Some us) more h =
-    let own : length (t ∷ us) ≡ length ts = ap length (some_same h) in
+    let own : length (t ∷ us) ≡ length ts = ap length (some_is h) in
     let inner : length us ≡ length js = more us refl in
     omega (arith, own, inner)
 
 pub typed_length : (js : List Judged) (ts : List ValueType) → all_typed js ≡ Some ts → length ts ≡ length js
 unfolding all_typed
-typed_length [] ts h = sym (ap length (some_same h))
+typed_length [] ts h = sym (ap length (some_is h))
 typed_length (typed t ∷ js) ts h = longer t js ts (all_typed js) (λ us e. typed_length js us e) h
 typed_length (mistyped ∷ js) ts h = absurd cc
 typed_length (untyped ∷ js) ts h = absurd cc
@@ -401,22 +400,14 @@ within_count n m h = grind arith
 beyond : (n m : ℕ) → m < n → nat_le n m ≡ false
 beyond n m h = grind arith
 
-and_true : (b : Bool) → (b && true) ≡ b
-and_true true = refl
-and_true false = refl
-
-and_false : (b : Bool) → (b && false) ≡ false
-and_false true = refl
-and_false false = refl
-
 pub reads_beyond : (k : ℕ) (s : Scalar) (b : Bool) (stated slices : ℕ) → k < stated + slices → None ≡ read_of (Some (ValueType.Matrix k s)) (Some b) stated slices
 unfolding read_of type_if
-reads_beyond k s b stated slices h = sym (ap (λ x. type_if (left_type (k - stated) s) (Some x)) (ap (λ x. b && x) (beyond (stated + slices) k h) ∙ and_false b))
+reads_beyond k s b stated slices h = sym (ap (λ x. type_if (left_type (k - stated) s) (Some x)) (ap (λ x. b && x) (beyond (stated + slices) k h) ∙ and-false b))
 
 pub reads_within : (k : ℕ) (s : Scalar) (b : Bool) (stated slices : ℕ) → stated + slices ≤ k
     → type_if (left_type (k - stated) s) (Some b) ≡ read_of (Some (ValueType.Matrix k s)) (Some b) stated slices
 unfolding read_of
-reads_within k s b stated slices h = sym (ap (λ x. type_if (left_type (k - stated) s) (Some x)) (ap (λ x. b && x) (within_count (stated + slices) k h) ∙ and_true b))
+reads_within k s b stated slices h = sym (ap (λ x. type_if (left_type (k - stated) s) (Some x)) (ap (λ x. b && x) (within_count (stated + slices) k h) ∙ and-true b))
 
 -- ---- what names stand for
 

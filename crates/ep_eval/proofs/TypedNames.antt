@@ -1,5 +1,6 @@
 -- The names of quantifiers and generators where expressions are typed, and the types of the forms that have them.
 use Rattle.std.proofs.Common.{◌≡◌, ◌≢◌, ℕ, ◌+◌, ◌<◌, length, drop, get_or, Bool, true, false, ◌&&◌, if◌then◌else◌, List, [], ◌∷◌, ◌++◌, Option, Some, None, option_map, refl, sym, ap, subst, ◌∙◌}
+use Rattle.std.proofs.Math.Bool.{and-false}
 use Rattle.std.specs.Prelude.{bytes_eq, unwrap_or}
 use Rattle.std.specs.List.{list_all}
 use Rattle.std.specs.declared.alloc.Global.{Global}
@@ -302,13 +303,9 @@ with_scalars : (is gs : List ValueType) → list_all (passes Wanted.Integer) gs 
 with_scalars [] gs e = e
 with_scalars (i ∷ is) gs e = ap (λ b. passes Wanted.Integer i && b) (with_scalars is gs e)
 
-never : (b : Bool) → (b && false) ≡ false
-never true = refl
-never false = refl
-
 without_scalars : (is gs : List ValueType) → list_all (passes Wanted.Integer) gs ≡ false → list_all (passes Wanted.Integer) (is ++ gs) ≡ false
 without_scalars [] gs e = e
-without_scalars (i ∷ is) gs e = ap (λ b. passes Wanted.Integer i && b) (without_scalars is gs e) ∙ never (passes Wanted.Integer i)
+without_scalars (i ∷ is) gs e = ap (λ b. passes Wanted.Integer i && b) (without_scalars is gs e) ∙ and-false (passes Wanted.Integer i)
 
 unlisted : (t : Option ValueType) → None ≡ listed t None
 unfolding list_of map_both

@@ -1,7 +1,7 @@
 //! The types of forms by those of their parts.
 
 ghost use Rattle.std.specs.Prelude.{◌≡◌, ℕ, Bool, suc, Some, ◌++◌, ◌+◌, ◌-◌, ◌&&◌, ◌∷◌, [], IfOk, length, option_map};
-ghost use Rattle.ep_tree.specs.Evaluation.{map_both};
+ghost use Rattle.ep_base.specs.Options.{map_both};
 ghost use Rattle.ep_tree.specs.Types as types;
 ghost use Rattle.ep_tree.specs.Types.{slice_count, type_from};
 ghost use Rattle.ep_tree.specs.Views.{indices_of};

@@ -6,6 +6,7 @@ use Rattle.std.specs.List.{All, Contains}
 use Rattle.std.proofs.lemmas.List.{get_or_append_left, get_or_at, length-map, length_push}
 use Rattle.std.proofs.lemmas.List.Elements.{All-cons, All-contains, All-nil}
 use Rattle.std.proofs.lemmas.Option.{get_or_from_slice_get}
+use Rattle.ep_base.proofs.Small.{no_some, some_is}
 use Rattle.ep_base.specs.Numbers.{compare_holds, sum_of}
 use Rattle.ep_base.specs.Reads.{IsWithinNumbers, weighted_sum}
 use Rattle.ep_base.specs.declared.operators.CompareOp.{CompareOp}
@@ -24,7 +25,6 @@ use Rattle.ep_ground.specs.Grounds.{AreCellValues, LeadsTo, by_part, itself}
 use Rattle.ep_ground.specs.declared.cells.Cell.{Cell}
 use Rattle.ep_ground.specs.Nodes.{GroundNode, constant, sum, product, compare, coefficients_of, parts_of, undefined}
 use Rattle.ep_ground.specs.Terms.{node_value, term_value, truth, weighed}
-use Rattle.ep_tree.proofs.TypedParts.{no_some, some_is}
 
 -- ---- terms by their nodes
 

@@ -5,6 +5,7 @@ use Rattle.std.proofs.lemmas.Int.{ints}
 use Rattle.std.specs.Int.{int_max, int_min}
 use Rattle.std.proofs.lemmas.List.{length-append}
 use Rattle.std.proofs.lemmas.Option.{slice_get-get_or}
+use Rattle.ep_base.proofs.Small.{no_some, some_is}
 use Rattle.ep_base.specs.Intervals.{Interval, LiesIn, absolute_interval, farthest_end, from_to, greatest_or_zero, highs, hull, least_or_zero, lows, nth_power_interval, only, power_interval, product_interval, quotient_interval, remainder_interval, spanned, sum_interval, truth_interval}
 use Rattle.ep_base.specs.Numbers as numbers
 use Rattle.ep_base.specs.Numbers.{absolute_of, greatest_of, least_of, nth_power, of_bool, sum_of}
@@ -18,7 +19,6 @@ use Rattle.ep_ground.specs.Grounds.{AreCellValues}
 use Rattle.ep_ground.specs.declared.cells.Cell.{Cell}
 use Rattle.ep_tree_laws.specs.Intervals.{LieInEach}
 use Rattle.ep_tree_laws.proofs.Intervals.{absolute_lies, greatest_lies, least_lies, power_lies, product_lies, quotient_lies, remainder_lies, sum_lies}
-use Rattle.ep_tree.proofs.TypedParts.{no_some, some_is}
 
 -- each value that is there lies in its interval
 

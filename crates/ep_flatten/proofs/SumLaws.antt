@@ -7,6 +7,7 @@ use Rattle.std.specs.List.{All, Contains}
 use Rattle.std.specs.Prelude.{◌≤◌, IfSome, OnOk, Ok, Err, Result}
 use Rattle.std.proofs.lemmas.List.{map_more, map_push, map-append, take_all, take_more}
 use Rattle.std.proofs.lemmas.List.Elements.{All-append, All-cons, All-push, All-contains, All-contains_itself, All-nil, All-set, All-weaker, Contains-append_cases, Contains-append_left, Contains-append_right}
+use Rattle.ep_base.proofs.Small.{no_some, some_is}
 use Rattle.ep_base.specs.Numbers.{sum_of}
 use Rattle.ep_base.specs.Options.{on_both}
 use Rattle.ep_base.specs.Reads.{IsWithinNumbers, weighted_sum}
@@ -15,7 +16,6 @@ use Rattle.ep_flatten.specs.Sums.{ComesFrom, Gathers, Joins, SumState, TakesIn, 
 use Rattle.ep_ground.specs.Grounds.{LeadsTo, itself}
 use Rattle.ep_ground.specs.Nodes.{GroundNode}
 use Rattle.ep_ground.specs.Terms.{node_value, term_value, weighed}
-use Rattle.ep_tree.proofs.TypedParts.{no_some, some_is}
 
 -- ---- numbers
 

@@ -4,6 +4,7 @@ use Rattle.std.proofs.Common.{ap, arith, subst, sym, ◌∙◌}
 use Rattle.std.specs.List.{All}
 use Rattle.std.proofs.lemmas.List.{get_or_append_left, get_or_at, length_push}
 use Rattle.std.proofs.lemmas.List.Elements.{All-nil, All-cons, All-head, All-tail, All-weaker}
+use Rattle.ep_base.proofs.Small.{some_is}
 use Rattle.ep_base.specs.Numbers as numbers
 use Rattle.ep_base.specs.Numbers.{absolute_of, all_one, any_one, are_different, counts_hold, greatest_of, has_number, is_one, is_row_of, least_of, lex_holds, nth_power}
 use Rattle.ep_base.specs.Options.{on_both}
@@ -12,7 +13,6 @@ use Rattle.ep_base.specs.Reads.{all_there, picked, safe_picked, same_bool, weigh
 use Rattle.ep_base.specs.declared.operators.CompareOp.{CompareOp}
 use Rattle.ep_ground.specs.Nodes.{GroundNode, constant, undefined, cell, sum, product, quotient, remainder, power, absolute, least, greatest, pick, whole, safe_quotient, safe_remainder, safe_pick, compare, lex, member, negation, all_of, any_of, same_truth, all_different, counts, at_least, at_most, table, parts_of}
 use Rattle.ep_ground.specs.Terms.{node_value, term_value, truth, value_at, values_from, term_values_of, weighed}
-use Rattle.ep_tree.proofs.TypedParts.{some_is}
 
 -- what holds of the elements of two lists in a row holds of those of each
 pub all_left : {X : Type 0} (P : X → Type 0) (xs ys : List X) → All P (xs ++ ys) → All P xs

@@ -1,10 +1,11 @@
 -- The symbols by their length, and the longest front of some bytes that passes a test.
 use Rattle.std.proofs.Common.{◌≡◌, ℕ, zero, suc, ◌+◌, ◌<◌, ◌≤◌, ◌⊎◌, Bool, true, false, not, ◌&&◌, ◌||◌, List, [], ◌∷◌, length, take, drop, get_or, refl, sym, subst, ⊎_elim, inl, inr, arith, length-take-le}
 use Rattle.std.specs.Prelude.{◌==◌, nat_le}
+use Rattle.std.proofs.Math.Bool.{or-false}
 use Rattle.std.proofs.lemmas.Bool.{leb-true, le-leb, lt-leb, false≢true, and_parts, cases_eq, cases_lt}
 use Rattle.std.proofs.lemmas.Bool.Decides.{nat_tests}
 use Rattle.std.proofs.lemmas.List.{length-take}
-use Rattle.ep_base.proofs.WordLengths.{is_one_of-fails, is_one_of-of_length, of_length, or_false}
+use Rattle.ep_base.proofs.WordLengths.{is_one_of-fails, is_one_of-of_length, of_length}
 use Rattle.ep_base.specs.TokenTexts.{is_one_of, symbols, list_comparisons, name_follows, is_symbol}
 use Rattle.ep_base.specs.Tokens.{greatest}
 use Rattle.ep_lexer.specs.Symbols.{begins_with_symbol_of}
@@ -36,7 +37,7 @@ neither a b c e f = rw (e, f) refl
 
 one_kind : (l a b c : Bool) → l ≡ true → b ≡ false → a ≡ (l && (a || (b && c)))
 one_kind true a true c e f = absurd (false≢true (sym f))
-one_kind true a false c e f = sym (or_false a)
+one_kind true a false c e f = sym (or-false a)
 one_kind false a b c e f = absurd (false≢true e)
 
 symbol_of_few : (n : ℕ) (bytes : List ℕ) → n ≤ length bytes → n < 4 → is_one_of symbols (take n bytes) ≡ begins_with_symbol_of n bytes

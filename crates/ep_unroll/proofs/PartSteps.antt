@@ -3,6 +3,7 @@ use Rattle.std.proofs.Common.{◌≡◌, ℕ, suc, ◌+◌, ◌*◌, ◌<◌, �
 use Rattle.std.specs.Prelude.{Option, Result, IfOk, map, option_and_then, option_map, if◌then◌else◌}
 use Rattle.std.specs.Ordering.{int_eq}
 use Rattle.std.proofs.lemmas.List.{append-nil, at_drop_all, at_drop_more, map-append}
+use Rattle.ep_base.proofs.Small.{map_is, no_some, some_is}
 use Rattle.ep_base.specs.Options.{map_both, on_both}
 use Rattle.ep_base.specs.declared.names.Name.{Name}
 use Rattle.ep_base.specs.declared.places.Place.{Place}
@@ -26,16 +27,6 @@ use Rattle.ep_unroll.specs.Readings.{Numbering, Reading, ReadsName, cells_value,
 use Rattle.ep_unroll.specs.declared.unrolled.Unrolled.{Unrolled, Number, Cells, Fixed, Matrix'}
 
 -- ---- what is there
-
-some_is : {A : Type 0} {x y : A} → Some x ≡ Some y → x ≡ y
-some_is e = cc
-
-no_some : {A B : Type 0} {x : A} → None ≡ Some x → B
-no_some e = absurd cc
-
-map_is : {A B : Type 0} (f : A → B) (o : Option A) (v : B) → option_map f o ≡ Some v → (x : A) × (o ≡ Some x) × (f x ≡ v)
-map_is f None v e = no_some e
-map_is f (Some x) v e = (x, refl, some_is e)
 
 -- ---- counting
 
