@@ -1,5 +1,4 @@
 pub mod Readings
-pub mod Vectors
 pub mod Count
 pub mod Following
 pub mod Effective

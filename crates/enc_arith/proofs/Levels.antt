@@ -5,7 +5,7 @@ use Rattle.std.proofs.lemmas.List.{map-append, take_more, take_all}
 use Rattle.std.proofs.lemmas.List.Elements.{All-cons, All-head, All-nil, All-tail}
 use Rattle.std.proofs.lemmas.List.Folds.{list_any-append}
 use Rattle.cnf_core.specs.Formula.{Cnf}
-use Rattle.ep_base.specs.Numbers.{compare_holds}
+use Rattle.ep_base.specs.Numbers.{compare_holds, contrary_comparison}
 use Rattle.ep_base.specs.declared.operators.CompareOp.{CompareOp}
 use Rattle.ep_flat.specs.Cons.{is_value, number_at, numbers_of_vars}
 use Rattle.enc_atoms.proofs.Adding.{adds_all, adds_both, adds_like, adds_none, adds_one_more}
@@ -16,7 +16,7 @@ use Rattle.enc_var.specs.Decoding.{VariableLiterals}
 use Rattle.enc_var.specs.Layouts.{literals_at}
 use Rattle.enc_arith.proofs.Cases.{one_pushed, same_test}
 use Rattle.enc_arith.proofs.Orders.{levels_tell}
-use Rattle.enc_arith.specs.Extremes.{all_compare, any_compares, contrary_of, extreme_of, level_holds, reached_of, within_of}
+use Rattle.enc_arith.specs.Extremes.{all_compare, any_compares, extreme_of, level_holds, reached_of, within_of}
 use Rattle.enc_arith.specs.Saying.{IsReady}
 use Rattle.enc_arith.specs.declared.sides.Side.{Side}
 
@@ -150,14 +150,14 @@ both_told true b = (λ h. h.1, λ h. (refl, h))
 both_told false b = (λ h. h.0, λ h. absurd (let k : false ≡ true = h in cc))
 
 level_is : (side : Side) (values : List ℤ) (xs : List ℕ) (r : ℕ) (w : ℤ) (a b : Atom)
-    → atom_holds values a ≡ compare_holds (contrary_of (within_of side)) (number_at values r) w
-    → atom_holds values b ≡ compare_holds (contrary_of (reached_of side)) (number_at values r) w
+    → atom_holds values a ≡ compare_holds (contrary_comparison (within_of side)) (number_at values r) w
+    → atom_holds values b ≡ compare_holds (contrary_comparison (reached_of side)) (number_at values r) w
     → (IsTrue (clause_holds values (a ∷ []) || all_compare (within_of side) (numbers_of_vars values xs) w) × IsTrue (clause_holds values (b ∷ []) || any_compares (reached_of side) (numbers_of_vars values xs) w))
     ↔ IsTrue (level_holds side (numbers_of_vars values xs) (number_at values r) w)
 unfolding level_holds
 level_is side values xs r w a b means_a means_b =
-    let A : Bool = compare_holds (contrary_of (within_of side)) (number_at values r) w || all_compare (within_of side) (numbers_of_vars values xs) w in
-    let B : Bool = compare_holds (contrary_of (reached_of side)) (number_at values r) w || any_compares (reached_of side) (numbers_of_vars values xs) w in
+    let A : Bool = compare_holds (contrary_comparison (within_of side)) (number_at values r) w || all_compare (within_of side) (numbers_of_vars values xs) w in
+    let B : Bool = compare_holds (contrary_comparison (reached_of side)) (number_at values r) w || any_compares (reached_of side) (numbers_of_vars values xs) w in
     let e : (clause_holds values (a ∷ []) || all_compare (within_of side) (numbers_of_vars values xs) w) ≡ A = ap (λ c. c || all_compare (within_of side) (numbers_of_vars values xs) w) (one_atom values a ∙ means_a) in
     let g : (clause_holds values (b ∷ []) || any_compares (reached_of side) (numbers_of_vars values xs) w) ≡ B = ap (λ c. c || any_compares (reached_of side) (numbers_of_vars values xs) w) (one_atom values b ∙ means_b) in
     let h = both_told A B in
@@ -165,8 +165,8 @@ level_is side values xs r w a b means_a means_b =
 
 pub adds_level : (L : List VariableLiterals) (f f1 g : Cnf) (side : Side) (xs : List ℕ) (r : ℕ) (w n m : ℤ) (a b : Atom) (within reached : CompareOp) → IsReady L f
     → within ≡ within_of side → reached ≡ reached_of side → n ≡ w → m ≡ w
-    → ((values : List ℤ) → atom_holds values a ≡ compare_holds (contrary_of (within_of side)) (number_at values r) w)
-    → ((values : List ℤ) → atom_holds values b ≡ compare_holds (contrary_of (reached_of side)) (number_at values r) w)
+    → ((values : List ℤ) → atom_holds values a ≡ compare_holds (contrary_comparison (within_of side)) (number_at values r) w)
+    → ((values : List ℤ) → atom_holds values b ≡ compare_holds (contrary_comparison (reached_of side)) (number_at values r) w)
     → Adds L f L f1 (λ values. IsTrue (clause_holds values (a ∷ []) || all_compare within (numbers_of_vars values xs) n))
     → Adds L f1 L g (λ values. IsTrue (clause_holds values (b ∷ []) || any_compares reached (numbers_of_vars values xs) m))
     → Adds L f L g (λ values. IsTrue (level_holds side (numbers_of_vars values xs) (number_at values r) w))

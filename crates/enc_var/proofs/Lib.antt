@@ -1,10 +1,8 @@
 pub mod Counts
 pub mod Choices
-pub mod VectorsDecoding
 pub mod Places
 pub mod TiedPlaces
 pub mod Saying
-pub mod Counting
 pub mod Growing
 pub mod GoingOn
 pub mod Noting

@@ -2,12 +2,9 @@ pub mod PutSteps
 pub mod Contents
 pub mod RunSteps
 pub mod Ascending
-pub mod VectorsOutside
-pub mod VectorsRuns
-pub mod VectorsIntervals
 pub mod TokenKinds
 pub mod TokenLaws
-pub mod VectorsTokens
 pub mod RunEquality
-pub mod VectorsReads
 pub mod RunEnds
+pub mod Contraries
+pub mod WordLengths

@@ -1,15 +1,13 @@
 -- The types of forms by those of their parts.
-use Rattle.std.proofs.Common.{◌≡◌, ℕ, suc, ◌+◌, ◌-◌, ◌<◌, ◌≤◌, Bool, true, false, ◌&&◌, ℤ, List, [], ◌∷◌, length, drop, get_or, Option, Some, None, option_map, refl, sym, ap, ◌∙◌, arith}
+use Rattle.std.proofs.Common.{◌≡◌, ℕ, suc, ◌+◌, ◌-◌, ◌<◌, ◌≤◌, Bool, true, false, ◌&&◌, ℤ, List, [], ◌∷◌, length, Option, Some, None, option_map, refl, sym, ap, ◌∙◌, arith}
 use Rattle.std.specs.Prelude.{nat_le}
 use Rattle.std.specs.List.{list_all}
-use Rattle.std.proofs.Math.ListN.{drop_of_length-le}
-use Rattle.std.proofs.lemmas.List.{drop_more}
+use Rattle.ep_base.specs.Options.{map_both}
 use Rattle.ep_base.specs.declared.operators.CompareOp.{CompareOp}
 use Rattle.ep_base.specs.declared.operators.LexOp.{LexOp}
 use Rattle.ep_base.specs.declared.places.Place.{Place}
 use Rattle.ep_tree.proofs.TypeEquations.{judge-absolute, judge-all_different, judge-all_of, judge-any_of, judge-at_least, judge-at_most, judge-binary, judge-chain, judge-compare, judge-factorial, judge-flatten, judge-folded, judge-gcc, judge-group, judge-in_set, judge-lex, judge-minus, judge-negation, judge-number, judge-read, judge-table, judge-to_int, judge-truth}
 use Rattle.ep_tree.specs.Environments.{shape_type}
-use Rattle.ep_tree.specs.Evaluation.{map_both}
 use Rattle.ep_tree.specs.Trees.{ExprTree, ExprTrees, Terms, absolute, all_different, all_of, any_of, at_least, at_most, binary, chain, compare, factorial, flatten, folded, gcc, group, in_set, lex, minus, negation, number, read, table, to_int, truth}
 use Rattle.ep_tree.specs.Types.{Context, Judged, all_typed, are_lists, binary_type, folded_type, from_all, from_many, from_one, from_three, from_two, gives, is_integer, is_matrix, judge, judge_all, judge_indices, judge_terms, left_type, mistyped, of_scalar, read_type, scalar_of, slice_count, type_from, typed, untyped}
 use Rattle.ep_tree.specs.Views.{expr_tree, expr_trees, indices_of, kind_tree, terms_of}
@@ -290,22 +288,6 @@ unfolding judge_indices indices_of all_typed
 indices_none c left none = ap (λ l. all_pass Wanted.Integer (judge_indices c (indices_of l))) none
 
 -- ---- counts of indices
-
-pub next_is : {A : Type 0} (xs : List A) (i : ℕ) (x : A) → i < length xs → x ≡ get_or xs i x → drop i xs ≡ x ∷ drop (i + 1) xs
-next_is xs i x within is = drop_more xs i x within ∙ ap (λ y. y ∷ drop (i + 1) xs) (sym is)
-
-count_more : (x : Option Expr) (others : List (Option Expr)) → slice_count (indices_of (x ∷ others)) ≡ slice_count (indices_of (x ∷ [])) + slice_count (indices_of others)
-unfolding slice_count indices_of
-count_more None others = omega arith
-count_more (Some e) others = omega arith
-
-pub count_next : (is : List (Option Expr)) (i : ℕ) (x : Option Expr) → i < length is → x ≡ get_or is i x
-    → slice_count (indices_of (drop i is)) ≡ slice_count (indices_of (x ∷ [])) + slice_count (indices_of (drop (i + 1) is))
-count_next is i x lt e = ap (λ l. slice_count (indices_of l)) (next_is is i x lt e) ∙ count_more x (drop (i + 1) is)
-
-pub count_end : (is : List (Option Expr)) (i : ℕ) → length is ≤ i → slice_count (indices_of (drop i is)) ≡ 0
-unfolding slice_count indices_of
-count_end is i le = ap (λ l. slice_count (indices_of l)) (drop_of_length-le is le)
 
 stated_count : (c : Context) (is : List (Option Expr)) → length (judge_indices c (indices_of is)) + slice_count (indices_of is) ≡ length is
 unfolding judge_indices indices_of slice_count

@@ -14,6 +14,7 @@ use Rattle.std.specs.declared.vec.Vec.{Vec}
 use Rattle.std.specs.declared.alloc.Global.{Global}
 use Rattle.ep_base.proofs.Ascending.{ascending_cons, ascending_lists_are_equal}
 use Rattle.ep_base.specs.Numbers.{has_number}
+use Rattle.ep_base.specs.Options.{map_both}
 use Rattle.ep_base.specs.Runs.{IsAscending, IsIn}
 use Rattle.ep_base.specs.declared.run_lists.Run.{Run}
 use Rattle.ep_tree.proofs.DomainLaws.{between-has, put_in-has, united-has}
@@ -22,7 +23,7 @@ use Rattle.ep_tree.specs.Domains.{between, put_in, united}
 use Rattle.ep_tree.specs.Environments.{Bound, Env, domain_bound, has_cells, has_domain, has_value}
 use Rattle.ep_tree.specs.declared.values.Scalar.{Scalar}
 use Rattle.ep_eval.specs.Bounds.{only_domain}
-use Rattle.ep_tree.specs.Evaluation.{end_value, evaluate, map_both, number_in, range_values}
+use Rattle.ep_tree.specs.Evaluation.{end_value, evaluate, number_in, range_values}
 use Rattle.ep_tree.specs.Limits.{MOST_SIZE, limits_of_values}
 use Rattle.ep_tree.specs.Measures.{met, met_end, met_ranges}
 use Rattle.ep_tree.specs.Trees.{no_ranges}

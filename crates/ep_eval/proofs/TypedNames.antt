@@ -5,12 +5,12 @@ use Rattle.std.specs.List.{list_all}
 use Rattle.std.specs.declared.alloc.Global.{Global}
 use Rattle.std.specs.declared.boxed.Box.{Box}
 use Rattle.std.specs.declared.vec.Vec.{Vec}
+use Rattle.ep_base.specs.Options.{map_both}
 use Rattle.ep_base.specs.declared.names.Name.{Name}
 use Rattle.ep_base.specs.declared.places.Place.{Place}
 use Rattle.ep_tree.proofs.ViewLemmas.{kind_tree-comprehension, kind_tree-quantified}
 use Rattle.ep_tree.proofs.TypeEquations.{judge-comprehension, judge-quantified}
 use Rattle.ep_tree.specs.Environments.{Bound, has_cells, has_domain, has_value, meaning_in}
-use Rattle.ep_tree.specs.Evaluation.{map_both}
 use Rattle.ep_tree.specs.Names.{put}
 use Rattle.ep_tree.specs.Trees.{DomainTree, ExprTree, ExprTrees, Generators, IndexDomain, comprehension, quantified}
 use Rattle.ep_tree.specs.Types as types
@@ -23,8 +23,9 @@ use Rattle.ep_tree.specs.declared.syntax.Kind.{Comprehension, Kind, Quant}
 use Rattle.ep_tree.specs.declared.syntax.QuantOp.{QuantOp}
 use Rattle.ep_tree.specs.declared.values.Scalar.{Scalar}
 use Rattle.ep_tree.specs.declared.values.ValueType.{ValueType}
+use Rattle.ep_types_rules.proofs.RuleSteps.{next_is}
 use Rattle.ep_eval.proofs.DomainTypes.{index_is, pass_append}
-use Rattle.ep_eval.proofs.JudgingForms.{first_all, given_by, next_is, typed_more}
+use Rattle.ep_eval.proofs.JudgingForms.{first_all, given_by, typed_more}
 use Rattle.ep_eval.specs.Bounds.{only_domain}
 use Rattle.ep_eval.specs.Judging.{all_pass, domain_type_at, list_of, name_scalar, passes, quantified_part, type_of_quantifier, type_at, type_if}
 use Rattle.ep_eval.specs.Literals.{index_at}

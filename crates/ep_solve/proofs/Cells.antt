@@ -14,7 +14,6 @@ use Rattle.ep_ground.specs.declared.cells.Cell.{Cell}
 use Rattle.ep_tree.specs.Binding.{Find, Instance}
 use Rattle.ep_tree.specs.Closed.{IsClosed}
 use Rattle.ep_tree.specs.Environments.{has_value, shape_type}
-use Rattle.ep_tree.specs.Evaluation.{on_both}
 use Rattle.ep_tree.specs.Solutions.{Assigned, Fits, Found, NamedValue, cell_count, find_type, fitted_find, found_of, found_values, named_in}
 use Rattle.ep_tree.specs.Types.{of_scalar, scalar_of}
 use Rattle.ep_tree.specs.Values.{ValueTree, fitted, scalars_of}
@@ -23,6 +22,7 @@ use Rattle.ep_tree.specs.declared.values.ValueType.{ValueType}
 use Rattle.ep_tree.specs.TypedValues.{IsOf, is_number_of}
 use Rattle.ep_print.specs.Answers.{AreTyped}
 use Rattle.std.proofs.lemmas.List.Elements.{All-cons, All-head, All-nil, All-tail}
+use Rattle.ep_base.specs.Options.{on_both}
 use Rattle.ep_unroll.specs.Cells.{bound_numbers, find_cells, found_numbers, index_lists, instance_cells, is_truth}
 use Rattle.ep_solve.specs.Reading.{GivesNumbers, ReadsAs, assignment_from, value_from}
 use Rattle.ep_solve.proofs.Scalars.{Passing, all-weaker, fitted-passes, value-fits, value-made, value-read, value-typed}

@@ -13,3 +13,8 @@ pub mod Listings
 pub mod Optima
 pub mod Budgets
 pub mod Refuted
+pub mod TermRows
+pub mod GroundRows
+pub mod FlatRows
+pub mod ClauseRows
+pub mod VarRows

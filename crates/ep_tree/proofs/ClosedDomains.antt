@@ -3,12 +3,13 @@ use Rattle.std.specs.Prelude.{◌≡◌, Bool, ◌||◌, ◌&&◌, List, [], ◌
 use Rattle.std.specs.Ordering.{int_eq}
 use Rattle.std.proofs.Common.{ap, sym, ◌∙◌}
 use Rattle.ep_base.specs.Numbers.{has_number}
+use Rattle.ep_base.specs.Options.{map_both, on_both, on_three}
 use Rattle.ep_tree.specs.declared.syntax.SetOp.{SetOp}
 use Rattle.ep_tree.specs.declared.values.Mode.{Mode}
 use Rattle.ep_tree.specs.Trees.{DomainTree, bool, int, ranges, named_domain, group_domain, set_domain, matrix_domain, Ranges, no_ranges, one_and, span_and, no_end, end_at}
 use Rattle.ep_tree.specs.Domains.{between, put_in, set_has, set_values, united}
 use Rattle.ep_tree.specs.Environments.{Bound, Env, domain_bound, has_cells, has_domain, has_value}
-use Rattle.ep_tree.specs.Evaluation.{domain_values, end_value, evaluate, map_both, number_in, on_both, on_three, range_values}
+use Rattle.ep_tree.specs.Evaluation.{domain_values, end_value, evaluate, number_in, range_values}
 use Rattle.ep_tree.specs.Binding.{above_end, below_end, elements_pass, numbers_bound, ranges_pass}
 use Rattle.ep_tree.proofs.DomainLaws.{between-has, put_in-has, set_values-has, united-has}
 

@@ -1,22 +1,5 @@
 pub mod Opened
 pub mod ViewLemmas
-mod VectorsValues
-mod VectorsMatrices
-mod VectorsDomains
-pub mod VectorsTypes
-mod VectorsFaults
-mod VectorsHeights
-mod VectorsMeasures
-mod VectorsBinding
-mod VectorsSolutions
-mod VectorsTypeTables
-mod VectorsFaultTables
-mod VectorsBindingTables
-pub mod Cuts
-mod VectorsSpelling
-mod VectorsStatements
-pub mod Openings
-mod VectorsReading
 pub mod NumberLaws
 pub mod DomainLaws
 pub mod ClosedDomains
@@ -31,6 +14,3 @@ pub mod TypedEvaluation
 pub mod FirstFault
 pub mod ReachEquations
 pub mod TypedFitting
-mod VectorsForms
-mod VectorsModes
-mod VectorsMoreMeasures

@@ -11,9 +11,10 @@ use Rattle.ep_base.proofs.Ascending.{ascending_cons, ascending_head, ascending_t
 use Rattle.ep_base.specs.Runs.{IsAscending}
 use Rattle.std.specs.List.{Contains}
 use Rattle.std.proofs.lemmas.List.Elements.{Contains-get_or}
+use Rattle.ep_base.specs.Options.{map_both}
 use Rattle.ep_tree.specs.Domains.{between, put_in, set_values, united}
 use Rattle.ep_tree.specs.Environments.{Bound, Env, HasAscendingDomain, domain_bound, has_cells, has_domain, has_value}
-use Rattle.ep_tree.specs.Evaluation.{domain_values, end_value, evaluate, map_both, number_in, range_values}
+use Rattle.ep_tree.specs.Evaluation.{domain_values, end_value, evaluate, number_in, range_values}
 use Rattle.ep_tree.proofs.ClosedDomains.{nothing_is_some, some_is}
 
 -- the numbers ascend, each greater than the one before, from a number on

@@ -4,8 +4,9 @@ use Rattle.std.proofs.Common.{ap, arith, subst, sym, ◌∙◌}
 use Rattle.std.specs.List.{list_all}
 use Rattle.std.specs.Ordering.{int_eq}
 use Rattle.ep_base.specs.Numbers.{of_bool}
+use Rattle.ep_base.specs.Options.{map_both, on_both}
 use Rattle.ep_base.specs.Runs.{counting}
-use Rattle.ep_tree.specs.Evaluation.{map_both, on_both, truth_in, undefined_truth}
+use Rattle.ep_tree.specs.Evaluation.{truth_in, undefined_truth}
 use Rattle.ep_tree.specs.TypedValues.{AreOfDims, IsOf, IsOfDims, is_number_of}
 use Rattle.ep_tree.specs.Types.{Judged, all_typed, from_all, from_many, from_one, from_three, from_two, gives, has_dimensions, is_bool_scalar, is_boolean, is_integer, is_matrix, is_matrix_of_bool, list_of_matrices, list_type, mistyped, scalar_of, stated_dimensions, typed, untyped}
 use Rattle.ep_tree.specs.Values.{Index, ValueTree, ValueTrees, all_defined, any_index, as_parts, at_index, list_value, listed_values, matrix, no_values, part_at, read_value, scalars_of, scalars_of_all, single, value_and}

@@ -5,12 +5,12 @@ use Rattle.std.specs.List.{All, list_all}
 use Rattle.std.proofs.lemmas.List.{append-nil, length-append}
 use Rattle.std.proofs.lemmas.List.Sums.{sum_by-cons}
 use Rattle.ep_base.specs.Numbers.{has_number}
+use Rattle.ep_base.specs.Options.{on_both}
 use Rattle.ep_base.specs.declared.names.Name.{Name}
 use Rattle.ep_tree.specs.Agreement.{AgreeOn}
 use Rattle.ep_tree.specs.Binding.{Find, Instance}
 use Rattle.ep_tree.specs.Closed.{IsClosed, clause_env}
 use Rattle.ep_tree.specs.Environments.{Bound, Env, has_cells, has_domain, has_value, shape_type}
-use Rattle.ep_tree.specs.Evaluation.{on_both}
 use Rattle.ep_tree.specs.Names.{put_all}
 use Rattle.ep_tree.specs.Reach.{decisions_in, is_decision}
 use Rattle.ep_tree.specs.Solutions.{Assigned, Fits, Found, cell_count, cells_bound, find_type, fitted_find, found_values, named_in, under}
