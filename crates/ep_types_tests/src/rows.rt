@@ -2,8 +2,8 @@
 //!
 //! The mark `@` is no part of the text. A text without a mark is well formed.
 
-use crate::marks::{Marked, without_mark};
 use ep_parse_model::{parse_model, parse_params};
+use ep_parse_model_tests::marks::{Marked, without_mark};
 use ep_types::{StaticError, check_model, check_params};
 use std::alloc::Global;
 use std::test::Fail;

@@ -5,7 +5,7 @@ use Rattle.ep_tree.specs.Solutions.{NamedValue}
 use Rattle.ep_tree.specs.TypedValues.{IsOf, is_number_of}
 use Rattle.ep_tree.specs.Views.{named_value, value_tree}
 use Rattle.ep_tree.specs.declared.values.Entry.{Entry}
-use Rattle.ep_parse_model_tests.proofs.outputs.answers.row_and_number.Goals as goal
+use Rattle.ep_print_tests.proofs.answers.row_and_number.Goals as goal
 
 IsTyped : NamedValue → Type 0
 IsTyped g = IsOf g.ty g.value

@@ -1,11 +1,6 @@
 //! Printed texts, each beside its bytes.
 
-mod answers;
-mod listings;
-mod models;
-mod refusals;
-mod values;
-
+use crate::{answers, listings, models, refusals, values};
 use ep_base::Memory;
 use std::alloc::Global;
 use std::test::Fail;

@@ -1,7 +1,7 @@
 use Rattle.std.proofs.Common.{refl}
 use Rattle.ep_tree.specs.TypedValues.{is_number_of}
 use Rattle.ep_tree.specs.Views.{value_tree}
-use Rattle.ep_parse_model_tests.proofs.outputs.values.text.Goals as goal
+use Rattle.ep_print_tests.proofs.values.text.Goals as goal
 
 pub print_value-requires : goal.print_value-requires
 unfolding value_tree is_number_of

@@ -4,7 +4,7 @@ use Rattle.ep_tree.specs.Values.{listed_values}
 use Rattle.ep_tree.specs.Views.{value_tree, values_from}
 use Rattle.ep_tree.specs.declared.values.Value.{Number, Value}
 use Rattle.ep_print.proofs.Rows.{row_is}
-use Rattle.ep_parse_model_tests.proofs.outputs.values.taken.Goals as goal
+use Rattle.ep_print_tests.proofs.values.taken.Goals as goal
 
 pub returns : goal.returns
 unfolding values_from value_tree listed_values is_number_of

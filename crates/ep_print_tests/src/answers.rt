@@ -7,7 +7,7 @@ ghost use Rattle.ep_tree.specs.declared.values.Scalar.{Scalar};
 ghost use Rattle.ep_tree.specs.declared.values.ValueType.{ValueType};
 ghost use Rattle.ep_print.specs.Answers.{AreTyped};
 
-use crate::outputs::values::{empty, falses, taken};
+use crate::values::{empty, falses, taken};
 use ep_base::{Memory, Name};
 use ep_print::{Answer, print_answer};
 use ep_tree::{Assignment, Entry, Scalar, Value, ValueType};
