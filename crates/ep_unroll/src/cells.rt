@@ -9,7 +9,7 @@ ghost use Rattle.ep_tree.specs.Solutions.{cell_count, cells_bound};
 ghost use Rattle.ep_tree.specs.Types as types;
 ghost use Rattle.ep_tree.specs.declared.values.Mode.{Mode as EachMode};
 ghost use Rattle.ep_eval.specs.Known.{env_of};
-ghost use Rattle.ep_instance.specs.Instances.{find_of, plain_instance, instance_mode};
+ghost use Rattle.ep_instance_parts.specs.Instances.{find_of, plain_instance, instance_mode};
 ghost use Rattle.ep_unroll.specs.Cells as defined;
 ghost use Rattle.ep_unroll.specs.Cells.{cell_of, find_cells};
 ghost use Rattle.ep_unroll.specs.Firsts.{numbering, numbering_of};
@@ -19,7 +19,7 @@ use super::listing::{index_lists, listed};
 use ep_base::{Key, Memory, Name, Runs};
 use ep_eval::Env;
 use ep_ground::Cell;
-use ep_instance::{Find, Instance};
+use ep_instance_parts::{Find, Instance};
 use ep_tree::{Scalar, ValueType};
 use std::alloc::Global;
 

@@ -1,0 +1,10 @@
+pub mod Tests
+pub mod Counting
+pub mod FitSteps
+pub mod LimitSteps
+pub mod RangeSteps
+pub mod IndexSteps
+pub mod Answering
+pub mod ListedSteps
+pub mod ShapeSteps
+pub mod ConditionSteps
