@@ -31,10 +31,11 @@ use Rattle.ep_tree.specs.declared.syntax.QuantOp.{QuantOp}
 use Rattle.ep_tree.specs.declared.syntax.SetOp.{SetOp}
 use Rattle.ep_tree.specs.declared.values.Mode.{Mode}
 use Rattle.ep_tree.specs.declared.values.ValueType.{ValueType}
-use Rattle.ep_instance.specs.Refusals.{BindsTo}
+use Rattle.ep_instance_parts.proofs.ShapeSteps.{given_is}
+use Rattle.ep_instance_parts.specs.Refusals.{BindsTo}
+use Rattle.ep_instance_parts.specs.declared.errors.BindError.{BindError}
 use Rattle.ep_instance.specs.Steps.{group_said, named_said}
-use Rattle.ep_instance.specs.declared.errors.BindError.{BindError}
-use Rattle.ep_instance.proofs.BindSteps.{both_ok, given_is, group_parts, named_put, next_group, next_name, unless_ok}
+use Rattle.ep_instance.proofs.BindSteps.{both_ok, group_parts, named_put, next_group, next_name, unless_ok}
 use Rattle.ep_instance.proofs.ParamSteps.{named_at}
 use Rattle.ep_instance.proofs.ProgressSteps.{bind_is}
 
