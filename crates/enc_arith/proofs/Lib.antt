@@ -1,5 +1,4 @@
 mod Quotients
-mod Powers
 mod Found
 mod Cases
 mod Entries

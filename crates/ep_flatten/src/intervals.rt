@@ -12,9 +12,7 @@ ghost use Rattle.ep_ground.specs.Bounds as bounds;
 ghost use Rattle.ep_ground.specs.Bounds.{IsWithinReach};
 
 use ep_base::{Run, Runs};
-
-/// The greatest number that the stages compute with.
-const MOST_NUMBER: i128 = 1_099_511_627_776;
+use ep_numbers::MOST_WIDE;
 
 /// The greatest exponent for which powers are computed: beyond it only those of -1, 0 and 1 are no
 /// too great words.
@@ -51,8 +49,8 @@ pub fn widest() -> WideSpan
     ensures { (reach : Interval) → HasSmall reach (wide_interval result) }
 {
     WideSpan {
-        low: -MOST_NUMBER,
-        high: MOST_NUMBER,
+        low: -MOST_WIDE,
+        high: MOST_WIDE,
     }
 }
 
@@ -62,7 +60,7 @@ fn kept(number: i128) -> i64
     ensures high { result ≤ℤ pos 1099511627776 }
     ensures value { result ≡ int_max (neg_ℤ (pos 1099511627776)) (int_min number (pos 1099511627776)) }
 {
-    number.clamp(-MOST_NUMBER, MOST_NUMBER) as i64
+    number.clamp(-MOST_WIDE, MOST_WIDE) as i64
 }
 
 /// The numbers of an interval with which the stages compute.

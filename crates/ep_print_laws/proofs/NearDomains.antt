@@ -8,6 +8,7 @@ use Rattle.std.proofs.lemmas.List.Elements.{All-from_recursion}
 use Rattle.std.proofs.lemmas.List.Concat.{flat_map-cons}
 use Rattle.std.proofs.lemmas.List.Folds.{list_all-append}
 use Rattle.ep_base.specs.Runs.{IsAscending}
+use Rattle.ep_base.specs.Reads.{is_too_far}
 use Rattle.ep_base.specs.declared.names.Name.{Name}
 use Rattle.ep_base.specs.declared.operators.Limit.{Limit}
 use Rattle.ep_base.specs.declared.places.Place.{Place}
@@ -17,7 +18,7 @@ use Rattle.ep_tree.specs.Binding.{Find, Instance, Progress, Refusal, Shape, Text
 use Rattle.ep_tree.specs.Environments.{Bound, Env, has_cells, has_domain, has_value, scalar_in}
 use Rattle.ep_tree.specs.Evaluation.{domain_values, evaluate, on_both, type_in}
 use Rattle.ep_tree.specs.Faults.{lettings_of}
-use Rattle.ep_tree.specs.Limits.{MOST_SIZE, is_too_far, limits_of_values, numbers_at}
+use Rattle.ep_tree.specs.Limits.{MOST_SIZE, limits_of_values, numbers_at}
 use Rattle.ep_tree.specs.Measures.{Met, met, met_domain, met_domains, size_of}
 use Rattle.ep_tree.specs.Names.{nothing_known, put}
 use Rattle.ep_tree.specs.Statements.{Group, StatementTree, TextTree, branching, constraints, decided, domain_letting, given, heuristic, letting, objective, requirements}

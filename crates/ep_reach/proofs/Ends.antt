@@ -84,17 +84,6 @@ summed g c low high xs e f = ap (λ x. from_to x high) (e ∙ low_parts g c xs) 
 
 -- ---- powers
 
-pub power_none : (x : ℤ) → pos 1 ≡ nth_power x 0
-unfolding nth_power
-power_none x = refl
-
-pub power_more : (x : ℤ) (n : ℕ) → (nth_power x n *ℤ x) ≡ nth_power x (n + 1)
-unfolding nth_power
-power_more x n = ap (nth_power x) (next n)
-  where
-    next : (k : ℕ) → suc k ≡ k + 1
-    next k = omega arith
-
 pub powered : (i : Interval) (n : ℕ) → 1 ≤ n → spanned (nth_power i.low n ∷ nth_power i.high n ∷ (if has_zero i then pos 0 ∷ [] else [])) ≡ nth_power_interval i n
 unfolding nth_power_interval
 powered i zero h = absurd (omega (arith, h))

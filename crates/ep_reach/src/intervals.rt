@@ -1,21 +1,17 @@
 //! Intervals of numbers: those in which the results of operations lie.
 
-ghost use Rattle.std.specs.Prelude.{◌≡◌, ◌∷◌, [], if◌then◌else◌, ◌≤ℤ◌, ◌+ℤ◌, ◌*ℤ◌, ◌-ℤ◌, int_le, neg_ℤ, pos, true, IfSome, IsSome};
+ghost use Rattle.std.specs.Prelude.{◌≡◌, ◌∷◌, [], if◌then◌else◌, ◌≤ℤ◌, ◌+ℤ◌, ◌*ℤ◌, ◌-ℤ◌, int_le, neg_ℤ, pos, IfSome, IsSome};
 ghost use Rattle.std.specs.Int.{int_max, int_min};
 ghost use Rattle.ep_base.specs.Intervals as defined;
 ghost use Rattle.ep_base.specs.Intervals.{from_to};
-ghost use Rattle.ep_base.specs.Numbers as numbers;
 ghost use Rattle.ep_base.specs.Numbers.{absolute_of};
-ghost use Rattle.ep_base.specs.Reads.{IsWithinNumbers};
 ghost use Rattle.ep_reach.specs.Reaching.{IsWide, interval_of, wide_interval};
 ghost use Rattle.ep_base.specs.RunEnds.{greatest_from, least_from};
 ghost use Rattle.ep_ground.specs.Bounds as bounds;
 ghost use Rattle.ep_ground.specs.Bounds.{IsWithinReach};
 
 use ep_base::{Run, Runs};
-
-/// The greatest number that the stages compute with.
-const MOST_NUMBER: i128 = 1_099_511_627_776;
+use ep_numbers::{near_number, nth_power};
 
 /// The whole numbers from the lower end to the upper end.
 #[derive(Clone, Copy, Debug, PartialEq, Eq)]
@@ -41,27 +37,6 @@ pub fn widened(x: Span) -> WideSpan
         low: i128::from(x.low),
         high: i128::from(x.high),
     }
-}
-
-/// A number with which the stages compute, as a word.
-fn near_number(number: i128) -> Option<i64>
-    ensures same { IfSome result (λ n. n ≡ number) }
-    ensures near { IfSome result IsWithinNumbers }
-    ensures told { IsWithinNumbers number → IsSome result }
-{
-    if number < -MOST_NUMBER || number > MOST_NUMBER {
-        return None;
-    }
-    Some(number as i64)
-}
-
-/// Whether the stages compute with a number.
-pub fn is_near(number: i64) -> bool
-    ensures sound { result ≡ true → IsWithinNumbers number }
-    ensures complete { IsWithinNumbers number → result ≡ true }
-{
-    let wide = i128::from(number);
-    wide >= -MOST_NUMBER && wide <= MOST_NUMBER
 }
 
 /// An interval with whose ends the stages compute.
@@ -277,31 +252,6 @@ pub fn product(x: Span, y: Span) -> WideSpan
     }
 }
 
-/// How often a number is multiplied by itself: powers of -1, 0 and 1 repeat.
-fn steps(base: i64, exponent: u64) -> u64
-    ensures { numbers.nth_power base result ≡ numbers.nth_power base exponent }
-{
-    if exponent <= 2 || base > 1 || base < -1 {
-        return exponent;
-    }
-    2 - exponent % 2
-}
-
-/// A number multiplied by itself, so often in all. It ends at the first power that is too far from 0.
-fn nth_power(base: i64, exponent: u64) -> Option<i64>
-    ensures same { IfSome result (λ power. power ≡ numbers.nth_power base exponent) }
-    ensures told { IsWithinNumbers (numbers.nth_power base exponent) → IsSome result }
-{
-    let mut power = 1;
-    for _step in 0..exponent {
-        let Some(more) = near_number(times(power, base)) else {
-            return None;
-        };
-        power = more;
-    }
-    Some(power)
-}
-
 /// From the least to the greatest of two numbers, and 0 where it lies in the interval.
 #[tactic(auto, unfolding(ep_base::specs::Intervals::spanned, ep_base::specs::Intervals::least_or_zero, ep_base::specs::Intervals::greatest_or_zero, ep_base::specs::Numbers::least_of, ep_base::specs::Numbers::greatest_of))]
 fn between(x: Span, one: i64, other: i64) -> WideSpan
@@ -329,10 +279,10 @@ pub fn power(x: Span, exponent: u64) -> Option<WideSpan>
     if exponent == 0 {
         return Some(only(1));
     }
-    let Some(low) = nth_power(x.low, steps(x.low, exponent)) else {
+    let Some(low) = nth_power(x.low, exponent) else {
         return None;
     };
-    let Some(high) = nth_power(x.high, steps(x.high, exponent)) else {
+    let Some(high) = nth_power(x.high, exponent) else {
         return None;
     };
     Some(between(x, low, high))

@@ -13,11 +13,12 @@ ghost use Rattle.ep_ground.specs.Nodes.{coefficients_of};
 ghost use Rattle.ep_reach.specs.Reaching.{HasNearParts, IsToldAt, interval_of, intervals_of, wide_interval};
 
 use super::intervals::{
-    Span, WideSpan, absolute, added, is_near, near, only, power, product, quotient, remainder,
-    scaled, span_of_set, widened,
+    Span, WideSpan, absolute, added, near, only, power, product, quotient, remainder, scaled,
+    span_of_set, widened,
 };
 use ep_base::Runs;
 use ep_ground::{Cell, Node, Term};
+use ep_numbers::is_near;
 
 /// Whether the stages compute with each number of a set.
 pub fn is_near_set(set: &Runs) -> bool

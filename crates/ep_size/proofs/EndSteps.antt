@@ -3,7 +3,7 @@ use Rattle.std.proofs.Common.{◌≡◌, Bool, true, false, refl, ◌||◌, arit
 use Rattle.std.proofs.lemmas.Int.{ints}
 use Rattle.ep_base.specs.Intervals.{farthest_end, from_to}
 use Rattle.ep_base.specs.Numbers.{absolute_of}
-use Rattle.ep_tree.specs.Limits.{is_too_far}
+use Rattle.ep_base.specs.Reads.{is_too_far}
 
 -- an interval reaches too far where one of its ends does
 pub far_ends : (a b : ℤ) → is_too_far (farthest_end (from_to a b)) ≡ (is_too_far a || is_too_far b)

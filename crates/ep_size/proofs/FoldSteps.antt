@@ -7,7 +7,7 @@ use Rattle.std.proofs.lemmas.Int.{clamps, ints}
 use Rattle.std.proofs.lemmas.List.{length_push}
 use Rattle.ep_base.specs.Intervals.{Interval, farthest_end, from_to, greatest_interval, greatest_or_zero, highs, least_interval, least_or_zero, lows, only, product_interval, products_interval, spanned, width}
 use Rattle.ep_base.specs.Numbers.{absolute_of, greatest_of, least_of}
-use Rattle.ep_tree.specs.Limits.{MOST_REACH, is_too_far}
+use Rattle.ep_base.specs.Reads.{MOST_NUMBER, is_too_far}
 use Rattle.ep_tree.specs.Measures.{farthest_of, first_products, fold_weight, folded_weight, folding_weight, sum_weight}
 use Rattle.ep_tree.specs.Reach as defined
 use Rattle.ep_tree.specs.Reach.{folded_span, reaches, sum_span, truth_span, wide_span}
@@ -211,7 +211,7 @@ unfolding is_too_far
 any_past [] = refl
 any_past (i ∷ is) = ap (λ b. is_far_reach i || b) (any_past is)
 
-far_any : (is : List Interval) → int_lt MOST_REACH (farthest_of (map farthest_end is)) ≡ list_any is_far_reach is
+far_any : (is : List Interval) → int_lt MOST_NUMBER (farthest_of (map farthest_end is)) ≡ list_any is_far_reach is
 far_any is = past_of (map farthest_end is) ∙ any_past is
 
 product_far : (spans : List defined.Span)
@@ -237,7 +237,7 @@ plain_gives op spans (Ok own) g e = (g.0, e ∙ g.1)
 plain_gives op spans (Err (Limit l)) g e = (g.0, e ∙ g.1)
 plain_gives op spans (Err Memory) g e = tt
 
-alone_far : (i : Interval) → int_lt MOST_REACH (farthest_of (map farthest_end (i ∷ []))) ≡ is_far_reach i
+alone_far : (i : Interval) → int_lt MOST_NUMBER (farthest_of (map farthest_end (i ∷ []))) ≡ is_far_reach i
 alone_far i = far_any (i ∷ []) ∙ sym (or_false (is_far_reach i))
 
 -- ---- what is known of folded numbers

@@ -1,12 +1,13 @@
 -- Powers of the numbers between two ends.
 use Rattle.std.proofs.Common.{◌≡◌, ℕ, zero, suc, ℤ, pos, negsuc, Bool, true, false, List, [], ◌∷◌, refl, sym, ap, subst, ◌∙◌, ◌||◌, arith, Option, Some, None, Ok, Err, ◌≤ℤ◌}
-use Rattle.std.specs.Prelude.{Result, fold, if◌then◌else◌, int_lt}
+use Rattle.std.specs.Prelude.{Result, fold, if◌then◌else◌, int_lt, IfSome, IsSome}
 use Rattle.std.specs.Int.{int_max, int_min}
 use Rattle.std.proofs.lemmas.Int.{clamps, fold-int_max_bounds, fold-int_min_bounds, ints}
 use Rattle.ep_base.specs.Intervals.{Interval, farthest_end, greatest_or_zero, has_zero, least_or_zero, nth_power_interval, only, power_interval, spanned}
 use Rattle.ep_base.specs.Numbers.{absolute_of, greatest_of, least_of, nth_power}
+use Rattle.ep_base.specs.Reads.{IsWithinNumbers, is_too_far}
+use Rattle.ep_numbers.proofs.Ends.{untold_far as unknown_far}
 use Rattle.ep_base.specs.declared.operators.Limit.{Limit as LimitName}
-use Rattle.ep_tree.specs.Limits.{is_too_far}
 use Rattle.ep_tree.specs.Reach as defined
 use Rattle.ep_tree.specs.Reach.{MeasuredIndex, fixed_index, measured_index, wide_span}
 use Rattle.ep_size.proofs.EndSteps.{far_ends}
@@ -78,6 +79,12 @@ refused_first l h zs far = (refl, far_first l h zs far)
 pub refused_second : (l h : ℤ) (zs : List ℤ) → is_too_far h ≡ true → Gives (Err (Limit LimitName.Reach)) (wide_span (spanned (l ∷ h ∷ zs)))
 unfolding wide_span
 refused_second l h zs far = (refl, far_second l h zs far)
+
+-- a power that is told where it is within reach
+pub tells : (o : Option ℤ) (whole : ℤ) → IfSome o (λ n. n ≡ whole) → (IsWithinNumbers whole → IsSome o) → TellsPower o whole
+unfolding TellsPower
+tells (Some n) whole same told = same
+tells None whole same told = unknown_far None whole told refl
 
 pub told_is : (o : Option ℤ) (n whole : ℤ) → o ≡ Some n → TellsPower o whole → n ≡ whole
 unfolding TellsPower

@@ -1,8 +1,8 @@
 -- What the code keeps of a number, as the definitions have it.
 use Rattle.std.specs.Prelude.{◌≡◌, true, false, Result, Ok, Err}
 use Rattle.ep_base.specs.Intervals.{Interval, farthest_end, from_to}
+use Rattle.ep_base.specs.Reads.{is_too_far}
 use Rattle.ep_base.specs.declared.operators.Limit.{Limit as LimitName}
-use Rattle.ep_tree.specs.Limits.{is_too_far}
 use Rattle.ep_size.specs.declared.errors.SizeError.{SizeError}
 use Rattle.ep_size.specs.declared.errors.SizeError.TheVariants.{Limit, Memory}
 use Rattle.ep_size.specs.declared.intervals.Ends.{Ends}

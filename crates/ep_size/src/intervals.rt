@@ -4,16 +4,14 @@ ghost use Rattle.std.specs.Prelude.{◌≡◌, ◌∷◌, [], if◌then◌else�
 ghost use Rattle.std.specs.Int.{int_max, int_min};
 ghost use Rattle.ep_base.specs.Numbers.{absolute_of};
 ghost use Rattle.ep_base.specs.Intervals as defined;
-ghost use Rattle.ep_tree.specs.Limits.{is_too_far};
+ghost use Rattle.ep_base.specs.Reads.{is_too_far};
 ghost use Rattle.ep_size.specs.Spans.{Keeps, interval_of, wide_of};
 ghost use Rattle.ep_size.specs.Totals.{capped};
 
 use super::errors::SizeError;
 use super::totals::MOST_TOLD;
 use ep_base::Limit;
-
-/// The greatest absolute value that a number may reach.
-const MOST_REACH: i128 = 1_099_511_627_776;
+use ep_numbers::is_far;
 
 /// The numbers between two ends.
 #[derive(Clone, Copy, Debug, PartialEq, Eq)]
@@ -81,13 +79,6 @@ pub fn near(ends: WideEnds) -> Result<Ends, SizeError>
     })
 }
 
-/// Whether a number is too far from 0.
-pub fn is_far(number: i128) -> bool
-    ensures { result ≡ is_too_far number }
-{
-    number > MOST_REACH || number < -MOST_REACH
-}
-
 /// `-x`
 #[tactic(auto, unfolding(ep_base::specs::Intervals::negated))]
 pub fn negated(x: Ends) -> WideEnds
@@ -100,7 +91,7 @@ pub fn negated(x: Ends) -> WideEnds
 }
 
 /// The greatest absolute value of the ends.
-#[tactic(auto, unfolding(ep_base::specs::Intervals::farthest_end), using(ep_eval::proofs::Reaches::absolute_is))]
+#[tactic(auto, unfolding(ep_base::specs::Intervals::farthest_end), using(ep_numbers::proofs::Ends::absolute_is))]
 fn farthest(x: Ends) -> i128
     ensures value { result ≡ defined.farthest_end (interval_of x) }
     ensures low { pos 0 ≤ℤ result }
@@ -110,7 +101,7 @@ fn farthest(x: Ends) -> i128
 }
 
 /// The least absolute value of the ends.
-#[tactic(auto, using(ep_eval::proofs::Reaches::absolute_is))]
+#[tactic(auto, using(ep_numbers::proofs::Ends::absolute_is))]
 fn least_absolute(x: Ends) -> i128
     ensures { result ≡ int_min (absolute_of x.low) (absolute_of x.high) }
 {
@@ -126,7 +117,7 @@ pub fn has_zero(x: Ends) -> bool
 }
 
 /// `|x|`
-#[tactic(auto, unfolding(ep_base::specs::Intervals::absolute_interval), using(ep_eval::proofs::Reaches::absolute_is))]
+#[tactic(auto, unfolding(ep_base::specs::Intervals::absolute_interval), using(ep_numbers::proofs::Ends::absolute_is))]
 pub fn absolute(x: Ends) -> WideEnds
     ensures { wide_of result ≡ defined.absolute_interval (interval_of x) }
 {

@@ -12,41 +12,11 @@ ghost use Rattle.ep_size.specs.Spans.{interval_of, wide_of};
 
 use super::errors::SizeError;
 use super::extents::{Span, wide_span};
-use super::intervals::{Ends, WideEnds, has_zero, is_far};
+use super::intervals::{Ends, WideEnds, has_zero};
 use super::nodes::wide;
 use super::reading::Indexed;
 use ep_base::Limit;
-
-/// How often a number is multiplied by itself: powers of -1, 0 and 1 repeat.
-fn steps(base: i64, exponent: u64) -> u64
-    ensures { numbers.nth_power base result ≡ numbers.nth_power base exponent }
-{
-    if exponent <= 2 || base > 1 || base < -1 {
-        return exponent;
-    }
-    2 - exponent % 2
-}
-
-/// A number multiplied by itself, so often in all, unless that is too far from 0. It ends soon behind the first power that is.
-fn multiplied(base: i64, exponent: u64) -> Option<i128>
-    ensures { TellsPower result (numbers.nth_power base exponent) }
-{
-    let mut number = 1;
-    for _i in 0..exponent {
-        number *= i128::from(base);
-        if is_far(number) {
-            return None;
-        }
-    }
-    Some(number)
-}
-
-/// `x ** n` for a number x, where that isn't too far from 0.
-fn nth_power(base: i64, exponent: u64) -> Option<i128>
-    ensures { TellsPower result (numbers.nth_power base exponent) }
-{
-    multiplied(base, steps(base, exponent))
-}
+use ep_numbers::nth_power;
 
 /// The lower end of the numbers between two, and 0 where it is among them.
 #[tactic(auto, unfolding(ep_base::specs::Intervals::least_or_zero, ep_base::specs::Numbers::least_of))]
@@ -82,13 +52,13 @@ fn spanned(one: i128, other: i128, zero: bool) -> WideEnds
 }
 
 /// What is known of numbers between two, and 0 where it is among them. What is too far from 0 isn't there.
-fn between(one: Option<i128>, other: Option<i128>, zero: bool) -> Result<Span, SizeError>
+fn between(one: Option<i64>, other: Option<i64>, zero: bool) -> Result<Span, SizeError>
     ensures { (low : ℤ) → (high : ℤ) → TellsPower one low → TellsPower other high
         → Gives result (defined.wide_span (intervals.spanned (low ∷ high ∷ (if zero then pos 0 ∷ [] else [])))) }
 {
     match one {
         Some(low) => match other {
-            Some(high) => wide(spanned(low, high, zero)),
+            Some(high) => wide(spanned(i128::from(low), i128::from(high), zero)),
             None => Err(SizeError::Limit(Limit::Reach)),
         },
         None => Err(SizeError::Limit(Limit::Reach)),

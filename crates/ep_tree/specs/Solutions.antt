@@ -5,13 +5,14 @@
 use Rattle.std.specs.Prelude.{◌≡◌, ℕ, ◌+◌, ◌*◌, Bool, true, false, ◌||◌, List, [], ◌∷◌, ◌++◌, map, length, ℤ, is_some, is_none, if◌then◌else◌, IsTrue, nat_lt, int_lt, Some, None, bytes_eq, sum_by, Option, option_map, option_to_list, option_and_then, IsPermutation}
 use Rattle.ep_base.specs.Numbers.{has_number}
 use Rattle.ep_base.specs.Senses.{better_number}
+use Rattle.ep_base.specs.Reads.{MOST_NUMBER}
 use Rattle.ep_base.specs.declared.names.Name.{Name}
 use Rattle.ep_base.specs.declared.operators.Limit.{Limit}
 use Rattle.ep_base.specs.declared.operators.Sense.{Sense}
 use Rattle.ep_tree.specs.Binding.{Find, Instance, Refusal, met_in, over_limit}
 use Rattle.ep_tree.specs.Environments.{Bound, Env, has_cells, has_value, shape_type}
 use Rattle.ep_tree.specs.Evaluation.{evaluate, first_untrue, number_in, on_both}
-use Rattle.ep_tree.specs.Limits.{MOST_REACH, MOST_SIZE, MOST_WEIGHT}
+use Rattle.ep_tree.specs.Limits.{MOST_SIZE, MOST_WEIGHT}
 use Rattle.ep_tree.specs.Measures.{Met, farthest_reach, size_of, weight_of}
 use Rattle.ep_tree.specs.Names.{put_all}
 use Rattle.ep_tree.specs.Trees.{ExprTree}
@@ -164,7 +165,7 @@ instance_reach mode i = farthest_reach mode (met_instance mode i)
 unfoldable pub limits_passed : Mode → ℕ → List Met → List Refusal
 limits_passed mode cells ms =
     (if nat_lt MOST_SIZE (cells + size_of ms) then over_limit Limit.Size ∷ [] else [])
-    ++ (if int_lt MOST_REACH (farthest_reach mode ms) then over_limit Limit.Reach ∷ [] else [])
+    ++ (if int_lt MOST_NUMBER (farthest_reach mode ms) then over_limit Limit.Reach ∷ [] else [])
 
 -- the limit of weight, which is named only where no other is passed
 unfoldable pub or_weight : List Refusal → ℕ → List Refusal

@@ -16,9 +16,9 @@ returns-clause-same c =
     let x = c.args.x in
     let some : 1 ≤ c.args.exponent = search rules in
     let low : to_z w64 (of_z w64 c.in-Some.low) ≡ nth_power x.low c.args.exponent =
-    to_z-of_z w64 c.in-Some.low (search rules) ∙ c.in-Some.ensures.same ∙ c.steps.ensures ∙ ap (λ n. nth_power n c.args.exponent) (to_z-of_z w64 x.low (search rules)) in
+    to_z-of_z w64 c.in-Some.low (search rules) ∙ c.in-Some.ensures.same ∙ ap (λ n. nth_power n c.args.exponent) (to_z-of_z w64 x.low (search rules)) in
     let high : to_z w64 (of_z w64 c.in-Some-nth_power.high) ≡ nth_power x.high c.args.exponent =
-    to_z-of_z w64 c.in-Some-nth_power.high (search rules) ∙ c.in-Some-nth_power.ensures.same ∙ c.steps-2.ensures ∙ ap (λ n. nth_power n c.args.exponent) (to_z-of_z w64 x.high (search rules)) in
+    to_z-of_z w64 c.in-Some-nth_power.high (search rules) ∙ c.in-Some-nth_power.ensures.same ∙ ap (λ n. nth_power n c.args.exponent) (to_z-of_z w64 x.high (search rules)) in
     c.between.ensures ∙ (λ i. spanned (low i ∷ high i ∷ (if has_zero (interval_of x) then pos 0 ∷ [] else []))) ∙ powered (interval_of x) c.args.exponent some
 
 pub returns-in_default-clause-told : goal.returns-in_default-clause-told
@@ -26,11 +26,11 @@ returns-in_default-clause-told c h =
     let x = c.args.x in
     let some : 1 ≤ c.args.exponent = search rules in
     c.in_default.ensures.told
-    (subst IsWithinNumbers (sym (c.steps.ensures ∙ ap (λ n. nth_power n c.args.exponent) (to_z-of_z w64 x.low (search rules)))) (ends_near (interval_of x) c.args.exponent some h).0)
+    (subst IsWithinNumbers (sym (ap (λ n. nth_power n c.args.exponent) (to_z-of_z w64 x.low (search rules)))) (ends_near (interval_of x) c.args.exponent some h).0)
 
 pub returns-in_default-nth_power-clause-told : goal.returns-in_default-nth_power-clause-told
 returns-in_default-nth_power-clause-told c h =
     let x = c.args.x in
     let some : 1 ≤ c.args.exponent = search rules in
     c.in_default-nth_power.ensures.told
-    (subst IsWithinNumbers (sym (c.steps-2.ensures ∙ ap (λ n. nth_power n c.args.exponent) (to_z-of_z w64 x.high (search rules)))) (ends_near (interval_of x) c.args.exponent some h).1)
+    (subst IsWithinNumbers (sym (ap (λ n. nth_power n c.args.exponent) (to_z-of_z w64 x.high (search rules)))) (ends_near (interval_of x) c.args.exponent some h).1)

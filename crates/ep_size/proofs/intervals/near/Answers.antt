@@ -2,8 +2,8 @@ use Rattle.std.proofs.Common.{refl, sym, ap, ◌∙◌, ◌≡◌, arith, w64, t
 use Rattle.std.proofs.lemmas.Int.{ints, to_z-of_z}
 use Rattle.std.specs.Int.{w128}
 use Rattle.ep_base.specs.Intervals.{from_to}
-use Rattle.ep_tree.specs.Limits.{is_too_far}
-use Rattle.ep_eval.proofs.Reaches.{near_fits}
+use Rattle.ep_base.specs.Reads.{is_too_far}
+use Rattle.ep_numbers.proofs.Ends.{near_fits}
 use Rattle.ep_size.proofs.EndSteps.{far_ends, first_near, second_near}
 use Rattle.ep_size.proofs.intervals.near.Goals as goal
 

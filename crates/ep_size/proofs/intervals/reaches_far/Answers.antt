@@ -1,7 +1,7 @@
 use Rattle.std.proofs.Common.{◌≡◌, ap, sym, ◌∙◌, ◌||◌, arith, true, false}
 use Rattle.std.proofs.lemmas.Int.{ints, to_z-of_z}
 use Rattle.std.specs.Int.{w128}
-use Rattle.ep_tree.specs.Limits.{is_too_far}
+use Rattle.ep_base.specs.Reads.{is_too_far}
 use Rattle.ep_size.proofs.EndSteps.{far_ends}
 use Rattle.ep_size.proofs.intervals.reaches_far.Goals as goal
 

@@ -1,6 +1,6 @@
 use Rattle.std.proofs.Common.{ap, subst, sym, ◌∙◌}
 use Rattle.ep_base.specs.Intervals.{farthest_end}
-use Rattle.ep_tree.specs.Limits.{is_too_far}
+use Rattle.ep_base.specs.Reads.{is_too_far}
 use Rattle.ep_tree.specs.Reach.{negated_span}
 use Rattle.ep_size.proofs.NodeSteps.{err_gives}
 use Rattle.ep_size.specs.Extents.{plain_span}

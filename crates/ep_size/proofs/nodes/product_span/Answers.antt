@@ -1,7 +1,7 @@
 use Rattle.std.proofs.Common.{ap, subst, sym, ◌∙◌}
 use Rattle.std.specs.Prelude.{if◌then◌else◌}
 use Rattle.ep_base.specs.Intervals.{farthest_end}
-use Rattle.ep_tree.specs.Limits.{is_too_far}
+use Rattle.ep_base.specs.Reads.{is_too_far}
 use Rattle.ep_tree.specs.Reach.{product_span, wide_span, with_spread}
 use Rattle.ep_size.proofs.NodeSteps.{err_gives, product_reach}
 use Rattle.ep_size.specs.Extents.{plain_span}

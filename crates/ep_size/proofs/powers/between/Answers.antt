@@ -1,4 +1,4 @@
-use Rattle.std.proofs.Common.{◌≡◌, ◌∷◌, [], pos, subst, ◌∙◌, rules, to_z, of_z}
+use Rattle.std.proofs.Common.{◌≡◌, ◌∷◌, [], pos, subst, ◌∙◌, rules, w64, to_z, of_z}
 use Rattle.std.specs.Int.{w128}
 use Rattle.std.specs.Prelude.{if◌then◌else◌}
 use Rattle.std.proofs.lemmas.Int.{to_z-of_z}
@@ -11,8 +11,10 @@ pub returns-in-Some-other : goal.returns-in-Some-other
 returns-in-Some-other c low high p q =
     let l = c.in-Some.low in
     let h = c.in-Some-other.high in
-    let low_word : to_z w128 (of_z w128 l) ≡ l = to_z-of_z w128 l (search rules) in
-    let high_word : to_z w128 (of_z w128 h) ≡ h = to_z-of_z w128 h (search rules) in
+    let low_word : to_z w128 (of_z w128 c.from.result) ≡ l =
+    to_z-of_z w128 c.from.result (search rules) ∙ c.from.ensures ∙ to_z-of_z w64 l (search rules) in
+    let high_word : to_z w128 (of_z w128 c.from-2.result) ≡ h =
+    to_z-of_z w128 c.from-2.result (search rules) ∙ c.from-2.ensures ∙ to_z-of_z w64 h (search rules) in
     subst (λ i. Gives c.wide.result (wide_span i))
     (c.spanned.ensures
     ∙ spanned_same _ _ low high c.args.zero (low_word ∙ told_is c.args.one l low c.in-Some.is p) (high_word ∙ told_is c.args.other h high c.in-Some-other.is q))

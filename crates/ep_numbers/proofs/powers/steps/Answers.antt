@@ -1,8 +1,8 @@
 use Rattle.std.proofs.Common.{pos, negsuc, sym, ap, ◌∙◌, arith, w64, rules}
 use Rattle.std.specs.Prelude.{int_lt}
 use Rattle.std.proofs.lemmas.Int.{to_z-of_z}
-use Rattle.ep_reach.proofs.Telling.{power_small}
-use Rattle.ep_reach.proofs.intervals.steps.Goals as goal
+use Rattle.ep_numbers.proofs.PowerLaws.{power_small}
+use Rattle.ep_numbers.proofs.powers.steps.Goals as goal
 
 pub returns : goal.returns
 returns c =
