@@ -4,7 +4,7 @@ ghost use Rattle.std.specs.Prelude.{◌≡◌, ◌*ℤ◌, IfSome, IsSome};
 ghost use Rattle.ep_base.specs.Numbers as numbers;
 ghost use Rattle.ep_base.specs.Reads.{IsWithinNumbers};
 
-use super::near::near_number;
+use super::reach::near_number;
 
 /// A product of two numbers.
 pub(crate) fn times(one: i64, other: i64) -> i128

@@ -1,4 +1,4 @@
--- Where reaches are told: sums and powers that stay near don't leave the words that they are computed in.
+-- Where reaches are told: sums that stay near don't leave the words that they are computed in.
 use Rattle.std.proofs.Common.{◌≡◌, ℕ, zero, suc, ◌+◌, ◌-◌, ◌*◌, ◌%◌, ◌<◌, ◌≤◌, ℤ, pos, negsuc, ◌+ℤ◌, ◌*ℤ◌, ◌≤ℤ◌, List, [], ◌∷◌, ◌++◌, length, get_or, take, false, Some, refl, sym, ap, subst, ◌∙◌, arith, add-one, SFits, w64}
 use Rattle.std.specs.Prelude.{if◌then◌else◌, fold, int_lt, map, neg_ℤ, slice_get, slice_index_or, unsigned_abs}
 use Rattle.std.specs.Int.{int_max, int_min}
@@ -7,68 +7,19 @@ use Rattle.std.proofs.lemmas.Int.{ints, unsigned_abs-mul}
 use Rattle.std.proofs.lemmas.List.{length-append}
 use Rattle.std.proofs.lemmas.List.Elements.{All-cons, All-head, All-nil, All-tail}
 use Rattle.std.proofs.lemmas.Nat.{mul-le}
-use Rattle.ep_base.specs.Intervals.{Interval, greatest_or_zero, has_zero, least_or_zero, nth_power_interval, only, product_interval, spanned}
+use Rattle.ep_base.specs.Intervals.{Interval, IsWithinReach, greatest_or_zero, has_zero, least_or_zero, nth_power_interval, only, product_interval, scaled, spanned}
 use Rattle.ep_base.specs.Numbers.{greatest_of, least_of, nth_power}
 use Rattle.ep_base.specs.Reads.{IsWithinNumbers}
+use Rattle.ep_numbers.proofs.Ends.{max_in, min_in}
 use Rattle.ep_numbers.proofs.PowerLaws.{abs_in, in_abs, word_in}
-use Rattle.ep_ground.specs.Bounds.{IsWithinReach, node_reach, reach_at, scaled, term_reach}
+use Rattle.ep_numbers.specs.Spans.{IsWide}
+use Rattle.ep_ground.specs.Bounds.{node_reach, reach_at, term_reach}
 use Rattle.ep_ground.specs.Grounds.{GroundState}
 use Rattle.ep_ground.specs.Nodes.{GroundNode, coefficients_of, power, sum}
 use Rattle.ep_ground.specs.declared.cells.Cell.{Cell}
-use Rattle.ep_reach.specs.Reaching.{HasFewParts, HasNearParts, IsNearThroughout, IsToldAt, IsWide}
+use Rattle.ep_reach.specs.Reaching.{HasFewParts, HasNearParts, IsNearThroughout, IsToldAt}
 use Rattle.ep_reach.proofs.Nodes.{all_at, got_at}
-use Rattle.ep_reach.proofs.Reaching.{Bounded, near_all, near_at}
-
--- ---- ends of near numbers
-
-min_in : (l h a : ℤ) (xs : List ℤ) → (l ≤ℤ a) × (a ≤ℤ h) → All (λ x. (l ≤ℤ x) × (x ≤ℤ h)) xs → (l ≤ℤ fold int_min a xs) × (fold int_min a xs ≤ℤ h)
-min_in l h a [] k all = k
-min_in l h a (x ∷ xs) k all =
-    let m = All-head (λ y. (l ≤ℤ y) × (y ≤ℤ h)) x xs all in
-    min_in l h (int_min a x) xs (low k.0 m.0, high k.1 m.1) (All-tail (λ y. (l ≤ℤ y) × (y ≤ℤ h)) x xs all)
-  where
-    low : l ≤ℤ a → l ≤ℤ x → l ≤ℤ int_min a x
-    low p q = grind (arith, ints, p, q)
-
-    high : a ≤ℤ h → x ≤ℤ h → int_min a x ≤ℤ h
-    high p q = grind (arith, ints, p, q)
-
-max_in : (l h a : ℤ) (xs : List ℤ) → (l ≤ℤ a) × (a ≤ℤ h) → All (λ x. (l ≤ℤ x) × (x ≤ℤ h)) xs → (l ≤ℤ fold int_max a xs) × (fold int_max a xs ≤ℤ h)
-max_in l h a [] k all = k
-max_in l h a (x ∷ xs) k all =
-    let m = All-head (λ y. (l ≤ℤ y) × (y ≤ℤ h)) x xs all in
-    max_in l h (int_max a x) xs (low k.0 m.0, high k.1 m.1) (All-tail (λ y. (l ≤ℤ y) × (y ≤ℤ h)) x xs all)
-  where
-    low : l ≤ℤ a → l ≤ℤ x → l ≤ℤ int_max a x
-    low p q = grind (arith, ints, p, q)
-
-    high : a ≤ℤ h → x ≤ℤ h → int_max a x ≤ℤ h
-    high p q = grind (arith, ints, p, q)
-
-pub near_span : (values : List ℤ) (i : Interval) → i ≡ spanned values → All IsWithinNumbers values → IsWithinReach i
-unfolding spanned least_or_zero greatest_or_zero least_of greatest_of
-near_span [] i e h = subst IsWithinReach (sym e) (record { low = (omega (arith, ints), omega (arith, ints)); high = (omega (arith, ints), omega (arith, ints)) })
-near_span (x ∷ xs) i e h =
-    let first = All-head IsWithinNumbers x xs h in
-    let rest = All-tail IsWithinNumbers x xs h in
-    subst IsWithinReach (sym e)
-    (record {
-      low = min_in (neg_ℤ (pos 1099511627776)) (pos 1099511627776) x xs first rest;
-      high = max_in (neg_ℤ (pos 1099511627776)) (pos 1099511627776) x xs first rest;
-    })
-
--- ---- powers
-
--- the powers of both ends are near where their interval is
-pub ends_near : (i : Interval) (n : ℕ) → 1 ≤ n → IsWithinReach (nth_power_interval i n) → IsWithinNumbers (nth_power i.low n) × IsWithinNumbers (nth_power i.high n)
-unfolding nth_power_interval
-ends_near i zero h w = absurd (omega (arith, h))
-ends_near i (suc n) h w =
-    let zeros : List ℤ = if has_zero i then pos 0 ∷ [] else [] in
-    let rest : List ℤ = nth_power i.high (suc n) ∷ zeros in
-    let xs : List ℤ = nth_power i.low (suc n) ∷ rest in
-    let all = near_all xs (spanned xs) refl w in
-    (All-head IsWithinNumbers (nth_power i.low (suc n)) rest all, All-head IsWithinNumbers (nth_power i.high (suc n)) zeros (All-tail IsWithinNumbers (nth_power i.low (suc n)) rest all))
+use Rattle.ep_reach.proofs.Reaching.{Bounded, near_at}
 
 -- ---- sums
 

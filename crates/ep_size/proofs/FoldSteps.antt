@@ -17,7 +17,8 @@ use Rattle.ep_size.proofs.Measurings.{is_past, left_true, neither, or_again, or_
 use Rattle.ep_size.specs.Extents.{plain_span}
 use Rattle.ep_size.specs.Finishing.{Gives}
 use Rattle.ep_size.specs.Folds.{Chooses, Folds, GivesFold, Multiplies, RefusesFold, fold_reaches, greater, is_far_fold, is_far_reach, lesser}
-use Rattle.ep_size.specs.Spans.{Keeps, interval_of}
+use Rattle.ep_numbers.specs.Spans.{interval_of}
+use Rattle.ep_size.specs.Spans.{Keeps}
 use Rattle.ep_size.specs.Sums.{Sums}
 use Rattle.ep_size.specs.Totals.{capped}
 use Rattle.ep_size.specs.declared.errors.SizeError.{SizeError}

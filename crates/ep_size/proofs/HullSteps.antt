@@ -14,10 +14,11 @@ use Rattle.ep_tree.specs.declared.values.Scalar.{Scalar}
 use Rattle.ep_size.specs.Extents.{plain_span}
 use Rattle.ep_size.specs.Finishing.{Gives}
 use Rattle.ep_size.specs.Hulls.{Hulls}
-use Rattle.ep_size.specs.Spans.{Keeps, interval_of}
+use Rattle.ep_numbers.specs.Spans.{interval_of}
+use Rattle.ep_size.specs.Spans.{Keeps}
 use Rattle.ep_size.specs.Totals.{capped}
 use Rattle.ep_size.specs.declared.extents.Span.{Span}
-use Rattle.ep_size.specs.declared.intervals.Ends.{Ends}
+use Rattle.ep_numbers.specs.declared.spans.Span.{Span as Ends}
 use Rattle.ep_size.specs.declared.hulls.Hulled.{Hulled}
 
 -- the least lower end of numbers, one of them at the end

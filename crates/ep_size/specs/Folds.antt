@@ -13,7 +13,7 @@ use Rattle.ep_tree.specs.Values.{single}
 use Rattle.ep_tree.specs.declared.values.Mode.{Mode}
 use Rattle.ep_tree.specs.declared.syntax.FoldOp.{FoldOp}
 use Rattle.ep_size.specs.Extents.{plain_span}
-use Rattle.ep_size.specs.Spans.{interval_of}
+use Rattle.ep_numbers.specs.Spans.{interval_of}
 use Rattle.ep_size.specs.Sums.{Sums}
 use Rattle.ep_size.specs.Totals.{capped}
 use Rattle.ep_size.specs.declared.errors.SizeError.{SizeError}

@@ -3,15 +3,14 @@
 ghost use Rattle.std.specs.Prelude.{◌≡◌, ◌∷◌, [], if◌then◌else◌, ◌≤ℤ◌, ◌+ℤ◌, ◌*ℤ◌, ◌-ℤ◌, int_le, neg_ℤ, pos, IfSome, IsSome};
 ghost use Rattle.std.specs.Int.{int_max, int_min};
 ghost use Rattle.ep_base.specs.Intervals as defined;
-ghost use Rattle.ep_base.specs.Intervals.{from_to};
+ghost use Rattle.ep_base.specs.Intervals.{IsWithinReach, from_to};
 ghost use Rattle.ep_base.specs.Numbers.{absolute_of};
-ghost use Rattle.ep_reach.specs.Reaching.{IsWide, interval_of, wide_interval};
+ghost use Rattle.ep_numbers.specs.Spans.{IsWide, interval_of, wide_interval};
 ghost use Rattle.ep_base.specs.RunEnds.{greatest_from, least_from};
-ghost use Rattle.ep_ground.specs.Bounds as bounds;
-ghost use Rattle.ep_ground.specs.Bounds.{IsWithinReach};
 
+use super::powers::{nth_power, times};
+use super::reach::near_number;
 use ep_base::{Run, Runs};
-use ep_numbers::{near_number, nth_power};
 
 /// The whole numbers from the lower end to the upper end.
 #[derive(Clone, Copy, Debug, PartialEq, Eq)]
@@ -25,7 +24,9 @@ pub struct Span {
 /// The same, where the ends may be farther from 0 than the stages compute.
 #[derive(Clone, Copy, Debug, PartialEq, Eq)]
 pub struct WideSpan {
+    /// The least number.
     pub low: i128,
+    /// The greatest number.
     pub high: i128,
 }
 
@@ -108,9 +109,9 @@ pub fn added(x: WideSpan, y: WideSpan) -> Option<WideSpan>
 }
 
 /// The numbers of an interval, each multiplied by a coefficient.
-#[tactic(auto, unfolding(ep_ground::specs::Bounds::scaled))]
+#[tactic(auto, unfolding(ep_base::specs::Intervals::scaled))]
 pub fn scaled(coefficient: i64, x: Span) -> WideSpan
-    ensures { wide_interval result ≡ bounds.scaled coefficient (interval_of x) }
+    ensures { wide_interval result ≡ defined.scaled coefficient (interval_of x) }
 {
     product(
         Span {
@@ -119,6 +120,17 @@ pub fn scaled(coefficient: i64, x: Span) -> WideSpan
         },
         x,
     )
+}
+
+/// `-x`
+#[tactic(auto, unfolding(ep_base::specs::Intervals::negated))]
+pub fn negated(x: Span) -> WideSpan
+    ensures { wide_interval result ≡ defined.negated (interval_of x) }
+{
+    WideSpan {
+        low: -i128::from(x.high),
+        high: -i128::from(x.low),
+    }
 }
 
 /// The greatest absolute value of the ends.
@@ -141,7 +153,7 @@ fn least_absolute(x: Span) -> i128
 
 /// Whether 0 lies between the ends.
 #[tactic(auto, unfolding(ep_base::specs::Intervals::has_zero))]
-fn has_zero(x: Span) -> bool
+pub fn has_zero(x: Span) -> bool
     ensures { result ≡ defined.has_zero (interval_of x) }
 {
     x.low <= 0 && 0 <= x.high
@@ -214,13 +226,6 @@ pub fn remainder(y: Span) -> WideSpan
     }
 }
 
-/// A product of two numbers.
-fn times(one: i64, other: i64) -> i128
-    ensures { result ≡ one *ℤ other }
-{
-    i128::from(one) * i128::from(other)
-}
-
 /// The least of four numbers.
 #[tactic(auto, unfolding(ep_base::specs::Intervals::least_or_zero, ep_base::specs::Numbers::least_of))]
 fn least_of_four(one: i128, two: i128, three: i128, four: i128) -> i128
@@ -286,4 +291,66 @@ pub fn power(x: Span, exponent: u64) -> Option<WideSpan>
         return None;
     };
     Some(between(x, low, high))
+}
+
+/// The lesser of two numbers.
+#[tactic(auto, unfolding(ep_base::specs::Intervals::least_interval, ep_base::specs::Intervals::least_or_zero, ep_base::specs::Numbers::least_of))]
+pub fn least(x: Span, y: Span) -> Span
+    ensures { interval_of result ≡ defined.least_interval (interval_of x ∷ interval_of y ∷ []) }
+{
+    Span {
+        low: x.low.min(y.low),
+        high: x.high.min(y.high),
+    }
+}
+
+/// The greater of two numbers.
+#[tactic(auto, unfolding(ep_base::specs::Intervals::greatest_interval, ep_base::specs::Intervals::greatest_or_zero, ep_base::specs::Numbers::greatest_of))]
+pub fn greatest(x: Span, y: Span) -> Span
+    ensures { interval_of result ≡ defined.greatest_interval (interval_of x ∷ interval_of y ∷ []) }
+{
+    Span {
+        low: x.low.max(y.low),
+        high: x.high.max(y.high),
+    }
+}
+
+/// How many numbers lie in an interval.
+#[tactic(auto, unfolding(ep_base::specs::Intervals::width))]
+pub fn width(x: Span) -> u128
+    ensures { result ≡ defined.width (interval_of x) }
+{
+    let count = i128::from(x.high) + 1 - i128::from(x.low);
+    if count < 0 {
+        return 0;
+    }
+    count as u128
+}
+
+/// The least and the greatest of the lower ends of some intervals, and of their upper ends.
+#[derive(Clone, Copy, Debug, PartialEq, Eq)]
+pub struct Extremes {
+    /// The least and the greatest of the lower ends.
+    pub lows: Span,
+    /// The least and the greatest of the upper ends.
+    pub highs: Span,
+}
+
+/// The same of one interval more.
+pub fn with_one(found: Extremes, x: Span) -> Extremes
+    ensures least_low { result.lows.low ≡ int_min found.lows.low x.low }
+    ensures greatest_low { result.lows.high ≡ int_max found.lows.high x.low }
+    ensures least_high { result.highs.low ≡ int_min found.highs.low x.high }
+    ensures greatest_high { result.highs.high ≡ int_max found.highs.high x.high }
+{
+    Extremes {
+        lows: Span {
+            low: found.lows.low.min(x.low),
+            high: found.lows.high.max(x.low),
+        },
+        highs: Span {
+            low: found.highs.low.min(x.high),
+            high: found.highs.high.max(x.high),
+        },
+    }
 }

@@ -3,10 +3,9 @@ use Rattle.std.proofs.lemmas.Int.{to_z-of_z}
 use Rattle.ep_base.specs.Intervals.{has_zero, spanned}
 use Rattle.ep_base.specs.Numbers.{nth_power}
 use Rattle.ep_base.specs.Reads.{IsWithinNumbers}
-use Rattle.ep_reach.specs.Reaching.{interval_of}
-use Rattle.ep_reach.proofs.Ends.{power_zero, powered}
-use Rattle.ep_reach.proofs.Telling.{ends_near}
-use Rattle.ep_reach.proofs.intervals.power.Goals as goal
+use Rattle.ep_numbers.specs.Spans.{interval_of}
+use Rattle.ep_numbers.proofs.Ends.{ends_near, power_zero, powered}
+use Rattle.ep_numbers.proofs.spans.power.Goals as goal
 
 pub returns-then-exponent-eq0-clause-same : goal.returns-then-exponent-eq0-clause-same
 returns-then-exponent-eq0-clause-same c = c.only.ensures ∙ power_zero (interval_of c.args.x) c.args.exponent c.if-exponent-eq0.true

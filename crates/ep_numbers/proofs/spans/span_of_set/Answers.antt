@@ -1,5 +1,5 @@
 use Rattle.ep_base.proofs.RunEnds.{spanned_is, spanned_none}
-use Rattle.ep_reach.proofs.intervals.span_of_set.Goals as goal
+use Rattle.ep_numbers.proofs.spans.span_of_set.Goals as goal
 
 pub returns-in-Some : goal.returns-in-Some
 returns-in-Some c =

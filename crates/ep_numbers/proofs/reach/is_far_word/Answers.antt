@@ -2,7 +2,7 @@ use Rattle.std.proofs.Common.{pos, negsuc, w64, sym, ap, ◌∙◌, arith}
 use Rattle.std.proofs.lemmas.Int.{to_z-of_z, ints}
 use Rattle.std.specs.Prelude.{int_lt}
 use Rattle.ep_numbers.proofs.Ends.{far_above, far_below}
-use Rattle.ep_numbers.proofs.near.is_far_word.Goals as goal
+use Rattle.ep_numbers.proofs.reach.is_far_word.Goals as goal
 
 pub returns-then-number-gt-MOST_NUMBER : goal.returns-then-number-gt-MOST_NUMBER
 returns-then-number-gt-MOST_NUMBER c =

@@ -3,7 +3,7 @@ use Rattle.std.proofs.lemmas.Int.{to_z-of_z, ints}
 use Rattle.std.specs.Prelude.{int_lt}
 use Rattle.std.specs.Int.{w128}
 use Rattle.ep_numbers.proofs.Ends.{far_above, far_below}
-use Rattle.ep_numbers.proofs.near.is_far.Goals as goal
+use Rattle.ep_numbers.proofs.reach.is_far.Goals as goal
 
 pub returns-then-number-gt-MOST_WIDE : goal.returns-then-number-gt-MOST_WIDE
 returns-then-number-gt-MOST_WIDE c =

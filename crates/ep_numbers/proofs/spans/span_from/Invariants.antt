@@ -1,6 +1,6 @@
 use Rattle.std.proofs.Common.{◌≡◌, drop}
 use Rattle.ep_base.specs.RunEnds.{greatest_from, least_from}
-use Rattle.ep_reach.proofs.intervals.span_from.Given as goal
+use Rattle.ep_numbers.proofs.spans.span_from.Given as goal
 
 abbrev pub invariant-loop-run : goal.invariant-loop-run
 invariant-loop-run l = record {
