@@ -1,4 +1,3 @@
-mod Quotients
 mod Found
 mod Cases
 mod Entries

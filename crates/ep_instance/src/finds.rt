@@ -13,9 +13,10 @@ use super::errors::{BindError, Source};
 use super::fitted::type_of_shape;
 use super::instances::Find;
 use super::lettings::{ListedShape, listed_from};
-use super::listed::{copy_sets, read_listed};
+use super::listed::read_listed;
 use ep_base::{Memory, Name, Place};
 use ep_eval::Env;
+use ep_numbers::copy_sets;
 use ep_tree::Declared;
 use std::alloc::Global;
 

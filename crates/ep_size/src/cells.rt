@@ -19,6 +19,7 @@ use super::totals::{MOST_SIZE, MOST_TOLD, Totals, product, told};
 use ep_base::{Limit, Memory, Name, Run, Runs};
 use ep_eval::Env;
 use ep_instance::Find;
+use ep_numbers::copy_sets;
 use ep_tree::{Scalar, ValueType};
 use std::alloc::Global;
 
@@ -68,17 +69,6 @@ fn scalar_of(ty: ValueType) -> Scalar
         ValueType::Int => Scalar::Int,
         ValueType::Matrix { of, .. } => of,
     }
-}
-
-/// The same sets of numbers once more.
-fn copy_sets(alloc: Global, sets: &[Runs]) -> Result<Vec<Runs>, Memory>
-    ensures { IfOk result (λ copies. copies.items ≡ sets.now) }
-{
-    let mut copies = Vec::with_capacity(alloc, sets.len())?;
-    for set in sets {
-        copies.push(set.copy(alloc)?)?;
-    }
-    Ok(copies)
 }
 
 /// The name of a decision variable stands for its cells.

@@ -20,7 +20,7 @@ use ep_base::{Key, Memory, Name, Runs};
 use ep_eval::Env;
 use ep_ground::Cell;
 use ep_instance::{Find, Instance};
-use ep_numbers::listed;
+use ep_numbers::{copy_sets, listed};
 use ep_tree::{Scalar, ValueType};
 use std::alloc::Global;
 
@@ -116,17 +116,6 @@ fn scalar_of(ty: ValueType) -> Scalar
         ValueType::Int => Scalar::Int,
         ValueType::Matrix { of, .. } => of,
     }
-}
-
-/// The same sets of numbers once more.
-fn copy_sets(alloc: Global, sets: &[Runs]) -> Result<Vec<Runs>, Memory>
-    ensures { IfOk result (λ copies. copies.items ≡ sets.now) }
-{
-    let mut copies = Vec::with_capacity(alloc, sets.len())?;
-    for set in sets {
-        copies.push(set.copy(alloc)?)?;
-    }
-    Ok(copies)
 }
 
 /// The name of a decision variable stands for its cells.
