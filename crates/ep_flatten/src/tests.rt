@@ -1,10 +1,10 @@
 //! Each kind of operation once, and which sums stand in others by their parts.
 
 use crate::forms::{Form, form_of};
-use crate::intervals::Span;
 use crate::spans::form_span;
 use ep_base::CompareOp;
 use ep_ground::{Node, Term};
+use ep_numbers::Span;
 use std::test::Fail;
 
 /// The ends of a node's interval.

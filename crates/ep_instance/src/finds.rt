@@ -13,6 +13,7 @@ use super::lettings::{ListedShape, listed_from};
 use ep_base::{Memory, Name, Place};
 use ep_eval::Env;
 use ep_instance_parts::{BindError, Find, Source, copy_sets, read_listed, type_of_shape};
+use ep_numbers::copy_sets;
 use ep_tree::Declared;
 use std::alloc::Global;
 

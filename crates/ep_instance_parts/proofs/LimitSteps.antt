@@ -6,10 +6,11 @@ use Rattle.std.proofs.lemmas.List.Elements.{Contains-append_cases, Contains-appe
 use Rattle.std.proofs.lemmas.Bool.Decides.{nat_tests}
 use Rattle.std.proofs.lemmas.Grind.{flat_map-append}
 use Rattle.std.proofs.lemmas.List.Folds.{list_any-append}
+use Rattle.ep_base.specs.Reads.{is_too_far}
 use Rattle.ep_base.specs.declared.operators.Limit.{Limit}
 use Rattle.ep_tree.specs.Environments.{Env}
 use Rattle.ep_tree.specs.Evaluation.{domain_values, evaluate}
-use Rattle.ep_tree.specs.Limits.{counted_domain, counted_value, is_too_far, limits_of_values, numbers_at, within}
+use Rattle.ep_tree.specs.Limits.{counted_domain, counted_value, limits_of_values, numbers_at, within}
 use Rattle.ep_tree.specs.Measures.{Met, met, met_domain, size_of}
 use Rattle.ep_tree.specs.Trees.{DomainTree, ExprTree}
 use Rattle.ep_tree.specs.Values.{ValueTree}

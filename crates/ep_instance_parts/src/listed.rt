@@ -10,6 +10,7 @@ use super::bounds::MOST_SIZE;
 use super::indices::read_indices;
 use ep_base::{Limit, Memory, Name, Runs};
 use ep_eval::{Env, EvalError, NamedDomain, domain_values_after};
+use ep_numbers::copy_sets;
 use ep_tree::{Domain, DomainKind};
 use std::alloc::{AllocError, Global};
 
@@ -18,17 +19,6 @@ use std::alloc::{AllocError, Global};
 pub struct Listed {
     pub indices: Option<Vec<Runs>>,
     pub values: Option<Runs>,
-}
-
-/// The same sets of numbers once more.
-pub fn copy_sets(alloc: Global, sets: &[Runs]) -> Result<Vec<Runs>, Memory>
-    ensures { IfOk result (λ copies. copies.items ≡ sets.now) }
-{
-    let mut copies = Vec::new(alloc);
-    for set in sets {
-        copies.push(set.copy(alloc)?)?;
-    }
-    Ok(copies)
 }
 
 /// Sets before others, where both are there.

@@ -11,9 +11,10 @@ ghost use Rattle.ep_instance_parts.specs.Tests.{run_test};
 use super::bounds::{MOST_SIZE, read_ranges};
 use super::elements::Elements;
 use super::indices::read_indices;
-use super::listed::{copy_sets, sets_before};
+use super::listed::sets_before;
 use ep_base::{Limit, Memory, Name, Run, Runs};
 use ep_eval::{Env, EvalError, NamedDomain};
+use ep_numbers::copy_sets;
 use ep_tree::{Domain, DomainKind, SetOp};
 use std::alloc::Global;
 

@@ -19,6 +19,7 @@ use super::totals::{MOST_SIZE, MOST_TOLD, Totals, product, told};
 use ep_base::{Limit, Memory, Name, Run, Runs};
 use ep_eval::Env;
 use ep_instance_parts::Find;
+use ep_numbers::copy_sets;
 use std::alloc::Global;
 
 /// How many numbers a run has, as far as it is told.
@@ -55,17 +56,6 @@ pub fn cells_over(indices: &[Runs]) -> u64
         cells = product(cells, set_length(set));
     }
     cells
-}
-
-/// The same sets of numbers once more.
-fn copy_sets(alloc: Global, sets: &[Runs]) -> Result<Vec<Runs>, Memory>
-    ensures { IfOk result (λ copies. copies.items ≡ sets.now) }
-{
-    let mut copies = Vec::with_capacity(alloc, sets.len())?;
-    for set in sets {
-        copies.push(set.copy(alloc)?)?;
-    }
-    Ok(copies)
 }
 
 /// The name of a decision variable stands for its cells.

@@ -20,7 +20,7 @@ use ep_base::{Key, Memory, Name, Runs};
 use ep_eval::Env;
 use ep_ground::Cell;
 use ep_instance_parts::{Find, Instance};
-use ep_numbers::listed;
+use ep_numbers::{copy_sets, listed};
 use ep_tree::Scalar;
 use std::alloc::Global;
 
@@ -104,17 +104,6 @@ fn is_truth(scalar: Scalar) -> bool
         Scalar::Bool => true,
         Scalar::Int => false,
     }
-}
-
-/// The same sets of numbers once more.
-fn copy_sets(alloc: Global, sets: &[Runs]) -> Result<Vec<Runs>, Memory>
-    ensures { IfOk result (λ copies. copies.items ≡ sets.now) }
-{
-    let mut copies = Vec::with_capacity(alloc, sets.len())?;
-    for set in sets {
-        copies.push(set.copy(alloc)?)?;
-    }
-    Ok(copies)
 }
 
 /// The name of a decision variable stands for its cells.
