@@ -12,7 +12,6 @@ pub mod Heights
 pub mod Measures
 pub mod Binding
 pub mod Solutions
-pub mod BindingTables
 pub mod Cuts
 pub mod Spelling
 pub mod Statements
