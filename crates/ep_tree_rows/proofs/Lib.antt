@@ -12,8 +12,6 @@ pub mod Heights
 pub mod Measures
 pub mod Binding
 pub mod Solutions
-pub mod Cuts
+pub mod Spelled
 pub mod Spelling
-pub mod Statements
-pub mod Openings
 pub mod Reading

@@ -9,12 +9,12 @@ use Prim.Native.String.{String}
 use Rattle.ep_base.specs.TokenTexts.{continues_name, is_symbol, is_word, kind_of}
 use Rattle.ep_base.specs.Tokens.{is_blank, is_line_end}
 use Rattle.ep_base.specs.declared.places.Place.{Place}
-use Rattle.ep_parse_expr.specs.DomainReaders.{another_index_domain, another_operation, any_domain_from, as_domains, as_ranges, domain_at_level, domain_begun_from, domain_open_from, domain_part_from, end_from, index_domain_behind, matrix_follows, matrix_from, matrix_head_from, operations_from, range_from, ranges_from}
-use Rattle.ep_parse_expr.specs.OperandReaders.{another_generator, as_generators, as_trees, begun_from, bracket_from, call_from, call_of_three_from, call_of_two_from, colon_comes, comprehension_from, conditions_from, domain_next, expression_next, generator_from, index_domain_from, literal_from, open_from, opened_from, operand_from, quantifier_from, sum_from, table_from}
-use Rattle.ep_parse_expr.specs.OperatorReaders.{another_binary, another_index, another_read, as_indices, as_terms, at_level, chain_from, compared_with, comparison_behind, comparison_from, conjunction_from, disjunction_from, implication_from, index_from, part_from, parts_behind, parts_from, power_from, product_from, read_from, takes_group, term_behind, term_from, terms_behind, terms_from, unary_from}
-use Rattle.ep_parse_expr.specs.Readers.{Read, grown_from, high, looked_up, more_from, name_from, name_in, names_from, next_in, number_from, says, took, word_from, wrong}
-use Rattle.ep_parse_expr.specs.Sayings.{name_next, said_number_next, word_next}
-use Rattle.ep_parse_expr.specs.TreeReaders.{expr_from, some_domain_from}
+use Rattle.ep_parse_parts.specs.DomainReaders.{another_index_domain, another_operation, any_domain_from, as_domains, as_ranges, domain_at_level, domain_begun_from, domain_open_from, domain_part_from, end_from, index_domain_behind, matrix_follows, matrix_from, matrix_head_from, operations_from, range_from, ranges_from}
+use Rattle.ep_parse_parts.specs.OperandReaders.{another_generator, as_generators, as_trees, begun_from, bracket_from, call_from, call_of_three_from, call_of_two_from, colon_comes, comprehension_from, conditions_from, domain_next, expression_next, generator_from, index_domain_from, literal_from, open_from, opened_from, operand_from, quantifier_from, sum_from, table_from}
+use Rattle.ep_parse_parts.specs.OperatorReaders.{another_binary, another_index, another_read, as_indices, as_terms, at_level, chain_from, compared_with, comparison_behind, comparison_from, conjunction_from, disjunction_from, implication_from, index_from, part_from, parts_behind, parts_from, power_from, product_from, read_from, takes_group, term_behind, term_from, terms_behind, terms_from, unary_from}
+use Rattle.ep_parse_parts.specs.Readers.{Read, grown_from, high, looked_up, more_from, name_from, name_in, names_from, next_in, number_from, says, took, word_from, wrong}
+use Rattle.ep_parse_parts.specs.Sayings.{name_next, said_number_next, word_next}
+use Rattle.ep_parse_parts.specs.TreeReaders.{expr_from, some_domain_from}
 use Rattle.ep_parse_model.specs.TextReaders.{full, allowed_statement_from, be_from, bracket_names_from, branching_from, expressions_within, group_from, groups_from, let_from, letting_from, line_from, model_from, params_from, placed_name_from, placed_name_in, placed_names_from, stated_from, statement_behind, statements_within, value_from}
 use Rattle.ep_tree.specs.Phrases.{Lexeme, saying_of}
 use Rattle.ep_tree.specs.Reading.{MOST_HEIGHT}
@@ -73,7 +73,7 @@ lexed bytes =
 -- ---- what is read
 
 -- what is read, if it's all
-abbrev whole : {A : Type 0} → Read A → Option A
+abbrev pub whole : {A : Type 0} → Read A → Option A
 whole (took x []) = Some x
 whole (took x (l ∷ ls)) = None
 whole (wrong ls) = None
@@ -87,9 +87,13 @@ expr_in text = whole (expr_from MOST_HEIGHT implications (lexed (codes text)))
 abbrev pub domain_in : String → Option DomainTree
 domain_in text = whole (some_domain_from MOST_HEIGHT domains (lexed (codes text)))
 
--- the model whose lines behind the language line are a text, from line 2 on
+-- the tokens of the language line, and of a text from line 2 on
+abbrev pub model_tokens : String → List Lexeme
+model_tokens text = lexed (codes "language ESSENCE' 1.0" ++ 10 ∷ codes text)
+
+-- the model whose lines behind the language line are a text
 abbrev pub model_in : String → Option TextTree
-model_in text = whole (model_from full (lexed (codes "language ESSENCE' 1.0" ++ 10 ∷ codes text)))
+model_in text = whole (model_from full (model_tokens text))
 
 -- the parameter text that a text is
 abbrev pub params_in : String → Option TextTree
