@@ -2,7 +2,7 @@
 use Rattle.std.proofs.Common.{◌≡◌, Bool, true, false, not, ◌&&◌, ◌||◌, nat_eq, ◌⊎◌, inl, inr, List, [], ◌∷◌, zero, suc, refl, ap, ◌∙◌, sym, subst, cond, arith}
 use Rattle.std.specs.Prelude.{All, Contains}
 use Rattle.std.specs.List.{list_any, list_all, filter}
-use Rattle.std.proofs.lemmas.Bool.{eqb-true, false≢true}
+use Rattle.std.proofs.lemmas.Bool.{eqb-true, false≢true, or_right}
 use Rattle.std.proofs.lemmas.Bool.Decides.{nat_tests}
 use Rattle.std.proofs.lemmas.List.Elements.{All-cons, All-nil}
 use Rattle.cnf_core.specs.Literal.{Literal, negation, same_sign, same_literal, is_among}
@@ -43,10 +43,6 @@ either false = inr refl
 pub or_left : (p q : Bool) → p ≡ true → (p || q) ≡ true
 or_left true q e = refl
 or_left false q e = absurd (false≢true e)
-
-pub or_right : (p q : Bool) → q ≡ true → (p || q) ≡ true
-or_right true q e = refl
-or_right false q e = e
 
 signs_from_test : (p q : Bool) → same_sign p q ≡ true → p ≡ q
 signs_from_test true true e = refl

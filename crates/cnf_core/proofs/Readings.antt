@@ -2,11 +2,11 @@
 use Rattle.std.proofs.Common.{◌≡◌, ◌≢◌, Bool, true, false, not, ◌⊎◌, inl, inr, List, [], ◌∷◌, refl, ap, ◌∙◌, sym, subst, cond, arith}
 use Rattle.std.specs.Prelude.{Contains, map}
 use Rattle.std.specs.List.{list_all, AllByRecursion}
-use Rattle.std.proofs.lemmas.Bool.{false≢true}
+use Rattle.std.proofs.lemmas.Bool.{false≢true, or_right}
 use Rattle.std.proofs.lemmas.List.Kept.{AllPairs-filter}
 use Rattle.cnf_core.specs.Literal.{Literal, negation, Precedes, IsOrdered, same_literal, is_among}
 use Rattle.cnf_core.specs.Reading.{is_false, not_false, trues_after, reading_succeeds, has_contradiction, is_shown_by}
-use Rattle.cnf_core.proofs.Members.{Contains-here, Contains-there, Contains-cases, none_in_nil, or_cases, either, or_left, or_right, Contains-from_test, test_from_Contains, Contains-filter, Contains-from_filter, passes_each, all_pass, literals_from_test, same_literal-true}
+use Rattle.cnf_core.proofs.Members.{Contains-here, Contains-there, Contains-cases, none_in_nil, or_cases, either, or_left, Contains-from_test, test_from_Contains, Contains-filter, Contains-from_filter, passes_each, all_pass, literals_from_test, same_literal-true}
 
 -- a list has each literal of another
 abbrev pub Covers : List Literal → List Literal → Type 0

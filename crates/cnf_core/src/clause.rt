@@ -58,6 +58,13 @@ impl Clause {
         Ok(Clause { lits })
     }
 
+    /// The same clause once more; both share their literals.
+    pub fn copied(&self) -> Result<Clause, Memory>
+        ensures { IfOk result (λ copy. copy ≡ self.now) }
+    {
+        Ok(self.clone()?)
+    }
+
     /// The literals in order.
     pub fn lits(&self) -> &[Lit]
         ensures value { result.now ≡ self.now }

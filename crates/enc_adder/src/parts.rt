@@ -11,9 +11,10 @@ ghost use Rattle.ep_flat.specs.Cons.{number_at};
 use crate::bits::Binary;
 use crate::gates::new_bit;
 use cnf_core::Formula;
-use enc_atoms::{add_implied, listed};
+use enc_atoms::add_implied;
 use enc_var::Layout;
 use ep_base::Memory;
+use ep_numbers::listed;
 use std::alloc::Global;
 
 /// A number of a variable, and what it is worth.

@@ -4,6 +4,7 @@ use Rattle.std.specs.List.{All, Contains, list_all, list_any}
 use Rattle.std.specs.Ordering.{int_eq}
 use Rattle.std.proofs.lemmas.Bool.Decides.{Decides-int_eq}
 use Rattle.std.proofs.lemmas.List.Elements.{All-cons, All-contains, All-head, All-map, All-push, All-tail, Contains-append_left, Contains-append_right, Contains-get_or}
+use Rattle.std.proofs.Math.Bool.{or-false}
 use Rattle.cnf_core.proofs.Members.{All-from_contains, and_parts, passes_none}
 use Rattle.cnf_core.specs.Formula.{Cnf}
 use Rattle.enc_all.specs.Parts.{IsTruth, any_part, other_part, part_atom, part_holds, test_of}
@@ -71,13 +72,9 @@ or_either : (a b : Bool) → IsTrue (a || b) ↔ (IsTrue a ⊎ IsTrue b)
 or_either true b = (λ h. inl refl, λ h. refl)
 or_either false b = (λ h. inr h, λ h. elim h as (λ _. IsTrue b) [ inl never ↦ bad (sym never) | inr holds ↦ holds ])
 
-or_none : (a : Bool) → (a || false) ≡ a
-or_none true = refl
-or_none false = refl
-
 pub one_part : (values : List ℤ) (a : Bool × ℕ) → IsTrue (any_part values (a ∷ [])) ↔ IsTrue (part_holds values a)
 unfolding any_part
-one_part values a = is_same (part_holds values a || false) (part_holds values a) (or_none (part_holds values a))
+one_part values a = is_same (part_holds values a || false) (part_holds values a) (or-false (part_holds values a))
 
 pub two_parts : (values : List ℤ) (a b : Bool × ℕ) → IsTrue (any_part values (a ∷ b ∷ [])) ↔ (IsTrue (part_holds values a) ⊎ IsTrue (part_holds values b))
 unfolding any_part
@@ -110,7 +107,7 @@ other_holds values p = same_not (is_one (number_at values p.1)) p.0
 
 pushed_parts : (values : List ℤ) (parts : List (Bool × ℕ)) (said : Bool × ℕ) → any_part values (parts ++ other_part said ∷ []) ≡ (any_part values parts || not (part_holds values said))
 unfolding any_part
-pushed_parts values parts said = any_append (part_holds values) parts (other_part said ∷ []) ∙ ap (λ b. list_any (part_holds values) parts || b) (or_none (part_holds values (other_part said)) ∙ other_holds values said)
+pushed_parts values parts said = any_append (part_holds values) parts (other_part said ∷ []) ∙ ap (λ b. list_any (part_holds values) parts || b) (or-false (part_holds values (other_part said)) ∙ other_holds values said)
 
 none_found : (values : List ℤ) (parts : List (Bool × ℕ)) (p : Bool × ℕ) → any_part values parts ≡ false → Contains parts p → part_holds values p ≡ false
 unfolding any_part
@@ -189,11 +186,11 @@ truth_atoms values t =
     let either = or_either (int_eq n (pos 0)) (int_eq n (pos 1) || false) in (
       λ h. elim (either.0 h) as (λ _. IsTruth values t) [
         | inl zero_is ↦ inl ((Decides-int_eq n (pos 0)).0 zero_is)
-        | inr one_is ↦ inr ((Decides-int_eq n (pos 1)).0 (sym (or_none (int_eq n (pos 1))) ∙ one_is))
+        | inr one_is ↦ inr ((Decides-int_eq n (pos 1)).0 (sym (or-false (int_eq n (pos 1))) ∙ one_is))
       ],
       λ is. either.1 (elim is as (λ _. IsTrue (int_eq n (pos 0)) ⊎ IsTrue (int_eq n (pos 1) || false)) [
         | inl zero_is ↦ inl ((Decides-int_eq n (pos 0)).1 zero_is)
-        | inr one_is ↦ inr (or_none (int_eq n (pos 1)) ∙ (Decides-int_eq n (pos 1)).1 one_is)
+        | inr one_is ↦ inr (or-false (int_eq n (pos 1)) ∙ (Decides-int_eq n (pos 1)).1 one_is)
       ]),
     )
 

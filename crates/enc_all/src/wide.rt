@@ -3,9 +3,9 @@
 ghost use Rattle.std.specs.Prelude.{◌<◌, length};
 ghost use Rattle.std.specs.List.{All};
 
-use enc_atoms::listed;
 use enc_var::Layout;
 use ep_base::{CompareOp, Memory};
+use ep_numbers::listed;
 use std::alloc::Global;
 
 /// A part of a sum.

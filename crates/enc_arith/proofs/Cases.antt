@@ -6,6 +6,7 @@ use Rattle.std.specs.Ordering.{int_eq}
 use Rattle.std.proofs.lemmas.Bool.Decides.{Decides-int_eq}
 use Rattle.std.proofs.lemmas.List.Elements.{All-contains}
 use Rattle.std.proofs.lemmas.List.Folds.{list_any-append}
+use Rattle.std.proofs.Math.Bool.{or-false}
 use Rattle.cnf_core.proofs.Members.{All-from_contains}
 use Rattle.cnf_core.specs.Formula.{Cnf}
 use Rattle.ep_base.specs.Numbers.{of_bool}
@@ -28,23 +29,15 @@ is_atom x n = record { var = x; test = Test.Is; value = n }
 abbrev pub is_not_atom : ℕ → ℤ → Atom
 is_not_atom x n = record { var = x; test = Test.IsNot; value = n }
 
-or_false : (b : Bool) → (b || false) ≡ b
-or_false true = refl
-or_false false = refl
-
-or_again : (a b c : Bool) → ((a || b) || c) ≡ (a || (b || c))
-or_again true b c = refl
-or_again false b c = refl
-
 pub one_pushed : (values : List ℤ) (when : List Atom) (a : Atom) → clause_holds values (when ++ a ∷ []) ≡ (clause_holds values when || atom_holds values a)
 unfolding clause_holds
 one_pushed values when a =
-    list_any-append (atom_holds values) when (a ∷ []) ∙ ap (λ b. clause_holds values when || b) (or_false (atom_holds values a))
+    list_any-append (atom_holds values) when (a ∷ []) ∙ ap (λ b. clause_holds values when || b) (or-false (atom_holds values a))
 
 pub two_pushed : (values : List ℤ) (when : List Atom) (a b : Atom) → clause_holds values (when ++ a ∷ b ∷ []) ≡ (clause_holds values when || (atom_holds values a || atom_holds values b))
 unfolding clause_holds
 two_pushed values when a b =
-    list_any-append (atom_holds values) when (a ∷ b ∷ []) ∙ ap (λ e. clause_holds values when || (atom_holds values a || e)) (or_false (atom_holds values b))
+    list_any-append (atom_holds values) when (a ∷ b ∷ []) ∙ ap (λ e. clause_holds values when || (atom_holds values a || e)) (or-false (atom_holds values b))
 
 -- the same test
 pub same_test : (a b : Bool) → a ≡ b → IsTrue a ↔ IsTrue b
@@ -74,7 +67,7 @@ said_whether values when r t n =
 
 said_failure : (values : List ℤ) (when : List Atom) → clause_holds values when ≡ says values when None false
 unfolding says is_as_said
-said_failure values when = sym (or_false (clause_holds values when))
+said_failure values when = sym (or-false (clause_holds values when))
 
 said_false : (values : List ℤ) (when : List Atom) (t : ℕ) → clause_holds values (when ++ is_atom t (pos 0) ∷ []) ≡ says values when (Some t) false
 unfolding says is_as_said atom_holds test_holds of_bool
@@ -168,7 +161,7 @@ adds_same L f g when atoms truth r v w ready is same adds =
 where_is : (values : List ℤ) (when : List Atom) (x : ℕ) (n : ℤ) (truth : Option ℕ) (h : Bool) → int_eq (number_at values x) n ≡ true → says values (or_is_not when x n) truth h ≡ says values when truth h
 unfolding says atom_holds test_holds
 where_is values when x n truth h e =
-    ap (λ b. b || is_as_said values truth h) (one_pushed values when (is_not_atom x n) ∙ ap (λ b. clause_holds values when || not b) e ∙ or_false (clause_holds values when))
+    ap (λ b. b || is_as_said values truth h) (one_pushed values when (is_not_atom x n) ∙ ap (λ b. clause_holds values when || not b) e ∙ or-false (clause_holds values when))
 
 where_is_not : (values : List ℤ) (when : List Atom) (x : ℕ) (n : ℤ) (truth : Option ℕ) (h : Bool) → int_eq (number_at values x) n ≡ false → says values (or_is_not when x n) truth h ≡ true
 unfolding says atom_holds test_holds

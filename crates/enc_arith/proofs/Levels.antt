@@ -4,8 +4,9 @@ use Rattle.std.specs.List.{All, Contains, list_all, list_any}
 use Rattle.std.proofs.lemmas.List.{map-append, take_more, take_all}
 use Rattle.std.proofs.lemmas.List.Elements.{All-cons, All-head, All-nil, All-tail}
 use Rattle.std.proofs.lemmas.List.Folds.{list_any-append}
+use Rattle.std.proofs.Math.Bool.{or-false, or_assoc}
 use Rattle.cnf_core.specs.Formula.{Cnf}
-use Rattle.ep_base.specs.Numbers.{compare_holds}
+use Rattle.ep_base.specs.Numbers.{compare_holds, contrary_comparison}
 use Rattle.ep_base.specs.declared.operators.CompareOp.{CompareOp}
 use Rattle.ep_flat.specs.Cons.{is_value, number_at, numbers_of_vars}
 use Rattle.enc_atoms.proofs.Adding.{adds_all, adds_both, adds_like, adds_none, adds_one_more}
@@ -16,17 +17,9 @@ use Rattle.enc_var.specs.Decoding.{VariableLiterals}
 use Rattle.enc_var.specs.Layouts.{literals_at}
 use Rattle.enc_arith.proofs.Cases.{one_pushed, same_test}
 use Rattle.enc_arith.proofs.Orders.{levels_tell}
-use Rattle.enc_arith.specs.Extremes.{all_compare, any_compares, contrary_of, extreme_of, level_holds, reached_of, within_of}
+use Rattle.enc_arith.specs.Extremes.{all_compare, any_compares, extreme_of, level_holds, reached_of, within_of}
 use Rattle.enc_arith.specs.Saying.{IsReady}
 use Rattle.enc_arith.specs.declared.sides.Side.{Side}
-
-or_false : (b : Bool) → (b || false) ≡ b
-or_false true = refl
-or_false false = refl
-
-or_again : (a b c : Bool) → ((a || b) || c) ≡ (a || (b || c))
-or_again true b c = refl
-or_again false b c = refl
 
 -- ---- atoms that are gathered
 
@@ -37,13 +30,13 @@ any_more op values xs n k d low =
     ap (λ ys. list_any (λ m. compare_holds op m n) (map (number_at values) ys)) (take_more xs k d low)
     ∙ ap (list_any (λ m. compare_holds op m n)) (map-append (number_at values) (take k xs) (get_or xs k d ∷ []))
     ∙ list_any-append (λ m. compare_holds op m n) (map (number_at values) (take k xs)) (number_at values (get_or xs k d) ∷ [])
-    ∙ ap (λ b. list_any (λ m. compare_holds op m n) (map (number_at values) (take k xs)) || b) (or_false (compare_holds op (number_at values (get_or xs k d)) n))
+    ∙ ap (λ b. list_any (λ m. compare_holds op m n) (map (number_at values) (take k xs)) || b) (or-false (compare_holds op (number_at values (get_or xs k d)) n))
 
 -- no atom yet
 pub gathers_none : (op : CompareOp) (values : List ℤ) (when atoms : List Atom) (xs : List ℕ) (n : ℤ) → atoms ≡ when
     → clause_holds values atoms ≡ (clause_holds values when || any_compares op (numbers_of_vars values (take 0 xs)) n)
 unfolding any_compares numbers_of_vars
-gathers_none op values when atoms xs n is = ap (clause_holds values) is ∙ sym (or_false (clause_holds values when))
+gathers_none op values when atoms xs n is = ap (clause_holds values) is ∙ sym (or-false (clause_holds values when))
 
 -- one atom more
 pub gathers_more : (op : CompareOp) (values : List ℤ) (when atoms more : List Atom) (a : Atom) (xs : List ℕ) (n : ℤ) (k d : ℕ) → k < length xs
@@ -55,7 +48,7 @@ gathers_more op values when atoms more a xs n k d low so_far pushed means =
     ap (clause_holds values) pushed ∙ one_pushed values atoms a
     ∙ ap (λ b. b || atom_holds values a) so_far
     ∙ ap (λ b. (clause_holds values when || any_compares op (numbers_of_vars values (take k xs)) n) || b) means
-    ∙ or_again (clause_holds values when) (any_compares op (numbers_of_vars values (take k xs)) n) (compare_holds op (number_at values (get_or xs k d)) n)
+    ∙ or_assoc (clause_holds values when) (any_compares op (numbers_of_vars values (take k xs)) n) (compare_holds op (number_at values (get_or xs k d)) n)
     ∙ ap (λ b. clause_holds values when || b) (sym (any_more op values xs n k d low))
 
 pub gathers_all : (op : CompareOp) (values : List ℤ) (when atoms : List Atom) (xs : List ℕ) (n m : ℤ) (k : ℕ) → m ≡ n → length xs ≤ k
@@ -143,21 +136,21 @@ each_more L f f1 g when op n m xs k d ready same low one two =
 
 one_atom : (values : List ℤ) (a : Atom) → clause_holds values (a ∷ []) ≡ atom_holds values a
 unfolding clause_holds
-one_atom values a = or_false (atom_holds values a)
+one_atom values a = or-false (atom_holds values a)
 
 both_told : (a b : Bool) → (IsTrue a × IsTrue b) ↔ IsTrue (a && b)
 both_told true b = (λ h. h.1, λ h. (refl, h))
 both_told false b = (λ h. h.0, λ h. absurd (let k : false ≡ true = h in cc))
 
 level_is : (side : Side) (values : List ℤ) (xs : List ℕ) (r : ℕ) (w : ℤ) (a b : Atom)
-    → atom_holds values a ≡ compare_holds (contrary_of (within_of side)) (number_at values r) w
-    → atom_holds values b ≡ compare_holds (contrary_of (reached_of side)) (number_at values r) w
+    → atom_holds values a ≡ compare_holds (contrary_comparison (within_of side)) (number_at values r) w
+    → atom_holds values b ≡ compare_holds (contrary_comparison (reached_of side)) (number_at values r) w
     → (IsTrue (clause_holds values (a ∷ []) || all_compare (within_of side) (numbers_of_vars values xs) w) × IsTrue (clause_holds values (b ∷ []) || any_compares (reached_of side) (numbers_of_vars values xs) w))
     ↔ IsTrue (level_holds side (numbers_of_vars values xs) (number_at values r) w)
 unfolding level_holds
 level_is side values xs r w a b means_a means_b =
-    let A : Bool = compare_holds (contrary_of (within_of side)) (number_at values r) w || all_compare (within_of side) (numbers_of_vars values xs) w in
-    let B : Bool = compare_holds (contrary_of (reached_of side)) (number_at values r) w || any_compares (reached_of side) (numbers_of_vars values xs) w in
+    let A : Bool = compare_holds (contrary_comparison (within_of side)) (number_at values r) w || all_compare (within_of side) (numbers_of_vars values xs) w in
+    let B : Bool = compare_holds (contrary_comparison (reached_of side)) (number_at values r) w || any_compares (reached_of side) (numbers_of_vars values xs) w in
     let e : (clause_holds values (a ∷ []) || all_compare (within_of side) (numbers_of_vars values xs) w) ≡ A = ap (λ c. c || all_compare (within_of side) (numbers_of_vars values xs) w) (one_atom values a ∙ means_a) in
     let g : (clause_holds values (b ∷ []) || any_compares (reached_of side) (numbers_of_vars values xs) w) ≡ B = ap (λ c. c || any_compares (reached_of side) (numbers_of_vars values xs) w) (one_atom values b ∙ means_b) in
     let h = both_told A B in
@@ -165,8 +158,8 @@ level_is side values xs r w a b means_a means_b =
 
 pub adds_level : (L : List VariableLiterals) (f f1 g : Cnf) (side : Side) (xs : List ℕ) (r : ℕ) (w n m : ℤ) (a b : Atom) (within reached : CompareOp) → IsReady L f
     → within ≡ within_of side → reached ≡ reached_of side → n ≡ w → m ≡ w
-    → ((values : List ℤ) → atom_holds values a ≡ compare_holds (contrary_of (within_of side)) (number_at values r) w)
-    → ((values : List ℤ) → atom_holds values b ≡ compare_holds (contrary_of (reached_of side)) (number_at values r) w)
+    → ((values : List ℤ) → atom_holds values a ≡ compare_holds (contrary_comparison (within_of side)) (number_at values r) w)
+    → ((values : List ℤ) → atom_holds values b ≡ compare_holds (contrary_comparison (reached_of side)) (number_at values r) w)
     → Adds L f L f1 (λ values. IsTrue (clause_holds values (a ∷ []) || all_compare within (numbers_of_vars values xs) n))
     → Adds L f1 L g (λ values. IsTrue (clause_holds values (b ∷ []) || any_compares reached (numbers_of_vars values xs) m))
     → Adds L f L g (λ values. IsTrue (level_holds side (numbers_of_vars values xs) (number_at values r) w))

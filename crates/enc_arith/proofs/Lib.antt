@@ -1,4 +1,3 @@
-mod Counting
 mod Quotients
 mod Powers
 mod Found

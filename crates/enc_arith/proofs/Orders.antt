@@ -8,9 +8,9 @@ use Rattle.std.proofs.lemmas.Bool.Decides.{Decides-int_eq, same_from_decides}
 use Rattle.std.proofs.lemmas.Int.{fold-int_max_bounds, fold-int_max_reached, fold-int_min_bounds, fold-int_min_reached, ints}
 use Rattle.std.proofs.lemmas.List.Elements.{All-cons, All-contains, All-head, All-nil, All-weaker}
 use Rattle.cnf_core.proofs.Members.{All-from_contains, Contains-cases, Contains-here, Contains-there, none_in_nil}
-use Rattle.ep_base.specs.Numbers.{compare_holds, greatest_of, least_of}
+use Rattle.ep_base.specs.Numbers.{compare_holds, contrary_comparison, greatest_of, least_of}
 use Rattle.ep_flat.specs.Cons.{is_value}
-use Rattle.enc_arith.specs.Extremes.{all_compare, any_compares, contrary_of, extreme_of, is_extreme, level_holds, reached_of, within_of}
+use Rattle.enc_arith.specs.Extremes.{all_compare, any_compares, extreme_of, is_extreme, level_holds, reached_of, within_of}
 use Rattle.enc_arith.specs.declared.sides.Side.{Side}
 
 -- a test that is an order
@@ -159,13 +159,13 @@ above_is : (a b : ℤ) → int_lt b a ≡ not (int_le a b)
 above_is a b = grind (arith, ints)
 
 greatest_level : (ns : List ℤ) (n w : ℤ) → level_holds Side.Greatest ns n w ≡ level int_le ns n w
-unfolding level_holds within_of reached_of contrary_of all_compare any_compares compare_holds level
+unfolding level_holds within_of reached_of contrary_comparison all_compare any_compares compare_holds level
 greatest_level ns n w =
     ap (λ b. (b || list_all (λ m. int_le m w) ns) && (int_lt n w || list_any (λ m. int_le w m) ns)) (above_is n w)
     ∙ ap (λ b. (not (int_le n w) || list_all (λ m. int_le m w) ns) && (b || list_any (λ m. int_le w m) ns)) (above_is w n)
 
 least_level : (ns : List ℤ) (n w : ℤ) → level_holds Side.Least ns n w ≡ level (λ a b. int_le b a) ns n w
-unfolding level_holds within_of reached_of contrary_of all_compare any_compares compare_holds level
+unfolding level_holds within_of reached_of contrary_comparison all_compare any_compares compare_holds level
 least_level ns n w =
     ap (λ b. (b || list_all (λ m. int_le w m) ns) && (int_lt w n || list_any (λ m. int_le m w) ns)) (above_is w n)
     ∙ ap (λ b. (not (int_le w n) || list_all (λ m. int_le w m) ns) && (b || list_any (λ m. int_le m w) ns)) (above_is n w)

@@ -1,7 +1,7 @@
 -- Least and greatest parts, as comparisons of each part, and of one of them, with a number.
 use Rattle.std.specs.Prelude.{ℤ, Bool, List, ◌&&◌, ◌||◌, Option}
 use Rattle.std.specs.List.{list_all, list_any}
-use Rattle.ep_base.specs.Numbers.{compare_holds, greatest_of, least_of}
+use Rattle.ep_base.specs.Numbers.{compare_holds, contrary_comparison, greatest_of, least_of}
 use Rattle.ep_base.specs.declared.operators.CompareOp.{CompareOp}
 use Rattle.enc_arith.specs.declared.sides.Side.{Side}
 
@@ -20,15 +20,6 @@ unfoldable pub reached_of : Side → CompareOp
 reached_of Side.Least = CompareOp.AtMost
 reached_of Side.Greatest = CompareOp.AtLeast
 
--- the contrary of a comparison
-unfoldable pub contrary_of : CompareOp → CompareOp
-contrary_of CompareOp.Equal = CompareOp.NotEqual
-contrary_of CompareOp.NotEqual = CompareOp.Equal
-contrary_of CompareOp.Less = CompareOp.AtLeast
-contrary_of CompareOp.AtMost = CompareOp.Greater
-contrary_of CompareOp.Greater = CompareOp.AtMost
-contrary_of CompareOp.AtLeast = CompareOp.Less
-
 -- whether all of some numbers compare so with another
 unfoldable pub all_compare : CompareOp → List ℤ → ℤ → Bool
 all_compare op ns n = list_all (λ m. compare_holds op m n) ns
@@ -45,5 +36,5 @@ is_extreme side ns n = all_compare (within_of side) ns n && any_compares (reache
 -- where it reaches the level one of them does.
 unfoldable pub level_holds : Side → List ℤ → ℤ → ℤ → Bool
 level_holds side ns n level =
-    (compare_holds (contrary_of (within_of side)) n level || all_compare (within_of side) ns level)
-    && (compare_holds (contrary_of (reached_of side)) n level || any_compares (reached_of side) ns level)
+    (compare_holds (contrary_comparison (within_of side)) n level || all_compare (within_of side) ns level)
+    && (compare_holds (contrary_comparison (reached_of side)) n level || any_compares (reached_of side) ns level)

@@ -10,13 +10,13 @@ ghost use Rattle.enc_arith.specs.Entries.{HaveParts, plain_entry};
 ghost use Rattle.enc_arith.specs.Saying.{IsReady, IsTarget, NamesIn, or_is_not, says};
 
 use crate::functions::Function;
-use crate::listing::listed;
 use crate::targets::Target;
 use crate::telling::{add_function, add_number};
 use cnf_core::Formula;
 use enc_atoms::Atom;
 use enc_var::Layout;
 use ep_base::{Key, Memory};
+use ep_numbers::listed;
 use std::alloc::{AllocError, Global};
 
 /// What is left of a key, and the variable of its part.

@@ -10,13 +10,13 @@ ghost use Rattle.enc_arith.specs.Extremes.{all_compare, any_compares, extreme_of
 ghost use Rattle.enc_arith.specs.Saying.{IsReady, NamesIn, or_is_not, says};
 ghost use Rattle.enc_var.specs.Layouts.{literals_at};
 
-use crate::listing::listed;
-use crate::sides::{Side, contrary};
+use crate::sides::Side;
 use crate::telling::add_more;
 use cnf_core::Formula;
 use enc_atoms::{Atom, add_clause};
 use enc_var::Layout;
 use ep_base::{CompareOp, Memory};
+use ep_numbers::listed;
 use std::alloc::{AllocError, Global};
 
 /// The statement that a variable compares so with a number.
@@ -142,11 +142,11 @@ fn add_level(
         (λ values. IsTrue (level_holds side (numbers_of_vars values xs.now) (number_at values r) number))) }
 {
     let within = side.within();
-    let past = contrary(within);
+    let past = within.contrary();
     let beyond = compared(r, past, number);
     add_each(alloc, layout, f, &[beyond], within, number, xs)?;
     let reached = side.reached();
-    let before = contrary(reached);
+    let before = reached.contrary();
     let short = compared(r, before, number);
     add_some(alloc, layout, f, &[short], reached, number, xs)?;
     Ok(())
@@ -200,8 +200,8 @@ fn add_whether(
     add_each(alloc, layout, f, &fails, within, number, xs)?;
     add_some(alloc, layout, f, &fails, reached, number, xs)?;
     let holds = [Atom::is_not(r, number), Atom::is(truth, 1)];
-    let past = contrary(within);
-    let before = contrary(reached);
+    let past = within.contrary();
+    let before = reached.contrary();
     let beyond = gathered(alloc, &holds, past, number, xs)?;
     add_each(alloc, layout, f, beyond.as_slice(), before, number, xs)?;
     Ok(())

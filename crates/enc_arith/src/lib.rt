@@ -7,7 +7,6 @@ mod elements;
 mod encode;
 mod extremes;
 mod functions;
-mod listing;
 mod numbers;
 mod operations;
 mod sides;

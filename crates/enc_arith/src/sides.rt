@@ -1,7 +1,6 @@
 //! The two sides of which an extreme part can be.
 
 ghost use Rattle.std.specs.Prelude.{◌≡◌};
-ghost use Rattle.enc_arith.specs.Extremes.{contrary_of};
 
 use ep_base::CompareOp;
 
@@ -36,20 +35,5 @@ impl Side {
             Side::Least => CompareOp::AtMost,
             Side::Greatest => CompareOp::AtLeast,
         }
-    }
-}
-
-/// The contrary of a comparison.
-#[tactic(auto, unfolding(crate::specs::Extremes::contrary_of))]
-pub(crate) fn contrary(op: CompareOp) -> CompareOp
-    ensures { result ≡ contrary_of op }
-{
-    match op {
-        CompareOp::Equal => CompareOp::NotEqual,
-        CompareOp::NotEqual => CompareOp::Equal,
-        CompareOp::Less => CompareOp::AtLeast,
-        CompareOp::AtMost => CompareOp::Greater,
-        CompareOp::Greater => CompareOp::AtMost,
-        CompareOp::AtLeast => CompareOp::Less,
     }
 }

@@ -8,12 +8,12 @@ ghost use Rattle.enc_arith.specs.Functions.{function_value};
 ghost use Rattle.enc_arith.specs.Saying.{IsReady, IsTarget, NamesIn, or_is_not, says};
 
 use crate::functions::Function;
-use crate::listing::listed;
 use crate::targets::Target;
 use cnf_core::Formula;
 use enc_atoms::{Atom, add_clause};
 use enc_var::Layout;
 use ep_base::Memory;
+use ep_numbers::listed;
 use std::alloc::Global;
 
 /// Adds the clause of some atoms and others.

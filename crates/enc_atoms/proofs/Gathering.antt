@@ -5,6 +5,7 @@ use Rattle.std.proofs.lemmas.Bool.{cases_lt}
 use Rattle.std.proofs.lemmas.Int.{ints}
 use Rattle.std.proofs.lemmas.List.{get_or-map, get_or_default, take_all, take_more}
 use Rattle.std.proofs.lemmas.List.Elements.{All-append, All-contains, All-push, Contains-append_left, Contains-append_right, Contains-get_or}
+use Rattle.std.proofs.Math.Bool.{or-false}
 use Rattle.cnf_core.proofs.Keeping.{keeps_like, same_satisfied}
 use Rattle.cnf_core.proofs.Literals.{literal_ext}
 use Rattle.cnf_core.proofs.Members.{All-from_contains, none_in_nil, passes_some}
@@ -162,10 +163,6 @@ any_push p (y ∷ xs) x = ap (λ b. p y || b) (any_push p xs x) ∙ grouped (p y
     grouped true b c = refl
     grouped false b c = refl
 
-or_false : (b : Bool) → (b || false) ≡ b
-or_false true = refl
-or_false false = refl
-
 or_true : (b : Bool) → (b || true) ≡ true
 or_true true = refl
 or_true false = refl
@@ -188,7 +185,7 @@ gathered_false layout most atoms literals k d low names gathered is = record {
   names = gathered.names;
   same = λ s means.
       let here : false ≡ atom_holds (decoded_values layout s) (get_or atoms k d) = ap (known_holds s) is ∙ known_meant layout s (get_or atoms k d) names means in
-      gathered.same s means ∙ sym (or_false (clause_holds (decoded_values layout s) (take k atoms)))
+      gathered.same s means ∙ sym (or-false (clause_holds (decoded_values layout s) (take k atoms)))
       ∙ ap (λ b. clause_holds (decoded_values layout s) (take k atoms) || b) here ∙ sym (clause_more (decoded_values layout s) atoms k d low);
 }
 

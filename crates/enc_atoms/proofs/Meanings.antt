@@ -4,6 +4,7 @@ use Rattle.std.specs.List.{list_any}
 use Rattle.std.specs.Ordering.{int_eq}
 use Rattle.std.proofs.lemmas.Bool.Decides.{Decides-int_eq}
 use Rattle.std.proofs.lemmas.Int.{ints}
+use Rattle.std.proofs.Math.Bool.{or-false}
 use Rattle.ep_base.specs.Numbers.{has_number, of_bool}
 use Rattle.ep_flat.specs.Cons.{is_as_said, number_at, numbers_of_vars}
 use Rattle.enc_atoms.specs.Atoms.{atom_holds, clause_holds, test_holds}
@@ -82,10 +83,6 @@ or_after : (a b : Bool) → (a ≡ false → b ≡ true) → (a || b) ≡ true
 or_after true b h = refl
 or_after false b h = h refl
 
-or_nothing : (a : Bool) → (a || false) ≡ a
-or_nothing true = refl
-or_nothing false = refl
-
 -- a clause with one more atom in front
 pub clause_more : (values : List ℤ) (atom : Atom) (atoms : List Atom) → IsTrue (clause_holds values (atom ∷ atoms)) ↔ (atom_holds values atom ≡ false → IsTrue (clause_holds values atoms))
 unfolding clause_holds
@@ -96,7 +93,7 @@ clause_more values atom atoms = (
 
 pub clause_one : (values : List ℤ) (atom : Atom) → clause_holds values (atom ∷ []) ≡ atom_holds values atom
 unfolding clause_holds
-clause_one values atom = or_nothing (atom_holds values atom)
+clause_one values atom = or-false (atom_holds values atom)
 
 pub clause_none : (values : List ℤ) → clause_holds values [] ≡ false
 unfolding clause_holds

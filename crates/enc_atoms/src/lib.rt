@@ -4,7 +4,6 @@
 mod atoms;
 mod clauses;
 mod guarded;
-mod listing;
 mod never;
 mod pairs;
 mod truths;
@@ -12,7 +11,6 @@ mod truths;
 pub use atoms::{Atom, Test};
 pub use clauses::add_clause;
 pub use guarded::add_guarded;
-pub use listing::listed;
 pub use never::add_never;
 pub use pairs::{Place, add_decided, add_implied, add_not_both, all_are};
 pub use truths::new_truths;

@@ -10,11 +10,10 @@ ghost use Rattle.enc_atoms.specs.Steps.{AreAtomsOf, AreOf, HasTruth, IsReady, Un
 ghost use Rattle.enc_var.specs.Layouts.{literals_at};
 
 use cnf_core::Formula;
-use enc_atoms::{
-    Atom, add_decided, add_guarded, add_implied, add_not_both, all_are, listed, new_truths,
-};
+use enc_atoms::{Atom, add_decided, add_guarded, add_implied, add_not_both, all_are, new_truths};
 use enc_var::Layout;
 use ep_base::{Memory, Run, Runs};
+use ep_numbers::listed;
 use std::alloc::Global;
 
 /// Adds the pairs of a variable with others.

@@ -1,5 +1,5 @@
 -- Sums of few terms, and their comparisons with a number.
-use Rattle.std.proofs.Common.{◌≡◌, ◌≢◌, ◌⊎◌, inl, inr, ◌↔◌, ℕ, ◌+◌, ◌<◌, ◌≤◌, ℤ, pos, neg_ℤ, ◌+ℤ◌, ◌-ℤ◌, ◌*ℤ◌, ◌≤ℤ◌, Bool, true, false, not, IsTrue, List, [], ◌∷◌, ◌++◌, length, map, take, get_or, int_le, int_lt, refl, sym, ap, subst, ◌∙◌, arith}
+use Rattle.std.proofs.Common.{◌≡◌, ◌≢◌, ◌⊎◌, inl, inr, ◌↔◌, ℕ, ◌+◌, ◌<◌, ◌≤◌, ℤ, pos, neg_ℤ, ◌+ℤ◌, ◌-ℤ◌, ◌*ℤ◌, ◌≤ℤ◌, Bool, true, false, not, IsTrue, List, [], ◌∷◌, ◌++◌, length, map, take, get_or, refl, sym, ap, subst, ◌∙◌, arith}
 use Rattle.std.specs.List.{All, AllZip}
 use Rattle.std.specs.Ordering.{int_eq}
 use Rattle.std.proofs.lemmas.Bool.Decides.{Decides-int_eq}
@@ -200,50 +200,6 @@ both_compared r L f f1 g guards n o m k R is_layout before added same =
 -- the operators, one by one
 pub by_op : (op one : CompareOp) (P : Type 0) (n c : ℤ) → op ≡ one → P ↔ IsTrue (compare_holds one n c) → P ↔ IsTrue (compare_holds op n c)
 by_op op one P n c e h = subst (λ (o : CompareOp). P ↔ IsTrue (compare_holds o n c)) (sym e) h
-
-le_not : (a b : Bool) (x y : ℤ) → int_le y x ≡ a → int_lt x y ≡ b → a ≡ not b
-le_not true true x y p q = absurd (omega (arith, ints, p, q))
-le_not true false x y p q = refl
-le_not false true x y p q = refl
-le_not false false x y p q = absurd (omega (arith, ints, p, q))
-
-lt_not : (a b : Bool) (x y : ℤ) → int_lt y x ≡ a → int_le x y ≡ b → a ≡ not b
-lt_not true true x y p q = absurd (omega (arith, ints, p, q))
-lt_not true false x y p q = refl
-lt_not false true x y p q = refl
-lt_not false false x y p q = absurd (omega (arith, ints, p, q))
-
-twice_not : (b : Bool) → b ≡ not (not b)
-twice_not true = refl
-twice_not false = refl
-
--- the contrary of each operator
-pub contrary_of : (op one other : CompareOp) → op ≡ one → ((x y : ℤ) → compare_holds other x y ≡ not (compare_holds one x y)) → (x y : ℤ) → compare_holds other x y ≡ not (compare_holds op x y)
-contrary_of op one other e h x y = h x y ∙ ap (λ (o : CompareOp). not (compare_holds o x y)) (sym e)
-
-pub contrary_equal : (x y : ℤ) → compare_holds CompareOp.NotEqual x y ≡ not (compare_holds CompareOp.Equal x y)
-unfolding compare_holds
-contrary_equal x y = refl
-
-pub contrary_other : (x y : ℤ) → compare_holds CompareOp.Equal x y ≡ not (compare_holds CompareOp.NotEqual x y)
-unfolding compare_holds
-contrary_other x y = twice_not (int_eq x y)
-
-pub contrary_less : (x y : ℤ) → compare_holds CompareOp.AtLeast x y ≡ not (compare_holds CompareOp.Less x y)
-unfolding compare_holds
-contrary_less x y = le_not (int_le y x) (int_lt x y) x y refl refl
-
-pub contrary_at_most : (x y : ℤ) → compare_holds CompareOp.Greater x y ≡ not (compare_holds CompareOp.AtMost x y)
-unfolding compare_holds
-contrary_at_most x y = lt_not (int_lt y x) (int_le x y) x y refl refl
-
-pub contrary_greater : (x y : ℤ) → compare_holds CompareOp.AtMost x y ≡ not (compare_holds CompareOp.Greater x y)
-unfolding compare_holds
-contrary_greater x y = le_not (int_le x y) (int_lt y x) y x refl refl
-
-pub contrary_at_least : (x y : ℤ) → compare_holds CompareOp.Less x y ≡ not (compare_holds CompareOp.AtLeast x y)
-unfolding compare_holds
-contrary_at_least x y = lt_not (int_lt x y) (int_le y x) y x refl refl
 
 -- a comparison without a truth, and with one
 pub said_one : {T E : Type 0} (r : Result T E) (L : List VariableLiterals) (f g : Cnf) (truth : Option ℕ) (op : CompareOp) (n : List ℤ → ℤ) (m number : ℤ) → IsLayoutOf L f

@@ -10,7 +10,6 @@ mod folding;
 mod guards;
 mod joining;
 mod linear;
-mod listing;
 mod making;
 mod member;
 mod sums;

@@ -1,6 +1,6 @@
 //! Linear constraints.
 
-ghost use Rattle.std.specs.Prelude.{◌≡◌, ◌≢◌, ◌<◌, ◌+ℤ◌, ◌*ℤ◌, pos, ℤ, List, length, map, not, IfOk, IsTrue, MatchOption, OnOk};
+ghost use Rattle.std.specs.Prelude.{◌≡◌, ◌≢◌, ◌<◌, ◌+ℤ◌, ◌*ℤ◌, pos, ℤ, List, length, map, IfOk, IsTrue, MatchOption, OnOk};
 ghost use Rattle.std.specs.List.{All, AllZip};
 ghost use Rattle.enc_atoms.specs.Atoms.{Adds, AreOfDomains};
 ghost use Rattle.enc_linear.specs.Terms.{IsMirror, IsTermOf, total};
@@ -92,20 +92,6 @@ fn mirrors_of(alloc: Global, terms: &[Term]) -> Result<Vec<Term>, Memory>
     Ok(mirrors)
 }
 
-/// The comparison that holds exactly where the given one doesn't.
-fn contrary(op: CompareOp) -> CompareOp
-    ensures { (x y : ℤ) → compare_holds result x y ≡ not (compare_holds op x y) }
-{
-    match op {
-        CompareOp::Equal => CompareOp::NotEqual,
-        CompareOp::NotEqual => CompareOp::Equal,
-        CompareOp::Less => CompareOp::AtLeast,
-        CompareOp::AtMost => CompareOp::Greater,
-        CompareOp::Greater => CompareOp::AtMost,
-        CompareOp::AtLeast => CompareOp::Less,
-    }
-}
-
 /// Adds that a sum of at most three terms compares so with a number, or that the variable of its truth says whether it
 /// does.
 pub(crate) fn add_said(
@@ -132,7 +118,7 @@ pub(crate) fn add_said(
     let unless_false = [Atom::is_not(t, 1)];
     add_compared(alloc, layout, f, &unless_false, terms, &mirrors, op, number)?;
     let unless_true = [Atom::is(t, 1)];
-    let against = contrary(op);
+    let against = op.contrary();
     add_compared(
         alloc,
         layout,

@@ -7,10 +7,10 @@ ghost use Rattle.enc_linear.specs.Terms.{IsMirror, IsTermOf, mirrored_step, step
 ghost use Rattle.ep_flat.specs.Cons.{number_at};
 
 use crate::bounds::bounds_of;
-use crate::listing::listed;
 use crate::terms::{Step, Term};
 use enc_var::Layout;
 use ep_base::Memory;
+use ep_numbers::{listed, runs_ascend};
 use std::alloc::Global;
 
 /// A number with what it is worth under a coefficient.
@@ -47,7 +47,9 @@ pub(crate) fn multiple(
     ensures worth { IfOk result (λ term. (values : List ℤ) → AreOfDomains layout.now values
         → worth_of values term ≡ coefficient *ℤ number_at values var) }
 {
-    let values = listed(alloc, layout.domain(var))?;
+    let domain = layout.domain(var);
+    runs_ascend(domain);
+    let values = listed(alloc, domain)?;
     let mut steps = Vec::new(alloc);
     for value in &values {
         let step = multiplied(coefficient, *value)?;

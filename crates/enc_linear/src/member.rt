@@ -9,11 +9,11 @@ ghost use Rattle.ep_base.specs.Numbers.{has_number};
 ghost use Rattle.ep_flat.specs.Cons.{is_as_said, number_at};
 
 use crate::guards::{add_truth, with_atom};
-use crate::listing::listed;
 use cnf_core::Formula;
 use enc_atoms::{Atom, add_clause};
 use enc_var::Layout;
 use ep_base::{Memory, Runs};
+use ep_numbers::listed;
 use std::alloc::Global;
 
 /// Adds that whether a variable's number is in the set is as given, unless a guard holds.

@@ -5,6 +5,7 @@ use Rattle.std.specs.Ordering.{int_eq}
 use Rattle.std.proofs.lemmas.List.{append-nil, append_assoc, drop_all, drop_more, get_or-map, get_or_default}
 use Rattle.std.proofs.lemmas.List.Elements.{All-cons, All-contains, All-head, All-nil, All-tail, All-weaker}
 use Rattle.std.proofs.lemmas.List.Folds.{Any-from_list_any, list_any-append}
+use Rattle.std.proofs.lemmas.Bool.{or_right}
 use Rattle.cnf_core.specs.Formula.{Cnf}
 use Rattle.ep_base.specs.Numbers.{has_number, of_bool, same_numbers}
 use Rattle.ep_flat.specs.Cons.{number_at, numbers_of_vars}
@@ -35,10 +36,6 @@ neither false b e = (refl, e)
 none : (a b : Bool) → a ≡ false → b ≡ false → (a || b) ≡ false
 none true b e g = not_false true refl e
 none false b e g = g
-
-or_second : (a b : Bool) → b ≡ true → (a || b) ≡ true
-or_second true b e = refl
-or_second false b e = e
 
 -- where a guard with one more atom "it isn't" doesn't hold
 closed_fails : (values : List ℤ) (guard : List Atom) (x : ℕ) (v : ℤ) → (clause_holds values (guard ++ is_not x v ∷ []) ≡ false) ↔ ((clause_holds values guard ≡ false) × (number_at values x ≡ v))
@@ -114,7 +111,7 @@ having_there values (t ∷ ts) (row ∷ rows) place number (suc r) many low on o
     by (int_eq (get_or row place (pos 0)) number) (having_there values ts rows place number r (omega (arith, many)) (omega (arith, low)) on one)
   where
     by : (b : Bool) → has_number (numbers_of_vars values (truths_having ts rows place number)) (pos 1) ≡ true → has_number (numbers_of_vars values (if b then t ∷ truths_having ts rows place number else truths_having ts rows place number)) (pos 1) ≡ true
-    by true rest = or_second (int_eq (pos 1) (number_at values t)) (has_number (numbers_of_vars values (truths_having ts rows place number)) (pos 1)) rest
+    by true rest = or_right (int_eq (pos 1) (number_at values t)) (has_number (numbers_of_vars values (truths_having ts rows place number)) (pos 1)) rest
     by false rest = rest
 
 -- supports for each number of a variable

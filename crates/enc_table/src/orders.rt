@@ -10,9 +10,10 @@ ghost use Rattle.enc_table.specs.Orders.{EndsBadly, EndsWell, IsChain, IsNext, I
 
 use crate::tables::add_is;
 use cnf_core::Formula;
-use enc_atoms::{Atom, add_clause, add_decided, add_guarded, listed, new_truths};
+use enc_atoms::{Atom, add_clause, add_decided, add_guarded, new_truths};
 use enc_var::Layout;
 use ep_base::{LexOp, Memory};
+use ep_numbers::listed;
 use std::alloc::Global;
 
 /// Adds that one variable is at most a number where another is, where no atom of the guard holds.

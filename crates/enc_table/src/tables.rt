@@ -10,9 +10,10 @@ ghost use Rattle.enc_atoms.specs.Steps.{AreAtomsOf, AreOf, HasTruth, IsReady, Un
 ghost use Rattle.enc_table.specs.Rows.{AllFit, IsRow, IsRowWhere, IsSupported, others_of, truths_having};
 
 use cnf_core::Formula;
-use enc_atoms::{Atom, add_decided, add_guarded, add_never, all_are, listed, new_truths};
+use enc_atoms::{Atom, add_decided, add_guarded, add_never, all_are, new_truths};
 use enc_var::Layout;
 use ep_base::{Key, Memory};
+use ep_numbers::listed;
 use std::alloc::Global;
 
 /// Whether each row has so many numbers.

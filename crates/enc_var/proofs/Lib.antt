@@ -3,7 +3,6 @@ pub mod Choices
 pub mod Places
 pub mod TiedPlaces
 pub mod Saying
-pub mod Counting
 pub mod Growing
 pub mod GoingOn
 pub mod Noting

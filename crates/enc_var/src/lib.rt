@@ -5,7 +5,6 @@
 mod clauses;
 mod known;
 mod layout;
-mod listing;
 mod notes;
 mod variables;
 

@@ -10,9 +10,9 @@ ghost use Rattle.std.specs.List.{Contains};
 
 use crate::clauses::add_literals;
 use crate::known::Known;
-use crate::listing::listed;
 use cnf_core::{Formula, Lit};
 use ep_base::{Memory, Runs};
+use ep_numbers::listed;
 use std::alloc::Global;
 use std::marker::Model;
 

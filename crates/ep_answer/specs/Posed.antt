@@ -3,9 +3,9 @@ use Rattle.std.specs.Prelude.{◌≡◌, false, true, length}
 use Rattle.std.specs.List.{All}
 use Rattle.cnf_core.specs.Events.{LogState, clauses_of, givens, is_given}
 use Rattle.cnf_core.specs.Formula.{Cnf}
+use Rattle.enc_var.specs.Formulas.{IsFormulaOf}
 use Rattle.enc_var.specs.Notes.{cell_notes}
 use Rattle.ep_answer.specs.Problems.{ProblemState}
-use Rattle.ep_formula.specs.Formulas.{IsFormulaOf}
 use Rattle.ep_ground.specs.Grounds.{GroundState}
 
 -- The formula stands for the ground, the problem has the ground's cells, the log has the formula's clauses as givens and nothing

@@ -6,3 +6,6 @@ pub mod TokenKinds
 pub mod TokenLaws
 pub mod RunEquality
 pub mod RunEnds
+pub mod Contraries
+pub mod WordLengths
+pub mod Small

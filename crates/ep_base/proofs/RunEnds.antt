@@ -19,7 +19,7 @@ fold_append : (f : ℤ → ℤ → ℤ) (a : ℤ) (xs ys : List ℤ) → fold f 
 fold_append f a [] ys = refl
 fold_append f a (x ∷ xs) ys = fold_append f (f a x) xs ys
 
-or_zero_is : (z : ℤ) (n : ℕ) → z ≡ pos n → or_zero z ≡ n
+pub or_zero_is : (z : ℤ) (n : ℕ) → z ≡ pos n → or_zero z ≡ n
 or_zero_is (pos m) n e = ap or_zero e
 or_zero_is (negsuc m) n e = ap or_zero e
 

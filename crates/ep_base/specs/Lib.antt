@@ -2,6 +2,7 @@ pub mod Calls
 pub mod Intervals
 pub mod MemoryDevices
 pub mod Numbers
+pub mod Options
 pub mod Outside
 pub mod Reads
 pub mod Runs

@@ -69,6 +69,15 @@ compare_holds CompareOp.AtMost x y = int_le x y
 compare_holds CompareOp.Greater x y = int_lt y x
 compare_holds CompareOp.AtLeast x y = int_le y x
 
+-- the comparison that holds exactly where another one doesn't
+unfoldable pub contrary_comparison : CompareOp → CompareOp
+contrary_comparison CompareOp.Equal = CompareOp.NotEqual
+contrary_comparison CompareOp.NotEqual = CompareOp.Equal
+contrary_comparison CompareOp.Less = CompareOp.AtLeast
+contrary_comparison CompareOp.AtMost = CompareOp.Greater
+contrary_comparison CompareOp.Greater = CompareOp.AtMost
+contrary_comparison CompareOp.AtLeast = CompareOp.Less
+
 -- the sum of some numbers
 unfoldable pub sum_of : List ℤ → ℤ
 sum_of [] = pos 0

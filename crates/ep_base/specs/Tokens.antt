@@ -19,6 +19,12 @@ place_at text offset =
     let before = take offset text in
     record { line = count_by is_line_end before + 1; column = suffix_len (λ byte. not (is_line_end byte)) before + 1 }
 
+-- the place after a byte that stands at a place
+abbrev pub place_after : Place → ℕ → Place
+place_after place byte =
+    if is_line_end byte then record { line = place.line + 1; column = 1 }
+    else record { line = place.line; column = place.column + 1 }
+
 -- blanks are the space, the tab, the line end and the carriage return
 abbrev pub is_blank : ℕ → Bool
 is_blank byte = byte == 32 || byte == 9 || byte == 10 || byte == 13

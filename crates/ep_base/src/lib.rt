@@ -10,6 +10,7 @@ mod names;
 mod operators;
 mod outside;
 mod places;
+mod reserved;
 mod run_lists;
 mod std_devices;
 #[cfg(test)]
@@ -25,6 +26,7 @@ pub use names::Name;
 pub use operators::{CompareOp, LexOp, Limit, Sense};
 pub use outside::{FileError, Files, PutError, Sink, put_all};
 pub use places::Place;
+pub use reserved::{begins_name, continues_name, is_word};
 pub use run_lists::{Run, Runs};
 pub use std_devices::{StdFiles, StdSink};
 pub use tokens::{Token, TokenKind};

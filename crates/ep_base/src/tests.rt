@@ -16,7 +16,6 @@ fn names_and_words_are_read_back(rt: HostRuntime) -> Result<(), Fail> {
         assert_eq!(rt; word.text(), text);
         assert!(rt; name == Name::new(rt.alloc(), text)?);
         assert!(rt; name != Name::new(rt.alloc(), "y")?);
-        assert!(rt; word == Word::new(rt.alloc(), text)?);
         let shown = format!(in rt.alloc(); "{name} {word}")?;
         assert_eq!(rt; shown.len(), 2 * text.len() + 1);
     }

@@ -5,7 +5,6 @@ ghost use Rattle.std.specs.Prelude.{◌≡◌, IfOk};
 use crate::Memory;
 use std::alloc::Global;
 use std::fmt;
-use std::hash::{Hash, Hasher};
 use std::marker::Model;
 
 /// A word of a command line. Contracts see the list of its bytes.
@@ -37,40 +36,6 @@ impl Word {
         ensures text { result.now ≡ self.now }
     {
         self.text.as_str()
-    }
-}
-
-impl PartialEq for Word {
-    ghost use Rattle.std.specs.Str.{bytes_eq};
-    ghost use Rattle.std.specs.Cmp;
-    ghost use Rattle.std.specs.Cmp.Lexicographic.{nat_list_eq_equiv};
-
-    ghost eq = { bytes_eq };
-
-    ghost laws = { Cmp.partial_equiv_from_equiv nat_list_eq_equiv };
-
-    fn eq(&self, other: &Word) -> bool {
-        self.text.as_str() == other.text.as_str()
-    }
-}
-
-impl Eq for Word {
-    ghost use Rattle.std.specs.Cmp.Lexicographic.{nat_list_eq_equiv};
-
-    ghost laws = { nat_list_eq_equiv };
-}
-
-impl Hash for Word {
-    ghost use Rattle.std.proofs.Common.{rules};
-    ghost use Rattle.std.specs.Hash as fed;
-    ghost use Rattle.std.specs.Cmp.Rules.{hashing};
-
-    ghost hash_input = { fed.str };
-
-    ghost respects_eq = { Prim.search (hashing, rules) };
-
-    fn hash<H: Hasher>(&self, state: &mut H) {
-        self.text.as_str().hash(state);
     }
 }
 

@@ -26,8 +26,8 @@ use Rattle.ep_defined.specs.Images.{IsDivisorTest, IsKeyTest, IsNothingImage, Is
 use Rattle.ep_defined.proofs.Parts.{values_there}
 use Rattle.ep_defined.proofs.KeyTests.{key_there, keys_tested, picked_if}
 use Rattle.std.proofs.lemmas.List.{length-map}
+use Rattle.ep_base.specs.Options.{on_both}
 use Rattle.ep_defined.proofs.Standing.{Follows, Gathered, all_true, all_true-push, conjoined, gathered, truths-push}
-use Rattle.ep_ground.specs.Terms.{on_both}
 
 -- a node that isn't partial is its own safe form
 own_safe : (node : GroundNode) → is_partial node ≡ false → made_safe node ≡ node
@@ -324,7 +324,7 @@ divisor_tested : (nodes : List GroundNode) (values : List ℤ) (w : ℕ → Opti
 unfolding node_value truth on_both compare_holds not_nought
 divisor_tested nodes values w follows nought b y nil_is there_is own is =
     follows own (compare CompareOp.NotEqual b nought) is
-    ∙ (λ i. truth (on_both (λ x z. Some (compare_holds CompareOp.NotEqual x z)) (there_is i) (nil_is i)))
+    ∙ (λ i. truth (on_both (there_is i) (nil_is i) (λ x z. Some (compare_holds CompareOp.NotEqual x z))))
 
 pub division_stands : (nodes : List GroundNode) (values : List ℤ) (v w : ℕ → Option ℤ) (images : List Image) (nought : ℕ) (node : GroundNode) (image : Image) → image_kind node ≡ Kind.Division → w nought ≡ Some (pos 0) → Over nodes values v w images node → IsTestedImage nodes images node (IsDivisorTest nodes nought images node) image → StandsForTerm w (node_value values v node) image
 unfolding image_kind node_value parts_of made_safe IsDivisorTest on_both

@@ -6,6 +6,7 @@ use Rattle.std.proofs.lemmas.List.Elements.{Contains-append_cases}
 use Rattle.std.proofs.lemmas.Option.{slice_get-get_or}
 use Rattle.ep_base.specs.Numbers as numbers
 use Rattle.ep_base.specs.Numbers.{absolute_of, all_one, any_one, are_different, compare_holds, counts_hold, greatest_of, has_number, is_one, is_row_of, least_of, lex_holds, nth_power, of_bool}
+use Rattle.ep_base.specs.Options.{on_both}
 use Rattle.ep_base.specs.Reads as reads
 use Rattle.ep_base.specs.Reads.{all_there, picked, safe_picked, same_bool, weighted_sum}
 use Rattle.ep_base.specs.declared.operators.CompareOp.{CompareOp}
@@ -13,7 +14,7 @@ use Rattle.ep_defined.specs.Images.{image_kind}
 use Rattle.ep_defined.specs.declared.kinds.Kind.{Kind}
 use Rattle.ep_ground.specs.Grounds.{StandsOver}
 use Rattle.ep_ground.specs.Nodes.{GroundNode, constant, undefined, cell, sum, product, quotient, remainder, power, absolute, least, greatest, pick, whole, safe_quotient, safe_remainder, safe_pick, compare, lex, member, negation, all_of, any_of, same_truth, all_different, counts, at_least, at_most, table, parts_of, is_partial}
-use Rattle.ep_ground.specs.Terms.{node_value, on_both, truth, term_values_of, weighed}
+use Rattle.ep_ground.specs.Terms.{node_value, truth, term_values_of, weighed}
 
 -- what a node of a kind is worth where a part has no value
 abbrev pub absent : Kind → Option ℤ
@@ -31,11 +32,11 @@ of_cons t ts p (suc k, below, is) = inr (k, omega (arith, below), is)
 pub none_there : (p : ℕ) {X : Type 0} → Contains [] p → X
 none_there p (k, below, is) = absurd (omega (arith, below))
 
-both_first : {A B C : Type 0} (k : A → B → Option C) (x : Option A) (y : Option B) → x ≡ None → on_both k x y ≡ None
+both_first : {A B C : Type 0} (k : A → B → Option C) (x : Option A) (y : Option B) → x ≡ None → on_both x y k ≡ None
 unfolding on_both
 both_first k x y e = ap (λ o. option_and_then (λ a. option_and_then (k a) y) o) e
 
-both_second : {A B C : Type 0} (k : A → B → Option C) (x : Option A) (y : Option B) → y ≡ None → on_both k x y ≡ None
+both_second : {A B C : Type 0} (k : A → B → Option C) (x : Option A) (y : Option B) → y ≡ None → on_both x y k ≡ None
 unfolding on_both
 both_second k None y e = refl
 both_second k (Some a) y e = ap (option_and_then (k a)) e
@@ -46,8 +47,8 @@ one_lacks v a p found none = elim (of_cons a [] p found) as (λ _. v a ≡ None)
   | inr h ↦ none_there p h
 ]
 
-two_lack : {C : Type 0} (k : ℤ → ℤ → Option C) (v : ℕ → Option ℤ) (a b p : ℕ) → Contains (a ∷ b ∷ []) p → v p ≡ None → on_both k (v a) (v b) ≡ None
-two_lack k v a b p found none = elim (of_cons a (b ∷ []) p found) as (λ _. on_both k (v a) (v b) ≡ None) [
+two_lack : {C : Type 0} (k : ℤ → ℤ → Option C) (v : ℕ → Option ℤ) (a b p : ℕ) → Contains (a ∷ b ∷ []) p → v p ≡ None → on_both (v a) (v b) k ≡ None
+two_lack k v a b p found none = elim (of_cons a (b ∷ []) p found) as (λ _. on_both (v a) (v b) k ≡ None) [
   | inl e ↦ both_first k (v a) (v b) (ap v e ∙ none)
   | inr h ↦ both_second k (v a) (v b) (one_lacks v b p h none)
 ]
@@ -67,8 +68,8 @@ list_lacks v (t ∷ ts) p found none = elim (of_cons t ts p found) as (λ _. ter
     behind None e = refl
     behind (Some n) e = ap (option_map (λ ns. n ∷ ns)) e
 
-lists_lack : {C : Type 0} (k : List ℤ → List ℤ → Option C) (v : ℕ → Option ℤ) (ts us : List ℕ) (p : ℕ) → Contains (ts ++ us) p → v p ≡ None → on_both k (term_values_of v ts) (term_values_of v us) ≡ None
-lists_lack k v ts us p found none = elim (Contains-append_cases ts us p found) as (λ _. on_both k (term_values_of v ts) (term_values_of v us) ≡ None) [
+lists_lack : {C : Type 0} (k : List ℤ → List ℤ → Option C) (v : ℕ → Option ℤ) (ts us : List ℕ) (p : ℕ) → Contains (ts ++ us) p → v p ≡ None → on_both (term_values_of v ts) (term_values_of v us) k ≡ None
+lists_lack k v ts us p found none = elim (Contains-append_cases ts us p found) as (λ _. on_both (term_values_of v ts) (term_values_of v us) k ≡ None) [
   | inl h ↦ both_first k (term_values_of v ts) (term_values_of v us) (list_lacks v ts p h none)
   | inr h ↦ both_second k (term_values_of v ts) (term_values_of v us) (list_lacks v us p h none)
 ]
@@ -81,8 +82,8 @@ weights_lack v (q ∷ parts) p found none = elim (of_cons q.1 (map (λ r. r.1) p
   | inr h ↦ both_second (λ x rest. Some ((q.0, x) ∷ rest)) (v q.1) (weighed v parts) (weights_lack v parts p h none)
 ]
 
-whole_lacks : (v : ℕ → Option ℤ) (a : ℕ) (ts : List ℕ) (p : ℕ) → Contains (a ∷ ts) p → v p ≡ None → on_both (λ x xs. Some x) (v a) (term_values_of v ts) ≡ None
-whole_lacks v a ts p found none = elim (of_cons a ts p found) as (λ _. on_both (λ x xs. Some x) (v a) (term_values_of v ts) ≡ None) [
+whole_lacks : (v : ℕ → Option ℤ) (a : ℕ) (ts : List ℕ) (p : ℕ) → Contains (a ∷ ts) p → v p ≡ None → on_both (v a) (term_values_of v ts) (λ x xs. Some x) ≡ None
+whole_lacks v a ts p found none = elim (of_cons a ts p found) as (λ _. on_both (v a) (term_values_of v ts) (λ x xs. Some x) ≡ None) [
   | inl e ↦ both_first (λ x xs. Some x) (v a) (term_values_of v ts) (ap v e ∙ none)
   | inr h ↦ both_second (λ x xs. Some x) (v a) (term_values_of v ts) (list_lacks v ts p h none)
 ]
@@ -143,15 +144,15 @@ truth_value cells v (whole a ts) e = absurd (cc)
 truth_value cells v (safe_quotient a b) e = absurd (cc)
 truth_value cells v (safe_remainder a b) e = absurd (cc)
 truth_value cells v (safe_pick ts keys indices) e = absurd (cc)
-truth_value cells v (compare op a b) e = truth_there (on_both (λ x y. Some (compare_holds op x y)) (v a) (v b))
-truth_value cells v (lex op ts us) e = truth_there (on_both (λ xs ys. Some (lex_holds op xs ys)) (term_values_of v ts) (term_values_of v us))
+truth_value cells v (compare op a b) e = truth_there (on_both (v a) (v b) (λ x y. Some (compare_holds op x y)))
+truth_value cells v (lex op ts us) e = truth_there (on_both (term_values_of v ts) (term_values_of v us) (λ xs ys. Some (lex_holds op xs ys)))
 truth_value cells v (member a ns) e = truth_there (option_map (has_number ns) (v a))
 truth_value cells v (negation a) e = truth_there (option_map (λ x. not (is_one x)) (v a))
 truth_value cells v (all_of ts) e = truth_there (option_map all_one (term_values_of v ts))
 truth_value cells v (any_of ts) e = truth_there (option_map any_one (term_values_of v ts))
-truth_value cells v (same_truth a b) e = truth_there (on_both (λ x y. Some (same_bool (is_one x) (is_one y))) (v a) (v b))
+truth_value cells v (same_truth a b) e = truth_there (on_both (v a) (v b) (λ x y. Some (same_bool (is_one x) (is_one y))))
 truth_value cells v (all_different ts) e = truth_there (option_map are_different (term_values_of v ts))
-truth_value cells v (counts ts ns us) e = truth_there (on_both (λ xs cs. counts_hold CompareOp.Equal xs ns cs) (term_values_of v ts) (term_values_of v us))
+truth_value cells v (counts ts ns us) e = truth_there (on_both (term_values_of v ts) (term_values_of v us) (λ xs cs. counts_hold CompareOp.Equal xs ns cs))
 truth_value cells v (at_least ts cs ns) e = truth_there (option_and_then (λ xs. counts_hold CompareOp.AtLeast xs ns cs) (term_values_of v ts))
 truth_value cells v (at_most ts cs ns) e = truth_there (option_and_then (λ xs. counts_hold CompareOp.AtMost xs ns cs) (term_values_of v ts))
 truth_value cells v (table ts rows) e = truth_there (option_and_then (is_row_of rows) (term_values_of v ts))

@@ -8,8 +8,8 @@ use Rattle.ep_print.specs.declared.refusals.Refusal.{Refusal}
 use Rattle.ep_print.specs.declared.refusals.TextFile.{TextFile}
 use Rattle.ep_tree.specs.Binding.{Refusal as BindRefusal, missing_parameter, model_text, outside_domain, over_limit, parameter_text, solution_text, undefined_at, where_false}
 use Rattle.ep_tree.specs.Faults.{Fault, ill_typed, open_domain, redeclared, unknown_name, wrong_category}
-use Rattle.ep_types.specs.Named.{IsAmongFaults, fault_of}
-use Rattle.ep_types.specs.declared.errors.StaticError.{StaticError}
+use Rattle.ep_types_rules.specs.Named.{IsAmongFaults, fault_of}
+use Rattle.ep_types_rules.specs.declared.errors.StaticError.{StaticError}
 use Rattle.ep_driver.specs.Outcomes.{as_outcome, bind_refusal, bind_refusals, fault_refusal, fault_refusals, file_of}
 use Rattle.ep_driver.specs.Status.{status_of}
 use Rattle.ep_driver.specs.Steps.{Passes, Tells}

@@ -5,7 +5,7 @@ use Rattle.sat_text.specs.declared.proof.LogError.{LogError}
 use Rattle.ep_print.specs.declared.refusals.Refusal.{Refusal}
 use Rattle.ep_print.specs.declared.refusals.TextFile.{TextFile}
 use Rattle.ep_driver.specs.declared.stops.Stop.{Stop}
-use Rattle.ep_types.specs.declared.errors.StaticError.{StaticError}
+use Rattle.ep_types_rules.specs.declared.errors.StaticError.{StaticError}
 use Rattle.ep_instance.specs.declared.errors.BindError.{BindError}
 use Rattle.ep_instance.specs.declared.errors.Source.{Source}
 

@@ -10,7 +10,7 @@ ghost use Rattle.ep_driver.specs.Outputs.{IsFormulaText};
 use cnf_core::{Clause, Event, Formula, Log};
 use ep_base::Memory;
 use sat_text::write_cnf;
-use std::alloc::{AllocError, Global};
+use std::alloc::Global;
 
 /// The text of a log's formula, with the notes of the cells and the number of givens that were added.
 pub fn formula_text(alloc: Global, log: &Log) -> Result<Vec<u8>, Memory>
@@ -46,24 +46,17 @@ fn added_number(log: &Log, clauses: &[Clause]) -> u64
 }
 
 /// The clauses that were given.
-fn given_clauses(alloc: Global, events: &[Event]) -> Result<Vec<Clause>, AllocError>
+fn given_clauses(alloc: Global, events: &[Event]) -> Result<Vec<Clause>, Memory>
     ensures { IfOk result (λ clauses. clauses.items ≡ givens (map plain_event events.now)) }
 {
     let mut clauses = Vec::new(alloc);
     for event in events {
         match event {
-            Event::Given(clause) => clauses.push(copied(clause)?)?,
+            Event::Given(clause) => clauses.push(clause.copied()?)?,
             Event::Step(_, _) => {}
         }
     }
     Ok(clauses)
-}
-
-/// A clause once more; both share their literals.
-fn copied(clause: &Clause) -> Result<Clause, AllocError>
-    ensures { IfOk result (λ copy. copy ≡ clause.now) }
-{
-    Ok(clause.clone()?)
 }
 
 /// The greatest variable of clauses, or 0 where they have no literal.
@@ -95,7 +88,7 @@ fn formula_of(alloc: Global, clauses: &[Clause]) -> Result<Formula, Memory>
     let most = greatest_variable(clauses);
     let mut formula = Formula::with_vars(alloc, most);
     for clause in clauses {
-        formula.add(copied(clause)?)?;
+        formula.add(clause.copied()?)?;
     }
     Ok(formula)
 }

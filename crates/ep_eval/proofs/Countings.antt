@@ -5,6 +5,7 @@ use Rattle.std.specs.List.{list_any}
 use Rattle.std.proofs.lemmas.List.{length-append}
 use Rattle.std.proofs.lemmas.Grind.{flat_map-append}
 use Rattle.std.proofs.lemmas.List.Elements.{Contains-append_left, Contains-append_right, Contains-append_cases}
+use Rattle.std.proofs.lemmas.Bool.{or_from, or_left, or_right}
 use Rattle.ep_base.specs.declared.operators.Limit.{Limit as LimitName}
 use Rattle.ep_tree.specs.Environments.{Env}
 use Rattle.ep_tree.specs.Evaluation.{domain_values, evaluate}
@@ -26,18 +27,6 @@ any_append f (x ∷ xs) ys = by (f x) (any_append f xs ys)
     by true h = refl
     by false h = h
 
-neither : (a b : Bool) → a ≡ false → b ≡ false → (a || b) ≡ false
-neither false b h k = k
-neither true b h k = absurd cc
-
-left_true : (a b : Bool) → a ≡ true → (a || b) ≡ true
-left_true true b h = refl
-left_true false b h = absurd cc
-
-right_true : (a b : Bool) → b ≡ true → (a || b) ≡ true
-right_true true b h = refl
-right_true false b h = h
-
 flat_append : {A B : Type 0} (f : A → List B) (xs ys : List A) → flat_map f (xs ++ ys) ≡ flat_map f xs ++ flat_map f ys
 flat_append f xs ys = flat_map-append f xs ys
 
@@ -49,7 +38,7 @@ counted_append mode a b c ms ns h k = record {
   near =
       ap (list_any is_too_far) (flat_append (numbers_at mode) ms ns)
       ∙ any_append is_too_far (flat_map (numbers_at mode) ms) (flat_map (numbers_at mode) ns)
-      ∙ neither _ _ h.near k.near;
+      ∙ or_from _ _ h.near k.near;
 }
 
 -- no nodes
@@ -66,7 +55,7 @@ counted_node mode env e a b p n h =
       small = h.small;
       near =
           any_append is_too_far (numbers_at mode (a_node env e)) (flat_map (numbers_at mode) (met_below mode env e))
-          ∙ neither _ _ n h.near;
+          ∙ or_from _ _ n h.near;
     })
 
 -- ---- causes
@@ -116,7 +105,7 @@ pub cause_first : (mode : Mode) (a : ℕ) (ms ns : List Met) (error : EvalError)
 cause_first mode a ms ns error c =
     cause_more mode a a ms (ms ++ ns) error (omega (arith, length-append ms ns))
     (λ h. ap (list_any is_too_far) (flat_append (numbers_at mode) ms ns)
-    ∙ any_append is_too_far (flat_map (numbers_at mode) ms) (flat_map (numbers_at mode) ns) ∙ left_true _ _ h) c
+    ∙ any_append is_too_far (flat_map (numbers_at mode) ms) (flat_map (numbers_at mode) ns) ∙ or_left _ _ h) c
 
 -- what refuses the later of some nodes refuses them all
 pub cause_then : (mode : Mode) (a b : ℕ) (ms ns : List Met) (error : EvalError) → Counted mode a b ms
@@ -124,7 +113,7 @@ pub cause_then : (mode : Mode) (a b : ℕ) (ms ns : List Met) (error : EvalError
 cause_then mode a b ms ns error counted c =
     cause_more mode b a ns (ms ++ ns) error (omega (arith, counted.count, length-append ms ns))
     (λ h. ap (list_any is_too_far) (flat_append (numbers_at mode) ms ns)
-    ∙ any_append is_too_far (flat_map (numbers_at mode) ms) (flat_map (numbers_at mode) ns) ∙ right_true _ _ h) c
+    ∙ any_append is_too_far (flat_map (numbers_at mode) ms) (flat_map (numbers_at mode) ns) ∙ or_right _ _ h) c
 
 -- what refuses the parts of a node refuses the node
 pub cause_below : (mode : Mode) (env : Env) (e : ExprTree) (a : ℕ) (error : EvalError) → IsNode mode env e
@@ -132,7 +121,7 @@ pub cause_below : (mode : Mode) (env : Env) (e : ExprTree) (a : ℕ) (error : Ev
 cause_below mode env e a error p c =
     subst (λ ms. IsCause (limits_of_values mode a ms) error) (sym p.first)
     (cause_more mode (a + 1) a (met_below mode env e) (a_node env e ∷ met_below mode env e) error (omega arith)
-    (λ h. any_append is_too_far (numbers_at mode (a_node env e)) (flat_map (numbers_at mode) (met_below mode env e)) ∙ right_true _ _ h) c)
+    (λ h. any_append is_too_far (numbers_at mode (a_node env e)) (flat_map (numbers_at mode) (met_below mode env e)) ∙ or_right _ _ h) c)
 
 -- so many nodes refuse
 pub size_refuses : (mode : Mode) (a : ℕ) (ms : List Met) → MOST_SIZE < a + length ms → Contains (limits_of_values mode a ms) LimitName.Size
@@ -147,7 +136,7 @@ node_refuses mode env e a p h =
     reach_limit (nat_lt MOST_SIZE (a + length (met mode env e))) _
     (ap (λ ms. list_any is_too_far (flat_map (numbers_at mode) ms)) p.first
     ∙ any_append is_too_far (numbers_at mode (a_node env e)) (flat_map (numbers_at mode) (met_below mode env e))
-    ∙ left_true _ _ h)
+    ∙ or_left _ _ h)
 
 -- what refuses a node behind its own count refuses the expression
 pub refused_whole : (mode : Mode) (env : Env) (e : ExprTree) (a n : ℕ) (error : EvalError) → n ≡ a + 1

@@ -3,8 +3,9 @@ use Rattle.std.proofs.Common.{◌≡◌, ℕ, ◌++◌, refl, sym, ap, ◌∙◌
 use Rattle.std.specs.Prelude.{Option}
 use Rattle.ep_base.specs.declared.places.Place.{Place}
 use Rattle.ep_base.specs.Numbers.{has_number}
+use Rattle.ep_base.specs.Options.{map_both}
 use Rattle.ep_tree.specs.Environments.{Env}
-use Rattle.ep_tree.specs.Evaluation.{domain_values, evaluate, map_both, number_in, truth_in}
+use Rattle.ep_tree.specs.Evaluation.{domain_values, evaluate, number_in, truth_in}
 use Rattle.ep_tree.specs.Limits.{limits_of_values, numbers_at}
 use Rattle.ep_tree.specs.Measures.{met, met_domain}
 use Rattle.ep_tree.specs.Trees.{DomainTree, ExprTree, in_domain}

@@ -4,10 +4,10 @@ use Rattle.std.specs.List.{list_all}
 use Rattle.std.specs.declared.alloc.Global.{Global}
 use Rattle.std.specs.declared.boxed.Box.{Box}
 use Rattle.std.proofs.lemmas.Bool.{ne_eqb}
+use Rattle.ep_base.specs.Options.{map_both}
 use Rattle.ep_base.specs.declared.places.Place.{Place}
 use Rattle.ep_tree.proofs.TypeEquations.{judge-in_domain, judge-literal, judge_domain-group_domain, judge_domain-matrix_domain, judge_domain-ranges, judge_domain-set_domain}
 use Rattle.ep_tree.proofs.ViewLemmas.{index_of, with_range-one, with_range-span}
-use Rattle.ep_tree.specs.Evaluation.{map_both}
 use Rattle.ep_tree.specs.Trees.{DomainTree, ExprTree, ExprTrees, IndexDomain, Ranges, group_domain, in_domain, literal, matrix_domain, no_ranges, ranges, set_domain}
 use Rattle.ep_tree.specs.Types.{Context, Judged, all_typed, both_scalars, can_index, from_all, from_many, from_one, from_two, gives, has_dimensions, indexed_type, is_boolean, is_integer, is_matrix, is_matrix_of_bool, judge, judge_all, judge_domain, judge_domains, judge_end, judge_index, judge_indices, judge_ranges, list_of_matrices, list_type, matrix_type, mistyped, of_scalar, scalar_of, stated_dimensions, type_from, typed, untyped}
 use Rattle.ep_tree.specs.Views.{domain_tree, domains_of, end_of, expr_tree, expr_trees, held_end, indices_of, kind_tree, ranges_of, with_range}

@@ -5,8 +5,8 @@ use Rattle.std.specs.Map.{lookup}
 use Rattle.std.proofs.lemmas.List.{take_all, take_more}
 use Rattle.std.proofs.lemmas.Option.{get_or_from_slice_get, slice_get_within}
 use Rattle.std.proofs.lemmas.Slice.Eq.{bytes_eq-Decides}
+use Rattle.ep_base.proofs.Small.{no_some}
 use Rattle.ep_base.specs.declared.names.Name.{Name}
-use Rattle.ep_tree.proofs.TypedParts.{no_some}
 use Rattle.ep_tree.specs.Environments.{Env}
 use Rattle.ep_tree.specs.Names.{nothing_known, put}
 use Rattle.ep_eval.specs.Bounds.{bound_of}

@@ -1,5 +1,6 @@
 -- What each fold gives, with the numbers at its node.
-use Rattle.std.proofs.Common.{◌≡◌, ℤ, pos, Bool, true, false, List, refl, sym, subst}
+use Rattle.std.proofs.Common.{◌≡◌, ℤ, pos, Bool, true, false, List, sym, subst}
+use Rattle.std.proofs.lemmas.Bool.{or_right}
 use Rattle.std.specs.Prelude.{Option, Some, None, Result, Ok, Err, ◌||◌, option_to_list}
 use Rattle.std.specs.List.{list_any}
 use Rattle.ep_base.specs.Numbers.{all_one, any_one, greatest_of, least_of, product_of, sum_of}
@@ -48,16 +49,12 @@ near_first : (a b : Bool) → (a || false) ≡ false → b ≡ false → (a || b
 near_first false b h k = k
 near_first true b h k = absurd cc
 
-far_second : (a b : Bool) → b ≡ true → (a || b) ≡ true
-far_second true b h = refl
-far_second false b h = h
-
 product_at : (mode : Mode) (xs : List ℤ) (r : Result (Option Held) EvalError) → GivesAt r (Some (single (product_of xs))) (products_from (pos 1) xs)
     → GivesAt r (folded_value mode FoldOp.Product (Some xs)) (folded_numbers mode FoldOp.Product (Some xs))
 unfolding folded_value folded_numbers number_in
 product_at mode xs (Ok seen) h = (h.0, λ k. near_first (is_too_far (product_of xs)) (list_any is_too_far (products_from (pos 1) xs)) k (h.1 k))
 product_at mode xs (Err Memory) h = tt
-product_at mode xs (Err (Limit l)) h = (h.0, far_second (is_too_far (product_of xs)) (list_any is_too_far (products_from (pos 1) xs)) h.1)
+product_at mode xs (Err (Limit l)) h = (h.0, or_right (is_too_far (product_of xs)) (list_any is_too_far (products_from (pos 1) xs)) h.1)
 
 pub gives_product : (mode : Mode) (xs : List ℤ) (op : FoldOp) (r : Result (Option Held) EvalError) → op ≡ FoldOp.Product
     → GivesAt r (Some (single (product_of xs))) (products_from (pos 1) xs)

@@ -5,14 +5,15 @@ use Rattle.std.proofs.lemmas.List.{length-append}
 use Rattle.std.specs.declared.alloc.Global.{Global}
 use Rattle.std.specs.declared.boxed.Box.{Box}
 use Rattle.std.specs.declared.vec.Vec.{Vec}
+use Rattle.ep_base.proofs.Small.{no_some}
+use Rattle.ep_base.specs.Options.{map_both, on_both}
 use Rattle.ep_base.specs.declared.names.Name.{Name}
 use Rattle.ep_base.specs.declared.operators.Limit.{Limit as LimitName}
 use Rattle.ep_base.specs.declared.places.Place.{Place}
 use Rattle.ep_tree.proofs.EvaluationEquations.{evaluate-comprehension}
-use Rattle.ep_tree.proofs.TypedParts.{no_some}
 use Rattle.ep_tree.proofs.ViewLemmas.{index_of, kind_tree-comprehension}
 use Rattle.ep_tree.specs.Environments.{Env, scalar_in, with_number}
-use Rattle.ep_tree.specs.Evaluation.{are_told, all_true, chosen, domain_values, domains_defined, evaluate, holding, index_values, map_both, matrix_value, numbered, on_both, over_names, reached, standing_for, values_of}
+use Rattle.ep_tree.specs.Evaluation.{are_told, all_true, chosen, domain_values, domains_defined, evaluate, holding, index_values, matrix_value, numbered, over_names, reached, standing_for, values_of}
 use Rattle.ep_tree.specs.Limits.{MOST_SIZE, limits_of_values, numbers_at}
 use Rattle.ep_tree.specs.Measures.{Met, a_generator, met, met_all, met_domain, met_generators, met_index, met_names}
 use Rattle.ep_tree.specs.Trees.{DomainTree, ExprTree, ExprTrees, Generators, IndexDomain, comprehension, generator_and, no_generators}

@@ -4,18 +4,19 @@ use Rattle.std.specs.Prelude.{is_some}
 use Rattle.std.specs.declared.alloc.Global.{Global}
 use Rattle.std.specs.declared.vec.Vec.{Vec}
 use Rattle.std.proofs.lemmas.List.{append-nil}
+use Rattle.ep_base.specs.Options.{map_both}
 use Rattle.ep_tree.specs.Environments.{Env}
-use Rattle.ep_tree.specs.Evaluation.{end_value, evaluate, index_list, map_both, number_in}
+use Rattle.ep_tree.specs.Evaluation.{end_value, evaluate, index_list, number_in}
 use Rattle.ep_tree.specs.Limits.{MOST_SIZE, limits_of_values}
 use Rattle.ep_tree.specs.Measures.{met_end, met_indices}
-use Rattle.ep_tree.specs.Values.{Index, any_index, at_index}
+use Rattle.ep_tree.specs.Values.{Index, any_index, at_index, index_in, indices_in}
 use Rattle.ep_tree.specs.Views.{end_of, expr_tree, indices_of}
 use Rattle.ep_tree.specs.declared.syntax.Expr.{Expr}
 use Rattle.ep_tree.specs.declared.values.Mode.{Mode}
 use Rattle.ep_eval.proofs.Walks.{Walked, walk_begins, walk_cause, walk_ends, walk_more}
 use Rattle.ep_eval.specs.Counting.{Counted}
 use Rattle.ep_eval.specs.Outcomes.{IsCause}
-use Rattle.ep_eval.specs.Reading.{index_in, indices_in, with_index}
+use Rattle.ep_eval.specs.Reading.{with_index}
 use Rattle.ep_eval.specs.declared.errors.EvalError.{EvalError}
 
 -- the values of some indices before those of others

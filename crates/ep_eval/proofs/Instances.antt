@@ -8,7 +8,7 @@ use Rattle.ep_base.specs.declared.names.Name.{Name}
 use Rattle.ep_base.specs.declared.operators.Limit.{Limit as LimitName}
 use Rattle.ep_base.specs.declared.places.Place.{Place}
 use Rattle.ep_tree.specs.Environments.{Env, scalar_in, with_number}
-use Rattle.ep_tree.specs.Evaluation.{all_numbers, domain_values, evaluate, map_both, number_in, over_names, quantified_value, signed, standing_for, truth_of}
+use Rattle.ep_tree.specs.Evaluation.{all_numbers, domain_values, evaluate, number_in, over_names, quantified_value, signed, standing_for, truth_of}
 use Rattle.ep_tree.specs.Limits.{MOST_SIZE, is_too_far, limits_of_values, numbers_at}
 use Rattle.ep_tree.specs.Measures.{Met, met, met_domain, met_names}
 use Rattle.ep_tree.specs.Trees.{DomainTree, ExprTree, quantified}
@@ -28,6 +28,7 @@ use Rattle.ep_eval.proofs.PartSteps.{last_unit, of_all_more, of_none, regrouped}
 use Rattle.ep_eval.proofs.TermSteps.{nothing_behind, total_more, total_regrouped, wider}
 use Rattle.ep_eval.proofs.Walks.{Walked, walk_begins, walk_cause, walk_ends, walk_more}
 use Rattle.std.specs.List.{list_any}
+use Rattle.ep_base.specs.Options.{map_both}
 use Rattle.ep_eval.specs.Counting.{Counted, Evaluated, Gives, IsRefused, IsTooFar, IsWithin, all_but_first, is_far_value, of_all, together}
 use Rattle.ep_eval.specs.Helds.{seen_held}
 use Rattle.ep_eval.specs.declared.held.Held.{Held}

@@ -1,15 +1,15 @@
 -- The types of forms by those of their parts.
-use Rattle.std.proofs.Common.{◌≡◌, ℕ, suc, ◌+◌, ◌-◌, ◌<◌, ◌≤◌, Bool, true, false, ◌&&◌, ℤ, List, [], ◌∷◌, length, drop, get_or, Option, Some, None, option_map, refl, sym, ap, ◌∙◌, arith}
+use Rattle.std.proofs.Common.{◌≡◌, ℕ, suc, ◌+◌, ◌-◌, ◌<◌, ◌≤◌, Bool, true, false, ◌&&◌, ℤ, List, [], ◌∷◌, length, Option, Some, None, option_map, refl, sym, ap, ◌∙◌, arith}
 use Rattle.std.specs.Prelude.{nat_le}
 use Rattle.std.specs.List.{list_all}
-use Rattle.std.proofs.Math.ListN.{drop_of_length-le}
-use Rattle.std.proofs.lemmas.List.{drop_more}
+use Rattle.std.proofs.Math.Bool.{and-true, and-false}
+use Rattle.ep_base.proofs.Small.{some_is}
+use Rattle.ep_base.specs.Options.{map_both}
 use Rattle.ep_base.specs.declared.operators.CompareOp.{CompareOp}
 use Rattle.ep_base.specs.declared.operators.LexOp.{LexOp}
 use Rattle.ep_base.specs.declared.places.Place.{Place}
 use Rattle.ep_tree.proofs.TypeEquations.{judge-absolute, judge-all_different, judge-all_of, judge-any_of, judge-at_least, judge-at_most, judge-binary, judge-chain, judge-compare, judge-factorial, judge-flatten, judge-folded, judge-gcc, judge-group, judge-in_set, judge-lex, judge-minus, judge-negation, judge-number, judge-read, judge-table, judge-to_int, judge-truth}
 use Rattle.ep_tree.specs.Environments.{shape_type}
-use Rattle.ep_tree.specs.Evaluation.{map_both}
 use Rattle.ep_tree.specs.Trees.{ExprTree, ExprTrees, Terms, absolute, all_different, all_of, any_of, at_least, at_most, binary, chain, compare, factorial, flatten, folded, gcc, group, in_set, lex, minus, negation, number, read, table, to_int, truth}
 use Rattle.ep_tree.specs.Types.{Context, Judged, all_typed, are_lists, binary_type, folded_type, from_all, from_many, from_one, from_three, from_two, gives, is_integer, is_matrix, judge, judge_all, judge_indices, judge_terms, left_type, mistyped, of_scalar, read_type, scalar_of, slice_count, type_from, typed, untyped}
 use Rattle.ep_tree.specs.Views.{expr_tree, expr_trees, indices_of, kind_tree, terms_of}
@@ -291,22 +291,6 @@ indices_none c left none = ap (λ l. all_pass Wanted.Integer (judge_indices c (i
 
 -- ---- counts of indices
 
-pub next_is : {A : Type 0} (xs : List A) (i : ℕ) (x : A) → i < length xs → x ≡ get_or xs i x → drop i xs ≡ x ∷ drop (i + 1) xs
-next_is xs i x within is = drop_more xs i x within ∙ ap (λ y. y ∷ drop (i + 1) xs) (sym is)
-
-count_more : (x : Option Expr) (others : List (Option Expr)) → slice_count (indices_of (x ∷ others)) ≡ slice_count (indices_of (x ∷ [])) + slice_count (indices_of others)
-unfolding slice_count indices_of
-count_more None others = omega arith
-count_more (Some e) others = omega arith
-
-pub count_next : (is : List (Option Expr)) (i : ℕ) (x : Option Expr) → i < length is → x ≡ get_or is i x
-    → slice_count (indices_of (drop i is)) ≡ slice_count (indices_of (x ∷ [])) + slice_count (indices_of (drop (i + 1) is))
-count_next is i x lt e = ap (λ l. slice_count (indices_of l)) (next_is is i x lt e) ∙ count_more x (drop (i + 1) is)
-
-pub count_end : (is : List (Option Expr)) (i : ℕ) → length is ≤ i → slice_count (indices_of (drop i is)) ≡ 0
-unfolding slice_count indices_of
-count_end is i le = ap (λ l. slice_count (indices_of l)) (drop_of_length-le is le)
-
 stated_count : (c : Context) (is : List (Option Expr)) → length (judge_indices c (indices_of is)) + slice_count (indices_of is) ≡ length is
 unfolding judge_indices indices_of slice_count
 stated_count c [] = refl
@@ -315,20 +299,17 @@ stated_count c (Some x ∷ is) = let e = stated_count c is in omega (arith, e)
 
 -- ---- reads
 
-some_same : {A : Type 0} {x y : A} → Some x ≡ Some y → x ≡ y
-some_same e = cc
-
 longer : (t : ValueType) (js : List Judged) (ts : List ValueType) (o : Option (List ValueType)) → ((us : List ValueType) → o ≡ Some us → length us ≡ length js)
     → option_map (λ us. t ∷ us) o ≡ Some ts → length ts ≡ suc (length js)
 longer t js ts None more h = absurd cc
 longer t js ts (Some us) more h =
-    let own : length (t ∷ us) ≡ length ts = ap length (some_same h) in
+    let own : length (t ∷ us) ≡ length ts = ap length (some_is h) in
     let inner : length us ≡ length js = more us refl in
     omega (arith, own, inner)
 
 pub typed_length : (js : List Judged) (ts : List ValueType) → all_typed js ≡ Some ts → length ts ≡ length js
 unfolding all_typed
-typed_length [] ts h = sym (ap length (some_same h))
+typed_length [] ts h = sym (ap length (some_is h))
 typed_length (typed t ∷ js) ts h = longer t js ts (all_typed js) (λ us e. typed_length js us e) h
 typed_length (mistyped ∷ js) ts h = absurd cc
 typed_length (untyped ∷ js) ts h = absurd cc
@@ -419,22 +400,14 @@ within_count n m h = grind arith
 beyond : (n m : ℕ) → m < n → nat_le n m ≡ false
 beyond n m h = grind arith
 
-and_true : (b : Bool) → (b && true) ≡ b
-and_true true = refl
-and_true false = refl
-
-and_false : (b : Bool) → (b && false) ≡ false
-and_false true = refl
-and_false false = refl
-
 pub reads_beyond : (k : ℕ) (s : Scalar) (b : Bool) (stated slices : ℕ) → k < stated + slices → None ≡ read_of (Some (ValueType.Matrix k s)) (Some b) stated slices
 unfolding read_of type_if
-reads_beyond k s b stated slices h = sym (ap (λ x. type_if (left_type (k - stated) s) (Some x)) (ap (λ x. b && x) (beyond (stated + slices) k h) ∙ and_false b))
+reads_beyond k s b stated slices h = sym (ap (λ x. type_if (left_type (k - stated) s) (Some x)) (ap (λ x. b && x) (beyond (stated + slices) k h) ∙ and-false b))
 
 pub reads_within : (k : ℕ) (s : Scalar) (b : Bool) (stated slices : ℕ) → stated + slices ≤ k
     → type_if (left_type (k - stated) s) (Some b) ≡ read_of (Some (ValueType.Matrix k s)) (Some b) stated slices
 unfolding read_of
-reads_within k s b stated slices h = sym (ap (λ x. type_if (left_type (k - stated) s) (Some x)) (ap (λ x. b && x) (within_count (stated + slices) k h) ∙ and_true b))
+reads_within k s b stated slices h = sym (ap (λ x. type_if (left_type (k - stated) s) (Some x)) (ap (λ x. b && x) (within_count (stated + slices) k h) ∙ and-true b))
 
 -- ---- what names stand for
 

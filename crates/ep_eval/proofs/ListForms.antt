@@ -1,5 +1,6 @@
 -- Forms of three parts, and folds: what evaluating the parts shows of the whole.
 use Rattle.std.proofs.Common.{◌≡◌, inl, inr, ℕ, Bool, true, false, List, [], ◌∷◌, ◌++◌, ℤ, pos, refl, sym, ap, subst, ◌∙◌}
+use Rattle.std.proofs.lemmas.Bool.{or_left}
 use Rattle.std.specs.Prelude.{Option, Result, Ok, Err, IfOk, IfErr, ◌||◌, option_to_list, unwrap_or}
 use Rattle.std.specs.List.{list_any}
 use Rattle.ep_base.specs.declared.places.Place.{Place}
@@ -206,23 +207,11 @@ any_append f (x ∷ xs) ys = by (f x) (any_append f xs ys)
     by true h = refl
     by false h = h
 
-left_true : (a b : Bool) → a ≡ true → (a || b) ≡ true
-left_true true b h = refl
-left_true false b h = absurd cc
-
-right_true : (a b : Bool) → b ≡ true → (a || b) ≡ true
-right_true true b h = refl
-right_true false b h = h
-
-neither : (a b : Bool) → a ≡ false → b ≡ false → (a || b) ≡ false
-neither false b h k = k
-neither true b h k = absurd cc
-
 -- a value is among the numbers of its fold
 far_fold : (mode : Mode) (op : FoldOp) (xs : Option (List ℤ)) → is_far_value (folded_value mode op xs) ≡ true → list_any is_too_far (folded_numbers mode op xs) ≡ true
 unfolding folded_numbers
 far_fold mode FoldOp.Product xs h =
-    any_append is_too_far (option_to_list (number_in (folded_value mode FoldOp.Product xs))) (products_from (pos 1) (unwrap_or xs [])) ∙ left_true _ _ h
+    any_append is_too_far (option_to_list (number_in (folded_value mode FoldOp.Product xs))) (products_from (pos 1) (unwrap_or xs [])) ∙ or_left _ _ h
 far_fold mode FoldOp.Sum xs h = h
 far_fold mode FoldOp.And xs h = h
 far_fold mode FoldOp.Or xs h = h

@@ -262,13 +262,3 @@ different_fails (x ∷ xs) ys h = by (has_number xs x) (has_number (xs ++ ys) x)
     by true b c d f g k = ap (λ x. not x && d) (f refl)
     by false true c d f g k = refl
     by false false c d f g k = g k
-
--- ---- indices
-
-counting_from : (a : ℤ) (n : ℕ) → counting a (suc n) ≡ counting a n ++ (a +ℤ pos n) ∷ []
-unfolding counting
-counting_from a zero = ap (λ x. x ∷ []) (omega (arith, ints))
-counting_from a (suc n) = ap (λ xs. a ∷ xs) (counting_from (a +ℤ pos 1) n ∙ ap (λ x. counting (a +ℤ pos 1) n ++ x ∷ []) (omega (arith, ints)))
-
-pub counting_more : (n : ℕ) → counting (pos 1) (n + 1) ≡ counting (pos 1) n ++ (pos (n + 1)) ∷ []
-counting_more n = rw (add-one n) (counting_from (pos 1) n ∙ ap (λ x. counting (pos 1) n ++ x ∷ []) (omega (arith, ints)))

@@ -11,13 +11,14 @@ use Rattle.std.proofs.lemmas.List.{length-append}
 use Rattle.std.proofs.lemmas.List.Elements.{All-cons}
 use Rattle.ep_base.proofs.Ascending.{ascending_lists_are_equal}
 use Rattle.ep_base.proofs.RunSteps.{in_numbers, numbers_ascend}
+use Rattle.ep_base.specs.Options.{map_both, on_both}
 use Rattle.ep_base.specs.Runs.{AreApart, IsAscending, IsIn, counting, numbers, numbers_in, or_zero}
 use Rattle.ep_base.specs.declared.places.Place.{Place}
 use Rattle.ep_base.specs.declared.run_lists.Run.{Run}
 use Rattle.ep_tree.proofs.EvaluationEquations.{evaluate-literal}
 use Rattle.ep_tree.proofs.ViewLemmas.{index_of}
 use Rattle.ep_tree.specs.Environments.{Env}
-use Rattle.ep_tree.specs.Evaluation.{domain_values, evaluate, index_values, map_both, matrix_value, on_both, values_of}
+use Rattle.ep_tree.specs.Evaluation.{domain_values, evaluate, index_values, matrix_value, values_of}
 use Rattle.ep_tree.specs.Limits.{MOST_SIZE, limits_of_values, numbers_at}
 use Rattle.ep_tree.specs.Measures.{met, met_all, met_domain, met_index}
 use Rattle.ep_tree.specs.Trees.{ExprTrees, IndexDomain, literal}

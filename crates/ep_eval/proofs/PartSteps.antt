@@ -2,8 +2,9 @@
 use Rattle.std.proofs.Common.{◌≡◌, ℕ, ◌≤◌, Bool, true, false, List, [], ◌∷◌, ◌++◌, ℤ, refl, sym, ap, subst, ◌∙◌}
 use Rattle.std.specs.Prelude.{Option, Some, None, map, option_map}
 use Rattle.ep_base.specs.Numbers.{all_one, any_one, is_one}
+use Rattle.ep_base.specs.Options.{map_both}
 use Rattle.ep_tree.specs.Environments.{Env}
-use Rattle.ep_tree.specs.Evaluation.{all_true, any_true, evaluate, map_both, number_in, truth_of, values_of}
+use Rattle.ep_tree.specs.Evaluation.{all_true, any_true, evaluate, number_in, truth_of, values_of}
 use Rattle.ep_tree.specs.Limits.{MOST_SIZE, limits_of_values}
 use Rattle.ep_tree.specs.Measures.{met, met_all}
 use Rattle.ep_tree.specs.Values.{ValueTree, all_defined}

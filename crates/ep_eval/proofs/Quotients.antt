@@ -5,8 +5,9 @@ use Rattle.std.specs.Int.{int_div_euclid, int_rem_euclid}
 use Rattle.std.proofs.lemmas.Int.{ints}
 use Rattle.std.proofs.Math.Nat.{div-add-mod, mod-lt}
 use Rattle.ep_base.specs.Numbers.{compare_holds, floor_over, is_one, of_bool, quotient, remainder}
+use Rattle.ep_base.specs.Options.{on_both}
 use Rattle.ep_base.specs.declared.operators.CompareOp.{CompareOp}
-use Rattle.ep_tree.specs.Evaluation.{binary_number, binary_value, joins_truths, number_value, on_both, truth_in}
+use Rattle.ep_tree.specs.Evaluation.{binary_number, binary_value, joins_truths, number_value, truth_in}
 use Rattle.ep_tree.specs.Values.{single}
 use Rattle.ep_tree.specs.declared.syntax.BinaryOp.{BinaryOp}
 use Rattle.ep_tree.specs.declared.values.Mode.{Mode}

@@ -13,7 +13,9 @@ use Rattle.std.proofs.Math.Bool.{or-false}
 use Rattle.std.specs.declared.vec.Vec.{Vec}
 use Rattle.std.specs.declared.alloc.Global.{Global}
 use Rattle.ep_base.proofs.Ascending.{ascending_cons, ascending_lists_are_equal}
+use Rattle.ep_base.proofs.Small.{some_is}
 use Rattle.ep_base.specs.Numbers.{has_number}
+use Rattle.ep_base.specs.Options.{map_both}
 use Rattle.ep_base.specs.Runs.{IsAscending, IsIn}
 use Rattle.ep_base.specs.declared.run_lists.Run.{Run}
 use Rattle.ep_tree.proofs.DomainLaws.{between-has, put_in-has, united-has}
@@ -22,7 +24,7 @@ use Rattle.ep_tree.specs.Domains.{between, put_in, united}
 use Rattle.ep_tree.specs.Environments.{Bound, Env, domain_bound, has_cells, has_domain, has_value}
 use Rattle.ep_tree.specs.declared.values.Scalar.{Scalar}
 use Rattle.ep_eval.specs.Bounds.{only_domain}
-use Rattle.ep_tree.specs.Evaluation.{end_value, evaluate, map_both, number_in, range_values}
+use Rattle.ep_tree.specs.Evaluation.{end_value, evaluate, number_in, range_values}
 use Rattle.ep_tree.specs.Limits.{MOST_SIZE, limits_of_values}
 use Rattle.ep_tree.specs.Measures.{met, met_end, met_ranges}
 use Rattle.ep_tree.specs.Trees.{no_ranges}
@@ -243,17 +245,14 @@ by_run n run h =
     let high : int_le n run.hi ≡ true = grind (arith, ints, h.1) in
     ap (λ b. b && int_le n run.hi) low ∙ high
 
-some_same : {A : Type 0} {x y : A} → Some x ≡ Some y → x ≡ y
-some_same e = cc
-
 members : (set ns : List ℤ) (parts : List Run) → ((n : ℤ) → Contains set n ↔ Any (IsIn n) parts)
     → ((n : ℤ) → Some (runs_have n parts) ≡ Some (has_number ns n)) → (v : ℤ) → Contains set v ↔ Contains ns v
 unfolding has_number
 members set ns parts same told v = (
   λ h. Contains-from_any (λ x y. (Decides-int_eq x y).0) v ns
-      (sym (some_same (told v)) ∙ list_any-from_Any (run_has v) parts (any_like (IsIn v) (λ r. run_has v r ≡ true) parts (by_run v) ((same v).0 h))),
+      (sym (some_is (told v)) ∙ list_any-from_Any (run_has v) parts (any_like (IsIn v) (λ r. run_has v r ≡ true) parts (by_run v) ((same v).0 h))),
   λ h. (same v).1 (any_like (λ r. run_has v r ≡ true) (IsIn v) parts (in_run v)
-      (Any-from_list_any (run_has v) parts (some_same (told v) ∙ list_any-from_Contains int_eq_equiv v ns h))),
+      (Any-from_list_any (run_has v) parts (some_is (told v) ∙ list_any-from_Contains int_eq_equiv v ns h))),
 )
 
 pub set_is : (set : List ℤ) (parts : List Run) → IsAscending set → ((n : ℤ) → Contains set n ↔ Any (IsIn n) parts)
@@ -284,7 +283,7 @@ pub truths_are : (set : List ℤ) (parts : List Run) → parts ≡ record { lo =
     → set ≡ pos 0 ∷ pos 1 ∷ []
 unfolding has_number
 truths_are set parts is ascends same =
-    some_same (set_is set parts ascends same (Some (pos 0 ∷ pos 1 ∷ [])) (λ ns e. subst IsAscending (some_same e) truths_ascend)
+    some_is (set_is set parts ascends same (Some (pos 0 ∷ pos 1 ∷ [])) (λ ns e. subst IsAscending (some_is e) truths_ascend)
     (λ n. ap (λ ps. Some (runs_have n ps)) is ∙ ap Some (truth_in_run n)))
 
 -- a name that stands for no domain has no numbers

@@ -8,6 +8,7 @@ use Rattle.std.proofs.lemmas.Int.{ints}
 use Rattle.std.proofs.lemmas.List.{take_all, take_more}
 use Rattle.std.proofs.lemmas.List.Folds.{list_any-append}
 use Rattle.std.proofs.Math.Bool.{or-false}
+use Rattle.ep_base.proofs.Small.{some_is}
 use Rattle.ep_base.specs.Numbers.{has_number}
 use Rattle.ep_base.specs.Runs.{IsAscending, IsIn, numbers, numbers_in}
 use Rattle.ep_base.specs.declared.run_lists.Run.{Run}
@@ -33,10 +34,6 @@ has_all n runs i h = ap (runs_have n) (take_all i runs h)
 pub or_none : (b : Bool) → b ≡ (b || false)
 or_none true = refl
 or_none false = refl
-
-pub and_none : (b : Bool) → (b && false) ≡ false
-and_none true = refl
-and_none false = refl
 
 -- a run without a number
 pub empty_has : (n lo hi : ℤ) (b : Bool) → int_le lo hi ≡ false → b ≡ (b || (int_le lo n && int_le n hi))
@@ -132,15 +129,12 @@ unfolding numbers has_number
 has_numbers n [] = refl
 has_numbers n (run ∷ runs) = ap₂ ◌||◌ (sym (run_numbers n run)) (has_numbers n runs) ∙ sym (has_append n (numbers_in run) (numbers runs))
 
-some_same : {A : Type 0} {x y : A} → Some x ≡ Some y → x ≡ y
-some_same e = cc
-
 -- the set of an operation's runs
 pub operation_is : (op : SetOp) (set xs ys : List ℤ) (one other parts : List Run) → IsAscending set → ((n : ℤ) → Contains set n ↔ Any (IsIn n) parts)
     → numbers one ≡ xs → numbers other ≡ ys → ((n : ℤ) → runs_have n parts ≡ set_has op (runs_have n one) (runs_have n other))
     → IsAscending (set_values op xs ys) → set ≡ set_values op xs ys
 operation_is op set xs ys one other parts ascends same first second told up =
-    some_same (set_is set parts ascends same (Some (set_values op xs ys)) (λ ns e. subst IsAscending (some_same e) up)
+    some_is (set_is set parts ascends same (Some (set_values op xs ys)) (λ ns e. subst IsAscending (some_is e) up)
     (λ n. ap Some (told n ∙ ap₂ (set_has op) (has_numbers n one ∙ ap (λ l. has_number l n) first) (has_numbers n other ∙ ap (λ l. has_number l n) second)
     ∙ sym (set_values-has op xs ys n))))
 

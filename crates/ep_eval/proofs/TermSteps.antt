@@ -4,8 +4,9 @@ use Rattle.std.specs.Prelude.{Option, Some, None, option_map, neg_ℤ}
 use Rattle.std.specs.Int.{w128}
 use Rattle.std.proofs.lemmas.Int.{ints}
 use Rattle.ep_base.specs.Numbers.{sum_of}
+use Rattle.ep_base.specs.Options.{map_both}
 use Rattle.ep_tree.specs.Environments.{Env}
-use Rattle.ep_tree.specs.Evaluation.{evaluate, map_both, number_in, signed, term_values}
+use Rattle.ep_tree.specs.Evaluation.{evaluate, number_in, signed, term_values}
 use Rattle.ep_tree.specs.Limits.{MOST_SIZE, limits_of_values}
 use Rattle.ep_tree.specs.Measures.{met, met_terms}
 use Rattle.ep_tree.specs.Values.{ValueTree, all_defined}

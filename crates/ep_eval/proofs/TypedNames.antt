@@ -1,16 +1,17 @@
 -- The names of quantifiers and generators where expressions are typed, and the types of the forms that have them.
 use Rattle.std.proofs.Common.{◌≡◌, ◌≢◌, ℕ, ◌+◌, ◌<◌, length, drop, get_or, Bool, true, false, ◌&&◌, if◌then◌else◌, List, [], ◌∷◌, ◌++◌, Option, Some, None, option_map, refl, sym, ap, subst, ◌∙◌}
+use Rattle.std.proofs.Math.Bool.{and-false}
 use Rattle.std.specs.Prelude.{bytes_eq, unwrap_or}
 use Rattle.std.specs.List.{list_all}
 use Rattle.std.specs.declared.alloc.Global.{Global}
 use Rattle.std.specs.declared.boxed.Box.{Box}
 use Rattle.std.specs.declared.vec.Vec.{Vec}
+use Rattle.ep_base.specs.Options.{map_both}
 use Rattle.ep_base.specs.declared.names.Name.{Name}
 use Rattle.ep_base.specs.declared.places.Place.{Place}
 use Rattle.ep_tree.proofs.ViewLemmas.{kind_tree-comprehension, kind_tree-quantified}
 use Rattle.ep_tree.proofs.TypeEquations.{judge-comprehension, judge-quantified}
 use Rattle.ep_tree.specs.Environments.{Bound, has_cells, has_domain, has_value, meaning_in}
-use Rattle.ep_tree.specs.Evaluation.{map_both}
 use Rattle.ep_tree.specs.Names.{put}
 use Rattle.ep_tree.specs.Trees.{DomainTree, ExprTree, ExprTrees, Generators, IndexDomain, comprehension, quantified}
 use Rattle.ep_tree.specs.Types as types
@@ -23,8 +24,9 @@ use Rattle.ep_tree.specs.declared.syntax.Kind.{Comprehension, Kind, Quant}
 use Rattle.ep_tree.specs.declared.syntax.QuantOp.{QuantOp}
 use Rattle.ep_tree.specs.declared.values.Scalar.{Scalar}
 use Rattle.ep_tree.specs.declared.values.ValueType.{ValueType}
+use Rattle.ep_types_rules.proofs.RuleSteps.{next_is}
 use Rattle.ep_eval.proofs.DomainTypes.{index_is, pass_append}
-use Rattle.ep_eval.proofs.JudgingForms.{first_all, given_by, next_is, typed_more}
+use Rattle.ep_eval.proofs.JudgingForms.{first_all, given_by, typed_more}
 use Rattle.ep_eval.specs.Bounds.{only_domain}
 use Rattle.ep_eval.specs.Judging.{all_pass, domain_type_at, list_of, name_scalar, passes, quantified_part, type_of_quantifier, type_at, type_if}
 use Rattle.ep_eval.specs.Literals.{index_at}
@@ -301,13 +303,9 @@ with_scalars : (is gs : List ValueType) → list_all (passes Wanted.Integer) gs 
 with_scalars [] gs e = e
 with_scalars (i ∷ is) gs e = ap (λ b. passes Wanted.Integer i && b) (with_scalars is gs e)
 
-never : (b : Bool) → (b && false) ≡ false
-never true = refl
-never false = refl
-
 without_scalars : (is gs : List ValueType) → list_all (passes Wanted.Integer) gs ≡ false → list_all (passes Wanted.Integer) (is ++ gs) ≡ false
 without_scalars [] gs e = e
-without_scalars (i ∷ is) gs e = ap (λ b. passes Wanted.Integer i && b) (without_scalars is gs e) ∙ never (passes Wanted.Integer i)
+without_scalars (i ∷ is) gs e = ap (λ b. passes Wanted.Integer i && b) (without_scalars is gs e) ∙ and-false (passes Wanted.Integer i)
 
 unlisted : (t : Option ValueType) → None ≡ listed t None
 unfolding list_of map_both

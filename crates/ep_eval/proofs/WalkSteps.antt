@@ -3,35 +3,13 @@ use Rattle.std.proofs.Common.{◌≡◌, ℕ, suc, ℤ, pos, negsuc, ◌+ℤ◌,
 use Rattle.std.proofs.lemmas.Int.{ints}
 use Rattle.ep_base.specs.Runs.{counting, numbers, numbers_in, or_zero}
 use Rattle.ep_base.specs.declared.run_lists.Run.{Run}
+use Rattle.ep_numbers.proofs.Counting.{counting_first, counting_step}
 use Rattle.ep_eval.specs.Walking.{left_in}
 
 -- a list without a part
 pub no_runs : {A : Type 0} (xs : List A) → length xs ≡ 0 → xs ≡ []
 no_runs [] h = refl
 no_runs (x ∷ xs) h = absurd (omega (arith, h))
-
-or_zero_is : (z : ℤ) (n : ℕ) → z ≡ pos n → or_zero z ≡ n
-or_zero_is (pos m) n e = ap or_zero e
-or_zero_is (negsuc m) n e = ap or_zero e
-
-one_more : (z : ℤ) → pos 0 ≤ℤ z → or_zero (z +ℤ pos 1) ≡ suc (or_zero z)
-one_more (pos n) h = or_zero_is (pos n +ℤ pos 1) (suc n) (omega (arith, ints))
-one_more (negsuc n) h = absurd (omega (arith, ints))
-
--- the numbers from one on that isn't the last
-pub counting_step : (lo hi : ℤ) → lo <ℤ hi → counting lo (or_zero ((hi +ℤ pos 1) -ℤ lo)) ≡ lo ∷ counting (lo +ℤ pos 1) (or_zero ((hi +ℤ pos 1) -ℤ (lo +ℤ pos 1)))
-unfolding counting
-counting_step lo hi lt =
-    let z : ℤ = (hi +ℤ pos 1) -ℤ (lo +ℤ pos 1) in
-    let e : ((hi +ℤ pos 1) -ℤ lo) ≡ z +ℤ pos 1 = omega (arith, ints) in
-    ap (λ w. counting lo (or_zero w)) e ∙ ap (counting lo) (one_more z (omega (arith, ints)))
-
--- the last number alone
-pub counting_last : (lo hi : ℤ) → lo ≤ℤ hi → hi ≤ℤ lo → counting lo (or_zero ((hi +ℤ pos 1) -ℤ lo)) ≡ lo ∷ []
-unfolding counting
-counting_last lo hi low high =
-    let e : ((hi +ℤ pos 1) -ℤ lo) ≡ pos 1 = omega (arith, ints) in
-    ap (λ w. counting lo (or_zero w)) e
 
 -- the numbers of a run that has more than one, and of those behind it
 pub run_step : (run : Run) (later : List Run) (lo hi : ℤ) → lo ≡ run.lo +ℤ pos 1 → hi ≡ run.hi → run.lo <ℤ run.hi
@@ -47,4 +25,4 @@ pub run_last : (run : Run) (later : List Run) (rest : List ℤ) → run.lo ≤�
     → left_in (Some run) later ≡ run.lo ∷ rest
 unfolding left_in numbers_in
 run_last run later rest low high is =
-    ap (λ l. l ++ numbers later) (counting_last run.lo run.hi low high) ∙ ap (λ l. run.lo ∷ l) (sym is)
+    ap (λ l. l ++ numbers later) (counting_first run.lo run.hi low high) ∙ ap (λ l. run.lo ∷ l) (sym is)

@@ -1,7 +1,8 @@
 -- What the instances of a quantifier give one after another.
 use Rattle.std.specs.Prelude.{ℕ, ◌+ℤ◌, pos, true, false, List, Option, Some, None, option_map}
 use Rattle.ep_base.specs.Numbers.{sum_of}
-use Rattle.ep_tree.specs.Evaluation.{all_numbers, map_both, number_value, truth_in}
+use Rattle.ep_base.specs.Options.{map_both}
+use Rattle.ep_tree.specs.Evaluation.{all_numbers, number_value, truth_in}
 use Rattle.ep_tree.specs.Values.{ValueTree}
 use Rattle.ep_tree.specs.declared.syntax.QuantOp.{QuantOp}
 use Rattle.ep_tree.specs.declared.values.Mode.{Mode}

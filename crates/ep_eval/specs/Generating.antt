@@ -1,8 +1,9 @@
 -- What the generators of a comprehension lead to, list of numbers by list of numbers.
 use Rattle.std.specs.Prelude.{◌++◌, Bool, true, false, List, [], ◌∷◌, ℕ, ℤ, length, Option, Some, None, option_map}
+use Rattle.ep_base.specs.Options.{map_both}
 use Rattle.ep_base.specs.declared.names.Name.{Name}
 use Rattle.ep_tree.specs.Environments.{Env, scalar_in, with_number}
-use Rattle.ep_tree.specs.Evaluation.{all_true, evaluate, map_both, numbered, over_names, values_of}
+use Rattle.ep_tree.specs.Evaluation.{all_true, evaluate, numbered, over_names, values_of}
 use Rattle.ep_tree.specs.Measures.{Met, a_generator, met, met_all, met_domain, met_names}
 use Rattle.ep_tree.specs.Trees.{ExprTree, ExprTrees, Generators, generator_and, no_generators}
 use Rattle.ep_tree.specs.Values.{ValueTree}

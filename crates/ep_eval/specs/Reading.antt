@@ -2,15 +2,6 @@
 use Rattle.std.specs.Prelude.{◌≡◌, ◌++◌, ◌∷◌, [], Bool, true, false, ℤ, List, Option, Some, None, map}
 use Rattle.ep_tree.specs.Values.{Index, ValueTree, any_index, at_index, matrix, part_at, single}
 
--- an index, or `..` where there is none
-unfoldable pub index_in : Option ℤ → Index
-index_in None = any_index
-index_in (Some i) = at_index i
-
--- the indices of a read
-abbrev pub indices_in : List (Option ℤ) → List Index
-indices_in indices = map index_in indices
-
 -- the part of a value with an index, where it has one
 unfoldable pub part_under : ValueTree → ℤ → Option ValueTree
 part_under (single x) i = None

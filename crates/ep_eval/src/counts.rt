@@ -3,7 +3,8 @@
 ghost use Rattle.std.specs.Prelude.{◌≡◌, ◌||◌, map, option_map};
 ghost use Rattle.ep_base.specs.Numbers as numbers;
 ghost use Rattle.ep_base.specs.Numbers.{is_row_of, times_in};
-ghost use Rattle.ep_tree.specs.Evaluation.{on_both, on_three, rows_in, scalars_in, truth_in};
+ghost use Rattle.ep_base.specs.Options.{on_both, on_three};
+ghost use Rattle.ep_tree.specs.Evaluation.{rows_in, scalars_in, truth_in};
 ghost use Rattle.ep_eval.specs.Counting.{Gives};
 ghost use Rattle.ep_eval.specs.Helds.{seen_held};
 

@@ -1,11 +1,11 @@
 //! The numbers of domains.
 
 ghost use Rattle.std.specs.Prelude.{◌≡◌, ◌++◌, ◌∷◌, [], ℤ, List, Option, Some, None, IfOk, if◌then◌else◌, option_map};
+ghost use Rattle.ep_base.specs.Options.{map_both};
 ghost use Rattle.ep_base.specs.Runs.{IsAscending};
 ghost use Rattle.ep_tree.specs.Domains.{truth_values};
 ghost use Rattle.ep_tree.specs.Environments as names;
 ghost use Rattle.ep_tree.specs.Environments.{domain_bound};
-ghost use Rattle.ep_tree.specs.Evaluation.{map_both};
 ghost use Rattle.ep_eval.specs.Bounds.{domain_of, only_domain};
 ghost use Rattle.ep_eval.specs.Known.{HasAscendingDomains};
 ghost use Rattle.ep_eval.specs.Ranges.{has_in, runs_have};
@@ -17,7 +17,7 @@ use ep_base::{Memory, Name, Run, Runs};
 use std::alloc::{AllocError, Global};
 
 /// The run between two ends, where both are there.
-#[tactic(auto, unfolding(ep_tree::specs::Evaluation::map_both))]
+#[tactic(auto, unfolding(ep_base::specs::Options::map_both))]
 pub fn run_between(low: Option<i64>, high: Option<i64>) -> Option<Run>
     ensures { result ≡ map_both (λ lo hi. record { lo = lo; hi = hi }) low high }
 {
@@ -31,7 +31,7 @@ pub fn run_between(low: Option<i64>, high: Option<i64>) -> Option<Run>
 }
 
 /// Runs and one more, where they are there.
-#[tactic(auto, unfolding(ep_tree::specs::Evaluation::map_both))]
+#[tactic(auto, unfolding(ep_base::specs::Options::map_both))]
 pub fn with_run(runs: Option<Vec<Run>>, run: Option<Run>) -> Result<Option<Vec<Run>>, AllocError>
     ensures { IfOk result (λ more. option_map (λ v. v.items) more
         ≡ map_both (λ all one. all ++ one ∷ []) (option_map (λ v. v.items) runs) run) }

@@ -24,7 +24,6 @@ use super::scopes::{Around, Scope};
 use super::within::Within;
 use ep_base::{Limit, Memory, Runs};
 use ep_tree::{Domain, Expr, Scalar, Value, ValueType};
-use ep_types_rules::scalar_of;
 use std::alloc::Global;
 
 /// What evaluating an expression shows.
@@ -161,7 +160,7 @@ fn scalar_or_int(ty: Option<ValueType>) -> Scalar
     ensures { result ≡ unwrap_or (option_map types.scalar_of ty) EachScalar.Int }
 {
     match ty {
-        Some(own) => scalar_of(own),
+        Some(own) => own.scalar(),
         None => Scalar::Int,
     }
 }

@@ -2,7 +2,8 @@
 
 ghost use Rattle.std.specs.Prelude.{◌≡◌, Some, not, option_map};
 ghost use Rattle.ep_base.specs.Numbers.{compare_holds};
-ghost use Rattle.ep_tree.specs.Evaluation.{map_both, number_in, truth_in, truth_of};
+ghost use Rattle.ep_base.specs.Options.{map_both};
+ghost use Rattle.ep_tree.specs.Evaluation.{number_in, truth_in, truth_of};
 ghost use Rattle.ep_eval.specs.Counting as both;
 ghost use Rattle.ep_eval.specs.Helds.{seen_held};
 
@@ -68,7 +69,7 @@ pub fn comparison<'a>(
 }
 
 /// Two truths together, where both are there.
-#[tactic(auto, unfolding(crate::specs::Counting::together, ep_tree::specs::Evaluation::map_both))]
+#[tactic(auto, unfolding(crate::specs::Counting::together, ep_base::specs::Options::map_both))]
 pub fn together(every: bool, one: Option<bool>, other: Option<bool>) -> Option<bool>
     ensures { result ≡ map_both (both.together every) one other }
 {

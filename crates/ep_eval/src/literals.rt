@@ -1,8 +1,8 @@
 //! Matrices that are made of their parts, and the indices of these.
 
 ghost use Rattle.std.specs.Prelude.{◌≡◌, ◌==◌, ◌++◌, ◌∷◌, [], pos, Some, None, IfOk, if◌then◌else◌, length, map, option_map};
+ghost use Rattle.ep_base.specs.Options.{map_both, on_both};
 ghost use Rattle.ep_base.specs.Runs.{counting};
-ghost use Rattle.ep_tree.specs.Evaluation.{map_both, on_both};
 ghost use Rattle.ep_tree.specs.Values.{with_indices};
 ghost use Rattle.ep_tree.specs.Views.{value_tree};
 ghost use Rattle.ep_eval.specs.Helds.{seen_held};
@@ -81,7 +81,7 @@ fn matrix_of<'a>(alloc: Global, set: &Runs, parts: Vec<Value>) -> Result<Option<
 }
 
 /// A matrix of some parts, where they and the set of their indices are there.
-#[tactic(auto, unfolding(ep_tree::specs::Evaluation::on_both))]
+#[tactic(auto, unfolding(ep_base::specs::Options::on_both))]
 pub fn made_matrix<'a>(
     alloc: Global,
     set: Option<Runs>,

@@ -4,7 +4,8 @@ ghost use Rattle.std.specs.Prelude.{◌≡◌, IfOk, option_map};
 ghost use Rattle.std.specs.Ordering.{int_eq};
 ghost use Rattle.ep_base.specs.Numbers as numbers;
 ghost use Rattle.ep_base.specs.Numbers.{are_different, lex_holds, lex_less};
-ghost use Rattle.ep_tree.specs.Evaluation.{map_both, number_in, scalars_in, truth_in};
+ghost use Rattle.ep_base.specs.Options.{map_both};
+ghost use Rattle.ep_tree.specs.Evaluation.{number_in, scalars_in, truth_in};
 ghost use Rattle.ep_eval.specs.Counting.{Gives};
 ghost use Rattle.ep_eval.specs.Helds.{seen_held};
 

@@ -1,11 +1,11 @@
 //! Reads of matrices by indices. What is lent is lent on, where no `..` makes something new.
 
 ghost use Rattle.std.specs.Prelude.{◌≡◌, ◌∷◌, Some, true, IfOk, map, option_and_then, option_map};
-ghost use Rattle.ep_tree.specs.Evaluation.{on_both};
-ghost use Rattle.ep_tree.specs.Values.{all_defined, any_index, part_at, read_value};
+ghost use Rattle.ep_base.specs.Options.{on_both};
+ghost use Rattle.ep_tree.specs.Values.{all_defined, any_index, indices_in, part_at, read_value};
 ghost use Rattle.ep_tree.specs.Views.{value_tree, values_from};
 ghost use Rattle.ep_eval.specs.Helds.{held_value, seen_held};
-ghost use Rattle.ep_eval.specs.Reading.{IsStatedFirst, indices_in, part_under, with_index};
+ghost use Rattle.ep_eval.specs.Reading.{IsStatedFirst, part_under, with_index};
 
 use super::copies::copy_value;
 use super::forms::holds;

@@ -1,7 +1,7 @@
 //! The types of forms by those of their parts.
 
-ghost use Rattle.std.specs.Prelude.{◌≡◌, ℕ, Bool, suc, Some, ◌++◌, ◌+◌, ◌-◌, ◌&&◌, ◌∷◌, [], ◌≤◌, IfOk, length, option_map};
-ghost use Rattle.ep_tree.specs.Evaluation.{map_both};
+ghost use Rattle.std.specs.Prelude.{◌≡◌, ℕ, Bool, suc, Some, ◌++◌, ◌+◌, ◌-◌, ◌&&◌, ◌∷◌, [], IfOk, length, option_map};
+ghost use Rattle.ep_base.specs.Options.{map_both};
 ghost use Rattle.ep_tree.specs.Types as types;
 ghost use Rattle.ep_tree.specs.Types.{slice_count, type_from};
 ghost use Rattle.ep_tree.specs.Views.{indices_of};
@@ -13,8 +13,8 @@ use ep_base::Memory;
 use ep_tree::{BinaryOp, Expr, FoldOp, QuantOp, Scalar, ValueType};
 use ep_types_rules::{
     all_boolean, all_have_dimensions, all_integer, all_matrix, all_matrix_of_bool, bool_if,
-    both_scalars, has_dimensions, is_boolean, is_integer, is_matrix, is_matrix_of_bool, left_type,
-    of_scalar, scalar_of, stated_dimensions,
+    both_scalars, count_slices, has_dimensions, is_boolean, is_integer, is_matrix,
+    is_matrix_of_bool, left_type, of_scalar, stated_dimensions,
 };
 use std::alloc::AllocError;
 
@@ -61,7 +61,7 @@ pub fn passing(wanted: Wanted, ty: Option<ValueType>) -> Option<bool>
 }
 
 /// Whether two conditions hold, where both are told.
-#[tactic(auto, unfolding(ep_tree::specs::Evaluation::map_both))]
+#[tactic(auto, unfolding(ep_base::specs::Options::map_both))]
 pub fn both(one: Option<bool>, other: Option<bool>) -> Option<bool>
     ensures { result ≡ map_both (λ a b. a && b) one other }
 {
@@ -86,31 +86,6 @@ pub fn type_if(ty: ValueType, holds: Option<bool>) -> Option<ValueType>
         return Some(ty);
     }
     None
-}
-
-/// One for `..`, and else nothing.
-#[tactic(auto, unfolding(ep_tree::specs::Types::slice_count, ep_tree::specs::Views::indices_of))]
-fn count_one(index: &Option<Expr>) -> u64
-    ensures count { result ≡ slice_count (indices_of (index.now ∷ [])) }
-    ensures within { result ≤ 1 }
-{
-    match index {
-        None => 1,
-        Some(_) => 0,
-    }
-}
-
-/// How many indices of a read are `..`.
-fn count_slices(indices: &[Option<Expr>]) -> u64
-    ensures count { result ≡ slice_count (indices_of indices.now) }
-    ensures within { result ≤ length indices.now }
-{
-    let mut count = 0;
-    for index in indices {
-        let one = count_one(index);
-        count += one;
-    }
-    count
 }
 
 /// The type of a read of a matrix of so many dimensions.
@@ -226,7 +201,7 @@ pub fn flattened(ty: Option<ValueType>) -> Option<ValueType>
     };
     let list = ValueType::Matrix {
         dims: 1,
-        of: scalar_of(whole),
+        of: whole.scalar(),
     };
     type_if(list, Some(is_matrix(whole)))
 }
@@ -242,7 +217,7 @@ pub fn set_of_both(one: Option<ValueType>, other: Option<ValueType>) -> Option<V
     let Some(second) = other else {
         return None;
     };
-    let of = both_scalars(scalar_of(first), scalar_of(second));
+    let of = both_scalars(first.scalar(), second.scalar());
     type_if(of_scalar(of), Some(is_integer(first) && is_integer(second)))
 }
 
@@ -347,7 +322,7 @@ pub fn list_of(
 }
 
 /// Types and one more, where all are there.
-#[tactic(auto, unfolding(ep_tree::specs::Evaluation::map_both))]
+#[tactic(auto, unfolding(ep_base::specs::Options::map_both))]
 pub fn with_type(
     types: Option<Vec<ValueType>>,
     ty: Option<ValueType>,

@@ -1,9 +1,9 @@
 //! Operations on sets of numbers, by their runs.
 
 ghost use Rattle.std.specs.Prelude.{◌≡◌, ◌&&◌, ◌||◌, not, int_lt, ℤ, List, Some, IfOk, OnOk};
+ghost use Rattle.ep_base.specs.Options.{map_both};
 ghost use Rattle.ep_base.specs.Runs.{IsAscending};
 ghost use Rattle.ep_tree.specs.Domains.{set_has, set_values};
-ghost use Rattle.ep_tree.specs.Evaluation.{map_both};
 ghost use Rattle.ep_eval.specs.Ranges.{run_has, runs_have};
 
 use ep_base::{Memory, Run, Runs};
@@ -156,7 +156,7 @@ fn operation(alloc: Global, op: SetOp, one: &Runs, other: &Runs) -> Result<Runs,
 
 /// The numbers of an operation on two sets, where both are there. Intersection and difference take time in the product
 /// of the two numbers of runs.
-#[tactic(auto, unfolding(ep_tree::specs::Evaluation::map_both))]
+#[tactic(auto, unfolding(ep_base::specs::Options::map_both))]
 pub fn set_operation(
     alloc: Global,
     op: SetOp,

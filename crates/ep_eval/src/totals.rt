@@ -1,7 +1,8 @@
 //! Totals of terms.
 
 ghost use Rattle.std.specs.Prelude.{◌≡◌, ◌+◌, ◌+ℤ◌, ℕ, option_map};
-ghost use Rattle.ep_tree.specs.Evaluation.{map_both, signed};
+ghost use Rattle.ep_base.specs.Options.{map_both};
+ghost use Rattle.ep_tree.specs.Evaluation.{signed};
 ghost use Rattle.ep_eval.specs.Counting.{IsWithin};
 
 /// A total and a term more, which is added or subtracted, where both are there.

@@ -38,6 +38,11 @@ pub record MapsCells (values : List (List ℤ)) (vars : List (List ℤ)) (m : Ma
   pub cells : StandForCells values vars m.cells
   pub objective : MatchOption m.objective (Unit {0}) (λ goal. goal.1 < length vars)
 
+-- A map names variables for cells with these values, and one for the objective, which is driven this way, where there is one.
+pub record IsMapOf (values : List (List ℤ)) (sense : Option Sense) (vars : List (List ℤ)) (m : MapState) : Type 0 where
+  pub maps : MapsCells values vars m
+  pub senses : option_map (λ goal. goal.0) m.objective ≡ sense
+
 -- each variable that a constraint names is one of so many
 abbrev pub NamesBelow : ℕ → FlatCon → Type 0
 NamesBelow vars con = All (λ x. x < vars) (con_variables con)

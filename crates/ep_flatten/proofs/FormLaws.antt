@@ -6,6 +6,7 @@ use Rattle.std.specs.List.{All, Contains}
 use Rattle.std.proofs.lemmas.List.{get_or_append_left, get_or_at, length-map, length_push}
 use Rattle.std.proofs.lemmas.List.Elements.{All-cons, All-contains, All-nil}
 use Rattle.std.proofs.lemmas.Option.{get_or_from_slice_get}
+use Rattle.ep_base.proofs.Small.{no_some, some_is}
 use Rattle.ep_base.specs.Numbers.{compare_holds, sum_of}
 use Rattle.ep_base.specs.Reads.{IsWithinNumbers, weighted_sum}
 use Rattle.ep_base.specs.declared.operators.CompareOp.{CompareOp}
@@ -16,14 +17,14 @@ use Rattle.ep_flatten.specs.declared.forms.Form.{Form}
 use Rattle.ep_flatten.specs.Sums.{Gathers, SumState, parts_total, terms_in}
 use Rattle.ep_flatten.proofs.SumLaws.{all_from, sum_numbers, weighed_numbers}
 use Rattle.ep_base.specs.Intervals.{Interval, LiesIn}
+use Rattle.ep_base.specs.Options.{on_both}
 use Rattle.ep_flatten.specs.Building.{form_reach}
 use Rattle.ep_flatten.proofs.Reaches.{Lie, node_lies, truth_lies}
 use Rattle.ep_flatten.proofs.Unrolled.{node_same, unrolled, weighed_same}
 use Rattle.ep_ground.specs.Grounds.{AreCellValues, LeadsTo, by_part, itself}
 use Rattle.ep_ground.specs.declared.cells.Cell.{Cell}
 use Rattle.ep_ground.specs.Nodes.{GroundNode, constant, sum, product, compare, coefficients_of, parts_of, undefined}
-use Rattle.ep_ground.specs.Terms.{node_value, on_both, term_value, truth, weighed}
-use Rattle.ep_tree.proofs.TypedParts.{no_some, some_is}
+use Rattle.ep_ground.specs.Terms.{node_value, term_value, truth, weighed}
 
 -- ---- terms by their nodes
 
@@ -100,7 +101,7 @@ one_weighed : (value : ℕ → Option ℤ) (k : ℤ) (t : ℕ) (ps : List (ℤ �
 unfolding weighed on_both
 one_weighed value k t ps e = by (value t) refl e
   where
-    by : (o : Option ℤ) → value t ≡ o → on_both {A = ℤ} {B = List (ℤ × ℤ)} (λ x rest. Some ((k, x) ∷ rest)) o (Some []) ≡ Some ps → (x : ℤ) × (value t ≡ Some x) × (ps ≡ (k, x) ∷ [])
+    by : (o : Option ℤ) → value t ≡ o → on_both {A = ℤ} {B = List (ℤ × ℤ)} o (Some []) (λ x rest. Some ((k, x) ∷ rest)) ≡ Some ps → (x : ℤ) × (value t ≡ Some x) × (ps ≡ (k, x) ∷ [])
     by None f g = no_some g
     by (Some x) f g = (x, f, sym (some_is g))
 
@@ -140,8 +141,8 @@ form_left nodes t a b k s number small g h = record {
       let all = g.value cells numbers have in
       let one = one_weighed (term_value nodes cells) k b all.0 all.1 in
       value_of nodes t (product a b) h cells
-      ∙ ap (λ o. on_both {C = ℤ} (λ x y. Some (x *ℤ y)) o (term_value nodes cells b)) (number.value cells)
-      ∙ ap (λ o. on_both {C = ℤ} (λ x y. Some (x *ℤ y)) (Some k) o) one.1
+      ∙ ap (λ o. on_both {C = ℤ} o (term_value nodes cells b) (λ x y. Some (x *ℤ y))) (number.value cells)
+      ∙ ap (λ o. on_both {C = ℤ} (Some k) o (λ x y. Some (x *ℤ y))) one.1
       ∙ ap (λ x. Some x) (sym (all.2 ∙ one_sum k one.0 all.0 one.2))
       ∙ sym (sum_numbers cells numbers (product a b) s.number s.parts);
   before = came_before nodes t (product a b) (pos 0) ((k, b) ∷ []) s h (first_part a b) g;
@@ -156,8 +157,8 @@ form_right nodes t a b k s number small g h = record {
       let all = g.value cells numbers have in
       let one = one_weighed (term_value nodes cells) k a all.0 all.1 in
       value_of nodes t (product a b) h cells
-      ∙ ap (λ o. on_both {C = ℤ} (λ x y. Some (x *ℤ y)) o (term_value nodes cells b)) one.1
-      ∙ ap (λ o. on_both {C = ℤ} (λ x y. Some (x *ℤ y)) (Some one.0) o) (number.value cells)
+      ∙ ap (λ o. on_both {C = ℤ} o (term_value nodes cells b) (λ x y. Some (x *ℤ y))) one.1
+      ∙ ap (λ o. on_both {C = ℤ} (Some one.0) o (λ x y. Some (x *ℤ y))) (number.value cells)
       ∙ ap (λ x. Some x) (times_swapped one.0 k ∙ sym (all.2 ∙ one_sum k one.0 all.0 one.2))
       ∙ sym (sum_numbers cells numbers (product a b) s.number s.parts);
   before = came_before nodes t (product a b) (pos 0) ((k, a) ∷ []) s h (second_part a b) g;
@@ -182,7 +183,7 @@ two_weighed : (value : ℕ → Option ℤ) (k m : ℤ) (t u : ℕ) (ps : List (�
 unfolding weighed on_both
 two_weighed value k m t u ps e = by (value t) (value u) refl refl e
   where
-    by : (o p : Option ℤ) → value t ≡ o → value u ≡ p → on_both {A = ℤ} {B = List (ℤ × ℤ)} (λ x rest. Some ((k, x) ∷ rest)) o (on_both {A = ℤ} {B = List (ℤ × ℤ)} (λ x rest. Some ((m, x) ∷ rest)) p (Some [])) ≡ Some ps
+    by : (o p : Option ℤ) → value t ≡ o → value u ≡ p → on_both {A = ℤ} {B = List (ℤ × ℤ)} o (on_both {A = ℤ} {B = List (ℤ × ℤ)} p (Some []) (λ x rest. Some ((m, x) ∷ rest))) (λ x rest. Some ((k, x) ∷ rest)) ≡ Some ps
         → (x : ℤ) × (y : ℤ) × (value t ≡ Some x) × (value u ≡ Some y) × (ps ≡ (k, x) ∷ (m, y) ∷ [])
     by None p f g h = no_some h
     by (Some x) None f g h = no_some h
@@ -219,8 +220,8 @@ form_compare nodes t op a b s r e g h = record {
       let x = both.0 in
       let y = both.1 in
       value_of nodes t (compare op a b) h cells
-      ∙ ap (λ o. truth (on_both {B = ℤ} (λ x y. Some (compare_holds op x y)) o (term_value nodes cells b))) both.2
-      ∙ ap (λ o. truth (on_both {A = ℤ} (λ x y. Some (compare_holds op x y)) (Some x) o)) both.3
+      ∙ ap (λ o. truth (on_both {B = ℤ} o (term_value nodes cells b) (λ x y. Some (compare_holds op x y)))) both.2
+      ∙ ap (λ o. truth (on_both {A = ℤ} (Some x) o (λ x y. Some (compare_holds op x y)))) both.3
       ∙ ap (λ c. truth (Some c)) (sym (compared_is op x y (parts_total numbers s.parts) r (difference_is x y s.number (parts_total numbers s.parts) r all.0 both.4 all.2 e)))
       ∙ ap (λ o. truth (option_map (λ ps. compare_holds op (weighted_sum ps) r) o)) (sym (weighed_numbers numbers s.parts));
   before = came_before nodes t (compare op a b) (pos 0) ((pos 1, a) ∷ (negsuc 0, b) ∷ []) s h (λ u found. found) g;

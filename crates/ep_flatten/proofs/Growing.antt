@@ -9,6 +9,7 @@ use Rattle.std.proofs.lemmas.Bool.Decides.{Decides-int_eq}
 use Rattle.std.proofs.lemmas.List.{get_or_append_left, get_or_at, length-append, length_push}
 use Rattle.std.proofs.lemmas.List.Elements.{All-append, All-nil, All-cons, All-head, All-push, All-weaker, Contains-get_or}
 use Rattle.std.proofs.lemmas.Option.{get_or_from_slice_get}
+use Rattle.ep_base.proofs.Small.{no_some, some_is}
 use Rattle.ep_base.specs.Intervals.{Interval, LiesIn, only}
 use Rattle.ep_base.specs.Reads.{IsWithinNumbers}
 use Rattle.ep_flat.specs.Cons.{FlatCon, con_holds, number_at, numbers_of_vars}
@@ -25,7 +26,6 @@ use Rattle.ep_flatten.specs.Building.{Built, Covers, CoversForm, Extends, HasAll
 use Rattle.ep_flatten.proofs.Frames.{at_end, cons_back, cons_stay, domains_more, domains_split, earlier, names_more, numbers_agree}
 use Rattle.ep_flatten.proofs.Reaches.{Lie, node_lies, term_lies}
 use Rattle.ep_flatten.proofs.Unrolled.{all_left, all_right, unrolled}
-use Rattle.ep_tree.proofs.TypedParts.{no_some, some_is}
 
 -- ---- lists
 

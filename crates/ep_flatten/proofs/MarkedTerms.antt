@@ -5,6 +5,7 @@ use Rattle.std.specs.List.{All, Contains}
 use Rattle.std.proofs.lemmas.Bool.{false≢true}
 use Rattle.std.proofs.lemmas.List.{get_or-set_same, length-set, length-replicate, map_more, take_more}
 use Rattle.std.proofs.lemmas.List.Elements.{All-cons, All-contains, All-head, All-nil, All-tail, All-weaker, Contains-append_left, Contains-append_right}
+use Rattle.ep_base.proofs.Small.{no_some, some_is}
 use Rattle.ep_ground.specs.Grounds.{GroundState, IsTermReached, IsWellFormed, LeadsTo, itself, by_part, named_terms}
 use Rattle.ep_ground.specs.Nodes.{GroundNode, parts_of}
 use Rattle.ep_flatten.specs.Building.{AreMarks, IsForced, IsMarked, goal_terms}
@@ -15,7 +16,6 @@ use Rattle.ep_flatten.specs.Tops.{asserts_of, needs_of}
 use Rattle.ep_flatten.proofs.Truths.{asserts_in, forced_part, needs_before, needs_in}
 use Rattle.ep_flatten.proofs.Unrolled.{all_left, all_right}
 use Rattle.ep_ground.specs.Terms.{term_value}
-use Rattle.ep_tree.proofs.TypedParts.{no_some, some_is}
 
 kept_by_one : (ms : List Bool) (t u : ℕ) → IsMarked ms t → IsMarked (slice_set ms u true) t
 kept_by_one [] t u e = e

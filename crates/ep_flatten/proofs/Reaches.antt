@@ -5,19 +5,20 @@ use Rattle.std.proofs.lemmas.Int.{ints}
 use Rattle.std.specs.Int.{int_max, int_min}
 use Rattle.std.proofs.lemmas.List.{length-append}
 use Rattle.std.proofs.lemmas.Option.{slice_get-get_or}
+use Rattle.ep_base.proofs.Small.{no_some, some_is}
 use Rattle.ep_base.specs.Intervals.{Interval, LiesIn, absolute_interval, farthest_end, from_to, greatest_or_zero, highs, hull, least_or_zero, lows, nth_power_interval, only, power_interval, product_interval, quotient_interval, remainder_interval, spanned, sum_interval, truth_interval}
 use Rattle.ep_base.specs.Numbers as numbers
 use Rattle.ep_base.specs.Numbers.{absolute_of, greatest_of, least_of, nth_power, of_bool, sum_of}
+use Rattle.ep_base.specs.Options.{on_both}
 use Rattle.ep_base.specs.Reads as reads
 use Rattle.ep_base.specs.Reads.{all_there, first_or_zero, picked, safe_picked, weighted_sum}
 use Rattle.ep_ground.specs.Nodes.{GroundNode, constant, undefined, cell, sum, product, quotient, remainder, power, absolute, least, greatest, pick, whole, safe_quotient, safe_remainder, safe_pick, compare, lex, member, negation, all_of, any_of, same_truth, all_different, counts, at_least, at_most, table}
-use Rattle.ep_ground.specs.Terms.{node_value, on_both, term_value, truth, value_at, values_from, term_values_of, weighed}
+use Rattle.ep_ground.specs.Terms.{node_value, term_value, truth, value_at, values_from, term_values_of, weighed}
 use Rattle.ep_ground.specs.Bounds.{node_reach, reach_at, scaled, term_reach}
 use Rattle.ep_ground.specs.Grounds.{AreCellValues}
 use Rattle.ep_ground.specs.declared.cells.Cell.{Cell}
 use Rattle.ep_tree_laws.specs.Intervals.{LieInEach}
 use Rattle.ep_tree_laws.proofs.Intervals.{absolute_lies, greatest_lies, least_lies, power_lies, product_lies, quotient_lies, remainder_lies, sum_lies}
-use Rattle.ep_tree.proofs.TypedParts.{no_some, some_is}
 
 -- each value that is there lies in its interval
 
@@ -120,7 +121,7 @@ safe_picked_lies ns is h keys at = by (picked ns keys at) refl
     by (Some n) e = picked_lies ns is h keys at n e
 
 -- a value of two parts
-both_given : {A B : Type 0} (f : A → B → Option ℤ) (x : Option A) (y : Option B) (n : ℤ) → on_both f x y ≡ Some n → (a : A) × (b : B) × (x ≡ Some a) × (y ≡ Some b) × (f a b ≡ Some n)
+both_given : {A B : Type 0} (f : A → B → Option ℤ) (x : Option A) (y : Option B) (n : ℤ) → on_both x y f ≡ Some n → (a : A) × (b : B) × (x ≡ Some a) × (y ≡ Some b) × (f a b ≡ Some n)
 unfolding on_both
 both_given f None y n e = no_some e
 both_given f (Some a) None n e = no_some e

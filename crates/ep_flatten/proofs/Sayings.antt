@@ -8,6 +8,7 @@ use Rattle.std.specs.Ordering.{int_eq}
 use Rattle.std.proofs.lemmas.List.Elements.{All-head, All-tail, All-append, All-nil, All-cons, All-map}
 use Rattle.ep_base.specs.Intervals.{greatest_or_zero, least_or_zero}
 use Rattle.ep_base.specs.Numbers.{absolute_of, all_one, any_one, are_different, compare_holds, counts_hold, greatest_of, has_number, is_one, is_row_of, least_of, lex_holds, nth_power, of_bool, sum_of}
+use Rattle.ep_base.specs.Options.{on_both}
 use Rattle.ep_base.specs.Reads as reads
 use Rattle.ep_base.specs.Reads.{IsWithinNumbers, all_there, safe_picked, same_bool, weighted_sum}
 use Rattle.ep_base.specs.declared.operators.CompareOp.{CompareOp}
@@ -16,7 +17,7 @@ use Rattle.ep_base.specs.declared.operators.LexOp.{LexOp}
 use Rattle.ep_flat.specs.Cons as flat
 use Rattle.ep_flat.specs.Cons.{FlatCon, FlatKind, con_holds, con_variables, is_as_said, is_value, kind_coefficients, kind_holds, kind_variables, number_at, numbers_of_vars}
 use Rattle.ep_ground.specs.Nodes.{GroundNode, sum, product, power, absolute, least, greatest, safe_quotient, safe_remainder, safe_pick, compare, lex, member, negation, all_of, any_of, same_truth, all_different, counts, at_least, at_most, table, coefficients_of, parts_of}
-use Rattle.ep_ground.specs.Terms.{node_value, on_both, truth, term_values_of, weighed}
+use Rattle.ep_ground.specs.Terms.{node_value, truth, term_values_of, weighed}
 use Rattle.ep_flatten.proofs.SumLaws.{other_negated}
 use Rattle.ep_flatten.specs.Forms.{TermForm, own, summed, compared, form_coefficients, form_parts, form_value}
 use Rattle.ep_flatten.specs.Saying.{SaysOfNode, SaysForm, variable_at, value_under}
@@ -147,8 +148,8 @@ says_pick places ts keys indices r =
     made places (safe_pick ts keys indices) r (plain (flat.element r (map (variable_at places) ts) keys (map (variable_at places) indices)))
     (λ values. safe_picked (numbers_of_vars values (map (variable_at places) ts)) keys (numbers_of_vars values (map (variable_at places) indices)))
     (λ cells values.
-    ap (λ o. on_both {C = ℤ} (λ xs is. Some (safe_picked xs keys is)) o (term_values_of (value_under values places) indices)) (values_there values places ts)
-    ∙ ap (λ o. on_both {C = ℤ} (λ xs is. Some (safe_picked xs keys is)) (Some (numbers_of_vars values (map (variable_at places) ts))) o) (values_there values places indices))
+    ap (λ o. on_both {C = ℤ} o (term_values_of (value_under values places) indices) (λ xs is. Some (safe_picked xs keys is))) (values_there values places ts)
+    ∙ ap (λ o. on_both {C = ℤ} (Some (numbers_of_vars values (map (variable_at places) ts))) o (λ xs is. Some (safe_picked xs keys is))) (values_there values places indices))
     (λ values. refl)
     (ap (λ xs. r ∷ xs) (sym (map-append (variable_at places) ts indices))) refl
 
@@ -185,8 +186,8 @@ unfolding node_value on_both kind_holds kind_variables kind_coefficients parts_o
 says_lex places op ts us =
     said places (lex op ts us) (flat.lex op (map (variable_at places) ts) (map (variable_at places) us))
     (λ cells values.
-    ap (λ o. truth (on_both (λ xs ys. Some (lex_holds op xs ys)) o (term_values_of (value_under values places) us))) (values_there values places ts)
-    ∙ ap (λ o. truth (on_both (λ xs ys. Some (lex_holds op xs ys)) (Some (numbers_of_vars values (map (variable_at places) ts))) o)) (values_there values places us)
+    ap (λ o. truth (on_both o (term_values_of (value_under values places) us) (λ xs ys. Some (lex_holds op xs ys)))) (values_there values places ts)
+    ∙ ap (λ o. truth (on_both (Some (numbers_of_vars values (map (variable_at places) ts))) o (λ xs ys. Some (lex_holds op xs ys)))) (values_there values places us)
     ∙ truth_or (Some (lex_holds op (numbers_of_vars values (map (variable_at places) ts)) (numbers_of_vars values (map (variable_at places) us)))))
     (sym (map-append (variable_at places) ts us)) refl
 
@@ -267,8 +268,8 @@ unfolding node_value on_both kind_holds kind_variables kind_coefficients parts_o
 says_counts places ts ns us =
     said places (counts ts ns us) (flat.counts (map (variable_at places) ts) ns (map (variable_at places) us))
     (λ cells values.
-    ap (λ o. truth (on_both (λ xs cs. counts_hold CompareOp.Equal xs ns cs) o (term_values_of (value_under values places) us))) (values_there values places ts)
-    ∙ ap (λ o. truth (on_both (λ xs cs. counts_hold CompareOp.Equal xs ns cs) (Some (numbers_of_vars values (map (variable_at places) ts))) o)) (values_there values places us)
+    ap (λ o. truth (on_both o (term_values_of (value_under values places) us) (λ xs cs. counts_hold CompareOp.Equal xs ns cs))) (values_there values places ts)
+    ∙ ap (λ o. truth (on_both (Some (numbers_of_vars values (map (variable_at places) ts))) o (λ xs cs. counts_hold CompareOp.Equal xs ns cs))) (values_there values places us)
     ∙ truth_or (counts_hold CompareOp.Equal (numbers_of_vars values (map (variable_at places) ts)) ns (numbers_of_vars values (map (variable_at places) us))))
     (sym (map-append (variable_at places) ts us)) refl
 
@@ -308,7 +309,7 @@ weighed_there : (values : List ℤ) (places : List ℕ) (parts : List (ℤ × �
 unfolding weighed on_both value_under
 weighed_there values places [] = refl
 weighed_there values places (q ∷ parts) =
-    ap (λ o. on_both {A = ℤ} {B = List (ℤ × ℤ)} (λ x rest. Some ((q.0, x) ∷ rest)) (Some (number_at values (variable_at places q.1))) o) (weighed_there values places parts)
+    ap (λ o. on_both {A = ℤ} {B = List (ℤ × ℤ)} (Some (number_at values (variable_at places q.1))) o (λ x rest. Some ((q.0, x) ∷ rest))) (weighed_there values places parts)
 
 with_zero : (x : ℤ) → (x +ℤ pos 0) ≡ (pos 0 +ℤ x)
 with_zero x = omega (arith, ints)

@@ -7,14 +7,15 @@ use Rattle.std.specs.List.{All, Contains}
 use Rattle.std.specs.Prelude.{◌≤◌, IfSome, OnOk, Ok, Err, Result}
 use Rattle.std.proofs.lemmas.List.{map_more, map_push, map-append, take_all, take_more}
 use Rattle.std.proofs.lemmas.List.Elements.{All-append, All-cons, All-push, All-contains, All-contains_itself, All-nil, All-set, All-weaker, Contains-append_cases, Contains-append_left, Contains-append_right}
+use Rattle.ep_base.proofs.Small.{no_some, some_is}
 use Rattle.ep_base.specs.Numbers.{sum_of}
+use Rattle.ep_base.specs.Options.{on_both}
 use Rattle.ep_base.specs.Reads.{IsWithinNumbers, weighted_sum}
 use Rattle.ep_flatten.specs.Forms.{AreNumbersOf, IsFormOf, summed, form_parts, form_value}
 use Rattle.ep_flatten.specs.Sums.{ComesFrom, Gathers, Joins, SumState, TakesIn, coefficients_in, multiplied, parts_total, terms_in}
 use Rattle.ep_ground.specs.Grounds.{LeadsTo, itself}
 use Rattle.ep_ground.specs.Nodes.{GroundNode}
-use Rattle.ep_ground.specs.Terms.{node_value, on_both, term_value, weighed}
-use Rattle.ep_tree.proofs.TypedParts.{no_some, some_is}
+use Rattle.ep_ground.specs.Terms.{node_value, term_value, weighed}
 
 -- ---- numbers
 
@@ -294,7 +295,7 @@ pub weighed_numbers : (numbers : ℕ → ℤ) (ps : List (ℤ × ℕ)) → weigh
 unfolding weighed on_both
 weighed_numbers numbers [] = refl
 weighed_numbers numbers (q ∷ ps) =
-    ap (λ o. on_both {A = ℤ} {B = List (ℤ × ℤ)} (λ x rest. Some ((q.0, x) ∷ rest)) (Some (numbers q.1)) o) (weighed_numbers numbers ps)
+    ap (λ o. on_both {A = ℤ} {B = List (ℤ × ℤ)} (Some (numbers q.1)) o (λ x rest. Some ((q.0, x) ∷ rest))) (weighed_numbers numbers ps)
 
 pub sum_numbers : (cells : List ℤ) (numbers : ℕ → ℤ) (node : GroundNode) (c : ℤ) (ps : List (ℤ × ℕ)) → form_value cells (λ p. Some (numbers p)) node (summed c ps) ≡ Some (c +ℤ parts_total numbers ps)
 unfolding form_value node_value
@@ -347,16 +348,16 @@ gathers_none nodes c s e f = record {
 weighed_more : (value : ℕ → Option ℤ) (done : List (ℤ × ℕ)) (qs : List (ℤ × ℤ)) (k : ℤ) (t : ℕ) (x : ℤ) → weighed value done ≡ Some qs → value t ≡ Some x → weighed value (done ++ (k, t) ∷ []) ≡ Some (qs ++ (k, x) ∷ [])
 unfolding weighed on_both
 weighed_more value [] qs k t x e f =
-    ap (λ (o : Option ℤ). on_both {A = ℤ} {B = List (ℤ × ℤ)} (λ y rest. Some ((k, y) ∷ rest)) o (Some [])) f ∙ ap (λ (ys : List (ℤ × ℤ)). Some (ys ++ (k, x) ∷ [])) (some_is e)
+    ap (λ (o : Option ℤ). on_both {A = ℤ} {B = List (ℤ × ℤ)} o (Some []) (λ y rest. Some ((k, y) ∷ rest))) f ∙ ap (λ (ys : List (ℤ × ℤ)). Some (ys ++ (k, x) ∷ [])) (some_is e)
 weighed_more value (p ∷ done) qs k t x e f = by (value p.1) (weighed value done) refl e (λ rest g. weighed_more value done rest k t x g f)
   where
-    by : (a : Option ℤ) (o : Option (List (ℤ × ℤ))) → weighed value done ≡ o → on_both {A = ℤ} {B = List (ℤ × ℤ)} (λ y rest. Some ((p.0, y) ∷ rest)) a o ≡ Some qs
+    by : (a : Option ℤ) (o : Option (List (ℤ × ℤ))) → weighed value done ≡ o → on_both {A = ℤ} {B = List (ℤ × ℤ)} a o (λ y rest. Some ((p.0, y) ∷ rest)) ≡ Some qs
         → ((rest : List (ℤ × ℤ)) → weighed value done ≡ Some rest → weighed value (done ++ (k, t) ∷ []) ≡ Some (rest ++ (k, x) ∷ []))
-        → on_both {A = ℤ} {B = List (ℤ × ℤ)} (λ y rest. Some ((p.0, y) ∷ rest)) a (weighed value (done ++ (k, t) ∷ [])) ≡ Some (qs ++ (k, x) ∷ [])
+        → on_both {A = ℤ} {B = List (ℤ × ℤ)} a (weighed value (done ++ (k, t) ∷ [])) (λ y rest. Some ((p.0, y) ∷ rest)) ≡ Some (qs ++ (k, x) ∷ [])
     by None o g h more = no_some h
     by (Some a) None g h more = no_some h
     by (Some a) (Some rest) g h more =
-        ap (λ (o : Option (List (ℤ × ℤ))). on_both {A = ℤ} {B = List (ℤ × ℤ)} (λ y rest. Some ((p.0, y) ∷ rest)) (Some a) o) (more rest g)
+        ap (λ (o : Option (List (ℤ × ℤ))). on_both {A = ℤ} {B = List (ℤ × ℤ)} (Some a) o (λ y rest. Some ((p.0, y) ∷ rest))) (more rest g)
         ∙ ap (λ (ys : List (ℤ × ℤ)). Some (ys ++ (k, x) ∷ [])) (some_is h)
 
 sum_more : (qs : List (ℤ × ℤ)) (k x : ℤ) → weighted_sum (qs ++ (k, x) ∷ []) ≡ (weighted_sum qs +ℤ (k *ℤ x))

@@ -17,13 +17,13 @@ use Rattle.ep_flatten.proofs.FormLaws.{form_there}
 use Rattle.ep_flatten.proofs.SumLaws.{all_from}
 use Rattle.ep_base.specs.declared.operators.CompareOp.{CompareOp}
 use Rattle.std.proofs.lemmas.Option.{get_or_from_slice_get}
+use Rattle.ep_base.proofs.Small.{some_is}
 use Rattle.ep_ground.specs.Bounds.{IsBounded}
 use Rattle.ep_flatten.proofs.Sayings.{plain}
 use Rattle.ep_flatten.proofs.Unrolled.{all_left, all_right, unrolled}
 use Rattle.ep_ground.specs.Grounds.{GroundState}
 use Rattle.ep_ground.specs.Nodes.{GroundNode, compare, lex, member, negation, all_of, any_of, same_truth, all_different, counts, at_least, at_most, table, coefficients_of, parts_of, undefined}
 use Rattle.ep_ground.specs.Terms.{node_value, term_value, truth, term_values_of}
-use Rattle.ep_tree.proofs.TypedParts.{some_is}
 
 -- ---- truth values
 

@@ -4,14 +4,15 @@ use Rattle.std.proofs.Common.{ap, arith, subst, sym, ◌∙◌}
 use Rattle.std.specs.List.{All}
 use Rattle.std.proofs.lemmas.List.{get_or_append_left, get_or_at, length_push}
 use Rattle.std.proofs.lemmas.List.Elements.{All-nil, All-cons, All-head, All-tail, All-weaker}
+use Rattle.ep_base.proofs.Small.{some_is}
 use Rattle.ep_base.specs.Numbers as numbers
 use Rattle.ep_base.specs.Numbers.{absolute_of, all_one, any_one, are_different, counts_hold, greatest_of, has_number, is_one, is_row_of, least_of, lex_holds, nth_power}
+use Rattle.ep_base.specs.Options.{on_both}
 use Rattle.ep_base.specs.Reads as reads
 use Rattle.ep_base.specs.Reads.{all_there, picked, safe_picked, same_bool, weighted_sum}
 use Rattle.ep_base.specs.declared.operators.CompareOp.{CompareOp}
 use Rattle.ep_ground.specs.Nodes.{GroundNode, constant, undefined, cell, sum, product, quotient, remainder, power, absolute, least, greatest, pick, whole, safe_quotient, safe_remainder, safe_pick, compare, lex, member, negation, all_of, any_of, same_truth, all_different, counts, at_least, at_most, table, parts_of}
-use Rattle.ep_ground.specs.Terms.{node_value, on_both, term_value, truth, value_at, values_from, term_values_of, weighed}
-use Rattle.ep_tree.proofs.TypedParts.{some_is}
+use Rattle.ep_ground.specs.Terms.{node_value, term_value, truth, value_at, values_from, term_values_of, weighed}
 
 -- what holds of the elements of two lists in a row holds of those of each
 pub all_left : {X : Type 0} (P : X → Type 0) (xs ys : List X) → All P (xs ++ ys) → All P xs
@@ -35,8 +36,8 @@ pub weighed_same : (f g : ℕ → Option ℤ) (parts : List (ℤ × ℕ)) → Al
 unfolding weighed
 weighed_same f g [] h = refl
 weighed_same f g (q ∷ parts) h =
-    ap (λ x. on_both {A = ℤ} {B = List (ℤ × ℤ)} (λ x rest. Some ((q.0, x) ∷ rest)) x (weighed f parts)) (All-head (λ u. f u ≡ g u) q.1 (map (λ p. p.1) parts) h)
-    ∙ ap (λ xs. on_both {A = ℤ} {B = List (ℤ × ℤ)} (λ x rest. Some ((q.0, x) ∷ rest)) (g q.1) xs) (weighed_same f g parts (All-tail (λ u. f u ≡ g u) q.1 (map (λ p. p.1) parts) h))
+    ap (λ x. on_both {A = ℤ} {B = List (ℤ × ℤ)} x (weighed f parts) (λ x rest. Some ((q.0, x) ∷ rest))) (All-head (λ u. f u ≡ g u) q.1 (map (λ p. p.1) parts) h)
+    ∙ ap (λ xs. on_both {A = ℤ} {B = List (ℤ × ℤ)} (g q.1) xs (λ x rest. Some ((q.0, x) ∷ rest))) (weighed_same f g parts (All-tail (λ u. f u ≡ g u) q.1 (map (λ p. p.1) parts) h))
 
 first_same : (f g : ℕ → Option ℤ) (a : ℕ) (ts : List ℕ) → All (λ t. f t ≡ g t) (a ∷ ts) → f a ≡ g a
 first_same f g a ts h = All-head (λ u. f u ≡ g u) a ts h
@@ -45,13 +46,13 @@ second_same : (f g : ℕ → Option ℤ) (a b : ℕ) → All (λ t. f t ≡ g t)
 second_same f g a b h = All-head (λ u. f u ≡ g u) b [] (All-tail (λ u. f u ≡ g u) a (b ∷ []) h)
 
 -- a value of two terms, and of two lists of terms
-two_same : {C : Type 0} (h : ℤ → ℤ → Option C) (f g : ℕ → Option ℤ) (a b : ℕ) → All (λ t. f t ≡ g t) (a ∷ b ∷ []) → on_both h (f a) (f b) ≡ on_both h (g a) (g b)
-two_same h f g a b e = ap (λ x. on_both h x (f b)) (first_same f g a (b ∷ []) e) ∙ ap (λ y. on_both h (g a) y) (second_same f g a b e)
+two_same : {C : Type 0} (h : ℤ → ℤ → Option C) (f g : ℕ → Option ℤ) (a b : ℕ) → All (λ t. f t ≡ g t) (a ∷ b ∷ []) → on_both (f a) (f b) h ≡ on_both (g a) (g b) h
+two_same h f g a b e = ap (λ x. on_both x (f b) h) (first_same f g a (b ∷ []) e) ∙ ap (λ y. on_both (g a) y h) (second_same f g a b e)
 
-lists_same : {C : Type 0} (h : List ℤ → List ℤ → Option C) (f g : ℕ → Option ℤ) (ts us : List ℕ) → All (λ t. f t ≡ g t) (ts ++ us) → on_both h (term_values_of f ts) (term_values_of f us) ≡ on_both h (term_values_of g ts) (term_values_of g us)
+lists_same : {C : Type 0} (h : List ℤ → List ℤ → Option C) (f g : ℕ → Option ℤ) (ts us : List ℕ) → All (λ t. f t ≡ g t) (ts ++ us) → on_both (term_values_of f ts) (term_values_of f us) h ≡ on_both (term_values_of g ts) (term_values_of g us) h
 lists_same h f g ts us e =
-    ap (λ x. on_both h x (term_values_of f us)) (values_same f g ts (all_left (λ t. f t ≡ g t) ts us e))
-    ∙ ap (λ y. on_both h (term_values_of g ts) y) (values_same f g us (all_right (λ t. f t ≡ g t) ts us e))
+    ap (λ x. on_both x (term_values_of f us) h) (values_same f g ts (all_left (λ t. f t ≡ g t) ts us e))
+    ∙ ap (λ y. on_both (term_values_of g ts) y h) (values_same f g us (all_right (λ t. f t ≡ g t) ts us e))
 
 -- the value of a node depends on the values of its parts alone
 pub node_same : (cells : List ℤ) (f g : ℕ → Option ℤ) (node : GroundNode) → All (λ t. f t ≡ g t) (parts_of node) → node_value cells f node ≡ node_value cells g node
@@ -69,8 +70,8 @@ node_same cells f g (least ts) h = ap (option_and_then least_of) (values_same f 
 node_same cells f g (greatest ts) h = ap (option_and_then greatest_of) (values_same f g ts h)
 node_same cells f g (pick ts keys indices) h = lists_same (λ xs is. picked xs keys is) f g ts indices h
 node_same cells f g (whole a ts) h =
-    ap (λ x. on_both {A = ℤ} {B = List ℤ} (λ x xs. Some x) x (term_values_of f ts)) (first_same f g a ts h)
-    ∙ ap (λ y. on_both {A = ℤ} {B = List ℤ} (λ x xs. Some x) (g a) y) (values_same f g ts (All-tail (λ t. f t ≡ g t) a ts h))
+    ap (λ x. on_both {A = ℤ} {B = List ℤ} x (term_values_of f ts) (λ x xs. Some x)) (first_same f g a ts h)
+    ∙ ap (λ y. on_both {A = ℤ} {B = List ℤ} (g a) y (λ x xs. Some x)) (values_same f g ts (All-tail (λ t. f t ≡ g t) a ts h))
 node_same cells f g (safe_quotient a b) h = two_same (λ x y. Some (reads.safe_quotient x y)) f g a b h
 node_same cells f g (safe_remainder a b) h = two_same (λ x y. Some (reads.safe_remainder x y)) f g a b h
 node_same cells f g (safe_pick ts keys indices) h = lists_same (λ xs is. Some (safe_picked xs keys is)) f g ts indices h

@@ -9,9 +9,9 @@ use Rattle.ep_base.specs.declared.operators.Sense.{Sense}
 use Rattle.ep_flat.specs.Cons.{number_at, numbers_of_vars}
 use Rattle.ep_flat.specs.Flats.{FlatState, MapState, MapsCells, cell_numbers, objective_number}
 use Rattle.ep_flatten.specs.Flattening.{IsMetBy, StandsFor}
-use Rattle.ep_formula.specs.Formulas.{IsFormulaOf}
 use Rattle.ep_ground.specs.Grounds.{GroundState, IsGroundSolution, KeepsSolutions, ground_objective}
 use Rattle.enc_var.specs.Decoding.{VariableLiterals}
+use Rattle.enc_var.specs.Formulas.{IsFormulaOf}
 use Rattle.enc_var.specs.Layouts.{AreGiven, IsEncoding, decoded_cells, decoded_values}
 
 -- what stands among the first elements stands at the same place among all

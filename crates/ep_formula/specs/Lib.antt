@@ -1,2 +1,1 @@
-pub mod Formulas
 pub mod EncodedViews

@@ -15,18 +15,10 @@ use Rattle.ep_tree.specs.Values.{ValueTree, as_parts, list_value, matrix, single
 use Rattle.ep_tree.specs.Views.{value_tree, values_from}
 use Rattle.ep_tree.specs.declared.values.Scalar.{Scalar}
 use Rattle.ep_tree.specs.declared.values.Value.{Matrix, Number, Value}
+use Rattle.ep_numbers.proofs.Counting.{length-counting}
 use Rattle.ep_gen.specs.Hints.{hint_of, next_number, nth_number, row_of, rows_of, square_value}
 
 -- ---- lists
-
-counting_from : (a : ℤ) (n : ℕ) → counting a (suc n) ≡ counting a n ++ (a +ℤ pos n) ∷ []
-unfolding counting
-counting_from a zero = ap (λ x. x ∷ []) (omega (arith, ints))
-counting_from a (suc n) = ap (λ xs. a ∷ xs) (counting_from (a +ℤ pos 1) n ∙ ap (λ x. counting (a +ℤ pos 1) n ++ x ∷ []) (omega (arith, ints)))
-
--- one index more
-pub counting_more : (n : ℕ) → counting (pos 1) (n + 1) ≡ counting (pos 1) n ++ (pos (n + 1)) ∷ []
-counting_more n = rw (add-one n) (counting_from (pos 1) n ∙ ap (λ x. counting (pos 1) n ++ x ∷ []) (omega (arith, ints)))
 
 -- one value more, where those before it are numbered from 1 to the number before this one
 pub one_more : {A B : Type 0} (g : A → B) (f : ℕ → B) (new old : List A) (x : A) (k : ℕ)
@@ -114,11 +106,6 @@ rows_are : (rows : List (List ℤ)) → AreOfDims Scalar.Int 1 (as_parts (map (�
 unfolding as_parts
 rows_are [] = tt
 rows_are (row ∷ rows) = (list_value_is Scalar.Int row (any_number row), rows_are rows)
-
-length-counting : (first : ℤ) (n : ℕ) → length (counting first n) ≡ n
-unfolding counting
-length-counting first zero = refl
-length-counting first (suc n) = ap suc (length-counting (first +ℤ pos 1) n)
 
 -- as many rows as the order says are a matrix of integers
 pub square_typed : (n : ℕ) (rows : List (List ℤ)) → length rows ≡ n → IsOfDims Scalar.Int 2 (square_value n rows)

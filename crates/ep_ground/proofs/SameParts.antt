@@ -7,13 +7,14 @@ use Rattle.std.proofs.lemmas.List.Elements.{Contains-append_left, Contains-appen
 use Rattle.ep_base.specs.Intervals.{Interval, absolute_interval, greatest_interval, hull, least_interval, nth_power_interval, only, product_interval, quotient_interval, remainder_interval, sum_interval}
 use Rattle.ep_base.specs.Numbers as numbers
 use Rattle.ep_base.specs.Numbers.{absolute_of, all_one, any_one, are_different, compare_holds, counts_hold, greatest_of, has_number, is_one, is_row_of, least_of, lex_holds, nth_power}
+use Rattle.ep_base.specs.Options.{on_both}
 use Rattle.ep_base.specs.Reads as reads
 use Rattle.ep_base.specs.Reads.{all_there, picked, safe_picked, same_bool, weighted_sum}
 use Rattle.ep_base.specs.declared.operators.CompareOp.{CompareOp}
 use Rattle.ep_ground.specs.Bounds.{node_reach, scaled}
 use Rattle.ep_ground.specs.Nodes.{GroundNode, constant, undefined, cell, sum, product, quotient, remainder, power, absolute, least, greatest, pick, whole, safe_quotient, safe_remainder, safe_pick, compare, lex, member, negation, all_of, any_of, same_truth, all_different, counts, at_least, at_most, table, parts_of}
 use Rattle.ep_ground.specs.SameTrees.{with_parts}
-use Rattle.ep_ground.specs.Terms.{node_value, on_both, truth, term_values_of, weighed}
+use Rattle.ep_ground.specs.Terms.{node_value, truth, term_values_of, weighed}
 use Rattle.ep_ground.specs.declared.cells.Cell.{Cell}
 
 -- the first and the second of some parts
@@ -48,7 +49,7 @@ weighed_same : (v w : ℕ → Option ℤ) (f : ℕ → ℕ) (parts : List (ℤ �
 unfolding weighed
 weighed_same v w f [] same = refl
 weighed_same v w f (p ∷ parts) same =
-    λ i. on_both (λ x rest. Some ((p.0, x) ∷ rest)) (same p.1 (first p.1 (map (λ q. q.1) parts)) i) (weighed_same v w f parts (agree_tail v w f p.1 (map (λ q. q.1) parts) same) i)
+    λ i. on_both (same p.1 (first p.1 (map (λ q. q.1) parts)) i) (weighed_same v w f parts (agree_tail v w f p.1 (map (λ q. q.1) parts) same) i) (λ x rest. Some ((p.0, x) ∷ rest))
 
 scaled_same : (v w : ℕ → Interval) (f : ℕ → ℕ) (parts : List (ℤ × ℕ)) → Agree v w f (map (λ p. p.1) parts) → map (λ p. scaled p.0 (v p.1)) parts ≡ map (λ p. scaled p.0 (w p.1)) (map {B = ℤ × ℕ} (λ p. (p.0, f p.1)) parts)
 scaled_same v w f [] same = refl
@@ -62,27 +63,27 @@ node_as cells v w f (constant n) same = refl
 node_as cells v w f undefined same = refl
 node_as cells v w f (cell k) same = refl
 node_as cells v w f (sum c parts) same = ap (λ ps. option_map (λ qs. c +ℤ weighted_sum qs) ps) (weighed_same v w f parts same)
-node_as cells v w f (product a b) same = λ i. on_both (λ x y. Some (x *ℤ y)) (same a (first a (b ∷ [])) i) (same b (second a b []) i)
-node_as cells v w f (quotient a b) same = λ i. on_both numbers.quotient (same a (first a (b ∷ [])) i) (same b (second a b []) i)
-node_as cells v w f (remainder a b) same = λ i. on_both numbers.remainder (same a (first a (b ∷ [])) i) (same b (second a b []) i)
+node_as cells v w f (product a b) same = λ i. on_both (same a (first a (b ∷ [])) i) (same b (second a b []) i) (λ x y. Some (x *ℤ y))
+node_as cells v w f (quotient a b) same = λ i. on_both (same a (first a (b ∷ [])) i) (same b (second a b []) i) numbers.quotient
+node_as cells v w f (remainder a b) same = λ i. on_both (same a (first a (b ∷ [])) i) (same b (second a b []) i) numbers.remainder
 node_as cells v w f (power a n) same = λ i. option_map (λ x. nth_power x n) (same a (first a []) i)
 node_as cells v w f (absolute a) same = λ i. option_map absolute_of (same a (first a []) i)
 node_as cells v w f (least ts) same = λ i. option_and_then least_of (values_same v w f ts same i)
 node_as cells v w f (greatest ts) same = λ i. option_and_then greatest_of (values_same v w f ts same i)
-node_as cells v w f (pick ts keys indices) same = λ i. on_both (λ xs is. picked xs keys is) (values_same v w f ts (agree_left v w f ts indices same) i) (values_same v w f indices (agree_right v w f ts indices same) i)
-node_as cells v w f (whole a ts) same = λ i. on_both (λ x xs. Some x) (same a (first a ts) i) (values_same v w f ts (agree_tail v w f a ts same) i)
-node_as cells v w f (safe_quotient a b) same = λ i. on_both (λ x y. Some (reads.safe_quotient x y)) (same a (first a (b ∷ [])) i) (same b (second a b []) i)
-node_as cells v w f (safe_remainder a b) same = λ i. on_both (λ x y. Some (reads.safe_remainder x y)) (same a (first a (b ∷ [])) i) (same b (second a b []) i)
-node_as cells v w f (safe_pick ts keys indices) same = λ i. on_both (λ xs is. Some (safe_picked xs keys is)) (values_same v w f ts (agree_left v w f ts indices same) i) (values_same v w f indices (agree_right v w f ts indices same) i)
-node_as cells v w f (compare op a b) same = λ i. truth (on_both (λ x y. Some (compare_holds op x y)) (same a (first a (b ∷ [])) i) (same b (second a b []) i))
-node_as cells v w f (lex op ts us) same = λ i. truth (on_both (λ xs ys. Some (lex_holds op xs ys)) (values_same v w f ts (agree_left v w f ts us same) i) (values_same v w f us (agree_right v w f ts us same) i))
+node_as cells v w f (pick ts keys indices) same = λ i. on_both (values_same v w f ts (agree_left v w f ts indices same) i) (values_same v w f indices (agree_right v w f ts indices same) i) (λ xs is. picked xs keys is)
+node_as cells v w f (whole a ts) same = λ i. on_both (same a (first a ts) i) (values_same v w f ts (agree_tail v w f a ts same) i) (λ x xs. Some x)
+node_as cells v w f (safe_quotient a b) same = λ i. on_both (same a (first a (b ∷ [])) i) (same b (second a b []) i) (λ x y. Some (reads.safe_quotient x y))
+node_as cells v w f (safe_remainder a b) same = λ i. on_both (same a (first a (b ∷ [])) i) (same b (second a b []) i) (λ x y. Some (reads.safe_remainder x y))
+node_as cells v w f (safe_pick ts keys indices) same = λ i. on_both (values_same v w f ts (agree_left v w f ts indices same) i) (values_same v w f indices (agree_right v w f ts indices same) i) (λ xs is. Some (safe_picked xs keys is))
+node_as cells v w f (compare op a b) same = λ i. truth (on_both (same a (first a (b ∷ [])) i) (same b (second a b []) i) (λ x y. Some (compare_holds op x y)))
+node_as cells v w f (lex op ts us) same = λ i. truth (on_both (values_same v w f ts (agree_left v w f ts us same) i) (values_same v w f us (agree_right v w f ts us same) i) (λ xs ys. Some (lex_holds op xs ys)))
 node_as cells v w f (member a ns) same = λ i. truth (option_map (has_number ns) (same a (first a []) i))
 node_as cells v w f (negation a) same = λ i. truth (option_map (λ x. not (is_one x)) (same a (first a []) i))
 node_as cells v w f (all_of ts) same = λ i. truth (option_map all_one (values_same v w f ts same i))
 node_as cells v w f (any_of ts) same = λ i. truth (option_map any_one (values_same v w f ts same i))
-node_as cells v w f (same_truth a b) same = λ i. truth (on_both (λ x y. Some (same_bool (is_one x) (is_one y))) (same a (first a (b ∷ [])) i) (same b (second a b []) i))
+node_as cells v w f (same_truth a b) same = λ i. truth (on_both (same a (first a (b ∷ [])) i) (same b (second a b []) i) (λ x y. Some (same_bool (is_one x) (is_one y))))
 node_as cells v w f (all_different ts) same = λ i. truth (option_map are_different (values_same v w f ts same i))
-node_as cells v w f (counts ts ns us) same = λ i. truth (on_both (λ xs cs. counts_hold CompareOp.Equal xs ns cs) (values_same v w f ts (agree_left v w f ts us same) i) (values_same v w f us (agree_right v w f ts us same) i))
+node_as cells v w f (counts ts ns us) same = λ i. truth (on_both (values_same v w f ts (agree_left v w f ts us same) i) (values_same v w f us (agree_right v w f ts us same) i) (λ xs cs. counts_hold CompareOp.Equal xs ns cs))
 node_as cells v w f (at_least ts cs ns) same = λ i. truth (option_and_then (λ xs. counts_hold CompareOp.AtLeast xs ns cs) (values_same v w f ts same i))
 node_as cells v w f (at_most ts cs ns) same = λ i. truth (option_and_then (λ xs. counts_hold CompareOp.AtMost xs ns cs) (values_same v w f ts same i))
 node_as cells v w f (table ts rows) same = λ i. truth (option_and_then (is_row_of rows) (values_same v w f ts same i))

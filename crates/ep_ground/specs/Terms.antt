@@ -6,14 +6,11 @@ use Rattle.std.specs.Prelude.{◌≡◌, ℕ, ◌<◌, ℤ, pos, ◌+ℤ◌, ◌
 use Rattle.std.specs.List.{All}
 use Rattle.ep_base.specs.Numbers as numbers
 use Rattle.ep_base.specs.Numbers.{absolute_of, all_one, any_one, are_different, compare_holds, counts_hold, greatest_of, has_number, is_one, is_row_of, least_of, lex_holds, nth_power, of_bool, same_numbers}
+use Rattle.ep_base.specs.Options.{on_both}
 use Rattle.ep_base.specs.Reads as reads
 use Rattle.ep_base.specs.Reads.{all_there, picked, safe_picked, same_bool, weighted_sum}
 use Rattle.ep_base.specs.declared.operators.CompareOp.{CompareOp}
 use Rattle.ep_ground.specs.Nodes.{GroundNode, constant, undefined, cell, sum, product, quotient, remainder, power, absolute, least, greatest, pick, whole, safe_quotient, safe_remainder, safe_pick, compare, lex, member, negation, all_of, any_of, same_truth, all_different, counts, at_least, at_most, table, parts_of}
-
--- what two numbers give, where both are there
-unfoldable pub on_both : {A B C : Type 0} → (A → B → Option C) → Option A → Option B → Option C
-on_both f x y = option_and_then (λ a. option_and_then (f a) y) x
 
 -- the values of terms, where each has one
 unfoldable pub term_values_of : (ℕ → Option ℤ) → List ℕ → Option (List ℤ)
@@ -22,7 +19,7 @@ term_values_of value ts = all_there (map value ts)
 -- a sum's parts, each with its coefficient and its value, where each has one
 unfoldable pub weighed : (ℕ → Option ℤ) → List (ℤ × ℕ) → Option (List (ℤ × ℤ))
 weighed value [] = Some []
-weighed value (p ∷ parts) = on_both (λ x rest. Some ((p.0, x) ∷ rest)) (value p.1) (weighed value parts)
+weighed value (p ∷ parts) = on_both (value p.1) (weighed value parts) (λ x rest. Some ((p.0, x) ∷ rest))
 
 -- 1 for true, and 0 for false and where there is no truth value
 unfoldable pub truth : Option Bool → Option ℤ
@@ -35,32 +32,32 @@ node_value cells value (constant n) = Some n
 node_value cells value undefined = None
 node_value cells value (cell k) = slice_get cells k
 node_value cells value (sum c parts) = option_map (λ ps. c +ℤ weighted_sum ps) (weighed value parts)
-node_value cells value (product a b) = on_both (λ x y. Some (x *ℤ y)) (value a) (value b)
-node_value cells value (quotient a b) = on_both numbers.quotient (value a) (value b)
-node_value cells value (remainder a b) = on_both numbers.remainder (value a) (value b)
+node_value cells value (product a b) = on_both (value a) (value b) (λ x y. Some (x *ℤ y))
+node_value cells value (quotient a b) = on_both (value a) (value b) numbers.quotient
+node_value cells value (remainder a b) = on_both (value a) (value b) numbers.remainder
 node_value cells value (power a n) = option_map (λ x. nth_power x n) (value a)
 node_value cells value (absolute a) = option_map absolute_of (value a)
 node_value cells value (least ts) = option_and_then least_of (term_values_of value ts)
 node_value cells value (greatest ts) = option_and_then greatest_of (term_values_of value ts)
 node_value cells value (pick ts keys indices) =
-    on_both (λ xs is. picked xs keys is) (term_values_of value ts) (term_values_of value indices)
-node_value cells value (whole a ts) = on_both (λ x xs. Some x) (value a) (term_values_of value ts)
-node_value cells value (safe_quotient a b) = on_both (λ x y. Some (reads.safe_quotient x y)) (value a) (value b)
-node_value cells value (safe_remainder a b) = on_both (λ x y. Some (reads.safe_remainder x y)) (value a) (value b)
+    on_both (term_values_of value ts) (term_values_of value indices) (λ xs is. picked xs keys is)
+node_value cells value (whole a ts) = on_both (value a) (term_values_of value ts) (λ x xs. Some x)
+node_value cells value (safe_quotient a b) = on_both (value a) (value b) (λ x y. Some (reads.safe_quotient x y))
+node_value cells value (safe_remainder a b) = on_both (value a) (value b) (λ x y. Some (reads.safe_remainder x y))
 node_value cells value (safe_pick ts keys indices) =
-    on_both (λ xs is. Some (safe_picked xs keys is)) (term_values_of value ts) (term_values_of value indices)
-node_value cells value (compare op a b) = truth (on_both (λ x y. Some (compare_holds op x y)) (value a) (value b))
+    on_both (term_values_of value ts) (term_values_of value indices) (λ xs is. Some (safe_picked xs keys is))
+node_value cells value (compare op a b) = truth (on_both (value a) (value b) (λ x y. Some (compare_holds op x y)))
 node_value cells value (lex op ts us) =
-    truth (on_both (λ xs ys. Some (lex_holds op xs ys)) (term_values_of value ts) (term_values_of value us))
+    truth (on_both (term_values_of value ts) (term_values_of value us) (λ xs ys. Some (lex_holds op xs ys)))
 node_value cells value (member a ns) = truth (option_map (has_number ns) (value a))
 node_value cells value (negation a) = truth (option_map (λ x. not (is_one x)) (value a))
 node_value cells value (all_of ts) = truth (option_map all_one (term_values_of value ts))
 node_value cells value (any_of ts) = truth (option_map any_one (term_values_of value ts))
 node_value cells value (same_truth a b) =
-    truth (on_both (λ x y. Some (same_bool (is_one x) (is_one y))) (value a) (value b))
+    truth (on_both (value a) (value b) (λ x y. Some (same_bool (is_one x) (is_one y))))
 node_value cells value (all_different ts) = truth (option_map are_different (term_values_of value ts))
 node_value cells value (counts ts ns us) =
-    truth (on_both (λ xs cs. counts_hold CompareOp.Equal xs ns cs) (term_values_of value ts) (term_values_of value us))
+    truth (on_both (term_values_of value ts) (term_values_of value us) (λ xs cs. counts_hold CompareOp.Equal xs ns cs))
 node_value cells value (at_least ts cs ns) =
     truth (option_and_then (λ xs. counts_hold CompareOp.AtLeast xs ns cs) (term_values_of value ts))
 node_value cells value (at_most ts cs ns) =

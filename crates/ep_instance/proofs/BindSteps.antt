@@ -3,6 +3,7 @@ use Rattle.std.proofs.Common.{◌≡◌, ◌∙◌, ◌^◌, ℤ, pos, neg_ℤ, 
 use Rattle.std.specs.Prelude.{Result, Ok, Err, IsTrue, is_some, unwrap_or, option_and_then}
 use Rattle.std.specs.List.{list_all}
 use Rattle.std.proofs.lemmas.Int.{ints}
+use Rattle.ep_base.specs.Options.{on_both}
 use Rattle.ep_base.specs.declared.names.Name.{Name}
 use Rattle.ep_base.specs.declared.places.Place.{Place}
 use Rattle.ep_eval.specs.Bounds.{only_value}
@@ -13,7 +14,7 @@ use Rattle.ep_tree_laws.proofs.Typing.{context_typed, domain_typed, expression_t
 use Rattle.ep_tree.proofs.TypedEvaluation.{context_put, value_typed}
 use Rattle.ep_tree.specs.Binding.{Refusal, Shape, and_next, bind_givens, bind_names, element_values, elements_pass, first_missing, fitted_into, given_bound, index_domains, limits_met, missing_parameter, model_text, or_refuse, outside_domain, parameter, shape_bound, shape_of, undefined_at, unless_any}
 use Rattle.ep_tree.specs.Environments.{Bound, Env, context_of, has_cells, has_domain, has_value, meaning_in, scalar_in, shape_type}
-use Rattle.ep_tree.specs.Evaluation.{evaluate, on_both, type_in}
+use Rattle.ep_tree.specs.Evaluation.{evaluate, type_in}
 use Rattle.ep_tree.specs.Faults.{after_group, declaration_faults, declare, domain_faults, faults, group_faults, group_meaning}
 use Rattle.ep_tree.specs.Limits.{limits_of_values}
 use Rattle.ep_tree.specs.Measures.{met, met_domain}

@@ -3,6 +3,7 @@ use Rattle.std.proofs.Common.{◌≡◌, ◌∙◌, ℕ, ℤ, pos, Bool, List, [
 use Rattle.std.specs.Prelude.{option_and_then, Ok, Err}
 use Rattle.std.proofs.lemmas.List.{append-nil, map-append, take_more}
 use Rattle.ep_base.specs.Numbers.{has_number}
+use Rattle.ep_base.specs.Options.{map_both, on_both}
 use Rattle.ep_base.specs.declared.names.Name.{Name}
 use Rattle.ep_base.specs.declared.places.Place.{Place}
 use Rattle.ep_eval.specs.Outcomes.{IsCause}
@@ -11,7 +12,6 @@ use Rattle.ep_tree_laws.proofs.Shapes.{shape_parts}
 use Rattle.ep_tree.proofs.ClosedDomains.{elements_pass-values}
 use Rattle.ep_tree.specs.Binding.{Find, Shape, bound_finds, element_values, elements_pass, group_finds, index_domains, met_groups, model_text, numbers_bound, or_refuse, shape_of, undefined_at}
 use Rattle.ep_tree.specs.Environments.{Env, scalar_in, shape_type}
-use Rattle.ep_tree.specs.Evaluation.{map_both, on_both}
 use Rattle.ep_tree.specs.Limits.{limits_of_values}
 use Rattle.ep_tree.specs.Measures.{Met, met_domain}
 use Rattle.ep_tree.specs.Statements.{Group}

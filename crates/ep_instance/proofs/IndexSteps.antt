@@ -1,11 +1,12 @@
 -- Index domains, read one by one.
 use Rattle.std.proofs.Common.{◌≡◌, ◌∙◌, ◌≤◌, ℕ, ℤ, List, [], ◌∷◌, ◌++◌, Option, Some, None, refl, sym, ap, append_assoc}
 use Rattle.std.proofs.lemmas.List.{append-nil}
+use Rattle.ep_base.specs.Options.{map_both, on_both}
 use Rattle.ep_eval.specs.Outcomes.{IsCause}
 use Rattle.ep_eval.specs.declared.errors.EvalError.{EvalError}
 use Rattle.ep_tree.specs.Binding.{listed_domains}
 use Rattle.ep_tree.specs.Environments.{Env}
-use Rattle.ep_tree.specs.Evaluation.{domain_values, map_both, on_both}
+use Rattle.ep_tree.specs.Evaluation.{domain_values}
 use Rattle.ep_tree.specs.Limits.{limits_of_values}
 use Rattle.ep_tree.specs.Measures.{Met, met, met_domain, met_domains}
 use Rattle.ep_tree.specs.Views.{domain_tree, domains_of}

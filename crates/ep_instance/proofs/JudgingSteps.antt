@@ -1,6 +1,7 @@
 -- Judging: clauses one by one, and then the objective, under decision variables that are set once or more.
 use Rattle.std.proofs.Common.{◌≡◌, ◌∙◌, ℕ, ◌+◌, Bool, true, false, ◌||◌, ℤ, List, [], ◌∷◌, map, drop, Option, Some, None, refl, sym, ap, subst, if◌then◌else◌, bytes_eq}
 use Rattle.std.specs.Prelude.{is_none, is_some, option_and_then, unwrap_or, Result, Ok, Err, IfOk}
+use Rattle.ep_base.specs.Options.{on_both}
 use Rattle.ep_base.specs.declared.errors.Memory.{Memory}
 use Rattle.ep_base.specs.declared.names.Name.{Name}
 use Rattle.ep_base.specs.declared.operators.Sense.{Sense}
@@ -8,7 +9,7 @@ use Rattle.ep_eval.proofs.KnownNames.{bytes_eq-symmetric}
 use Rattle.ep_tree.proofs.TypedParts.{some_is, then_is}
 use Rattle.ep_tree.specs.Binding.{Find, Instance}
 use Rattle.ep_tree.specs.Environments.{Bound, Env, has_value}
-use Rattle.ep_tree.specs.Evaluation.{evaluate, first_untrue, is_true_in, number_in, on_both, truth_of}
+use Rattle.ep_tree.specs.Evaluation.{evaluate, first_untrue, is_true_in, number_in, truth_of}
 use Rattle.ep_tree.specs.Names.{put_all}
 use Rattle.ep_tree.specs.SolutionTexts.{is_find}
 use Rattle.ep_tree.specs.Solutions.{Assigned, Fits, Found, Judgement, a_solution, find_type, fitted_find, found_values, goal_value, has_goal_value, judged_by, judgement, named_in, under, violates}

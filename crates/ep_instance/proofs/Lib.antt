@@ -1,5 +1,4 @@
 pub mod Tests
-pub mod Counting
 pub mod FitSteps
 pub mod LimitSteps
 pub mod RangeSteps

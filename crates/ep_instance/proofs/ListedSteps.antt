@@ -8,12 +8,12 @@ use Rattle.std.proofs.Math.Bool.{or-false}
 use Rattle.ep_base.specs.Runs.{IsIn}
 use Rattle.std.proofs.lemmas.Int.{ints}
 use Rattle.ep_base.specs.Numbers.{has_number}
+use Rattle.ep_base.specs.Options.{map_both, on_both}
 use Rattle.ep_tree.specs.Binding.{element_values, elements_pass, index_domains, indices_bound, listed_domains, numbers_bound, ranges_pass}
 use Rattle.ep_tree.specs.Domains.{set_has, truth_values}
 use Rattle.ep_tree.specs.Environments.{Bound, Env, has_cells, has_domain, has_value, shape_type}
 use Rattle.ep_tree.specs.Types.{of_scalar}
 use Rattle.ep_tree.specs.declared.values.ValueType.{ValueType}
-use Rattle.ep_tree.specs.Evaluation.{map_both, on_both}
 use Rattle.ep_tree.specs.Measures.{met, met_domain, met_domains, met_ranges}
 use Rattle.ep_tree.specs.Trees.{DomainTree, Domains, Ranges, bool, group_domain, int, matrix_domain, named_domain, ranges, set_domain}
 use Rattle.ep_tree.specs.declared.syntax.SetOp.{SetOp}

@@ -7,7 +7,7 @@ use Rattle.std.proofs.lemmas.Int.{ints}
 use Rattle.ep_base.specs.declared.run_lists.Run.{Run}
 use Rattle.ep_tree.specs.Binding.{above_end, below_end, ranges_pass}
 use Rattle.ep_tree.specs.Environments.{Env}
-use Rattle.ep_tree.specs.Evaluation.{evaluate, map_both, number_in, on_both, on_three}
+use Rattle.ep_tree.specs.Evaluation.{evaluate, number_in}
 use Rattle.ep_tree.specs.Measures.{Met, met, met_end, met_ranges}
 use Rattle.ep_tree.specs.Views.{end_of, expr_tree, held_end, kind_tree, ranges_of, with_range}
 use Rattle.ep_tree.specs.declared.syntax.Expr.{Expr}
@@ -17,6 +17,7 @@ use Rattle.std.proofs.lemmas.List.{append-nil}
 use Rattle.std.proofs.lemmas.List.Folds.{Any-from_list_any, list_any-append, list_any-from_Any}
 use Rattle.std.proofs.Math.Bool.{or-false}
 use Rattle.std.specs.List.{Any, Contains}
+use Rattle.ep_base.specs.Options.{map_both, on_both, on_three}
 use Rattle.ep_base.specs.Runs.{IsIn}
 use Rattle.ep_eval.specs.Outcomes.{IsCause}
 use Rattle.ep_eval.specs.declared.errors.EvalError.{EvalError}

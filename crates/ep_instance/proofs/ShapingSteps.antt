@@ -7,12 +7,12 @@ use Rattle.std.proofs.lemmas.List.Elements.{Contains-append_left, Contains-appen
 use Rattle.std.proofs.lemmas.List.Sorted.{IsPermutation-refl}
 use Rattle.std.proofs.lemmas.Slice.Eq.{bytes_eq-Decides}
 use Rattle.ep_base.specs.Numbers.{has_number}
+use Rattle.ep_base.specs.Options.{on_both}
 use Rattle.ep_base.specs.declared.names.Name.{Name}
 use Rattle.ep_tree.proofs.TypedParts.{map_is, then_is, truths_differ}
 use Rattle.ep_tree.specs.Binding.{Find, Instance, Refusal, and_next, bind_params, parameter, solution_text}
 use Rattle.ep_tree.specs.Closed.{IsClosed}
 use Rattle.ep_tree.specs.Environments.{Env, has_value, shape_type}
-use Rattle.ep_tree.specs.Evaluation.{on_both}
 use Rattle.ep_tree.specs.SolutionTexts.{fits, fitting_letting, is_find, letting_names, read_solution, shaped, shaped_by, strangers, with_lettings, without_letting, wrong_shape}
 use Rattle.ep_tree.specs.SolutionTexts as defined
 use Rattle.ep_tree.specs.Faults.{lettings_of}

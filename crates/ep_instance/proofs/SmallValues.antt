@@ -7,6 +7,7 @@ use Rattle.std.proofs.lemmas.Int.{ints}
 use Rattle.std.proofs.lemmas.Grind.{flat_map-append}
 use Rattle.std.proofs.lemmas.List.Elements.{All-append, All-cons, All-head, All-nil, All-tail}
 use Rattle.ep_base.specs.Numbers.{absolute_of, has_number}
+use Rattle.ep_base.specs.Options.{map_both, on_both}
 use Rattle.ep_base.specs.Reads.{IsWithinNumbers}
 use Rattle.ep_base.specs.declared.names.Name.{Name}
 use Rattle.ep_base.specs.declared.operators.Limit.{Limit}
@@ -17,7 +18,7 @@ use Rattle.ep_tree.proofs.TypedParts.{map_is, no_some, some_is, then_is}
 use Rattle.ep_tree.specs.Binding.{Find, Instance, Progress, Refusal, Shape, TextName, and_next, bind, bind_givens, bind_letting, bind_names, bind_params, bind_statement, bind_statements, bound_finds, element_values, first_false, fitted_into, group_finds, in_env, letting_bound, limits_met, met_groups, met_in, met_stated, model_text, nothing_bound, now_with, numbers_bound, or_refuse, outside_domain, over_limit, parameter_text, shape_bound, shape_of, undefined_at, unless_any, with_clauses, with_finds, with_goal}
 use Rattle.ep_tree.specs.Domains.{between, put_in, set_has, set_values, truth_values, united}
 use Rattle.ep_tree.specs.Environments.{Bound, Env, has_cells, has_domain, has_value, domain_bound, shape_type}
-use Rattle.ep_tree.specs.Evaluation.{domain_values, end_value, evaluate, map_both, number_in, on_both, over_names, range_values, type_in}
+use Rattle.ep_tree.specs.Evaluation.{domain_values, end_value, evaluate, number_in, over_names, range_values, type_in}
 use Rattle.ep_tree.specs.Faults.{lettings_of}
 use Rattle.ep_tree.specs.Limits.{is_too_far, limits_of_values, numbers_at}
 use Rattle.ep_tree.specs.Measures.{Met, met, met_domain, met_domains, met_end, met_names, met_ranges}

@@ -3,6 +3,7 @@ use Rattle.std.proofs.Common.{◌≡◌, ◌∙◌, ℤ, Bool, true, false, List
 use Rattle.std.specs.Prelude.{Result, Ok, is_none, option_and_then, unwrap_or}
 use Rattle.std.specs.List.{list_all}
 use Rattle.std.proofs.lemmas.List.{append-nil}
+use Rattle.ep_base.specs.Options.{on_both}
 use Rattle.ep_base.specs.declared.names.Name.{Name}
 use Rattle.ep_base.specs.declared.places.Place.{Place}
 use Rattle.ep_tree_laws.proofs.Bindings.{bound_typed, fit_typed}
@@ -12,7 +13,7 @@ use Rattle.ep_tree_laws.proofs.Typing.{context_typed, domain_typed, expression_t
 use Rattle.ep_tree.proofs.TypedParts.{map_is, some_is, then_is}
 use Rattle.ep_tree.specs.Binding.{Find, Instance, Progress, Refusal, Shape, TextName, and_next, bind_givens, bind_letting, bind_names, bind_statement, bound_finds, first_false, group_finds, in_env, letting_bound, limits_met, met_groups, met_in, model_text, now_with, or_refuse, outside_domain, shape_bound, shape_of, undefined_at, with_clauses, with_finds, with_goal, fitted_into, met_stated}
 use Rattle.ep_tree.specs.Environments.{Bound, Env, context_of, has_domain, has_value, meaning_in, shape_type}
-use Rattle.ep_tree.specs.Evaluation.{evaluate, on_both, type_in}
+use Rattle.ep_tree.specs.Evaluation.{evaluate, type_in}
 use Rattle.ep_tree.specs.Faults.{Fault, after_group, after_groups, after_statement, declaration_faults, declare, domain_faults, domain_meaning, faults, group_faults, group_meaning, letting_meaning, redeclared, stated_faults, statement_faults, unless}
 use Rattle.ep_tree.specs.Measures.{met, met_domain}
 use Rattle.ep_tree.specs.Names.{put}

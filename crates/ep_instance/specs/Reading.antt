@@ -1,12 +1,13 @@
 -- What is read of domains, with the nodes that are met counted.
 use Rattle.std.specs.Prelude.{◌≡◌, ℕ, ℤ, Bool, [], Option, Some, None, Result, Ok, Err, option_map, option_and_then}
 use Rattle.ep_base.specs.Numbers.{has_number}
+use Rattle.ep_base.specs.Options.{map_both}
 use Rattle.ep_eval.specs.Outcomes.{IsCause}
 use Rattle.ep_eval.specs.declared.errors.EvalError.{EvalError}
 use Rattle.ep_tree.specs.Binding as defined
 use Rattle.ep_tree.specs.Binding.{element_values, elements_pass, index_domains, indices_bound, numbers_bound}
 use Rattle.ep_tree.specs.Environments.{Bound, Env, shape_type}
-use Rattle.ep_tree.specs.Evaluation.{domain_values, map_both}
+use Rattle.ep_tree.specs.Evaluation.{domain_values}
 use Rattle.ep_tree.specs.Limits.{limits_of_values}
 use Rattle.ep_tree.specs.Measures.{met_domain}
 use Rattle.ep_tree.specs.Trees.{DomainTree}

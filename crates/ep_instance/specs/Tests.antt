@@ -1,10 +1,11 @@
 -- Tests of numbers, as they are kept: each says of the numbers that the program can write what the definitions say.
 use Rattle.std.specs.Prelude.{◌≡◌, ◌^◌, ◌++◌, ◌&&◌, Bool, List, ℤ, pos, neg_ℤ, ◌≤ℤ◌, ◌<ℤ◌, int_le, Option, option_map}
 use Rattle.std.specs.Ordering.{int_eq}
+use Rattle.ep_base.specs.Options.{map_both}
 use Rattle.ep_base.specs.declared.run_lists.Run.{Run}
 use Rattle.ep_tree.specs.Binding.{above_end, below_end}
 use Rattle.ep_tree.specs.Environments.{Env}
-use Rattle.ep_tree.specs.Evaluation.{evaluate, map_both, number_in}
+use Rattle.ep_tree.specs.Evaluation.{evaluate, number_in}
 use Rattle.ep_tree.specs.Measures.{Met, met, met_end}
 use Rattle.ep_tree.specs.Views.{held_end, kind_tree}
 use Rattle.ep_tree.specs.declared.syntax.Range.{Range, One', Span'}

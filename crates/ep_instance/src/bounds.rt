@@ -1,8 +1,9 @@
 //! Bounds of domains: their numbers, with the nodes that are met counted.
 
 ghost use Rattle.std.specs.Prelude.{◌≡◌, ◌≤◌, ◌++◌, [], ◌∷◌, Some, IfOk, IfErr, option_map};
+ghost use Rattle.ep_base.specs.Options.{map_both};
 ghost use Rattle.ep_tree.specs.Binding.{above_end, below_end, ranges_pass};
-ghost use Rattle.ep_tree.specs.Evaluation.{evaluate, map_both, number_in};
+ghost use Rattle.ep_tree.specs.Evaluation.{evaluate, number_in};
 ghost use Rattle.ep_tree.specs.Limits.{limits_of_values};
 ghost use Rattle.ep_tree.specs.Measures.{met, met_end, met_ranges};
 ghost use Rattle.ep_tree.specs.Views.{end_of, expr_tree, ranges_of, value_tree};
@@ -138,7 +139,7 @@ fn read_range(
 }
 
 /// The run between two ends, where both are there.
-#[tactic(auto, unfolding(ep_tree::specs::Evaluation::map_both))]
+#[tactic(auto, unfolding(ep_base::specs::Options::map_both))]
 fn run_between(low: Option<i64>, high: Option<i64>) -> Option<Run>
     ensures { result ≡ map_both (λ lo hi. record { lo = lo; hi = hi }) low high }
 {
@@ -152,7 +153,7 @@ fn run_between(low: Option<i64>, high: Option<i64>) -> Option<Run>
 }
 
 /// Runs and one more, where they are there.
-#[tactic(auto, unfolding(ep_tree::specs::Evaluation::map_both))]
+#[tactic(auto, unfolding(ep_base::specs::Options::map_both))]
 fn with_run(runs: Option<Vec<Run>>, run: Option<Run>) -> Result<Option<Vec<Run>>, AllocError>
     ensures { IfOk result (λ more. option_map (λ v. v.items) more
         ≡ map_both (λ all one. all ++ one ∷ []) (option_map (λ v. v.items) runs) run) }

@@ -1,7 +1,7 @@
 //! Decision variables, as their groups declare them.
 
 ghost use Rattle.std.specs.Prelude.{◌≡◌, ◌++◌, IfOk, OnOk, map, option_map};
-ghost use Rattle.ep_tree.specs.Evaluation.{map_both};
+ghost use Rattle.ep_base.specs.Options.{map_both};
 ghost use Rattle.ep_tree.specs.Views.{group_of};
 ghost use Rattle.ep_eval.specs.Known.{env_of};
 ghost use Rattle.ep_instance.specs.Finding.{kept_find, kept_finds};

@@ -6,8 +6,8 @@ ghost use Rattle.ep_tree.specs.Views.{value_tree};
 ghost use Rattle.ep_instance.specs.Elements.{PassesAs};
 
 use super::elements::{Elements, passes};
-use super::listing::{has_count, listed};
 use ep_base::{Memory, Runs};
+use ep_numbers::{has_count, listed};
 use ep_tree::{Scalar, Value};
 use std::alloc::Global;
 

@@ -1,8 +1,8 @@
 //! Index domains, with the nodes that are met counted.
 
 ghost use Rattle.std.specs.Prelude.{◌≡◌, ◌≤◌, ◌++◌, [], ◌∷◌, IfOk, IfErr, option_map};
+ghost use Rattle.ep_base.specs.Options.{map_both};
 ghost use Rattle.ep_tree.specs.Binding.{listed_domains};
-ghost use Rattle.ep_tree.specs.Evaluation.{map_both};
 ghost use Rattle.ep_tree.specs.Limits.{limits_of_values};
 ghost use Rattle.ep_tree.specs.Measures.{met_domains};
 ghost use Rattle.ep_tree.specs.Views.{domains_of};
@@ -16,7 +16,7 @@ use ep_tree::Domain;
 use std::alloc::{AllocError, Global};
 
 /// Sets and one more, where they are there.
-#[tactic(auto, unfolding(ep_tree::specs::Evaluation::map_both))]
+#[tactic(auto, unfolding(ep_base::specs::Options::map_both))]
 fn with_set(sets: Option<Vec<Runs>>, set: Option<Runs>) -> Result<Option<Vec<Runs>>, AllocError>
     ensures { IfOk result (λ more. option_map (λ v. v.items) more
         ≡ map_both (λ all one. all ++ one ∷ []) (option_map (λ v. v.items) sets) set) }

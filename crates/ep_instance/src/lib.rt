@@ -16,7 +16,6 @@ mod judging;
 mod laws;
 mod lettings;
 mod listed;
-mod listing;
 mod opened;
 mod shapes;
 mod solutions;

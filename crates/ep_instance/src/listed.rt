@@ -1,7 +1,7 @@
 //! Domains whose numbers are listed, with the nodes that are met counted.
 
 ghost use Rattle.std.specs.Prelude.{◌≡◌, ◌≤◌, ◌++◌, Some, IfOk, option_map};
-ghost use Rattle.ep_tree.specs.Evaluation.{map_both};
+ghost use Rattle.ep_base.specs.Options.{map_both};
 ghost use Rattle.ep_tree.specs.Views.{domain_tree};
 ghost use Rattle.ep_eval.specs.Known.{env_of};
 ghost use Rattle.ep_instance.specs.Reading.{NamesListed, ReadsListed, ReadsScalars};
@@ -32,7 +32,7 @@ pub fn copy_sets(alloc: Global, sets: &[Runs]) -> Result<Vec<Runs>, Memory>
 }
 
 /// Sets before others, where both are there.
-#[tactic(auto, unfolding(ep_tree::specs::Evaluation::map_both))]
+#[tactic(auto, unfolding(ep_base::specs::Options::map_both))]
 pub fn sets_before(
     own: Option<Vec<Runs>>,
     inner: Option<Vec<Runs>>,

@@ -9,9 +9,10 @@ use Rattle.std.proofs.lemmas.List.{length-take}
 use Rattle.std.proofs.lemmas.List.Folds.{list_all_at}
 use Rattle.std.proofs.lemmas.List.Sums.{prefix_len_stops, prefix_len-le-length}
 use Rattle.std.proofs.lemmas.Slice.Eq.{bytes_eq-Decides}
+use Rattle.ep_base.proofs.WordLengths.{is_one_of-fails, is_word-is, words}
 use Rattle.ep_base.specs.TokenTexts.{begins_name, continues_name, is_name, is_number, is_word, is_symbol, is_token, is_one_of, symbols, list_comparisons, language_name}
 use Rattle.ep_base.specs.Tokens.{greatest, token_len}
-use Rattle.ep_lexer.proofs.Fronts.{words, is_word-is, is_one_of-fails, greatest_is}
+use Rattle.ep_lexer.proofs.Fronts.{greatest_is}
 
 -- whether a text's first byte passes a test
 abbrev pub first_passes : (ℕ → Bool) → List ℕ → Bool

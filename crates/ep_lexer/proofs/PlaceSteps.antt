@@ -5,8 +5,7 @@ use Rattle.std.proofs.lemmas.Bool.{cases_Bool, cond-true, cond-false}
 use Rattle.std.proofs.lemmas.List.{drop_more, drop_all}
 use Rattle.std.proofs.lemmas.List.Sums.{suffix_len-take_yes, suffix_len-take_no, suffix_len-le-length, count_by_more_yes, count_by_more_no, count_by-le-length}
 use Rattle.ep_base.specs.declared.places.Place.{Place}
-use Rattle.ep_base.specs.Tokens.{place_at, is_line_end, gap_len, separates, in_comment_after}
-use Rattle.ep_lexer.specs.Cursor.{place_after}
+use Rattle.ep_base.specs.Tokens.{place_at, is_line_end, gap_len, separates, in_comment_after, place_after}
 
 pub place_start : (text : List ℕ) → place_at text 0 ≡ record { line = 1; column = 1 }
 unfolding place_at

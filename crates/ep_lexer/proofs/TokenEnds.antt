@@ -9,9 +9,9 @@ use Rattle.ep_base.specs.declared.tokens.Token.{Token}
 use Rattle.ep_base.specs.TokenTexts.{begins_name, continues_name, is_name, is_number, is_word, is_symbol, is_token, is_one_of, symbols, list_comparisons}
 use Rattle.ep_base.specs.Tokens.{token_at, token_len, place_at, is_line_end}
 use Rattle.ep_base.proofs.TokenLaws.{token_is, token_len-le, token_len_is_token}
+use Rattle.ep_base.proofs.WordLengths.{is_one_of-passes, is_word-is, words}
 use Rattle.ep_lexer.specs.declared.cursor.Cursor.{Cursor}
 use Rattle.ep_lexer.specs.Cursor.{IsAt}
-use Rattle.ep_lexer.proofs.Fronts.{words, is_word-is, is_one_of-passes}
 use Rattle.ep_lexer.proofs.PlaceSteps.{is_no_line_end, place, place_further}
 
 list_all_weaker : (p q : ℕ → Bool) → ((x : ℕ) → p x ≡ true → q x ≡ true) → (xs : List ℕ) → list_all p xs ≡ true → list_all q xs ≡ true

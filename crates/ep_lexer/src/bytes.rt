@@ -3,20 +3,10 @@
 ghost use Rattle.std.specs.Prelude.{◌≡◌};
 ghost use Rattle.std.specs.List.{prefix_len};
 ghost use Rattle.std.specs.Char.{is_ascii_digit};
-ghost use Rattle.ep_base.specs.TokenTexts.{begins_name, continues_name};
+ghost use Rattle.ep_base.specs.TokenTexts.{continues_name};
 ghost use Rattle.ep_base.specs.Tokens.{separates, in_comment_after};
 
-pub(crate) fn begins_name(byte: u8) -> bool
-    ensures { result ≡ begins_name byte }
-{
-    byte.is_ascii_alphabetic() || byte == b'_'
-}
-
-pub(crate) fn continues_name(byte: u8) -> bool
-    ensures { result ≡ continues_name byte }
-{
-    begins_name(byte) || byte.is_ascii_digit()
-}
+use ep_base::continues_name;
 
 /// How many bytes from the first on may stand further on in a name.
 pub(crate) fn name_length(bytes: &[u8]) -> usize

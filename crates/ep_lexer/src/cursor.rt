@@ -1,8 +1,8 @@
 //! Where reading stands in a text.
 
-ghost use Rattle.std.specs.Prelude.{◌≡◌, ◌<◌, ◌+◌, ◌^◌, false, drop};
+ghost use Rattle.std.specs.Prelude.{◌≡◌, ◌<◌, ◌+◌, false, drop};
 ghost use Rattle.ep_base.specs.Tokens.{gap_len};
-ghost use Rattle.ep_lexer.specs.Cursor.{IsAt, place_after};
+ghost use Rattle.ep_lexer.specs.Cursor.{IsAt};
 
 use crate::bytes::{in_comment_after, separates};
 use ep_base::Place;
@@ -26,25 +26,6 @@ impl Cursor {
     }
 }
 
-/// The place after a byte that stands at a place.
-fn place_after(place: Place, byte: u8) -> Place
-    requires line { place.line < 2 ^ 63 }
-    requires column { place.column < 2 ^ 63 }
-    ensures { result ≡ place_after place byte }
-{
-    if byte == b'\n' {
-        Place {
-            line: place.line + 1,
-            column: 1,
-        }
-    } else {
-        Place {
-            line: place.line,
-            column: place.column + 1,
-        }
-    }
-}
-
 /// The end of the blanks and comments that begin here.
 pub(crate) fn skip_gap(text: &[u8], from: Cursor) -> Cursor
     requires { IsAt text.now from }
@@ -56,7 +37,7 @@ pub(crate) fn skip_gap(text: &[u8], from: Cursor) -> Cursor
     let mut in_comment = false;
     while offset < text.len() && separates(in_comment, text[offset]) {
         in_comment = in_comment_after(in_comment, text[offset]);
-        place = place_after(place, text[offset]);
+        place = place.after(text[offset]);
         offset += 1;
     }
     Cursor { offset, place }

@@ -7,7 +7,6 @@ mod errors;
 mod numbers;
 mod scan;
 mod symbols;
-mod words;
 
 pub use errors::LexError;
 pub use scan::lex;

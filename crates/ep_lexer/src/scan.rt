@@ -7,13 +7,12 @@ ghost use Rattle.ep_base.specs.Tokens.{tokens_of, token_at, token_len, LieInOrde
 ghost use Rattle.ep_lexer.specs.Cursor.{IsAt};
 ghost use Rattle.ep_lexer.specs.Lex.{IsFaultOf};
 
-use crate::bytes::{begins_name, name_length, number_length};
+use crate::bytes::{name_length, number_length};
 use crate::cursor::{Cursor, skip_gap};
 use crate::errors::LexError;
 use crate::numbers::number_value;
 use crate::symbols::symbol_length;
-use crate::words::is_word;
-use ep_base::{Place, Token, TokenKind};
+use ep_base::{Place, Token, TokenKind, begins_name, is_word};
 use std::alloc::Global;
 
 /// The digits that a number may have.

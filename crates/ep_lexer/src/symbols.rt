@@ -5,7 +5,7 @@ ghost use Rattle.ep_base.specs.TokenTexts.{is_one_of, symbols, name_follows, is_
 ghost use Rattle.ep_base.specs.Tokens.{greatest};
 ghost use Rattle.ep_lexer.specs.Symbols.{begins_with_symbol_of};
 
-use crate::bytes::continues_name;
+use ep_base::continues_name;
 
 /// Whether a byte alone is a symbol.
 fn is_symbol_of_one(byte: u8) -> bool

@@ -1,13 +1,12 @@
 //! Where reading stopped in a text.
 
-ghost use Rattle.std.specs.Prelude.{◌≡◌, ◌<◌, ◌^◌, length};
+ghost use Rattle.std.specs.Prelude.{◌≡◌, length};
 ghost use Rattle.ep_base.specs.Tokens.{place_at};
-ghost use Rattle.ep_lexer.specs.Cursor.{place_after};
 ghost use Rattle.ep_parse_model.specs.Answers.{place_left, refusal_of};
 
 use crate::text_errors::TextError;
 use ep_base::Place;
-use ep_parse_expr::{Cursor, Stop};
+use ep_parse_parts::{Cursor, Stop};
 
 /// Why a text was refused where reading stopped.
 pub(crate) fn refusal(text: &[u8], cursor: &Cursor<'_>, stop: Stop) -> TextError
@@ -36,26 +35,7 @@ fn end_place(text: &[u8]) -> Place
 {
     let mut place = Place { line: 1, column: 1 };
     for byte in text {
-        place = place_after(place, *byte);
+        place = place.after(*byte);
     }
     place
-}
-
-/// The place after a byte that stands at a place.
-fn place_after(place: Place, byte: u8) -> Place
-    requires line { place.line < 2 ^ 63 }
-    requires column { place.column < 2 ^ 63 }
-    ensures after { result ≡ place_after place byte }
-{
-    if byte == b'\n' {
-        Place {
-            line: place.line + 1,
-            column: 1,
-        }
-    } else {
-        Place {
-            line: place.line,
-            column: place.column + 1,
-        }
-    }
 }

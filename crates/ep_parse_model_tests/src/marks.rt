@@ -5,10 +5,10 @@ use std::alloc::{AllocError, Global};
 
 /// A text, with the place of its mark, and how many bytes stand in front of it.
 #[derive(Drop)]
-pub(crate) struct Marked {
-    pub(crate) text: Vec<u8>,
-    pub(crate) place: Place,
-    pub(crate) before: usize,
+pub struct Marked {
+    pub text: Vec<u8>,
+    pub place: Place,
+    pub before: usize,
 }
 
 /// The place behind a byte.
@@ -26,7 +26,7 @@ fn behind(place: Place, byte: u8) -> Place {
 }
 
 /// A row without its mark behind some lines, of which there are so many.
-pub(crate) fn without_mark(
+pub fn without_mark(
     alloc: Global,
     front: &[u8],
     lines: u64,

@@ -2,7 +2,6 @@
 
 ghost use Rattle.std.specs.Prelude.{◌≡◌, ◌++◌, codes, IfOk, OnOk, false};
 ghost use Rattle.ep_tree.specs.TypedValues.{IsOf};
-ghost use Rattle.ep_tree.specs.Types.{scalar_of};
 ghost use Rattle.ep_tree.specs.Values.{matrix};
 ghost use Rattle.ep_tree.specs.Views.{value_tree, values_from};
 ghost use Rattle.ep_print.specs.Putting.{continued};
@@ -30,19 +29,7 @@ pub(crate) fn push_value(text: &mut Vec<u8>, ty: ValueType, value: &Value) -> Re
     ensures { OnOk result (text.new.items
         ≡ text.old.items ++ value_text ty (value_tree value.now)) }
 {
-    push_scalars(text, scalar_of(ty), value)
-}
-
-/// What the numbers in a value of a type stand for.
-#[tactic(auto, unfolding(ep_tree::specs::Types::scalar_of))]
-fn scalar_of(ty: ValueType) -> Scalar
-    ensures { result ≡ scalar_of ty }
-{
-    match ty {
-        ValueType::Bool | ValueType::Empty => Scalar::Bool,
-        ValueType::Int => Scalar::Int,
-        ValueType::Matrix { of, .. } => of,
-    }
+    push_scalars(text, ty.scalar(), value)
 }
 
 /// A value whose numbers stand for these.

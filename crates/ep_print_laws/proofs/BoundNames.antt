@@ -3,12 +3,13 @@ use Rattle.std.proofs.Common.{◌≡◌, List, [], ◌∷◌, ◌++◌, ℤ, Som
 use Rattle.std.specs.Prelude.{Ok}
 use Rattle.std.specs.List.{All, AllByRecursion}
 use Rattle.std.proofs.lemmas.List.Elements.{All-from_recursion}
+use Rattle.ep_base.proofs.Small.{some_is, then_is}
+use Rattle.ep_base.specs.Options.{on_both}
 use Rattle.ep_base.specs.declared.names.Name.{Name}
 use Rattle.ep_base.specs.declared.places.Place.{Place}
-use Rattle.ep_tree.proofs.TypedParts.{both_is, some_is, then_is}
+use Rattle.ep_tree.proofs.TypedParts.{both_is}
 use Rattle.ep_tree.specs.Binding.{Find, Instance, Progress, Shape, bind, bind_givens, bind_letting, bind_params, bind_statement, bind_statements, bound_finds, first_false, group_finds, in_env, limits_met, met_groups, met_in, model_text, nothing_bound, now_with, or_refuse, parameter_text, shape_of, undefined_at, with_clauses, with_finds, with_goal}
 use Rattle.ep_tree.specs.Environments.{Env}
-use Rattle.ep_tree.specs.Evaluation.{on_both}
 use Rattle.ep_tree.specs.Faults.{lettings_of}
 use Rattle.ep_tree.specs.Names.{nothing_known}
 use Rattle.ep_tree.specs.Phrases.{From, Is, Lexeme, PlacedNames, a_name}

@@ -6,9 +6,10 @@ use Rattle.std.specs.Char.{is_ascii_digit}
 use Rattle.std.proofs.lemmas.Bool.{and_from, and_parts, false_from_ne_true, false≢true, or_cases, or_left}
 use Rattle.std.proofs.lemmas.Bool.Decides.{nat_tests}
 use Rattle.std.proofs.Math.Seq.{take-append_seam}
+use Rattle.ep_base.proofs.WordLengths.{is_one_of-passes, is_word-is, words}
 use Rattle.ep_base.specs.TokenTexts.{begins_name, continues_name, is_name, is_number, is_one_of, is_symbol, is_token, is_word, list_comparisons, name_follows, symbols}
 use Rattle.ep_base.specs.Tokens.{token_len}
-use Rattle.ep_lexer.proofs.Fronts.{greatest_is, is_one_of-passes, is_word-is, words}
+use Rattle.ep_lexer.proofs.Fronts.{greatest_is}
 
 -- the pairs of bytes that stand side by side in a symbol, the first and the second
 abbrev pub symbol_pairs : List (ℕ × ℕ)

@@ -4,10 +4,10 @@ use Rattle.std.specs.Prelude.{Ok, Err, Result, nat_lt, filter, flat_map, if◌th
 use Rattle.std.specs.List.{AllByRecursion, IsDistinct, list_any}
 use Rattle.std.proofs.lemmas.Bool.{false≢true, cond-false, cond-true}
 use Rattle.std.proofs.lemmas.Slice.Eq.{bytes_eq-Decides}
+use Rattle.ep_base.proofs.Small.{no_some, some_is}
 use Rattle.ep_base.specs.declared.names.Name.{Name}
 use Rattle.ep_base.specs.declared.operators.Limit.{Limit}
 use Rattle.ep_base.specs.declared.places.Place.{Place}
-use Rattle.ep_tree.proofs.TypedParts.{no_some, some_is}
 use Rattle.ep_tree.specs.Binding.{Refusal, TextName, and_next, bind_letting, bind_params, letting_bound, limits_met, met_stated, or_refuse, over_limit, undefined_at, unless_any}
 use Rattle.ep_tree.specs.Environments.{Env, context_of, has_value}
 use Rattle.ep_tree.specs.Evaluation.{evaluate, type_in}

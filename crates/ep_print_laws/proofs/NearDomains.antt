@@ -7,15 +7,17 @@ use Rattle.std.proofs.lemmas.Bool.{and_from}
 use Rattle.std.proofs.lemmas.List.Elements.{All-from_recursion}
 use Rattle.std.proofs.lemmas.List.Concat.{flat_map-cons}
 use Rattle.std.proofs.lemmas.List.Folds.{list_all-append}
+use Rattle.ep_base.proofs.Small.{map_is, no_some, some_is, then_is}
+use Rattle.ep_base.specs.Options.{on_both}
 use Rattle.ep_base.specs.Runs.{IsAscending}
 use Rattle.ep_base.specs.declared.names.Name.{Name}
 use Rattle.ep_base.specs.declared.operators.Limit.{Limit}
 use Rattle.ep_base.specs.declared.places.Place.{Place}
 use Rattle.ep_tree.proofs.SortedDomains.{domain_values-ascend}
-use Rattle.ep_tree.proofs.TypedParts.{both_is, map_is, no_some, some_is, then_is}
+use Rattle.ep_tree.proofs.TypedParts.{both_is}
 use Rattle.ep_tree.specs.Binding.{Find, Instance, Progress, Refusal, Shape, TextName, and_next, bind, bind_givens, bind_letting, bind_names, bind_params, bind_statement, bind_statements, bound_finds, elements_pass, element_values, first_false, first_missing, fitted_into, given_bound, group_finds, in_env, index_domains, indices_bound, letting_bound, limits_met, listed_domains, met_groups, met_in, met_stated, model_text, nothing_bound, now_with, numbers_bound, or_refuse, outside_domain, over_limit, parameter, parameter_text, shape_bound, shape_of, undefined_at, unless_any, with_clauses, with_finds, with_goal}
 use Rattle.ep_tree.specs.Environments.{Bound, Env, has_cells, has_domain, has_value, scalar_in}
-use Rattle.ep_tree.specs.Evaluation.{domain_values, evaluate, on_both, type_in}
+use Rattle.ep_tree.specs.Evaluation.{domain_values, evaluate, type_in}
 use Rattle.ep_tree.specs.Faults.{lettings_of}
 use Rattle.ep_tree.specs.Limits.{MOST_SIZE, is_too_far, limits_of_values, numbers_at}
 use Rattle.ep_tree.specs.Measures.{Met, met, met_domain, met_domains, size_of}

@@ -8,14 +8,16 @@ use Rattle.std.proofs.lemmas.Grind.{flat_map-append}
 use Rattle.std.proofs.lemmas.Int.{ints}
 use Rattle.std.proofs.lemmas.List.Concat.{flat_map-cons}
 use Rattle.std.proofs.lemmas.List.Folds.{list_any-append}
+use Rattle.ep_base.proofs.Small.{no_some, some_is}
 use Rattle.ep_base.specs.Numbers.{absolute_of}
+use Rattle.ep_base.specs.Options.{map_both}
 use Rattle.ep_base.specs.Runs.{IsAscending, counting, or_zero}
 use Rattle.ep_base.specs.declared.names.Name.{Name}
 use Rattle.ep_base.specs.declared.places.Place.{Place}
-use Rattle.ep_tree.proofs.TypedParts.{map_both_is, no_some, some_is}
+use Rattle.ep_tree.proofs.TypedParts.{map_both_is}
 use Rattle.ep_tree.specs.Domains.{between, count_between, put_in, set_values, truth_values, united}
 use Rattle.ep_tree.specs.Environments.{Bound, Env, HasAscendingDomain, domain_bound, has_cells, has_domain, has_value}
-use Rattle.ep_tree.specs.Evaluation.{domain_values, end_value, evaluate, map_both, number_in, over_names, range_values}
+use Rattle.ep_tree.specs.Evaluation.{domain_values, end_value, evaluate, number_in, over_names, range_values}
 use Rattle.ep_tree.specs.Limits.{MOST_REACH, is_too_far, numbers_at}
 use Rattle.ep_tree.specs.Measures.{Met, met, met_domain, met_end, met_names, met_ranges}
 use Rattle.ep_tree.specs.Trees.{DomainTree, End, ExprTree, Ranges, bool, end_at, folded, group_domain, int, matrix_domain, named_domain, no_end, no_ranges, one_and, quantified, ranges, set_domain, span_and}

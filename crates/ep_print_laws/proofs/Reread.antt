@@ -3,11 +3,11 @@ use Rattle.std.proofs.Common.{◌≡◌, ℕ, suc, ◌<◌, ◌≤◌, Bool, tru
 use Rattle.std.specs.Prelude.{Ok, Err, Result, nat_lt}
 use Rattle.std.proofs.lemmas.Bool.Decides.{nat_tests}
 use Rattle.std.proofs.lemmas.List.{append-nil, take_all}
+use Rattle.ep_base.proofs.Small.{some_is}
 use Rattle.ep_base.specs.Tokens.{BadByte, LongNumber, TokenFault, tokens_of}
 use Rattle.ep_base.specs.declared.places.Place.{Place}
 use Rattle.ep_base.specs.declared.tokens.Token.{Token}
 use Rattle.ep_tree.proofs.FirstFault.{Begins-fewer}
-use Rattle.ep_tree.proofs.TypedParts.{some_is}
 use Rattle.ep_tree.specs.Binding.{Instance}
 use Rattle.ep_tree.specs.Phrases.{Lexeme, lexemes_of}
 use Rattle.ep_tree.specs.Reading.{Begins, IsTextFault, MOST_HEIGHT}

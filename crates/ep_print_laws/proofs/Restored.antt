@@ -7,9 +7,10 @@ use Rattle.std.proofs.lemmas.List.Elements.{All-from_recursion, recursion_from_A
 use Rattle.std.proofs.lemmas.List.Sorted.{All-permutation, IsPermutation-sym}
 use Rattle.std.proofs.lemmas.Map.Keys.{IsDistinct-IsPermutation}
 use Rattle.std.proofs.lemmas.Slice.Eq.{bytes_eq-Decides}
+use Rattle.ep_base.proofs.Small.{some_is, then_is}
 use Rattle.ep_base.specs.Numbers.{has_number}
 use Rattle.ep_base.specs.declared.names.Name.{Name}
-use Rattle.ep_tree.proofs.TypedParts.{both_is, some_is, then_is, truths_differ}
+use Rattle.ep_tree.proofs.TypedParts.{both_is, truths_differ}
 use Rattle.ep_tree.specs.Binding.{Find, Instance, Refusal, and_next, bind_params, parameter, solution_text}
 use Rattle.ep_tree.specs.Closed.{IsClosed}
 use Rattle.ep_tree.specs.Environments.{Env, has_value}

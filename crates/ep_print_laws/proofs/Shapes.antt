@@ -4,10 +4,10 @@ use Rattle.std.specs.Prelude.{◌⊎◌, if◌then◌else◌, option_and_then, o
 use Rattle.std.specs.List.{list_all, list_any}
 use Rattle.std.proofs.lemmas.Bool.{and_from, and_parts, cond-true, eq-eqb}
 use Rattle.std.proofs.lemmas.List.{length-append}
+use Rattle.ep_base.proofs.Small.{map_is, no_some, some_is, then_is}
 use Rattle.ep_base.specs.Runs.{IsAscending}
 use Rattle.ep_base.specs.declared.places.Place.{Place}
 use Rattle.ep_tree.proofs.TypedEvaluation.{with_indices_is}
-use Rattle.ep_tree.proofs.TypedParts.{map_is, no_some, some_is, then_is}
 use Rattle.ep_tree.specs.Environments.{Env}
 use Rattle.ep_tree.specs.Evaluation.{evaluate, number_in, values_of}
 use Rattle.ep_tree.specs.Faults.{faults, faults_of_all, type_fault}

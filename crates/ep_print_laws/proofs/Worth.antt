@@ -8,9 +8,10 @@ use Rattle.std.proofs.lemmas.Int.{ints}
 use Rattle.ep_base.specs.Numbers.{of_bool}
 use Rattle.ep_base.specs.Runs.{IsAscending, counting, or_zero}
 use Rattle.ep_base.proofs.Ascending.{ascending_tail}
+use Rattle.ep_base.specs.Options.{map_both, on_both}
 use Rattle.ep_tree.specs.Domains.{between, count_between, put_in, united}
 use Rattle.ep_tree.specs.Environments.{Env}
-use Rattle.ep_tree.specs.Evaluation.{domain_values, evaluate, index_values, map_both, matrix_value, number_in, on_both, range_values, values_of}
+use Rattle.ep_tree.specs.Evaluation.{domain_values, evaluate, index_values, matrix_value, number_in, range_values, values_of}
 use Rattle.ep_tree.specs.TypedValues.{is_number_of}
 use Rattle.ep_tree.specs.Trees.{DomainTree, ExprTree, ExprTrees, Ranges, end_at, no_trees, one_and, over, span_and, tree_and}
 use Rattle.ep_tree.specs.Values.{ValueTree, ValueTrees, all_defined, as_parts, listed_values, matrix, no_values, single, value_and, with_indices}

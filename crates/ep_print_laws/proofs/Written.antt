@@ -7,12 +7,13 @@ use Rattle.std.proofs.lemmas.Bool.{and_from, and_parts}
 use Rattle.std.proofs.lemmas.Bool.Decides.{Decides-int_eq}
 use Rattle.std.proofs.lemmas.List.Elements.{All-from_recursion, recursion_from_All}
 use Rattle.std.proofs.lemmas.List.Sorted.{IsPermutation-refl}
+use Rattle.ep_base.proofs.Small.{map_is, no_some, some_is, then_is}
 use Rattle.ep_base.specs.Numbers.{has_number}
 use Rattle.ep_base.specs.Runs.{IsAscending}
 use Rattle.ep_base.specs.declared.names.Name.{Name}
 use Rattle.ep_base.specs.declared.operators.Limit.{Limit}
 use Rattle.ep_tree.proofs.TypedEvaluation.{with_indices_is}
-use Rattle.ep_tree.proofs.TypedParts.{both_is, listed-as_parts, map_is, no_some, some_is, then_is, truths_differ}
+use Rattle.ep_tree.proofs.TypedParts.{both_is, listed-as_parts, truths_differ}
 use Rattle.ep_tree.specs.Binding.{Find, Instance, over_limit}
 use Rattle.ep_tree.specs.Closed.{IsClosed}
 use Rattle.ep_tree.specs.Environments.{Bound, has_cells, has_domain, has_value, shape_type}

@@ -7,6 +7,7 @@ use Rattle.std.proofs.Math.Nat.{mul-le-mul, mul_assoc, mul_comm}
 use Rattle.std.proofs.lemmas.List.{at_drop_all, at_drop_more}
 use Rattle.ep_base.specs.Runs.{counting, numbers, numbers_in, or_zero}
 use Rattle.ep_base.specs.declared.run_lists.Run.{Run}
+use Rattle.ep_numbers.proofs.Counting.{length_of_run}
 use Rattle.ep_tree.specs.Solutions.{cell_count}
 use Rattle.ep_size.specs.Totals.{MOST_TOLD, capped}
 
@@ -40,16 +41,6 @@ product_kept a b =
 pub sum_kept : (a b : ℕ) → capped (capped a + capped b) ≡ capped (a + b)
 sum_kept a b = omega arith
 
-length-counting : (first : ℤ) (n : ℕ) → length (counting first n) ≡ n
-unfolding counting
-length-counting first zero = refl
-length-counting first (suc n) = ap suc (length-counting (first +ℤ pos 1) n)
-
--- how many numbers a run has
-pub run_count : (run : Run) → length (numbers_in run) ≡ or_zero ((run.hi +ℤ pos 1) -ℤ run.lo)
-unfolding numbers_in
-run_count run = length-counting run.lo (or_zero ((run.hi +ℤ pos 1) -ℤ run.lo))
-
 -- a number below 0 counts nothing
 pub none_below : (z : ℤ) → int_lt z (pos 0) ≡ true → or_zero z ≡ 0
 none_below (pos n) h = grind arith
@@ -70,16 +61,16 @@ few_between (negsuc n) h k = absurd cc
 
 -- a run that ends before it begins has no number
 pub run_none : (run : Run) → int_lt ((run.hi +ℤ pos 1) -ℤ run.lo) (pos 0) ≡ true → 0 ≡ capped (length (numbers_in run))
-run_none run h = let count = run_count run in let none = none_below ((run.hi +ℤ pos 1) -ℤ run.lo) h in omega (arith, count, none)
+run_none run h = let count = length_of_run run in let none = none_below ((run.hi +ℤ pos 1) -ℤ run.lo) h in omega (arith, count, none)
 
 -- a long run has as many numbers as are told
 pub run_many : (run : Run) → int_lt (pos 20000001) ((run.hi +ℤ pos 1) -ℤ run.lo) ≡ true → MOST_TOLD ≡ capped (length (numbers_in run))
-run_many run h = let count = run_count run in let many = many_above ((run.hi +ℤ pos 1) -ℤ run.lo) h in omega (arith, count, many)
+run_many run h = let count = length_of_run run in let many = many_above ((run.hi +ℤ pos 1) -ℤ run.lo) h in omega (arith, count, many)
 
 -- any other run has as many as from its first number to its last one
 pub run_some : (run : Run) → int_lt ((run.hi +ℤ pos 1) -ℤ run.lo) (pos 0) ≡ false → int_lt (pos 20000001) ((run.hi +ℤ pos 1) -ℤ run.lo) ≡ false
     → nat_abs ((run.hi +ℤ pos 1) -ℤ run.lo) ≡ capped (length (numbers_in run))
-run_some run h k = few_between ((run.hi +ℤ pos 1) -ℤ run.lo) h k ∙ ap capped (sym (run_count run))
+run_some run h k = few_between ((run.hi +ℤ pos 1) -ℤ run.lo) h k ∙ ap capped (sym (length_of_run run))
 
 -- the length of a run in words that are wide enough
 pub wide_length : (hi lo a b : ℤ) → SFits w64 hi → SFits w64 lo → a ≡ to_z w64 (of_z w64 hi) → b ≡ to_z w64 (of_z w64 lo)

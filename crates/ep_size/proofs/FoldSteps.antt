@@ -5,6 +5,8 @@ use Rattle.std.specs.Int.{int_max, int_min}
 use Rattle.std.specs.List.{list_any}
 use Rattle.std.proofs.lemmas.Int.{clamps, ints}
 use Rattle.std.proofs.lemmas.List.{length_push}
+use Rattle.std.proofs.Math.Bool.{or_assoc}
+use Rattle.std.proofs.lemmas.Bool.{or_from, or_left, or_right}
 use Rattle.ep_base.specs.Intervals.{Interval, farthest_end, from_to, greatest_interval, greatest_or_zero, highs, least_interval, least_or_zero, lows, only, product_interval, products_interval, spanned, width}
 use Rattle.ep_base.specs.Numbers.{absolute_of, greatest_of, least_of}
 use Rattle.ep_tree.specs.Limits.{MOST_REACH, is_too_far}
@@ -13,7 +15,7 @@ use Rattle.ep_tree.specs.Reach as defined
 use Rattle.ep_tree.specs.Reach.{folded_span, reaches, sum_span, truth_span, wide_span}
 use Rattle.ep_tree.specs.declared.syntax.FoldOp.{FoldOp}
 use Rattle.ep_size.proofs.Caps.{product_kept}
-use Rattle.ep_size.proofs.Measurings.{is_past, left_true, neither, or_again, or_false, past_of, right_true}
+use Rattle.ep_size.proofs.Measurings.{is_past, or_false, past_of}
 use Rattle.ep_size.specs.Extents.{plain_span}
 use Rattle.ep_size.specs.Finishing.{Gives}
 use Rattle.ep_size.specs.Folds.{Chooses, Folds, GivesFold, Multiplies, RefusesFold, fold_reaches, greater, is_far_fold, is_far_reach, lesser}
@@ -176,7 +178,7 @@ unfolding first_products
 far_last a [] s = sym (or_false (is_far_reach (product_interval a s.reach)))
 far_last a (t ∷ spans) s =
     ap (λ b. is_far_reach (product_interval a t.reach) || b) (far_last (product_interval a t.reach) spans s)
-    ∙ sym (or_again (is_far_reach (product_interval a t.reach)) (list_any is_far_reach (first_products (product_interval a t.reach) (reaches spans)))
+    ∙ sym (or_assoc (is_far_reach (product_interval a t.reach)) (list_any is_far_reach (first_products (product_interval a t.reach) (reaches spans)))
     (is_far_reach (product_interval (fold product_interval (product_interval a t.reach) (reaches spans)) s.reach)))
 
 -- a product of the first numbers that reaches too far
@@ -184,8 +186,8 @@ far_among : (a : Interval) (spans : List defined.Span) (s : defined.Span) (rest 
     → is_far_reach (product_interval (fold product_interval a (reaches spans)) s.reach) ≡ true
     → list_any is_far_reach (first_products a (reaches (spans ++ s ∷ rest))) ≡ true
 unfolding first_products
-far_among a [] s rest h = left_true _ _ h
-far_among a (t ∷ spans) s rest h = right_true _ _ (far_among (product_interval a t.reach) spans s rest h)
+far_among a [] s rest h = or_left _ _ h
+far_among a (t ∷ spans) s rest h = or_right _ _ (far_among (product_interval a t.reach) spans s rest h)
 
 pub multiplies_none : (t : Multiplied) → interval_of t.whole ≡ only (pos 1) → Chooses product_interval t.chosen [] → Multiplies t []
 unfolding products_interval first_products
@@ -200,7 +202,7 @@ multiplies_more t u spans s h whole near weighed = record {
   whole = whole ∙ ap (λ i. product_interval i (interval_of s.reach)) h.whole ∙ sym (fold_last product_interval (only (pos 1)) spans (plain_span s));
   near =
       far_last (only (pos 1)) spans (plain_span s)
-      ∙ neither _ _ h.near (ap (λ i. is_far_reach (product_interval i (interval_of s.reach))) (sym h.whole) ∙ near);
+      ∙ or_from _ _ h.near (ap (λ i. is_far_reach (product_interval i (interval_of s.reach))) (sym h.whole) ∙ near);
   weighed = weighed;
 }
 
@@ -229,7 +231,7 @@ product_refused t spans rest s Memory i same k h = tt
 product_refused t spans rest s (Limit l) i same k h =
     let far : is_far_reach (product_interval (fold product_interval (only (pos 1)) (reaches spans)) (interval_of s.reach)) ≡ true =
     ap (λ j. is_far_reach (product_interval j (interval_of s.reach))) (sym h.whole) ∙ ap is_far_reach (sym same) ∙ k.1 in
-    (k.0, product_far (spans ++ plain_span s ∷ rest) ∙ right_true _ _ (far_among (only (pos 1)) spans (plain_span s) rest far))
+    (k.0, product_far (spans ++ plain_span s ∷ rest) ∙ or_right _ _ (far_among (only (pos 1)) spans (plain_span s) rest far))
 
 plain_gives : (op : FoldOp) (spans : List defined.Span) (r : Result Span SizeError) → Gives r (folded_span op spans)
     → is_far_fold op spans ≡ is_far_reach (folded_span op spans).reach → GivesFold r op spans

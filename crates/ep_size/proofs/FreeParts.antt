@@ -1,6 +1,7 @@
 -- What an expression in which no decision variable stands anywhere meets: nodes without decision variables.
 use Rattle.std.specs.Prelude.{◌≡◌, Bool, true, false, not, ◌&&◌, ◌||◌, List, [], ◌∷◌, ◌++◌, map, ℤ, if◌then◌else◌, cond, Some, None, bytes_eq, filter, flat_map, Option, unwrap_or, option_map, refl}
 use Rattle.std.proofs.Common.{ap, ◌∙◌}
+use Rattle.std.proofs.lemmas.Bool.{or_from}
 use Rattle.std.specs.List.{list_all, list_any}
 use Rattle.ep_base.specs.declared.names.Name.{Name}
 use Rattle.ep_base.specs.declared.places.Place.{Place}
@@ -32,10 +33,6 @@ not_true : (b : Bool) → not b ≡ true → b ≡ false
 not_true true h = absurd cc
 not_true false h = refl
 
-neither : (a b : Bool) → a ≡ false → b ≡ false → (a || b) ≡ false
-neither true b p q = p
-neither false b p q = q
-
 both_hidden : (f g : Name → Bool) (names : List Name) → Below f g → Below (hiding names f) (hiding names g)
 unfolding hiding
 both_hidden f g names h name k = go (not (list_any (bytes_eq name) names)) (f name) (g name) (h name) k
@@ -61,19 +58,19 @@ mutual
   free_holds f g h (flatten p e) q = free_holds f g h e q
   free_holds f g h (folded p op e) q = free_holds f g h e q
   free_holds f g h (all_different p e) q = free_holds f g h e q
-  free_holds f g h (binary p op a b) q = (neither (holds_decision f a) (holds_decision f b) (free_holds f g h a (and_one (is_free g a) (is_free g b) q)) (free_holds f g h b (and_other (is_free g a) (is_free g b) q)))
-  free_holds f g h (compare p op a b) q = (neither (holds_decision f a) (holds_decision f b) (free_holds f g h a (and_one (is_free g a) (is_free g b) q)) (free_holds f g h b (and_other (is_free g a) (is_free g b) q)))
-  free_holds f g h (lex p op a b) q = (neither (holds_decision f a) (holds_decision f b) (free_holds f g h a (and_one (is_free g a) (is_free g b) q)) (free_holds f g h b (and_other (is_free g a) (is_free g b) q)))
-  free_holds f g h (in_set p a b) q = (neither (holds_decision f a) (holds_decision f b) (free_holds f g h a (and_one (is_free g a) (is_free g b) q)) (free_holds f g h b (and_other (is_free g a) (is_free g b) q)))
-  free_holds f g h (table p a b) q = (neither (holds_decision f a) (holds_decision f b) (free_holds f g h a (and_one (is_free g a) (is_free g b) q)) (free_holds f g h b (and_other (is_free g a) (is_free g b) q)))
+  free_holds f g h (binary p op a b) q = (or_from (holds_decision f a) (holds_decision f b) (free_holds f g h a (and_one (is_free g a) (is_free g b) q)) (free_holds f g h b (and_other (is_free g a) (is_free g b) q)))
+  free_holds f g h (compare p op a b) q = (or_from (holds_decision f a) (holds_decision f b) (free_holds f g h a (and_one (is_free g a) (is_free g b) q)) (free_holds f g h b (and_other (is_free g a) (is_free g b) q)))
+  free_holds f g h (lex p op a b) q = (or_from (holds_decision f a) (holds_decision f b) (free_holds f g h a (and_one (is_free g a) (is_free g b) q)) (free_holds f g h b (and_other (is_free g a) (is_free g b) q)))
+  free_holds f g h (in_set p a b) q = (or_from (holds_decision f a) (holds_decision f b) (free_holds f g h a (and_one (is_free g a) (is_free g b) q)) (free_holds f g h b (and_other (is_free g a) (is_free g b) q)))
+  free_holds f g h (table p a b) q = (or_from (holds_decision f a) (holds_decision f b) (free_holds f g h a (and_one (is_free g a) (is_free g b) q)) (free_holds f g h b (and_other (is_free g a) (is_free g b) q)))
   free_holds f g h (gcc p a b c) q =
-      neither (holds_decision f a || holds_decision f b) (holds_decision f c) ((neither (holds_decision f a) (holds_decision f b) (free_holds f g h a (and_one (is_free g a) (is_free g b) (and_one (is_free g a && is_free g b) (is_free g c) q))) (free_holds f g h b (and_other (is_free g a) (is_free g b) (and_one (is_free g a && is_free g b) (is_free g c) q)))))
+      or_from (holds_decision f a || holds_decision f b) (holds_decision f c) ((or_from (holds_decision f a) (holds_decision f b) (free_holds f g h a (and_one (is_free g a) (is_free g b) (and_one (is_free g a && is_free g b) (is_free g c) q))) (free_holds f g h b (and_other (is_free g a) (is_free g b) (and_one (is_free g a && is_free g b) (is_free g c) q)))))
       (free_holds f g h c (and_other (is_free g a && is_free g b) (is_free g c) q))
   free_holds f g h (at_least p a b c) q =
-      neither (holds_decision f a || holds_decision f b) (holds_decision f c) ((neither (holds_decision f a) (holds_decision f b) (free_holds f g h a (and_one (is_free g a) (is_free g b) (and_one (is_free g a && is_free g b) (is_free g c) q))) (free_holds f g h b (and_other (is_free g a) (is_free g b) (and_one (is_free g a && is_free g b) (is_free g c) q)))))
+      or_from (holds_decision f a || holds_decision f b) (holds_decision f c) ((or_from (holds_decision f a) (holds_decision f b) (free_holds f g h a (and_one (is_free g a) (is_free g b) (and_one (is_free g a && is_free g b) (is_free g c) q))) (free_holds f g h b (and_other (is_free g a) (is_free g b) (and_one (is_free g a && is_free g b) (is_free g c) q)))))
       (free_holds f g h c (and_other (is_free g a && is_free g b) (is_free g c) q))
   free_holds f g h (at_most p a b c) q =
-      neither (holds_decision f a || holds_decision f b) (holds_decision f c) ((neither (holds_decision f a) (holds_decision f b) (free_holds f g h a (and_one (is_free g a) (is_free g b) (and_one (is_free g a && is_free g b) (is_free g c) q))) (free_holds f g h b (and_other (is_free g a) (is_free g b) (and_one (is_free g a && is_free g b) (is_free g c) q)))))
+      or_from (holds_decision f a || holds_decision f b) (holds_decision f c) ((or_from (holds_decision f a) (holds_decision f b) (free_holds f g h a (and_one (is_free g a) (is_free g b) (and_one (is_free g a && is_free g b) (is_free g c) q))) (free_holds f g h b (and_other (is_free g a) (is_free g b) (and_one (is_free g a && is_free g b) (is_free g c) q)))))
       (free_holds f g h c (and_other (is_free g a && is_free g b) (is_free g c) q))
   free_holds f g h (chain p terms) q = terms_free f g h terms q
   free_holds f g h (all_of p parts) q = all_free f g h parts q
@@ -88,25 +85,25 @@ mutual
       (and_one (is_free (hiding n g) e) (is_free_index g d)
       (and_other (are_free_generators g gens && are_free (hiding n g) conditions) (is_free (hiding n g) e && is_free_index g d) q))
   free_holds f g h (read p m is) q =
-      neither (holds_decision f m) (index_holds_decision f is) (free_holds f g h m (and_one (is_free g m) (are_free_indices g is) q))
+      or_from (holds_decision f m) (index_holds_decision f is) (free_holds f g h m (and_one (is_free g m) (are_free_indices g is) q))
       (indices_free f g h is (and_other (is_free g m) (are_free_indices g is) q))
 
   all_free : (f g : Name → Bool) → Below f g → (es : ExprTrees) → are_free g es ≡ true → one_holds_decision f es ≡ false
   all_free f g h no_trees q = refl
   all_free f g h (tree_and e es) q =
-      neither (holds_decision f e) (one_holds_decision f es) (free_holds f g h e (and_one (is_free g e) (are_free g es) q)) (all_free f g h es (and_other (is_free g e) (are_free g es) q))
+      or_from (holds_decision f e) (one_holds_decision f es) (free_holds f g h e (and_one (is_free g e) (are_free g es) q)) (all_free f g h es (and_other (is_free g e) (are_free g es) q))
 
   terms_free : (f g : Name → Bool) → Below f g → (ts : Terms) → are_free_terms g ts ≡ true → term_holds_decision f ts ≡ false
   terms_free f g h no_terms q = refl
   terms_free f g h (term_and plus e ts) q =
-      neither (holds_decision f e) (term_holds_decision f ts) (free_holds f g h e (and_one (is_free g e) (are_free_terms g ts) q))
+      or_from (holds_decision f e) (term_holds_decision f ts) (free_holds f g h e (and_one (is_free g e) (are_free_terms g ts) q))
       (terms_free f g h ts (and_other (is_free g e) (are_free_terms g ts) q))
 
   indices_free : (f g : Name → Bool) → Below f g → (is : Indices) → are_free_indices g is ≡ true → index_holds_decision f is ≡ false
   indices_free f g h no_indices q = refl
   indices_free f g h (every_and is) q = indices_free f g h is q
   indices_free f g h (index_and e is) q =
-      neither (holds_decision f e) (index_holds_decision f is) (free_holds f g h e (and_one (is_free g e) (are_free_indices g is) q))
+      or_from (holds_decision f e) (index_holds_decision f is) (free_holds f g h e (and_one (is_free g e) (are_free_indices g is) q))
       (indices_free f g h is (and_other (is_free g e) (are_free_indices g is) q))
 
 -- what is met, all of it fixed

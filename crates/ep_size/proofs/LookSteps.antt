@@ -3,6 +3,7 @@ use Rattle.std.proofs.Common.{◌≡◌, ℕ, ◌+◌, ◌<◌, ◌≤◌, Bool,
 use Rattle.std.specs.Prelude.{ℤ, ◌++◌, is_some}
 use Rattle.std.specs.List.{list_any}
 use Rattle.std.proofs.lemmas.List.{at_drop_all, at_drop_more}
+use Rattle.std.proofs.Math.Bool.{or_assoc, or-false, and-true}
 use Rattle.ep_base.specs.declared.names.Name.{Name}
 use Rattle.ep_tree.specs.Reach.{generator_names, is_decision, index_holds_decision, one_holds_decision, term_holds_decision}
 use Rattle.ep_tree.specs.Views.{domain_tree, domains_of, expr_tree, expr_trees, generators_of, indices_of, ranges_of, terms_of, with_range}
@@ -18,21 +19,9 @@ use Rattle.ep_size.specs.Free.{are_free, are_free_domains, are_free_generators, 
 use Rattle.ep_size.specs.Standings.{both, standing_of, standing_of_all, standing_of_indices, standing_of_terms}
 use Rattle.ep_size.specs.declared.standing.Standing.{Standing}
 
-or_again : (a b c : Bool) → ((a || b) || c) ≡ (a || (b || c))
-or_again true b c = refl
-or_again false b c = refl
-
 and_again : (a b c : Bool) → ((a && b) && c) ≡ (a && (b && c))
 and_again true b c = refl
 and_again false b c = refl
-
-or_none : (a : Bool) → (a || false) ≡ a
-or_none true = refl
-or_none false = refl
-
-pub and_all : (a : Bool) → (a && true) ≡ a
-and_all true = refl
-and_all false = refl
 
 abbrev free_one : Standing
 free_one = record { decided = false; free = true }
@@ -41,12 +30,12 @@ pub both_again : (a b c : Standing) → both (both a b) c ≡ both a (both b c)
 both_again a b c =
     let s : Bool = (a.free && b.free) && c.free in
     let d : Bool = a.decided || (b.decided || c.decided) in
-    ap (λ x. record { decided = x; free = s }) (or_again a.decided b.decided c.decided)
+    ap (λ x. record { decided = x; free = s }) (or_assoc a.decided b.decided c.decided)
     ∙ ap (λ x. record { decided = d; free = x }) (and_again a.free b.free c.free)
 
 pub both_none : (a : Standing) → both a free_one ≡ a
 both_none a =
-    ap (λ x. record { decided = x; free = a.free && true }) (or_none a.decided) ∙ ap (λ x. record { decided = a.decided; free = x }) (and_all a.free)
+    ap (λ x. record { decided = x; free = a.free && true }) (or-false a.decided) ∙ ap (λ x. record { decided = a.decided; free = x }) (and-true a.free)
 
 -- one part more
 pub goes_on : (before one after rest whole next : Standing) → next ≡ both before one → rest ≡ both one after → both before rest ≡ whole → both next after ≡ whole
@@ -101,7 +90,7 @@ same_standing s d f p q = ap (λ x. record { decided = x; free = s.free }) p ∙
 
 any_append : (f : Name → Bool) (xs ys : List Name) → list_any f (xs ++ ys) ≡ (list_any f xs || list_any f ys)
 any_append f [] ys = refl
-any_append f (x ∷ xs) ys = ap (λ b. f x || b) (any_append f xs ys) ∙ sym (or_again (f x) (list_any f xs) (list_any f ys))
+any_append f (x ∷ xs) ys = ap (λ b. f x || b) (any_append f xs ys) ∙ sym (or_assoc (f x) (list_any f xs) (list_any f ys))
 
 pub names_more : (f : Name → Bool) (xs : List Name) (k : ℕ) (x d : Name) → k < length xs → x ≡ get_or xs k d
     → list_any f (drop k xs) ≡ (f x || list_any f (drop (k + 1) xs))
@@ -146,8 +135,8 @@ and_more before one after rest whole next is cut h =
 
 ranges_cut : (f : Name → Bool) (x : Range) (xs : List Range) → are_free_ranges f (ranges_of (x ∷ xs)) ≡ (are_free_ranges f (alone x) && are_free_ranges f (ranges_of xs))
 unfolding ranges_of with_range are_free_ranges
-ranges_cut f (One' q e) xs = ap (λ b. b && are_free_ranges f (ranges_of xs)) (sym (and_all _))
-ranges_cut f (Span' low high) xs = ap (λ b. b && are_free_ranges f (ranges_of xs)) (sym (and_all _))
+ranges_cut f (One' q e) xs = ap (λ b. b && are_free_ranges f (ranges_of xs)) (sym (and-true _))
+ranges_cut f (Span' low high) xs = ap (λ b. b && are_free_ranges f (ranges_of xs)) (sym (and-true _))
 
 pub ranges_more : (f : Name → Bool) (xs : List Range) (k : ℕ) (x d : Range) (own : Bool) → k < length xs → x ≡ get_or xs k d → own ≡ are_free_ranges f (alone x)
     → are_free_ranges f (ranges_of (drop k xs)) ≡ (own && are_free_ranges f (ranges_of (drop (k + 1) xs)))
@@ -158,7 +147,7 @@ ranges_more f xs k x d own h same is =
 
 pub ranges_all : (f : Name → Bool) (xs : List Range) (k : ℕ) (b : Bool) → length xs ≤ k → (b && are_free_ranges f (ranges_of (drop k xs))) ≡ b
 unfolding ranges_of are_free_ranges
-ranges_all f xs k b h = ap (λ c. b && c) (at_drop_all (λ ys. are_free_ranges f (ranges_of ys)) xs k h) ∙ and_all b
+ranges_all f xs k b h = ap (λ c. b && c) (at_drop_all (λ ys. are_free_ranges f (ranges_of ys)) xs k h) ∙ and-true b
 
 pub domains_more : (f : Name → Bool) (xs : List Domain) (k : ℕ) (x d : Domain) (own : Bool) → k < length xs → x ≡ get_or xs k d → own ≡ is_free_domain f (domain_tree x)
     → are_free_domains f (domains_of (drop k xs)) ≡ (own && are_free_domains f (domains_of (drop (k + 1) xs)))
@@ -170,7 +159,7 @@ domains_more f xs k x d own h same is =
 
 pub domains_all : (f : Name → Bool) (xs : List Domain) (k : ℕ) (b : Bool) → length xs ≤ k → (b && are_free_domains f (domains_of (drop k xs))) ≡ b
 unfolding domains_of are_free_domains
-domains_all f xs k b h = ap (λ c. b && c) (at_drop_all (λ ys. are_free_domains f (domains_of ys)) xs k h) ∙ and_all b
+domains_all f xs k b h = ap (λ c. b && c) (at_drop_all (λ ys. are_free_domains f (domains_of ys)) xs k h) ∙ and-true b
 
 pub generators_more : (f : Name → Bool) (xs : List Generator) (k : ℕ) (x d : Generator) (own : Bool) → k < length xs → x ≡ get_or xs k d → own ≡ is_free_domain f (domain_tree x.domain)
     → are_free_generators f (generators_of (drop k xs)) ≡ (own && are_free_generators f (generators_of (drop (k + 1) xs)))
@@ -182,4 +171,4 @@ generators_more f xs k x d own h same is =
 
 pub generators_all : (f : Name → Bool) (xs : List Generator) (k : ℕ) (b : Bool) → length xs ≤ k → (b && are_free_generators f (generators_of (drop k xs))) ≡ b
 unfolding generators_of are_free_generators
-generators_all f xs k b h = ap (λ c. b && c) (at_drop_all (λ ys. are_free_generators f (generators_of ys)) xs k h) ∙ and_all b
+generators_all f xs k b h = ap (λ c. b && c) (at_drop_all (λ ys. are_free_generators f (generators_of ys)) xs k h) ∙ and-true b

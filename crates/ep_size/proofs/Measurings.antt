@@ -8,6 +8,8 @@ use Rattle.std.proofs.lemmas.List.{length-append, map-append}
 use Rattle.std.proofs.lemmas.List.Sums.{sum_by-append}
 use Rattle.std.proofs.lemmas.Grind.{flat_map-append}
 use Rattle.std.proofs.lemmas.List.Elements.{Contains-append_left, Contains-append_right, Contains-append_cases}
+use Rattle.std.proofs.Math.Bool.{or_assoc}
+use Rattle.std.proofs.lemmas.Bool.{or_from, or_left, or_right}
 use Rattle.ep_base.specs.Intervals.{Interval, farthest_end}
 use Rattle.ep_base.specs.Numbers.{absolute_of}
 use Rattle.ep_base.specs.declared.operators.Limit.{Limit as LimitName}
@@ -23,10 +25,6 @@ use Rattle.ep_size.specs.declared.errors.SizeError.TheVariants.{Limit, Memory}
 use Rattle.ep_size.specs.declared.totals.Totals.{Totals}
 
 -- ---- reach
-
-pub or_again : (a b c : Bool) → ((a || b) || c) ≡ (a || (b || c))
-or_again true b c = refl
-or_again false b c = refl
 
 pub or_false : (b : Bool) → b ≡ (b || false)
 or_false true = refl
@@ -44,7 +42,7 @@ greatest_past m a [] = or_false (int_lt m a)
 greatest_past m a (x ∷ xs) =
     greatest_past m (int_max a (absolute_of x)) xs
     ∙ ap (λ b. b || list_any (λ y. int_lt m (absolute_of y)) xs) (greater_of m a (absolute_of x))
-    ∙ or_again (int_lt m a) (int_lt m (absolute_of x)) (list_any (λ y. int_lt m (absolute_of y)) xs)
+    ∙ or_assoc (int_lt m a) (int_lt m (absolute_of x)) (list_any (λ y. int_lt m (absolute_of y)) xs)
 
 pub past_of : (xs : List ℤ) → int_lt MOST_REACH (farthest_of xs) ≡ list_any is_past xs
 unfolding farthest_of
@@ -52,7 +50,7 @@ past_of xs = greatest_past MOST_REACH (pos 0) xs
 
 any_append : {A : Type 0} (f : A → Bool) (xs ys : List A) → list_any f (xs ++ ys) ≡ (list_any f xs || list_any f ys)
 any_append f [] ys = refl
-any_append f (x ∷ xs) ys = ap (λ b. f x || b) (any_append f xs ys) ∙ sym (or_again (f x) (list_any f xs) (list_any f ys))
+any_append f (x ∷ xs) ys = ap (λ b. f x || b) (any_append f xs ys) ∙ sym (or_assoc (f x) (list_any f xs) (list_any f ys))
 
 -- whether some nodes pass the limit of reach
 abbrev pub is_far : Mode → List Met → Bool
@@ -71,18 +69,6 @@ far_either mode ms ns =
     ∙ ap (λ b. b || list_any is_past ys) (sym (past_of xs))
     ∙ ap (λ b. int_lt MOST_REACH (farthest_of xs) || b) (sym (past_of ys))
 
-pub neither : (a b : Bool) → a ≡ false → b ≡ false → (a || b) ≡ false
-neither false b h k = k
-neither true b h k = absurd cc
-
-pub left_true : (a b : Bool) → a ≡ true → (a || b) ≡ true
-left_true true b h = refl
-left_true false b h = absurd cc
-
-pub right_true : (a b : Bool) → b ≡ true → (a || b) ≡ true
-right_true true b h = refl
-right_true false b h = h
-
 -- ---- measures
 
 weight-append : (mode : Mode) (ms ns : List Met) → weight_of mode (ms ++ ns) ≡ weight_of mode ms + weight_of mode ns
@@ -100,7 +86,7 @@ pub measured_append : (mode : Mode) (a b c : Totals) (ms ns : List Met) → Meas
 measured_append mode a b c ms ns h k = record {
   size = omega (arith, h.size, k.size, length-append ms ns);
   small = λ s. k.small (h.small s);
-  near = far_either mode ms ns ∙ neither _ _ h.near k.near;
+  near = far_either mode ms ns ∙ or_from _ _ h.near k.near;
   weight = omega (arith, h.weight, k.weight, weight-append mode ms ns);
 }
 
@@ -139,14 +125,14 @@ cause_more mode a b ms ns (Limit l) h k c =
 pub cause_first : (mode : Mode) (a : ℕ) (ms ns : List Met) (error : SizeError) → IsCause (limits_passed mode a ms) error → IsCause (limits_passed mode a (ms ++ ns)) error
 cause_first mode a ms ns error c =
     cause_more mode a a ms (ms ++ ns) error (omega (arith, length-append ms ns))
-    (λ h. far_either mode ms ns ∙ left_true _ _ h) c
+    (λ h. far_either mode ms ns ∙ or_left _ _ h) c
 
 -- what refuses the later of some nodes refuses them all
 pub cause_then : (mode : Mode) (a b : Totals) (ms ns : List Met) (error : SizeError) → Measured mode a b ms
     → IsCause (limits_passed mode b.size ns) error → IsCause (limits_passed mode a.size (ms ++ ns)) error
 cause_then mode a b ms ns error m c =
     cause_more mode b.size a.size ns (ms ++ ns) error (omega (arith, m.size, length-append ms ns))
-    (λ h. far_either mode ms ns ∙ right_true _ _ h) c
+    (λ h. far_either mode ms ns ∙ or_right _ _ h) c
 
 size_limit : (s r : Refusal) (b c : Bool) → b ≡ true → Contains ((if b then s ∷ [] else []) ++ (if c then r ∷ [] else [])) s
 size_limit s r true c h = (0, omega arith, refl)

@@ -1,7 +1,8 @@
 -- Nodes that hold a decision variable, by their parts: what measuring the parts shows of the whole, or what refuses it.
 use Rattle.std.proofs.Common.{◌≡◌, ℕ, ◌+◌, ◌≤◌, Bool, true, false, List, [], ◌∷◌, ◌++◌, refl, sym, ap, subst, ◌∙◌, inl, inr, arith, Ok, Err}
-use Rattle.std.specs.Prelude.{Contains, OnOk, IfOk, IfErr, Result, if◌then◌else◌, ◌||◌}
+use Rattle.std.specs.Prelude.{Contains, OnOk, IfOk, IfErr, Result, if◌then◌else◌}
 use Rattle.std.proofs.lemmas.List.Sums.{sum_by-cons}
+use Rattle.std.proofs.lemmas.Bool.{or_from, or_left, or_right}
 use Rattle.ep_base.specs.Intervals.{Interval, farthest_end, product_interval}
 use Rattle.ep_base.specs.declared.places.Place.{Place}
 use Rattle.ep_tree.specs.Binding.{over_limit}
@@ -15,7 +16,7 @@ use Rattle.ep_tree.specs.Trees.{ExprTree}
 use Rattle.ep_tree.specs.Values.{single}
 use Rattle.ep_tree.specs.declared.values.Mode.{Mode}
 use Rattle.ep_eval.specs.Counting.{all_but_first, met_below}
-use Rattle.ep_size.proofs.Measurings.{cause_more, far_either, is_far, near_alone, reach_refuses, right_true}
+use Rattle.ep_size.proofs.Measurings.{cause_more, far_either, is_far, near_alone, reach_refuses}
 use Rattle.ep_size.specs.Causes.{IsCause}
 use Rattle.ep_size.specs.Extending.{Added, Extended, IsRefused, Weighed}
 use Rattle.ep_size.specs.Extents.{IsKnownExtent, TellsValue, grid_of, plain_span}
@@ -28,10 +29,6 @@ use Rattle.ep_size.specs.declared.extents.Extent.{Extent}
 use Rattle.ep_size.specs.declared.extents.Extent.TheVariants.{Number}
 use Rattle.ep_size.specs.declared.extents.Span.{Span}
 use Rattle.ep_size.specs.declared.totals.Totals.{Totals}
-
-neither : (a b : Bool) → a ≡ false → b ≡ false → (a || b) ≡ false
-neither false b h k = k
-neither true b h k = absurd cc
 
 -- a weight beside that of measured nodes
 pub weighed_with : (mode : Mode) (own : ℕ) (a b c : Totals) (ms : List Met) → Measured mode a b ms → Added b c own → Weighed mode own a c ms
@@ -50,13 +47,9 @@ measured_node mode env e a b c one same little h =
     subst (λ ms. Measured mode a c ms) (sym h.first) (record {
       size = omega (arith, h.weighed.size, one);
       small = λ _. h.weighed.small little;
-      near = far_either mode (a_node env e ∷ []) (met_below mode env e) ∙ neither _ _ h.near h.weighed.near;
+      near = far_either mode (a_node env e ∷ []) (met_below mode env e) ∙ or_from _ _ h.near h.weighed.near;
       weight = let cut = sum_by-cons (weight_at mode) (a_node env e) (met_below mode env e) in omega (arith, h.weighed.weight, same, cut);
     })
-
-left_true : (x y : Bool) → x ≡ true → (x || y) ≡ true
-left_true true y k = refl
-left_true false y k = absurd cc
 
 -- what refuses a node behind its own count refuses the expression
 pub refused_whole : (mode : Mode) (env : Env) (e : ExprTree) (a n : ℕ) (error : SizeError) → n ≡ a + 1
@@ -68,11 +61,11 @@ refused_whole mode env e a n (Limit l) same h =
     (elim h.0 as (λ _. IsCause (limits_passed mode a ((a_node env e ∷ []) ++ met_below mode env e)) (Limit l)) [
       | inl c ↦
           cause_more mode n a (met_below mode env e) ((a_node env e ∷ []) ++ met_below mode env e) (Limit l) (omega (arith, same))
-          (λ far. far_either mode (a_node env e ∷ []) (met_below mode env e) ∙ right_true _ _ far) c
+          (λ far. far_either mode (a_node env e ∷ []) (met_below mode env e) ∙ or_right _ _ far) c
       | inr f ↦
           subst (λ k. Contains (limits_passed mode a ((a_node env e ∷ []) ++ met_below mode env e)) (over_limit k)) (sym f.0)
           (reach_refuses mode a ((a_node env e ∷ []) ++ met_below mode env e)
-          (far_either mode (a_node env e ∷ []) (met_below mode env e) ∙ left_true _ _ f.1))
+          (far_either mode (a_node env e ∷ []) (met_below mode env e) ∙ or_left _ _ f.1))
     ])
 
 -- ---- a node that is a number

@@ -5,6 +5,7 @@ use Rattle.std.specs.List.{list_all}
 use Rattle.std.proofs.lemmas.List.{map-append}
 use Rattle.std.specs.declared.alloc.Global.{Global}
 use Rattle.std.specs.declared.vec.Vec.{Vec}
+use Rattle.ep_base.proofs.Small.{no_some, some_is}
 use Rattle.ep_tree.specs.Reach.{Extent as ExtentTree, MeasuredIndex, fixed_index, fixed_span, no_extent, plain_index, slice_extent, whole_index}
 use Rattle.ep_tree.specs.Values.{Index, all_defined, any_index, as_parts, at_index, map_grid, map_grids, matrix, part_at, read_value, value_and}
 use Rattle.ep_tree.specs.Views.{value_tree, values_from}
@@ -17,12 +18,6 @@ use Rattle.ep_size.specs.Extents.{fixed_grid, grid_of, grids_from}
 use Rattle.ep_size.specs.Lists.{TellsExtent}
 use Rattle.ep_size.specs.Slices.{IsPart, ReadsGrid, is_told}
 use Rattle.ep_size.specs.declared.extents.Extent.{Extent, Matrix}
-
-some_is : {A : Type 0} {x y : A} → Some x ≡ Some y → x ≡ y
-some_is e = cc
-
-no_some : {A B : Type 0} {x : A} → None ≡ Some x → B
-no_some e = absurd cc
 
 -- ---- parts once more
 

@@ -3,6 +3,7 @@ use Rattle.std.proofs.Common.{◌≡◌, ℕ, zero, suc, ℤ, pos, negsuc, Bool,
 use Rattle.std.specs.Prelude.{Result, fold, if◌then◌else◌, int_lt}
 use Rattle.std.specs.Int.{int_max, int_min}
 use Rattle.std.proofs.lemmas.Int.{clamps, fold-int_max_bounds, fold-int_min_bounds, ints}
+use Rattle.std.proofs.lemmas.Bool.{or_left, or_right}
 use Rattle.ep_base.specs.Intervals.{Interval, farthest_end, greatest_or_zero, has_zero, least_or_zero, nth_power_interval, only, power_interval, spanned}
 use Rattle.ep_base.specs.Numbers.{absolute_of, greatest_of, least_of, nth_power}
 use Rattle.ep_base.specs.declared.operators.Limit.{Limit as LimitName}
@@ -44,17 +45,9 @@ unfolding is_too_far absolute_of
 below_far (pos m) n q h = absurd (omega (arith, ints, q))
 below_far (negsuc m) n q h = grind (arith, ints)
 
-one_true : (a b : Bool) → a ≡ true → (a || b) ≡ true
-one_true true b h = refl
-one_true false b h = absurd cc
-
-other_true : (a b : Bool) → b ≡ true → (a || b) ≡ true
-other_true true b h = refl
-other_true false b h = h
-
 between_far : (a l b : ℤ) → a ≤ℤ l → l ≤ℤ b → is_too_far l ≡ true → (is_too_far a || is_too_far b) ≡ true
-between_far a (pos n) b p q h = other_true (is_too_far a) (is_too_far b) (above_far b n q h)
-between_far a (negsuc n) b p q h = one_true (is_too_far a) (is_too_far b) (below_far a n p h)
+between_far a (pos n) b p q h = or_right (is_too_far a) (is_too_far b) (above_far b n q h)
+between_far a (negsuc n) b p q h = or_left (is_too_far a) (is_too_far b) (below_far a n p h)
 
 far_first : (l h : ℤ) (zs : List ℤ) → is_too_far l ≡ true → is_too_far (farthest_end (spanned (l ∷ h ∷ zs))) ≡ true
 unfolding spanned least_or_zero greatest_or_zero least_of greatest_of

@@ -19,7 +19,6 @@ use super::totals::{MOST_SIZE, MOST_TOLD, Totals, product, told};
 use ep_base::{Limit, Memory, Name, Run, Runs};
 use ep_eval::Env;
 use ep_instance::Find;
-use ep_tree::{Scalar, ValueType};
 use std::alloc::Global;
 
 /// How many numbers a run has, as far as it is told.
@@ -58,18 +57,6 @@ pub fn cells_over(indices: &[Runs]) -> u64
     cells
 }
 
-/// The scalar of a type.
-#[tactic(auto, unfolding(ep_tree::specs::Types::scalar_of))]
-fn scalar_of(ty: ValueType) -> Scalar
-    ensures { result ≡ types.scalar_of ty }
-{
-    match ty {
-        ValueType::Bool | ValueType::Empty => Scalar::Bool,
-        ValueType::Int => Scalar::Int,
-        ValueType::Matrix { of, .. } => of,
-    }
-}
-
 /// The same sets of numbers once more.
 fn copy_sets(alloc: Global, sets: &[Runs]) -> Result<Vec<Runs>, Memory>
     ensures { IfOk result (λ copies. copies.items ≡ sets.now) }
@@ -90,7 +77,7 @@ fn name_find(alloc: Global, env: &mut Env, find: &Find) -> Result<(), Memory>
     let name = Name::new(alloc, find.name.text())?;
     let indices = copy_sets(alloc, &find.indices)?;
     let values = find.values.copy(alloc)?;
-    env.name_cells(name, indices, values, scalar_of(find.ty))
+    env.name_cells(name, indices, values, find.ty.scalar())
 }
 
 /// The cells of one decision variable more.

@@ -31,7 +31,7 @@ use ep_tree::Scalar;
 const MOST_COUNTED: u128 = 1_000_000_000_000_000_000_000_000_000_000;
 
 /// How many numbers a run has.
-#[tactic(auto, unfolding(ep_base::specs::Intervals::width), using(crate::proofs::Caps::run_count))]
+#[tactic(auto, unfolding(ep_base::specs::Intervals::width), using(ep_numbers::proofs::Counting::length_of_run))]
 fn count_in(run: Run) -> u128
     ensures { result ≡ length (numbers_in run) }
 {

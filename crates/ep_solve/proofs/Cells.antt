@@ -14,7 +14,6 @@ use Rattle.ep_ground.specs.declared.cells.Cell.{Cell}
 use Rattle.ep_tree.specs.Binding.{Find, Instance}
 use Rattle.ep_tree.specs.Closed.{IsClosed}
 use Rattle.ep_tree.specs.Environments.{has_value, shape_type}
-use Rattle.ep_tree.specs.Evaluation.{on_both}
 use Rattle.ep_tree.specs.Solutions.{Assigned, Fits, Found, NamedValue, cell_count, find_type, fitted_find, found_of, found_values, named_in}
 use Rattle.ep_tree.specs.Types.{of_scalar, scalar_of}
 use Rattle.ep_tree.specs.Values.{ValueTree, fitted, scalars_of}
@@ -23,6 +22,8 @@ use Rattle.ep_tree.specs.declared.values.ValueType.{ValueType}
 use Rattle.ep_tree.specs.TypedValues.{IsOf, is_number_of}
 use Rattle.ep_print.specs.Answers.{AreTyped}
 use Rattle.std.proofs.lemmas.List.Elements.{All-cons, All-head, All-nil, All-tail}
+use Rattle.std.proofs.lemmas.Bool.{or_left, or_right}
+use Rattle.ep_base.specs.Options.{on_both}
 use Rattle.ep_unroll.specs.Cells.{bound_numbers, find_cells, found_numbers, index_lists, instance_cells, is_truth}
 use Rattle.ep_solve.specs.Reading.{GivesNumbers, ReadsAs, assignment_from, value_from}
 use Rattle.ep_solve.proofs.Scalars.{Passing, all-weaker, fitted-passes, value-fits, value-made, value-read, value-typed}
@@ -50,14 +51,6 @@ cells-count f = length-map _ (index_lists f.indices) ∙ lists-count f.indices
 
 -- ---- numbers among the values of cells
 
-either-first : (a b : Bool) → a ≡ true → (a || b) ≡ true
-either-first true b h = refl
-either-first false b h = absurd cc
-
-either-second : (a b : Bool) → b ≡ true → (a || b) ≡ true
-either-second true b h = refl
-either-second false b h = h
-
 pub contains-number : (values : List ℤ) (x : ℤ) → has_number values x ≡ true → Contains values x
 unfolding has_number
 contains-number [] x h = absurd cc
@@ -70,8 +63,8 @@ contains-number (v ∷ vs) x h = by-first (int_eq x v) (has_number vs x) (Decide
 at-place : (values : List ℤ) (x : ℤ) (p : ℕ) → p < length values → get_or values p x ≡ x → has_number values x ≡ true
 unfolding has_number
 at-place [] x p lt e = absurd (omega (arith, lt))
-at-place (v ∷ vs) x zero lt e = either-first (int_eq x v) (has_number vs x) ((Decides-int_eq x v).1 (sym e))
-at-place (v ∷ vs) x (suc p) lt e = either-second (int_eq x v) (has_number vs x) (at-place vs x p (omega (arith, lt)) e)
+at-place (v ∷ vs) x zero lt e = or_left (int_eq x v) (has_number vs x) ((Decides-int_eq x v).1 (sym e))
+at-place (v ∷ vs) x (suc p) lt e = or_right (int_eq x v) (has_number vs x) (at-place vs x p (omega (arith, lt)) e)
 
 pub number-contained : (values : List ℤ) (x : ℤ) → Contains values x → has_number values x ≡ true
 number-contained values x h = at-place values x h.0 h.1 h.2

@@ -3,7 +3,6 @@ pub mod Cells
 pub mod Judged
 pub mod MakingSteps
 pub mod GivenLogs
-pub mod RunNumbers
 pub mod Scalars
 pub mod Standing
 pub mod Solved

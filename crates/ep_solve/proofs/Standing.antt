@@ -3,9 +3,9 @@ use Rattle.std.proofs.Common.{ℤ, List, map, sym, ap, subst, ◌∙◌}
 use Rattle.std.specs.List.{AllZip, Contains}
 use Rattle.cnf_core.specs.Formula.{Cnf}
 use Rattle.enc_var.specs.Decoding.{VariableLiterals}
+use Rattle.enc_var.specs.Formulas.{IsFormulaOf}
 use Rattle.enc_var.specs.Layouts.{decoded_cells}
 use Rattle.ep_flat.specs.Flats.{MapState, MapsCells}
-use Rattle.ep_formula.specs.Formulas.{IsFormulaOf}
 use Rattle.ep_ground.specs.Grounds.{GroundState, IsGroundSolution, ground_objective}
 use Rattle.ep_ground.specs.declared.cells.Cell.{Cell}
 use Rattle.ep_tree.specs.Binding.{Instance}

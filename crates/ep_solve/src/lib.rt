@@ -4,7 +4,6 @@
 mod enumerating;
 mod formulas;
 mod laws;
-mod listing;
 mod posing;
 mod reading_back;
 mod solving;

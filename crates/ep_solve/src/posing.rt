@@ -19,13 +19,6 @@ use ep_formula::Encoded;
 use sat_search::Solver;
 use std::alloc::Global;
 
-/// A copy of a clause.
-fn copied(clause: &Clause) -> Result<Clause, Memory>
-    ensures { IfOk result (λ copy. copy ≡ clause.now) }
-{
-    Ok(clause.clone()?)
-}
-
 /// Appends these clauses to an empty log as givens.
 fn give_all(log: &mut Log, clauses: &[Clause]) -> Result<(), Memory>
     requires { log.old ≡ empty_log }
@@ -33,7 +26,7 @@ fn give_all(log: &mut Log, clauses: &[Clause]) -> Result<(), Memory>
     ensures givens { All (λ e. is_given e ≡ true) log.new.events }
 {
     for clause in clauses {
-        log.given(copied(clause)?)?;
+        log.given(clause.copied()?)?;
     }
     Ok(())
 }

@@ -6,9 +6,9 @@ ghost use Rattle.ep_instance.specs.Instances.{find_of};
 ghost use Rattle.ep_tree.specs.Views.{assigned, value_tree};
 ghost use Rattle.ep_solve.specs.Reading.{assignment_from, value_from};
 
-use crate::listing::listed;
 use ep_base::{Memory, Name, Runs};
 use ep_instance::Find;
+use ep_numbers::listed;
 use ep_tree::{Assignment, Entry, Value};
 use std::alloc::Global;
 

@@ -5,11 +5,12 @@ use Rattle.std.proofs.lemmas.Bool.{false≢true}
 use Rattle.std.proofs.lemmas.List.Elements.{All-cons, All-from_recursion, All-nil}
 use Rattle.cnf_core.proofs.Members.{Contains-here}
 use Rattle.ep_base.specs.Numbers as numbers
+use Rattle.ep_base.specs.Options.{on_both}
 use Rattle.ep_base.specs.declared.operators.CompareOp.{CompareOp}
 use Rattle.ep_base.specs.declared.operators.Sense.{Sense}
 use Rattle.ep_ground.specs.Grounds.{GroundState, HasObjective, IsGroundSolution, IsWellFormed, StandsOver, additions, additions_in, ground_objective, named_terms}
 use Rattle.ep_ground.specs.Nodes.{cell, constant, sum, quotient, least, greatest, compare}
-use Rattle.ep_ground.specs.Terms.{node_value, on_both, term_value, truth, value_at, values_from, term_values_of}
+use Rattle.ep_ground.specs.Terms.{node_value, term_value, truth, value_at, values_from, term_values_of}
 use Rattle.ep_ground.specs.declared.cells.Cell.{Cell}
 
 -- a cell from -2 to 3

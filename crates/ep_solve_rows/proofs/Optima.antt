@@ -10,13 +10,13 @@ use Rattle.cnf_core.specs.Clauses.{Satisfies, SatisfiesClause}
 use Rattle.cnf_core.specs.Events.{LogEvent, LogState, given, is_given, step}
 use Rattle.enc_var.specs.Decoding.{yes}
 use Rattle.enc_var.specs.Notes.{cell_text, indices_text}
+use Rattle.ep_base.proofs.Small.{some_is}
 use Rattle.ep_base.specs.Senses.{better_number}
 use Rattle.ep_base.specs.declared.names.Name.{Name}
 use Rattle.ep_base.specs.declared.operators.Sense.{Sense}
 use Rattle.ep_print.specs.Answers.{AnswerTree, no_solution, optimum, solution, unknown, unknown_with}
 use Rattle.ep_solve.specs.Logged.{AreTold, AreWanted, IsBetterGoal, IsBetterSolution, IsDrivenTo, IsLogged, IsReached, IsStillWanted, Leaves, SaysOfSolutions, ShowsAnswer, Stands, TellNumbers, TellSolutions, added_clauses, first_givens, named_values}
 use Rattle.ep_solve.specs.Right.{IsRight}
-use Rattle.ep_tree.proofs.ClosedDomains.{some_is}
 use Rattle.ep_tree.proofs.Opened.{the_language}
 use Rattle.ep_tree.specs.Environments.{Bound, has_value}
 use Rattle.ep_tree.specs.Solutions.{Assigned, Found, IsBetter, IsSolution, IsWritten, goal_value}

@@ -9,6 +9,7 @@ use Rattle.cnf_core.specs.Events.{LogState, given, is_given, step}
 use Rattle.cnf_core.specs.Literal.{Literal}
 use Rattle.ep_answer.specs.Answered.{IsNegatedNote}
 use Rattle.ep_base.specs.Numbers.{has_number}
+use Rattle.ep_base.specs.Options.{on_both}
 use Rattle.ep_print.specs.Answers.{no_solution, solution}
 use Rattle.ep_print.specs.Listings.{complete}
 use Rattle.ep_solve.specs.Listed.{EndsRightly, IsUnlisted, Lists}
@@ -17,7 +18,6 @@ use Rattle.ep_solve.specs.Right.{IsRight}
 use Rattle.ep_tree.proofs.Opened.{the_language}
 use Rattle.ep_tree.specs.Binding.{Find, Instance}
 use Rattle.ep_tree.specs.Environments.{has_value}
-use Rattle.ep_tree.specs.Evaluation.{on_both}
 use Rattle.ep_tree.specs.Names.{nothing_known}
 use Rattle.ep_tree.specs.Solutions.{Assigned, Found, IsSolution, IsWritten, NamedValue, fitted_find, named_in}
 use Rattle.ep_tree.specs.Types.{scalar_of}

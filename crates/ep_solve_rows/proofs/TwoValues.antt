@@ -16,16 +16,16 @@ use Rattle.cnf_core.specs.Events.{Note}
 use Rattle.cnf_core.specs.Literal.{Literal}
 use Rattle.enc_var.specs.Decoding.{no, yes}
 use Rattle.enc_var.specs.Notes.{cell_text, indices_text}
+use Rattle.ep_base.proofs.Small.{some_is}
 use Rattle.ep_base.specs.Numbers.{has_number}
+use Rattle.ep_base.specs.Options.{on_both}
 use Rattle.ep_base.specs.Reads.{first_or_zero}
 use Rattle.ep_base.specs.declared.operators.Sense.{Sense}
 use Rattle.ep_ground.specs.declared.cells.Cell.{Cell}
 use Rattle.ep_solve.specs.Logged.{AreTold, AreWanted, TellNumber, TellNumbers, TellSolutions}
-use Rattle.ep_tree.proofs.ClosedDomains.{some_is}
 use Rattle.ep_tree.proofs.Opened.{the_language}
 use Rattle.ep_tree.specs.Binding.{Instance}
 use Rattle.ep_tree.specs.Environments.{has_value}
-use Rattle.ep_tree.specs.Evaluation.{on_both}
 use Rattle.ep_tree.specs.Names.{nothing_known}
 use Rattle.ep_tree.specs.Solutions.{Assigned, Fits, Found, IsSolution, NamedValue, fitted_find, has_goal_value, named_in, violated}
 use Rattle.ep_tree.specs.Trees.{ExprTree, named}

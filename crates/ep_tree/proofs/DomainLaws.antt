@@ -4,6 +4,7 @@ use Rattle.std.specs.Ordering.{int_eq}
 use Rattle.std.proofs.Common.{arith, ap, sym, ◌∙◌}
 use Rattle.std.proofs.lemmas.Int.{ints}
 use Rattle.std.proofs.lemmas.Bool.Decides.{Decides-int_eq}
+use Rattle.std.proofs.Math.Bool.{and-false}
 use Rattle.ep_base.specs.Numbers.{has_number}
 use Rattle.ep_base.specs.Runs.{counting, or_zero}
 use Rattle.ep_tree.specs.declared.syntax.SetOp.{SetOp}
@@ -22,10 +23,6 @@ or_swap false false c = refl
 or_assoc : (a b c : Bool) → (a || (b || c)) ≡ ((a || b) || c)
 or_assoc true b c = refl
 or_assoc false b c = refl
-
-and_false : (a : Bool) → (a && false) ≡ false
-and_false true = refl
-and_false false = refl
 
 -- a number put into a list joins its numbers
 pub put_in-has : (x y : ℤ) (ys : List ℤ) → has_number (put_in y ys) x ≡ (int_eq x y || has_number ys x)
@@ -58,7 +55,7 @@ filter-has f x (y ∷ ys) = go (f y) (int_eq x y) ((Decides-int_eq x y).0) refl 
         → has_number (cond passes (y ∷ filter f ys) (filter f ys)) x ≡ ((int_eq x y || has_number ys x) && f x)
     go true true same p q ih = rw q (sym (ap f (same q) ∙ p))
     go true false same p q ih = rw q ih
-    go false true same p q ih = rw q (ih ∙ ap (λ b. has_number ys x && b) (ap f (same q) ∙ p) ∙ and_false (has_number ys x) ∙ sym (ap f (same q) ∙ p))
+    go false true same p q ih = rw q (ih ∙ ap (λ b. has_number ys x && b) (ap f (same q) ∙ p) ∙ and-false (has_number ys x) ∙ sym (ap f (same q) ∙ p))
     go false false same p q ih = rw q ih
 
 -- the numbers from a on, so many of them

@@ -1,6 +1,7 @@
 -- One equation for each case of evaluation.
 use Rattle.std.specs.Prelude.{◌≡◌, ℕ, Bool, true, not, ◌&&◌, List, [], ◌∷◌, map, ℤ, pos, neg_ℤ, if◌then◌else◌, Some, None, option_map, option_and_then, refl}
 use Rattle.ep_base.specs.Numbers.{absolute_of, are_different, compare_holds, counts_hold, factorial_of, has_number, is_row_of, lex_holds, of_bool, sum_of}
+use Rattle.ep_base.specs.Options.{map_both, on_both, on_three}
 use Rattle.ep_base.specs.Runs.{counting}
 use Rattle.ep_base.specs.declared.names.Name.{Name}
 use Rattle.ep_base.specs.declared.operators.CompareOp.{CompareOp}
@@ -8,7 +9,7 @@ use Rattle.ep_base.specs.declared.operators.LexOp.{LexOp}
 use Rattle.ep_base.specs.declared.places.Place.{Place}
 use Rattle.ep_tree.specs.Domains.{between, put_in, set_values, truth_values, united}
 use Rattle.ep_tree.specs.Environments.{Env, domain_bound, value_bound}
-use Rattle.ep_tree.specs.Evaluation.{all_hold, all_joined, all_true, any_true, are_told, binary_value, domain_values, domains_defined, end_value, evaluate, folded_value, holding, index_list, index_values, map_both, matrix_value, number_in, number_value, on_both, on_three, over_names, quantified_value, range_values, reached, read_result, rows_in, scalars_in, signed, standing_for, term_values, truth_in, truth_of, type_in, values_of}
+use Rattle.ep_tree.specs.Evaluation.{all_hold, all_joined, all_true, any_true, are_told, binary_value, domain_values, domains_defined, end_value, evaluate, folded_value, holding, index_list, index_values, matrix_value, number_in, number_value, over_names, quantified_value, range_values, reached, read_result, rows_in, scalars_in, signed, standing_for, term_values, truth_in, truth_of, type_in, values_of}
 use Rattle.ep_tree.specs.Trees.{DomainTree, Domains, End, ExprTree, ExprTrees, Generators, IndexDomain, Indices, Ranges, Terms, absolute, all_different, all_of, any_of, at_least, at_most, binary, bool, chain, compare, comprehension, end_at, every_and, factorial, flatten, folded, gcc, generator_and, group, group_domain, in_domain, in_set, index_and, int, lex, literal, matrix_domain, minus, named, named_domain, negation, no_end, no_generators, no_indices, no_ranges, no_terms, no_trees, number, one_and, over, quantified, ranges, read, set_domain, span_and, table, term_and, to_int, tree_and, truth, unstated}
 use Rattle.ep_tree.specs.Values.{all_defined, any_index, at_index, list_value, read_value, single}
 use Rattle.ep_tree.specs.declared.syntax.BinaryOp.{BinaryOp}

@@ -11,10 +11,11 @@ use Rattle.ep_base.proofs.Ascending.{ascending_cons, ascending_head, ascending_t
 use Rattle.ep_base.specs.Runs.{IsAscending}
 use Rattle.std.specs.List.{Contains}
 use Rattle.std.proofs.lemmas.List.Elements.{Contains-get_or}
+use Rattle.ep_base.proofs.Small.{no_some, some_is}
+use Rattle.ep_base.specs.Options.{map_both}
 use Rattle.ep_tree.specs.Domains.{between, put_in, set_values, united}
 use Rattle.ep_tree.specs.Environments.{Bound, Env, HasAscendingDomain, domain_bound, has_cells, has_domain, has_value}
-use Rattle.ep_tree.specs.Evaluation.{domain_values, end_value, evaluate, map_both, number_in, range_values}
-use Rattle.ep_tree.proofs.ClosedDomains.{nothing_is_some, some_is}
+use Rattle.ep_tree.specs.Evaluation.{domain_values, end_value, evaluate, number_in, range_values}
 
 -- the numbers ascend, each greater than the one before, from a number on
 abbrev Above : ℤ → List ℤ → Type 0
@@ -95,17 +96,17 @@ range_values-ascends mode env (one_and first rs) values e =
   where
     go : (n : Option ℤ) (ns : Option (List ℤ)) → ((vs : List ℤ) → range_values mode env rs ≡ Some vs → Rises vs)
         → range_values mode env rs ≡ ns → map_both put_in n ns ≡ Some values → Rises values
-    go None ns ih p e = nothing_is_some e
-    go (Some n) None ih p e = nothing_is_some e
+    go None ns ih p e = no_some e
+    go (Some n) None ih p e = no_some e
     go (Some n) (Some ns) ih p e = subst Rises (some_is e) (put_in-ascends n ns (ih ns p))
 range_values-ascends mode env (span_and a b rs) values e =
     go (end_value mode env a) (end_value mode env b) (range_values mode env rs) (range_values-ascends mode env rs) refl e
   where
     go : (u v : Option ℤ) (ns : Option (List ℤ)) → ((vs : List ℤ) → range_values mode env rs ≡ Some vs → Rises vs)
         → range_values mode env rs ≡ ns → map_both united (map_both between u v) ns ≡ Some values → Rises values
-    go None v ns ih p e = nothing_is_some e
-    go (Some u) None ns ih p e = nothing_is_some e
-    go (Some u) (Some v) None ih p e = nothing_is_some e
+    go None v ns ih p e = no_some e
+    go (Some u) None ns ih p e = no_some e
+    go (Some u) (Some v) None ih p e = no_some e
     go (Some u) (Some v) (Some ns) ih p e = subst Rises (some_is e) (united-ascends (between u v) ns (ih ns p))
 
 -- what ascends step by step ascends
@@ -133,17 +134,17 @@ ascending_rises (x ∷ xs) up = ascends_above x xs (λ v c. ascending_head x v x
 
 named-ascends : (bound : Option Bound) (values : List ℤ) → HasAscendingDomain bound → domain_bound bound ≡ Some values → Rises values
 unfolding HasAscendingDomain domain_bound
-named-ascends None values k e = nothing_is_some e
-named-ascends (Some (has_value t v)) values k e = nothing_is_some e
-named-ascends (Some (has_cells s is vs)) values k e = nothing_is_some e
+named-ascends None values k e = no_some e
+named-ascends (Some (has_value t v)) values k e = no_some e
+named-ascends (Some (has_cells s is vs)) values k e = no_some e
 named-ascends (Some (has_domain s [] vs)) values k e = subst Rises (some_is e) (ascending_rises vs k)
-named-ascends (Some (has_domain s (i ∷ is) vs)) values k e = nothing_is_some e
+named-ascends (Some (has_domain s (i ∷ is) vs)) values k e = no_some e
 
 domain_values-rise : (mode : Mode) (env : Env) → ((name : Name) → HasAscendingDomain (env name))
     → (d : DomainTree) (values : List ℤ) → domain_values mode env d ≡ Some values → Rises values
 unfolding domain_values map_both
 domain_values-rise mode env k (bool p) values e = subst Rises (some_is e) (omega (arith, ints), tt)
-domain_values-rise mode env k (int p) values e = nothing_is_some e
+domain_values-rise mode env k (int p) values e = no_some e
 domain_values-rise mode env k (ranges p rs) values e = range_values-ascends mode env rs values e
 domain_values-rise mode env k (named_domain p name) values e = named-ascends (env name) values (k name) e
 domain_values-rise mode env k (group_domain p d) values e = domain_values-rise mode env k d values e
@@ -154,10 +155,10 @@ domain_values-rise mode env k (set_domain p op c d) values e =
         → ((vs : List ℤ) → domain_values mode env d ≡ Some vs → Rises vs)
         → domain_values mode env c ≡ xs → domain_values mode env d ≡ ys
         → map_both (set_values op) xs ys ≡ Some values → Rises values
-    go None ys one other p q e = nothing_is_some e
-    go (Some xs) None one other p q e = nothing_is_some e
+    go None ys one other p q e = no_some e
+    go (Some xs) None one other p q e = no_some e
     go (Some xs) (Some ys) one other p q e = subst Rises (some_is e) (set_values-ascends op xs ys (one xs p) (other ys q))
-domain_values-rise mode env k (matrix_domain p ds d) values e = nothing_is_some e
+domain_values-rise mode env k (matrix_domain p ds d) values e = no_some e
 
 pub domain_values-ascend : (mode : Mode) (env : Env) → ((name : Name) → HasAscendingDomain (env name))
     → (d : DomainTree) (values : List ℤ) → domain_values mode env d ≡ Some values → IsAscending values

@@ -3,12 +3,14 @@ use Rattle.std.specs.Prelude.{◌≡◌, ℕ, zero, suc, ◌+◌, ◌-◌, ◌�
 use Rattle.std.proofs.Common.{ap, arith, subst, sym, ◌∙◌}
 use Rattle.std.specs.List.{list_all}
 use Rattle.std.specs.Ordering.{int_eq}
+use Rattle.ep_base.proofs.Small.{map_is, no_some, some_is}
 use Rattle.ep_base.specs.Numbers.{has_number, of_bool}
+use Rattle.ep_base.specs.Options.{on_both}
 use Rattle.ep_base.specs.declared.names.Name.{Name}
-use Rattle.ep_tree.proofs.TypedParts.{AllOf, EachOf, and_left, and_right, boolean_is, both_is, dims_as_int, map_both_is, each_is, from_many_is, from_one_is, gives_is, integer_is, list_is, list_value_is, many_give, map_is, matrix_scalars, mistyped_is, no_some, number_is, one_gives, read_is, some_is, stated, three_give, truth_is, truths_differ, two_give, typed_is, untyped_is}
+use Rattle.ep_tree.proofs.TypedParts.{AllOf, EachOf, and_left, and_right, boolean_is, both_is, dims_as_int, map_both_is, each_is, from_many_is, from_one_is, gives_is, integer_is, list_is, list_value_is, many_give, matrix_scalars, mistyped_is, number_is, one_gives, read_is, stated, three_give, truth_is, truths_differ, two_give, typed_is, untyped_is}
 use Rattle.ep_tree.specs.Domains.{put_in, set_values, truth_values, united}
 use Rattle.ep_tree.specs.Environments.{Bound, Env, context_of, domain_bound, has_cells, has_domain, has_value, meaning_in, scalar_in, shape_type, value_bound, with_number}
-use Rattle.ep_tree.specs.Evaluation.{all_joined, are_told, binary_value, domain_values, domains_defined, evaluate, folded_value, holding, index_list, index_values, joins_truths, matrix_value, number_in, on_both, over_names, quantified_value, reached, read_result, scalars_in, standing_for, type_in, values_of}
+use Rattle.ep_tree.specs.Evaluation.{all_joined, are_told, binary_value, domain_values, domains_defined, evaluate, folded_value, holding, index_list, index_values, joins_truths, matrix_value, number_in, over_names, quantified_value, reached, read_result, scalars_in, standing_for, type_in, values_of}
 use Rattle.ep_tree.specs.Names.{put}
 use Rattle.ep_tree.specs.Trees.{DomainTree, ExprTree, ExprTrees, Generators, Indices, absolute, all_different, all_of, any_of, at_least, at_most, binary, bool, chain, compare, comprehension, every_and, factorial, flatten, folded, gcc, generator_and, group, group_domain, in_domain, in_set, index_and, int, lex, literal, matrix_domain, minus, named, named_domain, negation, no_generators, no_indices, no_trees, number, quantified, ranges, read, set_domain, table, to_int, tree_and, truth}
 use Rattle.ep_tree.specs.TypedValues.{IsOf, IsOfDims, IsTypedBound, IsTypedEnv, is_number_of}

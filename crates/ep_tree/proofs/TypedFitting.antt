@@ -1,8 +1,9 @@
 -- A value that fits a domain is, fitted, of the domain's type.
 use Rattle.std.specs.Prelude.{◌≡◌, suc, Bool, true, false, ◌&&◌, List, [], ◌∷◌, length, ℤ, if◌then◌else◌, Some, None, option_map, refl}
 use Rattle.std.proofs.Common.{ap, subst, sym, ◌∙◌}
+use Rattle.ep_base.proofs.Small.{map_is, no_some, some_is, then_is}
 use Rattle.ep_tree.proofs.TypedEvaluation.{with_indices_is}
-use Rattle.ep_tree.proofs.TypedParts.{listed-as_parts, map_is, no_some, some_is, then_is}
+use Rattle.ep_tree.proofs.TypedParts.{listed-as_parts}
 use Rattle.ep_tree.specs.TypedValues.{AreOfDims, IsOfDims, is_number_of}
 use Rattle.ep_tree.specs.Values.{ValueTree, ValueTrees, all_fitted, as_parts, fitted, matrix, no_values, scalar_fits, single, value_and, with_indices}
 use Rattle.ep_tree.specs.declared.values.Scalar.{Scalar}

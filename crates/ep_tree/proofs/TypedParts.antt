@@ -1,11 +1,13 @@
 -- What typing and evaluation say of the parts of a node, and which parts a value of a type has.
-use Rattle.std.specs.Prelude.{◌≡◌, ℕ, zero, suc, ◌+◌, ◌-◌, ◌≤◌, Bool, true, false, ◌&&◌, List, [], ◌∷◌, ◌++◌, map, length, ℤ, pos, ◌+ℤ◌, if◌then◌else◌, ◌==◌, Some, None, Option, option_map, option_and_then, refl}
+use Rattle.std.specs.Prelude.{◌≡◌, ℕ, zero, suc, ◌+◌, ◌-◌, ◌≤◌, Bool, true, false, ◌&&◌, List, [], ◌∷◌, ◌++◌, map, length, ℤ, pos, ◌+ℤ◌, if◌then◌else◌, ◌==◌, Some, None, Option, option_map, refl}
 use Rattle.std.proofs.Common.{ap, arith, subst, sym, ◌∙◌}
 use Rattle.std.specs.List.{list_all}
 use Rattle.std.specs.Ordering.{int_eq}
+pub use Rattle.ep_base.proofs.Small.{map_is, no_some, some_is, then_is}
 use Rattle.ep_base.specs.Numbers.{of_bool}
+use Rattle.ep_base.specs.Options.{map_both, on_both}
 use Rattle.ep_base.specs.Runs.{counting}
-use Rattle.ep_tree.specs.Evaluation.{map_both, on_both, truth_in, undefined_truth}
+use Rattle.ep_tree.specs.Evaluation.{truth_in, undefined_truth}
 use Rattle.ep_tree.specs.TypedValues.{AreOfDims, IsOf, IsOfDims, is_number_of}
 use Rattle.ep_tree.specs.Types.{Judged, all_typed, from_all, from_many, from_one, from_three, from_two, gives, has_dimensions, is_bool_scalar, is_boolean, is_integer, is_matrix, is_matrix_of_bool, list_of_matrices, list_type, mistyped, scalar_of, stated_dimensions, typed, untyped}
 use Rattle.ep_tree.specs.Values.{Index, ValueTree, ValueTrees, all_defined, any_index, as_parts, at_index, list_value, listed_values, matrix, no_values, part_at, read_value, scalars_of, scalars_of_all, single, value_and}
@@ -14,12 +16,6 @@ use Rattle.ep_tree.specs.declared.values.Scalar.{Scalar}
 use Rattle.ep_tree.specs.declared.values.ValueType.{ValueType}
 
 -- ---- what `Some`, `typed` and the answers without a value say
-
-pub some_is : {A : Type 0} {x y : A} → Some x ≡ Some y → x ≡ y
-some_is e = cc
-
-pub no_some : {A B : Type 0} {x : A} → None ≡ Some x → B
-no_some e = absurd cc
 
 pub typed_is : {s t : ValueType} → typed s ≡ typed t → s ≡ t
 typed_is e = cc
@@ -78,14 +74,6 @@ pub many_give : (js : List Judged) (r t : ValueType) (c : List ValueType → Boo
 many_give js r t c h = let p : _ = from_many_is js (λ ts. gives r (c ts)) t h in (gives_is r (c p.0) t p.2).0
 
 -- ---- values by the values of parts
-
-pub map_is : {A B : Type 0} (f : A → B) (o : Option A) (v : B) → option_map f o ≡ Some v → (x : A) × (o ≡ Some x) × (f x ≡ v)
-map_is f None v e = no_some e
-map_is f (Some x) v e = (x, refl, some_is e)
-
-pub then_is : {A B : Type 0} (f : A → Option B) (o : Option A) (v : B) → option_and_then f o ≡ Some v → (x : A) × (o ≡ Some x) × (f x ≡ Some v)
-then_is f None v e = no_some e
-then_is f (Some x) v e = (x, refl, e)
 
 pub both_is : {A B C : Type 0} (a : Option A) (b : Option B) (f : A → B → Option C) (v : C) → on_both a b f ≡ Some v
     → (x : A) × (y : B) × (a ≡ Some x) × (b ≡ Some y) × (f x y ≡ Some v)

@@ -6,13 +6,14 @@
 use Rattle.std.specs.Prelude.{ℕ, ◌+◌, Bool, true, false, ◌&&◌, ◌||◌, List, [], ◌∷◌, ◌++◌, map, length, ℤ, is_some, if◌then◌else◌, int_le, Some, None, Ok, Err, flat_map, Option, Result, option_map, option_and_then, option_to_list}
 use Rattle.std.specs.Ordering.{int_eq}
 use Rattle.ep_base.specs.Numbers.{has_number}
+use Rattle.ep_base.specs.Options.{on_both, on_three}
 use Rattle.ep_base.specs.declared.names.Name.{Name}
 use Rattle.ep_base.specs.declared.operators.Limit.{Limit}
 use Rattle.ep_base.specs.declared.operators.Sense.{Sense}
 use Rattle.ep_base.specs.declared.places.Place.{Place}
 use Rattle.ep_tree.specs.Domains.{set_has, truth_values}
 use Rattle.ep_tree.specs.Environments.{Bound, Env, has_domain, has_value, scalar_in, shape_type}
-use Rattle.ep_tree.specs.Evaluation.{domain_values, evaluate, first_untrue, number_in, on_both, on_three, type_in}
+use Rattle.ep_tree.specs.Evaluation.{domain_values, evaluate, first_untrue, number_in, type_in}
 use Rattle.ep_tree.specs.Faults.{lettings_of}
 use Rattle.ep_tree.specs.Limits.{limits_of_values}
 use Rattle.ep_tree.specs.Measures.{Met, met, met_domain}

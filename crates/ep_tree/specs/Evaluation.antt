@@ -11,6 +11,7 @@ use Rattle.std.specs.Prelude.{ℕ, ◌+◌, Bool, true, false, not, ◌&&◌, �
 use Rattle.std.specs.Int.{int_max, int_min}
 use Rattle.std.specs.List.{list_all}
 use Rattle.ep_base.specs.Numbers.{absolute_of, all_one, any_one, are_different, compare_holds, counts_hold, factorial_of, greatest_of, has_number, is_one, is_row_of, least_of, lex_holds, of_bool, power, product_of, quotient, remainder, sum_of}
+use Rattle.ep_base.specs.Options.{map_both, on_both, on_three}
 use Rattle.ep_base.specs.Runs.{counting}
 use Rattle.ep_base.specs.declared.names.Name.{Name}
 use Rattle.ep_base.specs.declared.operators.CompareOp.{CompareOp}
@@ -68,18 +69,6 @@ all_true vs = option_map all_one (all_numbers vs)
 -- whether one of many values is true, where each is defined
 unfoldable pub any_true : List (Option ValueTree) → Option Bool
 any_true vs = option_map any_one (all_numbers vs)
-
--- a function of two parts, where each is defined
-unfoldable pub map_both : {A B C : Type 0} → (A → B → C) → Option A → Option B → Option C
-map_both f a b = option_and_then (λ x. option_map (f x) b) a
-
--- what a function gives of two parts, where each is defined; the function may have no value there
-unfoldable pub on_both : {A B C : Type 0} → Option A → Option B → (A → B → Option C) → Option C
-on_both a b f = option_and_then (λ x. option_and_then (f x) b) a
-
--- the same of three parts
-unfoldable pub on_three : {A B C D : Type 0} → Option A → Option B → Option C → (A → B → C → Option D) → Option D
-on_three a b c f = option_and_then (λ x. on_both b c (f x)) a
 
 -- `*`, `/`, `%`, `**`, `min` and `max` of two numbers
 unfoldable pub binary_number : BinaryOp → ℤ → ℤ → Option ℤ

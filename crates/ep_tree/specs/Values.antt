@@ -82,6 +82,15 @@ pub data Index : Type 0 where
   at_index : ℤ → Index
   any_index : Index
 
+-- an index, or `..` where there is none
+unfoldable pub index_in : Option ℤ → Index
+index_in None = any_index
+index_in (Some i) = at_index i
+
+-- the indices of a read
+abbrev pub indices_in : List (Option ℤ) → List Index
+indices_in indices = map index_in indices
+
 -- the part of a matrix with an index, where it has one
 unfoldable pub part_at : {A : Type 0} → List ℤ → Grids A → ℤ → Option (Grid A)
 part_at [] parts i = None

@@ -1,5 +1,8 @@
 //! Types, values and assignments.
 
+ghost use Rattle.std.specs.Prelude.{◌≡◌};
+ghost use Rattle.ep_tree.specs.Types.{scalar_of};
+
 use ep_base::Name;
 
 /// What a number stands for.
@@ -18,6 +21,20 @@ pub enum ValueType {
     Matrix { dims: u64, of: Scalar },
     /// The literal without parts, which is of every matrix type.
     Empty,
+}
+
+impl ValueType {
+    /// What the numbers in a value of the type stand for.
+    #[tactic(auto, unfolding(crate::specs::Types::scalar_of))]
+    pub fn scalar(self) -> Scalar
+        ensures { result ≡ scalar_of self }
+    {
+        match self {
+            ValueType::Bool | ValueType::Empty => Scalar::Bool,
+            ValueType::Int => Scalar::Int,
+            ValueType::Matrix { of, .. } => of,
+        }
+    }
 }
 
 /// A value: a number, where 1 stands for true and 0 for false, or a matrix with its indices and its

@@ -1,12 +1,12 @@
 -- What binding puts into an environment is typed, and sorted.
 use Rattle.std.specs.Prelude.{◌≡◌, List, [], ◌∷◌, length, ℤ, Some, None, Option}
 use Rattle.std.proofs.Common.{subst, ◌∙◌}
+use Rattle.ep_base.proofs.Small.{map_is, no_some, some_is}
 use Rattle.ep_base.specs.Runs.{IsAscending}
 use Rattle.ep_base.specs.declared.names.Name.{Name}
 use Rattle.ep_tree_laws.proofs.Shapes.{shape_lists, shape_parts, shape_passes}
 use Rattle.ep_tree.proofs.SortedDomains.{domain_values-ascend}
 use Rattle.ep_tree.proofs.TypedFitting.{fitted_typed}
-use Rattle.ep_tree.proofs.TypedParts.{map_is, no_some, some_is}
 use Rattle.ep_tree.specs.Binding.{Shape, element_values, fitted_into, numbers_bound, shape_bound, shape_of}
 use Rattle.ep_tree.specs.Environments.{Bound, Env, HasAscendingDomain, context_of, has_cells, has_domain, has_value, shape_type}
 use Rattle.ep_tree.specs.Trees.{DomainTree, bool, group_domain, int, matrix_domain, named_domain, ranges, set_domain}

@@ -2,6 +2,7 @@
 use Rattle.std.specs.Prelude.{◌≡◌, ◌&&◌, ◌||◌, List, [], ◌∷◌, ◌++◌, map, ℤ, Bool, true, false, not, if◌then◌else◌, neg_ℤ, Some, None, bytes_eq, flat_map, Option, option_map, option_and_then, unwrap_or, refl}
 use Rattle.std.proofs.Common.{ap, subst, sym, ◌∙◌}
 use Rattle.ep_base.specs.Numbers.{absolute_of, are_different, compare_holds, counts_hold, factorial_of, has_number, is_row_of, lex_holds, sum_of}
+use Rattle.ep_base.specs.Options.{map_both, on_both, on_three}
 use Rattle.ep_base.specs.declared.names.Name.{Name}
 use Rattle.ep_base.specs.declared.places.Place.{Place}
 use Rattle.ep_base.specs.declared.operators.CompareOp.{CompareOp}
@@ -13,7 +14,7 @@ use Rattle.ep_tree_laws.specs.DecidedValues.{BoundsAreKept, IsKeptBound}
 use Rattle.ep_tree_laws.specs.Deciding.{IsKept, NamesAreKept}
 use Rattle.ep_tree.specs.Domains.{between, put_in, set_values, united}
 use Rattle.ep_tree.specs.Environments.{Bound, Env, context_of, domain_bound, has_cells, has_domain, has_value, meaning_in, scalar_in, value_bound, with_number}
-use Rattle.ep_tree.specs.Evaluation.{all_true, any_true, binary_value, domain_values, domains_defined, end_value, evaluate, folded_value, holding, index_list, index_values, map_both, matrix_value, number_in, number_value, on_both, on_three, quantified_value, range_values, reached, read_result, rows_in, scalars_in, signed, term_values, truth_in, truth_of, type_in, values_of}
+use Rattle.ep_tree.specs.Evaluation.{all_true, any_true, binary_value, domain_values, domains_defined, end_value, evaluate, folded_value, holding, index_list, index_values, matrix_value, number_in, number_value, quantified_value, range_values, reached, read_result, rows_in, scalars_in, signed, term_values, truth_in, truth_of, type_in, values_of}
 use Rattle.ep_tree.specs.Faults.{Fault, domain_faults, domain_name_faults, end_faults, faults, faults_of_all, faults_of_generators, faults_of_indices, faults_of_ranges, faults_of_terms, has_open_range, index_faults, name_faults, open_domain, type_fault, unless}
 use Rattle.ep_tree.specs.Trees.{DomainTree, End, ExprTree, ExprTrees, Generators, IndexDomain, Indices, Ranges, Terms, absolute, all_different, all_of, any_of, at_least, at_most, binary, bool, chain, compare, comprehension, end_at, every_and, factorial, flatten, folded, gcc, generator_and, group, group_domain, in_domain, in_set, index_and, int, lex, literal, matrix_domain, minus, named, named_domain, negation, no_end, no_generators, no_indices, no_ranges, no_terms, no_trees, number, one_and, over, quantified, ranges, read, set_domain, span_and, table, term_and, to_int, tree_and, truth, unstated}
 use Rattle.ep_tree.specs.Types.{Context, Judged, inside, inside_all, judge, judge_all, judge_domain, judge_generators, judge_index, of_scalar, reading_contexts, scalar_of, type_from}

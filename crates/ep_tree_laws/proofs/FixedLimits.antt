@@ -2,6 +2,7 @@
 use Rattle.std.specs.Prelude.{◌≡◌, ℕ, ◌+◌, Bool, true, false, not, ◌||◌, List, [], ◌∷◌, ◌++◌, map, ℤ, pos, ◌*ℤ◌, if◌then◌else◌, cond, nat_lt, int_lt, Some, None, fold, flat_map, Option, unwrap_or, option_to_list, refl}
 use Rattle.std.proofs.Common.{ap, arith, sym, ◌∙◌}
 use Rattle.std.proofs.lemmas.Int.{ints}
+use Rattle.std.proofs.Math.Bool.{or_assoc}
 use Rattle.std.specs.Int.{int_max}
 use Rattle.std.specs.List.{list_all, list_any}
 use Rattle.ep_base.specs.Intervals.{Interval, farthest_end, greatest_or_zero, least_or_zero, only, product_interval, spanned}
@@ -25,10 +26,6 @@ use Rattle.ep_tree.specs.declared.values.ValueType.{ValueType}
 
 -- ---- numbers past a limit
 
-or_again : (a b c : Bool) → ((a || b) || c) ≡ (a || (b || c))
-or_again true b c = refl
-or_again false b c = refl
-
 greater_of : (m a b : ℤ) → int_lt m (int_max a b) ≡ (int_lt m a || int_lt m b)
 greater_of m a b = grind (arith, ints)
 
@@ -42,11 +39,11 @@ greatest_past m a [] = or_false (int_lt m a)
 greatest_past m a (x ∷ xs) =
     greatest_past m (int_max a (absolute_of x)) xs
     ∙ ap (λ b. b || list_any (λ y. int_lt m (absolute_of y)) xs) (greater_of m a (absolute_of x))
-    ∙ or_again (int_lt m a) (int_lt m (absolute_of x)) (list_any (λ y. int_lt m (absolute_of y)) xs)
+    ∙ or_assoc (int_lt m a) (int_lt m (absolute_of x)) (list_any (λ y. int_lt m (absolute_of y)) xs)
 
 any_append : {A : Type 0} (f : A → Bool) (xs ys : List A) → list_any f (xs ++ ys) ≡ (list_any f xs || list_any f ys)
 any_append f [] ys = refl
-any_append f (x ∷ xs) ys = ap (λ b. f x || b) (any_append f xs ys) ∙ sym (or_again (f x) (list_any f xs) (list_any f ys))
+any_append f (x ∷ xs) ys = ap (λ b. f x || b) (any_append f xs ys) ∙ sym (or_assoc (f x) (list_any f xs) (list_any f ys))
 
 any_map : {A B : Type 0} (f : B → Bool) (g : A → B) (xs : List A) → list_any f (map g xs) ≡ list_any (λ x. f (g x)) xs
 any_map f g [] = refl

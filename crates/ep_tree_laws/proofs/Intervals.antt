@@ -8,8 +8,8 @@ use Rattle.ep_base.specs.Numbers.{absolute_of, floor_over, greatest_of, least_of
 use Rattle.ep_tree_laws.specs.Intervals.{LieInEach}
 use Rattle.std.proofs.Math.Nat.{div-le_self, mul-le-mul_left, mul_assoc}
 use Rattle.std.proofs.lemmas.Nat.{mul-le}
+use Rattle.ep_base.proofs.Small.{no_some, some_is}
 use Rattle.ep_tree.proofs.NumberLaws.{floor_over-high, floor_over-low}
-use Rattle.ep_tree.proofs.TypedParts.{no_some, some_is}
 
 pub negated_lies : (n : ℤ) (i : Interval) → LiesIn n i → LiesIn (neg_ℤ n) (negated i)
 unfolding negated

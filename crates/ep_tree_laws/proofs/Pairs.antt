@@ -2,12 +2,13 @@
 use Rattle.std.specs.Prelude.{◌≡◌, ◌&&◌, List, [], ◌∷◌, ◌++◌, map, ℤ, Bool, true, false, if◌then◌else◌, cond, is_some, Some, None, flat_map, Option, option_map, unwrap_or, refl}
 use Rattle.std.proofs.Common.{ap, subst, sym, ◌∙◌}
 use Rattle.std.specs.List.{list_all}
+use Rattle.ep_base.proofs.Small.{map_is, no_some}
 use Rattle.ep_base.specs.declared.names.Name.{Name}
 use Rattle.ep_tree_laws.proofs.Deciding.{left_none, right_none}
 use Rattle.ep_tree_laws.proofs.Shapes.{scalar_in_is}
 use Rattle.ep_tree_laws.specs.Typing.{HasType}
 use Rattle.ep_tree.proofs.TypedEvaluation.{context_put}
-use Rattle.ep_tree.proofs.TypedParts.{and_left, and_right, from_many_is, from_one_is, gives_is, map_is, mistyped_is, no_some, truths_differ}
+use Rattle.ep_tree.proofs.TypedParts.{and_left, and_right, from_many_is, from_one_is, gives_is, mistyped_is, truths_differ}
 use Rattle.ep_tree.specs.Environments.{Env, context_of, has_value, meaning_in, scalar_in, with_number}
 use Rattle.ep_tree.specs.Evaluation.{all_hold, all_joined, all_true, are_told, domain_values, domains_defined, holding, numbered, over_names, reached, standing_for}
 use Rattle.ep_tree.specs.Faults.{Fault, domain_faults, faults_of_generators}

@@ -3,9 +3,10 @@ use Rattle.std.specs.Prelude.{◌≡◌, ℕ, suc, ◌+◌, Bool, true, false, n
 use Rattle.std.proofs.Common.{ap, arith, subst, sym, ◌∙◌}
 use Rattle.std.specs.List.{list_all, list_any}
 use Rattle.std.specs.Ordering.{int_eq}
+use Rattle.ep_base.proofs.Small.{map_is, no_some, some_is}
 use Rattle.ep_base.specs.Numbers.{has_number}
 use Rattle.ep_tree.proofs.TypedEvaluation.{domain_typed}
-use Rattle.ep_tree.proofs.TypedParts.{and_left, and_right, both_is, from_many_is, from_one_is, gives_is, many_give, map_is, no_some, some_is, truths_differ, typed_is, untyped_is}
+use Rattle.ep_tree.proofs.TypedParts.{and_left, and_right, both_is, from_many_is, from_one_is, gives_is, many_give, truths_differ, typed_is, untyped_is}
 use Rattle.ep_tree.specs.Binding.{Shape, element_values, elements_pass, index_domains, indices_bound, listed_domains, numbers_bound, shape_of}
 use Rattle.ep_tree.specs.Domains.{set_has, truth_values}
 use Rattle.ep_tree.specs.Environments.{Bound, Env, context_of, has_cells, has_domain, has_value, meaning_in, scalar_in, shape_type}

@@ -2,6 +2,7 @@
 use Rattle.std.specs.Prelude.{◌≡◌, ◌&&◌, ◌||◌, List, [], ◌∷◌, ◌++◌, Bool, true, false, not, if◌then◌else◌, Some, None, bytes_eq, flat_map, Option, option_map, refl}
 use Rattle.std.proofs.Common.{ap, arith, subst, sym, ◌∙◌}
 use Rattle.std.proofs.lemmas.Int.{ints}
+use Rattle.std.proofs.lemmas.Bool.{or_from}
 use Rattle.std.specs.List.{list_any}
 use Rattle.ep_base.specs.declared.names.Name.{Name}
 use Rattle.ep_base.specs.declared.places.Place.{Place}
@@ -34,10 +35,6 @@ or_right : (a b : Bool) → (a || b) ≡ false → b ≡ false
 or_right true b h = truths_differ (sym h)
 or_right false b h = h
 
-neither : (a b : Bool) → a ≡ false → b ≡ false → (a || b) ≡ false
-neither true b p q = p
-neither false b p q = q
-
 inside_other : (names : List Name) (dom : Context → Judged) (c : Context) (x : Name) → list_any (bytes_eq x) names ≡ false → inside names dom c x ≡ c x
 unfolding inside
 inside_other [] dom c x h = refl
@@ -48,7 +45,7 @@ inside_other (name ∷ names) dom c x h =
 any_left : (test : Name → Bool) (xs ys : List Name) → list_any test (xs ++ ys) ≡ false → list_any test xs ≡ false
 any_left test [] ys h = refl
 any_left test (x ∷ xs) ys h =
-    neither (test x) (list_any test xs) (or_left (test x) (list_any test (xs ++ ys)) h) (any_left test xs ys (or_right (test x) (list_any test (xs ++ ys)) h))
+    or_from (test x) (list_any test xs) (or_left (test x) (list_any test (xs ++ ys)) h) (any_left test xs ys (or_right (test x) (list_any test (xs ++ ys)) h))
 
 any_right : (test : Name → Bool) (xs ys : List Name) → list_any test (xs ++ ys) ≡ false → list_any test ys ≡ false
 any_right test [] ys h = h
@@ -105,23 +102,23 @@ mutual
   holds_none f c k (any_of p parts) none = parts_hold_none f c k parts (right_none (type_fault p (judge c (any_of p parts))) (faults_of_all c false parts) none)
   holds_none f c k (binary p op a b) none =
       let own : List Fault = type_fault p (judge c (binary p op a b)) in
-      neither (holds_decision f a) (holds_decision f b) (holds_none f c k a (right_none own (faults c false a) (left_none (own ++ faults c false a) (faults c false b) none)))
+      or_from (holds_decision f a) (holds_decision f b) (holds_none f c k a (right_none own (faults c false a) (left_none (own ++ faults c false a) (faults c false b) none)))
       (holds_none f c k b (right_none (own ++ faults c false a) (faults c false b) none))
   holds_none f c k (compare p op a b) none =
       let own : List Fault = type_fault p (judge c (compare p op a b)) in
-      neither (holds_decision f a) (holds_decision f b) (holds_none f c k a (right_none own (faults c false a) (left_none (own ++ faults c false a) (faults c false b) none)))
+      or_from (holds_decision f a) (holds_decision f b) (holds_none f c k a (right_none own (faults c false a) (left_none (own ++ faults c false a) (faults c false b) none)))
       (holds_none f c k b (right_none (own ++ faults c false a) (faults c false b) none))
   holds_none f c k (lex p op a b) none =
       let own : List Fault = type_fault p (judge c (lex p op a b)) in
-      neither (holds_decision f a) (holds_decision f b) (holds_none f c k a (right_none own (faults c false a) (left_none (own ++ faults c false a) (faults c false b) none)))
+      or_from (holds_decision f a) (holds_decision f b) (holds_none f c k a (right_none own (faults c false a) (left_none (own ++ faults c false a) (faults c false b) none)))
       (holds_none f c k b (right_none (own ++ faults c false a) (faults c false b) none))
   holds_none f c k (in_set p a b) none =
       let own : List Fault = type_fault p (judge c (in_set p a b)) in
-      neither (holds_decision f a) (holds_decision f b) (holds_none f c k a (right_none own (faults c false a) (left_none (own ++ faults c false a) (faults c false b) none)))
+      or_from (holds_decision f a) (holds_decision f b) (holds_none f c k a (right_none own (faults c false a) (left_none (own ++ faults c false a) (faults c false b) none)))
       (holds_none f c k b (right_none (own ++ faults c false a) (faults c false b) none))
   holds_none f c k (table p a b) none =
       let own : List Fault = type_fault p (judge c (table p a b)) in
-      neither (holds_decision f a) (holds_decision f b) (holds_none f c k a (right_none own (faults c false a) (left_none (own ++ faults c false a) (faults c false b) none)))
+      or_from (holds_decision f a) (holds_decision f b) (holds_none f c k a (right_none own (faults c false a) (left_none (own ++ faults c false a) (faults c false b) none)))
       (holds_none f c k b (right_none (own ++ faults c false a) (faults c false b) none))
   holds_none f c k (in_domain p e d) none =
       let own : List Fault = type_fault p (judge c (in_domain p e d)) in
@@ -129,22 +126,22 @@ mutual
   holds_none f c k (gcc p x y z) none =
       let own : List Fault = type_fault p (judge c (gcc p x y z)) in
       let second : _ = left_none ((own ++ faults c false x) ++ faults c false y) (faults c false z) none in
-      neither (holds_decision f x || holds_decision f y) (holds_decision f z)
-      (neither (holds_decision f x) (holds_decision f y) (holds_none f c k x (right_none own (faults c false x) (left_none (own ++ faults c false x) (faults c false y) second)))
+      or_from (holds_decision f x || holds_decision f y) (holds_decision f z)
+      (or_from (holds_decision f x) (holds_decision f y) (holds_none f c k x (right_none own (faults c false x) (left_none (own ++ faults c false x) (faults c false y) second)))
       (holds_none f c k y (right_none (own ++ faults c false x) (faults c false y) second)))
       (holds_none f c k z (right_none ((own ++ faults c false x) ++ faults c false y) (faults c false z) none))
   holds_none f c k (at_least p x y z) none =
       let own : List Fault = type_fault p (judge c (at_least p x y z)) in
       let second : _ = left_none ((own ++ faults c false x) ++ faults c false y) (faults c false z) none in
-      neither (holds_decision f x || holds_decision f y) (holds_decision f z)
-      (neither (holds_decision f x) (holds_decision f y) (holds_none f c k x (right_none own (faults c false x) (left_none (own ++ faults c false x) (faults c false y) second)))
+      or_from (holds_decision f x || holds_decision f y) (holds_decision f z)
+      (or_from (holds_decision f x) (holds_decision f y) (holds_none f c k x (right_none own (faults c false x) (left_none (own ++ faults c false x) (faults c false y) second)))
       (holds_none f c k y (right_none (own ++ faults c false x) (faults c false y) second)))
       (holds_none f c k z (right_none ((own ++ faults c false x) ++ faults c false y) (faults c false z) none))
   holds_none f c k (at_most p x y z) none =
       let own : List Fault = type_fault p (judge c (at_most p x y z)) in
       let second : _ = left_none ((own ++ faults c false x) ++ faults c false y) (faults c false z) none in
-      neither (holds_decision f x || holds_decision f y) (holds_decision f z)
-      (neither (holds_decision f x) (holds_decision f y) (holds_none f c k x (right_none own (faults c false x) (left_none (own ++ faults c false x) (faults c false y) second)))
+      or_from (holds_decision f x || holds_decision f y) (holds_decision f z)
+      (or_from (holds_decision f x) (holds_decision f y) (holds_none f c k x (right_none own (faults c false x) (left_none (own ++ faults c false x) (faults c false y) second)))
       (holds_none f c k y (right_none (own ++ faults c false x) (faults c false y) second)))
       (holds_none f c k z (right_none ((own ++ faults c false x) ++ faults c false y) (faults c false z) none))
   holds_none f c k (quantified p op names d e) none =
@@ -160,27 +157,27 @@ mutual
       (faults (inside_all gens c) false e) none)
   holds_none f c k (read p m indices) none =
       let own : List Fault = type_fault p (judge c (read p m indices)) in
-      neither (holds_decision f m) (index_holds_decision f indices)
+      or_from (holds_decision f m) (index_holds_decision f indices)
       (holds_none f c k m (right_none own (faults c false m) (left_none (own ++ faults c false m) (faults_of_indices c false indices) none)))
       (indices_hold_none f c k indices (right_none (own ++ faults c false m) (faults_of_indices c false indices) none))
 
   parts_hold_none : (f : Name → Bool) (c : Context) → AreFlagged f c → (es : ExprTrees) → faults_of_all c false es ≡ [] → one_holds_decision f es ≡ false
   parts_hold_none f c k no_trees none = refl
   parts_hold_none f c k (tree_and e es) none =
-      neither (holds_decision f e) (one_holds_decision f es) (holds_none f c k e (left_none (faults c false e) (faults_of_all c false es) none))
+      or_from (holds_decision f e) (one_holds_decision f es) (holds_none f c k e (left_none (faults c false e) (faults_of_all c false es) none))
       (parts_hold_none f c k es (right_none (faults c false e) (faults_of_all c false es) none))
 
   terms_hold_none : (f : Name → Bool) (c : Context) → AreFlagged f c → (ts : Terms) → faults_of_terms c false ts ≡ [] → term_holds_decision f ts ≡ false
   terms_hold_none f c k no_terms none = refl
   terms_hold_none f c k (term_and plus e ts) none =
-      neither (holds_decision f e) (term_holds_decision f ts) (holds_none f c k e (left_none (faults c false e) (faults_of_terms c false ts) none))
+      or_from (holds_decision f e) (term_holds_decision f ts) (holds_none f c k e (left_none (faults c false e) (faults_of_terms c false ts) none))
       (terms_hold_none f c k ts (right_none (faults c false e) (faults_of_terms c false ts) none))
 
   indices_hold_none : (f : Name → Bool) (c : Context) → AreFlagged f c → (is : Indices) → faults_of_indices c false is ≡ [] → index_holds_decision f is ≡ false
   indices_hold_none f c k no_indices none = refl
   indices_hold_none f c k (every_and is) none = indices_hold_none f c k is none
   indices_hold_none f c k (index_and e is) none =
-      neither (holds_decision f e) (index_holds_decision f is) (holds_none f c k e (left_none (faults c false e) (faults_of_indices c false is) none))
+      or_from (holds_decision f e) (index_holds_decision f is) (holds_none f c k e (left_none (faults c false e) (faults_of_indices c false is) none))
       (indices_hold_none f c k is (right_none (faults c false e) (faults_of_indices c false is) none))
 
 env_decisions : (env : Env) → AreFlagged (decisions_in env) (context_of env)

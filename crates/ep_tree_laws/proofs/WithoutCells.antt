@@ -1,6 +1,7 @@
 -- In an environment without cells no decision variable stands in what is met.
 use Rattle.std.specs.Prelude.{◌≡◌, Bool, true, false, not, ◌&&◌, ◌||◌, List, [], ◌∷◌, ◌++◌, map, ℤ, if◌then◌else◌, cond, Some, None, bytes_eq, filter, flat_map, Option, unwrap_or, option_map, refl}
 use Rattle.std.proofs.Common.{ap, ◌∙◌}
+use Rattle.std.proofs.lemmas.Bool.{or_from}
 use Rattle.std.specs.List.{list_all, list_any}
 use Rattle.ep_base.specs.declared.names.Name.{Name}
 use Rattle.ep_tree_laws.specs.FixedLimits.{HasNoCells, is_fixed}
@@ -26,10 +27,6 @@ none_hidden names decided h name = go (not (list_any (bytes_eq name) names)) (de
     go true b e = e
     go false b e = refl
 
-neither : (a b : Bool) → a ≡ false → b ≡ false → (a || b) ≡ false
-neither true b p q = p
-neither false b p q = q
-
 mutual
   unfolding holds_decision one_holds_decision term_holds_decision index_holds_decision
 
@@ -45,42 +42,42 @@ mutual
   none_held f h (factorial p e) = none_held f h e
   none_held f h (flatten p m) = none_held f h m
   none_held f h (chain p terms) = no_term_held f h terms
-  none_held f h (binary p op a b) = neither (holds_decision f a) (holds_decision f b) (none_held f h a) (none_held f h b)
-  none_held f h (compare p op a b) = neither (holds_decision f a) (holds_decision f b) (none_held f h a) (none_held f h b)
-  none_held f h (lex p op a b) = neither (holds_decision f a) (holds_decision f b) (none_held f h a) (none_held f h b)
+  none_held f h (binary p op a b) = or_from (holds_decision f a) (holds_decision f b) (none_held f h a) (none_held f h b)
+  none_held f h (compare p op a b) = or_from (holds_decision f a) (holds_decision f b) (none_held f h a) (none_held f h b)
+  none_held f h (lex p op a b) = or_from (holds_decision f a) (holds_decision f b) (none_held f h a) (none_held f h b)
   none_held f h (in_domain p e d) = none_held f h e
-  none_held f h (in_set p e m) = neither (holds_decision f e) (holds_decision f m) (none_held f h e) (none_held f h m)
+  none_held f h (in_set p e m) = or_from (holds_decision f e) (holds_decision f m) (none_held f h e) (none_held f h m)
   none_held f h (all_of p parts) = no_part_held f h parts
   none_held f h (any_of p parts) = no_part_held f h parts
   none_held f h (quantified p op names d e) = none_held (hiding names f) (none_hidden names f h) e
   none_held f h (literal p parts d) = no_part_held f h parts
   none_held f h (comprehension p e gens conditions d) = none_held (hiding (generator_names gens) f) (none_hidden (generator_names gens) f h) e
-  none_held f h (read p m indices) = neither (holds_decision f m) (index_holds_decision f indices) (none_held f h m) (no_index_held f h indices)
+  none_held f h (read p m indices) = or_from (holds_decision f m) (index_holds_decision f indices) (none_held f h m) (no_index_held f h indices)
   none_held f h (folded p op m) = none_held f h m
   none_held f h (all_different p m) = none_held f h m
   none_held f h (gcc p a b c) =
-      neither (holds_decision f a || holds_decision f b) (holds_decision f c)
-      (neither (holds_decision f a) (holds_decision f b) (none_held f h a) (none_held f h b)) (none_held f h c)
+      or_from (holds_decision f a || holds_decision f b) (holds_decision f c)
+      (or_from (holds_decision f a) (holds_decision f b) (none_held f h a) (none_held f h b)) (none_held f h c)
   none_held f h (at_least p a b c) =
-      neither (holds_decision f a || holds_decision f b) (holds_decision f c)
-      (neither (holds_decision f a) (holds_decision f b) (none_held f h a) (none_held f h b)) (none_held f h c)
+      or_from (holds_decision f a || holds_decision f b) (holds_decision f c)
+      (or_from (holds_decision f a) (holds_decision f b) (none_held f h a) (none_held f h b)) (none_held f h c)
   none_held f h (at_most p a b c) =
-      neither (holds_decision f a || holds_decision f b) (holds_decision f c)
-      (neither (holds_decision f a) (holds_decision f b) (none_held f h a) (none_held f h b)) (none_held f h c)
-  none_held f h (table p a b) = neither (holds_decision f a) (holds_decision f b) (none_held f h a) (none_held f h b)
+      or_from (holds_decision f a || holds_decision f b) (holds_decision f c)
+      (or_from (holds_decision f a) (holds_decision f b) (none_held f h a) (none_held f h b)) (none_held f h c)
+  none_held f h (table p a b) = or_from (holds_decision f a) (holds_decision f b) (none_held f h a) (none_held f h b)
 
   no_part_held : (f : Name → Bool) → NoName f → (es : ExprTrees) → one_holds_decision f es ≡ false
   no_part_held f h no_trees = refl
-  no_part_held f h (tree_and e es) = neither (holds_decision f e) (one_holds_decision f es) (none_held f h e) (no_part_held f h es)
+  no_part_held f h (tree_and e es) = or_from (holds_decision f e) (one_holds_decision f es) (none_held f h e) (no_part_held f h es)
 
   no_term_held : (f : Name → Bool) → NoName f → (ts : Terms) → term_holds_decision f ts ≡ false
   no_term_held f h no_terms = refl
-  no_term_held f h (term_and plus e ts) = neither (holds_decision f e) (term_holds_decision f ts) (none_held f h e) (no_term_held f h ts)
+  no_term_held f h (term_and plus e ts) = or_from (holds_decision f e) (term_holds_decision f ts) (none_held f h e) (no_term_held f h ts)
 
   no_index_held : (f : Name → Bool) → NoName f → (is : Indices) → index_holds_decision f is ≡ false
   no_index_held f h no_indices = refl
   no_index_held f h (every_and is) = no_index_held f h is
-  no_index_held f h (index_and e is) = neither (holds_decision f e) (index_holds_decision f is) (none_held f h e) (no_index_held f h is)
+  no_index_held f h (index_and e is) = or_from (holds_decision f e) (index_holds_decision f is) (none_held f h e) (no_index_held f h is)
 
 -- what is met, all of it fixed
 abbrev AreFixed : List Met → Type 0

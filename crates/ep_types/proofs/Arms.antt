@@ -20,9 +20,11 @@ use Rattle.ep_tree.specs.declared.syntax.QuantOp.{QuantOp}
 use Rattle.ep_tree.specs.declared.syntax.Range.{Range}
 use Rattle.ep_tree.specs.declared.values.ValueType.{ValueType}
 use Rattle.ep_tree.proofs.ViewLemmas.{domain_kind_tree-matrix, domain_kind_tree-ranges, index_of, kind_tree-all_of, kind_tree-any_of, kind_tree-chain, kind_tree-comprehension, kind_tree-literal, kind_tree-quantified, kind_tree-read}
-use Rattle.ep_types.proofs.Walks.{Walks, behind_all, next_is}
+use Rattle.ep_types_rules.proofs.RuleSteps.{next_is}
+use Rattle.ep_types_rules.specs.Concluding.{Checked, conclude, quantified_over, unless_fault, ◌>>=◌}
+use Rattle.ep_types.proofs.Walks.{Walks, behind_all}
 use Rattle.ep_types.specs.Reading.{stated_index}
-use Rattle.ep_types.specs.Checking.{Checked, check, check_all, check_domain, check_domains, check_generators, check_index, check_indices, check_ranges, check_readings, check_terms, conclude, quantified_over, unless_fault, ◌>>=◌}
+use Rattle.ep_types.specs.Checking.{check, check_all, check_domain, check_domains, check_generators, check_index, check_indices, check_ranges, check_readings, check_terms}
 
 -- ---- expressions
 

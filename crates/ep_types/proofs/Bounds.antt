@@ -9,11 +9,13 @@ use Rattle.ep_tree.specs.declared.syntax.Expr.{Expr}
 use Rattle.ep_tree.specs.declared.syntax.Range.{One, One', Range, Span, Span'}
 use Rattle.ep_tree.specs.declared.values.ValueType.{ValueType}
 use Rattle.ep_tree.proofs.ViewLemmas.{with_range-one, with_range-span}
+use Rattle.ep_types_rules.proofs.RuleSteps.{next_is}
+use Rattle.ep_types_rules.specs.Concluding.{Checked, conclude, ◌>>=◌}
+use Rattle.ep_types_rules.specs.declared.errors.StaticError.{StaticError}
 use Rattle.ep_types.proofs.Arms.{no_range}
-use Rattle.ep_types.proofs.Walks.{Blames, and_assoc, and_true, next_is}
-use Rattle.ep_types.specs.Checking.{Checked, check, check_end, check_ranges, conclude, ◌>>=◌}
+use Rattle.ep_types.proofs.Walks.{Blames, and_assoc, and_true}
+use Rattle.ep_types.specs.Checking.{check, check_end, check_ranges}
 use Rattle.ep_types.specs.Reading.{check_bounds, range_bounds}
-use Rattle.ep_types.specs.declared.errors.StaticError.{StaticError}
 
 -- whether one and others hold
 abbrev pub and_others : Bool → Bool → Checked Bool

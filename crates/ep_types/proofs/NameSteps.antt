@@ -1,6 +1,6 @@
 -- Steps of the proofs on rules and names.
-use Rattle.std.specs.Prelude.{◌≡◌, ℕ, Bool, true, false, List, [], ◌∷◌, ◌++◌, if◌then◌else◌, bytes_eq, Some, None, Ok, Err, Option, Result, option_map, length, take, ◌≤◌, ◌<◌, ◌+◌, ◌-◌, refl}
-use Rattle.std.proofs.Common.{ap, arith, subst, sym, ◌∙◌}
+use Rattle.std.specs.Prelude.{◌≡◌, ℕ, Bool, true, false, List, [], ◌∷◌, ◌++◌, if◌then◌else◌, bytes_eq, Some, None, Ok, Err, Option, option_map, length, take, ◌≤◌, ◌<◌, ◌+◌, ◌-◌, refl}
+use Rattle.std.proofs.Common.{ap, arith, sym, ◌∙◌}
 use Rattle.std.proofs.lemmas.List.{take_more}
 use Rattle.std.specs.Prelude.{slice_index_or}
 use Rattle.std.specs.Borrow.{Bor}
@@ -10,29 +10,17 @@ use Rattle.ep_base.specs.declared.places.Place.{Place}
 use Rattle.ep_tree.specs.Faults.{Fault, ill_typed, unknown_name, wrong_category}
 use Rattle.ep_tree.specs.Names.{put}
 use Rattle.ep_tree.specs.Types as types
-use Rattle.ep_tree.specs.Types.{Context, Judged, gives}
+use Rattle.ep_tree.specs.Types.{Context}
 use Rattle.ep_tree.specs.declared.values.ValueType.{ValueType}
-use Rattle.ep_types.proofs.Said.{ill_typed_says, wrong_category_says}
-use Rattle.ep_types.specs.Checking.{Checked, SaysOfCheck, check_domain_name, check_name, check_value, conclude, quantified_over}
+use Rattle.ep_types_rules.proofs.Said.{wrong_category_says}
+use Rattle.ep_types_rules.specs.Concluding.{Checked}
+use Rattle.ep_types_rules.specs.Named.{IsUnknown, fault_of}
+use Rattle.ep_types_rules.specs.declared.errors.StaticError.{StaticError}
+use Rattle.ep_types_rules.specs.declared.errors.StaticError.TheVariants.{WrongCategory}
+use Rattle.ep_types.specs.Checking.{check_domain_name, check_name, check_value}
 use Rattle.ep_types.specs.Meanings.{behind_names, known_by, meaning_of}
-use Rattle.ep_types.specs.Named.{IsUnknown, fault_of}
-use Rattle.ep_types.specs.declared.errors.StaticError.{StaticError}
-use Rattle.ep_types.specs.declared.errors.StaticError.TheVariants.{IllTyped, WrongCategory}
 use Rattle.ep_types.specs.declared.names.Meaning.{Meaning}
 use Rattle.ep_types.specs.declared.names.Meaning.TheVariants.{Domain, Value}
-
--- ---- rules
-
-pub ill_typed_is : {A : Type 0} (p : Place) (check : Checked A) → check ≡ Err (ill_typed p) → (fault : Fault) → fault_of (IllTyped p) ≡ Some fault → check ≡ Err fault
-ill_typed_is p check e fault s = e ∙ ill_typed_says p fault s
-
-pub conclude_false : (p : Place) (t : ValueType) (b : Bool) → b ≡ false → conclude p (gives t b) ≡ Err (ill_typed p)
-unfolding gives
-conclude_false p t b e = rw e refl
-
-pub over_false : (p : Place) (b : Bool) (j : Judged) → b ≡ false → conclude p (quantified_over b j) ≡ Err (ill_typed p)
-over_false p true j e = absurd cc
-over_false p false j e = refl
 
 -- ---- names
 
@@ -67,10 +55,6 @@ pub may_here : (d : Bool) (p : Place) (t : ValueType) (b : Bool) → d ≡ true 
 unfolding check_value
 may_here d p t true h = rw h refl
 may_here d p t false h = refl
-
--- a check that is the same as another says the same
-pub says_same : (result : Result ValueType StaticError) (one other : Checked ValueType) → one ≡ other → SaysOfCheck (λ t. t) result other → SaysOfCheck (λ t. t) result one
-says_same result one other e h = let P : Checked ValueType → Type 0 = λ x. SaysOfCheck (λ t. t) result x in subst P (sym e) h
 
 pub wrong_category_is : {A : Type 0} (p : Place) (check : Checked A) → check ≡ Err (wrong_category p) → (fault : Fault) → fault_of (WrongCategory p) ≡ Some fault → check ≡ Err fault
 wrong_category_is p check e fault s = e ∙ wrong_category_says p fault s

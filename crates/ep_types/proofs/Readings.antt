@@ -5,9 +5,10 @@ use Rattle.ep_tree.specs.Names.{put}
 use Rattle.ep_tree.specs.Types as types
 use Rattle.ep_tree.specs.Types.{Context, is_integer, quantified_name, typed}
 use Rattle.ep_tree.specs.declared.values.ValueType.{ValueType}
+use Rattle.ep_types_rules.specs.Concluding.{Checked}
 use Rattle.ep_types.proofs.Arms.{next_reading}
 use Rattle.ep_types.proofs.Walks.{Reads, one_read}
-use Rattle.ep_types.specs.Checking.{Checked, check_readings}
+use Rattle.ep_types.specs.Checking.{check_readings}
 
 pub reading : (f : Context → Checked ValueType) (whole : Checked (Bool × Context)) (so_far new : Bool) (xs : List Name) (i : ℕ) (x : Name) (c k : Context) (t : ValueType) (m : types.Meaning)
     → Reads whole so_far (check_readings (drop i xs) f c) → i < length xs → x ≡ get_or xs i x → f c ≡ Ok t → new ≡ (so_far && is_integer t) → k ≡ put x m c → m ≡ quantified_name (typed t)

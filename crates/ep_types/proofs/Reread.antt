@@ -10,8 +10,9 @@ use Rattle.ep_tree.specs.Names.{put}
 use Rattle.ep_tree.specs.Trees.{DomainTree, Domains, End, ExprTree, ExprTrees, Generators, IndexDomain, Indices, Ranges, Terms, absolute, all_different, all_of, any_of, at_least, at_most, binary, bool, chain, compare, comprehension, domain_and, end_at, every_and, factorial, flatten, folded, gcc, generator_and, group, group_domain, in_domain, in_set, index_and, int, lex, literal, matrix_domain, minus, named, named_domain, negation, no_domains, no_end, no_generators, no_indices, no_ranges, no_terms, no_trees, number, one_and, over, quantified, ranges, read, set_domain, span_and, table, term_and, to_int, tree_and, truth, unstated}
 use Rattle.ep_tree.specs.Types.{Context, Meaning, is_boolean, is_integer, list_type, quantified_name, quantified_type, slice_count, typed}
 use Rattle.ep_tree.specs.declared.values.ValueType.{ValueType}
+use Rattle.ep_types_rules.specs.Concluding.{Checked, conclude, quantified_over, unless_fault, ◌>>=◌}
 use Rattle.ep_types.specs.Again.{Keeps}
-use Rattle.ep_types.specs.Checking.{Checked, check, check_all, check_domain, check_domain_name, check_domains, check_end, check_generators, check_index, check_indices, check_name, check_ranges, check_readings, check_terms, conclude, quantified_over, unless_fault, ◌>>=◌}
+use Rattle.ep_types.specs.Checking.{check, check_all, check_domain, check_domain_name, check_domains, check_end, check_generators, check_index, check_indices, check_name, check_ranges, check_readings, check_terms}
 
 -- names that stand for something stand for the same
 abbrev pub Grows : Context → Context → Type 0

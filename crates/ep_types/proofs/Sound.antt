@@ -15,7 +15,8 @@ use Rattle.ep_tree.specs.declared.syntax.BinaryOp.{BinaryOp}
 use Rattle.ep_tree.specs.declared.syntax.FoldOp.{FoldOp}
 use Rattle.ep_tree.specs.declared.syntax.QuantOp.{QuantOp}
 use Rattle.ep_tree.specs.declared.values.ValueType.{ValueType}
-use Rattle.ep_types.specs.Checking.{Checked, check, check_all, check_domain, check_domain_name, check_domains, check_end, check_generators, check_index, check_indices, check_name, check_ranges, check_branching, check_clause, check_value, check_clauses, check_declared, check_goal, check_groups, check_readings, check_stated, check_statement, check_terms, check_text, conclude, quantified_over, unless_fault, ◌>>=◌}
+use Rattle.ep_types_rules.specs.Concluding.{Checked, conclude, quantified_over, unless_fault, ◌>>=◌}
+use Rattle.ep_types.specs.Checking.{check, check_all, check_domain, check_domain_name, check_domains, check_end, check_generators, check_index, check_indices, check_name, check_ranges, check_branching, check_clause, check_value, check_clauses, check_declared, check_goal, check_groups, check_readings, check_stated, check_statement, check_terms, check_text}
 
 -- what a check says is right of these faults: none stands, and something holds of what is checked; or the fault stands
 abbrev pub Sound : {A : Type 0} → List Fault → (A → Type 0) → Checked A → Type 0

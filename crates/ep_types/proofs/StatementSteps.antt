@@ -17,16 +17,18 @@ use Rattle.ep_tree.specs.Statements.{TextTree}
 use Rattle.ep_tree.specs.Views.{domain_tree, expr_tree, group_of, statement_tree}
 use Rattle.ep_tree.specs.declared.syntax.Domain.{Domain}
 use Rattle.ep_tree.specs.declared.syntax.Expr.{Expr}
+use Rattle.ep_types_rules.proofs.RuleSteps.{next_is}
+use Rattle.ep_types_rules.specs.Concluding.{Checked, conclude, unless_fault, ◌>>=◌}
+use Rattle.ep_types_rules.specs.Named.{IsAmongFaults}
+use Rattle.ep_types_rules.specs.declared.errors.StaticError.{StaticError}
 use Rattle.ep_types.proofs.PlaceLaws.{place_of_tree}
 use Rattle.ep_tree.specs.declared.statements.Declared.{Declared}
 use Rattle.ep_tree.specs.declared.statements.Statement.{Statement}
-use Rattle.ep_types.proofs.Walks.{Blames, next_is}
+use Rattle.ep_types.proofs.Walks.{Blames}
 use Rattle.ep_types.proofs.Sound.{AreTyped, Sound, text_sound}
-use Rattle.ep_types.specs.Checking.{Checked, check, check_goal, check_stated, conclude, check_branching, check_clause, check_clauses, check_declared, check_domain, check_groups, check_statement, check_text, unless_fault, ◌>>=◌}
+use Rattle.ep_types.specs.Checking.{check, check_goal, check_stated, check_branching, check_clause, check_clauses, check_declared, check_domain, check_groups, check_statement, check_text}
 use Rattle.ep_types.specs.Declaring.{declares}
 use Rattle.ep_types.specs.Meanings.{known_by, meaning_of}
-use Rattle.ep_types.specs.Named.{IsAmongFaults}
-use Rattle.ep_types.specs.declared.errors.StaticError.{StaticError}
 use Rattle.ep_types.specs.declared.names.Meaning.{Meaning}
 
 abbrev Entry : Type 0

@@ -1,19 +1,15 @@
 -- Loops over parts: what is checked so far, and then the rest, is the whole.
-use Rattle.std.proofs.Common.{◌≡◌, ℕ, suc, ◌+◌, ◌<◌, ◌≤◌, Bool, true, false, ◌&&◌, List, [], ◌∷◌, ◌++◌, length, drop, get_or, Some, Ok, Err, refl, sym, ap, ◌∙◌, append_assoc, add-one, subst}
-use Rattle.std.proofs.Math.Seq.{drop-cons}
+use Rattle.std.proofs.Common.{◌≡◌, ℕ, ◌+◌, ◌<◌, ◌≤◌, Bool, true, false, ◌&&◌, List, [], ◌∷◌, ◌++◌, length, drop, get_or, Some, Ok, Err, refl, sym, ap, ◌∙◌, append_assoc, subst}
 use Rattle.std.proofs.Math.ListN.{drop_of_length-le}
 use Rattle.std.proofs.lemmas.List.{append-nil}
 use Rattle.ep_tree.specs.Faults.{Fault}
 use Rattle.ep_tree.specs.Types.{Context}
-use Rattle.ep_types.proofs.Said.{memory_says}
-use Rattle.ep_types.specs.Checking.{Checked, ◌>>=◌}
-use Rattle.ep_types.specs.Named.{fault_of}
-use Rattle.ep_types.specs.declared.errors.StaticError.{StaticError}
-use Rattle.ep_types.specs.declared.errors.StaticError.TheVariants.{Memory}
-
--- the items that are left: the next one and the others
-pub next_is : {A : Type 0} (xs : List A) (i : ℕ) (x : A) → i < length xs → x ≡ get_or xs i x → drop i xs ≡ x ∷ drop (i + 1) xs
-next_is xs i x lt e = rw add-one (drop-cons xs i x lt ∙ ap (λ y. y ∷ drop (suc i) xs) (sym e))
+use Rattle.ep_types_rules.proofs.RuleSteps.{next_is}
+use Rattle.ep_types_rules.proofs.Said.{memory_says}
+use Rattle.ep_types_rules.specs.Concluding.{Checked, ◌>>=◌}
+use Rattle.ep_types_rules.specs.Named.{fault_of}
+use Rattle.ep_types_rules.specs.declared.errors.StaticError.{StaticError}
+use Rattle.ep_types_rules.specs.declared.errors.StaticError.TheVariants.{Memory}
 
 -- what an error says of a check
 abbrev pub Blames : {A : Type 0} → StaticError → Checked A → Type 0

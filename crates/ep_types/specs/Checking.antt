@@ -5,44 +5,17 @@
 -- and its conditions before its expression. A domain of several names is read whole for one before the next.
 --
 -- That a first fault is one of those that stand, and that none stands where there is a type, is proved of trees alone.
-use Rattle.std.specs.Prelude.{◌≡◌, Bool, true, false, not, ◌&&◌, ◌||◌, List, [], ◌∷◌, Some, None, Ok, Err, is_none, is_some, unwrap_or, Option, Result}
+use Rattle.std.specs.Prelude.{Bool, true, false, not, ◌&&◌, ◌||◌, List, [], ◌∷◌, Some, None, Ok, Err, is_none, is_some, unwrap_or, Option}
 use Rattle.std.specs.List.{list_all}
 use Rattle.ep_base.specs.declared.names.Name.{Name}
 use Rattle.ep_base.specs.declared.places.Place.{Place}
-use Rattle.ep_tree.specs.Faults.{Fault, entry_count, has_open_range, ill_typed, is_power, leaves_matrix, open_domain, redeclared, unknown_name, wrong_category}
+use Rattle.ep_tree.specs.Faults.{entry_count, has_open_range, ill_typed, is_power, leaves_matrix, open_domain, redeclared, unknown_name, wrong_category}
 use Rattle.ep_tree.specs.Names.{put}
 use Rattle.ep_tree.specs.Statements.{Group, StatementTree, TextTree, branching, constraints, decided, domain_letting, given, heuristic, letting, objective, requirements}
 use Rattle.ep_tree.specs.Trees.{place_of, DomainTree, Domains, End, ExprTree, ExprTrees, Generators, IndexDomain, Indices, Ranges, Terms, absolute, all_different, all_of, any_of, at_least, at_most, binary, bool, chain, compare, comprehension, domain_and, end_at, every_and, factorial, flatten, folded, gcc, generator_and, group, group_domain, in_domain, in_set, index_and, int, lex, literal, matrix_domain, minus, named, named_domain, negation, no_domains, no_end, no_generators, no_indices, no_ranges, no_terms, no_trees, number, one_and, over, quantified, ranges, read, set_domain, span_and, table, term_and, to_int, tree_and, truth, unstated}
-use Rattle.ep_tree.specs.Types.{Context, Judged, Meaning, a_domain, a_value, are_lists, binary_type, both_scalars, folded_type, gives, has_dimensions, is_boolean, is_integer, is_matrix, list_type, matrix_type, mistyped, of_scalar, quantified_name, quantified_type, read_type, scalar_of, slice_count, typed, untyped}
+use Rattle.ep_tree.specs.Types.{Context, Meaning, a_domain, a_value, are_lists, binary_type, both_scalars, folded_type, gives, has_dimensions, is_boolean, is_integer, is_matrix, list_type, matrix_type, of_scalar, quantified_name, quantified_type, read_type, scalar_of, slice_count, typed}
 use Rattle.ep_tree.specs.declared.values.ValueType.{ValueType}
-use Rattle.ep_types.specs.Named.{fault_of}
-use Rattle.ep_types.specs.declared.errors.StaticError.{StaticError}
-
--- what is checked, or the first fault
-abbrev pub Checked : Type 0 → Type 0
-Checked A = Result A Fault
-
-infixl 10 ◌>>=◌
-abbrev pub ◌>>=◌ : {A B : Type 0} → Checked A → (A → Checked B) → Checked B
-(Ok x) >>= next = next x
-(Err fault) >>= next = Err fault
-
--- What a function returned, seen by view, is what checking says. Want of memory says nothing.
-abbrev pub SaysOfCheck : {X Y : Type 0} → (X → Y) → Result X StaticError → Checked Y → Type 0
-SaysOfCheck view (Ok x) check = check ≡ Ok (view x)
-SaysOfCheck view (Err e) check = (fault : Fault) → fault_of e ≡ Some fault → check ≡ Err fault
-
--- The type of a node whose parts have types. That it is told of no type isn't met, since a part without a type has stopped
--- the checking before.
-abbrev pub conclude : Place → Judged → Checked ValueType
-conclude p (typed t) = Ok t
-conclude p mistyped = Err (ill_typed p)
-conclude p untyped = Err (ill_typed p)
-
--- where a condition holds
-abbrev pub unless_fault : Bool → Fault → Checked (Unit {0})
-unless_fault true fault = Ok tt
-unless_fault false fault = Err fault
+use Rattle.ep_types_rules.specs.Concluding.{Checked, conclude, quantified_over, unless_fault, ◌>>=◌}
 
 -- a value, which may be a decision variable's
 unfoldable pub check_value : Bool → Place → ValueType → Bool → Checked ValueType
@@ -72,11 +45,6 @@ check_readings (name ∷ names) domain context =
     domain context >>= λ t.
     check_readings names domain (put name (quantified_name (typed t)) context) >>= λ others.
     Ok (is_integer t && others.0, others.1)
-
--- a quantifier over domains that are scalar or aren't
-abbrev pub quantified_over : Bool → Judged → Judged
-quantified_over true judged = judged
-quantified_over false judged = mistyped
 
 unfoldable mutual
   -- an expression

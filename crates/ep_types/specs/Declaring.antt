@@ -5,7 +5,7 @@ use Rattle.ep_base.specs.declared.places.Place.{Place}
 use Rattle.ep_tree.specs.Faults.{redeclared}
 use Rattle.ep_tree.specs.Names.{put}
 use Rattle.ep_tree.specs.Types.{Context, Meaning}
-use Rattle.ep_types.specs.Checking.{Checked, unless_fault, ◌>>=◌}
+use Rattle.ep_types_rules.specs.Concluding.{Checked, unless_fault, ◌>>=◌}
 
 -- a name that isn't declared before is declared
 abbrev pub declares : Meaning → Context → Name → Place → Checked Context

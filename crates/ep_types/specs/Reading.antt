@@ -11,7 +11,8 @@ use Rattle.ep_tree.specs.Views.{domain_tree, with_range}
 use Rattle.ep_tree.specs.declared.syntax.Domain.{Domain}
 use Rattle.ep_tree.specs.declared.syntax.Range.{Range}
 use Rattle.ep_tree.specs.declared.values.ValueType.{ValueType}
-use Rattle.ep_types.specs.Checking.{Checked, check_indices, check_ranges, conclude, ◌>>=◌}
+use Rattle.ep_types_rules.specs.Concluding.{Checked, conclude, ◌>>=◌}
+use Rattle.ep_types.specs.Checking.{check_indices, check_ranges}
 
 -- a read of a matrix of a type: its indices, and then the read
 abbrev pub check_read : Context → Bool → Place → ValueType → Indices → Checked ValueType

@@ -3,14 +3,14 @@
 ghost use Rattle.std.specs.Prelude.{◌≡◌, [], IfOk, OnOk, IfErr};
 ghost use Rattle.ep_tree.specs.Faults.{lettings_of, params_faults, text_faults};
 ghost use Rattle.ep_tree.specs.Views.{model_tree, params_tree};
+ghost use Rattle.ep_types_rules.specs.Named.{IsAmongFaults};
 ghost use Rattle.ep_types.specs.First.{IsFirst};
-ghost use Rattle.ep_types.specs.Named.{IsAmongFaults};
 ghost use Rattle.ep_types.specs.Texts.{typed_params_tree, typed_tree};
 
-use crate::errors::StaticError;
 use crate::statements::{check_lettings, check_statements};
 use crate::typed::{Typed, TypedParams};
 use ep_tree::{Model, Params};
+use ep_types_rules::StaticError;
 use std::alloc::Global;
 
 /// Checks a model. It is well formed where no fault stands in it; otherwise the first that is met is

@@ -2,20 +2,21 @@
 
 ghost use Rattle.std.specs.Prelude.{◌≡◌, false, IfSome, Ok, OnOk};
 ghost use Rattle.ep_tree.specs.Views.{domain_tree, domains_of, end_of, expr_tree, expr_trees, generators_of, indices_of, ranges_of, terms_of};
-ghost use Rattle.ep_types.specs.Checking.{SaysOfCheck, check, check_all, check_domain, check_domains, check_end, check_generators, check_index, check_indices, check_readings, check_terms};
+ghost use Rattle.ep_types_rules.specs.Concluding.{SaysOfCheck};
+ghost use Rattle.ep_types.specs.Checking.{check, check_all, check_domain, check_domains, check_end, check_generators, check_index, check_indices, check_readings, check_terms};
 ghost use Rattle.ep_types.specs.Hiding.{Hides};
 ghost use Rattle.ep_types.specs.Meanings.{IsSame, names_context};
 ghost use Rattle.ep_types.specs.Reading.{check_bounds, check_read, range_bounds, stated_index};
 
-use crate::errors::StaticError;
 use crate::names::Names;
-use crate::rules;
 use ep_base::{Name, Place};
 use ep_tree::{Domain, DomainKind, Expr, Generator, Kind, Range, ValueType};
+use ep_types_rules as rules;
+use ep_types_rules::StaticError;
 
 /// The type of an expression, where decision variables may stand or may not.
 #[cycle(checking)]
-#[tactic(auto, using(crate::proofs::Said::passed_on, crate::proofs::Said::memory_says, crate::proofs::Scopes::same_again, crate::proofs::Scopes::same_after), unfolding(crate::specs::Checking::check, ep_tree::specs::Views::kind_tree))]
+#[tactic(auto, using(ep_types_rules::proofs::Said::passed_on, ep_types_rules::proofs::Said::memory_says, crate::proofs::Scopes::same_again, crate::proofs::Scopes::same_after), unfolding(crate::specs::Checking::check, ep_tree::specs::Views::kind_tree))]
 pub(crate) fn type_of<'a>(
     names: &mut Names<'a>,
     decisions: bool,
@@ -57,7 +58,7 @@ pub(crate) fn type_of<'a>(
 
 /// The type of an expression with one part.
 #[cycle(checking)]
-#[tactic(auto, using(crate::proofs::Said::passed_on, crate::proofs::Said::memory_says, crate::proofs::Scopes::same_again, crate::proofs::Scopes::same_after), unfolding(crate::specs::Checking::check, ep_tree::specs::Views::kind_tree))]
+#[tactic(auto, using(ep_types_rules::proofs::Said::passed_on, ep_types_rules::proofs::Said::memory_says, crate::proofs::Scopes::same_again, crate::proofs::Scopes::same_after), unfolding(crate::specs::Checking::check, ep_tree::specs::Views::kind_tree))]
 fn with_one_part<'a>(
     names: &mut Names<'a>,
     decisions: bool,
@@ -103,7 +104,7 @@ fn with_one_part<'a>(
 
 /// The type of an expression with two parts.
 #[cycle(checking)]
-#[tactic(auto, using(crate::proofs::Said::passed_on, crate::proofs::Said::memory_says, crate::proofs::Scopes::same_again, crate::proofs::Scopes::same_after), unfolding(crate::specs::Checking::check, ep_tree::specs::Views::kind_tree))]
+#[tactic(auto, using(ep_types_rules::proofs::Said::passed_on, ep_types_rules::proofs::Said::memory_says, crate::proofs::Scopes::same_again, crate::proofs::Scopes::same_after), unfolding(crate::specs::Checking::check, ep_tree::specs::Views::kind_tree))]
 fn with_two_parts<'a>(
     names: &mut Names<'a>,
     decisions: bool,
@@ -149,7 +150,7 @@ fn with_two_parts<'a>(
 
 /// The type of an expression that counts values in a matrix.
 #[cycle(checking)]
-#[tactic(auto, using(crate::proofs::Said::passed_on, crate::proofs::Said::memory_says, crate::proofs::Scopes::same_again, crate::proofs::Scopes::same_after), unfolding(crate::specs::Checking::check, ep_tree::specs::Views::kind_tree))]
+#[tactic(auto, using(ep_types_rules::proofs::Said::passed_on, ep_types_rules::proofs::Said::memory_says, crate::proofs::Scopes::same_again, crate::proofs::Scopes::same_after), unfolding(crate::specs::Checking::check, ep_tree::specs::Views::kind_tree))]
 fn with_three_parts<'a>(
     names: &mut Names<'a>,
     decisions: bool,
@@ -179,7 +180,7 @@ fn with_three_parts<'a>(
 
 /// The type of an expression with a list of parts.
 #[cycle(checking)]
-#[tactic(auto, using(crate::proofs::Said::passed_on, crate::proofs::Said::memory_says, crate::proofs::Scopes::same_again, crate::proofs::Scopes::same_after), unfolding(crate::specs::Checking::check, ep_tree::specs::Views::kind_tree))]
+#[tactic(auto, using(ep_types_rules::proofs::Said::passed_on, ep_types_rules::proofs::Said::memory_says, crate::proofs::Scopes::same_again, crate::proofs::Scopes::same_after), unfolding(crate::specs::Checking::check, ep_tree::specs::Views::kind_tree))]
 fn with_list<'a>(
     names: &mut Names<'a>,
     decisions: bool,
@@ -218,7 +219,7 @@ fn with_list<'a>(
 
 /// The type of an expression with a domain whose values are gone through or tested.
 #[cycle(checking)]
-#[tactic(auto, using(crate::proofs::Said::passed_on, crate::proofs::Said::memory_says, crate::proofs::Scopes::same_again, crate::proofs::Scopes::same_after), unfolding(crate::specs::Checking::check, ep_tree::specs::Views::kind_tree))]
+#[tactic(auto, using(ep_types_rules::proofs::Said::passed_on, ep_types_rules::proofs::Said::memory_says, crate::proofs::Scopes::same_again, crate::proofs::Scopes::same_after), unfolding(crate::specs::Checking::check, ep_tree::specs::Views::kind_tree))]
 fn with_domain<'a>(
     names: &mut Names<'a>,
     decisions: bool,
@@ -257,7 +258,7 @@ fn with_domain<'a>(
 
 /// The types of some expressions.
 #[cycle(checking)]
-#[tactic(auto, using(crate::proofs::Said::memory_says))]
+#[tactic(auto, using(ep_types_rules::proofs::Said::memory_says))]
 fn types_of<'a>(
     names: &mut Names<'a>,
     decisions: bool,
@@ -277,7 +278,7 @@ fn types_of<'a>(
 
 /// The types of the terms of a chain.
 #[cycle(checking)]
-#[tactic(auto, using(crate::proofs::Said::memory_says))]
+#[tactic(auto, using(ep_types_rules::proofs::Said::memory_says))]
 fn term_types<'a>(
     names: &mut Names<'a>,
     decisions: bool,
@@ -310,12 +311,12 @@ fn read_type<'a>(
 {
     let may_decide = rules::may_decide_indices(decisions, ty, indices);
     let types = index_types(names, may_decide, indices)?;
-    rules::read(place, ty, &types, rules::slice_count(indices))
+    rules::read(place, ty, &types, rules::count_slices(indices))
 }
 
 /// The types of the indices of a read that aren't `..`.
 #[cycle(checking)]
-#[tactic(auto, using(crate::proofs::Said::memory_says))]
+#[tactic(auto, using(ep_types_rules::proofs::Said::memory_says))]
 fn index_types<'a>(
     names: &mut Names<'a>,
     decisions: bool,
@@ -340,7 +341,7 @@ fn index_types<'a>(
 
 /// The type of a domain, whose ranges may be open or may not.
 #[cycle(checking)]
-#[tactic(auto, using(crate::proofs::Said::passed_on, crate::proofs::Said::memory_says, crate::proofs::Scopes::same_again, crate::proofs::Scopes::same_after), unfolding(crate::specs::Checking::check, ep_tree::specs::Views::domain_kind_tree))]
+#[tactic(auto, using(ep_types_rules::proofs::Said::passed_on, ep_types_rules::proofs::Said::memory_says, crate::proofs::Scopes::same_again, crate::proofs::Scopes::same_after), unfolding(crate::specs::Checking::check, ep_tree::specs::Views::domain_kind_tree))]
 pub(crate) fn domain_type<'a>(
     names: &mut Names<'a>,
     may_open: bool,
@@ -379,7 +380,7 @@ pub(crate) fn domain_type<'a>(
 
 /// The types of index domains.
 #[cycle(checking)]
-#[tactic(auto, using(crate::proofs::Said::memory_says))]
+#[tactic(auto, using(ep_types_rules::proofs::Said::memory_says))]
 fn domain_types<'a>(
     names: &mut Names<'a>,
     domains: &'a [Domain],
@@ -459,7 +460,7 @@ fn read_generators<'a>(
 
 /// Whether the domain of a list's indices is scalar, where one is stated.
 #[cycle(checking)]
-#[tactic(auto, using(crate::proofs::Said::passed_on, crate::proofs::Scopes::same_again, crate::proofs::Scopes::same_after), unfolding(crate::specs::Checking::check, crate::specs::Reading::stated_index))]
+#[tactic(auto, using(ep_types_rules::proofs::Said::passed_on, crate::proofs::Scopes::same_again, crate::proofs::Scopes::same_after), unfolding(crate::specs::Checking::check, crate::specs::Reading::stated_index))]
 fn index_is_scalar<'a>(
     names: &mut Names<'a>,
     index: &'a Option<Box<Domain>>,
@@ -519,7 +520,7 @@ fn bounds_are_integer<'a>(names: &mut Names<'a>, range: &'a Range) -> Result<boo
 
 /// The type of an end of a range; one that is left out is as good as an integer.
 #[cycle(checking)]
-#[tactic(auto, using(crate::proofs::Said::passed_on, crate::proofs::Scopes::same_again, crate::proofs::Scopes::same_after), unfolding(crate::specs::Checking::check, ep_tree::specs::Views::end_of))]
+#[tactic(auto, using(ep_types_rules::proofs::Said::passed_on, crate::proofs::Scopes::same_again, crate::proofs::Scopes::same_after), unfolding(crate::specs::Checking::check, ep_tree::specs::Views::end_of))]
 fn end_type<'a>(names: &mut Names<'a>, end: &'a Option<Expr>) -> Result<ValueType, StaticError>
     ensures same { OnOk result (IsSame names.old names.new) }
     ensures says { SaysOfCheck (λ t. t) result (check_end (names_context names.old) (end_of end.now)) }

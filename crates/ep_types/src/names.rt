@@ -4,17 +4,17 @@ ghost use Rattle.std.specs.Prelude.{◌≡◌, true, IfErr, IfOk, IfSome, OnOk, 
 ghost use Rattle.ep_tree.specs.Names.{put};
 ghost use Rattle.ep_tree.specs.Types as types;
 ghost use Rattle.ep_tree.specs.Types.{Context, typed};
+ghost use Rattle.ep_types_rules.specs.Concluding.{SaysOfCheck};
+ghost use Rattle.ep_types_rules.specs.Named.{IsUnknown};
+ghost use Rattle.ep_types_rules.specs.declared.errors.StaticError.TheVariants.{Memory as OutOfMemory};
 ghost use Rattle.ep_types.specs.Again.{Keeps};
-ghost use Rattle.ep_types.specs.Checking.{SaysOfCheck, check_domain_name, check_name, check_value};
+ghost use Rattle.ep_types.specs.Checking.{check_domain_name, check_name, check_value};
 ghost use Rattle.ep_types.specs.Meanings.{behind_names, names_context, known_by, meaning_of, or_else};
 ghost use Rattle.ep_types.specs.Hiding.{Hides};
-ghost use Rattle.ep_types.specs.Named.{IsUnknown};
-ghost use Rattle.ep_types.specs.declared.errors.StaticError.TheVariants.{Memory as OutOfMemory};
 
-use crate::errors::StaticError;
-use crate::rules;
 use ep_base::{Name, Place};
 use ep_tree::ValueType;
+use ep_types_rules::{StaticError, is_boolean};
 use indexmap::IndexMap;
 use std::alloc::Global;
 
@@ -75,6 +75,18 @@ fn is_same(one: Meaning, other: Meaning) -> bool
     ensures { result ≡ true → meaning_of one ≡ meaning_of other }
 {
     one == other
+}
+
+/// What a name of a quantifier or generator over a domain of this type stands for.
+#[tactic(auto, unfolding(ep_tree::specs::Types::quantified_name, crate::specs::Meanings::meaning_of))]
+fn quantified_name(ty: ValueType) -> Meaning
+    ensures { meaning_of result ≡ types.quantified_name (typed ty) }
+{
+    if is_boolean(ty) {
+        Meaning::Value(ValueType::Bool, false)
+    } else {
+        Meaning::Value(ValueType::Int, false)
+    }
 }
 
 /// A type where it is known.
@@ -140,7 +152,7 @@ impl<'a> Names<'a> {
     }
 
     /// The error of a name that isn't declared.
-    #[tactic(auto, unfolding(crate::specs::Named::fault_of))]
+    #[tactic(auto, unfolding(ep_types_rules::specs::Named::fault_of))]
     fn unknown(&self, place: Place, name: &Name) -> StaticError
         ensures { IsUnknown place name.now result }
     {
@@ -186,7 +198,7 @@ impl<'a> Names<'a> {
             (Keeps (names_context self.old) name.now (types.quantified_name (typed ty)))) }
         ensures memory { IfErr result (λ e. e ≡ OutOfMemory) }
     {
-        let meaning = rules::quantified_name(ty);
+        let meaning = quantified_name(ty);
         let again = known_if(self.keeps(name, meaning), ty);
         self.hide(name, meaning)?;
         Ok(again)

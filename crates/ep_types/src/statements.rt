@@ -5,23 +5,24 @@ ghost use Rattle.ep_tree.specs.Faults.{Fault, lettings_of, redeclared, unknown_n
 ghost use Rattle.ep_tree.specs.Names.{nothing_known};
 ghost use Rattle.ep_tree.specs.StatementSpelling.{is_letting};
 ghost use Rattle.ep_tree.specs.Views.{domain_tree, expr_tree, group_of, statement_tree};
+ghost use Rattle.ep_types_rules.specs.Concluding.{SaysOfCheck, unless_fault};
+ghost use Rattle.ep_types_rules.specs.Named.{IsUnknown, fault_of};
 ghost use Rattle.ep_types.specs.Declaring.{declares};
 ghost use Rattle.ep_types.specs.Checking as checking;
-ghost use Rattle.ep_types.specs.Checking.{SaysOfCheck, check_declared, unless_fault};
+ghost use Rattle.ep_types.specs.Checking.{check_declared};
 ghost use Rattle.ep_types.specs.Meanings.{known_by, meaning_of};
-ghost use Rattle.ep_types.specs.Named.{IsUnknown, fault_of};
 
-use crate::errors::StaticError;
 use crate::expressions::{domain_type, type_of};
 use crate::names::{Meaning, Names};
-use crate::rules;
 use ep_base::{Name, Place};
 use ep_tree::{Declared, Domain, Expr, Statement, StatementKind, ValueType};
+use ep_types_rules as rules;
+use ep_types_rules::StaticError;
 use indexmap::IndexMap;
 use std::alloc::Global;
 
 /// The error of a name that is declared before.
-#[tactic(auto, unfolding(crate::specs::Named::fault_of))]
+#[tactic(auto, unfolding(ep_types_rules::specs::Named::fault_of))]
 fn declared_before(alloc: Global, place: Place, name: &Name) -> StaticError
     ensures { (fault : Fault) → fault_of result ≡ Some fault → redeclared place name.now ≡ fault }
 {
@@ -32,7 +33,7 @@ fn declared_before(alloc: Global, place: Place, name: &Name) -> StaticError
 }
 
 /// The error of a name that isn't declared.
-#[tactic(auto, unfolding(crate::specs::Named::fault_of))]
+#[tactic(auto, unfolding(ep_types_rules::specs::Named::fault_of))]
 fn not_declared(alloc: Global, place: Place, name: &Name) -> StaticError
     ensures { IsUnknown place name.now result }
 {
@@ -50,7 +51,7 @@ fn meaning(declared: &IndexMap<&str, Meaning>, name: &Name) -> Option<Meaning>
 }
 
 /// Declares a name that isn't declared before.
-#[tactic(auto, using(crate::proofs::Said::memory_says))]
+#[tactic(auto, using(ep_types_rules::proofs::Said::memory_says))]
 fn declare<'a>(
     alloc: Global,
     declared: &mut IndexMap<&'a str, Meaning>,
@@ -224,7 +225,7 @@ fn check_branching(
 }
 
 /// Checks a statement, and declares what it declares.
-#[tactic(auto, using(crate::proofs::Said::passed_on, crate::proofs::Said::memory_says, crate::proofs::StatementSteps::declared_alone), unfolding(crate::specs::Checking::check_statement, ep_tree::specs::Views::statement_kind_tree, crate::specs::Meanings::meaning_of))]
+#[tactic(auto, using(ep_types_rules::proofs::Said::passed_on, ep_types_rules::proofs::Said::memory_says, crate::proofs::StatementSteps::declared_alone), unfolding(crate::specs::Checking::check_statement, ep_tree::specs::Views::statement_kind_tree, crate::specs::Meanings::meaning_of))]
 pub(crate) fn check_statement<'a>(
     alloc: Global,
     declared: &mut IndexMap<&'a str, Meaning>,

@@ -1,1 +1,2 @@
-mod RuleSteps
+pub mod Said
+pub mod RuleSteps

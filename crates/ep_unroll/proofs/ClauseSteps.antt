@@ -1,9 +1,10 @@
 -- Clauses and the objective, one after another.
-use Rattle.std.proofs.Common.{◌≡◌, ℕ, suc, ◌+◌, ◌<◌, ◌≤◌, Bool, true, false, ℤ, List, [], ◌∷◌, ◌++◌, length, take, get_or, Some, None, refl, sym, ap, subst, ◌∙◌, arith}
-use Rattle.std.specs.Prelude.{Option, ◌&&◌, map, option_map, unwrap_or}
+use Rattle.std.proofs.Common.{◌≡◌, ℕ, suc, ◌+◌, ◌<◌, ◌≤◌, false, ℤ, List, [], ◌∷◌, ◌++◌, length, take, get_or, Some, None, refl, sym, ap, subst, ◌∙◌, arith}
+use Rattle.std.specs.Prelude.{Option, map, option_map, unwrap_or}
 use Rattle.std.specs.List.{All, AllZip}
 use Rattle.std.proofs.lemmas.List.{map-append, take_all, take_more}
 use Rattle.std.proofs.lemmas.List.Elements.{All-push}
+use Rattle.std.proofs.Math.Bool.{and-true}
 use Rattle.ep_base.specs.Numbers.{all_one, is_one, of_bool}
 use Rattle.ep_base.specs.Reads.{all_there}
 use Rattle.ep_ground.specs.Nodes as node
@@ -22,14 +23,10 @@ use Rattle.ep_unroll.specs.Growing.{Grows, Puts}
 use Rattle.ep_unroll.specs.Meanings.{IsNumberOf}
 use Rattle.ep_unroll.specs.Readings.{Numbering}
 
-and_true : (b : Bool) → (b && true) ≡ b
-and_true true = refl
-and_true false = refl
-
 one_truth : (o : Option ℤ) → ground_truth (option_map all_one (all_there (o ∷ []))) ≡ Some (of_bool (unwrap_or (option_map is_one o) false))
 unfolding ground_truth all_there all_one of_bool
 one_truth None = refl
-one_truth (Some x) = ap (λ b. Some (of_bool b)) (and_true (is_one x))
+one_truth (Some x) = ap (λ b. Some (of_bool b)) (and-true (is_one x))
 
 pub clause_is : (n : Numbering) (cells : Env) (nodes mid new : List GroundNode) (e : ExprTree) (a t : ℕ) → IsNumberOf n cells nodes mid e a → Puts mid new (node.all_of (a ∷ [])) t → IsClauseTerm n cells nodes new e t
 unfolding node_value ground.term_values_of

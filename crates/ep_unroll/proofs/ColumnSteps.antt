@@ -6,6 +6,7 @@ use Rattle.std.proofs.lemmas.List.{append-nil, map-append}
 use Rattle.std.proofs.lemmas.List.Elements.{All-push}
 use Rattle.std.specs.declared.alloc.Global.{Global}
 use Rattle.std.specs.declared.vec.Vec.{Vec}
+use Rattle.ep_base.proofs.Small.{map_is, no_some, some_is}
 use Rattle.ep_ground.specs.Nodes.{GroundNode}
 use Rattle.ep_tree.specs.Solutions.{cell_count}
 use Rattle.ep_tree.specs.Values.{Index, ValueTree, all_defined, any_index, as_parts, listed_values, matrix, read_value, single}
@@ -15,16 +16,6 @@ use Rattle.ep_unroll.specs.Meanings.{AreTerms, RowHasTerms, row_worths, worth}
 use Rattle.ep_unroll.specs.Readings.{cells_value, each_from}
 use Rattle.ep_unroll.specs.declared.unrolled.Unrolled.{Unrolled, Matrix, Row_of-Unrolled, end_of-Unrolled, more_of-Unrolled, items-the_row-Unrolled, items_hidden-the_row-Unrolled-0}
 use Rattle.ep_unroll.specs.declared.unrolled.Unrolled.TheBlock.{hidden-the_row-Unrolled-0}
-
-some_is : {A : Type 0} {x y : A} → Some x ≡ Some y → x ≡ y
-some_is e = cc
-
-no_some : {A B : Type 0} {x : A} → None ≡ Some x → B
-no_some e = absurd cc
-
-map_is : {A B : Type 0} (f : A → B) (o : Option A) (v : B) → option_map f o ≡ Some v → (x : A) × (o ≡ Some x) × (f x ≡ v)
-map_is f None v e = no_some e
-map_is f (Some x) v e = (x, refl, some_is e)
 
 -- ---- a matrix by its parts
 

@@ -1,7 +1,8 @@
 -- The scalars among which a read of what was unrolled chooses, one part after another.
 use Rattle.std.proofs.Common.{◌≡◌, ℕ, ℤ, Bool, true, false, List, [], ◌∷◌, ◌++◌, length, Some, None, refl, sym, ap, subst, ◌∙◌}
-use Rattle.std.specs.Prelude.{Option, map, option_and_then, option_map, if◌then◌else◌}
+use Rattle.std.specs.Prelude.{Option, map, option_and_then, if◌then◌else◌}
 use Rattle.std.specs.Ordering.{int_eq}
+use Rattle.ep_base.proofs.Small.{map_is, no_some, some_is}
 use Rattle.ep_base.specs.Runs.{IsAscending}
 use Rattle.ep_ground.specs.Nodes.{GroundNode}
 use Rattle.ep_tree.specs.Values.{ValueTree, all_defined, as_parts, at_index, matrix, part_at, read_value}
@@ -14,16 +15,6 @@ use Rattle.ep_unroll.specs.Picks.{AreEntries}
 use Rattle.ep_unroll.specs.declared.slots.Slot.{Slot}
 use Rattle.ep_unroll.specs.declared.slots.Slot.TheVariants.{At, Open}
 use Rattle.ep_unroll.specs.declared.unrolled.Unrolled.{Unrolled}
-
-some_is : {A : Type 0} {x y : A} → Some x ≡ Some y → x ≡ y
-some_is e = cc
-
-no_some : {A B : Type 0} {x : A} → None ≡ Some x → B
-no_some e = absurd cc
-
-map_is : {A B : Type 0} (f : A → B) (o : Option A) (v : B) → option_map f o ≡ Some v → (x : A) × (o ≡ Some x) × (f x ≡ v)
-map_is f None v e = no_some e
-map_is f (Some x) v e = (x, refl, some_is e)
 
 -- ---- the part with an index
 

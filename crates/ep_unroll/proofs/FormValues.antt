@@ -6,6 +6,7 @@ use Rattle.std.proofs.lemmas.Int.{ints}
 use Rattle.std.proofs.lemmas.List.{length-append}
 use Rattle.ep_base.specs.Numbers as numbers
 use Rattle.ep_base.specs.Numbers.{absolute_of, all_one, any_one, compare_holds, greatest_of, has_number, is_one, least_of, of_bool, sum_of}
+use Rattle.ep_base.specs.Options.{map_both, on_both}
 use Rattle.ep_base.specs.Reads.{all_there, weighted_sum}
 use Rattle.ep_base.specs.declared.operators.CompareOp.{CompareOp}
 use Rattle.ep_base.specs.declared.places.Place.{Place}
@@ -16,7 +17,7 @@ use Rattle.ep_ground.specs.Terms as ground
 use Rattle.ep_ground.specs.Terms.{node_value, term_value, weighed, truth as ground_truth}
 use Rattle.ep_tree.proofs.EvaluationEquations.{evaluate-absolute, evaluate-all_of, evaluate-any_of, evaluate-binary, evaluate-compare, evaluate-in_domain, evaluate-minus, evaluate-negation}
 use Rattle.ep_tree.specs.Environments.{Env}
-use Rattle.ep_tree.specs.Evaluation.{all_numbers, all_true, any_true, binary_number, binary_value, domain_values, joins_truths, undefined_truth, evaluate, map_both, number_in, number_value, on_both, truth_in, values_of}
+use Rattle.ep_tree.specs.Evaluation.{all_numbers, all_true, any_true, binary_number, binary_value, domain_values, joins_truths, undefined_truth, evaluate, number_in, number_value, truth_in, values_of}
 use Rattle.ep_tree.specs.Trees.{DomainTree, ExprTree, ExprTrees, absolute, all_of, any_of, binary, compare, in_domain, minus, negation}
 use Rattle.ep_tree.specs.Values.{ValueTree, all_defined, single}
 use Rattle.ep_tree.specs.declared.syntax.BinaryOp.{BinaryOp}
@@ -128,8 +129,8 @@ one_truth n cells nodes mid new e tree a t us own k one other h needed j =
     ∙ ap (λ o. ground_truth (option_map k o)) ((number_grown n cells nodes mid j.between e a j.puts.grows h).number r)))
     (λ r. one_there k (term_value mid r.numbers a) ∙ ap (λ o. is_some (option_map k o)) (h.number r))
 
-pub both_same : {A B C : Type 0} (f : A → B → C) (a : Option A) (b : Option B) → map_both f a b ≡ ground.on_both (λ x y. Some (f x y)) a b
-unfolding map_both ground.on_both
+pub both_same : {A B C : Type 0} (f : A → B → C) (a : Option A) (b : Option B) → map_both f a b ≡ on_both a b (λ x y. Some (f x y))
+unfolding map_both on_both
 both_same f None b = refl
 both_same f (Some x) None = refl
 both_same f (Some x) (Some y) = refl
@@ -137,15 +138,15 @@ both_same f (Some x) (Some y) = refl
 -- and of those of two
 pub two_truth : (n : Numbering) (cells : Env) (nodes mid new : List GroundNode) (e e' tree : ExprTree) (a b t : ℕ) (us : List ℕ) (own : GroundNode) (k : ℤ → ℤ → Bool)
     → ((r : Reading n cells) → evaluate n.mode r.values tree ≡ truth_in n.mode (map_both k (number_in (evaluate n.mode r.values e)) (number_in (evaluate n.mode r.values e'))))
-    → ((numbers : List ℤ) (value : ℕ → Option ℤ) → node_value numbers value own ≡ ground_truth (ground.on_both (λ x y. Some (k x y)) (value a) (value b)))
+    → ((numbers : List ℤ) (value : ℕ → Option ℤ) → node_value numbers value own ≡ ground_truth (on_both (value a) (value b) (λ x y. Some (k x y))))
     → IsNumberOf n cells nodes mid e a → IsNumberOf n cells nodes mid e' b → ArePartial mid n.count (needed_in n.mode (a ∷ b ∷ [])) us → IsJudged mid new own us t
     → IsTermOf n cells nodes new tree t
 two_truth n cells nodes mid new e e' tree a b t us own k one other h h' needed j =
     truth_told n cells nodes mid new tree (a ∷ b ∷ []) us t own (λ r. map_both k (number_in (evaluate n.mode r.values e)) (number_in (evaluate n.mode r.values e'))) h.grows needed j one
     (λ r. told_both n.mode (map_both k (number_in (evaluate n.mode r.values e)) (number_in (evaluate n.mode r.values e'))) (term_value j.between r.numbers j.own)
     (j.puts.value r.numbers ∙ other r.numbers (term_value j.between r.numbers)
-    ∙ ap (λ o. ground_truth (ground.on_both (λ x y. Some (k x y)) o (term_value j.between r.numbers b))) ((number_grown n cells nodes mid j.between e a j.puts.grows h).number r)
-    ∙ ap (λ o. ground_truth (ground.on_both (λ x y. Some (k x y)) (number_in (evaluate n.mode r.values e)) o)) ((number_grown n cells nodes mid j.between e' b j.puts.grows h').number r)
+    ∙ ap (λ o. ground_truth (on_both o (term_value j.between r.numbers b) (λ x y. Some (k x y)))) ((number_grown n cells nodes mid j.between e a j.puts.grows h).number r)
+    ∙ ap (λ o. ground_truth (on_both (number_in (evaluate n.mode r.values e)) o (λ x y. Some (k x y)))) ((number_grown n cells nodes mid j.between e' b j.puts.grows h').number r)
     ∙ ap ground_truth (sym (both_same k (number_in (evaluate n.mode r.values e)) (number_in (evaluate n.mode r.values e'))))))
     (λ r. two_there k (term_value mid r.numbers a) (term_value mid r.numbers b)
     ∙ ap (λ o. is_some (map_both k o (term_value mid r.numbers b))) (h.number r) ∙ ap (λ o. is_some (map_both k (number_in (evaluate n.mode r.values e)) o)) (h'.number r))
@@ -190,8 +191,8 @@ absolute_term n cells nodes mid new p e a t =
 
 same_minus : (o : Option ℤ)
     → number_value (option_map neg_ℤ o)
-    ≡ option_map single (option_map (λ ps. pos 0 +ℤ weighted_sum ps) (ground.on_both (λ x rest. Some ((negsuc 0, x) ∷ rest)) o (Some [])))
-unfolding ground.on_both weighted_sum sum_of
+    ≡ option_map single (option_map (λ ps. pos 0 +ℤ weighted_sum ps) (on_both o (Some []) (λ x rest. Some ((negsuc 0, x) ∷ rest))))
+unfolding on_both weighted_sum sum_of
 same_minus None = refl
 same_minus (Some x) = ap (λ y. Some (single y)) (minus_one x)
   where
@@ -203,7 +204,7 @@ pub minus_term : (n : Numbering) (cells : Env) (nodes mid new : List GroundNode)
 unfolding node_value weighed
 minus_term n cells nodes mid new p e a t =
     one_form n cells nodes mid new e (minus p e) a t (node.sum (pos 0) ((negsuc 0, a) ∷ [])) (λ o. number_value (option_map neg_ℤ o))
-    (λ o. option_map (λ ps. pos 0 +ℤ weighted_sum ps) (ground.on_both (λ x rest. Some ((negsuc 0, x) ∷ rest)) o (Some [])))
+    (λ o. option_map (λ ps. pos 0 +ℤ weighted_sum ps) (on_both o (Some []) (λ x rest. Some ((negsuc 0, x) ∷ rest))))
     (λ values. evaluate-minus n.mode values p e) (λ numbers value. refl) same_minus
 
 -- ---- two parts
@@ -252,47 +253,29 @@ iff_term n cells nodes mid new p e e' a b t us =
     (λ r. evaluate-binary n.mode r.values p BinaryOp.Iff e e' ∙ iff_truth n.mode (number_in (evaluate n.mode r.values e)) (number_in (evaluate n.mode r.values e')))
     (λ numbers value. refl)
 
-same_product : (mode : Mode) (o o' : Option ℤ) → binary_value mode BinaryOp.Mul o o' ≡ option_map single (ground.on_both (λ x y. Some (x *ℤ y)) o o')
-unfolding binary_value binary_number joins_truths on_both ground.on_both
-same_product mode None o' = refl
-same_product mode (Some x) None = refl
-same_product mode (Some x) (Some y) = refl
-
 pub product_term : (n : Numbering) (cells : Env) (nodes mid new : List GroundNode) (p : Place) (e e' : ExprTree) (a b t : ℕ)
     → IsNumberOf n cells nodes mid e a → IsNumberOf n cells nodes mid e' b → Puts mid new (node.product a b) t
     → IsTermOf n cells nodes new (binary p BinaryOp.Mul e e') t
-unfolding node_value
+unfolding node_value binary_value binary_number joins_truths
 product_term n cells nodes mid new p e e' a b t =
     two_form n cells nodes mid new e e' (binary p BinaryOp.Mul e e') a b t (node.product a b) (binary_value n.mode BinaryOp.Mul)
-    (λ o o'. ground.on_both (λ x y. Some (x *ℤ y)) o o') (λ values. evaluate-binary n.mode values p BinaryOp.Mul e e') (λ numbers value. refl) (same_product n.mode)
-
-same_quotient : (mode : Mode) (o o' : Option ℤ) → binary_value mode BinaryOp.Div o o' ≡ option_map single (ground.on_both numbers.quotient o o')
-unfolding binary_value binary_number joins_truths on_both ground.on_both
-same_quotient mode None o' = refl
-same_quotient mode (Some x) None = refl
-same_quotient mode (Some x) (Some y) = refl
+    (λ o o'. on_both o o' (λ x y. Some (x *ℤ y))) (λ values. evaluate-binary n.mode values p BinaryOp.Mul e e') (λ numbers value. refl) (λ o o'. refl)
 
 pub quotient_term : (n : Numbering) (cells : Env) (nodes mid new : List GroundNode) (p : Place) (e e' : ExprTree) (a b t : ℕ)
     → IsNumberOf n cells nodes mid e a → IsNumberOf n cells nodes mid e' b → Puts mid new (node.quotient a b) t
     → IsTermOf n cells nodes new (binary p BinaryOp.Div e e') t
-unfolding node_value
+unfolding node_value binary_value binary_number joins_truths
 quotient_term n cells nodes mid new p e e' a b t =
     two_form n cells nodes mid new e e' (binary p BinaryOp.Div e e') a b t (node.quotient a b) (binary_value n.mode BinaryOp.Div)
-    (λ o o'. ground.on_both numbers.quotient o o') (λ values. evaluate-binary n.mode values p BinaryOp.Div e e') (λ numbers value. refl) (same_quotient n.mode)
-
-same_remainder : (mode : Mode) (o o' : Option ℤ) → binary_value mode BinaryOp.Mod o o' ≡ option_map single (ground.on_both numbers.remainder o o')
-unfolding binary_value binary_number joins_truths on_both ground.on_both
-same_remainder mode None o' = refl
-same_remainder mode (Some x) None = refl
-same_remainder mode (Some x) (Some y) = refl
+    (λ o o'. on_both o o' numbers.quotient) (λ values. evaluate-binary n.mode values p BinaryOp.Div e e') (λ numbers value. refl) (λ o o'. refl)
 
 pub remainder_term : (n : Numbering) (cells : Env) (nodes mid new : List GroundNode) (p : Place) (e e' : ExprTree) (a b t : ℕ)
     → IsNumberOf n cells nodes mid e a → IsNumberOf n cells nodes mid e' b → Puts mid new (node.remainder a b) t
     → IsTermOf n cells nodes new (binary p BinaryOp.Mod e e') t
-unfolding node_value
+unfolding node_value binary_value binary_number joins_truths
 remainder_term n cells nodes mid new p e e' a b t =
     two_form n cells nodes mid new e e' (binary p BinaryOp.Mod e e') a b t (node.remainder a b) (binary_value n.mode BinaryOp.Mod)
-    (λ o o'. ground.on_both numbers.remainder o o') (λ values. evaluate-binary n.mode values p BinaryOp.Mod e e') (λ numbers value. refl) (same_remainder n.mode)
+    (λ o o'. on_both o o' numbers.remainder) (λ values. evaluate-binary n.mode values p BinaryOp.Mod e e') (λ numbers value. refl) (λ o o'. refl)
 
 -- ---- the less and the greater of two
 

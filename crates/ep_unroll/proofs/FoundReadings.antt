@@ -4,13 +4,14 @@ use Rattle.std.specs.Prelude.{IsTrue, Option, bytes_eq, if◌then◌else◌, ◌
 use Rattle.std.specs.List.{All, list_all}
 use Rattle.std.proofs.lemmas.List.{append-nil, length-append}
 use Rattle.std.proofs.lemmas.List.Sums.{sum_by-cons}
+use Rattle.ep_base.proofs.Small.{map_is, no_some, some_is, then_is}
 use Rattle.ep_base.specs.Numbers.{has_number}
+use Rattle.ep_base.specs.Options.{on_both}
 use Rattle.ep_base.specs.declared.names.Name.{Name}
 use Rattle.ep_tree.specs.Agreement.{AgreeOn}
 use Rattle.ep_tree.specs.Binding.{Find, Instance}
 use Rattle.ep_tree.specs.Closed.{IsClosed, clause_env}
 use Rattle.ep_tree.specs.Environments.{Bound, Env, has_cells, has_domain, has_value, shape_type}
-use Rattle.ep_tree.specs.Evaluation.{on_both}
 use Rattle.ep_tree.specs.Names.{put_all}
 use Rattle.ep_tree.specs.Reach.{decisions_in, is_decision}
 use Rattle.ep_tree.specs.Solutions.{Assigned, Fits, Found, cell_count, cells_bound, find_type, fitted_find, found_values, named_in, under}
@@ -25,20 +26,6 @@ use Rattle.ep_unroll.specs.Firsts.{first_of, numbering}
 use Rattle.ep_unroll.specs.Readings.{Reading, ReadsName, cells_value, each_from}
 
 -- ---- what is there
-
-some_is : {A : Type 0} {x y : A} → Some x ≡ Some y → x ≡ y
-some_is e = cc
-
-no_some : {A B : Type 0} {x : A} → None ≡ Some x → B
-no_some e = absurd cc
-
-map_is : {A B : Type 0} (f : A → B) (o : Option A) (v : B) → option_map f o ≡ Some v → (x : A) × (o ≡ Some x) × (f x ≡ v)
-map_is f None v e = no_some e
-map_is f (Some x) v e = (x, refl, some_is e)
-
-then_is : {A B : Type 0} (f : A → Option B) (o : Option A) (v : B) → option_and_then f o ≡ Some v → (x : A) × (o ≡ Some x) × (f x ≡ Some v)
-then_is f None v e = no_some e
-then_is f (Some x) v e = (x, refl, e)
 
 both_is : {A B C : Type 0} (a : Option A) (b : Option B) (f : A → B → Option C) (v : C) → on_both a b f ≡ Some v
     → (x : A) × (y : B) × (a ≡ Some x) × (b ≡ Some y) × (f x y ≡ Some v)

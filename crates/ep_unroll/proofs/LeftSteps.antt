@@ -4,6 +4,7 @@ use Rattle.std.specs.Prelude.{Option, map, option_and_then, option_map}
 use Rattle.std.proofs.lemmas.List.{append-nil, map-append}
 use Rattle.std.specs.declared.alloc.Global.{Global}
 use Rattle.std.specs.declared.vec.Vec.{Vec}
+use Rattle.ep_base.proofs.Small.{some_is}
 use Rattle.ep_eval.proofs.Lists.{values_from-map}
 use Rattle.ep_ground.specs.Nodes.{GroundNode}
 use Rattle.ep_tree.specs.Values.{Index, ValueTree, all_defined, any_index, as_parts, at_index, matrix, read_value}
@@ -17,9 +18,6 @@ use Rattle.ep_unroll.specs.Meanings.{AreTerms, worth}
 use Rattle.ep_unroll.specs.PartLists.{HaveTerms, worths}
 use Rattle.ep_unroll.specs.PartReads.{part_with, parts_worth}
 use Rattle.ep_unroll.specs.declared.unrolled.Unrolled.{Unrolled, Matrix}
-
-some_is : {A : Type 0} {x y : A} → Some x ≡ Some y → x ≡ y
-some_is e = cc
 
 -- ---- the part with an index
 

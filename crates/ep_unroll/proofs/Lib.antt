@@ -2,7 +2,6 @@ pub mod AscendSteps
 pub mod CellNames
 pub mod ClauseSteps
 pub mod ColumnSteps
-pub mod Counting
 pub mod CycleSteps
 pub mod EntrySteps
 pub mod FirstSteps

@@ -4,6 +4,7 @@ use Rattle.std.specs.Prelude.{Option, is_some, map, option_and_then, ◌==◌}
 use Rattle.std.specs.List.{list_all}
 use Rattle.std.proofs.lemmas.List.{map-append}
 use Rattle.ep_base.specs.Numbers.{counts_hold, is_row_of, lex_holds}
+use Rattle.ep_base.specs.Options.{on_both, on_three}
 use Rattle.ep_base.specs.Reads.{all_there}
 use Rattle.ep_base.specs.declared.operators.CompareOp.{CompareOp}
 use Rattle.ep_base.specs.declared.operators.LexOp.{LexOp}
@@ -14,7 +15,7 @@ use Rattle.ep_ground.specs.Terms as ground
 use Rattle.ep_ground.specs.Terms.{node_value, term_value, truth}
 use Rattle.ep_tree.proofs.EvaluationEquations.{evaluate-at_least, evaluate-at_most, evaluate-gcc, evaluate-lex, evaluate-table}
 use Rattle.ep_tree.specs.Environments.{Env}
-use Rattle.ep_tree.specs.Evaluation.{evaluate, number_in, on_both, on_three, rows_in, scalars_in, truth_in, undefined_truth}
+use Rattle.ep_tree.specs.Evaluation.{evaluate, number_in, rows_in, scalars_in, truth_in, undefined_truth}
 use Rattle.ep_tree.specs.Trees.{ExprTree, at_least, at_most, gcc, lex, table}
 use Rattle.ep_tree.specs.declared.values.Mode.{Mode}
 use Rattle.ep_unroll.proofs.FormValues.{both_same, truth_told, untold_is}
@@ -30,23 +31,23 @@ use Rattle.ep_unroll.specs.Truths.{IsJudged, needed_in}
 
 -- a truth value by the scalars of two lists
 two_lists : (n : Numbering) (cells : Env) (nodes mid new : List GroundNode) (e e' tree : ExprTree) (ts us qs : List ℕ) (t : ℕ) (own : GroundNode) (k : List ℤ → List ℤ → Option Bool)
-    → ((r : Reading n cells) → evaluate n.mode r.values tree ≡ truth_in n.mode (ground.on_both k (scalars_in (evaluate n.mode r.values e)) (scalars_in (evaluate n.mode r.values e'))))
-    → ((numbers : List ℤ) (value : ℕ → Option ℤ) → node_value numbers value own ≡ truth (ground.on_both k (all_there (map value ts)) (all_there (map value us))))
+    → ((r : Reading n cells) → evaluate n.mode r.values tree ≡ truth_in n.mode (on_both (scalars_in (evaluate n.mode r.values e)) (scalars_in (evaluate n.mode r.values e')) k))
+    → ((numbers : List ℤ) (value : ℕ → Option ℤ) → node_value numbers value own ≡ truth (on_both (all_there (map value ts)) (all_there (map value us)) k))
     → ((ws bs : List ℤ) → length bs ≡ length us → is_some (k ws bs) ≡ true)
     → AreScalarsOf n cells nodes mid e ts → AreScalarsOf n cells nodes mid e' us → ArePartial mid n.count (needed_in n.mode (ts ++ us)) qs → IsJudged mid new own qs t
     → IsTermOf n cells nodes new tree t
-unfolding ground.on_both
+unfolding on_both
 two_lists n cells nodes mid new e e' tree ts us qs t own k one other there h h' needed j =
-    truth_told n cells nodes mid new tree (ts ++ us) qs t own (λ r. ground.on_both k (scalars_in (evaluate n.mode r.values e)) (scalars_in (evaluate n.mode r.values e'))) h.grows needed j one
-    (λ r. told_both n.mode (ground.on_both k (scalars_in (evaluate n.mode r.values e)) (scalars_in (evaluate n.mode r.values e'))) (term_value j.between r.numbers j.own)
+    truth_told n cells nodes mid new tree (ts ++ us) qs t own (λ r. on_both (scalars_in (evaluate n.mode r.values e)) (scalars_in (evaluate n.mode r.values e')) k) h.grows needed j one
+    (λ r. told_both n.mode (on_both (scalars_in (evaluate n.mode r.values e)) (scalars_in (evaluate n.mode r.values e')) k) (term_value j.between r.numbers j.own)
     (j.puts.value r.numbers ∙ other r.numbers (term_value j.between r.numbers)
-    ∙ ap (λ o. truth (ground.on_both k o (all_there (map (term_value j.between r.numbers) us)))) (ap all_there (values_kept mid j.between r.numbers ts j.puts.grows h.known) ∙ h.scalars r)
-    ∙ ap (λ o. truth (ground.on_both k (scalars_in (evaluate n.mode r.values e)) o)) (ap all_there (values_kept mid j.between r.numbers us j.puts.grows h'.known) ∙ h'.scalars r)))
+    ∙ ap (λ o. truth (on_both o (all_there (map (term_value j.between r.numbers) us)) k)) (ap all_there (values_kept mid j.between r.numbers ts j.puts.grows h.known) ∙ h.scalars r)
+    ∙ ap (λ o. truth (on_both (scalars_in (evaluate n.mode r.values e)) o k)) (ap all_there (values_kept mid j.between r.numbers us j.puts.grows h'.known) ∙ h'.scalars r)))
     (λ r. ap (λ os. is_some (all_there os)) (map-append (term_value mid r.numbers) ts us)
     ∙ lists_there k (map (term_value mid r.numbers) ts) (map (term_value mid r.numbers) us)
     (λ ws bs is is'. there ws bs (there_length (map (term_value mid r.numbers) us) bs is' ∙ length_mapped (term_value mid r.numbers) us))
-    ∙ ap (λ o. is_some (ground.on_both k o (all_there (map (term_value mid r.numbers) us)))) (h.scalars r)
-    ∙ ap (λ o. is_some (ground.on_both k (scalars_in (evaluate n.mode r.values e)) o)) (h'.scalars r))
+    ∙ ap (λ o. is_some (on_both o (all_there (map (term_value mid r.numbers) us)) k)) (h.scalars r)
+    ∙ ap (λ o. is_some (on_both (scalars_in (evaluate n.mode r.values e)) o k)) (h'.scalars r))
 
 pub lex_is : (n : Numbering) (cells : Env) (nodes mid new : List GroundNode) (p : Place) (op : LexOp) (e f : ExprTree) (ts us qs : List ℕ) (t : ℕ)
     → AreScalarsOf n cells nodes mid e ts → AreScalarsOf n cells nodes mid f us → ArePartial mid n.count (needed_in n.mode (ts ++ us)) qs → IsJudged mid new (node.lex op ts us) qs t
@@ -109,13 +110,13 @@ no_table n cells nodes mid new p e f mode t is g none =
 
 -- ---- counts
 
-middle : (op : CompareOp) (ns : List ℤ) (a c : Option (List ℤ)) → on_three a (Some ns) c (counts_hold op) ≡ ground.on_both (λ xs cs. counts_hold op xs ns cs) a c
-unfolding on_three on_both ground.on_both
+middle : (op : CompareOp) (ns : List ℤ) (a c : Option (List ℤ)) → on_three a (Some ns) c (counts_hold op) ≡ on_both a c (λ xs cs. counts_hold op xs ns cs)
+unfolding on_three on_both
 middle op ns None c = refl
 middle op ns (Some xs) c = refl
 
 no_middle : (op : CompareOp) (a c : Option (List ℤ)) → on_three a None c (counts_hold op) ≡ None
-unfolding on_three on_both ground.on_both
+unfolding on_three on_both
 no_middle op None c = refl
 no_middle op (Some xs) c = refl
 

@@ -26,9 +26,6 @@ use Rattle.ep_unroll.specs.Readings.{Numbering, Reading, cells_value, each_from}
 use Rattle.ep_unroll.specs.Scalars.{AreScalarsOf, cells_from}
 use Rattle.ep_unroll.specs.Truths.{IsJudged, needed_in}
 
-pub some_same : {A : Type 0} {x y : A} → Some x ≡ Some y → x ≡ y
-some_same e = cc
-
 -- ---- cells one after another
 
 from_cut : (numbers : List ℤ) (k a b : ℕ) → cells_from numbers k (a + b) ≡ cells_from numbers k a ++ cells_from numbers (k + a) b

@@ -5,6 +5,7 @@ use Rattle.std.specs.declared.alloc.Global.{Global}
 use Rattle.std.specs.declared.vec.Vec.{Vec}
 use Rattle.std.proofs.lemmas.List.{append-nil, at_drop_all, at_drop_more, length-map, map-append}
 use Rattle.ep_base.specs.Numbers.{all_one, is_one}
+use Rattle.ep_base.specs.Options.{map_both, on_both}
 use Rattle.ep_base.specs.declared.names.Name.{Name}
 use Rattle.ep_base.specs.declared.places.Place.{Place}
 use Rattle.ep_eval.proofs.GeneratingSteps.{comprehension_is, lost_behind, none_before, none_behind, regrouped}
@@ -13,7 +14,7 @@ use Rattle.ep_eval.specs.Generating.{how_many, generated_values, lists_joined, p
 use Rattle.ep_ground.specs.Nodes.{GroundNode}
 use Rattle.ep_tree.proofs.EvaluationEquations.{evaluate-literal}
 use Rattle.ep_tree.specs.Environments.{Env, scalar_in, with_number}
-use Rattle.ep_tree.specs.Evaluation.{all_true, evaluate, index_values, map_both, matrix_value, number_in, on_both, truth_of, values_of}
+use Rattle.ep_tree.specs.Evaluation.{all_true, evaluate, index_values, matrix_value, number_in, truth_of, values_of}
 use Rattle.ep_tree.specs.Trees.{DomainTree, ExprTree, ExprTrees, Generators, IndexDomain, comprehension, literal}
 use Rattle.ep_tree.specs.TypedValues.{is_number_of}
 use Rattle.ep_tree.specs.Values.{ValueTree, all_defined, as_parts, matrix, with_indices}

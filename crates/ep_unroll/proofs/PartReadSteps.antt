@@ -3,6 +3,7 @@ use Rattle.std.proofs.Common.{◌≡◌, ℕ, suc, ◌<◌, ℤ, pos, Bool, true
 use Rattle.std.specs.Prelude.{IsSome, Option, map, option_and_then, option_map, unwrap_or}
 use Rattle.std.specs.List.{All}
 use Rattle.ep_base.specs.Numbers.{all_one, is_one, of_bool, same_numbers}
+use Rattle.ep_base.specs.Options.{on_both}
 use Rattle.ep_base.specs.Reads.{all_there, first_or_zero, picked, safe_picked}
 use Rattle.ep_ground.specs.Nodes as node
 use Rattle.ep_ground.specs.Nodes.{GroundNode}
@@ -19,8 +20,8 @@ use Rattle.ep_unroll.specs.Picks.{look_up}
 
 -- ---- what is found
 
-pick_found : (keys : List (List ℤ)) (xs js : Option (List ℤ)) → ground.on_both (λ ys is. picked ys keys is) xs js ≡ found_among keys xs js
-unfolding ground.on_both found_among
+pick_found : (keys : List (List ℤ)) (xs js : Option (List ℤ)) → on_both xs js (λ ys is. picked ys keys is) ≡ found_among keys xs js
+unfolding on_both found_among
 pick_found keys None js = refl
 pick_found keys (Some ys) None = refl
 pick_found keys (Some ys) (Some is) = picked_found ys keys is
@@ -75,8 +76,8 @@ whole_alone old others a known none = record {
   value = λ numbers. ap (λ l. only_where (numbers_of_terms old numbers l) (term_value old numbers a)) (sym none);
 }
 
-whole_where : (x : Option ℤ) (o : Option (List ℤ)) → ground.on_both (λ y ys. Some y) x o ≡ only_where o x
-unfolding ground.on_both only_where
+whole_where : (x : Option ℤ) (o : Option (List ℤ)) → on_both x o (λ y ys. Some y) ≡ only_where o x
+unfolding on_both only_where
 whole_where None None = refl
 whole_where None (Some ys) = refl
 whole_where (Some x) None = refl
@@ -151,7 +152,7 @@ safe_found keys xs js some = ap (λ o. unwrap_or o (pos 0)) (picked_found (pos 0
 
 safe_value : (numbers : List ℤ) (f : ℕ → Option ℤ) (none : ℕ) (ts us : List ℕ) (keys : List (List ℤ)) (xs js : List ℤ) → f none ≡ Some (pos 0) → all_there (map f ts) ≡ Some xs → all_there (map f us) ≡ Some js
     → 0 < length js → node_value numbers f (node.safe_pick (none ∷ ts) ([] ∷ keys) us) ≡ Some (unwrap_or (look_up keys xs js) (pos 0))
-unfolding node_value ground.term_values_of ground.on_both all_there
+unfolding node_value ground.term_values_of on_both all_there
 safe_value numbers f none ts us keys xs js starts is there some =
     ap (λ o. option_and_then (λ ys. option_and_then (λ ks. Some (safe_picked ys ([] ∷ keys) ks)) (all_there (map f us))) (all_there (o ∷ map f ts))) starts
     ∙ ap (λ o. option_and_then (λ ys. option_and_then (λ ks. Some (safe_picked ys ([] ∷ keys) ks)) (all_there (map f us))) (option_map (λ ns. pos 0 ∷ ns) o)) is

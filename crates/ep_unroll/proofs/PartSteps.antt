@@ -3,15 +3,17 @@ use Rattle.std.proofs.Common.{◌≡◌, ℕ, suc, ◌+◌, ◌*◌, ◌<◌, �
 use Rattle.std.specs.Prelude.{Option, Result, IfOk, map, option_and_then, option_map, if◌then◌else◌}
 use Rattle.std.specs.Ordering.{int_eq}
 use Rattle.std.proofs.lemmas.List.{append-nil, at_drop_all, at_drop_more, map-append}
+use Rattle.ep_base.proofs.Small.{map_is, no_some, some_is}
+use Rattle.ep_base.specs.Options.{map_both, on_both}
 use Rattle.ep_base.specs.declared.names.Name.{Name}
 use Rattle.ep_base.specs.declared.places.Place.{Place}
 use Rattle.ep_ground.specs.Nodes.{GroundNode}
 use Rattle.ep_tree.proofs.EvaluationEquations.{evaluate-named, evaluate-read}
 use Rattle.ep_tree.specs.Environments.{Bound, Env, has_cells, value_bound}
-use Rattle.ep_tree.specs.Evaluation.{evaluate, index_list, map_both, number_in, on_both, read_result, type_in}
+use Rattle.ep_tree.specs.Evaluation.{evaluate, index_list, number_in, read_result, type_in}
 use Rattle.ep_tree.specs.Solutions.{cell_count}
 use Rattle.ep_tree.specs.Trees.{ExprTree, Indices, named, read}
-use Rattle.ep_tree.specs.Values.{Index, ValueTree, all_defined, any_index, as_parts, at_index, listed_values, matrix, part_at, read_value, single}
+use Rattle.ep_tree.specs.Values.{Index, ValueTree, all_defined, any_index, as_parts, at_index, index_in, indices_in, listed_values, matrix, part_at, read_value, single}
 use Rattle.ep_tree.specs.Views.{expr_tree, indices_of}
 use Rattle.ep_tree.specs.declared.syntax.Expr.{Expr}
 use Rattle.ep_tree.specs.declared.values.Mode.{Mode}
@@ -19,22 +21,12 @@ use Rattle.ep_tree.specs.declared.values.Scalar.{Scalar}
 use Rattle.ep_tree.specs.declared.values.ValueType.{ValueType}
 use Rattle.ep_eval.proofs.ReadResults.{read_found}
 use Rattle.ep_unroll.proofs.FreeValues.{type_kept}
-use Rattle.ep_unroll.specs.Blocks.{IsWorth, StandFor, block_under, cell_of, index_in, indices_in, one_index}
+use Rattle.ep_unroll.specs.Blocks.{IsWorth, StandFor, block_under, cell_of, one_index}
 use Rattle.ep_unroll.specs.Meanings.{AreTerms, Means, worth}
 use Rattle.ep_unroll.specs.Readings.{Numbering, Reading, ReadsName, cells_value, each_from}
 use Rattle.ep_unroll.specs.declared.unrolled.Unrolled.{Unrolled, Number, Cells, Fixed, Matrix'}
 
 -- ---- what is there
-
-some_is : {A : Type 0} {x y : A} → Some x ≡ Some y → x ≡ y
-some_is e = cc
-
-no_some : {A B : Type 0} {x : A} → None ≡ Some x → B
-no_some e = absurd cc
-
-map_is : {A B : Type 0} (f : A → B) (o : Option A) (v : B) → option_map f o ≡ Some v → (x : A) × (o ≡ Some x) × (f x ≡ v)
-map_is f None v e = no_some e
-map_is f (Some x) v e = (x, refl, some_is e)
 
 -- ---- counting
 

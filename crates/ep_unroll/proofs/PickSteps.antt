@@ -8,6 +8,7 @@ use Rattle.std.proofs.lemmas.Int.{ints}
 use Rattle.std.proofs.lemmas.List.{length-append, map-append}
 use Rattle.std.proofs.lemmas.List.Elements.{All-append}
 use Rattle.ep_base.proofs.Ascending.{ascending_cons, ascending_head, ascending_tail, first_of}
+use Rattle.ep_base.proofs.Small.{map_is, some_is}
 use Rattle.ep_base.specs.Numbers.{same_numbers}
 use Rattle.ep_base.specs.Reads.{picked}
 use Rattle.ep_base.specs.Runs.{IsAscending}
@@ -24,16 +25,6 @@ use Rattle.ep_unroll.specs.Picks.{AreEntries, AreRead, filled_in, look_up, open_
 use Rattle.ep_unroll.specs.Readings.{cells_value}
 use Rattle.ep_unroll.specs.declared.slots.Slot.{Slot}
 use Rattle.ep_unroll.specs.declared.slots.Slot.TheVariants.{At, Open}
-
-some_is : {A : Type 0} {x y : A} → Some x ≡ Some y → x ≡ y
-some_is e = cc
-
-no_some : {A B : Type 0} {x : A} → None ≡ Some x → B
-no_some e = absurd cc
-
-map_is : {A B : Type 0} (f : A → B) (o : Option A) (v : B) → option_map f o ≡ Some v → (x : A) × (o ≡ Some x) × (f x ≡ v)
-map_is f None v e = no_some e
-map_is f (Some x) v e = (x, refl, some_is e)
 
 no_less : (k : ℕ) → k < 0 → ⊥
 no_less k less = omega (arith, less)

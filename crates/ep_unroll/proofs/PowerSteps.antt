@@ -4,13 +4,14 @@ use Rattle.std.specs.Prelude.{Option, option_and_then, option_map}
 use Rattle.std.proofs.lemmas.Int.{ints}
 use Rattle.ep_base.specs.Numbers.{nth_power}
 use Rattle.ep_base.specs.Numbers as numbers
+use Rattle.ep_base.specs.Options.{on_both}
 use Rattle.ep_base.specs.declared.places.Place.{Place}
 use Rattle.ep_ground.specs.Nodes as node
 use Rattle.ep_ground.specs.Nodes.{GroundNode}
 use Rattle.ep_ground.specs.Terms.{node_value, term_value}
 use Rattle.ep_tree.proofs.EvaluationEquations.{evaluate-binary}
 use Rattle.ep_tree.specs.Environments.{Env}
-use Rattle.ep_tree.specs.Evaluation.{binary_number, binary_value, evaluate, joins_truths, number_in, on_both}
+use Rattle.ep_tree.specs.Evaluation.{binary_number, binary_value, evaluate, joins_truths, number_in}
 use Rattle.ep_tree.specs.Trees.{ExprTree, binary}
 use Rattle.ep_tree.specs.Values.{single}
 use Rattle.ep_tree.specs.declared.syntax.BinaryOp.{BinaryOp}

@@ -5,11 +5,11 @@ use Rattle.std.specs.List.{All}
 use Rattle.std.proofs.lemmas.Int.{ints}
 use Rattle.std.proofs.lemmas.List.{map-append, take_all, take_more}
 use Rattle.ep_base.specs.Numbers.{product_of}
+use Rattle.ep_base.specs.Options.{on_both}
 use Rattle.ep_base.specs.Reads.{all_there}
 use Rattle.ep_base.specs.declared.places.Place.{Place}
 use Rattle.ep_ground.specs.Nodes as node
 use Rattle.ep_ground.specs.Nodes.{GroundNode}
-use Rattle.ep_ground.specs.Terms as ground
 use Rattle.ep_ground.specs.Terms.{node_value, term_value}
 use Rattle.ep_tree.proofs.EvaluationEquations.{evaluate-folded}
 use Rattle.ep_tree.specs.Environments.{Env}
@@ -59,13 +59,13 @@ unfolding product_of
 product_behind [] y = one_times y
 product_behind (x ∷ xs) y = ap (λ m. x *ℤ m) (product_behind xs y) ∙ sym (times_again x (product_of xs) y)
 
-step_of : (a : Option (List ℤ)) (o : Option ℤ) → ground.on_both (λ x y. Some (x *ℤ y)) (option_map product_of a) o ≡ option_map product_of (joined a (all_there (o ∷ [])))
-unfolding ground.on_both all_there joined
+step_of : (a : Option (List ℤ)) (o : Option ℤ) → on_both (option_map product_of a) o (λ x y. Some (x *ℤ y)) ≡ option_map product_of (joined a (all_there (o ∷ [])))
+unfolding on_both all_there joined
 step_of None o = refl
 step_of (Some xs) None = refl
 step_of (Some xs) (Some y) = ap Some (sym (product_behind xs y))
 
-step : (os : List (Option ℤ)) (o : Option ℤ) → ground.on_both (λ x y. Some (x *ℤ y)) (option_map product_of (all_there os)) o ≡ option_map product_of (all_there (os ++ o ∷ []))
+step : (os : List (Option ℤ)) (o : Option ℤ) → on_both (option_map product_of (all_there os)) o (λ x y. Some (x *ℤ y)) ≡ option_map product_of (all_there (os ++ o ∷ []))
 step os o = step_of (all_there os) o ∙ ap (option_map product_of) (sym (there_cut os (o ∷ [])))
 
 pub product_more : (old mid new : List GroundNode) (first : ℕ) (others : List ℕ) (k a d t u : ℕ) → k < length others → a ≡ get_or others k d → a < length old → ProductTo old mid first others k t
@@ -77,8 +77,8 @@ product_more old mid new first others k a d t u less same known so put = record 
   value = λ numbers.
       let so_far : List ℕ = first ∷ take k others in
       put.value numbers
-      ∙ ap (λ o. ground.on_both (λ x y. Some (x *ℤ y)) o (term_value new numbers a)) (grown_value mid new numbers t put.grows so.known ∙ so.value numbers)
-      ∙ ap (ground.on_both (λ x y. Some (x *ℤ y)) (multiplied old so_far numbers)) (grown_value old new numbers a (grows_on old mid new so.grows put.grows) known)
+      ∙ ap (λ o. on_both o (term_value new numbers a) (λ x y. Some (x *ℤ y))) (grown_value mid new numbers t put.grows so.known ∙ so.value numbers)
+      ∙ ap (λ o. on_both (multiplied old so_far numbers) o (λ x y. Some (x *ℤ y))) (grown_value old new numbers a (grows_on old mid new so.grows put.grows) known)
       ∙ step (map (term_value old numbers) so_far) (term_value old numbers a)
       ∙ ap (λ os. option_map product_of (all_there os)) (sym (map-append (term_value old numbers) so_far (a ∷ [])))
       ∙ ap (λ ts. multiplied old (first ∷ ts) numbers) (ap (λ b. take k others ++ b ∷ []) same ∙ sym (take_more others k d less));

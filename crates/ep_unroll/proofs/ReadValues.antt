@@ -2,13 +2,14 @@
 use Rattle.std.proofs.Common.{◌≡◌, ℕ, ◌≤◌, ℤ, true, false, List, [], ◌∷◌, length, map, Some, None, refl, sym, ap, subst, ◌∙◌}
 use Rattle.std.specs.Prelude.{Option, is_some, option_and_then, option_map}
 use Rattle.ep_base.specs.Numbers.{is_one, of_bool}
+use Rattle.ep_base.specs.Options.{on_both}
 use Rattle.ep_base.specs.Reads.{all_there}
 use Rattle.ep_base.specs.declared.places.Place.{Place}
 use Rattle.ep_ground.specs.Nodes.{GroundNode}
 use Rattle.ep_ground.specs.Terms.{truth}
 use Rattle.ep_tree.specs.Environments.{Env}
 use Rattle.ep_tree.proofs.EvaluationEquations.{evaluate-read}
-use Rattle.ep_tree.specs.Evaluation.{evaluate, index_list, on_both, read_result, type_in}
+use Rattle.ep_tree.specs.Evaluation.{evaluate, index_list, read_result, type_in}
 use Rattle.ep_tree.specs.Trees.{ExprTree, read}
 use Rattle.ep_tree.specs.Values.{Index, ValueTree, all_defined, read_value, single}
 use Rattle.ep_tree.specs.Views.{indices_of}

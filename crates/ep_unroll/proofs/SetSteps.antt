@@ -9,6 +9,7 @@ use Rattle.std.proofs.lemmas.List.{at_drop_all, at_drop_more}
 use Rattle.std.proofs.lemmas.Map.Views.{Contains-from_any}
 use Rattle.ep_base.proofs.RunSteps.{in_numbers}
 use Rattle.ep_base.specs.Numbers.{any_one, compare_holds, has_number, is_one, of_bool}
+use Rattle.ep_base.specs.Options.{map_both, on_both}
 use Rattle.ep_base.specs.Reads.{all_there}
 use Rattle.ep_base.specs.Runs.{IsIn, counting, numbers_in, or_zero}
 use Rattle.ep_base.specs.Runs as runs
@@ -22,7 +23,7 @@ use Rattle.ep_ground.specs.Terms as ground
 use Rattle.ep_ground.specs.Terms.{node_value, term_value, truth}
 use Rattle.ep_tree.proofs.EvaluationEquations.{evaluate-in_set}
 use Rattle.ep_tree.specs.Environments.{Env}
-use Rattle.ep_tree.specs.Evaluation.{evaluate, map_both, number_in, scalars_in, truth_in, undefined_truth}
+use Rattle.ep_tree.specs.Evaluation.{evaluate, number_in, scalars_in, truth_in, undefined_truth}
 use Rattle.ep_tree.specs.Trees.{ExprTree, in_set}
 use Rattle.ep_tree.specs.declared.values.Mode.{Mode}
 use Rattle.ep_unroll.proofs.FormValues.{grown_value, grows_on, one_truth, truth_told, untold_is}
@@ -93,7 +94,7 @@ listed_none n cells nodes mid new p e f mode a t is list h =
 
 -- whether two numbers are one, 0 where one isn't there
 unfoldable pub equal_value : Option ℤ → Option ℤ → Option ℤ
-equal_value a b = truth (ground.on_both (λ x y. Some (compare_holds CompareOp.Equal x y)) a b)
+equal_value a b = truth (on_both a b (λ x y. Some (compare_holds CompareOp.Equal x y)))
 
 -- equalities so far, of terms of which those behind a place are left
 abbrev pub EqualitiesSoFar : List GroundNode → List GroundNode → ℕ → List ℕ → ℕ → List ℕ → Type 0
@@ -118,8 +119,8 @@ equalities_more old mid new a ts k t d u us vs known all less same so put pushed
     put.grows put.known
     (λ numbers.
     put.value numbers
-    ∙ ap (λ o. truth (ground.on_both (λ x y. Some (compare_holds CompareOp.Equal x y)) o (term_value new numbers t))) (grown_value old new numbers a g known)
-    ∙ ap (λ o. truth (ground.on_both (λ x y. Some (compare_holds CompareOp.Equal x y)) (term_value old numbers a) o)) (grown_value old new numbers t g here))
+    ∙ ap (λ o. truth (on_both o (term_value new numbers t) (λ x y. Some (compare_holds CompareOp.Equal x y)))) (grown_value old new numbers a g known)
+    ∙ ap (λ o. truth (on_both (term_value old numbers a) o (λ x y. Some (compare_holds CompareOp.Equal x y)))) (grown_value old new numbers t g here))
     pushed
 
 pub equalities_all : (old new : List GroundNode) (a : ℕ) (ts : List ℕ) (k : ℕ) (us : List ℕ) → length ts ≤ k → EqualitiesSoFar old new a ts k us → AreEqualities old new a ts us
@@ -135,7 +136,7 @@ equalities_all old new a ts k us h so = record {
 
 -- where the number isn't there, no equality is true
 none_equal : (os : List (Option ℤ)) → (zs : List ℤ) × (all_there (map (equal_value None) os) ≡ Some zs) × (any_one zs ≡ false)
-unfolding all_there equal_value any_one truth of_bool is_one ground.on_both
+unfolding all_there equal_value any_one truth of_bool is_one on_both
 none_equal [] = ([], refl, refl)
 none_equal (o ∷ os) =
     let p = none_equal os in
@@ -143,7 +144,7 @@ none_equal (o ∷ os) =
 
 -- where all are there, one equality is true where the number stands among them
 some_equal : (x : ℤ) (ys : List ℤ) → (zs : List ℤ) × (all_there (map (λ y. equal_value (Some x) (Some y)) ys) ≡ Some zs) × (any_one zs ≡ has_number ys x)
-unfolding all_there equal_value any_one has_number truth of_bool is_one ground.on_both compare_holds
+unfolding all_there equal_value any_one has_number truth of_bool is_one on_both compare_holds
 some_equal x [] = ([], refl, refl)
 some_equal x (y ∷ ys) =
     let p = some_equal x ys in

@@ -4,13 +4,14 @@ use Rattle.std.specs.Prelude.{IfOk, Option, Result, Ok, Err, map, option_and_the
 use Rattle.std.specs.List.{All}
 use Rattle.std.proofs.lemmas.List.{append-nil, at_drop_all, at_drop_more, map-append}
 use Rattle.std.proofs.lemmas.List.Elements.{All-append, All-push}
+use Rattle.ep_base.specs.Options.{map_both, on_both}
 use Rattle.ep_base.specs.Reads.{all_there}
 use Rattle.ep_base.specs.declared.places.Place.{Place}
 use Rattle.ep_ground.specs.Nodes.{GroundNode}
 use Rattle.ep_ground.specs.Terms.{term_value}
 use Rattle.ep_tree.proofs.EvaluationEquations.{evaluate-read}
 use Rattle.ep_tree.specs.Environments.{Env}
-use Rattle.ep_tree.specs.Evaluation.{evaluate, index_list, map_both, number_in, on_both, read_result, type_in}
+use Rattle.ep_tree.specs.Evaluation.{evaluate, index_list, number_in, read_result, type_in}
 use Rattle.ep_tree.specs.Trees.{ExprTree, read}
 use Rattle.ep_tree.specs.Values.{Index, ValueTree, all_defined, any_index, at_index, read_value, single}
 use Rattle.ep_tree.specs.Views.{expr_tree, indices_of}

@@ -4,6 +4,7 @@ use Rattle.std.specs.Prelude.{Option, is_some, map, ◌*ℤ◌, ◌+ℤ◌, opti
 use Rattle.std.specs.List.{All}
 use Rattle.std.proofs.lemmas.Int.{ints}
 use Rattle.ep_base.specs.Numbers.{all_one, any_one, sum_of}
+use Rattle.ep_base.specs.Options.{on_both}
 use Rattle.ep_base.specs.Reads.{all_there, weighted_sum}
 use Rattle.ep_base.specs.declared.names.Name.{Name}
 use Rattle.ep_base.specs.declared.places.Place.{Place}
@@ -36,7 +37,7 @@ use Rattle.ep_unroll.specs.Truths.{IsJudged, needed_in}
 -- a sum is the sum of its parts, each multiplied by its coefficient
 pub weighed_sum : (value : ℕ → Option ℤ) (ps : List (ℤ × ℕ))
     → option_map weighted_sum (weighed value ps) ≡ option_map sum_of (all_there (map (λ part. option_map (λ x. part.0 *ℤ x) (value part.1)) ps))
-unfolding weighed weighted_sum all_there sum_of ground.on_both
+unfolding weighed weighted_sum all_there sum_of on_both
 weighed_sum value [] = refl
 weighed_sum value (part ∷ ps) = go (value part.1) (weighed value ps) (all_there (map (λ q. option_map (λ x. q.0 *ℤ x) (value q.1)) ps)) (weighed_sum value ps)
   where
@@ -48,7 +49,7 @@ weighed_sum value (part ∷ ps) = go (value part.1) (weighed value ps) (all_ther
     inner x (Some ps') (Some ns) h = ap (option_map (λ s. (part.0 *ℤ x) +ℤ s)) h
 
     go : (o : Option ℤ) (rest : Option (List (ℤ × ℤ))) (others : Option (List ℤ)) → option_map weighted_sum rest ≡ option_map sum_of others
-        → option_map weighted_sum (ground.on_both (λ x r. Some ((part.0, x) ∷ r)) o rest)
+        → option_map weighted_sum (on_both o rest (λ x r. Some ((part.0, x) ∷ r)))
         ≡ option_map sum_of (option_and_then (λ n. option_map (λ ns. n ∷ ns) others) (option_map (λ x. part.0 *ℤ x) o))
     go None rest others h = refl
     go (Some x) rest others h = inner x rest others h

@@ -4,9 +4,10 @@ use Rattle.std.specs.Prelude.{IsSome, Option, ◌*ℤ◌, ◌≢◌, map, neg_�
 use Rattle.std.specs.List.{All}
 use Rattle.std.proofs.lemmas.Option.{slice_get-get_or}
 use Rattle.ep_base.specs.Numbers as counted
+use Rattle.ep_base.specs.Options.{on_both}
 use Rattle.ep_base.specs.Reads.{all_there, weighted_sum}
 use Rattle.ep_ground.specs.Nodes as node
-use Rattle.ep_ground.specs.Terms.{node_value, on_both, truth, term_values_of, weighed}
+use Rattle.ep_ground.specs.Terms.{node_value, truth, term_values_of, weighed}
 
 pub some_total : {A : Type 0} (o : Option A) (x : A) → o ≡ Some x → IsSome o
 some_total o x h = subst IsSome (sym h) (it_is x)
@@ -41,19 +42,19 @@ weighed_total f [] h = search rules
 weighed_total f (p ∷ parts) h =
     let x = some_of (f p.1) (h 0 p (omega arith)) in
     let xs = some_of (weighed f parts) (weighed_total f parts (λ k d less. h (suc k) d (omega (arith, less)))) in
-    some_total (on_both (λ y rest. Some ((p.0, y) ∷ rest)) (f p.1) (weighed f parts)) ((p.0, x.0) ∷ xs.0)
+    some_total (on_both (f p.1) (weighed f parts) (λ y rest. Some ((p.0, y) ∷ rest))) ((p.0, x.0) ∷ xs.0)
     (ap (λ o. option_and_then (λ y. option_and_then (λ rest. Some ((p.0, y) ∷ rest)) (weighed f parts)) o) x.1 ∙ ap (option_and_then (λ rest. Some ((p.0, x.0) ∷ rest))) xs.1)
 
 pub sum_total : (numbers : List ℤ) (f : ℕ → Option ℤ) (c : ℤ) (parts : List (ℤ × ℕ)) → All (λ part. IsSome (f part.1)) parts → IsSome (node_value numbers f (node.sum c parts))
 unfolding node_value
 sum_total numbers f c parts h = mapped_total (λ ps. c +ℤ weighted_sum ps) (weighed f parts) (weighed_total f parts h)
 
-both_total : (g : ℤ → ℤ → ℤ) (a b : Option ℤ) → IsSome a → IsSome b → IsSome (on_both (λ x y. Some (g x y)) a b)
+both_total : (g : ℤ → ℤ → ℤ) (a b : Option ℤ) → IsSome a → IsSome b → IsSome (on_both a b (λ x y. Some (g x y)))
 unfolding on_both
 both_total g a b h k =
     let x = some_of a h in
     let y = some_of b k in
-    some_total (on_both (λ u v. Some (g u v)) a b) (g x.0 y.0)
+    some_total (on_both a b (λ u v. Some (g u v))) (g x.0 y.0)
     (ap (option_and_then (λ u. option_and_then (λ v. Some (g u v)) b)) x.1 ∙ ap (option_and_then (λ v. Some (g x.0 v))) y.1)
 
 pub product_total : (numbers : List ℤ) (f : ℕ → Option ℤ) (a b : ℕ) → IsSome (f a) → IsSome (f b) → IsSome (node_value numbers f (node.product a b))
@@ -75,12 +76,12 @@ divides x (pos zero) h = absurd (h refl)
 divides x (pos (suc n)) h = (counted.floor_over x (suc n), refl)
 divides x (negsuc n) h = (counted.floor_over (neg_ℤ x) (suc n), refl)
 
-divided_total : (g : ℤ → ℤ → Option ℤ) (a b : Option ℤ) (k : ℤ) → ((x : ℤ) → IsSome (g x k)) → IsSome a → b ≡ Some k → IsSome (on_both g a b)
+divided_total : (g : ℤ → ℤ → Option ℤ) (a b : Option ℤ) (k : ℤ) → ((x : ℤ) → IsSome (g x k)) → IsSome a → b ≡ Some k → IsSome (on_both a b g)
 unfolding on_both
 divided_total g a b k h told is =
     let x = some_of a told in
     let q = some_of (g x.0 k) (h x.0) in
-    some_total (on_both g a b) q.0 (ap (option_and_then (λ u. option_and_then (g u) b)) x.1 ∙ ap (option_and_then (g x.0)) is ∙ q.1)
+    some_total (on_both a b g) q.0 (ap (option_and_then (λ u. option_and_then (g u) b)) x.1 ∙ ap (option_and_then (g x.0)) is ∙ q.1)
 
 pub quotient_total : (numbers : List ℤ) (f : ℕ → Option ℤ) (a b : ℕ) (k : ℤ) → k ≢ pos 0 → IsSome (f a) → f b ≡ Some k → IsSome (node_value numbers f (node.quotient a b))
 unfolding node_value

@@ -5,12 +5,13 @@ use Rattle.std.specs.List.{All, list_all, list_any}
 use Rattle.std.proofs.lemmas.Bool.Decides.{Decides-eqb}
 use Rattle.std.proofs.lemmas.List.{at_drop_all, at_drop_more}
 use Rattle.ep_base.specs.Numbers.{compare_holds, counts_hold, is_row_of, of_bool, same_numbers, times_in}
+use Rattle.ep_base.specs.Options.{map_both}
 use Rattle.ep_base.specs.Reads.{all_there}
 use Rattle.ep_base.specs.declared.operators.CompareOp.{CompareOp}
 use Rattle.ep_ground.specs.Nodes as node
 use Rattle.ep_ground.specs.Nodes.{GroundNode}
 use Rattle.ep_ground.specs.Terms.{node_value, term_value, truth}
-use Rattle.ep_tree.specs.Evaluation.{map_both, number_in, truth_in, undefined_truth}
+use Rattle.ep_tree.specs.Evaluation.{number_in, truth_in, undefined_truth}
 use Rattle.ep_tree.specs.Values.{single}
 use Rattle.ep_tree.specs.declared.values.Mode.{Mode}
 use Rattle.ep_unroll.specs.Growing.{Puts}

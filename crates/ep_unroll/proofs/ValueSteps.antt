@@ -1,6 +1,7 @@
 -- Parts of values, and the numbers among which a read of one chooses.
 use Rattle.std.proofs.Common.{◌≡◌, ℕ, ℤ, List, ◌∷◌, Some, None, refl, sym, ap, ◌∙◌}
 use Rattle.std.specs.Prelude.{Option, map, option_and_then, option_map}
+use Rattle.ep_base.proofs.Small.{some_is}
 use Rattle.ep_eval.proofs.Lists.{values_from-map}
 use Rattle.ep_eval.proofs.ReadSteps.{read_stated}
 use Rattle.ep_eval.specs.Reading.{part_under}
@@ -9,9 +10,6 @@ use Rattle.ep_ground.specs.Terms.{node_value}
 use Rattle.ep_tree.specs.Values.{Index, ValueTree, as_parts, at_index, matrix, read_value, single}
 use Rattle.ep_tree.specs.Views.{value_tree, values_from}
 use Rattle.ep_tree.specs.declared.values.Value.{Value}
-
-some_is : {A : Type 0} {x y : A} → Some x ≡ Some y → x ≡ y
-some_is e = cc
 
 -- a part of a value
 pub value_leads : (own : ValueTree) (i : ℤ) (w : ValueTree) → part_under own i ≡ Some w → (v : ValueTree) → Some own ≡ Some v

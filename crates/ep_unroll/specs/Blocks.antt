@@ -30,15 +30,6 @@ pub record StandFor (n : Numbering) (env : Env) (name : Name) (first : ℕ) (dom
   pub value : (r : Reading n env)
       → (v : ValueTree) × (cells_value r.numbers domains first ≡ Some v) × (value_bound (r.values name) ≡ Some v)
 
--- an index, or `..` where there is none
-unfoldable pub index_in : Option ℤ → Index
-index_in None = any_index
-index_in (Some i) = at_index i
-
--- the indices of a read
-abbrev pub indices_in : List (Option ℤ) → List Index
-indices_in indices = map index_in indices
-
 -- an index of a read, where it is `..` or has a number
 unfoldable pub one_index : Mode → Env → Option Expr → Option Index
 one_index mode env None = Some any_index

@@ -3,12 +3,13 @@ use Rattle.std.specs.Prelude.{◌≡◌, ℕ, ◌<◌, List, [], ◌∷◌, ◌+
 use Rattle.std.specs.List.{All}
 use Rattle.std.specs.declared.alloc.Global.{Global}
 use Rattle.std.specs.declared.vec.Vec.{Vec}
+use Rattle.ep_base.specs.Options.{map_both}
 use Rattle.ep_base.specs.Reads.{all_there}
 use Rattle.ep_base.specs.declared.names.Name.{Name}
 use Rattle.ep_ground.specs.Nodes.{GroundNode}
 use Rattle.ep_ground.specs.Terms.{term_value}
 use Rattle.ep_tree.specs.Environments.{Env, scalar_in, with_number}
-use Rattle.ep_tree.specs.Evaluation.{map_both, values_of}
+use Rattle.ep_tree.specs.Evaluation.{values_of}
 use Rattle.ep_tree.specs.Trees.{ExprTrees, Generators, generator_and}
 use Rattle.ep_tree.specs.Values.{ValueTree, all_defined}
 use Rattle.ep_tree.specs.Views.{domain_tree, expr_tree, expr_trees, generators_of}

@@ -15,12 +15,13 @@ ghost use Rattle.ep_unroll.specs.Cells.{cell_of, find_cells};
 ghost use Rattle.ep_unroll.specs.Firsts.{numbering, numbering_of};
 
 use super::firsts::{CellTable, FirstCell};
-use super::listing::{index_lists, listed};
+use super::listing::index_lists;
 use ep_base::{Key, Memory, Name, Runs};
 use ep_eval::Env;
 use ep_ground::Cell;
 use ep_instance::{Find, Instance};
-use ep_tree::{Scalar, ValueType};
+use ep_numbers::listed;
+use ep_tree::Scalar;
 use std::alloc::Global;
 
 /// The cell of a decision variable at some indices.
@@ -29,7 +30,7 @@ fn cell_at(alloc: Global, find: &Find, indices: &Key) -> Result<Cell, Memory>
 {
     let name = Name::new(alloc, find.name.text())?;
     let indices = indices.copy(alloc)?;
-    let truth = is_truth(scalar_of(find.ty));
+    let truth = is_truth(find.ty.scalar());
     let values = find.values.copy(alloc)?;
     Ok(Cell {
         name,
@@ -105,18 +106,6 @@ fn is_truth(scalar: Scalar) -> bool
     }
 }
 
-/// The scalar of a type.
-#[tactic(auto, unfolding(ep_tree::specs::Types::scalar_of))]
-fn scalar_of(ty: ValueType) -> Scalar
-    ensures { result ≡ types.scalar_of ty }
-{
-    match ty {
-        ValueType::Bool | ValueType::Empty => Scalar::Bool,
-        ValueType::Int => Scalar::Int,
-        ValueType::Matrix { of, .. } => of,
-    }
-}
-
 /// The same sets of numbers once more.
 fn copy_sets(alloc: Global, sets: &[Runs]) -> Result<Vec<Runs>, Memory>
     ensures { IfOk result (λ copies. copies.items ≡ sets.now) }
@@ -137,7 +126,7 @@ fn name_find(alloc: Global, env: &mut Env, find: &Find) -> Result<(), Memory>
     let name = Name::new(alloc, find.name.text())?;
     let indices = copy_sets(alloc, &find.indices)?;
     let values = find.values.copy(alloc)?;
-    env.name_cells(name, indices, values, scalar_of(find.ty))
+    env.name_cells(name, indices, values, find.ty.scalar())
 }
 
 /// The names of decision variables stand for their cells.

@@ -1,12 +1,13 @@
 //! The parts of a comprehension but for the walk through its generators.
 
 ghost use Rattle.std.specs.Prelude.{◌≡◌, ◌++◌, ◌&&◌, ◌∷◌, [], List, Some, IfOk, option_map};
+ghost use Rattle.ep_base.specs.Options.{map_both};
 ghost use Rattle.ep_base.specs.declared.places.Place.{Place};
 ghost use Rattle.ep_eval.specs.Generating.{generated_values};
 ghost use Rattle.ep_eval.specs.Literals.{index_at};
 ghost use Rattle.ep_eval.specs.Scopes.{env_in, mode_in};
 ghost use Rattle.ep_ground.specs.Nodes.{GroundNode};
-ghost use Rattle.ep_tree.specs.Evaluation.{all_true, evaluate, map_both, truth_of, values_of};
+ghost use Rattle.ep_tree.specs.Evaluation.{all_true, evaluate, truth_of, values_of};
 ghost use Rattle.ep_tree.specs.Trees.{ExprTree, ExprTrees, Generators, comprehension};
 ghost use Rattle.ep_tree.specs.Views.{expr_tree, expr_trees};
 ghost use Rattle.ep_unroll.specs.Meanings.{Means};
@@ -36,7 +37,7 @@ pub struct Ranging<'e> {
 }
 
 /// Whether two things hold, where each is known.
-#[tactic(auto, unfolding(ep_tree::specs::Evaluation::map_both))]
+#[tactic(auto, unfolding(ep_base::specs::Options::map_both))]
 fn both_hold(one: Option<bool>, other: Option<bool>) -> Option<bool>
     ensures { result ≡ map_both ◌&&◌ one other }
 {

@@ -1,36 +1,11 @@
-//! Sets of numbers as lists, and the lists of indices over index domains.
+//! The lists of indices over index domains.
 
-ghost use Rattle.std.specs.Prelude.{◌≡◌, ◌≤ℤ◌, ◌++◌, ◌∷◌, [], IfOk, OnOk, flat_map, map};
-ghost use Rattle.ep_base.specs.Runs.{numbers_in};
+ghost use Rattle.std.specs.Prelude.{◌≡◌, ◌++◌, ◌∷◌, [], IfOk, OnOk, flat_map, map};
 ghost use Rattle.ep_unroll.specs.Cells as defined;
 
-use ep_base::{Key, Memory, Run, Runs};
-use std::alloc::{AllocError, Global};
-
-/// Adds the numbers of a run.
-fn push_run(numbers: &mut Vec<i64>, run: Run) -> Result<(), AllocError>
-    requires { run.lo ≤ℤ run.hi }
-    ensures { OnOk result (numbers.new.items ≡ numbers.old.items ++ numbers_in run) }
-{
-    let mut number = run.lo;
-    while number < run.hi {
-        numbers.push(number)?;
-        number += 1;
-    }
-    numbers.push(run.hi)?;
-    Ok(())
-}
-
-/// The numbers in ascending order.
-pub fn listed(alloc: Global, numbers: &Runs) -> Result<Vec<i64>, Memory>
-    ensures { IfOk result (λ list. list.items ≡ numbers.now) }
-{
-    let mut list = Vec::new(alloc);
-    for run in numbers.runs() {
-        push_run(&mut list, *run)?;
-    }
-    Ok(list)
-}
+use ep_base::{Key, Memory, Runs};
+use ep_numbers::listed;
+use std::alloc::Global;
 
 /// A number, and others behind it.
 fn in_front(alloc: Global, number: i64, others: &[i64]) -> Result<Vec<i64>, Memory>

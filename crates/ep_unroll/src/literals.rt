@@ -1,11 +1,12 @@
 //! Matrices that are made of their parts, and the indices of these.
 
 ghost use Rattle.std.specs.Prelude.{◌≡◌, ◌==◌, pos, ℕ, ℤ, List, Some, None, IfOk, if◌then◌else◌, length, option_map};
+ghost use Rattle.ep_base.specs.Options.{on_both};
 ghost use Rattle.ep_base.specs.Runs.{counting};
 ghost use Rattle.ep_eval.specs.Literals.{index_at};
 ghost use Rattle.ep_eval.specs.Scopes.{env_in, mode_in};
 ghost use Rattle.ep_ground.specs.Nodes.{GroundNode};
-ghost use Rattle.ep_tree.specs.Evaluation.{index_values, on_both};
+ghost use Rattle.ep_tree.specs.Evaluation.{index_values};
 ghost use Rattle.ep_tree.specs.Values.{all_defined, with_indices};
 ghost use Rattle.ep_unroll.specs.Meanings.{AreTerms, worth};
 ghost use Rattle.ep_unroll.specs.PartLists.{HaveTerms, worths};

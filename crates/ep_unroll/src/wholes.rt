@@ -20,11 +20,11 @@ use super::blocks::cells_over;
 use super::choices::whole_term;
 use super::growing::put;
 use super::lefts::{copied, opened_value};
-use super::listing::listed;
 use super::unrolled::Unrolled;
 use ep_base::{Memory, Runs};
 use ep_eval::{Held, Walk, next_number, walk_of};
 use ep_ground::{Arena, Node, Term};
+use ep_numbers::listed;
 use ep_tree::Value;
 use std::alloc::Global;
 

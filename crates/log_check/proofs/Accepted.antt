@@ -1,8 +1,8 @@
 -- The lines of a valid log are accepted.
-use Rattle.std.proofs.Common.{◌≡◌, ℕ, suc, ◌+◌, ◌<◌, ◌≤◌, ◌⊎◌, inl, inr, ℤ, pos, Bool, true, false, IsTrue, cond, ltb, eqb, ◌&&◌, ◌||◌, List, [], ◌∷◌, ◌++◌, length, map, get_or, slice_index, Option, Some, None, refl, sym, ap, subst, ◌∙◌, append_assoc, length-append, arith}
+use Rattle.std.proofs.Common.{◌≡◌, ℕ, suc, ◌+◌, ◌<◌, ◌≤◌, ◌⊎◌, inl, inr, ℤ, pos, Bool, true, false, IsTrue, cond, ltb, eqb, ◌&&◌, List, [], ◌∷◌, ◌++◌, length, map, get_or, slice_index, Option, Some, None, refl, sym, ap, subst, ◌∙◌, append_assoc, length-append, arith}
 use Rattle.std.specs.Prelude.{All}
 use Rattle.std.specs.List.{list_all, list_any, AllByRecursion}
-use Rattle.std.proofs.lemmas.Bool.{ltb-true}
+use Rattle.std.proofs.lemmas.Bool.{ltb-true, or_right}
 use Rattle.std.proofs.lemmas.Bool.Decides.{nat_tests}
 use Rattle.std.proofs.lemmas.List.{append-nil, map-append, length-map, get_or_append_left}
 use Rattle.std.proofs.lemmas.List.Elements.{recursion_from_All}
@@ -217,10 +217,6 @@ no_line_is_bad events valid =
       kept = λ id le. refl;
     })
     valid
-
-or_right : (p q : Bool) → q ≡ true → (p || q) ≡ true
-or_right true q e = refl
-or_right false q e = e
 
 ends_empty : (ids : List ℕ) (given_id step_id : ℕ) (before : List LogEvent) (hints : List ℕ) → list_any adds_empty_clause (step_lines ids (ids_from given_id step_id (before ++ step [] hints ∷ [])) (before ++ step [] hints ∷ [])) ≡ true
 ends_empty ids given_id step_id [] hints = refl

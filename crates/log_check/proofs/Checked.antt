@@ -7,6 +7,7 @@ use Rattle.std.proofs.lemmas.List.{take_more, drop_all, take-append-drop, length
 use Rattle.cnf_core.specs.Reading.{is_shown_by}
 use Rattle.cnf_core.specs.declared.proof.Line.{Line}
 use Rattle.std.proofs.lemmas.Bool.Decides.{nat_tests}
+use Rattle.std.proofs.Math.Bool.{and-true}
 use Rattle.cnf_core.specs.Literal.{Literal}
 use Rattle.cnf_core.specs.Lines.{ProofLine, add, delete, plain_line, plain_lines}
 use Rattle.log_check.specs.Verdict.{Live, numbered_from, live_after, live_behind, hinted_clauses, added_ids, is_valid_line, first_bad, is_empty_clause, adds_empty_clause, has_empty_clause, verdict_from, verdict_of}
@@ -33,16 +34,12 @@ pub record Checked (kept : Clauses) (newest : ℕ) (formula : List (List Literal
   pub live : KeepsLive kept (live_behind formula earlier)
   pub newest_id : (id : ℕ) → list_all (λ n. ltb n id) (length formula ∷ added_ids earlier) ≡ ltb newest id
 
-and_true : (b : Bool) → (b && true) ≡ b
-and_true true = refl
-and_true false = refl
-
 and_assoc : (a b c : Bool) → ((a && b) && c) ≡ (a && (b && c))
 and_assoc true b c = refl
 and_assoc false b c = refl
 
 pub all_push : (p : ℕ → Bool) (xs : List ℕ) (x : ℕ) → list_all p (xs ++ x ∷ []) ≡ (list_all p xs && p x)
-all_push p [] x = and_true (p x)
+all_push p [] x = and-true (p x)
 all_push p (y ∷ ys) x = ap (λ b. p y && b) (all_push p ys x) ∙ sym (and_assoc (p y) (list_all p ys) (p x))
 
 pub added_push : (lines : List ProofLine) (id : ℕ) (clause : List Literal) (hints : List ℤ) → added_ids (lines ++ add id clause hints ∷ []) ≡ added_ids lines ++ id ∷ []
@@ -102,7 +99,7 @@ plain_left lines k x lt is =
     ap plain_lines next
 
 pub checked_start : (kept : Clauses) (formula : List (List Literal)) (lines : List ProofLine) → KeepsLive kept (numbered_from 1 formula) → Checked kept (length formula) formula [] lines
-checked_start kept formula lines live = record { first = refl; live = live; newest_id = λ id. and_true (ltb (length formula) id) }
+checked_start kept formula lines live = record { first = refl; live = live; newest_id = λ id. and-true (ltb (length formula) id) }
 
 pub checked_next : (kept new : Clauses) (newest newer : ℕ) (formula : List (List Literal)) (lines : List Line) (k : ℕ) (x : Line) (ok : Bool) → k < length lines → x ≡ get_or lines k x
     → Checked kept newest formula (plain_lines (take k lines)) (plain_lines (drop k lines))

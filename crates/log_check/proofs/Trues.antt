@@ -1,11 +1,12 @@
 -- Which literals are true, as the kept signs and as a list.
 use Rattle.std.proofs.Common.{◌≡◌, ℕ, ◌+◌, ◌<◌, Bool, true, false, cond, not, IsTrue, ◌&&◌, ◌||◌, eqb, List, [], ◌∷◌, ◌++◌, length, map, take, drop, get_or, Option, Some, None, refl, sym, ap, subst, ◌∙◌, arith, inl, inr, ◌⊎◌}
-use Rattle.std.proofs.lemmas.Bool.{eqb-true}
+use Rattle.std.proofs.lemmas.Bool.{eqb-true, or_left, or_right}
 use Rattle.std.proofs.lemmas.Bool.Decides.{nat_tests}
 use Rattle.std.specs.List.{list_any}
 use Rattle.std.proofs.lemmas.List.{take-append-drop, take_more}
 use Rattle.std.proofs.Math.Seq.{drop-cons}
 use Rattle.std.proofs.lemmas.List.Folds.{list_any-append}
+use Rattle.std.proofs.Math.Bool.{and-false}
 use Rattle.cnf_core.specs.Literal.{Literal, negation, same_sign, same_literal, is_among}
 use Rattle.cnf_core.specs.Reading.{is_false, has_contradiction}
 use Rattle.log_check.specs.Kept.{is_sign, KeepsTrues, MakesTrue}
@@ -13,14 +14,6 @@ use Rattle.log_check.specs.Kept.{is_sign, KeepsTrues, MakesTrue}
 pub bool_cases : (b : Bool) → (b ≡ true) ⊎ (b ≡ false)
 bool_cases true = inl refl
 bool_cases false = inr refl
-
-or_left : (a b : Bool) → a ≡ true → (a || b) ≡ true
-or_left true b e = refl
-or_left false b e = absurd cc
-
-or_right : (a b : Bool) → b ≡ true → (a || b) ≡ true
-or_right true b e = refl
-or_right false b e = e
 
 or_swap : (a b : Bool) → (a || (b || false)) ≡ (b || a)
 or_swap true true = refl
@@ -111,13 +104,9 @@ signs_differ (Some false) false e = refl
 abbrev pub IsConsistent : List Literal → Type 0
 IsConsistent kept = (l : Literal) → is_among kept l ≡ true → is_among kept (negation l) ≡ false
 
-and_false : (a : Bool) → (a && false) ≡ false
-and_false true = refl
-and_false false = refl
-
 differs : (v : ℕ) (positive : Bool) → same_literal (record { var = v; positive = positive }) (record { var = v; positive = not positive }) ≡ false
-differs v true = and_false (eqb v v)
-differs v false = and_false (eqb v v)
+differs v true = and-false (eqb v v)
+differs v false = and-false (eqb v v)
 
 -- a literal whose negation isn't true leaves no literal with its negation
 pub consistent_more : (old new : List Literal) (l : Literal) → IsConsistent old → is_among old (negation l) ≡ false → KeepsTrues new (l ∷ old) → IsConsistent new

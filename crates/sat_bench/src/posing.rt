@@ -5,7 +5,7 @@ ghost use Rattle.cnf_core.specs.Events.{clauses_of, nonempty_steps};
 ghost use Rattle.sat_search.specs.Logs.{IsSound};
 
 use crate::refusal::Refusal;
-use cnf_core::{Clause, Formula, Log};
+use cnf_core::{Formula, Log};
 use ep_base::{FileError, Files, Memory};
 use sat_search::Solver;
 use sat_text::{MOST_BYTES, read_cnf};
@@ -24,13 +24,6 @@ pub fn read_formula<F: Files>(
     }
 }
 
-/// A copy of a clause.
-fn copied(clause: &Clause) -> Result<Clause, Memory>
-    ensures { IfOk result (λ copy. copy ≡ clause.now) }
-{
-    Ok(clause.clone()?)
-}
-
 /// A solver of the clauses of a formula, and its log, in which they are the givens.
 ///
 /// A clause that has a literal and its negation is given too, so that the steps of the log find each clause under its number.
@@ -44,7 +37,7 @@ pub fn pose(alloc: Global, formula: &Formula) -> Result<(Solver, Log), Refusal>
     let mut solver = Solver::new(alloc, &log)?;
     let givens = formula.clauses();
     for clause in givens {
-        solver.add_given(copied(clause)?, &mut log)?;
+        solver.add_given(clause.copied()?, &mut log)?;
     }
     Ok((solver, log))
 }

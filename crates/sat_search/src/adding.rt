@@ -11,13 +11,6 @@ use ep_base::Memory;
 use sat_state::State;
 use std::alloc::Global;
 
-/// A copy of a clause.
-pub fn copied(clause: &Clause) -> Result<Clause, Memory>
-    ensures { IfOk result (λ copy. copy ≡ clause.now) }
-{
-    Ok(clause.clone()?)
-}
-
 // The greatest variable of a clause, or this number where it is greater.
 fn most_variable(clause: &Clause, vars: u64) -> u64
     requires { vars ≤ MOST_VARIABLE }
@@ -67,7 +60,7 @@ fn add_events(state: &mut State, vars: u64, events: &[Event]) -> Result<u64, Mem
 {
     let mut most = vars;
     for event in events {
-        most = add(state, most, copied(clause_in(event))?)?;
+        most = add(state, most, clause_in(event).copied()?)?;
     }
     Ok(most)
 }
@@ -90,7 +83,7 @@ pub fn give(state: &mut State, vars: u64, clause: Clause, log: &mut Log) -> Resu
     ensures ok { OnOk result (log.new ≡ record log.old { events = log.old.events ++ given clause ∷ [] }) }
     ensures err { OnErr result (log.new ≡ log.old) }
 {
-    let copy = copied(&clause)?;
+    let copy = clause.copied()?;
     state.backtrack(0);
     let most = add(state, vars, copy)?;
     log.given(clause)?;

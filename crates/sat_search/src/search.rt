@@ -7,7 +7,6 @@ ghost use Rattle.sat_state.specs.View.{IsPropagated};
 ghost use Rattle.sat_search.specs.Analysis.{IsKnown, AreInRange, AllHaveValues, KeepsValues, HasTwoFrom};
 ghost use Rattle.sat_search.specs.Logs.{IsSound, IsContinued, HasEnded, IsAnswer, with_step};
 
-use crate::adding::copied;
 use crate::learning::{Analysis, Explanation, explain};
 use crate::levels::{go_back, keep_all, keep_below_conflict, second_level};
 use crate::order::Order;
@@ -146,7 +145,7 @@ fn append(
     ensures known { OnOk result (IsKnown vars state.new) }
     ensures clauses { OnOk result (state.new.clauses ≡ clauses_of log.new.events) }
 {
-    let copy = copied(&clause)?;
+    let copy = clause.copied()?;
     log.step(copy, hints)?;
     let level = next_level(state, &mut tools.restarts, &clause);
     go_back(state, &mut tools.order, level);

@@ -1,6 +1,6 @@
 -- Literals, and the value of a variable as literals become true.
 use Rattle.std.proofs.Common.{◌≡◌, ◌≢◌, ℕ, ◌<◌, Bool, true, false, not, ◌||◌, ◌&&◌, Option, Some, None, IsSome, if◌then◌else◌, List, [], ◌∷◌, ◌++◌, length, get_or, All, Contains, eqb, refl, sym, ap, ◌∙◌, arith}
-use Rattle.std.proofs.Math.Bool.{or_comm, or-true as or_true}
+use Rattle.std.proofs.Math.Bool.{or_comm, or-true as or_true, or-false}
 use Rattle.std.proofs.lemmas.Bool.{both_ways, false≢true, eqb-true, eq-eqb, and_parts, and_from, and_left, ne_eqb}
 use Rattle.std.proofs.lemmas.Bool.Decides.{nat_tests}
 use Rattle.std.proofs.lemmas.List.Folds.{list_any-append, list_any_at, list_any_none}
@@ -59,13 +59,9 @@ same_literal-negation a b = ap (λ (t : Bool). eqb a.var b.var && t) (same_sign-
 pub negation-negation : (l : Literal) → negation (negation l) ≡ l
 negation-negation l = same_literal_is (negation (negation l)) l (same_literal-negation (negation l) l ∙ same_literal_itself (negation l))
 
-pub or_false : (t : Bool) → (t || false) ≡ t
-or_false true = refl
-or_false false = refl
-
 -- one more literal is true
 pub is_among_push : (trues : List Literal) (u l : Literal) → is_among (trues ++ u ∷ []) l ≡ (is_among trues l || same_literal l u)
-is_among_push trues u l = list_any-append (same_literal l) trues (u ∷ []) ∙ ap (λ (t : Bool). is_among trues l || t) (or_false (same_literal l u))
+is_among_push trues u l = list_any-append (same_literal l) trues (u ∷ []) ∙ ap (λ (t : Bool). is_among trues l || t) (or-false (same_literal l u))
 
 -- among these literals, by place and by test
 pub Contains-from_among : (trues : List Literal) (l : Literal) → is_among trues l ≡ true → Contains trues l
@@ -132,7 +128,7 @@ other_literal v w p q h = and_left (eqb v w) (same_sign p q) (ne_eqb v w h)
 
 other_among : (trues : List Literal) (u : Literal) (v : ℕ) (p : Bool) → v ≢ u.var → is_among (trues ++ u ∷ []) (of v p) ≡ is_among trues (of v p)
 other_among trues u v p h =
-    is_among_push trues u (of v p) ∙ ap (λ (t : Bool). is_among trues (of v p) || t) (other_literal v u.var p u.positive h) ∙ or_false (is_among trues (of v p))
+    is_among_push trues u (of v p) ∙ ap (λ (t : Bool). is_among trues (of v p) || t) (other_literal v u.var p u.positive h) ∙ or-false (is_among trues (of v p))
 
 -- another variable keeps its value where one more literal is true
 pub value_push_other : (trues : List Literal) (u : Literal) (v : ℕ) → v ≢ u.var → trail_value (trues ++ u ∷ []) v ≡ trail_value trues v
@@ -150,7 +146,7 @@ push_sign trues v true h =
     ap (λ (a : Bool). choice a (is_among (trues ++ of v true ∷ []) (of v false))) yes
 push_sign trues v false h =
     let none = none_among trues v true h in
-    let no : is_among (trues ++ of v false ∷ []) (of v true) ≡ false = is_among_push trues (of v false) (of v true) ∙ ap (λ (t : Bool). is_among trues (of v true) || t) (sign_of_var v true false) ∙ or_false (is_among trues (of v true)) ∙ none.0 in
+    let no : is_among (trues ++ of v false ∷ []) (of v true) ≡ false = is_among_push trues (of v false) (of v true) ∙ ap (λ (t : Bool). is_among trues (of v true) || t) (sign_of_var v true false) ∙ or-false (is_among trues (of v true)) ∙ none.0 in
     let yes : is_among (trues ++ of v false ∷ []) (of v false) ≡ true = is_among_push trues (of v false) (of v false) ∙ ap (λ (t : Bool). is_among trues (of v false) || t) (sign_of_var v false false) ∙ or_true (is_among trues (of v false)) in
     ap (λ (a : Bool). choice a (is_among (trues ++ of v false ∷ []) (of v false))) no ∙ ap (λ (b : Bool). choice false b) yes
 

@@ -1,13 +1,13 @@
 -- The table of true literals, as literals become true and are taken back.
 use Rattle.std.proofs.Common.{◌≡◌, ◌≢◌, ℕ, zero, suc, ◌+◌, ◌*◌, ◌<◌, ◌≤◌, Bool, true, false, ◌||◌, List, [], ◌∷◌, ◌++◌, length, get_or, set, replicate, refl, sym, ap, ◌∙◌, ⊎_elim, arith}
-use Rattle.std.proofs.Math.Bool.{or-true as or_true}
+use Rattle.std.proofs.Math.Bool.{or-true as or_true, or-false}
 use Rattle.std.proofs.lemmas.Bool.{cases_eq, cases_Bool}
 use Rattle.std.proofs.lemmas.List.{get_or-set_same, get_or-set_other}
 use Rattle.cnf_core.specs.Literal.{Literal, code_of, is_among, same_literal}
 use Rattle.sat_state.specs.WatchesInside.{literal_at}
 use Rattle.sat_state.specs.ValuesInside.{AreTruths}
 use Rattle.sat_state.proofs.Linked.{literal_again}
-use Rattle.sat_state.proofs.Literals.{is_among_push, same_literal_is, same_literal_itself, or_false}
+use Rattle.sat_state.proofs.Literals.{is_among_push, same_literal_is, same_literal_itself}
 
 same_code : (a b : Literal) → code_of a ≡ code_of b → a ≡ b
 same_code a b same = sym (literal_again a) ∙ ap literal_at same ∙ literal_again b
@@ -22,7 +22,7 @@ pushed_itself : (trues : List Literal) (u : Literal) → is_among (trues ++ u �
 pushed_itself trues u = is_among_push trues u u ∙ ap (λ (b : Bool). is_among trues u || b) (same_literal_itself u) ∙ or_true (is_among trues u)
 
 pushed_other : (trues : List Literal) (u l : Literal) → code_of l ≢ code_of u → is_among (trues ++ u ∷ []) l ≡ is_among trues l
-pushed_other trues u l ne = is_among_push trues u l ∙ ap (λ (b : Bool). is_among trues l || b) (other_literal l u ne) ∙ or_false (is_among trues l)
+pushed_other trues u l ne = is_among_push trues u l ∙ ap (λ (b : Bool). is_among trues l || b) (other_literal l u ne) ∙ or-false (is_among trues l)
 
 pub truths_push : (truths : List Bool) (trues : List Literal) (u : Literal) → AreTruths truths trues → code_of u < length truths → AreTruths (set truths (code_of u) true) (trues ++ u ∷ [])
 truths_push truths trues u h there l = ⊎_elim

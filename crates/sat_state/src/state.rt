@@ -41,13 +41,6 @@ impl Model for State {
     ghost invariant = { IsState };
 }
 
-// A copy of a clause.
-fn copied(clause: &Clause) -> Result<Clause, Memory>
-    ensures { IfOk result (λ made. made ≡ clause.now) }
-{
-    Ok(clause.clone()?)
-}
-
 impl State {
     // No clause, and the variables up to this number.
     fn empty(alloc: Global, vars: u64) -> Result<State, Memory>
@@ -70,7 +63,7 @@ impl State {
     {
         let mut state = State::empty(alloc, vars)?;
         for clause in clauses {
-            state.add(copied(clause)?)?;
+            state.add(clause.copied()?)?;
         }
         Ok(state)
     }

@@ -1,102 +1,25 @@
 //! Reads what the comments of a formula's text say.
 
-ghost use Rattle.std.specs.Prelude.{◌≡◌, ◌<◌, ◌==◌, ◌++◌, ◌∷◌, [], length, map, position, IfOk, IfSome, MatchOption, bytes_eq};
+ghost use Rattle.std.specs.Prelude.{◌≡◌, ◌<◌, ◌==◌, ◌++◌, ◌∷◌, [], length, map, position, IfOk, IfSome, MatchOption};
 ghost use Rattle.std.specs.Option.{option_map};
-ghost use Rattle.std.specs.List.{slice_split, list_all, list_any};
+ghost use Rattle.std.specs.List.{slice_split, list_all};
 ghost use Rattle.sat_text.specs.Numbers.{whole_of};
 ghost use Rattle.cnf_core.specs.Events.{plain_note};
 ghost use Rattle.sat_text.specs.Words.{lines};
-ghost use Rattle.ep_base.specs.TokenTexts.{begins_name, continues_name, is_word};
+ghost use Rattle.ep_base.specs.TokenTexts.{continues_name};
 ghost use Rattle.sat_text.specs.Notes.{is_free_name, are_wholes, are_indices, is_cell, note_of, note_at, note_value, note_literal, note_with, added_on, notes_of, added_of};
 
 use crate::items::{is_zero, literal};
 use crate::numbers::{natural, whole};
 use crate::words::{is_comment_line, next_line};
 use cnf_core::CellNote;
-use ep_base::Memory;
+use ep_base::{Memory, begins_name, continues_name, is_word};
 use std::alloc::Global;
-
-/// The reserved words of the language, which are no names.
-const RESERVED: [&[u8]; 44] = [
-    b"language",
-    b"given",
-    b"letting",
-    b"where",
-    b"find",
-    b"such",
-    b"that",
-    b"minimising",
-    b"minimizing",
-    b"maximising",
-    b"maximizing",
-    b"branching",
-    b"on",
-    b"heuristic",
-    b"be",
-    b"domain",
-    b"matrix",
-    b"indexed",
-    b"by",
-    b"of",
-    b"int",
-    b"bool",
-    b"union",
-    b"intersect",
-    b"in",
-    b"toInt",
-    b"toSet",
-    b"flatten",
-    b"forAll",
-    b"exists",
-    b"sum",
-    b"product",
-    b"and",
-    b"or",
-    b"min",
-    b"max",
-    b"allDiff",
-    b"gcc",
-    b"atleast",
-    b"atmost",
-    b"table",
-    b"factorial",
-    b"true",
-    b"false",
-];
-
-/// The name of the language.
-const LANGUAGE: &[u8] = b"ESSENCE'";
-
-fn may_begin_name(b: u8) -> bool
-    ensures { result ≡ begins_name b }
-{
-    b.is_ascii_alphabetic() || b == b'_'
-}
-
-fn may_stand_in_name(b: u8) -> bool
-    ensures { result ≡ continues_name b }
-{
-    may_begin_name(b) || b.is_ascii_digit()
-}
 
 fn all_in_name(word: &[u8]) -> bool
     ensures { result ≡ list_all continues_name word.now }
 {
-    word.iter().all(|b| may_stand_in_name(*b))
-}
-
-fn is_one_of(words: &[&[u8]], text: &[u8]) -> bool
-    ensures { result ≡ list_any (λ word. bytes_eq word.now text.now) words.now }
-{
-    words.iter().any(|word| *word == text)
-}
-
-/// Whether a text is a word of the language: a reserved one, or the language's name.
-#[tactic(auto, unfolding(ep_base::specs::TokenTexts::is_word))]
-fn is_language_word(text: &[u8]) -> bool
-    ensures { result ≡ is_word text.now }
-{
-    is_one_of(&RESERVED, text) || LANGUAGE == text
+    word.iter().all(|b| continues_name(*b))
 }
 
 fn is_plain_name(word: &[u8]) -> bool
@@ -104,9 +27,7 @@ fn is_plain_name(word: &[u8]) -> bool
 {
     match word {
         [] => false,
-        [first, others @ ..] => {
-            may_begin_name(*first) && all_in_name(others) && !is_language_word(word)
-        }
+        [first, others @ ..] => { begins_name(*first) && all_in_name(others) && !is_word(word) }
     }
 }
 

@@ -1,9 +1,11 @@
-use Rattle.std.proofs.Common.{subst, sym, arith}
+use Rattle.std.proofs.Common.{subst, sym, ap, ◌∙◌, arith}
 use Rattle.std.specs.List.{AllZip}
 use Rattle.std.proofs.lemmas.Int.{ints}
 use Rattle.enc_linear.specs.Terms.{IsMirror, total}
 use Rattle.enc_linear.proofs.Totals.{mirrors_of_layout, mirrors_opposite, said_one, said_two}
 use Rattle.enc_linear.proofs.linear.add_said.Goals as goal
+use Rattle.ep_base.proofs.Contraries.{contrary_holds}
+use Rattle.ep_base.specs.Numbers.{compare_holds}
 
 pub add_compared-requires-clause-mirrors : goal.add_compared-requires-clause-mirrors
 add_compared-requires-clause-mirrors c = mirrors_of_layout c.args.layout.now c.args.terms.now c.deref.result.now c.requires.terms (subst (AllZip IsMirror c.args.terms.now) (sym c.deref.ensures.value) c.in_ok-mirrors.ensures)
@@ -31,4 +33,4 @@ pub returns : goal.returns
 returns c =
     said_two c.add_compared-3.result c.args.layout.now c.args.f.now c.add_truth.new.f c.add_compared-2.new.f c.add_compared-3.new.f c.in-Some.t c.args.truth c.is_not.result c.is.result c.args.op c.contrary-against.result
     (λ values. total values c.args.terms.now) _ _ c.args.number c.requires.is_layout c.in_ok-add_truth.ensures c.in_ok-add_compared.ensures c.add_compared-3.ensures c.in-Some.is c.is_not.ensures c.is.ensures
-    (omega (arith, ints)) (omega (arith, ints)) c.contrary-against.ensures
+    (omega (arith, ints)) (omega (arith, ints)) (λ x y. ap (λ o. compare_holds o x y) c.contrary-against.ensures ∙ contrary_holds c.args.op x y)

@@ -22,8 +22,8 @@ returns-clause-of_layout c =
     let xs = c.deref-value-items.result.now in
     let a = c.args.coefficient in
     let e : to_z w64 (of_z w64 a) ≡ a = to_z-of_z w64 a c.ranges.coefficient in
-    let items : xs ≡ c.domain.result.now = c.deref-value-items.ensures.value ∙ c.in_ok-values.ensures.items in
-    multiple_of c.args.layout.now a xs _ c.requires.var (items ∙ c.domain.ensures) (subst IsAscending (sym items) c.in_ok-values.ensures.ascending) c.requires.coefficient (ap (λ n. int_lt (pos 0) n) e)
+    let items : xs ≡ c.domain-domain.result.now = c.deref-value-items.ensures.value ∙ c.in_ok-values.ensures in
+    multiple_of c.args.layout.now a xs _ c.requires.var (items ∙ c.domain-domain.ensures) (subst IsAscending (sym items) c.runs_ascend.ensures) c.requires.coefficient (ap (λ n. int_lt (pos 0) n) e)
     (map_all (step_of _) xs c.loop-value.value-index c.loop-value.steps.items c.loop-value-test.false c.loop-value.invariant ∙ ap (λ n. map (step_of n) xs) e)
     (subst (HoldsSteps c.bounds_of-bounds.result) c.deref.ensures.value c.bounds_of-bounds.ensures)
 
@@ -32,6 +32,6 @@ returns-clause-worth c values among =
     let xs = c.deref-value-items.result.now in
     let a = c.args.coefficient in
     let e : to_z w64 (of_z w64 a) ≡ a = to_z-of_z w64 a c.ranges.coefficient in
-    let items : xs ≡ c.domain.result.now = c.deref-value-items.ensures.value ∙ c.in_ok-values.ensures.items in
-    multiple_is c.args.layout.now a xs _ values c.requires.var (items ∙ c.domain.ensures)
+    let items : xs ≡ c.domain-domain.result.now = c.deref-value-items.ensures.value ∙ c.in_ok-values.ensures in
+    multiple_is c.args.layout.now a xs _ values c.requires.var (items ∙ c.domain-domain.ensures)
     (map_all (step_of _) xs c.loop-value.value-index c.loop-value.steps.items c.loop-value-test.false c.loop-value.invariant ∙ ap (λ n. map (step_of n) xs) e) among

@@ -40,7 +40,7 @@ add_clause-requires-clause-names c =
 
 pub returns : goal.returns
 returns c =
-    let items : c.deref-value-items.result.now ≡ c.domain.result.now = c.deref-value-items.ensures.value ∙ c.in_ok-values.ensures.items in
+    let items : c.deref-value-items.result.now ≡ c.domain.result.now = c.deref-value-items.ensures.value ∙ c.in_ok-values.ensures in
     all_turns c.args.layout.now c.args.f.now c.loop-value.f (Passes c.args.guards.now c.args.var c.args.numbers.now c.args.inside) (Unless c.args.guards.now (IsMember c.args.var c.args.numbers.now c.args.inside))
     c.deref-value-items.result.now c.loop-value.value-index c.requires.is_layout c.loop-value-test.false c.loop-value.invariant
     (λ values among. passes_all c.args.guards.now c.args.var c.args.numbers.now c.args.inside values c.deref-value-items.result.now

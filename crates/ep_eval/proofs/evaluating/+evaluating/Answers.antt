@@ -5,14 +5,14 @@ use Rattle.std.proofs.lemmas.Int.{to_z-of_z, ints}
 use Rattle.std.proofs.lemmas.Result.{err_from_is_err_and}
 use Rattle.ep_tree.proofs.EvaluationEquations.{evaluate-all_different, evaluate-at_least, evaluate-at_most, evaluate-factorial, evaluate-flatten, evaluate-gcc, evaluate-in_set, evaluate-lex, evaluate-table, evaluate-chain, evaluate-all_of, evaluate-any_of, evaluate-absolute, evaluate-binary, evaluate-minus, evaluate-named, evaluate-compare, evaluate-group, evaluate-negation, evaluate-number, evaluate-to_int, evaluate-truth, evaluate-read}
 use Rattle.ep_tree.proofs.ViewLemmas.{kind_tree-in_domain, kind_tree-all_different, kind_tree-at_least, kind_tree-at_most, kind_tree-factorial, kind_tree-flatten, kind_tree-folded, kind_tree-gcc, kind_tree-in_set, kind_tree-lex, kind_tree-table, kind_tree-chain, kind_tree-all_of, kind_tree-any_of, kind_tree-absolute, kind_tree-binary, kind_tree-minus, kind_tree-named, kind_tree-compare, kind_tree-group, kind_tree-negation, kind_tree-number, kind_tree-to_int, kind_tree-truth, domain_kind_tree-bool, domain_kind_tree-group, domain_kind_tree-int, domain_kind_tree-named, domain_kind_tree-ranges, kind_tree-read, kind_tree-literal, index_of, domain_kind_tree-set, domain_kind_tree-matrix}
-use Rattle.ep_tree.specs.Evaluation.{folded_value, on_both, on_three, rows_in, scalars_in, signed, binary_value, evaluate, map_both, number_in, number_value, truth_in, truth_of, domain_values, range_values, read_result, type_in}
+use Rattle.ep_tree.specs.Evaluation.{folded_value, rows_in, scalars_in, signed, binary_value, evaluate, number_in, number_value, truth_in, truth_of, domain_values, range_values, read_result, type_in}
 use Rattle.ep_base.specs.Numbers.{absolute_of, are_different, compare_holds, counts_hold, factorial_of, has_number, is_row_of, lex_holds}
 use Rattle.ep_base.specs.declared.operators.CompareOp.{CompareOp}
 use Rattle.ep_tree.specs.Measures.{met, met_all, met_terms, met_domain, met_domains, met_end, met_index, met_indices}
 use Rattle.ep_tree.specs.Trees.{all_different, at_least, at_most, factorial, flatten, gcc, in_set, lex, table, chain, absolute, all_of, any_of, binary, minus, named, compare, group, negation, number, to_int, truth, bool, group_domain, int, named_domain, ranges, read, literal, set_domain, matrix_domain}
-use Rattle.ep_tree.specs.Values.{list_value, single, read_value}
+use Rattle.ep_tree.specs.Values.{list_value, single, read_value, indices_in}
 use Rattle.ep_tree.specs.Views.{expr_tree, expr_trees, kind_tree, terms_of, domain_kind_tree, domain_tree, ranges_of, end_of, indices_of, domains_of, value_tree}
-use Rattle.ep_eval.specs.Reading.{indices_in, with_index}
+use Rattle.ep_eval.specs.Reading.{with_index}
 use Rattle.ep_eval.proofs.ReadResults.{meets_read}
 use Rattle.ep_eval.proofs.IndexSteps.{IndicesSoFar, in_option, indices_begin, indices_cause, indices_counted, indices_more, indices_value}
 use Rattle.ep_tree.specs.declared.syntax.Domain.{size-Domain}
@@ -51,6 +51,7 @@ use Rattle.ep_eval.proofs.LiteralForms.{PartsSoFar, counted_exprs, index_is, ind
 use Rattle.ep_eval.proofs.SetForms.{domains_begin, domains_cause, domains_counted, domains_more}
 use Rattle.ep_eval.specs.Literals.{index_at, listed_in}
 use Rattle.std.specs.Prelude.{None, true, false}
+use Rattle.ep_base.specs.Options.{map_both, on_both, on_three}
 use Rattle.ep_tree.specs.Views.{generators_of}
 use Rattle.ep_tree.specs.Measures.{a_generator}
 use Rattle.ep_eval.specs.Generating.{how_many, listed_nodes, generated_values, lists_joined, nodes_at, nodes_of, parts_at, parts_of, ranging_over}

@@ -1,6 +1,7 @@
 use Rattle.std.proofs.Common.{ap, ◌∙◌, true, ◌+◌, ◌+ℤ◌}
 use Rattle.std.specs.Prelude.{option_map}
-use Rattle.ep_tree.specs.Evaluation.{map_both, signed}
+use Rattle.ep_base.specs.Options.{map_both}
+use Rattle.ep_tree.specs.Evaluation.{signed}
 use Rattle.ep_eval.proofs.Instances.{more_number, more_truth, small_is_total, small_total_is, truths_are_small}
 use Rattle.ep_eval.specs.Counting.{together}
 use Rattle.ep_eval.specs.Helds.{seen_held}

@@ -1,5 +1,6 @@
 use Rattle.std.proofs.Common.{◌≡◌, ◌+◌, ◌-◌, ◌&&◌, ◌∷◌, [], ◌++◌, None, arith, ℕ, Bool, List, Option, Some, drop, length, ap, sym, subst, ◌∙◌, option_map}
 use Rattle.std.proofs.lemmas.List.{drop_all, drop_more}
+use Rattle.ep_base.specs.Options.{map_both}
 use Rattle.ep_tree.proofs.TypeEquations.{judge-named, judge_domain-bool, judge_domain-int, judge_domain-named_domain}
 use Rattle.ep_tree.proofs.ViewLemmas.{kind_tree-absolute, kind_tree-all_different, kind_tree-all_of, kind_tree-any_of, kind_tree-at_least, kind_tree-at_most, kind_tree-binary, kind_tree-chain, kind_tree-compare, kind_tree-factorial, kind_tree-flatten, kind_tree-folded, kind_tree-gcc, kind_tree-group, kind_tree-in_set, kind_tree-lex, kind_tree-minus, kind_tree-named, kind_tree-negation, kind_tree-number, kind_tree-read, kind_tree-table, kind_tree-to_int, kind_tree-truth, kind_tree-in_domain, kind_tree-literal, domain_kind_tree-bool, domain_kind_tree-group, domain_kind_tree-int, domain_kind_tree-matrix, domain_kind_tree-named, domain_kind_tree-ranges, domain_kind_tree-set}
 use Rattle.ep_eval.specs.Scopes.{env_in}
@@ -8,7 +9,6 @@ use Rattle.ep_eval.proofs.TypedNames.{Read, comprehension_none, comprehension_to
 use Rattle.ep_tree.specs.Environments.{context_of}
 use Rattle.ep_tree.specs.declared.syntax.Generator.{Generator}
 use Rattle.ep_base.specs.declared.names.Name.{Name}
-use Rattle.ep_tree.specs.Evaluation.{map_both}
 use Rattle.ep_tree.specs.Trees.{absolute, all_different, at_least, at_most, binary, compare, factorial, folded, gcc, in_set, lex, literal, minus, negation, table, to_int}
 use Rattle.ep_tree.specs.Types.{all_typed, inside_all, judge_all, judge_domains, judge_generators, judge_indices, judge_ranges, judge_terms, slice_count, type_from}
 use Rattle.ep_tree.specs.Views.{domain_kind_tree, domain_tree, domains_of, expr_tree, expr_trees, generators_of, indices_of, kind_tree, ranges_of, terms_of}

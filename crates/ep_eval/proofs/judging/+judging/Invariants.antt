@@ -1,8 +1,8 @@
 use Rattle.std.proofs.Common.{◌≡◌, ◌&&◌, drop, option_map}
+use Rattle.ep_base.specs.Options.{map_both}
 use Rattle.ep_eval.specs.Typing.{context_in, inside_names, readings, with_typed}
 use Rattle.ep_eval.specs.Scopes.{env_in}
 use Rattle.ep_tree.specs.Environments.{context_of}
-use Rattle.ep_tree.specs.Evaluation.{map_both}
 use Rattle.ep_tree.specs.Types.{all_typed, inside_all, judge_all, judge_domains, judge_generators, judge_indices, judge_ranges, judge_terms}
 use Rattle.ep_tree.specs.Views.{domain_tree, domains_of, expr_trees, generators_of, indices_of, ranges_of, terms_of}
 use Rattle.ep_eval.proofs.DomainTypes.{joined_types}

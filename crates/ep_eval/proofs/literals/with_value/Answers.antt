@@ -1,7 +1,7 @@
 use Rattle.std.proofs.Common.{◌≡◌, ◌∷◌, ◌++◌, [], List, Some, ap, sym, ◌∙◌}
 use Rattle.std.specs.Prelude.{map}
 use Rattle.std.proofs.lemmas.List.{map-append}
-use Rattle.ep_tree.specs.Evaluation.{map_both}
+use Rattle.ep_base.specs.Options.{map_both}
 use Rattle.ep_tree.specs.Values.{ValueTree}
 use Rattle.ep_tree.specs.Views.{value_tree}
 use Rattle.ep_tree.specs.declared.values.Value.{Value}

@@ -7,7 +7,7 @@ use Rattle.ep_tree.specs.Values.{as_parts, list_value, matrix, single}
 use Rattle.ep_tree.specs.Views.{value_tree}
 use Rattle.ep_tree.specs.declared.values.Value.TheVariants.{Number}
 use Rattle.ep_base.specs.Runs.{counting}
-use Rattle.ep_eval.proofs.ListLaws.{counting_more}
+use Rattle.ep_numbers.proofs.Counting.{counting_more}
 use Rattle.ep_eval.proofs.Lists.{values_from-map}
 use Rattle.ep_eval.proofs.operands.list_of.Goals as goal
 

@@ -1,8 +1,7 @@
 use Rattle.std.proofs.Common.{◌≡◌, ◌+◌, ◌*◌, drop, length, map}
-use Rattle.ep_tree.specs.Values.{all_defined, read_value}
+use Rattle.ep_tree.specs.Values.{all_defined, indices_in, read_value}
 use Rattle.ep_tree.specs.Views.{value_tree}
 use Rattle.ep_eval.proofs.ReadSteps.{defined_so_far}
-use Rattle.ep_eval.specs.Reading.{indices_in}
 use Rattle.ep_eval.proofs.reads.+copying.Given as goal
 
 abbrev pub invariant-read_parts-loop-part : goal.invariant-read_parts-loop-part

@@ -1,9 +1,8 @@
 use Rattle.std.proofs.Common.{Some, ap, sym, ◌∙◌, arith, w64}
 use Rattle.std.proofs.lemmas.Int.{ints, to_z-of_z}
-use Rattle.ep_tree.specs.Values.{read_value, single}
+use Rattle.ep_tree.specs.Values.{indices_in, read_value, single}
 use Rattle.ep_eval.proofs.ReadSteps.{given, read_no_number, read_number}
 use Rattle.ep_eval.specs.Helds.{held_value}
-use Rattle.ep_eval.specs.Reading.{indices_in}
 use Rattle.ep_eval.proofs.reads.read_held.Goals as goal
 
 pub returns-then-indices-eq0 : goal.returns-then-indices-eq0

@@ -4,7 +4,7 @@ use Rattle.std.proofs.Math.ListN.{drop_of_length-le}
 use Rattle.ep_eval.specs.Known.{env_of}
 use Rattle.ep_eval.specs.Outcomes.{seen_value}
 use Rattle.ep_tree.specs.Views.{expr_tree}
-use Rattle.ep_types.proofs.Walks.{next_is}
+use Rattle.ep_types_rules.proofs.RuleSteps.{next_is}
 use Rattle.ep_instance.proofs.Answering.{limit_refuses, refuses_false}
 use Rattle.ep_instance.proofs.ConditionSteps.{ConditionsSoFar, condition_violated, conditions_begin, conditions_cause, conditions_hold, conditions_more}
 use Rattle.ep_instance.proofs.LimitSteps.{value_counted}

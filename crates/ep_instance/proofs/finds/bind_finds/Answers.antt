@@ -3,7 +3,7 @@ use Rattle.std.proofs.lemmas.Result.{err_from_is_err_and}
 use Rattle.std.proofs.Math.ListN.{drop_of_length-le}
 use Rattle.ep_eval.specs.Known.{env_of}
 use Rattle.ep_tree.specs.Views.{group_of}
-use Rattle.ep_types.proofs.Walks.{next_is}
+use Rattle.ep_types_rules.proofs.RuleSteps.{next_is}
 use Rattle.ep_instance.specs.Instances.{find_of}
 use Rattle.ep_instance.specs.declared.errors.Source.TheVariants.{Model}
 use Rattle.ep_instance.specs.declared.instances.Find.{Find}

@@ -4,7 +4,7 @@ use Rattle.ep_eval.specs.Known.{env_of}
 use Rattle.ep_eval.specs.Outcomes.{seen_value}
 use Rattle.ep_tree.specs.Evaluation.{first_untrue}
 use Rattle.ep_tree.specs.Views.{expr_tree}
-use Rattle.ep_types.proofs.Walks.{next_is}
+use Rattle.ep_types_rules.proofs.RuleSteps.{next_is}
 use Rattle.ep_instance.proofs.JudgingSteps.{clause_false, clause_is, clause_true, no_clause}
 use Rattle.ep_instance.proofs.judging.first_violated.Goals as goal
 

@@ -2,7 +2,7 @@ use Rattle.std.proofs.Common.{◌∙◌, ◌+◌, ap, sym, refl, map, drop}
 use Rattle.std.proofs.Math.ListN.{drop_of_length-le}
 use Rattle.ep_tree.specs.Solutions.{named_in}
 use Rattle.ep_tree.specs.Views.{named_value}
-use Rattle.ep_types.proofs.Walks.{next_is}
+use Rattle.ep_types_rules.proofs.RuleSteps.{next_is}
 use Rattle.ep_instance.proofs.AssigningSteps.{named_here, named_later, named_nowhere}
 use Rattle.ep_instance.proofs.values.entry_named.Goals as goal
 

@@ -1,17 +1,16 @@
 use Rattle.std.proofs.Common.{◌≡◌, ◌+◌, true, get_or, drop, sym, ap, ◌∙◌, arith}
-use Rattle.ep_lexer.specs.Cursor.{place_after}
-use Rattle.ep_base.specs.Tokens.{separates, gap_len}
+use Rattle.ep_base.specs.Tokens.{separates, gap_len, place_after}
 use Rattle.ep_lexer.proofs.PlaceSteps.{place_step, place_small, gap_goes_on}
 use Rattle.ep_lexer.proofs.cursor.skip_gap.Goals as goal
 
-pub place_after-place-requires-clause-line : goal.place_after-place-requires-clause-line
-place_after-place-requires-clause-line c =
+pub after-place-requires-clause-line : goal.after-place-requires-clause-line
+after-place-requires-clause-line c =
     let small = place_small c.args.text.now c.loop-offset.offset c.loop-offset.invariant.within in
     let same = ap (λ p. p.line) c.loop-offset.invariant.place in
     omega (arith, small.0)
 
-pub place_after-place-requires-clause-column : goal.place_after-place-requires-clause-column
-place_after-place-requires-clause-column c =
+pub after-place-requires-clause-column : goal.after-place-requires-clause-column
+after-place-requires-clause-column c =
     let small = place_small c.args.text.now c.loop-offset.offset c.loop-offset.invariant.within in
     let same = ap (λ p. p.column) c.loop-offset.invariant.place in
     omega (arith, small.1)
@@ -25,6 +24,6 @@ loop-offset-preserved c =
     let next = ap (λ b. gap_len b (drop (i + 1) text)) c.in_comment_after-in_comment.ensures in
     record {
       within = omega arith;
-      place = c.place_after-place.ensures ∙ ap (λ p. place_after p (get_or text i 0)) c.loop-offset.invariant.place ∙ sym (place_step text i c.loop-offset-test.true);
+      place = c.after-place.ensures ∙ ap (λ p. place_after p (get_or text i 0)) c.loop-offset.invariant.place ∙ sym (place_step text i c.loop-offset-test.true);
       gap = omega arith;
     }

@@ -1,7 +1,7 @@
 use Rattle.std.proofs.Common.{ap, sym, ◌∙◌, arith, w64, to_z, of_z}
 use Rattle.std.proofs.lemmas.Int.{ints, to_z-of_z}
 use Rattle.ep_base.specs.Intervals.{from_to, width}
-use Rattle.ep_size.proofs.Caps.{run_count}
+use Rattle.ep_numbers.proofs.Counting.{length_of_run}
 use Rattle.ep_size.proofs.named.count_in.Goals as goal
 
 pub returns : goal.returns
@@ -10,4 +10,4 @@ returns c =
     let run = c.args.run in
     let lo = to_z-of_z w64 run.lo (omega (arith, ints)) in
     let hi = to_z-of_z w64 run.hi (omega (arith, ints)) in
-    c.width.ensures ∙ ap (λ x. width (from_to x (to_z w64 (of_z w64 run.hi)))) lo ∙ ap (λ x. width (from_to run.lo x)) hi ∙ sym (run_count run)
+    c.width.ensures ∙ ap (λ x. width (from_to x (to_z w64 (of_z w64 run.hi)))) lo ∙ ap (λ x. width (from_to run.lo x)) hi ∙ sym (length_of_run run)

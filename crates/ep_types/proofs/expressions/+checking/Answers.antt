@@ -5,16 +5,17 @@ use Rattle.ep_tree.specs.Types.{gives, is_boolean, is_integer, list_type, matrix
 use Rattle.ep_tree.specs.Names.{put}
 use Rattle.ep_tree.specs.Views.{domain_tree, domains_of, end_of, expr_tree, expr_trees, generators_of, indices_of, ranges_of, terms_of}
 use Rattle.ep_tree.specs.declared.values.ValueType.{ValueType}
+use Rattle.ep_types_rules.proofs.RuleSteps.{says_same}
+use Rattle.ep_types_rules.proofs.Said.{memory_says}
+use Rattle.ep_types_rules.specs.Concluding.{conclude, quantified_over, unless_fault, ◌>>=◌}
 use Rattle.ep_types.proofs.Arms.{all_of_parts, all_walks, any_of_parts, chain_parts, comprehension_parts, domains_walk, every_index, literal_parts, matrix_parts, next_generator, next_reading, no_generator, no_index, no_reading, one_index, quantified_parts, ranges_parts, read_parts, terms_walk}
 use Rattle.ep_types.proofs.Bounds.{all_held, by_bounds, held_fails, next_bounds, no_bounds, nothing_held, one_bounds, one_held, span_bounds}
 use Rattle.ep_types.proofs.Hiding.{counted, hides_after, hides_none, shown}
-use Rattle.ep_types.proofs.NameSteps.{says_same}
 use Rattle.ep_types.proofs.Readings.{reading}
 use Rattle.ep_types.proofs.Reread.{known_again}
-use Rattle.ep_types.proofs.Said.{memory_says}
 use Rattle.ep_types.proofs.Scopes.{on_ok, same_after, same_again}
 use Rattle.ep_types.proofs.Walks.{Goes, all_done, all_read, behind_all, blames_at, blames_first, blames_memory, fails, none_done, nothing_done, nothing_read, ok_at, one_done, one_read, read_fails, then_is, walk_ends, walk_fails, walked}
-use Rattle.ep_types.specs.Checking.{check, check_all, check_domain, check_domains, check_end, check_generators, check_index, check_indices, check_ranges, check_readings, check_terms, conclude, quantified_over, unless_fault, ◌>>=◌}
+use Rattle.ep_types.specs.Checking.{check, check_all, check_domain, check_domains, check_end, check_generators, check_index, check_indices, check_ranges, check_readings, check_terms}
 use Rattle.ep_types.specs.Reading.{check_bounds, check_read, range_bounds, stated_index}
 use Rattle.ep_tree.specs.Faults.{has_open_range, open_domain}
 use Rattle.ep_types.specs.Meanings.{names_context}
@@ -334,7 +335,7 @@ read_type-returns-clause-says t c =
     (ap (λ b. check_indices (names_context c.args.names.now) b is >>= λ ts. conclude c.args.place (read_type c.args.ty ts (slice_count is))) (sym c.may_decide_indices-may_decide.ensures))
     c.in_ok-types.ensures.says
     ∙ ap (λ ts. conclude c.args.place (read_type c.args.ty ts (slice_count is))) (sym c.deref.ensures.value)
-    ∙ ap (λ n. conclude c.args.place (read_type c.args.ty c.deref.result.now n)) (sym c.slice_count.ensures.count))
+    ∙ ap (λ n. conclude c.args.place (read_type c.args.ty c.deref.result.now n)) (sym c.count_slices.ensures.count))
     c.read.ensures
 
 pub index_types-loop-index-init : goal.index_types-loop-index-init

@@ -1,10 +1,10 @@
 use Rattle.std.proofs.Common.{ap, sym, ◌∙◌}
 use Rattle.std.proofs.lemmas.Result.{err_from_is_err_and}
 use Rattle.ep_tree.specs.Types.{gives}
-use Rattle.ep_types.proofs.NameSteps.{says_same}
+use Rattle.ep_types_rules.proofs.RuleSteps.{says_same}
+use Rattle.ep_types_rules.specs.Concluding.{conclude}
 use Rattle.ep_types.proofs.StatementSteps.{clause_is}
 use Rattle.ep_types.proofs.Walks.{blames_first, then_is}
-use Rattle.ep_types.specs.Checking.{conclude}
 use Rattle.ep_types.specs.Meanings.{known_by}
 use Rattle.ep_types.proofs.statements.check_clause.Goals as goal
 

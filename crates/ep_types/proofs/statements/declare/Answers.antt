@@ -1,7 +1,7 @@
 use Rattle.std.proofs.Common.{Err, option_map, sym, ap, ◌∙◌}
 use Rattle.std.proofs.lemmas.Result.{err_from_is_err_and}
+use Rattle.ep_types_rules.proofs.Said.{memory_says}
 use Rattle.ep_types.proofs.StatementSteps.{declares_again, declares_new, inserted}
-use Rattle.ep_types.proofs.Said.{memory_says}
 use Rattle.ep_types.specs.Meanings.{known_by, meaning_of}
 use Rattle.ep_types.proofs.statements.declare.Goals as goal
 

@@ -1,7 +1,8 @@
 use Rattle.std.proofs.Common.{subst}
 use Rattle.ep_tree.specs.Types.{Context}
 use Rattle.ep_tree.specs.Views.{domain_tree}
-use Rattle.ep_types.specs.Checking.{SaysOfCheck, check_domain}
+use Rattle.ep_types_rules.specs.Concluding.{SaysOfCheck}
+use Rattle.ep_types.specs.Checking.{check_domain}
 use Rattle.ep_types.proofs.statements.stated_domain.Goals as goal
 
 pub returns : goal.returns

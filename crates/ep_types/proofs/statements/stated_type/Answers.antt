@@ -1,7 +1,8 @@
 use Rattle.std.proofs.Common.{subst}
 use Rattle.ep_tree.specs.Types.{Context}
 use Rattle.ep_tree.specs.Views.{expr_tree}
-use Rattle.ep_types.specs.Checking.{SaysOfCheck, check}
+use Rattle.ep_types_rules.specs.Concluding.{SaysOfCheck}
+use Rattle.ep_types.specs.Checking.{check}
 use Rattle.ep_types.proofs.statements.stated_type.Goals as goal
 
 pub returns : goal.returns

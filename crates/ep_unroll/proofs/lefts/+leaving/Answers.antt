@@ -3,13 +3,12 @@ use Rattle.std.specs.Prelude.{option_map}
 use Rattle.std.proofs.lemmas.Int.{ints, to_z-of_z}
 use Rattle.std.proofs.lemmas.List.{drop_all, drop_more}
 use Rattle.ep_eval.proofs.WalkSteps.{no_runs}
-use Rattle.ep_tree.specs.Values.{read_value}
+use Rattle.ep_tree.specs.Values.{index_in, indices_in, read_value}
 use Rattle.ep_unroll.proofs.EntrySteps.{part_terms}
 use Rattle.ep_unroll.proofs.FormValues.{if_ok}
 use Rattle.ep_unroll.proofs.GrownParts.{matrix_terms, matrix_worth}
 use Rattle.ep_unroll.proofs.LeftSteps.{left_begin, left_done, left_more, left_nowhere, left_part, left_terms}
 use Rattle.ep_unroll.proofs.PartSteps.{is_worth}
-use Rattle.ep_unroll.specs.Blocks.{index_in, indices_in}
 use Rattle.ep_unroll.specs.Lefts.{IsLeft}
 use Rattle.ep_unroll.specs.Meanings.{AreTerms, worth}
 use Rattle.ep_unroll.specs.PartLists.{HaveTerms}

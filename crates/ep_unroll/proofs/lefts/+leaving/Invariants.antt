@@ -1,6 +1,6 @@
 use Rattle.std.proofs.Common.{◌+◌, ◌*◌, drop, length}
+use Rattle.ep_tree.specs.Values.{indices_in}
 use Rattle.ep_unroll.proofs.LeftSteps.{LeftSoFar}
-use Rattle.ep_unroll.specs.Blocks.{indices_in}
 use Rattle.ep_unroll.proofs.lefts.+leaving.Given as goal
 
 abbrev pub decreases-left_of : goal.decreases-left_of

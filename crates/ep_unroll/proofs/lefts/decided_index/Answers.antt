@@ -1,6 +1,6 @@
 use Rattle.std.proofs.Common.{◌≡◌, ◌∙◌, Some, ap, arith, sym, w64, to_z, of_z}
 use Rattle.std.proofs.lemmas.Int.{ints, to_z-of_z}
-use Rattle.ep_unroll.specs.Blocks.{index_in}
+use Rattle.ep_tree.specs.Values.{index_in}
 use Rattle.ep_unroll.specs.Picks.{slot_index}
 use Rattle.ep_unroll.proofs.lefts.decided_index.Goals as goal
 

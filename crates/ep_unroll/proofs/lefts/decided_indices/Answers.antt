@@ -1,6 +1,6 @@
 use Rattle.std.proofs.Common.{◌∷◌, ◌++◌, [], ◌∙◌, ℕ, List, Some, ap, map, sym, take}
 use Rattle.std.proofs.lemmas.List.{map-append, map_more}
-use Rattle.ep_unroll.specs.Blocks.{index_in, indices_in}
+use Rattle.ep_tree.specs.Values.{index_in, indices_in}
 use Rattle.ep_unroll.specs.Picks.{slot_index}
 use Rattle.ep_unroll.specs.declared.slots.Slot.{Slot}
 use Rattle.ep_unroll.proofs.lefts.decided_indices.Goals as goal

@@ -1,10 +1,10 @@
 use Rattle.std.proofs.Common.{◌≡◌, ◌∙◌, [], ℕ, List, Some, arith, ap, length, map, sym}
 use Rattle.std.proofs.lemmas.List.{nil_from_length}
+use Rattle.ep_tree.specs.Values.{indices_in}
 use Rattle.ep_unroll.proofs.FormValues.{if_ok}
 use Rattle.ep_unroll.proofs.GrownParts.{terms_kept}
 use Rattle.ep_unroll.proofs.ReadValues.{left_means}
 use Rattle.ep_unroll.proofs.WholeSteps.{left_whole}
-use Rattle.ep_unroll.specs.Blocks.{indices_in}
 use Rattle.ep_unroll.proofs.lefts.left_matrix.Goals as goal
 
 pub returns-then-len-eq0 : goal.returns-then-len-eq0

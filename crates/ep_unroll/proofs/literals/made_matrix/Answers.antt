@@ -1,5 +1,6 @@
 use Rattle.std.proofs.Common.{ap, sym, ◌∙◌}
-use Rattle.ep_tree.specs.Evaluation.{index_values, on_both}
+use Rattle.ep_base.specs.Options.{on_both}
+use Rattle.ep_tree.specs.Evaluation.{index_values}
 use Rattle.ep_tree.specs.Values.{all_defined, with_indices}
 use Rattle.ep_eval.specs.Scopes.{mode_in}
 use Rattle.ep_eval.specs.Literals.{index_at}

@@ -3,11 +3,11 @@ use Rattle.std.specs.Prelude.{option_map}
 use Rattle.std.proofs.lemmas.Int.{ints, to_z-of_z}
 use Rattle.ep_eval.proofs.WalkSteps.{no_runs}
 use Rattle.ep_eval.specs.Walking.{IsWalkBehind, before_rest, numbers_left}
-use Rattle.ep_tree.specs.Values.{read_value}
+use Rattle.ep_tree.specs.Values.{index_in, indices_in, read_value}
 use Rattle.ep_unroll.proofs.ColumnSteps.{matrix_terms, nothing_of_number, parts_begin, parts_done, parts_more}
 use Rattle.ep_unroll.proofs.FormValues.{if_ok}
 use Rattle.ep_unroll.proofs.PartSteps.{inner_left, nothing_left}
-use Rattle.ep_unroll.specs.Blocks.{IsWorth, block_under, index_in, indices_in}
+use Rattle.ep_unroll.specs.Blocks.{IsWorth, block_under}
 use Rattle.ep_unroll.specs.Meanings.{AreTerms}
 use Rattle.ep_unroll.specs.Readings.{cells_value}
 use Rattle.ep_unroll.specs.declared.unrolled.Unrolled.{Fixed}

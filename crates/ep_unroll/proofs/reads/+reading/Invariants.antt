@@ -1,7 +1,7 @@
 use Rattle.std.proofs.Common.{◌+◌, ◌*◌, length}
 use Rattle.ep_eval.specs.Walking.{IsWalk, numbers_left}
+use Rattle.ep_tree.specs.Values.{indices_in}
 use Rattle.ep_unroll.proofs.ColumnSteps.{PartsSoFar}
-use Rattle.ep_unroll.specs.Blocks.{indices_in}
 use Rattle.ep_unroll.proofs.reads.+reading.Given as goal
 
 abbrev pub decreases-block_left : goal.decreases-block_left

@@ -2,8 +2,8 @@ use Rattle.std.proofs.Common.{ap, ◌∙◌, sym, Some, arith, w64}
 use Rattle.std.proofs.lemmas.Int.{ints, to_z-of_z}
 use Rattle.ep_eval.specs.Scopes.{mode_in}
 use Rattle.ep_tree.specs.Evaluation.{number_in}
+use Rattle.ep_tree.specs.Values.{index_in}
 use Rattle.ep_unroll.proofs.PartSteps.{every_index, no_number, some_index}
-use Rattle.ep_unroll.specs.Blocks.{index_in}
 use Rattle.ep_unroll.proofs.reads.fixed_index.Goals as goal
 
 pub returns-in-Some-number_of : goal.returns-in-Some-number_of

@@ -1,8 +1,8 @@
 use Rattle.std.proofs.Common.{ap, ◌∙◌}
 use Rattle.std.specs.Prelude.{option_map}
 use Rattle.ep_eval.specs.Scopes.{mode_in}
+use Rattle.ep_tree.specs.Values.{index_in}
 use Rattle.ep_unroll.proofs.PartSteps.{indices_all, indices_begin, indices_more, indices_none}
-use Rattle.ep_unroll.specs.Blocks.{index_in}
 use Rattle.ep_unroll.proofs.reads.fixed_indices.Goals as goal
 
 pub loop-index-init : goal.loop-index-init

@@ -1,10 +1,10 @@
 use Rattle.std.proofs.Common.{None, Some, ap, length, refl, sym, ◌∙◌}
 use Rattle.std.specs.Prelude.{option_map}
 use Rattle.ep_eval.specs.Scopes.{env_in, mode_in}
-use Rattle.ep_tree.specs.Values.{read_value}
+use Rattle.ep_tree.specs.Values.{indices_in, read_value}
 use Rattle.ep_tree.specs.Views.{expr_tree, indices_of}
 use Rattle.ep_unroll.proofs.PartSteps.{read_done}
-use Rattle.ep_unroll.specs.Blocks.{IsWorth, indices_in}
+use Rattle.ep_unroll.specs.Blocks.{IsWorth}
 use Rattle.ep_unroll.specs.Firsts.{numbering_of}
 use Rattle.ep_unroll.specs.Meanings.{AreTerms}
 use Rattle.ep_unroll.proofs.reads.read_named.Goals as goal

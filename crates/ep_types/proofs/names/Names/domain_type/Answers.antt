@@ -1,5 +1,6 @@
 use Rattle.std.proofs.Common.{Some, option_map, sym, ap, ◌∙◌}
-use Rattle.ep_types.proofs.NameSteps.{domain_domain, domain_none, domain_value, ill_typed_is, unknown_is}
+use Rattle.ep_types_rules.proofs.RuleSteps.{ill_typed_is}
+use Rattle.ep_types.proofs.NameSteps.{domain_domain, domain_none, domain_value, unknown_is}
 use Rattle.ep_types.specs.Meanings.{names_context, meaning_of}
 use Rattle.ep_types.proofs.names.Names.domain_type.Goals as goal
 

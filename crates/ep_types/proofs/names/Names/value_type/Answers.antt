@@ -1,5 +1,6 @@
 use Rattle.std.proofs.Common.{Some, option_map, sym, ap, ◌∙◌}
-use Rattle.ep_types.proofs.NameSteps.{ill_typed_is, named_domain, named_none, named_value, says_same, unknown_is}
+use Rattle.ep_types_rules.proofs.RuleSteps.{ill_typed_is, says_same}
+use Rattle.ep_types.proofs.NameSteps.{named_domain, named_none, named_value, unknown_is}
 use Rattle.ep_types.specs.Meanings.{names_context, meaning_of}
 use Rattle.ep_types.proofs.names.Names.value_type.Goals as goal
 

@@ -1,8 +1,0 @@
-use Rattle.std.proofs.Common.{◌∙◌, pos, ◌+ℤ◌, ◌-ℤ◌, sym, arith}
-use Rattle.std.proofs.lemmas.Int.{ints}
-use Rattle.ep_instance.proofs.Counting.{length_of_run, or_zero_is}
-use Rattle.ep_instance.proofs.listing.run_length.Goals as goal
-
-pub returns-clause-length : goal.returns-clause-length
-returns-clause-length c =
-    sym (length_of_run c.args.run ∙ or_zero_is ((c.args.run.hi +ℤ pos 1) -ℤ c.args.run.lo) _ (omega (arith, ints)))
