@@ -7,7 +7,7 @@ use Rattle.std.specs.Prelude.{ℕ, suc, Bool, true, false, ◌&&◌, ◌||◌, L
 use Rattle.std.specs.List.{list_any}
 use Prim.Native.String.{String}
 use Rattle.ep_base.specs.TokenTexts.{continues_name, is_symbol, is_word, kind_of}
-use Rattle.ep_base.specs.Tokens.{is_blank, is_line_end}
+use Rattle.ep_base.specs.Tokens.{is_blank, place_after}
 use Rattle.ep_base.specs.declared.places.Place.{Place}
 use Rattle.ep_parse_parts.specs.DomainReaders.{another_index_domain, another_operation, any_domain_from, as_domains, as_ranges, domain_at_level, domain_begun_from, domain_open_from, domain_part_from, end_from, index_domain_behind, matrix_follows, matrix_from, matrix_head_from, operations_from, range_from, ranges_from}
 use Rattle.ep_parse_parts.specs.OperandReaders.{another_generator, as_generators, as_trees, begun_from, bracket_from, call_from, call_of_three_from, call_of_two_from, colon_comes, comprehension_from, conditions_from, domain_next, expression_next, generator_from, index_domain_from, literal_from, open_from, opened_from, operand_from, quantifier_from, sum_from, table_from}
@@ -54,16 +54,11 @@ with_byte true _ place byte words = words
 with_byte false true place byte (first ∷ words) = (place, byte ∷ first.1) ∷ words
 with_byte false _ place byte words = (place, byte ∷ []) ∷ words
 
--- the place behind a byte that ends a line or doesn't
-abbrev place_behind : Bool → Place → Place
-place_behind true place = record { line = suc place.line; column = 1 }
-place_behind false place = record { line = place.line; column = suc place.column }
-
 -- the words of bytes that stand from a place on
 abbrev words_from : Place → List ℕ → Words
 words_from place [] = []
 words_from place (byte ∷ bytes) =
-    with_byte (is_blank byte) (joins_first byte bytes) place byte (words_from (place_behind (is_line_end byte) place) bytes)
+    with_byte (is_blank byte) (joins_first byte bytes) place byte (words_from (place_after place byte) bytes)
 
 -- the tokens of bytes
 abbrev pub lexed : List ℕ → List Lexeme
