@@ -9,7 +9,7 @@ use Rattle.ep_base.specs.Numbers.{has_number}
 use Rattle.ep_base.specs.Options.{on_both}
 use Rattle.ep_base.specs.declared.operators.Sense.{Sense}
 use Rattle.ep_base.specs.declared.places.Place.{Place}
-use Rattle.ep_tree.proofs.ClosedDomains.{some_is}
+use Rattle.ep_base.proofs.Small.{some_is}
 use Rattle.ep_tree.proofs.Opened.{the_language}
 use Rattle.ep_tree.specs.Binding.{Find, Instance}
 use Rattle.ep_tree.specs.Environments.{has_value}

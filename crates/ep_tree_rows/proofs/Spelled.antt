@@ -17,7 +17,7 @@ use Rattle.ep_parse_parts.specs.TreeReaders.{expr_from, some_domain_from}
 use Rattle.ep_parse_model.proofs.Shrinking.{full_sound}
 use Rattle.ep_parse_model.proofs.TextsSound.{model_sound, params_sound}
 use Rattle.ep_parse_model.specs.TextReaders.{full, model_from, params_from}
-use Rattle.ep_tree.proofs.ClosedDomains.{some_is}
+use Rattle.ep_base.proofs.Small.{some_is}
 use Rattle.ep_tree.specs.Heights.{height}
 use Rattle.ep_tree.specs.Phrases.{Lexeme, Phrase}
 use Rattle.ep_tree.specs.Reading.{ExprFault, ExprTooHigh, MOST_HEIGHT, ReadsExpr, ReadsWhole}
