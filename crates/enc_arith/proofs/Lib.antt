@@ -1,5 +1,3 @@
-mod Quotients
-mod Powers
 mod Found
 mod Cases
 mod Entries

@@ -10,7 +10,7 @@ ghost use Rattle.enc_arith.specs.Extremes.{all_compare, any_compares, extreme_of
 ghost use Rattle.enc_arith.specs.Saying.{IsReady, NamesIn, or_is_not, says};
 ghost use Rattle.enc_var.specs.Layouts.{literals_at};
 
-use crate::sides::{Side, contrary};
+use crate::sides::Side;
 use crate::telling::add_more;
 use cnf_core::Formula;
 use enc_atoms::{Atom, add_clause};

@@ -3,7 +3,8 @@
 ghost use Rattle.std.specs.Prelude.{◌≡◌};
 ghost use Rattle.enc_arith.specs.Finding.{Finds};
 
-use crate::numbers::{near, nth_power, quotient, remainder, steps};
+use crate::numbers::{quotient, remainder};
+use ep_numbers::{near_number, nth_power};
 
 /// A function of one number. One of two numbers is given its first one.
 #[derive(Clone, Copy)]
@@ -30,11 +31,11 @@ impl Function {
     {
         match self {
             Function::Same => Some(number),
-            Function::Absolute => near(i128::from(number).abs()),
-            Function::Power(exponent) => nth_power(number, steps(number, exponent)),
-            Function::Product(factor) => near(i128::from(factor) * i128::from(number)),
-            Function::Quotient(over) => near(quotient(over, number)),
-            Function::Remainder(over) => near(remainder(over, number)),
+            Function::Absolute => near_number(i128::from(number).abs()),
+            Function::Power(exponent) => nth_power(number, exponent),
+            Function::Product(factor) => near_number(i128::from(factor) * i128::from(number)),
+            Function::Quotient(over) => near_number(quotient(over, number)),
+            Function::Remainder(over) => near_number(remainder(over, number)),
         }
     }
 }

@@ -4,6 +4,7 @@
 use Rattle.std.specs.Prelude.{ℕ, zero, suc, ◌+◌, ◌*◌, min, ◌&&◌, Bool, List, [], ◌∷◌, map, ℤ, pos, negsuc, ◌+ℤ◌, ◌-ℤ◌, ◌*ℤ◌, ◌≤ℤ◌, neg_ℤ, if◌then◌else◌, int_le, Some, None, fold, Option, unwrap_or}
 use Rattle.std.specs.Int.{int_max, int_min}
 use Rattle.ep_base.specs.Numbers.{absolute_of, greatest_of, least_of, nth_power, sum_of}
+use Rattle.ep_base.specs.Reads.{IsWithinNumbers}
 use Rattle.ep_base.specs.Runs.{or_zero}
 
 -- the whole numbers from the lower end to the upper end
@@ -62,6 +63,10 @@ sum_interval is = from_to (sum_of (lows is)) (sum_of (highs is))
 -- x * y: from the least to the greatest of the four products of ends
 unfoldable pub product_interval : Interval → Interval → Interval
 product_interval i j = spanned ((i.low *ℤ j.low) ∷ (i.low *ℤ j.high) ∷ (i.high *ℤ j.low) ∷ (i.high *ℤ j.high) ∷ [])
+
+-- the numbers of an interval, each multiplied by a coefficient
+unfoldable pub scaled : ℤ → Interval → Interval
+scaled a i = product_interval (only a) i
 
 -- a product of many parts: from [1, 1], part by part
 unfoldable pub products_interval : List Interval → Interval
@@ -122,3 +127,8 @@ hull is = from_to (least_or_zero (lows is)) (greatest_or_zero (highs is))
 -- order literals for each partial sum, or binary adders, whichever is less.
 unfoldable pub sum_cost : ℕ → ℕ → ℕ → ℕ
 sum_cost width spreads parts = min (width * spreads) (8 * (width + spreads) + 1024 * parts)
+
+-- an interval lies within the numbers that the stages compute with
+pub record IsWithinReach (i : Interval) : Type 0 where
+  pub low : IsWithinNumbers i.low
+  pub high : IsWithinNumbers i.high

@@ -1,8 +1,8 @@
 -- Reading a list by keys, and operations that are given a value for all numbers.
 --
 -- That an operation without a value stands for 0, and a read for its first part, is this project's own choice.
-use Rattle.std.specs.Prelude.{Bool, true, false, not, ◌≤ℤ◌, neg_ℤ, List, [], ◌∷◌, map, ℤ, pos, ◌*ℤ◌, Option, Some, unwrap_or, option_and_then, option_map, position, slice_get}
-use Rattle.ep_base.specs.Numbers.{quotient, remainder, same_numbers, sum_of}
+use Rattle.std.specs.Prelude.{Bool, true, false, not, ◌≤ℤ◌, neg_ℤ, List, [], ◌∷◌, map, ℤ, pos, ◌*ℤ◌, Option, Some, unwrap_or, option_and_then, option_map, position, slice_get, int_lt}
+use Rattle.ep_base.specs.Numbers.{absolute_of, quotient, remainder, same_numbers, sum_of}
 
 -- the part at the place of the first key that has these indices; none where there is no such key or no such part
 unfoldable pub picked : List ℤ → List (List ℤ) → List ℤ → Option ℤ
@@ -34,13 +34,17 @@ unfoldable pub all_there : List (Option ℤ) → Option (List ℤ)
 all_there [] = Some []
 all_there (x ∷ xs) = option_and_then (λ n. option_map (λ ns. n ∷ ns) (all_there xs)) x
 
--- the greatest number that the stages behind the measures compute with, which is 2 ^ 40
+-- the greatest absolute value of a number, and the greatest number that the stages compute with, which is 2 ^ 40
 abbrev pub MOST_NUMBER : ℤ
 MOST_NUMBER = pos 1099511627776
 
 -- the number is no farther from 0 than the greatest one
 abbrev pub IsWithinNumbers : ℤ → Type 0
 IsWithinNumbers n = (neg_ℤ MOST_NUMBER ≤ℤ n) × (n ≤ℤ MOST_NUMBER)
+
+-- whether a number is past the limit, on either side of 0
+unfoldable pub is_too_far : ℤ → Bool
+is_too_far n = int_lt MOST_NUMBER (absolute_of n)
 
 -- whether two truth values are one
 unfoldable pub same_bool : Bool → Bool → Bool

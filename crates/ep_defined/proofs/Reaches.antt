@@ -4,7 +4,7 @@ use Rattle.std.specs.List.{All, Contains}
 use Rattle.std.proofs.lemmas.List.{get_or_append_left}
 use Rattle.std.proofs.lemmas.List.Elements.{All-contains}
 use Rattle.std.proofs.lemmas.Option.{slice_get_within, same_Some, get_or_from_slice_get}
-use Rattle.ep_base.specs.Intervals.{Interval, truth_interval}
+use Rattle.ep_base.specs.Intervals.{Interval, IsWithinReach, truth_interval}
 use Rattle.ep_base.specs.Reads.{IsWithinNumbers}
 use Rattle.ep_defined.specs.Growing.{IsNodeAt}
 use Rattle.ep_defined.specs.Images.{IsConjunction, IsImageBy, IsWholeImage, guards_in, image_kind, made_safe, over_totals, total_at}
@@ -14,7 +14,7 @@ use Rattle.ep_defined.specs.declared.kinds.Kind.{Kind}
 use Rattle.ep_defined.proofs.KindSteps.{safe_parts}
 use Rattle.ep_ground.proofs.SameParts.{reach_as, weights_same}
 use Rattle.ep_ground.proofs.TermLaws.{reach_is, reach_more}
-use Rattle.ep_ground.specs.Bounds.{IsWithinReach, node_reach, term_reach}
+use Rattle.ep_ground.specs.Bounds.{node_reach, term_reach}
 use Rattle.ep_ground.specs.Grounds.{LeadsTo, itself, by_part}
 use Rattle.ep_ground.specs.Nodes.{GroundNode, constant, undefined, cell, sum, product, quotient, remainder, power, absolute, least, greatest, pick, whole, safe_quotient, safe_remainder, safe_pick, compare, lex, member, negation, all_of, any_of, same_truth, all_different, counts, at_least, at_most, table, parts_of, coefficients_of}
 use Rattle.ep_ground.specs.SameTrees.{with_parts}

@@ -6,6 +6,7 @@ use Rattle.std.proofs.lemmas.List.{length-append, length_push, get_or_append_lef
 use Rattle.std.proofs.lemmas.List.Elements.{All-contains, All-nil, All-append, All-get_or, Contains-append_cases, Contains-append_right}
 use Rattle.std.proofs.lemmas.Option.{slice_get_within, get_or_from_slice_get}
 use Rattle.ep_base.specs.Reads.{IsWithinNumbers}
+use Rattle.ep_base.specs.Intervals.{IsWithinReach}
 use Rattle.ep_base.specs.declared.operators.CompareOp.{CompareOp}
 use Rattle.ep_defined.specs.Growing.{Grows, IsNodeAt, IsSafeOver}
 use Rattle.ep_defined.specs.Images.{IsConjunction, IsDivisorTest, IsKeyTest, IsImage, IsImageBy, IsTestedImage, IsWholeImage, StandsIn, guards_in, image_at, image_kind, made_safe, over_totals, nowhere, total_at}
@@ -17,7 +18,7 @@ use Rattle.ep_defined.proofs.Parts.{of_cons, none_there}
 use Rattle.ep_defined.proofs.Reaches.{bounded_more, bounded_node, bounded_part, image_reach, is_more, totals_reach, truth_reach, truth_weights, weights_with}
 use Rattle.ep_ground.proofs.TermLaws.{reach_is, reach_more, value_is, value_more}
 use Rattle.ep_ground.proofs.SameParts.{parts_with}
-use Rattle.ep_ground.specs.Bounds.{IsWithinReach, node_reach, term_reach}
+use Rattle.ep_ground.specs.Bounds.{node_reach, term_reach}
 use Rattle.ep_ground.specs.Grounds.{StandsOver, itself}
 use Rattle.ep_ground.specs.Nodes.{GroundNode, constant, undefined, quotient, remainder, pick, whole, cell, sum, product, power, absolute, least, greatest, safe_quotient, safe_remainder, safe_pick, compare, lex, member, negation, all_of, any_of, same_truth, all_different, counts, at_least, at_most, table, parts_of, coefficients_of}
 use Rattle.ep_ground.specs.Terms.{PartsStandBefore, node_value, term_value}

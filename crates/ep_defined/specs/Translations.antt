@@ -4,10 +4,11 @@ use Rattle.std.specs.List.{All, flat_map}
 use Rattle.ep_base.specs.declared.operators.Sense.{Sense}
 use Rattle.ep_base.specs.Numbers.{of_bool}
 use Rattle.ep_base.specs.Reads.{IsWithinNumbers}
+use Rattle.ep_base.specs.Intervals.{IsWithinReach}
 use Rattle.ep_defined.specs.Growing.{IsNodeAt, IsSafeOver}
 use Rattle.ep_defined.specs.Images.{StandsIn, image_at, total_at}
 use Rattle.ep_defined.specs.declared.images.Image.{Image}
-use Rattle.ep_ground.specs.Bounds.{IsWithinReach, term_reach}
+use Rattle.ep_ground.specs.Bounds.{term_reach}
 use Rattle.ep_ground.specs.Grounds.{GroundState, LeadsTo}
 use Rattle.ep_ground.specs.Nodes.{GroundNode, constant, undefined, coefficients_of}
 use Rattle.ep_ground.specs.Terms.{PartsStandBefore, term_value}

@@ -1,9 +1,9 @@
 -- What errors of checking and binding say.
 use Rattle.std.proofs.Common.{List, Ok, Err, Result, Contains, inl, inr, refl}
 use Rattle.ep_base.specs.declared.operators.Limit.{Limit}
-use Rattle.ep_instance.specs.Refusals.{RefusesBinding}
-use Rattle.ep_instance.specs.declared.errors.BindError.{BindError}
-use Rattle.ep_instance.specs.declared.errors.Source.{Source}
+use Rattle.ep_instance_parts.specs.Refusals.{RefusesBinding}
+use Rattle.ep_instance_parts.specs.declared.errors.BindError.{BindError}
+use Rattle.ep_instance_parts.specs.declared.errors.Source.{Source}
 use Rattle.ep_print.specs.declared.refusals.Refusal.{Refusal}
 use Rattle.ep_print.specs.declared.refusals.TextFile.{TextFile}
 use Rattle.ep_tree.specs.Binding.{Refusal as BindRefusal, missing_parameter, model_text, outside_domain, over_limit, parameter_text, solution_text, undefined_at, where_false}

@@ -11,9 +11,9 @@ use Rattle.log_check.specs.declared.Verdict.{Verdict}
 use Rattle.log_check.specs.declared.Verdict.TheVariants.{BadStep, NoEmptyClause, Verified}
 use Rattle.ep_base.specs.Outside.{Held}
 use Rattle.ep_base.specs.declared.errors.Memory.{Memory}
-use Rattle.ep_instance.specs.Judgements.{FitsIfShaped}
-use Rattle.ep_instance.specs.Refusals.{RefusesBinding, ShapeAnswers}
-use Rattle.ep_instance.specs.declared.errors.BindError.{BindError}
+use Rattle.ep_instance_parts.specs.Refusals.{RefusesBinding}
+use Rattle.ep_instance_parts.specs.declared.errors.BindError.{BindError}
+use Rattle.ep_instance.specs.Judgements.{FitsIfShaped, ShapeAnswers}
 use Rattle.ep_instance.specs.declared.judging.Shaped.{Shaped as CodeShaped}
 use Rattle.ep_print.specs.Refusals.{refusal_text}
 use Rattle.ep_print.specs.declared.refusals.Refusal.{Refusal}

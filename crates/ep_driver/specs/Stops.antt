@@ -6,8 +6,8 @@ use Rattle.ep_print.specs.declared.refusals.Refusal.{Refusal}
 use Rattle.ep_print.specs.declared.refusals.TextFile.{TextFile}
 use Rattle.ep_driver.specs.declared.stops.Stop.{Stop}
 use Rattle.ep_types_rules.specs.declared.errors.StaticError.{StaticError}
-use Rattle.ep_instance.specs.declared.errors.BindError.{BindError}
-use Rattle.ep_instance.specs.declared.errors.Source.{Source}
+use Rattle.ep_instance_parts.specs.declared.errors.BindError.{BindError}
+use Rattle.ep_instance_parts.specs.declared.errors.Source.{Source}
 
 -- an error of reading a text
 abbrev pub text_stop : TextFile → TextError → Stop

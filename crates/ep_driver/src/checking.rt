@@ -8,7 +8,7 @@ ghost use Rattle.ep_tree.specs.Faults.{params_faults, text_faults};
 ghost use Rattle.ep_tree.specs.Solutions.{instance_limits};
 ghost use Rattle.ep_tree.specs.Views.{model_tree, params_tree};
 ghost use Rattle.ep_types.specs.Texts.{typed_params_tree, typed_tree};
-ghost use Rattle.ep_instance.specs.Instances.{plain_instance, instance_mode};
+ghost use Rattle.ep_instance_parts.specs.Instances.{plain_instance, instance_mode};
 ghost use Rattle.ep_print.specs.declared.refusals.TextFile.{TextFile as TextFileValue};
 ghost use Rattle.ep_driver.specs.Outcomes.{bind_refusals, bound_outcome, fault_refusals, instance_of};
 ghost use Rattle.ep_driver.specs.Steps.{Passes, Tells};

@@ -6,7 +6,7 @@ ghost use Rattle.ep_tree.specs.Closed.{IsClosed};
 ghost use Rattle.ep_tree.specs.Solutions.{Fits, Found, instance_limits};
 ghost use Rattle.ep_tree.specs.Views.{assigned};
 ghost use Rattle.ep_types.specs.Texts.{typed_params_tree};
-ghost use Rattle.ep_instance.specs.Instances.{plain_instance, instance_mode};
+ghost use Rattle.ep_instance_parts.specs.Instances.{plain_instance, instance_mode};
 ghost use Rattle.ep_instance.specs.Judgements.{judgement_of};
 ghost use Rattle.ep_solve.specs.Right.{empty_log};
 ghost use Rattle.ep_driver.specs.Answers.{judgement_status, judgement_text, wrong_shape_text};

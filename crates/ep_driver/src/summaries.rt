@@ -6,7 +6,7 @@ ghost use Rattle.std.specs.List.{All};
 ghost use Rattle.ep_base.specs.Reads.{IsWithinNumbers};
 ghost use Rattle.ep_tree.specs.Closed.{IsClosed};
 ghost use Rattle.ep_tree.specs.Solutions.{instance_limits};
-ghost use Rattle.ep_instance.specs.Instances.{plain_instance, instance_mode};
+ghost use Rattle.ep_instance_parts.specs.Instances.{plain_instance, instance_mode};
 ghost use Rattle.ep_print.specs.Answers.{answer_tree, unknown_text};
 ghost use Rattle.ep_gen.specs.Hints.{order_of};
 ghost use Rattle.ep_solve.specs.Right.{empty_log};

@@ -6,10 +6,11 @@ use Rattle.std.proofs.lemmas.List.{length-append}
 use Rattle.std.proofs.lemmas.Grind.{flat_map-append}
 use Rattle.std.proofs.lemmas.List.Elements.{Contains-append_left, Contains-append_right, Contains-append_cases}
 use Rattle.std.proofs.lemmas.Bool.{or_from, or_left, or_right}
+use Rattle.ep_base.specs.Reads.{is_too_far}
 use Rattle.ep_base.specs.declared.operators.Limit.{Limit as LimitName}
 use Rattle.ep_tree.specs.Environments.{Env}
 use Rattle.ep_tree.specs.Evaluation.{domain_values, evaluate}
-use Rattle.ep_tree.specs.Limits.{MOST_SIZE, counted_domain, counted_value, is_too_far, limits_of_values, numbers_at, within}
+use Rattle.ep_tree.specs.Limits.{MOST_SIZE, counted_domain, counted_value, limits_of_values, numbers_at, within}
 use Rattle.ep_tree.specs.Values.{ValueTree}
 use Rattle.ep_tree.specs.Measures.{Met, a_node, met, met_domain}
 use Rattle.ep_tree.specs.Trees.{DomainTree, ExprTree}

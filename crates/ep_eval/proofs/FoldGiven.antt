@@ -4,8 +4,9 @@ use Rattle.std.proofs.lemmas.Bool.{or_right}
 use Rattle.std.specs.Prelude.{Option, Some, None, Result, Ok, Err, ◌||◌, option_to_list}
 use Rattle.std.specs.List.{list_any}
 use Rattle.ep_base.specs.Numbers.{all_one, any_one, greatest_of, least_of, product_of, sum_of}
+use Rattle.ep_base.specs.Reads.{is_too_far}
 use Rattle.ep_tree.specs.Evaluation.{folded_value, number_in, number_value, truth_in}
-use Rattle.ep_tree.specs.Limits.{is_too_far, products_from}
+use Rattle.ep_tree.specs.Limits.{products_from}
 use Rattle.ep_tree.specs.Values.{ValueTree, single}
 use Rattle.ep_tree.specs.declared.syntax.FoldOp.{FoldOp}
 use Rattle.ep_tree.specs.declared.values.Mode.{Mode}

@@ -2,12 +2,13 @@
 use Rattle.std.proofs.Common.{◌≡◌, inl, inr, ℕ, ◌≤◌, List, [], ◌∷◌, ◌++◌, length, arith, refl, sym, ap, subst, ◌∙◌}
 use Rattle.std.specs.Prelude.{Option, Result, Ok, Err, IfOk, IfErr}
 use Rattle.std.specs.List.{list_any}
+use Rattle.ep_base.specs.Reads.{is_too_far}
 use Rattle.ep_base.specs.declared.operators.CompareOp.{CompareOp}
 use Rattle.ep_base.specs.declared.operators.LexOp.{LexOp}
 use Rattle.ep_base.specs.declared.places.Place.{Place}
 use Rattle.ep_tree.specs.Environments.{Env}
 use Rattle.ep_tree.specs.Evaluation.{evaluate}
-use Rattle.ep_tree.specs.Limits.{is_too_far, limits_of_values, numbers_at}
+use Rattle.ep_tree.specs.Limits.{limits_of_values, numbers_at}
 use Rattle.ep_tree.specs.Measures.{Met, met, met_all, met_names, met_terms}
 use Rattle.ep_tree.specs.Trees.{ExprTree, ExprTrees, Terms, chain, all_of, any_of, absolute, all_different, binary, factorial, flatten, in_set, lex, minus, table, compare, group, named, negation, number, quantified, to_int, truth}
 use Rattle.ep_tree.specs.Values.{ValueTree}

@@ -7,12 +7,13 @@ use Rattle.std.proofs.lemmas.List.{length-append, map-append}
 use Rattle.std.proofs.lemmas.List.Elements.{filter-append}
 use Rattle.std.proofs.lemmas.List.Folds.{list_all-append}
 use Rattle.ep_base.specs.Options.{map_both, on_both}
+use Rattle.ep_base.specs.Reads.{is_too_far}
 use Rattle.ep_base.specs.declared.names.Name.{Name}
 use Rattle.ep_base.specs.declared.places.Place.{Place}
 use Rattle.ep_tree.proofs.EvaluationEquations.{evaluate-comprehension}
 use Rattle.ep_tree.specs.Environments.{Env, scalar_in, with_number}
 use Rattle.ep_tree.specs.Evaluation.{all_hold, all_joined, all_true, are_told, chosen, domain_values, domains_defined, evaluate, holding, index_values, matrix_value, numbered, over_names, reached, standing_for, values_of}
-use Rattle.ep_tree.specs.Limits.{MOST_SIZE, is_too_far, limits_of_values, numbers_at}
+use Rattle.ep_tree.specs.Limits.{MOST_SIZE, limits_of_values, numbers_at}
 use Rattle.ep_tree.specs.Measures.{Met, a_generator, met, met_all, met_domain, met_generators, met_index, met_names}
 use Rattle.ep_tree.specs.Trees.{DomainTree, ExprTree, ExprTrees, Generators, IndexDomain, comprehension, generator_and, no_generators}
 use Rattle.ep_tree.specs.Values.{ValueTree, all_defined, with_indices}

@@ -4,12 +4,13 @@ use Rattle.std.specs.Prelude.{Contains, IfErr, IfOk, OnOk, Option, Result, Ok, E
 use Rattle.std.proofs.lemmas.Int.{ints}
 use Rattle.std.proofs.lemmas.List.{append-nil}
 use Rattle.ep_base.specs.Numbers.{sum_of}
+use Rattle.ep_base.specs.Reads.{is_too_far}
 use Rattle.ep_base.specs.declared.names.Name.{Name}
 use Rattle.ep_base.specs.declared.operators.Limit.{Limit as LimitName}
 use Rattle.ep_base.specs.declared.places.Place.{Place}
 use Rattle.ep_tree.specs.Environments.{Env, scalar_in, with_number}
 use Rattle.ep_tree.specs.Evaluation.{all_numbers, domain_values, evaluate, number_in, over_names, quantified_value, signed, standing_for, truth_of}
-use Rattle.ep_tree.specs.Limits.{MOST_SIZE, is_too_far, limits_of_values, numbers_at}
+use Rattle.ep_tree.specs.Limits.{MOST_SIZE, limits_of_values, numbers_at}
 use Rattle.ep_tree.specs.Measures.{Met, met, met_domain, met_names}
 use Rattle.ep_tree.specs.Trees.{DomainTree, ExprTree, quantified}
 use Rattle.ep_tree.specs.Values.{ValueTree, all_defined}

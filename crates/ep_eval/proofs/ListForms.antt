@@ -3,10 +3,11 @@ use Rattle.std.proofs.Common.{◌≡◌, inl, inr, ℕ, Bool, true, false, List,
 use Rattle.std.proofs.lemmas.Bool.{or_left}
 use Rattle.std.specs.Prelude.{Option, Result, Ok, Err, IfOk, IfErr, ◌||◌, option_to_list, unwrap_or}
 use Rattle.std.specs.List.{list_any}
+use Rattle.ep_base.specs.Reads.{is_too_far}
 use Rattle.ep_base.specs.declared.places.Place.{Place}
 use Rattle.ep_tree.specs.Environments.{Env}
 use Rattle.ep_tree.specs.Evaluation.{evaluate, folded_value, number_in, scalars_in}
-use Rattle.ep_tree.specs.Limits.{is_too_far, limits_of_values, numbers_at, products_from}
+use Rattle.ep_tree.specs.Limits.{limits_of_values, numbers_at, products_from}
 use Rattle.ep_tree.specs.Measures.{Met, a_node, met}
 use Rattle.ep_tree.specs.Trees.{ExprTree, at_least, at_most, folded, gcc}
 use Rattle.ep_tree.specs.Values.{ValueTree}

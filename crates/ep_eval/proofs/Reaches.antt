@@ -11,17 +11,7 @@ use Rattle.ep_tree.specs.Values.{single}
 use Rattle.ep_eval.specs.Counting.{is_far_value}
 use Rattle.std.proofs.lemmas.Int.{ints, to_z-of_z}
 use Rattle.ep_base.specs.Numbers.{absolute_of}
-use Rattle.ep_tree.specs.Limits.{is_too_far}
-
-pub far_above : (n : ℤ) → int_lt (pos 1099511627776) n ≡ true → int_lt (pos 1099511627776) n ≡ is_too_far n
-unfolding is_too_far absolute_of
-far_above (pos n) h = refl
-far_above (negsuc n) h = absurd cc
-
-pub far_below : (n : ℤ) → int_lt (pos 1099511627776) n ≡ false → int_lt n (negsuc 1099511627775) ≡ is_too_far n
-unfolding is_too_far absolute_of
-far_below (pos n) h = grind (arith, ints)
-far_below (negsuc n) h = grind (arith, ints)
+use Rattle.ep_base.specs.Reads.{is_too_far}
 
 same_number : (m n : ℕ) → nat_eq m n ≡ true → m ≡ n
 same_number m n h = grind arith
@@ -34,18 +24,7 @@ is_one_word n h =
     (λ e. sym (to_z-of_z w64 n h) ∙ ap (to_z w64) (same_number (of_z w64 n) 1 e), λ e. subst (λ x. nat_eq (of_z w64 x) 1 ≡ true) (sym e) refl)
     (Decides-int_eq n (pos 1))
 
--- a number that is near is a word
-pub near_fits : (n : ℤ) → is_too_far n ≡ false → SFits w64 n
-unfolding is_too_far absolute_of
-near_fits (pos n) h = grind (arith, ints)
-near_fits (negsuc n) h = grind (arith, ints)
-
 -- a number alone is too far where it is
 pub far_single : (n : ℤ) → is_too_far n ≡ true → is_far_value (Some (single n)) ≡ true
 unfolding number_in
 far_single n h = ap (λ b. list_any (λ x. x) (b ∷ [])) h
-
-pub absolute_is : (n : ℤ) → pos (nat_abs n) ≡ absolute_of n
-unfolding absolute_of
-absolute_is (pos n) = refl
-absolute_is (negsuc n) = refl

@@ -1,10 +1,11 @@
 -- What evaluation has met so far, and what refuses it.
 use Rattle.std.specs.Prelude.{◌≡◌, ◌⊎◌, ◌&&◌, ◌||◌, ℤ, nat_abs, ℕ, ◌+◌, ◌≤◌, Bool, true, false, Result, Ok, Err, List, [], ◌∷◌, length, flat_map, Option, Some, None, option_to_list, Contains}
 use Rattle.std.specs.List.{list_any}
+use Rattle.ep_base.specs.Reads.{is_too_far}
 use Rattle.ep_base.specs.declared.operators.Limit.{Limit as LimitName}
 use Rattle.ep_tree.specs.Environments.{Env}
 use Rattle.ep_tree.specs.Evaluation.{all_true, any_true, evaluate, number_in, truth_in}
-use Rattle.ep_tree.specs.Limits.{MOST_SIZE, is_too_far, limits_of_values, numbers_at}
+use Rattle.ep_tree.specs.Limits.{MOST_SIZE, limits_of_values, numbers_at}
 use Rattle.ep_tree.specs.Measures.{Met, a_node, met}
 use Rattle.ep_tree.specs.Trees.{ExprTree}
 use Rattle.ep_tree.specs.Values.{ValueTree}

@@ -1,9 +1,10 @@
 -- What folding a matrix gives, where the products of its first parts may be too far from 0.
 use Rattle.std.specs.Prelude.{◌≡◌, ℤ, pos, true, false, Result, Ok, Err, List, ◌++◌, Option, option_to_list, unwrap_or, []}
 use Rattle.std.specs.List.{list_any}
+use Rattle.ep_base.specs.Reads.{is_too_far}
 use Rattle.ep_base.specs.declared.operators.Limit.{Limit as LimitName}
 use Rattle.ep_tree.specs.Evaluation.{folded_value, number_in}
-use Rattle.ep_tree.specs.Limits.{is_too_far, products_from}
+use Rattle.ep_tree.specs.Limits.{products_from}
 use Rattle.ep_tree.specs.Values.{ValueTree}
 use Rattle.ep_tree.specs.declared.syntax.FoldOp.{FoldOp}
 use Rattle.ep_tree.specs.declared.values.Mode.{Mode}

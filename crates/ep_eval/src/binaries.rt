@@ -13,6 +13,7 @@ use super::held::{Held, held_truth, number_of};
 use super::numbers::number_seen;
 use super::powers::power;
 use ep_base::CompareOp;
+use ep_numbers::quotients::{quotient, remainder};
 use ep_tree::{BinaryOp, Mode};
 
 /// Whether a number stands for true.
@@ -30,36 +31,6 @@ fn implies(left: i64, right: i64) -> bool
         return is_true(right);
     }
     true
-}
-
-/// `x / y`, which has no value for y = 0.
-fn quotient(left: i64, right: i64) -> Option<i128>
-    ensures { result ≡ numbers.quotient left right }
-{
-    let over = i128::from(left);
-    let under = i128::from(right);
-    if under > 0 {
-        return Some(over.div_euclid(under));
-    }
-    if under < 0 {
-        return Some((-over).div_euclid(-under));
-    }
-    None
-}
-
-/// `x % y`, which has no value for y = 0.
-fn remainder(left: i64, right: i64) -> Option<i128>
-    ensures { result ≡ numbers.remainder left right }
-{
-    let over = i128::from(left);
-    let under = i128::from(right);
-    if under > 0 {
-        return Some(over.rem_euclid(under));
-    }
-    if under < 0 {
-        return Some(-(-over).rem_euclid(-under));
-    }
-    None
 }
 
 /// A number, if there is one that isn't too far from 0.

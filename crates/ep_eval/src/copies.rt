@@ -7,6 +7,7 @@ ghost use Rattle.ep_eval.specs.Helds.{held_value};
 use super::environments::NamedDomain;
 use super::held::Held;
 use ep_base::{Memory, Name, Runs};
+use ep_numbers::copy_sets;
 use ep_tree::{Entry, Value};
 use std::alloc::Global;
 
@@ -39,17 +40,6 @@ pub fn given_value(alloc: Global, held: Held) -> Result<Value, Memory>
         }
         Held::Made(value) => Ok(value),
     }
-}
-
-/// The same sets of numbers once more.
-fn copy_sets(alloc: Global, sets: &[Runs]) -> Result<Vec<Runs>, Memory>
-    ensures { IfOk result (λ copies. copies.items ≡ sets.now) }
-{
-    let mut copies = Vec::with_capacity(alloc, sets.len())?;
-    for set in sets {
-        copies.push(set.copy(alloc)?)?;
-    }
-    Ok(copies)
 }
 
 /// The same domain once more.

@@ -5,11 +5,12 @@ ghost use Rattle.std.specs.List.{list_any};
 ghost use Rattle.ep_base.specs.declared.places.Place.{Place};
 ghost use Rattle.ep_base.specs.Numbers.{counts_hold, sum_of};
 ghost use Rattle.ep_base.specs.Options.{map_both, on_three};
+ghost use Rattle.ep_base.specs.Reads.{is_too_far};
 ghost use Rattle.ep_tree.specs.Environments.{value_bound};
 ghost use Rattle.ep_tree.specs.Values.{all_defined, indices_in};
 ghost use Rattle.ep_tree.specs.Evaluation.{domain_values, end_value, evaluate, index_list, index_values, number_in, range_values, scalars_in, term_values, truth_in, values_of};
 ghost use Rattle.ep_tree.specs.Limits as limits;
-ghost use Rattle.ep_tree.specs.Limits.{is_too_far, limits_of_values};
+ghost use Rattle.ep_tree.specs.Limits.{limits_of_values};
 ghost use Rattle.ep_tree.specs.Measures as measures;
 ghost use Rattle.ep_tree.specs.Views as views;
 ghost use Rattle.ep_tree.specs.Views.{domain_tree, domains_of, expr_tree, expr_trees, generators_of, indices_of, kind_tree, ranges_of, terms_of};
@@ -49,13 +50,11 @@ use super::totals::with_term;
 use super::typing::given_read;
 use super::walking::{next_number, walk_of};
 use ep_base::{CompareOp, Limit, Name, Run, Runs};
+use ep_numbers::is_far_word;
 use ep_tree::{Domain, DomainKind, Expr, Generator, Kind, Range, Value};
 
 /// The greatest number of nodes that may be met.
 pub const MOST_SIZE: u64 = 5_000_000;
-
-/// The greatest absolute value of a number.
-const MOST_REACH: i64 = 1_099_511_627_776;
 
 /// Counts a node.
 fn count(met: &mut u64) -> Result<(), EvalError>
@@ -71,13 +70,6 @@ fn count(met: &mut u64) -> Result<(), EvalError>
     Ok(())
 }
 
-/// Whether a number is too far from 0.
-fn is_far(number: i64) -> bool
-    ensures { result ≡ is_too_far number }
-{
-    number > MOST_REACH || number < -MOST_REACH
-}
-
 /// A value, if it isn't a number too far from 0.
 fn check(seen: Option<Held>) -> Result<Option<Held>, EvalError>
     ensures same { IfOk result (λ kept. kept ≡ seen.entry) }
@@ -87,7 +79,7 @@ fn check(seen: Option<Held>) -> Result<Option<Held>, EvalError>
 {
     match number_of(&seen) {
         Some(number) => {
-            if is_far(number) {
+            if is_far_word(number) {
                 return Err(EvalError::Limit(Limit::Reach));
             }
             Ok(seen)

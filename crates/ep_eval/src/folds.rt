@@ -14,9 +14,10 @@ use super::binaries::is_true;
 use super::errors::EvalError;
 use super::forms::truth_value;
 use super::held::Held;
-use super::numbers::{is_far_wide, number_seen, some_word};
+use super::numbers::{number_seen, some_word};
 use super::operands::scalars;
 use ep_base::Limit;
+use ep_numbers::is_far;
 use ep_tree::{FoldOp, Mode};
 use std::alloc::Global;
 
@@ -38,7 +39,7 @@ fn product<'a>(parts: &[i64]) -> Result<Option<Held<'a>>, EvalError>
     let mut product = 1;
     for part in parts {
         product *= i128::from(*part);
-        if is_far_wide(product) {
+        if is_far(product) {
             return Err(EvalError::Limit(Limit::Reach));
         }
     }

@@ -1,9 +1,9 @@
 //! The numbers of forms by the numbers of their parts.
 
-ghost use Rattle.std.specs.Prelude.{◌≡◌, Some, neg_ℤ, option_map};
+ghost use Rattle.std.specs.Prelude.{◌≡◌, Some, ℤ, neg_ℤ, option_map, IfSome, IsSome};
 ghost use Rattle.ep_base.specs.Numbers.{absolute_of};
+ghost use Rattle.ep_base.specs.Reads.{IsWithinNumbers};
 ghost use Rattle.ep_tree.specs.Evaluation.{binary_value, number_in, number_value};
-ghost use Rattle.ep_tree.specs.Limits.{is_too_far};
 ghost use Rattle.ep_tree.specs.Values.{single};
 ghost use Rattle.ep_eval.specs.Counting.{Gives};
 ghost use Rattle.ep_eval.specs.Helds.{seen_held};
@@ -11,25 +11,24 @@ ghost use Rattle.ep_eval.specs.Helds.{seen_held};
 use super::errors::EvalError;
 use super::held::{Held, number_of};
 use ep_base::Limit;
+use ep_numbers::near_number;
 
-/// The greatest absolute value of a number.
-const MOST_REACH: i128 = 1_099_511_627_776;
-
-/// Whether a number is too far from 0.
-pub fn is_far_wide(number: i128) -> bool
-    ensures { result ≡ is_too_far number }
+/// A number that was told where it isn't too far from 0.
+pub fn seen_near<'a>(told: Option<i64>) -> Result<Option<Held<'a>>, EvalError>
+    ensures { (whole : ℤ) → IfSome told (λ n. n ≡ whole) → (IsWithinNumbers whole → IsSome told)
+        → Gives result (Some (single whole)) }
 {
-    number > MOST_REACH || number < -MOST_REACH
+    match told {
+        Some(number) => Ok(Some(Held::Number(number))),
+        None => Err(EvalError::Limit(Limit::Reach)),
+    }
 }
 
 /// A number, if it isn't too far from 0.
 pub fn number_seen<'a>(number: i128) -> Result<Option<Held<'a>>, EvalError>
     ensures { Gives result (Some (single number)) }
 {
-    if is_far_wide(number) {
-        return Err(EvalError::Limit(Limit::Reach));
-    }
-    Ok(Some(Held::Number(number as i64)))
+    seen_near(near_number(number))
 }
 
 /// `-x`

@@ -7,21 +7,22 @@ use Rattle.std.specs.Prelude.{IfOk, OnOk, Ok, Err, Result}
 use Rattle.std.proofs.lemmas.List.{map_push}
 use Rattle.std.specs.List.{All, Any, Contains}
 use Rattle.std.proofs.lemmas.Option.{slice_get_within, get_or_from_slice_get}
-use Rattle.ep_base.specs.Intervals.{Interval, LiesIn, from_to, spanned, truth_interval}
+use Rattle.ep_base.specs.Intervals.{Interval, IsWithinReach, LiesIn, from_to, spanned, truth_interval}
 use Rattle.ep_base.specs.Runs.{IsIn}
 use Rattle.ep_base.specs.declared.run_lists.Run.{Run}
 use Rattle.ep_base.specs.declared.operators.CompareOp.{CompareOp}
 use Rattle.ep_flat.specs.Cons.{FlatCon}
 use Rattle.ep_flat.specs.FlatViews.{plain_con}
 use Rattle.ep_flat.specs.declared.flats.Con.{Con}
-use Rattle.ep_flatten.specs.Building.{AreMarks, Built, Covers, CoversForm, form_reach, HasAll, HasSmall, IsBuilt, IsMarked, IsTermOf, interval_of, is_truth_node, span_at}
+use Rattle.ep_numbers.specs.Spans.{interval_of}
+use Rattle.ep_flatten.specs.Building.{AreMarks, Built, Covers, CoversForm, form_reach, HasAll, HasSmall, IsBuilt, IsMarked, IsTermOf, is_truth_node, span_at}
 use Rattle.ep_base.specs.Reads.{IsWithinNumbers}
 use Rattle.ep_flatten.specs.Forms.{form_coefficients, HaveForms, TermForm, form_at, own, summed, compared}
 use Rattle.ep_flatten.specs.Saying.{HasParts}
 use Rattle.ep_flatten.proofs.FormLaws.{form_there}
-use Rattle.ep_flatten.specs.declared.intervals.Span.{Span}
+use Rattle.ep_numbers.specs.declared.spans.Span.{Span}
 use Rattle.ep_flatten.proofs.Growing.{with_cell, without}
-use Rattle.ep_ground.specs.Bounds.{IsBounded, IsWithinReach, node_reach}
+use Rattle.ep_ground.specs.Bounds.{IsBounded, node_reach}
 use Rattle.ep_ground.specs.Grounds.{HasNoPartialNode, GroundState, IsWellFormed, StandsOver}
 use Rattle.ep_ground.specs.Nodes.{GroundNode, is_partial, coefficients_of, constant, undefined, cell, sum, product, quotient, remainder, power, absolute, least, greatest, pick, whole, safe_quotient, safe_remainder, safe_pick}
 use Rattle.ep_ground.specs.declared.cells.Cell.{Cell}

@@ -10,13 +10,13 @@ use Rattle.std.proofs.lemmas.List.{get_or_append_left, get_or_at, length-append,
 use Rattle.std.proofs.lemmas.List.Elements.{All-append, All-nil, All-cons, All-head, All-push, All-weaker, Contains-get_or}
 use Rattle.std.proofs.lemmas.Option.{get_or_from_slice_get}
 use Rattle.ep_base.proofs.Small.{no_some, some_is}
-use Rattle.ep_base.specs.Intervals.{Interval, LiesIn, only}
+use Rattle.ep_base.specs.Intervals.{Interval, LiesIn, only, IsWithinReach}
 use Rattle.ep_base.specs.Reads.{IsWithinNumbers}
 use Rattle.ep_flat.specs.Cons.{FlatCon, con_holds, number_at, numbers_of_vars}
 use Rattle.ep_flat.specs.Flats.{FlatState, HasSmallCoefficients, IsSoundFlat, Meets, NamesBelow}
 use Rattle.ep_ground.specs.Nodes.{GroundNode, constant, cell, coefficients_of, parts_of, undefined}
 use Rattle.ep_ground.specs.Terms.{node_value, term_value}
-use Rattle.ep_ground.specs.Bounds.{IsBounded, IsWithinReach, node_reach, reach_at, term_reach}
+use Rattle.ep_ground.specs.Bounds.{IsBounded, node_reach, reach_at, term_reach}
 use Rattle.ep_ground.specs.Grounds.{AreCellValues, GroundState, IsTermReached}
 use Rattle.ep_ground.specs.declared.cells.Cell.{Cell}
 use Rattle.ep_flatten.specs.Forms.{AreNumbersOf, TermForm, form_parts, form_value}

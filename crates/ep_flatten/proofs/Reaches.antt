@@ -6,52 +6,24 @@ use Rattle.std.specs.Int.{int_max, int_min}
 use Rattle.std.proofs.lemmas.List.{length-append}
 use Rattle.std.proofs.lemmas.Option.{slice_get-get_or}
 use Rattle.ep_base.proofs.Small.{no_some, some_is}
-use Rattle.ep_base.specs.Intervals.{Interval, LiesIn, absolute_interval, farthest_end, from_to, greatest_or_zero, highs, hull, least_or_zero, lows, nth_power_interval, only, power_interval, product_interval, quotient_interval, remainder_interval, spanned, sum_interval, truth_interval}
+use Rattle.ep_base.specs.Intervals.{Interval, LiesIn, absolute_interval, farthest_end, from_to, greatest_or_zero, highs, hull, least_or_zero, lows, nth_power_interval, only, power_interval, product_interval, quotient_interval, remainder_interval, spanned, sum_interval, truth_interval, scaled}
 use Rattle.ep_base.specs.Numbers as numbers
 use Rattle.ep_base.specs.Numbers.{absolute_of, greatest_of, least_of, nth_power, of_bool, sum_of}
 use Rattle.ep_base.specs.Options.{on_both}
 use Rattle.ep_base.specs.Reads as reads
 use Rattle.ep_base.specs.Reads.{all_there, first_or_zero, picked, safe_picked, weighted_sum}
+use Rattle.ep_numbers.proofs.Ends.{itself, max_left, max_right, max_start, min_right, min_start, up}
 use Rattle.ep_ground.specs.Nodes.{GroundNode, constant, undefined, cell, sum, product, quotient, remainder, power, absolute, least, greatest, pick, whole, safe_quotient, safe_remainder, safe_pick, compare, lex, member, negation, all_of, any_of, same_truth, all_different, counts, at_least, at_most, table}
 use Rattle.ep_ground.specs.Terms.{node_value, term_value, truth, value_at, values_from, term_values_of, weighed}
-use Rattle.ep_ground.specs.Bounds.{node_reach, reach_at, scaled, term_reach}
+use Rattle.ep_ground.specs.Bounds.{node_reach, reach_at, term_reach}
 use Rattle.ep_ground.specs.Grounds.{AreCellValues}
 use Rattle.ep_ground.specs.declared.cells.Cell.{Cell}
 use Rattle.ep_tree_laws.specs.Intervals.{LieInEach}
 use Rattle.ep_tree_laws.proofs.Intervals.{absolute_lies, greatest_lies, least_lies, power_lies, product_lies, quotient_lies, remainder_lies, sum_lies}
 
 -- each value that is there lies in its interval
-
-up : (a b c : ℤ) → a ≤ℤ b → b ≤ℤ c → a ≤ℤ c
-up a b c h k = omega (arith, ints, h, k)
-
--- each value that is there lies in its interval
 abbrev pub Lie : (ℕ → Option ℤ) → (ℕ → Interval) → Type 0
 Lie value reach = (t : ℕ) (n : ℤ) → value t ≡ Some n → LiesIn n (reach t)
-
-min_left : (x y : ℤ) → int_min x y ≤ℤ x
-min_left x y = grind (arith, ints)
-
-min_right : (x y : ℤ) → int_min x y ≤ℤ y
-min_right x y = grind (arith, ints)
-
-max_left : (x y : ℤ) → x ≤ℤ int_max x y
-max_left x y = grind (arith, ints)
-
-max_right : (x y : ℤ) → y ≤ℤ int_max x y
-max_right x y = grind (arith, ints)
-
-itself : (x : ℤ) → x ≤ℤ x
-itself x = omega (arith, ints)
-
--- a running least is at most where it started, and at most each number
-min_start : (a : ℤ) (xs : List ℤ) → fold int_min a xs ≤ℤ a
-min_start a [] = itself a
-min_start a (x ∷ xs) = up (fold int_min (int_min a x) xs) (int_min a x) a (min_start (int_min a x) xs) (min_left a x)
-
-max_start : (a : ℤ) (xs : List ℤ) → a ≤ℤ fold int_max a xs
-max_start a [] = itself a
-max_start a (x ∷ xs) = up a (int_max a x) (fold int_max (int_max a x) xs) (max_left a x) (max_start (int_max a x) xs)
 
 min_each : (a : ℤ) (xs : List ℤ) (k : ℕ) (x : ℤ) → slice_get xs k ≡ Some x → fold int_min a xs ≤ℤ x
 min_each a [] k x e = no_some e

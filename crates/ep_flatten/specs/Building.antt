@@ -1,7 +1,7 @@
 -- A flat problem that stands for a ground's terms so far: what is built, and what is known of it.
 use Rattle.std.specs.Prelude.{◌≡◌, ℕ, ◌+◌, ◌<◌, ℤ, pos, Bool, true, false, IsTrue, List, [], ◌∷◌, length, map, Some, None, option_map, option_to_list, slice_get, slice_index_or}
 use Rattle.std.specs.List.{All, Contains}
-use Rattle.ep_base.specs.Intervals.{Interval, LiesIn, from_to, only, truth_interval}
+use Rattle.ep_base.specs.Intervals.{Interval, IsWithinReach, LiesIn, from_to, only, truth_interval}
 use Rattle.ep_base.specs.Reads.{IsWithinNumbers}
 use Rattle.ep_flat.specs.Cons.{FlatCon, clause, con_holds, number_at, numbers_of_vars}
 use Rattle.ep_flat.specs.Flats.{FlatState, HasSmallCoefficients, IsSoundFlat, Meets, NamesBelow}
@@ -10,9 +10,8 @@ use Rattle.ep_flatten.specs.Forms.{IsFormOf, TermForm, own, summed, compared, fo
 use Rattle.ep_flatten.specs.Saying.{variable_at}
 use Rattle.ep_flatten.specs.Tops.{asserts_of, needs_of}
 use Rattle.ep_flatten.specs.declared.building.Building.{Building}
-use Rattle.ep_flatten.specs.declared.intervals.WideSpan.{WideSpan}
-use Rattle.ep_flatten.specs.declared.intervals.Span.{Span}
-use Rattle.ep_ground.specs.Bounds.{IsBounded, IsWithinReach, node_reach}
+use Rattle.ep_numbers.specs.Spans.{interval_of}
+use Rattle.ep_ground.specs.Bounds.{IsBounded, node_reach}
 use Rattle.ep_ground.specs.Grounds.{AreCellValues, GroundState, IsTermReached, StandsOver}
 use Rattle.ep_ground.specs.Nodes.{GroundNode, sum, compare, lex, member, negation, all_of, any_of, same_truth, all_different, counts, at_least, at_most, table}
 use Rattle.ep_ground.specs.Terms.{term_value}
@@ -134,18 +133,6 @@ HasAll domain span = (n : ℤ) → (Contains domain n → LiesIn n span) × (Lie
 -- the constraint that a term is true, by its variable
 abbrev pub truth_con : List ℕ → ℕ → FlatCon
 truth_con places t = record { truth = None; kind = clause ((true, variable_at places t) ∷ []) }
-
--- the interval between two ends of the code
-abbrev pub interval_of : Span → Interval
-interval_of span = from_to span.low span.high
-
--- the same of ends that may be far from 0
-abbrev pub wide_interval : WideSpan → Interval
-wide_interval wide = from_to wide.low wide.high
-
--- the intervals that the code keeps
-abbrev pub intervals_of : List Span → List Interval
-intervals_of spans = map interval_of spans
 
 -- what the code has built, without where its lists lie in memory
 abbrev pub plain_built : Building → Built

@@ -3,12 +3,13 @@
 ghost use Rattle.std.specs.Prelude.{◌≡◌, ◌+◌, ◌++◌, ◌∷◌, [], ◌<◌, ℕ, List, Bool, length, map, slice_index_or, IfOk, OnOk, true, false};
 ghost use Rattle.std.specs.List.{All};
 ghost use Rattle.ep_base.specs.Reads.{IsWithinNumbers};
-ghost use Rattle.ep_base.specs.Intervals.{only, spanned};
-ghost use Rattle.ep_flatten.specs.Building.{Advances, AreMarks, HasAll, HasSmall, IsBuilt, interval_of, plain_built};
+ghost use Rattle.ep_base.specs.Intervals.{IsWithinReach, only, spanned};
+ghost use Rattle.ep_numbers.specs.Spans.{interval_of};
+ghost use Rattle.ep_flatten.specs.Building.{Advances, AreMarks, HasAll, HasSmall, IsBuilt, plain_built};
 ghost use Rattle.ep_flatten.specs.Forms.{HaveForms, TermForm, form_coefficients};
 ghost use Rattle.ep_flatten.specs.FormViews.{plain_form, plain_forms};
 ghost use Rattle.ep_flatten.specs.Saying.{HasParts, is_operation};
-ghost use Rattle.ep_ground.specs.Bounds.{IsBounded, IsWithinReach};
+ghost use Rattle.ep_ground.specs.Bounds.{IsBounded};
 ghost use Rattle.ep_ground.specs.GroundViews.{plain_ground};
 ghost use Rattle.ep_ground.specs.Grounds.{HasNoPartialNode, IsWellFormed, StandsOver};
 ghost use Rattle.ep_ground.specs.NodeViews.{plain_node};
@@ -16,12 +17,13 @@ ghost use Rattle.ep_ground.specs.Nodes.{constant, cell, is_partial};
 
 use crate::constraints::form_constraint;
 use crate::forms::{Form, form_at};
-use crate::intervals::{Span, clamped, span_of_set, widened};
+use crate::intervals::clamped;
 use crate::marks::{Marks, is_marked};
 use crate::spans::form_span;
 use ep_base::{Memory, Run, Runs};
 use ep_flat::Con;
 use ep_ground::{Ground, Node, Term};
+use ep_numbers::{Span, span_of_set, widened};
 use std::alloc::Global;
 
 /// Variables and constraints so far, with the variable and the interval of each term so far.

@@ -12,10 +12,11 @@ ghost use Rattle.ep_ground.specs.NodeViews.{plain_node};
 ghost use Rattle.ep_ground.specs.Nodes as nodes;
 ghost use Rattle.ep_ground.specs.Nodes.{GroundNode};
 
-use crate::sums::{TermSum, add_part, add_sum, is_within};
+use crate::sums::{TermSum, add_part, add_sum};
 use crate::uses::{use_count, uses_of};
 use ep_base::{CompareOp, Memory};
 use ep_ground::{Ground, Node, Term};
+use ep_numbers::is_near;
 use std::alloc::Global;
 
 /// How constraints speak of a term.
@@ -162,7 +163,7 @@ fn number_of(forms: &[Form], term: Term) -> Option<i64>
     }
     match &forms[place] {
         Form::Sum(number, parts) => {
-            if parts.is_empty() && is_within(*number) {
+            if parts.is_empty() && is_near(*number) {
                 Some(*number)
             } else {
                 None

@@ -1,58 +1,26 @@
-//! Intervals of numbers: those in which the results of operations lie.
+//! Intervals of numbers that are kept to those that the stages compute with, and powers, as far as wide words tell them.
 
-ghost use Rattle.std.specs.Prelude.{◌≡◌, ◌∷◌, [], if◌then◌else◌, ◌≤ℤ◌, ◌+ℤ◌, ◌*ℤ◌, ◌-ℤ◌, int_le, neg_ℤ, pos, IfSome};
+ghost use Rattle.std.specs.Prelude.{◌≡◌, ◌∷◌, [], if◌then◌else◌, ◌≤ℤ◌, neg_ℤ, pos, IfSome};
 ghost use Rattle.std.specs.Int.{int_max, int_min};
 ghost use Rattle.ep_base.specs.Intervals as defined;
-ghost use Rattle.ep_base.specs.Intervals.{Interval, from_to};
+ghost use Rattle.ep_base.specs.Intervals.{Interval, IsWithinReach};
 ghost use Rattle.ep_base.specs.Numbers as numbers;
-ghost use Rattle.ep_base.specs.Numbers.{absolute_of};
-ghost use Rattle.ep_flatten.specs.Building.{HasSmall, interval_of, wide_interval};
-ghost use Rattle.ep_base.specs.RunEnds.{greatest_from, least_from};
-ghost use Rattle.ep_ground.specs.Bounds as bounds;
-ghost use Rattle.ep_ground.specs.Bounds.{IsWithinReach};
+ghost use Rattle.ep_numbers.specs.Spans.{interval_of, wide_interval};
+ghost use Rattle.ep_flatten.specs.Building.{HasSmall};
 
-use ep_base::{Run, Runs};
-
-/// The greatest number that the stages compute with.
-const MOST_NUMBER: i128 = 1_099_511_627_776;
+use ep_numbers::{MOST_WIDE, Span, WideSpan, has_zero};
 
 /// The greatest exponent for which powers are computed: beyond it only those of -1, 0 and 1 are no
 /// too great words.
 const MOST_EXPONENT: u64 = 128;
-
-/// The whole numbers from the lower end to the upper end.
-#[derive(Clone, Copy, Debug, PartialEq, Eq)]
-pub struct Span {
-    /// The least number.
-    pub low: i64,
-    /// The greatest number.
-    pub high: i64,
-}
-
-/// The same, where the ends may be farther from 0 than the stages compute.
-#[derive(Clone, Copy, Debug, PartialEq, Eq)]
-pub struct WideSpan {
-    pub low: i128,
-    pub high: i128,
-}
-
-/// The same ends, wide enough for any result.
-pub fn widened(x: Span) -> WideSpan
-    ensures { wide_interval result ≡ interval_of x }
-{
-    WideSpan {
-        low: i128::from(x.low),
-        high: i128::from(x.high),
-    }
-}
 
 /// All numbers that the stages compute with.
 pub fn widest() -> WideSpan
     ensures { (reach : Interval) → HasSmall reach (wide_interval result) }
 {
     WideSpan {
-        low: -MOST_NUMBER,
-        high: MOST_NUMBER,
+        low: -MOST_WIDE,
+        high: MOST_WIDE,
     }
 }
 
@@ -62,7 +30,7 @@ fn kept(number: i128) -> i64
     ensures high { result ≤ℤ pos 1099511627776 }
     ensures value { result ≡ int_max (neg_ℤ (pos 1099511627776)) (int_min number (pos 1099511627776)) }
 {
-    number.clamp(-MOST_NUMBER, MOST_NUMBER) as i64
+    number.clamp(-MOST_WIDE, MOST_WIDE) as i64
 }
 
 /// The numbers of an interval with which the stages compute.
@@ -73,197 +41,6 @@ pub fn clamped(x: WideSpan) -> Span
     Span {
         low: kept(x.low),
         high: kept(x.high),
-    }
-}
-
-/// From the least number of an interval and of a run to the greatest.
-fn with_run(x: Span, run: Run) -> Span
-    ensures low { result.low ≡ int_min x.low run.lo }
-    ensures high { result.high ≡ int_max x.high run.hi }
-{
-    Span {
-        low: x.low.min(run.lo),
-        high: x.high.max(run.hi),
-    }
-}
-
-/// From the least number of a run and of some others to the greatest.
-fn span_from(first: Run, runs: &[Run]) -> Span
-    ensures low { result.low ≡ least_from first.lo runs.now }
-    ensures high { result.high ≡ greatest_from first.hi runs.now }
-{
-    let mut span = Span {
-        low: first.lo,
-        high: first.hi,
-    };
-    for run in runs {
-        span = with_run(span, *run);
-    }
-    span
-}
-
-/// From the least number of a set to the greatest, by its runs.
-pub fn span_of_set(set: &Runs) -> Span
-    ensures { interval_of result ≡ defined.spanned set.now }
-{
-    let runs = set.runs();
-    match runs.split_first() {
-        Some((first, _)) => span_from(*first, runs),
-        None => Span { low: 0, high: 0 },
-    }
-}
-
-/// The sum of one number of each of two intervals, where its ends are no too great words.
-pub fn added(x: WideSpan, y: WideSpan) -> Option<WideSpan>
-    ensures { IfSome result (λ sum. wide_interval sum ≡ from_to (x.low +ℤ y.low) (x.high +ℤ y.high)) }
-{
-    let low = x.low.checked_add(y.low)?;
-    let high = x.high.checked_add(y.high)?;
-    Some(WideSpan { low, high })
-}
-
-/// The numbers of an interval, each multiplied by a coefficient.
-#[tactic(auto, unfolding(ep_ground::specs::Bounds::scaled))]
-pub fn scaled(coefficient: i64, x: Span) -> WideSpan
-    ensures { wide_interval result ≡ bounds.scaled coefficient (interval_of x) }
-{
-    product(
-        Span {
-            low: coefficient,
-            high: coefficient,
-        },
-        x,
-    )
-}
-
-/// The greatest absolute value of the ends.
-#[tactic(auto, unfolding(ep_base::specs::Intervals::farthest_end), using(crate::proofs::Ends::absolute_is))]
-fn farthest(x: Span) -> i128
-    ensures value { result ≡ defined.farthest_end (interval_of x) }
-    ensures low { pos 0 ≤ℤ result }
-    ensures high { result ≤ℤ pos 9223372036854775808 }
-{
-    i128::from(x.low).abs().max(i128::from(x.high).abs())
-}
-
-/// The least absolute value of the ends.
-#[tactic(auto, using(crate::proofs::Ends::absolute_is))]
-fn least_absolute(x: Span) -> i128
-    ensures { result ≡ int_min (absolute_of x.low) (absolute_of x.high) }
-{
-    i128::from(x.low).abs().min(i128::from(x.high).abs())
-}
-
-/// Whether 0 lies between the ends.
-#[tactic(auto, unfolding(ep_base::specs::Intervals::has_zero))]
-fn has_zero(x: Span) -> bool
-    ensures { result ≡ defined.has_zero (interval_of x) }
-{
-    x.low <= 0 && 0 <= x.high
-}
-
-/// `|x|`
-#[tactic(auto, unfolding(ep_base::specs::Intervals::absolute_interval), using(crate::proofs::Ends::absolute_is))]
-pub fn absolute(x: Span) -> WideSpan
-    ensures { wide_interval result ≡ defined.absolute_interval (interval_of x) }
-{
-    let high = farthest(x);
-    if has_zero(x) {
-        return WideSpan { low: 0, high };
-    }
-    WideSpan {
-        low: least_absolute(x),
-        high,
-    }
-}
-
-/// `x / y`
-#[tactic(auto, unfolding(ep_base::specs::Intervals::quotient_interval))]
-pub fn quotient(x: Span) -> WideSpan
-    ensures { wide_interval result ≡ defined.quotient_interval (interval_of x) }
-{
-    let high = farthest(x);
-    WideSpan { low: -high, high }
-}
-
-/// The lower end of `x % y`, where none is further from 0 than this.
-fn remainder_low(y: Span, most: i128) -> i128
-    requires low { pos 0 ≤ℤ most }
-    requires high { most ≤ℤ pos 9223372036854775808 }
-    ensures { result ≡ (if int_le (pos 0) y.low then pos 0 else neg_ℤ most) }
-{
-    if 0 <= y.low {
-        return 0;
-    }
-    -most
-}
-
-/// The upper end of `x % y`, where none is further from 0 than this.
-fn remainder_high(y: Span, most: i128) -> i128
-    ensures { result ≡ (if int_le y.high (pos 0) then pos 0 else most) }
-{
-    if y.high <= 0 {
-        return 0;
-    }
-    most
-}
-
-/// The greatest absolute value of `x % y`.
-fn most_remainder(y: Span) -> i128
-    ensures value { result ≡ (int_max (pos 1) (defined.farthest_end (interval_of y)) -ℤ pos 1) }
-    ensures low { pos 0 ≤ℤ result }
-    ensures high { result ≤ℤ pos 9223372036854775808 }
-{
-    1_i128.max(farthest(y)) - 1
-}
-
-/// `x % y`
-#[tactic(auto, unfolding(ep_base::specs::Intervals::remainder_interval))]
-pub fn remainder(y: Span) -> WideSpan
-    ensures { wide_interval result ≡ defined.remainder_interval (interval_of y) }
-{
-    let most = most_remainder(y);
-    WideSpan {
-        low: remainder_low(y, most),
-        high: remainder_high(y, most),
-    }
-}
-
-/// A product of two numbers.
-fn times(one: i64, other: i64) -> i128
-    ensures { result ≡ one *ℤ other }
-{
-    i128::from(one) * i128::from(other)
-}
-
-/// The least of four numbers.
-#[tactic(auto, unfolding(ep_base::specs::Intervals::least_or_zero, ep_base::specs::Numbers::least_of))]
-fn least_of_four(one: i128, two: i128, three: i128, four: i128) -> i128
-    ensures { result ≡ defined.least_or_zero (one ∷ two ∷ three ∷ four ∷ []) }
-{
-    one.min(two).min(three).min(four)
-}
-
-/// The greatest of four numbers.
-#[tactic(auto, unfolding(ep_base::specs::Intervals::greatest_or_zero, ep_base::specs::Numbers::greatest_of))]
-fn greatest_of_four(one: i128, two: i128, three: i128, four: i128) -> i128
-    ensures { result ≡ defined.greatest_or_zero (one ∷ two ∷ three ∷ four ∷ []) }
-{
-    one.max(two).max(three).max(four)
-}
-
-/// `x * y`
-#[tactic(auto, unfolding(ep_base::specs::Intervals::product_interval, ep_base::specs::Intervals::spanned))]
-pub fn product(x: Span, y: Span) -> WideSpan
-    ensures { wide_interval result ≡ defined.product_interval (interval_of x) (interval_of y) }
-{
-    let one = times(x.low, y.low);
-    let two = times(x.low, y.high);
-    let three = times(x.high, y.low);
-    let four = times(x.high, y.high);
-    WideSpan {
-        low: least_of_four(one, two, three, four),
-        high: greatest_of_four(one, two, three, four),
     }
 }
 

@@ -4,19 +4,20 @@ ghost use Rattle.std.specs.Prelude.{◌≡◌, ◌∷◌, fold, map};
 ghost use Rattle.std.specs.Int.{int_max, int_min};
 ghost use Rattle.ep_base.specs.Intervals as defined;
 ghost use Rattle.ep_base.specs.Intervals.{greatest_or_zero, highs, least_or_zero, lows, only, sum_interval};
-ghost use Rattle.ep_flatten.specs.Building.{CoversAlways, CoversFormAlways, HasSmall, interval_of, intervals_of, is_truth_node, span_at, wide_interval};
+ghost use Rattle.ep_numbers.specs.Spans.{interval_of, intervals_of, wide_interval};
+ghost use Rattle.ep_flatten.specs.Building.{CoversAlways, CoversFormAlways, HasSmall, is_truth_node, span_at};
 ghost use Rattle.ep_flatten.specs.FormViews.{plain_form};
-ghost use Rattle.ep_ground.specs.Bounds as bounds;
 ghost use Rattle.ep_ground.specs.NodeViews.{plain_node};
 ghost use Rattle.ep_ground.specs.Nodes as nodes;
 
 use crate::forms::Form;
-use crate::intervals::{
-    Span, WideSpan, absolute, added, clamped, power, product, quotient, remainder, scaled, widened,
-    widest,
-};
+use crate::intervals::{clamped, power, widest};
 use ep_base::Key;
 use ep_ground::{Node, Term};
+use ep_numbers::{
+    Extremes, Span, WideSpan, absolute, added, product, quotient, remainder, scaled, widened,
+    with_one,
+};
 
 /// An interval in which the value of a term lies that has this node and this form, where those of the
 /// form's parts lie in theirs, and where it is no farther from 0 than the stages compute.
@@ -68,7 +69,7 @@ fn span_of_term(spans: &[Span], term: Term) -> Span
 /// of 128 bits tell it.
 fn sum_of_terms(spans: &[Span], number: i64, parts: &[(i64, Term)]) -> WideSpan
     ensures { HasSmall
-        (sum_interval (only number ∷ map (λ p. bounds.scaled p.0 (span_at (intervals_of spans.now) p.1)) parts.now))
+        (sum_interval (only number ∷ map (λ p. defined.scaled p.0 (span_at (intervals_of spans.now) p.1)) parts.now))
         (wide_interval result) }
 {
     let mut sum = widened(Span {
@@ -127,32 +128,6 @@ fn absolute_span(spans: &[Span], part: Term) -> Span
     ensures { CoversAlways (intervals_of spans.now) (nodes.absolute part) (interval_of result) }
 {
     clamped(absolute(span_of_term(spans, part)))
-}
-
-/// The least and the greatest of the lower ends of some intervals, and of their upper ends.
-#[derive(Clone, Copy, Debug, PartialEq, Eq)]
-struct Extremes {
-    lows: Span,
-    highs: Span,
-}
-
-/// The same of one interval more.
-fn with_one(found: Extremes, x: Span) -> Extremes
-    ensures least_low { result.lows.low ≡ int_min found.lows.low x.low }
-    ensures greatest_low { result.lows.high ≡ int_max found.lows.high x.low }
-    ensures least_high { result.highs.low ≡ int_min found.highs.low x.high }
-    ensures greatest_high { result.highs.high ≡ int_max found.highs.high x.high }
-{
-    Extremes {
-        lows: Span {
-            low: found.lows.low.min(x.low),
-            high: found.lows.high.max(x.low),
-        },
-        highs: Span {
-            low: found.highs.low.min(x.high),
-            high: found.highs.high.max(x.high),
-        },
-    }
 }
 
 /// Those of an interval and of the intervals of terms.

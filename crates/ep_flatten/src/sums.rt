@@ -11,10 +11,8 @@ ghost use Rattle.ep_ground.specs.Nodes.{GroundNode};
 
 use ep_base::Memory;
 use ep_ground::Term;
+use ep_numbers::is_near;
 use std::alloc::Global;
-
-/// The greatest number that the stages compute with.
-const MOST_NUMBER: i64 = 1_099_511_627_776;
 
 /// Among so many parts of a sum the same term is looked for.
 const MOST_SEARCHED: usize = 64;
@@ -28,20 +26,13 @@ pub struct TermSum {
     pub parts: Vec<(i64, Term)>,
 }
 
-/// Whether a number is no farther from 0 than the stages compute.
-pub fn is_within(number: i64) -> bool
-    ensures { IsTrue result → IsWithinNumbers number }
-{
-    -MOST_NUMBER <= number && number <= MOST_NUMBER
-}
-
 /// The sum of two numbers, where the stages compute with it.
 fn small_sum(one: i64, other: i64) -> Option<i64>
     ensures value { IfSome result (λ sum. sum ≡ one +ℤ other) }
     ensures small { IfSome result IsWithinNumbers }
 {
     let sum = one.checked_add(other)?;
-    if is_within(sum) { Some(sum) } else { None }
+    if is_near(sum) { Some(sum) } else { None }
 }
 
 /// The product of two numbers, where the stages compute with it.
@@ -50,7 +41,7 @@ fn small_product(one: i64, other: i64) -> Option<i64>
     ensures small { IfSome result IsWithinNumbers }
 {
     let product = one.checked_mul(other)?;
-    if is_within(product) {
+    if is_near(product) {
         Some(product)
     } else {
         None

@@ -4,14 +4,14 @@ use Rattle.std.specs.Prelude.{map, option_map, option_and_then}
 use Rattle.std.specs.List.{Contains}
 use Rattle.std.proofs.lemmas.List.{map-append, map-id}
 use Rattle.std.proofs.lemmas.List.Elements.{Contains-append_left, Contains-append_right}
-use Rattle.ep_base.specs.Intervals.{Interval, absolute_interval, greatest_interval, hull, least_interval, nth_power_interval, only, product_interval, quotient_interval, remainder_interval, sum_interval}
+use Rattle.ep_base.specs.Intervals.{Interval, absolute_interval, greatest_interval, hull, least_interval, nth_power_interval, only, product_interval, quotient_interval, remainder_interval, scaled, sum_interval}
 use Rattle.ep_base.specs.Numbers as numbers
 use Rattle.ep_base.specs.Numbers.{absolute_of, all_one, any_one, are_different, compare_holds, counts_hold, greatest_of, has_number, is_one, is_row_of, least_of, lex_holds, nth_power}
 use Rattle.ep_base.specs.Options.{on_both}
 use Rattle.ep_base.specs.Reads as reads
 use Rattle.ep_base.specs.Reads.{all_there, picked, safe_picked, same_bool, weighted_sum}
 use Rattle.ep_base.specs.declared.operators.CompareOp.{CompareOp}
-use Rattle.ep_ground.specs.Bounds.{node_reach, scaled}
+use Rattle.ep_ground.specs.Bounds.{node_reach}
 use Rattle.ep_ground.specs.Nodes.{GroundNode, constant, undefined, cell, sum, product, quotient, remainder, power, absolute, least, greatest, pick, whole, safe_quotient, safe_remainder, safe_pick, compare, lex, member, negation, all_of, any_of, same_truth, all_different, counts, at_least, at_most, table, parts_of}
 use Rattle.ep_ground.specs.SameTrees.{with_parts}
 use Rattle.ep_ground.specs.Terms.{node_value, truth, term_values_of, weighed}

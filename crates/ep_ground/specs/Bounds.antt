@@ -1,15 +1,11 @@
 -- How far the terms of a ground reach, whatever values its cells have.
 use Rattle.std.specs.Prelude.{ℕ, ℤ, pos, List, [], ◌∷◌, ◌++◌, map, fold, slice_index_or}
 use Rattle.std.specs.List.{All}
-use Rattle.ep_base.specs.Intervals.{Interval, absolute_interval, greatest_interval, hull, least_interval, nth_power_interval, only, product_interval, quotient_interval, remainder_interval, spanned, sum_interval, truth_interval}
+use Rattle.ep_base.specs.Intervals.{Interval, IsWithinReach, absolute_interval, greatest_interval, hull, least_interval, nth_power_interval, only, product_interval, quotient_interval, remainder_interval, scaled, spanned, sum_interval, truth_interval}
 use Rattle.ep_base.specs.Reads.{IsWithinNumbers}
 use Rattle.ep_ground.specs.Nodes.{GroundNode, constant, undefined, cell, sum, product, quotient, remainder, power, absolute, least, greatest, pick, whole, safe_quotient, safe_remainder, safe_pick, coefficients_of}
 use Rattle.ep_ground.specs.Grounds.{GroundState, IsTermReached}
 use Rattle.ep_ground.specs.declared.cells.Cell.{Cell}
-
--- the numbers of an interval, each multiplied by a coefficient
-unfoldable pub scaled : ℤ → Interval → Interval
-scaled a i = product_interval (only a) i
 
 -- The interval of a node's values, where cells have these values and each term has such an interval.
 unfoldable pub node_reach : List Cell → (ℕ → Interval) → GroundNode → Interval
@@ -39,11 +35,6 @@ reach_at reaches t = slice_index_or reaches t (only (pos 0))
 unfoldable pub term_reach : List GroundNode → List Cell → ℕ → Interval
 term_reach nodes cells t =
     reach_at (fold (λ reaches node. reaches ++ node_reach cells (reach_at reaches) node ∷ []) [] nodes) t
-
--- an interval lies within the numbers that the stages compute with
-pub record IsWithinReach (i : Interval) : Type 0 where
-  pub low : IsWithinNumbers i.low
-  pub high : IsWithinNumbers i.high
 
 -- Each value of a cell, and each reach and each coefficient of a term that the clauses and the objective lead to, lies
 -- within the numbers that the stages compute with.

@@ -23,12 +23,12 @@ use Rattle.ep_tree.specs.declared.values.Entry.{Entry}
 use Rattle.ep_tree.specs.declared.values.Scalar.{Scalar}
 use Rattle.ep_tree.specs.declared.values.Value.{Value}
 use Rattle.ep_tree.specs.declared.values.ValueType.{ValueType}
+use Rattle.ep_instance_parts.proofs.ShapeSteps.{both_some}
+use Rattle.ep_instance_parts.specs.Elements.{PassesAs, element_passes}
+use Rattle.ep_instance_parts.specs.Instances.{find_of}
+use Rattle.ep_instance_parts.specs.declared.elements.Elements.{Within}
+use Rattle.ep_instance_parts.specs.declared.instances.Find.{Find as KeptFind}
 use Rattle.ep_instance.specs.Assigning.{IsUnder, SetsFind}
-use Rattle.ep_instance.specs.Instances.{find_of}
-use Rattle.ep_instance.specs.declared.instances.Find.{Find as KeptFind}
-use Rattle.ep_instance.specs.Elements.{PassesAs, element_passes}
-use Rattle.ep_instance.specs.declared.elements.Elements.{Within}
-use Rattle.ep_instance.proofs.BindSteps.{both_some}
 
 -- ---- one value
 

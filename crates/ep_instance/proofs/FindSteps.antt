@@ -19,20 +19,20 @@ use Rattle.ep_tree.specs.Trees.{DomainTree, bool, group_domain, int, matrix_doma
 use Rattle.ep_tree.specs.Views.{domain_tree, group_of}
 use Rattle.ep_tree.specs.declared.statements.Declared.{Declared}
 use Rattle.ep_tree.specs.declared.values.Mode.{Mode}
-use Rattle.ep_instance.specs.Counted.{IsCounted}
-use Rattle.ep_instance.specs.Finding.{kept_find, kept_finds}
-use Rattle.ep_instance.specs.Instances.{find_of}
-use Rattle.ep_instance.specs.declared.instances.Find.{Find as KeptFind}
+use Rattle.ep_instance_parts.proofs.Answering.{no_limit}
+use Rattle.ep_instance_parts.proofs.LimitSteps.{cause_along, cause_first, cause_next, counted_along, counted_none, counted_on}
+use Rattle.ep_instance_parts.proofs.ShapeSteps.{answer_some, both_some, given_some, no_first, refused_none}
+use Rattle.ep_instance_parts.specs.Counted.{IsCounted}
+use Rattle.ep_instance_parts.specs.Instances.{find_of}
+use Rattle.ep_instance_parts.specs.Reading.{IsReadListed}
+use Rattle.ep_instance_parts.specs.declared.instances.Find.{Find as KeptFind}
+use Rattle.ep_instance_parts.specs.declared.listed.Listed.{Listed}
+use Rattle.ep_instance.specs.Finding.{IsListedShape, kept_find, kept_finds}
 use Rattle.ep_tree.specs.Types.{of_scalar, scalar_of}
 use Rattle.ep_tree.specs.declared.values.Scalar.{Scalar}
 use Rattle.ep_tree.specs.declared.values.ValueType.{ValueType}
-use Rattle.ep_instance.specs.Reading.{IsReadListed, IsListedShape}
 use Rattle.ep_instance.specs.Steps.{finds_of, finds_said}
 use Rattle.ep_instance.specs.declared.lettings.ListedShape.{ListedShape}
-use Rattle.ep_instance.specs.declared.listed.Listed.{Listed}
-use Rattle.ep_instance.proofs.Answering.{no_limit}
-use Rattle.ep_instance.proofs.BindSteps.{answer_some, both_some, given_some, no_first, refused_none}
-use Rattle.ep_instance.proofs.LimitSteps.{cause_along, cause_first, cause_next, counted_along, counted_none, counted_on}
 
 -- ---- domains
 

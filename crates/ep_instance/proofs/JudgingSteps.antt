@@ -16,10 +16,10 @@ use Rattle.ep_tree.specs.Solutions.{Assigned, Fits, Found, Judgement, a_solution
 use Rattle.ep_tree.specs.Trees.{ExprTree}
 use Rattle.ep_tree.specs.Values.{ValueTree}
 use Rattle.ep_tree.specs.declared.values.Mode.{Mode}
+use Rattle.ep_instance_parts.specs.Instances.{find_of}
+use Rattle.ep_instance_parts.specs.declared.instances.Find.{Find as KeptFind}
 use Rattle.ep_instance.specs.Assigning.{AgreeElsewhere, IsUnder, goal_number, judged_by_goal, judgement_in}
-use Rattle.ep_instance.specs.Instances.{find_of}
 use Rattle.ep_instance.specs.Judgements.{judgement_of}
-use Rattle.ep_instance.specs.declared.instances.Find.{Find as KeptFind}
 use Rattle.ep_instance.specs.declared.judging.Judgement.{Judgement as CodeJudgement}
 use Rattle.ep_instance.proofs.ShapingSteps.{find_later, find_nowhere, none_dropped, none_of}
 

@@ -1,15 +1,7 @@
-pub mod Tests
-pub mod FitSteps
-pub mod LimitSteps
-pub mod RangeSteps
-pub mod IndexSteps
-pub mod Answering
-pub mod ListedSteps
 pub mod BindSteps
 pub mod ReadySteps
 pub mod StatementReady
 pub mod FindSteps
-pub mod ConditionSteps
 pub mod ParamSteps
 pub mod ProgressSteps
 pub mod AssigningSteps

@@ -1,8 +1,7 @@
 -- Lettings of a text, one by one.
 use Rattle.std.proofs.Common.{◌≡◌, ◌∙◌, true, false, List, [], ◌∷◌, ◌++◌, Option, Some, None, option_map, refl, ap, subst, filter, if◌then◌else◌}
-use Rattle.std.specs.Prelude.{Result, Ok, Err}
+use Rattle.std.specs.Prelude.{Err, IsTrue, Ok, Result}
 use Rattle.std.specs.List.{IsDistinct, list_all}
-use Rattle.std.specs.Prelude.{IsTrue}
 use Rattle.std.proofs.lemmas.List.Elements.{All-nil}
 use Rattle.ep_base.specs.declared.names.Name.{Name}
 use Rattle.ep_base.specs.declared.places.Place.{Place}
@@ -28,7 +27,8 @@ use Rattle.ep_tree.specs.declared.statements.StatementKind.TheVariants.{Letting,
 use Rattle.ep_tree.specs.declared.syntax.Domain.{Domain}
 use Rattle.ep_tree.specs.declared.syntax.Expr.{Expr}
 use Rattle.ep_tree.specs.declared.values.Mode.{Mode}
-use Rattle.ep_instance.specs.Steps.{IsFaultless, fitted_said, named_said, plain_said, stated_said, value_said}
+use Rattle.ep_instance_parts.specs.Steps.{fitted_said}
+use Rattle.ep_instance.specs.Steps.{IsFaultless, named_said, plain_said, stated_said, value_said}
 use Rattle.ep_instance.proofs.ReadySteps.{Ready, ready_lacks}
 use Rattle.ep_instance.proofs.StatementReady.{domain_letting_ready, letting_ready}
 

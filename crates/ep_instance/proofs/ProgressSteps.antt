@@ -1,5 +1,5 @@
 -- Statements of a model, one by one.
-use Rattle.std.proofs.Common.{◌≡◌, ◌∙◌, ◌+◌, length, arith, Bool, true, false, List, [], ◌∷◌, ◌++◌, Option, Some, None, refl, sym, ap, subst, map, bytes_eq, if◌then◌else◌}
+use Rattle.std.proofs.Common.{Bool, List, None, Option, Some, Vec, [], ap, arith, bytes_eq, false, if◌then◌else◌, length, map, refl, subst, sym, true, ◌++◌, ◌+◌, ◌∙◌, ◌∷◌, ◌≡◌}
 use Rattle.std.specs.Prelude.{Result, Ok, Err, is_none}
 use Rattle.ep_base.specs.declared.names.Name.{Name}
 use Rattle.ep_base.specs.declared.operators.Sense.{Sense}
@@ -14,7 +14,6 @@ use Rattle.ep_tree.specs.Statements.{Group, StatementTree, TextTree, branching, 
 use Rattle.ep_tree.specs.Trees.{DomainTree, ExprTree}
 use Rattle.ep_tree.specs.Types.{Context, Meaning, a_value, judge_domain, type_from}
 use Rattle.std.specs.declared.alloc.Global.{Global}
-use Rattle.std.proofs.Common.{Vec}
 use Rattle.ep_tree.specs.Views.{expr_tree, group_of, model_tree, params_tree, statement_kind_tree, statement_tree}
 use Rattle.ep_tree.specs.declared.statements.Declared.{Declared}
 use Rattle.ep_tree.specs.declared.statements.Model.{Model}
@@ -23,12 +22,13 @@ use Rattle.ep_tree.specs.declared.statements.Statement.{Statement}
 use Rattle.ep_tree.specs.declared.statements.StatementKind.TheVariants.{Given, Find as FindStatement, Where, SuchThat, Objective as ObjectiveStatement, Branching, Heuristic}
 use Rattle.ep_tree.specs.declared.syntax.Expr.{Expr}
 use Rattle.ep_tree.specs.declared.values.Mode.{Mode}
-use Rattle.ep_instance.specs.Instances.{find_of}
-use Rattle.ep_instance.specs.declared.instances.Find.{Find as KeptFind}
-use Rattle.ep_instance.specs.Refusals.{BindsTo}
-use Rattle.ep_instance.specs.Steps.{IsFaultless, conditions_said, finds_said}
-use Rattle.ep_instance.specs.declared.errors.BindError.{BindError}
-use Rattle.ep_instance.proofs.Answering.{refuses_first}
+use Rattle.ep_instance_parts.proofs.Answering.{refuses_first}
+use Rattle.ep_instance_parts.specs.Instances.{find_of}
+use Rattle.ep_instance_parts.specs.Refusals.{BindsTo}
+use Rattle.ep_instance_parts.specs.Steps.{conditions_said}
+use Rattle.ep_instance_parts.specs.declared.errors.BindError.{BindError}
+use Rattle.ep_instance_parts.specs.declared.instances.Find.{Find as KeptFind}
+use Rattle.ep_instance.specs.Steps.{IsFaultless, finds_said}
 use Rattle.ep_instance.proofs.ParamSteps.{nothing_ready}
 use Rattle.ep_instance.proofs.ReadySteps.{Ready, ready_lacks}
 use Rattle.ep_instance.proofs.StatementReady.{first_undeclared, statement_ready}

@@ -25,12 +25,11 @@ use Rattle.ep_tree.specs.Views.{assigned}
 use Rattle.ep_tree.specs.declared.values.Mode.{Mode}
 use Rattle.ep_tree.specs.declared.values.Scalar.{Scalar}
 use Rattle.ep_tree.specs.declared.values.ValueType.{ValueType}
-use Rattle.ep_instance.specs.Instances.{find_of}
-use Rattle.ep_instance.specs.Judgements.{FitsIfShaped}
-use Rattle.ep_instance.specs.Refusals.{ShapeAnswers}
+use Rattle.ep_instance_parts.specs.Instances.{find_of}
+use Rattle.ep_instance_parts.specs.declared.errors.BindError.{BindError}
+use Rattle.ep_instance_parts.specs.declared.instances.Find.{Find as KeptFind}
+use Rattle.ep_instance.specs.Judgements.{FitsIfShaped, ShapeAnswers}
 use Rattle.ep_instance.specs.Shaping.{GivesEntries, letting_name}
-use Rattle.ep_instance.specs.declared.errors.BindError.{BindError}
-use Rattle.ep_instance.specs.declared.instances.Find.{Find as KeptFind}
 use Rattle.ep_instance.specs.declared.judging.Shaped.{Shaped}
 use Rattle.ep_instance.specs.declared.judging.Shaped.TheVariants as code
 use Rattle.ep_instance.proofs.AssigningSteps.{fits_again}

@@ -8,7 +8,7 @@ use Rattle.std.proofs.lemmas.Grind.{flat_map-append}
 use Rattle.std.proofs.lemmas.List.Elements.{All-append, All-cons, All-head, All-nil, All-tail}
 use Rattle.ep_base.specs.Numbers.{absolute_of, has_number}
 use Rattle.ep_base.specs.Options.{map_both, on_both}
-use Rattle.ep_base.specs.Reads.{IsWithinNumbers}
+use Rattle.ep_base.specs.Reads.{IsWithinNumbers, is_too_far}
 use Rattle.ep_base.specs.declared.names.Name.{Name}
 use Rattle.ep_base.specs.declared.operators.Limit.{Limit}
 use Rattle.ep_base.specs.declared.places.Place.{Place}
@@ -20,7 +20,7 @@ use Rattle.ep_tree.specs.Domains.{between, put_in, set_has, set_values, truth_va
 use Rattle.ep_tree.specs.Environments.{Bound, Env, has_cells, has_domain, has_value, domain_bound, shape_type}
 use Rattle.ep_tree.specs.Evaluation.{domain_values, end_value, evaluate, number_in, over_names, range_values, type_in}
 use Rattle.ep_tree.specs.Faults.{lettings_of}
-use Rattle.ep_tree.specs.Limits.{is_too_far, limits_of_values, numbers_at}
+use Rattle.ep_tree.specs.Limits.{limits_of_values, numbers_at}
 use Rattle.ep_tree.specs.Measures.{Met, met, met_domain, met_domains, met_end, met_names, met_ranges}
 use Rattle.ep_tree.specs.Names.{nothing_known, put}
 use Rattle.ep_tree.specs.Statements.{Group, StatementTree, TextTree, branching, constraints, decided, domain_letting, given, heuristic, letting, objective, requirements}
@@ -31,10 +31,11 @@ use Rattle.ep_tree.specs.declared.syntax.QuantOp.{QuantOp}
 use Rattle.ep_tree.specs.declared.syntax.SetOp.{SetOp}
 use Rattle.ep_tree.specs.declared.values.Mode.{Mode}
 use Rattle.ep_tree.specs.declared.values.ValueType.{ValueType}
-use Rattle.ep_instance.specs.Refusals.{BindsTo}
+use Rattle.ep_instance_parts.proofs.ShapeSteps.{given_is}
+use Rattle.ep_instance_parts.specs.Refusals.{BindsTo}
+use Rattle.ep_instance_parts.specs.declared.errors.BindError.{BindError}
 use Rattle.ep_instance.specs.Steps.{group_said, named_said}
-use Rattle.ep_instance.specs.declared.errors.BindError.{BindError}
-use Rattle.ep_instance.proofs.BindSteps.{both_ok, given_is, group_parts, named_put, next_group, next_name, unless_ok}
+use Rattle.ep_instance.proofs.BindSteps.{both_ok, group_parts, named_put, next_group, next_name, unless_ok}
 use Rattle.ep_instance.proofs.ParamSteps.{named_at}
 use Rattle.ep_instance.proofs.ProgressSteps.{bind_is}
 

@@ -25,8 +25,9 @@ use Rattle.ep_tree.specs.Types.{Context, Meaning, a_domain, a_value, judge, judg
 use Rattle.ep_tree.specs.Values.{ValueTree}
 use Rattle.ep_tree.specs.declared.values.Mode.{Mode}
 use Rattle.ep_tree.specs.declared.values.ValueType.{ValueType}
+use Rattle.ep_instance_parts.proofs.ShapeSteps.{given_is}
 use Rattle.ep_instance.specs.Steps.{group_said, name_said}
-use Rattle.ep_instance.proofs.BindSteps.{both_ok, given_is, group_is, group_parts, meaning_of_shape, named_put, next_group, next_name, unless_ok, value_is_typed}
+use Rattle.ep_instance.proofs.BindSteps.{both_ok, group_is, group_parts, meaning_of_shape, named_put, next_group, next_name, unless_ok, value_is_typed}
 use Rattle.ep_instance.proofs.ReadySteps.{Ready, clauses_ready, find_ready, goal_ready, put_ready, ready_lacks}
 
 ok_is : {A B : Type 0} {y z : A} → ◌≡◌ {A = Result A B} (Ok y) (Ok z) → y ≡ z

@@ -1,9 +1,13 @@
 -- What judging an assignment says, and the limits within which an instance is judged.
-use Rattle.std.specs.Prelude.{◌≡◌, [], sum_by}
-use Rattle.ep_tree.specs.Binding.{Instance}
+use Rattle.std.specs.Prelude.{◌≡◌, List, [], Ok, Err, Result, Contains, sum_by}
+use Rattle.ep_base.specs.declared.names.Name.{Name}
+use Rattle.ep_tree.specs.Binding.{Instance, Refusal}
+use Rattle.ep_tree.specs.SolutionTexts as texts
 use Rattle.ep_tree.specs.Solutions as defined
 use Rattle.ep_tree.specs.declared.values.Mode.{Mode}
 use Rattle.ep_tree.specs.Views.{assigned}
+use Rattle.ep_instance_parts.specs.Refusals.{RefusesBinding}
+use Rattle.ep_instance_parts.specs.declared.errors.BindError.{BindError}
 use Rattle.ep_instance.specs.declared.judging.Shaped.{Shaped}
 use Rattle.ep_instance.specs.declared.judging.Shaped.TheVariants.{Fits, WrongShape}
 use Rattle.ep_eval.specs.Known.{env_of}
@@ -33,3 +37,11 @@ FitsIfShaped i (WrongShape name) = Unit {0}
 pub record IsJudgeOf (mode : Mode) (i : Instance) (judge : Judge) : Type 0 where
   pub in_mode : judge.env.mode ≡ mode
   pub elsewhere : AgreeElsewhere i.finds (env_of judge.env) i.env
+
+-- An answer to a solution text is what is defined: an assignment that fits, or one of the names that keep it from
+-- having a right shape.
+abbrev pub ShapeAnswers : Result Shaped BindError → Result texts.Shaped (List Refusal) → Type 0
+ShapeAnswers (Ok (Fits a)) said = said ≡ Ok (texts.fits (assigned a))
+ShapeAnswers (Ok (WrongShape name)) said =
+    (names : List Name) × (said ≡ Ok (texts.wrong_shape names)) × Contains names name
+ShapeAnswers (Err e) said = RefusesBinding e said

@@ -1,10 +1,4 @@
-pub mod Elements
-pub mod Instances
-pub mod Refusals
 pub mod Judgements
-pub mod Counted
-pub mod Tests
-pub mod Reading
 pub mod Steps
 pub mod Finding
 pub mod Progressing

@@ -1,5 +1,5 @@
 -- How far binding has come, as the definitions have it.
-use Rattle.std.specs.Prelude.{List, Option, Ok, Result}
+use Rattle.std.specs.Prelude.{List, Option, Ok, Result, map, option_map}
 use Rattle.ep_base.specs.declared.names.Name.{Name}
 use Rattle.ep_base.specs.declared.places.Place.{Place}
 use Rattle.ep_tree.specs.Binding as defined
@@ -7,14 +7,25 @@ use Rattle.ep_tree.specs.Binding.{Refusal, and_next, bind_givens, in_env, model_
 use Rattle.ep_tree.specs.Environments.{Env}
 use Rattle.ep_tree.specs.Statements.{Group}
 use Rattle.ep_tree.specs.Trees.{DomainTree, ExprTree}
+use Rattle.ep_tree.specs.Views.{expr_tree}
 use Rattle.ep_tree.specs.declared.values.Mode.{Mode}
-use Rattle.ep_instance.specs.Instances.{plain_instance}
-use Rattle.ep_instance.specs.Steps.{conditions_said, finds_said, named_said, value_said}
+use Rattle.ep_eval.specs.Known.{env_of}
+use Rattle.ep_instance_parts.specs.Instances.{find_of, goal_of}
+use Rattle.ep_instance_parts.specs.Steps.{conditions_said}
+use Rattle.ep_instance.specs.Steps.{finds_said, named_said, value_said}
 use Rattle.ep_instance.specs.declared.statements.Progress.{Progress}
 
 -- the instance so far, and the number of the next condition
 abbrev pub progress_of : Progress → defined.Progress
-progress_of p = record { instance = plain_instance p.instance; next_where = p.next_where }
+progress_of p = record {
+  instance = record {
+    finds = map find_of p.finds.items;
+    clauses = map expr_tree p.clauses.items;
+    goal = option_map goal_of p.objective;
+    env = env_of p.env;
+  };
+  next_where = p.next_where;
+}
 
 -- a `given`
 abbrev pub given_progress : Mode → Env → defined.Progress → Place → List Group → Result defined.Progress (List Refusal)

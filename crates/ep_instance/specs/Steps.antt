@@ -1,9 +1,9 @@
 -- The steps of binding, each of which a function makes.
-use Rattle.std.specs.Prelude.{◌≡◌, ℕ, ◌+◌, List, [], ◌∷◌, ◌++◌, length, is_some, if◌then◌else◌, Some, None, Option, Result, Ok, Err, option_map, option_and_then}
+use Rattle.std.specs.Prelude.{◌≡◌, List, [], ◌∷◌, ◌++◌, is_some, if◌then◌else◌, Option, Result, Ok, option_map, option_and_then}
 use Rattle.ep_base.specs.declared.names.Name.{Name}
 use Rattle.ep_base.specs.declared.places.Place.{Place}
-use Rattle.ep_tree.specs.Binding.{Find, Refusal, Shape, TextName, and_next, bind_letting, bind_names, bound_finds, first_false, first_missing, fitted_into, given_bound, group_finds, limits_met, met_groups, met_in, missing_parameter, model_text, or_refuse, outside_domain, parameter, shape_bound, shape_of, undefined_at, unless_any}
-use Rattle.ep_tree.specs.Environments.{Env, context_of, has_value, shape_type}
+use Rattle.ep_tree.specs.Binding.{Find, Refusal, Shape, TextName, and_next, bind_letting, bind_names, bound_finds, first_missing, given_bound, group_finds, limits_met, met_groups, missing_parameter, model_text, or_refuse, parameter, shape_bound, shape_of, undefined_at, unless_any}
+use Rattle.ep_tree.specs.Environments.{Env, context_of, has_value}
 use Rattle.ep_tree.specs.Evaluation.{evaluate, type_in}
 use Rattle.ep_tree.specs.Faults.{statement_faults}
 use Rattle.ep_tree.specs.Measures.{met, met_domain}
@@ -11,28 +11,9 @@ use Rattle.ep_tree.specs.Names.{put}
 use Rattle.ep_tree.specs.Statements.{Group, StatementTree, letting}
 use Rattle.ep_tree.specs.Trees.{DomainTree, ExprTree}
 use Rattle.ep_tree.specs.Types.{Context}
-use Rattle.ep_tree.specs.Values.{ValueTree}
 use Rattle.ep_tree.specs.declared.values.Mode.{Mode}
-use Rattle.ep_tree.specs.declared.values.ValueType.{ValueType}
 use Rattle.ep_tree_laws.specs.Deciding.{LacksDecisions}
-use Rattle.ep_instance.specs.Refusals.{RefusesBinding}
-use Rattle.ep_instance.specs.declared.errors.BindError.{BindError}
-
--- an answer is, by a relation, what is defined
-abbrev pub StepsTo : {V A : Type 0} → (A → V → Type 0) → Result V BindError → Result A (List Refusal) → Type 0
-StepsTo {V} {A} relates (Ok x) said = (y : A) × (said ≡ Ok y) × relates y x
-StepsTo relates (Err e) said = RefusesBinding e said
-
--- a domain that is bound: first the limits, then a domain that isn't defined
-abbrev pub shape_said : Mode → Refusal → Env → DomainTree → Result Shape (List Refusal)
-shape_said mode refusal env d =
-    unless_any (limits_met mode (met_domain mode env d)) (or_refuse refusal (shape_of mode env d))
-
--- a name with a value that is fitted into a domain
-abbrev pub fitted_said : Shape → Name → ValueType → ValueTree → Env → Result Env (List Refusal)
-fitted_said shape name t v env =
-    and_next (or_refuse (outside_domain name) (fitted_into shape t v)) (λ fit.
-    Ok (put name (has_value (shape_type shape.scalar shape.indices) fit) env))
+use Rattle.ep_instance_parts.specs.Steps.{fitted_said, shape_said}
 
 -- a name for the value of an expression
 abbrev pub plain_said : Mode → Refusal → Env → Name → ExprTree → Result Env (List Refusal)
@@ -88,16 +69,6 @@ abbrev pub finds_of : Mode → Env → Group → Option (List Find)
 finds_of mode env g =
     option_and_then (λ shape. option_map (λ values. group_finds shape values g.names) shape.values)
     (shape_of mode env g.domain)
-
--- the first of two, where it is there
-unfoldable pub first_of : Option ℕ → Option ℕ → Option ℕ
-first_of None other = other
-first_of (Some n) other = Some n
-
--- conditions, numbered on from a number, and the number of the next one
-abbrev pub conditions_said : Mode → Env → ℕ → List ExprTree → Result ℕ (List Refusal)
-conditions_said mode env n es =
-    unless_any (limits_met mode (met_in mode env es)) (unless_any (first_false mode env n es) (Ok (n + length es)))
 
 -- A statement has no fault in a context that differs from that of an environment by decision variables alone.
 pub record IsFaultless (env : Env) (s : StatementTree) : Type 0 where

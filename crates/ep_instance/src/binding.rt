@@ -5,13 +5,12 @@ ghost use Rattle.ep_base.specs.Reads.{IsWithinNumbers};
 ghost use Rattle.ep_tree.specs.Binding as defined;
 ghost use Rattle.ep_tree.specs.Closed.{IsClosed};
 ghost use Rattle.ep_types.specs.Texts.{typed_params_tree, typed_tree};
-ghost use Rattle.ep_instance.specs.Instances.{plain_instance, instance_mode};
-ghost use Rattle.ep_instance.specs.Refusals.{BindsTo};
+ghost use Rattle.ep_instance_parts.specs.Instances.{plain_instance, instance_mode};
+ghost use Rattle.ep_instance_parts.specs.Refusals.{BindsTo};
 
-use super::errors::{BindError, Source};
-use super::instances::Instance;
 use super::lettings::bind_params;
 use super::statements::bind_statements;
+use ep_instance_parts::{BindError, Instance, Source};
 use ep_tree::Mode;
 use ep_types::{Typed, TypedParams};
 use std::alloc::Global;

@@ -4,18 +4,16 @@ ghost use Rattle.std.specs.Prelude.{◌≡◌, ◌++◌, IfOk, OnOk, map, option
 ghost use Rattle.ep_base.specs.Options.{map_both};
 ghost use Rattle.ep_tree.specs.Views.{group_of};
 ghost use Rattle.ep_eval.specs.Known.{env_of};
+ghost use Rattle.ep_instance_parts.specs.Instances.{find_of};
+ghost use Rattle.ep_instance_parts.specs.Refusals.{BindsTo};
 ghost use Rattle.ep_instance.specs.Finding.{kept_find, kept_finds};
-ghost use Rattle.ep_instance.specs.Instances.{find_of};
-ghost use Rattle.ep_instance.specs.Refusals.{BindsTo};
 ghost use Rattle.ep_instance.specs.Steps.{finds_said};
 
-use super::errors::{BindError, Source};
-use super::fitted::type_of_shape;
-use super::instances::Find;
 use super::lettings::{ListedShape, listed_from};
-use super::listed::{copy_sets, read_listed};
 use ep_base::{Memory, Name, Place};
 use ep_eval::Env;
+use ep_instance_parts::{BindError, Find, Source, copy_sets, read_listed, type_of_shape};
+use ep_numbers::copy_sets;
 use ep_tree::Declared;
 use std::alloc::Global;
 

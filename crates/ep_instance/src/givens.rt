@@ -7,15 +7,13 @@ ghost use Rattle.ep_tree.specs.Environments.{context_of};
 ghost use Rattle.ep_tree.specs.Faults.{group_faults};
 ghost use Rattle.ep_tree.specs.Views.{group_of};
 ghost use Rattle.ep_eval.specs.Known.{env_of};
-ghost use Rattle.ep_instance.specs.Reading.{IsShape, IsTypedShape};
-ghost use Rattle.ep_instance.specs.Refusals.{BindsTo};
+ghost use Rattle.ep_instance_parts.specs.Reading.{IsShape, IsTypedShape};
+ghost use Rattle.ep_instance_parts.specs.Refusals.{BindsTo};
 ghost use Rattle.ep_instance.specs.Steps.{group_said, missing_name, name_said, nothing_refused};
 
-use super::errors::BindError;
-use super::fitted::{bind_fitted, missing};
-use super::shapes::{Shape, given_shape};
 use ep_base::{Name, Place};
 use ep_eval::Env;
+use ep_instance_parts::{BindError, Shape, bind_fitted, given_shape, missing};
 use ep_tree::Declared;
 use std::alloc::Global;
 

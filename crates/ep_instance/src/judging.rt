@@ -8,16 +8,14 @@ ghost use Rattle.ep_tree.specs.Solutions.{Fits, Found, judgement};
 ghost use Rattle.ep_tree.specs.Views.{assigned, expr_tree};
 ghost use Rattle.ep_eval.specs.Known.{env_of};
 ghost use Rattle.ep_eval.specs.Outcomes.{seen_value};
+ghost use Rattle.ep_instance_parts.specs.Instances.{goal_of, plain_instance, instance_mode};
 ghost use Rattle.ep_instance.specs.Assigning.{judged_by_goal, judgement_in};
-ghost use Rattle.ep_instance.specs.Instances.{goal_of, plain_instance, instance_mode};
 ghost use Rattle.ep_instance.specs.Judgements.{IsWithinLimits, judgement_of};
 
-use super::bounds::seen_number;
-use super::conditions::{is_true, number_after};
-use super::instances::Instance;
 use super::values::set_finds;
 use ep_base::{Memory, Name};
 use ep_eval::{Env, EvalError, Seen, evaluate};
+use ep_instance_parts::{Instance, is_true, number_after, seen_number};
 use ep_tree::{Assignment, Expr, Objective};
 use std::alloc::Global;
 
@@ -125,7 +123,7 @@ impl Judge {
     pub fn new(alloc: Global, instance: &Instance) -> Result<Judge, Memory>
         ensures { IfOk result (IsJudgeOf (instance_mode instance.now) (plain_instance instance.now)) }
     {
-        let env = instance.env.copy()?;
+        let env = instance.env().copy()?;
         Ok(Judge { alloc, env })
     }
 

@@ -10,17 +10,17 @@ ghost use Rattle.ep_tree.specs.StatementSpelling as spelling;
 ghost use Rattle.ep_tree.specs.TypedValues.{is_number_of};
 ghost use Rattle.ep_tree.specs.Views.{domain_tree, expr_tree, statement_tree};
 ghost use Rattle.ep_eval.specs.Known.{env_of};
-ghost use Rattle.ep_instance.specs.Reading.{IsReadListed, IsListedShape};
-ghost use Rattle.ep_instance.specs.Refusals.{BindsTo, text_name};
-ghost use Rattle.ep_instance.specs.Steps.{StepsTo, IsFaultless, named_said, plain_said, stated_said, value_said};
+ghost use Rattle.ep_instance_parts.specs.Reading.{IsReadListed};
+ghost use Rattle.ep_instance_parts.specs.Refusals.{BindsTo, text_name};
+ghost use Rattle.ep_instance_parts.specs.Steps.{StepsTo};
+ghost use Rattle.ep_instance.specs.Finding.{IsListedShape};
+ghost use Rattle.ep_instance.specs.Steps.{IsFaultless, named_said, plain_said, stated_said, value_said};
 
-use super::errors::{BindError, Source};
-use super::fitted::{bind_fitted, put_value};
-use super::listed::{Listed, read_listed};
-use super::opened::read_opened;
-use super::shapes::shape_from;
 use ep_base::{Memory, Name, Place, Runs};
 use ep_eval::{Env, Seen, evaluate, evaluate_after, scalar_in, type_in};
+use ep_instance_parts::{
+    BindError, Listed, Source, bind_fitted, put_value, read_listed, read_opened, shape_from,
+};
 use ep_tree::{Domain, Expr, Mode, Scalar, Statement, StatementKind};
 use std::alloc::Global;
 

@@ -8,19 +8,17 @@ ghost use Rattle.ep_tree.specs.SolutionTexts.{letting_names, read_solution};
 ghost use Rattle.ep_tree.specs.Views.{named_value, statement_tree};
 ghost use Rattle.ep_types.specs.Texts.{typed_params_tree};
 ghost use Rattle.ep_eval.specs.Known.{env_of};
-ghost use Rattle.ep_instance.specs.Instances.{find_of, plain_instance, instance_mode};
-ghost use Rattle.ep_instance.specs.Judgements.{FitsIfShaped};
-ghost use Rattle.ep_instance.specs.Refusals.{ShapeAnswers};
+ghost use Rattle.ep_instance_parts.specs.Instances.{find_of, plain_instance, instance_mode};
+ghost use Rattle.ep_instance.specs.Judgements.{FitsIfShaped, ShapeAnswers};
 ghost use Rattle.ep_instance.specs.Shaping as shaping;
 ghost use Rattle.ep_instance.specs.Shaping.{GivesEntries, GivesOneOf};
 
-use super::errors::{BindError, Source};
-use super::instances::{Find, Instance};
 use super::judging::Shaped;
 use super::lettings::bind_params;
 use super::values::fitted_find;
 use ep_base::{Memory, Name};
 use ep_eval::Env;
+use ep_instance_parts::{BindError, Find, Instance, Source};
 use ep_tree::{Assignment, Entry, Statement, StatementKind};
 use ep_types::TypedParams;
 use std::alloc::Global;
@@ -148,7 +146,7 @@ pub fn read_assignment(
     ensures fits { IfOk result (FitsIfShaped (plain_instance instance.now)) }
 {
     let params = params.into_params();
-    let mode = instance.env.mode();
+    let mode = instance.env().mode();
     let known = bind_params(alloc, Source::Solution, mode, &params.statements)?;
     let finds = instance.finds();
     let shaped = shaped_by(alloc, &known, finds, &params.statements)?;

@@ -9,15 +9,12 @@ ghost use Rattle.ep_tree.specs.Types as types;
 ghost use Rattle.ep_tree.specs.Values.{fitted};
 ghost use Rattle.ep_tree.specs.Views.{named_value, value_tree};
 ghost use Rattle.ep_eval.specs.Known.{env_of};
+ghost use Rattle.ep_instance_parts.specs.Instances.{find_of};
 ghost use Rattle.ep_instance.specs.Assigning.{AgreeElsewhere, IsUnder, SetsFind};
-ghost use Rattle.ep_instance.specs.Instances.{find_of};
 
-use super::elements::Elements;
-use super::fitted::scalar_of;
-use super::fitting::fit;
-use super::instances::Find;
 use ep_base::{Memory, Name};
 use ep_eval::Env;
+use ep_instance_parts::{Elements, Find, fit, scalar_of};
 use ep_tree::{Entry, Value, ValueType};
 use std::alloc::Global;
 

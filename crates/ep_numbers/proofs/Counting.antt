@@ -1,6 +1,8 @@
 -- How many numbers runs have, and the numbers of one run, one by one.
-use Rattle.std.proofs.Common.{◌≡◌, ℕ, zero, suc, ◌+◌, ◌<◌, ℤ, pos, negsuc, ◌+ℤ◌, ◌-ℤ◌, ◌≤ℤ◌, ◌<ℤ◌, List, [], ◌∷◌, ◌++◌, length, get_or, take, refl, sym, ap, ◌∙◌, append_assoc, add-one, arith}
-use Rattle.std.proofs.lemmas.Int.{ints}
+use Rattle.std.proofs.Common.{◌≡◌, ℕ, zero, suc, ◌+◌, ◌<◌, ℤ, pos, negsuc, ◌+ℤ◌, ◌-ℤ◌, ◌≤ℤ◌, ◌<ℤ◌, List, [], ◌∷◌, ◌++◌, length, get_or, take, refl, sym, ap, ◌∙◌, append_assoc, add-one, arith, true, false, SFits, w64, of_z, to_z}
+use Rattle.std.specs.Prelude.{int_lt, nat_abs}
+use Rattle.std.specs.Int.{w128}
+use Rattle.std.proofs.lemmas.Int.{ints, to_z-of_z}
 use Rattle.std.proofs.lemmas.List.{take_more}
 use Rattle.ep_base.proofs.RunEnds.{or_zero_is}
 use Rattle.ep_base.specs.declared.run_lists.Run.{Run}
@@ -66,3 +68,27 @@ counting_from a (suc n) = ap (λ xs. a ∷ xs) (counting_from (a +ℤ pos 1) n �
 -- one index more
 pub counting_more : (n : ℕ) → counting (pos 1) (n + 1) ≡ counting (pos 1) n ++ (pos (n + 1)) ∷ []
 counting_more n = rw (add-one n) (counting_from (pos 1) n ∙ ap (λ x. counting (pos 1) n ++ x ∷ []) (omega (arith, ints)))
+
+-- a number below 0 counts nothing
+pub none_below : (z : ℤ) → int_lt z (pos 0) ≡ true → or_zero z ≡ 0
+none_below (pos n) h = grind arith
+none_below (negsuc n) h = refl
+
+-- any other number counts itself
+pub itself_above : (z : ℤ) → int_lt z (pos 0) ≡ false → nat_abs z ≡ or_zero z
+itself_above (pos n) h = refl
+itself_above (negsuc n) h = absurd cc
+
+-- the length of a run in words that are wide enough
+pub wide_length : (hi lo a b : ℤ) → SFits w64 hi → SFits w64 lo → a ≡ to_z w64 (of_z w64 hi) → b ≡ to_z w64 (of_z w64 lo)
+    → to_z w128 (of_z w128 (to_z w128 (of_z w128 (to_z w128 (of_z w128 a) +ℤ pos 1)) -ℤ to_z w128 (of_z w128 b))) ≡ ((hi +ℤ pos 1) -ℤ lo)
+wide_length hi lo a b h k p q =
+    let first : to_z w128 (of_z w128 a) ≡ hi =
+    ap (λ x. to_z w128 (of_z w128 x)) (p ∙ to_z-of_z w64 hi h) ∙ to_z-of_z w128 hi (omega (arith, ints, h)) in
+    let second : to_z w128 (of_z w128 b) ≡ lo =
+    ap (λ x. to_z w128 (of_z w128 x)) (q ∙ to_z-of_z w64 lo k) ∙ to_z-of_z w128 lo (omega (arith, ints, k)) in
+    let more : to_z w128 (of_z w128 (to_z w128 (of_z w128 a) +ℤ pos 1)) ≡ (hi +ℤ pos 1) =
+    ap (λ x. to_z w128 (of_z w128 (x +ℤ pos 1))) first ∙ to_z-of_z w128 (hi +ℤ pos 1) (omega (arith, ints, h)) in
+    ap (λ x. to_z w128 (of_z w128 (x -ℤ to_z w128 (of_z w128 b)))) more
+    ∙ ap (λ x. to_z w128 (of_z w128 ((hi +ℤ pos 1) -ℤ x))) second
+    ∙ to_z-of_z w128 ((hi +ℤ pos 1) -ℤ lo) (omega (arith, ints, h, k))

@@ -12,14 +12,14 @@ use Rattle.ep_tree.specs.Views.{domain_tree, expr_tree}
 use Rattle.ep_tree.specs.declared.syntax.Domain.{Domain}
 use Rattle.ep_tree.specs.declared.syntax.Expr.{Expr}
 use Rattle.ep_parse_expr.specs.Answers.{AnswersDomain, AnswersExpr}
-use Rattle.ep_parse_expr.specs.Readers.{Read, Reader, high, took, wrong}
-use Rattle.ep_parse_expr.specs.TreeReaders.{expr_from, some_domain_from}
+use Rattle.ep_parse_parts.specs.Readers.{Read, Reader, high, took, wrong}
+use Rattle.ep_parse_parts.specs.TreeReaders.{expr_from, some_domain_from}
 use Rattle.ep_parse_expr.specs.declared.errors.ParseError.{ParseError}
 use Rattle.ep_parse_expr.specs.declared.errors.ParseError.TheVariants.{Memory, Syntax, TooHigh}
-use Rattle.ep_parse_expr.proofs.AgainAll.{domain_again, whole_again, zero_least}
+use Rattle.ep_parse_parts.proofs.AgainAll.{domain_again, whole_again, zero_least}
 use Rattle.ep_parse_expr.proofs.Completing.{Half, Refuses}
 use Rattle.ep_parse_expr.proofs.CompletingAll.{all_open}
-use Rattle.ep_parse_expr.proofs.Sound.{domain_sound, expr_sound}
+use Rattle.ep_parse_parts.proofs.Sound.{domain_sound, expr_sound}
 use Rattle.ep_parse_expr.proofs.Steady.{Cut, Cuts, Steady, StopsSo, behind_too, high_alone, high_both, took_both, wrong_both}
 use Rattle.ep_parse_expr.proofs.SteadyAll.{all_steady}
 use Rattle.ep_parse_expr.proofs.SteadyOperators.{Higher}

@@ -7,20 +7,20 @@ use Rattle.ep_base.proofs.TokenLaws.{token_of}
 use Rattle.ep_base.specs.Tokens.{token_text, tokens_of}
 use Rattle.ep_base.specs.declared.tokens.Token.{Token}
 use Rattle.ep_parse_expr.proofs.Calling.{domain_answer, expr_answer}
-use Rattle.ep_parse_expr.proofs.Finding.{finds_gives, finds_gives_domain}
+use Rattle.ep_parse_parts.proofs.Finding.{finds_gives, finds_gives_domain}
 use Rattle.ep_parse_expr.proofs.Steady.{Cut, before_cut, ended, left_by}
 use Rattle.ep_parse_expr.proofs.SteadyAll.{all_steady}
 use Rattle.ep_parse_expr.proofs.SteadyOperators.{Higher}
 use Rattle.ep_parse_expr.specs.Answers.{AnswersDomain, AnswersExpr}
-use Rattle.ep_parse_expr.specs.Cursors.{LieIn, LiesIn}
+use Rattle.ep_parse_parts.specs.Cursors.{LieIn, LiesIn}
 use Rattle.ep_parse_expr.specs.Faults.{error_at}
-use Rattle.ep_parse_expr.specs.Founds.{Finds, FindsDomain}
-use Rattle.ep_parse_expr.specs.Readers.{Read, high, took, wrong}
-use Rattle.ep_parse_expr.specs.TreeReaders.{expr_from, some_domain_from}
-use Rattle.ep_parse_expr.specs.declared.cursor.Stop.{Stop}
-use Rattle.ep_parse_expr.specs.declared.cursor.Stop.TheVariants.{Memory, TooHigh, Wrong}
-use Rattle.ep_parse_expr.specs.declared.found.Found.{Found}
-use Rattle.ep_parse_expr.specs.declared.found.FoundDomain.{FoundDomain}
+use Rattle.ep_parse_parts.specs.Founds.{Finds, FindsDomain}
+use Rattle.ep_parse_parts.specs.Readers.{Read, high, took, wrong}
+use Rattle.ep_parse_parts.specs.TreeReaders.{expr_from, some_domain_from}
+use Rattle.ep_parse_parts.specs.declared.cursor.Stop.{Stop}
+use Rattle.ep_parse_parts.specs.declared.cursor.Stop.TheVariants.{Memory, TooHigh, Wrong}
+use Rattle.ep_parse_parts.specs.declared.found.Found.{Found}
+use Rattle.ep_parse_parts.specs.declared.found.FoundDomain.{FoundDomain}
 use Rattle.ep_tree.specs.Phrases.{Lexeme, lexemes_of}
 use Rattle.ep_tree.specs.Spelling.{domains, implications}
 use Rattle.ep_tree.specs.Trees.{DomainTree, ExprTree}

@@ -8,11 +8,11 @@ use Rattle.ep_tree.specs.Views.{domain_tree, expr_tree}
 use Rattle.ep_tree.specs.declared.syntax.Domain.{Domain}
 use Rattle.ep_tree.specs.declared.syntax.Expr.{Expr}
 use Rattle.ep_parse_expr.specs.Answers.{AnswersDomain, AnswersExpr}
-use Rattle.ep_parse_expr.specs.Cursors.{Gives}
+use Rattle.ep_parse_parts.specs.Cursors.{Gives}
 use Rattle.ep_parse_expr.specs.Faults.{error_at}
-use Rattle.ep_parse_expr.specs.TreeReaders.{expr_from, some_domain_from}
-use Rattle.ep_parse_expr.specs.declared.cursor.Stop.{Stop}
-use Rattle.ep_parse_expr.specs.declared.cursor.Stop.TheVariants.{Memory as OutOfMemory, TooHigh as StopsHigh, Wrong}
+use Rattle.ep_parse_parts.specs.TreeReaders.{expr_from, some_domain_from}
+use Rattle.ep_parse_parts.specs.declared.cursor.Stop.{Stop}
+use Rattle.ep_parse_parts.specs.declared.cursor.Stop.TheVariants.{Memory as OutOfMemory, TooHigh as StopsHigh, Wrong}
 use Rattle.ep_parse_expr.specs.declared.errors.ParseError.{ParseError}
 use Rattle.ep_parse_expr.specs.declared.errors.ParseError.TheVariants.{Memory, Syntax, TooHigh}
 use Rattle.ep_parse_expr.proofs.Answering.{answers_domain, answers_expr}

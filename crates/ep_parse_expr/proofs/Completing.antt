@@ -7,11 +7,11 @@ use Rattle.ep_tree.specs.Heights.{domain_height, height}
 use Rattle.ep_tree.specs.Phrases.{Is, Lexeme, Phrase, Saying, a_name, a_word, ◌followed_by◌}
 use Rattle.ep_tree.specs.Spelling.{DomainLevel, Level, Spells, SpellsDomain, SpellsDomainNode, SpellsNode, domain_rank, own_domain_level, own_level, primaries, rank, set_parts}
 use Rattle.ep_tree.specs.Trees.{DomainTree, ExprTree, bool, named, place_of, place_of_domain}
-use Rattle.ep_parse_expr.specs.OperandReaders.{if_low}
-use Rattle.ep_parse_expr.specs.Readers.{Read, Reader, behind, either_reader, going_on, grown_from, growing, high, says_word, more_from, others_from, took, word_from, wrong, ◌and_then◌}
-use Rattle.ep_parse_expr.proofs.Again.{lexeme}
-use Rattle.ep_parse_expr.proofs.Holding.{Holds, HoldsIf, Takes, more_sound, word_sound}
-use Rattle.ep_parse_expr.proofs.SoundParts.{IsDomain, IsExpr}
+use Rattle.ep_parse_parts.specs.OperandReaders.{if_low}
+use Rattle.ep_parse_parts.specs.Readers.{Read, Reader, behind, either_reader, going_on, grown_from, growing, high, says_word, more_from, others_from, took, word_from, wrong, ◌and_then◌}
+use Rattle.ep_parse_parts.proofs.Again.{lexeme}
+use Rattle.ep_parse_parts.proofs.Holding.{Holds, HoldsIf, Takes, more_sound, word_sound}
+use Rattle.ep_parse_parts.proofs.SoundParts.{IsDomain, IsExpr}
 
 -- a phrase, which may be limited in height
 abbrev pub Shape : Type 1

@@ -8,9 +8,9 @@ use Rattle.ep_tree.specs.Heights.{height}
 use Rattle.ep_tree.specs.Phrases.{Lexeme, Saying, a_name, a_number, a_word}
 use Rattle.ep_tree.specs.Spelling.{DomainLevel, Level, SpellsDomainNode, domain_rank, domains, own_domain_level, own_level, rank, set_operations, set_parts, unaries}
 use Rattle.ep_tree.specs.Trees.{DomainTree, ExprTree, bool, int, named_domain, place_of_domain}
-use Rattle.ep_parse_expr.specs.OperandReaders.{domain_next, expression_next, none_low, opens, opens_domain}
-use Rattle.ep_parse_expr.specs.TreeReaders.{expr_from}
-use Rattle.ep_parse_expr.proofs.AgainAll.{readers}
+use Rattle.ep_parse_parts.specs.OperandReaders.{domain_next, expression_next, none_low, opens, opens_domain}
+use Rattle.ep_parse_parts.specs.TreeReaders.{expr_from}
+use Rattle.ep_parse_parts.proofs.AgainAll.{readers}
 use Rattle.ep_parse_expr.proofs.Completing.{ADomain, AnExpr, Opens, Refuses, Word, refuses_high, refuses_wrong}
 use Rattle.ep_parse_expr.proofs.CompletingDomains.{InGroup, InMatrix, domain_level_refuses, group_node, in_matrix_has, matrix_node}
 use Rattle.ep_parse_expr.proofs.CompletingOpened.{begins_higher}

@@ -10,19 +10,19 @@ use Rattle.ep_tree.specs.Phrases.{Is, Lexeme, Phrase, Says, Saying, StartsAt, a_
 use Rattle.ep_tree.specs.Spelling.{BetweenDomains, DomainLevel, MatrixTail, Spells, SpellsDomain, SpellsDomainNode, SpellsEnd, SpellsMoreIndexDomains, SpellsMoreRanges, SpellsRanges, domain_rank, domains, implications, own_domain_level, rank, set_operations, set_parts}
 use Rattle.ep_tree.specs.Trees.{DomainTree, Domains, End, Ranges, bool, domain_and, end_at, group_domain, int, matrix_domain, named_domain, no_domains, no_end, no_ranges, one_and, place_of_domain, ranges, set_domain, span_and}
 use Rattle.ep_tree.specs.declared.syntax.SetOp.{SetOp}
-use Rattle.ep_parse_expr.specs.DomainReaders.{DomainOpening, RangeRead, a_bool, a_domain_group, an_int, another_index_domain, another_operation, any_domain_from, as_domains, as_ranges, domain_at_level, domain_begun_from, domain_open_from, domain_openings, domain_part_from, end_from, index_domain_behind, matrix_follows, matrix_from, matrix_head_from, of_number, of_span, operations_from, range_from, ranges_from, set_words}
-use Rattle.ep_parse_expr.specs.OperandReaders.{Lower, expression_next, if_low}
-use Rattle.ep_parse_expr.specs.Readers.{Read, behind, behind_comma, says_word, looked_up, next_in, says, took, word_from, ◌and_then◌}
-use Rattle.ep_parse_expr.proofs.Again.{behind_word_cut}
-use Rattle.ep_parse_expr.proofs.AgainPhrases.{some_domain}
+use Rattle.ep_parse_parts.specs.DomainReaders.{DomainOpening, RangeRead, a_bool, a_domain_group, an_int, another_index_domain, another_operation, any_domain_from, as_domains, as_ranges, domain_at_level, domain_begun_from, domain_open_from, domain_openings, domain_part_from, end_from, index_domain_behind, matrix_follows, matrix_from, matrix_head_from, of_number, of_span, operations_from, range_from, ranges_from, set_words}
+use Rattle.ep_parse_parts.specs.OperandReaders.{Lower, expression_next, if_low}
+use Rattle.ep_parse_parts.specs.Readers.{Read, behind, behind_comma, says_word, looked_up, next_in, says, took, word_from, ◌and_then◌}
+use Rattle.ep_parse_parts.proofs.Again.{behind_word_cut}
+use Rattle.ep_parse_parts.proofs.AgainPhrases.{some_domain}
 use Rattle.ep_parse_expr.proofs.Completing.{ADomain, AnExpr, Filled, ItemSo, Lifts, Refuses, Shape, Word, domain_filled, grown_refuses, next_then, others_then, refuses_as, refuses_behind, refuses_chosen, refuses_low, refuses_made, refuses_then, refuses_took, refuses_wrong, then_filled, word_filled, word_refuses, word_then, ◌then◌}
 use Rattle.ep_parse_expr.proofs.CompletingOperands.{Has, domain_has, then_has, word_has}
 use Rattle.ep_parse_expr.proofs.CompletingOperators.{entry_next, operator_there}
 use Rattle.ep_parse_expr.proofs.CompletingParts.{AreOpen, domain_then, expr_then, sep_then, token_opens}
 use Rattle.ep_parse_expr.proofs.CompletingReads.{refuses_higher, refuses_step}
-use Rattle.ep_parse_expr.proofs.Holding.{Holds, Takes, holds_as, is_word-sound, looked_up-sound, regrouped, says_sound, starts_front, takes_then, takes_token}
-use Rattle.ep_parse_expr.proofs.Sound.{IsRange, SpellsRange, are_domain_openings, are_operations, domain_part_sound, domain_word, head_sound, index_behind_sound, operation_step, range_high, range_sound, set_bytes}
-use Rattle.ep_parse_expr.proofs.SoundParts.{AreSound, IsDomain, comma_sound, kept-sound, looser_domain}
+use Rattle.ep_parse_parts.proofs.Holding.{Holds, Takes, holds_as, is_word-sound, looked_up-sound, regrouped, says_sound, starts_front, takes_then, takes_token}
+use Rattle.ep_parse_parts.proofs.Sound.{IsRange, SpellsRange, are_domain_openings, are_operations, domain_part_sound, domain_word, head_sound, index_behind_sound, operation_step, range_high, range_sound, set_bytes}
+use Rattle.ep_parse_parts.proofs.SoundParts.{AreSound, IsDomain, comma_sound, kept-sound, looser_domain}
 
 -- a domain that begins with a word
 domain_node : (level : DomainLevel) (most : ℕ) (w : List ℕ) (b : Bool) (front : List Lexeme) (Ph : Phrase) → (Is (a_word w) followed_by Ph) front → (make : Place → DomainTree) → ((p : Place) → place_of_domain (make p) ≡ p)

@@ -9,15 +9,15 @@ use Rattle.ep_tree.specs.Heights.{height}
 use Rattle.ep_tree.specs.declared.syntax.BinaryOp.{BinaryOp}
 use Rattle.ep_tree.specs.declared.syntax.FoldOp.{FoldOp}
 use Rattle.ep_tree.specs.declared.syntax.QuantOp.{QuantOp}
-use Rattle.ep_parse_expr.specs.OperandReaders.{Lower, Opening, ThreeParts, a_bar, a_bracket, a_greatest, a_group, a_least, a_minus, a_negation, a_quantifier, a_sum, a_table, a_truth, and_part, folded_by, begun_from, bracket_from, call_from, call_of_three_from, call_of_two_from, closed_by, comprehension_from, expression_next, if_low, is_there, literal_from, of_one, of_three, one_part, open_from, opened_from, openings, operand_from, opens, quantifier_from, sum_from, table_from}
-use Rattle.ep_parse_expr.specs.Readers.{Read, behind, looked_up, says, took, ◌and_then◌}
-use Rattle.ep_parse_expr.proofs.AgainOperands.{some_expr}
+use Rattle.ep_parse_parts.specs.OperandReaders.{Lower, Opening, ThreeParts, a_bar, a_bracket, a_greatest, a_group, a_least, a_minus, a_negation, a_quantifier, a_sum, a_table, a_truth, and_part, folded_by, begun_from, bracket_from, call_from, call_of_three_from, call_of_two_from, closed_by, comprehension_from, expression_next, if_low, is_there, literal_from, of_one, of_three, one_part, open_from, opened_from, openings, operand_from, opens, quantifier_from, sum_from, table_from}
+use Rattle.ep_parse_parts.specs.Readers.{Read, behind, looked_up, says, took, ◌and_then◌}
+use Rattle.ep_parse_parts.proofs.AgainOperands.{some_expr}
 use Rattle.ep_parse_expr.proofs.Completing.{ADomain, AnExpr, Filled, Opens, Refuses, Shape, Word, domain_filled, expr_filled, next_then, refuses_as, refuses_behind, refuses_chosen, refuses_low, refuses_made, refuses_took, refuses_wrong, then_filled, word_filled, word_then, ◌then◌}
 use Rattle.ep_parse_expr.proofs.CompletingOperands.{BehindFirst, Bracketed, Enclosed, Has, ListEnd, OfComprehension, OfList, OneCall, OneOrTwo, OneOrTwoCall, Operand, Quantified, SumOf, ThreeCall, TwoCall, TwoMore, bar_node, behind_first_filled, bracket_node, bracketed_filled, domain_has, expr_has, group_node, list_end_has, minus_node, negation_node, one_call_node, one_or_two_node, quantifier_node, table_node, then_has, three_call_node, word_has}
 use Rattle.ep_parse_expr.proofs.CompletingParts.{AGenerator, AnIndexDomain, AreOpen, MoreExprs, MoreGenerators, SomeNames, closed_refuses, conditions_then, domain_then, expr_then, exprs_filled, exprs_then, index_domain_filled, generator_then, generators_then, list_end_refuses, names_filled, names_then, no_generator, token_opens}
-use Rattle.ep_parse_expr.proofs.Holding.{looked_up-sound, says_sound, takes_token}
-use Rattle.ep_parse_expr.proofs.SoundOpened.{are_openings, opening_word}
-use Rattle.ep_parse_expr.proofs.SoundParts.{AreSound}
+use Rattle.ep_parse_parts.proofs.Holding.{looked_up-sound, says_sound, takes_token}
+use Rattle.ep_parse_parts.proofs.SoundOpened.{are_openings, opening_word}
+use Rattle.ep_parse_parts.proofs.SoundParts.{AreSound}
 
 -- ---- what a word opens, as a phrase behind it
 

@@ -9,11 +9,11 @@ use Rattle.ep_tree.specs.Trees.{Generators, absolute, binary, bool, comprehensio
 use Rattle.ep_tree.specs.declared.syntax.BinaryOp.{BinaryOp}
 use Rattle.ep_tree.specs.declared.syntax.FoldOp.{FoldOp}
 use Rattle.ep_tree.specs.declared.syntax.QuantOp.{QuantOp}
-use Rattle.ep_parse_expr.specs.OperandReaders.{OnePart, ThreeParts, one_part, three_parts}
+use Rattle.ep_parse_parts.specs.OperandReaders.{OnePart, ThreeParts, one_part, three_parts}
 use Rattle.ep_parse_expr.proofs.Completing.{ADomain, AnExpr, Filled, Shape, Word, somewhere, ◌then◌}
 use Rattle.ep_parse_expr.proofs.CompletingParts.{AGenerator, AnIndexDomain, MoreExprs, MoreGenerators, SomeNames, no_exprs, no_index_domain, opened_node}
-use Rattle.ep_parse_expr.proofs.Holding.{ungrouped}
-use Rattle.ep_parse_expr.proofs.SoundOpened.{one_height, one_node, one_own, one_place, one_word, three_height, three_node, three_own, three_place, three_word}
+use Rattle.ep_parse_parts.proofs.Holding.{ungrouped}
+use Rattle.ep_parse_parts.proofs.SoundOpened.{one_height, one_node, one_own, one_place, one_word, three_height, three_node, three_own, three_place, three_word}
 
 -- a phrase that there is, with its limit or without
 abbrev pub Has : Shape → Bool → Type 0

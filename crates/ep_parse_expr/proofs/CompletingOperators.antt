@@ -10,19 +10,19 @@ use Rattle.ep_tree.specs.Phrases.{Is, Lexeme, Says, a_word, ◌followed_by◌}
 use Rattle.ep_tree.specs.Spelling.{Level, Spells, SpellsMoreParts, SpellsNode, SpellsTerms, comparisons, conjunctions, disjunctions, domain_rank, ends_open, has_terms, has_trees, implications, own_level, powers, primaries, products, rank, reads, set_operations, sign_word, sums, tighter, unaries}
 use Rattle.ep_tree.specs.Trees.{ExprTree, ExprTrees, Terms, all_of, any_of, binary, chain, compare, in_domain, in_set, lex, no_terms, no_trees, place_of, term_and, tree_and}
 use Rattle.ep_tree.specs.declared.syntax.BinaryOp.{BinaryOp}
-use Rattle.ep_parse_expr.specs.OperandReaders.{Lower, as_trees, if_low, is_there}
-use Rattle.ep_parse_expr.specs.OperatorReaders.{Comparison, Term, another_binary, as_terms, at_level, behind_operator, chain_from, compared_with, comparison_behind, comparison_from, comparison_words, conjunction_from, disjunction_from, implication_from, implication_words, of_lists, of_numbers, of_set, only_word, operated, part_from, parts_behind, parts_from, power_from, power_words, product_from, product_words, sign_words, term_behind, term_from, terms_behind, terms_from, unary_from, with_operator}
-use Rattle.ep_parse_expr.specs.Readers.{Read, behind, grown, if_some, kept, meant_by, next_in, others_from, says, took, word_from, wrong, ◌and_then◌}
-use Rattle.ep_parse_expr.proofs.AgainOperands.{some_expr}
+use Rattle.ep_parse_parts.specs.OperandReaders.{Lower, as_trees, if_low, is_there}
+use Rattle.ep_parse_parts.specs.OperatorReaders.{Comparison, Term, another_binary, as_terms, at_level, behind_operator, chain_from, compared_with, comparison_behind, comparison_from, comparison_words, conjunction_from, disjunction_from, implication_from, implication_words, of_lists, of_numbers, of_set, only_word, operated, part_from, parts_behind, parts_from, power_from, power_words, product_from, product_words, sign_words, term_behind, term_from, terms_behind, terms_from, unary_from, with_operator}
+use Rattle.ep_parse_parts.specs.Readers.{Read, behind, grown, if_some, kept, meant_by, next_in, others_from, says, took, word_from, wrong, ◌and_then◌}
+use Rattle.ep_parse_parts.proofs.AgainOperands.{some_expr}
 use Rattle.ep_parse_expr.proofs.Completing.{ADomain, AnExpr, Filled, ItemSo, Refuses, Shape, Word, expr_filled, grown_refuses, more_refuses, next_then, refuses_as, refuses_behind, refuses_chosen, refuses_made, refuses_then, refuses_took, then_filled, word_filled, word_refuses, ◌then◌}
 use Rattle.ep_parse_expr.proofs.CompletingOpened.{call_refuses}
 use Rattle.ep_parse_expr.proofs.CompletingOperands.{Has, OneCall, domain_has, expr_has, then_has, word_has}
 use Rattle.ep_parse_expr.proofs.CompletingParts.{AreOpen, token_opens}
 use Rattle.ep_parse_expr.proofs.CompletingReads.{behind_left, refuses_step, unary_refuses}
-use Rattle.ep_parse_expr.proofs.Holding.{AllEntries, AreWordsOf, Holds, Takes, holds_as, holds_then, meant_by-sound, next_in-all, says_sound, starts_front, takes_then, takes_token, word_sound}
-use Rattle.ep_parse_expr.proofs.SoundOperators.{IsOf, are_comparisons, are_implications, are_powers, are_products, are_signs, binary_bytes, binary_step, chain_sound, comparison_bytes, comparison_sound, conjunction_sound, disjunction_sound, operator_sound, power_sound, product_sound, sign_bytes, term_sound}
-use Rattle.ep_parse_expr.proofs.SoundParts.{AreSound, IsExpr, looser, takes_expr}
-use Rattle.ep_parse_expr.proofs.SoundReads.{unary_sound}
+use Rattle.ep_parse_parts.proofs.Holding.{AllEntries, AreWordsOf, Holds, Takes, holds_as, holds_then, meant_by-sound, next_in-all, says_sound, starts_front, takes_then, takes_token, word_sound}
+use Rattle.ep_parse_parts.proofs.SoundOperators.{IsOf, are_comparisons, are_implications, are_powers, are_products, are_signs, binary_bytes, binary_step, chain_sound, comparison_bytes, comparison_sound, conjunction_sound, disjunction_sound, operator_sound, power_sound, product_sound, sign_bytes, term_sound}
+use Rattle.ep_parse_parts.proofs.SoundParts.{AreSound, IsExpr, looser, takes_expr}
+use Rattle.ep_parse_parts.proofs.SoundReads.{unary_sound}
 
 -- ---- the next token of a table
 

@@ -9,12 +9,12 @@ use Rattle.ep_tree.specs.Heights.{height, highest, highest_generator, index_heig
 use Rattle.ep_tree.specs.Phrases.{Is, Lexeme, Names, Phrase, Says, Saying, Silence, StartsAt, a_name, a_number, a_word, ◌followed_by◌}
 use Rattle.ep_tree.specs.Spelling.{DomainLevel, Level, SpellsIndexDomain, SpellsMore, SpellsMoreGenerators, SpellsNode, implications, own_level, primaries, rank, domain_rank, set_operations, unaries}
 use Rattle.ep_tree.specs.Trees.{DomainTree, ExprTree, ExprTrees, Generators, IndexDomain, generator_and, no_generators, no_trees, over, place_of, tree_and, unstated}
-use Rattle.ep_parse_expr.specs.OperandReaders.{Generator, Lower, another_generator, closed_by, colon_comes, conditions_from, generator_from, if_low, index_domain_from, list_end}
-use Rattle.ep_parse_expr.specs.Readers.{Reader, behind, behind_comma, either_reader, says_word, name_from, name_in, names_from, others_from, says, took, word_from, ◌and_then◌}
-use Rattle.ep_parse_expr.proofs.Again.{behind_word_cut}
+use Rattle.ep_parse_parts.specs.OperandReaders.{Generator, Lower, another_generator, closed_by, colon_comes, conditions_from, generator_from, if_low, index_domain_from, list_end}
+use Rattle.ep_parse_parts.specs.Readers.{Reader, behind, behind_comma, either_reader, says_word, name_from, name_in, names_from, others_from, says, took, word_from, ◌and_then◌}
+use Rattle.ep_parse_parts.proofs.Again.{behind_word_cut}
 use Rattle.ep_parse_expr.proofs.Completing.{ADomain, AnExpr, Filled, ItemSo, Lifts, Opens, Refuses, Shape, Word, a_domain, an_expr, domain_filled, domain_lifts, expr_filled, expr_lifts, more_refuses, more_takes, next_then, others_then, refuses_as, refuses_behind, refuses_chosen, refuses_low, refuses_made, refuses_then, refuses_took, refuses_wrong, somewhere, then_filled, then_lifts, word_filled, word_refuses, word_then, ◌then◌}
-use Rattle.ep_parse_expr.proofs.Holding.{Holds, Takes, holds_as, holds_then, holds_took, is_word-sound, says_sound, takes_then, word_sound}
-use Rattle.ep_parse_expr.proofs.SoundParts.{AreSound, comma_sound, kept-sound, name_sound, names_sound}
+use Rattle.ep_parse_parts.proofs.Holding.{Holds, Takes, holds_as, holds_then, holds_took, is_word-sound, says_sound, takes_then, word_sound}
+use Rattle.ep_parse_parts.proofs.SoundParts.{AreSound, comma_sound, kept-sound, name_sound, names_sound}
 
 -- readers of what is lower by one, whose reading can be completed
 pub record AreOpen (less : ℕ) (low : Lower) : Type 0 where

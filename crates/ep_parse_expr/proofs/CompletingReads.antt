@@ -8,17 +8,17 @@ use Rattle.ep_tree.specs.Heights.{height, highest_index}
 use Rattle.ep_tree.specs.Phrases.{Is, Lexeme, Says, a_word, ◌followed_by◌}
 use Rattle.ep_tree.specs.Spelling.{Level, Spells, SpellsIndices, SpellsNode, implications, own_level, rank, reads, takes_own_group, unaries}
 use Rattle.ep_tree.specs.Trees.{ExprTree, Indices, no_indices, place_of, read}
-use Rattle.ep_parse_expr.specs.OperandReaders.{Lower, if_low, operand_from}
-use Rattle.ep_parse_expr.specs.OperatorReaders.{ReadIndex, another_index, another_read, as_indices, index_from, only_if, read_from, takes_group, unary_from, with_index}
-use Rattle.ep_parse_expr.specs.Readers.{Read, Reader, behind, high, says, took, wrong, ◌and_then◌}
+use Rattle.ep_parse_parts.specs.OperandReaders.{Lower, if_low, operand_from}
+use Rattle.ep_parse_parts.specs.OperatorReaders.{ReadIndex, another_index, another_read, as_indices, index_from, only_if, read_from, takes_group, unary_from, with_index}
+use Rattle.ep_parse_parts.specs.Readers.{Read, Reader, behind, high, says, took, wrong, ◌and_then◌}
 use Rattle.ep_parse_expr.proofs.Completing.{AnExpr, Filled, Half, ItemSo, Lifts, Opens, Refuses, Shape, Word, grown_refuses, others_then, refuses_as, refuses_behind, refuses_chosen, refuses_made, refuses_took, then_filled, word_filled, ◌then◌}
 use Rattle.ep_parse_expr.proofs.CompletingOpened.{operand_refuses}
 use Rattle.ep_parse_expr.proofs.CompletingOperands.{Operand, word_has}
 use Rattle.ep_parse_expr.proofs.CompletingParts.{AreOpen, closed_refuses, token_opens}
-use Rattle.ep_parse_expr.proofs.Holding.{is_word-sound, starts_front, takes_token}
-use Rattle.ep_parse_expr.proofs.SoundOpened.{operand_sound}
-use Rattle.ep_parse_expr.proofs.SoundParts.{AreSound, IsExpr}
-use Rattle.ep_parse_expr.proofs.SoundReads.{Before, Further, SpellsIndex, another_read_sound, another_sound, index_high, index_sound, indices_high, then_every}
+use Rattle.ep_parse_parts.proofs.Holding.{is_word-sound, starts_front, takes_token}
+use Rattle.ep_parse_parts.proofs.SoundOpened.{operand_sound}
+use Rattle.ep_parse_parts.proofs.SoundParts.{AreSound, IsExpr}
+use Rattle.ep_parse_parts.proofs.SoundReads.{Before, Further, SpellsIndex, another_read_sound, another_sound, index_high, index_sound, indices_high, then_every}
 
 -- ---- more rules
 

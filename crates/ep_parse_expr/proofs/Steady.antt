@@ -6,8 +6,8 @@
 use Rattle.std.specs.Prelude.{◌≡◌, ℕ, suc, ◌≤◌, ◌<◌, Bool, true, false, List, [], ◌∷◌, ◌++◌, length, refl}
 use Rattle.std.proofs.Common.{ap, arith, sym, subst, ◌∙◌}
 use Rattle.ep_tree.specs.Phrases.{Lexeme, Saying, a_name, a_number, a_word}
-use Rattle.ep_parse_expr.specs.OperandReaders.{if_low}
-use Rattle.ep_parse_expr.specs.Readers.{Read, Reader, behind, either_reader, high, says_word, says, took, word_from, name_from, name_in, wrong, ◌and_then◌}
+use Rattle.ep_parse_parts.specs.OperandReaders.{if_low}
+use Rattle.ep_parse_parts.specs.Readers.{Read, Reader, behind, either_reader, high, says_word, says, took, word_from, name_from, name_in, wrong, ◌and_then◌}
 
 -- what stands behind a cut in two lists: one token that is the same, or nothing in the second
 pub data Same (exact : Bool) (a b : List Lexeme) : Type 0 where

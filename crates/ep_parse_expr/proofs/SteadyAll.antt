@@ -7,15 +7,15 @@ use Rattle.std.proofs.lemmas.Slice.Eq.{bytes_eq-Decides}
 use Rattle.ep_tree.specs.Phrases.{Lexeme, Saying, a_name, a_number, a_word}
 use Rattle.ep_tree.specs.Spelling.{DomainLevel, Level, comparisons, conjunctions, disjunctions, domains, implications, powers, primaries, products, reads, set_operations, set_parts, sums, unaries}
 use Rattle.ep_tree.specs.Trees.{all_of, any_of}
-use Rattle.ep_parse_expr.specs.DomainReaders.{a_bool, a_domain_group, an_int, another_operation, any_domain_from, domain_at_level, domain_begun_from, domain_open_from, domain_openings, domain_part_from, matrix_from, operations_from, place_next}
-use Rattle.ep_parse_expr.specs.OperandReaders.{Lower, Opening, begun_from, domain_next, expression_next, if_low, is_there, none_low, open_from, openings, operand_from, opens, opens_domain}
-use Rattle.ep_parse_expr.specs.OperatorReaders.{another_binary, another_read, at_level, chain_from, comparison_behind, comparison_from, conjunction_from, disjunction_from, implication_from, implication_words, parts_behind, power_from, power_words, product_from, product_words, terms_behind, unary_from}
-use Rattle.ep_parse_expr.specs.Readers.{Reader, behind, either_reader, found_or, grown, high, says_word, looked_up, says, wrong, ◌and_then◌}
-use Rattle.ep_parse_expr.specs.TreeReaders.{expr_from, some_domain_from}
-use Rattle.ep_parse_expr.proofs.Again.{lexeme}
-use Rattle.ep_parse_expr.proofs.AgainAll.{all_complete, readers}
-use Rattle.ep_parse_expr.proofs.Sound.{domain_sound, expr_sound}
-use Rattle.ep_parse_expr.proofs.SoundParts.{AreSound}
+use Rattle.ep_parse_parts.specs.DomainReaders.{a_bool, a_domain_group, an_int, another_operation, any_domain_from, domain_at_level, domain_begun_from, domain_open_from, domain_openings, domain_part_from, matrix_from, operations_from, place_next}
+use Rattle.ep_parse_parts.specs.OperandReaders.{Lower, Opening, begun_from, domain_next, expression_next, if_low, is_there, none_low, open_from, openings, operand_from, opens, opens_domain}
+use Rattle.ep_parse_parts.specs.OperatorReaders.{another_binary, another_read, at_level, chain_from, comparison_behind, comparison_from, conjunction_from, disjunction_from, implication_from, implication_words, parts_behind, power_from, power_words, product_from, product_words, terms_behind, unary_from}
+use Rattle.ep_parse_parts.specs.Readers.{Reader, behind, either_reader, found_or, grown, high, says_word, looked_up, says, wrong, ◌and_then◌}
+use Rattle.ep_parse_parts.specs.TreeReaders.{expr_from, some_domain_from}
+use Rattle.ep_parse_parts.proofs.Again.{lexeme}
+use Rattle.ep_parse_parts.proofs.AgainAll.{all_complete, readers}
+use Rattle.ep_parse_parts.proofs.Sound.{domain_sound, expr_sound}
+use Rattle.ep_parse_parts.proofs.SoundParts.{AreSound}
 use Rattle.ep_parse_expr.proofs.Steady.{Cut, Cuts, Look, Steady, at_end, behind_too, ended, gone, head, high_alone, high_steady, look, wrong_steady}
 use Rattle.ep_parse_expr.proofs.SteadyDomains.{domain_level_steady}
 use Rattle.ep_parse_expr.proofs.SteadyOperators.{Higher, at_level_steady, level_begun, level_named}

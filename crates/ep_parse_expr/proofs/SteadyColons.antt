@@ -7,11 +7,11 @@ use Rattle.ep_tree.specs.Heights.{height}
 use Rattle.ep_tree.specs.Phrases.{Lexeme, Saying, a_name, a_number, a_word}
 use Rattle.ep_tree.specs.Spelling.{SpellsNode, implications, set_operations, own_level, rank}
 use Rattle.ep_tree.specs.Trees.{ExprTree, named, place_of, truth}
-use Rattle.ep_parse_expr.specs.OperandReaders.{Generator, Lower, another_generator, colon_comes, colon_or, conditions_from, generator_from, says_name}
-use Rattle.ep_parse_expr.specs.Readers.{Read, Reader, behind_comma, either_reader, going_on, kept, says_word, more_from, name_from, name_in, names_from, others_from, says, took, high, word_from, wrong, ◌and_then◌}
-use Rattle.ep_parse_expr.proofs.Again.{AreComplete, NoImplications}
-use Rattle.ep_parse_expr.proofs.AgainLists.{comma_ends}
-use Rattle.ep_parse_expr.proofs.Holding.{is_word-sound}
+use Rattle.ep_parse_parts.specs.OperandReaders.{Generator, Lower, another_generator, colon_comes, colon_or, conditions_from, generator_from, says_name}
+use Rattle.ep_parse_parts.specs.Readers.{Read, Reader, behind_comma, either_reader, going_on, kept, says_word, more_from, name_from, name_in, names_from, others_from, says, took, high, word_from, wrong, ◌and_then◌}
+use Rattle.ep_parse_parts.proofs.Again.{AreComplete, NoImplications}
+use Rattle.ep_parse_parts.proofs.AgainLists.{comma_ends}
+use Rattle.ep_parse_parts.proofs.Holding.{is_word-sound}
 use Rattle.ep_parse_expr.proofs.Steady.{Cut, Cuts, Same, Look, Steady, at_end, before_cut, behind_cut, behind_too, ended, going, gone, head, left_by, look, steady_then, took_steady, name_steady, word_steady}
 use Rattle.ep_parse_expr.proofs.SteadyLists.{Turns, both_end, both_go, ends_alone, goes_alone, grouped, others_steady}
 use Rattle.ep_parse_expr.proofs.SteadyParts.{AreSteady, commas_steady, domain_made_steady, generator_steady, more_commas_steady}

@@ -7,9 +7,9 @@ use Rattle.ep_tree.specs.Phrases.{Lexeme, Saying, a_name, a_number, a_word}
 use Rattle.ep_tree.specs.Spelling.{DomainLevel, domains, implications, set_operations, set_parts}
 use Rattle.ep_tree.specs.Trees.{DomainTree, End, bool, end_at, group_domain, int, matrix_domain, named_domain, no_end, place_of_domain, ranges, set_domain}
 use Rattle.ep_tree.specs.declared.syntax.SetOp.{SetOp}
-use Rattle.ep_parse_expr.specs.DomainReaders.{DomainOpening, RangeRead, a_bool, a_domain_group, an_int, another_index_domain, another_operation, any_domain_from, as_domains, as_ranges, domain_at_level, domain_begun_from, domain_open_from, domain_openings, domain_part_from, end_from, index_domain_behind, matrix_follows, matrix_from, matrix_head_from, of_number, of_span, operations_from, place_next, range_from, ranges_from, set_words}
-use Rattle.ep_parse_expr.specs.OperandReaders.{Lower, expression_next, if_low, opens}
-use Rattle.ep_parse_expr.specs.Readers.{Read, Reader, behind, either_reader, high, says_word, kept, looked_up, meant_by, next_in, says, took, word_from, wrong, ◌and_then◌}
+use Rattle.ep_parse_parts.specs.DomainReaders.{DomainOpening, RangeRead, a_bool, a_domain_group, an_int, another_index_domain, another_operation, any_domain_from, as_domains, as_ranges, domain_at_level, domain_begun_from, domain_open_from, domain_openings, domain_part_from, end_from, index_domain_behind, matrix_follows, matrix_from, matrix_head_from, of_number, of_span, operations_from, place_next, range_from, ranges_from, set_words}
+use Rattle.ep_parse_parts.specs.OperandReaders.{Lower, expression_next, if_low, opens}
+use Rattle.ep_parse_parts.specs.Readers.{Read, Reader, behind, either_reader, high, says_word, kept, looked_up, meant_by, next_in, says, took, word_from, wrong, ◌and_then◌}
 use Rattle.ep_parse_expr.proofs.Steady.{Cut, Cuts, Decides, Look, Steady, Tests, at_end, behind_cut, behind_too, decided, gone, head, high_alone, inside, left_by, look, neither, next_word_steady, steady_then, took_steady, too_high, wider, word_steady, wrong_steady}
 use Rattle.ep_parse_expr.proofs.SteadyLists.{Turns, both_end, both_go, ends_alone, goes_alone, grown_steady, others_steady}
 use Rattle.ep_parse_expr.proofs.SteadyOperators.{Higher, SaysSo, behind_less, below_tests, both_say, neither_says, says_past, says_so, silent_past, steps_operated}

@@ -2,7 +2,7 @@
 use Rattle.std.specs.Prelude.{◌≡◌, ℕ, zero, suc, ◌≤◌, ◌<◌, ◌⊎◌, true, List, [], ◌∷◌, ◌++◌, length, Option, Some, None, refl}
 use Rattle.std.proofs.Common.{ap, arith, inl, inr, sym, subst, ◌∙◌, length-append}
 use Rattle.ep_tree.specs.Phrases.{Lexeme}
-use Rattle.ep_parse_expr.specs.Readers.{Read, Reader, going_on, grown, grown_from, growing, high, more_from, others_from, took, wrong, ◌and_then◌}
+use Rattle.ep_parse_parts.specs.Readers.{Read, Reader, going_on, grown, grown_from, growing, high, more_from, others_from, took, wrong, ◌and_then◌}
 use Rattle.ep_parse_expr.proofs.Steady.{Cut, Cuts, Decides, Look, Steady, at_end, before_cut, behind_cut, behind_too, decided_within, gone, head, inside, left_by, look, neither, steady_then, took_steady, too_high, wider}
 
 pub grouped : {A B D : Type 0} (r : Read A) (f : A → Reader B) (g : B → Reader D) → ((r and_then f) and_then g) ≡ (r and_then λ x ls. f x ls and_then g)

@@ -8,11 +8,11 @@ use Rattle.ep_tree.specs.Spelling.{implications, rank, unaries}
 use Rattle.ep_tree.specs.Trees.{ExprTree, absolute, comprehension, group, literal, minus, named, negation, no_trees, number, truth}
 use Rattle.ep_tree.specs.declared.syntax.BinaryOp.{BinaryOp}
 use Rattle.ep_tree.specs.declared.syntax.FoldOp.{FoldOp}
-use Rattle.ep_parse_expr.specs.OperandReaders.{Lower, Opening, a_bar, a_bracket, a_greatest, a_group, a_least, a_minus, a_negation, a_quantifier, a_sum, a_table, a_truth, as_generators, as_trees, begun_from, bracket_from, closed_by, comprehension_from, expression_next, if_low, is_there, list_end, literal_from, of_one, of_three, one_part, open_from, opened_from, openings, operand_from, opens}
-use Rattle.ep_parse_expr.specs.Readers.{Read, Reader, behind, either_reader, high, looked_up, says, took, wrong, ◌and_then◌}
-use Rattle.ep_parse_expr.proofs.Again.{AreComplete, lexeme}
-use Rattle.ep_parse_expr.proofs.AgainOperands.{some_expr}
-use Rattle.ep_parse_expr.proofs.SoundParts.{AreSound}
+use Rattle.ep_parse_parts.specs.OperandReaders.{Lower, Opening, a_bar, a_bracket, a_greatest, a_group, a_least, a_minus, a_negation, a_quantifier, a_sum, a_table, a_truth, as_generators, as_trees, begun_from, bracket_from, closed_by, comprehension_from, expression_next, if_low, is_there, list_end, literal_from, of_one, of_three, one_part, open_from, opened_from, openings, operand_from, opens}
+use Rattle.ep_parse_parts.specs.Readers.{Read, Reader, behind, either_reader, high, looked_up, says, took, wrong, ◌and_then◌}
+use Rattle.ep_parse_parts.proofs.Again.{AreComplete, lexeme}
+use Rattle.ep_parse_parts.proofs.AgainOperands.{some_expr}
+use Rattle.ep_parse_parts.proofs.SoundParts.{AreSound}
 use Rattle.ep_parse_expr.proofs.Steady.{Cut, Cuts, Decides, Look, Steady, Tests, at_end, behind_cut, behind_too, decided, gone, head, high_alone, inside, left_by, look, neither, next_word_steady, no_test, steady_after, steady_then, took_steady, too_high, wrong_steady}
 use Rattle.ep_parse_expr.proofs.SteadyColons.{generators_steady}
 use Rattle.ep_parse_expr.proofs.SteadyParts.{AreSteady, call_of_two_steady, call_steady, closed_steady, generator_steady, list_end_steady, literal_steady, made_steady, quantifier_steady, sum_steady, table_steady, three_steady}

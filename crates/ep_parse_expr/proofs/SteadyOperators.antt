@@ -10,11 +10,11 @@ use Rattle.ep_tree.specs.Phrases.{Lexeme, Saying, a_name, a_number, a_word}
 use Rattle.ep_tree.specs.Spelling.{Level, comparisons, conjunctions, disjunctions, ends_open, implications, powers, primaries, products, reads, set_operations, sums, unaries}
 use Rattle.ep_tree.specs.Trees.{ExprTree, ExprTrees, all_of, any_of, binary, chain, compare, in_domain, in_set, lex, place_of, read, term_and}
 use Rattle.ep_tree.specs.declared.syntax.BinaryOp.{BinaryOp}
-use Rattle.ep_parse_expr.specs.OperandReaders.{Lower, as_trees, call_from, closed_by, if_low, is_there, operand_from, opens}
-use Rattle.ep_parse_expr.specs.OperatorReaders.{Comparison, ReadIndex, another_binary, another_index, another_read, as_indices, as_terms, at_level, behind_operator, chain_from, compared_with, comparison_behind, comparison_from, comparison_words, conjunction_from, disjunction_from, implication_from, implication_words, index_from, of_lists, of_numbers, of_set, only_if, only_word, operated, part_from, parts_behind, parts_from, power_from, power_words, product_from, product_words, read_from, sign_words, takes_group, term_behind, term_from, terms_behind, terms_from, unary_from, with_operator}
-use Rattle.ep_parse_expr.specs.Readers.{Read, Reader, behind, either_reader, found_or, grown, high, if_some, says_word, kept, kept_or, looked_up, meant_by, next_in, others_from, says, took, word_from, wrong, ◌and_then◌}
-use Rattle.ep_parse_expr.proofs.Again.{AreComplete, lexeme}
-use Rattle.ep_parse_expr.proofs.SoundParts.{AreSound}
+use Rattle.ep_parse_parts.specs.OperandReaders.{Lower, as_trees, call_from, closed_by, if_low, is_there, operand_from, opens}
+use Rattle.ep_parse_parts.specs.OperatorReaders.{Comparison, ReadIndex, another_binary, another_index, another_read, as_indices, as_terms, at_level, behind_operator, chain_from, compared_with, comparison_behind, comparison_from, comparison_words, conjunction_from, disjunction_from, implication_from, implication_words, index_from, of_lists, of_numbers, of_set, only_if, only_word, operated, part_from, parts_behind, parts_from, power_from, power_words, product_from, product_words, read_from, sign_words, takes_group, term_behind, term_from, terms_behind, terms_from, unary_from, with_operator}
+use Rattle.ep_parse_parts.specs.Readers.{Read, Reader, behind, either_reader, found_or, grown, high, if_some, says_word, kept, kept_or, looked_up, meant_by, next_in, others_from, says, took, word_from, wrong, ◌and_then◌}
+use Rattle.ep_parse_parts.proofs.Again.{AreComplete, lexeme}
+use Rattle.ep_parse_parts.proofs.SoundParts.{AreSound}
 use Rattle.ep_parse_expr.proofs.Steady.{Cut, Cuts, Decides, Look, Steady, Tests, at_end, behind_cut, decided, gone, head, inside, left_by, look, neither, next_word_steady, steady_then, took_steady, too_high, wider}
 use Rattle.ep_parse_expr.proofs.SteadyLists.{StepsSo, Turns, a_step, both_end, both_go, ends_alone, goes_alone, grown_steady, high_step, no_step, others_steady}
 use Rattle.ep_parse_expr.proofs.SteadyOperands.{TakenSo, operand_begun, operand_named, operand_steady}

@@ -10,9 +10,9 @@ use Rattle.ep_tree.specs.Trees.{DomainTree, ExprTree, IndexDomain, binary, folde
 use Rattle.ep_tree.specs.declared.syntax.BinaryOp.{BinaryOp}
 use Rattle.ep_tree.specs.declared.syntax.FoldOp.{FoldOp}
 use Rattle.ep_tree.specs.declared.syntax.QuantOp.{QuantOp}
-use Rattle.ep_parse_expr.specs.OperandReaders.{Lower, ThreeParts, and_part, as_trees, call_from, call_of_three_from, call_of_two_from, closed_by, generator_from, in_brackets, index_domain_from, list_end, literal_from, opens, quantifier_from, sum_from, table_from, three_parts}
-use Rattle.ep_parse_expr.specs.Readers.{Reader, behind_comma, either_reader, high, says_word, kept, more_from, name_from, names_from, others_from, says, took, word_from, ◌and_then◌}
-use Rattle.ep_parse_expr.proofs.Again.{lexeme}
+use Rattle.ep_parse_parts.specs.OperandReaders.{Lower, ThreeParts, and_part, as_trees, call_from, call_of_three_from, call_of_two_from, closed_by, generator_from, in_brackets, index_domain_from, list_end, literal_from, opens, quantifier_from, sum_from, table_from, three_parts}
+use Rattle.ep_parse_parts.specs.Readers.{Reader, behind_comma, either_reader, high, says_word, kept, more_from, name_from, names_from, others_from, says, took, word_from, ◌and_then◌}
+use Rattle.ep_parse_parts.proofs.Again.{lexeme}
 use Rattle.ep_parse_expr.proofs.Steady.{Cut, Cuts, Look, Steady, Tests, at_end, behind_cut, gone, head, left_by, look, low_word_steady, name_steady, steady_then, took_steady, word_itself_steady, word_steady}
 use Rattle.ep_parse_expr.proofs.SteadyLists.{Turns, both_end, both_go, ends_alone, goes_alone, more_steady, others_steady}
 

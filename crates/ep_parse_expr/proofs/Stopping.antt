@@ -4,7 +4,7 @@ use Rattle.std.proofs.Common.{ap, arith, sym, subst, ◌∙◌, append-nil, appe
 use Rattle.std.proofs.Math.Seq.{take-append-add, take-append_seam}
 use Rattle.ep_tree.specs.Phrases.{Lexeme, Phrase}
 use Rattle.ep_tree.specs.Reading.{Begins, Low, Stops}
-use Rattle.ep_parse_expr.specs.Readers.{Reader, high, took, wrong}
+use Rattle.ep_parse_parts.specs.Readers.{Reader, high, took, wrong}
 use Rattle.ep_parse_expr.proofs.Steady.{Cut, Cuts, Steady, StopsSo, before_cut, behind_too, ended, going, high_alone, high_both, left_by, took_both, wrong_both}
 use Rattle.ep_parse_expr.proofs.SteadyOperators.{Higher}
 

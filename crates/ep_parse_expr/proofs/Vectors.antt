@@ -5,11 +5,11 @@ use Prim.Native.String.{String}
 use Rattle.ep_tree.proofs.Opened.{the_language}
 use Rattle.ep_tree.specs.Phrases.{Lexeme, saying_of}
 use Rattle.ep_tree.specs.Spelling.{domains, implications}
-use Rattle.ep_parse_expr.specs.DomainReaders.{as_ranges, end_from, range_from, ranges_from, domain_open_from, domain_begun_from, domain_part_from, another_operation, operations_from, matrix_head_from, matrix_follows, another_index_domain, index_domain_behind, as_domains, matrix_from, any_domain_from, domain_at_level}
-use Rattle.ep_parse_expr.specs.OperandReaders.{expression_next, domain_next, as_trees, index_domain_from, as_generators, generator_from, colon_comes, another_generator, conditions_from, comprehension_from, literal_from, bracket_from, quantifier_from, call_from, call_of_two_from, table_from, call_of_three_from, sum_from, opened_from, open_from, begun_from, operand_from}
-use Rattle.ep_parse_expr.specs.OperatorReaders.{as_indices, index_from, another_index, read_from, another_read, takes_group, unary_from, another_binary, power_from, product_from, as_terms, term_behind, term_from, terms_from, terms_behind, chain_from, compared_with, comparison_behind, comparison_from, part_from, parts_from, parts_behind, conjunction_from, disjunction_from, implication_from, at_level}
-use Rattle.ep_parse_expr.specs.Readers.{Read, high, took, wrong, says, word_from, name_in, name_from, looked_up, next_in, more_from, grown_from, names_from}
-use Rattle.ep_parse_expr.specs.TreeReaders.{expr_from, some_domain_from}
+use Rattle.ep_parse_parts.specs.DomainReaders.{as_ranges, end_from, range_from, ranges_from, domain_open_from, domain_begun_from, domain_part_from, another_operation, operations_from, matrix_head_from, matrix_follows, another_index_domain, index_domain_behind, as_domains, matrix_from, any_domain_from, domain_at_level}
+use Rattle.ep_parse_parts.specs.OperandReaders.{expression_next, domain_next, as_trees, index_domain_from, as_generators, generator_from, colon_comes, another_generator, conditions_from, comprehension_from, literal_from, bracket_from, quantifier_from, call_from, call_of_two_from, table_from, call_of_three_from, sum_from, opened_from, open_from, begun_from, operand_from}
+use Rattle.ep_parse_parts.specs.OperatorReaders.{as_indices, index_from, another_index, read_from, another_read, takes_group, unary_from, another_binary, power_from, product_from, as_terms, term_behind, term_from, terms_from, terms_behind, chain_from, compared_with, comparison_behind, comparison_from, part_from, parts_from, parts_behind, conjunction_from, disjunction_from, implication_from, at_level}
+use Rattle.ep_parse_parts.specs.Readers.{Read, high, took, wrong, says, word_from, name_in, name_from, looked_up, next_in, more_from, grown_from, names_from}
+use Rattle.ep_parse_parts.specs.TreeReaders.{expr_from, some_domain_from}
 
 -- a vector that says `unfolding the_readers` computes with all of these
 unfoldable pub the_readers : ℕ

@@ -12,8 +12,8 @@ use Rattle.ep_tree.specs.declared.syntax.FoldOp.{FoldOp}
 use Rattle.ep_tree.specs.declared.syntax.QuantOp.{QuantOp}
 use Rattle.ep_tree.specs.declared.syntax.SetOp.{SetOp}
 use Rattle.ep_parse_expr.proofs.Vectors.{in_columns, the_readers}
-use Rattle.ep_parse_expr.specs.Readers.{Read, took}
-use Rattle.ep_parse_expr.specs.TreeReaders.{expr_from, some_domain_from}
+use Rattle.ep_parse_parts.specs.Readers.{Read, took}
+use Rattle.ep_parse_parts.specs.TreeReaders.{expr_from, some_domain_from}
 
 -- what is read, where all tokens are
 abbrev whole : {A : Type 0} → Read A → Option A

@@ -7,11 +7,10 @@ ghost use Rattle.ep_tree.specs.Reading.{MOST_HEIGHT};
 ghost use Rattle.ep_parse_expr.specs.Answers.{AnswersDomain, AnswersExpr};
 ghost use Rattle.ep_parse_expr.specs.Faults.{error_at};
 
-use crate::cursor::{Cursor, Stop};
-use crate::descent::{domain, expr};
 use crate::errors::ParseError;
-use crate::words::{DomainLevel, Level};
 use ep_base::Token;
+use ep_parse_parts::{Cursor, DomainLevel, Level, Stop};
+use ep_parse_trees::{domain, expr};
 use ep_tree::{Domain, Expr};
 use std::alloc::Global;
 

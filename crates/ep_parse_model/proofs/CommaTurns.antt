@@ -1,12 +1,12 @@
 -- Loops over lists with commas between the items.
 use Rattle.std.specs.Prelude.{◌≡◌, ◌<◌, Bool, true, false, List, [], ◌∷◌, ◌++◌, length, Option, Some, None, codes, if◌then◌else◌, refl}
 use Rattle.std.proofs.Common.{ap, arith, sym, ◌∙◌, append_assoc}
-use Rattle.ep_parse_expr.proofs.NameTurns.{continued}
-use Rattle.ep_parse_expr.proofs.Turns.{list_turn}
-use Rattle.ep_parse_expr.specs.Cursors.{StopsReading, passing}
-use Rattle.ep_parse_expr.specs.declared.cursor.Stop.{Stop}
-use Rattle.ep_parse_expr.specs.declared.cursor.Stop.TheVariants.{Memory, TooHigh, Wrong}
-use Rattle.ep_parse_expr.specs.Readers.{Read, Reader, behind, behind_comma, going_on, high, kept, others_from, says, took, wrong, ◌and_then◌}
+use Rattle.ep_parse_parts.proofs.NameTurns.{continued}
+use Rattle.ep_parse_parts.proofs.Turns.{list_turn}
+use Rattle.ep_parse_parts.specs.Cursors.{StopsReading, passing}
+use Rattle.ep_parse_parts.specs.declared.cursor.Stop.{Stop}
+use Rattle.ep_parse_parts.specs.declared.cursor.Stop.TheVariants.{Memory, TooHigh, Wrong}
+use Rattle.ep_parse_parts.specs.Readers.{Read, Reader, behind, behind_comma, going_on, high, kept, others_from, says, took, wrong, ◌and_then◌}
 use Rattle.ep_parse_model.proofs.Shrinking.{behind_short}
 use Rattle.ep_tree.specs.Phrases.{Lexeme}
 

@@ -4,11 +4,11 @@ use Rattle.std.proofs.Common.{ap, arith, inl, inr, sym, subst, ◌∙◌, length
 use Rattle.std.proofs.Math.Nat.{le-max_left, le-max_right}
 use Rattle.ep_base.specs.declared.names.Name.{Name}
 use Rattle.ep_base.specs.declared.places.Place.{Place}
-use Rattle.ep_parse_expr.specs.OperandReaders.{Lower, expression_next}
-use Rattle.ep_parse_expr.specs.Readers.{Reader, behind_comma, more_from, others_from, says, took, word_from, ◌and_then◌}
-use Rattle.ep_parse_expr.proofs.Again.{AreComplete, DomainEnds, NoImplications, behind_word_cut, lexeme}
-use Rattle.ep_parse_expr.proofs.AgainPhrases.{Again, comma_closes, word_then}
-use Rattle.ep_parse_expr.proofs.AgainStarts.{expression_seen, starts}
+use Rattle.ep_parse_parts.specs.OperandReaders.{Lower, expression_next}
+use Rattle.ep_parse_parts.specs.Readers.{Reader, behind_comma, more_from, others_from, says, took, word_from, ◌and_then◌}
+use Rattle.ep_parse_parts.proofs.Again.{AreComplete, DomainEnds, NoImplications, behind_word_cut, lexeme}
+use Rattle.ep_parse_parts.proofs.AgainPhrases.{Again, comma_closes, word_then}
+use Rattle.ep_parse_parts.proofs.AgainStarts.{expression_seen, starts}
 use Rattle.ep_parse_model.specs.TextReaders.{expressions_from, expressions_within, group_from, groups_from, placed_name_from, placed_name_in, placed_names_from}
 use Rattle.ep_tree.specs.Heights.{domain_height, height}
 use Rattle.ep_tree.specs.Phrases.{From, Is, Lexeme, PlacedNames, Says, Silence, StartsAt, a_name, a_word, ◌or_else◌}

@@ -4,10 +4,10 @@ use Rattle.std.proofs.Common.{ap, append-nil, arith, inl, inr, sym, subst, ◌�
 use Rattle.std.proofs.Math.Nat.{max-le}
 use Rattle.ep_base.specs.declared.names.Name.{Name}
 use Rattle.ep_base.specs.declared.places.Place.{Place}
-use Rattle.ep_parse_expr.specs.OperandReaders.{Lower, expression_next}
-use Rattle.ep_parse_expr.specs.Readers.{behind, behind_comma, others_from, says, took, word_from}
-use Rattle.ep_parse_expr.proofs.Holding.{Holds, Takes, holds_as, holds_chosen, holds_then, holds_took, holds_wrong, more_sound, says_sound, takes_as, takes_nothing, takes_then, takes_token, word_sound}
-use Rattle.ep_parse_expr.proofs.SoundParts.{AreSound, IsDomain, IsExpr, comma_sound, takes_domain, takes_expr}
+use Rattle.ep_parse_parts.specs.OperandReaders.{Lower, expression_next}
+use Rattle.ep_parse_parts.specs.Readers.{behind, behind_comma, others_from, says, took, word_from}
+use Rattle.ep_parse_parts.proofs.Holding.{Holds, Takes, holds_as, holds_chosen, holds_then, holds_took, holds_wrong, more_sound, says_sound, takes_as, takes_nothing, takes_then, takes_token, word_sound}
+use Rattle.ep_parse_parts.proofs.SoundParts.{AreSound, IsDomain, IsExpr, comma_sound, takes_domain, takes_expr}
 use Rattle.ep_parse_model.specs.TextReaders.{expressions_from, expressions_within, group_from, groups_from, placed_name_from, placed_name_in, placed_names_from}
 use Rattle.ep_tree.specs.Heights.{domain_height}
 use Rattle.ep_tree.specs.Phrases.{From, Is, Lexeme, Phrase, PlacedNames, Says, Saying, Silence, a_name, a_number, a_word, ◌followed_by◌, ◌or_else◌}

@@ -4,12 +4,12 @@ use Rattle.std.proofs.Common.{ap, sym, ◌∙◌}
 use Rattle.ep_base.specs.declared.names.Name.{Name}
 use Rattle.ep_base.specs.declared.places.Place.{Place}
 use Rattle.ep_base.specs.Tokens.{place_at}
-use Rattle.ep_parse_expr.specs.Cursors.{StopsReading, none_left}
+use Rattle.ep_parse_parts.specs.Cursors.{StopsReading, none_left}
 use Rattle.ep_parse_model.specs.Answers.{place_left}
-use Rattle.ep_parse_expr.specs.DomainReaders.{place_next}
-use Rattle.ep_parse_expr.specs.declared.cursor.Stop.{Stop}
-use Rattle.ep_parse_expr.specs.Readers.{Read, behind, either_reader, if_some, looked_up, meant_by, name_from, name_in, next_in, took, wrong, ◌and_then◌}
-use Rattle.ep_parse_expr.specs.Sayings.{word_next, word_of}
+use Rattle.ep_parse_parts.specs.DomainReaders.{place_next}
+use Rattle.ep_parse_parts.specs.declared.cursor.Stop.{Stop}
+use Rattle.ep_parse_parts.specs.Readers.{Read, behind, either_reader, if_some, looked_up, meant_by, name_from, name_in, next_in, took, wrong, ◌and_then◌}
+use Rattle.ep_parse_parts.specs.Sayings.{word_next, word_of}
 use Rattle.ep_parse_model.proofs.CommaTurns.{stops_all, stops_so}
 use Rattle.ep_parse_model.specs.TextReaders.{allowed_statement_from, allows, full, placed_name_from, placed_name_in, statement_behind, statement_words}
 use Rattle.ep_parse_model.specs.declared.openings.Allowed.{Allowed}

@@ -3,10 +3,10 @@ use Rattle.std.specs.Prelude.{◌≡◌, ℕ, ◌+◌, ◌≤◌, ◌<◌, List,
 use Rattle.std.proofs.Common.{ap, arith, ◌∙◌, length-append}
 use Rattle.ep_base.specs.declared.names.Name.{Name}
 use Rattle.ep_base.specs.declared.places.Place.{Place}
-use Rattle.ep_parse_expr.proofs.Sound.{domain_sound, expr_sound}
-use Rattle.ep_parse_expr.proofs.SoundParts.{AreSound}
-use Rattle.ep_parse_expr.specs.OperandReaders.{Lower}
-use Rattle.ep_parse_expr.specs.Readers.{behind, took}
+use Rattle.ep_parse_parts.proofs.Sound.{domain_sound, expr_sound}
+use Rattle.ep_parse_parts.proofs.SoundParts.{AreSound}
+use Rattle.ep_parse_parts.specs.OperandReaders.{Lower}
+use Rattle.ep_parse_parts.specs.Readers.{behind, took}
 use Rattle.ep_parse_model.proofs.GroupsSound.{group_sound, placed_sound, whole}
 use Rattle.ep_parse_model.proofs.TextsAgain.{at, statement_headed}
 use Rattle.ep_parse_model.proofs.TextsSound.{allowed_sound}

@@ -8,7 +8,7 @@ use Rattle.ep_tree.specs.Statements.{TextTree, text_height}
 use Rattle.ep_parse_expr.proofs.Steady.{Cut, Cuts, Steady}
 use Rattle.ep_parse_expr.proofs.SteadyOperators.{Higher}
 use Rattle.ep_parse_expr.proofs.Stopping.{stops_at}
-use Rattle.ep_parse_expr.specs.Readers.{Reader, high, took, wrong}
+use Rattle.ep_parse_parts.specs.Readers.{Reader, high, took, wrong}
 use Rattle.ep_parse_model.proofs.TextStops.{high_ends, wrong_ends, wrong_incomplete}
 use Rattle.ep_parse_model.proofs.TextsSteady.{Going}
 

@@ -4,16 +4,16 @@ use Rattle.std.proofs.Common.{ap, arith, inl, inr, sym, subst, ◌∙◌, length
 use Rattle.std.proofs.Math.Seq.{take-append_seam}
 use Rattle.ep_base.specs.Tokens.{tokens_of}
 use Rattle.ep_base.specs.declared.tokens.Token.{Token}
-use Rattle.ep_parse_expr.proofs.AgainAll.{readers}
+use Rattle.ep_parse_parts.proofs.AgainAll.{readers}
 use Rattle.ep_parse_expr.proofs.Completing.{Half, Opens, Refuses as RefusesAt, Shape}
 use Rattle.ep_parse_expr.proofs.CompletingAll.{all_open}
 use Rattle.ep_parse_expr.proofs.Steady.{Cut, Cuts, Steady}
 use Rattle.ep_parse_expr.proofs.SteadyAll.{all_sound}
 use Rattle.ep_parse_expr.proofs.SteadyOperators.{Higher}
-use Rattle.ep_parse_expr.specs.Cursors.{StopsReading}
-use Rattle.ep_parse_expr.specs.declared.cursor.Stop.{Stop}
-use Rattle.ep_parse_expr.specs.declared.cursor.Stop.TheVariants.{Memory, TooHigh, Wrong}
-use Rattle.ep_parse_expr.specs.Readers.{Reader, behind, high, took, wrong}
+use Rattle.ep_parse_parts.specs.Cursors.{StopsReading}
+use Rattle.ep_parse_parts.specs.declared.cursor.Stop.{Stop}
+use Rattle.ep_parse_parts.specs.declared.cursor.Stop.TheVariants.{Memory, TooHigh, Wrong}
+use Rattle.ep_parse_parts.specs.Readers.{Reader, behind, high, took, wrong}
 use Rattle.ep_parse_model.proofs.TextFaults.{AreBegun, high_is_fault, wrong_is_fault}
 use Rattle.ep_parse_model.proofs.TextStops.{model_complete, model_so, params_complete, params_so}
 use Rattle.ep_parse_model.proofs.TextsBegun.{model_refuses, params_refuses}

@@ -5,11 +5,11 @@ use Rattle.ep_tree.specs.Phrases.{Lexeme, Phrase}
 use Rattle.ep_tree.specs.Reading.{Begins, Low}
 use Rattle.ep_tree.specs.StatementSpelling.{SpellsModel, SpellsParams}
 use Rattle.ep_tree.specs.Statements.{TextTree, text_height}
-use Rattle.ep_parse_expr.proofs.AgainAll.{all_complete, readers}
+use Rattle.ep_parse_parts.proofs.AgainAll.{all_complete, readers}
 use Rattle.ep_parse_expr.proofs.Steady.{Cut, Cuts, Steady, StopsSo, before_cut, behind_too, ended, going, high_alone, high_both, left_by, took_both, wrong_both}
 use Rattle.ep_parse_expr.proofs.SteadyAll.{all_sound, all_steady}
 use Rattle.ep_parse_expr.proofs.SteadyOperators.{Higher}
-use Rattle.ep_parse_expr.specs.Readers.{Reader, high, took, wrong}
+use Rattle.ep_parse_parts.specs.Readers.{Reader, high, took, wrong}
 use Rattle.ep_parse_model.proofs.TextsAgain.{model_again, params_again}
 use Rattle.ep_parse_model.proofs.TextsSteady.{Going, ends_too, goes, model_steady, params_steady}
 use Rattle.ep_parse_model.specs.TextReaders.{model_from, params_from}

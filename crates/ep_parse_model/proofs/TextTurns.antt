@@ -1,11 +1,11 @@
 -- Loops over expressions with commas and over statements.
 use Rattle.std.specs.Prelude.{◌≡◌, ℕ, zero, suc, ◌≤◌, ◌<◌, Bool, true, false, List, [], ◌∷◌, ◌++◌, length, codes, refl}
 use Rattle.std.proofs.Common.{ap, append-nil, arith, sym, ◌∙◌}
-use Rattle.ep_parse_expr.proofs.NameTurns.{continued}
-use Rattle.ep_parse_expr.specs.Cursors.{StopsReading, none_left, passing}
-use Rattle.ep_parse_expr.specs.declared.cursor.Stop.{Stop}
-use Rattle.ep_parse_expr.specs.OperandReaders.{expression_next}
-use Rattle.ep_parse_expr.specs.Readers.{Read, Reader, behind, either_reader, high, says, took, wrong, ◌and_then◌}
+use Rattle.ep_parse_parts.proofs.NameTurns.{continued}
+use Rattle.ep_parse_parts.specs.Cursors.{StopsReading, none_left, passing}
+use Rattle.ep_parse_parts.specs.declared.cursor.Stop.{Stop}
+use Rattle.ep_parse_parts.specs.OperandReaders.{expression_next}
+use Rattle.ep_parse_parts.specs.Readers.{Read, Reader, behind, either_reader, high, says, took, wrong, ◌and_then◌}
 use Rattle.ep_parse_model.proofs.CommaTurns.{one_more, passed, stops_all, stops_so}
 use Rattle.ep_parse_model.proofs.Shrinking.{behind_short, expr_shrinks, statement_shrinks}
 use Rattle.ep_parse_model.specs.TextReaders.{allowed_behind, allowed_statement_from, expressions_from, expressions_within, full, statements_from, statements_within}

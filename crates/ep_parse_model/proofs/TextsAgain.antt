@@ -7,16 +7,16 @@ use Rattle.ep_base.specs.declared.operators.Sense.{Sense}
 use Rattle.ep_base.specs.declared.places.Place.{Place}
 use Rattle.ep_parse_model.specs.declared.openings.Allowed.{Allowed}
 use Rattle.ep_parse_model.specs.declared.openings.Opening.{Opening}
-use Rattle.ep_parse_expr.specs.OperandReaders.{Lower, expression_next}
-use Rattle.ep_parse_expr.specs.Readers.{Read, behind, either_reader, high, if_some, looked_up, name_from, name_in, next_in, number_from, says, took, word_from, wrong, ◌and_then◌}
-use Rattle.ep_parse_expr.proofs.Again.{AreComplete, DomainEnds, NoImplications, behind_word_cut, lexeme}
-use Rattle.ep_parse_expr.proofs.AgainAll.{all_complete, readers}
-use Rattle.ep_parse_expr.proofs.AgainPhrases.{Again, word_then}
-use Rattle.ep_parse_expr.proofs.AgainStarts.{starts, word_unseen}
-use Rattle.ep_parse_expr.proofs.Holding.{regrouped}
+use Rattle.ep_parse_parts.specs.OperandReaders.{Lower, expression_next}
+use Rattle.ep_parse_parts.specs.Readers.{Read, behind, either_reader, high, if_some, looked_up, name_from, name_in, next_in, number_from, says, took, word_from, wrong, ◌and_then◌}
+use Rattle.ep_parse_parts.proofs.Again.{AreComplete, DomainEnds, NoImplications, behind_word_cut, lexeme}
+use Rattle.ep_parse_parts.proofs.AgainAll.{all_complete, readers}
+use Rattle.ep_parse_parts.proofs.AgainPhrases.{Again, word_then}
+use Rattle.ep_parse_parts.proofs.AgainStarts.{starts, word_unseen}
+use Rattle.ep_parse_parts.proofs.Holding.{regrouped}
 use Rattle.ep_parse_model.proofs.Fitting.{Fits, model_fits, opening_of, params_fits}
 use Rattle.ep_parse_model.proofs.Phrasing.{behind as next}
-use Rattle.ep_parse_expr.specs.DomainReaders.{place_next}
+use Rattle.ep_parse_parts.specs.DomainReaders.{place_next}
 use Rattle.ep_parse_model.proofs.GroupsAgain.{After, expressions_again, groups_again, placed_alone, placed_cut, placed_names_again}
 use Rattle.ep_parse_model.specs.TextReaders.{allowed_behind, allowed_statement_from, allows, be_from, bracket_names_from, branching_from, expressions_from, let_from, letting_from, line_from, model_from, params_from, placed_name_from, placed_name_in, placed_names_from, stated_from, statement_behind, statement_words, statements_from, statements_within, value_from}
 use Rattle.ep_tree.specs.Heights.{domain_height, height}

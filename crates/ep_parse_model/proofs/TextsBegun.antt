@@ -6,14 +6,14 @@ use Rattle.ep_base.specs.declared.names.Name.{Name}
 use Rattle.ep_base.specs.declared.places.Place.{Place}
 use Rattle.ep_parse_model.specs.declared.openings.Allowed.{Allowed}
 use Rattle.ep_parse_model.specs.declared.openings.Opening.{Opening}
-use Rattle.ep_parse_expr.specs.DomainReaders.{place_next}
-use Rattle.ep_parse_expr.specs.OperandReaders.{Lower, expression_next}
-use Rattle.ep_parse_expr.specs.Readers.{Read, Reader, behind, behind_comma, either_reader, high, if_some, meant_by, name_from, name_in, next_in, number_from, others_from, says, took, word_from, wrong, ◌and_then◌}
-use Rattle.ep_parse_expr.specs.Sayings.{says_number}
+use Rattle.ep_parse_parts.specs.DomainReaders.{place_next}
+use Rattle.ep_parse_parts.specs.OperandReaders.{Lower, expression_next}
+use Rattle.ep_parse_parts.specs.Readers.{Read, Reader, behind, behind_comma, either_reader, high, if_some, meant_by, name_from, name_in, next_in, number_from, others_from, says, took, word_from, wrong, ◌and_then◌}
+use Rattle.ep_parse_parts.specs.Sayings.{says_number}
 use Rattle.ep_parse_expr.proofs.Completing.{ADomain, AnExpr, Filled, Lifts, Refuses, Shape, Word, domain_filled, domain_lifts, expr_filled, next_then, refuses_as, refuses_behind, refuses_chosen, refuses_made, refuses_then, refuses_took, refuses_wrong, somewhere, then_filled, word_filled, word_refuses, word_then, ◌then◌}
 use Rattle.ep_parse_expr.proofs.CompletingParts.{AreOpen, domain_taken, expr_then, sep_refuses, unlimited}
-use Rattle.ep_parse_expr.proofs.Holding.{Holds, Takes, holds_as, says_sound}
-use Rattle.ep_parse_expr.proofs.SoundParts.{AreSound, comma_sound}
+use Rattle.ep_parse_parts.proofs.Holding.{Holds, Takes, holds_as, says_sound}
+use Rattle.ep_parse_parts.proofs.SoundParts.{AreSound, comma_sound}
 use Rattle.ep_parse_expr.proofs.Steady.{left_by}
 use Rattle.ep_parse_expr.proofs.SteadyLists.{grouped}
 use Rattle.ep_parse_model.proofs.Fitting.{Fits, all_lettings, one_objective, opening_of}

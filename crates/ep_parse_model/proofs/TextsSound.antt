@@ -8,11 +8,11 @@ use Rattle.ep_base.specs.declared.names.Name.{Name}
 use Rattle.ep_base.specs.declared.places.Place.{Place}
 use Rattle.ep_parse_model.specs.declared.openings.Allowed.{Allowed}
 use Rattle.ep_parse_model.specs.declared.openings.Opening.{Opening}
-use Rattle.ep_parse_expr.specs.OperandReaders.{Lower}
-use Rattle.ep_parse_expr.specs.Readers.{behind, found_or, looked_up, meant_by, next_in, number_from, says, word_from}
-use Rattle.ep_parse_expr.specs.Sayings.{says_number}
-use Rattle.ep_parse_expr.proofs.Holding.{Holds, Takes, holds_as, holds_chosen, holds_then, holds_took, holds_wrong, if_some_sound, says_sound, takes_as, takes_nothing, takes_then, takes_token, word_sound}
-use Rattle.ep_parse_expr.proofs.SoundParts.{AreSound, IsDomain, IsExpr, name_sound, takes_domain, takes_expr}
+use Rattle.ep_parse_parts.specs.OperandReaders.{Lower}
+use Rattle.ep_parse_parts.specs.Readers.{behind, found_or, looked_up, meant_by, next_in, number_from, says, word_from}
+use Rattle.ep_parse_parts.specs.Sayings.{says_number}
+use Rattle.ep_parse_parts.proofs.Holding.{Holds, Takes, holds_as, holds_chosen, holds_then, holds_took, holds_wrong, if_some_sound, says_sound, takes_as, takes_nothing, takes_then, takes_token, word_sound}
+use Rattle.ep_parse_parts.proofs.SoundParts.{AreSound, IsDomain, IsExpr, name_sound, takes_domain, takes_expr}
 use Rattle.ep_parse_model.proofs.Fitting.{Fits, all_lettings, one_objective, opening_of}
 use Rattle.ep_parse_model.proofs.GroupsSound.{Placed, expressions_sound, groups_sound, placed_names_sound, placed_sound, whole}
 use Rattle.ep_parse_model.specs.TextReaders.{allowed_behind, allowed_statement_from, allows, be_from, bracket_names_from, branching_from, let_from, letting_from, line_from, model_from, params_from, placed_names_from, stated_from, statement_behind, statement_words, statements_from, statements_within, value_from}

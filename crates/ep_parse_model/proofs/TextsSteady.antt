@@ -8,11 +8,11 @@ use Rattle.ep_base.specs.declared.names.Name.{Name}
 use Rattle.ep_base.specs.declared.places.Place.{Place}
 use Rattle.ep_parse_model.specs.declared.openings.Allowed.{Allowed}
 use Rattle.ep_parse_model.specs.declared.openings.Opening.{Opening}
-use Rattle.ep_parse_expr.specs.DomainReaders.{place_next}
-use Rattle.ep_parse_expr.specs.OperandReaders.{Lower, expression_next}
-use Rattle.ep_parse_expr.specs.Readers.{Reader, behind, either_reader, if_some, says_word, meant_by, next_in, number_from, says, took, word_from, wrong, ◌and_then◌}
-use Rattle.ep_parse_expr.specs.Sayings.{says_number}
-use Rattle.ep_parse_expr.proofs.SoundParts.{AreSound}
+use Rattle.ep_parse_parts.specs.DomainReaders.{place_next}
+use Rattle.ep_parse_parts.specs.OperandReaders.{Lower, expression_next}
+use Rattle.ep_parse_parts.specs.Readers.{Reader, behind, either_reader, if_some, says_word, meant_by, next_in, number_from, says, took, word_from, wrong, ◌and_then◌}
+use Rattle.ep_parse_parts.specs.Sayings.{says_number}
+use Rattle.ep_parse_parts.proofs.SoundParts.{AreSound}
 use Rattle.ep_parse_expr.proofs.Steady.{Cut, Cuts, Decides, Look, Steady, at_end, before_cut, behind_cut, decided, decided_within, gone, head, inside, left_by, look, name_steady, neither, next_word_steady, steady_after, steady_then, took_steady, word_steady, wrong_steady}
 use Rattle.ep_parse_expr.proofs.SteadyLists.{gone_steady, less_room, room}
 use Rattle.ep_parse_expr.proofs.SteadyParts.{AreSteady, commas_steady, domain_made_steady, made_steady}

@@ -3,8 +3,8 @@ use Rattle.std.specs.Prelude.{◌≡◌, ℕ, ◌≤◌, List, [], ◌∷◌, le
 use Rattle.std.proofs.Common.{subst}
 use Rattle.ep_base.specs.Tokens.{tokens_of}
 use Rattle.ep_base.specs.declared.tokens.Token.{Token}
-use Rattle.ep_parse_expr.specs.Cursors as cursors
-use Rattle.ep_parse_expr.specs.Readers.{took}
+use Rattle.ep_parse_parts.specs.Cursors as cursors
+use Rattle.ep_parse_parts.specs.Readers.{took}
 use Rattle.ep_parse_model.proofs.Shrinking.{full_sound}
 use Rattle.ep_parse_model.proofs.TextsSound.{model_sound, params_sound}
 use Rattle.ep_parse_model.proofs.TokenFacts.{tokens_lie_in}

@@ -3,8 +3,8 @@ use Rattle.std.specs.Prelude.{ℕ, ◌<◌, List, [], ◌∷◌, length, Result,
 use Rattle.ep_base.specs.Tokens as tokens
 use Rattle.ep_base.specs.Tokens.{place_at}
 use Rattle.ep_base.specs.declared.places.Place.{Place}
-use Rattle.ep_parse_expr.specs.declared.cursor.Stop.{Stop}
-use Rattle.ep_parse_expr.specs.declared.cursor.Stop.TheVariants as stop
+use Rattle.ep_parse_parts.specs.declared.cursor.Stop.{Stop}
+use Rattle.ep_parse_parts.specs.declared.cursor.Stop.TheVariants as stop
 use Rattle.ep_tree.specs.Phrases.{Lexeme, Phrase}
 use Rattle.ep_tree.specs.StatementSpelling.{SpellsModel, SpellsParams}
 use Rattle.ep_tree.specs.Statements.{TextTree}

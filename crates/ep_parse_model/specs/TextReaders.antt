@@ -5,10 +5,10 @@ use Rattle.ep_base.specs.declared.operators.Sense.{Sense}
 use Rattle.ep_base.specs.declared.places.Place.{Place}
 use Rattle.ep_parse_model.specs.declared.openings.Allowed.{Allowed}
 use Rattle.ep_parse_model.specs.declared.openings.Opening.{Opening}
-use Rattle.ep_parse_expr.specs.DomainReaders.{place_next}
-use Rattle.ep_parse_expr.specs.OperandReaders.{Lower, expression_next}
-use Rattle.ep_parse_expr.specs.Readers.{Reader, behind, behind_comma, either_reader, if_some, name_from, next_in, number_from, others_from, says, took, word_from, wrong, ◌and_then◌}
-use Rattle.ep_parse_expr.specs.TreeReaders.{expr_from, some_domain_from}
+use Rattle.ep_parse_parts.specs.DomainReaders.{place_next}
+use Rattle.ep_parse_parts.specs.OperandReaders.{Lower, expression_next}
+use Rattle.ep_parse_parts.specs.Readers.{Reader, behind, behind_comma, either_reader, if_some, name_from, next_in, number_from, others_from, says, took, word_from, wrong, ◌and_then◌}
+use Rattle.ep_parse_parts.specs.TreeReaders.{expr_from, some_domain_from}
 use Rattle.ep_tree.specs.Reading.{MOST_HEIGHT}
 use Rattle.ep_tree.specs.Phrases.{Lexeme, Saying, a_name, a_number, a_word}
 use Rattle.ep_tree.specs.Spelling.{domains, implications}

@@ -10,7 +10,7 @@ use crate::text_errors::TextError;
 use crate::texts::{model, params};
 use ep_base::Token;
 use ep_lexer::{LexError, lex};
-use ep_parse_expr::Cursor;
+use ep_parse_parts::Cursor;
 use ep_tree::{Model, Params};
 use std::alloc::Global;
 

@@ -1,13 +1,13 @@
 //! Reads lists: names with their places, names with their domains, and expressions.
 
 ghost use Rattle.std.specs.Prelude.{map};
-ghost use Rattle.ep_parse_expr.specs.Cursors.{Gives};
+ghost use Rattle.ep_parse_parts.specs.Cursors.{Gives};
 ghost use Rattle.ep_parse_model.specs.TextReaders.{expressions_from, full, group_from, groups_from, placed_name_from, placed_names_from};
 ghost use Rattle.ep_tree.specs.Views.{expr_tree, group_of};
 
 use crate::parts::{domain, expression};
 use ep_base::{Name, Place};
-use ep_parse_expr::{Cursor, Stop};
+use ep_parse_parts::{Cursor, Stop};
 use ep_tree::{Declared, Expr};
 use std::alloc::Global;
 

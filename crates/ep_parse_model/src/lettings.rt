@@ -1,14 +1,14 @@
 //! Reads lettings: names for values and for domains.
 
 ghost use Rattle.std.specs.Prelude.{None, option_map};
-ghost use Rattle.ep_parse_expr.specs.Cursors.{Gives};
+ghost use Rattle.ep_parse_parts.specs.Cursors.{Gives};
 ghost use Rattle.ep_parse_model.specs.TextReaders.{be_from, full, let_from, letting_from, stated_from, value_from};
 ghost use Rattle.ep_tree.specs.Views.{domain_tree, statement_tree};
 
 use crate::groups::placed_name;
 use crate::parts::{domain, expression};
 use ep_base::{Name, Place};
-use ep_parse_expr::{Cursor, Stop};
+use ep_parse_parts::{Cursor, Stop};
 use ep_tree::{Domain, Statement, StatementKind};
 use std::alloc::Global;
 

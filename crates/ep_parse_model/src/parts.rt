@@ -1,11 +1,12 @@
 //! Reads the expressions and domains of statements, as high as the language has them.
 
-ghost use Rattle.ep_parse_expr.specs.Cursors.{Gives};
+ghost use Rattle.ep_parse_parts.specs.Cursors.{Gives};
 ghost use Rattle.ep_parse_model.specs.TextReaders.{full};
 ghost use Rattle.ep_tree.specs.Spelling.{domains, implications};
 ghost use Rattle.ep_tree.specs.Views.{domain_tree, expr_tree};
 
-use ep_parse_expr::{Cursor, DomainLevel, Level, Stop, domain as read_domain, expr as read_expr};
+use ep_parse_parts::{Cursor, DomainLevel, Level, Stop};
+use ep_parse_trees::{domain as read_domain, expr as read_expr};
 use ep_tree::{Domain, Expr};
 use std::alloc::Global;
 

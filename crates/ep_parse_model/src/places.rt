@@ -6,7 +6,7 @@ ghost use Rattle.ep_parse_model.specs.Answers.{place_left, refusal_of};
 
 use crate::text_errors::TextError;
 use ep_base::Place;
-use ep_parse_expr::{Cursor, Stop};
+use ep_parse_parts::{Cursor, Stop};
 
 /// Why a text was refused where reading stopped.
 pub(crate) fn refusal(text: &[u8], cursor: &Cursor<'_>, stop: Stop) -> TextError

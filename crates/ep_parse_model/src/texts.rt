@@ -1,8 +1,8 @@
 //! Reads statements, models and parameter texts.
 
 ghost use Rattle.std.specs.Prelude.{◌≡◌, bytes_eq, map};
-ghost use Rattle.ep_parse_expr.specs.Cursors.{Gives};
-ghost use Rattle.ep_parse_expr.specs.Readers.{looked_up, next_in};
+ghost use Rattle.ep_parse_parts.specs.Cursors.{Gives};
+ghost use Rattle.ep_parse_parts.specs.Readers.{looked_up, next_in};
 ghost use Rattle.ep_base.specs.declared.operators.Sense.{Sense};
 ghost use Rattle.ep_base.specs.declared.places.Place.{Place};
 ghost use Rattle.ep_tree.specs.Statements.{objective};
@@ -15,7 +15,7 @@ use crate::lettings::letting;
 use crate::openings::{Allowed, Opening};
 use crate::parts::expression;
 use ep_base::{Name, Place, Sense};
-use ep_parse_expr::{Cursor, Stop};
+use ep_parse_parts::{Cursor, Stop};
 use ep_tree::{Model, Params, Statement, StatementKind};
 use std::alloc::Global;
 
@@ -102,7 +102,7 @@ fn next_opening(cursor: &Cursor<'_>) -> Option<Opening>
 }
 
 /// What a word begins.
-#[tactic(auto, unfolding(ep_parse_expr::specs::Readers::looked_up))]
+#[tactic(auto, unfolding(ep_parse_parts::specs::Readers::looked_up))]
 fn find_opening(word: &[u8]) -> Option<Opening>
     ensures meant { result ≡ looked_up statement_words word.now }
 {

@@ -1,7 +1,8 @@
 //! How far expressions and domains of at most a height reach in the tokens of a text.
 
 use ep_lexer::lex;
-use ep_parse_expr::{Cursor, DomainLevel, Level, Stop, domain, expr};
+use ep_parse_parts::{Cursor, DomainLevel, Level, Stop};
+use ep_parse_trees::{domain, expr};
 use std::alloc::{AllocError, Global};
 use std::test::Fail;
 

@@ -5,6 +5,7 @@ use Rattle.std.specs.List.{AllByRecursion, IsDistinct, list_any}
 use Rattle.std.proofs.lemmas.Bool.{false≢true, cond-false, cond-true}
 use Rattle.std.proofs.lemmas.Slice.Eq.{bytes_eq-Decides}
 use Rattle.ep_base.proofs.Small.{no_some, some_is}
+use Rattle.ep_base.specs.Reads.{is_too_far}
 use Rattle.ep_base.specs.declared.names.Name.{Name}
 use Rattle.ep_base.specs.declared.operators.Limit.{Limit}
 use Rattle.ep_base.specs.declared.places.Place.{Place}
@@ -12,7 +13,7 @@ use Rattle.ep_tree.specs.Binding.{Refusal, TextName, and_next, bind_letting, bin
 use Rattle.ep_tree.specs.Environments.{Env, context_of, has_value}
 use Rattle.ep_tree.specs.Evaluation.{evaluate, type_in}
 use Rattle.ep_tree.specs.Faults.{declaration_faults, faults, faults_after, after_statement, letting_meaning, lettings_of, redeclared, stated_faults, statement_faults, unless}
-use Rattle.ep_tree.specs.Limits.{MOST_SIZE, is_too_far, limits_of_values, numbers_at}
+use Rattle.ep_tree.specs.Limits.{MOST_SIZE, limits_of_values, numbers_at}
 use Rattle.ep_tree.specs.Measures.{met, size_of}
 use Rattle.ep_tree.specs.Names.{nothing_known, put}
 use Rattle.ep_tree.specs.Placeless.{placeless, placeless_statement}

@@ -10,6 +10,7 @@ use Rattle.std.proofs.lemmas.List.Folds.{list_all-append}
 use Rattle.ep_base.proofs.Small.{map_is, no_some, some_is, then_is}
 use Rattle.ep_base.specs.Options.{on_both}
 use Rattle.ep_base.specs.Runs.{IsAscending}
+use Rattle.ep_base.specs.Reads.{is_too_far}
 use Rattle.ep_base.specs.declared.names.Name.{Name}
 use Rattle.ep_base.specs.declared.operators.Limit.{Limit}
 use Rattle.ep_base.specs.declared.places.Place.{Place}
@@ -19,7 +20,7 @@ use Rattle.ep_tree.specs.Binding.{Find, Instance, Progress, Refusal, Shape, Text
 use Rattle.ep_tree.specs.Environments.{Bound, Env, has_cells, has_domain, has_value, scalar_in}
 use Rattle.ep_tree.specs.Evaluation.{domain_values, evaluate, type_in}
 use Rattle.ep_tree.specs.Faults.{lettings_of}
-use Rattle.ep_tree.specs.Limits.{MOST_SIZE, is_too_far, limits_of_values, numbers_at}
+use Rattle.ep_tree.specs.Limits.{MOST_SIZE, limits_of_values, numbers_at}
 use Rattle.ep_tree.specs.Measures.{Met, met, met_domain, met_domains, size_of}
 use Rattle.ep_tree.specs.Names.{nothing_known, put}
 use Rattle.ep_tree.specs.Statements.{Group, StatementTree, TextTree, branching, constraints, decided, domain_letting, given, heuristic, letting, objective, requirements}

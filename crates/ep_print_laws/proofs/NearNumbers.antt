@@ -12,13 +12,14 @@ use Rattle.ep_base.proofs.Small.{no_some, some_is}
 use Rattle.ep_base.specs.Numbers.{absolute_of}
 use Rattle.ep_base.specs.Options.{map_both}
 use Rattle.ep_base.specs.Runs.{IsAscending, counting, or_zero}
+use Rattle.ep_base.specs.Reads.{MOST_NUMBER, is_too_far}
 use Rattle.ep_base.specs.declared.names.Name.{Name}
 use Rattle.ep_base.specs.declared.places.Place.{Place}
 use Rattle.ep_tree.proofs.TypedParts.{map_both_is}
 use Rattle.ep_tree.specs.Domains.{between, count_between, put_in, set_values, truth_values, united}
 use Rattle.ep_tree.specs.Environments.{Bound, Env, HasAscendingDomain, domain_bound, has_cells, has_domain, has_value}
 use Rattle.ep_tree.specs.Evaluation.{domain_values, end_value, evaluate, number_in, over_names, range_values}
-use Rattle.ep_tree.specs.Limits.{MOST_REACH, is_too_far, numbers_at}
+use Rattle.ep_tree.specs.Limits.{numbers_at}
 use Rattle.ep_tree.specs.Measures.{Met, met, met_domain, met_end, met_names, met_ranges}
 use Rattle.ep_tree.specs.Trees.{DomainTree, End, ExprTree, Ranges, bool, end_at, folded, group_domain, int, matrix_domain, named_domain, no_end, no_ranges, one_and, quantified, ranges, set_domain, span_and}
 use Rattle.ep_tree.specs.declared.syntax.FoldOp.{FoldOp}
@@ -86,7 +87,7 @@ between_two m (negsuc a) (negsuc b) y h k low high = grind (arith, ints)
 
 one_between_near : (x n y : ℤ) → is_near x ≡ true → is_near y ≡ true → x ≤ℤ n → n ≤ℤ y → is_near n ≡ true
 unfolding is_too_far
-one_between_near x n y h k low high = near_of n (between_two MOST_REACH x n y (near_number x h) (near_number y k) low high)
+one_between_near x n y h k low high = near_of n (between_two MOST_NUMBER x n y (near_number x h) (near_number y k) low high)
 
 counting_near : (k : ℕ) (first x y : ℤ) → is_near x ≡ true → is_near y ≡ true → x ≤ℤ first → (first +ℤ pos k) ≤ℤ (y +ℤ pos 1) → list_all is_near (counting first k) ≡ true
 unfolding counting

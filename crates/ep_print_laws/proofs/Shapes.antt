@@ -6,13 +6,14 @@ use Rattle.std.proofs.lemmas.Bool.{and_from, and_parts, cond-true, eq-eqb}
 use Rattle.std.proofs.lemmas.List.{length-append}
 use Rattle.ep_base.proofs.Small.{map_is, no_some, some_is, then_is}
 use Rattle.ep_base.specs.Runs.{IsAscending}
+use Rattle.ep_base.specs.Reads.{is_too_far}
 use Rattle.ep_base.specs.declared.places.Place.{Place}
 use Rattle.ep_tree.proofs.TypedEvaluation.{with_indices_is}
 use Rattle.ep_tree.specs.Environments.{Env}
 use Rattle.ep_tree.specs.Evaluation.{evaluate, number_in, values_of}
 use Rattle.ep_tree.specs.Faults.{faults, faults_of_all, type_fault}
 use Rattle.ep_tree.specs.Measures.{a_node, met, met_all, met_domain, size_of}
-use Rattle.ep_tree.specs.Limits.{is_too_far, numbers_at}
+use Rattle.ep_tree.specs.Limits.{numbers_at}
 use Rattle.ep_tree.specs.Placeless.{placeless, placeless_domain, placeless_trees}
 use Rattle.ep_tree.specs.Trees.{DomainTree, ExprTree, ExprTrees, literal, no_trees, over, tree_and}
 use Rattle.ep_tree.specs.Types.{Context, all_typed, from_all, from_many, gives, has_dimensions, indexed_type, is_bool_scalar, is_boolean, is_integer, is_matrix, is_matrix_of_bool, judge, judge_all, list_of_matrices, list_type, of_scalar, scalar_of, stated_dimensions, typed}

@@ -13,12 +13,13 @@ use Rattle.std.proofs.lemmas.List.Folds.{list_any-append}
 use Rattle.ep_base.specs.Numbers.{absolute_of, of_bool}
 use Rattle.ep_base.specs.Options.{map_both}
 use Rattle.ep_base.specs.Runs.{IsAscending, counting}
+use Rattle.ep_base.specs.Reads.{is_too_far}
 use Rattle.ep_base.specs.declared.places.Place.{Place}
 use Rattle.ep_tree.specs.Domains.{between, count_between, put_in, united}
 use Rattle.ep_tree.specs.Environments.{Env}
 use Rattle.ep_tree.specs.Evaluation.{domain_values, evaluate, number_in, range_values}
 use Rattle.ep_tree.specs.Faults.{domain_faults, faults, faults_of_ranges, has_open_range, open_domain, type_fault, unless}
-use Rattle.ep_tree.specs.Limits.{is_too_far, numbers_at}
+use Rattle.ep_tree.specs.Limits.{numbers_at}
 use Rattle.ep_tree.specs.Measures.{Met, a_node, met, met_domain, met_ranges, size_of}
 use Rattle.ep_tree.specs.Placeless.{placeless, placeless_domain, placeless_ranges, somewhere}
 use Rattle.ep_tree.specs.Trees.{DomainTree, ExprTree, Ranges, end_at, minus, no_ranges, number, one_and, ranges, span_and, truth}

@@ -8,10 +8,10 @@ use Rattle.std.proofs.lemmas.Int.{ints}
 use Rattle.std.proofs.lemmas.List.Elements.{All-from_recursion, recursion_from_All}
 use Rattle.ep_base.specs.Numbers.{absolute_of}
 use Rattle.ep_base.specs.TokenTexts.{is_name, is_word}
+use Rattle.ep_base.specs.Reads.{MOST_NUMBER, is_too_far}
 use Rattle.ep_base.specs.declared.names.Name.{Name}
 use Rattle.ep_tree.specs.Binding.{Find, Instance, bind}
 use Rattle.ep_tree.specs.Closed.{IsClosed}
-use Rattle.ep_tree.specs.Limits.{MOST_REACH, is_too_far}
 use Rattle.ep_tree.specs.Solutions.{Assigned, IsWritten, found_of}
 use Rattle.ep_tree.specs.Statements.{TextTree}
 use Rattle.ep_tree.specs.Texts.{IsSpellable}
@@ -29,8 +29,8 @@ use Rattle.ep_print_laws.proofs.Written.{assignment_given_back, found_names, nam
 
 -- ---- what is near is short
 
-few_digits : (n : ℕ) → int_lt MOST_REACH (pos n) ≡ false → nat_lt n (10 ^ 18) ≡ true
-few_digits n h = let most : pos n ≤ℤ MOST_REACH = grind (arith, ints) in grind (arith, nat_tests, ints)
+few_digits : (n : ℕ) → int_lt MOST_NUMBER (pos n) ≡ false → nat_lt n (10 ^ 18) ≡ true
+few_digits n h = let most : pos n ≤ℤ MOST_NUMBER = grind (arith, ints) in grind (arith, nat_tests, ints)
 
 near_short : (n : ℤ) → is_near n ≡ true → has_few_digits n ≡ true
 unfolding has_few_digits is_too_far absolute_of

@@ -3,11 +3,12 @@ use Rattle.std.specs.Prelude.{◌≡◌, ℕ, ℤ, ◌≤◌, Bool, true, not, �
 use Rattle.std.specs.List.{All, list_all, list_any}
 use Rattle.ep_base.specs.Runs.{IsAscending}
 use Rattle.ep_base.specs.TokenTexts.{is_name, is_word}
+use Rattle.ep_base.specs.Reads.{is_too_far}
 use Rattle.ep_base.specs.declared.operators.Limit.{Limit}
 use Rattle.ep_tree.specs.Binding.{Find, Instance, bind, over_limit}
 use Rattle.ep_tree.specs.Closed.{IsClosed}
 use Rattle.ep_tree.specs.Faults.{params_faults}
-use Rattle.ep_tree.specs.Limits.{MOST_SIZE, is_too_far}
+use Rattle.ep_tree.specs.Limits.{MOST_SIZE}
 use Rattle.ep_tree.specs.Measures.{met, size_of}
 use Rattle.ep_tree.specs.Names.{nothing_known}
 use Rattle.ep_tree.specs.Placeless.{SameButPlaces}

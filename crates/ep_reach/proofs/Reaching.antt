@@ -8,15 +8,15 @@ use Rattle.std.proofs.lemmas.Int.{ints}
 use Rattle.std.proofs.lemmas.List.{map-append, map_more, take_all}
 use Rattle.std.proofs.lemmas.List.Elements.{All-cons, All-head, All-nil, All-push, All-tail}
 use Rattle.std.proofs.lemmas.List.Sums.{fold_push}
-use Rattle.ep_base.specs.Intervals.{Interval, from_to, greatest_or_zero, least_or_zero, only, spanned}
+use Rattle.ep_base.specs.Intervals.{Interval, IsWithinReach, from_to, greatest_or_zero, least_or_zero, only, spanned}
 use Rattle.ep_base.specs.Numbers.{greatest_of, least_of}
 use Rattle.ep_base.specs.Reads.{IsWithinNumbers}
-use Rattle.ep_ground.specs.Bounds.{IsBounded, IsWithinReach, node_reach, reach_at, term_reach}
+use Rattle.ep_ground.specs.Bounds.{IsBounded, node_reach, reach_at, term_reach}
 use Rattle.ep_ground.specs.Grounds.{GroundState}
 use Rattle.ep_ground.specs.Nodes.{GroundNode, undefined, coefficients_of}
 use Rattle.ep_ground.specs.declared.cells.Cell.{Cell}
-use Rattle.ep_reach.specs.Reaching.{interval_of, intervals_of}
-use Rattle.ep_reach.specs.declared.intervals.Span.{Span}
+use Rattle.ep_numbers.specs.Spans.{interval_of, intervals_of}
+use Rattle.ep_numbers.specs.declared.spans.Span.{Span}
 use Rattle.ep_reach.proofs.Nodes.{all_got, all_whole, take_got}
 
 -- what holds of an answer that is there
@@ -31,51 +31,6 @@ if_there_both (Some a) q r f h = f a q r
 pub if_some_so : {A : Type 0} {P Q : A → Type 0} (o : Option A) → IfSome o P → ((a : A) → P a → Q a) → IfSome o Q
 if_some_so None p f = p
 if_some_so (Some a) p f = f a p
-
-up : (a b c : ℤ) → a ≤ℤ b → b ≤ℤ c → a ≤ℤ c
-up a b c h k = omega (arith, ints, h, k)
-
-min_left : (x y : ℤ) → int_min x y ≤ℤ x
-min_left x y = grind (arith, ints)
-
-min_right : (x y : ℤ) → int_min x y ≤ℤ y
-min_right x y = grind (arith, ints)
-
-max_left : (x y : ℤ) → x ≤ℤ int_max x y
-max_left x y = grind (arith, ints)
-
-max_right : (x y : ℤ) → y ≤ℤ int_max x y
-max_right x y = grind (arith, ints)
-
-itself : (x : ℤ) → x ≤ℤ x
-itself x = omega (arith, ints)
-
-min_start : (a : ℤ) (xs : List ℤ) → fold int_min a xs ≤ℤ a
-min_start a [] = itself a
-min_start a (x ∷ xs) = up (fold int_min (int_min a x) xs) (int_min a x) a (min_start (int_min a x) xs) (min_left a x)
-
-max_start : (a : ℤ) (xs : List ℤ) → a ≤ℤ fold int_max a xs
-max_start a [] = itself a
-max_start a (x ∷ xs) = up a (int_max a x) (fold int_max (int_max a x) xs) (max_left a x) (max_start (int_max a x) xs)
-
-within_from : (a b : ℤ) (xs : List ℤ) → neg_ℤ (pos 1099511627776) ≤ℤ fold int_min a xs → fold int_max b xs ≤ℤ pos 1099511627776 → All IsWithinNumbers xs
-within_from a b [] h k = All-nil IsWithinNumbers
-within_from a b (x ∷ xs) h k =
-    let low : fold int_min (int_min a x) xs ≤ℤ x = up (fold int_min (int_min a x) xs) (int_min a x) x (min_start (int_min a x) xs) (min_right a x) in
-    let high : x ≤ℤ fold int_max (int_max b x) xs = up x (int_max b x) (fold int_max (int_max b x) xs) (max_right b x) (max_start (int_max b x) xs) in
-    All-cons IsWithinNumbers x xs
-    (up (neg_ℤ (pos 1099511627776)) (fold int_min (int_min a x) xs) x h low, up x (fold int_max (int_max b x) xs) (pos 1099511627776) high k)
-    (within_from (int_min a x) (int_max b x) xs h k)
-
--- each of some numbers is near where the least and the greatest of them are
-pub near_all : (values : List ℤ) (i : Interval) → i ≡ spanned values → IsWithinReach i → All IsWithinNumbers values
-unfolding spanned least_or_zero greatest_or_zero least_of greatest_of
-near_all [] i e h = All-nil IsWithinNumbers
-near_all (x ∷ xs) i e h =
-    let k : IsWithinReach (from_to (fold int_min x xs) (fold int_max x xs)) = subst IsWithinReach e h in
-    All-cons IsWithinNumbers x xs
-    (up (neg_ℤ (pos 1099511627776)) (fold int_min x xs) x k.low.0 (min_start x xs), up x (fold int_max x xs) (pos 1099511627776) (max_start x xs) k.high.1)
-    (within_from x x xs k.low.0 k.high.1)
 
 -- what a list of images says of a place
 pub at_map : {A B : Type 0} (f : A → B) (xs : List A) (k : ℕ) (x d : A) (e : B) → k < length xs → x ≡ get_or xs k d → f x ≡ slice_index_or (map f xs) k e

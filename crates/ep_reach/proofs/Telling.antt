@@ -1,4 +1,4 @@
--- Where reaches are told: sums and powers that stay near don't leave the words that they are computed in.
+-- Where reaches are told: sums that stay near don't leave the words that they are computed in.
 use Rattle.std.proofs.Common.{◌≡◌, ℕ, zero, suc, ◌+◌, ◌-◌, ◌*◌, ◌%◌, ◌<◌, ◌≤◌, ℤ, pos, negsuc, ◌+ℤ◌, ◌*ℤ◌, ◌≤ℤ◌, List, [], ◌∷◌, ◌++◌, length, get_or, take, false, Some, refl, sym, ap, subst, ◌∙◌, arith, add-one, SFits, w64}
 use Rattle.std.specs.Prelude.{if◌then◌else◌, fold, int_lt, map, neg_ℤ, slice_get, slice_index_or, unsigned_abs}
 use Rattle.std.specs.Int.{int_max, int_min}
@@ -7,135 +7,19 @@ use Rattle.std.proofs.lemmas.Int.{ints, unsigned_abs-mul}
 use Rattle.std.proofs.lemmas.List.{length-append}
 use Rattle.std.proofs.lemmas.List.Elements.{All-cons, All-head, All-nil, All-tail}
 use Rattle.std.proofs.lemmas.Nat.{mul-le}
-use Rattle.ep_base.specs.Intervals.{Interval, greatest_or_zero, has_zero, least_or_zero, nth_power_interval, only, product_interval, spanned}
+use Rattle.ep_base.specs.Intervals.{Interval, IsWithinReach, greatest_or_zero, has_zero, least_or_zero, nth_power_interval, only, product_interval, scaled, spanned}
 use Rattle.ep_base.specs.Numbers.{greatest_of, least_of, nth_power}
 use Rattle.ep_base.specs.Reads.{IsWithinNumbers}
-use Rattle.ep_ground.specs.Bounds.{IsWithinReach, node_reach, reach_at, scaled, term_reach}
+use Rattle.ep_numbers.proofs.Ends.{max_in, min_in}
+use Rattle.ep_numbers.proofs.PowerLaws.{abs_in, in_abs, word_in}
+use Rattle.ep_numbers.specs.Spans.{IsWide}
+use Rattle.ep_ground.specs.Bounds.{node_reach, reach_at, term_reach}
 use Rattle.ep_ground.specs.Grounds.{GroundState}
 use Rattle.ep_ground.specs.Nodes.{GroundNode, coefficients_of, power, sum}
 use Rattle.ep_ground.specs.declared.cells.Cell.{Cell}
-use Rattle.ep_reach.specs.Reaching.{HasFewParts, HasNearParts, IsNearThroughout, IsToldAt, IsWide}
+use Rattle.ep_reach.specs.Reaching.{HasFewParts, HasNearParts, IsNearThroughout, IsToldAt}
 use Rattle.ep_reach.proofs.Nodes.{all_at, got_at}
-use Rattle.ep_reach.proofs.Reaching.{Bounded, near_all, near_at}
-
--- ---- ends of near numbers
-
-min_in : (l h a : ℤ) (xs : List ℤ) → (l ≤ℤ a) × (a ≤ℤ h) → All (λ x. (l ≤ℤ x) × (x ≤ℤ h)) xs → (l ≤ℤ fold int_min a xs) × (fold int_min a xs ≤ℤ h)
-min_in l h a [] k all = k
-min_in l h a (x ∷ xs) k all =
-    let m = All-head (λ y. (l ≤ℤ y) × (y ≤ℤ h)) x xs all in
-    min_in l h (int_min a x) xs (low k.0 m.0, high k.1 m.1) (All-tail (λ y. (l ≤ℤ y) × (y ≤ℤ h)) x xs all)
-  where
-    low : l ≤ℤ a → l ≤ℤ x → l ≤ℤ int_min a x
-    low p q = grind (arith, ints, p, q)
-
-    high : a ≤ℤ h → x ≤ℤ h → int_min a x ≤ℤ h
-    high p q = grind (arith, ints, p, q)
-
-max_in : (l h a : ℤ) (xs : List ℤ) → (l ≤ℤ a) × (a ≤ℤ h) → All (λ x. (l ≤ℤ x) × (x ≤ℤ h)) xs → (l ≤ℤ fold int_max a xs) × (fold int_max a xs ≤ℤ h)
-max_in l h a [] k all = k
-max_in l h a (x ∷ xs) k all =
-    let m = All-head (λ y. (l ≤ℤ y) × (y ≤ℤ h)) x xs all in
-    max_in l h (int_max a x) xs (low k.0 m.0, high k.1 m.1) (All-tail (λ y. (l ≤ℤ y) × (y ≤ℤ h)) x xs all)
-  where
-    low : l ≤ℤ a → l ≤ℤ x → l ≤ℤ int_max a x
-    low p q = grind (arith, ints, p, q)
-
-    high : a ≤ℤ h → x ≤ℤ h → int_max a x ≤ℤ h
-    high p q = grind (arith, ints, p, q)
-
-pub near_span : (values : List ℤ) (i : Interval) → i ≡ spanned values → All IsWithinNumbers values → IsWithinReach i
-unfolding spanned least_or_zero greatest_or_zero least_of greatest_of
-near_span [] i e h = subst IsWithinReach (sym e) (record { low = (omega (arith, ints), omega (arith, ints)); high = (omega (arith, ints), omega (arith, ints)) })
-near_span (x ∷ xs) i e h =
-    let first = All-head IsWithinNumbers x xs h in
-    let rest = All-tail IsWithinNumbers x xs h in
-    subst IsWithinReach (sym e)
-    (record {
-      low = min_in (neg_ℤ (pos 1099511627776)) (pos 1099511627776) x xs first rest;
-      high = max_in (neg_ℤ (pos 1099511627776)) (pos 1099511627776) x xs first rest;
-    })
-
--- ---- absolute values
-
-pub abs_in : (n : ℤ) (m : ℕ) → unsigned_abs n ≤ m → (neg_ℤ (pos m) ≤ℤ n) × (n ≤ℤ pos m)
-abs_in (pos k) m h = (grind (arith, ints, h), grind (arith, ints, h))
-abs_in (negsuc k) m h = (grind (arith, ints, h), grind (arith, ints, h))
-
-pub in_abs : (n : ℤ) (m : ℕ) → neg_ℤ (pos m) ≤ℤ n → n ≤ℤ pos m → unsigned_abs n ≤ m
-in_abs (pos k) m h j = grind (arith, ints, h, j)
-in_abs (negsuc k) m h j = grind (arith, ints, h, j)
-
-pub word_in : (n : ℤ) → SFits w64 n → (neg_ℤ (pos 9223372036854775808) ≤ℤ n) × (n ≤ℤ pos 9223372036854775808)
-word_in n h = (omega (arith, ints), omega (arith, ints))
-
--- ---- powers
-
-abs_power : (x : ℤ) (n : ℕ) → unsigned_abs (nth_power x (suc n)) ≡ unsigned_abs (nth_power x n) * unsigned_abs x
-unfolding nth_power
-abs_power x n = unsigned_abs-mul (nth_power x n) x
-
-least_one : (a b : ℕ) → 1 ≤ b → a ≤ a * b
-least_one a b h = grind arith
-
-abs_grows : (x : ℤ) (n more : ℕ) → 1 ≤ unsigned_abs x → unsigned_abs (nth_power x n) ≤ unsigned_abs (nth_power x (n + more))
-abs_grows x n zero h = subst (λ m. unsigned_abs (nth_power x n) ≤ unsigned_abs (nth_power x m)) (same n) (omega arith)
-  where
-    same : (k : ℕ) → k ≡ k + 0
-    same k = omega arith
-abs_grows x n (suc more) h =
-    subst (λ m. unsigned_abs (nth_power x n) ≤ unsigned_abs (nth_power x m)) (next n more)
-    (let a = abs_grows x n more h in let b = abs_power x (n + more) in let d = least_one (unsigned_abs (nth_power x (n + more))) (unsigned_abs x) h in omega (arith, a, b, d))
-  where
-    next : (k j : ℕ) → suc (k + j) ≡ k + suc j
-    next k j = omega arith
-
-times_none : (m : ℤ) → pos 0 ≡ m *ℤ pos 0
-times_none m = omega (arith, ints)
-
-grown_back : (x : ℤ) (n whole : ℕ) → 1 ≤ unsigned_abs x → n < whole → IsWithinNumbers (nth_power x whole) → IsWithinNumbers (nth_power x (n + 1))
-grown_back x n whole h k w =
-    abs_in (nth_power x (n + 1)) 1099511627776
-    (let a = in_abs (nth_power x whole) 1099511627776 w.0 w.1 in
-    let b = abs_grows x (n + 1) (whole - (n + 1)) h in
-    let e : unsigned_abs (nth_power x ((n + 1) + (whole - (n + 1)))) ≡ unsigned_abs (nth_power x whole) = ap (λ m. unsigned_abs (nth_power x m)) (omega (arith, k)) in omega (arith, a, b, e))
-
--- each lesser power is near where one is
-pub power_within : (x : ℤ) (n whole : ℕ) → n < whole → IsWithinNumbers (nth_power x whole) → IsWithinNumbers (nth_power x (n + 1))
-unfolding nth_power
-power_within (pos zero) n whole k w =
-    subst IsWithinNumbers (times_none (nth_power (pos zero) n) ∙ ap (nth_power (pos zero)) (sym (add-one n))) (omega (arith, ints), omega (arith, ints))
-power_within (pos (suc x)) n whole k w = grown_back (pos (suc x)) n whole (omega (arith, ints)) k w
-power_within (negsuc x) n whole k w = grown_back (negsuc x) n whole (omega (arith, ints)) k w
-
--- powers of a number near 0 repeat
-powers_repeat : (x : ℤ) (n : ℕ) → int_lt (pos 1) x ≡ false → int_lt x (negsuc 0) ≡ false → nth_power x (suc (suc (suc n))) ≡ nth_power x (suc n)
-unfolding nth_power
-powers_repeat (pos zero) n h k = omega (arith, ints)
-powers_repeat (pos (suc zero)) n h k = omega (arith, ints)
-powers_repeat (pos (suc (suc m))) n h k = absurd (let e : int_lt (pos 1) (pos (suc (suc m))) ≡ false = h in grind (arith, ints))
-powers_repeat (negsuc zero) n h k = omega (arith, ints)
-powers_repeat (negsuc (suc m)) n h k = absurd (let e : int_lt (negsuc (suc m)) (negsuc 0) ≡ false = k in grind (arith, ints))
-
-pub power_small : (x : ℤ) (n : ℕ) → int_lt (pos 1) x ≡ false → int_lt x (negsuc 0) ≡ false → 2 < n → nth_power x (2 - n % 2) ≡ nth_power x n
-power_small x zero h k m = absurd (omega (arith, m))
-power_small x (suc zero) h k m = absurd (omega (arith, m))
-power_small x (suc (suc zero)) h k m = absurd (omega (arith, m))
-power_small x (suc (suc (suc zero))) h k m = sym (powers_repeat x zero h k)
-power_small x (suc (suc (suc (suc zero)))) h k m = sym (powers_repeat x (suc zero) h k)
-power_small x (suc (suc (suc (suc (suc n))))) h k m =
-    ap (nth_power x) (omega arith) ∙ power_small x (suc (suc (suc n))) h k (omega arith) ∙ sym (powers_repeat x (suc (suc n)) h k)
-
--- the powers of both ends are near where their interval is
-pub ends_near : (i : Interval) (n : ℕ) → 1 ≤ n → IsWithinReach (nth_power_interval i n) → IsWithinNumbers (nth_power i.low n) × IsWithinNumbers (nth_power i.high n)
-unfolding nth_power_interval
-ends_near i zero h w = absurd (omega (arith, h))
-ends_near i (suc n) h w =
-    let zeros : List ℤ = if has_zero i then pos 0 ∷ [] else [] in
-    let rest : List ℤ = nth_power i.high (suc n) ∷ zeros in
-    let xs : List ℤ = nth_power i.low (suc n) ∷ rest in
-    let all = near_all xs (spanned xs) refl w in
-    (All-head IsWithinNumbers (nth_power i.low (suc n)) rest all, All-head IsWithinNumbers (nth_power i.high (suc n)) zeros (All-tail IsWithinNumbers (nth_power i.low (suc n)) rest all))
+use Rattle.ep_reach.proofs.Reaching.{Bounded, near_at}
 
 -- ---- sums
 

@@ -1,30 +1,12 @@
--- The intervals that the code keeps for the terms of a ground, and grounds all of whose terms have near ones.
+-- Grounds all of whose terms have near intervals.
 use Rattle.std.specs.Prelude.{ℕ, ◌<◌, ◌≤◌, List, length, map, ℤ, pos, neg_ℤ, ◌≤ℤ◌}
 use Rattle.std.specs.List.{All}
 use Rattle.ep_base.specs.Reads.{IsWithinNumbers}
-use Rattle.ep_ground.specs.Bounds.{IsWithinReach, node_reach, reach_at, term_reach}
+use Rattle.ep_ground.specs.Bounds.{node_reach, reach_at, term_reach}
 use Rattle.ep_ground.specs.Grounds.{GroundState}
 use Rattle.ep_ground.specs.declared.cells.Cell.{Cell}
-use Rattle.ep_base.specs.Intervals.{Interval, from_to}
+use Rattle.ep_base.specs.Intervals.{Interval, IsWithinReach, from_to}
 use Rattle.ep_ground.specs.Nodes.{GroundNode, coefficients_of}
-use Rattle.ep_reach.specs.declared.intervals.Span.{Span}
-use Rattle.ep_reach.specs.declared.intervals.WideSpan.{WideSpan}
-
--- an interval as the code keeps it
-abbrev pub interval_of : Span → Interval
-interval_of span = from_to span.low span.high
-
--- the same of ends that may be far from 0
-abbrev pub wide_interval : WideSpan → Interval
-wide_interval wide = from_to wide.low wide.high
-
--- the intervals that the code keeps
-abbrev pub intervals_of : List Span → List Interval
-intervals_of spans = map interval_of spans
-
--- a number that fits a word of 128 bits with room
-abbrev pub IsWide : ℤ → Type 0
-IsWide n = (neg_ℤ (pos 85070591730234615865843651857942052864) ≤ℤ n) × (n ≤ℤ pos 85070591730234615865843651857942052864)
 
 -- a sum has at most 2 ^ 32 parts
 abbrev pub HasFewParts : GroundNode → Type 0

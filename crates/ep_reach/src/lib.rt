@@ -2,7 +2,6 @@
 #![tactic(auto)]
 
 mod checks;
-mod intervals;
 mod reaches;
 #[cfg(test)]
 mod tests;

@@ -4,20 +4,20 @@ ghost use Rattle.std.specs.Prelude.{◌≡◌, ◌∷◌, [], true, fold, map, s
 ghost use Rattle.std.specs.Int.{int_max, int_min};
 ghost use Rattle.std.specs.List.{All};
 ghost use Rattle.ep_base.specs.Intervals as defined;
-ghost use Rattle.ep_base.specs.Intervals.{greatest_or_zero, highs, least_or_zero, lows};
+ghost use Rattle.ep_base.specs.Intervals.{IsWithinReach, greatest_or_zero, highs, least_or_zero, lows};
 ghost use Rattle.ep_base.specs.Reads.{IsWithinNumbers};
-ghost use Rattle.ep_ground.specs.Bounds as bounds;
-ghost use Rattle.ep_ground.specs.Bounds.{IsWithinReach, node_reach, reach_at};
+ghost use Rattle.ep_ground.specs.Bounds.{node_reach, reach_at};
 ghost use Rattle.ep_ground.specs.NodeViews.{plain_node};
 ghost use Rattle.ep_ground.specs.Nodes.{coefficients_of};
-ghost use Rattle.ep_reach.specs.Reaching.{HasNearParts, IsToldAt, interval_of, intervals_of, wide_interval};
+ghost use Rattle.ep_numbers.specs.Spans.{interval_of, intervals_of, wide_interval};
+ghost use Rattle.ep_reach.specs.Reaching.{HasNearParts, IsToldAt};
 
-use super::intervals::{
-    Span, WideSpan, absolute, added, is_near, near, only, power, product, quotient, remainder,
-    scaled, span_of_set, widened,
-};
 use ep_base::Runs;
 use ep_ground::{Cell, Node, Term};
+use ep_numbers::{
+    Extremes, Span, WideSpan, absolute, added, is_near, near, only, power, product, quotient,
+    remainder, scaled, span_of_set, widened, with_one,
+};
 
 /// Whether the stages compute with each number of a set.
 pub fn is_near_set(set: &Runs) -> bool
@@ -135,7 +135,7 @@ fn span_of_term(spans: &[Span], term: Term) -> Span
 /// The interval of a number and a sum of terms, each multiplied by its coefficient.
 fn sum_of_terms(spans: &[Span], number: i64, parts: &[(i64, Term)]) -> Option<WideSpan>
     ensures sum { IfSome result (λ wide. wide_interval wide ≡ defined.sum_interval
-        (defined.only number ∷ map (λ p. bounds.scaled p.0 (reach_at (intervals_of spans.now) p.1)) parts.now)) }
+        (defined.only number ∷ map (λ p. defined.scaled p.0 (reach_at (intervals_of spans.now) p.1)) parts.now)) }
     ensures told { HasNearParts (intervals_of spans.now) parts.now → IsSome result }
 {
     let mut sum = only(number);
@@ -191,32 +191,6 @@ fn whole_of_term(spans: &[Span], part: Term) -> WideSpan
     ensures { wide_interval result ≡ reach_at (intervals_of spans.now) part }
 {
     widened(span_of_term(spans, part))
-}
-
-/// The least and the greatest of the lower ends of some intervals, and of their upper ends.
-#[derive(Clone, Copy, Debug, PartialEq, Eq)]
-struct Extremes {
-    lows: Span,
-    highs: Span,
-}
-
-/// The same of one interval more.
-fn with_one(found: Extremes, x: Span) -> Extremes
-    ensures least_low { result.lows.low ≡ int_min found.lows.low x.low }
-    ensures greatest_low { result.lows.high ≡ int_max found.lows.high x.low }
-    ensures least_high { result.highs.low ≡ int_min found.highs.low x.high }
-    ensures greatest_high { result.highs.high ≡ int_max found.highs.high x.high }
-{
-    Extremes {
-        lows: Span {
-            low: found.lows.low.min(x.low),
-            high: found.lows.high.max(x.low),
-        },
-        highs: Span {
-            low: found.highs.low.min(x.high),
-            high: found.highs.high.max(x.high),
-        },
-    }
 }
 
 /// Those of an interval and of the intervals of terms.

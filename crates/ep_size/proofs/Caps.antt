@@ -7,7 +7,7 @@ use Rattle.std.proofs.Math.Nat.{mul-le-mul, mul_assoc, mul_comm}
 use Rattle.std.proofs.lemmas.List.{at_drop_all, at_drop_more}
 use Rattle.ep_base.specs.Runs.{counting, numbers, numbers_in, or_zero}
 use Rattle.ep_base.specs.declared.run_lists.Run.{Run}
-use Rattle.ep_numbers.proofs.Counting.{length_of_run}
+use Rattle.ep_numbers.proofs.Counting.{itself_above, length_of_run, none_below}
 use Rattle.ep_tree.specs.Solutions.{cell_count}
 use Rattle.ep_size.specs.Totals.{MOST_TOLD, capped}
 
@@ -41,16 +41,6 @@ product_kept a b =
 pub sum_kept : (a b : ℕ) → capped (capped a + capped b) ≡ capped (a + b)
 sum_kept a b = omega arith
 
--- a number below 0 counts nothing
-pub none_below : (z : ℤ) → int_lt z (pos 0) ≡ true → or_zero z ≡ 0
-none_below (pos n) h = grind arith
-none_below (negsuc n) h = refl
-
--- any other number counts itself
-pub itself_above : (z : ℤ) → int_lt z (pos 0) ≡ false → nat_abs z ≡ or_zero z
-itself_above (pos n) h = refl
-itself_above (negsuc n) h = absurd cc
-
 many_above : (z : ℤ) → int_lt (pos 20000001) z ≡ true → MOST_TOLD < or_zero z
 many_above (pos n) h = grind arith
 many_above (negsuc n) h = grind arith
@@ -71,20 +61,6 @@ run_many run h = let count = length_of_run run in let many = many_above ((run.hi
 pub run_some : (run : Run) → int_lt ((run.hi +ℤ pos 1) -ℤ run.lo) (pos 0) ≡ false → int_lt (pos 20000001) ((run.hi +ℤ pos 1) -ℤ run.lo) ≡ false
     → nat_abs ((run.hi +ℤ pos 1) -ℤ run.lo) ≡ capped (length (numbers_in run))
 run_some run h k = few_between ((run.hi +ℤ pos 1) -ℤ run.lo) h k ∙ ap capped (sym (length_of_run run))
-
--- the length of a run in words that are wide enough
-pub wide_length : (hi lo a b : ℤ) → SFits w64 hi → SFits w64 lo → a ≡ to_z w64 (of_z w64 hi) → b ≡ to_z w64 (of_z w64 lo)
-    → to_z w128 (of_z w128 (to_z w128 (of_z w128 (to_z w128 (of_z w128 a) +ℤ pos 1)) -ℤ to_z w128 (of_z w128 b))) ≡ ((hi +ℤ pos 1) -ℤ lo)
-wide_length hi lo a b h k p q =
-    let first : to_z w128 (of_z w128 a) ≡ hi =
-    ap (λ x. to_z w128 (of_z w128 x)) (p ∙ to_z-of_z w64 hi h) ∙ to_z-of_z w128 hi (omega (arith, ints, h)) in
-    let second : to_z w128 (of_z w128 b) ≡ lo =
-    ap (λ x. to_z w128 (of_z w128 x)) (q ∙ to_z-of_z w64 lo k) ∙ to_z-of_z w128 lo (omega (arith, ints, k)) in
-    let more : to_z w128 (of_z w128 (to_z w128 (of_z w128 a) +ℤ pos 1)) ≡ (hi +ℤ pos 1) =
-    ap (λ x. to_z w128 (of_z w128 (x +ℤ pos 1))) first ∙ to_z-of_z w128 (hi +ℤ pos 1) (omega (arith, ints, h)) in
-    ap (λ x. to_z w128 (of_z w128 (x -ℤ to_z w128 (of_z w128 b)))) more
-    ∙ ap (λ x. to_z w128 (of_z w128 ((hi +ℤ pos 1) -ℤ x))) second
-    ∙ to_z-of_z w128 ((hi +ℤ pos 1) -ℤ lo) (omega (arith, ints, h, k))
 
 -- how many numbers runs have, the first of them apart
 pub numbers_more : (run : Run) (runs : List Run) → length (numbers (run ∷ runs)) ≡ length (numbers_in run) + length (numbers runs)

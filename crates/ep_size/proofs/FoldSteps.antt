@@ -9,7 +9,7 @@ use Rattle.std.proofs.Math.Bool.{or_assoc}
 use Rattle.std.proofs.lemmas.Bool.{or_from, or_left, or_right}
 use Rattle.ep_base.specs.Intervals.{Interval, farthest_end, from_to, greatest_interval, greatest_or_zero, highs, least_interval, least_or_zero, lows, only, product_interval, products_interval, spanned, width}
 use Rattle.ep_base.specs.Numbers.{absolute_of, greatest_of, least_of}
-use Rattle.ep_tree.specs.Limits.{MOST_REACH, is_too_far}
+use Rattle.ep_base.specs.Reads.{MOST_NUMBER, is_too_far}
 use Rattle.ep_tree.specs.Measures.{farthest_of, first_products, fold_weight, folded_weight, folding_weight, sum_weight}
 use Rattle.ep_tree.specs.Reach as defined
 use Rattle.ep_tree.specs.Reach.{folded_span, reaches, sum_span, truth_span, wide_span}
@@ -19,7 +19,8 @@ use Rattle.ep_size.proofs.Measurings.{is_past, or_false, past_of}
 use Rattle.ep_size.specs.Extents.{plain_span}
 use Rattle.ep_size.specs.Finishing.{Gives}
 use Rattle.ep_size.specs.Folds.{Chooses, Folds, GivesFold, Multiplies, RefusesFold, fold_reaches, greater, is_far_fold, is_far_reach, lesser}
-use Rattle.ep_size.specs.Spans.{Keeps, interval_of}
+use Rattle.ep_numbers.specs.Spans.{interval_of}
+use Rattle.ep_size.specs.Spans.{Keeps}
 use Rattle.ep_size.specs.Sums.{Sums}
 use Rattle.ep_size.specs.Totals.{capped}
 use Rattle.ep_size.specs.declared.errors.SizeError.{SizeError}
@@ -213,7 +214,7 @@ unfolding is_too_far
 any_past [] = refl
 any_past (i ∷ is) = ap (λ b. is_far_reach i || b) (any_past is)
 
-far_any : (is : List Interval) → int_lt MOST_REACH (farthest_of (map farthest_end is)) ≡ list_any is_far_reach is
+far_any : (is : List Interval) → int_lt MOST_NUMBER (farthest_of (map farthest_end is)) ≡ list_any is_far_reach is
 far_any is = past_of (map farthest_end is) ∙ any_past is
 
 product_far : (spans : List defined.Span)
@@ -239,7 +240,7 @@ plain_gives op spans (Ok own) g e = (g.0, e ∙ g.1)
 plain_gives op spans (Err (Limit l)) g e = (g.0, e ∙ g.1)
 plain_gives op spans (Err Memory) g e = tt
 
-alone_far : (i : Interval) → int_lt MOST_REACH (farthest_of (map farthest_end (i ∷ []))) ≡ is_far_reach i
+alone_far : (i : Interval) → int_lt MOST_NUMBER (farthest_of (map farthest_end (i ∷ []))) ≡ is_far_reach i
 alone_far i = far_any (i ∷ []) ∙ sym (or_false (is_far_reach i))
 
 -- ---- what is known of folded numbers

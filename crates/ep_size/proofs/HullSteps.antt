@@ -6,7 +6,7 @@ use Rattle.std.specs.List.{list_any}
 use Rattle.std.proofs.lemmas.List.{length-replicate, length_push}
 use Rattle.ep_base.specs.Intervals.{Interval, farthest_end, from_to, greatest_or_zero, highs, hull, least_or_zero, lows, width}
 use Rattle.ep_base.specs.Numbers.{absolute_of, greatest_of, least_of}
-use Rattle.ep_tree.specs.Limits.{is_too_far}
+use Rattle.ep_base.specs.Reads.{is_too_far}
 use Rattle.ep_tree.specs.Measures.{index_width, read_weight}
 use Rattle.ep_tree.specs.Reach as defined
 use Rattle.ep_tree.specs.Reach.{MeasuredIndex, is_decided_index, read_span, reaches, truth_span, wide_span}
@@ -14,10 +14,11 @@ use Rattle.ep_tree.specs.declared.values.Scalar.{Scalar}
 use Rattle.ep_size.specs.Extents.{plain_span}
 use Rattle.ep_size.specs.Finishing.{Gives}
 use Rattle.ep_size.specs.Hulls.{Hulls}
-use Rattle.ep_size.specs.Spans.{Keeps, interval_of}
+use Rattle.ep_numbers.specs.Spans.{interval_of}
+use Rattle.ep_size.specs.Spans.{Keeps}
 use Rattle.ep_size.specs.Totals.{capped}
 use Rattle.ep_size.specs.declared.extents.Span.{Span}
-use Rattle.ep_size.specs.declared.intervals.Ends.{Ends}
+use Rattle.ep_numbers.specs.declared.spans.Span.{Span as Ends}
 use Rattle.ep_size.specs.declared.hulls.Hulled.{Hulled}
 
 -- the least lower end of numbers, one of them at the end

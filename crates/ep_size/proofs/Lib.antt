@@ -1,7 +1,6 @@
 pub mod Caps
 pub mod CellSteps
 pub mod ClauseSteps
-pub mod EndSteps
 pub mod ExtentViews
 pub mod FixedParts
 pub mod FoldSteps

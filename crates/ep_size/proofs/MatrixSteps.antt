@@ -5,11 +5,11 @@ use Rattle.std.specs.declared.vec.Vec.{Vec}
 use Rattle.std.specs.Prelude.{int_lt, map, pos, ℤ, Option, Some, None}
 use Rattle.std.proofs.lemmas.List.{append-nil, length-map}
 use Rattle.ep_base.specs.Intervals.{farthest_end, only, width}
+use Rattle.ep_base.specs.Reads.{MOST_NUMBER}
 use Rattle.ep_base.specs.declared.operators.LexOp.{LexOp}
 use Rattle.ep_base.specs.declared.places.Place.{Place}
 use Rattle.ep_tree.proofs.ReachEquations.{extent-all_different, extent-at_least, extent-at_most, extent-folded, extent-gcc, extent-in_set, extent-lex, extent-table}
 use Rattle.ep_tree.specs.Environments.{Env}
-use Rattle.ep_tree.specs.Limits.{MOST_REACH}
 use Rattle.ep_tree.specs.Measures.{a_node, counting_weight, decided_weight, farthest_of, farthest_reach, first_products, folded_weight, number_reach, reaches_at, widths}
 use Rattle.ep_tree.specs.Reach as defined
 use Rattle.ep_tree.specs.Reach.{Extent, decisions_in, extent, fixed_span, folded_span, holds_decision, reaches, span_of, truth_span}
@@ -46,7 +46,7 @@ fold_far : (mode : Mode) (env : Env) (e : ExprTree) (op : FoldOp) (spans : List 
     → is_far_node mode env e ≡ is_far_fold op spans
 unfolding farthest_reach
 fold_far mode env e op spans h =
-    ap (λ is. int_lt MOST_REACH (farthest_of (map farthest_end is))) (append-nil (reaches_at mode (a_node env e)) ∙ h.reaches)
+    ap (λ is. int_lt MOST_NUMBER (farthest_of (map farthest_end is))) (append-nil (reaches_at mode (a_node env e)) ∙ h.reaches)
 
 pub fold_finished : (mode : Mode) (env : Env) (e : ExprTree) (op : FoldOp) (spans : List defined.Span) (a b : Totals) (s : Span) → IsFoldNode mode env e op spans
     → GivesFold (Ok s) op spans → Added a b (folded_weight op spans) → Finished mode env e a b (Number s)

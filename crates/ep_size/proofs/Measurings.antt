@@ -12,9 +12,10 @@ use Rattle.std.proofs.Math.Bool.{or_assoc}
 use Rattle.std.proofs.lemmas.Bool.{or_from, or_left, or_right}
 use Rattle.ep_base.specs.Intervals.{Interval, farthest_end}
 use Rattle.ep_base.specs.Numbers.{absolute_of}
+use Rattle.ep_base.specs.Reads.{MOST_NUMBER}
 use Rattle.ep_base.specs.declared.operators.Limit.{Limit as LimitName}
 use Rattle.ep_tree.specs.Binding.{Refusal, over_limit}
-use Rattle.ep_tree.specs.Limits.{MOST_REACH, MOST_SIZE}
+use Rattle.ep_tree.specs.Limits.{MOST_SIZE}
 use Rattle.ep_tree.specs.Measures.{Met, farthest_of, farthest_reach, reaches_at, weight_at, weight_of}
 use Rattle.ep_tree.specs.Solutions.{limits_passed}
 use Rattle.ep_tree.specs.declared.values.Mode.{Mode}
@@ -35,7 +36,7 @@ greater_of m a b = grind (arith, ints)
 
 -- whether a number is past the limit of reach
 abbrev pub is_past : ℤ → Bool
-is_past x = int_lt MOST_REACH (absolute_of x)
+is_past x = int_lt MOST_NUMBER (absolute_of x)
 
 greatest_past : (m a : ℤ) (xs : List ℤ) → int_lt m (fold int_max a (map absolute_of xs)) ≡ (int_lt m a || list_any (λ x. int_lt m (absolute_of x)) xs)
 greatest_past m a [] = or_false (int_lt m a)
@@ -44,9 +45,9 @@ greatest_past m a (x ∷ xs) =
     ∙ ap (λ b. b || list_any (λ y. int_lt m (absolute_of y)) xs) (greater_of m a (absolute_of x))
     ∙ or_assoc (int_lt m a) (int_lt m (absolute_of x)) (list_any (λ y. int_lt m (absolute_of y)) xs)
 
-pub past_of : (xs : List ℤ) → int_lt MOST_REACH (farthest_of xs) ≡ list_any is_past xs
+pub past_of : (xs : List ℤ) → int_lt MOST_NUMBER (farthest_of xs) ≡ list_any is_past xs
 unfolding farthest_of
-past_of xs = greatest_past MOST_REACH (pos 0) xs
+past_of xs = greatest_past MOST_NUMBER (pos 0) xs
 
 any_append : {A : Type 0} (f : A → Bool) (xs ys : List A) → list_any f (xs ++ ys) ≡ (list_any f xs || list_any f ys)
 any_append f [] ys = refl
@@ -54,7 +55,7 @@ any_append f (x ∷ xs) ys = ap (λ b. f x || b) (any_append f xs ys) ∙ sym (o
 
 -- whether some nodes pass the limit of reach
 abbrev pub is_far : Mode → List Met → Bool
-is_far mode ms = int_lt MOST_REACH (farthest_reach mode ms)
+is_far mode ms = int_lt MOST_NUMBER (farthest_reach mode ms)
 
 -- nodes pass the limit where some of them do
 pub far_either : (mode : Mode) (ms ns : List Met) → is_far mode (ms ++ ns) ≡ (is_far mode ms || is_far mode ns)
@@ -67,7 +68,7 @@ far_either mode ms ns =
     ∙ ap (list_any is_past) (map-append farthest_end (flat_map (reaches_at mode) ms) (flat_map (reaches_at mode) ns))
     ∙ any_append is_past xs ys
     ∙ ap (λ b. b || list_any is_past ys) (sym (past_of xs))
-    ∙ ap (λ b. int_lt MOST_REACH (farthest_of xs) || b) (sym (past_of ys))
+    ∙ ap (λ b. int_lt MOST_NUMBER (farthest_of xs) || b) (sym (past_of ys))
 
 -- ---- measures
 

@@ -1,11 +1,11 @@
 -- A name that stands for a decision variable.
 use Rattle.std.proofs.Common.{◌≡◌, [], ◌∷◌, List, ℤ, true, false, refl, sym, ap, ◌∙◌, Some, Err, arith}
 use Rattle.ep_base.specs.Intervals.{Interval, farthest_end}
+use Rattle.ep_base.specs.Reads.{is_too_far}
 use Rattle.ep_base.specs.declared.names.Name.{Name}
 use Rattle.ep_base.specs.declared.places.Place.{Place}
 use Rattle.ep_tree.proofs.ReachEquations.{extent-named, holds_decision-named}
 use Rattle.ep_tree.specs.Environments.{Env, has_cells}
-use Rattle.ep_tree.specs.Limits.{is_too_far}
 use Rattle.ep_tree.specs.Measures.{a_node, decided_weight, number_reach, reaches_at, weight_at}
 use Rattle.ep_tree.specs.Reach.{cell_span, decisions_in, extent, holds_decision, is_decision, named_extent}
 use Rattle.ep_tree.specs.Trees.{named}

@@ -4,10 +4,11 @@ use Rattle.std.specs.Prelude.{Contains, OnOk, IfOk, IfErr, Result, if◌then◌e
 use Rattle.std.proofs.lemmas.List.Sums.{sum_by-cons}
 use Rattle.std.proofs.lemmas.Bool.{or_from, or_left, or_right}
 use Rattle.ep_base.specs.Intervals.{Interval, farthest_end, product_interval}
+use Rattle.ep_base.specs.Reads.{is_too_far}
 use Rattle.ep_base.specs.declared.places.Place.{Place}
 use Rattle.ep_tree.specs.Binding.{over_limit}
 use Rattle.ep_tree.specs.Environments.{Env}
-use Rattle.ep_tree.specs.Limits.{MOST_SIZE, is_too_far}
+use Rattle.ep_tree.specs.Limits.{MOST_SIZE}
 use Rattle.ep_tree.specs.Measures.{Met, a_node, met, number_reach, weight_at, weight_of}
 use Rattle.ep_tree.specs.Reach as defined
 use Rattle.ep_tree.specs.Reach.{extent, product_span, wide_span, with_spread}

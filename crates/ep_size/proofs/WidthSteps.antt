@@ -7,7 +7,7 @@ use Rattle.ep_tree.specs.Measures.{widths}
 use Rattle.ep_tree.specs.Reach as defined
 use Rattle.ep_size.proofs.Caps.{product_kept}
 use Rattle.ep_size.specs.Extents.{plain_span}
-use Rattle.ep_size.specs.Spans.{interval_of}
+use Rattle.ep_numbers.specs.Spans.{interval_of}
 use Rattle.ep_size.specs.Totals.{capped}
 use Rattle.ep_size.specs.Widths.{Widens}
 use Rattle.ep_size.specs.declared.extents.Span.{Span}

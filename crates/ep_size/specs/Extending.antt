@@ -1,9 +1,10 @@
 -- What measuring the parts of a node that holds a decision variable gives, and what refuses it.
 use Rattle.std.specs.Prelude.{◌≡◌, ◌⊎◌, ℕ, ◌+◌, ◌≤◌, true, false, List, [], ◌∷◌, int_lt, Contains}
+use Rattle.ep_base.specs.Reads.{MOST_NUMBER}
 use Rattle.ep_base.specs.declared.operators.Limit.{Limit as LimitName}
 use Rattle.ep_tree.specs.Binding.{over_limit}
 use Rattle.ep_tree.specs.Environments.{Env}
-use Rattle.ep_tree.specs.Limits.{MOST_REACH, MOST_SIZE}
+use Rattle.ep_tree.specs.Limits.{MOST_SIZE}
 use Rattle.ep_tree.specs.Measures.{Met, a_node, farthest_reach, met, size_of, weight_at, weight_of}
 use Rattle.ep_tree.specs.Solutions.{limits_passed}
 use Rattle.ep_tree.specs.Trees.{ExprTree}
@@ -18,7 +19,7 @@ use Rattle.ep_size.specs.declared.totals.Totals.{Totals}
 pub record Weighed (mode : Mode) (own : ℕ) (before after : Totals) (ms : List Met) : Type 0 where
   pub size : after.size ≡ before.size + size_of ms
   pub small : before.size ≤ MOST_SIZE → after.size ≤ MOST_SIZE
-  pub near : int_lt MOST_REACH (farthest_reach mode ms) ≡ false
+  pub near : int_lt MOST_NUMBER (farthest_reach mode ms) ≡ false
   pub weight : capped after.weight ≡ capped (before.weight + (own + weight_of mode ms))
 
 -- a weight is added, and nothing else
@@ -29,7 +30,7 @@ pub record Added (before after : Totals) (own : ℕ) : Type 0 where
 -- The node is met first, and is near; its parts pass no limit, and it is weighed with them.
 pub record Extended (mode : Mode) (env : Env) (e : ExprTree) (before after : Totals) : Type 0 where
   pub first : met mode env e ≡ a_node env e ∷ met_below mode env e
-  pub near : int_lt MOST_REACH (farthest_reach mode (a_node env e ∷ [])) ≡ false
+  pub near : int_lt MOST_NUMBER (farthest_reach mode (a_node env e ∷ [])) ≡ false
   pub weighed : Weighed mode (weight_at mode (a_node env e)) before after (met_below mode env e)
 
 -- a node is refused behind so many others: a part of it is, or it reaches too far itself
@@ -37,5 +38,5 @@ abbrev pub IsRefused : Mode → Env → ExprTree → ℕ → SizeError → Type 
 IsRefused mode env e before Memory = Unit {0}
 IsRefused mode env e before (Limit l) =
     (Contains (limits_passed mode before (met_below mode env e)) (over_limit l)
-    ⊎ ((l ≡ LimitName.Reach) × (int_lt MOST_REACH (farthest_reach mode (a_node env e ∷ [])) ≡ true)))
+    ⊎ ((l ≡ LimitName.Reach) × (int_lt MOST_NUMBER (farthest_reach mode (a_node env e ∷ [])) ≡ true)))
     × (met mode env e ≡ a_node env e ∷ met_below mode env e)

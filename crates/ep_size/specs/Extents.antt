@@ -8,7 +8,7 @@ use Rattle.ep_tree.specs.Trees.{ExprTree}
 use Rattle.ep_tree.specs.Values.{Grids, ValueTree, filled, map_grid, matrix, no_values, single, value_and}
 use Rattle.ep_tree.specs.declared.values.Mode.{Mode}
 use Rattle.ep_eval.specs.Helds.{held_value}
-use Rattle.ep_size.specs.Spans.{interval_of}
+use Rattle.ep_numbers.specs.Spans.{interval_of}
 use Rattle.ep_size.specs.declared.extents.Extent.{Extent, Number, Cells, Fixed, Nothing, NoParts, Matrix', Row_of-Extent, end_of-Extent, more_of-Extent}
 use Rattle.ep_size.specs.declared.extents.Span.{Span}
 

@@ -1,9 +1,9 @@
 -- What a node that holds a decision variable adds to what its parts give, and when it is refused itself.
 use Rattle.std.specs.Prelude.{◌≡◌, ℕ, Bool, true, false, [], ◌∷◌, int_lt, Result, Ok, Err}
 use Rattle.ep_base.specs.Intervals.{farthest_end}
+use Rattle.ep_base.specs.Reads.{MOST_NUMBER, is_too_far}
 use Rattle.ep_base.specs.declared.operators.Limit.{Limit as LimitName}
 use Rattle.ep_tree.specs.Environments.{Env}
-use Rattle.ep_tree.specs.Limits.{MOST_REACH, is_too_far}
 use Rattle.ep_tree.specs.Measures.{a_node, farthest_reach, number_reach, reaches_at, weight_at}
 use Rattle.ep_tree.specs.Reach as defined
 use Rattle.ep_tree.specs.Reach.{decisions_in, extent, holds_decision}
@@ -26,7 +26,7 @@ Gives (Err Memory) s = Unit {0}
 
 -- whether a node alone passes the limit of reach
 abbrev pub is_far_node : Mode → Env → ExprTree → Bool
-is_far_node mode env e = int_lt MOST_REACH (farthest_reach mode (a_node env e ∷ []))
+is_far_node mode env e = int_lt MOST_NUMBER (farthest_reach mode (a_node env e ∷ []))
 
 -- a node that holds a decision variable and is a number, which reaches no further than it; with its weight
 pub record IsNumberNode (mode : Mode) (env : Env) (e : ExprTree) (w : ℕ) (s : defined.Span) : Type 0 where

@@ -2,8 +2,8 @@
 use Rattle.std.specs.Prelude.{◌≡◌, Bool, true, false, List, [], ◌∷◌, ◌++◌, map, length, fold, int_lt, pos, Result, Ok, Err}
 use Rattle.std.specs.List.{list_any}
 use Rattle.ep_base.specs.Intervals.{Interval, farthest_end, greatest_interval, least_interval, only, product_interval, products_interval}
+use Rattle.ep_base.specs.Reads.{MOST_NUMBER, is_too_far}
 use Rattle.ep_base.specs.declared.operators.Limit.{Limit as LimitName}
-use Rattle.ep_tree.specs.Limits.{MOST_REACH, is_too_far}
 use Rattle.ep_tree.specs.Measures.{a_node, farthest_of, first_products, folded_weight, folding_weight, reaches_at, weight_at}
 use Rattle.ep_tree.specs.Reach as defined
 use Rattle.ep_tree.specs.Reach.{decisions_in, extent, folded_span, holds_decision, reaches}
@@ -13,7 +13,7 @@ use Rattle.ep_tree.specs.Values.{single}
 use Rattle.ep_tree.specs.declared.values.Mode.{Mode}
 use Rattle.ep_tree.specs.declared.syntax.FoldOp.{FoldOp}
 use Rattle.ep_size.specs.Extents.{plain_span}
-use Rattle.ep_size.specs.Spans.{interval_of}
+use Rattle.ep_numbers.specs.Spans.{interval_of}
 use Rattle.ep_size.specs.Sums.{Sums}
 use Rattle.ep_size.specs.Totals.{capped}
 use Rattle.ep_size.specs.declared.errors.SizeError.{SizeError}
@@ -77,7 +77,7 @@ fold_reaches op spans = (folded_span op spans).reach ∷ []
 
 -- whether folded numbers reach too far
 abbrev pub is_far_fold : FoldOp → List defined.Span → Bool
-is_far_fold op spans = int_lt MOST_REACH (farthest_of (map farthest_end (fold_reaches op spans)))
+is_far_fold op spans = int_lt MOST_NUMBER (farthest_of (map farthest_end (fold_reaches op spans)))
 
 -- a fold that is refused reaches too far
 abbrev pub RefusesFold : SizeError → FoldOp → List defined.Span → Type 0

@@ -3,7 +3,7 @@ use Rattle.std.specs.Prelude.{◌≡◌, List, [], ◌∷◌, length, pos}
 use Rattle.ep_base.specs.Intervals.{hull, only}
 use Rattle.ep_tree.specs.Reach.{Span, reaches}
 use Rattle.ep_size.specs.Extents.{plain_span}
-use Rattle.ep_size.specs.Spans.{interval_of}
+use Rattle.ep_numbers.specs.Spans.{interval_of}
 use Rattle.ep_size.specs.Totals.{capped}
 use Rattle.ep_size.specs.declared.hulls.Hulled.{Hulled}
 

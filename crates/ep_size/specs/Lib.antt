@@ -9,7 +9,6 @@ pub mod Hulls
 pub mod Indices
 pub mod Lists
 pub mod Parts
-pub mod Powers
 pub mod Quantified
 pub mod Refusing
 pub mod Slices

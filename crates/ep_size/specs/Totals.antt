@@ -1,7 +1,8 @@
 -- What is measured of some nodes, behind others.
 use Rattle.std.specs.Prelude.{◌≡◌, ℕ, ◌+◌, ◌*◌, ◌≤◌, min, false, List, int_lt, sum_by, length}
+use Rattle.ep_base.specs.Reads.{MOST_NUMBER}
 use Rattle.ep_tree.specs.Binding.{Find}
-use Rattle.ep_tree.specs.Limits.{MOST_REACH, MOST_SIZE}
+use Rattle.ep_tree.specs.Limits.{MOST_SIZE}
 use Rattle.ep_tree.specs.Measures.{Met, farthest_reach, size_of, weight_of}
 use Rattle.ep_tree.specs.Solutions.{cell_count}
 use Rattle.ep_tree.specs.declared.values.Mode.{Mode}
@@ -20,7 +21,7 @@ capped n = min n MOST_TOLD
 pub record Measured (mode : Mode) (before after : Totals) (ms : List Met) : Type 0 where
   pub size : after.size ≡ before.size + size_of ms
   pub small : before.size ≤ MOST_SIZE → after.size ≤ MOST_SIZE
-  pub near : int_lt MOST_REACH (farthest_reach mode ms) ≡ false
+  pub near : int_lt MOST_NUMBER (farthest_reach mode ms) ≡ false
   pub weight : capped after.weight ≡ capped (before.weight + weight_of mode ms)
 
 -- how many cells some decision variables have

@@ -8,7 +8,7 @@ ghost use Rattle.ep_tree.specs.Environments.{has_cells};
 ghost use Rattle.ep_tree.specs.Solutions.{cell_count, cells_bound};
 ghost use Rattle.ep_tree.specs.Types as types;
 ghost use Rattle.ep_eval.specs.Known.{env_of};
-ghost use Rattle.ep_instance.specs.Instances.{find_of};
+ghost use Rattle.ep_instance_parts.specs.Instances.{find_of};
 ghost use Rattle.ep_size.specs.Totals.{Celled, all_cells, capped, MOST_TOLD};
 ghost use Rattle.ep_size.specs.declared.errors.SizeError.TheVariants as error;
 ghost use Rattle.ep_base.specs.declared.operators.Limit.TheVariants as limit;
@@ -18,7 +18,8 @@ use super::errors::SizeError;
 use super::totals::{MOST_SIZE, MOST_TOLD, Totals, product, told};
 use ep_base::{Limit, Memory, Name, Run, Runs};
 use ep_eval::Env;
-use ep_instance::Find;
+use ep_instance_parts::Find;
+use ep_numbers::copy_sets;
 use std::alloc::Global;
 
 /// How many numbers a run has, as far as it is told.
@@ -55,17 +56,6 @@ pub fn cells_over(indices: &[Runs]) -> u64
         cells = product(cells, set_length(set));
     }
     cells
-}
-
-/// The same sets of numbers once more.
-fn copy_sets(alloc: Global, sets: &[Runs]) -> Result<Vec<Runs>, Memory>
-    ensures { IfOk result (λ copies. copies.items ≡ sets.now) }
-{
-    let mut copies = Vec::with_capacity(alloc, sets.len())?;
-    for set in sets {
-        copies.push(set.copy(alloc)?)?;
-    }
-    Ok(copies)
 }
 
 /// The name of a decision variable stands for its cells.

@@ -6,11 +6,11 @@ ghost use Rattle.ep_tree.specs.Values.{filled};
 ghost use Rattle.ep_tree.specs.Views.{value_tree};
 ghost use Rattle.ep_eval.specs.Helds.{held_value};
 ghost use Rattle.ep_size.specs.Extents.{fixed_grid, grid_of, plain_span};
-ghost use Rattle.ep_size.specs.Spans.{interval_of};
+ghost use Rattle.ep_numbers.specs.Spans.{interval_of};
 
-use super::intervals::{Ends, width};
 use ep_base::Runs;
 use ep_eval::Held;
+use ep_numbers::{Span as Ends, width};
 use ep_tree::Value;
 
 /// What is known of a number: the numbers that it may be, how many values it takes, and whether a decision variable

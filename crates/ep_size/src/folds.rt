@@ -10,15 +10,16 @@ ghost use Rattle.ep_tree.specs.declared.syntax.FoldOp.{FoldOp as EachOp};
 ghost use Rattle.ep_tree.specs.declared.syntax.FoldOp.TheVariants as op_named;
 ghost use Rattle.ep_size.specs.Extents.{plain_span};
 ghost use Rattle.ep_size.specs.Folds.{Chooses, Folds, GivesFold, Multiplies, RefusesFold, greater, lesser};
-ghost use Rattle.ep_size.specs.Spans.{interval_of};
+ghost use Rattle.ep_numbers.specs.Spans.{interval_of};
 ghost use Rattle.ep_size.specs.Totals.{MOST_TOLD, capped};
 
 use super::errors::SizeError;
 use super::extents::{Span, truth_span};
-use super::intervals::{Ends, greatest, least, near, product, told_count, widened, width};
+use super::intervals::{near, told_count};
 use super::nodes::wide;
 use super::sums::Summed;
 use super::totals::{product as told_product, told};
+use ep_numbers::{Span as Ends, greatest, least, product, widened, width};
 use ep_tree::FoldOp;
 
 /// What is known of some numbers that are folded from the first of them on, and what that weighs.

@@ -17,13 +17,12 @@ ghost use Rattle.ep_size.specs.Totals.{capped};
 
 use super::errors::SizeError;
 use super::extents::{Extent, Span, number_span, truth_span};
-use super::intervals::{
-    absolute, greatest, least, quotient, remainder, told_count, widened, width,
-};
+use super::intervals::told_count;
 use super::nodes::{negated_span, number_node, product_span, truth_node, wide};
 use super::powers::power;
 use super::reading::{Indexed, index_with};
 use super::totals::{Totals, product, told};
+use ep_numbers::{absolute, greatest, least, quotient, remainder, widened, width};
 use ep_tree::{BinaryOp, Kind};
 
 /// A node with one part, of which this is known.

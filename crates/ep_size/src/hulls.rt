@@ -9,14 +9,15 @@ ghost use Rattle.ep_tree.specs.Reach.{MeasuredIndex, is_decided_index};
 ghost use Rattle.ep_size.specs.Extents.{plain_span};
 ghost use Rattle.ep_size.specs.Finishing.{Gives};
 ghost use Rattle.ep_size.specs.Hulls.{Hulls};
-ghost use Rattle.ep_size.specs.Spans.{interval_of};
+ghost use Rattle.ep_numbers.specs.Spans.{interval_of};
 ghost use Rattle.ep_size.specs.Totals.{MOST_TOLD, capped};
 
 use super::errors::SizeError;
 use super::extents::{Span, truth_span};
-use super::intervals::{Ends, near, told_count, widened, width};
+use super::intervals::{near, told_count};
 use super::nodes::wide;
 use super::totals::{product, told};
+use ep_numbers::{Span as Ends, widened, width};
 use ep_tree::Scalar;
 
 /// What is known of one of some numbers: from the least to the greatest of them. With how many they are, as far as a weight

@@ -3,7 +3,7 @@
 ghost use Rattle.std.specs.Prelude.{◌≡◌, [], IfOk, OnOk, IfErr};
 ghost use Rattle.ep_tree.specs.Closed.{IsClosed};
 ghost use Rattle.ep_tree.specs.Solutions.{instance_limits, instance_size, instance_weight};
-ghost use Rattle.ep_instance.specs.Instances.{plain_instance, instance_mode};
+ghost use Rattle.ep_instance_parts.specs.Instances.{plain_instance, instance_mode};
 ghost use Rattle.ep_size.specs.Causes.{IsCause};
 
 use super::cells::name_cells;
@@ -11,7 +11,7 @@ use super::errors::SizeError;
 use super::expressions::{measure_all, measure_goal};
 use super::totals::MOST_WEIGHT;
 use ep_base::Limit;
-use ep_instance::Instance;
+use ep_instance_parts::Instance;
 use std::alloc::Global;
 
 /// How great an instance is.

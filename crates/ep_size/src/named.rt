@@ -2,8 +2,6 @@
 
 ghost use Rattle.std.specs.Prelude.{◌≡◌, IfOk, Some, length};
 ghost use Rattle.ep_base.specs.declared.places.Place.{Place};
-ghost use Rattle.std.specs.Int.{int_max, int_min};
-ghost use Rattle.ep_base.specs.Intervals as intervals;
 ghost use Rattle.ep_base.specs.Runs.{numbers_in};
 ghost use Rattle.ep_base.specs.declared.names.Name.{Name as EachName};
 ghost use Rattle.ep_tree.specs.Environments as names;
@@ -14,24 +12,24 @@ ghost use Rattle.ep_eval.specs.Bounds.{cells_of};
 ghost use Rattle.ep_eval.specs.Scopes.{env_in, mode_in};
 ghost use Rattle.ep_size.specs.Extents.{plain_span};
 ghost use Rattle.ep_size.specs.Finishing.{Finishes};
-ghost use Rattle.ep_base.specs.RunEnds.{greatest_from, least_from};
-ghost use Rattle.ep_size.specs.Spans.{interval_of};
+ghost use Rattle.ep_numbers.specs.Spans.{interval_of};
 ghost use Rattle.ep_size.specs.declared.totals.Totals.{Totals as EachTotals};
 
 use super::errors::SizeError;
 use super::extents::{Extent, Span};
-use super::intervals::{Ends, near, widened, width};
+use super::intervals::near;
 use super::standing::is_quantified;
 use super::totals::Totals;
 use ep_base::{Name, Run, Runs};
 use ep_eval::{NamedDomain, Scope};
+use ep_numbers::{Span as Ends, span_of_set, widened, width};
 use ep_tree::Scalar;
 
 /// More numbers than there is memory for.
 const MOST_COUNTED: u128 = 1_000_000_000_000_000_000_000_000_000_000;
 
 /// How many numbers a run has.
-#[tactic(auto, unfolding(ep_base::specs::Intervals::width), using(crate::proofs::Caps::run_count))]
+#[tactic(auto, unfolding(ep_base::specs::Intervals::width), using(ep_numbers::proofs::Counting::length_of_run))]
 fn count_in(run: Run) -> u128
     ensures { result ≡ length (numbers_in run) }
 {
@@ -56,43 +54,6 @@ fn count_of(set: &Runs) -> Result<u128, SizeError>
     Ok(count)
 }
 
-/// From the least number of some numbers and of a run to the greatest.
-fn with_run(ends: Ends, run: Run) -> Ends
-    ensures low { result.low ≡ int_min ends.low run.lo }
-    ensures high { result.high ≡ int_max ends.high run.hi }
-{
-    Ends {
-        low: ends.low.min(run.lo),
-        high: ends.high.max(run.hi),
-    }
-}
-
-/// From the least number of a run and of some others to the greatest.
-fn ends_from(first: Run, runs: &[Run]) -> Ends
-    ensures low { result.low ≡ least_from first.lo runs.now }
-    ensures high { result.high ≡ greatest_from first.hi runs.now }
-{
-    let mut ends = Ends {
-        low: first.lo,
-        high: first.hi,
-    };
-    for run in runs {
-        ends = with_run(ends, *run);
-    }
-    ends
-}
-
-/// From the least number of a set to the greatest.
-fn ends_of(set: &Runs) -> Ends
-    ensures { interval_of result ≡ intervals.spanned set.now }
-{
-    let runs = set.runs();
-    match runs.split_first() {
-        Some((first, _)) => ends_from(*first, runs),
-        None => Ends { low: 0, high: 0 },
-    }
-}
-
 /// The reach of a cell.
 #[tactic(auto, unfolding(ep_tree::specs::Reach::cell_reach))]
 fn cell_reach(of: Scalar, values: &Runs) -> Ends
@@ -100,7 +61,7 @@ fn cell_reach(of: Scalar, values: &Runs) -> Ends
 {
     match of {
         Scalar::Bool => Ends { low: 0, high: 1 },
-        Scalar::Int => ends_of(values),
+        Scalar::Int => span_of_set(values),
     }
 }
 

@@ -8,13 +8,14 @@ ghost use Rattle.ep_tree.specs.declared.values.Mode.{Mode as EachMode};
 ghost use Rattle.ep_size.specs.Extending.{Added};
 ghost use Rattle.ep_size.specs.Extents.{plain_span};
 ghost use Rattle.ep_size.specs.Finishing.{Finishes, Gives, IsNumberNode};
-ghost use Rattle.ep_size.specs.Spans.{interval_of, wide_of};
+ghost use Rattle.ep_numbers.specs.Spans.{interval_of, wide_interval};
 ghost use Rattle.ep_size.specs.Totals.{MOST_TOLD, capped};
 
 use super::errors::SizeError;
 use super::extents::{Extent, Span, truth_span, wide_span};
-use super::intervals::{Ends, WideEnds, near, negated, product, widened};
+use super::intervals::near;
 use super::totals::{MOST_TOLD, Totals, told};
+use ep_numbers::{Span as Ends, WideSpan, negated, product, widened};
 
 /// Weighs a node.
 pub fn weigh(totals: &mut Totals, weight: u64)
@@ -26,8 +27,8 @@ pub fn weigh(totals: &mut Totals, weight: u64)
 
 /// A number that takes all values between these ends.
 #[tactic(auto, unfolding(ep_tree::specs::Reach::wide_span))]
-pub fn wide(reach: WideEnds) -> Result<Span, SizeError>
-    ensures { Gives result (defined.wide_span (wide_of reach)) }
+pub fn wide(reach: WideSpan) -> Result<Span, SizeError>
+    ensures { Gives result (defined.wide_span (wide_interval reach)) }
 {
     match near(reach) {
         Ok(kept) => Ok(wide_span(kept)),

@@ -1,110 +1,28 @@
 //! Powers of numbers with a decision variable.
 
-ghost use Rattle.std.specs.Prelude.{◌≡◌, ◌∷◌, [], ℤ, Bool, Option, Some, if◌then◌else◌, pos};
+ghost use Rattle.std.specs.Prelude.{◌≡◌, ℤ, Bool, Option, Some};
 ghost use Rattle.ep_base.specs.Intervals as intervals;
-ghost use Rattle.ep_base.specs.Numbers as numbers;
 ghost use Rattle.ep_tree.specs.Reach as defined;
 ghost use Rattle.ep_tree.specs.Reach.{measured_index};
 ghost use Rattle.ep_size.specs.Finishing.{Gives};
 ghost use Rattle.ep_size.specs.Indices.{measured_of};
-ghost use Rattle.ep_size.specs.Powers.{TellsPower};
-ghost use Rattle.ep_size.specs.Spans.{interval_of, wide_of};
+ghost use Rattle.ep_numbers.specs.Spans.{interval_of};
 
 use super::errors::SizeError;
 use super::extents::{Span, wide_span};
-use super::intervals::{Ends, WideEnds, has_zero, is_far};
 use super::nodes::wide;
 use super::reading::Indexed;
 use ep_base::Limit;
-
-/// How often a number is multiplied by itself: powers of -1, 0 and 1 repeat.
-fn steps(base: i64, exponent: u64) -> u64
-    ensures { numbers.nth_power base result ≡ numbers.nth_power base exponent }
-{
-    if exponent <= 2 || base > 1 || base < -1 {
-        return exponent;
-    }
-    2 - exponent % 2
-}
-
-/// A number multiplied by itself, so often in all, unless that is too far from 0. It ends soon behind the first power that is.
-fn multiplied(base: i64, exponent: u64) -> Option<i128>
-    ensures { TellsPower result (numbers.nth_power base exponent) }
-{
-    let mut number = 1;
-    for _i in 0..exponent {
-        number *= i128::from(base);
-        if is_far(number) {
-            return None;
-        }
-    }
-    Some(number)
-}
-
-/// `x ** n` for a number x, where that isn't too far from 0.
-fn nth_power(base: i64, exponent: u64) -> Option<i128>
-    ensures { TellsPower result (numbers.nth_power base exponent) }
-{
-    multiplied(base, steps(base, exponent))
-}
-
-/// The lower end of the numbers between two, and 0 where it is among them.
-#[tactic(auto, unfolding(ep_base::specs::Intervals::least_or_zero, ep_base::specs::Numbers::least_of))]
-fn least_with(one: i128, other: i128, zero: bool) -> i128
-    ensures { result ≡ intervals.least_or_zero (one ∷ other ∷ (if zero then pos 0 ∷ [] else [])) }
-{
-    if zero {
-        return one.min(other).min(0);
-    }
-    one.min(other)
-}
-
-/// The upper end of them.
-#[tactic(auto, unfolding(ep_base::specs::Intervals::greatest_or_zero, ep_base::specs::Numbers::greatest_of))]
-fn greatest_with(one: i128, other: i128, zero: bool) -> i128
-    ensures { result ≡ intervals.greatest_or_zero (one ∷ other ∷ (if zero then pos 0 ∷ [] else [])) }
-{
-    if zero {
-        return one.max(other).max(0);
-    }
-    one.max(other)
-}
-
-/// The numbers between two, and 0 where it is among them.
-#[tactic(auto, unfolding(ep_base::specs::Intervals::spanned))]
-fn spanned(one: i128, other: i128, zero: bool) -> WideEnds
-    ensures { wide_of result ≡ intervals.spanned (one ∷ other ∷ (if zero then pos 0 ∷ [] else [])) }
-{
-    WideEnds {
-        low: least_with(one, other, zero),
-        high: greatest_with(one, other, zero),
-    }
-}
-
-/// What is known of numbers between two, and 0 where it is among them. What is too far from 0 isn't there.
-fn between(one: Option<i128>, other: Option<i128>, zero: bool) -> Result<Span, SizeError>
-    ensures { (low : ℤ) → (high : ℤ) → TellsPower one low → TellsPower other high
-        → Gives result (defined.wide_span (intervals.spanned (low ∷ high ∷ (if zero then pos 0 ∷ [] else [])))) }
-{
-    match one {
-        Some(low) => match other {
-            Some(high) => wide(spanned(low, high, zero)),
-            None => Err(SizeError::Limit(Limit::Reach)),
-        },
-        None => Err(SizeError::Limit(Limit::Reach)),
-    }
-}
+use ep_numbers::{Span as Ends, power as whole_power};
 
 /// `x ** n` for numbers between two ends.
 fn power_span(x: Ends, exponent: u64) -> Result<Span, SizeError>
     ensures { Gives result (defined.wide_span (intervals.nth_power_interval (interval_of x) exponent)) }
 {
-    if exponent == 0 {
-        return Ok(wide_span(Ends { low: 1, high: 1 }));
+    match whole_power(x, exponent) {
+        Some(reach) => wide(reach),
+        None => Err(SizeError::Limit(Limit::Reach)),
     }
-    let low = nth_power(x.low, exponent);
-    let high = nth_power(x.high, exponent);
-    between(low, high, has_zero(x))
 }
 
 /// `x ** y` for a number y, which may be negative.

@@ -19,10 +19,11 @@ ghost use Rattle.ep_size.specs.Totals.{capped};
 
 use super::cells::{cells_over, set_length};
 use super::extents::{Extent, Span, number_span};
-use super::intervals::{told_count, width};
+use super::intervals::told_count;
 use super::totals::{product, told};
 use ep_base::Runs;
 use ep_eval::Held;
+use ep_numbers::width;
 use ep_tree::{Kind, Value};
 
 /// An index of a read.

@@ -9,15 +9,16 @@ ghost use Rattle.ep_tree.specs.Trees.{ExprTree};
 ghost use Rattle.ep_tree.specs.declared.values.Mode.{Mode as EachMode};
 ghost use Rattle.ep_size.specs.Extents.{plain_span};
 ghost use Rattle.ep_size.specs.Finishing.{Finishes, Gives, IsNumberNode};
-ghost use Rattle.ep_size.specs.Spans.{wide_of};
+ghost use Rattle.ep_numbers.specs.Spans.{wide_interval};
 ghost use Rattle.ep_size.specs.Sums.{Sums};
 ghost use Rattle.ep_size.specs.Totals.{MOST_TOLD, capped};
 
 use super::errors::SizeError;
 use super::extents::{Extent, Span};
-use super::intervals::{WideEnds, told_count};
+use super::intervals::told_count;
 use super::nodes::{number_node, wide};
 use super::totals::{MOST_TOLD, Totals, told};
+use ep_numbers::WideSpan;
 
 /// What is known of a sum so far.
 #[derive(Clone, Copy, Debug, PartialEq, Eq)]
@@ -29,8 +30,8 @@ pub struct Summed {
 }
 
 /// A width, as far as it is told.
-pub fn told_width(ends: WideEnds) -> u64
-    ensures { result ≡ capped (defined_intervals.width (wide_of ends)) }
+pub fn told_width(ends: WideSpan) -> u64
+    ensures { result ≡ capped (defined_intervals.width (wide_interval ends)) }
 {
     if ends.high < ends.low {
         return 0;
@@ -109,7 +110,7 @@ impl Summed {
     pub fn span(self) -> Result<Span, SizeError>
         ensures { (spans : List defined.Span) → Sums self spans → Gives result (defined.sum_span spans) }
     {
-        wide(WideEnds {
+        wide(WideSpan {
             low: self.low,
             high: self.high,
         })
@@ -120,7 +121,7 @@ impl Summed {
         ensures told { result ≤ MOST_TOLD }
         ensures weight { (spans : List defined.Span) → Sums self spans → result ≡ capped (measures.sum_weight spans) }
     {
-        let width = told_width(WideEnds {
+        let width = told_width(WideSpan {
             low: self.low,
             high: self.high,
         });

@@ -5,13 +5,14 @@ ghost use Rattle.ep_base.specs.Intervals as defined_intervals;
 ghost use Rattle.ep_tree.specs.Measures as measures;
 ghost use Rattle.ep_tree.specs.Reach as defined;
 ghost use Rattle.ep_size.specs.Extents.{plain_span};
-ghost use Rattle.ep_size.specs.Spans.{interval_of};
+ghost use Rattle.ep_numbers.specs.Spans.{interval_of};
 ghost use Rattle.ep_size.specs.Totals.{MOST_TOLD, capped};
 ghost use Rattle.ep_size.specs.Widths.{Widens};
 
 use super::extents::Span;
-use super::intervals::{told_count, width};
+use super::intervals::told_count;
 use super::totals::{product, told};
+use ep_numbers::width;
 
 /// How many some numbers are, and their widths together, as far as a weight is told.
 #[derive(Clone, Copy, Debug, PartialEq, Eq)]

@@ -4,7 +4,7 @@ ghost use Rattle.std.specs.Prelude.{◌≡◌, []};
 ghost use Rattle.ep_tree.specs.Closed.{IsClosed};
 ghost use Rattle.ep_tree.specs.Solutions.{Fits, Found, instance_limits};
 ghost use Rattle.ep_tree.specs.Views.{assigned};
-ghost use Rattle.ep_instance.specs.Instances.{plain_instance, instance_mode};
+ghost use Rattle.ep_instance_parts.specs.Instances.{plain_instance, instance_mode};
 
 use ep_base::Limit;
 use ep_instance::{

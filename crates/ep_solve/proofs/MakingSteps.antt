@@ -1,8 +1,8 @@
 -- Values and assignments read from numbers of cells, part by part.
 use Rattle.std.proofs.Common.{◌≡◌, ℕ, zero, suc, ◌+◌, ℤ, pos, List, [], ◌∷◌, ◌++◌, map, length, drop, get_or, ◌<◌, ◌≤◌, refl, sym, ap, ◌∙◌, arith}
 use Rattle.std.proofs.lemmas.List.{append-nil, drop_all, drop_more}
-use Rattle.ep_instance.specs.Instances.{find_of}
-use Rattle.ep_instance.specs.declared.instances.Find.{Find}
+use Rattle.ep_instance_parts.specs.Instances.{find_of}
+use Rattle.ep_instance_parts.specs.declared.instances.Find.{Find}
 use Rattle.ep_tree.specs.Environments.{shape_type}
 use Rattle.ep_tree.specs.Solutions.{Assigned, NamedValue}
 use Rattle.ep_tree.specs.Types.{scalar_of}

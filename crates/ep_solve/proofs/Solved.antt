@@ -5,6 +5,7 @@ use Rattle.std.proofs.lemmas.Bool.{false≢true}
 use Rattle.std.proofs.lemmas.Bool.Decides.{nat_tests}
 use Rattle.std.proofs.lemmas.List.{take_all}
 use Rattle.std.proofs.lemmas.List.Elements.{All-head, All-tail}
+use Rattle.ep_base.specs.Reads.{MOST_NUMBER}
 use Rattle.cnf_core.specs.Clauses.{Satisfies}
 use Rattle.cnf_core.specs.Events.{LogEvent, LogState, clauses_of, given, givens, is_given, step}
 use Rattle.cnf_core.specs.Formula.{Cnf}
@@ -16,7 +17,7 @@ use Rattle.ep_answer.specs.Problems.{CanSearch, ProblemState, base_clauses}
 use Rattle.ep_flat.specs.Flats.{MapsCells}
 use Rattle.ep_tree.specs.Binding.{Instance, Refusal, over_limit}
 use Rattle.ep_tree.specs.Closed.{IsClosed}
-use Rattle.ep_tree.specs.Limits.{MOST_REACH, MOST_SIZE, MOST_WEIGHT}
+use Rattle.ep_tree.specs.Limits.{MOST_SIZE, MOST_WEIGHT}
 use Rattle.ep_tree.specs.Measures.{Met, farthest_reach, size_of}
 use Rattle.ep_tree.specs.Solutions.{cell_count, goal_value, instance_limits, instance_size, instance_weight, limits_passed, met_instance, or_weight}
 use Rattle.ep_tree.specs.declared.values.Mode.{Mode}
@@ -54,7 +55,7 @@ few-nodes mode i nodes h few =
     let ms : List Met = met_instance mode i in
     let cells : ℕ = sum_by (λ f. cell_count f.indices) i.finds in
     let weight = cut-weight (limits_passed mode cells ms) (instance_weight mode i) h in
-    let size = cut-refusals (nat_lt MOST_SIZE (cells + size_of ms)) (over_limit Limit.Size) (if int_lt MOST_REACH (farthest_reach mode ms) then over_limit Limit.Reach ∷ [] else []) weight.0 in
+    let size = cut-refusals (nat_lt MOST_SIZE (cells + size_of ms)) (over_limit Limit.Size) (if int_lt MOST_NUMBER (farthest_reach mode ms) then over_limit Limit.Reach ∷ [] else []) weight.0 in
     let small : cells + size_of ms ≤ MOST_SIZE = within MOST_SIZE (cells + size_of ms) size.0 in
     omega (arith, few, small, weight.1)
 

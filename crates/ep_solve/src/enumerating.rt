@@ -4,7 +4,7 @@ ghost use Rattle.std.specs.Prelude.{◌≡◌, [], map, IfOk};
 ghost use Rattle.std.specs.List.{All};
 ghost use Rattle.ep_answer.specs.AnswerViews.{plain_end};
 ghost use Rattle.ep_base.specs.Reads.{IsWithinNumbers};
-ghost use Rattle.ep_instance.specs.Instances.{find_of, plain_instance, instance_mode};
+ghost use Rattle.ep_instance_parts.specs.Instances.{find_of, plain_instance, instance_mode};
 ghost use Rattle.ep_print.specs.Listings.{end_tree, listing_tree};
 ghost use Rattle.ep_solve.specs.Listed.{Lists};
 ghost use Rattle.ep_solve.specs.Reading.{end_from, listing_from};
@@ -19,7 +19,7 @@ use crate::reading_back::assignment_from;
 use cnf_core::Log;
 use ep_answer::{CellListing, End, enumerate_cells};
 use ep_base::Memory;
-use ep_instance::{Find, Instance};
+use ep_instance_parts::{Find, Instance};
 use ep_print::{Listing, ListingEnd};
 use std::alloc::Global;
 

@@ -4,7 +4,7 @@ ghost use Rattle.std.specs.Prelude.{◌≡◌, [], IfOk};
 ghost use Rattle.std.specs.List.{All};
 ghost use Rattle.ep_base.specs.Reads.{IsWithinNumbers};
 ghost use Rattle.ep_flat.specs.FlatViews.{plain_map};
-ghost use Rattle.ep_instance.specs.Instances.{plain_instance, instance_mode};
+ghost use Rattle.ep_instance_parts.specs.Instances.{plain_instance, instance_mode};
 ghost use Rattle.ep_solve.specs.Formulas.{IsFormulaFor};
 ghost use Rattle.ep_tree.specs.Closed.{IsClosed};
 ghost use Rattle.ep_tree.specs.Solutions.{instance_limits};
@@ -12,7 +12,7 @@ ghost use Rattle.ep_unroll.specs.Cells.{instance_cells};
 
 use ep_base::Memory;
 use ep_formula::{Encoded, formula_of};
-use ep_instance::Instance;
+use ep_instance_parts::Instance;
 use ep_unroll::unroll;
 use std::alloc::Global;
 

@@ -2,12 +2,12 @@
 
 ghost use Rattle.std.specs.Prelude.{◌≡◌, drop, map, IfOk, OnOk};
 ghost use Rattle.ep_base.specs.Reads.{first_or_zero};
-ghost use Rattle.ep_instance.specs.Instances.{find_of};
+ghost use Rattle.ep_instance_parts.specs.Instances.{find_of};
 ghost use Rattle.ep_tree.specs.Views.{assigned, value_tree};
 ghost use Rattle.ep_solve.specs.Reading.{assignment_from, value_from};
 
 use ep_base::{Memory, Name, Runs};
-use ep_instance::Find;
+use ep_instance_parts::Find;
 use ep_numbers::listed;
 use ep_tree::{Assignment, Entry, Value};
 use std::alloc::Global;

@@ -6,7 +6,7 @@ ghost use Rattle.ep_answer.specs.Answered.{AnswersCells};
 ghost use Rattle.ep_answer.specs.AnswerViews.{plain_answer, plain_problem};
 ghost use Rattle.ep_answer.specs.Problems.{CanSearch};
 ghost use Rattle.ep_base.specs.Reads.{IsWithinNumbers};
-ghost use Rattle.ep_instance.specs.Instances.{find_of, plain_instance, instance_mode};
+ghost use Rattle.ep_instance_parts.specs.Instances.{find_of, plain_instance, instance_mode};
 ghost use Rattle.ep_print.specs.Answers.{HasTypedValues, answer_tree};
 ghost use Rattle.ep_solve.specs.Reading.{answer_from};
 ghost use Rattle.ep_solve.specs.Logged.{IsLogged};
@@ -22,7 +22,7 @@ use crate::reading_back::assignment_from;
 use cnf_core::Log;
 use ep_answer::{CellAnswer, Problem, find_cells, optimise_cells};
 use ep_base::Memory;
-use ep_instance::{Find, Instance};
+use ep_instance_parts::{Find, Instance};
 use ep_print::Answer;
 use std::alloc::Global;
 

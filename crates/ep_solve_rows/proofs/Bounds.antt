@@ -6,7 +6,8 @@ use Rattle.cnf_core.proofs.Members.{Contains-here}
 use Rattle.ep_base.specs.Intervals as intervals
 use Rattle.ep_base.specs.Numbers as numbers
 use Rattle.ep_base.specs.Reads.{IsWithinNumbers}
-use Rattle.ep_ground.specs.Bounds.{IsBounded, IsWithinReach, node_reach, reach_at, scaled, term_reach}
+use Rattle.ep_base.specs.Intervals.{IsWithinReach, scaled}
+use Rattle.ep_ground.specs.Bounds.{IsBounded, node_reach, reach_at, term_reach}
 use Rattle.ep_ground.specs.Grounds.{GroundState, itself, named_terms}
 use Rattle.ep_ground.specs.Nodes.{cell, sum, coefficients_of, undefined}
 use Rattle.ep_ground.specs.declared.cells.Cell.{Cell}

@@ -7,12 +7,12 @@ use Rattle.std.proofs.lemmas.List.Elements.{All-contains, All-from_recursion, Al
 use Rattle.std.proofs.lemmas.List.Kept.{AllPairs-from_increasing}
 use Rattle.std.proofs.lemmas.Option.{get_or_from_slice_get}
 use Rattle.ep_base.specs.Intervals as intervals
-use Rattle.ep_base.specs.Intervals.{Interval, from_to, only}
+use Rattle.ep_base.specs.Intervals.{Interval, IsWithinReach, from_to, only, scaled}
 use Rattle.ep_base.specs.Numbers as numbers
 use Rattle.ep_base.specs.Reads.{IsWithinNumbers}
 use Rattle.ep_base.specs.declared.operators.CompareOp.{CompareOp}
 use Rattle.ep_base.specs.declared.operators.Sense.{Sense}
-use Rattle.ep_ground.specs.Bounds.{IsBounded, IsWithinReach, node_reach, reach_at, scaled, term_reach}
+use Rattle.ep_ground.specs.Bounds.{IsBounded, node_reach, reach_at, term_reach}
 use Rattle.ep_ground.specs.Grounds.{AreReached, AsksForAdditions, GroundState, IsTermReached, LeadsTo, by_part, itself, additions, additions_in, named_terms}
 use Rattle.ep_ground.specs.Nodes.{GroundNode, constant, undefined, cell, sum, product, quotient, remainder, power, least, whole, safe_pick, compare, negation, coefficients_of, is_partial, parts_of}
 use Rattle.ep_ground.specs.declared.cells.Cell.{Cell}

@@ -2,11 +2,11 @@
 use Rattle.std.proofs.Common.{◌≡◌, pos, negsuc, false, List, [], ◌∷◌, refl}
 use Rattle.std.specs.Prelude.{map}
 use Rattle.ep_base.specs.Intervals as intervals
-use Rattle.ep_base.specs.Intervals.{Interval, from_to, only}
+use Rattle.ep_base.specs.Intervals.{Interval, from_to, only, scaled}
 use Rattle.ep_base.specs.Numbers as numbers
 use Rattle.ep_base.specs.declared.operators.CompareOp.{CompareOp}
 use Rattle.ep_base.specs.declared.operators.LexOp.{LexOp}
-use Rattle.ep_ground.specs.Bounds.{node_reach, reach_at, scaled, term_reach}
+use Rattle.ep_ground.specs.Bounds.{node_reach, reach_at, term_reach}
 use Rattle.ep_ground.specs.Nodes.{GroundNode, constant, undefined, cell, sum, product, quotient, remainder, power, absolute, least, greatest, pick, whole, safe_quotient, safe_remainder, safe_pick, compare, lex, member, negation, all_of, any_of, same_truth, all_different, counts, at_least, at_most, table}
 use Rattle.ep_ground.specs.declared.cells.Cell.{Cell}
 

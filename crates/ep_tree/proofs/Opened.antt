@@ -5,13 +5,14 @@ use Rattle.ep_base.specs.Numbers.{of_bool, is_one, floor_over, quotient, remaind
 use Rattle.ep_base.specs.Options.{map_both, on_both, on_three}
 use Rattle.ep_base.specs.Runs.{counting, numbers_in, numbers}
 use Rattle.ep_base.specs.Senses.{better_number}
+use Rattle.ep_base.specs.Reads.{is_too_far}
 use Rattle.ep_tree.specs.Binding.{limits_met, unless_any, or_refuse, and_next, indices_bound, numbers_bound, above_end, below_end, ranges_pass, elements_pass, element_values, listed_domains, index_domains, shape_of, fitted_into, shape_bound, met_stated, letting_bound, bind_letting, bind_params, parameter, first_missing, given_bound, bind_names, bind_givens, group_finds, bound_finds, first_false, met_groups, met_in, in_env, with_finds, with_clauses, with_goal, now_with, bind_statement, bind_statements, bind}
 use Rattle.ep_tree.specs.Domains.{put_in, united, count_between, between, set_values, set_has}
 use Rattle.ep_tree.specs.Environments.{shape_type, meaning_in, context_of, value_bound, domain_bound, scalar_in, with_number, HasAscendingDomain}
 use Rattle.ep_tree.specs.Evaluation.{undefined_truth, truth_in, number_in, all_true, any_true, binary_number, joins_truths, binary_value, folded_value, quantified_value, over_names, standing_for, all_joined, all_hold, holding, are_told, matrix_value, read_result, type_in, signed, evaluate, domain_values, values_of, term_values, index_list, range_values, end_value, index_values, reached, domains_defined, first_untrue}
 use Rattle.ep_tree.specs.Faults.{type_fault, unless, name_faults, domain_name_faults, has_open_range, entry_count, leaves_matrix, is_power, faults, domain_faults, faults_of_all, faults_of_terms, faults_of_indices, faults_of_ranges, end_faults, faults_of_domains, index_faults, faults_of_generators, declaration_faults, declare, group_meaning, after_group, group_faults, after_groups, clause_faults, goal_faults, stated_faults, letting_meaning, domain_meaning, branching_faults, statement_faults, after_statement, faults_after, text_faults, params_faults}
 use Rattle.ep_tree.specs.Heights.{height, domain_height, highest, highest_term, highest_index, highest_range, end_height, highest_domain, highest_generator, index_height}
-use Rattle.ep_tree.specs.Limits.{products_from, numbers_at, is_too_far, limits_of_values, within, counted_value, counted_domain}
+use Rattle.ep_tree.specs.Limits.{products_from, numbers_at, limits_of_values, within, counted_value, counted_domain}
 use Rattle.ep_tree.specs.Measures.{met_names, met, met_domain, met_all, met_terms, met_indices, met_ranges, met_end, met_domains, met_index, met_generators, farthest_of, first_products, number_reach, reaches_at, farthest_reach, folding_weight, fold_weight, sum_weight, folded_weight, binary_weight, quantified_weight, counting_weight, index_width, read_weight, decided_weight, weight_at, weight_of}
 use Rattle.ep_tree.specs.Names.{put_all}
 use Rattle.ep_tree.specs.Phrases.{saying_of, lexemes_of, Names, PlacedNames}

@@ -1,9 +1,9 @@
 -- Limits of what is evaluated: of how many nodes are met, and of the numbers that are their values.
 --
 -- The limits are this project's own.
-use Rattle.std.specs.Prelude.{ℕ, ◌+◌, Bool, List, [], ◌∷◌, ◌++◌, ℤ, pos, ◌*ℤ◌, if◌then◌else◌, nat_lt, int_lt, Ok, Err, flat_map, Option, Result, unwrap_or, option_to_list}
+use Rattle.std.specs.Prelude.{ℕ, ◌+◌, Bool, List, [], ◌∷◌, ◌++◌, ℤ, pos, ◌*ℤ◌, if◌then◌else◌, nat_lt, Ok, Err, flat_map, Option, Result, unwrap_or, option_to_list}
 use Rattle.std.specs.List.{list_any}
-use Rattle.ep_base.specs.Numbers.{absolute_of}
+use Rattle.ep_base.specs.Reads.{is_too_far}
 use Rattle.ep_base.specs.declared.operators.Limit.{Limit}
 use Rattle.ep_tree.specs.Environments.{Env}
 use Rattle.ep_tree.specs.Evaluation.{domain_values, evaluate, number_in, scalars_in}
@@ -16,10 +16,6 @@ use Rattle.ep_tree.specs.declared.values.Mode.{Mode}
 -- the greatest size of a statement and of an instance
 abbrev pub MOST_SIZE : ℕ
 MOST_SIZE = 5000000
-
--- the greatest absolute value of a number
-abbrev pub MOST_REACH : ℤ
-MOST_REACH = pos 1099511627776
 
 -- the greatest weight of an instance
 abbrev pub MOST_WEIGHT : ℕ
@@ -38,10 +34,6 @@ numbers_at mode (a_node env (folded p FoldOp.Product m)) =
     option_to_list (number_in (evaluate mode env (folded p FoldOp.Product m)))
     ++ products_from (pos 1) (unwrap_or (scalars_in (evaluate mode env m)) [])
 numbers_at mode (a_node env e) = option_to_list (number_in (evaluate mode env e))
-
--- whether a number is past the limit, on either side of 0
-unfoldable pub is_too_far : ℤ → Bool
-is_too_far n = int_lt MOST_REACH (absolute_of n)
 
 -- The limits that some nodes pass, where so many others were met before: of size, and of the numbers at them. Either
 -- may be named.

@@ -6,13 +6,14 @@ use Rattle.std.specs.Prelude.{◌≡◌, ℕ, ◌+◌, ◌*◌, Bool, true, fals
 use Rattle.ep_base.specs.Numbers.{has_number}
 use Rattle.ep_base.specs.Options.{on_both}
 use Rattle.ep_base.specs.Senses.{better_number}
+use Rattle.ep_base.specs.Reads.{MOST_NUMBER}
 use Rattle.ep_base.specs.declared.names.Name.{Name}
 use Rattle.ep_base.specs.declared.operators.Limit.{Limit}
 use Rattle.ep_base.specs.declared.operators.Sense.{Sense}
 use Rattle.ep_tree.specs.Binding.{Find, Instance, Refusal, met_in, over_limit}
 use Rattle.ep_tree.specs.Environments.{Bound, Env, has_cells, has_value, shape_type}
 use Rattle.ep_tree.specs.Evaluation.{evaluate, first_untrue, number_in}
-use Rattle.ep_tree.specs.Limits.{MOST_REACH, MOST_SIZE, MOST_WEIGHT}
+use Rattle.ep_tree.specs.Limits.{MOST_SIZE, MOST_WEIGHT}
 use Rattle.ep_tree.specs.Measures.{Met, farthest_reach, size_of, weight_of}
 use Rattle.ep_tree.specs.Names.{put_all}
 use Rattle.ep_tree.specs.Trees.{ExprTree}
@@ -165,7 +166,7 @@ instance_reach mode i = farthest_reach mode (met_instance mode i)
 unfoldable pub limits_passed : Mode → ℕ → List Met → List Refusal
 limits_passed mode cells ms =
     (if nat_lt MOST_SIZE (cells + size_of ms) then over_limit Limit.Size ∷ [] else [])
-    ++ (if int_lt MOST_REACH (farthest_reach mode ms) then over_limit Limit.Reach ∷ [] else [])
+    ++ (if int_lt MOST_NUMBER (farthest_reach mode ms) then over_limit Limit.Reach ∷ [] else [])
 
 -- the limit of weight, which is named only where no other is passed
 unfoldable pub or_weight : List Refusal → ℕ → List Refusal

@@ -7,13 +7,14 @@ use Rattle.std.specs.Int.{int_max}
 use Rattle.std.specs.List.{list_all, list_any}
 use Rattle.ep_base.specs.Intervals.{Interval, farthest_end, greatest_or_zero, least_or_zero, only, product_interval, spanned}
 use Rattle.ep_base.specs.Numbers.{absolute_of, greatest_of, least_of}
+use Rattle.ep_base.specs.Reads.{MOST_NUMBER, is_too_far}
 use Rattle.ep_base.specs.declared.operators.Limit.{Limit}
 use Rattle.ep_tree_laws.specs.FixedLimits.{is_fixed}
 use Rattle.ep_tree.proofs.TypedParts.{and_left, and_right}
 use Rattle.ep_tree.specs.Binding.{over_limit}
 use Rattle.ep_tree.specs.Environments.{Env}
 use Rattle.ep_tree.specs.Evaluation.{evaluate, number_in, scalars_in, type_in}
-use Rattle.ep_tree.specs.Limits.{MOST_REACH, MOST_SIZE, is_too_far, limits_of_values, numbers_at, products_from}
+use Rattle.ep_tree.specs.Limits.{MOST_SIZE, limits_of_values, numbers_at, products_from}
 use Rattle.ep_tree.specs.Measures.{Met, a_generator, a_node, farthest_of, farthest_reach, first_products, number_reach, reaches_at, size_of}
 use Rattle.ep_tree.specs.Reach.{Extent, decisions_in, extent, fixed_extent, fixed_span, holds_decision, measured, no_extent, reaches}
 use Rattle.ep_tree.specs.Solutions.{limits_passed}
@@ -69,7 +70,7 @@ max_same a = go (int_lt a a)
 
 only_far : (n : ℤ) → is_far (only n) ≡ is_too_far n
 unfolding is_too_far farthest_end
-only_far n = ap (λ a. int_lt MOST_REACH (absolute_of a)) (max_same (absolute_of n)) ∙ ap (int_lt MOST_REACH) (absolute_twice n)
+only_far n = ap (λ a. int_lt MOST_NUMBER (absolute_of a)) (max_same (absolute_of n)) ∙ ap (int_lt MOST_NUMBER) (absolute_twice n)
 
 zero_near : is_far (only (pos 0)) ≡ false
 unfolding is_too_far farthest_end absolute_of
@@ -252,10 +253,10 @@ each_far mode (m ∷ ms) h =
     ∙ sym (any_append is_too_far (numbers_at mode m) (flat_map (numbers_at mode) ms))
 
 reach_far : (mode : Mode) (ms : List Met) → list_all is_fixed ms ≡ true
-    → int_lt MOST_REACH (farthest_reach mode ms) ≡ list_any is_too_far (flat_map (numbers_at mode) ms)
+    → int_lt MOST_NUMBER (farthest_reach mode ms) ≡ list_any is_too_far (flat_map (numbers_at mode) ms)
 unfolding farthest_reach farthest_of is_too_far
 reach_far mode ms h =
-    greatest_past MOST_REACH (pos 0) (map farthest_end (flat_map (reaches_at mode) ms))
+    greatest_past MOST_NUMBER (pos 0) (map farthest_end (flat_map (reaches_at mode) ms))
     ∙ any_map is_too_far farthest_end (flat_map (reaches_at mode) ms) ∙ each_far mode ms h
 
 -- Nodes without a decision variable pass the same limits by their values as by what they reach.
@@ -263,7 +264,7 @@ pub limits_fixed : (mode : Mode) (before : ℕ) (ms : List Met) → list_all is_
     → map over_limit (limits_of_values mode before ms) ≡ limits_passed mode before ms
 unfolding limits_of_values limits_passed
 limits_fixed mode before ms h =
-    go (nat_lt MOST_SIZE (before + size_of ms)) (list_any is_too_far (flat_map (numbers_at mode) ms)) (int_lt MOST_REACH (farthest_reach mode ms)) (reach_far mode ms h)
+    go (nat_lt MOST_SIZE (before + size_of ms)) (list_any is_too_far (flat_map (numbers_at mode) ms)) (int_lt MOST_NUMBER (farthest_reach mode ms)) (reach_far mode ms h)
   where
     go : (size one other : Bool) → other ≡ one
         → map over_limit ((if size then Limit.Size ∷ [] else []) ++ (if one then Limit.Reach ∷ [] else []))

@@ -3,8 +3,8 @@ pub mod Outside
 pub mod ReadRows
 pub mod Runs
 pub mod Tokens
+pub mod Texts
 pub mod Values
-pub mod Matrices
 pub mod Domains
 pub mod Types
 pub mod Faults
@@ -12,14 +12,6 @@ pub mod Heights
 pub mod Measures
 pub mod Binding
 pub mod Solutions
-pub mod TypeTables
-pub mod FaultTables
-pub mod BindingTables
-pub mod Cuts
+pub mod Spelled
 pub mod Spelling
-pub mod Statements
-pub mod Openings
 pub mod Reading
-pub mod Forms
-pub mod Modes
-pub mod MoreMeasures

@@ -1,539 +1,530 @@
--- Values of numbers, Booleans, comparisons and quantifiers, computed by the checker: for each form of the language, with its edges.
-use Rattle.std.specs.Prelude.{◌≡◌, true, false, [], ◌∷◌, pos, negsuc, Some, None, codes, refl}
-use Rattle.ep_base.specs.declared.operators.CompareOp.{CompareOp}
-use Rattle.ep_base.specs.declared.operators.LexOp.{LexOp}
-use Rattle.ep_base.specs.declared.places.Place.{Place}
+-- Values, computed by the checker: texts of each form of the language, with its edges, and what they are worth in the relational mode
+-- or in both.
+use Rattle.std.specs.Prelude.{◌≡◌, ℕ, List, [], ◌∷◌, ℤ, pos, negsuc, Some, None, Option, codes, option_map, refl}
+use Prim.Native.String.{String}
 use Rattle.ep_tree.proofs.Opened.{the_language}
-use Rattle.ep_tree.specs.Environments.{has_domain, has_value}
+use Rattle.ep_tree.specs.Environments.{Bound, Env, has_domain, has_value}
 use Rattle.ep_tree.specs.Evaluation.{evaluate}
-use Rattle.ep_tree.specs.Names.{nothing_known, put_all}
-use Rattle.ep_tree.specs.Trees.{absolute, all_of, any_of, binary, bool, chain, compare, end_at, factorial, folded, group, in_domain, in_set, lex, literal, minus, named, named_domain, negation, no_ranges, no_terms, no_trees, number, one_and, quantified, ranges, span_and, term_and, to_int, tree_and, truth, unstated}
-use Rattle.ep_tree.specs.Values.{single}
-use Rattle.ep_tree.specs.declared.syntax.BinaryOp.{BinaryOp}
-use Rattle.ep_tree.specs.declared.syntax.FoldOp.{FoldOp}
-use Rattle.ep_tree.specs.declared.syntax.QuantOp.{QuantOp}
+use Rattle.ep_tree.specs.Names.{nothing_known, put, put_all}
+use Rattle.ep_tree.specs.Values.{ValueTree, ValueTrees, matrix, no_values, same_value, single, value_and}
 use Rattle.ep_tree.specs.declared.values.Mode.{Mode}
 use Rattle.ep_tree.specs.declared.values.Scalar.{Scalar}
 use Rattle.ep_tree.specs.declared.values.ValueType.{ValueType}
-
--- a place, which values don't depend on
-abbrev p : Place
-p = record { line = 1; column = 1 }
-
--- ---- numbers and names
-
--- `7`
-value-1 : evaluate Mode.Relational nothing_known (number p (pos 7)) ≡ (Some (single (pos 7)))
-unfolding the_language
-value-1 = refl
-
--- `true`
-value-2 : evaluate Mode.Relational nothing_known (truth p true) ≡ (Some (single (pos 1)))
-unfolding the_language
-value-2 = refl
-
--- `false`
-value-3 : evaluate Mode.Relational nothing_known (truth p false) ≡ (Some (single (pos 0)))
-unfolding the_language
-value-3 = refl
-
--- `x` where x = 5
-value-4 : evaluate Mode.Relational (put_all ((codes "x", has_value ValueType.Int (single (pos 5))) ∷ []) nothing_known) (named p (codes "x")) ≡ (Some (single (pos 5)))
-unfolding the_language
-value-4 = refl
-
--- `(x)` where x = 5
-value-5 : evaluate Mode.Relational (put_all ((codes "x", has_value ValueType.Int (single (pos 5))) ∷ []) nothing_known) (group p (named p (codes "x"))) ≡ (Some (single (pos 5)))
-unfolding the_language
-value-5 = refl
-
--- ---- sums, products, signs and bars
-
--- `7 - 2 + 4`
-value-6 : evaluate Mode.Relational nothing_known (chain p (term_and true (number p (pos 7)) (term_and false (number p (pos 2)) (term_and true (number p (pos 4)) no_terms)))) ≡ (Some (single (pos 9)))
-unfolding the_language
-value-6 = refl
-
--- `3 * 4`
-value-7 : evaluate Mode.Relational nothing_known (binary p BinaryOp.Mul (number p (pos 3)) (number p (pos 4))) ≡ (Some (single (pos 12)))
-unfolding the_language
-value-7 = refl
-
--- `-x` where x = 5
-value-8 : evaluate Mode.Relational (put_all ((codes "x", has_value ValueType.Int (single (pos 5))) ∷ []) nothing_known) (minus p (named p (codes "x"))) ≡ (Some (single (negsuc 4)))
-unfolding the_language
-value-8 = refl
-
--- `|2 - 9|`
-value-9 : evaluate Mode.Relational nothing_known (absolute p (chain p (term_and true (number p (pos 2)) (term_and false (number p (pos 9)) no_terms)))) ≡ (Some (single (pos 7)))
-unfolding the_language
-value-9 = refl
-
--- `true + true`
-value-10 : evaluate Mode.Relational nothing_known (chain p (term_and true (truth p true) (term_and true (truth p true) no_terms))) ≡ (Some (single (pos 2)))
-unfolding the_language
-value-10 = refl
-
--- `1 + 1/0`
-value-11 : evaluate Mode.Relational nothing_known (chain p (term_and true (number p (pos 1)) (term_and true (binary p BinaryOp.Div (number p (pos 1)) (number p (pos 0))) no_terms))) ≡ None
-unfolding the_language
-value-11 = refl
-
--- ---- the floor of a quotient, and what it leaves
-
--- `7 / 2`
-value-12 : evaluate Mode.Relational nothing_known (binary p BinaryOp.Div (number p (pos 7)) (number p (pos 2))) ≡ (Some (single (pos 3)))
-unfolding the_language
-value-12 = refl
-
--- `(-7) / 2`
-value-13 : evaluate Mode.Relational nothing_known (binary p BinaryOp.Div (group p (minus p (number p (pos 7)))) (number p (pos 2))) ≡ (Some (single (negsuc 3)))
-unfolding the_language
-value-13 = refl
-
--- `7 / (-2)`
-value-14 : evaluate Mode.Relational nothing_known (binary p BinaryOp.Div (number p (pos 7)) (group p (minus p (number p (pos 2))))) ≡ (Some (single (negsuc 3)))
-unfolding the_language
-value-14 = refl
-
--- `(-7) / (-2)`
-value-15 : evaluate Mode.Relational nothing_known (binary p BinaryOp.Div (group p (minus p (number p (pos 7)))) (group p (minus p (number p (pos 2))))) ≡ (Some (single (pos 3)))
-unfolding the_language
-value-15 = refl
-
--- `1 / 0`
-value-16 : evaluate Mode.Relational nothing_known (binary p BinaryOp.Div (number p (pos 1)) (number p (pos 0))) ≡ None
-unfolding the_language
-value-16 = refl
-
--- `(-3) % 5`
-value-17 : evaluate Mode.Relational nothing_known (binary p BinaryOp.Mod (group p (minus p (number p (pos 3)))) (number p (pos 5))) ≡ (Some (single (pos 2)))
-unfolding the_language
-value-17 = refl
-
--- `3 % (-5)`
-value-18 : evaluate Mode.Relational nothing_known (binary p BinaryOp.Mod (number p (pos 3)) (group p (minus p (number p (pos 5))))) ≡ (Some (single (negsuc 1)))
-unfolding the_language
-value-18 = refl
-
--- `(-7) % (-2)`
-value-19 : evaluate Mode.Relational nothing_known (binary p BinaryOp.Mod (group p (minus p (number p (pos 7)))) (group p (minus p (number p (pos 2))))) ≡ (Some (single (negsuc 0)))
-unfolding the_language
-value-19 = refl
-
--- `6 % 3`
-value-20 : evaluate Mode.Relational nothing_known (binary p BinaryOp.Mod (number p (pos 6)) (number p (pos 3))) ≡ (Some (single (pos 0)))
-unfolding the_language
-value-20 = refl
-
--- `5 % 0`
-value-21 : evaluate Mode.Relational nothing_known (binary p BinaryOp.Mod (number p (pos 5)) (number p (pos 0))) ≡ None
-unfolding the_language
-value-21 = refl
-
--- ---- powers
-
--- `2 ** 10`
-value-22 : evaluate Mode.Relational nothing_known (binary p BinaryOp.Pow (number p (pos 2)) (number p (pos 10))) ≡ (Some (single (pos 1024)))
-unfolding the_language
-value-22 = refl
-
--- `0 ** 0`
-value-23 : evaluate Mode.Relational nothing_known (binary p BinaryOp.Pow (number p (pos 0)) (number p (pos 0))) ≡ (Some (single (pos 1)))
-unfolding the_language
-value-23 = refl
-
--- `(-2) ** 3`
-value-24 : evaluate Mode.Relational nothing_known (binary p BinaryOp.Pow (group p (minus p (number p (pos 2)))) (number p (pos 3))) ≡ (Some (single (negsuc 7)))
-unfolding the_language
-value-24 = refl
-
--- `2 ** (-1)`
-value-25 : evaluate Mode.Relational nothing_known (binary p BinaryOp.Pow (number p (pos 2)) (group p (minus p (number p (pos 1))))) ≡ None
-unfolding the_language
-value-25 = refl
-
--- `-x ** 2` where x = 3
-value-26 : evaluate Mode.Relational (put_all ((codes "x", has_value ValueType.Int (single (pos 3))) ∷ []) nothing_known) (binary p BinaryOp.Pow (minus p (named p (codes "x"))) (number p (pos 2))) ≡ (Some (single (pos 9)))
-unfolding the_language
-value-26 = refl
-
--- `2 ** 3 ** 2`
-value-27 : evaluate Mode.Relational nothing_known (binary p BinaryOp.Pow (binary p BinaryOp.Pow (number p (pos 2)) (number p (pos 3))) (number p (pos 2))) ≡ (Some (single (pos 64)))
-unfolding the_language
-value-27 = refl
-
--- ---- factorials
-
--- `factorial(5)`
-value-28 : evaluate Mode.Relational nothing_known (factorial p (number p (pos 5))) ≡ (Some (single (pos 120)))
-unfolding the_language
-value-28 = refl
-
--- `factorial(0)`
-value-29 : evaluate Mode.Relational nothing_known (factorial p (number p (pos 0))) ≡ (Some (single (pos 1)))
-unfolding the_language
-value-29 = refl
-
--- `factorial(-1)`
-value-30 : evaluate Mode.Relational nothing_known (factorial p (minus p (number p (pos 1)))) ≡ None
-unfolding the_language
-value-30 = refl
-
--- ---- `min` and `max`
-
--- `min(3, -2)`
-value-31 : evaluate Mode.Relational nothing_known (binary p BinaryOp.Min (number p (pos 3)) (minus p (number p (pos 2)))) ≡ (Some (single (negsuc 1)))
-unfolding the_language
-value-31 = refl
-
--- `max(3, -2)`
-value-32 : evaluate Mode.Relational nothing_known (binary p BinaryOp.Max (number p (pos 3)) (minus p (number p (pos 2)))) ≡ (Some (single (pos 3)))
-unfolding the_language
-value-32 = refl
-
--- `min([4, 2, 9])`
-value-33 : evaluate Mode.Relational nothing_known (folded p FoldOp.Min (literal p (tree_and (number p (pos 4)) (tree_and (number p (pos 2)) (tree_and (number p (pos 9)) no_trees))) unstated)) ≡ (Some (single (pos 2)))
-unfolding the_language
-value-33 = refl
-
--- `max([4, 2, 9])`
-value-34 : evaluate Mode.Relational nothing_known (folded p FoldOp.Max (literal p (tree_and (number p (pos 4)) (tree_and (number p (pos 2)) (tree_and (number p (pos 9)) no_trees))) unstated)) ≡ (Some (single (pos 9)))
-unfolding the_language
-value-34 = refl
-
--- `min([])`
-value-35 : evaluate Mode.Relational nothing_known (folded p FoldOp.Min (literal p no_trees unstated)) ≡ None
-unfolding the_language
-value-35 = refl
-
--- `max([])`
-value-36 : evaluate Mode.Relational nothing_known (folded p FoldOp.Max (literal p no_trees unstated)) ≡ None
-unfolding the_language
-value-36 = refl
-
--- ---- matrices folded
-
--- `sum([1, 2, 3])`
-value-37 : evaluate Mode.Relational nothing_known (folded p FoldOp.Sum (literal p (tree_and (number p (pos 1)) (tree_and (number p (pos 2)) (tree_and (number p (pos 3)) no_trees))) unstated)) ≡ (Some (single (pos 6)))
-unfolding the_language
-value-37 = refl
-
--- `sum([])`
-value-38 : evaluate Mode.Relational nothing_known (folded p FoldOp.Sum (literal p no_trees unstated)) ≡ (Some (single (pos 0)))
-unfolding the_language
-value-38 = refl
-
--- `product([2, 3, 4])`
-value-39 : evaluate Mode.Relational nothing_known (folded p FoldOp.Product (literal p (tree_and (number p (pos 2)) (tree_and (number p (pos 3)) (tree_and (number p (pos 4)) no_trees))) unstated)) ≡ (Some (single (pos 24)))
-unfolding the_language
-value-39 = refl
-
--- `product([])`
-value-40 : evaluate Mode.Relational nothing_known (folded p FoldOp.Product (literal p no_trees unstated)) ≡ (Some (single (pos 1)))
-unfolding the_language
-value-40 = refl
-
--- `and([true, false])`
-value-41 : evaluate Mode.Relational nothing_known (folded p FoldOp.And (literal p (tree_and (truth p true) (tree_and (truth p false) no_trees)) unstated)) ≡ (Some (single (pos 0)))
-unfolding the_language
-value-41 = refl
-
--- `and([])`
-value-42 : evaluate Mode.Relational nothing_known (folded p FoldOp.And (literal p no_trees unstated)) ≡ (Some (single (pos 1)))
-unfolding the_language
-value-42 = refl
-
--- `or([false, true])`
-value-43 : evaluate Mode.Relational nothing_known (folded p FoldOp.Or (literal p (tree_and (truth p false) (tree_and (truth p true) no_trees)) unstated)) ≡ (Some (single (pos 1)))
-unfolding the_language
-value-43 = refl
-
--- `or([])`
-value-44 : evaluate Mode.Relational nothing_known (folded p FoldOp.Or (literal p no_trees unstated)) ≡ (Some (single (pos 0)))
-unfolding the_language
-value-44 = refl
-
--- `sum([1, 1/0])`
-value-45 : evaluate Mode.Relational nothing_known (folded p FoldOp.Sum (literal p (tree_and (number p (pos 1)) (tree_and (binary p BinaryOp.Div (number p (pos 1)) (number p (pos 0))) no_trees)) unstated)) ≡ None
-unfolding the_language
-value-45 = refl
-
--- `sum([[1, 2], [3]])`
-value-46 : evaluate Mode.Relational nothing_known (folded p FoldOp.Sum (literal p (tree_and (literal p (tree_and (number p (pos 1)) (tree_and (number p (pos 2)) no_trees)) unstated) (tree_and (literal p (tree_and (number p (pos 3)) no_trees) unstated) no_trees)) unstated)) ≡ (Some (single (pos 6)))
-unfolding the_language
-value-46 = refl
-
--- ---- comparisons and connectives
-
--- `2 < 3`
-value-47 : evaluate Mode.Relational nothing_known (compare p CompareOp.Less (number p (pos 2)) (number p (pos 3))) ≡ (Some (single (pos 1)))
-unfolding the_language
-value-47 = refl
-
--- `3 <= 2`
-value-48 : evaluate Mode.Relational nothing_known (compare p CompareOp.AtMost (number p (pos 3)) (number p (pos 2))) ≡ (Some (single (pos 0)))
-unfolding the_language
-value-48 = refl
-
--- `2 != 2`
-value-49 : evaluate Mode.Relational nothing_known (compare p CompareOp.NotEqual (number p (pos 2)) (number p (pos 2))) ≡ (Some (single (pos 0)))
-unfolding the_language
-value-49 = refl
-
--- `3 >= 3`
-value-50 : evaluate Mode.Relational nothing_known (compare p CompareOp.AtLeast (number p (pos 3)) (number p (pos 3))) ≡ (Some (single (pos 1)))
-unfolding the_language
-value-50 = refl
-
--- `3 > 3`
-value-51 : evaluate Mode.Relational nothing_known (compare p CompareOp.Greater (number p (pos 3)) (number p (pos 3))) ≡ (Some (single (pos 0)))
-unfolding the_language
-value-51 = refl
-
--- `true = 1`
-value-52 : evaluate Mode.Relational nothing_known (compare p CompareOp.Equal (truth p true) (number p (pos 1))) ≡ (Some (single (pos 1)))
-unfolding the_language
-value-52 = refl
-
--- `1/0 = 1`
-value-53 : evaluate Mode.Relational nothing_known (compare p CompareOp.Equal (binary p BinaryOp.Div (number p (pos 1)) (number p (pos 0))) (number p (pos 1))) ≡ (Some (single (pos 0)))
-unfolding the_language
-value-53 = refl
-
--- `!(1/0 = 1)`
-value-54 : evaluate Mode.Relational nothing_known (negation p (group p (compare p CompareOp.Equal (binary p BinaryOp.Div (number p (pos 1)) (number p (pos 0))) (number p (pos 1))))) ≡ (Some (single (pos 1)))
-unfolding the_language
-value-54 = refl
-
--- `!true`
-value-55 : evaluate Mode.Relational nothing_known (negation p (truth p true)) ≡ (Some (single (pos 0)))
-unfolding the_language
-value-55 = refl
-
--- `true -> false`
-value-56 : evaluate Mode.Relational nothing_known (binary p BinaryOp.Implies (truth p true) (truth p false)) ≡ (Some (single (pos 0)))
-unfolding the_language
-value-56 = refl
-
--- `false -> false`
-value-57 : evaluate Mode.Relational nothing_known (binary p BinaryOp.Implies (truth p false) (truth p false)) ≡ (Some (single (pos 1)))
-unfolding the_language
-value-57 = refl
-
--- `true <-> true`
-value-58 : evaluate Mode.Relational nothing_known (binary p BinaryOp.Iff (truth p true) (truth p true)) ≡ (Some (single (pos 1)))
-unfolding the_language
-value-58 = refl
-
--- `true <-> false`
-value-59 : evaluate Mode.Relational nothing_known (binary p BinaryOp.Iff (truth p true) (truth p false)) ≡ (Some (single (pos 0)))
-unfolding the_language
-value-59 = refl
-
--- `true /\ false /\ true`
-value-60 : evaluate Mode.Relational nothing_known (all_of p (tree_and (truth p true) (tree_and (truth p false) (tree_and (truth p true) no_trees)))) ≡ (Some (single (pos 0)))
-unfolding the_language
-value-60 = refl
-
--- `true /\ true`
-value-61 : evaluate Mode.Relational nothing_known (all_of p (tree_and (truth p true) (tree_and (truth p true) no_trees))) ≡ (Some (single (pos 1)))
-unfolding the_language
-value-61 = refl
-
--- `false \/ true`
-value-62 : evaluate Mode.Relational nothing_known (any_of p (tree_and (truth p false) (tree_and (truth p true) no_trees))) ≡ (Some (single (pos 1)))
-unfolding the_language
-value-62 = refl
-
--- `false \/ false`
-value-63 : evaluate Mode.Relational nothing_known (any_of p (tree_and (truth p false) (tree_and (truth p false) no_trees))) ≡ (Some (single (pos 0)))
-unfolding the_language
-value-63 = refl
-
--- `toInt(true)`
-value-64 : evaluate Mode.Relational nothing_known (to_int p (truth p true)) ≡ (Some (single (pos 1)))
-unfolding the_language
-value-64 = refl
-
--- ---- an undefined quotient makes the comparison around it false
-
--- `!(10/x > 2)` where x = 0
-value-65 : evaluate Mode.Relational (put_all ((codes "x", has_value ValueType.Int (single (pos 0))) ∷ []) nothing_known) (negation p (group p (compare p CompareOp.Greater (binary p BinaryOp.Div (number p (pos 10)) (named p (codes "x"))) (number p (pos 2))))) ≡ (Some (single (pos 1)))
-unfolding the_language
-value-65 = refl
-
--- `!(10/x > 2)` where x = 2
-value-66 : evaluate Mode.Relational (put_all ((codes "x", has_value ValueType.Int (single (pos 2))) ∷ []) nothing_known) (negation p (group p (compare p CompareOp.Greater (binary p BinaryOp.Div (number p (pos 10)) (named p (codes "x"))) (number p (pos 2))))) ≡ (Some (single (pos 0)))
-unfolding the_language
-value-66 = refl
-
--- ---- lexicographic order
-
--- `[1, 2] <lex [1, 2, 0]`
-value-67 : evaluate Mode.Relational nothing_known (lex p LexOp.Less (literal p (tree_and (number p (pos 1)) (tree_and (number p (pos 2)) no_trees)) unstated) (literal p (tree_and (number p (pos 1)) (tree_and (number p (pos 2)) (tree_and (number p (pos 0)) no_trees))) unstated)) ≡ (Some (single (pos 1)))
-unfolding the_language
-value-67 = refl
-
--- `[2] <lex [1, 9]`
-value-68 : evaluate Mode.Relational nothing_known (lex p LexOp.Less (literal p (tree_and (number p (pos 2)) no_trees) unstated) (literal p (tree_and (number p (pos 1)) (tree_and (number p (pos 9)) no_trees)) unstated)) ≡ (Some (single (pos 0)))
-unfolding the_language
-value-68 = refl
-
--- `[1] <=lex [1]`
-value-69 : evaluate Mode.Relational nothing_known (lex p LexOp.AtMost (literal p (tree_and (number p (pos 1)) no_trees) unstated) (literal p (tree_and (number p (pos 1)) no_trees) unstated)) ≡ (Some (single (pos 1)))
-unfolding the_language
-value-69 = refl
-
--- `[1] <lex [1]`
-value-70 : evaluate Mode.Relational nothing_known (lex p LexOp.Less (literal p (tree_and (number p (pos 1)) no_trees) unstated) (literal p (tree_and (number p (pos 1)) no_trees) unstated)) ≡ (Some (single (pos 0)))
-unfolding the_language
-value-70 = refl
-
--- `[] <lex []`
-value-71 : evaluate Mode.Relational nothing_known (lex p LexOp.Less (literal p no_trees unstated) (literal p no_trees unstated)) ≡ (Some (single (pos 0)))
-unfolding the_language
-value-71 = refl
-
--- `[1, 3] >lex [1, 2]`
-value-72 : evaluate Mode.Relational nothing_known (lex p LexOp.Greater (literal p (tree_and (number p (pos 1)) (tree_and (number p (pos 3)) no_trees)) unstated) (literal p (tree_and (number p (pos 1)) (tree_and (number p (pos 2)) no_trees)) unstated)) ≡ (Some (single (pos 1)))
-unfolding the_language
-value-72 = refl
-
--- `[1] >=lex [1, 0]`
-value-73 : evaluate Mode.Relational nothing_known (lex p LexOp.AtLeast (literal p (tree_and (number p (pos 1)) no_trees) unstated) (literal p (tree_and (number p (pos 1)) (tree_and (number p (pos 0)) no_trees)) unstated)) ≡ (Some (single (pos 0)))
-unfolding the_language
-value-73 = refl
-
--- `[1/0] <=lex [1]`
-value-74 : evaluate Mode.Relational nothing_known (lex p LexOp.AtMost (literal p (tree_and (binary p BinaryOp.Div (number p (pos 1)) (number p (pos 0))) no_trees) unstated) (literal p (tree_and (number p (pos 1)) no_trees) unstated)) ≡ (Some (single (pos 0)))
-unfolding the_language
-value-74 = refl
-
--- ---- membership
-
--- `7 in int(1..3, 7)`
-value-75 : evaluate Mode.Relational nothing_known (in_domain p (number p (pos 7)) (ranges p (span_and (end_at (number p (pos 1))) (end_at (number p (pos 3))) (one_and (number p (pos 7)) no_ranges)))) ≡ (Some (single (pos 1)))
-unfolding the_language
-value-75 = refl
-
--- `5 in int(1..3, 7)`
-value-76 : evaluate Mode.Relational nothing_known (in_domain p (number p (pos 5)) (ranges p (span_and (end_at (number p (pos 1))) (end_at (number p (pos 3))) (one_and (number p (pos 7)) no_ranges)))) ≡ (Some (single (pos 0)))
-unfolding the_language
-value-76 = refl
-
--- `1 in bool`
-value-77 : evaluate Mode.Relational nothing_known (in_domain p (number p (pos 1)) (bool p)) ≡ (Some (single (pos 1)))
-unfolding the_language
-value-77 = refl
-
--- `2 in int(1..1/0)`
-value-78 : evaluate Mode.Relational nothing_known (in_domain p (number p (pos 2)) (ranges p (span_and (end_at (number p (pos 1))) (end_at (binary p BinaryOp.Div (number p (pos 1)) (number p (pos 0)))) no_ranges))) ≡ (Some (single (pos 0)))
-unfolding the_language
-value-78 = refl
-
--- `2 in D` where D a domain
-value-79 : evaluate Mode.Relational (put_all ((codes "D", has_domain Scalar.Int ([]) ((pos 1) ∷ (pos 2) ∷ (pos 3) ∷ [])) ∷ []) nothing_known) (in_domain p (number p (pos 2)) (named_domain p (codes "D"))) ≡ (Some (single (pos 1)))
-unfolding the_language
-value-79 = refl
-
--- `2 in toSet([1, 2])`
-value-80 : evaluate Mode.Relational nothing_known (in_set p (number p (pos 2)) (literal p (tree_and (number p (pos 1)) (tree_and (number p (pos 2)) no_trees)) unstated)) ≡ (Some (single (pos 1)))
-unfolding the_language
-value-80 = refl
-
--- `3 in toSet([1, 2])`
-value-81 : evaluate Mode.Relational nothing_known (in_set p (number p (pos 3)) (literal p (tree_and (number p (pos 1)) (tree_and (number p (pos 2)) no_trees)) unstated)) ≡ (Some (single (pos 0)))
-unfolding the_language
-value-81 = refl
-
--- `3 in toSet([])`
-value-82 : evaluate Mode.Relational nothing_known (in_set p (number p (pos 3)) (literal p no_trees unstated)) ≡ (Some (single (pos 0)))
-unfolding the_language
-value-82 = refl
-
--- ---- quantifiers; an empty domain, and an undefined one
-
--- `forAll i : int(1..3) . i < 4`
-value-83 : evaluate Mode.Relational nothing_known (quantified p QuantOp.ForAll ((codes "i") ∷ []) (ranges p (span_and (end_at (number p (pos 1))) (end_at (number p (pos 3))) no_ranges)) (compare p CompareOp.Less (named p (codes "i")) (number p (pos 4)))) ≡ (Some (single (pos 1)))
-unfolding the_language
-value-83 = refl
-
--- `forAll i : int(1..3) . i < 3`
-value-84 : evaluate Mode.Relational nothing_known (quantified p QuantOp.ForAll ((codes "i") ∷ []) (ranges p (span_and (end_at (number p (pos 1))) (end_at (number p (pos 3))) no_ranges)) (compare p CompareOp.Less (named p (codes "i")) (number p (pos 3)))) ≡ (Some (single (pos 0)))
-unfolding the_language
-value-84 = refl
-
--- `forAll i : int(1..0) . false`
-value-85 : evaluate Mode.Relational nothing_known (quantified p QuantOp.ForAll ((codes "i") ∷ []) (ranges p (span_and (end_at (number p (pos 1))) (end_at (number p (pos 0))) no_ranges)) (truth p false)) ≡ (Some (single (pos 1)))
-unfolding the_language
-value-85 = refl
-
--- `forAll i : int(1..1/0) . true`
-value-86 : evaluate Mode.Relational nothing_known (quantified p QuantOp.ForAll ((codes "i") ∷ []) (ranges p (span_and (end_at (number p (pos 1))) (end_at (binary p BinaryOp.Div (number p (pos 1)) (number p (pos 0)))) no_ranges)) (truth p true)) ≡ (Some (single (pos 0)))
-unfolding the_language
-value-86 = refl
-
--- `exists i : int(1..3) . i = 2`
-value-87 : evaluate Mode.Relational nothing_known (quantified p QuantOp.Exists ((codes "i") ∷ []) (ranges p (span_and (end_at (number p (pos 1))) (end_at (number p (pos 3))) no_ranges)) (compare p CompareOp.Equal (named p (codes "i")) (number p (pos 2)))) ≡ (Some (single (pos 1)))
-unfolding the_language
-value-87 = refl
-
--- `exists i : int(1..0) . true`
-value-88 : evaluate Mode.Relational nothing_known (quantified p QuantOp.Exists ((codes "i") ∷ []) (ranges p (span_and (end_at (number p (pos 1))) (end_at (number p (pos 0))) no_ranges)) (truth p true)) ≡ (Some (single (pos 0)))
-unfolding the_language
-value-88 = refl
-
--- `exists i : int(1..1/0) . true`
-value-89 : evaluate Mode.Relational nothing_known (quantified p QuantOp.Exists ((codes "i") ∷ []) (ranges p (span_and (end_at (number p (pos 1))) (end_at (binary p BinaryOp.Div (number p (pos 1)) (number p (pos 0)))) no_ranges)) (truth p true)) ≡ (Some (single (pos 0)))
-unfolding the_language
-value-89 = refl
-
--- `sum i : int(1..3) . i * i`
-value-90 : evaluate Mode.Relational nothing_known (quantified p QuantOp.Sum ((codes "i") ∷ []) (ranges p (span_and (end_at (number p (pos 1))) (end_at (number p (pos 3))) no_ranges)) (binary p BinaryOp.Mul (named p (codes "i")) (named p (codes "i")))) ≡ (Some (single (pos 14)))
-unfolding the_language
-value-90 = refl
-
--- `sum i : int(1..0) . 1`
-value-91 : evaluate Mode.Relational nothing_known (quantified p QuantOp.Sum ((codes "i") ∷ []) (ranges p (span_and (end_at (number p (pos 1))) (end_at (number p (pos 0))) no_ranges)) (number p (pos 1))) ≡ (Some (single (pos 0)))
-unfolding the_language
-value-91 = refl
-
--- `sum i : int(1..1/0) . 1`
-value-92 : evaluate Mode.Relational nothing_known (quantified p QuantOp.Sum ((codes "i") ∷ []) (ranges p (span_and (end_at (number p (pos 1))) (end_at (binary p BinaryOp.Div (number p (pos 1)) (number p (pos 0)))) no_ranges)) (number p (pos 1))) ≡ None
-unfolding the_language
-value-92 = refl
-
--- `sum b : bool . b`
-value-93 : evaluate Mode.Relational nothing_known (quantified p QuantOp.Sum ((codes "b") ∷ []) (bool p) (named p (codes "b"))) ≡ (Some (single (pos 1)))
-unfolding the_language
-value-93 = refl
-
--- `forAll i : int(0..2) . 6/i > 2`
-value-94 : evaluate Mode.Relational nothing_known (quantified p QuantOp.ForAll ((codes "i") ∷ []) (ranges p (span_and (end_at (number p (pos 0))) (end_at (number p (pos 2))) no_ranges)) (compare p CompareOp.Greater (binary p BinaryOp.Div (number p (pos 6)) (named p (codes "i"))) (number p (pos 2)))) ≡ (Some (single (pos 0)))
-unfolding the_language
-value-94 = refl
-
--- ---- several names are nested, and the domain is read for each in turn
-
--- `sum i, j : int(1..3) . i * j`
-value-95 : evaluate Mode.Relational nothing_known (quantified p QuantOp.Sum ((codes "i") ∷ (codes "j") ∷ []) (ranges p (span_and (end_at (number p (pos 1))) (end_at (number p (pos 3))) no_ranges)) (binary p BinaryOp.Mul (named p (codes "i")) (named p (codes "j")))) ≡ (Some (single (pos 36)))
-unfolding the_language
-value-95 = refl
-
--- `sum i, j : int(1..i) . 1` where i = 2
-value-96 : evaluate Mode.Relational (put_all ((codes "i", has_value ValueType.Int (single (pos 2))) ∷ []) nothing_known) (quantified p QuantOp.Sum ((codes "i") ∷ (codes "j") ∷ []) (ranges p (span_and (end_at (number p (pos 1))) (end_at (named p (codes "i"))) no_ranges)) (number p (pos 1))) ≡ (Some (single (pos 3)))
-unfolding the_language
-value-96 = refl
-
--- ---- a quantified name hides an outer one in its body alone
-
--- `x + (sum x : int(1..2) . x)` where x = 10
-value-97 : evaluate Mode.Relational (put_all ((codes "x", has_value ValueType.Int (single (pos 10))) ∷ []) nothing_known) (chain p (term_and true (named p (codes "x")) (term_and true (group p (quantified p QuantOp.Sum ((codes "x") ∷ []) (ranges p (span_and (end_at (number p (pos 1))) (end_at (number p (pos 2))) no_ranges)) (named p (codes "x")))) no_terms))) ≡ (Some (single (pos 13)))
-unfolding the_language
-value-97 = refl
-
--- `sum i : int(1..2) . (sum i : int(5..6) . i)`
-value-98 : evaluate Mode.Relational nothing_known (quantified p QuantOp.Sum ((codes "i") ∷ []) (ranges p (span_and (end_at (number p (pos 1))) (end_at (number p (pos 2))) no_ranges)) (group p (quantified p QuantOp.Sum ((codes "i") ∷ []) (ranges p (span_and (end_at (number p (pos 5))) (end_at (number p (pos 6))) no_ranges)) (named p (codes "i"))))) ≡ (Some (single (pos 22)))
-unfolding the_language
-value-98 = refl
+use Rattle.ep_tree_rows.proofs.Texts.{expr_in, same_option, same_pair, the_readers, wrong_rows}
+
+-- a value, or none
+abbrev Value : Type 0
+Value = Option ValueTree
+
+abbrev none : Value
+none = None
+
+abbrev is : ℤ → Value
+is n = Some (single n)
+
+-- matrices of numbers at indices
+abbrev singles : List ℤ → ValueTrees
+singles [] = no_values
+singles (n ∷ ns) = value_and (single n) (singles ns)
+
+abbrev numbers_at : List ℤ → List ℤ → ValueTree
+numbers_at indices ns = matrix indices (singles ns)
+
+-- ---- names
+
+abbrev number : ℕ → Bound
+number n = has_value ValueType.Int (single (pos n))
+
+abbrev one : String → ℕ → Env
+one name n = put (codes name) (number n) nothing_known
+
+abbrev x : ℕ → Env
+x n = one "x" n
+
+-- x, y, z and c
+abbrev four : Env
+four = put_all ((codes "x", number 1) ∷ (codes "y", number 1) ∷ (codes "z", number 2) ∷ (codes "c", number 1) ∷ []) nothing_known
+
+-- m = [10, 20, 30], w = [false, true], M = [[1, 2], [3, 4]], and the domain D of 1 to 3
+abbrev matrices : Env
+matrices = put_all (
+    (codes "m", has_value (ValueType.Matrix 1 Scalar.Int) (numbers_at (pos 1 ∷ pos 2 ∷ pos 3 ∷ []) (pos 10 ∷ pos 20 ∷ pos 30 ∷ [])))
+    ∷ (codes "w", has_value (ValueType.Matrix 1 Scalar.Bool) (numbers_at (pos 1 ∷ pos 2 ∷ []) (pos 0 ∷ pos 1 ∷ [])))
+    ∷ (codes "M", has_value (ValueType.Matrix 2 Scalar.Int) (matrix (pos 1 ∷ pos 2 ∷ []) (value_and (numbers_at (pos 1 ∷ pos 2 ∷ []) (pos 1 ∷ pos 2 ∷ [])) (value_and (numbers_at (pos 1 ∷ pos 2 ∷ []) (pos 3 ∷ pos 4 ∷ [])) no_values))))
+    ∷ (codes "D", has_domain Scalar.Int [] (pos 1 ∷ pos 2 ∷ pos 3 ∷ []))
+    ∷ []) nothing_known
+
+-- the same, and i = 5
+abbrev names : Env
+names = put (codes "i") (number 5) matrices
+
+-- m = [false, false], and i = 3
+abbrev falses : Env
+falses = put_all (
+    (codes "m", has_value (ValueType.Matrix 1 Scalar.Bool) (numbers_at (pos 1 ∷ pos 2 ∷ []) (pos 0 ∷ pos 0 ∷ [])))
+    ∷ (codes "i", number 3)
+    ∷ []) nothing_known
+
+-- ---- in the relational mode
+
+abbrev value : Env → String → Option Value
+value env text = option_map (evaluate Mode.Relational env) (expr_in text)
+
+-- texts that know no name, each with its value
+abbrev AreRight : List (String × Value) → Type 0
+AreRight rows = wrong_rows (same_option same_value) (value nothing_known) 0 rows ≡ []
+
+-- names and texts, each with its value
+abbrev AreRightIn : List ((Env × String) × Value) → Type 0
+AreRightIn rows = wrong_rows (same_option same_value) (λ row. value row.0 row.1) 0 rows ≡ []
+
+-- numbers and names
+numbers : AreRight (
+    ("7", is (pos 7))
+    ∷ ("true", is (pos 1))
+    ∷ ("false", is (pos 0))
+    ∷ [])
+unfolding the_language the_readers
+numbers = refl
+
+-- sums, products, signs and bars
+sums : AreRight (
+    ("7 - 2 + 4", is (pos 9))
+    ∷ ("3 * 4", is (pos 12))
+    ∷ ("|2 - 9|", is (pos 7))
+    ∷ ("true + true", is (pos 2))
+    ∷ ("1 + 1/0", none)
+    ∷ [])
+unfolding the_language the_readers
+sums = refl
+
+-- the floor of a quotient, and what it leaves
+quotients : AreRight (
+    ("7 / 2", is (pos 3))
+    ∷ ("(-7) / 2", is (negsuc 3))
+    ∷ ("7 / (-2)", is (negsuc 3))
+    ∷ ("(-7) / (-2)", is (pos 3))
+    ∷ ("1 / 0", none)
+    ∷ ("(-3) % 5", is (pos 2))
+    ∷ ("3 % (-5)", is (negsuc 1))
+    ∷ ("(-7) % (-2)", is (negsuc 0))
+    ∷ ("6 % 3", is (pos 0))
+    ∷ ("5 % 0", none)
+    ∷ [])
+unfolding the_language the_readers
+quotients = refl
+
+-- powers
+powers : AreRight (
+    ("2 ** 10", is (pos 1024))
+    ∷ ("0 ** 0", is (pos 1))
+    ∷ ("(-2) ** 3", is (negsuc 7))
+    ∷ ("2 ** (-1)", none)
+    ∷ ("2 ** 3 ** 2", is (pos 64))
+    ∷ [])
+unfolding the_language the_readers
+powers = refl
+
+-- factorials
+factorials : AreRight (
+    ("factorial(5)", is (pos 120))
+    ∷ ("factorial(0)", is (pos 1))
+    ∷ ("factorial(-1)", none)
+    ∷ [])
+unfolding the_language the_readers
+factorials = refl
+
+-- `min` and `max`
+ends : AreRight (
+    ("min(3, -2)", is (negsuc 1))
+    ∷ ("max(3, -2)", is (pos 3))
+    ∷ ("min([4, 2, 9])", is (pos 2))
+    ∷ ("max([4, 2, 9])", is (pos 9))
+    ∷ ("min([])", none)
+    ∷ ("max([])", none)
+    ∷ [])
+unfolding the_language the_readers
+ends = refl
+
+-- matrices folded
+folds : AreRight (
+    ("sum([1, 2, 3])", is (pos 6))
+    ∷ ("sum([])", is (pos 0))
+    ∷ ("product([2, 3, 4])", is (pos 24))
+    ∷ ("product([])", is (pos 1))
+    ∷ ("and([true, false])", is (pos 0))
+    ∷ ("and([])", is (pos 1))
+    ∷ ("or([false, true])", is (pos 1))
+    ∷ ("or([])", is (pos 0))
+    ∷ ("sum([1, 1/0])", none)
+    ∷ ("sum([[1, 2], [3]])", is (pos 6))
+    ∷ [])
+unfolding the_language the_readers
+folds = refl
+
+-- comparisons and connectives
+comparisons : AreRight (
+    ("2 < 3", is (pos 1))
+    ∷ ("3 <= 2", is (pos 0))
+    ∷ ("2 != 2", is (pos 0))
+    ∷ ("3 >= 3", is (pos 1))
+    ∷ ("3 > 3", is (pos 0))
+    ∷ ("true = 1", is (pos 1))
+    ∷ ("1/0 = 1", is (pos 0))
+    ∷ ("!(1/0 = 1)", is (pos 1))
+    ∷ ("!true", is (pos 0))
+    ∷ ("true -> false", is (pos 0))
+    ∷ ("false -> false", is (pos 1))
+    ∷ ("true <-> true", is (pos 1))
+    ∷ ("true <-> false", is (pos 0))
+    ∷ ("true /\\ false /\\ true", is (pos 0))
+    ∷ ("true /\\ true", is (pos 1))
+    ∷ ("false \\/ true", is (pos 1))
+    ∷ ("false \\/ false", is (pos 0))
+    ∷ ("toInt(true)", is (pos 1))
+    ∷ [])
+unfolding the_language the_readers
+comparisons = refl
+
+-- lexicographic order
+orders : AreRight (
+    ("[1, 2] <lex [1, 2, 0]", is (pos 1))
+    ∷ ("[2] <lex [1, 9]", is (pos 0))
+    ∷ ("[1] <=lex [1]", is (pos 1))
+    ∷ ("[1] <lex [1]", is (pos 0))
+    ∷ ("[] <lex []", is (pos 0))
+    ∷ ("[1, 3] >lex [1, 2]", is (pos 1))
+    ∷ ("[1] >=lex [1, 0]", is (pos 0))
+    ∷ ("[1/0] <=lex [1]", is (pos 0))
+    ∷ [])
+unfolding the_language the_readers
+orders = refl
+
+-- membership
+members : AreRight (
+    ("7 in int(1..3, 7)", is (pos 1))
+    ∷ ("5 in int(1..3, 7)", is (pos 0))
+    ∷ ("1 in bool", is (pos 1))
+    ∷ ("2 in int(1..1/0)", is (pos 0))
+    ∷ ("2 in toSet([1, 2])", is (pos 1))
+    ∷ ("3 in toSet([1, 2])", is (pos 0))
+    ∷ ("3 in toSet([])", is (pos 0))
+    ∷ [])
+unfolding the_language the_readers
+members = refl
+
+-- quantifiers; an empty domain, and an undefined one
+quantifiers : AreRight (
+    ("forAll i : int(1..3) . i < 4", is (pos 1))
+    ∷ ("forAll i : int(1..3) . i < 3", is (pos 0))
+    ∷ ("forAll i : int(1..0) . false", is (pos 1))
+    ∷ ("forAll i : int(1..1/0) . true", is (pos 0))
+    ∷ ("exists i : int(1..3) . i = 2", is (pos 1))
+    ∷ ("exists i : int(1..0) . true", is (pos 0))
+    ∷ ("exists i : int(1..1/0) . true", is (pos 0))
+    ∷ ("sum i : int(1..3) . i * i", is (pos 14))
+    ∷ ("sum i : int(1..0) . 1", is (pos 0))
+    ∷ ("sum i : int(1..1/0) . 1", none)
+    ∷ ("sum b : bool . b", is (pos 1))
+    ∷ ("forAll i : int(0..2) . 6/i > 2", is (pos 0))
+    ∷ [])
+unfolding the_language the_readers
+quantifiers = refl
+
+-- several names are nested, and the domain is read for each in turn
+several_names : AreRight (
+    ("sum i, j : int(1..3) . i * j", is (pos 36))
+    ∷ [])
+unfolding the_language the_readers
+several_names = refl
+
+-- a quantified name hides an outer one in its body alone
+hidden_names : AreRight (
+    ("sum i : int(1..2) . (sum i : int(5..6) . i)", is (pos 22))
+    ∷ [])
+unfolding the_language the_readers
+hidden_names = refl
+
+-- lists; an index domain with a gap, of another number of values, and an undefined one
+lists : AreRight (
+    ("[4, 5]", Some (numbers_at (pos 1 ∷ pos 2 ∷ []) (pos 4 ∷ pos 5 ∷ [])))
+    ∷ ("[4, 5; int(0, 3)]", Some (numbers_at (pos 0 ∷ pos 3 ∷ []) (pos 4 ∷ pos 5 ∷ [])))
+    ∷ ("[4, 5; int(1..3)]", none)
+    ∷ ("[5; int(1..1/0)]", none)
+    ∷ ("[]", Some (numbers_at [] []))
+    ∷ ("[1/0]", none)
+    ∷ ("[4, 5; int(0, 3)][3]", is (pos 5))
+    ∷ ("[4, 5; int(0, 3)][1]", none)
+    ∷ ("[1, 1/0][1]", none)
+    ∷ [])
+unfolding the_language the_readers
+lists = refl
+
+-- comprehensions
+comprehensions : AreRight (
+    ("[i * i | i : int(1..3)]", Some (numbers_at (pos 1 ∷ pos 2 ∷ pos 3 ∷ []) (pos 1 ∷ pos 4 ∷ pos 9 ∷ [])))
+    ∷ ("[i | i : int(1..4), i % 2 = 0]", Some (numbers_at (pos 1 ∷ pos 2 ∷ []) (pos 2 ∷ pos 4 ∷ [])))
+    ∷ ("[10 * i + j | i : int(1..3), j : int(i..3)]", Some (numbers_at (pos 1 ∷ pos 2 ∷ pos 3 ∷ pos 4 ∷ pos 5 ∷ pos 6 ∷ []) (pos 11 ∷ pos 12 ∷ pos 13 ∷ pos 22 ∷ pos 23 ∷ pos 33 ∷ [])))
+    ∷ ("[i + j | i, j : int(1..2)]", Some (numbers_at (pos 1 ∷ pos 2 ∷ pos 3 ∷ pos 4 ∷ []) (pos 2 ∷ pos 3 ∷ pos 3 ∷ pos 4 ∷ [])))
+    ∷ ("[i | i : int(1..0)]", Some (numbers_at [] []))
+    ∷ ("[i | i : int(1..1/0)]", none)
+    ∷ ("[j | i : int(0..1), j : int(1..1/i)]", none)
+    ∷ ("[i | i : int(1..2); int(5..6)]", Some (numbers_at (pos 5 ∷ pos 6 ∷ []) (pos 1 ∷ pos 2 ∷ [])))
+    ∷ ("[i | i : int(1..3), i != 2; int(1..3)]", none)
+    ∷ ("[6/i | i : int(0..2)]", none)
+    ∷ [])
+unfolding the_language the_readers
+comprehensions = refl
+
+-- reads
+reads : AreRight (
+    ("[[1], [2, 3]][2, 2]", is (pos 3))
+    ∷ ("[[1], [2, 3]][.., 2]", none)
+    ∷ ("[[i] | i : int(1..0)][.., 9]", Some (numbers_at [] []))
+    ∷ ("[[7; int(4..4)], [8; int(4..4)]][.., 4]", Some (numbers_at (pos 1 ∷ pos 2 ∷ []) (pos 7 ∷ pos 8 ∷ [])))
+    ∷ [])
+unfolding the_language the_readers
+reads = refl
+
+-- matrices of rows flattened
+flattened : AreRight (
+    ("flatten([[1, 2], [3]])", Some (numbers_at (pos 1 ∷ pos 2 ∷ pos 3 ∷ []) (pos 1 ∷ pos 2 ∷ pos 3 ∷ [])))
+    ∷ ("flatten([5; int(7..7)])", Some (numbers_at (pos 1 ∷ []) (pos 5 ∷ [])))
+    ∷ ("flatten([])", Some (numbers_at [] []))
+    ∷ [])
+unfolding the_language the_readers
+flattened = refl
+
+-- all different
+differences : AreRight (
+    ("allDiff([1, 2, 3])", is (pos 1))
+    ∷ ("allDiff([1, 2, 1])", is (pos 0))
+    ∷ ("allDiff([i | i : int(1..0)])", is (pos 1))
+    ∷ ("allDiff([1/0])", is (pos 0))
+    ∷ ("allDiff([[1, 2], [2, 3]])", is (pos 0))
+    ∷ [])
+unfolding the_language the_readers
+differences = refl
+
+-- counts
+counts : AreRight (
+    ("gcc([1, 1, 2], [1, 2], [2, 1])", is (pos 1))
+    ∷ ("gcc([1, 1, 2], [1, 2], [2, 2])", is (pos 0))
+    ∷ ("gcc([1, 2], [1], [1, 1])", is (pos 0))
+    ∷ ("gcc([], [1], [0])", is (pos 1))
+    ∷ ("atleast([1, 1, 2], [2], [1])", is (pos 1))
+    ∷ ("atleast([1, 2], [2], [1])", is (pos 0))
+    ∷ ("atleast([1], [1, 1], [1])", is (pos 0))
+    ∷ ("atmost([1, 1], [1], [1])", is (pos 0))
+    ∷ ("atmost([1, 2], [1], [1])", is (pos 1))
+    ∷ ("atmost([1], [], [1])", is (pos 0))
+    ∷ [])
+unfolding the_language the_readers
+counts = refl
+
+-- tables
+tables : AreRight (
+    ("table([1, 2], [[1, 2], [3, 4]])", is (pos 1))
+    ∷ ("table([1, 3], [[1, 2], [3, 4]])", is (pos 0))
+    ∷ ("table([1, 2], [[1, 2], [3]])", is (pos 0))
+    ∷ ("table([1], [])", is (pos 0))
+    ∷ [])
+unfolding the_language the_readers
+tables = refl
+
+-- texts with names that stand for numbers, matrices and a domain
+of_names : AreRightIn (
+    ((x 5, "x"), is (pos 5))
+    ∷ ((x 5, "(x)"), is (pos 5))
+    ∷ ((x 5, "-x"), is (negsuc 4))
+    ∷ ((x 3, "-x ** 2"), is (pos 9))
+    ∷ ((x 0, "!(10/x > 2)"), is (pos 1))
+    ∷ ((x 2, "!(10/x > 2)"), is (pos 0))
+    ∷ ((matrices, "2 in D"), is (pos 1))
+    ∷ ((one "i" 2, "sum i, j : int(1..i) . 1"), is (pos 3))
+    ∷ ((x 10, "x + (sum x : int(1..2) . x)"), is (pos 13))
+    ∷ ((matrices, "m[2]"), is (pos 20))
+    ∷ ((matrices, "m[4]"), none)
+    ∷ ((matrices, "m[1/0]"), none)
+    ∷ ((matrices, "m[1] + m[9] = 10"), is (pos 0))
+    ∷ ((matrices, "w[2]"), is (pos 1))
+    ∷ ((matrices, "w[3]"), is (pos 0))
+    ∷ ((matrices, "!w[3]"), is (pos 1))
+    ∷ ((matrices, "w[1/0]"), is (pos 0))
+    ∷ ((matrices, "M[2, 1]"), is (pos 3))
+    ∷ ((matrices, "M[2][1]"), is (pos 3))
+    ∷ ((matrices, "M[1, ..]"), Some (numbers_at (pos 1 ∷ pos 2 ∷ []) (pos 1 ∷ pos 2 ∷ [])))
+    ∷ ((matrices, "M[.., 2]"), Some (numbers_at (pos 1 ∷ pos 2 ∷ []) (pos 2 ∷ pos 4 ∷ [])))
+    ∷ ((matrices, "M[2]"), Some (numbers_at (pos 1 ∷ pos 2 ∷ []) (pos 3 ∷ pos 4 ∷ [])))
+    ∷ ((matrices, "M[..][1]"), Some (numbers_at (pos 1 ∷ pos 2 ∷ []) (pos 1 ∷ pos 2 ∷ [])))
+    ∷ ((matrices, "M[.., 3]"), none)
+    ∷ ((four, "gcc([x, y, z], [1, 2], [c, c])"), is (pos 0))
+    ∷ ((x 1, "table([x], [[1] | i : int(1..0)])"), is (pos 0))
+    ∷ ((x 2, "table([x], [[2], [2]])"), is (pos 1))
+    ∷ ((x 1, "table([x], [[2], [2]])"), is (pos 0))
+    ∷ ((put (codes "x") (number 3) matrices, "forAll i : D . x >= i"), is (pos 1))
+    ∷ ((put (codes "x") (number 2) matrices, "forAll i : D . x >= i"), is (pos 0))
+    ∷ ((falses, "toInt(m[i]) = 0"), is (pos 1))
+    ∷ ((x 3, "6 / x"), is (pos 2))
+    ∷ ((x 0, "6 / x"), none)
+    ∷ [])
+unfolding the_language the_readers
+of_names = refl
+
+-- texts that know the names i, m, w, M and D, each with its value
+abbrev AreRightAmong : List (String × Value) → Type 0
+AreRightAmong rows = wrong_rows (same_option same_value) (value names) 0 rows ≡ []
+
+forms_1 : AreRightAmong (
+    ("[1] >=lex [1]", is (pos 1))
+    ∷ ("[1,2] <=lex [1]", is (pos 0))
+    ∷ ("[1] >lex [1]", is (pos 0))
+    ∷ ("[1] <lex [1/0]", is (pos 0))
+    ∷ ("3 != 2", is (pos 1))
+    ∷ ("2 != 3", is (pos 1))
+    ∷ ("false -> true", is (pos 1))
+    ∷ ("false <-> false", is (pos 1))
+    ∷ ("and([true,true])", is (pos 1))
+    ∷ ("max([9,2])", is (pos 9))
+    ∷ ("-(1/0)", none)
+    ∷ ("|1/0|", none)
+    ∷ ("factorial(1/0)", none)
+    ∷ ("flatten([1/0])", none)
+    ∷ ("2 * (1/0)", none)
+    ∷ ("(1/0) * 2", none)
+    ∷ ("min(1, 1/0)", none)
+    ∷ ("1 < 1/0", is (pos 0))
+    ∷ ("1/0 < 1", is (pos 0))
+    ∷ ("1/0 in int(0..9)", is (pos 0))
+    ∷ ("1/0 in toSet([0,1])", is (pos 0))
+    ∷ ("1 in toSet([1/0,1])", is (pos 0))
+    ∷ ("1 in toSet([[0],[2,1]])", is (pos 1))
+    ∷ ("true /\\ true /\\ false", is (pos 0))
+    ∷ ("true \\/ false", is (pos 1))
+    ∷ ("exists j : int(1..2) . j = 3", is (pos 0))
+    ∷ ("exists j, k : int(1..2) . j + k = 4", is (pos 1))
+    ∷ ("sum j : int(0..2) . 6/j", none)
+    ∷ ("[6/j | j : int(0..2), j > 0]", Some (numbers_at (pos 1 ∷ pos 2 ∷ []) (pos 6 ∷ pos 3 ∷ [])))
+    ∷ ("[j | j : int(1..4), j > 1, j < 4]", Some (numbers_at (pos 1 ∷ pos 2 ∷ []) (pos 2 ∷ pos 3 ∷ [])))
+    ∷ ("[j | j : int(1..4), j < 4, j > 1]", Some (numbers_at (pos 1 ∷ pos 2 ∷ []) (pos 2 ∷ pos 3 ∷ [])))
+    ∷ ("[j | j : int(1..2); int(1..3)]", none)
+    ∷ ("[j | j : int(1..2); int(1..1/0)]", none)
+    ∷ ("[i | i : int(1..2); int(i..i+1)]", Some (numbers_at (pos 5 ∷ pos 6 ∷ []) (pos 1 ∷ pos 2 ∷ [])))
+    ∷ ("[4,5; int(1)]", none)
+    ∷ [])
+unfolding the_language the_readers
+forms_1 = refl
+
+forms_2 : AreRightAmong (
+    ("[true; int(1..2)][1]", is (pos 0))
+    ∷ ("[true,false][1/0]", is (pos 0))
+    ∷ ("[[true],[false]][3,..]", none)
+    ∷ ("[[true],[false]][..,2]", none)
+    ∷ ("M[3,..]", none)
+    ∷ ("M[1/0,..]", none)
+    ∷ ("forAll b : bool . [b][2]", is (pos 0))
+    ∷ ("and([[b][2] | b : bool])", is (pos 0))
+    ∷ ("![true; int(1..2)][1]", is (pos 1))
+    ∷ ("gcc([1/0],[1],[0])", is (pos 0))
+    ∷ ("gcc([1],[1/0],[0])", is (pos 0))
+    ∷ ("gcc([1],[1],[1/0])", is (pos 0))
+    ∷ ("gcc([1,1],[1,1],[2,2])", is (pos 1))
+    ∷ ("gcc([1],[],[])", is (pos 1))
+    ∷ ("atmost([1,1,2],[2,1],[1,2])", is (pos 1))
+    ∷ ("atmost([1,1,2],[1],[2])", is (pos 1))
+    ∷ ("table([1/0],[[1]])", is (pos 0))
+    ∷ ("table([1],[[1],[1/0]])", is (pos 0))
+    ∷ ("1 in int(1/0..3)", is (pos 0))
+    ∷ ("2 in int(1..2) - int(2..3)", is (pos 0))
+    ∷ ("3 in int(1..2) - int(2..3)", is (pos 0))
+    ∷ ("1 in (int(1/0) union int(1))", is (pos 0))
+    ∷ ("sum j : int(0..1) . (sum k : int(1..1/j) . 1)", none)
+    ∷ ("[1][1] + [[1],[2]][1][1]", is (pos 2))
+    ∷ ("(1/0) + 1", none)
+    ∷ ("1 % (1/0)", none)
+    ∷ ("2 ** (1/0)", none)
+    ∷ ("[1,1/0][2] = 1", is (pos 0))
+    ∷ ("!(1/0 < 1)", is (pos 1))
+    ∷ ("!(1 < 1/0)", is (pos 1))
+    ∷ ("[4; int(1..2)][1]", none)
+    ∷ ("M[1,..][2]", is (pos 2))
+    ∷ ("m[1/0]", none)
+    ∷ ("!(1/0 in int(0..9))", is (pos 1))
+    ∷ [])
+unfolding the_language the_readers
+forms_2 = refl
+
+-- ---- in both modes
+
+abbrev Values : Type 0
+Values = Value × Value
+
+abbrev values : String → Option Values
+values text = option_map (λ tree. (evaluate Mode.Relational names tree, evaluate Mode.Strict names tree)) (expr_in text)
+
+-- texts that know these names, each with its values in the relational mode and in the strict one
+abbrev AreRightInBoth : List (String × Values) → Type 0
+AreRightInBoth rows = wrong_rows (same_pair (same_option same_value) (same_option same_value)) values 0 rows ≡ []
+
+modes_1 : AreRightInBoth (
+    ("1/0 = 1", (is (pos 0), none))
+    ∷ ("!(1/0 = 1)", (is (pos 1), none))
+    ∷ ("true \\/ (1/0 = 1)", (is (pos 1), none))
+    ∷ ("(1/0 = 1) \\/ true", (is (pos 1), none))
+    ∷ ("false /\\ (1/0 = 1)", (is (pos 0), none))
+    ∷ ("false -> (1/0 = 1)", (is (pos 1), none))
+    ∷ ("(1/0 = 1) -> true", (is (pos 1), none))
+    ∷ ("(1/0 = 1) <-> false", (is (pos 1), none))
+    ∷ ("toInt(1/0 = 1)", (is (pos 0), none))
+    ∷ ("[1/0] <lex [1]", (is (pos 0), none))
+    ∷ ("1/0 in int(0..9)", (is (pos 0), none))
+    ∷ ("1 in int(0..1/0)", (is (pos 0), none))
+    ∷ ("1 in toSet([1, 1/0])", (is (pos 0), none))
+    ∷ ("allDiff([1, 1/0])", (is (pos 0), none))
+    ∷ ("and([true, 1/0 = 1])", (is (pos 0), none))
+    ∷ ("or([true, 1/0 = 1])", (is (pos 1), none))
+    ∷ ("gcc([1/0], [1], [0])", (is (pos 0), none))
+    ∷ ("table([1/0], [[1]])", (is (pos 0), none))
+    ∷ ("forAll j : int(1..1/0) . true", (is (pos 0), none))
+    ∷ ("exists j : int(1..1/0) . true", (is (pos 0), none))
+    ∷ ("sum j : int(1..1/0) . 1", (none, none))
+    ∷ ("forAll j : int(0..1) . 6 / j >= 0", (is (pos 0), none))
+    ∷ ("exists j : int(0..1) . 6 / j = 6", (is (pos 1), none))
+    ∷ ("sum j : int(0..1) . 6 / j", (none, none))
+    ∷ ("forAll j : int(1..0) . 1/0 = 1", (is (pos 1), is (pos 1)))
+    ∷ ("exists j : int(1..0) . 1/0 = 1", (is (pos 0), is (pos 0)))
+    ∷ ("exists j, k : int(1..1/(2 - i)) . true", (is (pos 0), is (pos 0)))
+    ∷ ("exists j : int(0..1) . (exists k : int(1..1/j) . k = 1)", (is (pos 1), none))
+    ∷ ("[j | j : int(0..2), 6 / j = 6]", (Some (numbers_at (pos 1 ∷ []) (pos 1 ∷ [])), none))
+    ∷ ("[j | j : int(0..2), false, 6 / j = 6]", (Some (numbers_at [] []), none))
+    ∷ [])
+unfolding the_language the_readers
+modes_1 = refl
+
+modes_2 : AreRightInBoth (
+    ("[6 / j | j : int(0..2), j > 0]", (Some (numbers_at (pos 1 ∷ pos 2 ∷ []) (pos 6 ∷ pos 3 ∷ [])), Some (numbers_at (pos 1 ∷ pos 2 ∷ []) (pos 6 ∷ pos 3 ∷ []))))
+    ∷ ("[j | j : int(1..1/0)]", (none, none))
+    ∷ ("[k | j : int(0..1), k : int(1..1/j)]", (none, none))
+    ∷ ("[true, false][3]", (is (pos 0), none))
+    ∷ ("![true, false][3]", (is (pos 1), none))
+    ∷ ("[true, false][1/0]", (is (pos 0), none))
+    ∷ ("[1, 2][3]", (none, none))
+    ∷ ("[[true], [false]][3, ..]", (none, none))
+    ∷ ("[true, false][2]", (is (pos 0), is (pos 0)))
+    ∷ ("[6 / 0 = 1, true][2]", (is (pos 1), none))
+    ∷ ("gcc([1, 2], [1, 2], [1])", (is (pos 0), none))
+    ∷ ("gcc([1, 2], [1], [1, 1])", (is (pos 0), none))
+    ∷ ("gcc([1, 2], [1, 2], [1, 1])", (is (pos 1), is (pos 1)))
+    ∷ ("atleast([1, 2], [1], [1, 2])", (is (pos 0), none))
+    ∷ ("atmost([1, 2], [1, 1], [1])", (is (pos 0), none))
+    ∷ ("atleast([1, 2], [1, 0], [1, 2])", (is (pos 1), is (pos 1)))
+    ∷ ("table([1, 2], [[1, 2], [1, 2, 3]])", (is (pos 0), none))
+    ∷ ("table([1, 2], [[3, 4], [1, 2]])", (is (pos 1), is (pos 1)))
+    ∷ ("table([1, 2], [[j, j] | j : int(1..0)])", (is (pos 0), is (pos 0)))
+    ∷ ("(0 = 0) \\/ (10 / 0 >= 10)", (is (pos 1), none))
+    ∷ ("(1 = 0) \\/ (10 / 1 >= 10)", (is (pos 1), is (pos 1)))
+    ∷ ("(2 = 0) \\/ (10 / 2 >= 10)", (is (pos 0), is (pos 0)))
+    ∷ ("[1/0 = 1] <lex [true]", (is (pos 1), none))
+    ∷ [])
+unfolding the_language the_readers
+modes_2 = refl

@@ -6,8 +6,8 @@ use Rattle.std.proofs.lemmas.List.Sums.{sum_by-cons}
 use Rattle.std.proofs.Math.Nat.{mul_assoc}
 use Rattle.std.proofs.Math.Path.{fun_ext}
 use Rattle.ep_base.specs.declared.names.Name.{Name}
-use Rattle.ep_instance.specs.Instances.{find_of}
-use Rattle.ep_instance.specs.declared.instances.Find.{Find as CodeFind}
+use Rattle.ep_instance_parts.specs.Instances.{find_of}
+use Rattle.ep_instance_parts.specs.declared.instances.Find.{Find as CodeFind}
 use Rattle.ep_tree.specs.Binding.{Find}
 use Rattle.ep_tree.specs.Solutions.{cell_count}
 use Rattle.ep_tree.specs.declared.values.Mode.{Mode}

@@ -9,7 +9,7 @@ ghost use Rattle.ep_tree.specs.Solutions.{cell_count, cells_bound};
 ghost use Rattle.ep_tree.specs.Types as types;
 ghost use Rattle.ep_tree.specs.declared.values.Mode.{Mode as EachMode};
 ghost use Rattle.ep_eval.specs.Known.{env_of};
-ghost use Rattle.ep_instance.specs.Instances.{find_of, plain_instance, instance_mode};
+ghost use Rattle.ep_instance_parts.specs.Instances.{find_of, plain_instance, instance_mode};
 ghost use Rattle.ep_unroll.specs.Cells as defined;
 ghost use Rattle.ep_unroll.specs.Cells.{cell_of, find_cells};
 ghost use Rattle.ep_unroll.specs.Firsts.{numbering, numbering_of};
@@ -19,8 +19,8 @@ use super::listing::index_lists;
 use ep_base::{Key, Memory, Name, Runs};
 use ep_eval::Env;
 use ep_ground::Cell;
-use ep_instance::{Find, Instance};
-use ep_numbers::listed;
+use ep_instance_parts::{Find, Instance};
+use ep_numbers::{copy_sets, listed};
 use ep_tree::Scalar;
 use std::alloc::Global;
 
@@ -104,17 +104,6 @@ fn is_truth(scalar: Scalar) -> bool
         Scalar::Bool => true,
         Scalar::Int => false,
     }
-}
-
-/// The same sets of numbers once more.
-fn copy_sets(alloc: Global, sets: &[Runs]) -> Result<Vec<Runs>, Memory>
-    ensures { IfOk result (λ copies. copies.items ≡ sets.now) }
-{
-    let mut copies = Vec::with_capacity(alloc, sets.len())?;
-    for set in sets {
-        copies.push(set.copy(alloc)?)?;
-    }
-    Ok(copies)
 }
 
 /// The name of a decision variable stands for its cells.

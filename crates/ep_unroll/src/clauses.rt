@@ -3,7 +3,7 @@
 ghost use Rattle.std.specs.Prelude.{IfOk, map, option_map};
 ghost use Rattle.ep_tree.specs.Views.{expr_tree};
 ghost use Rattle.ep_eval.specs.Known.{env_of};
-ghost use Rattle.ep_instance.specs.Instances.{goal_of};
+ghost use Rattle.ep_instance_parts.specs.Instances.{goal_of};
 ghost use Rattle.ep_unroll.specs.Clauses.{AreClauses, IsClauseTerm, IsGoal};
 ghost use Rattle.ep_unroll.specs.Firsts.{numbering_of};
 

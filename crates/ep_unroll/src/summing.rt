@@ -23,10 +23,8 @@ use super::unrolled::Unrolled;
 use ep_base::Memory;
 use ep_eval::number_of;
 use ep_ground::{Arena, Node, Term};
+use ep_numbers::is_far_word;
 use std::alloc::Global;
-
-/// The greatest absolute value that all later stages compute with.
-const MOST_NUMBER: i64 = 1_099_511_627_776;
 
 /// The sum of two numbers, where it is near enough to 0 to stand in a node.
 fn near_sum(one: i64, other: i64) -> Option<i64>
@@ -35,7 +33,7 @@ fn near_sum(one: i64, other: i64) -> Option<i64>
     let Some(sum) = one.checked_add(other) else {
         return None;
     };
-    if sum > MOST_NUMBER || sum < -MOST_NUMBER {
+    if is_far_word(sum) {
         return None;
     }
     Some(sum)

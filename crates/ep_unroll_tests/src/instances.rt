@@ -4,7 +4,7 @@ ghost use Rattle.std.specs.Prelude.{IfOk};
 ghost use Rattle.std.specs.List.{All};
 ghost use Rattle.ep_base.specs.Reads.{IsWithinNumbers};
 ghost use Rattle.ep_tree.specs.Closed.{IsClosed};
-ghost use Rattle.ep_instance.specs.Instances.{plain_instance};
+ghost use Rattle.ep_instance_parts.specs.Instances.{plain_instance};
 
 use ep_instance::{Instance, bind};
 use ep_parse_model::{parse_model, parse_params};

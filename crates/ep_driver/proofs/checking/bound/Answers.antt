@@ -1,5 +1,5 @@
 use Rattle.std.proofs.Common.{Err, ap, sym, subst}
-use Rattle.ep_instance.specs.Instances.{plain_instance}
+use Rattle.ep_instance_parts.specs.Instances.{plain_instance}
 use Rattle.ep_tree.specs.Binding.{bind}
 use Rattle.ep_types.specs.Texts.{typed_params_tree, typed_tree}
 use Rattle.ep_driver.specs.Outcomes.{as_outcome, bound_outcome}

@@ -1,7 +1,7 @@
 use Rattle.std.proofs.Common.{inr, refl, subst}
 use Rattle.ep_size.specs.Causes.{IsCause}
 use Rattle.ep_size.specs.declared.errors.SizeError.{SizeError}
-use Rattle.ep_instance.specs.Instances.{plain_instance, instance_mode}
+use Rattle.ep_instance_parts.specs.Instances.{plain_instance, instance_mode}
 use Rattle.ep_tree.specs.Solutions.{instance_limits}
 use Rattle.ep_driver.specs.Status.{status_of}
 use Rattle.ep_driver.proofs.Binding.{limit-passed}

@@ -1,6 +1,6 @@
 use Rattle.std.proofs.Common.{◌∙◌, Ok, inl, refl, ap, subst}
 use Rattle.std.proofs.lemmas.Result.{err_from_is_err_and}
-use Rattle.ep_instance.specs.Instances.{plain_instance, instance_mode}
+use Rattle.ep_instance_parts.specs.Instances.{plain_instance, instance_mode}
 use Rattle.ep_instance.specs.declared.judging.Shaped.{Shaped}
 use Rattle.ep_types.specs.Texts.{typed_params_tree}
 use Rattle.ep_tree.specs.Views.{assigned}

@@ -1,5 +1,5 @@
 use Rattle.std.proofs.Common.{Err, sym, subst}
-use Rattle.ep_instance.specs.Instances.{plain_instance, instance_mode}
+use Rattle.ep_instance_parts.specs.Instances.{plain_instance, instance_mode}
 use Rattle.ep_types.specs.Texts.{typed_params_tree}
 use Rattle.ep_driver.specs.Steps.{TellsShape}
 use Rattle.ep_driver.specs.declared.stops.Stop.{Stop}

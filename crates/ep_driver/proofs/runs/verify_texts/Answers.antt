@@ -1,6 +1,6 @@
 use Rattle.std.proofs.lemmas.Result.{err_from_is_err_and}
 use Rattle.std.proofs.Common.{subst}
-use Rattle.ep_instance.specs.Instances.{plain_instance}
+use Rattle.ep_instance_parts.specs.Instances.{plain_instance}
 use Rattle.ep_tree.specs.Views.{model_tree, params_tree}
 use Rattle.ep_tree.specs.declared.values.Mode.{Mode}
 use Rattle.ep_types.specs.Texts.{typed_params_tree, typed_tree}

@@ -4,8 +4,10 @@ use Rattle.std.specs.List.{list_any}
 use Rattle.std.proofs.lemmas.Int.{ints, to_z-of_z}
 use Rattle.std.proofs.lemmas.List.{at_drop_all, at_drop_more}
 use Rattle.ep_base.specs.Numbers.{product_of}
-use Rattle.ep_tree.specs.Limits.{is_too_far, products_from}
-use Rattle.ep_eval.proofs.Products.{far_ends, far_step, far_there, near_one, product_begins, product_ends, product_given, product_step, times_fits}
+use Rattle.ep_base.specs.Reads.{is_too_far}
+use Rattle.ep_tree.specs.Limits.{products_from}
+use Rattle.ep_numbers.proofs.PowerLaws.{near_one, times_fits}
+use Rattle.ep_eval.proofs.Products.{far_ends, far_step, far_there, product_begins, product_ends, product_given, product_step}
 use Rattle.ep_eval.proofs.folds.product.Goals as goal
 
 pub loop-part-init : goal.loop-part-init
@@ -21,8 +23,8 @@ overflow_mul-product c =
     to_z-of_z w128 c.from-product.result (omega (arith, ints)) ∙ c.from-product.ensures ∙ to_z-of_z w64 x fits in
     rw part (times_fits (to_z w128 c.loop-part.product-bits) x c.loop-part.invariant.near fits)
 
-pub returns-then-is_far_wide : goal.returns-then-is_far_wide
-returns-then-is_far_wide c =
+pub returns-then-is_far : goal.returns-then-is_far
+returns-then-is_far c =
     let all : List ℤ = c.args.parts.now in
     let k : ℕ = c.loop-part.part-index in
     let x : ℤ = get_or all k (pos 0) in
@@ -34,7 +36,7 @@ returns-then-is_far_wide c =
     ap (λ y. to_z w128 (of_z w128 (p *ℤ y))) part ∙ to_z-of_z w128 (p *ℤ x) (times_fits p x c.loop-part.invariant.near fits) in (
       refl,
       far_there p x (drop (k + 1) all) (list_any is_too_far (products_from (pos 1) all))
-          (ap is_too_far (sym exact) ∙ sym c.is_far_wide.ensures ∙ c.if-is_far_wide.true)
+          (ap is_too_far (sym exact) ∙ sym c.is_far.ensures ∙ c.if-is_far.true)
           (c.loop-part.invariant.far ∙ at_drop_more (λ l. list_any is_too_far (products_from p l)) all k (pos 0) c.loop-part-test.true),
     )
 
@@ -50,7 +52,7 @@ loop-part-preserved c =
     let exact : to_z w128 (of_z w128 (p *ℤ to_z w128 (of_z w128 c.from-product.result))) ≡ p *ℤ x =
     ap (λ y. to_z w128 (of_z w128 (p *ℤ y))) part ∙ to_z-of_z w128 (p *ℤ x) (times_fits p x c.loop-part.invariant.near fits) in
     let near : is_too_far (p *ℤ x) ≡ false =
-    ap is_too_far (sym exact) ∙ sym c.is_far_wide.ensures ∙ c.if-is_far_wide.false in
+    ap is_too_far (sym exact) ∙ sym c.is_far.ensures ∙ c.if-is_far.false in
     rw exact (record {
       value = product_step p x (product_of all) (drop (k + 1) all) (c.loop-part.invariant.value ∙ ap (λ y. p *ℤ y) (at_drop_more product_of all k (pos 0) c.loop-part-test.true));
       far = far_step p x (drop (k + 1) all) (list_any is_too_far (products_from (pos 1) all)) near

@@ -6,7 +6,7 @@ use Rattle.ep_base.specs.Numbers.{absolute_of}
 use Rattle.ep_tree.specs.Evaluation.{number_value}
 use Rattle.ep_tree.specs.Values.{single}
 use Rattle.ep_eval.specs.Counting.{Gives}
-use Rattle.ep_eval.proofs.Reaches.{absolute_is}
+use Rattle.ep_numbers.proofs.Ends.{absolute_is}
 use Rattle.ep_eval.proofs.numbers.absolute.Goals as goal
 
 pub returns-in-Some : goal.returns-in-Some

@@ -6,7 +6,7 @@ use Rattle.ep_eval.proofs.powers.power.Goals as goal
 
 pub returns : goal.returns
 returns c =
-    power_value c.args.base _ c.args.exponent c.nth_power.result _ c.steps.result c.steps.ensures c.nth_power.ensures
+    power_value c.args.base _ c.args.exponent c.seen_near.result _ (c.seen_near.ensures _ c.nth_power.ensures.same c.nth_power.ensures.told)
     (to_z-of_z w64 c.args.base (search rules)) (omega (arith, ints, c.if-exponent-lt0.false, c.ranges.exponent))
 
 pub returns-then-exponent-lt0 : goal.returns-then-exponent-lt0

@@ -2,8 +2,9 @@ use Rattle.std.proofs.Common.{◌≡◌, ◌+◌, ◌*ℤ◌, ℕ, ℤ, pos, ref
 use Rattle.std.specs.Int.{w128}
 use Rattle.std.proofs.lemmas.Int.{ints, to_z-of_z}
 use Rattle.ep_base.specs.Numbers.{product_to}
-use Rattle.ep_tree.specs.Limits.{is_too_far}
-use Rattle.ep_eval.proofs.Products.{factorial_far, factorial_more, factorial_none, near_one, wide_fits}
+use Rattle.ep_base.specs.Reads.{is_too_far}
+use Rattle.ep_numbers.proofs.PowerLaws.{near_one}
+use Rattle.ep_eval.proofs.Products.{factorial_far, factorial_more, factorial_none, wide_fits}
 use Rattle.ep_eval.proofs.Reaches.{far_single}
 use Rattle.ep_eval.proofs.powers.product_to.Goals as goal
 
@@ -17,8 +18,8 @@ overflow_mul-product c =
     to_z-of_z w128 c.from-product.result (omega (arith, ints)) ∙ c.from-product.ensures in
     rw part (wide_fits (to_z w128 c.loop-i.product-bits) (i + 1) c.loop-i.invariant.near (omega (arith, c.loop-i-test.true, c.ranges.last)))
 
-pub returns-then-is_far_wide : goal.returns-then-is_far_wide
-returns-then-is_far_wide c =
+pub returns-then-is_far : goal.returns-then-is_far
+returns-then-is_far c =
     let i : ℕ = c.loop-i.i in
     let p : ℤ = to_z w128 c.loop-i.product-bits in
     let part : to_z w128 (of_z w128 c.from-product.result) ≡ pos (i + 1) =
@@ -29,7 +30,7 @@ returns-then-is_far_wide c =
     ∙ ap (λ y. y *ℤ pos (i + 1)) c.loop-i.invariant.value ∙ ap pos (factorial_more i) in (
       refl,
       far_single (pos (product_to c.args.last))
-          (factorial_far i c.args.last (ap is_too_far (sym exact) ∙ sym c.is_far_wide.ensures ∙ c.if-is_far_wide.true) c.loop-i-test.true),
+          (factorial_far i c.args.last (ap is_too_far (sym exact) ∙ sym c.is_far.ensures ∙ c.if-is_far.true) c.loop-i-test.true),
     )
 
 pub loop-i-preserved : goal.loop-i-preserved
@@ -42,4 +43,4 @@ loop-i-preserved c =
     ap (λ y. to_z w128 (of_z w128 (p *ℤ y))) part
     ∙ to_z-of_z w128 (p *ℤ pos (i + 1)) (wide_fits p (i + 1) c.loop-i.invariant.near (omega (arith, c.loop-i-test.true, c.ranges.last)))
     ∙ ap (λ y. y *ℤ pos (i + 1)) c.loop-i.invariant.value ∙ ap pos (factorial_more i) in
-    record { value = exact; near = sym c.is_far_wide.ensures ∙ c.if-is_far_wide.false }
+    record { value = exact; near = sym c.is_far.ensures ∙ c.if-is_far.false }

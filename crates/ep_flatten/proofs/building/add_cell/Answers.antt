@@ -3,7 +3,8 @@ use Rattle.std.specs.Prelude.{map, slice_index_or}
 use Rattle.std.proofs.lemmas.List.{get_or_default}
 use Rattle.ep_base.specs.Intervals.{spanned}
 use Rattle.ep_flat.specs.FlatViews.{plain_con}
-use Rattle.ep_flatten.specs.Building.{HasSmall, interval_of, plain_built}
+use Rattle.ep_numbers.specs.Spans.{interval_of}
+use Rattle.ep_flatten.specs.Building.{HasSmall, plain_built}
 use Rattle.ep_flatten.proofs.Adding.{as_built, cell_advances, on_ok_five, spans_pushed}
 use Rattle.ep_flatten.proofs.building.add_cell.Goals as goal
 

@@ -3,7 +3,8 @@ use Rattle.std.proofs.lemmas.Int.{to_z-of_z}
 use Rattle.std.specs.Prelude.{map}
 use Rattle.ep_base.specs.Intervals.{only}
 use Rattle.ep_flat.specs.FlatViews.{plain_con}
-use Rattle.ep_flatten.specs.Building.{HasAll, interval_of, plain_built}
+use Rattle.ep_numbers.specs.Spans.{interval_of}
+use Rattle.ep_flatten.specs.Building.{HasAll, plain_built}
 use Rattle.ep_flatten.proofs.Growing.{with_number}
 use Rattle.ep_flatten.proofs.Adding.{as_built, on_ok_five, spans_pushed}
 use Rattle.ep_flatten.proofs.building.add_number.Goals as goal

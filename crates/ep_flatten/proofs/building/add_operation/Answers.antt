@@ -3,8 +3,9 @@ use Rattle.std.specs.Prelude.{map}
 use Rattle.ep_flat.specs.FlatViews.{plain_con}
 use Rattle.ep_ground.specs.NodeViews.{plain_node}
 use Rattle.ep_flatten.specs.FormViews.{plain_form}
-use Rattle.ep_flatten.specs.Building.{CoversForm, interval_of, plain_built}
-use Rattle.ep_flatten.specs.declared.intervals.Span.{Span}
+use Rattle.ep_numbers.specs.Spans.{interval_of}
+use Rattle.ep_flatten.specs.Building.{CoversForm, plain_built}
+use Rattle.ep_numbers.specs.declared.spans.Span.{Span}
 use Rattle.ep_flatten.specs.Saying.{SaysForm}
 use Rattle.ep_flatten.proofs.Growing.{with_operation}
 use Rattle.ep_flatten.proofs.Adding.{as_built, cons_pushed, on_ok_five, spans_pushed}

@@ -5,7 +5,8 @@ use Rattle.ep_flat.specs.FlatViews.{plain_con}
 use Rattle.ep_ground.specs.NodeViews.{plain_node}
 use Rattle.ep_ground.specs.GroundViews.{plain_ground}
 use Rattle.ep_flatten.specs.FormViews.{plain_form, plain_forms}
-use Rattle.ep_flatten.specs.Building.{IsMarked, IsTermOf, interval_of, plain_built}
+use Rattle.ep_numbers.specs.Spans.{interval_of}
+use Rattle.ep_flatten.specs.Building.{IsMarked, IsTermOf, plain_built}
 use Rattle.ep_flatten.proofs.Growing.{skipped}
 use Rattle.ep_flatten.proofs.FormLaws.{form_inside}
 use Rattle.ep_flatten.proofs.MarkedTerms.{marked_there}

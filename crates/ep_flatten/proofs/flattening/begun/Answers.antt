@@ -4,7 +4,7 @@ use Rattle.ep_flat.specs.FlatViews.{plain_con}
 use Rattle.ep_ground.specs.GroundViews.{plain_ground}
 use Rattle.std.proofs.lemmas.List.{take_all}
 use Rattle.ep_ground.specs.declared.cells.Cell.{Cell}
-use Rattle.ep_flatten.specs.Building.{interval_of}
+use Rattle.ep_numbers.specs.Spans.{interval_of}
 use Rattle.ep_flatten.proofs.Adding.{as_built}
 use Rattle.ep_flatten.proofs.Standing.{Counting, begins, cells_count, cells_more, counting_more, counting_none}
 use Rattle.ep_flatten.proofs.flattening.begun.Goals as goal

@@ -2,8 +2,7 @@ use Rattle.std.proofs.Common.{◌≡◌, rules, sym, ap, subst, ◌∙◌, arith
 use Rattle.std.specs.Prelude.{neg_ℤ}
 use Rattle.std.specs.Int.{int_max, int_min, w128}
 use Rattle.std.proofs.lemmas.Int.{ints, to_z-of_z}
-use Rattle.ep_base.specs.Intervals.{from_to}
-use Rattle.ep_ground.specs.Bounds.{IsWithinReach}
+use Rattle.ep_base.specs.Intervals.{IsWithinReach, from_to}
 use Rattle.ep_flatten.proofs.Ends.{clamped_has, within}
 use Rattle.ep_flatten.proofs.intervals.clamped.Goals as goal
 

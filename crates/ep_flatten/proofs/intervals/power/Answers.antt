@@ -3,8 +3,8 @@ use Rattle.std.specs.Int.{w128}
 use Rattle.std.proofs.lemmas.Int.{to_z-of_z}
 use Rattle.ep_base.specs.Intervals.{has_zero, spanned}
 use Rattle.ep_base.specs.Numbers.{nth_power}
-use Rattle.ep_flatten.specs.Building.{interval_of}
-use Rattle.ep_flatten.proofs.Ends.{power_zero, powered}
+use Rattle.ep_numbers.specs.Spans.{interval_of}
+use Rattle.ep_numbers.proofs.Ends.{power_zero, powered}
 use Rattle.ep_flatten.proofs.intervals.power.Goals as goal
 
 pub returns-then-exponent-eq0 : goal.returns-then-exponent-eq0

@@ -2,8 +2,9 @@ use Rattle.std.proofs.Common.{rules, sym, ap, ◌∙◌, w64}
 use Rattle.std.specs.Int.{int_max, int_min}
 use Rattle.std.proofs.lemmas.Int.{to_z-of_z}
 use Rattle.ep_base.specs.Intervals.{Interval}
-use Rattle.ep_flatten.specs.Building.{intervals_of, span_at}
-use Rattle.ep_flatten.proofs.Ends.{begun, fold_all, fold_more}
+use Rattle.ep_numbers.specs.Spans.{intervals_of}
+use Rattle.ep_flatten.specs.Building.{span_at}
+use Rattle.ep_numbers.proofs.Ends.{begun, fold_all, fold_more}
 use Rattle.ep_flatten.proofs.spans.extremes_from.Goals as goal
 
 pub loop-term-init : goal.loop-term-init

@@ -1,7 +1,8 @@
 use Rattle.std.proofs.Common.{◌≡◌, drop}
 use Rattle.std.specs.Prelude.{fold}
 use Rattle.std.specs.Int.{int_max, int_min}
-use Rattle.ep_flatten.specs.Building.{intervals_of, span_at}
+use Rattle.ep_numbers.specs.Spans.{intervals_of}
+use Rattle.ep_flatten.specs.Building.{span_at}
 use Rattle.ep_flatten.proofs.spans.extremes_from.Given as goal
 
 abbrev pub invariant-loop-term : goal.invariant-loop-term

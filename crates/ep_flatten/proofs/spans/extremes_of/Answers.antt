@@ -1,7 +1,8 @@
 use Rattle.std.proofs.Common.{ap}
 use Rattle.ep_base.specs.Intervals.{Interval}
-use Rattle.ep_flatten.specs.Building.{intervals_of, span_at}
-use Rattle.ep_flatten.proofs.Ends.{greatest_high, greatest_low, greatest_none, least_high, least_low, least_none}
+use Rattle.ep_numbers.specs.Spans.{intervals_of}
+use Rattle.ep_flatten.specs.Building.{span_at}
+use Rattle.ep_numbers.proofs.Ends.{greatest_high, greatest_low, greatest_none, least_high, least_low, least_none}
 use Rattle.ep_flatten.proofs.spans.extremes_of.Goals as goal
 
 pub returns-in-Some-clause-least_low : goal.returns-in-Some-clause-least_low

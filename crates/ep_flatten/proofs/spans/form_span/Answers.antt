@@ -2,7 +2,8 @@ use Rattle.std.proofs.Common.{rules, sym, subst, ℕ, ℤ, List, pos, w64, to_z,
 use Rattle.std.proofs.lemmas.Int.{to_z-of_z}
 use Rattle.ep_ground.specs.NodeViews.{plain_node}
 use Rattle.ep_ground.specs.Nodes as nodes
-use Rattle.ep_flatten.specs.Building.{Covers, CoversFormAlways, interval_of, intervals_of}
+use Rattle.ep_numbers.specs.Spans.{interval_of, intervals_of}
+use Rattle.ep_flatten.specs.Building.{Covers, CoversFormAlways}
 use Rattle.ep_flatten.specs.FormViews.{plain_form}
 use Rattle.ep_flatten.specs.declared.forms.Form.{Form}
 use Rattle.ep_flatten.proofs.Adding.{covers_compared, covers_own, covers_summed}

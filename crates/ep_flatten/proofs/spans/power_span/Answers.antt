@@ -2,7 +2,8 @@ use Rattle.std.proofs.Common.{ap, ◌∙◌}
 use Rattle.ep_base.specs.Intervals.{Interval, nth_power_interval}
 use Rattle.ep_ground.specs.Bounds.{node_reach}
 use Rattle.ep_ground.specs.Nodes as nodes
-use Rattle.ep_flatten.specs.Building.{interval_of, intervals_of, span_at, wide_interval}
+use Rattle.ep_numbers.specs.Spans.{interval_of, intervals_of, wide_interval}
+use Rattle.ep_flatten.specs.Building.{span_at}
 use Rattle.ep_flatten.proofs.Ends.{covered, covered_wider}
 use Rattle.ep_flatten.proofs.spans.power_span.Goals as goal
 

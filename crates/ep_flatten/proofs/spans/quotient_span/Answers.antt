@@ -2,7 +2,7 @@ use Rattle.std.proofs.Common.{ap, ◌∙◌}
 use Rattle.ep_base.specs.Intervals.{quotient_interval}
 use Rattle.ep_ground.specs.Bounds.{node_reach}
 use Rattle.ep_ground.specs.Nodes as nodes
-use Rattle.ep_flatten.specs.Building.{interval_of, intervals_of, wide_interval}
+use Rattle.ep_numbers.specs.Spans.{interval_of, intervals_of, wide_interval}
 use Rattle.ep_flatten.proofs.Ends.{covered}
 use Rattle.ep_flatten.proofs.spans.quotient_span.Goals as goal
 

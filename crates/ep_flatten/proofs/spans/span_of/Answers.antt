@@ -1,7 +1,8 @@
 use Rattle.std.proofs.Common.{sym, ◌∙◌}
 use Rattle.ep_ground.specs.Bounds.{node_reach}
 use Rattle.ep_ground.specs.NodeViews.{plain_node}
-use Rattle.ep_flatten.specs.Building.{interval_of, intervals_of, span_at, wide_interval}
+use Rattle.ep_numbers.specs.Spans.{interval_of, intervals_of, wide_interval}
+use Rattle.ep_flatten.specs.Building.{span_at}
 use Rattle.ep_flatten.proofs.Adding.{covers_node}
 use Rattle.ep_flatten.proofs.Ends.{covered_wider}
 use Rattle.ep_flatten.proofs.spans.span_of.Goals as goal

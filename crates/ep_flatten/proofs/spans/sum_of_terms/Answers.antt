@@ -1,10 +1,11 @@
 use Rattle.std.proofs.Common.{rules, sym, ap, ◌∙◌, ◌≡◌, w64}
 use Rattle.std.specs.Prelude.{◌+ℤ◌}
 use Rattle.std.proofs.lemmas.Int.{to_z-of_z}
-use Rattle.ep_base.specs.Intervals.{Interval}
-use Rattle.ep_ground.specs.Bounds.{scaled}
-use Rattle.ep_flatten.specs.Building.{intervals_of, span_at, wide_interval}
-use Rattle.ep_flatten.proofs.Ends.{begun, fold_all, fold_more, summed}
+use Rattle.ep_base.specs.Intervals.{Interval, scaled}
+use Rattle.ep_numbers.specs.Spans.{intervals_of, wide_interval}
+use Rattle.ep_flatten.specs.Building.{span_at}
+use Rattle.ep_numbers.proofs.Ends.{begun, fold_all, fold_more}
+use Rattle.ep_flatten.proofs.Ends.{summed}
 use Rattle.ep_flatten.proofs.spans.sum_of_terms.Goals as goal
 
 pub loop-part-init : goal.loop-part-init
@@ -21,10 +22,10 @@ loop-part-preserved c =
     record {
       low =
           fold_more (λ a p. a +ℤ (scaled p.0 (span_at (intervals_of c.args.spans.now) p.1)).low) c.args.parts.now c.loop-part.part-index part _ c.loop-part.sum.low c.in-Some.more.low _ c.loop-part-test.true c.part-item.is
-          (ap (λ (j : Interval). j.low) c.in-Some.ensures ∙ ap (λ (j : Interval). c.loop-part.sum.low +ℤ j.low) one) c.loop-part.invariant.low;
+          (ap (λ (j : Interval). j.low) c.in-Some.ensures.sum ∙ ap (λ (j : Interval). c.loop-part.sum.low +ℤ j.low) one) c.loop-part.invariant.low;
       high =
           fold_more (λ a p. a +ℤ (scaled p.0 (span_at (intervals_of c.args.spans.now) p.1)).high) c.args.parts.now c.loop-part.part-index part _ c.loop-part.sum.high c.in-Some.more.high _ c.loop-part-test.true c.part-item.is
-          (ap (λ (j : Interval). j.high) c.in-Some.ensures ∙ ap (λ (j : Interval). c.loop-part.sum.high +ℤ j.high) one) c.loop-part.invariant.high;
+          (ap (λ (j : Interval). j.high) c.in-Some.ensures.sum ∙ ap (λ (j : Interval). c.loop-part.sum.high +ℤ j.high) one) c.loop-part.invariant.high;
     }
 
 pub returns : goal.returns

@@ -1,7 +1,8 @@
 use Rattle.std.proofs.Common.{◌≡◌, drop}
 use Rattle.std.specs.Prelude.{fold, ◌+ℤ◌}
-use Rattle.ep_flatten.specs.Building.{intervals_of, span_at}
-use Rattle.ep_ground.specs.Bounds.{scaled}
+use Rattle.ep_base.specs.Intervals.{scaled}
+use Rattle.ep_numbers.specs.Spans.{intervals_of}
+use Rattle.ep_flatten.specs.Building.{span_at}
 use Rattle.ep_flatten.proofs.spans.sum_of_terms.Given as goal
 
 abbrev pub invariant-loop-part : goal.invariant-loop-part

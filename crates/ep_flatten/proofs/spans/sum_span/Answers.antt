@@ -1,10 +1,11 @@
 use Rattle.std.proofs.Common.{rules, subst, w64}
 use Rattle.std.specs.Prelude.{ℤ, map, ◌∷◌}
 use Rattle.std.proofs.lemmas.Int.{to_z-of_z}
-use Rattle.ep_base.specs.Intervals.{only, sum_interval}
-use Rattle.ep_ground.specs.Bounds.{node_reach, scaled}
+use Rattle.ep_base.specs.Intervals.{only, scaled, sum_interval}
+use Rattle.ep_ground.specs.Bounds.{node_reach}
 use Rattle.ep_ground.specs.Nodes as nodes
-use Rattle.ep_flatten.specs.Building.{HasSmall, interval_of, intervals_of, span_at, wide_interval}
+use Rattle.ep_numbers.specs.Spans.{interval_of, intervals_of, wide_interval}
+use Rattle.ep_flatten.specs.Building.{HasSmall, span_at}
 use Rattle.ep_flatten.proofs.Ends.{covered_wider}
 use Rattle.ep_flatten.proofs.spans.sum_span.Goals as goal
 

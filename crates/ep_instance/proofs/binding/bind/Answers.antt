@@ -6,8 +6,8 @@ use Rattle.ep_tree.specs.Binding.{and_next, bind_params, bind_statements, nothin
 use Rattle.ep_tree.specs.Faults.{lettings_of, text_faults}
 use Rattle.ep_tree.specs.Names.{nothing_known}
 use Rattle.ep_types.specs.Texts.{typed_params_tree, typed_tree}
-use Rattle.ep_instance.specs.Instances.{plain_instance}
-use Rattle.ep_instance.proofs.Answering.{answers_same, refuses_first, then_is}
+use Rattle.ep_instance_parts.proofs.Answering.{answers_same, refuses_first, then_is}
+use Rattle.ep_instance_parts.specs.Instances.{plain_instance}
 use Rattle.ep_instance.proofs.ProgressSteps.{bind_is, model_given, params_faultless, params_given}
 use Rattle.ep_instance.proofs.SmallValues.{answer_small}
 use Rattle.ep_instance.proofs.binding.bind.Goals as goal

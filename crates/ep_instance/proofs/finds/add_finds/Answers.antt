@@ -1,6 +1,6 @@
 use Rattle.std.proofs.Common.{sym, map}
 use Rattle.std.proofs.lemmas.List.{append-nil}
-use Rattle.ep_instance.specs.Instances.{find_of}
+use Rattle.ep_instance_parts.specs.Instances.{find_of}
 use Rattle.ep_instance.proofs.FindSteps.{one_find}
 use Rattle.ep_instance.proofs.finds.add_finds.Goals as goal
 

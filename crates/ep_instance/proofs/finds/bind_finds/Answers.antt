@@ -4,10 +4,10 @@ use Rattle.std.proofs.Math.ListN.{drop_of_length-le}
 use Rattle.ep_eval.specs.Known.{env_of}
 use Rattle.ep_tree.specs.Views.{group_of}
 use Rattle.ep_types_rules.proofs.RuleSteps.{next_is}
-use Rattle.ep_instance.specs.Instances.{find_of}
-use Rattle.ep_instance.specs.declared.errors.Source.TheVariants.{Model}
-use Rattle.ep_instance.specs.declared.instances.Find.{Find}
-use Rattle.ep_instance.proofs.Answering.{limit_refuses, refuses_undefined}
+use Rattle.ep_instance_parts.proofs.Answering.{limit_refuses, refuses_undefined}
+use Rattle.ep_instance_parts.specs.Instances.{find_of}
+use Rattle.ep_instance_parts.specs.declared.errors.Source.TheVariants.{Model}
+use Rattle.ep_instance_parts.specs.declared.instances.Find.{Find}
 use Rattle.ep_instance.proofs.FindSteps.{FindsSoFar, finds_begin, finds_cause_of, finds_given, finds_more_of, finds_undefined}
 use Rattle.ep_instance.proofs.finds.bind_finds.Goals as goal
 

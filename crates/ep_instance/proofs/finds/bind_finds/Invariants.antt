@@ -1,7 +1,7 @@
 use Rattle.std.proofs.Common.{drop, map, option_map}
 use Rattle.ep_eval.specs.Known.{env_of}
 use Rattle.ep_tree.specs.Views.{group_of}
-use Rattle.ep_instance.specs.Instances.{find_of}
+use Rattle.ep_instance_parts.specs.Instances.{find_of}
 use Rattle.ep_instance.proofs.FindSteps.{FindsSoFar}
 use Rattle.ep_instance.proofs.finds.bind_finds.Given as goal
 

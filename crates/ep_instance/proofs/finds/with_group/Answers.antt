@@ -1,6 +1,6 @@
 use Rattle.std.proofs.Common.{ap, map, option_map}
+use Rattle.ep_instance_parts.specs.Instances.{find_of}
 use Rattle.ep_instance.specs.Finding.{kept_finds}
-use Rattle.ep_instance.specs.Instances.{find_of}
 use Rattle.ep_instance.proofs.FindSteps.{joined_finds, no_finds, no_group_finds}
 use Rattle.ep_instance.proofs.finds.with_group.Goals as goal
 

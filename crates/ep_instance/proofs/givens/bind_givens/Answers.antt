@@ -7,9 +7,9 @@ use Rattle.ep_tree.specs.Environments.{context_of}
 use Rattle.ep_tree.specs.Faults.{group_faults}
 use Rattle.ep_tree.specs.Views.{group_of}
 use Rattle.ep_types_rules.proofs.RuleSteps.{next_is}
-use Rattle.ep_instance.specs.Refusals.{RefusesBinding}
+use Rattle.ep_instance_parts.proofs.Answering.{refuses_first, then_is}
+use Rattle.ep_instance_parts.specs.Refusals.{RefusesBinding}
 use Rattle.ep_instance.specs.Steps.{group_said}
-use Rattle.ep_instance.proofs.Answering.{refuses_first, then_is}
 use Rattle.ep_instance.proofs.BindSteps.{alone_faultless, group_context, next_group, no_group, others_faultless, first_faultless}
 use Rattle.std.proofs.Math.ListN.{drop_of_length-le}
 use Rattle.ep_instance.proofs.givens.bind_givens.Goals as goal

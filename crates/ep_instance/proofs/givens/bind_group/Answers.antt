@@ -3,7 +3,7 @@ use Rattle.std.proofs.lemmas.Result.{err_from_is_err_and}
 use Rattle.ep_eval.specs.Known.{env_of}
 use Rattle.ep_tree.specs.Binding.{bind_names, model_text, undefined_at}
 use Rattle.ep_tree.specs.Views.{domain_tree}
-use Rattle.ep_instance.proofs.Answering.{answers_same, refuses_first, then_is}
+use Rattle.ep_instance_parts.proofs.Answering.{answers_same, refuses_first, then_is}
 use Rattle.ep_instance.proofs.BindSteps.{fits_typed, group_cut, group_domain_faultless, said_shape}
 use Rattle.ep_instance.proofs.givens.bind_group.Goals as goal
 

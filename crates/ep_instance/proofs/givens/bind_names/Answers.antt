@@ -3,7 +3,7 @@ use Rattle.std.proofs.lemmas.Result.{err_from_is_err_and}
 use Rattle.ep_eval.specs.Known.{env_of}
 use Rattle.ep_tree.specs.Binding.{bind_names}
 use Rattle.ep_types_rules.proofs.RuleSteps.{next_is}
-use Rattle.ep_instance.proofs.Answering.{refuses_first, then_is}
+use Rattle.ep_instance_parts.proofs.Answering.{refuses_first, then_is}
 use Rattle.ep_instance.proofs.BindSteps.{next_name, no_name}
 use Rattle.std.proofs.Math.ListN.{drop_of_length-le}
 use Rattle.ep_instance.proofs.givens.bind_names.Goals as goal

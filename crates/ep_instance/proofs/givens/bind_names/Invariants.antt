@@ -1,7 +1,7 @@
 use Rattle.std.proofs.Common.{◌≡◌, drop}
 use Rattle.ep_eval.specs.Known.{env_of}
 use Rattle.ep_tree.specs.Binding.{Shape, bind_names}
-use Rattle.ep_instance.specs.Reading.{IsShape}
+use Rattle.ep_instance_parts.specs.Reading.{IsShape}
 use Rattle.ep_instance.proofs.givens.bind_names.Given as goal
 
 abbrev pub invariant-loop-name : goal.invariant-loop-name

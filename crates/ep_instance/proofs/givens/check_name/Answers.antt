@@ -1,7 +1,7 @@
 use Rattle.std.proofs.Common.{ap, sym, ◌∙◌, option_map}
 use Rattle.ep_eval.specs.Bounds.{entry_bound}
 use Rattle.ep_eval.specs.Known.{env_of}
-use Rattle.ep_instance.proofs.Answering.{refuses_one}
+use Rattle.ep_instance_parts.proofs.Answering.{refuses_one}
 use Rattle.ep_instance.proofs.BindSteps.{is_missing, not_missing, parameter_missing, parameter_there}
 use Rattle.ep_instance.proofs.givens.check_name.Goals as goal
 

@@ -3,8 +3,8 @@ use Rattle.std.proofs.lemmas.Result.{err_from_is_err_and}
 use Rattle.ep_eval.specs.Known.{env_of}
 use Rattle.ep_tree.specs.Binding.{first_missing}
 use Rattle.ep_types_rules.proofs.RuleSteps.{next_is}
+use Rattle.ep_instance_parts.proofs.Answering.{refuses_first, then_is}
 use Rattle.ep_instance.specs.Steps.{nothing_refused}
-use Rattle.ep_instance.proofs.Answering.{refuses_first, then_is}
 use Rattle.ep_instance.proofs.BindSteps.{next_missing, none_missing}
 use Rattle.std.proofs.Math.ListN.{drop_of_length-le}
 use Rattle.ep_instance.proofs.givens.check_names.Goals as goal

@@ -2,7 +2,7 @@ use Rattle.std.proofs.Common.{ap, ◌∙◌, option_map}
 use Rattle.ep_eval.specs.Known.{env_of}
 use Rattle.ep_eval.specs.Outcomes.{seen_value}
 use Rattle.ep_tree.specs.Views.{expr_tree}
-use Rattle.ep_instance.specs.Instances.{goal_of}
+use Rattle.ep_instance_parts.specs.Instances.{goal_of}
 use Rattle.ep_instance.proofs.JudgingSteps.{goal_missing, goal_stated}
 use Rattle.ep_instance.proofs.judging.judge_objective.Goals as goal
 

@@ -1,7 +1,7 @@
 use Rattle.std.proofs.Common.{◌∙◌, ap}
 use Rattle.ep_eval.specs.Known.{env_of}
 use Rattle.ep_tree.specs.Evaluation.{first_untrue}
-use Rattle.ep_instance.specs.Instances.{plain_instance}
+use Rattle.ep_instance_parts.specs.Instances.{plain_instance}
 use Rattle.ep_instance.proofs.JudgingSteps.{judged_last, judged_violated}
 use Rattle.ep_instance.proofs.judging.judged_in.Goals as goal
 

@@ -1,7 +1,7 @@
 use Rattle.ep_eval.specs.Known.{env_of}
 use Rattle.ep_eval.specs.Outcomes.{seen_value}
 use Rattle.ep_tree.specs.Views.{expr_tree}
-use Rattle.ep_instance.proofs.LimitSteps.{value_counted}
+use Rattle.ep_instance_parts.proofs.LimitSteps.{value_counted}
 use Rattle.ep_instance.proofs.judging.seen_in.Goals as goal
 
 pub returns-in-Ok : goal.returns-in-Ok

@@ -7,10 +7,11 @@ use Rattle.ep_tree.specs.Environments.{has_domain}
 use Rattle.ep_tree.specs.Measures.{met_domain}
 use Rattle.ep_tree.specs.Names.{put}
 use Rattle.ep_tree.specs.Views.{domain_tree}
-use Rattle.ep_instance.specs.Reading.{IsListedShape}
-use Rattle.ep_instance.specs.Refusals.{text_name}
-use Rattle.ep_instance.proofs.Answering.{limit_refuses, refuses_undefined, then_is}
-use Rattle.ep_instance.proofs.BindSteps.{given_some, named_by, named_limits, numbers_typed, stated_undefined, unnamed}
+use Rattle.ep_instance_parts.proofs.Answering.{limit_refuses, refuses_undefined, then_is}
+use Rattle.ep_instance_parts.proofs.ShapeSteps.{given_some}
+use Rattle.ep_instance_parts.specs.Refusals.{text_name}
+use Rattle.ep_instance.specs.Finding.{IsListedShape}
+use Rattle.ep_instance.proofs.BindSteps.{named_by, named_limits, numbers_typed, stated_undefined, unnamed}
 use Rattle.ep_instance.proofs.lettings.bind_domain.Goals as goal
 
 pub returns-in_err-read-clause-known : goal.returns-in_err-read-clause-known

@@ -3,9 +3,9 @@ use Rattle.ep_eval.specs.Known.{env_of}
 use Rattle.ep_tree.specs.Binding.{bind_letting}
 use Rattle.ep_tree.specs.StatementSpelling.{is_letting}
 use Rattle.ep_tree.specs.Views.{statement_kind_tree, statement_tree}
-use Rattle.ep_instance.specs.Refusals.{text_name}
+use Rattle.ep_instance_parts.proofs.Answering.{answers_same}
+use Rattle.ep_instance_parts.specs.Refusals.{text_name}
 use Rattle.ep_instance.specs.Steps.{IsFaultless}
-use Rattle.ep_instance.proofs.Answering.{answers_same}
 use Rattle.ep_instance.proofs.ParamSteps.{domain_faultless, domain_is_letting, letting_tree, named_at, named_tree, other_letting, value_at, value_faultless, value_is_letting}
 use Rattle.ep_instance.proofs.lettings.bind_letting.Goals as goal
 

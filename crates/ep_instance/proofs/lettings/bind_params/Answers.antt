@@ -7,8 +7,8 @@ use Rattle.ep_tree.specs.Binding.{bind_letting, bind_params}
 use Rattle.ep_tree.specs.StatementSpelling.{is_letting}
 use Rattle.ep_tree.specs.Views.{statement_tree}
 use Rattle.ep_types_rules.proofs.RuleSteps.{next_is}
-use Rattle.ep_instance.specs.Refusals.{RefusesBinding, text_name}
-use Rattle.ep_instance.proofs.Answering.{refuses_first, then_is}
+use Rattle.ep_instance_parts.proofs.Answering.{refuses_first, then_is}
+use Rattle.ep_instance_parts.specs.Refusals.{RefusesBinding, text_name}
 use Rattle.ep_instance.proofs.ParamSteps.{Left, left_begin, letting_faultless, letting_left, next_letting, no_letting}
 use Rattle.ep_instance.proofs.lettings.bind_params.Goals as goal
 

@@ -4,7 +4,7 @@ use Rattle.ep_tree.specs.Binding.{bind_params}
 use Rattle.ep_tree.specs.Names.{nothing_known}
 use Rattle.ep_tree.specs.StatementSpelling.{is_letting}
 use Rattle.ep_tree.specs.Views.{statement_tree}
-use Rattle.ep_instance.specs.Refusals.{text_name}
+use Rattle.ep_instance_parts.specs.Refusals.{text_name}
 use Rattle.ep_instance.proofs.ParamSteps.{Left}
 use Rattle.ep_instance.proofs.lettings.bind_params.Given as goal
 

@@ -5,9 +5,9 @@ use Rattle.ep_eval.specs.Outcomes.{seen_value}
 use Rattle.ep_tree.specs.Measures.{met}
 use Rattle.ep_tree.specs.TypedValues.{IsOf}
 use Rattle.ep_tree.specs.Views.{expr_tree, value_tree}
-use Rattle.ep_instance.proofs.Answering.{answers_same, limit_refuses, refuses_undefined}
+use Rattle.ep_instance_parts.proofs.Answering.{answers_same, limit_refuses, refuses_undefined}
+use Rattle.ep_instance_parts.proofs.LimitSteps.{value_counted}
 use Rattle.ep_instance.proofs.BindSteps.{plain_given, plain_undefined, value_is_typed}
-use Rattle.ep_instance.proofs.LimitSteps.{value_counted}
 use Rattle.ep_instance.proofs.lettings.bind_plain.Goals as goal
 
 pub returns-in_err-seen-clause-known : goal.returns-in_err-seen-clause-known

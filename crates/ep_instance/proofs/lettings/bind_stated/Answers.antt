@@ -5,11 +5,12 @@ use Rattle.ep_eval.specs.Outcomes.{seen_value}
 use Rattle.ep_tree.specs.Binding.{undefined_at}
 use Rattle.ep_tree.specs.Measures.{met, met_domain}
 use Rattle.ep_tree.specs.Views.{domain_tree, expr_tree, value_tree}
-use Rattle.ep_instance.specs.Refusals.{text_name}
-use Rattle.ep_instance.specs.Steps.{fitted_said}
-use Rattle.ep_instance.proofs.Answering.{answers_same, limit_refuses, refuses_first, refuses_undefined, then_is}
-use Rattle.ep_instance.proofs.BindSteps.{fits_typed, given_is, given_some, stated_limits, stated_undefined}
-use Rattle.ep_instance.proofs.LimitSteps.{cause_first, cause_next, counted_on, value_counted}
+use Rattle.ep_instance_parts.proofs.Answering.{answers_same, limit_refuses, refuses_first, refuses_undefined, then_is}
+use Rattle.ep_instance_parts.proofs.LimitSteps.{cause_first, cause_next, counted_on, value_counted}
+use Rattle.ep_instance_parts.proofs.ShapeSteps.{given_is, given_some}
+use Rattle.ep_instance_parts.specs.Refusals.{text_name}
+use Rattle.ep_instance_parts.specs.Steps.{fitted_said}
+use Rattle.ep_instance.proofs.BindSteps.{fits_typed, stated_limits, stated_undefined}
 use Rattle.ep_instance.proofs.lettings.bind_stated.Goals as goal
 
 pub returns-in_err-read-clause-known : goal.returns-in_err-read-clause-known

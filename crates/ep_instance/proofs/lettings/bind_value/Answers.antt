@@ -2,8 +2,8 @@ use Rattle.std.proofs.Common.{ap, option_map}
 use Rattle.ep_eval.specs.Known.{env_of}
 use Rattle.ep_tree.specs.Environments.{context_of}
 use Rattle.ep_tree.specs.Views.{domain_tree, expr_tree}
-use Rattle.ep_instance.specs.Refusals.{text_name}
-use Rattle.ep_instance.proofs.Answering.{answers_same}
+use Rattle.ep_instance_parts.proofs.Answering.{answers_same}
+use Rattle.ep_instance_parts.specs.Refusals.{text_name}
 use Rattle.ep_instance.proofs.ParamSteps.{stated_some, value_plain, value_stated}
 use Rattle.ep_instance.proofs.lettings.bind_value.Goals as goal
 

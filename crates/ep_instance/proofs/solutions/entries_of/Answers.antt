@@ -4,7 +4,7 @@ use Rattle.std.proofs.lemmas.List.{map-append}
 use Rattle.ep_eval.specs.Known.{env_of}
 use Rattle.ep_tree.specs.Views.{named_value}
 use Rattle.ep_types_rules.proofs.RuleSteps.{next_is}
-use Rattle.ep_instance.specs.Instances.{find_of}
+use Rattle.ep_instance_parts.specs.Instances.{find_of}
 use Rattle.ep_instance.proofs.ShapingSteps.{EntriesSoFar, entries_begin, entries_end, entries_missing, entries_more}
 use Rattle.ep_instance.proofs.solutions.entries_of.Goals as goal
 

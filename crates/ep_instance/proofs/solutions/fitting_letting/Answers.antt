@@ -2,7 +2,7 @@ use Rattle.std.proofs.Common.{◌∙◌, ap, sym, option_map}
 use Rattle.ep_eval.specs.Bounds.{entry_bound}
 use Rattle.ep_eval.specs.Known.{env_of}
 use Rattle.ep_tree.specs.Views.{value_tree}
-use Rattle.ep_instance.specs.Instances.{find_of}
+use Rattle.ep_instance_parts.specs.Instances.{find_of}
 use Rattle.ep_instance.proofs.BindSteps.{parameter_missing, parameter_there}
 use Rattle.ep_instance.proofs.ShapingSteps.{letting_entry, letting_missing, letting_outside}
 use Rattle.ep_instance.proofs.solutions.fitting_letting.Goals as goal

@@ -2,7 +2,7 @@ use Rattle.std.proofs.Common.{◌∙◌, ◌+◌, ap, sym, refl, map, drop}
 use Rattle.std.proofs.Math.ListN.{drop_of_length-le}
 use Rattle.ep_tree.specs.SolutionTexts.{is_find}
 use Rattle.ep_types_rules.proofs.RuleSteps.{next_is}
-use Rattle.ep_instance.specs.Instances.{find_of}
+use Rattle.ep_instance_parts.specs.Instances.{find_of}
 use Rattle.ep_instance.proofs.ShapingSteps.{find_here, find_later, find_nowhere}
 use Rattle.ep_instance.proofs.solutions.is_find.Goals as goal
 

@@ -5,8 +5,8 @@ use Rattle.ep_eval.specs.Known.{env_of}
 use Rattle.ep_tree.specs.Faults.{lettings_of, text_faults}
 use Rattle.ep_tree.specs.SolutionTexts.{shaped_by}
 use Rattle.ep_types.specs.Texts.{typed_params_tree}
-use Rattle.ep_instance.specs.Instances.{find_of, plain_instance, instance_mode}
-use Rattle.ep_instance.proofs.Answering.{refuses_first, then_is}
+use Rattle.ep_instance_parts.proofs.Answering.{refuses_first, then_is}
+use Rattle.ep_instance_parts.specs.Instances.{find_of, plain_instance, instance_mode}
 use Rattle.ep_instance.proofs.ProgressSteps.{params_faultless, params_given}
 use Rattle.ep_instance.proofs.ShapingSteps.{read_text, shape_same}
 use Rattle.ep_instance.proofs.solutions.read_assignment.Goals as goal
@@ -23,7 +23,7 @@ returns-in_err-known-clause-answer c =
     let same = params_given c.into_params-params.result c.deref.result.now _ c.into_params-params.ensures.same c.deref.ensures.value in
     let p = err_from_is_err_and c.from_residual.result c.from_residual.ensures.1 in
     rw (p.1, p.2)
-    (refuses_first _ _ _ _ (read_text (instance_mode c.args.instance.now) _ i text _ c.mode-mode.ensures.mode same) c.in_err-known.ensures.known)
+    (refuses_first _ _ _ _ (read_text (instance_mode c.args.instance.now) _ i text _ (c.mode-mode.ensures.mode ∙ ap (λ e. e.mode) c.env.ensures) same) c.in_err-known.ensures.known)
 
 pub returns-clause-answer : goal.returns-clause-answer
 returns-clause-answer c =
@@ -33,7 +33,7 @@ returns-clause-answer c =
     let same = params_given c.into_params-params.result c.deref.result.now _ c.into_params-params.ensures.same c.deref.ensures.value in
     let again = params_given c.into_params-params.result c.deref-2.result.now _ c.into_params-params.ensures.same c.deref-2.ensures.value in
     shape_same (Ok c.in_ok-shaped.shaped) _ _
-    (then_is _ _ _ _ (read_text (instance_mode c.args.instance.now) _ i text _ c.mode-mode.ensures.mode same) c.in_ok-known.ensures.known
+    (then_is _ _ _ _ (read_text (instance_mode c.args.instance.now) _ i text _ (c.mode-mode.ensures.mode ∙ ap (λ e. e.mode) c.env.ensures) same) c.in_ok-known.ensures.known
     ∙ ap (λ fs. Ok (shaped_by fs known text)) (sym c.finds-finds.ensures)
     ∙ ap (λ t. Ok (shaped_by (map find_of c.finds-finds.result.now) known t)) (sym again))
     c.in_ok-shaped.ensures.shape

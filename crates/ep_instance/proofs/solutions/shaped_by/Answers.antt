@@ -2,7 +2,7 @@ use Rattle.std.proofs.Common.{sym, subst, map}
 use Rattle.ep_eval.specs.Known.{env_of}
 use Rattle.ep_tree.specs.SolutionTexts.{letting_names, strangers}
 use Rattle.ep_tree.specs.Views.{statement_tree}
-use Rattle.ep_instance.specs.Instances.{find_of}
+use Rattle.ep_instance_parts.specs.Instances.{find_of}
 use Rattle.ep_instance.specs.Shaping.{GivesEntries, GivesOneOf}
 use Rattle.ep_instance.proofs.ShapingSteps.{shape_fits, shape_given, shape_strange}
 use Rattle.ep_instance.proofs.solutions.shaped_by.Goals as goal

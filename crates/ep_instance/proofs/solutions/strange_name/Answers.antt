@@ -1,6 +1,6 @@
 use Rattle.std.proofs.Common.{◌∙◌, ap, sym, map, option_map}
 use Rattle.ep_tree.specs.Views.{statement_tree}
-use Rattle.ep_instance.specs.Instances.{find_of}
+use Rattle.ep_instance_parts.specs.Instances.{find_of}
 use Rattle.ep_instance.specs.Shaping.{letting_name}
 use Rattle.ep_instance.proofs.ShapingSteps.{strange_find, strange_none, strange_other}
 use Rattle.ep_instance.proofs.solutions.strange_name.Goals as goal

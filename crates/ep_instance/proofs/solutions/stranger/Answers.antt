@@ -4,7 +4,7 @@ use Rattle.std.proofs.Math.ListN.{drop_of_length-le}
 use Rattle.ep_tree.specs.SolutionTexts.{letting_names, strangers}
 use Rattle.ep_tree.specs.Views.{statement_tree}
 use Rattle.ep_types_rules.proofs.RuleSteps.{next_is}
-use Rattle.ep_instance.specs.Instances.{find_of}
+use Rattle.ep_instance_parts.specs.Instances.{find_of}
 use Rattle.ep_instance.proofs.ShapingSteps.{next_strange, no_stranger, stranger_first}
 use Rattle.ep_instance.proofs.solutions.stranger.Goals as goal
 

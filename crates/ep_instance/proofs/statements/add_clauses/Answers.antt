@@ -11,4 +11,4 @@ unfolding now_with with_clauses
 returns-clause-progress c =
     let at = progress_of c.args.at.now in
     ap (λ es. Ok (now_with at (record (at.instance) { clauses = es })))
-    (sym (map-append expr_tree c.args.at.now.instance.clauses.items c.args.clauses.items) ∙ ap (map expr_tree) (sym c.in_ok-append.ensures.items))
+    (sym (map-append expr_tree c.args.at.now.clauses.items c.args.clauses.items) ∙ ap (map expr_tree) (sym c.in_ok-append.ensures.items))

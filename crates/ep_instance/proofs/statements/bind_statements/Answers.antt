@@ -4,10 +4,11 @@ use Rattle.std.specs.Vec.Iter.{into_iter_items}
 use Rattle.std.proofs.lemmas.Result.{err_from_is_err_and}
 use Rattle.ep_eval.specs.Known.{env_of}
 use Rattle.ep_tree.specs.Binding.{Progress, bind_statement, bind_statements, nothing_bound}
+use Rattle.ep_tree.specs.Closed.{IsClosed}
 use Rattle.ep_tree.specs.Views.{statement_tree}
+use Rattle.ep_instance_parts.proofs.Answering.{refuses_first, then_is}
+use Rattle.ep_instance_parts.specs.Refusals.{RefusesBinding}
 use Rattle.ep_instance.specs.Progressing.{progress_of}
-use Rattle.ep_instance.specs.Refusals.{RefusesBinding}
-use Rattle.ep_instance.proofs.Answering.{refuses_first, then_is}
 use Rattle.ep_instance.proofs.ProgressSteps.{Remains, begins, nothing_left, next_statement, no_statement, remains_begin, remains_faultless, remains_next}
 use Rattle.ep_instance.proofs.statements.bind_statements.Goals as goal
 
@@ -58,7 +59,7 @@ returns-in_err-bind_statement-clause-instance c =
     (subst (λ m. RefusesBinding c.in_err-bind_statement.field-0.0 (bind_statement m params at s)) c.loop-statement.invariant.0 c.in_err-bind_statement.ensures.progress)))
 
 pub returns-clause-mode : goal.returns-clause-mode
-returns-clause-mode c = c.loop-statement.invariant.0
+returns-clause-mode c = ap (λ e. e.mode) c.new-instance.ensures.env ∙ c.loop-statement.invariant.0
 
 pub returns-clause-instance : goal.returns-clause-instance
 returns-clause-instance c =
@@ -66,6 +67,7 @@ returns-clause-instance c =
     let params = env_of c.args.params.now in
     then_is _ _ _ _ refl
     (c.loop-statement.invariant.1 ∙ ap (λ ss. bind_statements c.args.mode params at (map statement_tree ss)) (nothing_left _ (sym c.loop-statement.invariant.3 ∙ c.in-None.ensures.steps.0)) ∙ no_statement c.args.mode params at)
+    ∙ ap Ok (sym c.new-instance.ensures.same)
 
 pub returns-clause-closed : goal.returns-clause-closed
-returns-clause-closed c = c.loop-statement.invariant.2.ready.closed
+returns-clause-closed c = subst IsClosed (sym c.new-instance.ensures.same) c.loop-statement.invariant.2.ready.closed

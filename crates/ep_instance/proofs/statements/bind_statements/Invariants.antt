@@ -9,7 +9,7 @@ use Rattle.ep_instance.proofs.statements.bind_statements.Given as goal
 
 abbrev pub invariant-loop-statement : goal.invariant-loop-statement
 invariant-loop-statement l =
-    (l.at.instance.env.mode ≡ l.fn.mode)
+    (l.at.env.mode ≡ l.fn.mode)
     × (bind_statements l.fn.mode (env_of l.params) nothing_bound (map statement_tree l.fn.statements.items)
     ≡ bind_statements l.fn.mode (env_of l.params) (progress_of l.at) (map statement_tree (into_iter_items l.statement-iterator)))
     × Remains (progress_of l.at).instance (map statement_tree (into_iter_items l.statement-iterator))

@@ -1,7 +1,7 @@
 use Rattle.std.proofs.Common.{◌∙◌, ap, sym, map, option_map}
 use Rattle.ep_eval.specs.Known.{env_of}
 use Rattle.ep_tree.specs.Views.{named_value, value_tree}
-use Rattle.ep_instance.specs.Instances.{find_of}
+use Rattle.ep_instance_parts.specs.Instances.{find_of}
 use Rattle.ep_instance.proofs.AssigningSteps.{at_error, find_given, find_set, find_typed}
 use Rattle.ep_instance.proofs.values.set_find.Goals as goal
 

@@ -2,8 +2,8 @@ use Rattle.std.proofs.Common.{◌∙◌, ◌-◌, ap, refl, sym, subst, map, ari
 use Rattle.std.proofs.Math.ListN.{drop_of_length-le}
 use Rattle.ep_eval.specs.Known.{env_of}
 use Rattle.ep_tree.specs.Views.{named_value}
+use Rattle.ep_instance_parts.specs.Instances.{find_of}
 use Rattle.ep_instance.specs.Assigning.{IsUnder}
-use Rattle.ep_instance.specs.Instances.{find_of}
 use Rattle.ep_instance.proofs.AssigningSteps.{under_end, under_none, under_step, values_at}
 use Rattle.ep_instance.proofs.JudgingSteps.{some_elsewhere}
 use Rattle.ep_instance.proofs.values.set_finds.Goals as goal

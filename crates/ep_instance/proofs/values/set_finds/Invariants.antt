@@ -1,8 +1,8 @@
 use Rattle.std.proofs.Common.{◌≡◌, ◌≤◌, drop, length, map}
 use Rattle.ep_eval.specs.Known.{env_of}
 use Rattle.ep_tree.specs.Views.{named_value}
+use Rattle.ep_instance_parts.specs.Instances.{find_of}
 use Rattle.ep_instance.specs.Assigning.{IsUnder}
-use Rattle.ep_instance.specs.Instances.{find_of}
 use Rattle.ep_instance.proofs.values.set_finds.Given as goal
 
 abbrev pub invariant-loop-left : goal.invariant-loop-left

@@ -1,7 +1,7 @@
 use Rattle.ep_tree.specs.Heights.{height}
 use Rattle.ep_tree.specs.Spelling.{Spells, implications}
 use Rattle.std.specs.Prelude.{drop}
-use Rattle.ep_parse_expr.proofs.AgainAll.{one_expr}
+use Rattle.ep_parse_parts.proofs.AgainAll.{one_expr}
 use Rattle.ep_parse_expr.proofs.Answering.{outcome_expr}
 use Rattle.ep_parse_expr.proofs.OneOutcome.{counted_on, fault_not_high, fault_once, high_once, read_no_fault, read_not_high, read_once}
 use Rattle.ep_parse_expr.proofs.laws.an_expression_has_one_outcome.Goals as goal

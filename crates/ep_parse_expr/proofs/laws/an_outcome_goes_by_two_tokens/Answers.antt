@@ -1,6 +1,6 @@
 use Rattle.ep_tree.specs.Heights.{domain_height, height}
 use Rattle.ep_tree.specs.Spelling.{Spells, SpellsDomain, domains, implications}
-use Rattle.ep_parse_expr.proofs.AgainAll.{one_domain, one_expr}
+use Rattle.ep_parse_parts.proofs.AgainAll.{one_domain, one_expr}
 use Rattle.ep_parse_expr.proofs.Answering.{list_outcome_domain, list_outcome_expr}
 use Rattle.ep_parse_expr.proofs.OneOutcome.{fault_by_two, high_by_two, read_by_two}
 use Rattle.ep_parse_expr.proofs.laws.an_outcome_goes_by_two_tokens.Goals as goal

@@ -1,4 +1,4 @@
-use Rattle.ep_parse_expr.proofs.AgainAll.{one_domain, one_expr}
+use Rattle.ep_parse_parts.proofs.AgainAll.{one_domain, one_expr}
 use Rattle.ep_parse_expr.proofs.laws.tokens_spell_one_tree.Goals as goal
 
 pub returns-clause-expressions : goal.returns-clause-expressions

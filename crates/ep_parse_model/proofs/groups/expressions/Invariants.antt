@@ -1,6 +1,6 @@
 -- What was read so far, and what is still read, are all that is read.
 use Rattle.std.proofs.Common.{◌≡◌, length, map}
-use Rattle.ep_parse_expr.proofs.NameTurns.{continued}
+use Rattle.ep_parse_parts.proofs.NameTurns.{continued}
 use Rattle.ep_parse_model.proofs.groups.expressions.Given as goal
 use Rattle.ep_parse_model.specs.TextReaders.{expressions_from, full}
 use Rattle.ep_tree.specs.Views.{expr_tree}

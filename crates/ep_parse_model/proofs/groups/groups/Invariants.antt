@@ -1,6 +1,6 @@
 -- What was read so far, and what is still read, are all that is read.
 use Rattle.std.proofs.Common.{◌≡◌, length, map}
-use Rattle.ep_parse_expr.proofs.NameTurns.{continued}
+use Rattle.ep_parse_parts.proofs.NameTurns.{continued}
 use Rattle.ep_parse_model.proofs.groups.groups.Given as goal
 use Rattle.ep_parse_model.specs.TextReaders.{full, groups_from}
 use Rattle.ep_tree.specs.Views.{group_of}

@@ -1,6 +1,6 @@
 -- What was read so far, and what is still read, are all that is read.
 use Rattle.std.proofs.Common.{◌≡◌, length}
-use Rattle.ep_parse_expr.proofs.NameTurns.{continued}
+use Rattle.ep_parse_parts.proofs.NameTurns.{continued}
 use Rattle.ep_parse_model.proofs.groups.placed_names.Given as goal
 use Rattle.ep_parse_model.specs.TextReaders.{placed_names_from}
 

@@ -6,8 +6,9 @@ use Rattle.ep_ground.specs.Bounds.{node_reach, reach_at}
 use Rattle.ep_ground.specs.GroundViews.{plain_ground}
 use Rattle.ep_ground.specs.NodeViews.{plain_node}
 use Rattle.ep_ground.specs.declared.cells.Cell.{Cell}
-use Rattle.ep_reach.specs.Reaching.{IsToldAt, interval_of, intervals_of}
-use Rattle.ep_reach.specs.declared.intervals.Span.{Span}
+use Rattle.ep_numbers.specs.Spans.{interval_of, intervals_of}
+use Rattle.ep_reach.specs.Reaching.{IsToldAt}
+use Rattle.ep_numbers.specs.declared.spans.Span.{Span}
 use Rattle.ep_reach.proofs.Reaching.{bounded_all, bounded_more, bounded_none, pushed_intervals}
 use Rattle.ep_reach.proofs.Telling.{told_at}
 use Rattle.ep_reach.proofs.checks.is_bounded.Goals as goal

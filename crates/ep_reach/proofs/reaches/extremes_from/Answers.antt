@@ -3,8 +3,8 @@ use Rattle.std.specs.Int.{int_max, int_min}
 use Rattle.std.proofs.lemmas.Int.{to_z-of_z}
 use Rattle.ep_base.specs.Intervals.{Interval}
 use Rattle.ep_ground.specs.Bounds.{reach_at}
-use Rattle.ep_reach.specs.Reaching.{intervals_of}
-use Rattle.ep_reach.proofs.Ends.{begun, fold_all, fold_more}
+use Rattle.ep_numbers.specs.Spans.{intervals_of}
+use Rattle.ep_numbers.proofs.Ends.{begun, fold_all, fold_more}
 use Rattle.ep_reach.proofs.reaches.extremes_from.Goals as goal
 
 pub loop-term-init : goal.loop-term-init

@@ -2,7 +2,7 @@ use Rattle.std.proofs.Common.{◌≡◌, drop}
 use Rattle.std.specs.Prelude.{fold}
 use Rattle.std.specs.Int.{int_max, int_min}
 use Rattle.ep_ground.specs.Bounds.{reach_at}
-use Rattle.ep_reach.specs.Reaching.{intervals_of}
+use Rattle.ep_numbers.specs.Spans.{intervals_of}
 use Rattle.ep_reach.proofs.reaches.extremes_from.Given as goal
 
 abbrev pub invariant-loop-term : goal.invariant-loop-term

@@ -1,8 +1,8 @@
 use Rattle.std.proofs.Common.{ap}
 use Rattle.ep_base.specs.Intervals.{Interval}
 use Rattle.ep_ground.specs.Bounds.{reach_at}
-use Rattle.ep_reach.specs.Reaching.{intervals_of}
-use Rattle.ep_reach.proofs.Ends.{greatest_high, greatest_low, greatest_none, least_high, least_low, least_none}
+use Rattle.ep_numbers.specs.Spans.{intervals_of}
+use Rattle.ep_numbers.proofs.Ends.{greatest_high, greatest_low, greatest_none, least_high, least_low, least_none}
 use Rattle.ep_reach.proofs.reaches.extremes_of.Goals as goal
 
 pub returns-in-Some-clause-least_low : goal.returns-in-Some-clause-least_low

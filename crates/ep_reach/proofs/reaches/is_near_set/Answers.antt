@@ -1,7 +1,8 @@
 use Rattle.std.proofs.Common.{sym, ◌∙◌}
-use Rattle.ep_reach.specs.Reaching.{interval_of, wide_interval}
-use Rattle.ep_reach.proofs.Reaching.{if_there_both, near_all}
-use Rattle.ep_reach.proofs.Telling.{near_span}
+use Rattle.ep_numbers.specs.Spans.{interval_of, wide_interval}
+use Rattle.ep_numbers.proofs.Ends.{near_all}
+use Rattle.ep_reach.proofs.Reaching.{if_there_both}
+use Rattle.ep_numbers.proofs.Ends.{near_span}
 use Rattle.ep_reach.proofs.reaches.is_near_set.Goals as goal
 
 pub returns-clause-sound : goal.returns-clause-sound

@@ -1,5 +1,5 @@
 use Rattle.std.proofs.Common.{subst, sym, ◌∙◌}
-use Rattle.ep_ground.specs.Bounds.{IsWithinReach}
+use Rattle.ep_base.specs.Intervals.{IsWithinReach}
 use Rattle.ep_reach.proofs.Reaching.{if_some_so}
 use Rattle.ep_reach.proofs.reaches.near_reach.Goals as goal
 

@@ -1,6 +1,5 @@
 use Rattle.std.proofs.Common.{ap, subst, sym, ◌∙◌}
-use Rattle.ep_base.specs.Intervals.{nth_power_interval}
-use Rattle.ep_ground.specs.Bounds.{IsWithinReach}
+use Rattle.ep_base.specs.Intervals.{IsWithinReach, nth_power_interval}
 use Rattle.ep_reach.proofs.Reaching.{if_some_so}
 use Rattle.ep_reach.proofs.reaches.power_of_term.Goals as goal
 

@@ -1,11 +1,12 @@
 use Rattle.std.proofs.Common.{rules, ◌∷◌, ap, subst, sym, ◌∙◌, w64}
 use Rattle.std.specs.Prelude.{map}
 use Rattle.std.proofs.lemmas.Int.{to_z-of_z}
-use Rattle.ep_base.specs.Intervals.{only, sum_interval}
-use Rattle.ep_ground.specs.Bounds.{node_reach, reach_at, scaled}
+use Rattle.ep_base.specs.Intervals.{only, scaled, sum_interval}
+use Rattle.ep_ground.specs.Bounds.{node_reach, reach_at}
 use Rattle.ep_ground.specs.NodeViews.{plain_node}
 use Rattle.ep_ground.specs.Nodes.{sum}
-use Rattle.ep_reach.specs.Reaching.{IsToldAt, intervals_of}
+use Rattle.ep_numbers.specs.Spans.{intervals_of}
+use Rattle.ep_reach.specs.Reaching.{IsToldAt}
 use Rattle.ep_reach.proofs.Reaching.{if_some_so}
 use Rattle.ep_reach.proofs.Telling.{told_power, told_sum}
 use Rattle.ep_reach.proofs.reaches.reach_of.Goals as goal

@@ -1,13 +1,13 @@
 use Rattle.std.proofs.Common.{◌+◌, arith, rules, subst, sym, ap, ◌∙◌, ◌≡◌, w64}
 use Rattle.std.specs.Prelude.{◌+ℤ◌}
 use Rattle.std.proofs.lemmas.Int.{to_z-of_z}
-use Rattle.ep_base.specs.Intervals.{Interval}
-use Rattle.ep_ground.specs.Bounds.{scaled}
+use Rattle.ep_base.specs.Intervals.{Interval, scaled}
 use Rattle.ep_ground.specs.Bounds.{reach_at}
-use Rattle.ep_reach.specs.Reaching.{intervals_of, wide_interval}
+use Rattle.ep_numbers.specs.Spans.{intervals_of, wide_interval}
 use Rattle.ep_base.specs.Reads.{IsWithinNumbers}
 use Rattle.ep_reach.proofs.Telling.{SumWithin, mapped_at, reach_near, scaled_small, sum_begun, sum_wide, sum_within_more}
-use Rattle.ep_reach.proofs.Ends.{begun, fold_all, fold_more, summed}
+use Rattle.ep_numbers.proofs.Ends.{begun, fold_all, fold_more}
+use Rattle.ep_reach.proofs.Ends.{summed}
 use Rattle.ep_reach.proofs.reaches.sum_of_terms.Goals as goal
 
 pub loop-part-init : goal.loop-part-init

@@ -1,9 +1,10 @@
 use Rattle.std.proofs.Common.{◌≡◌, drop}
 use Rattle.std.specs.Prelude.{fold, ◌+ℤ◌}
+use Rattle.ep_base.specs.Intervals.{scaled}
 use Rattle.ep_ground.specs.Bounds.{reach_at}
-use Rattle.ep_reach.specs.Reaching.{HasNearParts, intervals_of}
+use Rattle.ep_numbers.specs.Spans.{intervals_of}
+use Rattle.ep_reach.specs.Reaching.{HasNearParts}
 use Rattle.ep_reach.proofs.Telling.{SumWithin}
-use Rattle.ep_ground.specs.Bounds.{scaled}
 use Rattle.ep_reach.proofs.reaches.sum_of_terms.Given as goal
 
 abbrev pub invariant-loop-part : goal.invariant-loop-part

@@ -1,7 +1,7 @@
 use Rattle.std.proofs.Common.{subst, sym, refl, ◌∙◌, Ok}
 use Rattle.ep_base.specs.Intervals.{farthest_end}
 use Rattle.ep_base.specs.Numbers.{absolute_of}
-use Rattle.ep_tree.specs.Limits.{is_too_far}
+use Rattle.ep_base.specs.Reads.{is_too_far}
 use Rattle.ep_tree.specs.Reach.{binary_span, wide_span}
 use Rattle.ep_size.specs.Extents.{plain_span}
 use Rattle.ep_size.specs.Finishing.{Gives}

@@ -5,7 +5,7 @@ use Rattle.ep_tree.specs.Measures.{index_width}
 use Rattle.ep_size.proofs.Caps.{product_kept}
 use Rattle.ep_size.proofs.HullSteps.{read_none, read_some}
 use Rattle.ep_size.specs.Extents.{plain_span}
-use Rattle.ep_size.specs.Spans.{interval_of}
+use Rattle.ep_numbers.specs.Spans.{interval_of}
 use Rattle.ep_size.specs.Totals.{capped}
 use Rattle.ep_size.proofs.hulls.read_weight.Goals as goal
 

@@ -1,36 +1,15 @@
-use Rattle.std.proofs.Common.{refl, sym, ap, ◌∙◌, ◌≡◌, arith, w64, to_z, of_z}
-use Rattle.std.proofs.lemmas.Int.{ints, to_z-of_z}
-use Rattle.std.specs.Int.{w128}
-use Rattle.ep_base.specs.Intervals.{from_to}
-use Rattle.ep_tree.specs.Limits.{is_too_far}
-use Rattle.ep_eval.proofs.Reaches.{near_fits}
-use Rattle.ep_size.proofs.EndSteps.{far_ends, first_near, second_near}
+use Rattle.std.proofs.Common.{refl, sym, ap, subst, ◌∙◌, ◌≡◌}
+use Rattle.std.specs.Prelude.{IfSome}
+use Rattle.ep_base.specs.Intervals.{farthest_end}
+use Rattle.ep_base.specs.Reads.{is_too_far}
+use Rattle.ep_numbers.proofs.Ends.{reach_near, untold_reach}
+use Rattle.ep_numbers.specs.Spans.{interval_of, wide_interval}
 use Rattle.ep_size.proofs.intervals.near.Goals as goal
 
-pub returns-then-reaches_far : goal.returns-then-reaches_far
-returns-then-reaches_far c = (refl, sym c.reaches_far.ensures ∙ c.if-reaches_far.true)
+pub returns-in-Some : goal.returns-in-Some
+returns-in-Some c =
+    let same : interval_of c.in-Some.span ≡ wide_interval c.args.wide = c.in-Some.ensures.same in
+    (same, ap (λ i. is_too_far (farthest_end i)) (sym same) ∙ reach_near (interval_of c.in-Some.span) c.in-Some.ensures.near)
 
-pub overflow_cast-result : goal.overflow_cast-result
-overflow_cast-result c =
-    let a = c.args.ends.low in
-    let b = c.args.ends.high in
-    let both = sym (far_ends a b) ∙ sym c.reaches_far.ensures ∙ c.if-reaches_far.false in
-    near_fits (to_z w128 (of_z w128 a)) (ap is_too_far (to_z-of_z w128 a (omega (arith, ints))) ∙ first_near (is_too_far a) (is_too_far b) both)
-
-pub overflow_cast-result-2 : goal.overflow_cast-result-2
-overflow_cast-result-2 c =
-    let a = c.args.ends.low in
-    let b = c.args.ends.high in
-    let both = sym (far_ends a b) ∙ sym c.reaches_far.ensures ∙ c.if-reaches_far.false in
-    near_fits (to_z w128 (of_z w128 b)) (ap is_too_far (to_z-of_z w128 b (omega (arith, ints))) ∙ second_near (is_too_far a) (is_too_far b) both)
-
-pub returns : goal.returns
-returns c =
-    let a = c.args.ends.low in
-    let b = c.args.ends.high in
-    let both = sym (far_ends a b) ∙ sym c.reaches_far.ensures ∙ c.if-reaches_far.false in
-    let low : to_z w64 (of_z w64 (to_z w128 (of_z w128 a))) ≡ a =
-    ap (λ x. to_z w64 (of_z w64 x)) (to_z-of_z w128 a (omega (arith, ints))) ∙ to_z-of_z w64 a (near_fits a (first_near (is_too_far a) (is_too_far b) both)) in
-    let high : to_z w64 (of_z w64 (to_z w128 (of_z w128 b))) ≡ b =
-    ap (λ x. to_z w64 (of_z w64 x)) (to_z-of_z w128 b (omega (arith, ints))) ∙ to_z-of_z w64 b (near_fits b (second_near (is_too_far a) (is_too_far b) both)) in
-    (ap (λ n. from_to n (to_z w64 (of_z w64 (to_z w128 (of_z w128 b))))) low ∙ ap (from_to a) high, sym c.reaches_far.ensures ∙ c.if-reaches_far.false)
+pub returns-in-None : goal.returns-in-None
+returns-in-None c = (refl, untold_reach c.near.result (wide_interval c.args.wide) c.near.ensures.told c.in-None.is)

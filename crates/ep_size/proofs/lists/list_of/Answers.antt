@@ -1,7 +1,7 @@
 use Rattle.std.proofs.Common.{◌∷◌, ◌++◌, [], ◌+◌, pos, ℕ, map, sym, ap, ◌∙◌, arith}
 use Rattle.std.proofs.lemmas.Int.{ints}
 use Rattle.ep_base.specs.Runs.{counting}
-use Rattle.ep_eval.proofs.ListLaws.{counting_more}
+use Rattle.ep_numbers.proofs.Counting.{counting_more}
 use Rattle.ep_size.proofs.ListNodes.{list_all, list_more}
 use Rattle.ep_size.specs.Extents.{grid_of}
 use Rattle.ep_size.proofs.lists.list_of.Goals as goal

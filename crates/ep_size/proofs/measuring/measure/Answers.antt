@@ -2,7 +2,7 @@ use Rattle.std.proofs.Common.{◌≡◌, ap, subst, sym, ◌∙◌, arith}
 use Rattle.std.specs.Prelude.{map, option_map, option_to_list}
 use Rattle.std.proofs.lemmas.Result.{err_from_is_err_and}
 use Rattle.ep_eval.specs.Known.{env_of}
-use Rattle.ep_instance.specs.Instances.{goal_of, plain_instance, instance_mode}
+use Rattle.ep_instance_parts.specs.Instances.{goal_of, plain_instance, instance_mode}
 use Rattle.ep_tree.specs.Binding.{met_in}
 use Rattle.ep_tree.specs.Names.{put_all}
 use Rattle.ep_tree.specs.Solutions.{cells_bound, limits_passed, met_instance}

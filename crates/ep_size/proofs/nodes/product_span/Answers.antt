@@ -1,11 +1,12 @@
 use Rattle.std.proofs.Common.{ap, subst, sym, ◌∙◌}
 use Rattle.std.specs.Prelude.{if◌then◌else◌}
 use Rattle.ep_base.specs.Intervals.{farthest_end}
-use Rattle.ep_tree.specs.Limits.{is_too_far}
+use Rattle.ep_base.specs.Reads.{is_too_far}
 use Rattle.ep_tree.specs.Reach.{product_span, wide_span, with_spread}
 use Rattle.ep_size.proofs.NodeSteps.{err_gives, product_reach}
 use Rattle.ep_size.specs.Extents.{plain_span}
-use Rattle.ep_size.specs.Spans.{Keeps, wide_of}
+use Rattle.ep_numbers.specs.Spans.{wide_interval}
+use Rattle.ep_size.specs.Spans.{Keeps}
 use Rattle.ep_size.proofs.nodes.product_span.Goals as goal
 
 pub returns-in-Ok : goal.returns-in-Ok
@@ -13,7 +14,7 @@ unfolding product_span
 returns-in-Ok c =
     let x = c.args.x in
     let y = c.args.y in
-    let k = subst (Keeps (wide_of c.product.result)) c.in-Ok.is c.near.ensures in (
+    let k = subst (Keeps (wide_interval c.product.result)) c.in-Ok.is c.near.ensures in (
       c.spread_of.ensures
           ∙ ap (λ i. if x.decided then (if y.decided then wide_span i else with_spread x.spread (wide_span i)) else with_spread y.spread (wide_span i))
           (k.0 ∙ c.product.ensures),
@@ -22,5 +23,5 @@ returns-in-Ok c =
 
 pub returns-in-Err : goal.returns-in-Err
 returns-in-Err c =
-    err_gives (product_span (plain_span c.args.x) (plain_span c.args.y)) (wide_of c.product.result) c.in-Err.refused
-    (product_reach (plain_span c.args.x) (plain_span c.args.y) ∙ sym c.product.ensures) (subst (Keeps (wide_of c.product.result)) c.in-Err.is c.near.ensures)
+    err_gives (product_span (plain_span c.args.x) (plain_span c.args.y)) (wide_interval c.product.result) c.in-Err.refused
+    (product_reach (plain_span c.args.x) (plain_span c.args.y) ∙ sym c.product.ensures) (subst (Keeps (wide_interval c.product.result)) c.in-Err.is c.near.ensures)

@@ -4,7 +4,7 @@ use Rattle.ep_base.specs.Intervals.{power_interval}
 use Rattle.ep_tree.specs.Reach.{wide_span}
 use Rattle.ep_size.proofs.PowerParts.{gives_undefined, no_power, stated_is}
 use Rattle.ep_size.specs.Finishing.{Gives}
-use Rattle.ep_size.specs.Spans.{interval_of}
+use Rattle.ep_numbers.specs.Spans.{interval_of}
 use Rattle.ep_size.specs.declared.reading.Indexed.TheVariants.{Stated}
 use Rattle.ep_size.proofs.powers.power.Goals as goal
 

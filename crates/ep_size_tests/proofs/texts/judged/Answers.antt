@@ -1,4 +1,4 @@
-use Rattle.ep_instance.specs.Instances.{plain_instance, instance_mode}
+use Rattle.ep_instance_parts.specs.Instances.{plain_instance, instance_mode}
 use Rattle.ep_size_tests.proofs.texts.judged.Goals as goal
 
 pub is_solution-requires-clause-small : goal.is_solution-requires-clause-small

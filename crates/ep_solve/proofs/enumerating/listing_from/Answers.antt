@@ -1,6 +1,6 @@
 use Rattle.std.proofs.Common.{◌≡◌, ◌∙◌, ℤ, List, map, ap}
 use Rattle.std.proofs.lemmas.List.{take_all}
-use Rattle.ep_instance.specs.Instances.{find_of}
+use Rattle.ep_instance_parts.specs.Instances.{find_of}
 use Rattle.ep_print.specs.Listings.{EndTree, ListingTree, end_tree, listing_tree}
 use Rattle.ep_tree.specs.Binding.{Find}
 use Rattle.ep_tree.specs.Solutions.{Assigned}

@@ -1,5 +1,5 @@
 use Rattle.std.proofs.Common.{◌≡◌, map, take}
-use Rattle.ep_instance.specs.Instances.{find_of}
+use Rattle.ep_instance_parts.specs.Instances.{find_of}
 use Rattle.ep_tree.specs.Views.{assigned}
 use Rattle.ep_solve.specs.Reading.{assignment_from}
 use Rattle.ep_solve.proofs.enumerating.listing_from.Given as goal

@@ -2,7 +2,7 @@ use Rattle.std.proofs.Common.{◌∙◌, length}
 use Rattle.ep_flat.specs.FlatViews.{plain_map}
 use Rattle.ep_ground.specs.GroundViews.{plain_ground}
 use Rattle.ep_ground.specs.Grounds.{GroundState}
-use Rattle.ep_instance.specs.Instances.{plain_instance, instance_mode}
+use Rattle.ep_instance_parts.specs.Instances.{plain_instance, instance_mode}
 use Rattle.ep_tree.specs.Binding.{Instance}
 use Rattle.ep_tree.specs.declared.values.Mode.{Mode}
 use Rattle.ep_solve.proofs.Judged.{SpeaksFor}

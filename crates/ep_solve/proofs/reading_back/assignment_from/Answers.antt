@@ -1,7 +1,7 @@
 use Rattle.std.proofs.Common.{◌≡◌, ◌∙◌, ◌+◌, ◌++◌, ◌∷◌, ℕ, ℤ, List, drop, map, sym, ap}
 use Rattle.std.proofs.lemmas.List.{drop_all, drop_more}
-use Rattle.ep_instance.specs.Instances.{find_of}
-use Rattle.ep_instance.specs.declared.instances.Find.{Find}
+use Rattle.ep_instance_parts.specs.Instances.{find_of}
+use Rattle.ep_instance_parts.specs.declared.instances.Find.{Find}
 use Rattle.ep_tree.specs.Views.{named_value}
 use Rattle.ep_tree.specs.declared.values.Entry.{Entry}
 use Rattle.ep_solve.specs.Reading.{assignment_from, value_from}

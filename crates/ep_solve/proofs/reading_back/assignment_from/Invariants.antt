@@ -1,5 +1,5 @@
 use Rattle.std.proofs.Common.{◌≡◌, ◌++◌, drop, map}
-use Rattle.ep_instance.specs.Instances.{find_of}
+use Rattle.ep_instance_parts.specs.Instances.{find_of}
 use Rattle.ep_tree.specs.Views.{named_value}
 use Rattle.ep_solve.specs.Reading.{assignment_from}
 use Rattle.ep_solve.proofs.reading_back.assignment_from.Given as goal

@@ -4,7 +4,7 @@ use Rattle.ep_answer.specs.AnswerViews.{plain_answer, plain_problem}
 use Rattle.ep_flat.specs.Flats.{StandForCells}
 use Rattle.ep_flat.specs.FlatViews.{plain_map}
 use Rattle.ep_ground.specs.declared.cells.Cell.{Cell}
-use Rattle.ep_instance.specs.Instances.{find_of, plain_instance, instance_mode}
+use Rattle.ep_instance_parts.specs.Instances.{find_of, plain_instance, instance_mode}
 use Rattle.ep_print.specs.Answers.{HasTypedValues, answer_tree}
 use Rattle.ep_solve.specs.Reading.{answer_from}
 use Rattle.ep_solve.specs.Logged.{IsLogged}

@@ -2,7 +2,7 @@ use Rattle.std.proofs.Common.{◌≡◌, ℕ, ◌+◌, ◌-◌, ◌<◌, ap, ref
 use Rattle.std.specs.Prelude.{map}
 use Rattle.std.proofs.lemmas.List.{drop_all}
 use Rattle.ep_eval.specs.Known.{env_of}
-use Rattle.ep_instance.specs.Instances.{find_of}
+use Rattle.ep_instance_parts.specs.Instances.{find_of}
 use Rattle.ep_tree.specs.Names.{put_all}
 use Rattle.ep_tree.specs.Solutions.{cells_bound}
 use Rattle.ep_unroll.proofs.CellNames.{named_more, named_none}

@@ -2,7 +2,7 @@ use Rattle.std.proofs.Common.{refl, subst, sym, Some, None}
 use Rattle.std.specs.Prelude.{option_map}
 use Rattle.ep_eval.specs.Known.{env_of}
 use Rattle.ep_eval.specs.Scopes.{with_all}
-use Rattle.ep_instance.specs.Instances.{goal_of}
+use Rattle.ep_instance_parts.specs.Instances.{goal_of}
 use Rattle.ep_unroll.proofs.MeaningSteps.{grows_none}
 use Rattle.ep_unroll.specs.Clauses.{IsGoal}
 use Rattle.ep_unroll.specs.Firsts.{numbering_of}

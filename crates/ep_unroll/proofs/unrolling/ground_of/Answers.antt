@@ -1,7 +1,7 @@
 use Rattle.std.proofs.Common.{ap, ◌∙◌}
 use Rattle.std.specs.Prelude.{flat_map, map, option_map}
 use Rattle.ep_eval.specs.Known.{env_of}
-use Rattle.ep_instance.specs.Instances.{goal_of, plain_instance, instance_mode}
+use Rattle.ep_instance_parts.specs.Instances.{goal_of, plain_instance, instance_mode}
 use Rattle.ep_tree.specs.Views.{expr_tree}
 use Rattle.ep_unroll.proofs.GroundSteps.{ground_is}
 use Rattle.ep_unroll.specs.Cells.{find_cells, instance_cells}

@@ -3,7 +3,7 @@ use Rattle.std.specs.List.{list_all}
 use Rattle.ep_eval.specs.Known.{env_of}
 use Rattle.ep_tree.specs.TypedValues.{is_number_of}
 use Rattle.ep_tree.specs.Views.{assigned, named_value}
-use Rattle.ep_instance.specs.Instances.{plain_instance, instance_mode}
+use Rattle.ep_instance_parts.specs.Instances.{plain_instance, instance_mode}
 use Rattle.ep_instance.proofs.JudgingSteps.{agree_again, judged_after, under_given}
 use Rattle.ep_instance.proofs.judging.Judge.judge.Goals as goal
 

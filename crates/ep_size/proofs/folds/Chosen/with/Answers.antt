@@ -2,7 +2,7 @@ use Rattle.std.proofs.Common.{◌≡◌, ◌+◌, ◌*◌, true, false, not, ref
 use Rattle.std.specs.Prelude.{Bool}
 use Rattle.ep_base.specs.Intervals.{width}
 use Rattle.ep_size.proofs.FoldSteps.{chooses_first, chooses_next}
-use Rattle.ep_size.specs.Spans.{interval_of}
+use Rattle.ep_numbers.specs.Spans.{interval_of}
 use Rattle.ep_size.specs.Totals.{capped}
 use Rattle.ep_size.proofs.folds.Chosen.with.Goals as goal
 

@@ -3,14 +3,14 @@ use Rattle.std.proofs.lemmas.Result.{err_from_is_err_and}
 use Rattle.ep_base.specs.Intervals.{product_interval}
 use Rattle.ep_size.proofs.FoldSteps.{multiplies_more, multiplies_same, product_refused}
 use Rattle.ep_size.specs.Folds.{is_far_reach}
-use Rattle.ep_size.specs.Spans.{wide_of}
+use Rattle.ep_numbers.specs.Spans.{wide_interval}
 use Rattle.ep_size.proofs.folds.Multiplied.with.Goals as goal
 
 pub returns-in_err-whole-clause-refused : goal.returns-in_err-whole-clause-refused
 returns-in_err-whole-clause-refused c =
     let p = err_from_is_err_and c.from_residual.result c.from_residual.ensures.1 in
     rw (p.1, p.2)
-    (λ spans rest h. product_refused c.args.self spans rest c.args.span c.in_err-whole.field-0.0 (wide_of c.product.result) c.product.ensures c.in_err-whole.ensures h)
+    (λ spans rest h. product_refused c.args.self spans rest c.args.span c.in_err-whole.field-0.0 (wide_interval c.product.result) c.product.ensures c.in_err-whole.ensures h)
 
 pub returns-clause-added : goal.returns-clause-added
 returns-clause-added c spans h =

@@ -1,0 +1,9 @@
+pub mod Tests
+pub mod FitSteps
+pub mod LimitSteps
+pub mod RangeSteps
+pub mod IndexSteps
+pub mod Answering
+pub mod ListedSteps
+pub mod ShapeSteps
+pub mod ConditionSteps

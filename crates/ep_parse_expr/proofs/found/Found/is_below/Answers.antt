@@ -1,6 +1,0 @@
-use Rattle.std.proofs.Common.{rules}
-use Rattle.ep_parse_expr.proofs.ToldHeights.{told_below}
-use Rattle.ep_parse_expr.proofs.found.Found.is_below.Goals as goal
-
-pub returns : goal.returns
-returns c = record { low = told_below _ _ _ c.requires.measured.height (search rules) }

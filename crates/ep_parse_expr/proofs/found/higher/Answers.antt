@@ -1,6 +1,0 @@
-use Rattle.std.proofs.Common.{◌∙◌}
-use Rattle.ep_parse_expr.proofs.ToldHeights.{told_max}
-use Rattle.ep_parse_expr.proofs.found.higher.Goals as goal
-
-pub returns : goal.returns
-returns c = record { greater = λ h k e f. c.max.ensures ∙ told_max h k _ _ e f }

@@ -1,9 +1,0 @@
-use Rattle.std.proofs.Common.{refl}
-use Rattle.ep_parse_expr.specs.Founds.{told}
-use Rattle.ep_parse_expr.specs.Gathered.{end_tree}
-use Rattle.ep_tree.specs.Heights.{end_height}
-use Rattle.ep_parse_expr.proofs.parts.End.none.Goals as goal
-
-pub returns : goal.returns
-unfolding told end_tree end_height
-returns c = record { counted = record { high = refl }; end = refl }

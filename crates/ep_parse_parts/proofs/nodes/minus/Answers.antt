@@ -1,0 +1,21 @@
+use Rattle.std.proofs.Common.{ap, refl, subst, sym, true, false, ◌∙◌}
+use Rattle.ep_parse_parts.proofs.NodeFacts.{joined_ends, joined_group, place_of_kind, shows_node}
+use Rattle.ep_parse_parts.specs.Founds.{Makes, Shows, told}
+use Rattle.ep_parse_parts.specs.OperandReaders.{one_part, three_parts}
+use Rattle.ep_parse_parts.specs.Openings.{extreme_of, fold_of, one_part_of, three_parts_of}
+use Rattle.ep_parse_parts.specs.OperatorReaders.{takes_group}
+use Rattle.ep_tree.proofs.ViewLemmas.{kind_tree-minus}
+use Rattle.ep_tree.specs.Heights.{height}
+use Rattle.ep_tree.specs.Spelling.{binary_level, ends_open, own_level, rank, takes_own_group}
+use Rattle.ep_tree.specs.Trees as trees
+use Rattle.ep_tree.specs.Views.{domain_tree, expr_tree}
+use Rattle.ep_parse_parts.proofs.nodes.minus.Goals as goal
+
+pub returns : goal.returns
+unfolding height ends_open takes_group rank own_level takes_own_group binary_level
+returns c =
+    record {
+      made = shows_node _ _ _ _ _ _ _ c.operated.ensures.made
+          (kind_tree-minus c.args.place c.in_ok-part.part ∙ ap (λ e. trees.minus c.args.place (expr_tree e)) c.in_ok-part.ensures.ok)
+          (c.above-height.ensures.more _ c.requires.part.height) (c.requires.part.ends) (refl);
+    }

@@ -1,0 +1,12 @@
+pub mod Readers
+pub mod OperandReaders
+pub mod OperatorReaders
+pub mod DomainReaders
+pub mod TreeReaders
+pub mod Cursors
+pub mod Founds
+pub mod Gathered
+pub mod Openings
+pub mod Beginnings
+pub mod Sayings
+pub mod LoneNumbers

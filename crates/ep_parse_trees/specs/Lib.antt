@@ -1,0 +1,4 @@
+pub mod Chains
+pub mod Lowers
+pub mod Calls
+pub mod Junctions
