@@ -2,10 +2,10 @@
 //!
 //! A row has a formula, a proof and what is put out, with `#` between them. An `@` ends a line of the texts.
 
-use crate::runs::{FIRST_LINE, run_over, status_of, text_of};
-use ep_base::{MemFiles, MemSink};
-use ep_driver::Status;
+use crate::calls::{FIRST_LINE, difference, files_of, held_by, joined, said_over, text_of, wanted};
+use ep_base::MemFiles;
 use std::test::Fail;
+use std::thread::Threads;
 
 const CHECK: &str = "--task check --in-cnf f --in-log=l";
 
@@ -23,34 +23,43 @@ p cnf 999999999999999999 0##$ no empty clause@
 p cnf 1 1@0##$ verified@
 c nothing@p cnf 1 x#6 x#fault F12 2@";
 
+/// A row with what is said of its proof where that is something else, and else nothing.
+fn wrong_check<R: Threads + AllocGlobal>(rt: &R, row: &str) -> Result<String, Fail> {
+    let alloc = rt.alloc();
+    let (formula, rest) = row.split_once('#').unwrap_or((row, ""));
+    let (proof, want) = rest.split_once('#').unwrap_or((rest, ""));
+    let formula = text_of(alloc, "", formula)?;
+    let proof = text_of(alloc, "", proof)?;
+    let texts = [("f", formula.as_bytes()), ("l", proof.as_bytes())];
+    let mut files = files_of(alloc, &texts, 0)?;
+    let said = said_over(rt, CHECK, &mut files)?;
+    Ok(difference(alloc, row, said.as_str(), "", want)?)
+}
+
 #[test]
 fn proofs_are_checked(rt: HostRuntime) -> Result<(), Fail> {
     for row in CHECKED.lines() {
-        let (formula, rest) = row.split_once('#').unwrap_or((row, ""));
-        let (proof, want) = rest.split_once('#').unwrap_or((rest, ""));
-        let formula = text_of(rt.alloc(), "", formula)?;
-        let proof = text_of(rt.alloc(), "", proof)?;
-        let put = text_of(rt.alloc(), "", want)?;
-        let mut files = MemFiles::new(rt.alloc(), Vec::new(rt.alloc()));
-        files.hold("f", formula.as_bytes())?;
-        files.hold("l", proof.as_bytes())?;
-        let mut out = MemSink::new(rt.alloc(), 1000, Vec::new(rt.alloc()));
-        let ended = run_over(&rt, CHECK, &mut files, &mut out)?;
-        assert_eq!(rt; out.taken(), put.as_bytes(), "{want}");
-        assert_eq!(rt; ended, status_of(want), "{want}");
+        let wrong = wrong_check(&rt, row)?;
+        assert_eq!(rt; wrong.as_str(), "");
     }
     Ok(())
 }
 
+/// What is said where only one file stands there.
+fn said_over_one<R: Threads + AllocGlobal>(rt: &R, name: &str) -> Result<String, Fail> {
+    let text: &[u8] = b"p cnf 0 0";
+    let mut files = files_of(rt.alloc(), &[(name, text)], 0)?;
+    said_over(rt, CHECK, &mut files)
+}
+
 #[test]
 fn a_proof_that_is_not_there_cannot_be_checked(rt: HostRuntime) -> Result<(), Fail> {
-    for (held, want) in [("l", "device read f\n"), ("f", "device read l\n")] {
-        let mut files = MemFiles::new(rt.alloc(), Vec::new(rt.alloc()));
-        files.hold(held, b"p cnf 0 0")?;
-        let mut out = MemSink::new(rt.alloc(), 1000, Vec::new(rt.alloc()));
-        let ended = run_over(&rt, CHECK, &mut files, &mut out)?;
-        assert_eq!(rt; out.taken(), want.as_bytes());
-        assert_eq!(rt; ended, Status::Device);
+    for (held, want) in [
+        ("l", "device device read f\n"),
+        ("f", "device device read l\n"),
+    ] {
+        let said = said_over_one(&rt, held)?;
+        assert_eq!(rt; said.as_str(), want);
     }
     Ok(())
 }
@@ -62,60 +71,62 @@ find x : int(1..3)@maximising x@such that x < 3@#--in-eprime m#$ optimum 2@letti
 find x : int(1..3)@such that x > 2@#--in-eprime m#$ solution@letting x be 3@#$ no empty clause@
 find x : int(1..1)@#--task enumerate --solutions all --in-eprime m#$ solution 1@letting x be 1@$ complete@#$ verified@";
 
+/// Whether an answer is put out and held as `s` by a run over a model, which writes a formula and a log.
+fn is_written<R: Threads + AllocGlobal>(
+    rt: &R,
+    words: &str,
+    files: &mut MemFiles,
+    answer: &str,
+) -> Result<bool, Fail> {
+    let alloc = rt.alloc();
+    let words = joined(alloc, words, " --out-log l --out-solution s --out-cnf f")?;
+    let said = said_over(rt, words.as_str(), files)?;
+    let answer = wanted(alloc, FIRST_LINE, answer)?;
+    let held = held_by(files, "s");
+    Ok(said.as_str() == answer.as_str() && answer.as_str().strip_prefix("answered ") == Some(held))
+}
+
+/// Whether a row's answer is written, and its verdict is that on the log and the formula.
+fn is_certified<R: Threads + AllocGlobal>(rt: &R, row: &str) -> Result<bool, Fail> {
+    let alloc = rt.alloc();
+    let (model, rest) = row.split_once('#').unwrap_or((row, ""));
+    let (words, rest) = rest.split_once('#').unwrap_or((rest, ""));
+    let (answer, verdict) = rest.split_once('#').unwrap_or((rest, ""));
+    let model = text_of(alloc, FIRST_LINE, model)?;
+    let mut files = files_of(alloc, &[("m", model.as_bytes())], 0)?;
+    if !is_written(rt, words, &mut files, answer)? {
+        return Ok(false);
+    }
+    let said = said_over(rt, CHECK, &mut files)?;
+    let verdict = wanted(alloc, "", verdict)?;
+    Ok(said.as_str() == verdict.as_str())
+}
+
 #[test]
 fn a_written_log_is_checked_against_the_written_formula(rt: HostRuntime) -> Result<(), Fail> {
     for row in WRITTEN.lines() {
-        let (model, rest) = row.split_once('#').unwrap_or((row, ""));
-        let (words, rest) = rest.split_once('#').unwrap_or((rest, ""));
-        let (answer, verdict) = rest.split_once('#').unwrap_or((rest, ""));
-        let model = text_of(rt.alloc(), FIRST_LINE, model)?;
-        let answer = text_of(rt.alloc(), FIRST_LINE, answer)?;
-        let verdict = text_of(rt.alloc(), "", verdict)?;
-        let words = text_of(
-            rt.alloc(),
-            words,
-            " --out-log l --out-solution s --out-cnf f",
-        )?;
-        let mut files = MemFiles::new(rt.alloc(), Vec::new(rt.alloc()));
-        files.hold("m", model.as_bytes())?;
-        let mut out = MemSink::new(rt.alloc(), 1000, Vec::new(rt.alloc()));
-        let ended = run_over(&rt, words.as_str(), &mut files, &mut out)?;
-        assert_eq!(rt; ended, Status::Answered);
-        assert_eq!(rt; out.taken(), answer.as_bytes());
-        assert_eq!(rt; files.get("s"), Some(answer.as_bytes()));
-        let mut out = MemSink::new(rt.alloc(), 1000, Vec::new(rt.alloc()));
-        let ended = run_over(&rt, CHECK, &mut files, &mut out)?;
-        assert_eq!(rt; out.taken(), verdict.as_bytes());
-        assert_eq!(rt; ended, status_of(verdict.as_str()));
+        let is_right = is_certified(&rt, row)?;
+        assert!(rt; is_right, "{row}");
     }
     Ok(())
 }
 
+/// Whether a formula that is written has all these lines' beginnings, with `#` between them, behind an answer.
+fn writes_lines<R: Threads + AllocGlobal>(rt: &R, model: &str, parts: &str) -> Result<bool, Fail> {
+    let alloc = rt.alloc();
+    let model = text_of(alloc, FIRST_LINE, model)?;
+    let mut files = files_of(alloc, &[("m", model.as_bytes())], 0)?;
+    let words = "--task enumerate --in-eprime m --solutions 2 --out-cnf f";
+    let said = said_over(rt, words, &mut files)?;
+    let text = held_by(&files, "f");
+    let has_all = parts.split('#').all(|part| text.contains(part));
+    Ok(said.starts_with("answered ") && has_all)
+}
+
 #[test]
 fn a_formula_says_how_many_clauses_were_added(rt: HostRuntime) -> Result<(), Fail> {
-    let mut files = MemFiles::new(rt.alloc(), Vec::new(rt.alloc()));
-    let model = text_of(
-        rt.alloc(),
-        FIRST_LINE,
-        "find x, y : int(1..2)@such that x <= y@",
-    )?;
-    files.hold("m", model.as_bytes())?;
-    let mut out = MemSink::new(rt.alloc(), 1000, Vec::new(rt.alloc()));
-    let words = "--task enumerate --in-eprime m --solutions 2 --out-cnf f";
-    let ended = run_over(&rt, words, &mut files, &mut out)?;
-    assert_eq!(rt; ended, Status::Answered);
-    let text = files.get("f").unwrap_or(b"");
-    for line in [
-        "c cell x 1 ",
-        "c cell x 2 ",
-        "c cell y 1 ",
-        "c cell y 2 ",
-        "c added 2\n",
-    ] {
-        assert!(rt;
-            text.windows(line.len()).any(|part| part == line.as_bytes()),
-            "{line}"
-        );
-    }
+    let parts = "c cell x 1 #c cell x 2 #c cell y 1 #c cell y 2 #c added 2\n";
+    let is_right = writes_lines(&rt, "find x, y : int(1..2)@such that x <= y@", parts)?;
+    assert!(rt; is_right);
     Ok(())
 }

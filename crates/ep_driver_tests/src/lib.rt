@@ -2,7 +2,11 @@
 #![tactic(auto)]
 
 #[cfg(test)]
+mod calls;
+#[cfg(test)]
 mod certificates;
+#[cfg(test)]
+mod devices;
 #[cfg(test)]
 mod generated;
 #[cfg(test)]

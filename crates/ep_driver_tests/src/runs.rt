@@ -1,140 +1,26 @@
-//! Runs over devices in memory: the answers, each refusal with its line, judgements, and devices that
-//! fail. With ample memory none of them ends for want of it.
+//! Runs over texts: the answers, each refusal with its line, and judgements. With ample memory none of them ends for want of it.
 //!
 //! A table has a row a line: a model below its first line, what goes with it, and what is put out, below the
 //! first line of an answer, with `#` between them. An `@` ends a line of the texts.
 
-use cnf_core::Log;
-use ep_base::{MemFiles, MemSink, Word};
-use ep_driver::{Status, run};
+use crate::calls::{
+    FIRST_LINE, Texts, difference, joined, said_of, text_of, wrong_behind, wrong_row, wrong_rows,
+};
 use std::alloc::{AllocError, Global};
-use std::process::Abort;
 use std::test::Fail;
 use std::thread::Threads;
 
-/// The texts that are held as `m`, `p` and `s`.
-#[derive(Clone, Copy)]
-struct Texts<'a> {
-    model: &'a [u8],
-    params: &'a [u8],
-    solution: &'a [u8],
-}
-
 const SOLVE: &str = "--in-eprime m --in-param p";
 
-const SEARCH: &str = "--in-eprime m --conflicts 1";
+const SOLVE_IN: &str = "--in-eprime m --in-param p --undefined=";
 
 const VERIFY: &str = "--task verify --in-eprime=m --in-solution s";
 
-const LIST: &str = "--task enumerate --in-eprime=m --solutions";
+const VERIFY_IN: &str = "--task verify --in-eprime=m --in-solution s --undefined=";
 
-const LIST_ALL: &str = "--task enumerate --in-eprime m --solutions all";
+const LIST_IN: &str = "--task enumerate --in-eprime m --solutions all --undefined=";
 
-/// Runs the words over the texts. The calls of the files with these numbers fail.
-fn run_on<R: Threads + AllocGlobal>(
-    rt: &R,
-    words: &str,
-    texts: &Texts,
-    file_fails: &[u64],
-    out: &mut MemSink,
-) -> Result<Status, Fail> {
-    let mut files = files_of(rt.alloc(), texts, file_fails)?;
-    run_over(rt, words, &mut files, out)
-}
-
-/// Files that hold the texts. Their calls with these numbers fail.
-fn files_of(alloc: Global, texts: &Texts, file_fails: &[u64]) -> Result<MemFiles, Fail> {
-    let mut files = MemFiles::new(alloc, Vec::from_slice(alloc, file_fails)?);
-    files.hold("m", texts.model)?;
-    files.hold("p", texts.params)?;
-    files.hold("s", texts.solution)?;
-    Ok(files)
-}
-
-/// Runs the words, with a space between any two, over files.
-pub fn run_over<R: Threads + AllocGlobal>(
-    rt: &R,
-    words: &str,
-    files: &mut MemFiles,
-    out: &mut MemSink,
-) -> Result<Status, Fail> {
-    let alloc = rt.alloc();
-    let mut list = Vec::new(alloc);
-    for word in words.split(' ') {
-        if !word.is_empty() {
-            list.push(Word::new(alloc, word)?)?;
-        }
-    }
-    let mut log = Log::new(alloc);
-    Ok(run(rt, alloc, &list, files, out, &mut log))
-}
-
-/// The words over these texts end so, and exactly this is put out.
-fn check_run<R: Abort + Threads + AllocGlobal>(
-    rt: &R,
-    words: &str,
-    texts: &Texts,
-    status: Status,
-    want: &str,
-) -> Result<(), Fail> {
-    let mut out = MemSink::new(rt.alloc(), 1000, Vec::new(rt.alloc()));
-    let ended = run_on(rt, words, texts, &[], &mut out)?;
-    assert_eq!(rt; out.taken(), want.as_bytes(), "{want}");
-    assert_eq!(rt; ended, status, "{want}");
-    Ok(())
-}
-
-/// A text of a row, behind another.
-pub fn text_of(alloc: Global, before: &str, text: &str) -> Result<String, AllocError> {
-    let mut whole = String::from_str(alloc, before)?;
-    for letter in text.chars() {
-        whole.push(if letter == '@' { '\n' } else { letter })?;
-    }
-    Ok(whole)
-}
-
-pub const FIRST_LINE: &str = "language ESSENCE' 1.0\n";
-
-/// How a run ends that puts this out.
-pub fn status_of(want: &str) -> Status {
-    for (beginning, status) in [
-        ("fault", Status::Text),
-        ("limit", Status::Limit),
-        ("device", Status::Device),
-        ("$ unknown", Status::Unknown),
-        ("$ violated", Status::Refuted),
-        ("$ objective", Status::Refuted),
-        ("$ wrong", Status::Refuted),
-        ("$ bad", Status::Refuted),
-        ("$ no empty", Status::Refuted),
-    ] {
-        if want.starts_with(beginning) {
-            return status;
-        }
-    }
-    Status::Answered
-}
-
-/// The words over a row's model, with its second part as parameters and as solution, below this line.
-fn check_row<R: Abort + Threads + AllocGlobal>(
-    rt: &R,
-    words: &str,
-    first_line: &str,
-    row: &str,
-) -> Result<(), Fail> {
-    let alloc = rt.alloc();
-    let (model, rest) = row.split_once('#').unwrap_or((row, ""));
-    let (input, want) = rest.split_once('#').unwrap_or((rest, ""));
-    let model = text_of(alloc, FIRST_LINE, model)?;
-    let input = text_of(alloc, "", input)?;
-    let put = text_of(alloc, first_line, want)?;
-    let texts = Texts {
-        model: model.as_bytes(),
-        params: input.as_bytes(),
-        solution: input.as_bytes(),
-    };
-    check_run(rt, words, &texts, status_of(want), put.as_str())
-}
+const LIST: &str = "--task enumerate --in-eprime=m --solutions ";
 
 const ANSWERS: &str = "\
 ##$ solution@
@@ -186,9 +72,8 @@ such that true $ \u{e9}##$ solution@";
 
 #[test]
 fn models_have_their_answers(rt: HostRuntime) -> Result<(), Fail> {
-    for row in ANSWERS.lines() {
-        check_row(&rt, SOLVE, FIRST_LINE, row)?;
-    }
+    let wrong = wrong_rows(&rt, SOLVE, FIRST_LINE, ANSWERS)?;
+    assert_eq!(rt; wrong.as_str(), "");
     Ok(())
 }
 
@@ -197,24 +82,36 @@ const PIGEONS: &str = "\
 find p : matrix indexed by [int(1..4), int(1..3)] of bool@such that forAll i : int(1..4) . exists j : int(1..3) . p[i,j],@\
 forAll j : int(1..3) . forAll a,b : int(1..4) . (a < b) -> !(p[a,j] /\\ p[b,j])##";
 
+/// More words, and what is put out.
+const BUDGETS: &str = "\
+--in-eprime m --in-param p#$ no solution@
+--in-eprime m --conflicts 1#$ unknown 1 conflicts@
+--task enumerate --in-eprime m --solutions 10#$ no solution@
+--task enumerate --in-eprime m --solutions 10 --conflicts 1#$ unknown 1 conflicts@";
+
 #[test]
 fn a_budget_is_spent_or_serves(rt: HostRuntime) -> Result<(), Fail> {
-    for (words, want) in [
-        (SOLVE, "$ no solution@"),
-        (SEARCH, "$ unknown 1 conflicts@"),
-        (
-            "--task enumerate --in-eprime m --solutions 10",
-            "$ no solution@",
-        ),
-        (
-            "--task enumerate --in-eprime m --solutions 10 --conflicts 1",
-            "$ unknown 1 conflicts@",
-        ),
-    ] {
-        let row = text_of(rt.alloc(), PIGEONS, want)?;
-        check_row(&rt, words, FIRST_LINE, row.as_str())?;
-    }
+    let wrong = wrong_words(&rt, PIGEONS, FIRST_LINE, BUDGETS)?;
+    assert_eq!(rt; wrong.as_str(), "");
     Ok(())
+}
+
+/// The first row of a table, which has words and what is put out, that is wrong over the texts of a row, with what is put out.
+fn wrong_words<R: Threads + AllocGlobal>(
+    rt: &R,
+    texts: &str,
+    first_line: &str,
+    table: &str,
+) -> Result<String, Fail> {
+    for line in table.lines() {
+        let (words, want) = line.split_once('#').unwrap_or((line, ""));
+        let row = joined(rt.alloc(), texts, want)?;
+        let wrong = wrong_row(rt, words, first_line, row.as_str())?;
+        if !wrong.is_empty() {
+            return Ok(wrong);
+        }
+    }
+    Ok(String::new(rt.alloc()))
 }
 
 const REFUSED: &str = "\
@@ -255,9 +152,8 @@ find x : int(0..16384)@such that x**3 = 8##limit L5@
 
 #[test]
 fn faults_and_limits_have_their_lines(rt: HostRuntime) -> Result<(), Fail> {
-    for row in REFUSED.lines() {
-        check_row(&rt, SOLVE, "", row)?;
-    }
+    let wrong = wrong_rows(&rt, SOLVE, "", REFUSED)?;
+    assert_eq!(rt; wrong.as_str(), "");
     Ok(())
 }
 
@@ -277,85 +173,105 @@ find x : int(0..3)@such that y#letting z be y#fault F3 model 3:11 y@";
 
 #[test]
 fn solution_texts_are_judged(rt: HostRuntime) -> Result<(), Fail> {
-    for row in JUDGED.lines() {
-        check_row(&rt, VERIFY, "", row)?;
-    }
+    let wrong = wrong_rows(&rt, VERIFY, "", JUDGED)?;
+    assert_eq!(rt; wrong.as_str(), "");
     Ok(())
 }
 
+/// Rows behind the number of solutions that are wanted.
 const LISTED: &str = "\
-find x : int(1..3) such that x > 2#all#$ solution 1@letting x be 3@$ complete@
-find x : int(1..3) such that x > 2#1#$ solution 1@letting x be 3@
-find x : int(1..3) such that x > 3#all#$ no solution@
-#2#$ solution 1@$ complete@
-find x : int(0..0) minimising 6 / x#all#$ no solution@
-find m : matrix indexed by [int(1..0)] of bool#all#$ solution 1@letting m be [; int(1..0)]@$ complete@";
+all#find x : int(1..3) such that x > 2##$ solution 1@letting x be 3@$ complete@
+1#find x : int(1..3) such that x > 2##$ solution 1@letting x be 3@
+all#find x : int(1..3) such that x > 3##$ no solution@
+2###$ solution 1@$ complete@
+all#find x : int(0..0) minimising 6 / x##$ no solution@
+all#find m : matrix indexed by [int(1..0)] of bool##$ solution 1@letting m be [; int(1..0)]@$ complete@";
 
 #[test]
 fn solutions_are_listed(rt: HostRuntime) -> Result<(), Fail> {
-    for row in LISTED.lines() {
-        let (_, rest) = row.split_once('#').unwrap_or((row, ""));
-        let (solutions, _) = rest.split_once('#').unwrap_or((rest, ""));
-        let mut words = String::from_str(rt.alloc(), LIST)?;
-        words.push(' ')?;
-        words.push_str(solutions)?;
-        check_row(&rt, words.as_str(), FIRST_LINE, row)?;
-    }
+    let wrong = wrong_behind(&rt, LIST, FIRST_LINE, LISTED)?;
+    assert_eq!(rt; wrong.as_str(), "");
     Ok(())
 }
 
 /// A model with three solutions, and what a list says of each of them.
-const THREE_LISTED: [(&str, [&str; 3]); 2] = [
+const THREE_LISTED: [(&str, &str); 2] = [
     (
         "find x : int(1..3)@maximising x",
-        ["@letting x be 1@", "@letting x be 2@", "@letting x be 3@"],
+        "@letting x be 1@#@letting x be 2@#@letting x be 3@",
     ),
     (
         "find x, y : int(1..2)@such that x <= y",
-        [
-            "@letting x be 1@letting y be 1@",
-            "@letting x be 1@letting y be 2@",
-            "@letting x be 2@letting y be 2@",
-        ],
+        "@letting x be 1@letting y be 1@#@letting x be 1@letting y be 2@#@letting x be 2@letting y be 2@",
     ),
 ];
+
+/// How many solutions are wanted and listed, and whether these are said to be all.
+const COUNTED: [(&str, usize, bool); 5] = [
+    ("1", 1, false),
+    ("2", 2, false),
+    ("3", 3, false),
+    ("4", 3, true),
+    ("all", 3, true),
+];
+
+/// What is said where so many solutions of a model are wanted.
+fn said_of_list<R: Threads + AllocGlobal>(
+    rt: &R,
+    count: &str,
+    model: &str,
+) -> Result<String, Fail> {
+    let words = joined(rt.alloc(), LIST, count)?;
+    let model = text_of(rt.alloc(), FIRST_LINE, model)?;
+    let texts = Texts {
+        model: model.as_bytes(),
+        params: b"",
+        solution: b"",
+    };
+    said_of(rt, words.as_str(), &texts)
+}
+
+/// How many blocks of a list end so.
+fn times(text: &str, end: &str) -> usize {
+    text.split('$').filter(|block| block.ends_with(end)).count()
+}
+
+/// Whether each of three solutions is listed at most once, and once where all three are.
+fn lists_each(
+    alloc: Global,
+    text: &str,
+    solutions: &str,
+    found: usize,
+) -> Result<bool, AllocError> {
+    for solution in solutions.split('#') {
+        let end = text_of(alloc, "", solution)?;
+        let times = times(text, end.as_str());
+        if times > 1 || times == 0 && found == 3 {
+            return Ok(false);
+        }
+    }
+    Ok(true)
+}
+
+/// Whether an answer lists so many solutions, and says that these are all.
+fn lists(text: &str, found: usize, is_complete: bool) -> bool {
+    let blocks = text.split('$');
+    let count = blocks
+        .filter(|block| block.starts_with(" solution "))
+        .count();
+    let says_all = text.ends_with("\n$ complete\n");
+    text.starts_with("answered ") && count == found && says_all == is_complete
+}
 
 /// So many of the three solutions are listed, whatever their order, and none of them twice.
 #[test]
 fn each_solution_is_listed_once(rt: HostRuntime) -> Result<(), Fail> {
-    let alloc = rt.alloc();
     for (model, solutions) in THREE_LISTED {
-        let model = text_of(alloc, FIRST_LINE, model)?;
-        let texts = Texts {
-            model: model.as_bytes(),
-            params: b"",
-            solution: b"",
-        };
-        for (wanted, found, is_complete) in [
-            (" 1", 1, false),
-            (" 2", 2, false),
-            (" 3", 3, false),
-            (" 4", 3, true),
-            (" all", 3, true),
-        ] {
-            let words = text_of(alloc, LIST, wanted)?;
-            let mut out = MemSink::new(alloc, 1000, Vec::new(alloc));
-            let ended = run_on(&rt, words.as_str(), &texts, &[], &mut out)?;
-            assert_eq!(rt; ended, Status::Answered);
-            let text = str::from_utf8(out.taken()).unwrap_or("");
-            assert_eq!(rt; text.ends_with("\n$ complete\n"), is_complete, "{text}");
-            let blocks = text
-                .split('$')
-                .filter(|block| block.starts_with(" solution "));
-            assert_eq!(rt; blocks.count(), found, "{text}");
-            for solution in solutions {
-                let solution = text_of(alloc, "", solution)?;
-                let blocks = text
-                    .split('$')
-                    .filter(|block| block.ends_with(solution.as_str()));
-                let times = blocks.count();
-                assert!(rt; times == 1 || times == 0 && found < 3, "{text}");
-            }
+        for (count, found, is_complete) in COUNTED {
+            let said = said_of_list(&rt, count, model)?;
+            assert!(rt; lists(said.as_str(), found, is_complete), "{said}");
+            let is_right = lists_each(rt.alloc(), said.as_str(), solutions, found)?;
+            assert!(rt; is_right, "{said}");
         }
     }
     Ok(())
@@ -390,64 +306,56 @@ strict#find x : int(0..1)@maximising toInt(!(1/x = 1))#letting x be 0#$ objectiv
 #[test]
 fn a_model_is_read_in_a_mode(rt: HostRuntime) -> Result<(), Fail> {
     for (words, first_line, rows) in [
-        (SOLVE, FIRST_LINE, MODE_ANSWERS),
-        (SOLVE, "", MODE_REFUSED),
-        (LIST_ALL, FIRST_LINE, MODE_LISTED),
-        (VERIFY, "", MODE_JUDGED),
+        (SOLVE_IN, FIRST_LINE, MODE_ANSWERS),
+        (SOLVE_IN, "", MODE_REFUSED),
+        (LIST_IN, FIRST_LINE, MODE_LISTED),
+        (VERIFY_IN, "", MODE_JUDGED),
     ] {
-        for row in rows.lines() {
-            let (mode, row) = row.split_once('#').unwrap_or(("", row));
-            let mut words = String::from_str(rt.alloc(), words)?;
-            words.push_str(" --undefined=")?;
-            words.push_str(mode)?;
-            check_row(&rt, words.as_str(), first_line, row)?;
-        }
+        let wrong = wrong_behind(&rt, words, first_line, rows)?;
+        assert_eq!(rt; wrong.as_str(), "");
     }
     Ok(())
 }
 
-/// Words, a model, and the two texts of which one is put out below the first line.
-const EITHER: [(&str, &str, [&str; 2]); 3] = [
+/// The end of the words, a model, and two rests of rows of which one is put out.
+const EITHER: [(&str, &str, &str, &str); 3] = [
     (
         "--task enumerate --in-eprime m --solutions all",
-        "find x : int(0..2)@such that (x = 0) \\/ (10 / x >= 10)",
-        [
-            "$ solution 1@letting x be 0@$ solution 2@letting x be 1@$ complete@",
-            "$ solution 1@letting x be 1@$ solution 2@letting x be 0@$ complete@",
-        ],
+        "find x : int(0..2)@such that (x = 0) \\/ (10 / x >= 10)##",
+        "$ solution 1@letting x be 0@$ solution 2@letting x be 1@$ complete@",
+        "$ solution 1@letting x be 1@$ solution 2@letting x be 0@$ complete@",
     ),
     (
         "--task enumerate --in-eprime m --solutions all --undefined relational",
-        "find x : int(0..2)@such that (x = 0) \\/ (10 / x >= 10)",
-        [
-            "$ solution 1@letting x be 0@$ solution 2@letting x be 1@$ complete@",
-            "$ solution 1@letting x be 1@$ solution 2@letting x be 0@$ complete@",
-        ],
+        "find x : int(0..2)@such that (x = 0) \\/ (10 / x >= 10)##",
+        "$ solution 1@letting x be 0@$ solution 2@letting x be 1@$ complete@",
+        "$ solution 1@letting x be 1@$ solution 2@letting x be 0@$ complete@",
     ),
     (
         "--in-eprime m --undefined strict",
-        "find x : int(1..2)@such that forAll i : int(1..0) . 1/0 = x",
-        ["$ solution@letting x be 1@", "$ solution@letting x be 2@"],
+        "find x : int(1..2)@such that forAll i : int(1..0) . 1/0 = x##",
+        "$ solution@letting x be 1@",
+        "$ solution@letting x be 2@",
     ),
 ];
 
+/// A row over a model where its end isn't put out, and else nothing.
+fn wrong_end<R: Threads + AllocGlobal>(
+    rt: &R,
+    words: &str,
+    model: &str,
+    want: &str,
+) -> Result<String, Fail> {
+    let row = joined(rt.alloc(), model, want)?;
+    wrong_row(rt, words, FIRST_LINE, row.as_str())
+}
+
 #[test]
 fn either_answer_will_do(rt: HostRuntime) -> Result<(), Fail> {
-    let alloc = rt.alloc();
-    for (words, model, wanted) in EITHER {
-        let model = text_of(alloc, FIRST_LINE, model)?;
-        let texts = Texts {
-            model: model.as_bytes(),
-            params: b"",
-            solution: b"",
-        };
-        let mut out = MemSink::new(alloc, 1000, Vec::new(alloc));
-        let ended = run_on(&rt, words, &texts, &[], &mut out)?;
-        assert_eq!(rt; ended, Status::Answered);
-        let one = text_of(alloc, FIRST_LINE, wanted[0])?;
-        let other = text_of(alloc, FIRST_LINE, wanted[1])?;
-        let is_wanted = out.taken() == one.as_bytes() || out.taken() == other.as_bytes();
-        assert!(rt; is_wanted, "{words}");
+    for (words, model, one, other) in EITHER {
+        let first = wrong_end(&rt, words, model, one)?;
+        let second = wrong_end(&rt, words, model, other)?;
+        assert!(rt; first.is_empty() || second.is_empty(), "{first}");
     }
     Ok(())
 }
@@ -480,7 +388,8 @@ fn words_come_first(rt: HostRuntime) -> Result<(), Fail> {
         solution: b"such that",
     };
     for words in NO_COMMANDS.lines() {
-        check_run(&rt, words, &texts, Status::Usage, "fault usage\n")?;
+        let said = said_of(&rt, words, &texts)?;
+        assert_eq!(rt; said.as_str(), "usage fault usage\n", "{words}");
     }
     Ok(())
 }
@@ -497,111 +406,58 @@ const ORDERED: &str = "\
 
 #[test]
 fn files_come_in_their_order(rt: HostRuntime) -> Result<(), Fail> {
-    let alloc = rt.alloc();
-    let model = text_of(alloc, FIRST_LINE, "such that y")?;
+    for row in ORDERED.lines() {
+        let (words, want) = row.split_once('#').unwrap_or((row, ""));
+        let said = said_of_faults(&rt, words)?;
+        let wrong = difference(rt.alloc(), row, said.as_str(), "", want)?;
+        assert_eq!(rt; wrong.as_str(), "");
+    }
+    Ok(())
+}
+
+/// What words say over texts that all have faults.
+fn said_of_faults<R: Threads + AllocGlobal>(rt: &R, words: &str) -> Result<String, Fail> {
+    let model = text_of(rt.alloc(), FIRST_LINE, "such that y")?;
     let texts = Texts {
         model: model.as_bytes(),
         params: b"letting",
         solution: b"letting",
     };
-    for row in ORDERED.lines() {
-        let (words, want) = row.split_once('#').unwrap_or((row, ""));
-        let put = text_of(alloc, "", want)?;
-        check_run(&rt, words, &texts, status_of(want), put.as_str())?;
+    said_of(rt, words, &texts)
+}
+
+/// A row whose tree is so high.
+fn high_row(
+    alloc: Global,
+    count: usize,
+    before: char,
+    middle: &str,
+    behind: &str,
+) -> Result<String, AllocError> {
+    let mut row = String::from_str(alloc, "such that ")?;
+    for _ in 0..count {
+        row.push(before)?;
     }
-    Ok(())
+    row.push_str(middle)?;
+    for _ in 0..count {
+        row.push_str(behind)?;
+    }
+    row.push_str("##")?;
+    Ok(row)
 }
 
 #[test]
 fn trees_may_be_so_high(rt: HostRuntime) -> Result<(), Fail> {
-    let alloc = rt.alloc();
-    for (count, want) in [(255, "#$ solution@"), (256, "#limit L3 model 2:266@")] {
+    for (count, first_line, want) in [
+        (255, FIRST_LINE, "$ solution@"),
+        (256, "", "limit L3 model 2:266@"),
+    ] {
         for (before, middle, behind) in [('!', " false", ""), ('(', "true", ")")] {
-            let mut row = String::from_str(alloc, "such that ")?;
-            for _ in 0..count {
-                row.push(before)?;
-            }
-            row.push_str(middle)?;
-            for _ in 0..count {
-                row.push_str(behind)?;
-            }
-            row.push('#')?;
-            row.push_str(want)?;
-            let first_line = if count == 255 { FIRST_LINE } else { "" };
-            check_row(&rt, SOLVE, first_line, row.as_str())?;
+            let row = high_row(rt.alloc(), count, before, middle, behind)?;
+            let row = joined(rt.alloc(), row.as_str(), want)?;
+            let wrong = wrong_row(&rt, SOLVE, first_line, row.as_str())?;
+            assert_eq!(rt; wrong.as_str(), "");
         }
-    }
-    Ok(())
-}
-
-const THREE: &str = "find x : int(1..3)@such that x > 2@";
-
-const THREE_ANSWERED: &str = "language ESSENCE' 1.0\n$ solution\nletting x be 3\n";
-
-#[test]
-fn devices_may_fail(rt: HostRuntime) -> Result<(), Fail> {
-    let alloc = rt.alloc();
-    let model = text_of(alloc, FIRST_LINE, THREE)?;
-    let texts = Texts {
-        model: model.as_bytes(),
-        params: b"",
-        solution: b"",
-    };
-    for (words, file_fail, put_fail, status, want) in [
-        (SOLVE, 1, 0, Status::Device, "device read m\n"),
-        (SOLVE, 2, 0, Status::Device, "device read p\n"),
-        (SOLVE, 3, 0, Status::Answered, THREE_ANSWERED),
-        ("--in-eprime m", 2, 0, Status::Answered, THREE_ANSWERED),
-        (SOLVE, 0, 1, Status::Device, ""),
-        (SOLVE, 0, 2, Status::Device, "l"),
-        (SOLVE, 0, 10, Status::Device, "language "),
-    ] {
-        let mut out = MemSink::new(alloc, 1, Vec::from_slice(alloc, &[put_fail])?);
-        let ended = run_on(&rt, words, &texts, &[file_fail], &mut out)?;
-        assert_eq!(rt; ended, status);
-        assert_eq!(rt; out.taken(), want.as_bytes());
-    }
-    Ok(())
-}
-
-#[test]
-fn answers_are_written(rt: HostRuntime) -> Result<(), Fail> {
-    let alloc = rt.alloc();
-    let model = text_of(alloc, FIRST_LINE, THREE)?;
-    let texts = Texts {
-        model: model.as_bytes(),
-        params: b"",
-        solution: b"old",
-    };
-    let held = Some(THREE_ANSWERED.as_bytes());
-    let old = Some("old".as_bytes());
-    for (params, name, file_fail, put_fail, status, held, want) in [
-        (" p", "s", 0, 0, Status::Answered, held, THREE_ANSWERED),
-        (" p", "t", 0, 0, Status::Answered, held, THREE_ANSWERED),
-        (" p", "t", 1, 0, Status::Device, None, "device read m\n"),
-        (" p", "t", 3, 0, Status::Device, None, "device write t\n"),
-        (" p", "s", 3, 0, Status::Device, old, "device write s\n"),
-        (" p", "s", 3, 8, Status::Device, old, "device "),
-        (" p", "s", 0, 2, Status::Device, held, "l"),
-        (
-            " none",
-            "s",
-            0,
-            0,
-            Status::Device,
-            old,
-            "device read none\n",
-        ),
-    ] {
-        let mut words = text_of(alloc, "--in-eprime m --in-param", params)?;
-        words.push_str(" --out-solution=")?;
-        words.push_str(name)?;
-        let mut files = files_of(alloc, &texts, &[file_fail])?;
-        let mut out = MemSink::new(alloc, 1, Vec::from_slice(alloc, &[put_fail])?);
-        let ended = run_over(&rt, words.as_str(), &mut files, &mut out)?;
-        assert_eq!(rt; ended, status);
-        assert_eq!(rt; out.taken(), want.as_bytes());
-        assert_eq!(rt; files.get(name), held);
     }
     Ok(())
 }
@@ -642,77 +498,75 @@ const CUT: [(u64, &str); 31] = [
     (1, ""),
 ];
 
+/// Whether what is said of a first part of a model is this line, or an answer where there is none.
+fn is_said(text: &str, line: &str) -> bool {
+    if line.is_empty() {
+        return text.starts_with("answered language ESSENCE' 1.0\n$ solution\n");
+    }
+    let put = text.strip_prefix("text ").unwrap_or("");
+    put.strip_suffix("\n") == Some(line)
+}
+
+/// What is said of a model alone.
+fn said_of_model<R: Threads + AllocGlobal>(rt: &R, model: &[u8]) -> Result<String, Fail> {
+    let texts = Texts {
+        model,
+        params: b"",
+        solution: b"",
+    };
+    said_of(rt, SOLVE, &texts)
+}
+
+const THREE_LINES: &[u8] = b"language ESSENCE' 1.0\nfind x : int(1..3)\nsuch that x > 2";
+
 #[test]
 fn a_model_may_be_cut(rt: HostRuntime) -> Result<(), Fail> {
-    let alloc = rt.alloc();
-    let whole = text_of(alloc, FIRST_LINE, "find x : int(1..3)@such that x > 2")?;
-    let mut left = whole.as_bytes().iter();
-    let mut model = Vec::new(alloc);
+    let mut length = 0usize;
     for (count, line) in CUT {
         for _ in 0..count {
-            let texts = Texts {
-                model: &model,
-                params: b"",
-                solution: b"",
-            };
-            let mut out = MemSink::new(alloc, 1000, Vec::new(alloc));
-            let ended = run_on(&rt, SOLVE, &texts, &[], &mut out)?;
-            let text = str::from_utf8(out.taken()).unwrap_or("");
-            let has_line = if line.is_empty() {
-                text.starts_with("language ESSENCE' 1.0\n$ solution\n")
-            } else {
-                text.strip_suffix("\n") == Some(line)
-            };
-            assert!(rt; has_line, "{line}: {text}");
-            let status = if line.is_empty() {
-                Status::Answered
-            } else {
-                Status::Text
-            };
-            assert_eq!(rt; ended, status, "{text}");
-            if let Some(byte) = left.next() {
-                model.push(*byte)?;
-            }
+            let model = THREE_LINES.get(..length).unwrap_or(b"");
+            let said = said_of_model(&rt, model)?;
+            assert!(rt; is_said(said.as_str(), line), "{line}: {said}");
+            length = length.saturating_add(1);
         }
     }
-    assert_eq!(rt; left.next(), None);
+    assert_eq!(rt; length, THREE_LINES.len().saturating_add(1));
     Ok(())
 }
 
-const THREE_BYTES: &[u8] = b"language ESSENCE' 1.0\nfind x : int(1..3)\nsuch that x > 2";
+const THREE_ANSWERED: &str = "answered language ESSENCE' 1.0\n$ solution\nletting x be 3\n";
 
-/// Models, the length up to which blanks follow, and what is put out. In a comment any byte may stand.
-const BYTES: [(&[u8], usize, Status, &str); 4] = [
+/// Models, the length up to which blanks follow, and what is said. In a comment any byte may stand.
+const BYTES: [(&[u8], usize, &str); 4] = [
     (
         b"language ESSENCE' 1.0\n\xff",
         0,
-        Status::Text,
-        "fault F1 model 2:1\n",
+        "text fault F1 model 2:1\n",
     ),
     (
         b"language ESSENCE' 1.0\nsuch that true $\xff",
         0,
-        Status::Answered,
-        "language ESSENCE' 1.0\n$ solution\n",
+        "answered language ESSENCE' 1.0\n$ solution\n",
     ),
-    (THREE_BYTES, 16_777_216, Status::Answered, THREE_ANSWERED),
-    (THREE_BYTES, 16_777_217, Status::Limit, "limit L1 model\n"),
+    (THREE_LINES, 16_777_216, THREE_ANSWERED),
+    (THREE_LINES, 16_777_217, "limit limit L1 model\n"),
 ];
+
+/// A text with blanks behind it up to a length.
+fn padded(alloc: Global, text: &[u8], length: usize) -> Result<Vec<u8>, AllocError> {
+    let mut model = Vec::from_slice(alloc, text)?;
+    for _ in text.len()..length {
+        model.push(b' ')?;
+    }
+    Ok(model)
+}
 
 #[test]
 fn texts_may_be_so_long_and_have_any_bytes(rt: HostRuntime) -> Result<(), Fail> {
-    let alloc = rt.alloc();
-    for (text, length, status, want) in BYTES {
-        let mut model = Vec::from_slice(alloc, text)?;
-        for _ in text.len()..length {
-            model.push(b' ')?;
-        }
-        let texts = Texts {
-            model: &model,
-            params: b"",
-            solution: b"",
-        };
-        check_run(&rt, SOLVE, &texts, status, want)?;
+    for (text, length, want) in BYTES {
+        let model = padded(rt.alloc(), text, length)?;
+        let said = said_of_model(&rt, &model)?;
+        assert_eq!(rt; said.as_str(), want);
     }
     Ok(())
 }
@@ -743,38 +597,38 @@ letting n be 16 letting hint be [\
 [0, 2, 3, 0, 0, 0, 7, 0, 0, 0, 0, 12, 0, 14, 0, 0], \
 [0, 0, 0, 0, 6, 0, 0, 0, 10, 11, 12, 13, 0, 0, 0, 0]]";
 
+/// What is said of the answer to a model with parameters, where it is judged as a solution text.
+fn judged<R: Threads + AllocGlobal>(rt: &R, model: &str, params: &str) -> Result<String, Fail> {
+    let model = text_of(rt.alloc(), FIRST_LINE, model)?;
+    let mut texts = Texts {
+        model: model.as_bytes(),
+        params: params.as_bytes(),
+        solution: b"",
+    };
+    let said = said_of(rt, SOLVE, &texts)?;
+    let answer = said.as_str().strip_prefix("answered ").unwrap_or("");
+    texts.solution = answer.as_bytes();
+    let words = "--task verify --in-eprime m --in-param p --in-solution s";
+    said_of(rt, words, &texts)
+}
+
 #[test]
 fn an_answer_is_a_solution_text(rt: HostRuntime) -> Result<(), Fail> {
-    let alloc = rt.alloc();
     for (model, params, judgement) in [
-        (SQUARE, HINTS, "$ solution\n"),
+        (SQUARE, HINTS, "answered $ solution\n"),
         (
             "given a : int find x : int(0..a) maximising x * (a - x)",
             "letting a be 8",
-            "$ solution objective 16\n",
+            "answered $ solution objective 16\n",
         ),
         (
             "find m : matrix indexed by [int(1..2), int(4..3)] of bool find b : bool such that !b",
             "",
-            "$ solution\n",
+            "answered $ solution\n",
         ),
     ] {
-        let model = text_of(alloc, FIRST_LINE, model)?;
-        let texts = Texts {
-            model: model.as_bytes(),
-            params: params.as_bytes(),
-            solution: b"",
-        };
-        let mut out = MemSink::new(alloc, 1000, Vec::new(alloc));
-        let ended = run_on(&rt, SOLVE, &texts, &[], &mut out)?;
-        assert_eq!(rt; ended, Status::Answered);
-        let texts = Texts {
-            model: model.as_bytes(),
-            params: params.as_bytes(),
-            solution: out.taken(),
-        };
-        let words = "--task verify --in-eprime m --in-param p --in-solution s";
-        check_run(&rt, words, &texts, Status::Answered, judgement)?;
+        let said = judged(&rt, model, params)?;
+        assert_eq!(rt; said.as_str(), judgement);
     }
     Ok(())
 }

@@ -2,8 +2,8 @@
 #![tactic(auto)]
 
 #[cfg(test)]
-mod modes;
-#[cfg(test)]
 mod rows;
+#[cfg(test)]
+mod single;
 #[cfg(test)]
 mod types;

@@ -116,12 +116,12 @@ fn fold_op(letter: u8) -> Option<FoldOp> {
     }
 }
 
-/// The quantifier that a letter stands for.
+/// The quantifier that a letter stands for: a small one over `i` and `j`.
 fn quant_op(letter: u8) -> Option<QuantOp> {
     match letter {
-        b'Q' => Some(QuantOp::ForAll),
-        b'W' => Some(QuantOp::Exists),
-        b'Z' => Some(QuantOp::Sum),
+        b'Q' | b'q' => Some(QuantOp::ForAll),
+        b'W' | b'o' => Some(QuantOp::Exists),
+        b'Z' | b'z' => Some(QuantOp::Sum),
         _ => None,
     }
 }
@@ -261,12 +261,21 @@ fn add_list(begun: &mut Begun, letter: u8) -> Result<(), EvalError> {
     Ok(())
 }
 
-/// Puts a quantifier over `i` in place of its body, over the last domain.
-fn add_quantifier(begun: &mut Begun, op: QuantOp) -> Result<(), EvalError> {
+/// The name `i`, or the names `i` and `j`.
+fn names_of(alloc: Global, has_two: bool) -> Result<Vec<Name>, EvalError> {
+    let mut names = Vec::new(alloc);
+    names.push(Name::new(alloc, "i")?)?;
+    if has_two {
+        names.push(Name::new(alloc, "j")?)?;
+    }
+    Ok(names)
+}
+
+/// Puts a quantifier over `i`, or over `i` and `j`, in place of its body, over the last domain.
+fn add_quantifier(begun: &mut Begun, op: QuantOp, has_two: bool) -> Result<(), EvalError> {
     let body = boxed_part(begun)?;
     let domain = boxed_domain(begun)?;
-    let mut names = Vec::new(begun.alloc);
-    names.push(Name::new(begun.alloc, "i")?)?;
+    let names = names_of(begun.alloc, has_two)?;
     begun
         .parts
         .push(placed(Kind::Quant(op, names, domain, body)))?;
@@ -295,6 +304,16 @@ fn add_comprehension(begun: &mut Begun, letter: u8) -> Result<(), EvalError> {
     let mut generators = Vec::new(begun.alloc);
     generators.push(generator(begun, "i")?)?;
     begun.parts.push(placed(Kind::Comprehension(body, generators, conditions, indices)))?;
+    Ok(())
+}
+
+/// Puts a comprehension without a condition in place of its expression: over `i` in the last domain.
+fn add_plain(begun: &mut Begun) -> Result<(), EvalError> {
+    let body = boxed_part(begun)?;
+    let mut generators = Vec::new(begun.alloc);
+    generators.push(generator(begun, "i")?)?;
+    let conditions = Vec::new(begun.alloc);
+    begun.parts.push(placed(Kind::Comprehension(body, generators, conditions, None)))?;
     Ok(())
 }
 
@@ -327,6 +346,14 @@ fn between(begun: &mut Begun) -> Result<DomainKind, EvalError> {
     Ok(DomainKind::Ranges(ranges))
 }
 
+/// The domain of the last part alone.
+fn alone(begun: &mut Begun) -> Result<DomainKind, EvalError> {
+    let part = last_part(begun);
+    let mut ranges = Vec::new(begun.alloc);
+    ranges.push(Range::One(part))?;
+    Ok(DomainKind::Ranges(ranges))
+}
+
 /// The matrix domain of truth values with the last domain for its indices.
 fn matrix_of_truths(begun: &mut Begun) -> Result<DomainKind, EvalError> {
     let mut indices = Vec::new(begun.alloc);
@@ -347,6 +374,10 @@ fn add_domain(begun: &mut Begun, letter: u8) -> Result<(), EvalError> {
         between(begun)?
     } else if letter == b'X' {
         matrix_of_truths(begun)?
+    } else if letter == b'p' {
+        alone(begun)?
+    } else if letter == b'x' {
+        DomainKind::Named(Name::new(begun.alloc, "y")?)
     } else if letter == b'I' {
         DomainKind::Int
     } else {
@@ -376,7 +407,7 @@ fn add_leaf(begun: &mut Begun, letter: u8) -> Result<(), EvalError> {
 /// Goes on by a letter of a row.
 fn add(begun: &mut Begun, letter: u8) -> Result<(), EvalError> {
     if let Some(op) = quant_op(letter) {
-        return add_quantifier(begun, op);
+        return add_quantifier(begun, op, letter >= b'a');
     }
     match letter {
         b'[' => {
@@ -387,6 +418,7 @@ fn add(begun: &mut Begun, letter: u8) -> Result<(), EvalError> {
         b']' | b';' => add_list(begun, letter),
         b'N' | b'Y' => add_comprehension(begun, letter),
         b'J' => add_nested(begun),
+        b'd' => add_plain(begun),
         b'e' => add_within(begun),
         b'+' | b'-' => add_chain(begun, letter),
         b'&' | b'|' => add_truths(begun, letter),
@@ -406,14 +438,14 @@ fn add_form(begun: &mut Begun, letter: u8) -> Result<(), EvalError> {
     if b"cCK".contains(&letter) {
         return add_three(begun, letter);
     }
-    if b"unw:XIB".contains(&letter) {
+    if b"unw:pxXIB".contains(&letter) {
         return add_domain(begun, letter);
     }
     add_leaf(begun, letter)
 }
 
-/// The expression of a row.
-fn expression(alloc: Global, text: &[u8]) -> Result<Expr, EvalError> {
+/// What a text begins.
+fn begun_by(alloc: Global, text: &[u8]) -> Result<Begun, EvalError> {
     let mut begun = Begun {
         alloc,
         parts: Vec::new(alloc),
@@ -423,7 +455,19 @@ fn expression(alloc: Global, text: &[u8]) -> Result<Expr, EvalError> {
     for letter in text {
         add(&mut begun, *letter)?;
     }
+    Ok(begun)
+}
+
+/// The expression of a row.
+pub(crate) fn expression(alloc: Global, text: &[u8]) -> Result<Expr, EvalError> {
+    let mut begun = begun_by(alloc, text)?;
     Ok(last_part(&mut begun))
+}
+
+/// The domain of a row.
+pub(crate) fn domain(alloc: Global, text: &[u8]) -> Result<Domain, EvalError> {
+    let mut begun = begun_by(alloc, text)?;
+    Ok(last_domain(&mut begun))
 }
 
 /// Whether an expression is worth what a letter says.
@@ -479,6 +523,7 @@ fn numbers_are_computed(rt: HostRuntime) -> Result<(), Fail> {
     let table = b"
 35+ 88 a sum
 35- bb a difference
+58- cc a chain
 23* 66 a product
 3_ cc the negative
 3_a 33 the absolute value
@@ -508,6 +553,8 @@ ya .. and an absolute value
 35V 55 the greater
 3yv .. the lesser of one that has no value
 tT 11 a truth value as a number
+1_28^4^28^*1-^ aa of the greatest odd number
+285*1+^ !! a power too far from 0
 99^9^ !! a number too far from 0
 99^9^0* !! also as a part
 ";
@@ -530,6 +577,9 @@ yy= 0. nothing equals itself where it has no value
 yy~ 0. nor does it differ
 t! 00 a negation
 y! 0. of what has no value
+33=(! 00 and of a group
+43=(! 11 of a false one
+y3=(! 1. and of one without a value
 yy=! 1. a comparison without a value is false
 tf& 00 both
 tt& 11 both
@@ -539,6 +589,7 @@ ty| 0. one that is true beside one without a value
 33=yy=| 1. beside a comparison without a value
 fyy=& 0. behind a false one
 tf> 00 implies
+10> 00 also of numbers
 ff> 11 implies
 ft> 11 implies
 fyy=> 1. behind a false one
@@ -667,6 +718,15 @@ fn quantifiers_have_their_values(rt: HostRuntime) -> Result<(), Fail> {
 02:6i/3=Q 0. an instance is undefined inside
 12:iZi= 0. a name ends with its quantifier
 13:11:iZZ 33 the inner name hides the outer
+13:jz92*- 00 the sum over two names
+12:jq 00 for all of two names
+12:jo 11 for some of two names
+10:jq 11 over nothing
+10:jo 00 over nothing
+10:jz 00 over nothing
+1y:jq 0. the domain has no value
+1y:jo 0. the domain has no value
+1y:jz .. the domain has no value
 ";
     assert_eq!(rt; first_wrong(rt.alloc(), table)?, None);
     Ok(())

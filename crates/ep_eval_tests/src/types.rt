@@ -1,124 +1,103 @@
-//! The types of small expressions and domains.
+//! The types of small expressions and the scalars of domains, where nothing is known of names, as rows of a table.
+//!
+//! A row is an expression or a domain with its operators behind its parts, then its type or scalar: `b` for a truth value, `n` for
+//! a number, and `B` and `N` for a list of these.
 
-use ep_base::{Memory, Name, Place};
-use ep_eval::{Env, scalar_in, type_in};
-use ep_tree::{
-    Domain, DomainKind, Expr, Generator, Kind, Mode, QuantOp, Range, Scalar, SetOp, ValueType,
-};
+use crate::rows::{domain, expression};
+use ep_eval::{Env, EvalError, scalar_in, type_in};
+use ep_tree::{Mode, Scalar, ValueType};
 use std::alloc::Global;
 use std::test::Fail;
 
-/// An expression at a place that doesn't matter.
-fn placed(kind: Kind) -> Expr {
-    let place = Place { line: 1, column: 1 };
-    Expr { place, kind }
+/// The letter of a type.
+fn type_letter(ty: &ValueType) -> u8 {
+    match ty {
+        ValueType::Bool => b'b',
+        ValueType::Int => b'n',
+        ValueType::Matrix {
+            dims: 1,
+            of: Scalar::Bool,
+        } => b'B',
+        ValueType::Matrix {
+            dims: 1,
+            of: Scalar::Int,
+        } => b'N',
+        _ => b'?',
+    }
 }
 
-/// A domain at a place that doesn't matter.
-fn over(kind: DomainKind) -> Domain {
-    let place = Place { line: 1, column: 1 };
-    Domain { place, kind }
-}
-
-/// `int(3)`
-fn three_alone(alloc: Global) -> Result<Domain, Memory> {
-    let mut ranges = Vec::new(alloc);
-    ranges.push(Range::One(placed(Kind::Number(3))))?;
-    Ok(over(DomainKind::Ranges(ranges)))
-}
-
-/// A name.
-fn named(alloc: Global, name: &str) -> Result<Expr, Memory> {
-    Ok(placed(Kind::Named(Name::new(alloc, name)?)))
-}
-
-/// `forAll` over `a` and `b`, with a name as its body.
-fn quantified(alloc: Global, name: &str, domain: Domain) -> Result<Expr, Memory> {
-    let mut names = Vec::new(alloc);
-    names.push(Name::new(alloc, "a")?)?;
-    names.push(Name::new(alloc, "b")?)?;
-    let domain = Box::new(alloc, domain)?;
-    let body = Box::new(alloc, named(alloc, name)?)?;
-    Ok(placed(Kind::Quant(QuantOp::ForAll, names, domain, body)))
-}
-
-/// `[b | b : domain]`
-fn listed(alloc: Global, domain: Domain) -> Result<Expr, Memory> {
-    let mut names = Vec::new(alloc);
-    names.push(Name::new(alloc, "b")?)?;
-    let mut generators = Vec::new(alloc);
-    generators.push(Generator { names, domain })?;
-    let body = Box::new(alloc, named(alloc, "b")?)?;
-    let conditions = Vec::new(alloc);
-    Ok(placed(Kind::Comprehension(body, generators, conditions, None)))
-}
-
-/// The type of an expression, where nothing is known of names.
-fn type_alone(alloc: Global, e: &Expr) -> Result<ValueType, Memory> {
+/// The letter of the type of an expression.
+fn type_of(alloc: Global, text: &[u8]) -> Result<u8, EvalError> {
+    let e = expression(alloc, text)?;
     let env = Env::new(alloc, Mode::Strict);
-    type_in(alloc, &env, e)
+    let ty = type_in(alloc, &env, &e)?;
+    Ok(type_letter(&ty))
 }
 
-/// The scalar of a domain, where nothing is known of names.
-fn scalar_alone(alloc: Global, d: &Domain) -> Result<Scalar, Memory> {
+/// The letter of the scalar of a domain.
+fn scalar_of(alloc: Global, text: &[u8]) -> Result<u8, EvalError> {
+    let d = domain(alloc, text)?;
     let env = Env::new(alloc, Mode::Strict);
-    scalar_in(alloc, &env, d)
+    match scalar_in(alloc, &env, &d)? {
+        Scalar::Bool => Ok(b'b'),
+        Scalar::Int => Ok(b'n'),
+    }
+}
+
+/// Whether a row is right: that of an expression, or behind a blank that of a domain.
+fn is_right(alloc: Global, row: &[u8]) -> Result<bool, EvalError> {
+    match row {
+        [b' ', text @ .., b' ', letter] => Ok(scalar_of(alloc, text)? == *letter),
+        [text @ .., b' ', letter] => Ok(type_of(alloc, text)? == *letter),
+        _ => Ok(row.is_empty()),
+    }
+}
+
+/// The first row of a table that isn't right.
+fn first_wrong<'a>(alloc: Global, table: &'a [u8]) -> Result<Option<&'a [u8]>, EvalError> {
+    for row in table.split(|byte| *byte == b'\n') {
+        if !is_right(alloc, row)? {
+            return Ok(Some(row));
+        }
+    }
+    Ok(None)
 }
 
 #[test]
 fn quantified_names_have_the_type_of_their_domain(rt: HostRuntime) -> Result<(), Fail> {
-    let alloc = rt.alloc();
-    let first = quantified(alloc, "a", over(DomainKind::Bool))?;
-    assert_eq!(rt; type_alone(alloc, &first)?, ValueType::Bool);
-    let booleans = quantified(alloc, "b", over(DomainKind::Bool))?;
-    assert_eq!(rt; type_alone(alloc, &booleans)?, ValueType::Bool);
-    let numbers = quantified(alloc, "b", three_alone(alloc)?)?;
-    assert_eq!(rt; type_alone(alloc, &numbers)?, ValueType::Int);
-    let negated = placed(Kind::Not(Box::new(alloc, booleans)?));
-    assert_eq!(rt; type_alone(alloc, &negated)?, ValueType::Bool);
+    let table = b"
+Biq b
+Bjq b
+3pjq n
+Bjq! b";
+    assert_eq!(rt; first_wrong(rt.alloc(), table)?, None);
     Ok(())
 }
 
 #[test]
 fn comprehensions_are_lists_of_their_expression(rt: HostRuntime) -> Result<(), Fail> {
-    let alloc = rt.alloc();
-    let booleans = listed(alloc, over(DomainKind::Bool))?;
-    assert_eq!(rt;
-        type_alone(alloc, &booleans)?,
-        ValueType::Matrix {
-            dims: 1,
-            of: Scalar::Bool
-        }
-    );
-    let numbers = listed(alloc, three_alone(alloc)?)?;
-    assert_eq!(rt;
-        type_alone(alloc, &numbers)?,
-        ValueType::Matrix {
-            dims: 1,
-            of: Scalar::Int
-        }
-    );
+    let table = b"
+Bid B
+3pid N";
+    assert_eq!(rt; first_wrong(rt.alloc(), table)?, None);
     Ok(())
 }
 
 #[test]
 fn what_has_no_type_counts_as_a_number(rt: HostRuntime) -> Result<(), Fail> {
-    let alloc = rt.alloc();
-    let unknown = named(alloc, "b")?;
-    assert_eq!(rt; type_alone(alloc, &unknown)?, ValueType::Int);
-    let unknown = over(DomainKind::Named(Name::new(alloc, "b")?));
-    assert_eq!(rt; scalar_alone(alloc, &unknown)?, Scalar::Int);
+    let table = b"
+y n
+ x n";
+    assert_eq!(rt; first_wrong(rt.alloc(), table)?, None);
     Ok(())
 }
 
 #[test]
 fn the_values_of_two_domains_are_boolean_where_both_are(rt: HostRuntime) -> Result<(), Fail> {
-    let alloc = rt.alloc();
-    let truths = over(DomainKind::Bool);
-    assert_eq!(rt; scalar_alone(alloc, &truths)?, Scalar::Bool);
-    let first = Box::new(alloc, truths)?;
-    let second = Box::new(alloc, three_alone(alloc)?)?;
-    let both = over(DomainKind::Set(SetOp::Union, first, second));
-    assert_eq!(rt; scalar_alone(alloc, &both)?, Scalar::Int);
+    let table = b"
+ B b
+ BBu b
+ B3pu n";
+    assert_eq!(rt; first_wrong(rt.alloc(), table)?, None);
     Ok(())
 }

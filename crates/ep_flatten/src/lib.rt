@@ -12,8 +12,6 @@ mod lists;
 mod marks;
 mod spans;
 mod sums;
-#[cfg(test)]
-mod tests;
 mod uses;
 
 pub use flattening::flatten;

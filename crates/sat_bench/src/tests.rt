@@ -1,22 +1,47 @@
 //! The program over files in memory: what it answers, and that its logs are accepted once they are written and read again.
 
 use crate::answer::answer;
-use crate::refusal::Refusal;
 use cnf_core::{Clause, Formula, Lit, MOST_VARIABLE};
 use ep_base::{MemFiles, Word};
 use log_check::{Verdict, check_log};
 use sat_problems::{drawn, hinted_square, pigeons, square_of_hints};
 use sat_text::{read_cnf, read_log, write_cnf};
-use std::alloc::Global;
-use std::process::Abort;
+use std::alloc::{AllocError, Global};
 use std::test::Fail;
 
-fn words_of(alloc: Global, texts: &[&str]) -> Result<Vec<Word>, Fail> {
+// The words of a text, with a `,` between any two. `none` is no word.
+fn words_of(alloc: Global, text: &str) -> Result<Vec<Word>, Fail> {
     let mut words = Vec::new(alloc);
-    for text in texts {
-        words.push(Word::new(alloc, text)?)?;
+    if text == "none" {
+        return Ok(words);
+    }
+    for word in text.split(',') {
+        words.push(Word::new(alloc, word)?)?;
     }
     Ok(words)
+}
+
+// Files with a formula. The call of them with this number fails, if any has it.
+fn files_of(alloc: Global, cnf: &[u8], fail: u64) -> Result<MemFiles, Fail> {
+    let fails = Vec::from_slice(alloc, &[fail])?;
+    let mut files = MemFiles::new(alloc, fails);
+    files.hold("a.cnf", cnf)?;
+    Ok(files)
+}
+
+// What is answered to words over a formula: the status and the text, or why there is none.
+fn said_over(alloc: Global, files: &mut MemFiles, words: &str) -> Result<String, Fail> {
+    let words = words_of(alloc, words)?;
+    match answer(alloc, &words, files) {
+        Ok(reply) => Ok(format!(in alloc; "{} {}", reply.status, reply.text.as_str())?),
+        Err(refused) => Ok(format!(in alloc; "{refused}")?),
+    }
+}
+
+// The same over a formula alone.
+fn said_of(alloc: Global, cnf: &[u8], words: &str) -> Result<String, Fail> {
+    let mut files = files_of(alloc, cnf, 0)?;
+    said_over(alloc, &mut files, words)
 }
 
 // The clause of these numbers, negative ones for negative literals.
@@ -41,203 +66,180 @@ fn cnf_text(alloc: Global, clauses: &[Vec<i64>]) -> Result<Vec<u8>, Fail> {
     Ok(write_cnf(alloc, &formula, &[], 0)?)
 }
 
-// What the check finds in the text of a log, and how many lines it has.
-fn verdict(alloc: Global, cnf: &[u8], log: &[u8]) -> Result<(Verdict, usize), Fail> {
+// Whether the check accepts the text of a log, and how many of its lines aren't the empty step. None where a step is bad.
+fn steps_of(alloc: Global, cnf: &[u8], log: &[u8]) -> Result<Option<(bool, usize)>, Fail> {
     let file = read_cnf(alloc, cnf)?;
     let proof = read_log(alloc, log)?;
-    let verdict = check_log(alloc, &file.formula, &proof)?;
-    Ok((verdict, proof.lines.len()))
+    match check_log(alloc, &file.formula, &proof)? {
+        Verdict::Verified => Ok(Some((true, proof.lines.len().saturating_sub(1)))),
+        Verdict::NoEmptyClause => Ok(Some((false, proof.lines.len()))),
+        Verdict::BadStep(_) => Ok(None),
+    }
 }
 
-// Whether a text says first that there were so many conflicts.
-fn says_conflicts(alloc: Global, text: &str, conflicts: usize) -> Result<bool, Fail> {
-    let line = format!(in alloc; "c conflicts {conflicts}\n")?;
-    Ok(text.starts_with(line.as_str()))
-}
-
-// The status with which the program ends, what the check finds in the log that it wrote, and how many of its lines aren't the empty
-// step. The text that is put out has the same number.
-fn checked(
-    rt: &impl Abort,
-    alloc: Global,
-    cnf: &[u8],
-    conflicts: &str,
-) -> Result<(u8, Verdict, usize), Fail> {
-    let mut files = MemFiles::new(alloc, Vec::new(alloc));
-    files.hold("a.cnf", cnf)?;
-    let words = words_of(alloc, &["a.cnf", conflicts, "a.lrat"])?;
-    let reply = answer(alloc, &words, &mut files)?;
+// How the program ends on a formula, whether the log that it writes is accepted, and how many of its lines aren't the empty step, as
+// the text that is put out has to say.
+fn logged(alloc: Global, cnf: &[u8], conflicts: &str) -> Result<String, Fail> {
+    let mut files = files_of(alloc, cnf, 0)?;
+    let words = format!(in alloc; "a.cnf,{conflicts},a.lrat")?;
+    let said = said_over(alloc, &mut files, words.as_str())?;
     let log = files.get("a.lrat").ok_or("the log is written")?;
-    let (verdict, lines) = verdict(alloc, cnf, log)?;
-    let steps = lines.saturating_sub(usize::from(verdict == Verdict::Verified));
-    assert!(rt; says_conflicts(alloc, reply.text.as_str(), steps)?);
-    Ok((reply.status, verdict, steps))
+    let Some((is_verified, steps)) = steps_of(alloc, cnf, log)? else {
+        return Ok(String::from_str(alloc, "a bad step")?);
+    };
+    let (status, text) = said.as_str().split_once(' ').unwrap_or(("", ""));
+    let line = format!(in alloc; "c conflicts {steps}\n")?;
+    if !text.starts_with(line.as_str()) {
+        return Ok(String::from_str(alloc, "another number of conflicts")?);
+    }
+    let word = if is_verified { "verified" } else { "open" };
+    Ok(format!(in alloc; "{status} {word} {steps}")?)
+}
+
+// Formulas, with `@` for a line's end, and how the program ends on them.
+const SMALL: &str = "\
+p cnf 2 4@1 2 0@1 -2 0@-1 2 0@-1 -2 0@#20 verified
+p cnf 2 5@1 -1 0@1 2 0@1 -2 0@-1 2 0@-1 -2 0@#20 verified
+p cnf 4 3@-1 2 0@-2 3 0@4 -4 0@#10 open
+p cnf 0 0@#10 open
+p cnf 0 1@0@#20 verified";
+
+// A text in which `@` is a line's end.
+fn text_of(alloc: Global, row: &str) -> Result<String, AllocError> {
+    let mut text = String::new(alloc);
+    for letter in row.chars() {
+        text.push(if letter == '@' { '\n' } else { letter })?;
+    }
+    Ok(text)
 }
 
 #[test]
 fn logs_of_small_problems_are_accepted(rt: HostRuntime) -> Result<(), Fail> {
-    let rows = [
-        (
-            "p cnf 2 4\n1 2 0\n1 -2 0\n-1 2 0\n-1 -2 0\n",
-            20,
-            Verdict::Verified,
-        ),
-        (
-            "p cnf 2 5\n1 -1 0\n1 2 0\n1 -2 0\n-1 2 0\n-1 -2 0\n",
-            20,
-            Verdict::Verified,
-        ),
-        (
-            "p cnf 4 3\n-1 2 0\n-2 3 0\n4 -4 0\n",
-            10,
-            Verdict::NoEmptyClause,
-        ),
-        ("p cnf 0 0\n", 10, Verdict::NoEmptyClause),
-        ("p cnf 0 1\n0\n", 20, Verdict::Verified),
-    ];
-    for (cnf, status, verdict) in rows {
-        let (ended, found, _) = checked(&rt, rt.alloc(), cnf.as_bytes(), "10")?;
-        assert_eq!(rt; (ended, found), (status, verdict));
+    for row in SMALL.lines() {
+        let (cnf, wanted) = row.split_once('#').unwrap_or((row, ""));
+        let cnf = text_of(rt.alloc(), cnf)?;
+        let said = logged(rt.alloc(), cnf.as_bytes(), "10")?;
+        assert!(rt; said.starts_with(wanted), "{row}: {said}");
     }
     Ok(())
 }
 
-fn assert_refuted(rt: &impl Abort, alloc: Global, clauses: &[Vec<i64>]) -> Result<(), Fail> {
+// How the program ends on clauses.
+fn logged_of(alloc: Global, clauses: &[Vec<i64>], conflicts: &str) -> Result<String, Fail> {
     let cnf = cnf_text(alloc, clauses)?;
-    let (status, verdict, steps) = checked(rt, alloc, &cnf, "1000000")?;
-    assert_eq!(rt; (status, verdict), (20, Verdict::Verified));
-    assert!(rt; steps > 0);
-    Ok(())
+    logged(alloc, &cnf, conflicts)
 }
 
-fn assert_satisfied(rt: &impl Abort, alloc: Global, clauses: &[Vec<i64>]) -> Result<(), Fail> {
-    let cnf = cnf_text(alloc, clauses)?;
-    let (status, verdict, steps) = checked(rt, alloc, &cnf, "1000000")?;
-    assert_eq!(rt; (status, verdict), (10, Verdict::NoEmptyClause));
-    assert!(rt; steps > 0);
-    Ok(())
+// Whether a search over clauses ends so, after some steps.
+fn searches(alloc: Global, clauses: &[Vec<i64>], wanted: &str) -> Result<bool, Fail> {
+    let said = logged_of(alloc, clauses, "1000000")?;
+    Ok(said.starts_with(wanted) && !said.ends_with(" 0"))
 }
 
 #[test]
 fn logs_of_searches_are_accepted(rt: HostRuntime) -> Result<(), Fail> {
-    let alloc = rt.alloc();
-    assert_refuted(&rt, alloc, &pigeons(alloc, 4, 3)?)?;
-    assert_refuted(&rt, alloc, &pigeons(alloc, 7, 6)?)?;
-    assert_refuted(&rt, alloc, &drawn(alloc, 6)?)?;
-    assert_satisfied(&rt, alloc, &drawn(alloc, 13)?)?;
-    assert_satisfied(&rt, alloc, &hinted_square(alloc)?)
+    let few = pigeons(rt.alloc(), 4, 3)?;
+    assert!(rt; searches(rt.alloc(), &few, "20 verified ")?);
+    let many = pigeons(rt.alloc(), 7, 6)?;
+    assert!(rt; searches(rt.alloc(), &many, "20 verified ")?);
+    let none = drawn(rt.alloc(), 6)?;
+    assert!(rt; searches(rt.alloc(), &none, "20 verified ")?);
+    let some = drawn(rt.alloc(), 13)?;
+    assert!(rt; searches(rt.alloc(), &some, "10 open ")?);
+    let square = hinted_square(rt.alloc())?;
+    assert!(rt; searches(rt.alloc(), &square, "10 open ")?);
+    Ok(())
 }
 
 #[test]
 fn logs_of_searches_that_are_cut_off_are_accepted(rt: HostRuntime) -> Result<(), Fail> {
-    let alloc = rt.alloc();
-    let few = cnf_text(alloc, &pigeons(alloc, 4, 3)?)?;
-    assert_eq!(rt;
-        checked(&rt, alloc, &few, "1")?,
-        (0, Verdict::NoEmptyClause, 1)
-    );
-    let many = cnf_text(alloc, &pigeons(alloc, 7, 6)?)?;
-    assert_eq!(rt;
-        checked(&rt, alloc, &many, "100")?,
-        (0, Verdict::NoEmptyClause, 100)
-    );
+    let few = pigeons(rt.alloc(), 4, 3)?;
+    let said = logged_of(rt.alloc(), &few, "1")?;
+    assert_eq!(rt; said.as_str(), "0 open 1");
+    let many = pigeons(rt.alloc(), 7, 6)?;
+    let said = logged_of(rt.alloc(), &many, "100")?;
+    assert_eq!(rt; said.as_str(), "0 open 100");
     Ok(())
 }
 
-// Whether the lines of values have this number.
-fn has_value(alloc: Global, text: &str, number: i64) -> Result<bool, Fail> {
-    let within = format!(in alloc; " {number} ")?;
-    let last = format!(in alloc; " {number}\n")?;
-    Ok(text.contains(within.as_str()) || text.contains(last.as_str()))
+// Whether the lines of values have all these numbers.
+fn has_values(alloc: Global, text: &str, numbers: &[i64]) -> Result<bool, Fail> {
+    for number in numbers {
+        let within = format!(in alloc; " {number} ")?;
+        let last = format!(in alloc; " {number}\n")?;
+        if !text.contains(within.as_str()) && !text.contains(last.as_str()) {
+            return Ok(false);
+        }
+    }
+    Ok(true)
 }
 
 #[test]
 fn a_model_has_the_values_of_the_only_solution(rt: HostRuntime) -> Result<(), Fail> {
-    let alloc = rt.alloc();
-    let cnf = cnf_text(alloc, &hinted_square(alloc)?)?;
-    let mut files = MemFiles::new(alloc, Vec::new(alloc));
-    files.hold("a.cnf", &cnf)?;
-    let words = words_of(alloc, &["a.cnf", "1000"])?;
-    let reply = answer(alloc, &words, &mut files)?;
-    for variable in square_of_hints(alloc)?.as_slice() {
-        assert!(rt; has_value(alloc, reply.text.as_str(), *variable)?);
-    }
+    let clauses = hinted_square(rt.alloc())?;
+    let cnf = cnf_text(rt.alloc(), &clauses)?;
+    let said = said_of(rt.alloc(), &cnf, "a.cnf,1000")?;
+    let wanted = square_of_hints(rt.alloc())?;
+    assert!(rt; has_values(rt.alloc(), said.as_str(), &wanted)?);
     Ok(())
 }
 
-// The text that is put out for the formula of a text.
-fn text_for(alloc: Global, cnf: &str, conflicts: &str) -> Result<String, Fail> {
-    let mut files = MemFiles::new(alloc, Vec::new(alloc));
-    files.hold("a.cnf", cnf.as_bytes())?;
-    let words = words_of(alloc, &["a.cnf", conflicts])?;
-    Ok(answer(alloc, &words, &mut files)?.text)
-}
+// Formulas, and what is said of them.
+const ANSWERS: &str = "\
+p cnf 0 0#10 c conflicts 0@s SATISFIABLE@v 0@
+p cnf 999999999999999999 3@-2 0 1 -1 1 0 -1 0 #10 c conflicts 0@s SATISFIABLE@v -1 -2 0@
+p cnf 3 2@1 0@-2 0@#10 c conflicts 0@s SATISFIABLE@v 1 -2 -3 0@
+p cnf 1 2@1 0@-1 0@#20 c conflicts 0@s UNSATISFIABLE@";
 
 #[test]
 fn answers_are_put_out_as_in_competitions(rt: HostRuntime) -> Result<(), Fail> {
-    let rows = [
-        ("p cnf 0 0", "c conflicts 0\ns SATISFIABLE\nv 0\n"),
-        (
-            "p cnf 999999999999999999 3\n-2 0 1 -1 1 0 -1 0 ",
-            "c conflicts 0\ns SATISFIABLE\nv -1 -2 0\n",
-        ),
-        (
-            "p cnf 3 2\n1 0\n-2 0\n",
-            "c conflicts 0\ns SATISFIABLE\nv 1 -2 -3 0\n",
-        ),
-        ("p cnf 1 2\n1 0\n-1 0\n", "c conflicts 0\ns UNSATISFIABLE\n"),
-    ];
-    for (cnf, wanted) in rows {
-        let text = text_for(rt.alloc(), cnf, "7")?;
-        assert_eq!(rt; text.as_str(), wanted);
+    for row in ANSWERS.lines() {
+        let (cnf, wanted) = row.split_once('#').unwrap_or((row, ""));
+        let cnf = text_of(rt.alloc(), cnf)?;
+        let wanted = text_of(rt.alloc(), wanted)?;
+        let said = said_of(rt.alloc(), cnf.as_bytes(), "a.cnf,7")?;
+        assert_eq!(rt; said.as_str(), wanted.as_str());
     }
     Ok(())
 }
 
-// Why the words are refused, where a file has this text and these calls of the device of files fail.
-fn refusal(
-    alloc: Global,
-    texts: &[&str],
-    cnf: &str,
-    fails: &[u64],
-) -> Result<Option<Refusal>, Fail> {
-    let mut files = MemFiles::new(alloc, fails.to_vec(alloc)?);
-    files.hold("a.cnf", cnf.as_bytes())?;
-    let words = words_of(alloc, texts)?;
-    Ok(answer(alloc, &words, &mut files).err())
+// Words, the call of the files that fails, and what is said.
+const REFUSED: &str = "\
+none#0#usage: sat_bench FILE CONFLICTS [LOG]
+a.cnf#0#usage: sat_bench FILE CONFLICTS [LOG]
+a.cnf,0#0#usage: sat_bench FILE CONFLICTS [LOG]
+a.cnf,#0#usage: sat_bench FILE CONFLICTS [LOG]
+a.cnf,+1#0#usage: sat_bench FILE CONFLICTS [LOG]
+a.cnf,00000000001#0#usage: sat_bench FILE CONFLICTS [LOG]
+a.cnf,1,a.lrat,more#0#usage: sat_bench FILE CONFLICTS [LOG]
+a.cnf,1,#0#usage: sat_bench FILE CONFLICTS [LOG]
+a.cnf,1,a.cnf#0#usage: sat_bench FILE CONFLICTS [LOG]
+b.cnf,1#0#the file can't be read
+a.cnf,1#1#the file can't be read
+a.cnf,1,a.lrat#2#the log can't be written
+a.cnf,1,a.lrat#3#10 c conflicts 0@s SATISFIABLE@v 1 0@
+a.cnf,9999999999#0#10 c conflicts 0@s SATISFIABLE@v 1 0@
+a.cnf,0000000001#0#10 c conflicts 0@s SATISFIABLE@v 1 0@";
+
+// Whether this is said to the words of a row.
+fn is_right(alloc: Global, row: &str) -> Result<bool, Fail> {
+    let (words, rest) = row.split_once('#').unwrap_or((row, ""));
+    let (fail, wanted) = rest.split_once('#').unwrap_or((rest, ""));
+    let mut files = files_of(alloc, b"p cnf 1 1\n1 0\n", fail.parse::<u64>()?)?;
+    let said = said_over(alloc, &mut files, words)?;
+    let wanted = text_of(alloc, wanted)?;
+    Ok(said.as_str() == wanted.as_str())
 }
 
 #[test]
 fn what_cannot_be_answered_is_refused(rt: HostRuntime) -> Result<(), Fail> {
-    let alloc = rt.alloc();
-    let usage = "usage: sat_bench FILE CONFLICTS [LOG]";
-    let rows: [(&[&str], &[u64], &str); 15] = [
-        (&[], &[], usage),
-        (&["a.cnf"], &[], usage),
-        (&["a.cnf", "0"], &[], usage),
-        (&["a.cnf", ""], &[], usage),
-        (&["a.cnf", "+1"], &[], usage),
-        (&["a.cnf", "00000000001"], &[], usage),
-        (&["a.cnf", "1", "a.lrat", "more"], &[], usage),
-        (&["a.cnf", "1", ""], &[], usage),
-        (&["a.cnf", "1", "a.cnf"], &[], usage),
-        (&["b.cnf", "1"], &[], "the file can't be read"),
-        (&["a.cnf", "1"], &[1], "the file can't be read"),
-        (&["a.cnf", "1", "a.lrat"], &[2], "the log can't be written"),
-        (&["a.cnf", "1", "a.lrat"], &[3], ""),
-        (&["a.cnf", "9999999999"], &[], ""),
-        (&["a.cnf", "0000000001"], &[], ""),
-    ];
-    for (texts, fails, wanted) in rows {
-        let told = match refusal(alloc, texts, "p cnf 1 1\n1 0\n", fails)? {
-            Some(refused) => format!(in alloc; "{refused}")?,
-            None => String::new(alloc),
-        };
-        assert_eq!(rt; told.as_str(), wanted);
+    for row in REFUSED.lines() {
+        assert!(rt; is_right(rt.alloc(), row)?, "{row}");
     }
+    let said = said_of(rt.alloc(), b"p cnf 1 1\n\n2 0\n", "a.cnf,1")?;
     assert_eq!(rt;
-        refusal(alloc, &["a.cnf", "1"], "p cnf 1 1\n\n2 0\n", &[])?,
-        Some(Refusal::Line(3))
+        said.as_str(),
+        "line 3 of the file isn't in the DIMACS format"
     );
     Ok(())
 }

@@ -1,27 +1,14 @@
 //! Each call once, and the types between threads.
 
+use crate::numbers::clause;
 use cnf_core::{
-    CellNote, Clause, Condition, Event, Formula, Line, Lit, Log, MOST_VARIABLE, Proof,
+    CellNote, Clause, Condition, Event, Formula, Line, Lit, Log, Proof,
     an_effective_step_needs_its_last_literal, keeping_composes, new_steps_are_few,
     no_step_is_effective_after_a_conflict, valid_steps_follow,
 };
-use ep_base::Memory;
-use std::alloc::Global;
 use std::test::Fail;
 
 fn is_send_and_sync<T: Send + Sync>() {}
-
-/// A clause from numbers, negative ones for negative literals.
-fn clause(alloc: Global, literals: &[i64]) -> Result<Clause, Memory> {
-    let mut lits = Vec::new(alloc);
-    for &literal in literals {
-        let var = literal.unsigned_abs();
-        if 1 <= var && var <= MOST_VARIABLE {
-            lits.push(Lit::new(var, literal > 0))?;
-        }
-    }
-    Clause::new(alloc, lits)
-}
 
 #[test]
 fn a_clause_has_each_literal_once_and_in_order(rt: HostRuntime) -> Result<(), Fail> {

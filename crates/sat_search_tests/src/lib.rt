@@ -6,6 +6,8 @@ mod clauses;
 #[cfg(test)]
 mod logs;
 #[cfg(test)]
+mod numbers;
+#[cfg(test)]
 mod searches;
 #[cfg(test)]
 mod states;

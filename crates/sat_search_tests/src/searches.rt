@@ -1,28 +1,15 @@
 //! The solver on small problems, and on some that need a search.
 
-ghost use Rattle.std.specs.Prelude.{◌≡◌, false, IfOk};
+ghost use Rattle.std.specs.Prelude.{◌≡◌, false, IfOk, IsSome};
 ghost use Rattle.cnf_core.specs.Events.{clauses_of};
 ghost use Rattle.sat_search.specs.Logs.{IsSound};
 
-use cnf_core::{Clause, Event, Lit, Log, MOST_VARIABLE};
-use sat_problems::{Numbers, drawn, hinted_square, pigeons, square_of_hints};
+use crate::numbers::{clause, lists_of};
+use cnf_core::{Clause, Event, Lit, Log};
+use sat_problems::{drawn, hinted_square, pigeons, square_of_hints};
 use sat_search::{Outcome, Solver};
 use std::alloc::{AllocError, Global};
-use std::process::Abort;
 use std::test::Fail;
-
-// The literal of a number: its variable, negative where the number is.
-fn lit(number: i64) -> Lit {
-    Lit::new(number.unsigned_abs().clamp(1, MOST_VARIABLE), number > 0)
-}
-
-fn clause(alloc: Global, numbers: &[i64]) -> Result<Clause, Fail> {
-    let mut lits = Vec::new(alloc);
-    for number in numbers {
-        lits.push(lit(*number))?;
-    }
-    Ok(Clause::new(alloc, lits)?)
-}
 
 // A solver of these clauses, and its log.
 fn pose(alloc: Global, clauses: &[Vec<i64>]) -> Result<(Solver, Log), Fail>
@@ -99,117 +86,119 @@ fn is_strict_log(alloc: Global, log: &Log) -> Result<bool, AllocError> {
 }
 
 // How the search ends, and its log.
-fn run(
-    rt: &impl Abort,
-    alloc: Global,
-    clauses: &[Vec<i64>],
-    budget: u64,
-) -> Result<(Outcome, Log), Fail> {
+fn searched(alloc: Global, clauses: &[Vec<i64>], budget: u64) -> Result<(Outcome, Log), Fail> {
     let (mut solver, mut log) = pose(alloc, clauses)?;
-    assert!(rt; log.steps() <= budget);
+    if log.steps() > budget {
+        return Err(Fail::new("more steps than conflicts may be"));
+    }
     let outcome = solver.solve(budget, &mut log)?;
-    assert_eq!(rt; is_closed(&log), outcome == Outcome::Unsat);
     Ok((outcome, log))
 }
 
-// How the search ends, and how many steps have a literal then.
-fn outcome_of(
-    rt: &impl Abort,
-    alloc: Global,
-    clauses: &[Vec<i64>],
-    budget: u64,
-) -> Result<(Outcome, u64), Fail> {
-    let (outcome, log) = run(rt, alloc, clauses, budget)?;
-    Ok((outcome, log.steps()))
+// How the search ends, and how many steps have a literal then. The last event is the empty step exactly where there is no model.
+fn said_of(alloc: Global, clauses: &[Vec<i64>], budget: u64) -> Result<String, Fail> {
+    let (outcome, log) = searched(alloc, clauses, budget)?;
+    if is_closed(&log) != (outcome == Outcome::Unsat) {
+        return Err(Fail::new("an empty step where there is a model, or none where there is none"));
+    }
+    let word = match outcome {
+        Outcome::Sat => "sat",
+        Outcome::Unsat => "unsat",
+        Outcome::Spent => "spent",
+    };
+    let steps = log.steps();
+    Ok(format!(in alloc; "{word} {steps}")?)
+}
+
+// How the search ends on the clauses of a text.
+fn said_of_text(alloc: Global, text: &str, budget: u64) -> Result<String, Fail> {
+    let clauses = lists_of(alloc, text)?;
+    said_of(alloc, clauses.as_slice(), budget)
 }
 
 #[test]
 fn small_problems_end_as_they_must(rt: HostRuntime) -> Result<(), Fail> {
-    let alloc = rt.alloc();
-    let square = vec![in alloc;
-        vec![in alloc; 1, 2]?,
-        vec![in alloc; 1, -2]?,
-        vec![in alloc; -1, 2]?,
-        vec![in alloc; -1, -2]?,
-    ]?;
-    assert_eq!(rt;
-        outcome_of(&rt, alloc, square.as_slice(), 10)?.0,
-        Outcome::Unsat
-    );
-    let nothing: Numbers = Vec::new(alloc);
-    assert_eq!(rt;
-        outcome_of(&rt, alloc, nothing.as_slice(), 1)?,
-        (Outcome::Sat, 0)
-    );
-    let empty = vec![in alloc; Vec::new(alloc)]?;
-    assert_eq!(rt;
-        outcome_of(&rt, alloc, empty.as_slice(), 1)?,
-        (Outcome::Unsat, 0)
-    );
-    let chain = vec![in alloc; vec![in alloc; -1, 2]?, vec![in alloc; -2, 3]?]?;
-    assert_eq!(rt;
-        outcome_of(&rt, alloc, chain.as_slice(), 1)?,
-        (Outcome::Sat, 0)
-    );
+    for (text, budget, want) in [
+        ("1 2/1 -2/-1 2/-1 -2", 10, "unsat "),
+        ("none", 1, "sat 0"),
+        ("", 1, "unsat 0"),
+        ("-1 2/-2 3", 1, "sat 0"),
+    ] {
+        let said = said_of_text(rt.alloc(), text, budget)?;
+        assert!(rt; said.starts_with(want), "{text}: {said}");
+    }
     Ok(())
+}
+
+const MANY: u64 = 1_000_000;
+
+// Whether a search finds that there is no model, by a strict log.
+fn is_refuted(alloc: Global, clauses: &[Vec<i64>]) -> Result<bool, Fail> {
+    let (outcome, log) = searched(alloc, clauses, MANY)?;
+    let is_strict = is_strict_log(alloc, &log)?;
+    Ok(outcome == Outcome::Unsat && is_closed(&log) && is_strict)
 }
 
 #[test]
 fn few_pigeons_need_steps(rt: HostRuntime) -> Result<(), Fail> {
-    let alloc = rt.alloc();
-    let few = pigeons(alloc, 4, 3)?;
-    assert_eq!(rt;
-        outcome_of(&rt, alloc, few.as_slice(), 1)?,
-        (Outcome::Spent, 1)
-    );
-    let (outcome, log) = run(&rt, alloc, few.as_slice(), 1_000_000)?;
-    assert_eq!(rt; outcome, Outcome::Unsat);
-    assert!(rt; is_strict_log(alloc, &log)?);
+    let few = pigeons(rt.alloc(), 4, 3)?;
+    let said = said_of(rt.alloc(), few.as_slice(), 1)?;
+    assert_eq!(rt; said.as_str(), "spent 1");
+    assert!(rt; is_refuted(rt.alloc(), few.as_slice())?);
     Ok(())
 }
 
 #[test]
 fn seven_pigeons_have_no_six_holes(rt: HostRuntime) -> Result<(), Fail> {
-    let alloc = rt.alloc();
-    let many = pigeons(alloc, 7, 6)?;
-    let (outcome, log) = run(&rt, alloc, many.as_slice(), 1_000_000)?;
-    assert_eq!(rt; outcome, Outcome::Unsat);
-    assert!(rt; is_strict_log(alloc, &log)?);
+    let many = pigeons(rt.alloc(), 7, 6)?;
+    assert!(rt; is_refuted(rt.alloc(), many.as_slice())?);
     Ok(())
 }
 
 #[test]
 fn drawn_clauses_have_values(rt: HostRuntime) -> Result<(), Fail> {
-    let alloc = rt.alloc();
-    let clauses = drawn(alloc, 13)?;
-    assert_eq!(rt;
-        outcome_of(&rt, alloc, clauses.as_slice(), 1_000_000)?.0,
-        Outcome::Sat
-    );
+    let clauses = drawn(rt.alloc(), 13)?;
+    let said = said_of(rt.alloc(), clauses.as_slice(), MANY)?;
+    assert!(rt; said.starts_with("sat "), "{said}");
     Ok(())
 }
 
 #[test]
 fn drawn_clauses_have_none(rt: HostRuntime) -> Result<(), Fail> {
-    let alloc = rt.alloc();
-    let clauses = drawn(alloc, 6)?;
-    assert_eq!(rt;
-        outcome_of(&rt, alloc, clauses.as_slice(), 1_000_000)?.0,
-        Outcome::Unsat
-    );
+    let clauses = drawn(rt.alloc(), 6)?;
+    let said = said_of(rt.alloc(), clauses.as_slice(), MANY)?;
+    assert!(rt; said.starts_with("unsat "), "{said}");
     Ok(())
+}
+
+// Whether these variables are true.
+fn are_true(solver: &Solver, variables: &[i64]) -> bool
+    requires { IsSome solver.now.kept }
+{
+    for variable in variables {
+        if !solver.value(variable.unsigned_abs()) {
+            return false;
+        }
+    }
+    true
+}
+
+// Whether the search finds a model of the clauses in which these variables are true.
+fn has_all(alloc: Global, clauses: &[Vec<i64>], variables: &[i64]) -> Result<bool, Fail> {
+    let (mut solver, mut log) = pose(alloc, clauses)?;
+    if log.steps() > MANY {
+        return Ok(false);
+    }
+    match solver.solve(MANY, &mut log)? {
+        Outcome::Sat => Ok(are_true(&solver, variables)),
+        _ => Ok(false),
+    }
 }
 
 #[test]
 fn hints_make_a_latin_square(rt: HostRuntime) -> Result<(), Fail> {
-    let alloc = rt.alloc();
-    let clauses = hinted_square(alloc)?;
-    let (mut solver, mut log) = pose(alloc, clauses.as_slice())?;
-    assert_eq!(rt; log.steps(), 0);
-    let outcome = solver.solve(1_000_000, &mut log)?;
-    assert!(rt; outcome == Outcome::Sat);
-    for variable in square_of_hints(alloc)?.as_slice() {
-        assert!(rt; solver.value(variable.unsigned_abs()));
-    }
+    let clauses = hinted_square(rt.alloc())?;
+    let hints = square_of_hints(rt.alloc())?;
+    assert!(rt; has_all(rt.alloc(), clauses.as_slice(), hints.as_slice())?);
     Ok(())
 }

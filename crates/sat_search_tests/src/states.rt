@@ -1,26 +1,13 @@
-//! What a state does with formulas worked out by hand.
+//! What a state does with formulas worked out by hand, as texts of steps.
 
 ghost use Rattle.std.specs.Prelude.{◌≤◌, IfOk};
 
+use crate::numbers::{clause, numbers_of};
 use cnf_core::{Clause, Lit, MOST_VARIABLE};
 use sat_state::{Propagated, State};
 use std::alloc::Global;
 use std::process::Abort;
 use std::test::Fail;
-
-// A step of a test. Numbers stand for literals, negative ones for negative literals.
-#[derive(Clone, Copy)]
-enum Step {
-    Add(&'static [i64]),
-    Decide(i64),
-    // The number of the conflict, or none where propagation is done.
-    Propagate(Option<u64>),
-    Back(u64),
-    // Exactly these literals are true.
-    True(&'static [i64]),
-    // A variable has its value from this level and this clause.
-    From(u64, u64, Option<u64>),
-}
 
 fn literal(rt: &impl Abort, number: i64) -> Lit {
     let var = number.unsigned_abs();
@@ -28,18 +15,10 @@ fn literal(rt: &impl Abort, number: i64) -> Lit {
     Lit::new(var, number > 0)
 }
 
-fn clause(rt: &impl Abort, alloc: Global, numbers: &[i64]) -> Result<Clause, Fail> {
-    let mut lits = Vec::new(alloc);
-    for number in numbers {
-        lits.push(literal(rt, *number))?;
-    }
-    Ok(Clause::new(alloc, lits)?)
-}
-
 fn add(rt: &impl Abort, alloc: Global, state: &mut State, numbers: &[i64]) -> Result<(), Fail>
     ensures { IfOk result (λ _. state.old.vars ≤ state.new.vars) }
 {
-    let clause = clause(rt, alloc, numbers)?;
+    let clause = clause(alloc, numbers)?;
     assert!(rt; state.level() == 0);
     Ok(state.add(clause)?)
 }
@@ -87,75 +66,70 @@ fn assert_from(rt: &impl Abort, state: &State, var: u64, level: u64, reason: Opt
     assert!(rt; state.reason(var) == reason);
 }
 
-fn take(rt: &impl Abort, alloc: Global, state: &mut State, step: &Step) -> Result<(), Fail>
+// The first number of a list, or 0.
+fn first(numbers: &[i64]) -> i64 {
+    match numbers.first() {
+        Some(number) => *number,
+        None => 0,
+    }
+}
+
+// A variable, its level, and the clause that gave its value, if there is a third number.
+fn assert_given(rt: &impl Abort, state: &State, numbers: &[i64]) {
+    match numbers {
+        [var, level] => {
+            assert_from(rt, state, var.unsigned_abs(), level.unsigned_abs(), None);
+        }
+        [var, level, reason] => {
+            let reason = Some(reason.unsigned_abs());
+            assert_from(rt, state, var.unsigned_abs(), level.unsigned_abs(), reason);
+        }
+        _ => panic!(rt; "a variable, its level and its clause"),
+    }
+}
+
+// A step's word, and its numbers. `add` a clause, `decide` a literal, `propagate` to the conflict of this number, or to none, go
+// `back` to a level; `true` are exactly these literals, and a variable has its value `from` this level and this clause.
+fn take(rt: &impl Abort, alloc: Global, state: &mut State, step: &str) -> Result<(), Fail>
     requires { 9 ≤ state.old.vars }
     ensures { IfOk result (λ _. 9 ≤ state.new.vars) }
 {
-    match step {
-        Step::Add(numbers) => add(rt, alloc, state, numbers)?,
-        Step::Decide(number) => decide(rt, state, literal(rt, *number)),
-        Step::Propagate(conflict) => propagate(rt, state, *conflict),
-        Step::Back(level) => back(rt, state, *level),
-        Step::True(numbers) => assert_true(rt, state, numbers),
-        Step::From(var, level, reason) => assert_from(rt, state, *var, *level, *reason),
+    let (word, rest) = step.split_once(' ').unwrap_or((step, ""));
+    let numbers = numbers_of(alloc, rest)?;
+    match word {
+        "add" => add(rt, alloc, state, &numbers)?,
+        "decide" => decide(rt, state, literal(rt, first(&numbers))),
+        "propagate" => propagate(rt, state, None),
+        "conflict" => propagate(rt, state, Some(first(&numbers).unsigned_abs())),
+        "back" => back(rt, state, first(&numbers).unsigned_abs()),
+        "true" => assert_true(rt, state, &numbers),
+        _ => assert_given(rt, state, &numbers),
     }
     Ok(())
 }
 
-fn run(rt: &impl Abort, alloc: Global, steps: &[Step]) -> Result<(), Fail> {
+// Takes the steps of a text, with `, ` between any two.
+fn run(rt: &impl Abort, alloc: Global, steps: &str) -> Result<(), Fail> {
     let mut state = State::new(alloc, &[], 9)?;
-    for step in steps {
+    for step in steps.split(", ") {
         take(rt, alloc, &mut state, step)?;
     }
     Ok(())
 }
 
+const FORMULAS: &str = "\
+propagate, true
+add 1, add -1 2, propagate, true 1 2
+add -2, add 1, add -1 2, conflict 2, true -2 1
+add -1 2, add -2 3, add 1, propagate, true 1 2 3
+add 1 2, add -1 2, add 3 -3, propagate, true
+add 1, add, conflict 1, conflict 1, true 1
+add 1, add -1, conflict 1, true 1
+add 1, propagate, add -1 12, propagate, true 1 12, add -1 -12, conflict 2";
+
 #[test]
 fn formulas_are_propagated_as_worked_out_by_hand(rt: HostRuntime) -> Result<(), Fail> {
-    use Step::{Add, Propagate, True};
-    let rows: [&[Step]; 8] = [
-        &[Propagate(None), True(&[])],
-        &[Add(&[1]), Add(&[-1, 2]), Propagate(None), True(&[1, 2])],
-        &[
-            Add(&[-2]),
-            Add(&[1]),
-            Add(&[-1, 2]),
-            Propagate(Some(2)),
-            True(&[-2, 1]),
-        ],
-        &[
-            Add(&[-1, 2]),
-            Add(&[-2, 3]),
-            Add(&[1]),
-            Propagate(None),
-            True(&[1, 2, 3]),
-        ],
-        &[
-            Add(&[1, 2]),
-            Add(&[-1, 2]),
-            Add(&[3, -3]),
-            Propagate(None),
-            True(&[]),
-        ],
-        &[
-            Add(&[1]),
-            Add(&[]),
-            Propagate(Some(1)),
-            Propagate(Some(1)),
-            True(&[1]),
-        ],
-        &[Add(&[1]), Add(&[-1]), Propagate(Some(1)), True(&[1])],
-        &[
-            Add(&[1]),
-            Propagate(None),
-            Add(&[-1, 12]),
-            Propagate(None),
-            True(&[1, 12]),
-            Add(&[-1, -12]),
-            Propagate(Some(2)),
-        ],
-    ];
-    for steps in rows {
+    for steps in FORMULAS.lines() {
         run(&rt, rt.alloc(), steps)?;
     }
     Ok(())
@@ -163,38 +137,11 @@ fn formulas_are_propagated_as_worked_out_by_hand(rt: HostRuntime) -> Result<(), 
 
 #[test]
 fn decisions_are_followed_and_taken_back(rt: HostRuntime) -> Result<(), Fail> {
-    use Step::{Add, Back, Decide, From, Propagate, True};
-    let steps = [
-        Add(&[9]),
-        Add(&[-1, 2]),
-        Add(&[-2, -9, 3]),
-        Add(&[-4, 5]),
-        Add(&[-4, -3, -5]),
-        Add(&[-3, 4, 6]),
-        Propagate(None),
-        Decide(1),
-        Propagate(None),
-        True(&[9, 1, 2, 3]),
-        From(9, 0, Some(0)),
-        From(1, 1, None),
-        From(3, 1, Some(2)),
-        Decide(4),
-        Propagate(Some(3)),
-        True(&[9, 1, 2, 3, 4, -5]),
-        Back(2),
-        True(&[9, 1, 2, 3, 4, -5]),
-        Back(1),
-        True(&[9, 1, 2, 3]),
-        Decide(-4),
-        Propagate(None),
-        True(&[9, 1, 2, 3, -4, 6]),
-        From(6, 2, Some(5)),
-        Back(0),
-        True(&[9]),
-        Propagate(None),
-        True(&[9]),
-    ];
-    run(&rt, rt.alloc(), &steps)
+    let steps = "add 9, add -1 2, add -2 -9 3, add -4 5, add -4 -3 -5, add -3 4 6, propagate, \
+        decide 1, propagate, true 9 1 2 3, from 9 0 0, from 1 1, from 3 1 2, \
+        decide 4, conflict 3, true 9 1 2 3 4 -5, back 2, true 9 1 2 3 4 -5, back 1, true 9 1 2 3, \
+        decide -4, propagate, true 9 1 2 3 -4 6, from 6 2 5, back 0, true 9, propagate, true 9";
+    run(&rt, rt.alloc(), steps)
 }
 
 #[test]
@@ -211,16 +158,21 @@ fn a_clause_is_added_where_it_is_unit(rt: HostRuntime) -> Result<(), Fail> {
     Ok(())
 }
 
-#[test]
-fn literals_are_read_side_by_side(rt: HostRuntime) -> Result<(), Fail> {
-    let mut state = State::new(rt.alloc(), &[], 3)?;
-    let first = clause(&rt, rt.alloc(), &[2, -1])?;
-    let last = clause(&rt, rt.alloc(), &[3])?;
+// Whether two clauses that were added are read side by side.
+fn are_side_by_side(alloc: Global, first: &Clause, last: &Clause) -> Result<bool, Fail> {
+    let mut state = State::new(alloc, &[], 3)?;
     state.add(first.clone()?)?;
     state.add(last.clone()?)?;
-    assert_eq!(rt; state.literals(0), first.lits());
-    assert_eq!(rt; state.literals(1), last.lits());
-    assert_eq!(rt; state.clause(1).lits(), last.lits());
+    let first_is_read = state.literals(0) == first.lits();
+    let last_is_read = state.literals(1) == last.lits() && state.clause(1).lits() == last.lits();
+    Ok(first_is_read && last_is_read)
+}
+
+#[test]
+fn literals_are_read_side_by_side(rt: HostRuntime) -> Result<(), Fail> {
+    let first = clause(rt.alloc(), &[2, -1])?;
+    let last = clause(rt.alloc(), &[3])?;
+    assert!(rt; are_side_by_side(rt.alloc(), &first, &last)?);
     Ok(())
 }
 

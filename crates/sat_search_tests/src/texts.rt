@@ -1,20 +1,12 @@
 //! Texts of formulas and logs, worked out by hand.
+//!
+//! A row has a text, with `@` for the end of a line, and what is said of it, behind a `#`.
 
+use crate::numbers::{clause_of, text_of};
 use cnf_core::{CellNote, Clause, Formula, Line, Lit, Log};
 use sat_text::{CnfError, LogError, read_cnf, read_log, write_cnf, write_log};
-use std::alloc::Global;
+use std::alloc::{AllocError, Global};
 use std::test::Fail;
-
-fn clause(alloc: Global, numbers: &[i64]) -> Result<Clause, Fail> {
-    let mut lits = Vec::new(alloc);
-    for number in numbers {
-        let var = number.unsigned_abs();
-        if 1 <= var && var <= cnf_core::MOST_VARIABLE {
-            lits.push(Lit::new(var, *number > 0))?;
-        }
-    }
-    Ok(Clause::new(alloc, lits)?)
-}
 
 fn note(alloc: Global, value: i64, positive: bool) -> Result<CellNote, Fail> {
     Ok(CellNote {
@@ -24,150 +16,229 @@ fn note(alloc: Global, value: i64, positive: bool) -> Result<CellNote, Fail> {
     })
 }
 
-#[test]
-fn a_formula_is_written_and_read_again(rt: HostRuntime) -> Result<(), Fail> {
-    let alloc = rt.alloc();
-    let mut f = Formula::with_vars(alloc, 2);
-    for numbers in [[1, 2].as_slice(), [-1].as_slice()] {
-        let next = clause(alloc, numbers)?;
-        if next.greatest_variable() <= f.vars() {
-            f.add(next)?;
+/// Bytes as a text.
+fn said(alloc: Global, text: &[u8]) -> Result<String, AllocError> {
+    String::from_str(alloc, str::from_utf8(text).unwrap_or("(no text)"))
+}
+
+/// What is written of the formula that a text has, or the line of its fault.
+fn reread(alloc: Global, text: &[u8]) -> Result<String, Fail> {
+    match read_cnf(alloc, text) {
+        Ok(file) => {
+            let again = write_cnf(alloc, &file.formula, &file.notes, file.added)?;
+            Ok(said(alloc, &again)?)
         }
+        Err(CnfError::Bad(line)) => Ok(format!(in alloc; "{line}")?),
+        Err(_) => Ok(String::from_str(alloc, "refused")?),
     }
-    let notes = Vec::from_array(alloc, [note(alloc, 0, false)?, note(alloc, 1, true)?])?;
-    let text = write_cnf(alloc, &f, &notes, 1)?;
-    let wanted = b"c cell x 0 -1\nc cell x 1 1\nc added 1\np cnf 2 2\n1 2 0\n-1 0\n";
-    assert_eq!(rt; text.as_slice(), wanted.as_slice());
-    let file = read_cnf(alloc, &text)
-        .ok()
-        .ok_or("the text is in the grammar")?;
-    assert_eq!(rt; file.formula.vars(), 2);
-    assert_eq!(rt; file.added, 1);
-    let again = write_cnf(alloc, &file.formula, &file.notes, file.added)?;
-    assert_eq!(rt; again.as_slice(), wanted.as_slice());
+}
+
+/// What is said of a row's text, where it isn't what the row says.
+fn wrong_formula(alloc: Global, row: &str) -> Result<String, Fail> {
+    let (text, want) = row.split_once('#').unwrap_or((row, ""));
+    let text = text_of(alloc, text)?;
+    let want = text_of(alloc, want)?;
+    let found = reread(alloc, text.as_bytes())?;
+    if found.as_str() == want.as_str() {
+        return Ok(String::new(alloc));
+    }
+    Ok(found)
+}
+
+/// Adds a clause of two variables to a formula that has these.
+fn add(alloc: Global, f: &mut Formula, text: &str) -> Result<(), Fail> {
+    let next = clause_of(alloc, text)?;
+    if next.greatest_variable() <= f.vars() {
+        f.add(next)?;
+    }
     Ok(())
 }
 
-#[test]
-fn faults_of_a_formula_stand_at_their_line(rt: HostRuntime) {
-    let cases: [(&[u8], u64); 16] = [
-        (b"", 1),
-        (b"\n\n", 2),
-        (b"p cnf 2 5\n1 2 0\n1 -2 0\n-1 2 0\n-1 -2 0", 5),
-        (b"p cnf 2 5\n1 2 0\n1 -2 0\n-1 2 0\n-1 -2 0\n", 5),
-        (b"p cnf 2 1\n1 2 0\n1 0\n", 3),
-        (b"p cnf 2 1\n1 3 0\n", 2),
-        (b"p cnf 2 1\n1\nx 0\n", 3),
-        (b"p cnf 2 1\n1 2\n", 2),
-        (b"p cnf 2\nc note\n1 2 0\n", 3),
-        (b"p cnf 2\n", 1),
-        (b"p cnf 2 1 1\n1 0\n", 1),
-        (b"c x\np dnf 2 1\n1 0\n", 2),
-        (b"p cnf 2 1234567890123456789\n", 1),
-        (b"p cnf -1 1\n", 1),
-        (b"p cnf 2 1\n1234567890123456789 0\n", 2),
-        (b"p cnf 1 1\n\n\n2 0\n\n", 4),
-    ];
-    for (text, line) in cases {
-        assert!(rt;
-            matches!(read_cnf(rt.alloc(), text), Err(CnfError::Bad(at)) if at == line),
-            "at {line}"
-        );
-    }
+/// A formula of two clauses, as it is written.
+fn written(alloc: Global) -> Result<Vec<u8>, Fail> {
+    let mut f = Formula::with_vars(alloc, 2);
+    add(alloc, &mut f, "1 2")?;
+    add(alloc, &mut f, "-1")?;
+    let notes = Vec::from_array(alloc, [note(alloc, 0, false)?, note(alloc, 1, true)?])?;
+    Ok(write_cnf(alloc, &f, &notes, 1)?)
 }
+
+#[test]
+fn a_formula_is_written_and_read_again(rt: HostRuntime) -> Result<(), Fail> {
+    let text = written(rt.alloc())?;
+    let wanted = "c cell x 0 -1\nc cell x 1 1\nc added 1\np cnf 2 2\n1 2 0\n-1 0\n";
+    assert_eq!(rt; text.as_slice(), wanted.as_bytes());
+    let again = reread(rt.alloc(), &text)?;
+    assert_eq!(rt; again.as_str(), wanted);
+    Ok(())
+}
+
+/// Texts with a fault, and its line.
+const BAD_FORMULAS: &str = "\
+#1
+@@#2
+p cnf 2 5@1 2 0@1 -2 0@-1 2 0@-1 -2 0#5
+p cnf 2 5@1 2 0@1 -2 0@-1 2 0@-1 -2 0@#5
+p cnf 2 1@1 2 0@1 0@#3
+p cnf 2 1@1 3 0@#2
+p cnf 2 1@1@x 0@#3
+p cnf 2 1@1 2@#2
+p cnf 2@c note@1 2 0@#3
+p cnf 2@#1
+p cnf 2 1 1@1 0@#1
+c x@p dnf 2 1@1 0@#2
+p cnf 2 1234567890123456789@#1
+p cnf -1 1@#1
+p cnf 2 1@1234567890123456789 0@#2
+p cnf 1 1@@@2 0@@#4";
+
+#[test]
+fn faults_of_a_formula_stand_at_their_line(rt: HostRuntime) -> Result<(), Fail> {
+    for row in BAD_FORMULAS.lines() {
+        let wrong = wrong_formula(rt.alloc(), row)?;
+        assert_eq!(rt; wrong.as_str(), "", "{row}");
+    }
+    Ok(())
+}
+
+/// Texts, and what is written of their formulas.
+const SPELLED: &str = "\
+p cnf 0 0#c added 0@p cnf 0 0@
+p cnf 999999999999999999 0@#c added 0@p cnf 999999999999999999 0@
+p cnf 1 1@0#c added 0@p cnf 1 1@0@
+c p cnf\r@ \t p  cnf 02 2 \r@-2@01 1 -0@@2 00#c added 0@p cnf 2 2@1 -2 0@2 0@
+c added 7@p cnf 1 1@c cell q[1,-2] 3 01@1@c cell of 1 1@c cell y 1  1@0@c added 1@#c cell q[1,-2] 3 1@c added 1@p cnf 1 1@1 0@";
 
 #[test]
 fn formulas_may_be_spelled_otherwise(rt: HostRuntime) -> Result<(), Fail> {
-    let alloc = rt.alloc();
-    let cases: [(&[u8], &[u8]); 5] = [
-        (b"p cnf 0 0", b"c added 0\np cnf 0 0\n"),
-        (
-            b"p cnf 999999999999999999 0\n",
-            b"c added 0\np cnf 999999999999999999 0\n",
-        ),
-        (b"p cnf 1 1\n0", b"c added 0\np cnf 1 1\n0\n"),
-        (
-            b"c p cnf\r\n \t p  cnf 02 2 \r\n-2\n01 1 -0\n\n2 00",
-            b"c added 0\np cnf 2 2\n1 -2 0\n2 0\n",
-        ),
-        (
-            b"c added 7\np cnf 1 1\nc cell q[1,-2] 3 01\n1\nc cell of 1 1\nc cell y 1  1\n0\nc added 1\n",
-            b"c cell q[1,-2] 3 1\nc added 1\np cnf 1 1\n1 0\n",
-        ),
-    ];
-    for (text, wanted) in cases {
-        let file = read_cnf(alloc, text)
-            .ok()
-            .ok_or("the text is in the grammar")?;
-        let again = write_cnf(alloc, &file.formula, &file.notes, file.added)?;
-        assert_eq!(rt; again.as_slice(), wanted);
+    for row in SPELLED.lines() {
+        let wrong = wrong_formula(rt.alloc(), row)?;
+        assert_eq!(rt; wrong.as_str(), "", "{row}");
     }
     Ok(())
+}
+
+/// A log of two givens and a step.
+fn log_of(alloc: Global) -> Result<Log, Fail> {
+    let mut log = Log::new(alloc);
+    log.given(clause_of(alloc, "1 2")?)?;
+    log.given(clause_of(alloc, "1 -2")?)?;
+    if 2 <= log.events().len() {
+        log.step(clause_of(alloc, "1")?, [0, 1].to_vec(alloc)?)?;
+    }
+    Ok(log)
 }
 
 #[test]
 fn a_log_is_written_with_ids_of_its_givens_and_steps(rt: HostRuntime) -> Result<(), Fail> {
-    let alloc = rt.alloc();
-    let mut log = Log::new(alloc);
-    log.given(clause(alloc, &[1, 2])?)?;
-    log.given(clause(alloc, &[1, -2])?)?;
-    if 2 <= log.events().len() {
-        log.step(clause(alloc, &[1])?, [0, 1].to_vec(alloc)?)?;
-    }
-    let text = write_log(alloc, &log)?;
+    let log = log_of(rt.alloc())?;
+    let text = write_log(rt.alloc(), &log)?;
     assert_eq!(rt; text.as_slice(), b"3 1 0 1 2 0\n".as_slice());
-    let read = read_log(alloc, &text)
-        .ok()
-        .ok_or("the text is in the grammar")?;
-    assert_eq!(rt; read.lines.len(), 1);
+    let lines = lines_of(rt.alloc(), &text)?;
+    assert_eq!(rt; lines.as_str(), "3: 1; 1 2.");
     Ok(())
 }
 
-#[test]
-fn faults_of_a_log_stand_at_their_line(rt: HostRuntime) {
-    let cases: [(&[u8], u64); 9] = [
-        (b"5 1 0 1 2 0\n6 x", 2),
-        (b"5 1 0 1 2", 1),
-        (b"c note\n\n5 1 0 1 2 0 0\n", 3),
-        (b"0 1 0 1 0\n", 1),
-        (b"-5 1 0 1 0\n", 1),
-        (b"5\n", 1),
-        (b"5 d 1 2\n", 1),
-        (b"5 d 1 -2 0\n", 1),
-        (b"5 0 0\n6 1 0 0\nd", 3),
-    ];
-    for (text, line) in cases {
-        assert!(rt;
-            matches!(read_log(rt.alloc(), text), Err(LogError::Bad(at)) if at == line),
-            "at {line}"
-        );
+/// Adds the literals of a clause, each behind a space.
+fn push_clause(alloc: Global, whole: &mut String, clause: &Clause) -> Result<(), AllocError> {
+    for lit in clause.lits() {
+        let sign = if lit.positive() { "" } else { "-" };
+        let word = format!(in alloc; " {sign}{}", lit.var())?;
+        whole.push_str(word.as_str())?;
+    }
+    Ok(())
+}
+
+/// Adds hints, each behind a space.
+fn push_hints(alloc: Global, whole: &mut String, hints: &[i64]) -> Result<(), AllocError> {
+    for hint in hints {
+        let word = format!(in alloc; " {hint}")?;
+        whole.push_str(word.as_str())?;
+    }
+    Ok(())
+}
+
+/// Adds ids, each behind a space.
+fn push_ids(alloc: Global, whole: &mut String, ids: &[u64]) -> Result<(), AllocError> {
+    for id in ids {
+        let word = format!(in alloc; " {id}")?;
+        whole.push_str(word.as_str())?;
+    }
+    Ok(())
+}
+
+/// Adds a line: the id, literals and hints of an addition, or the ids of a deletion.
+fn push_line(alloc: Global, whole: &mut String, line: &Line) -> Result<(), AllocError> {
+    match line {
+        Line::Add { id, clause, hints } => {
+            let word = format!(in alloc; "{id}:")?;
+            whole.push_str(word.as_str())?;
+            push_clause(alloc, whole, clause)?;
+            whole.push(';')?;
+            push_hints(alloc, whole, hints)?;
+        }
+        Line::Delete { ids } => {
+            whole.push('d')?;
+            push_ids(alloc, whole, ids)?;
+        }
+    }
+    whole.push('.')
+}
+
+/// The lines of a log's text, or the line of its fault.
+fn lines_of(alloc: Global, text: &[u8]) -> Result<String, Fail> {
+    let mut whole = String::new(alloc);
+    match read_log(alloc, text) {
+        Ok(proof) => {
+            for line in &proof.lines {
+                push_line(alloc, &mut whole, line)?;
+            }
+            Ok(whole)
+        }
+        Err(LogError::Bad(line)) => Ok(format!(in alloc; "{line}")?),
+        Err(_) => Ok(String::from_str(alloc, "refused")?),
     }
 }
 
+/// What is said of a row's text, where it isn't what the row says.
+fn wrong_log(alloc: Global, row: &str) -> Result<String, Fail> {
+    let (text, want) = row.split_once('#').unwrap_or((row, ""));
+    let text = text_of(alloc, text)?;
+    let found = lines_of(alloc, text.as_bytes())?;
+    if found.as_str() == want {
+        return Ok(String::new(alloc));
+    }
+    Ok(found)
+}
+
+/// Texts with a fault, and its line.
+const BAD_LOGS: &str = "\
+5 1 0 1 2 0@6 x#2
+5 1 0 1 2#1
+c note@@5 1 0 1 2 0 0@#3
+0 1 0 1 0@#1
+-5 1 0 1 0@#1
+5@#1
+5 d 1 2@#1
+5 d 1 -2 0@#1
+5 0 0@6 1 0 0@d#3";
+
+#[test]
+fn faults_of_a_log_stand_at_their_line(rt: HostRuntime) -> Result<(), Fail> {
+    for row in BAD_LOGS.lines() {
+        let wrong = wrong_log(rt.alloc(), row)?;
+        assert_eq!(rt; wrong.as_str(), "", "{row}");
+    }
+    Ok(())
+}
+
+/// A text, and its lines.
+const LINES: &str = "\
+c note@@ 5 2 -1 1 1 00 -3 4 -0\r@6\td 5 05 0@7 0 0#5: 1 -1 2; -3 4.d 5 5.7:;.";
+
 #[test]
 fn lines_of_a_log_are_additions_and_deletions(rt: HostRuntime) -> Result<(), Fail> {
-    let text = b"c note\n\n 5 2 -1 1 1 00 -3 4 -0\r\n6\td 5 05 0\n7 0 0";
-    let read = read_log(rt.alloc(), text)
-        .ok()
-        .ok_or("the text is in the grammar")?;
-    let mut seen = 0u8;
-    for line in &read.lines {
-        match line {
-            Line::Add { id, clause, hints } => {
-                seen = seen.saturating_add(1);
-                if *id == 5 {
-                    assert_eq!(rt; clause.lits().len(), 3);
-                    assert_eq!(rt; hints.as_slice(), [-3, 4].as_slice());
-                } else {
-                    assert_eq!(rt; *id, 7);
-                    assert_eq!(rt; clause.lits().len(), 0);
-                }
-            }
-            Line::Delete { ids } => {
-                assert_eq!(rt; ids.as_slice(), [5, 5].as_slice());
-            }
-        }
-    }
-    assert_eq!(rt; seen, 2);
+    let wrong = wrong_log(rt.alloc(), LINES)?;
+    assert_eq!(rt; wrong.as_str(), "");
     Ok(())
 }
