@@ -12,7 +12,7 @@ ghost use Rattle.ep_instance.specs.Steps.{finds_said};
 use super::lettings::{ListedShape, listed_from};
 use ep_base::{Memory, Name, Place};
 use ep_eval::Env;
-use ep_instance_parts::{BindError, Find, Source, copy_sets, read_listed, type_of_shape};
+use ep_instance_parts::{BindError, Find, Source, read_listed, type_of_shape};
 use ep_numbers::copy_sets;
 use ep_tree::Declared;
 use std::alloc::Global;

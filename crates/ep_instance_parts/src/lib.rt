@@ -20,6 +20,6 @@ pub use errors::{BindError, Source};
 pub use fitted::{bind_fitted, missing, put_value, scalar_of, type_of_shape};
 pub use fitting::fit;
 pub use instances::{Find, Instance};
-pub use listed::{Listed, copy_sets, read_listed};
+pub use listed::{Listed, read_listed};
 pub use opened::{Opened, read_opened};
 pub use shapes::{Shape, given_shape, shape_from};
