@@ -18,5 +18,6 @@ mod verdicts;
 mod wanted;
 mod writing;
 
+pub use ep_words::{Job, WordsError, read_words};
 pub use status::Status;
 pub use top::run;
