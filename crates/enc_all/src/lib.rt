@@ -7,6 +7,3 @@ mod whole;
 mod wide;
 
 pub use whole::encode;
-
-#[cfg(test)]
-mod tests;

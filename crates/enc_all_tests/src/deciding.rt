@@ -180,3 +180,12 @@ pub(crate) fn solutions(
     found.sort()?;
     Ok(found)
 }
+
+/// How many variables and clauses the formula of a problem has.
+pub(crate) fn sizes(alloc: Global, flat: &Flat) -> Result<(u64, usize), Fail> {
+    if !is_sound(flat) {
+        return Err(Fail::new("a problem with unknown variables or large numbers"));
+    }
+    let (formula, _layout) = encoded(alloc, flat)?;
+    Ok((formula.vars(), formula.clauses().len()))
+}

@@ -1,6 +1,6 @@
 //! Whether a row of a table is right, and the tests, one for each table.
 
-use crate::deciding::solutions;
+use crate::deciding::{sizes, solutions};
 use crate::meanings::is_met;
 use crate::rows::{con_of, cons_of, domains_of, numbers_of, set_of};
 use crate::tables::{CHOICES, COUNTS, OPERATIONS, ORDERS, PROBLEMS, SUMS, TRUTHS, WIDE_SUMS};
@@ -199,5 +199,39 @@ fn a_row_with_a_wrong_number_is_found(rt: HostRuntime) -> Result<(), Fail> {
         first_miscounted(rt.alloc(), table)?,
         Some("all 0 : 0..1 # 2")
     );
+    Ok(())
+}
+
+/// How many variables and clauses the formula of a constraint has, on variables with these numbers.
+fn sizes_of(
+    alloc: Global,
+    said: &str,
+    truth: Option<u64>,
+    sets: &str,
+) -> Result<(u64, usize), Fail> {
+    let domains = domains_of(alloc, sets)?;
+    let con = con_of(alloc, said, truth)?;
+    let flat = flat_of(alloc, &domains, vec![in alloc; con]?)?;
+    sizes(alloc, &flat)
+}
+
+#[test]
+fn a_problem_without_variables_has_no_clause(rt: HostRuntime) -> Result<(), Fail> {
+    let flat = flat_of(rt.alloc(), &[], Vec::new(rt.alloc()))?;
+    assert_eq!(rt; sizes(rt.alloc(), &flat)?, (0, 0));
+    Ok(())
+}
+
+/// Each variable that is 0 or 1 has one literal, and that it is one of them is no clause.
+#[test]
+fn truths_are_tied_by_two_clauses(rt: HostRuntime) -> Result<(), Fail> {
+    for (said, truth) in [
+        ("same 0 1", None),
+        ("clause 1,1", Some(0)),
+        ("all 1", Some(0)),
+    ] {
+        let found = sizes_of(rt.alloc(), said, truth, "0..1 0..1")?;
+        assert_eq!(rt; found, (2, 2), "{said}");
+    }
     Ok(())
 }
