@@ -4,6 +4,7 @@ pub mod ReadRows
 pub mod Runs
 pub mod Tokens
 pub mod Texts
+pub mod SameValues
 pub mod Values
 pub mod Domains
 pub mod Types

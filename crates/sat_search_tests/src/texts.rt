@@ -33,7 +33,7 @@ fn reread(alloc: Global, text: &[u8]) -> Result<String, Fail> {
     }
 }
 
-/// What is said of a row's text, where it isn't what the row says.
+/// The row and what is said of its text, where that isn't what the row says.
 fn wrong_formula(alloc: Global, row: &str) -> Result<String, Fail> {
     let (text, want) = row.split_once('#').unwrap_or((row, ""));
     let text = text_of(alloc, text)?;
@@ -42,7 +42,7 @@ fn wrong_formula(alloc: Global, row: &str) -> Result<String, Fail> {
     if found.as_str() == want.as_str() {
         return Ok(String::new(alloc));
     }
-    Ok(found)
+    Ok(format!(in alloc; "{row} BUT {found}")?)
 }
 
 /// Adds a clause of two variables to a formula that has these.
@@ -200,7 +200,7 @@ fn lines_of(alloc: Global, text: &[u8]) -> Result<String, Fail> {
     }
 }
 
-/// What is said of a row's text, where it isn't what the row says.
+/// The row and what is said of its text, where that isn't what the row says.
 fn wrong_log(alloc: Global, row: &str) -> Result<String, Fail> {
     let (text, want) = row.split_once('#').unwrap_or((row, ""));
     let text = text_of(alloc, text)?;
@@ -208,7 +208,7 @@ fn wrong_log(alloc: Global, row: &str) -> Result<String, Fail> {
     if found.as_str() == want {
         return Ok(String::new(alloc));
     }
-    Ok(found)
+    Ok(format!(in alloc; "{row} BUT {found}")?)
 }
 
 /// Texts with a fault, and its line.
