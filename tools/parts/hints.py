@@ -1,5 +1,5 @@
 """Says what a refusal means: its place in the text, the likeliest mistake there (docs/hints.tsv, or found here), and its row of docs/FAULTS.md."""
-import difflib, os, re
+import difflib, functools, os, re
 
 import grammar, tokens
 from command import INPUTS
@@ -78,8 +78,13 @@ def sentences(kind):
     return []
 
 
+@functools.lru_cache(1)
 def rows():
     """The rows of docs/hints.tsv: fault, text, what stands before, what stands behind, what is said."""
+    return list(read_rows())
+
+
+def read_rows():
     with open(os.path.join(ROOT, "docs/hints.tsv"), encoding="utf-8") as it:
         for line in it:
             if line.strip() and not line.startswith("#"):
