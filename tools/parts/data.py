@@ -11,7 +11,7 @@ class Fault(Exception):
 
 
 def parameters(model, given, files, note=lambda _: None):
-    """The text of a parameter file: what stands in the one that was given, and then a letting for each value of the tables."""
+    """The text of a parameter file: what stands in the one that was given, and then a letting for each value of the tables, which counts where both have one."""
     asked = {}
     text = tokens.text_in(model) if model else None
     for it in tokens.declarations(text) if text else ():
@@ -20,12 +20,16 @@ def parameters(model, given, files, note=lambda _: None):
     begun = tokens.text_in(given) if given else "language ESSENCE' 1.0\n"
     if begun is None:
         raise Fault(f"{given} can't be read")
-    has = {it.token.text for it in tokens.declarations(begun)}
+    has = {it[1].text: it for it in tokens.statements(tokens.tokens_of(begun)) if it[0].text == "letting" and len(it) > 1}
     lines, values = [], {}
     for it in files:
         for name, value in table(it, asked, text is not None).items():
-            if name in has or name in values:
-                raise Fault(f"{it}: `{name}` has a value already")
+            if name in values:
+                raise Fault(f"{it}: `{name}` has a value already, from another table")
+            if name in has:
+                note(f"{it}: its `{name}` is taken, and not that of {given}")
+                start, end = has[name][0].at, has[name][-1].at + len(has[name][-1].text)
+                begun = begun[:start] + "".join(one if one == "\n" else " " for one in begun[start:end]) + begun[end:]
             if text is not None and name not in asked:
                 note(f"{it}: the model has no `given {name}`, so its value isn't used")
                 if not tokens.is_name(name):

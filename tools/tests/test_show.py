@@ -162,6 +162,10 @@ given cube : matrix indexed by [int(1..n)] of matrix indexed by [int(1..n), int(
         self.assertIn("--data NAME=", self.fault("f.json"))
         self.assertEqual(self.made(f"need={self.folder}/f.json")[0], "letting need be [1, 2]\n")
         self.assertIn("has a value already", self.fault("a.json", "c.json"))
+        given = self.file("p", "letting n be 1 $ one\nletting m be\n  2\n")
+        text, notes = self.made("c.json", given=given)
+        self.assertEqual(text, "               $ one\nletting m be\n  2\nletting n be 2\nletting extra be 1\n")
+        self.assertIn("its `n` is taken", notes[0])
 
     def test_csv(self):
         for text, wanted in (

@@ -63,7 +63,7 @@ class Usage(Case):
             self.assertEqual(self.call(epsat, *words), plain)
             explained = self.call(epsat, *words, EPSAT_EXPLAIN="1")
             self.assertEqual(explained[:2], plain[:2])
-            self.assertEqual(bool(explained[2]), plain[0] > 1, explained)
+            self.assertEqual(bool(explained[2]), plain[0] > 1 or "no solution" in plain[1], explained)
         self.assertEqual(self.left(), [])
 
     def test_the_help_names_each_option(self):
