@@ -396,7 +396,9 @@ class Typing:
         elif sign in COMPARISONS:
             wanted, gives = ("int", "bool"), "bool"
             if any(isinstance(it, tuple) for it in kinds):
-                self.fault(node, f"`{sign}` compares integers, and `{SPELL(node.parts[0])}` is {said(kinds[0])}, `{SPELL(node.parts[1])}` {said(kinds[1])}: of matrices each entry is compared, `and([a[i] = b[i] | i : D])`, or `<=lex`")
+                both = all(isinstance(it, tuple) for it in kinds)
+                then = "matrices are compared entry by entry, `and([a[i] = b[i] | i : D])`, or by `<=lex`" if both else "an entry is read by an index, `m[i]`"
+                self.fault(node, f"`{sign}` compares integers, and `{SPELL(node.parts[0])}` is {said(kinds[0])}, `{SPELL(node.parts[1])}` {said(kinds[1])}: {then}")
                 return None
         else:
             wanted, gives = ("int", "bool"), "int"
@@ -889,3 +891,69 @@ class Walker:
                 here = {one.text: self.evaluator.names.get(one.text) for one in self.bound}
                 self.found[(node.first.line, node.first.column)] = (node, at, index, indices, here, getattr(value, "is_bool", False))
                 return
+
+
+class Weigher:
+    """Estimates how many nodes a tree has once its quantifiers are written out: of the values of a domain the first, the middle and the last are tried."""
+
+    def __init__(self, evaluator):
+        self.evaluator = evaluator
+
+    def nodes(self, node):
+        self.evaluator.step()
+        if node.kind == "quantifier":
+            return 1 + self.scope([node.more], node.parts[0], [])
+        if node.kind == "comprehension":
+            return 1 + self.scope(node.more[0], node.parts[0], node.more[1])
+        more = node.more if node.kind == "read" else []
+        return 1 + sum(self.nodes(it) for it in [*node.parts, *(one for one in more if one is not None)] if it.kind != "range")
+
+    def scope(self, generators, body, conditions):
+        if not generators:
+            return self.nodes(body) + sum(self.nodes(it) for it in conditions)
+        names, domain = generators[0]
+        if len(names) > 1:
+            return self.scope([([it], domain) for it in names] + generators[1:], body, conditions)
+        values = self.evaluator.values(domain)
+        if not values:
+            return 0
+        tried = sorted({values[0], values[len(values) // 2], values[-1]})
+        found, kept = 0, self.evaluator.names.get(names[0].text)
+        for it in tried:
+            self.evaluator.names[names[0].text] = it
+            found += self.scope(generators[1:], body, conditions)
+        self.evaluator.names[names[0].text] = kept
+        return round(found / len(tried) * len(values))
+
+
+def heaviest(instance, limit=3):
+    """The clauses with the most nodes, each with an estimate of these."""
+    found = []
+    for it in instance.model:
+        for node in it.parts if it.kind in ("such", "objective", "where", "letting") else ():
+            try:
+                found.append((Weigher(instance.evaluator).nodes(node), node))
+            except (Undefined, Unknown, IndexError, AttributeError, ValueError):
+                continue
+    return sorted(found, key=lambda it: -it[0])[:limit]
+
+
+def widest(instance, limit=3):
+    """The decision variables with the most values in all their cells: how many cells, how many values each, and the name."""
+    found = []
+    for it in instance.model:
+        for group in it.parts if it.kind == "find" else ():
+            parts = group.domain.parts if group.domain.kind == "matrix" else [group.domain]
+            try:
+                cells = math.prod(len(instance.evaluator.values(one)) for one in parts[:-1])
+                found += [(cells, wide(instance.evaluator, parts[-1]), name) for name in group.names]
+            except (Undefined, Unknown, IndexError, AttributeError, ValueError):
+                continue
+    return sorted(found, key=lambda it: -it[0] * it[1])[:limit]
+
+
+def wide(evaluator, domain):
+    """How many values a domain has, by its ends."""
+    if domain.kind == "int" and domain.parts:
+        return sum(max(0, evaluator.number(it.parts[1]) - evaluator.number(it.parts[0]) + 1) for it in domain.parts)
+    return len(evaluator.values(domain))

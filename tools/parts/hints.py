@@ -42,7 +42,9 @@ def of_refusal(line, command, status):
     file, place = (words + ["", "", ""])[2:4]
     path = command.values.get(INPUTS.get(file, ""))
     text = tokens.text_in(path) if path else None
-    if words[0] == "device":
+    if words[0] == "limit" and len(words) == 2:
+        hints = of_limit(words[1], command)
+    elif words[0] == "device":
         hints = of_device(line, command)
     elif text is not None and re.fullmatch(r"[0-9]+:[0-9]+", place):
         row, column = map(int, place.split(":"))
@@ -127,7 +129,8 @@ def of_place(fault, file, text, row, column, name):
             hint = of_table(fault, file, decode(line[: column - 1]), decode(line[column - 1 :]))
         else:
             hint = of_table(fault, file, *around(text, row, column))
-        hints += [hint] if hint else []
+        lost = unclosed(text, row, column) if fault == "F2" else None
+        hints += [lost] if lost else [hint] if hint else []
     if fault == "F3" and not hints:
         hints += of_unknown(text, row, name)
     if fault == "F4":
@@ -138,6 +141,39 @@ def of_place(fault, file, text, row, column, name):
         found = [why for node, why in grammar.type_faults(text, grammar.Reader(text).statements()) if (node.first.line, node.first.column) == (row, column)]
         hints += [hint] if hint else found[:1]
     return hints
+
+
+def unclosed(text, row, column):
+    """Which bracket isn't closed, where a text ends or a statement begins inside of one."""
+    before = [it for it in tokens.tokens_of(text) if (it.line, it.column) < (row, column)]
+    at = next((it for it in tokens.tokens_of(text) if (it.line, it.column) >= (row, column)), None)
+    if at and at.text not in ("such", "find", "letting", "given", "minimising", "maximising", "minimizing", "maximizing", "branching"):
+        return None
+    start = next((number for number in range(len(before) - 1, -1, -1) if before[number].text in tokens.STARTS), 0)
+    opened = []
+    for it in before[start:]:
+        if it.text in ("(", "["):
+            opened.append(it)
+        elif it.text in (")", "]") and opened:
+            opened.pop()
+    return f"the bracket `{opened[-1].text}` in line {opened[-1].line}, column {opened[-1].column}, isn't closed" if opened else None
+
+
+def of_limit(kind, command):
+    """What in the instance is largest, by an estimate."""
+    model, params = texts(command)
+    if model is None:
+        return []
+    instance = grammar.Instance(model, params)
+    made = []
+    for count, node in grammar.heaviest(instance) if kind in ("L4", "L6") else ():
+        if count > 10_000:
+            said = grammar.spelled(model, node)
+            made.append(f"line {node.first.line} of the model, some {count:,} nodes: {said if len(said) <= 90 else said[:86] + ' ..'}")
+    for cells, values, name in grammar.widest(instance) if kind in ("L5", "L6") else ():
+        if cells * values > 100_000:
+            made.append(f"line {name.line} of the model: `{name.text}` has {cells:,} cell{'s' * (cells != 1)} with {values:,} values each")
+    return made
 
 
 def of_unknown(text, row, name):
@@ -186,7 +222,11 @@ def of_name(fault, name, command):
     if model is None:
         return []
     if fault == "F11":
-        return clause(model, ("where",), int(name)) if name.isdigit() else []
+        made = clause(model, ("where",), int(name)) if name.isdigit() else []
+        known = grammar.Instance(model, params).evaluator.names
+        used = dict.fromkeys(re.findall(r"[A-Za-z_]\w*", made[0].split(": ", 1)[1])) if made else {}
+        values = [f"{it} is {known[it]}" for it in used if type(known.get(it)) is int]
+        return made + ([", ".join(values[:6])] if values else [])
     if fault in ("F12", "F13"):
         text = tokens.text_in(command.values.get("in-cnf" if fault == "F12" else "in-log"))
         return [f"line {name}: {text.splitlines()[int(name) - 1][:WIDTH]}"] if text and name.isdigit() and int(name) <= len(text.splitlines()) else []

@@ -111,7 +111,9 @@ such that x > 1, language ESSENCE' 1.0 ## F2 7:18 ## stands once
 such that x > 1 . ## F2 7:17 ## no point stands here
 such that forAll i : int(1..n) . such that b ## F2 7:34 ## has to be an expression
 such that M(1) > 2 ## F2 7:12 ## `M` is no function here
-such that (x > 1 ## F2 8:1 ## ends too soon
+such that (x > 1 ## F2 8:1 ## the bracket `(` in line 7, column 11, isn't closed
+such that sum([M[1 = 2 find w : bool ## F2 7:24 ## the bracket `[` in line 7, column 17, isn't closed
+such that x > ## F2 8:1 ## ends too soon
 such that x > 1 y > 1 ## F2 7:17 ## missing before `y`
 such that x in {1, 2} ## F1 7:16 ## no braces
 such that x = "a" ## F1 7:15 ## no strings
@@ -133,7 +135,8 @@ such that (forAll i : int(1..n) . M[i] > 1) /\ x = i ## F3 7:52 i ## only known 
 find x : bool ## F4 7:6 x ## declared in line 4 already
 such that x in M ## F5 7:16 ## `toSet(..)`
 such that x -> b ## F5 7:11 ## `x` is an integer
-such that M < y ## F5 7:11 ## `M` is a matrix of integers, `y` an integer
+such that M < y ## F5 7:11 ## `M` is a matrix of integers, `y` an integer: an entry is read
+such that M = M ## F5 7:11 ## compared entry by entry
 such that sum i : int(1..n) . M[i] = 5 ## F5 7:11 ## `(sum .. . M[i]) = 5`
 such that x ## F5 7:11 ## true or false, and this is an integer
 such that x[1] > 2 ## F5 7:11 ## only a matrix is read
@@ -156,6 +159,7 @@ MODELS = [
     ("", "F2 model 1:1", "the model is empty"),
     ("$ nothing\n", "F2 model 2:1", "the model is empty"),
     ("\ufefflanguage ESSENCE' 1.0\n", "F1 model 1:1", "byte order mark"),
+    ("letting q be 2\n", "F2 model 1:1", "a parameter file, for --in-param"),
     ("find x : int(1..2)\n", "F2 model 1:1", "a model begins with the line"),
     ("language ESSENCE’ 1.0\n", "F1 model 1:17", "the plain one"),
     ("language Essence 1.3\n", "F2 model 1:10", "reads Essence Prime"),
@@ -272,6 +276,13 @@ class Hints(Case):
             self.assertEqual(len(said), 1, guarded)
         self.assertEqual(self.said(HEAD + "such that x > 1\n")[1], [])
         self.assertIn("no `find`", self.said("language ESSENCE' 1.0\nletting q be 3\n")[1][0])
+
+    def test_the_largest_parts_are_shown_at_a_limit(self):
+        out, said, _ = self.said(HEAD + "such that x > 1,\n  forAll i, j, k : int(1..200) . i + j + k > x\n")
+        self.assertEqual((out[0], said[0]), ("limit L4", "line 8 of the model, some 64,000,001 nodes: forAll i, j, k : int(1..200) . i + j + k > x".replace("64,000,001", "56,000,001")))
+        out, said, _ = self.said(HEAD + "find wide : matrix indexed by [int(1..20)] of int(0..100000000)\n")
+        self.assertEqual((out[0], said[0]), ("limit L6", "line 7 of the model: `wide` has 20 cells with 100,000,001 values each"))
+        self.assertIn("q is 2", self.said(HEAD + "where q > 2\n")[1])
 
     def test_missing_files_are_named(self):
         self.file("model.eprime", HEAD)
