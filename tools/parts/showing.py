@@ -144,6 +144,7 @@ STYLE = """
 * { box-sizing: border-box }
 body { font: 15px/1.45 system-ui, -apple-system, "Segoe UI", "DejaVu Sans", sans-serif; color: var(--ink); margin: 2.5rem auto; padding: 0 1.5rem; max-width: max-content; background: #fff }
 h1 { font-size: 1.5rem; font-weight: 600; margin: 0 }
+h1 ~ h1 { font-size: 1.25rem; margin: 3rem 0 0 }
 h2 { font-size: 1.05rem; font-weight: 600; margin: 2rem 0 .5rem }
 p.note { margin: .25rem 0 1.5rem; color: var(--pale) }
 p.note b { color: var(--ink) }
@@ -155,8 +156,15 @@ th.corner { font-size: .8rem; white-space: nowrap }
 td.off { color: #b8b8bd }
 dl { display: grid; grid-template-columns: max-content max-content; gap: .15rem 1.25rem; margin: 1rem 0 }
 dt { color: var(--pale) } dd { margin: 0; font-variant-numeric: tabular-nums }
-section { break-inside: avoid }
-@media print { body { margin: 0; padding: 0; font-size: 11px } th, td { padding: .12rem .3rem; min-width: 0 } * { print-color-adjust: exact; -webkit-print-color-adjust: exact } @page { size: landscape; margin: 12mm } }
+tr { break-inside: avoid }
+@page { size: landscape; margin: 12mm }
+@media print {
+  body { margin: 0; padding: 0; font-size: 10px; line-height: 1.25 }
+  h1 { font-size: 15px } h1 ~ h1 { font-size: 13px; margin: 1.2rem 0 0 } h2 { font-size: 11px; margin: .6rem 0 .3rem; break-after: avoid } p.note { margin: .1rem 0 .6rem }
+  th, td { padding: .1rem .3rem; min-width: 1.6rem }
+  thead { display: table-header-group }
+  * { print-color-adjust: exact; -webkit-print-color-adjust: exact }
+}
 """
 # Pale grounds for the values of a matrix that has few different ones; 0 and false stay white.
 GROUNDS = ["#dbeafe", "#fde8c8", "#dcfce7", "#fbdce4", "#e9e0fb", "#d6f3f1", "#fef3b8", "#e5e7eb", "#ffd9cc", "#d9ead3", "#cfe2f3", "#f4d9f0"]
