@@ -167,6 +167,7 @@ class Release(Repository):
         self.assertEqual(self.call(f"{top}/epsat", "--version")[1].split("\n")[2], "proved where this release was made")
         self.assertEqual(self.call(f"{top}/epsat", "--in-eprime", "m"), (0, "", ""))
         self.assertEqual(self.call(f"{top}/epsat", "--help")[0], 0)
+        self.assertIn("proved where it was made", self.call(f"{top}/epsat", "--prove")[2])
         for it in ("LICENSE", "epsat.1", "examples/a.eprime", "docs/HELP.txt", "tools/watch"):
             self.assertTrue(os.path.isfile(f"{top}/{it}"), it)
 
