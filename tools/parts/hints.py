@@ -1,10 +1,12 @@
 """Says what a refusal means: its place in the text, the likeliest mistake there (docs/hints.tsv, or found here), and its row of docs/FAULTS.md."""
-import difflib, functools, os, re
+import difflib, functools, os, re, sys
 
 import grammar, tokens
 from command import INPUTS
 
 ROOT = os.path.dirname(os.path.dirname(os.path.dirname(os.path.realpath(__file__))))
+# Texts with more bytes than this aren't read into trees for a hint.
+LARGE = 500_000
 # How many columns of a line are shown.
 WIDTH = 110
 PAGE = 'see "When an answer surprises" at the end of docs/TUTORIAL.md'
@@ -13,21 +15,27 @@ PAGE = 'see "When an answer surprises" at the end of docs/TUTORIAL.md'
 def explain(text, status, command, say):
     """Says, line by line, what is to be said of what the program put out."""
     line = text[:65536].decode("utf-8", "replace").split("\n")[0]
+    sys.setrecursionlimit(8_000)
+    if status == 2:
+        why = command.usage()
+        for it in [why] if why else sentences("fault usage"):
+            say(f"epsat: {it}")
+        if not command.words:
+            say("epsat: `./epsat --help` lists the words; docs/TUTORIAL.md begins with a model of two lines")
+    elif status in (3, 4, 5, 6, 7):
+        for it in of_refusal(line, command, status):
+            say(it)
+    elif status == 0 and command.task in ("solve", "enumerate"):
+        for it in looked(of_answer, text, command):
+            say(it)
+
+
+def looked(look, *parts):
+    """What is found by looking into texts; nothing, where they are nested too deeply for that."""
     try:
-        if status == 2:
-            why = command.usage()
-            for it in [why] if why else sentences("fault usage"):
-                say(f"epsat: {it}")
-            if not command.words:
-                say("epsat: `./epsat --help` lists the words; docs/TUTORIAL.md begins with a model of two lines")
-        elif status in (3, 4, 5, 6, 7):
-            for it in of_refusal(line, command, status):
-                say(it)
-        elif status == 0 and command.task in ("solve", "enumerate"):
-            for it in of_answer(text, command):
-                say(it)
+        return look(*parts)
     except RecursionError:
-        pass
+        return []
 
 
 def of_refusal(line, command, status):
@@ -38,20 +46,20 @@ def of_refusal(line, command, status):
     kind = " ".join(words[:2]) if words[0] in ("fault", "limit", "device") else words[0]
     made, hints = [], []
     if status == 7:
-        return of_judgement(line, command)
+        return looked(of_judgement, line, command)
     file, place = (words + ["", "", ""])[2:4]
     path = command.values.get(INPUTS.get(file, ""))
     text = tokens.text_in(path) if path else None
     if words[0] == "limit" and len(words) == 2:
-        hints = of_limit(words[1], command)
+        hints = looked(of_limit, words[1], command)
     elif words[0] == "device":
         hints = of_device(line, command)
     elif text is not None and re.fullmatch(r"[0-9]+:[0-9]+", place):
         row, column = map(int, place.split(":"))
         made += shown_line(text, row, column)
-        hints = of_place(words[1], file, text, row, column, words[4] if len(words) > 4 else "")
+        hints = looked(of_place, words[1], file, text, row, column, words[4] if len(words) > 4 else "")
     elif words[0] == "fault" and len(words) == 3:
-        hints = of_name(words[1], words[2], command)
+        hints = looked(of_name, words[1], words[2], command)
     made += [f"epsat: {it}" for it in hints]
     return made + [f"epsat: {it}" for it in sentences(kind)]
 
@@ -122,6 +130,8 @@ def around(text, row, column):
 def of_place(fault, file, text, row, column, name):
     """What is likely behind a fault at a place."""
     hints = []
+    if len(text) > 10 * LARGE:
+        return hints
     if fault in ("F1", "F2", "F6", "F7", "F3"):
         if fault == "F1":
             line = text.split("\n")[row - 1]
@@ -138,7 +148,8 @@ def of_place(fault, file, text, row, column, name):
         hints += [f"`{name}` is declared in line {first.line} already"] if first and (first.token.line, first.token.column) != (row, column) else []
     if fault == "F5":
         hint = of_table(fault, file, *around(text, row, column))
-        found = [why for node, why in grammar.type_faults(text, grammar.Reader(text).statements()) if (node.first.line, node.first.column) == (row, column)]
+        trees = grammar.Reader(text).statements() if len(text) <= LARGE else []
+        found = [why for node, why in grammar.type_faults(text, trees) if (node.first.line, node.first.column) == (row, column)]
         hints += [hint] if hint else found[:1]
     return hints
 
@@ -198,7 +209,7 @@ def place_of(text, kinds, name):
 def texts(command):
     """The texts of the model and of the parameters."""
     made = [tokens.text_in(command.values.get(it)) if command.values.get(it) else None for it in ("in-eprime", "in-param")]
-    return made
+    return [it if it is None or len(it) <= LARGE else "" for it in made]
 
 
 def clauses(text, words):

@@ -304,6 +304,14 @@ class Hints(Case):
         self.assertEqual(hints.shown_line("a\tb\x00\r", 1, 3), ["     1 | a b?", "       |   ^"])
         self.assertEqual(hints.shown_line("größe x".encode().decode("latin-1"), 1, 9), ["     1 | größe x", "       |       ^"])
 
+    def test_deep_and_large_texts_are_looked_at_too(self):
+        deep = HEAD + "such that " + "(" * 240 + "x" + ")" * 240 + "\n"
+        out, said, _ = self.said(deep)
+        self.assertEqual((out[0], said[0]), ("fault F5 model 7:11", "a clause has to be true or false, and this is an integer"))
+        large = HEAD + "such that " + ",\n".join(["x > 1"] * 100_000) + ",\nx == y\n"
+        out, said, _ = self.said(large)
+        self.assertEqual((out[0], said[0]), ("fault F2 model 100007:4", "equality is `=`, once"))
+
     def test_each_model_among_the_examples_is_read_whole(self):
         for name in sorted(os.listdir(f"{ROOT}/examples")):
             if name.endswith(".eprime"):
