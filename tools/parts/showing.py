@@ -8,7 +8,7 @@ from answers import Answer, Matrix
 def shown(text, form, command=None):
     """The bytes of an answer in a form: `command` has the words, of which the model's name and its domains are used."""
     answer = Answer(text.decode("utf-8", "replace"))
-    if not answer.notes:
+    if not text.startswith(b"language ") or not answer.notes:
         return text
     path = command.values.get("in-eprime") if command else None
     axes = axes_of(path)
@@ -111,7 +111,9 @@ def table(answer, axes, _path):
     is_first = True
     for head, block in blocks_of(answer):
         if head:
+            out.write("" if is_first else "\n")
             writer.writerow(head.split())
+            is_first = True
         for name, value in block.items():
             for title, _, _, rows, columns, parts in tables_in(name, value, []):
                 if isinstance(value, Matrix):

@@ -76,6 +76,7 @@ class Show(Case):
         rows = list(csv.reader(io.StringIO(self.shown(ANSWER, "csv"))))
         for it in (["n", "-3"], ["b", "true"], ["row", "0", "2", "3"], ["", "4", "10", "0"], ["off", "1", "2"], ["5", "true", "false"], ["deep[2]", "1", "2"]):
             self.assertIn(it, rows)
+        self.assertEqual(self.shown(LIST.replace("be 1", "be [1; int(1)]"), "csv"), "solution,1\nx,1\n,1\n\nsolution,2\nx,2\n")
 
     def test_json_has_values_and_indices(self):
         it = json.loads(self.shown(ANSWER, "json"))

@@ -202,6 +202,14 @@ class Watch(Case):
             self.assertEqual(read(f"{self.folder}/{one}"), read(f"{self.folder}/{other}"))
         self.clean()
 
+    def test_other_tasks_have_a_time_limit_too(self):
+        knapsack = f"{ROOT}/examples/knapsack"
+        for words in (["--task", "verify", "--in-eprime", f"{knapsack}.eprime", "--in-param", f"{knapsack}.param", "--in-solution", f"{knapsack}.solution"],
+                      ["--task", "check", "--in-cnf", f"{ROOT}/examples/pigeons.cnf", "--in-log", f"{ROOT}/examples/pigeons.cnf"], ["--task", "generate", "--number", "5"]):
+            plain = self.call(program(), *words)
+            for more in (["--time-limit", "100000"], ["--stats"], ["--show", "json"]):
+                self.assertEqual(self.call(f"{ROOT}/epsat", *words, *more)[:2], plain[:2], words + more)
+
     def test_a_list_is_cut_too(self):
         words = ["--task", "enumerate", "--solutions", "all", "--in-eprime", f"{ROOT}/examples/garden.eprime", "--in-param", f"{ROOT}/examples/garden.param"]
         self.assertEqual(self.call(f"{ROOT}/epsat", *words, "--time-limit", "100000")[:2], self.call(program(), *words)[:2])
