@@ -138,6 +138,7 @@ class Release(Repository):
     def git(self, *words):
         subprocess.run(["git", "-c", "user.name=t", "-c", "user.email=t@t", *words], cwd=self.top, stdout=subprocess.DEVNULL, env=self.env, check=True)
 
+    @unittest.skipUnless(shutil.which("git"), "there is no git here")
     def test_a_release_starts_where_there_is_no_toolchain(self):
         release = f"{self.top}/tools/release"
         self.assertIn("LICENSE", self.call(release)[2])
