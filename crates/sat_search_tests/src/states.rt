@@ -218,8 +218,11 @@ fn literals_are_read_side_by_side(rt: HostRuntime) -> Result<(), Fail> {
     let last = clause(&rt, rt.alloc(), &[3])?;
     state.add(first.clone()?)?;
     state.add(last.clone()?)?;
-    assert_eq!(rt; state.literals(0), first.lits());
-    assert_eq!(rt; state.literals(1), last.lits());
+    for (short, lit) in state.literals(0).iter().zip(first.lits()) {
+        assert_eq!(rt; short.lit(), *lit);
+    }
+    assert!(rt; state.literals(0).len() == 2 && state.literals(1).len() == 1);
+    assert_eq!(rt; state.literals(1)[0].lit(), last.lits()[0]);
     assert_eq!(rt; state.clause(1).lits(), last.lits());
     Ok(())
 }
