@@ -8,6 +8,6 @@ pub record TrailState : Type 0 where
   pub trail : List Entry
 
 -- the level and the reason of a variable that has a value
-pub record Held : Type 0 where
+pub record Origin : Type 0 where
   pub level : ℕ
   pub reason : Option ℕ

@@ -4,14 +4,14 @@ use Rattle.std.specs.Option.{option_map_or}
 use Rattle.cnf_core.specs.Literal.{Literal}
 use Rattle.sat_state.specs.declared.assignment.Assignment.TheInside.{Inside}
 use Rattle.sat_state.specs.Trail.{Entry, level_of, trail_value}
-use Rattle.sat_state.specs.Assigned.{TrailState, Held}
+use Rattle.sat_state.specs.Assigned.{TrailState, Origin}
 
 -- what the table has for a variable
-abbrev pub slot_of : List (Option Held) → ℕ → Option Held
+abbrev pub slot_of : List (Option Origin) → ℕ → Option Origin
 slot_of slots var = slice_index_or slots var None
 
 -- the entry of a literal, with level and reason from the table
-abbrev pub entry_at : List (Option Held) → Literal → Entry
+abbrev pub entry_at : List (Option Origin) → Literal → Entry
 entry_at slots l = record {
   literal = l;
   level = option_map_or (λ s. s.level) (slot_of slots l.var) 0;
@@ -19,12 +19,12 @@ entry_at slots l = record {
 }
 
 -- the trail that the literals and the table make
-abbrev pub entries : List (Option Held) → List Literal → List Entry
+abbrev pub entries : List (Option Origin) → List Literal → List Entry
 entries slots trues = map (entry_at slots) trues
 
 -- the table has each variable that has a value, of which 0 is none, each literal of the trail is of another variable, and there is room for all;
 -- levels fit their words
-pub record IsTable (slots : List (Option Held)) (trues : List Literal) (level capacity : ℕ) : Type 0 where
+pub record IsTable (slots : List (Option Origin)) (trues : List Literal) (level capacity : ℕ) : Type 0 where
   pub some : 0 < length slots
   pub zero : slot_of slots 0 ≡ None
   pub room : length slots ≤ capacity

@@ -3,7 +3,7 @@ use Rattle.std.specs.Prelude.{◌≡◌, ℕ, ◌==◌, Bool, true, false, Optio
 use Rattle.std.proofs.Common.{eqb, refl, sym, ap, ◌∙◌}
 use Rattle.std.proofs.lemmas.Bool.{eqb-true}
 use Rattle.std.specs.Option.{option_map_or}
-use Rattle.sat_state.specs.Assigned.{Held}
+use Rattle.sat_state.specs.Assigned.{Origin}
 use Rattle.sat_state.specs.declared.slot.TheConstants.{NONE}
 use Rattle.sat_state.specs.declared.slot.Slot.TheInside.{Inside}
 
@@ -11,18 +11,18 @@ use Rattle.sat_state.specs.declared.slot.Slot.TheInside.{Inside}
 abbrev pub word_seen : ℕ → Option ℕ
 word_seen word = if word == NONE then None else Some word
 
-abbrev pub seen_slot : Inside → Option Held
+abbrev pub seen_slot : Inside → Option Origin
 seen_slot a = if a.level == NONE then None else Some (record { level = a.level; reason = word_seen a.reason })
 
 -- without a level there is no reason
 abbrev pub IsSlot : Inside → Type 0
 IsSlot a = a.level ≡ NONE → a.reason ≡ NONE
 
-abbrev inside : ℕ → ℕ → Inside
-inside level reason = record { level = level; reason = reason }
+abbrev slot_of_words : ℕ → ℕ → Inside
+slot_of_words level reason = record { level = level; reason = reason }
 
 -- the words that say this
-abbrev pub slot_seen : Option Held → Inside
+abbrev pub slot_seen : Option Origin → Inside
 slot_seen None = record { level = NONE; reason = NONE }
 slot_seen (Some h) = record { level = h.level; reason = option_map_or (λ n. n) h.reason NONE }
 
@@ -31,9 +31,9 @@ by_word reason true e = sym (eqb-true reason NONE e)
 by_word reason false e = refl
 
 by_level : (level reason : ℕ) (b : Bool) → eqb level NONE ≡ b → (level ≡ NONE → reason ≡ NONE)
-    → slot_seen (if b then None else Some (record { level = level; reason = word_seen reason })) ≡ inside level reason
-by_level level reason true e h = ap (λ (n : ℕ). inside n NONE) (sym (eqb-true level NONE e)) ∙ ap (inside level) (sym (h (eqb-true level NONE e)))
-by_level level reason false e h = ap (inside level) (by_word reason (eqb reason NONE) refl)
+    → slot_seen (if b then None else Some (record { level = level; reason = word_seen reason })) ≡ slot_of_words level reason
+by_level level reason true e h = ap (λ (n : ℕ). slot_of_words n NONE) (sym (eqb-true level NONE e)) ∙ ap (slot_of_words level) (sym (h (eqb-true level NONE e)))
+by_level level reason false e h = ap (slot_of_words level) (by_word reason (eqb reason NONE) refl)
 
 pub slot_again : (a : Inside) → IsSlot a → slot_seen (seen_slot a) ≡ a
 slot_again a h = by_level a.level a.reason (eqb a.level NONE) refl h

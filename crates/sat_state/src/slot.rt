@@ -2,7 +2,7 @@
 
 ghost use Rattle.std.specs.Prelude.{◌≡◌, ℕ, ◌-◌, ◌^◌, ◌<◌, None, Some, IsSome, IfSome};
 ghost use Rattle.std.specs.Option.{option_map, option_map_or};
-ghost use Rattle.sat_state.specs.Assigned.{Held};
+ghost use Rattle.sat_state.specs.Assigned.{Origin};
 
 use std::marker::Model;
 
@@ -18,10 +18,10 @@ pub struct Slot {
 
 impl Model for Slot {
     ghost use Rattle.std.specs.Prelude.{Option};
-    ghost use Rattle.sat_state.specs.Assigned.{Held};
+    ghost use Rattle.sat_state.specs.Assigned.{Origin};
     ghost use Rattle.sat_state.specs.SlotInside.{seen_slot, IsSlot, slot_seen, slot_again};
 
-    ghost Value = { Option Held };
+    ghost Value = { Option Origin };
 
     ghost view = { seen_slot };
 

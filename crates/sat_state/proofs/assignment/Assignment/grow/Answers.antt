@@ -1,6 +1,6 @@
 use Rattle.std.proofs.Common.{◌≡◌, ◌-◌, Option, List, replicate, ◌++◌, vec_capacity, vec_len, None, ap, ◌∙◌, arith}
 use Rattle.std.proofs.lemmas.List.{take_all}
-use Rattle.sat_state.specs.Assigned.{TrailState, Held}
+use Rattle.sat_state.specs.Assigned.{TrailState, Origin}
 use Rattle.sat_state.proofs.Tables.{grown, entries-append}
 use Rattle.sat_state.proofs.assignment.Assignment.grow.Goals as goal
 use Rattle.sat_state.proofs.assignment.Assignment.grow.Goals.{In_ok-resize}
@@ -8,8 +8,8 @@ use Rattle.sat_state.proofs.assignment.Assignment.grow.Goals.{In_ok-resize}
 slots_are : (c : In_ok-resize) → c.resize.new.self.items ≡ c.self.inside.slots.items ++ replicate (c.in_ok-wanted.wanted - vec_len c.self.inside.slots) None
 slots_are c =
     let a = c.self.inside in
-    c.in_ok-resize.ensures.items ∙ ap (λ (front : List (Option Held)). front ++ replicate (c.in_ok-wanted.wanted - vec_len a.slots) c.none.result) (take_all c.in_ok-wanted.wanted a.slots.items (omega (arith, a.slots.ok.0)))
-    ∙ ap (λ (o : Option Held). a.slots.items ++ replicate (c.in_ok-wanted.wanted - vec_len a.slots) o) c.none.ensures
+    c.in_ok-resize.ensures.items ∙ ap (λ (front : List (Option Origin)). front ++ replicate (c.in_ok-wanted.wanted - vec_len a.slots) c.none.result) (take_all c.in_ok-wanted.wanted a.slots.items (omega (arith, a.slots.ok.0)))
+    ∙ ap (λ (o : Option Origin). a.slots.items ++ replicate (c.in_ok-wanted.wanted - vec_len a.slots) o) c.none.ensures
 
 pub invariant_of-self-2 : goal.invariant_of-self-2
 invariant_of-self-2 c =

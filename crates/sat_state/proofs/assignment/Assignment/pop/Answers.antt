@@ -3,7 +3,7 @@ use Rattle.std.specs.Option.{option_to_list, option_map_or}
 use Rattle.std.proofs.lemmas.List.{get_or_read, length_push, take_at}
 use Rattle.std.proofs.lemmas.List.Sums.{sum_by_push}
 use Rattle.cnf_core.specs.Literal.{Literal}
-use Rattle.sat_state.specs.Assigned.{TrailState, Held}
+use Rattle.sat_state.specs.Assigned.{TrailState, Origin}
 use Rattle.sat_state.specs.Trail.{Entry, trail_value, level_of}
 use Rattle.sat_state.specs.AssignmentInside.{slot_of, entry_at, entries}
 use Rattle.sat_state.proofs.Tables.{seen_literals, literals-entries, last_known, last_free, popped, before_pop, trail_before_pop, entries-more, entries-unset}
@@ -18,7 +18,7 @@ invariant_of-self c =
     let known : lit.var < length a.slots.items = last_known a.slots.items left lit a.level (vec_capacity a.trail) t in
     let slot = get_or_read a.slots.items c.var-var.result c.index.result.now (omega (arith, c.var-var.ensures.value, known)) c.index.ensures None in
     let reason : c.reason-reason.result ≡ (entry_at a.slots.items lit).reason =
-    c.reason-reason.ensures ∙ ap (λ (o : Option Held). option_map_or (λ (s : Held). s.reason) o None) (slot ∙ ap (slot_of a.slots.items) c.var-var.ensures.value) in
+    c.reason-reason.ensures ∙ ap (λ (o : Option Origin). option_map_or (λ (s : Origin). s.reason) o None) (slot ∙ ap (slot_of a.slots.items) c.var-var.ensures.value) in
     let opened : c.levels_opened.result ≡ cond (is_none (entry_at a.slots.items lit).reason) 1 0 = c.levels_opened.ensures ∙ ap (λ (o : Option ℕ). cond (is_none o) 1 0) reason in
     let levels : a.level ≡ level_of (entries a.slots.items left) + cond (is_none (entry_at a.slots.items lit).reason) 1 0 =
     t.levels ∙ ap level_of (entries-more a.slots.items left lit) ∙ sum_by_push (λ (e : Entry). cond (is_none e.reason) 1 0) (entries a.slots.items left) (entry_at a.slots.items lit) in

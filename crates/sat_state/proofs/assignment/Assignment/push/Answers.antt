@@ -1,5 +1,5 @@
 use Rattle.std.proofs.Common.{◌≡◌, ℕ, ◌≤◌, ◌+◌, ◌∷◌, [], ◌++◌, List, cond, vec_capacity, None, is_none, sym, ap, ◌∙◌, arith}
-use Rattle.sat_state.specs.Assigned.{TrailState, Held}
+use Rattle.sat_state.specs.Assigned.{TrailState, Origin}
 use Rattle.sat_state.specs.Trail.{Entry, trail_value, level_of}
 use Rattle.sat_state.specs.AssignmentInside.{entries}
 use Rattle.sat_state.proofs.Tables.{seen_value, seen_var, room_left, level_fits, pushed, entries_push}
@@ -30,7 +30,7 @@ invariant_of-self c =
     let now = c.args.self.now in
     let known = seen_var a now c.args.lit.var c.self.view_is c.self.invariant c.requires.known in
     let free : trail_value a.trail.items c.args.lit.var ≡ None = sym (seen_value a now c.args.lit.var c.self.view_is) ∙ c.requires.free in
-    let slot : Held = record { level = a.level + cond (is_none c.args.reason) 1 0; reason = c.args.reason } in
+    let slot : Origin = record { level = a.level + cond (is_none c.args.reason) 1 0; reason = c.args.reason } in
     let positive = variable_low c.var.result c.args.lit.var c.var.ensures.in_range.0 c.var.ensures.value in
     let kept = pushed a.slots.items a.trail.items a.level (vec_capacity a.trail) c.args.lit slot c.self.invariant positive known free in
     rw (c.var.ensures.value, c.push_reserved.ensures.items, c.push_reserved.ensures.capacity, c.some.ensures, c.levels_opened.ensures) kept
@@ -41,7 +41,7 @@ returns-clause-trail c =
     let now = c.args.self.now in
     let known = seen_var a now c.args.lit.var c.self.view_is c.self.invariant c.requires.known in
     let free : trail_value a.trail.items c.args.lit.var ≡ None = sym (seen_value a now c.args.lit.var c.self.view_is) ∙ c.requires.free in
-    let slot : Held = record { level = a.level + cond (is_none c.args.reason) 1 0; reason = c.args.reason } in
+    let slot : Origin = record { level = a.level + cond (is_none c.args.reason) 1 0; reason = c.args.reason } in
     let seen_trail : entries a.slots.items a.trail.items ≡ now.trail = ap (λ (x : TrailState). x.trail) c.self.view_is in
     let entry = λ (n : ℕ). let e : Entry = record { literal = c.args.lit; level = n + cond (is_none c.args.reason) 1 0; reason = c.args.reason } in e in
     rw (c.var.ensures.value, c.push_reserved.ensures.items, c.some.ensures, c.levels_opened.ensures)
