@@ -1,7 +1,7 @@
 -- What a place of a grounded trail says.
 use Rattle.std.proofs.Common.{◌≡◌, ◌≢◌, ℕ, zero, suc, ◌<◌, Bool, true, false, cond, Option, Some, None, inl, inr, List, [], ◌∷◌, length, get_or, take, All, refl, ap, ◌∙◌, sym, subst, arith, eqb}
 use Rattle.std.specs.List.{find}
-use Rattle.std.specs.Option.{option_map}
+use Rattle.std.specs.Option.{option_map, option_map_or}
 use Rattle.std.specs.Prelude.{Contains, IfSome}
 use Rattle.std.proofs.lemmas.Bool.{ne_eqb, eq-eqb}
 use Rattle.std.proofs.lemmas.List.{get_or-map, take-map, length-map}
@@ -104,3 +104,13 @@ reason_there clauses trail v r grounded read =
     let e : get_or trail k found.0 ≡ found.0 = found.1.2 in
     subst (λ (o : Option ℕ). IfSome o (λ (n : ℕ). n < length clauses)) (ap (λ (x : Entry). x.reason) e ∙ found.2)
     (reason_numbers clauses (literals (take k trail)) (get_or trail k found.0).literal (get_or trail k found.0).reason (grounded k found.0 found.1.1).reason)
+
+by_entry : (clauses : List (List Literal)) (trail : List Entry) (v : ℕ) (found : Option Entry) → IsGrounded clauses trail → entry_of trail v ≡ found
+    → IfSome (option_map_or (λ e. e.reason) found None) (λ n. n < length clauses)
+by_entry clauses trail v None grounded is = tt
+by_entry clauses trail v (Some e) grounded is = reason_there clauses trail v e.reason grounded (ap (option_map (λ (x : Entry). x.reason)) is)
+
+-- and so is that of a variable that may have no value
+pub reason_in_there : (clauses : List (List Literal)) (trail : List Entry) (v : ℕ) → IsGrounded clauses trail
+    → IfSome (option_map_or (λ e. e.reason) (entry_of trail v) None) (λ n. n < length clauses)
+reason_in_there clauses trail v grounded = by_entry clauses trail v (entry_of trail v) grounded refl

@@ -12,7 +12,7 @@ use crate::minimal::{Seen, reason_of, removal};
 use crate::order::Order;
 use cnf_core::Lit;
 use ep_base::Memory;
-use sat_state::State;
+use sat_state::{ShortLit, State};
 use std::alloc::Global;
 
 /// What explaining a conflict writes on, kept from one conflict to the next: the variables that were met, marked and in a list,
@@ -70,7 +70,7 @@ fn meet(state: &State, analysis: &mut Analysis, level: u64, var: u64) -> Result<
 }
 
 // Marks the variables of a clause, and counts those that weren't marked before.
-fn mark(state: &State, analysis: &mut Analysis, lits: &[Lit]) -> Result<(), Memory>
+fn mark(state: &State, analysis: &mut Analysis, lits: &[ShortLit]) -> Result<(), Memory>
     requires { All (λ l. l.var < length analysis.old.marks) lits.now }
     ensures room { OnOk result (length analysis.new.marks ≡ length analysis.old.marks) }
     ensures marks { OnOk result (MarksClause analysis.old.marks analysis.new.marks lits.now) }
@@ -216,7 +216,7 @@ fn keep_below(
             analysis.pending -= 1;
             match removal(state, &analysis.marks, &mut analysis.seen, lit) {
                 Some(number) => resolve(state, number, analysis, hints)?,
-                None => lits.push(lit.negated())?,
+                None => lits.push(lit.negated().lit())?,
             }
         }
     }
@@ -245,7 +245,7 @@ fn keep(
         None => Ok(lits),
         Some(at) => {
             analysis.pending = analysis.pending.saturating_sub(1);
-            lits.push(state.trail()[at.place].negated())?;
+            lits.push(state.trail()[at.place].negated().lit())?;
             keep_below(state, vars, at.decision, analysis, &mut lits, hints)?;
             Ok(lits)
         }

@@ -13,10 +13,9 @@ pub fn level_in(state: &State, var: u64) -> u64
     ensures { IsFrom state.now.trail result var }
 {
     let _trail = state.trail();
-    if state.value(var).is_some() {
-        state.level_of(var)
-    } else {
-        0
+    match state.level_in(var) {
+        Some(level) => level,
+        None => 0,
     }
 }
 

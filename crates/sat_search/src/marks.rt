@@ -10,18 +10,18 @@ use std::marker::Model;
 /// Which variables are marked: those whose stamp is the current one.
 #[derive(Debug, Drop)]
 pub struct Marks {
-    stamps: Vec<u64>,
-    stamp: u64,
+    stamps: Vec<u32>,
+    stamp: u32,
 }
 
 // The latest stamp, after which there is another one: the one given, or else 0, to which all stamps are set.
-fn latest(stamps: &mut Vec<u64>, stamp: u64) -> u64
+fn latest(stamps: &mut Vec<u32>, stamp: u32) -> u32
     requires { All (λ s. s ≤ stamp) stamps.old.items }
     ensures room { length stamps.new.items ≡ length stamps.old.items }
     ensures none_later { All (λ s. s ≤ result) stamps.new.items }
-    ensures below { result + 1 < 2 ^ 64 }
+    ensures below { result + 1 < 2 ^ 32 }
 {
-    if stamp == u64::MAX {
+    if stamp == u32::MAX {
         stamps.fill(0);
         return 0;
     }
@@ -62,7 +62,7 @@ impl Marks {
         Ok(())
     }
 
-    /// Takes all marks away. Constant in time, but for once in 2^64 calls.
+    /// Takes all marks away. Constant in time, but for once in 2^32 calls.
     pub fn clear(&mut self)
         ensures room { length self.new ≡ length self.old }
         ensures none { (v : ℕ) → is_marked self.new v ≡ false }

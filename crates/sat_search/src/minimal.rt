@@ -7,9 +7,8 @@ ghost use Rattle.sat_state.specs.Trail.{literals, trail_value, entry_of};
 
 use crate::levels::level_in;
 use crate::marks::Marks;
-use cnf_core::Lit;
 use ep_base::Memory;
-use sat_state::State;
+use sat_state::{ShortLit, State};
 use std::alloc::Global;
 
 /// How many reasons deep it is looked.
@@ -46,11 +45,7 @@ pub fn reason_of(state: &State, var: u64) -> Option<u64>
     ensures { IfSome result (λ number. number < length state.now.clauses) }
 {
     let _trail = state.trail();
-    if state.value(var).is_some() {
-        state.reason(var)
-    } else {
-        None
-    }
+    state.reason_in(var)
 }
 
 // Whether a variable follows from what is marked, where that is known: it is marked, of level 0, or was looked at before.
@@ -92,7 +87,7 @@ fn has_implied_reason(state: &State, marks: &Marks, seen: &mut Seen, var: u64, d
 
 /// The number of the clause that gave a literal of the trail, if that clause's other literals are false at level 0 or follow from
 /// what is marked.
-pub fn removal(state: &State, marks: &Marks, seen: &mut Seen, lit: Lit) -> Option<u64>
+pub fn removal(state: &State, marks: &Marks, seen: &mut Seen, lit: ShortLit) -> Option<u64>
     requires { IsSome (trail_value (literals state.now.trail) lit.var) }
     ensures { IfSome result (λ number. option_map (λ e. e.reason) (entry_of state.now.trail lit.var) ≡ Some (Some number)) }
 {

@@ -2,8 +2,8 @@
 //! whole numbers), each with the value that it had in the longest trail without a conflict, or else had last. The choice is free, so
 //! nothing is promised of it.
 
-use cnf_core::Lit;
 use ep_base::Memory;
+use sat_state::ShortLit;
 use std::alloc::Global;
 
 /// The weight of the first conflict.
@@ -17,6 +17,11 @@ const SHIFT: u32 = 40;
 /// More levels than a heap in memory has.
 const LEVELS: u32 = 64;
 
+// A number of a variable or a place in four bytes. There are fewer of either than the greatest.
+fn narrow(number: u64) -> u32 {
+    number.min(u64::from(u32::MAX)) as u32
+}
+
 /// The variables in a heap by their scores, the greatest first: a conflict adds its weight to the scores of the variables that it
 /// met, and the weights grow. A variable that isn't in the heap has a value.
 #[derive(Drop)]
@@ -27,8 +32,8 @@ pub struct Order {
     best: Vec<Option<bool>>,
     longest: usize,
     // One more than the place of each variable in the heap, or 0.
-    places: Vec<usize>,
-    heap: Vec<u64>,
+    places: Vec<u32>,
+    heap: Vec<u32>,
     step: u64,
 }
 
@@ -59,7 +64,7 @@ impl Order {
         self.longest = 0;
         for var in 1..wanted {
             if self.heap.len() < wanted {
-                self.insert(var as u64)?;
+                self.insert(narrow(var as u64))?;
             }
         }
         Ok(())
@@ -67,7 +72,7 @@ impl Order {
 
     /// The variable of the greatest score in the heap, or 0 where it is empty.
     pub fn place(&self) -> u64 {
-        self.at(0)
+        u64::from(self.at(0))
     }
 
     /// Takes the variable of the greatest score out of the heap.
@@ -91,26 +96,26 @@ impl Order {
         }
     }
 
-    fn score(&self, var: u64) -> u64 {
+    fn score(&self, var: u32) -> u64 {
         self.scores.get(var as usize).copied().unwrap_or(0)
     }
 
     // The variable at a place of the heap, or 0.
-    fn at(&self, place: usize) -> u64 {
+    fn at(&self, place: usize) -> u32 {
         self.heap.get(place).copied().unwrap_or(0)
     }
 
-    fn put(&mut self, place: usize, var: u64) {
+    fn put(&mut self, place: usize, var: u32) {
         if let Some(there) = self.heap.get_mut(place) {
             *there = var;
         }
         if let Some(kept) = self.places.get_mut(var as usize) {
-            *kept = place.saturating_add(1);
+            *kept = narrow(place.saturating_add(1) as u64);
         }
     }
 
     // Puts a variable to this place, or above it.
-    fn rise(&mut self, place: usize, var: u64) {
+    fn rise(&mut self, place: usize, var: u32) {
         let score = self.score(var);
         let mut place = place;
         for _ in 0..LEVELS {
@@ -126,7 +131,7 @@ impl Order {
     }
 
     // Puts a variable to the first place, or below it.
-    fn sink(&mut self, var: u64) {
+    fn sink(&mut self, var: u32) {
         let score = self.score(var);
         let mut place: usize = 0;
         for _ in 0..LEVELS {
@@ -148,7 +153,7 @@ impl Order {
     }
 
     // Brings a variable into the heap, unless it is there.
-    fn insert(&mut self, var: u64) -> Result<(), Memory> {
+    fn insert(&mut self, var: u32) -> Result<(), Memory> {
         if self.places.get(var as usize).copied().unwrap_or(1) == 0 {
             self.heap.push(var)?;
             let place = self.heap.len().saturating_sub(1);
@@ -159,7 +164,7 @@ impl Order {
 
     /// Keeps the signs of so many literals, the first of these, which were true together without a conflict, if there are more of
     /// them than before in this search.
-    pub fn keep_longest(&mut self, lits: &[Lit], count: usize) {
+    pub fn keep_longest(&mut self, lits: &[ShortLit], count: usize) {
         if count <= self.longest {
             return;
         }
@@ -194,7 +199,7 @@ impl Order {
         }
         let place = self.places.get(var as usize).copied().unwrap_or(0);
         if place > 0 {
-            self.rise(place.saturating_sub(1), var);
+            self.rise(place.saturating_sub(1) as usize, narrow(var));
         }
     }
 
@@ -206,12 +211,12 @@ impl Order {
     }
 
     /// Keeps the value of a literal that is about to be taken back, and brings its variable into the heap.
-    pub fn release(&mut self, lit: Lit) {
+    pub fn release(&mut self, lit: ShortLit) {
         let var = lit.var();
         if let Some(phase) = self.phases.get_mut(var as usize) {
             *phase = lit.positive();
         }
         // There is room for each variable.
-        let _ = self.insert(var);
+        let _ = self.insert(narrow(var));
     }
 }

@@ -4,7 +4,7 @@ ghost use Rattle.std.specs.Prelude.{◌≤◌, IfOk};
 
 use crate::numbers::{clause, numbers_of};
 use cnf_core::{Clause, Lit, MOST_VARIABLE};
-use sat_state::{Propagated, State};
+use sat_state::{Propagated, ShortLit, State};
 use std::alloc::Global;
 use std::process::Abort;
 use std::test::Fail;
@@ -158,13 +158,27 @@ fn a_clause_is_added_where_it_is_unit(rt: HostRuntime) -> Result<(), Fail> {
     Ok(())
 }
 
+// Whether these literals are those, one by one.
+fn are_same(short: &[ShortLit], lits: &[Lit]) -> bool {
+    if short.len() != lits.len() {
+        return false;
+    }
+    for (one, other) in short.iter().zip(lits) {
+        if one.lit() != *other {
+            return false;
+        }
+    }
+    true
+}
+
 // Whether two clauses that were added are read side by side.
 fn are_side_by_side(alloc: Global, first: &Clause, last: &Clause) -> Result<bool, Fail> {
     let mut state = State::new(alloc, &[], 3)?;
     state.add(first.clone()?)?;
     state.add(last.clone()?)?;
-    let first_is_read = state.literals(0) == first.lits();
-    let last_is_read = state.literals(1) == last.lits() && state.clause(1).lits() == last.lits();
+    let first_is_read = are_same(state.literals(0), first.lits());
+    let last_is_read = are_same(state.literals(1), last.lits())
+        && state.clause(1).lits() == last.lits();
     Ok(first_is_read && last_is_read)
 }
 

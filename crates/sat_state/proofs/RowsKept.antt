@@ -1,5 +1,5 @@
 -- The rows of literals where a clause comes in at the end, and where something else than the ends of a row changes.
-use Rattle.std.proofs.Common.{◌≡◌, ℕ, suc, ◌^◌, min, false, Result, Ok, Err, is_ok, is_err, if◌then◌else◌, ◌+◌, ◌-◌, ◌<◌, ◌≤◌, List, [], ◌∷◌, ◌++◌, length, map, take, drop, get_or, set, refl, ap, ◌∙◌, arith}
+use Rattle.std.proofs.Common.{◌≡◌, ℕ, suc, ◌^◌, min, ◌+◌, ◌-◌, ◌<◌, ◌≤◌, List, [], ◌∷◌, ◌++◌, length, map, take, drop, get_or, set, refl, ap, ◌∙◌, arith}
 use Rattle.std.proofs.Math.Nat.{min-le_right}
 use Rattle.std.proofs.Math.Seq.{drop-append_seam, map-set_same}
 use Rattle.std.proofs.lemmas.List.{take_all, take-append-le, drop-append-le, length-drop, map-append}
@@ -47,11 +47,6 @@ rowed lists room spare = record { lists = lists; room = room; spare = spare }
 pub rowed_same : (lists others : List (List Literal)) (room other spare : ℕ) → others ≡ lists → other ≡ room
     → ◌≡◌ {A = Rowed} (record { lists = others; room = other; spare = spare }) (record { lists = lists; room = room; spare = spare })
 rowed_same lists others room other spare same_lists same_room = ap (λ (ls : List (List Literal)). rowed ls other spare) same_lists ∙ ap (λ (n : ℕ). rowed lists n spare) same_room
-
--- what is appended where there is room for it
-pub appended : {E : Type 0} (r : Result (Unit {0}) E) (all literals : List Literal) → is_err r ≡ false → (if is_ok r then all else literals) ≡ all
-appended (Ok done) all literals fine = refl
-appended (Err e) all literals fine = absurd (let wrong : ⊥ = cc fine in wrong)
 
 pub fits_end : (start count room : ℕ) → start < 2 ^ 32 → count ≤ min room (2 ^ 32 - 1 - start) → start + count < 2 ^ 32
 fits_end start count room few within = let right = min-le_right room (2 ^ 32 - 1 - start) in omega (arith, few, within, right)

@@ -1,6 +1,7 @@
 pub mod Trail
 pub mod View
 pub mod Assigned
+pub mod SlotInside
 pub mod AssignmentInside
 pub mod Chains
 pub mod Watching

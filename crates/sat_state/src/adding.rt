@@ -71,6 +71,7 @@ impl Parts {
         requires known { VariablesUpTo self.old.assigned.vars clause }
         requires clauses_room { 1 ≤ self.old.clauses.room }
         requires clauses_spare { length clause ≤ self.old.clauses.spare }
+        requires short { All (λ l. code_of l < 2 ^ 32) clause }
         requires watches_room { 2 ≤ self.old.watches.room }
         requires fits { length self.old.watches.lits + 3 < 2 ^ 32 }
         ensures joined { AreJoined self.new }
@@ -125,7 +126,7 @@ impl Parts {
         ensures err_clauses { OnErr result (self.new.clauses.lists ≡ self.old.clauses.lists) }
         ensures err_vars { OnErr result (self.new.assigned.vars ≡ self.old.assigned.vars) }
     {
-        self.clauses.reserve(clause.lits().len())?;
+        self.clauses.reserve(&clause)?;
         self.watches.reserve()?;
         self.grow(clause.greatest_variable())?;
         self.append(clause);

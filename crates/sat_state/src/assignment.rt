@@ -1,36 +1,15 @@
 //! The values of the variables: which literals are true, in which order, at which level and why.
 
-ghost use Rattle.std.specs.Prelude.{◌≡◌, ℕ, ◌+◌, ◌-◌, ◌<◌, ◌≤◌, [], ◌∷◌, ◌++◌, length, take, max, IfOk, OnOk, OnErr, IsSome, is_none, if◌then◌else◌, slice_index_or, All};
+ghost use Rattle.std.specs.Prelude.{◌≡◌, ℕ, ◌+◌, ◌-◌, ◌^◌, ◌<◌, ◌≤◌, [], ◌∷◌, ◌++◌, length, take, max, IfOk, IfSome, OnOk, OnErr, IsSome, None, Some, is_none, if◌then◌else◌, slice_index_or, All};
 ghost use Rattle.std.specs.Option.{option_map, option_map_or};
 ghost use Rattle.cnf_core.specs.Literal.{is_among};
 ghost use Rattle.sat_state.specs.Trail.{Entry, literals, level_of, trail_value, entry_of, next_level};
 
-use cnf_core::Lit;
+use crate::short::ShortLit;
+use crate::slot::Slot;
 use ep_base::Memory;
 use std::alloc::Global;
 use std::marker::Model;
-
-/// What is kept of a variable that has a value.
-#[derive(Clone, Copy, Debug)]
-struct Slot {
-    positive: bool,
-    level: u64,
-    reason: Option<u64>,
-}
-
-// The value that a slot has.
-fn sign_in(slot: Option<Slot>) -> Option<bool>
-    ensures { result ≡ option_map (λ s. s.positive) slot }
-{
-    slot.map(|slot| slot.positive)
-}
-
-// The reason that a slot has.
-fn reason_in(slot: Option<Slot>) -> Option<u64>
-    ensures { result ≡ option_map_or (λ s. s.reason) slot None }
-{
-    slot.and_then(|slot| slot.reason)
-}
 
 // How many levels an entry with this reason opens.
 fn levels_opened(reason: Option<u64>) -> u64
@@ -42,8 +21,8 @@ fn levels_opened(reason: Option<u64>) -> u64
 /// The literals that are true, in the order in which they were made true.
 #[derive(Debug, Drop)]
 pub struct Assignment {
-    slots: Vec<Option<Slot>>,
-    trail: Vec<Lit>,
+    slots: Vec<Slot>,
+    trail: Vec<ShortLit>,
     level: u64,
 }
 
@@ -66,7 +45,7 @@ impl Assignment {
         ensures trail { IfOk result (λ made. made.trail ≡ []) }
     {
         let mut slots = Vec::with_capacity(alloc, 1)?;
-        slots.push(None)?;
+        slots.push(Slot::none())?;
         Ok(Assignment {
             slots,
             trail: Vec::with_capacity(alloc, 1)?,
@@ -84,22 +63,12 @@ impl Assignment {
         if wanted <= self.slots.len() {
             return Ok(());
         }
-        self.trail.reserve(wanted)?;
-        self.slots.resize(wanted, None)?;
-        Ok(())
-    }
-
-    /// The value of a variable.
-    pub fn value(&self, var: u64) -> Option<bool>
-        ensures value { result ≡ trail_value (literals self.now.trail) var }
-        ensures unknown { self.now.vars < var → result ≡ None }
-    {
-        let var = var as usize;
-        if var < self.slots.len() {
-            sign_in(self.slots[var])
-        } else {
-            None
+        if wanted >= u32::MAX as usize {
+            return Err(Memory);
         }
+        self.trail.reserve(wanted)?;
+        self.slots.resize(wanted, Slot::none())?;
+        Ok(())
     }
 
     /// How many decisions there are.
@@ -110,7 +79,7 @@ impl Assignment {
     }
 
     /// The literals that are true, in order.
-    pub fn trail(&self) -> &[Lit]
+    pub fn trail(&self) -> &[ShortLit]
         ensures value { result.now ≡ literals self.now.trail }
         ensures known { All (λ l. l.var ≤ self.now.vars) result.now }
         ensures few { length self.now.trail ≤ self.now.vars }
@@ -118,12 +87,36 @@ impl Assignment {
         self.trail.as_slice()
     }
 
+    /// The level at which a variable got its value, or none where it has none.
+    pub fn level_in(&self, var: u64) -> Option<u64>
+        ensures { result ≡ option_map (λ e. e.level) (entry_of self.now.trail var) }
+    {
+        let var = var as usize;
+        if var < self.slots.len() {
+            self.slots[var].level()
+        } else {
+            None
+        }
+    }
+
+    /// The clause that gave a variable its value, or none where it was decided or has none.
+    pub fn reason_in(&self, var: u64) -> Option<u64>
+        ensures { result ≡ option_map_or (λ e. e.reason) (entry_of self.now.trail var) None }
+    {
+        let var = var as usize;
+        if var < self.slots.len() {
+            self.slots[var].reason()
+        } else {
+            None
+        }
+    }
+
     /// The level at which a variable got its value.
     pub fn level_of(&self, var: u64) -> u64
         requires { IsSome (trail_value (literals self.now.trail) var) }
         ensures { option_map (λ e. e.level) (entry_of self.now.trail var) ≡ Some result }
     {
-        self.slots[var as usize].unwrap().level
+        self.slots[var as usize].level().unwrap()
     }
 
     /// The clause that gave a variable its value, or none where it was decided.
@@ -131,11 +124,12 @@ impl Assignment {
         requires { IsSome (trail_value (literals self.now.trail) var) }
         ensures { option_map (λ e. e.reason) (entry_of self.now.trail var) ≡ Some result }
     {
-        self.slots[var as usize].unwrap().reason
+        self.slots[var as usize].reason()
     }
 
     /// Makes a literal true. Without a reason it is a decision, which opens a level.
-    pub fn push(&mut self, lit: Lit, reason: Option<u64>)
+    pub fn push(&mut self, lit: ShortLit, reason: Option<u64>)
+        requires number { IfSome reason (λ number. number < 2 ^ 32 - 1) }
         requires known { lit.var ≤ self.old.vars }
         requires free { trail_value (literals self.old.trail) lit.var ≡ None }
         ensures vars { self.new.vars ≡ self.old.vars }
@@ -143,16 +137,12 @@ impl Assignment {
             ≡ self.old.trail ++ record { literal = lit; level = next_level self.old.trail reason; reason = reason } ∷ [] }
     {
         self.level += levels_opened(reason);
-        self.slots[lit.var() as usize] = Some(Slot {
-            positive: lit.positive(),
-            level: self.level,
-            reason,
-        });
+        self.slots[lit.var() as usize] = Slot::some(self.level, reason);
         self.trail.push_reserved(lit);
     }
 
     /// Takes the last literal back.
-    pub fn pop(&mut self) -> Lit
+    pub fn pop(&mut self) -> ShortLit
         requires { 0 < length self.old.trail }
         ensures vars { self.new.vars ≡ self.old.vars }
         ensures trail { self.new.trail ≡ take (length self.old.trail - 1) self.old.trail }
@@ -162,8 +152,8 @@ impl Assignment {
     {
         let lit = self.trail.pop().unwrap();
         let var = lit.var() as usize;
-        let reason = reason_in(self.slots[var]);
-        self.slots[var] = None;
+        let reason = self.slots[var].reason();
+        self.slots[var] = Slot::none();
         self.level -= levels_opened(reason);
         lit
     }

@@ -1,6 +1,6 @@
 //! The clauses, and the search for literals that aren't false.
 
-ghost use Rattle.std.specs.Prelude.{◌≡◌, ◌≢◌, ℕ, ◌+◌, ◌-◌, ◌<◌, ◌≤◌, [], ◌∷◌, ◌++◌, length, All, Contains, true, false, IsNone, IfSome, OnOk, OnErr};
+ghost use Rattle.std.specs.Prelude.{◌≡◌, ◌≢◌, ℕ, ◌+◌, ◌-◌, ◌^◌, ◌<◌, ◌≤◌, [], ◌∷◌, ◌++◌, length, All, Contains, true, false, IsNone, IfSome, OnOk, OnErr};
 ghost use Rattle.std.specs.List.{AllWithin};
 ghost use Rattle.cnf_core.specs.Literal.{Literal, code_of};
 ghost use Rattle.sat_state.specs.Trail.{literals};
@@ -9,6 +9,7 @@ ghost use Rattle.sat_state.specs.Watching.{lit_at};
 ghost use Rattle.sat_state.specs.Guards.{is_false};
 
 use crate::rows::{GIVEN, Rows};
+use crate::short::ShortLit;
 use crate::values::Values;
 use crate::watches::code;
 use cnf_core::{Clause, Lit};
@@ -61,7 +62,13 @@ pub fn first_open(assigned: &Values, lits: &[Lit], skipped: usize) -> Option<Lit
 }
 
 // The first place from one on, before another, of a literal that isn't this one and isn't false.
-fn open_place(assigned: &Values, lits: &[Lit], lit: Lit, from: usize, to: usize) -> Option<usize>
+fn open_place(
+    assigned: &Values,
+    lits: &[ShortLit],
+    lit: Lit,
+    from: usize,
+    to: usize,
+) -> Option<usize>
     requires { to ≤ length lits.now }
     ensures there { IfSome result (λ place. place < length lits.now) }
     ensures other { IfSome result (λ place. lit_at lits.now place ≢ lit) }
@@ -72,8 +79,8 @@ fn open_place(assigned: &Values, lits: &[Lit], lit: Lit, from: usize, to: usize)
     let skipped = code(lit);
     for place in from..to {
         let found = lits[place];
-        if code(found) != skipped {
-            if !assigned.is_true(found.negated()) {
+        if found.code() != skipped {
+            if !assigned.is_short_true(found.negated()) {
                 return Some(place);
             }
         }
@@ -82,7 +89,7 @@ fn open_place(assigned: &Values, lits: &[Lit], lit: Lit, from: usize, to: usize)
 }
 
 // The same of all places, from one on and then from the first.
-fn open_place_from(assigned: &Values, lits: &[Lit], lit: Lit, begin: usize) -> Option<usize>
+fn open_place_from(assigned: &Values, lits: &[ShortLit], lit: Lit, begin: usize) -> Option<usize>
     requires { begin ≤ length lits.now }
     ensures there { IfSome result (λ place. place < length lits.now) }
     ensures other { IfSome result (λ place. lit_at lits.now place ≢ lit) }
@@ -108,14 +115,18 @@ impl Clauses {
         }
     }
 
-    /// Makes room for one more clause of so many literals.
-    pub fn reserve(&mut self, count: usize) -> Result<(), Memory>
+    /// Makes room for one more clause, whose literals have to fit their words.
+    pub fn reserve(&mut self, clause: &Clause) -> Result<(), Memory>
         ensures lists { self.new.lists ≡ self.old.lists }
         ensures room { OnOk result (1 ≤ self.new.room) }
-        ensures spare { OnOk result (count ≤ self.new.spare) }
+        ensures spare { OnOk result (length clause.now ≤ self.new.spare) }
+        ensures fits { OnOk result (All (λ l. code_of l < 2 ^ 32) clause.now) }
     {
+        if clause.greatest_variable() > u64::from(u32::MAX / 2) {
+            return Err(Memory);
+        }
         self.clauses.reserve(1)?;
-        self.rows.reserve(count)?;
+        self.rows.reserve(clause.lits().len())?;
         Ok(())
     }
 
@@ -123,6 +134,7 @@ impl Clauses {
     pub fn push(&mut self, clause: Clause)
         requires room { 1 ≤ self.old.room }
         requires spare { length clause ≤ self.old.spare }
+        requires fits { All (λ l. code_of l < 2 ^ 32) clause }
         ensures { self.new.lists ≡ self.old.lists ++ clause ∷ [] }
     {
         let stamp = self.new_stamp();
@@ -155,7 +167,7 @@ impl Clauses {
     }
 
     /// The literals of the clause of this number.
-    pub fn lits(&self, number: usize) -> &[Lit]
+    pub fn lits(&self, number: usize) -> &[ShortLit]
         requires { number < length self.now.lists }
         ensures { result.now ≡ clause_at self.now.lists number }
     {
@@ -200,7 +212,7 @@ impl Clauses {
             Some(place) => {
                 let found = lits[place];
                 self.rows.begin_at(number, place);
-                Some(found)
+                Some(found.lit())
             }
             None => None,
         }

@@ -6,9 +6,12 @@ mod assignment;
 mod clauses;
 mod parts;
 mod rows;
+mod short;
+mod slot;
 mod state;
 mod tiers;
 mod values;
 mod watches;
 
+pub use short::ShortLit;
 pub use state::{Propagated, State};

@@ -94,6 +94,8 @@ impl Parts {
         ensures trail { self.new.assigned.trail ≡ self.old.assigned.trail
             ++ record { literal = lit; level = next_level self.old.assigned.trail (Some number); reason = Some number } ∷ [] }
     {
+        // Shows that the number fits its word.
+        let _entries = self.watches.len();
         self.assigned.push(lit, Some(number as u64));
     }
 
@@ -110,7 +112,7 @@ impl Parts {
             ⊎ HasTwoNotFalse (literals self.new.assigned.trail) (clause_at self.new.clauses.lists number) }
         ensures falsified { result ≡ false → NamesFalsified self.new.clauses.lists self.new.assigned.trail number }
     {
-        let lits = self.clauses.lits(number);
+        let lits = self.clauses.clause(number).lits();
         let Some(one) = first_open(&self.assigned, lits, 0) else {
             return false;
         };
@@ -188,7 +190,7 @@ impl Parts {
         ensures falsified { IfSome result (NamesFalsified self.new.clauses.lists self.new.assigned.trail) }
         ensures done { IsNone result → self.new.queue.head + self.new.queue.far ≡ self.old.queue.head + self.old.queue.far + 1 }
     {
-        let lit = self.assigned.trail()[self.queue.place(far)].negated();
+        let lit = self.assigned.trail()[self.queue.place(far)].lit().negated();
         self.watches.start(lit, far);
         'walk: while let Some(entry) = self.watches.current() {
             if !self.visit(entry) {

@@ -1,8 +1,10 @@
 //! The literals of clauses, side by side.
 
-ghost use Rattle.std.specs.Prelude.{◌≡◌, ◌-◌, ◌<◌, ◌≤◌, [], ◌∷◌, ◌++◌, length, take, drop, OnOk};
+ghost use Rattle.std.specs.Prelude.{◌≡◌, ℕ, ◌-◌, ◌^◌, ◌<◌, ◌≤◌, [], ◌∷◌, ◌++◌, length, take, drop, All, OnOk, vec_capacity};
+ghost use Rattle.cnf_core.specs.Literal.{code_of};
 ghost use Rattle.sat_state.specs.Stored.{clause_at};
 
+use crate::short::ShortLit;
 use cnf_core::Lit;
 use ep_base::Memory;
 use std::alloc::Global;
@@ -25,7 +27,7 @@ struct Row {
 /// else a look at a clause takes stands beside it.
 #[derive(Debug, Drop)]
 pub struct Rows {
-    lits: Vec<Lit>,
+    lits: Vec<ShortLit>,
     rows: Vec<Row>,
 }
 
@@ -42,12 +44,24 @@ impl Model for Rows {
 }
 
 // The literals from a place on, up to another.
-fn between(lits: &[Lit], start: usize, end: usize) -> &[Lit]
+fn between(lits: &[ShortLit], start: usize, end: usize) -> &[ShortLit]
     requires order { start ≤ end }
     requires there { end ≤ length lits.now }
     ensures { result.now ≡ take (end - start) (drop start lits.now) }
 {
     &lits[start..end]
+}
+
+// Appends literals in four bytes each, for which there is room.
+fn append(kept: &mut Vec<ShortLit>, lits: &[Lit])
+    requires room { length lits.now ≤ vec_capacity kept.old - length kept.old.items }
+    requires fits { All (λ l. code_of l < 2 ^ 32) lits.now }
+    ensures items { kept.new.items ≡ kept.old.items ++ lits.now }
+    ensures capacity { vec_capacity kept.new ≡ vec_capacity kept.old }
+{
+    for lit in lits {
+        kept.push_reserved(ShortLit::of(*lit));
+    }
 }
 
 impl Rows {
@@ -79,13 +93,12 @@ impl Rows {
     pub fn push(&mut self, lits: &[Lit], stamp: u32)
         requires room { 1 ≤ self.old.room }
         requires spare { length lits.now ≤ self.old.spare }
+        requires fits { All (λ l. code_of l < 2 ^ 32) lits.now }
         ensures { self.new.lists ≡ self.old.lists ++ lits.now ∷ [] }
     {
         let start = self.lits.len();
         let end = start + lits.len();
-        if self.lits.extend_from_slice(lits).is_err() {
-            unreachable!();
-        }
+        append(&mut self.lits, lits);
         self.rows.push_reserved(Row {
             start: start as u32,
             end: end as u32,
@@ -95,7 +108,7 @@ impl Rows {
     }
 
     /// The literals of the clause of this number.
-    pub fn lits(&self, number: usize) -> &[Lit]
+    pub fn lits(&self, number: usize) -> &[ShortLit]
         requires { number < length self.now.lists }
         ensures { result.now ≡ clause_at self.now.lists number }
     {

@@ -1,13 +1,14 @@
 //! The state of a search: clauses, and the literals that are true by decision or by a clause.
 
 ghost use Rattle.std.specs.Prelude.{◌≡◌, ◌≢◌, ℕ, ◌+◌, ◌<◌, ◌≤◌, ◌⊎◌, [], ◌∷◌, ◌++◌, length, take, drop, Bool, All, AllPairs, None, Some, IfOk, OnOk, OnErr, IsSome, IsNone, IfSome, ◌↔◌, true, filter, nat_le, slice_index_or};
-ghost use Rattle.std.specs.Option.{option_map};
+ghost use Rattle.std.specs.Option.{option_map, option_map_or};
 ghost use Rattle.cnf_core.specs.Literal.{Literal, IsOrdered, IsVariable, VariablesUpTo};
 ghost use Rattle.cnf_core.specs.Steps.{IsLastOf};
 ghost use Rattle.sat_state.specs.Trail.{literals, trail_value, level_of, entry_of, IsFalsified, NamesFalsified, IsGrounded, IsForcedAt, IsOpenBelow, FollowsFromDecisions};
 ghost use Rattle.sat_state.specs.View.{StateView, IsPropagated, BringsIn, AreTwoOf, IsGuarded};
 
 use crate::parts::Parts;
+use crate::short::ShortLit;
 use cnf_core::{Clause, Lit};
 use ep_base::Memory;
 use std::alloc::Global;
@@ -162,7 +163,7 @@ impl State {
     }
 
     /// The literals that are true, in the order in which they were made true.
-    pub fn trail(&self) -> &[Lit]
+    pub fn trail(&self) -> &[ShortLit]
         ensures value { result.now ≡ literals self.now.trail }
         ensures known { VariablesUpTo self.now.vars result.now }
         ensures few { length self.now.trail ≤ self.now.vars }
@@ -185,7 +186,7 @@ impl State {
 
     /// The literals of the clause of this number, in order. They stand beside those of the other clauses, so that reading them takes
     /// fewer loads than [`State::clause`].
-    pub fn literals(&self, number: u64) -> &[Lit]
+    pub fn literals(&self, number: u64) -> &[ShortLit]
         requires { number < length self.now.clauses }
         ensures value { result.now ≡ slice_index_or self.now.clauses number [] }
         ensures ordered { IsOrdered result.now }
@@ -204,6 +205,20 @@ impl State {
         ensures other { self.now.seen ≡ true → IfSome result (λ pair. IsGuarded self.now.trail pair.1 pair.0) }
     {
         self.parts.watched(number as usize)
+    }
+
+    /// The level at which a variable got its value, or none where it has none.
+    pub fn level_in(&self, var: u64) -> Option<u64>
+        ensures { result ≡ option_map (λ e. e.level) (entry_of self.now.trail var) }
+    {
+        self.parts.assigned.level_in(var)
+    }
+
+    /// The number of the clause that gave a variable its value, or none where it was decided or has no value.
+    pub fn reason_in(&self, var: u64) -> Option<u64>
+        ensures { result ≡ option_map_or (λ e. e.reason) (entry_of self.now.trail var) None }
+    {
+        self.parts.assigned.reason_in(var)
     }
 
     /// The level at which a variable got its value.

@@ -102,6 +102,14 @@ impl Tiers {
         self.watches.push();
     }
 
+    /// How many entries there are. Their numbers fit their words.
+    pub fn len(&self) -> usize
+        ensures value { result ≡ length self.now.lits }
+        ensures few { result + 1 < 2 ^ 32 }
+    {
+        self.watches.len()
+    }
+
     /// The literal that an entry watches.
     pub fn lit(&self, entry: usize) -> Lit
         requires there { entry < length self.now.lits }

@@ -1,11 +1,12 @@
 //! The values of the variables, with a table of the literals that are true.
 
-ghost use Rattle.std.specs.Prelude.{◌≡◌, ℕ, ◌+◌, ◌-◌, ◌<◌, ◌≤◌, [], ◌∷◌, ◌++◌, length, take, max, IfOk, OnOk, OnErr, IsSome, None, Some, All};
-ghost use Rattle.std.specs.Option.{option_map};
+ghost use Rattle.std.specs.Prelude.{◌≡◌, ℕ, ◌+◌, ◌-◌, ◌^◌, ◌<◌, ◌≤◌, [], ◌∷◌, ◌++◌, length, take, max, true, false, if◌then◌else◌, IfOk, IfSome, OnOk, OnErr, IsSome, None, Some, All};
+ghost use Rattle.std.specs.Option.{option_map, option_map_or};
 ghost use Rattle.cnf_core.specs.Literal.{is_among};
 ghost use Rattle.sat_state.specs.Trail.{Entry, literals, level_of, trail_value, entry_of, next_level};
 
 use crate::assignment::Assignment;
+use crate::short::ShortLit;
 use crate::watches::code;
 use cnf_core::Lit;
 use ep_base::Memory;
@@ -31,6 +32,19 @@ impl Model for Values {
     ghost invariant = { AreValues };
 }
 
+// The value of a variable of which these literals are true.
+fn sign(positive: bool, negative: bool) -> Option<bool>
+    ensures { result ≡ (if positive then Some true else (if negative then Some false else None)) }
+{
+    if positive {
+        Some(true)
+    } else if negative {
+        Some(false)
+    } else {
+        None
+    }
+}
+
 impl Values {
     /// No variable is known, and no literal is true.
     pub fn new(alloc: Global) -> Result<Values, Memory>
@@ -49,7 +63,7 @@ impl Values {
         ensures trail { self.new.trail ≡ self.old.trail }
         ensures err { OnErr result (self.new ≡ self.old) }
     {
-        if vars >= u64::from(u32::MAX) {
+        if vars >= u64::from(u32::MAX / 2) {
             return Err(Memory);
         }
         let wanted = 2 * vars as usize + 2;
@@ -64,7 +78,34 @@ impl Values {
         ensures value { result ≡ trail_value (literals self.now.trail) var }
         ensures unknown { self.now.vars < var → result ≡ None }
     {
-        self.assigned.value(var)
+        // Shows that no other variable has a value.
+        let _trail = self.assigned.trail();
+        sign(self.truth(var, true), self.truth(var, false))
+    }
+
+    // Whether the literal of a variable with a sign is true.
+    fn truth(&self, var: u64, positive: bool) -> bool
+        ensures { result ≡ is_among (literals self.now.trail) (record { var = var; positive = positive }) }
+    {
+        if var as usize >= self.truths.len() {
+            return false;
+        }
+        let code = 2 * var as usize + if positive { 0 } else { 1 };
+        if code < self.truths.len() {
+            return self.truths[code];
+        }
+        false
+    }
+
+    /// Whether a literal in four bytes is true.
+    pub fn is_short_true(&self, lit: ShortLit) -> bool
+        ensures { result ≡ is_among (literals self.now.trail) lit }
+    {
+        let code = lit.code();
+        if code < self.truths.len() {
+            return self.truths[code];
+        }
+        false
     }
 
     /// Whether a literal is true.
@@ -86,12 +127,26 @@ impl Values {
     }
 
     /// The literals that are true, in order.
-    pub fn trail(&self) -> &[Lit]
+    pub fn trail(&self) -> &[ShortLit]
         ensures value { result.now ≡ literals self.now.trail }
         ensures known { All (λ l. l.var ≤ self.now.vars) result.now }
         ensures few { length self.now.trail ≤ self.now.vars }
     {
         self.assigned.trail()
+    }
+
+    /// The level at which a variable got its value, or none where it has none.
+    pub fn level_in(&self, var: u64) -> Option<u64>
+        ensures { result ≡ option_map (λ e. e.level) (entry_of self.now.trail var) }
+    {
+        self.assigned.level_in(var)
+    }
+
+    /// The clause that gave a variable its value, or none where it was decided or has none.
+    pub fn reason_in(&self, var: u64) -> Option<u64>
+        ensures { result ≡ option_map_or (λ e. e.reason) (entry_of self.now.trail var) None }
+    {
+        self.assigned.reason_in(var)
     }
 
     /// The level at which a variable got its value.
@@ -112,18 +167,19 @@ impl Values {
 
     /// Makes a literal true. Without a reason it is a decision, which opens a level.
     pub fn push(&mut self, lit: Lit, reason: Option<u64>)
+        requires number { IfSome reason (λ number. number < 2 ^ 32 - 1) }
         requires known { lit.var ≤ self.old.vars }
         requires free { trail_value (literals self.old.trail) lit.var ≡ None }
         ensures vars { self.new.vars ≡ self.old.vars }
         ensures trail { self.new.trail
             ≡ self.old.trail ++ record { literal = lit; level = next_level self.old.trail reason; reason = reason } ∷ [] }
     {
-        self.assigned.push(lit, reason);
+        self.assigned.push(ShortLit::of(lit), reason);
         self.truths[code(lit)] = true;
     }
 
     /// Takes the last literal back.
-    pub fn pop(&mut self) -> Lit
+    pub fn pop(&mut self) -> ShortLit
         requires { 0 < length self.old.trail }
         ensures vars { self.new.vars ≡ self.old.vars }
         ensures trail { self.new.trail ≡ take (length self.old.trail - 1) self.old.trail }
@@ -132,7 +188,7 @@ impl Values {
         ensures free { trail_value (literals self.new.trail) result.var ≡ None }
     {
         let lit = self.assigned.pop();
-        self.truths[code(lit)] = false;
+        self.truths[lit.code()] = false;
         lit
     }
 }

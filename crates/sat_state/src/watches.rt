@@ -117,6 +117,14 @@ impl Watches {
         self.entries.push_reserved(Entry { lit: 0, next: 0 });
     }
 
+    /// How many entries there are. Their numbers fit their words.
+    pub fn len(&self) -> usize
+        ensures value { result ≡ length self.now.lits }
+        ensures few { result + 1 < 2 ^ 32 }
+    {
+        self.entries.len()
+    }
+
     /// The literal that an entry watches.
     pub fn lit(&self, entry: usize) -> Lit
         requires there { entry < length self.now.lits }

@@ -22,7 +22,7 @@ keep_below-requires-clause-traced c =
     let kept : IsTraced clauses lits c.args.analysis.now.marks ([] ++ negation l ∷ []) c.args.hints.now.items at.place =
     traced_keep clauses lits c.args.analysis.now.marks [] c.args.hints.now.items at.place l cut.there is marked traced in
     let more : at.place ≡ at.decision + (at.place - at.decision) = omega (arith, cut.order) in
-    rw (c.in_ok-push-in-Some.ensures.items, c.new-lits.ensures.items, c.negated.ensures)
+    rw (c.in_ok-push-in-Some.ensures.items, c.new-lits.ensures.items, c.lit.ensures, c.negated.ensures)
     (traced_down clauses lits c.args.analysis.now.marks ([] ++ negation l ∷ []) c.args.hints.now.items at.decision (at.place - at.decision) (omega (arith, cut.order, cut.there))
     (λ k d low high. cut.alone k d low (omega (arith, more, high)))
     (subst (IsTraced clauses lits c.args.analysis.now.marks ([] ++ negation l ∷ []) c.args.hints.now.items) more kept))
@@ -35,7 +35,7 @@ returns-in_ok-keep_below-in-Some-clause-last c =
     let at = c.in-Some.at in
     let cut : IsCut clauses lits c.args.analysis.now.marks at.place at.decision = c.requires.cut at c.in-Some.is in
     let is : l ≡ get_or lits at.place l = c.index-trail-at.is ∙ ap (λ (ls : List Literal). get_or ls at.place l) c.trail.ensures.value in
-    let one : c.push.new.self.items ≡ negation l ∷ [] = rw (c.in_ok-push-in-Some.ensures.items, c.new-lits.ensures.items, c.negated.ensures) refl in
+    let one : c.push.new.self.items ≡ negation l ∷ [] = rw (c.in_ok-push-in-Some.ensures.items, c.new-lits.ensures.items, c.lit.ensures, c.negated.ensures) refl in
     inr (last_kept clauses lits c.args.analysis.now.marks at.place at.decision l c.push.new.self.items c.keep_below.new.lits.items cut is one c.in_ok-keep_below-in-Some.ensures.keeps)
 
 pub keep_below-requires-clause-counted : goal.keep_below-requires-clause-counted

@@ -61,10 +61,10 @@ loop-place-preserved-in-Continue-branch-2 c =
     record {
       within = omega (arith, c.loop-place.invariant.within);
       room = c.loop-place.invariant.room;
-      traced = rw (c.in_ok-push-in-None.ensures.items, c.negated.ensures) (traced_keep clauses lits marks kept c.loop-place.hints.items p l within c.index-trail-place.is marked
+      traced = rw (c.in_ok-push-in-None.ensures.items, c.lit.ensures, c.negated.ensures) (traced_keep clauses lits marks kept c.loop-place.hints.items p l within c.index-trail-place.is marked
           (subst (IsTraced clauses lits marks kept c.loop-place.hints.items) next c.loop-place.invariant.traced));
       counted = omega (arith, taken);
-      keeps = rw (c.in_ok-push-in-None.ensures.items, c.negated.ensures) (keeps_push (take c.args.from lits) c.args.lits.now.items kept l c.loop-place.invariant.keeps front);
+      keeps = rw (c.in_ok-push-in-None.ensures.items, c.lit.ensures, c.negated.ensures) (keeps_push (take c.args.from lits) c.args.lits.now.items kept l c.loop-place.invariant.keeps front);
     }
 
 pub loop-place-preserved : goal.loop-place-preserved

@@ -3,7 +3,7 @@ use Rattle.cnf_core.specs.Literal.{Literal}
 use Rattle.sat_state.specs.Rowed.{Rowed}
 use Rattle.sat_state.specs.RowsInside.{literals_of_row}
 use Rattle.sat_state.specs.declared.rows.Row.{Row}
-use Rattle.sat_state.proofs.RowsKept.{appended, fits_end, rows_push}
+use Rattle.sat_state.proofs.RowsKept.{fits_end, rows_push}
 use Rattle.sat_state.proofs.rows.Rows.push.Goals as goal
 
 pub overflow_cast-start : goal.overflow_cast-start
@@ -24,8 +24,8 @@ returns c =
     let others = c.args.lits.now in
     let rows = c.self.inside.rows.items in
     let start : c.len-start.result ≡ length literals = c.len-start.ensures ∙ c.self.inside.lits.ok.0 in
-    let all : c.extend_from_slice.new.self.items ≡ literals ++ others
-    = c.extend_from_slice.ensures.items ∙ appended c.extend_from_slice.result (literals ++ others) literals (sym c.is_err.ensures.value ∙ c.if-is_err.false) in
+    let all : c.append.new.kept.items ≡ literals ++ others
+    = c.append.ensures.items in
     ap (λ (ls : List Literal). map (literals_of_row ls) c.push_reserved.new.self.items) all
     ∙ ap (λ (rs : List Row). map (literals_of_row (literals ++ others)) rs) c.push_reserved.ensures.items
     ∙ rows_push literals others rows _ start (ap (λ (n : ℕ). n + length others) start) c.self.invariant.inside

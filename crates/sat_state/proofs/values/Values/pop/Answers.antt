@@ -21,5 +21,6 @@ invariant_of-self c =
     let before : AreTruths a.truths.items (now ++ lit ∷ []) = subst (AreTruths a.truths.items) c.pop-lit.ensures.literal c.self.invariant.truths in
     record {
       truths = rw c.code.ensures.value (truths_pop a.truths.items now lit before (not_true now lit c.pop-lit.ensures.free) there);
+      few = omega (arith, c.pop-lit.ensures.vars, c.self.invariant.few);
       room = λ some. omega (arith, c.pop-lit.ensures.vars, length-set a.truths.items c.code.result false, c.self.invariant.room (omega (arith, some, c.pop-lit.ensures.vars)));
     }

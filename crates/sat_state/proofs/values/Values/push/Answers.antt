@@ -21,6 +21,7 @@ invariant_of-self c =
     let there = code_in lit a.assigned.vars (length a.truths.items) (omega (arith, c.code.ensures.some, c.code.ensures.value)) (omega (arith, c.requires.known, same)) c.self.invariant.room in
     let x : Entry = record { literal = lit; level = next_level a.assigned.trail c.args.reason; reason = c.args.reason } in
     record {
-      truths = rw (c.code.ensures.value, c.push.ensures.trail, literals_push a.assigned.trail x) (truths_push a.truths.items (literals a.assigned.trail) lit c.self.invariant.truths there);
+      truths = rw (c.code.ensures.value, c.push.ensures.trail, c.of.ensures, literals_push a.assigned.trail x) (truths_push a.truths.items (literals a.assigned.trail) lit c.self.invariant.truths there);
+      few = omega (arith, c.push.ensures.vars, c.self.invariant.few);
       room = λ some. omega (arith, c.push.ensures.vars, length-set a.truths.items c.code.result true, c.self.invariant.room (omega (arith, some, c.push.ensures.vars)));
     }
