@@ -17,7 +17,7 @@ use Rattle.ep_driver.specs.Steps.{TellsRead, TellsText, formula_clauses, proof_l
 use Rattle.ep_driver.specs.Stops.{cnf_stop, log_stop, text_stop}
 use Rattle.sat_text.specs.CnfGrammar.{IsFaultLine, SpellsCnf}
 use Rattle.sat_text.specs.LogGrammar.{IsFirstWrongLine, SpellsLog}
-use Rattle.sat_text.specs.declared.TheConstants.{MOST_BYTES as MOST_CLAUSE_BYTES}
+use Rattle.sat_text.specs.Words.{most_text_bytes}
 use Rattle.sat_text.specs.declared.cnf.CnfError.{CnfError}
 use Rattle.sat_text.specs.declared.cnf.CnfFile.{CnfFile}
 use Rattle.sat_text.specs.declared.proof.LogError.{LogError}
@@ -56,23 +56,23 @@ pub cut-tree : (file : TextFile) → IsCutAlike MOST_BYTES (IsTextReadAs file)
 cut-tree file text reading h = (h.0, cut-answers (spells_in file) text h.0 h.1, h.2)
 
 cut-refusal : (file : TextFile) (bad : ℕ → Refusal) (text : List ℕ) (Spells : List ℕ → Type 0) (Faulty : List ℕ → ℕ → Type 0) (r : Refusal)
-    → IsClausesRefusal file bad (take (MOST_CLAUSE_BYTES + 1) text) (Spells (take (MOST_CLAUSE_BYTES + 1) text)) (Faulty (take (MOST_CLAUSE_BYTES + 1) text)) r
+    → IsClausesRefusal file bad (take (most_text_bytes + 1) text) (Spells (take (most_text_bytes + 1) text)) (Faulty (take (most_text_bytes + 1) text)) r
     → IsClausesRefusal file bad text (Spells text) (Faulty text) r
 cut-refusal file bad text Spells Faulty r h =
     let P : List ℕ → Type 0 = λ t. IsClausesRefusal file bad t (Spells t) (Faulty t) r in
     elim h [
-      | inl long ↦ inl (longer MOST_CLAUSE_BYTES text long.0, long.1)
-      | inr wrong ↦ subst P (whole MOST_CLAUSE_BYTES text wrong.0) (inr wrong)
+      | inl long ↦ inl (longer most_text_bytes text long.0, long.1)
+      | inr wrong ↦ subst P (whole most_text_bytes text wrong.0) (inr wrong)
     ]
 
-pub cut-formula : IsCutAlike MOST_CLAUSE_BYTES IsFormulaReadAs
+pub cut-formula : IsCutAlike most_text_bytes IsFormulaReadAs
 cut-formula text (Ok clauses) h =
-    let P : List ℕ → Type 0 = λ t. IsFormulaReadAs t (Ok clauses) in subst P (whole MOST_CLAUSE_BYTES text h.0) h
+    let P : List ℕ → Type 0 = λ t. IsFormulaReadAs t (Ok clauses) in subst P (whole most_text_bytes text h.0) h
 cut-formula text (Err r) h = cut-refusal TextFile.Cnf Refusal.BadCnf text (λ t. (clauses : List (List Literal)) × SpellsClauses t clauses) IsFaultLine r h
 
-pub cut-proof : IsCutAlike MOST_CLAUSE_BYTES IsProofReadAs
+pub cut-proof : IsCutAlike most_text_bytes IsProofReadAs
 cut-proof text (Ok lines) h =
-    let P : List ℕ → Type 0 = λ t. IsProofReadAs t (Ok lines) in subst P (whole MOST_CLAUSE_BYTES text h.0) h
+    let P : List ℕ → Type 0 = λ t. IsProofReadAs t (Ok lines) in subst P (whole most_text_bytes text h.0) h
 cut-proof text (Err r) h = cut-refusal TextFile.Log Refusal.BadLog text (λ t. (lines : List ProofLine) × SpellsLog t lines) IsFirstWrongLine r h
 
 -- ---- what a read gave
@@ -118,7 +118,7 @@ text-stopped view file text TextError.Memory h = tt
 
 -- what reading a formula says of its text
 pub record FormulaAnswers (text : List ℕ) (result : Result CnfFile CnfError) : Type 0 where
-  pub too_long : IsErrOf result CnfError.TooLong ↔ (MOST_CLAUSE_BYTES < length text)
+  pub too_long : IsErrOf result CnfError.TooLong ↔ (most_text_bytes < length text)
   pub spelled : IfOk result (λ file. SpellsCnf text file.formula.vars file.formula.clauses)
   pub complete : (vars : ℕ) (clauses : List (List Literal)) → SpellsCnf text vars clauses → MatchResult result (λ file. (file.formula.vars ≡ vars) × (file.formula.clauses ≡ clauses)) (λ error. (line : ℕ) → error ≡ CnfError.Bad line → ⊥)
   pub fault : (line : ℕ) → result ≡ Err (CnfError.Bad line) → IsFaultLine text line
@@ -127,7 +127,7 @@ within-of : (most n : ℕ) → ¬ (most < n) → n ≤ most
 within-of most n h = omega (arith, h)
 
 pub formula-read : (text : List ℕ) (file : CnfFile) → FormulaAnswers text (Ok file) → IsFormulaReadAs text (Ok (formula_clauses file.formula))
-formula-read text file h = (within-of MOST_CLAUSE_BYTES (length text) (λ long. let e = h.too_long.1 long in absurd cc), (file.formula.vars, h.spelled))
+formula-read text file h = (within-of most_text_bytes (length text) (λ long. let e = h.too_long.1 long in absurd cc), (file.formula.vars, h.spelled))
 
 pub formula-stopped : (text : List ℕ) (error : CnfError) → FormulaAnswers text (Err error) → TellsText {V = Cnf} formula_clauses IsFormulaReadAs text (Err (cnf_stop error))
 unfolding status_of
@@ -135,7 +135,7 @@ formula-stopped text CnfError.TooLong h = (inr refl, inl (h.too_long.0 refl, ref
 formula-stopped text (CnfError.Bad line) h = (
   inl refl,
   inr (
-    within-of MOST_CLAUSE_BYTES (length text) (λ long. let e = h.too_long.1 long in absurd cc),
+    within-of most_text_bytes (length text) (λ long. let e = h.too_long.1 long in absurd cc),
     (λ spelled. h.complete spelled.1.0 spelled.0 spelled.1.1 line refl),
     line,
     h.fault line refl,
@@ -146,13 +146,13 @@ formula-stopped text CnfError.Memory h = tt
 
 -- what reading a proof says of its text
 pub record ProofAnswers (text : List ℕ) (result : Result Proof LogError) : Type 0 where
-  pub too_long : IsErrOf result LogError.TooLong ↔ (MOST_CLAUSE_BYTES < length text)
+  pub too_long : IsErrOf result LogError.TooLong ↔ (most_text_bytes < length text)
   pub spelled : IfOk result (λ p. SpellsLog text (plain_lines p.lines.items))
   pub complete : (proof : List ProofLine) → SpellsLog text proof → MatchResult result (λ p. plain_lines p.lines.items ≡ proof) (λ error. (line : ℕ) → error ≡ LogError.Bad line → ⊥)
   pub fault : (line : ℕ) → result ≡ Err (LogError.Bad line) → IsFirstWrongLine text line
 
 pub proof-read : (text : List ℕ) (p : Proof) → ProofAnswers text (Ok p) → IsProofReadAs text (Ok (proof_lines p))
-proof-read text p h = (within-of MOST_CLAUSE_BYTES (length text) (λ long. let e = h.too_long.1 long in absurd cc), h.spelled)
+proof-read text p h = (within-of most_text_bytes (length text) (λ long. let e = h.too_long.1 long in absurd cc), h.spelled)
 
 pub proof-stopped : (text : List ℕ) (error : LogError) → ProofAnswers text (Err error) → TellsText {V = Proof} proof_lines IsProofReadAs text (Err (log_stop error))
 unfolding status_of
@@ -160,7 +160,7 @@ proof-stopped text LogError.TooLong h = (inr refl, inl (h.too_long.0 refl, refl)
 proof-stopped text (LogError.Bad line) h = (
   inl refl,
   inr (
-    within-of MOST_CLAUSE_BYTES (length text) (λ long. let e = h.too_long.1 long in absurd cc),
+    within-of most_text_bytes (length text) (λ long. let e = h.too_long.1 long in absurd cc),
     (λ spelled. h.complete spelled.0 spelled.1 line refl),
     line,
     h.fault line refl,

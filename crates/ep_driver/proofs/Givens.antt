@@ -2,9 +2,9 @@
 use Rattle.std.proofs.Common.{◌≡◌, ◌<◌, ◌≤◌, ◌⊎◌, ◌+◌, ◌-◌, ◌^◌, ◌∙◌, ℕ, zero, suc, true, List, [], ◌∷◌, ◌++◌, All, Ok, Err, Result, IfOk, length, map, take, drop, get_or, slice_index_or, inl, inr, refl, sym, ap, subst, append_assoc, arith}
 use Rattle.std.proofs.Math.Seq.{drop-cons}
 use Rattle.std.proofs.lemmas.List.{append-nil, drop_all}
-use Rattle.std.proofs.lemmas.List.Elements.{All-head, All-tail}
+use Rattle.std.proofs.lemmas.List.Elements.{All-cons, All-head, All-nil, All-tail}
 use Rattle.std.specs.Global.{Vec}
-use Rattle.cnf_core.specs.Events.{HasBase, LogEvent, LogState, Note, given, givens, is_given, plain_event, step}
+use Rattle.cnf_core.specs.Events.{HasBase, LogEvent, LogState, Note, given, givens, is_given, plain_event, plain_note, step}
 use Rattle.cnf_core.specs.Formula.{Cnf, NamesItsVariables}
 use Rattle.cnf_core.specs.Literal.{IsVariable, Literal, VariablesUpTo}
 use Rattle.cnf_core.specs.declared.lit.TheConstants.{MOST_VARIABLE}
@@ -12,7 +12,8 @@ use Rattle.ep_base.specs.declared.errors.Memory.{Memory}
 use Rattle.ep_solve.specs.Logged.{added_clauses}
 use Rattle.sat_text.specs.CnfGrammar.{SpellsCnf}
 use Rattle.sat_text.specs.Writing.{IsReadableNote, SaysAgain, cnf_text}
-use Rattle.ep_driver.specs.Outputs.{IsFormulaText}
+use Rattle.ep_driver.specs.Outputs.{AreNotedUpTo, IsFormulaText, NotesUpTo}
+use Rattle.cnf_core.specs.declared.log.CellNote.{CellNote}
 use Rattle.cnf_core.specs.declared.log.Event.{Event}
 use Rattle.cnf_core.specs.declared.log.Event.TheVariants as variants
 
@@ -105,15 +106,70 @@ all-up-to most k clauses all le = λ j d lt. all j d (omega (arith, lt, le))
 pub variables-up-to : (clause : List Literal) → All (λ l. IsVariable l.var) clause → VariablesUpTo MOST_VARIABLE clause
 variables-up-to clause all = λ k d lt. (all k d lt).1
 
+-- the next clause is one of them
+pub one-up-to : (most k : ℕ) (clauses : List (List Literal)) (clause : List Literal) → k < length clauses → clause ≡ slice_index_or clauses k clause → All (VariablesUpTo most) clauses → VariablesUpTo most clause
+one-up-to most k clauses clause lt is all = subst (VariablesUpTo most) (sym is) (all k clause lt)
+
+pub up-to-greater : (m n : ℕ) (clauses : List (List Literal)) → m ≤ n → All (VariablesUpTo m) clauses → All (VariablesUpTo n) clauses
+up-to-greater m n clauses le all = λ k d lt. up-to-more m n (slice_index_or clauses k d) le (all k d lt)
+
+-- ---- the greatest variable of a note
+
+-- the first so many notes have no literal of a variable over a number
+abbrev pub AreFirstNoted : ℕ → ℕ → List CellNote → Type 0
+AreFirstNoted most k notes = (j : ℕ) (d : CellNote) → j < k → (slice_index_or notes j d).lit.var ≤ most
+
+any-note : (xs : List CellNote) (k : ℕ) (d e : CellNote) → k < length xs → slice_index_or xs k d ≡ slice_index_or xs k e
+any-note [] k d e lt = absurd (omega (arith, lt))
+any-note (x ∷ xs) zero d e lt = refl
+any-note (x ∷ xs) (suc k) d e lt = any-note xs k d e (omega (arith, lt))
+
+pub none-noted : (notes : List CellNote) → AreFirstNoted 0 0 notes
+none-noted notes = λ j d lt. absurd (omega (arith, lt))
+
+pub next-noted : (most next k : ℕ) (notes : List CellNote) (note : CellNote) → AreFirstNoted most k notes → most ≤ next → k < length notes → note ≡ slice_index_or notes k note → note.lit.var ≤ next → AreFirstNoted next (k + 1) notes
+next-noted most next k notes note all more lt is here = λ j d below.
+    elim (below-or-at j k below) [
+      | inl less ↦ let h = all j d less in omega (arith, h, more)
+      | inr same ↦
+          let at : note ≡ slice_index_or notes k d = is ∙ any-note notes k note d lt in
+          let mine : (slice_index_or notes k d).lit.var ≤ next = subst (λ (x : CellNote). x.lit.var ≤ next) at here in
+          subst (λ (n : ℕ). (slice_index_or notes n d).lit.var ≤ next) (sym same) mine
+    ]
+
+pub all-noted : (most k : ℕ) (notes : List CellNote) → AreFirstNoted most k notes → length notes ≤ k → AreNotedUpTo most notes
+all-noted most k notes all le = λ j d lt. all j d (omega (arith, lt, le))
+
+pub one-noted : (most k : ℕ) (notes : List CellNote) (note : CellNote) → k < length notes → note ≡ slice_index_or notes k note → AreNotedUpTo most notes → note.lit.var ≤ most
+one-noted most k notes note lt is all = subst (λ (x : CellNote). x.lit.var ≤ most) (sym is) (all k note lt)
+
+pub noted-greater : (m n : ℕ) (notes : List CellNote) → m ≤ n → AreNotedUpTo m notes → AreNotedUpTo n notes
+noted-greater m n notes le all = λ k d lt. let h = all k d lt in omega (arith, h, le)
+
+-- notes as they are kept, and without where they lie in memory
+pub noted-plain : (most : ℕ) (notes : List CellNote) → AreNotedUpTo most notes → NotesUpTo most (map plain_note notes)
+noted-plain most [] all = All-nil (λ (n : Note). n.lit.var ≤ most)
+noted-plain most (x ∷ xs) all =
+    All-cons (λ (n : Note). n.lit.var ≤ most) (plain_note x) (map plain_note xs)
+    (All-head (λ (n : CellNote). n.lit.var ≤ most) x xs all) (noted-plain most xs (All-tail (λ (n : CellNote). n.lit.var ≤ most) x xs all))
+
+pub plain-noted : (most : ℕ) (notes : List CellNote) → NotesUpTo most (map plain_note notes) → AreNotedUpTo most notes
+plain-noted most [] all = All-nil (λ (n : CellNote). n.lit.var ≤ most)
+plain-noted most (x ∷ xs) all =
+    All-cons (λ (n : CellNote). n.lit.var ≤ most) x xs
+    (All-head (λ (n : Note). n.lit.var ≤ most) (plain_note x) (map plain_note xs) all)
+    (plain-noted most xs (All-tail (λ (n : Note). n.lit.var ≤ most) (plain_note x) (map plain_note xs) all))
+
 -- ---- the text
 
 -- what is written of a log's formula is its text
-pub text-told : (log : LogState) (f : Cnf) (notes : List Note) (number : ℕ) (result : Result (Vec ℕ) Memory) → f.clauses ≡ givens log.events → NamesItsVariables f → notes ≡ log.notes → number ≡ length (added_clauses log) → number < 10 ^ 18
+pub text-told : (log : LogState) (f : Cnf) (notes : List Note) (number : ℕ) (result : Result (Vec ℕ) Memory) → f.clauses ≡ givens log.events → NamesItsVariables f → NotesUpTo f.vars notes
+    → ((most : ℕ) → All (VariablesUpTo most) f.clauses → NotesUpTo most notes → f.vars ≤ most) → notes ≡ log.notes → number ≡ length (added_clauses log) → number < 10 ^ 18
     → IfOk result (λ text. text.items ≡ cnf_text f notes number)
     → (All IsReadableNote notes → number < 10 ^ 18 → IfOk result (λ text. SaysAgain text.items f notes number))
     → (All IsReadableNote notes → number < 10 ^ 18 → IfOk result (λ text. SpellsCnf text.items f.vars f.clauses))
     → IfOk result (λ text. IsFormulaText log text.items)
-text-told log f notes number (Ok text) clauses names same is few written again spells =
+text-told log f notes number (Ok text) clauses names noted least same is few written again spells =
     let S : List Note → ℕ → Type 0 = λ ns n. All IsReadableNote ns → SaysAgain text.items f ns n in
     let C : List Note → Type 0 = λ ns. All IsReadableNote ns → SpellsCnf text.items f.vars f.clauses in
     let said : S notes number = λ readable. again readable few in
@@ -122,8 +178,10 @@ text-told log f notes number (Ok text) clauses names same is few written again s
       formula = f;
       clauses = clauses;
       names = names;
+      noted = subst (NotesUpTo f.vars) same noted;
+      least = λ most all up. least most (subst (All (VariablesUpTo most)) (sym clauses) all) (subst (NotesUpTo most) (sym same) up);
       is_text = written ∙ ap (λ (ns : List Note). cnf_text f ns number) same ∙ ap (λ (n : ℕ). cnf_text f log.notes n) is;
       spells = subst C same spelled;
       again = subst (λ (n : ℕ). S log.notes n) is (subst (λ (ns : List Note). S ns number) same said);
     }
-text-told log f notes number (Err e) clauses names same is few written again spells = tt
+text-told log f notes number (Err e) clauses names noted least same is few written again spells = tt

@@ -7,8 +7,7 @@ use Rattle.ep_print.specs.declared.refusals.Refusal.{Refusal}
 use Rattle.ep_print.specs.declared.refusals.TextFile.{TextFile}
 use Rattle.sat_text.specs.CnfGrammar.{CanGoOn, IsFaultLine, IsFirstWrongWord, SpellsCnf, SpellsFormula}
 use Rattle.sat_text.specs.LogGrammar.{IsFirstWrongLine, IsLogLine, SpellsLog}
-use Rattle.sat_text.specs.Words.{PlacedWord, placed_words}
-use Rattle.sat_text.specs.declared.TheConstants.{MOST_BYTES}
+use Rattle.sat_text.specs.Words.{PlacedWord, most_text_bytes, placed_words}
 use Rattle.ep_driver.specs.Readings.{IsClausesRefusal, IsFormulaReadAs, IsProofReadAs, SpellsClauses}
 
 -- a text spells one formula at most
@@ -90,7 +89,7 @@ wrong-line-once text m n a b = first-line-by text m n a b (cuts a.front b.front 
 
 -- ---- readings
 
-not-refused : (file : TextFile) (bad : ℕ → Refusal) (text : List ℕ) (Spells : Type 0) (Faulty : ℕ → Type 0) (r : Refusal) → length text ≤ MOST_BYTES → Spells → IsClausesRefusal file bad text Spells Faulty r → ⊥
+not-refused : (file : TextFile) (bad : ℕ → Refusal) (text : List ℕ) (Spells : Type 0) (Faulty : ℕ → Type 0) (r : Refusal) → length text ≤ most_text_bytes → Spells → IsClausesRefusal file bad text Spells Faulty r → ⊥
 not-refused file bad text Spells Faulty r within spells h = elim h [ inl long ↦ omega (arith, long.0, within) | inr wrong ↦ wrong.1 spells ]
 
 refusals-once : (file : TextFile) (bad : ℕ → Refusal) (text : List ℕ) (Spells : Type 0) (Faulty : ℕ → Type 0) → ((m n : ℕ) → Faulty m → Faulty n → m ≡ n) → (r s : Refusal) → IsClausesRefusal file bad text Spells Faulty r → IsClausesRefusal file bad text Spells Faulty s → r ≡ s

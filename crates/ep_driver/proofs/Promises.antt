@@ -161,7 +161,7 @@ pub when-failed : (words : List (List ℕ)) (told after : Option Held) (rose : T
 when-failed words told after rose status text log Took (no_command s t nothing kept none) took h = apart status 3 1 (ap kind h) (ap kind s) (λ e. cc)
 when-failed words told after rose status text log Took (answer wanted want ends shown put) took h = apart status 3 0 (ap kind h) (kind-end wanted status log ends) (λ e. cc)
 when-failed words told after rose status text log Took (faulty wanted want r s t nothing kept of_text shown) took h = apart status 3 2 (ap kind h) (kind-text r status s of_text) (λ e. cc)
-when-failed words told after rose status text log Took (unread name s t nothing kept failed why) took h = (text, inl (name, failed, t, nothing, kept), took)
+when-failed words told after rose status text log Took (unread name s t nothing kept failed why) took h = (text, inl (name, failed, why, t, nothing, kept), took)
 when-failed words told after rose status text log Took (unwritten name s t sound wanted want logs failed) took h = (text, inr (name, failed, t), took)
 
 answer-text : (words : List (List ℕ)) (told after : Option Held) (status : Status) (text : List ℕ) (log : LogState) → HasOutput words text log told after → IfSome told (λ held. (task : Task) × Ask words held task × Settles task status text log) → IfSome told (λ held. IsShownText words held after log text)
@@ -183,7 +183,7 @@ may-be-put words told after rose status text log (answer wanted want ends shown 
 may-be-put words told after rose status text log (faulty wanted want r s t nothing kept of_text shown) = inl (refusal-shown words told after log r text t kept shown)
 may-be-put words told after rose status text log (unread name s t nothing kept failed why) =
     elim why [
-      | inl up ↦ inr (up, inl (name, failed, t, nothing, kept))
+      | inl up ↦ inr (up, inl (name, failed, inl up, t, nothing, kept))
       | inr missing ↦ inl (refusal-shown words told after log (Refusal.CannotRead name) text t kept (missing-told words told name missing))
     ]
 may-be-put words told after rose status text log (unwritten name s t sound wanted want logs failed) = inr (failed.0, inr (name, failed, t))

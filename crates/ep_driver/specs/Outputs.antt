@@ -1,8 +1,10 @@
 -- The files of an answer: which ones they are, what is written into them and in which order, and what the files hold then.
-use Rattle.std.specs.Prelude.{◌≡◌, ◌<◌, ◌⊎◌, ◌^◌, ℕ, All, List, [], ◌∷◌, ◌++◌, length, Option, Some, None, option_map, IfSome, IsSomeAnd}
-use Rattle.cnf_core.specs.Events.{LogState, givens}
+use Rattle.std.specs.Prelude.{◌≡◌, ◌<◌, ◌≤◌, ◌⊎◌, ◌^◌, ℕ, All, List, [], ◌∷◌, ◌++◌, length, Option, Some, None, option_map, IfSome, IsSomeAnd}
+use Rattle.cnf_core.specs.Events.{LogState, Note, givens}
 use Rattle.cnf_core.specs.Formula.{Cnf, NamesItsVariables}
+use Rattle.cnf_core.specs.Literal.{VariablesUpTo}
 use Rattle.cnf_core.specs.LogLines.{log_lines}
+use Rattle.cnf_core.specs.declared.log.CellNote.{CellNote}
 use Rattle.sat_text.specs.CnfGrammar.{SpellsCnf}
 use Rattle.sat_text.specs.LogGrammar.{SpellsLog}
 use Rattle.sat_text.specs.Writing.{IsReadableNote, SaysAgain, cnf_text, log_text}
@@ -15,13 +17,24 @@ use Rattle.ep_driver.specs.declared.wanted.Wanted.{Wanted}
 
 -- ---- what is written
 
+-- no note has a literal of a variable over the number
+abbrev pub NotesUpTo : ℕ → List Note → Type 0
+NotesUpTo most notes = All (λ n. n.lit.var ≤ most) notes
+
+-- the same of notes as a run keeps them
+abbrev pub AreNotedUpTo : ℕ → List CellNote → Type 0
+AreNotedUpTo most notes = All (λ n. n.lit.var ≤ most) notes
+
 -- The text of a log's formula: its clauses are the log's givens in their order, its notes those of the log, and it says how many of
--- the givens were added to those that stand for the instance. Where the notes are of cells and of short values, the text spells this
--- formula, and its notes and this number are read again.
+-- the givens were added to those that stand for the instance. It is over the fewest variables that cover the clauses and the notes.
+-- Where the notes are of cells and of short values, the text spells this formula, and its notes and this number are read again.
 pub record IsFormulaText (log : LogState) (text : List ℕ) : Type 0 where
   pub formula : Cnf
   pub clauses : formula.clauses ≡ givens log.events
   pub names : NamesItsVariables formula
+  pub noted : NotesUpTo formula.vars log.notes
+  pub least :
+      (most : ℕ) → All (VariablesUpTo most) (givens log.events) → NotesUpTo most log.notes → formula.vars ≤ most
   pub is_text : text ≡ cnf_text formula log.notes (length (added_clauses log))
   pub spells : All IsReadableNote log.notes → SpellsCnf text formula.vars formula.clauses
   pub again : All IsReadableNote log.notes → SaysAgain text formula log.notes (length (added_clauses log))

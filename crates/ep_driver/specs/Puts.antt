@@ -1,5 +1,5 @@
 -- What a run may put out, and how much of it.
-use Rattle.std.specs.Prelude.{◌≡◌, ◌≤◌, ◌⊎◌, ℕ, List, codes, length, take, Option, Some, Contains, IfSome}
+use Rattle.std.specs.Prelude.{◌≡◌, ◌≤◌, ◌⊎◌, ℕ, List, codes, length, take, Option, Some, Contains, IfSome, IsSomeAnd}
 use Rattle.cnf_core.specs.Events.{LogState}
 use Rattle.ep_base.specs.Outside.{Held, TookPart, with_more}
 use Rattle.ep_print.specs.Refusals.{refusal_text}
@@ -50,11 +50,16 @@ IsPartlyWritten words told after log =
     (wanted : Wanted) × Want words wanted × (text : List ℕ)
     × ArePartlyWritten log text (written_for wanted) told after × IsAnsweredBy words told text log
 
--- the line of a file that can't be read, where nothing is logged and the files hold what they held, or of a file that can't be
+-- a file wasn't read: the files counted a fault, or it isn't held, so that its line is what the words are refused by
+abbrev pub WasNotRead : List (List ℕ) → Option Held → Type 0 → List ℕ → Type 0
+WasNotRead words told rose name = rose ⊎ IsSomeAnd told (λ held. Refuse words held (Refusal.CannotRead name))
+
+-- the line of a file that wasn't read, where nothing is logged and the files hold what they held, or of a file that can't be
 -- written
 abbrev pub IsDeviceLine : List (List ℕ) → Option Held → Option Held → Type 0 → LogState → List ℕ → Type 0
 IsDeviceLine words told after rose log text =
-    ((name : List ℕ) × IsFailedRead words told name × (text ≡ read_line name) × (log ≡ empty_log) × (after ≡ told))
+    ((name : List ℕ) × IsFailedRead words told name × WasNotRead words told rose name × (text ≡ read_line name)
+    × (log ≡ empty_log) × (after ≡ told))
     ⊎ ((name : List ℕ) × IsFailedWrite words told after rose log name × (text ≡ write_line name))
 
 -- A text of a refusal that the words and the held files show, where the files hold what they held; or of an answer, with its log,

@@ -11,7 +11,7 @@ use Rattle.ep_print.specs.declared.refusals.Refusal.{Refusal}
 use Rattle.ep_print.specs.declared.refusals.TextFile.{TextFile}
 use Rattle.sat_text.specs.CnfGrammar.{IsFaultLine, SpellsCnf}
 use Rattle.sat_text.specs.LogGrammar.{IsFirstWrongLine, SpellsLog}
-use Rattle.sat_text.specs.declared.TheConstants.{MOST_BYTES}
+use Rattle.sat_text.specs.Words.{most_text_bytes}
 
 -- what spells the tree of a text: a model, or else a parameter or solution text
 abbrev pub spells_in : TextFile → TextTree → Phrase
@@ -41,8 +41,8 @@ IsTextReadAs file text reading =
 -- fault stands on a line.
 abbrev pub IsClausesRefusal : TextFile → (ℕ → Refusal) → List ℕ → Type 0 → (ℕ → Type 0) → Refusal → Type 0
 IsClausesRefusal file bad text Spells Faulty refusal =
-    ((MOST_BYTES < length text) × (refusal ≡ Refusal.TooLong file))
-    ⊎ ((length text ≤ MOST_BYTES) × ¬ Spells × (line : ℕ) × Faulty line × (refusal ≡ bad line))
+    ((most_text_bytes < length text) × (refusal ≡ Refusal.TooLong file))
+    ⊎ ((length text ≤ most_text_bytes) × ¬ Spells × (line : ℕ) × Faulty line × (refusal ≡ bad line))
 
 -- a text spells these clauses, over some number of variables
 abbrev pub SpellsClauses : List ℕ → List (List Literal) → Type 0
@@ -50,14 +50,14 @@ SpellsClauses text clauses = (vars : ℕ) × SpellsCnf text vars clauses
 
 -- the text of a formula is read as these clauses, or has this refusal
 abbrev pub IsFormulaReadAs : List ℕ → Result (List (List Literal)) Refusal → Type 0
-IsFormulaReadAs text (Ok clauses) = (length text ≤ MOST_BYTES) × SpellsClauses text clauses
+IsFormulaReadAs text (Ok clauses) = (length text ≤ most_text_bytes) × SpellsClauses text clauses
 IsFormulaReadAs text (Err refusal) =
     IsClausesRefusal TextFile.Cnf Refusal.BadCnf text ((clauses : List (List Literal)) × SpellsClauses text clauses)
     (IsFaultLine text) refusal
 
 -- the text of a proof is read as these lines, or has this refusal
 abbrev pub IsProofReadAs : List ℕ → Result (List ProofLine) Refusal → Type 0
-IsProofReadAs text (Ok lines) = (length text ≤ MOST_BYTES) × SpellsLog text lines
+IsProofReadAs text (Ok lines) = (length text ≤ most_text_bytes) × SpellsLog text lines
 IsProofReadAs text (Err refusal) =
     IsClausesRefusal TextFile.Log Refusal.BadLog text ((lines : List ProofLine) × SpellsLog text lines)
     (IsFirstWrongLine text) refusal

@@ -5,9 +5,9 @@ ghost use Rattle.cnf_core.specs.Events.{givens, plain_event};
 ghost use Rattle.cnf_core.specs.Literal.{VariablesUpTo};
 ghost use Rattle.cnf_core.specs.declared.lit.TheConstants.{MOST_VARIABLE};
 ghost use Rattle.ep_solve.specs.Logged.{added_clauses};
-ghost use Rattle.ep_driver.specs.Outputs.{IsFormulaText};
+ghost use Rattle.ep_driver.specs.Outputs.{AreNotedUpTo, IsFormulaText};
 
-use cnf_core::{Clause, Event, Formula, Log};
+use cnf_core::{CellNote, Clause, Event, Formula, Log};
 use ep_base::Memory;
 use sat_text::write_cnf;
 use std::alloc::Global;
@@ -17,7 +17,8 @@ pub fn formula_text(alloc: Global, log: &Log) -> Result<Vec<u8>, Memory>
     ensures { IfOk result (λ text. IsFormulaText log.now text.items) }
 {
     let clauses = given_clauses(alloc, log.events())?;
-    let formula = formula_of(alloc, &clauses)?;
+    let vars = fewest_variables(&clauses, log.notes());
+    let formula = formula_of(alloc, &clauses, vars)?;
     let _names = formula.clauses();
     let added = few(added_number(log, &clauses))?;
     write_cnf(alloc, &formula, log.notes(), added)
@@ -59,15 +60,39 @@ fn given_clauses(alloc: Global, events: &[Event]) -> Result<Vec<Clause>, Memory>
     Ok(clauses)
 }
 
+/// The fewest variables that cover clauses and notes.
+fn fewest_variables(clauses: &[Clause], notes: &[CellNote]) -> u64
+    ensures clauses { All (VariablesUpTo result) clauses.now }
+    ensures noted { AreNotedUpTo result notes.now }
+    ensures least { (most : ℕ) → All (VariablesUpTo most) clauses.now → AreNotedUpTo most notes.now → result ≤ most }
+    ensures in_range { result ≤ MOST_VARIABLE }
+{
+    greater(greatest_variable(clauses), greatest_noted(notes))
+}
+
 /// The greatest variable of clauses, or 0 where they have no literal.
 fn greatest_variable(clauses: &[Clause]) -> u64
     ensures none_above { All (VariablesUpTo result) clauses.now }
+    ensures least { (most : ℕ) → All (VariablesUpTo most) clauses.now → result ≤ most }
     ensures in_range { result ≤ MOST_VARIABLE }
 {
     let mut most = 0;
     for clause in clauses {
         let _lits = clause.lits();
         most = greater(most, clause.greatest_variable());
+    }
+    most
+}
+
+/// The greatest variable of notes, or 0 where there is none.
+fn greatest_noted(notes: &[CellNote]) -> u64
+    ensures none_above { AreNotedUpTo result notes.now }
+    ensures least { (most : ℕ) → AreNotedUpTo most notes.now → result ≤ most }
+    ensures in_range { result ≤ MOST_VARIABLE }
+{
+    let mut most = 0;
+    for note in notes {
+        most = greater(most, note.lit.var());
     }
     most
 }
@@ -81,12 +106,14 @@ fn greater(one: u64, other: u64) -> u64
     if one < other { other } else { one }
 }
 
-/// The formula of clauses.
-fn formula_of(alloc: Global, clauses: &[Clause]) -> Result<Formula, Memory>
-    ensures { IfOk result (λ f. f.clauses ≡ clauses.now) }
+/// The formula of clauses over so many variables.
+fn formula_of(alloc: Global, clauses: &[Clause], vars: u64) -> Result<Formula, Memory>
+    requires names { All (VariablesUpTo vars) clauses.now }
+    requires in_range { vars ≤ MOST_VARIABLE }
+    ensures clauses { IfOk result (λ f. f.clauses ≡ clauses.now) }
+    ensures vars { IfOk result (λ f. f.vars ≡ vars) }
 {
-    let most = greatest_variable(clauses);
-    let mut formula = Formula::with_vars(alloc, most);
+    let mut formula = Formula::with_vars(alloc, vars);
     for clause in clauses {
         formula.add(clause.copied()?)?;
     }

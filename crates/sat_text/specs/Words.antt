@@ -2,6 +2,10 @@
 use Rattle.std.specs.Prelude.{ℕ, ◌+◌, max, Bool, true, false, ◌||◌, not, ◌==◌, if◌then◌else◌, List, [], ◌∷◌, ◌++◌, length, filter, map}
 use Rattle.std.specs.List.{slice_split, onto_first}
 
+-- the most bytes that the text of a formula or of a proof may have
+abbrev pub most_text_bytes : ℕ
+most_text_bytes = 1073741824
+
 -- The pieces of a text. Each byte that passes the test ends one, and what follows the last of them is
 -- one too, where it isn't empty.
 abbrev pub ended_by : (ℕ → Bool) → List ℕ → List (List ℕ)

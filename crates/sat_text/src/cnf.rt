@@ -4,7 +4,7 @@ ghost use Rattle.std.specs.Prelude.{◌≡◌, ◌<◌, ◌^◌, ◌↔◌, ℕ,
 ghost use Rattle.cnf_core.specs.Events.{plain_note};
 ghost use Rattle.cnf_core.specs.Literal.{Literal};
 ghost use Rattle.sat_text.specs.CnfGrammar.{SpellsCnf, IsFaultLine};
-ghost use Rattle.sat_text.specs.Words.{lines};
+ghost use Rattle.sat_text.specs.Words.{lines, most_text_bytes};
 ghost use Rattle.sat_text.specs.Cnf.{formula_of, plain_formula};
 ghost use Rattle.sat_text.specs.Notes.{notes_of, added_of};
 
@@ -78,7 +78,7 @@ fn formula(alloc: Global, text: &[u8]) -> Result<Formula, CnfError>
 /// [`CnfError::TooLong`] exactly where the text has more than [`MOST_BYTES`] bytes, and otherwise
 /// [`CnfError::Bad`] with the line of the first wrong word, or with the last line where words are wanting.
 pub fn read_cnf(alloc: Global, text: &[u8]) -> Result<CnfFile, CnfError>
-    ensures too_long { IsErrOf result CnfError.TooLong ↔ (MOST_BYTES < length text.now) }
+    ensures too_long { IsErrOf result CnfError.TooLong ↔ (most_text_bytes < length text.now) }
     // What is read is what the text spells, and no text that spells a formula is refused as bad.
     ensures spelled { IfOk result
         (λ file. SpellsCnf text.now file.formula.vars file.formula.clauses) }

@@ -2,7 +2,7 @@
 
 ghost use Rattle.std.specs.Prelude.{◌≡◌, ◌<◌, ◌↔◌, ℕ, List, length, Ok, Err, IfOk, MatchResult, IsErrOf};
 ghost use Rattle.cnf_core.specs.Literal.{HaveSameLiterals};
-ghost use Rattle.sat_text.specs.Words.{words, says_nothing};
+ghost use Rattle.sat_text.specs.Words.{words, says_nothing, most_text_bytes};
 ghost use Rattle.sat_text.specs.Clauses.{in_order};
 ghost use Rattle.sat_text.specs.Proofs.{is_d, addition_at, deletion_at, behind_id, line_of, proof_of};
 ghost use Rattle.cnf_core.specs.Lines.{ProofLine, plain_line, plain_lines};
@@ -120,7 +120,7 @@ pub(crate) fn is_silent(line: &[u8]) -> bool
 /// [`LogError::TooLong`] exactly where the text has more than [`MOST_BYTES`] bytes, and otherwise
 /// [`LogError::Bad`] with the first line that isn't in the grammar.
 pub fn read_log(alloc: Global, text: &[u8]) -> Result<Proof, LogError>
-    ensures too_long { IsErrOf result LogError.TooLong ↔ (MOST_BYTES < length text.now) }
+    ensures too_long { IsErrOf result LogError.TooLong ↔ (most_text_bytes < length text.now) }
     // What is read is what the text spells, and no text that spells a proof is refused as bad.
     ensures spelled { IfOk result (λ p. SpellsLog text.now (plain_lines p.lines.items)) }
     ensures complete { (proof : List ProofLine) → SpellsLog text.now proof → MatchResult result

@@ -1,6 +1,6 @@
 use Rattle.std.proofs.Common.{ℕ, List, subst}
 use Rattle.ep_base.specs.Outside.{Rose}
-use Rattle.sat_text.specs.declared.TheConstants.{MOST_BYTES}
+use Rattle.sat_text.specs.Words.{most_text_bytes}
 use Rattle.ep_driver.specs.Readings.{IsFormulaReadAs}
 use Rattle.ep_driver.specs.Steps.{TellsText, formula_clauses}
 use Rattle.ep_driver.proofs.FileReading.{cut-formula, tells-read}
@@ -11,5 +11,5 @@ returns-clause-tells g c =
     let told = g.F.Files.held c.args.files.now in
     let rose = Rose (g.F.Files.faults c.args.files.now) (g.F.Files.faults c.read_bytes.new.files) in
     let P : List ℕ → Type 0 = λ t. TellsText formula_clauses IsFormulaReadAs t c.formula_in.result in
-    tells-read formula_clauses MOST_BYTES IsFormulaReadAs cut-formula told c.args.name.now c.in_ok-text.text.items rose c.formula_in.result c.in_ok-text.ensures.tells
+    tells-read formula_clauses most_text_bytes IsFormulaReadAs cut-formula told c.args.name.now c.in_ok-text.text.items rose c.formula_in.result c.in_ok-text.ensures.tells
     (subst P c.deref.ensures.value c.formula_in.ensures)

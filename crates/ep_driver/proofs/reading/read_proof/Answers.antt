@@ -1,6 +1,6 @@
 use Rattle.std.proofs.Common.{ℕ, List, subst}
 use Rattle.ep_base.specs.Outside.{Rose}
-use Rattle.sat_text.specs.declared.TheConstants.{MOST_BYTES}
+use Rattle.sat_text.specs.Words.{most_text_bytes}
 use Rattle.ep_driver.specs.Readings.{IsProofReadAs}
 use Rattle.ep_driver.specs.Steps.{TellsText, proof_lines}
 use Rattle.ep_driver.proofs.FileReading.{cut-proof, tells-read}
@@ -11,5 +11,5 @@ returns-clause-tells g c =
     let told = g.F.Files.held c.args.files.now in
     let rose = Rose (g.F.Files.faults c.args.files.now) (g.F.Files.faults c.read_bytes.new.files) in
     let P : List ℕ → Type 0 = λ t. TellsText proof_lines IsProofReadAs t c.proof_in.result in
-    tells-read proof_lines MOST_BYTES IsProofReadAs cut-proof told c.args.name.now c.in_ok-text.text.items rose c.proof_in.result c.in_ok-text.ensures.tells
+    tells-read proof_lines most_text_bytes IsProofReadAs cut-proof told c.args.name.now c.in_ok-text.text.items rose c.proof_in.result c.in_ok-text.ensures.tells
     (subst P c.deref.ensures.value c.proof_in.ensures)

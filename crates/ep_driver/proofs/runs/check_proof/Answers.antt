@@ -1,11 +1,10 @@
 use Rattle.std.proofs.lemmas.Result.{err_from_is_err_and}
-use Rattle.std.proofs.Common.{◌≡◌, [], ◌∷◌, Err, Ok, inl, refl}
+use Rattle.std.proofs.Common.{◌≡◌, [], ◌∷◌, Ok, inl, refl}
 use Rattle.ep_base.specs.Outside.{Rose}
 use Rattle.ep_solve.specs.Right.{empty_log}
 use Rattle.ep_driver.specs.Outcomes.{to_check}
 use Rattle.ep_driver.specs.Readings.{IsProofReadAs, IsReadBy}
 use Rattle.ep_driver.specs.Steps.{formula_clauses, proof_lines}
-use Rattle.ep_driver.specs.declared.stops.Stop.{Stop}
 use Rattle.ep_driver.proofs.Chains.{after, over-trees, stable-file, unread}
 use Rattle.ep_driver.proofs.Running.{check-told}
 use Rattle.ep_driver.proofs.runs.check_proof.Goals as goal

@@ -1,5 +1,4 @@
-use Rattle.std.proofs.Common.{refl}
-use Rattle.ep_driver.proofs.Givens.{item-is, taking-ends, taking-given, taking-step}
+use Rattle.ep_driver.proofs.Givens.{taking-ends}
 use Rattle.ep_driver.proofs.texts.given_clauses.Goals as goal
 
 pub returns : goal.returns
