@@ -1,0 +1,136 @@
+"""Parameters from tables: makes the text of a parameter file of JSON and CSV, as the `given` statements of a model want it."""
+import csv, io, json, os, re
+
+import tokens
+
+TRUE, FALSE = {"true", "1", "x", "yes"}, {"false", "0", "", ".", "-", "no"}
+
+
+class Fault(Exception):
+    """What is wrong with a table, in one line."""
+
+
+def parameters(model, given, files, note=lambda _: None):
+    """The text of a parameter file: what stands in the one that was given, and then a letting for each value of the tables, which counts where both have one."""
+    asked = {}
+    text = tokens.text_in(model) if model else None
+    for it in tokens.declarations(text) if text else ():
+        if it.kind == "given":
+            asked[it.token.text] = (len(it.indices), "bool" in [one.text for one in it.element])
+    begun = tokens.text_in(given) if given else "language ESSENCE' 1.0\n"
+    if begun is None:
+        raise Fault(f"{given} can't be read")
+    has = {it[1].text: it for it in tokens.statements(tokens.tokens_of(begun)) if it[0].text == "letting" and len(it) > 1}
+    lines, values = [], {}
+    for it in files:
+        for name, value in table(it, asked, text is not None).items():
+            if name in values:
+                raise Fault(f"{it}: `{name}` has a value already, from another table")
+            if name in has:
+                note(f"{it}: its `{name}` is taken, and not that of {given}")
+                start, end = has[name][0].at, has[name][-1].at + len(has[name][-1].text)
+                begun = begun[:start] + "".join(one if one == "\n" else " " for one in begun[start:end]) + begun[end:]
+            if text is not None and name not in asked:
+                note(f"{it}: the model has no `given {name}`, so its value isn't used")
+                if not tokens.is_name(name):
+                    continue
+            values[name] = value
+            lines.append(f"letting {name} be {spelled(value, asked.get(name, (0, None))[1], f'{it}: {name}')}\n")
+    return begun + ("" if begun.endswith("\n") else "\n") + "".join(lines)
+
+
+def table(word, asked, is_known):
+    """The values of one word of --data, by names."""
+    name, equals, path = word.partition("=")
+    if not equals or not tokens.is_name(name):
+        name, path = "", word
+    try:
+        with open(path, encoding="utf-8-sig", newline="") as it:
+            text = it.read()
+    except (OSError, UnicodeDecodeError) as it:
+        raise Fault(f"{path} can't be read: {getattr(it, 'strerror', None) or 'it is no text in UTF-8'}") from None
+    if path.lower().endswith(".json"):
+        return json_values(name, path, text)
+    return csv_values(name or os.path.splitext(os.path.basename(path))[0], path, text, asked, is_known)
+
+
+def json_values(name, path, text):
+    try:
+        values = json.loads(text)
+    except ValueError as it:
+        raise Fault(f"{path} is no JSON: {it}") from None
+    if name:
+        return {name: values}
+    if not isinstance(values, dict):
+        raise Fault(f"{path}: its value is no object with the parameters' names; for one parameter write --data NAME={path}")
+    return values
+
+
+def spelled(value, is_bool, where):
+    """A value as the language writes it: 0 and 1 as truth values where the model wants these, and the other way round."""
+    if isinstance(value, bool):
+        return ("true" if value else "false") if is_bool or is_bool is None else str(int(value))
+    if isinstance(value, int):
+        if is_bool and value in (0, 1):
+            return "true" if value else "false"
+        return str(value)
+    if isinstance(value, list):
+        return "[" + ", ".join(spelled(it, is_bool, f"{where}[{at}]") for at, it in enumerate(value, 1)) + "]"
+    what = "has no value" if value is None else f"{json.dumps(value, ensure_ascii=False)[:40]} is no whole number, truth value or list of these"
+    raise Fault(f"{where}: {what}")
+
+
+def is_value(text):
+    return bool(re.fullmatch(r"[+-]?[0-9]{1,18}|true|false", text.strip(), re.I))
+
+
+def rows_of(text):
+    """The rows of a table, without empty ones: by the first line its cells are parted by semicolons, tabs or commas."""
+    first = text.partition("\n")[0]
+    part = max(";\t,", key=first.count) if any(it in first for it in ";\t,") else ","
+    rows = [[cell.strip() for cell in row] for row in csv.reader(io.StringIO(text), delimiter=part)]
+    return [(number, row) for number, row in enumerate(rows, 1) if any(row)]
+
+
+def csv_values(name, path, text, asked, is_known):
+    """The matrix of a name; or, where no `given` has it, a list for each column that is headed by a parameter's name."""
+    rows = rows_of(text)
+    if not rows:
+        raise Fault(f"{path} is empty")
+    head = rows[0][1]
+    if name not in asked:
+        columns = {it: at for at, it in enumerate(head) if asked.get(it, (0,))[0] == 1}
+        if not columns and is_known:
+            names = ", ".join(f"`{it}`" for it in asked) or "none"
+            raise Fault(f"{path}: the model has no `given {name}`, and no column is headed by a list that it asks for (it asks for {names}); NAME=FILE names another")
+        if columns:
+            return {it: [cell(path, row, at, asked[it][1], number) for number, row in rows[1:]] for it, at in columns.items()}
+    depth, is_bool = asked.get(name, (2, None))
+    has_head = not all(is_value(it) for it in head) and (len(rows) > 1 or head[0] == name) and not (is_bool and all(it.lower() in TRUE | FALSE for it in head))
+    body = rows[1:] if has_head else rows
+    has_side = has_head and head[0] in (name, "") or any(row[0] and not is_value(row[0]) and not (is_bool and row[0].lower() in TRUE | FALSE) for _, row in body)
+    start = 1 if has_side and len(body[0][1]) > 1 else 0
+    wide = len(head) if has_head else len(body[0][1])
+    for number, row in body:
+        if len(row) != wide:
+            raise Fault(f"{path}, row {number}: it has {len(row)} cells, and the first row has {wide}")
+    made = [[cell(path, row, at, is_bool, number) for at in range(start, len(row))] for number, row in body]
+    if depth == 2:
+        return {name: made}
+    if depth > 2:
+        raise Fault(f"{path}: `{name}` has {depth} dimensions, and a table two; write it as JSON")
+    flat = made[0] if len(made) == 1 else [it for row in made for it in row] if all(len(row) == 1 for row in made) else None
+    if flat is None or depth == 0 and len(flat) != 1:
+        wants = "one value" if depth == 0 else "one row or one column"
+        raise Fault(f"{path}: `{name}` wants {wants}, and the table has {len(made)} rows of {len(made[0])}")
+    return {name: flat if depth else flat[0]}
+
+
+def cell(path, row, at, is_bool, number):
+    """A cell's value."""
+    text = row[at].lower() if at < len(row) else ""
+    if is_bool and text in TRUE | FALSE:
+        return text in TRUE
+    if is_value(text):
+        return text == "true" if text[-1] in "efr" else int(text)
+    raise Fault(f"{path}, row {number}, column {at + 1}: `{row[at] if at < len(row) else ''}` is no {'truth value' if is_bool else 'whole number'}")

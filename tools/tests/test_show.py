@@ -1,0 +1,226 @@
+"""Reading answers and giving data: the forms of --show, the tables of --data, and the call from Python."""
+import csv, io, json, os, re, subprocess, sys, unittest
+from html.parser import HTMLParser
+
+from base import ROOT, Case, program
+from answers import Answer, Matrix, value_of
+import command, data, showing
+
+ANSWER = """language ESSENCE' 1.0
+$ optimum 2
+letting n be -3
+letting b be true
+letting row be [4, 10, 0; int(0, 2..3)]
+letting off be [[true, false; int(1..2)], [false, true; int(1..2)]; int(5..6)]
+letting bits be [[1, 0; int(1..2)], [0, 0; int(1..2)]; int(1..2)]
+letting deep be [[[1, 2; int(1..2)]; int(1)], [[3, 4; int(1..2)]; int(1)]; int(1..2)]
+letting none be [; int(1..0)]
+"""
+LIST = "language ESSENCE' 1.0\n$ solution 1\nletting x be 1\n$ solution 2\nletting x be 2\n$ complete\n"
+GRID = """optimum 2
+n = -3
+b = true
+
+row
+ |  0  2  3
+-+---------
+ |  4 10  0
+
+off (rows Side, columns Day)
+  | 1 2
+--+----
+5 | x .
+6 | . x
+
+bits
+  | 1 2
+--+----
+1 | 1 .
+2 | . .
+
+deep[1]
+  | 1 2
+--+----
+1 | 1 2
+
+deep[2]
+  | 1 2
+--+----
+1 | 3 4
+
+none
+ |
+-+
+ |
+"""
+
+
+class Show(Case):
+    def shown(self, text, form, model=None):
+        words = ["--in-eprime", model] if model else []
+        return showing.shown(text.encode(), form, command.Command(words)).decode()
+
+    def test_values_are_read_with_their_indices(self):
+        it = value_of("[[1, 2; int(1..2)], [-3, 4; int(1..2)]; int(0, 7)]")
+        self.assertEqual((it.plain(), it.dimensions()), ([[1, 2], [-3, 4]], [[0, 7], [1, 2]]))
+        self.assertEqual((value_of("true"), value_of("-12"), value_of("[; int(1..0)]").plain()), (True, -12, []))
+        self.assertEqual(Answer(LIST).blocks, [{"x": 1}, {"x": 2}])
+
+    def test_a_grid_has_rows_and_columns(self):
+        model = self.file("m", "language ESSENCE' 1.0\nfind off : matrix indexed by [Side, Day] of bool\n")
+        self.assertEqual(re.sub(" +$", "", self.shown(ANSWER, "grid", model), flags=re.M), GRID)
+        self.assertEqual(self.shown(LIST, "grid"), "complete\n\nsolution 1\nx = 1\n\nsolution 2\nx = 2\n")
+        self.assertEqual(self.shown("language ESSENCE' 1.0\n$ no solution\n", "grid"), "no solution\n")
+
+    def test_csv_is_read_again(self):
+        rows = list(csv.reader(io.StringIO(self.shown(ANSWER, "csv"))))
+        for it in (["n", "-3"], ["b", "true"], ["row", "0", "2", "3"], ["", "4", "10", "0"], ["off", "1", "2"], ["5", "true", "false"], ["deep[2]", "1", "2"]):
+            self.assertIn(it, rows)
+        self.assertEqual(self.shown(LIST.replace("be 1", "be [1; int(1)]"), "csv"), "solution,1\nx,1\n,1\n\nsolution,2\nx,2\n")
+
+    def test_json_has_values_and_indices(self):
+        it = json.loads(self.shown(ANSWER, "json"))
+        self.assertEqual((it["status"], it["objective"]), ("optimum", 2))
+        self.assertEqual(it["values"], {"n": -3, "b": True, "row": [4, 10, 0], "off": [[True, False], [False, True]], "bits": [[1, 0], [0, 0]], "deep": [[[1, 2]], [[3, 4]]], "none": []})
+        self.assertEqual(it["indices"]["row"], [[0, 2, 3]])
+        self.assertEqual(json.loads(self.shown(LIST, "json")), {"status": "complete", "solutions": [{"x": 1}, {"x": 2}], "indices": {}})
+        unknown = "language ESSENCE' 1.0\n$ unknown 30 conflicts\n$ incumbent 4\nletting x be 4\n"
+        self.assertEqual(json.loads(self.shown(unknown, "json")), {"status": "unknown", "conflicts": 30, "objective": 4, "values": {"x": 4}, "indices": {}})
+        self.assertEqual(json.loads(self.shown("language ESSENCE' 1.0\n$ no solution\n", "json")), {"status": "no solution"})
+
+    def test_a_page_is_whole(self):
+        text = self.shown(ANSWER, "html", self.file("a&b.eprime", "find off : matrix indexed by [Side, Day] of bool\n"))
+        open_tags, rows = [], []
+
+        class Reader(HTMLParser):
+            def handle_starttag(self, tag, attrs):
+                if tag not in ("meta",):
+                    open_tags.append(tag)
+                if tag == "tr":
+                    rows.append(0)
+
+            def handle_endtag(self, tag):
+                assert open_tags.pop() == tag, tag
+
+            def handle_data(self, _):
+                pass
+
+        Reader().feed(text)
+        self.assertEqual(open_tags, [])
+        self.assertIn("<title>a&amp;b</title>", text)
+        self.assertIn("Side / Day", text)
+        self.assertIn("no solution is better", text)
+        self.assertNotIn("http", text)
+        self.assertNotIn("<b>A solution</b>", self.shown(LIST, "html"))
+
+    def test_a_refusal_passes(self):
+        for form in command.FORMS:
+            self.assertEqual(self.shown("fault F3 model 1:1 x\n", form), "fault F3 model 1:1 x\n")
+
+    def test_the_launcher_shows(self):
+        words = ["--in-eprime", f"{ROOT}/examples/sudoku.eprime", "--in-param", f"{ROOT}/examples/sudoku.param"]
+        plain = self.call(program(), *words)
+        for form in command.FORMS:
+            status, out, err = self.call(f"{ROOT}/epsat", *words, "--show", form)
+            self.assertEqual((status, err), (0, ""))
+            self.assertEqual(out, self.shown(plain[1], form, words[1]))
+            ran = subprocess.run([f"{ROOT}/tools/show", form, words[1]], input=plain[1].encode(), stdout=subprocess.PIPE, check=True)
+            self.assertEqual(ran.stdout.decode(), out)
+
+
+class Data(Case):
+    MODEL = """language ESSENCE' 1.0
+given n, m : int(1..9)
+given need, cost : matrix indexed by [int(1..n)] of int(0..99)
+given off : matrix indexed by [int(1..n), int(1..m)] of bool
+given grid : matrix indexed by [int(1..n), int(1..m)] of int
+given cube : matrix indexed by [int(1..n)] of matrix indexed by [int(1..n), int(1..m)] of int
+"""
+
+    def made(self, *files, given=None):
+        model = self.file("m", self.MODEL)
+        notes = []
+        text = data.parameters(model, given, [os.path.join(self.folder, it) if "=" not in it else it for it in files], notes.append)
+        return text.replace("language ESSENCE' 1.0\n", "", 1), notes
+
+    def fault(self, *files):
+        with self.assertRaises(data.Fault) as it:
+            self.made(*files)
+        return str(it.exception).replace(f"{self.folder}/", "")
+
+    def test_json(self):
+        self.file("a.json", '{"n": 2, "off": [[0, 1], [true, false]], "cube": [[[1]]], "need": []}')
+        self.assertEqual(self.made("a.json")[0], "letting n be 2\nletting off be [[false, true], [true, false]]\nletting cube be [[[1]]]\nletting need be []\n")
+        self.file("b.json", '{"n": 2, "names": 7, "m": 1.5}')
+        self.assertEqual(self.fault("b.json"), "b.json: m: 1.5 is no whole number, truth value or list of these")
+        self.file("c.json", '{"n": 2, "extra": 1}')
+        self.assertIn("no `given extra`", self.made("c.json")[1][0])
+        self.file("d.json", '{"need": [1, null]}')
+        self.assertEqual(self.fault("d.json"), "d.json: need[2]: has no value")
+        self.file("e.json", "{")
+        self.assertIn("e.json is no JSON", self.fault("e.json"))
+        self.file("f.json", "[1, 2]")
+        self.assertIn("--data NAME=", self.fault("f.json"))
+        self.assertEqual(self.made(f"need={self.folder}/f.json")[0], "letting need be [1, 2]\n")
+        self.assertIn("has a value already", self.fault("a.json", "c.json"))
+        given = self.file("p", "letting n be 1 $ one\nletting m be\n  2\n")
+        text, notes = self.made("c.json", given=given)
+        self.assertEqual(text, "               $ one\nletting m be\n  2\nletting n be 2\nletting extra be 1\n")
+        self.assertIn("its `n` is taken", notes[0])
+
+    def test_csv(self):
+        for text, wanted in (
+            ("1,2\n3,4\n", "[[1, 2], [3, 4]]"),
+            ("\ufeffgrid;1;2\r\n1;1;2\r\n2;3;4\r\n", "[[1, 2], [3, 4]]"),
+            (",mon,tue\nann,1,2\nben,3,4\n", "[[1, 2], [3, 4]]"),
+            ("mon,tue\n1,2\n3,-4\n\n", "[[1, 2], [3, -4]]"),
+        ):
+            self.file("grid.csv", text)
+            self.assertEqual(self.made("grid.csv")[0], f"letting grid be {wanted}\n", text)
+        for text, wanted in (("x,\n,x\n", "[[true, false], [false, true]]"), ("0,1\ntrue,no\n", "[[false, true], [true, false]]"), (",a,b\nann,x,.\n", "[[true, false]]")):
+            self.file("off.csv", text)
+            self.assertEqual(self.made("off.csv")[0], f"letting off be {wanted}\n", text)
+        for text in ("1,2,3\n", "1\n2\n3\n", "need,1,2,3\n,1,2,3\n", "need\n1\n2\n3\n"):
+            self.file("need.csv", text)
+            self.assertEqual(self.made("need.csv")[0], "letting need be [1, 2, 3]\n", text)
+        self.file("things.csv", "name,need,cost\nrope,1,10\ntent,2,20\n")
+        self.assertEqual(self.made("things.csv")[0], "letting need be [1, 2]\nletting cost be [10, 20]\n")
+        self.file("n.csv", "7\n")
+        self.assertEqual(self.made("n.csv")[0], "letting n be 7\n")
+
+    def test_faults_of_tables_have_places(self):
+        self.file("grid.csv", "1,2\n3,x\n")
+        self.assertEqual(self.fault("grid.csv"), "grid.csv, row 2, column 2: `x` is no whole number")
+        self.file("grid.csv", "1,2\n3\n")
+        self.assertEqual(self.fault("grid.csv"), "grid.csv, row 2: it has 1 cells, and the first row has 2")
+        self.file("need.csv", "1,2\n3,4\n")
+        self.assertIn("wants one row or one column", self.fault("need.csv"))
+        self.file("cube.csv", "1\n")
+        self.assertIn("JSON", self.fault("cube.csv"))
+        self.file("gird.csv", "1\n")
+        self.assertIn("no `given gird`", self.fault("gird.csv"))
+        self.assertIn("can't be read", self.fault("missing.csv"))
+        self.file("grid.csv", "")
+        self.assertEqual(self.fault("grid.csv"), "grid.csv is empty")
+
+    def test_the_launcher_takes_tables(self):
+        given = self.file("p", "letting nurses be 3\nletting days be 5\nletting most be 4\nletting need be [2, 1, 2, 2, 1]\n")
+        self.file("off.csv", "off,1,2,3,4,5\nAnn,1,0,0,0,1\nBen,0,0,1,0,0\nCleo,0,1,0,1,0\n")
+        words = ["--in-eprime", f"{ROOT}/examples/roster.eprime"]
+        plain = self.call(program(), *words, "--in-param", f"{ROOT}/examples/roster.param")
+        self.assertEqual(self.call(f"{ROOT}/epsat", *words, "--in-param", given, "--data", "off.csv"), plain)
+        status, out, err = self.call(f"{ROOT}/epsat", *words, "--data", "nothing.csv")
+        self.assertEqual((status, out), (3, ""))
+        self.assertIn("nothing.csv can't be read", err)
+        self.assertEqual(self.left(), [])
+
+    def test_it_is_called_from_python(self):
+        status, out, err = self.call(sys.executable, f"{ROOT}/examples/call.py")
+        self.assertEqual((status, err), (0, ""))
+        self.assertEqual(out.count("nurse "), 3)
+        self.assertIn("with three on day 3: no solution\n", out)
+        self.assertIn("that nothing is said of: fault F9 need\n", out)
+
+
+if __name__ == "__main__":
+    unittest.main()
