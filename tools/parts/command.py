@@ -88,7 +88,7 @@ class Command:
     @property
     def budget(self):
         """How many conflicts the solver may meet, or None where the task has no budget or the number is none."""
-        if self.task not in ("solve", "enumerate", "generate"):
+        if "conflicts" not in TASKS.get(self.task, ("", ()))[1]:
             return None
         text = self.values.get("conflicts", str(CONFLICTS))
         return int(text) if text.isdigit() and text.isascii() and 0 < int(text) <= 1_000_000_000 else None

@@ -32,8 +32,9 @@ def parameters(model, given, files, note=lambda _: None):
                 begun = begun[:start] + "".join(one if one == "\n" else " " for one in begun[start:end]) + begun[end:]
             if text is not None and name not in asked:
                 note(f"{it}: the model has no `given {name}`, so its value isn't used")
-                if not tokens.is_name(name):
-                    continue
+                continue
+            if not tokens.is_name(name):
+                raise Fault(f"{it}: `{name}` is no name of the language")
             values[name] = value
             lines.append(f"letting {name} be {spelled(value, asked.get(name, (0, None))[1], f'{it}: {name}')}\n")
     return begun + ("" if begun.endswith("\n") else "\n") + "".join(lines)

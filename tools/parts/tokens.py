@@ -110,9 +110,3 @@ def dimensions(tokens):
         indices += split_at_commas(tokens[4:end])
         tokens = tokens[end + 2 :]
     return indices, tokens
-
-
-def spelled(tokens):
-    """Tokens as one text."""
-    text = " ".join(it.text for it in tokens)
-    return re.sub(r"\[ | (?=[\]),;])|(?<=[(\[]) ", lambda it: "[" if it.group().startswith("[") else "", re.sub(r"(\w) ([(\[])", r"\1\2", text)).replace(" .. ", "..").replace("( ", "(")

@@ -165,7 +165,7 @@ given cube : matrix indexed by [int(1..n)] of matrix indexed by [int(1..n), int(
         self.assertIn("has a value already", self.fault("a.json", "c.json"))
         given = self.file("p", "letting n be 1 $ one\nletting m be\n  2\n")
         text, notes = self.made("c.json", given=given)
-        self.assertEqual(text, "               $ one\nletting m be\n  2\nletting n be 2\nletting extra be 1\n")
+        self.assertEqual(text, "               $ one\nletting m be\n  2\nletting n be 2\n")
         self.assertIn("its `n` is taken", notes[0])
 
     def test_csv(self):
@@ -205,6 +205,8 @@ given cube : matrix indexed by [int(1..n)] of matrix indexed by [int(1..n), int(
 
     def test_the_launcher_takes_tables(self):
         given = self.file("p", "letting nurses be 3\nletting days be 5\nletting most be 4\nletting need be [2, 1, 2, 2, 1]\n")
+        with open(given, "a", encoding="utf-8") as it:
+            it.write("$ größe\n")
         self.file("off.csv", "off,1,2,3,4,5\nAnn,1,0,0,0,1\nBen,0,0,1,0,0\nCleo,0,1,0,1,0\n")
         words = ["--in-eprime", f"{ROOT}/examples/roster.eprime"]
         plain = self.call(program(), *words, "--in-param", f"{ROOT}/examples/roster.param")

@@ -43,6 +43,12 @@ class Start(Repository):
         self.call(self.epsat, "a")
         self.assertEqual(len(self.calls("clang")), 3)
 
+    def test_time_stamps_in_the_future_do_no_harm(self):
+        os.utime(f"{self.top}/crates/one/src/lib.rt", (4e9, 4e9))
+        self.assertEqual(self.call(self.epsat, "a")[:2], (0, "unproved a\n"))
+        self.assertEqual(self.call(self.epsat, "a"), (0, "unproved a\n", ""))
+        self.assertEqual(len(self.calls("clang")), 1)
+
     def test_two_first_calls_build_once(self):
         write(f"{self.fake}/waits", "")
         jobs = [subprocess.Popen([self.epsat, "a"], stdout=subprocess.PIPE, stderr=subprocess.PIPE, env=self.env, text=True) for _ in "12"]

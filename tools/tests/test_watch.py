@@ -85,6 +85,16 @@ class Watch(Case):
         self.assertIn("no answer was finished", err)
         self.clean()
 
+    def test_a_signal_ends_what_waits_for_its_input_or_its_reader(self):
+        for number in (signal.SIGINT, signal.SIGTERM):
+            os.mkfifo(f"{self.folder}/pipe")
+            job = self.start(WATCH, self.stub, "--in-eprime", "pipe", "--time-limit", "100000")
+            with open(f"{self.folder}/pipe", "wb"):
+                (os.killpg if number == signal.SIGINT else os.kill)(job.pid, number)
+                self.assertEqual(job.wait(HANGS), 128 + number)
+            os.remove(f"{self.folder}/pipe")
+            self.clean()
+
     def test_at_the_time_limit_the_last_finished_answer_is_put_out(self):
         # How far it comes by then isn't said: where not even the first budget is finished, nothing is put out.
         status, out, err = self.watch("--time-limit", "2")
