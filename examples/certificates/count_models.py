@@ -17,7 +17,7 @@ def read(text):
     for w in clauses if words[4:] else []:
         if int(w): now.append(int(w))
         else: out.append(now); now = []
-    assert words[:2] == ["p", "cnf"] and len(out) == int(words[3]) and not now
+    if words[:2] != ["p", "cnf"] or len(out) != int(words[3]) or now: sys.exit("the formula isn't in the format")
     return int(words[2]), out, notes, added[-1] if added else 0
 
 
@@ -47,17 +47,18 @@ def assignments(clauses, order, true=()):
 def solutions(text, left=False):
     """What the assignments decode to: each solution once, as (cell, value) in the order of the lines."""
     most, clauses, notes, added = read(text)
-    assert all(abs(lit) <= most for _, _, lit in notes), "a note is over the header's number"
+    if any(abs(lit) > most for _, _, lit in notes): sys.exit("a note is over the header's number")
     wanted = clauses if left else clauses[:len(clauses) - added]
     order, found = sorted({abs(lit) for _, _, lit in notes}), []
     for true in assignments(wanted, order):
         told = tuple((cell, value) for cell, value, lit in notes if lit in true)
-        assert len(told) == len({cell for cell, _, _ in notes}) == len({cell for cell, _ in told}), "a cell without one value"
+        if not len(told) == len({cell for cell, _, _ in notes}) == len({cell for cell, _ in told}): sys.exit("the clauses allow a cell without one value")
         if told not in found: found.append(told)
     return found
 
 
 if __name__ == "__main__":
-    found = solutions(open(sys.argv[1]).read(), "--left" in sys.argv[2:])
+    if len(sys.argv) < 2: sys.exit(__doc__)
+    found = solutions(open(sys.argv[1], newline="\n").read(), "--left" in sys.argv[2:])
     for one in sorted(found): print(" ".join(f"{cell}={value}" for cell, value in one))
     print(f"{len(found)} solutions")

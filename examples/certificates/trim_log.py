@@ -27,4 +27,5 @@ def trimmed(text):
 
 
 if __name__ == "__main__":
-    sys.stdout.write(trimmed(open(sys.argv[1]).read()))
+    if len(sys.argv) != 2: sys.exit(__doc__)
+    sys.stdout.write(trimmed(open(sys.argv[1], newline="\n").read()))

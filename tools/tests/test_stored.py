@@ -1,5 +1,5 @@
 """Files that an earlier version wrote are read by this one as what they were (tools/tests/stored)."""
-import json, os, unittest
+import json, os, sys, unittest
 
 from base import ROOT, Case, program, read
 
@@ -21,6 +21,16 @@ class Stored(Case):
                 shown = self.call(f"{ROOT}/tools/show", "json", given=read(f"{STORED}/{name}").encode())
                 want = json.loads(read(f"{STORED}/{name[:-9]}.json"))
                 self.assertEqual(want, {it: json.loads(shown[1])[it] for it in want}, name)
+
+    def test_the_tools_for_checkers(self):
+        """examples/certificates tests itself; its tools take the stored files."""
+        folder = f"{ROOT}/examples/certificates"
+        status, out, err = self.call(sys.executable, "-B", f"{folder}/test_certificates.py")
+        self.assertEqual((status, err), (0, ""), out)
+        for name in ("list", "none", "optimum"):
+            words = [f"{STORED}/{name}.cnf", f"{STORED}/{name}.lrat"]
+            self.assertEqual(self.call(sys.executable, "-B", f"{folder}/check_lrat.py", *words)[:2], (0, "verified\n"))
+        self.assertEqual(self.call(sys.executable, "-B", f"{folder}/check_list.py", f"{STORED}/list.cnf", f"{STORED}/list.solution")[0], 0)
 
     def test_proofs_are_checked_as_they_were(self):
         for name in os.listdir(STORED):
