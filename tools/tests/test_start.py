@@ -1,5 +1,5 @@
 """Starting: what builds the program, when, and what is left behind."""
-import os, shutil, signal, subprocess, unittest
+import os, re, shutil, signal, subprocess, unittest
 
 from base import ROOT, Repository, is_alive, read, until, write
 
@@ -101,6 +101,32 @@ class Start(Repository):
         self.assertIn("error: the sources are bad", err)
         self.assertEqual(self.left(), [])
 
+    def test_sources_that_change_while_it_is_built_are_told(self):
+        write(f"{self.fake}/waits", "")
+        job = self.start(self.epsat, "a")
+        until("the compiler", lambda: self.calls("clang"))
+        write(f"{self.top}/crates/one/src/lib.rt", "fn one() { changed }\n")
+        os.remove(f"{self.fake}/waits")
+        self.assertEqual(job.wait(300), 1)
+        self.assertIn("the sources changed while the program was built", self.said())
+        self.assertEqual((self.put(), self.left(), os.listdir(f"{self.top}/tools/out")), ("", [], ["lock"]))
+
+    def test_what_measures_clauses_is_built_once_and_again_where_its_sources_change(self):
+        build = f"{self.top}/tools/build"
+        self.assertIn("crates.txt has no line for ep_base", self.call(build, "--measures")[2])
+        for it in re.search('MEASURED_BY = "([^"]+)"', read(build))[1].split():
+            write(f"{self.top}/crates/{it}/src/lib.rt", f"fn {it}() {{}}\n")
+            write(f"{self.top}/crates.txt", read(f"{self.top}/crates.txt") + f"{it}:\n")
+        self.assertEqual(self.call(build, "--find-measures"), (1, "", ""))
+        status, path, err = self.call(build, "--measures")
+        self.assertEqual((status, self.left()), (0, []))
+        self.assertIn("built now, once", err)
+        self.assertEqual(self.calls("try")[0].split(" ")[0].split("/")[-3:], ["top", "crates", "epsat_measures"])
+        self.assertEqual(self.call(build, "--measures"), (0, path, ""))
+        self.assertEqual(self.call(build, "--find-measures"), (0, path, ""))
+        write(f"{self.top}/tools/parts/measures.rattle", "another")
+        self.assertEqual(self.call(build, "--find-measures"), (1, "", ""))
+
     def test_prove_proves_each_crate_below_before_those_above(self):
         status, out, err = self.call(self.epsat, "--prove")
         self.assertEqual((status, out), (0, ""))
@@ -148,6 +174,11 @@ class Release(Repository):
     def test_a_release_starts_where_there_is_no_toolchain(self):
         release = f"{self.top}/tools/release"
         self.assertIn("LICENSE", self.call(release)[2])
+        for it in re.search('MEASURED_BY = "([^"]+)"', read(f"{self.top}/tools/build"))[1].split():
+            write(f"{self.top}/crates/{it}/src/lib.rt", f"fn {it}() {{}}\n")
+            write(f"{self.top}/crates.txt", read(f"{self.top}/crates.txt") + f"{it}:\n")
+        write(f"{self.fake}/toolchain/bin/clang", '#!/bin/sh\nfor it; do last="$it"; done\ncp /bin/true "$last"\n', True)
+        self.assertIn("/measures-", self.call(f"{self.top}/tools/build", "--measures")[1])
         write(f"{self.top}/LICENSE", "do what you like\n")
         write(f"{self.top}/README.md", "read\n")
         write(f"{self.top}/examples/a.eprime", "a model\n")
@@ -175,7 +206,7 @@ class Release(Repository):
         self.assertEqual(self.call(f"{top}/epsat", "--in-eprime", "m"), (0, "", ""))
         self.assertEqual(self.call(f"{top}/epsat", "--help")[0], 0)
         self.assertIn("proved where it was made", self.call(f"{top}/epsat", "--prove")[2])
-        for it in ("LICENSE", "epsat.1", "examples/a.eprime", "docs/HELP.txt", "tools/watch"):
+        for it in ("LICENSE", "epsat.1", "examples/a.eprime", "docs/HELP.txt", "tools/watch", "tools/heaviest", "program/measures"):
             self.assertTrue(os.path.isfile(f"{top}/{it}"), it)
 
 
