@@ -26,6 +26,8 @@ class Command:
 
     def __init__(self, words):
         self.own, self.faults = {"data": []}, []
+        # The table that the value of a parameter comes from, by its name.
+        self.tables = {}
         self.words = self.taken(list(words))
         self.values = {}
         self.places = {}

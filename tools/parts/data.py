@@ -1,7 +1,8 @@
 """Parameters from tables: makes the text of a parameter file of JSON and CSV, as the `given` statements of a model want it."""
 import csv, io, json, os, re
 
-import tokens
+import grammar, tokens
+from answers import Answer, Matrix
 
 TRUE, FALSE = {"true", "1", "x", "yes"}, {"false", "0", "", ".", "-", "no"}
 
@@ -10,8 +11,9 @@ class Fault(Exception):
     """What is wrong with a table, in one line."""
 
 
-def parameters(model, given, files, note=lambda _: None):
-    """The text of a parameter file: what stands in the one that was given, and then a letting for each value of the tables, which counts where both have one."""
+def parameters(model, given, files, note=lambda _: None, origins=None):
+    """The text of a parameter file: what stands in the one that was given, and then a letting for each value of the tables, which counts where both
+    have one. `origins` gets the table of each name."""
     asked = {}
     text = tokens.text_in(model) if model else None
     for it in tokens.declarations(text) if text else ():
@@ -22,8 +24,9 @@ def parameters(model, given, files, note=lambda _: None):
         raise Fault(f"{given} can't be read")
     has = {it[1].text: it for it in tokens.statements(tokens.tokens_of(begun)) if it[0].text == "letting" and len(it) > 1}
     lines, values = [], {}
+    wide = columns_of(text, begun)
     for it in files:
-        for name, value in table(it, asked, text is not None).items():
+        for name, value in table(it, asked, wide if text is not None else None, note).items():
             if name in values:
                 raise Fault(f"{it}: `{name}` has a value already, from another table")
             if name in has:
@@ -36,23 +39,91 @@ def parameters(model, given, files, note=lambda _: None):
             if not tokens.is_name(name):
                 raise Fault(f"{it}: `{name}` is no name of the language")
             values[name] = value
+            if origins is not None:
+                origins[name] = it
             lines.append(f"letting {name} be {spelled(value, asked.get(name, (0, None))[1], f'{it}: {name}')}\n")
     return begun + ("" if begun.endswith("\n") else "\n") + "".join(lines)
 
 
-def table(word, asked, is_known):
-    """The values of one word of --data, by names."""
+def columns_of(model, params):
+    """How many columns the table of each `given` of two dimensions has, where the parameters tell it."""
+    found, evaluator = {}, grammar.Instance(model or "", params).evaluator
+    for it in grammar.Reader(model or "").statements():
+        for group in it.parts if it.kind == "given" else ():
+            if group.domain.kind == "matrix" and len(group.domain.parts) == 3:
+                try:
+                    found.update(dict.fromkeys((one.text for one in group.names), len(evaluator.values(group.domain.parts[1]))))
+                except (grammar.Undefined, grammar.Unknown, IndexError, AttributeError, ValueError):
+                    pass
+    return found
+
+
+def table(word, asked, wide, note):
+    """The values of one word of --data, by names: of FILE, NAME=FILE, or NAME=OTHER:FILE. `wide` has what columns_of found, and is None without a model."""
     name, equals, path = word.partition("=")
     if not equals or not tokens.is_name(name):
         name, path = "", word
+    other, colon, rest = path.partition(":")
+    if not (name and colon and tokens.is_name(other)) or os.path.exists(path):
+        other, rest = "", path
+    path = rest
     try:
         with open(path, encoding="utf-8-sig", newline="") as it:
             text = it.read()
     except (OSError, UnicodeDecodeError) as it:
         raise Fault(f"{path} can't be read: {getattr(it, 'strerror', None) or 'it is no text in UTF-8'}") from None
-    if path.lower().endswith(".json"):
+    values = answer_values(path, text, asked)
+    if values is None and path.lower().endswith(".json"):
         return json_values(name, path, text)
-    return csv_values(name or os.path.splitext(os.path.basename(path))[0], path, text, asked, is_known)
+    if values is None:
+        return csv_values(name or os.path.splitext(os.path.basename(path))[0], path, text, asked, wide, note)
+    if not name:
+        found = {it: value for it, value in values.items() if it in asked or wide is None}
+        if not found:
+            raise Fault(f"{path}: it has {names_of(values)}, and the model asks for {names_of(asked)}; NAME=OTHER:FILE takes a value under another name")
+        return found
+    if (other or name) in values or not other and len(values) == 1:
+        return {name: values.get(other or name, next(iter(values.values())))}
+    raise Fault(f"{path}: it has no `{other or name}`; it has {names_of(values)}, of which {name}=OTHER:{path} takes one")
+
+
+def names_of(values):
+    return ", ".join(f"`{it}`" for it in values) or "nothing"
+
+
+def answer_values(path, text, asked):
+    """The values of an answer of the program, as it stands or as --show json or csv wrote it, by names; None of any other text."""
+    if text.startswith(("language ", "letting ", "$ ")):
+        blocks = Answer(text).blocks
+        if len(blocks) != 1:
+            raise Fault(f"{path}: it has {len(blocks)} solutions, and one is wanted")
+        return {name: it.plain() if isinstance(it, Matrix) else it for name, it in blocks[0].items()}
+    if path.lower().endswith(".json"):
+        try:
+            found = json.loads(text)
+        except ValueError:
+            return None
+        is_answer = isinstance(found, dict) and isinstance(found.get("values"), dict) and "status" in found and "values" not in asked
+        return found["values"] if is_answer else None
+    made = {}
+    value = lambda it: it == "true" if it in ("true", "false") else int(it)
+    for part in re.split(r"\r?\n[ \t]*\r?\n", text.strip("\r\n")):
+        rows = list(csv.reader(io.StringIO(part)))
+        if not all(is_value(it) for row in rows for it in row[1:]):
+            return None
+        single = {}
+        while len(rows) > 1 and len(rows[-1]) == 2 and tokens.is_name(rows[-1][0]):
+            name, it = rows.pop()
+            single[name] = value(it)
+        if not rows or not rows[0] or not tokens.is_name(rows[0][0]) or any(len(row) != len(rows[0]) for row in rows):
+            return None
+        lists = [[value(it) for it in row[1:]] for row in rows[1:]]
+        if len(rows) == 1 and len(rows[0]) != 2:
+            return None
+        made[rows[0][0]] = value(rows[0][1]) if len(rows) == 1 else lists[0] if len(rows) == 2 and rows[1][0] == "" else lists
+        made.update(reversed(single.items()))
+    # One table alone is read as any other.
+    return made if len(made) > 1 and any(isinstance(it, list) for it in made.values()) else None
 
 
 def json_values(name, path, text):
@@ -93,7 +164,7 @@ def rows_of(text):
     return [(number, row) for number, row in enumerate(rows, 1) if any(row)]
 
 
-def csv_values(name, path, text, asked, is_known):
+def csv_values(name, path, text, asked, wide_of, note):
     """The matrix of a name; or, where no `given` has it, a list for each column that is headed by a parameter's name."""
     rows = rows_of(text)
     if not rows:
@@ -101,7 +172,7 @@ def csv_values(name, path, text, asked, is_known):
     head = rows[0][1]
     if name not in asked:
         columns = {it: at for at, it in enumerate(head) if asked.get(it, (0,))[0] == 1}
-        if not columns and is_known:
+        if not columns and wide_of is not None:
             names = ", ".join(f"`{it}`" for it in asked) or "none"
             raise Fault(f"{path}: the model has no `given {name}`, and no column is headed by a list that it asks for (it asks for {names}); NAME=FILE names another")
         if columns:
@@ -110,6 +181,14 @@ def csv_values(name, path, text, asked, is_known):
     has_head = not all(is_value(it) for it in head) and (len(rows) > 1 or head[0] == name) and not (is_bool and all(it.lower() in TRUE | FALSE for it in head))
     body = rows[1:] if has_head else rows
     has_side = has_head and head[0] in (name, "") or any(row[0] and not is_value(row[0]) and not (is_bool and row[0].lower() in TRUE | FALSE) for _, row in body)
+    if has_head and tokens.is_name(head[0]) and all(re.fullmatch("[0-9]+", it) for it in head[1:]) and sorted(set(head[1:]), key=int) == head[1:]:
+        # Columns that are numbered: rows are numbered, too.
+        has_side = has_side or len(head) > 1
+    counts = has_head and not has_side and len(head) > 1 and [row[0] for _, row in body] == [str(it) for it in range(1, len(body) + 1)]
+    if counts and (depth == 1 and len(head) == 2 or depth == 2 and (wide_of or {}).get(name) == len(head) - 1):
+        has_side = True
+    elif counts and not is_bool:
+        note(f"{path}: its first column, `{head[0]}`, counts 1, 2, 3, .. and is taken as values. If it has labels, head it by `{name}` or by nothing")
     start = 1 if has_side and len(body[0][1]) > 1 else 0
     wide = len(head) if has_head else len(body[0][1])
     for number, row in body:

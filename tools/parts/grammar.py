@@ -334,9 +334,9 @@ class Typing:
             elif it.kind in ("such", "where"):
                 for one in it.parts:
                     kind = self.of(one)
-                    if kind == "int" and one.kind == "quantifier" and one.parts[0].kind == "binary" and one.parts[0].token.text in COMPARISONS:
-                        left, right = (SPELL(it) for it in one.parts[0].parts)
-                        self.fault(one, f"the body of a `sum` reaches to its end, so this adds up comparisons: put brackets, `(sum .. . {left}) {one.parts[0].token.text} {right}`")
+                    why = counted(one) if kind == "int" else None
+                    if why:
+                        self.fault(one, why)
                     elif kind not in ("bool", None):
                         self.fault(one, f"a clause has to be true or false, and this is {said(kind)}")
             elif it.kind == "objective":
@@ -427,6 +427,10 @@ class Typing:
         body = node.parts[0]
         kind = self.scoped(names, domain, lambda: self.of(body))
         wanted = ("bool",) if node.token.text != "sum" else ("int", "bool")
+        why = counted(body) if wanted == ("bool",) and kind == "int" else None
+        if why:
+            self.fault(node, why)
+            return None
         fits = self.wants(node, body, kind, wanted, f"the body of `{node.token.text}`")
         return ("bool" if node.token.text != "sum" else "int") if fits else None
 
@@ -500,6 +504,19 @@ class Typing:
 
 
 SPELL = lambda node: "?"
+
+
+def counted(node):
+    """What is said of a sum over comparisons where a truth value is wanted: it was to be compared itself."""
+    if node.kind != "quantifier" or node.token.text != "sum":
+        return None
+    body = node.parts[0]
+    if body.kind == "quantifier":
+        return counted(body)
+    if body.kind != "binary" or body.token.text not in COMPARISONS:
+        return None
+    left, right = (SPELL(it) for it in body.parts)
+    return f"the body of a `sum` reaches to its end, so this adds up comparisons: put brackets, `(sum .. . {left}) {body.token.text} {right}`"
 
 
 def type_faults(text, statements):
@@ -893,6 +910,24 @@ class Walker:
                 return
 
 
+def failing(evaluator, node):
+    """Where a tree that is false is so: the values of the names of its outer `forAll`, and the part that is false for them."""
+    if node.kind == "brackets":
+        return failing(evaluator, node.parts[0])
+    if node.kind == "quantifier" and node.token.text == "forAll":
+        names, domain = node.more
+        for _ in evaluator.each(names, domain):
+            if not evaluator.number(node.parts[0]):
+                here = {it.text: evaluator.names[it.text] for it in names}
+                inner, part = failing(evaluator, node.parts[0])
+                return {**here, **inner}, part
+    if node.kind == "binary" and node.token.text == "/\\":
+        for it in node.parts:
+            if not evaluator.number(it):
+                return failing(evaluator, it)
+    return {}, node
+
+
 class Weigher:
     """Estimates how many nodes a tree has once its quantifiers are written out: of the values of a domain the first, the middle and the last are tried."""
 
@@ -926,16 +961,12 @@ class Weigher:
         return round(found / len(tried) * len(values))
 
 
-def heaviest(instance, limit=3):
-    """The clauses with the most nodes, each with an estimate of these."""
-    found = []
-    for it in instance.model:
-        for node in it.parts if it.kind in ("such", "objective", "where", "letting") else ():
-            try:
-                found.append((Weigher(instance.evaluator).nodes(node), node))
-            except (Undefined, Unknown, IndexError, AttributeError, ValueError):
-                continue
-    return sorted(found, key=lambda it: -it[0])[:limit]
+def nodes_of(instance, node):
+    """An estimate of the nodes of a tree of an instance, or None where there is none."""
+    try:
+        return Weigher(instance.evaluator).nodes(node)
+    except (Undefined, Unknown, IndexError, AttributeError, ValueError):
+        return None
 
 
 def widest(instance, limit=3):

@@ -1,7 +1,7 @@
 """Says what a refusal means: its place in the text, the likeliest mistake there (docs/hints.tsv, or found here), and its row of docs/FAULTS.md."""
 import difflib, functools, os, re, sys
 
-import grammar, tokens
+import grammar, measuring, tokens
 from command import INPUTS
 
 ROOT = os.path.dirname(os.path.dirname(os.path.dirname(os.path.realpath(__file__))))
@@ -9,7 +9,7 @@ ROOT = os.path.dirname(os.path.dirname(os.path.dirname(os.path.realpath(__file__
 LARGE = 500_000
 # How many columns of a line are shown.
 WIDTH = 110
-PAGE = 'see "When an answer surprises" at the end of docs/TUTORIAL.md'
+PAGE = 'docs/INFEASIBLE.md finds the rules that can\'t be kept together; see "When an answer surprises" at the end of docs/TUTORIAL.md, too'
 
 
 def explain(text, status, command, say):
@@ -132,6 +132,8 @@ def of_place(fault, file, text, row, column, name):
     hints = []
     if len(text) > 10 * LARGE:
         return hints
+    if fault == "F1" and file == "model" and re.match(r"\s*(%.*\s+)*(int|var|par|bool|float|array|set|include|predicate|function|constraint|solve|enum|output)\b", text):
+        return ["this looks like MiniZinc, which isn't read here: docs/MIGRATING.md says what each of its forms becomes"]
     if fault in ("F1", "F2", "F6", "F7", "F3"):
         if fault == "F1":
             line = text.split("\n")[row - 1]
@@ -171,19 +173,19 @@ def unclosed(text, row, column):
 
 
 def of_limit(kind, command):
-    """What in the instance is largest, by an estimate."""
+    """What in the instance is largest: measured where the program that does so is built, else estimated."""
     model, params = texts(command)
-    if model is None:
+    if not model:
         return []
     instance = grammar.Instance(model, params)
-    made = []
-    for count, node in grammar.heaviest(instance) if kind in ("L4", "L6") else ():
-        if count > 10_000:
-            said = grammar.spelled(model, node)
-            made.append(f"line {node.first.line} of the model, some {count:,} nodes: {said if len(said) <= 90 else said[:86] + ' ..'}")
-    for cells, values, name in grammar.widest(instance) if kind in ("L5", "L6") else ():
-        if cells * values > 100_000:
+    program = measuring.program()
+    found = measuring.measured(program, command) if program else {}
+    made = measuring.told(model, instance, found, kind, 1_000)
+    for cells, values, name in grammar.widest(instance):
+        if cells * (1 if kind == "L4" else values) > 100_000:
             made.append(f"line {name.line} of the model: `{name.text}` has {cells:,} cell{'s' * (cells != 1)} with {values:,} values each")
+    if not program and made:
+        made.append("numbers of nodes are estimates here: `tools/heaviest MODEL PARAMETERS` measures (it is built first, once, in a minute or two)")
     return made
 
 
@@ -250,12 +252,14 @@ def of_name(fault, name, command):
         spare = [it.token.text for it in tokens.declarations(params or "") if it.token.text not in asked]
         near = difflib.get_close_matches(name, spare, 1) or spare[:1]
         if params is None:
-            hints.append("the command names no parameter file: --in-param FILE")
+            hints.append("the command names no parameter file: --in-param FILE, or --data FILE for a table")
         elif near:
             hints.append(f"the parameters have `{near[0]}`, for which the model doesn't ask: did you mean `{name}`?")
     if fault == "F9":
         letting = place_of(params or "", ("letting",), name)
-        if letting:
+        if name in command.tables:
+            hints.append(f"its value comes from the table {command.tables[name]}")
+        elif letting:
             hints.append(f"line {letting[0]} of the parameters: {params.splitlines()[letting[0] - 1].strip()[:WIDTH]}")
         why = grammar.Instance(model, params).misfits.get(name)
         hints += [f"`{name}`: {why}"] if why else []
@@ -281,7 +285,8 @@ def of_judgement(line, command):
     words = line.split()
     model, params = texts(command)
     if words[:2] == ["$", "violated"] and model:
-        return [f"epsat: {it}" for it in clause(model, ("such",), int(words[2]))]
+        solution = tokens.text_in(command.values.get("in-solution")) or ""
+        return [f"epsat: {it}" for it in clause(model, ("such",), int(words[2])) + where_violated(int(words[2]), model, params, solution)]
     if words[:3] == ["$", "wrong", "shape"] and model:
         name, solution = words[3], tokens.text_in(command.values.get("in-solution")) or ""
         return [f"epsat: {it}" for it in misshapen(name, model, params, solution)]
@@ -295,12 +300,22 @@ def of_judgement(line, command):
     return []
 
 
-def misshapen(name, model, params, solution):
-    """Why a solution text has no value of the right shape for a name."""
-    domain = next((group.domain for it in grammar.Reader(model).statements() if it.kind == "find" for group in it.parts if name in [one.text for one in group.names]), None)
-    if domain is None:
-        return [f"the model has no decision variable `{name}`, and the solution text has a `letting` of it"]
-    made = [f"line {domain.first.line} of the model: {name} : {grammar.spelled(model, domain)}"]
+def where_violated(number, model, params, solution):
+    """For which values of its names a clause doesn't hold, and which part of it, where that is found out."""
+    evaluator, told = grammar.Instance(model, params).evaluator, values_in(solution)
+    try:
+        for it in grammar.Reader(model).statements():
+            for group in it.parts if it.kind == "find" else ():
+                evaluator.names.update({one.text: grammar.fitted(told[one.text], group.domain, evaluator) for one in group.names})
+        here, node = grammar.failing(evaluator, clauses(model, ("such",))[number - 1])
+    except (grammar.Misfit, grammar.Undefined, grammar.Unknown, LookupError, AttributeError, ValueError):
+        return []
+    values = ", ".join(f"{name} = {value}" for name, value in here.items())
+    return [f"it doesn't hold where {values}: {grammar.spelled(model, node)[:200]}"] if here else []
+
+
+def values_in(solution):
+    """The values of the lettings of a solution text, by names, as far as they are found."""
     value = grammar.Evaluator()
     for it in grammar.Reader(solution).statements():
         try:
@@ -308,11 +323,21 @@ def misshapen(name, model, params, solution):
                 value.names[it.names[0].text] = value.of(it.parts[0])
         except (grammar.Undefined, grammar.Unknown, IndexError, AttributeError, ValueError):
             pass
+    return value.names
+
+
+def misshapen(name, model, params, solution):
+    """Why a solution text has no value of the right shape for a name."""
+    domain = next((group.domain for it in grammar.Reader(model).statements() if it.kind == "find" for group in it.parts if name in [one.text for one in group.names]), None)
+    if domain is None:
+        return [f"the model has no decision variable `{name}`, and the solution text has a `letting` of it"]
+    made = [f"line {domain.first.line} of the model: {name} : {grammar.spelled(model, domain)}"]
+    told = values_in(solution)
     if place_of(solution, ("letting",), name) is None:
         return [*made, f"the solution text has no `letting {name} be ..`"]
-    if name in value.names:
+    if name in told:
         try:
-            grammar.fitted(value.names[name], domain, grammar.Instance(model, params).evaluator)
+            grammar.fitted(told[name], domain, grammar.Instance(model, params).evaluator)
         except grammar.Misfit as why:
             made.append(f"`{name}`: {why}")
         except (grammar.Undefined, grammar.Unknown, IndexError, AttributeError, ValueError):
@@ -339,4 +364,4 @@ def of_answer(text, command):
             f"epsat: {where} `{grammar.spelled(model, node)}` is {index}{f' where {values}' if values else ''}, outside of {grammar.shortly(indices)}: "
             + ("this read is false" if is_bool else "it has no value, and what compares it is false")
         )
-    return [*made, f"epsat: there is no solution, which is proved. Where that surprises, {PAGE}"]
+    return [*made, f"epsat: there is no solution, which is proved. Where that surprises: {PAGE}"]

@@ -77,6 +77,7 @@ def blocks_of(answer):
 def grid(answer, axes, _path):
     """Tables for a terminal."""
     lines = [it for it in answer.notes if not (answer.is_list and it.startswith("solution "))]
+    lines = [f"{it}: the best that was found, and there may be better ones" if it.startswith("incumbent ") else it for it in lines]
     for head, block in blocks_of(answer):
         lines += ["", head] if head else []
         for name, value in block.items():

@@ -1,8 +1,8 @@
 """Faults that teach: what is said at each of many mistakes, and --lint."""
 import os, re, unittest
 
-from base import ROOT, Case, program
-import command, grammar, hints, tokens
+from base import ROOT, Case, program, read
+import command, grammar, hints, measuring, tokens
 
 HEAD = """language ESSENCE' 1.0
 letting n be 3
@@ -131,6 +131,7 @@ find größe : int(1..3) ## F1 7:8 ## letters of names
 such that b = True ## F3 7:15 True ## `true` and `false`
 such that m[1] = 2 ## F3 7:11 m ## did you mean `M`?
 such that later = 2 find later : int(1..2) ## F3 7:11 later ## is declared in line 7, below
+such that forAll i : int(1..n) . sum j : int(1..n) . M[j] >= i ## F5 7:11 ## put brackets, `(sum .. . M[j]) >= i`
 such that (forAll i : int(1..n) . M[i] > 1) /\ x = i ## F3 7:52 i ## only known in its body
 find x : bool ## F4 7:6 x ## declared in line 4 already
 such that x in M ## F5 7:16 ## `toSet(..)`
@@ -167,6 +168,8 @@ MODELS = [
     ("language ESSENCE' 1.b.a\n", "F2 model 1:21", "the language line is"),
     ("int: n = 3;\n", "F2 model 1:1", "looks like MiniZinc"),
     ("n = 3;\n", "F2 model 1:1", "data of MiniZinc"),
+    ("% sack\nint: n = 3;\nset of int: S = {1, 2};\n", "F1 model 3:17", "looks like MiniZinc"),
+    ("int: n = 3;\nset of int: S = {1, 2};\n", "F1 model 2:17", "looks like MiniZinc"),
 ]
 PARAMS = [
     ("given n : int(1..3)\n", "F2 params 1:1", "looks like a model"),
@@ -250,7 +253,7 @@ class Hints(Case):
 
     def test_the_clause_that_is_violated_is_shown(self):
         model = "language ESSENCE' 1.0\nfind x, y : int(1..5)\nfind s : matrix indexed by [int(1..2)] of int(0..1)\nsuch that x > 1, forAll i : int(1..2) .\n  s[i] < y\nsuch that x + y = 4\n"
-        for text, line, hint in (("letting x be 2\nletting y be 1\nletting s be [0, 1]\n", "$ violated 2", "line 4 of the model: forAll i : int(1..2) . s[i] < y"),
+        for text, line, hint in (("letting x be 2\nletting y be 1\nletting s be [0, 1]\n", "$ violated 2", "line 4 of the model: forAll i : int(1..2) . s[i] < y epsat: it doesn't hold where i = 2: s[i] < y"),
                                  ("letting x be 2\nletting y be 3\nletting s be [0, 1]\n", "$ violated 3", "line 6 of the model: x + y = 4"),
                                  ("letting x be 7\nletting y be 3\nletting s be [0, 1]\n", "$ wrong shape x", "`x`: it is 7, and the domain is int(1..5)"),
                                  ("letting x be 1\nletting y be 3\nletting s be [0]\n", "$ wrong shape s", "`s`: it has 1 parts, and 2 are wanted: int(1..2)"),
@@ -277,12 +280,41 @@ class Hints(Case):
         self.assertEqual(self.said(HEAD + "such that x > 1\n")[1], [])
         self.assertIn("no `find`", self.said("language ESSENCE' 1.0\nletting q be 3\n")[1][0])
 
-    def test_the_largest_parts_are_shown_at_a_limit(self):
+    def measured_by(self, program):
+        kept, measuring.program = measuring.program, lambda: program
+        self.addCleanup(setattr, measuring, "program", kept)
+
+    def test_the_largest_parts_are_estimated_at_a_limit(self):
+        self.measured_by(None)
         out, said, _ = self.said(HEAD + "such that x > 1,\n  forAll i, j, k : int(1..200) . i + j + k > x\n")
-        self.assertEqual((out[0], said[0]), ("limit L4", "line 8 of the model, some 64,000,001 nodes: forAll i, j, k : int(1..200) . i + j + k > x".replace("64,000,001", "56,000,001")))
+        self.assertEqual((out[0], said[0]), ("limit L4", "line 8 of the model, some 56,000,001 nodes: forAll i, j, k : int(1..200) . i + j + k > x"))
+        self.assertIn("`tools/heaviest MODEL PARAMETERS` measures", said[1])
         out, said, _ = self.said(HEAD + "find wide : matrix indexed by [int(1..20)] of int(0..100000000)\n")
         self.assertEqual((out[0], said[0]), ("limit L6", "line 7 of the model: `wide` has 20 cells with 100,000,001 values each"))
+        out, said, _ = self.said(HEAD + "find many : matrix indexed by [int(1..3000), int(1..3000)] of bool\n")
+        self.assertEqual((out[0], said[0]), ("limit L4", "line 7 of the model: `many` has 9,000,000 cells with 2 values each"))
         self.assertIn("q is 2", self.said(HEAD + "where q > 2\n")[1])
+
+    def test_the_largest_parts_are_measured_where_that_can_be_done(self):
+        self.measured_by(self.file("measures", "#!/bin/sh\necho \"$@\" >>asked\nprintf 'clause 1 4 6\\nclause 2 L4\\nclause 3 4000000 9000000\\nobjective 3 7\\n'\n", True))
+        model = HEAD + "such that x > 1,\n  forAll i, j, k : int(1..200) . i + j + k > x\nsuch that y > 1\nminimising z\n"
+        self.addCleanup(os.chdir, os.getcwd())
+        os.chdir(self.folder)
+        said = self.said(model, "letting q be 2\n", "--undefined", "strict")[1]
+        self.assertEqual(said[:2], ["line 8 of the model, more than 5,000,000 nodes, some 56,000,001: forAll i, j, k : int(1..200) . i + j + k > x",
+                                    "line 9 of the model, 4,000,000 nodes, weight 9,000,000: y > 1"])
+        self.assertEqual(len(said), 4)
+        self.assertEqual(read("asked"), f"strict {self.folder}/m {self.folder}/p\n")
+        instance = grammar.Instance(model, "letting q be 2\n")
+        told = measuring.told(model, instance, {1: (4, 6), 2: (10, 30), 3: (3, 900), 0: "L5"}, "L6")
+        self.assertEqual(told, ["line 9 of the model, 3 nodes, weight 900: y > 1", "line 8 of the model, 10 nodes, weight 30: forAll i, j, k : int(1..200) . i + j + k > x",
+                                "line 7 of the model, 4 nodes, weight 6: x > 1"])
+        self.assertEqual(measuring.told(model, instance, {1: (4, 6), 2: (10, 30), 3: (3, 900), 0: "L5"}, "L5"), ["line 10 of the model, numbers beyond 2^40: z"])
+        self.assertEqual(measuring.told(model, instance, {1: (4, 6), 2: (10, 30), 3: "L6", 0: (1, 5)}, "L6")[0], "line 9 of the model, weight more than 20,000,000: y > 1")
+        self.assertEqual(measuring.told(model, instance, {1: (4, 6), 2: (10, 30), 3: (3, 900), 0: (1, 5)}, "L4")[-1], "all 4 parts together have 18 nodes and weigh 941")
+        many = HEAD + "such that " + ",\n".join(f"x + y > {it}" for it in range(20)) + "\n"
+        told = measuring.told(many, grammar.Instance(many, None), {it + 1: (100 + it, 0) for it in range(20)}, "L4")
+        self.assertEqual((len(told), told[0]), (11, "line 26 of the model, 119 nodes, weight 0: x + y > 19"))
 
     def test_missing_files_are_named(self):
         self.file("model.eprime", HEAD)

@@ -183,10 +183,46 @@ given cube : matrix indexed by [int(1..n)] of matrix indexed by [int(1..n), int(
         for text in ("1,2,3\n", "1\n2\n3\n", "need,1,2,3\n,1,2,3\n", "need\n1\n2\n3\n"):
             self.file("need.csv", text)
             self.assertEqual(self.made("need.csv")[0], "letting need be [1, 2, 3]\n", text)
+        for text in ("day,wanted\n1,4\n2,5\n", "day,wanted\nmon,4\ntue,5\n"):
+            self.file("need.csv", text)
+            self.assertEqual(self.made("need.csv"), ("letting need be [4, 5]\n", []), text)
+        self.file("grid.csv", "day,early,late\n1,2,3\n2,3,4\n")
+        text, notes = self.made("grid.csv")
+        self.assertEqual(text, "letting grid be [[1, 2, 3], [2, 3, 4]]\n")
+        self.assertIn("head it by `grid` or by nothing", notes[0])
+        for head in ("grid", ""):
+            self.file("grid.csv", f"{head},early,late\n1,2,3\n2,3,4\n")
+            self.assertEqual(self.made("grid.csv"), ("letting grid be [[2, 3], [3, 4]]\n", []))
         self.file("things.csv", "name,need,cost\nrope,1,10\ntent,2,20\n")
         self.assertEqual(self.made("things.csv")[0], "letting need be [1, 2]\nletting cost be [10, 20]\n")
         self.file("n.csv", "7\n")
         self.assertEqual(self.made("n.csv")[0], "letting n be 7\n")
+
+    def test_answers_are_read_back(self):
+        answer = "language ESSENCE' 1.0\n$ optimum 4\nletting need be [4, 5; int(1..2)]\nletting grid be [[1, 2; int(1..2)], [3, 4; int(1..2)]; int(0..1)]\nletting late be true\nletting worst be 7\n"
+        self.file("old.solution", answer)
+        self.file("old.json", showing.shown(answer.encode(), "json").decode())
+        self.file("old.csv", showing.shown(answer.encode(), "csv").decode())
+        old = lambda word: word.replace("old", f"{self.folder}/old")
+        for kind in ("solution", "json", "csv"):
+            self.assertEqual(self.made(f"old.{kind}")[0], "letting need be [4, 5]\nletting grid be [[1, 2], [3, 4]]\n")
+            self.assertEqual(self.made(old(f"cost=need:old.{kind}"), old(f"m=worst:old.{kind}"))[0], "letting cost be [4, 5]\nletting m be 7\n")
+            self.assertEqual(self.made(old(f"need=old.{kind}"))[0], "letting need be [4, 5]\n")
+            self.assertIn(f"it has no `gird`; it has `need`, `grid`, `late`, `worst`, of which n=OTHER:old.{kind} takes one", self.fault(old(f"n=gird:old.{kind}")))
+        self.file("old.csv", showing.shown(answer.replace("letting need be [4, 5; int(1..2)]\n", "").replace("letting late be true\nletting worst be 7\n", "").encode(), "csv").decode())
+        self.assertEqual(self.made(old("grid=old.csv"))[0], "letting grid be [[1, 2], [3, 4]]\n")
+        self.file("old.solution", "language ESSENCE' 1.0\n$ solution\nletting x be 3\n")
+        self.assertEqual(self.made(old("n=old.solution"))[0], "letting n be 3\n")
+        self.assertIn("it has `x`, and the model asks for", self.fault("old.solution"))
+        self.file("old.solution", "language ESSENCE' 1.0\n$ no solution\n")
+        self.assertIn("it has 0 solutions", self.fault("old.solution"))
+
+    def test_a_first_column_that_counts_is_labels_where_the_width_tells_it(self):
+        given = self.file("p", "letting n be 2\nletting m be 2\n")
+        self.file("grid.csv", "day,early,late\n1,2,3\n2,3,4\n")
+        self.assertIn("letting grid be [[2, 3], [3, 4]]\n", self.made("grid.csv", given=given)[0])
+        self.file("off.csv", "day,early,late\n1,x,\n2,,x\n")
+        self.assertIn("letting off be [[true, false], [false, true]]\n", self.made("off.csv", given=given)[0])
 
     def test_faults_of_tables_have_places(self):
         self.file("grid.csv", "1,2\n3,x\n")
@@ -214,6 +250,10 @@ given cube : matrix indexed by [int(1..n)] of matrix indexed by [int(1..n), int(
         status, out, err = self.call(f"{ROOT}/epsat", *words, "--data", "nothing.csv")
         self.assertEqual((status, out), (3, ""))
         self.assertIn("nothing.csv can't be read", err)
+        self.file("off.csv", "off,1,2,3,4,5\nAnn,1,0,0,0,1\nBen,0,0,1,0,0\n")
+        status, out, err = self.call(f"{ROOT}/epsat", *words, "--in-param", given, "--data", "off.csv", EPSAT_EXPLAIN="1")
+        self.assertEqual((status, out), (3, "fault F9 off\n"))
+        self.assertIn("epsat: its value comes from the table off.csv\nepsat: `off`: it has 2 parts, and 3 are wanted", err)
         self.assertEqual(self.left(), [])
 
     def test_it_is_called_from_python(self):
