@@ -59,7 +59,7 @@ class Examples(Case):
                         words = [it for it in words if it not in ("grid",)]
                         if any(it.startswith(("roster.", "all.", "next.")) for it in words):
                             continue
-                        status, out, _ = self.call(program(), *words)
+                        status, out, _ = self.call(f"{ROOT}/epsat" if "--data" in words else program(), *words)
                         self.assertEqual(status, 0, f"{page}: {line}: {out[:200]}")
                         count += 1
         self.assertGreaterEqual(count, 9)

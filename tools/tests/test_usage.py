@@ -1,5 +1,5 @@
 """Words: what passes through unchanged, what is said of words that are no command, and of --help."""
-import os, subprocess, unittest
+import os, re, subprocess, unittest
 
 from base import ROOT, Case, program, read
 from command import Command
@@ -80,6 +80,13 @@ class Usage(Case):
             text = it.read()
         listed = text[text.index("const OPTIONS") :].split("[")[2].split("]")[0]
         self.assertEqual(sorted(it.strip().strip('"') for it in listed.split(",") if it.strip()), OPTIONS)
+
+    def test_the_reserved_words_are_those_of_the_program(self):
+        from tokens import RESERVED
+
+        with open(os.path.join(ROOT, "crates/ep_base/src/reserved.rt"), encoding="utf-8") as it:
+            found = set(re.findall(r'\bb"([A-Za-z\']+)"', it.read()))
+        self.assertEqual(found - {"ESSENCE'"}, set(RESERVED))
 
     def test_the_manual_page_is_read_without_a_warning(self):
         page = subprocess.run([os.path.join(ROOT, "tools/manual"), "1"], stdout=subprocess.PIPE, check=True).stdout.decode()
