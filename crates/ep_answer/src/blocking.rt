@@ -7,7 +7,7 @@ ghost use Rattle.ep_answer.specs.AnswerViews.{plain_problem};
 ghost use Rattle.ep_answer.specs.Searches.{AreNumbers, HasCells, IsBlocked, OtherNumbers, kept_values};
 ghost use Rattle.sat_search.specs.Logs.{IsSound};
 
-use crate::decoding::numbers_of;
+use crate::decoding::read_back;
 use crate::problem::Problem;
 use cnf_core::{Clause, Log};
 use enc_var::{Known, Layout};
@@ -48,7 +48,7 @@ pub fn block(alloc: Global, p: &mut Problem, log: &mut Log) -> Result<Vec<i64>, 
     ensures whole { IfOk result (λ cells. p.new.solver.broken ≡ false) }
 {
     let vars = p.map.cells.as_slice();
-    let cells = numbers_of(alloc, &p.layout, &p.solver, vars)?;
+    let cells = read_back(alloc, &p.layout, &p.solver, vars)?;
     let clause = other_numbers(alloc, &p.layout, vars, cells.as_slice())?;
     let Ok(()) = p.solver.add_given(clause, log) else {
         return Err(Memory);

@@ -74,8 +74,8 @@ pub fn number_of(layout: &Layout, solver: &Solver, var: u64) -> i64
     low
 }
 
-/// The numbers of variables.
-pub fn numbers_of(
+/// The numbers of variables, as those that stand for cells, in the solution that the solver keeps.
+pub fn read_back(
     alloc: Global,
     layout: &Layout,
     solver: &Solver,

@@ -10,7 +10,7 @@ ghost use Rattle.sat_search.specs.Logs.{IsSound};
 
 use crate::answers::{CellAnswer, CellListing, End};
 use crate::blocking::block;
-use crate::decoding::numbers_of;
+use crate::decoding::read_back;
 use crate::improving::improve;
 use crate::problem::Problem;
 use cnf_core::Log;
@@ -19,7 +19,7 @@ use sat_search::Outcome;
 use std::alloc::Global;
 
 /// One solution, of a problem without an objective. Adds no given.
-pub fn find_cells(
+pub fn find_one(
     alloc: Global,
     p: &mut Problem,
     budget: u64,
@@ -42,7 +42,7 @@ pub fn find_cells(
     };
     match outcome {
         Outcome::Sat => {
-            let cells = numbers_of(alloc, &p.layout, &p.solver, p.map.cells.as_slice())?;
+            let cells = read_back(alloc, &p.layout, &p.solver, p.map.cells.as_slice())?;
             Ok(CellAnswer::Solution(cells))
         }
         Outcome::Unsat => Ok(CellAnswer::NoSolution),
@@ -52,7 +52,7 @@ pub fn find_cells(
 
 /// The best solution, of a problem with an objective. After each solution one given is added, which
 /// says that the objective is better.
-pub fn optimise_cells(
+pub fn optimise(
     alloc: Global,
     p: &mut Problem,
     budget: u64,
@@ -99,7 +99,7 @@ fn best_of_all(best: Option<(i64, Vec<i64>)>) -> CellAnswer
 
 /// Up to `most` solutions. After each one a given is added, over literals of the cells alone, which
 /// blocks it.
-pub fn enumerate_cells(
+pub fn enumerate(
     alloc: Global,
     p: &mut Problem,
     most: u64,

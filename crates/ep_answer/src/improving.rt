@@ -11,7 +11,7 @@ ghost use Rattle.ep_answer.specs.Searches.{ClauseSaysBetter, HasFound, IsImprove
 ghost use Rattle.cnf_core.specs.Events.{clauses_of, nonempty_steps};
 ghost use Rattle.sat_search.specs.Logs.{IsSound};
 
-use crate::decoding::{hull, number_of, numbers_of};
+use crate::decoding::{hull, number_of, read_back};
 use crate::problem::Problem;
 use cnf_core::{Clause, Log};
 use enc_var::{Known, Layout};
@@ -98,7 +98,7 @@ pub fn improve(
     ensures whole { IfOk result (λ best. p.new.solver.broken ≡ false) }
 {
     let number = number_of(&p.layout, &p.solver, var);
-    let cells = numbers_of(alloc, &p.layout, &p.solver, p.map.cells.as_slice())?;
+    let cells = read_back(alloc, &p.layout, &p.solver, p.map.cells.as_slice())?;
     let clause = better_clause(alloc, &p.layout, sense, var, number)?;
     let Ok(()) = p.solver.add_given(clause, log) else {
         return Err(Memory);

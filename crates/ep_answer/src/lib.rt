@@ -10,6 +10,7 @@ mod laws;
 mod problem;
 
 pub use answers::{CellAnswer, CellListing, End};
-pub use finding::{enumerate_cells, find_cells, optimise_cells};
+pub use decoding::read_back;
+pub use finding::{enumerate, find_one, optimise};
 pub use laws::what_is_posed_is_allowed;
 pub use problem::Problem;

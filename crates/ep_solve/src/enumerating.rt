@@ -17,7 +17,7 @@ use crate::formulas::formula_for;
 use crate::posing::posed;
 use crate::reading_back::assignment_from;
 use cnf_core::Log;
-use ep_answer::{CellListing, End, enumerate_cells};
+use ep_answer::{CellListing, End};
 use ep_base::Memory;
 use ep_instance_parts::{Find, Instance};
 use ep_print::{Listing, ListingEnd};
@@ -43,7 +43,7 @@ pub fn enumerate(
 {
     let encoded = formula_for(alloc, instance)?;
     let mut problem = posed(alloc, encoded, log)?;
-    let found = enumerate_cells(alloc, &mut problem, most, budget, log)?;
+    let found = ep_answer::enumerate(alloc, &mut problem, most, budget, log)?;
     listing_from(alloc, instance.finds(), budget, found)
 }
 

@@ -20,7 +20,7 @@ use crate::formulas::formula_for;
 use crate::posing::posed;
 use crate::reading_back::assignment_from;
 use cnf_core::Log;
-use ep_answer::{CellAnswer, Problem, find_cells, optimise_cells};
+use ep_answer::{CellAnswer, Problem, find_one, optimise};
 use ep_base::Memory;
 use ep_instance_parts::{Find, Instance};
 use ep_print::Answer;
@@ -72,8 +72,8 @@ fn search(
     ensures notes { log.new.notes ≡ log.old.notes }
 {
     match problem.map.objective {
-        None => find_cells(alloc, problem, budget, log),
-        Some(_) => optimise_cells(alloc, problem, budget, log),
+        None => find_one(alloc, problem, budget, log),
+        Some(_) => optimise(alloc, problem, budget, log),
     }
 }
 

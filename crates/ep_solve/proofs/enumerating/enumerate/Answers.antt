@@ -26,8 +26,8 @@ posed-requires-clause-maps c =
     subst (λ (cs : List Cell). StandForCells (map (λ one. one.values) cs) (map (λ e. e.domain) encoded.layout) (plain_map encoded.map).cells)
     (sym c.in_ok-encoded.ensures.cells) c.in_ok-encoded.ensures.stands.maps.cells
 
-pub enumerate_cells-requires : goal.enumerate_cells-requires
-enumerate_cells-requires c =
+pub enumerate-requires : goal.enumerate-requires
+enumerate-requires c =
     let mode : Mode = instance_mode c.args.instance.now in
     let i : Instance = plain_instance c.args.instance.now in
     posed-can-search mode i (plain_problem c.in_ok-problem.problem) c.posed.new.log (c.in_ok-problem.ensures.poses mode i c.in_ok-encoded.ensures.stands c.in_ok-encoded.ensures.cells)
@@ -41,14 +41,14 @@ returns-clause-lists c =
       closed = c.requires.closed;
       p = plain_problem c.in_ok-problem.problem;
       old = c.posed.new.log;
-      new = c.enumerate_cells.new.log;
+      new = c.enumerate.new.log;
       poses = c.in_ok-problem.ensures.poses mode i c.in_ok-encoded.ensures.stands c.in_ok-encoded.ensures.cells;
       front = c.in_ok-found.ensures.front;
       base = c.in_ok-found.ensures.base;
     } in
     where-ok c.listing_from.result
     (λ listing. listing_tree listing ≡ listing_from (map find_of c.finds.result.now) c.args.budget found (plain_end c.in_ok-found.found.end))
-    (λ listing. Lists mode i c.args.budget c.args.most c.enumerate_cells.new.log (listing_tree listing)) c.listing_from.ensures (λ listing same.
+    (λ listing. Lists mode i c.args.budget c.args.most c.enumerate.new.log (listing_tree listing)) c.listing_from.ensures (λ listing same.
     lists-right mode i c.args.budget c.args.most found (plain_end c.in_ok-found.found.end) (listing_tree listing) searched c.in_ok-found.ensures.notes c.in_ok-found.ensures.lists
     (same ∙ ap (λ fs. listing_from fs c.args.budget found (plain_end c.in_ok-found.found.end)) c.finds.ensures))
 

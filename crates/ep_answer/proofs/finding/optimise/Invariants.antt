@@ -4,7 +4,7 @@ use Rattle.cnf_core.specs.Events.{clauses_of}
 use Rattle.enc_var.specs.Layouts.{literals_at}
 use Rattle.ep_answer.specs.AnswerViews.{plain_problem}
 use Rattle.ep_answer.specs.Searches.{IsPursued, numbers_left}
-use Rattle.ep_answer.proofs.finding.optimise_cells.Given as goal
+use Rattle.ep_answer.proofs.finding.optimise.Given as goal
 
 abbrev pub invariant-solutions : goal.invariant-solutions
 invariant-solutions l = record {

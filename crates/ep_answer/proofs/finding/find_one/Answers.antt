@@ -7,7 +7,7 @@ use Rattle.ep_answer.specs.AnswerViews.{plain_problem}
 use Rattle.ep_answer.specs.Problems.{AllMean}
 use Rattle.ep_answer.specs.Searches.{kept_values}
 use Rattle.ep_answer.proofs.Searching.{answers_end, answers_found, answers_spent, kept_satisfies, means_now, pursued_first, pursued_on, within_any}
-use Rattle.ep_answer.proofs.finding.find_cells.Goals as goal
+use Rattle.ep_answer.proofs.finding.find_one.Goals as goal
 
 pub solve-requires-clause-sound : goal.solve-requires-clause-sound
 solve-requires-clause-sound c = sound_givens c.args.log.now.events c.requires.can_search.are_givens
@@ -15,8 +15,8 @@ solve-requires-clause-sound c = sound_givens c.args.log.now.events c.requires.ca
 pub solve-requires-clause-budget : goal.solve-requires-clause-budget
 solve-requires-clause-budget c = within_any c.args.budget c.args.log.now.events c.requires.can_search.are_givens
 
-pub numbers_of-requires-clause-meaning : goal.numbers_of-requires-clause-meaning
-numbers_of-requires-clause-meaning c =
+pub read_back-requires-clause-meaning : goal.read_back-requires-clause-meaning
+read_back-requires-clause-meaning c =
     let p = plain_problem c.args.p.now in
     let old = c.args.log.now in
     let now = c.solve.new.log in

@@ -6,7 +6,7 @@ use Rattle.ep_answer.specs.AnswerViews.{plain_problem}
 use Rattle.ep_answer.specs.Searches.{HasFound, IsImproved, kept_values}
 use Rattle.ep_answer.specs.Problems.{ProblemState}
 use Rattle.ep_answer.proofs.Searching.{answers_end, answers_spent, falls, has_found, improved_same, improves_end, improves_spent, kept_satisfies, objective_there, pursued_first, pursued_more, pursued_on, stays_whole}
-use Rattle.ep_answer.proofs.finding.optimise_cells.Goals as goal
+use Rattle.ep_answer.proofs.finding.optimise.Goals as goal
 
 pub solutions-init : goal.solutions-init
 solutions-init c = record {

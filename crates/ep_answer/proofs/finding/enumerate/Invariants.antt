@@ -3,7 +3,7 @@ use Rattle.std.specs.Prelude.{map}
 use Rattle.cnf_core.specs.Events.{clauses_of}
 use Rattle.ep_answer.specs.AnswerViews.{plain_problem}
 use Rattle.ep_answer.specs.Searches.{ListsNumbers}
-use Rattle.ep_answer.proofs.finding.enumerate_cells.Given as goal
+use Rattle.ep_answer.proofs.finding.enumerate.Given as goal
 
 abbrev pub invariant-solutions : goal.invariant-solutions
 invariant-solutions l = record {

@@ -3,7 +3,7 @@ use Rattle.std.proofs.lemmas.Int.{to_z-of_z}
 use Rattle.enc_var.specs.Layouts.{decoded_values}
 use Rattle.ep_answer.specs.Searches.{kept_values}
 use Rattle.ep_answer.proofs.Deciding.{numbers_more, numbers_none}
-use Rattle.ep_answer.proofs.decoding.numbers_of.Goals as goal
+use Rattle.ep_answer.proofs.decoding.read_back.Goals as goal
 
 pub loop-var-init : goal.loop-var-init
 loop-var-init c = c.new-found.ensures.items ∙ numbers_none (decoded_values c.args.layout.now (kept_values c.args.solver.now))

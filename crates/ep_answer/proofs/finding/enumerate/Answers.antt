@@ -7,7 +7,7 @@ use Rattle.ep_answer.specs.Problems.{ProblemState}
 use Rattle.ep_answer.specs.Searches.{HasCells, IsBlocked, ListsNumbers, kept_values}
 use Rattle.ep_answer.proofs.Searching.{kept_satisfies, stays_whole}
 use Rattle.ep_answer.proofs.Listing.{blocked_same, has_cells, listed_first, listed_more, listed_on, lists, right_complete, right_spent, right_stopped}
-use Rattle.ep_answer.proofs.finding.enumerate_cells.Goals as goal
+use Rattle.ep_answer.proofs.finding.enumerate.Goals as goal
 
 pub solutions-init : goal.solutions-init
 solutions-init c = record {
