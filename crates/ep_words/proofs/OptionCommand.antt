@@ -1,5 +1,5 @@
 -- The command as the code builds it, and what `clap` tells of it.
-use Rattle.std.proofs.Common.{◌≡◌, ◌≢◌, ℕ, ◌+◌, ◌<◌, true, List, [], ◌∷◌, ◌++◌, map, take, length, get_or, Result, Ok, Err, MatchResult, IsErrAnd, inl, inr, refl, sym, ap, ◌∙◌, subst}
+use Rattle.std.proofs.Common.{◌≡◌, ◌≢◌, ◌↔◌, ℕ, ◌+◌, ◌<◌, true, List, [], ◌∷◌, ◌++◌, map, take, length, get_or, Result, Ok, Err, MatchResult, IsErrAnd, inl, inr, refl, sym, ap, ◌∙◌, subst}
 use Rattle.std.specs.Borrow.{Bor}
 use Rattle.std.proofs.lemmas.List.{map-append, take_more}
 use Rattle.clap.specs.Kinds.{HasKind, IsAmong}
@@ -42,11 +42,11 @@ pub taken : (app : App) (words : List Text) (matches : ArgMatches) → app ≡ c
 taken app words matches is = subst (Told words matches) (sym is) (λ passes has. (passes simple_and_free, (has simple).0))
 
 pub refused : {X : Type 0} (result : Result X WordsError) (A : X → Type 0) (app : App) (words : List Text) (e : Error) → app ≡ command_with options
-    → (is_simple_and_free app ≡ true → HasKind (fault_of app words) e) → IsErrAnd result (λ error. error ≡ Usage → kind_of e ≢ kind.OutOfMemory)
+    → (is_simple_and_free app ≡ true → HasKind (fault_of app words) e) → IsErrAnd result (λ error. (error ≡ Usage) ↔ (kind_of e ≢ kind.OutOfMemory))
     → MatchResult result A (λ error. error ≡ Usage → fault_of (command_with options) words ≢ [])
 refused (Ok x) A app words e is told from = absurd from
 refused (Err error) A app words e is told from = λ usage none.
     elim (subst (λ (a : App). is_simple_and_free a ≡ true → HasKind (fault_of a words) e) is told simple_and_free) [
-      | inl memory ↦ from usage memory
+      | inl memory ↦ from.0 usage memory
       | inr among ↦ subst (IsAmong (kind_of e)) none among
     ]

@@ -1,6 +1,6 @@
 //! Why words were not read as a job.
 
-ghost use Rattle.std.specs.Prelude.{◌≡◌, ◌≢◌};
+ghost use Rattle.std.specs.Prelude.{◌≡◌, ◌≢◌, ◌↔◌};
 ghost use Rattle.clap.specs.Values.{kind_of};
 ghost use Rattle.clap.specs.declared.error.kind.ErrorKind.TheVariants as kind;
 ghost use Rattle.ep_words.specs.declared.errors.WordsError.TheVariants.{Usage, Memory as OutOfMemory};
@@ -56,7 +56,7 @@ impl<T: Drop> From<AllocFailed<T>> for WordsError {
 }
 
 impl From<clap::Error> for WordsError {
-    ghost from_gives = { λ error e. e ≡ Usage → kind_of error ≢ kind.OutOfMemory };
+    ghost from_gives = { λ error e. (e ≡ Usage) ↔ (kind_of error ≢ kind.OutOfMemory) };
 
     fn from(error: clap::Error) -> WordsError {
         match error.kind() {
