@@ -16,7 +16,7 @@ use Rattle.ep_tree.specs.Views.{value_tree, values_from}
 use Rattle.ep_tree.specs.declared.values.Scalar.{Scalar}
 use Rattle.ep_tree.specs.declared.values.Value.{Matrix, Number, Value}
 use Rattle.ep_numbers.proofs.Counting.{length-counting}
-use Rattle.ep_gen.specs.Hints.{hint_of, next_number, nth_number, row_of, rows_of, square_value}
+use Rattle.ep_gen.specs.Hints.{hint_of, next_number, nth_number, row_of, square_rows, square_value}
 
 -- ---- lists
 
@@ -117,6 +117,6 @@ square_typed n rows e = (
 )
 
 -- the rows of a number are so many
-pub rows_count : (number n : ℕ) → length (rows_of number n) ≡ n
-unfolding rows_of
+pub rows_count : (number n : ℕ) → length (square_rows number n) ≡ n
+unfolding square_rows
 rows_count number n = length-map-range_with_len (λ i. row_of number n ((i - 1) * n) i) 1 n

@@ -8,12 +8,12 @@ use Rattle.ep_print.specs.Joining.{with_between}
 use Rattle.ep_print.specs.Values.{indices_text, run_text, runs_of, scalar_text, scalar_value_text, stretch_from, value_text}
 use Rattle.ep_tree.specs.Types.{scalar_of}
 use Rattle.ep_tree.specs.Values.{as_parts, list_value}
-use Rattle.ep_gen.specs.Hints.{hint_of, next_number, nth_number, order_of, row_of, rows_of, square_value}
+use Rattle.ep_gen.specs.Hints.{hint_of, next_number, nth_number, order_of, row_of, square_rows, square_value}
 use Rattle.ep_gen.specs.Texts.{generated_params, params_of}
 
 -- a vector that says `unfolding the_inputs` computes with all of these
 unfoldable the_inputs : ℕ
-unfolding digits counting answer_text letting_text with_between indices_text run_text runs_of scalar_text scalar_value_text stretch_from value_text scalar_of as_parts list_value hint_of next_number nth_number order_of row_of rows_of square_value
+unfolding digits counting answer_text letting_text with_between indices_text run_text runs_of scalar_text scalar_value_text stretch_from value_text scalar_of as_parts list_value hint_of next_number nth_number order_of row_of square_rows square_value
 the_inputs = 0
 
 -- the first numbers behind 0

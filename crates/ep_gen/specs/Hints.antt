@@ -30,12 +30,12 @@ unfoldable pub row_of : ℕ → ℕ → ℕ → ℕ → List ℤ
 row_of number n before i = map (λ j. hint_of n i j (nth_number number (before + j))) (range_with_len 1 n)
 
 -- the hints of a square of order n, row by row, of which each takes n numbers of the stream
-unfoldable pub rows_of : ℕ → ℕ → List (List ℤ)
-rows_of number n = map (λ i. row_of number n ((i - 1) * n) i) (range_with_len 1 n)
+unfoldable pub square_rows : ℕ → ℕ → List (List ℤ)
+square_rows number n = map (λ i. row_of number n ((i - 1) * n) i) (range_with_len 1 n)
 
 -- the hints of a number
 abbrev pub hints_of : ℕ → List (List ℤ)
-hints_of number = rows_of number (order_of number)
+hints_of number = square_rows number (order_of number)
 
 -- the rows of a square of order n as a matrix, with indices from 1 to n
 unfoldable pub square_value : ℕ → List (List ℤ) → ValueTree

@@ -4,7 +4,7 @@ ghost use Rattle.std.specs.Prelude.{◌≡◌, ◌≤◌, ◌<◌, ◌+◌, ℕ,
 ghost use Rattle.ep_base.specs.Runs.{counting};
 ghost use Rattle.ep_tree.specs.Values.{list_value};
 ghost use Rattle.ep_tree.specs.Views.{value_tree};
-ghost use Rattle.ep_gen.specs.Hints.{nth_number, row_of, rows_of, square_value};
+ghost use Rattle.ep_gen.specs.Hints.{nth_number, row_of, square_rows, square_value};
 
 use crate::stream::{hint, next_number};
 use ep_base::Memory;
@@ -48,7 +48,7 @@ pub(crate) fn square(alloc: Global, order: u64, number: u64) -> Result<Value, Me
     requires some { 0 < order }
     requires order { order ≤ 20 }
     requires small { number < 2147483648 }
-    ensures { IfOk result (λ value. value_tree value ≡ square_value order (rows_of number order)) }
+    ensures { IfOk result (λ value. value_tree value ≡ square_value order (square_rows number order)) }
 {
     let mut last = number;
     let mut rows = Vec::with_capacity(alloc, order as usize)?;

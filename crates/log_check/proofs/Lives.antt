@@ -9,7 +9,7 @@ use Rattle.std.specs.Borrow.{Bor}
 use Rattle.std.specs.HashMap.{get}
 use Rattle.std.proofs.lemmas.List.{take_more, take_all, length-take}
 use Rattle.log_check.specs.Kept.{Clauses, KeepsLive}
-use Rattle.log_check.specs.Verdict.{Live, numbered_from, is_one_of, live_clause}
+use Rattle.log_check.specs.Verdict.{Live, numbered_from, is_number_among, live_clause}
 use Rattle.log_check.proofs.Trues.{bool_cases}
 
 pub list_any_map : {X Y : Type 0} (p : Y → Bool) (f : X → Y) (xs : List X) → list_any p (map f xs) ≡ list_any (λ x. p (f x)) xs
@@ -50,12 +50,12 @@ live_clause_left p (l ∷ live) id =
     ∙ left_step p id l.id l.clause (live_clause live id) (live_clause (filter (λ l. not (p l.id)) live) id) (live_clause_left p live id)
 
 -- ids that are taken out one after the other
-pub keeps_deleted : (old new : Clauses) (ids : List ℕ) (k : ℕ) → length ids ≤ k → ((q : ℕ) → option_copied (get eqb new q) ≡ cond (is_one_of (take k ids) q) None (option_copied (get eqb old q)))
-    → (live : List Live) → KeepsLive old live → KeepsLive new (filter (λ l. not (is_one_of ids l.id)) live)
+pub keeps_deleted : (old new : Clauses) (ids : List ℕ) (k : ℕ) → length ids ≤ k → ((q : ℕ) → option_copied (get eqb new q) ≡ cond (is_number_among (take k ids) q) None (option_copied (get eqb old q)))
+    → (live : List Live) → KeepsLive old live → KeepsLive new (filter (λ l. not (is_number_among ids l.id)) live)
 keeps_deleted old new ids k le h live kept id =
     let all : take k ids ≡ ids = take_all k ids le in
-    h id ∙ ap (λ (xs : List ℕ). cond (is_one_of xs id) None (option_copied (get eqb old id))) all
-    ∙ ap (λ (o : Option (List Literal)). cond (is_one_of ids id) None o) (kept id) ∙ sym (live_clause_left (is_one_of ids) live id)
+    h id ∙ ap (λ (xs : List ℕ). cond (is_number_among xs id) None (option_copied (get eqb old id))) all
+    ∙ ap (λ (o : Option (List Literal)). cond (is_number_among ids id) None o) (kept id) ∙ sym (live_clause_left (is_number_among ids) live id)
 
 copied_choice : (b : Bool) (clause : Bor (List Literal)) (o : Option (Bor (List Literal))) → option_copied (cond b (Some clause) o) ≡ cond b (Some clause.now) (option_copied o)
 copied_choice true clause o = refl

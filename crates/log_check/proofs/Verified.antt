@@ -9,7 +9,7 @@ use Rattle.cnf_core.specs.Reading.{is_shown_by}
 use Rattle.cnf_core.proofs.Members.{passes_some, none_in_nil}
 use Rattle.cnf_core.proofs.Following.{shown_follows}
 use Rattle.cnf_core.specs.Lines.{ProofLine, add, delete}
-use Rattle.log_check.specs.Verdict.{Live, numbered_from, is_one_of, live_after, live_behind, live_clause, hinted_clause, before_later, hinted_clauses, added_ids, is_valid_line, first_bad, is_empty_clause, adds_empty_clause, has_empty_clause, verdict_from, verdict_of}
+use Rattle.log_check.specs.Verdict.{Live, numbered_from, is_number_among, live_after, live_behind, live_clause, hinted_clause, before_later, hinted_clauses, added_ids, is_valid_line, first_bad, is_empty_clause, adds_empty_clause, has_empty_clause, verdict_from, verdict_of}
 use Rattle.log_check.specs.declared.Verdict.TheVariants.{Verified}
 use Rattle.log_check.proofs.Checked.{live_push}
 
@@ -98,7 +98,7 @@ added_hold s formula earlier (delete ids ∷ later) holds e =
     let both : (is_valid_line formula earlier (delete ids) ≡ true) × (first_bad formula (earlier ++ delete ids ∷ []) later ≡ None) =
     valid_first (is_valid_line formula earlier (delete ids)) (first_bad formula (earlier ++ delete ids ∷ []) later) (length earlier + 1) e in
     added_hold s formula (earlier ++ delete ids ∷ []) later
-    (subst (LiveHolds s) (sym (behind_push formula earlier (delete ids))) (left_holds s (λ l. not (is_one_of ids l.id)) (live_behind formula earlier) holds)) both.1
+    (subst (LiveHolds s) (sym (behind_push formula earlier (delete ids))) (left_holds s (λ l. not (is_number_among ids l.id)) (live_behind formula earlier) holds)) both.1
 
 empty_fails : (s : ℕ → Bool) (clause : List Literal) → is_empty_clause clause ≡ true → SatisfiesClause s clause → ⊥
 empty_fails s [] e satisfied = none_in_nil satisfied.literal satisfied.in_clause

@@ -19,13 +19,13 @@ numbered_from n (clause ∷ clauses) =
     record { id = n; clause = clause } ∷ numbered_from (n + 1) clauses
 
 -- whether the number is one of these
-abbrev pub is_one_of : List ℕ → ℕ → Bool
-is_one_of numbers n = list_any (nat_eq n) numbers
+abbrev pub is_number_among : List ℕ → ℕ → Bool
+is_number_among numbers n = list_any (nat_eq n) numbers
 
 -- A line that adds brings in its clause. A line that deletes takes out the ids that it names.
 abbrev pub live_after : List Live → ProofLine → List Live
 live_after live (add id clause hints) = record { id = id; clause = clause } ∷ live
-live_after live (delete ids) = filter (λ l. not (is_one_of ids l.id)) live
+live_after live (delete ids) = filter (λ l. not (is_number_among ids l.id)) live
 
 -- What is live behind these lines: at first the clauses of the formula, with the ids from 1 on.
 abbrev pub live_behind : List (List Literal) → List ProofLine → List Live

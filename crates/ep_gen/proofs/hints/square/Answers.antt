@@ -4,7 +4,7 @@ use Rattle.std.specs.Prelude.{map}
 use Rattle.ep_tree.specs.Values.{list_value}
 use Rattle.ep_tree.specs.Views.{value_tree}
 use Rattle.ep_gen.proofs.Squares.{one_more, rows_before, square_is}
-use Rattle.ep_gen.specs.Hints.{nth_number, row_of, rows_of}
+use Rattle.ep_gen.specs.Hints.{nth_number, row_of, square_rows}
 use Rattle.ep_gen.proofs.hints.square.Goals as goal
 use Rattle.ep_gen.proofs.hints.square.Goals.{else-loop-i-test, then-loop-i-test+in_ok-row+in_ok-push+else-i-order}
 
@@ -34,7 +34,7 @@ loop-i-preserved c =
     }
 
 pub returns : goal.returns
-unfolding rows_of
+unfolding square_rows
 returns c =
     let i : ℕ = c.loop-i.i in
     let n : ℕ = c.args.order in
