@@ -1,0 +1,3 @@
+pub mod CellNames
+pub mod NearCells
+pub mod Noted
