@@ -7,7 +7,7 @@ use Rattle.ep_base.specs.TokenTexts.{is_number}
 use Rattle.ep_words.specs.Jobs.{check_job, check_options, conflicts_of as set_conflicts, enumerate_job, enumerate_options, generate_job, generate_options, job_of, mode_of, number_or, number_within, sets_only, solution_count, solve_job, solve_options, verify_job, verify_options, workers_of}
 use Rattle.ep_words.specs.Settings.{Setting, Text, value_of}
 use Rattle.ep_tree.specs.declared.values.Mode.{Mode}
-use Rattle.ep_driver.specs.Commands.{Want, conflicts_of, wanted_of}
+use Rattle.ep_driver.specs.Commands.{Want, conflicts_wanted, wanted_of}
 use Rattle.ep_driver.specs.Searches.{HasTexts, IsSearchFor}
 use Rattle.ep_words.specs.declared.job.Job.{Job}
 use Rattle.ep_driver.specs.declared.wanted.Outputs.{Outputs}
@@ -142,13 +142,13 @@ job-budget s job e =
 
 -- a search that is wanted may take a conflict, and a number that is wanted has texts
 abbrev IsAllowed : Wanted → Type 0
-IsAllowed (Wanted.Search _ _ _ request _) = 1 ≤ conflicts_of request
+IsAllowed (Wanted.Search _ _ _ request _) = 1 ≤ conflicts_wanted request
 IsAllowed (Wanted.Verify _ _ _ _) = Unit {0}
 IsAllowed (Wanted.Check _ _) = Unit {0}
 IsAllowed (Wanted.Generate number conflicts eprime param) = (1 ≤ conflicts) × (number ≤ 1000000000)
 
 wanted-allowed : (job : Job) → HasBudget job → (wanted : Wanted) → wanted_of job ≡ Some wanted → IsAllowed wanted
-unfolding wanted_of conflicts_of
+unfolding wanted_of conflicts_wanted
 wanted-allowed (Job.Solve m p n o c l u) has wanted e =
     let outputs : Outputs = record { formula = c; log = l; solution = o } in
     let same : Wanted.Search m p u (Request.One n) outputs ≡ wanted = cc in

@@ -11,7 +11,7 @@ use Rattle.ep_tree.specs.StatementSpelling.{SpellsParams}
 use Rattle.ep_tree.specs.Statements.{TextTree}
 use Rattle.ep_tree.specs.Texts.{Answers, HasHeightFault, HasSyntaxFault, HasTokenFault, IsReadAs as IsTreeOf, MOST_BYTES, TextAnswer, bad_byte, long_number, read_as, syntax_fault, too_high, too_long}
 use Rattle.ep_base.specs.Tokens.{BadByte, LongNumber}
-use Rattle.ep_driver.specs.Readings.{HasParams, IsClausesRefusal, IsFormulaReadAs, IsHeldReadBy, IsProofReadAs, IsReadBy, IsTextReadAs, ReadsTexts, SpellsClauses, spells_in, tree_or_refusal}
+use Rattle.ep_driver.specs.Readings.{HasParams, IsClausesRefusal, IsFormulaReadAs, IsHeldReadBy, IsProofReadAs, IsReadBy, IsTextReadAs, ReadsTexts, SpellsFormulaClauses, spells_in, tree_or_refusal}
 use Rattle.ep_driver.specs.Status.{status_of}
 use Rattle.ep_driver.specs.Steps.{TellsRead, TellsText, formula_clauses, proof_lines}
 use Rattle.ep_driver.specs.Stops.{cnf_stop, log_stop, text_stop}
@@ -68,7 +68,7 @@ cut-refusal file bad text Spells Faulty r h =
 pub cut-formula : IsCutAlike most_text_bytes IsFormulaReadAs
 cut-formula text (Ok clauses) h =
     let P : List ℕ → Type 0 = λ t. IsFormulaReadAs t (Ok clauses) in subst P (whole most_text_bytes text h.0) h
-cut-formula text (Err r) h = cut-refusal TextFile.Cnf Refusal.BadCnf text (λ t. (clauses : List (List Literal)) × SpellsClauses t clauses) IsFaultLine r h
+cut-formula text (Err r) h = cut-refusal TextFile.Cnf Refusal.BadCnf text (λ t. (clauses : List (List Literal)) × SpellsFormulaClauses t clauses) IsFaultLine r h
 
 pub cut-proof : IsCutAlike most_text_bytes IsProofReadAs
 cut-proof text (Ok lines) h =

@@ -1,11 +1,16 @@
 -- What stands in the files that words name for output.
-use Rattle.std.proofs.Common.{◌≡◌, ◌≢◌, ◌⊎◌, ℕ, List, [], ◌∷◌, ◌++◌, Option, Some, None, Bool, true, false, All, bytes_eq, option_map, if◌then◌else◌, IfSome, inl, inr, refl, sym, ap, subst, ◌∙◌}
+use Rattle.std.proofs.Common.{◌≡◌, ◌≢◌, ◌⊎◌, ℕ, List, [], ◌∷◌, ◌++◌, Option, Some, None, Ok, Bool, true, false, All, bytes_eq, option_map, if◌then◌else◌, IfSome, inl, inr, refl, sym, ap, subst, ◌∙◌}
 use Rattle.std.proofs.lemmas.List.Elements.{All-append, All-cons, All-nil}
 use Rattle.std.proofs.lemmas.Slice.Eq.{bytes_eq-Decides}
 use Rattle.cnf_core.specs.Events.{LogState}
 use Rattle.ep_base.specs.Outside.{Held, with_bytes}
+use Rattle.ep_driver.specs.Answers.{Settles}
 use Rattle.ep_driver.specs.Commands.{Want}
-use Rattle.ep_driver.specs.Outputs.{AreWritten, Content, HasOutput, HoldsText, IsFormulaText, IsStepsText, IsTextOf, Output, a_formula, an_answer, in_order, named, steps, written_for}
+use Rattle.ep_driver.specs.Outcomes.{Task}
+use Rattle.ep_driver.specs.Outputs.{AreWritten, Content, HasOutput, HoldsText, IsFormulaText, IsStepsText, IsTextOf, Output, a_formula, an_answer, for_texts, outputs_in_order, named, steps, written_for}
+use Rattle.ep_driver.specs.Shown.{comes_to_generate}
+use Rattle.ep_driver.specs.Steps.{AnswersNumber}
+use Rattle.ep_driver.specs.declared.status.Status.{Status}
 use Rattle.ep_driver.specs.declared.wanted.Outputs.{Outputs}
 use Rattle.ep_driver.specs.declared.wanted.Request.{Request}
 use Rattle.ep_driver.specs.declared.wanted.Wanted.{Wanted}
@@ -39,8 +44,8 @@ others-named content None name other = All-nil (λ (x : Output). Other name x.na
 others-named content (Some found) name other =
     All-cons (λ (x : Output). Other name x.name) (record { content = content; name = found }) [] (λ same. other (ap Some same)) (All-nil (λ (x : Output). Other name x.name))
 
-formula-holds : (log : LogState) (answer : List ℕ) (o : Outputs) (name : List ℕ) (before after : Option Held) → o.formula ≡ Some name → o.log ≢ Some name → o.solution ≢ Some name → AreWritten log answer (in_order o) before after → HoldsText after name (IsFormulaText log)
-unfolding in_order named
+formula-holds : (log : LogState) (answer : List ℕ) (o : Outputs) (name : List ℕ) (before after : Option Held) → o.formula ≡ Some name → o.log ≢ Some name → o.solution ≢ Some name → AreWritten log answer (outputs_in_order o) before after → HoldsText after name (IsFormulaText log)
+unfolding outputs_in_order named
 formula-holds log answer o name before after is log-other solution-other h =
     let rest : List Output = named steps o.log ++ named an_answer o.solution in
     let W : Option (List ℕ) → Type 0 = λ f. AreWritten log answer (named a_formula f ++ rest) before after in
@@ -48,8 +53,8 @@ formula-holds log answer o name before after is log-other solution-other h =
     let mine : W (Some name) = subst W is h in
     first-holds log answer (record { content = a_formula; name = name }) rest before after all mine
 
-log-holds : (log : LogState) (answer : List ℕ) (o : Outputs) (name : List ℕ) (before after : Option Held) → o.log ≡ Some name → o.solution ≢ Some name → AreWritten log answer (in_order o) before after → HoldsText after name (IsStepsText log)
-unfolding in_order named
+log-holds : (log : LogState) (answer : List ℕ) (o : Outputs) (name : List ℕ) (before after : Option Held) → o.log ≡ Some name → o.solution ≢ Some name → AreWritten log answer (outputs_in_order o) before after → HoldsText after name (IsStepsText log)
+unfolding outputs_in_order named
 log-holds log answer o name before after is solution-other h =
     let rest : List Output = named an_answer o.solution in
     let behind = behind-front log answer (named a_formula o.formula) (named steps o.log ++ rest) before after h in
@@ -70,3 +75,11 @@ pub log-stands : (words : List (List ℕ)) (text : List ℕ) (log : LogState) (b
 unfolding written_for
 log-stands words text log before after one h model params mode request outputs want name is solution-other =
     log-holds log text outputs name before after is solution-other (written-of words (Wanted.Search model params mode request outputs) text log before after one want h)
+
+-- the texts of a number are answered, and written where files are named for them
+pub generated-stands : (words : List (List ℕ)) (before after : Option Held) (status : Status) (text : List ℕ) (log : LogState) (Took : List ℕ → Type 0) (number conflicts : ℕ) (eprime param : Option (List ℕ)) → WantOne words
+    → Want words (Wanted.Generate number conflicts eprime param) → AnswersNumber number conflicts status text log → HasOutput words text log before after → Took text
+    → (task : Task) × (t : List ℕ) × comes_to_generate number conflicts (Ok task) × Settles task status t log × Took t × AreWritten log t (for_texts number eprime param) before after
+unfolding written_for
+generated-stands words before after status text log Took number conflicts eprime param once want answers put took =
+    (answers.0, text, answers.1, answers.2, took, written-of words (Wanted.Generate number conflicts eprime param) text log before after once want put)

@@ -164,16 +164,14 @@ plain-noted most (x ∷ xs) all =
 
 -- what is written of a log's formula is its text
 pub text-told : (log : LogState) (f : Cnf) (notes : List Note) (number : ℕ) (result : Result (Vec ℕ) Memory) → f.clauses ≡ givens log.events → NamesItsVariables f → NotesUpTo f.vars notes
-    → ((most : ℕ) → All (VariablesUpTo most) f.clauses → NotesUpTo most notes → f.vars ≤ most) → notes ≡ log.notes → number ≡ length (added_clauses log) → number < 10 ^ 18
+    → ((most : ℕ) → All (VariablesUpTo most) f.clauses → NotesUpTo most notes → f.vars ≤ most) → notes ≡ log.notes → All IsReadableNote log.notes → number ≡ length (added_clauses log) → number < 10 ^ 18
     → IfOk result (λ text. text.items ≡ cnf_text f notes number)
     → (All IsReadableNote notes → number < 10 ^ 18 → IfOk result (λ text. SaysAgain text.items f notes number))
     → (All IsReadableNote notes → number < 10 ^ 18 → IfOk result (λ text. SpellsCnf text.items f.vars f.clauses))
     → IfOk result (λ text. IsFormulaText log text.items)
-text-told log f notes number (Ok text) clauses names noted least same is few written again spells =
-    let S : List Note → ℕ → Type 0 = λ ns n. All IsReadableNote ns → SaysAgain text.items f ns n in
-    let C : List Note → Type 0 = λ ns. All IsReadableNote ns → SpellsCnf text.items f.vars f.clauses in
-    let said : S notes number = λ readable. again readable few in
-    let spelled : C notes = λ readable. spells readable few in
+text-told log f notes number (Ok text) clauses names noted least same readable is few written again spells =
+    let own : All IsReadableNote notes = subst (All IsReadableNote) (sym same) readable in
+    let said : SaysAgain text.items f notes number = again own few in
     record {
       formula = f;
       clauses = clauses;
@@ -181,7 +179,7 @@ text-told log f notes number (Ok text) clauses names noted least same is few wri
       noted = subst (NotesUpTo f.vars) same noted;
       least = λ most all up. least most (subst (All (VariablesUpTo most)) (sym clauses) all) (subst (NotesUpTo most) (sym same) up);
       is_text = written ∙ ap (λ (ns : List Note). cnf_text f ns number) same ∙ ap (λ (n : ℕ). cnf_text f log.notes n) is;
-      spells = subst C same spelled;
-      again = subst (λ (n : ℕ). S log.notes n) is (subst (λ (ns : List Note). S ns number) same said);
+      spells = spells own few;
+      again = subst (λ (n : ℕ). SaysAgain text.items f log.notes n) is (subst (λ (ns : List Note). SaysAgain text.items f ns number) same said);
     }
-text-told log f notes number (Err e) clauses names noted least same is few written again spells = tt
+text-told log f notes number (Err e) clauses names noted least same readable is few written again spells = tt

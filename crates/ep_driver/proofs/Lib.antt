@@ -20,3 +20,5 @@ mod Files
 mod Certified
 mod Budgets
 mod Running
+mod Noted
+mod Kept

@@ -15,7 +15,7 @@ use Rattle.ep_driver.specs.Answers.{Settles}
 use Rattle.ep_driver.specs.Commands.{IsJudgement, Want, wanted_of}
 use Rattle.ep_driver.specs.Outcomes.{Outcome, Task, search_outcome, to_check, verify_outcome}
 use Rattle.ep_driver.specs.Puts.{HoldOnWant}
-use Rattle.ep_driver.specs.Readings.{AreParams, IsFormulaReadAs, IsHeldReadBy, IsProofReadAs, IsReadAs, IsReadBy, IsTextReadAs, ReadsTexts, spells_in, tree_or_refusal}
+use Rattle.ep_driver.specs.Readings.{AreParams, IsFormulaReadAs, IsHeldReadBy, IsProofReadAs, IsFileReadAs, IsReadBy, IsTextReadAs, ReadsTexts, spells_in, tree_or_refusal}
 use Rattle.ep_driver.specs.Shown.{Ask, ComesTo, Refuse, Show, ThenShows, comes_to_check, comes_to_judge, comes_to_parameters, comes_to_search, comes_to_verify}
 use Rattle.ep_driver.specs.Status.{HasReply, status_of}
 use Rattle.ep_driver.specs.Steps.{IsLogOf, LogsTask}
@@ -80,13 +80,13 @@ pub record TextsAreOnce : Type 0 where
 
 comes-once : TextsAreOnce → (wanted : Wanted) (held : Held) (a b : Outcome Task) → ComesTo wanted held a → ComesTo wanted held b → a ≡ b
 comes-once texts (Wanted.Search model params mode request outputs) held a b g h =
-    then-once (IsReadAs held TextFile.Model model) (λ m. comes_to_search mode request params m held) (file-once (IsTextReadAs TextFile.Model) (tree-once TextFile.Model texts.model) model held)
+    then-once (IsFileReadAs held TextFile.Model model) (λ m. comes_to_search mode request params m held) (file-once (IsTextReadAs TextFile.Model) (tree-once TextFile.Model texts.model) model held)
     (λ m. then-once (AreParams held params) (λ p outcome. outcome ≡ search_outcome mode request m p) (params-once texts.params params held) (λ p x y e f. e ∙ sym f))
     a b g h
 comes-once texts (Wanted.Verify model params mode solution) held a b g h =
-    then-once (IsReadAs held TextFile.Model model) (λ m. comes_to_verify mode params solution m held) (file-once (IsTextReadAs TextFile.Model) (tree-once TextFile.Model texts.model) model held)
+    then-once (IsFileReadAs held TextFile.Model model) (λ m. comes_to_verify mode params solution m held) (file-once (IsTextReadAs TextFile.Model) (tree-once TextFile.Model texts.model) model held)
     (λ m. then-once (AreParams held params) (λ p. comes_to_judge mode solution m p held) (params-once texts.params params held)
-    (λ p. then-once (IsReadAs held TextFile.Solution solution) (λ s outcome. outcome ≡ verify_outcome mode m p s) (file-once (IsTextReadAs TextFile.Solution) (tree-once TextFile.Solution texts.solution) solution held)
+    (λ p. then-once (IsFileReadAs held TextFile.Solution solution) (λ s outcome. outcome ≡ verify_outcome mode m p s) (file-once (IsTextReadAs TextFile.Solution) (tree-once TextFile.Solution texts.solution) solution held)
     (λ s x y e f. e ∙ sym f)))
     a b g h
 comes-once texts (Wanted.Check formula proof) held a b g h =

@@ -8,7 +8,7 @@ use Rattle.ep_print.specs.declared.refusals.TextFile.{TextFile}
 use Rattle.sat_text.specs.CnfGrammar.{CanGoOn, IsFaultLine, IsFirstWrongWord, SpellsCnf, SpellsFormula}
 use Rattle.sat_text.specs.LogGrammar.{IsFirstWrongLine, IsLogLine, SpellsLog}
 use Rattle.sat_text.specs.Words.{PlacedWord, most_text_bytes, placed_words}
-use Rattle.ep_driver.specs.Readings.{IsClausesRefusal, IsFormulaReadAs, IsProofReadAs, SpellsClauses}
+use Rattle.ep_driver.specs.Readings.{IsClausesRefusal, IsFormulaReadAs, IsProofReadAs, SpellsFormulaClauses}
 
 -- a text spells one formula at most
 abbrev pub OneFormula : Type 0
@@ -107,9 +107,9 @@ refusals-once file bad text Spells Faulty once r s g h =
 
 pub formula-once : OneFormula → (text : List ℕ) (a b : Result (List (List Literal)) Refusal) → IsFormulaReadAs text a → IsFormulaReadAs text b → a ≡ b
 formula-once one text (Ok x) (Ok y) g h = ap Ok (one text g.1.0 h.1.0 x y g.1.1 h.1.1).1
-formula-once one text (Ok x) (Err r) g h = absurd (not-refused TextFile.Cnf Refusal.BadCnf text ((clauses : List (List Literal)) × SpellsClauses text clauses) (IsFaultLine text) r g.0 (x, g.1) h)
-formula-once one text (Err r) (Ok y) g h = absurd (not-refused TextFile.Cnf Refusal.BadCnf text ((clauses : List (List Literal)) × SpellsClauses text clauses) (IsFaultLine text) r h.0 (y, h.1) g)
-formula-once one text (Err r) (Err s) g h = ap Err (refusals-once TextFile.Cnf Refusal.BadCnf text ((clauses : List (List Literal)) × SpellsClauses text clauses) (IsFaultLine text) (fault-line-once text) r s g h)
+formula-once one text (Ok x) (Err r) g h = absurd (not-refused TextFile.Cnf Refusal.BadCnf text ((clauses : List (List Literal)) × SpellsFormulaClauses text clauses) (IsFaultLine text) r g.0 (x, g.1) h)
+formula-once one text (Err r) (Ok y) g h = absurd (not-refused TextFile.Cnf Refusal.BadCnf text ((clauses : List (List Literal)) × SpellsFormulaClauses text clauses) (IsFaultLine text) r h.0 (y, h.1) g)
+formula-once one text (Err r) (Err s) g h = ap Err (refusals-once TextFile.Cnf Refusal.BadCnf text ((clauses : List (List Literal)) × SpellsFormulaClauses text clauses) (IsFaultLine text) (fault-line-once text) r s g h)
 
 pub proof-once : OneProof → (text : List ℕ) (a b : Result (List ProofLine) Refusal) → IsProofReadAs text a → IsProofReadAs text b → a ≡ b
 proof-once one text (Ok x) (Ok y) g h = ap Ok (one text x y g.1 h.1)

@@ -1,5 +1,5 @@
 -- What a run promises, by the cases of what is said.
-use Rattle.std.proofs.Common.{◌≡◌, ◌≢◌, ℕ, ◌⊎◌, List, [], ◌∷◌, length, take, Option, Some, None, Bool, true, false, bytes_eq, if◌then◌else◌, IfSome, IsSomeAnd, inl, inr, refl, sym, ap, subst, ◌∙◌, arith}
+use Rattle.std.proofs.Common.{◌≡◌, ◌≢◌, ℕ, ◌⊎◌, List, [], ◌∷◌, length, take, Option, Some, None, Ok, Err, Result, IfOk, Bool, true, false, bytes_eq, if◌then◌else◌, IfSome, IsSomeAnd, inl, inr, refl, sym, ap, subst, ◌∙◌, arith}
 use Rattle.std.proofs.lemmas.List.{take_all}
 use Rattle.std.proofs.lemmas.Slice.Eq.{bytes_eq-Decides}
 use Rattle.cnf_core.specs.Events.{LogState}
@@ -8,14 +8,16 @@ use Rattle.ep_base.specs.Outside.{Held, SameElsewhere, TookPart, with_bytes, wit
 use Rattle.ep_print.specs.Refusals.{refusal_text}
 use Rattle.ep_print.specs.declared.refusals.Refusal.{Refusal}
 use Rattle.ep_driver.specs.Answers.{Settles}
-use Rattle.ep_driver.specs.Commands.{AreNoCommand, IsJudgement, Want, conflicts_of}
+use Rattle.ep_driver.specs.Commands.{AreNoCommand, IsJudgement, Want, conflicts_wanted}
 use Rattle.ep_driver.specs.Outcomes.{Task}
 use Rattle.ep_driver.specs.Outputs.{HasOutput, IsOutput, SameButOutput, written_for}
 use Rattle.ep_driver.specs.Puts.{HoldOnWant, IsDeviceLine, IsFailedRead, IsFailedWrite, IsShownText, MayBePut, TookFirst, read_line}
 use Rattle.ep_driver.specs.Searches.{IsSearchFor}
 use Rattle.ep_driver.specs.Shown.{Ask, Refuse, Refuses}
 use Rattle.ep_driver.specs.Status.{HasReply, status_of}
-use Rattle.ep_driver.specs.Steps.{IsEnd, IsOfText}
+use Rattle.ep_base.specs.declared.errors.Memory.{Memory}
+use Rattle.ep_driver.specs.Steps.{AnswersWords, IsEnd, IsOfText}
+use Rattle.ep_driver.specs.declared.replies.Reply.{Reply}
 use Rattle.ep_driver.specs.declared.status.Status.{Status}
 use Rattle.ep_driver.specs.declared.wanted.Wanted.{Wanted}
 use Rattle.ep_driver.proofs.Refusing.{contains-first}
@@ -65,6 +67,36 @@ ended-status (Wanted.Search _ _ _ _ _) s log h = elim h.1 [ inl e ↦ inl e | in
 ended-status (Wanted.Verify _ _ _ _) s log h = elim h.1 [ inl e ↦ inl e | inr e ↦ inr (inr e) ]
 ended-status (Wanted.Check _ _) s log h = elim h.1 [ inl e ↦ inl e | inr e ↦ inr (inr e) ]
 ended-status (Wanted.Generate _ _ _ _) s log h = elim h.1 [ inl e ↦ inl e | inr e ↦ inr (inl e.0) ]
+
+refusal-kind : (r : Refusal) → kind (status_of r) ≡ 0 → ⊥
+unfolding status_of
+refusal-kind Refusal.Usage e = cc
+refusal-kind (Refusal.BadByte _ _) e = cc
+refusal-kind (Refusal.Syntax _ _) e = cc
+refusal-kind (Refusal.UnknownName _ _ _) e = cc
+refusal-kind (Refusal.Redeclared _ _ _) e = cc
+refusal-kind (Refusal.IllTyped _ _) e = cc
+refusal-kind (Refusal.WrongCategory _ _) e = cc
+refusal-kind (Refusal.OpenDomain _ _) e = cc
+refusal-kind (Refusal.Missing _) e = cc
+refusal-kind (Refusal.Outside _) e = cc
+refusal-kind (Refusal.Undefined _ _) e = cc
+refusal-kind (Refusal.WhereFalse _) e = cc
+refusal-kind (Refusal.BadCnf _) e = cc
+refusal-kind (Refusal.BadLog _) e = cc
+refusal-kind (Refusal.TooLong _) e = cc
+refusal-kind (Refusal.LongNumber _ _) e = cc
+refusal-kind (Refusal.TooHigh _ _) e = cc
+refusal-kind (Refusal.Over _) e = cc
+refusal-kind (Refusal.CannotRead _) e = cc
+refusal-kind (Refusal.CannotWrite _) e = cc
+refusal-kind Refusal.Memory e = cc
+
+-- the status of a refusal is none of a reply
+pub refused-unanswered : (words : List (List ℕ)) (r : Refusal) (result : Result Reply Memory) (log : LogState) → IfOk result (λ reply. reply.status ≡ status_of r)
+    → IfOk result (λ reply. HasReply reply.status → AnswersWords words reply.status reply.text.items log)
+refused-unanswered words r (Ok reply) log is = λ has. absurd (refusal-kind r (ap kind (sym is) ∙ kind-ended reply.status has))
+refused-unanswered words r (Err e) log is = tt
 
 -- ---- the clauses
 
@@ -194,7 +226,7 @@ Spends words log =
     (wanted : Wanted) × (conflicts : ℕ) × Want words wanted × IsSearchFor wanted conflicts × IsSpent conflicts log.events
 
 wants-search : (words : List (List ℕ)) (wanted : Wanted) (status : Status) (log : LogState) → Want words wanted → IsEnd wanted status log → status ≡ Status.Unknown → Spends words log
-wants-search words (Wanted.Search model params mode request output) status log want ends e = elim ends.1 [ inl f ↦ let g = sym f ∙ e in absurd cc | inr f ↦ (Wanted.Search model params mode request output, conflicts_of request, want, refl, f.1) ]
+wants-search words (Wanted.Search model params mode request output) status log want ends e = elim ends.1 [ inl f ↦ let g = sym f ∙ e in absurd cc | inr f ↦ (Wanted.Search model params mode request output, conflicts_wanted request, want, refl, f.1) ]
 wants-search words (Wanted.Verify model params mode solution) status log want ends e = elim ends.1 [ inl f ↦ let g = sym f ∙ e in absurd cc | inr f ↦ let g = sym f ∙ e in absurd cc ]
 wants-search words (Wanted.Check formula proof) status log want ends e = elim ends.1 [ inl f ↦ let g = sym f ∙ e in absurd cc | inr f ↦ let g = sym f ∙ e in absurd cc ]
 wants-search words (Wanted.Generate number conflicts eprime param) status log want ends e = elim ends.1 [ inl f ↦ let g = sym f ∙ e in absurd cc | inr f ↦ (Wanted.Generate number conflicts eprime param, conflicts, want, refl, f.1) ]

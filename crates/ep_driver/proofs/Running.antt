@@ -28,7 +28,7 @@ use Rattle.ep_tree.specs.declared.statements.Params.{Params}
 use Rattle.ep_tree.specs.declared.values.Mode.{Mode}
 use Rattle.ep_solve.specs.Right.{empty_log}
 use Rattle.ep_driver.specs.Answers.{Settles, verdict_status, verdict_text, wrong_shape_text}
-use Rattle.ep_driver.specs.Outcomes.{Outcome, Task, and_then, as_outcome, bind_refusal, bind_refusals, bound_outcome, fault_refusals, instance_of, judge_outcome, search_outcome, task_of, to_check, to_judge, unless_refused, verify_outcome}
+use Rattle.ep_driver.specs.Outcomes.{Outcome, Task, and_then, as_outcome, bind_refusal, bind_refusals, bound_outcome, fault_refusals, instance_of, judge_outcome, search_outcome, searched_task, to_check, to_judge, unless_refused, verify_outcome}
 use Rattle.ep_driver.specs.Status.{status_of}
 use Rattle.ep_driver.specs.Steps.{EndsAs, EndsBy, IsAmong, IsEnd, IsJudged, IsJudgedEnd, IsNotThere, IsUnreadStop, LogsTask, Passes, SaysOfRun, Tells, TellsBytes, TellsParams, TellsReply, TellsRun, TellsShape, TellsTask, shape_outcome}
 use Rattle.ep_driver.specs.Stops.{bind_stop}
@@ -120,12 +120,12 @@ pub same-instance : (mode : Mode) (m p m' p' : TextTree) (i : Instance) → m' �
 same-instance mode m p m' p' i e f h = sym (ap (λ x. instance_of mode x p') e ∙ ap (instance_of mode m) f) ∙ h
 
 pub search-answered : (mode : Mode) (q : Request) (m p : TextTree) (i : Instance) (reply : Reply) (log : LogState) → AreFaultless m p → instance_of mode m p ≡ Ok i
-    → Settles (task_of mode q i) reply.status reply.text.items log → TellsReply (search_outcome mode q m p) log (Ok reply)
-search-answered mode q m p i reply log none e answers = (task_of mode q i, is-search mode q m p i none e, answers)
+    → Settles (searched_task mode q i) reply.status reply.text.items log → TellsReply (search_outcome mode q m p) log (Ok reply)
+search-answered mode q m p i reply log none e answers = (searched_task mode q i, is-search mode q m p i none e, answers)
 
 -- memory is wanting in a search, for a task that comes out
 pub search-wanting : (mode : Mode) (q : Request) (m p : TextTree) (i : Instance) (log : LogState) → AreFaultless m p → instance_of mode m p ≡ Ok i → TellsReply (search_outcome mode q m p) log (Err Stop.Memory)
-search-wanting mode q m p i log none e = inr (task_of mode q i, is-search mode q m p i none e)
+search-wanting mode q m p i log none e = inr (searched_task mode q i, is-search mode q m p i none e)
 
 -- ---- verifying
 

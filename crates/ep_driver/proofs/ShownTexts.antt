@@ -1,13 +1,13 @@
 -- From the texts of a number to what a run tells of them.
-use Rattle.std.proofs.Common.{◌≡◌, ℕ, List, [], ◌∷◌, Option, Some, None, Ok, Err, Result, inl, inr, refl, sym}
+use Rattle.std.proofs.Common.{◌≡◌, ℕ, List, [], ◌∷◌, Option, Some, None, Ok, Err, Result, IfOk, inl, inr, refl, sym}
 use Rattle.cnf_core.specs.Events.{LogState}
 use Rattle.ep_base.specs.Outside.{Held}
 use Rattle.ep_print.specs.declared.refusals.Refusal.{Refusal}
 use Rattle.ep_solve.specs.Right.{empty_log}
 use Rattle.ep_driver.specs.Outcomes.{Outcome, Task}
 use Rattle.ep_driver.specs.Readings.{ReadsTexts}
-use Rattle.ep_driver.specs.Shown.{ThenShows}
-use Rattle.ep_driver.specs.Steps.{TellsReply, TellsShown, TellsTask, TellsText}
+use Rattle.ep_driver.specs.Shown.{ThenShows, comes_to_generate}
+use Rattle.ep_driver.specs.Steps.{AnswersNumber, TellsReply, TellsShown, TellsTask, TellsText}
 use Rattle.ep_driver.specs.declared.replies.Reply.{Reply}
 use Rattle.ep_driver.specs.declared.stops.Stop.{Stop}
 use Rattle.ep_driver.proofs.Refusing.{contains-first}
@@ -39,3 +39,14 @@ pub reply-shown : (o : Outcome Task) (log : LogState) (result : Result Reply Sto
 reply-shown o log (Ok reply) h = (h.0, sym h.1, h.2)
 reply-shown o log (Err (Stop.Refused r)) h = (h.0, h.1.0, sym h.1.1, h.1.2)
 reply-shown o log (Err Stop.Memory) h = elim h [ inl nothing ↦ inl nothing | inr asked ↦ inr (asked.0, sym asked.1) ]
+
+-- a reply to what the texts of a number show answers it
+pub shown-answers : (number conflicts : ℕ) (log : LogState) (result : Result Reply Stop) → TellsShown (comes_to_generate number conflicts) log result
+    → IfOk result (λ reply. AnswersNumber number conflicts reply.status reply.text.items log)
+shown-answers number conflicts log (Ok reply) h = h
+shown-answers number conflicts log (Err stop) h = tt
+
+-- nothing is owed where no texts of a number are wanted
+pub no-texts : {X E : Type 0} (r : Result X E) → IfOk r (λ x. Unit {0})
+no-texts (Ok x) = tt
+no-texts (Err e) = tt

@@ -15,7 +15,7 @@ use Rattle.ep_solve.specs.Listed.{EndsRightly, Lists}
 use Rattle.ep_solve.specs.Logged.{IsLogged, ShowsAnswer}
 use Rattle.ep_solve.specs.Right.{IsRight, IsSpent}
 use Rattle.ep_driver.specs.Answers.{Settles, answer_status, judgement_status, listing_status}
-use Rattle.ep_driver.specs.Outcomes.{and_then, bind_refusals, bound_outcome, fault_refusals, instance_of, judge_outcome, search_outcome, task_of, to_generate, to_judge, to_list, to_solve, verify_outcome}
+use Rattle.ep_driver.specs.Outcomes.{and_then, bind_refusals, bound_outcome, fault_refusals, instance_of, judge_outcome, search_outcome, searched_task, to_generate, to_judge, to_list, to_solve, verify_outcome}
 use Rattle.ep_driver.specs.Steps.{IsAmong, IsSearched, shape_outcome}
 use Rattle.ep_driver.specs.Summaries.{summary_text}
 use Rattle.ep_driver.specs.declared.status.Status.{Status}
@@ -62,7 +62,7 @@ search-instance mode q m p r none h =
     (among-later (fault_refusals TextFile.Params (params_faults p)) r _ none.params
     (among-then (instance_of mode m p) r _ h))
 
-pub is-search : (mode : Mode) (q : Request) (m p : TextTree) (i : Instance) → AreFaultless m p → instance_of mode m p ≡ Ok i → search_outcome mode q m p ≡ Ok (task_of mode q i)
+pub is-search : (mode : Mode) (q : Request) (m p : TextTree) (i : Instance) → AreFaultless m p → instance_of mode m p ≡ Ok i → search_outcome mode q m p ≡ Ok (searched_task mode q i)
 unfolding search_outcome
 is-search mode q m p i none e =
     none-refused (fault_refusals TextFile.Model (text_faults m)) _ none.model

@@ -16,7 +16,7 @@ use Rattle.ep_words.specs.declared.job.Job.{Job}
 use Rattle.log_check.specs.declared.Verdict.TheVariants.{BadStep, NoEmptyClause, Verified}
 use Rattle.ep_driver.specs.Answers.{judgement_status, judgement_text, listing_status, verdict_status, verdict_text}
 use Rattle.ep_driver.specs.Commands.{no_outputs, wanted_of}
-use Rattle.ep_driver.specs.Outputs.{a_formula, an_answer, in_order, named as named_files, steps}
+use Rattle.ep_driver.specs.Outputs.{a_formula, an_answer, outputs_in_order, named as named_files, steps}
 use Rattle.ep_driver.specs.Outcomes.{fault_refusal, search_outcome, unless_refused, verify_outcome}
 use Rattle.ep_driver.specs.Status.{exit_code, status_of}
 use Rattle.ep_driver.specs.declared.wanted.Request.{Request}
@@ -47,8 +47,8 @@ unfolding wanted_of
 formulas-are-written = refl
 
 -- the formula is written first, and the answer last
-formula-first : in_order (record { formula = Some m; log = Some s; solution = Some m }) ≡ record { content = a_formula; name = m } ∷ record { content = steps; name = s } ∷ record { content = an_answer; name = m } ∷ []
-unfolding in_order named_files
+formula-first : outputs_in_order (record { formula = Some m; log = Some s; solution = Some m }) ≡ record { content = a_formula; name = m } ∷ record { content = steps; name = s } ∷ record { content = an_answer; name = m } ∷ []
+unfolding outputs_in_order named_files
 formula-first = refl
 
 verify-runs : wanted_of (Job.Verify m s (Some m) Mode.Strict) ≡ Some (Wanted.Verify m (Some m) Mode.Strict s)

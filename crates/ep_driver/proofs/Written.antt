@@ -6,7 +6,7 @@ use Rattle.cnf_core.specs.Events.{LogState}
 use Rattle.ep_base.specs.Outside.{Held, SameElsewhere, with_bytes}
 use Rattle.ep_gen.specs.Texts.{generated_model, generated_params}
 use Rattle.ep_driver.specs.Commands.{Want}
-use Rattle.ep_driver.specs.Outputs.{ArePartlyWritten, AreWritten, Content, FailsAt, IsOutput, IsTextOf, Output, SameBut, a_formula, a_text, an_answer, for_texts, in_order, named, steps, written_for}
+use Rattle.ep_driver.specs.Outputs.{ArePartlyWritten, AreWritten, Content, FailsAt, IsOutput, IsTextOf, Output, SameBut, a_formula, a_text, an_answer, for_texts, outputs_in_order, named, steps, written_for}
 use Rattle.ep_driver.specs.Steps.{TellsWrite, TellsWritten}
 use Rattle.ep_driver.specs.declared.stops.Stop.{Stop}
 use Rattle.ep_driver.specs.declared.wanted.Wanted.{Wanted}
@@ -182,7 +182,7 @@ named-all P content None all = All-nil (λ (x : Output). P x.name)
 named-all P content (Some name) all = All-cons (λ (x : Output). P x.name) (record { content = content; name = name }) [] (all name refl) (All-nil (λ (x : Output). P x.name))
 
 pub outputs-named : (words : List (List ℕ)) (wanted : Wanted) → Want words wanted → AllNamed (IsOutput words) (written_for wanted)
-unfolding for_texts in_order written_for
+unfolding for_texts outputs_in_order written_for
 outputs-named words (Wanted.Search model params mode request o) want =
     let wanted : Wanted = Wanted.Search model params mode request o in
     let P : Output → Type 0 = λ x. IsOutput words x.name in

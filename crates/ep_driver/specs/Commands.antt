@@ -42,10 +42,10 @@ IsJudgement (Wanted.Check formula proof) = Unit {0}
 IsJudgement (Wanted.Generate number conflicts eprime param) = ⊥
 
 -- how many conflicts a search may take
-unfoldable pub conflicts_of : Request → ℕ
-conflicts_of (Request.One conflicts) = conflicts
-conflicts_of (Request.Many most conflicts) = conflicts
-conflicts_of (Request.Generated number conflicts) = conflicts
+unfoldable pub conflicts_wanted : Request → ℕ
+conflicts_wanted (Request.One conflicts) = conflicts
+conflicts_wanted (Request.Many most conflicts) = conflicts
+conflicts_wanted (Request.Generated number conflicts) = conflicts
 
 -- no file is named for output
 abbrev pub no_outputs : Outputs

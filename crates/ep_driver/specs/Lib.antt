@@ -11,3 +11,4 @@ pub mod Budgets
 pub mod Puts
 pub mod Stops
 pub mod Steps
+pub mod Promised

@@ -83,17 +83,17 @@ pub data Task : Type 0 where
   to_generate : ℕ → Mode → Instance → ℕ → Task
 
 -- the task of a search in an instance
-unfoldable pub task_of : Mode → Request → Instance → Task
-task_of mode (Request.One conflicts) i = to_solve mode i conflicts
-task_of mode (Request.Many most conflicts) i = to_list mode i most conflicts
-task_of mode (Request.Generated number conflicts) i = to_generate number mode i conflicts
+unfoldable pub searched_task : Mode → Request → Instance → Task
+searched_task mode (Request.One conflicts) i = to_solve mode i conflicts
+searched_task mode (Request.Many most conflicts) i = to_list mode i most conflicts
+searched_task mode (Request.Generated number conflicts) i = to_generate number mode i conflicts
 
 -- What a search in a model under parameters comes to. The faults of the model come first, then those of the parameters.
 unfoldable pub search_outcome : Mode → Request → TextTree → TextTree → Outcome Task
 search_outcome mode request model params =
     unless_refused (fault_refusals TextFile.Model (text_faults model))
     (unless_refused (fault_refusals TextFile.Params (params_faults params))
-    (and_then (instance_of mode model params) (λ i. Ok (task_of mode request i))))
+    (and_then (instance_of mode model params) (λ i. Ok (searched_task mode request i))))
 
 -- what judging a solution text by an instance comes to
 unfoldable pub judge_outcome : Mode → Instance → TextTree → Outcome Task

@@ -7,7 +7,7 @@ use Rattle.cnf_core.specs.LogLines.{log_lines}
 use Rattle.cnf_core.specs.declared.log.CellNote.{CellNote}
 use Rattle.sat_text.specs.CnfGrammar.{SpellsCnf}
 use Rattle.sat_text.specs.LogGrammar.{SpellsLog}
-use Rattle.sat_text.specs.Writing.{IsReadableNote, SaysAgain, cnf_text, log_text}
+use Rattle.sat_text.specs.Writing.{SaysAgain, cnf_text, log_text}
 use Rattle.ep_base.specs.Outside.{Held, SameElsewhere, with_bytes}
 use Rattle.ep_solve.specs.Logged.{added_clauses}
 use Rattle.ep_gen.specs.Texts.{generated_model, generated_params}
@@ -27,7 +27,7 @@ AreNotedUpTo most notes = All (λ n. n.lit.var ≤ most) notes
 
 -- The text of a log's formula: its clauses are the log's givens in their order, its notes those of the log, and it says how many of
 -- the givens were added to those that stand for the instance. It is over the fewest variables that cover the clauses and the notes.
--- Where the notes are of cells and of short values, the text spells this formula, and its notes and this number are read again.
+-- The text spells this formula, and its notes and this number are read again.
 pub record IsFormulaText (log : LogState) (text : List ℕ) : Type 0 where
   pub formula : Cnf
   pub clauses : formula.clauses ≡ givens log.events
@@ -36,8 +36,8 @@ pub record IsFormulaText (log : LogState) (text : List ℕ) : Type 0 where
   pub least :
       (most : ℕ) → All (VariablesUpTo most) (givens log.events) → NotesUpTo most log.notes → formula.vars ≤ most
   pub is_text : text ≡ cnf_text formula log.notes (length (added_clauses log))
-  pub spells : All IsReadableNote log.notes → SpellsCnf text formula.vars formula.clauses
-  pub again : All IsReadableNote log.notes → SaysAgain text formula log.notes (length (added_clauses log))
+  pub spells : SpellsCnf text formula.vars formula.clauses
+  pub again : SaysAgain text formula log.notes (length (added_clauses log))
 
 -- The text of a log's steps: its lines are those of the log, one for each step, and it spells them.
 pub record IsStepsText (log : LogState) (text : List ℕ) : Type 0 where
@@ -69,8 +69,8 @@ named content None = []
 named content (Some name) = record { content = content; name = name } ∷ []
 
 -- the files that are named for output, in the order in which they are written
-unfoldable pub in_order : Outputs → List Output
-in_order o = named a_formula o.formula ++ (named steps o.log ++ named an_answer o.solution)
+unfoldable pub outputs_in_order : Outputs → List Output
+outputs_in_order o = named a_formula o.formula ++ (named steps o.log ++ named an_answer o.solution)
 
 -- the files that are named for the texts of a number, the model first
 unfoldable pub for_texts : ℕ → Option (List ℕ) → Option (List ℕ) → List Output
@@ -78,7 +78,7 @@ for_texts number eprime param = named (a_text generated_model) eprime ++ named (
 
 -- the files that are written for what is wanted, in this order
 unfoldable pub written_for : Wanted → List Output
-written_for (Wanted.Search model params mode request outputs) = in_order outputs
+written_for (Wanted.Search model params mode request outputs) = outputs_in_order outputs
 written_for (Wanted.Verify model params mode solution) = []
 written_for (Wanted.Check formula proof) = []
 written_for (Wanted.Generate number conflicts eprime param) = for_texts number eprime param

@@ -45,14 +45,14 @@ IsClausesRefusal file bad text Spells Faulty refusal =
     ⊎ ((length text ≤ most_text_bytes) × ¬ Spells × (line : ℕ) × Faulty line × (refusal ≡ bad line))
 
 -- a text spells these clauses, over some number of variables
-abbrev pub SpellsClauses : List ℕ → List (List Literal) → Type 0
-SpellsClauses text clauses = (vars : ℕ) × SpellsCnf text vars clauses
+abbrev pub SpellsFormulaClauses : List ℕ → List (List Literal) → Type 0
+SpellsFormulaClauses text clauses = (vars : ℕ) × SpellsCnf text vars clauses
 
 -- the text of a formula is read as these clauses, or has this refusal
 abbrev pub IsFormulaReadAs : List ℕ → Result (List (List Literal)) Refusal → Type 0
-IsFormulaReadAs text (Ok clauses) = (length text ≤ most_text_bytes) × SpellsClauses text clauses
+IsFormulaReadAs text (Ok clauses) = (length text ≤ most_text_bytes) × SpellsFormulaClauses text clauses
 IsFormulaReadAs text (Err refusal) =
-    IsClausesRefusal TextFile.Cnf Refusal.BadCnf text ((clauses : List (List Literal)) × SpellsClauses text clauses)
+    IsClausesRefusal TextFile.Cnf Refusal.BadCnf text ((clauses : List (List Literal)) × SpellsFormulaClauses text clauses)
     (IsFaultLine text) refusal
 
 -- the text of a proof is read as these lines, or has this refusal
@@ -76,13 +76,13 @@ abbrev pub IsReadBy : {A : Type 0} → ReadsTexts A → Held → List ℕ → Re
 IsReadBy reads held name reading = IsHeldReadBy reads name (held name) reading
 
 -- a file is read as this tree, or has this refusal
-abbrev pub IsReadAs : Held → TextFile → List ℕ → Result TextTree Refusal → Type 0
-IsReadAs held file name reading = IsReadBy (IsTextReadAs file) held name reading
+abbrev pub IsFileReadAs : Held → TextFile → List ℕ → Result TextTree Refusal → Type 0
+IsFileReadAs held file name reading = IsReadBy (IsTextReadAs file) held name reading
 
 -- the same of a parameter file, which may be left out: then there are no parameters
 abbrev pub AreParams : Held → Option (List ℕ) → Result TextTree Refusal → Type 0
 AreParams held None reading = reading ≡ Ok []
-AreParams held (Some name) reading = IsReadAs held TextFile.Params name reading
+AreParams held (Some name) reading = IsFileReadAs held TextFile.Params name reading
 
 -- what is held, but without a name
 abbrev pub without : List ℕ → Held → Held

@@ -1,11 +1,11 @@
 -- Which commands search for solutions, and what they may ask for.
 use Rattle.std.specs.Prelude.{◌≡◌, ◌≤◌, ℕ}
-use Rattle.ep_driver.specs.Commands.{conflicts_of}
+use Rattle.ep_driver.specs.Commands.{conflicts_wanted}
 use Rattle.ep_driver.specs.declared.wanted.Wanted.{Wanted}
 
 -- a search within so many conflicts is wanted, in a model or in the texts of a number
 abbrev pub IsSearchFor : Wanted → ℕ → Type 0
-IsSearchFor (Wanted.Search model params mode request output) conflicts = conflicts ≡ conflicts_of request
+IsSearchFor (Wanted.Search model params mode request output) conflicts = conflicts ≡ conflicts_wanted request
 IsSearchFor (Wanted.Verify model params mode solution) conflicts = ⊥
 IsSearchFor (Wanted.Check formula proof) conflicts = ⊥
 IsSearchFor (Wanted.Generate number most eprime param) conflicts = conflicts ≡ most

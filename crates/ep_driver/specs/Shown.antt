@@ -15,7 +15,7 @@ use Rattle.ep_print.specs.declared.refusals.Refusal.{Refusal}
 use Rattle.ep_print.specs.declared.refusals.TextFile.{TextFile}
 use Rattle.ep_driver.specs.Commands.{AreNoCommand, Want}
 use Rattle.ep_driver.specs.Outcomes.{Outcome, Task, search_outcome, to_check, verify_outcome}
-use Rattle.ep_driver.specs.Readings.{AreParams, IsFormulaReadAs, IsProofReadAs, IsReadAs, IsReadBy, IsTextReadAs}
+use Rattle.ep_driver.specs.Readings.{AreParams, IsFormulaReadAs, IsProofReadAs, IsFileReadAs, IsReadBy, IsTextReadAs}
 use Rattle.ep_driver.specs.Status.{status_of}
 use Rattle.ep_driver.specs.declared.status.Status.{Status}
 use Rattle.ep_driver.specs.declared.wanted.Request.{Request}
@@ -35,7 +35,7 @@ comes_to_search mode request params model held =
 -- a model and its parameters were read, and a solution is judged: its text is read
 abbrev pub comes_to_judge : Mode → List ℕ → TextTree → TextTree → Held → Outcome Task → Type 0
 comes_to_judge mode solution model params held =
-    ThenShows (IsReadAs held TextFile.Solution solution) (λ s outcome. outcome ≡ verify_outcome mode model params s)
+    ThenShows (IsFileReadAs held TextFile.Solution solution) (λ s outcome. outcome ≡ verify_outcome mode model params s)
 
 -- a model was read, and a solution of it is verified: its parameters are read
 abbrev pub comes_to_verify : Mode → Option (List ℕ) → List ℕ → TextTree → Held → Outcome Task → Type 0
@@ -62,9 +62,9 @@ comes_to_generate number conflicts =
 -- what is wanted comes to this over held files: the model or the formula is read first
 abbrev pub ComesTo : Wanted → Held → Outcome Task → Type 0
 ComesTo (Wanted.Search model params mode request outputs) held =
-    ThenShows (IsReadAs held TextFile.Model model) (λ m. comes_to_search mode request params m held)
+    ThenShows (IsFileReadAs held TextFile.Model model) (λ m. comes_to_search mode request params m held)
 ComesTo (Wanted.Verify model params mode solution) held =
-    ThenShows (IsReadAs held TextFile.Model model) (λ m. comes_to_verify mode params solution m held)
+    ThenShows (IsFileReadAs held TextFile.Model model) (λ m. comes_to_verify mode params solution m held)
 ComesTo (Wanted.Check formula proof) held =
     ThenShows (IsReadBy IsFormulaReadAs held formula) (λ clauses. comes_to_check proof clauses held)
 ComesTo (Wanted.Generate number conflicts eprime param) held = comes_to_generate number conflicts

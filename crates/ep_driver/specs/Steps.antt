@@ -20,11 +20,11 @@ use Rattle.ep_instance.specs.declared.judging.Shaped.{Shaped}
 use Rattle.ep_solve.specs.Right.{IsSpent, empty_log}
 use Rattle.sat_search.specs.Logs.{IsSound}
 use Rattle.ep_driver.specs.Answers.{Settles, judgement_status, judgement_text}
-use Rattle.ep_driver.specs.Commands.{AreNoCommand, Want, conflicts_of, files_of}
+use Rattle.ep_driver.specs.Commands.{AreNoCommand, Want, conflicts_wanted, files_of}
 use Rattle.ep_driver.specs.Outcomes.{Outcome, Task, as_outcome}
 use Rattle.ep_driver.specs.Outputs.{AreWritten, ArePartlyWritten, FailsAt, Output, written_for}
 use Rattle.ep_driver.specs.Readings.{AreParams, IsReadBy, IsTextReadAs, ReadsTexts, without}
-use Rattle.ep_driver.specs.Shown.{Ask, ComesTo}
+use Rattle.ep_driver.specs.Shown.{Ask, ComesTo, comes_to_generate}
 use Rattle.ep_driver.specs.Status.{status_of}
 use Rattle.ep_driver.specs.declared.replies.Reply.{Reply}
 use Rattle.ep_driver.specs.declared.status.Status.{Status}
@@ -74,6 +74,24 @@ TellsShown shows log (Ok reply) = (task : Task) × shows (Ok task) × Settles ta
 TellsShown shows log (Err (Stop.Refused refusal)) =
     IsOfText refusal × (refusals : List Refusal) × shows (Err refusals) × Contains refusals refusal
 TellsShown shows log (Err Stop.Memory) = OrUnlogged log ((task : Task) × shows (Ok task))
+
+-- the texts of a number come to a task, which a status, a text and a log answer; no file is asked
+abbrev pub AnswersNumber : ℕ → ℕ → Status → List ℕ → LogState → Type 0
+AnswersNumber number conflicts status text log =
+    (task : Task) × comes_to_generate number conflicts (Ok task) × Settles task status text log
+
+-- a reply does so where the texts of a number are wanted
+abbrev pub AnswersTexts : Wanted → Reply → LogState → Type 0
+AnswersTexts (Wanted.Search _ _ _ _ _) reply log = Unit {0}
+AnswersTexts (Wanted.Verify _ _ _ _) reply log = Unit {0}
+AnswersTexts (Wanted.Check _ _) reply log = Unit {0}
+AnswersTexts (Wanted.Generate number conflicts _ _) reply log = AnswersNumber number conflicts reply.status reply.text.items log
+
+-- a status, a text and a log do so wherever words want the texts of a number
+abbrev pub AnswersWords : List (List ℕ) → Status → List ℕ → LogState → Type 0
+AnswersWords words status text log =
+    (number conflicts : ℕ) (eprime param : Option (List ℕ)) → Want words (Wanted.Generate number conflicts eprime param)
+    → AnswersNumber number conflicts status text log
 
 -- a status and a text are those of the judgement of an assignment
 abbrev pub IsJudged : Mode → Instance → Found → Status → List ℕ → Type 0
@@ -189,7 +207,7 @@ IsJudgedEnd status log = (log ≡ empty_log) × ((status ≡ Status.Answered) �
 
 -- how a run may end that has its answer, and with which log
 abbrev pub IsEnd : Wanted → Status → LogState → Type 0
-IsEnd (Wanted.Search _ _ _ request _) status log = IsSearched (conflicts_of request) status log
+IsEnd (Wanted.Search _ _ _ request _) status log = IsSearched (conflicts_wanted request) status log
 IsEnd (Wanted.Verify _ _ _ _) status log = IsJudgedEnd status log
 IsEnd (Wanted.Check _ _) status log = IsJudgedEnd status log
 IsEnd (Wanted.Generate _ conflicts _ _) status log = IsSearched conflicts status log

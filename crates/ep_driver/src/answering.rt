@@ -11,8 +11,8 @@ ghost use Rattle.ep_print.specs.Listings.{end_tree};
 ghost use Rattle.ep_solve.specs.Right.{empty_log};
 ghost use Rattle.sat_search.specs.Logs.{IsSound};
 ghost use Rattle.ep_driver.specs.Answers.{Settles, answer_status, listing_status};
-ghost use Rattle.ep_driver.specs.Commands.{conflicts_of};
-ghost use Rattle.ep_driver.specs.Outcomes.{task_of, to_list, to_solve};
+ghost use Rattle.ep_driver.specs.Commands.{conflicts_wanted};
+ghost use Rattle.ep_driver.specs.Outcomes.{searched_task, to_list, to_solve};
 ghost use Rattle.ep_driver.specs.Steps.{IsSearched};
 
 use super::replies::Reply;
@@ -27,7 +27,7 @@ use ep_solve::{enumerate, solve};
 use std::alloc::Global;
 
 /// What is said of a search in an instance, and with which status.
-#[tactic(auto, unfolding(crate::specs::Outcomes::task_of, crate::specs::Commands::conflicts_of))]
+#[tactic(auto, unfolding(crate::specs::Outcomes::searched_task, crate::specs::Commands::conflicts_wanted))]
 pub fn searched_reply(
     alloc: Global,
     instance: &Instance,
@@ -39,8 +39,8 @@ pub fn searched_reply(
     requires within { instance_limits (instance_mode instance.now) (plain_instance instance.now) ≡ [] }
     requires empty { log.old ≡ empty_log }
     ensures answers { IfOk result (λ reply.
-        Settles (task_of (instance_mode instance.now) request (plain_instance instance.now)) reply.status reply.text.items log.new) }
-    ensures ends { IfOk result (λ reply. IsSearched (conflicts_of request) reply.status log.new) }
+        Settles (searched_task (instance_mode instance.now) request (plain_instance instance.now)) reply.status reply.text.items log.new) }
+    ensures ends { IfOk result (λ reply. IsSearched (conflicts_wanted request) reply.status log.new) }
     ensures sound { IsSound log.new.events }
 {
     match request {

@@ -1,7 +1,8 @@
 //! Solves the texts of a number.
 
-ghost use Rattle.std.specs.Prelude.{◌≡◌, ◌≤◌};
+ghost use Rattle.std.specs.Prelude.{◌≡◌, ◌≤◌, All, IfOk};
 ghost use Rattle.ep_solve.specs.Right.{empty_log};
+ghost use Rattle.sat_text.specs.Writing.{IsReadableNote};
 ghost use Rattle.ep_driver.specs.Shown.{comes_to_generate};
 ghost use Rattle.ep_driver.specs.Steps.{EndsBy, IsSearched, TellsShown};
 
@@ -22,6 +23,7 @@ pub fn generate(alloc: Global, number: u64, conflicts: u64, log: &mut Log) -> Re
     requires empty { log.old ≡ empty_log }
     ensures tells { TellsShown (comes_to_generate number conflicts) log.new result }
     ensures ends { EndsBy (λ status. IsSearched conflicts status log.new) log.new result }
+    ensures readable { IfOk result (λ reply. All IsReadableNote log.new.notes) }
 {
     let texts = gen_text(alloc, number)?;
     let model = model_in(alloc, &texts.0)?;

@@ -1,7 +1,8 @@
 //! Reads the files of a run.
 
-ghost use Rattle.std.specs.Prelude.{◌≡◌, ◌<◌, ◌≤◌, ◌^◌, []};
+ghost use Rattle.std.specs.Prelude.{◌≡◌, ◌<◌, ◌≤◌, ◌^◌, [], IfOk};
 ghost use Rattle.ep_base.specs.Outside.{Rose};
+ghost use Rattle.ep_tree.specs.Texts.{IsSpellable};
 ghost use Rattle.ep_tree.specs.Views.{model_tree, params_tree};
 ghost use Rattle.ep_print.specs.declared.refusals.TextFile.{TextFile as TextFileValue};
 ghost use Rattle.ep_driver.specs.Readings.{HasParams, IsFormulaReadAs, IsProofReadAs, IsTextReadAs};
@@ -27,6 +28,7 @@ const MOST_CLAUSE_BYTES: u64 = 1_073_741_824;
 pub fn read_model<F: Files>(alloc: Global, files: &mut F, name: &Word) -> Result<Model, Stop>
     ensures tells { TellsRead model_tree (IsTextReadAs TextFileValue.Model) (F.held files.old) name.now
         (Rose (F.faults files.old) (F.faults files.new)) result }
+    ensures spelled { IfOk result (λ model. IsSpellable (model_tree model)) }
     ensures held { F.held files.new ≡ F.held files.old }
     ensures faults { F.faults files.old ≤ F.faults files.new }
 {
@@ -133,7 +135,8 @@ fn unread(alloc: Global, name: &Word) -> Stop
 
 /// The model that a text is.
 pub fn model_in(alloc: Global, text: &[u8]) -> Result<Model, Stop>
-    ensures { TellsText model_tree (IsTextReadAs TextFileValue.Model) text.now result }
+    ensures tells { TellsText model_tree (IsTextReadAs TextFileValue.Model) text.now result }
+    ensures spelled { IfOk result (λ model. IsSpellable (model_tree model)) }
 {
     match parse_model(alloc, text) {
         Ok(model) => Ok(model),

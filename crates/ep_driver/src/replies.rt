@@ -6,8 +6,8 @@ ghost use Rattle.ep_print.specs.Refusals.{refusal_text};
 ghost use Rattle.ep_solve.specs.Right.{empty_log};
 ghost use Rattle.sat_search.specs.Logs.{IsSound};
 ghost use Rattle.ep_driver.specs.Puts.{HoldOnWant};
-ghost use Rattle.ep_driver.specs.Status.{status_of};
-ghost use Rattle.ep_driver.specs.Steps.{LogsTask, SaysOfRun, TellsRun};
+ghost use Rattle.ep_driver.specs.Status.{HasReply, status_of};
+ghost use Rattle.ep_driver.specs.Steps.{AnswersWords, LogsTask, SaysOfRun, TellsRun};
 
 use super::runs::do_wanted;
 use super::status::Status;
@@ -36,6 +36,8 @@ pub fn reply_to<F: Files>(
     requires empty { log.old ≡ empty_log }
     ensures says { IfOk result (λ reply. SaysOfRun words.now (F.held files.old) (F.held files.new)
         (Rose (F.faults files.old) (F.faults files.new)) reply.status reply.text.items log.new) }
+    ensures generated { IfOk result (λ reply. HasReply reply.status →
+        AnswersWords words.now reply.status reply.text.items log.new) }
     ensures wants { OnErr result (HoldOnWant words.now (F.held files.old) (F.held files.new)
         (Rose (F.faults files.old) (F.faults files.new)) log.new) }
     ensures asked { OnErr result (LogsTask words.now (F.held files.old) log.new) }
@@ -59,6 +61,7 @@ fn run_words<F: Files>(
     requires empty { log.old ≡ empty_log }
     ensures tells { TellsRun words.now (F.held files.old) (F.held files.new)
         (Rose (F.faults files.old) (F.faults files.new)) log.new result }
+    ensures generated { IfOk result (λ reply. AnswersWords words.now reply.status reply.text.items log.new) }
     ensures faults { F.faults files.old ≤ F.faults files.new }
 {
     let wanted = read_wanted(alloc, words)?;

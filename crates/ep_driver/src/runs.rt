@@ -1,14 +1,16 @@
 //! Does what is wanted of a run.
 
-ghost use Rattle.std.specs.Prelude.{◌≡◌, ◌≤◌, ◌⊎◌, ◌++◌, ◌∷◌, [], option_to_list, IfOk};
+ghost use Rattle.std.specs.Prelude.{◌≡◌, ◌≤◌, ◌⊎◌, ◌++◌, ◌∷◌, [], option_to_list, All, IfOk};
 ghost use Rattle.ep_base.specs.Outside.{Rose};
+ghost use Rattle.ep_tree.specs.Texts.{IsSpellable};
 ghost use Rattle.ep_tree.specs.Views.{model_tree, params_tree};
-ghost use Rattle.ep_driver.specs.Commands.{conflicts_of, files_of};
+ghost use Rattle.sat_text.specs.Writing.{IsReadableNote};
+ghost use Rattle.ep_driver.specs.Commands.{conflicts_wanted, files_of};
 ghost use Rattle.ep_driver.specs.Outcomes.{search_outcome, verify_outcome};
 ghost use Rattle.ep_driver.specs.Searches.{HasTexts};
 ghost use Rattle.ep_driver.specs.Shown.{ComesTo, comes_to_check, comes_to_judge, comes_to_search, comes_to_verify};
 ghost use Rattle.ep_solve.specs.Right.{empty_log};
-ghost use Rattle.ep_driver.specs.Steps.{EndsAs, EndsBy, IsJudgedEnd, IsSearched, TellsReply, TellsTask, formula_clauses};
+ghost use Rattle.ep_driver.specs.Steps.{AnswersTexts, EndsAs, EndsBy, IsJudgedEnd, IsSearched, TellsReply, TellsTask, formula_clauses};
 
 use super::answering::searched_reply;
 use super::checking::{checked_model, checked_params, instance_of};
@@ -22,6 +24,7 @@ use super::wanted::{Request, Wanted};
 use cnf_core::{Formula, Log};
 use ep_base::{Files, Word};
 use ep_print::TextFile;
+use ep_solve_laws::notes_can_be_read;
 use ep_tree::{Mode, Model, Params};
 use std::alloc::Global;
 
@@ -36,7 +39,9 @@ pub fn do_wanted<F: Files>(
     requires texts { HasTexts wanted.now }
     ensures tells { TellsTask (files_of wanted.now) (ComesTo wanted.now) (F.held files.old)
         (Rose (F.faults files.old) (F.faults files.new)) log.new result }
+    ensures generated { IfOk result (λ reply. AnswersTexts wanted.now reply log.new) }
     ensures ends { EndsAs wanted.now log.new result }
+    ensures readable { IfOk result (λ reply. All IsReadableNote log.new.notes) }
     ensures held { F.held files.new ≡ F.held files.old }
     ensures faults { F.faults files.old ≤ F.faults files.new }
 {
@@ -82,10 +87,12 @@ fn search_model<F: Files>(
     request: Request,
     log: &mut Log,
 ) -> Result<Reply, Stop>
+    requires spelled { IsSpellable (model_tree model) }
     requires empty { log.old ≡ empty_log }
     ensures tells { TellsTask (option_to_list params.now) (comes_to_search mode request params.now (model_tree model))
         (F.held files.old) (Rose (F.faults files.old) (F.faults files.new)) log.new result }
-    ensures ends { EndsBy (λ status. IsSearched (conflicts_of request) status log.new) log.new result }
+    ensures ends { EndsBy (λ status. IsSearched (conflicts_wanted request) status log.new) log.new result }
+    ensures readable { IfOk result (λ reply. All IsReadableNote log.new.notes) }
     ensures held { F.held files.new ≡ F.held files.old }
     ensures faults { F.faults files.old ≤ F.faults files.new }
 {
@@ -160,10 +167,13 @@ pub fn search_texts(
     request: Request,
     log: &mut Log,
 ) -> Result<Reply, Stop>
+    requires spelled { IsSpellable (model_tree model) }
     requires empty { log.old ≡ empty_log }
     ensures tells { TellsReply (search_outcome mode request (model_tree model) (params_tree params)) log.new result }
-    ensures ends { EndsBy (λ status. IsSearched (conflicts_of request) status log.new) log.new result }
+    ensures ends { EndsBy (λ status. IsSearched (conflicts_wanted request) status log.new) log.new result }
+    ensures readable { IfOk result (λ reply. All IsReadableNote log.new.notes) }
 {
+    notes_can_be_read();
     let model = checked_model(alloc, model)?;
     let params = checked_params(alloc, TextFile::Params, params)?;
     let instance = instance_of(alloc, mode, model, params)?;

@@ -5,6 +5,7 @@ ghost use Rattle.cnf_core.specs.Events.{givens, plain_event};
 ghost use Rattle.cnf_core.specs.Literal.{VariablesUpTo};
 ghost use Rattle.cnf_core.specs.declared.lit.TheConstants.{MOST_VARIABLE};
 ghost use Rattle.ep_solve.specs.Logged.{added_clauses};
+ghost use Rattle.sat_text.specs.Writing.{IsReadableNote};
 ghost use Rattle.ep_driver.specs.Outputs.{AreNotedUpTo, IsFormulaText};
 
 use cnf_core::{CellNote, Clause, Event, Formula, Log};
@@ -14,6 +15,7 @@ use std::alloc::Global;
 
 /// The text of a log's formula, with the notes of the cells and the number of givens that were added.
 pub fn formula_text(alloc: Global, log: &Log) -> Result<Vec<u8>, Memory>
+    requires readable { All IsReadableNote log.now.notes }
     ensures { IfOk result (λ text. IsFormulaText log.now text.items) }
 {
     let clauses = given_clauses(alloc, log.events())?;

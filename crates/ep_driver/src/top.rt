@@ -1,6 +1,6 @@
 //! The top call.
 
-ghost use Rattle.std.specs.Prelude.{◌≡◌, ◌≢◌, ◌⊎◌, ◌≤◌, ℕ, List, [], None, Some, Err, Contains, IfSome, IsSomeAnd, Option, codes};
+ghost use Rattle.std.specs.Prelude.{◌≡◌, ◌≢◌, ◌⊎◌, ◌≤◌, ℕ, List, [], None, Some, Ok, Err, Contains, IfSome, IsSomeAnd, Option, codes};
 ghost use Rattle.ep_base.specs.Outside.{Rose, TookPart, with_more};
 ghost use Rattle.ep_tree.specs.declared.values.Mode.{Mode};
 ghost use Rattle.ep_print.specs.Refusals.{refusal_text};
@@ -15,10 +15,11 @@ ghost use Rattle.ep_driver.specs.Answers.{Settles};
 ghost use Rattle.ep_driver.specs.Budgets.{IsBelowPower, MeetsConflict, before_steps};
 ghost use Rattle.ep_driver.specs.Commands.{AreNoCommand, IsJudgement, Want};
 ghost use Rattle.ep_driver.specs.Outcomes.{Task};
-ghost use Rattle.ep_driver.specs.Outputs.{HasOutput, HoldsText, IsFormulaText, IsStepsText, SameButOutput};
+ghost use Rattle.ep_driver.specs.Outputs.{AreWritten, HasOutput, HoldsText, IsFormulaText, IsStepsText, SameButOutput, for_texts};
+ghost use Rattle.ep_driver.specs.Promised.{IsPromised};
 ghost use Rattle.ep_driver.specs.Puts.{IsDeviceLine, MayBePut, TookFirst, TookOnWant};
 ghost use Rattle.ep_driver.specs.Searches.{IsSearchFor};
-ghost use Rattle.ep_driver.specs.Shown.{Ask, Refuses, Show};
+ghost use Rattle.ep_driver.specs.Shown.{Ask, Refuses, Show, comes_to_generate};
 ghost use Rattle.ep_driver.specs.Status.{HasReply, status_of};
 ghost use Rattle.ep_driver.specs.declared.status.Status.{Status as StatusValue};
 ghost use Rattle.ep_driver.specs.declared.wanted.Outputs.{Outputs};
@@ -48,6 +49,12 @@ pub fn run<R: Threads, F: Files, K: Sink>(
     log: &mut Log,
 ) -> Status
     requires empty { log.old ≡ empty_log }
+    // The promise: where the files tell what they hold, what was put out with an answer, or with the best that was found until the
+    // conflicts were spent, is the text of what is true of the texts that the words name. All that follows says more.
+    ensures promised { (result ≡ StatusValue.Answered) ⊎ (result ≡ StatusValue.Unknown) →
+        IfSome (F.held files.old) (λ held. (wanted : Wanted) × (text : List ℕ)
+        × Want words.now wanted × IsPromised held wanted result text
+        × (K.taken out.new ≡ with_more text (K.taken out.old))) }
     // An answer is right for the task that the words and the held files show: an optimum or a
     // solution, that there is none, or that the conflicts were spent, with the best solution so far;
     // a list of solutions, and whether these are all; a judgement of a solution text; the verdict on a proof
@@ -58,6 +65,13 @@ pub fn run<R: Threads, F: Files, K: Sink>(
         × Ask words.now held task × Settles task result text log.new
         × (K.taken out.new ≡ with_more text (K.taken out.old))
         × HasOutput words.now text log.new (F.held files.old) (F.held files.new)) }
+    // Of the texts of a number this is so whatever the files are, told or not.
+    ensures generated { HasReply result →
+        (number conflicts : ℕ) (eprime param : Option (List ℕ))
+        → Want words.now (Wanted.Generate number conflicts eprime param)
+        → (task : Task) × (text : List ℕ) × comes_to_generate number conflicts (Ok task)
+        × Settles task result text log.new × (K.taken out.new ≡ with_more text (K.taken out.old))
+        × AreWritten log.new text (for_texts number eprime param) (F.held files.old) (F.held files.new) }
     ensures unknown { result ≡ StatusValue.Unknown →
         (wanted : Wanted) × (conflicts : ℕ) × Want words.now wanted × IsSearchFor wanted conflicts
         × IsSpent conflicts log.new.events }

@@ -1,9 +1,10 @@
 //! Writes the files of an answer.
 
-ghost use Rattle.std.specs.Prelude.{◌≤◌, ℕ, List};
+ghost use Rattle.std.specs.Prelude.{◌≤◌, ℕ, All, List};
 ghost use Rattle.ep_base.specs.Outside.{Rose};
 ghost use Rattle.cnf_core.specs.Events.{LogState};
-ghost use Rattle.ep_driver.specs.Outputs.{a_formula, a_text, an_answer, for_texts, in_order, named, steps, written_for};
+ghost use Rattle.sat_text.specs.Writing.{IsReadableNote};
+ghost use Rattle.ep_driver.specs.Outputs.{a_formula, a_text, an_answer, for_texts, outputs_in_order, named, steps, written_for};
 ghost use Rattle.ep_driver.specs.Searches.{HasTexts};
 ghost use Rattle.ep_driver.specs.Steps.{TellsWrite, TellsWritten};
 
@@ -26,6 +27,7 @@ pub fn write_wanted<F: Files>(
     answer: &[u8],
 ) -> Result<(), Stop>
     requires texts { HasTexts wanted }
+    requires readable { All IsReadableNote log.now.notes }
     ensures tells { TellsWritten log.now answer.now (written_for wanted) (F.held files.old) (F.held files.new)
         (Rose (F.faults files.old) (F.faults files.new)) result }
     ensures faults { F.faults files.old ≤ F.faults files.new }
@@ -81,7 +83,8 @@ fn write_outputs<F: Files>(
     log: &Log,
     answer: &[u8],
 ) -> Result<(), Stop>
-    ensures tells { TellsWritten log.now answer.now (in_order outputs) (F.held files.old) (F.held files.new)
+    requires readable { All IsReadableNote log.now.notes }
+    ensures tells { TellsWritten log.now answer.now (outputs_in_order outputs) (F.held files.old) (F.held files.new)
         (Rose (F.faults files.old) (F.faults files.new)) result }
     ensures faults { F.faults files.old ≤ F.faults files.new }
 {
@@ -97,6 +100,7 @@ fn write_formula<F: Files>(
     output: Option<Word>,
     log: &Log,
 ) -> Result<(), Stop>
+    requires readable { All IsReadableNote log.now.notes }
     ensures tells { (answer : List ℕ) → TellsWritten log.now answer (named a_formula output) (F.held files.old) (F.held files.new)
         (Rose (F.faults files.old) (F.faults files.new)) result }
     ensures faults { F.faults files.old ≤ F.faults files.new }

@@ -4,7 +4,7 @@ use Rattle.ep_gen.specs.Texts.{generated_model, generated_params}
 use Rattle.ep_print.specs.declared.refusals.TextFile.{TextFile}
 use Rattle.ep_tree.specs.Views.{model_tree, params_tree}
 use Rattle.ep_tree.specs.declared.values.Mode.{Mode}
-use Rattle.ep_driver.specs.Commands.{conflicts_of}
+use Rattle.ep_driver.specs.Commands.{conflicts_wanted}
 use Rattle.ep_driver.specs.Outcomes.{search_outcome}
 use Rattle.ep_driver.specs.Readings.{IsTextReadAs}
 use Rattle.ep_driver.specs.Shown.{comes_to_parameters}
@@ -32,7 +32,7 @@ returns-in_err-model-clause-tells c =
     let T : List ℕ → Type 0 = λ t. TellsText model_tree (IsTextReadAs TextFile.Model) t (Err stop) in
     rw (p.1, p.2)
     (unread-shown model_tree (IsTextReadAs TextFile.Model) generated_model (λ m. comes_to_parameters c.args.number c.args.conflicts m) c.args.log.now stop c.requires.empty
-    (subst T (c.deref.ensures.value ∙ c.in_ok-texts.ensures.model) c.in_err-model.ensures))
+    (subst T (c.deref.ensures.value ∙ c.in_ok-texts.ensures.model) c.in_err-model.ensures.tells))
 
 pub returns-in_err-model-clause-ends : goal.returns-in_err-model-clause-ends
 returns-in_err-model-clause-ends c =
@@ -48,7 +48,7 @@ returns-in_err-params-clause-tells c =
     let T : List ℕ → Type 0 = λ t. TellsText params_tree (IsTextReadAs TextFile.Params) t (Err stop) in
     rw (p.1, p.2)
     (then-shown (IsTextReadAs TextFile.Model generated_model) (λ tree. comes_to_parameters c.args.number c.args.conflicts tree) m c.args.log.now (Err stop)
-    (subst M (c.deref.ensures.value ∙ c.in_ok-texts.ensures.model) c.in_ok-model.ensures)
+    (subst M (c.deref.ensures.value ∙ c.in_ok-texts.ensures.model) c.in_ok-model.ensures.tells)
     (unread-shown params_tree (IsTextReadAs TextFile.Params) (generated_params c.args.number) (λ q outcome. outcome ≡ search_outcome Mode.Relational (Request.Generated c.args.number c.args.conflicts) m q)
     c.args.log.now stop c.requires.empty
     (subst T (c.deref-2.ensures.value ∙ c.in_ok-texts.ensures.params) c.in_err-params.ensures)))
@@ -66,12 +66,12 @@ returns-clause-tells c =
     let Q : List ℕ → Type 0 = λ t. IsTextReadAs TextFile.Params t (Ok q) in
     let outcome = search_outcome Mode.Relational (Request.Generated c.args.number c.args.conflicts) m q in
     then-shown (IsTextReadAs TextFile.Model generated_model) (λ tree. comes_to_parameters c.args.number c.args.conflicts tree) m c.search_texts.new.log c.search_texts.result
-    (subst M (c.deref.ensures.value ∙ c.in_ok-texts.ensures.model) c.in_ok-model.ensures)
+    (subst M (c.deref.ensures.value ∙ c.in_ok-texts.ensures.model) c.in_ok-model.ensures.tells)
     (then-shown (IsTextReadAs TextFile.Params (generated_params c.args.number)) (λ tree result. result ≡ search_outcome Mode.Relational (Request.Generated c.args.number c.args.conflicts) m tree) q
     c.search_texts.new.log c.search_texts.result
     (subst Q (c.deref-2.ensures.value ∙ c.in_ok-texts.ensures.params) c.in_ok-params.ensures)
     (reply-shown outcome c.search_texts.new.log c.search_texts.result c.search_texts.ensures.tells))
 
 pub returns-clause-ends : goal.returns-clause-ends
-unfolding conflicts_of
+unfolding conflicts_wanted
 returns-clause-ends c = c.search_texts.ensures.ends

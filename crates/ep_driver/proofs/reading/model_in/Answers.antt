@@ -1,6 +1,7 @@
 use Rattle.std.proofs.Common.{Err, refl, sym, subst}
 use Rattle.ep_print.specs.declared.refusals.TextFile.{TextFile}
-use Rattle.ep_tree.specs.Texts.{read_as}
+use Rattle.ep_tree.specs.StatementSpelling.{SpellsModel}
+use Rattle.ep_tree.specs.Texts.{IsReadAs, read_as}
 use Rattle.ep_tree.specs.Views.{model_tree}
 use Rattle.ep_driver.specs.Readings.{IsTextReadAs, tree_or_refusal}
 use Rattle.ep_driver.specs.Steps.{TellsText}
@@ -8,11 +9,16 @@ use Rattle.ep_driver.specs.declared.stops.Stop.{Stop}
 use Rattle.ep_driver.proofs.FileReading.{text-stopped}
 use Rattle.ep_driver.proofs.reading.model_in.Goals as goal
 
-pub returns-in-Ok : goal.returns-in-Ok
+pub returns-in-Ok-clause-tells : goal.returns-in-Ok-clause-tells
 unfolding tree_or_refusal
-returns-in-Ok c = (read_as (model_tree c.in-Ok.model), c.in-Ok.ensures.answer, refl)
+returns-in-Ok-clause-tells c = (read_as (model_tree c.in-Ok.model), c.in-Ok.ensures.answer, refl)
 
-pub returns-in-Err : goal.returns-in-Err
-returns-in-Err c =
+pub returns-in-Ok-clause-spelled : goal.returns-in-Ok-clause-spelled
+returns-in-Ok-clause-spelled c =
+    let is : IsReadAs SpellsModel c.args.text.now (model_tree c.in-Ok.model) = c.in-Ok.ensures.answer in
+    (c.args.text.now, record { tokens = is.tokens; found = is.found; spelled = is.reads.spelled })
+
+pub returns-in-Err-clause-tells : goal.returns-in-Err-clause-tells
+returns-in-Err-clause-tells c =
     let P : Stop → Type 0 = λ s. TellsText model_tree (IsTextReadAs TextFile.Model) c.args.text.now (Err s) in
     subst P (sym c.text_stop.ensures) (text-stopped model_tree TextFile.Model c.args.text.now c.in-Err.error c.in-Err.ensures.answer)

@@ -14,4 +14,4 @@ returns-clause-tells g c =
     let rose = Rose (g.F.Files.faults c.args.files.now) (g.F.Files.faults c.read_bytes.new.files) in
     let P : List ℕ → Type 0 = λ t. TellsText model_tree (IsTextReadAs TextFile.Model) t c.model_in.result in
     tells-read model_tree MOST_BYTES (IsTextReadAs TextFile.Model) (cut-tree TextFile.Model) told c.args.name.now c.in_ok-text.text.items rose c.model_in.result c.in_ok-text.ensures.tells
-    (subst P c.deref.ensures.value c.model_in.ensures)
+    (subst P c.deref.ensures.value c.model_in.ensures.tells)

@@ -3,6 +3,7 @@ use Rattle.ep_base.specs.Outside.{Rose}
 use Rattle.ep_driver.specs.Steps.{LogsTask, TellsRun}
 use Rattle.ep_driver.specs.declared.replies.Reply.{Reply}
 use Rattle.ep_driver.specs.declared.stops.Stop.{Stop}
+use Rattle.ep_driver.proofs.Promises.{refused-unanswered}
 use Rattle.ep_driver.proofs.Running.{refused-asks, refused-holds, refused-said, run-asked}
 use Rattle.ep_driver.proofs.Saying.{holds-wanting, run-sound}
 use Rattle.ep_driver.proofs.replies.reply_to.Goals as goal
@@ -76,3 +77,10 @@ returns-in-Err-Memory-clause-wants g c =
     let S : Stop → Type 0 = λ s. TellsRun c.args.words.now told after rose c.run_words.new.log (Err s) in
     holds-wanting c.args.words.now told after rose c.run_words.new.log
     (subst S c.in-Err-Memory.field-0-is (subst R c.in-Err-Memory.is c.run_words.ensures.tells))
+
+pub returns-in-Ok-clause-generated : goal.returns-in-Ok-clause-generated
+returns-in-Ok-clause-generated g c = λ has. c.in-Ok.ensures.generated
+
+pub returns-in-Err-Refused-clause-generated : goal.returns-in-Err-Refused-clause-generated
+returns-in-Err-Refused-clause-generated g c =
+    refused-unanswered c.args.words.now c.in-Err-Refused.refusal c.refused.result c.run_words.new.log c.refused.ensures.status

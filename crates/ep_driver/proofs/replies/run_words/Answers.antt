@@ -1,10 +1,13 @@
 use Rattle.std.proofs.lemmas.Result.{err_from_is_err_and}
-use Rattle.std.proofs.Common.{ℕ, List, Ok, Err, refl, subst}
+use Rattle.std.proofs.Common.{◌≡◌, ℕ, List, Ok, Err, refl, subst}
 use Rattle.ep_base.proofs.PutSteps.{rose_later}
 use Rattle.ep_base.specs.Outside.{Rose}
 use Rattle.ep_driver.specs.Outputs.{written_for}
-use Rattle.ep_driver.specs.Steps.{TellsWritten}
+use Rattle.ep_driver.specs.Steps.{AnswersTexts, TellsWritten}
+use Rattle.ep_driver.specs.declared.wanted.Wanted.{Wanted}
+use Rattle.ep_words.proofs.SettingLaws.{one_job}
 use Rattle.ep_driver.proofs.Allowed.{wants-texts}
+use Rattle.ep_driver.proofs.Once.{want-once}
 use Rattle.ep_driver.proofs.Saying.{answered-run, refused-run, unread-words, unwritten-run}
 use Rattle.ep_driver.proofs.replies.run_words.Goals as goal
 
@@ -59,4 +62,13 @@ pub do_wanted-requires-clause-texts : goal.do_wanted-requires-clause-texts
 do_wanted-requires-clause-texts g c = wants-texts c.args.words.now c.in_ok-wanted.wanted c.in_ok-wanted.ensures
 
 pub write_wanted-requires : goal.write_wanted-requires
-write_wanted-requires g c = record { texts = wants-texts c.args.words.now c.in_ok-wanted.wanted c.in_ok-wanted.ensures }
+write_wanted-requires g c = record {
+  texts = wants-texts c.args.words.now c.in_ok-wanted.wanted c.in_ok-wanted.ensures;
+  readable = c.in_ok-reply.ensures.readable;
+}
+
+pub returns-clause-generated : goal.returns-clause-generated
+returns-clause-generated g c = λ number conflicts eprime param want.
+    let wanted : Wanted = Wanted.Generate number conflicts eprime param in
+    let same : c.in_ok-wanted.wanted ≡ wanted = want-once one_job c.args.words.now c.in_ok-wanted.wanted wanted c.in_ok-wanted.ensures want in
+    subst (λ (w : Wanted). AnswersTexts w c.in_ok-reply.reply c.do_wanted.new.log) same c.in_ok-reply.ensures.generated

@@ -1,20 +1,21 @@
 use Rattle.std.proofs.lemmas.Result.{err_from_is_err_and}
-use Rattle.std.proofs.Common.{[], ◌∷◌, ◌++◌, Err, option_to_list, sym, subst}
+use Rattle.std.proofs.Common.{[], ◌∷◌, ◌++◌, Err, IfOk, option_to_list, sym, subst}
 use Rattle.cnf_core.specs.Events.{LogState}
 use Rattle.ep_base.proofs.PutSteps.{rose_later}
 use Rattle.ep_base.specs.Outside.{Rose}
 use Rattle.ep_print.specs.declared.refusals.TextFile.{TextFile}
 use Rattle.ep_tree.specs.Views.{model_tree}
 use Rattle.ep_driver.specs.Commands.{files_of}
-use Rattle.ep_driver.specs.Readings.{IsFormulaReadAs, IsReadAs, IsReadBy, IsTextReadAs}
+use Rattle.ep_driver.specs.Readings.{IsFormulaReadAs, IsFileReadAs, IsReadBy, IsTextReadAs}
 use Rattle.ep_driver.specs.Shown.{ComesTo, comes_to_check, comes_to_generate, comes_to_search, comes_to_verify}
 use Rattle.ep_driver.specs.Searches.{HasTexts}
 use Rattle.ep_solve.specs.Right.{empty_log}
-use Rattle.ep_driver.specs.Steps.{EndsAs, TellsTask, formula_clauses}
+use Rattle.ep_driver.specs.Steps.{AnswersTexts, EndsAs, TellsTask, formula_clauses}
 use Rattle.ep_driver.specs.declared.wanted.Wanted.{Wanted}
 use Rattle.ep_driver.proofs.Chains.{after, stable-file, unread}
+use Rattle.ep_driver.proofs.Noted.{none-readable}
 use Rattle.ep_driver.proofs.Running.{check-ends, stopped-as, verify-ends}
-use Rattle.ep_driver.proofs.ShownTexts.{over-shown}
+use Rattle.ep_driver.proofs.ShownTexts.{no-texts, over-shown, shown-answers}
 use Rattle.ep_driver.proofs.runs.do_wanted.Goals as goal
 
 pub returns-in_err-model-in-Search-clause-tells : goal.returns-in_err-model-in-Search-clause-tells
@@ -46,7 +47,7 @@ returns-in_ok-model-in-Search-clause-tells g c =
     let now = g.F.Files.faults c.read_model.new.files in
     let W : Wanted → Type 0 = λ w. TellsTask (files_of w) (ComesTo w) told rose c.search_model.new.log c.search_model.result in
     subst W (sym c.in-Search.is)
-    (after (c.in-Search.model ∷ []) (option_to_list c.in-Search.params) (λ held. IsReadAs held TextFile.Model c.in-Search.model) (λ m. comes_to_search c.in-Search.mode c.in-Search.request c.in-Search.params m)
+    (after (c.in-Search.model ∷ []) (option_to_list c.in-Search.params) (λ held. IsFileReadAs held TextFile.Model c.in-Search.model) (λ m. comes_to_search c.in-Search.mode c.in-Search.request c.in-Search.params m)
     (stable-file (IsTextReadAs TextFile.Model) c.in-Search.model) (model_tree c.in_ok-model-in-Search.model) told (g.F.Files.held c.read_model.new.files) rose
     (Rose now (g.F.Files.faults c.search_model.new.files)) c.search_model.new.log c.search_model.result c.in_ok-model-in-Search.ensures.held
     (rose_later (g.F.Files.faults c.args.files.now) now (g.F.Files.faults c.search_model.new.files) c.in_ok-model-in-Search.ensures.faults)
@@ -61,7 +62,7 @@ returns-in_ok-model-in-Verify-clause-tells g c =
     let L : LogState → Type 0 = λ log. TellsTask (c.in-Verify.model ∷ option_to_list c.in-Verify.params ++ c.in-Verify.solution ∷ []) (ComesTo (Wanted.Verify c.in-Verify.model c.in-Verify.params c.in-Verify.mode c.in-Verify.solution)) told rose log c.verify_model.result in
     subst W (sym c.in-Verify.is)
     (subst L (sym c.requires.empty)
-    (after (c.in-Verify.model ∷ []) (option_to_list c.in-Verify.params ++ c.in-Verify.solution ∷ []) (λ held. IsReadAs held TextFile.Model c.in-Verify.model) (λ m. comes_to_verify c.in-Verify.mode c.in-Verify.params c.in-Verify.solution m)
+    (after (c.in-Verify.model ∷ []) (option_to_list c.in-Verify.params ++ c.in-Verify.solution ∷ []) (λ held. IsFileReadAs held TextFile.Model c.in-Verify.model) (λ m. comes_to_verify c.in-Verify.mode c.in-Verify.params c.in-Verify.solution m)
     (stable-file (IsTextReadAs TextFile.Model) c.in-Verify.model) (model_tree c.in_ok-model-in-Verify.model) told (g.F.Files.held c.read_model-in-Verify.new.files) rose
     (Rose now (g.F.Files.faults c.verify_model.new.files)) empty_log c.verify_model.result c.in_ok-model-in-Verify.ensures.held
     (rose_later (g.F.Files.faults c.args.files.now) now (g.F.Files.faults c.verify_model.new.files) c.in_ok-model-in-Verify.ensures.faults)
@@ -139,3 +140,29 @@ pub returns-in-Generate-clause-ends : goal.returns-in-Generate-clause-ends
 returns-in-Generate-clause-ends g c =
     let W : Wanted → Type 0 = λ w. EndsAs w c.generate.new.log c.generate.result in
     subst W (sym c.in-Generate.is) (tt, c.generate.ensures.ends)
+
+pub returns-in_ok-model-in-Search-clause-generated : goal.returns-in_ok-model-in-Search-clause-generated
+returns-in_ok-model-in-Search-clause-generated g c =
+    let W : Wanted → Type 0 = λ w. IfOk c.search_model.result (λ reply. AnswersTexts w reply c.search_model.new.log) in
+    subst W (sym c.in-Search.is) (no-texts c.search_model.result)
+
+pub returns-in_ok-model-in-Verify-clause-generated : goal.returns-in_ok-model-in-Verify-clause-generated
+returns-in_ok-model-in-Verify-clause-generated g c =
+    let W : Wanted → Type 0 = λ w. IfOk c.verify_model.result (λ reply. AnswersTexts w reply c.args.log.now) in
+    subst W (sym c.in-Verify.is) (no-texts c.verify_model.result)
+
+pub returns-in_ok-formula-in-Check-clause-generated : goal.returns-in_ok-formula-in-Check-clause-generated
+returns-in_ok-formula-in-Check-clause-generated g c =
+    let W : Wanted → Type 0 = λ w. IfOk c.check_proof.result (λ reply. AnswersTexts w reply c.args.log.now) in
+    subst W (sym c.in-Check.is) (no-texts c.check_proof.result)
+
+pub returns-in-Generate-clause-generated : goal.returns-in-Generate-clause-generated
+returns-in-Generate-clause-generated g c =
+    let W : Wanted → Type 0 = λ w. IfOk c.generate.result (λ reply. AnswersTexts w reply c.generate.new.log) in
+    subst W (sym c.in-Generate.is) (shown-answers c.in-Generate.number c.in-Generate.conflicts c.generate.new.log c.generate.result c.generate.ensures.tells)
+
+pub returns-in_ok-model-in-Verify-clause-readable : goal.returns-in_ok-model-in-Verify-clause-readable
+returns-in_ok-model-in-Verify-clause-readable g c = none-readable c.verify_model.result c.args.log.now c.requires.empty
+
+pub returns-in_ok-formula-in-Check-clause-readable : goal.returns-in_ok-formula-in-Check-clause-readable
+returns-in_ok-formula-in-Check-clause-readable g c = none-readable c.check_proof.result c.args.log.now c.requires.empty

@@ -1,13 +1,30 @@
 use Rattle.std.proofs.Common.{◌≡◌, ◌∙◌, ℕ, List, Err, inl, inr, ap, subst}
 use Rattle.ep_base.specs.Outside.{Rose, TookPart, with_more}
+use Rattle.ep_driver.specs.Outputs.{HasOutput}
 use Rattle.ep_driver.specs.Puts.{TookOnWant}
 use Rattle.ep_driver.proofs.Budgets.{below-said, unforced-said}
 use Rattle.ep_driver.proofs.Certified.{ends-verified}
-use Rattle.ep_driver.proofs.Files.{formula-stands, log-stands}
+use Rattle.ep_driver.proofs.Files.{formula-stands, generated-stands, log-stands}
+use Rattle.ep_driver.proofs.Kept.{promise-stands}
 use Rattle.ep_driver.proofs.Once.{ShownOnce, TextsAreOnce, answers-said, judged-on-want, judged-said, refuses-said, shown-once, unlogged-on-want, unlogged-said, unwritten-on-want, unwritten-said, want-once}
 use Rattle.ep_driver.proofs.Promises.{may-be-put, never-memory, usage-said, want-others, when-answered, when-failed, when-kept, when-not-held, when-others, when-refused, when-refuted, when-unknown, when-unlogged, when-usage, when-written, why-device}
 use Rattle.ep_driver.proofs.Saying.{case-of}
 use Rattle.ep_driver.proofs.top.run.Goals as goal
+
+pub returns-in-Ok-put_all-clause-promised : goal.returns-in-Ok-put_all-clause-promised
+returns-in-Ok-put_all-clause-promised g c =
+    let words = c.args.words.now in
+    let told = g.F.Files.held c.args.files.now in
+    let after = g.F.Files.held c.reply_to.new.files in
+    let rose = Rose (g.F.Files.faults c.args.files.now) (g.F.Files.faults c.reply_to.new.files) in
+    let status = c.in-Ok.reply.status in
+    let text = c.in-Ok.reply.text.items in
+    let log = c.reply_to.new.log in
+    let case = case-of words told after rose status text log c.in-Ok.ensures.says in
+    let Took : List ℕ → Type 0 = λ x. g.K.Sink.taken c.put_all.new.sink ≡ with_more x (g.K.Sink.taken c.args.out.now) in
+    let took = subst Took c.deref.ensures.value c.in-Ok-put_all.ensures.all in
+    λ h. promise-stands words told status log Took (λ t. HasOutput words t log told after)
+    (when-answered words told after rose status text log Took case took (elim h [ inl e ↦ inl e | inr e ↦ inr (inl e) ])) h
 
 pub returns-in-Ok-put_all-clause-answered : goal.returns-in-Ok-put_all-clause-answered
 returns-in-Ok-put_all-clause-answered g c =
@@ -559,3 +576,19 @@ returns-in-Ok-put_all-clause-log_file g c =
     let log = c.reply_to.new.log in
     let case = case-of words told after rose status text log c.in-Ok.ensures.says in
     λ h. log-stands words text log told after (want-once c.one_job_for_words.ensures words) (when-written words told after rose status text log case h)
+
+pub returns-in-Ok-put_all-clause-generated : goal.returns-in-Ok-put_all-clause-generated
+returns-in-Ok-put_all-clause-generated g c =
+    let words = c.args.words.now in
+    let told = g.F.Files.held c.args.files.now in
+    let after = g.F.Files.held c.reply_to.new.files in
+    let rose = Rose (g.F.Files.faults c.args.files.now) (g.F.Files.faults c.reply_to.new.files) in
+    let status = c.in-Ok.reply.status in
+    let text = c.in-Ok.reply.text.items in
+    let log = c.reply_to.new.log in
+    let case = case-of words told after rose status text log c.in-Ok.ensures.says in
+    let Took : List ℕ → Type 0 = λ x. g.K.Sink.taken c.put_all.new.sink ≡ with_more x (g.K.Sink.taken c.args.out.now) in
+    let took = subst Took c.deref.ensures.value c.in-Ok-put_all.ensures.all in
+    λ h number conflicts eprime param want.
+    generated-stands words told after status text log Took number conflicts eprime param (want-once c.one_job_for_words.ensures words) want (c.in-Ok.ensures.generated h number conflicts eprime param want)
+    (when-written words told after rose status text log case h) took

@@ -2,12 +2,12 @@ use Rattle.std.proofs.lemmas.Result.{err_from_is_err_and}
 use Rattle.std.proofs.Common.{◌++◌, Err}
 use Rattle.ep_base.proofs.PutSteps.{rose_later}
 use Rattle.ep_base.specs.Outside.{Rose}
-use Rattle.ep_driver.specs.Outputs.{a_formula, an_answer, in_order, named, steps}
+use Rattle.ep_driver.specs.Outputs.{a_formula, an_answer, outputs_in_order, named, steps}
 use Rattle.ep_driver.proofs.Written.{told-before, told-behind}
 use Rattle.ep_driver.proofs.writing.write_outputs.Goals as goal
 
 pub returns-in_err-write_formula-clause-tells : goal.returns-in_err-write_formula-clause-tells
-unfolding in_order
+unfolding outputs_in_order
 returns-in_err-write_formula-clause-tells g c =
     let p = err_from_is_err_and c.from_residual.result c.from_residual.ensures.1 in
     let log = c.args.log.now in
@@ -18,7 +18,7 @@ returns-in_err-write_formula-clause-tells g c =
     (told-before (Unit {0}) (Unit {0}) log answer (named a_formula o.formula) (named steps o.log ++ named an_answer o.solution) (g.F.Files.held c.args.files.now) (g.F.Files.held c.write_formula.new.files) rose rose c.in_err-write_formula.field-0.0 (λ up. up) (c.in_err-write_formula.ensures.tells answer))
 
 pub returns-in_err-write_steps-clause-tells : goal.returns-in_err-write_steps-clause-tells
-unfolding in_order
+unfolding outputs_in_order
 returns-in_err-write_steps-clause-tells g c =
     let p = err_from_is_err_and c.from_residual-in_err-write_steps.result c.from_residual-in_err-write_steps.ensures.1 in
     let log = c.args.log.now in
@@ -35,7 +35,7 @@ returns-in_err-write_steps-clause-tells g c =
     (told-before (Unit {0}) (Unit {0}) log answer (named steps o.log) (named an_answer o.solution) b d (Rose next last) (Rose next last) c.in_err-write_steps.field-0.0 (λ up. up) (c.in_err-write_steps.ensures.tells answer)))
 
 pub returns-clause-tells : goal.returns-clause-tells
-unfolding in_order
+unfolding outputs_in_order
 returns-clause-tells g c =
     let log = c.args.log.now in
     let answer = c.args.answer.now in

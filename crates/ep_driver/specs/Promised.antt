@@ -1,0 +1,46 @@
+-- What a run promises of what it put out: it is true of the texts that the words name.
+--
+-- Of the verdict on a proof, and of a number's own texts, nothing is said here.
+use Rattle.std.specs.Prelude.{◌≡◌, ℕ, ℤ, List, Option, Some, None}
+use Rattle.ep_base.specs.Outside.{Held}
+use Rattle.ep_print.specs.Answers.{AnswerTree, answer_text}
+use Rattle.ep_print.specs.Listings.{ListingTree, listing_text}
+use Rattle.ep_promise.specs.Promise.{AreTrueOf, GivesAssignment, IsSolutionOf, IsTrueOf, Make}
+use Rattle.ep_tree.specs.Binding.{Instance}
+use Rattle.ep_tree.specs.Solutions.{Assigned, a_solution}
+use Rattle.ep_tree.specs.declared.values.Mode.{Mode}
+use Rattle.ep_driver.specs.Answers.{answer_status, judgement_text, listing_status}
+use Rattle.ep_driver.specs.declared.status.Status.{Status}
+use Rattle.ep_driver.specs.declared.wanted.Request.{Request}
+use Rattle.ep_driver.specs.declared.wanted.Wanted.{Wanted}
+
+-- the file of the parameters holds a text; where none is named there is none
+abbrev pub HoldsGiven : Held → Option (List ℕ) → Option (List ℕ) → Type 0
+HoldsGiven held None given = given ≡ None
+HoldsGiven held (Some name) given = (text : List ℕ) × (held name ≡ Some text) × (given ≡ Some text)
+
+-- The files of a model and of its parameters hold texts that make an instance.
+pub record FilesMake (held : Held) (mode : Mode) (model : List ℕ) (params : Option (List ℕ)) (i : Instance) : Type 0 where
+  pub text : List ℕ
+  pub given : Option (List ℕ)
+  pub model_held : held model ≡ Some text
+  pub params_held : HoldsGiven held params given
+  pub make : Make mode text given i
+
+-- What was put out is the text of an answer, or of a list of solutions, that is true of the instance which the files make; or it
+-- says with status 0 that the assignment of a solution text is a solution, and that is so.
+unfoldable pub IsPromised : Held → Wanted → Status → List ℕ → Type 0
+IsPromised held (Wanted.Search model params mode (Request.One conflicts) outputs) status text =
+    (i : Instance) × FilesMake held mode model params i
+    × (answer : AnswerTree) × IsTrueOf mode i answer × (status ≡ answer_status answer) × (text ≡ answer_text answer)
+IsPromised held (Wanted.Search model params mode (Request.Many most conflicts) outputs) status text =
+    (i : Instance) × FilesMake held mode model params i
+    × (listing : ListingTree) × AreTrueOf mode i listing × (status ≡ listing_status listing.ending)
+    × (text ≡ listing_text listing)
+IsPromised held (Wanted.Verify model params mode solution) status text =
+    (i : Instance) × FilesMake held mode model params i
+    × (solution_text : List ℕ) × (held solution ≡ Some solution_text)
+    × (a : Assigned) × GivesAssignment mode i solution_text a
+    × (value : Option ℤ) × IsSolutionOf mode i a value × (status ≡ Status.Answered)
+    × (text ≡ judgement_text (a_solution value))
+IsPromised held _ status text = Unit {0}
