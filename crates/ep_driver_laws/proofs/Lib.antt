@@ -1,0 +1,6 @@
+pub mod TextsRead
+pub mod ClausesRead
+pub mod WordsRead
+pub mod Showing
+pub mod Certified
+pub mod Checking

@@ -1,0 +1,5 @@
+use Rattle.ep_driver_laws.proofs.Showing.{shows}
+use Rattle.ep_driver_laws.proofs.every_command_shows.Goals as goal
+
+pub returns : goal.returns
+returns c = shows
