@@ -15,7 +15,9 @@ p cnf 2 4@1 2 0@1 -2 0@-1 2 0@-1 -2 0@#5 1 0 1 2 0@6 0 5 3 4 0@#$ verified@
 p cnf 2 4@1 2 0@1 -2 0@-1 2 0@-1 -2 0@#5 1 0 1 0@6 0 5 3 4 0@#$ bad step 1@
 p cnf 2 4@1 2 0@1 -2 0@-1 2 0@-1 -2 0@#5 1 0 -1 2 0@6 0 5 3 4 0@#$ bad step 1@
 p cnf 2 4@1 2 0@1 -2 0@-1 2 0@-1 -2 0@#5 1 0 1 6 0@6 0 5 3 4 0@#$ bad step 1@
+p cnf 2 4@1 2 0@1 -2 0@-1 2 0@-1 -2 0@#4 1 0 1 2 0@6 0 5 3 4 0@#$ bad step 1@
 p cnf 2 4@1 2 0@1 -2 0@-1 2 0@-1 -2 0@#5 1 0 1 2 0@#$ no empty clause@
+p cnf 1 4@1 2 0@1 -2 0@-1 2 0@-1 -2 0@#5 1 0 1 2 0@6 0 5 3 4 0@#fault F12 2@
 p cnf 2 4@1 2 0@1 -2 0@-1 2 0@-1 -2 0@#5 1 0 1 2 0@6 x@#fault F13 2@
 p cnf 2 5@1 2 0@1 -2 0@-1 2 0@-1 -2 0@#5 1 0 1 2 0@6 x@#fault F12 5@
 p cnf 0 0##$ no empty clause@
@@ -111,12 +113,16 @@ fn a_written_log_is_checked_against_the_written_formula(rt: HostRuntime) -> Resu
     Ok(())
 }
 
-/// Whether a formula that is written has all these lines' beginnings, with `#` between them, behind an answer.
-fn writes_lines<R: Threads + AllocGlobal>(rt: &R, model: &str, parts: &str) -> Result<bool, Fail> {
+/// Whether a formula that these words write over a model has all these parts, with `#` between them, behind an answer.
+fn writes_parts<R: Threads + AllocGlobal>(
+    rt: &R,
+    words: &str,
+    model: &str,
+    parts: &str,
+) -> Result<bool, Fail> {
     let alloc = rt.alloc();
     let model = text_of(alloc, FIRST_LINE, model)?;
     let mut files = files_of(alloc, &[("m", model.as_bytes())], 0)?;
-    let words = "--task enumerate --in-eprime m --solutions 2 --out-cnf f";
     let said = said_over(rt, words, &mut files)?;
     let text = held_by(&files, "f");
     let has_all = parts.split('#').all(|part| text.contains(part));
@@ -125,8 +131,85 @@ fn writes_lines<R: Threads + AllocGlobal>(rt: &R, model: &str, parts: &str) -> R
 
 #[test]
 fn a_formula_says_how_many_clauses_were_added(rt: HostRuntime) -> Result<(), Fail> {
+    let words = "--task enumerate --in-eprime m --solutions 2 --out-cnf f";
     let parts = "c cell x 1 #c cell x 2 #c cell y 1 #c cell y 2 #c added 2\n";
-    let is_right = writes_lines(&rt, "find x, y : int(1..2)@such that x <= y@", parts)?;
+    let is_right = writes_parts(&rt, words, "find x, y : int(1..2)@such that x <= y@", parts)?;
     assert!(rt; is_right);
+    Ok(())
+}
+
+/// Models, and parts of the formula that is written, of which the last is the header.
+const HEADERS: [(&str, &str); 3] = [
+    (
+        "find a, b : bool@",
+        "c cell a 0 -1\n#c cell b 1 2\n#c added 0\np cnf 2 0\n",
+    ),
+    (
+        "find a, b : bool@such that a@",
+        "c cell b 0 -2\n#c added 0\np cnf 2 1\n1 0\n",
+    ),
+    ("find x : int(1..0)@", "c added 0\np cnf "),
+];
+
+#[test]
+fn a_header_covers_the_notes(rt: HostRuntime) -> Result<(), Fail> {
+    for (model, parts) in HEADERS {
+        let is_right = writes_parts(&rt, "--in-eprime m --out-cnf f", model, parts)?;
+        assert!(rt; is_right, "{model}");
+    }
+    Ok(())
+}
+
+/// Words with every option of a search.
+const OPTIONS: [&str; 2] = [
+    "--task solve --in-eprime m --in-param p --conflicts 1000 --undefined strict --out-cnf f --out-log l --out-solution s",
+    "--task enumerate --in-eprime m --in-param p --solutions 3 --conflicts 1000 --undefined=strict --out-cnf f --out-log l --out-solution s",
+];
+
+/// The three files that words write over a model and its parameters, one behind another.
+fn written_by<R: Threads + AllocGlobal>(rt: &R, words: &str) -> Result<String, Fail> {
+    let alloc = rt.alloc();
+    let model = text_of(
+        alloc,
+        FIRST_LINE,
+        "given n : int(1..9) find x, y : int(0..n) maximising x * 2 - y such that x + y != n, x / (y + 1) < 3@",
+    )?;
+    let params = text_of(alloc, FIRST_LINE, "letting n be 5@")?;
+    let texts = [("m", model.as_bytes()), ("p", params.as_bytes())];
+    let mut files = files_of(alloc, &texts, 0)?;
+    let mut all = said_over(rt, words, &mut files)?;
+    for name in ["f", "l", "s"] {
+        all.push_str(held_by(&files, name))?;
+    }
+    Ok(all)
+}
+
+#[test]
+fn the_same_words_write_the_same_bytes(rt: HostRuntime) -> Result<(), Fail> {
+    for words in OPTIONS {
+        let once = written_by(&rt, words)?;
+        let again = written_by(&rt, words)?;
+        assert!(rt;
+            once.contains("p cnf ") && !once.contains("(no file)"),
+            "{words}"
+        );
+        assert_eq!(rt; once.as_str(), again.as_str());
+    }
+    Ok(())
+}
+
+#[test]
+fn a_log_that_cannot_be_written_leaves_the_formula(rt: HostRuntime) -> Result<(), Fail> {
+    let alloc = rt.alloc();
+    let model = text_of(
+        alloc,
+        FIRST_LINE,
+        "find a, b, c, d : int(1..3)@such that allDiff([a, b, c, d])@",
+    )?;
+    let mut files = files_of(alloc, &[("m", model.as_bytes())], 3)?;
+    let said = said_over(&rt, "--in-eprime m --out-cnf f --out-log l", &mut files)?;
+    assert_eq!(rt; said.as_str(), "device device write l\n");
+    assert!(rt; held_by(&files, "f").contains("\np cnf "));
+    assert_eq!(rt; held_by(&files, "l"), "(no file)");
     Ok(())
 }

@@ -35,6 +35,7 @@ find m : matrix indexed by [int(1..0)] of int(1..0) maximising sum(m)##$ optimum
 find m : matrix indexed by [int(1..0)] of int(1..1000000000) find x : int(1..0)##$ no solution@
 find x : int(1..3) find m : matrix indexed by [int(1..0)] of bool find b : bool minimising x * 2 such that !b##$ optimum 2@letting x be 1@letting m be [; int(1..0)]@letting b be false@
 find x : int(1..3) such that x > 2##$ solution@letting x be 3@
+find x, y : int(0..3) such that x + y = 6, x - y = 0##$ solution@letting x be 3@letting y be 3@
 find x : int(1..3) minimising 5 such that x > 2##$ optimum 5@letting x be 3@
 find x : int(0..3) minimising 6 / x##$ optimum 2@letting x be 3@
 find x : int(0..0) minimising 6 / x##$ no solution@
@@ -86,6 +87,7 @@ forAll j : int(1..3) . forAll a,b : int(1..4) . (a < b) -> !(p[a,j] /\\ p[b,j])#
 const BUDGETS: &str = "\
 --in-eprime m --in-param p#$ no solution@
 --in-eprime m --conflicts 1#$ unknown 1 conflicts@
+--in-eprime m --conflicts=01#$ unknown 1 conflicts@
 --task enumerate --in-eprime m --solutions 10#$ no solution@
 --task enumerate --in-eprime m --solutions 10 --conflicts 1#$ unknown 1 conflicts@";
 
@@ -115,6 +117,7 @@ fn wrong_words<R: Threads + AllocGlobal>(
 }
 
 const REFUSED: &str = "\
+such that 1 < 2 < 3##fault F2 model 2:17@
 given n : int(1..9) where n % 2 = 0#letting n be 3#fault F11 1@
 given n : int(1..9) where n % 2 = 0#letting n be 10#fault F9 n@
 given n : int(1..9) where n % 2 = 0##fault F8 n@
@@ -364,6 +367,7 @@ fn either_answer_will_do(rt: HostRuntime) -> Result<(), Fail> {
 const NO_COMMANDS: &str = "\
 --in-param p
 --in-eprime m --conflicts 0
+--in-eprime m --conflicts -1
 --in-eprime m --solutions 2
 --in-eprime m --in-eprime m
 --task check --in-cnf m
