@@ -11,7 +11,7 @@ TASKS = {
 }
 OPTIONS = sorted({"task", *(it for needs, may in TASKS.values() for it in (*needs.split(), *may))})
 # The launcher's own words: those with a value, those without, and those that stand alone.
-WITH_VALUE, WITHOUT = ("time-limit", "show", "data"), ("stats", "lint")
+WITH_VALUE, WITHOUT = ("time-limit", "show", "names", "data"), ("stats", "lint")
 ALONE = ("help", "version", "prove")
 FORMS = ("grid", "csv", "json", "html")
 # The outputs, in the order in which the program writes them.
@@ -79,6 +79,8 @@ class Command:
                     raise ValueError
             except ValueError:
                 self.faults.append("--time-limit takes a number of seconds above 0, as 30 or 0.5")
+        if "names" in self.own and self.own.get("show") not in ("grid", "html"):
+            self.faults.append("--names goes with --show grid and --show html")
         if self.own.get("show", "grid") not in FORMS:
             near = difflib.get_close_matches(self.own["show"], FORMS, 1)
             self.faults.append("--show takes grid, csv, json or html" + (f": did you mean {near[0]}?" if near else ""))

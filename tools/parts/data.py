@@ -11,6 +11,10 @@ class Fault(Exception):
     """What is wrong with a table, in one line."""
 
 
+class Unread(Fault):
+    """A file can't be read."""
+
+
 def parameters(model, given, files, note=lambda _: None, origins=None):
     """The text of a parameter file: what stands in the one that was given, and then a letting for each value of the tables, which counts where both
     have one. `origins` gets the table of each name."""
@@ -21,7 +25,7 @@ def parameters(model, given, files, note=lambda _: None, origins=None):
             asked[it.token.text] = (len(it.indices), "bool" in [one.text for one in it.element])
     begun = tokens.text_in(given) if given else "language ESSENCE' 1.0\n"
     if begun is None:
-        raise Fault(f"{given} can't be read")
+        raise Unread(f"{given} can't be read")
     has = {it[1].text: it for it in tokens.statements(tokens.tokens_of(begun)) if it[0].text == "letting" and len(it) > 1}
     lines, values = [], {}
     wide = columns_of(text, begun)
@@ -70,8 +74,10 @@ def table(word, asked, wide, note):
     try:
         with open(path, encoding="utf-8-sig", newline="") as it:
             text = it.read()
-    except (OSError, UnicodeDecodeError) as it:
-        raise Fault(f"{path} can't be read: {getattr(it, 'strerror', None) or 'it is no text in UTF-8'}") from None
+    except OSError as it:
+        raise Unread(f"{path} can't be read: {it.strerror}") from None
+    except UnicodeDecodeError:
+        raise Fault(f"{path} is no text in UTF-8") from None
     values = answer_values(path, text, asked)
     if values is None and path.lower().endswith(".json"):
         return json_values(name, path, text)

@@ -12,8 +12,47 @@ def shown(text, form, command=None):
         return text
     path = command.values.get("in-eprime") if command else None
     axes = axes_of(path)
+    answer.names = Names(command.own.get("names") if command else None)
+    if form in ("grid", "html"):
+        answer.blocks = [{name: value for name, value in block.items() if not answer.names.hides(name)} for block in answer.blocks]
     made = {"grid": grid, "csv": table, "json": tree, "html": page}[form](answer, axes, path)
     return made.encode()
+
+
+class Fault(Exception):
+    """What is wrong with a file of names, in one line."""
+
+
+class Names:
+    """The words for indices and values: an object of JSON that has, by a domain's name, a list of words for its indices in order, or an object of words by
+    index; by a decision variable's name an object of words by value, or null where the variable isn't to be shown."""
+
+    def __init__(self, path=None):
+        self.words = {}
+        if path:
+            try:
+                with open(path, encoding="utf-8-sig") as it:
+                    self.words = json.load(it)
+            except (OSError, ValueError) as it:
+                raise Fault(f"--names {path}: {getattr(it, 'strerror', None) or f'it is no JSON: {it}'}") from None
+            if not isinstance(self.words, dict) or not all(it is None or isinstance(it, (list, dict)) for it in self.words.values()):
+                raise Fault(f"--names {path}: an object is wanted, with a list or an object of words for each name")
+
+    def hides(self, name):
+        return name in self.words and self.words[name] is None
+
+    def sides(self, axis, indices):
+        """The words for the indices of a dimension."""
+        found = self.words.get(axis) or {}
+        if isinstance(found, list):
+            found = {str(index): word for index, word in zip(indices, found)}
+        return [str(found.get(str(it), it)) for it in indices]
+
+    def cell(self, name, value, text):
+        """The word for a value of a variable, which is written so without."""
+        found = self.words.get(name.partition("[")[0])
+        key = {True: "true", False: "false"}[value] if isinstance(value, bool) else str(value)
+        return str(found[key]) if isinstance(found, dict) and key in found else text
 
 
 def axes_of(path):
@@ -82,14 +121,16 @@ def grid(answer, axes, _path):
         lines += ["", head] if head else []
         for name, value in block.items():
             if not isinstance(value, Matrix):
-                lines.append(f"{name} = {'true' if value is True else 'false' if value is False else value}")
+                text = "true" if value is True else "false" if value is False else str(value)
+                lines.append(f"{name} = {answer.names.cell(name, value, text)}")
                 continue
             cell = cells_of(value)
             for title, rows_are, columns_are, rows, columns, parts in tables_in(name, value, axes.get(name, [])):
                 sides = [f"rows {rows_are}" if rows_are else "", f"columns {columns_are}" if columns_are else ""]
                 sides = ", ".join(it for it in sides if it)
                 lines += ["", title + (f" ({sides})" if sides else "")]
-                text = [[cell(it) for it in row] for row in parts]
+                text = [[answer.names.cell(name, it, cell(it)) for it in row] for row in parts]
+                rows, columns = answer.names.sides(rows_are, rows), answer.names.sides(columns_are, columns)
                 wide = [max(len(str(column)), *(len(row[at]) for row in text), 1) if text else len(str(column)) for at, column in enumerate(columns)]
                 if len(set(wide)) > 1 and max(wide) <= 3:
                     wide = [max(wide)] * len(wide)
@@ -208,14 +249,14 @@ def page(answer, axes, path):
             out.append(f"<h1>{html.escape(head.capitalize())}</h1>")
         single = {it: value for it, value in block.items() if not isinstance(value, Matrix)}
         if single:
-            out.append("<dl>" + "".join(f"<dt>{html.escape(it)}</dt><dd>{scalar(value)}</dd>" for it, value in single.items()) + "</dl>")
+            out.append("<dl>" + "".join(f"<dt>{html.escape(it)}</dt><dd>{html.escape(answer.names.cell(it, value, str(scalar(value))))}</dd>" for it, value in single.items()) + "</dl>")
         for it, value in block.items():
             if isinstance(value, Matrix):
-                out += html_tables(it, value, axes.get(it, []))
+                out += html_tables(it, value, axes.get(it, []), answer.names)
     return "\n".join(out) + "\n</html>\n"
 
 
-def html_tables(name, value, axes):
+def html_tables(name, value, axes, names):
     """The tables of a matrix."""
     cell = cells_of(value)
     scalars = sorted({it for it in flat(value) if it}, key=int)
@@ -226,12 +267,13 @@ def html_tables(name, value, axes):
         head = f'<th class="corner">{corner}</th>' if has_side else ""
         if not has_side and corner:
             title = f"{title} by {columns_are}"
-        yield f"<section><h2>{html.escape(title)}</h2>\n<table><thead><tr>{head}{''.join(f'<th>{it}</th>' for it in columns)}</tr></thead>\n<tbody>"
-        for index, row in zip(rows, parts):
-            side = f'<th class="side">{index}</th>' if has_side else ""
+        sides = names.sides(rows_are, rows) if has_side else rows
+        yield f"<section><h2>{html.escape(title)}</h2>\n<table><thead><tr>{head}{''.join(f'<th>{html.escape(it)}</th>' for it in names.sides(columns_are, columns))}</tr></thead>\n<tbody>"
+        for index, row in zip(sides, parts):
+            side = f'<th class="side">{html.escape(str(index))}</th>' if has_side else ""
             marks = []
             for it in row:
                 ground = f' style="background:{grounds[it]}"' if it in grounds and it else ' class="off"' if cell(it) in (".", "0") else ""
-                marks.append(f"<td{ground}>{'' if cell(it) == '.' else '✓' if it is True else cell(it)}</td>")
+                marks.append(f"<td{ground}>{html.escape(names.cell(name, it, '' if cell(it) == '.' else '✓' if it is True else cell(it)))}</td>")
             yield f"<tr>{side}{''.join(marks)}</tr>"
         yield "</tbody></table></section>"

@@ -25,7 +25,7 @@ find x, y : int(0..9)
 find M : matrix indexed by [D, D] of bool
 such that x > 2, forAll i, j : D . M[i, j] \\/ (x + y > i), true
 such that x * y = 6, toInt(10 / x > 2) = y, forAll i, j, k : int(1..200) . i + j + k > x
-minimising -x + 2 ** 40
+minimising x + 2 ** 40
 """
         self.file("m.eprime", model)
         self.file("m.param", "letting n be 3\n")

@@ -1,5 +1,5 @@
 """What is told of the crates: which stand on one, and which names have two meanings."""
-import unittest
+import shutil, unittest
 
 from base import ROOT, Case, write
 
@@ -32,10 +32,13 @@ class Crates(Case):
         self.assertEqual((status, out.split("\n")[0][:8]), (0, "0 names "))
 
     def test_which_crates_stand_on_one(self):
-        tool = f"{ROOT}/tools/stands_on"
-        self.assertEqual(self.call(tool, "ep_words")[:2], (0, "ep_driver\nep_cli\nep_driver_tests\n"))
-        self.assertEqual(self.call(tool, "--below", "ep_words")[:2], (0, "ep_base\nep_tree\n"))
+        tool = shutil.copy(f"{ROOT}/tools/stands_on", write(f"{self.folder}/tools/stands_on", ""))
+        write(f"{self.folder}/crates.txt", "# crates\nbase:\nword: base kit\nrun may_wait=2: word\napart: base\nrun_tests: run apart\n")
+        self.assertEqual(self.call(tool, "word")[:2], (0, "run\nrun_tests\n"))
+        self.assertEqual(self.call(tool, "base")[1], "word\nrun\napart\nrun_tests\n")
+        self.assertEqual(self.call(tool, "--below", "run")[:2], (0, "base\nword\n"))
         self.assertIn("has no none", self.call(tool, "none")[2])
+        self.assertIn("\nep_cli\n", self.call(f"{ROOT}/tools/stands_on", "ep_base")[1])
 
 
 if __name__ == "__main__":

@@ -127,6 +127,40 @@ class Show(Case):
             ran = subprocess.run([f"{ROOT}/tools/show", form, words[1]], input=plain[1].encode(), stdout=subprocess.PIPE, check=True)
             self.assertEqual(ran.stdout.decode(), out)
 
+    def test_words_for_indices_and_values(self):
+        model = self.file("m", "language ESSENCE' 1.0\nletting Side be domain int(5..6)\nletting Day be domain int(1..2)\nfind off : matrix indexed by [Side, Day] of bool\nfind late : int(1..3)\nfind helper : matrix indexed by [Day] of int(0..3)\n")
+        text = b"language ESSENCE' 1.0\n$ solution\nletting off be [[true, false; int(1..2)], [false, true; int(1..2)]; int(5..6)]\nletting late be 3\nletting helper be [3, 0; int(1..2)]\n"
+        names = self.file("n.json", '{"Side": ["left", "ri<ght"], "Day": {"2": "Tue"}, "off": {"true": "off"}, "late": {"3": "three"}, "helper": null}')
+        asked = lambda form: command.Command(["--in-eprime", model, "--show", form, "--names", names])
+        self.assertEqual(asked("grid").faults, [])
+        self.assertEqual(showing.shown(text, "grid", asked("grid")).decode(), """solution
+
+off (rows Side, columns Day)
+       |   1 Tue
+-------+--------
+  left | off   .
+ri<ght |   . off
+late = three
+""")
+        page = showing.shown(text, "html", asked("html")).decode()
+        for it in ('<th class="side">ri&lt;ght</th>', "<th>Tue</th>", "off</td>", "<dt>late</dt><dd>three</dd>"):
+            self.assertIn(it, page)
+        self.assertNotIn("helper", page)
+        self.assertIn("--names goes with", asked("json").faults[0])
+        for wrong in ("{", "[1]", '{"Day": 3}'):
+            self.file("n.json", wrong)
+            with self.assertRaises(showing.Fault):
+                showing.shown(text, "grid", asked("grid"))
+        self.file("n.json", "{")
+        words = ["--in-eprime", f"{ROOT}/examples/talks.eprime", "--show", "grid"]
+        status, out, err = self.call(f"{ROOT}/epsat", *words, "--names", names)
+        self.assertEqual((status, out.split("\n")[0]), (0, "language ESSENCE' 1.0"))
+        self.assertIn("it is no JSON", err)
+        words = ["--in-eprime", f"{ROOT}/examples/shifts.eprime", "--in-param", f"{ROOT}/examples/shifts.param", "--show", "grid", "--names", f"{ROOT}/examples/shifts.names.json"]
+        status, out, err = self.call(f"{ROOT}/epsat", *words)
+        self.assertEqual((status, err), (0, ""))
+        self.assertIn(" Dan |", out)
+
 
 class Data(Case):
     MODEL = """language ESSENCE' 1.0
@@ -248,7 +282,7 @@ given cube : matrix indexed by [int(1..n)] of matrix indexed by [int(1..n), int(
         plain = self.call(program(), *words, "--in-param", f"{ROOT}/examples/roster.param")
         self.assertEqual(self.call(f"{ROOT}/epsat", *words, "--in-param", given, "--data", "off.csv"), plain)
         status, out, err = self.call(f"{ROOT}/epsat", *words, "--data", "nothing.csv")
-        self.assertEqual((status, out), (3, ""))
+        self.assertEqual((status, out), (5, ""))
         self.assertIn("nothing.csv can't be read", err)
         self.file("off.csv", "off,1,2,3,4,5\nAnn,1,0,0,0,1\nBen,0,0,1,0,0\n")
         status, out, err = self.call(f"{ROOT}/epsat", *words, "--in-param", given, "--data", "off.csv", EPSAT_EXPLAIN="1")
@@ -261,7 +295,7 @@ given cube : matrix indexed by [int(1..n)] of matrix indexed by [int(1..n), int(
         self.assertEqual((status, err), (0, ""))
         self.assertEqual(out.count("nurse "), 3)
         self.assertIn("with three on day 3: no solution\n", out)
-        self.assertIn("that nothing is said of: fault F9 need\n", out)
+        self.assertIn("that nothing is said of: fault F9 need\ninput - ", out)
 
 
 if __name__ == "__main__":

@@ -89,7 +89,7 @@ class Start(Repository):
             if shutil.which(it):
                 os.symlink(shutil.which(it), f"{tools}/{it}")
         status, out, err = self.call(self.epsat, "a", PATH=tools)
-        self.assertEqual((status, out), (1, ""))
+        self.assertEqual((status, out), (125, ""))
         self.assertEqual(err.count("\n"), 1, err)
         self.assertIn("no command `rt`", err)
         self.assertIn("release", err)
@@ -97,7 +97,7 @@ class Start(Repository):
     def test_sources_that_are_refused_are_told(self):
         write(f"{self.fake}/refuses", "")
         status, out, err = self.call(self.epsat, "a")
-        self.assertEqual((status, out), (1, ""))
+        self.assertEqual((status, out), (125, ""))
         self.assertIn("error: the sources are bad", err)
         self.assertEqual(self.left(), [])
 
@@ -107,7 +107,7 @@ class Start(Repository):
         until("the compiler", lambda: self.calls("clang"))
         write(f"{self.top}/crates/one/src/lib.rt", "fn one() { changed }\n")
         os.remove(f"{self.fake}/waits")
-        self.assertEqual(job.wait(300), 1)
+        self.assertEqual(job.wait(300), 125)
         self.assertIn("the sources changed while the program was built", self.said())
         self.assertEqual((self.put(), self.left(), os.listdir(f"{self.top}/tools/out")), ("", [], ["lock"]))
 

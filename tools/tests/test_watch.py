@@ -1,7 +1,7 @@
 """Watching: what ends a run, which answer is put out then, and what becomes of the files for output. The program is one that does what it is told."""
-import os, pty, signal, subprocess, unittest
+import os, pty, shutil, signal, subprocess, unittest
 
-from base import HANGS, ROOT, Case, program, read, until
+from base import HANGS, ROOT, Case, is_alive, program, read, until
 
 WATCH = os.path.join(ROOT, "tools/watch")
 # Finds 9 within 500 conflicts, 7 within more, and ends with the optimum 7 from as many as ENDS on; without ENDS it then goes on for ever.
@@ -164,6 +164,36 @@ class Watch(Case):
         self.clean()
 
     @unittest.skipUnless(os.path.exists("/dev/full"), "there is no /dev/full here")
+    def test_no_run_outlives_a_command_that_is_killed_and_the_next_one_tidies(self):
+        self.file("stub", STUB.replace('echo "$n" >>"$SEEN"', 'echo "$$" >>"$SEEN"').replace('printf \'%s\\n\' "$text" >"$solution"', 'echo part >"$solution"').replace("    exec sleep 1000", '    echo part >"$solution"; exec sleep 1000'), True)
+        job = self.start(WATCH, self.stub, "--in-eprime", "m", "--time-limit", "100000", "--out-solution", "s", GOES="1")
+        until("both runs, and what they write", lambda: len(self.seen()) >= 2 and len([it for it in os.listdir(self.folder) if it.startswith(".s.")]) >= 2)
+        job.kill()
+        for pid in self.seen():
+            until(f"the end of {pid}", lambda pid=pid: not is_alive(pid))
+        job.wait(HANGS)
+        self.assertEqual(len(self.left()), 1)
+        os.remove(self.env["SEEN"])
+        self.file("stub", STUB, True)
+        self.assertEqual(self.watch("--time-limit", "100000", "--out-solution", "s", ENDS="2000")[:2], (0, OPTIMUM))
+        self.clean()
+
+    def test_files_are_kept_where_there_is_no_answer(self):
+        self.file("stub", "#!/bin/sh\nfor it; do case \"$it\" in --out-cnf=*) echo part >\"${it#*=}\" ;; esac; done\necho device write c\nexit 5\n", True)
+        self.file("c", "good\n")
+        self.assertEqual(self.watch("--show", "json", "--out-cnf=c")[:2], (5, "device write c\n"))
+        self.assertEqual(read(f"{self.folder}/c"), "good\n")
+        self.clean()
+
+    def test_an_explanation_that_fails_changes_no_status(self):
+        tools = shutil.copytree(f"{ROOT}/tools", f"{self.folder}/copy", ignore=shutil.ignore_patterns("out", "__pycache__"))
+        for text in ("raise MemoryError\n", "raise KeyError(1)\n"):
+            self.file("copy/parts/hints.py", text)
+            self.file("stub", "#!/bin/sh\necho memory\nexit 6\n", True)
+            status, out, err = self.call(f"{tools}/watch", self.stub, "--in-eprime", "m", EPSAT_EXPLAIN="1")
+            self.assertEqual((status, out), (6, "memory\n"))
+            self.assertIn("can't be explained", err)
+
     def test_output_that_is_refused_is_status_5(self):
         with open("/dev/full", "wb") as full:
             ran = subprocess.run([WATCH, self.stub, "--in-eprime", "m"], stdout=full, stderr=subprocess.PIPE, cwd=self.folder, env={**self.env, "ENDS": "1", "EPSAT_EXPLAIN": "1"}, check=False)
