@@ -26,7 +26,7 @@ class Command:
 
     def __init__(self, words):
         self.own, self.faults = {"data": []}, []
-        # The table that the value of a parameter comes from, by its name.
+        # Where the values of tables come from, by their names.
         self.tables = {}
         self.words = self.taken(list(words))
         self.values = {}

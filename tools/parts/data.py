@@ -1,5 +1,5 @@
 """Parameters from tables: makes the text of a parameter file of JSON and CSV, as the `given` statements of a model want it."""
-import csv, io, json, os, re
+import bisect, csv, io, json, os, re
 
 import grammar, tokens
 from answers import Answer, Matrix
@@ -11,13 +11,25 @@ class Fault(Exception):
     """What is wrong with a table, in one line."""
 
 
-class Unread(Fault):
+class Unreadable(Fault):
     """A file can't be read."""
+
+
+class Origin:
+    """Where a value comes from: a file, and the place of each of its parts, as a function from positions in its lists, from 0, to words or None."""
+
+    def __init__(self, path, place=lambda at: None):
+        self.path, self.place = path, place
+
+    def told(self, at=()):
+        """The file, with the place of a part where it is known."""
+        place = self.place(at)
+        return f"{self.path}, {place}" if place else self.path
 
 
 def parameters(model, given, files, note=lambda _: None, origins=None):
     """The text of a parameter file: what stands in the one that was given, and then a letting for each value of the tables, which counts where both
-    have one. `origins` gets the table of each name."""
+    have one. `origins` gets the Origin of each name."""
     asked = {}
     text = tokens.text_in(model) if model else None
     for it in tokens.declarations(text) if text else ():
@@ -25,26 +37,27 @@ def parameters(model, given, files, note=lambda _: None, origins=None):
             asked[it.token.text] = (len(it.indices), "bool" in [one.text for one in it.element])
     begun = tokens.text_in(given) if given else "language ESSENCE' 1.0\n"
     if begun is None:
-        raise Unread(f"{given} can't be read")
+        raise Unreadable(f"{given} can't be read")
     has = {it[1].text: it for it in tokens.statements(tokens.tokens_of(begun)) if it[0].text == "letting" and len(it) > 1}
     lines, values = [], {}
     wide = columns_of(text, begun)
     for it in files:
-        for name, value in table(it, asked, wide if text is not None else None, note).items():
+        told, origin = table(it, asked, wide if text is not None else None, note)
+        for name, value in told.items():
             if name in values:
                 raise Fault(f"{it}: `{name}` has a value already, from another table")
             if name in has:
                 note(f"{it}: its `{name}` is taken, and not that of {given}")
                 start, end = has[name][0].at, has[name][-1].at + len(has[name][-1].text)
                 begun = begun[:start] + "".join(one if one == "\n" else " " for one in begun[start:end]) + begun[end:]
+            if origins is not None:
+                origins[name] = origin(name)
             if text is not None and name not in asked:
                 note(f"{it}: the model has no `given {name}`, so its value isn't used")
                 continue
             if not tokens.is_name(name):
                 raise Fault(f"{it}: `{name}` is no name of the language")
             values[name] = value
-            if origins is not None:
-                origins[name] = it
             lines.append(f"letting {name} be {spelled(value, asked.get(name, (0, None))[1], f'{it}: {name}')}\n")
     return begun + ("" if begun.endswith("\n") else "\n") + "".join(lines)
 
@@ -63,7 +76,8 @@ def columns_of(model, params):
 
 
 def table(word, asked, wide, note):
-    """The values of one word of --data, by names: of FILE, NAME=FILE, or NAME=OTHER:FILE. `wide` has what columns_of found, and is None without a model."""
+    """The values of one word of --data, by names: of FILE, NAME=FILE, or NAME=OTHER:FILE; and the Origin of a name. `wide` has what columns_of found, and is None
+    without a model."""
     name, equals, path = word.partition("=")
     if not equals or not tokens.is_name(name):
         name, path = "", word
@@ -74,15 +88,20 @@ def table(word, asked, wide, note):
     try:
         with open(path, encoding="utf-8-sig", newline="") as it:
             text = it.read()
-    except OSError as it:
-        raise Unread(f"{path} can't be read: {it.strerror}") from None
-    except UnicodeDecodeError:
-        raise Fault(f"{path} is no text in UTF-8") from None
+    except (OSError, UnicodeDecodeError) as it:
+        why = getattr(it, "strerror", None)
+        raise Unreadable(f"{path} can't be read: {why}") if why else Fault(f"{path} can't be read: it is no text in UTF-8") from None
     values = answer_values(path, text, asked)
     if values is None and path.lower().endswith(".json"):
-        return json_values(name, path, text)
+        return json_values(name, path, text), lambda it: Origin(path, lambda at: json_place(text, at if name else (it, *at)))
     if values is None:
-        return csv_values(name or os.path.splitext(os.path.basename(path))[0], path, text, asked, wide, note)
+        cells = csv_values(name or os.path.splitext(os.path.basename(path))[0], path, text, asked, wide, note)
+        return {it: halves(cell, 0) for it, cell in cells.items()}, lambda it: Origin(path, lambda at: csv_place(halves(cells[it], 1), at))
+    return answered(name, other, path, values, asked, wide), lambda it: Origin(path)
+
+
+def answered(name, other, path, values, asked, wide):
+    """The values of an answer that are taken."""
     if not name:
         found = {it: value for it, value in values.items() if it in asked or wide is None}
         if not found:
@@ -91,6 +110,47 @@ def table(word, asked, wide, note):
     if (other or name) in values or not other and len(values) == 1:
         return {name: values.get(other or name, next(iter(values.values())))}
     raise Fault(f"{path}: it has no `{other or name}`; it has {names_of(values)}, of which {name}=OTHER:{path} takes one")
+
+
+def halves(made, which):
+    """One half of the pairs of values and places that lists hold."""
+    return [halves(it, which) for it in made] if isinstance(made, list) else made[which]
+
+
+def csv_place(places, at):
+    """The row and the column of a cell, or the row of a list of cells."""
+    for it in at:
+        places = places[it] if isinstance(places, list) and it < len(places) else None
+    if isinstance(places, tuple):
+        return f"row {places[0]}, column {places[1]}"
+    return f"row {places[0][0]}" if at and places and isinstance(places[0], tuple) else None
+
+
+PIECE = re.compile(r'"(?:[^"\\]|\\.)*"|[\[\]{}:,]|[^\s\[\]{}:,"]+')
+
+
+def json_place(text, at):
+    """The line and the column of a part of a text that is JSON, by names and positions."""
+    pieces = PIECE.finditer(text)
+
+    def places(first):
+        """Where a value begins, and its parts."""
+        parts = {}
+        for it in pieces if first.group() in ("[", "{") else ():
+            if it.group() in ("]", "}"):
+                break
+            if it.group() != ",":
+                is_named = first.group() == "{" and next(pieces)
+                parts[json.loads(it.group()) if is_named else len(parts)] = places(next(pieces) if is_named else it)
+        return first.start(), parts
+
+    try:
+        begin, parts = places(next(pieces))
+        for it in at:
+            begin, parts = parts[it]
+    except (KeyError, StopIteration, RecursionError):
+        return None
+    return f"line {text.count(chr(10), 0, begin) + 1}, column {begin - text.rfind(chr(10), 0, begin)}"
 
 
 def names_of(values):
@@ -171,7 +231,7 @@ def rows_of(text):
 
 
 def csv_values(name, path, text, asked, wide_of, note):
-    """The matrix of a name; or, where no `given` has it, a list for each column that is headed by a parameter's name."""
+    """The matrix of a name; or, where no `given` has it, a list for each column that is headed by a parameter's name. Each cell has its place beside it."""
     rows = rows_of(text)
     if not rows:
         raise Fault(f"{path} is empty")
@@ -213,10 +273,10 @@ def csv_values(name, path, text, asked, wide_of, note):
 
 
 def cell(path, row, at, is_bool, number):
-    """A cell's value."""
+    """A cell's value, with its row and column."""
     text = row[at].lower() if at < len(row) else ""
     if is_bool and text in TRUE | FALSE:
-        return text in TRUE
+        return text in TRUE, (number, at + 1)
     if is_value(text):
-        return text == "true" if text[-1] in "efr" else int(text)
+        return text == "true" if text[-1] in "efr" else int(text), (number, at + 1)
     raise Fault(f"{path}, row {number}, column {at + 1}: `{row[at] if at < len(row) else ''}` is no {'truth value' if is_bool else 'whole number'}")

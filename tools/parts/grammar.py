@@ -743,38 +743,43 @@ class Evaluator:
 
 
 class Misfit(Exception):
-    """Why a value doesn't fit its domain, in words."""
+    """Why a value doesn't fit its domain, in words, and which part of it: the positions in its lists, from 0."""
+
+    def __init__(self, why, at=()):
+        super().__init__(why)
+        self.at = at
 
 
-def fitted(value, domain, evaluator, where=""):
+def fitted(value, domain, evaluator, where="", at=()):
     """A value as a domain takes it, with the domain's indices; raises Misfit where it doesn't fit."""
     if domain.kind == "matrix":
         dimensions, element = domain.parts[:-1], domain.parts[-1]
         if not dimensions:
-            return fitted(value, element, evaluator, where)
+            return fitted(value, element, evaluator, where, at)
         indices = evaluator.values(dimensions[0])
         what = f"its entry [{where}]" if where else "it"
         if not isinstance(value, Array):
-            raise Misfit(f"{what} is {'no list' if where else 'a single value'}, and a list of {len(indices)} parts is wanted")
+            raise Misfit(f"{what} is {'no list' if where else 'a single value'}, and a list of {len(indices)} parts is wanted", at)
         if len(value.parts) != len(indices):
-            raise Misfit(f"{what} has {len(value.parts)} parts, and {len(indices)} are wanted: {shortly(indices)}")
+            raise Misfit(f"{what} has {len(value.parts)} parts, and {len(indices)} are wanted: {shortly(indices)}", at)
         rest = Node("matrix", domain.first, domain.token, [*dimensions[1:], element]) if dimensions[1:] else element
-        return Array([fitted(it, rest, evaluator, f"{where}, {index}" if where else str(index)) for it, index in zip(value.parts, indices)], indices)
+        inner = zip(value.parts, indices, range(len(indices)))
+        return Array([fitted(it, rest, evaluator, f"{where}, {index}" if where else str(index), (*at, number)) for it, index, number in inner], indices)
     what = f"its entry [{where}]" if where else "it"
     if isinstance(value, Array):
-        raise Misfit(f"{what} is a list of {len(value.parts)} parts, and a single value is wanted")
+        raise Misfit(f"{what} is a list of {len(value.parts)} parts, and a single value is wanted", at)
     if domain.kind == "bool" and not isinstance(value, bool):
-        raise Misfit(f"{what} is {value}, and a truth value is wanted: `true` or `false`")
+        raise Misfit(f"{what} is {value}, and a truth value is wanted: `true` or `false`", at)
     if domain.kind == "int" and any(None in it.parts for it in domain.parts) or domain.kind == "int" and not domain.parts:
         for it in domain.parts:
             low, high = (evaluator.number(one) if one is not None else None for one in it.parts)
             if (low is None or low <= value) and (high is None or value <= high):
                 return value
         if domain.parts:
-            raise Misfit(f"{what} is {int(value)}, outside of its domain")
+            raise Misfit(f"{what} is {int(value)}, outside of its domain", at)
         return value
     if domain.kind != "bool" and int(value) not in evaluator.values(domain):
-        raise Misfit(f"{what} is {int(value)}, and the domain is {shortly(evaluator.values(domain))}")
+        raise Misfit(f"{what} is {int(value)}, and the domain is {shortly(evaluator.values(domain))}", at)
     return value
 
 
@@ -816,7 +821,7 @@ class Instance:
                                 try:
                                     names[name.text] = fitted(given.names[name.text], group.domain, self.evaluator)
                                 except Misfit as why:
-                                    self.misfits[name.text] = str(why)
+                                    self.misfits[name.text] = why
                 elif it.kind == "letting":
                     names[it.names[0].text] = self.evaluator.of(it.parts[0])
                 elif it.kind == "domain":

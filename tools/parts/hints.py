@@ -172,21 +172,45 @@ def unclosed(text, row, column):
     return f"the bracket `{opened[-1].text}` in line {opened[-1].line}, column {opened[-1].column}, isn't closed" if opened else None
 
 
+def measured(command):
+    """The texts of an instance, the instance, and what was measured of it where the program that does so is built."""
+    model, params = texts(command)
+    program = measuring.program() if model else None
+    return model, grammar.Instance(model, params) if model else None, measuring.measured(program, command) if program else {}, program
+
+
+def wide(kind, instance):
+    """The decision variables with many values, or of L4 cells: how many, the name, and what is said of it."""
+    for cells, values, name in grammar.widest(instance):
+        count = cells * (1 if kind == "L4" else values)
+        if count > 100_000:
+            yield count, name, f"`{name.text}` has {cells:,} cell{'s' * (cells != 1)} with {values:,} values each"
+
+
 def of_limit(kind, command):
     """What in the instance is largest: measured where the program that does so is built, else estimated."""
-    model, params = texts(command)
+    model, instance, found, program = measured(command)
     if not model:
         return []
-    instance = grammar.Instance(model, params)
-    program = measuring.program()
-    found = measuring.measured(program, command) if program else {}
     made = measuring.told(model, instance, found, kind, 1_000)
-    for cells, values, name in grammar.widest(instance):
-        if cells * (1 if kind == "L4" else values) > 100_000:
-            made.append(f"line {name.line} of the model: `{name.text}` has {cells:,} cell{'s' * (cells != 1)} with {values:,} values each")
+    made += [f"line {name.line} of the model: {said}" for _, name, said in wide(kind, instance)]
     if not program and made:
         made.append("numbers of nodes are estimates here: `tools/heaviest MODEL PARAMETERS` measures (it is built first, once, in a minute or two)")
+    elif not program:
+        made.append("`tools/heaviest MODEL PARAMETERS` tells which statement is the heaviest, and its weight (it is built first, once, in a minute or two)")
     return made
+
+
+def largest_at(kind, command):
+    """The place of what is largest in an instance that passes a limit, a token, and what is said of it; or None."""
+    model, instance, found, _ = measured(command)
+    if not model:
+        return None
+    most = {"L4": measuring.SIZE, "L6": measuring.WEIGHT}.get(kind, 0)
+    parts = [(it.node.first, f"{it.told()}: {measuring.shortly(model, it.node)}") for it in measuring.largest(measuring.parts(instance, found), kind, 0)]
+    names = [(count, name, said) for count, name, said in wide(kind, instance)]
+    # A variable that passes the limit by itself is why clauses over it do.
+    return next(((name, said) for count, name, said in names if most and count > most), None) or next(iter(parts), None) or next(((name, said) for _, name, said in names), None)
 
 
 def of_unknown(text, row, name):
@@ -251,17 +275,22 @@ def of_name(fault, name, command):
         asked = {it.token.text for it in tokens.declarations(model) if it.kind == "given"}
         spare = [it.token.text for it in tokens.declarations(params or "") if it.token.text not in asked]
         near = difflib.get_close_matches(name, spare, 1) or spare[:1]
+        others = difflib.get_close_matches(name, [it for it in command.tables if it not in asked], 1)
         if params is None:
             hints.append("the command names no parameter file: --in-param FILE, or --data FILE for a table")
+        elif others:
+            hints.append(f"{command.tables[others[0]].told()} has `{others[0]}`, for which the model doesn't ask: did you mean `{name}`?")
         elif near:
             hints.append(f"the parameters have `{near[0]}`, for which the model doesn't ask: did you mean `{name}`?")
+        elif command.tables:
+            hints.append(f"no table has it: {', '.join(dict.fromkeys(it.path for it in command.tables.values()))}")
     if fault == "F9":
         letting = place_of(params or "", ("letting",), name)
+        why = grammar.Instance(model, params).misfits.get(name)
         if name in command.tables:
-            hints.append(f"its value comes from the table {command.tables[name]}")
+            hints.append(f"its value comes from the table {command.tables[name].told(why.at if why else ())}")
         elif letting:
             hints.append(f"line {letting[0]} of the parameters: {params.splitlines()[letting[0] - 1].strip()[:WIDTH]}")
-        why = grammar.Instance(model, params).misfits.get(name)
         hints += [f"`{name}`: {why}"] if why else []
     return hints
 

@@ -1,7 +1,7 @@
 """The parts of an instance that are largest: measured by a program over the measuring crate (measures.rattle) where it is built, else estimated from the texts."""
 import os, re, subprocess, sys
 
-import grammar
+import children, grammar
 
 ROOT = os.path.dirname(os.path.dirname(os.path.dirname(os.path.realpath(__file__))))
 # The limits of size and of weight, and how many seconds measuring may take; what is measured by then counts.
@@ -24,7 +24,7 @@ def measured(path, command, seconds=SECONDS):
     words = [command.values.get("undefined", "relational"), command.values["in-eprime"]]
     words += [command.values["in-param"]] if "in-param" in command.values else []
     try:
-        text = subprocess.run([path, *words], stdin=subprocess.DEVNULL, stdout=subprocess.PIPE, stderr=subprocess.DEVNULL, timeout=seconds, check=False).stdout
+        text = subprocess.run([path, *words], stdin=subprocess.DEVNULL, stdout=subprocess.PIPE, stderr=subprocess.DEVNULL, timeout=seconds, preexec_fn=children.bound(), check=False).stdout
     except subprocess.TimeoutExpired as it:
         text = it.stdout or b""
     except OSError:
@@ -79,13 +79,18 @@ def largest(every, kind, least):
     return [it for it in ordered if it.said == kind or it.rank(kind)[1] > max(least, most // 200)]
 
 
+def shortly(text, node):
+    """What a part says, of a long one its beginning."""
+    said = grammar.spelled(text, node)
+    return said if len(said) <= 90 else said[:86] + " .."
+
+
 def told(text, instance, found, kind, least=0):
     """Lines on the largest parts of an instance, for a limit; none on parts that aren't larger than so much."""
     every = parts(instance, found)
     made = []
     for it in largest(every, kind, least):
-        said = grammar.spelled(text, it.node)
-        made.append(f"line {it.node.first.line} of the model, {it.told()}: {said if len(said) <= 90 else said[:86] + ' ..'}")
+        made.append(f"line {it.node.first.line} of the model, {it.told()}: {shortly(text, it.node)}")
     sizes = [it.said for it in every]
     if len(sizes) > 1 and all(isinstance(it, tuple) for it in sizes):
         made.append(f"all {len(sizes):,} parts together have {sum(it[0] for it in sizes):,} nodes and weigh {sum(it[1] for it in sizes):,}")

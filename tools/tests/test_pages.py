@@ -3,6 +3,7 @@ import json, os, re, subprocess, unittest
 
 from base import ROOT, Case, read
 from command import ALONE, OPTIONS, WITH_VALUE, WITHOUT
+import showing
 from tokens import RESERVED
 
 
@@ -40,6 +41,21 @@ class Pages(Case):
         for page in ["README.md", "CONTRIBUTING.md", "CHANGELOG.md", *(f"docs/{it}" for it in os.listdir(f"{ROOT}/docs") if it.endswith(".md")), "examples/README.md", "editors/README.md"]:
             for name in re.findall(r"`((?:docs|examples|tools|editors|crates|\.ci)/[\w./-]*[\w])`", read(f"{ROOT}/{page}")):
                 self.assertTrue(os.path.exists(f"{ROOT}/{name}") or name.startswith("tools/out"), f"{page} names {name}")
+
+    def test_what_is_said_to_stay_is_what_there_is(self):
+        stays = read(f"{ROOT}/docs/FORMATS.md").partition("## What stays\n")[2].partition("\n## ")[0]
+        said = next(it for it in stays.split("\n") if it.startswith("- **JSON**"))
+        made = {}
+        for text in ("$ optimum 1\nletting x be [1; int(1..1)]", "$ unknown 3 conflicts\n$ incumbent 1\nletting x be 1", "$ solution 1\nletting x be 1\n$ complete"):
+            made.update(json.loads(showing.shown(f"language ESSENCE' 1.0\n{text}\n".encode(), "json")))
+        self.assertEqual(set(re.findall("`([a-z]+)`", said)), set(made))
+
+    def test_pages_have_the_same_statuses(self):
+        table = read(f"{ROOT}/README.md").partition("| Status | What was put out |")[2].partition("\n\n")[0]
+        statuses = {int(it) for row in re.findall(r"(?m)^\| ([0-9, ]+) \|", table) for it in row.split(", ")}
+        self.assertEqual(statuses, {*range(8), 124, 127, 129, 130, 143})
+        help_of = read(f"{ROOT}/docs/HELP.txt").partition("WHAT ENDS IT")[2]
+        self.assertEqual({int(it) for it in re.findall(r"(?:^|  )([0-9]+)  [a-z]", help_of, re.M)}, statuses - {129, 130, 143})
 
     def test_the_readme_is_short(self):
         self.assertLessEqual(read(f"{ROOT}/README.md").count("\n"), 160)

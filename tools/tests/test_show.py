@@ -1,8 +1,8 @@
 """Reading answers and giving data: the forms of --show, the tables of --data, and the call from Python."""
-import csv, io, json, os, re, subprocess, sys, unittest
+import csv, importlib.util, io, json, os, re, subprocess, sys, unittest, unittest.mock
 from html.parser import HTMLParser
 
-from base import ROOT, Case, program
+from base import ROOT, Case, is_alive, program, read, until
 from answers import Answer, Matrix, value_of
 import command, data, showing
 
@@ -290,12 +290,71 @@ given cube : matrix indexed by [int(1..n)] of matrix indexed by [int(1..n), int(
         self.assertIn("epsat: its value comes from the table off.csv\nepsat: `off`: it has 2 parts, and 3 are wanted", err)
         self.assertEqual(self.left(), [])
 
+    def test_faults_of_values_have_places_in_their_tables(self):
+        given = self.file("p", "letting nurses be 3\nletting days be 5\nletting most be 4\nletting need be [2, 1, 2, 2, 1]\n")
+        words = [f"{ROOT}/epsat", "--in-eprime", f"{ROOT}/examples/roster.eprime", "--in-param", given]
+        said = lambda *files: self.call(*words, *(f"--data={it}" for it in files), EPSAT_EXPLAIN="1")
+        self.file("need.csv", "day,need\n\nmon,2\ntue,9\nwed,1\nthu,1\nfri,1\n")
+        self.file("off.csv", "off,1,2,3,4,5\nAnn,1,0,0,0,1\nBen,0,0,1,0\nCleo,0,1,0,1,0\n")
+        self.assertIn("need.csv, row 4, column 2\nepsat: `need`: its entry [2] is 9", said("need.csv")[2])
+        self.file("n.json", '{"most": 3,\n "need": [2, 2,\n   2, 9, 1], "nurses": 3, "of": [true]}')
+        status, out, err = said("n.json")
+        self.assertEqual((status, out), (3, "fault F9 need\n"))
+        self.assertIn("n.json, line 3, column 7\nepsat: `need`: its entry [4] is 9", err)
+        self.file("n.json", '[2, 2, 2, 9, 1]')
+        self.assertIn("n.json, line 1, column 11\n", said("need=n.json")[2])
+        self.file("n.json", '{"most": 3, "of": [true]}')
+        status, out, err = said("n.json")
+        self.assertEqual((status, out), (3, "fault F8 off\n"))
+        self.assertIn("n.json, line 1, column 19 has `of`, for which the model doesn't ask: did you mean `off`?", err)
+        self.file("n.json", '{"most": 3}')
+        self.assertIn("no table has it: n.json\n", said("n.json")[2])
+        self.assertEqual(said("off.csv")[0], 3)
+        self.file("n.json", '{"most": 99}')
+        self.assertIn("n.json, line 1, column 10\n", said("n.json")[2])
+        for path in (self.folder, "missing.json", "missing.csv"):
+            self.assertEqual(said(path)[:2], (5, ""))
+        with open(f"{self.folder}/bytes.csv", "wb") as it:
+            it.write(b"\xff\xfe1\n")
+        self.assertEqual(said("bytes.csv")[:2], (3, ""))
+
     def test_it_is_called_from_python(self):
         status, out, err = self.call(sys.executable, f"{ROOT}/examples/call.py")
         self.assertEqual((status, err), (0, ""))
         self.assertEqual(out.count("nurse "), 3)
         self.assertIn("with three on day 3: no solution\n", out)
-        self.assertIn("that nothing is said of: fault F9 need\ninput - ", out)
+        self.assertIn("that nothing is said of: input, status 3, fault F9 need\n", out)
+        self.assertIn("half a nurse: input, status 3, no line\n", out)
+        self.assertIn("nurses: 2.5 is no whole number", out)
+
+    def test_a_call_from_python_tells_kinds_of_refusals_apart(self):
+        spec = importlib.util.spec_from_file_location("call", f"{ROOT}/examples/call.py")
+        call = importlib.util.module_from_spec(spec)
+        spec.loader.exec_module(call)
+        self.addCleanup(os.environ.update, {"TMPDIR": os.environ.get("TMPDIR", "/tmp")})
+        os.environ["TMPDIR"] = self.room
+        for does, kind, status, line in (
+            ("echo fault usage; exit 2", "words", 2, "fault usage"), ("echo fault F9 need; exit 3", "input", 3, "fault F9 need"), ("echo limit L6; exit 4", "too large", 4, "limit L6"),
+            ("echo device read m; exit 5", "device", 5, "device read m"), ("echo memory; exit 6", "memory", 6, "memory"), ("exit 124", "time", 124, ""), ("exit 127", "start", 127, ""),
+            # What the system's own loader ends with, and a program that is killed.
+            ("exit 1", "start", 1, ""), ("kill -SEGV $$", "ended", -11, ""),
+        ):
+            call.EPSAT = self.file("epsat", f"#!/bin/sh\necho epsat: why >&2\n{does}\n", True)
+            with self.assertRaises(call.Refused) as it:
+                call.solve("m", {"n": 1}, "--conflicts=3")
+            self.assertEqual((it.exception.kind, it.exception.status, it.exception.line, it.exception.reason), (kind, status, line, "why"))
+        call.EPSAT = self.file("epsat", '#!/bin/sh\necho "$@" >>asked\necho "$EPSAT_EXPLAIN" >>asked\necho \'{"status": "unknown", "conflicts": 3}\'\nexit 1\n', True)
+        self.addCleanup(os.chdir, os.getcwd())
+        os.chdir(self.folder)
+        self.assertEqual(call.solve("m", {"n": 1}, "--conflicts=3", seconds=7), {"status": "unknown", "conflicts": 3})
+        self.assertRegex(read("asked"), r"^--in-eprime=m --data=\S+\.json --show=json --time-limit=7 --conflicts=3\n1\n$")
+        # One that hears neither its time limit nor TERM.
+        call.EPSAT = self.file("epsat", "#!/bin/sh\ntrap '' TERM\nsleep 1000 &\necho $! >pid\nwhile :; do sleep 0.1; done\n", True)
+        with unittest.mock.patch.object(call, "GRACE", 0.5), self.assertRaises(call.Refused) as it:
+            call.solve("m", {"n": 1}, seconds=0.1)
+        self.assertEqual((it.exception.kind, it.exception.status), ("ended", -9))
+        until("the end of what it started", lambda: not is_alive(int(read("pid"))))
+        self.assertEqual(self.left(), [])
 
 
 if __name__ == "__main__":

@@ -89,15 +89,37 @@ class Start(Repository):
             if shutil.which(it):
                 os.symlink(shutil.which(it), f"{tools}/{it}")
         status, out, err = self.call(self.epsat, "a", PATH=tools)
-        self.assertEqual((status, out), (125, ""))
+        self.assertEqual((status, out), (127, ""))
         self.assertEqual(err.count("\n"), 1, err)
         self.assertIn("no command `rt`", err)
         self.assertIn("release", err)
 
+    def test_what_cannot_start_has_a_status_that_no_answer_has(self):
+        tools = f"{self.folder}/bin"
+        os.mkdir(tools)
+        for it in ("bash", "readlink", "find", "env"):
+            os.symlink(shutil.which(it), f"{tools}/{it}")
+        self.assertEqual(self.call(self.epsat, "a", PATH=tools), (127, "", "epsat: python3 isn't here, and the program isn't built without it\n"))
+        self.call(self.epsat, "a")
+        self.assertEqual(self.call(self.epsat, "a", PATH=tools), (0, "unproved a\n", ""))
+        for own in ("--show=json", "--stats", "--lint", "--data=a", "--time-limit=3"):
+            self.assertEqual(self.call(self.epsat, own, PATH=tools), (127, "", f"epsat: {own.partition('=')[0]} needs python3, which isn't here\n"))
+        # A program that the system doesn't start.
+        bad = self.file("bad", "\x7fELF no program", True)
+        for more in ([], ["--stats"]):
+            status, out, err = self.call(self.epsat, "a", *more, EPSAT_BUILT=bad)
+            self.assertEqual((status, out), (127, ""))
+            self.assertIn("Exec format error" if more else "cannot execute", err)
+            self.assertNotIn("Traceback", err)
+        shutil.rmtree(f"{self.top}/tools/out")
+        self.file("top/tools/out", "in the way")
+        status, out, err = self.call(self.epsat, "a")
+        self.assertEqual((status, out, err.count("\n")), (127, "", 1), err)
+
     def test_sources_that_are_refused_are_told(self):
         write(f"{self.fake}/refuses", "")
         status, out, err = self.call(self.epsat, "a")
-        self.assertEqual((status, out), (125, ""))
+        self.assertEqual((status, out), (127, ""))
         self.assertIn("error: the sources are bad", err)
         self.assertEqual(self.left(), [])
 
@@ -107,7 +129,7 @@ class Start(Repository):
         until("the compiler", lambda: self.calls("clang"))
         write(f"{self.top}/crates/one/src/lib.rt", "fn one() { changed }\n")
         os.remove(f"{self.fake}/waits")
-        self.assertEqual(job.wait(300), 125)
+        self.assertEqual(job.wait(300), 127)
         self.assertIn("the sources changed while the program was built", self.said())
         self.assertEqual((self.put(), self.left(), os.listdir(f"{self.top}/tools/out")), ("", [], ["lock"]))
 

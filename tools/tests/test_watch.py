@@ -1,5 +1,5 @@
 """Watching: what ends a run, which answer is put out then, and what becomes of the files for output. The program is one that does what it is told."""
-import os, pty, shutil, signal, subprocess, unittest
+import errno, importlib.machinery, importlib.util, os, pty, resource, shutil, signal, subprocess, sys, unittest, unittest.mock
 
 from base import HANGS, ROOT, Case, is_alive, program, read, until
 
@@ -163,7 +163,84 @@ class Watch(Case):
         self.assertEqual(self.call(WATCH, killed, "--in-eprime", "m", "--stats")[:2], (139, ""))
         self.clean()
 
-    @unittest.skipUnless(os.path.exists("/dev/full"), "there is no /dev/full here")
+    def test_what_goes_wrong_behind_the_program_s_end_changes_nothing(self):
+        ends = self.file("ends", "#!/bin/sh\necho memory\nexit 6\n", True)
+        tools = f"{self.folder}/tools"
+        shutil.copytree(f"{ROOT}/tools", tools, ignore=shutil.ignore_patterns("out", "tests", "__pycache__"))
+        words = [f"{tools}/watch", ends, "--in-eprime", "m", "--stats"]
+        self.assertEqual(self.call(*words)[:2], (6, "memory\n"))
+        for fault in ("raise MemoryError", "raise RecursionError", "1 / 0", "def explain"):
+            with open(f"{tools}/parts/hints.py", "w", encoding="utf-8") as it:
+                it.write(f"{fault}\n")
+            status, out, err = self.call(*words, EPSAT_EXPLAIN="1")
+            self.assertEqual((status, out), (6, "memory\n"))
+            self.assertNotIn("Traceback", err)
+        # An answer that can't be brought into its form isn't put out in another one.
+        for fault, status, out in (("raise MemoryError", 6, "memory\n"), ("1 / 0", 127, "")):
+            with open(f"{tools}/parts/showing.py", "w", encoding="utf-8") as it:
+                it.write(f"{fault}\n")
+            found = self.call(f"{tools}/watch", self.stub, "--in-eprime", "m", "--show", "json", "--out-solution", "s", ENDS="1")
+            self.assertEqual(found[:2], (status, out))
+            self.assertNotIn("Traceback", found[2])
+            self.assertFalse(os.path.exists(f"{self.folder}/s"))
+        self.clean()
+
+    def test_little_memory_is_no_answer(self):
+        ends = self.file("ends", "#!/bin/sh\necho memory\nexit 6\n", True)
+        # Python itself wants some 13 MB; with less nothing of this is reached.
+        for megabytes in (16, 18, 20, 24, 30):
+            bound = lambda most=megabytes << 20: resource.setrlimit(resource.RLIMIT_AS, (most, most))
+            words = [sys.executable, "-IS", WATCH, ends, "--in-eprime", "m", "--show", "json"]
+            ran = subprocess.run(words, stdout=subprocess.PIPE, stderr=subprocess.PIPE, cwd=self.folder, env={**self.env, "EPSAT_EXPLAIN": "1"}, preexec_fn=bound, check=False)
+            self.assertIn((ran.returncode, ran.stdout), ((6, b"memory\n"), (127, b"")))
+            self.assertNotIn(b"Traceback", ran.stderr)
+
+    def test_nothing_goes_on_where_the_launcher_is_killed(self):
+        runs = self.file("runs", '#!/bin/sh\necho $$ >>"$SEEN"\nexec sleep 1000\n', True)
+        for words, count in ((["--time-limit", "100000"], min(2, len(os.sched_getaffinity(0)))), (["--show", "json"], 1), (["--lint"], 1)):
+            job = self.start(WATCH, runs, "--in-eprime", "m", *words)
+            until("the runs", lambda count=count: len(self.seen()) == count)
+            job.kill()
+            self.assertEqual(job.wait(HANGS), -signal.SIGKILL)
+            for it in self.seen():
+                until(f"the end of {it}", lambda it=it: not is_alive(it))
+            os.remove(self.env["SEEN"])
+
+    def test_a_write_that_fails_leaves_what_stood_there(self):
+        fails = self.file("fails", """#!/bin/sh
+for word; do case "$word" in --out-cnf=*) cnf="${word#*=}" ;; esac; done
+echo "a part" >"$cnf"
+echo "device write $cnf"
+exit 5
+""", True)
+        for words in (["--show", "json"], ["--stats"], ["--time-limit", "100000"]):
+            self.assertEqual(self.call(WATCH, fails, "--in-eprime", "m", "--out-cnf=c", *words)[:2], (5, "device write c\n"))
+            self.assertFalse(os.path.exists(f"{self.folder}/c"))
+            self.file("c", "good\n")
+            self.assertEqual(self.call(WATCH, fails, "--in-eprime", "m", "--out-cnf=c", *words)[:2], (5, "device write c\n"))
+            self.assertEqual(read(f"{self.folder}/c"), "good\n")
+            os.remove(f"{self.folder}/c")
+            self.clean()
+
+    def test_what_is_copied_over_a_file_has_room_first(self):
+        spec = importlib.util.spec_from_loader("watch", importlib.machinery.SourceFileLoader("watch", WATCH))
+        watch, before = importlib.util.module_from_spec(spec), sys.excepthook
+        spec.loader.exec_module(watch)
+        sys.excepthook = before
+        part, to = self.file("part", "new\n"), self.file("to", "an older text\n")
+        os.link(to, f"{self.folder}/same")
+        refused = OSError(errno.ENOSPC, "No space left on device")
+        with unittest.mock.patch("os.posix_fallocate", side_effect=refused), self.assertRaises(OSError):
+            watch.copy_over(part, to)
+        self.assertEqual(read(to), "an older text\n")
+        watch.copy_over(part, to)
+        self.assertEqual((read(to), read(f"{self.folder}/same")), ("new\n", "new\n"))
+        watch.copy_over(part, "/dev/null")
+
+    def test_standard_error_that_is_closed_changes_nothing(self):
+        words = f"'{WATCH}' '{self.stub}' --in-eprime m --stats --time-limit 100000 2>&-"
+        self.assertEqual(self.call("sh", "-c", words, ENDS="1")[:2], (0, OPTIMUM))
+
     def test_no_run_outlives_a_command_that_is_killed_and_the_next_one_tidies(self):
         self.file("stub", STUB.replace('echo "$n" >>"$SEEN"', 'echo "$$" >>"$SEEN"').replace('printf \'%s\\n\' "$text" >"$solution"', 'echo part >"$solution"').replace("    exec sleep 1000", '    echo part >"$solution"; exec sleep 1000'), True)
         job = self.start(WATCH, self.stub, "--in-eprime", "m", "--time-limit", "100000", "--out-solution", "s", GOES="1")
@@ -178,22 +255,7 @@ class Watch(Case):
         self.assertEqual(self.watch("--time-limit", "100000", "--out-solution", "s", ENDS="2000")[:2], (0, OPTIMUM))
         self.clean()
 
-    def test_files_are_kept_where_there_is_no_answer(self):
-        self.file("stub", "#!/bin/sh\nfor it; do case \"$it\" in --out-cnf=*) echo part >\"${it#*=}\" ;; esac; done\necho device write c\nexit 5\n", True)
-        self.file("c", "good\n")
-        self.assertEqual(self.watch("--show", "json", "--out-cnf=c")[:2], (5, "device write c\n"))
-        self.assertEqual(read(f"{self.folder}/c"), "good\n")
-        self.clean()
-
-    def test_an_explanation_that_fails_changes_no_status(self):
-        tools = shutil.copytree(f"{ROOT}/tools", f"{self.folder}/copy", ignore=shutil.ignore_patterns("out", "__pycache__"))
-        for text in ("raise MemoryError\n", "raise KeyError(1)\n"):
-            self.file("copy/parts/hints.py", text)
-            self.file("stub", "#!/bin/sh\necho memory\nexit 6\n", True)
-            status, out, err = self.call(f"{tools}/watch", self.stub, "--in-eprime", "m", EPSAT_EXPLAIN="1")
-            self.assertEqual((status, out), (6, "memory\n"))
-            self.assertIn("can't be explained", err)
-
+    @unittest.skipUnless(os.path.exists("/dev/full"), "there is no /dev/full here")
     def test_output_that_is_refused_is_status_5(self):
         with open("/dev/full", "wb") as full:
             ran = subprocess.run([WATCH, self.stub, "--in-eprime", "m"], stdout=full, stderr=subprocess.PIPE, cwd=self.folder, env={**self.env, "ENDS": "1", "EPSAT_EXPLAIN": "1"}, check=False)
