@@ -106,6 +106,20 @@ def tables_in(name, value, axes):
             yield from tables_in(label, part, axes[1:])
 
 
+# Lists with more parts than this stand upright, those over the same indices side by side.
+LONG = 20
+
+
+def upright(block, axes):
+    """The lists of a solution that are too long for a row, in groups of those that stand side by side: names, the indices' name, and the indices."""
+    groups = {}
+    for name, value in block.items():
+        if isinstance(value, Matrix) and len(value.dimensions()) == 1 and len(value.indices) > LONG:
+            axis = (axes.get(name) or [""])[0]
+            groups.setdefault((axis, tuple(value.indices)), []).append(name)
+    return [(names, axis, list(indices)) for (axis, indices), names in groups.items()]
+
+
 def blocks_of(answer):
     """The solutions of an answer, each with what is said above it."""
     heads = [it for it in answer.notes if it.startswith("solution ")] if answer.is_list else []
@@ -119,7 +133,18 @@ def grid(answer, axes, _path):
     lines = [f"{it}: the best that was found, and there may be better ones" if it.startswith("incumbent ") else it for it in lines]
     for head, block in blocks_of(answer):
         lines += ["", head] if head else []
+        long = upright(block, axes)
+        for names, axis, indices in long:
+            cells = {name: cells_of(block[name]) for name in names}
+            rows = [[side, *(answer.names.cell(name, it, cells[name](it)) for name, it in zip(names, row))]
+                    for side, row in zip(answer.names.sides(axis, indices), zip(*(block[name].parts for name in names)))]
+            heads = [axis, *names]
+            wide = [max(len(heads[at]), *(len(row[at]) for row in rows)) for at in range(len(heads))]
+            lines += ["", " | ".join(f"{it:>{w}}" for it, w in zip(heads, wide)), "-+-".join("-" * w for w in wide)]
+            lines += [" | ".join(f"{it:>{w}}" for it, w in zip(row, wide)) for row in rows]
         for name, value in block.items():
+            if any(name in names for names, _, _ in long):
+                continue
             if not isinstance(value, Matrix):
                 text = "true" if value is True else "false" if value is False else str(value)
                 lines.append(f"{name} = {answer.names.cell(name, value, text)}")
@@ -250,8 +275,16 @@ def page(answer, axes, path):
         single = {it: value for it, value in block.items() if not isinstance(value, Matrix)}
         if single:
             out.append("<dl>" + "".join(f"<dt>{html.escape(it)}</dt><dd>{html.escape(answer.names.cell(it, value, str(scalar(value))))}</dd>" for it, value in single.items()) + "</dl>")
+        long = upright(block, axes)
+        for names, axis, indices in long:
+            cells = {it: cells_of(block[it]) for it in names}
+            out.append(f"<section><h2>{html.escape(', '.join(names))}</h2>\n<table><thead><tr><th class=\"corner\">{html.escape(axis)}</th>{''.join(f'<th>{html.escape(it)}</th>' for it in names)}</tr></thead>\n<tbody>")
+            for side, row in zip(answer.names.sides(axis, indices), zip(*(block[it].parts for it in names))):
+                marks = "".join(f"<td>{html.escape(answer.names.cell(it, value, cells[it](value)))}</td>" for it, value in zip(names, row))
+                out.append(f'<tr><th class="side">{html.escape(side)}</th>{marks}</tr>')
+            out.append("</tbody></table></section>")
         for it, value in block.items():
-            if isinstance(value, Matrix):
+            if isinstance(value, Matrix) and not any(it in names for names, _, _ in long):
                 out += html_tables(it, value, axes.get(it, []), answer.names)
     return "\n".join(out) + "\n</html>\n"
 

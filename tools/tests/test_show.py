@@ -127,6 +127,18 @@ class Show(Case):
             ran = subprocess.run([f"{ROOT}/tools/show", form, words[1]], input=plain[1].encode(), stdout=subprocess.PIPE, check=True)
             self.assertEqual(ran.stdout.decode(), out)
 
+    def test_long_lists_stand_upright_side_by_side(self):
+        model = self.file("m", "language ESSENCE' 1.0\nletting Lecture be domain int(1..21)\nfind at, room : matrix indexed by [Lecture] of int(0..99)\nfind other : matrix indexed by [int(1..2)] of bool\n")
+        at, room = [it * 3 for it in range(1, 22)], [it % 2 for it in range(1, 22)]
+        text = f"language ESSENCE' 1.0\n$ solution\nletting at be {at}\nletting room be {room}\nletting other be [true, false; int(1..2)]\n".replace("]\nletting room", "; int(1..21)]\nletting room").replace("]\nletting other", "; int(1..21)]\nletting other")
+        asked = command.Command(["--in-eprime", model])
+        lines = showing.shown(text.encode(), "grid", asked).decode().split("\n")
+        self.assertEqual(lines[2:6], ["Lecture | at | room", "--------+----+-----", "      1 |  3 |    1", "      2 |  6 |    ."])
+        self.assertEqual(lines[24:28], ["     21 | 63 |    1", "", "other", "  | 1 2"][:1] + ["", "other", " | 1 2"])
+        page = showing.shown(text.encode(), "html", asked).decode()
+        self.assertIn('<h2>at, room</h2>\n<table><thead><tr><th class="corner">Lecture</th><th>at</th><th>room</th></tr></thead>', page)
+        self.assertIn('<tr><th class="side">21</th><td>63</td><td>1</td></tr>', page)
+
     def test_words_for_indices_and_values(self):
         model = self.file("m", "language ESSENCE' 1.0\nletting Side be domain int(5..6)\nletting Day be domain int(1..2)\nfind off : matrix indexed by [Side, Day] of bool\nfind late : int(1..3)\nfind helper : matrix indexed by [Day] of int(0..3)\n")
         text = b"language ESSENCE' 1.0\n$ solution\nletting off be [[true, false; int(1..2)], [false, true; int(1..2)]; int(5..6)]\nletting late be 3\nletting helper be [3, 0; int(1..2)]\n"
@@ -281,6 +293,9 @@ given cube : matrix indexed by [int(1..n)] of matrix indexed by [int(1..n), int(
         words = ["--in-eprime", f"{ROOT}/examples/roster.eprime"]
         plain = self.call(program(), *words, "--in-param", f"{ROOT}/examples/roster.param")
         self.assertEqual(self.call(f"{ROOT}/epsat", *words, "--in-param", given, "--data", "off.csv"), plain)
+        self.file("names", '{"Nurse": ["Ann", "Ben", "Cleo"]}')
+        out = self.call(f"{ROOT}/epsat", *words, "--in-param", given, "--data", "off.csv", "--show", "grid", "--names", "names")[1]
+        self.assertIn("\nCleo | ", out)
         status, out, err = self.call(f"{ROOT}/epsat", *words, "--data", "nothing.csv")
         self.assertEqual((status, out), (5, ""))
         self.assertIn("nothing.csv can't be read", err)
