@@ -21,7 +21,7 @@ use Rattle.ep_driver.specs.Readings.{IsFormulaReadAs, IsHeldReadBy, IsProofReadA
 use Rattle.ep_driver.specs.Shown.{Ask, ComesTo, ThenShows, comes_to_check}
 use Rattle.ep_driver.specs.declared.status.Status.{Status}
 use Rattle.ep_driver.specs.declared.wanted.Wanted.{Wanted}
-use Rattle.ep_driver_laws.specs.Certificates.{ChecksSaySo, Says}
+use Rattle.ep_driver_laws.specs.Certificates.{ChecksSaySo, SaysVerdict}
 
 -- ---- what is asked
 
@@ -86,7 +86,7 @@ module _ (formula steps : List ℕ) (vars : ℕ) (clauses : List (List Literal))
       let same : task ≡ to_check clauses lines = task_is task (subst (λ (w : Wanted). ComesTo w held (Ok task)) wanted is.2) in
       settled clauses lines status said log (subst (λ (t : Task). Settles t status said log) same settles)
 
-  check_says : (words : List (List ℕ)) → Want words (Wanted.Check cnf proof) → length formula ≤ most_text_bytes → length steps ≤ most_text_bytes → Says words held (verdict_of clauses lines)
+  check_says : (words : List (List ℕ)) → Want words (Wanted.Check cnf proof) → length formula ≤ most_text_bytes → length steps ≤ most_text_bytes → SaysVerdict words held (verdict_of clauses lines)
   check_says words want short few = record {
     asked = (
       to_check clauses lines,

@@ -106,7 +106,7 @@ ListsCertify =
 -- ---- the check
 
 -- Words and held files show a check, and nothing settles what they show but the status and the line of this verdict.
-pub record Says (words : List (List ℕ)) (held : Held) (verdict : Verdict) : Type 0 where
+pub record SaysVerdict (words : List (List ℕ)) (held : Held) (verdict : Verdict) : Type 0 where
   pub asked : (task : Task) × Ask words held task
   pub says : (task : Task) → Ask words held task → (status : Status) (said : List ℕ) (log : LogState) → Settles task status said log
       → (status ≡ verdict_status verdict) × (said ≡ verdict_text verdict)
@@ -120,4 +120,4 @@ ChecksSaySo =
     → SpellsCnf formula vars clauses → SpellsLog steps lines
     → length formula ≤ most_text_bytes → length steps ≤ most_text_bytes
     → (words : List (List ℕ)) (cnf proof : List ℕ) → Want words (Wanted.Check cnf proof)
-    → (held : Held) → held cnf ≡ Some formula → held proof ≡ Some steps → Says words held (verdict_of clauses lines)
+    → (held : Held) → held cnf ≡ Some formula → held proof ≡ Some steps → SaysVerdict words held (verdict_of clauses lines)
