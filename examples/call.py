@@ -30,7 +30,6 @@ def solve(model, parameters, *words, seconds=60):
     The parameters are numbers, truth values and lists of these, by name. After so many seconds the best answer that was finished by then is given. More words of the
     command line may follow, as "--conflicts=10000"; take none of them, and no name of a file, from somebody whom you don't trust.
     """
-    words += (f"--time-limit={seconds}",) if seconds else ()
     with tempfile.NamedTemporaryFile("w", suffix=".json") as data:
         json.dump(parameters, data)
         data.flush()
