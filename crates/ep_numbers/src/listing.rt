@@ -1,4 +1,4 @@
-//! Sets of numbers as lists, and how many numbers they have.
+//! Sets of numbers as lists, and how many numbers sets and runs have.
 
 ghost use Rattle.std.specs.Prelude.{◌≡◌, ◌==◌, ◌≤◌, ◌≤ℤ◌, ◌++◌, length, IfOk, OnOk};
 ghost use Rattle.ep_base.specs.Runs.{IsAscending, numbers_in};
@@ -7,7 +7,7 @@ use ep_base::{Memory, Run, Runs};
 use std::alloc::{AllocError, Global};
 
 /// How many numbers a run has.
-fn run_length(run: Run) -> u128
+pub fn run_length(run: Run) -> u128
     requires { run.lo ≤ℤ run.hi }
     ensures length { result ≡ length (numbers_in run) }
     ensures small { result ≤ 18446744073709551616 }
@@ -15,15 +15,22 @@ fn run_length(run: Run) -> u128
     (i128::from(run.hi) - i128::from(run.lo) + 1) as u128
 }
 
-/// Whether there are so many numbers.
-pub fn has_count(numbers: &Runs, count: usize) -> bool
-    ensures { result ≡ (length numbers.now == count) }
+/// How many numbers a set has. Linear in its runs.
+pub fn set_length(set: &Runs) -> u128
+    ensures { result ≡ length set.now }
 {
     let mut total: u128 = 0;
-    for run in numbers.runs() {
+    for run in set.runs() {
         total += run_length(*run);
     }
-    total == count as u128
+    total
+}
+
+/// Whether a set has so many numbers. Linear in its runs.
+pub fn has_count(set: &Runs, count: usize) -> bool
+    ensures { result ≡ (length set.now == count) }
+{
+    set_length(set) == count as u128
 }
 
 /// Adds the numbers of a run.

@@ -7,14 +7,15 @@ ghost use Rattle.ep_base.specs.Reads.{IsWithinNumbers};
 use super::reach::near_number;
 
 /// A product of two numbers.
-pub(crate) fn times(one: i64, other: i64) -> i128
+pub fn times(one: i64, other: i64) -> i128
     ensures { result ≡ one *ℤ other }
 {
     i128::from(one) * i128::from(other)
 }
 
-/// How often a number is multiplied by itself: powers of -1, 0 and 1 repeat.
-fn steps(base: i64, exponent: u64) -> u64
+/// How often a number is multiplied by itself for a power of it: as often as the exponent says, but no more than twice for
+/// -1, 0 and 1, whose powers repeat.
+pub fn steps(base: i64, exponent: u64) -> u64
     ensures { numbers.nth_power base result ≡ numbers.nth_power base exponent }
 {
     if exponent <= 2 || base > 1 || base < -1 {

@@ -1,9 +1,9 @@
-use Rattle.std.proofs.Common.{◌≡◌, ◌∙◌, ◌+◌, ◌==◌, pos, length, get_or, refl, ap, arith, length-append, take}
+use Rattle.std.proofs.Common.{◌≡◌, ◌∙◌, ◌+◌, pos, length, get_or, refl, ap, arith, length-append, take}
 use Rattle.std.proofs.lemmas.List.{take_all}
 use Rattle.ep_base.specs.declared.run_lists.Run.{Run}
 use Rattle.ep_base.specs.Runs.{numbers, numbers_in}
 use Rattle.ep_numbers.proofs.Counting.{numbers_more}
-use Rattle.ep_numbers.proofs.listing.has_count.Goals as goal
+use Rattle.ep_numbers.proofs.listing.set_length.Goals as goal
 
 pub loop-run-init : goal.loop-run-init
 unfolding numbers
@@ -21,7 +21,6 @@ loop-run-preserved c =
 
 pub returns : goal.returns
 returns c =
-    let all : numbers (take c.loop-run.run-index c.runs-run-items.result.now) ≡ c.args.numbers.now =
+    let all : numbers (take c.loop-run.run-index c.runs-run-items.result.now) ≡ c.args.set.now =
     ap numbers (take_all c.loop-run.run-index c.runs-run-items.result.now c.loop-run-test.false) ∙ c.runs-run-items.ensures.numbers in
-    let e : c.loop-run.total ≡ length c.args.numbers.now = c.loop-run.invariant.0 ∙ ap length all in
-    ap (λ n. n == c.args.count) e
+    c.loop-run.invariant.0 ∙ ap length all
