@@ -1,0 +1,9 @@
+pub mod AlikeEnvironments
+pub mod Extents
+pub mod Cells
+pub mod Reading
+pub mod Forms
+pub mod Lies
+pub mod Nodes
+pub mod Found
+pub mod Passing
