@@ -21,14 +21,14 @@ use Rattle.ep_print.specs.Joining.{with_between}
 use Rattle.ep_print.specs.Listings.{complete, end_text, listing_text, solution_text, solution_texts, spent, stopped}
 use Rattle.ep_print.specs.Models.{model_text, statement_text}
 use Rattle.ep_print.specs.Refusals.{file_word, limit_word, place_text, refusal_text, refusal_words}
-use Rattle.ep_print.specs.Values.{indices_text, run_text, runs_of, scalar_text, scalar_value_text, stretch_from, value_text}
+use Rattle.ep_print.specs.Values.{index_domain_text, run_text, runs_of, scalar_text, scalar_value_text, stretch_from, value_text}
 use Rattle.ep_print.specs.Words.{binary_words, expr_words, group_words, sense_word, stated_words, statement_words}
 use Rattle.ep_print.specs.declared.refusals.Refusal.{Refusal}
 use Rattle.ep_print.specs.declared.refusals.TextFile.{TextFile}
 
 -- a vector that says `unfolding the_texts` computes with all of these
 unfoldable the_texts : ℕ
-unfolding digits answer_text letting_text listing_text solution_texts solution_text end_text with_between model_text statement_text file_word limit_word place_text refusal_words indices_text run_text runs_of scalar_text scalar_value_text stretch_from value_text binary_words expr_words group_words sense_word stated_words statement_words scalar_of binary_word compare_word fold_word is_called quantifier_word set_word sign_word truth_word
+unfolding digits answer_text letting_text listing_text solution_texts solution_text end_text with_between model_text statement_text file_word limit_word place_text refusal_words index_domain_text run_text runs_of scalar_text scalar_value_text stretch_from value_text binary_words expr_words group_words sense_word stated_words statement_words scalar_of binary_word compare_word fold_word is_called quantifier_word set_word sign_word truth_word
 the_texts = 0
 
 abbrev p : Place
@@ -60,7 +60,7 @@ unfolding the_texts
 value-5 = refl
 
 -- the runs of a list that doesn't ascend
-indices-1 : indices_text (pos 2 ∷ pos 1 ∷ pos 2 ∷ pos 3 ∷ pos 3 ∷ []) ≡ codes "int(2, 1..3, 3)"
+indices-1 : index_domain_text (pos 2 ∷ pos 1 ∷ pos 2 ∷ pos 3 ∷ pos 3 ∷ []) ≡ codes "int(2, 1..3, 3)"
 unfolding the_texts
 indices-1 = refl
 

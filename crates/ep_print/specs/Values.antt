@@ -35,9 +35,9 @@ run_text s =
     else signed_decimal s.first ++ (codes ".." ++ signed_decimal s.last)
 
 -- the index domain of these indices; of none it is an empty range
-unfoldable pub indices_text : List ℤ → List ℕ
-indices_text [] = codes "int(1..0)"
-indices_text (n ∷ ns) = codes "int(" ++ (with_between (codes ", ") (map run_text (runs_of (n ∷ ns))) ++ codes ")")
+unfoldable pub index_domain_text : List ℤ → List ℕ
+index_domain_text [] = codes "int(1..0)"
+index_domain_text (n ∷ ns) = codes "int(" ++ (with_between (codes ", ") (map run_text (runs_of (n ∷ ns))) ++ codes ")")
 
 -- a number of a scalar: a Boolean is written as a word
 unfoldable pub scalar_text : Scalar → ℤ → List ℕ
@@ -51,7 +51,7 @@ unfoldable mutual
   scalar_value_text s (matrix indices no_values) = codes "[; int(1..0)]"
   scalar_value_text s (matrix indices (value_and v vs)) =
       codes "[" ++ (with_between (codes ", ") (scalar_value_text s v ∷ scalar_value_texts s vs)
-      ++ (codes "; " ++ (indices_text indices ++ codes "]")))
+      ++ (codes "; " ++ (index_domain_text indices ++ codes "]")))
 
   -- the parts of a matrix
   pub scalar_value_texts : Scalar → ValueTrees → List (List ℕ)

@@ -3,14 +3,14 @@
 ghost use Rattle.std.specs.Prelude.{◌≡◌, ◌≤◌, ◌++◌, ◌∷◌, ◌+ℤ◌, pos, codes, map, length, OnOk, false};
 ghost use Rattle.std.specs.Ordering.{int_eq};
 ghost use Rattle.ep_print.specs.Putting.{between_if, continued};
-ghost use Rattle.ep_print.specs.Values.{indices_text, run_text, runs_of};
+ghost use Rattle.ep_print.specs.Values.{index_domain_text, run_text, runs_of};
 
 use crate::numbers::push_whole;
 use std::alloc::AllocError;
 
 /// The index domain of some indices.
 pub(crate) fn push_index_domain(text: &mut Vec<u8>, indices: &[i64]) -> Result<(), AllocError>
-    ensures { OnOk result (text.new.items ≡ text.old.items ++ indices_text indices.now) }
+    ensures { OnOk result (text.new.items ≡ text.old.items ++ index_domain_text indices.now) }
 {
     if indices.is_empty() {
         text.extend_from_slice(b"int(1..0)")?;
