@@ -5,7 +5,7 @@ use Rattle.std.specs.List.{range_with_len}
 use Rattle.ep_base.specs.Runs.{counting}
 use Rattle.ep_print.specs.Answers.{answer_text, language_line, letting_text, solution}
 use Rattle.ep_print.specs.Joining.{with_between}
-use Rattle.ep_print.specs.Values.{indices_text, run_text, runs_of, scalar_text, scalar_value_text, stretch_from, value_text}
+use Rattle.ep_print.specs.Values.{index_domain_text, run_text, runs_of, scalar_text, scalar_value_text, stretch_from, value_text}
 use Rattle.ep_tree.specs.Types.{scalar_of}
 use Rattle.ep_tree.specs.Values.{as_parts, list_value}
 use Rattle.ep_gen.specs.Hints.{hint_of, next_number, nth_number, order_of, row_of, square_rows, square_value}
@@ -13,7 +13,7 @@ use Rattle.ep_gen.specs.Texts.{generated_params, params_of}
 
 -- a vector that says `unfolding the_inputs` computes with all of these
 unfoldable the_inputs : ℕ
-unfolding digits counting answer_text letting_text with_between indices_text run_text runs_of scalar_text scalar_value_text stretch_from value_text scalar_of as_parts list_value hint_of next_number nth_number order_of row_of square_rows square_value
+unfolding digits counting answer_text letting_text with_between index_domain_text run_text runs_of scalar_text scalar_value_text stretch_from value_text scalar_of as_parts list_value hint_of next_number nth_number order_of row_of square_rows square_value
 the_inputs = 0
 
 -- the first numbers behind 0
