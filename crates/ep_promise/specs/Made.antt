@@ -3,11 +3,12 @@
 --
 -- Each statement sees the names that stand before it, but for `such that` and the objective, which see all. Limits aren't spoken
 -- of, nor faults of names and types: what a name without meaning stands in has no value here.
-use Rattle.std.specs.Prelude.{List, [], ◌∷◌, if◌then◌else◌, Option, Some, None, option_and_then, option_map}
+use Rattle.std.specs.Prelude.{◌≡◌, List, [], ◌∷◌, if◌then◌else◌, Option, Some, None, option_and_then, option_map}
 use Rattle.std.specs.List.{list_all}
 use Rattle.ep_base.specs.declared.names.Name.{Name}
+use Rattle.ep_base.specs.declared.operators.Limit.{Limit}
 use Rattle.ep_base.specs.declared.places.Place.{Place}
-use Rattle.ep_tree.specs.Binding.{Instance, Shape, bound_finds, fitted_into, in_env, parameter, shape_bound, shape_of, with_clauses, with_finds, with_goal}
+use Rattle.ep_tree.specs.Binding.{Instance, Refusal, Shape, bound_finds, fitted_into, in_env, over_limit, parameter, shape_bound, shape_of, with_clauses, with_finds, with_goal}
 use Rattle.ep_tree.specs.Environments.{Bound, Env, has_value, shape_type}
 use Rattle.ep_tree.specs.Evaluation.{evaluate, is_true_in, type_in}
 use Rattle.ep_tree.specs.Names.{nothing_known, put}
@@ -83,3 +84,7 @@ made_instance mode model params =
     option_and_then (λ known.
     instance_after_all mode known (record { finds = []; clauses = []; goal = None; env = nothing_known }) model)
     (known_after_all mode nothing_known params)
+
+-- a refusal names a limit
+abbrev pub IsOverLimit : Refusal → Type 0
+IsOverLimit r = (limit : Limit) × (r ≡ over_limit limit)
