@@ -19,7 +19,7 @@ use Rattle.ep_tree.specs.Values.{ValueTree, ValueTrees, matrix, no_values, singl
 use Rattle.ep_tree.specs.declared.values.Scalar.{Scalar}
 use Rattle.ep_print.specs.Answers.{AnswerTree, answer_text, language_line, letting_text, letting_texts, no_solution, optimum, solution, unknown, unknown_text, unknown_with}
 use Rattle.ep_print.specs.Joining.{with_between}
-use Rattle.ep_print.specs.Values.{indices_text, scalar_text, scalar_value_text, scalar_value_texts, value_text}
+use Rattle.ep_print.specs.Values.{index_domain_text, scalar_text, scalar_value_text, scalar_value_texts, value_text}
 use Rattle.ep_print.specs.Words.{Words, all_words, domain_words, expr_words, stated_words, statement_words, word}
 use Rattle.ep_print_laws.specs.Answered.{CanBeWritten, SpellsLettings, are_short_values, has_few_digits, indices_domain, is_short_value, letting_of, scalar_expr, value_expr, value_exprs, values_in}
 use Rattle.ep_print_laws.proofs.Clearing.{letting_cleared}
@@ -53,15 +53,15 @@ open_lexed rest words later = lexed_word (codes "[") rest words refl refl refl (
 
 -- a semicolon, a space and an index domain in front of the closing bracket
 closing_lexed : (indices : List ℤ) (rest : List ℕ) (words : Words) → list_all has_few_digits indices ≡ true → Lexed rest words
-    → Lexed (codes "; " ++ (indices_text indices ++ (93 ∷ rest))) (codes ";" ∷ (domain_words (indices_domain indices) ++ (codes "]" ∷ words)))
+    → Lexed (codes "; " ++ (index_domain_text indices ++ (93 ∷ rest))) (codes ";" ∷ (domain_words (indices_domain indices) ++ (codes "]" ∷ words)))
 unfolding the_tokens
 closing_lexed indices rest words few later =
-    lexed_word (codes ";") (32 ∷ (indices_text indices ++ (93 ∷ rest))) _ refl refl refl refl
+    lexed_word (codes ";") (32 ∷ (index_domain_text indices ++ (93 ∷ rest))) _ refl refl refl refl
     (lexed_space _ _ (indices_lexed indices (93 ∷ rest) (codes "]" ∷ words) few (square_lexed rest words later)))
 
 -- the same behind no part
 empty_closing : (rest : List ℕ) (words : Words) → Lexed rest words → Lexed (codes "; int(1..0)]" ++ rest) (codes ";" ∷ (domain_words (indices_domain []) ++ (codes "]" ∷ words)))
-unfolding indices_text
+unfolding index_domain_text
 empty_closing rest words later = closing_lexed [] rest words refl later
 
 breaks_behind : (ts : List (List ℕ)) (rest : List ℕ) → Breaks rest → Breaks (behind (codes ", ") ts ++ rest)
@@ -93,14 +93,14 @@ mutual
       let ts = scalar_value_texts s vs in
       let w = expr_words (value_expr s v) in
       let ws = all_words (value_exprs s vs) in
-      let end = codes "; " ++ (indices_text indices ++ (93 ∷ rest)) in
+      let end = codes "; " ++ (index_domain_text indices ++ (93 ∷ rest)) in
       let end_words = codes ";" ∷ (domain_words (indices_domain indices) ++ (codes "]" ∷ words)) in
       let inside : Lexed (with_between (codes ", ") (t ∷ ts) ++ end) (with_between (word ",") (w ∷ ws) ++ end_words) =
       subst (λ (x : List ℕ). Lexed x (with_between (word ",") (w ∷ ws) ++ end_words)) (sym (append_assoc t (behind (codes ", ") ts) end) ∙ ap (λ x. x ++ end) (joined_behind (codes ", ") t ts))
       (subst (λ (x : Words). Lexed (t ++ (behind (codes ", ") ts ++ end)) x) (sym (append_assoc w (behind (word ",") ws) end_words) ∙ ap (λ x. x ++ end_words) (joined_behind (word ",") w ws))
       (value_lexed s v (behind (codes ", ") ts ++ end) (behind (word ",") ws ++ end_words) both.0 (breaks_behind ts end (λ x. refl))
       (values_lexed s vs end end_words both.1 (λ x. refl) (closing_lexed indices rest words parts.0 later)))) in
-      subst (λ (x : List ℕ). Lexed x ((word "[" ++ (with_between (word ",") (w ∷ ws) ++ ((word ";" ++ domain_words (indices_domain indices)) ++ word "]"))) ++ words)) (sym (opened_text (with_between (codes ", ") (t ∷ ts)) (indices_text indices) rest))
+      subst (λ (x : List ℕ). Lexed x ((word "[" ++ (with_between (word ",") (w ∷ ws) ++ ((word ";" ++ domain_words (indices_domain indices)) ++ word "]"))) ++ words)) (sym (opened_text (with_between (codes ", ") (t ∷ ts)) (index_domain_text indices) rest))
       (subst (λ (x : Words). Lexed (91 ∷ (with_between (codes ", ") (t ∷ ts) ++ end)) x) (sym (opened_words (with_between (word ",") (w ∷ ws)) (domain_words (indices_domain indices)) words))
       (open_lexed (with_between (codes ", ") (t ∷ ts) ++ end) (with_between (word ",") (w ∷ ws) ++ end_words) inside))
 

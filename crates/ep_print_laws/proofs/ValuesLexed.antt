@@ -10,7 +10,7 @@ use Rattle.std.proofs.lemmas.Bool.Decides.{nat_tests}
 use Rattle.ep_base.specs.TokenTexts.{continues_name, is_name, is_number, is_symbol, is_token, is_word}
 use Rattle.ep_tree.specs.Trees.{ExprTree, Ranges, end_at, one_and, span_and}
 use Rattle.ep_print.specs.Joining.{with_between}
-use Rattle.ep_print.specs.Values.{Stretch, indices_text, run_text, runs_of}
+use Rattle.ep_print.specs.Values.{Stretch, index_domain_text, run_text, runs_of}
 use Rattle.ep_print.specs.Words.{Words, domain_words, expr_words, parted, range_words, word}
 use Rattle.ep_print_laws.specs.Answered.{has_few_digits, indices_domain, number_expr, run_and, run_ranges}
 use Rattle.ep_print_laws.proofs.Glue.{ends_before, joins, last_byte, symbol_pairs}
@@ -232,8 +232,8 @@ empty_lexed rest words later =
     (lexed_word (codes "..") (codes "0)" ++ rest) _ refl refl refl refl
     (lexed_word (codes "0") (41 ∷ rest) _ refl refl refl refl (round_lexed rest words later))))
 
-pub indices_lexed : (indices : List ℤ) (rest : List ℕ) (words : Words) → list_all has_few_digits indices ≡ true → Lexed rest words → Lexed (indices_text indices ++ rest) (domain_words (indices_domain indices) ++ words)
-unfolding indices_text indices_domain expr_words
+pub indices_lexed : (indices : List ℤ) (rest : List ℕ) (words : Words) → list_all has_few_digits indices ≡ true → Lexed rest words → Lexed (index_domain_text indices ++ rest) (domain_words (indices_domain indices) ++ words)
+unfolding index_domain_text indices_domain expr_words
 indices_lexed [] rest words few later = empty_lexed rest words later
 indices_lexed (n ∷ ns) rest words few later =
     let ss = runs_of (n ∷ ns) in
