@@ -8,16 +8,15 @@ use Rattle.std.specs.Ordering.{int_eq}
 use Rattle.ep_base.specs.Numbers.{has_number}
 use Rattle.ep_base.specs.declared.errors.Memory.{Memory}
 use Rattle.ep_base.specs.declared.names.Name.{Name}
-use Rattle.ep_tree.proofs.TypedEvaluation.{with_indices_is}
 use Rattle.ep_tree.proofs.TypedFitting.{fitted_typed}
-use Rattle.ep_tree.proofs.TypedParts.{map_is, no_some, some_is, then_is, truths_differ}
+use Rattle.ep_tree.proofs.TypedParts.{truths_differ}
 use Rattle.ep_tree.specs.Binding.{Find}
 use Rattle.ep_tree.specs.Environments.{Env, has_value, shape_type}
 use Rattle.ep_tree.specs.Names.{put, put_all}
 use Rattle.ep_tree.specs.Solutions.{Assigned, NamedValue, find_type, fitted_find, found_values, named_in}
 use Rattle.ep_tree.specs.TypedValues.{IsOf, IsOfDims, is_number_of}
 use Rattle.ep_tree.specs.Types.{of_scalar, scalar_of}
-use Rattle.ep_tree.specs.Values.{ValueTree, ValueTrees, all_fitted, as_parts, fitted, matrix, no_values, scalar_fits, single, value_and, with_indices}
+use Rattle.ep_tree.specs.Values.{ValueTree, fitted}
 use Rattle.ep_tree.specs.Views.{named_value, value_tree}
 use Rattle.ep_tree.specs.declared.values.Entry.{Entry}
 use Rattle.ep_tree.specs.declared.values.Scalar.{Scalar}
@@ -121,52 +120,6 @@ under_more f fs a before now after u s = record {
   values = both_some (λ v rest. Some ((f.name, has_value (find_type f) v) ∷ rest)) (option_and_then (fitted_find f) (named_in a f.name)) (found_values fs a) s.value u.found s.fits u.values;
   known = s.known ∙ ap (λ env. put f.name (has_value (find_type f) s.value) env) u.known;
 }
-
--- ---- a fitted value fits again as itself
-
-number_refits : (own wanted : Scalar) (n : ℤ) (w : ValueTree) (a b : Bool) → (if a && b then Some (single n) else None) ≡ Some w → (b ≡ true) × (single n ≡ w)
-number_refits own wanted n w true true e = (refl, some_is e)
-number_refits own wanted n w true false e = no_some e
-number_refits own wanted n w false b e = no_some e
-
-fits_own : (s : Scalar) → scalar_fits s s ≡ true
-unfolding scalar_fits
-fits_own Scalar.Bool = refl
-fits_own Scalar.Int = refl
-
-number_again : (s : Scalar) (passes : ℤ → Bool) (n : ℤ) → passes n ≡ true → fitted s s passes [] (single n) ≡ Some (single n)
-unfolding fitted
-number_again s passes n h =
-    ap (λ a. if a && passes n then Some (single n) else None) (fits_own s)
-    ∙ ap (λ b. if b then Some (single n) else None) h
-
-mutual
-  unfolding fitted as_parts
-
-  -- A fitted value fits again, and is then itself.
-  pub fits_again : (own wanted : Scalar) (passes : ℤ → Bool) (indices : List (List ℤ)) (v w : ValueTree) → fitted own wanted passes indices v ≡ Some w
-      → fitted wanted wanted passes indices w ≡ Some w
-  fits_again own wanted passes [] (single n) w e =
-      let p : _ = number_refits own wanted n w (scalar_fits own wanted) (passes n) e in
-      subst (λ x. fitted wanted wanted passes [] x ≡ Some x) p.1 (number_again wanted passes n p.0)
-  fits_again own wanted passes (ix ∷ inner) (single n) w e = no_some e
-  fits_again own wanted passes [] (matrix old parts) w e = no_some e
-  fits_again own wanted passes (ix ∷ inner) (matrix old parts) w e =
-      let p : _ = then_is (with_indices ix) (all_fitted own wanted passes inner parts) w e in
-      let q : _ = with_indices_is ix p.0 w p.2 in
-      subst (λ x. fitted wanted wanted passes (ix ∷ inner) x ≡ Some x) q.1
-      (ap (option_and_then (with_indices ix)) (parts_fit_again own wanted passes inner parts p.0 p.1) ∙ p.2 ∙ ap Some (sym q.1))
-
-  -- The same of each part.
-  pub parts_fit_again : (own wanted : Scalar) (passes : ℤ → Bool) (inner : List (List ℤ)) (vs : ValueTrees) (ws : List ValueTree) → all_fitted own wanted passes inner vs ≡ Some ws
-      → all_fitted wanted wanted passes inner (as_parts ws) ≡ Some ws
-  parts_fit_again own wanted passes inner no_values ws e = subst (λ xs. all_fitted wanted wanted passes inner (as_parts xs) ≡ Some xs) (some_is e) refl
-  parts_fit_again own wanted passes inner (value_and v vs) ws e =
-      let p : _ = then_is (λ x. option_map (λ xs. x ∷ xs) (all_fitted own wanted passes inner vs)) (fitted own wanted passes inner v) ws e in
-      let q : _ = map_is (λ xs. p.0 ∷ xs) (all_fitted own wanted passes inner vs) ws p.2 in
-      subst (λ xs. all_fitted wanted wanted passes inner (as_parts xs) ≡ Some xs) q.2
-      (ap (option_and_then (λ x. option_map (λ xs. x ∷ xs) (all_fitted wanted wanted passes inner (as_parts q.0)))) (fits_again own wanted passes inner v p.0 p.1)
-      ∙ ap (option_map (λ xs. p.0 ∷ xs)) (parts_fit_again own wanted passes inner vs q.0 q.1))
 
 -- ---- decision variables from the last to the first
 

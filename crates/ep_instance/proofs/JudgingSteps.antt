@@ -1,13 +1,20 @@
 -- Judging: clauses one by one, and then the objective, under decision variables that are set once or more.
-use Rattle.std.proofs.Common.{◌≡◌, ◌∙◌, ℕ, ◌+◌, Bool, true, false, ◌||◌, ℤ, List, [], ◌∷◌, map, drop, Option, Some, None, refl, sym, ap, subst, if◌then◌else◌, bytes_eq}
-use Rattle.std.specs.Prelude.{is_none, is_some, option_and_then, unwrap_or, Result, Ok, Err, IfOk}
+use Rattle.std.proofs.Common.{◌≡◌, ◌∙◌, ℕ, ◌+◌, arith, Bool, true, false, ◌||◌, ℤ, List, [], ◌∷◌, map, drop, Option, Some, None, refl, sym, ap, subst, if◌then◌else◌, bytes_eq}
+use Rattle.std.proofs.lemmas.List.Elements.{All-cons, All-head, All-nil, All-tail}
+use Rattle.std.specs.List.{All}
+use Rattle.std.specs.Prelude.{is_none, is_some, option_and_then, unwrap_or, Result, Ok, Err, IfOk, Contains}
 use Rattle.ep_base.specs.Options.{on_both}
 use Rattle.ep_base.specs.declared.errors.Memory.{Memory}
 use Rattle.ep_base.specs.declared.names.Name.{Name}
+use Rattle.ep_base.specs.declared.operators.Limit.{Limit as LimitName}
 use Rattle.ep_base.specs.declared.operators.Sense.{Sense}
 use Rattle.ep_eval.proofs.KnownNames.{bytes_eq-symmetric}
+use Rattle.ep_eval.specs.Outcomes.{IsCause}
+use Rattle.ep_eval.specs.declared.errors.EvalError.{EvalError}
+use Rattle.ep_eval.specs.declared.errors.EvalError.TheVariants.{Limit}
 use Rattle.ep_tree.proofs.TypedParts.{some_is, then_is}
 use Rattle.ep_tree.specs.Binding.{Find, Instance}
+use Rattle.ep_tree.specs.Closed.{IsClosed}
 use Rattle.ep_tree.specs.Environments.{Bound, Env, has_value}
 use Rattle.ep_tree.specs.Evaluation.{evaluate, first_untrue, is_true_in, number_in, truth_of}
 use Rattle.ep_tree.specs.Names.{put_all}
@@ -16,12 +23,21 @@ use Rattle.ep_tree.specs.Solutions.{Assigned, Fits, Found, Judgement, a_solution
 use Rattle.ep_tree.specs.Trees.{ExprTree}
 use Rattle.ep_tree.specs.Values.{ValueTree}
 use Rattle.ep_tree.specs.declared.values.Mode.{Mode}
+use Rattle.ep_reach_laws.proofs.Passing.{fitting_passes_no_limit}
+use Rattle.ep_reach_laws.specs.Reaches.{PassesNoLimit}
 use Rattle.ep_instance_parts.specs.Instances.{find_of}
 use Rattle.ep_instance_parts.specs.declared.instances.Find.{Find as KeptFind}
 use Rattle.ep_instance.specs.Assigning.{AgreeElsewhere, IsUnder, goal_number, judged_by_goal, judgement_in}
-use Rattle.ep_instance.specs.Judgements.{judgement_of}
+use Rattle.ep_instance.specs.Judgements.{IsWithinLimits, judgement_of}
 use Rattle.ep_instance.specs.declared.judging.Judgement.{Judgement as CodeJudgement}
 use Rattle.ep_instance.proofs.ShapingSteps.{find_later, find_nowhere, none_dropped, none_of}
+
+-- ---- limits
+
+-- an evaluation that passes no limit names none
+pub no_cause : (passed : List LimitName) (error : EvalError) (l : LimitName) → passed ≡ [] → error ≡ Limit l → IsCause passed error → ⊥
+no_cause passed error l none is h =
+    let named : Contains [] l = subst (λ e. IsCause [] e) is (subst (λ p. IsCause p error) none h) in absurd (omega (arith, named.1))
 
 -- ---- clauses
 
@@ -40,6 +56,11 @@ clause_true mode env n e es h = ap (λ b. if b then first_untrue mode env (n + 1
 pub no_clause : (mode : Mode) (env : Env) (n : ℕ) → first_untrue mode env n [] ≡ None
 unfolding first_untrue
 no_clause mode env n = refl
+
+-- what holds of what some things are made to holds of each of them, once it is made
+pub all_back : {A B : Type 0} (P : B → Type 0) (f : A → B) (xs : List A) → All P (map f xs) → All (λ x. P (f x)) xs
+all_back P f [] h = All-nil (λ x. P (f x))
+all_back P f (x ∷ xs) h = All-cons (λ y. P (f y)) x xs (All-head P (f x) (map f xs) h) (all_back P f xs (All-tail P (f x) (map f xs) h))
 
 -- ---- the objective
 
@@ -144,6 +165,13 @@ under_found i a found before after u agree fits =
     u.known
     ∙ ap (λ x. put_all x before) (some_is (sym u.values ∙ fits.values))
     ∙ (λ k name. same_at i.finds a found before i.env name fits.values (agree name) k)
+
+-- no limit is passed under an assignment that fits, where the instance is within the limits
+pub passes_after : (mode m : Mode) (i : Instance) (a : Assigned) (before after : Env) → m ≡ mode → IsClosed i → IsWithinLimits mode i → ((found : Found) × Fits i a found)
+    → IsUnder i.finds a before after → AgreeElsewhere i.finds before i.env → PassesNoLimit m after i
+passes_after mode m i a before after in_mode closed within fits u agree =
+    subst (λ x. PassesNoLimit x after i) (sym in_mode)
+    (subst (λ env. PassesNoLimit mode env i) (sym (under_found i a fits.0 before after u agree fits.1)) (fitting_passes_no_limit mode i closed within a fits.0 fits.1))
 
 judged_found : (mode m : Mode) (i : Instance) (found : Found) (env : Env) (said : Judgement) → m ≡ mode → env ≡ under i found → said ≡ judgement_in m env i → said ≡ judgement mode i found
 unfolding judgement judgement_in has_goal_value goal_value goal_number

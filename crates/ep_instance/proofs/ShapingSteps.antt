@@ -32,7 +32,7 @@ use Rattle.ep_instance.specs.Judgements.{FitsIfShaped, ShapeAnswers}
 use Rattle.ep_instance.specs.Shaping.{GivesEntries, letting_name}
 use Rattle.ep_instance.specs.declared.judging.Shaped.{Shaped}
 use Rattle.ep_instance.specs.declared.judging.Shaped.TheVariants as code
-use Rattle.ep_instance.proofs.AssigningSteps.{fits_again}
+use Rattle.ep_reach_laws.proofs.Found.{fits_again}
 
 -- ---- one decision variable
 

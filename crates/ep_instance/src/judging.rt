@@ -1,11 +1,16 @@
 //! Assignments that are judged.
 
-ghost use Rattle.std.specs.Prelude.{◌≡◌, IfOk, None, is_some, map, option_map};
+ghost use Rattle.std.specs.Prelude.{◌≡◌, All, IfOk, None, Some, [], is_some, map, option_map};
+ghost use Rattle.ep_base.specs.declared.operators.Sense.{Sense};
 ghost use Rattle.ep_tree.specs.Closed.{IsClosed};
 ghost use Rattle.ep_tree.specs.Evaluation.{evaluate as value_in, first_untrue};
+ghost use Rattle.ep_tree.specs.Limits.{limits_of_values};
+ghost use Rattle.ep_tree.specs.Measures.{met};
 ghost use Rattle.ep_tree.specs.Solutions as solutions;
 ghost use Rattle.ep_tree.specs.Solutions.{Fits, Found, judgement};
+ghost use Rattle.ep_tree.specs.Trees.{ExprTree};
 ghost use Rattle.ep_tree.specs.Views.{assigned, expr_tree};
+ghost use Rattle.ep_reach_laws.specs.Reaches.{PassesNoLimit};
 ghost use Rattle.ep_eval.specs.Known.{env_of};
 ghost use Rattle.ep_eval.specs.Outcomes.{seen_value};
 ghost use Rattle.ep_instance_parts.specs.Instances.{goal_of, plain_instance, instance_mode};
@@ -39,20 +44,23 @@ pub enum Judgement {
     ObjectiveUndefined,
 }
 
-/// The value of an expression. One that passes a limit is answered as want of memory.
+/// The value of an expression that passes no limit.
 fn seen_in(alloc: Global, env: &Env, e: &Expr) -> Result<Seen, Memory>
+    requires { limits_of_values env.now.mode 0 (met env.now.mode (env_of env.now) (expr_tree e.now)) ≡ [] }
     ensures { IfOk result (λ seen.
         seen_value seen ≡ value_in env.now.mode (env_of env.now) (expr_tree e.now)) }
 {
     match evaluate(alloc, env, e) {
         Ok(seen) => Ok(seen),
-        Err(EvalError::Limit(_)) => Err(Memory),
+        Err(EvalError::Limit(_)) => unreachable!(),
         Err(EvalError::Memory) => Err(Memory),
     }
 }
 
 /// The least number of a clause that isn't true, counted from 1.
 fn first_violated(alloc: Global, env: &Env, clauses: &[Expr]) -> Result<Option<u64>, Memory>
+    requires { All (λ clause. limits_of_values env.now.mode 0
+        (met env.now.mode (env_of env.now) (expr_tree clause)) ≡ []) clauses.now }
     ensures { IfOk result (λ n. n
         ≡ first_untrue env.now.mode (env_of env.now) 1 (map expr_tree clauses.now)) }
 {
@@ -83,6 +91,8 @@ fn judged_by(value: Option<i64>) -> Judgement
 
 /// The judgement by the objective, where each clause is true.
 fn judge_objective(alloc: Global, env: &Env, goal: Option<&Objective>) -> Result<Judgement, Memory>
+    requires { (sense : Sense) (e : ExprTree) → option_map (λ o. goal_of o.now) goal ≡ Some (sense, e) →
+        limits_of_values env.now.mode 0 (met env.now.mode (env_of env.now) e) ≡ [] }
     ensures { IfOk result (λ j. judgement_of j
         ≡ judged_by_goal env.now.mode (env_of env.now) (option_map (λ o. goal_of o.now) goal.entry)) }
 {
@@ -95,9 +105,9 @@ fn judge_objective(alloc: Global, env: &Env, goal: Option<&Objective>) -> Result
 }
 
 /// The judgement of an instance by what names stand for: the clauses in their order, and then the
-/// objective. Where the evaluator meets a limit, which an instance within the limits doesn't pass, the
-/// answer is want of memory; no clause refuses that yet.
+/// objective.
 fn judged_in(alloc: Global, env: &Env, instance: &Instance) -> Result<Judgement, Memory>
+    requires { PassesNoLimit env.now.mode (env_of env.now) (plain_instance instance.now) }
     ensures { IfOk result (λ j. judgement_of j
         ≡ judgement_in env.now.mode (env_of env.now) (plain_instance instance.now)) }
 {

@@ -1,8 +1,10 @@
-use Rattle.std.proofs.Common.{◌∙◌, ◌+◌, ap, sym, refl, map, drop}
+use Rattle.std.proofs.Common.{◌≡◌, ◌∙◌, ◌+◌, [], subst, ap, sym, refl, map, drop}
 use Rattle.std.proofs.Math.ListN.{drop_of_length-le}
 use Rattle.ep_eval.specs.Known.{env_of}
 use Rattle.ep_eval.specs.Outcomes.{seen_value}
 use Rattle.ep_tree.specs.Evaluation.{first_untrue}
+use Rattle.ep_tree.specs.Limits.{limits_of_values}
+use Rattle.ep_tree.specs.Measures.{met}
 use Rattle.ep_tree.specs.Views.{expr_tree}
 use Rattle.ep_types_rules.proofs.RuleSteps.{next_is}
 use Rattle.ep_instance.proofs.JudgingSteps.{clause_false, clause_is, clause_true, no_clause}
@@ -46,3 +48,8 @@ returns c =
     (c.loop-clause.invariant
     ∙ ap (λ xs. first_untrue mode env n (map expr_tree xs)) (drop_of_length-le c.args.clauses.now c.loop-clause-test.false)
     ∙ no_clause mode env n)
+
+pub seen_in-requires : goal.seen_in-requires
+seen_in-requires c =
+    subst (λ e. limits_of_values c.args.env.now.mode 0 (met c.args.env.now.mode (env_of c.args.env.now) (expr_tree e)) ≡ []) (sym c.clause-item.is)
+    (c.requires c.loop-clause.clause-index c.clause-item.result c.loop-clause-test.true)

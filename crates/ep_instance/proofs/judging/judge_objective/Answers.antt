@@ -14,3 +14,7 @@ returns c =
     c.judged_by.ensures
     ∙ goal_stated c.args.env.now.mode (env_of c.args.env.now) _ c.in-Some.goal.now.sense (expr_tree c.in-Some.goal.now.e) (seen_value c.in_ok-seen.seen) _
     (ap (option_map (λ o. goal_of o.now)) c.in-Some.is) c.in_ok-seen.ensures c.seen_number-value.ensures
+
+pub seen_in-requires : goal.seen_in-requires
+seen_in-requires c =
+    c.requires c.in-Some.goal.now.sense (expr_tree c.in-Some.goal.now.e) (ap (option_map (λ o. goal_of o.now)) c.in-Some.is)

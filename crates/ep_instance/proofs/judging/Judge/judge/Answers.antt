@@ -4,7 +4,7 @@ use Rattle.ep_eval.specs.Known.{env_of}
 use Rattle.ep_tree.specs.TypedValues.{is_number_of}
 use Rattle.ep_tree.specs.Views.{assigned, named_value}
 use Rattle.ep_instance_parts.specs.Instances.{plain_instance, instance_mode}
-use Rattle.ep_instance.proofs.JudgingSteps.{agree_again, judged_after, under_given}
+use Rattle.ep_instance.proofs.JudgingSteps.{agree_again, judged_after, passes_after, under_given}
 use Rattle.ep_instance.proofs.judging.Judge.judge.Goals as goal
 
 pub set_finds-requires : goal.set_finds-requires
@@ -32,3 +32,10 @@ returns-clause-judgement c =
     let i = plain_instance c.args.instance.now in
     judged_after (instance_mode c.args.instance.now) _ i (assigned c.args.a.now) (env_of c.args.self.now.env) (env_of c.set_finds.new.env) c.judged_in.result (c.set_finds.ensures.mode ∙ c.requires.own.in_mode)
     (under_given _ _ _ _ _ _ c.finds.ensures (ap (map named_value) c.deref.ensures.value) c.in_ok-set_finds.ensures.known) c.requires.own.elsewhere c.judged_in.ensures
+
+pub judged_in-requires : goal.judged_in-requires
+judged_in-requires c =
+    let i = plain_instance c.args.instance.now in
+    passes_after (instance_mode c.args.instance.now) _ i (assigned c.args.a.now) (env_of c.args.self.now.env) (env_of c.set_finds.new.env) (c.set_finds.ensures.mode ∙ c.requires.own.in_mode)
+    c.requires.closed c.requires.small c.requires.fits
+    (under_given _ _ _ _ _ _ c.finds.ensures (ap (map named_value) c.deref.ensures.value) c.in_ok-set_finds.ensures.known) c.requires.own.elsewhere
