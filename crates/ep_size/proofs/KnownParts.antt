@@ -1,14 +1,18 @@
 -- What indices leave of parts that are known one by one.
-use Rattle.std.proofs.Common.{◌≡◌, ℤ, Bool, List, [], ◌∷◌, ◌++◌, map, refl, ap, ◌∙◌, Some, None, true}
-use Rattle.std.specs.Prelude.{flat_map, if◌then◌else◌, option_to_list}
+use Rattle.std.proofs.Common.{◌≡◌, ℤ, Bool, Bor, List, [], ◌∷◌, ◌++◌, map, refl, sym, ap, append-nil, ◌∙◌, Some, None, true}
+use Rattle.std.specs.Prelude.{Option, flat_map, if◌then◌else◌, option_map, option_to_list}
 use Rattle.std.proofs.lemmas.Grind.{flat_map-append}
 use Rattle.ep_base.specs.Numbers.{compare_holds}
 use Rattle.ep_base.specs.declared.operators.CompareOp.{CompareOp}
 use Rattle.ep_tree.specs.Reach.{MeasuredIndex, Span, decided_index, fixed_index, left_by, parts_left, whole_index}
 use Rattle.ep_tree.specs.Values.{listed_values, matrix, part_at, scalars_of}
 use Rattle.ep_size.specs.Extents.{grid_of, grids_from}
-use Rattle.ep_size.specs.Indices.{keeps_all}
+use Rattle.ep_size.proofs.ReadSteps.{none_left}
+use Rattle.ep_size.specs.Indices.{keeps_all, measured_of}
 use Rattle.ep_size.specs.declared.extents.Extent.{Extent}
+use Rattle.ep_size.specs.declared.extents.Extent.TheVariants.{NoParts, Nothing, Number}
+use Rattle.ep_size.specs.declared.extents.Span.{Span as OneSpan}
+use Rattle.ep_size.specs.declared.reading.Indexed.{Indexed}
 
 -- the scalars that indices leave of some parts
 abbrev pub left_known : List MeasuredIndex → List Extent → List Span
@@ -61,3 +65,38 @@ known_stated n is own xs = refl
 pub known_undefined : (is : List MeasuredIndex) (own : List ℤ) (xs : List Extent) → parts_left (fixed_index None ∷ is) (matrix own (grids_from xs)) ≡ []
 unfolding parts_left left_by
 known_undefined is own xs = refl
+
+-- ---- the part that a stated index leaves
+
+pub one_left : (i : MeasuredIndex) (ms : List MeasuredIndex) (x : Extent) (found : Option (Bor Extent)) (part : Bor Extent)
+    → parts_left (i ∷ ms) (grid_of x) ≡ flat_map (parts_left ms) (option_to_list (option_map (λ p. grid_of p.now) found)) → found ≡ Some part
+    → flat_map scalars_of (parts_left (i ∷ ms) (grid_of x)) ≡ flat_map scalars_of (parts_left ms (grid_of part.now))
+one_left i ms x found part told is =
+    ap (flat_map scalars_of) (told ∙ ap (λ f. flat_map (parts_left ms) (option_to_list (option_map (λ p. grid_of p.now) f))) is ∙ append-nil (parts_left ms (grid_of part.now)))
+
+pub no_part_left : (i : MeasuredIndex) (ms : List MeasuredIndex) (x : Extent) (found : Option (Bor Extent))
+    → parts_left (i ∷ ms) (grid_of x) ≡ flat_map (parts_left ms) (option_to_list (option_map (λ p. grid_of p.now) found)) → found ≡ None
+    → flat_map scalars_of (parts_left (i ∷ ms) (grid_of x)) ≡ []
+no_part_left i ms x found told is =
+    ap (flat_map scalars_of) (told ∙ ap (λ f. flat_map (parts_left ms) (option_to_list (option_map (λ p. grid_of p.now) f))) is)
+
+-- ---- what has no part
+
+pub nothing_added : (old more : List Span) → more ≡ [] → old ≡ old ++ more
+nothing_added old more none = sym (append-nil old) ∙ ap (λ l. old ++ l) (sym none)
+
+-- an index leaves nothing of a number, and of a number without a value
+pub number_leaves_none : (is rest : List Indexed) (i : Indexed) (x : Extent) (s : OneSpan) → is ≡ i ∷ rest → x ≡ Number s → flat_map scalars_of (parts_left (map measured_of is) (grid_of x)) ≡ []
+unfolding parts_left grid_of
+number_leaves_none is rest i x s cut same =
+    ap (λ l. flat_map scalars_of (parts_left (map measured_of l) (grid_of x))) cut ∙ ap (λ y. flat_map scalars_of (parts_left (measured_of i ∷ map measured_of rest) (grid_of y))) same
+
+pub nothing_leaves_none : (is rest : List Indexed) (i : Indexed) (x : Extent) → is ≡ i ∷ rest → x ≡ Nothing → flat_map scalars_of (parts_left (map measured_of is) (grid_of x)) ≡ []
+unfolding parts_left grid_of
+nothing_leaves_none is rest i x cut same =
+    ap (λ l. flat_map scalars_of (parts_left (map measured_of l) (grid_of x))) cut ∙ ap (λ y. flat_map scalars_of (parts_left (measured_of i ∷ map measured_of rest) (grid_of y))) same
+
+-- indices leave nothing of a matrix without parts
+pub no_parts_leave_none : (ms : List MeasuredIndex) (x : Extent) → x ≡ NoParts → flat_map scalars_of (parts_left ms (grid_of x)) ≡ []
+unfolding grid_of
+no_parts_leave_none ms x same = ap (λ y. flat_map scalars_of (parts_left ms (grid_of y))) same ∙ none_left ms

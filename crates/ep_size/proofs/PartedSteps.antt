@@ -6,8 +6,8 @@ use Rattle.std.proofs.lemmas.List.{map-append}
 use Rattle.std.specs.declared.alloc.Global.{Global}
 use Rattle.std.specs.declared.vec.Vec.{Vec}
 use Rattle.ep_base.proofs.Small.{no_some, some_is}
-use Rattle.ep_tree.specs.Reach.{Extent as ExtentTree, MeasuredIndex, fixed_index, fixed_span, no_extent, plain_index, slice_extent, whole_index}
-use Rattle.ep_tree.specs.Values.{Index, all_defined, any_index, as_parts, at_index, map_grid, map_grids, matrix, part_at, read_value, value_and}
+use Rattle.ep_tree.specs.Reach.{Extent as ExtentTree, MeasuredIndex, Span, decided_index, fixed_index, fixed_span, no_extent, plain_index, slice_extent, whole_index}
+use Rattle.ep_tree.specs.Values.{Index, all_defined, any_index, as_parts, at_index, listed_values, map_grid, map_grids, matrix, part_at, read_value, single, value_and}
 use Rattle.ep_tree.specs.Views.{value_tree, values_from}
 use Rattle.ep_tree.specs.declared.values.Value.{Value}
 use Rattle.ep_size.proofs.ExtentViews.{grid_of-matrix}
@@ -114,6 +114,35 @@ pub part_read : (part : Option Extent) (o : Option ExtentTree) → IsPart part o
 unfolding IsPart
 part_read None o h = h
 part_read (Some x) o h = part_grid x o h
+
+-- ---- a matrix without parts, and a number
+
+pub none_read_stated : (n : Option ℤ) (ms : List MeasuredIndex) → ReadsGrid (fixed_index n ∷ ms) no_extent None
+unfolding plain_index all_defined read_value part_at
+none_read_stated None ms js told = no_some told
+none_read_stated (Some n) ms js told =
+    let p = plain_rest (at_index n) (all_defined (map plain_index ms)) js told in
+    ap (λ l. read_value l no_extent) (sym p.2)
+
+pub none_read_whole : (ms : List MeasuredIndex) (x : Extent) → grid_of x ≡ no_extent → ReadsGrid (whole_index ∷ ms) no_extent (Some x)
+unfolding read_value all_defined listed_values as_parts
+none_read_whole ms x same = whole_read ms no_extent (Some x) (λ js told. ap Some (sym same))
+
+pub none_read_decided : (s : Span) (ms : List MeasuredIndex) → ReadsGrid (decided_index s ∷ ms) no_extent None
+unfolding plain_index all_defined
+none_read_decided s ms js told = no_some told
+
+-- an index leaves nothing of a number
+pub number_read : (i : MeasuredIndex) (ms : List MeasuredIndex) (s : Span) → ReadsGrid (i ∷ ms) (single s) None
+unfolding plain_index all_defined read_value
+number_read (fixed_index None) ms s js told = no_some told
+number_read (fixed_index (Some n)) ms s js told =
+    let p = plain_rest (at_index n) (all_defined (map plain_index ms)) js told in
+    ap (λ l. read_value l (single s)) (sym p.2)
+number_read whole_index ms s js told =
+    let p = plain_rest any_index (all_defined (map plain_index ms)) js told in
+    ap (λ l. read_value l (single s)) (sym p.2)
+number_read (decided_index t) ms s js told = no_some told
 
 -- ---- each part
 

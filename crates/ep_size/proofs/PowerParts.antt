@@ -1,12 +1,10 @@
 -- Powers of the numbers between two ends.
-use Rattle.std.proofs.Common.{◌≡◌, ℕ, zero, suc, ℤ, pos, negsuc, Bool, true, false, List, [], ◌∷◌, refl, sym, ap, subst, ◌∙◌, ◌||◌, arith, Option, Some, None, Ok, Err, ◌≤ℤ◌}
-use Rattle.std.specs.Prelude.{Result, fold, if◌then◌else◌, int_lt, IfSome, IsSome}
-use Rattle.std.specs.Int.{int_max, int_min}
-use Rattle.std.proofs.lemmas.Int.{clamps, fold-int_max_bounds, fold-int_min_bounds, ints}
-use Rattle.std.proofs.lemmas.Bool.{or_left, or_right}
-use Rattle.ep_base.specs.Intervals.{Interval, farthest_end, greatest_or_zero, has_zero, least_or_zero, nth_power_interval, only, power_interval, spanned, IsWithinReach}
-use Rattle.ep_base.specs.Numbers.{absolute_of, greatest_of, least_of, nth_power}
-use Rattle.ep_base.specs.Reads.{IsWithinNumbers, is_too_far}
+use Rattle.std.proofs.Common.{◌≡◌, ℕ, ℤ, pos, negsuc, Bool, true, false, refl, sym, ap, subst, ◌∙◌, arith, Option, Some, None, Ok, Err}
+use Rattle.std.specs.Prelude.{Result, int_lt, IfSome, IsSome}
+use Rattle.std.proofs.lemmas.Int.{ints}
+use Rattle.ep_base.specs.Intervals.{Interval, farthest_end, nth_power_interval, only, power_interval, IsWithinReach}
+use Rattle.ep_base.specs.Numbers.{absolute_of}
+use Rattle.ep_base.specs.Reads.{is_too_far}
 use Rattle.ep_numbers.proofs.Ends.{untold_reach}
 use Rattle.ep_numbers.specs.Spans.{wide_interval}
 use Rattle.ep_numbers.specs.declared.spans.WideSpan.{WideSpan}

@@ -313,7 +313,7 @@ nothing_left_of t is x s same none h =
     subst (λ y. Hulls t (flat_map scalars_of (parts_left is (grid_of y)))) (sym same)
     (subst (λ c. Hulls t (flat_map scalars_of (parts_left is (single c)))) none h)
 
-none_left : (is : List MeasuredIndex) → flat_map scalars_of (parts_left is defined.no_extent) ≡ []
+pub none_left : (is : List MeasuredIndex) → flat_map scalars_of (parts_left is defined.no_extent) ≡ []
 unfolding parts_left left_by scalars_of scalars_of_all listed_values part_at
 none_left [] = refl
 none_left (fixed_index None ∷ is) = refl

@@ -87,6 +87,13 @@ whole_left is g none =
 
 -- ---- what is held
 
+-- what indices leave of a number that is held
+pub number_grid : (ms : List MeasuredIndex) (h : Held) (n : ℤ) (s : OneSpan) → h ≡ HeldNumber n → plain_span s ≡ fixed_span (Some n)
+    → flat_map scalars_of (parts_left ms (single (plain_span s))) ≡ flat_map scalars_of (parts_left ms (fixed_grid (held_value h)))
+unfolding held_value map_grid
+number_grid ms h n s is same =
+    ap (λ c. flat_map scalars_of (parts_left ms (single c))) same ∙ ap (λ v. flat_map scalars_of (parts_left ms (fixed_grid (held_value v)))) (sym is)
+
 pub number_held : (t : Hulled) (ms : List MeasuredIndex) (h : Held) (n : ℤ) (s : OneSpan) → h ≡ HeldNumber n → plain_span s ≡ fixed_span (Some n)
     → Hulls t (flat_map scalars_of (parts_left ms (single (plain_span s)))) → Hulls t (flat_map scalars_of (parts_left ms (fixed_grid (held_value h))))
 unfolding held_value map_grid

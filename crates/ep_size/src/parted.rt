@@ -1,9 +1,9 @@
 //! Reads that leave a matrix of one whose parts are known one by one.
 
-ghost use Rattle.std.specs.Prelude.{◌≡◌, ◌∷◌, [], Some, IfErr, IfOk, false, map};
+ghost use Rattle.std.specs.Prelude.{◌≡◌, ◌∷◌, [], List, Some, IfErr, IfOk, false, map};
 ghost use Rattle.std.specs.List.{list_any};
 ghost use Rattle.ep_tree.specs.Measures.{number_reach};
-ghost use Rattle.ep_tree.specs.Reach.{fixed_index, is_decided_index, slice_extent, whole_index};
+ghost use Rattle.ep_tree.specs.Reach.{MeasuredIndex, fixed_index, is_decided_index, no_extent, slice_extent, whole_index};
 ghost use Rattle.ep_tree.specs.Values.{matrix};
 ghost use Rattle.ep_tree.specs.Views.{value_tree};
 ghost use Rattle.ep_eval.specs.Helds.{held_value};
@@ -78,6 +78,17 @@ fn copied<'a>(alloc: Global, known: &Extent<'a>) -> Result<Extent<'a>, SizeError
     }
 }
 
+/// What an index, with others behind it, leaves of a matrix without parts, if that has a value: `..` leaves it as it is.
+fn left_of_none<'a>(alloc: Global, index: Indexed) -> Option<Extent<'a>>
+    ensures { (is : List MeasuredIndex) → ReadsGrid (measured_of index ∷ is) no_extent result }
+{
+    match index {
+        Indexed::Stated(_) => None,
+        Indexed::Every => Some(no_parts(alloc)),
+        Indexed::Decided(_) => None,
+    }
+}
+
 /// What indices leave of what is known, if that has a value. Linear in its parts.
 #[cycle(leaving)]
 fn left_of<'a>(
@@ -93,8 +104,10 @@ fn left_of<'a>(
             Extent::Cells(span, domains) => cells_part(alloc, *span, domains, indices),
             Extent::Fixed(held) => left_of_held(alloc, held, *index, rest),
             Extent::Matrix(own, parts) => left_in(alloc, own, parts, *index, rest),
-            // A number has no part, and of what has no value none is known.
-            _ => Err(SizeError::Memory),
+            Extent::NoParts => Ok(left_of_none(alloc, *index)),
+            // A number has no part.
+            Extent::Number(_) => Ok(None),
+            Extent::Nothing => Ok(None),
         },
         None => {
             let copy = copied(alloc, known)?;

@@ -2,7 +2,7 @@
 
 ghost use Rattle.std.specs.Prelude.{◌≡◌, ◌∷◌, ◌++◌, List, IfErr, IfOk, OnOk, false, flat_map, map, option_map, option_to_list};
 ghost use Rattle.ep_tree.specs.Reach.{MeasuredIndex, parts_left};
-ghost use Rattle.ep_tree.specs.Values.{filled, matrix, part_at, scalars_of};
+ghost use Rattle.ep_tree.specs.Values.{filled, matrix, part_at, scalars_of, single};
 ghost use Rattle.ep_eval.specs.Helds.{held_value};
 ghost use Rattle.ep_size.specs.Extents.{fixed_grid, grid_of, grids_from, plain_span};
 ghost use Rattle.ep_size.specs.Hulls.{Hulls};
@@ -10,7 +10,7 @@ ghost use Rattle.ep_size.specs.Indices.{keeps_all, measured_of};
 ghost use Rattle.ep_size.specs.declared.errors.SizeError.TheVariants as error;
 
 use super::errors::SizeError;
-use super::extents::{Extent, Span};
+use super::extents::{Extent, Span, fixed_number};
 use super::hulls::Hulled;
 use super::reading::{Indexed, cells_left};
 use super::remaining::{add_left, hull_over, is_same, keeps_all};
@@ -57,23 +57,6 @@ fn part_stated<'v, 'a>(
     }
 }
 
-/// The part of a matrix that a stated index leaves, if there is one. Only of a matrix whose parts are known one by one is
-/// that told.
-fn part_left<'v, 'a>(
-    known: &'v Extent<'a>,
-    index: Indexed,
-) -> Result<Option<&'v Extent<'a>>, SizeError>
-    ensures left { IfOk result (λ found. (is : List MeasuredIndex) → keeps_all (measured_of index) ≡ false
-        → parts_left (measured_of index ∷ is) (grid_of known.now)
-        ≡ flat_map (parts_left is) (option_to_list (option_map (λ part. grid_of part.now) found))) }
-    ensures memory { IfErr result (λ e. e ≡ error.Memory) }
-{
-    match known {
-        Extent::Matrix(own, parts) => Ok(part_stated(own, parts, index)),
-        _ => Err(SizeError::Memory),
-    }
-}
-
 /// Puts the cells that indices leave of those of a decision variable behind others. An instance has fewer of them than
 /// there may be told.
 fn add_cells_left(
@@ -96,69 +79,61 @@ fn add_cells_left(
     Ok(())
 }
 
-/// The same of a value that is held. Of a number it isn't told: it has no part.
+/// Puts what indices leave of a number behind others: nothing, where there is one.
+fn add_number_left(span: Span, indices: &[Indexed], spans: &mut Vec<Span>) -> Result<(), SizeError>
+    ensures added { OnOk result (map plain_span spans.new.items
+        ≡ map plain_span spans.old.items ++ flat_map scalars_of (parts_left (map measured_of indices.now) (single (plain_span span)))) }
+    ensures memory { IfErr result (λ e. e ≡ error.Memory) }
+{
+    match indices.split_first() {
+        Some(_) => Ok(()),
+        None => {
+            spans.push(span)?;
+            Ok(())
+        }
+    }
+}
+
+/// The same of a value that is held.
 fn add_held_left(held: &Held, indices: &[Indexed], spans: &mut Vec<Span>) -> Result<(), SizeError>
     ensures added { OnOk result (map plain_span spans.new.items
         ≡ map plain_span spans.old.items ++ flat_map scalars_of (parts_left (map measured_of indices.now) (fixed_grid (held_value held.now)))) }
     ensures memory { IfErr result (λ e. e ≡ error.Memory) }
 {
     match held {
-        Held::Number(_) => Err(SizeError::Memory),
+        Held::Number(number) => add_number_left(fixed_number(*number), indices, spans),
         Held::Lent(value) => add_left(value, indices, spans),
         Held::Made(value) => add_left(value, indices, spans),
     }
 }
 
-/// The same of what is known of a part that isn't known by its own parts.
-fn add_whole(known: &Extent, indices: &[Indexed], spans: &mut Vec<Span>) -> Result<(), SizeError>
-    ensures added { OnOk result (map plain_span spans.new.items
-        ≡ map plain_span spans.old.items ++ flat_map scalars_of (parts_left (map measured_of indices.now) (grid_of known.now))) }
-    ensures memory { IfErr result (λ e. e ≡ error.Memory) }
-{
-    match known {
-        Extent::Cells(span, domains) => add_cells_left(*span, domains, indices, spans),
-        Extent::Fixed(held) => add_held_left(held, indices, spans),
-        // A number has no part, and others don't come here.
-        _ => Err(SizeError::Memory),
-    }
-}
-
-/// Whether something is known by its parts.
-fn is_parted(known: &Extent) -> bool {
-    match known {
-        Extent::Matrix(_, _) => true,
-        _ => false,
-    }
-}
-
-/// Puts the scalars that indices leave of what is known behind others.
+/// Puts the scalars that indices leave of what is known behind others. Of a number, and of a matrix without parts, an index
+/// leaves none.
 fn add_known(known: &Extent, indices: &[Indexed], spans: &mut Vec<Span>) -> Result<(), SizeError>
     ensures added { OnOk result (map plain_span spans.new.items
         ≡ map plain_span spans.old.items ++ flat_map scalars_of (parts_left (map measured_of indices.now) (grid_of known.now))) }
     ensures memory { IfErr result (λ e. e ≡ error.Memory) }
 {
     match indices.split_first() {
-        Some((index, rest)) => {
-            if !is_parted(known) {
-                return add_whole(known, indices, spans);
-            }
-            if !keeps_all(*index) {
-                let found = part_left(known, *index)?;
-                return match found {
-                    Some(part) => add_known(part, rest, spans),
-                    None => Ok(()),
-                };
-            }
-            match known {
-                Extent::Matrix(_, parts) => {
-                    for part in parts {
-                        add_known(part, rest, spans)?;
-                    }
-                    Ok(())
+        Some((index, rest)) => match known {
+            Extent::Number(_) => Ok(()),
+            Extent::Cells(span, domains) => add_cells_left(*span, domains, indices, spans),
+            Extent::Fixed(held) => add_held_left(held, indices, spans),
+            Extent::Nothing => Ok(()),
+            Extent::NoParts => Ok(()),
+            Extent::Matrix(own, parts) => {
+                if !keeps_all(*index) {
+                    return match part_stated(own, parts, *index) {
+                        Some(part) => add_known(part, rest, spans),
+                        None => Ok(()),
+                    };
                 }
-                _ => Err(SizeError::Memory),
+                for part in parts {
+                    add_known(part, rest, spans)?;
+                }
+                Ok(())
             }
-        }
+        },
         None => add_scalars(known, spans),
     }
 }

@@ -1,5 +1,4 @@
-use Rattle.std.proofs.Common.{refl, sym, ap, subst, ◌∙◌, ◌≡◌}
-use Rattle.std.specs.Prelude.{IfSome}
+use Rattle.std.proofs.Common.{refl, sym, ap, ◌∙◌, ◌≡◌}
 use Rattle.ep_base.specs.Intervals.{farthest_end}
 use Rattle.ep_base.specs.Reads.{is_too_far}
 use Rattle.ep_numbers.proofs.Ends.{reach_near, untold_reach}

@@ -1,11 +1,12 @@
-use Rattle.std.proofs.Common.{◌≡◌, ◌∷◌, ◌++◌, ◌+◌, ◌∙◌, ℕ, List, Some, ap, arith, drop, map, rules, subst, sym, w64, to_z, of_z}
+use Rattle.std.proofs.Common.{◌≡◌, ◌∷◌, ◌++◌, ◌+◌, ◌∙◌, ℕ, List, None, Some, ap, arith, drop, map, rules, subst, sym, w64, to_z, of_z}
 use Rattle.std.specs.Prelude.{option_map}
 use Rattle.std.proofs.lemmas.Int.{ints, to_z-of_z}
 use Rattle.std.proofs.lemmas.List.{drop_all, drop_more}
 use Rattle.ep_eval.proofs.WalkSteps.{no_runs}
+use Rattle.ep_tree.specs.Reach.{fixed_span}
 use Rattle.ep_tree.specs.Values.{filled, matrix, part_at, read_value}
 use Rattle.ep_size.proofs.ExtentViews.{grid_of-matrix}
-use Rattle.ep_size.proofs.PartedSteps.{left_begin, left_done, left_more, left_none, nothing_read, part_read, stated_nowhere, stated_read}
+use Rattle.ep_size.proofs.PartedSteps.{left_begin, left_done, left_more, left_none, nothing_read, number_read, part_read, stated_nowhere, stated_read}
 use Rattle.ep_size.proofs.QuantifiedSteps.{if_ok}
 use Rattle.ep_size.specs.Extents.{grid_of, grids_from, plain_span}
 use Rattle.ep_size.specs.Indices.{measured_of}
@@ -70,6 +71,26 @@ left_of-returns-in-Matrix-clause-read t c =
     if_ok c.left_in.result _ _ c.left_in.ensures.read
     (λ o h. subst (λ is. ReadsGrid (map measured_of is) (grid_of c.args.known.now) o) (sym c.in-Some.ensures.cases.0)
     (subst (λ g. ReadsGrid (measured_of c.in-Some.index.now ∷ map measured_of c.in-Some.rest.now) g o) grid h))
+
+pub left_of-returns-in-NoParts-clause-read : goal.left_of-returns-in-NoParts-clause-read
+unfolding grid_of
+left_of-returns-in-NoParts-clause-read t c =
+    subst (λ is. ReadsGrid (map measured_of is) (grid_of c.args.known.now) c.left_of_none.result) (sym c.in-Some.ensures.cases.0)
+    (subst (λ y. ReadsGrid (measured_of c.in-Some.index.now ∷ map measured_of c.in-Some.rest.now) (grid_of y) c.left_of_none.result) (sym c.in-NoParts.is) (c.left_of_none.ensures (map measured_of c.in-Some.rest.now)))
+
+pub left_of-returns-in-Number-clause-read : goal.left_of-returns-in-Number-clause-read
+unfolding grid_of
+left_of-returns-in-Number-clause-read t c =
+    subst (λ is. ReadsGrid (map measured_of is) (grid_of c.args.known.now) None) (sym c.in-Some.ensures.cases.0)
+    (subst (λ y. ReadsGrid (measured_of c.in-Some.index.now ∷ map measured_of c.in-Some.rest.now) (grid_of y) None) (sym c.in-Number.is)
+    (number_read (measured_of c.in-Some.index.now) (map measured_of c.in-Some.rest.now) (plain_span c.in-Number.field-0)))
+
+pub left_of-returns-in-Nothing-clause-read : goal.left_of-returns-in-Nothing-clause-read
+unfolding grid_of
+left_of-returns-in-Nothing-clause-read t c =
+    subst (λ is. ReadsGrid (map measured_of is) (grid_of c.args.known.now) None) (sym c.in-Some.ensures.cases.0)
+    (subst (λ y. ReadsGrid (measured_of c.in-Some.index.now ∷ map measured_of c.in-Some.rest.now) (grid_of y) None) (sym c.in-Nothing.is)
+    (number_read (measured_of c.in-Some.index.now) (map measured_of c.in-Some.rest.now) (fixed_span None)))
 
 pub left_of-returns-in_ok-copy-in-None-clause-read : goal.left_of-returns-in_ok-copy-in-None-clause-read
 left_of-returns-in_ok-copy-in-None-clause-read t c =

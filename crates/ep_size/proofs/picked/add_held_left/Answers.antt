@@ -1,11 +1,21 @@
-use Rattle.std.proofs.Common.{◌≡◌, ◌++◌, subst, sym}
+use Rattle.std.proofs.Common.{◌≡◌, ◌++◌, ◌∙◌, ℤ, Some, ap, rules, subst, sym, of_z, to_z, w64}
 use Rattle.std.specs.Prelude.{flat_map, map, OnOk}
-use Rattle.ep_tree.specs.Reach.{parts_left}
+use Rattle.std.proofs.lemmas.Int.{to_z-of_z}
+use Rattle.ep_tree.specs.Reach.{fixed_span, parts_left}
 use Rattle.ep_tree.specs.Values.{scalars_of}
 use Rattle.ep_eval.specs.Helds.{held_value}
+use Rattle.ep_size.proofs.RemainingSteps.{number_grid}
 use Rattle.ep_size.specs.Extents.{fixed_grid, plain_span}
 use Rattle.ep_size.specs.Indices.{measured_of}
 use Rattle.ep_size.proofs.picked.add_held_left.Goals as goal
+
+pub returns-in-Number-clause-added : goal.returns-in-Number-clause-added
+returns-in-Number-clause-added c =
+    let n : ℤ = c.in-Number.number in
+    let word : to_z w64 (of_z w64 n) ≡ n = to_z-of_z w64 n (search rules) in
+    subst (λ l. OnOk c.add_number_left.result (map plain_span c.add_number_left.new.spans.items ≡ map plain_span c.args.spans.now.items ++ l))
+    (number_grid (map measured_of c.args.indices.now) c.args.held.now n c.fixed_number.result c.in-Number.is (c.fixed_number.ensures ∙ ap (λ m. fixed_span (Some m)) word))
+    c.add_number_left.ensures.added
 
 pub returns-in-Lent-clause-added : goal.returns-in-Lent-clause-added
 unfolding held_value

@@ -1,7 +1,5 @@
-use Rattle.std.proofs.Common.{ap, ◌∙◌, subst}
 use Rattle.ep_base.specs.Intervals.{nth_power_interval}
 use Rattle.ep_numbers.specs.Spans.{interval_of}
-use Rattle.ep_tree.specs.Reach.{wide_span}
 use Rattle.ep_size.proofs.PowerParts.{gives_told, gives_untold}
 use Rattle.ep_size.proofs.powers.power_span.Goals as goal
 
