@@ -1,0 +1,2 @@
+pub mod Fewer
+mod Copied
