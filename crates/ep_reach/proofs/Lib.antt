@@ -2,3 +2,5 @@ pub mod Ends
 pub mod Nodes
 pub mod Reaching
 pub mod Telling
+pub mod Lies
+pub mod Narrower

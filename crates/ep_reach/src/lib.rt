@@ -7,3 +7,4 @@ mod reaches;
 mod tests;
 
 pub use checks::{is_bounded, is_well_formed};
+pub use reaches::near_reach;
