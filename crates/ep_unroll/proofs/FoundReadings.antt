@@ -1,38 +1,24 @@
 -- Values that fit make a reading of the cells.
 use Rattle.std.proofs.Common.{◌≡◌, ℕ, suc, ◌+◌, ◌*◌, Bool, true, false, ℤ, List, [], ◌∷◌, ◌++◌, length, Some, None, refl, sym, ap, subst, ◌∙◌, arith, slice_get, append_assoc}
-use Rattle.std.specs.Prelude.{IsTrue, Option, bytes_eq, if◌then◌else◌, ◌&&◌, ◌==◌, option_and_then, option_map, sum_by}
-use Rattle.std.specs.List.{All, list_all}
+use Rattle.std.specs.Prelude.{Option, bytes_eq, if◌then◌else◌, ◌&&◌, ◌==◌, option_map, sum_by}
 use Rattle.std.proofs.lemmas.List.{append-nil, length-append}
 use Rattle.std.proofs.lemmas.List.Sums.{sum_by-cons}
 use Rattle.ep_base.proofs.Small.{map_is, no_some, some_is, then_is}
 use Rattle.ep_base.specs.Numbers.{has_number}
-use Rattle.ep_base.specs.Options.{on_both}
 use Rattle.ep_base.specs.declared.names.Name.{Name}
-use Rattle.ep_tree.specs.Agreement.{AgreeOn}
 use Rattle.ep_tree.specs.Binding.{Find, Instance}
 use Rattle.ep_tree.specs.Closed.{IsClosed, clause_env}
 use Rattle.ep_tree.specs.Environments.{Bound, Env, has_cells, has_domain, has_value, shape_type}
 use Rattle.ep_tree.specs.Names.{put_all}
 use Rattle.ep_tree.specs.Reach.{decisions_in, is_decision}
-use Rattle.ep_tree.specs.Solutions.{Assigned, Fits, Found, cell_count, cells_bound, find_type, fitted_find, found_values, named_in, under}
-use Rattle.ep_tree.specs.TypedValues.{IsTypedBound, IsTypedEnv, is_number_of}
-use Rattle.ep_tree.specs.Types.{scalar_of}
+use Rattle.ep_tree.specs.Solutions.{Assigned, Fits, Found, cell_count, cells_bound, found_values, under}
 use Rattle.ep_tree.specs.Values.{ValueTree, ValueTrees, all_defined, all_fitted, as_parts, fitted, matrix, no_values, scalar_fits, scalars_of, scalars_of_all, single, value_and, with_indices}
 use Rattle.ep_tree.specs.declared.values.Scalar.{Scalar}
 use Rattle.ep_tree.specs.declared.values.Mode.{Mode}
-use Rattle.ep_unroll.proofs.TypedReadings.{fit_bound, one_typed}
+use Rattle.ep_reach_laws.proofs.Found.{found_alike, taken_from}
 use Rattle.ep_unroll.specs.Cells.{bound_numbers, found_numbers}
 use Rattle.ep_unroll.specs.Firsts.{first_of, numbering}
 use Rattle.ep_unroll.specs.Readings.{Reading, ReadsName, cells_value, each_from}
-
--- ---- what is there
-
-both_is : {A B C : Type 0} (a : Option A) (b : Option B) (f : A → B → Option C) (v : C) → on_both a b f ≡ Some v
-    → (x : A) × (y : B) × (a ≡ Some x) × (b ≡ Some y) × (f x y ≡ Some v)
-unfolding on_both
-both_is None b f v e = no_some e
-both_is (Some x) None f v e = no_some e
-both_is (Some x) (Some y) f v e = (x, y, refl, refl, e)
 
 -- ---- a value over index domains, by the numbers of its cells
 
@@ -61,44 +47,6 @@ none_times n = omega arith
 
 one_more : (a b k n : ℕ) → a ≡ n → b ≡ k * n → a + b ≡ suc k * n
 one_more a b k n p q = grind (arith, p, q)
-
-number_passes : (n : ℤ) (w : ValueTree) (a b : Bool) → (if a && b then Some (single n) else None) ≡ Some w → b ≡ true
-number_passes n w true true e = refl
-number_passes n w true false e = no_some e
-number_passes n w false b e = no_some e
-
-fits_own : (s : Scalar) → scalar_fits s s ≡ true
-unfolding scalar_fits
-fits_own Scalar.Bool = refl
-fits_own Scalar.Int = refl
-
-mutual
-  unfolding fitted all_fitted as_parts
-
-  -- a fitted value fits again, and is then itself
-  fits_again : (own wanted : Scalar) (passes : ℤ → Bool) (indices : List (List ℤ)) (v w : ValueTree) → fitted own wanted passes indices v ≡ Some w
-      → fitted wanted wanted passes indices w ≡ Some w
-  fits_again own wanted passes [] (single n) w e =
-      subst (λ x. fitted wanted wanted passes [] x ≡ Some x) (refits n w (scalar_fits own wanted && passes n) e)
-      (ap (λ a. if a && passes n then Some (single n) else None) (fits_own wanted)
-      ∙ ap (λ b. if b then Some (single n) else None) (number_passes n w (scalar_fits own wanted) (passes n) e))
-  fits_again own wanted passes (ix ∷ inner) (single n) w e = no_some e
-  fits_again own wanted passes [] (matrix old parts) w e = no_some e
-  fits_again own wanted passes (ix ∷ inner) (matrix old parts) w e =
-      let p : _ = then_is (with_indices ix) (all_fitted own wanted passes inner parts) w e in
-      let q : _ = indexed ix p.0 w p.2 in
-      subst (λ x. fitted wanted wanted passes (ix ∷ inner) x ≡ Some x) q.is
-      (ap (option_and_then (with_indices ix)) (parts_again own wanted passes inner parts p.0 p.1) ∙ p.2 ∙ ap Some (sym q.is))
-
-  parts_again : (own wanted : Scalar) (passes : ℤ → Bool) (inner : List (List ℤ)) (vs : ValueTrees) (ws : List ValueTree) → all_fitted own wanted passes inner vs ≡ Some ws
-      → all_fitted wanted wanted passes inner (as_parts ws) ≡ Some ws
-  parts_again own wanted passes inner no_values ws e = subst (λ xs. all_fitted wanted wanted passes inner (as_parts xs) ≡ Some xs) (some_is e) refl
-  parts_again own wanted passes inner (value_and v vs) ws e =
-      let p : _ = then_is (λ x. option_map (λ xs. x ∷ xs) (all_fitted own wanted passes inner vs)) (fitted own wanted passes inner v) ws e in
-      let q : _ = map_is (λ xs. p.0 ∷ xs) (all_fitted own wanted passes inner vs) ws p.2 in
-      subst (λ xs. all_fitted wanted wanted passes inner (as_parts xs) ≡ Some xs) q.2
-      (ap (option_and_then (λ x. option_map (λ xs. x ∷ xs) (all_fitted wanted wanted passes inner (as_parts q.0)))) (fits_again own wanted passes inner v p.0 p.1)
-      ∙ ap (option_map (λ xs. p.0 ∷ xs)) (parts_again own wanted passes inner vs q.0 q.1))
 
 mutual
   unfolding fitted all_fitted as_parts scalars_of scalars_of_all cell_count
@@ -187,41 +135,12 @@ undecided_reads first numbers (Some (has_value t v)) h = tt
 undecided_reads first numbers (Some (has_cells s is vs)) h = absurd cc
 undecided_reads first numbers (Some (has_domain s is vs)) h = tt
 
-undecided_agrees : (o : Option Bound) → is_decision o ≡ false → AgreeOn o o
-unfolding is_decision
-undecided_agrees None h = refl
-undecided_agrees (Some (has_value t v)) h = refl
-undecided_agrees (Some (has_cells s is vs)) h = absurd cc
-undecided_agrees (Some (has_domain s is vs)) h = refl
-
--- a decision variable with its value, and the others
-record Taken (f : Find) (fs : List Find) (a : Assigned) (found : Found) : Type 0 where
-  pub value : ValueTree
-  pub rest : Found
-  pub given : ValueTree
-  pub own : Scalar
-  pub fits : fitted own f.scalar (has_number f.values) f.indices given ≡ Some value
-  pub others : found_values fs a ≡ Some rest
-  pub whole : (f.name, has_value (find_type f) value) ∷ rest ≡ found
-
-taken_from : (f : Find) (fs : List Find) (a : Assigned) (found : Found) → found_values (f ∷ fs) a ≡ Some found → Taken f fs a found
-unfolding found_values fitted_find
-taken_from f fs a found e =
-    let p : _ = both_is (option_and_then (fitted_find f) (named_in a f.name)) (found_values fs a) (λ v rest. Some ((f.name, has_value (find_type f) v) ∷ rest)) found e in
-    let q : _ = then_is (fitted_find f) (named_in a f.name) p.0 p.2 in
-    record { value = p.0; rest = p.1; given = q.0.value; own = scalar_of q.0.ty; fits = q.2; others = p.3; whole = some_is p.4 }
-
 one_of : (b : Bool) (k : ℕ) (others : Option ℕ) (numbers : List ℤ) (s : Scalar) (indices : List (List ℤ)) (values : List ℤ) (v : ValueTree) (c d : Option Bound)
     → cells_value numbers indices k ≡ Some v → ReadsName others numbers c d
     → ReadsName (if b then Some k else others) numbers (if b then Some (has_cells s indices values) else c) (if b then Some (has_value (shape_type s indices) v) else d)
 unfolding ReadsName
 one_of true k others numbers s indices values v c d e h = (k, v, refl, refl, e)
 one_of false k others numbers s indices values v c d e h = h
-
-one_agrees : (b : Bool) (f : Find) (v : ValueTree) (c d : Option Bound) → fitted f.scalar f.scalar (has_number f.values) f.indices v ≡ Some v → AgreeOn c d
-    → AgreeOn (if b then Some (has_cells f.scalar f.indices f.values) else c) (if b then Some (has_value (find_type f) v) else d)
-one_agrees true f v c d e h = (v, refl, e)
-one_agrees false f v c d e h = h
 
 pub reads_names : (fs : List Find) (a : Assigned) (found : Found) (env : Env) → found_values fs a ≡ Some found → ((name : Name) → decisions_in env name ≡ false)
     → (numbers pre post : List ℤ) (k : ℕ) → numbers ≡ pre ++ (found_numbers found ++ post) → length pre ≡ k
@@ -240,28 +159,6 @@ reads_names (f ∷ fs) a found env e none numbers pre post k whole long name =
     (again ∙ sym (append_assoc pre (scalars_of t.value) (found_numbers t.rest ++ post)))
     (length-append pre (scalars_of t.value) ∙ ap (λ j. length pre + j) (many_scalars t.own f.scalar (has_number f.values) f.indices t.given t.value t.fits) ∙ ap (λ j. j + cell_count f.indices) long) name))
 
--- a name stands for a value that fits the cells that it stands for
-pub agrees_names : (fs : List Find) (a : Assigned) (found : Found) (env : Env) → found_values fs a ≡ Some found → ((name : Name) → decisions_in env name ≡ false)
-    → (name : Name) → AgreeOn (put_all (cells_bound fs) env name) (put_all found env name)
-unfolding found_values put_all cells_bound
-agrees_names [] a found env e none name = subst (λ fd. AgreeOn (env name) (put_all fd env name)) (some_is e) (undecided_agrees (env name) (none name))
-agrees_names (f ∷ fs) a found env e none name =
-    let t = taken_from f fs a found e in
-    subst (λ fd. AgreeOn (put_all (cells_bound (f ∷ fs)) env name) (put_all fd env name)) t.whole
-    (one_agrees (bytes_eq name f.name) f t.value (put_all (cells_bound fs) env name) (put_all t.rest env name)
-    (fits_again t.own f.scalar (has_number f.values) f.indices t.given t.value t.fits) (agrees_names fs a t.rest env t.others none name))
-
--- and its value is of its type
-pub typed_names : (fs : List Find) (a : Assigned) (found : Found) (env : Env) → found_values fs a ≡ Some found → All (λ f. IsTrue (list_all (is_number_of f.scalar) f.values)) fs → IsTypedEnv env
-    → (name : Name) → IsTypedBound (put_all found env name)
-unfolding found_values put_all
-typed_names [] a found env e values h name = subst (λ fd. IsTypedBound (put_all fd env name)) (some_is e) (h name)
-typed_names (f ∷ fs) a found env e values h name =
-    let t = taken_from f fs a found e in
-    subst (λ fd. IsTypedBound (put_all fd env name)) t.whole
-    (one_typed (bytes_eq name f.name) (Some (has_value (find_type f) t.value)) (put_all t.rest env name) (fit_bound f.scalar f.values t.own f.indices t.given t.value (values 0 f (omega arith)) t.fits)
-    (typed_names fs a t.rest env t.others (λ k d less. values (suc k) d (omega (arith, less))) h name))
-
 pub many_numbers : (fs : List Find) (a : Assigned) (found : Found) → found_values fs a ≡ Some found → sum_by (λ f. cell_count f.indices) fs ≡ length (found_numbers found)
 unfolding found_values found_numbers bound_numbers
 many_numbers [] a found e = ap (λ fd. length (found_numbers fd)) (some_is e)
@@ -279,8 +176,8 @@ found_reading mode i a found closed fits = record {
   numbers = found_numbers found;
   values = under i found;
   reads = record {
-    agree = agrees_names i.finds a found i.env fits.values closed.decided;
-    typed = typed_names i.finds a found i.env fits.values closed.values closed.of_types;
+    agree = (found_alike i closed a found fits).agree;
+    typed = (found_alike i closed a found fits).typed;
     names = reads_names i.finds a found i.env fits.values closed.decided (found_numbers found) [] [] 0 (sym (append-nil (found_numbers found))) refl;
     long = (let same = many_numbers i.finds a found fits.values in omega (arith, same));
   };

@@ -1,11 +1,13 @@
 -- What indices leave of what was unrolled, one part after another.
-use Rattle.std.proofs.Common.{◌≡◌, ℕ, ℤ, List, [], ◌∷◌, ◌++◌, Some, None, refl, sym, ap, subst, ◌∙◌, append_assoc}
-use Rattle.std.specs.Prelude.{Option, map, option_and_then, option_map}
+use Rattle.std.proofs.Common.{◌≡◌, ℕ, ℤ, false, List, [], ◌∷◌, ◌++◌, Some, None, refl, sym, ap, subst, ◌∙◌, append_assoc}
+use Rattle.std.specs.Prelude.{Option, is_some, map, option_and_then, option_map}
 use Rattle.std.proofs.lemmas.List.{append-nil, map-append}
 use Rattle.std.specs.declared.alloc.Global.{Global}
 use Rattle.std.specs.declared.vec.Vec.{Vec}
-use Rattle.ep_base.proofs.Small.{some_is}
+use Rattle.ep_base.proofs.Small.{no_some, some_is}
 use Rattle.ep_eval.proofs.Lists.{values_from-map}
+use Rattle.ep_eval.specs.Helds.{seen_held}
+use Rattle.ep_eval.specs.declared.held.Held.{Held}
 use Rattle.ep_ground.specs.Nodes.{GroundNode}
 use Rattle.ep_tree.specs.Values.{Index, ValueTree, all_defined, any_index, as_parts, at_index, matrix, read_value}
 use Rattle.ep_tree.specs.Views.{value_tree, values_from}
@@ -176,3 +178,8 @@ opened_done own all left js ys so none same nodes numbers =
 
 pub opened_terms : (all left : List Value) (js : Vec ℤ Global) (ys : Vec Unrolled Global) → OpenedSoFar all left ys.items → (count : ℕ) → AreTerms count (Matrix js ys)
 opened_terms all left js ys so count = terms_matrix count js ys (so.terms count)
+
+-- what has no value has none that indices could leave something of
+pub nothing_seen : {P : Type 0} (seen : Option Held) (v : ValueTree) → is_some seen ≡ false → seen_held seen ≡ Some v → P
+nothing_seen None v none e = no_some e
+nothing_seen (Some held) v none e = absurd cc

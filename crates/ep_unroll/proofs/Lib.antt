@@ -28,6 +28,7 @@ pub mod PickSteps
 pub mod PowerSteps
 pub mod ProductSteps
 pub mod ReadValues
+pub mod RunParts
 pub mod ScalarSteps
 pub mod SetSteps
 pub mod SlotSteps

@@ -1,5 +1,5 @@
 -- Parts of blocks of cells.
-use Rattle.std.proofs.Common.{◌≡◌, ℕ, suc, ◌+◌, ◌*◌, ◌<◌, ◌≤◌, Bool, true, false, ℤ, List, [], ◌∷◌, ◌++◌, length, drop, get_or, Some, None, refl, sym, ap, subst, ◌∙◌, arith, append_assoc, slice_get, Ok, Err}
+use Rattle.std.proofs.Common.{◌≡◌, ℕ, suc, ◌+◌, ◌<◌, ◌≤◌, Bool, true, false, ℤ, List, [], ◌∷◌, ◌++◌, length, drop, get_or, Some, None, refl, sym, ap, subst, ◌∙◌, arith, append_assoc, slice_get, Ok, Err}
 use Rattle.std.specs.Prelude.{Option, Result, IfOk, map, option_and_then, option_map, if◌then◌else◌}
 use Rattle.std.specs.Ordering.{int_eq}
 use Rattle.std.proofs.lemmas.List.{append-nil, at_drop_all, at_drop_more, map-append}
@@ -25,62 +25,6 @@ use Rattle.ep_unroll.specs.Blocks.{IsWorth, StandFor, block_under, cell_of, one_
 use Rattle.ep_unroll.specs.Meanings.{AreTerms, Means, worth}
 use Rattle.ep_unroll.specs.Readings.{Numbering, Reading, ReadsName, cells_value, each_from}
 use Rattle.ep_unroll.specs.declared.unrolled.Unrolled.{Unrolled, Number, Cells, Fixed, Matrix'}
-
--- ---- what is there
-
--- ---- counting
-
-pub times_begin : (each : ℕ) (all left : List ℤ) → left ≡ all → 0 + length left * each ≡ length all * each
-times_begin each all left same = none_before (length left * each) ∙ ap (λ l. length l * each) same
-  where
-    none_before : (a : ℕ) → 0 + a ≡ a
-    none_before a = omega arith
-
-pub times_more : (each : ℕ) (all left rest : List ℤ) (x : ℤ) (count more : ℕ) → left ≡ x ∷ rest → count + length left * each ≡ length all * each → more ≡ count + each
-    → more + length rest * each ≡ length all * each
-times_more each all left rest x count more cut h is =
-    ap (λ k. k + length rest * each) is ∙ shifted count each (length rest * each) ∙ ap (λ m. count + m) (sym (one_more each (length rest)) ∙ ap (λ l. length l * each) (sym cut)) ∙ h
-  where
-    shifted : (a b c : ℕ) → a + b + c ≡ a + (b + c)
-    shifted a b c = omega arith
-
-    one_more : (k n : ℕ) → suc n * k ≡ k + n * k
-    one_more k n = grind arith
-
-pub times_all : (each : ℕ) (all left : List ℤ) (count : ℕ) → left ≡ [] → count + length left * each ≡ length all * each → count ≡ length all * each
-times_all each all left count none h = none_more count each ∙ ap (λ l. count + length l * each) (sym none) ∙ h
-  where
-    none_more : (a b : ℕ) → a ≡ a + 0 * b
-    none_more a b = omega arith
-
-pub cells_one : (domains : List (List ℤ)) → domains ≡ [] → 1 ≡ cell_count domains
-unfolding cell_count
-cells_one domains none = ap cell_count (sym none)
-
-pub cells_more : (domains : List (List ℤ)) (own : List ℤ) (inner : List (List ℤ)) (each count : ℕ) → domains ≡ own ∷ inner → each ≡ cell_count inner → count ≡ length own * each → count ≡ cell_count domains
-unfolding cell_count
-cells_more domains own inner each count cut is h = h ∙ ap (λ k. length own * k) is ∙ ap cell_count (sym cut)
-
--- ---- the part with an index
-
-pub cell_passed : (first cell each more : ℕ) (all left rest : List ℤ) (x i : ℤ) → left ≡ x ∷ rest → int_eq i x ≡ false → cell_of cell each left i ≡ cell_of first each all i → more ≡ cell + each
-    → cell_of more each rest i ≡ cell_of first each all i
-unfolding cell_of
-cell_passed first cell each more all left rest x i cut other h is =
-    ap (λ k. cell_of k each rest i) is
-    ∙ sym (ap (λ b. if b then Some cell else cell_of (cell + each) each rest i) other)
-    ∙ ap (λ l. cell_of cell each l i) (sym cut) ∙ h
-
-pub cell_met : (first cell each : ℕ) (all left rest : List ℤ) (x i : ℤ) → left ≡ x ∷ rest → int_eq i x ≡ true → cell_of cell each left i ≡ cell_of first each all i
-    → Some cell ≡ cell_of first each all i
-unfolding cell_of
-cell_met first cell each all left rest x i cut same h =
-    sym (ap (λ b. if b then Some cell else cell_of (cell + each) each rest i) same)
-    ∙ ap (λ l. cell_of cell each l i) (sym cut) ∙ h
-
-pub cell_none : (first cell each : ℕ) (all left : List ℤ) (i : ℤ) → left ≡ [] → cell_of cell each left i ≡ cell_of first each all i → None ≡ cell_of first each all i
-unfolding cell_of
-cell_none first cell each all left i none h = ap (λ l. cell_of cell each l i) (sym none) ∙ h
 
 pub no_block : (first : ℕ) (domains : List (List ℤ)) (i : ℤ) → domains ≡ [] → None ≡ block_under first domains i
 unfolding block_under

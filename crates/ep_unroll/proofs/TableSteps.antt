@@ -1,5 +1,5 @@
 -- Where the cells of decision variables begin, and how many there are, one variable after another.
-use Rattle.std.proofs.Common.{◌≡◌, ℕ, ◌+◌, ◌*◌, ◌<◌, ◌≤◌, ℤ, List, [], ◌∷◌, ◌++◌, length, drop, get_or, Some, refl, sym, ap, ◌∙◌, arith}
+use Rattle.std.proofs.Common.{◌≡◌, ℕ, zero, suc, subst, ◌+◌, ◌*◌, ◌<◌, ◌≤◌, ℤ, List, [], ◌∷◌, ◌++◌, length, drop, get_or, Some, refl, sym, ap, ◌∙◌, arith}
 use Rattle.std.specs.Prelude.{Option, bytes_eq, if◌then◌else◌, map, sum_by}
 use Rattle.std.proofs.lemmas.List.{at_drop_all, at_drop_more}
 use Rattle.std.proofs.lemmas.List.Sums.{sum_by-cons}
@@ -101,3 +101,37 @@ times_one n = omega arith
 pub cells_all : (ds : List (List ℤ)) (i count : ℕ) → length ds ≤ i → count * cell_count (drop i ds) ≡ cell_count ds → count ≡ cell_count ds
 unfolding cell_count
 cells_all ds i count h was = times_one count ∙ ap (λ m. count * m) (sym (at_drop_all cell_count ds i h)) ∙ was
+
+-- ---- whether there is one at all
+
+nought : (n : ℕ) → 0 * n ≡ 0
+nought n = omega arith
+
+pub one_empty : (ds : List (List ℤ)) (i : ℕ) (x d : List ℤ) (n : ℕ) → i < length ds → x ≡ get_or ds i d → n ≡ length x → n ≡ 0
+    → (cell_count (drop i ds) ≡ 0 → cell_count ds ≡ 0) → cell_count ds ≡ 0
+unfolding cell_count
+one_empty ds i x d n h same long none was =
+    was (at_drop_more cell_count ds i d h ∙ ap (λ m. m * cell_count (drop (i + 1) ds)) (ap length (sym same) ∙ sym long ∙ none) ∙ nought (cell_count (drop (i + 1) ds)))
+
+product_empty : (n rest : ℕ) → rest ≡ 0 → n * rest ≡ 0
+product_empty n rest none = grind (arith, none)
+
+pub rest_empty : (ds : List (List ℤ)) (i : ℕ) (d : List ℤ) → i < length ds → (cell_count (drop i ds) ≡ 0 → cell_count ds ≡ 0) → cell_count (drop (i + 1) ds) ≡ 0 → cell_count ds ≡ 0
+unfolding cell_count
+rest_empty ds i d h was none =
+    was (at_drop_more cell_count ds i d h ∙ product_empty (length (get_or ds i d)) (cell_count (drop (i + 1) ds)) none)
+
+product_filled : (n rest : ℕ) → (n ≡ 0 → ⊥) → 1 ≤ rest → 1 ≤ n * rest
+product_filled zero rest some more = absurd (some refl)
+product_filled (suc n) rest some more = grind (arith, more)
+
+pub rest_filled : (ds : List (List ℤ)) (i : ℕ) (x d : List ℤ) (n : ℕ) → i < length ds → x ≡ get_or ds i d → n ≡ length x → (n ≡ 0 → ⊥)
+    → (1 ≤ cell_count (drop i ds) → 1 ≤ cell_count ds) → 1 ≤ cell_count (drop (i + 1) ds) → 1 ≤ cell_count ds
+unfolding cell_count
+rest_filled ds i x d n h same long some was more =
+    was (subst (λ m. 1 ≤ m) (sym (at_drop_more cell_count ds i d h))
+    (product_filled (length (get_or ds i d)) (cell_count (drop (i + 1) ds)) (λ none. some (long ∙ ap length same ∙ none)) more))
+
+pub end_filled : (ds : List (List ℤ)) (i : ℕ) → length ds ≤ i → (1 ≤ cell_count (drop i ds) → 1 ≤ cell_count ds) → 1 ≤ cell_count ds
+unfolding cell_count
+end_filled ds i h was = was (subst (λ m. 1 ≤ m) (sym (at_drop_all cell_count ds i h)) (omega arith))

@@ -1,20 +1,19 @@
 -- The names of a reading stand for values of their types.
 use Rattle.std.proofs.Common.{◌≡◌, Bool, true, false, ◌&&◌, ◌||◌, ℤ, pos, List, [], ◌∷◌, Some, None, refl, sym, ap, subst, ◌∙◌}
-use Rattle.std.specs.Prelude.{Option, if◌then◌else◌, length, option_map, unwrap_or}
+use Rattle.std.specs.Prelude.{Option, option_map, unwrap_or}
 use Rattle.std.specs.List.{list_all}
 use Rattle.std.specs.Ordering.{int_eq}
 use Rattle.std.proofs.lemmas.Bool.Decides.{Decides-int_eq}
-use Rattle.ep_base.specs.Numbers.{has_number, is_one, of_bool}
+use Rattle.ep_base.specs.Numbers.{is_one, of_bool}
 use Rattle.ep_base.specs.declared.names.Name.{Name}
 use Rattle.ep_tree.proofs.TypedEvaluation.{domain_typed, put_typed, value_typed}
-use Rattle.ep_tree.proofs.TypedFitting.{fitted_typed}
 use Rattle.ep_tree.specs.Agreement.{Agree, AgreeOn}
-use Rattle.ep_tree.specs.Environments.{Bound, Env, context_of, has_cells, has_domain, has_value, scalar_in, shape_type, with_number}
+use Rattle.ep_tree.specs.Environments.{Bound, Env, context_of, has_cells, has_domain, has_value, scalar_in, with_number}
 use Rattle.ep_tree.specs.Evaluation.{domain_values, evaluate, type_in}
 use Rattle.ep_tree.specs.Trees.{DomainTree, ExprTree}
-use Rattle.ep_tree.specs.TypedValues.{IsOf, IsOfDims, IsTypedBound, IsTypedEnv, is_number_of}
+use Rattle.ep_tree.specs.TypedValues.{IsTypedBound, IsTypedEnv, is_number_of}
 use Rattle.ep_tree.specs.Types.{Judged, judge, judge_domain, mistyped, of_scalar, scalar_of, type_from, typed, untyped}
-use Rattle.ep_tree.specs.Values.{ValueTree, fitted, single}
+use Rattle.ep_tree.specs.Values.{single}
 use Rattle.ep_tree.specs.declared.values.Scalar.{Scalar}
 use Rattle.ep_tree.specs.declared.values.ValueType.{ValueType}
 use Rattle.ep_unroll.specs.Readings.{Numbering, Reading}
@@ -28,33 +27,6 @@ and_right true b h = h
 and_right false b h = absurd cc
 
 -- ---- decision variables
-
--- a number that stands in a list passes what all of it passes
-one_passes : (p : ℤ → Bool) (n : ℤ) (ns : List ℤ) → list_all p ns ≡ true → has_number ns n ≡ true → p n ≡ true
-unfolding has_number
-one_passes p n [] h k = absurd cc
-one_passes p n (m ∷ ns) h k = by (int_eq n m) refl k (λ l. one_passes p n ns (and_right (p m) (list_all p ns) h) l)
-  where
-    by : (b : Bool) → int_eq n m ≡ b → (b || has_number ns n) ≡ true → (has_number ns n ≡ true → p n ≡ true) → p n ≡ true
-    by true is l below = ap p ((Decides-int_eq n m).0 is) ∙ and_left (p m) (list_all p ns) h
-    by false is l below = below l
-
-shaped : (s : Scalar) (indices : List (List ℤ)) (v : ValueTree) → IsOfDims s (length indices) v → IsOf (shape_type s indices) v
-unfolding shape_type of_scalar
-shaped Scalar.Bool [] v h = h
-shaped Scalar.Int [] v h = h
-shaped s (i ∷ is) v h = h
-
--- what a value fits is of its type
-pub fit_bound : (s : Scalar) (values : List ℤ) (own : Scalar) (indices : List (List ℤ)) (v w : ValueTree) → list_all (is_number_of s) values ≡ true
-    → fitted own s (has_number values) indices v ≡ Some w → IsTypedBound (Some (has_value (shape_type s indices) w))
-unfolding IsTypedBound
-fit_bound s values own indices v w all e =
-    shaped s indices w (fitted_typed own s (has_number values) (λ n h. one_passes (is_number_of s) n values all h) indices v w e)
-
-pub one_typed : (b : Bool) (x y : Option Bound) → IsTypedBound x → IsTypedBound y → IsTypedBound (if b then x else y)
-one_typed true x y h k = h
-one_typed false x y h k = k
 
 -- where the values of decision variables are of their types, the names are that have cells
 bound_back : (one other : Option Bound) → AgreeOn one other → IsTypedBound other → IsTypedBound one

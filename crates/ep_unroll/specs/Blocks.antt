@@ -1,5 +1,5 @@
 -- Blocks of cells: where the parts of one begin, what stands for a name, and what indices leave of one.
-use Rattle.std.specs.Prelude.{◌≡◌, ℕ, ◌+◌, List, [], ◌∷◌, ℤ, Some, None, Option, option_map, map, if◌then◌else◌}
+use Rattle.std.specs.Prelude.{◌≡◌, ℕ, ◌+◌, List, [], ◌∷◌, ℤ, Some, None, Option, option_map, if◌then◌else◌}
 use Rattle.std.specs.Ordering.{int_eq}
 use Rattle.ep_base.specs.declared.names.Name.{Name}
 use Rattle.ep_eval.specs.Helds.{seen_held}

@@ -5,7 +5,7 @@ ghost use Rattle.std.specs.Prelude.{◌≡◌, ◌++◌, IfOk, OnOk, flat_map, m
 ghost use Rattle.ep_tree.specs.Closed.{clause_env};
 ghost use Rattle.ep_tree.specs.Environments.{has_cells};
 ghost use Rattle.ep_tree.specs.Names.{put, put_all};
-ghost use Rattle.ep_tree.specs.Solutions.{cell_count, cells_bound};
+ghost use Rattle.ep_tree.specs.Solutions.{cells_bound};
 ghost use Rattle.ep_tree.specs.Types as types;
 ghost use Rattle.ep_tree.specs.declared.values.Mode.{Mode as EachMode};
 ghost use Rattle.ep_eval.specs.Known.{env_of};
@@ -14,13 +14,14 @@ ghost use Rattle.ep_unroll.specs.Cells as defined;
 ghost use Rattle.ep_unroll.specs.Cells.{cell_of, find_cells};
 ghost use Rattle.ep_unroll.specs.Firsts.{numbering, numbering_of};
 
+use super::blocks::cells_over;
 use super::firsts::{CellTable, FirstCell};
 use super::listing::index_lists;
-use ep_base::{Key, Memory, Name, Runs};
+use ep_base::{Key, Memory, Name};
 use ep_eval::Env;
 use ep_ground::Cell;
 use ep_instance_parts::{Find, Instance};
-use ep_numbers::{copy_sets, listed};
+use ep_numbers::copy_sets;
 use ep_tree::Scalar;
 use std::alloc::Global;
 
@@ -62,21 +63,6 @@ pub fn cells_of(alloc: Global, finds: &[Find]) -> Result<Vec<Cell>, Memory>
     Ok(cells)
 }
 
-/// How many cells index domains make.
-fn cells_over(alloc: Global, domains: &[Runs]) -> Result<u64, Memory>
-    ensures { IfOk result (λ count. count ≡ cell_count domains.now) }
-{
-    let mut count: u64 = 1;
-    for domain in domains {
-        let indices = listed(alloc, domain)?.len() as u64;
-        let Some(product) = count.checked_mul(indices) else {
-            return Err(Memory);
-        };
-        count = product;
-    }
-    Ok(count)
-}
-
 /// Where the cells of each decision variable begin.
 pub fn table_of(alloc: Global, finds: &[Find]) -> Result<CellTable, Memory>
     ensures { IfOk result (λ t. (mode : EachMode) → numbering_of mode t ≡ numbering mode (map find_of finds.now)) }
@@ -84,7 +70,7 @@ pub fn table_of(alloc: Global, finds: &[Find]) -> Result<CellTable, Memory>
     let mut firsts = Vec::new(alloc);
     let mut count: u64 = 0;
     for find in finds {
-        let cells = cells_over(alloc, &find.indices)?;
+        let cells = cells_over(&find.indices)?;
         let name = Name::new(alloc, find.name.text())?;
         firsts.push(FirstCell { name, cell: count })?;
         let Some(sum) = count.checked_add(cells) else {

@@ -113,7 +113,8 @@ fn left_of<'a>(
     }
 }
 
-/// The same of what was evaluated. Where that is no matrix, it ends as want of memory: a number has no part.
+/// The same of what was evaluated. Of what has no value nothing is left; where it is a number, it ends as want of memory: a
+/// number has no part.
 #[cycle(leaving)]
 fn left_of_seen<'a>(
     alloc: Global,
@@ -124,6 +125,9 @@ fn left_of_seen<'a>(
     ensures worth { IfOk result (IsLeft (λ nodes numbers. seen_held seen.now) (index_in index ∷ indices_in rest.now)) }
     ensures terms { IfOk result (λ x. (count : ℕ) → AreTerms count x) }
 {
+    if seen.is_none() {
+        return Ok(Unrolled::Fixed(None));
+    }
     let known = opened_seen(alloc, seen)?;
     match &known {
         Unrolled::Matrix(own, parts) => left_in(alloc, own, parts, index, rest),

@@ -3,6 +3,7 @@
 ghost use Rattle.std.specs.Prelude.{◌≡◌, ◌++◌, ◌∷◌, [], IfOk, OnOk, flat_map, map};
 ghost use Rattle.ep_unroll.specs.Cells as defined;
 
+use super::blocks::cells_over;
 use ep_base::{Key, Memory, Runs};
 use ep_numbers::listed;
 use std::alloc::Global;
@@ -55,10 +56,15 @@ fn no_index(alloc: Global) -> Result<Vec<Key>, Memory>
     Ok(keys)
 }
 
-/// The lists of indices over index domains, the last index running fastest.
+/// The lists of indices over index domains, the last index running fastest. Where one of these is empty there is none, however
+/// long the others are.
 pub fn index_lists(alloc: Global, domains: &[Runs]) -> Result<Vec<Key>, Memory>
     ensures { IfOk result (λ keys. keys.items ≡ defined.index_lists domains.now) }
 {
+    let cells = cells_over(domains)?;
+    if cells == 0 {
+        return Ok(Vec::new(alloc));
+    }
     let mut keys = no_index(alloc)?;
     let count = domains.len();
     for passed in 0..count {

@@ -7,7 +7,7 @@ use Rattle.ep_tree.specs.Values.{index_in, indices_in, read_value}
 use Rattle.ep_unroll.proofs.EntrySteps.{part_terms}
 use Rattle.ep_unroll.proofs.FormValues.{if_ok}
 use Rattle.ep_unroll.proofs.GrownParts.{matrix_terms, matrix_worth}
-use Rattle.ep_unroll.proofs.LeftSteps.{left_begin, left_done, left_more, left_nowhere, left_part, left_terms}
+use Rattle.ep_unroll.proofs.LeftSteps.{left_begin, left_done, left_more, left_nowhere, left_part, left_terms, nothing_seen}
 use Rattle.ep_unroll.proofs.PartSteps.{is_worth}
 use Rattle.ep_unroll.specs.Lefts.{IsLeft}
 use Rattle.ep_unroll.specs.Meanings.{AreTerms, worth}
@@ -125,3 +125,10 @@ left_of_seen-returns-in-Matrix-clause-terms t c =
     (λ x h count. h count
     (subst (HaveTerms count) (sym c.deref-in-Matrix.ensures.value) (matrix_terms count c.in-Matrix.own c.in-Matrix.parts (subst (AreTerms count) c.in-Matrix.is (c.in_ok-known.ensures.terms count)))))
     c.left_in.ensures.terms
+
+pub left_of_seen-returns-then-is_none-clause-worth : goal.left_of_seen-returns-then-is_none-clause-worth
+left_of_seen-returns-then-is_none-clause-worth t c nodes numbers v e = nothing_seen c.args.seen.now v c.if-is_none.ensures e
+
+pub left_of_seen-returns-then-is_none-clause-terms : goal.left_of_seen-returns-then-is_none-clause-terms
+unfolding AreTerms
+left_of_seen-returns-then-is_none-clause-terms t c count = tt

@@ -1,6 +1,7 @@
 use Rattle.std.proofs.Common.{◌≡◌, ℕ, ◌+◌, ◌-◌, ◌<◌, ℤ, List, length, drop, ap, sym, ◌∙◌, arith}
 use Rattle.ep_unroll.specs.Cells.{index_lists}
 use Rattle.ep_unroll.proofs.IndexLists.{lists_step}
+use Rattle.ep_unroll.proofs.RunParts.{no_index_lists}
 use Rattle.ep_unroll.proofs.listing.index_lists.Goals as goal
 
 pub loop-passed-preserved : goal.loop-passed-preserved
@@ -15,3 +16,6 @@ loop-passed-preserved c =
     (c.deref-in-loop-passed.ensures.value ∙ c.loop-passed.invariant ∙ ap (λ n. index_lists (drop n ds)) here)
     c.in_ok-keys-2.ensures
     ∙ sym (ap (λ n. index_lists (drop n ds)) there)
+
+pub returns-then-cells-eq0 : goal.returns-then-cells-eq0
+returns-then-cells-eq0 c = c.new.ensures.items ∙ no_index_lists c.args.domains.now (sym c.if-cells-eq0.true ∙ c.in_ok-cells.ensures)

@@ -1,6 +1,6 @@
 use Rattle.std.proofs.Common.{◌≡◌, ◌*◌, drop}
 use Rattle.ep_tree.specs.Solutions.{cell_count}
-use Rattle.ep_unroll.proofs.cells.cells_over.Given as goal
+use Rattle.ep_unroll.proofs.blocks.cells_over.Given as goal
 
 abbrev pub invariant-loop-domain : goal.invariant-loop-domain
 invariant-loop-domain l = l.count * cell_count (drop l.domain-index l.domains) ≡ cell_count l.domains
