@@ -12,18 +12,8 @@ use crate::images::{
 };
 use ep_base::{Key, Memory};
 use ep_ground::{Node, Term};
+use ep_numbers::copy_keys;
 use std::alloc::Global;
-
-/// The same keys once more.
-pub fn copied_keys(alloc: Global, keys: &[Key]) -> Result<Vec<Key>, Memory>
-    ensures { IfOk result (λ copy. copy.items ≡ keys.now) }
-{
-    let mut copy = Vec::new(alloc);
-    for key in keys {
-        copy.push(key.copy(alloc)?)?;
-    }
-    Ok(copy)
-}
 
 /// The safe form of a node, over the terms that always have values.
 #[tactic(auto, using(crate::proofs::Listing::first_below, crate::proofs::Listing::second_below, crate::proofs::Listing::rest_below, crate::proofs::Listing::left_below, crate::proofs::Listing::right_below), unfolding(ep_ground::specs::SameTrees::with_parts, crate::specs::Images::made_safe, ep_ground::specs::Nodes::parts_of))]
@@ -71,7 +61,7 @@ fn safe_pick(
         ≡ safe_pick (map (total_at images.now) parts.now) keys.now (map (total_at images.now) indices.now)) }
 {
     let totals_of_parts = totals(alloc, images, parts)?;
-    let copy = copied_keys(alloc, keys)?;
+    let copy = copy_keys(alloc, keys)?;
     let totals_of_indices = totals(alloc, images, indices)?;
     Ok(Node::SafePick(totals_of_parts, copy, totals_of_indices))
 }
@@ -116,7 +106,7 @@ fn safe_truth(alloc: Global, images: &[Image], node: &Node) -> Result<Node, Memo
         }
         Node::Table(parts, rows) => {
             let first = totals(alloc, images, parts)?;
-            let copy = copied_keys(alloc, rows)?;
+            let copy = copy_keys(alloc, rows)?;
             Ok(Node::Table(first, copy))
         }
         _ => Err(Memory),
