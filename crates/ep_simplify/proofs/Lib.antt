@@ -1,0 +1,11 @@
+mod Values
+mod Untold
+mod Taking
+mod Forms
+mod Deciding
+mod Negating
+mod Joining
+mod Settled
+mod Images
+mod Simplified
+mod Additions

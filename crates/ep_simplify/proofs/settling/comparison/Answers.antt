@@ -1,0 +1,30 @@
+use Rattle.std.proofs.Common.{refl}
+use Rattle.ep_ground.specs.Bounds.{node_reach}
+use Rattle.ep_ground.specs.Grounds.{StandsOver}
+use Rattle.ep_ground.specs.Nodes.{compare, is_partial, parts_of}
+use Rattle.ep_simplify.proofs.Taking.{own_settles, truth_settles}
+use Rattle.ep_simplify.proofs.Untold.{comparison_untold}
+use Rattle.ep_simplify.specs.Decided.{IsOpen}
+use Rattle.ep_simplify.proofs.settling.comparison.Goals as goal
+
+pub take-requires : goal.take-requires
+unfolding parts_of is_partial StandsOver IsOpen
+take-requires c = record {
+  news = c.requires.news;
+  room = c.requires.room;
+  parts = c.requires.parts;
+  safe = record { whole = refl; stands = tt };
+  undecided = c.compared.ensures.undecided c.in-None.is;
+  untold = λ were own. comparison_untold c.args.cells.now c.args.news.now.arena c.args.op c.args.a c.args.b (c.compared.ensures.untold c.in-None.is were.near c.args.cells.now c.requires.news);
+}
+
+pub returns-in_ok-outcome-in-Some : goal.returns-in_ok-outcome-in-Some
+unfolding node_reach
+returns-in_ok-outcome-in-Some c =
+    truth_settles c.args.cells.now c.args.news.now c.truth.new.news (compare c.args.op c.args.a c.args.b) c.in-Some.known c.in_ok-outcome-in-Some.outcome c.requires.news refl
+    (c.in-Some.ensures.says c.args.cells.now c.requires.news) c.in_ok-outcome-in-Some.ensures
+
+pub returns-in_ok-own-in-None : goal.returns-in_ok-own-in-None
+unfolding parts_of
+returns-in_ok-own-in-None c =
+    own_settles c.args.cells.now c.args.news.now c.take.new.news (compare c.args.op c.args.a c.args.b) c.in_ok-own-in-None.own c.requires.news c.requires.parts c.in_ok-own-in-None.ensures
