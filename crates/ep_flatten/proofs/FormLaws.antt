@@ -19,7 +19,7 @@ use Rattle.ep_flatten.proofs.SumLaws.{all_from, sum_numbers, weighed_numbers}
 use Rattle.ep_base.specs.Intervals.{Interval, LiesIn}
 use Rattle.ep_base.specs.Options.{on_both}
 use Rattle.ep_flatten.specs.Building.{form_reach}
-use Rattle.ep_flatten.proofs.Reaches.{Lie, node_lies, truth_lies}
+use Rattle.ep_reach.proofs.Lies.{Lie, node_lies, truth_lies}
 use Rattle.ep_flatten.proofs.Unrolled.{node_same, unrolled, weighed_same}
 use Rattle.ep_ground.specs.Grounds.{AreCellValues, LeadsTo, by_part, itself}
 use Rattle.ep_ground.specs.declared.cells.Cell.{Cell}

@@ -20,11 +20,12 @@ use Rattle.ep_ground.specs.Bounds.{IsBounded, node_reach, reach_at, term_reach}
 use Rattle.ep_ground.specs.Grounds.{AreCellValues, GroundState, IsTermReached}
 use Rattle.ep_ground.specs.declared.cells.Cell.{Cell}
 use Rattle.ep_flatten.specs.Forms.{AreNumbersOf, TermForm, form_parts, form_value}
+use Rattle.ep_flatten.specs.Images.{HaveNumbersOf, HoldsImage, domain_at}
 use Rattle.ep_flatten.specs.Saying.{SaysForm, variable_at, value_under}
 use Rattle.ep_flatten.proofs.FormLaws.{form_lies, form_same}
 use Rattle.ep_flatten.specs.Building.{Built, Covers, CoversForm, Extends, HasAll, IsBuilt, IsMarked, IsTermOf, flat_of, span_at}
 use Rattle.ep_flatten.proofs.Frames.{at_end, cons_back, cons_stay, domains_more, domains_split, earlier, names_more, numbers_agree}
-use Rattle.ep_flatten.proofs.Reaches.{Lie, node_lies, term_lies}
+use Rattle.ep_reach.proofs.Lies.{Lie, node_lies, term_lies}
 use Rattle.ep_flatten.proofs.Unrolled.{all_left, all_right, unrolled}
 
 -- ---- lists
@@ -339,9 +340,17 @@ sound_further b d more h small names coefficients = record {
 alone : (P : FlatCon → Type 0) (con : FlatCon) → P con → All P (con ∷ [])
 alone P con h = All-cons P con [] h (All-nil P)
 
+-- the variables of terms have numbers of their domains
+numbers_there : (vars : List (List ℤ)) (places : List ℕ) (front : List ℤ) → AllZip Contains vars front → (ts : List ℕ) → All (λ p. variable_at places p < length vars) ts
+    → HaveNumbersOf vars places (value_under front places) ts
+unfolding value_under
+numbers_there vars places front h ts placed =
+    All-weaker (λ p. variable_at places p < length vars) (λ t. (n : ℤ) → value_under front places t ≡ Some n → Contains (domain_at vars places t) n)
+    (λ t l n e. subst (Contains (domain_at vars places t)) (some_is e) (contained vars front (variable_at places t) h l)) ts placed
+
 -- an operation has a variable of its own, and its constraint
 pub with_operation : (g : GroundState) (marks : List Bool) (t : ℕ) (b : Built) (node : GroundNode) (form : TermForm) (con : FlatCon) (d : List ℤ) (span : Interval)
-    → IsBuilt g marks t b → IsTermOf g marks t node form → IsBounded g → CoversForm g.cells b.spans node form span → SaysForm b.places node form (length b.vars) con → HasAll d span
+    → IsBuilt g marks t b → IsTermOf g marks t node form → IsBounded g → CoversForm g.cells b.spans node form span → SaysForm b.places node form (length b.vars) con → HoldsImage b.vars b.places node form span d
     → IsBuilt g marks (t + 1) (later b (d ∷ []) (b.cons ++ con ∷ []) (length b.vars) span)
 unfolding value_under
 with_operation g marks t b node form con d span h at bounded covers says has =
@@ -361,13 +370,15 @@ with_operation g marks t b node form con d span h at bounded covers says has =
     let holds_is : (front : List ℤ) (n : ℤ) → length front ≡ r → con_holds (front ++ n ∷ []) con ≡ int_eq n (says.value front) =
     λ front n long. says.says (front ++ n ∷ []) ∙ ap (λ m. int_eq m (says.value (front ++ n ∷ []))) (at_end front n r long) ∙ ap (int_eq n) (same_value front n long) in
     grown g marks t b d (con ∷ []) span says.value h
-    (sound_further b d (con ∷ []) h.sound (small_domain d span covers.small has)
+    (sound_further b d (con ∷ []) h.sound has.small
     (alone (NamesBelow (r + 1)) con (says.names (r + 1) (omega arith) (All-weaker (λ p. variable_at b.places p < r) (λ p. variable_at b.places p < r + 1) (λ p l. omega (arith, l)) (form_parts node form) placed)))
     (alone HasSmallCoefficients con (says.coefficients (at.is.coefficients (subst (λ n. All IsWithinNumbers (coefficients_of n)) (get_or_from_slice_get g.nodes t node undefined at.got) (bounded.coefficients t at.reached))))))
     (record {
       forth = λ front meets.
           let long = zip_length b.vars front meets.domains in (
-            (has (says.value front)).1 (ends (numbers_of_vars front b.cells) (cells_of g.cells b.cells b.vars front meets.domains h.cells h.domains) (says.value front) (told front meets)),
+            has.holds (numbers_of_vars front b.cells) (value_under front b.places) (numbers_there b.vars b.places front meets.domains (form_parts node form) placed) (says.value front)
+                (says.gives (numbers_of_vars front b.cells) front)
+                (ends (numbers_of_vars front b.cells) (cells_of g.cells b.cells b.vars front meets.domains h.cells h.domains) (says.value front) (told front meets)),
             alone (λ c. IsTrue (con_holds (front ++ says.value front ∷ []) c)) con
                 ((holds_is front (says.value front) long ∙ (Decides-int_eq (says.value front) (says.value front)).1 refl)),
           );

@@ -1,8 +1,8 @@
-pub mod Reaches
 pub mod Unrolled
 pub mod Sayings
 pub mod Truths
 pub mod Frames
+pub mod ImageSteps
 pub mod Growing
 pub mod MarkedTerms
 pub mod Adding

@@ -6,3 +6,4 @@ pub mod Marking
 pub mod Forms
 pub mod Sums
 pub mod FormViews
+pub mod Images

@@ -17,6 +17,7 @@ ghost use Rattle.ep_ground.specs.Nodes.{constant, cell, is_partial};
 
 use crate::constraints::form_constraint;
 use crate::forms::{Form, form_at};
+use crate::images::domain_for;
 use crate::intervals::clamped;
 use crate::marks::{Marks, is_marked};
 use crate::spans::form_span;
@@ -127,7 +128,8 @@ fn add_operation(alloc: Global, made: &mut Building, node: &Node, form: &Form) -
     let variable = made.vars.len() as u64;
     let span = form_span(&made.spans, node, form);
     let con = form_constraint(alloc, &made.places, node, form, variable)?;
-    made.vars.push(domain_of(alloc, span)?)?;
+    let domain = domain_for(alloc, &made.vars, &made.places, span, node, form)?;
+    made.vars.push(domain)?;
     made.cons.push(con)?;
     note(made, variable, span)
 }
@@ -146,7 +148,7 @@ fn note(made: &mut Building, variable: u64, span: Span) -> Result<(), Memory>
 }
 
 /// The numbers between two ends.
-fn domain_of(alloc: Global, span: Span) -> Result<Runs, Memory>
+pub fn domain_of(alloc: Global, span: Span) -> Result<Runs, Memory>
     ensures { IfOk result (λ domain. HasAll domain (interval_of span)) }
 {
     let mut parts = Vec::new(alloc);

@@ -15,10 +15,11 @@ ghost use Rattle.ep_ground.specs.Nodes as nodes;
 ghost use Rattle.ep_ground.specs.Nodes.{coefficients_of};
 
 use crate::forms::Form;
-use crate::lists::{copied_keys, literals_of, negated_parts, place_at, placed_parts, places_of};
+use crate::lists::{literals_of, negated_parts, place_at, placed_parts, places_of};
 use ep_base::{CompareOp, Key, LexOp, Memory, Runs};
 use ep_flat::{Con, ConKind};
 use ep_ground::{Node, Term};
+use ep_numbers::copy_keys;
 use std::alloc::Global;
 
 /// The constraint that makes the variable's number the value of a term with this node and this form.
@@ -205,7 +206,7 @@ fn pick(
     ensures { IfOk result (λ con. SaysOfNode places.now (nodes.safe_pick parts.now keys.now indices.now) variable (plain_con con)) }
 {
     let placed = places_of(alloc, places, parts)?;
-    let keys = copied_keys(alloc, keys)?;
+    let keys = copy_keys(alloc, keys)?;
     let at = places_of(alloc, places, indices)?;
     let kind = ConKind::Element(variable, placed, keys, at);
     Ok(Con { truth: None, kind })
@@ -343,6 +344,6 @@ fn table(alloc: Global, places: &[u64], parts: &[Term], rows: &[Key]) -> Result<
     ensures { IfOk result (λ kind. Tells places.now (nodes.table parts.now rows.now) (plain_kind kind)) }
 {
     let placed = places_of(alloc, places, parts)?;
-    let rows = copied_keys(alloc, rows)?;
+    let rows = copy_keys(alloc, rows)?;
     Ok(ConKind::Table(placed, rows))
 }

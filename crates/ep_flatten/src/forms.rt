@@ -12,11 +12,12 @@ ghost use Rattle.ep_ground.specs.NodeViews.{plain_node};
 ghost use Rattle.ep_ground.specs.Nodes as nodes;
 ghost use Rattle.ep_ground.specs.Nodes.{GroundNode};
 
+use crate::spans::{is_taken_far, term_span};
 use crate::sums::{TermSum, add_part, add_sum};
 use crate::uses::{use_count, uses_of};
 use ep_base::{CompareOp, Memory};
 use ep_ground::{Ground, Node, Term};
-use ep_numbers::is_near;
+use ep_numbers::{Span, is_near};
 use std::alloc::Global;
 
 /// How constraints speak of a term.
@@ -30,31 +31,46 @@ pub enum Form {
     Compare(CompareOp, Vec<(i64, Term)>, i64),
 }
 
+/// What is known of the terms before one.
+#[derive(Drop)]
+pub struct Seen {
+    /// How often each term is used, as far as that is told.
+    uses: Vec<u8>,
+    /// The interval of each term before it.
+    spans: Vec<Span>,
+}
+
 /// The forms of all terms. A sum stands in another sum and in a comparison by its parts, where it is
-/// used only there or has one part at most.
+/// used only there or has one part at most, and where its parts stay near enough to 0.
 pub fn forms_of(alloc: Global, g: &Ground) -> Result<Vec<Form>, Memory>
     ensures { IfOk result (λ forms.
         HaveForms (plain_ground g.now).nodes (length (plain_ground g.now).nodes) (plain_forms forms.items)) }
 {
     let uses = uses_of(alloc, g)?;
+    let mut seen = Seen {
+        uses,
+        spans: Vec::new(alloc),
+    };
     let mut forms = Vec::new(alloc);
     for term in 0..g.arena.len() {
         let node = g.arena.node(Term::new(term as u32));
-        let form = form_of(alloc, &uses, &forms, node)?;
+        let form = form_of(alloc, &seen, &forms, node)?;
+        let span = term_span(g, &seen.spans, node, &form);
         forms.push(form)?;
+        seen.spans.push(span)?;
     }
     Ok(forms)
 }
 
 /// The form of the next term, which has this node.
-pub fn form_of(alloc: Global, uses: &[u8], forms: &[Form], node: &Node) -> Result<Form, Memory>
+pub fn form_of(alloc: Global, seen: &Seen, forms: &[Form], node: &Node) -> Result<Form, Memory>
     ensures { IfOk result (λ form. IsNextForm (plain_forms forms.now) (plain_node node.now) (plain_form form)) }
 {
     match node {
         Node::Const(number) => Ok(Form::Sum(*number, Vec::new(alloc))),
-        Node::Add(number, parts) => sum_form(alloc, uses, forms, *number, parts),
-        Node::Mul(one, other) => product_form(alloc, uses, forms, *one, *other),
-        Node::Compare(op, one, other) => difference_form(alloc, uses, forms, *op, *one, *other),
+        Node::Add(number, parts) => sum_form(alloc, seen, forms, *number, parts),
+        Node::Mul(one, other) => product_form(alloc, seen, forms, *one, *other),
+        Node::Compare(op, one, other) => difference_form(alloc, seen, forms, *op, *one, *other),
         _ => Ok(Form::Own),
     }
 }
@@ -62,7 +78,7 @@ pub fn form_of(alloc: Global, uses: &[u8], forms: &[Form], node: &Node) -> Resul
 /// The form of a number and a sum.
 fn sum_form(
     alloc: Global,
-    uses: &[u8],
+    seen: &Seen,
     forms: &[Form],
     number: i64,
     parts: &[(i64, Term)],
@@ -74,7 +90,7 @@ fn sum_form(
         parts: Vec::new(alloc),
     };
     for part in parts {
-        join(alloc, uses, forms, &mut sum, part.0, part.1)?;
+        join(alloc, seen, forms, &mut sum, part.0, part.1)?;
     }
     Ok(Form::Sum(sum.number, sum.parts))
 }
@@ -82,7 +98,7 @@ fn sum_form(
 /// The form of a product: where one factor is a number, a sum of one part.
 fn product_form(
     alloc: Global,
-    uses: &[u8],
+    seen: &Seen,
     forms: &[Form],
     one: Term,
     other: Term,
@@ -90,11 +106,11 @@ fn product_form(
     ensures { IfOk result (λ form. IsNextForm (plain_forms forms.now) (nodes.product one other) (plain_form form)) }
 {
     if let Some(number) = number_of(forms, one) {
-        let sum = multiple(alloc, uses, forms, number, other)?;
+        let sum = multiple(alloc, seen, forms, number, other)?;
         return Ok(Form::Sum(sum.number, sum.parts));
     }
     if let Some(number) = number_of(forms, other) {
-        let sum = multiple(alloc, uses, forms, number, one)?;
+        let sum = multiple(alloc, seen, forms, number, one)?;
         return Ok(Form::Sum(sum.number, sum.parts));
     }
     Ok(Form::Own)
@@ -103,7 +119,7 @@ fn product_form(
 /// A term with a coefficient as a sum.
 fn multiple(
     alloc: Global,
-    uses: &[u8],
+    seen: &Seen,
     forms: &[Form],
     coefficient: i64,
     term: Term,
@@ -115,7 +131,7 @@ fn multiple(
         number: 0,
         parts: Vec::new(alloc),
     };
-    join(alloc, uses, forms, &mut sum, coefficient, term)?;
+    join(alloc, seen, forms, &mut sum, coefficient, term)?;
     Ok(sum)
 }
 
@@ -123,7 +139,7 @@ fn multiple(
 /// this.
 fn difference_form(
     alloc: Global,
-    uses: &[u8],
+    seen: &Seen,
     forms: &[Form],
     op: CompareOp,
     one: Term,
@@ -135,8 +151,8 @@ fn difference_form(
         number: 0,
         parts: Vec::new(alloc),
     };
-    join(alloc, uses, forms, &mut sum, 1, one)?;
-    join(alloc, uses, forms, &mut sum, -1, other)?;
+    join(alloc, seen, forms, &mut sum, 1, one)?;
+    join(alloc, seen, forms, &mut sum, -1, other)?;
     let Some(number) = sum.number.checked_neg() else {
         return Ok(Form::Own);
     };
@@ -173,10 +189,25 @@ fn number_of(forms: &[Form], term: Term) -> Option<i64>
     }
 }
 
+/// Whether a sum stands in another one, with a coefficient, as a term of its own: where it has some parts and is used
+/// elsewhere, or its parts would be too far from 0.
+fn stands_alone(
+    seen: &Seen,
+    coefficient: i64,
+    term: Term,
+    number: i64,
+    parts: &[(i64, Term)],
+) -> bool {
+    if parts.len() > 1 && use_count(&seen.uses, term) > 1 {
+        return true;
+    }
+    is_taken_far(&seen.spans, coefficient, number, parts)
+}
+
 /// Adds a term with its coefficient to a sum.
 fn join(
     alloc: Global,
-    uses: &[u8],
+    seen: &Seen,
     forms: &[Form],
     sum: &mut TermSum,
     coefficient: i64,
@@ -191,7 +222,7 @@ fn join(
     }
     match &forms[place] {
         Form::Sum(number, parts) => {
-            if parts.len() > 1 && use_count(uses, term) > 1 {
+            if stands_alone(seen, coefficient, term, *number, parts) {
                 return add_part(sum, coefficient, term);
             }
             add_sum(alloc, sum, coefficient, term, *number, parts)

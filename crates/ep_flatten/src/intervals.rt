@@ -8,10 +8,10 @@ ghost use Rattle.ep_base.specs.Numbers as numbers;
 ghost use Rattle.ep_numbers.specs.Spans.{interval_of, wide_interval};
 ghost use Rattle.ep_flatten.specs.Building.{HasSmall};
 
-use ep_numbers::{MOST_WIDE, Span, WideSpan, has_zero};
+use ep_numbers::{MOST_WIDE, Span, WideSpan, has_zero, steps};
 
-/// The greatest exponent for which powers are computed: beyond it only those of -1, 0 and 1 are no
-/// too great words.
+/// The greatest exponent for which powers are computed: beyond it those of other numbers than -1, 0 and 1 are too great
+/// words.
 const MOST_EXPONENT: u64 = 128;
 
 /// All numbers that the stages compute with.
@@ -44,8 +44,8 @@ pub fn clamped(x: WideSpan) -> Span
     }
 }
 
-/// A power, as far as words of 128 bits tell it, and for no greater exponent than 128.
-fn nth_power(base: i64, exponent: u64) -> Option<i128>
+/// A number multiplied by itself, so often in all, as far as words of 128 bits tell it, and not more often than 128 times.
+fn multiplied(base: i64, exponent: u64) -> Option<i128>
     ensures { IfSome result (λ power. power ≡ numbers.nth_power base exponent) }
 {
     if exponent > MOST_EXPONENT {
@@ -56,6 +56,13 @@ fn nth_power(base: i64, exponent: u64) -> Option<i128>
         power = power.checked_mul(i128::from(base))?;
     }
     Some(power)
+}
+
+/// A power, as far as words of 128 bits tell it.
+fn nth_power(base: i64, exponent: u64) -> Option<i128>
+    ensures { IfSome result (λ power. power ≡ numbers.nth_power base exponent) }
+{
+    multiplied(base, steps(base, exponent))
 }
 
 /// From the least to the greatest of two numbers, and 0 where it lies in the interval.

@@ -6,6 +6,7 @@ mod building;
 mod constraints;
 mod flattening;
 mod forms;
+mod images;
 mod intervals;
 mod kinds;
 mod lists;

@@ -1,11 +1,11 @@
-//! Lists of variables for lists of terms, and copies of lists.
+//! Lists of variables for lists of terms.
 
 ghost use Rattle.std.specs.Prelude.{neg_ℤ, ◌≡◌, ◌++◌, ◌∷◌, [], map, negsuc, IfOk, true};
 ghost use Rattle.std.specs.List.{All};
 ghost use Rattle.ep_base.specs.Reads.{IsWithinNumbers};
 ghost use Rattle.ep_flatten.specs.Saying.{variable_at};
 
-use ep_base::{Key, Memory};
+use ep_base::Memory;
 use ep_ground::Term;
 use std::alloc::Global;
 
@@ -77,17 +77,6 @@ pub fn negated_parts(
     let mut made = Vec::new(alloc);
     for part in parts {
         made.push((-part.0, place_at(places, part.1)))?;
-    }
-    Ok(made)
-}
-
-/// The same keys once more.
-pub fn copied_keys(alloc: Global, keys: &[Key]) -> Result<Vec<Key>, Memory>
-    ensures { IfOk result (λ made. made.items ≡ keys.now) }
-{
-    let mut made = Vec::new(alloc);
-    for key in keys {
-        made.push(key.copy(alloc)?)?;
     }
     Ok(made)
 }

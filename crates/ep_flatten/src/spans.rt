@@ -13,10 +13,10 @@ ghost use Rattle.ep_ground.specs.Nodes as nodes;
 use crate::forms::Form;
 use crate::intervals::{clamped, power, widest};
 use ep_base::Key;
-use ep_ground::{Node, Term};
+use ep_ground::{Ground, Node, Term};
 use ep_numbers::{
-    Extremes, Span, WideSpan, absolute, added, product, quotient, remainder, scaled, widened,
-    with_one,
+    Extremes, Span, WideSpan, absolute, added, is_far, product, quotient, remainder, scaled,
+    span_of_set, widened, with_one,
 };
 
 /// An interval in which the value of a term lies that has this node and this form, where those of the
@@ -204,6 +204,46 @@ fn pick_span(spans: &[Span], parts: &[Term], keys: &[Key], indices: &[Term]) -> 
         low: found.lows.low,
         high: found.highs.high,
     }))
+}
+
+/// An interval for a ground's next term, by those of the terms before it. It only guides the choice of forms: nothing is
+/// promised of it.
+pub fn term_span(g: &Ground, spans: &[Span], node: &Node, form: &Form) -> Span {
+    match node {
+        Node::Const(number) => Span {
+            low: *number,
+            high: *number,
+        },
+        Node::Cell(cell) => {
+            let place = *cell as usize;
+            if place < g.cells.len() {
+                return clamped(widened(span_of_set(&g.cells[place].values)));
+            }
+            Span { low: 0, high: 0 }
+        }
+        _ => form_span(spans, node, form),
+    }
+}
+
+/// Whether a product of a number in an interval is too far from 0.
+fn is_scaled_far(coefficient: i128, x: Span) -> bool {
+    is_far(coefficient.saturating_mul(i128::from(x.low)))
+        || is_far(coefficient.saturating_mul(i128::from(x.high)))
+}
+
+/// Whether a multiple of a number and a sum has a part that may be too far from 0, by intervals that only guide the choice of
+/// forms.
+pub fn is_taken_far(spans: &[Span], coefficient: i64, number: i64, parts: &[(i64, Term)]) -> bool {
+    let factor = i128::from(coefficient);
+    if is_far(factor * i128::from(number)) {
+        return true;
+    }
+    for part in parts {
+        if is_scaled_far(factor * i128::from(part.0), span_of_term(spans, part.1)) {
+            return true;
+        }
+    }
+    false
 }
 
 /// Whether a node is a truth value.

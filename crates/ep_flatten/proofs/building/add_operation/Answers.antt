@@ -1,10 +1,11 @@
-use Rattle.std.proofs.Common.{rules, subst, ap, ◌∙◌, ◌≡◌, ◌+◌, ℕ, List, [], ◌∷◌, ◌++◌, length}
+use Rattle.std.proofs.Common.{rules, subst, ap, ◌∙◌, ◌≡◌, ◌+◌, ℕ, ℤ, List, [], ◌∷◌, ◌++◌, length}
 use Rattle.std.specs.Prelude.{map}
 use Rattle.ep_flat.specs.FlatViews.{plain_con}
 use Rattle.ep_ground.specs.NodeViews.{plain_node}
 use Rattle.ep_flatten.specs.FormViews.{plain_form}
 use Rattle.ep_numbers.specs.Spans.{interval_of}
 use Rattle.ep_flatten.specs.Building.{CoversForm, plain_built}
+use Rattle.ep_flatten.specs.Images.{HoldsImage}
 use Rattle.ep_numbers.specs.declared.spans.Span.{Span}
 use Rattle.ep_flatten.specs.Saying.{SaysForm}
 use Rattle.ep_flatten.proofs.Growing.{with_operation}
@@ -18,11 +19,14 @@ returns c =
     let node = plain_node c.args.node.now in
     let form = plain_form c.args.form.now in
     let span = c.form_span-span.result in
-    let domain = c.in_ok-domain_of.field-0 in
+    let domain = c.in_ok-domain.domain in
     let con = c.in_ok-con.con in
     let variable : c.len-variable.result ≡ length old.vars.items = search rules in
     let there : SaysForm old.places.items node form c.len-variable.result (plain_con con) = subst (λ (ps : List ℕ). SaysForm ps node form c.len-variable.result (plain_con con)) c.deref-2.ensures.value c.in_ok-con.ensures in
     let says : SaysForm old.places.items node form (length old.vars.items) (plain_con con) = subst (λ (r : ℕ). SaysForm old.places.items node form r (plain_con con)) variable there in
+    let image : HoldsImage old.vars.items old.places.items node form (interval_of span) domain =
+    subst (λ (vs : List (List ℤ)). HoldsImage vs old.places.items node form (interval_of span) domain) c.deref-3.ensures.value
+    (subst (λ (ps : List ℕ). HoldsImage c.deref-3.result.now ps node form (interval_of span) domain) c.deref-4.ensures.value c.in_ok-domain.ensures) in
     on_ok_five c.note.result c.note.ensures.places c.note.ensures.spans c.note.ensures.vars c.note.ensures.cons c.note.ensures.cells
     (λ p s v k l. λ g marks t built at bounded.
     as_built g marks (t + 1) new.vars.items (old.vars.items ++ domain ∷ []) (map plain_con new.cons.items) (map plain_con old.cons.items ++ plain_con con ∷ [])
@@ -33,4 +37,7 @@ returns c =
     (spans_pushed old.spans.items new.spans.items span s)
     l
     (with_operation g marks t (plain_built old) node form (plain_con con) domain (interval_of span) built at bounded
-    (subst (λ (ss : List Span). CoversForm g.cells (map interval_of ss) node form (interval_of span)) c.deref.ensures.value (c.form_span-span.ensures.covers g.cells)) says c.in_ok-domain_of.ensures))
+    (subst (λ (ss : List Span). CoversForm g.cells (map interval_of ss) node form (interval_of span)) c.deref.ensures.value (c.form_span-span.ensures.covers g.cells)) says image))
+
+pub domain_for-requires : goal.domain_for-requires
+domain_for-requires c = (c.form_span-span.ensures.covers []).small

@@ -18,10 +18,10 @@ loop-term-preserved c =
     let node = plain_node c.node-node.result.now in
     let forms = c.loop-term.forms.items in
     let form = c.in_ok-form.form in
-    let stands : StandsAt nodes c.new.result node = record { got = c.node-node.ensures.node; before = c.node-node.ensures.parts } in
-    let next : IsNextForm (plain_forms forms) node (plain_form form) = subst (λ (fs : List Form). IsNextForm (plain_forms fs) node (plain_form form)) c.deref-in-loop-term.ensures.value c.in_ok-form.ensures in
+    let stands : StandsAt nodes c.new-in-loop-term.result node = record { got = c.node-node.ensures.node; before = c.node-node.ensures.parts } in
+    let next : IsNextForm (plain_forms forms) node (plain_form form) = subst (λ (fs : List Form). IsNextForm (plain_forms fs) node (plain_form form)) c.deref.ensures.value c.in_ok-form.ensures in
     forms_more nodes c.loop-term.term node (plain_forms forms) (plain_forms c.push.new.self.items) (plain_form form) c.loop-term.invariant
-    (subst (λ (t : ℕ). StandsAt nodes t node) c.new.ensures stands) next (ap (map plain_form) c.in_ok-push.ensures.items ∙ map_push plain_form forms form)
+    (subst (λ (t : ℕ). StandsAt nodes t node) c.new-in-loop-term.ensures stands) next (ap (map plain_form) c.in_ok-push.ensures.items ∙ map_push plain_form forms form)
 
 pub returns : goal.returns
 returns c =

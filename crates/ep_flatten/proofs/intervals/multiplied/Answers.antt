@@ -4,7 +4,7 @@ use Rattle.std.specs.Int.{w128}
 use Rattle.std.proofs.lemmas.Int.{to_z-of_z}
 use Rattle.ep_base.specs.Numbers.{nth_power}
 use Rattle.ep_numbers.proofs.PowerLaws.{power_more, power_none}
-use Rattle.ep_flatten.proofs.intervals.nth_power.Goals as goal
+use Rattle.ep_flatten.proofs.intervals.multiplied.Goals as goal
 
 pub loop-step-init : goal.loop-step-init
 loop-step-init c = power_none (to_z w64 (of_z w64 c.args.base))
