@@ -12,7 +12,7 @@ use Rattle.std.specs.Str.Parse.{digits_value}
 use Rattle.std.proofs.lemmas.Str.Parse.{IsNumeralModel, IsDigitsTest, numerals_by_value}
 use Rattle.std.proofs.lemmas.Fmt.{digits_decimal, digits_value-decimal, length-decimal-le, decimal_nonempty}
 use Rattle.std.specs.Option.{option_map}
-use Rattle.sat_text.specs.Words.{lines, is_blank, has_bytes, words, is_plain}
+use Rattle.sat_text.specs.Words.{lines, is_between_words, has_bytes, words, is_plain}
 use Rattle.sat_text.specs.Numbers.{are_digits, natural_of, whole_of}
 
 pub and_parts : (a b : Bool) → (a && b) ≡ true → (a ≡ true) × (b ≡ true)
@@ -94,11 +94,11 @@ plain_digit b e =
     let f : eqb b 10 ≡ false = grind (arith, nat_tests) in
     rw (a, c, d, f) refl
 
-pub plain_not_blank : (b : ℕ) → is_plain b ≡ true → is_blank b ≡ false
-plain_not_blank b e = first_false (is_blank b) (b == 10) e
+pub plain_not_blank : (b : ℕ) → is_plain b ≡ true → is_between_words b ≡ false
+plain_not_blank b e = first_false (is_between_words b) (b == 10) e
 
 plain_not_end : (b : ℕ) → is_plain b ≡ true → (b == 10) ≡ false
-plain_not_end b e = second_false (is_blank b) (b == 10) e
+plain_not_end b e = second_false (is_between_words b) (b == 10) e
 
 pub plain_digits : (ds : List ℕ) → Digits ds → list_all is_plain ds ≡ true
 plain_digits [] d = refl
@@ -118,18 +118,18 @@ abbrev pub AreWords : List (List ℕ) → Type 0
 AreWords [] = Unit {0}
 AreWords (word ∷ found) = IsWord word × AreWords found
 
-split_word : (word : List ℕ) (rest : List ℕ) → list_all is_plain word ≡ true → slice_split is_blank (word ++ 32 ∷ rest) ≡ word ∷ slice_split is_blank rest
+split_word : (word : List ℕ) (rest : List ℕ) → list_all is_plain word ≡ true → slice_split is_between_words (word ++ 32 ∷ rest) ≡ word ∷ slice_split is_between_words rest
 split_word [] rest p = refl
 split_word (b ∷ word) rest p =
     let both = and_parts (is_plain b) (list_all is_plain word) p in
-    let no : is_blank b ≡ false = plain_not_blank b both.0 in
+    let no : is_between_words b ≡ false = plain_not_blank b both.0 in
     rw no (ap (onto_first b) (split_word word rest both.1))
 
-split_last : (word : List ℕ) → list_all is_plain word ≡ true → slice_split is_blank word ≡ word ∷ []
+split_last : (word : List ℕ) → list_all is_plain word ≡ true → slice_split is_between_words word ≡ word ∷ []
 split_last [] p = refl
 split_last (b ∷ word) p =
     let both = and_parts (is_plain b) (list_all is_plain word) p in
-    let no : is_blank b ≡ false = plain_not_blank b both.0 in
+    let no : is_between_words b ≡ false = plain_not_blank b both.0 in
     rw no (ap (onto_first b) (split_last word both.1))
 
 kept : (word : List ℕ) (rest : List (List ℕ)) → 0 < length word → filter has_bytes (word ∷ rest) ≡ word ∷ filter has_bytes rest
@@ -142,7 +142,7 @@ words_again word [] w ws =
     ap words (append-nil word) ∙ ap (filter has_bytes) (split_last word w.0) ∙ kept word [] w.1
 words_again word (next ∷ found) w ws =
     let regrouped : word ++ joined (next ∷ found) ≡ word ++ 32 ∷ (next ++ joined found) = ap (λ (t : List ℕ). word ++ t) (flat_map-cons (λ word. 32 ∷ word) next found) in
-    ap words regrouped ∙ ap (filter has_bytes) (split_word word (next ++ joined found) w.0) ∙ kept word (slice_split is_blank (next ++ joined found)) w.1
+    ap words regrouped ∙ ap (filter has_bytes) (split_word word (next ++ joined found) w.0) ∙ kept word (slice_split is_between_words (next ++ joined found)) w.1
     ∙ ap (λ (ws : List (List ℕ)). word ∷ ws) (words_again next found ws.0 ws.1)
 
 -- ---- lines

@@ -9,7 +9,7 @@ use Rattle.cnf_core.specs.Literal.{Literal}
 use Rattle.sat_text.specs.Words.{PlacedWord}
 use Rattle.sat_text.specs.Numbers.{whole_of}
 use Rattle.sat_text.specs.Clauses.{is_zero, literal_of, number_of, in_order}
-use Rattle.sat_text.specs.Cnf.{with_clause, number_next, clauses_at}
+use Rattle.sat_text.specs.Cnf.{with_clause, number_next, clauses_of_words}
 use Rattle.sat_text.specs.CnfGrammar.{SpellsNumbers, SpellsClauses}
 use Rattle.sat_text.proofs.Cuts.{bool_cases}
 use Rattle.sat_text.proofs.Spelling.{cons_same, cons_head, cons_tail, literal_of_number, number_not_zero, number_of_literal, literal_some, zero_number, in_order_is_clause, clause_is_in_order}
@@ -88,8 +88,8 @@ said_more vars count begun word later (clause ∷ clauses) n e z le s =
       ),
     )
 
-pub clauses_sound : (last vars count : ℕ) (begun : List Literal) (found : List PlacedWord) (clauses : List (List Literal)) → clauses_at last vars count begun found ≡ Ok clauses → Said vars count begun found clauses
-unfolding clauses_at
+pub clauses_sound : (last vars count : ℕ) (begun : List Literal) (found : List PlacedWord) (clauses : List (List Literal)) → clauses_of_words last vars count begun found ≡ Ok clauses → Said vars count begun found clauses
+unfolding clauses_of_words
 clauses_sound last vars zero begun [] clauses e = let none : [] ≡ clauses = cc in subst (Said vars zero begun []) none ([], refl, refl, refl)
 clauses_sound last vars (suc count) begun [] clauses e = absurd cc
 clauses_sound last vars zero begun (word ∷ later) clauses e = absurd cc
@@ -104,23 +104,23 @@ clauses_sound last vars (suc count) begun (word ∷ later) clauses e =
 
 -- ---- what is spelled is read
 
-at_end : (last vars : ℕ) (begun : List Literal) (word : PlacedWord) (later : List PlacedWord) (clauses : List (List Literal)) (count : ℕ) → whole_of word.bytes ≡ Some (pos 0) → clauses_at last vars count [] later ≡ Ok clauses
-    → clauses_at last vars (suc count) begun (word ∷ later) ≡ Ok (in_order begun ∷ clauses)
-unfolding clauses_at
+at_end : (last vars : ℕ) (begun : List Literal) (word : PlacedWord) (later : List PlacedWord) (clauses : List (List Literal)) (count : ℕ) → whole_of word.bytes ≡ Some (pos 0) → clauses_of_words last vars count [] later ≡ Ok clauses
+    → clauses_of_words last vars (suc count) begun (word ∷ later) ≡ Ok (in_order begun ∷ clauses)
+unfolding clauses_of_words
 at_end last vars begun word later clauses count e r = rw (e, r) refl
 
 at_literal : (last vars : ℕ) (begun : List Literal) (word : PlacedWord) (later : List PlacedWord) (clauses : List (List Literal)) (count : ℕ) (l : Literal) → whole_of word.bytes ≡ Some (number_of l) → IsUpTo vars l
-    → clauses_at last vars (suc count) (begun ++ l ∷ []) later ≡ Ok clauses → clauses_at last vars (suc count) begun (word ∷ later) ≡ Ok clauses
-unfolding clauses_at
+    → clauses_of_words last vars (suc count) (begun ++ l ∷ []) later ≡ Ok clauses → clauses_of_words last vars (suc count) begun (word ∷ later) ≡ Ok clauses
+unfolding clauses_of_words
 at_literal last vars begun word later clauses count l e up r =
     let fits : leb l.var vars ≡ true = grind (arith, nat_tests, up.1) in
     rw (e, number_not_zero l up.0, literal_of_number l up.0, fits) r
 
 clause_more : (last vars : ℕ) (begun : List Literal) (word : PlacedWord) (later : List PlacedWord) (clause : List Literal) (clauses : List (List Literal)) (n : ℤ) (numbers : List ℤ) → whole_of word.bytes ≡ Some n
-    → ((next : List Literal) → Grouped vars next (clause ∷ clauses) numbers → clauses_at last vars (suc (length clauses)) next later ≡ Ok (clause ∷ clauses))
-    → (Grouped vars [] clauses numbers → clauses_at last vars (length clauses) [] later ≡ Ok clauses)
+    → ((next : List Literal) → Grouped vars next (clause ∷ clauses) numbers → clauses_of_words last vars (suc (length clauses)) next later ≡ Ok (clause ∷ clauses))
+    → (Grouped vars [] clauses numbers → clauses_of_words last vars (length clauses) [] later ≡ Ok clauses)
     → (literals : List Literal) (rest : List ℤ) → n ∷ numbers ≡ map number_of literals ++ pos 0 ∷ rest → AllByRecursion (IsUpTo vars) literals → clause ≡ in_order (begun ++ literals) → Grouped vars [] clauses rest
-    → clauses_at last vars (suc (length clauses)) begun (word ∷ later) ≡ Ok (clause ∷ clauses)
+    → clauses_of_words last vars (suc (length clauses)) begun (word ∷ later) ≡ Ok (clause ∷ clauses)
 clause_more last vars begun word later clause clauses n numbers e again ends [] rest is up made g =
     let zero-is : n ≡ pos 0 = cons_head n (pos 0) numbers rest is in
     let same : rest ≡ numbers = sym (cons_tail n (pos 0) numbers rest is) in
@@ -137,8 +137,8 @@ none_left [] later e = cc
 none_left (l ∷ literals) later e = cc
 
 pub clauses_complete : (last vars : ℕ) (begun : List Literal) (found : List PlacedWord) (clauses : List (List Literal)) (numbers : List ℤ) → SpellsNumbers numbers (bytes_of found) → Grouped vars begun clauses numbers
-    → clauses_at last vars (length clauses) begun found ≡ Ok clauses
-unfolding clauses_at
+    → clauses_of_words last vars (length clauses) begun found ≡ Ok clauses
+unfolding clauses_of_words
 clauses_complete last vars begun [] [] numbers s g = refl
 clauses_complete last vars begun [] (clause ∷ clauses) [] s g = absurd (none_left g.0 g.1 g.2)
 clauses_complete last vars begun [] (clause ∷ clauses) (n ∷ numbers) s g = absurd cc

@@ -9,7 +9,7 @@ use Rattle.std.specs.Fmt.{signed_decimal}
 use Rattle.cnf_core.specs.Literal.{Literal, IsOrdered, IsVariable}
 use Rattle.sat_text.specs.Words.{lines, words, is_comment, PlacedWord, words_on, said_words, text_words}
 use Rattle.sat_text.specs.Clauses.{in_order, number_of}
-use Rattle.sat_text.specs.Cnf.{with_clause, clauses_at}
+use Rattle.sat_text.specs.Cnf.{with_clause, clauses_of_words}
 use Rattle.sat_text.specs.Writing.{clause_text}
 use Rattle.sat_text.proofs.Order.{clause_again}
 use Rattle.sat_text.proofs.Again.{whole_again, AreWords, number_is_word, joined, words_again, IsLine, line_again, joined_line}
@@ -49,19 +49,19 @@ abbrev pub IsClauseUpTo : ℕ → List Literal → Type 0
 IsClauseUpTo vars clause = IsOrdered clause × AllByRecursion (λ l. IsVariable l.var × (l.var ≤ vars)) clause
 
 read_literals : (last vars count number : ℕ) (begun literals : List Literal) (later : List PlacedWord) → AllByRecursion (λ l. IsVariable l.var × (l.var ≤ vars)) literals
-    → clauses_at last vars (suc count) begun (words_on number (clause_words literals) ++ later) ≡ with_clause (in_order (begun ++ literals)) (clauses_at last vars count [] later)
-unfolding clauses_at
-read_literals last vars count number begun [] later v = ap (λ (c : List Literal). with_clause (in_order c) (clauses_at last vars count [] later)) (sym (append-nil begun))
+    → clauses_of_words last vars (suc count) begun (words_on number (clause_words literals) ++ later) ≡ with_clause (in_order (begun ++ literals)) (clauses_of_words last vars count [] later)
+unfolding clauses_of_words
+read_literals last vars count number begun [] later v = ap (λ (c : List Literal). with_clause (in_order c) (clauses_of_words last vars count [] later)) (sym (append-nil begun))
 read_literals last vars count number begun (l ∷ literals) later v =
     let s = signed_short l.var l.positive v.0.0 in
     let fits : leb l.var vars ≡ true = grind (arith, nat_tests, v.0.1) in
     rw (whole_again (number_of l) s.0, s.1, literal_again l v.0.0, fits)
-    (read_literals last vars count number (begun ++ l ∷ []) literals later v.1 ∙ ap (λ (c : List Literal). with_clause (in_order c) (clauses_at last vars count [] later)) (append_assoc begun (l ∷ []) literals))
+    (read_literals last vars count number (begun ++ l ∷ []) literals later v.1 ∙ ap (λ (c : List Literal). with_clause (in_order c) (clauses_of_words last vars count [] later)) (append_assoc begun (l ∷ []) literals))
 
 clause_read : (last vars count number : ℕ) (clause : List Literal) (later : List PlacedWord) → IsClauseUpTo vars clause
-    → clauses_at last vars (suc count) [] (words_on number (clause_words clause) ++ later) ≡ with_clause clause (clauses_at last vars count [] later)
+    → clauses_of_words last vars (suc count) [] (words_on number (clause_words clause) ++ later) ≡ with_clause clause (clauses_of_words last vars count [] later)
 clause_read last vars count number clause later c =
-    read_literals last vars count number [] clause later c.1 ∙ ap (λ (k : List Literal). with_clause k (clauses_at last vars count [] later)) (clause_again clause c.0)
+    read_literals last vars count number [] clause later c.1 ∙ ap (λ (k : List Literal). with_clause k (clauses_of_words last vars count [] later)) (clause_again clause c.0)
 
 clause_are_words : (vars : ℕ) (clause : List Literal) → AllByRecursion (λ l. IsVariable l.var × (l.var ≤ vars)) clause → AreWords (clause_words clause)
 clause_are_words vars [] v = ((refl, omega arith), tt)
@@ -97,10 +97,10 @@ lines_of_clauses vars (clause ∷ clauses) c =
 said_clause : (vars : ℕ) (clause : List Literal) → AllByRecursion (λ l. IsVariable l.var × (l.var ≤ vars)) clause → said_words (with_spaces (clause_words clause)) ≡ clause_words clause
 said_clause vars clause v = rw (clause_no_comment vars clause v) (clause_line_is vars clause v).1
 
-pub clauses_read : (last vars number : ℕ) (clauses : List (List Literal)) → AreClausesUpTo vars clauses → clauses_at last vars (length clauses) [] (text_words number (clause_lines clauses)) ≡ Ok clauses
-unfolding clauses_at
+pub clauses_read : (last vars number : ℕ) (clauses : List (List Literal)) → AreClausesUpTo vars clauses → clauses_of_words last vars (length clauses) [] (text_words number (clause_lines clauses)) ≡ Ok clauses
+unfolding clauses_of_words
 clauses_read last vars number [] c = refl
 clauses_read last vars number (clause ∷ clauses) c =
     let later = text_words (number + 1) (clause_lines clauses) in
-    ap (λ (ws : List (List ℕ)). clauses_at last vars (suc (length clauses)) [] (words_on number ws ++ later)) (said_clause vars clause c.0.1)
+    ap (λ (ws : List (List ℕ)). clauses_of_words last vars (suc (length clauses)) [] (words_on number ws ++ later)) (said_clause vars clause c.0.1)
     ∙ clause_read last vars (length clauses) number clause later c.0 ∙ ap (with_clause clause) (clauses_read last vars (number + 1) clauses c.1)

@@ -8,7 +8,7 @@ use Rattle.sat_text.specs.declared.header.HeaderLine.{HeaderLine}
 use Rattle.sat_text.specs.declared.header.HeaderLine.TheVariants.{Good, Short, Wrong}
 use Rattle.sat_text.specs.Words.{lines, last_line, words, says_nothing, PlacedWord, words_on, text_words}
 use Rattle.sat_text.specs.Numbers.{natural_of}
-use Rattle.sat_text.specs.Cnf.{is_p, is_cnf, header_end, header_count, header_vars, header_format, header_of, clauses_at, CnfContent, with_vars, first_word_line, behind_header, formula_from, formula_of}
+use Rattle.sat_text.specs.Cnf.{is_p, is_cnf, header_end, header_count, header_vars, header_format, header_of, clauses_of_words, CnfContent, with_vars, first_word_line, behind_header, formula_from, formula_of}
 use Rattle.sat_text.specs.CnfGrammar.{SpellsFormula, CanGoOn, IsFirstWrongWord, IsFaultLine}
 use Rattle.sat_text.proofs.Cuts.{bool_cases}
 use Rattle.sat_text.proofs.Spelling.{cons_head, cons_tail, cons_same}
@@ -22,7 +22,7 @@ use Rattle.sat_text.proofs.CnfSpelled.{AreCounts, p_word, cnf_word, header_sound
 abbrev four : List ℕ → List ℕ → List (List ℕ)
 four v c = codes "p" ∷ codes "cnf" ∷ v ∷ c ∷ []
 
-spelled_by : (last number vars count : ℕ) (v c : List ℕ) (clauses : List (List Literal)) (rest : List PlacedWord) → AreCounts vars count v c → AreBehind number rest → clauses_at last vars count [] rest ≡ Ok clauses
+spelled_by : (last number vars count : ℕ) (v c : List ℕ) (clauses : List (List Literal)) (rest : List PlacedWord) → AreCounts vars count v c → AreBehind number rest → clauses_of_words last vars count [] rest ≡ Ok clauses
     → SpellsFormula vars clauses (words_on number (four v c) ++ rest)
 spelled_by last number vars count v c clauses rest counts behind read =
     let said = clauses_sound last vars count [] rest clauses read in
@@ -50,15 +50,15 @@ number_same : (m n : ℕ) (o : Option ℕ) → o ≡ Some m → o ≡ Some n →
 number_same m n o e f = let both : Some m ≡ Some n = sym e ∙ f in cc
 
 read_of : (last number vars count others : ℕ) (v c : List ℕ) (clauses : List (List Literal)) (rest : List PlacedWord) → AreCounts vars count v c → SpellsFormula others clauses (words_on number (four v c) ++ rest)
-    → clauses_at last vars count [] rest ≡ Ok clauses
+    → clauses_of_words last vars count [] rest ≡ Ok clauses
 read_of last number vars count others v c clauses rest counts s =
     let same = four_same number s.line v c s.vars_word s.count_word rest s.later s.words in
     let vars-is : others ≡ vars = number_same others vars (natural_of v) (ap natural_of same.0 ∙ s.variables) counts.0 in
     let count-is : length clauses ≡ count = number_same (length clauses) count (natural_of c) (ap natural_of same.1 ∙ s.count) counts.1 in
-    let read : clauses_at last others (length clauses) [] s.later ≡ Ok clauses = clauses_complete last others [] s.later clauses s.numbers s.all_numbers (spells_grouped others clauses s.numbers s.grouped) in
-    ap (clauses_at last vars count []) same.2
-    ∙ subst (λ (n : ℕ). clauses_at last vars n [] s.later ≡ Ok clauses) count-is
-    (subst (λ (n : ℕ). clauses_at last n (length clauses) [] s.later ≡ Ok clauses) vars-is read)
+    let read : clauses_of_words last others (length clauses) [] s.later ≡ Ok clauses = clauses_complete last others [] s.later clauses s.numbers s.all_numbers (spells_grouped others clauses s.numbers s.grouped) in
+    ap (clauses_of_words last vars count []) same.2
+    ∙ subst (λ (n : ℕ). clauses_of_words last vars n [] s.later ≡ Ok clauses) count-is
+    (subst (λ (n : ℕ). clauses_of_words last n (length clauses) [] s.later ≡ Ok clauses) vars-is read)
 
 -- ---- words of one line
 
@@ -380,7 +380,7 @@ line_fault last number line later (Good vars count) at spoken is e =
     let head = header_sound vars count (words line) (sym is) in
     let rest = text_words (number + 1) later in
     subst (λ (ws : List (List ℕ)). Fault (words_on number ws ++ rest) last at) (sym head.2)
-    (header_at last number vars count head.0 head.1 rest at head.3 (text_behind number (number + 1) later (omega arith)) (clauses_fault last vars count (number + 1) [] rest at (vars_error vars (clauses_at last vars count [] rest) at e)))
+    (header_at last number vars count head.0 head.1 rest at head.3 (text_behind number (number + 1) later (omega arith)) (clauses_fault last vars count (number + 1) [] rest at (vars_error vars (clauses_of_words last vars count [] rest) at e)))
 line_fault last number line later Short at spoken is e =
     let s = header_short (words line) (sym is) in
     let w = some_word line spoken in

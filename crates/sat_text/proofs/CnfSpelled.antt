@@ -9,7 +9,7 @@ use Rattle.sat_text.specs.declared.header.HeaderLine.{HeaderLine}
 use Rattle.sat_text.specs.declared.header.HeaderLine.TheVariants.{Good, Short, Wrong}
 use Rattle.sat_text.specs.Words.{lines, last_line, words, is_comment, has_no_word, says_nothing, PlacedWord, words_on, said_words, text_words}
 use Rattle.sat_text.specs.Numbers.{natural_of}
-use Rattle.sat_text.specs.Cnf.{is_p, is_cnf, header_end, header_count, header_vars, header_format, header_of, clauses_at, CnfContent, with_vars, behind_header, formula_from, formula_of}
+use Rattle.sat_text.specs.Cnf.{is_p, is_cnf, header_end, header_count, header_vars, header_format, header_of, clauses_of_words, CnfContent, with_vars, behind_header, formula_from, formula_of}
 use Rattle.sat_text.specs.CnfGrammar.{SpellsFormula, SpellsCnf}
 use Rattle.sat_text.proofs.Cuts.{bool_cases}
 use Rattle.sat_text.proofs.Again.{and_parts}
@@ -164,7 +164,7 @@ vars_before vars (Err line) f e = absurd cc
 header_spelled : (last number : ℕ) (line : List ℕ) (later : List (List ℕ)) (h : HeaderLine) (f : CnfContent) → h ≡ header_of (words line) → behind_header last number h later ≡ Ok f
     → Spelled f (words_on number (words line) ++ text_words (number + 1) later)
 header_spelled last number line later (Good vars count) f is e =
-    let r = vars_before vars (clauses_at last vars count [] (text_words (number + 1) later)) f e in
+    let r = vars_before vars (clauses_of_words last vars count [] (text_words (number + 1) later)) f e in
     let h = header_sound vars count (words line) (sym is) in
     let c = clauses_sound last vars count [] (text_words (number + 1) later) r.0 r.1 in
     subst (λ (g : CnfContent). Spelled g (words_on number (words line) ++ text_words (number + 1) later)) r.2
@@ -223,8 +223,8 @@ spoken_complete last number vars clauses line later spoken s =
     (subst (λ (ws : List (List ℕ)). words_on number ws ++ text_words (number + 1) later ≡ words_on s.line (codes "p" ∷ codes "cnf" ∷ s.vars_word ∷ s.count_word ∷ []) ++ s.later) w.2 s.words) in
     let r = header_read last number vars clauses line later s same in
     let head : header_of (words line) ≡ Good vars (length clauses) = ap header_of r.0 ∙ header_complete vars (length clauses) s.vars_word s.count_word (s.variables, s.count) in
-    let read : clauses_at last vars (length clauses) [] (text_words (number + 1) later) ≡ Ok clauses
-    = ap (clauses_at last vars (length clauses) []) r.1 ∙ clauses_complete last vars [] s.later clauses s.numbers s.all_numbers (spells_grouped vars clauses s.numbers s.grouped) in
+    let read : clauses_of_words last vars (length clauses) [] (text_words (number + 1) later) ≡ Ok clauses
+    = ap (clauses_of_words last vars (length clauses) []) r.1 ∙ clauses_complete last vars [] s.later clauses s.numbers s.all_numbers (spells_grouped vars clauses s.numbers s.grouped) in
     ap (λ (h : HeaderLine). behind_header last number h later) head ∙ ap (with_vars vars) read
 
 text_complete : (last number : ℕ) (ls : List (List ℕ)) (vars : ℕ) (clauses : List (List Literal)) → SpellsFormula vars clauses (text_words number ls) → formula_from last number ls ≡ content vars clauses

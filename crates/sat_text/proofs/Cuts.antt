@@ -4,7 +4,7 @@ use Rattle.std.specs.List.{slice_split, onto_first, position_or_len}
 use Rattle.std.specs.Prelude.{position}
 use Rattle.std.proofs.lemmas.Bool.{ltb-true, ltb-false}
 use Rattle.std.proofs.lemmas.List.{drop_all}
-use Rattle.sat_text.specs.Words.{lines, words, ended_by, is_blank, has_bytes}
+use Rattle.sat_text.specs.Words.{lines, words, ended_by, is_between_words, has_bytes}
 
 pub bool_cases : (b : Bool) → (b ≡ true) ⊎ (b ≡ false)
 bool_cases true = inl refl
@@ -111,39 +111,39 @@ split_whole p (b ∷ line) le = elim (bool_cases (p b)) [
   | inr f ↦ rw f (ap (onto_first b) (split_whole p line (omega (arith, place_no p b line f, le))))
 ]
 
-pub word_none : (line : List ℕ) → position (λ b. not (is_blank b)) line ≡ None → words line ≡ []
+pub word_none : (line : List ℕ) → position (λ b. not (is_between_words b)) line ≡ None → words line ≡ []
 word_none line e =
-    let past : drop (position_or_len (λ b. not (is_blank b)) line) line ≡ [] = drop_all (position_or_len (λ b. not (is_blank b)) line) line (place_none (λ b. not (is_blank b)) line e) in
-    words_from is_blank line ∙ ap (words_by is_blank) past
+    let past : drop (position_or_len (λ b. not (is_between_words b)) line) line ≡ [] = drop_all (position_or_len (λ b. not (is_between_words b)) line) line (place_none (λ b. not (is_between_words b)) line e) in
+    words_from is_between_words line ∙ ap (words_by is_between_words) past
 
 -- what a line has from its first word on
-pub words_at : (line : List ℕ) (start : ℕ) → position (λ b. not (is_blank b)) line ≡ Some start → words line ≡ words (drop start line)
-words_at line start e = words_from is_blank line ∙ ap (λ (n : ℕ). words (drop n line)) (sym (place_some (λ b. not (is_blank b)) line start e).0)
+pub words_at : (line : List ℕ) (start : ℕ) → position (λ b. not (is_between_words b)) line ≡ Some start → words line ≡ words (drop start line)
+words_at line start e = words_from is_between_words line ∙ ap (λ (n : ℕ). words (drop n line)) (sym (place_some (λ b. not (is_between_words b)) line start e).0)
 
-starts : (line : List ℕ) (start : ℕ) → position (λ b. not (is_blank b)) line ≡ Some start → (b : ℕ) × (rest : List ℕ) × (drop start line ≡ b ∷ rest) × (is_blank b ≡ false)
+starts : (line : List ℕ) (start : ℕ) → position (λ b. not (is_between_words b)) line ≡ Some start → (b : ℕ) × (rest : List ℕ) × (drop start line ≡ b ∷ rest) × (is_between_words b ≡ false)
 starts line start e =
-    let at = place_some (λ b. not (is_blank b)) line start e in
-    let r = first_there is_blank line (subst (λ (n : ℕ). n < length line) at.0 at.1) in
+    let at = place_some (λ b. not (is_between_words b)) line start e in
+    let r = first_there is_between_words line (subst (λ (n : ℕ). n < length line) at.0 at.1) in
     (r.0, r.1, ap (λ (n : ℕ). drop n line) at.0 ∙ r.2, r.3)
 
-word_cut_at : (b : ℕ) (rest : List ℕ) (end : ℕ) → is_blank b ≡ false → position is_blank (b ∷ rest) ≡ Some end → words (b ∷ rest) ≡ take end (b ∷ rest) ∷ words (drop (end + 1) (b ∷ rest))
+word_cut_at : (b : ℕ) (rest : List ℕ) (end : ℕ) → is_between_words b ≡ false → position is_between_words (b ∷ rest) ≡ Some end → words (b ∷ rest) ≡ take end (b ∷ rest) ∷ words (drop (end + 1) (b ∷ rest))
 word_cut_at b rest end f e =
-    let at = place_some is_blank (b ∷ rest) end e in
-    let one : end ≡ suc (position_or_len is_blank rest) = at.0 ∙ place_no is_blank b rest f in
-    let lt : position_or_len is_blank (b ∷ rest) < length (b ∷ rest) = subst (λ (n : ℕ). n < length (b ∷ rest)) at.0 at.1 in
-    let cut : slice_split is_blank (b ∷ rest) ≡ take end (b ∷ rest) ∷ slice_split is_blank (drop (suc end) (b ∷ rest)) = subst (λ (n : ℕ). slice_split is_blank (b ∷ rest) ≡ take n (b ∷ rest) ∷ slice_split is_blank (drop (suc n) (b ∷ rest))) (sym at.0) (split_cut is_blank (b ∷ rest) lt) in
+    let at = place_some is_between_words (b ∷ rest) end e in
+    let one : end ≡ suc (position_or_len is_between_words rest) = at.0 ∙ place_no is_between_words b rest f in
+    let lt : position_or_len is_between_words (b ∷ rest) < length (b ∷ rest) = subst (λ (n : ℕ). n < length (b ∷ rest)) at.0 at.1 in
+    let cut : slice_split is_between_words (b ∷ rest) ≡ take end (b ∷ rest) ∷ slice_split is_between_words (drop (suc end) (b ∷ rest)) = subst (λ (n : ℕ). slice_split is_between_words (b ∷ rest) ≡ take n (b ∷ rest) ∷ slice_split is_between_words (drop (suc n) (b ∷ rest))) (sym at.0) (split_cut is_between_words (b ∷ rest) lt) in
     let plus : end + 1 ≡ suc end = omega arith in
     ap (filter has_bytes) cut ∙ rw (plus, one) refl
 
-pub word_cut : (line : List ℕ) (start end : ℕ) → position (λ b. not (is_blank b)) line ≡ Some start → position is_blank (drop start line) ≡ Some end → words line ≡ take end (drop start line) ∷ words (drop (end + 1) (drop start line))
+pub word_cut : (line : List ℕ) (start end : ℕ) → position (λ b. not (is_between_words b)) line ≡ Some start → position is_between_words (drop start line) ≡ Some end → words line ≡ take end (drop start line) ∷ words (drop (end + 1) (drop start line))
 word_cut line start end s e =
     let r = starts line start s in
-    words_at line start s ∙ subst (λ (rest : List ℕ). words rest ≡ take end rest ∷ words (drop (end + 1) rest)) (sym r.2) (word_cut_at r.0 r.1 end r.3 (subst (λ (rest : List ℕ). position is_blank rest ≡ Some end) r.2 e))
+    words_at line start s ∙ subst (λ (rest : List ℕ). words rest ≡ take end rest ∷ words (drop (end + 1) rest)) (sym r.2) (word_cut_at r.0 r.1 end r.3 (subst (λ (rest : List ℕ). position is_between_words rest ≡ Some end) r.2 e))
 
-pub word_whole : (line : List ℕ) (start : ℕ) → position (λ b. not (is_blank b)) line ≡ Some start → position is_blank (drop start line) ≡ None → words line ≡ drop start line ∷ []
+pub word_whole : (line : List ℕ) (start : ℕ) → position (λ b. not (is_between_words b)) line ≡ Some start → position is_between_words (drop start line) ≡ None → words line ≡ drop start line ∷ []
 word_whole line start s e =
     let r = starts line start s in
-    let whole = split_whole is_blank (drop start line) (place_none is_blank (drop start line) e) in
+    let whole = split_whole is_between_words (drop start line) (place_none is_between_words (drop start line) e) in
     words_at line start s ∙ ap (filter has_bytes) whole ∙ rw r.2 refl
 
 -- ---- the same of the parts that the code cuts off
@@ -151,14 +151,14 @@ word_whole line start s e =
 pub line_taken : (text rest : List ℕ) (end : ℕ) → Some end ≡ position (λ b. eqb b 10) text → rest ≡ drop (end + 1) text → lines text ≡ take end text ∷ lines rest
 line_taken text rest end e is = subst (λ (r : List ℕ). lines text ≡ take end text ∷ lines r) (sym is) (line_cut text end (sym e))
 
-pub word_taken : (line rest later : List ℕ) (start end : ℕ) → Some start ≡ position (λ b. not (is_blank b)) line → rest ≡ drop start line → Some end ≡ position is_blank rest → later ≡ drop (end + 1) rest
+pub word_taken : (line rest later : List ℕ) (start end : ℕ) → Some start ≡ position (λ b. not (is_between_words b)) line → rest ≡ drop start line → Some end ≡ position is_between_words rest → later ≡ drop (end + 1) rest
     → words line ≡ take end rest ∷ words later
 word_taken line rest later start end s r e l =
-    let cut = word_cut line start end (sym s) (sym (subst (λ (xs : List ℕ). Some end ≡ position is_blank xs) r e)) in
+    let cut = word_cut line start end (sym s) (sym (subst (λ (xs : List ℕ). Some end ≡ position is_between_words xs) r e)) in
     rw (l, r) cut
 
-pub word_last : (line rest : List ℕ) (start : ℕ) → Some start ≡ position (λ b. not (is_blank b)) line → rest ≡ drop start line → None ≡ position is_blank rest → words line ≡ rest ∷ []
-word_last line rest start s r e = rw r (word_whole line start (sym s) (sym (subst (λ (xs : List ℕ). None ≡ position is_blank xs) r e)))
+pub word_last : (line rest : List ℕ) (start : ℕ) → Some start ≡ position (λ b. not (is_between_words b)) line → rest ≡ drop start line → None ≡ position is_between_words rest → words line ≡ rest ∷ []
+word_last line rest start s r e = rw r (word_whole line start (sym s) (sym (subst (λ (xs : List ℕ). None ≡ position is_between_words xs) r e)))
 
 pub start_within : {X : Type 0} (p : X → Bool) (xs : List X) (i : ℕ) → Some i ≡ position p xs → i < length xs
 start_within p xs i e = (place_some p xs i (sym e)).1

@@ -11,7 +11,7 @@ use Rattle.std.specs.Fmt.{signed_decimal}
 use Rattle.cnf_core.specs.Literal.{Literal, IsVariable, IsClause, VariablesUpTo}
 use Rattle.cnf_core.specs.Formula.{Cnf}
 use Rattle.cnf_core.specs.Events.{Note}
-use Rattle.sat_text.specs.Words.{lines, last_line, words, is_comment, is_plain, is_blank, says_nothing, has_no_word}
+use Rattle.sat_text.specs.Words.{lines, last_line, words, is_comment, is_plain, is_between_words, says_nothing, has_no_word}
 use Rattle.sat_text.specs.Cnf.{header_count, header_vars, header_format, header_of, with_vars, formula_from, plain_formula}
 use Rattle.sat_text.specs.Clauses.{number_of}
 use Rattle.sat_text.specs.Writing.{note_text, clause_text, header_text, added_text, cnf_text, IsReadableNote, IsReadableFormula, NamesVariables, SaysAgain}
@@ -88,7 +88,7 @@ note_is_line note r v =
 
 plain_no_space : (b : ℕ) → is_plain b ≡ true → eqb b 32 ≡ false
 plain_no_space b e = elim (bool_cases (eqb b 32)) [
-  | inl t ↦ absurd (let h : is_blank b ≡ true = rw t refl in let k : true ≡ false = sym h ∙ plain_not_blank b e in cc)
+  | inl t ↦ absurd (let h : is_between_words b ≡ true = rw t refl in let k : true ≡ false = sym h ∙ plain_not_blank b e in cc)
   | inr f ↦ f
 ]
 

@@ -9,7 +9,7 @@ use Rattle.sat_text.specs.Numbers.{natural_of, whole_of}
 use Rattle.sat_text.specs.Clauses.{in_order}
 use Rattle.cnf_core.specs.Lines.{add, delete}
 use Rattle.sat_text.specs.Proofs.{whole_at, items_at, addition_at, deletion_at, behind_id, line_of, proof_from, proof_of}
-use Rattle.sat_text.specs.Cnf.{header_of, header_format, header_vars, header_count, clauses_at, formula_from, formula_of}
+use Rattle.sat_text.specs.Cnf.{header_of, header_format, header_vars, header_count, clauses_of_words, formula_from, formula_of}
 use Rattle.ep_base.specs.TokenTexts.{is_word}
 use Rattle.sat_text.specs.Notes.{is_cell, added_of}
 use Rattle.sat_text.specs.Writing.{log_text, cnf_text}
@@ -77,27 +77,27 @@ word_too_many = refl
 -- ---- the text of a formula
 
 four : formula_of (codes "p cnf 2 2\n1 2 0 -1\n0\n") ≡ Ok (record { vars = 2; clauses = (yes 1 ∷ yes 2 ∷ []) ∷ (no 1 ∷ []) ∷ [] })
-unfolding formula_from header_of header_format header_vars header_count clauses_at
+unfolding formula_from header_of header_format header_vars header_count clauses_of_words
 four = refl
 
 clause_wanting : formula_of (codes "p cnf 2 5\n1 2 0\n1 -2 0\n-1 2 0\n-1 -2 0") ≡ Err 5
-unfolding formula_from header_of header_format header_vars header_count clauses_at
+unfolding formula_from header_of header_format header_vars header_count clauses_of_words
 clause_wanting = refl
 
 clause_too_many : formula_of (codes "p cnf 1 1\n1 0\n\n1 0") ≡ Err 4
-unfolding formula_from header_of header_format header_vars header_count clauses_at
+unfolding formula_from header_of header_format header_vars header_count clauses_of_words
 clause_too_many = refl
 
 header_short : formula_of (codes "p cnf 2\nc note\n1 2 0\n") ≡ Err 3
-unfolding formula_from header_of header_format header_vars header_count clauses_at
+unfolding formula_from header_of header_format header_vars header_count clauses_of_words
 header_short = refl
 
 variable_too_great : formula_of (codes "p cnf 1 1\n2 0\n") ≡ Err 2
-unfolding formula_from header_of header_format header_vars header_count clauses_at
+unfolding formula_from header_of header_format header_vars header_count clauses_of_words
 variable_too_great = refl
 
 no_clause : formula_of (codes "p cnf 999999999999999999 0") ≡ Ok (record { vars = 999999999999999999; clauses = [] })
-unfolding formula_from header_of header_format header_vars header_count clauses_at
+unfolding formula_from header_of header_format header_vars header_count clauses_of_words
 no_clause = refl
 
 nothing : formula_of [] ≡ Err 1

@@ -6,7 +6,7 @@ use Rattle.ep_base.specs.TokenTexts.{is_word}
 use Rattle.cnf_core.specs.Literal.{Literal}
 use Rattle.cnf_core.specs.Lines.{add, delete}
 use Rattle.sat_text.specs.Words.{PlacedWord}
-use Rattle.sat_text.specs.Cnf.{header_of, header_format, header_vars, header_count, clauses_at, formula_from}
+use Rattle.sat_text.specs.Cnf.{header_of, header_format, header_vars, header_count, clauses_of_words, formula_from}
 use Rattle.sat_text.specs.Proofs.{whole_at, items_at, addition_at, deletion_at, behind_id, line_of, proof_from}
 use Rattle.sat_text.specs.CnfGrammar.{SpellsCnf, IsFaultLine}
 use Rattle.sat_text.specs.LogGrammar.{SpellsLog, IsFirstWrongLine}
@@ -54,19 +54,19 @@ two_clauses = record {
 }
 
 great_variable : (vars : ℕ) (clauses : List (List Literal)) → SpellsCnf (codes "p cnf 1 1\n2 0\n") vars clauses → ⊥
-unfolding formula_from header_of header_format header_vars header_count clauses_at
+unfolding formula_from header_of header_format header_vars header_count clauses_of_words
 great_variable vars clauses s = refused_spells_none (codes "p cnf 1 1\n2 0\n") 2 vars clauses refl s
 
 header_over_two_lines : (vars : ℕ) (clauses : List (List Literal)) → SpellsCnf (codes "p cnf\n1 0\n") vars clauses → ⊥
-unfolding formula_from header_of header_format header_vars header_count clauses_at
+unfolding formula_from header_of header_format header_vars header_count clauses_of_words
 header_over_two_lines vars clauses s = refused_spells_none (codes "p cnf\n1 0\n") 2 vars clauses refl s
 
 wrong_word_line : IsFaultLine (codes "p cnf 1 1\n\n1 x\n0\n") 3
-unfolding formula_from header_of header_format header_vars header_count clauses_at
+unfolding formula_from header_of header_format header_vars header_count clauses_of_words
 wrong_word_line = fault_line (codes "p cnf 1 1\n\n1 x\n0\n") 3 refl
 
 too_few_line : IsFaultLine (codes "p cnf 1 2\n1 0\nc x\n") 3
-unfolding formula_from header_of header_format header_vars header_count clauses_at
+unfolding formula_from header_of header_format header_vars header_count clauses_of_words
 too_few_line = fault_line (codes "p cnf 1 2\n1 0\nc x\n") 3 refl
 
 -- ---- proofs

@@ -76,14 +76,14 @@ number_next line vars (Some n) at_literal at_end =
 -- The clauses of words: each is whole numbers, none of which names a variable over vars, and a 0. As
 -- many as count are still to come, and the next one begins with these literals. If not, the line of
 -- the first word that is wrong, or last where words are wanting.
-unfoldable pub clauses_at : ℕ → ℕ → ℕ → List Literal → List PlacedWord → Result (List (List Literal)) ℕ
-clauses_at last vars zero begun [] = Ok []
-clauses_at last vars (suc count) begun [] = Err last
-clauses_at last vars zero begun (word ∷ later) = Err word.line
-clauses_at last vars (suc count) begun (word ∷ later) =
+unfoldable pub clauses_of_words : ℕ → ℕ → ℕ → List Literal → List PlacedWord → Result (List (List Literal)) ℕ
+clauses_of_words last vars zero begun [] = Ok []
+clauses_of_words last vars (suc count) begun [] = Err last
+clauses_of_words last vars zero begun (word ∷ later) = Err word.line
+clauses_of_words last vars (suc count) begun (word ∷ later) =
     number_next word.line vars (whole_of word.bytes)
-    (λ n. clauses_at last vars (suc count) (begun ++ literal_of n ∷ []) later)
-    (with_clause (in_order begun) (clauses_at last vars count [] later))
+    (λ n. clauses_of_words last vars (suc count) (begun ++ literal_of n ∷ []) later)
+    (with_clause (in_order begun) (clauses_of_words last vars count [] later))
 
 -- ---- the whole text
 
@@ -105,7 +105,7 @@ first_word_line last (word ∷ later) = word.line
 -- what follows the header on line number: behind a short one the next word is wrong
 abbrev pub behind_header : ℕ → ℕ → HeaderLine → List (List ℕ) → Result CnfContent ℕ
 behind_header last number (Good vars count) later =
-    with_vars vars (clauses_at last vars count [] (text_words (number + 1) later))
+    with_vars vars (clauses_of_words last vars count [] (text_words (number + 1) later))
 behind_header last number Short later = Err (first_word_line last (text_words (number + 1) later))
 behind_header last number Wrong later = Err number
 
@@ -133,7 +133,7 @@ behind_clauses front (Err line) = Err line
 abbrev pub Completes :
     ℕ → Cnf → ℕ → List Literal → List PlacedWord → Result (List (List Literal)) ℕ → Type 0
 Completes last f left begun later answer =
-    behind_clauses f.clauses (clauses_at last f.vars left begun later) ≡ answer
+    behind_clauses f.clauses (clauses_of_words last f.vars left begun later) ≡ answer
 
 -- a reader stops for want of memory, at the line of a wrong word, or where words are wanting
 abbrev pub StopsLine : {Y : Type 0} → ℕ → Stop → Result Y ℕ → Type 0

@@ -22,8 +22,8 @@ abbrev pub last_line : List ℕ → ℕ
 last_line text = max 1 (length (lines text))
 
 -- a space, a tab or a carriage return
-abbrev pub is_blank : ℕ → Bool
-is_blank b = b == 32 || (b == 9 || b == 13)
+abbrev pub is_between_words : ℕ → Bool
+is_between_words b = b == 32 || (b == 9 || b == 13)
 
 -- whether a word has a byte
 abbrev pub has_bytes : List ℕ → Bool
@@ -32,7 +32,7 @@ has_bytes (b ∷ bytes) = true
 
 -- the words of a line: what stands between its blanks
 abbrev pub words : List ℕ → List (List ℕ)
-words line = filter has_bytes (slice_split is_blank line)
+words line = filter has_bytes (slice_split is_between_words line)
 
 -- a comment begins with a `c`
 abbrev pub is_comment : List ℕ → Bool
@@ -73,4 +73,4 @@ placed_words text = text_words 1 (lines text)
 
 -- a byte that ends neither a word nor a line
 abbrev pub is_plain : ℕ → Bool
-is_plain b = not (is_blank b || b == 10)
+is_plain b = not (is_between_words b || b == 10)

@@ -4,7 +4,7 @@ ghost use Rattle.std.specs.Prelude.{◌≡◌, ◌<◌, ◌≤◌, ◌+◌, ◌^
 ghost use Rattle.cnf_core.specs.Literal.{Literal, VariablesUpTo};
 ghost use Rattle.sat_text.specs.Words.{lines, words, PlacedWord, words_on, text_words};
 ghost use Rattle.sat_text.specs.Clauses.{in_order};
-ghost use Rattle.sat_text.specs.Cnf.{clauses_at, Completes, StopsLine};
+ghost use Rattle.sat_text.specs.Cnf.{clauses_of_words, Completes, StopsLine};
 
 use crate::faults::Stop;
 use crate::items::{is_zero, literal};
@@ -109,10 +109,10 @@ pub(crate) fn read_clauses(
     ensures vars { IfOk result (λ f. f.vars ≡ vars) }
     ensures origin { IfOk result (λ f. f.from_new ≡ false) }
     ensures clauses { (last : ℕ) → MatchResult result
-        (λ f. clauses_at last vars count [] (text_words (before + 1) (lines text.now))
+        (λ f. clauses_of_words last vars count [] (text_words (before + 1) (lines text.now))
         ≡ Ok f.clauses)
         (λ stop. StopsLine last stop
-        (clauses_at last vars count [] (text_words (before + 1) (lines text.now)))) }
+        (clauses_of_words last vars count [] (text_words (before + 1) (lines text.now)))) }
 {
     let mut f = Formula::with_vars(alloc, vars);
     let mut left = count;

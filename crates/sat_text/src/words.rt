@@ -1,7 +1,7 @@
 //! Cuts a text into lines, and a line into words.
 
 ghost use Rattle.std.specs.Prelude.{◌≡◌, ◌<◌, ◌==◌, [], ◌∷◌, length, not, IfSome, MatchOption, position};
-ghost use Rattle.sat_text.specs.Words.{lines, words, is_blank, is_comment};
+ghost use Rattle.sat_text.specs.Words.{lines, words, is_between_words, is_comment};
 
 /// The first line of a text, and what stands behind its line end.
 pub(crate) fn next_line(text: &[u8]) -> Option<(&[u8], &[u8])>
@@ -45,19 +45,19 @@ fn line_end(text: &[u8]) -> Option<usize>
 }
 
 fn word_start(line: &[u8]) -> Option<usize>
-    ensures { result ≡ position (λ b. not (is_blank b)) line.now }
+    ensures { result ≡ position (λ b. not (is_between_words b)) line.now }
 {
     line.iter().position(|b| !blank(*b))
 }
 
 fn word_end(rest: &[u8]) -> Option<usize>
-    ensures { result ≡ position is_blank rest.now }
+    ensures { result ≡ position is_between_words rest.now }
 {
     rest.iter().position(|b| blank(*b))
 }
 
 fn blank(b: u8) -> bool
-    ensures { result ≡ is_blank b }
+    ensures { result ≡ is_between_words b }
 {
     b == b' ' || b == b'\t' || b == b'\r'
 }
