@@ -1,21 +1,20 @@
 -- The lines of a valid log are accepted.
-use Rattle.std.proofs.Common.{◌≡◌, ℕ, suc, ◌+◌, ◌<◌, ◌≤◌, ◌⊎◌, inl, inr, ℤ, pos, Bool, true, false, IsTrue, cond, ltb, eqb, ◌&&◌, List, [], ◌∷◌, ◌++◌, length, map, get_or, slice_index, Option, Some, None, refl, sym, ap, subst, ◌∙◌, append_assoc, length-append, arith}
-use Rattle.std.specs.Prelude.{All}
+use Rattle.std.proofs.Common.{◌≡◌, ℕ, suc, ◌+◌, ◌<◌, ◌≤◌, ◌⊎◌, inl, inr, ℤ, pos, Bool, true, false, ltb, eqb, ◌&&◌, List, [], ◌∷◌, ◌++◌, length, map, get_or, slice_index, Option, Some, None, refl, sym, ap, subst, ◌∙◌, append_assoc, length-append, arith}
 use Rattle.std.specs.List.{list_all, list_any, AllByRecursion}
 use Rattle.std.proofs.lemmas.Bool.{ltb-true, or_right}
 use Rattle.std.proofs.lemmas.Bool.Decides.{nat_tests}
-use Rattle.std.proofs.lemmas.List.{append-nil, map-append, length-map, get_or_append_left}
+use Rattle.std.proofs.lemmas.List.{map-append, length-map, get_or_append_left}
 use Rattle.std.proofs.lemmas.List.Elements.{recursion_from_All}
 use Rattle.std.proofs.Math.Seq.{get_or-append_seam}
 use Rattle.cnf_core.specs.Literal.{Literal}
-use Rattle.cnf_core.specs.Events.{LogEvent, given, step, clause_of, clauses_of, givens, EachStep, HintsAreThere}
+use Rattle.cnf_core.specs.Events.{LogEvent, given, step, clause_of, clauses_of, givens, EachStep}
 use Rattle.cnf_core.specs.Reading.{is_shown_by}
 use Rattle.cnf_core.specs.Steps.{clauses_at, IsValidStep, IsValidLog}
 use Rattle.cnf_core.specs.Lines.{ProofLine, add}
 use Rattle.cnf_core.specs.LogLines.{ids_from, event_ids, step_lines, log_lines}
 use Rattle.log_check.specs.Verdict.{Live, numbered_from, live_behind, live_clause, before_later, hinted_clauses, added_ids, is_valid_line, first_bad, is_empty_clause, adds_empty_clause, has_empty_clause, verdict_from, verdict_of}
 use Rattle.log_check.specs.declared.Verdict.TheVariants.{Verified}
-use Rattle.log_check.proofs.Checked.{all_push, added_push, live_push}
+use Rattle.log_check.proofs.Ids.{all_push, added_push, live_push}
 
 -- ---- lists
 

@@ -11,7 +11,7 @@ use Rattle.cnf_core.proofs.Following.{shown_follows}
 use Rattle.cnf_core.specs.Lines.{ProofLine, add, delete}
 use Rattle.log_check.specs.Verdict.{Live, numbered_from, is_number_among, live_after, live_behind, live_clause, hinted_clause, before_later, hinted_clauses, added_ids, is_valid_line, first_bad, is_empty_clause, adds_empty_clause, has_empty_clause, verdict_from, verdict_of}
 use Rattle.log_check.specs.declared.Verdict.TheVariants.{Verified}
-use Rattle.log_check.proofs.Checked.{live_push}
+use Rattle.log_check.proofs.Ids.{live_push}
 
 -- each live clause is satisfied
 abbrev LiveHolds : (ℕ → Bool) → List Live → Type 0

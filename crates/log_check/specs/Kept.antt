@@ -1,19 +1,13 @@
 -- What the check keeps as it goes, against the lists that the verdict speaks of.
-use Rattle.std.specs.Prelude.{◌≡◌, ℕ, Bool, true, false, not, IsTrue, ◌&&◌, nat_eq, nat_lt, List, [], ◌∷◌, Option, Some, None, option_copied}
-use Rattle.std.specs.Borrow.{Bor}
-use Rattle.std.specs.HashMap.{get, HashMap}
-use Rattle.std.specs.declared.hash.FoldHasher.{FoldHasher}
-use Rattle.std.specs.declared.hash.BuildHasherDefault.{BuildHasherDefault}
+use Rattle.std.specs.Prelude.{◌≡◌, ℕ, Bool, true, false, not, IsTrue, ◌&&◌, List, [], ◌∷◌, Option, Some, None}
 use Rattle.cnf_core.specs.Literal.{Literal, negation, same_sign, is_among}
 use Rattle.cnf_core.specs.Reading.{is_shown_by}
 use Rattle.cnf_core.specs.Lines.{ProofLine, add, delete}
+use Rattle.log_check.specs.Lives.{clause_at, life_of}
 use Rattle.log_check.specs.Verdict.{Live, live_clause, hinted_clauses}
+use Rattle.log_check.specs.declared.calendar.Lives.{Lives}
 use Rattle.log_check.specs.declared.reading.Remaining.{Remaining}
 use Rattle.log_check.specs.declared.reading.Remaining.TheVariants.{Nothing, One, More}
-
--- the clause that is kept for each live id
-abbrev pub Clauses : Type 0
-Clauses = HashMap ℕ (Bor (List Literal)) (BuildHasherDefault FoldHasher)
 
 -- whether a kept sign is this one
 abbrev pub is_sign : Option Bool → Bool → Bool
@@ -32,9 +26,9 @@ pub record MakesTrue (old new : List Literal) (l : Literal) (done : Bool) : Type
   pub unless_false : done ≡ not (is_among old (negation l))
   pub kept : IsTrue done → KeepsTrues new (l ∷ old)
 
--- the clauses that are kept are the live ones
-abbrev pub KeepsLive : Clauses → List Live → Type 0
-KeepsLive clauses live = (id : ℕ) → option_copied (get nat_eq clauses id) ≡ live_clause live id
+-- the clauses that a table says are live at a line are the live ones
+abbrev pub KeepsLive : Lives → ℕ → List Live → Type 0
+KeepsLive lives line live = (id : ℕ) → clause_at (life_of lives id) line ≡ live_clause live id
 
 -- no literal, one, or more
 abbrev pub remaining_of : List Literal → Remaining
@@ -42,16 +36,10 @@ remaining_of [] = Nothing
 remaining_of (l ∷ []) = One l
 remaining_of (l ∷ m ∷ others) = More
 
--- whether a line is valid where the greatest id so far is newest
-abbrev pub is_accepted : ℕ → List Live → ProofLine → Bool
-is_accepted newest live (add id clause hints) =
-    nat_lt newest id && is_shown_by clause (hinted_clauses live hints)
-is_accepted newest live (delete ids) = true
-
--- the greatest id behind a valid line
-abbrev pub newest_after : ℕ → ProofLine → ℕ
-newest_after newest (add id clause hints) = id
-newest_after newest (delete ids) = newest
+-- whether a line is valid where these clauses are live, and where its id, if it adds, is new or isn't
+abbrev pub is_accepted : Bool → List Live → ProofLine → Bool
+is_accepted new live (add id clause hints) = new && is_shown_by clause (hinted_clauses live hints)
+is_accepted new live (delete ids) = true
 
 -- the same of one that was found before and of those behind it
 abbrev pub remaining_with : Remaining → List Literal → Remaining

@@ -2,21 +2,26 @@
 //! that its hints name.
 #![tactic(auto)]
 
-ghost use Rattle.std.specs.Prelude.{◌≡◌, ◌||◌, None, IfOk};
+ghost use Rattle.std.specs.Prelude.{◌≡◌, ◌+◌, ◌<◌, ◌≤◌, ◌^◌, ◌||◌, IfOk, length};
 ghost use Rattle.std.specs.List.{list_any};
 ghost use Rattle.cnf_core.specs.Lines.{plain_line, plain_lines};
+ghost use Rattle.log_check.specs.Parts.{FindsBad};
 ghost use Rattle.log_check.specs.Verdict.{verdict_of, verdict_from, is_empty_clause, adds_empty_clause};
 
+mod calendar;
 mod laws;
-mod lines;
+mod parts;
 mod reading;
 mod signs;
 
+use calendar::Calendar;
 use cnf_core::{Clause, Formula, Line, Proof};
 use ep_base::Memory;
 pub use laws::{valid_logs_are_accepted, verified_formulas_have_no_solution};
-use signs::Signs;
+use parts::{first_bad, least};
+use signs::places;
 use std::alloc::Global;
+use std::thread::{Threads, map_chunks};
 
 /// What the check of a proof found.
 #[derive(Clone, Copy, Debug, PartialEq, Eq)]
@@ -56,13 +61,15 @@ fn some_adds_empty(lines: &[Line]) -> bool
     lines.iter().any(adds_empty)
 }
 
-/// The verdict where each line is valid.
-fn without_bad_step(clauses: &[Clause], lines: &[Line]) -> Verdict
-    ensures { result ≡ verdict_from None
+/// The verdict, where this is the number of the first line that isn't valid, or each line is.
+fn verdict_after(clauses: &[Clause], lines: &[Line], bad: Option<u64>) -> Verdict
+    ensures { result ≡ verdict_from bad
         (list_any is_empty_clause clauses.now
         || list_any (λ line. adds_empty_clause (plain_line line)) lines.now) }
 {
-    if some_is_empty(clauses) || some_adds_empty(lines) {
+    if let Some(line) = bad {
+        Verdict::BadStep(line)
+    } else if some_is_empty(clauses) || some_adds_empty(lines) {
         Verdict::Verified
     } else {
         Verdict::NoEmptyClause
@@ -78,13 +85,79 @@ pub fn check_log(alloc: Global, f: &Formula, p: &Proof) -> Result<Verdict, Memor
         (λ verdict. verdict ≡ verdict_of f.now.clauses (plain_lines p.now.lines.items)) }
 {
     let clauses = f.clauses();
-    let mut live = lines::numbered(alloc, clauses)?;
-    let mut signs = Signs::new(alloc, f)?;
-    let mut newest = clauses.len() as u64;
-    for (index, line) in p.lines.iter().enumerate() {
-        if !lines::accepts(&mut live, &mut signs, &mut newest, line)? {
-            return Ok(Verdict::BadStep(index as u64 + 1));
-        }
-    }
-    Ok(without_bad_step(clauses, &p.lines))
+    let lines = p.lines.as_slice();
+    let calendar = Calendar::new(alloc, clauses, lines)?;
+    let bad = first_bad(alloc, &calendar, places(f), 0, lines)?;
+    Ok(verdict_after(clauses, lines, bad))
+}
+
+/// Is told when the check of a chunk of a proof begins and when it ends, by the thread that does it.
+pub trait Gate: Sync {
+    /// Comes before the first line of the chunk of this number.
+    fn enter(&self, chunk: u64);
+
+    /// Comes behind the last line of the chunk of this number.
+    fn leave(&self, chunk: u64);
+}
+
+/// A gate that lets each chunk begin and end.
+#[derive(Clone, Copy, Debug)]
+pub struct OpenGate;
+
+impl Gate for OpenGate {
+    fn enter(&self, _chunk: u64) {}
+
+    fn leave(&self, _chunk: u64) {}
+}
+
+/// Checks a proof as `check_log` does, and gives the same verdict.
+///
+/// The lines are cut into as many chunks as there are workers, of the same length but for the last,
+/// or into fewer where so many chunks have all lines. Each is checked in a thread of its own where
+/// one can be started, over what one pass has noted of the clauses that are live. The gate is told of
+/// each chunk, which are numbered from 0.
+pub fn check_log_parallel<R: Threads + Sync, G: Gate>(
+    rt: &R,
+    alloc: Global,
+    f: &Formula,
+    p: &Proof,
+    workers: u64,
+    gate: &G,
+) -> Result<Verdict, Memory>
+    requires { (1 ≤ workers) × (workers ≤ 64) }
+    ensures { IfOk result
+        (λ verdict. verdict ≡ verdict_of f.now.clauses (plain_lines p.now.lines.items)) }
+{
+    let clauses = f.clauses();
+    let lines = p.lines.as_slice();
+    let calendar = Calendar::new(alloc, clauses, lines)?;
+    let places = places(f);
+    let size = lines.len().div_ceil(workers as usize).max(1);
+    let check = |start: usize, chunk: &[Line]| -> Result<Option<u64>, Memory>
+        requires { (0 < size) × (start + length chunk.now < 2 ^ 64) }
+    { bad_in_chunk(alloc, &calendar, places, size, gate, start, chunk) };
+    let found = map_chunks(rt, alloc, lines, size, &check)?;
+    let bad = least(&found)?;
+    Ok(verdict_after(clauses, lines, bad))
+}
+
+/// Checks a chunk between two calls of the gate, where all chunks but the last have this size.
+fn bad_in_chunk<G: Gate>(
+    alloc: Global,
+    calendar: &Calendar,
+    places: usize,
+    size: usize,
+    gate: &G,
+    start: usize,
+    chunk: &[Line],
+) -> Result<Option<u64>, Memory>
+    requires size { 0 < size }
+    requires room { start + length chunk.now < 2 ^ 64 }
+    ensures { IfOk result (λ bad. FindsBad calendar.now start (plain_lines chunk.now) bad) }
+{
+    let number = (start / size) as u64;
+    gate.enter(number);
+    let bad = first_bad(alloc, calendar, places, start, chunk);
+    gate.leave(number);
+    bad
 }

@@ -6,10 +6,10 @@ ghost use Rattle.cnf_core.specs.Reading.{not_false, has_contradiction, reading_s
 ghost use Rattle.log_check.specs.Verdict.{Live, hinted_clause, hinted_clauses};
 ghost use Rattle.log_check.specs.Kept.{KeepsTrues, KeepsLive, remaining_of};
 
+use crate::calendar::Lives;
 use crate::signs::Signs;
 use cnf_core::{Clause, Lit};
 use ep_base::Memory;
-use std::collections::HashMap;
 
 /// The literals of a clause that aren't false.
 #[derive(Clone, Copy)]
@@ -53,21 +53,21 @@ fn set_negations(signs: &mut Signs, clause: &[Lit]) -> Result<bool, Memory>
     Ok(false)
 }
 
-fn hinted<'a>(live: &HashMap<u64, &'a Clause>, hint: &i64) -> Option<&'a Clause>
-    ensures { (numbered : List Live) → KeepsLive live.now numbered →
+fn hinted<'a>(lives: &Lives<'a>, index: usize, hint: &i64) -> Option<&'a Clause>
+    ensures { (numbered : List Live) → KeepsLive lives.now index numbered →
         option_copied result ≡ hinted_clause numbered hint.now }
 {
     let id = u64::try_from(*hint).ok()?;
-    live.get(&id).copied()
+    lives.clause_at(index, id)
 }
 
-fn reads(live: &HashMap<u64, &Clause>, signs: &mut Signs, hints: &[i64]) -> Result<bool, Memory>
+fn reads(lives: &Lives, index: usize, signs: &mut Signs, hints: &[i64]) -> Result<bool, Memory>
     ensures { IfOk result (λ yes. (trues : List Literal) (numbered : List Live) →
-        KeepsTrues signs.old trues → KeepsLive live.now numbered →
+        KeepsTrues signs.old trues → KeepsLive lives.now index numbered →
         yes ≡ reading_succeeds trues (hinted_clauses numbered hints.now)) }
 {
     for hint in hints {
-        let Some(clause) = hinted(live, hint) else {
+        let Some(clause) = hinted(lives, index, hint) else {
             return Ok(false);
         };
         match what_remains(signs, clause.lits()) {
@@ -81,20 +81,21 @@ fn reads(live: &HashMap<u64, &Clause>, signs: &mut Signs, hints: &[i64]) -> Resu
     Ok(false)
 }
 
-/// Whether the live clauses that the hints name show the clause. What was true before doesn't
-/// count.
+/// Whether the clauses that are live at a line and that the hints name show the clause. What was true
+/// before doesn't count.
 pub(crate) fn is_shown(
-    live: &HashMap<u64, &Clause>,
+    lives: &Lives,
+    index: usize,
     signs: &mut Signs,
     clause: &Clause,
     hints: &[i64],
 ) -> Result<bool, Memory>
-    ensures { IfOk result (λ yes. (numbered : List Live) → KeepsLive live.now numbered →
+    ensures { IfOk result (λ yes. (numbered : List Live) → KeepsLive lives.now index numbered →
         yes ≡ is_shown_by clause.now (hinted_clauses numbered hints.now)) }
 {
     if set_negations(signs, clause.lits())? {
         Ok(true)
     } else {
-        reads(live, signs, hints)
+        reads(lives, index, signs, hints)
     }
 }

@@ -88,13 +88,11 @@ impl Model for Signs {
 }
 
 impl Signs {
-    /// No literal is true.
-    ///
-    /// The table has a place for each variable of the formula, where it has no more than literals.
-    pub(crate) fn new(alloc: Global, f: &Formula) -> Result<Signs, Memory>
+    /// No literal is true. The table has this many places.
+    pub(crate) fn new(alloc: Global, places: usize) -> Result<Signs, Memory>
         ensures { IfOk result (λ signs. signs ≡ []) }
     {
-        let table = Table::new(alloc, places(f))?;
+        let table = Table::new(alloc, places)?;
         Ok(Signs {
             trues: Vec::new(alloc),
             table,
@@ -135,8 +133,9 @@ impl Signs {
     }
 }
 
-/// How many places the table gets.
-fn places(f: &Formula) -> usize {
+/// How many places the signs over a formula get: one for each variable, where it has no more of these
+/// than literals.
+pub(crate) fn places(f: &Formula) -> usize {
     let mut literals = 0usize;
     for clause in f.clauses() {
         literals = literals.saturating_add(clause.lits().len());

@@ -8,5 +8,5 @@ use Rattle.log_check.proofs.reading.reads.Given as goal
 
 abbrev pub invariant-loop-hint : goal.invariant-loop-hint
 invariant-loop-hint l =
-    (trues : List Literal) (numbered : List Live) → KeepsTrues l.initial.signs trues → KeepsLive l.live numbered
+    (trues : List Literal) (numbered : List Live) → KeepsTrues l.initial.signs trues → KeepsLive l.lives l.index numbered
     → GoesOn l.signs numbered (drop l.hint-index l.hints) (reading_succeeds trues (hinted_clauses numbered l.hints))
