@@ -1,0 +1,14 @@
+mod Cutting
+mod Signs
+mod Following
+mod Again
+mod Reached
+mod Texts
+mod Faults
+mod ReadingSteps
+mod NamedOnce
+mod Measures
+mod SumLaws
+mod FlatLaws
+mod Placed
+mod NamedTerms

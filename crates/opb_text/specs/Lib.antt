@@ -1,0 +1,10 @@
+pub mod Words
+pub mod Numbers
+pub mod Contents
+pub mod Grammar
+pub mod Solutions
+pub mod Weights
+pub mod Views
+pub mod Reading
+pub mod Flats
+pub mod Sums
