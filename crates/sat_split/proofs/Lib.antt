@@ -1,0 +1,3 @@
+pub mod Cubes
+mod Least
+mod Units
