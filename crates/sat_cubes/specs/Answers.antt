@@ -1,0 +1,79 @@
+-- What solving the cubes of a formula has to answer.
+use Rattle.std.specs.Prelude.{◌≡◌, ℕ, ◌-◌, ◌^◌, ◌<◌, Bool, false, List, [], ◌++◌, length, slice_index_or, All, Contains}
+use Rattle.cnf_core.specs.Literal.{Literal}
+use Rattle.cnf_core.specs.Clauses.{Satisfies}
+use Rattle.cnf_core.specs.Formula.{Cnf}
+use Rattle.cnf_core.specs.Events.{LogEvent, LogState, is_given, clauses_of, nonempty_steps}
+use Rattle.cnf_core.specs.Steps.{IsValidLog, NonEmptyStepsAreNew}
+use Rattle.sat_search.specs.Logs.{IsSound, EndsWithEmptyStep, NoneIsEmpty}
+use Rattle.sat_split.specs.Cubes.{AreCubeVariables, cube_literals, LiesIn, IsFalseIn, all_given, cube_log}
+use Rattle.sat_cubes.specs.declared.cubed.Cubed.{Cubed}
+use Rattle.sat_cubes.specs.declared.cubed.Cubed.TheVariants.{Sat, Unsat, Spent}
+
+-- the assignment of a list of values, the first being that of variable 1
+abbrev pub value_at : List Bool → ℕ → Bool
+value_at values v = slice_index_or values (v - 1) false
+
+-- no assignment in a cube below the number satisfies the clauses
+abbrev pub NoneBelow : List (List Literal) → List ℕ → ℕ → Type 0
+NoneBelow clauses vars cube =
+    (c : ℕ) → c < cube → (s : ℕ → Bool) → LiesIn (cube_literals c vars) s → Satisfies s clauses → ⊥
+
+-- an event of the log holds only literals that are false in a cube
+pub record IsRefutedIn (events : List LogEvent) (literals : List Literal) : Type 0 where
+  pub clause : List Literal
+  pub in_log : Contains (clauses_of events) clause
+  pub is_false : IsFalseIn literals clause
+
+-- Events of the undivided formula, which refute each cube below the number: the formula's clauses are given in order, nothing else is, each
+-- step is valid, and each step with a literal is new.
+pub record IsJoinedLog (clauses : List (List Literal)) (vars : List ℕ) (cubes : ℕ) (events : List LogEvent) : Type 0 where
+  pub steps : List LogEvent
+  pub events_are : events ≡ all_given clauses ++ steps
+  pub are_steps : All (λ e. is_given e ≡ false) steps
+  pub valid : IsValidLog events
+  pub new : NonEmptyStepsAreNew events
+  pub refuted : (c : ℕ) → c < cubes → IsRefutedIn events (cube_literals c vars)
+
+-- the values satisfy the formula and lie in a cube, below which nothing does
+pub record IsSatIn (f : Cnf) (vars : List ℕ) (cube : ℕ) (values : List Bool) (events : List LogEvent) : Type 0 where
+  pub is_cube : cube < 2 ^ length vars
+  pub count : length values ≡ f.vars
+  pub satisfies : Satisfies (value_at values) f.clauses
+  pub lies_in : LiesIn (cube_literals cube vars) (value_at values)
+  pub none_below : NoneBelow f.clauses vars cube
+  pub joined : IsJoinedLog f.clauses vars cube events
+
+-- nothing satisfies the formula, and the last event is the empty step
+pub record IsUnsat (f : Cnf) (vars : List ℕ) (events : List LogEvent) : Type 0 where
+  pub none : (s : ℕ → Bool) → Satisfies s f.clauses → ⊥
+  pub joined : IsJoinedLog f.clauses vars (2 ^ length vars) events
+  pub ends : EndsWithEmptyStep events
+
+-- The events are a cube's own: the formula's clauses and the cube's literals are given, nothing else is, and each step is valid. As many steps
+-- have a literal as the budget allows, each of them is new and effective, and no clause is empty. Nothing in a lower cube satisfies the formula.
+pub record IsSpentIn (f : Cnf) (vars : List ℕ) (cube budget : ℕ) (events : List LogEvent) : Type 0 where
+  pub is_cube : cube < 2 ^ length vars
+  pub steps : List LogEvent
+  pub events_are : events ≡ (cube_log f.clauses (cube_literals cube vars)).events ++ steps
+  pub are_steps : All (λ e. is_given e ≡ false) steps
+  pub sound : IsSound events
+  pub spent : nonempty_steps events ≡ budget
+  pub none_empty : NoneIsEmpty events
+  pub none_below : NoneBelow f.clauses vars cube
+
+-- the log has no notes, and the base 0
+abbrev pub IsUnmarked : LogState → Type 0
+IsUnmarked log = (log.notes ≡ []) × (log.base ≡ 0)
+
+-- what an answer says over these variables
+abbrev pub IsAnswer : Cnf → ℕ → List ℕ → Cubed → Type 0
+IsAnswer f budget vars (Sat cube values log) = IsSatIn f vars cube values.items log.events × IsUnmarked log
+IsAnswer f budget vars (Unsat log) = IsUnsat f vars log.events × IsUnmarked log
+IsAnswer f budget vars (Spent cube log) = IsSpentIn f vars cube budget log.events × IsUnmarked log
+
+-- what comes of the cubes over the cube variables
+pub record IsCubed (f : Cnf) (most budget : ℕ) (cubed : Cubed) : Type 0 where
+  pub vars : List ℕ
+  pub are : AreCubeVariables most f.clauses vars
+  pub answer : IsAnswer f budget vars cubed
