@@ -112,3 +112,15 @@ stages_compose old new flat m layout f keeps stands encodes = record {
           satisfies = found.satisfies;
           gives = same;
         }
+
+-- what keeps the solutions of a ground that keeps those of another keeps these
+pub keeps_through : (first second third : GroundState) → KeepsSolutions first second → KeepsSolutions second third → KeepsSolutions first third
+keeps_through first second third h g = record {
+  cells = g.cells ∙ h.cells;
+  same = λ values. (
+    λ kept. (h.same values).0 ((g.same values).0 kept),
+    λ kept. (g.same values).1 ((h.same values).1 kept),
+  );
+  senses = g.senses ∙ h.senses;
+  objective = λ values kept. g.objective values ((h.same values).1 kept) ∙ h.objective values kept;
+}

@@ -15,6 +15,7 @@ use ep_defined::remove_undefined;
 use ep_flat::CellMap;
 use ep_flatten::flatten;
 use ep_ground::{Cell, Ground};
+use ep_simplify::simplify;
 use std::alloc::Global;
 
 /// A formula, and how its assignments give the cells their numbers.
@@ -39,12 +40,13 @@ pub fn formula_of(alloc: Global, g: Ground) -> Result<Encoded, Memory>
     ensures cells { IfOk result (λ made. made.cells.items ≡ (plain_ground g).cells) }
 {
     let defined = remove_undefined(alloc, g)?;
-    let (flat, map) = flatten(alloc, &defined)?;
+    let simple = simplify(alloc, defined)?;
+    let (flat, map) = flatten(alloc, &simple)?;
     let (formula, layout) = encode(alloc, &flat)?;
     Ok(Encoded {
         formula,
         layout,
-        cells: defined.cells,
+        cells: simple.cells,
         map,
     })
 }

@@ -1,9 +1,28 @@
+use Rattle.std.proofs.Common.{arith, ◌∙◌}
 use Rattle.ep_flat.specs.FlatViews.{plain_flat, plain_map}
-use Rattle.ep_formula.proofs.Composing.{stages_compose}
+use Rattle.ep_formula.proofs.Composing.{keeps_through, stages_compose}
 use Rattle.ep_formula.proofs.stages.formula_of.Goals as goal
 use Rattle.ep_ground.specs.GroundViews.{plain_ground}
 
+pub simplify-requires : goal.simplify-requires
+simplify-requires c = record {
+  nodes = omega (arith, c.requires.nodes, c.in_ok-defined.ensures.nodes);
+  well_formed = c.in_ok-defined.ensures.well_formed;
+  no_partial = c.in_ok-defined.ensures.no_partial;
+}
+
+pub flatten-requires : goal.flatten-requires
+flatten-requires c = record {
+  no_partial = c.in_ok-simple.ensures.no_partial;
+  well_formed = c.in_ok-simple.ensures.well_formed;
+  bounded = c.in_ok-simple.ensures.bounded (c.in_ok-defined.ensures.bounded c.requires.bounded);
+}
+
 pub returns-clause-made : goal.returns-clause-made
 returns-clause-made c =
-    stages_compose (plain_ground c.args.g) (plain_ground c.in_ok-defined.defined) (plain_flat c.in_ok-flat.flat) (plain_map c.in_ok-flat.map) c.in_ok-formula.layout c.in_ok-formula.formula
-    c.in_ok-defined.ensures.keeps c.in_ok-flat.ensures c.in_ok-formula.ensures
+    stages_compose (plain_ground c.args.g) (plain_ground c.in_ok-simple.simple) (plain_flat c.in_ok-flat.flat) (plain_map c.in_ok-flat.map) c.in_ok-formula.layout c.in_ok-formula.formula
+    (keeps_through (plain_ground c.args.g) (plain_ground c.in_ok-defined.defined) (plain_ground c.in_ok-simple.simple) c.in_ok-defined.ensures.keeps c.in_ok-simple.ensures.keeps)
+    c.in_ok-flat.ensures c.in_ok-formula.ensures
+
+pub returns-clause-cells : goal.returns-clause-cells
+returns-clause-cells c = c.in_ok-simple.ensures.keeps.cells ∙ c.in_ok-defined.ensures.keeps.cells
