@@ -1,0 +1,13 @@
+mod SameVariables
+mod NamedTerms
+mod Agreeing
+mod Formulas
+mod Allowing
+mod Answering
+mod Names
+mod GivenLogs
+mod Notes
+mod Showing
+mod Adding
+mod FaultLines
+mod Replying
