@@ -1,0 +1,2 @@
+mod FileReading
+pub mod OneReading

@@ -1,0 +1,15 @@
+use Rattle.std.proofs.Common.{ℕ, List, subst}
+use Rattle.ep_base.specs.Outside.{Rose}
+use Rattle.sat_text.specs.Words.{most_text_bytes}
+use Rattle.ep_files.specs.Readings.{IsFormulaReadAs}
+use Rattle.ep_files.specs.Reads.{TellsText, formula_clauses}
+use Rattle.ep_files.proofs.FileReading.{cut-formula, tells-read}
+use Rattle.ep_files.proofs.reading.read_formula.Goals as goal
+
+pub returns-clause-tells : goal.returns-clause-tells
+returns-clause-tells g c =
+    let told = g.F.Files.held c.args.files.now in
+    let rose = Rose (g.F.Files.faults c.args.files.now) (g.F.Files.faults c.read_bytes.new.files) in
+    let P : List ℕ → Type 0 = λ t. TellsText formula_clauses IsFormulaReadAs t c.formula_in.result in
+    tells-read formula_clauses most_text_bytes IsFormulaReadAs cut-formula told c.args.name.now c.in_ok-text.text.items rose c.formula_in.result c.in_ok-text.ensures.tells
+    (subst P c.deref.ensures.value c.formula_in.ensures)

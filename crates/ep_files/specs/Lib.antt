@@ -1,0 +1,4 @@
+pub mod Status
+pub mod Readings
+pub mod Stops
+pub mod Reads
