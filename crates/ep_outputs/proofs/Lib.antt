@@ -1,0 +1,2 @@
+mod Givens
+pub mod Telling
