@@ -1,5 +1,5 @@
 -- How many conflicts words allow.
-use Rattle.std.proofs.Common.{◌≡◌, ℕ, ◌≤◌, Bool, true, false, ◌&&◌, if◌then◌else◌, nat_eq, nat_le, zero, suc, length, codes, List, Option, Some, None, option_map, option_and_then, unwrap_or, bytes_eq, inl, inr, refl, sym, subst, arith}
+use Rattle.std.proofs.Common.{◌≡◌, ℕ, ◌≤◌, Bool, true, false, ◌&&◌, if◌then◌else◌, nat_le, zero, suc, length, codes, List, Option, Some, None, option_map, option_and_then, unwrap_or, bytes_eq, inl, inr, refl, sym, subst, arith}
 use Rattle.std.proofs.lemmas.Bool.{cases_Bool}
 use Rattle.std.proofs.lemmas.Bool.Decides.{nat_tests}
 use Rattle.std.specs.Str.Parse.{digits_value}
@@ -144,10 +144,10 @@ job-budget s job e =
 abbrev IsAllowed : Wanted → Type 0
 IsAllowed (Wanted.Search _ _ _ request _) = 1 ≤ conflicts_wanted request
 IsAllowed (Wanted.Verify _ _ _ _) = Unit {0}
-IsAllowed (Wanted.Check _ _) = Unit {0}
+IsAllowed (Wanted.Check _ _ _) = Unit {0}
 IsAllowed (Wanted.Generate number conflicts eprime param) = (1 ≤ conflicts) × (number ≤ 1000000000)
 
-wanted-allowed : (job : Job) → HasBudget job → (wanted : Wanted) → wanted_of job ≡ Some wanted → IsAllowed wanted
+wanted-allowed : (job : Job) → HasBudget job → (wanted : Wanted) → wanted_of job ≡ wanted → IsAllowed wanted
 unfolding wanted_of conflicts_wanted
 wanted-allowed (Job.Solve m p n o c l u) has wanted e =
     let outputs : Outputs = record { formula = c; log = l; solution = o } in
@@ -160,7 +160,7 @@ wanted-allowed (Job.Enumerate m p most n o c l u) has wanted e =
 wanted-allowed (Job.Verify m t p u) has wanted e =
     let same : Wanted.Verify m p u t ≡ wanted = cc in subst IsAllowed same tt
 wanted-allowed (Job.Check c l w) has wanted e =
-    if-chosen IsAllowed (nat_eq w 1) (Some (Wanted.Check c l)) wanted (λ y f. let same : Wanted.Check c l ≡ y = cc in subst IsAllowed same tt) e
+    let same : Wanted.Check c l w ≡ wanted = cc in subst IsAllowed same tt
 wanted-allowed (Job.Generate k n f q) has wanted e =
     let same : Wanted.Generate k n f q ≡ wanted = cc in subst IsAllowed same has
 
@@ -171,13 +171,13 @@ wants-allowed words wanted want =
 allowed-budget : (wanted : Wanted) (conflicts : ℕ) → IsAllowed wanted → IsSearchFor wanted conflicts → 1 ≤ conflicts
 allowed-budget (Wanted.Search m p u request o) conflicts allowed is = subst (λ (n : ℕ). 1 ≤ n) (sym is) allowed
 allowed-budget (Wanted.Verify m p u s) conflicts allowed is = absurd is
-allowed-budget (Wanted.Check f l) conflicts allowed is = absurd is
+allowed-budget (Wanted.Check f l w) conflicts allowed is = absurd is
 allowed-budget (Wanted.Generate number most eprime param) conflicts allowed is = subst (λ (n : ℕ). 1 ≤ n) (sym is) allowed.0
 
 allowed-texts : (wanted : Wanted) → IsAllowed wanted → HasTexts wanted
 allowed-texts (Wanted.Search m p u request o) allowed = tt
 allowed-texts (Wanted.Verify m p u s) allowed = tt
-allowed-texts (Wanted.Check f l) allowed = tt
+allowed-texts (Wanted.Check f l w) allowed = tt
 allowed-texts (Wanted.Generate number conflicts eprime param) allowed = allowed.1
 
 -- words that want a search allow it a conflict

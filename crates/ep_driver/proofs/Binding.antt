@@ -11,7 +11,7 @@ use Rattle.ep_tree.specs.Faults.{Fault, ill_typed, open_domain, redeclared, unkn
 use Rattle.ep_types_rules.specs.Named.{IsAmongFaults, fault_of}
 use Rattle.ep_types_rules.specs.declared.errors.StaticError.{StaticError}
 use Rattle.ep_driver.specs.Outcomes.{as_outcome, bind_refusal, bind_refusals, fault_refusal, fault_refusals, file_of}
-use Rattle.ep_driver.specs.Status.{status_of}
+use Rattle.ep_files.specs.Status.{status_of}
 use Rattle.ep_driver.specs.Steps.{Passes, Tells}
 use Rattle.ep_driver.specs.Stops.{bind_stop, static_stop}
 use Rattle.ep_driver.proofs.Refusing.{contains-map}

@@ -52,7 +52,7 @@ no-conflict none words wanted conflicts events want is effective spent = λ conf
 one-budget : (wanted : Wanted) (m n : ℕ) → IsSearchFor wanted m → IsSearchFor wanted n → m ≡ n
 one-budget (Wanted.Search model params mode request output) m n g h = g ∙ sym h
 one-budget (Wanted.Verify model params mode solution) m n g h = absurd g
-one-budget (Wanted.Check formula proof) m n g h = absurd g
+one-budget (Wanted.Check formula proof workers) m n g h = absurd g
 one-budget (Wanted.Generate number most eprime param) m n g h = g ∙ sym h
 
 -- ---- the words and the log of a run

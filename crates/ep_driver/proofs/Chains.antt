@@ -9,11 +9,12 @@ use Rattle.ep_print.specs.declared.refusals.Refusal.{Refusal}
 use Rattle.ep_print.specs.declared.refusals.TextFile.{TextFile}
 use Rattle.ep_tree.specs.Statements.{TextTree}
 use Rattle.ep_driver.specs.Outcomes.{Outcome, Task}
-use Rattle.ep_driver.specs.Readings.{AreParams, IsHeldReadBy, IsReadBy, IsTextReadAs, ReadsTexts, without}
+use Rattle.ep_files.specs.Readings.{AreParams, IsHeldReadBy, IsReadBy, IsTextReadAs, ReadsTexts, without}
 use Rattle.ep_driver.specs.Shown.{ThenShows}
-use Rattle.ep_driver.specs.Steps.{IsFailed, IsFaulty, IsUnread, TellsParams, TellsRead, TellsReply, TellsTask}
+use Rattle.ep_driver.specs.Steps.{IsFailed, IsFaulty, TellsReply, TellsTask}
+use Rattle.ep_files.specs.Reads.{IsUnread, TellsParams, TellsRead}
 use Rattle.ep_driver.specs.declared.replies.Reply.{Reply}
-use Rattle.ep_driver.specs.declared.stops.Stop.{Stop}
+use Rattle.ep_files.specs.declared.stops.Stop.{Stop}
 use Rattle.ep_driver.proofs.Refusing.{contains-first}
 
 -- what is read of held files

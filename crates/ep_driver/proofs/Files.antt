@@ -7,10 +7,11 @@ use Rattle.ep_base.specs.Outside.{Held, with_bytes}
 use Rattle.ep_driver.specs.Answers.{Settles}
 use Rattle.ep_driver.specs.Commands.{Want}
 use Rattle.ep_driver.specs.Outcomes.{Task}
-use Rattle.ep_driver.specs.Outputs.{AreWritten, Content, HasOutput, HoldsText, IsFormulaText, IsStepsText, IsTextOf, Output, a_formula, an_answer, for_texts, outputs_in_order, named, steps, written_for}
+use Rattle.ep_outputs.specs.Outputs.{AreWritten, Content, IsFormulaText, IsStepsText, IsTextOf, Output, a_formula, an_answer, for_texts, named, steps}
+use Rattle.ep_driver.specs.Outputs.{HasOutput, HoldsText, outputs_in_order, written_for}
 use Rattle.ep_driver.specs.Shown.{comes_to_generate}
 use Rattle.ep_driver.specs.Steps.{AnswersNumber}
-use Rattle.ep_driver.specs.declared.status.Status.{Status}
+use Rattle.ep_files.specs.declared.status.Status.{Status}
 use Rattle.ep_driver.specs.declared.wanted.Outputs.{Outputs}
 use Rattle.ep_driver.specs.declared.wanted.Request.{Request}
 use Rattle.ep_driver.specs.declared.wanted.Wanted.{Wanted}

@@ -8,58 +8,35 @@ use Rattle.ep_print.specs.Answers.{AnswerTree, no_solution, optimum, solution, u
 use Rattle.ep_print.specs.Listings.{EndTree, complete, spent, stopped}
 use Rattle.ep_print.specs.declared.refusals.Refusal.{Refusal}
 use Rattle.ep_print.specs.declared.refusals.TextFile.{TextFile}
-use Rattle.ep_promise.proofs.Made.{all_known, bound_made}
+use Rattle.ep_promise.proofs.Made.{known_as_bound, made_as_bound}
 use Rattle.ep_promise.specs.Promise.{GivesAssignment, IsSolutionOf, IsTrueOf, LacksNone, SpellsGiven}
 use Rattle.ep_solve.specs.Listed.{EndsRightly}
 use Rattle.ep_solve.specs.Right.{HasGoal, IsRight}
 use Rattle.ep_tree.specs.Binding.{Instance, Refusal as BindRefusal, and_next, bind, bind_params, solution_text}
-use Rattle.ep_tree.specs.Environments.{Env}
 use Rattle.ep_tree.specs.Faults.{lettings_of, params_faults, text_faults}
 use Rattle.ep_tree.specs.Names.{nothing_known}
-use Rattle.ep_tree.specs.SolutionTexts.{Shaped, fits, letting_names, read_solution, shaped, shaped_by, strangers, with_lettings, without_letting, wrong_shape}
-use Rattle.ep_tree.specs.Solutions.{Assigned, Found, IsSolution, IsWritten, Judgement, a_solution, found_of, goal_undefined, goal_value, has_goal_value, judged_by, judgement, violated, violates}
+use Rattle.ep_tree.specs.SolutionTexts.{Shaped, fits, read_solution, shaped, shaped_by, with_lettings, wrong_shape}
+use Rattle.ep_tree.specs.Solutions.{Assigned, Found, IsSolution, IsWritten, a_solution, goal_value, has_goal_value, judged_by, judgement, violated}
 use Rattle.ep_tree.specs.Statements.{TextTree}
 use Rattle.ep_tree.specs.Texts.{Answers, SpellsText, TextAnswer, bad_byte, long_number, read_as, syntax_fault, too_high, too_long}
 use Rattle.ep_tree.specs.declared.values.Mode.{Mode}
 use Rattle.ep_driver.specs.Answers.{Settles, judgement_status, judgement_text}
 use Rattle.ep_driver.specs.Commands.{Want}
-use Rattle.ep_driver.specs.Outcomes.{Outcome, Task, and_then, as_outcome, bound_outcome, fault_refusals, instance_of, search_outcome, searched_task, to_judge, to_list, to_solve, unless_refused, verify_outcome}
+use Rattle.ep_driver.specs.Outcomes.{Outcome, Task, as_outcome, fault_refusals, instance_of, search_outcome, searched_task, to_judge, verify_outcome}
 use Rattle.ep_driver.specs.Promised.{FilesMake, HoldsGiven, IsPromised}
-use Rattle.ep_driver.specs.Readings.{AreParams, IsHeldReadBy, IsFileReadAs, IsTextReadAs, spells_in, tree_or_refusal}
+use Rattle.ep_files.specs.Readings.{AreParams, IsHeldReadBy, IsFileReadAs, IsTextReadAs, spells_in, tree_or_refusal}
 use Rattle.ep_driver.specs.Shown.{Ask, ComesTo, ThenShows, comes_to_judge, comes_to_search, comes_to_verify}
-use Rattle.ep_driver.specs.declared.status.Status.{Status}
+use Rattle.ep_files.specs.declared.status.Status.{Status}
 use Rattle.ep_driver.specs.declared.wanted.Request.{Request}
 use Rattle.ep_driver.specs.declared.wanted.Wanted.{Wanted}
+use Rattle.ep_driver.proofs.Outcomes.{as_ok, bound_ok, never_refused, ok_is, then_ok, unless_ok}
 
--- ---- results
-
-ok_is : {A E : Type 0} {x y : A} → ◌≡◌ {A = Result A E} (Ok x) (Ok y) → x ≡ y
-ok_is e = cc
-
-never_refused : {A E B : Type 0} {x : A} {e : E} → ◌≡◌ {A = Result A E} (Ok x) (Err e) → B
-never_refused e = absurd cc
-
-unless_ok : {A : Type 0} (rs : List Refusal) (outcome : Outcome A) (x : A) → unless_refused rs outcome ≡ Ok x → outcome ≡ Ok x
-unfolding unless_refused
-unless_ok [] outcome x e = e
-unless_ok (r ∷ rs) outcome x e = never_refused (sym e)
-
-then_ok : {A B : Type 0} (outcome : Outcome A) (next : A → Outcome B) (y : B) → and_then outcome next ≡ Ok y → (x : A) × (outcome ≡ Ok x) × (next x ≡ Ok y)
-unfolding and_then
-then_ok (Ok x) next y e = (x, refl, e)
-then_ok (Err rs) next y e = never_refused (sym e)
-
-as_ok : {A : Type 0} (bound : Result A (List BindRefusal)) (x : A) → as_outcome bound ≡ Ok x → bound ≡ Ok x
-unfolding as_outcome
-as_ok (Ok y) x e = ap Ok (ok_is e)
-as_ok (Err rs) x e = never_refused (sym e)
+-- ---- what was read
 
 next_ok : {A B : Type 0} (bound : Result A (List BindRefusal)) (next : A → Result B (List BindRefusal)) (y : B) → and_next bound next ≡ Ok y → (x : A) × (bound ≡ Ok x) × (next x ≡ Ok y)
 unfolding and_next
 next_ok (Ok x) next y e = (x, refl, e)
 next_ok (Err rs) next y e = never_refused (sym e)
-
--- ---- what was read
 
 read_ok : {A : Type 0} (reads : Result A Refusal → Type 0) (next : A → Outcome Task → Type 0) (task : Task) → ThenShows reads next (Ok task) → (x : A) × reads (Ok x) × next x (Ok task)
 read_ok reads next task (inl shown) = shown
@@ -94,16 +71,10 @@ files_make held mode model params m p i read given bound =
       given = other.0;
       model_held = one.1;
       params_held = other.1;
-      make = record { model_tree = m; params_tree = p; model_spelled = one.2; params_spelled = other.2; made = bound_made mode m p i bound };
+      make = record { model_tree = m; params_tree = p; model_spelled = one.2; params_spelled = other.2; made = made_as_bound mode m p i bound };
     }
 
 -- ---- the instance
-
-bound_ok : (mode : Mode) (m p : TextTree) (i : Instance) → instance_of mode m p ≡ Ok i → bind mode m p ≡ Ok i
-unfolding instance_of
-bound_ok mode m p i e =
-    let bound : _ = then_ok (bound_outcome mode m p) _ i e in
-    as_ok (bind mode m p) i (bound.1 ∙ unless_ok _ (Ok bound.0) i bound.2)
 
 searched_ok : (mode : Mode) (q : Request) (m p : TextTree) (task : Task) → Ok task ≡ search_outcome mode q m p → (i : Instance) × (bind mode m p ≡ Ok i) × (searched_task mode q i ≡ task)
 unfolding search_outcome
@@ -169,7 +140,7 @@ gives mode i s text a spelled e =
       tree = s;
       spelled = spelled;
       known = it.0;
-      told = all_known mode solution_text nothing_known s it.0 it.1;
+      told = known_as_bound mode solution_text s it.0 it.1;
       assigned = shape_fits _ (with_lettings it.0 i.finds) a (ok_is it.2);
     }
 
@@ -224,7 +195,7 @@ kept_for held (Wanted.Verify model params mode name) task status text log decide
     let own : _ = held_spells TextFile.Solution name (held name) s.0 s.1 in
     judge_true held mode model params name it.0 s.0 own.0 status text log it.2 decided (files_make held mode model params m.0 p.0 it.0 m.1 p.1 it.1)
     own.1 own.2 it.3 (subst (λ t. Settles t status text log) (sym it.4) h)
-kept_for held (Wanted.Check formula proof) task status text log decided comes h = tt
+kept_for held (Wanted.Check formula proof workers) task status text log decided comes h = tt
 kept_for held (Wanted.Generate number conflicts eprime param) task status text log decided comes h = tt
 
 -- what settles the task that words ask for is what they want, and it is as it is promised

@@ -3,16 +3,13 @@ mod Puts
 mod VectorsOutcomes
 mod VectorsSummaries
 mod Refusing
-mod FileReading
 mod Binding
 mod Limits
 mod Chains
 mod Tasks
 mod Saying
 mod Written
-mod Givens
 mod Promises
-mod OneReading
 mod Once
 mod ShownTexts
 mod Allowed
@@ -20,5 +17,6 @@ mod Files
 mod Certified
 mod Budgets
 mod Running
+mod Outcomes
 mod Noted
 mod Kept

@@ -15,14 +15,14 @@ use Rattle.ep_driver.specs.Answers.{Settles}
 use Rattle.ep_driver.specs.Commands.{IsJudgement, Want, wanted_of}
 use Rattle.ep_driver.specs.Outcomes.{Outcome, Task, search_outcome, to_check, verify_outcome}
 use Rattle.ep_driver.specs.Puts.{HoldOnWant}
-use Rattle.ep_driver.specs.Readings.{AreParams, IsFormulaReadAs, IsHeldReadBy, IsProofReadAs, IsFileReadAs, IsReadBy, IsTextReadAs, ReadsTexts, spells_in, tree_or_refusal}
+use Rattle.ep_files.specs.Readings.{AreParams, IsFormulaReadAs, IsHeldReadBy, IsProofReadAs, IsFileReadAs, IsReadBy, IsTextReadAs, ReadsTexts, spells_in, tree_or_refusal}
 use Rattle.ep_driver.specs.Shown.{Ask, ComesTo, Refuse, Show, ThenShows, comes_to_check, comes_to_judge, comes_to_parameters, comes_to_search, comes_to_verify}
-use Rattle.ep_driver.specs.Status.{HasReply, status_of}
+use Rattle.ep_files.specs.Status.{HasReply, status_of}
 use Rattle.ep_driver.specs.Steps.{IsLogOf, LogsTask}
-use Rattle.ep_driver.specs.declared.status.Status.{Status}
+use Rattle.ep_files.specs.declared.status.Status.{Status}
 use Rattle.ep_driver.specs.declared.wanted.Request.{Request}
 use Rattle.ep_driver.specs.declared.wanted.Wanted.{Wanted}
-use Rattle.ep_driver.proofs.OneReading.{OneFormula, OneProof, formula-once, proof-once}
+use Rattle.ep_files.proofs.OneReading.{OneFormula, OneProof, formula-once, proof-once}
 use Rattle.ep_driver.proofs.Promises.{ended-status, usage-told}
 use Rattle.ep_driver.proofs.Saying.{Case, answer, end-logs, faulty, no_command, unread, unwritten}
 
@@ -89,7 +89,7 @@ comes-once texts (Wanted.Verify model params mode solution) held a b g h =
     (λ p. then-once (IsFileReadAs held TextFile.Solution solution) (λ s outcome. outcome ≡ verify_outcome mode m p s) (file-once (IsTextReadAs TextFile.Solution) (tree-once TextFile.Solution texts.solution) solution held)
     (λ s x y e f. e ∙ sym f)))
     a b g h
-comes-once texts (Wanted.Check formula proof) held a b g h =
+comes-once texts (Wanted.Check formula proof workers) held a b g h =
     then-once (IsReadBy IsFormulaReadAs held formula) (λ clauses. comes_to_check proof clauses held) (file-once IsFormulaReadAs (formula-once texts.formula) formula held)
     (λ clauses. then-once (IsReadBy IsProofReadAs held proof) (λ lines outcome. outcome ≡ Ok (to_check clauses lines)) (file-once IsProofReadAs (proof-once texts.proof) proof held)
     (λ lines x y e f. e ∙ sym f))
@@ -106,7 +106,7 @@ WantOne words = (a b : Wanted) → Want words a → Want words b → a ≡ b
 
 pub want-once : OneJob → (words : List (List ℕ)) (a b : Wanted) → Want words a → Want words b → a ≡ b
 want-once one words a b g h =
-    let e = sym g.2 ∙ ap wanted_of (one words g.0 h.0 g.1 h.1) ∙ h.2 in cc
+    sym g.2 ∙ ap wanted_of (one words g.0 h.0 g.1 h.1) ∙ h.2
 
 -- the words show one thing alone
 pub shown-once : OneJob → TextsAreOnce → (words : List (List ℕ)) (held : Held) (a b : Outcome Task) → Show words held a → Show words held b → a ≡ b
@@ -207,7 +207,7 @@ unlogged-on-want words (Some held) log once h = λ refusals show.
 logs-nothing : (wanted : Wanted) (log : LogState) → IsJudgement wanted → IsLogOf wanted log → log ≡ empty_log
 logs-nothing (Wanted.Search m p u request outputs) log judged logs = absurd judged
 logs-nothing (Wanted.Verify m p u s) log judged logs = logs
-logs-nothing (Wanted.Check formula proof) log judged logs = logs
+logs-nothing (Wanted.Check formula proof workers) log judged logs = logs
 logs-nothing (Wanted.Generate number conflicts eprime param) log judged logs = absurd judged
 
 judged-logs : (words : List (List ℕ)) (one other : Wanted) (log : LogState) → WantOne words → Want words one → IsLogOf one log → Want words other → IsJudgement other → log ≡ empty_log

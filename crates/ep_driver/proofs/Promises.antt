@@ -1,10 +1,9 @@
 -- What a run promises, by the cases of what is said.
 use Rattle.std.proofs.Common.{◌≡◌, ◌≢◌, ℕ, ◌⊎◌, List, [], ◌∷◌, length, take, Option, Some, None, Ok, Err, Result, IfOk, Bool, true, false, bytes_eq, if◌then◌else◌, IfSome, IsSomeAnd, inl, inr, refl, sym, ap, subst, ◌∙◌, arith}
 use Rattle.std.proofs.lemmas.List.{take_all}
-use Rattle.std.proofs.lemmas.Slice.Eq.{bytes_eq-Decides}
 use Rattle.cnf_core.specs.Events.{LogState}
 use Rattle.ep_solve.specs.Right.{IsSpent, empty_log}
-use Rattle.ep_base.specs.Outside.{Held, SameElsewhere, TookPart, with_bytes, with_more}
+use Rattle.ep_base.specs.Outside.{Held, TookPart, with_more}
 use Rattle.ep_print.specs.Refusals.{refusal_text}
 use Rattle.ep_print.specs.declared.refusals.Refusal.{Refusal}
 use Rattle.ep_driver.specs.Answers.{Settles}
@@ -14,11 +13,12 @@ use Rattle.ep_driver.specs.Outputs.{HasOutput, IsOutput, SameButOutput, written_
 use Rattle.ep_driver.specs.Puts.{HoldOnWant, IsDeviceLine, IsFailedRead, IsFailedWrite, IsShownText, MayBePut, TookFirst, read_line}
 use Rattle.ep_driver.specs.Searches.{IsSearchFor}
 use Rattle.ep_driver.specs.Shown.{Ask, Refuse, Refuses}
-use Rattle.ep_driver.specs.Status.{HasReply, status_of}
+use Rattle.ep_files.specs.Status.{HasReply, status_of}
 use Rattle.ep_base.specs.declared.errors.Memory.{Memory}
-use Rattle.ep_driver.specs.Steps.{AnswersWords, IsEnd, IsOfText}
+use Rattle.ep_driver.specs.Steps.{AnswersWords, IsEnd}
+use Rattle.ep_files.specs.Reads.{IsOfText}
 use Rattle.ep_driver.specs.declared.replies.Reply.{Reply}
-use Rattle.ep_driver.specs.declared.status.Status.{Status}
+use Rattle.ep_files.specs.declared.status.Status.{Status}
 use Rattle.ep_driver.specs.declared.wanted.Wanted.{Wanted}
 use Rattle.ep_driver.proofs.Refusing.{contains-first}
 use Rattle.ep_driver.proofs.Written.{failed-same, nothing-written, outputs-named, partly-same, same-self, written-same}
@@ -42,7 +42,7 @@ kind-ended s h = elim h [ inl e ↦ ap kind e | inr rest ↦ elim rest [ inl e �
 kind-end : (wanted : Wanted) (s : Status) (log : LogState) → IsEnd wanted s log → kind s ≡ 0
 kind-end (Wanted.Search _ _ _ _ _) s log h = elim h.1 [ inl e ↦ ap kind e | inr e ↦ ap kind e.0 ]
 kind-end (Wanted.Verify _ _ _ _) s log h = elim h.1 [ inl e ↦ ap kind e | inr e ↦ ap kind e ]
-kind-end (Wanted.Check _ _) s log h = elim h.1 [ inl e ↦ ap kind e | inr e ↦ ap kind e ]
+kind-end (Wanted.Check _ _ _) s log h = elim h.1 [ inl e ↦ ap kind e | inr e ↦ ap kind e ]
 kind-end (Wanted.Generate _ _ _ _) s log h = elim h.1 [ inl e ↦ ap kind e | inr e ↦ ap kind e.0 ]
 
 kind-text : (r : Refusal) (s : Status) → s ≡ status_of r → IsOfText r → kind s ≡ 2
@@ -65,7 +65,7 @@ refused-not s n h k one two =
 pub ended-status : (wanted : Wanted) (s : Status) (log : LogState) → IsEnd wanted s log → HasReply s
 ended-status (Wanted.Search _ _ _ _ _) s log h = elim h.1 [ inl e ↦ inl e | inr e ↦ inr (inl e.0) ]
 ended-status (Wanted.Verify _ _ _ _) s log h = elim h.1 [ inl e ↦ inl e | inr e ↦ inr (inr e) ]
-ended-status (Wanted.Check _ _) s log h = elim h.1 [ inl e ↦ inl e | inr e ↦ inr (inr e) ]
+ended-status (Wanted.Check _ _ _) s log h = elim h.1 [ inl e ↦ inl e | inr e ↦ inr (inr e) ]
 ended-status (Wanted.Generate _ _ _ _) s log h = elim h.1 [ inl e ↦ inl e | inr e ↦ inr (inl e.0) ]
 
 refusal-kind : (r : Refusal) → kind (status_of r) ≡ 0 → ⊥
@@ -136,7 +136,7 @@ wants-judgement : (words : List (List ℕ)) (wanted : Wanted) (status : Status) 
 unfolding written_for
 wants-judgement words (Wanted.Search model params mode request outputs) status log want ends e = elim ends.1 [ inl f ↦ let g = sym f ∙ e in absurd cc | inr f ↦ let g = sym f.0 ∙ e in absurd cc ]
 wants-judgement words (Wanted.Verify model params mode solution) status log want ends e = ((Wanted.Verify model params mode solution, want, tt), ends.0, refl)
-wants-judgement words (Wanted.Check formula proof) status log want ends e = ((Wanted.Check formula proof, want, tt), ends.0, refl)
+wants-judgement words (Wanted.Check formula proof workers) status log want ends e = ((Wanted.Check formula proof workers, want, tt), ends.0, refl)
 wants-judgement words (Wanted.Generate number conflicts eprime param) status log want ends e = elim ends.1 [ inl f ↦ let g = sym f ∙ e in absurd cc | inr f ↦ let g = sym f.0 ∙ e in absurd cc ]
 
 pub when-refuted : (words : List (List ℕ)) (told after : Option Held) (rose : Type 0) (status : Status) (text : List ℕ) (log : LogState) → Case words told after rose status text log → status ≡ Status.Refuted → Judges words
@@ -228,7 +228,7 @@ Spends words log =
 wants-search : (words : List (List ℕ)) (wanted : Wanted) (status : Status) (log : LogState) → Want words wanted → IsEnd wanted status log → status ≡ Status.Unknown → Spends words log
 wants-search words (Wanted.Search model params mode request output) status log want ends e = elim ends.1 [ inl f ↦ let g = sym f ∙ e in absurd cc | inr f ↦ (Wanted.Search model params mode request output, conflicts_wanted request, want, refl, f.1) ]
 wants-search words (Wanted.Verify model params mode solution) status log want ends e = elim ends.1 [ inl f ↦ let g = sym f ∙ e in absurd cc | inr f ↦ let g = sym f ∙ e in absurd cc ]
-wants-search words (Wanted.Check formula proof) status log want ends e = elim ends.1 [ inl f ↦ let g = sym f ∙ e in absurd cc | inr f ↦ let g = sym f ∙ e in absurd cc ]
+wants-search words (Wanted.Check formula proof workers) status log want ends e = elim ends.1 [ inl f ↦ let g = sym f ∙ e in absurd cc | inr f ↦ let g = sym f ∙ e in absurd cc ]
 wants-search words (Wanted.Generate number conflicts eprime param) status log want ends e = elim ends.1 [ inl f ↦ let g = sym f ∙ e in absurd cc | inr f ↦ (Wanted.Generate number conflicts eprime param, conflicts, want, refl, f.1) ]
 
 -- the budget is spent where a search goes on

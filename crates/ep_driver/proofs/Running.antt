@@ -1,7 +1,5 @@
 -- From what the steps of a run tell to what the run tells.
-use Rattle.std.proofs.Common.{◌≡◌, ℕ, ◌⊎◌, List, [], ◌∷◌, ◌++◌, map, Option, Some, None, Ok, Err, Result, IfOk, OnErr, Contains, inl, inr, refl, sym, ap, subst, ◌∙◌}
-use Rattle.std.specs.declared.alloc.Global.{Global}
-use Rattle.std.specs.declared.vec.Vec.{Vec}
+use Rattle.std.proofs.Common.{◌≡◌, ℕ, List, [], ◌∷◌, ◌++◌, map, Option, Ok, Err, Result, IfOk, OnErr, Contains, inl, inr, refl, sym, ap, subst, ◌∙◌}
 use Rattle.std.proofs.lemmas.List.{append-nil}
 use Rattle.cnf_core.specs.Events.{LogState}
 use Rattle.cnf_core.specs.Lines.{ProofLine}
@@ -23,18 +21,16 @@ use Rattle.ep_tree.specs.Faults.{params_faults, text_faults}
 use Rattle.ep_tree.specs.SolutionTexts.{Shaped, fits, read_solution, wrong_shape}
 use Rattle.ep_tree.specs.Solutions.{Assigned, Fits, Found, instance_limits}
 use Rattle.ep_tree.specs.Statements.{TextTree}
-use Rattle.ep_tree.specs.Views.{params_tree}
-use Rattle.ep_tree.specs.declared.statements.Params.{Params}
 use Rattle.ep_tree.specs.declared.values.Mode.{Mode}
 use Rattle.ep_solve.specs.Right.{empty_log}
 use Rattle.ep_driver.specs.Answers.{Settles, verdict_status, verdict_text, wrong_shape_text}
 use Rattle.ep_driver.specs.Outcomes.{Outcome, Task, and_then, as_outcome, bind_refusal, bind_refusals, bound_outcome, fault_refusals, instance_of, judge_outcome, search_outcome, searched_task, to_check, to_judge, unless_refused, verify_outcome}
-use Rattle.ep_driver.specs.Status.{status_of}
-use Rattle.ep_driver.specs.Steps.{EndsAs, EndsBy, IsAmong, IsEnd, IsJudged, IsJudgedEnd, IsNotThere, IsUnreadStop, LogsTask, Passes, SaysOfRun, Tells, TellsBytes, TellsParams, TellsReply, TellsRun, TellsShape, TellsTask, shape_outcome}
+use Rattle.ep_files.specs.Status.{status_of}
+use Rattle.ep_driver.specs.Steps.{EndsAs, EndsBy, IsAmong, IsEnd, IsJudged, IsJudgedEnd, LogsTask, Passes, SaysOfRun, Tells, TellsReply, TellsRun, TellsShape, TellsTask, shape_outcome}
 use Rattle.ep_driver.specs.Stops.{bind_stop}
 use Rattle.ep_driver.specs.declared.replies.Reply.{Reply}
-use Rattle.ep_driver.specs.declared.status.Status.{Status}
-use Rattle.ep_driver.specs.declared.stops.Stop.{Stop}
+use Rattle.ep_files.specs.declared.status.Status.{Status}
+use Rattle.ep_files.specs.declared.stops.Stop.{Stop}
 use Rattle.ep_driver.specs.declared.wanted.Request.{Request}
 use Rattle.ep_driver.specs.declared.wanted.Wanted.{Wanted}
 use Rattle.ep_driver.proofs.Binding.{bind-stopped}
@@ -72,12 +68,6 @@ pub refused-asks : (words : List (List ℕ)) (told after : Option Held) (rose : 
     → TellsRun words told after rose log (Err (Stop.Refused r)) → OnErr result (LogsTask words told log)
 refused-asks words told after rose log r (Ok reply) h = tt
 refused-asks words told after rose log r (Err e) h = refused-asked words told after rose log r h
-
--- ---- reading
-
-pub none-read : (told : Option Held) (rose : Type 0) (params : Params) → params_tree params ≡ [] → TellsParams told None rose (Ok params)
-none-read None rose params e = tt
-none-read (Some held) rose params e = ap Ok e
 
 -- ---- the instance
 
@@ -196,10 +186,6 @@ pub shape-said : (mode : Mode) (i : Instance) (s : TextTree) (names : List (List
 unfolding Settles
 shape-said mode i s names name status text e among ended said = (to_judge mode i (wrong_shape names), is-judge mode i s (wrong_shape names) e, (name, among, ended, said))
 
-pub unread-bytes : (most : ℕ) (told : Option Held) (name : List ℕ) (rose : Type 0) (stop : Stop) → IsUnreadStop name stop → IsNotThere told name rose → TellsBytes {V = Vec ℕ Global} (λ bytes. bytes.items) most told name rose (Err stop)
-unread-bytes most told name rose (Stop.Refused r) h there = (h, there)
-unread-bytes most told name rose Stop.Memory h there = tt
-
 unless-ok : {A : Type 0} (rs : List Refusal) (o : Outcome A) (x : A) → unless_refused rs o ≡ Ok x → o ≡ Ok x
 unfolding unless_refused
 unless-ok [] o x h = h
@@ -252,9 +238,9 @@ pub verify-ends : (model : List ℕ) (params : Option (List ℕ)) (mode : Mode) 
     → IfOk result (λ reply. IsJudgedEnd reply.status empty_log) → EndsAs (Wanted.Verify model params mode solution) log result
 verify-ends model params mode solution log result nothing h = (nothing, judged-ends log result nothing h)
 
-pub check-ends : (formula proof : List ℕ) (log : LogState) (result : Result Reply Stop) → log ≡ empty_log
-    → IfOk result (λ reply. IsJudgedEnd reply.status empty_log) → EndsAs (Wanted.Check formula proof) log result
-check-ends formula proof log result nothing h = (nothing, judged-ends log result nothing h)
+pub check-ends : (formula proof : List ℕ) (workers : ℕ) (log : LogState) (result : Result Reply Stop) → log ≡ empty_log
+    → IfOk result (λ reply. IsJudgedEnd reply.status empty_log) → EndsAs (Wanted.Check formula proof workers) log result
+check-ends formula proof workers log result nothing h = (nothing, judged-ends log result nothing h)
 
 -- ---- proofs
 

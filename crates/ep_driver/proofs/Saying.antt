@@ -1,7 +1,7 @@
 -- From what is said to the words to what a run promises.
 use Rattle.std.proofs.Common.{◌≡◌, ℕ, ◌⊎◌, List, [], ◌∷◌, Option, Some, None, Ok, Err, Result, IfSome, IsSomeAnd, inl, inr, refl, sym, ap, subst, ◌∙◌}
 use Rattle.cnf_core.specs.Events.{LogState}
-use Rattle.ep_base.specs.Outside.{Held, SameElsewhere}
+use Rattle.ep_base.specs.Outside.{Held}
 use Rattle.ep_print.specs.Refusals.{refusal_text}
 use Rattle.ep_print.specs.declared.refusals.Refusal.{Refusal}
 use Rattle.sat_search.specs.Logs.{IsSound}
@@ -9,14 +9,17 @@ use Rattle.ep_solve.specs.Right.{empty_log}
 use Rattle.ep_driver.specs.Answers.{Settles}
 use Rattle.ep_driver.specs.Commands.{AreNoCommand, Want, files_of}
 use Rattle.ep_driver.specs.Outcomes.{Task}
-use Rattle.ep_driver.specs.Outputs.{AreWritten, ArePartlyWritten, FailsAt, Output, written_for}
+use Rattle.ep_outputs.specs.Outputs.{AreWritten, ArePartlyWritten, FailsAt, Output}
+use Rattle.ep_driver.specs.Outputs.{written_for}
 use Rattle.ep_driver.specs.Puts.{HoldOnWant, IsAnsweredBy, IsFailedRead, IsFailedWrite, read_line, write_line}
 use Rattle.ep_driver.specs.Shown.{Ask, ComesTo, Refuse}
-use Rattle.ep_driver.specs.Status.{status_of}
-use Rattle.ep_driver.specs.Steps.{EndsAs, HasAnswer, IsAnswer, IsEnd, IsFailed, IsFaulty, IsLogOf, IsOfText, IsRefused, IsShown, IsUnwritten, LogsTask, SaysOfRun, TellsRun, TellsTask, TellsWanted, TellsWritten}
+use Rattle.ep_files.specs.Status.{status_of}
+use Rattle.ep_driver.specs.Steps.{EndsAs, HasAnswer, IsAnswer, IsEnd, IsFailed, IsFaulty, IsLogOf, IsRefused, IsShown, IsUnwritten, LogsTask, SaysOfRun, TellsRun, TellsTask, TellsWanted}
+use Rattle.ep_files.specs.Reads.{IsOfText}
+use Rattle.ep_outputs.specs.Writes.{TellsWritten}
 use Rattle.ep_driver.specs.declared.replies.Reply.{Reply}
-use Rattle.ep_driver.specs.declared.status.Status.{Status}
-use Rattle.ep_driver.specs.declared.stops.Stop.{Stop}
+use Rattle.ep_files.specs.declared.status.Status.{Status}
+use Rattle.ep_files.specs.declared.stops.Stop.{Stop}
 use Rattle.ep_driver.specs.declared.wanted.Wanted.{Wanted}
 use Rattle.ep_driver.proofs.Refusing.{contains-first}
 
@@ -31,19 +34,19 @@ nothing-sound log e =
 pub end-sound : (wanted : Wanted) (status : Status) (log : LogState) → IsEnd wanted status log → IsSound log.events
 end-sound (Wanted.Search _ _ _ _ _) status log h = h.0
 end-sound (Wanted.Verify _ _ _ _) status log h = nothing-sound log h.0
-end-sound (Wanted.Check _ _) status log h = nothing-sound log h.0
+end-sound (Wanted.Check _ _ _) status log h = nothing-sound log h.0
 end-sound (Wanted.Generate _ _ _ _) status log h = h.0
 
 pub end-logs : (wanted : Wanted) (status : Status) (log : LogState) → IsEnd wanted status log → IsLogOf wanted log
 end-logs (Wanted.Search _ _ _ _ _) status log h = tt
 end-logs (Wanted.Verify _ _ _ _) status log h = h.0
-end-logs (Wanted.Check _ _) status log h = h.0
+end-logs (Wanted.Check _ _ _) status log h = h.0
 end-logs (Wanted.Generate _ _ _ _) status log h = tt
 
 pub nothing-logs : (wanted : Wanted) (log : LogState) → log ≡ empty_log → IsLogOf wanted log
 nothing-logs (Wanted.Search _ _ _ _ _) log e = tt
 nothing-logs (Wanted.Verify _ _ _ _) log e = e
-nothing-logs (Wanted.Check _ _) log e = e
+nothing-logs (Wanted.Check _ _ _) log e = e
 nothing-logs (Wanted.Generate _ _ _ _) log e = tt
 
 -- ---- from what is wanted to the words

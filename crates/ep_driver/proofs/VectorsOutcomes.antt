@@ -16,9 +16,10 @@ use Rattle.ep_words.specs.declared.job.Job.{Job}
 use Rattle.log_check.specs.declared.Verdict.TheVariants.{BadStep, NoEmptyClause, Verified}
 use Rattle.ep_driver.specs.Answers.{judgement_status, judgement_text, listing_status, verdict_status, verdict_text}
 use Rattle.ep_driver.specs.Commands.{no_outputs, wanted_of}
-use Rattle.ep_driver.specs.Outputs.{a_formula, an_answer, outputs_in_order, named as named_files, steps}
+use Rattle.ep_outputs.specs.Outputs.{a_formula, an_answer, named as named_files, steps}
+use Rattle.ep_driver.specs.Outputs.{outputs_in_order}
 use Rattle.ep_driver.specs.Outcomes.{fault_refusal, search_outcome, unless_refused, verify_outcome}
-use Rattle.ep_driver.specs.Status.{exit_code, status_of}
+use Rattle.ep_files.specs.Status.{exit_code, status_of}
 use Rattle.ep_driver.specs.declared.wanted.Request.{Request}
 use Rattle.ep_driver.specs.declared.wanted.Wanted.{Wanted}
 
@@ -30,19 +31,19 @@ m = codes "m"
 abbrev s : List ℕ
 s = codes "s"
 
-solve-runs : wanted_of (Job.Solve m None 7 None None None Mode.Strict) ≡ Some (Wanted.Search m None Mode.Strict (Request.One 7) no_outputs)
+solve-runs : wanted_of (Job.Solve m None 7 None None None Mode.Strict) ≡ Wanted.Search m None Mode.Strict (Request.One 7) no_outputs
 unfolding wanted_of
 solve-runs = refl
 
-answers-are-written : wanted_of (Job.Solve m None 7 (Some s) None None Mode.Relational) ≡ Some (Wanted.Search m None Mode.Relational (Request.One 7) (record { formula = None; log = None; solution = Some s }))
+answers-are-written : wanted_of (Job.Solve m None 7 (Some s) None None Mode.Relational) ≡ Wanted.Search m None Mode.Relational (Request.One 7) (record { formula = None; log = None; solution = Some s })
 unfolding wanted_of
 answers-are-written = refl
 
-enumerate-runs : wanted_of (Job.Enumerate m (Some s) 10 7 None None None Mode.Strict) ≡ Some (Wanted.Search m (Some s) Mode.Strict (Request.Many 10 7) no_outputs)
+enumerate-runs : wanted_of (Job.Enumerate m (Some s) 10 7 None None None Mode.Strict) ≡ Wanted.Search m (Some s) Mode.Strict (Request.Many 10 7) no_outputs
 unfolding wanted_of
 enumerate-runs = refl
 
-formulas-are-written : wanted_of (Job.Solve m None 7 None (Some s) (Some m) Mode.Relational) ≡ Some (Wanted.Search m None Mode.Relational (Request.One 7) (record { formula = Some s; log = Some m; solution = None }))
+formulas-are-written : wanted_of (Job.Solve m None 7 None (Some s) (Some m) Mode.Relational) ≡ Wanted.Search m None Mode.Relational (Request.One 7) (record { formula = Some s; log = Some m; solution = None })
 unfolding wanted_of
 formulas-are-written = refl
 
@@ -51,17 +52,17 @@ formula-first : outputs_in_order (record { formula = Some m; log = Some s; solut
 unfolding outputs_in_order named_files
 formula-first = refl
 
-verify-runs : wanted_of (Job.Verify m s (Some m) Mode.Strict) ≡ Some (Wanted.Verify m (Some m) Mode.Strict s)
+verify-runs : wanted_of (Job.Verify m s (Some m) Mode.Strict) ≡ Wanted.Verify m (Some m) Mode.Strict s
 unfolding wanted_of
 verify-runs = refl
 
-check-runs : wanted_of (Job.Check m s 1) ≡ Some (Wanted.Check m s)
+check-runs : wanted_of (Job.Check m s 1) ≡ Wanted.Check m s 1
 unfolding wanted_of
 check-runs = refl
 
-workers-dont-run : wanted_of (Job.Check m s 2) ≡ None
+workers-run : wanted_of (Job.Check m s 64) ≡ Wanted.Check m s 64
 unfolding wanted_of
-workers-dont-run = refl
+workers-run = refl
 
 -- ---- faults: those of the model come first, then those of the parameters, then those of the solution text
 

@@ -6,14 +6,15 @@ use Rattle.ep_gen.specs.Texts.{generated_model, generated_params}
 use Rattle.ep_print.specs.Answers.{no_solution, optimum, solution, unknown, unknown_with}
 use Rattle.ep_words.specs.declared.job.Job.{Job}
 use Rattle.ep_driver.specs.Commands.{wanted_of}
-use Rattle.ep_driver.specs.Outputs.{a_text, for_texts, named, written_for}
+use Rattle.ep_outputs.specs.Outputs.{a_text, for_texts, named}
+use Rattle.ep_driver.specs.Outputs.{written_for}
 use Rattle.ep_driver.specs.Summaries.{found_line, summary_text}
 use Rattle.ep_driver.specs.declared.wanted.Wanted.{Wanted}
 
 abbrev file : List ℕ
 file = codes "file"
 
-generate-runs : wanted_of (Job.Generate 5 7 None (Some file)) ≡ Some (Wanted.Generate 5 7 None (Some file))
+generate-runs : wanted_of (Job.Generate 5 7 None (Some file)) ≡ Wanted.Generate 5 7 None (Some file)
 unfolding wanted_of
 generate-runs = refl
 

@@ -16,7 +16,7 @@ use Rattle.ep_solve.specs.Logged.{IsLogged}
 use Rattle.ep_solve.specs.Right.{IsRight}
 use Rattle.ep_driver.specs.Outcomes.{Task, to_check, to_generate, to_judge, to_list, to_solve}
 use Rattle.ep_driver.specs.Summaries.{summary_text}
-use Rattle.ep_driver.specs.declared.status.Status.{Status}
+use Rattle.ep_files.specs.declared.status.Status.{Status}
 
 -- how a run ends that has an answer: with the end of its budget where nothing is known
 unfoldable pub answer_status : AnswerTree → Status

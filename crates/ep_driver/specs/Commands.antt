@@ -1,5 +1,5 @@
 -- What the words of a command want of a run.
-use Rattle.std.specs.Prelude.{◌≡◌, ℕ, nat_eq, if◌then◌else◌, List, [], ◌∷◌, ◌++◌, Option, Some, None, option_to_list}
+use Rattle.std.specs.Prelude.{◌≡◌, ℕ, List, [], ◌∷◌, ◌++◌, None, option_to_list}
 use Rattle.ep_words.specs.Commands.{IsCommand}
 use Rattle.ep_words.specs.declared.job.Job.{Job}
 use Rattle.ep_driver.specs.declared.wanted.Outputs.{Outputs}
@@ -8,22 +8,21 @@ use Rattle.ep_driver.specs.declared.wanted.Wanted.{Wanted}
 
 -- What a job wants of a run: to search for one solution of a model or for many, and to write the formula, the steps of the log and
 -- the answer into files where they are named; or to verify a solution; each in a mode of undefinedness; or to check a proof of a
--- formula, for now with one worker alone; or to solve the texts of a number, and to write them where files are named.
-unfoldable pub wanted_of : Job → Option Wanted
+-- formula, by so many workers; or to solve the texts of a number, and to write them where files are named.
+unfoldable pub wanted_of : Job → Wanted
 wanted_of (Job.Solve model params conflicts solution formula log mode) =
-    Some (Wanted.Search model params mode (Request.One conflicts) (record { formula = formula; log = log; solution = solution }))
+    Wanted.Search model params mode (Request.One conflicts) (record { formula = formula; log = log; solution = solution })
 wanted_of (Job.Enumerate model params solutions conflicts solution formula log mode) =
-    Some (Wanted.Search model params mode (Request.Many solutions conflicts) (record { formula = formula; log = log; solution = solution }))
-wanted_of (Job.Verify model solution params mode) = Some (Wanted.Verify model params mode solution)
-wanted_of (Job.Check formula proof workers) =
-    if nat_eq workers 1 then Some (Wanted.Check formula proof) else None
-wanted_of (Job.Generate number conflicts eprime param) = Some (Wanted.Generate number conflicts eprime param)
+    Wanted.Search model params mode (Request.Many solutions conflicts) (record { formula = formula; log = log; solution = solution })
+wanted_of (Job.Verify model solution params mode) = Wanted.Verify model params mode solution
+wanted_of (Job.Check formula proof workers) = Wanted.Check formula proof workers
+wanted_of (Job.Generate number conflicts eprime param) = Wanted.Generate number conflicts eprime param
 
 -- the words are a command that wants this
 abbrev pub Want : List (List ℕ) → Wanted → Type 0
-Want words wanted = (job : Job) × IsCommand words job × (wanted_of job ≡ Some wanted)
+Want words wanted = (job : Job) × IsCommand words job × (wanted_of job ≡ wanted)
 
--- the words are no command that runs
+-- the words are no command
 abbrev pub AreNoCommand : List (List ℕ) → Type 0
 AreNoCommand words = (wanted : Wanted) → ¬ Want words wanted
 
@@ -31,14 +30,14 @@ AreNoCommand words = (wanted : Wanted) → ¬ Want words wanted
 abbrev pub files_of : Wanted → List (List ℕ)
 files_of (Wanted.Search model params mode request outputs) = model ∷ option_to_list params
 files_of (Wanted.Verify model params mode solution) = (model ∷ option_to_list params) ++ solution ∷ []
-files_of (Wanted.Check formula proof) = formula ∷ proof ∷ []
+files_of (Wanted.Check formula proof workers) = formula ∷ proof ∷ []
 files_of (Wanted.Generate number conflicts eprime param) = []
 
 -- a solution or a proof is judged, and nothing is searched for
 abbrev pub IsJudgement : Wanted → Type 0
 IsJudgement (Wanted.Search model params mode request outputs) = ⊥
 IsJudgement (Wanted.Verify model params mode solution) = Unit {0}
-IsJudgement (Wanted.Check formula proof) = Unit {0}
+IsJudgement (Wanted.Check formula proof workers) = Unit {0}
 IsJudgement (Wanted.Generate number conflicts eprime param) = ⊥
 
 -- how many conflicts a search may take

@@ -1,8 +1,6 @@
-pub mod Status
 pub mod Commands
 pub mod Searches
 pub mod Outputs
-pub mod Readings
 pub mod Outcomes
 pub mod Shown
 pub mod Summaries

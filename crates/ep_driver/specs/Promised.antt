@@ -10,7 +10,7 @@ use Rattle.ep_tree.specs.Binding.{Instance}
 use Rattle.ep_tree.specs.Solutions.{Assigned, a_solution}
 use Rattle.ep_tree.specs.declared.values.Mode.{Mode}
 use Rattle.ep_driver.specs.Answers.{answer_status, judgement_text, listing_status}
-use Rattle.ep_driver.specs.declared.status.Status.{Status}
+use Rattle.ep_files.specs.declared.status.Status.{Status}
 use Rattle.ep_driver.specs.declared.wanted.Request.{Request}
 use Rattle.ep_driver.specs.declared.wanted.Wanted.{Wanted}
 

@@ -8,10 +8,11 @@ use Rattle.ep_solve.specs.Right.{empty_log}
 use Rattle.ep_driver.specs.Answers.{Settles}
 use Rattle.ep_driver.specs.Commands.{Want, files_of}
 use Rattle.ep_driver.specs.Outcomes.{Task}
-use Rattle.ep_driver.specs.Outputs.{ArePartlyWritten, FailsAt, HasOutput, written_for}
-use Rattle.ep_driver.specs.Readings.{without}
+use Rattle.ep_outputs.specs.Outputs.{ArePartlyWritten, FailsAt}
+use Rattle.ep_driver.specs.Outputs.{HasOutput, written_for}
+use Rattle.ep_files.specs.Readings.{without}
 use Rattle.ep_driver.specs.Shown.{Ask, Refuse, Refuses}
-use Rattle.ep_driver.specs.declared.status.Status.{Status}
+use Rattle.ep_files.specs.declared.status.Status.{Status}
 use Rattle.ep_driver.specs.declared.wanted.Wanted.{Wanted}
 
 -- the words name a file to be read

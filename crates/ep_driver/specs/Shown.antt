@@ -15,9 +15,9 @@ use Rattle.ep_print.specs.declared.refusals.Refusal.{Refusal}
 use Rattle.ep_print.specs.declared.refusals.TextFile.{TextFile}
 use Rattle.ep_driver.specs.Commands.{AreNoCommand, Want}
 use Rattle.ep_driver.specs.Outcomes.{Outcome, Task, search_outcome, to_check, verify_outcome}
-use Rattle.ep_driver.specs.Readings.{AreParams, IsFormulaReadAs, IsProofReadAs, IsFileReadAs, IsReadBy, IsTextReadAs}
-use Rattle.ep_driver.specs.Status.{status_of}
-use Rattle.ep_driver.specs.declared.status.Status.{Status}
+use Rattle.ep_files.specs.Readings.{AreParams, IsFormulaReadAs, IsProofReadAs, IsFileReadAs, IsReadBy, IsTextReadAs}
+use Rattle.ep_files.specs.Status.{status_of}
+use Rattle.ep_files.specs.declared.status.Status.{Status}
 use Rattle.ep_driver.specs.declared.wanted.Request.{Request}
 use Rattle.ep_driver.specs.declared.wanted.Wanted.{Wanted}
 
@@ -65,7 +65,7 @@ ComesTo (Wanted.Search model params mode request outputs) held =
     ThenShows (IsFileReadAs held TextFile.Model model) (λ m. comes_to_search mode request params m held)
 ComesTo (Wanted.Verify model params mode solution) held =
     ThenShows (IsFileReadAs held TextFile.Model model) (λ m. comes_to_verify mode params solution m held)
-ComesTo (Wanted.Check formula proof) held =
+ComesTo (Wanted.Check formula proof workers) held =
     ThenShows (IsReadBy IsFormulaReadAs held formula) (λ clauses. comes_to_check proof clauses held)
 ComesTo (Wanted.Generate number conflicts eprime param) held = comes_to_generate number conflicts
 

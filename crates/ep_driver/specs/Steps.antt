@@ -1,17 +1,11 @@
 -- What the steps of a run tell.
-use Rattle.std.specs.Prelude.{◌≡◌, ◌⊎◌, ◌+◌, ℕ, List, [], ◌∷◌, Option, Some, None, Ok, Err, Result, Contains, IfSome, IsSomeAnd, option_map}
+use Rattle.std.specs.Prelude.{◌≡◌, ◌⊎◌, ℕ, List, [], ◌∷◌, Option, Ok, Err, Result, Contains, IfSome, IsSomeAnd}
 use Rattle.cnf_core.specs.Events.{LogState}
-use Rattle.cnf_core.specs.Formula.{Cnf}
-use Rattle.cnf_core.specs.Lines.{ProofLine, plain_lines}
-use Rattle.cnf_core.specs.Literal.{Literal}
-use Rattle.cnf_core.specs.declared.proof.Proof.{Proof}
-use Rattle.ep_base.specs.Outside.{Held, ReadGives, SameElsewhere, with_bytes}
+use Rattle.ep_base.specs.Outside.{Held}
 use Rattle.ep_tree.specs.Statements.{TextTree}
-use Rattle.ep_tree.specs.Views.{assigned, params_tree}
-use Rattle.ep_tree.specs.declared.statements.Params.{Params}
+use Rattle.ep_tree.specs.Views.{assigned}
 use Rattle.ep_print.specs.Refusals.{refusal_text}
 use Rattle.ep_print.specs.declared.refusals.Refusal.{Refusal}
-use Rattle.ep_print.specs.declared.refusals.TextFile.{TextFile}
 use Rattle.ep_tree.specs.Binding.{Instance}
 use Rattle.ep_tree.specs.SolutionTexts.{Shaped as PlainShaped, fits, read_solution, wrong_shape}
 use Rattle.ep_tree.specs.Solutions.{Fits, Found, judgement}
@@ -22,24 +16,22 @@ use Rattle.sat_search.specs.Logs.{IsSound}
 use Rattle.ep_driver.specs.Answers.{Settles, judgement_status, judgement_text}
 use Rattle.ep_driver.specs.Commands.{AreNoCommand, Want, conflicts_wanted, files_of}
 use Rattle.ep_driver.specs.Outcomes.{Outcome, Task, as_outcome}
-use Rattle.ep_driver.specs.Outputs.{AreWritten, ArePartlyWritten, FailsAt, Output, written_for}
-use Rattle.ep_driver.specs.Readings.{AreParams, IsReadBy, IsTextReadAs, ReadsTexts, without}
+use Rattle.ep_outputs.specs.Outputs.{AreWritten, ArePartlyWritten, FailsAt}
+use Rattle.ep_driver.specs.Outputs.{written_for}
+use Rattle.ep_files.specs.Readings.{without}
 use Rattle.ep_driver.specs.Shown.{Ask, ComesTo, comes_to_generate}
-use Rattle.ep_driver.specs.Status.{status_of}
+use Rattle.ep_files.specs.Status.{status_of}
 use Rattle.ep_driver.specs.declared.replies.Reply.{Reply}
-use Rattle.ep_driver.specs.declared.status.Status.{Status}
-use Rattle.ep_driver.specs.declared.stops.Stop.{Stop}
+use Rattle.ep_files.specs.declared.status.Status.{Status}
+use Rattle.ep_files.specs.declared.stops.Stop.{Stop}
 use Rattle.ep_driver.specs.declared.wanted.Wanted.{Wanted}
+use Rattle.ep_files.specs.Reads.{IsOfText}
 
 -- the words want this, or they are no command
 abbrev pub TellsWanted : List (List ℕ) → Result Wanted Stop → Type 0
 TellsWanted words (Ok wanted) = Want words wanted
 TellsWanted words (Err (Stop.Refused refusal)) = (refusal ≡ Refusal.Usage) × AreNoCommand words
 TellsWanted words (Err Stop.Memory) = Unit {0}
-
--- a refusal is a fault or a limit of a text
-abbrev pub IsOfText : Refusal → Type 0
-IsOfText refusal = (status_of refusal ≡ Status.Text) ⊎ (status_of refusal ≡ Status.Limit)
 
 -- some refusals come out, and this is one of them
 abbrev pub IsAmong : {A : Type 0} → Outcome A → Refusal → Type 0
@@ -84,7 +76,7 @@ AnswersNumber number conflicts status text log =
 abbrev pub AnswersTexts : Wanted → Reply → LogState → Type 0
 AnswersTexts (Wanted.Search _ _ _ _ _) reply log = Unit {0}
 AnswersTexts (Wanted.Verify _ _ _ _) reply log = Unit {0}
-AnswersTexts (Wanted.Check _ _) reply log = Unit {0}
+AnswersTexts (Wanted.Check _ _ _) reply log = Unit {0}
 AnswersTexts (Wanted.Generate number conflicts _ _) reply log = AnswersNumber number conflicts reply.status reply.text.items log
 
 -- a status, a text and a log do so wherever words want the texts of a number
@@ -112,57 +104,6 @@ TellsShape mode i solution (Ok (Shaped.WrongShape name)) =
 TellsShape mode i solution (Err (Stop.Refused refusal)) =
     IsOfText refusal × IsAmong (shape_outcome mode i solution) refusal
 TellsShape mode i solution (Err Stop.Memory) = Unit {0}
-
--- ---- reading
-
--- a file isn't there, or it wasn't read: a fault was counted
-abbrev pub IsNotThere : Option Held → List ℕ → Type 0 → Type 0
-IsNotThere told name rose = rose ⊎ IsSomeAnd told (λ held. held name ≡ None)
-
--- the bytes of a file were read, one more at most than a text may have; or it can't be read
-abbrev pub TellsBytes : {V : Type 0} → (V → List ℕ) → ℕ → Option Held → List ℕ → Type 0 → Result V Stop → Type 0
-TellsBytes view most told name rose (Ok bytes) = ReadGives told name (most + 1) (Some (view bytes))
-TellsBytes view most told name rose (Err (Stop.Refused refusal)) =
-    (refusal ≡ Refusal.CannotRead name) × IsNotThere told name rose
-TellsBytes view most told name rose (Err Stop.Memory) = Unit {0}
-
--- a file can't be read; want of memory says nothing
-abbrev pub IsUnreadStop : List ℕ → Stop → Type 0
-IsUnreadStop name (Stop.Refused refusal) = refusal ≡ Refusal.CannotRead name
-IsUnreadStop name Stop.Memory = Unit {0}
-
--- a text is read, or it has a refusal
-abbrev pub TellsText : {V A : Type 0} → (V → A) → ReadsTexts A → List ℕ → Result V Stop → Type 0
-TellsText view reads text (Ok x) = reads text (Ok (view x))
-TellsText view reads text (Err (Stop.Refused refusal)) = IsOfText refusal × reads text (Err refusal)
-TellsText view reads text (Err Stop.Memory) = Unit {0}
-
--- why a file gives nothing: it can't be read, or its text is refused
-abbrev pub IsUnread : {A : Type 0} → ReadsTexts A → Option Held → List ℕ → Type 0 → Refusal → Type 0
-IsUnread reads told name rose refusal =
-    ((refusal ≡ Refusal.CannotRead name) × IsNotThere told name rose)
-    ⊎ (IsOfText refusal × IfSome told (λ held. IsReadBy reads held name (Err refusal)))
-
--- what reading a file tells, where `rose` says that a fault was counted
-abbrev pub TellsRead : {V A : Type 0} → (V → A) → ReadsTexts A → Option Held → List ℕ → Type 0 → Result V Stop → Type 0
-TellsRead view reads told name rose (Ok x) = IfSome told (λ held. IsReadBy reads held name (Ok (view x)))
-TellsRead view reads told name rose (Err (Stop.Refused refusal)) = IsUnread reads told name rose refusal
-TellsRead view reads told name rose (Err Stop.Memory) = Unit {0}
-
--- the clauses of a formula
-abbrev pub formula_clauses : Cnf → List (List Literal)
-formula_clauses f = f.clauses
-
--- the lines of a proof
-abbrev pub proof_lines : Proof → List ProofLine
-proof_lines p = plain_lines p.lines.items
-
--- the same of a parameter file that may be left out
-abbrev pub TellsParams : Option Held → Option (List ℕ) → Type 0 → Result Params Stop → Type 0
-TellsParams told params rose (Ok x) = IfSome told (λ held. AreParams held params (Ok (params_tree x)))
-TellsParams told params rose (Err (Stop.Refused refusal)) =
-    (name : List ℕ) × (params ≡ Some name) × IsUnread (IsTextReadAs TextFile.Params) told name rose refusal
-TellsParams told params rose (Err Stop.Memory) = Unit {0}
 
 -- ---- a run
 
@@ -209,14 +150,14 @@ IsJudgedEnd status log = (log ≡ empty_log) × ((status ≡ Status.Answered) �
 abbrev pub IsEnd : Wanted → Status → LogState → Type 0
 IsEnd (Wanted.Search _ _ _ request _) status log = IsSearched (conflicts_wanted request) status log
 IsEnd (Wanted.Verify _ _ _ _) status log = IsJudgedEnd status log
-IsEnd (Wanted.Check _ _) status log = IsJudgedEnd status log
+IsEnd (Wanted.Check _ _ _) status log = IsJudgedEnd status log
 IsEnd (Wanted.Generate _ conflicts _ _) status log = IsSearched conflicts status log
 
 -- to judge is to log nothing
 abbrev pub IsLogOf : Wanted → LogState → Type 0
 IsLogOf (Wanted.Search _ _ _ _ _) log = Unit {0}
 IsLogOf (Wanted.Verify _ _ _ _) log = log ≡ empty_log
-IsLogOf (Wanted.Check _ _) log = log ≡ empty_log
+IsLogOf (Wanted.Check _ _ _) log = log ≡ empty_log
 IsLogOf (Wanted.Generate _ _ _ _) log = Unit {0}
 
 -- an answer ends so; nothing is logged where there is a refusal, and soundly where memory is wanting
@@ -228,20 +169,6 @@ EndsBy End log (Err Stop.Memory) = IsSound log.events
 -- how a run ends, and with which log
 abbrev pub EndsAs : Wanted → LogState → Result Reply Stop → Type 0
 EndsAs wanted log result = IsLogOf wanted log × EndsBy (λ status. IsEnd wanted status log) log result
-
--- what writing a text under a name tells, where `rose` says that a fault was counted
-abbrev pub TellsWrite : {V : Type 0} → List ℕ → List ℕ → Option Held → Option Held → Type 0 → Result V Stop → Type 0
-TellsWrite name text told after rose (Ok x) = after ≡ option_map (with_bytes name text) told
-TellsWrite name text told after rose (Err (Stop.Refused refusal)) =
-    rose × (refusal ≡ Refusal.CannotWrite name) × SameElsewhere name told after
-TellsWrite name text told after rose (Err Stop.Memory) = after ≡ told
-
--- what writing some files with what a log and an answer's text are tells, one after another
-abbrev pub TellsWritten : {V : Type 0} → LogState → List ℕ → List Output → Option Held → Option Held → Type 0 → Result V Stop → Type 0
-TellsWritten log answer outputs told after rose (Ok x) = AreWritten log answer outputs told after
-TellsWritten log answer outputs told after rose (Err (Stop.Refused refusal)) =
-    rose × (name : List ℕ) × (refusal ≡ Refusal.CannotWrite name) × FailsAt log answer outputs told after name
-TellsWritten log answer outputs told after rose (Err Stop.Memory) = ArePartlyWritten log answer outputs told after
 
 -- a refusal that is shown: nothing is logged, and the files hold what they held
 abbrev pub IsShown : Wanted → Option Held → Option Held → Type 0 → LogState → Refusal → Type 0

@@ -16,11 +16,11 @@ ghost use Rattle.ep_driver.specs.Outcomes.{searched_task, to_list, to_solve};
 ghost use Rattle.ep_driver.specs.Steps.{IsSearched};
 
 use super::replies::Reply;
-use super::status::Status;
 use super::summaries::summed_reply;
 use super::wanted::Request;
 use cnf_core::Log;
 use ep_base::Memory;
+use ep_files::Status;
 use ep_instance::Instance;
 use ep_print::{Answer, ListingEnd, print_answer, print_listing};
 use ep_solve::{enumerate, solve};

@@ -14,7 +14,7 @@ ghost use Rattle.ep_driver.specs.Outcomes.{bind_refusals, bound_outcome, fault_r
 ghost use Rattle.ep_driver.specs.Steps.{Passes, Tells};
 
 use super::errors::{bind_stop, static_stop};
-use super::stops::Stop;
+use ep_files::Stop;
 use ep_instance::{Instance, bind};
 use ep_print::{Refusal, TextFile};
 use ep_size::{SizeError, measure};

@@ -6,12 +6,11 @@ ghost use Rattle.sat_text.specs.Writing.{IsReadableNote};
 ghost use Rattle.ep_driver.specs.Shown.{comes_to_generate};
 ghost use Rattle.ep_driver.specs.Steps.{EndsBy, IsSearched, TellsShown};
 
-use super::reading::{model_in, params_in};
 use super::replies::Reply;
 use super::runs::search_texts;
-use super::stops::Stop;
 use super::wanted::Request;
 use cnf_core::Log;
+use ep_files::{Stop, model_in, params_in};
 use ep_gen::gen_text;
 use ep_print::TextFile;
 use ep_tree::Mode;

@@ -15,9 +15,8 @@ ghost use Rattle.ep_driver.specs.Steps.{IsJudged, TellsReply, TellsShape};
 
 use super::errors::bind_stop;
 use super::replies::Reply;
-use super::status::Status;
-use super::stops::Stop;
 use ep_base::Memory;
+use ep_files::{Status, Stop};
 use ep_instance::{Instance, Judgement, Shaped, is_solution, read_assignment};
 use ep_tree::Assignment;
 use ep_types::TypedParams;

@@ -6,18 +6,18 @@ ghost use Rattle.ep_print.specs.Refusals.{refusal_text};
 ghost use Rattle.ep_solve.specs.Right.{empty_log};
 ghost use Rattle.sat_search.specs.Logs.{IsSound};
 ghost use Rattle.ep_driver.specs.Puts.{HoldOnWant};
-ghost use Rattle.ep_driver.specs.Status.{HasReply, status_of};
+ghost use Rattle.ep_files.specs.Status.{HasReply, status_of};
 ghost use Rattle.ep_driver.specs.Steps.{AnswersWords, LogsTask, SaysOfRun, TellsRun};
 
 use super::runs::do_wanted;
-use super::status::Status;
-use super::stops::{Stop, status_of};
 use super::wanted::read_wanted;
 use super::writing::write_wanted;
 use cnf_core::Log;
 use ep_base::{Files, Memory, Word};
+use ep_files::{Status, Stop, status_of};
 use ep_print::{Refusal, refusal_line};
 use std::alloc::Global;
+use std::thread::Threads;
 
 /// A status and the text that goes with it.
 #[derive(Drop)]
@@ -27,7 +27,8 @@ pub struct Reply {
 }
 
 /// What the words ask to be said.
-pub fn reply_to<F: Files>(
+pub fn reply_to<R: Threads + Sync, F: Files>(
+    rt: &R,
     alloc: Global,
     words: &[Word],
     files: &mut F,
@@ -44,7 +45,7 @@ pub fn reply_to<F: Files>(
     ensures sound { IsSound log.new.events }
     ensures faults { F.faults files.old ≤ F.faults files.new }
 {
-    match run_words(alloc, words, files, log) {
+    match run_words(rt, alloc, words, files, log) {
         Ok(reply) => Ok(reply),
         Err(Stop::Refused(refusal)) => refused(alloc, &refusal),
         Err(Stop::Memory) => Err(Memory),
@@ -52,7 +53,8 @@ pub fn reply_to<F: Files>(
 }
 
 /// Does what the words want, and writes what answers into the files that are named for output.
-fn run_words<F: Files>(
+fn run_words<R: Threads + Sync, F: Files>(
+    rt: &R,
     alloc: Global,
     words: &[Word],
     files: &mut F,
@@ -65,7 +67,7 @@ fn run_words<F: Files>(
     ensures faults { F.faults files.old ≤ F.faults files.new }
 {
     let wanted = read_wanted(alloc, words)?;
-    let reply = do_wanted(alloc, files, &wanted, log)?;
+    let reply = do_wanted(rt, alloc, files, &wanted, log)?;
     write_wanted(alloc, files, wanted, log, &reply.text)?;
     Ok(reply)
 }

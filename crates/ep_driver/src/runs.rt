@@ -10,26 +10,28 @@ ghost use Rattle.ep_driver.specs.Outcomes.{search_outcome, verify_outcome};
 ghost use Rattle.ep_driver.specs.Searches.{HasTexts};
 ghost use Rattle.ep_driver.specs.Shown.{ComesTo, comes_to_check, comes_to_judge, comes_to_search, comes_to_verify};
 ghost use Rattle.ep_solve.specs.Right.{empty_log};
-ghost use Rattle.ep_driver.specs.Steps.{AnswersTexts, EndsAs, EndsBy, IsJudgedEnd, IsSearched, TellsReply, TellsTask, formula_clauses};
+ghost use Rattle.ep_driver.specs.Steps.{AnswersTexts, EndsAs, EndsBy, IsJudgedEnd, IsSearched, TellsReply, TellsTask};
+ghost use Rattle.ep_files.specs.Reads.{formula_clauses};
 
 use super::answering::searched_reply;
 use super::checking::{checked_model, checked_params, instance_of};
 use super::generating::generate;
 use super::judging::judged_reply;
-use super::reading::{read_formula, read_model, read_named_params, read_params, read_proof};
 use super::replies::Reply;
-use super::stops::Stop;
 use super::verdicts::checked_reply;
 use super::wanted::{Request, Wanted};
 use cnf_core::{Formula, Log};
 use ep_base::{Files, Word};
+use ep_files::{Stop, read_formula, read_model, read_named_params, read_params, read_proof};
 use ep_print::TextFile;
 use ep_solve_laws::notes_can_be_read;
 use ep_tree::{Mode, Model, Params};
 use std::alloc::Global;
+use std::thread::Threads;
 
 /// Does what is wanted. The formula and the solver's steps stand in the log then, where it was needed.
-pub fn do_wanted<F: Files>(
+pub fn do_wanted<R: Threads + Sync, F: Files>(
+    rt: &R,
     alloc: Global,
     files: &mut F,
     wanted: &Wanted,
@@ -65,9 +67,13 @@ pub fn do_wanted<F: Files>(
             let model = read_model(alloc, files, model)?;
             verify_model(alloc, files, model, params, *mode, solution)
         }
-        Wanted::Check { formula, proof } => {
+        Wanted::Check {
+            formula,
+            proof,
+            workers,
+        } => {
             let formula = read_formula(alloc, files, formula)?;
-            check_proof(alloc, files, formula, proof)
+            check_proof(rt, alloc, files, formula, proof, *workers)
         }
         Wanted::Generate {
             number,
@@ -141,11 +147,13 @@ fn verify_solution<F: Files>(
 }
 
 /// Checks a proof of a formula, once it is read.
-fn check_proof<F: Files>(
+fn check_proof<R: Threads + Sync, F: Files>(
+    rt: &R,
     alloc: Global,
     files: &mut F,
     formula: Formula,
     proof: &Word,
+    workers: u64,
 ) -> Result<Reply, Stop>
     ensures tells { TellsTask (proof.now ∷ []) (comes_to_check proof.now (formula_clauses formula))
         (F.held files.old) (Rose (F.faults files.old) (F.faults files.new)) empty_log result }
@@ -154,7 +162,7 @@ fn check_proof<F: Files>(
     ensures faults { F.faults files.old ≤ F.faults files.new }
 {
     let proof = read_proof(alloc, files, proof)?;
-    let reply = checked_reply(alloc, &formula, &proof)?;
+    let reply = checked_reply(rt, alloc, &formula, &proof, workers)?;
     Ok(reply)
 }
 

@@ -15,21 +15,22 @@ ghost use Rattle.ep_driver.specs.Answers.{Settles};
 ghost use Rattle.ep_driver.specs.Budgets.{IsBelowPower, MeetsConflict, before_steps};
 ghost use Rattle.ep_driver.specs.Commands.{AreNoCommand, IsJudgement, Want};
 ghost use Rattle.ep_driver.specs.Outcomes.{Task};
-ghost use Rattle.ep_driver.specs.Outputs.{AreWritten, HasOutput, HoldsText, IsFormulaText, IsStepsText, SameButOutput, for_texts};
+ghost use Rattle.ep_outputs.specs.Outputs.{AreWritten, IsFormulaText, IsStepsText, for_texts};
+ghost use Rattle.ep_driver.specs.Outputs.{HasOutput, HoldsText, SameButOutput};
 ghost use Rattle.ep_driver.specs.Promised.{IsPromised};
 ghost use Rattle.ep_driver.specs.Puts.{IsDeviceLine, MayBePut, TookFirst, TookOnWant};
 ghost use Rattle.ep_driver.specs.Searches.{IsSearchFor};
 ghost use Rattle.ep_driver.specs.Shown.{Ask, Refuses, Show, comes_to_generate};
-ghost use Rattle.ep_driver.specs.Status.{HasReply, status_of};
-ghost use Rattle.ep_driver.specs.declared.status.Status.{Status as StatusValue};
+ghost use Rattle.ep_files.specs.Status.{HasReply, status_of};
+ghost use Rattle.ep_files.specs.declared.status.Status.{Status as StatusValue};
 ghost use Rattle.ep_driver.specs.declared.wanted.Outputs.{Outputs};
 ghost use Rattle.ep_driver.specs.declared.wanted.Request.{Request};
 ghost use Rattle.ep_driver.specs.declared.wanted.Wanted.{Wanted};
 
 use super::replies::reply_to;
-use super::status::Status;
 use cnf_core::{Log, new_steps_are_few, no_step_is_effective_after_a_conflict};
 use ep_base::{Files, PutError, Sink, Word, put_all};
+use ep_files::Status;
 use ep_parse_model::texts_have_one_answer;
 use ep_words::one_job_for_words;
 use log_check::valid_logs_are_accepted;
@@ -40,7 +41,7 @@ use std::thread::Threads;
 /// Does what the words ask for, and says how it ended. What the solver was given and the steps that it
 /// made stand in the log then. The formula, these steps and the answer are written into the files that the
 /// words name for them, in this order, before the answer is put out.
-pub fn run<R: Threads, F: Files, K: Sink>(
+pub fn run<R: Threads + Sync, F: Files, K: Sink>(
     rt: &R,
     alloc: Global,
     words: &[Word],
@@ -179,7 +180,6 @@ pub fn run<R: Threads, F: Files, K: Sink>(
     ensures files_faults { F.faults files.old ≤ F.faults files.new }
     ensures out_faults { K.faults out.old ≤ K.faults out.new }
 {
-    let _ = rt;
     one_job_for_words();
     texts_have_one_answer();
     cnf_texts_have_one_meaning();
@@ -187,7 +187,7 @@ pub fn run<R: Threads, F: Files, K: Sink>(
     new_steps_are_few();
     no_step_is_effective_after_a_conflict();
     valid_logs_are_accepted();
-    let Ok(reply) = reply_to(alloc, words, files, log) else {
+    let Ok(reply) = reply_to(rt, alloc, words, files, log) else {
         put_memory(out);
         return Status::Memory;
     };

@@ -4,11 +4,11 @@ ghost use Rattle.std.specs.Prelude.{◌≡◌};
 ghost use Rattle.ep_driver.specs.Commands.{wanted_of};
 ghost use Rattle.ep_driver.specs.Steps.{TellsWanted};
 
-use super::stops::Stop;
 use ep_base::Word;
+use ep_files::Stop;
 use ep_print::Refusal;
 use ep_tree::Mode;
-use ep_words::{Job, WordsError, one_job_for_words, read_words};
+use ep_words::{Job, WordsError, read_words};
 use std::alloc::Global;
 
 /// What a run is wanted to do, with which files, and in which mode of undefinedness.
@@ -30,9 +30,11 @@ pub enum Wanted {
         solution: Word,
     },
     /// To say whether a proof shows that a formula has no satisfying assignment.
+    /// The check is done by so many workers.
     Check {
         formula: Word,
         proof: Word,
+        workers: u64,
     },
     /// To solve the texts of a number within so many conflicts, to sum up what was found, and to write the texts into files where
     /// they are named.
@@ -70,20 +72,16 @@ pub enum Request {
 pub fn read_wanted(alloc: Global, words: &[Word]) -> Result<Wanted, Stop>
     ensures { TellsWanted words.now result }
 {
-    one_job_for_words();
     match read_words(alloc, words) {
-        Ok(job) => match wanted_of(job) {
-            Some(wanted) => Ok(wanted),
-            None => Err(Stop::Refused(Refusal::Usage)),
-        },
+        Ok(job) => Ok(wanted_of(job)),
         Err(WordsError::Usage) => Err(Stop::Refused(Refusal::Usage)),
         Err(WordsError::Memory) => Err(Stop::Memory),
     }
 }
 
-/// What a job wants of a run, if it is one that runs.
+/// What a job wants of a run.
 #[tactic(auto, unfolding(crate::specs::Commands::wanted_of))]
-fn wanted_of(job: Job) -> Option<Wanted>
+fn wanted_of(job: Job) -> Wanted
     ensures { result ≡ wanted_of job }
 {
     match job {
@@ -95,7 +93,7 @@ fn wanted_of(job: Job) -> Option<Wanted>
             out_cnf,
             out_log,
             undefined,
-        } => Some(Wanted::Search {
+        } => Wanted::Search {
             model: in_eprime,
             params: in_param,
             mode: undefined,
@@ -105,7 +103,7 @@ fn wanted_of(job: Job) -> Option<Wanted>
                 log: out_log,
                 solution: out_solution,
             },
-        }),
+        },
         Job::Enumerate {
             in_eprime,
             in_param,
@@ -115,7 +113,7 @@ fn wanted_of(job: Job) -> Option<Wanted>
             out_cnf,
             out_log,
             undefined,
-        } => Some(Wanted::Search {
+        } => Wanted::Search {
             model: in_eprime,
             params: in_param,
             mode: undefined,
@@ -128,42 +126,37 @@ fn wanted_of(job: Job) -> Option<Wanted>
                 log: out_log,
                 solution: out_solution,
             },
-        }),
+        },
         Job::Verify {
             in_eprime,
             in_solution,
             in_param,
             undefined,
-        } => Some(Wanted::Verify {
+        } => Wanted::Verify {
             model: in_eprime,
             params: in_param,
             mode: undefined,
             solution: in_solution,
-        }),
+        },
         Job::Check {
             in_cnf,
             in_log,
             workers,
-        } => {
-            if workers == 1 {
-                Some(Wanted::Check {
-                    formula: in_cnf,
-                    proof: in_log,
-                })
-            } else {
-                None
-            }
-        }
+        } => Wanted::Check {
+            formula: in_cnf,
+            proof: in_log,
+            workers,
+        },
         Job::Generate {
             number,
             conflicts,
             out_eprime,
             out_param,
-        } => Some(Wanted::Generate {
+        } => Wanted::Generate {
             number,
             conflicts,
             eprime: out_eprime,
             param: out_param,
-        }),
+        },
     }
 }

@@ -5,7 +5,7 @@ use Rattle.ep_tree.specs.Views.{model_tree}
 use Rattle.ep_types.specs.declared.typed.Typed.{Typed}
 use Rattle.ep_driver.specs.Outcomes.{fault_refusals}
 use Rattle.ep_driver.specs.Steps.{Passes}
-use Rattle.ep_driver.specs.declared.stops.Stop.{Stop}
+use Rattle.ep_files.specs.declared.stops.Stop.{Stop}
 use Rattle.ep_driver.proofs.Binding.{static-stopped}
 use Rattle.ep_driver.proofs.checking.checked_model.Goals as goal
 

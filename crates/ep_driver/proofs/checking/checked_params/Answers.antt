@@ -4,7 +4,7 @@ use Rattle.ep_tree.specs.Views.{params_tree}
 use Rattle.ep_types.specs.declared.typed.TypedParams.{TypedParams}
 use Rattle.ep_driver.specs.Outcomes.{fault_refusals}
 use Rattle.ep_driver.specs.Steps.{Passes}
-use Rattle.ep_driver.specs.declared.stops.Stop.{Stop}
+use Rattle.ep_files.specs.declared.stops.Stop.{Stop}
 use Rattle.ep_driver.proofs.Binding.{static-stopped}
 use Rattle.ep_driver.proofs.checking.checked_params.Goals as goal
 

@@ -6,9 +6,10 @@ use Rattle.ep_tree.specs.Views.{model_tree, params_tree}
 use Rattle.ep_tree.specs.declared.values.Mode.{Mode}
 use Rattle.ep_driver.specs.Commands.{conflicts_wanted}
 use Rattle.ep_driver.specs.Outcomes.{search_outcome}
-use Rattle.ep_driver.specs.Readings.{IsTextReadAs}
+use Rattle.ep_files.specs.Readings.{IsTextReadAs}
 use Rattle.ep_driver.specs.Shown.{comes_to_parameters}
-use Rattle.ep_driver.specs.Steps.{IsSearched, TellsText}
+use Rattle.ep_driver.specs.Steps.{IsSearched}
+use Rattle.ep_files.specs.Reads.{TellsText}
 use Rattle.ep_driver.specs.declared.wanted.Request.{Request}
 use Rattle.ep_driver.proofs.Running.{stopped-ends}
 use Rattle.ep_driver.proofs.Saying.{nothing-sound}

@@ -6,7 +6,7 @@ use Rattle.ep_types.specs.Texts.{typed_params_tree}
 use Rattle.ep_tree.specs.Views.{assigned}
 use Rattle.ep_driver.specs.Answers.{wrong_shape_text}
 use Rattle.ep_driver.specs.Steps.{TellsShape}
-use Rattle.ep_driver.specs.declared.status.Status.{Status}
+use Rattle.ep_files.specs.declared.status.Status.{Status}
 use Rattle.ep_driver.proofs.Running.{fit-judged, shape-said, shape-stopped}
 use Rattle.ep_driver.proofs.judging.judged_reply.Goals as goal
 

@@ -3,7 +3,8 @@ use Rattle.std.proofs.Common.{◌≡◌, ℕ, List, Ok, Err, refl, subst}
 use Rattle.ep_base.proofs.PutSteps.{rose_later}
 use Rattle.ep_base.specs.Outside.{Rose}
 use Rattle.ep_driver.specs.Outputs.{written_for}
-use Rattle.ep_driver.specs.Steps.{AnswersTexts, TellsWritten}
+use Rattle.ep_driver.specs.Steps.{AnswersTexts}
+use Rattle.ep_outputs.specs.Writes.{TellsWritten}
 use Rattle.ep_driver.specs.declared.wanted.Wanted.{Wanted}
 use Rattle.ep_words.proofs.SettingLaws.{one_job}
 use Rattle.ep_driver.proofs.Allowed.{wants-texts}
@@ -59,7 +60,7 @@ returns-clause-tells g c =
     (subst T c.deref.ensures.value c.in_ok-write_wanted.ensures.tells)
 
 pub do_wanted-requires-clause-texts : goal.do_wanted-requires-clause-texts
-do_wanted-requires-clause-texts g c = wants-texts c.args.words.now c.in_ok-wanted.wanted c.in_ok-wanted.ensures
+do_wanted-requires-clause-texts g c = λ κs lives. wants-texts c.args.words.now c.in_ok-wanted.wanted c.in_ok-wanted.ensures
 
 pub write_wanted-requires : goal.write_wanted-requires
 write_wanted-requires g c = record {

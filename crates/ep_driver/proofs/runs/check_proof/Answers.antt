@@ -3,8 +3,8 @@ use Rattle.std.proofs.Common.{◌≡◌, [], ◌∷◌, Ok, inl, refl}
 use Rattle.ep_base.specs.Outside.{Rose}
 use Rattle.ep_solve.specs.Right.{empty_log}
 use Rattle.ep_driver.specs.Outcomes.{to_check}
-use Rattle.ep_driver.specs.Readings.{IsProofReadAs, IsReadBy}
-use Rattle.ep_driver.specs.Steps.{formula_clauses, proof_lines}
+use Rattle.ep_files.specs.Readings.{IsProofReadAs, IsReadBy}
+use Rattle.ep_files.specs.Reads.{formula_clauses, proof_lines}
 use Rattle.ep_driver.proofs.Chains.{after, over-trees, stable-file, unread}
 use Rattle.ep_driver.proofs.Running.{check-told}
 use Rattle.ep_driver.proofs.runs.check_proof.Goals as goal

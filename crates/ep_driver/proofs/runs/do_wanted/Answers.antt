@@ -6,11 +6,12 @@ use Rattle.ep_base.specs.Outside.{Rose}
 use Rattle.ep_print.specs.declared.refusals.TextFile.{TextFile}
 use Rattle.ep_tree.specs.Views.{model_tree}
 use Rattle.ep_driver.specs.Commands.{files_of}
-use Rattle.ep_driver.specs.Readings.{IsFormulaReadAs, IsFileReadAs, IsReadBy, IsTextReadAs}
+use Rattle.ep_files.specs.Readings.{IsFormulaReadAs, IsFileReadAs, IsReadBy, IsTextReadAs}
 use Rattle.ep_driver.specs.Shown.{ComesTo, comes_to_check, comes_to_generate, comes_to_search, comes_to_verify}
 use Rattle.ep_driver.specs.Searches.{HasTexts}
 use Rattle.ep_solve.specs.Right.{empty_log}
-use Rattle.ep_driver.specs.Steps.{AnswersTexts, EndsAs, TellsTask, formula_clauses}
+use Rattle.ep_driver.specs.Steps.{AnswersTexts, EndsAs, TellsTask}
+use Rattle.ep_files.specs.Reads.{formula_clauses}
 use Rattle.ep_driver.specs.declared.wanted.Wanted.{Wanted}
 use Rattle.ep_driver.proofs.Chains.{after, stable-file, unread}
 use Rattle.ep_driver.proofs.Noted.{none-readable}
@@ -106,7 +107,7 @@ returns-in_ok-formula-in-Check-clause-tells g c =
     let rose = Rose (g.F.Files.faults c.args.files.now) (g.F.Files.faults c.check_proof.new.files) in
     let now = g.F.Files.faults c.read_formula.new.files in
     let W : Wanted → Type 0 = λ w. TellsTask (files_of w) (ComesTo w) told rose c.args.log.now c.check_proof.result in
-    let L : LogState → Type 0 = λ log. TellsTask (c.in-Check.formula ∷ c.in-Check.proof ∷ []) (ComesTo (Wanted.Check c.in-Check.formula c.in-Check.proof)) told rose log c.check_proof.result in
+    let L : LogState → Type 0 = λ log. TellsTask (c.in-Check.formula ∷ c.in-Check.proof ∷ []) (ComesTo (Wanted.Check c.in-Check.formula c.in-Check.proof c.in-Check.workers)) told rose log c.check_proof.result in
     subst W (sym c.in-Check.is)
     (subst L (sym c.requires.empty)
     (after (c.in-Check.formula ∷ []) (c.in-Check.proof ∷ []) (λ held. IsReadBy IsFormulaReadAs held c.in-Check.formula) (λ clauses. comes_to_check c.in-Check.proof clauses)
@@ -123,7 +124,7 @@ returns-in_err-formula-in-Check-clause-ends g c =
 pub returns-in_ok-formula-in-Check-clause-ends : goal.returns-in_ok-formula-in-Check-clause-ends
 returns-in_ok-formula-in-Check-clause-ends g c =
     let W : Wanted → Type 0 = λ w. EndsAs w c.args.log.now c.check_proof.result in
-    subst W (sym c.in-Check.is) (check-ends c.in-Check.formula c.in-Check.proof c.args.log.now c.check_proof.result c.requires.empty c.check_proof.ensures.status)
+    subst W (sym c.in-Check.is) (check-ends c.in-Check.formula c.in-Check.proof c.in-Check.workers c.args.log.now c.check_proof.result c.requires.empty c.check_proof.ensures.status)
 
 pub generate-requires-clause-within : goal.generate-requires-clause-within
 generate-requires-clause-within g c = subst HasTexts c.in-Generate.is c.requires.texts

@@ -4,7 +4,7 @@ use Rattle.ep_base.proofs.PutSteps.{rose_later}
 use Rattle.ep_base.specs.Outside.{Rose}
 use Rattle.ep_tree.specs.Views.{model_tree, params_tree}
 use Rattle.ep_solve.specs.Right.{empty_log}
-use Rattle.ep_driver.specs.Readings.{AreParams}
+use Rattle.ep_files.specs.Readings.{AreParams}
 use Rattle.ep_driver.specs.Shown.{comes_to_judge}
 use Rattle.ep_driver.proofs.Chains.{after, stable-params, unread-params}
 use Rattle.ep_driver.proofs.runs.verify_model.Goals as goal

@@ -1,8 +1,9 @@
 use Rattle.std.proofs.Common.{refl, sym, subst}
 use Rattle.ep_base.specs.Outside.{Rose}
-use Rattle.ep_driver.specs.Outputs.{AreWritten, written_for}
+use Rattle.ep_outputs.specs.Outputs.{AreWritten}
+use Rattle.ep_driver.specs.Outputs.{written_for}
 use Rattle.ep_driver.specs.Searches.{HasTexts}
-use Rattle.ep_driver.specs.Steps.{TellsWritten}
+use Rattle.ep_outputs.specs.Writes.{TellsWritten}
 use Rattle.ep_driver.specs.declared.wanted.Wanted.{Wanted}
 use Rattle.ep_driver.proofs.writing.write_wanted.Goals as goal
 

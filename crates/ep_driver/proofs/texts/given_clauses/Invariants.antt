@@ -1,5 +1,0 @@
-use Rattle.ep_driver.proofs.Givens.{Taking}
-use Rattle.ep_driver.proofs.texts.given_clauses.Given as goal
-
-abbrev pub invariant-loop-event : goal.invariant-loop-event
-invariant-loop-event l = Taking l.clauses.items l.event-index l.events
