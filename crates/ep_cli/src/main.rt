@@ -7,8 +7,8 @@ ghost use Rattle.std.specs.Process.{exit_status};
 ghost use Rattle.std.specs.String.{string_bytes};
 ghost use Rattle.std.specs.Vec.Iter.{into_iter_items};
 ghost use Rattle.std.specs.declared.io.ErrorKind.TheVariants.{OutOfMemory};
-ghost use Rattle.ep_driver.specs.Status.{exit_code};
-ghost use Rattle.ep_driver.specs.declared.status.Status.{Status as StatusValue};
+ghost use Rattle.ep_files.specs.Status.{exit_code};
+ghost use Rattle.ep_files.specs.declared.status.Status.{Status as StatusValue};
 
 use cnf_core::Log;
 use ep_base::{Memory, StdFiles, StdSink, Word};
