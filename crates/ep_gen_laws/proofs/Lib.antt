@@ -1,0 +1,17 @@
+mod ModelTree
+mod Faultless
+mod Fitting
+mod Passing
+mod Bound
+mod Nodes
+mod Cells
+mod Bodies
+mod Orders
+mod Pieces
+mod ModelText
+mod LettingsSpelled
+mod ParamsText
+mod ParamsKnown
+mod Limits
+mod ParamsSize
+mod Whole
