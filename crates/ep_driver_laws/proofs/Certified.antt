@@ -9,9 +9,9 @@ use Rattle.cnf_core.specs.Literal.{Literal}
 use Rattle.cnf_core.specs.LogLines.{log_lines}
 use Rattle.cnf_core.specs.Steps.{IsValidLog}
 use Rattle.ep_print.specs.Answers.{AnswerTree, no_solution, optimum, solution, unknown, unknown_with}
-use Rattle.ep_print.specs.Listings.{EndTree, ListingTree, complete, spent, stopped}
-use Rattle.ep_solve.specs.Listed.{EndsRightly, IsUnlisted, Lists}
-use Rattle.ep_solve.specs.Logged.{IsBetterSolution, IsDrivenTo, IsLogged, IsStillWanted, SaysOfSolutions, ShowsAnswer, Stands, TellSolutions, added_clauses, first_givens}
+use Rattle.ep_print.specs.Listings.{EndTree, complete, spent, stopped}
+use Rattle.ep_solve.specs.Listed.{EndsRightly, IsUnlisted}
+use Rattle.ep_solve.specs.Logged.{IsBetterSolution, IsDrivenTo, IsStillWanted, SaysOfSolutions, ShowsAnswer, Stands, TellSolutions, added_clauses, first_givens}
 use Rattle.ep_tree.specs.Binding.{Instance}
 use Rattle.ep_tree.specs.Solutions.{Assigned, Found}
 use Rattle.ep_tree.specs.declared.values.Mode.{Mode}
@@ -19,8 +19,8 @@ use Rattle.log_check.specs.Verdict.{first_bad, verdict_of}
 use Rattle.log_check.specs.declared.Verdict.TheVariants.{Verified}
 use Rattle.sat_search.specs.Logs.{EndsWithEmptyStep, IsSound}
 use Rattle.sat_text.specs.CnfGrammar.{SpellsCnf}
-use Rattle.ep_driver.specs.Outputs.{IsFormulaText, IsStepsText, NotesUpTo}
-use Rattle.ep_driver_laws.specs.Certificates.{AnswersCertify, Certifies, IsCertified, ListsCertify, Verifies, closes, closes_list, left_of_answer, read_added, read_notes}
+use Rattle.ep_outputs.specs.Outputs.{IsFormulaText, IsStepsText, NotesUpTo}
+use Rattle.ep_driver_laws.specs.Certificates.{AnswersCertify, Certifies, ListsCertify, Verifies, closes, closes_list, left_of_answer, read_added, read_notes}
 
 -- ---- givens
 

@@ -6,8 +6,6 @@ use Rattle.cnf_core.specs.Literal.{Literal}
 use Rattle.ep_base.specs.Outside.{Held}
 use Rattle.ep_print.specs.declared.refusals.Refusal.{Refusal}
 use Rattle.ep_words.proofs.SettingLaws.{one_job}
-use Rattle.ep_words.specs.Commands.{IsCommand}
-use Rattle.ep_words.specs.declared.job.Job.{Job}
 use Rattle.log_check.specs.Verdict.{verdict_of}
 use Rattle.sat_text.proofs.CnfSpelled.{cnf_complete, same_content}
 use Rattle.sat_text.proofs.LogSpelled.{log_complete, same_lines}
@@ -17,9 +15,9 @@ use Rattle.sat_text.specs.Words.{most_text_bytes}
 use Rattle.ep_driver.specs.Answers.{Settles, verdict_status, verdict_text}
 use Rattle.ep_driver.specs.Commands.{Want, wanted_of}
 use Rattle.ep_driver.specs.Outcomes.{Outcome, Task, to_check}
-use Rattle.ep_driver.specs.Readings.{IsFormulaReadAs, IsHeldReadBy, IsProofReadAs, IsReadBy}
+use Rattle.ep_files.specs.Readings.{IsFormulaReadAs, IsHeldReadBy, IsProofReadAs, IsReadBy}
 use Rattle.ep_driver.specs.Shown.{Ask, ComesTo, ThenShows, comes_to_check}
-use Rattle.ep_driver.specs.declared.status.Status.{Status}
+use Rattle.ep_files.specs.declared.status.Status.{Status}
 use Rattle.ep_driver.specs.declared.wanted.Wanted.{Wanted}
 use Rattle.ep_driver_laws.specs.Certificates.{ChecksSaySo, SaysVerdict}
 
@@ -47,12 +45,10 @@ proof_spelled name None text lines e is = absurd cc
 proof_spelled name (Some other) text lines e is =
     let same : other ≡ text = cc in subst (λ (t : List ℕ). SpellsLog t lines) same is.1
 
-some_wanted : (one other : Wanted) → Some one ≡ Some other → one ≡ other
-some_wanted one other e = cc
-
-wants_one : (words : List (List ℕ)) (one other : Wanted) → Want words one → Want words other → one ≡ other
+-- words want one thing at most
+pub wants_one : (words : List (List ℕ)) (one other : Wanted) → Want words one → Want words other → one ≡ other
 wants_one words one other a b =
-    some_wanted one other (sym a.2 ∙ ap wanted_of (one_job words a.0 b.0 a.1 b.1) ∙ b.2)
+    sym a.2 ∙ ap wanted_of (one_job words a.0 b.0 a.1 b.1) ∙ b.2
 
 ok_same : (x y : Task) → ◌≡◌ {A = Outcome Task} (Ok x) (Ok y) → x ≡ y
 ok_same x y e = cc
@@ -68,8 +64,8 @@ settled : (clauses : List (List Literal)) (lines : List ProofLine) (status : Sta
 unfolding Settles
 settled clauses lines status said log settles = settles
 
-module _ (formula steps : List ℕ) (vars : ℕ) (clauses : List (List Literal)) (lines : List ProofLine) (spelled : SpellsCnf formula vars clauses) (spells : SpellsLog steps lines) (cnf proof : List ℕ) (held : Held) (is_formula : held cnf ≡ Some formula) (is_proof : held proof ≡ Some steps) where
-  task_is : (task : Task) → ComesTo (Wanted.Check cnf proof) held (Ok task) → task ≡ to_check clauses lines
+module _ (formula steps : List ℕ) (vars : ℕ) (clauses : List (List Literal)) (lines : List ProofLine) (spelled : SpellsCnf formula vars clauses) (spells : SpellsLog steps lines) (cnf proof : List ℕ) (workers : ℕ) (held : Held) (is_formula : held cnf ≡ Some formula) (is_proof : held proof ≡ Some steps) where
+  task_is : (task : Task) → ComesTo (Wanted.Check cnf proof workers) held (Ok task) → task ≡ to_check clauses lines
   task_is task comes =
       let f = then_task (IsReadBy IsFormulaReadAs held cnf) (λ own. comes_to_check proof own held) task comes in
       let l = then_task (IsReadBy IsProofReadAs held proof) (λ own outcome. outcome ≡ Ok (to_check f.0 own)) task f.2 in
@@ -78,23 +74,23 @@ module _ (formula steps : List ℕ) (vars : ℕ) (clauses : List (List Literal))
       let those_lines : lines ≡ l.0 = same_lines steps lines l.0 (log_complete steps lines spells) (proof_spelled proof (held proof) steps l.0 is_proof l.1) in
       ok_same task (to_check f.0 l.0) l.2 ∙ ap (λ (cs : List (List Literal)). to_check cs l.0) (sym same_clauses) ∙ ap (λ (ls : List ProofLine). to_check clauses ls) (sym those_lines)
 
-  asked_says : (words : List (List ℕ)) → Want words (Wanted.Check cnf proof) → (task : Task) → Ask words held task → (status : Status) (said : List ℕ) (log : LogState) → Settles task status said log
+  asked_says : (words : List (List ℕ)) → Want words (Wanted.Check cnf proof workers) → (task : Task) → Ask words held task → (status : Status) (said : List ℕ) (log : LogState) → Settles task status said log
       → (status ≡ verdict_status (verdict_of clauses lines)) × (said ≡ verdict_text (verdict_of clauses lines))
-  asked_says words want task (inl none) status said log settles = absurd (none.0 (Wanted.Check cnf proof) want)
+  asked_says words want task (inl none) status said log settles = absurd (none.0 (Wanted.Check cnf proof workers) want)
   asked_says words want task (inr is) status said log settles =
-      let wanted : is.0 ≡ Wanted.Check cnf proof = wants_one words is.0 (Wanted.Check cnf proof) is.1 want in
+      let wanted : is.0 ≡ Wanted.Check cnf proof workers = wants_one words is.0 (Wanted.Check cnf proof workers) is.1 want in
       let same : task ≡ to_check clauses lines = task_is task (subst (λ (w : Wanted). ComesTo w held (Ok task)) wanted is.2) in
       settled clauses lines status said log (subst (λ (t : Task). Settles t status said log) same settles)
 
-  check_says : (words : List (List ℕ)) → Want words (Wanted.Check cnf proof) → length formula ≤ most_text_bytes → length steps ≤ most_text_bytes → SaysVerdict words held (verdict_of clauses lines)
+  check_says : (words : List (List ℕ)) → Want words (Wanted.Check cnf proof workers) → length formula ≤ most_text_bytes → length steps ≤ most_text_bytes → SaysVerdict words held (verdict_of clauses lines)
   check_says words want short few = record {
     asked = (
       to_check clauses lines,
-      inr (Wanted.Check cnf proof, want, inl (clauses, formula_is cnf (held cnf) formula vars clauses is_formula short spelled, inl (lines, proof_is proof (held proof) steps lines is_proof few spells, refl))),
+      inr (Wanted.Check cnf proof workers, want, inl (clauses, formula_is cnf (held cnf) formula vars clauses is_formula short spelled, inl (lines, proof_is proof (held proof) steps lines is_proof few spells, refl))),
     );
     says = asked_says words want;
   }
 
 pub checks_say_so : ChecksSaySo
-checks_say_so formula steps vars clauses lines spelled spells short few words cnf proof want held is_formula is_proof =
-    check_says formula steps vars clauses lines spelled spells cnf proof held is_formula is_proof words want short few
+checks_say_so formula steps vars clauses lines spelled spells short few words cnf proof workers want held is_formula is_proof =
+    check_says formula steps vars clauses lines spelled spells cnf proof workers held is_formula is_proof words want short few

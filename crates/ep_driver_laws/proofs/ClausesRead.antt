@@ -2,7 +2,6 @@
 use Rattle.std.specs.Prelude.{◌≡◌, ℕ, ◌≤◌, List, length, Result, Ok, Err, refl}
 use Rattle.std.proofs.Common.{inl, inr}
 use Rattle.cnf_core.specs.Lines.{ProofLine}
-use Rattle.cnf_core.specs.Literal.{Literal}
 use Rattle.ep_print.specs.declared.refusals.Refusal.{Refusal}
 use Rattle.ep_print.specs.declared.refusals.TextFile.{TextFile}
 use Rattle.sat_text.proofs.CnfFaults.{fault_line}
@@ -11,7 +10,7 @@ use Rattle.sat_text.proofs.LogSpelled.{first_wrong_line, log_sound, refused_spel
 use Rattle.sat_text.specs.Cnf.{CnfContent, formula_of}
 use Rattle.sat_text.specs.Proofs.{proof_of}
 use Rattle.sat_text.specs.Words.{most_text_bytes}
-use Rattle.ep_driver.specs.Readings.{IsFormulaReadAs, IsProofReadAs, ReadsTexts}
+use Rattle.ep_files.specs.Readings.{IsFormulaReadAs, IsProofReadAs, ReadsTexts}
 use Rattle.ep_driver_laws.proofs.TextsRead.{at_most_or_more}
 
 -- a text is read as something

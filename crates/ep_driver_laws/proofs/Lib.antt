@@ -4,3 +4,4 @@ pub mod WordsRead
 pub mod Showing
 pub mod Certified
 pub mod Checking
+pub mod Generating

@@ -1,21 +1,19 @@
 -- Words and held files show something.
 use Rattle.std.specs.Prelude.{◌≡◌, ℕ, ◌⊎◌, List, [], ◌∷◌, Option, Some, None, Result, Ok, Err, refl}
-use Rattle.std.proofs.Common.{ap, inl, inr, sym, ◌∙◌}
+use Rattle.std.proofs.Common.{inl, inr}
 use Rattle.cnf_core.specs.Literal.{Literal}
 use Rattle.ep_base.specs.Outside.{Held}
 use Rattle.ep_gen.specs.Texts.{generated_model, generated_params}
 use Rattle.ep_print.specs.declared.refusals.Refusal.{Refusal}
 use Rattle.ep_print.specs.declared.refusals.TextFile.{TextFile}
-use Rattle.ep_tree.specs.StatementSpelling.{SpellsModel, SpellsParams}
 use Rattle.ep_tree.specs.Statements.{TextTree}
 use Rattle.ep_tree.specs.declared.values.Mode.{Mode}
-use Rattle.ep_words.proofs.SettingLaws.{one_job}
 use Rattle.ep_words.specs.Commands.{IsCommand}
 use Rattle.ep_words.specs.declared.job.Job.{Job}
-use Rattle.ep_driver.specs.Commands.{AreNoCommand, Want, wanted_of}
+use Rattle.ep_driver.specs.Commands.{wanted_of}
 use Rattle.ep_driver.specs.Outcomes.{Outcome, Task, search_outcome, to_check, verify_outcome}
-use Rattle.ep_driver.specs.Readings.{AreParams, IsFormulaReadAs, IsHeldReadBy, IsProofReadAs, IsFileReadAs, IsReadBy, IsTextReadAs, ReadsTexts, spells_in, tree_or_refusal}
-use Rattle.ep_driver.specs.Shown.{ComesTo, Show, ThenShows, comes_to_check, comes_to_generate, comes_to_judge, comes_to_parameters, comes_to_search, comes_to_verify}
+use Rattle.ep_files.specs.Readings.{AreParams, IsFormulaReadAs, IsHeldReadBy, IsProofReadAs, IsFileReadAs, IsReadBy, IsTextReadAs, ReadsTexts, spells_in, tree_or_refusal}
+use Rattle.ep_driver.specs.Shown.{ComesTo, Show, ThenShows, comes_to_check, comes_to_judge, comes_to_parameters, comes_to_search, comes_to_verify}
 use Rattle.ep_driver.specs.declared.wanted.Request.{Request}
 use Rattle.ep_driver.specs.declared.wanted.Wanted.{Wanted}
 use Rattle.ep_driver_laws.proofs.ClausesRead.{IsRead, formula_read, proof_read}
@@ -87,25 +85,20 @@ wanted_comes (Wanted.Search model params mode request outputs) held =
     then_shows (IsFileReadAs held TextFile.Model model) (λ m. comes_to_search mode request params m held) (file_read held TextFile.Model model) (search_comes mode request params held)
 wanted_comes (Wanted.Verify model params mode solution) held =
     then_shows (IsFileReadAs held TextFile.Model model) (λ m. comes_to_verify mode params solution m held) (file_read held TextFile.Model model) (verify_comes mode params solution held)
-wanted_comes (Wanted.Check formula proof) held =
+wanted_comes (Wanted.Check formula proof workers) held =
     then_shows (IsReadBy IsFormulaReadAs held formula) (λ clauses. comes_to_check proof clauses held) (held_read IsFormulaReadAs formula formula_read (held formula)) (check_comes proof held)
 wanted_comes (Wanted.Generate number conflicts eprime param) held =
     then_shows (IsTextReadAs TextFile.Model generated_model) (λ m. comes_to_parameters number conflicts m) (text_read TextFile.Model generated_model) (parameters_come number conflicts)
 
 -- ---- words
 
-some_wanted : (one other : Wanted) → Some one ≡ Some other → one ≡ other
-some_wanted one other e = cc
-
--- words that are a command want something that runs, or they are no command that runs
-job_shows : (words : List (List ℕ)) (held : Held) (job : Job) → IsCommand words job → ((other : Job) → IsCommand words other → job ≡ other) → (o : Option Wanted) → wanted_of job ≡ o → Comes (Show words held)
-job_shows words held job command only (Some wanted) e =
-    let comes = wanted_comes wanted held in (comes.0, inr (wanted, (job, command, e), comes.1))
-job_shows words held job command only None e =
-    (Err (Refusal.Usage ∷ []), inl ((λ wanted want. let both : None ≡ Some wanted = sym e ∙ ap wanted_of (only want.0 want.1) ∙ want.2 in absurd cc), refl))
+-- words that are a command want something
+job_shows : (words : List (List ℕ)) (held : Held) (job : Job) → IsCommand words job → Comes (Show words held)
+job_shows words held job command =
+    let comes = wanted_comes (wanted_of job) held in (comes.0, inr (wanted_of job, (job, command, refl), comes.1))
 
 pub shows : (words : List (List ℕ)) (held : Held) → Comes (Show words held)
 shows words held = elim (words_decided words) [
-  | inl is ↦ job_shows words held is.0 is.1 (λ other command. one_job words is.0 other is.1 command) (wanted_of is.0) refl
+  | inl is ↦ job_shows words held is.0 is.1
   | inr none ↦ (Err (Refusal.Usage ∷ []), inl ((λ wanted want. none want.0 want.1), refl))
 ]

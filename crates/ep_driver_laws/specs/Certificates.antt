@@ -21,9 +21,9 @@ use Rattle.sat_text.specs.Words.{lines, most_text_bytes}
 use Rattle.ep_driver.specs.Answers.{Settles, verdict_status, verdict_text}
 use Rattle.ep_driver.specs.Commands.{Want}
 use Rattle.ep_driver.specs.Outcomes.{Task}
-use Rattle.ep_driver.specs.Outputs.{IsFormulaText, IsStepsText, NotesUpTo}
+use Rattle.ep_outputs.specs.Outputs.{IsFormulaText, IsStepsText, NotesUpTo}
 use Rattle.ep_driver.specs.Shown.{Ask}
-use Rattle.ep_driver.specs.declared.status.Status.{Status}
+use Rattle.ep_files.specs.declared.status.Status.{Status}
 use Rattle.ep_driver.specs.declared.wanted.Wanted.{Wanted}
 
 -- ---- the formula and the steps
@@ -119,5 +119,5 @@ ChecksSaySo =
     (formula steps : List ℕ) (vars : ℕ) (clauses : List (List Literal)) (lines : List ProofLine)
     → SpellsCnf formula vars clauses → SpellsLog steps lines
     → length formula ≤ most_text_bytes → length steps ≤ most_text_bytes
-    → (words : List (List ℕ)) (cnf proof : List ℕ) → Want words (Wanted.Check cnf proof)
+    → (words : List (List ℕ)) (cnf proof : List ℕ) (workers : ℕ) → Want words (Wanted.Check cnf proof workers)
     → (held : Held) → held cnf ≡ Some formula → held proof ≡ Some steps → SaysVerdict words held (verdict_of clauses lines)

@@ -6,7 +6,10 @@ ghost use Rattle.ep_base.specs.Outside.{Held};
 ghost use Rattle.ep_driver.specs.Outcomes.{Outcome, Task};
 ghost use Rattle.ep_driver.specs.Shown.{Show};
 ghost use Rattle.ep_driver_laws.specs.Certificates.{AnswersCertify, ChecksSaySo, ListsCertify};
+ghost use Rattle.ep_driver_laws.specs.Generated.{NumbersAreNeverRefused};
 
+use ep_gen_laws::each_number_gives_an_instance;
+use ep_parse_model::texts_have_one_answer;
 use log_check::valid_logs_are_accepted;
 
 /// Whatever the words and the held files are, they show something: a task with what it needs, or refusals. That they show one thing
@@ -31,3 +34,12 @@ pub fn written_files_certify()
 pub fn checks_say_so()
     ensures { ChecksSaySo }
 {}
+
+/// Words that want the texts of a number to be solved show the task of an instance, whatever files hold, and are never refused: no
+/// status of a text or of a limit comes of them.
+pub fn generated_texts_are_never_refused()
+    ensures { NumbersAreNeverRefused }
+{
+    texts_have_one_answer();
+    each_number_gives_an_instance();
+}
