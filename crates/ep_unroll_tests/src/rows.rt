@@ -144,7 +144,19 @@ minimising sum([[x, y], [y / x, 1]][3, ..])
 such that allDiff([y, 10 / x][..])
 such that or([x / y = 1, b][..])
 such that !and([b, x = 10 / y][..])
-such that y in toSet([[y, x], [1, 1 / x]][1, ..])";
+such that y in toSet([[y, x], [1, 1 / x]][1, ..])
+minimising [[1 / 0], [x, y]][1, 1]
+minimising [[1 / 0], [x, y]][2, 1]
+minimising [[1 / 0], [x, y]][y, 1]
+minimising [[[1 / 0], [2]], [[x], [y]]][1, 2, y]
+minimising sum([[[1 / 0], [2]], [[x], [y]]][1, 2, ..])
+minimising sum([[x, y], [1, 2]; int(1..3)][1, ..])
+minimising sum([[[x], [y]][3, ..], [y]][1, ..])
+minimising sum([[[x], [y]][3, ..], [y]][2, ..])
+such that [[b, true], [(1 / 0 = 1)]][y, 1]
+such that and([[[b], [b]][3, ..], [b]][1, ..])
+such that !and([[[b], [b]][3, ..], [b]][.., 1])
+such that !([[1 / 0], [x]][1, 1] = 1)";
 
 /// The first wrong row in one of the modes of undefinedness.
 fn wrong_in_a_mode(alloc: Global, table: &str) -> Result<Option<String>, Fail> {
