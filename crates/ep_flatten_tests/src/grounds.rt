@@ -26,6 +26,7 @@ fn add_two(arena: &mut Arena, letter: u8, x: Term, y: Term) -> Result<Term, Fail
         b'*' => Ok(arena.intern(Node::Mul(x, y))?),
         b'/' => Ok(arena.intern(Node::SafeDiv(x, y))?),
         b'%' => Ok(arena.intern(Node::SafeMod(x, y))?),
+        b'=' => Ok(arena.intern(Node::Iff(x, y))?),
         _ => Ok(arena.intern(Node::Compare(CompareOp::AtMost, x, y))?),
     }
 }
@@ -44,7 +45,7 @@ fn add_one(arena: &mut Arena, letter: u8, x: Term) -> Result<Term, Fail> {
     }
 }
 
-/// Adds the least or the greatest of two terms.
+/// Adds the least or the greatest of two terms, or whether both or one of them is true.
 #[tactic(auto, unfolding(ep_ground::specs::Nodes::parts_of))]
 fn add_list(alloc: Global, arena: &mut Arena, letter: u8, x: Term, y: Term) -> Result<Term, Fail> {
     if u64::from(x.number()) >= arena.len() || u64::from(y.number()) >= arena.len() {
@@ -53,6 +54,8 @@ fn add_list(alloc: Global, arena: &mut Arena, letter: u8, x: Term, y: Term) -> R
     let parts = vec![in alloc; x, y]?;
     match letter {
         b'm' => Ok(arena.intern(Node::Min(parts))?),
+        b'&' => Ok(arena.intern(Node::And(parts))?),
+        b'|' => Ok(arena.intern(Node::Or(parts))?),
         _ => Ok(arena.intern(Node::Max(parts))?),
     }
 }
@@ -115,7 +118,7 @@ fn add(alloc: Global, arena: &mut Arena, terms: &mut Vec<Term>, letter: u8) -> R
         match letter {
             b'+' => add_sum(alloc, arena, 0, (1, x), (1, y))?,
             b'-' => add_sum(alloc, arena, 10, (2, x), (-3, y))?,
-            b'm' | b'M' => add_list(alloc, arena, letter, x, y)?,
+            b'm' | b'M' | b'&' | b'|' => add_list(alloc, arena, letter, x, y)?,
             _ => add_two(arena, letter, x, y)?,
         }
     };

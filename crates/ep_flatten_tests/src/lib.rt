@@ -1,7 +1,9 @@
-//! Tests of flattening, by the flat problems of small grounds.
+//! Tests of simplification and of flattening, by what small grounds come to.
 #![tactic(auto)]
 
 #[cfg(test)]
 mod grounds;
 #[cfg(test)]
 mod rows;
+#[cfg(test)]
+mod simplified;

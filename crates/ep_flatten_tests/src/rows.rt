@@ -136,3 +136,43 @@ fn other_sums_stand_for_themselves(rt: HostRuntime) -> Result<(), Fail> {
     assert_eq!(rt; wrong.as_str(), "");
     Ok(())
 }
+
+/// The numbers of the variable that is minimised.
+fn numbers_of(alloc: Global, goal: &str) -> Result<String, Fail> {
+    let (flat, map) = flat_of(alloc, ground_of(alloc, goal, "")?)?;
+    let mut said = String::new(alloc);
+    let Some((_, variable)) = map.objective else {
+        return Ok(said);
+    };
+    let Some(set) = flat.vars.get(variable as usize) else {
+        return Ok(said);
+    };
+    for run in set.runs() {
+        for number in run.lo..=run.hi {
+            let one = format!(in alloc; " {number}")?;
+            said.push_str(one.as_str())?;
+        }
+    }
+    Ok(said)
+}
+
+/// A term that is minimised, and the numbers of its variable.
+const IMAGES: &str = "\
+xc# 1 8 27 64
+7x*# 7 14 21 28
+xcy*# -64 -27 -8 -1 0 1 2 8 16 27 54 64 128
+xc3/# 0 2 9 21
+xc5%# 1 2 3 4
+xcyM# 1 2 8 27 64
+xcym# -1 0 1 2
+xc3-# 3 17 55 129";
+
+#[test]
+fn operations_have_the_results_of_their_parts_alone(rt: HostRuntime) -> Result<(), Fail> {
+    for row in IMAGES.lines() {
+        let (goal, want) = row.split_once('#').unwrap_or((row, ""));
+        let said = numbers_of(rt.alloc(), goal)?;
+        assert_eq!(rt; said.as_str(), want);
+    }
+    Ok(())
+}
