@@ -57,7 +57,7 @@ fn list_of(alloc: Global, words: &str) -> Result<Vec<Word>, Memory> {
 }
 
 /// How words end over files.
-fn status_over<R: Threads + AllocGlobal>(
+fn status_over<R: Threads + Sync + AllocGlobal>(
     rt: &R,
     words: &str,
     files: &mut MemFiles,
@@ -92,7 +92,7 @@ fn said(alloc: Global, status: Status, put: &[u8]) -> Result<String, AllocError>
 }
 
 /// How words end over files, a space, and what they put out.
-pub fn said_over<R: Threads + AllocGlobal>(
+pub fn said_over<R: Threads + Sync + AllocGlobal>(
     rt: &R,
     words: &str,
     files: &mut MemFiles,
@@ -104,7 +104,7 @@ pub fn said_over<R: Threads + AllocGlobal>(
 }
 
 /// The same where the output takes a byte at once, and its call with this number fails, if any has it.
-pub fn said_by_bytes<R: Threads + AllocGlobal>(
+pub fn said_by_bytes<R: Threads + Sync + AllocGlobal>(
     rt: &R,
     words: &str,
     files: &mut MemFiles,
@@ -118,7 +118,7 @@ pub fn said_by_bytes<R: Threads + AllocGlobal>(
 }
 
 /// How words end over the texts of a run, a space, and what they put out.
-pub fn said_of<R: Threads + AllocGlobal>(
+pub fn said_of<R: Threads + Sync + AllocGlobal>(
     rt: &R,
     words: &str,
     texts: &Texts,
@@ -178,7 +178,11 @@ fn parts_of(row: &str) -> (&str, &str, &str) {
 }
 
 /// What the words say over a row's model, with its second part as parameters and as solution.
-fn said_of_row<R: Threads + AllocGlobal>(rt: &R, words: &str, row: &str) -> Result<String, Fail> {
+fn said_of_row<R: Threads + Sync + AllocGlobal>(
+    rt: &R,
+    words: &str,
+    row: &str,
+) -> Result<String, Fail> {
     let alloc = rt.alloc();
     let (model, input, _) = parts_of(row);
     let model = text_of(alloc, FIRST_LINE, model)?;
@@ -210,7 +214,7 @@ pub fn difference(
 }
 
 /// A row with what the words say of it, where that isn't its third part below this line, and else nothing.
-pub fn wrong_row<R: Threads + AllocGlobal>(
+pub fn wrong_row<R: Threads + Sync + AllocGlobal>(
     rt: &R,
     words: &str,
     first_line: &str,
@@ -222,7 +226,7 @@ pub fn wrong_row<R: Threads + AllocGlobal>(
 }
 
 /// The first row of a table that is wrong, with what is said of it, or nothing.
-pub fn wrong_rows<R: Threads + AllocGlobal>(
+pub fn wrong_rows<R: Threads + Sync + AllocGlobal>(
     rt: &R,
     words: &str,
     first_line: &str,
@@ -238,7 +242,7 @@ pub fn wrong_rows<R: Threads + AllocGlobal>(
 }
 
 /// The same where each row has the end of its words in front.
-pub fn wrong_behind<R: Threads + AllocGlobal>(
+pub fn wrong_behind<R: Threads + Sync + AllocGlobal>(
     rt: &R,
     words: &str,
     first_line: &str,

@@ -9,6 +9,14 @@ use std::thread::Threads;
 
 const CHECK: &str = "--task check --in-cnf f --in-log=l";
 
+/// The same by one worker and by several.
+const CHECKS: &str = "\
+--task check --in-cnf f --in-log=l
+--task check --in-cnf f --in-log=l --workers 1
+--task check --in-cnf f --in-log=l --workers 2
+--task check --in-cnf f --in-log=l --workers 3
+--task check --in-cnf f --in-log=l --workers 64";
+
 /// Two variables and all clauses of both.
 const CHECKED: &str = "\
 p cnf 2 4@1 2 0@1 -2 0@-1 2 0@-1 -2 0@#5 1 0 1 2 0@6 0 5 3 4 0@#$ verified@
@@ -17,6 +25,9 @@ p cnf 2 4@1 2 0@1 -2 0@-1 2 0@-1 -2 0@#5 1 0 -1 2 0@6 0 5 3 4 0@#$ bad step 1@
 p cnf 2 4@1 2 0@1 -2 0@-1 2 0@-1 -2 0@#5 1 0 1 6 0@6 0 5 3 4 0@#$ bad step 1@
 p cnf 2 4@1 2 0@1 -2 0@-1 2 0@-1 -2 0@#4 1 0 1 2 0@6 0 5 3 4 0@#$ bad step 1@
 p cnf 2 4@1 2 0@1 -2 0@-1 2 0@-1 -2 0@#5 1 0 1 2 0@#$ no empty clause@
+p cnf 2 4@1 2 0@1 -2 0@-1 2 0@-1 -2 0@#5 1 0 1 0@6 0 5 0@#$ bad step 1@
+p cnf 2 4@1 2 0@1 -2 0@-1 2 0@-1 -2 0@#5 1 0 1 2 0@5 d 5 0@6 0 5 3 4 0@#$ bad step 3@
+p cnf 2 4@1 2 0@1 -2 0@-1 2 0@-1 -2 0@#c one@@5 1 0 1 2 0@c@@@6 0 5 3 4 0@c@#$ verified@
 p cnf 1 4@1 2 0@1 -2 0@-1 2 0@-1 -2 0@#5 1 0 1 2 0@6 0 5 3 4 0@#fault F12 2@
 p cnf 2 4@1 2 0@1 -2 0@-1 2 0@-1 -2 0@#5 1 0 1 2 0@6 x@#fault F13 2@
 p cnf 2 5@1 2 0@1 -2 0@-1 2 0@-1 -2 0@#5 1 0 1 2 0@6 x@#fault F12 5@
@@ -25,8 +36,12 @@ p cnf 999999999999999999 0##$ no empty clause@
 p cnf 1 1@0##$ verified@
 c nothing@p cnf 1 x#6 x#fault F12 2@";
 
-/// A row with what is said of its proof where that is something else, and else nothing.
-fn wrong_check<R: Threads + AllocGlobal>(rt: &R, row: &str) -> Result<String, Fail> {
+/// A row with what is said of its proof to words where that is something else, and else nothing.
+fn wrong_check<R: Threads + Sync + AllocGlobal>(
+    rt: &R,
+    words: &str,
+    row: &str,
+) -> Result<String, Fail> {
     let alloc = rt.alloc();
     let (formula, rest) = row.split_once('#').unwrap_or((row, ""));
     let (proof, want) = rest.split_once('#').unwrap_or((rest, ""));
@@ -34,21 +49,32 @@ fn wrong_check<R: Threads + AllocGlobal>(rt: &R, row: &str) -> Result<String, Fa
     let proof = text_of(alloc, "", proof)?;
     let texts = [("f", formula.as_bytes()), ("l", proof.as_bytes())];
     let mut files = files_of(alloc, &texts, 0)?;
-    let said = said_over(rt, CHECK, &mut files)?;
+    let said = said_over(rt, words, &mut files)?;
     Ok(difference(alloc, row, said.as_str(), "", want)?)
+}
+
+/// The first row of which something else is said.
+fn first_wrong_check<R: Threads + Sync + AllocGlobal>(rt: &R, words: &str) -> Result<String, Fail> {
+    for row in CHECKED.lines() {
+        let wrong = wrong_check(rt, words, row)?;
+        if !wrong.is_empty() {
+            return Ok(wrong);
+        }
+    }
+    Ok(String::new(rt.alloc()))
 }
 
 #[test]
 fn proofs_are_checked(rt: HostRuntime) -> Result<(), Fail> {
-    for row in CHECKED.lines() {
-        let wrong = wrong_check(&rt, row)?;
-        assert_eq!(rt; wrong.as_str(), "");
+    for words in CHECKS.lines() {
+        let wrong = first_wrong_check(&rt, words)?;
+        assert_eq!(rt; wrong.as_str(), "", "by {words}");
     }
     Ok(())
 }
 
 /// What is said where only one file stands there.
-fn said_over_one<R: Threads + AllocGlobal>(rt: &R, name: &str) -> Result<String, Fail> {
+fn said_over_one<R: Threads + Sync + AllocGlobal>(rt: &R, name: &str) -> Result<String, Fail> {
     let text: &[u8] = b"p cnf 0 0";
     let mut files = files_of(rt.alloc(), &[(name, text)], 0)?;
     said_over(rt, CHECK, &mut files)
@@ -74,7 +100,7 @@ find x : int(1..3)@such that x > 2@#--in-eprime m#$ solution@letting x be 3@#$ n
 find x : int(1..1)@#--task enumerate --solutions all --in-eprime m#$ solution 1@letting x be 1@$ complete@#$ verified@";
 
 /// Whether an answer is put out and held as `s` by a run over a model, which writes a formula and a log.
-fn is_written<R: Threads + AllocGlobal>(
+fn is_written<R: Threads + Sync + AllocGlobal>(
     rt: &R,
     words: &str,
     files: &mut MemFiles,
@@ -89,7 +115,7 @@ fn is_written<R: Threads + AllocGlobal>(
 }
 
 /// Whether a row's answer is written, and its verdict is that on the log and the formula.
-fn is_certified<R: Threads + AllocGlobal>(rt: &R, row: &str) -> Result<bool, Fail> {
+fn is_certified<R: Threads + Sync + AllocGlobal>(rt: &R, row: &str) -> Result<bool, Fail> {
     let alloc = rt.alloc();
     let (model, rest) = row.split_once('#').unwrap_or((row, ""));
     let (words, rest) = rest.split_once('#').unwrap_or((rest, ""));
@@ -114,7 +140,7 @@ fn a_written_log_is_checked_against_the_written_formula(rt: HostRuntime) -> Resu
 }
 
 /// Whether a formula that these words write over a model has all these parts, with `#` between them, behind an answer.
-fn writes_parts<R: Threads + AllocGlobal>(
+fn writes_parts<R: Threads + Sync + AllocGlobal>(
     rt: &R,
     words: &str,
     model: &str,
@@ -167,7 +193,7 @@ const OPTIONS: [&str; 2] = [
 ];
 
 /// The three files that words write over a model and its parameters, one behind another.
-fn written_by<R: Threads + AllocGlobal>(rt: &R, words: &str) -> Result<String, Fail> {
+fn written_by<R: Threads + Sync + AllocGlobal>(rt: &R, words: &str) -> Result<String, Fail> {
     let alloc = rt.alloc();
     let model = text_of(
         alloc,
@@ -211,5 +237,35 @@ fn a_log_that_cannot_be_written_leaves_the_formula(rt: HostRuntime) -> Result<()
     assert_eq!(rt; said.as_str(), "device device write l\n");
     assert!(rt; held_by(&files, "f").contains("\np cnf "));
     assert_eq!(rt; held_by(&files, "l"), "(no file)");
+    Ok(())
+}
+
+/// How many steps a run over a model logs, which says this among other things.
+fn steps_of<R: Threads + Sync + AllocGlobal>(
+    rt: &R,
+    words: &str,
+    want: &str,
+) -> Result<usize, Fail> {
+    let alloc = rt.alloc();
+    let model = text_of(
+        alloc,
+        FIRST_LINE,
+        "find x, y, z : int(0..9)@maximising x + 2 * y + 3 * z@such that x + y + z <= 12, x * y != 20, y != z@",
+    )?;
+    let mut files = files_of(alloc, &[("m", model.as_bytes())], 0)?;
+    let said = said_over(rt, words, &mut files)?;
+    if !said.contains(want) {
+        return Err(Fail::new("another answer"));
+    }
+    Ok(held_by(&files, "l").lines().count())
+}
+
+#[test]
+fn a_bound_on_the_objective_spares_conflicts(rt: HostRuntime) -> Result<(), Fail> {
+    let best = "--in-eprime m --out-log l";
+    let all = "--in-eprime m --task enumerate --solutions all --out-log l";
+    let bounded = steps_of(&rt, best, "$ optimum 33\n")?;
+    let unbounded = steps_of(&rt, all, "$ complete\n")?;
+    assert!(rt; bounded < unbounded, "{bounded} {unbounded}");
     Ok(())
 }

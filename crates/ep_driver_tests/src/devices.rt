@@ -12,7 +12,7 @@ const THREE: &str = "find x : int(1..3)@such that x > 2@";
 const ANSWERED: &str = "language ESSENCE' 1.0\n$ solution\nletting x be 3\n";
 
 /// What the words say over a model with one solution where these calls fail, and what a file holds then, behind a `#`.
-fn said_and_held<R: Threads + AllocGlobal>(
+fn said_and_held<R: Threads + Sync + AllocGlobal>(
     rt: &R,
     words: &str,
     file_fail: u64,

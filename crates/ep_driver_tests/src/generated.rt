@@ -28,7 +28,7 @@ const GENERATED: [(&str, &str, &str, &str); 4] = [
 ];
 
 /// Whether the words generate so.
-fn generates<R: Threads + AllocGlobal>(
+fn generates<R: Threads + Sync + AllocGlobal>(
     rt: &R,
     words: &str,
     want: &str,

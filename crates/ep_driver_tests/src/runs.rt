@@ -69,6 +69,27 @@ find m : matrix indexed by [int(1..3)] of int(0..5)@find x : int(0..9)@find b : 
 find x : matrix indexed by [int(1..60)] of bool@such that sum([x[i] * 10000 | i : int(1..60)]) = 600000##$ solution@letting x be [true, true, true, true, true, true, true, true, true, true, true, true, true, true, true, true, true, true, true, true, true, true, true, true, true, true, true, true, true, true, true, true, true, true, true, true, true, true, true, true, true, true, true, true, true, true, true, true, true, true, true, true, true, true, true, true, true, true, true, true; int(1..60)]@
 find x : matrix indexed by [int(1..60)] of bool@such that sum([x[i] * 10000 | i : int(1..60)]) = 600001##$ no solution@
 such that forAll i : int(1..4999997) . true##$ solution@
+find m : matrix indexed by [int(1..1)] of int(0..2)@such that [[1/0], m][1, 1] = 1##$ no solution@
+find m : matrix indexed by [int(1..1)] of int(0..2)@such that [[1/0], m][2, 1] = 1##$ no solution@
+find m : matrix indexed by [int(1..1)] of int(0..0)@such that !([[1/0], m][1, 1] = 1)##$ solution@letting m be [0; int(1)]@
+find m : matrix indexed by [int(1..1)] of int(0..0)@such that !(sum([m, [1]; int(1..3)][1, ..]) = 0)##$ solution@letting m be [0; int(1)]@
+find b : bool@find x : int(1..2)@such that [[b, true], [(1/0 = 1)]][x, 1], x = 1##$ solution@letting b be true@letting x be 1@
+find p : matrix indexed by [int(1..1)] of bool@such that and([[p, p][3, ..], p][1, ..])##$ no solution@
+find p : matrix indexed by [int(1..1)] of bool@such that and([[p, p][3, ..], p][2, ..])##$ no solution@
+find x : int(0..1)@such that x ** 129 = 1##$ solution@letting x be 1@
+find x : int(-1..1)@such that x ** 1000000001 = -1##$ solution@letting x be -1@
+find x, y : int(0, 10000)@maximising x * y##$ optimum 100000000@letting x be 10000@letting y be 10000@
+find x : int(0, 1000000)@maximising 3 * x##$ optimum 3000000@letting x be 1000000@
+find x : int(1..2)@minimising x * 100000000000##$ optimum 100000000000@letting x be 1@
+find x : int(-1000000000, 999999999)@maximising |x|##$ optimum 1000000000@letting x be -1000000000@
+find x : int(0, 1000000)@maximising x ** 2##$ optimum 1000000000000@letting x be 1000000@
+find x, y : int(1, 1000000000)@maximising x / y##$ optimum 1000000000@letting x be 1000000000@letting y be 1@
+find x, y : int(2, 1000000000)@maximising x % y##$ optimum 2@letting x be 2@letting y be 1000000000@
+find x, y : int(1, 1000000000)@minimising max(x, y)##$ optimum 1@letting x be 1@letting y be 1@
+find x : int(-1099511627776, 1099511627775)@such that (-x) % 2 = 1##$ solution@letting x be 1099511627775@
+find x, y, z, w : int(2147483648)@such that 2147483648 * (x + z - y - w) = 0##$ solution@letting x be 2147483648@letting y be 2147483648@letting z be 2147483648@letting w be 2147483648@
+find x, y : int(2147483648)@such that 2147483648 * (x - 2147483647) + 2147483648 * (y - 2147483647) = 4294967296##$ solution@letting x be 2147483648@letting y be 2147483648@
+find x : int(0, 1000000)@such that (1000000 * x) % 7 = 1##$ solution@letting x be 1000000@
 such that true $ \u{e9}##$ solution@";
 
 #[test]
@@ -99,7 +120,7 @@ fn a_budget_is_spent_or_serves(rt: HostRuntime) -> Result<(), Fail> {
 }
 
 /// The first row of a table, which has words and what is put out, that is wrong over the texts of a row, with what is put out.
-fn wrong_words<R: Threads + AllocGlobal>(
+fn wrong_words<R: Threads + Sync + AllocGlobal>(
     rt: &R,
     texts: &str,
     first_line: &str,
@@ -219,7 +240,7 @@ const COUNTED: [(&str, usize, bool); 5] = [
 ];
 
 /// What is said where so many solutions of a model are wanted.
-fn said_of_list<R: Threads + AllocGlobal>(
+fn said_of_list<R: Threads + Sync + AllocGlobal>(
     rt: &R,
     count: &str,
     model: &str,
@@ -289,7 +310,10 @@ strict#find m : matrix indexed by [int(1..2)] of bool@find i : int(3..3)@such th
 relational#where true \\/ (1/0 = 1)##$ solution@
 relational#letting b be 1/0 = 1##$ solution@
 strict#find x : int(0..1)@maximising toInt(!(1/x = 1))##$ optimum 0@letting x be 1@
-relational#find x : int(0..1)@maximising toInt(!(1/x = 1))##$ optimum 1@letting x be 0@";
+relational#find x : int(0..1)@maximising toInt(!(1/x = 1))##$ optimum 1@letting x be 0@
+strict#find b : bool@find x : int(1..2)@such that [[b, true], [(1/0 = 1)]][x, 1], x = 1##$ no solution@
+strict#find m : matrix indexed by [int(1..1)] of int(0..0)@such that !([[1/0], m][1, 1] = 1)##$ no solution@
+strict#find p : matrix indexed by [int(1..1)] of bool@such that !(and([[p, p][3, ..], p][1, ..]))##$ no solution@";
 
 const MODE_REFUSED: &str = "\
 strict#where true \\/ (1/0 = 1)##fault F11 1@
@@ -304,7 +328,10 @@ relational#find x : int(0..0)@such that !(10/x > 2)#letting x be 0#$ solution@
 strict#find x : int(0..0)@such that !(10/x > 2)#letting x be 0#$ violated 1@
 relational#find b : bool@such that !b#letting b be 1/0 = 1#$ solution@
 strict#find b : bool@such that !b#letting b be 1/0 = 1#fault F10 solution 1:1@
-strict#find x : int(0..1)@maximising toInt(!(1/x = 1))#letting x be 0#$ objective undefined@";
+strict#find x : int(0..1)@maximising toInt(!(1/x = 1))#letting x be 0#$ objective undefined@
+relational#find m : matrix indexed by [int(1..1)] of int(0..2)@such that !([[1/0], m][1, 1] = 1)#letting m be [1]#$ solution@
+strict#find m : matrix indexed by [int(1..1)] of int(0..2)@such that !([[1/0], m][1, 1] = 1)#letting m be [1]#$ violated 1@
+relational#find p : matrix indexed by [int(1..1)] of bool@such that !(and([[p, p][3, ..], p][1, ..]))#letting p be [true]#$ solution@";
 
 #[test]
 fn a_model_is_read_in_a_mode(rt: HostRuntime) -> Result<(), Fail> {
@@ -343,7 +370,7 @@ const EITHER: [(&str, &str, &str, &str); 3] = [
 ];
 
 /// A row over a model where its end isn't put out, and else nothing.
-fn wrong_end<R: Threads + AllocGlobal>(
+fn wrong_end<R: Threads + Sync + AllocGlobal>(
     rt: &R,
     words: &str,
     model: &str,
@@ -371,7 +398,8 @@ const NO_COMMANDS: &str = "\
 --in-eprime m --solutions 2
 --in-eprime m --in-eprime m
 --task check --in-cnf m
---task check --in-cnf m --in-log s --workers 2
+--task check --in-cnf m --in-log s --workers 0
+--task check --in-cnf m --in-log s --workers 65
 --task enumerate --in-eprime m
 --task enumerate --in-eprime m --solutions 0
 --task generate
@@ -420,7 +448,7 @@ fn files_come_in_their_order(rt: HostRuntime) -> Result<(), Fail> {
 }
 
 /// What words say over texts that all have faults.
-fn said_of_faults<R: Threads + AllocGlobal>(rt: &R, words: &str) -> Result<String, Fail> {
+fn said_of_faults<R: Threads + Sync + AllocGlobal>(rt: &R, words: &str) -> Result<String, Fail> {
     let model = text_of(rt.alloc(), FIRST_LINE, "such that y")?;
     let texts = Texts {
         model: model.as_bytes(),
@@ -512,7 +540,7 @@ fn is_said(text: &str, line: &str) -> bool {
 }
 
 /// What is said of a model alone.
-fn said_of_model<R: Threads + AllocGlobal>(rt: &R, model: &[u8]) -> Result<String, Fail> {
+fn said_of_model<R: Threads + Sync + AllocGlobal>(rt: &R, model: &[u8]) -> Result<String, Fail> {
     let texts = Texts {
         model,
         params: b"",
@@ -602,7 +630,11 @@ letting n be 16 letting hint be [\
 [0, 0, 0, 0, 6, 0, 0, 0, 10, 11, 12, 13, 0, 0, 0, 0]]";
 
 /// What is said of the answer to a model with parameters, where it is judged as a solution text.
-fn judged<R: Threads + AllocGlobal>(rt: &R, model: &str, params: &str) -> Result<String, Fail> {
+fn judged<R: Threads + Sync + AllocGlobal>(
+    rt: &R,
+    model: &str,
+    params: &str,
+) -> Result<String, Fail> {
     let model = text_of(rt.alloc(), FIRST_LINE, model)?;
     let mut texts = Texts {
         model: model.as_bytes(),
