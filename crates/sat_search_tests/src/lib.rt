@@ -1,10 +1,8 @@
-//! Tests of clauses, texts, propagation, search and the check of logs, by small formulas.
+//! Tests of clauses, texts, propagation and search, by small formulas.
 #![tactic(auto)]
 
 #[cfg(test)]
 mod clauses;
-#[cfg(test)]
-mod logs;
 #[cfg(test)]
 mod numbers;
 #[cfg(test)]

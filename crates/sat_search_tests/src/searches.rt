@@ -7,7 +7,7 @@ ghost use Rattle.sat_search.specs.Logs.{IsSound};
 use crate::numbers::{clause, lists_of};
 use cnf_core::{Clause, Event, Lit, Log};
 use sat_problems::{drawn, hinted_square, pigeons, square_of_hints};
-use sat_search::{Outcome, Solver};
+use sat_search::{Outcome, SolveError, Solver};
 use std::alloc::{AllocError, Global};
 use std::test::Fail;
 
@@ -197,5 +197,42 @@ fn hints_make_a_latin_square(rt: HostRuntime) -> Result<(), Fail> {
     let clauses = hinted_square(rt.alloc())?;
     let hints = square_of_hints(rt.alloc())?;
     assert!(rt; has_all(rt.alloc(), clauses.as_slice(), hints.as_slice())?);
+    Ok(())
+}
+
+// A variable that is beyond those of a solver's tables.
+const TOO_GREAT: i64 = 2_147_483_647;
+
+// How a solver of one clause answers where it is given one that it has no room for, and then where it is given another and asked to search;
+// and how many events its log has then.
+fn answers_without_room(alloc: Global) -> Result<String, Fail> {
+    let mut log = Log::new(alloc);
+    let mut solver = Solver::new(alloc, &log)?;
+    solver.add_given(clause(alloc, &[1])?, &mut log)?;
+    let first = solver.add_given(clause(alloc, &[TOO_GREAT])?, &mut log);
+    let given = solver.add_given(clause(alloc, &[2])?, &mut log);
+    let searched = solver.solve(MANY, &mut log).map(|_| ());
+    let events = log.events().len();
+    Ok(format!(in alloc;
+        "{} {} {} {events}",
+        word_of(first),
+        word_of(given),
+        word_of(searched)
+    )?)
+}
+
+// The word of an answer.
+fn word_of(answer: Result<(), SolveError>) -> &'static str {
+    match answer {
+        Ok(()) => "ok",
+        Err(SolveError::Memory) => "memory",
+        Err(SolveError::Broken) => "broken",
+    }
+}
+
+#[test]
+fn a_solver_is_broken_after_want_of_memory(rt: HostRuntime) -> Result<(), Fail> {
+    let said = answers_without_room(rt.alloc())?;
+    assert_eq!(rt; said.as_str(), "memory broken broken 1");
     Ok(())
 }

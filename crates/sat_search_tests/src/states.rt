@@ -1,6 +1,6 @@
 //! What a state does with formulas worked out by hand, as texts of steps.
 
-ghost use Rattle.std.specs.Prelude.{◌≤◌, IfOk};
+ghost use Rattle.std.specs.Prelude.{◌≡◌, ◌≤◌, ◌<◌, length, IfOk};
 
 use crate::numbers::{clause, numbers_of};
 use cnf_core::{Clause, Lit, MOST_VARIABLE};
@@ -16,7 +16,8 @@ fn literal(rt: &impl Abort, number: i64) -> Lit {
 }
 
 fn add(rt: &impl Abort, alloc: Global, state: &mut State, numbers: &[i64]) -> Result<(), Fail>
-    ensures { IfOk result (λ _. state.old.vars ≤ state.new.vars) }
+    ensures vars { IfOk result (λ _. state.old.vars ≤ state.new.vars) }
+    ensures clauses { IfOk result (λ _. 0 < length state.new.clauses) }
 {
     let clause = clause(alloc, numbers)?;
     assert!(rt; state.level() == 0);
@@ -24,12 +25,13 @@ fn add(rt: &impl Abort, alloc: Global, state: &mut State, numbers: &[i64]) -> Re
 }
 
 fn decide(rt: &impl Abort, state: &mut State, lit: Lit)
-    requires { 9 ≤ state.old.vars }
-    ensures { 9 ≤ state.new.vars }
+    requires { lit.var ≤ state.old.vars }
+    ensures vars { state.new.vars ≡ state.old.vars }
+    ensures clauses { state.new.clauses ≡ state.old.clauses }
 {
     match state.propagate() {
         Propagated::Done => {
-            assert!(rt; lit.var() <= 9 && state.value(lit.var()).is_none());
+            assert!(rt; state.value(lit.var()).is_none());
             state.decide(lit);
         }
         Propagated::Conflict(_) => panic!(rt; "a conflict"),
@@ -37,7 +39,8 @@ fn decide(rt: &impl Abort, state: &mut State, lit: Lit)
 }
 
 fn propagate(rt: &impl Abort, state: &mut State, conflict: Option<u64>)
-    ensures { state.old.vars ≤ state.new.vars }
+    ensures vars { state.new.vars ≡ state.old.vars }
+    ensures clauses { state.new.clauses ≡ state.old.clauses }
 {
     match state.propagate() {
         Propagated::Done => assert!(rt; conflict.is_none()),
@@ -88,6 +91,15 @@ fn assert_given(rt: &impl Abort, state: &State, numbers: &[i64]) {
     }
 }
 
+// Decides a literal of one of the first nine variables.
+fn decide_small(rt: &impl Abort, state: &mut State, lit: Lit)
+    requires { 9 ≤ state.old.vars }
+    ensures { 9 ≤ state.new.vars }
+{
+    assert!(rt; lit.var() <= 9);
+    decide(rt, state, lit);
+}
+
 // A step's word, and its numbers. `add` a clause, `decide` a literal, `propagate` to the conflict of this number, or to none, go
 // `back` to a level; `true` are exactly these literals, and a variable has its value `from` this level and this clause.
 fn take(rt: &impl Abort, alloc: Global, state: &mut State, step: &str) -> Result<(), Fail>
@@ -98,7 +110,7 @@ fn take(rt: &impl Abort, alloc: Global, state: &mut State, step: &str) -> Result
     let numbers = numbers_of(alloc, rest)?;
     match word {
         "add" => add(rt, alloc, state, &numbers)?,
-        "decide" => decide(rt, state, literal(rt, first(&numbers))),
+        "decide" => decide_small(rt, state, literal(rt, first(&numbers))),
         "propagate" => propagate(rt, state, None),
         "conflict" => propagate(rt, state, Some(first(&numbers).unsigned_abs())),
         "back" => back(rt, state, first(&numbers).unsigned_abs()),
@@ -191,12 +203,9 @@ fn literals_are_read_side_by_side(rt: HostRuntime) -> Result<(), Fail> {
 }
 
 // Adds the clause that one variable implies the next.
-fn add_implication(
-    rt: &impl Abort,
-    alloc: Global,
-    state: &mut State,
-    var: u64,
-) -> Result<(), Fail> {
+fn add_implication(rt: &impl Abort, alloc: Global, state: &mut State, var: u64) -> Result<(), Fail>
+    ensures { IfOk result (λ _. state.old.vars ≤ state.new.vars) }
+{
     assert!(rt; 1 <= var && var < MOST_VARIABLE);
     let mut lits = Vec::new(alloc);
     lits.push(Lit::new(var, false))?;
@@ -206,15 +215,100 @@ fn add_implication(
     Ok(state.add(clause)?)
 }
 
+const MANY: u64 = 100_000;
+
+// A state of the clauses that each of many variables implies the next.
+fn chain(rt: &impl Abort, alloc: Global) -> Result<State, Fail>
+    ensures { IfOk result (λ state. MANY ≤ state.vars) }
+{
+    let mut state = State::new(alloc, &[], MANY)?;
+    for var in 1..MANY {
+        add_implication(rt, alloc, &mut state, var)?;
+    }
+    Ok(state)
+}
+
+// Propagates, and asserts that all of many variables are true.
+fn assert_all_true(rt: &impl Abort, state: &mut State) {
+    propagate(rt, state, None);
+    assert!(rt; state.trail().len() as u64 == MANY);
+    for var in 1..MANY + 1 {
+        assert!(rt; state.value(var) == Some(true));
+    }
+}
+
 #[test]
 fn a_chain_of_a_hundred_thousand_is_followed(rt: HostRuntime) -> Result<(), Fail> {
-    let mut state = State::new(rt.alloc(), &[], 100_000)?;
-    for var in 1..100_000 {
-        add_implication(&rt, rt.alloc(), &mut state, var)?;
-    }
+    let mut state = chain(&rt, rt.alloc())?;
     add(&rt, rt.alloc(), &mut state, &[1])?;
-    propagate(&rt, &mut state, None);
-    assert!(rt; state.trail().len() == 100_000);
-    assert!(rt; state.value(100_000) == Some(true));
+    assert_all_true(&rt, &mut state);
     Ok(())
+}
+
+#[test]
+fn a_chain_of_a_hundred_thousand_is_followed_from_a_decision(rt: HostRuntime) -> Result<(), Fail> {
+    let mut state = chain(&rt, rt.alloc())?;
+    decide(&rt, &mut state, Lit::new(1, true));
+    assert_all_true(&rt, &mut state);
+    Ok(())
+}
+
+const WIDE: u64 = 1000;
+
+// A state of one clause, over these numbers.
+fn wide(rt: &impl Abort, alloc: Global, numbers: &[i64]) -> Result<State, Fail>
+    ensures vars { IfOk result (λ state. WIDE ≤ state.vars) }
+    ensures clauses { IfOk result (λ state. 0 < length state.clauses) }
+{
+    let mut state = State::new(alloc, &[], WIDE)?;
+    add(rt, alloc, &mut state, numbers)?;
+    Ok(state)
+}
+
+// Decides that these literals are false, each behind a propagation.
+fn decide_against(rt: &impl Abort, state: &mut State, numbers: &[i64])
+    requires vars { WIDE ≤ state.old.vars }
+    requires clauses { 0 < length state.old.clauses }
+    ensures { 0 < length state.new.clauses }
+{
+    for number in numbers {
+        let lit = literal(rt, *number).negated();
+        assert!(rt; lit.var() <= WIDE);
+        decide(rt, state, lit);
+    }
+}
+
+// Whether a literal is one of the two that are watched in the first clause.
+fn is_watched(state: &State, lit: Lit) -> bool
+    requires { 0 < length state.now.clauses }
+{
+    match state.watched(0) {
+        Some((one, other)) => one == lit || other == lit,
+        None => false,
+    }
+}
+
+// Asserts that the last of the literals of a clause is forced and watched where all others are decided to be false, from the first on.
+fn assert_last_is_forced(rt: &impl Abort, alloc: Global, numbers: &[i64]) -> Result<(), Fail> {
+    let mut state = wide(rt, alloc, numbers)?;
+    if let Some((last, others)) = numbers.split_last() {
+        decide_against(rt, &mut state, others);
+        propagate(rt, &mut state, None);
+        let lit = literal(rt, *last);
+        assert!(rt; state.value(lit.var()) == Some(lit.positive()));
+        assert_from(rt, &state, lit.var(), WIDE - 1, Some(0));
+        assert!(rt; is_watched(&state, lit));
+    }
+    Ok(())
+}
+
+#[test]
+fn the_last_literal_of_a_thousand_is_forced_and_watched(rt: HostRuntime) -> Result<(), Fail> {
+    let mut numbers = Vec::new(rt.alloc());
+    for number in 1..1001 {
+        numbers.push(number)?;
+    }
+    assert_last_is_forced(&rt, rt.alloc(), &numbers)?;
+    numbers.reverse();
+    assert_last_is_forced(&rt, rt.alloc(), &numbers)
 }
