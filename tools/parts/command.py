@@ -166,14 +166,14 @@ class Command:
             if name not in (*needs.split(), *may, "task"):
                 fits = [it for it, (one, other) in TASKS.items() if name in (*one.split(), *other)]
                 return f"the task {self.task} takes no --{name}; it goes with {' and '.join(fits)}"
-        numbers = {"conflicts": (1, 10**9), "solutions": (1, 10**6), "number": (0, 10**9), "workers": (1, 1)}
+        numbers = {"conflicts": (1, 10**9), "solutions": (1, 10**6), "number": (0, 10**9), "workers": (1, 64)}
         for name, (low, high) in numbers.items():
             value = self.values.get(name, str(low))
             if name == "solutions" and value == "all":
                 continue
             if not (value.isdigit() and value.isascii() and low <= int(value) <= high):
                 also = ", or all" if name == "solutions" else ""
-                return f"--{name} takes a number from {low:,} to {high:,}{also}, without commas" if low != high else f"--{name} takes {low} alone so far"
+                return f"--{name} takes a number from {low:,} to {high:,}{also}, without commas"
         if self.values.get("undefined", "strict") not in ("relational", "strict"):
             return "--undefined takes relational or strict"
         return None

@@ -21,6 +21,12 @@ class Limits(Case):
             status, out, _ = self.limited("-f 1", "--in-eprime", "m", "--out-cnf", "c", **more)
             self.assertEqual((status, out), (5, "device write c\n"))
 
+    def test_what_memory_does_not_hold_is_told(self):
+        # Each of the ten million numbers has a line of its own in a formula.
+        self.file("m", "language ESSENCE' 1.0\nfind m : matrix indexed by [int(1..10000)] of int(1..1000)\n")
+        status, out, _ = self.limited("-v 100000", "--in-eprime", "m")
+        self.assertEqual((status, out), (6, "memory\n"))
+
     @unittest.skipUnless(MOST == resource.RLIM_INFINITY or MOST >= 1 << 28, "the system gives no more stack")
     def test_a_small_stack_is_made_larger(self):
         self.file("m", NAMES)

@@ -28,6 +28,13 @@ class Migrating(Case):
         model = self.file("m.eprime", f"{self.prelude}{text}\n")
         return self.call(program(), "--in-eprime", model, "--conflicts", "1000")[1].split("\n")[0]
 
+    def test_the_whole_model_has_its_optimum(self):
+        whole = self.page[self.page.index("## A whole model") :]
+        texts = re.findall(r"```\n(language.*?)```", whole, re.S)
+        model, params = self.file("w.eprime", texts[0]), self.file("w.param", texts[1])
+        said = self.call(program(), "--in-eprime", model, "--in-param", params)
+        self.assertEqual((said[0], said[1].split("\n")[1]), (0, "$ optimum 13"))
+
     def test_what_is_said_to_be_accepted(self):
         forms = [it for cells in rows(self.page, "| MiniZinc | Here |") for it in CODE.findall(cells[1])]
         forms += [it for cells in rows(self.page, "| A model says |") for it in CODE.findall(cells[2]) if re.search(r"\W", it)]

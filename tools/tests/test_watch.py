@@ -37,6 +37,15 @@ UNKNOWN = "language ESSENCE' 1.0\n$ unknown {} conflicts\n$ incumbent {}\nlettin
 OPTIMUM = "language ESSENCE' 1.0\n$ optimum 7\n\nletting x be 7\n"
 
 
+def loaded():
+    """The script as a module."""
+    spec = importlib.util.spec_from_loader("watch", importlib.machinery.SourceFileLoader("watch", WATCH))
+    watch, before = importlib.util.module_from_spec(spec), sys.excepthook
+    spec.loader.exec_module(watch)
+    sys.excepthook = before
+    return watch
+
+
 class Watch(Case):
     def setUp(self):
         super().setUp()
@@ -222,11 +231,16 @@ exit 5
             os.remove(f"{self.folder}/c")
             self.clean()
 
+    def test_a_run_that_ends_just_before_it_is_ended_is_waited_for(self):
+        watch = loaded()
+        run = watch.Run(self.file("ends", "#!/bin/sh\nexit 3\n", True), watch.words_of.Command(["--in-eprime", "m"]), self.room)
+        os.waitid(os.P_PID, run.job.pid, os.WEXITED | os.WNOWAIT)
+        with unittest.mock.patch.object(run, "is_over", return_value=False):
+            run.end()
+        self.assertIsNotNone(run.usage)
+
     def test_what_is_copied_over_a_file_has_room_first(self):
-        spec = importlib.util.spec_from_loader("watch", importlib.machinery.SourceFileLoader("watch", WATCH))
-        watch, before = importlib.util.module_from_spec(spec), sys.excepthook
-        spec.loader.exec_module(watch)
-        sys.excepthook = before
+        watch = loaded()
         part, to = self.file("part", "new\n"), self.file("to", "an older text\n")
         os.link(to, f"{self.folder}/same")
         refused = OSError(errno.ENOSPC, "No space left on device")
