@@ -84,6 +84,7 @@ refusal-kind (Refusal.Undefined _ _) e = cc
 refusal-kind (Refusal.WhereFalse _) e = cc
 refusal-kind (Refusal.BadCnf _) e = cc
 refusal-kind (Refusal.BadLog _) e = cc
+refusal-kind (Refusal.BadOpb _) e = cc
 refusal-kind (Refusal.TooLong _) e = cc
 refusal-kind (Refusal.LongNumber _ _) e = cc
 refusal-kind (Refusal.TooHigh _ _) e = cc

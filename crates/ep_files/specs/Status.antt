@@ -34,6 +34,7 @@ status_of (Refusal.Undefined _ _) = Status.Text
 status_of (Refusal.WhereFalse _) = Status.Text
 status_of (Refusal.BadCnf _) = Status.Text
 status_of (Refusal.BadLog _) = Status.Text
+status_of (Refusal.BadOpb _) = Status.Text
 status_of (Refusal.TooLong _) = Status.Limit
 status_of (Refusal.LongNumber _ _) = Status.Limit
 status_of (Refusal.TooHigh _ _) = Status.Limit

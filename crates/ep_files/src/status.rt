@@ -63,7 +63,8 @@ pub fn status_of(refusal: &Refusal) -> Status
         | Refusal::Undefined(_, _)
         | Refusal::WhereFalse(_)
         | Refusal::BadCnf(_)
-        | Refusal::BadLog(_) => Status::Text,
+        | Refusal::BadLog(_)
+        | Refusal::BadOpb(_) => Status::Text,
         Refusal::TooLong(_)
         | Refusal::LongNumber(_, _)
         | Refusal::TooHigh(_, _)

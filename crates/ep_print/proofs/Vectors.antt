@@ -210,3 +210,11 @@ refusal-8 = refl
 refusal-9 : refusal_text Refusal.Memory ≡ codes "memory\n"
 unfolding the_texts
 refusal-9 = refl
+
+refusal-10 : refusal_text (Refusal.BadOpb 3) ≡ codes "fault F14 3\n"
+unfolding the_texts
+refusal-10 = refl
+
+refusal-11 : refusal_text (Refusal.TooLong TextFile.Opb) ≡ codes "limit L1 opb\n"
+unfolding the_texts
+refusal-11 = refl

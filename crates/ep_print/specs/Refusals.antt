@@ -5,7 +5,7 @@ use Prim.Native.String.{String}
 use Rattle.ep_base.specs.declared.operators.Limit.{Limit}
 use Rattle.ep_base.specs.declared.places.Place.{Place}
 use Rattle.ep_print.specs.declared.refusals.Refusal.{Refusal}
-use Rattle.ep_print.specs.declared.refusals.Refusal.TheVariants.{BadByte, BadCnf, BadLog, CannotRead, CannotWrite, IllTyped, LongNumber, Memory, Missing, OpenDomain, Outside, Over, Redeclared, Syntax, TooHigh, TooLong, Undefined, UnknownName, Usage, WhereFalse, WrongCategory}
+use Rattle.ep_print.specs.declared.refusals.Refusal.TheVariants.{BadByte, BadCnf, BadLog, BadOpb, CannotRead, CannotWrite, IllTyped, LongNumber, Memory, Missing, OpenDomain, Outside, Over, Redeclared, Syntax, TooHigh, TooLong, Undefined, UnknownName, Usage, WhereFalse, WrongCategory}
 use Rattle.ep_print.specs.declared.refusals.TextFile.{TextFile}
 
 -- the word for a text
@@ -15,6 +15,7 @@ file_word TextFile.Params = "params"
 file_word TextFile.Solution = "solution"
 file_word TextFile.Cnf = "cnf"
 file_word TextFile.Log = "log"
+file_word TextFile.Opb = "opb"
 
 -- a line and a column
 unfoldable pub place_text : Place → List ℕ
@@ -46,6 +47,7 @@ refusal_words (Undefined file place) = at_place "fault F10" file place
 refusal_words (WhereFalse number) = codes "fault F11 " ++ decimal number
 refusal_words (BadCnf line) = codes "fault F12 " ++ decimal line
 refusal_words (BadLog line) = codes "fault F13 " ++ decimal line
+refusal_words (BadOpb line) = codes "fault F14 " ++ decimal line
 refusal_words (TooLong file) = codes "limit L1 " ++ codes (file_word file)
 refusal_words (LongNumber file place) = at_place "limit L2" file place
 refusal_words (TooHigh file place) = at_place "limit L3" file place

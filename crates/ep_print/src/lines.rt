@@ -42,6 +42,7 @@ fn push_refusal(line: &mut Vec<u8>, refusal: &Refusal) -> Result<(), AllocError>
         Refusal::WhereFalse(number) => push_numbered(line, "fault F11 ", *number),
         Refusal::BadCnf(number) => push_numbered(line, "fault F12 ", *number),
         Refusal::BadLog(number) => push_numbered(line, "fault F13 ", *number),
+        Refusal::BadOpb(number) => push_numbered(line, "fault F14 ", *number),
         Refusal::TooLong(file) => push_both(line, "limit L1 ", file_word(*file)),
         Refusal::LongNumber(file, place) => push_at(line, "limit L2", *file, place),
         Refusal::TooHigh(file, place) => push_at(line, "limit L3", *file, place),
@@ -121,6 +122,7 @@ fn file_word(file: TextFile) -> &'static str
         TextFile::Solution => "solution",
         TextFile::Cnf => "cnf",
         TextFile::Log => "log",
+        TextFile::Opb => "opb",
     }
 }
 

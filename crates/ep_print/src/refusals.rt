@@ -10,6 +10,7 @@ pub enum TextFile {
     Solution,
     Cnf,
     Log,
+    Opb,
 }
 
 /// Why a run has no answer, with what its line names.
@@ -43,6 +44,8 @@ pub enum Refusal {
     BadCnf(u64),
     /// A line is none of a proof.
     BadLog(u64),
+    /// A line is none of a pseudo-Boolean problem.
+    BadOpb(u64),
     /// A text has too many bytes.
     TooLong(TextFile),
     /// A number has too many digits.
