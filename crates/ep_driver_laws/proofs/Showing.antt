@@ -28,6 +28,7 @@ text_answered TextFile.Params text = params_answered text
 text_answered TextFile.Solution text = params_answered text
 text_answered TextFile.Cnf text = params_answered text
 text_answered TextFile.Log text = params_answered text
+text_answered TextFile.Opb text = params_answered text
 
 text_read : (file : TextFile) (text : List ℕ) → IsRead (IsTextReadAs file) text
 text_read file text = let said = text_answered file text in (tree_or_refusal file said.0, (said.0, said.1, refl))

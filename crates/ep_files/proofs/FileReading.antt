@@ -181,6 +181,7 @@ as-params TextFile.Params has text answer h = h
 as-params TextFile.Solution has text answer h = h
 as-params TextFile.Cnf has text answer h = h
 as-params TextFile.Log has text answer h = h
+as-params TextFile.Opb has text answer h = h
 
 pub as-refuses : (file : TextFile) → HasParams file → (text : List ℕ) (error : TextError) → RefusesText SpellsParams text error → RefusesText (spells_in file) text error
 as-refuses TextFile.Model has text error h = absurd has
@@ -188,6 +189,7 @@ as-refuses TextFile.Params has text error h = h
 as-refuses TextFile.Solution has text error h = h
 as-refuses TextFile.Cnf has text error h = h
 as-refuses TextFile.Log has text error h = h
+as-refuses TextFile.Opb has text error h = h
 
 -- ---- what wasn't read
 
