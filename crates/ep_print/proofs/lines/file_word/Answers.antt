@@ -21,3 +21,7 @@ returns-in-Cnf c = rw c.in-Cnf.is refl
 pub returns-in-Log : goal.returns-in-Log
 unfolding file_word
 returns-in-Log c = rw c.in-Log.is refl
+
+pub returns-in-Opb : goal.returns-in-Opb
+unfolding file_word
+returns-in-Opb c = rw c.in-Opb.is refl
