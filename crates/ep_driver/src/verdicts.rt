@@ -6,15 +6,17 @@ ghost use Rattle.ep_solve.specs.Right.{empty_log};
 ghost use Rattle.ep_driver.specs.Answers.{Settles, verdict_status, verdict_text};
 ghost use Rattle.ep_driver.specs.Outcomes.{to_check};
 ghost use Rattle.ep_driver.specs.Steps.{IsJudgedEnd};
-ghost use Rattle.ep_files.specs.Reads.{formula_clauses, proof_lines};
+ghost use Rattle.ep_files.specs.Reads.{formula_clauses};
+ghost use Rattle.sat_proof.specs.Lines.{proof_lines};
 ghost use Rattle.log_check.specs.Verdict.{verdict_of};
 
 use super::replies::Reply;
-use cnf_core::{Formula, Proof};
+use cnf_core::Formula;
 use ep_base::Memory;
 use ep_files::Status;
 use itoa::Buffer;
 use log_check::{OpenGate, Verdict, check_log, check_log_parallel};
+use sat_proof::Proof;
 use std::alloc::{AllocError, Global};
 use std::thread::Threads;
 

@@ -13,7 +13,7 @@ use Rattle.ep_tree.specs.Texts.{Answers, HasHeightFault, HasSyntaxFault, HasToke
 use Rattle.ep_base.specs.Tokens.{BadByte, LongNumber}
 use Rattle.ep_files.specs.Readings.{HasParams, IsClausesRefusal, IsFormulaReadAs, IsHeldReadBy, IsProofReadAs, IsReadBy, IsTextReadAs, ReadsTexts, SpellsFormulaClauses, spells_in, tree_or_refusal}
 use Rattle.ep_files.specs.Status.{status_of}
-use Rattle.ep_files.specs.Reads.{TellsRead, TellsText, formula_clauses, proof_lines, IsNotThere, IsUnreadStop, TellsBytes, TellsParams}
+use Rattle.ep_files.specs.Reads.{TellsRead, TellsText, formula_clauses, IsNotThere, IsUnreadStop, TellsBytes, TellsParams}
 use Rattle.ep_files.specs.Stops.{cnf_stop, log_stop, text_stop}
 use Rattle.sat_text.specs.CnfGrammar.{IsFaultLine, SpellsCnf}
 use Rattle.sat_text.specs.LogGrammar.{IsFirstWrongLine, SpellsLog}
@@ -22,9 +22,10 @@ use Rattle.sat_text.specs.declared.cnf.CnfError.{CnfError}
 use Rattle.sat_text.specs.declared.cnf.CnfFile.{CnfFile}
 use Rattle.sat_text.specs.declared.proof.LogError.{LogError}
 use Rattle.cnf_core.specs.Formula.{Cnf}
-use Rattle.cnf_core.specs.Lines.{ProofLine, plain_lines}
+use Rattle.cnf_core.specs.Lines.{ProofLine}
+use Rattle.sat_proof.specs.Lines.{proof_lines}
 use Rattle.cnf_core.specs.Literal.{Literal}
-use Rattle.cnf_core.specs.declared.proof.Proof.{Proof}
+use Rattle.sat_proof.specs.declared.proof.Proof.{Proof}
 use Rattle.ep_files.specs.declared.stops.Stop.{Stop}
 use Rattle.std.specs.declared.alloc.Global.{Global}
 use Rattle.std.specs.declared.vec.Vec.{Vec}
@@ -151,8 +152,8 @@ formula-stopped text CnfError.Memory h = tt
 -- what reading a proof says of its text
 pub record ProofAnswers (text : List ℕ) (result : Result Proof LogError) : Type 0 where
   pub too_long : IsErrOf result LogError.TooLong ↔ (most_text_bytes < length text)
-  pub spelled : IfOk result (λ p. SpellsLog text (plain_lines p.lines.items))
-  pub complete : (proof : List ProofLine) → SpellsLog text proof → MatchResult result (λ p. plain_lines p.lines.items ≡ proof) (λ error. (line : ℕ) → error ≡ LogError.Bad line → ⊥)
+  pub spelled : IfOk result (λ p. SpellsLog text (proof_lines p))
+  pub complete : (proof : List ProofLine) → SpellsLog text proof → MatchResult result (λ p. proof_lines p ≡ proof) (λ error. (line : ℕ) → error ≡ LogError.Bad line → ⊥)
   pub fault : (line : ℕ) → result ≡ Err (LogError.Bad line) → IsFirstWrongLine text line
 
 pub proof-read : (text : List ℕ) (p : Proof) → ProofAnswers text (Ok p) → IsProofReadAs text (Ok (proof_lines p))

@@ -1,9 +1,7 @@
 -- What reading files tells.
 use Rattle.std.specs.Prelude.{◌≡◌, ◌⊎◌, ◌+◌, ℕ, List, Option, Some, None, Ok, Err, Result, IfSome, IsSomeAnd}
 use Rattle.cnf_core.specs.Formula.{Cnf}
-use Rattle.cnf_core.specs.Lines.{ProofLine, plain_lines}
 use Rattle.cnf_core.specs.Literal.{Literal}
-use Rattle.cnf_core.specs.declared.proof.Proof.{Proof}
 use Rattle.ep_base.specs.Outside.{Held, ReadGives}
 use Rattle.ep_tree.specs.Views.{params_tree}
 use Rattle.ep_tree.specs.declared.statements.Params.{Params}
@@ -55,10 +53,6 @@ TellsRead view reads told name rose (Err Stop.Memory) = Unit {0}
 -- the clauses of a formula
 abbrev pub formula_clauses : Cnf → List (List Literal)
 formula_clauses f = f.clauses
-
--- the lines of a proof
-abbrev pub proof_lines : Proof → List ProofLine
-proof_lines p = plain_lines p.lines.items
 
 -- the same of a parameter file that may be left out
 abbrev pub TellsParams : Option Held → Option (List ℕ) → Type 0 → Result Params Stop → Type 0

@@ -6,15 +6,17 @@ ghost use Rattle.ep_tree.specs.Texts.{IsSpellable};
 ghost use Rattle.ep_tree.specs.Views.{model_tree, params_tree};
 ghost use Rattle.ep_print.specs.declared.refusals.TextFile.{TextFile as TextFileValue};
 ghost use Rattle.ep_files.specs.Readings.{HasParams, IsFormulaReadAs, IsProofReadAs, IsTextReadAs};
-ghost use Rattle.ep_files.specs.Reads.{TellsBytes, TellsParams, TellsRead, TellsText, IsUnreadStop, formula_clauses, proof_lines};
+ghost use Rattle.ep_files.specs.Reads.{TellsBytes, TellsParams, TellsRead, TellsText, IsUnreadStop, formula_clauses};
+ghost use Rattle.sat_proof.specs.Lines.{proof_lines};
 
 use super::errors::{cnf_stop, log_stop, text_stop};
 use super::stops::Stop;
-use cnf_core::{Formula, Proof};
+use cnf_core::Formula;
 use ep_base::{FileError, Files, Memory, Word};
 use ep_parse_model::{parse_model, parse_params};
 use ep_print::{Refusal, TextFile};
 use ep_tree::{Model, Params};
+use sat_proof::Proof;
 use sat_text::{read_cnf, read_log};
 use std::alloc::Global;
 

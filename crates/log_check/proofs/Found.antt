@@ -12,8 +12,9 @@ use native.Mathlib.Nat.{add-mul, one-mul, zero-mul}
 use Rattle.ep_base.specs.declared.errors.Memory.{Memory}
 use Rattle.cnf_core.specs.Literal.{Literal}
 use Rattle.cnf_core.specs.Reading.{is_shown_by}
-use Rattle.cnf_core.specs.Lines.{ProofLine, add, delete, plain_line, plain_lines}
-use Rattle.cnf_core.specs.declared.proof.Line.{Line}
+use Rattle.cnf_core.specs.Lines.{ProofLine, add, delete}
+use Rattle.sat_proof.specs.Lines.{FlatProof, row_line, row_lines}
+use Rattle.sat_proof.specs.declared.proof.Row.{Row}
 use Rattle.log_check.specs.Kept.{KeepsLive, is_accepted}
 use Rattle.log_check.specs.Lives.{life_of, EndsThose}
 use Rattle.log_check.specs.Parts.{TellsFirst, TellsLives, FindsBad, first_found, has_new_id}
@@ -25,186 +26,187 @@ use Rattle.log_check.proofs.Ids.{and_left}
 use Rattle.log_check.proofs.Lives.{list_any_map}
 use Rattle.log_check.proofs.Trues.{bool_cases}
 
--- ---- lines as they lie in memory
+module _ (proof : FlatProof) where
+  -- ---- lines as they lie in memory
 
-plain_append : (xs ys : List Line) → plain_lines (xs ++ ys) ≡ plain_lines xs ++ plain_lines ys
-plain_append [] ys = refl
-plain_append (x ∷ xs) ys = ap (λ (ls : List ProofLine). plain_line x ∷ ls) (plain_append xs ys)
+  rows_append : (xs ys : List Row) → row_lines proof (xs ++ ys) ≡ row_lines proof xs ++ row_lines proof ys
+  rows_append [] ys = refl
+  rows_append (x ∷ xs) ys = ap (λ (ls : List ProofLine). row_line proof x ∷ ls) (rows_append xs ys)
 
-pub plain_taken : (lines : List Line) (k : ℕ) (x : Line) → k < length lines → x ≡ get_or lines k x → plain_lines (take (k + 1) lines) ≡ plain_lines (take k lines) ++ plain_line x ∷ []
-plain_taken lines k x lt is =
-    let more : take (k + 1) lines ≡ take k lines ++ x ∷ [] = grind (arith, take_more) in
-    ap plain_lines more ∙ plain_append (take k lines) (x ∷ [])
+  pub rows_taken : (lines : List Row) (k : ℕ) (x : Row) → k < length lines → x ≡ get_or lines k x → row_lines proof (take (k + 1) lines) ≡ row_lines proof (take k lines) ++ row_line proof x ∷ []
+  rows_taken lines k x lt is =
+      let more : take (k + 1) lines ≡ take k lines ++ x ∷ [] = grind (arith, take_more) in
+      ap (row_lines proof) more ∙ rows_append (take k lines) (x ∷ [])
 
-plain_left : (lines : List Line) (k : ℕ) (x : Line) → k < length lines → x ≡ get_or lines k x → plain_lines (drop k lines) ≡ plain_line x ∷ plain_lines (drop (k + 1) lines)
-plain_left lines k x lt is =
-    let next : drop k lines ≡ x ∷ drop (k + 1) lines = grind (arith, drop-cons) in
-    ap plain_lines next
+  rows_left : (lines : List Row) (k : ℕ) (x : Row) → k < length lines → x ≡ get_or lines k x → row_lines proof (drop k lines) ≡ row_line proof x ∷ row_lines proof (drop (k + 1) lines)
+  rows_left lines k x lt is =
+      let next : drop k lines ≡ x ∷ drop (k + 1) lines = grind (arith, drop-cons) in
+      ap (row_lines proof) next
 
-plain_split : (lines : List Line) (k : ℕ) → plain_lines (take k lines) ++ plain_lines (drop k lines) ≡ plain_lines lines
-plain_split lines k = sym (plain_append (take k lines) (drop k lines)) ∙ ap plain_lines (take-append-drop k lines)
+  rows_split : (lines : List Row) (k : ℕ) → row_lines proof (take k lines) ++ row_lines proof (drop k lines) ≡ row_lines proof lines
+  rows_split lines k = sym (rows_append (take k lines) (drop k lines)) ∙ ap (row_lines proof) (take-append-drop k lines)
 
-length_taken : (lines : List Line) (k : ℕ) → k ≤ length lines → length (plain_lines (take k lines)) ≡ k
-length_taken lines k le = omega (arith, length-map (take k lines) plain_line, length-take-le k lines le)
+  length_taken : (lines : List Row) (k : ℕ) → k ≤ length lines → length (row_lines proof (take k lines)) ≡ k
+  length_taken lines k le = omega (arith, length-map (take k lines) (row_line proof), length-take-le k lines le)
 
-get_plain : (lines : List Line) (k : ℕ) (x : Line) (d : ProofLine) → k < length lines → x ≡ get_or lines k x → get_or (plain_lines lines) k d ≡ plain_line x
-get_plain [] k x d lt is = absurd (omega arith)
-get_plain (y ∷ lines) zero x d lt is = sym (ap plain_line is)
-get_plain (y ∷ lines) (suc k) x d lt is = get_plain lines k x d (omega arith) is
+  get_plain : (lines : List Row) (k : ℕ) (x : Row) (d : ProofLine) → k < length lines → x ≡ get_or lines k x → get_or (row_lines proof lines) k d ≡ row_line proof x
+  get_plain [] k x d lt is = absurd (omega arith)
+  get_plain (y ∷ lines) zero x d lt is = sym (ap (row_line proof) is)
+  get_plain (y ∷ lines) (suc k) x d lt is = get_plain lines k x d (omega arith) is
 
--- ---- what is noted of a line
+  -- ---- what is noted of a line
 
-pub line_added : (old new : Lives) (newest last id : ℕ) (clause : Bor (List Literal)) (formula : List (List Literal)) (lines : List Line) (k : ℕ) (x : Line) (hints : List ℤ) → k < length lines → x ≡ get_or lines k x
-    → plain_line x ≡ add id clause.now hints → TellsFirst old newest last formula (plain_lines (take k lines)) → newest < id
-    → ((q : ℕ) → life_of new q ≡ cond (eqb id q) (Some (record { clause = clause; from = k + 1; until = last })) (life_of old q))
-    → TellsFirst new id last formula (plain_lines (take (k + 1) lines))
-line_added old new newest last id clause formula lines k x hints lt is adds h above step =
-    let earlier = plain_lines (take k lines) in
-    let len : k ≡ length earlier = sym (length_taken lines k (omega arith)) in
-    let step' = subst (λ (n : ℕ). (q : ℕ) → life_of new q ≡ cond (eqb id q) (Some (record { clause = clause; from = n + 1; until = last })) (life_of old q)) len step in
-    subst (TellsFirst new id last formula) (ap (λ (l : ProofLine). earlier ++ l ∷ []) (sym adds) ∙ sym (plain_taken lines k x lt is))
-    (tells_added old new newest last id clause formula earlier hints h above step')
+  pub line_added : (old new : Lives) (newest last id : ℕ) (clause : Bor (List Literal)) (formula : List (List Literal)) (lines : List Row) (k : ℕ) (x : Row) (hints : List ℤ) → k < length lines → x ≡ get_or lines k x
+      → row_line proof x ≡ add id clause.now hints → TellsFirst old newest last formula (row_lines proof (take k lines)) → newest < id
+      → ((q : ℕ) → life_of new q ≡ cond (eqb id q) (Some (record { clause = clause; from = k + 1; until = last })) (life_of old q))
+      → TellsFirst new id last formula (row_lines proof (take (k + 1) lines))
+  line_added old new newest last id clause formula lines k x hints lt is adds h above step =
+      let earlier = row_lines proof (take k lines) in
+      let len : k ≡ length earlier = sym (length_taken lines k (omega arith)) in
+      let step' = subst (λ (n : ℕ). (q : ℕ) → life_of new q ≡ cond (eqb id q) (Some (record { clause = clause; from = n + 1; until = last })) (life_of old q)) len step in
+      subst (TellsFirst new id last formula) (ap (λ (l : ProofLine). earlier ++ l ∷ []) (sym adds) ∙ sym (rows_taken lines k x lt is))
+      (tells_added old new newest last id clause formula earlier hints h above step')
 
-pub line_deleted : (old new : Lives) (newest last : ℕ) (formula : List (List Literal)) (lines : List Line) (k : ℕ) (x : Line) (ids : List ℕ) → k < length lines → x ≡ get_or lines k x
-    → plain_line x ≡ delete ids → TellsFirst old newest last formula (plain_lines (take k lines)) → EndsThose ids k old new
-    → TellsFirst new newest last formula (plain_lines (take (k + 1) lines))
-line_deleted old new newest last formula lines k x ids lt is deletes h step =
-    let earlier = plain_lines (take k lines) in
-    let len : k ≡ length earlier = sym (length_taken lines k (omega arith)) in
-    subst (TellsFirst new newest last formula) (ap (λ (l : ProofLine). earlier ++ l ∷ []) (sym deletes) ∙ sym (plain_taken lines k x lt is))
-    (tells_deleted old new newest last formula earlier ids h (subst (λ (n : ℕ). EndsThose ids n old new) len step))
+  pub line_deleted : (old new : Lives) (newest last : ℕ) (formula : List (List Literal)) (lines : List Row) (k : ℕ) (x : Row) (ids : List ℕ) → k < length lines → x ≡ get_or lines k x
+      → row_line proof x ≡ delete ids → TellsFirst old newest last formula (row_lines proof (take k lines)) → EndsThose ids k old new
+      → TellsFirst new newest last formula (row_lines proof (take (k + 1) lines))
+  line_deleted old new newest last formula lines k x ids lt is deletes h step =
+      let earlier = row_lines proof (take k lines) in
+      let len : k ≡ length earlier = sym (length_taken lines k (omega arith)) in
+      subst (TellsFirst new newest last formula) (ap (λ (l : ProofLine). earlier ++ l ∷ []) (sym deletes) ∙ sym (rows_taken lines k x lt is))
+      (tells_deleted old new newest last formula earlier ids h (subst (λ (n : ℕ). EndsThose ids n old new) len step))
 
--- an id that isn't new
-pub line_stops : (lives : Lives) (newest id : ℕ) (clause : List Literal) (formula : List (List Literal)) (lines : List Line) (k : ℕ) (x : Line) (hints : List ℤ) → k < length lines → x ≡ get_or lines k x
-    → plain_line x ≡ add id clause hints → TellsFirst lives newest (length lines) formula (plain_lines (take k lines)) → id ≤ newest
-    → TellsLives (record { lives = lives; ordered = k }) formula (plain_lines lines)
-line_stops lives newest id clause formula lines k x hints lt is adds h low =
-    let long : length (plain_lines lines) ≡ length lines = length-map lines plain_line in
-    let cut : plain_lines (take k lines) ≡ take k (plain_lines lines) = sym (take-map plain_line k lines) in
-    let here : TellsFirst lives newest (length lines) formula (take k (plain_lines lines)) = subst (TellsFirst lives newest (length lines) formula) cut h in
-    tells_all lives newest (length lines) formula (plain_lines lines) k here (omega arith) (sym long)
-    (λ line below same.
-    let it : line ≡ add id clause hints = same ∙ get_plain lines k x line lt is ∙ adds in
-    let old : ltb newest id ≡ false = grind (arith, nat_tests) in
-    ap (has_new_id formula (take k (plain_lines lines))) it ∙ here.newest_id id ∙ old)
+  -- an id that isn't new
+  pub line_stops : (lives : Lives) (newest id : ℕ) (clause : List Literal) (formula : List (List Literal)) (lines : List Row) (k : ℕ) (x : Row) (hints : List ℤ) → k < length lines → x ≡ get_or lines k x
+      → row_line proof x ≡ add id clause hints → TellsFirst lives newest (length lines) formula (row_lines proof (take k lines)) → id ≤ newest
+      → TellsLives (record { lives = lives; ordered = k }) formula (row_lines proof lines)
+  line_stops lives newest id clause formula lines k x hints lt is adds h low =
+      let long : length (row_lines proof lines) ≡ length lines = length-map lines (row_line proof) in
+      let cut : row_lines proof (take k lines) ≡ take k (row_lines proof lines) = sym (take-map (row_line proof) k lines) in
+      let here : TellsFirst lives newest (length lines) formula (take k (row_lines proof lines)) = subst (TellsFirst lives newest (length lines) formula) cut h in
+      tells_all lives newest (length lines) formula (row_lines proof lines) k here (omega arith) (sym long)
+      (λ line below same.
+      let it : line ≡ add id clause hints = same ∙ get_plain lines k x line lt is ∙ adds in
+      let old : ltb newest id ≡ false = grind (arith, nat_tests) in
+      ap (has_new_id formula (take k (row_lines proof lines))) it ∙ here.newest_id id ∙ old)
 
--- all ids are new
-pub line_ends : (lives : Lives) (newest : ℕ) (formula : List (List Literal)) (lines : List Line) (k : ℕ) → length lines ≤ k
-    → TellsFirst lives newest (length lines) formula (plain_lines (take k lines)) → TellsLives (record { lives = lives; ordered = length lines }) formula (plain_lines lines)
-line_ends lives newest formula lines k le h =
-    let long : length (plain_lines lines) ≡ length lines = length-map lines plain_line in
-    let all : plain_lines (take k lines) ≡ take (length lines) (plain_lines lines) = ap plain_lines (take_all k lines le) ∙ sym (take_all (length lines) (plain_lines lines) (omega arith)) in
-    tells_all lives newest (length lines) formula (plain_lines lines) (length lines) (subst (TellsFirst lives newest (length lines) formula) all h) (omega arith) (sym long) (λ line below same. absurd (omega arith))
+  -- all ids are new
+  pub line_ends : (lives : Lives) (newest : ℕ) (formula : List (List Literal)) (lines : List Row) (k : ℕ) → length lines ≤ k
+      → TellsFirst lives newest (length lines) formula (row_lines proof (take k lines)) → TellsLives (record { lives = lives; ordered = length lines }) formula (row_lines proof lines)
+  line_ends lives newest formula lines k le h =
+      let long : length (row_lines proof lines) ≡ length lines = length-map lines (row_line proof) in
+      let all : row_lines proof (take k lines) ≡ take (length lines) (row_lines proof lines) = ap (row_lines proof) (take_all k lines le) ∙ sym (take_all (length lines) (row_lines proof lines) (omega arith)) in
+      tells_all lives newest (length lines) formula (row_lines proof lines) (length lines) (subst (TellsFirst lives newest (length lines) formula) all h) (omega arith) (sym long) (λ line below same. absurd (omega arith))
 
--- ---- one line
+  -- ---- one line
 
--- what is accepted where earlier lines left these clauses live is what is valid
-accepted_is : (formula : List (List Literal)) (earlier : List ProofLine) (line : ProofLine) → is_accepted (has_new_id formula earlier line) (live_behind formula earlier) line ≡ is_valid_line formula earlier line
-accepted_is formula earlier (add id clause hints) = refl
-accepted_is formula earlier (delete ids) = refl
+  -- what is accepted where earlier lines left these clauses live is what is valid
+  accepted_is : (formula : List (List Literal)) (earlier : List ProofLine) (line : ProofLine) → is_accepted (has_new_id formula earlier line) (live_behind formula earlier) line ≡ is_valid_line formula earlier line
+  accepted_is formula earlier (add id clause hints) = refl
+  accepted_is formula earlier (delete ids) = refl
 
-new_where_valid : (formula : List (List Literal)) (earlier : List ProofLine) (line : ProofLine) → is_valid_line formula earlier line ≡ true → has_new_id formula earlier line ≡ true
-new_where_valid formula earlier (add id clause hints) e = and_left (has_new_id formula earlier (add id clause hints)) (is_shown_by clause (hinted_clauses (live_behind formula earlier) hints)) e
-new_where_valid formula earlier (delete ids) e = refl
+  new_where_valid : (formula : List (List Literal)) (earlier : List ProofLine) (line : ProofLine) → is_valid_line formula earlier line ≡ true → has_new_id formula earlier line ≡ true
+  new_where_valid formula earlier (add id clause hints) e = and_left (has_new_id formula earlier (add id clause hints)) (is_shown_by clause (hinted_clauses (live_behind formula earlier) hints)) e
+  new_where_valid formula earlier (delete ids) e = refl
 
--- what a calendar tells where lines are cut
-at_cut : (calendar : Calendar) (formula : List (List Literal)) (lines earlier : List ProofLine) (line : ProofLine) (later : List ProofLine) (k : ℕ)
-    → TellsLives calendar formula lines → lines ≡ earlier ++ line ∷ later → length earlier ≡ k → k ≤ calendar.ordered
-    → KeepsLive calendar.lives k (live_behind formula earlier) × (has_new_id formula earlier line ≡ ltb k calendar.ordered)
-at_cut calendar formula lines earlier line later k tells cut len le =
-    let here : TellsLives calendar formula (earlier ++ line ∷ later) = subst (TellsLives calendar formula) cut tells in
-    let before : take k (earlier ++ line ∷ later) ≡ earlier = take_at earlier (line ∷ later) k len in
-    let inside : k < length (earlier ++ line ∷ later) = omega (arith, length-append earlier (line ∷ later)) in (
-      subst (λ (ls : List ProofLine). KeepsLive calendar.lives k (live_behind formula ls)) before (here.live k le inside),
-      sym (ap (λ (ls : List ProofLine). has_new_id formula ls line) before) ∙ here.new k line le inside (sym (get_or_at earlier line later line k len)),
-    )
+  -- what a calendar tells where lines are cut
+  at_cut : (calendar : Calendar) (formula : List (List Literal)) (lines earlier : List ProofLine) (line : ProofLine) (later : List ProofLine) (k : ℕ)
+      → TellsLives calendar formula lines → lines ≡ earlier ++ line ∷ later → length earlier ≡ k → k ≤ calendar.ordered
+      → KeepsLive calendar.lives k (live_behind formula earlier) × (has_new_id formula earlier line ≡ ltb k calendar.ordered)
+  at_cut calendar formula lines earlier line later k tells cut len le =
+      let here : TellsLives calendar formula (earlier ++ line ∷ later) = subst (TellsLives calendar formula) cut tells in
+      let before : take k (earlier ++ line ∷ later) ≡ earlier = take_at earlier (line ∷ later) k len in
+      let inside : k < length (earlier ++ line ∷ later) = omega (arith, length-append earlier (line ∷ later)) in (
+        subst (λ (ls : List ProofLine). KeepsLive calendar.lives k (live_behind formula ls)) before (here.live k le inside),
+        sym (ap (λ (ls : List ProofLine). has_new_id formula ls line) before) ∙ here.new k line le inside (sym (get_or_at earlier line later line k len)),
+      )
 
--- ---- a part
+  -- ---- a part
 
--- The first lines of a part are valid: the first bad one is one of those that are left.
-pub record GoesOn (calendar : Calendar) (formula : List (List Literal)) (before : List ProofLine) (start : ℕ) (part : List Line) (k : ℕ) : Type 0 where
-  pub same : first_bad formula before (plain_lines part) ≡ first_bad formula (before ++ plain_lines (take k part)) (plain_lines (drop k part))
-  pub within : start + k ≤ calendar.ordered
+  -- The first lines of a part are valid: the first bad one is one of those that are left.
+  pub record GoesOn (calendar : Calendar) (formula : List (List Literal)) (before : List ProofLine) (start : ℕ) (part : List Row) (k : ℕ) : Type 0 where
+    pub same : first_bad formula before (row_lines proof part) ≡ first_bad formula (before ++ row_lines proof (take k part)) (row_lines proof (drop k part))
+    pub within : start + k ≤ calendar.ordered
 
--- for each formula, and whatever stands around the part
-abbrev pub PartGoesOn : Calendar → ℕ → List Line → ℕ → Type 0
-PartGoesOn calendar start part k =
-    (formula : List (List Literal)) (before after : List ProofLine)
-    → TellsLives calendar formula ((before ++ plain_lines part) ++ after) → length before ≡ start → start ≤ calendar.ordered
-    → GoesOn calendar formula before start part k
+  -- for each formula, and whatever stands around the part
+  abbrev pub PartGoesOn : Calendar → ℕ → List Row → ℕ → Type 0
+  PartGoesOn calendar start part k =
+      (formula : List (List Literal)) (before after : List ProofLine)
+      → TellsLives calendar formula ((before ++ row_lines proof part) ++ after) → length before ≡ start → start ≤ calendar.ordered
+      → GoesOn calendar formula before start part k
 
-pub part_begins : (calendar : Calendar) (start : ℕ) (part : List Line) → PartGoesOn calendar start part 0
-part_begins calendar start part formula before after tells len le = record {
-  same = ap (λ (ls : List ProofLine). first_bad formula ls (plain_lines part)) (sym (append-nil before));
-  within = omega arith;
-}
+  pub part_begins : (calendar : Calendar) (start : ℕ) (part : List Row) → PartGoesOn calendar start part 0
+  part_begins calendar start part formula before after tells len le = record {
+    same = ap (λ (ls : List ProofLine). first_bad formula ls (row_lines proof part)) (sym (append-nil before));
+    within = omega arith;
+  }
 
--- the place of a line in the whole
-cut_there : (before after : List ProofLine) (part : List Line) (k : ℕ) (x : Line) → k < length part → x ≡ get_or part k x
-    → (before ++ plain_lines part) ++ after ≡ (before ++ plain_lines (take k part)) ++ plain_line x ∷ (plain_lines (drop (k + 1) part) ++ after)
-cut_there before after part k x lt is =
-    let parts : plain_lines part ≡ plain_lines (take k part) ++ plain_line x ∷ plain_lines (drop (k + 1) part)
-    = sym (plain_split part k) ∙ ap (λ (ls : List ProofLine). plain_lines (take k part) ++ ls) (plain_left part k x lt is) in
-    append_assoc before (plain_lines part) after
-    ∙ ap (λ (ls : List ProofLine). before ++ (ls ++ after)) parts
-    ∙ ap (λ (ls : List ProofLine). before ++ ls) (append_assoc (plain_lines (take k part)) (plain_line x ∷ plain_lines (drop (k + 1) part)) after)
-    ∙ sym (append_assoc before (plain_lines (take k part)) (plain_line x ∷ (plain_lines (drop (k + 1) part) ++ after)))
+  -- the place of a line in the whole
+  cut_there : (before after : List ProofLine) (part : List Row) (k : ℕ) (x : Row) → k < length part → x ≡ get_or part k x
+      → (before ++ row_lines proof part) ++ after ≡ (before ++ row_lines proof (take k part)) ++ row_line proof x ∷ (row_lines proof (drop (k + 1) part) ++ after)
+  cut_there before after part k x lt is =
+      let parts : row_lines proof part ≡ row_lines proof (take k part) ++ row_line proof x ∷ row_lines proof (drop (k + 1) part)
+      = sym (rows_split part k) ∙ ap (λ (ls : List ProofLine). row_lines proof (take k part) ++ ls) (rows_left part k x lt is) in
+      append_assoc before (row_lines proof part) after
+      ∙ ap (λ (ls : List ProofLine). before ++ (ls ++ after)) parts
+      ∙ ap (λ (ls : List ProofLine). before ++ ls) (append_assoc (row_lines proof (take k part)) (row_line proof x ∷ row_lines proof (drop (k + 1) part)) after)
+      ∙ sym (append_assoc before (row_lines proof (take k part)) (row_line proof x ∷ (row_lines proof (drop (k + 1) part) ++ after)))
 
-length_there : (before : List ProofLine) (part : List Line) (k start : ℕ) → k < length part → length before ≡ start → length (before ++ plain_lines (take k part)) ≡ start + k
-length_there before part k start lt len =
-    omega (arith, length-append before (plain_lines (take k part)), length-map (take k part) plain_line, length-take-le k part (omega arith))
+  length_there : (before : List ProofLine) (part : List Row) (k start : ℕ) → k < length part → length before ≡ start → length (before ++ row_lines proof (take k part)) ≡ start + k
+  length_there before part k start lt len =
+      omega (arith, length-append before (row_lines proof (take k part)), length-map (take k part) (row_line proof), length-take-le k part (omega arith))
 
--- whether the next line of a part is valid, as the calendar tells it
-valid_is : (calendar : Calendar) (formula : List (List Literal)) (before after : List ProofLine) (start : ℕ) (part : List Line) (k : ℕ) (x : Line) (valid : Bool)
-    → k < length part → x ≡ get_or part k x
-    → TellsLives calendar formula ((before ++ plain_lines part) ++ after) → length before ≡ start → start + k ≤ calendar.ordered
-    → ((live : List Live) → KeepsLive calendar.lives (start + k) live → valid ≡ is_accepted (ltb (start + k) calendar.ordered) live (plain_line x))
-    → (valid ≡ is_valid_line formula (before ++ plain_lines (take k part)) (plain_line x)) × (has_new_id formula (before ++ plain_lines (take k part)) (plain_line x) ≡ ltb (start + k) calendar.ordered)
-valid_is calendar formula before after start part k x valid lt is tells len le step =
-    let earlier = before ++ plain_lines (take k part) in
-    let at = at_cut calendar formula ((before ++ plain_lines part) ++ after) earlier (plain_line x) (plain_lines (drop (k + 1) part) ++ after) (start + k) tells
-    (cut_there before after part k x lt is) (length_there before part k start lt len) le in (
-      step (live_behind formula earlier) at.0 ∙ sym (ap (λ b. is_accepted b (live_behind formula earlier) (plain_line x)) at.1) ∙ accepted_is formula earlier (plain_line x),
-      at.1,
-    )
+  -- whether the next line of a part is valid, as the calendar tells it
+  valid_is : (calendar : Calendar) (formula : List (List Literal)) (before after : List ProofLine) (start : ℕ) (part : List Row) (k : ℕ) (x : Row) (valid : Bool)
+      → k < length part → x ≡ get_or part k x
+      → TellsLives calendar formula ((before ++ row_lines proof part) ++ after) → length before ≡ start → start + k ≤ calendar.ordered
+      → ((live : List Live) → KeepsLive calendar.lives (start + k) live → valid ≡ is_accepted (ltb (start + k) calendar.ordered) live (row_line proof x))
+      → (valid ≡ is_valid_line formula (before ++ row_lines proof (take k part)) (row_line proof x)) × (has_new_id formula (before ++ row_lines proof (take k part)) (row_line proof x) ≡ ltb (start + k) calendar.ordered)
+  valid_is calendar formula before after start part k x valid lt is tells len le step =
+      let earlier = before ++ row_lines proof (take k part) in
+      let at = at_cut calendar formula ((before ++ row_lines proof part) ++ after) earlier (row_line proof x) (row_lines proof (drop (k + 1) part) ++ after) (start + k) tells
+      (cut_there before after part k x lt is) (length_there before part k start lt len) le in (
+        step (live_behind formula earlier) at.0 ∙ sym (ap (λ b. is_accepted b (live_behind formula earlier) (row_line proof x)) at.1) ∙ accepted_is formula earlier (row_line proof x),
+        at.1,
+      )
 
-pub part_goes_on : (calendar : Calendar) (start : ℕ) (part : List Line) (k : ℕ) (x : Line) (valid : Bool) → k < length part → x ≡ get_or part k x
-    → PartGoesOn calendar start part k
-    → ((live : List Live) → KeepsLive calendar.lives (start + k) live → valid ≡ is_accepted (ltb (start + k) calendar.ordered) live (plain_line x)) → valid ≡ true
-    → PartGoesOn calendar start part (k + 1)
-part_goes_on calendar start part k x valid lt is h step good formula before after tells len le =
-    let g = h formula before after tells len le in
-    let v = valid_is calendar formula before after start part k x valid lt is tells len g.within step in
-    let earlier = before ++ plain_lines (take k part) in
-    let ok : is_valid_line formula earlier (plain_line x) ≡ true = sym v.0 ∙ good in
-    let small : ltb (start + k) calendar.ordered ≡ true = sym v.1 ∙ new_where_valid formula earlier (plain_line x) ok in
-    let below : start + k < calendar.ordered = ltb-true _ _ small in
-    let longer : earlier ++ plain_line x ∷ [] ≡ before ++ plain_lines (take (k + 1) part)
-    = append_assoc before (plain_lines (take k part)) (plain_line x ∷ []) ∙ ap (λ (ls : List ProofLine). before ++ ls) (sym (plain_taken part k x lt is)) in
-    record {
-      same = g.same ∙ ap (first_bad formula earlier) (plain_left part k x lt is) ∙ rw ok refl ∙ ap (λ (ls : List ProofLine). first_bad formula ls (plain_lines (drop (k + 1) part))) longer;
-      within = omega arith;
-    }
+  pub part_goes_on : (calendar : Calendar) (start : ℕ) (part : List Row) (k : ℕ) (x : Row) (valid : Bool) → k < length part → x ≡ get_or part k x
+      → PartGoesOn calendar start part k
+      → ((live : List Live) → KeepsLive calendar.lives (start + k) live → valid ≡ is_accepted (ltb (start + k) calendar.ordered) live (row_line proof x)) → valid ≡ true
+      → PartGoesOn calendar start part (k + 1)
+  part_goes_on calendar start part k x valid lt is h step good formula before after tells len le =
+      let g = h formula before after tells len le in
+      let v = valid_is calendar formula before after start part k x valid lt is tells len g.within step in
+      let earlier = before ++ row_lines proof (take k part) in
+      let ok : is_valid_line formula earlier (row_line proof x) ≡ true = sym v.0 ∙ good in
+      let small : ltb (start + k) calendar.ordered ≡ true = sym v.1 ∙ new_where_valid formula earlier (row_line proof x) ok in
+      let below : start + k < calendar.ordered = ltb-true _ _ small in
+      let longer : earlier ++ row_line proof x ∷ [] ≡ before ++ row_lines proof (take (k + 1) part)
+      = append_assoc before (row_lines proof (take k part)) (row_line proof x ∷ []) ∙ ap (λ (ls : List ProofLine). before ++ ls) (sym (rows_taken part k x lt is)) in
+      record {
+        same = g.same ∙ ap (first_bad formula earlier) (rows_left part k x lt is) ∙ rw ok refl ∙ ap (λ (ls : List ProofLine). first_bad formula ls (row_lines proof (drop (k + 1) part))) longer;
+        within = omega arith;
+      }
 
-pub part_stops : (calendar : Calendar) (start : ℕ) (part : List Line) (k : ℕ) (x : Line) (valid : Bool) → k < length part → x ≡ get_or part k x
-    → PartGoesOn calendar start part k
-    → ((live : List Live) → KeepsLive calendar.lives (start + k) live → valid ≡ is_accepted (ltb (start + k) calendar.ordered) live (plain_line x)) → valid ≡ false
-    → FindsBad calendar start (plain_lines part) (Some (start + k + 1))
-part_stops calendar start part k x valid lt is h step bad formula before after tells len le =
-    let g = h formula before after tells len le in
-    let v = valid_is calendar formula before after start part k x valid lt is tells len g.within step in
-    let earlier = before ++ plain_lines (take k part) in
-    let no : is_valid_line formula earlier (plain_line x) ≡ false = sym v.0 ∙ bad in
-    let place : length earlier ≡ start + k = length_there before part k start lt len in
-    let found : first_bad formula before (plain_lines part) ≡ Some (length earlier + 1) = g.same ∙ ap (first_bad formula earlier) (plain_left part k x lt is) ∙ rw no refl in
-    (sym (found ∙ ap (λ (n : ℕ). Some (n + 1)) place), λ none. absurd cc)
+  pub part_stops : (calendar : Calendar) (start : ℕ) (part : List Row) (k : ℕ) (x : Row) (valid : Bool) → k < length part → x ≡ get_or part k x
+      → PartGoesOn calendar start part k
+      → ((live : List Live) → KeepsLive calendar.lives (start + k) live → valid ≡ is_accepted (ltb (start + k) calendar.ordered) live (row_line proof x)) → valid ≡ false
+      → FindsBad calendar start (row_lines proof part) (Some (start + k + 1))
+  part_stops calendar start part k x valid lt is h step bad formula before after tells len le =
+      let g = h formula before after tells len le in
+      let v = valid_is calendar formula before after start part k x valid lt is tells len g.within step in
+      let earlier = before ++ row_lines proof (take k part) in
+      let no : is_valid_line formula earlier (row_line proof x) ≡ false = sym v.0 ∙ bad in
+      let place : length earlier ≡ start + k = length_there before part k start lt len in
+      let found : first_bad formula before (row_lines proof part) ≡ Some (length earlier + 1) = g.same ∙ ap (first_bad formula earlier) (rows_left part k x lt is) ∙ rw no refl in
+      (sym (found ∙ ap (λ (n : ℕ). Some (n + 1)) place), λ none. absurd cc)
 
-pub part_ends : (calendar : Calendar) (start : ℕ) (part : List Line) (k : ℕ) → length part ≤ k → PartGoesOn calendar start part k → FindsBad calendar start (plain_lines part) None
-part_ends calendar start part k le h formula before after tells len from =
-    let g = h formula before after tells len from in (
-      sym (g.same ∙ ap (λ (ls : List Line). first_bad formula (before ++ plain_lines (take k part)) (plain_lines ls)) (drop_all k part le)),
-      λ none. let within = g.within in omega (arith, length-map part plain_line),
-    )
+  pub part_ends : (calendar : Calendar) (start : ℕ) (part : List Row) (k : ℕ) → length part ≤ k → PartGoesOn calendar start part k → FindsBad calendar start (row_lines proof part) None
+  part_ends calendar start part k le h formula before after tells len from =
+      let g = h formula before after tells len from in (
+        sym (g.same ∙ ap (λ (ls : List Row). first_bad formula (before ++ row_lines proof (take k part)) (row_lines proof ls)) (drop_all k part le)),
+        λ none. let within = g.within in omega (arith, length-map part (row_line proof)),
+      )
 
 -- ---- parts in order
 
@@ -339,37 +341,37 @@ found_from calendar formula lines size n (Ok None ∷ found) bad tells each from
         ]
 
 -- what was found in a chunk as `chunks` cuts it
-pub in_chunk : (calendar : Calendar) (lines chunk : List Line) (size start : ℕ) (r : Result (Option ℕ) Memory) → IsChunk lines size start chunk → IfOk r (λ b. FindsBad calendar start (plain_lines chunk) b)
-    → (start < length lines) × IfOk r (λ b. FindsBad calendar start (plain_lines (take size (drop start lines))) b)
-in_chunk calendar lines chunk size start r is h =
+pub in_chunk : (proof : FlatProof) (calendar : Calendar) (lines chunk : List Row) (size start : ℕ) (r : Result (Option ℕ) Memory) → IsChunk lines size start chunk → IfOk r (λ b. FindsBad calendar start (row_lines proof chunk) b)
+    → (start < length lines) × IfOk r (λ b. FindsBad calendar start (row_lines proof (take size (drop start lines))) b)
+in_chunk proof calendar lines chunk size start r is h =
     let some = is.nonempty in
     let inside = is.in_bounds in
-    (omega (arith, some, inside), subst (λ (ls : List Line). IfOk r (λ b. FindsBad calendar start (plain_lines ls) b)) is.value h)
+    (omega (arith, some, inside), subst (λ (ls : List Row). IfOk r (λ b. FindsBad calendar start (row_lines proof ls) b)) is.value h)
 
 -- the first bad line of all
-pub found_in_all : (calendar : Calendar) (formula : List (List Literal)) (lines : List Line) (size : ℕ) (found : List (Result (Option ℕ) Memory)) (bad : Option ℕ)
-    → TellsLives calendar formula (plain_lines lines) → 0 < size → length found ≡ length lines / size + min 1 (length lines % size)
-    → ((i : ℕ) (d : Result (Option ℕ) Memory) → i < length found → (i * size < length lines) × IfOk (get_or found i d) (λ b. FindsBad calendar (i * size) (plain_lines (take size (drop (i * size) lines))) b))
-    → Ok bad ≡ first_found found → bad ≡ first_bad formula [] (plain_lines lines)
-found_in_all calendar formula lines size found bad tells positive count each e =
-    let long : length (plain_lines lines) ≡ length lines = length-map lines plain_line in
+pub found_in_all : (proof : FlatProof) (calendar : Calendar) (formula : List (List Literal)) (lines : List Row) (size : ℕ) (found : List (Result (Option ℕ) Memory)) (bad : Option ℕ)
+    → TellsLives calendar formula (row_lines proof lines) → 0 < size → length found ≡ length lines / size + min 1 (length lines % size)
+    → ((i : ℕ) (d : Result (Option ℕ) Memory) → i < length found → (i * size < length lines) × IfOk (get_or found i d) (λ b. FindsBad calendar (i * size) (row_lines proof (take size (drop (i * size) lines))) b))
+    → Ok bad ≡ first_found found → bad ≡ first_bad formula [] (row_lines proof lines)
+found_in_all proof calendar formula lines size found bad tells positive count each e =
+    let long : length (row_lines proof lines) ≡ length lines = length-map lines (row_line proof) in
     let start : 0 * size ≡ 0 = zero-mul size in
     let all = covers_all (length found) (length lines) size positive count in
-    subst (λ (n : ℕ). bad ≡ first_bad formula (take n (plain_lines lines)) (drop n (plain_lines lines))) start
-    (found_from calendar formula (plain_lines lines) size 0 found bad tells
+    subst (λ (n : ℕ). bad ≡ first_bad formula (take n (row_lines proof lines)) (drop n (row_lines proof lines))) start
+    (found_from calendar formula (row_lines proof lines) size 0 found bad tells
     (λ i d l.
     let h = each i d l in
-    let part : plain_lines (take size (drop (i * size) lines)) ≡ take size (drop (i * size) (plain_lines lines))
-    = sym (take-map plain_line size (drop (i * size) lines)) ∙ ap (take size) (sym (drop_map lines (i * size))) in
-    let there : IfOk (get_or found i d) (λ b. FindsBad calendar (i * size) (take size (drop (i * size) (plain_lines lines))) b)
+    let part : row_lines proof (take size (drop (i * size) lines)) ≡ take size (drop (i * size) (row_lines proof lines))
+    = sym (take-map (row_line proof) size (drop (i * size) lines)) ∙ ap (take size) (sym (drop_map lines (i * size))) in
+    let there : IfOk (get_or found i d) (λ b. FindsBad calendar (i * size) (take size (drop (i * size) (row_lines proof lines))) b)
     = subst (λ (ls : List ProofLine). IfOk (get_or found i d) (λ b. FindsBad calendar (i * size) ls b)) part h.1 in
-    subst (λ (m : ℕ). (m * size < length (plain_lines lines)) × IfOk (get_or found i d) (IsFoundAt calendar size (plain_lines lines) m)) (zero_plus i) (omega arith, there))
-    (inl (omega arith)) (subst (λ (m : ℕ). length (plain_lines lines) ≤ m * size) (zero_plus (length found)) (omega arith)) e)
+    subst (λ (m : ℕ). (m * size < length (row_lines proof lines)) × IfOk (get_or found i d) (IsFoundAt calendar size (row_lines proof lines) m)) (zero_plus i) (omega arith, there))
+    (inl (omega arith)) (subst (λ (m : ℕ). length (row_lines proof lines) ≤ m * size) (zero_plus (length found)) (omega arith)) e)
   where
     zero_plus : (n : ℕ) → n ≡ 0 + n
     zero_plus n = omega arith
 
-    drop_map : (xs : List Line) (n : ℕ) → drop n (plain_lines xs) ≡ plain_lines (drop n xs)
+    drop_map : (xs : List Row) (n : ℕ) → drop n (row_lines proof xs) ≡ row_lines proof (drop n xs)
     drop_map xs zero = refl
     drop_map [] (suc n) = refl
     drop_map (x ∷ xs) (suc n) = drop_map xs n
@@ -401,11 +403,11 @@ found_end found k le so_far = sym (ap first_found (drop_all k found le)) ∙ so_
 
 -- ---- the verdict
 
-pub verdict_is : (formula : List (List Literal)) (lines : List Line) (bad : Option ℕ) → bad ≡ first_bad formula [] (plain_lines lines)
-    → verdict_from bad (list_any is_empty_clause formula || list_any (λ line. adds_empty_clause (plain_line line)) lines) ≡ verdict_of formula (plain_lines lines)
-verdict_is formula lines bad e =
-    ap (λ (o : Option ℕ). verdict_from o (list_any is_empty_clause formula || list_any (λ line. adds_empty_clause (plain_line line)) lines)) e
-    ∙ ap (λ b. verdict_from (first_bad formula [] (plain_lines lines)) (list_any is_empty_clause formula || b)) (sym (list_any_map adds_empty_clause plain_line lines))
+pub verdict_is : (proof : FlatProof) (formula : List (List Literal)) (lines : List Row) (bad : Option ℕ) → bad ≡ first_bad formula [] (row_lines proof lines)
+    → verdict_from bad (list_any is_empty_clause formula || list_any (λ line. adds_empty_clause (row_line proof line)) lines) ≡ verdict_of formula (row_lines proof lines)
+verdict_is proof formula lines bad e =
+    ap (λ (o : Option ℕ). verdict_from o (list_any is_empty_clause formula || list_any (λ line. adds_empty_clause (row_line proof line)) lines)) e
+    ∙ ap (λ b. verdict_from (first_bad formula [] (row_lines proof lines)) (list_any is_empty_clause formula || b)) (sym (list_any_map adds_empty_clause (row_line proof) lines))
 
 -- the whole as one part
 pub found_in_whole : (calendar : Calendar) (formula : List (List Literal)) (lines : List ProofLine) (bad : Option ℕ) → TellsLives calendar formula lines → FindsBad calendar 0 lines bad → bad ≡ first_bad formula [] lines

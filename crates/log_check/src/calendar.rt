@@ -1,19 +1,21 @@
 //! The lines of a proof at which clauses are live.
 
 ghost use Rattle.std.specs.Prelude.{◌≡◌, ◌+◌, ◌<◌, ◌^◌, ℕ, nat_eq, if◌then◌else◌, None, Some, OnOk, IfOk, option_copied, length, []};
-ghost use Rattle.cnf_core.specs.Lines.{plain_lines};
+ghost use Rattle.sat_proof.specs.Lines.{proof_lines};
+ghost use Rattle.sat_proof.specs.Lists.{lists_of};
 ghost use Rattle.log_check.specs.Lives.{EndsThose, clause_at, ended, life_of};
 ghost use Rattle.log_check.specs.Parts.{TellsFirst, TellsLives};
 
-use cnf_core::{Clause, Line};
+use cnf_core::{Clause, Lit};
 use ep_base::Memory;
+use sat_proof::{Line, Lists, Proof};
 use std::alloc::Global;
 use std::collections::HashMap;
 
 /// A clause, and the lines at which it is live, counted from 0: from one on, up to another.
 #[derive(Clone, Copy)]
 pub struct Life<'a> {
-    clause: &'a Clause,
+    clause: &'a [Lit],
     from: usize,
     until: usize,
 }
@@ -60,7 +62,7 @@ impl<'a> Lives<'a> {
     }
 
     /// The clause that is live under an id at a line.
-    pub(crate) fn clause_at(&self, line: usize, id: u64) -> Option<&'a Clause>
+    pub(crate) fn clause_at(&self, line: usize, id: u64) -> Option<&'a [Lit]>
         ensures { option_copied result ≡ clause_at (life_of self.now id) line }
     {
         let life = self.life(id)?;
@@ -107,32 +109,44 @@ pub struct Calendar<'a> {
     pub(crate) ordered: usize,
 }
 
+/// The clauses of a formula side by side, as a check reads them again and again.
+pub(crate) fn side_by_side(alloc: Global, clauses: &[Clause]) -> Result<Lists, Memory>
+    ensures { IfOk result (λ lists. lists_of lists ≡ clauses.now) }
+{
+    let mut lists = Lists::new(alloc);
+    for clause in clauses {
+        lists.push(clause.lits())?;
+    }
+    Ok(lists)
+}
+
 /// How many ids get a place of their own: those up to the greatest, where it isn't far above the
 /// number of clauses.
-fn places(clauses: &[Clause], lines: &[Line]) -> usize {
-    let mut greatest = clauses.len();
-    for line in lines {
-        if let Line::Add { id, .. } = line {
-            greatest = greatest.max(*id as usize);
+fn places(clauses: usize, proof: &Proof) -> usize {
+    let mut greatest = clauses;
+    for row in proof.rows() {
+        if let Line::Add { id, .. } = proof.line(row) {
+            greatest = greatest.max(id as usize);
         }
     }
-    let most = clauses.len().saturating_add(lines.len()).saturating_mul(4);
+    let most = clauses.saturating_add(proof.rows().len()).saturating_mul(4);
     greatest.min(most).saturating_add(1)
 }
 
 /// The lives of a formula's clauses, which have the ids from 1 on, up to the end of so many lines.
 fn lives_of_formula<'a>(
     alloc: Global,
-    clauses: &'a [Clause],
+    clauses: &'a Lists,
     places: usize,
     until: usize,
 ) -> Result<Lives<'a>, Memory>
-    ensures { IfOk result (λ lives. TellsFirst lives (length clauses.now) until clauses.now []) }
+    ensures { IfOk result (λ lives. TellsFirst lives (length (lists_of clauses.now)) until (lists_of clauses.now) []) }
 {
     let mut lives = Lives::new(alloc, places)?;
-    for (index, clause) in clauses.iter().enumerate() {
+    let spans = clauses.spans();
+    for (index, span) in spans.iter().enumerate() {
         let life = Life {
-            clause,
+            clause: clauses.list(span),
             from: 0,
             until,
         };
@@ -147,18 +161,20 @@ impl<'a> Calendar<'a> {
     /// Costs the clauses, the lines and the ids that are deleted.
     pub(crate) fn new(
         alloc: Global,
-        clauses: &'a [Clause],
-        lines: &'a [Line],
+        clauses: &'a Lists,
+        proof: &'a Proof,
     ) -> Result<Calendar<'a>, Memory>
-        ensures { IfOk result (λ c. TellsLives c clauses.now (plain_lines lines.now)) }
+        ensures { IfOk result (λ c. TellsLives c (lists_of clauses.now) (proof_lines proof.now)) }
     {
-        let until = lines.len();
-        let mut lives = lives_of_formula(alloc, clauses, places(clauses, lines), until)?;
-        let mut newest = clauses.len() as u64;
-        for (index, line) in lines.iter().enumerate() {
-            match line {
+        let rows = proof.rows();
+        let until = rows.len();
+        let given = clauses.spans().len();
+        let mut lives = lives_of_formula(alloc, clauses, places(given, proof), until)?;
+        let mut newest = given as u64;
+        for (index, row) in rows.iter().enumerate() {
+            match proof.line(row) {
                 Line::Add { id, clause, .. } => {
-                    if *id <= newest {
+                    if id <= newest {
                         let ordered = index;
                         return Ok(Calendar { lives, ordered });
                     }
@@ -167,8 +183,8 @@ impl<'a> Calendar<'a> {
                         from: index + 1,
                         until,
                     };
-                    lives.put(*id, life)?;
-                    newest = *id;
+                    lives.put(id, life)?;
+                    newest = id;
                 }
                 Line::Delete { ids } => lives.end_all(ids, index)?,
             }

@@ -4,7 +4,7 @@
 
 ghost use Rattle.std.specs.Prelude.{◌≡◌, ◌+◌, ◌<◌, ◌≤◌, ◌^◌, ◌||◌, IfOk, length};
 ghost use Rattle.std.specs.List.{list_any};
-ghost use Rattle.cnf_core.specs.Lines.{plain_line, plain_lines};
+ghost use Rattle.sat_proof.specs.Lines.{plain_line, proof_lines, row_line, row_lines};
 ghost use Rattle.log_check.specs.Parts.{FindsBad};
 ghost use Rattle.log_check.specs.Verdict.{verdict_of, verdict_from, is_empty_clause, adds_empty_clause};
 
@@ -14,11 +14,12 @@ mod parts;
 mod reading;
 mod signs;
 
-use calendar::Calendar;
-use cnf_core::{Clause, Formula, Line, Proof};
+use calendar::{Calendar, side_by_side};
+use cnf_core::{Clause, Formula};
 use ep_base::Memory;
 pub use laws::{valid_logs_are_accepted, verified_formulas_have_no_solution};
-use parts::{first_bad, least};
+use parts::{Work, first_bad, least};
+use sat_proof::{Line, Proof, Row};
 use signs::places;
 use std::alloc::Global;
 use std::thread::{Threads, map_chunks};
@@ -40,11 +41,11 @@ fn is_empty(clause: &Clause) -> bool
     clause.lits().is_empty()
 }
 
-fn adds_empty(line: &Line) -> bool
-    ensures { result ≡ adds_empty_clause (plain_line line.now) }
+fn adds_empty(line: Line) -> bool
+    ensures { result ≡ adds_empty_clause (plain_line line.entry) }
 {
     match line {
-        Line::Add { clause, .. } => is_empty(clause),
+        Line::Add { clause, .. } => clause.is_empty(),
         Line::Delete { .. } => false,
     }
 }
@@ -55,21 +56,21 @@ fn some_is_empty(clauses: &[Clause]) -> bool
     clauses.iter().any(is_empty)
 }
 
-fn some_adds_empty(lines: &[Line]) -> bool
-    ensures { result ≡ list_any (λ line. adds_empty_clause (plain_line line)) lines.now }
+fn some_adds_empty(proof: &Proof) -> bool
+    ensures { result ≡ list_any (λ row. adds_empty_clause (row_line proof.now row)) proof.now.rows }
 {
-    lines.iter().any(adds_empty)
+    proof.rows().iter().any(|row| adds_empty(proof.line(row)))
 }
 
 /// The verdict, where this is the number of the first line that isn't valid, or each line is.
-fn verdict_after(clauses: &[Clause], lines: &[Line], bad: Option<u64>) -> Verdict
+fn verdict_after(clauses: &[Clause], proof: &Proof, bad: Option<u64>) -> Verdict
     ensures { result ≡ verdict_from bad
         (list_any is_empty_clause clauses.now
-        || list_any (λ line. adds_empty_clause (plain_line line)) lines.now) }
+        || list_any (λ row. adds_empty_clause (row_line proof.now row)) proof.now.rows) }
 {
     if let Some(line) = bad {
         Verdict::BadStep(line)
-    } else if some_is_empty(clauses) || some_adds_empty(lines) {
+    } else if some_is_empty(clauses) || some_adds_empty(proof) {
         Verdict::Verified
     } else {
         Verdict::NoEmptyClause
@@ -82,13 +83,17 @@ fn verdict_after(clauses: &[Clause], lines: &[Line], bad: Option<u64>) -> Verdic
 /// A line costs the literals of its clause and of the clauses that its hints name.
 pub fn check_log(alloc: Global, f: &Formula, p: &Proof) -> Result<Verdict, Memory>
     ensures { IfOk result
-        (λ verdict. verdict ≡ verdict_of f.now.clauses (plain_lines p.now.lines.items)) }
+        (λ verdict. verdict ≡ verdict_of f.now.clauses (proof_lines p.now)) }
 {
     let clauses = f.clauses();
-    let lines = p.lines.as_slice();
-    let calendar = Calendar::new(alloc, clauses, lines)?;
-    let bad = first_bad(alloc, &calendar, places(f), 0, lines)?;
-    Ok(verdict_after(clauses, lines, bad))
+    let given = side_by_side(alloc, clauses)?;
+    let work = Work {
+        calendar: Calendar::new(alloc, &given, p)?,
+        proof: p,
+        places: places(f),
+    };
+    let bad = first_bad(alloc, &work, 0, p.rows())?;
+    Ok(verdict_after(clauses, p, bad))
 }
 
 /// Is told when the check of a chunk of a proof begins and when it ends, by the thread that does it.
@@ -126,38 +131,41 @@ pub fn check_log_parallel<R: Threads + Sync, G: Gate>(
 ) -> Result<Verdict, Memory>
     requires { (1 ≤ workers) × (workers ≤ 64) }
     ensures { IfOk result
-        (λ verdict. verdict ≡ verdict_of f.now.clauses (plain_lines p.now.lines.items)) }
+        (λ verdict. verdict ≡ verdict_of f.now.clauses (proof_lines p.now)) }
 {
     let clauses = f.clauses();
-    let lines = p.lines.as_slice();
-    let calendar = Calendar::new(alloc, clauses, lines)?;
-    let places = places(f);
-    let size = lines.len().div_ceil(workers as usize).max(1);
-    let check = |start: usize, chunk: &[Line]| -> Result<Option<u64>, Memory>
+    let rows = p.rows();
+    let given = side_by_side(alloc, clauses)?;
+    let work = Work {
+        calendar: Calendar::new(alloc, &given, p)?,
+        proof: p,
+        places: places(f),
+    };
+    let size = rows.len().div_ceil(workers as usize).max(1);
+    let check = |start: usize, chunk: &[Row]| -> Result<Option<u64>, Memory>
         requires { (0 < size) × (start + length chunk.now < 2 ^ 64) }
-    { bad_in_chunk(alloc, &calendar, places, size, gate, start, chunk) };
-    let found = map_chunks(rt, alloc, lines, size, &check)?;
+    { bad_in_chunk(alloc, &work, size, gate, start, chunk) };
+    let found = map_chunks(rt, alloc, rows, size, &check)?;
     let bad = least(&found)?;
-    Ok(verdict_after(clauses, lines, bad))
+    Ok(verdict_after(clauses, p, bad))
 }
 
 /// Checks a chunk between two calls of the gate, where all chunks but the last have this size.
 fn bad_in_chunk<G: Gate>(
     alloc: Global,
-    calendar: &Calendar,
-    places: usize,
+    work: &Work,
     size: usize,
     gate: &G,
     start: usize,
-    chunk: &[Line],
+    chunk: &[Row],
 ) -> Result<Option<u64>, Memory>
     requires size { 0 < size }
     requires room { start + length chunk.now < 2 ^ 64 }
-    ensures { IfOk result (λ bad. FindsBad calendar.now start (plain_lines chunk.now) bad) }
+    ensures { IfOk result (λ bad. FindsBad work.now.calendar start (row_lines work.now.proof.now chunk.now) bad) }
 {
     let number = (start / size) as u64;
     gate.enter(number);
-    let bad = first_bad(alloc, calendar, places, start, chunk);
+    let bad = first_bad(alloc, work, start, chunk);
     gate.leave(number);
     bad
 }

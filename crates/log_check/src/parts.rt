@@ -1,7 +1,7 @@
 //! Goes over consecutive lines of a proof.
 
 ghost use Rattle.std.specs.Prelude.{◌≡◌, ◌+◌, ◌<◌, ◌^◌, ℕ, List, Ok, IfOk, length, nat_lt};
-ghost use Rattle.cnf_core.specs.Lines.{plain_line, plain_lines};
+ghost use Rattle.sat_proof.specs.Lines.{plain_line, row_lines};
 ghost use Rattle.log_check.specs.Verdict.{Live};
 ghost use Rattle.log_check.specs.Kept.{KeepsLive, is_accepted};
 ghost use Rattle.log_check.specs.Parts.{FindsBad, first_found};
@@ -9,8 +9,8 @@ ghost use Rattle.log_check.specs.Parts.{FindsBad, first_found};
 use crate::calendar::Calendar;
 use crate::reading::is_shown;
 use crate::signs::Signs;
-use cnf_core::Line;
 use ep_base::Memory;
+use sat_proof::{Line, Proof, Row};
 use std::alloc::Global;
 
 /// Whether a line is valid where all before it are.
@@ -18,10 +18,10 @@ fn is_valid(
     calendar: &Calendar,
     signs: &mut Signs,
     index: usize,
-    line: &Line,
+    line: Line,
 ) -> Result<bool, Memory>
     ensures { IfOk result (λ valid. (live : List Live) → KeepsLive calendar.now.lives index live →
-        valid ≡ is_accepted (nat_lt index calendar.now.ordered) live (plain_line line.now)) }
+        valid ≡ is_accepted (nat_lt index calendar.now.ordered) live (plain_line line.entry)) }
 {
     match line {
         Line::Add { clause, hints, .. } => {
@@ -35,23 +35,32 @@ fn is_valid(
     }
 }
 
+/// What each worker reads.
+#[derive(Drop)]
+pub(crate) struct Work<'a> {
+    /// Which clauses are live at each line.
+    pub(crate) calendar: Calendar<'a>,
+    /// The lines.
+    pub(crate) proof: &'a Proof,
+    /// How many places the signs get.
+    pub(crate) places: usize,
+}
+
 /// The number of the first line of a part that isn't valid, where the proof has so many lines before
 /// the part and all of them are valid.
-///
-/// The signs get so many places.
 pub(crate) fn first_bad(
     alloc: Global,
-    calendar: &Calendar,
-    places: usize,
+    work: &Work,
     start: usize,
-    part: &[Line],
+    part: &[Row],
 ) -> Result<Option<u64>, Memory>
     requires { start + length part.now < 2 ^ 64 }
-    ensures { IfOk result (λ bad. FindsBad calendar.now start (plain_lines part.now) bad) }
+    ensures { IfOk result (λ bad. FindsBad work.now.calendar start (row_lines work.now.proof.now part.now) bad) }
 {
-    let mut signs = Signs::new(alloc, places)?;
-    for (offset, line) in part.iter().enumerate() {
-        if !is_valid(calendar, &mut signs, start + offset, line)? {
+    let mut signs = Signs::new(alloc, work.places)?;
+    for (offset, row) in part.iter().enumerate() {
+        let line = work.proof.line(row);
+        if !is_valid(&work.calendar, &mut signs, start + offset, line)? {
             return Ok(Some((start + offset) as u64 + 1));
         }
     }

@@ -8,7 +8,7 @@ ghost use Rattle.log_check.specs.Kept.{KeepsTrues, KeepsLive, remaining_of};
 
 use crate::calendar::Lives;
 use crate::signs::Signs;
-use cnf_core::{Clause, Lit};
+use cnf_core::Lit;
 use ep_base::Memory;
 
 /// The literals of a clause that aren't false.
@@ -53,7 +53,7 @@ fn set_negations(signs: &mut Signs, clause: &[Lit]) -> Result<bool, Memory>
     Ok(false)
 }
 
-fn hinted<'a>(lives: &Lives<'a>, index: usize, hint: &i64) -> Option<&'a Clause>
+fn hinted<'a>(lives: &Lives<'a>, index: usize, hint: &i64) -> Option<&'a [Lit]>
     ensures { (numbered : List Live) → KeepsLive lives.now index numbered →
         option_copied result ≡ hinted_clause numbered hint.now }
 {
@@ -70,7 +70,7 @@ fn reads(lives: &Lives, index: usize, signs: &mut Signs, hints: &[i64]) -> Resul
         let Some(clause) = hinted(lives, index, hint) else {
             return Ok(false);
         };
-        match what_remains(signs, clause.lits()) {
+        match what_remains(signs, clause) {
             Remaining::Nothing => return Ok(true),
             Remaining::One(lit) => {
                 let _is_true = signs.set_true(lit)?;
@@ -87,13 +87,13 @@ pub(crate) fn is_shown(
     lives: &Lives,
     index: usize,
     signs: &mut Signs,
-    clause: &Clause,
+    clause: &[Lit],
     hints: &[i64],
 ) -> Result<bool, Memory>
     ensures { IfOk result (λ yes. (numbered : List Live) → KeepsLive lives.now index numbered →
         yes ≡ is_shown_by clause.now (hinted_clauses numbered hints.now)) }
 {
-    if set_negations(signs, clause.lits())? {
+    if set_negations(signs, clause)? {
         Ok(true)
     } else {
         reads(lives, index, signs, hints)

@@ -1,7 +1,8 @@
 //! Formulas and proofs of rows.
 
-use cnf_core::{Clause, Formula, Line, Lit, MOST_VARIABLE, Proof};
+use cnf_core::{Clause, Formula, Lit, MOST_VARIABLE};
 use ep_base::Memory;
+use sat_proof::Proof;
 use std::alloc::Global;
 use std::test::Fail;
 
@@ -48,36 +49,34 @@ pub(crate) fn formula(alloc: Global, text: &str) -> Result<Formula, Fail> {
     }
     Ok(made)
 }
-/// A line that adds a clause, with its id in front and its hints behind it, each behind a `:`.
-fn addition(alloc: Global, id: &str, rest: &str) -> Result<Line, Fail> {
+/// Adds a line that adds a clause, with its id in front and its hints behind it, each behind a `:`.
+fn add(alloc: Global, proof: &mut Proof, id: &str, rest: &str) -> Result<(), Fail> {
     let (literals, hints) = rest.split_once(':').unwrap_or((rest, ""));
-    Ok(Line::Add {
-        id: id.parse::<u64>()?,
-        clause: clause_of(alloc, literals)?,
-        hints: numbers_of(alloc, hints)?,
-    })
+    let clause = clause_of(alloc, literals)?;
+    let hints = numbers_of(alloc, hints)?;
+    Ok(proof.add(id.parse::<u64>()?, clause.lits(), hints.as_slice())?)
 }
 
-/// A line that takes out the clauses of these ids.
-fn deletion(alloc: Global, text: &str) -> Result<Line, Fail> {
+/// Adds a line that takes out the clauses of these ids.
+fn delete(alloc: Global, proof: &mut Proof, text: &str) -> Result<(), Fail> {
     let mut ids = Vec::new(alloc);
     for number in &numbers_of(alloc, text)? {
         ids.push(number.unsigned_abs())?;
     }
-    Ok(Line::Delete { ids })
+    Ok(proof.delete(ids.as_slice())?)
 }
 
 /// The lines of a proof, with `/` between any two.
 pub(crate) fn proof(alloc: Global, text: &str) -> Result<Proof, Fail> {
-    let mut lines = Vec::new(alloc);
+    let mut made = Proof::new(alloc);
     if text.is_empty() {
-        return Ok(Proof { lines });
+        return Ok(made);
     }
     for line in text.split('/') {
         match line.split_once(':') {
-            Some((id, rest)) => lines.push(addition(alloc, id, rest)?)?,
-            None => lines.push(deletion(alloc, line)?)?,
+            Some((id, rest)) => add(alloc, &mut made, id, rest)?,
+            None => delete(alloc, &mut made, line)?,
         }
     }
-    Ok(Proof { lines })
+    Ok(made)
 }

@@ -3,8 +3,9 @@
 //! A row has clauses, the lines of a proof, and its verdict, with `#` between them.
 
 use crate::rows::{formula, proof};
-use cnf_core::{Formula, Proof};
+use cnf_core::Formula;
 use log_check::{OpenGate, Verdict, check_log, check_log_parallel};
+use sat_proof::Proof;
 use std::alloc::Global;
 use std::test::Fail;
 use std::thread::Threads;

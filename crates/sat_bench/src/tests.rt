@@ -71,8 +71,8 @@ fn steps_of(alloc: Global, cnf: &[u8], log: &[u8]) -> Result<Option<(bool, usize
     let file = read_cnf(alloc, cnf)?;
     let proof = read_log(alloc, log)?;
     match check_log(alloc, &file.formula, &proof)? {
-        Verdict::Verified => Ok(Some((true, proof.lines.len().saturating_sub(1)))),
-        Verdict::NoEmptyClause => Ok(Some((false, proof.lines.len()))),
+        Verdict::Verified => Ok(Some((true, proof.rows().len().saturating_sub(1)))),
+        Verdict::NoEmptyClause => Ok(Some((false, proof.rows().len()))),
         Verdict::BadStep(_) => Ok(None),
     }
 }

@@ -2,10 +2,11 @@
 
 use crate::numbers::clause;
 use cnf_core::{
-    CellNote, Clause, Condition, Event, Formula, Line, Lit, Log, Proof,
+    CellNote, Clause, Condition, Event, Formula, Lit, Log,
     an_effective_step_needs_its_last_literal, keeping_composes, new_steps_are_few,
     no_step_is_effective_after_a_conflict, valid_steps_follow,
 };
+use sat_proof::{Line, Lists, Proof, put_in_order};
 use std::test::Fail;
 
 fn is_send_and_sync<T: Send + Sync>() {}
@@ -72,18 +73,52 @@ fn a_log_keeps_its_events_notes_and_base(rt: HostRuntime) -> Result<(), Fail> {
 
 #[test]
 fn a_proof_holds_lines(rt: HostRuntime) -> Result<(), Fail> {
-    let add = Line::Add {
-        id: 5,
-        clause: clause(rt.alloc(), &[1])?,
-        hints: vec![in rt.alloc(); 1, 2]?,
-    };
-    let delete = Line::Delete {
-        ids: vec![in rt.alloc(); 1, 2]?,
-    };
-    let proof = Proof {
-        lines: vec![in rt.alloc(); add, delete]?,
-    };
-    assert_eq!(rt; proof.lines.len(), 2);
+    let mut proof = Proof::new(rt.alloc());
+    proof.add(5, &[Lit::new(1, true)], &[1, 2])?;
+    proof.delete(&[1, 2])?;
+    proof.add(7, &[], &[5])?;
+    match proof.rows() {
+        [first, second, third] => {
+            assert!(rt;
+                matches!(
+                    proof.line(first),
+                    Line::Add {
+                        id: 5,
+                        clause: [_],
+                        hints: [1, 2]
+                    }
+                )
+            );
+            assert!(rt; matches!(proof.line(second), Line::Delete { ids: [1, 2] }));
+            assert!(rt;
+                matches!(
+                    proof.line(third),
+                    Line::Add {
+                        id: 7,
+                        clause: [],
+                        hints: [5]
+                    }
+                )
+            );
+        }
+        _ => assert!(rt; false, "three lines"),
+    }
+    Ok(())
+}
+
+#[test]
+fn lists_lie_side_by_side(rt: HostRuntime) -> Result<(), Fail> {
+    let mut lists = Lists::new(rt.alloc());
+    lists.push(&[Lit::new(1, true), Lit::new(2, false)])?;
+    lists.push(&[])?;
+    let mut found = vec![in rt.alloc(); Lit::new(2, true), Lit::new(1, false), Lit::new(2, true)]?;
+    put_in_order(&mut found);
+    lists.push(found.as_slice())?;
+    let mut sizes = Vec::new(rt.alloc());
+    for span in lists.spans() {
+        sizes.push(lists.list(span).len())?;
+    }
+    assert_eq!(rt; sizes.as_slice(), [2, 0, 2].as_slice());
     Ok(())
 }
 

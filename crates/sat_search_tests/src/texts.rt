@@ -3,7 +3,8 @@
 //! A row has a text, with `@` for the end of a line, and what is said of it, behind a `#`.
 
 use crate::numbers::{clause_of, text_of};
-use cnf_core::{CellNote, Clause, Formula, Line, Lit, Log};
+use cnf_core::{CellNote, Formula, Lit, Log};
+use sat_proof::Line;
 use sat_text::{CnfError, LogError, read_cnf, read_log, write_cnf, write_log};
 use std::alloc::{AllocError, Global};
 use std::test::Fail;
@@ -140,8 +141,8 @@ fn a_log_is_written_with_ids_of_its_givens_and_steps(rt: HostRuntime) -> Result<
 }
 
 /// Adds the literals of a clause, each behind a space.
-fn push_clause(alloc: Global, whole: &mut String, clause: &Clause) -> Result<(), AllocError> {
-    for lit in clause.lits() {
+fn push_clause(alloc: Global, whole: &mut String, clause: &[Lit]) -> Result<(), AllocError> {
+    for lit in clause {
         let sign = if lit.positive() { "" } else { "-" };
         let word = format!(in alloc; " {sign}{}", lit.var())?;
         whole.push_str(word.as_str())?;
@@ -168,7 +169,7 @@ fn push_ids(alloc: Global, whole: &mut String, ids: &[u64]) -> Result<(), AllocE
 }
 
 /// Adds a line: the id, literals and hints of an addition, or the ids of a deletion.
-fn push_line(alloc: Global, whole: &mut String, line: &Line) -> Result<(), AllocError> {
+fn push_line(alloc: Global, whole: &mut String, line: Line) -> Result<(), AllocError> {
     match line {
         Line::Add { id, clause, hints } => {
             let word = format!(in alloc; "{id}:")?;
@@ -190,8 +191,8 @@ fn lines_of(alloc: Global, text: &[u8]) -> Result<String, Fail> {
     let mut whole = String::new(alloc);
     match read_log(alloc, text) {
         Ok(proof) => {
-            for line in &proof.lines {
-                push_line(alloc, &mut whole, line)?;
+            for row in proof.rows() {
+                push_line(alloc, &mut whole, proof.line(row))?;
             }
             Ok(whole)
         }

@@ -1,13 +1,12 @@
 -- Reading the lines of a proof one after the other.
 use Rattle.std.proofs.Common.{◌≡◌, ℕ, ◌+◌, ◌<◌, ◌≤◌, true, false, List, [], ◌∷◌, ◌++◌, length, Option, Some, None, Result, Ok, Err, refl, sym, ap, ◌∙◌, append_assoc, arith}
 use Rattle.std.proofs.lemmas.List.{append-nil}
-use Rattle.cnf_core.specs.declared.proof.Line.{Line}
-use Rattle.cnf_core.specs.declared.proof.Proof.{Proof}
+use Rattle.sat_proof.specs.declared.proof.Proof.{Proof}
 use Rattle.sat_text.specs.declared.proof.LogError.{LogError}
 use Rattle.sat_text.specs.declared.proof.LogError.TheVariants.{Bad}
 use Rattle.sat_text.specs.Words.{lines, words, says_nothing}
 use Rattle.sat_text.specs.Proofs.{line_of, before_others, proof_from, proof_of}
-use Rattle.cnf_core.specs.Lines.{ProofLine, plain_line, plain_lines}
+use Rattle.cnf_core.specs.Lines.{ProofLine}
 
 -- the lines that were read before, and those that are still read
 abbrev pub with_read : List ProofLine → Result (List ProofLine) ℕ → Result (List ProofLine) ℕ
@@ -15,8 +14,8 @@ with_read front (Ok later) = Ok (front ++ later)
 with_read front (Err line) = Err line
 
 -- what the loop keeps: the lines behind the number-th one are read as the whole text is
-pub record Reading (found : List Line) (number : ℕ) (rest text : List ℕ) : Type 0 where
-  pub answer : with_read (plain_lines found) (proof_from (number + 1) (lines rest)) ≡ proof_of text
+pub record Reading (found : List ProofLine) (number : ℕ) (rest text : List ℕ) : Type 0 where
+  pub answer : with_read found (proof_from (number + 1) (lines rest)) ≡ proof_of text
   pub count : number + length rest ≤ length text
 
 with_nothing : (read : Result (List ProofLine) ℕ) → with_read [] read ≡ read
@@ -26,10 +25,6 @@ with_nothing (Err line) = refl
 pub reading_starts : (text : List ℕ) → Reading [] 0 text text
 reading_starts text = record { answer = with_nothing (proof_of text); count = omega arith }
 
-plain_push : (found : List Line) (line : Line) → plain_lines (found ++ line ∷ []) ≡ plain_lines found ++ plain_line line ∷ []
-plain_push [] line = refl
-plain_push (x ∷ found) line = ap (λ (ls : List ProofLine). plain_line x ∷ ls) (plain_push found line)
-
 quiet : (number : ℕ) (line : List ℕ) (later : List (List ℕ)) → says_nothing line ≡ true → proof_from number (line ∷ later) ≡ proof_from (number + 1) later
 unfolding proof_from
 quiet number line later e = rw e refl
@@ -38,40 +33,39 @@ speaks : (number : ℕ) (line : List ℕ) (later : List (List ℕ)) → says_not
 unfolding proof_from
 speaks number line later e = rw e refl
 
-pub reading_quiet : (found : List Line) (number : ℕ) (rest later text line : List ℕ) → Reading found number rest text → lines rest ≡ line ∷ lines later → length later < length rest → says_nothing line ≡ true → Reading found (number + 1) later text
+pub reading_quiet : (found : List ProofLine) (number : ℕ) (rest later text line : List ℕ) → Reading found number rest text → lines rest ≡ line ∷ lines later → length later < length rest → says_nothing line ≡ true → Reading found (number + 1) later text
 reading_quiet found number rest later text line r cut less e = record {
-  answer = sym (ap (λ (ls : List (List ℕ)). with_read (plain_lines found) (proof_from (number + 1) ls)) cut ∙ ap (with_read (plain_lines found)) (quiet (number + 1) line (lines later) e)) ∙ r.answer;
+  answer = sym (ap (λ (ls : List (List ℕ)). with_read found (proof_from (number + 1) ls)) cut ∙ ap (with_read found) (quiet (number + 1) line (lines later) e)) ∙ r.answer;
   count = omega (arith, r.count, less);
 }
 
-at_line : (found : List Line) (number : ℕ) (rest later text line : List ℕ) → Reading found number rest text → lines rest ≡ line ∷ lines later → says_nothing line ≡ false
-    → with_read (plain_lines found) (before_others (number + 1) (line_of (words line)) (proof_from (number + 1 + 1) (lines later))) ≡ proof_of text
+at_line : (found : List ProofLine) (number : ℕ) (rest later text line : List ℕ) → Reading found number rest text → lines rest ≡ line ∷ lines later → says_nothing line ≡ false
+    → with_read found (before_others (number + 1) (line_of (words line)) (proof_from (number + 1 + 1) (lines later))) ≡ proof_of text
 at_line found number rest later text line r cut e =
-    sym (ap (λ (ls : List (List ℕ)). with_read (plain_lines found) (proof_from (number + 1) ls)) cut ∙ ap (with_read (plain_lines found)) (speaks (number + 1) line (lines later) e)) ∙ r.answer
+    sym (ap (λ (ls : List (List ℕ)). with_read found (proof_from (number + 1) ls)) cut ∙ ap (with_read found) (speaks (number + 1) line (lines later) e)) ∙ r.answer
 
-pub reading_wrong : (found : List Line) (number : ℕ) (rest later text line : List ℕ) → Reading found number rest text → lines rest ≡ line ∷ lines later → says_nothing line ≡ false → line_of (words line) ≡ None → proof_of text ≡ Err (number + 1)
+pub reading_wrong : (found : List ProofLine) (number : ℕ) (rest later text line : List ℕ) → Reading found number rest text → lines rest ≡ line ∷ lines later → says_nothing line ≡ false → line_of (words line) ≡ None → proof_of text ≡ Err (number + 1)
 reading_wrong found number rest later text line r cut e none =
-    sym (sym (ap (λ (o : Option ProofLine). with_read (plain_lines found) (before_others (number + 1) o (proof_from (number + 1 + 1) (lines later)))) none) ∙ at_line found number rest later text line r cut e)
+    sym (sym (ap (λ (o : Option ProofLine). with_read found (before_others (number + 1) o (proof_from (number + 1 + 1) (lines later)))) none) ∙ at_line found number rest later text line r cut e)
 
 regroup : (front : List ProofLine) (line : ProofLine) (number : ℕ) (others : Result (List ProofLine) ℕ) → with_read front (before_others number (Some line) others) ≡ with_read (front ++ line ∷ []) others
 regroup front line number (Ok others) = ap (λ (ls : List ProofLine). Ok ls) (simp append_assoc)
 regroup front line number (Err wrong) = refl
 
-pub reading_more : (found : List Line) (number : ℕ) (rest later text line : List ℕ) (read : Line) → Reading found number rest text → lines rest ≡ line ∷ lines later → length later < length rest → says_nothing line ≡ false
-    → line_of (words line) ≡ Some (plain_line read) → Reading (found ++ read ∷ []) (number + 1) later text
+pub reading_more : (found : List ProofLine) (number : ℕ) (rest later text line : List ℕ) (read : ProofLine) → Reading found number rest text → lines rest ≡ line ∷ lines later → length later < length rest → says_nothing line ≡ false
+    → line_of (words line) ≡ Some read → Reading (found ++ read ∷ []) (number + 1) later text
 reading_more found number rest later text line read r cut less e some = record {
   answer =
-      ap (λ (ls : List ProofLine). with_read ls (proof_from (number + 1 + 1) (lines later))) (plain_push found read)
-      ∙ sym (regroup (plain_lines found) (plain_line read) (number + 1) (proof_from (number + 1 + 1) (lines later)))
-      ∙ sym (ap (λ (o : Option ProofLine). with_read (plain_lines found) (before_others (number + 1) o (proof_from (number + 1 + 1) (lines later)))) some)
+      sym (regroup found read (number + 1) (proof_from (number + 1 + 1) (lines later)))
+      ∙ sym (ap (λ (o : Option ProofLine). with_read found (before_others (number + 1) o (proof_from (number + 1 + 1) (lines later)))) some)
       ∙ at_line found number rest later text line r cut e;
   count = omega (arith, r.count, less);
 }
 
-pub reading_ends : (found : List Line) (number : ℕ) (rest text : List ℕ) → Reading found number rest text → lines rest ≡ [] → proof_of text ≡ Ok (plain_lines found)
+pub reading_ends : (found : List ProofLine) (number : ℕ) (rest text : List ℕ) → Reading found number rest text → lines rest ≡ [] → proof_of text ≡ Ok found
 unfolding proof_from
 reading_ends found number rest text r none =
-    sym r.answer ∙ ap (λ (ls : List (List ℕ)). with_read (plain_lines found) (proof_from (number + 1) ls)) none ∙ ap (λ (ls : List ProofLine). Ok ls) (append-nil (plain_lines found))
+    sym r.answer ∙ ap (λ (ls : List (List ℕ)). with_read found (proof_from (number + 1) ls)) none ∙ ap (λ (ls : List ProofLine). Ok ls) (append-nil found)
 
 abbrev bad_answer : ℕ → Result Proof LogError
 bad_answer line = Err (Bad line)

@@ -1,5 +1,7 @@
 -- What a reader of a part answers, against what reading gives.
-use Rattle.std.specs.Prelude.{◌≡◌, Option, Some, None, Result, Ok, Err, option_and_then}
+use Rattle.std.specs.Prelude.{◌≡◌, List, [], ◌∷◌, ◌++◌, Option, Some, None, Result, Ok, Err, option_and_then}
+use Rattle.cnf_core.specs.Lines.{ProofLine}
+use Rattle.sat_proof.specs.Lines.{FlatProof, proof_lines}
 use Rattle.sat_text.specs.declared.faults.Fault.{Fault}
 use Rattle.sat_text.specs.declared.faults.Fault.TheVariants.{Memory, Wrong}
 
@@ -16,3 +18,8 @@ Fails Wrong read = read ≡ None
 abbrev pub Gives : {X Y : Type 0} → (X → Y) → Result X Fault → Option Y → Type 0
 Gives view (Ok x) read = read ≡ Some (view x)
 Gives view (Err fault) read = Fails fault read
+
+-- a reader of a line appends the line that reading gives
+abbrev pub AddsLine : FlatProof → FlatProof → Result (Unit {0}) Fault → Option ProofLine → Type 0
+AddsLine old new (Ok done) read = (line : ProofLine) × (read ≡ Some line) × (proof_lines new ≡ proof_lines old ++ line ∷ [])
+AddsLine old new (Err fault) read = Fails fault read

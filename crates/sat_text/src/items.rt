@@ -10,7 +10,6 @@ use crate::faults::Fault;
 use crate::numbers::whole;
 use crate::words::next_word;
 use cnf_core::Lit;
-use std::alloc::Global;
 
 /// The first number of a line, and what stands behind it.
 #[tactic(auto, unfolding(crate::specs::Proofs::whole_at))]
@@ -54,50 +53,48 @@ pub(crate) fn literal(number: i64) -> Lit
     Lit::new(number.unsigned_abs(), number > 0)
 }
 
-/// The literals of the numbers up to a 0, and what stands behind it.
-pub(crate) fn literals(alloc: Global, line: &[u8]) -> Result<(Vec<Lit>, &[u8]), Fault>
-    ensures { Gives (λ x. (x.0.items, words x.1.now)) result
-        (items_at any_literal (words line.now)) }
+/// Puts the literals of the numbers up to a 0 into a list in place of what it has, and gives what stands behind the 0.
+pub(crate) fn literals<'a>(found: &mut Vec<Lit>, line: &'a [u8]) -> Result<&'a [u8], Fault>
+    ensures { Gives (λ rest. (found.new.items, words rest.now)) result (items_at any_literal (words line.now)) }
 {
-    let mut found = Vec::new(alloc);
+    found.clear();
     let mut rest = line;
     loop {
         let (number, later) = whole_at(rest)?;
         if is_zero(number) {
-            return Ok((found, later));
+            return Ok(later);
         }
         found.push(literal(number))?;
         rest = later;
     }
 }
 
-/// The numbers up to a 0, and what stands behind it.
-pub(crate) fn hints(alloc: Global, line: &[u8]) -> Result<(Vec<i64>, &[u8]), Fault>
-    ensures { Gives (λ x. (x.0.items, words x.1.now)) result (items_at any_hint (words line.now)) }
+/// The same with the numbers.
+pub(crate) fn hints<'a>(found: &mut Vec<i64>, line: &'a [u8]) -> Result<&'a [u8], Fault>
+    ensures { Gives (λ rest. (found.new.items, words rest.now)) result (items_at any_hint (words line.now)) }
 {
-    let mut found = Vec::new(alloc);
+    found.clear();
     let mut rest = line;
     loop {
         let (number, later) = whole_at(rest)?;
         if is_zero(number) {
-            return Ok((found, later));
+            return Ok(later);
         }
         found.push(number)?;
         rest = later;
     }
 }
 
-/// The positive numbers up to a 0, and what stands behind it.
-pub(crate) fn ids(alloc: Global, line: &[u8]) -> Result<(Vec<u64>, &[u8]), Fault>
-    ensures { Gives (λ x. (x.0.items, words x.1.now)) result
-        (items_at positive_of (words line.now)) }
+/// The same with the numbers, which have to be positive.
+pub(crate) fn ids<'a>(found: &mut Vec<u64>, line: &'a [u8]) -> Result<&'a [u8], Fault>
+    ensures { Gives (λ rest. (found.new.items, words rest.now)) result (items_at positive_of (words line.now)) }
 {
-    let mut found = Vec::new(alloc);
+    found.clear();
     let mut rest = line;
     loop {
         let (number, later) = whole_at(rest)?;
         if is_zero(number) {
-            return Ok((found, later));
+            return Ok(later);
         }
         found.push(positive(number)?)?;
         rest = later;

@@ -1,20 +1,22 @@
 //! Reads the text of a proof.
 
-ghost use Rattle.std.specs.Prelude.{◌≡◌, ◌<◌, ◌↔◌, ℕ, List, length, Ok, Err, IfOk, MatchResult, IsErrOf};
+ghost use Rattle.std.specs.Prelude.{◌≡◌, ◌<◌, ◌↔◌, [], ℕ, List, length, Ok, Err, IfOk, MatchResult, IsErrOf};
 ghost use Rattle.cnf_core.specs.Literal.{HaveSameLiterals};
 ghost use Rattle.sat_text.specs.Words.{words, says_nothing, most_text_bytes};
 ghost use Rattle.sat_text.specs.Clauses.{in_order};
 ghost use Rattle.sat_text.specs.Proofs.{is_d, addition_at, deletion_at, behind_id, line_of, proof_of};
-ghost use Rattle.cnf_core.specs.Lines.{ProofLine, plain_line, plain_lines};
+ghost use Rattle.cnf_core.specs.Lines.{ProofLine};
+ghost use Rattle.sat_proof.specs.Lines.{proof_lines};
 ghost use Rattle.sat_text.specs.LogGrammar.{SpellsLog, IsFirstWrongLine};
-ghost use Rattle.sat_text.specs.Answers.{Gives};
+ghost use Rattle.sat_text.specs.Answers.{AddsLine};
 
 use crate::MOST_BYTES;
 use crate::faults::Fault;
 use crate::items::{hints, ids, literals, positive, whole_at};
 use crate::words::{next_line, next_word};
-use cnf_core::{Clause, Line, Lit, Proof};
+use cnf_core::{Clause, Lit};
 use ep_base::Memory;
+use sat_proof::{Proof, put_in_order};
 use std::alloc::{AllocError, AllocFailed, Global};
 
 /// Why the text of a proof was refused.
@@ -46,29 +48,88 @@ pub(crate) fn clause(alloc: Global, lits: Vec<Lit>) -> Result<Clause, Memory>
     Clause::new(alloc, lits)
 }
 
-/// The line that adds a clause, from what stands behind its id.
-#[tactic(auto, unfolding(crate::specs::Proofs::addition_at))]
-fn addition(alloc: Global, id: u64, line: &[u8]) -> Result<Line, Fault>
-    ensures { Gives plain_line result (addition_at id (words line.now)) }
+/// Puts literals in order, and leaves each once.
+fn order(literals: &mut Vec<Lit>)
+    ensures { literals.new.items ≡ in_order literals.old.items }
 {
-    let (lits, rest) = literals(alloc, line)?;
-    let (hints, rest) = hints(alloc, rest)?;
-    let clause = clause(alloc, lits)?;
-    match next_word(rest) {
-        None => Ok(Line::Add { id, clause, hints }),
-        Some(_) => Err(Fault::Wrong),
-    }
+    put_in_order(literals);
 }
 
-/// The line that deletes ids, from what stands behind its `d`.
-#[tactic(auto, unfolding(crate::specs::Proofs::deletion_at))]
-fn deletion(alloc: Global, line: &[u8]) -> Result<Line, Fault>
-    ensures { Gives plain_line result (deletion_at (words line.now)) }
-{
-    let (ids, rest) = ids(alloc, line)?;
-    match next_word(rest) {
-        None => Ok(Line::Delete { ids }),
-        Some(_) => Err(Fault::Wrong),
+/// The proof that is being read, and room for what its next line says.
+#[derive(Drop)]
+struct Reading {
+    proof: Proof,
+    literals: Vec<Lit>,
+    hints: Vec<i64>,
+    ids: Vec<u64>,
+}
+
+impl Reading {
+    /// Nothing is read yet.
+    fn new(alloc: Global) -> Reading
+        ensures { proof_lines result.proof ≡ [] }
+    {
+        Reading {
+            proof: Proof::new(alloc),
+            literals: Vec::new(alloc),
+            hints: Vec::new(alloc),
+            ids: Vec::new(alloc),
+        }
+    }
+
+    /// Reads the line that adds a clause, from what stands behind its id.
+    #[tactic(auto, unfolding(crate::specs::Proofs::addition_at))]
+    fn addition(&mut self, id: u64, line: &[u8]) -> Result<(), Fault>
+        ensures { AddsLine self.old.proof self.new.proof result (addition_at id (words line.now)) }
+    {
+        let rest = literals(&mut self.literals, line)?;
+        let rest = hints(&mut self.hints, rest)?;
+        order(&mut self.literals);
+        match next_word(rest) {
+            None => Ok(
+                self.proof
+                    .add(id, self.literals.as_slice(), self.hints.as_slice())?,
+            ),
+            Some(_) => Err(Fault::Wrong),
+        }
+    }
+
+    /// Reads the line that deletes ids, from what stands behind its `d`.
+    #[tactic(auto, unfolding(crate::specs::Proofs::deletion_at))]
+    fn deletion(&mut self, line: &[u8]) -> Result<(), Fault>
+        ensures { AddsLine self.old.proof self.new.proof result (deletion_at (words line.now)) }
+    {
+        let rest = ids(&mut self.ids, line)?;
+        match next_word(rest) {
+            None => Ok(self.proof.delete(self.ids.as_slice())?),
+            Some(_) => Err(Fault::Wrong),
+        }
+    }
+
+    #[tactic(auto, unfolding(crate::specs::Proofs::behind_id))]
+    fn behind_id(&mut self, id: u64, line: &[u8]) -> Result<(), Fault>
+        ensures { AddsLine self.old.proof self.new.proof result (behind_id id (words line.now)) }
+    {
+        match next_word(line) {
+            None => Err(Fault::Wrong),
+            Some((word, later)) => {
+                if is_letter_d(word) {
+                    self.deletion(later)
+                } else {
+                    self.addition(id, line)
+                }
+            }
+        }
+    }
+
+    /// Reads a line.
+    #[tactic(auto, unfolding(crate::specs::Proofs::line_of))]
+    fn line(&mut self, line: &[u8]) -> Result<(), Fault>
+        ensures { AddsLine self.old.proof self.new.proof result (line_of (words line.now)) }
+    {
+        let (number, rest) = whole_at(line)?;
+        let id = positive(number)?;
+        self.behind_id(id, rest)
     }
 }
 
@@ -76,32 +137,6 @@ fn is_letter_d(word: &[u8]) -> bool
     ensures { result ≡ is_d word.now }
 {
     matches!(word, [b'd'])
-}
-
-#[tactic(auto, unfolding(crate::specs::Proofs::behind_id))]
-fn line_behind_id(alloc: Global, id: u64, line: &[u8]) -> Result<Line, Fault>
-    ensures { Gives plain_line result (behind_id id (words line.now)) }
-{
-    match next_word(line) {
-        None => Err(Fault::Wrong),
-        Some((word, later)) => {
-            if is_letter_d(word) {
-                deletion(alloc, later)
-            } else {
-                addition(alloc, id, line)
-            }
-        }
-    }
-}
-
-/// The line that a line of the text says.
-#[tactic(auto, unfolding(crate::specs::Proofs::line_of))]
-fn proof_line(alloc: Global, line: &[u8]) -> Result<Line, Fault>
-    ensures { Gives plain_line result (line_of (words line.now)) }
-{
-    let (number, rest) = whole_at(line)?;
-    let id = positive(number)?;
-    line_behind_id(alloc, id, rest)
 }
 
 pub(crate) fn is_silent(line: &[u8]) -> bool
@@ -122,32 +157,32 @@ pub(crate) fn is_silent(line: &[u8]) -> bool
 pub fn read_log(alloc: Global, text: &[u8]) -> Result<Proof, LogError>
     ensures too_long { IsErrOf result LogError.TooLong ↔ (most_text_bytes < length text.now) }
     // What is read is what the text spells, and no text that spells a proof is refused as bad.
-    ensures spelled { IfOk result (λ p. SpellsLog text.now (plain_lines p.lines.items)) }
+    ensures spelled { IfOk result (λ p. SpellsLog text.now (proof_lines p)) }
     ensures complete { (proof : List ProofLine) → SpellsLog text.now proof → MatchResult result
-        (λ p. plain_lines p.lines.items ≡ proof)
+        (λ p. proof_lines p ≡ proof)
         (λ error. (line : ℕ) → error ≡ LogError.Bad line → ⊥) }
     // The line of a fault is the first that isn't in the grammar.
     ensures fault { (line : ℕ) → result ≡ Err (LogError.Bad line) →
         IsFirstWrongLine text.now line }
-    ensures found { IfOk result (λ p. proof_of text.now ≡ Ok (plain_lines p.lines.items)) }
+    ensures found { IfOk result (λ p. proof_of text.now ≡ Ok (proof_lines p)) }
     ensures bad { (line : ℕ) → result ≡ Err (LogError.Bad line) → proof_of text.now ≡ Err line }
 {
     if text.len() > MOST_BYTES {
         return Err(LogError::TooLong);
     }
-    let mut lines = Vec::new(alloc);
+    let mut reading = Reading::new(alloc);
     let mut rest = text;
     let mut number = 0u64;
     while let Some((line, later)) = next_line(rest) {
         number += 1;
         if !is_silent(line) {
-            match proof_line(alloc, line) {
-                Ok(read) => lines.push(read)?,
+            match reading.line(line) {
+                Ok(_read) => {}
                 Err(Fault::Memory) => return Err(LogError::Memory),
                 Err(Fault::Wrong) => return Err(LogError::Bad(number)),
             }
         }
         rest = later;
     }
-    Ok(Proof { lines })
+    Ok(reading.proof)
 }

@@ -1,7 +1,8 @@
-use Rattle.std.proofs.Common.{List, ap, ◌∙◌}
+use Rattle.std.proofs.Common.{List, ap, subst, ◌∙◌}
 use Rattle.cnf_core.specs.Literal.{Literal}
-use Rattle.cnf_core.specs.declared.proof.Line.{Line}
-use Rattle.cnf_core.specs.Lines.{plain_lines}
+use Rattle.sat_proof.specs.Lines.{proof_lines, row_lines}
+use Rattle.sat_proof.specs.declared.proof.Row.{Row}
+use Rattle.log_check.specs.Parts.{FindsBad, TellsLives}
 use Rattle.log_check.specs.Verdict.{verdict_of}
 use Rattle.log_check.proofs.Found.{found_in_whole, verdict_is}
 use Rattle.log_check.proofs.check_log.Goals as goal
@@ -9,10 +10,11 @@ use Rattle.log_check.proofs.check_log.Goals as goal
 pub returns : goal.returns
 returns c =
     let formula = c.clauses-clauses.result.now in
-    let lines = c.as_slice-lines.result.now in
-    let calendar = c.in_ok-calendar.calendar in
+    let proof = c.args.p.now in
+    let calendar = c.in_ok-new.field-0 in
     let bad = c.in_ok-bad.bad in
+    let tells : TellsLives calendar formula (proof_lines proof) = subst (λ (f : List (List Literal)). TellsLives calendar f (proof_lines proof)) c.in_ok-given.ensures c.in_ok-new.ensures in
+    let found : FindsBad calendar 0 (proof_lines proof) bad = subst (λ (rows : List Row). FindsBad calendar 0 (row_lines proof rows) bad) c.rows.ensures c.in_ok-bad.ensures in
     c.verdict_after.ensures
-    ∙ verdict_is formula lines bad (found_in_whole calendar formula (plain_lines lines) bad c.in_ok-calendar.ensures c.in_ok-bad.ensures)
-    ∙ ap (λ (f : List (List Literal)). verdict_of f (plain_lines lines)) c.clauses-clauses.ensures.value
-    ∙ ap (λ (ls : List Line). verdict_of c.args.f.now.clauses (plain_lines ls)) c.as_slice-lines.ensures.value
+    ∙ verdict_is proof formula proof.rows bad (found_in_whole calendar formula (proof_lines proof) bad tells found)
+    ∙ ap (λ (f : List (List Literal)). verdict_of f (proof_lines proof)) c.clauses-clauses.ensures.value

@@ -4,7 +4,8 @@ use Rattle.ep_base.specs.Outside.{Rose}
 use Rattle.ep_solve.specs.Right.{empty_log}
 use Rattle.ep_driver.specs.Outcomes.{to_check}
 use Rattle.ep_files.specs.Readings.{IsProofReadAs, IsReadBy}
-use Rattle.ep_files.specs.Reads.{formula_clauses, proof_lines}
+use Rattle.sat_proof.specs.Lines.{proof_lines}
+use Rattle.ep_files.specs.Reads.{formula_clauses}
 use Rattle.ep_driver.proofs.Chains.{after, over-trees, stable-file, unread}
 use Rattle.ep_driver.proofs.Running.{check-told}
 use Rattle.ep_driver.proofs.runs.check_proof.Goals as goal

@@ -1,6 +1,7 @@
 use Rattle.std.proofs.Common.{Err, sym, subst}
 use Rattle.ep_files.specs.Readings.{IsProofReadAs}
-use Rattle.ep_files.specs.Reads.{TellsText, proof_lines}
+use Rattle.sat_proof.specs.Lines.{proof_lines}
+use Rattle.ep_files.specs.Reads.{TellsText}
 use Rattle.ep_files.specs.declared.stops.Stop.{Stop}
 use Rattle.ep_files.proofs.FileReading.{proof-read, proof-stopped}
 use Rattle.ep_files.proofs.reading.proof_in.Goals as goal

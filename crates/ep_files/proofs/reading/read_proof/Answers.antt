@@ -2,7 +2,8 @@ use Rattle.std.proofs.Common.{ℕ, List, subst}
 use Rattle.ep_base.specs.Outside.{Rose}
 use Rattle.sat_text.specs.Words.{most_text_bytes}
 use Rattle.ep_files.specs.Readings.{IsProofReadAs}
-use Rattle.ep_files.specs.Reads.{TellsText, proof_lines}
+use Rattle.sat_proof.specs.Lines.{proof_lines}
+use Rattle.ep_files.specs.Reads.{TellsText}
 use Rattle.ep_files.proofs.FileReading.{cut-proof, tells-read}
 use Rattle.ep_files.proofs.reading.read_proof.Goals as goal
 

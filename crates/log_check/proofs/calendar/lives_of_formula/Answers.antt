@@ -1,5 +1,8 @@
-use Rattle.std.proofs.Common.{◌≤◌, length, arith}
-use Rattle.log_check.proofs.Calendars.{tells_none, tells_given, tells_formula}
+use Rattle.std.proofs.Common.{◌≡◌, ◌<◌, ◌≤◌, ℕ, List, length, get_or, ap, sym, ◌∙◌, arith}
+use Rattle.std.proofs.lemmas.List.{get_or_default, length-map}
+use Rattle.cnf_core.specs.Literal.{Literal}
+use Rattle.sat_proof.specs.Lists.{list_at, lists_of}
+use Rattle.log_check.proofs.Calendars.{list_there, tells_none, tells_given, tells_formula}
 use Rattle.log_check.proofs.calendar.lives_of_formula.Goals as goal
 
 pub loop-index-init : goal.loop-index-init
@@ -7,10 +10,19 @@ loop-index-init c = tells_none c.in_ok-lives.lives c.args.until c.in_ok-lives.en
 
 pub loop-index-preserved : goal.loop-index-preserved
 loop-index-preserved c =
-    tells_given c.loop-index.lives c.put.new.self c.args.until c.args.clauses.now c.loop-index.index _ c.loop-index-test.true c.index-clauses-index.is c.loop-index.invariant c.in_ok-put.ensures
+    let flat = c.args.clauses.now in
+    let same : c.spans-spans.result.now ≡ flat.spans = c.spans-spans.ensures in
+    let size : length (lists_of flat) ≡ length flat.spans = length-map flat.spans (list_at flat) in
+    let inside : c.loop-index.index < length c.spans-spans.result.now = c.loop-index-test.true in
+    let within : c.loop-index.index < length (lists_of flat) = omega (arith, inside, ap length same, size) in
+    let here : c.list.result.now ≡ get_or (lists_of flat) c.loop-index.index c.list.result.now = list_there flat c.spans-spans.result.now c.loop-index.index _ _ same inside (get_or_default c.spans-spans.result.now c.loop-index.index _ _ inside) c.list.ensures in
+    tells_given c.loop-index.lives c.put.new.self c.args.until (lists_of flat) c.loop-index.index _ within here c.loop-index.invariant c.in_ok-put.ensures
 
 pub returns : goal.returns
 returns c =
-    let last : length c.args.clauses.now ≤ c.loop-index.index = c.loop-index-test.false in
-    let within : c.loop-index.index ≤ length c.args.clauses.now = c.loop-index.auto.index-end in
-    tells_formula c.loop-index.lives c.args.until c.args.clauses.now c.loop-index.index (omega (arith, last, within)) c.loop-index.invariant
+    let flat = c.args.clauses.now in
+    let size : length (lists_of flat) ≡ length flat.spans = length-map flat.spans (list_at flat) in
+    let same : length c.spans-spans.result.now ≡ length flat.spans = ap length c.spans-spans.ensures in
+    let last : length c.spans-spans.result.now ≤ c.loop-index.index = c.loop-index-test.false in
+    let within : c.loop-index.index ≤ length c.spans-spans.result.now = c.loop-index.auto.index-end in
+    tells_formula c.loop-index.lives c.args.until (lists_of flat) c.loop-index.index (omega (arith, last, within, same, size)) c.loop-index.invariant

@@ -15,17 +15,17 @@ returns-in_default c = λ trues numbered a b.
 
 pub returns-in-Nothing : goal.returns-in-Nothing
 returns-in-Nothing c = λ trues numbered a b.
-    shows c.loop-hint.signs numbered c.args.hints.now c.loop-hint.hint-index (pos 0) c.lits.result.now _ (c.loop-hint.invariant trues numbered a b) c.loop-hint-test.true (ap (λ (ls : List Literal). Some ls) c.lits.ensures.value ∙ c.in-Some.ensures numbered b)
+    shows c.loop-hint.signs numbered c.args.hints.now c.loop-hint.hint-index (pos 0) c.in-Some.clause.now _ (c.loop-hint.invariant trues numbered a b) c.loop-hint-test.true (c.in-Some.ensures numbered b)
     (λ t k. subst (λ (ls : List Literal). Nothing ≡ remaining_of (not_false t ls)) refl (c.in-Nothing.ensures t k))
 
 pub loop-hint-preserved : goal.loop-hint-preserved
 loop-hint-preserved c = λ trues numbered a b.
-    let hinted = ap (λ (ls : List Literal). Some ls) c.lits.ensures.value ∙ c.in-Some.ensures numbered b in
+    let hinted = c.in-Some.ensures numbered b in
     elim c.match-what_remains.branch [
       | in-One+in_ok-_is_true-in-One w ↦
-          rw w.signs-is (gives c.loop-hint.signs w.set_true.new.self numbered c.args.hints.now c.loop-hint.hint-index (pos 0) c.lits.result.now _ _ _ (c.loop-hint.invariant trues numbered a b) c.loop-hint-test.true hinted w.in-One.ensures (λ t k. made_true c.loop-hint.signs w.set_true.new.self t _ _ w.in_ok-_is_true-in-One.ensures k))
+          rw w.signs-is (gives c.loop-hint.signs w.set_true.new.self numbered c.args.hints.now c.loop-hint.hint-index (pos 0) c.in-Some.clause.now _ _ _ (c.loop-hint.invariant trues numbered a b) c.loop-hint-test.true hinted w.in-One.ensures (λ t k. made_true c.loop-hint.signs w.set_true.new.self t _ _ w.in_ok-_is_true-in-One.ensures k))
       | in-More w ↦
-          rw w.signs-is (passes c.loop-hint.signs numbered c.args.hints.now c.loop-hint.hint-index (pos 0) c.lits.result.now _ (c.loop-hint.invariant trues numbered a b) c.loop-hint-test.true hinted w.in-More.ensures)
+          rw w.signs-is (passes c.loop-hint.signs numbered c.args.hints.now c.loop-hint.hint-index (pos 0) c.in-Some.clause.now _ (c.loop-hint.invariant trues numbered a b) c.loop-hint-test.true hinted w.in-More.ensures)
     ]
 
 pub returns : goal.returns

@@ -4,8 +4,8 @@ use Rattle.sat_text.specs.Proofs.{items_at, any_hint}
 use Rattle.sat_text.proofs.ItemSteps.{with_front}
 use Rattle.sat_text.proofs.items.hints.Given as goal
 
-abbrev pub invariant-loop-found : goal.invariant-loop-found
-invariant-loop-found l = with_front l.found.items (items_at any_hint (words l.rest)) ≡ items_at any_hint (words l.line)
+abbrev pub invariant-loop-number : goal.invariant-loop-number
+invariant-loop-number l = with_front l.found.items (items_at any_hint (words l.rest)) ≡ items_at any_hint (words l.line)
 
-abbrev pub decreases-loop-found : goal.decreases-loop-found
-decreases-loop-found l = length l.rest
+abbrev pub decreases-loop-number : goal.decreases-loop-number
+decreases-loop-number l = length l.rest

@@ -9,13 +9,13 @@ use Rattle.sat_text.proofs.items.literals.Goals as goal
 pub returns-in_err-number : goal.returns-in_err-number
 returns-in_err-number c =
     let p = err_from_is_err_and c.from_residual.result c.from_residual.ensures.1 in
-    rw (p.1, p.2) (item_fails any_literal c.in_err-number.field-0.0 c.loop-found.found.items (words c.loop-found.rest.now) _ c.in_err-number.ensures.value c.loop-found.invariant)
+    rw (p.1, p.2) (item_fails any_literal c.in_err-number.field-0.0 c.loop-number.found.items (words c.loop-number.rest.now) _ c.in_err-number.ensures.value c.loop-number.invariant)
 
 pub returns-then-is_zero : goal.returns-then-is_zero
 returns-then-is_zero c =
-    item_ends any_literal c.loop-found.found.items (words c.loop-found.rest.now) c.in_ok-number.number (words c.in_ok-number.later.now) _ c.in_ok-number.ensures.value (zero_stored c.in_ok-number.number _ _ c.in_ok-number.ensures.small c.is_zero.ensures c.if-is_zero.true) c.loop-found.invariant
+    item_ends any_literal c.loop-number.found.items (words c.loop-number.rest.now) c.in_ok-number.number (words c.in_ok-number.later.now) _ c.in_ok-number.ensures.value (zero_stored c.in_ok-number.number _ _ c.in_ok-number.ensures.small c.is_zero.ensures c.if-is_zero.true) c.loop-number.invariant
 
-pub loop-found-preserved : goal.loop-found-preserved
-loop-found-preserved c =
+pub loop-number-preserved : goal.loop-number-preserved
+loop-number-preserved c =
     rw c.in_ok-push.ensures.items
-    (item_more any_literal c.loop-found.found.items (words c.loop-found.rest.now) c.in_ok-number.number _ (words c.in_ok-number.later.now) _ c.in_ok-number.ensures.value (zero_stored c.in_ok-number.number _ _ c.in_ok-number.ensures.small c.is_zero.ensures c.if-is_zero.false) (ap any_literal (sym (stored c.in_ok-number.number c.in_ok-number.ensures.small)) ∙ ap (λ (l : Literal). Some l) (sym c.literal.ensures)) c.loop-found.invariant)
+    (item_more any_literal c.loop-number.found.items (words c.loop-number.rest.now) c.in_ok-number.number _ (words c.in_ok-number.later.now) _ c.in_ok-number.ensures.value (zero_stored c.in_ok-number.number _ _ c.in_ok-number.ensures.small c.is_zero.ensures c.if-is_zero.false) (ap any_literal (sym (stored c.in_ok-number.number c.in_ok-number.ensures.small)) ∙ ap (λ (l : Literal). Some l) (sym c.literal.ensures)) c.loop-number.invariant)
