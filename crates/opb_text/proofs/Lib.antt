@@ -5,6 +5,7 @@ mod Again
 mod Reached
 mod Texts
 mod Faults
+mod Meanings
 mod ReadingSteps
 mod NamedOnce
 mod Measures

@@ -4,6 +4,7 @@
 mod content;
 mod errors;
 mod flat;
+mod laws;
 mod measure;
 mod numbers;
 mod reader;
@@ -15,6 +16,7 @@ mod words;
 pub use content::{Opb, OpbRow, OpbTerm};
 pub use errors::{OpbError, OpbSizeError};
 pub use flat::flat_of;
+pub use laws::opb_texts_have_one_meaning;
 pub use measure::{MOST_REACH, MOST_WEIGHT, measure_opb};
 pub use reading::{MOST_BYTES, read_opb};
 pub use variables::opb_vars;
