@@ -11,3 +11,5 @@ mod Showing
 mod Adding
 mod FaultLines
 mod Replying
+mod Variables
+mod Comings

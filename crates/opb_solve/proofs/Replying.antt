@@ -50,7 +50,7 @@ read_stops text OpbError.Memory h = tt
 
 -- ---- refusals of one text
 
-both_lengths : {P : Type 0} (n : ℕ) → MOST_BYTES < n → n ≤ MOST_BYTES → P
+pub both_lengths : {P : Type 0} (n : ℕ) → MOST_BYTES < n → n ≤ MOST_BYTES → P
 both_lengths n long short = absurd (omega (arith, long, short))
 
 pub unread_same : (text : List ℕ) (r refusal : OpbRefusal) → IsOpbUnread text r → OpbComesTo text (Err refusal) → r ≡ refusal
@@ -80,13 +80,13 @@ weights_same : (content : OpbContent) (a b : ℕ) → Weighs content a → Weigh
 weights_same content a b h g = h.is ∙ ap (λ (vs : List ℕ). 2 * length vs + sums_cost content) (same_variables content h.vars g.vars h.variables g.variables) ∙ sym g.is
 
 -- a problem within the limits is over none
-not_over : (content : OpbContent) (limit : Limit) → IsWithinReach content → IsWithinWeight content → IsOverOpbLimit content limit → ⊥
+pub not_over : (content : OpbContent) (limit : Limit) → IsWithinReach content → IsWithinWeight content → IsOverOpbLimit content limit → ⊥
 not_over content Limit.Size reach low over = over
 not_over content Limit.Reach reach low over = over reach
 not_over content Limit.Weight reach low over =
     let same = weights_same content low.weight over.1.weight low.weighs over.1.weighs in let a = low.low in let b = over.1.high in omega (arith, same, a, b)
 
-one_limit : (content : OpbContent) (limit other : Limit) → IsOverOpbLimit content limit → IsOverOpbLimit content other → limit ≡ other
+pub one_limit : (content : OpbContent) (limit other : Limit) → IsOverOpbLimit content limit → IsOverOpbLimit content other → limit ≡ other
 one_limit content Limit.Size other h g = absurd h
 one_limit content Limit.Reach Limit.Size h g = absurd g
 one_limit content Limit.Reach Limit.Reach h g = refl
@@ -96,7 +96,7 @@ one_limit content Limit.Weight Limit.Reach h g = absurd (g h.0)
 one_limit content Limit.Weight Limit.Weight h g = refl
 
 -- a text that spells this problem alone is refused for a limit alone
-refused_over : (text : List ℕ) (own : OpbContent) (refusal : OpbRefusal) → IsOpbReadAs text own → ((content : OpbContent) → SpellsOpb text content → own ≡ content) → OpbComesTo text (Err refusal)
+pub refused_over : (text : List ℕ) (own : OpbContent) (refusal : OpbRefusal) → IsOpbReadAs text own → ((content : OpbContent) → SpellsOpb text content → own ≡ content) → OpbComesTo text (Err refusal)
     → (limit : Limit) × (refusal ≡ OpbRefusal.Over limit) × IsOverOpbLimit own limit
 refused_over text own OpbRefusal.TooLong h only g = both_lengths (length text) g h.short
 refused_over text own (OpbRefusal.Bad line) h only g = absurd (g.spells_none own h.spells)

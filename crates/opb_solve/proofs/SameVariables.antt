@@ -5,19 +5,19 @@ use Rattle.std.proofs.lemmas.List.Elements.{Contains-append_cases, Contains-appe
 use Rattle.opb_text.specs.Contents.{OpbContent}
 use Rattle.opb_text.specs.Weights.{AreVariablesOf}
 
-tail : (x : ℕ) (xs : List ℕ) → AllPairs ◌<◌ (x ∷ xs) → AllPairs ◌<◌ xs
+pub tail : (x : ℕ) (xs : List ℕ) → AllPairs ◌<◌ (x ∷ xs) → AllPairs ◌<◌ xs
 tail x xs up = λ i j d lt inside. up (suc i) (suc j) d (omega arith) (omega (arith, inside))
 
-above_first : (x y : ℕ) (xs : List ℕ) → AllPairs ◌<◌ (x ∷ xs) → Contains xs y → x < y
+pub above_first : (x y : ℕ) (xs : List ℕ) → AllPairs ◌<◌ (x ∷ xs) → Contains xs y → x < y
 above_first x y xs up c = subst (λ v. x < v) c.2 (up 0 (suc c.0) y (omega arith) (omega (arith, c.1)))
 
-first : (x : ℕ) (xs : List ℕ) → Contains (x ∷ xs) x
+pub first : (x : ℕ) (xs : List ℕ) → Contains (x ∷ xs) x
 first x xs = (0, omega arith, refl)
 
-later : (x y : ℕ) (xs : List ℕ) → Contains xs y → Contains (x ∷ xs) y
+pub later : (x y : ℕ) (xs : List ℕ) → Contains xs y → Contains (x ∷ xs) y
 later x y xs c = Contains-append_right (x ∷ []) xs y c
 
-cases : (x y : ℕ) (xs : List ℕ) → Contains (x ∷ xs) y → (x ≡ y) ⊎ Contains xs y
+pub cases : (x y : ℕ) (xs : List ℕ) → Contains (x ∷ xs) y → (x ≡ y) ⊎ Contains xs y
 cases x y xs c =
     elim (Contains-append_cases (x ∷ []) xs y c) as (λ _. (x ≡ y) ⊎ Contains xs y) [
       | inl w ↦ elim (Contains-push_cases [] x y w) as (λ _. (x ≡ y) ⊎ Contains xs y) [
@@ -27,7 +27,7 @@ cases x y xs c =
       | inr w ↦ inr w
     ]
 
-nothing : {P : Type 0} (y : ℕ) → Contains [] y → P
+pub nothing : {P : Type 0} (y : ℕ) → Contains [] y → P
 nothing y c = absurd (omega (arith, c.1))
 
 same_first : (x y : ℕ) (xs ys : List ℕ) → AllPairs ◌<◌ (x ∷ xs) → AllPairs ◌<◌ (y ∷ ys) → Contains (y ∷ ys) x → Contains (x ∷ xs) y → x ≡ y

@@ -1,0 +1,99 @@
+-- A text comes to one thing, and to something.
+use Rattle.std.proofs.Common.{◌≡◌, ◌⊎◌, inl, inr, ℕ, ◌<◌, ◌≤◌, List, [], ◌∷◌, length, Result, Ok, Err, refl, sym, ap, subst, ◌∙◌, arith}
+use Rattle.std.specs.List.{All}
+use Rattle.std.proofs.lemmas.Bool.{cases_lt}
+use Rattle.std.proofs.lemmas.List.Elements.{All-cons, All-head, All-nil, All-tail}
+use Rattle.ep_base.specs.declared.operators.Limit.{Limit}
+use Rattle.opb_solve.proofs.FaultLines.{one_fault_line}
+use Rattle.opb_solve.proofs.Replying.{both_lengths, not_over, one_limit, refused_over}
+use Rattle.opb_solve.proofs.Variables.{weighs_some}
+use Rattle.opb_solve.specs.Replies.{IsOpbFaulty, IsOpbReadAs, IsOverOpbLimit, IsOverWeight, IsWithinWeight, OpbComesTo}
+use Rattle.opb_solve.specs.declared.replies.OpbRefusal.{OpbRefusal}
+use Rattle.opb_text.specs.Contents.{OpbContent, Row, objective_terms}
+use Rattle.opb_text.specs.Grammar.{IsOpbFaultLine, SpellsOpb}
+use Rattle.opb_text.specs.Weights.{IsWithinReach, Weighs, factors_size, row_size}
+use Rattle.opb_text.specs.declared.measure.TheConstants.{MOST_REACH, MOST_WEIGHT}
+use Rattle.opb_text.specs.declared.reading.TheConstants.{MOST_BYTES}
+
+-- ---- one thing
+
+-- a text spells one problem alone
+abbrev pub OneContent : List ℕ → Type 0
+OneContent text = (content other : OpbContent) → SpellsOpb text content → SpellsOpb text other → content ≡ other
+
+not_both : (text : List ℕ) (content : OpbContent) (refusal : OpbRefusal) → OneContent text → OpbComesTo text (Ok content) → OpbComesTo text (Err refusal) → ⊥
+not_both text content refusal one h g =
+    let over = refused_over text content refusal h.0 (λ other spells. one content other h.0.spells spells) g in not_over content over.0 h.1 h.2 over.2
+
+refusals_same : (text : List ℕ) (r other : OpbRefusal) → OneContent text → OpbComesTo text (Err r) → OpbComesTo text (Err other) → r ≡ other
+refusals_same text OpbRefusal.TooLong OpbRefusal.TooLong one h g = refl
+refusals_same text OpbRefusal.TooLong (OpbRefusal.Bad line) one h g = both_lengths (length text) h g.short
+refusals_same text OpbRefusal.TooLong (OpbRefusal.Over limit) one h g = both_lengths (length text) h g.1.short
+refusals_same text (OpbRefusal.Bad line) OpbRefusal.TooLong one h g = both_lengths (length text) g h.short
+refusals_same text (OpbRefusal.Bad line) (OpbRefusal.Bad other) one h g = ap (λ (l : ℕ). OpbRefusal.Bad l) (one_fault_line text line other h.fault g.fault)
+refusals_same text (OpbRefusal.Bad line) (OpbRefusal.Over limit) one h g = absurd (h.spells_none g.0 g.1.spells)
+refusals_same text (OpbRefusal.Over limit) other one h g =
+    let over = refused_over text h.0 other h.1 (λ content spells. one h.0 content h.1.spells spells) g in
+    ap (λ (l : Limit). OpbRefusal.Over l) (one_limit h.0 limit over.0 h.2 over.2) ∙ sym over.1
+
+pub comes_once : (text : List ℕ) (r other : Result OpbContent OpbRefusal) → OneContent text → OpbComesTo text r → OpbComesTo text other → r ≡ other
+comes_once text (Ok content) (Ok other) one h g = ap (λ (c : OpbContent). Ok c) (one content other h.0.spells g.0.spells)
+comes_once text (Ok content) (Err refusal) one h g = absurd (not_both text content refusal one h g)
+comes_once text (Err refusal) (Ok content) one h g = absurd (not_both text content refusal one g h)
+comes_once text (Err refusal) (Err other) one h g = ap (λ (r : OpbRefusal). Err r) (refusals_same text refusal other one h g)
+
+-- ---- something
+
+-- a text spells a problem, or has a fault
+abbrev pub IsMeant : List ℕ → Type 0
+IsMeant text = ((content : OpbContent) × SpellsOpb text content) ⊎ (((content : OpbContent) → ¬ SpellsOpb text content) × (line : ℕ) × IsOpbFaultLine text line)
+
+-- a text comes to something
+abbrev pub Comes : List ℕ → Type 0
+Comes text = (outcome : Result OpbContent OpbRefusal) × OpbComesTo text outcome
+
+rows_decided : (rows : List Row) → All (λ row. row_size row ≤ MOST_REACH) rows ⊎ ¬ All (λ row. row_size row ≤ MOST_REACH) rows
+rows_decided [] = inl (All-nil (λ (row : Row). row_size row ≤ MOST_REACH))
+rows_decided (row ∷ rows) =
+    let P : Row → Type 0 = λ r. row_size r ≤ MOST_REACH in
+    elim (cases_lt MOST_REACH (row_size row)) as (λ _. All P (row ∷ rows) ⊎ ¬ All P (row ∷ rows)) [
+      | inl far ↦ inr (λ all. let near = All-head P row rows all in omega (arith, far, near))
+      | inr near ↦ elim (rows_decided rows) as (λ _. All P (row ∷ rows) ⊎ ¬ All P (row ∷ rows)) [
+        | inl all ↦ inl (All-cons P row rows near all)
+        | inr none ↦ inr (λ all. none (All-tail P row rows all))
+      ]
+    ]
+
+reach_decided : (content : OpbContent) → IsWithinReach content ⊎ ¬ IsWithinReach content
+reach_decided content =
+    elim (cases_lt MOST_REACH (factors_size (objective_terms content))) as (λ _. IsWithinReach content ⊎ ¬ IsWithinReach content) [
+      | inl far ↦ inr (λ within. let near = within.objective in omega (arith, far, near))
+      | inr near ↦ elim (rows_decided content.rows) as (λ _. IsWithinReach content ⊎ ¬ IsWithinReach content) [
+        | inl rows ↦ inl (record { objective = near; rows = rows })
+        | inr none ↦ inr (λ within. none within.rows)
+      ]
+    ]
+
+weighed : (text : List ℕ) (content : OpbContent) → IsOpbReadAs text content → IsWithinReach content → (weight : ℕ) → Weighs content weight → Comes text
+weighed text content read within weight weighs =
+    elim (cases_lt MOST_WEIGHT weight) as (λ _. Comes text) [
+      | inl heavy ↦ (Err (OpbRefusal.Over Limit.Weight), (content, read, (within, record { weight = weight; weighs = weighs; high = heavy })))
+      | inr light ↦ (Ok content, (read, within, record { weight = weight; weighs = weighs; low = light }))
+    ]
+
+spelled_comes : (text : List ℕ) (content : OpbContent) → IsOpbReadAs text content → Comes text
+spelled_comes text content read =
+    elim (reach_decided content) as (λ _. Comes text) [
+      | inl within ↦ let weight = weighs_some content in weighed text content read within weight.0 weight.1
+      | inr far ↦ (Err (OpbRefusal.Over Limit.Reach), (content, read, far))
+    ]
+
+pub comes_some : (text : List ℕ) → IsMeant text → Comes text
+comes_some text meant =
+    elim (cases_lt MOST_BYTES (length text)) as (λ _. Comes text) [
+      | inl long ↦ (Err OpbRefusal.TooLong, long)
+      | inr short ↦ elim meant as (λ _. Comes text) [
+        | inl spelled ↦ spelled_comes text spelled.0 (record { short = short; spells = spelled.1 })
+        | inr faulty ↦ (Err (OpbRefusal.Bad faulty.1), record { short = short; spells_none = faulty.0; fault = faulty.2 })
+      ]
+    ]
