@@ -13,7 +13,7 @@ Setting = Text × Text
 -- the names of the options
 abbrev pub options : List Text
 options =
-    codes "task" ∷ codes "in-eprime" ∷ codes "in-param" ∷ codes "in-solution" ∷ codes "in-cnf" ∷ codes "in-log"
+    codes "task" ∷ codes "in-eprime" ∷ codes "in-param" ∷ codes "in-solution" ∷ codes "in-cnf" ∷ codes "in-log" ∷ codes "in-opb"
     ∷ codes "solutions" ∷ codes "conflicts" ∷ codes "workers" ∷ codes "number" ∷ codes "out-eprime"
     ∷ codes "out-param" ∷ codes "out-cnf" ∷ codes "out-log" ∷ codes "out-solution" ∷ codes "undefined" ∷ []
 

@@ -27,6 +27,11 @@ pub enum Job {
         out_log: Option<Word>,
         undefined: Mode,
     },
+    /// To solve a linear pseudo-Boolean problem.
+    Opb {
+        in_opb: Word,
+        conflicts: u64,
+    },
     /// To say whether a solution text is a solution.
     Verify {
         in_eprime: Word,

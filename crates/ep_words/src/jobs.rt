@@ -1,7 +1,7 @@
 //! What settings ask for.
 
 ghost use Rattle.std.specs.Prelude.{◌≡◌, MatchResult};
-ghost use Rattle.ep_words.specs.Jobs.{job_of, job_of_task, job_within, solve_options, solve_job, enumerate_options, enumerate_job, verify_options, verify_job, check_options, check_job, generate_options, generate_job, task_of};
+ghost use Rattle.ep_words.specs.Jobs.{job_of, job_of_task, job_within, solve_options, solve_job, enumerate_options, enumerate_job, opb_options, opb_job, verify_options, verify_job, check_options, check_job, generate_options, generate_job, task_of};
 ghost use Rattle.ep_words.specs.Views.{settings_of};
 
 use crate::errors::WordsError;
@@ -45,6 +45,7 @@ fn job_of_task(alloc: Global, task: Task, settings: &ArgMatches) -> Result<Job, 
     match task {
         Task::Solve => solve(alloc, settings),
         Task::Enumerate => enumerate(alloc, settings),
+        Task::Opb => opb(alloc, settings),
         Task::Verify => verify(alloc, settings),
         Task::Check => check(alloc, settings),
         Task::Generate => generate(alloc, settings),
@@ -118,6 +119,21 @@ fn enumerate(alloc: Global, settings: &ArgMatches) -> Result<Job, WordsError>
         out_cnf: word_in(alloc, settings, "out-cnf")?,
         out_log: word_in(alloc, settings, "out-log")?,
         undefined,
+    })
+}
+
+fn opb(alloc: Global, settings: &ArgMatches) -> Result<Job, WordsError>
+    ensures { MatchResult result
+        (λ job. job_within opb_options opb_job (settings_of settings.now) ≡ Some job)
+        (λ error. error ≡ WordsError.Usage
+        → job_within opb_options opb_job (settings_of settings.now) ≡ None) }
+{
+    if !set_only(settings, &["task", "in-opb", "conflicts"]) {
+        return Err(WordsError::Usage);
+    }
+    Ok(Job::Opb {
+        in_opb: needed_word(alloc, settings, "in-opb")?,
+        conflicts: conflicts(settings).ok_or(WordsError::Usage)?,
     })
 }
 

@@ -11,13 +11,14 @@ use clap::{Arg, ArgAction, ArgMatches, Command};
 use std::alloc::{AllocError, Global};
 
 /// The names of the options.
-const OPTIONS: [&str; 16] = [
+const OPTIONS: [&str; 17] = [
     "task",
     "in-eprime",
     "in-param",
     "in-solution",
     "in-cnf",
     "in-log",
+    "in-opb",
     "solutions",
     "conflicts",
     "workers",

@@ -8,6 +8,7 @@ ghost use Rattle.ep_words.specs.Jobs.{task_named};
 pub(crate) enum Task {
     Solve,
     Enumerate,
+    Opb,
     Verify,
     Check,
     Generate,
@@ -22,6 +23,9 @@ pub(crate) fn named(name: &str) -> Option<Task>
     }
     if name == "enumerate" {
         return Some(Task::Enumerate);
+    }
+    if name == "opb" {
+        return Some(Task::Opb);
     }
     if name == "verify" {
         return Some(Task::Verify);

@@ -23,7 +23,7 @@ fn answer_to(alloc: Global, line: &str) -> Result<String, Fail> {
 }
 
 /// Lines, each with the job that it asks for.
-const COMMANDS: [(&str, &str); 9] = [
+const COMMANDS: [(&str, &str); 10] = [
     (
         "--in-eprime m",
         "Solve { in_eprime: Word { text: \"m\" }, in_param: None, conflicts: 1000000, \
@@ -39,6 +39,10 @@ const COMMANDS: [(&str, &str); 9] = [
         "--undefined strict --in-eprime m",
         "Solve { in_eprime: Word { text: \"m\" }, in_param: None, conflicts: 1000000, \
          out_solution: None, out_cnf: None, out_log: None, undefined: Strict }",
+    ),
+    (
+        "--task opb --in-opb o --conflicts 7",
+        "Opb { in_opb: Word { text: \"o\" }, conflicts: 7 }",
     ),
     (
         "--task enumerate --in-eprime m --solutions all",
@@ -71,7 +75,7 @@ const COMMANDS: [(&str, &str); 9] = [
 ];
 
 /// Lines that are no command.
-const NO_COMMANDS: [&str; 28] = [
+const NO_COMMANDS: [&str; 31] = [
     "--task solve",
     "",
     "--in-eprime m --conflicts 0",
@@ -94,6 +98,9 @@ const NO_COMMANDS: [&str; 28] = [
     "--in-eprime m --undefined lax",
     "--in-eprime m --undefined=",
     "--in-eprime m --undefined strict --undefined strict",
+    "--task opb",
+    "--task opb --in-opb o --in-eprime m",
+    "--in-eprime m --in-opb o",
     "--task verify --in-eprime m",
     "--task check --in-cnf k --in-log l --workers 65",
     "--task check --in-cnf k --in-log l --undefined strict",
