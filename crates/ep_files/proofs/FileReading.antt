@@ -34,10 +34,10 @@ use Rattle.ep_tree.specs.declared.statements.Params.{Params}
 
 -- ---- the first bytes of a text tell what it is read as
 
-whole : (most : ℕ) (text : List ℕ) → length (take (most + 1) text) ≤ most → take (most + 1) text ≡ text
+pub whole : (most : ℕ) (text : List ℕ) → length (take (most + 1) text) ≤ most → take (most + 1) text ≡ text
 whole most text h = take_all (most + 1) text (omega (arith, h, length-take (most + 1) text))
 
-longer : (most : ℕ) (text : List ℕ) → most < length (take (most + 1) text) → most < length text
+pub longer : (most : ℕ) (text : List ℕ) → most < length (take (most + 1) text) → most < length text
 longer most text h = omega (arith, h, length-take (most + 1) text)
 
 -- the first bytes of a text, one more than it may have, are read as the text is

@@ -1,2 +1,2 @@
-mod FileReading
+pub mod FileReading
 pub mod OneReading

@@ -7,7 +7,8 @@ mod status;
 mod stops;
 
 pub use reading::{
-    model_in, params_in, read_formula, read_model, read_named_params, read_params, read_proof,
+    model_in, params_in, read_bytes, read_formula, read_model, read_named_params, read_params,
+    read_proof,
 };
 pub use status::{Status, status_of};
 pub use stops::Stop;

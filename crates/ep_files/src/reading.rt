@@ -104,8 +104,8 @@ pub fn read_proof<F: Files>(alloc: Global, files: &mut F, name: &Word) -> Result
     proof_in(alloc, &text)
 }
 
-/// Reads a file, one byte more at most than a text of its kind may have.
-fn read_bytes<F: Files>(
+/// Reads a file, one byte more at most than a text of its kind may have, so that a text that has more is told by its length.
+pub fn read_bytes<F: Files>(
     alloc: Global,
     files: &mut F,
     name: &Word,
