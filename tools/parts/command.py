@@ -5,6 +5,7 @@ import difflib
 TASKS = {
     "solve": ("in-eprime", ["in-param", "conflicts", "out-solution", "out-cnf", "out-log", "undefined"]),
     "enumerate": ("in-eprime solutions", ["in-param", "conflicts", "out-solution", "out-cnf", "out-log", "undefined"]),
+    "opb": ("in-opb", ["conflicts"]),
     "verify": ("in-eprime in-solution", ["in-param", "undefined"]),
     "check": ("in-cnf in-log", ["workers"]),
     "generate": ("number", ["conflicts", "out-eprime", "out-param"]),
@@ -16,7 +17,7 @@ ALONE = ("help", "version", "prove")
 FORMS = ("grid", "csv", "json", "html")
 # The outputs, in the order in which the program writes them.
 OUTPUTS = ("out-cnf", "out-log", "out-solution", "out-eprime", "out-param")
-INPUTS = {"model": "in-eprime", "params": "in-param", "solution": "in-solution", "cnf": "in-cnf", "log": "in-log"}
+INPUTS = {"model": "in-eprime", "params": "in-param", "solution": "in-solution", "cnf": "in-cnf", "log": "in-log", "opb": "in-opb"}
 # The solver's budget where no word says one.
 CONFLICTS = 1_000_000
 

@@ -253,8 +253,15 @@ def clause(text, words, number):
     return [f"line {node.first.line} of the model: {said if len(said) <= 300 else said[:296] + ' ..'}"]
 
 
+# The faults that name a line alone, with the option of the file that has it.
+LINES = {"F12": "in-cnf", "F13": "in-log", "F14": "in-opb"}
+
+
 def of_name(fault, name, command):
     """What is behind a fault of a parameter or of a `where`."""
+    if fault in LINES:
+        text = tokens.text_in(command.values.get(LINES[fault]))
+        return [f"line {name}: {text.splitlines()[int(name) - 1][:WIDTH]}"] if text and name.isdigit() and int(name) <= len(text.splitlines()) else []
     model, params = texts(command)
     if model is None:
         return []
@@ -264,9 +271,6 @@ def of_name(fault, name, command):
         used = dict.fromkeys(re.findall(r"[A-Za-z_]\w*", made[0].split(": ", 1)[1])) if made else {}
         values = [f"{it} is {known[it]}" for it in used if type(known.get(it)) is int]
         return made + ([", ".join(values[:6])] if values else [])
-    if fault in ("F12", "F13"):
-        text = tokens.text_in(command.values.get("in-cnf" if fault == "F12" else "in-log"))
-        return [f"line {name}: {text.splitlines()[int(name) - 1][:WIDTH]}"] if text and name.isdigit() and int(name) <= len(text.splitlines()) else []
     hints = []
     given = place_of(model, ("given", "letting"), name)
     if given:

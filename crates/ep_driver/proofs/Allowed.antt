@@ -4,7 +4,7 @@ use Rattle.std.proofs.lemmas.Bool.{cases_Bool}
 use Rattle.std.proofs.lemmas.Bool.Decides.{nat_tests}
 use Rattle.std.specs.Str.Parse.{digits_value}
 use Rattle.ep_base.specs.TokenTexts.{is_number}
-use Rattle.ep_words.specs.Jobs.{check_job, check_options, conflicts_of as set_conflicts, enumerate_job, enumerate_options, generate_job, generate_options, job_of, mode_of, number_or, number_within, sets_only, solution_count, solve_job, solve_options, verify_job, verify_options, workers_of}
+use Rattle.ep_words.specs.Jobs.{check_job, check_options, conflicts_of as set_conflicts, enumerate_job, enumerate_options, generate_job, generate_options, job_of, mode_of, number_or, number_within, opb_job, opb_options, sets_only, solution_count, solve_job, solve_options, verify_job, verify_options, workers_of}
 use Rattle.ep_words.specs.Settings.{Setting, Text, value_of}
 use Rattle.ep_tree.specs.declared.values.Mode.{Mode}
 use Rattle.ep_driver.specs.Commands.{Want, conflicts_wanted, wanted_of}
@@ -73,6 +73,7 @@ kept-number text n e = bounded-number (is_number text && nat_le (length text) 10
 abbrev HasBudget : Job → Type 0
 HasBudget (Job.Solve _ _ conflicts _ _ _ _) = 1 ≤ conflicts
 HasBudget (Job.Enumerate _ _ _ conflicts _ _ _ _) = 1 ≤ conflicts
+HasBudget (Job.Opb _ conflicts) = 1 ≤ conflicts
 HasBudget (Job.Verify _ _ _ _) = Unit {0}
 HasBudget (Job.Check _ _ _) = Unit {0}
 HasBudget (Job.Generate number conflicts _ _) = (1 ≤ conflicts) × (number ≤ 1000000000)
@@ -94,6 +95,12 @@ enumerate-budget s job e =
     (λ k. all-within HasBudget (λ n. option_map (make m k n) (mode_of s)) (set_conflicts s)
     (λ n f. all-mapped HasBudget (make m k n) (mode_of s) (λ u g. set-number (value_of (codes "conflicts") s) n f))) most)
     (value_of (codes "in-eprime") s) job e
+
+opb-budget : (s : List Setting) (job : Job) → opb_job s ≡ Some job → HasBudget job
+opb-budget s job e =
+    all-and-then HasBudget (λ o. option_map (λ n. Job.Opb o n) (set_conflicts s))
+    (λ o. all-mapped HasBudget (λ n. Job.Opb o n) (set_conflicts s) (λ n f. set-number (value_of (codes "conflicts") s) n f))
+    (value_of (codes "in-opb") s) job e
 
 verify-budget : (s : List Setting) (job : Job) → verify_job s ≡ Some job → HasBudget job
 verify-budget s job e =
@@ -125,13 +132,16 @@ job-budget s job e =
       | inl solve ↦ if-chosen HasBudget (sets_only solve_options s) (solve_job s) job (λ k f. solve-budget s k f) (rw solve at e)
       | inr a ↦ let e1 = rw a at e in elim (cases_Bool (bytes_eq name (codes "enumerate"))) [
         | inl enumerate ↦ if-chosen HasBudget (sets_only enumerate_options s) (enumerate_job s) job (λ k f. enumerate-budget s k f) (rw enumerate at e1)
-        | inr b ↦ let e2 = rw b at e1 in elim (cases_Bool (bytes_eq name (codes "verify"))) [
-          | inl verify ↦ if-chosen HasBudget (sets_only verify_options s) (verify_job s) job (λ k f. verify-budget s k f) (rw verify at e2)
-          | inr c ↦ let e3 = rw c at e2 in elim (cases_Bool (bytes_eq name (codes "check"))) [
-            | inl check ↦ if-chosen HasBudget (sets_only check_options s) (check_job s) job (λ k f. check-budget s k f) (rw check at e3)
-            | inr d ↦ let e4 = rw d at e3 in elim (cases_Bool (bytes_eq name (codes "generate"))) [
-              | inl generate ↦ if-chosen HasBudget (sets_only generate_options s) (generate_job s) job (λ k f. generate-budget s k f) (rw generate at e4)
-              | inr f ↦ let none = rw f at e4 in absurd cc
+        | inr o ↦ let e2 = rw o at e1 in elim (cases_Bool (bytes_eq name (codes "opb"))) [
+          | inl opb ↦ if-chosen HasBudget (sets_only opb_options s) (opb_job s) job (λ k f. opb-budget s k f) (rw opb at e2)
+          | inr b ↦ let e3 = rw b at e2 in elim (cases_Bool (bytes_eq name (codes "verify"))) [
+            | inl verify ↦ if-chosen HasBudget (sets_only verify_options s) (verify_job s) job (λ k f. verify-budget s k f) (rw verify at e3)
+            | inr c ↦ let e4 = rw c at e3 in elim (cases_Bool (bytes_eq name (codes "check"))) [
+              | inl check ↦ if-chosen HasBudget (sets_only check_options s) (check_job s) job (λ k f. check-budget s k f) (rw check at e4)
+              | inr d ↦ let e5 = rw d at e4 in elim (cases_Bool (bytes_eq name (codes "generate"))) [
+                | inl generate ↦ if-chosen HasBudget (sets_only generate_options s) (generate_job s) job (λ k f. generate-budget s k f) (rw generate at e5)
+                | inr f ↦ let none = rw f at e5 in absurd cc
+              ]
             ]
           ]
         ]
@@ -143,6 +153,7 @@ job-budget s job e =
 -- a search that is wanted may take a conflict, and a number that is wanted has texts
 abbrev IsAllowed : Wanted → Type 0
 IsAllowed (Wanted.Search _ _ _ request _) = 1 ≤ conflicts_wanted request
+IsAllowed (Wanted.Opb _ conflicts) = 1 ≤ conflicts
 IsAllowed (Wanted.Verify _ _ _ _) = Unit {0}
 IsAllowed (Wanted.Check _ _ _) = Unit {0}
 IsAllowed (Wanted.Generate number conflicts eprime param) = (1 ≤ conflicts) × (number ≤ 1000000000)
@@ -157,6 +168,8 @@ wanted-allowed (Job.Enumerate m p most n o c l u) has wanted e =
     let outputs : Outputs = record { formula = c; log = l; solution = o } in
     let same : Wanted.Search m p u (Request.Many most n) outputs ≡ wanted = cc in
     subst IsAllowed same has
+wanted-allowed (Job.Opb o n) has wanted e =
+    let same : Wanted.Opb o n ≡ wanted = cc in subst IsAllowed same has
 wanted-allowed (Job.Verify m t p u) has wanted e =
     let same : Wanted.Verify m p u t ≡ wanted = cc in subst IsAllowed same tt
 wanted-allowed (Job.Check c l w) has wanted e =
@@ -170,12 +183,14 @@ wants-allowed words wanted want =
 
 allowed-budget : (wanted : Wanted) (conflicts : ℕ) → IsAllowed wanted → IsSearchFor wanted conflicts → 1 ≤ conflicts
 allowed-budget (Wanted.Search m p u request o) conflicts allowed is = subst (λ (n : ℕ). 1 ≤ n) (sym is) allowed
+allowed-budget (Wanted.Opb opb most) conflicts allowed is = subst (λ (n : ℕ). 1 ≤ n) (sym is) allowed
 allowed-budget (Wanted.Verify m p u s) conflicts allowed is = absurd is
 allowed-budget (Wanted.Check f l w) conflicts allowed is = absurd is
 allowed-budget (Wanted.Generate number most eprime param) conflicts allowed is = subst (λ (n : ℕ). 1 ≤ n) (sym is) allowed.0
 
 allowed-texts : (wanted : Wanted) → IsAllowed wanted → HasTexts wanted
 allowed-texts (Wanted.Search m p u request o) allowed = tt
+allowed-texts (Wanted.Opb opb conflicts) allowed = tt
 allowed-texts (Wanted.Verify m p u s) allowed = tt
 allowed-texts (Wanted.Check f l w) allowed = tt
 allowed-texts (Wanted.Generate number conflicts eprime param) allowed = allowed.1

@@ -51,6 +51,7 @@ no-conflict none words wanted conflicts events want is effective spent = λ conf
 -- a search that is wanted has one budget
 one-budget : (wanted : Wanted) (m n : ℕ) → IsSearchFor wanted m → IsSearchFor wanted n → m ≡ n
 one-budget (Wanted.Search model params mode request output) m n g h = g ∙ sym h
+one-budget (Wanted.Opb opb most) m n g h = g ∙ sym h
 one-budget (Wanted.Verify model params mode solution) m n g h = absurd g
 one-budget (Wanted.Check formula proof workers) m n g h = absurd g
 one-budget (Wanted.Generate number most eprime param) m n g h = g ∙ sym h

@@ -22,13 +22,15 @@ use Rattle.ep_tree.specs.Texts.{Answers, SpellsText, TextAnswer, bad_byte, long_
 use Rattle.ep_tree.specs.declared.values.Mode.{Mode}
 use Rattle.ep_driver.specs.Answers.{Settles, judgement_status, judgement_text}
 use Rattle.ep_driver.specs.Commands.{Want}
-use Rattle.ep_driver.specs.Outcomes.{Outcome, Task, as_outcome, fault_refusals, instance_of, search_outcome, searched_task, to_judge, verify_outcome}
+use Rattle.ep_driver.specs.Outcomes.{Outcome, Task, as_outcome, fault_refusals, instance_of, search_outcome, searched_task, to_judge, to_solve_opb, verify_outcome}
 use Rattle.ep_driver.specs.Promised.{FilesMake, HoldsGiven, IsPromised}
-use Rattle.ep_files.specs.Readings.{AreParams, IsHeldReadBy, IsFileReadAs, IsTextReadAs, spells_in, tree_or_refusal}
-use Rattle.ep_driver.specs.Shown.{Ask, ComesTo, ThenShows, comes_to_judge, comes_to_search, comes_to_verify}
+use Rattle.ep_files.specs.Readings.{AreParams, IsHeldReadBy, IsFileReadAs, IsReadBy, IsTextReadAs, spells_in, tree_or_refusal}
+use Rattle.ep_driver.specs.Shown.{Ask, ComesTo, IsOpbTextReadAs, ThenShows, comes_to_judge, comes_to_search, comes_to_verify, is_opb_task}
 use Rattle.ep_files.specs.declared.status.Status.{Status}
 use Rattle.ep_driver.specs.declared.wanted.Request.{Request}
 use Rattle.ep_driver.specs.declared.wanted.Wanted.{Wanted}
+use Rattle.opb_text.specs.Contents.{OpbContent}
+use Rattle.opb_text.specs.Grammar.{SpellsOpb}
 use Rattle.ep_driver.proofs.Outcomes.{as_ok, bound_ok, never_refused, ok_is, then_ok, unless_ok}
 
 -- ---- what was read
@@ -179,6 +181,16 @@ judge_true held mode model params name i s own status text log (fits a) decided 
     solved : (goal : Option ℤ) → judged_by None true goal ≡ a_solution goal
     solved goal = refl
 
+-- a file whose text comes to a problem holds a text that spells it
+held_comes : (name : List ℕ) (told : Option (List ℕ)) (content : OpbContent) → IsHeldReadBy IsOpbTextReadAs name told (Ok content) → (text : List ℕ) × (told ≡ Some text) × SpellsOpb text content
+held_comes name None content read = never_refused read
+held_comes name (Some text) content read = (text, refl, read.0.spells)
+
+opb_true : (held : Held) (opb : List ℕ) (conflicts : ℕ) (own : List ℕ) (content : OpbContent) (status : Status) (text : List ℕ) (log : LogState) → held opb ≡ Some own → SpellsOpb own content
+    → Settles (to_solve_opb content conflicts) status text log → IsPromised held (Wanted.Opb opb conflicts) status text
+unfolding IsPromised Settles
+opb_true held opb conflicts own content status text log kept spelled h = (own, kept, content, spelled, h.0, h.1, h.3, h.4)
+
 kept_for : (held : Held) (wanted : Wanted) (task : Task) (status : Status) (text : List ℕ) (log : LogState) → IsDecided status → ComesTo wanted held (Ok task) → Settles task status text log → IsPromised held wanted status text
 unfolding IsPromised
 kept_for held (Wanted.Search model params mode q outputs) task status text log decided comes h =
@@ -195,6 +207,10 @@ kept_for held (Wanted.Verify model params mode name) task status text log decide
     let own : _ = held_spells TextFile.Solution name (held name) s.0 s.1 in
     judge_true held mode model params name it.0 s.0 own.0 status text log it.2 decided (files_make held mode model params m.0 p.0 it.0 m.1 p.1 it.1)
     own.1 own.2 it.3 (subst (λ t. Settles t status text log) (sym it.4) h)
+kept_for held (Wanted.Opb opb conflicts) task status text log decided comes h =
+    let it : _ = read_ok (IsReadBy IsOpbTextReadAs held opb) (is_opb_task conflicts) task comes in
+    let own : _ = held_comes opb (held opb) it.0 it.1 in
+    opb_true held opb conflicts own.0 it.0 status text log own.1 own.2 (subst (λ t. Settles t status text log) (ok_is it.2) h)
 kept_for held (Wanted.Check formula proof workers) task status text log decided comes h = tt
 kept_for held (Wanted.Generate number conflicts eprime param) task status text log decided comes h = tt
 

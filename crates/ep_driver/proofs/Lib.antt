@@ -12,6 +12,7 @@ mod Written
 mod Promises
 mod Once
 mod ShownTexts
+mod OpbReplies
 mod Allowed
 mod Files
 mod Certified

@@ -13,15 +13,18 @@ use Rattle.ep_words.specs.Commands.{IsCommand}
 use Rattle.ep_words.specs.declared.job.Job.{Job}
 use Rattle.ep_driver.specs.Answers.{Settles}
 use Rattle.ep_driver.specs.Commands.{IsJudgement, Want, wanted_of}
-use Rattle.ep_driver.specs.Outcomes.{Outcome, Task, search_outcome, to_check, verify_outcome}
+use Rattle.ep_driver.specs.Outcomes.{Outcome, Task, opb_refusal, search_outcome, to_check, verify_outcome}
 use Rattle.ep_driver.specs.Puts.{HoldOnWant}
 use Rattle.ep_files.specs.Readings.{AreParams, IsFormulaReadAs, IsHeldReadBy, IsProofReadAs, IsFileReadAs, IsReadBy, IsTextReadAs, ReadsTexts, spells_in, tree_or_refusal}
-use Rattle.ep_driver.specs.Shown.{Ask, ComesTo, Refuse, Show, ThenShows, comes_to_check, comes_to_judge, comes_to_parameters, comes_to_search, comes_to_verify}
+use Rattle.ep_driver.specs.Shown.{Ask, ComesTo, IsOpbTextReadAs, Refuse, Show, ThenShows, comes_to_check, comes_to_judge, comes_to_parameters, comes_to_search, comes_to_verify, is_opb_task}
 use Rattle.ep_files.specs.Status.{HasReply, status_of}
 use Rattle.ep_driver.specs.Steps.{IsLogOf, LogsTask}
 use Rattle.ep_files.specs.declared.status.Status.{Status}
 use Rattle.ep_driver.specs.declared.wanted.Request.{Request}
 use Rattle.ep_driver.specs.declared.wanted.Wanted.{Wanted}
+use Rattle.opb_solve.specs.Replies.{OpbComesTo}
+use Rattle.opb_solve.specs.declared.replies.OpbRefusal.{OpbRefusal}
+use Rattle.opb_text.specs.Contents.{OpbContent}
 use Rattle.ep_files.proofs.OneReading.{OneFormula, OneProof, formula-once, proof-once}
 use Rattle.ep_driver.proofs.Promises.{ended-status, usage-told}
 use Rattle.ep_driver.proofs.Saying.{Case, answer, end-logs, faulty, no_command, unread, unwritten}
@@ -40,6 +43,19 @@ OneReading {A} texts = (text : List ℕ) (a b : Result A Refusal) → texts text
 
 tree-once : (file : TextFile) → OneAnswer file → OneReading (IsTextReadAs file)
 tree-once file one text a b g h = g.2 ∙ ap (tree_or_refusal file) (one text g.0 h.0 g.1 h.1) ∙ sym h.2
+
+-- the text of a pseudo-Boolean problem comes to one thing alone
+abbrev pub OneComing : Type 0
+OneComing = (text : List ℕ) (one other : Result OpbContent OpbRefusal) → OpbComesTo text one → OpbComesTo text other → one ≡ other
+
+opb-once : OneComing → OneReading IsOpbTextReadAs
+opb-once one text (Ok x) (Ok y) g h = let e = one text (Ok x) (Ok y) g h in let same : x ≡ y = cc in ap Ok same
+opb-once one text (Ok x) (Err r) g h = let e = one text (Ok x) (Err h.0) g h.1 in absurd cc
+opb-once one text (Err r) (Ok y) g h = let e = one text (Err g.0) (Ok y) g.1 h in absurd cc
+opb-once one text (Err r) (Err s) g h =
+    let e = one text (Err g.0) (Err h.0) g.1 h.1 in
+    let same : g.0 ≡ h.0 = cc in
+    ap Err (g.2 ∙ ap opb_refusal same ∙ sym h.2)
 
 held-once : {A : Type 0} (texts : ReadsTexts A) → OneReading texts → (name : List ℕ) (x : Option (List ℕ)) (a b : Result A Refusal) → IsHeldReadBy texts name x a → IsHeldReadBy texts name x b → a ≡ b
 held-once texts one name None a b g h = g ∙ sym h
@@ -77,12 +93,16 @@ pub record TextsAreOnce : Type 0 where
   pub solution : OneAnswer TextFile.Solution
   pub formula : OneFormula
   pub proof : OneProof
+  pub opb : OneComing
 
 comes-once : TextsAreOnce → (wanted : Wanted) (held : Held) (a b : Outcome Task) → ComesTo wanted held a → ComesTo wanted held b → a ≡ b
 comes-once texts (Wanted.Search model params mode request outputs) held a b g h =
     then-once (IsFileReadAs held TextFile.Model model) (λ m. comes_to_search mode request params m held) (file-once (IsTextReadAs TextFile.Model) (tree-once TextFile.Model texts.model) model held)
     (λ m. then-once (AreParams held params) (λ p outcome. outcome ≡ search_outcome mode request m p) (params-once texts.params params held) (λ p x y e f. e ∙ sym f))
     a b g h
+comes-once texts (Wanted.Opb opb conflicts) held a b g h =
+    then-once (IsReadBy IsOpbTextReadAs held opb) (is_opb_task conflicts) (file-once IsOpbTextReadAs (opb-once texts.opb) opb held)
+    (λ content x y e f. e ∙ sym f) a b g h
 comes-once texts (Wanted.Verify model params mode solution) held a b g h =
     then-once (IsFileReadAs held TextFile.Model model) (λ m. comes_to_verify mode params solution m held) (file-once (IsTextReadAs TextFile.Model) (tree-once TextFile.Model texts.model) model held)
     (λ m. then-once (AreParams held params) (λ p. comes_to_judge mode solution m p held) (params-once texts.params params held)
@@ -206,6 +226,7 @@ unlogged-on-want words (Some held) log once h = λ refusals show.
 
 logs-nothing : (wanted : Wanted) (log : LogState) → IsJudgement wanted → IsLogOf wanted log → log ≡ empty_log
 logs-nothing (Wanted.Search m p u request outputs) log judged logs = absurd judged
+logs-nothing (Wanted.Opb opb conflicts) log judged logs = absurd judged
 logs-nothing (Wanted.Verify m p u s) log judged logs = logs
 logs-nothing (Wanted.Check formula proof workers) log judged logs = logs
 logs-nothing (Wanted.Generate number conflicts eprime param) log judged logs = absurd judged

@@ -41,6 +41,7 @@ kind-ended s h = elim h [ inl e ↦ ap kind e | inr rest ↦ elim rest [ inl e �
 
 kind-end : (wanted : Wanted) (s : Status) (log : LogState) → IsEnd wanted s log → kind s ≡ 0
 kind-end (Wanted.Search _ _ _ _ _) s log h = elim h.1 [ inl e ↦ ap kind e | inr e ↦ ap kind e.0 ]
+kind-end (Wanted.Opb _ _) s log h = elim h.1 [ inl e ↦ ap kind e | inr e ↦ ap kind e.0 ]
 kind-end (Wanted.Verify _ _ _ _) s log h = elim h.1 [ inl e ↦ ap kind e | inr e ↦ ap kind e ]
 kind-end (Wanted.Check _ _ _) s log h = elim h.1 [ inl e ↦ ap kind e | inr e ↦ ap kind e ]
 kind-end (Wanted.Generate _ _ _ _) s log h = elim h.1 [ inl e ↦ ap kind e | inr e ↦ ap kind e.0 ]
@@ -64,6 +65,7 @@ refused-not s n h k one two =
 
 pub ended-status : (wanted : Wanted) (s : Status) (log : LogState) → IsEnd wanted s log → HasReply s
 ended-status (Wanted.Search _ _ _ _ _) s log h = elim h.1 [ inl e ↦ inl e | inr e ↦ inr (inl e.0) ]
+ended-status (Wanted.Opb _ _) s log h = elim h.1 [ inl e ↦ inl e | inr e ↦ inr (inl e.0) ]
 ended-status (Wanted.Verify _ _ _ _) s log h = elim h.1 [ inl e ↦ inl e | inr e ↦ inr (inr e) ]
 ended-status (Wanted.Check _ _ _) s log h = elim h.1 [ inl e ↦ inl e | inr e ↦ inr (inr e) ]
 ended-status (Wanted.Generate _ _ _ _) s log h = elim h.1 [ inl e ↦ inl e | inr e ↦ inr (inl e.0) ]
@@ -136,6 +138,7 @@ Judges words = (wanted : Wanted) × Want words wanted × IsJudgement wanted
 wants-judgement : (words : List (List ℕ)) (wanted : Wanted) (status : Status) (log : LogState) → Want words wanted → IsEnd wanted status log → status ≡ Status.Refuted → Judges words × (log ≡ empty_log) × (written_for wanted ≡ [])
 unfolding written_for
 wants-judgement words (Wanted.Search model params mode request outputs) status log want ends e = elim ends.1 [ inl f ↦ let g = sym f ∙ e in absurd cc | inr f ↦ let g = sym f.0 ∙ e in absurd cc ]
+wants-judgement words (Wanted.Opb opb conflicts) status log want ends e = elim ends.1 [ inl f ↦ let g = sym f ∙ e in absurd cc | inr f ↦ let g = sym f.0 ∙ e in absurd cc ]
 wants-judgement words (Wanted.Verify model params mode solution) status log want ends e = ((Wanted.Verify model params mode solution, want, tt), ends.0, refl)
 wants-judgement words (Wanted.Check formula proof workers) status log want ends e = ((Wanted.Check formula proof workers, want, tt), ends.0, refl)
 wants-judgement words (Wanted.Generate number conflicts eprime param) status log want ends e = elim ends.1 [ inl f ↦ let g = sym f ∙ e in absurd cc | inr f ↦ let g = sym f.0 ∙ e in absurd cc ]
@@ -228,6 +231,7 @@ Spends words log =
 
 wants-search : (words : List (List ℕ)) (wanted : Wanted) (status : Status) (log : LogState) → Want words wanted → IsEnd wanted status log → status ≡ Status.Unknown → Spends words log
 wants-search words (Wanted.Search model params mode request output) status log want ends e = elim ends.1 [ inl f ↦ let g = sym f ∙ e in absurd cc | inr f ↦ (Wanted.Search model params mode request output, conflicts_wanted request, want, refl, f.1) ]
+wants-search words (Wanted.Opb opb conflicts) status log want ends e = elim ends.1 [ inl f ↦ let g = sym f ∙ e in absurd cc | inr f ↦ (Wanted.Opb opb conflicts, conflicts, want, refl, f.1) ]
 wants-search words (Wanted.Verify model params mode solution) status log want ends e = elim ends.1 [ inl f ↦ let g = sym f ∙ e in absurd cc | inr f ↦ let g = sym f ∙ e in absurd cc ]
 wants-search words (Wanted.Check formula proof workers) status log want ends e = elim ends.1 [ inl f ↦ let g = sym f ∙ e in absurd cc | inr f ↦ let g = sym f ∙ e in absurd cc ]
 wants-search words (Wanted.Generate number conflicts eprime param) status log want ends e = elim ends.1 [ inl f ↦ let g = sym f ∙ e in absurd cc | inr f ↦ (Wanted.Generate number conflicts eprime param, conflicts, want, refl, f.1) ]

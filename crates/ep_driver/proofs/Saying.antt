@@ -33,18 +33,21 @@ nothing-sound log e =
 
 pub end-sound : (wanted : Wanted) (status : Status) (log : LogState) → IsEnd wanted status log → IsSound log.events
 end-sound (Wanted.Search _ _ _ _ _) status log h = h.0
+end-sound (Wanted.Opb _ _) status log h = h.0
 end-sound (Wanted.Verify _ _ _ _) status log h = nothing-sound log h.0
 end-sound (Wanted.Check _ _ _) status log h = nothing-sound log h.0
 end-sound (Wanted.Generate _ _ _ _) status log h = h.0
 
 pub end-logs : (wanted : Wanted) (status : Status) (log : LogState) → IsEnd wanted status log → IsLogOf wanted log
 end-logs (Wanted.Search _ _ _ _ _) status log h = tt
+end-logs (Wanted.Opb _ _) status log h = tt
 end-logs (Wanted.Verify _ _ _ _) status log h = h.0
 end-logs (Wanted.Check _ _ _) status log h = h.0
 end-logs (Wanted.Generate _ _ _ _) status log h = tt
 
 pub nothing-logs : (wanted : Wanted) (log : LogState) → log ≡ empty_log → IsLogOf wanted log
 nothing-logs (Wanted.Search _ _ _ _ _) log e = tt
+nothing-logs (Wanted.Opb _ _) log e = tt
 nothing-logs (Wanted.Verify _ _ _ _) log e = e
 nothing-logs (Wanted.Check _ _ _) log e = e
 nothing-logs (Wanted.Generate _ _ _ _) log e = tt

@@ -56,6 +56,10 @@ verify-runs : wanted_of (Job.Verify m s (Some m) Mode.Strict) ≡ Wanted.Verify 
 unfolding wanted_of
 verify-runs = refl
 
+opb-runs : wanted_of (Job.Opb m 7) ≡ Wanted.Opb m 7
+unfolding wanted_of
+opb-runs = refl
+
 check-runs : wanted_of (Job.Check m s 1) ≡ Wanted.Check m s 1
 unfolding wanted_of
 check-runs = refl

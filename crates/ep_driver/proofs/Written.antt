@@ -93,6 +93,7 @@ outputs-named words (Wanted.Search model params mode request o) want =
     (All-append P (named steps o.log) (named an_answer o.solution)
     (named-all (IsOutput words) steps o.log (λ name e. (wanted, want, inr (inl e))))
     (named-all (IsOutput words) an_answer o.solution (λ name e. (wanted, want, inr (inr e)))))
+outputs-named words (Wanted.Opb opb conflicts) want = All-nil (λ (x : Output). IsOutput words x.name)
 outputs-named words (Wanted.Verify model params mode solution) want = All-nil (λ (x : Output). IsOutput words x.name)
 outputs-named words (Wanted.Check formula proof workers) want = All-nil (λ (x : Output). IsOutput words x.name)
 outputs-named words (Wanted.Generate number conflicts eprime param) want =

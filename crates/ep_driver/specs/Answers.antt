@@ -1,5 +1,5 @@
 -- Which answers are right for a task, their texts, and what the log shows of them.
-use Rattle.std.specs.Prelude.{◌≡◌, ℕ, List, ◌++◌, codes, Some, None, Contains}
+use Rattle.std.specs.Prelude.{◌≡◌, ℕ, Bool, true, false, List, ◌++◌, codes, Some, None, Contains}
 use Rattle.std.specs.Fmt.{decimal, signed_decimal}
 use Rattle.ep_tree.specs.Binding.{Instance}
 use Rattle.ep_tree.specs.SolutionTexts.{fits, wrong_shape}
@@ -14,7 +14,12 @@ use Rattle.log_check.specs.declared.Verdict.TheVariants.{BadStep, NoEmptyClause,
 use Rattle.ep_solve.specs.Listed.{Lists}
 use Rattle.ep_solve.specs.Logged.{IsLogged}
 use Rattle.ep_solve.specs.Right.{IsRight}
-use Rattle.ep_driver.specs.Outcomes.{Task, to_check, to_generate, to_judge, to_list, to_solve}
+use Rattle.opb_answer.specs.Answers.{OpbFound}
+use Rattle.opb_answer.specs.Lines.{answer_lines}
+use Rattle.opb_answer.specs.Right.{IsRightOpb}
+use Rattle.opb_solve.specs.Logged.{IsOpbLogged}
+use Rattle.opb_solve.specs.Replies.{is_spent}
+use Rattle.ep_driver.specs.Outcomes.{Task, to_check, to_generate, to_judge, to_list, to_solve, to_solve_opb}
 use Rattle.ep_driver.specs.Summaries.{summary_text}
 use Rattle.ep_files.specs.declared.status.Status.{Status}
 
@@ -47,6 +52,15 @@ judgement_text goal_undefined = codes "$ objective undefined\n"
 abbrev pub wrong_shape_text : List ℕ → List ℕ
 wrong_shape_text name = codes "$ wrong shape " ++ (name ++ codes "\n")
 
+-- how a run ends that has an answer: with the end of its budget where the conflicts were spent
+abbrev pub spent_status : Bool → Status
+spent_status true = Status.Unknown
+spent_status false = Status.Answered
+
+-- how a run ends that answers a pseudo-Boolean problem
+abbrev pub opb_status : OpbFound → Status
+opb_status found = spent_status (is_spent found)
+
 -- how a run ends that checks a proof: answered exactly where it is verified
 unfoldable pub verdict_status : Verdict → Status
 verdict_status Verified = Status.Answered
@@ -77,6 +91,9 @@ Settles (to_judge mode i (fits a)) status text log =
     × (text ≡ judgement_text (judgement mode i found))
 Settles (to_judge mode i (wrong_shape names)) status text log =
     (name : List ℕ) × Contains names name × (status ≡ Status.Refuted) × (text ≡ wrong_shape_text name)
+Settles (to_solve_opb content conflicts) status text log =
+    (found : OpbFound) × IsRightOpb content found × IsOpbLogged content conflicts log found
+    × (status ≡ opb_status found) × (text ≡ answer_lines found)
 Settles (to_check formula lines) status text log =
     (status ≡ verdict_status (verdict_of formula lines)) × (text ≡ verdict_text (verdict_of formula lines))
 Settles (to_generate number mode i conflicts) status text log = SettlesBy (summary_text number) mode i conflicts status text log

@@ -7,13 +7,15 @@ use Rattle.ep_driver.specs.declared.wanted.Request.{Request}
 use Rattle.ep_driver.specs.declared.wanted.Wanted.{Wanted}
 
 -- What a job wants of a run: to search for one solution of a model or for many, and to write the formula, the steps of the log and
--- the answer into files where they are named; or to verify a solution; each in a mode of undefinedness; or to check a proof of a
--- formula, by so many workers; or to solve the texts of a number, and to write them where files are named.
+-- the answer into files where they are named; or to verify a solution; each in a mode of undefinedness; or to solve a pseudo-Boolean
+-- problem; or to check a proof of a formula, by so many workers; or to solve the texts of a number, and to write them where files are
+-- named.
 unfoldable pub wanted_of : Job → Wanted
 wanted_of (Job.Solve model params conflicts solution formula log mode) =
     Wanted.Search model params mode (Request.One conflicts) (record { formula = formula; log = log; solution = solution })
 wanted_of (Job.Enumerate model params solutions conflicts solution formula log mode) =
     Wanted.Search model params mode (Request.Many solutions conflicts) (record { formula = formula; log = log; solution = solution })
+wanted_of (Job.Opb opb conflicts) = Wanted.Opb opb conflicts
 wanted_of (Job.Verify model solution params mode) = Wanted.Verify model params mode solution
 wanted_of (Job.Check formula proof workers) = Wanted.Check formula proof workers
 wanted_of (Job.Generate number conflicts eprime param) = Wanted.Generate number conflicts eprime param
@@ -29,6 +31,7 @@ AreNoCommand words = (wanted : Wanted) → ¬ Want words wanted
 -- the files that have to be read, in this order
 abbrev pub files_of : Wanted → List (List ℕ)
 files_of (Wanted.Search model params mode request outputs) = model ∷ option_to_list params
+files_of (Wanted.Opb opb conflicts) = opb ∷ []
 files_of (Wanted.Verify model params mode solution) = (model ∷ option_to_list params) ++ solution ∷ []
 files_of (Wanted.Check formula proof workers) = formula ∷ proof ∷ []
 files_of (Wanted.Generate number conflicts eprime param) = []
@@ -36,6 +39,7 @@ files_of (Wanted.Generate number conflicts eprime param) = []
 -- a solution or a proof is judged, and nothing is searched for
 abbrev pub IsJudgement : Wanted → Type 0
 IsJudgement (Wanted.Search model params mode request outputs) = ⊥
+IsJudgement (Wanted.Opb opb conflicts) = ⊥
 IsJudgement (Wanted.Verify model params mode solution) = Unit {0}
 IsJudgement (Wanted.Check formula proof workers) = Unit {0}
 IsJudgement (Wanted.Generate number conflicts eprime param) = ⊥

@@ -10,6 +10,8 @@ use Rattle.ep_tree.specs.Statements.{TextTree}
 use Rattle.ep_tree.specs.declared.values.Mode.{Mode}
 use Rattle.ep_print.specs.declared.refusals.Refusal.{Refusal}
 use Rattle.ep_print.specs.declared.refusals.TextFile.{TextFile}
+use Rattle.opb_solve.specs.declared.replies.OpbRefusal.{OpbRefusal}
+use Rattle.opb_text.specs.Contents.{OpbContent}
 use Rattle.ep_driver.specs.declared.wanted.Request.{Request}
 
 -- what steps come to: what they give, or the refusals of which one is answered
@@ -61,6 +63,12 @@ unfoldable pub as_outcome : {A : Type 0} → Result A (List BindRefusal) → Out
 as_outcome (Ok x) = Ok x
 as_outcome (Err refusals) = Err (bind_refusals refusals)
 
+-- what refuses the text of a pseudo-Boolean problem, as a refusal of a run
+unfoldable pub opb_refusal : OpbRefusal → Refusal
+opb_refusal OpbRefusal.TooLong = Refusal.TooLong TextFile.Opb
+opb_refusal (OpbRefusal.Bad line) = Refusal.BadOpb line
+opb_refusal (OpbRefusal.Over limit) = Refusal.Over limit
+
 -- what binding a model and its parameters comes to, in a mode of undefinedness
 abbrev pub bound_outcome : Mode → TextTree → TextTree → Outcome Instance
 bound_outcome mode model params = as_outcome (bind mode model params)
@@ -73,12 +81,14 @@ instance_of mode model params =
     unless_refused (bind_refusals (instance_limits mode i)) (Ok i))
 
 -- a task with what it needs, in a mode of undefinedness: an instance to solve within so many conflicts; one of which at most so many
--- solutions are to be listed within so many conflicts; or one with what a solution text gives it; or the clauses of a formula with
--- the lines of a proof that is to be checked; or the instance of a number's texts, to solve within so many conflicts and to sum up
+-- solutions are to be listed within so many conflicts; or one with what a solution text gives it; or a pseudo-Boolean problem, to solve
+-- within so many conflicts; or the clauses of a formula with the lines of a proof that is to be checked; or the instance of a number's
+-- texts, to solve within so many conflicts and to sum up
 pub data Task : Type 0 where
   to_solve : Mode → Instance → ℕ → Task
   to_list : Mode → Instance → ℕ → ℕ → Task
   to_judge : Mode → Instance → Shaped → Task
+  to_solve_opb : OpbContent → ℕ → Task
   to_check : List (List Literal) → List ProofLine → Task
   to_generate : ℕ → Mode → Instance → ℕ → Task
 

@@ -14,6 +14,7 @@ outputs_in_order o = named a_formula o.formula ++ (named steps o.log ++ named an
 -- the files that are written for what is wanted, in this order
 unfoldable pub written_for : Wanted → List Output
 written_for (Wanted.Search model params mode request outputs) = outputs_in_order outputs
+written_for (Wanted.Opb opb conflicts) = []
 written_for (Wanted.Verify model params mode solution) = []
 written_for (Wanted.Check formula proof workers) = []
 written_for (Wanted.Generate number conflicts eprime param) = for_texts number eprime param
@@ -24,6 +25,7 @@ written_for (Wanted.Generate number conflicts eprime param) = for_texts number e
 abbrev pub IsOutputName : Wanted → List ℕ → Type 0
 IsOutputName (Wanted.Search model params mode request o) name =
     (o.formula ≡ Some name) ⊎ ((o.log ≡ Some name) ⊎ (o.solution ≡ Some name))
+IsOutputName (Wanted.Opb opb conflicts) name = ⊥
 IsOutputName (Wanted.Verify model params mode solution) name = ⊥
 IsOutputName (Wanted.Check formula proof workers) name = ⊥
 IsOutputName (Wanted.Generate number conflicts eprime param) name = (eprime ≡ Some name) ⊎ (param ≡ Some name)

@@ -9,7 +9,12 @@ use Rattle.ep_promise.specs.Promise.{AreTrueOf, GivesAssignment, IsSolutionOf, I
 use Rattle.ep_tree.specs.Binding.{Instance}
 use Rattle.ep_tree.specs.Solutions.{Assigned, a_solution}
 use Rattle.ep_tree.specs.declared.values.Mode.{Mode}
-use Rattle.ep_driver.specs.Answers.{answer_status, judgement_text, listing_status}
+use Rattle.opb_answer.specs.Answers.{OpbFound}
+use Rattle.opb_answer.specs.Lines.{answer_lines}
+use Rattle.opb_answer.specs.Right.{IsRightOpb}
+use Rattle.opb_text.specs.Contents.{OpbContent}
+use Rattle.opb_text.specs.Grammar.{SpellsOpb}
+use Rattle.ep_driver.specs.Answers.{answer_status, judgement_text, listing_status, opb_status}
 use Rattle.ep_files.specs.declared.status.Status.{Status}
 use Rattle.ep_driver.specs.declared.wanted.Request.{Request}
 use Rattle.ep_driver.specs.declared.wanted.Wanted.{Wanted}
@@ -28,7 +33,8 @@ pub record FilesMake (held : Held) (mode : Mode) (model : List ℕ) (params : Op
   pub make : Make mode text given i
 
 -- What was put out is the text of an answer, or of a list of solutions, that is true of the instance which the files make; or it
--- says with status 0 that the assignment of a solution text is a solution, and that is so.
+-- says with status 0 that the assignment of a solution text is a solution, and that is so; or it is the lines of an answer that is right
+-- for the pseudo-Boolean problem that the file's text spells.
 unfoldable pub IsPromised : Held → Wanted → Status → List ℕ → Type 0
 IsPromised held (Wanted.Search model params mode (Request.One conflicts) outputs) status text =
     (i : Instance) × FilesMake held mode model params i
@@ -43,4 +49,7 @@ IsPromised held (Wanted.Verify model params mode solution) status text =
     × (a : Assigned) × GivesAssignment mode i solution_text a
     × (value : Option ℤ) × IsSolutionOf mode i a value × (status ≡ Status.Answered)
     × (text ≡ judgement_text (a_solution value))
+IsPromised held (Wanted.Opb opb conflicts) status text =
+    (opb_text : List ℕ) × (held opb ≡ Some opb_text) × (content : OpbContent) × SpellsOpb opb_text content
+    × (found : OpbFound) × IsRightOpb content found × (status ≡ opb_status found) × (text ≡ answer_lines found)
 IsPromised held _ status text = Unit {0}

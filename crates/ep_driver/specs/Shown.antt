@@ -2,7 +2,7 @@
 --
 -- The words come first, then each file in its turn, with its tokens and its grammar before the next one is read; then the
 -- names and types of the texts, the instance, and the values of the solution. Of a formula and its proof the formula is read first.
--- The texts of a number take the place of those of files.
+-- The text of a pseudo-Boolean problem comes to the problem within its limits. The texts of a number take the place of those of files.
 -- This order is the project's own choice.
 use Rattle.std.specs.Prelude.{◌≡◌, ◌⊎◌, ℕ, List, [], ◌∷◌, Option, Result, Ok, Err, Contains}
 use Rattle.cnf_core.specs.Literal.{Literal}
@@ -14,10 +14,13 @@ use Rattle.ep_print.specs.Refusals.{refusal_text}
 use Rattle.ep_print.specs.declared.refusals.Refusal.{Refusal}
 use Rattle.ep_print.specs.declared.refusals.TextFile.{TextFile}
 use Rattle.ep_driver.specs.Commands.{AreNoCommand, Want}
-use Rattle.ep_driver.specs.Outcomes.{Outcome, Task, search_outcome, to_check, verify_outcome}
+use Rattle.ep_driver.specs.Outcomes.{Outcome, Task, opb_refusal, search_outcome, to_check, to_solve_opb, verify_outcome}
 use Rattle.ep_files.specs.Readings.{AreParams, IsFormulaReadAs, IsProofReadAs, IsFileReadAs, IsReadBy, IsTextReadAs}
 use Rattle.ep_files.specs.Status.{status_of}
 use Rattle.ep_files.specs.declared.status.Status.{Status}
+use Rattle.opb_solve.specs.Replies.{OpbComesTo}
+use Rattle.opb_solve.specs.declared.replies.OpbRefusal.{OpbRefusal}
+use Rattle.opb_text.specs.Contents.{OpbContent}
 use Rattle.ep_driver.specs.declared.wanted.Request.{Request}
 use Rattle.ep_driver.specs.declared.wanted.Wanted.{Wanted}
 
@@ -47,6 +50,15 @@ abbrev pub comes_to_check : List ℕ → List (List Literal) → Held → Outcom
 comes_to_check proof clauses held =
     ThenShows (IsReadBy IsProofReadAs held proof) (λ lines outcome. outcome ≡ Ok (to_check clauses lines))
 
+-- a text is read as the pseudo-Boolean problem that it comes to, or has the refusal that it comes to
+abbrev pub IsOpbTextReadAs : List ℕ → Result OpbContent Refusal → Type 0
+IsOpbTextReadAs text (Ok content) = OpbComesTo text (Ok content)
+IsOpbTextReadAs text (Err refusal) = (own : OpbRefusal) × OpbComesTo text (Err own) × (refusal ≡ opb_refusal own)
+
+-- a pseudo-Boolean problem that was read is to be solved
+abbrev pub is_opb_task : ℕ → OpbContent → Outcome Task → Type 0
+is_opb_task conflicts content outcome = outcome ≡ Ok (to_solve_opb content conflicts)
+
 -- the model of a number was read, and its parameters are
 abbrev pub comes_to_parameters : ℕ → ℕ → TextTree → Outcome Task → Type 0
 comes_to_parameters number conflicts model =
@@ -59,10 +71,11 @@ abbrev pub comes_to_generate : ℕ → ℕ → Outcome Task → Type 0
 comes_to_generate number conflicts =
     ThenShows (IsTextReadAs TextFile.Model generated_model) (λ m. comes_to_parameters number conflicts m)
 
--- what is wanted comes to this over held files: the model or the formula is read first
+-- what is wanted comes to this over held files: the model, the formula or the problem is read first
 abbrev pub ComesTo : Wanted → Held → Outcome Task → Type 0
 ComesTo (Wanted.Search model params mode request outputs) held =
     ThenShows (IsFileReadAs held TextFile.Model model) (λ m. comes_to_search mode request params m held)
+ComesTo (Wanted.Opb opb conflicts) held = ThenShows (IsReadBy IsOpbTextReadAs held opb) (is_opb_task conflicts)
 ComesTo (Wanted.Verify model params mode solution) held =
     ThenShows (IsFileReadAs held TextFile.Model model) (λ m. comes_to_verify mode params solution m held)
 ComesTo (Wanted.Check formula proof workers) held =

@@ -75,6 +75,7 @@ AnswersNumber number conflicts status text log =
 -- a reply does so where the texts of a number are wanted
 abbrev pub AnswersTexts : Wanted → Reply → LogState → Type 0
 AnswersTexts (Wanted.Search _ _ _ _ _) reply log = Unit {0}
+AnswersTexts (Wanted.Opb _ _) reply log = Unit {0}
 AnswersTexts (Wanted.Verify _ _ _ _) reply log = Unit {0}
 AnswersTexts (Wanted.Check _ _ _) reply log = Unit {0}
 AnswersTexts (Wanted.Generate number conflicts _ _) reply log = AnswersNumber number conflicts reply.status reply.text.items log
@@ -149,6 +150,7 @@ IsJudgedEnd status log = (log ≡ empty_log) × ((status ≡ Status.Answered) �
 -- how a run may end that has its answer, and with which log
 abbrev pub IsEnd : Wanted → Status → LogState → Type 0
 IsEnd (Wanted.Search _ _ _ request _) status log = IsSearched (conflicts_wanted request) status log
+IsEnd (Wanted.Opb _ conflicts) status log = IsSearched conflicts status log
 IsEnd (Wanted.Verify _ _ _ _) status log = IsJudgedEnd status log
 IsEnd (Wanted.Check _ _ _) status log = IsJudgedEnd status log
 IsEnd (Wanted.Generate _ conflicts _ _) status log = IsSearched conflicts status log
@@ -156,6 +158,7 @@ IsEnd (Wanted.Generate _ conflicts _ _) status log = IsSearched conflicts status
 -- to judge is to log nothing
 abbrev pub IsLogOf : Wanted → LogState → Type 0
 IsLogOf (Wanted.Search _ _ _ _ _) log = Unit {0}
+IsLogOf (Wanted.Opb _ _) log = Unit {0}
 IsLogOf (Wanted.Verify _ _ _ _) log = log ≡ empty_log
 IsLogOf (Wanted.Check _ _ _) log = log ≡ empty_log
 IsLogOf (Wanted.Generate _ _ _ _) log = Unit {0}

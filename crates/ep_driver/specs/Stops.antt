@@ -5,6 +5,8 @@ use Rattle.ep_files.specs.declared.stops.Stop.{Stop}
 use Rattle.ep_types_rules.specs.declared.errors.StaticError.{StaticError}
 use Rattle.ep_instance_parts.specs.declared.errors.BindError.{BindError}
 use Rattle.ep_instance_parts.specs.declared.errors.Source.{Source}
+use Rattle.opb_solve.specs.declared.replies.OpbStop.{OpbStop}
+use Rattle.ep_driver.specs.Outcomes.{opb_refusal}
 
 -- an error of types or categories
 abbrev pub static_stop : TextFile → StaticError → Stop
@@ -29,3 +31,8 @@ bind_stop (BindError.Undefined source place) = Stop.Refused (Refusal.Undefined (
 bind_stop (BindError.WhereFalse number) = Stop.Refused (Refusal.WhereFalse number)
 bind_stop (BindError.Limit limit) = Stop.Refused (Refusal.Over limit)
 bind_stop BindError.Memory = Stop.Memory
+
+-- why the text of a pseudo-Boolean problem has no reply
+abbrev pub opb_stop : OpbStop → Stop
+opb_stop (OpbStop.Refused refusal) = Stop.Refused (opb_refusal refusal)
+opb_stop OpbStop.Memory = Stop.Memory

@@ -1,12 +1,13 @@
 //! What errors of the steps over trees say as refusals.
 
 ghost use Rattle.std.specs.Prelude.{◌≡◌};
-ghost use Rattle.ep_driver.specs.Stops.{bind_stop, source_file, static_stop};
+ghost use Rattle.ep_driver.specs.Stops.{bind_stop, opb_stop, source_file, static_stop};
 
 use ep_files::Stop;
 use ep_instance::{BindError, Source};
 use ep_print::{Refusal, TextFile};
 use ep_types::StaticError;
+use opb_solve::{OpbRefusal, OpbStop};
 
 /// An error of types or categories.
 pub fn static_stop(file: TextFile, error: StaticError) -> Stop
@@ -50,5 +51,18 @@ fn source_file(source: Source) -> TextFile
         Source::Model => TextFile::Model,
         Source::Params => TextFile::Params,
         Source::Solution => TextFile::Solution,
+    }
+}
+
+/// Why the text of a pseudo-Boolean problem has no reply.
+#[tactic(auto, unfolding(crate::specs::Outcomes::opb_refusal))]
+pub fn opb_stop(stop: OpbStop) -> Stop
+    ensures { result ≡ opb_stop stop }
+{
+    match stop {
+        OpbStop::Refused(OpbRefusal::TooLong) => Stop::Refused(Refusal::TooLong(TextFile::Opb)),
+        OpbStop::Refused(OpbRefusal::Bad(line)) => Stop::Refused(Refusal::BadOpb(line)),
+        OpbStop::Refused(OpbRefusal::Over(limit)) => Stop::Refused(Refusal::Over(limit)),
+        OpbStop::Memory => Stop::Memory,
     }
 }

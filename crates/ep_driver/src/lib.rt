@@ -6,6 +6,7 @@ mod checking;
 mod errors;
 mod generating;
 mod judging;
+mod opb;
 mod replies;
 mod runs;
 mod summaries;

@@ -17,6 +17,7 @@ use super::answering::searched_reply;
 use super::checking::{checked_model, checked_params, instance_of};
 use super::generating::generate;
 use super::judging::judged_reply;
+use super::opb::opb_file_reply;
 use super::replies::Reply;
 use super::verdicts::checked_reply;
 use super::wanted::{Request, Wanted};
@@ -58,6 +59,7 @@ pub fn do_wanted<R: Threads + Sync, F: Files>(
             let model = read_model(alloc, files, model)?;
             search_model(alloc, files, model, params, *mode, *request, log)
         }
+        Wanted::Opb { opb, conflicts } => opb_file_reply(alloc, files, opb, *conflicts, log),
         Wanted::Verify {
             model,
             params,

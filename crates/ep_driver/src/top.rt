@@ -34,6 +34,7 @@ use ep_files::Status;
 use ep_parse_model::texts_have_one_answer;
 use ep_words::one_job_for_words;
 use log_check::valid_logs_are_accepted;
+use opb_solve::opb_texts_come_to_one_thing;
 use sat_text::{cnf_texts_have_one_meaning, log_texts_have_one_meaning};
 use std::alloc::Global;
 use std::thread::Threads;
@@ -58,9 +59,9 @@ pub fn run<R: Threads + Sync, F: Files, K: Sink>(
         × (K.taken out.new ≡ with_more text (K.taken out.old))) }
     // An answer is right for the task that the words and the held files show: an optimum or a
     // solution, that there is none, or that the conflicts were spent, with the best solution so far;
-    // a list of solutions, and whether these are all; a judgement of a solution text; the verdict on a proof
-    // of a formula; the summary of a number's texts. Its text was put out, and nothing else, and the files
-    // that the words name for output are written. The log shows the answer of a search.
+    // a list of solutions, and whether these are all; a judgement of a solution text; an answer to a pseudo-Boolean
+    // problem; the verdict on a proof of a formula; the summary of a number's texts. Its text was put out, and
+    // nothing else, and the files that the words name for output are written. The log shows the answer of a search.
     ensures answered { HasReply result →
         IfSome (F.held files.old) (λ held. (task : Task) × (text : List ℕ)
         × Ask words.now held task × Settles task result text log.new
@@ -184,6 +185,7 @@ pub fn run<R: Threads + Sync, F: Files, K: Sink>(
     texts_have_one_answer();
     cnf_texts_have_one_meaning();
     log_texts_have_one_meaning();
+    opb_texts_come_to_one_thing();
     new_steps_are_few();
     no_step_is_effective_after_a_conflict();
     valid_logs_are_accepted();

@@ -22,6 +22,11 @@ pub enum Wanted {
         request: Request,
         outputs: Outputs,
     },
+    /// To solve a pseudo-Boolean problem within so many conflicts.
+    Opb {
+        opb: Word,
+        conflicts: u64,
+    },
     /// To say whether a solution text is a solution of a model.
     Verify {
         model: Word,
@@ -126,6 +131,10 @@ fn wanted_of(job: Job) -> Wanted
                 log: out_log,
                 solution: out_solution,
             },
+        },
+        Job::Opb { in_opb, conflicts } => Wanted::Opb {
+            opb: in_opb,
+            conflicts,
         },
         Job::Verify {
             in_eprime,

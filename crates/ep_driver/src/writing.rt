@@ -30,6 +30,7 @@ pub fn write_wanted<F: Files>(
 {
     match wanted {
         Wanted::Search { outputs, .. } => write_outputs(alloc, files, outputs, log, answer),
+        Wanted::Opb { .. } => Ok(()),
         Wanted::Verify { .. } => Ok(()),
         Wanted::Check { .. } => Ok(()),
         Wanted::Generate {

@@ -11,12 +11,15 @@ ghost use Rattle.ep_driver_laws.specs.Generated.{NumbersAreNeverRefused};
 use ep_gen_laws::each_number_gives_an_instance;
 use ep_parse_model::texts_have_one_answer;
 use log_check::valid_logs_are_accepted;
+use opb_solve::opb_texts_come_to_one_thing;
 
 /// Whatever the words and the held files are, they show something: a task with what it needs, or refusals. That they show one thing
-/// alone is what `one_job_for_words` and `texts_have_one_answer` say.
+/// alone is what `one_job_for_words`, `texts_have_one_answer` and `opb_texts_come_to_one_thing` say.
 pub fn every_command_shows()
     ensures { (words : List (List ℕ)) (held : Held) → (outcome : Outcome Task) × Show words held outcome }
-{}
+{
+    opb_texts_come_to_one_thing();
+}
 
 /// What a search writes certifies its answer to a reader who has nothing but the bytes: of a log that shows an answer or a list, and a
 /// text of its formula, which is what `run` writes (`answered`, `formula_file`, `log_file`). By the text's own lines of cells, the

@@ -10,4 +10,6 @@ mod devices;
 #[cfg(test)]
 mod generated;
 #[cfg(test)]
+mod problems;
+#[cfg(test)]
 mod runs;

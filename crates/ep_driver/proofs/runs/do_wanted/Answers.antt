@@ -126,6 +126,23 @@ returns-in_ok-formula-in-Check-clause-ends g c =
     let W : Wanted → Type 0 = λ w. EndsAs w c.args.log.now c.check_proof.result in
     subst W (sym c.in-Check.is) (check-ends c.in-Check.formula c.in-Check.proof c.in-Check.workers c.args.log.now c.check_proof.result c.requires.empty c.check_proof.ensures.status)
 
+pub returns-in-Opb-clause-tells : goal.returns-in-Opb-clause-tells
+returns-in-Opb-clause-tells g c =
+    let told = g.F.Files.held c.args.files.now in
+    let rose = Rose (g.F.Files.faults c.args.files.now) (g.F.Files.faults c.opb_file_reply.new.files) in
+    let W : Wanted → Type 0 = λ w. TellsTask (files_of w) (ComesTo w) told rose c.opb_file_reply.new.log c.opb_file_reply.result in
+    subst W (sym c.in-Opb.is) c.opb_file_reply.ensures.tells
+
+pub returns-in-Opb-clause-ends : goal.returns-in-Opb-clause-ends
+returns-in-Opb-clause-ends g c =
+    let W : Wanted → Type 0 = λ w. EndsAs w c.opb_file_reply.new.log c.opb_file_reply.result in
+    subst W (sym c.in-Opb.is) (tt, c.opb_file_reply.ensures.ends)
+
+pub returns-in-Opb-clause-generated : goal.returns-in-Opb-clause-generated
+returns-in-Opb-clause-generated g c =
+    let W : Wanted → Type 0 = λ w. IfOk c.opb_file_reply.result (λ reply. AnswersTexts w reply c.opb_file_reply.new.log) in
+    subst W (sym c.in-Opb.is) (no-texts c.opb_file_reply.result)
+
 pub generate-requires-clause-within : goal.generate-requires-clause-within
 generate-requires-clause-within g c = subst HasTexts c.in-Generate.is c.requires.texts
 

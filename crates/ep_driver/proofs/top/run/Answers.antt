@@ -211,6 +211,7 @@ returns-in-Ok-put_all-clause-refuses g c =
       solution = c.texts_have_one_answer.ensures.params;
       formula = c.cnf_texts_have_one_meaning.ensures;
       proof = c.log_texts_have_one_meaning.ensures;
+      opb = c.opb_texts_come_to_one_thing.ensures.once;
     } in
     let once : ShownOnce words = shown-once c.one_job_for_words.ensures texts words in
     λ calm _. refuses-said words told after rose status text log once case calm
@@ -231,6 +232,7 @@ returns-in-Ok-put_all-clause-answers g c =
       solution = c.texts_have_one_answer.ensures.params;
       formula = c.cnf_texts_have_one_meaning.ensures;
       proof = c.log_texts_have_one_meaning.ensures;
+      opb = c.opb_texts_come_to_one_thing.ensures.once;
     } in
     let once : ShownOnce words = shown-once c.one_job_for_words.ensures texts words in
     λ calm _. answers-said words told after rose status text log once case calm
@@ -282,6 +284,7 @@ returns-in-Ok-put_all-clause-refused_unlogged g c =
       solution = c.texts_have_one_answer.ensures.params;
       formula = c.cnf_texts_have_one_meaning.ensures;
       proof = c.log_texts_have_one_meaning.ensures;
+      opb = c.opb_texts_come_to_one_thing.ensures.once;
     } in
     let once : ShownOnce words = shown-once c.one_job_for_words.ensures texts words in
     unlogged-said words told after rose status text log once case
@@ -302,6 +305,7 @@ returns-in-Err-Failed-clause-refused_unlogged g c =
       solution = c.texts_have_one_answer.ensures.params;
       formula = c.cnf_texts_have_one_meaning.ensures;
       proof = c.log_texts_have_one_meaning.ensures;
+      opb = c.opb_texts_come_to_one_thing.ensures.once;
     } in
     let once : ShownOnce words = shown-once c.one_job_for_words.ensures texts words in
     unlogged-said words told after rose status text log once case
@@ -386,6 +390,7 @@ returns-in_default-clause-refused_unwritten g c =
       solution = c.texts_have_one_answer.ensures.params;
       formula = c.cnf_texts_have_one_meaning.ensures;
       proof = c.log_texts_have_one_meaning.ensures;
+      opb = c.opb_texts_come_to_one_thing.ensures.once;
     } in
     let once : ShownOnce words = shown-once c.one_job_for_words.ensures texts words in
     unwritten-on-want words told after rose c.reply_to.new.log once c.in_default.ensures.wants
@@ -406,6 +411,7 @@ returns-in-Ok-put_all-clause-refused_unwritten g c =
       solution = c.texts_have_one_answer.ensures.params;
       formula = c.cnf_texts_have_one_meaning.ensures;
       proof = c.log_texts_have_one_meaning.ensures;
+      opb = c.opb_texts_come_to_one_thing.ensures.once;
     } in
     let once : ShownOnce words = shown-once c.one_job_for_words.ensures texts words in
     unwritten-said words told after rose status text log once case
@@ -426,6 +432,7 @@ returns-in-Err-Failed-clause-refused_unwritten g c =
       solution = c.texts_have_one_answer.ensures.params;
       formula = c.cnf_texts_have_one_meaning.ensures;
       proof = c.log_texts_have_one_meaning.ensures;
+      opb = c.opb_texts_come_to_one_thing.ensures.once;
     } in
     let once : ShownOnce words = shown-once c.one_job_for_words.ensures texts words in
     unwritten-said words told after rose status text log once case
@@ -446,6 +453,7 @@ returns-clause-refused_unwritten g c =
       solution = c.texts_have_one_answer.ensures.params;
       formula = c.cnf_texts_have_one_meaning.ensures;
       proof = c.log_texts_have_one_meaning.ensures;
+      opb = c.opb_texts_come_to_one_thing.ensures.once;
     } in
     let once : ShownOnce words = shown-once c.one_job_for_words.ensures texts words in
     unwritten-said words told after rose status text log once case
@@ -460,6 +468,7 @@ returns-in_default-clause-refused_unlogged g c =
       solution = c.texts_have_one_answer.ensures.params;
       formula = c.cnf_texts_have_one_meaning.ensures;
       proof = c.log_texts_have_one_meaning.ensures;
+      opb = c.opb_texts_come_to_one_thing.ensures.once;
     } in
     let once : ShownOnce words = shown-once c.one_job_for_words.ensures texts words in
     unlogged-on-want words told c.reply_to.new.log once c.in_default.ensures.asked
@@ -480,6 +489,7 @@ returns-clause-refused_unlogged g c =
       solution = c.texts_have_one_answer.ensures.params;
       formula = c.cnf_texts_have_one_meaning.ensures;
       proof = c.log_texts_have_one_meaning.ensures;
+      opb = c.opb_texts_come_to_one_thing.ensures.once;
     } in
     let once : ShownOnce words = shown-once c.one_job_for_words.ensures texts words in
     unlogged-said words told after rose status text log once case

@@ -41,3 +41,10 @@ returns-in-Check-clause-tells g c =
     let told = g.F.Files.held c.args.files.now in
     let W : Wanted → Type 0 = λ w. AreWritten c.args.log.now c.args.answer.now (written_for w) told told in
     subst W (sym c.in-Check.is) refl
+
+pub returns-in-Opb-clause-tells : goal.returns-in-Opb-clause-tells
+unfolding written_for
+returns-in-Opb-clause-tells g c =
+    let told = g.F.Files.held c.args.files.now in
+    let W : Wanted → Type 0 = λ w. AreWritten c.args.log.now c.args.answer.now (written_for w) told told in
+    subst W (sym c.in-Opb.is) refl
