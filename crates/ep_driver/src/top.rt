@@ -39,9 +39,9 @@ use sat_text::{cnf_texts_have_one_meaning, log_texts_have_one_meaning};
 use std::alloc::Global;
 use std::thread::Threads;
 
-/// Does what the words ask for, and says how it ended. What the solver was given and the steps that it
-/// made stand in the log then. The formula, these steps and the answer are written into the files that the
-/// words name for them, in this order, before the answer is put out.
+/// Does what the words ask for, and says how it ended. What the solver was given and the steps that it made stand in the log
+/// then. The formula, these steps and the answer are written into the files that the words name for them, in this order, before
+/// the answer is put out.
 pub fn run<R: Threads + Sync, F: Files, K: Sink>(
     rt: &R,
     alloc: Global,
@@ -57,11 +57,11 @@ pub fn run<R: Threads + Sync, F: Files, K: Sink>(
         IfSome (F.held files.old) (λ held. (wanted : Wanted) × (text : List ℕ)
         × Want words.now wanted × IsPromised held wanted result text
         × (K.taken out.new ≡ with_more text (K.taken out.old))) }
-    // An answer is right for the task that the words and the held files show: an optimum or a
-    // solution, that there is none, or that the conflicts were spent, with the best solution so far;
-    // a list of solutions, and whether these are all; a judgement of a solution text; an answer to a pseudo-Boolean
-    // problem; the verdict on a proof of a formula; the summary of a number's texts. Its text was put out, and
-    // nothing else, and the files that the words name for output are written. The log shows the answer of a search.
+    // An answer is right for the task that the words and the held files show: an optimum or a solution, that there is none, or
+    // that the conflicts were spent, with the best solution so far; a list of solutions, and whether these are all; a judgement
+    // of a solution text; an answer to a pseudo-Boolean problem; the verdict on a proof of a formula; the summary of a number's
+    // texts. Its text was put out, and nothing else, and the files that the words name for output are written. The log shows the
+    // answer of a search.
     ensures answered { HasReply result →
         IfSome (F.held files.old) (λ held. (task : Task) × (text : List ℕ)
         × Ask words.now held task × Settles task result text log.new
@@ -108,9 +108,8 @@ pub fn run<R: Threads + Sync, F: Files, K: Sink>(
         × Refuses words.now held StatusValue.Device line
         × (K.taken out.new ≡ with_more line (K.taken out.old))) }
 
-    // Then the line of a file that can't be read or written was put out, and nothing else, and nothing is
-    // logged where it can't be read; or the sink failed, and took of one text that may be put out a part
-    // that isn't the whole.
+    // Then the line of a file that can't be read or written was put out, and nothing else, and nothing is logged where it can't
+    // be read; or the sink failed, and took of one text that may be put out a part that isn't the whole.
     ensures failed { result ≡ StatusValue.Device →
         ((text : List ℕ) × IsDeviceLine words.now (F.held files.old) (F.held files.new)
         (Rose (F.faults files.old) (F.faults files.new)) log.new text
@@ -120,14 +119,12 @@ pub fn run<R: Threads + Sync, F: Files, K: Sink>(
         (Rose (F.faults files.old) (F.faults files.new)) log.new text
         × TookPart text (K.taken out.old) (K.taken out.new)) }
 
-    // Where memory was wanting, the sink took no more than its line, or a part of one text that may
-    // be put out.
+    // Where memory was wanting, the sink took no more than its line, or a part of one text that may be put out.
     ensures wanting { result ≡ StatusValue.Memory →
         TookOnWant words.now (F.held files.old) (F.held files.new)
         (Rose (F.faults files.old) (F.faults files.new)) log.new (K.taken out.old) (K.taken out.new) }
 
-    // Where no device failed, a refusal that stands comes, and else the answer, want of memory
-    // aside.
+    // Where no device failed, a refusal that stands comes, and else the answer, want of memory aside.
     ensures refuses { ¬ Rose (F.faults files.old) (F.faults files.new) →
         ¬ Rose (K.faults out.old) (K.faults out.new) →
         IfSome (F.held files.old) (λ held. (refusals : List Refusal) →
