@@ -10,7 +10,7 @@ use Rattle.opb_answer.specs.Answers.{truths_in}
 use Rattle.opb_answer.specs.declared.answers.OpbValue.{OpbValue}
 use Rattle.opb_solve.specs.Meant.{numbers_in, values_from}
 use Rattle.opb_solve.proofs.NamedTerms.{named_goal, named_rows}
-use Rattle.opb_text.specs.Contents.{OpbContent, Row, objective_terms}
+use Rattle.opb_text.specs.Contents.{OpbContent, OpbConstraint, objective_terms}
 use Rattle.opb_text.specs.Flats.{truth_domains, truth_numbers, truths_of}
 use Rattle.opb_text.specs.Solutions.{IsOpbSolution, SidesHold, RowHolds, literal_value, objective_value, terms_total}
 use Rattle.opb_text.specs.Sums.{AreNamed, AreNamedRows}
@@ -32,10 +32,10 @@ same_total vars (one ∷ terms) t u named agree =
     ap (λ (n : ℤ). (one.factor *ℤ n) +ℤ terms_total t terms) value
     ∙ ap (λ (n : ℤ). (one.factor *ℤ literal_value u one) +ℤ n) (same_total vars terms t u (All-tail (λ (x : OpbTerm). Contains vars x.var) one terms named) agree)
 
-same_rows : (vars : List ℕ) (rows : List Row) (t u : ℕ → Bool) → AreNamedRows vars rows → Agree vars t u → All (RowHolds t) rows → All (RowHolds u) rows
+same_rows : (vars : List ℕ) (rows : List OpbConstraint) (t u : ℕ → Bool) → AreNamedRows vars rows → Agree vars t u → All (RowHolds t) rows → All (RowHolds u) rows
 same_rows vars [] t u named agree all = All-nil (RowHolds u)
 same_rows vars (row ∷ rows) t u named agree all =
-    let P : Row → Type 0 = λ r. AreNamed vars r.terms in
+    let P : OpbConstraint → Type 0 = λ r. AreNamed vars r.terms in
     All-cons (RowHolds u) row rows
     (subst (λ (n : ℤ). SidesHold row.equal n row.right) (same_total vars row.terms t u (All-head P row rows named) agree) (All-head (RowHolds t) row rows all))
     (same_rows vars rows t u (All-tail P row rows named) agree (All-tail (RowHolds t) row rows all))

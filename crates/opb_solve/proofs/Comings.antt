@@ -9,9 +9,9 @@ use Rattle.opb_solve.proofs.Replying.{both_lengths, not_over, one_limit, refused
 use Rattle.opb_solve.proofs.Variables.{weighs_some}
 use Rattle.opb_solve.specs.Replies.{IsOpbFaulty, IsOpbReadAs, IsOverOpbLimit, IsOverWeight, IsWithinWeight, OpbComesTo}
 use Rattle.opb_solve.specs.declared.replies.OpbRefusal.{OpbRefusal}
-use Rattle.opb_text.specs.Contents.{OpbContent, Row, objective_terms}
+use Rattle.opb_text.specs.Contents.{OpbContent, OpbConstraint, objective_terms}
 use Rattle.opb_text.specs.Grammar.{IsOpbFaultLine, SpellsOpb}
-use Rattle.opb_text.specs.Weights.{IsWithinReach, Weighs, factors_size, row_size}
+use Rattle.opb_text.specs.Weights.{IsProblemWithinReach, Weighs, factors_size, row_size}
 use Rattle.opb_text.specs.declared.measure.TheConstants.{MOST_REACH, MOST_WEIGHT}
 use Rattle.opb_text.specs.declared.reading.TheConstants.{MOST_BYTES}
 
@@ -52,10 +52,10 @@ IsMeant text = ((content : OpbContent) × SpellsOpb text content) ⊎ (((content
 abbrev pub Comes : List ℕ → Type 0
 Comes text = (outcome : Result OpbContent OpbRefusal) × OpbComesTo text outcome
 
-rows_decided : (rows : List Row) → All (λ row. row_size row ≤ MOST_REACH) rows ⊎ ¬ All (λ row. row_size row ≤ MOST_REACH) rows
-rows_decided [] = inl (All-nil (λ (row : Row). row_size row ≤ MOST_REACH))
+rows_decided : (rows : List OpbConstraint) → All (λ row. row_size row ≤ MOST_REACH) rows ⊎ ¬ All (λ row. row_size row ≤ MOST_REACH) rows
+rows_decided [] = inl (All-nil (λ (row : OpbConstraint). row_size row ≤ MOST_REACH))
 rows_decided (row ∷ rows) =
-    let P : Row → Type 0 = λ r. row_size r ≤ MOST_REACH in
+    let P : OpbConstraint → Type 0 = λ r. row_size r ≤ MOST_REACH in
     elim (cases_lt MOST_REACH (row_size row)) as (λ _. All P (row ∷ rows) ⊎ ¬ All P (row ∷ rows)) [
       | inl far ↦ inr (λ all. let near = All-head P row rows all in omega (arith, far, near))
       | inr near ↦ elim (rows_decided rows) as (λ _. All P (row ∷ rows) ⊎ ¬ All P (row ∷ rows)) [
@@ -64,17 +64,17 @@ rows_decided (row ∷ rows) =
       ]
     ]
 
-reach_decided : (content : OpbContent) → IsWithinReach content ⊎ ¬ IsWithinReach content
+reach_decided : (content : OpbContent) → IsProblemWithinReach content ⊎ ¬ IsProblemWithinReach content
 reach_decided content =
-    elim (cases_lt MOST_REACH (factors_size (objective_terms content))) as (λ _. IsWithinReach content ⊎ ¬ IsWithinReach content) [
+    elim (cases_lt MOST_REACH (factors_size (objective_terms content))) as (λ _. IsProblemWithinReach content ⊎ ¬ IsProblemWithinReach content) [
       | inl far ↦ inr (λ within. let near = within.objective in omega (arith, far, near))
-      | inr near ↦ elim (rows_decided content.rows) as (λ _. IsWithinReach content ⊎ ¬ IsWithinReach content) [
+      | inr near ↦ elim (rows_decided content.rows) as (λ _. IsProblemWithinReach content ⊎ ¬ IsProblemWithinReach content) [
         | inl rows ↦ inl (record { objective = near; rows = rows })
         | inr none ↦ inr (λ within. none within.rows)
       ]
     ]
 
-weighed : (text : List ℕ) (content : OpbContent) → IsOpbReadAs text content → IsWithinReach content → (weight : ℕ) → Weighs content weight → Comes text
+weighed : (text : List ℕ) (content : OpbContent) → IsOpbReadAs text content → IsProblemWithinReach content → (weight : ℕ) → Weighs content weight → Comes text
 weighed text content read within weight weighs =
     elim (cases_lt MOST_WEIGHT weight) as (λ _. Comes text) [
       | inl heavy ↦ (Err (OpbRefusal.Over Limit.Weight), (content, read, (within, record { weight = weight; weighs = weighs; high = heavy })))

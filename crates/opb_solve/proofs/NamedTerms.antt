@@ -4,7 +4,7 @@ use Rattle.std.specs.List.{All, Contains, flat_map}
 use Rattle.std.proofs.lemmas.List.Concat.{flat_map-cons}
 use Rattle.std.proofs.lemmas.List.Elements.{All-cons, All-contains_itself, All-head, All-nil, All-tail, All-weaker}
 use Rattle.opb_text.specs.declared.content.OpbTerm.{OpbTerm}
-use Rattle.opb_text.specs.Contents.{Row, OpbContent, all_terms, named_variables, objective_terms}
+use Rattle.opb_text.specs.Contents.{OpbConstraint, OpbContent, all_terms, named_variables, objective_terms}
 use Rattle.opb_text.specs.Sums.{AreNamed, AreNamedRows}
 use Rattle.opb_text.specs.Weights.{AreVariablesOf}
 
@@ -33,9 +33,9 @@ named_terms content vars are =
 
 pub named_goal : (content : OpbContent) (vars : List ℕ) → AreVariablesOf content vars → AreNamed vars (objective_terms content)
 named_goal content vars are =
-    all_left (λ (t : OpbTerm). Contains vars t.var) (objective_terms content) (flat_map (λ (row : Row). row.terms) content.rows) (named_terms content vars are)
+    all_left (λ (t : OpbTerm). Contains vars t.var) (objective_terms content) (flat_map (λ (row : OpbConstraint). row.terms) content.rows) (named_terms content vars are)
 
 pub named_rows : (content : OpbContent) (vars : List ℕ) → AreVariablesOf content vars → AreNamedRows vars content.rows
 named_rows content vars are =
-    all_flat (λ (t : OpbTerm). Contains vars t.var) (λ (row : Row). row.terms) content.rows
-    (all_right (λ (t : OpbTerm). Contains vars t.var) (objective_terms content) (flat_map (λ (row : Row). row.terms) content.rows) (named_terms content vars are))
+    all_flat (λ (t : OpbTerm). Contains vars t.var) (λ (row : OpbConstraint). row.terms) content.rows
+    (all_right (λ (t : OpbTerm). Contains vars t.var) (objective_terms content) (flat_map (λ (row : OpbConstraint). row.terms) content.rows) (named_terms content vars are))

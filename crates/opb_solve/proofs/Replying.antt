@@ -13,7 +13,7 @@ use Rattle.opb_solve.specs.declared.replies.OpbStop.{OpbStop}
 use Rattle.opb_text.specs.Contents.{OpbContent}
 use Rattle.opb_text.specs.Grammar.{IsOpbFaultLine, SpellsOpb}
 use Rattle.opb_text.specs.Views.{plain_opb}
-use Rattle.opb_text.specs.Weights.{IsWithinReach, Weighs, sums_cost}
+use Rattle.opb_text.specs.Weights.{IsProblemWithinReach, Weighs, sums_cost}
 use Rattle.opb_text.specs.declared.content.Opb.{Opb}
 use Rattle.opb_text.specs.declared.errors.OpbError.{OpbError}
 use Rattle.opb_text.specs.declared.errors.OpbSizeError.{OpbSizeError}
@@ -80,7 +80,7 @@ weights_same : (content : OpbContent) (a b : ℕ) → Weighs content a → Weigh
 weights_same content a b h g = h.is ∙ ap (λ (vs : List ℕ). 2 * length vs + sums_cost content) (same_variables content h.vars g.vars h.variables g.variables) ∙ sym g.is
 
 -- a problem within the limits is over none
-pub not_over : (content : OpbContent) (limit : Limit) → IsWithinReach content → IsWithinWeight content → IsOverOpbLimit content limit → ⊥
+pub not_over : (content : OpbContent) (limit : Limit) → IsProblemWithinReach content → IsWithinWeight content → IsOverOpbLimit content limit → ⊥
 not_over content Limit.Size reach low over = over
 not_over content Limit.Reach reach low over = over reach
 not_over content Limit.Weight reach low over =
@@ -103,13 +103,13 @@ refused_over text own (OpbRefusal.Bad line) h only g = absurd (g.spells_none own
 refused_over text own (OpbRefusal.Over limit) h only g = (limit, refl, subst (λ (content : OpbContent). IsOverOpbLimit content limit) (sym (only g.0 g.1.spells)) g.2)
 
 pub measured_not : (text : List ℕ) (own : OpbContent) (refusal : OpbRefusal) → IsOpbReadAs text own → ((content : OpbContent) → SpellsOpb text content → own ≡ content)
-    → IsWithinReach own → IsWithinWeight own → OpbComesTo text (Err refusal) → ⊥
+    → IsProblemWithinReach own → IsWithinWeight own → OpbComesTo text (Err refusal) → ⊥
 measured_not text own refusal h only reach low g = let r = refused_over text own refusal h only g in not_over own r.0 reach low r.2
 
 -- what is known of a measure that is an error
 pub record SizeFacts (own : OpbContent) (error : OpbSizeError) : Type 0 where
-  pub reach : error ≡ OpbSizeError.Limit Limit.Reach → IsWithinReach own → ⊥
-  pub over : error ≡ OpbSizeError.Limit Limit.Weight → IsWithinReach own × (weight : ℕ) × Weighs own weight × (MOST_WEIGHT < weight)
+  pub reach : error ≡ OpbSizeError.Limit Limit.Reach → IsProblemWithinReach own → ⊥
+  pub over : error ≡ OpbSizeError.Limit Limit.Weight → IsProblemWithinReach own × (weight : ℕ) × Weighs own weight × (MOST_WEIGHT < weight)
   pub size : error ≡ OpbSizeError.Limit Limit.Size → ⊥
 
 pub is_over : (own : OpbContent) (limit : Limit) → SizeFacts own (OpbSizeError.Limit limit) → IsOverOpbLimit own limit

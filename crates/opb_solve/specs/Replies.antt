@@ -12,7 +12,7 @@ use Rattle.opb_solve.specs.declared.replies.OpbStop.{OpbStop}
 use Rattle.opb_text.specs.Contents.{OpbContent}
 use Rattle.opb_text.specs.Grammar.{IsOpbFaultLine, SpellsOpb}
 use Rattle.opb_text.specs.Views.{plain_opb}
-use Rattle.opb_text.specs.Weights.{IsWithinReach, Weighs}
+use Rattle.opb_text.specs.Weights.{IsProblemWithinReach, Weighs}
 use Rattle.opb_text.specs.declared.content.Opb.{Opb}
 use Rattle.opb_text.specs.declared.errors.OpbError.{OpbError}
 use Rattle.opb_text.specs.declared.errors.OpbSizeError.{OpbSizeError}
@@ -46,13 +46,13 @@ pub record IsOverWeight (content : OpbContent) : Type 0 where
 -- a problem is over a limit: one of its sums reaches too far; or none does, and it weighs too much
 abbrev pub IsOverOpbLimit : OpbContent → Limit → Type 0
 IsOverOpbLimit content Limit.Size = ⊥
-IsOverOpbLimit content Limit.Reach = ¬ IsWithinReach content
-IsOverOpbLimit content Limit.Weight = IsWithinReach content × IsOverWeight content
+IsOverOpbLimit content Limit.Reach = ¬ IsProblemWithinReach content
+IsOverOpbLimit content Limit.Weight = IsProblemWithinReach content × IsOverWeight content
 
 -- What a text comes to: the problem that it spells, within the limits; or that it is too long; or the line of its fault; or the
 -- limit that its problem is over.
 abbrev pub OpbComesTo : List ℕ → Result OpbContent OpbRefusal → Type 0
-OpbComesTo text (Ok content) = IsOpbReadAs text content × IsWithinReach content × IsWithinWeight content
+OpbComesTo text (Ok content) = IsOpbReadAs text content × IsProblemWithinReach content × IsWithinWeight content
 OpbComesTo text (Err OpbRefusal.TooLong) = MOST_BYTES < length text
 OpbComesTo text (Err (OpbRefusal.Bad line)) = IsOpbFaulty text line
 OpbComesTo text (Err (OpbRefusal.Over limit)) = (content : OpbContent) × IsOpbReadAs text content × IsOverOpbLimit content limit

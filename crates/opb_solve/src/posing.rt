@@ -7,7 +7,7 @@ ghost use Rattle.ep_flat.specs.FlatViews.{plain_map};
 ghost use Rattle.opb_solve.specs.Meant.{AreCellsOf, IsCellOf, IsMapTo, PosesOpb};
 ghost use Rattle.opb_text.specs.Flats.{truth_domains, truth_numbers};
 ghost use Rattle.opb_text.specs.Views.{plain_opb};
-ghost use Rattle.opb_text.specs.Weights.{AreVariablesOf, IsWithinReach};
+ghost use Rattle.opb_text.specs.Weights.{AreVariablesOf, IsProblemWithinReach};
 ghost use Rattle.sat_search.specs.Logs.{IsSound};
 ghost use Rattle.sat_text.specs.Writing.{IsReadableNote};
 
@@ -24,7 +24,7 @@ use std::alloc::Global;
 /// A problem in which the clauses of a pseudo-Boolean problem stand in the solver. They come into the log as its givens, with
 /// two notes for each variable.
 pub fn posed(alloc: Global, opb: &Opb, vars: &[u64], log: &mut Log) -> Result<Problem, Memory>
-    requires within { IsWithinReach (plain_opb opb.now) }
+    requires within { IsProblemWithinReach (plain_opb opb.now) }
     requires vars { AreVariablesOf (plain_opb opb.now) vars.now }
     requires empty { log.old ≡ record { events = []; notes = []; base = 0 } }
     ensures poses { IfOk result (λ problem. PosesOpb (plain_opb opb.now) vars.now (plain_problem problem) log.new) }

@@ -10,7 +10,7 @@ ghost use Rattle.opb_answer.specs.Right.{IsRightOpb};
 ghost use Rattle.opb_solve.specs.Logged.{IsOpbLogged};
 ghost use Rattle.opb_solve.specs.Meant.{AddsForBest, found_from, values_from};
 ghost use Rattle.opb_text.specs.Views.{plain_opb};
-ghost use Rattle.opb_text.specs.Weights.{IsWithinReach};
+ghost use Rattle.opb_text.specs.Weights.{IsProblemWithinReach};
 ghost use Rattle.sat_search.specs.Logs.{IsSound};
 ghost use Rattle.sat_text.specs.Writing.{IsReadableNote};
 
@@ -26,7 +26,7 @@ use std::alloc::Global;
 /// is none, or that so many conflicts were spent. The formula, a given for each number of the objective that was reached,
 /// which asks for a smaller one, and the solver's steps stand in the log then, and each step is sound, however it ends.
 pub fn solve_opb(alloc: Global, opb: &Opb, budget: u64, log: &mut Log) -> Result<OpbAnswer, Memory>
-    requires within { IsWithinReach (plain_opb opb.now) }
+    requires within { IsProblemWithinReach (plain_opb opb.now) }
     requires empty { log.old ≡ record { events = []; notes = []; base = 0 } }
     ensures right { IfOk result (λ answer. IsRightOpb (plain_opb opb.now) (plain_found answer)) }
     ensures logged { IfOk result (λ answer. IsOpbLogged (plain_opb opb.now) budget log.new (plain_found answer)) }

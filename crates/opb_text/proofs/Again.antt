@@ -7,7 +7,7 @@ use Rattle.opb_text.specs.declared.reader.Part.{Part}
 use Rattle.opb_text.specs.declared.reader.Part.TheVariants as part
 use Rattle.opb_text.specs.declared.reader.Stage.{Stage}
 use Rattle.opb_text.specs.declared.reader.Stage.TheVariants.{Term}
-use Rattle.opb_text.specs.Contents.{Row, OpbContent}
+use Rattle.opb_text.specs.Contents.{OpbConstraint, OpbContent}
 use Rattle.opb_text.specs.Grammar.{SpellsTerm, SpellsOpbTerms, SpellsRow, SpellsRows, SpellsObjective, SpellsContent, relation_word, end_word}
 use Rattle.opb_text.specs.Numbers.{signed_number_of}
 use Rattle.opb_text.specs.Words.{relation_of, is_goal}
@@ -16,18 +16,18 @@ use Rattle.opb_text.proofs.Following.{follow}
 use Rattle.opb_text.proofs.Signs.{relation_no_number, relation_again, relation_no_goal, number_no_goal}
 
 -- what was read, by its parts
-abbrev pub begun : Option (List OpbTerm) → List Row → List OpbTerm → Stage → Begun
+abbrev pub begun : Option (List OpbTerm) → List OpbConstraint → List OpbTerm → Stage → Begun
 begun objective rows terms stage = record { objective = objective; rows = rows; terms = terms; stage = stage }
 
 -- ---- terms
 
-one_term : (p : Part) (o : Option (List OpbTerm)) (rows : List Row) (terms : List OpbTerm) (t : OpbTerm) (number literal : List ℕ) (later : List (List ℕ)) → SpellsTerm t number literal
+one_term : (p : Part) (o : Option (List OpbTerm)) (rows : List OpbConstraint) (terms : List OpbTerm) (t : OpbTerm) (number literal : List ℕ) (later : List (List ℕ)) → SpellsTerm t number literal
     → follow (begun o rows terms (Term p)) (number ∷ literal ∷ later) ≡ follow (begun o rows (terms ++ t ∷ []) (Term p)) later
 unfolding follow step_at
 one_term part.Goal o rows terms t number literal later s = rw (s.factor, s.literal) refl
 one_term part.Row o rows terms t number literal later s = rw (s.factor, s.literal) refl
 
-pub terms_again : (p : Part) (o : Option (List OpbTerm)) (rows : List Row) (more terms : List OpbTerm) (words later : List (List ℕ)) → SpellsOpbTerms more words
+pub terms_again : (p : Part) (o : Option (List OpbTerm)) (rows : List OpbConstraint) (more terms : List OpbTerm) (words later : List (List ℕ)) → SpellsOpbTerms more words
     → follow (begun o rows terms (Term p)) (words ++ later) ≡ follow (begun o rows (terms ++ more) (Term p)) later
 terms_again p o rows [] terms words later s =
     ap (λ (ws : List (List ℕ)). follow (begun o rows terms (Term p)) (ws ++ later)) s
@@ -40,12 +40,12 @@ terms_again p o rows (t ∷ more) terms words later s =
 
 -- ---- constraints
 
-row_end : (o : Option (List OpbTerm)) (rows : List Row) (row : Row) (right : List ℕ) (later : List (List ℕ)) → signed_number_of right ≡ Some row.right
+row_end : (o : Option (List OpbTerm)) (rows : List OpbConstraint) (row : OpbConstraint) (right : List ℕ) (later : List (List ℕ)) → signed_number_of right ≡ Some row.right
     → follow (begun o rows row.terms (Term part.Row)) (relation_word row.equal ∷ right ∷ end_word ∷ later) ≡ follow (begun o (rows ++ row ∷ []) [] (Term part.Row)) later
 unfolding follow step_at
 row_end o rows row right later s = rw (relation_no_number row.equal, relation_again row.equal, s) refl
 
-pub row_again : (o : Option (List OpbTerm)) (rows : List Row) (row : Row) (words later : List (List ℕ)) → SpellsRow row words
+pub row_again : (o : Option (List OpbTerm)) (rows : List OpbConstraint) (row : OpbConstraint) (words later : List (List ℕ)) → SpellsRow row words
     → follow (begun o rows [] (Term part.Row)) (words ++ later) ≡ follow (begun o (rows ++ row ∷ []) [] (Term part.Row)) later
 row_again o rows row words later s =
     let ending = relation_word row.equal ∷ s.right_word ∷ end_word ∷ [] in
@@ -54,17 +54,17 @@ row_again o rows row words later s =
     ∙ terms_again part.Row o rows row.terms [] s.terms_words (ending ++ later) s.terms
     ∙ row_end o rows row s.right_word later s.right
 
-pub rows_again : (o : Option (List OpbTerm)) (more rows : List Row) (words : List (List ℕ)) → SpellsRows more words
+pub rows_again : (o : Option (List OpbTerm)) (more rows : List OpbConstraint) (words : List (List ℕ)) → SpellsRows more words
     → follow (begun o rows [] (Term part.Row)) words ≡ Some (begun o (rows ++ more) [] (Term part.Row))
 unfolding follow
 rows_again o [] rows words s =
     ap (follow (begun o rows [] (Term part.Row))) s
-    ∙ ap (λ (rs : List Row). Some (begun o rs [] (Term part.Row))) (sym (append-nil rows))
+    ∙ ap (λ (rs : List OpbConstraint). Some (begun o rs [] (Term part.Row))) (sym (append-nil rows))
 rows_again o (row ∷ more) rows words s =
     ap (follow (begun o rows [] (Term part.Row))) s.2
     ∙ row_again o rows row s.0 s.1 s.3
     ∙ rows_again o more (rows ++ row ∷ []) s.1 s.4
-    ∙ ap (λ (rs : List Row). Some (begun o rs [] (Term part.Row))) (append_assoc rows (row ∷ []) more)
+    ∙ ap (λ (rs : List OpbConstraint). Some (begun o rs [] (Term part.Row))) (append_assoc rows (row ∷ []) more)
 
 -- ---- the whole
 
@@ -89,7 +89,7 @@ first_by_terms (t ∷ terms) terms_words equal ending s = record {
   no_goal = number_no_goal s.0 t.factor s.4.factor;
 }
 
-first_of_row : (row : Row) (words : List (List ℕ)) → SpellsRow row words → FirstWord words
+first_of_row : (row : OpbConstraint) (words : List (List ℕ)) → SpellsRow row words → FirstWord words
 first_of_row row words s = subst FirstWord (sym s.all_words) (first_by_terms row.terms s.terms_words row.equal (s.right_word ∷ end_word ∷ []) s.terms)
 
 with_relation_alike : (r : Option Bool) → with_relation start r ≡ with_relation (begun None [] [] (Term part.Row)) r
@@ -118,7 +118,7 @@ pub record IsRead (content : OpbContent) (words : List (List ℕ)) : Type 0 wher
   pub done : is_done last ≡ true
   pub content_is : content_of last ≡ content
 
-rows_read : (rows : List Row) (words : List (List ℕ)) → SpellsRows rows words → IsRead (record { objective = None; rows = rows }) words
+rows_read : (rows : List OpbConstraint) (words : List (List ℕ)) → SpellsRows rows words → IsRead (record { objective = None; rows = rows }) words
 unfolding follow may_end
 rows_read [] words s = record {
   last = start;
@@ -144,7 +144,7 @@ goal_ends : (terms : List OpbTerm) (later : List (List ℕ)) → follow (begun N
 unfolding follow step_at
 goal_ends terms later = refl
 
-goal_read : (terms : List OpbTerm) (rows : List Row) (goal_words rows_words : List (List ℕ)) → SpellsObjective (Some terms) goal_words → SpellsRows rows rows_words
+goal_read : (terms : List OpbTerm) (rows : List OpbConstraint) (goal_words rows_words : List (List ℕ)) → SpellsObjective (Some terms) goal_words → SpellsRows rows rows_words
     → IsRead (record { objective = Some terms; rows = rows }) (goal_words ++ rows_words)
 unfolding may_end
 goal_read terms rows goal_words rows_words g r = record {
@@ -160,7 +160,7 @@ goal_read terms rows goal_words rows_words g r = record {
   content_is = refl;
 }
 
-read_parts : (objective : Option (List OpbTerm)) (rows : List Row) (objective_words rows_words : List (List ℕ)) → SpellsObjective objective objective_words → SpellsRows rows rows_words
+read_parts : (objective : Option (List OpbTerm)) (rows : List OpbConstraint) (objective_words rows_words : List (List ℕ)) → SpellsObjective objective objective_words → SpellsRows rows rows_words
     → IsRead (record { objective = objective; rows = rows }) (objective_words ++ rows_words)
 read_parts None rows objective_words rows_words o r =
     subst (IsRead (record { objective = None; rows = rows })) (sym (ap (λ (ws : List (List ℕ)). ws ++ rows_words) o)) (rows_read rows rows_words r)

@@ -9,7 +9,7 @@ use Rattle.std.proofs.lemmas.List.{take-append-drop, take_all, drop_all, length-
 use Rattle.std.proofs.lemmas.List.Concat.{flat_map-cons}
 use Rattle.sat_text.specs.Words.{is_between_words}
 use Rattle.sat_text.proofs.Cuts.{bool_cases, place_none, place_some, place_yes, place_no}
-use Rattle.opb_text.specs.Words.{BeginsWord, HasWord, block_words, with_byte, joins, line_words, is_sign_byte, is_sign, is_equals, sign_length, ends_word}
+use Rattle.opb_text.specs.Words.{BeginsWord, HasWord, block_words, with_byte, joins, line_words, is_sign_byte, is_whole_sign, is_equals, sign_length, ends_word}
 
 -- ---- tests
 
@@ -99,7 +99,7 @@ no_pair : (b c : ℕ) (rest : List ℕ) → sign_length (b ∷ c ∷ rest) ≡ 0
 no_pair b c rest e = chosen_two (eqb b 62 && eqb c 61) (chosen_zero (is_sign_byte b) _ e).1
 
 -- a word whose bytes go on is no sign
-run_no_sign : (word rest : List ℕ) → Run word rest → is_sign word ≡ false
+run_no_sign : (word rest : List ℕ) → Run word rest → is_whole_sign word ≡ false
 run_no_sign [] rest run = refl
 run_no_sign (b ∷ []) rest run =
     let both = or_false (eqb b 59) (eqb b 61) (byte_alone b rest run.0.no_sign) in rw (both.0, both.1) refl
@@ -114,7 +114,7 @@ pub record Cut (rest : List ℕ) : Type 0 where
   pub blocks : Blocks rest first later
   pub apart : (b : ℕ) → Goes b rest → with_byte b (block_words first) ≡ (b ∷ []) ∷ block_words first
 
-sign_is : (c : ℕ) → is_sign_byte c ≡ true → is_sign (c ∷ []) ≡ true
+sign_is : (c : ℕ) → is_sign_byte c ≡ true → is_whole_sign (c ∷ []) ≡ true
 sign_is c e = elim (bool_cases (eqb c 59)) [
   | inl is ↦ rw is refl
   | inr isnt ↦
@@ -134,8 +134,8 @@ and_no true = refl
 and_no false = refl
 
 -- a byte and a sign behind it that doesn't join it
-not_joined : (b : ℕ) (word : List ℕ) → is_sign word ≡ true → (eqb b 62 && is_equals word) ≡ false → joins b word ≡ false
-not_joined b word sign pair = rw (pair, or_right (is_sign_byte b) (is_sign word) sign) refl
+not_joined : (b : ℕ) (word : List ℕ) → is_whole_sign word ≡ true → (eqb b 62 && is_equals word) ≡ false → joins b word ≡ false
+not_joined b word sign pair = rw (pair, or_right (is_sign_byte b) (is_whole_sign word) sign) refl
 
 cut_at_end : Cut []
 cut_at_end = record { first = []; later = []; blocks = record { split = refl }; apart = λ b goes. refl }
@@ -214,8 +214,8 @@ cut_at (c ∷ rest) e = elim (bool_cases (is_between_words c)) [
 joined_to : (b : ℕ) (word rest : List ℕ) → Goes b (word ++ rest) → Run word rest → joins b word ≡ true
 joined_to b word rest goes run =
     let byte : is_sign_byte b ≡ false = byte_alone b (word ++ rest) goes.no_sign in
-    let isnt : is_sign word ≡ false = run_no_sign word rest run in
-    or_right (eqb b 62 && is_equals word) (not (is_sign_byte b || is_sign word)) (rw (byte, isnt) refl)
+    let isnt : is_whole_sign word ≡ false = run_no_sign word rest run in
+    or_right (eqb b 62 && is_equals word) (not (is_sign_byte b || is_whole_sign word)) (rw (byte, isnt) refl)
 
 -- the block that begins with a word whose bytes go on
 record Front (b : ℕ) (word rest : List ℕ) (cut : Cut rest) : Type 0 where

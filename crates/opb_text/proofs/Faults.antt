@@ -8,7 +8,7 @@ use Rattle.opb_text.specs.declared.content.OpbTerm.{OpbTerm}
 use Rattle.opb_text.specs.declared.reader.Part.TheVariants as part
 use Rattle.opb_text.specs.declared.reader.Stage.{Stage}
 use Rattle.opb_text.specs.declared.reader.Stage.TheVariants.{Start, Term, Literal, Right, End}
-use Rattle.opb_text.specs.Contents.{Row, OpbContent}
+use Rattle.opb_text.specs.Contents.{OpbConstraint, OpbContent}
 use Rattle.opb_text.specs.Grammar.{SpellsContent, SpellsOpb, CanGoOnAsOpb, IsOpbFaultLine, bare_words, relation_word, end_word}
 use Rattle.opb_text.specs.Numbers.{signed_number_of}
 use Rattle.opb_text.specs.Reading.{Begun, start, step, run, is_done, content_of}
@@ -67,28 +67,28 @@ relation_clean false = record { plain = refl; alone = refl }
 abbrev new_term : ℤ → OpbTerm
 new_term factor = record { factor = factor; negated = false; var = 1 }
 
-rows_whole : (o : Option (List OpbTerm)) (rows : List Row) (words : List (List ℕ)) → InRow o rows [] [] words → CanBeWhole words
+rows_whole : (o : Option (List OpbTerm)) (rows : List OpbConstraint) (words : List (List ℕ)) → InRow o rows [] [] words → CanBeWhole words
 rows_whole o rows words r = is_whole (record { objective = o; rows = rows }) words (whole_rows o rows [] words r refl)
 
-end_whole : (o : Option (List OpbTerm)) (rows : List Row) (terms : List OpbTerm) (equal : Bool) (right : ℤ) (words : List (List ℕ)) (s : (number : List ℕ) × (signed_number_of number ≡ Some right) × InRow o rows terms (relation_word equal ∷ number ∷ []) words) → CanBeWhole words
+end_whole : (o : Option (List OpbTerm)) (rows : List OpbConstraint) (terms : List OpbTerm) (equal : Bool) (right : ℤ) (words : List (List ℕ)) (s : (number : List ℕ) × (signed_number_of number ≡ Some right) × InRow o rows terms (relation_word equal ∷ number ∷ []) words) → CanBeWhole words
 end_whole o rows terms equal right words s =
     one_more words end_word end_clean
     (rows_whole o (rows ++ record { terms = terms; equal = equal; right = right } ∷ []) (words ++ end_word ∷ []) (row_ends o rows terms equal right words s.0 s.1 s.2))
 
-right_whole : (o : Option (List OpbTerm)) (rows : List Row) (terms : List OpbTerm) (equal : Bool) (words : List (List ℕ)) → InRow o rows terms (relation_word equal ∷ []) words → CanBeWhole words
+right_whole : (o : Option (List OpbTerm)) (rows : List OpbConstraint) (terms : List OpbTerm) (equal : Bool) (words : List (List ℕ)) → InRow o rows terms (relation_word equal ∷ []) words → CanBeWhole words
 right_whole o rows terms equal words r =
     one_more words zero_word zero_clean
     (end_whole o rows terms equal (pos 0) (words ++ zero_word ∷ []) (zero_word, refl, behind_row o rows terms (relation_word equal ∷ []) words zero_word r))
 
-row_whole : (o : Option (List OpbTerm)) (rows : List Row) (terms : List OpbTerm) (words : List (List ℕ)) → InRow o rows terms [] words → CanBeWhole words
+row_whole : (o : Option (List OpbTerm)) (rows : List OpbConstraint) (terms : List OpbTerm) (words : List (List ℕ)) → InRow o rows terms [] words → CanBeWhole words
 row_whole o rows terms words r =
     one_more words (relation_word false) (relation_clean false)
     (right_whole o rows terms false (words ++ relation_word false ∷ []) (behind_row o rows terms [] words (relation_word false) r))
 
-goal_whole : (rows : List Row) (terms : List OpbTerm) (words : List (List ℕ)) → InGoal rows terms [] words → CanBeWhole words
+goal_whole : (rows : List OpbConstraint) (terms : List OpbTerm) (words : List (List ℕ)) → InGoal rows terms [] words → CanBeWhole words
 goal_whole rows terms words r = one_more words end_word end_clean (rows_whole (Some terms) rows (words ++ end_word ∷ []) (goal_ends rows terms words r))
 
-whole_at : (s : Stage) (o : Option (List OpbTerm)) (rows : List Row) (terms : List OpbTerm) (words : List (List ℕ)) → ReachedAt s o rows terms words → CanBeWhole words
+whole_at : (s : Stage) (o : Option (List OpbTerm)) (rows : List OpbConstraint) (terms : List OpbTerm) (words : List (List ℕ)) → ReachedAt s o rows terms words → CanBeWhole words
 unfolding ReachedAt
 whole_at Start o rows terms words s = row_whole o rows terms words (row_begins o rows terms words s)
 whole_at (Term part.Goal) o rows terms words s = goal_whole rows terms words s

@@ -24,7 +24,7 @@ use Rattle.opb_text.specs.declared.content.OpbRow.{OpbRow}
 use Rattle.opb_text.specs.Views.{plain_row}
 use Rattle.ep_flat.specs.Flats.{FlatState, HasSmallCoefficients, Meets, NamesBelow}
 use Rattle.opb_text.specs.declared.content.OpbTerm.{OpbTerm}
-use Rattle.opb_text.specs.Contents.{Row, OpbContent}
+use Rattle.opb_text.specs.Contents.{OpbConstraint, OpbContent}
 use Rattle.opb_text.specs.Flats.{StandsFor, HasValueOf, truth_domains, truth_numbers, truths_of}
 use Rattle.opb_text.specs.Solutions.{SidesHold, RowHolds, terms_total}
 use Rattle.opb_text.specs.Sums.{AreConsOf, AreNamed, AreNamedRows, AreTruthsOf, GoesOnWith, IsConOf, IsGoalCon, IsSpan, IsSumOf, IsTruth, NamesUpTo, compared, parts_size, opb_parts_total}
@@ -94,7 +94,7 @@ parts_small parts small = All-map IsWithinNumbers (λ (p : ℤ × ℕ). p.0) par
 names_mapped : (count : ℕ) (parts : List (ℤ × ℕ)) → NamesUpTo count parts → All (λ x. x < count) (map (λ p. p.1) parts)
 names_mapped count parts named = All-map (λ x. x < count) (λ (p : ℤ × ℕ). p.1) parts named
 
-pub row_con_is : (vars : List ℕ) (row : Row) (parts : List (ℤ × ℕ)) (constant number : ℤ) → IsSumOf vars row.terms parts constant → factors_size row.terms ≤ 1099511627776 → number ≡ (row.right -ℤ constant)
+pub row_con_is : (vars : List ℕ) (row : OpbConstraint) (parts : List (ℤ × ℕ)) (constant number : ℤ) → IsSumOf vars row.terms parts constant → factors_size row.terms ≤ 1099511627776 → number ≡ (row.right -ℤ constant)
     → IsConOf vars row (sum_con parts (compared row.equal) number)
 unfolding con_holds is_as_said kind_holds con_variables kind_variables kind_coefficients
 row_con_is vars row parts constant number s small is = record {
@@ -177,7 +177,7 @@ zip_both (d ∷ domains) more (v ∷ values) others zip rest = (zip.0, zip_both 
 
 -- ---- all constraints
 
-pub rows_say : (vars : List ℕ) (rows : List Row) (cons : List FlatCon) (values more : List ℤ) → AreConsOf vars rows cons → AreTruthsOf vars values
+pub rows_say : (vars : List ℕ) (rows : List OpbConstraint) (cons : List FlatCon) (values more : List ℤ) → AreConsOf vars rows cons → AreTruthsOf vars values
     → All (λ con. IsTrue (con_holds (values ++ more) con)) cons ↔ All (RowHolds (truths_of vars values)) rows
 rows_say vars [] [] values more zip are = (λ all. All-nil (RowHolds (truths_of vars values)), λ all. All-nil (λ con. IsTrue (con_holds (values ++ more) con)))
 rows_say vars [] (con ∷ cons) values more zip are = absurd zip
@@ -186,12 +186,12 @@ rows_say vars (row ∷ rows) (con ∷ cons) values more zip are =
     let inner = rows_say vars rows cons values more zip.1 are in
     let one = zip.0.holds values more are in
     let P : FlatCon → Type 0 = λ c. IsTrue (con_holds (values ++ more) c) in
-    let Q : Row → Type 0 = RowHolds (truths_of vars values) in (
+    let Q : OpbConstraint → Type 0 = RowHolds (truths_of vars values) in (
       λ all. All-cons Q row rows (one.0 (All-head P con cons all)) (inner.0 (All-tail P con cons all)),
       λ all. All-cons P con cons (one.1 (All-head Q row rows all)) (inner.1 (All-tail Q row rows all)),
     )
 
-cons_sound : (vars : List ℕ) (rows : List Row) (cons : List FlatCon) → AreConsOf vars rows cons → All (NamesBelow (length vars)) cons × All HasSmallCoefficients cons
+cons_sound : (vars : List ℕ) (rows : List OpbConstraint) (cons : List FlatCon) → AreConsOf vars rows cons → All (NamesBelow (length vars)) cons × All HasSmallCoefficients cons
 cons_sound vars [] [] zip = (All-nil (NamesBelow (length vars)), All-nil HasSmallCoefficients)
 cons_sound vars [] (con ∷ cons) zip = absurd zip
 cons_sound vars (row ∷ rows) [] zip = absurd zip
@@ -405,7 +405,7 @@ cons_step vars rows i row old new con lt is pushed zip one =
     let rows_are : map plain_row (take (i + 1) rows) ≡ map plain_row (take i rows) ++ plain_row row ∷ []
     = ap (map plain_row) (take_more rows i row lt ∙ ap (λ (r : OpbRow). take i rows ++ r ∷ []) (sym is)) ∙ map-append plain_row (take i rows) (row ∷ []) in
     let cons_are : map plain_con new ≡ map plain_con old ++ plain_con con ∷ [] = ap (map plain_con) pushed ∙ map-append plain_con old (con ∷ []) in
-    subst (λ (rs : List Row). AreConsOf vars rs (map plain_con new)) (sym rows_are)
+    subst (λ (rs : List OpbConstraint). AreConsOf vars rs (map plain_con new)) (sym rows_are)
     (subst (λ (cs : List FlatCon). AreConsOf vars (map plain_row (take i rows) ++ plain_row row ∷ []) cs) (sym cons_are)
     (zip_push (IsConOf vars) (map plain_row (take i rows)) (map plain_con old) (plain_row row) (plain_con con) zip one))
 
@@ -413,7 +413,7 @@ pub named_row : (vars : List ℕ) (rows : List OpbRow) (i : ℕ) (row : OpbRow) 
 named_row vars rows i row all lt is =
     let long : length (map plain_row rows) ≡ length rows = length-map rows plain_row in
     let there : get_or (map plain_row rows) i (plain_row row) ≡ plain_row row = get_or-map plain_row rows i row (plain_row row) lt ∙ ap plain_row (sym is) in
-    subst (λ (r : Row). AreNamed vars r.terms) there (all i (plain_row row) (omega (arith, long, lt)))
+    subst (λ (r : OpbConstraint). AreNamed vars r.terms) there (all i (plain_row row) (omega (arith, long, lt)))
 
 pub span_of : (low high : ℤ) (run : Run) (parts : List Run) (set : List ℤ) → run.lo ≡ low → run.hi ≡ high → parts ≡ run ∷ [] → ((n : ℤ) → Contains set n ↔ Any (IsIn n) parts) → IsSpan low high set
 span_of low high run parts set lo hi is numbers = record {

@@ -8,7 +8,7 @@ use Rattle.std.proofs.lemmas.List.Sums.{sum_by_push}
 use Rattle.opb_text.specs.declared.content.OpbTerm.{OpbTerm}
 use Rattle.opb_text.specs.declared.content.OpbRow.{OpbRow}
 use Rattle.opb_text.specs.declared.measure.TheConstants.{MOST_REACH, MOST_WEIGHT}
-use Rattle.opb_text.specs.Contents.{Row, OpbContent}
+use Rattle.opb_text.specs.Contents.{OpbConstraint, OpbContent}
 use Rattle.opb_text.specs.Views.{plain_row}
 use Rattle.opb_text.specs.Weights.{AreVariablesOf, Weighs, factors_size, row_size, terms_cost, sums_cost}
 
@@ -25,7 +25,7 @@ size_step terms i d size more lt e f =
 
 -- ---- reach
 
-abbrev Near : Row → Type 0
+abbrev Near : OpbConstraint → Type 0
 Near row = row_size row ≤ MOST_REACH
 
 pub near_rows : (rows : List OpbRow) → All (λ row. Near (plain_row row)) rows → All Near (map plain_row rows)
@@ -40,7 +40,7 @@ near_row rows i row all lt is =
 -- ---- weight
 
 pub rows_cost : (rows : List OpbRow) → sum_by (λ row. terms_cost row.terms) (map plain_row rows) ≡ sum_by (λ row. terms_cost row.terms.items) rows
-rows_cost rows = fold-map (λ (a : ℕ) (row : Row). a + terms_cost row.terms) plain_row 0 rows
+rows_cost rows = fold-map (λ (a : ℕ) (row : OpbConstraint). a + terms_cost row.terms) plain_row 0 rows
 
 pub weight_step : (rows : List OpbRow) (i : ℕ) (row : OpbRow) (base cost old new more : ℕ) → i < length rows → row ≡ get_or rows i row
     → old ≡ min (base + (cost + sum_by (λ r. terms_cost r.terms.items) (take i rows))) (MOST_WEIGHT + 1) → new ≡ min (old + more) (MOST_WEIGHT + 1) → more ≡ terms_cost row.terms.items

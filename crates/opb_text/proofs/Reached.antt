@@ -8,7 +8,7 @@ use Rattle.opb_text.specs.declared.content.OpbTerm.{OpbTerm}
 use Rattle.opb_text.specs.declared.reader.Part.TheVariants as part
 use Rattle.opb_text.specs.declared.reader.Stage.{Stage}
 use Rattle.opb_text.specs.declared.reader.Stage.TheVariants.{Start, Term, Literal, Right, End}
-use Rattle.opb_text.specs.Contents.{Row}
+use Rattle.opb_text.specs.Contents.{OpbConstraint}
 use Rattle.opb_text.specs.Grammar.{SpellsTerm, SpellsOpbTerms, SpellsRow, SpellsRows, SpellsObjective, SpellsContent, relation_word, end_word}
 use Rattle.opb_text.specs.Numbers.{signed_number_of, opb_literal_of}
 use Rattle.opb_text.specs.Words.{relation_of, is_goal, is_end}
@@ -24,7 +24,7 @@ terms_more [] t words number literal s one = (number, literal, [], ap (λ (ws : 
 terms_more (first ∷ terms) t words number literal s one =
     (s.0, s.1, s.2 ++ number ∷ literal ∷ [], ap (λ (ws : List (List ℕ)). ws ++ number ∷ literal ∷ []) s.3, s.4, terms_more terms t s.2 number literal s.5 one)
 
-rows_more : (rows : List Row) (row : Row) (words more : List (List ℕ)) → SpellsRows rows words → SpellsRow row more → SpellsRows (rows ++ row ∷ []) (words ++ more)
+rows_more : (rows : List OpbConstraint) (row : OpbConstraint) (words more : List (List ℕ)) → SpellsRows rows words → SpellsRow row more → SpellsRows (rows ++ row ∷ []) (words ++ more)
 rows_more [] row words more s one = (more, [], ap (λ (ws : List (List ℕ)). ws ++ more) s ∙ sym (append-nil more), one, refl)
 rows_more (first ∷ rows) row words more s one =
     (s.0, s.1 ++ more, ap (λ (ws : List (List ℕ)). ws ++ more) s.2 ∙ append_assoc s.0 s.1 more, s.3, rows_more rows row s.1 more s.4 one)
@@ -32,7 +32,7 @@ rows_more (first ∷ rows) row words more s one =
 -- ---- what the words so far spell
 
 -- the words of what is whole, and then those of a constraint that was begun: its terms, and what stands behind them
-pub record InRow (objective : Option (List OpbTerm)) (rows : List Row) (terms : List OpbTerm) (tail words : List (List ℕ)) : Type 0 where
+pub record InRow (objective : Option (List OpbTerm)) (rows : List OpbConstraint) (terms : List OpbTerm) (tail words : List (List ℕ)) : Type 0 where
   pub objective_words : List (List ℕ)
   pub rows_words : List (List ℕ)
   pub terms_words : List (List ℕ)
@@ -42,21 +42,21 @@ pub record InRow (objective : Option (List OpbTerm)) (rows : List Row) (terms : 
   pub terms_are : SpellsOpbTerms terms terms_words
 
 -- the words of an objective that was begun: its terms, and what stands behind them
-pub record InGoal (rows : List Row) (terms : List OpbTerm) (tail words : List (List ℕ)) : Type 0 where
+pub record InGoal (rows : List OpbConstraint) (terms : List OpbTerm) (tail words : List (List ℕ)) : Type 0 where
   pub terms_words : List (List ℕ)
   pub no_rows : rows ≡ []
   pub all_words : words ≡ codes "min:" ∷ (terms_words ++ tail)
   pub terms_are : SpellsOpbTerms terms terms_words
 
 -- nothing was read
-pub record AtStart (objective : Option (List OpbTerm)) (rows : List Row) (terms : List OpbTerm) (words : List (List ℕ)) : Type 0 where
+pub record AtStart (objective : Option (List OpbTerm)) (rows : List OpbConstraint) (terms : List OpbTerm) (words : List (List ℕ)) : Type 0 where
   pub no_objective : objective ≡ None
   pub no_rows : rows ≡ []
   pub no_terms : terms ≡ []
   pub no_words : words ≡ []
 
 -- these words lead to what was read
-unfoldable pub ReachedAt : Stage → Option (List OpbTerm) → List Row → List OpbTerm → List (List ℕ) → Type 0
+unfoldable pub ReachedAt : Stage → Option (List OpbTerm) → List OpbConstraint → List OpbTerm → List (List ℕ) → Type 0
 ReachedAt Start o rows terms words = AtStart o rows terms words
 ReachedAt (Term part.Goal) o rows terms words = InGoal rows terms [] words
 ReachedAt (Term part.Row) o rows terms words = InRow o rows terms [] words
@@ -71,7 +71,7 @@ Reached b words = ReachedAt b.stage b.objective b.rows b.terms words
 
 -- ---- a word behind the others
 
-pub behind_row : (o : Option (List OpbTerm)) (rows : List Row) (terms : List OpbTerm) (tail words : List (List ℕ)) (word : List ℕ) → InRow o rows terms tail words → InRow o rows terms (tail ++ word ∷ []) (words ++ word ∷ [])
+pub behind_row : (o : Option (List OpbTerm)) (rows : List OpbConstraint) (terms : List OpbTerm) (tail words : List (List ℕ)) (word : List ℕ) → InRow o rows terms tail words → InRow o rows terms (tail ++ word ∷ []) (words ++ word ∷ [])
 behind_row o rows terms tail words word r = record {
   objective_words = r.objective_words;
   rows_words = r.rows_words;
@@ -88,7 +88,7 @@ behind_row o rows terms tail words word r = record {
       );
 }
 
-behind_goal : (rows : List Row) (terms : List OpbTerm) (tail words : List (List ℕ)) (word : List ℕ) → InGoal rows terms tail words → InGoal rows terms (tail ++ word ∷ []) (words ++ word ∷ [])
+behind_goal : (rows : List OpbConstraint) (terms : List OpbTerm) (tail words : List (List ℕ)) (word : List ℕ) → InGoal rows terms tail words → InGoal rows terms (tail ++ word ∷ []) (words ++ word ∷ [])
 behind_goal rows terms tail words word r = record {
   terms_words = r.terms_words;
   no_rows = r.no_rows;
@@ -99,19 +99,19 @@ behind_goal rows terms tail words word r = record {
 }
 
 -- nothing was read, and a constraint begins
-pub row_begins : (o : Option (List OpbTerm)) (rows : List Row) (terms : List OpbTerm) (words : List (List ℕ)) → AtStart o rows terms words → InRow o rows terms [] words
+pub row_begins : (o : Option (List OpbTerm)) (rows : List OpbConstraint) (terms : List OpbTerm) (words : List (List ℕ)) → AtStart o rows terms words → InRow o rows terms [] words
 row_begins o rows terms words s = record {
   objective_words = [];
   rows_words = [];
   terms_words = [];
   all_words = s.no_words;
   objective_is = subst (λ (p : Option (List OpbTerm)). SpellsObjective p []) (sym s.no_objective) refl;
-  rows_are = subst (λ (rs : List Row). SpellsRows rs []) (sym s.no_rows) refl;
+  rows_are = subst (λ (rs : List OpbConstraint). SpellsRows rs []) (sym s.no_rows) refl;
   terms_are = subst (λ (ts : List OpbTerm). SpellsOpbTerms ts []) (sym s.no_terms) refl;
 }
 
 -- a term is whole
-pub row_term_ends : (o : Option (List OpbTerm)) (rows : List Row) (terms : List OpbTerm) (t : OpbTerm) (words : List (List ℕ)) (number literal : List ℕ) → SpellsTerm t number literal
+pub row_term_ends : (o : Option (List OpbTerm)) (rows : List OpbConstraint) (terms : List OpbTerm) (t : OpbTerm) (words : List (List ℕ)) (number literal : List ℕ) → SpellsTerm t number literal
     → InRow o rows terms (number ∷ []) words → InRow o rows (terms ++ t ∷ []) [] (words ++ literal ∷ [])
 unfolding behind_row
 row_term_ends o rows terms t words number literal one r =
@@ -126,7 +126,7 @@ row_term_ends o rows terms t words number literal one r =
       terms_are = terms_more terms t r.terms_words number literal r.terms_are one;
     }
 
-pub goal_term_ends : (rows : List Row) (terms : List OpbTerm) (t : OpbTerm) (words : List (List ℕ)) (number literal : List ℕ) → SpellsTerm t number literal
+pub goal_term_ends : (rows : List OpbConstraint) (terms : List OpbTerm) (t : OpbTerm) (words : List (List ℕ)) (number literal : List ℕ) → SpellsTerm t number literal
     → InGoal rows terms (number ∷ []) words → InGoal rows (terms ++ t ∷ []) [] (words ++ literal ∷ [])
 unfolding behind_goal
 goal_term_ends rows terms t words number literal one r =
@@ -139,7 +139,7 @@ goal_term_ends rows terms t words number literal one r =
     }
 
 -- the objective is whole
-pub goal_ends : (rows : List Row) (terms : List OpbTerm) (words : List (List ℕ)) → InGoal rows terms [] words → InRow (Some terms) rows [] [] (words ++ end_word ∷ [])
+pub goal_ends : (rows : List OpbConstraint) (terms : List OpbTerm) (words : List (List ℕ)) → InGoal rows terms [] words → InRow (Some terms) rows [] [] (words ++ end_word ∷ [])
 unfolding behind_goal
 goal_ends rows terms words r =
     let more = behind_goal rows terms [] words end_word r in
@@ -149,12 +149,12 @@ goal_ends rows terms words r =
       terms_words = [];
       all_words = more.all_words ∙ sym (append-nil (codes "min:" ∷ (r.terms_words ++ end_word ∷ [])));
       objective_is = (r.terms_words, refl, r.terms_are);
-      rows_are = subst (λ (rs : List Row). SpellsRows rs []) (sym r.no_rows) refl;
+      rows_are = subst (λ (rs : List OpbConstraint). SpellsRows rs []) (sym r.no_rows) refl;
       terms_are = refl;
     }
 
 -- a constraint is whole
-pub row_ends : (o : Option (List OpbTerm)) (rows : List Row) (terms : List OpbTerm) (equal : Bool) (right : ℤ) (words : List (List ℕ)) (number : List ℕ) → signed_number_of number ≡ Some right
+pub row_ends : (o : Option (List OpbTerm)) (rows : List OpbConstraint) (terms : List OpbTerm) (equal : Bool) (right : ℤ) (words : List (List ℕ)) (number : List ℕ) → signed_number_of number ≡ Some right
     → InRow o rows terms (relation_word equal ∷ number ∷ []) words → InRow o (rows ++ record { terms = terms; equal = equal; right = right } ∷ []) [] [] (words ++ end_word ∷ [])
 unfolding behind_row
 row_ends o rows terms equal right words number e r =
@@ -278,7 +278,7 @@ no_terms (t ∷ terms) e = absurd cc
 no_words_of : (terms : List OpbTerm) (words : List (List ℕ)) → terms ≡ [] → SpellsOpbTerms terms words → words ≡ []
 no_words_of terms words e s = subst (λ (ts : List OpbTerm). SpellsOpbTerms ts words → words ≡ []) (sym e) (λ is. is) s
 
-pub whole_rows : (o : Option (List OpbTerm)) (rows : List Row) (terms : List OpbTerm) (words : List (List ℕ)) → InRow o rows terms [] words → terms ≡ [] → SpellsContent (record { objective = o; rows = rows }) words
+pub whole_rows : (o : Option (List OpbTerm)) (rows : List OpbConstraint) (terms : List OpbTerm) (words : List (List ℕ)) → InRow o rows terms [] words → terms ≡ [] → SpellsContent (record { objective = o; rows = rows }) words
 whole_rows o rows terms words r none = record {
   objective_words = r.objective_words;
   rows_words = r.rows_words;
@@ -288,7 +288,7 @@ whole_rows o rows terms words r none = record {
   rows = r.rows_are;
 }
 
-done_at : (s : Stage) (o : Option (List OpbTerm)) (rows : List Row) (terms : List OpbTerm) (words : List (List ℕ)) → ReachedAt s o rows terms words → may_end s terms ≡ true → SpellsContent (record { objective = o; rows = rows }) words
+done_at : (s : Stage) (o : Option (List OpbTerm)) (rows : List OpbConstraint) (terms : List OpbTerm) (words : List (List ℕ)) → ReachedAt s o rows terms words → may_end s terms ≡ true → SpellsContent (record { objective = o; rows = rows }) words
 unfolding may_end ReachedAt
 done_at Start o rows terms words s e = whole_rows o rows terms words (row_begins o rows terms words s) s.no_terms
 done_at (Term part.Goal) o rows terms words s e = absurd cc

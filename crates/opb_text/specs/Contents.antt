@@ -4,7 +4,7 @@ use Rattle.std.specs.List.{flat_map}
 use Rattle.opb_text.specs.declared.content.OpbTerm.{OpbTerm}
 
 -- a constraint: its terms, whether their sum has to be equal to the right side or only at least that, and the right side
-pub record Row : Type 0 where
+pub record OpbConstraint : Type 0 where
   pub terms : List OpbTerm
   pub equal : Bool
   pub right : ℤ
@@ -12,7 +12,7 @@ pub record Row : Type 0 where
 -- a problem: the objective, where one is stated, and the constraints
 pub record OpbContent : Type 0 where
   pub objective : Option (List OpbTerm)
-  pub rows : List Row
+  pub rows : List OpbConstraint
 
 -- the terms of the objective, none where none is stated
 abbrev pub objective_terms : OpbContent → List OpbTerm

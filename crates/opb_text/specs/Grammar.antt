@@ -2,7 +2,7 @@
 use Rattle.std.specs.Prelude.{◌≡◌, ◌⊎◌, ℕ, Bool, true, false, List, [], ◌∷◌, ◌++◌, map, codes, Option, Some, None}
 use Rattle.sat_text.specs.Words.{last_line, PlacedWord}
 use Rattle.opb_text.specs.declared.content.OpbTerm.{OpbTerm}
-use Rattle.opb_text.specs.Contents.{Row, OpbContent}
+use Rattle.opb_text.specs.Contents.{OpbConstraint, OpbContent}
 use Rattle.opb_text.specs.Numbers.{signed_number_of, opb_literal_of}
 use Rattle.opb_text.specs.Words.{placed_opb_words}
 
@@ -28,7 +28,7 @@ SpellsOpbTerms (t ∷ terms) words =
     × (words ≡ number_word ∷ literal_word ∷ later) × SpellsTerm t number_word literal_word × SpellsOpbTerms terms later
 
 -- words spell a constraint: its terms, the sign, the right side, and a `;`
-pub record SpellsRow (row : Row) (words : List (List ℕ)) : Type 0 where
+pub record SpellsRow (row : OpbConstraint) (words : List (List ℕ)) : Type 0 where
   pub terms_words : List (List ℕ)
   pub right_word : List ℕ
   pub all_words : words ≡ terms_words ++ relation_word row.equal ∷ right_word ∷ end_word ∷ []
@@ -36,7 +36,7 @@ pub record SpellsRow (row : Row) (words : List (List ℕ)) : Type 0 where
   pub right : signed_number_of right_word ≡ Some row.right
 
 -- words spell constraints, one after another
-abbrev pub SpellsRows : List Row → List (List ℕ) → Type 0
+abbrev pub SpellsRows : List OpbConstraint → List (List ℕ) → Type 0
 SpellsRows [] words = words ≡ []
 SpellsRows (row ∷ rows) words =
     (first : List (List ℕ)) × (later : List (List ℕ))

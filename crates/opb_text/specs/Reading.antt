@@ -19,7 +19,7 @@ use Rattle.opb_text.specs.Words.{is_end, is_goal, relation_of}
 -- what was read so far, and what may come next
 pub record Begun : Type 0 where
   pub objective : Option (List OpbTerm)
-  pub rows : List contents.Row
+  pub rows : List contents.OpbConstraint
   pub terms : List OpbTerm
   pub stage : Stage
 

@@ -3,7 +3,7 @@ use Rattle.std.specs.Prelude.{◌≡◌, ◌≤ℤ◌, ℕ, ℤ, pos, ◌-ℤ◌
 use Rattle.std.specs.List.{All}
 use Rattle.ep_base.specs.Numbers.{of_bool, sum_of}
 use Rattle.opb_text.specs.declared.content.OpbTerm.{OpbTerm}
-use Rattle.opb_text.specs.Contents.{Row, OpbContent, objective_terms}
+use Rattle.opb_text.specs.Contents.{OpbConstraint, OpbContent, objective_terms}
 
 -- what a term's literal counts: 1 where its variable is true and 0 where it is false, and 1 minus that where it is negated
 abbrev pub literal_value : (ℕ → Bool) → OpbTerm → ℤ
@@ -19,7 +19,7 @@ SidesHold true sum right = sum ≡ right
 SidesHold false sum right = right ≤ℤ sum
 
 -- a constraint holds
-abbrev pub RowHolds : (ℕ → Bool) → Row → Type 0
+abbrev pub RowHolds : (ℕ → Bool) → OpbConstraint → Type 0
 RowHolds truths row = SidesHold row.equal (terms_total truths row.terms) row.right
 
 -- a solution makes each constraint hold

@@ -6,7 +6,7 @@ use Rattle.ep_base.specs.declared.operators.CompareOp.{CompareOp}
 use Rattle.ep_flat.specs.Cons.{FlatCon, con_holds, number_at}
 use Rattle.ep_flat.specs.Flats.{FlatState, HasSmallCoefficients, NamesBelow}
 use Rattle.opb_text.specs.declared.content.OpbTerm.{OpbTerm}
-use Rattle.opb_text.specs.Contents.{Row}
+use Rattle.opb_text.specs.Contents.{OpbConstraint}
 use Rattle.opb_text.specs.Flats.{truths_of}
 use Rattle.opb_text.specs.Solutions.{RowHolds, terms_total}
 use Rattle.opb_text.specs.Weights.{factors_size}
@@ -60,13 +60,13 @@ abbrev pub AreNamed : List ℕ → List OpbTerm → Type 0
 AreNamed vars terms = All (λ t. Contains vars t.var) terms
 
 -- a flat constraint that holds exactly where a constraint does
-pub record IsConOf (vars : List ℕ) (row : Row) (con : FlatCon) : Type 0 where
+pub record IsConOf (vars : List ℕ) (row : OpbConstraint) (con : FlatCon) : Type 0 where
   pub holds : (values more : List ℤ) → AreTruthsOf vars values → IsTrue (con_holds (values ++ more) con) ↔ RowHolds (truths_of vars values) row
   pub names : NamesBelow (length vars) con
   pub small : HasSmallCoefficients con
 
 -- for each constraint a flat one
-abbrev pub AreConsOf : List ℕ → List Row → List FlatCon → Type 0
+abbrev pub AreConsOf : List ℕ → List OpbConstraint → List FlatCon → Type 0
 AreConsOf vars rows cons = AllZip (IsConOf vars) rows cons
 
 -- the numbers that lie between two others
@@ -91,7 +91,7 @@ pub record GoesOnWith (vars : List ℕ) (terms : List OpbTerm) (old new : FlatSt
   pub near : All IsWithinNumbers domain
 
 -- each variable of constraints is one of these
-abbrev pub AreNamedRows : List ℕ → List Row → Type 0
+abbrev pub AreNamedRows : List ℕ → List OpbConstraint → Type 0
 AreNamedRows vars rows = All (λ row. AreNamed vars row.terms) rows
 
 -- how the two sides of a constraint are compared

@@ -3,11 +3,11 @@ use Rattle.std.specs.Prelude.{map, option_map}
 use Rattle.opb_text.specs.declared.content.Opb.{Opb}
 use Rattle.opb_text.specs.declared.content.OpbRow.{OpbRow}
 use Rattle.opb_text.specs.declared.reader.Reader.{Reader}
-use Rattle.opb_text.specs.Contents.{Row, OpbContent}
+use Rattle.opb_text.specs.Contents.{OpbConstraint, OpbContent}
 use Rattle.opb_text.specs.Reading.{Begun}
 
 -- a constraint with a plain list in place of the vector
-abbrev pub plain_row : OpbRow → Row
+abbrev pub plain_row : OpbRow → OpbConstraint
 plain_row row = record { terms = row.terms.items; equal = row.equal; right = row.right }
 
 -- a problem with plain lists in place of the vectors

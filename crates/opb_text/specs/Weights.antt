@@ -4,7 +4,7 @@ use Rattle.std.specs.List.{All, AllPairs, Contains}
 use Rattle.ep_base.specs.Intervals.{sum_cost}
 use Rattle.opb_text.specs.declared.content.OpbTerm.{OpbTerm}
 use Rattle.opb_text.specs.declared.measure.TheConstants.{MOST_REACH}
-use Rattle.opb_text.specs.Contents.{Row, OpbContent, objective_terms, named_variables}
+use Rattle.opb_text.specs.Contents.{OpbConstraint, OpbContent, objective_terms, named_variables}
 
 -- the variables that stand in a problem, in ascending order, each once
 pub record AreVariablesOf (content : OpbContent) (vars : List ℕ) : Type 0 where
@@ -16,11 +16,11 @@ abbrev pub factors_size : List OpbTerm → ℕ
 factors_size terms = sum_by (λ t. unsigned_abs t.factor) terms
 
 -- the absolute values of the factors of a constraint and of its right side, added up
-abbrev pub row_size : Row → ℕ
+abbrev pub row_size : OpbConstraint → ℕ
 row_size row = factors_size row.terms + unsigned_abs row.right
 
 -- no constraint reaches farther than the numbers that the stages compute with, and the objective doesn't
-pub record IsWithinReach (content : OpbContent) : Type 0 where
+pub record IsProblemWithinReach (content : OpbContent) : Type 0 where
   pub objective : factors_size (objective_terms content) ≤ MOST_REACH
   pub rows : All (λ row. row_size row ≤ MOST_REACH) content.rows
 

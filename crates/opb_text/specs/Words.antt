@@ -22,13 +22,13 @@ relation_of (b ∷ c ∷ []) = if b == 62 && c == 61 then Some false else None
 relation_of (b ∷ c ∷ d ∷ word) = None
 
 -- whether there is something
-abbrev pub is_there : {X : Type 0} → Option X → Bool
-is_there None = false
-is_there (Some x) = true
+abbrev pub is_something : {X : Type 0} → Option X → Bool
+is_something None = false
+is_something (Some x) = true
 
 -- whether a word is `;`, `=` or `>=`
-abbrev pub is_sign : List ℕ → Bool
-is_sign word = is_end word || is_there (relation_of word)
+abbrev pub is_whole_sign : List ℕ → Bool
+is_whole_sign word = is_end word || is_something (relation_of word)
 
 -- whether a word is `=`
 abbrev pub is_equals : List ℕ → Bool
@@ -39,7 +39,7 @@ is_equals (b ∷ c ∷ word) = false
 -- Whether a byte and the word right behind it make one word: `>` and `=` do, and so do a byte and a word that are no
 -- signs.
 abbrev pub joins : ℕ → List ℕ → Bool
-joins b word = (b == 62 && is_equals word) || not (is_sign_byte b || is_sign word)
+joins b word = (b == 62 && is_equals word) || not (is_sign_byte b || is_whole_sign word)
 
 -- words with one more byte right before the first of them
 abbrev pub with_byte : ℕ → List (List ℕ) → List (List ℕ)

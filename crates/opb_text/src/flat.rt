@@ -5,9 +5,9 @@ ghost use Rattle.std.specs.List.{AllPairs};
 ghost use Rattle.ep_base.specs.declared.operators.CompareOp.{CompareOp};
 ghost use Rattle.ep_flat.specs.FlatViews.{plain_con, plain_flat};
 ghost use Rattle.opb_text.specs.declared.measure.TheConstants.{MOST_REACH};
-ghost use Rattle.opb_text.specs.Contents.{Row};
+ghost use Rattle.opb_text.specs.Contents.{OpbConstraint};
 ghost use Rattle.opb_text.specs.Views.{plain_opb, plain_row};
-ghost use Rattle.opb_text.specs.Weights.{IsWithinReach, factors_size, row_size};
+ghost use Rattle.opb_text.specs.Weights.{IsProblemWithinReach, factors_size, row_size};
 ghost use Rattle.opb_text.specs.Flats.{StandsFor, truth_domains, truth_numbers};
 ghost use Rattle.opb_text.specs.Sums.{AreConsOf, AreNamed, AreNamedRows, GoesOnWith, IsConOf, IsGoalCon, IsSpan, compared};
 
@@ -140,7 +140,7 @@ fn add_goal(alloc: Global, vars: &[u64], terms: &[OpbTerm], flat: &mut Flat) -> 
 /// The flat problem that stands for a problem, and the flat variable that has the value of its objective, where one is
 /// stated. Terms of one variable are joined. Costs a sort of each constraint's terms.
 pub fn flat_of(alloc: Global, opb: &Opb) -> Result<(Flat, Option<u64>), Memory>
-    requires { IsWithinReach (plain_opb opb.now) }
+    requires { IsProblemWithinReach (plain_opb opb.now) }
     ensures { IfOk result (λ made. StandsFor (plain_opb opb.now) (plain_flat made.0) made.1) }
 {
     let vars = opb_vars(alloc, opb)?;

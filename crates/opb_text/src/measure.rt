@@ -5,7 +5,7 @@ ghost use Rattle.ep_base.specs.declared.operators.Limit.TheVariants as limit;
 ghost use Rattle.ep_base.specs.Intervals.{sum_cost};
 ghost use Rattle.opb_text.specs.Contents.{objective_terms};
 ghost use Rattle.opb_text.specs.Views.{plain_opb, plain_row};
-ghost use Rattle.opb_text.specs.Weights.{IsWithinReach, Weighs, factors_size, row_size, terms_cost, sums_cost};
+ghost use Rattle.opb_text.specs.Weights.{IsProblemWithinReach, Weighs, factors_size, row_size, terms_cost, sums_cost};
 ghost use Rattle.opb_text.specs.declared.measure.TheConstants.{MOST_REACH, MOST_WEIGHT};
 ghost use Rattle.opb_text.specs.declared.errors.OpbSizeError.TheVariants as refused;
 
@@ -62,7 +62,7 @@ fn are_within_reach(rows: &[OpbRow]) -> bool
 
 /// Whether no constraint reaches too far, nor the objective.
 fn is_within_reach(opb: &Opb) -> bool
-    ensures { IsTrue result ↔ IsWithinReach (plain_opb opb.now) }
+    ensures { IsTrue result ↔ IsProblemWithinReach (plain_opb opb.now) }
 {
     if factors_size(objective_terms(opb)) > u128::from(MOST_REACH) {
         return false;
@@ -95,7 +95,7 @@ fn capped_sum(weight: u64, more: u128) -> u64
 /// The weight of a problem of so many variables, exact as far as the greatest weight, and else above it.
 fn weight_of(opb: &Opb, vars: usize) -> u64
     requires few { vars < 2 ^ 63 }
-    requires reach { IsWithinReach (plain_opb opb.now) }
+    requires reach { IsProblemWithinReach (plain_opb opb.now) }
     ensures { result ≡ min (2 * vars + sums_cost (plain_opb opb.now)) (MOST_WEIGHT + 1) }
 {
     let mut weight = capped_sum(0, 2 * (vars as u128));
@@ -114,9 +114,9 @@ fn weight_of(opb: &Opb, vars: usize) -> u64
 /// right side add up to more than [`MOST_REACH`], and otherwise [`Limit::Weight`] exactly where the weight is over
 /// [`MOST_WEIGHT`].
 pub fn measure_opb(alloc: Global, opb: &Opb) -> Result<u64, OpbSizeError>
-    ensures weight { IfOk result (λ weight. IsWithinReach (plain_opb opb.now) × Weighs (plain_opb opb.now) weight × (weight ≤ MOST_WEIGHT)) }
-    ensures reach { result ≡ Err (refused.Limit limit.Reach) ↔ (IsWithinReach (plain_opb opb.now) → ⊥) }
-    ensures over { result ≡ Err (refused.Limit limit.Weight) → IsWithinReach (plain_opb opb.now) × (weight : ℕ) × Weighs (plain_opb opb.now) weight × (MOST_WEIGHT < weight) }
+    ensures weight { IfOk result (λ weight. IsProblemWithinReach (plain_opb opb.now) × Weighs (plain_opb opb.now) weight × (weight ≤ MOST_WEIGHT)) }
+    ensures reach { result ≡ Err (refused.Limit limit.Reach) ↔ (IsProblemWithinReach (plain_opb opb.now) → ⊥) }
+    ensures over { result ≡ Err (refused.Limit limit.Weight) → IsProblemWithinReach (plain_opb opb.now) × (weight : ℕ) × Weighs (plain_opb opb.now) weight × (MOST_WEIGHT < weight) }
     ensures size { result ≡ Err (refused.Limit limit.Size) → ⊥ }
 {
     if !is_within_reach(opb) {
