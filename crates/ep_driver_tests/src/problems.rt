@@ -3,6 +3,7 @@
 //! A row has a text and what is put out, with ` => ` between them. An `@` ends a line of both.
 
 use crate::calls::{difference, files_of, said_by_bytes, said_over, text_of};
+use std::alloc::{AllocError, Global};
 use std::test::Fail;
 use std::thread::Threads;
 
@@ -106,16 +107,28 @@ fn a_problem_is_read_and_answered_byte_by_byte(rt: HostRuntime) -> Result<(), Fa
     Ok(())
 }
 
+/// So many blanks.
+fn blanks(alloc: Global, count: usize) -> Result<Vec<u8>, AllocError> {
+    let mut text = Vec::new(alloc);
+    for _ in 0..count {
+        text.push(b' ')?;
+    }
+    Ok(text)
+}
+
+/// How many bytes a text has, and what is said of it.
+const LENGTHS: [(usize, &str); 2] = [
+    (16_777_216, "answered s SATISFIABLE\nv\n"),
+    (16_777_217, "limit limit L1 opb\n"),
+];
+
 #[test]
-fn a_problem_of_too_many_bytes_is_refused(rt: HostRuntime) -> Result<(), Fail> {
-    let alloc = rt.alloc();
-    let mut blanks = Vec::new(alloc);
-    blanks.resize(16_777_217, b' ')?;
-    let mut files = files_of(alloc, &[("o", blanks.as_slice())], 0)?;
-    let said = said_over(&rt, SOLVE, &mut files)?;
-    assert_eq!(rt; said.as_str(), "limit limit L1 opb\n");
-    let mut fit = files_of(alloc, &[("o", &blanks[1..])], 0)?;
-    let answered = said_over(&rt, SOLVE, &mut fit)?;
-    assert_eq!(rt; answered.as_str(), "answered s SATISFIABLE\nv\n");
+fn a_problem_may_have_so_many_bytes(rt: HostRuntime) -> Result<(), Fail> {
+    for (count, want) in LENGTHS {
+        let text = blanks(rt.alloc(), count)?;
+        let mut files = files_of(rt.alloc(), &[("o", text.as_slice())], 0)?;
+        let said = said_over(&rt, SOLVE, &mut files)?;
+        assert_eq!(rt; said.as_str(), want);
+    }
     Ok(())
 }
